@@ -1,0 +1,70 @@
+-- How many steps, activities, clocks and slots a module can take, as sums over its instructions.
+use Rattle.std.specs.Prelude.{ℕ, ◌+◌, ◌≤◌, max, List, Option, Some, None, slice_get, sum_by, fold, map}
+use Rattle.std.specs.Option.{option_map_or}
+use Rattle.xk_types.specs.declared.instr.Instr.{Instr}
+use Rattle.xk_types.specs.declared.instr.Instr.TheVariants as instr
+use Rattle.xk_types.specs.Code.{UnitValue, ModuleValue}
+
+-- the steps of an instruction
+abbrev pub steps_weight : Instr → ℕ
+steps_weight (instr.Lit d n) = 1
+steps_weight (instr.Add d x y) = 1
+steps_weight (instr.Print x) = 1
+steps_weight (instr.Make d) = 1
+steps_weight (instr.Resume c) = 1
+steps_weight (instr.Drop c) = 1
+steps_weight instr.Advance = 2
+steps_weight instr.Ret = 1
+
+-- the activities that it starts
+abbrev pub activities_weight : Instr → ℕ
+activities_weight i = 0
+
+-- the clocks that it makes
+abbrev pub clocks_weight : Instr → ℕ
+clocks_weight (instr.Lit d n) = 0
+clocks_weight (instr.Add d x y) = 0
+clocks_weight (instr.Print x) = 0
+clocks_weight (instr.Make d) = 1
+clocks_weight (instr.Resume c) = 0
+clocks_weight (instr.Drop c) = 0
+clocks_weight instr.Advance = 0
+clocks_weight instr.Ret = 0
+
+-- the sum of a weight over a unit's instructions
+abbrev pub total_of : (Instr → ℕ) → UnitValue → ℕ
+total_of weight u = sum_by weight u.code
+
+abbrev pub total : (Instr → ℕ) → ModuleValue → ℕ → ℕ
+total weight m unit = option_map_or (total_of weight) (slice_get m.units unit) 0
+
+-- the most steps of a unit
+abbrev pub cost : ModuleValue → ℕ → ℕ
+cost m unit = total steps_weight m unit
+
+-- the most slots in the frames of one activity that runs a unit
+abbrev pub stack : ModuleValue → ℕ → ℕ
+stack m unit = option_map_or (λ u. u.slots) (slice_get m.units unit) 0
+
+-- the most steps of a run
+abbrev pub steps_bound : ModuleValue → ℕ
+steps_bound m = cost m 0
+
+-- the most activities, main among them
+abbrev pub activities_bound : ModuleValue → ℕ
+activities_bound m = total activities_weight m 0 + 1
+
+-- the most clocks
+abbrev pub clocks_bound : ModuleValue → ℕ
+clocks_bound m = total clocks_weight m 0
+
+-- the most slots in the frames of one activity
+abbrev pub stack_bound : ModuleValue → ℕ
+stack_bound m = fold max 0 (map (λ u. u.slots) m.units)
+
+-- V14 to V17
+pub record IsWithinBounds (m : ModuleValue) : Type 0 where
+  pub steps : steps_bound m ≤ 1000000000
+  pub activities : activities_bound m ≤ 100000
+  pub clocks : clocks_bound m ≤ 100000
+  pub stack : stack_bound m ≤ 4096

@@ -1,0 +1,10 @@
+pub mod Code
+pub mod Names
+pub mod World
+pub mod Step
+pub mod Schedule
+pub mod Order
+pub mod Walk
+pub mod Shape
+pub mod Bound
+pub mod Accepted

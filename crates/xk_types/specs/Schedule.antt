@@ -1,0 +1,95 @@
+-- Schedules: lists of activity numbers, and what comes of them.
+use Rattle.std.specs.Prelude.{◌≡◌, ℕ, ℤ, Bool, true, false, not, List, [], ◌∷◌, Option, Some, None, filter, map}
+use Rattle.std.specs.List.{list_all, filter_map}
+use Rattle.xk_types.specs.declared.names.Status.{Status}
+use Rattle.xk_types.specs.declared.names.Status.TheVariants as status
+use Rattle.xk_types.specs.declared.names.Event.{Event}
+use Rattle.xk_types.specs.declared.names.Event.TheVariants as event
+use Rattle.xk_types.specs.Code.{ModuleValue}
+use Rattle.xk_types.specs.World.{Activity, World, opening}
+use Rattle.xk_types.specs.Step.{Cause, Outcome, Blocked, Wrong, Stepped, step}
+
+-- How a list of activity numbers goes: through to a last world; or it stops in a world before a step that is blocked, or
+-- before one that is wrong.
+pub data Course : Type 0 where
+  Through : World → Course
+  Held : World → Course
+  Wronged : World → Cause → Course
+
+abbrev pub run_on : World → Outcome → (World → Course) → Course
+run_on w Blocked go = Held w
+run_on w (Wrong c) go = Wronged w c
+run_on w (Stepped next e) go = go next
+
+-- one step of each activity named, in order
+abbrev pub run : ModuleValue → List ℕ → World → Course
+run m [] w = Through w
+run m (a ∷ list) w = run_on w (step m w a) (run m list)
+
+-- the list is a legal schedule of the module, and leads here
+abbrev pub Leads : ModuleValue → List ℕ → World → Type 0
+Leads m list w = run m list (opening m) ≡ Through w
+
+-- some legal schedule leads here
+abbrev pub IsReached : ModuleValue → World → Type 0
+IsReached m w = (list : List ℕ) × Leads m list w
+
+-- ---- enabled, ended
+
+abbrev pub is_step : Outcome → Bool
+is_step Blocked = false
+is_step (Wrong c) = false
+is_step (Stepped w e) = true
+
+-- the activity can take a step
+abbrev pub is_enabled : ModuleValue → World → ℕ → Bool
+is_enabled m w a = is_step (step m w a)
+
+abbrev pub is_ended : Status → Bool
+is_ended status.Running = false
+is_ended status.Arrived = false
+is_ended status.Ended = true
+
+-- every activity has ended
+abbrev pub all_ended : World → Bool
+all_ended w = list_all (λ act. is_ended act.status) w.activities
+
+-- ---- what is seen of a run
+
+abbrev pub is_local : Event → Bool
+is_local event.Local = true
+is_local (event.Printed n) = false
+is_local event.Made = false
+is_local event.Resumed = false
+is_local event.Dropped = false
+is_local event.Arrived = false
+is_local event.Passed = false
+is_local event.Ended = false
+
+abbrev pub events_on : ℕ → Outcome → (World → List (ℕ × Event)) → List (ℕ × Event)
+events_on a Blocked go = []
+events_on a (Wrong c) go = []
+events_on a (Stepped next e) go = (a, e) ∷ go next
+
+-- the activity and the event of each step
+abbrev pub events : ModuleValue → List ℕ → World → List (ℕ × Event)
+events m [] w = []
+events m (a ∷ list) w = events_on a (step m w a) (events m list)
+
+-- those that aren't local
+abbrev pub seen : ModuleValue → List ℕ → World → List (ℕ × Event)
+seen m list w = filter (λ p. not (is_local p.1)) (events m list w)
+
+abbrev pub number_printed : Event → Option ℤ
+number_printed event.Local = None
+number_printed (event.Printed n) = Some n
+number_printed event.Made = None
+number_printed event.Resumed = None
+number_printed event.Dropped = None
+number_printed event.Arrived = None
+number_printed event.Passed = None
+number_printed event.Ended = None
+
+-- the numbers that a run prints
+abbrev pub printed : ModuleValue → List ℕ → World → List ℤ
+printed m list w = filter_map (λ p. number_printed p.1) (seen m list w)

@@ -1,0 +1,222 @@
+-- One step of one activity.
+--
+-- From the X10 Language Specification 2.4, chapter Clocks: `Clock.make()` registers the activity that makes; `resume`
+-- says that the activity has done its work in the phase and doesn't block; `advanceAll` resumes every clock of the
+-- activity and blocks until all of them have advanced; `drop` ends the registration; an operation on a clock without a
+-- registration raises ClockUseException; a clock advances when every activity registered on it has resumed it; an
+-- activity that ends is registered on no clock any more. This project's own rules: a second resume has no effect; the two
+-- halves of `advanceAll` are two steps.
+use Rattle.std.specs.Prelude.{ℕ, suc, ℤ, ◌+◌, ◌==◌, Bool, true, false, not, ◌&&◌, List, [], ◌∷◌, ◌++◌, map, length, replicate, Option, Some, None, slice_get, slice_set, if◌then◌else◌}
+use Rattle.std.specs.Int.{w64, int_wrapping_add}
+use Rattle.std.specs.List.{list_any}
+use Rattle.xk_types.specs.declared.instr.Instr.{Instr}
+use Rattle.xk_types.specs.declared.instr.Instr.TheVariants as instr
+use Rattle.xk_types.specs.declared.names.Value.{Value}
+use Rattle.xk_types.specs.declared.names.Value.TheVariants as value
+use Rattle.xk_types.specs.declared.names.Status.{Status}
+use Rattle.xk_types.specs.declared.names.Status.TheVariants as status
+use Rattle.xk_types.specs.declared.names.Standing.{Standing}
+use Rattle.xk_types.specs.declared.names.Standing.TheVariants as standing
+use Rattle.xk_types.specs.declared.names.Event.{Event}
+use Rattle.xk_types.specs.declared.names.Event.TheVariants as event
+use Rattle.xk_types.specs.Code.{UnitValue, ModuleValue}
+use Rattle.xk_types.specs.World.{Frame, Activity, Clock, World, standing_of, instruction_at}
+
+-- Why a step is wrong: a clock operation by an activity that isn't registered on the clock; an unset slot is read; a
+-- number is wanted and a clock stands there, or the reverse; there is no such instruction, unit, slot or shared number.
+pub data Cause : Type 0 where
+  ClockUse : Cause
+  Missing : Cause
+  WrongKind : Cause
+  OutOfRange : Cause
+
+-- what a step comes to
+pub data Outcome : Type 0 where
+  Blocked : Outcome
+  Wrong : Cause → Outcome
+  Stepped : World → Event → Outcome
+
+-- ---- standings
+
+abbrev pub is_signalled : Standing → Bool
+is_signalled standing.Apart = false
+is_signalled standing.Open = false
+is_signalled standing.Signalled = true
+is_signalled standing.Ahead = false
+
+-- registered, and not signalled
+abbrev pub is_pending : Standing → Bool
+is_pending standing.Apart = false
+is_pending standing.Open = true
+is_pending standing.Signalled = false
+is_pending standing.Ahead = true
+
+-- after a resume
+abbrev pub resumed : Standing → Standing
+resumed standing.Apart = standing.Apart
+resumed standing.Open = standing.Signalled
+resumed standing.Signalled = standing.Signalled
+resumed standing.Ahead = standing.Ahead
+
+-- after a pass
+abbrev pub passed : Standing → Standing
+passed standing.Apart = standing.Apart
+passed standing.Open = standing.Open
+passed standing.Signalled = standing.Signalled
+passed standing.Ahead = standing.Open
+
+-- after the clock has advanced
+abbrev pub advanced : Standing → Standing
+advanced standing.Apart = standing.Apart
+advanced standing.Open = standing.Open
+advanced standing.Signalled = standing.Ahead
+advanced standing.Ahead = standing.Ahead
+
+-- after the registration has ended
+abbrev pub dropped : Standing → Standing
+dropped s = standing.Apart
+
+-- ---- the end of a step: each clock that somebody is registered on, all of them signalled, advances
+
+abbrev pub is_ready : Clock → Bool
+is_ready c = list_any is_signalled c.standings && not (list_any is_pending c.standings)
+
+abbrev pub settled_clock : ℕ → Clock → Clock
+settled_clock now c = if is_ready c then record { phase = c.phase + 1; last = now; standings = map advanced c.standings } else c
+
+abbrev pub settled : World → World
+settled w = record w { clocks = map (settled_clock (w.steps + 1)) w.clocks; steps = w.steps + 1 }
+
+-- ---- a step that changes one activity, and where it stands on clocks
+
+-- a clock on which the standing of activity a changed
+abbrev pub moved_on : ℕ → (Standing → Standing) → Clock → Clock
+moved_on a change c = record c { standings = slice_set c.standings a (change (standing_of c a)) }
+
+-- the clocks after the standings of activity a changed, that on clock number k by change k
+abbrev pub moved : ℕ → (ℕ → Standing → Standing) → List Clock → List Clock
+moved a change [] = []
+moved a change (c ∷ cs) = moved_on a (change 0) c ∷ moved a (λ k. change (suc k)) cs
+
+-- no standing changes
+abbrev pub none : ℕ → Standing → Standing
+none k s = s
+
+-- that on clock c changes
+abbrev pub only : ℕ → (Standing → Standing) → ℕ → Standing → Standing
+only c change k s = if k == c then change s else s
+
+-- all do
+abbrev pub all : (Standing → Standing) → ℕ → Standing → Standing
+all change k s = change s
+
+-- activity a becomes act, its standings change, and the step ends
+abbrev pub done : World → ℕ → Activity → (ℕ → Standing → Standing) → Event → Outcome
+done w a act change e =
+    Stepped (settled (record w { activities = slice_set w.activities a act; clocks = moved a change w.clocks })) e
+
+-- a clock that activity a of n has made: a is registered on it, open
+abbrev pub new_clock : ℕ → ℕ → Clock
+new_clock n a = record { phase = 0; last = 0; standings = slice_set (replicate n standing.Apart) a standing.Open }
+
+-- activity a becomes act and has made a clock, and the step ends
+abbrev pub made : World → ℕ → Activity → Outcome
+made w a act =
+    Stepped (settled (record w {
+      activities = slice_set w.activities a act;
+      clocks = w.clocks ++ new_clock (length w.activities) a ∷ [];
+    })) event.Made
+
+-- ---- an activity after its step
+
+-- on to the next instruction
+abbrev pub onward : Activity → Activity
+onward act = record act { frame = record act.frame { place = act.frame.place + 1 } }
+
+-- with these slots
+abbrev pub with_slots : Activity → List Value → Activity
+with_slots act slots = record act { frame = record act.frame { slots = slots } }
+
+-- at the first half of an `advance`
+abbrev pub arrived : Activity → Activity
+arrived act = record act { status = status.Arrived }
+
+-- over; its frames stay as they are
+abbrev pub ended : Activity → Activity
+ended act = record act { status = status.Ended }
+
+-- past an `advance`, in the step of this number
+abbrev pub past : Activity → ℕ → Activity
+past act now = record (onward act) { status = status.Running; since = now }
+
+-- ---- operands
+
+abbrev pub slot_at : Activity → ℕ → Option Value
+slot_at act s = slice_get act.frame.slots s
+
+-- a slot that has to hold a number
+abbrev pub number_in : Option Value → (ℤ → Outcome) → Outcome
+number_in None go = Wrong OutOfRange
+number_in (Some value.Unset) go = Wrong Missing
+number_in (Some (value.Number n)) go = go n
+number_in (Some (value.Clock c)) go = Wrong WrongKind
+
+-- a clock on which the activity has to be registered
+abbrev pub registered_on : Option Clock → ℕ → Outcome → Outcome
+registered_on None a go = Wrong OutOfRange
+registered_on (Some c) a go = if is_signalled (standing_of c a) then go else if is_pending (standing_of c a) then go else Wrong ClockUse
+
+-- a slot that has to name a clock on which the activity is registered
+abbrev pub clock_in : World → ℕ → Option Value → (ℕ → Outcome) → Outcome
+clock_in w a None go = Wrong OutOfRange
+clock_in w a (Some value.Unset) go = Wrong Missing
+clock_in w a (Some (value.Number n)) go = Wrong WrongKind
+clock_in w a (Some (value.Clock c)) go = registered_on (slice_get w.clocks c) a (go c)
+
+-- a slot that is written: the activity goes on with it
+abbrev pub put_in : Option Value → Activity → ℕ → Value → (Activity → Outcome) → Outcome
+put_in None act d v go = Wrong OutOfRange
+put_in (Some old) act d v go = go (onward (with_slots act (slice_set act.frame.slots d v)))
+
+abbrev pub writing : Activity → ℕ → Value → (Activity → Outcome) → Outcome
+writing act d v go = put_in (slot_at act d) act d v go
+
+-- ---- a step
+
+-- what a running activity does at an instruction
+abbrev pub carried_out : World → ℕ → Activity → Instr → Outcome
+carried_out w a act (instr.Lit d n) = writing act d (value.Number n) (λ next. done w a next none event.Local)
+carried_out w a act (instr.Add d x y) =
+    number_in (slot_at act x) (λ p. number_in (slot_at act y) (λ q.
+    writing act d (value.Number (int_wrapping_add w64 p q)) (λ next. done w a next none event.Local)))
+carried_out w a act (instr.Print x) = number_in (slot_at act x) (λ n. done w a (onward act) none (event.Printed n))
+carried_out w a act (instr.Make k) = writing act k (value.Clock (length w.clocks)) (λ next. made w a next)
+carried_out w a act (instr.Resume k) = clock_in w a (slot_at act k) (λ c. done w a (onward act) (only c resumed) event.Resumed)
+carried_out w a act (instr.Drop k) = clock_in w a (slot_at act k) (λ c. done w a (onward act) (only c dropped) event.Dropped)
+carried_out w a act instr.Advance = done w a (arrived act) (all resumed) event.Arrived
+carried_out w a act instr.Ret = done w a (ended act) (all dropped) event.Ended
+
+abbrev pub run_at : World → ℕ → Activity → Option Instr → Outcome
+run_at w a act None = Wrong OutOfRange
+run_at w a act (Some i) = carried_out w a act i
+
+-- an activity waits at an `advance` as long as it is signalled on a clock
+abbrev pub waits : World → ℕ → Bool
+waits w a = list_any (λ c. is_signalled (standing_of c a)) w.clocks
+
+-- the second half of an `advance`
+abbrev pub passing : World → ℕ → Activity → Outcome
+passing w a act = if waits w a then Blocked else done w a (past act (w.steps + 1)) (all passed) event.Passed
+
+abbrev pub step_by : ModuleValue → World → ℕ → Activity → Status → Outcome
+step_by m w a act status.Running = run_at w a act (instruction_at m act.frame)
+step_by m w a act status.Arrived = passing w a act
+step_by m w a act status.Ended = Blocked
+
+abbrev pub step_of : ModuleValue → World → ℕ → Option Activity → Outcome
+step_of m w a None = Blocked
+step_of m w a (Some act) = step_by m w a act act.status
+
+-- one step of activity a
+abbrev pub step : ModuleValue → World → ℕ → Outcome
+step m w a = step_of m w a (slice_get w.activities a)

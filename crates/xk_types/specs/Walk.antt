@@ -1,0 +1,157 @@
+-- What the verifier follows: the kind of one slot along walks through one unit's code.
+--
+-- A slot's kind says what it holds: nothing, a number, or the name of a clock on which the activity is registered and
+-- open (live), registered and signalled or ahead (resumed), or registered no more (out).
+use Rattle.std.specs.Prelude.{◌≡◌, ℕ, ◌+◌, ◌<◌, ◌==◌, List, [], ◌∷◌, Option, Some, None, slice_get, if◌then◌else◌}
+use Rattle.xk_types.specs.declared.instr.Instr.{Instr}
+use Rattle.xk_types.specs.declared.instr.Instr.TheVariants as instr
+use Rattle.xk_types.specs.declared.unit.ParamKind.{ParamKind}
+use Rattle.xk_types.specs.declared.unit.ParamKind.TheVariants as param
+use Rattle.xk_types.specs.declared.rules.Rule.{Rule}
+use Rattle.xk_types.specs.declared.rules.Rule.TheVariants as rule
+use Rattle.xk_types.specs.declared.rules.Kind.{Kind}
+use Rattle.xk_types.specs.declared.rules.Kind.TheVariants as kind
+use Rattle.xk_types.specs.declared.rules.Visit.{Visit}
+use Rattle.xk_types.specs.Code.{UnitValue, ModuleValue}
+use Rattle.xk_types.specs.Order.{Has}
+
+-- what an instruction leaves of a kind: the kinds that it may be afterwards, or a refusal by a rule
+pub data After : Type 0 where
+  To : List Kind → After
+  Refused : Rule → After
+
+-- ---- what the rows of the table are made of
+
+-- one kind
+abbrev pub becomes : Kind → After
+becomes k = To (k ∷ [])
+
+-- read as a number: any other kind is refused
+abbrev pub as_number : Kind → After → After
+as_number kind.Unset go = Refused rule.Use
+as_number kind.Number go = go
+as_number kind.Live go = Refused rule.Use
+as_number kind.Resumed go = Refused rule.Use
+as_number kind.Out go = Refused rule.Use
+
+-- used as a clock on which the activity is registered: any other kind is refused
+abbrev pub as_clock : Kind → After → After
+as_clock kind.Unset go = Refused rule.Use
+as_clock kind.Number go = Refused rule.Use
+as_clock kind.Live go = go
+as_clock kind.Resumed go = go
+as_clock kind.Out go = Refused rule.Use
+
+-- overwritten: a clock on which the activity is still registered would be lost
+abbrev pub overwritten : Kind → After → After
+overwritten kind.Unset go = go
+overwritten kind.Number go = go
+overwritten kind.Live go = Refused rule.Leak
+overwritten kind.Resumed go = Refused rule.Leak
+overwritten kind.Out go = go
+
+-- after the pass of an `advance`
+abbrev pub awake : Kind → Kind
+awake kind.Unset = kind.Unset
+awake kind.Number = kind.Number
+awake kind.Live = kind.Live
+awake kind.Resumed = kind.Live
+awake kind.Out = kind.Out
+
+-- the instruction reads slot x, the walk follows slot s
+abbrev pub reads : ℕ → ℕ → Kind → After → After
+reads x s k go = if s == x then as_number k go else go
+
+-- it writes slot d, which then has the new kind
+abbrev pub writes : ℕ → Kind → ℕ → Kind → After
+writes d new s k = if s == d then overwritten k (becomes new) else becomes k
+
+-- it uses the clock in slot c, which then has the new kind
+abbrev pub uses : ℕ → Kind → ℕ → Kind → After
+uses c new s k = if s == c then as_clock k (becomes new) else becomes k
+
+-- ---- the table: what an instruction of unit u leaves of the kind k of slot s
+
+abbrev pub after : ModuleValue → UnitValue → Instr → ℕ → Kind → After
+after m u (instr.Lit d n) s k = writes d kind.Number s k
+after m u (instr.Add d x y) s k = reads x s k (reads y s k (writes d kind.Number s k))
+after m u (instr.Print x) s k = reads x s k (becomes k)
+after m u (instr.Make d) s k = writes d kind.Live s k
+after m u (instr.Resume c) s k = uses c kind.Resumed s k
+after m u (instr.Drop c) s k = uses c kind.Out s k
+after m u instr.Advance s k = becomes (awake k)
+after m u instr.Ret s k = becomes k
+
+-- ---- edges
+
+-- where an instruction at this place may lead
+abbrev pub successors : Instr → ℕ → List ℕ
+successors (instr.Lit d n) at = (at + 1) ∷ []
+successors (instr.Add d x y) at = (at + 1) ∷ []
+successors (instr.Print x) at = (at + 1) ∷ []
+successors (instr.Make d) at = (at + 1) ∷ []
+successors (instr.Resume c) at = (at + 1) ∷ []
+successors (instr.Drop c) at = (at + 1) ∷ []
+successors instr.Advance at = (at + 1) ∷ []
+successors instr.Ret at = []
+
+abbrev pub places_after : Option Instr → ℕ → List ℕ
+places_after None at = []
+places_after (Some i) at = successors i at
+
+abbrev pub row_of : ModuleValue → UnitValue → ℕ → Kind → Option Instr → After
+row_of m u s k None = To []
+row_of m u s k (Some i) = after m u i s k
+
+-- the table's row for one stop of a walk
+abbrev pub row : ModuleValue → UnitValue → ℕ → Visit → After
+row m u s p = row_of m u s p.kind (slice_get u.code p.at)
+
+abbrev pub MayBecome : After → Kind → Type 0
+MayBecome (To ks) k = Has ks k
+MayBecome (Refused r) k = ⊥
+
+-- a walk may go from p to q
+pub record IsEdge (m : ModuleValue) (u : UnitValue) (s : ℕ) (p q : Visit) : Type 0 where
+  pub place : Has (places_after (slice_get u.code p.at) p.at) q.at
+  pub kind : MayBecome (row m u s p) q.kind
+
+-- ---- walks
+
+abbrev pub entry_of : Option ParamKind → List Kind
+entry_of None = kind.Unset ∷ []
+entry_of (Some param.Number) = kind.Number ∷ []
+entry_of (Some param.Clock) = kind.Live ∷ kind.Resumed ∷ []
+
+-- the kinds that a slot may have before the unit's first instruction
+abbrev pub entry_kinds : UnitValue → ℕ → List Kind
+entry_kinds u s = entry_of (slice_get u.params s)
+
+abbrev pub Continues : ModuleValue → UnitValue → ℕ → Visit → List Visit → Type 0
+Continues m u s p [] = Unit {0}
+Continues m u s p (q ∷ rest) = IsEdge m u s p q × Continues m u s q rest
+
+-- the list begins at instruction 0 with an entry kind, and each stop is joined to the next by an edge
+abbrev pub IsWalk : ModuleValue → UnitValue → ℕ → List Visit → Type 0
+IsWalk m u s [] = ⊥
+IsWalk m u s (p ∷ rest) = (p.at ≡ 0) × Has (entry_kinds u s) p.kind × Continues m u s p rest
+
+abbrev pub last_of : Visit → List Visit → Visit
+last_of p [] = p
+last_of p (q ∷ rest) = last_of q rest
+
+abbrev pub EndsAt : List Visit → Visit → Type 0
+EndsAt [] q = ⊥
+EndsAt (p ∷ rest) q = last_of p rest ≡ q
+
+-- some walk of the slot ends there
+abbrev pub IsVisited : ModuleValue → UnitValue → ℕ → Visit → Type 0
+IsVisited m u s q = (walk : List Visit) × IsWalk m u s walk × EndsAt walk q
+
+-- some walk of the slot ends where the table refuses to go on
+pub record IsRefusedAt (m : ModuleValue) (unit s : ℕ) (q : Visit) (r : Rule) : Type 0 where
+  pub u : UnitValue
+  pub found : slice_get m.units unit ≡ Some u
+  pub slot : s < u.slots
+  pub visited : IsVisited m u s q
+  pub refused : row m u s q ≡ Refused r

@@ -1,0 +1,77 @@
+-- The world of a running program.
+--
+-- X10 Language Specification 2.4: an activity runs a statement on its own (chapter Activities); a clock has a phase, and
+-- each activity registered on it has resumed it in this phase or has not (chapter Clocks).
+use Rattle.std.specs.Prelude.{ℕ, ℤ, ◌+◌, List, [], ◌∷◌, length, Option, Some, None, replicate, slice_get, slice_index_or, slice_set, option_and_then}
+use Rattle.std.specs.Option.{option_map_or}
+use Rattle.xk_types.specs.declared.instr.Instr.{Instr}
+use Rattle.xk_types.specs.declared.names.Value.{Value}
+use Rattle.xk_types.specs.declared.names.Value.TheVariants as value
+use Rattle.xk_types.specs.declared.names.Status.{Status}
+use Rattle.xk_types.specs.declared.names.Status.TheVariants as status
+use Rattle.xk_types.specs.declared.names.Standing.{Standing}
+use Rattle.xk_types.specs.declared.names.Standing.TheVariants as standing
+use Rattle.xk_types.specs.Code.{UnitValue, ModuleValue}
+
+-- a method in progress: its unit, the instruction that it stands at, its slots
+pub record Frame : Type 0 where
+  pub unit : ℕ
+  pub place : ℕ
+  pub slots : List Value
+
+-- A finish is named by the activity that opened it and by how many that one then had open, this one among them. The
+-- finish that governs main has no owner.
+pub record Finish : Type 0 where
+  pub owner : Option ℕ
+  pub depth : ℕ
+
+-- an activity: its present frame, the frames that wait for it to return, its status, the number of the step of its last
+-- pass, how many finishes it has open, and the finish that governs it
+pub record Activity : Type 0 where
+  pub frame : Frame
+  pub callers : List Frame
+  pub status : Status
+  pub since : ℕ
+  pub opened : ℕ
+  pub governed : Finish
+
+-- a clock: its phase, the number of the step in which it last advanced, and where each activity stands on it
+pub record Clock : Type 0 where
+  pub phase : ℕ
+  pub last : ℕ
+  pub standings : List Standing
+
+-- all there is: activities, clocks, shared numbers, the number of steps taken
+pub record World : Type 0 where
+  pub activities : List Activity
+  pub clocks : List Clock
+  pub cells : List ℤ
+  pub steps : ℕ
+
+-- the finish that governs main
+abbrev pub root : Finish
+root = record { owner = None; depth = 0 }
+
+-- how many slots a unit has
+abbrev pub slots_of : ModuleValue → ℕ → ℕ
+slots_of m u = option_map_or (λ unit. unit.slots) (slice_get m.units u) 0
+
+-- a unit's frame before its first step
+abbrev pub start_of : ModuleValue → ℕ → Frame
+start_of m u = record { unit = u; place = 0; slots = replicate (slots_of m u) value.Unset }
+
+-- main before its first step
+abbrev pub main_of : ModuleValue → Activity
+main_of m = record { frame = start_of m 0; callers = []; status = status.Running; since = 0; opened = 0; governed = root }
+
+-- main alone, no clock, no step
+abbrev pub opening : ModuleValue → World
+opening m = record { activities = main_of m ∷ []; clocks = []; cells = m.shared; steps = 0 }
+
+-- where an activity stands on a clock
+abbrev pub standing_of : Clock → ℕ → Standing
+standing_of c a = slice_index_or c.standings a standing.Apart
+
+-- the instruction that a frame stands at, if there is one
+abbrev pub instruction_at : ModuleValue → Frame → Option Instr
+instruction_at m f = option_and_then (λ unit. slice_get unit.code f.place) (slice_get m.units f.unit)

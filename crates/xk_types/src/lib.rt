@@ -1,0 +1,13 @@
+//! The vocabulary of the machine: instructions, units, modules and their limits, events, the verifier's rules, and
+//! the devices that a program reads from and writes to.
+#![tactic(auto)]
+
+mod instr;
+mod names;
+mod rules;
+mod unit;
+
+pub use instr::Instr;
+pub use names::{Act, ClockId, Entry, Event, Standing, Status, Value};
+pub use rules::{Kind, Rule, Visit};
+pub use unit::{Limit, Module, ParamKind, Unit, UnitKind};

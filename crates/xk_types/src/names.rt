@@ -1,0 +1,84 @@
+//! Activities, clocks, and what a step may be seen to do.
+
+ghost use Rattle.std.specs.Prelude.{ℕ};
+
+use std::marker::Model;
+
+/// The number of an activity: 0 is main, and a spawned one takes the next number.
+#[derive(Clone, Copy, Debug, PartialEq, Eq)]
+pub struct Act(pub u32);
+
+impl Model for Act {
+    ghost Value = { ℕ };
+
+    ghost view = { λ a. a.0 };
+
+    ghost inverse = { λ n. record { 0 = n } };
+}
+
+/// The number of a clock, from 0 in order of making.
+#[derive(Clone, Copy, Debug, PartialEq, Eq)]
+pub struct ClockId(pub u32);
+
+impl Model for ClockId {
+    ghost Value = { ℕ };
+
+    ghost view = { λ c. c.0 };
+
+    ghost inverse = { λ n. record { 0 = n } };
+}
+
+/// One entry of a log: an activity, and how many steps it took one after another, at least 1.
+#[derive(Clone, Copy, Debug, PartialEq, Eq)]
+pub struct Entry {
+    pub act: u32,
+    pub steps: u32,
+}
+
+/// What a slot holds.
+#[derive(Clone, Copy, Debug, PartialEq, Eq)]
+pub enum Value {
+    /// Nothing was written to it yet.
+    Unset,
+    /// A number of 64 bits in two's complement.
+    Number(i64),
+    /// The name of a clock.
+    Clock(ClockId),
+}
+
+/// Whether an activity goes on, waits at an `advance`, or is over.
+#[derive(Clone, Copy, Debug, PartialEq, Eq)]
+pub enum Status {
+    Running,
+    /// It took the first step of an `advance`, and hasn't taken the second.
+    Arrived,
+    Ended,
+}
+
+/// Where an activity stands on a clock.
+#[derive(Clone, Copy, Debug, PartialEq, Eq)]
+pub enum Standing {
+    /// It isn't registered on the clock.
+    Apart,
+    /// It hasn't resumed the clock since its last pass, or since it was registered.
+    Open,
+    /// It has resumed the clock, which hasn't advanced since.
+    Signalled,
+    /// It has resumed the clock, which has advanced since; the activity hasn't passed yet.
+    Ahead,
+}
+
+/// What one step does. A step whose event is `Local` can't be seen by another activity.
+#[derive(Clone, Copy, Debug, PartialEq, Eq)]
+pub enum Event {
+    Local,
+    Printed(i64),
+    Made,
+    Resumed,
+    Dropped,
+    /// The first step of an `advance`.
+    Arrived,
+    /// The second step of an `advance`.
+    Passed,
+    Ended,
+}
