@@ -1,5 +1,5 @@
 -- How many steps, activities, clocks and slots a module can take, as sums over its instructions.
-use Rattle.std.specs.Prelude.{ℕ, ◌+◌, ◌≤◌, max, List, Option, Some, None, slice_get, sum_by, fold, map}
+use Rattle.std.specs.Prelude.{ℕ, ◌+◌, ◌≤◌, max, slice_get, sum_by, fold, map}
 use Rattle.std.specs.Option.{option_map_or}
 use Rattle.xk_types.specs.declared.instr.Instr.{Instr}
 use Rattle.xk_types.specs.declared.instr.Instr.TheVariants as instr

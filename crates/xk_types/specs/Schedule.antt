@@ -1,12 +1,12 @@
 -- Schedules: lists of activity numbers, and what comes of them.
-use Rattle.std.specs.Prelude.{◌≡◌, ℕ, ℤ, Bool, true, false, not, List, [], ◌∷◌, Option, Some, None, filter, map}
+use Rattle.std.specs.Prelude.{◌≡◌, ℕ, ℤ, Bool, true, false, not, List, [], ◌∷◌, Option, Some, None, filter}
 use Rattle.std.specs.List.{list_all, filter_map}
 use Rattle.xk_types.specs.declared.names.Status.{Status}
 use Rattle.xk_types.specs.declared.names.Status.TheVariants as status
 use Rattle.xk_types.specs.declared.names.Event.{Event}
 use Rattle.xk_types.specs.declared.names.Event.TheVariants as event
 use Rattle.xk_types.specs.Code.{ModuleValue}
-use Rattle.xk_types.specs.World.{Activity, World, opening}
+use Rattle.xk_types.specs.World.{World, opening}
 use Rattle.xk_types.specs.Step.{Cause, Outcome, Blocked, Wrong, Stepped, step}
 
 -- How a list of activity numbers goes: through to a last world; or it stops in a world before a step that is blocked, or

@@ -19,8 +19,8 @@ use Rattle.xk_types.specs.declared.names.Standing.{Standing}
 use Rattle.xk_types.specs.declared.names.Standing.TheVariants as standing
 use Rattle.xk_types.specs.declared.names.Event.{Event}
 use Rattle.xk_types.specs.declared.names.Event.TheVariants as event
-use Rattle.xk_types.specs.Code.{UnitValue, ModuleValue}
-use Rattle.xk_types.specs.World.{Frame, Activity, Clock, World, standing_of, instruction_at}
+use Rattle.xk_types.specs.Code.{ModuleValue}
+use Rattle.xk_types.specs.World.{Activity, Clock, World, standing_of, instruction_at}
 
 -- Why a step is wrong: a clock operation by an activity that isn't registered on the clock; an unset slot is read; a
 -- number is wanted and a clock stands there, or the reverse; there is no such instruction, unit, slot or shared number.

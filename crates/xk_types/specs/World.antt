@@ -2,7 +2,7 @@
 --
 -- X10 Language Specification 2.4: an activity runs a statement on its own (chapter Activities); a clock has a phase, and
 -- each activity registered on it has resumed it in this phase or has not (chapter Clocks).
-use Rattle.std.specs.Prelude.{ℕ, ℤ, ◌+◌, List, [], ◌∷◌, length, Option, Some, None, replicate, slice_get, slice_index_or, slice_set, option_and_then}
+use Rattle.std.specs.Prelude.{ℕ, ℤ, List, [], ◌∷◌, Option, None, replicate, slice_get, slice_index_or, option_and_then}
 use Rattle.std.specs.Option.{option_map_or}
 use Rattle.xk_types.specs.declared.instr.Instr.{Instr}
 use Rattle.xk_types.specs.declared.names.Value.{Value}
@@ -11,7 +11,7 @@ use Rattle.xk_types.specs.declared.names.Status.{Status}
 use Rattle.xk_types.specs.declared.names.Status.TheVariants as status
 use Rattle.xk_types.specs.declared.names.Standing.{Standing}
 use Rattle.xk_types.specs.declared.names.Standing.TheVariants as standing
-use Rattle.xk_types.specs.Code.{UnitValue, ModuleValue}
+use Rattle.xk_types.specs.Code.{ModuleValue}
 
 -- a method in progress: its unit, the instruction that it stands at, its slots
 pub record Frame : Type 0 where
