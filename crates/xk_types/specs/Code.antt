@@ -16,6 +16,9 @@ pub record ModuleValue : Type 0 where
   pub shared : List ℤ
   pub units : List UnitValue
 
+abbrev pub module_of : List ℤ → List UnitValue → ModuleValue
+module_of shared units = record { shared = shared; units = units }
+
 -- at most 64 slots, no more parameters than slots, at most 4,096 instructions
 pub record IsUnitWithinLimits (u : UnitValue) : Type 0 where
   pub slots : u.slots ≤ 64

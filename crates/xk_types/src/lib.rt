@@ -10,4 +10,6 @@ mod unit;
 pub use instr::Instr;
 pub use names::{Act, ClockId, Entry, Event, Standing, Status, Value};
 pub use rules::{Kind, Rule, Visit};
-pub use unit::{Limit, Module, ParamKind, Unit, UnitKind};
+pub use unit::{
+    Limit, MAX_CODE, MAX_SHARED, MAX_SLOTS, MAX_UNITS, Module, ParamKind, Unit, UnitKind,
+};

@@ -1,6 +1,7 @@
 //! Units, and modules within the limits.
 
-ghost use Rattle.std.specs.Prelude.{◌≡◌, ◌≤◌, ℕ, List, ℤ};
+ghost use Rattle.std.specs.Prelude.{◌≡◌, ◌↔◌, IsTrue, IsOk, IfOk, IfErr};
+ghost use Rattle.xk_types.specs.Code.{IsUnitWithinLimits, IsWithinLimits, module_of};
 
 use crate::instr::Instr;
 use std::marker::Model;
@@ -56,3 +57,56 @@ impl Model for Module {
 /// A module goes beyond a limit.
 #[derive(Clone, Copy, Debug, PartialEq, Eq)]
 pub struct Limit;
+
+/// The most units of a module.
+pub const MAX_UNITS: usize = 1024;
+/// The most shared numbers of a module.
+pub const MAX_SHARED: usize = 256;
+/// The most slots of a unit.
+pub const MAX_SLOTS: u16 = 64;
+/// The most instructions of a unit.
+pub const MAX_CODE: usize = 4096;
+
+impl Unit {
+    /// At most 64 slots, no more parameters than slots, at most 4,096 instructions.
+    pub fn is_within_limits(&self) -> bool
+        ensures { IsTrue result ↔ IsUnitWithinLimits self.now }
+    {
+        self.slots <= MAX_SLOTS
+            && self.params.len() <= self.slots as usize
+            && self.code.len() <= MAX_CODE
+    }
+}
+
+impl Module {
+    /// The module of these shared numbers and units, or both back where they go beyond a limit: 1 to 1,024 units, at
+    /// most 256 shared numbers, and each unit with at most 64 slots, no more parameters than slots and at most 4,096
+    /// instructions. Takes no memory.
+    pub fn new(shared: Vec<i64>, units: Vec<Unit>) -> Result<Module, (Vec<i64>, Vec<Unit>, Limit)>
+        ensures made { IfOk result (λ m. m ≡ module_of shared.items units.items) }
+        ensures limits { IsOk result ↔ IsWithinLimits (module_of shared.items units.items) }
+        ensures handed_back { IfErr result (λ e. (e.0 ≡ shared) × (e.1 ≡ units)) }
+    {
+        let counts = !units.is_empty() && units.len() <= MAX_UNITS && shared.len() <= MAX_SHARED;
+        if counts && units.iter().all(|u| u.is_within_limits()) {
+            Ok(Module { shared, units })
+        } else {
+            Err((shared, units, Limit))
+        }
+    }
+
+    /// The shared numbers as they are at the start.
+    pub fn shared(&self) -> &[i64]
+        ensures { result.now ≡ self.now.shared }
+    {
+        &self.shared
+    }
+
+    /// The units; unit 0 is main.
+    pub fn units(&self) -> &[Unit]
+        ensures listed { result.now ≡ self.now.units }
+        ensures limits { IsWithinLimits self.now }
+    {
+        &self.units
+    }
+}
