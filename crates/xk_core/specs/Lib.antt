@@ -1,2 +1,4 @@
 pub mod Change
 pub mod Arm
+pub mod Able
+pub mod Opening

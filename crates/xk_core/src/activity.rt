@@ -4,6 +4,7 @@ ghost use Rattle.std.specs.Prelude.{◌≡◌, ℕ, ℤ, ◌+◌, ◌<◌, ◌^�
 ghost use Rattle.xk_types.specs.declared.names.Value.TheVariants as value;
 ghost use Rattle.xk_types.specs.declared.instr.Instr.TheVariants as instr;
 ghost use Rattle.xk_types.specs.Step.{slot_at, onward, with_slots, arrived, ended, past};
+ghost use Rattle.xk_types.specs.Schedule.{is_ended};
 ghost use Rattle.xk_core.specs.declared.change.Change.TheVariants as change;
 ghost use Rattle.xk_core.specs.Arm.{IsClockAt, CanCarry, Carries};
 
@@ -94,6 +95,13 @@ impl Activity {
         ensures { result ≡ self.now.since }
     {
         self.since
+    }
+
+    /// Whether it is over.
+    pub fn is_ended(&self) -> bool
+        ensures { result ≡ is_ended self.now.status }
+    {
+        matches!(self.status, Status::Ended)
     }
 
     /// The number in a slot that holds one.

@@ -1,19 +1,22 @@
 //! The world of a running program, and the arms of its steps.
 
-ghost use Rattle.std.specs.Prelude.{◌≡◌, ℕ, ◌+◌, ◌<◌, ◌^◌, true, List, [], ◌∷◌, length, map, replicate, IfOk, OnErr, All};
+ghost use Rattle.std.specs.Prelude.{◌≡◌, ℕ, ◌+◌, ◌<◌, ◌^◌, true, false, length, map, slice_get, option_copied, IfOk, IfSome, IfNone, OnErr, All};
 ghost use Rattle.xk_types.specs.declared.names.Value.TheVariants as value;
 ghost use Rattle.xk_types.specs.declared.instr.Instr.TheVariants as instruction;
 ghost use Rattle.xk_types.specs.Step.{Stepped, settled, settled_clock, moved};
-ghost use Rattle.xk_types.specs.Schedule.{is_step};
+ghost use Rattle.xk_types.specs.Step.{waits};
+ghost use Rattle.xk_types.specs.Schedule.{is_step, all_ended};
+ghost use Rattle.xk_core.specs.Able.{is_able};
+ghost use Rattle.xk_core.specs.Opening.{opening_with};
 ghost use Rattle.xk_core.specs.Change.{after_change};
 ghost use Rattle.xk_core.specs.Arm.{carried, passed_on, IsRoomy};
 
-use crate::activity::Activity;
-use crate::change::{Change, Move};
+use crate::activity::{Activity, Frame};
+use crate::change::{Change, Move, is_signalled};
 use crate::clock::Clock;
-use std::alloc::AllocError;
+use std::alloc::{AllocError, Global};
 use std::marker::Model;
-use xk_types::{ClockId, Event, Instr, Value};
+use xk_types::{ClockId, Event, Instr, Status, Value};
 
 #[derive(Drop)]
 pub struct State {
@@ -113,5 +116,83 @@ impl State {
         act.pass(now);
         self.finish(a, Change::All(Move::Pass));
         Event::Passed
+    }
+
+    /// A world with main alone, before its first step.
+    pub fn opening(alloc: Global, slots: u16, shared: &[i64]) -> Result<State, AllocError>
+        ensures { IfOk result (λ s. s ≡ opening_with slots shared.now) }
+    {
+        let slots = vec![in alloc; Value::Unset; slots as usize]?;
+        let mut activities = Vec::new(alloc);
+        activities.push(Activity::new(Frame::new(0, slots), 0))?;
+        Ok(State {
+            activities,
+            clocks: Vec::new(alloc),
+            cells: shared.to_vec(alloc)?,
+            steps: 0,
+        })
+    }
+
+    /// How many steps were taken.
+    pub fn steps(&self) -> u64
+        ensures { result ≡ self.now.steps }
+    {
+        self.steps
+    }
+
+    /// The activity of this number, if there is one.
+    pub fn activity(&self, a: usize) -> Option<&Activity>
+        ensures { option_copied result ≡ slice_get self.now.activities a }
+    {
+        self.activities.get(a)
+    }
+
+    /// The clock of this number, if there is one.
+    pub fn clock(&self, c: usize) -> Option<&Clock>
+        ensures { option_copied result ≡ slice_get self.now.clocks c }
+    {
+        self.clocks.get(c)
+    }
+
+    /// Whether every activity has ended.
+    pub fn all_ended(&self) -> bool
+        ensures { result ≡ all_ended self.now }
+    {
+        self.activities.iter().all(|act| act.is_ended())
+    }
+
+    /// Whether a clock holds activity a back that waits at an `advance`.
+    fn waits(&self, a: usize) -> bool
+        ensures { result ≡ waits self.now a }
+    {
+        self.clocks.iter().any(|c| is_signalled(c.standing(a)))
+    }
+
+    /// Whether activity a exists, and neither waits nor is over.
+    pub fn is_able(&self, a: usize) -> bool
+        ensures { result ≡ is_able self.now a }
+    {
+        match self.activities.get(a) {
+            None => false,
+            Some(act) => match act.status() {
+                Status::Running => true,
+                Status::Arrived => !self.waits(a),
+                Status::Ended => false,
+            },
+        }
+    }
+
+    /// The least activity that neither waits nor is over.
+    pub fn first_able(&self) -> Option<usize>
+        ensures least { IfSome result (λ a. (is_able self.now a ≡ true) × ((b : ℕ) → b < a → is_able self.now b ≡ false)) }
+        ensures none { IfNone result ((b : ℕ) → b < length self.now.activities → is_able self.now b ≡ false) }
+        ensures within { IfSome result (λ a. a < length self.now.activities) }
+    {
+        for a in 0..self.activities.len() {
+            if self.is_able(a) {
+                return Some(a);
+            }
+        }
+        None
     }
 }
