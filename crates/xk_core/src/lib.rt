@@ -4,5 +4,8 @@
 mod activity;
 mod change;
 mod clock;
+mod machine;
 mod state;
 
+
+pub use machine::Core;

@@ -76,8 +76,23 @@ impl State {
         self.settle();
     }
 
+    /// Activity a carries out an instruction. Only the making of a clock wants memory; where that is refused nothing
+    /// changes.
+    pub fn carry_out(&mut self, a: usize, instr: Instr) -> Result<Event, AllocError>
+        requires enabled { is_step (carried self.old a instr) ≡ true }
+        requires room { IsRoomy self.old a }
+        ensures stepped { IfOk result (λ e. carried self.old a instr ≡ Stepped self.new e) }
+        ensures refused { OnErr result (self.new ≡ self.old) }
+        ensures only_at_make { OnErr result ((d : ℕ) × (instr ≡ instruction.Make d)) }
+    {
+        match instr {
+            Instr::Make(d) => self.make(a, d),
+            _ => Ok(self.carry_alone(a, instr)),
+        }
+    }
+
     /// Activity a carries out an instruction other than `make`.
-    pub fn carry_out(&mut self, a: usize, instr: Instr) -> Event
+    fn carry_alone(&mut self, a: usize, instr: Instr) -> Event
         requires enabled { is_step (carried self.old a instr) ≡ true }
         requires single { (d : ℕ) → instr ≡ instruction.Make d → ⊥ }
         requires room { IsRoomy self.old a }
@@ -90,7 +105,7 @@ impl State {
     }
 
     /// Activity a makes a clock, and puts its name into slot d. Where memory is refused nothing changes.
-    pub fn make(&mut self, a: usize, d: u16) -> Result<Event, AllocError>
+    fn make(&mut self, a: usize, d: u16) -> Result<Event, AllocError>
         requires enabled { is_step (carried self.old a (instruction.Make d)) ≡ true }
         requires room { IsRoomy self.old a }
         ensures made { IfOk result (λ e. carried self.old a (instruction.Make d) ≡ Stepped self.new e) }

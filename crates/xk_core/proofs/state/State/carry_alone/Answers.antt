@@ -4,7 +4,7 @@ use Rattle.xk_types.specs.Step.{Stepped}
 use Rattle.xk_types.specs.Schedule.{is_step}
 use Rattle.xk_core.specs.Arm.{carried}
 use Rattle.xk_core.proofs.Arms.{operands_there, arm_done, stands_there, carried_within}
-use Rattle.xk_core.proofs.state.State.carry_out.Goals as goal
+use Rattle.xk_core.proofs.state.State.carry_alone.Goals as goal
 
 pub carry_out-change-requires-clause-operands : goal.carry_out-change-requires-clause-operands
 carry_out-change-requires-clause-operands c =

@@ -1,0 +1,6 @@
+//! Stub.
+#![tactic(auto)]
+
+mod verified;
+
+pub use verified::Verified;
