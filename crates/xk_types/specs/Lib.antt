@@ -8,3 +8,4 @@ pub mod Walk
 pub mod Shape
 pub mod Bound
 pub mod Accepted
+pub mod Device
