@@ -1,6 +1,0 @@
-//! Stub.
-#![tactic(auto)]
-
-mod verified;
-
-pub use verified::Verified;
