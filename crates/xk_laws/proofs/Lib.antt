@@ -1,2 +1,5 @@
 pub mod Invariant
+pub mod Lists
+pub mod Standings
+pub mod Settling
 pub mod Reached
