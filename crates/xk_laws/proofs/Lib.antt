@@ -4,4 +4,6 @@ pub mod Standings
 pub mod Settling
 pub mod Walks
 pub mod Fits
+pub mod Rows
+pub mod Measure
 pub mod Reached
