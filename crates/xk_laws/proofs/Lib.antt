@@ -6,4 +6,5 @@ pub mod Walks
 pub mod Fits
 pub mod Rows
 pub mod Measure
+pub mod Steps
 pub mod Reached
