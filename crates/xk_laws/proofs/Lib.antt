@@ -7,4 +7,5 @@ pub mod Fits
 pub mod Rows
 pub mod Measure
 pub mod Steps
+pub mod Running
 pub mod Reached

@@ -49,11 +49,11 @@ reads_row x s k go h = cases (s == x) refl h
     cases false e g = (λ same. absurd (eqb-false s x e same), refl)
 
 -- one that writes slot d leaves the new kind there, over one that isn't held, and all others
-pub record IsWritten (d : ℕ) (new : Kind) (s : ℕ) (k : Kind) : Type 0 where
-  pub here : s ≡ d → (is_held k ≡ false) × MayBecome (writes d new s k) new
-  pub other : (s ≡ d → ⊥) → MayBecome (writes d new s k) k
+pub record IsWritten (row : After) (d : ℕ) (new : Kind) (s : ℕ) (k : Kind) : Type 0 where
+  pub here : s ≡ d → (is_held k ≡ false) × MayBecome row new
+  pub other : (s ≡ d → ⊥) → MayBecome row k
 
-pub writes_row : (d : ℕ) (new : Kind) (s : ℕ) (k : Kind) → Allowed (writes d new s k) → IsWritten d new s k
+pub writes_row : (d : ℕ) (new : Kind) (s : ℕ) (k : Kind) → Allowed (writes d new s k) → IsWritten (writes d new s k) d new s k
 writes_row d new s k h = let r = cases (s == d) refl h in record { here = r.0; other = r.1 }
   where
     cases : (b : Bool) → (s == d) ≡ b → Allowed (cond b (overwritten k (becomes new)) (becomes k))
@@ -64,11 +64,11 @@ writes_row d new s k h = let r = cases (s == d) refl h in record { here = r.0; o
     cases false e g = (λ same. absurd (eqb-false s d e same), λ differs. inl refl)
 
 -- one that uses the clock in slot c leaves the new kind there, after one that is held, and all others
-pub record IsUsed (c : ℕ) (new : Kind) (s : ℕ) (k : Kind) : Type 0 where
-  pub here : s ≡ c → (is_held k ≡ true) × MayBecome (uses c new s k) new
-  pub other : (s ≡ c → ⊥) → MayBecome (uses c new s k) k
+pub record IsUsed (row : After) (c : ℕ) (new : Kind) (s : ℕ) (k : Kind) : Type 0 where
+  pub here : s ≡ c → (is_held k ≡ true) × MayBecome row new
+  pub other : (s ≡ c → ⊥) → MayBecome row k
 
-pub uses_row : (c : ℕ) (new : Kind) (s : ℕ) (k : Kind) → Allowed (uses c new s k) → IsUsed c new s k
+pub uses_row : (c : ℕ) (new : Kind) (s : ℕ) (k : Kind) → Allowed (uses c new s k) → IsUsed (uses c new s k) c new s k
 uses_row c new s k h = let r = cases (s == c) refl h in record { here = r.0; other = r.1 }
   where
     cases : (b : Bool) → (s == c) ≡ b → Allowed (cond b (as_clock k (becomes new)) (becomes k))
@@ -136,3 +136,12 @@ only_here c f s = ap (λ b. cond b (f s) s) (eq-eqb c c refl)
 
 pub only_other : (c : ℕ) (f : Standing → Standing) (k : ℕ) (s : Standing) → (k ≡ c → ⊥) → only c f k s ≡ s
 only_other c f k s h = ap (λ b. cond b (f s) s) (ne_eqb k c h)
+
+-- one that holds nothing new
+pub only_held : (c : ℕ) (f : Standing → Standing) → ((s : Standing) → is_held (kind_by (f s)) ≡ true → is_held (kind_by s) ≡ true)
+    → (k : ℕ) (s : Standing) → is_held (kind_by (only c f k s)) ≡ true → is_held (kind_by s) ≡ true
+only_held c f keeps k s h = cases (k == c) h
+  where
+    cases : (b : Bool) → is_held (kind_by (cond b (f s) s)) ≡ true → is_held (kind_by s) ≡ true
+    cases true g = keeps s g
+    cases false g = g
