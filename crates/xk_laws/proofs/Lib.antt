@@ -8,4 +8,6 @@ pub mod Rows
 pub mod Measure
 pub mod Steps
 pub mod Running
+pub mod Waiting
+pub mod Instructions
 pub mod Reached

@@ -78,15 +78,6 @@ uses_row c new s k h = let r = cases (s == c) refl h in record { here = r.0; oth
         (λ same. (r.0, subst (λ z. MayBecome z new) (sym r.1) (inl refl)), λ differs. absurd (differs (eqb-true s c e)))
     cases false e g = (λ same. absurd (eqb-false s c e same), λ differs. inl refl)
 
--- ---- values
-
--- no clock's name is a number
-clock_no_number : (s : Standing) → kind_by s ≡ kind.Number → ⊥
-clock_no_number standing.Apart e = grind arith
-clock_no_number standing.Open e = grind arith
-clock_no_number standing.Signalled e = grind arith
-clock_no_number standing.Ahead e = grind arith
-
 -- ---- changes
 
 -- after a resume a clock that was held is resumed

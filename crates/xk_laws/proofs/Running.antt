@@ -67,7 +67,7 @@ module _ (m : ModuleValue) (stands : ℕ → Standing) (clocks now : ℕ) (was :
       visited_allowed m c.ok was.frame.unit u unit_found s (omega (arith, slots_length)) i was.frame.place c.here (kind_of look v) (visited_here s v at)
 
   -- what a slot becomes is visited at the next place
-  next_visited : (s : ℕ) (v : Value) (new : Kind) → Has (successors i was.frame.place) (was.frame.place + 1) → slice_get was.frame.slots s ≡ Some v
+  pub next_visited : (s : ℕ) (v : Value) (new : Kind) → Has (successors i was.frame.place) (was.frame.place + 1) → slice_get was.frame.slots s ≡ Some v
       → MayBecome (after m u i s (kind_of look v)) new → IsVisited m u s (record { at = was.frame.place + 1; kind = new })
   next_visited s v new on at may = visited_next m u s i was.frame.place c.here (was.frame.place + 1) (kind_of look v) new on may (visited_here s v at)
 
@@ -105,6 +105,13 @@ module _ (m : ModuleValue) (stands : ℕ → Standing) (clocks now : ℕ) (was :
     held = names.held;
   }
 
+  -- an instruction that leaves each kind as it is
+  pub leaving : is_ret i ≡ false → Has (successors i was.frame.place) (was.frame.place + 1) → ((s : ℕ) (k : Kind) → Allowed (after m u i s k) → MayBecome (after m u i s k) k)
+      → IsNext m u look clocks (now + 1) was (onward was)
+  leaving other on rows = straight look clocks was.frame.slots other on
+      (record { width = refl; known = c.me.frame.known; apart = c.me.frame.apart; held = c.me.held })
+      (λ s v at. (v, at, rows s (kind_of look v) (row_allowed s v at)))
+
   -- what doesn't change kinds of known clocks changes no slot's
   kind_same : (new : ℕ → Kind) → (s : ℕ) (v : Value) → slice_get was.frame.slots s ≡ Some v
       → ((k : ℕ) → Names was.frame.slots s k → new k ≡ look k) → kind_of new v ≡ kind_of look v
@@ -138,7 +145,7 @@ module _ (m : ModuleValue) (stands : ℕ → Standing) (clocks now : ℕ) (was :
   written_apart d v count s t k fresh (inr p) (inl q) = let f = fresh k (sym q.1) in let h = c.me.frame.known s k p.1 in absurd (omega (arith, f.0))
   written_apart d v count s t k fresh (inr p) (inr q) = c.me.frame.apart s t k p.1 q.1
 
-  writing : (d : ℕ) (old v : Value) (kd : Kind) (new : ℕ → Kind) (count : ℕ) → slice_get was.frame.slots d ≡ Some old → is_ret i ≡ false → Has (successors i was.frame.place) (was.frame.place + 1)
+  pub writing : (d : ℕ) (old v : Value) (kd : Kind) (new : ℕ → Kind) (count : ℕ) → slice_get was.frame.slots d ≡ Some old → is_ret i ≡ false → Has (successors i was.frame.place) (was.frame.place + 1)
       → IsWrite d v kd new count → IsNext m u new count (now + 1) was (onward (with_slots was (set was.frame.slots d v)))
   writing d old v kd new count at other on wr = straight new count (set was.frame.slots d v) other on
       (record {
@@ -170,7 +177,7 @@ module _ (m : ModuleValue) (stands : ℕ → Standing) (clocks now : ℕ) (was :
 
   -- ---- a clock is used
 
-  using : (x k : ℕ) (kd : Kind) (f : Standing → Standing) → Names was.frame.slots x k → is_ret i ≡ false → Has (successors i was.frame.place) (was.frame.place + 1)
+  pub using : (x k : ℕ) (kd : Kind) (f : Standing → Standing) → Names was.frame.slots x k → is_ret i ≡ false → Has (successors i was.frame.place) (was.frame.place + 1)
       → ((s : ℕ) (old : Kind) → Allowed (after m u i s old) → IsUsed (after m u i s old) x kd s old)
       → (is_held (look k) ≡ true → kind_by (f (stands k)) ≡ kd)
       → ((s : Standing) → is_held (kind_by (f s)) ≡ true → is_held (kind_by s) ≡ true)

@@ -1,0 +1,159 @@
+-- Each instruction of a running activity is a step that keeps the invariant.
+use Rattle.std.proofs.Common.{◌≡◌, ℕ, zero, suc, ◌+◌, ◌<◌, ◌≤◌, Bool, true, false, cond, ◌==◌, List, [], ◌∷◌, ◌++◌, length, set, ℤ, Some, None, Option, refl, sym, ap, ◌∙◌, subst, arith, ◌⊎◌, inl, inr}
+use Rattle.std.specs.Prelude.{slice_get}
+use Rattle.std.specs.Int.{w64, int_wrapping_add}
+use Rattle.std.specs.Option.{option_map_or}
+use Rattle.std.proofs.lemmas.Bool.{cases_eq, false≢true}
+use Rattle.std.proofs.lemmas.List.{length_push}
+use Rattle.xk_types.specs.declared.instr.Instr.{Instr}
+use Rattle.xk_types.specs.declared.instr.Instr.TheVariants as instr
+use Rattle.xk_types.specs.declared.names.Value.{Value}
+use Rattle.xk_types.specs.declared.names.Value.TheVariants as value
+use Rattle.xk_types.specs.declared.names.Status.{Status}
+use Rattle.xk_types.specs.declared.names.Status.TheVariants as status
+use Rattle.xk_types.specs.declared.names.Standing.{Standing}
+use Rattle.xk_types.specs.declared.names.Standing.TheVariants as standing
+use Rattle.xk_types.specs.declared.rules.Kind.{Kind}
+use Rattle.xk_types.specs.declared.rules.Kind.TheVariants as kind
+use Rattle.xk_types.specs.Code.{UnitValue, ModuleValue}
+use Rattle.xk_types.specs.World.{Activity, Clock, World, standing_of}
+use Rattle.xk_types.specs.Schedule.{is_ended}
+use Rattle.xk_types.specs.Accepted.{IsAccepted}
+use Rattle.xk_types.specs.declared.names.Event.{Event}
+use Rattle.xk_types.specs.declared.names.Event.TheVariants as event
+use Rattle.xk_types.specs.Step.{done, made, Outcome, Blocked, Wrong, Stepped, ClockUse, onward, with_slots, arrived, ended, none, only, all, resumed, passed, dropped, is_signalled, is_pending, number_in, clock_in, registered_on, put_in, carried_out, moved, new_clock}
+use Rattle.xk_types.specs.Walk.{After, after, reads, writes, uses}
+use Rattle.xk_types.specs.Bound.{steps_weight, clocks_weight}
+use Rattle.xk_laws.proofs.Invariant.{Each, Stands, Names, IsActivitySound, IsSound, stands_on, looks, kind_by, kind_of, is_held}
+use Rattle.xk_laws.proofs.Walks.{Allowed}
+use Rattle.xk_laws.proofs.Rows.{reads_row, writes_row, uses_row, IsWritten, IsUsed, resumed_kind, resumed_held}
+use Rattle.xk_laws.proofs.Standings.{stands_on_at, stands_on_past, stands_on-push_old, stands_on-push_new, new_same}
+use Rattle.xk_laws.proofs.Measure.{IsPaid, paid_on, paid_arrive, paid_end}
+use Rattle.xk_laws.proofs.Steps.{IsNext, IsChange, IsMaking, StandsNear, done_sound, made_sound}
+use Rattle.xk_laws.proofs.Running.{IsAt, IsWrite, unit_found, slot_there, row_allowed, leaving, writing, using}
+use Rattle.xk_laws.proofs.Fits.{unit_fits}
+use Rattle.xk_laws.proofs.Waiting.{arriving, ending}
+
+-- a step is taken, and leads to a sound world
+abbrev pub Moves : ModuleValue → Outcome → Type 0
+Moves m Blocked = ⊥
+Moves m (Wrong c) = ⊥
+Moves m (Stepped v e) = IsSound m v
+
+-- ---- operands
+
+-- a slot that is there is written
+put_moves : (m : ModuleValue) (o : Option Value) (old : Value) (act : Activity) (d : ℕ) (v : Value) (go : Activity → Outcome) → o ≡ Some old
+    → Moves m (go (onward (with_slots act (set act.frame.slots d v)))) → Moves m (put_in o act d v go)
+put_moves m o old act d v go e h = subst (λ x. Moves m (put_in x act d v go)) (sym e) h
+
+-- a clock's name has no number's kind
+clock_no_number : (s : Standing) → kind_by s ≡ kind.Number → ⊥
+clock_no_number standing.Apart e = grind arith
+clock_no_number standing.Open e = grind arith
+clock_no_number standing.Signalled e = grind arith
+clock_no_number standing.Ahead e = grind arith
+
+-- a slot of a number's kind is read
+number_moves : (m : ModuleValue) (stands : ℕ → Standing) (o : Option Value) (v : Value) (go : ℤ → Outcome) → o ≡ Some v
+    → kind_of (λ k. kind_by (stands k)) v ≡ kind.Number → ((n : ℤ) → Moves m (go n)) → Moves m (number_in o go)
+number_moves m stands o v go e is h = subst (λ x. Moves m (number_in x go)) (sym e) (cases v is)
+  where
+    cases : (x : Value) → kind_of (λ k. kind_by (stands k)) x ≡ kind.Number → Moves m (number_in (Some x) go)
+    cases value.Unset g = absurd (grind arith)
+    cases (value.Number n) g = h n
+    cases (value.Clock k) g = absurd (clock_no_number (stands k) g)
+
+-- a clock on which the activity is registered is used
+registered_moves : (m : ModuleValue) (a : ℕ) (o : Option Clock) (go : Outcome) → is_held (kind_by (option_map_or (λ c. standing_of c a) o standing.Apart)) ≡ true
+    → Moves m go → Moves m (registered_on o a go)
+registered_moves m a None go held h = absurd (false≢true held)
+registered_moves m a (Some c) go held h = cases (standing_of c a) held
+  where
+    cases : (s : Standing) → is_held (kind_by s) ≡ true → Moves m (cond (is_signalled s) go (cond (is_pending s) go (Wrong ClockUse)))
+    cases standing.Apart g = absurd (false≢true g)
+    cases standing.Open g = h
+    cases standing.Signalled g = h
+    cases standing.Ahead g = h
+
+-- a slot of a held clock's kind is used
+clock_moves : (m : ModuleValue) (w : World) (a : ℕ) (o : Option Value) (v : Value) (go : ℕ → Outcome) → o ≡ Some v
+    → is_held (kind_of (λ k. kind_by (stands_on w.clocks a k)) v) ≡ true → ((k : ℕ) → v ≡ value.Clock k → Moves m (go k)) → Moves m (clock_in w a o go)
+clock_moves m w a o v go e is h = subst (λ x. Moves m (clock_in w a x go)) (sym e) (cases v is h)
+  where
+    cases : (x : Value) → is_held (kind_of (λ k. kind_by (stands_on w.clocks a k)) x) ≡ true → ((k : ℕ) → x ≡ value.Clock k → Moves m (go k)) → Moves m (clock_in w a (Some x) go)
+    cases value.Unset g f = absurd (false≢true g)
+    cases (value.Number n) g f = absurd (false≢true g)
+    cases (value.Clock k) g f = registered_moves m a (slice_get w.clocks k) (go k) g (f k refl)
+
+-- ---- standings after a step, before its end
+
+-- nothing changed
+kept_near : (st : Status) (since last now : ℕ) (s : Standing) → since < now → Stands st since last s → StandsNear st since last now s
+kept_near st since last now s before h = (h, λ g. before)
+
+-- a resume
+resumed_near : (st new : Status) (since last now : ℕ) (s : Standing) → since < now → is_ended new ≡ false → Stands st since last s → StandsNear new since last now (resumed s)
+resumed_near st new since last now standing.Apart before e h = (tt, λ g. before)
+resumed_near st new since last now standing.Open before e h = ((e, h.1), λ g. before)
+resumed_near st new since last now standing.Signalled before e h = ((e, h.1), λ g. before)
+resumed_near st new since last now standing.Ahead before e h = ((e, h.1), λ g. before)
+
+-- the end of a registration
+dropped_near : (st : Status) (since last now : ℕ) → StandsNear st since last now standing.Apart
+dropped_near st since last now = (tt, λ g. absurd (false≢true g))
+
+-- a change on one clock
+only_near : (st : Status) (since last now k j : ℕ) (f : Standing → Standing) (s : Standing) → StandsNear st since last now s → StandsNear st since last now (f s)
+    → StandsNear st since last now (only k f j s)
+only_near st since last now k j f s h g = cases (j == k)
+  where
+    cases : (b : Bool) → StandsNear st since last now (cond b (f s) s)
+    cases true = g
+    cases false = h
+
+only_apart : (k j : ℕ) (f : Standing → Standing) → f standing.Apart ≡ standing.Apart → only k f j standing.Apart ≡ standing.Apart
+only_apart k j f h = cases (j == k)
+  where
+    cases : (b : Bool) → cond b (f standing.Apart) standing.Apart ≡ standing.Apart
+    cases true = h
+    cases false = refl
+
+-- ---- instructions
+
+module _ (m : ModuleValue) (ok : IsAccepted m) (w : World) (a : ℕ) (was : Activity) (sound : IsSound m w) (found : slice_get w.activities a ≡ Some was)
+    (running : was.status ≡ status.Running) where
+  abbrev me : IsActivitySound m (looks w.clocks a) (length w.clocks) w.steps was
+  me = sound.activities a was found
+
+  abbrev Here : Instr → Type 0
+  Here i = slice_get me.u.code was.frame.place ≡ Some i
+
+  -- the activity stands there
+  at_it : (i : Instr) → Here i → IsAt m (stands_on w.clocks a) (length w.clocks) w.steps was me.u i
+  at_it i here = record { ok = ok; me = me; unit = refl; fit = unit_fits m ok.shape was.frame.unit me.u me.unit; running = running; here = here }
+
+  -- an instruction that changes no standing
+  kept : Each (λ k c. StandsNear was.status was.since c.last (w.steps + 1) (standing_of c a)) w.clocks
+  kept k c at = kept_near was.status was.since c.last (w.steps + 1) (standing_of c a) (let h = me.since in omega arith) ((sound.clocks k c at).stands a was found)
+
+  local_moves : (i : Instr) → Here i → (act : Activity) → steps_weight i ≡ 1 → clocks_weight i ≡ 0
+      → act.status ≡ was.status → act.since ≡ was.since → act.frame.place ≡ was.frame.place + 1
+      → IsNext m me.u (looks w.clocks a) (length w.clocks) (w.steps + 1) was act → (e : Event) → Moves m (done w a act none e)
+  local_moves i here act one zero' st sc place n e = done_sound m w a was act none sound found (record {
+    next = n;
+    apart = λ k. refl;
+    stands = λ k c at. rw (st, sc) (kept k c at);
+    paid = rw zero' at (paid_on m was act me.u i me.unit n.unit running (st ∙ running) place here one);
+  })
+
+  lit_moves : (d : ℕ) (n : ℤ) → Here (instr.Lit d n) → Moves m (carried_out w a was (instr.Lit d n))
+  lit_moves d n here =
+      let i = instr.Lit d n in
+      let c = at_it i here in
+      let old = slot_there m (stands_on w.clocks a) (length w.clocks) w.steps was me.u i c d (inl refl) in
+      put_moves m (slice_get was.frame.slots d) old.0 was d (value.Number n) (λ next. done w a next none event.Local) old.1
+          (local_moves i here (onward (with_slots was (set was.frame.slots d (value.Number n)))) refl refl refl refl refl
+              (writing m (stands_on w.clocks a) (length w.clocks) w.steps was me.u i c d old.0 (value.Number n) kind.Number (looks w.clocks a) (length w.clocks) old.1 refl (inl refl)
+                  (record { rows = writes_row d kind.Number; becomes = refl; more = omega arith; same = λ k h. refl; fresh = λ k e. absurd (grind arith); holds = λ k h. inl h }))
+              event.Local)
