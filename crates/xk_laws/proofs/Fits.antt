@@ -28,7 +28,7 @@ all_has test (y ∷ xs) x h (inl e) = rw (← e) (and_parts (test y) (list_all t
 all_has test (y ∷ xs) x h (inr g) = all_has test xs x (and_parts (test y) (list_all test xs) h).1 g
 
 -- no place of a known unit breaks a rule
-unbroken : (m : ModuleValue) → HasShape m → (r : Rule) (unit : ℕ) (u : UnitValue) → slice_get m.units unit ≡ Some u → (at : ℕ) → breaks_in r unit u at ≡ false
+pub unbroken : (m : ModuleValue) → HasShape m → (r : Rule) (unit : ℕ) (u : UnitValue) → slice_get m.units unit ≡ Some u → (at : ℕ) → breaks_in r unit u at ≡ false
 unbroken m shape r unit u found at = ap (λ o. breaks_unit_of r unit o at) (sym found) ∙ shape r unit at
 
 -- the two halves of the rule on the end that are used: an instruction that isn't `ret` isn't the last, and there is one

@@ -10,4 +10,6 @@ pub mod Steps
 pub mod Running
 pub mod Waiting
 pub mod Instructions
+pub mod Progress
+pub mod Opening
 pub mod Reached
