@@ -12,4 +12,5 @@ pub mod Waiting
 pub mod Instructions
 pub mod Progress
 pub mod Opening
+pub mod Counts
 pub mod Reached
