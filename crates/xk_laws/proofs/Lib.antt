@@ -14,3 +14,4 @@ pub mod Progress
 pub mod Opening
 pub mod Counts
 pub mod Reached
+pub mod SumRow
