@@ -1,16 +1,15 @@
 -- What the shape of an accepted module gives: its units fit.
-use Rattle.std.proofs.Common.{◌≡◌, ℕ, zero, suc, ◌+◌, ◌<◌, ◌≤◌, Bool, true, false, not, ◌==◌, ◌||◌, ◌&&◌, ltb, ◌⊎◌, inl, inr, List, [], ◌∷◌, length, Some, None, Option, refl, sym, ap, ◌∙◌, subst, arith, ltb-true, ltb-false, eqb-true, eq-eqb}
+use Rattle.std.proofs.Common.{◌≡◌, ℕ, zero, suc, ◌+◌, ◌<◌, Bool, true, false, not, ◌==◌, ◌||◌, ◌&&◌, inl, inr, List, [], ◌∷◌, length, Some, sym, ap, ◌∙◌, arith, ltb-true}
 use Rattle.std.specs.Prelude.{slice_get, nat_lt}
 use Rattle.std.specs.List.{list_all}
-use Rattle.std.proofs.lemmas.Bool.{eqb-false, or_parts, and_parts, and_cases, not-false, and_from, not_from_false, false_from_ne_true, lt-ltb}
-use Rattle.std.proofs.lemmas.Option.{slice_get_within, none-some}
+use Rattle.std.proofs.lemmas.Bool.{eqb-false, or_parts, and_parts, not-false}
+use Rattle.std.proofs.lemmas.Option.{slice_get_within}
 use Rattle.xk_types.specs.declared.instr.Instr.{Instr}
-use Rattle.xk_types.specs.declared.instr.Instr.TheVariants as instr
 use Rattle.xk_types.specs.declared.rules.Rule.{Rule}
 use Rattle.xk_types.specs.declared.rules.Rule.TheVariants as rule
 use Rattle.xk_types.specs.Code.{UnitValue, ModuleValue}
 use Rattle.xk_types.specs.Order.{Has}
-use Rattle.xk_types.specs.Shape.{slots_named, is_ret, instr_is, breaks, breaks_unit_of, breaks_in, breaks_end, HasShape}
+use Rattle.xk_types.specs.Shape.{slots_named, is_ret, instr_is, breaks_unit_of, breaks_in, breaks_end, HasShape}
 
 -- a unit that fits
 pub record IsFit (u : UnitValue) : Type 0 where
@@ -59,8 +58,10 @@ unit_fits m shape unit u found = record {
   where
     slots_ok : (at : ℕ) → breaks_in rule.Slot unit u at ≡ false
     slots_ok at = unbroken m shape rule.Slot unit u found at
+
     end_ok : (at : ℕ) → breaks_in rule.End unit u at ≡ false
     end_ok at = unbroken m shape rule.End unit u found at
+
     go : (n : ℕ) → (n == 0) ≡ false → 0 < n
     go zero e = absurd (grind arith)
     go (suc n) e = omega arith

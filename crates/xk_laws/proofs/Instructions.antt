@@ -1,11 +1,10 @@
 -- Each instruction of a running activity is a step that keeps the invariant.
-use Rattle.std.proofs.Common.{◌≡◌, ℕ, zero, suc, ◌+◌, ◌<◌, ◌≤◌, Bool, true, false, cond, ◌==◌, List, [], ◌∷◌, ◌++◌, length, set, ℤ, Some, None, Option, refl, sym, ap, ◌∙◌, subst, arith, ◌⊎◌, inl, inr}
+use Rattle.std.proofs.Common.{◌≡◌, ℕ, ◌+◌, ◌<◌, Bool, true, false, cond, ◌==◌, [], ◌∷◌, ◌++◌, length, set, ℤ, Some, None, Option, refl, sym, ap, ◌∙◌, subst, arith, inl, inr}
 use Rattle.std.specs.Prelude.{slice_get}
 use Rattle.std.specs.Int.{w64, int_wrapping_add}
 use Rattle.std.specs.Option.{option_map_or, option_and_then}
 use Rattle.std.proofs.lemmas.Option.{slice_get_within}
 use Rattle.std.proofs.lemmas.Bool.{cases_eq, false≢true}
-use Rattle.std.proofs.lemmas.List.{length_push}
 use Rattle.xk_types.specs.declared.instr.Instr.{Instr}
 use Rattle.xk_types.specs.declared.instr.Instr.TheVariants as instr
 use Rattle.xk_types.specs.declared.names.Value.{Value}
@@ -16,25 +15,25 @@ use Rattle.xk_types.specs.declared.names.Standing.{Standing}
 use Rattle.xk_types.specs.declared.names.Standing.TheVariants as standing
 use Rattle.xk_types.specs.declared.rules.Kind.{Kind}
 use Rattle.xk_types.specs.declared.rules.Kind.TheVariants as kind
-use Rattle.xk_types.specs.Code.{UnitValue, ModuleValue}
+use Rattle.xk_types.specs.Code.{ModuleValue}
 use Rattle.xk_types.specs.World.{Activity, Clock, World, standing_of, instruction_at}
 use Rattle.xk_types.specs.Schedule.{is_ended}
 use Rattle.xk_types.specs.Accepted.{IsAccepted}
 use Rattle.xk_types.specs.declared.names.Event.{Event}
 use Rattle.xk_types.specs.declared.names.Event.TheVariants as event
-use Rattle.xk_types.specs.Step.{done, made, Outcome, Blocked, Wrong, Stepped, ClockUse, onward, with_slots, arrived, ended, none, only, all, resumed, passed, dropped, is_signalled, is_pending, number_in, clock_in, registered_on, put_in, carried_out, run_at, moved, new_clock}
+use Rattle.xk_types.specs.Step.{done, made, Outcome, Blocked, Wrong, Stepped, ClockUse, onward, with_slots, arrived, ended, none, only, all, resumed, dropped, is_signalled, is_pending, number_in, clock_in, registered_on, put_in, carried_out, run_at, new_clock}
 use Rattle.xk_types.specs.Order.{Has}
 use Rattle.xk_types.specs.Shape.{slots_named, is_ret}
-use Rattle.xk_types.specs.Walk.{After, after, reads, writes, uses, becomes, MayBecome, successors}
+use Rattle.xk_types.specs.Walk.{after, reads, writes, becomes, MayBecome, successors}
 use Rattle.xk_types.specs.Bound.{steps_weight, clocks_weight}
-use Rattle.xk_laws.proofs.Invariant.{Each, Stands, Names, IsActivitySound, IsSound, stands_on, looks, kind_by, kind_of, is_held}
+use Rattle.xk_laws.proofs.Invariant.{Each, Stands, IsActivitySound, IsSound, stands_on, looks, kind_by, kind_of, is_held}
 use Rattle.xk_laws.proofs.Lists.{get_inside}
 use Rattle.xk_laws.proofs.Walks.{Allowed}
 use Rattle.xk_laws.proofs.Rows.{reads_row, writes_row, uses_row, IsWritten, IsUsed, resumed_kind, resumed_held}
-use Rattle.xk_laws.proofs.Standings.{stands_on_at, stands_on_past, stands_on-push_old, stands_on-push_new, new_same}
-use Rattle.xk_laws.proofs.Measure.{IsPaid, paid_on, paid_arrive, paid_end}
-use Rattle.xk_laws.proofs.Steps.{IsNext, IsChange, IsMaking, StandsNear, done_sound, made_sound}
-use Rattle.xk_laws.proofs.Running.{IsAt, IsWrite, unit_found, slot_there, row_allowed, leaving, writing, using}
+use Rattle.xk_laws.proofs.Standings.{stands_on-push_old, stands_on-push_new, new_same}
+use Rattle.xk_laws.proofs.Measure.{paid_on, paid_arrive, paid_end}
+use Rattle.xk_laws.proofs.Steps.{IsNext, StandsNear, done_sound, made_sound}
+use Rattle.xk_laws.proofs.Running.{IsAt, slot_there, row_allowed, leaving, writing, using}
 use Rattle.xk_laws.proofs.Fits.{unit_fits}
 use Rattle.xk_laws.proofs.Waiting.{arriving, ending}
 
@@ -169,10 +168,10 @@ module _ (m : ModuleValue) (ok : IsAccepted m) (w : World) (a : ℕ) (was : Acti
       let c = at_it i here in
       let old = slot_there m (stands_on w.clocks a) (length w.clocks) w.steps was me.u i c d (inl refl) in
       put_moves m (slice_get was.frame.slots d) old.0 was d (value.Number n) (λ next. done w a next none event.Local) old.1
-          (local_moves i here (onward (with_slots was (set was.frame.slots d (value.Number n)))) refl refl refl refl refl
-              (writing m (stands_on w.clocks a) (length w.clocks) w.steps was me.u i c d old.0 (value.Number n) kind.Number (looks w.clocks a) (length w.clocks) old.1 refl (inl refl)
-                  (record { rows = writes_row d kind.Number; becomes = refl; more = omega arith; same = λ k h. refl; fresh = λ k e. absurd (grind arith); holds = λ k h. inl h }))
-              event.Local)
+      (local_moves i here (onward (with_slots was (set was.frame.slots d (value.Number n)))) refl refl refl refl refl
+      (writing m (stands_on w.clocks a) (length w.clocks) w.steps was me.u i c d old.0 (value.Number n) kind.Number (looks w.clocks a) (length w.clocks) old.1 refl (inl refl)
+      (record { rows = writes_row d kind.Number; becomes = refl; more = omega arith; same = λ k h. refl; fresh = λ k e. absurd (grind arith); holds = λ k h. inl h }))
+      event.Local)
 
   -- what stands in a slot that a row reads is a number
   is_number : (i : Instr) → Here i → (x : ℕ) → Has (slots_named i) x → ((k : Kind) → Allowed (after m me.u i x k) → k ≡ kind.Number)
@@ -181,7 +180,7 @@ module _ (m : ModuleValue) (ok : IsAccepted m) (w : World) (a : ℕ) (was : Acti
       let c = at_it i here in
       let v = slot_there m (stands_on w.clocks a) (length w.clocks) w.steps was me.u i c x named in
       number_moves m (stands_on w.clocks a) (slice_get was.frame.slots x) v.0 go v.1
-          (reads_it (kind_of (looks w.clocks a) v.0) (row_allowed m (stands_on w.clocks a) (length w.clocks) w.steps was me.u i c x v.0 v.1)) h
+      (reads_it (kind_of (looks w.clocks a) v.0) (row_allowed m (stands_on w.clocks a) (length w.clocks) w.steps was me.u i c x v.0 v.1)) h
 
   add_moves : (d x y : ℕ) → Here (instr.Add d x y) → Moves m (carried_out w a was (instr.Add d x y))
   add_moves d x y here =
@@ -191,19 +190,19 @@ module _ (m : ModuleValue) (ok : IsAccepted m) (w : World) (a : ℕ) (was : Acti
       is_number i here x (inr (inl refl)) (λ k h. (add_parts d x y x k h).0 refl) _ (λ p.
       is_number i here y (inr (inr (inl refl))) (λ k h. (add_parts d x y y k h).1 refl) _ (λ q.
       put_moves m (slice_get was.frame.slots d) old.0 was d (value.Number (int_wrapping_add w64 p q)) (λ next. done w a next none event.Local) old.1
-          (local_moves i here (onward (with_slots was (set was.frame.slots d (value.Number (int_wrapping_add w64 p q))))) refl refl refl refl refl
-              (writing m (stands_on w.clocks a) (length w.clocks) w.steps was me.u i c d old.0 (value.Number (int_wrapping_add w64 p q)) kind.Number (looks w.clocks a) (length w.clocks) old.1 refl (inl refl)
-                  (record { rows = λ s k h. (add_parts d x y s k h).2; becomes = refl; more = omega arith; same = λ k h. refl; fresh = λ k e. absurd (grind arith); holds = λ k h. inl h }))
-              event.Local)))
+      (local_moves i here (onward (with_slots was (set was.frame.slots d (value.Number (int_wrapping_add w64 p q))))) refl refl refl refl refl
+      (writing m (stands_on w.clocks a) (length w.clocks) w.steps was me.u i c d old.0 (value.Number (int_wrapping_add w64 p q)) kind.Number (looks w.clocks a) (length w.clocks) old.1 refl (inl refl)
+      (record { rows = λ s k h. (add_parts d x y s k h).2; becomes = refl; more = omega arith; same = λ k h. refl; fresh = λ k e. absurd (grind arith); holds = λ k h. inl h }))
+      event.Local)))
 
   print_moves : (x : ℕ) → Here (instr.Print x) → Moves m (carried_out w a was (instr.Print x))
   print_moves x here =
       let i = instr.Print x in
       is_number i here x (inl refl) (λ k h. (reads_row x x k (becomes k) h).0 refl) _ (λ n.
       local_moves i here (onward was) refl refl refl refl refl
-          (leaving m (stands_on w.clocks a) (length w.clocks) w.steps was me.u i (at_it i here) refl (inl refl)
-              (λ s k h. subst (λ row. MayBecome row k) (sym (reads_row x s k (becomes k) h).1) (inl refl)))
-          (event.Printed n))
+      (leaving m (stands_on w.clocks a) (length w.clocks) w.steps was me.u i (at_it i here) refl (inl refl)
+      (λ s k h. subst (λ row. MayBecome row k) (sym (reads_row x s k (becomes k) h).1) (inl refl)))
+      (event.Printed n))
 
   make_moves : (d : ℕ) → Here (instr.Make d) → Moves m (carried_out w a was (instr.Make d))
   make_moves d here =
@@ -214,20 +213,20 @@ module _ (m : ModuleValue) (ok : IsAccepted m) (w : World) (a : ℕ) (was : Acti
       let act = onward (with_slots was (set was.frame.slots d (value.Clock count))) in
       let old = slot_there m (stands_on w.clocks a) (length w.clocks) w.steps was me.u i c d (inl refl) in
       let next = writing m (stands_on w.clocks a) count w.steps was me.u i c d old.0 (value.Clock count) kind.Live (looks (w.clocks ++ clock ∷ []) a) (count + 1) old.1 refl (inl refl)
-          (record {
-            rows = writes_row d kind.Live;
-            becomes = ap kind_by (stands_on-push_new w.clocks clock a ∙ new_same (length w.activities) a (slice_get_within w.activities a was found));
-            more = omega arith;
-            same = λ k h. ap kind_by (stands_on-push_old w.clocks clock a k (λ e. absurd (omega arith)));
-            fresh = λ k e. (let same = same_name count k e in (omega arith, omega arith));
-            holds = λ k h. elim (cases_eq k count) [
-                inl e ↦ inr (ap (λ z. value.Clock z) (sym e))
-              | inr differs ↦ inl (ap (λ s. is_held (kind_by s)) (sym (stands_on-push_old w.clocks clock a k differs)) ∙ h)
-            ];
-          }) in
+      (record {
+        rows = writes_row d kind.Live;
+        becomes = ap kind_by (stands_on-push_new w.clocks clock a ∙ new_same (length w.activities) a (slice_get_within w.activities a was found));
+        more = omega arith;
+        same = λ k h. ap kind_by (stands_on-push_old w.clocks clock a k (λ e. absurd (omega arith)));
+        fresh = λ k e. (let same = same_name count k e in (omega arith, omega arith));
+        holds = λ k h. elim (cases_eq k count) [
+          | inl e ↦ inr (ap (λ z. value.Clock z) (sym e))
+          | inr differs ↦ inl (ap (λ s. is_held (kind_by s)) (sym (stands_on-push_old w.clocks clock a k differs)) ∙ h)
+        ];
+      }) in
       put_moves m (slice_get was.frame.slots d) old.0 was d (value.Clock count) (λ x. made w a x) old.1
-          (made_sound m w a was act sound found
-              (record { next = next; running = running; same_status = refl; same_since = refl; paid = paid_on m was act me.u i me.unit refl running running refl here refl }))
+      (made_sound m w a was act sound found
+      (record { next = next; running = running; same_status = refl; same_since = refl; paid = paid_on m was act me.u i me.unit refl running running refl here refl }))
 
   -- an instruction that changes where the activity stands on the clock in slot x
   use_moves : (i : Instr) → Here i → (x : ℕ) (kd : Kind) (f : Standing → Standing) (e : Event) → Has (slots_named i) x → is_ret i ≡ false → Has (successors i was.frame.place) (was.frame.place + 1)
@@ -242,14 +241,14 @@ module _ (m : ModuleValue) (ok : IsAccepted m) (w : World) (a : ℕ) (was : Acti
       let c = at_it i here in
       let v = slot_there m (stands_on w.clocks a) (length w.clocks) w.steps was me.u i c x named in
       clock_moves m w a (slice_get was.frame.slots x) v.0 (λ k. done w a (onward was) (only k f) e) v.1
-          ((rows x (kind_of (looks w.clocks a) v.0) (row_allowed m (stands_on w.clocks a) (length w.clocks) w.steps was me.u i c x v.0 v.1)).here refl).0
-          (λ k is. done_sound m w a was (onward was) (only k f) sound found (record {
-            next = using m (stands_on w.clocks a) (length w.clocks) w.steps was me.u i c x k kd f (v.1 ∙ ap (λ z. Some z) is) other on rows (becomes (stands_on w.clocks a k)) keeps;
-            apart = λ j. only_apart k j f apart;
-            stands = λ j d at. only_near was.status was.since d.last (w.steps + 1) k j f (standing_of d a) (kept j d at)
-                (near was.status was.since d.last (w.steps + 1) (standing_of d a) (let h = me.since in omega arith) (ap is_ended running) ((sound.clocks j d at).stands a was found));
-            paid = rw zero' at (paid_on m was (onward was) me.u i me.unit refl running running refl here one);
-          }))
+      ((rows x (kind_of (looks w.clocks a) v.0) (row_allowed m (stands_on w.clocks a) (length w.clocks) w.steps was me.u i c x v.0 v.1)).here refl).0
+      (λ k is. done_sound m w a was (onward was) (only k f) sound found (record {
+        next = using m (stands_on w.clocks a) (length w.clocks) w.steps was me.u i c x k kd f (v.1 ∙ ap (λ z. Some z) is) other on rows (becomes (stands_on w.clocks a k)) keeps;
+        apart = λ j. only_apart k j f apart;
+        stands = λ j d at. only_near was.status was.since d.last (w.steps + 1) k j f (standing_of d a) (kept j d at)
+            (near was.status was.since d.last (w.steps + 1) (standing_of d a) (let h = me.since in omega arith) (ap is_ended running) ((sound.clocks j d at).stands a was found));
+        paid = rw zero' at (paid_on m was (onward was) me.u i me.unit refl running running refl here one);
+      }))
 
   resume_moves : (x : ℕ) → Here (instr.Resume x) → Moves m (carried_out w a was (instr.Resume x))
   resume_moves x here = use_moves (instr.Resume x) here x kind.Resumed resumed event.Resumed (inl refl) refl (inl refl) refl refl

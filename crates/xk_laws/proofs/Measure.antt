@@ -1,5 +1,5 @@
 -- What activities owe: it falls with each step.
-use Rattle.std.proofs.Common.{◌≡◌, ℕ, zero, suc, ◌+◌, ◌<◌, ◌≤◌, Bool, true, false, List, [], ◌∷◌, length, drop, set, sum_by, Some, None, Option, refl, sym, ap, ◌∙◌, subst, arith, add-one}
+use Rattle.std.proofs.Common.{◌≡◌, ℕ, suc, ◌+◌, ◌≤◌, List, drop, set, sum_by, Some, sym, ap, ◌∙◌, arith, add-one}
 use Rattle.std.specs.Prelude.{slice_get}
 use Rattle.std.specs.Option.{option_map_or}
 use Rattle.std.proofs.lemmas.List.Sums.{sum_by-cons}
@@ -50,6 +50,7 @@ paid m was act u clocks st new to found same e f g p q r = record {
   where
     before : (weight : Instr → ℕ) (half : ℕ) → owed weight half m was ≡ owed_by weight half u was.frame.place st
     before weight half = owed_at weight half m was u found ∙ ap (owed_by weight half u was.frame.place) e
+
     behind : (weight : Instr → ℕ) (half : ℕ) → owed weight half m act ≡ owed_by weight half u to new
     behind weight half = owed_at weight half m act u (ap (slice_get m.units) same ∙ found) ∙ ap (owed_by weight half u act.frame.place) f ∙ ap (λ n. owed_by weight half u n new) g
 
@@ -60,9 +61,9 @@ pub paid_on : (m : ModuleValue) (was act : Activity) (u : UnitValue) (i : Instr)
 paid_on m was act u i found same e f g here one =
     let at = was.frame.place in
     paid m was act u (clocks_weight i) status.Running status.Running (at + 1) found same e f g
-        (omega (arith, from_next steps_weight u at i here))
-        (omega (arith, from_next activities_weight u at i here))
-        (omega (arith, from_next clocks_weight u at i here))
+    (omega (arith, from_next steps_weight u at i here))
+    (omega (arith, from_next activities_weight u at i here))
+    (omega (arith, from_next clocks_weight u at i here))
 
 -- the first half of an `advance`
 pub paid_arrive : (m : ModuleValue) (was act : Activity) (u : UnitValue) → slice_get m.units was.frame.unit ≡ Some u → act.frame.unit ≡ was.frame.unit
@@ -71,9 +72,9 @@ pub paid_arrive : (m : ModuleValue) (was act : Activity) (u : UnitValue) → sli
 paid_arrive m was act u found same e f g here =
     let at = was.frame.place in
     paid m was act u 0 status.Running status.Arrived at found same e f g
-        (omega (arith, from_next steps_weight u at instr.Advance here))
-        (omega (arith, from_next activities_weight u at instr.Advance here))
-        (omega (arith, from_next clocks_weight u at instr.Advance here))
+    (omega (arith, from_next steps_weight u at instr.Advance here))
+    (omega (arith, from_next activities_weight u at instr.Advance here))
+    (omega (arith, from_next clocks_weight u at instr.Advance here))
 
 -- the second
 pub paid_pass : (m : ModuleValue) (was act : Activity) (u : UnitValue) → slice_get m.units was.frame.unit ≡ Some u → act.frame.unit ≡ was.frame.unit
@@ -88,4 +89,4 @@ pub paid_end : (m : ModuleValue) (was act : Activity) (u : UnitValue) → slice_
 paid_end m was act u found same e f g here =
     let at = was.frame.place in
     paid m was act u 0 status.Running status.Ended at found same e f g
-        (omega (arith, from_next steps_weight u at instr.Ret here)) (omega arith) (omega arith)
+    (omega (arith, from_next steps_weight u at instr.Ret here)) (omega arith) (omega arith)

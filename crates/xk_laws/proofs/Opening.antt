@@ -1,5 +1,5 @@
 -- The opening world is sound.
-use Rattle.std.proofs.Common.{◌≡◌, ℕ, zero, suc, ◌+◌, ◌<◌, ◌≤◌, Bool, true, false, not, ◌==◌, ◌&&◌, List, [], ◌∷◌, length, replicate, Some, None, Option, refl, sym, ap, ◌∙◌, subst, arith, inl, inr, eqb-true}
+use Rattle.std.proofs.Common.{◌≡◌, ℕ, zero, suc, ◌==◌, [], ◌∷◌, length, replicate, Some, refl, sym, ap, ◌∙◌, subst, arith, inl, eqb-true}
 use Rattle.std.specs.Prelude.{slice_get}
 use Rattle.std.specs.Option.{option_map_or}
 use Rattle.std.proofs.lemmas.Bool.{false≢true, not-false}
@@ -14,9 +14,9 @@ use Rattle.xk_types.specs.declared.rules.Rule.TheVariants as rule
 use Rattle.xk_types.specs.declared.rules.Kind.TheVariants as kind
 use Rattle.xk_types.specs.Code.{UnitValue, ModuleValue, IsWithinLimits}
 use Rattle.xk_types.specs.Order.{Has}
-use Rattle.xk_types.specs.World.{World, opening, main_of, slots_of}
-use Rattle.xk_types.specs.Shape.{breaks_in, HasShape}
-use Rattle.xk_types.specs.Walk.{entry_kinds, entry_of, IsVisited}
+use Rattle.xk_types.specs.World.{opening, main_of, slots_of}
+use Rattle.xk_types.specs.Shape.{HasShape}
+use Rattle.xk_types.specs.Walk.{entry_kinds, entry_of}
 use Rattle.xk_types.specs.Bound.{steps_weight, activities_weight, clocks_weight}
 use Rattle.xk_types.specs.Accepted.{IsAccepted}
 use Rattle.xk_laws.proofs.Invariant.{Each, Expects, IsActivitySound, IsSound, looks, kind_of, owed, owing}
@@ -39,7 +39,7 @@ each_one P x h (suc i) y e = absurd (none-some y e)
 main_entry : (m : ModuleValue) → HasShape m → (u : UnitValue) → slice_get m.units 0 ≡ Some u → (s : ℕ) → Has (entry_kinds u s) kind.Unset
 main_entry m shape u found s =
     subst (λ list. Has (entry_of (slice_get list s)) kind.Unset)
-        (sym (nil_from_length u.params (eqb-true (length u.params) 0 (not-false (length u.params == 0) (unbroken m shape rule.Unit 0 u found 0))))) (inl refl)
+    (sym (nil_from_length u.params (eqb-true (length u.params) 0 (not-false (length u.params == 0) (unbroken m shape rule.Unit 0 u found 0))))) (inl refl)
 
 -- what one activity owes
 owing_one : (weight : Instr → ℕ) (half : ℕ) (m : ModuleValue) → owing weight half m (main_of m ∷ []) ≡ owed weight half m (main_of m)
@@ -57,8 +57,10 @@ opening_sound m limits ok = record {
   where
     first : (u : UnitValue) × (slice_get m.units 0 ≡ Some u)
     first = get_inside m.units 0 limits.some
+
     unset : (s : ℕ) (v : Value) → slice_get (replicate (slots_of m 0) value.Unset) s ≡ Some v → value.Unset ≡ v
     unset s v h = get-replicate (slots_of m 0) value.Unset v s h
+
     main : IsActivitySound m (looks [] 0) 0 0 (main_of m)
     main = record {
       main = refl;

@@ -8,19 +8,18 @@ use Rattle.xk_types.specs.declared.names.Status.{Status}
 use Rattle.xk_types.specs.declared.names.Status.TheVariants as status
 use Rattle.xk_types.specs.declared.names.Standing.{Standing}
 use Rattle.xk_types.specs.declared.names.Standing.TheVariants as standing
-use Rattle.xk_types.specs.declared.names.Event.{Event}
 use Rattle.xk_types.specs.declared.names.Event.TheVariants as event
 use Rattle.xk_types.specs.Code.{ModuleValue}
 use Rattle.xk_types.specs.World.{Activity, Clock, World, standing_of}
-use Rattle.xk_types.specs.Step.{Outcome, Blocked, Wrong, Stepped, is_signalled, is_pending, all, passed, past, done, waits, passing, step_by, step_of, step}
+use Rattle.xk_types.specs.Step.{Outcome, Blocked, Wrong, Stepped, is_signalled, is_pending, all, passed, past, done, waits, step_by, step_of, step}
 use Rattle.xk_types.specs.Schedule.{is_step, is_enabled, is_ended, all_ended}
 use Rattle.xk_types.specs.Accepted.{IsAccepted}
-use Rattle.xk_laws.proofs.Invariant.{Each, Stands, IsActivitySound, IsSound, stands_on, looks}
+use Rattle.xk_laws.proofs.Invariant.{Stands, IsActivitySound, IsSound, stands_on, looks}
 use Rattle.xk_laws.proofs.Lists.{get_inside, any_found, all_given}
 use Rattle.xk_laws.proofs.Standings.{held_back, stands_on_at}
 use Rattle.xk_laws.proofs.Fits.{unit_fits}
 use Rattle.xk_laws.proofs.Measure.{paid_pass}
-use Rattle.xk_laws.proofs.Steps.{IsChange, StandsNear, done_sound}
+use Rattle.xk_laws.proofs.Steps.{StandsNear, done_sound}
 use Rattle.xk_laws.proofs.Waiting.{going_on}
 use Rattle.xk_laws.proofs.Instructions.{Moves, running_moves}
 
@@ -79,10 +78,12 @@ step_keeps m ok w sound a = of (slice_get w.activities a) refl
         → Keeps m (cond b Blocked (done w a (past act (w.steps + 1)) (all passed) event.Passed))
     passing_keeps act found waiting true e = tt
     passing_keeps act found waiting false e = moves_keeps m (done w a (past act (w.steps + 1)) (all passed) event.Passed) (pass_moves m ok w a act sound found waiting e)
+
     by : (act : Activity) → slice_get w.activities a ≡ Some act → (st : Status) → act.status ≡ st → Keeps m (step_by m w a act st)
     by act found status.Running e = moves_keeps m (step_by m w a act status.Running) (running_moves m ok w a act sound found e)
     by act found status.Arrived e = passing_keeps act found e (waits w a) refl
     by act found status.Ended e = tt
+
     of : (o : Option Activity) → slice_get w.activities a ≡ o → Keeps m (step_of m w a o)
     of None e = tt
     of (Some act) e = by act e act.status refl
@@ -143,6 +144,7 @@ none_left m ok w sound stuck (suc n) a act found below alive = by act.status ref
   where
     runs : (b : ℕ) (x : Activity) → slice_get w.activities b ≡ Some x → x.status ≡ status.Running → ⊥
     runs b x at e = false≢true (sym (stuck b (slice_get_within w.activities b x at)) ∙ running_enabled m ok w sound b x at e)
+
     by : (st : Status) → act.status ≡ st → is_ended st ≡ false
         → ((b : ℕ) (x : Activity) → slice_get w.activities b ≡ Some x → x.since < n → is_ended x.status ≡ false → ⊥) → ⊥
     by status.Running e h earlier = runs a act found e

@@ -1,6 +1,5 @@
 -- What holds of each world that a legal schedule of an accepted module leads to, and the law over every schedule.
-use Rattle.std.proofs.Common.{◌≡◌, ℕ, zero, suc, ◌+◌, ◌<◌, ◌≤◌, max, Bool, true, false, List, [], ◌∷◌, ◌++◌, map, length, get_or, sum_by, fold, Some, None, Option, refl, sym, ap, ◌∙◌, subst, arith}
-use Rattle.std.specs.Prelude.{slice_get, All}
+use Rattle.std.proofs.Common.{◌≡◌, ℕ, ◌+◌, ◌<◌, ◌≤◌, true, false, List, [], ◌∷◌, ◌++◌, map, length, get_or, sum_by, refl, sym, ap, ◌∙◌, subst, arith}
 use Rattle.std.specs.Option.{option_map}
 use Rattle.std.proofs.lemmas.Option.{slice_get-get_or, slice_get-map}
 use Rattle.xk_types.specs.declared.names.Event.{Event}
@@ -8,13 +7,13 @@ use Rattle.xk_types.specs.declared.rules.Kind.{Kind}
 use Rattle.xk_types.specs.Code.{ModuleValue, IsWithinLimits}
 use Rattle.xk_types.specs.World.{Activity, World, opening}
 use Rattle.xk_types.specs.Step.{Cause, Outcome, Blocked, Wrong, Stepped, step}
-use Rattle.xk_types.specs.Schedule.{Course, Through, Held, Wronged, run, run_on, Leads, IsReached, is_enabled, all_ended}
+use Rattle.xk_types.specs.Schedule.{Course, Through, Wronged, run, run_on, IsReached, is_enabled, all_ended}
 use Rattle.xk_types.specs.Bound.{steps_bound, activities_bound, clocks_bound, stack_bound}
 use Rattle.xk_types.specs.Accepted.{IsAccepted, EverySchedule, slots_held}
 use Rattle.xk_laws.proofs.Invariant.{IsActivitySound, IsSound, looks}
 use Rattle.xk_laws.proofs.Lists.{max_each}
 use Rattle.xk_laws.proofs.Counts.{step_counts}
-use Rattle.xk_laws.proofs.Progress.{Keeps, IsStuck, step_keeps, stuck_ended}
+use Rattle.xk_laws.proofs.Progress.{Keeps, step_keeps, stuck_ended}
 use Rattle.xk_laws.proofs.Opening.{opening_sound}
 
 -- ---- runs
@@ -136,6 +135,6 @@ every_schedule m limits ok = record {
   stack = λ list w h k d inside.
       (let s = reached_sound m limits ok w (list, h) in
       sound_stack m (looks w.clocks k) (length w.clocks) w.steps (get_or w.activities k d)
-          (s.activities k (get_or w.activities k d) (slice_get-get_or w.activities k d inside)));
+      (s.activities k (get_or w.activities k d) (slice_get-get_or w.activities k d inside)));
   ends = λ list w h stuck. reached_ends m limits ok w (list, h) (λ a inside. stuck a);
 }

@@ -1,17 +1,14 @@
 -- Kinds: what the rows of the table give where they don't refuse, and how changes of standings move kinds.
-use Rattle.std.proofs.Common.{◌≡◌, ℕ, zero, suc, ◌+◌, ◌<◌, ◌≤◌, Bool, true, false, ◌==◌, eqb, ◌⊎◌, inl, inr, cond, Some, None, Option, refl, sym, ap, ◌∙◌, subst, arith, eqb-true, eq-eqb, ne_eqb}
+use Rattle.std.proofs.Common.{◌≡◌, ℕ, Bool, true, false, ◌==◌, ◌⊎◌, inl, inr, cond, refl, sym, ap, subst, arith, eqb-true, eq-eqb, ne_eqb}
 use Rattle.std.proofs.lemmas.Bool.{eqb-false}
-use Rattle.xk_types.specs.declared.names.Value.{Value}
-use Rattle.xk_types.specs.declared.names.Value.TheVariants as value
 use Rattle.xk_types.specs.declared.names.Standing.{Standing}
 use Rattle.xk_types.specs.declared.names.Standing.TheVariants as standing
-use Rattle.xk_types.specs.declared.rules.Rule.{Rule}
 use Rattle.xk_types.specs.declared.rules.Rule.TheVariants as rule
 use Rattle.xk_types.specs.declared.rules.Kind.{Kind}
 use Rattle.xk_types.specs.declared.rules.Kind.TheVariants as kind
-use Rattle.xk_types.specs.Step.{is_signalled, is_pending, resumed, passed, dropped, only}
-use Rattle.xk_types.specs.Walk.{After, To, Refused, MayBecome, becomes, as_number, as_clock, overwritten, awake, reads, writes, uses}
-use Rattle.xk_laws.proofs.Invariant.{kind_by, kind_of, is_held}
+use Rattle.xk_types.specs.Step.{is_signalled, is_pending, resumed, passed, only}
+use Rattle.xk_types.specs.Walk.{After, MayBecome, becomes, as_number, as_clock, overwritten, awake, reads, writes, uses}
+use Rattle.xk_laws.proofs.Invariant.{kind_by, is_held}
 use Rattle.xk_laws.proofs.Walks.{Allowed}
 
 -- ---- rows

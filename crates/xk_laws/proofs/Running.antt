@@ -1,30 +1,26 @@
 -- What an instruction leaves of the activity that carries it out.
-use Rattle.std.proofs.Common.{◌≡◌, ℕ, zero, suc, ◌+◌, ◌<◌, ◌≤◌, Bool, true, false, List, [], ◌∷◌, ◌++◌, length, set, ℤ, Some, None, Option, refl, sym, ap, ◌∙◌, subst, arith, length-set, ◌⊎◌, inl, inr, ⊎_elim}
+use Rattle.std.proofs.Common.{◌≡◌, ℕ, ◌+◌, ◌<◌, ◌≤◌, true, false, List, length, set, Some, refl, sym, ap, ◌∙◌, subst, arith, length-set, ◌⊎◌, inl, inr}
 use Rattle.std.specs.Prelude.{slice_get}
 use Rattle.std.proofs.lemmas.Bool.{cases_eq, false≢true}
-use Rattle.std.proofs.lemmas.Option.{slice_get_within, none-some, same_Some}
+use Rattle.std.proofs.lemmas.Option.{slice_get_within}
 use Rattle.xk_types.specs.declared.instr.Instr.{Instr}
-use Rattle.xk_types.specs.declared.instr.Instr.TheVariants as instr
 use Rattle.xk_types.specs.declared.names.Value.{Value}
 use Rattle.xk_types.specs.declared.names.Value.TheVariants as value
-use Rattle.xk_types.specs.declared.names.Status.{Status}
 use Rattle.xk_types.specs.declared.names.Status.TheVariants as status
 use Rattle.xk_types.specs.declared.names.Standing.{Standing}
-use Rattle.xk_types.specs.declared.names.Standing.TheVariants as standing
 use Rattle.xk_types.specs.declared.rules.Kind.{Kind}
-use Rattle.xk_types.specs.declared.rules.Kind.TheVariants as kind
 use Rattle.xk_types.specs.Code.{UnitValue, ModuleValue}
 use Rattle.xk_types.specs.Order.{Has}
-use Rattle.xk_types.specs.World.{Activity, World}
-use Rattle.xk_types.specs.Step.{onward, with_slots, arrived, ended, past, only, all, resumed, passed, dropped, is_signalled}
+use Rattle.xk_types.specs.World.{Activity}
+use Rattle.xk_types.specs.Step.{onward, with_slots, only}
 use Rattle.xk_types.specs.Shape.{slots_named, is_ret}
-use Rattle.xk_types.specs.Walk.{After, MayBecome, IsVisited, after, successors, awake}
+use Rattle.xk_types.specs.Walk.{MayBecome, IsVisited, after, successors}
 use Rattle.xk_types.specs.Accepted.{IsAccepted}
-use Rattle.xk_laws.proofs.Invariant.{Each, Expects, Names, IsActivitySound, IsSound, stands_on, looks, kind_by, kind_of, is_held}
+use Rattle.xk_laws.proofs.Invariant.{Each, Expects, Names, IsActivitySound, kind_by, kind_of, is_held}
 use Rattle.xk_laws.proofs.Lists.{get_inside, get_once, get-set_same, get-set_other, each_set}
 use Rattle.xk_laws.proofs.Walks.{Allowed, visited_allowed, visited_next}
 use Rattle.xk_laws.proofs.Fits.{IsFit}
-use Rattle.xk_laws.proofs.Rows.{resumed_held, resumed_awake, passed_held, passed_awake, only_here, only_other, only_held, IsWritten, IsUsed}
+use Rattle.xk_laws.proofs.Rows.{only_here, only_other, only_held, IsWritten, IsUsed}
 use Rattle.xk_laws.proofs.Steps.{IsNext}
 
 -- A sound running activity of an accepted module at instruction i of its unit u; of its clocks, by number, the standings
@@ -54,7 +50,7 @@ module _ (m : ModuleValue) (stands : ℕ → Standing) (clocks now : ℕ) (was :
       → IsVisited m u s (record { at = was.frame.place; kind = kind_of look v })
   visited_here s v at =
       subst (λ x. IsVisited m x s (record { at = was.frame.place; kind = kind_of look v })) c.unit
-          (subst (λ st. Expects m c.me.u st was.frame.place s (kind_of look v)) c.running (c.me.kinds s v at))
+      (subst (λ st. Expects m c.me.u st was.frame.place s (kind_of look v)) c.running (c.me.kinds s v at))
 
   -- a slot that the instruction names is there
   pub slot_there : (s : ℕ) → Has (slots_named i) s → (v : Value) × (slice_get was.frame.slots s ≡ Some v)
@@ -158,22 +154,29 @@ module _ (m : ModuleValue) (stands : ℕ → Standing) (clocks now : ℕ) (was :
     where
       all : Each (Written d v) (set was.frame.slots d v)
       all = written d old v at
+
       known : (s k : ℕ) → Written d v s (value.Clock k) → k < count
       known s k (inl p) = (wr.fresh k (sym p.1)).1
       known s k (inr p) = let h = c.me.frame.known s k p.1 in omega (arith, wr.more)
+
       row : (s : ℕ) (x : Value) → slice_get was.frame.slots s ≡ Some x → IsWritten (after m u i s (kind_of look x)) d kd s (kind_of look x)
       row s x g = wr.rows s (kind_of look x) (row_allowed s x g)
+
       held : (k : ℕ) → (is_held (look k) ≡ true) ⊎ (v ≡ value.Clock k) → (s : ℕ) × Names (set was.frame.slots d v) s k
       held k (inr e) = (d, get-set_same was.frame.slots d old v at ∙ ap (λ x. Some x) e)
       held k (inl h) = let r = c.me.held k h in
           (r.0, get-set_other was.frame.slots d r.0 v (λ same. false≢true (sym ((row r.0 (value.Clock k) r.1).here same).0 ∙ h)) ∙ r.1)
+
       turn : (s : ℕ) (x : Value) → Written d v s x → (was_x : Value) × (slice_get was.frame.slots s ≡ Some was_x) × MayBecome (after m u i s (kind_of look was_x)) (kind_of new x)
       turn s x (inl p) =
           let g : slice_get was.frame.slots s ≡ Some old = ap (slice_get was.frame.slots) p.0 ∙ at in
           (old, g, subst (MayBecome (after m u i s (kind_of look old))) (sym (ap (kind_of new) p.1 ∙ wr.becomes)) ((row s old g).here p.0).1)
-      turn s x (inr p) =
-          (x, p.1, subst (MayBecome (after m u i s (kind_of look x)))
-              (sym (kind_same new s x p.1 (λ k named. wr.same k (c.me.frame.known s k named)))) ((row s x p.1).other p.0))
+      turn s x (inr p) = (
+        x,
+        p.1,
+        subst (MayBecome (after m u i s (kind_of look x)))
+            (sym (kind_same new s x p.1 (λ k named. wr.same k (c.me.frame.known s k named)))) ((row s x p.1).other p.0),
+      )
 
   -- ---- a clock is used
 
@@ -193,15 +196,20 @@ module _ (m : ModuleValue) (stands : ℕ → Standing) (clocks now : ℕ) (was :
     where
       new : ℕ → Kind
       new j = kind_by (only k f j (stands j))
+
       row : (s : ℕ) (v : Value) → slice_get was.frame.slots s ≡ Some v → IsUsed (after m u i s (kind_of look v)) x kd s (kind_of look v)
       row s v g = rows s (kind_of look v) (row_allowed s v g)
+
       turn : (s : ℕ) (v : Value) → slice_get was.frame.slots s ≡ Some v → (s ≡ x) ⊎ (s ≡ x → ⊥)
           → (old : Value) × (slice_get was.frame.slots s ≡ Some old) × MayBecome (after m u i s (kind_of look old)) (kind_of new v)
       turn s v g (inl e) =
           let same : v ≡ value.Clock k = get_once was.frame.slots s v (value.Clock k) g (ap (slice_get was.frame.slots) e ∙ at) in
           let held : is_held (look k) ≡ true = ((row x (value.Clock k) at).here refl).0 in
           (v, g, subst (MayBecome (after m u i s (kind_of look v))) (sym (ap (kind_of new) same ∙ ap kind_by (only_here k f (stands k)) ∙ becomes held)) ((row s v g).here e).1)
-      turn s v g (inr differs) =
-          (v, g, subst (MayBecome (after m u i s (kind_of look v)))
-              (sym (kind_same new s v g (λ j named. ap kind_by (only_other k f j (stands j)
-                  (λ same. differs (c.me.frame.apart s x j named (at ∙ ap (λ z. Some (value.Clock z)) (sym same)))))))) ((row s v g).other differs))
+      turn s v g (inr differs) = (
+        v,
+        g,
+        subst (MayBecome (after m u i s (kind_of look v)))
+            (sym (kind_same new s v g (λ j named. ap kind_by (only_other k f j (stands j)
+            (λ same. differs (c.me.frame.apart s x j named (at ∙ ap (λ z. Some (value.Clock z)) (sym same)))))))) ((row s v g).other differs),
+      )

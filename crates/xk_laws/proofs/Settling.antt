@@ -1,17 +1,16 @@
 -- The end of a step: it keeps the invariant of worlds.
-use Rattle.std.proofs.Common.{◌≡◌, ℕ, zero, suc, ◌+◌, ◌<◌, ◌≤◌, Bool, true, false, List, [], ◌∷◌, map, length, Some, None, Option, refl, sym, ap, ◌∙◌, subst, arith}
-use Rattle.std.specs.Prelude.{slice_get}
+use Rattle.std.proofs.Common.{◌≡◌, ℕ, ◌+◌, ◌<◌, ◌≤◌, true, false, List, map, length, refl, sym, ◌∙◌, subst, arith}
 use Rattle.std.proofs.lemmas.List.{length-map}
 use Rattle.xk_types.specs.declared.names.Status.{Status}
 use Rattle.xk_types.specs.declared.names.Standing.{Standing}
 use Rattle.xk_types.specs.declared.names.Standing.TheVariants as standing
 use Rattle.xk_types.specs.Code.{ModuleValue}
 use Rattle.xk_types.specs.World.{Activity, Clock, World, standing_of}
-use Rattle.xk_types.specs.Step.{is_signalled, is_pending, is_ready, advanced, settled_clock, settled}
+use Rattle.xk_types.specs.Step.{is_signalled, is_pending, advanced, settled_clock, settled}
 use Rattle.xk_types.specs.Bound.{steps_weight, activities_weight, clocks_weight, steps_bound, activities_bound, clocks_bound}
 use Rattle.xk_laws.proofs.Invariant.{Each, Stands, IsClockSound, IsActivitySound, IsSound, looks, owing}
 use Rattle.xk_laws.proofs.Lists.{each_map, fun_ext}
-use Rattle.xk_laws.proofs.Standings.{advanced_clock, settled_cases, stand-advanced, looks-settled, unready-advanced, ready_pending}
+use Rattle.xk_laws.proofs.Standings.{settled_cases, stand-advanced, looks-settled, unready-advanced, ready_pending}
 
 -- a clock before the end of step number `now`
 pub record IsClockNear (activities : List Activity) (now : ℕ) (c : Clock) : Type 0 where

@@ -1,11 +1,11 @@
 -- Where activities stand on clocks: what a change of one activity's standings leaves, a new clock, and an advance.
-use Rattle.std.proofs.Common.{◌≡◌, ℕ, zero, suc, ◌+◌, ◌<◌, ◌≤◌, Bool, true, false, not, ◌||◌, ◌&&◌, cond, List, [], ◌∷◌, ◌++◌, map, length, get_or, set, replicate, Some, None, Option, refl, sym, ap, ◌∙◌, subst, arith, length-set, get_or-set_same, get_or-set_other}
+use Rattle.std.proofs.Common.{◌≡◌, ℕ, zero, suc, ◌+◌, ◌<◌, ◌≤◌, Bool, true, false, not, ◌||◌, ◌&&◌, List, [], ◌∷◌, ◌++◌, map, length, get_or, replicate, Some, refl, sym, ap, ◌∙◌, subst, arith, length-set, get_or-set_same, get_or-set_other}
 use Rattle.std.specs.Prelude.{slice_get}
 use Rattle.std.specs.List.{list_any}
 use Rattle.std.specs.Option.{option_map, option_map_or}
-use Rattle.std.proofs.lemmas.List.{get_or-replicate, length-replicate}
-use Rattle.std.proofs.lemmas.Option.{slice_get-map, none-some, same_Some, slice_get_past}
-use Rattle.std.proofs.lemmas.Bool.{or_parts, and_parts, cond_both, not-true, cases_eq}
+use Rattle.std.proofs.lemmas.List.{length-replicate}
+use Rattle.std.proofs.lemmas.Option.{none-some, same_Some, slice_get_past}
+use Rattle.std.proofs.lemmas.Bool.{or_parts, and_parts, cond_both, not-true}
 use Rattle.xk_types.specs.declared.names.Standing.{Standing}
 use Rattle.xk_types.specs.declared.names.Standing.TheVariants as standing
 use Rattle.xk_types.specs.World.{Clock, standing_of}
@@ -178,7 +178,7 @@ unready-advanced now c = rw (all_quiet c.standings) refl
 pub ready_pending : (c : Clock) (b : ℕ) → is_ready c ≡ true → is_pending (standing_of c b) ≡ false
 ready_pending c b h =
     none_at is_pending c.standings b standing.Apart
-        (not-true (list_any is_pending c.standings) (and_parts (list_any is_signalled c.standings) (not (list_any is_pending c.standings)) h).1) refl
+    (not-true (list_any is_pending c.standings) (and_parts (list_any is_signalled c.standings) (not (list_any is_pending c.standings)) h).1) refl
 
 -- where somebody is signalled on a clock that isn't ready, somebody is open or ahead
 pub held_back : (c : Clock) (a : ℕ) → is_ready c ≡ false → is_signalled (standing_of c a) ≡ true

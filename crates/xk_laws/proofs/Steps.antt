@@ -1,25 +1,22 @@
 -- Steps that change one activity: they keep the invariant of worlds.
-use Rattle.std.proofs.Common.{◌≡◌, ℕ, zero, suc, ◌+◌, ◌<◌, ◌≤◌, Bool, true, false, List, [], ◌∷◌, ◌++◌, length, set, Some, None, Option, refl, sym, ap, ◌∙◌, subst, arith, length-set, ◌⊎◌, inl, inr, ⊎_elim}
+use Rattle.std.proofs.Common.{◌≡◌, ℕ, ◌+◌, ◌<◌, ◌≤◌, true, List, [], ◌∷◌, ◌++◌, length, set, Some, sym, ap, ◌∙◌, subst, arith, length-set}
 use Rattle.std.specs.Prelude.{slice_get}
 use Rattle.std.proofs.lemmas.List.{length_push, set-get_or}
-use Rattle.std.proofs.lemmas.Bool.{cases_eq, false≢true}
-use Rattle.std.proofs.lemmas.Option.{slice_get_within, none-some, same_Some}
-use Rattle.xk_types.specs.declared.instr.Instr.{Instr}
+use Rattle.std.proofs.lemmas.Bool.{false≢true}
+use Rattle.std.proofs.lemmas.Option.{slice_get_within}
 use Rattle.xk_types.specs.declared.instr.Instr.TheVariants as instr
-use Rattle.xk_types.specs.declared.names.Value.{Value}
-use Rattle.xk_types.specs.declared.names.Value.TheVariants as value
 use Rattle.xk_types.specs.declared.names.Status.{Status}
 use Rattle.xk_types.specs.declared.names.Status.TheVariants as status
 use Rattle.xk_types.specs.declared.names.Standing.{Standing}
 use Rattle.xk_types.specs.declared.names.Standing.TheVariants as standing
 use Rattle.xk_types.specs.declared.rules.Kind.{Kind}
 use Rattle.xk_types.specs.Code.{UnitValue, ModuleValue}
-use Rattle.xk_types.specs.World.{Frame, Activity, Clock, World, root, standing_of}
-use Rattle.xk_types.specs.Step.{is_signalled, is_pending, is_ready, moved, moved_on, new_clock, settled}
-use Rattle.xk_types.specs.Bound.{steps_weight, activities_weight, clocks_weight, steps_bound, activities_bound, clocks_bound}
-use Rattle.xk_laws.proofs.Invariant.{Each, Stands, Expects, Names, IsFrameSound, IsClockSound, IsActivitySound, IsSound, stands_on, looks, kind_by, kind_of, is_held, owed, owing}
+use Rattle.xk_types.specs.World.{Activity, Clock, World, standing_of}
+use Rattle.xk_types.specs.Step.{is_signalled, moved, moved_on, new_clock, settled}
+use Rattle.xk_types.specs.Bound.{steps_weight, activities_weight, clocks_weight}
+use Rattle.xk_laws.proofs.Invariant.{Each, Stands, Expects, Names, IsFrameSound, IsClockSound, IsActivitySound, IsSound, stands_on, looks, kind_by, kind_of, is_held}
 use Rattle.xk_laws.proofs.Lists.{each_set, each_push, fun_ext}
-use Rattle.xk_laws.proofs.Standings.{stand_same, stand_other, each_moved, length-moved, stands_on-moved_other, stands_on-moved_same, stands_on-push_other, stands_on-push_old, stands_on-push_new, new_same, new_other, new_width}
+use Rattle.xk_laws.proofs.Standings.{stand_same, stand_other, each_moved, length-moved, stands_on-moved_other, stands_on-moved_same, stands_on-push_other, new_same, new_other, new_width}
 use Rattle.xk_laws.proofs.Settling.{IsClockNear, IsNear, world_settled}
 use Rattle.xk_laws.proofs.Measure.{IsPaid, owing_set}
 
@@ -93,8 +90,8 @@ left_near m w a was act clocks sound found l = record {
   activities = each_set (λ b x. IsActivitySound m (looks clocks b) (length clocks) (w.steps + 1) x) w.activities a was act found
       (next_sound m (looks w.clocks a) (looks clocks a) (length w.clocks) (length clocks) w.steps (w.steps + 1) was act (sound.activities a was found) l.next)
       (λ b x differs at. subst (λ look. IsActivitySound m look (length clocks) (w.steps + 1) x)
-          (fun_ext (looks w.clocks b) (looks clocks b) (λ k. ap kind_by (sym (l.others b k differs))))
-          (sound_later m (looks w.clocks b) (length w.clocks) (length clocks) w.steps (w.steps + 1) x l.more (omega arith) (sound.activities b x at)));
+      (fun_ext (looks w.clocks b) (looks clocks b) (λ k. ap kind_by (sym (l.others b k differs))))
+      (sound_later m (looks w.clocks b) (length w.clocks) (length clocks) w.steps (w.steps + 1) x l.more (omega arith) (sound.activities b x at)));
   clocks = l.near;
   cells = sound.cells;
   steps = omega (arith, owing_set steps_weight 1 m w.activities a was act found, l.paid.1.steps, sound.steps);
@@ -148,7 +145,7 @@ pub done_sound : (m : ModuleValue) (w : World) (a : ℕ) (was act : Activity) (c
 done_sound m w a was act change sound found d = left_sound m w a was act (moved a change w.clocks) sound found (record {
   next = rw (length-moved a change w.clocks) (subst (λ look. IsNext m me.u look (length w.clocks) (w.steps + 1) was act)
       (fun_ext (λ k. kind_by (change k (stands_on w.clocks a k))) (looks (moved a change w.clocks) a)
-          (λ k. ap kind_by (sym (stands_on-moved_same a change w.clocks k within d.apart)))) d.next);
+      (λ k. ap kind_by (sym (stands_on-moved_same a change w.clocks k within d.apart)))) d.next);
   more = omega (arith, length-moved a change w.clocks);
   others = λ b k differs. stands_on-moved_other a b change w.clocks k differs;
   near = each_moved a change (λ k c. IsClockNear (set w.activities a act) (w.steps + 1) c) w.clocks
@@ -158,6 +155,7 @@ done_sound m w a was act change sound found d = left_sound m w a was act (moved 
   where
     me : IsActivitySound m (looks w.clocks a) (length w.clocks) w.steps was
     me = sound.activities a was found
+
     within : Each (λ k c. a < length c.standings) w.clocks
     within k c at = subst (λ n. a < n) (sym (sound.clocks k c at).width) (slice_get_within w.activities a was found)
 
@@ -185,8 +183,8 @@ same_clock : (activities : List Activity) (now a : ℕ) (was act : Activity) (c 
     → IsClockSound activities now c → IsClockNear (set activities a act) (now + 1) c
 same_clock activities now a was act c found since st sc s =
     subst (IsClockNear (set activities a act) (now + 1)) (untouched a c)
-        (near_clock activities now a was act (λ x. x) c found since s
-            (rw (st, sc) (s.stands a was found, signalled_since was.since now (standing_of c a) (since a was found))))
+    (near_clock activities now a was act (λ x. x) c found since s
+    (rw (st, sc) (s.stands a was found, signalled_since was.since now (standing_of c a) (since a was found))))
 
 -- a new clock
 new_near : (activities : List Activity) (now a : ℕ) (was act : Activity) → slice_get activities a ≡ Some was → act.status ≡ status.Running

@@ -1,10 +1,9 @@
 -- One module that is accepted: 2 + 3, a clock that is made and waited for once.
-use Rattle.std.proofs.Common.{◌≡◌, ℕ, zero, suc, ◌+◌, ◌<◌, ◌≤◌, pos, Bool, true, false, ◌==◌, ◌⊎◌, inl, inr, List, [], ◌∷◌, Some, None, Option, refl, sym, ap, ◌∙◌, subst, arith}
+use Rattle.std.proofs.Common.{◌≡◌, ℕ, zero, suc, ◌<◌, pos, Bool, true, false, ◌==◌, ◌⊎◌, inl, inr, [], ◌∷◌, refl, sym, ap, ◌∙◌, subst, arith}
 use Rattle.std.specs.Prelude.{slice_get}
 use Rattle.std.proofs.lemmas.Option.{none-some, same_Some}
 use Rattle.std.proofs.lemmas.Bool.{and_right, false≢true}
 use Rattle.std.proofs.lemmas.List.Elements.{All-cons, All-nil}
-use Rattle.xk_types.specs.declared.instr.Instr.{Instr}
 use Rattle.xk_types.specs.declared.instr.Instr.TheVariants as instr
 use Rattle.xk_types.specs.declared.unit.UnitKind.TheVariants as unit_kind
 use Rattle.xk_types.specs.declared.rules.Rule.{Rule}
@@ -14,15 +13,19 @@ use Rattle.xk_types.specs.declared.rules.Kind.TheVariants as kind
 use Rattle.xk_types.specs.declared.rules.Visit.{Visit}
 use Rattle.xk_types.specs.Code.{UnitValue, ModuleValue, IsUnitWithinLimits, IsWithinLimits}
 use Rattle.xk_types.specs.Order.{Has}
-use Rattle.xk_types.specs.Shape.{breaks, breaks_in, HasShape}
-use Rattle.xk_types.specs.Walk.{After, To, Refused, MayBecome, IsEdge, IsVisited, IsRefusedAt, entry_kinds, places_after, row}
+use Rattle.xk_types.specs.Shape.{breaks_in, HasShape}
+use Rattle.xk_types.specs.Walk.{After, To, Refused, MayBecome, IsVisited, IsRefusedAt, entry_kinds, places_after, row}
 use Rattle.xk_types.specs.Accepted.{IsAccepted, EverySchedule}
 use Rattle.xk_laws.proofs.Walks.{visited_closed}
 use Rattle.xk_laws.proofs.Reached.{every_schedule}
 
 abbrev sum_unit : UnitValue
-sum_unit = record { kind = unit_kind.Main; params = []; slots = 3;
-  code = instr.Lit 0 (pos 2) ∷ instr.Lit 1 (pos 3) ∷ instr.Add 0 0 1 ∷ instr.Make 2 ∷ instr.Advance ∷ instr.Print 0 ∷ instr.Ret ∷ [] }
+sum_unit = record {
+  kind = unit_kind.Main;
+  params = [];
+  slots = 3;
+  code = instr.Lit 0 (pos 2) ∷ instr.Lit 1 (pos 3) ∷ instr.Add 0 0 1 ∷ instr.Make 2 ∷ instr.Advance ∷ instr.Print 0 ∷ instr.Ret ∷ [];
+}
 
 abbrev pub sum_row : ModuleValue
 sum_row = record { shared = []; units = sum_unit ∷ [] }
@@ -173,7 +176,7 @@ entry_at s p e (inr k) = absurd k
 visited_at : (s : ℕ) → s < 3 → (q : Visit) → IsVisited sum_row sum_unit s q → q.kind ≡ kind_at s q.at
 visited_at s h q v = visited_closed sum_row sum_unit s (λ p. p.kind ≡ kind_at s p.at) (entry_at s)
     (λ p r same e. goes_on s p.at r.at r.kind h e.place
-        (subst (λ k. MayBecome (row sum_row sum_unit s (record { at = p.at; kind = k })) r.kind) same e.kind)) q v
+    (subst (λ k. MayBecome (row sum_row sum_unit s (record { at = p.at; kind = k })) r.kind) same e.kind)) q v
 
 sum_kinds : (unit s : ℕ) (q : Visit) (r : Rule) → IsRefusedAt sum_row unit s q r → ⊥
 sum_kinds (suc unit) s q r h = none-some h.u h.found

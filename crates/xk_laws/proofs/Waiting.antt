@@ -1,23 +1,20 @@
 -- What the two halves of an `advance`, and the end, leave of an activity.
-use Rattle.std.proofs.Common.{◌≡◌, ℕ, zero, suc, ◌+◌, ◌<◌, ◌≤◌, Bool, true, false, List, [], ◌∷◌, length, Some, None, Option, refl, sym, ap, ◌∙◌, subst, arith, inl, inr}
-use Rattle.std.specs.Prelude.{slice_get}
+use Rattle.std.proofs.Common.{◌≡◌, ℕ, ◌+◌, ◌<◌, false, length, refl, sym, ap, ◌∙◌, subst, arith, inl}
 use Rattle.std.proofs.lemmas.Bool.{false≢true}
 use Rattle.xk_types.specs.declared.instr.Instr.TheVariants as instr
 use Rattle.xk_types.specs.declared.names.Value.{Value}
 use Rattle.xk_types.specs.declared.names.Value.TheVariants as value
 use Rattle.xk_types.specs.declared.names.Status.TheVariants as status
 use Rattle.xk_types.specs.declared.names.Standing.{Standing}
-use Rattle.xk_types.specs.declared.rules.Kind.{Kind}
-use Rattle.xk_types.specs.declared.rules.Kind.TheVariants as kind
 use Rattle.xk_types.specs.Code.{UnitValue, ModuleValue}
 use Rattle.xk_types.specs.World.{Activity}
 use Rattle.xk_types.specs.Step.{arrived, ended, past, resumed, passed, dropped, is_signalled}
 use Rattle.xk_types.specs.Walk.{IsVisited, awake}
-use Rattle.xk_laws.proofs.Invariant.{Expects, IsActivitySound, kind_by, kind_of, is_held}
+use Rattle.xk_laws.proofs.Invariant.{Expects, IsActivitySound, kind_by, kind_of}
 use Rattle.xk_laws.proofs.Fits.{IsFit}
 use Rattle.xk_laws.proofs.Rows.{resumed_held, resumed_awake, passed_held, passed_awake}
 use Rattle.xk_laws.proofs.Steps.{IsNext}
-use Rattle.xk_laws.proofs.Running.{IsAt, unit_found, next_visited}
+use Rattle.xk_laws.proofs.Running.{IsAt, next_visited}
 
 -- a resume changes nothing of what the pass will leave of a slot
 resumed_value : (stands : ℕ → Standing) (v : Value) → awake (kind_of (λ k. kind_by (resumed (stands k))) v) ≡ awake (kind_of (λ k. kind_by (stands k)) v)

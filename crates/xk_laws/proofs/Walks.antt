@@ -1,16 +1,14 @@
 -- Walks: a walk goes on over an edge, a set closed under edges has all that is visited, and in an accepted module the
 -- table never refuses where a walk ends.
-use Rattle.std.proofs.Common.{◌≡◌, ℕ, zero, suc, ◌+◌, ◌<◌, ◌≤◌, Bool, true, false, ◌==◌, ◌⊎◌, inl, inr, cond, List, [], ◌∷◌, ◌++◌, Some, None, Option, refl, sym, ap, ◌∙◌, subst, arith}
+use Rattle.std.proofs.Common.{◌≡◌, ℕ, ◌<◌, List, [], ◌∷◌, ◌++◌, Some, refl, sym, ap, ◌∙◌, subst}
 use Rattle.std.specs.Prelude.{slice_get}
 use Rattle.xk_types.specs.declared.instr.Instr.{Instr}
 use Rattle.xk_types.specs.declared.rules.Rule.{Rule}
-use Rattle.xk_types.specs.declared.rules.Rule.TheVariants as rule
 use Rattle.xk_types.specs.declared.rules.Kind.{Kind}
-use Rattle.xk_types.specs.declared.rules.Kind.TheVariants as kind
 use Rattle.xk_types.specs.declared.rules.Visit.{Visit}
 use Rattle.xk_types.specs.Code.{UnitValue, ModuleValue}
 use Rattle.xk_types.specs.Order.{Has}
-use Rattle.xk_types.specs.Walk.{After, To, Refused, MayBecome, IsEdge, IsWalk, Continues, last_of, EndsAt, IsVisited, IsRefusedAt, entry_kinds, places_after, row, row_of, after, successors}
+use Rattle.xk_types.specs.Walk.{After, Refused, MayBecome, IsEdge, IsWalk, Continues, last_of, EndsAt, IsVisited, entry_kinds, places_after, row, row_of, after, successors}
 use Rattle.xk_types.specs.Accepted.{IsAccepted}
 
 -- ---- walks
@@ -67,7 +65,7 @@ pub visited_allowed : (m : ModuleValue) → IsAccepted m → (unit : ℕ) (u : U
     → IsVisited m u s (record { at = at; kind = k }) → Allowed (after m u i s k)
 visited_allowed m ok unit u found s inside i at here k v r e =
     ok.kinds unit s (record { at = at; kind = k }) r
-        (record { u = u; found = found; slot = inside; visited = v; refused = ap (row_of m u s k) here ∙ e })
+    (record { u = u; found = found; slot = inside; visited = v; refused = ap (row_of m u s k) here ∙ e })
 
 -- and to the kind that it gives, at the next place
 pub visited_next : (m : ModuleValue) (u : UnitValue) (s : ℕ) (i : Instr) (at : ℕ) → slice_get u.code at ≡ Some i → (to : ℕ) (k new : Kind)
@@ -75,7 +73,7 @@ pub visited_next : (m : ModuleValue) (u : UnitValue) (s : ℕ) (i : Instr) (at :
     → IsVisited m u s (record { at = at; kind = k }) → IsVisited m u s (record { at = to; kind = new })
 visited_next m u s i at here to k new place may v =
     visited_on m u s (record { at = at; kind = k }) (record { at = to; kind = new }) v
-        (record {
-          place = subst (λ o. Has (places_after o at) to) (sym here) place;
-          kind = subst (λ o. MayBecome (row_of m u s k o) new) (sym here) may;
-        })
+    (record {
+      place = subst (λ o. Has (places_after o at) to) (sym here) place;
+      kind = subst (λ o. MayBecome (row_of m u s k o) new) (sym here) may;
+    })

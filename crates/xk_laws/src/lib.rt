@@ -10,5 +10,4 @@ ghost use Rattle.xk_types.specs.Code.{IsWithinLimits, ModuleValue};
 /// nobody is enabled, every activity has ended.
 pub fn every_accepted_module()
     ensures { (m : ModuleValue) → IsWithinLimits m → IsAccepted m → EverySchedule m }
-{
-}
+{}
