@@ -1,0 +1,4 @@
+pub mod Walks
+pub mod Rows
+pub mod Breaches
+pub mod Measures

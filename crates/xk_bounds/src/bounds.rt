@@ -1,6 +1,6 @@
 //! The bounds on runs.
 
-ghost use Rattle.std.specs.Prelude.{◌≡◌, ◌≤◌, length, sum_by, MatchResult};
+ghost use Rattle.std.specs.Prelude.{◌≡◌, ◌<◌, ◌≤◌, length, sum_by, MatchResult};
 ghost use Rattle.xk_types.specs.Code.{ModuleValue};
 ghost use Rattle.xk_types.specs.Bound.{steps_weight, clocks_weight, stack_bound, IsWithinBounds};
 ghost use Rattle.xk_bounds.specs.Refused.{IsBoundFault};
@@ -29,11 +29,11 @@ impl Bounds {
     pub(crate) fn of(m: &Module) -> Bounds
         ensures { AreBounds m.now result }
     {
-        let code = &m.units()[0].code;
+        let main = &m.units()[0];
         Bounds {
-            steps: steps_of(code),
+            steps: steps_of(&main.code),
             activities: 1,
-            clocks: clocks_of(code),
+            clocks: clocks_of(&main.code),
             stack: stack_of(m),
         }
     }

@@ -91,7 +91,7 @@ fn step_row(instr: &Instr, row: &mut Vec<Kind>) -> Result<(), Stop>
 fn walk_to(alloc: Global, u: &Unit, slot: u16, end: u16) -> Result<Vec<Visit>, AllocError>
     requires straight { IsStraight u.now }
     requires inside { end < length u.now.code }
-    requires limits { IsUnitWithinLimits u.now }
+    requires reached { (m : ModuleValue) → (k : Kind) × IsVisited m u.now slot (visit end k) }
     ensures { (m : ModuleValue) (k : Kind) → IsVisited m u.now slot (visit end k)
         → IfOk result (λ w. IsWalk m u.now slot w.items × EndsAt w.items (visit end k)) }
 {
@@ -101,7 +101,7 @@ fn walk_to(alloc: Global, u: &Unit, slot: u16, end: u16) -> Result<Vec<Visit>, A
         walk.push(Visit { at, kind })?;
         match kind_after(&u.code[at as usize], slot, kind) {
             Ok(next) => kind = next,
-            Err(_) => return Ok(walk),
+            Err(_) => unreachable!(),
         }
     }
     walk.push(Visit { at: end, kind })?;
@@ -133,7 +133,10 @@ fn kind_after(instr: &Instr, slot: u16, kind: Kind) -> Result<Kind, Rule>
             read(y, slot, kind)?;
             written(d, Kind::Number, slot, kind)
         }
-        Instr::Print(x) => read(x, slot, kind),
+        Instr::Print(x) => {
+            read(x, slot, kind)?;
+            Ok(kind)
+        }
         Instr::Make(d) => written(d, Kind::Live, slot, kind),
         Instr::Resume(c) => used(c, Kind::Resumed, slot, kind),
         Instr::Drop(c) => used(c, Kind::Out, slot, kind),
@@ -143,12 +146,12 @@ fn kind_after(instr: &Instr, slot: u16, kind: Kind) -> Result<Kind, Rule>
 }
 
 /// Reads a slot as a number, where the walk is on it.
-fn read(x: u16, slot: u16, kind: Kind) -> Result<Kind, Rule>
+fn read(x: u16, slot: u16, kind: Kind) -> Result<(), Rule>
     ensures { (go : After)
-        → MatchResult result (λ k. (k ≡ kind) × (reads x slot kind go ≡ go)) (λ r. reads x slot kind go ≡ Refused r) }
+        → MatchResult result (λ _. reads x slot kind go ≡ go) (λ r. reads x slot kind go ≡ Refused r) }
 {
     if slot != x || kind == Kind::Number {
-        Ok(kind)
+        Ok(())
     } else {
         Err(Rule::Use)
     }

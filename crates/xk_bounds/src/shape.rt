@@ -42,7 +42,12 @@ fn first_place(rule: Rule, unit: u16, u: &Unit) -> Option<u16>
     ensures { IsFirstPlace rule unit u.now result }
 {
     let places = u.code.len().max(1) as u16;
-    (0..places).find(|at| breaks_rule(rule, unit, u, *at))
+    for at in 0..places {
+        if breaks_rule(rule, unit, u, at) {
+            return Some(at);
+        }
+    }
+    None
 }
 
 /// Whether an instruction of a unit breaks the rule. A fault of the whole unit is one of instruction 0.
