@@ -1,6 +1,7 @@
 -- Walks: how they grow, what leads to their ends, and that straight code has one for each slot.
-use Rattle.std.proofs.Common.{◌≡◌, ℕ, zero, suc, ◌+◌, ◌<◌, ◌≤◌, true, false, List, [], ◌∷◌, ◌++◌, length, Option, Some, None, slice_get, ◌⊎◌, inl, inr, sym, refl, ap, ◌∙◌, subst, arith, add-one}
-use Rattle.std.proofs.lemmas.Option.{slice_get_past, slice_get_within, none-some}
+use Rattle.std.proofs.Common.{◌≡◌, ℕ, zero, suc, ◌+◌, ◌<◌, ◌≤◌, true, false, List, [], ◌∷◌, ◌++◌, length, Option, Some, None, slice_get, get_or, take, ◌⊎◌, inl, inr, sym, refl, ap, ◌∙◌, subst, arith, add-one}
+use Rattle.std.proofs.lemmas.Option.{slice_get_past, slice_get-get_or, slice_get_read}
+use Rattle.std.proofs.lemmas.List.{length-take, get_or-take}
 use Rattle.std.proofs.lemmas.Bool.{cases_lt, true≢false}
 use Rattle.xk_types.specs.declared.instr.Instr.{Instr}
 use Rattle.xk_types.specs.declared.instr.Instr.TheVariants as instr
@@ -111,17 +112,26 @@ module _ (m : ModuleValue) (u : UnitValue) (s : ℕ) (straight : IsStraight u) w
         | inr edge ↦ absurd (let e = place_after _ edge.0.at 0 edge.2.place in omega arith) ];
     }
 
+  -- the walk of that stop alone
+  pub walk_start : IsWalk m u s (visit 0 kind.Unset ∷ [])
+  walk_start = (refl, rw entry_is_unset (inl refl), tt)
+
   -- a kind that may follow the one kind of an instruction
   follows_one : (at : ℕ) (i : Instr) (k next : Kind) → slice_get u.code at ≡ Some i → after m u i s k ≡ To (next ∷ []) → (o : Option Instr) → o ≡ Some i → (other : Kind) → MayBecome (row_of m u s k o) other → other ≡ next
   follows_one at i k next found to o e other h =
       has_one _ _ (let P : After → Type 0 = λ a. MayBecome a other in subst P (ap (row_of m u s k) e ∙ to) h)
 
-  -- an instruction that leaves one kind leads to it at the next
+  -- an instruction that leaves one kind leads to the next
+  pub edge_on : (at : ℕ) (i : Instr) (k next : Kind) → slice_get u.code at ≡ Some i → at + 1 < length u.code → after m u i s k ≡ To (next ∷ []) → IsEdge m u s (visit at k) (visit (at + 1) next)
+  edge_on at i k next found more to = record {
+      place = let P : Option Instr → Type 0 = λ o. Has (places_after o at) (at + 1) in subst P (sym found) (has_next i at (straight.goes_on at i found more));
+      kind = let P : After → Type 0 = λ a. MayBecome a next in subst P (sym (ap (row_of m u s k) found ∙ to)) (inl refl);
+    }
+
+  -- and that is the one kind there
   pub the_kind_more : (at : ℕ) (i : Instr) (k next : Kind) → slice_get u.code at ≡ Some i → at + 1 < length u.code → after m u i s k ≡ To (next ∷ []) → IsTheKind m u s at k → IsTheKind m u s (at + 1) next
   the_kind_more at i k next found more to h = record {
-      visited = visited_more m u s (visit at k) (visit (at + 1) next) h.visited (record {
-          place = let P : Option Instr → Type 0 = λ o. Has (places_after o at) (at + 1) in subst P (sym found) (has_next i at (straight.goes_on at i found more));
-          kind = let P : After → Type 0 = λ a. MayBecome a next in subst P (sym (ap (row_of m u s k) found ∙ to)) (inl refl) });
+      visited = visited_more m u s (visit at k) (visit (at + 1) next) h.visited (edge_on at i k next found more to);
       only = λ other v. elim (visited_cases m u s (visit (at + 1) other) v) [
           inl entry ↦ absurd (let e = entry.0 in omega arith)
         | inr edge ↦
@@ -159,3 +169,17 @@ module _ (m : ModuleValue) (u : UnitValue) (s : ℕ) (straight : IsStraight u) w
       let may = subst P one l.2.1 in
       let Q : After → Type 0 = λ a. MayBecome a l.2.0 in
       subst Q (ap (row_of m u s k) found ∙ refused) may
+
+-- ---- as loops read code
+
+-- an element of a list's beginning
+pub found_in_take : (xs code : List Instr) (end n : ℕ) (d : Instr) → xs ≡ code → n < length (take end xs) → slice_get code n ≡ Some (get_or (take end xs) n d)
+found_in_take xs code end n d same lt =
+    let long = length-take end xs in
+    let inside : n < length xs = omega arith in
+    let before : n < end = omega arith in
+    ap (λ ys. slice_get ys n) (sym same) ∙ slice_get-get_or xs n d inside ∙ ap Some (sym (get_or-take end xs n d before))
+
+-- an element of a list
+pub found_read : (xs code : List Instr) (n : ℕ) (i : Instr) → xs ≡ code → n < length xs → i ≡ get_or xs n i → slice_get code n ≡ Some i
+found_read xs code n i same lt read = ap (λ ys. slice_get ys n) (sym same) ∙ slice_get_read xs (length xs) n i refl lt read

@@ -72,14 +72,14 @@ pub record IsUnitFault (m : ModuleValue) (unit : ℕ) (u : UnitValue) (f : KindF
 -- what an error says of one unit
 abbrev pub FailsUnit : ModuleValue → ℕ → UnitValue → KindError → Type 0
 FailsUnit m unit u (Fault f) = IsUnitFault m unit u f
-FailsUnit m unit u (OutOfMemory e) = Unit {0}
+FailsUnit m unit u OutOfMemory = Unit {0}
 
 -- what an error says of the module
 abbrev pub FailsModule : ModuleValue → KindError → Type 0
 FailsModule m (Fault f) = IsKindFault m f
-FailsModule m (OutOfMemory e) = Unit {0}
+FailsModule m OutOfMemory = Unit {0}
 
 -- the refusal that an error is
 abbrev pub refusal_of : KindError → Refusal
 refusal_of (Fault f) = refusal.Kind f
-refusal_of (OutOfMemory e) = refusal.OutOfMemory
+refusal_of OutOfMemory = refusal.OutOfMemory

@@ -6,21 +6,27 @@ ghost use Rattle.xk_types.specs.Code.{UnitValue, ModuleValue, IsUnitWithinLimits
 ghost use Rattle.xk_types.specs.Walk.{After, Refused, after, awake, reads, writes, uses, IsWalk, EndsAt, IsVisited};
 ghost use Rattle.xk_types.specs.Shape.{HasShape};
 ghost use Rattle.xk_bounds.specs.Refused.{IsNeverRefused};
+ghost use Rattle.xk_bounds.specs.declared.kinds.KindError.TheVariants.{OutOfMemory};
 ghost use Rattle.xk_bounds.specs.Place.{visit};
 ghost use Rattle.xk_bounds.specs.Straight.{IsStraight, IsRow, IsTheKind, IsNextRow, IsFirstStop, IsNeverRefusedIn, FailsUnit, FailsModule};
 
 use crate::refusal::KindFault;
 use std::alloc::{AllocError, Global};
-use thiserror::Error;
 use xk_types::{Instr, Kind, Module, Rule, Unit, Visit};
 
 /// Why the kinds of a module aren't in order.
-#[derive(Debug, Drop, Error)]
+#[derive(Drop)]
 pub(crate) enum KindError {
-    #[error("a slot is used as what it isn't")]
     Fault(KindFault),
-    #[error("out of memory")]
-    OutOfMemory(#[from(alloc)] AllocError),
+    OutOfMemory,
+}
+
+impl From<AllocError> for KindError {
+    ghost from_gives = { λ _ e. e ≡ OutOfMemory };
+
+    fn from(_e: AllocError) -> KindError {
+        KindError::OutOfMemory
+    }
 }
 
 /// A slot whose kind an instruction refuses.
@@ -117,7 +123,10 @@ pub(crate) fn kind_before(u: &Unit, slot: u16, at: u16) -> Option<Kind>
 {
     let mut kind = Kind::Unset;
     for instr in &u.code[..at as usize] {
-        kind = kind_after(instr, slot, kind).ok()?;
+        match kind_after(instr, slot, kind) {
+            Ok(next) => kind = next,
+            Err(_) => return None,
+        }
     }
     Some(kind)
 }

@@ -68,7 +68,7 @@ impl From<KindError> for Refusal {
     fn from(e: KindError) -> Refusal {
         match e {
             KindError::Fault(fault) => Refusal::Kind(fault),
-            KindError::OutOfMemory(_) => Refusal::OutOfMemory,
+            KindError::OutOfMemory => Refusal::OutOfMemory,
         }
     }
 }
