@@ -183,3 +183,7 @@ found_in_take xs code end n d same lt =
 -- an element of a list
 pub found_read : (xs code : List Instr) (n : ℕ) (i : Instr) → xs ≡ code → n < length xs → i ≡ get_or xs n i → slice_get code n ≡ Some i
 found_read xs code n i same lt read = ap (λ ys. slice_get ys n) (sym same) ∙ slice_get_read xs (length xs) n i refl lt read
+
+-- the same, as an iteration reads it
+pub found_at : (xs code : List Instr) (n : ℕ) (d : Instr) → xs ≡ code → n < length xs → slice_get code n ≡ Some (get_or xs n d)
+found_at xs code n d same lt = ap (λ ys. slice_get ys n) (sym same) ∙ slice_get-get_or xs n d lt

@@ -60,18 +60,20 @@ fn check_unit(alloc: Global, unit: u16, u: &Unit) -> Result<(), KindError>
     let mut row = vec![in alloc; Kind::Unset; u.slots as usize]?;
     let mut at = 0;
     for instr in &u.code {
-        if let Err(stop) = step_row(instr, &mut row) {
-            let walk = walk_to(alloc, u, stop.slot, at)?;
-            return Err(KindError::Fault(KindFault {
-                rule: stop.rule,
-                unit,
-                at,
-                slot: stop.slot,
-                kind: stop.kind,
-                walk,
-            }));
+        match step_row(instr, &mut row) {
+            Ok(()) => at += 1,
+            Err(stop) => {
+                let walk = walk_to(alloc, u, stop.slot, at)?;
+                return Err(KindError::Fault(KindFault {
+                    rule: stop.rule,
+                    unit,
+                    at,
+                    slot: stop.slot,
+                    kind: stop.kind,
+                    walk,
+                }));
+            }
         }
-        at += 1;
     }
     Ok(())
 }
