@@ -1,13 +1,11 @@
 -- From one unit to the module.
-use Rattle.std.proofs.Common.{◌≡◌, ℕ, ◌<◌, List, [], ◌∷◌, Some, slice_get, inl, inr, sym, refl, ap, ◌∙◌, subst, arith}
+use Rattle.std.proofs.Common.{◌≡◌, ℕ, ◌<◌, Some, slice_get, inl, inr, sym, ap, ◌∙◌, subst, arith}
 use Rattle.std.proofs.lemmas.Option.{same_Some}
 use Rattle.std.proofs.lemmas.Bool.{cases_order}
 use Rattle.xk_types.specs.declared.rules.Rule.{Rule}
 use Rattle.xk_types.specs.declared.rules.Kind.{Kind}
 use Rattle.xk_types.specs.declared.rules.Visit.{Visit}
 use Rattle.xk_types.specs.Code.{UnitValue, ModuleValue}
-use Rattle.xk_types.specs.Names.{kind_place}
-use Rattle.xk_types.specs.Order.{NotAfter}
 use Rattle.xk_types.specs.Walk.{IsVisited, IsRefusedAt}
 use Rattle.xk_bounds.specs.declared.refusal.KindFault.{KindFault}
 use Rattle.xk_bounds.specs.declared.kinds.KindError.{KindError}

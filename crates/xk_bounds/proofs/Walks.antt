@@ -1,5 +1,5 @@
 -- Walks: how they grow, what leads to their ends, and that straight code has one for each slot.
-use Rattle.std.proofs.Common.{◌≡◌, ℕ, zero, suc, ◌+◌, ◌<◌, ◌≤◌, true, false, List, [], ◌∷◌, ◌++◌, length, Option, Some, None, slice_get, get_or, take, ◌⊎◌, inl, inr, sym, refl, ap, ◌∙◌, subst, arith, add-one}
+use Rattle.std.proofs.Common.{◌≡◌, ℕ, zero, suc, ◌+◌, ◌<◌, false, List, [], ◌∷◌, ◌++◌, length, Option, Some, None, slice_get, get_or, take, ◌⊎◌, inl, inr, sym, refl, ap, ◌∙◌, subst, arith}
 use Rattle.std.proofs.lemmas.Option.{slice_get_past, slice_get-get_or, slice_get_read}
 use Rattle.std.proofs.lemmas.List.{length-take, get_or-take}
 use Rattle.std.proofs.lemmas.Bool.{cases_lt, true≢false}
@@ -11,7 +11,7 @@ use Rattle.xk_types.specs.declared.rules.Kind.TheVariants as kind
 use Rattle.xk_types.specs.declared.rules.Visit.{Visit}
 use Rattle.xk_types.specs.Code.{UnitValue, ModuleValue}
 use Rattle.xk_types.specs.Order.{Has}
-use Rattle.xk_types.specs.Walk.{After, To, Refused, after, row, row_of, successors, places_after, MayBecome, IsEdge, entry_of, entry_kinds, Continues, IsWalk, last_of, EndsAt, IsVisited}
+use Rattle.xk_types.specs.Walk.{After, To, Refused, after, row, row_of, successors, places_after, MayBecome, IsEdge, entry_kinds, Continues, IsWalk, last_of, EndsAt, IsVisited}
 use Rattle.xk_types.specs.Shape.{is_ret}
 use Rattle.xk_bounds.specs.Place.{visit}
 use Rattle.xk_bounds.specs.Straight.{IsStraight, IsTheKind}

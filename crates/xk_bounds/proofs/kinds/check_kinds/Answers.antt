@@ -1,10 +1,10 @@
 -- unit after unit, up to the first that has a slot that is refused
-use Rattle.std.proofs.Common.{◌≡◌, ℕ, ◌+◌, ◌<◌, ◌≤◌, List, length, get_or, Some, slice_get, refl, ap, sym, ◌∙◌, subst, inl, inr, arith}
+use Rattle.std.proofs.Common.{◌≡◌, ℕ, ◌+◌, ◌<◌, List, length, get_or, Some, slice_get, refl, ap, sym, ◌∙◌, subst, inl, inr, arith}
 use Rattle.std.proofs.lemmas.Bool.{cases_lt}
 use Rattle.std.proofs.lemmas.Option.{slice_get_read, slice_get_within, same_Some}
 use Rattle.std.proofs.lemmas.Result.{err_from_is_err_and}
 use Rattle.xk_types.specs.Code.{UnitValue, ModuleValue}
-use Rattle.xk_bounds.specs.Straight.{IsNeverRefusedIn, FailsUnit, FailsModule}
+use Rattle.xk_bounds.specs.Straight.{IsNeverRefusedIn}
 use Rattle.xk_bounds.proofs.Breaches.{straight_from}
 use Rattle.xk_bounds.proofs.Units.{fails_module, never_refused}
 use Rattle.xk_bounds.proofs.kinds.check_kinds.Goals as goal

@@ -1,18 +1,17 @@
 -- row after row, up to the first slot that is refused
-use Rattle.std.proofs.Common.{◌≡◌, ℕ, ◌+◌, ◌<◌, ◌≤◌, List, [], ◌∷◌, length, Some, slice_get, get_or, refl, ap, sym, ◌∙◌, subst, rules, arith}
+use Rattle.std.proofs.Common.{◌≡◌, ℕ, ◌+◌, ◌<◌, [], ◌∷◌, length, refl, ap, sym, ◌∙◌, subst, rules, arith}
 use Rattle.std.proofs.Math.ListN.{replicate}
 use Rattle.std.proofs.lemmas.List.{get_or-replicate}
 use Rattle.std.proofs.lemmas.Result.{err_from_is_err_and}
-use Rattle.xk_types.specs.declared.rules.Kind.{Kind}
 use Rattle.xk_types.specs.declared.rules.Kind.TheVariants as kind
 use Rattle.xk_types.specs.declared.rules.Rule.{Rule}
 use Rattle.xk_types.specs.declared.rules.Visit.{Visit}
-use Rattle.xk_types.specs.Code.{UnitValue, ModuleValue}
+use Rattle.xk_types.specs.Code.{UnitValue}
 use Rattle.xk_types.specs.Names.{kind_place}
 use Rattle.xk_types.specs.Order.{NotAfter}
 use Rattle.xk_types.specs.Walk.{IsVisited}
 use Rattle.xk_bounds.specs.Place.{visit}
-use Rattle.xk_bounds.specs.Straight.{kind_in, IsRefusedIn, IsUnitFault}
+use Rattle.xk_bounds.specs.Straight.{kind_in, IsRefusedIn}
 use Rattle.xk_bounds.proofs.Walks.{found_at}
 use Rattle.xk_bounds.proofs.Rows.{followed_start, followed_more, followed_end, stop_kind, stop_refused, stop_least}
 use Rattle.xk_bounds.proofs.kinds.check_unit.Goals as goal

@@ -1,7 +1,6 @@
 -- the walk goes on while the instructions leave a kind
-use Rattle.std.proofs.Common.{◌≡◌, ℕ, ◌+◌, ◌<◌, length, ap, ◌∙◌, subst, arith, List}
+use Rattle.std.proofs.Common.{◌≡◌, ℕ, ◌+◌, ◌<◌, length, ap, ◌∙◌, subst, arith}
 use Rattle.std.proofs.lemmas.List.{length-take}
-use Rattle.xk_types.specs.declared.instr.Instr.{Instr}
 use Rattle.xk_types.specs.Code.{UnitValue}
 use Rattle.xk_bounds.specs.Straight.{IsTheKind}
 use Rattle.xk_bounds.proofs.Walks.{the_kind_start, the_kind_more, stopped, found_in_take}

@@ -1,10 +1,10 @@
 -- one slot more, or the first that is refused
-use Rattle.std.proofs.Common.{◌≡◌, ◌<◌, [], ◌∷◌, length, ap, ◌∙◌, subst, arith}
-use Rattle.std.proofs.Math.ListN.{set, length-set}
+use Rattle.std.proofs.Common.{◌≡◌, ◌<◌, [], ◌∷◌, length, ◌∙◌, subst, arith}
+use Rattle.std.proofs.Math.ListN.{length-set}
 use Rattle.std.proofs.lemmas.List.{get_or_read}
 use Rattle.xk_types.specs.declared.rules.Kind.{Kind}
 use Rattle.xk_types.specs.declared.rules.Kind.TheVariants as kind
-use Rattle.xk_types.specs.Walk.{After, To, after}
+use Rattle.xk_types.specs.Walk.{To, after}
 use Rattle.xk_bounds.specs.Straight.{kind_in}
 use Rattle.xk_bounds.proofs.Rows.{done_more, left_more}
 use Rattle.xk_bounds.proofs.kinds.step_row.Goals as goal

@@ -1,9 +1,8 @@
 -- the walk goes on to its end
-use Rattle.std.proofs.Common.{◌≡◌, ℕ, ◌+◌, ◌<◌, ◌≤◌, List, Some, slice_get, [], ◌∷◌, ◌++◌, length, ap, sym, ◌∙◌, subst, refl, arith, inl}
-use Rattle.xk_types.specs.declared.rules.Kind.{Kind}
+use Rattle.std.proofs.Common.{◌≡◌, ℕ, ◌+◌, ◌<◌, List, [], ◌∷◌, ◌++◌, length, ap, sym, ◌∙◌, subst, arith}
 use Rattle.xk_types.specs.declared.rules.Kind.TheVariants as kind
 use Rattle.xk_types.specs.declared.rules.Visit.{Visit}
-use Rattle.xk_types.specs.Code.{UnitValue, ModuleValue, module_of}
+use Rattle.xk_types.specs.Code.{UnitValue, module_of}
 use Rattle.xk_types.specs.Walk.{IsWalk, EndsAt, IsVisited}
 use Rattle.xk_bounds.specs.Place.{visit}
 use Rattle.xk_bounds.proofs.Walks.{the_kind_start, the_kind_more, edge_on, walk_more, ends_at_push, walk_start, stopped, found_read}

@@ -1,5 +1,5 @@
 -- the sums are over the first unit
-use Rattle.std.proofs.Common.{◌≡◌, length, Some, slice_get, ap, sym, ◌∙◌, sum_by, arith}
+use Rattle.std.proofs.Common.{◌≡◌, Some, slice_get, ap, sym, ◌∙◌, sum_by, arith}
 use Rattle.std.proofs.lemmas.Option.{slice_get_read}
 use Rattle.xk_types.specs.Code.{UnitValue}
 use Rattle.xk_types.specs.Bound.{steps_weight, clocks_weight}
