@@ -1,2 +1,5 @@
 pub mod Lists
 pub mod Loop
+pub mod Parts
+pub mod Instrs
+pub mod Modules
