@@ -3,3 +3,4 @@ pub mod Loop
 pub mod Parts
 pub mod Instrs
 pub mod Modules
+pub mod Texts

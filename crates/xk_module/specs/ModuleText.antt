@@ -113,3 +113,11 @@ pub record Names (d : Data) (m : ModuleValue) : Type 0 where
 pub record IsText (bytes : List ℕ) (d : Data) : Type 0 where
   pub utf8 : IsUtf8 bytes
   pub value : read bytes ≡ Some d
+
+-- the bytes are a JSON text
+abbrev pub IsJson : List ℕ → Type 0
+IsJson bytes = (d : Data) × IsText bytes d
+
+-- the bytes are a text of the module, within the limits or not
+abbrev pub IsModuleText : List ℕ → ModuleValue → Type 0
+IsModuleText bytes m = (d : Data) × IsText bytes d × Names d m

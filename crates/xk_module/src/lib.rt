@@ -3,10 +3,9 @@
 
 mod fault;
 mod json;
+pub mod laws;
 mod reading;
+mod text;
 
 pub use fault::ModuleFault;
-//pub use reading::read_module;
-
-
-
+pub use text::read_module;
