@@ -109,12 +109,12 @@ by_name : {X : Type 0} {shape : List Data → Option X} {values : X → List Dat
     → (others ≡ Some i → IsValue name operands i) → IsValue name operands i
 by_name {shape = shape} {values = values} s key make value name operands others i e there =
     by_test _ _ _ i (IsValue name operands i) e (λ t e.
-      let x = bind_some _ _ _ e in
-      let taken = s.takes operands x.0 x.1 in
-      let same_name : name ≡ key = (bytes_eq-Decides name key).0 t in
-      let same_operands : operands ≡ values x.0 = taken.0 in
-      let same : make x.0 ≡ i = cc in
-      rw (same_name, same_operands) (subst (IsValue key (values x.0)) same (value x.0 taken.1))) there
+    let x = bind_some _ _ _ e in
+    let taken = s.takes operands x.0 x.1 in
+    let same_name : name ≡ key = (bytes_eq-Decides name key).0 t in
+    let same_operands : operands ≡ values x.0 = taken.0 in
+    let same : make x.0 ≡ i = cc in
+    rw (same_name, same_operands) (subst (IsValue key (values x.0)) same (value x.0 taken.1))) there
 
 instr_of_takes : (name : List ℕ) (operands : List Data) (i : Instr) → instr_of name operands ≡ Some i → IsValue name operands i
 unfolding instr_of
@@ -135,10 +135,12 @@ instr_takes d i e =
     let values = bind_some _ _ _ e in
     let parts = bind_some _ _ _ values.2 in
     let name = bind_some _ _ _ parts.2 in
-    let t = instr_of_takes name.0 parts.0.1 i name.2 in
-    (array_takes d values.0 values.1
-     ∙ ap array_of (head_takes values.0 parts.0 parts.1 ∙ ap (λ (x : Data). x ∷ parts.0.1) (str_takes parts.0.0 name.0 name.1))
-     ∙ t.0, t.1)
+    let t = instr_of_takes name.0 parts.0.1 i name.2 in (
+      array_takes d values.0 values.1
+          ∙ ap array_of (head_takes values.0 parts.0 parts.1 ∙ ap (λ (x : Data). x ∷ parts.0.1) (str_takes parts.0.0 name.0 name.1))
+          ∙ t.0,
+      t.1,
+    )
 
 instr_of_again : (name : List ℕ) (operands : List Data) (i : Instr) → instr_of name operands ≡ Some i → instr_at (named name operands) ≡ Some i
 unfolding instr_at

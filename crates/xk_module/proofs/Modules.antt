@@ -102,7 +102,7 @@ unit_takes d u e =
     let made : UnitValue = record { kind = kind_value; params = params_value; slots = slots_value; code = code_value } in
     let same : made ≡ u = cc in
     subst (λ (u : UnitValue). (d ≡ unit_value u) × IsUnitInRange u) same
-        (whole ∙ same_unit _ _ _ _ _ _ _ _ of_code.0 of_kind of_params of_slots.0, record { slots = of_slots.1; code = of_code.1 })))))))))))
+    (whole ∙ same_unit _ _ _ _ _ _ _ _ of_code.0 of_kind of_params of_slots.0, record { slots = of_slots.1; code = of_code.1 })))))))))))
 
 unit_again : (u : UnitValue) → IsUnitInRange u → unit_at (unit_value u) ≡ Some u
 unfolding unit_at

@@ -61,7 +61,7 @@ letter param_kind.Clock = 99
 
 abbrev pub unit_value : UnitValue → Data
 unit_value u = object_of
-    ( (codes "code", array_of (map instr_value u.code))
+    ((codes "code", array_of (map instr_value u.code))
     ∷ (codes "kind", kind_value u.kind)
     ∷ (codes "params", string (map letter u.params))
     ∷ (codes "slots", word u.slots)
@@ -70,7 +70,7 @@ unit_value u = object_of
 -- the one JSON value of a module
 abbrev pub module_value : ModuleValue → Data
 module_value m = object_of
-    ( (codes "shared", array_of (map long m.shared))
+    ((codes "shared", array_of (map long m.shared))
     ∷ (codes "units", array_of (map unit_value m.units))
     ∷ (codes "version", word 1)
     ∷ [])

@@ -67,6 +67,7 @@ impl<T: Drop> From<AllocFailed<T>> for Refusal {
 
 impl From<Refusal> for ModuleFault {
     ghost from_gives = { λ r e. e ≡ fault_of r };
+
     ghost use Rattle.xk_module.specs.Faults.{fault_of};
 
     fn from(r: Refusal) -> ModuleFault {

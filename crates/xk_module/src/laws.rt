@@ -10,5 +10,4 @@ pub fn at_most_one_module()
     ensures value { (d : Data) (m n : ModuleValue) → Names d m → Names d n → m ≡ n }
     ensures text { (bytes : List ℕ) (m n : ModuleValue)
         → IsModuleText bytes m → IsModuleText bytes n → m ≡ n }
-{
-}
+{}

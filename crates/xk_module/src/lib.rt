@@ -9,3 +9,6 @@ mod text;
 
 pub use fault::ModuleFault;
 pub use text::read_module;
+
+#[cfg(test)]
+mod tests;
