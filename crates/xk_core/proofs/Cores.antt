@@ -11,8 +11,8 @@ use Rattle.xk_types.specs.Step.{Stepped, carried_out, run_at, passing, step_by, 
 use Rattle.xk_types.specs.Schedule.{is_step, is_enabled, all_ended}
 use Rattle.xk_types.specs.Bound.{steps_bound}
 use Rattle.xk_types.specs.Accepted.{IsAccepted}
-use Rattle.xk_core.proofs.Invariant.{Each, IsSound, IsClockSound, IsActivitySound}
-use Rattle.xk_core.proofs.Reached.{HasRoom, opening_reached, reached_step, reached_sound, reached_right, reached_room, reached_ends}
+use Rattle.xk_laws.proofs.Invariant.{Each, IsSound, IsClockSound, IsActivitySound}
+use Rattle.xk_laws.proofs.Reached.{HasRoom, opening_reached, reached_step, reached_sound, reached_right, reached_room, reached_ends}
 use Rattle.xk_core.specs.Arm.{IsRoomy, carried_by, carried, passing_by, passed_on}
 use Rattle.xk_core.specs.Able.{is_able}
 use Rattle.xk_core.specs.Core.{IsCore, instruction_by, instruction_of, next_instruction}

@@ -4,6 +4,7 @@
 mod activity;
 mod change;
 mod clock;
+pub mod laws;
 mod machine;
 mod state;
 
