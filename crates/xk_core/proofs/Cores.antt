@@ -12,7 +12,7 @@ use Rattle.xk_types.specs.Schedule.{is_step, is_enabled, all_ended}
 use Rattle.xk_types.specs.Bound.{steps_bound}
 use Rattle.xk_types.specs.Accepted.{IsAccepted}
 use Rattle.xk_laws.proofs.Invariant.{Each, IsSound, IsClockSound, IsActivitySound}
-use Rattle.xk_laws.proofs.Reached.{HasRoom, opening_reached, reached_step, reached_sound, reached_right, reached_room, reached_ends}
+use Rattle.xk_laws.proofs.Reached.{HasRoom, opening_only, opening_reached, reached_step, reached_sound, reached_right, reached_room, reached_ends}
 use Rattle.xk_core.specs.Arm.{IsRoomy, carried_by, carried, passing_by, passed_on}
 use Rattle.xk_core.specs.Able.{is_able}
 use Rattle.xk_core.specs.Core.{IsCore, instruction_by, instruction_of, next_instruction}
@@ -99,3 +99,11 @@ core_passed m w v a e core h next p = core_stepped m w v a e core (pass_step m w
 pub core_carried : {E : Type 0} (m : ModuleValue) (w v : World) (a : ℕ) (i : Instr) (r : Result Event E) → IsCore m w → next_instruction m w a ≡ Some i → IfOk r (λ e. carried w a i ≡ Stepped v e) → OnErr r (v ≡ w) → IsCore m v
 core_carried m w v a i (Ok e) core next h same = core_stepped m w v a e core (carry_step m w a i next ∙ h)
 core_carried m w v a i (Err x) core next h same = rw same core
+
+-- a core that has taken no step is in the opening world
+pub core_fresh : (m : ModuleValue) (w : World) → IsCore m w → w.steps ≡ 0 → w ≡ opening m
+core_fresh m w core h = opening_only m w core.reached h
+
+-- nor more clocks
+pub core_clocks : (m : ModuleValue) (w : World) → IsCore m w → length w.clocks < 2 ^ 32
+core_clocks m w core = omega (arith, (reached_room m core.limits core.accepted w core.reached).clocks, core.accepted.bounds.clocks)

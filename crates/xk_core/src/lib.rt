@@ -10,3 +10,6 @@ mod state;
 
 
 pub use machine::Core;
+
+#[cfg(test)]
+mod tests;

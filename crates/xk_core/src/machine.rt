@@ -69,10 +69,25 @@ impl<'m> Core<'m> {
     pub fn steps_done(&self) -> u64
         ensures count { result ≡ self.now.world.steps }
         ensures bound { result ≤ steps_bound self.now.module_run }
+        ensures opening { result ≡ 0 → self.now.world ≡ opening self.now.module_run }
         // Every core is where a legal schedule of its module leads.
         ensures reached { IsReached self.now.module_run self.now.world }
     {
         self.state.steps()
+    }
+
+    /// How many activities were made, main among them. They are numbered from 0.
+    pub fn activities(&self) -> u32
+        ensures { result ≡ length self.now.world.activities }
+    {
+        self.state.activity_count() as u32
+    }
+
+    /// How many clocks were made. They are numbered from 0.
+    pub fn clocks(&self) -> u32
+        ensures { result ≡ length self.now.world.clocks }
+    {
+        self.state.clock_count() as u32
     }
 
     /// The number of the activity's last pass of an `advance`, counted in steps from 1; 0 before the first.

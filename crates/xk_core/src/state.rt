@@ -155,6 +155,20 @@ impl State {
         self.steps
     }
 
+    /// How many activities there are.
+    pub fn activity_count(&self) -> usize
+        ensures { result ≡ length self.now.activities }
+    {
+        self.activities.len()
+    }
+
+    /// How many clocks there are.
+    pub fn clock_count(&self) -> usize
+        ensures { result ≡ length self.now.clocks }
+    {
+        self.clocks.len()
+    }
+
     /// The activity of this number, if there is one.
     pub fn activity(&self, a: usize) -> Option<&Activity>
         ensures { option_copied result ≡ slice_get self.now.activities a }
