@@ -1,5 +1,5 @@
 -- What holds of a core, by the law.
-use Rattle.std.proofs.Common.{◌≡◌, ℕ, ◌+◌, ◌<◌, ◌≤◌, ◌^◌, true, false, List, length, Option, Some, None, Result, Ok, Err, IfOk, OnErr, slice_get, slice_index_or, All, arith, refl, sym, ◌∙◌}
+use Rattle.std.proofs.Common.{◌≡◌, ℕ, ◌+◌, ◌<◌, ◌≤◌, ◌^◌, true, false, List, length, Option, Some, None, Result, Ok, Err, IfOk, OnOk, OnErr, slice_get, slice_index_or, All, arith, refl, sym, ◌∙◌}
 use Rattle.std.proofs.lemmas.Option.{slice_get-get_or, get_or_from_slice_get, slice_get_within}
 use Rattle.xk_types.specs.declared.names.Event.{Event}
 use Rattle.xk_types.specs.declared.names.Status.{Status}
@@ -12,6 +12,7 @@ use Rattle.xk_types.specs.Schedule.{is_step, is_enabled, all_ended}
 use Rattle.xk_types.specs.Bound.{steps_bound}
 use Rattle.xk_types.specs.Accepted.{IsAccepted}
 use Rattle.xk_laws.proofs.Invariant.{Each, IsSound, IsClockSound, IsActivitySound}
+use Rattle.xk_laws.proofs.Counts.{step_counts}
 use Rattle.xk_laws.proofs.Reached.{HasRoom, opening_only, opening_reached, reached_step, reached_sound, reached_right, reached_room, reached_ends}
 use Rattle.xk_core.specs.Arm.{IsRoomy, carried_by, carried, passing_by, passed_on}
 use Rattle.xk_core.specs.Able.{is_able}
@@ -107,3 +108,13 @@ core_fresh m w core h = opening_only m w core.reached h
 -- nor more clocks
 pub core_clocks : (m : ModuleValue) (w : World) → IsCore m w → length w.clocks < 2 ^ 32
 core_clocks m w core = omega (arith, (reached_room m core.limits core.accepted w core.reached).clocks, core.accepted.bounds.clocks)
+
+-- what holds anyway holds at Ok
+pub at_ok : {A E : Type 0} (P : Type 0) (r : Result A E) → P → OnOk r P
+at_ok P (Ok x) p = p
+at_ok P (Err e) p = tt
+
+-- a step that an instruction takes is counted
+pub carried_counts : {E : Type 0} (m : ModuleValue) (w v : World) (a : ℕ) (i : Instr) (r : Result Event E) → next_instruction m w a ≡ Some i → IfOk r (λ e. carried w a i ≡ Stepped v e) → OnOk r (v.steps ≡ w.steps + 1)
+carried_counts m w v a i (Ok e) next h = step_counts m w v a e (carry_step m w a i next ∙ h)
+carried_counts m w v a i (Err x) next h = tt

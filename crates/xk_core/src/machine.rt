@@ -1,6 +1,6 @@
 //! The core: a module that the verifier accepted, and a world that a legal schedule of it reaches.
 
-ghost use Rattle.std.specs.Prelude.{◌≡◌, true, ◌<◌, ◌≤◌, Some, length, option_map, slice_get, IsTrue, IfOk, IfSome, IfNone, OnOk, OnErr};
+ghost use Rattle.std.specs.Prelude.{◌≡◌, true, ◌+◌, ◌<◌, ◌≤◌, Some, length, option_map, slice_get, IsTrue, IfOk, IfSome, IfNone, OnOk, OnErr};
 ghost use Rattle.xk_types.specs.World.{opening};
 ghost use Rattle.xk_types.specs.Step.{Stepped, step};
 ghost use Rattle.xk_types.specs.Schedule.{IsReached, is_enabled, all_ended};
@@ -142,6 +142,9 @@ impl<'m> Core<'m> {
     pub fn step(&mut self, act: Act) -> Result<Event, AllocError>
         requires { IsTrue (is_enabled self.old.module_run self.old.world act) }
         ensures stepped { IfOk result (λ e. step self.old.module_run self.old.world act ≡ Stepped self.new.world e) }
+        ensures counted { OnOk result (self.new.world.steps ≡ self.old.world.steps + 1) }
+        // The verified number of steps is never passed.
+        ensures bound { OnOk result (self.new.world.steps ≤ steps_bound self.new.module_run) }
         ensures same_module { self.new.module_run ≡ self.old.module_run }
         ensures refused { OnErr result (self.new ≡ self.old) }
         ensures only_at_make { OnErr result (IsAboutToMake self.old.module_run self.old.world act) }

@@ -23,13 +23,13 @@ same_through : (w v : World) → Through w ≡ Through v → w ≡ v
 same_through w v e = cc
 
 -- a run that comes through took its first step
-first_step : (w v : World) (o : Outcome) (go : World → Course) → run_on w o go ≡ Through v → (x : World) × (e : Event) × (o ≡ Stepped x e) × (go x ≡ Through v)
+pub first_step : (w v : World) (o : Outcome) (go : World → Course) → run_on w o go ≡ Through v → (x : World) × (e : Event) × (o ≡ Stepped x e) × (go x ≡ Through v)
 first_step w v Blocked go h = absurd (grind arith)
 first_step w v (Wrong c) go h = absurd (grind arith)
 first_step w v (Stepped x e) go h = (x, e, refl, h)
 
 -- a run goes on by a step
-run_more : (m : ModuleValue) (list : List ℕ) (w v x : World) (a : ℕ) (e : Event) → run m list w ≡ Through v → step m v a ≡ Stepped x e
+pub run_more : (m : ModuleValue) (list : List ℕ) (w v x : World) (a : ℕ) (e : Event) → run m list w ≡ Through v → step m v a ≡ Stepped x e
     → run m (list ++ a ∷ []) w ≡ Through x
 run_more m [] w v x a e h g = ap (λ o. run_on w o (run m [])) (ap (λ z. step m z a) (same_through w v h) ∙ g)
 run_more m (b ∷ list) w v x a e h g =
