@@ -19,12 +19,14 @@ Counts n Blocked = Unit {0}
 Counts n (Wrong c) = Unit {0}
 Counts n (Stepped v e) = v.steps ≡ n + 1
 
+-- where a number is wanted
 number_counts : (n : ℕ) (o : Option Value) (go : ℤ → Outcome) → ((z : ℤ) → Counts n (go z)) → Counts n (number_in o go)
 number_counts n None go h = tt
 number_counts n (Some value.Unset) go h = tt
 number_counts n (Some (value.Number z)) go h = h z
 number_counts n (Some (value.Clock c)) go h = tt
 
+-- where a registration is wanted
 registered_counts : (n : ℕ) (o : Option Clock) (a : ℕ) (go : Outcome) → Counts n go → Counts n (registered_on o a go)
 registered_counts n None a go h = tt
 registered_counts n (Some c) a go h = cases (is_signalled (standing_of c a)) (is_pending (standing_of c a))
@@ -34,16 +36,19 @@ registered_counts n (Some c) a go h = cases (is_signalled (standing_of c a)) (is
     cases false true = h
     cases false false = tt
 
+-- where a clock is wanted
 clock_counts : (w : World) (a : ℕ) (o : Option Value) (go : ℕ → Outcome) → ((k : ℕ) → Counts w.steps (go k)) → Counts w.steps (clock_in w a o go)
 clock_counts w a None go h = tt
 clock_counts w a (Some value.Unset) go h = tt
 clock_counts w a (Some (value.Number z)) go h = tt
 clock_counts w a (Some (value.Clock c)) go h = registered_counts w.steps (slice_get w.clocks c) a (go c) (h c)
 
+-- where a slot is written
 put_counts : (n : ℕ) (o : Option Value) (act : Activity) (d : ℕ) (v : Value) (go : Activity → Outcome) → ((x : Activity) → Counts n (go x)) → Counts n (put_in o act d v go)
 put_counts n None act d v go h = tt
 put_counts n (Some old) act d v go h = h _
 
+-- each instruction
 instruction_counts : (w : World) (a : ℕ) (act : Activity) (i : Instr) → Counts w.steps (carried_out w a act i)
 instruction_counts w a act (instr.Lit d n) = put_counts w.steps (slot_at act d) act d _ _ (λ x. refl)
 instruction_counts w a act (instr.Add d x y) =
@@ -55,10 +60,12 @@ instruction_counts w a act (instr.Drop k) = clock_counts w a (slot_at act k) _ (
 instruction_counts w a act instr.Advance = refl
 instruction_counts w a act instr.Ret = refl
 
+-- a running activity
 run_counts : (w : World) (a : ℕ) (act : Activity) (o : Option Instr) → Counts w.steps (run_at w a act o)
 run_counts w a act None = tt
 run_counts w a act (Some i) = instruction_counts w a act i
 
+-- one that has arrived
 passing_counts : (w : World) (a : ℕ) (act : Activity) → Counts w.steps (passing w a act)
 passing_counts w a act = cases (waits w a)
   where
@@ -66,11 +73,13 @@ passing_counts w a act = cases (waits w a)
     cases true = tt
     cases false = refl
 
+-- an activity of any status
 by_counts : (m : ModuleValue) (w : World) (a : ℕ) (act : Activity) (st : Status) → Counts w.steps (step_by m w a act st)
 by_counts m w a act status.Running = run_counts w a act (instruction_at m act.frame)
 by_counts m w a act status.Arrived = passing_counts w a act
 by_counts m w a act status.Ended = tt
 
+-- one that may not be there
 of_counts : (m : ModuleValue) (w : World) (a : ℕ) (o : Option Activity) → Counts w.steps (step_of m w a o)
 of_counts m w a None = tt
 of_counts m w a (Some act) = by_counts m w a act act.status

@@ -34,9 +34,11 @@ unbroken m shape r unit u found at = ap (λ o. breaks_unit_of r unit o at) (sym 
 abbrev last_but_ret : UnitValue → ℕ → Instr → Bool
 last_but_ret u at i = not (is_ret i) && (at + 1 == length u.code)
 
+-- a `ret` that something stands behind
 abbrev ret_but_last : UnitValue → ℕ → Instr → Bool
 ret_but_last u at i = is_ret i && nat_lt (at + 1) (length u.code)
 
+-- what the rule on the end says, in parts
 ends_well : (u : UnitValue) (at : ℕ) → breaks_end u at ≡ false → (instr_is (last_but_ret u at) (slice_get u.code at) ≡ false) × (((at == 0) && (length u.code == 0)) ≡ false)
 ends_well u at h =
     let p = or_parts (instr_is (ret_but_last u at) (slice_get u.code at) || instr_is (last_but_ret u at) (slice_get u.code at)) ((at == 0) && (length u.code == 0)) h in

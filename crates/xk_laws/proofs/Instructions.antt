@@ -127,6 +127,7 @@ only_near st since last now k j f s h g = cases (j == k)
     cases true = g
     cases false = h
 
+-- who is apart from a clock stays so
 only_apart : (k j : ℕ) (f : Standing → Standing) → f standing.Apart ≡ standing.Apart → only k f j standing.Apart ≡ standing.Apart
 only_apart k j f h = cases (j == k)
   where
@@ -138,9 +139,11 @@ only_apart k j f h = cases (j == k)
 
 module _ (m : ModuleValue) (ok : IsAccepted m) (w : World) (a : ℕ) (was : Activity) (sound : IsSound m w) (found : slice_get w.activities a ≡ Some was)
     (running : was.status ≡ status.Running) where
+  -- the invariant of the activity
   abbrev me : IsActivitySound m (looks w.clocks a) (length w.clocks) w.steps was
   me = sound.activities a was found
 
+  -- it stands at instruction i
   abbrev Here : Instr → Type 0
   Here i = slice_get me.u.code was.frame.place ≡ Some i
 
@@ -152,6 +155,7 @@ module _ (m : ModuleValue) (ok : IsAccepted m) (w : World) (a : ℕ) (was : Acti
   kept : Each (λ k c. StandsNear was.status was.since c.last (w.steps + 1) (standing_of c a)) w.clocks
   kept k c at = kept_near was.status was.since c.last (w.steps + 1) (standing_of c a) (let h = me.since in omega arith) ((sound.clocks k c at).stands a was found)
 
+  -- an instruction that changes no standing is a step
   local_moves : (i : Instr) → Here i → (act : Activity) → steps_weight i ≡ 1 → clocks_weight i ≡ 0
       → act.status ≡ was.status → act.since ≡ was.since → act.frame.place ≡ was.frame.place + 1
       → IsNext m me.u (looks w.clocks a) (length w.clocks) (w.steps + 1) was act → (e : Event) → Moves m (done w a act none e)
@@ -162,6 +166,7 @@ module _ (m : ModuleValue) (ok : IsAccepted m) (w : World) (a : ℕ) (was : Acti
     paid = rw zero' at (paid_on m was act me.u i me.unit n.unit running (st ∙ running) place here one);
   })
 
+  -- `lit`
   lit_moves : (d : ℕ) (n : ℤ) → Here (instr.Lit d n) → Moves m (carried_out w a was (instr.Lit d n))
   lit_moves d n here =
       let i = instr.Lit d n in
@@ -182,6 +187,7 @@ module _ (m : ModuleValue) (ok : IsAccepted m) (w : World) (a : ℕ) (was : Acti
       number_moves m (stands_on w.clocks a) (slice_get was.frame.slots x) v.0 go v.1
       (reads_it (kind_of (looks w.clocks a) v.0) (row_allowed m (stands_on w.clocks a) (length w.clocks) w.steps was me.u i c x v.0 v.1)) h
 
+  -- `add`
   add_moves : (d x y : ℕ) → Here (instr.Add d x y) → Moves m (carried_out w a was (instr.Add d x y))
   add_moves d x y here =
       let i = instr.Add d x y in
@@ -195,6 +201,7 @@ module _ (m : ModuleValue) (ok : IsAccepted m) (w : World) (a : ℕ) (was : Acti
       (record { rows = λ s k h. (add_parts d x y s k h).2; becomes = refl; more = omega arith; same = λ k h. refl; fresh = λ k e. absurd (grind arith); holds = λ k h. inl h }))
       event.Local)))
 
+  -- `print`
   print_moves : (x : ℕ) → Here (instr.Print x) → Moves m (carried_out w a was (instr.Print x))
   print_moves x here =
       let i = instr.Print x in
@@ -204,6 +211,7 @@ module _ (m : ModuleValue) (ok : IsAccepted m) (w : World) (a : ℕ) (was : Acti
       (λ s k h. subst (λ row. MayBecome row k) (sym (reads_row x s k (becomes k) h).1) (inl refl)))
       (event.Printed n))
 
+  -- `make`
   make_moves : (d : ℕ) → Here (instr.Make d) → Moves m (carried_out w a was (instr.Make d))
   make_moves d here =
       let i = instr.Make d in
@@ -250,14 +258,17 @@ module _ (m : ModuleValue) (ok : IsAccepted m) (w : World) (a : ℕ) (was : Acti
         paid = rw zero' at (paid_on m was (onward was) me.u i me.unit refl running running refl here one);
       }))
 
+  -- `resume`
   resume_moves : (x : ℕ) → Here (instr.Resume x) → Moves m (carried_out w a was (instr.Resume x))
   resume_moves x here = use_moves (instr.Resume x) here x kind.Resumed resumed event.Resumed (inl refl) refl (inl refl) refl refl
       (uses_row x kind.Resumed) resumed_kind resumed_held refl (λ st since last now s before e h. resumed_near st st since last now s before e h)
 
+  -- `drop`
   drop_moves : (x : ℕ) → Here (instr.Drop x) → Moves m (carried_out w a was (instr.Drop x))
   drop_moves x here = use_moves (instr.Drop x) here x kind.Out dropped event.Dropped (inl refl) refl (inl refl) refl refl
       (uses_row x kind.Out) (λ s h. refl) (λ s h. absurd (false≢true h)) refl (λ st since last now s before e h. dropped_near st since last now)
 
+  -- the first half of `advance`
   advance_moves : Here instr.Advance → Moves m (carried_out w a was instr.Advance)
   advance_moves here = done_sound m w a was (arrived was) (all resumed) sound found (record {
     next = arriving m (stands_on w.clocks a) (length w.clocks) w.steps was me.u (at_it instr.Advance here);
@@ -266,6 +277,7 @@ module _ (m : ModuleValue) (ok : IsAccepted m) (w : World) (a : ℕ) (was : Acti
     paid = paid_arrive m was (arrived was) me.u me.unit refl running refl refl here;
   })
 
+  -- `ret`
   ret_moves : Here instr.Ret → Moves m (carried_out w a was instr.Ret)
   ret_moves here = done_sound m w a was (ended was) (all dropped) sound found (record {
     next = ending m (stands_on w.clocks a) (length w.clocks) w.steps was me.u (at_it instr.Ret here);
@@ -274,6 +286,7 @@ module _ (m : ModuleValue) (ok : IsAccepted m) (w : World) (a : ℕ) (was : Acti
     paid = paid_end m was (ended was) me.u me.unit refl running refl refl here;
   })
 
+  -- every instruction is a step
   instruction_moves : (i : Instr) → Here i → Moves m (carried_out w a was i)
   instruction_moves (instr.Lit d n) here = lit_moves d n here
   instruction_moves (instr.Add d x y) here = add_moves d x y here

@@ -117,6 +117,7 @@ owed_by weight half u at status.Running = from_on weight u at
 owed_by weight half u at status.Arrived = half + from_on weight u (at + 1)
 owed_by weight half u at status.Ended = 0
 
+-- what an activity has still to pay
 abbrev pub owed : (Instr → ℕ) → ℕ → ModuleValue → Activity → ℕ
 owed weight half m act = option_map_or (λ u. owed_by weight half u act.frame.place act.status) (slice_get m.units act.frame.unit) 0
 

@@ -15,3 +15,4 @@ pub mod Opening
 pub mod Counts
 pub mod Reached
 pub mod SumRow
+pub mod Needed

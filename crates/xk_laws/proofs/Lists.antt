@@ -4,7 +4,6 @@ use Rattle.std.specs.Prelude.{slice_get}
 use Rattle.std.specs.List.{list_any, list_all}
 use Rattle.std.proofs.lemmas.List.Sums.{sum_by-set}
 use Rattle.std.proofs.lemmas.Option.{slice_get_within, get_or_from_slice_get, none-some, same_Some}
-use Rattle.std.proofs.lemmas.Bool.{or_parts}
 use Rattle.xk_laws.proofs.Invariant.{Each}
 
 -- two functions that agree everywhere are one
@@ -21,11 +20,13 @@ get_inside (x ∷ xs) (suc k) h = get_inside xs k (omega arith)
 pub get_once : {X : Type 0} (xs : List X) (k : ℕ) (x y : X) → slice_get xs k ≡ Some x → slice_get xs k ≡ Some y → x ≡ y
 get_once xs k x y p q = same_Some x y (sym p ∙ q)
 
+-- the element that was written
 pub get-set_same : {X : Type 0} (xs : List X) (i : ℕ) (x y : X) → slice_get xs i ≡ Some x → slice_get (set xs i y) i ≡ Some y
 get-set_same [] i x y h = absurd (none-some x h)
 get-set_same (z ∷ xs) zero x y h = refl
 get-set_same (z ∷ xs) (suc i) x y h = get-set_same xs i x y h
 
+-- all others stay
 pub get-set_other : {X : Type 0} (xs : List X) (i j : ℕ) (y : X) → (j ≡ i → ⊥) → slice_get (set xs i y) j ≡ slice_get xs j
 get-set_other [] i j y h = refl
 get-set_other (z ∷ xs) zero zero y h = absurd (h refl)
@@ -56,10 +57,12 @@ each_map f P [] all i y h = absurd (none-some y h)
 each_map f P (x ∷ xs) all zero y h = subst (P zero) (same_Some (f x) y h) (all zero x refl)
 each_map f P (x ∷ xs) all (suc i) y h = each_map f (λ j. P (suc j)) xs (λ j z. all (suc j) z) i y h
 
+-- the element that was pushed
 pub get_push : {X : Type 0} (xs : List X) (y : X) → slice_get (xs ++ y ∷ []) (length xs) ≡ Some y
 get_push [] y = refl
 get_push (x ∷ xs) y = get_push xs y
 
+-- all others stay
 pub get-push_other : {X : Type 0} (xs : List X) (y : X) (k : ℕ) → (k ≡ length xs → ⊥) → slice_get (xs ++ y ∷ []) k ≡ slice_get xs k
 get-push_other [] y zero h = absurd (h refl)
 get-push_other [] y (suc k) h = refl
@@ -77,12 +80,6 @@ any_found {X} test (x ∷ xs) h = go (test x) refl (any_found test xs) h
         → (b || list_any test xs) ≡ true → (k : ℕ) × (y : X) × (slice_get (x ∷ xs) k ≡ Some y) × (test y ≡ true)
     go true e later g = (zero, x, refl, e)
     go false e later g = let r = later g in (suc r.0, r.1, r.2, r.3)
-
--- none passes
-pub any_none : {X : Type 0} (test : X → Bool) (xs : List X) → list_any test xs ≡ false → Each (λ k x. test x ≡ false) xs
-any_none test [] h k x g = absurd (none-some x g)
-any_none test (y ∷ xs) h zero x g = rw (same_Some y x g) at ((or_parts (test y) (list_any test xs) h).0)
-any_none test (y ∷ xs) h (suc k) x g = any_none test xs ((or_parts (test y) (list_any test xs) h).1) k x g
 
 -- all pass
 pub all_given : {X : Type 0} (test : X → Bool) (xs : List X) → Each (λ k x. test x ≡ true) xs → list_all test xs ≡ true

@@ -45,6 +45,7 @@ main_entry m shape u found s =
 owing_one : (weight : Instr → ℕ) (half : ℕ) (m : ModuleValue) → owing weight half m (main_of m ∷ []) ≡ owed weight half m (main_of m)
 owing_one weight half m = let h = sum_by-cons (owed weight half m) (main_of m) [] in omega arith
 
+-- the opening world of an accepted module is sound
 pub opening_sound : (m : ModuleValue) → IsWithinLimits m → IsAccepted m → IsSound m (opening m)
 opening_sound m limits ok = record {
   activities = each_one (λ a act. IsActivitySound m (looks [] a) 0 0 act) (main_of m) main;

@@ -39,6 +39,7 @@ passed_near st since last now standing.Open before quiet h = ((refl, omega arith
 passed_near st since last now standing.Signalled before quiet h = absurd (grind arith)
 passed_near st since last now standing.Ahead before quiet h = ((refl, omega arith), λ g. absurd (false≢true g))
 
+-- an activity that has arrived and waits for nothing passes
 pass_moves : (m : ModuleValue) → IsAccepted m → (w : World) (a : ℕ) (was : Activity) → IsSound m w → slice_get w.activities a ≡ Some was → was.status ≡ status.Arrived
     → waits w a ≡ false → Moves m (done w a (past was (w.steps + 1)) (all passed) event.Passed)
 pass_moves m ok w a was sound found waiting free = done_sound m w a was (past was (w.steps + 1)) (all passed) sound found (record {
@@ -60,11 +61,13 @@ Keeps m Blocked = Unit {0}
 Keeps m (Wrong c) = ⊥
 Keeps m (Stepped v e) = IsSound m v
 
+-- a step that is taken is kept
 moves_keeps : (m : ModuleValue) (o : Outcome) → Moves m o → Keeps m o
 moves_keeps m Blocked h = absurd h
 moves_keeps m (Wrong c) h = absurd h
 moves_keeps m (Stepped v e) h = h
 
+-- and is a step
 moves_step : (m : ModuleValue) (o : Outcome) → Moves m o → is_step o ≡ true
 moves_step m Blocked h = absurd h
 moves_step m (Wrong c) h = absurd h

@@ -1,12 +1,12 @@
 -- Kinds: what the rows of the table give where they don't refuse, and how changes of standings move kinds.
-use Rattle.std.proofs.Common.{◌≡◌, ℕ, Bool, true, false, ◌==◌, ◌⊎◌, inl, inr, cond, refl, sym, ap, subst, arith, eqb-true, eq-eqb, ne_eqb}
+use Rattle.std.proofs.Common.{◌≡◌, ℕ, Bool, true, false, ◌==◌, inl, cond, refl, sym, ap, subst, arith, eqb-true, eq-eqb, ne_eqb}
 use Rattle.std.proofs.lemmas.Bool.{eqb-false}
 use Rattle.xk_types.specs.declared.names.Standing.{Standing}
 use Rattle.xk_types.specs.declared.names.Standing.TheVariants as standing
 use Rattle.xk_types.specs.declared.rules.Rule.TheVariants as rule
 use Rattle.xk_types.specs.declared.rules.Kind.{Kind}
 use Rattle.xk_types.specs.declared.rules.Kind.TheVariants as kind
-use Rattle.xk_types.specs.Step.{is_signalled, is_pending, resumed, passed, only}
+use Rattle.xk_types.specs.Step.{is_signalled, resumed, passed, only}
 use Rattle.xk_types.specs.Walk.{After, MayBecome, becomes, as_number, as_clock, overwritten, awake, reads, writes, uses}
 use Rattle.xk_laws.proofs.Invariant.{kind_by, is_held}
 use Rattle.xk_laws.proofs.Walks.{Allowed}
@@ -50,6 +50,7 @@ pub record IsWritten (row : After) (d : ℕ) (new : Kind) (s : ℕ) (k : Kind) :
   pub here : s ≡ d → (is_held k ≡ false) × MayBecome row new
   pub other : (s ≡ d → ⊥) → MayBecome row k
 
+-- where the row of a write doesn't refuse
 pub writes_row : (d : ℕ) (new : Kind) (s : ℕ) (k : Kind) → Allowed (writes d new s k) → IsWritten (writes d new s k) d new s k
 writes_row d new s k h = let r = cases (s == d) refl h in record { here = r.0; other = r.1 }
   where
@@ -65,6 +66,7 @@ pub record IsUsed (row : After) (c : ℕ) (new : Kind) (s : ℕ) (k : Kind) : Ty
   pub here : s ≡ c → (is_held k ≡ true) × MayBecome row new
   pub other : (s ≡ c → ⊥) → MayBecome row k
 
+-- where the row of a use doesn't refuse
 pub uses_row : (c : ℕ) (new : Kind) (s : ℕ) (k : Kind) → Allowed (uses c new s k) → IsUsed (uses c new s k) c new s k
 uses_row c new s k h = let r = cases (s == c) refl h in record { here = r.0; other = r.1 }
   where
@@ -91,6 +93,7 @@ resumed_held standing.Open h = refl
 resumed_held standing.Signalled h = refl
 resumed_held standing.Ahead h = refl
 
+-- a pass holds what was held
 pub passed_held : (s : Standing) → is_held (kind_by (passed s)) ≡ true → is_held (kind_by s) ≡ true
 passed_held standing.Apart h = h
 passed_held standing.Open h = refl
@@ -111,17 +114,11 @@ passed_awake standing.Open h = refl
 passed_awake standing.Signalled h = absurd (grind arith)
 passed_awake standing.Ahead h = refl
 
--- what is held is a standing in a clock's list
-pub held_standing : (s : Standing) → is_held (kind_by s) ≡ true → (is_signalled s ≡ true) ⊎ (is_pending s ≡ true)
-held_standing standing.Apart h = absurd (grind arith)
-held_standing standing.Open h = inr refl
-held_standing standing.Signalled h = inl refl
-held_standing standing.Ahead h = inr refl
-
 -- a change of one clock alone
 pub only_here : (c : ℕ) (f : Standing → Standing) (s : Standing) → only c f c s ≡ f s
 only_here c f s = ap (λ b. cond b (f s) s) (eq-eqb c c refl)
 
+-- all others stay
 pub only_other : (c : ℕ) (f : Standing → Standing) (k : ℕ) (s : Standing) → (k ≡ c → ⊥) → only c f k s ≡ s
 only_other c f k s h = ap (λ b. cond b (f s) s) (ne_eqb k c h)
 

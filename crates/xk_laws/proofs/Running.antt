@@ -42,6 +42,7 @@ module _ (m : ModuleValue) (stands : ℕ → Standing) (clocks now : ℕ) (was :
   pub unit_found : slice_get m.units was.frame.unit ≡ Some u
   unit_found = c.me.unit ∙ ap (λ x. Some x) c.unit
 
+  -- a frame has its unit's number of slots
   slots_length : length was.frame.slots ≡ u.slots
   slots_length = c.me.frame.slots ∙ ap (λ x. x.slots) c.unit
 
@@ -81,6 +82,7 @@ module _ (m : ModuleValue) (stands : ℕ → Standing) (clocks now : ℕ) (was :
     apart : (s t k : ℕ) → Names slots s k → Names slots t k → s ≡ t
     held : (k : ℕ) → is_held (new k) ≡ true → (s : ℕ) × Names slots s k
 
+  -- an instruction that goes on to the next
   straight : (new : ℕ → Kind) (count : ℕ) (slots : List Value) → is_ret i ≡ false → Has (successors i was.frame.place) (was.frame.place + 1)
       → AreNames new count slots → Turns new slots → IsNext m u new count (now + 1) was (onward (with_slots was slots))
   straight new count slots other on names turns = record {
@@ -121,6 +123,7 @@ module _ (m : ModuleValue) (stands : ℕ → Standing) (clocks now : ℕ) (was :
   abbrev Written : ℕ → Value → ℕ → Value → Type 0
   Written d v s x = ((s ≡ d) × (x ≡ v)) ⊎ ((s ≡ d → ⊥) × (slice_get was.frame.slots s ≡ Some x))
 
+  -- the slots after a write
   written : (d : ℕ) (old v : Value) → slice_get was.frame.slots d ≡ Some old → Each (Written d v) (set was.frame.slots d v)
   written d old v at = each_set (Written d v) was.frame.slots d old v at (inl (refl, refl)) (λ s x differs g. inr (differs, g))
 
@@ -141,6 +144,7 @@ module _ (m : ModuleValue) (stands : ℕ → Standing) (clocks now : ℕ) (was :
   written_apart d v count s t k fresh (inr p) (inl q) = let f = fresh k (sym q.1) in let h = c.me.frame.known s k p.1 in absurd (omega (arith, f.0))
   written_apart d v count s t k fresh (inr p) (inr q) = c.me.frame.apart s t k p.1 q.1
 
+  -- an instruction that writes slot d
   pub writing : (d : ℕ) (old v : Value) (kd : Kind) (new : ℕ → Kind) (count : ℕ) → slice_get was.frame.slots d ≡ Some old → is_ret i ≡ false → Has (successors i was.frame.place) (was.frame.place + 1)
       → IsWrite d v kd new count → IsNext m u new count (now + 1) was (onward (with_slots was (set was.frame.slots d v)))
   writing d old v kd new count at other on wr = straight new count (set was.frame.slots d v) other on
@@ -180,6 +184,7 @@ module _ (m : ModuleValue) (stands : ℕ → Standing) (clocks now : ℕ) (was :
 
   -- ---- a clock is used
 
+  -- an instruction that uses the clock k in slot x
   pub using : (x k : ℕ) (kd : Kind) (f : Standing → Standing) → Names was.frame.slots x k → is_ret i ≡ false → Has (successors i was.frame.place) (was.frame.place + 1)
       → ((s : ℕ) (old : Kind) → Allowed (after m u i s old) → IsUsed (after m u i s old) x kd s old)
       → (is_held (look k) ≡ true → kind_by (f (stands k)) ≡ kd)

@@ -1,10 +1,10 @@
 -- Where activities stand on clocks: what a change of one activity's standings leaves, a new clock, and an advance.
-use Rattle.std.proofs.Common.{◌≡◌, ℕ, zero, suc, ◌+◌, ◌<◌, ◌≤◌, Bool, true, false, not, ◌||◌, ◌&&◌, List, [], ◌∷◌, ◌++◌, map, length, get_or, replicate, Some, refl, sym, ap, ◌∙◌, subst, arith, length-set, get_or-set_same, get_or-set_other}
+use Rattle.std.proofs.Common.{◌≡◌, ℕ, zero, suc, ◌+◌, ◌<◌, Bool, true, false, not, ◌||◌, ◌&&◌, List, [], ◌∷◌, ◌++◌, map, length, get_or, replicate, Some, refl, sym, ap, ◌∙◌, subst, arith, length-set, get_or-set_same, get_or-set_other}
 use Rattle.std.specs.Prelude.{slice_get}
 use Rattle.std.specs.List.{list_any}
-use Rattle.std.specs.Option.{option_map, option_map_or}
+use Rattle.std.specs.Option.{option_map_or}
 use Rattle.std.proofs.lemmas.List.{length-replicate}
-use Rattle.std.proofs.lemmas.Option.{none-some, same_Some, slice_get_past}
+use Rattle.std.proofs.lemmas.Option.{none-some, same_Some}
 use Rattle.std.proofs.lemmas.Bool.{or_parts, and_parts, cond_both, not-true}
 use Rattle.xk_types.specs.declared.names.Standing.{Standing}
 use Rattle.xk_types.specs.declared.names.Standing.TheVariants as standing
@@ -49,19 +49,15 @@ any_at {X} test (x ∷ xs) (suc i) d e h = go (test x) (any_at test xs i d e h)
 
 -- ---- one activity's standings change
 
+-- where the one that changes stands
 pub stand_same : (a : ℕ) (f : Standing → Standing) (c : Clock) → a < length c.standings → standing_of (moved_on a f c) a ≡ f (standing_of c a)
 stand_same a f c h = get_or-set_same c.standings a (f (standing_of c a)) standing.Apart h
 
+-- where others stand
 pub stand_other : (a b : ℕ) (f : Standing → Standing) (c : Clock) → (b ≡ a → ⊥) → standing_of (moved_on a f c) b ≡ standing_of c b
 stand_other a b f c h = get_or-set_other c.standings a b (f (standing_of c a)) standing.Apart h
 
--- the clock at each place after it
-pub get-moved : (a : ℕ) (change : ℕ → Standing → Standing) (clocks : List Clock) (k : ℕ)
-    → slice_get (moved a change clocks) k ≡ option_map (moved_on a (change k)) (slice_get clocks k)
-get-moved a change [] k = refl
-get-moved a change (c ∷ cs) zero = refl
-get-moved a change (c ∷ cs) (suc k) = get-moved a (λ j. change (suc j)) cs k
-
+-- there are as many clocks
 pub length-moved : (a : ℕ) (change : ℕ → Standing → Standing) (clocks : List Clock) → length (moved a change clocks) ≡ length clocks
 length-moved a change [] = refl
 length-moved a change (c ∷ cs) = ap suc (length-moved a (λ j. change (suc j)) cs)
@@ -93,10 +89,6 @@ stands_on-moved_same a change (c ∷ cs) (suc k) w apart =
 pub stands_on_at : (clocks : List Clock) (a k : ℕ) (c : Clock) → slice_get clocks k ≡ Some c → stands_on clocks a k ≡ standing_of c a
 stands_on_at clocks a k c h = ap (λ o. option_map_or (λ x. standing_of x a) o standing.Apart) h
 
--- where there is none
-pub stands_on_past : (clocks : List Clock) (a k : ℕ) → length clocks ≤ k → stands_on clocks a k ≡ standing.Apart
-stands_on_past clocks a k h = ap (λ o. option_map_or (λ x. standing_of x a) o standing.Apart) (slice_get_past clocks k h)
-
 -- ---- a new clock
 
 -- its maker is open on it
@@ -113,6 +105,7 @@ apart_all (suc n) (suc b) = apart_all n b
 pub new_other : (n a b : ℕ) → (b ≡ a → ⊥) → standing_of (new_clock n a) b ≡ standing.Apart
 new_other n a b h = get_or-set_other (replicate n standing.Apart) a b standing.Open standing.Apart h ∙ apart_all n b
 
+-- a new clock has a standing for each activity
 pub new_width : (n a : ℕ) → length (new_clock n a).standings ≡ n
 new_width n a = length-set (replicate n standing.Apart) a standing.Open ∙ length-replicate n standing.Apart
 
@@ -128,6 +121,7 @@ stands_on-push_other n a b (c ∷ cs) (suc k) h = stands_on-push_other n a b cs 
 pub stands_on-push_old : (clocks : List Clock) (d : Clock) (a k : ℕ) → (k ≡ length clocks → ⊥) → stands_on (clocks ++ d ∷ []) a k ≡ stands_on clocks a k
 stands_on-push_old clocks d a k h = ap (λ o. option_map_or (λ x. standing_of x a) o standing.Apart) (get-push_other clocks d k h)
 
+-- where an activity stands on the clock that was pushed
 pub stands_on-push_new : (clocks : List Clock) (d : Clock) (a : ℕ) → stands_on (clocks ++ d ∷ []) a (length clocks) ≡ standing_of d a
 stands_on-push_new clocks d a = ap (λ o. option_map_or (λ x. standing_of x a) o standing.Apart) (get_push clocks d)
 
@@ -141,6 +135,7 @@ advanced_clock now c = record { phase = c.phase + 1; last = now; standings = map
 pub settled_cases : (now : ℕ) (c : Clock) (P : Clock → Type 0) → (is_ready c ≡ true → P (advanced_clock now c)) → (is_ready c ≡ false → P c) → P (settled_clock now c)
 settled_cases now c P yes' no' = cond_both (is_ready c) (advanced_clock now c) c P yes' no'
 
+-- where an activity stands on a clock that has advanced
 pub stand-advanced : (now : ℕ) (c : Clock) (b : ℕ) → standing_of (advanced_clock now c) b ≡ advanced (standing_of c b)
 stand-advanced now c b = get_or-map_any advanced c.standings b standing.Apart
 
@@ -151,10 +146,12 @@ kind-advanced standing.Open = refl
 kind-advanced standing.Signalled = refl
 kind-advanced standing.Ahead = refl
 
+-- nor does the end of a step
 settled_kind : (now : ℕ) (c : Clock) (b : ℕ) → kind_by (standing_of (settled_clock now c) b) ≡ kind_by (standing_of c b)
 settled_kind now c b = settled_cases now c (λ d. kind_by (standing_of d b) ≡ kind_by (standing_of c b))
     (λ e. ap kind_by (stand-advanced now c b) ∙ kind-advanced (standing_of c b)) (λ e. refl)
 
+-- on all clocks
 pub looks-settled : (now : ℕ) (clocks : List Clock) (a k : ℕ) → looks (map (settled_clock now) clocks) a k ≡ looks clocks a k
 looks-settled now [] a k = refl
 looks-settled now (c ∷ cs) a zero = settled_kind now c a
@@ -167,10 +164,12 @@ quiet standing.Open = refl
 quiet standing.Signalled = refl
 quiet standing.Ahead = refl
 
+-- nobody is signalled after an advance
 all_quiet : (xs : List Standing) → list_any is_signalled (map advanced xs) ≡ false
 all_quiet [] = refl
 all_quiet (s ∷ xs) = rw (quiet s) (all_quiet xs)
 
+-- a clock that has advanced isn't ready
 pub unready-advanced : (now : ℕ) (c : Clock) → is_ready (advanced_clock now c) ≡ false
 unready-advanced now c = rw (all_quiet c.standings) refl
 

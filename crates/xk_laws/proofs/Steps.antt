@@ -80,6 +80,7 @@ pub record IsLeft (m : ModuleValue) (w : World) (a : ℕ) (was act : Activity) (
   pub near : Each (λ k c. IsClockNear (set w.activities a act) (w.steps + 1) c) clocks
   pub paid : (spent : ℕ) × IsPaid m was act spent × (length clocks ≡ length w.clocks + spent)
 
+-- the world that such a step leaves, before its end
 abbrev pub left : World → ℕ → Activity → List Clock → World
 left w a act clocks = record w { activities = set w.activities a act; clocks = clocks }
 

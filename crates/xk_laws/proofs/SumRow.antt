@@ -19,6 +19,7 @@ use Rattle.xk_types.specs.Accepted.{IsAccepted, EverySchedule}
 use Rattle.xk_laws.proofs.Walks.{visited_closed}
 use Rattle.xk_laws.proofs.Reached.{every_schedule}
 
+-- its unit
 abbrev sum_unit : UnitValue
 sum_unit = record {
   kind = unit_kind.Main;
@@ -27,11 +28,13 @@ sum_unit = record {
   code = instr.Lit 0 (pos 2) ∷ instr.Lit 1 (pos 3) ∷ instr.Add 0 0 1 ∷ instr.Make 2 ∷ instr.Advance ∷ instr.Print 0 ∷ instr.Ret ∷ [];
 }
 
+-- the module
 abbrev pub sum_row : ModuleValue
 sum_row = record { shared = []; units = sum_unit ∷ [] }
 
 -- ---- shape
 
+-- no place of the unit breaks a rule
 shape_at : (r : Rule) (at : ℕ) → breaks_in r 0 sum_unit at ≡ false
 shape_at rule.Target at = refl
 shape_at rule.Block at = refl
@@ -73,6 +76,7 @@ shape_at rule.Activities at = refl
 shape_at rule.Clocks at = refl
 shape_at rule.Stack at = refl
 
+-- the module has the shape
 sum_shape : HasShape sum_row
 sum_shape r zero at = shape_at r at
 sum_shape r (suc unit) at = refl
@@ -130,6 +134,7 @@ goes_on (suc (suc zero)) (suc (suc (suc (suc (suc (suc zero)))))) at new h p k =
 goes_on (suc (suc zero)) (suc (suc (suc (suc (suc (suc (suc from))))))) at new h p k = absurd p
 goes_on (suc (suc (suc s))) from at new h p k = absurd (omega arith)
 
+-- a refusal
 abbrev is_refused : After → Bool
 is_refused (To kinds) = false
 is_refused (Refused r) = true
@@ -178,6 +183,7 @@ visited_at s h q v = visited_closed sum_row sum_unit s (λ p. p.kind ≡ kind_at
     (λ p r same e. goes_on s p.at r.at r.kind h e.place
     (subst (λ k. MayBecome (row sum_row sum_unit s (record { at = p.at; kind = k })) r.kind) same e.kind)) q v
 
+-- no walk ends at a refusal
 sum_kinds : (unit s : ℕ) (q : Visit) (r : Rule) → IsRefusedAt sum_row unit s q r → ⊥
 sum_kinds (suc unit) s q r h = none-some h.u h.found
 sum_kinds zero s q r h = by (same_Some sum_unit h.u h.found)
@@ -192,6 +198,7 @@ sum_kinds zero s q r h = by (same_Some sum_unit h.u h.found)
 
 -- ---- accepted
 
+-- the module is accepted
 pub sum_row_accepted : IsAccepted sum_row
 sum_row_accepted = record {
   shape = sum_shape;
@@ -199,6 +206,7 @@ sum_row_accepted = record {
   bounds = record { steps = omega arith; activities = omega arith; clocks = omega arith; stack = omega arith };
 }
 
+-- it is within the limits
 pub sum_row_limits : IsWithinLimits sum_row
 sum_row_limits = record {
   some = omega arith;

@@ -19,6 +19,7 @@ continues_on : (m : ModuleValue) (u : UnitValue) (s : ℕ) (p : Visit) (rest : L
 continues_on m u s p [] q c e = (e, tt)
 continues_on m u s p (r ∷ rest) q c e = (c.0, continues_on m u s r rest q c.1 e)
 
+-- its last stop is that one
 last_on : (p : Visit) (rest : List Visit) (q : Visit) → last_of p (rest ++ q ∷ []) ≡ q
 last_on p [] q = refl
 last_on p (r ∷ rest) q = last_on r rest q
