@@ -1,15 +1,14 @@
 -- Instructions: what is read is the value of what it names, and that value is read again.
-use Rattle.std.proofs.Common.{◌≡◌, ℕ, ℤ, Bool, true, false, cond, List, [], ◌∷◌, Option, Some, None, codes, refl, sym, ap, ◌∙◌, subst}
+use Rattle.std.proofs.Common.{◌≡◌, ℕ, ℤ, cond, List, [], ◌∷◌, Option, Some, codes, refl, ap, ◌∙◌, subst}
 use Rattle.std.specs.Bool.{⊤}
 use Rattle.std.specs.Str.{bytes_eq}
-use Rattle.std.proofs.lemmas.Slice.Eq.{bytes_eq-Decides}
-use Rattle.serde_json.specs.Data.{Data, string}
+use Rattle.serde_json.specs.Data.{Data}
 use Rattle.xk_types.specs.declared.instr.Instr.{Instr}
 use Rattle.xk_types.specs.declared.instr.Instr.TheVariants as instr
 use Rattle.xk_module.specs.ModuleText.{long, word, named, array_of, instr_value, IsWord, IsLong, IsInstrInRange}
 use Rattle.xk_module.specs.Named.{◌>>=◌, none_at, one_at, three_at, lit_at, instr_of, instr_at}
 use Rattle.xk_module.proofs.Lists.{listed-items_of}
-use Rattle.xk_module.proofs.Parts.{bind_some, word_takes, word_again, long_takes, long_again, array_takes, head_takes, end_takes, str_takes}
+use Rattle.xk_module.proofs.Parts.{bind_some, by_name, word_takes, word_again, long_takes, long_again, array_takes, head_takes, end_takes, str_takes}
 
 -- ---- shapes of operands
 
@@ -94,24 +93,19 @@ lit = record { takes = lit_takes; again = lit_again }
 
 -- ---- an instruction by its name
 
-by_test : (b : Bool) (first others : Option Instr) (i : Instr) (P : Type 0) → cond b first others ≡ Some i → (b ≡ true → first ≡ Some i → P) → (others ≡ Some i → P) → P
-by_test true first others i P e here there = here refl e
-by_test false first others i P e here there = there e
-
 -- the values are those of the instruction, whose words are in range
 abbrev IsValue : List ℕ → List Data → Instr → Type 0
 IsValue name operands i = (named name operands ≡ instr_value i) × IsInstrInRange i
 
 -- Where the name is this one, operands of the shape were read, and they make the instruction. Else it was read as another.
-by_name : {X : Type 0} {shape : List Data → Option X} {values : X → List Data} {P : X → Type 0} → IsShape shape values P
+by_shape : {X : Type 0} {shape : List Data → Option X} {values : X → List Data} {P : X → Type 0} → IsShape shape values P
     → (key : List ℕ) (make : X → Instr) → ((x : X) → P x → IsValue key (values x) (make x))
     → (name : List ℕ) (operands : List Data) (others : Option Instr) (i : Instr) → cond (bytes_eq name key) (shape operands >>= λ x. Some (make x)) others ≡ Some i
     → (others ≡ Some i → IsValue name operands i) → IsValue name operands i
-by_name {shape = shape} {values = values} s key make value name operands others i e there =
-    by_test _ _ _ i (IsValue name operands i) e (λ t e.
+by_shape {shape = shape} {values = values} s key make value name operands others i e there =
+    by_name name key _ _ i (IsValue name operands i) e (λ same_name e.
     let x = bind_some _ _ _ e in
     let taken = s.takes operands x.0 x.1 in
-    let same_name : name ≡ key = (bytes_eq-Decides name key).0 t in
     let same_operands : operands ≡ values x.0 = taken.0 in
     let same : make x.0 ≡ i = cc in
     rw (same_name, same_operands) (subst (IsValue key (values x.0)) same (value x.0 taken.1))) there
@@ -119,14 +113,14 @@ by_name {shape = shape} {values = values} s key make value name operands others 
 instr_of_takes : (name : List ℕ) (operands : List Data) (i : Instr) → instr_of name operands ≡ Some i → IsValue name operands i
 unfolding instr_of
 instr_of_takes name operands i e =
-    by_name lit (codes "lit") (λ x. instr.Lit x.0 x.1) (λ x p. (refl, p)) name operands _ i e (λ e.
-    by_name three (codes "add") (λ x. instr.Add x.0 x.1 x.2) (λ x p. (refl, p)) name operands _ i e (λ e.
-    by_name one (codes "print") instr.Print (λ x p. (refl, p)) name operands _ i e (λ e.
-    by_name one (codes "make") instr.Make (λ x p. (refl, p)) name operands _ i e (λ e.
-    by_name one (codes "resume") instr.Resume (λ x p. (refl, p)) name operands _ i e (λ e.
-    by_name one (codes "drop") instr.Drop (λ x p. (refl, p)) name operands _ i e (λ e.
-    by_name none (codes "advance") (λ _. instr.Advance) (λ x p. (refl, p)) name operands _ i e (λ e.
-    by_name none (codes "ret") (λ _. instr.Ret) (λ x p. (refl, p)) name operands _ i e (λ e.
+    by_shape lit (codes "lit") (λ x. instr.Lit x.0 x.1) (λ x p. (refl, p)) name operands _ i e (λ e.
+    by_shape three (codes "add") (λ x. instr.Add x.0 x.1 x.2) (λ x p. (refl, p)) name operands _ i e (λ e.
+    by_shape one (codes "print") instr.Print (λ x p. (refl, p)) name operands _ i e (λ e.
+    by_shape one (codes "make") instr.Make (λ x p. (refl, p)) name operands _ i e (λ e.
+    by_shape one (codes "resume") instr.Resume (λ x p. (refl, p)) name operands _ i e (λ e.
+    by_shape one (codes "drop") instr.Drop (λ x p. (refl, p)) name operands _ i e (λ e.
+    by_shape none (codes "advance") (λ _. instr.Advance) (λ x p. (refl, p)) name operands _ i e (λ e.
+    by_shape none (codes "ret") (λ _. instr.Ret) (λ x p. (refl, p)) name operands _ i e (λ e.
     absurd cc))))))))
 
 pub instr_takes : (d : Data) (i : Instr) → instr_at d ≡ Some i → (d ≡ instr_value i) × IsInstrInRange i

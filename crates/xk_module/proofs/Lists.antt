@@ -1,5 +1,5 @@
 -- Arrays and objects as lists.
-use Rattle.std.proofs.Common.{◌≡◌, ℕ, List, [], ◌∷◌, map, Some, Option, option_map, refl, sym, ap, ◌∙◌, String, string_bytes}
+use Rattle.std.proofs.Common.{◌≡◌, ℕ, List, [], ◌∷◌, Some, option_map, refl, sym, ap, ◌∙◌, String, string_bytes}
 use Rattle.std.specs.declared.alloc.Global.{Global}
 use Rattle.serde_json.specs.Data.{Data}
 use Rattle.serde_json.specs.Find.{as_array, as_object}

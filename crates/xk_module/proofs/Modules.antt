@@ -1,9 +1,8 @@
 -- The two laws: what is read is the value of a module, and the value of a module is read as that module.
-use Rattle.std.proofs.Common.{◌≡◌, ℕ, ℤ, Bool, true, false, cond, eqb, List, [], ◌∷◌, map, Option, Some, None, codes, refl, sym, ap, ◌∙◌, subst}
+use Rattle.std.proofs.Common.{◌≡◌, ℕ, ℤ, eqb, List, [], ◌∷◌, map, Some, codes, refl, sym, ap, ◌∙◌, subst}
 use Rattle.std.specs.Bool.{⊤}
 use Rattle.std.specs.List.{AllByRecursion}
 use Rattle.std.proofs.lemmas.Bool.{eqb-true}
-use Rattle.std.proofs.lemmas.Slice.Eq.{bytes_eq-Decides}
 use Rattle.serde_json.specs.Data.{Data, number, string}
 use Rattle.xk_types.specs.declared.instr.Instr.{Instr}
 use Rattle.xk_types.specs.declared.unit.UnitKind.{UnitKind}
@@ -11,18 +10,18 @@ use Rattle.xk_types.specs.declared.unit.UnitKind.TheVariants as unit_kind
 use Rattle.xk_types.specs.declared.unit.ParamKind.{ParamKind}
 use Rattle.xk_types.specs.declared.unit.ParamKind.TheVariants as param_kind
 use Rattle.xk_types.specs.Code.{UnitValue, ModuleValue, module_of}
-use Rattle.xk_module.specs.ModuleText.{long, word, array_of, object_of, instr_value, kind_value, letter, unit_value, module_value, IsWord, IsLong, IsInstrInRange, IsUnitInRange, IsInRange, Names}
+use Rattle.xk_module.specs.ModuleText.{long, word, array_of, object_of, instr_value, kind_value, letter, unit_value, module_value, IsLong, IsInstrInRange, IsUnitInRange, IsInRange, Names}
 use Rattle.xk_module.specs.Named.{each, long_at, instr_at, kind_of, kind_at, param_at, params_at, code_at, unit_at, version_at, shared_at, units_at, module_at}
 use Rattle.xk_module.proofs.Lists.{listed-items_of}
-use Rattle.xk_module.proofs.Parts.{bind_some, then, guard_some, number_takes, str_takes, u64_takes, word_takes, word_again, long_takes, long_again, array_takes, object_takes, then_others, end_takes, each_takes, each_again}
+use Rattle.xk_module.proofs.Parts.{bind_some, by_test, by_name, then, guard_some, number_takes, str_takes, u64_takes, word_takes, word_again, long_takes, long_again, array_takes, object_takes, then_others, end_takes, each_takes, each_again}
 use Rattle.xk_module.proofs.Instrs.{instr_takes, instr_again}
 
 -- ---- the kind and the parameters of a unit
 
 kind_of_takes : (name : List ℕ) (k : UnitKind) → kind_of name ≡ Some k → string name ≡ kind_value k
-kind_of_takes name unit_kind.Main e =
-    let g = guard_some _ _ _ e in
-    ap string ((bytes_eq-Decides name (codes "main")).0 g.0)
+kind_of_takes name k e =
+    by_name name (codes "main") _ _ k (string name ≡ kind_value k) e (λ same e. let h : unit_kind.Main ≡ k = cc in ap string same ∙ ap kind_value h) (λ e.
+    absurd cc)
 
 kind_takes : (d : Data) (k : UnitKind) → kind_at d ≡ Some k → d ≡ kind_value k
 unfolding kind_at
@@ -34,13 +33,11 @@ kind_again : (k : UnitKind) → kind_at (kind_value k) ≡ Some k
 unfolding kind_at
 kind_again unit_kind.Main = refl
 
-by_letter : (n : ℕ) (a b : Bool) (k : ParamKind) → (a ≡ true → n ≡ 110) → (b ≡ true → n ≡ 99) → cond a (Some param_kind.Number) (cond b (Some param_kind.Clock) None) ≡ Some k → n ≡ letter k
-by_letter n true b k h i e = let same : param_kind.Number ≡ k = cc in h refl ∙ ap letter same
-by_letter n false true k h i e = let same : param_kind.Clock ≡ k = cc in i refl ∙ ap letter same
-by_letter n false false k h i e = absurd cc
-
 param_takes : (n : ℕ) (k : ParamKind) → param_at n ≡ Some k → (n ≡ letter k) × ⊤
-param_takes n k e = (by_letter n _ _ k (eqb-true n 110) (eqb-true n 99) e, tt)
+param_takes n k e =
+    by_test (eqb n 110) _ _ k ((n ≡ letter k) × ⊤) e (λ t e. let h : param_kind.Number ≡ k = cc in (eqb-true n 110 t ∙ ap letter h, tt)) (λ e.
+    by_test (eqb n 99) _ _ k ((n ≡ letter k) × ⊤) e (λ t e. let h : param_kind.Clock ≡ k = cc in (eqb-true n 99 t ∙ ap letter h, tt)) (λ e.
+    absurd cc))
 
 param_again : (k : ParamKind) → ⊤ → param_at (letter k) ≡ Some k
 param_again param_kind.Number p = refl

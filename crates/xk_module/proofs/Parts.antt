@@ -1,12 +1,12 @@
 -- Parts of values: what is read is the value of what it names, and that value is read again.
-use Rattle.std.proofs.Common.{◌≡◌, ℕ, ℤ, pos, negsuc, ◌<◌, ◌^◌, Bool, true, false, cond, ltb, List, [], ◌∷◌, map, Option, Some, None, option_map, option_and_then, codes, refl, sym, ap, ◌∙◌, subst, arith}
+use Rattle.std.proofs.Common.{◌≡◌, ℕ, ℤ, pos, negsuc, ◌<◌, ◌^◌, Bool, true, false, cond, List, [], ◌∷◌, map, Option, Some, None, refl, sym, ap, ◌∙◌, subst}
 use Rattle.std.specs.Bool.{⊤}
 use Rattle.std.specs.List.{AllByRecursion}
 use Rattle.std.specs.Str.{bytes_eq}
 use Rattle.std.proofs.lemmas.Bool.{ltb-true, lt-ltb}
 use Rattle.std.proofs.lemmas.Slice.Eq.{bytes_eq-Decides}
 use Rattle.serde_json.specs.Data.{Num, unsigned, negative, float, Data, null, boolean, number, string, array, object, Items, no_items, item, Members, no_members, member}
-use Rattle.serde_json.specs.Find.{as_number, as_str, as_array, as_object, as_u64}
+use Rattle.serde_json.specs.Find.{as_number, as_str, as_u64}
 use Rattle.serde_json.specs.View.{items_of}
 use Rattle.xk_module.specs.ModuleText.{long, word, array_of, members_of, object_of, IsWord, IsLong}
 use Rattle.xk_module.specs.Named.{◌>>=◌, listed, listed_members, array_at, object_at, field_at, end_at, head_at, word_at, long_of, long_at, each}
@@ -26,6 +26,15 @@ then f None y P e go = absurd cc
 pub guard_some : {A : Type 0} (b : Bool) (x y : A) → cond b (Some x) None ≡ Some y → (b ≡ true) × (x ≡ y)
 guard_some true x y e = (refl, cc)
 guard_some false x y e = absurd cc
+
+-- a choice by a test
+pub by_test : {A : Type 0} (b : Bool) (first others : Option A) (y : A) (P : Type 0) → cond b first others ≡ Some y → (b ≡ true → first ≡ Some y → P) → (others ≡ Some y → P) → P
+by_test true first others y P e here there = here refl e
+by_test false first others y P e here there = there e
+
+-- a choice by a name
+pub by_name : {A : Type 0} (name key : List ℕ) (first others : Option A) (y : A) (P : Type 0) → cond (bytes_eq name key) first others ≡ Some y → (name ≡ key → first ≡ Some y → P) → (others ≡ Some y → P) → P
+by_name name key first others y P e here there = by_test (bytes_eq name key) first others y P e (λ t. here ((bytes_eq-Decides name key).0 t)) there
 
 pub number_takes : (d : Data) (n : Num) → as_number d ≡ Some n → d ≡ number n
 number_takes null n e = absurd cc

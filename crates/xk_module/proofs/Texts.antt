@@ -1,5 +1,5 @@
 -- What the laws say of texts.
-use Rattle.std.proofs.Common.{◌≡◌, ℕ, ◌<◌, List, [], ◌∷◌, length, Option, Some, None, Result, Ok, Err, IsOk, refl, sym, ap, ◌∙◌, subst, arith}
+use Rattle.std.proofs.Common.{◌≡◌, ℕ, ◌<◌, List, [], ◌∷◌, length, Some, None, Result, Ok, Err, IsOk, refl, sym, ◌∙◌, subst, arith}
 use Rattle.serde_json.specs.Data.{Data}
 use Rattle.serde_json.specs.Read.{read}
 use Rattle.serde_json.proofs.OnLiterals.{serde_json_on_literals}
@@ -9,7 +9,6 @@ use Rattle.xk_module.specs.ModuleText.{Names, IsText, IsJson, IsModuleText}
 use Rattle.xk_module.specs.Named.{Refuses, module_at}
 use Rattle.xk_module.specs.declared.fault.Refusal.{Refusal}
 use Rattle.xk_module.specs.declared.fault.Refusal.TheVariants as refusal
-use Rattle.xk_module.specs.declared.fault.ModuleFault.{ModuleFault}
 use Rattle.xk_module.specs.declared.fault.ModuleFault.TheVariants as fault
 use Rattle.xk_module.proofs.Modules.{module_takes, module_again, named_once}
 

@@ -19,7 +19,7 @@ use xk_types::Module;
 /// its operands: `["lit",d,n]`, `["add",d,a,b]`, `["print",a]`, `["make",k]`, `["resume",k]`, `["drop",k]`,
 /// `["advance"]`, `["ret"]`, where n is a whole number of 64 bits, signed, and the others are slots from 0 to 65,535.
 ///
-/// Keys and white space stand in any order; of a key that comes twice the last value counts. `1.0`, `1e0` and `-0` are
+/// Keys come in any order, and white space is free; of a key that comes twice the last value counts. `1.0`, `1e0` and `-0` are
 /// no whole numbers. The limits of a module count only where the whole value fits.
 ///
 /// What goes wrong is a `ModuleFault`. `OutOfMemory` comes where memory was refused and never else.
