@@ -3,3 +3,4 @@ pub mod Rows
 pub mod Units
 pub mod Breaches
 pub mod Measures
+pub mod Refusals

@@ -9,6 +9,9 @@ mod refusal;
 mod shape;
 mod verified;
 
+#[cfg(test)]
+mod tests;
+
 pub use kind_set::KindSet;
 pub use refusal::{BoundFault, KindFault, Refusal, ShapeFault};
 pub use verified::{Verified, verify};

@@ -43,6 +43,7 @@ impl Model for Verified {
 pub fn verify(alloc: Global, m: Module) -> Result<Verified, (Module, Refusal)>
     ensures accepted { IfOk result (λ v. (v ≡ m) × IsAccepted m) }
     ensures refused { IfErr result (λ e. (e.0 ≡ m) × Refuses m e.1) }
+    ensures never_wrongly { IsAccepted m → IfErr result (λ e. e.1 ≡ Refusal.OutOfMemory) }
 {
     match check(alloc, &m) {
         Ok(bounds) => Ok(Verified { checked: m, bounds }),
