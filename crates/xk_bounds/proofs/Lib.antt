@@ -1,0 +1,5 @@
+pub mod Walks
+pub mod Rows
+pub mod Units
+pub mod Breaches
+pub mod Measures

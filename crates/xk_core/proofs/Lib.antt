@@ -1,0 +1,4 @@
+pub mod Clocks
+pub mod Arms
+pub mod Ableness
+pub mod Cores

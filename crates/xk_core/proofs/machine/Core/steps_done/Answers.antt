@@ -1,0 +1,10 @@
+use Rattle.std.proofs.Common.{◌≤◌, subst}
+use Rattle.xk_types.specs.Bound.{steps_bound}
+use Rattle.xk_core.specs.Core.{CoreValue}
+use Rattle.xk_core.proofs.Cores.{core_bound}
+use Rattle.xk_core.proofs.machine.Core.steps_done.Goals as goal
+
+pub returns-clause-bound : goal.returns-clause-bound
+returns-clause-bound c = rw c.steps.ensures
+    (subst (λ (v : CoreValue). c.self.inside.state.steps ≤ steps_bound v.module_run) c.self.view_is
+      (core_bound c.self.inside.verified.now c.self.inside.state c.self.invariant))

@@ -1,0 +1,76 @@
+-- What an instruction does to its own activity, and what a step owes to the machine's number types.
+use Rattle.std.specs.Prelude.{◌≡◌, ℕ, ℤ, ◌+◌, ◌<◌, ◌^◌, true, Option, Some, None, length, slice_get, slice_set, All}
+use Rattle.std.specs.Int.{w64, int_wrapping_add}
+use Rattle.xk_types.specs.declared.instr.Instr.{Instr}
+use Rattle.xk_types.specs.declared.instr.Instr.TheVariants as instr
+use Rattle.xk_types.specs.declared.names.Value.{Value}
+use Rattle.xk_types.specs.declared.names.Value.TheVariants as value
+use Rattle.xk_types.specs.declared.names.Event.{Event}
+use Rattle.xk_types.specs.declared.names.Event.TheVariants as event
+use Rattle.xk_types.specs.World.{Activity, World}
+use Rattle.xk_types.specs.Step.{Outcome, Blocked, carried_out, passing, slot_at, onward, with_slots, arrived, ended}
+use Rattle.xk_core.specs.declared.change.Move.TheVariants as move
+use Rattle.xk_core.specs.declared.change.Change.{Change}
+use Rattle.xk_core.specs.declared.change.Change.TheVariants as change
+
+-- the slot holds a number, or names a clock
+abbrev pub IsNumberAt : Activity → ℕ → Type 0
+IsNumberAt act s = (n : ℤ) × (slot_at act s ≡ Some (value.Number n))
+
+abbrev pub IsClockAt : Activity → ℕ → Type 0
+IsClockAt act s = (c : ℕ) × (slot_at act s ≡ Some (value.Clock c))
+
+-- the activity has what the instruction works on; `make` concerns more than one activity
+abbrev pub CanCarry : Activity → Instr → Type 0
+CanCarry act (instr.Lit d n) = d < length act.frame.slots
+CanCarry act (instr.Add d x y) = IsNumberAt act x × IsNumberAt act y × (d < length act.frame.slots)
+CanCarry act (instr.Print x) = IsNumberAt act x
+CanCarry act (instr.Make d) = ⊥
+CanCarry act (instr.Resume k) = IsClockAt act k
+CanCarry act (instr.Drop k) = IsClockAt act k
+CanCarry act instr.Advance = Unit {0}
+CanCarry act instr.Ret = Unit {0}
+
+-- the activity after it has written a slot
+abbrev pub put : Activity → ℕ → Value → Activity
+put act d v = onward (with_slots act (slice_set act.frame.slots d v))
+
+-- The instruction leaves the activity so, changes its standings so, and is seen so.
+abbrev pub Carries : Activity → Instr → Activity → Change → Event → Type 0
+Carries act (instr.Lit d n) next ch e = (next ≡ put act d (value.Number n)) × (ch ≡ change.Nothing) × (e ≡ event.Local)
+Carries act (instr.Add d x y) next ch e =
+    (p : ℤ) × (q : ℤ) × (slot_at act x ≡ Some (value.Number p)) × (slot_at act y ≡ Some (value.Number q))
+    × (next ≡ put act d (value.Number (int_wrapping_add w64 p q))) × (ch ≡ change.Nothing) × (e ≡ event.Local)
+Carries act (instr.Print x) next ch e =
+    (p : ℤ) × (slot_at act x ≡ Some (value.Number p)) × (next ≡ onward act) × (ch ≡ change.Nothing) × (e ≡ event.Printed p)
+Carries act (instr.Make d) next ch e = ⊥
+Carries act (instr.Resume k) next ch e =
+    (c : ℕ) × (slot_at act k ≡ Some (value.Clock c)) × (next ≡ onward act) × (ch ≡ change.Only c move.Resume) × (e ≡ event.Resumed)
+Carries act (instr.Drop k) next ch e =
+    (c : ℕ) × (slot_at act k ≡ Some (value.Clock c)) × (next ≡ onward act) × (ch ≡ change.Only c move.Drop) × (e ≡ event.Dropped)
+Carries act instr.Advance next ch e = (next ≡ arrived act) × (ch ≡ change.All move.Resume) × (e ≡ event.Arrived)
+Carries act instr.Ret next ch e = (next ≡ ended act) × (ch ≡ change.All move.Drop) × (e ≡ event.Ended)
+
+abbrev pub carried_by : World → ℕ → Instr → Option Activity → Outcome
+carried_by w a i None = Blocked
+carried_by w a i (Some act) = carried_out w a act i
+
+-- what activity a does at an instruction
+abbrev pub carried : World → ℕ → Instr → Outcome
+carried w a i = carried_by w a i (slice_get w.activities a)
+
+abbrev pub passing_by : World → ℕ → Option Activity → Outcome
+passing_by w a None = Blocked
+passing_by w a (Some act) = passing w a act
+
+-- what activity a does when it waits at an `advance`
+abbrev pub passed_on : World → ℕ → Outcome
+passed_on w a = passing_by w a (slice_get w.activities a)
+
+-- One more step, phase, clock and instruction fits its type, and each clock knows where each activity stands.
+pub record IsRoomy (w : World) (a : ℕ) : Type 0 where
+  pub steps : w.steps + 1 < 2 ^ 64
+  pub phases : All (λ c. c.phase + 1 < 2 ^ 64) w.clocks
+  pub clocks : length w.clocks + 1 < 2 ^ 32
+  pub place : (act : Activity) → slice_get w.activities a ≡ Some act → act.frame.place + 1 < 2 ^ 16
+  pub standings : All (λ c. length c.standings ≡ length w.activities) w.clocks

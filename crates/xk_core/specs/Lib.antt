@@ -1,0 +1,5 @@
+pub mod Change
+pub mod Arm
+pub mod Able
+pub mod Opening
+pub mod Core

@@ -1,0 +1,220 @@
+//! An activity: its frame, and how it stands.
+
+ghost use Rattle.std.specs.Prelude.{◌≡◌, ℕ, ℤ, ◌+◌, ◌<◌, ◌^◌, length, Some, slice_set};
+ghost use Rattle.xk_types.specs.declared.names.Value.TheVariants as value;
+ghost use Rattle.xk_types.specs.declared.instr.Instr.TheVariants as instr;
+ghost use Rattle.xk_types.specs.Step.{slot_at, onward, with_slots, arrived, ended, past};
+ghost use Rattle.xk_types.specs.Schedule.{is_ended};
+ghost use Rattle.xk_core.specs.declared.change.Change.TheVariants as change;
+ghost use Rattle.xk_core.specs.Arm.{IsClockAt, CanCarry, Carries};
+
+use crate::change::{Change, Move};
+use std::marker::Model;
+use xk_types::{ClockId, Event, Instr, Status, Value};
+
+/// A unit in progress: the instruction that it stands at, and its slots.
+#[derive(Drop)]
+pub struct Frame {
+    unit: u16,
+    place: u16,
+    slots: Vec<Value>,
+}
+
+impl Model for Frame {
+    ghost use Rattle.xk_types.specs.World as world;
+
+    ghost Value = { world.Frame };
+
+    ghost view = { λ f. record { unit = f.unit; place = f.place; slots = f.slots.items } };
+}
+
+impl Frame {
+    /// The unit of this number before its first step, with these slots.
+    pub fn new(unit: u16, slots: Vec<Value>) -> Frame
+        ensures { result ≡ record { unit = unit; place = 0; slots = slots.items } }
+    {
+        Frame { unit, place: 0, slots }
+    }
+}
+
+/// An activity. In this machine it has one frame, and no finish but the one that governs main.
+#[derive(Drop)]
+pub struct Activity {
+    frame: Frame,
+    status: Status,
+    since: u64,
+}
+
+impl Model for Activity {
+    ghost use Rattle.std.specs.Prelude.{[]};
+    ghost use Rattle.xk_types.specs.World as world;
+
+    ghost Value = { world.Activity };
+
+    ghost view = { λ a. record { frame = a.frame; callers = []; status = a.status; since = a.since; opened = 0; governed = world.root } };
+}
+
+impl Activity {
+    ghost use Rattle.std.specs.Prelude.{[]};
+    ghost use Rattle.xk_types.specs.World.{root};
+    ghost use Rattle.xk_types.specs.declared.names.Status.TheVariants as status;
+
+    /// An activity before its first step.
+    pub fn new(frame: Frame, since: u64) -> Activity
+        ensures { result ≡ record { frame = frame; callers = []; status = status.Running; since = since; opened = 0; governed = root } }
+    {
+        Activity {
+            frame,
+            status: Status::Running,
+            since,
+        }
+    }
+
+    /// The unit that it runs.
+    pub fn unit(&self) -> u16
+        ensures { result ≡ self.now.frame.unit }
+    {
+        self.frame.unit
+    }
+
+    /// The instruction that it stands at.
+    pub fn place(&self) -> u16
+        ensures { result ≡ self.now.frame.place }
+    {
+        self.frame.place
+    }
+
+    pub fn status(&self) -> Status
+        ensures { result ≡ self.now.status }
+    {
+        self.status
+    }
+
+    /// The number of the step of its last pass.
+    pub fn since(&self) -> u64
+        ensures { result ≡ self.now.since }
+    {
+        self.since
+    }
+
+    /// Whether it is over.
+    pub fn is_ended(&self) -> bool
+        ensures { result ≡ is_ended self.now.status }
+    {
+        matches!(self.status, Status::Ended)
+    }
+
+    /// The number in a slot that holds one.
+    pub fn number(&self, s: u16) -> i64
+        requires { (n : ℤ) × (slot_at self.now s ≡ Some (value.Number n)) }
+        ensures { slot_at self.now s ≡ Some (value.Number result) }
+    {
+        match self.frame.slots.get(s as usize) {
+            Some(Value::Number(n)) => *n,
+            _ => unreachable!(),
+        }
+    }
+
+    /// The clock that a slot names which names one.
+    pub fn clock(&self, s: u16) -> ClockId
+        requires { (c : ℕ) × (slot_at self.now s ≡ Some (value.Clock c)) }
+        ensures { slot_at self.now s ≡ Some (value.Clock result) }
+    {
+        match self.frame.slots.get(s as usize) {
+            Some(Value::Clock(c)) => *c,
+            _ => unreachable!(),
+        }
+    }
+
+    /// On to the next instruction.
+    pub fn go_on(&mut self)
+        requires { self.old.frame.place + 1 < 2 ^ 16 }
+        ensures { self.new ≡ onward self.old }
+    {
+        self.frame.place += 1;
+    }
+
+    /// Writes a slot, and goes on to the next instruction.
+    pub fn put(&mut self, d: u16, v: Value)
+        requires place { self.old.frame.place + 1 < 2 ^ 16 }
+        requires slot { d < length self.old.frame.slots }
+        ensures { self.new ≡ onward (with_slots self.old (slice_set self.old.frame.slots d v)) }
+    {
+        self.frame.slots[d as usize] = v;
+        self.frame.place += 1;
+    }
+
+    /// Comes to wait at an `advance`.
+    pub fn arrive(&mut self)
+        ensures { self.new ≡ arrived self.old }
+    {
+        self.status = Status::Arrived;
+    }
+
+    /// Is over.
+    pub fn end(&mut self)
+        ensures { self.new ≡ ended self.old }
+    {
+        self.status = Status::Ended;
+    }
+
+    /// Goes on behind an `advance`, in the step of this number.
+    pub fn pass(&mut self, now: u64)
+        requires { self.old.frame.place + 1 < 2 ^ 16 }
+        ensures { self.new ≡ past self.old now }
+    {
+        self.frame.place += 1;
+        self.status = Status::Running;
+        self.since = now;
+    }
+
+    /// Carries out an instruction that concerns this activity and its standings alone.
+    pub fn carry_out(&mut self, instr: Instr) -> (Change, Event)
+        requires place { self.old.frame.place + 1 < 2 ^ 16 }
+        requires operands { CanCarry self.old instr }
+        ensures { Carries self.old instr self.new result.0 result.1 }
+    {
+        match instr {
+            Instr::Lit(d, n) => self.write(d, n),
+            Instr::Add(d, x, y) => self.write(d, self.number(x).wrapping_add(self.number(y))),
+            Instr::Print(x) => {
+                let n = self.number(x);
+                self.go_on();
+                (Change::Nothing, Event::Printed(n))
+            }
+            Instr::Make(_) => unreachable!(),
+            Instr::Resume(k) => (self.operate(k, Move::Resume), Event::Resumed),
+            Instr::Drop(k) => (self.operate(k, Move::Drop), Event::Dropped),
+            Instr::Advance => {
+                self.arrive();
+                (Change::All(Move::Resume), Event::Arrived)
+            }
+            Instr::Ret => {
+                self.end();
+                (Change::All(Move::Drop), Event::Ended)
+            }
+        }
+    }
+
+    /// Writes a number, which nobody sees.
+    fn write(&mut self, d: u16, n: i64) -> (Change, Event)
+        requires place { self.old.frame.place + 1 < 2 ^ 16 }
+        requires slot { d < length self.old.frame.slots }
+        ensures { Carries self.old (instr.Lit d n) self.new result.0 result.1 }
+    {
+        self.put(d, Value::Number(n));
+        (Change::Nothing, Event::Local)
+    }
+
+    /// Goes on, and makes this move on the clock in slot k.
+    fn operate(&mut self, k: u16, what: Move) -> Change
+        requires place { self.old.frame.place + 1 < 2 ^ 16 }
+        requires clock { IsClockAt self.old k }
+        ensures going { self.new ≡ onward self.old }
+        ensures change { (c : ℕ) × (slot_at self.old k ≡ Some (value.Clock c)) × (result ≡ change.Only c what) }
+    {
+        let c = self.clock(k);
+        self.go_on();
+        Change::Only(c.0 as usize, what)
+    }
+}

@@ -1,0 +1,112 @@
+//! A clock: its phase, and where each activity stands on it.
+
+ghost use Rattle.std.specs.Prelude.{◌≡◌, ◌+◌, ◌<◌, ◌^◌, length, map, IfOk};
+ghost use Rattle.std.specs.List.{list_any};
+ghost use Rattle.xk_types.specs.World.{standing_of};
+ghost use Rattle.xk_types.specs.Step.{new_clock, moved_on, is_ready, is_signalled, is_pending, settled_clock, advanced};
+ghost use Rattle.xk_core.specs.Change.{after_change};
+
+use crate::change::{Change, advance, is_pending, is_signalled};
+use std::alloc::{AllocError, Global};
+use std::marker::Model;
+use xk_types::Standing;
+
+#[derive(Drop)]
+pub struct Clock {
+    phase: u64,
+    last: u64,
+    standings: Vec<Standing>,
+}
+
+impl Model for Clock {
+    ghost use Rattle.xk_types.specs.World as world;
+
+    ghost Value = { world.Clock };
+
+    ghost view = { λ c. record { phase = c.phase; last = c.last; standings = c.standings.items } };
+}
+
+impl Clock {
+    /// A clock that activity a of n has made.
+    pub fn made(alloc: Global, n: usize, a: usize) -> Result<Clock, AllocError>
+        requires { a < n }
+        ensures { IfOk result (λ c. c ≡ new_clock n a) }
+    {
+        let mut standings = vec![in alloc; Standing::Apart; n]?;
+        standings[a] = Standing::Open;
+        Ok(Clock {
+            phase: 0,
+            last: 0,
+            standings,
+        })
+    }
+
+    /// How often the clock has advanced.
+    pub fn phase(&self) -> u64
+        ensures { result ≡ self.now.phase }
+    {
+        self.phase
+    }
+
+    /// The number of the step in which it last advanced, 0 before.
+    pub fn last(&self) -> u64
+        ensures { result ≡ self.now.last }
+    {
+        self.last
+    }
+
+    /// Where activity a stands.
+    pub fn standing(&self, a: usize) -> Standing
+        ensures { result ≡ standing_of self.now a }
+    {
+        self.standings.get(a).copied().unwrap_or(Standing::Apart)
+    }
+
+    /// Changes the standing of activity a, this clock being number k.
+    pub fn change(&mut self, a: usize, k: usize, change: Change)
+        requires { a < length self.old.standings }
+        ensures { self.new ≡ moved_on a (after_change change k) self.old }
+    {
+        self.standings[a] = change.of(k, self.standings[a]);
+    }
+
+    /// Whether somebody is registered, and all who are have resumed.
+    pub fn is_ready(&self) -> bool
+        ensures { result ≡ is_ready self.now }
+    {
+        some_signalled(&self.standings) && !some_pending(&self.standings)
+    }
+
+    /// Advances where it is ready, in the step of this number.
+    pub fn settle(&mut self, now: u64)
+        requires { self.old.phase + 1 < 2 ^ 64 }
+        ensures { self.new ≡ settled_clock now self.old }
+    {
+        if self.is_ready() {
+            self.phase += 1;
+            self.last = now;
+            advance_all(&mut self.standings);
+        }
+    }
+}
+
+fn some_signalled(standings: &[Standing]) -> bool
+    ensures { result ≡ list_any is_signalled standings.now }
+{
+    standings.iter().any(|s| is_signalled(*s))
+}
+
+fn some_pending(standings: &[Standing]) -> bool
+    ensures { result ≡ list_any is_pending standings.now }
+{
+    standings.iter().any(|s| is_pending(*s))
+}
+
+/// The standings once the clock has advanced.
+fn advance_all(standings: &mut Vec<Standing>)
+    ensures { standings.new.items ≡ map advanced standings.old.items }
+{
+    for s in standings.iter_mut() {
+        *s = advance(*s);
+    }
+}

@@ -1,0 +1,12 @@
+//! The running machine: one world, stepped by activity numbers.
+#![tactic(auto)]
+
+mod activity;
+mod change;
+mod clock;
+pub mod laws;
+mod machine;
+mod state;
+
+
+pub use machine::Core;

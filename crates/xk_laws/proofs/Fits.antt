@@ -1,0 +1,67 @@
+-- What the shape of an accepted module gives: its units fit.
+use Rattle.std.proofs.Common.{◌≡◌, ℕ, zero, suc, ◌+◌, ◌<◌, Bool, true, false, not, ◌==◌, ◌||◌, ◌&&◌, inl, inr, List, [], ◌∷◌, length, Some, sym, ap, ◌∙◌, arith, ltb-true}
+use Rattle.std.specs.Prelude.{slice_get, nat_lt}
+use Rattle.std.specs.List.{list_all}
+use Rattle.std.proofs.lemmas.Bool.{eqb-false, or_parts, and_parts, not-false}
+use Rattle.std.proofs.lemmas.Option.{slice_get_within}
+use Rattle.xk_types.specs.declared.instr.Instr.{Instr}
+use Rattle.xk_types.specs.declared.rules.Rule.{Rule}
+use Rattle.xk_types.specs.declared.rules.Rule.TheVariants as rule
+use Rattle.xk_types.specs.Code.{UnitValue, ModuleValue}
+use Rattle.xk_types.specs.Order.{Has}
+use Rattle.xk_types.specs.Shape.{slots_named, is_ret, instr_is, breaks_unit_of, breaks_in, breaks_end, HasShape}
+
+-- a unit that fits
+pub record IsFit (u : UnitValue) : Type 0 where
+  -- there is a first instruction
+  pub some : 0 < length u.code
+  -- the slots that an instruction names are the unit's
+  pub slots : (i : Instr) (at s : ℕ) → slice_get u.code at ≡ Some i → Has (slots_named i) s → s < u.slots
+  -- behind each instruction but `ret` stands another
+  pub next : (i : Instr) (at : ℕ) → slice_get u.code at ≡ Some i → is_ret i ≡ false → at + 1 < length u.code
+
+-- what all of a list pass, its elements pass
+all_has : (test : ℕ → Bool) (xs : List ℕ) (x : ℕ) → list_all test xs ≡ true → Has xs x → test x ≡ true
+all_has test [] x h g = absurd g
+all_has test (y ∷ xs) x h (inl e) = rw (← e) (and_parts (test y) (list_all test xs) h).0
+all_has test (y ∷ xs) x h (inr g) = all_has test xs x (and_parts (test y) (list_all test xs) h).1 g
+
+-- no place of a known unit breaks a rule
+pub unbroken : (m : ModuleValue) → HasShape m → (r : Rule) (unit : ℕ) (u : UnitValue) → slice_get m.units unit ≡ Some u → (at : ℕ) → breaks_in r unit u at ≡ false
+unbroken m shape r unit u found at = ap (λ o. breaks_unit_of r unit o at) (sym found) ∙ shape r unit at
+
+-- the two halves of the rule on the end that are used: an instruction that isn't `ret` isn't the last, and there is one
+abbrev last_but_ret : UnitValue → ℕ → Instr → Bool
+last_but_ret u at i = not (is_ret i) && (at + 1 == length u.code)
+
+abbrev ret_but_last : UnitValue → ℕ → Instr → Bool
+ret_but_last u at i = is_ret i && nat_lt (at + 1) (length u.code)
+
+ends_well : (u : UnitValue) (at : ℕ) → breaks_end u at ≡ false → (instr_is (last_but_ret u at) (slice_get u.code at) ≡ false) × (((at == 0) && (length u.code == 0)) ≡ false)
+ends_well u at h =
+    let p = or_parts (instr_is (ret_but_last u at) (slice_get u.code at) || instr_is (last_but_ret u at) (slice_get u.code at)) ((at == 0) && (length u.code == 0)) h in
+    ((or_parts (instr_is (ret_but_last u at) (slice_get u.code at)) (instr_is (last_but_ret u at) (slice_get u.code at)) p.0).1, p.1)
+
+-- one number below another, or the same
+next_below : (at n : ℕ) → at < n → (at + 1 == n) ≡ false → at + 1 < n
+next_below at n h e = let g = eqb-false (at + 1) n e in omega arith
+
+-- the units of a module that has the shape fit
+pub unit_fits : (m : ModuleValue) → HasShape m → (unit : ℕ) (u : UnitValue) → slice_get m.units unit ≡ Some u → IsFit u
+unit_fits m shape unit u found = record {
+  some = go (length u.code) (ends_well u 0 (end_ok 0)).1;
+  slots = λ i at s here named. ltb-true s u.slots (all_has (λ t. nat_lt t u.slots) (slots_named i) s
+      (not-false (list_all (λ t. nat_lt t u.slots) (slots_named i)) (ap (instr_is (λ j. not (list_all (λ t. nat_lt t u.slots) (slots_named j)))) (sym here) ∙ slots_ok at)) named);
+  next = λ i at here other. next_below at (length u.code) (slice_get_within u.code at i here)
+      (rw other at (ap (instr_is (last_but_ret u at)) (sym here) ∙ (ends_well u at (end_ok at)).0));
+}
+  where
+    slots_ok : (at : ℕ) → breaks_in rule.Slot unit u at ≡ false
+    slots_ok at = unbroken m shape rule.Slot unit u found at
+
+    end_ok : (at : ℕ) → breaks_in rule.End unit u at ≡ false
+    end_ok at = unbroken m shape rule.End unit u found at
+
+    go : (n : ℕ) → (n == 0) ≡ false → 0 < n
+    go zero e = absurd (grind arith)
+    go (suc n) e = omega arith

@@ -1,0 +1,136 @@
+-- The invariant of worlds: what holds in each world that a legal schedule of an accepted module leads to.
+use Rattle.std.specs.Prelude.{◌≡◌, ℕ, ◌+◌, ◌<◌, ◌≤◌, Bool, true, false, List, [], length, drop, Some, slice_get, sum_by}
+use Rattle.std.specs.Option.{option_map_or}
+use Rattle.xk_types.specs.declared.instr.Instr.{Instr}
+use Rattle.xk_types.specs.declared.instr.Instr.TheVariants as instr
+use Rattle.xk_types.specs.declared.names.Value.{Value}
+use Rattle.xk_types.specs.declared.names.Value.TheVariants as value
+use Rattle.xk_types.specs.declared.names.Status.{Status}
+use Rattle.xk_types.specs.declared.names.Status.TheVariants as status
+use Rattle.xk_types.specs.declared.names.Standing.{Standing}
+use Rattle.xk_types.specs.declared.names.Standing.TheVariants as standing
+use Rattle.xk_types.specs.declared.rules.Kind.{Kind}
+use Rattle.xk_types.specs.declared.rules.Kind.TheVariants as kind
+use Rattle.xk_types.specs.Code.{UnitValue, ModuleValue}
+use Rattle.xk_types.specs.World.{Frame, Activity, Clock, World, root, standing_of}
+use Rattle.xk_types.specs.Step.{is_ready}
+use Rattle.xk_types.specs.Schedule.{is_ended}
+use Rattle.xk_types.specs.Walk.{IsVisited, awake}
+use Rattle.xk_types.specs.Bound.{steps_weight, activities_weight, clocks_weight, steps_bound, activities_bound, clocks_bound}
+
+-- something holds of each element, under its number
+abbrev pub Each : {X : Type 0} → (ℕ → X → Type 0) → List X → Type 0
+Each {X} P xs = (i : ℕ) (x : X) → slice_get xs i ≡ Some x → P i x
+
+-- ---- clocks
+
+-- where activity a stands on clock number k
+abbrev pub stands_on : List Clock → ℕ → ℕ → Standing
+stands_on clocks a k = option_map_or (λ c. standing_of c a) (slice_get clocks k) standing.Apart
+
+-- What holds between an activity and a clock that last advanced in step `last`, by where the activity stands on it.
+abbrev pub Stands : Status → ℕ → ℕ → Standing → Type 0
+Stands st since last standing.Apart = Unit {0}
+Stands st since last standing.Open = (st ≡ status.Running) × (last ≤ since)
+Stands st since last standing.Signalled = (is_ended st ≡ false) × (last ≤ since)
+Stands st since last standing.Ahead = (is_ended st ≡ false) × (since < last)
+
+-- a clock in a world with these activities after so many steps
+pub record IsClockSound (activities : List Activity) (now : ℕ) (c : Clock) : Type 0 where
+  pub width : length c.standings ≡ length activities
+  pub last : c.last ≤ now
+  pub phase : c.phase ≤ c.last
+  pub unready : is_ready c ≡ false
+  pub stands : Each (λ b act. Stands act.status act.since c.last (standing_of c b)) activities
+
+-- ---- activities
+
+-- the kind of a slot that names a clock, by where the activity stands on the clock
+abbrev pub kind_by : Standing → Kind
+kind_by standing.Apart = kind.Out
+kind_by standing.Open = kind.Live
+kind_by standing.Signalled = kind.Resumed
+kind_by standing.Ahead = kind.Resumed
+
+-- the kind of a clock's name, for each clock, as activity a stands
+abbrev pub looks : List Clock → ℕ → ℕ → Kind
+looks clocks a k = kind_by (stands_on clocks a k)
+
+-- the kind of what a slot holds
+abbrev pub kind_of : (ℕ → Kind) → Value → Kind
+kind_of look value.Unset = kind.Unset
+kind_of look (value.Number n) = kind.Number
+kind_of look (value.Clock c) = look c
+
+-- a registered clock's name has this kind
+abbrev pub is_held : Kind → Bool
+is_held kind.Unset = false
+is_held kind.Number = false
+is_held kind.Live = true
+is_held kind.Resumed = true
+is_held kind.Out = false
+
+-- What is visited, by status, for a slot of this kind: the kind at the place of a running activity; for one that has
+-- arrived, the kind after the pass at the next place.
+abbrev pub Expects : ModuleValue → UnitValue → Status → ℕ → ℕ → Kind → Type 0
+Expects m u status.Running at s k = IsVisited m u s (record { at = at; kind = k })
+Expects m u status.Arrived at s k = IsVisited m u s (record { at = at + 1; kind = awake k })
+Expects m u status.Ended at s k = Unit {0}
+
+-- the slot of a frame holds the name of the clock
+abbrev pub Names : List Value → ℕ → ℕ → Type 0
+Names slots s c = slice_get slots s ≡ Some (value.Clock c)
+
+-- a frame of unit u, in a world with this number of clocks
+pub record IsFrameSound (u : UnitValue) (clocks : ℕ) (f : Frame) : Type 0 where
+  pub slots : length f.slots ≡ u.slots
+  pub place : f.place < length u.code
+  pub known : (s c : ℕ) → Names f.slots s c → c < clocks
+  pub apart : (s t c : ℕ) → Names f.slots s c → Names f.slots t c → s ≡ t
+
+-- an activity, by the kinds of clocks' names for it, the number of clocks and the number of steps
+pub record IsActivitySound (m : ModuleValue) (look : ℕ → Kind) (clocks now : ℕ) (act : Activity) : Type 0 where
+  pub main : act.frame.unit ≡ 0
+  pub callers : act.callers ≡ []
+  pub opened : act.opened ≡ 0
+  pub governed : act.governed ≡ root
+  pub since : act.since ≤ now
+  pub u : UnitValue
+  pub unit : slice_get m.units act.frame.unit ≡ Some u
+  pub frame : IsFrameSound u clocks act.frame
+  -- the kind of each slot is visited
+  pub kinds : Each (λ s v. Expects m u act.status act.frame.place s (kind_of look v)) act.frame.slots
+  -- one that has arrived stands at an `advance`
+  pub advance : act.status ≡ status.Arrived → slice_get u.code act.frame.place ≡ Some instr.Advance
+  -- where it is registered on a clock, some slot names it
+  pub held : (c : ℕ) → is_held (look c) ≡ true → (s : ℕ) × Names act.frame.slots s c
+
+-- ---- what is still to pay
+
+-- the weight of the instructions from a place on
+abbrev pub from_on : (Instr → ℕ) → UnitValue → ℕ → ℕ
+from_on weight u at = sum_by weight (drop at u.code)
+
+-- What an activity has still to pay, by its status; one that has arrived owes `half` of its `advance`.
+abbrev pub owed_by : (Instr → ℕ) → ℕ → UnitValue → ℕ → Status → ℕ
+owed_by weight half u at status.Running = from_on weight u at
+owed_by weight half u at status.Arrived = half + from_on weight u (at + 1)
+owed_by weight half u at status.Ended = 0
+
+abbrev pub owed : (Instr → ℕ) → ℕ → ModuleValue → Activity → ℕ
+owed weight half m act = option_map_or (λ u. owed_by weight half u act.frame.place act.status) (slice_get m.units act.frame.unit) 0
+
+-- what all activities owe
+abbrev pub owing : (Instr → ℕ) → ℕ → ModuleValue → List Activity → ℕ
+owing weight half m activities = sum_by (owed weight half m) activities
+
+-- ---- worlds
+
+pub record IsSound (m : ModuleValue) (w : World) : Type 0 where
+  pub activities : Each (λ a act. IsActivitySound m (looks w.clocks a) (length w.clocks) w.steps act) w.activities
+  pub clocks : Each (λ k c. IsClockSound w.activities w.steps c) w.clocks
+  pub cells : w.cells ≡ m.shared
+  -- what was spent, and what is owed, is within the bounds
+  pub steps : w.steps + owing steps_weight 1 m w.activities ≤ steps_bound m
+  pub started : length w.activities + owing activities_weight 0 m w.activities ≤ activities_bound m
+  pub made : length w.clocks + owing clocks_weight 0 m w.activities ≤ clocks_bound m

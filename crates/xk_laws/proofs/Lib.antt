@@ -1,0 +1,17 @@
+pub mod Invariant
+pub mod Lists
+pub mod Standings
+pub mod Settling
+pub mod Walks
+pub mod Fits
+pub mod Rows
+pub mod Measure
+pub mod Steps
+pub mod Running
+pub mod Waiting
+pub mod Instructions
+pub mod Progress
+pub mod Opening
+pub mod Counts
+pub mod Reached
+pub mod SumRow

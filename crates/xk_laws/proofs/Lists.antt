@@ -1,0 +1,113 @@
+-- Lists by number: what a change of one element, a push and a map leave at each place.
+use Rattle.std.proofs.Common.{◌≡◌, ℕ, zero, suc, ◌+◌, ◌<◌, ◌≤◌, max, Bool, true, false, ◌||◌, List, [], ◌∷◌, ◌++◌, map, length, set, drop, Some, fold, refl, sym, ap, ◌∙◌, subst, arith, sum_by}
+use Rattle.std.specs.Prelude.{slice_get}
+use Rattle.std.specs.List.{list_any, list_all}
+use Rattle.std.proofs.lemmas.List.Sums.{sum_by-set}
+use Rattle.std.proofs.lemmas.Option.{slice_get_within, get_or_from_slice_get, none-some, same_Some}
+use Rattle.std.proofs.lemmas.Bool.{or_parts}
+use Rattle.xk_laws.proofs.Invariant.{Each}
+
+-- two functions that agree everywhere are one
+pub fun_ext : {A B : Type 0} (f g : A → B) → ((x : A) → f x ≡ g x) → f ≡ g
+fun_ext f g h = λ i x. h x i
+
+-- an element that is there
+pub get_inside : {X : Type 0} (xs : List X) (k : ℕ) → k < length xs → (x : X) × (slice_get xs k ≡ Some x)
+get_inside [] k h = absurd (omega arith)
+get_inside (x ∷ xs) zero h = (x, refl)
+get_inside (x ∷ xs) (suc k) h = get_inside xs k (omega arith)
+
+-- a place holds one element
+pub get_once : {X : Type 0} (xs : List X) (k : ℕ) (x y : X) → slice_get xs k ≡ Some x → slice_get xs k ≡ Some y → x ≡ y
+get_once xs k x y p q = same_Some x y (sym p ∙ q)
+
+pub get-set_same : {X : Type 0} (xs : List X) (i : ℕ) (x y : X) → slice_get xs i ≡ Some x → slice_get (set xs i y) i ≡ Some y
+get-set_same [] i x y h = absurd (none-some x h)
+get-set_same (z ∷ xs) zero x y h = refl
+get-set_same (z ∷ xs) (suc i) x y h = get-set_same xs i x y h
+
+pub get-set_other : {X : Type 0} (xs : List X) (i j : ℕ) (y : X) → (j ≡ i → ⊥) → slice_get (set xs i y) j ≡ slice_get xs j
+get-set_other [] i j y h = refl
+get-set_other (z ∷ xs) zero zero y h = absurd (h refl)
+get-set_other (z ∷ xs) zero (suc j) y h = refl
+get-set_other (z ∷ xs) (suc i) zero y h = refl
+get-set_other (z ∷ xs) (suc i) (suc j) y h = get-set_other xs i j y (λ e. h (ap suc e))
+
+-- what holds of the new element and of all others holds of each after a write
+pub each_set : {X : Type 0} (P : ℕ → X → Type 0) (xs : List X) (a : ℕ) (old new : X) → slice_get xs a ≡ Some old
+    → P a new → ((i : ℕ) (x : X) → (i ≡ a → ⊥) → slice_get xs i ≡ Some x → P i x) → Each P (set xs a new)
+each_set P [] a old new at here rest i x h = absurd (none-some x h)
+each_set P (z ∷ xs) zero old new at here rest zero x h = subst (P zero) (same_Some new x h) here
+each_set P (z ∷ xs) zero old new at here rest (suc i) x h = rest (suc i) x (λ e. absurd (omega arith)) h
+each_set P (z ∷ xs) (suc a) old new at here rest zero x h = rest zero x (λ e. absurd (omega arith)) h
+each_set P (z ∷ xs) (suc a) old new at here rest (suc i) x h =
+    each_set (λ j. P (suc j)) xs a old new at here (λ j y ne. rest (suc j) y (λ e. ne (omega arith))) i x h
+
+-- what holds of each and of the new element holds of each after a push
+pub each_push : {X : Type 0} (P : ℕ → X → Type 0) (xs : List X) (new : X) → Each P xs → P (length xs) new → Each P (xs ++ new ∷ [])
+each_push P [] new all here zero x h = subst (P zero) (same_Some new x h) here
+each_push P [] new all here (suc i) x h = absurd (none-some x h)
+each_push P (z ∷ xs) new all here zero x h = all zero x h
+each_push P (z ∷ xs) new all here (suc i) x h = each_push (λ j. P (suc j)) xs new (λ j y. all (suc j) y) here i x h
+
+-- what holds of each image holds of each element of the map
+pub each_map : {X Y : Type 0} (f : X → Y) (P : ℕ → Y → Type 0) (xs : List X) → Each (λ i x. P i (f x)) xs → Each P (map f xs)
+each_map f P [] all i y h = absurd (none-some y h)
+each_map f P (x ∷ xs) all zero y h = subst (P zero) (same_Some (f x) y h) (all zero x refl)
+each_map f P (x ∷ xs) all (suc i) y h = each_map f (λ j. P (suc j)) xs (λ j z. all (suc j) z) i y h
+
+pub get_push : {X : Type 0} (xs : List X) (y : X) → slice_get (xs ++ y ∷ []) (length xs) ≡ Some y
+get_push [] y = refl
+get_push (x ∷ xs) y = get_push xs y
+
+pub get-push_other : {X : Type 0} (xs : List X) (y : X) (k : ℕ) → (k ≡ length xs → ⊥) → slice_get (xs ++ y ∷ []) k ≡ slice_get xs k
+get-push_other [] y zero h = absurd (h refl)
+get-push_other [] y (suc k) h = refl
+get-push_other (x ∷ xs) y zero h = refl
+get-push_other (x ∷ xs) y (suc k) h = get-push_other xs y k (λ e. h (ap suc e))
+
+-- ---- tests over a list
+
+-- an element that passes
+pub any_found : {X : Type 0} (test : X → Bool) (xs : List X) → list_any test xs ≡ true → (k : ℕ) × (x : X) × (slice_get xs k ≡ Some x) × (test x ≡ true)
+any_found test [] h = absurd (grind arith)
+any_found {X} test (x ∷ xs) h = go (test x) refl (any_found test xs) h
+  where
+    go : (b : Bool) → test x ≡ b → (list_any test xs ≡ true → (k : ℕ) × (y : X) × (slice_get xs k ≡ Some y) × (test y ≡ true))
+        → (b || list_any test xs) ≡ true → (k : ℕ) × (y : X) × (slice_get (x ∷ xs) k ≡ Some y) × (test y ≡ true)
+    go true e later g = (zero, x, refl, e)
+    go false e later g = let r = later g in (suc r.0, r.1, r.2, r.3)
+
+-- none passes
+pub any_none : {X : Type 0} (test : X → Bool) (xs : List X) → list_any test xs ≡ false → Each (λ k x. test x ≡ false) xs
+any_none test [] h k x g = absurd (none-some x g)
+any_none test (y ∷ xs) h zero x g = rw (same_Some y x g) at ((or_parts (test y) (list_any test xs) h).0)
+any_none test (y ∷ xs) h (suc k) x g = any_none test xs ((or_parts (test y) (list_any test xs) h).1) k x g
+
+-- all pass
+pub all_given : {X : Type 0} (test : X → Bool) (xs : List X) → Each (λ k x. test x ≡ true) xs → list_all test xs ≡ true
+all_given test [] h = refl
+all_given test (x ∷ xs) h = rw (h zero x refl) (all_given test xs (λ k y. h (suc k) y))
+
+-- ---- sums and the greatest
+
+-- a fold of `max` is no less than its start
+max_start : (xs : List ℕ) (s : ℕ) → s ≤ fold max s xs
+max_start [] s = omega arith
+max_start (x ∷ xs) s = let h = max_start xs (max s x) in omega arith
+
+-- nor than any element
+pub max_each : (xs : List ℕ) (s i x : ℕ) → slice_get xs i ≡ Some x → x ≤ fold max s xs
+max_each [] s i x h = absurd (none-some x h)
+max_each (y ∷ xs) s zero x h = let g = max_start xs (max s y) in let e = same_Some y x h in omega arith
+max_each (y ∷ xs) s (suc i) x h = max_each xs (max s y) i x h
+
+-- a sum after a write
+pub sum_set : {X : Type 0} (f : X → ℕ) (xs : List X) (a : ℕ) (old new : X) → slice_get xs a ≡ Some old → sum_by f (set xs a new) + f old ≡ sum_by f xs + f new
+sum_set f xs a old new h = rw (get_or_from_slice_get xs a old old h) at (sum_by-set f xs a new old (slice_get_within xs a old h))
+
+-- what is left from a place on begins with what stands there
+pub drop_from : {X : Type 0} (xs : List X) (p : ℕ) (x : X) → slice_get xs p ≡ Some x → drop p xs ≡ x ∷ drop (suc p) xs
+drop_from [] p x h = absurd (none-some x h)
+drop_from (y ∷ xs) zero x h = ap (λ z. z ∷ xs) (same_Some y x h)
+drop_from (y ∷ xs) (suc p) x h = drop_from xs p x h

@@ -1,0 +1,83 @@
+-- The opening world is sound.
+use Rattle.std.proofs.Common.{◌≡◌, ℕ, zero, suc, ◌==◌, [], ◌∷◌, length, replicate, Some, refl, sym, ap, ◌∙◌, subst, arith, inl, eqb-true}
+use Rattle.std.specs.Prelude.{slice_get}
+use Rattle.std.specs.Option.{option_map_or}
+use Rattle.std.proofs.lemmas.Bool.{false≢true, not-false}
+use Rattle.std.proofs.lemmas.List.{length-replicate, nil_from_length}
+use Rattle.std.proofs.lemmas.List.Sums.{sum_by-cons}
+use Rattle.std.proofs.lemmas.Option.{none-some, same_Some}
+use Rattle.xk_types.specs.declared.instr.Instr.{Instr}
+use Rattle.xk_types.specs.declared.names.Value.{Value}
+use Rattle.xk_types.specs.declared.names.Value.TheVariants as value
+use Rattle.xk_types.specs.declared.names.Status.TheVariants as status
+use Rattle.xk_types.specs.declared.rules.Rule.TheVariants as rule
+use Rattle.xk_types.specs.declared.rules.Kind.TheVariants as kind
+use Rattle.xk_types.specs.Code.{UnitValue, ModuleValue, IsWithinLimits}
+use Rattle.xk_types.specs.Order.{Has}
+use Rattle.xk_types.specs.World.{opening, main_of, slots_of}
+use Rattle.xk_types.specs.Shape.{HasShape}
+use Rattle.xk_types.specs.Walk.{entry_kinds, entry_of}
+use Rattle.xk_types.specs.Bound.{steps_weight, activities_weight, clocks_weight}
+use Rattle.xk_types.specs.Accepted.{IsAccepted}
+use Rattle.xk_laws.proofs.Invariant.{Each, Expects, IsActivitySound, IsSound, looks, kind_of, owed, owing}
+use Rattle.xk_laws.proofs.Lists.{get_inside}
+use Rattle.xk_laws.proofs.Walks.{visited_entry}
+use Rattle.xk_laws.proofs.Fits.{unit_fits, unbroken}
+
+-- equal elements are equal
+get-replicate : {X : Type 0} (n : ℕ) (y x : X) (s : ℕ) → slice_get (replicate n y) s ≡ Some x → y ≡ x
+get-replicate zero y x s h = absurd (none-some x h)
+get-replicate (suc n) y x zero h = same_Some y x h
+get-replicate (suc n) y x (suc s) h = get-replicate n y x s h
+
+-- what holds of the only element
+each_one : {X : Type 0} (P : ℕ → X → Type 0) (x : X) → P 0 x → Each P (x ∷ [])
+each_one P x h zero y e = subst (P zero) (same_Some x y e) h
+each_one P x h (suc i) y e = absurd (none-some y e)
+
+-- main has no parameters
+main_entry : (m : ModuleValue) → HasShape m → (u : UnitValue) → slice_get m.units 0 ≡ Some u → (s : ℕ) → Has (entry_kinds u s) kind.Unset
+main_entry m shape u found s =
+    subst (λ list. Has (entry_of (slice_get list s)) kind.Unset)
+    (sym (nil_from_length u.params (eqb-true (length u.params) 0 (not-false (length u.params == 0) (unbroken m shape rule.Unit 0 u found 0))))) (inl refl)
+
+-- what one activity owes
+owing_one : (weight : Instr → ℕ) (half : ℕ) (m : ModuleValue) → owing weight half m (main_of m ∷ []) ≡ owed weight half m (main_of m)
+owing_one weight half m = let h = sum_by-cons (owed weight half m) (main_of m) [] in omega arith
+
+pub opening_sound : (m : ModuleValue) → IsWithinLimits m → IsAccepted m → IsSound m (opening m)
+opening_sound m limits ok = record {
+  activities = each_one (λ a act. IsActivitySound m (looks [] a) 0 0 act) (main_of m) main;
+  clocks = λ k c h. absurd (none-some c h);
+  cells = refl;
+  steps = let h = owing_one steps_weight 1 m in omega arith;
+  started = let h = owing_one activities_weight 0 m in omega arith;
+  made = let h = owing_one clocks_weight 0 m in omega arith;
+}
+  where
+    first : (u : UnitValue) × (slice_get m.units 0 ≡ Some u)
+    first = get_inside m.units 0 limits.some
+
+    unset : (s : ℕ) (v : Value) → slice_get (replicate (slots_of m 0) value.Unset) s ≡ Some v → value.Unset ≡ v
+    unset s v h = get-replicate (slots_of m 0) value.Unset v s h
+
+    main : IsActivitySound m (looks [] 0) 0 0 (main_of m)
+    main = record {
+      main = refl;
+      callers = refl;
+      opened = refl;
+      governed = refl;
+      since = omega arith;
+      u = first.0;
+      unit = first.1;
+      frame = record {
+        slots = length-replicate (slots_of m 0) value.Unset ∙ ap (λ o. option_map_or (λ u. u.slots) o 0) first.1;
+        place = (unit_fits m ok.shape 0 first.0 first.1).some;
+        known = λ s c h. absurd (let e = unset s (value.Clock c) h in grind arith);
+        apart = λ s t c h g. absurd (let e = unset s (value.Clock c) h in grind arith);
+      };
+      kinds = λ s v h. subst (λ x. Expects m first.0 status.Running 0 s (kind_of (looks [] 0) x)) (unset s v h)
+          (visited_entry m first.0 s kind.Unset (main_entry m ok.shape first.0 first.1 s));
+      advance = λ e. absurd (grind arith);
+      held = λ c h. absurd (false≢true h);
+    }

@@ -1,0 +1,140 @@
+-- What holds of each world that a legal schedule of an accepted module leads to, and the law over every schedule.
+use Rattle.std.proofs.Common.{◌≡◌, ℕ, ◌+◌, ◌<◌, ◌≤◌, true, false, List, [], ◌∷◌, ◌++◌, map, length, get_or, sum_by, refl, sym, ap, ◌∙◌, subst, arith}
+use Rattle.std.specs.Option.{option_map}
+use Rattle.std.proofs.lemmas.Option.{slice_get-get_or, slice_get-map}
+use Rattle.xk_types.specs.declared.names.Event.{Event}
+use Rattle.xk_types.specs.declared.rules.Kind.{Kind}
+use Rattle.xk_types.specs.Code.{ModuleValue, IsWithinLimits}
+use Rattle.xk_types.specs.World.{Activity, World, opening}
+use Rattle.xk_types.specs.Step.{Cause, Outcome, Blocked, Wrong, Stepped, step}
+use Rattle.xk_types.specs.Schedule.{Course, Through, Wronged, run, run_on, IsReached, is_enabled, all_ended}
+use Rattle.xk_types.specs.Bound.{steps_bound, activities_bound, clocks_bound, stack_bound}
+use Rattle.xk_types.specs.Accepted.{IsAccepted, EverySchedule, slots_held}
+use Rattle.xk_laws.proofs.Invariant.{IsActivitySound, IsSound, looks}
+use Rattle.xk_laws.proofs.Lists.{max_each}
+use Rattle.xk_laws.proofs.Counts.{step_counts}
+use Rattle.xk_laws.proofs.Progress.{Keeps, step_keeps, stuck_ended}
+use Rattle.xk_laws.proofs.Opening.{opening_sound}
+
+-- ---- runs
+
+-- two courses that come through come to one world
+same_through : (w v : World) → Through w ≡ Through v → w ≡ v
+same_through w v e = cc
+
+-- a run that comes through took its first step
+first_step : (w v : World) (o : Outcome) (go : World → Course) → run_on w o go ≡ Through v → (x : World) × (e : Event) × (o ≡ Stepped x e) × (go x ≡ Through v)
+first_step w v Blocked go h = absurd (grind arith)
+first_step w v (Wrong c) go h = absurd (grind arith)
+first_step w v (Stepped x e) go h = (x, e, refl, h)
+
+-- a run goes on by a step
+run_more : (m : ModuleValue) (list : List ℕ) (w v x : World) (a : ℕ) (e : Event) → run m list w ≡ Through v → step m v a ≡ Stepped x e
+    → run m (list ++ a ∷ []) w ≡ Through x
+run_more m [] w v x a e h g = ap (λ o. run_on w o (run m [])) (ap (λ z. step m z a) (same_through w v h) ∙ g)
+run_more m (b ∷ list) w v x a e h g =
+    let f = first_step w v (step m w b) (run m list) h in
+    ap (λ o. run_on w o (run m (list ++ a ∷ []))) f.2 ∙ run_more m list f.0 v x a e f.3 g
+
+-- each step of a run is counted
+run_counts : (m : ModuleValue) (list : List ℕ) (w v : World) → run m list w ≡ Through v → v.steps ≡ w.steps + length list
+run_counts m [] w v h = let e = ap (λ z. z.steps) (same_through w v h) in omega arith
+run_counts m (b ∷ list) w v h =
+    let f = first_step w v (step m w b) (run m list) h in
+    let rest = run_counts m list f.0 v f.3 in
+    let here = step_counts m w f.0 b f.1 f.2 in
+    omega arith
+
+-- a run from a sound world leads to a sound one
+run_sound : (m : ModuleValue) → IsAccepted m → (list : List ℕ) (w v : World) → IsSound m w → run m list w ≡ Through v → IsSound m v
+run_sound m ok [] w v sound h = subst (IsSound m) (same_through w v h) sound
+run_sound m ok (b ∷ list) w v sound h =
+    let f = first_step w v (step m w b) (run m list) h in
+    run_sound m ok list f.0 v (subst (Keeps m) f.2 (step_keeps m ok w sound b)) f.3
+
+-- a run from a sound world is never wrong
+run_right : (m : ModuleValue) → IsAccepted m → (list : List ℕ) (w v : World) (c : Cause) → IsSound m w → run m list w ≡ Wronged v c → ⊥
+run_right m ok [] w v c sound h = grind arith
+run_right m ok (b ∷ list) w v c sound h = by (step m w b) (step_keeps m ok w sound b) h (λ x s. run_right m ok list x v c s)
+  where
+    by : (o : Outcome) → Keeps m o → run_on w o (run m list) ≡ Wronged v c → ((x : World) → IsSound m x → run m list x ≡ Wronged v c → ⊥) → ⊥
+    by Blocked k g later = grind arith
+    by (Wrong d) k g later = k
+    by (Stepped x e) k g later = later x k g
+
+-- ---- worlds that are reached
+
+-- the opening world is reached
+pub opening_reached : (m : ModuleValue) → IsReached m (opening m)
+opening_reached m = ([], refl)
+
+-- reaching goes on by a step
+pub reached_step : (m : ModuleValue) (w v : World) (a : ℕ) (e : Event) → IsReached m w → step m w a ≡ Stepped v e → IsReached m v
+reached_step m w v a e r h = (r.0 ++ a ∷ [], run_more m r.0 (opening m) w v a e r.1 h)
+
+-- a world that is reached after no step is the opening one
+pub opening_only : (m : ModuleValue) (w : World) → IsReached m w → w.steps ≡ 0 → w ≡ opening m
+opening_only m w r h = by r.0 r.1
+  where
+    by : (list : List ℕ) → run m list (opening m) ≡ Through w → w ≡ opening m
+    by [] e = sym (same_through (opening m) w e)
+    by (a ∷ list) e = let n = run_counts m (a ∷ list) (opening m) w e in absurd (omega arith)
+
+-- a world that is reached is sound
+pub reached_sound : (m : ModuleValue) → IsWithinLimits m → IsAccepted m → (w : World) → IsReached m w → IsSound m w
+reached_sound m limits ok w r = run_sound m ok r.0 (opening m) w (opening_sound m limits ok) r.1
+
+-- no step of it is wrong
+pub reached_right : (m : ModuleValue) → IsWithinLimits m → IsAccepted m → (w : World) → IsReached m w → (a : ℕ) (c : Cause) → step m w a ≡ Wrong c → ⊥
+reached_right m limits ok w r a c h = subst (Keeps m) h (step_keeps m ok w (reached_sound m limits ok w r) a)
+
+-- the numbers of a world, within the bounds of its module
+pub record HasRoom (m : ModuleValue) (w : World) : Type 0 where
+  pub steps : w.steps ≤ steps_bound m
+  pub activities : length w.activities ≤ activities_bound m
+  pub clocks : length w.clocks ≤ clocks_bound m
+
+-- a sound world is within the bounds
+pub sound_room : (m : ModuleValue) (w : World) → IsSound m w → HasRoom m w
+sound_room m w s = record {
+  steps = (let h = s.steps in omega arith);
+  activities = (let h = s.started in omega arith);
+  clocks = (let h = s.made in omega arith);
+}
+
+-- a world that is reached is within the bounds
+pub reached_room : (m : ModuleValue) → IsWithinLimits m → IsAccepted m → (w : World) → IsReached m w → HasRoom m w
+reached_room m limits ok w r = sound_room m w (reached_sound m limits ok w r)
+
+-- and so is the world after a step of it
+pub stepped_room : (m : ModuleValue) → IsWithinLimits m → IsAccepted m → (w v : World) (a : ℕ) (e : Event) → IsReached m w → step m w a ≡ Stepped v e → HasRoom m v
+stepped_room m limits ok w v a e r h = reached_room m limits ok v (reached_step m w v a e r h)
+
+-- where nobody is enabled, all have ended
+pub reached_ends : (m : ModuleValue) → IsWithinLimits m → IsAccepted m → (w : World) → IsReached m w
+    → ((a : ℕ) → a < length w.activities → is_enabled m w a ≡ false) → all_ended w ≡ true
+reached_ends m limits ok w r stuck = stuck_ended m ok w (reached_sound m limits ok w r) stuck
+
+-- ---- the law
+
+-- an activity's frames have no more slots than the bound
+sound_stack : (m : ModuleValue) (look : ℕ → Kind) (clocks now : ℕ) (act : Activity) → IsActivitySound m look clocks now act → slots_held act ≤ stack_bound m
+sound_stack m look clocks now act s =
+    let alone : sum_by (λ f. length f.slots) act.callers ≡ 0 = ap (sum_by (λ f. length f.slots)) s.callers in
+    let slots = s.frame.slots in
+    let most = max_each (map (λ u. u.slots) m.units) 0 act.frame.unit s.u.slots (slice_get-map (λ u. u.slots) m.units act.frame.unit ∙ ap (option_map (λ u. u.slots)) s.unit) in
+    omega arith
+
+-- the law over every schedule
+pub every_schedule : (m : ModuleValue) → IsWithinLimits m → IsAccepted m → EverySchedule m
+every_schedule m limits ok = record {
+  never_wrong = λ list w c h. run_right m ok list (opening m) w c (opening_sound m limits ok) h;
+  steps = λ list w h. (let n = run_counts m list (opening m) w h in let room = (reached_room m limits ok w (list, h)).steps in omega arith);
+  activities = λ list w h. (reached_room m limits ok w (list, h)).activities;
+  clocks = λ list w h. (reached_room m limits ok w (list, h)).clocks;
+  stack = λ list w h k d inside.
+      (let s = reached_sound m limits ok w (list, h) in
+      sound_stack m (looks w.clocks k) (length w.clocks) w.steps (get_or w.activities k d)
+      (s.activities k (get_or w.activities k d) (slice_get-get_or w.activities k d inside)));
+  ends = λ list w h stuck. reached_ends m limits ok w (list, h) (λ a inside. stuck a);
+}

@@ -1,0 +1,190 @@
+-- Where activities stand on clocks: what a change of one activity's standings leaves, a new clock, and an advance.
+use Rattle.std.proofs.Common.{◌≡◌, ℕ, zero, suc, ◌+◌, ◌<◌, ◌≤◌, Bool, true, false, not, ◌||◌, ◌&&◌, List, [], ◌∷◌, ◌++◌, map, length, get_or, replicate, Some, refl, sym, ap, ◌∙◌, subst, arith, length-set, get_or-set_same, get_or-set_other}
+use Rattle.std.specs.Prelude.{slice_get}
+use Rattle.std.specs.List.{list_any}
+use Rattle.std.specs.Option.{option_map, option_map_or}
+use Rattle.std.proofs.lemmas.List.{length-replicate}
+use Rattle.std.proofs.lemmas.Option.{none-some, same_Some, slice_get_past}
+use Rattle.std.proofs.lemmas.Bool.{or_parts, and_parts, cond_both, not-true}
+use Rattle.xk_types.specs.declared.names.Standing.{Standing}
+use Rattle.xk_types.specs.declared.names.Standing.TheVariants as standing
+use Rattle.xk_types.specs.World.{Clock, standing_of}
+use Rattle.xk_types.specs.Step.{is_signalled, is_pending, is_ready, advanced, settled_clock, moved_on, moved, new_clock}
+use Rattle.xk_laws.proofs.Invariant.{Each, stands_on, kind_by, looks}
+use Rattle.xk_laws.proofs.Lists.{get-push_other, get_push}
+
+-- ---- lists of standings
+
+-- a map keeps the default's image
+get_or-map_any : {X Y : Type 0} (f : X → Y) (xs : List X) (i : ℕ) (d : X) → get_or (map f xs) i (f d) ≡ f (get_or xs i d)
+get_or-map_any f [] i d = refl
+get_or-map_any f (x ∷ xs) zero d = refl
+get_or-map_any f (x ∷ xs) (suc i) d = get_or-map_any f xs i d
+
+-- none passes, at a place or past the end
+none_at : {X : Type 0} (test : X → Bool) (xs : List X) (i : ℕ) (d : X) → list_any test xs ≡ false → test d ≡ false → test (get_or xs i d) ≡ false
+none_at test [] i d h g = g
+none_at test (x ∷ xs) zero d h g = (or_parts (test x) (list_any test xs) h).0
+none_at test (x ∷ xs) (suc i) d h g = none_at test xs i d (or_parts (test x) (list_any test xs) h).1 g
+
+-- some passes, at a place within the list
+pub some_at : {X : Type 0} (test : X → Bool) (xs : List X) (d : X) → list_any test xs ≡ true → (i : ℕ) × (i < length xs) × (test (get_or xs i d) ≡ true)
+some_at test [] d h = absurd (grind arith)
+some_at {X} test (x ∷ xs) d h = go (test x) refl (some_at test xs d) h
+  where
+    go : (b : Bool) → test x ≡ b → (list_any test xs ≡ true → (i : ℕ) × (i < length xs) × (test (get_or xs i d) ≡ true))
+        → (b || list_any test xs) ≡ true → (i : ℕ) × (i < length (x ∷ xs)) × (test (get_or (x ∷ xs) i d) ≡ true)
+    go true e later g = (zero, omega arith, e)
+    go false e later g = let r = later g in (suc r.0, omega (arith, r.1), r.2)
+
+-- one place that passes is enough
+pub any_at : {X : Type 0} (test : X → Bool) (xs : List X) (i : ℕ) (d : X) → test d ≡ false → test (get_or xs i d) ≡ true → list_any test xs ≡ true
+any_at test [] i d e h = absurd (grind arith)
+any_at test (x ∷ xs) zero d e h = rw h refl
+any_at {X} test (x ∷ xs) (suc i) d e h = go (test x) (any_at test xs i d e h)
+  where
+    go : (b : Bool) → list_any test xs ≡ true → (b || list_any test xs) ≡ true
+    go true g = refl
+    go false g = g
+
+-- ---- one activity's standings change
+
+pub stand_same : (a : ℕ) (f : Standing → Standing) (c : Clock) → a < length c.standings → standing_of (moved_on a f c) a ≡ f (standing_of c a)
+stand_same a f c h = get_or-set_same c.standings a (f (standing_of c a)) standing.Apart h
+
+pub stand_other : (a b : ℕ) (f : Standing → Standing) (c : Clock) → (b ≡ a → ⊥) → standing_of (moved_on a f c) b ≡ standing_of c b
+stand_other a b f c h = get_or-set_other c.standings a b (f (standing_of c a)) standing.Apart h
+
+-- the clock at each place after it
+pub get-moved : (a : ℕ) (change : ℕ → Standing → Standing) (clocks : List Clock) (k : ℕ)
+    → slice_get (moved a change clocks) k ≡ option_map (moved_on a (change k)) (slice_get clocks k)
+get-moved a change [] k = refl
+get-moved a change (c ∷ cs) zero = refl
+get-moved a change (c ∷ cs) (suc k) = get-moved a (λ j. change (suc j)) cs k
+
+pub length-moved : (a : ℕ) (change : ℕ → Standing → Standing) (clocks : List Clock) → length (moved a change clocks) ≡ length clocks
+length-moved a change [] = refl
+length-moved a change (c ∷ cs) = ap suc (length-moved a (λ j. change (suc j)) cs)
+
+-- what holds of each clock with its change holds of each clock after it
+pub each_moved : (a : ℕ) (change : ℕ → Standing → Standing) (P : ℕ → Clock → Type 0) (clocks : List Clock)
+    → Each (λ k c. P k (moved_on a (change k) c)) clocks → Each P (moved a change clocks)
+each_moved a change P [] all k c h = absurd (none-some c h)
+each_moved a change P (d ∷ cs) all zero c h = subst (P zero) (same_Some (moved_on a (change 0) d) c h) (all zero d refl)
+each_moved a change P (d ∷ cs) all (suc k) c h = each_moved a (λ j. change (suc j)) (λ j. P (suc j)) cs (λ j x. all (suc j) x) k c h
+
+-- others stand where they stood
+pub stands_on-moved_other : (a b : ℕ) (change : ℕ → Standing → Standing) (clocks : List Clock) (k : ℕ) → (b ≡ a → ⊥)
+    → stands_on (moved a change clocks) b k ≡ stands_on clocks b k
+stands_on-moved_other a b change [] k h = refl
+stands_on-moved_other a b change (c ∷ cs) zero h = stand_other a b (change 0) c h
+stands_on-moved_other a b change (c ∷ cs) (suc k) h = stands_on-moved_other a b (λ j. change (suc j)) cs k h
+
+-- the one that changes stands where its change leads
+pub stands_on-moved_same : (a : ℕ) (change : ℕ → Standing → Standing) (clocks : List Clock) (k : ℕ)
+    → Each (λ j c. a < length c.standings) clocks → ((j : ℕ) → change j standing.Apart ≡ standing.Apart)
+    → stands_on (moved a change clocks) a k ≡ change k (stands_on clocks a k)
+stands_on-moved_same a change [] k w apart = sym (apart k)
+stands_on-moved_same a change (c ∷ cs) zero w apart = stand_same a (change 0) c (w zero c refl)
+stands_on-moved_same a change (c ∷ cs) (suc k) w apart =
+    stands_on-moved_same a (λ j. change (suc j)) cs k (λ j x. w (suc j) x) (λ j. apart (suc j))
+
+-- where a clock is known
+pub stands_on_at : (clocks : List Clock) (a k : ℕ) (c : Clock) → slice_get clocks k ≡ Some c → stands_on clocks a k ≡ standing_of c a
+stands_on_at clocks a k c h = ap (λ o. option_map_or (λ x. standing_of x a) o standing.Apart) h
+
+-- where there is none
+pub stands_on_past : (clocks : List Clock) (a k : ℕ) → length clocks ≤ k → stands_on clocks a k ≡ standing.Apart
+stands_on_past clocks a k h = ap (λ o. option_map_or (λ x. standing_of x a) o standing.Apart) (slice_get_past clocks k h)
+
+-- ---- a new clock
+
+-- its maker is open on it
+pub new_same : (n a : ℕ) → a < n → standing_of (new_clock n a) a ≡ standing.Open
+new_same n a h = get_or-set_same (replicate n standing.Apart) a standing.Open standing.Apart (rw (length-replicate n standing.Apart) h)
+
+-- nobody has a standing beyond the list
+pub apart_all : (n b : ℕ) → get_or (replicate n standing.Apart) b standing.Apart ≡ standing.Apart
+apart_all zero b = refl
+apart_all (suc n) zero = refl
+apart_all (suc n) (suc b) = apart_all n b
+
+-- and all others are apart from it
+pub new_other : (n a b : ℕ) → (b ≡ a → ⊥) → standing_of (new_clock n a) b ≡ standing.Apart
+new_other n a b h = get_or-set_other (replicate n standing.Apart) a b standing.Open standing.Apart h ∙ apart_all n b
+
+pub new_width : (n a : ℕ) → length (new_clock n a).standings ≡ n
+new_width n a = length-set (replicate n standing.Apart) a standing.Open ∙ length-replicate n standing.Apart
+
+-- others see no clock more
+pub stands_on-push_other : (n a b : ℕ) (clocks : List Clock) (k : ℕ) → (b ≡ a → ⊥)
+    → stands_on (clocks ++ new_clock n a ∷ []) b k ≡ stands_on clocks b k
+stands_on-push_other n a b [] zero h = new_other n a b h
+stands_on-push_other n a b [] (suc k) h = refl
+stands_on-push_other n a b (c ∷ cs) zero h = refl
+stands_on-push_other n a b (c ∷ cs) (suc k) h = stands_on-push_other n a b cs k h
+
+-- its maker sees the same on all others
+pub stands_on-push_old : (clocks : List Clock) (d : Clock) (a k : ℕ) → (k ≡ length clocks → ⊥) → stands_on (clocks ++ d ∷ []) a k ≡ stands_on clocks a k
+stands_on-push_old clocks d a k h = ap (λ o. option_map_or (λ x. standing_of x a) o standing.Apart) (get-push_other clocks d k h)
+
+pub stands_on-push_new : (clocks : List Clock) (d : Clock) (a : ℕ) → stands_on (clocks ++ d ∷ []) a (length clocks) ≡ standing_of d a
+stands_on-push_new clocks d a = ap (λ o. option_map_or (λ x. standing_of x a) o standing.Apart) (get_push clocks d)
+
+-- ---- an advance
+
+-- a clock that has advanced
+abbrev pub advanced_clock : ℕ → Clock → Clock
+advanced_clock now c = record { phase = c.phase + 1; last = now; standings = map advanced c.standings }
+
+-- a clock after the end of a step is one that has advanced, if it was ready, or itself
+pub settled_cases : (now : ℕ) (c : Clock) (P : Clock → Type 0) → (is_ready c ≡ true → P (advanced_clock now c)) → (is_ready c ≡ false → P c) → P (settled_clock now c)
+settled_cases now c P yes' no' = cond_both (is_ready c) (advanced_clock now c) c P yes' no'
+
+pub stand-advanced : (now : ℕ) (c : Clock) (b : ℕ) → standing_of (advanced_clock now c) b ≡ advanced (standing_of c b)
+stand-advanced now c b = get_or-map_any advanced c.standings b standing.Apart
+
+-- an advance moves nobody's kinds
+kind-advanced : (s : Standing) → kind_by (advanced s) ≡ kind_by s
+kind-advanced standing.Apart = refl
+kind-advanced standing.Open = refl
+kind-advanced standing.Signalled = refl
+kind-advanced standing.Ahead = refl
+
+settled_kind : (now : ℕ) (c : Clock) (b : ℕ) → kind_by (standing_of (settled_clock now c) b) ≡ kind_by (standing_of c b)
+settled_kind now c b = settled_cases now c (λ d. kind_by (standing_of d b) ≡ kind_by (standing_of c b))
+    (λ e. ap kind_by (stand-advanced now c b) ∙ kind-advanced (standing_of c b)) (λ e. refl)
+
+pub looks-settled : (now : ℕ) (clocks : List Clock) (a k : ℕ) → looks (map (settled_clock now) clocks) a k ≡ looks clocks a k
+looks-settled now [] a k = refl
+looks-settled now (c ∷ cs) a zero = settled_kind now c a
+looks-settled now (c ∷ cs) a (suc k) = looks-settled now cs a k
+
+-- a clock that has advanced isn't ready
+quiet : (s : Standing) → is_signalled (advanced s) ≡ false
+quiet standing.Apart = refl
+quiet standing.Open = refl
+quiet standing.Signalled = refl
+quiet standing.Ahead = refl
+
+all_quiet : (xs : List Standing) → list_any is_signalled (map advanced xs) ≡ false
+all_quiet [] = refl
+all_quiet (s ∷ xs) = rw (quiet s) (all_quiet xs)
+
+pub unready-advanced : (now : ℕ) (c : Clock) → is_ready (advanced_clock now c) ≡ false
+unready-advanced now c = rw (all_quiet c.standings) refl
+
+-- on a ready clock nobody is open or ahead
+pub ready_pending : (c : Clock) (b : ℕ) → is_ready c ≡ true → is_pending (standing_of c b) ≡ false
+ready_pending c b h =
+    none_at is_pending c.standings b standing.Apart
+    (not-true (list_any is_pending c.standings) (and_parts (list_any is_signalled c.standings) (not (list_any is_pending c.standings)) h).1) refl
+
+-- where somebody is signalled on a clock that isn't ready, somebody is open or ahead
+pub held_back : (c : Clock) (a : ℕ) → is_ready c ≡ false → is_signalled (standing_of c a) ≡ true
+    → (b : ℕ) × (b < length c.standings) × (is_pending (standing_of c b) ≡ true)
+held_back c a h g = some_at is_pending c.standings standing.Apart (go (list_any is_pending c.standings) h)
+  where
+    go : (p : Bool) → (list_any is_signalled c.standings && not p) ≡ false → p ≡ true
+    go true e = refl
+    go false e = absurd (grind (arith, rw (any_at is_signalled c.standings a standing.Apart refl g) at e))

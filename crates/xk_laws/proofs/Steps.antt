@@ -1,0 +1,219 @@
+-- Steps that change one activity: they keep the invariant of worlds.
+use Rattle.std.proofs.Common.{◌≡◌, ℕ, ◌+◌, ◌<◌, ◌≤◌, true, List, [], ◌∷◌, ◌++◌, length, set, Some, sym, ap, ◌∙◌, subst, arith, length-set}
+use Rattle.std.specs.Prelude.{slice_get}
+use Rattle.std.proofs.lemmas.List.{length_push, set-get_or}
+use Rattle.std.proofs.lemmas.Bool.{false≢true}
+use Rattle.std.proofs.lemmas.Option.{slice_get_within}
+use Rattle.xk_types.specs.declared.instr.Instr.TheVariants as instr
+use Rattle.xk_types.specs.declared.names.Status.{Status}
+use Rattle.xk_types.specs.declared.names.Status.TheVariants as status
+use Rattle.xk_types.specs.declared.names.Standing.{Standing}
+use Rattle.xk_types.specs.declared.names.Standing.TheVariants as standing
+use Rattle.xk_types.specs.declared.rules.Kind.{Kind}
+use Rattle.xk_types.specs.Code.{UnitValue, ModuleValue}
+use Rattle.xk_types.specs.World.{Activity, Clock, World, standing_of}
+use Rattle.xk_types.specs.Step.{is_signalled, moved, moved_on, new_clock, settled}
+use Rattle.xk_types.specs.Bound.{steps_weight, activities_weight, clocks_weight}
+use Rattle.xk_laws.proofs.Invariant.{Each, Stands, Expects, Names, IsFrameSound, IsClockSound, IsActivitySound, IsSound, stands_on, looks, kind_by, kind_of, is_held}
+use Rattle.xk_laws.proofs.Lists.{each_set, each_push, fun_ext}
+use Rattle.xk_laws.proofs.Standings.{stand_same, stand_other, each_moved, length-moved, stands_on-moved_other, stands_on-moved_same, stands_on-push_other, new_same, new_other, new_width}
+use Rattle.xk_laws.proofs.Settling.{IsClockNear, IsNear, world_settled}
+use Rattle.xk_laws.proofs.Measure.{IsPaid, owing_set}
+
+-- ---- the changed activity
+
+-- What a step of activity `was` of unit u leaves of it: `act`, among so many clocks, whose names have these kinds.
+pub record IsNext (m : ModuleValue) (u : UnitValue) (look : ℕ → Kind) (clocks now : ℕ) (was act : Activity) : Type 0 where
+  pub unit : act.frame.unit ≡ was.frame.unit
+  pub callers : act.callers ≡ was.callers
+  pub opened : act.opened ≡ was.opened
+  pub governed : act.governed ≡ was.governed
+  pub since : act.since ≤ now
+  pub frame : IsFrameSound u clocks act.frame
+  pub kinds : Each (λ s v. Expects m u act.status act.frame.place s (kind_of look v)) act.frame.slots
+  pub advance : act.status ≡ status.Arrived → slice_get u.code act.frame.place ≡ Some instr.Advance
+  pub held : (c : ℕ) → is_held (look c) ≡ true → (s : ℕ) × Names act.frame.slots s c
+
+-- it is sound
+next_sound : (m : ModuleValue) (old look : ℕ → Kind) (before clocks then' now : ℕ) (was act : Activity) (s : IsActivitySound m old before then' was)
+    → IsNext m s.u look clocks now was act → IsActivitySound m look clocks now act
+next_sound m old look before clocks then' now was act s n = record {
+  main = n.unit ∙ s.main;
+  callers = n.callers ∙ s.callers;
+  opened = n.opened ∙ s.opened;
+  governed = n.governed ∙ s.governed;
+  since = n.since;
+  u = s.u;
+  unit = ap (slice_get m.units) n.unit ∙ s.unit;
+  frame = n.frame;
+  kinds = n.kinds;
+  advance = n.advance;
+  held = n.held;
+}
+
+-- ---- all others
+
+-- with more clocks and steps an activity stays sound
+pub sound_later : (m : ModuleValue) (look : ℕ → Kind) (before clocks then' now : ℕ) (act : Activity) → before ≤ clocks → then' ≤ now
+    → IsActivitySound m look before then' act → IsActivitySound m look clocks now act
+sound_later m look before clocks then' now act more later s = record {
+  main = s.main;
+  callers = s.callers;
+  opened = s.opened;
+  governed = s.governed;
+  since = omega (arith, s.since);
+  u = s.u;
+  unit = s.unit;
+  frame = record { slots = s.frame.slots; place = s.frame.place; known = λ t c g. (let h = s.frame.known t c g in omega arith); apart = s.frame.apart };
+  kinds = s.kinds;
+  advance = s.advance;
+  held = s.held;
+}
+
+-- ---- the world
+
+-- what a step leaves of the world: `act` in the place of `was`, these clocks, on which others stand where they stood
+pub record IsLeft (m : ModuleValue) (w : World) (a : ℕ) (was act : Activity) (clocks : List Clock) (u : UnitValue) : Type 0 where
+  pub next : IsNext m u (looks clocks a) (length clocks) (w.steps + 1) was act
+  pub more : length w.clocks ≤ length clocks
+  pub others : (b k : ℕ) → (b ≡ a → ⊥) → stands_on clocks b k ≡ stands_on w.clocks b k
+  pub near : Each (λ k c. IsClockNear (set w.activities a act) (w.steps + 1) c) clocks
+  pub paid : (spent : ℕ) × IsPaid m was act spent × (length clocks ≡ length w.clocks + spent)
+
+abbrev pub left : World → ℕ → Activity → List Clock → World
+left w a act clocks = record w { activities = set w.activities a act; clocks = clocks }
+
+-- it is nearly sound
+left_near : (m : ModuleValue) (w : World) (a : ℕ) (was act : Activity) (clocks : List Clock) (sound : IsSound m w) (found : slice_get w.activities a ≡ Some was)
+    → IsLeft m w a was act clocks (sound.activities a was found).u → IsNear m (left w a act clocks)
+left_near m w a was act clocks sound found l = record {
+  activities = each_set (λ b x. IsActivitySound m (looks clocks b) (length clocks) (w.steps + 1) x) w.activities a was act found
+      (next_sound m (looks w.clocks a) (looks clocks a) (length w.clocks) (length clocks) w.steps (w.steps + 1) was act (sound.activities a was found) l.next)
+      (λ b x differs at. subst (λ look. IsActivitySound m look (length clocks) (w.steps + 1) x)
+      (fun_ext (looks w.clocks b) (looks clocks b) (λ k. ap kind_by (sym (l.others b k differs))))
+      (sound_later m (looks w.clocks b) (length w.clocks) (length clocks) w.steps (w.steps + 1) x l.more (omega arith) (sound.activities b x at)));
+  clocks = l.near;
+  cells = sound.cells;
+  steps = omega (arith, owing_set steps_weight 1 m w.activities a was act found, l.paid.1.steps, sound.steps);
+  started = rw (length-set w.activities a act) (omega (arith, owing_set activities_weight 0 m w.activities a was act found, l.paid.1.started, sound.started));
+  made = omega (arith, owing_set clocks_weight 0 m w.activities a was act found, l.paid.1.made, l.paid.2, sound.made);
+}
+
+-- and at the end of the step sound
+pub left_sound : (m : ModuleValue) (w : World) (a : ℕ) (was act : Activity) (clocks : List Clock) (sound : IsSound m w) (found : slice_get w.activities a ≡ Some was)
+    → IsLeft m w a was act clocks (sound.activities a was found).u → IsSound m (settled (left w a act clocks))
+left_sound m w a was act clocks sound found l = world_settled m (left w a act clocks) (left_near m w a was act clocks sound found l)
+
+-- ---- clocks, nearly
+
+-- what holds between an activity and a clock before the end of a step
+abbrev pub StandsNear : Status → ℕ → ℕ → ℕ → Standing → Type 0
+StandsNear st since last now s = Stands st since last s × (is_signalled s ≡ true → since < now)
+
+-- a clock of a sound world, after one activity changed, and where it stands
+near_clock : (activities : List Activity) (now a : ℕ) (was act : Activity) (f : Standing → Standing) (c : Clock) → slice_get activities a ≡ Some was
+    → ((b : ℕ) (x : Activity) → slice_get activities b ≡ Some x → x.since ≤ now)
+    → IsClockSound activities now c → StandsNear act.status act.since c.last (now + 1) (f (standing_of c a))
+    → IsClockNear (set activities a act) (now + 1) (moved_on a f c)
+near_clock activities now a was act f c found since s n = record {
+  width = length-set c.standings a (f (standing_of c a)) ∙ s.width ∙ sym (length-set activities a act);
+  last = omega (arith, s.last);
+  phase = s.phase;
+  stands = each_set (λ b x. Stands x.status x.since c.last (standing_of (moved_on a f c) b)) activities a was act found
+      (subst (Stands act.status act.since c.last) (sym here) n.0)
+      (λ b x differs at. subst (Stands x.status x.since c.last) (sym (stand_other a b f c differs)) (s.stands b x at));
+  signalled = each_set (λ b x. is_signalled (standing_of (moved_on a f c) b) ≡ true → x.since < now + 1) activities a was act found
+      (λ g. n.1 (ap is_signalled (sym here) ∙ g))
+      (λ b x differs at g. (let h = since b x at in omega arith));
+}
+  where
+    here : standing_of (moved_on a f c) a ≡ f (standing_of c a)
+    here = stand_same a f c (subst (λ n. a < n) (sym s.width) (slice_get_within activities a was found))
+
+-- ---- `done`: one activity changes, and where it stands
+
+-- what such a step leaves of the activity and of the clocks
+pub record IsChange (m : ModuleValue) (w : World) (a : ℕ) (was act : Activity) (change : ℕ → Standing → Standing) (u : UnitValue) : Type 0 where
+  pub next : IsNext m u (λ k. kind_by (change k (stands_on w.clocks a k))) (length w.clocks) (w.steps + 1) was act
+  pub apart : (k : ℕ) → change k standing.Apart ≡ standing.Apart
+  pub stands : Each (λ k c. StandsNear act.status act.since c.last (w.steps + 1) (change k (standing_of c a))) w.clocks
+  pub paid : IsPaid m was act 0
+
+-- it keeps the invariant
+pub done_sound : (m : ModuleValue) (w : World) (a : ℕ) (was act : Activity) (change : ℕ → Standing → Standing) (sound : IsSound m w) (found : slice_get w.activities a ≡ Some was)
+    → IsChange m w a was act change (sound.activities a was found).u → IsSound m (settled (left w a act (moved a change w.clocks)))
+done_sound m w a was act change sound found d = left_sound m w a was act (moved a change w.clocks) sound found (record {
+  next = rw (length-moved a change w.clocks) (subst (λ look. IsNext m me.u look (length w.clocks) (w.steps + 1) was act)
+      (fun_ext (λ k. kind_by (change k (stands_on w.clocks a k))) (looks (moved a change w.clocks) a)
+      (λ k. ap kind_by (sym (stands_on-moved_same a change w.clocks k within d.apart)))) d.next);
+  more = omega (arith, length-moved a change w.clocks);
+  others = λ b k differs. stands_on-moved_other a b change w.clocks k differs;
+  near = each_moved a change (λ k c. IsClockNear (set w.activities a act) (w.steps + 1) c) w.clocks
+      (λ k c at. near_clock w.activities w.steps a was act (change k) c found (λ b x g. (sound.activities b x g).since) (sound.clocks k c at) (d.stands k c at));
+  paid = (0, d.paid, omega (arith, length-moved a change w.clocks));
+})
+  where
+    me : IsActivitySound m (looks w.clocks a) (length w.clocks) w.steps was
+    me = sound.activities a was found
+
+    within : Each (λ k c. a < length c.standings) w.clocks
+    within k c at = subst (λ n. a < n) (sym (sound.clocks k c at).width) (slice_get_within w.activities a was found)
+
+-- ---- `made`: one activity changes and has made a clock
+
+pub record IsMaking (m : ModuleValue) (w : World) (a : ℕ) (was act : Activity) (u : UnitValue) : Type 0 where
+  pub next : IsNext m u (looks (w.clocks ++ new_clock (length w.activities) a ∷ []) a) (length w.clocks + 1) (w.steps + 1) was act
+  pub running : act.status ≡ status.Running
+  pub same_status : act.status ≡ was.status
+  pub same_since : act.since ≡ was.since
+  pub paid : IsPaid m was act 1
+
+-- a change of nothing
+untouched : (a : ℕ) (c : Clock) → moved_on a (λ s. s) c ≡ c
+untouched a c = ap (λ list. record { phase = c.phase; last = c.last; standings = list }) (set-get_or c.standings a standing.Apart)
+
+-- who is signalled has passed before now
+signalled_since : (since now : ℕ) (s : Standing) → since ≤ now → is_signalled s ≡ true → since < now + 1
+signalled_since since now s h g = omega arith
+
+-- a clock of a sound world, after an activity changed that stands where it stood
+same_clock : (activities : List Activity) (now a : ℕ) (was act : Activity) (c : Clock) → slice_get activities a ≡ Some was
+    → ((b : ℕ) (x : Activity) → slice_get activities b ≡ Some x → x.since ≤ now)
+    → act.status ≡ was.status → act.since ≡ was.since
+    → IsClockSound activities now c → IsClockNear (set activities a act) (now + 1) c
+same_clock activities now a was act c found since st sc s =
+    subst (IsClockNear (set activities a act) (now + 1)) (untouched a c)
+    (near_clock activities now a was act (λ x. x) c found since s
+    (rw (st, sc) (s.stands a was found, signalled_since was.since now (standing_of c a) (since a was found))))
+
+-- a new clock
+new_near : (activities : List Activity) (now a : ℕ) (was act : Activity) → slice_get activities a ≡ Some was → act.status ≡ status.Running
+    → IsClockNear (set activities a act) (now + 1) (new_clock (length activities) a)
+new_near activities now a was act found running = record {
+  width = new_width (length activities) a ∙ sym (length-set activities a act);
+  last = omega arith;
+  phase = omega arith;
+  stands = each_set (λ b x. Stands x.status x.since 0 (standing_of (new_clock (length activities) a) b)) activities a was act found
+      (subst (Stands act.status act.since 0) (sym here) (running, omega arith))
+      (λ b x differs at. subst (Stands x.status x.since 0) (sym (new_other (length activities) a b differs)) tt);
+  signalled = each_set (λ b x. is_signalled (standing_of (new_clock (length activities) a) b) ≡ true → x.since < now + 1) activities a was act found
+      (λ g. absurd (false≢true (ap is_signalled (sym here) ∙ g)))
+      (λ b x differs at g. absurd (false≢true (ap is_signalled (sym (new_other (length activities) a b differs)) ∙ g)));
+}
+  where
+    here : standing_of (new_clock (length activities) a) a ≡ standing.Open
+    here = new_same (length activities) a (slice_get_within activities a was found)
+
+-- it keeps the invariant
+pub made_sound : (m : ModuleValue) (w : World) (a : ℕ) (was act : Activity) (sound : IsSound m w) (found : slice_get w.activities a ≡ Some was)
+    → IsMaking m w a was act (sound.activities a was found).u
+    → IsSound m (settled (left w a act (w.clocks ++ new_clock (length w.activities) a ∷ [])))
+made_sound m w a was act sound found d = left_sound m w a was act (w.clocks ++ new_clock (length w.activities) a ∷ []) sound found (record {
+  next = rw (length_push w.clocks (new_clock (length w.activities) a)) d.next;
+  more = omega (arith, length_push w.clocks (new_clock (length w.activities) a));
+  others = λ b k differs. stands_on-push_other (length w.activities) a b w.clocks k differs;
+  near = each_push (λ k c. IsClockNear (set w.activities a act) (w.steps + 1) c) w.clocks (new_clock (length w.activities) a)
+      (λ k c at. same_clock w.activities w.steps a was act c found (λ b x g. (sound.activities b x g).since) d.same_status d.same_since (sound.clocks k c at))
+      (new_near w.activities w.steps a was act found d.running);
+  paid = (1, d.paid, length_push w.clocks (new_clock (length w.activities) a));
+})

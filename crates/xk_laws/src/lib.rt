@@ -1,0 +1,13 @@
+//! The law over every schedule of an accepted module.
+#![tactic(auto)]
+
+ghost use Rattle.xk_types.specs.Accepted.{EverySchedule, IsAccepted};
+ghost use Rattle.xk_types.specs.Code.{IsWithinLimits, ModuleValue};
+
+/// What holds of every schedule of an accepted module, whoever made it. No list of activity numbers runs into a clock
+/// operation without a registration, or a missing or wrong operand. A legal list has at most the verified number of
+/// steps, and its worlds at most the verified numbers of activities, clocks and slots in one activity's frames. Where
+/// nobody is enabled, every activity has ended.
+pub fn every_accepted_module()
+    ensures { (m : ModuleValue) → IsWithinLimits m → IsAccepted m → EverySchedule m }
+{}

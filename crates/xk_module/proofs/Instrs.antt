@@ -1,0 +1,158 @@
+-- Instructions: what is read is the value of what it names, and that value is read again.
+use Rattle.std.proofs.Common.{◌≡◌, ℕ, ℤ, Bool, true, false, cond, List, [], ◌∷◌, Option, Some, None, codes, refl, sym, ap, ◌∙◌, subst}
+use Rattle.std.specs.Bool.{⊤}
+use Rattle.std.specs.Str.{bytes_eq}
+use Rattle.std.proofs.lemmas.Slice.Eq.{bytes_eq-Decides}
+use Rattle.serde_json.specs.Data.{Data, string}
+use Rattle.xk_types.specs.declared.instr.Instr.{Instr}
+use Rattle.xk_types.specs.declared.instr.Instr.TheVariants as instr
+use Rattle.xk_module.specs.ModuleText.{long, word, named, array_of, instr_value, IsWord, IsLong, IsInstrInRange}
+use Rattle.xk_module.specs.Named.{◌>>=◌, none_at, one_at, three_at, lit_at, instr_of, instr_at}
+use Rattle.xk_module.proofs.Lists.{listed-items_of}
+use Rattle.xk_module.proofs.Parts.{bind_some, word_takes, word_again, long_takes, long_again, array_takes, head_takes, end_takes, str_takes}
+
+-- ---- shapes of operands
+
+-- A reader of operands reads what has these values, and no other.
+pub record IsShape {X : Type 0} (shape : List Data → Option X) (values : X → List Data) (P : X → Type 0) : Type 0 where
+  takes : (operands : List Data) (x : X) → shape operands ≡ Some x → (operands ≡ values x) × P x
+  again : (x : X) → P x → shape (values x) ≡ Some x
+
+none : IsShape none_at (λ _. []) (λ _. ⊤)
+none = record {
+  takes = λ operands x e. (end_takes operands x e, tt);
+  again = λ x p. refl;
+}
+
+one_takes : (operands : List Data) (x : ℕ) → one_at operands ≡ Some x → (operands ≡ word x ∷ []) × IsWord x
+unfolding one_at
+one_takes (a ∷ []) x e = let t = word_takes a x e in (ap (λ (d : Data). d ∷ []) t.0, t.1)
+one_takes [] x e = absurd cc
+one_takes (a ∷ b ∷ rest) x e = absurd cc
+
+one_again : (x : ℕ) → IsWord x → one_at (word x ∷ []) ≡ Some x
+unfolding one_at
+one_again x p = word_again x p
+
+one : IsShape one_at (λ a. word a ∷ []) IsWord
+one = record { takes = one_takes; again = one_again }
+
+abbrev three_values : ℕ × ℕ × ℕ → List Data
+three_values x = word x.0 ∷ word x.1 ∷ word x.2 ∷ []
+
+abbrev AreWords : ℕ × ℕ × ℕ → Type 0
+AreWords x = IsWord x.0 × IsWord x.1 × IsWord x.2
+
+three_takes : (operands : List Data) (x : ℕ × ℕ × ℕ) → three_at operands ≡ Some x → (operands ≡ three_values x) × AreWords x
+unfolding three_at
+three_takes (a ∷ b ∷ c ∷ []) x e =
+    let p = bind_some _ _ _ e in
+    let q = bind_some _ _ _ p.2 in
+    let r = bind_some _ _ _ q.2 in
+    let i = word_takes a p.0 p.1 in
+    let j = word_takes b q.0 q.1 in
+    let k = word_takes c r.0 r.1 in
+    let same : (p.0, q.0, r.0) ≡ x = cc in
+    subst (λ (x : ℕ × ℕ × ℕ). (a ∷ b ∷ c ∷ [] ≡ three_values x) × AreWords x) same (cc (i.0, j.0, k.0), (i.1, j.1, k.1))
+three_takes [] x e = absurd cc
+three_takes (a ∷ []) x e = absurd cc
+three_takes (a ∷ b ∷ []) x e = absurd cc
+three_takes (a ∷ b ∷ c ∷ d ∷ rest) x e = absurd cc
+
+three_again : (x : ℕ × ℕ × ℕ) → AreWords x → three_at (three_values x) ≡ Some x
+unfolding three_at
+three_again x p = rw (word_again x.0 p.0, word_again x.1 p.1, word_again x.2 p.2) refl
+
+three : IsShape three_at three_values AreWords
+three = record { takes = three_takes; again = three_again }
+
+abbrev lit_values : ℕ × ℤ → List Data
+lit_values x = word x.0 ∷ long x.1 ∷ []
+
+abbrev AreWordAndLong : ℕ × ℤ → Type 0
+AreWordAndLong x = IsWord x.0 × IsLong x.1
+
+lit_takes : (operands : List Data) (x : ℕ × ℤ) → lit_at operands ≡ Some x → (operands ≡ lit_values x) × AreWordAndLong x
+unfolding lit_at
+lit_takes (a ∷ b ∷ []) x e =
+    let p = bind_some _ _ _ e in
+    let q = bind_some _ _ _ p.2 in
+    let i = word_takes a p.0 p.1 in
+    let j = long_takes b q.0 q.1 in
+    let same : (p.0, q.0) ≡ x = cc in
+    subst (λ (x : ℕ × ℤ). (a ∷ b ∷ [] ≡ lit_values x) × AreWordAndLong x) same (cc (i.0, j.0), (i.1, j.1))
+lit_takes [] x e = absurd cc
+lit_takes (a ∷ []) x e = absurd cc
+lit_takes (a ∷ b ∷ c ∷ rest) x e = absurd cc
+
+lit_again : (x : ℕ × ℤ) → AreWordAndLong x → lit_at (lit_values x) ≡ Some x
+unfolding lit_at
+lit_again x p = rw (word_again x.0 p.0, long_again x.1 p.1) refl
+
+lit : IsShape lit_at lit_values AreWordAndLong
+lit = record { takes = lit_takes; again = lit_again }
+
+-- ---- an instruction by its name
+
+by_test : (b : Bool) (first others : Option Instr) (i : Instr) (P : Type 0) → cond b first others ≡ Some i → (b ≡ true → first ≡ Some i → P) → (others ≡ Some i → P) → P
+by_test true first others i P e here there = here refl e
+by_test false first others i P e here there = there e
+
+-- the values are those of the instruction, whose words are in range
+abbrev IsValue : List ℕ → List Data → Instr → Type 0
+IsValue name operands i = (named name operands ≡ instr_value i) × IsInstrInRange i
+
+-- Where the name is this one, operands of the shape were read, and they make the instruction. Else it was read as another.
+by_name : {X : Type 0} {shape : List Data → Option X} {values : X → List Data} {P : X → Type 0} → IsShape shape values P
+    → (key : List ℕ) (make : X → Instr) → ((x : X) → P x → IsValue key (values x) (make x))
+    → (name : List ℕ) (operands : List Data) (others : Option Instr) (i : Instr) → cond (bytes_eq name key) (shape operands >>= λ x. Some (make x)) others ≡ Some i
+    → (others ≡ Some i → IsValue name operands i) → IsValue name operands i
+by_name {shape = shape} {values = values} s key make value name operands others i e there =
+    by_test _ _ _ i (IsValue name operands i) e (λ t e.
+    let x = bind_some _ _ _ e in
+    let taken = s.takes operands x.0 x.1 in
+    let same_name : name ≡ key = (bytes_eq-Decides name key).0 t in
+    let same_operands : operands ≡ values x.0 = taken.0 in
+    let same : make x.0 ≡ i = cc in
+    rw (same_name, same_operands) (subst (IsValue key (values x.0)) same (value x.0 taken.1))) there
+
+instr_of_takes : (name : List ℕ) (operands : List Data) (i : Instr) → instr_of name operands ≡ Some i → IsValue name operands i
+unfolding instr_of
+instr_of_takes name operands i e =
+    by_name lit (codes "lit") (λ x. instr.Lit x.0 x.1) (λ x p. (refl, p)) name operands _ i e (λ e.
+    by_name three (codes "add") (λ x. instr.Add x.0 x.1 x.2) (λ x p. (refl, p)) name operands _ i e (λ e.
+    by_name one (codes "print") instr.Print (λ x p. (refl, p)) name operands _ i e (λ e.
+    by_name one (codes "make") instr.Make (λ x p. (refl, p)) name operands _ i e (λ e.
+    by_name one (codes "resume") instr.Resume (λ x p. (refl, p)) name operands _ i e (λ e.
+    by_name one (codes "drop") instr.Drop (λ x p. (refl, p)) name operands _ i e (λ e.
+    by_name none (codes "advance") (λ _. instr.Advance) (λ x p. (refl, p)) name operands _ i e (λ e.
+    by_name none (codes "ret") (λ _. instr.Ret) (λ x p. (refl, p)) name operands _ i e (λ e.
+    absurd cc))))))))
+
+pub instr_takes : (d : Data) (i : Instr) → instr_at d ≡ Some i → (d ≡ instr_value i) × IsInstrInRange i
+unfolding instr_at
+instr_takes d i e =
+    let values = bind_some _ _ _ e in
+    let parts = bind_some _ _ _ values.2 in
+    let name = bind_some _ _ _ parts.2 in
+    let t = instr_of_takes name.0 parts.0.1 i name.2 in (
+      array_takes d values.0 values.1
+          ∙ ap array_of (head_takes values.0 parts.0 parts.1 ∙ ap (λ (x : Data). x ∷ parts.0.1) (str_takes parts.0.0 name.0 name.1))
+          ∙ t.0,
+      t.1,
+    )
+
+instr_of_again : (name : List ℕ) (operands : List Data) (i : Instr) → instr_of name operands ≡ Some i → instr_at (named name operands) ≡ Some i
+unfolding instr_at
+instr_of_again name operands i e = ap (instr_of name) (listed-items_of operands) ∙ e
+
+pub instr_again : (i : Instr) → IsInstrInRange i → instr_at (instr_value i) ≡ Some i
+unfolding instr_of
+instr_again (instr.Lit d n) p = instr_of_again (codes "lit") (lit_values (d, n)) (instr.Lit d n) (rw (lit_again (d, n) p) refl)
+instr_again (instr.Add d a b) p = instr_of_again (codes "add") (three_values (d, a, b)) (instr.Add d a b) (rw (three_again (d, a, b) p) refl)
+instr_again (instr.Print a) p = instr_of_again (codes "print") (word a ∷ []) (instr.Print a) (rw (one_again a p) refl)
+instr_again (instr.Make k) p = instr_of_again (codes "make") (word k ∷ []) (instr.Make k) (rw (one_again k p) refl)
+instr_again (instr.Resume k) p = instr_of_again (codes "resume") (word k ∷ []) (instr.Resume k) (rw (one_again k p) refl)
+instr_again (instr.Drop k) p = instr_of_again (codes "drop") (word k ∷ []) (instr.Drop k) (rw (one_again k p) refl)
+instr_again instr.Advance p = instr_of_again (codes "advance") [] instr.Advance refl
+instr_again instr.Ret p = instr_of_again (codes "ret") [] instr.Ret refl

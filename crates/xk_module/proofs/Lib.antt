@@ -1,0 +1,6 @@
+pub mod Lists
+pub mod Loop
+pub mod Parts
+pub mod Instrs
+pub mod Modules
+pub mod Texts

@@ -1,0 +1,187 @@
+-- The two laws: what is read is the value of a module, and the value of a module is read as that module.
+use Rattle.std.proofs.Common.{◌≡◌, ℕ, ℤ, Bool, true, false, cond, eqb, List, [], ◌∷◌, map, Option, Some, None, codes, refl, sym, ap, ◌∙◌, subst}
+use Rattle.std.specs.Bool.{⊤}
+use Rattle.std.specs.List.{AllByRecursion}
+use Rattle.std.proofs.lemmas.Bool.{eqb-true}
+use Rattle.std.proofs.lemmas.Slice.Eq.{bytes_eq-Decides}
+use Rattle.serde_json.specs.Data.{Data, number, string}
+use Rattle.xk_types.specs.declared.instr.Instr.{Instr}
+use Rattle.xk_types.specs.declared.unit.UnitKind.{UnitKind}
+use Rattle.xk_types.specs.declared.unit.UnitKind.TheVariants as unit_kind
+use Rattle.xk_types.specs.declared.unit.ParamKind.{ParamKind}
+use Rattle.xk_types.specs.declared.unit.ParamKind.TheVariants as param_kind
+use Rattle.xk_types.specs.Code.{UnitValue, ModuleValue, module_of}
+use Rattle.xk_module.specs.ModuleText.{long, word, array_of, object_of, instr_value, kind_value, letter, unit_value, module_value, IsWord, IsLong, IsInstrInRange, IsUnitInRange, IsInRange, Names}
+use Rattle.xk_module.specs.Named.{each, long_at, instr_at, kind_of, kind_at, param_at, params_at, code_at, unit_at, version_at, shared_at, units_at, module_at}
+use Rattle.xk_module.proofs.Lists.{listed-items_of}
+use Rattle.xk_module.proofs.Parts.{bind_some, then, guard_some, number_takes, str_takes, u64_takes, word_takes, word_again, long_takes, long_again, array_takes, object_takes, then_others, end_takes, each_takes, each_again}
+use Rattle.xk_module.proofs.Instrs.{instr_takes, instr_again}
+
+-- ---- the kind and the parameters of a unit
+
+kind_of_takes : (name : List ℕ) (k : UnitKind) → kind_of name ≡ Some k → string name ≡ kind_value k
+kind_of_takes name unit_kind.Main e =
+    let g = guard_some _ _ _ e in
+    ap string ((bytes_eq-Decides name (codes "main")).0 g.0)
+
+kind_takes : (d : Data) (k : UnitKind) → kind_at d ≡ Some k → d ≡ kind_value k
+unfolding kind_at
+kind_takes d k e =
+    let name = bind_some _ _ _ e in
+    str_takes d name.0 name.1 ∙ kind_of_takes name.0 k name.2
+
+kind_again : (k : UnitKind) → kind_at (kind_value k) ≡ Some k
+unfolding kind_at
+kind_again unit_kind.Main = refl
+
+by_letter : (n : ℕ) (a b : Bool) (k : ParamKind) → (a ≡ true → n ≡ 110) → (b ≡ true → n ≡ 99) → cond a (Some param_kind.Number) (cond b (Some param_kind.Clock) None) ≡ Some k → n ≡ letter k
+by_letter n true b k h i e = let same : param_kind.Number ≡ k = cc in h refl ∙ ap letter same
+by_letter n false true k h i e = let same : param_kind.Clock ≡ k = cc in i refl ∙ ap letter same
+by_letter n false false k h i e = absurd cc
+
+param_takes : (n : ℕ) (k : ParamKind) → param_at n ≡ Some k → (n ≡ letter k) × ⊤
+param_takes n k e = (by_letter n _ _ k (eqb-true n 110) (eqb-true n 99) e, tt)
+
+param_again : (k : ParamKind) → ⊤ → param_at (letter k) ≡ Some k
+param_again param_kind.Number p = refl
+param_again param_kind.Clock p = refl
+
+nothing_asked : {A : Type 0} (xs : List A) → AllByRecursion (λ _. ⊤) xs
+nothing_asked [] = tt
+nothing_asked (x ∷ xs) = (tt, nothing_asked xs)
+
+params_takes : (d : Data) (ks : List ParamKind) → params_at d ≡ Some ks → d ≡ string (map letter ks)
+unfolding params_at
+params_takes d ks e =
+    let letters = bind_some _ _ _ e in
+    str_takes d letters.0 letters.1 ∙ ap string (each_takes param_at letter (λ _. ⊤) param_takes letters.0 ks letters.2).0
+
+params_again : (ks : List ParamKind) → params_at (string (map letter ks)) ≡ Some ks
+unfolding params_at
+params_again ks = each_again param_at letter (λ _. ⊤) param_again ks (nothing_asked ks)
+
+-- ---- units
+
+code_takes : (d : Data) (is : List Instr) → code_at d ≡ Some is → (d ≡ array_of (map instr_value is)) × AllByRecursion IsInstrInRange is
+unfolding code_at
+code_takes d is e =
+    let values = bind_some _ _ _ e in
+    let t = each_takes instr_at instr_value IsInstrInRange instr_takes values.0 is values.2 in
+    (array_takes d values.0 values.1 ∙ ap array_of t.0, t.1)
+
+code_again : (is : List Instr) → AllByRecursion IsInstrInRange is → code_at (array_of (map instr_value is)) ≡ Some is
+unfolding code_at
+code_again is p = ap (each instr_at) (listed-items_of (map instr_value is)) ∙ each_again instr_at instr_value IsInstrInRange instr_again is p
+
+-- the object of a unit with these values
+abbrev unit_object : Data → Data → Data → Data → Data
+unit_object code kind params slots = object_of ((codes "code", code) ∷ (codes "kind", kind) ∷ (codes "params", params) ∷ (codes "slots", slots) ∷ [])
+
+same_unit : (a a' b b' c c' d d' : Data) → a ≡ a' → b ≡ b' → c ≡ c' → d ≡ d' → unit_object a b c d ≡ unit_object a' b' c' d'
+same_unit a a' b b' c c' d d' p q r s = cc
+
+unit_takes : (d : Data) (u : UnitValue) → unit_at d ≡ Some u → (d ≡ unit_value u) × IsUnitInRange u
+unfolding unit_at
+unit_takes d u e =
+    then _ _ u _ e (λ members is_members e.
+    then _ _ u _ e (λ code is_code e.
+    then _ _ u _ e (λ kind is_kind e.
+    then _ _ u _ e (λ params is_params e.
+    then _ _ u _ e (λ slots is_slots e.
+    then _ _ u _ e (λ end is_end e.
+    let listed = then_others _ members code _ is_code (then_others _ code.1 kind _ is_kind (then_others _ kind.1 params _ is_params (then_others _ params.1 slots _ is_slots (end_takes slots.1 end is_end)))) in
+    let whole : d ≡ unit_object code.0 kind.0 params.0 slots.0 = object_takes d members is_members ∙ ap object_of listed in
+    then _ _ u _ e (λ code_value is_code e.
+    then _ _ u _ e (λ kind_value is_kind e.
+    then _ _ u _ e (λ params_value is_params e.
+    then _ _ u _ e (λ slots_value is_slots e.
+    let of_code = code_takes code.0 code_value is_code in
+    let of_kind = kind_takes kind.0 kind_value is_kind in
+    let of_params = params_takes params.0 params_value is_params in
+    let of_slots = word_takes slots.0 slots_value is_slots in
+    let made : UnitValue = record { kind = kind_value; params = params_value; slots = slots_value; code = code_value } in
+    let same : made ≡ u = cc in
+    subst (λ (u : UnitValue). (d ≡ unit_value u) × IsUnitInRange u) same
+    (whole ∙ same_unit _ _ _ _ _ _ _ _ of_code.0 of_kind of_params of_slots.0, record { slots = of_slots.1; code = of_code.1 })))))))))))
+
+unit_again : (u : UnitValue) → IsUnitInRange u → unit_at (unit_value u) ≡ Some u
+unfolding unit_at
+unit_again u p = rw (code_again u.code p.code, kind_again u.kind, params_again u.params, word_again u.slots p.slots) refl
+
+-- ---- modules
+
+version_takes : (d : Data) (x : ⊤) → version_at d ≡ Some x → d ≡ word 1
+unfolding version_at
+version_takes d x e =
+    let k = bind_some _ _ _ e in
+    let n = bind_some _ _ _ k.2 in
+    let g = guard_some _ _ _ n.2 in
+    number_takes d k.0 k.1 ∙ ap number (u64_takes k.0 n.0 n.1) ∙ ap word (eqb-true n.0 1 g.0)
+
+version_again : version_at (word 1) ≡ Some tt
+unfolding version_at
+version_again = refl
+
+shared_takes : (d : Data) (zs : List ℤ) → shared_at d ≡ Some zs → (d ≡ array_of (map long zs)) × AllByRecursion IsLong zs
+unfolding shared_at
+shared_takes d zs e =
+    let values = bind_some _ _ _ e in
+    let t = each_takes long_at long IsLong long_takes values.0 zs values.2 in
+    (array_takes d values.0 values.1 ∙ ap array_of t.0, t.1)
+
+shared_again : (zs : List ℤ) → AllByRecursion IsLong zs → shared_at (array_of (map long zs)) ≡ Some zs
+unfolding shared_at
+shared_again zs p = ap (each long_at) (listed-items_of (map long zs)) ∙ each_again long_at long IsLong long_again zs p
+
+units_takes : (d : Data) (us : List UnitValue) → units_at d ≡ Some us → (d ≡ array_of (map unit_value us)) × AllByRecursion IsUnitInRange us
+unfolding units_at
+units_takes d us e =
+    let values = bind_some _ _ _ e in
+    let t = each_takes unit_at unit_value IsUnitInRange unit_takes values.0 us values.2 in
+    (array_takes d values.0 values.1 ∙ ap array_of t.0, t.1)
+
+units_again : (us : List UnitValue) → AllByRecursion IsUnitInRange us → units_at (array_of (map unit_value us)) ≡ Some us
+unfolding units_at
+units_again us p = ap (each unit_at) (listed-items_of (map unit_value us)) ∙ each_again unit_at unit_value IsUnitInRange unit_again us p
+
+-- the object of a module with these values
+abbrev module_object : Data → Data → Data → Data
+module_object shared units version = object_of ((codes "shared", shared) ∷ (codes "units", units) ∷ (codes "version", version) ∷ [])
+
+same_module : (a a' b b' c c' : Data) → a ≡ a' → b ≡ b' → c ≡ c' → module_object a b c ≡ module_object a' b' c'
+same_module a a' b b' c c' p q r = cc
+
+-- what is read is named
+pub module_takes : (d : Data) (m : ModuleValue) → module_at d ≡ Some m → Names d m
+unfolding module_at
+module_takes d m e =
+    then _ _ m _ e (λ members is_members e.
+    then _ _ m _ e (λ shared is_shared e.
+    then _ _ m _ e (λ units is_units e.
+    then _ _ m _ e (λ version is_version e.
+    then _ _ m _ e (λ end is_end e.
+    let listed = then_others _ members shared _ is_shared (then_others _ shared.1 units _ is_units (then_others _ units.1 version _ is_version (end_takes version.1 end is_end))) in
+    let whole : d ≡ module_object shared.0 units.0 version.0 = object_takes d members is_members ∙ ap object_of listed in
+    then _ _ m _ e (λ number is_number e.
+    then _ _ m _ e (λ shared_value is_shared e.
+    then _ _ m _ e (λ units_value is_units e.
+    let of_shared = shared_takes shared.0 shared_value is_shared in
+    let of_units = units_takes units.0 units_value is_units in
+    let of_version = version_takes version.0 number is_number in
+    let same : module_of shared_value units_value ≡ m = cc in
+    subst (Names d) same (record {
+      value = whole ∙ same_module _ _ _ _ _ _ of_shared.0 of_units.0 of_version;
+      range = record { shared = of_shared.1; units = of_units.1 };
+    })))))))))
+
+value_again : (m : ModuleValue) → IsInRange m → module_at (module_value m) ≡ Some m
+unfolding module_at
+value_again m p = rw (version_again, shared_again m.shared p.shared, units_again m.units p.units) refl
+
+-- what is named is read
+pub module_again : (d : Data) (m : ModuleValue) → Names d m → module_at d ≡ Some m
+module_again d m names = ap module_at names.value ∙ value_again m names.range
+
+-- a value names one module at most
+pub named_once : (d : Data) (m n : ModuleValue) → Names d m → Names d n → m ≡ n
+named_once d m n p q = let e : Some m ≡ Some n = sym (module_again d m p) ∙ module_again d n q in cc

@@ -1,0 +1,123 @@
+-- Module text, version 1: which JSON value each module has.
+use Rattle.std.specs.Prelude.{◌≡◌, ℕ, ℤ, ◌^◌, ◌<◌, List, [], ◌∷◌, map, codes, Some, IsUtf8, FitsSigned}
+use Rattle.std.specs.Int.{w64}
+use Rattle.std.specs.List.{AllByRecursion}
+use Rattle.serde_json.specs.Data.{Data, number, string, array, object, unsigned, Members, no_members, member}
+use Rattle.serde_json.specs.Find.{of_integer}
+use Rattle.serde_json.specs.Read.{read}
+use Rattle.serde_json.specs.View.{items_of}
+use Rattle.xk_types.specs.declared.instr.Instr.{Instr}
+use Rattle.xk_types.specs.declared.instr.Instr.TheVariants as instr
+use Rattle.xk_types.specs.declared.unit.UnitKind.{UnitKind}
+use Rattle.xk_types.specs.declared.unit.UnitKind.TheVariants as unit_kind
+use Rattle.xk_types.specs.declared.unit.ParamKind.{ParamKind}
+use Rattle.xk_types.specs.declared.unit.ParamKind.TheVariants as param_kind
+use Rattle.xk_types.specs.Code.{UnitValue, ModuleValue}
+
+-- ---- values
+
+-- a whole number of 64 bits, signed
+abbrev pub long : ℤ → Data
+long z = number (of_integer z)
+
+-- a whole number that isn't negative, as of a slot
+abbrev pub word : ℕ → Data
+word n = number (unsigned n)
+
+abbrev pub array_of : List Data → Data
+array_of values = array (items_of values)
+
+abbrev pub members_of : List (List ℕ × Data) → Members
+members_of [] = no_members
+members_of (m ∷ ms) = member m.0 m.1 (members_of ms)
+
+-- an object with these keys, which stand in order
+abbrev pub object_of : List (List ℕ × Data) → Data
+object_of members = object (members_of members)
+
+-- ---- modules
+
+-- an instruction's name, then its operands in order
+abbrev pub named : List ℕ → List Data → Data
+named name operands = array_of (string name ∷ operands)
+
+abbrev pub instr_value : Instr → Data
+instr_value (instr.Lit d n) = named (codes "lit") (word d ∷ long n ∷ [])
+instr_value (instr.Add d a b) = named (codes "add") (word d ∷ word a ∷ word b ∷ [])
+instr_value (instr.Print a) = named (codes "print") (word a ∷ [])
+instr_value (instr.Make k) = named (codes "make") (word k ∷ [])
+instr_value (instr.Resume k) = named (codes "resume") (word k ∷ [])
+instr_value (instr.Drop k) = named (codes "drop") (word k ∷ [])
+instr_value instr.Advance = named (codes "advance") []
+instr_value instr.Ret = named (codes "ret") []
+
+abbrev pub kind_value : UnitKind → Data
+kind_value unit_kind.Main = string (codes "main")
+
+-- the letter of a parameter: `n` or `c`
+abbrev pub letter : ParamKind → ℕ
+letter param_kind.Number = 110
+letter param_kind.Clock = 99
+
+abbrev pub unit_value : UnitValue → Data
+unit_value u = object_of
+    ((codes "code", array_of (map instr_value u.code))
+    ∷ (codes "kind", kind_value u.kind)
+    ∷ (codes "params", string (map letter u.params))
+    ∷ (codes "slots", word u.slots)
+    ∷ [])
+
+-- the one JSON value of a module
+abbrev pub module_value : ModuleValue → Data
+module_value m = object_of
+    ((codes "shared", array_of (map long m.shared))
+    ∷ (codes "units", array_of (map unit_value m.units))
+    ∷ (codes "version", word 1)
+    ∷ [])
+
+-- ---- ranges
+
+-- 0 to 65,535
+abbrev pub IsWord : ℕ → Type 0
+IsWord n = n < 2 ^ 16
+
+-- 64 bits, signed
+abbrev pub IsLong : ℤ → Type 0
+IsLong z = FitsSigned w64 z
+
+abbrev pub IsInstrInRange : Instr → Type 0
+IsInstrInRange (instr.Lit d n) = IsWord d × IsLong n
+IsInstrInRange (instr.Add d a b) = IsWord d × IsWord a × IsWord b
+IsInstrInRange (instr.Print a) = IsWord a
+IsInstrInRange (instr.Make k) = IsWord k
+IsInstrInRange (instr.Resume k) = IsWord k
+IsInstrInRange (instr.Drop k) = IsWord k
+IsInstrInRange instr.Advance = Unit {0}
+IsInstrInRange instr.Ret = Unit {0}
+
+pub record IsUnitInRange (u : UnitValue) : Type 0 where
+  pub slots : IsWord u.slots
+  pub code : AllByRecursion IsInstrInRange u.code
+
+pub record IsInRange (m : ModuleValue) : Type 0 where
+  pub shared : AllByRecursion IsLong m.shared
+  pub units : AllByRecursion IsUnitInRange m.units
+
+-- ---- the relation between values and modules, limits left out
+
+pub record Names (d : Data) (m : ModuleValue) : Type 0 where
+  pub value : d ≡ module_value m
+  pub range : IsInRange m
+
+-- the bytes are a text of this JSON value, in UTF-8
+pub record IsText (bytes : List ℕ) (d : Data) : Type 0 where
+  pub utf8 : IsUtf8 bytes
+  pub value : read bytes ≡ Some d
+
+-- the bytes are a JSON text
+abbrev pub IsJson : List ℕ → Type 0
+IsJson bytes = (d : Data) × IsText bytes d
+
+-- the bytes are a text of the module, within the limits or not
+abbrev pub IsModuleText : List ℕ → ModuleValue → Type 0
+IsModuleText bytes m = (d : Data) × IsText bytes d × Names d m

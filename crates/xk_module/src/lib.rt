@@ -1,0 +1,14 @@
+//! Module text: bytes to modules.
+#![tactic(auto)]
+
+mod fault;
+mod json;
+pub mod laws;
+mod reading;
+mod text;
+
+pub use fault::ModuleFault;
+pub use text::read_module;
+
+#[cfg(test)]
+mod tests;

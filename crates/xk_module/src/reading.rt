@@ -1,0 +1,210 @@
+//! Reads modules out of JSON values.
+
+ghost use Rattle.std.specs.Prelude.{◌≡◌, List, Option, map};
+ghost use Rattle.serde_json.specs.Data.{Data};
+ghost use Rattle.serde_json.specs.View.{view};
+ghost use Rattle.xk_types.specs.Code.{module_of};
+ghost use Rattle.xk_module.specs.Named.{Gives, views, each, none_at, one_at, three_at, lit_at, instr_of, kind_at, param_at, params_at, version_at, module_at};
+
+use crate::fault::Refusal;
+use crate::json::{array, end, field, long, object, text, word};
+use serde_json::Value;
+use std::alloc::Global;
+use xk_types::{Instr, ParamKind, Unit, UnitKind};
+
+/// What a JSON value can name.
+trait Named: Drop {
+    /// The one that a value names, if it names one.
+    ghost named: { Data → Option Self };
+
+    /// Reads it.
+    fn read(alloc: Global, value: &Value) -> Result<Self, Refusal>
+        ensures { Gives (λ x. x) result (named (view value.now)) };
+}
+
+/// Reads each of the values.
+fn all<T: Named>(alloc: Global, values: &[Value]) -> Result<Vec<T>, Refusal>
+    ensures { Gives (λ found. found.items) result (each T.named (views values.now)) }
+{
+    let mut found = Vec::new(alloc);
+    for value in values {
+        found.push(T::read(alloc, value)?)?;
+    }
+    Ok(found)
+}
+
+impl Named for i64 {
+    ghost use Rattle.xk_module.specs.Named.{long_at};
+
+    ghost named = { long_at };
+
+    fn read(_alloc: Global, value: &Value) -> Result<i64, Refusal> {
+        long(value)
+    }
+}
+
+impl Named for Instr {
+    ghost use Rattle.xk_module.specs.Named.{instr_at};
+
+    ghost named = { instr_at };
+
+    #[tactic(auto, unfolding(crate::specs::Named::instr_at))]
+    fn read(_alloc: Global, value: &Value) -> Result<Instr, Refusal> {
+        let Some((name, operands)) = array(value)?.split_first() else {
+            return Err(Refusal::Unfit);
+        };
+        instr(text(name)?, operands)
+    }
+}
+
+impl Named for Unit {
+    ghost use Rattle.xk_module.specs.Named.{unit_at};
+
+    ghost named = { unit_at };
+
+    #[tactic(auto, unfolding(crate::specs::Named::unit_at, crate::specs::Named::code_at))]
+    fn read(alloc: Global, value: &Value) -> Result<Unit, Refusal> {
+        let mut members = object(value)?;
+        let code = field(&mut members, "code")?;
+        let kind = field(&mut members, "kind")?;
+        let params = field(&mut members, "params")?;
+        let slots = field(&mut members, "slots")?;
+        end(members)?;
+        let code = all(alloc, array(code)?)?;
+        let kind = unit_kind(kind)?;
+        let params = param_kinds(alloc, params)?;
+        let slots = word(slots)?;
+        Ok(Unit {
+            kind,
+            params,
+            slots,
+            code,
+        })
+    }
+}
+
+/// The instruction of this name with these operands.
+#[tactic(auto, unfolding(crate::specs::Named::instr_of))]
+fn instr(name: &str, operands: &[Value]) -> Result<Instr, Refusal>
+    ensures { Gives (λ x. x) result (instr_of name.now (views operands.now)) }
+{
+    match name {
+        "lit" => {
+            let (d, n) = slot_and_number(operands)?;
+            Ok(Instr::Lit(d, n))
+        }
+        "add" => {
+            let (d, a, b) = three_slots(operands)?;
+            Ok(Instr::Add(d, a, b))
+        }
+        "print" => Ok(Instr::Print(one_slot(operands)?)),
+        "make" => Ok(Instr::Make(one_slot(operands)?)),
+        "resume" => Ok(Instr::Resume(one_slot(operands)?)),
+        "drop" => Ok(Instr::Drop(one_slot(operands)?)),
+        "advance" => {
+            no_operand(operands)?;
+            Ok(Instr::Advance)
+        }
+        "ret" => {
+            no_operand(operands)?;
+            Ok(Instr::Ret)
+        }
+        _ => Err(Refusal::Unfit),
+    }
+}
+
+fn no_operand(operands: &[Value]) -> Result<(), Refusal>
+    ensures { Gives (λ x. x) result (none_at (views operands.now)) }
+{
+    match operands {
+        [] => Ok(()),
+        _ => Err(Refusal::Unfit),
+    }
+}
+
+#[tactic(auto, unfolding(crate::specs::Named::one_at))]
+fn one_slot(operands: &[Value]) -> Result<u16, Refusal>
+    ensures { Gives (λ x. x) result (one_at (views operands.now)) }
+{
+    match operands {
+        [a] => word(a),
+        _ => Err(Refusal::Unfit),
+    }
+}
+
+#[tactic(auto, unfolding(crate::specs::Named::three_at))]
+fn three_slots(operands: &[Value]) -> Result<(u16, u16, u16), Refusal>
+    ensures { Gives (λ x. x) result (three_at (views operands.now)) }
+{
+    match operands {
+        [a, b, c] => Ok((word(a)?, word(b)?, word(c)?)),
+        _ => Err(Refusal::Unfit),
+    }
+}
+
+#[tactic(auto, unfolding(crate::specs::Named::lit_at))]
+fn slot_and_number(operands: &[Value]) -> Result<(u16, i64), Refusal>
+    ensures { Gives (λ x. x) result (lit_at (views operands.now)) }
+{
+    match operands {
+        [d, n] => Ok((word(d)?, long(n)?)),
+        _ => Err(Refusal::Unfit),
+    }
+}
+
+#[tactic(auto, unfolding(crate::specs::Named::kind_at))]
+fn unit_kind(value: &Value) -> Result<UnitKind, Refusal>
+    ensures { Gives (λ x. x) result (kind_at (view value.now)) }
+{
+    match text(value)? {
+        "main" => Ok(UnitKind::Main),
+        _ => Err(Refusal::Unfit),
+    }
+}
+
+/// The kinds of parameters that a text's letters stand for.
+#[tactic(auto, unfolding(crate::specs::Named::params_at))]
+fn param_kinds(alloc: Global, value: &Value) -> Result<Vec<ParamKind>, Refusal>
+    ensures { Gives (λ kinds. kinds.items) result (params_at (view value.now)) }
+{
+    let mut kinds = Vec::new(alloc);
+    for letter in text(value)?.as_bytes() {
+        kinds.push(param_kind(*letter)?)?;
+    }
+    Ok(kinds)
+}
+
+fn param_kind(letter: u8) -> Result<ParamKind, Refusal>
+    ensures { Gives (λ x. x) result (param_at letter) }
+{
+    match letter {
+        b'n' => Ok(ParamKind::Number),
+        b'c' => Ok(ParamKind::Clock),
+        _ => Err(Refusal::Unfit),
+    }
+}
+
+/// The version is 1.
+#[tactic(auto, unfolding(crate::specs::Named::version_at))]
+fn version(value: &Value) -> Result<(), Refusal>
+    ensures { Gives (λ x. x) result (version_at (view value.now)) }
+{
+    match value.as_u64() {
+        Some(1) => Ok(()),
+        _ => Err(Refusal::Unfit),
+    }
+}
+
+/// The shared numbers and the units of a module.
+#[tactic(auto, unfolding(crate::specs::Named::module_at, crate::specs::Named::shared_at, crate::specs::Named::units_at))]
+pub(crate) fn module(alloc: Global, value: &Value) -> Result<(Vec<i64>, Vec<Unit>), Refusal>
+    ensures { Gives (λ x. module_of x.0.items x.1.items) result (module_at (view value.now)) }
+{
+    let mut members = object(value)?;
+    let shared = field(&mut members, "shared")?;
+    let units = field(&mut members, "units")?;
+    let number = field(&mut members, "version")?;
+    end(members)?;
+    version(number)?;
+    Ok((all(alloc, array(shared)?)?, all(alloc, array(units)?)?))
+}

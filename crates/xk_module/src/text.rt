@@ -1,0 +1,59 @@
+//! Module text, version 1.
+
+ghost use Rattle.std.specs.Prelude.{◌<◌, length, IfOk, IfErr, IsErrOf};
+ghost use Rattle.serde_json.specs.Data.{Data};
+ghost use Rattle.serde_json.specs.View.{view};
+ghost use Rattle.xk_types.specs.Code.{ModuleValue, IsWithinLimits};
+ghost use Rattle.xk_module.specs.ModuleText.{IsText, IsJson, IsModuleText};
+
+use crate::fault::ModuleFault;
+use crate::reading::module;
+use serde_json::Value;
+use std::alloc::Global;
+use xk_types::Module;
+
+/// Reads a module from its text, which is one JSON object in UTF-8 with the keys `version` (the number 1), `shared` (an
+/// array of whole numbers of 64 bits, signed) and `units` (an array of objects), and no other. A unit has the keys
+/// `kind` (`"main"`), `params` (a letter for each parameter, `n` for a number and `c` for a clock), `slots` (0 to
+/// 65,535) and `code`, and no other. The code is an array of instructions, and an instruction an array of its name and
+/// its operands: `["lit",d,n]`, `["add",d,a,b]`, `["print",a]`, `["make",k]`, `["resume",k]`, `["drop",k]`,
+/// `["advance"]`, `["ret"]`, where n is a whole number of 64 bits, signed, and the others are slots from 0 to 65,535.
+///
+/// Keys and white space stand in any order; of a key that comes twice the last value counts. `1.0`, `1e0` and `-0` are
+/// no whole numbers. The limits of a module count only where the whole value fits.
+///
+/// What goes wrong is a `ModuleFault`. `OutOfMemory` comes where memory was refused and never else.
+pub fn read_module(alloc: Global, bytes: &[u8]) -> Result<Module, ModuleFault>
+    ensures read { IfOk result (IsModuleText bytes.now) }
+    ensures limits { IfOk result IsWithinLimits }
+
+    // What each error says. Memory isn't refused for an empty text.
+    ensures not_json { IsErrOf result ModuleFault.NotJson → ¬ IsJson bytes.now }
+    ensures not_a_module { IsErrOf result ModuleFault.NotAModule
+        → IsJson bytes.now × ((m : ModuleValue) → ¬ IsModuleText bytes.now m) }
+    ensures beyond_limits { IsErrOf result ModuleFault.Limit
+        → (m : ModuleValue) × IsModuleText bytes.now m × ¬ IsWithinLimits m }
+    ensures memory { IsErrOf result ModuleFault.OutOfMemory → 0 < length bytes.now }
+{
+    let value = json(alloc, bytes)?;
+    let (shared, units) = module(alloc, &value)?;
+    match Module::new(shared, units) {
+        Ok(module) => Ok(module),
+        Err(_) => Err(ModuleFault::Limit),
+    }
+}
+
+/// Reads a JSON value. Its only faults are `NotJson` and `OutOfMemory`.
+fn json(alloc: Global, bytes: &[u8]) -> Result<Value, ModuleFault>
+    ensures read { IfOk result (λ value. IsText bytes.now (view value)) }
+    ensures not_json { IsErrOf result ModuleFault.NotJson → ¬ IsJson bytes.now }
+    ensures not_a_module { ¬ IsErrOf result ModuleFault.NotAModule }
+    ensures limit { ¬ IsErrOf result ModuleFault.Limit }
+    ensures memory { IsErrOf result ModuleFault.OutOfMemory → 0 < length bytes.now }
+{
+    match Value::from_slice(alloc, bytes) {
+        Ok(value) => Ok(value),
+        Err(e) if e.is_memory() => Err(ModuleFault::OutOfMemory),
+        Err(_) => Err(ModuleFault::NotJson),
+    }
+}
