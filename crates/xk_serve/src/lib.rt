@@ -13,4 +13,5 @@ pub use bytes::{read_all, write_all};
 pub use done::Done;
 pub use fault::Fault;
 pub use first_run::run_first;
-pub use serving::serve;
+pub use serving::{report, serve, tell};
+

@@ -4,7 +4,7 @@ ghost use Rattle.std.specs.Prelude.{◌≡◌, ◌≢◌, ◌⊎◌, [], IfOk, I
 ghost use Rattle.std.specs.Io.KnownBytes.{Appends};
 ghost use Rattle.xk_types.specs.Device.{Rose};
 ghost use Rattle.xk_serve.specs.Bytes.{AppendsBeginning};
-ghost use Rattle.xk_serve.specs.Lines.{memory_line};
+ghost use Rattle.xk_serve.specs.Lines.{device_line, memory_line};
 ghost use Rattle.xk_serve.specs.Serving.{Answered, OutBegins, Prints, Reports, StandsAgainst, Tells};
 
 use crate::answering::answer;
@@ -36,6 +36,8 @@ pub fn serve<P: Source, L: Source, O: Sink, E: Sink, K: Sink>(
     ensures device { result ≡ 5 → Rose (P.fault_count program.old) (P.fault_count program.new)
         ⊎ (Rose (O.fault_count out.old) (O.fault_count out.new) ⊎ Rose (E.fault_count err.old) (E.fault_count err.new)) }
 
+    ensures device_err { result ≡ 5 → Appends (E.contents err.old) (E.contents err.new) device_line ⊎ Rose (E.fault_count err.old) (E.fault_count err.new) }
+
     // The logs.
     ensures log_in { _log_in.new ≡ _log_in.old }
     ensures log_out { _log_out.new ≡ _log_out.old }
@@ -60,6 +62,7 @@ fn result_text<P: Source>(alloc: Global, command: Command, program: &mut P) -> R
 fn print<O: Sink, E: Sink>(alloc: Global, text: &str, out: &mut O, err: &mut E) -> u8
     ensures printed { ((result ≡ 0) × Appends (O.contents out.old) (O.contents out.new) text.now × Appends (E.contents err.old) (E.contents err.new) [])
         ⊎ ((result ≡ 5) × Rose (O.fault_count out.old) (O.fault_count out.new)) }
+    ensures told { result ≡ 5 → Appends (E.contents err.old) (E.contents err.new) device_line ⊎ Rose (E.fault_count err.old) (E.fault_count err.new) }
     ensures beginning { AppendsBeginning (O.contents out.old) (O.contents out.new) text.now }
 {
     match write_all(out, text.as_bytes()) {
@@ -68,8 +71,9 @@ fn print<O: Sink, E: Sink>(alloc: Global, text: &str, out: &mut O, err: &mut E) 
     }
 }
 
-// Writes the line of a fault, and gives the status.
-fn report<E: Sink>(alloc: Global, fault: &Fault, err: &mut E) -> u8
+/// Writes the line of a fault, and gives the status: the fault's, or 4 where memory for the line ran out, or 5 where it can't
+/// be written. The lines of want of memory and of devices take no memory.
+pub fn report<E: Sink>(alloc: Global, fault: &Fault, err: &mut E) -> u8
     ensures { Reports fault.now (E.contents err.old) (E.contents err.new) (E.fault_count err.old) (E.fault_count err.new) result }
 {
     match fault {
@@ -82,8 +86,8 @@ fn report<E: Sink>(alloc: Global, fault: &Fault, err: &mut E) -> u8
     }
 }
 
-// Writes a line, and gives the status, or 5 where it can't be written.
-fn tell<E: Sink>(line: &str, status: u8, err: &mut E) -> u8
+/// Writes a line, and gives the status, or 5 where it can't be written.
+pub fn tell<E: Sink>(line: &str, status: u8, err: &mut E) -> u8
     ensures { Tells line.now status (E.contents err.old) (E.contents err.new) (E.fault_count err.old) (E.fault_count err.new) result }
 {
     match write_all(err, line.as_bytes()) {
