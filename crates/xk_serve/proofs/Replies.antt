@@ -1,14 +1,13 @@
 -- From a fault and how it was told to the clauses of the whole program.
-use Rattle.std.proofs.Common.{◌≡◌, ◌≢◌, ◌⊎◌, ℕ, List, [], ◌++◌, Option, Some, None, inl, inr, refl, sym, ap, ◌∙◌}
+use Rattle.std.proofs.Common.{◌≡◌, ◌≢◌, ◌⊎◌, ℕ, List, [], Option, Some, None, inl, inr, refl, sym, ◌∙◌}
 use Rattle.std.proofs.lemmas.List.{append-nil}
 use Rattle.std.specs.Prelude.{IfSome}
 use Rattle.std.specs.Io.KnownBytes.{Appends}
-use Rattle.xk_types.specs.Device.{Rose}
 use Rattle.xk_words.specs.declared.job.Command.{Command}
 use Rattle.xk_serve.specs.declared.fault.Fault.{Fault}
 use Rattle.xk_serve.specs.declared.fault.Fault.TheVariants as fault
-use Rattle.xk_serve.specs.Answer.{Answers, FailsBy, done_reply, fault_reply}
-use Rattle.xk_serve.specs.Lines.{fault_line, status_of}
+use Rattle.xk_serve.specs.Answer.{FailsBy, done_reply, fault_reply}
+use Rattle.xk_serve.specs.Lines.{status_of}
 use Rattle.xk_serve.specs.Serving.{Answered, Prints, Reports, StandsAgainst}
 
 -- nothing was written

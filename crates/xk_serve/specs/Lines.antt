@@ -1,11 +1,10 @@
 -- The lines that the program prints. Each ends in a line feed.
-use Rattle.std.specs.Prelude.{ℕ, ℤ, List, [], ◌∷◌, ◌++◌, map, flat_map, codes, decimal, Option, Some, None}
+use Rattle.std.specs.Prelude.{ℕ, ℤ, List, ◌++◌, flat_map, codes, decimal, Option, Some, None}
 use Rattle.std.specs.Fmt.{signed_decimal}
 use Rattle.xk_types.specs.declared.rules.Rule.{Rule}
 use Rattle.xk_types.specs.declared.rules.Visit.{Visit}
 use Rattle.xk_types.specs.Names.{rule_number, rule_name, kind_name}
 use Rattle.xk_module.specs.Faults.{fault_label}
-use Rattle.xk_bounds.specs.declared.refusal.ShapeFault.{ShapeFault}
 use Rattle.xk_bounds.specs.declared.refusal.KindFault.{KindFault}
 use Rattle.xk_bounds.specs.declared.refusal.BoundFault.{BoundFault}
 use Rattle.xk_bounds.specs.declared.refusal.Refusal.{Refusal}

@@ -15,3 +15,5 @@ pub use fault::Fault;
 pub use first_run::run_first;
 pub use serving::{report, serve, tell};
 
+#[cfg(test)]
+mod tests;

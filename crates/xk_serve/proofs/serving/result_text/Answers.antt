@@ -1,4 +1,3 @@
-use Rattle.std.proofs.Common.{sym, ◌∙◌, ap}
 use Rattle.std.proofs.lemmas.Result.{err_from_is_err_and}
 use Rattle.xk_serve.proofs.Replies.{against_known}
 use Rattle.xk_serve.proofs.serving.result_text.Goals as goal
