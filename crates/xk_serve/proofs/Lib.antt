@@ -1,0 +1,2 @@
+pub mod FirstRuns
+pub mod Replies

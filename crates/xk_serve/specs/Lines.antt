@@ -1,0 +1,101 @@
+-- The lines that the program prints. Each ends in a line feed.
+use Rattle.std.specs.Prelude.{ℕ, ℤ, List, ◌++◌, flat_map, codes, decimal, Option, Some, None}
+use Rattle.std.specs.Fmt.{signed_decimal}
+use Rattle.xk_types.specs.declared.rules.Rule.{Rule}
+use Rattle.xk_types.specs.declared.rules.Visit.{Visit}
+use Rattle.xk_types.specs.Names.{rule_number, rule_name, kind_name}
+use Rattle.xk_module.specs.Faults.{fault_label}
+use Rattle.xk_bounds.specs.declared.refusal.KindFault.{KindFault}
+use Rattle.xk_bounds.specs.declared.refusal.BoundFault.{BoundFault}
+use Rattle.xk_bounds.specs.declared.refusal.Refusal.{Refusal}
+use Rattle.xk_bounds.specs.declared.refusal.Refusal.TheVariants as refusal
+use Rattle.xk_serve.specs.declared.done.Done.{Done}
+use Rattle.xk_serve.specs.declared.done.Done.TheVariants as done
+use Rattle.xk_serve.specs.declared.fault.Fault.{Fault}
+use Rattle.xk_serve.specs.declared.fault.Fault.TheVariants as fault
+
+-- ---- standard output
+
+-- a module that is accepted: `accepted steps 8 activities 1 clocks 1`
+abbrev pub accepted_line : ℕ → ℕ → ℕ → List ℕ
+accepted_line steps activities clocks =
+    codes "accepted steps " ++ (decimal steps ++ (codes " activities " ++ (decimal activities ++ (codes " clocks " ++ (decimal clocks ++ codes "\n")))))
+
+-- each number on a line of its own
+abbrev pub number_lines : List ℤ → List ℕ
+number_lines numbers = flat_map (λ n. signed_decimal n ++ codes "\n") numbers
+
+-- a run that came to its end: `ended steps 8`
+abbrev pub ended_line : ℕ → List ℕ
+ended_line steps = codes "ended steps " ++ (decimal steps ++ codes "\n")
+
+abbrev pub done_text : Done → List ℕ
+done_text (done.Accepted steps activities clocks) = accepted_line steps activities clocks
+done_text (done.Ended printed steps) = number_lines printed.items ++ ended_line steps
+
+-- ---- standard error
+
+-- a line of the program's own
+abbrev pub line : List ℕ → List ℕ
+line text = codes "x10clock: " ++ (text ++ codes "\n")
+
+-- a rule with its number: `V9 Registers`
+abbrev pub rule_text : Rule → List ℕ
+rule_text r = codes "V" ++ (decimal (rule_number r) ++ (codes " " ++ rule_name r))
+
+-- a place that breaks a rule: `V9 Registers unit 0 at 2`
+abbrev pub place_text : Rule → ℕ → ℕ → List ℕ
+place_text r unit at = rule_text r ++ (codes " unit " ++ (decimal unit ++ (codes " at " ++ decimal at)))
+
+-- the instructions of a walk, each after a blank
+abbrev pub walk_text : List Visit → List ℕ
+walk_text walk = flat_map (λ v. codes " " ++ decimal v.at) walk
+
+-- a slot of the wrong kind: `V12 Held unit 0 at 3 slot 0 live walk 0 1 2 3`
+abbrev pub kind_text : KindFault → List ℕ
+kind_text f = place_text f.rule f.unit f.at ++ (codes " slot " ++ (decimal f.slot ++ (codes " " ++ (kind_name f.kind ++ (codes " walk" ++ walk_text f.walk.items)))))
+
+-- a bound over its limit: `V14 Steps over 1000000000`
+abbrev pub bound_text : BoundFault → List ℕ
+bound_text f = rule_text f.rule ++ (codes " over " ++ decimal f.limit)
+
+abbrev pub memory_line : List ℕ
+memory_line = codes "x10clock: out of memory\n"
+
+abbrev pub device_line : List ℕ
+device_line = codes "x10clock: device\n"
+
+-- a fault of the module text, and want of memory where it is none
+abbrev pub label_line : Option (List ℕ) → List ℕ
+label_line (Some label) = line label
+label_line None = memory_line
+
+abbrev pub refusal_line : Refusal → List ℕ
+refusal_line (refusal.Shape f) = line (place_text f.rule f.unit f.at)
+refusal_line (refusal.Kind f) = line (kind_text f)
+refusal_line (refusal.Bound f) = line (bound_text f)
+refusal_line refusal.OutOfMemory = memory_line
+
+abbrev pub fault_line : Fault → List ℕ
+fault_line (fault.Text f) = label_line (fault_label f)
+fault_line (fault.Refused r) = refusal_line r
+fault_line fault.OutOfMemory = memory_line
+fault_line fault.Device = device_line
+
+-- ---- statuses: 1 for a module that is refused, 4 for want of memory, 5 for a device
+
+abbrev pub label_status : Option (List ℕ) → ℕ
+label_status (Some label) = 1
+label_status None = 4
+
+abbrev pub refusal_status : Refusal → ℕ
+refusal_status (refusal.Shape f) = 1
+refusal_status (refusal.Kind f) = 1
+refusal_status (refusal.Bound f) = 1
+refusal_status refusal.OutOfMemory = 4
+
+abbrev pub status_of : Fault → ℕ
+status_of (fault.Text f) = label_status (fault_label f)
+status_of (fault.Refused r) = refusal_status r
+status_of fault.OutOfMemory = 4
+status_of fault.Device = 5

@@ -1,0 +1,43 @@
+-- What the program does with its devices.
+use Rattle.std.specs.Prelude.{◌≡◌, ◌≢◌, ℕ, ◌⊎◌, List, [], Option, IfSome}
+use Rattle.std.specs.Io.KnownBytes.{Appends}
+use Rattle.xk_types.specs.Device.{Rose}
+use Rattle.xk_words.specs.declared.job.Command.{Command}
+use Rattle.xk_serve.specs.declared.done.Done.{Done}
+use Rattle.xk_serve.specs.declared.fault.Fault.{Fault}
+use Rattle.xk_serve.specs.declared.fault.Fault.TheVariants as fault
+use Rattle.xk_serve.specs.Bytes.{AppendsBeginning}
+use Rattle.xk_serve.specs.Answer.{Answers, FailsBy, Reply, Succeeds}
+use Rattle.xk_serve.specs.Lines.{done_text, fault_line, memory_line, status_of}
+
+-- the text is what a success of the command on these bytes prints
+abbrev pub Prints : Command → List ℕ → List ℕ → Type 0
+Prints c bytes text = (d : Done) × Succeeds c bytes d × (text ≡ done_text d)
+
+-- The fault is one of the known bytes, or want of memory, or the source failed. The numbers are its failures before and
+-- after.
+abbrev pub StandsAgainst : Option (List ℕ) → ℕ → ℕ → Fault → Type 0
+StandsAgainst known old new fault.Device = Rose old new
+StandsAgainst known old new f = IfSome known (λ bytes. FailsBy bytes f)
+
+-- The line was written and the status is this one, or the sink failed and it is 5.
+abbrev pub Tells : List ℕ → ℕ → Option (List ℕ) → Option (List ℕ) → ℕ → ℕ → ℕ → Type 0
+Tells line status old new faults_old faults_new result = ((result ≡ status) × Appends old new line) ⊎ ((result ≡ 5) × Rose faults_old faults_new)
+
+-- the fault is told, or, where its line couldn't be made, want of memory
+abbrev pub Reports : Fault → Option (List ℕ) → Option (List ℕ) → ℕ → ℕ → ℕ → Type 0
+Reports f old new faults_old faults_new result =
+    Tells (fault_line f) (status_of f) old new faults_old faults_new result
+    ⊎ ((f ≢ fault.Device) × Tells memory_line 4 old new faults_old faults_new result)
+
+-- status and texts are an answer to the command on these bytes
+pub record Answered (c : Command) (bytes : List ℕ) (status : ℕ) (out_old out_new err_old err_new : Option (List ℕ)) : Type 0 where
+  pub reply : Reply
+  pub answers : Answers c bytes reply
+  pub status_is : status ≡ reply.status
+  pub out_is : Appends out_old out_new reply.out
+  pub err_is : Appends err_old err_new reply.err
+
+-- standard output got nothing, or a beginning of what a success of the command prints
+abbrev pub OutBegins : Command → List ℕ → Option (List ℕ) → Option (List ℕ) → Type 0
+OutBegins c bytes old new = Appends old new [] ⊎ ((d : Done) × Succeeds c bytes d × AppendsBeginning old new (done_text d))

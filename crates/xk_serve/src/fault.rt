@@ -1,0 +1,202 @@
+//! What stands against a job.
+
+ghost use Rattle.std.specs.Prelude.{◌≡◌, IfOk, string_bytes};
+ghost use Rattle.xk_module.specs.Faults.{fault_label};
+ghost use Rattle.xk_serve.specs.Lines.{bound_text, fault_line, kind_text, label_line, label_status, line, place_text, refusal_line, refusal_status, rule_text, status_of, walk_text};
+
+use std::alloc::{AllocError, Global};
+use thiserror::Error;
+use xk_bounds::{BoundFault, KindFault, Refusal};
+use xk_module::ModuleFault;
+use xk_types::{Failed, Module, Rule, Visit};
+
+/// What stands against a job.
+#[derive(Debug, Drop, Error)]
+pub enum Fault {
+    /// FILE holds no module.
+    #[error("{0}")]
+    Text(ModuleFault),
+    /// The verifier refuses the module.
+    #[error("{0}")]
+    Refused(Refusal),
+    /// Memory ran out.
+    #[error("out of memory")]
+    OutOfMemory,
+    /// A read or a write failed.
+    #[error("a device failed")]
+    Device,
+}
+
+/// The line of want of memory.
+pub(crate) const MEMORY_LINE: &str = "x10clock: out of memory\n";
+
+/// The line of a device that failed.
+pub(crate) const DEVICE_LINE: &str = "x10clock: device\n";
+
+impl Fault {
+    /// The status that the program ends with: 1 for a module that is refused, 4 for want of memory, 5 for a device.
+    pub fn status(&self) -> u8
+        ensures { result ≡ status_of self.now }
+    {
+        match self {
+            Fault::Text(fault) => label_status(*fault),
+            Fault::Refused(refusal) => refusal_status(refusal),
+            Fault::OutOfMemory => 4,
+            Fault::Device => 5,
+        }
+    }
+
+    /// The line that goes to standard error.
+    pub fn line(&self, alloc: Global) -> Result<String, AllocError>
+        ensures { IfOk result (λ text. string_bytes text ≡ fault_line self.now) }
+    {
+        match self {
+            Fault::Text(fault) => label_line(alloc, *fault),
+            Fault::Refused(refusal) => refusal_line(alloc, refusal),
+            Fault::OutOfMemory => String::from_str(alloc, MEMORY_LINE),
+            Fault::Device => String::from_str(alloc, DEVICE_LINE),
+        }
+    }
+}
+
+impl From<AllocError> for Fault {
+    ghost use Rattle.xk_serve.specs.declared.fault.Fault.TheVariants.{OutOfMemory};
+
+    ghost from_gives = { λ _ fault. fault ≡ OutOfMemory };
+
+    fn from(_error: AllocError) -> Fault {
+        Fault::OutOfMemory
+    }
+}
+
+impl From<Failed> for Fault {
+    ghost use Rattle.xk_serve.specs.declared.fault.Fault.TheVariants.{Device};
+
+    ghost from_gives = { λ _ fault. fault ≡ Device };
+
+    fn from(_failed: Failed) -> Fault {
+        Fault::Device
+    }
+}
+
+impl From<ModuleFault> for Fault {
+    ghost use Rattle.xk_serve.specs.declared.fault.Fault.TheVariants.{Text};
+
+    ghost from_gives = { λ fault given. given ≡ Text fault };
+
+    fn from(fault: ModuleFault) -> Fault {
+        Fault::Text(fault)
+    }
+}
+
+impl From<(Module, Refusal)> for Fault {
+    ghost use Rattle.xk_serve.specs.declared.fault.Fault.TheVariants.{Refused};
+
+    ghost from_gives = { λ refused given. given ≡ Refused refused.1 };
+
+    fn from(refused: (Module, Refusal)) -> Fault {
+        let (_module, refusal) = refused;
+        Fault::Refused(refusal)
+    }
+}
+
+// The status of a fault of the module text.
+fn label_status(fault: ModuleFault) -> u8
+    ensures { result ≡ label_status (fault_label fault) }
+{
+    match fault.label() {
+        Some(_) => 1,
+        None => 4,
+    }
+}
+
+// The status of a refusal.
+fn refusal_status(refusal: &Refusal) -> u8
+    ensures { result ≡ refusal_status refusal.now }
+{
+    match refusal {
+        Refusal::Shape(_) | Refusal::Kind(_) | Refusal::Bound(_) => 1,
+        Refusal::OutOfMemory => 4,
+    }
+}
+
+// The line of a fault of the module text.
+fn label_line(alloc: Global, fault: ModuleFault) -> Result<String, AllocError>
+    ensures { IfOk result (λ text. string_bytes text ≡ label_line (fault_label fault)) }
+{
+    match fault.label() {
+        Some(label) => line(alloc, label),
+        None => String::from_str(alloc, MEMORY_LINE),
+    }
+}
+
+// The line of a refusal.
+fn refusal_line(alloc: Global, refusal: &Refusal) -> Result<String, AllocError>
+    ensures { IfOk result (λ text. string_bytes text ≡ refusal_line refusal.now) }
+{
+    match refusal {
+        Refusal::Shape(fault) => {
+            let text = place_text(alloc, fault.rule, fault.unit, fault.at)?;
+            line(alloc, text.as_str())
+        }
+        Refusal::Kind(fault) => line(alloc, kind_text(alloc, fault)?.as_str()),
+        Refusal::Bound(fault) => line(alloc, bound_text(alloc, fault)?.as_str()),
+        Refusal::OutOfMemory => String::from_str(alloc, MEMORY_LINE),
+    }
+}
+
+// A line of the program's own.
+fn line(alloc: Global, text: &str) -> Result<String, AllocError>
+    ensures { IfOk result (λ whole. string_bytes whole ≡ line text.now) }
+{
+    format!(in alloc; "x10clock: {text}\n")
+}
+
+// `V9 Registers`.
+fn rule_text(alloc: Global, rule: Rule) -> Result<String, AllocError>
+    ensures { IfOk result (λ text. string_bytes text ≡ rule_text rule) }
+{
+    let number = rule.number();
+    let name = rule.name();
+    format!(in alloc; "V{number} {name}")
+}
+
+// `V9 Registers unit 0 at 2`.
+fn place_text(alloc: Global, rule: Rule, unit: u16, at: u16) -> Result<String, AllocError>
+    ensures { IfOk result (λ text. string_bytes text ≡ place_text rule unit at) }
+{
+    let rule = rule_text(alloc, rule)?;
+    format!(in alloc; "{rule} unit {unit} at {at}")
+}
+
+// `V12 Held unit 0 at 3 slot 0 live walk 0 1 2 3`.
+fn kind_text(alloc: Global, fault: &KindFault) -> Result<String, AllocError>
+    ensures { IfOk result (λ text. string_bytes text ≡ kind_text fault.now) }
+{
+    let place = place_text(alloc, fault.rule, fault.unit, fault.at)?;
+    let slot = fault.slot;
+    let kind = fault.kind.name();
+    let walk = walk_text(alloc, &fault.walk)?;
+    format!(in alloc; "{place} slot {slot} {kind} walk{walk}")
+}
+
+// The instructions of a walk, each after a blank.
+fn walk_text(alloc: Global, walk: &[Visit]) -> Result<String, AllocError>
+    ensures { IfOk result (λ text. string_bytes text ≡ walk_text walk.now) }
+{
+    let mut text = String::new(alloc);
+    for visit in walk {
+        let at = visit.at;
+        text.push_str(format!(in alloc; " {at}")?.as_str())?;
+    }
+    Ok(text)
+}
+
+// `V14 Steps over 1000000000`.
+fn bound_text(alloc: Global, fault: &BoundFault) -> Result<String, AllocError>
+    ensures { IfOk result (λ text. string_bytes text ≡ bound_text fault.now) }
+{
+    let rule = rule_text(alloc, fault.rule)?;
+    let limit = fault.limit;
+    format!(in alloc; "{rule} over {limit}")
+}

@@ -1,0 +1,97 @@
+-- The program's command line in the terms of `clap`, and what its words ask for.
+use Rattle.std.specs.Prelude.{ℕ, ◌≡◌, ◌≢◌, ◌⊎◌, ⊤, true, false, List, [], map, Option, Some, None, option_and_then, option_map, codes, if◌then◌else◌}
+use Rattle.std.specs.Borrow.{Bor}
+use Rattle.std.specs.Str.{bytes_eq}
+use Rattle.clap.specs.Words.{App, IsAmong, Kinds, Row, Rule, Text, fault_of, first_of, new_app, new_rule, subcommand_of, with_rule, with_subcommand}
+use Rattle.clap.specs.declared.builder.command.Command.{Command as clap_Command}
+use Rattle.clap.specs.declared.builder.command.Command.TheViews.{out-Command}
+use Rattle.clap.specs.declared.builder.action.ArgAction.TheVariants as action
+use Rattle.clap.specs.declared.error.kind.ErrorKind.{ErrorKind}
+use Rattle.clap.specs.declared.error.kind.ErrorKind.TheVariants as kind
+use Rattle.xk_words.specs.declared.job.Command.{Command}
+use Rattle.xk_words.specs.declared.job.Command.TheVariants as command
+use Rattle.xk_words.specs.declared.job.Form.{Form}
+use Rattle.xk_words.specs.declared.job.Form.TheVariants as form
+use Rattle.xk_words.specs.declared.job.Job.{Job}
+use Rattle.xk_words.specs.declared.words_fault.WordsFault.{WordsFault}
+use Rattle.xk_words.specs.declared.words_fault.WordsFault.TheVariants as fault
+
+-- ---- the command line
+
+-- `--module`, which has to be there
+abbrev pub module_flag : Rule
+module_flag = record (new_rule (codes "module")) { long = Some (codes "module"); required = true; action = Some action.SetTrue }
+
+-- FILE, which has to be there
+abbrev pub file_place : Rule
+file_place = record (new_rule (codes "FILE")) { required = true; action = Some action.Set }
+
+-- a command on a module in FILE
+abbrev pub on_file : Text → App
+on_file name = with_rule (with_rule (new_app name) module_flag) file_place
+
+-- the program with a command that has to be there
+abbrev pub program : App
+program = record (new_app (codes "x10clock")) { top = record (new_app (codes "x10clock")).top { subcommand_required = true } }
+
+abbrev pub command_line : App
+command_line = with_subcommand (with_subcommand program (on_file (codes "check")).top) (on_file (codes "run")).top
+
+-- no argument of the command is one of its subcommands too
+abbrev pub HasNoGlobals : clap_Command → Type 0
+HasNoGlobals c = (out-Command c).has_globals ≡ false
+
+-- the words without where they lie in memory
+abbrev pub texts : List (Bor Text) → List Text
+texts words = map (λ w. w.now) words
+
+-- the kinds of mistake, or requests for help, that `clap` finds in the words
+unfoldable pub faults_in : List Text → Kinds
+faults_in words = fault_of command_line words
+
+-- ---- what the words ask for
+
+-- a job without where its text lies in memory
+pub record Asked : Type 0 where
+  pub command : Command
+  pub form : Form
+  pub file : Text
+
+abbrev pub asked_value : Job → Asked
+asked_value job = record { command = job.command; form = job.form; file = job.file.now }
+
+abbrev pub command_named : Text → Option Command
+command_named name = if bytes_eq name (codes "check") then Some command.Check else (if bytes_eq name (codes "run") then Some command.Run else None)
+
+-- the job of a command's name and what was given with it
+abbrev pub asked_by : Text → List Row → Option Asked
+asked_by name given =
+    option_and_then (λ c. option_map (λ file. record { command = c; form = form.Module; file = file }) (first_of (codes "FILE") given)) (command_named name)
+
+abbrev pub asked_in : Option (Text × List Row) → Option Asked
+asked_in found = option_and_then (λ p. asked_by p.0 p.1) found
+
+-- the job that the words ask for, as `clap` takes them apart
+unfoldable pub job_of : List Text → Option Asked
+job_of words = asked_in (subcommand_of command_line words)
+
+-- ---- why words are refused
+
+-- the fault fits the kind of `clap`'s error
+abbrev pub FitsKind : ErrorKind → WordsFault → Type 0
+FitsKind k (fault.Help text) = (k ≡ kind.DisplayHelp) ⊎ (k ≡ kind.DisplayVersion)
+FitsKind k (fault.NotUnderstood text) = (k ≢ kind.DisplayHelp) × (k ≢ kind.DisplayVersion) × (k ≢ kind.OutOfMemory)
+FitsKind k fault.OutOfMemory = ⊤
+
+-- Help is told only where it was asked for, and words are called not understood only where `clap` finds a mistake in
+-- them, or no job.
+abbrev pub IsRefused : Kinds → Option Asked → WordsFault → Type 0
+IsRefused kinds asked (fault.Help text) = IsAmong kind.DisplayHelp kinds ⊎ IsAmong kind.DisplayVersion kinds
+IsRefused kinds asked (fault.NotUnderstood text) = (kinds ≢ []) ⊎ (asked ≡ None)
+IsRefused kinds asked fault.OutOfMemory = ⊤
+
+-- the status that the program ends with
+abbrev pub status_of : WordsFault → ℕ
+status_of (fault.Help text) = 0
+status_of (fault.NotUnderstood text) = 2
+status_of fault.OutOfMemory = 4

@@ -1,0 +1,13 @@
+//! The program's command line: words to a job, or to the text that says why not.
+#![tactic(auto)]
+
+mod job;
+mod line;
+mod words_fault;
+
+pub use job::{Command, Form, Job};
+pub use line::read_job;
+pub use words_fault::WordsFault;
+
+#[cfg(test)]
+mod tests;

@@ -1,0 +1,121 @@
+//! The command line, as `clap` reads it.
+
+ghost use Rattle.std.specs.Prelude.{◌≡◌, [], Some, None, IfOk, OnOk, IfErr, option_map};
+ghost use Rattle.clap.specs.Words.{app_of, found_of, kind_of, rows_of, subcommand_rows_of};
+ghost use Rattle.xk_words.specs.Line.{FitsKind, HasNoGlobals, IsRefused, asked_by, asked_in, asked_value, command_line, command_named, faults_in, job_of, on_file, texts};
+
+use crate::job::{Command, Form, Job};
+use crate::words_fault::WordsFault;
+use clap::error::ErrorKind;
+use clap::{Arg, ArgAction, ArgMatches};
+use std::alloc::{AllocError, Global};
+
+/// The job that the words ask for; the first word is the program's name. Where they ask for help or aren't understood,
+/// the fault has `clap`'s text.
+pub fn read_job<'a>(alloc: Global, words: &'a [&'a str]) -> Result<Job<'a>, WordsFault>
+    ensures job { IfOk result (λ job. job_of (texts words.entry.now) ≡ Some (asked_value job)) }
+    ensures understood { OnOk result (faults_in (texts words.entry.now) ≡ []) }
+    ensures refused { IfErr result (IsRefused (faults_in (texts words.entry.now)) (job_of (texts words.entry.now))) }
+{
+    let command_line = line(alloc)?;
+    match command_line.try_get_matches_from(words) {
+        Ok(matches) => match job_in(&matches) {
+            Some(job) => Ok(job),
+            None => Err(not_a_job(alloc)),
+        },
+        Err(error) => Err(words_fault(alloc, &error)),
+    }
+}
+
+// The program's command line.
+fn line<'a>(alloc: Global) -> Result<clap::Command<'a>, AllocError>
+    ensures { IfOk result (λ c. app_of c ≡ command_line) }
+{
+    let check = on_file(alloc, "check", "Says whether a program is accepted.")?;
+    let run = on_file(alloc, "run", "Runs a program and prints what it prints.")?;
+    clap::Command::new(alloc, "x10clock")
+        .about("Verifies and runs clocked programs.")
+        .subcommand_required(true)
+        .subcommand(check)?
+        .subcommand(run)
+}
+
+// A command on a module in FILE.
+fn on_file<'a>(
+    alloc: Global,
+    name: &'a str,
+    about: &'a str,
+) -> Result<clap::Command<'a>, AllocError>
+    ensures shape { IfOk result (λ c. app_of c ≡ on_file name.entry.now) }
+    ensures local { IfOk result HasNoGlobals }
+{
+    let module_flag = Arg::new(alloc, "module")
+        .long("module")
+        .help("FILE is a module text")
+        .required(true)
+        .action(ArgAction::SetTrue);
+    let file = Arg::new(alloc, "FILE")
+        .help("The program; - is standard input")
+        .required(true)
+        .action(ArgAction::Set);
+    clap::Command::new(alloc, name)
+        .about(about)
+        .arg(module_flag)?
+        .arg(file)
+}
+
+// The job in what `clap` found.
+fn job_in<'a>(matches: &ArgMatches<'a>) -> Option<Job<'a>>
+    ensures { option_map asked_value result ≡ asked_in (subcommand_rows_of matches.now) }
+{
+    let (name, given) = matches.subcommand()?;
+    job_by(name, given)
+}
+
+// The job of a command's name and what was given with it.
+fn job_by<'a>(name: &str, given: &ArgMatches<'a>) -> Option<Job<'a>>
+    ensures { option_map asked_value result ≡ asked_by name.now (rows_of (found_of given.now)) }
+{
+    let command = command_named(name)?;
+    let file = given.get_str("FILE")?;
+    Some(Job {
+        command,
+        form: Form::Module,
+        file,
+    })
+}
+
+// The command of a name.
+fn command_named(name: &str) -> Option<Command>
+    ensures { result ≡ command_named name.now }
+{
+    match name {
+        "check" => Some(Command::Check),
+        "run" => Some(Command::Run),
+        _ => None,
+    }
+}
+
+// What is said where `clap` took the words and named no job. It doesn't come to that.
+fn not_a_job(alloc: Global) -> WordsFault
+    ensures { IsRefused [] None result }
+{
+    match String::from_str(alloc, "error: no command on a file was given\n") {
+        Ok(text) => WordsFault::NotUnderstood(text),
+        Err(_) => WordsFault::OutOfMemory,
+    }
+}
+
+// `clap`'s answer where it doesn't take the words.
+fn words_fault(alloc: Global, error: &clap::Error) -> WordsFault
+    ensures { FitsKind (kind_of error.now) result }
+{
+    if error.kind() == ErrorKind::OutOfMemory {
+        return WordsFault::OutOfMemory;
+    }
+    match error.to_string(alloc) {
+        Ok(text) if error.use_stderr() => WordsFault::NotUnderstood(text),
+        Ok(text) => WordsFault::Help(text),
+        Err(_) => WordsFault::OutOfMemory,
+    }
+}

@@ -1,0 +1,45 @@
+//! Why words are no job.
+
+ghost use Rattle.std.specs.Prelude.{◌≡◌};
+
+use std::alloc::AllocError;
+use thiserror::Error;
+
+/// The words are no job.
+#[derive(Debug, Drop, Error)]
+pub enum WordsFault {
+    /// They ask for help, and this is its text, for standard output.
+    #[error("{0}")]
+    Help(String),
+    /// They aren't understood, and this text says why, for standard error.
+    #[error("{0}")]
+    NotUnderstood(String),
+    /// Memory ran out.
+    #[error("out of memory")]
+    OutOfMemory,
+}
+
+impl WordsFault {
+    ghost use Rattle.xk_words.specs.Line.{status_of};
+
+    /// The status that the program ends with: 0 for help, 2 for words that aren't understood, 4 for want of memory.
+    pub fn status(&self) -> u8
+        ensures { result ≡ status_of self.now }
+    {
+        match self {
+            WordsFault::Help(_) => 0,
+            WordsFault::NotUnderstood(_) => 2,
+            WordsFault::OutOfMemory => 4,
+        }
+    }
+}
+
+impl From<AllocError> for WordsFault {
+    ghost use Rattle.xk_words.specs.declared.words_fault.WordsFault.TheVariants.{OutOfMemory};
+
+    ghost from_gives = { λ _ fault. fault ≡ OutOfMemory };
+
+    fn from(_error: AllocError) -> WordsFault {
+        WordsFault::OutOfMemory
+    }
+}
