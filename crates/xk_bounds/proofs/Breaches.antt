@@ -44,7 +44,7 @@ never_broken m r h = λ unit at. breaks_none r unit at (slice_get m.units unit) 
 
 -- of the rules below a number only four have to be looked at
 pub nowhere_below : (m : ModuleValue) (n : ℕ) → (3 < n → IsNowhereBroken m rule.Slot) → (4 < n → IsNowhereBroken m rule.Unit) → (7 < n → IsNowhereBroken m rule.End) → (8 < n → IsNowhereBroken m rule.Home)
-  → (r : Rule) → rule_number r < n → IsNowhereBroken m r
+    → (r : Rule) → rule_number r < n → IsNowhereBroken m r
 nowhere_below m n slot unit end home rule.Target lt = never_broken m rule.Target (λ _ _ _. refl)
 nowhere_below m n slot unit end home rule.Block lt = never_broken m rule.Block (λ _ _ _. refl)
 nowhere_below m n slot unit end home rule.Slot lt = slot lt
@@ -90,10 +90,10 @@ shape_from m slot unit end home = λ r. nowhere_below m 18 (λ _. slot) (λ _. u
 -- the least breach of a rule is the fault, where no rule of smaller number is broken
 pub fault_from : (m : ModuleValue) (r : Rule) (f : ShapeFault) → IsLeastBreach m r f → ((r' : Rule) → rule_number r' < rule_number r → IsNowhereBroken m r') → IsShapeFault m f
 fault_from m r f h below = record {
-    broken = rw h.rule h.broken;
-    first = λ r' unit at lt. below r' (rw h.rule at lt) unit at;
-    least = rw h.rule h.least;
-  }
+  broken = rw h.rule h.broken;
+  first = λ r' unit at lt. below r' (rw h.rule at lt) unit at;
+  least = rw h.rule h.least;
+}
 
 -- ---- over the units
 
@@ -109,36 +109,41 @@ module _ (m : ModuleValue) (r : Rule) where
   pub unbroken_more : (n : ℕ) (u : UnitValue) → slice_get m.units n ≡ Some u → IsUnbrokenBelow n → ((at : ℕ) → breaks_in r n u at ≡ false) → IsUnbrokenBelow (n + 1)
   unbroken_more n u found below here = λ unit at lt.
       elim (cases_lt unit n) [
-        inl before ↦ below unit at before
-      | inr after ↦
-          let same : n ≡ unit = omega arith in
-          let P : ℕ → Type 0 = λ k. breaks m r k at ≡ false in
-          subst P same (breaks_of n u found at ∙ here at) ]
+        | inl before ↦ below unit at before
+        | inr after ↦
+            let same : n ≡ unit = omega arith in
+            let P : ℕ → Type 0 = λ k. breaks m r k at ≡ false in
+            subst P same (breaks_of n u found at ∙ here at)
+      ]
 
   -- all units
   pub unbroken_all : (n : ℕ) → length m.units ≤ n → IsUnbrokenBelow n → IsNowhereBroken m r
   unbroken_all n all below = λ unit at.
       elim (cases_lt unit n) [
-        inl before ↦ below unit at before
-      | inr after ↦ rw (slice_get_past m.units unit (omega arith)) refl ]
+        | inl before ↦ below unit at before
+        | inr after ↦ rw (slice_get_past m.units unit (omega arith)) refl
+      ]
 
   -- the first place of the first unit that has one
   pub least_breach : (unit : ℕ) (u : UnitValue) (at : ℕ) → slice_get m.units unit ≡ Some u → IsUnbrokenBelow unit → IsFirstPlace r unit u (Some at) → IsLeastBreach m r (record { rule = r; unit = unit; at = at })
   least_breach unit u at found below first = record {
-      rule = refl;
-      broken = breaks_of unit u found at ∙ first.0;
-      least = λ unit' at' broken. elim (cases_order unit unit') [
-          inl same ↦
-            elim (cases_lt at' at) [
-              inl before ↦
+    rule = refl;
+    broken = breaks_of unit u found at ∙ first.0;
+    least = λ unit' at' broken. elim (cases_order unit unit') [
+      | inl same ↦
+          elim (cases_lt at' at) [
+            | inl before ↦
                 let P : ℕ → Type 0 = λ k. breaks m r k at' ≡ true in
                 let here : breaks m r unit at' ≡ true = subst P (sym same) broken in
                 absurd (both_ways _ (first.1 at' before) (sym (breaks_of unit u found at') ∙ here))
-            | inr after ↦ inr (same, elim (cases_lt at at') [ inl lt ↦ inl lt | inr ge ↦ inr (omega arith, tt) ]) ]
-        | inr apart ↦ elim apart [
-            inl before ↦ inl before
-          | inr after ↦ absurd (both_ways _ (below unit' at' after) broken) ] ];
-    }
+            | inr after ↦ inr (same, elim (cases_lt at at') [ inl lt ↦ inl lt | inr ge ↦ inr (omega arith, tt) ])
+          ]
+      | inr apart ↦ elim apart [
+        | inl before ↦ inl before
+        | inr after ↦ absurd (both_ways _ (below unit' at' after) broken)
+      ]
+    ];
+  }
 
 -- ---- what code without a breach is like
 
@@ -159,8 +164,9 @@ goes_on_from unit u at i found more h =
     let P : Option Instr → Type 0 = λ o. early o ≡ false in
     let ret : (is_ret i && nat_lt (at + 1) (length u.code)) ≡ false = subst P found parts.0 in
     elim (and_cases (is_ret i) (nat_lt (at + 1) (length u.code)) ret) [
-      inl no_ret ↦ no_ret
-    | inr no_more ↦ absurd (both_ways _ no_more (lt-ltb (at + 1) (length u.code) more)) ]
+      | inl no_ret ↦ no_ret
+      | inr no_more ↦ absurd (both_ways _ no_more (lt-ltb (at + 1) (length u.code) more))
+    ]
 
 module _ (m : ModuleValue) (shape : HasShape m) (unit : ℕ) (u : UnitValue) (found : slice_get m.units unit ≡ Some u) where
   unbroken : (r : Rule) (at : ℕ) → breaks_in r unit u at ≡ false
@@ -169,6 +175,6 @@ module _ (m : ModuleValue) (shape : HasShape m) (unit : ℕ) (u : UnitValue) (fo
   -- its code is straight
   pub straight_from : IsStraight u
   straight_from = record {
-      params = (main_from unit u (unbroken rule.Unit 0)).1;
-      goes_on = λ at i here more. goes_on_from unit u at i here more (unbroken rule.End at);
-    }
+    params = (main_from unit u (unbroken rule.Unit 0)).1;
+    goes_on = λ at i here more. goes_on_from unit u at i here more (unbroken rule.End at);
+  }

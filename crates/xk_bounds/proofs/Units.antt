@@ -31,13 +31,15 @@ fault_of_unit m unit u f found below h =
     record {
       refused = record { u = u; found = at_unit; slot = h.refused.slot; visited = h.refused.visited; refused = h.refused.refused };
       least = λ unit' s q r refused. elim (cases_order f.unit unit') [
-          inl same ↦ inr (same, h.least s q r (refused_in m unit' u s q r (ap (slice_get m.units) (sym same) ∙ at_unit) refused))
+        | inl same ↦ inr (same, h.least s q r (refused_in m unit' u s q r (ap (slice_get m.units) (sym same) ∙ at_unit) refused))
         | inr apart ↦ elim apart [
-            inl before ↦ inl before
+          | inl before ↦ inl before
           | inr after ↦
               let is = h.unit_is in
               let lt : unit' < unit = omega arith in
-              absurd (below unit' refused.u lt refused.found s q r (refused_in m unit' refused.u s q r refused.found refused)) ] ];
+              absurd (below unit' refused.u lt refused.found s q r (refused_in m unit' refused.u s q r refused.found refused))
+        ]
+      ];
       walk = record { u = u; found = at_unit; walked = h.walked; ends = h.ends };
     }
 

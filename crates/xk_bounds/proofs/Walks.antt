@@ -53,15 +53,17 @@ module _ (m : ModuleValue) (u : UnitValue) (s : ℕ) where
   leads_to p [] q v c e = inl e
   leads_to p (r ∷ rest) q v c e =
       elim (leads_to r rest q (visited_more p r v c.0) c.1 e) [
-        inl same ↦ inr (p, v, let P : Visit → Type 0 = λ x. IsEdge m u s p x in subst P same c.0)
-      | inr edge ↦ inr edge ]
+        | inl same ↦ inr (p, v, let P : Visit → Type 0 = λ x. IsEdge m u s p x in subst P same c.0)
+        | inr edge ↦ inr edge
+      ]
 
   visited_cases_of : (walk : List Visit) (q : Visit) → IsWalk m u s walk → EndsAt walk q → ((q.at ≡ 0) × Has (entry_kinds u s) q.kind) ⊎ ((r : Visit) × IsVisited m u s r × IsEdge m u s r q)
   visited_cases_of [] q w e = absurd w
   visited_cases_of (p ∷ rest) q w e =
       elim (leads_to p rest q (p ∷ [], (w.0, w.1, tt), refl) w.2 e) [
-        inl same ↦ inl (let P : Visit → Type 0 = λ x. (x.at ≡ 0) × Has (entry_kinds u s) x.kind in subst P same (w.0, w.1))
-      | inr edge ↦ inr edge ]
+        | inl same ↦ inl (let P : Visit → Type 0 = λ x. (x.at ≡ 0) × Has (entry_kinds u s) x.kind in subst P same (w.0, w.1))
+        | inr edge ↦ inr edge
+      ]
 
   -- a visited stop is an entry, or an edge leads to it from a visited one
   pub visited_cases : (q : Visit) → IsVisited m u s q → ((q.at ≡ 0) × Has (entry_kinds u s) q.kind) ⊎ ((r : Visit) × IsVisited m u s r × IsEdge m u s r q)
@@ -106,11 +108,12 @@ module _ (m : ModuleValue) (u : UnitValue) (s : ℕ) (straight : IsStraight u) w
   -- at the first instruction every slot is unset
   pub the_kind_start : IsTheKind m u s 0 kind.Unset
   the_kind_start = record {
-      visited = visited_start m u s kind.Unset (rw entry_is_unset (inl refl));
-      only = λ other v. elim (visited_cases m u s (visit 0 other) v) [
-          inl entry ↦ has_one _ _ (rw entry_is_unset at entry.1)
-        | inr edge ↦ absurd (let e = place_after _ edge.0.at 0 edge.2.place in omega arith) ];
-    }
+    visited = visited_start m u s kind.Unset (rw entry_is_unset (inl refl));
+    only = λ other v. elim (visited_cases m u s (visit 0 other) v) [
+      | inl entry ↦ has_one _ _ (rw entry_is_unset at entry.1)
+      | inr edge ↦ absurd (let e = place_after _ edge.0.at 0 edge.2.place in omega arith)
+    ];
+  }
 
   -- the walk of that stop alone
   pub walk_start : IsWalk m u s (visit 0 kind.Unset ∷ [])
@@ -124,41 +127,44 @@ module _ (m : ModuleValue) (u : UnitValue) (s : ℕ) (straight : IsStraight u) w
   -- an instruction that leaves one kind leads to the next
   pub edge_on : (at : ℕ) (i : Instr) (k next : Kind) → slice_get u.code at ≡ Some i → at + 1 < length u.code → after m u i s k ≡ To (next ∷ []) → IsEdge m u s (visit at k) (visit (at + 1) next)
   edge_on at i k next found more to = record {
-      place = let P : Option Instr → Type 0 = λ o. Has (places_after o at) (at + 1) in subst P (sym found) (has_next i at (straight.goes_on at i found more));
-      kind = let P : After → Type 0 = λ a. MayBecome a next in subst P (sym (ap (row_of m u s k) found ∙ to)) (inl refl);
-    }
+    place = let P : Option Instr → Type 0 = λ o. Has (places_after o at) (at + 1) in subst P (sym found) (has_next i at (straight.goes_on at i found more));
+    kind = let P : After → Type 0 = λ a. MayBecome a next in subst P (sym (ap (row_of m u s k) found ∙ to)) (inl refl);
+  }
 
   -- and that is the one kind there
   pub the_kind_more : (at : ℕ) (i : Instr) (k next : Kind) → slice_get u.code at ≡ Some i → at + 1 < length u.code → after m u i s k ≡ To (next ∷ []) → IsTheKind m u s at k → IsTheKind m u s (at + 1) next
   the_kind_more at i k next found more to h = record {
-      visited = visited_more m u s (visit at k) (visit (at + 1) next) h.visited (edge_on at i k next found more to);
-      only = λ other v. elim (visited_cases m u s (visit (at + 1) other) v) [
-          inl entry ↦ absurd (let e = entry.0 in omega arith)
-        | inr edge ↦
-            let place = place_after _ edge.0.at (at + 1) edge.2.place in
-            let same : edge.0.at ≡ at = omega arith in
-            let visited : IsVisited m u s (visit at edge.0.kind) = let P : ℕ → Type 0 = λ n. IsVisited m u s (visit n edge.0.kind) in subst P same edge.1 in
-            let one = h.only edge.0.kind visited in
-            let may : MayBecome (row_of m u s k (slice_get u.code edge.0.at)) other = let P : Kind → Type 0 = λ x. MayBecome (row_of m u s x (slice_get u.code edge.0.at)) other in subst P one edge.2.kind in
-            follows_one at i k next found to (slice_get u.code edge.0.at) (ap (slice_get u.code) same ∙ found) other may ];
-    }
+    visited = visited_more m u s (visit at k) (visit (at + 1) next) h.visited (edge_on at i k next found more to);
+    only = λ other v. elim (visited_cases m u s (visit (at + 1) other) v) [
+      | inl entry ↦ absurd (let e = entry.0 in omega arith)
+      | inr edge ↦
+          let place = place_after _ edge.0.at (at + 1) edge.2.place in
+          let same : edge.0.at ≡ at = omega arith in
+          let visited : IsVisited m u s (visit at edge.0.kind) = let P : ℕ → Type 0 = λ n. IsVisited m u s (visit n edge.0.kind) in subst P same edge.1 in
+          let one = h.only edge.0.kind visited in
+          let may : MayBecome (row_of m u s k (slice_get u.code edge.0.at)) other = let P : Kind → Type 0 = λ x. MayBecome (row_of m u s x (slice_get u.code edge.0.at)) other in subst P one edge.2.kind in
+          follows_one at i k next found to (slice_get u.code edge.0.at) (ap (slice_get u.code) same ∙ found) other may
+    ];
+  }
 
   -- a walk that comes further leaves each instruction on its way
   leaves : (i : ℕ) (end : ℕ) (k : Kind) → IsVisited m u s (visit end k) → i < end → (before : Kind) × IsVisited m u s (visit i before) × ((next : Kind) × MayBecome (row m u s (visit i before)) next)
   leaves i zero k v lt = absurd (omega arith)
   leaves i (suc end) k v lt =
       elim (visited_cases m u s (visit (suc end) k) v) [
-        inl entry ↦ absurd (let e = entry.0 in omega arith)
-      | inr edge ↦
-          let place = place_after _ edge.0.at (suc end) edge.2.place in
-          let same : edge.0.at ≡ end = omega arith in
-          let visited : IsVisited m u s (visit end edge.0.kind) = let P : ℕ → Type 0 = λ n. IsVisited m u s (visit n edge.0.kind) in subst P same edge.1 in
-          elim (cases_lt i end) [
-            inl below ↦ leaves i end edge.0.kind visited below
-          | inr above ↦
-              let here : edge.0.at ≡ i = omega arith in
-              let P : ℕ → Type 0 = λ n. (before : Kind) × IsVisited m u s (visit n before) × ((next : Kind) × MayBecome (row m u s (visit n before)) next) in
-              subst P here (edge.0.kind, edge.1, (k, edge.2.kind)) ] ]
+        | inl entry ↦ absurd (let e = entry.0 in omega arith)
+        | inr edge ↦
+            let place = place_after _ edge.0.at (suc end) edge.2.place in
+            let same : edge.0.at ≡ end = omega arith in
+            let visited : IsVisited m u s (visit end edge.0.kind) = let P : ℕ → Type 0 = λ n. IsVisited m u s (visit n edge.0.kind) in subst P same edge.1 in
+            elim (cases_lt i end) [
+              | inl below ↦ leaves i end edge.0.kind visited below
+              | inr above ↦
+                  let here : edge.0.at ≡ i = omega arith in
+                  let P : ℕ → Type 0 = λ n. (before : Kind) × IsVisited m u s (visit n before) × ((next : Kind) × MayBecome (row m u s (visit n before)) next) in
+                  subst P here (edge.0.kind, edge.1, (k, edge.2.kind))
+            ]
+      ]
 
   -- no walk comes further than an instruction that refuses the one kind there
   pub stopped : (i : ℕ) (instr : Instr) (k : Kind) (r : Rule) → IsTheKind m u s i k → slice_get u.code i ≡ Some instr → after m u instr s k ≡ Refused r → (end : ℕ) → i < end → (other : Kind) → IsVisited m u s (visit end other) → ⊥

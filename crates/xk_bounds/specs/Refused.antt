@@ -42,7 +42,7 @@ pub record IsWalkTo (m : ModuleValue) (unit s : ℕ) (q : Visit) (walk : List Vi
 pub record IsKindFault (m : ModuleValue) (f : KindFault) : Type 0 where
   pub refused : IsRefusedAt m f.unit f.slot (visit f.at f.kind) f.rule
   pub least : (unit s : ℕ) (q : Visit) (r : Rule) → IsRefusedAt m unit s q r
-    → NotAfter (f.unit ∷ f.at ∷ f.slot ∷ kind_place f.kind ∷ []) (unit ∷ q.at ∷ s ∷ kind_place q.kind ∷ [])
+      → NotAfter (f.unit ∷ f.at ∷ f.slot ∷ kind_place f.kind ∷ []) (unit ∷ q.at ∷ s ∷ kind_place q.kind ∷ [])
   pub walk : IsWalkTo m f.unit f.slot (visit f.at f.kind) f.walk.items
 
 -- ---- bounds

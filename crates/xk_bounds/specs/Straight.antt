@@ -65,7 +65,7 @@ pub record IsUnitFault (m : ModuleValue) (unit : ℕ) (u : UnitValue) (f : KindF
   pub unit_is : f.unit ≡ unit
   pub refused : IsRefusedIn m u f.slot (visit f.at f.kind) f.rule
   pub least : (s : ℕ) (q : Visit) (r : Rule) → IsRefusedIn m u s q r
-    → NotAfter (f.at ∷ f.slot ∷ kind_place f.kind ∷ []) (q.at ∷ s ∷ kind_place q.kind ∷ [])
+      → NotAfter (f.at ∷ f.slot ∷ kind_place f.kind ∷ []) (q.at ∷ s ∷ kind_place q.kind ∷ [])
   pub walked : IsWalk m u f.slot f.walk.items
   pub ends : EndsAt f.walk.items (visit f.at f.kind)
 

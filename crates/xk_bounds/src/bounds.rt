@@ -20,8 +20,11 @@ pub(crate) struct Bounds {
 }
 
 const MAX_STEPS: u64 = 1_000_000_000;
+
 const MAX_ACTIVITIES: u32 = 100_000;
+
 const MAX_CLOCKS: u32 = 100_000;
+
 const MAX_STACK: u32 = 4096;
 
 impl Bounds {
@@ -44,7 +47,11 @@ impl Bounds {
             → MatchResult result (λ _. IsWithinBounds m) (IsBoundFault m) }
     {
         within(Rule::Steps, self.steps, MAX_STEPS)?;
-        within(Rule::Activities, u64::from(self.activities), u64::from(MAX_ACTIVITIES))?;
+        within(
+            Rule::Activities,
+            u64::from(self.activities),
+            u64::from(MAX_ACTIVITIES),
+        )?;
         within(Rule::Clocks, u64::from(self.clocks), u64::from(MAX_CLOCKS))?;
         within(Rule::Stack, u64::from(self.stack), u64::from(MAX_STACK))
     }
@@ -52,7 +59,9 @@ impl Bounds {
 
 /// Refuses a bound that is over its limit.
 fn within(rule: Rule, bound: u64, limit: u64) -> Result<(), BoundFault>
-    ensures { MatchResult result (λ _. bound ≤ limit) (λ f. (f ≡ record { rule = rule; limit = limit }) × (limit < bound)) }
+    ensures { MatchResult result
+        (λ _. bound ≤ limit)
+        (λ f. (f ≡ record { rule = rule; limit = limit }) × (limit < bound)) }
 {
     if bound <= limit {
         Ok(())

@@ -83,13 +83,17 @@ fn step_row(instr: &Instr, row: &mut Vec<Kind>) -> Result<(), Stop>
     requires { length row.old.items ≤ 64 }
     ensures { (m : ModuleValue) (u : UnitValue)
         → MatchResult result (λ _. IsNextRow m u instr.now row.old.items row.new.items)
-            (IsFirstStop m u instr.now row.old.items) }
+        (IsFirstStop m u instr.now row.old.items) }
 {
     for slot in 0..row.len() {
         let kind = row[slot];
         match kind_after(instr, slot as u16, kind) {
             Ok(next) => row[slot] = next,
-            Err(rule) => return Err(Stop { slot: slot as u16, kind, rule }),
+            Err(rule) => return Err(Stop {
+                slot: slot as u16,
+                kind,
+                rule,
+            }),
         }
     }
     Ok(())
@@ -121,7 +125,9 @@ pub(crate) fn kind_before(u: &Unit, slot: u16, at: u16) -> Option<Kind>
     requires straight { IsStraight u.now }
     requires inside { at < length u.now.code }
     ensures { (m : ModuleValue)
-        → MatchOption result ((k : Kind) → ¬ (IsVisited m u.now slot (visit at k))) (IsTheKind m u.now slot at) }
+        → MatchOption result
+        ((k : Kind) → ¬ (IsVisited m u.now slot (visit at k)))
+        (IsTheKind m u.now slot at) }
 {
     let mut kind = Kind::Unset;
     for instr in &u.code[..at as usize] {
@@ -159,7 +165,9 @@ fn kind_after(instr: &Instr, slot: u16, kind: Kind) -> Result<Kind, Rule>
 /// Reads a slot as a number, where the walk is on it.
 fn read(x: u16, slot: u16, kind: Kind) -> Result<(), Rule>
     ensures { (go : After)
-        → MatchResult result (λ _. reads x slot kind go ≡ go) (λ r. reads x slot kind go ≡ Refused r) }
+        → MatchResult result
+        (λ _. reads x slot kind go ≡ go)
+        (λ r. reads x slot kind go ≡ Refused r) }
 {
     if slot != x || kind == Kind::Number {
         Ok(())

@@ -7,10 +7,9 @@ mod kind_set;
 mod kinds;
 mod refusal;
 mod shape;
-mod verified;
-
 #[cfg(test)]
 mod tests;
+mod verified;
 
 pub use kind_set::KindSet;
 pub use refusal::{BoundFault, KindFault, Refusal, ShapeFault};

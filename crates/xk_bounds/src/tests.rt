@@ -85,7 +85,12 @@ fn accepts_and_measures(rt: HostRuntime) -> Result<(), Fail> {
 fn accepts_short_programs(rt: HostRuntime) -> Result<(), Fail> {
     let ret = verdict_of(rt.alloc(), 0, &[Instr::Ret])?;
     assert_eq!(rt; ret.map(|v| v.steps()).ok(), Some(1));
-    let prints = [Instr::Advance, Instr::Lit(0, 7), Instr::Print(0), Instr::Ret];
+    let prints = [
+        Instr::Advance,
+        Instr::Lit(0, 7),
+        Instr::Print(0),
+        Instr::Ret,
+    ];
     let verdict = verdict_of(rt.alloc(), 1, &prints)?;
     assert_eq!(rt; verdict.map(|v| v.steps()).ok(), Some(5));
     Ok(())
@@ -146,7 +151,11 @@ fn refuses_uses(rt: HostRuntime) -> Result<(), Fail> {
     refused(&rt, alloc, &code, Rule::Use, 0, &walk)?;
 
     let code = [Instr::Make(0), Instr::Drop(0), Instr::Resume(0), Instr::Ret];
-    let walk = [stop(0, Kind::Unset), stop(1, Kind::Live), stop(2, Kind::Out)];
+    let walk = [
+        stop(0, Kind::Unset),
+        stop(1, Kind::Live),
+        stop(2, Kind::Out),
+    ];
     refused(&rt, alloc, &code, Rule::Use, 0, &walk)
 }
 
@@ -204,13 +213,24 @@ fn says_why(rt: HostRuntime) -> Result<(), Fail> {
         panic!(rt; "accepted");
     };
     let text = format!(in rt.alloc(); "{e}")?;
-    assert_eq!(rt; text.as_str(), "the code breaks rule V3 Slot in unit 0 at 0");
+    assert_eq!(rt;
+        text.as_str(),
+        "the code breaks rule V3 Slot in unit 0 at 0"
+    );
 
-    let Err(e) = verdict_of(rt.alloc(), 1, &[Instr::Make(0), Instr::Print(0), Instr::Ret])? else {
+    let Err(e) = verdict_of(
+        rt.alloc(),
+        1,
+        &[Instr::Make(0), Instr::Print(0), Instr::Ret],
+    )?
+    else {
         panic!(rt; "accepted");
     };
     let text = format!(in rt.alloc(); "{e}")?;
-    assert_eq!(rt; text.as_str(), "slot 0 breaks rule V11 Use in unit 0 at 1, where it is live");
+    assert_eq!(rt;
+        text.as_str(),
+        "slot 0 breaks rule V11 Use in unit 0 at 1, where it is live"
+    );
     Ok(())
 }
 

@@ -39,7 +39,8 @@ impl Model for Verified {
 }
 
 /// Accepts the module, or gives it back with the first rule that it breaks, at the least place where it does. Rules are
-/// tried in the order of their numbers, but V11 to V13 together.
+/// tried in the order of their numbers, but V11 to V13 together. `OutOfMemory` comes only where room for the kinds of a
+/// unit's slots, or for a walk, was refused.
 pub fn verify(alloc: Global, m: Module) -> Result<Verified, (Module, Refusal)>
     ensures accepted { IfOk result (λ v. (v ≡ m) × IsAccepted m) }
     ensures refused { IfErr result (λ e. (e.0 ≡ m) × Refuses m e.1) }

@@ -37,15 +37,15 @@ loop-u-preserved c =
     let u = c.u-item.result in
     let n = c.loop-u.u-index in
     let inv = c.loop-u.invariant in
-    let found = found_unit m c.units-u-items.result.now n u c.units-u-items.ensures.listed c.loop-u-test.true c.u-item.is in
-    (
+    let found = found_unit m c.units-u-items.result.now n u c.units-u-items.ensures.listed c.loop-u-test.true c.u-item.is in (
       ap (λ x. x + 1) inv.0,
       λ k v lt at. elim (cases_lt k n) [
-        inl before ↦ inv.1 k v before at
-      | inr after ↦
-          let same : n ≡ k = omega arith in
-          let P : UnitValue → Type 0 = λ x. IsNeverRefusedIn m x in
-          subst P (same_Some _ _ (sym found ∙ ap (slice_get m.units) same ∙ at)) (c.in_ok-check_unit.ensures m) ]
+        | inl before ↦ inv.1 k v before at
+        | inr after ↦
+            let same : n ≡ k = omega arith in
+            let P : UnitValue → Type 0 = λ x. IsNeverRefusedIn m x in
+            subst P (same_Some _ _ (sym found ∙ ap (slice_get m.units) same ∙ at)) (c.in_ok-check_unit.ensures m)
+      ],
     )
 
 pub returns : goal.returns

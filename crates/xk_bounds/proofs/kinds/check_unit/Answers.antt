@@ -76,10 +76,9 @@ loop-instr-preserved c =
     let row = c.loop-instr.row.items in
     let xs = c.deref-instr-items.result.now in
     let same : xs ≡ u.code = c.deref-instr-items.ensures.value ∙ ap (λ (x : UnitValue). x.code) c.u.view_is in
-    let inv = c.loop-instr.invariant in
-    (
+    let inv = c.loop-instr.invariant in (
       ap (λ x. x + 1) inv.0,
-      followed_more u row c.step_row.new.row.items n _ c.requires.straight inv.1 (found_at xs u.code n _ same c.loop-instr-test.true) (λ m. c.in-Ok.ensures m u)
+      followed_more u row c.step_row.new.row.items n _ c.requires.straight inv.1 (found_at xs u.code n _ same c.loop-instr-test.true) (λ m. c.in-Ok.ensures m u),
     )
 
 pub returns : goal.returns

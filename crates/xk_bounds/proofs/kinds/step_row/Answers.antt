@@ -31,9 +31,8 @@ loop-slot-preserved c =
     let next = c.in-Ok.next in
     let inv = c.loop-slot.invariant in
     let inside : n < length row = omega (arith, inv.0, c.args.row.now.ok.0) in
-    let read = get_or_read row n c.index-kind.result.now inside c.index-kind.ensures kind.Unset in
-    (
+    let read = get_or_read row n c.index-kind.result.now inside c.index-kind.ensures kind.Unset in (
       length-set row n next ∙ inv.0,
       done_more old row n next inside c.args.instr.now inv.1 inv.2 (λ m u. let P : Kind → Type 0 = λ k. after m u c.args.instr.now n k ≡ To (next ∷ []) in subst P read (c.in-Ok.ensures m u)),
-      left_more old row n next inside inv.2
+      left_more old row n next inside inv.2,
     )

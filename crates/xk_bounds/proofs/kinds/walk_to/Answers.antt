@@ -10,11 +10,10 @@ use Rattle.xk_bounds.proofs.kinds.walk_to.Goals as goal
 
 pub loop-at-init : goal.loop-at-init
 loop-at-init c = λ m.
-    let u = c.args.u.now in
-    (
+    let u = c.args.u.now in (
       the_kind_start m u c.args.slot c.requires.straight,
       let P : List Visit → Type 0 = λ w. IsWalk m u c.args.slot (w ++ visit 0 kind.Unset ∷ []) in
-      subst P (sym c.in_ok-walk.ensures.items) (walk_start m u c.args.slot c.requires.straight)
+          subst P (sym c.in_ok-walk.ensures.items) (walk_start m u c.args.slot c.requires.straight),
     )
 
 pub unreachable-requires : goal.unreachable-requires
@@ -43,11 +42,10 @@ loop-at-preserved c = λ m.
     let more : n + 1 < length u.code = omega (arith, c.requires.inside) in
     let found = found_read c.u.inside.code.items u.code n c.index.result.now same inside c.index.ensures in
     let inv = c.loop-at.invariant m in
-    let to = c.in-Ok.ensures m u in
-    (
+    let to = c.in-Ok.ensures m u in (
       the_kind_more m u s c.requires.straight n c.index.result.now k next found more to inv.0,
       let P : List Visit → Type 0 = λ v. IsWalk m u s (v ++ visit (n + 1) next ∷ []) in
-      subst P (sym c.in_ok-push.ensures.items) (walk_more m u s (w ++ visit n k ∷ []) (visit n k) (visit (n + 1) next) inv.1 (ends_at_push m u s w (visit n k)) (edge_on m u s c.requires.straight n c.index.result.now k next found more to))
+          subst P (sym c.in_ok-push.ensures.items) (walk_more m u s (w ++ visit n k ∷ []) (visit n k) (visit (n + 1) next) inv.1 (ends_at_push m u s w (visit n k)) (edge_on m u s c.requires.straight n c.index.result.now k next found more to)),
     )
 
 pub returns : goal.returns

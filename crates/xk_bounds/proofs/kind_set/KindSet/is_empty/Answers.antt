@@ -45,15 +45,19 @@ returns c =
     let resumed = ap (λ (x : KindsValue). x.resumed) is in
     let out = ap (λ (x : KindsValue). x.out) is in
     let one : c.if-self.value ≡ (s.unset || s.number) = elim c.if-self.branch [
-        then-self w ↦ or_then s.unset s.number c.if-self.value _ unset w.if-self.true w.value-is
-      | else-self w ↦ or_else s.unset s.number c.if-self.value _ _ unset w.if-self.false number w.value-is ] in
+      | then-self w ↦ or_then s.unset s.number c.if-self.value _ unset w.if-self.true w.value-is
+      | else-self w ↦ or_else s.unset s.number c.if-self.value _ _ unset w.if-self.false number w.value-is
+    ] in
     let two : c.if-self-2.value ≡ ((s.unset || s.number) || s.live) = elim c.if-self-2.branch [
-        then-self-2 w ↦ or_then _ s.live c.if-self-2.value _ one w.if-self-2.true w.value-is
-      | else-self-2 w ↦ or_else _ s.live c.if-self-2.value _ _ one w.if-self-2.false live w.value-is ] in
+      | then-self-2 w ↦ or_then _ s.live c.if-self-2.value _ one w.if-self-2.true w.value-is
+      | else-self-2 w ↦ or_else _ s.live c.if-self-2.value _ _ one w.if-self-2.false live w.value-is
+    ] in
     let three : c.if-self-3.value ≡ (((s.unset || s.number) || s.live) || s.resumed) = elim c.if-self-3.branch [
-        then-self-3 w ↦ or_then _ s.resumed c.if-self-3.value _ two w.if-self-3.true w.value-is
-      | else-self-3 w ↦ or_else _ s.resumed c.if-self-3.value _ _ two w.if-self-3.false resumed w.value-is ] in
+      | then-self-3 w ↦ or_then _ s.resumed c.if-self-3.value _ two w.if-self-3.true w.value-is
+      | else-self-3 w ↦ or_else _ s.resumed c.if-self-3.value _ _ two w.if-self-3.false resumed w.value-is
+    ] in
     let all : c.if-self-4.result ≡ ((((s.unset || s.number) || s.live) || s.resumed) || s.out) = elim c.if-self-4.branch [
-        then-self-4 w ↦ or_then _ s.out c.if-self-4.result _ three w.if-self-4.true w.result-is
-      | else-self-4 w ↦ or_else _ s.out c.if-self-4.result _ _ three w.if-self-4.false out w.result-is ] in
+      | then-self-4 w ↦ or_then _ s.out c.if-self-4.result _ three w.if-self-4.true w.result-is
+      | else-self-4 w ↦ or_else _ s.out c.if-self-4.result _ _ three w.if-self-4.false out w.result-is
+    ] in
     (λ t. none_have s (sym all ∙ not-true c.if-self-4.result t), λ h. ap not (all ∙ any_of_none s h))

@@ -39,9 +39,10 @@ returns-in-Some c = λ k.
     let same = unit_is m c.self.inside.checked c.units.result.now c.args.unit r.u c.index-units-unit.result c.self.view_is c.units.ensures.listed r.found c.index-units-unit.is in
     let P : UnitValue → Type 0 = λ u. IsTheKind m u c.args.slot c.args.at c.in-Some.kind in
     let one = subst P same (c.in-Some.ensures m) in
-    let of = c.of.ensures k in
-    (λ t. one_reached m c.args.unit r.u c.args.slot c.args.at r.found c.in-Some.kind one k (of.0 t),
-     λ h. of.1 (reached_one m c.args.unit r.u c.args.slot c.args.at r.found c.in-Some.kind one k h))
+    let of = c.of.ensures k in (
+      λ t. one_reached m c.args.unit r.u c.args.slot c.args.at r.found c.in-Some.kind one k (of.0 t),
+      λ h. of.1 (reached_one m c.args.unit r.u c.args.slot c.args.at r.found c.in-Some.kind one k h),
+    )
 
 pub returns-in-None : goal.returns-in-None
 returns-in-None c = λ k.
@@ -49,6 +50,7 @@ returns-in-None c = λ k.
     let r = c.requires in
     let same = unit_is m c.self.inside.checked c.units.result.now c.args.unit r.u c.index-units-unit.result c.self.view_is c.units.ensures.listed r.found c.index-units-unit.is in
     let P : UnitValue → Type 0 = λ u. (k' : Kind) → IsVisited m u c.args.slot (visit c.args.at k') → ⊥ in
-    let none = subst P same (c.in-None.ensures m) in
-    (λ t. absurd (c.empty.ensures k t),
-     λ h. absurd (none_reached m c.args.unit r.u c.args.slot c.args.at r.found none k h))
+    let none = subst P same (c.in-None.ensures m) in (
+      λ t. absurd (c.empty.ensures k t),
+      λ h. absurd (none_reached m c.args.unit r.u c.args.slot c.args.at r.found none k h),
+    )
