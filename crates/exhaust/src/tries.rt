@@ -141,5 +141,8 @@ fn on_tape(alloc: Global) -> Result<(), Wrong> {
             "a tape isn't written at the second try",
         )?;
     }
-    holds(tape.written() == b"out".as_slice(), "a tape holds something else")
+    holds(
+        tape.written() == b"out".as_slice(),
+        "a tape holds something else",
+    )
 }

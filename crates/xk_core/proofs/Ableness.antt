@@ -9,7 +9,7 @@ use Rattle.xk_types.specs.declared.names.Status.{Status}
 use Rattle.xk_types.specs.declared.names.Status.TheVariants as status
 use Rattle.xk_types.specs.Code.{ModuleValue}
 use Rattle.xk_types.specs.World.{Activity, Clock, World, standing_of, instruction_at}
-use Rattle.xk_types.specs.Step.{Cause, ClockUse, Outcome, Blocked, Wrong, Stepped, carried_out, number_in, clock_in, registered_on, put_in, is_signalled, is_pending, slot_at, run_at, waits, passing, step_by, step_of, step}
+use Rattle.xk_types.specs.Step.{Cause, ClockUse, Outcome, Blocked, Wrong, Stepped, carried_out, number_in, clock_in, registered_on, put_in, is_signalled, is_pending, slot_at, run_at, waits, step_by, step_of, step}
 use Rattle.xk_types.specs.Schedule.{is_step, is_enabled}
 use Rattle.xk_core.specs.Able.{able_by, able_of, is_able}
 

@@ -1,18 +1,17 @@
 -- From a step of the definition to what the arms owe, and back.
-use Rattle.std.proofs.Common.{◌≡◌, ℕ, ℤ, ◌+◌, ◌<◌, Bool, true, false, List, [], ◌∷◌, length, Option, Some, None, slice_get, slice_set, refl, ap, sym, cond, get_or, All, ◌∙◌}
+use Rattle.std.proofs.Common.{◌≡◌, ℕ, ℤ, ◌<◌, Bool, true, false, length, Option, Some, None, slice_get, refl, ap, sym, cond, get_or, All, ◌∙◌}
 use Rattle.std.proofs.lemmas.Option.{slice_get_within, slice_get_read}
 use Rattle.xk_types.specs.declared.instr.Instr.{Instr}
 use Rattle.xk_types.specs.declared.instr.Instr.TheVariants as instr
 use Rattle.xk_types.specs.declared.names.Value.{Value}
 use Rattle.xk_types.specs.declared.names.Value.TheVariants as value
 use Rattle.xk_types.specs.declared.names.Event.{Event}
-use Rattle.xk_types.specs.declared.names.Event.TheVariants as event
 use Rattle.xk_types.specs.World.{Activity, Clock, World, standing_of}
-use Rattle.xk_types.specs.Step.{Outcome, Blocked, Wrong, Stepped, OutOfRange, ClockUse, carried_out, done, number_in, clock_in, registered_on, put_in, is_signalled, is_pending, slot_at}
+use Rattle.xk_types.specs.Step.{Outcome, Wrong, ClockUse, carried_out, done, number_in, clock_in, registered_on, put_in, is_signalled, is_pending, slot_at}
 use Rattle.xk_types.specs.Schedule.{is_step}
 use Rattle.xk_core.specs.declared.change.Change.{Change}
 use Rattle.xk_core.specs.Change.{after_change}
-use Rattle.xk_core.specs.Arm.{IsNumberAt, IsClockAt, CanCarry, Carries, IsRoomy, carried, carried_by}
+use Rattle.xk_core.specs.Arm.{CanCarry, Carries, IsRoomy, carried, carried_by}
 
 -- a step that reads a number has one
 number_there : (o : Option Value) (go : ℤ → Outcome) → is_step (number_in o go) ≡ true → (n : ℤ) × (o ≡ Some (value.Number n)) × (is_step (go n) ≡ true)

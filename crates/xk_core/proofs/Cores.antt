@@ -5,13 +5,13 @@ use Rattle.xk_types.specs.declared.names.Event.{Event}
 use Rattle.xk_types.specs.declared.names.Status.{Status}
 use Rattle.xk_types.specs.declared.names.Status.TheVariants as status
 use Rattle.xk_types.specs.declared.instr.Instr.{Instr}
-use Rattle.xk_types.specs.Code.{UnitValue, ModuleValue, IsUnitWithinLimits, IsWithinLimits}
-use Rattle.xk_types.specs.World.{Activity, Clock, World, opening}
+use Rattle.xk_types.specs.Code.{ModuleValue, IsUnitWithinLimits, IsWithinLimits}
+use Rattle.xk_types.specs.World.{Activity, World, opening}
 use Rattle.xk_types.specs.Step.{Stepped, carried_out, run_at, passing, step_by, step_of, step}
 use Rattle.xk_types.specs.Schedule.{is_step, is_enabled, all_ended}
 use Rattle.xk_types.specs.Bound.{steps_bound}
 use Rattle.xk_types.specs.Accepted.{IsAccepted}
-use Rattle.xk_laws.proofs.Invariant.{Each, IsSound, IsClockSound, IsActivitySound}
+use Rattle.xk_laws.proofs.Invariant.{IsSound, IsClockSound}
 use Rattle.xk_laws.proofs.Counts.{step_counts}
 use Rattle.xk_laws.proofs.Reached.{HasRoom, opening_only, opening_reached, reached_step, reached_sound, reached_right, reached_room, reached_ends}
 use Rattle.xk_core.specs.Arm.{IsRoomy, carried_by, carried, passing_by, passed_on}
@@ -28,13 +28,13 @@ roomy : (m : ModuleValue) (w : World) (a : ℕ) → IsWithinLimits m → IsAccep
 roomy m w a limits accepted sound room = record {
   steps = omega (arith, room.steps, accepted.bounds.steps);
   phases = λ k d lt.
-    let c : IsClockSound w.activities w.steps (slice_index_or w.clocks k d) = sound.clocks k _ (slice_get-get_or w.clocks k d lt) in
-    omega (arith, c.phase, c.last, room.steps, accepted.bounds.steps);
+      let c : IsClockSound w.activities w.steps (slice_index_or w.clocks k d) = sound.clocks k _ (slice_get-get_or w.clocks k d lt) in
+      omega (arith, c.phase, c.last, room.steps, accepted.bounds.steps);
   clocks = omega (arith, room.clocks, accepted.bounds.clocks);
   place = λ act there.
-    let s = sound.activities a act there in
-    let u = all_at IsUnitWithinLimits m.units act.frame.unit s.u limits.each s.unit in
-    omega (arith, s.frame.place, u.code);
+      let s = sound.activities a act there in
+      let u = all_at IsUnitWithinLimits m.units act.frame.unit s.u limits.each s.unit in
+      omega (arith, s.frame.place, u.code);
   standings = λ k d lt. (sound.clocks k _ (slice_get-get_or w.clocks k d lt)).width;
 }
 

@@ -1,5 +1,5 @@
 -- What an instruction does to its own activity, and what a step owes to the machine's number types.
-use Rattle.std.specs.Prelude.{◌≡◌, ℕ, ℤ, ◌+◌, ◌<◌, ◌^◌, true, Option, Some, None, length, slice_get, slice_set, All}
+use Rattle.std.specs.Prelude.{◌≡◌, ℕ, ℤ, ◌+◌, ◌<◌, ◌^◌, Option, Some, None, length, slice_get, slice_set, All}
 use Rattle.std.specs.Int.{w64, int_wrapping_add}
 use Rattle.xk_types.specs.declared.instr.Instr.{Instr}
 use Rattle.xk_types.specs.declared.instr.Instr.TheVariants as instr

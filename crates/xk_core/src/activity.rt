@@ -33,7 +33,11 @@ impl Frame {
     pub fn new(unit: u16, slots: Vec<Value>) -> Frame
         ensures { result ≡ record { unit = unit; place = 0; slots = slots.items } }
     {
-        Frame { unit, place: 0, slots }
+        Frame {
+            unit,
+            place: 0,
+            slots,
+        }
     }
 }
 

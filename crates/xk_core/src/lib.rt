@@ -8,7 +8,6 @@ pub mod laws;
 mod machine;
 mod state;
 
-
 pub use machine::Core;
 
 #[cfg(test)]

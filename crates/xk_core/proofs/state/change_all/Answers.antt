@@ -6,5 +6,5 @@ use Rattle.xk_core.proofs.state.change_all.Goals as goal
 pub loop-k-preserved : goal.loop-k-preserved
 loop-k-preserved c = rw c.change.ensures
     (moved_over_next c.args.a (after_change c.args.change) c.deref_mut-clock-items.result.now c.loop-k.clock-items c.loop-k.k
-      (get_or c.loop-k.clock-items c.loop-k.k c.clock-item.result) (omega arith) c.loop-k.invariant
-      (ap (λ d. get_or c.loop-k.clock-items c.loop-k.k d) c.clock-item.is))
+    (get_or c.loop-k.clock-items c.loop-k.k c.clock-item.result) (omega arith) c.loop-k.invariant
+    (ap (λ d. get_or c.loop-k.clock-items c.loop-k.k d) c.clock-item.is))

@@ -6,5 +6,5 @@ use Rattle.xk_core.proofs.state.settle_all.Goals as goal
 pub loop-clock-preserved : goal.loop-clock-preserved
 loop-clock-preserved c = rw c.settle.ensures
     (map_over_more (settled_clock c.args.now) c.deref_mut-clock-items.result.now c.loop-clock.clock-items c.loop-clock.clock-index
-      (get_or c.loop-clock.clock-items c.loop-clock.clock-index c.clock-item.result) (omega arith) c.loop-clock.invariant
-      (ap (λ d. get_or c.loop-clock.clock-items c.loop-clock.clock-index d) c.clock-item.is))
+    (get_or c.loop-clock.clock-items c.loop-clock.clock-index c.clock-item.result) (omega arith) c.loop-clock.invariant
+    (ap (λ d. get_or c.loop-clock.clock-items c.loop-clock.clock-index d) c.clock-item.is))

@@ -1,6 +1,4 @@
-use Rattle.std.proofs.Common.{◌≡◌, subst, ◌∙◌}
-use Rattle.xk_types.specs.Schedule.{is_enabled}
-use Rattle.xk_core.specs.Core.{CoreValue}
+use Rattle.std.proofs.Common.{◌∙◌}
 use Rattle.xk_core.proofs.Cores.{core_able}
 use Rattle.xk_core.proofs.machine.Core.enabled.Goals as goal
 

@@ -11,9 +11,9 @@ pass-requires-clause-room c = core_roomy c.self.inside.verified.now c.self.insid
 pub invariant_of-self : goal.invariant_of-self
 invariant_of-self c =
     core_passed c.self.inside.verified.now c.self.inside.state c.pass.new.self c.act.inside.0 c.pass.result c.self.invariant
-      (subst (λ (v : CoreValue). is_enabled v.module_run v.world c.act.inside.0 ≡ true) (sym c.self.view_is) (rw c.act.view_is c.requires))
-      (subst (λ (v : CoreValue). next_instruction v.module_run v.world c.act.inside.0 ≡ None) (sym c.self.view_is) (sym c.next_instruction.ensures ∙ c.in-None.is))
-      c.pass.ensures
+    (subst (λ (v : CoreValue). is_enabled v.module_run v.world c.act.inside.0 ≡ true) (sym c.self.view_is) (rw c.act.view_is c.requires))
+    (subst (λ (v : CoreValue). next_instruction v.module_run v.world c.act.inside.0 ≡ None) (sym c.self.view_is) (sym c.next_instruction.ensures ∙ c.in-None.is))
+    c.pass.ensures
 
 pub carry_out-requires-clause-room : goal.carry_out-requires-clause-room
 carry_out-requires-clause-room c = core_roomy c.self.inside.verified.now c.self.inside.state c.act.inside.0 c.self.invariant
@@ -21,28 +21,28 @@ carry_out-requires-clause-room c = core_roomy c.self.inside.verified.now c.self.
 pub invariant_of-self-in-Some : goal.invariant_of-self-in-Some
 invariant_of-self-in-Some c =
     core_carried c.self.inside.verified.now c.self.inside.state c.carry_out.new.self c.act.inside.0 c.in-Some.instr c.carry_out.result c.self.invariant
-      (subst (λ (v : CoreValue). next_instruction v.module_run v.world c.act.inside.0 ≡ Some c.in-Some.instr) (sym c.self.view_is) (sym c.next_instruction.ensures ∙ c.in-Some.is))
-      c.carry_out.ensures.stepped c.carry_out.ensures.refused
+    (subst (λ (v : CoreValue). next_instruction v.module_run v.world c.act.inside.0 ≡ Some c.in-Some.instr) (sym c.self.view_is) (sym c.next_instruction.ensures ∙ c.in-Some.is))
+    c.carry_out.ensures.stepped c.carry_out.ensures.refused
 
 pub returns-in-None-clause-bound : goal.returns-in-None-clause-bound
 returns-in-None-clause-bound c =
     core_bound c.self.inside.verified.now c.pass.new.self
-      (core_passed c.self.inside.verified.now c.self.inside.state c.pass.new.self c.act.inside.0 c.pass.result c.self.invariant
-        (subst (λ (v : CoreValue). is_enabled v.module_run v.world c.act.inside.0 ≡ true) (sym c.self.view_is) (rw c.act.view_is c.requires))
-        (subst (λ (v : CoreValue). next_instruction v.module_run v.world c.act.inside.0 ≡ None) (sym c.self.view_is) (sym c.next_instruction.ensures ∙ c.in-None.is))
-        c.pass.ensures)
+    (core_passed c.self.inside.verified.now c.self.inside.state c.pass.new.self c.act.inside.0 c.pass.result c.self.invariant
+    (subst (λ (v : CoreValue). is_enabled v.module_run v.world c.act.inside.0 ≡ true) (sym c.self.view_is) (rw c.act.view_is c.requires))
+    (subst (λ (v : CoreValue). next_instruction v.module_run v.world c.act.inside.0 ≡ None) (sym c.self.view_is) (sym c.next_instruction.ensures ∙ c.in-None.is))
+    c.pass.ensures)
 
 pub returns-in-Some-clause-bound : goal.returns-in-Some-clause-bound
 returns-in-Some-clause-bound c =
     at_ok (c.carry_out.new.self.steps ≤ steps_bound c.self.inside.verified.now) c.carry_out.result
-      (core_bound c.self.inside.verified.now c.carry_out.new.self
-        (core_carried c.self.inside.verified.now c.self.inside.state c.carry_out.new.self c.act.inside.0 c.in-Some.instr c.carry_out.result c.self.invariant
-          (subst (λ (v : CoreValue). next_instruction v.module_run v.world c.act.inside.0 ≡ Some c.in-Some.instr) (sym c.self.view_is) (sym c.next_instruction.ensures ∙ c.in-Some.is))
-          c.carry_out.ensures.stepped c.carry_out.ensures.refused))
+    (core_bound c.self.inside.verified.now c.carry_out.new.self
+    (core_carried c.self.inside.verified.now c.self.inside.state c.carry_out.new.self c.act.inside.0 c.in-Some.instr c.carry_out.result c.self.invariant
+    (subst (λ (v : CoreValue). next_instruction v.module_run v.world c.act.inside.0 ≡ Some c.in-Some.instr) (sym c.self.view_is) (sym c.next_instruction.ensures ∙ c.in-Some.is))
+    c.carry_out.ensures.stepped c.carry_out.ensures.refused))
 
 pub returns-in-Some-clause-counted : goal.returns-in-Some-clause-counted
 returns-in-Some-clause-counted c =
     subst (λ (v : CoreValue). OnOk c.carry_out.result (c.carry_out.new.self.steps ≡ v.world.steps + 1)) c.self.view_is
-      (carried_counts c.self.inside.verified.now c.self.inside.state c.carry_out.new.self c.act.inside.0 c.in-Some.instr c.carry_out.result
-        (subst (λ (v : CoreValue). next_instruction v.module_run v.world c.act.inside.0 ≡ Some c.in-Some.instr) (sym c.self.view_is) (sym c.next_instruction.ensures ∙ c.in-Some.is))
-        c.carry_out.ensures.stepped)
+    (carried_counts c.self.inside.verified.now c.self.inside.state c.carry_out.new.self c.act.inside.0 c.in-Some.instr c.carry_out.result
+    (subst (λ (v : CoreValue). next_instruction v.module_run v.world c.act.inside.0 ≡ Some c.in-Some.instr) (sym c.self.view_is) (sym c.next_instruction.ensures ∙ c.in-Some.is))
+    c.carry_out.ensures.stepped)

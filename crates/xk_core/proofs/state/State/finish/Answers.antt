@@ -7,4 +7,4 @@ use Rattle.xk_core.proofs.state.State.finish.Goals as goal
 pub settle-requires-clause-phases : goal.settle-requires-clause-phases
 settle-requires-clause-phases c = rw c.change_all.ensures
     (phases-moved (2 ^ 64) c.args.a (after_change c.args.change) c.self.inside.clocks.items
-      (subst (λ (w : World). All (λ k. k.phase + 1 < 2 ^ 64) w.clocks) (sym c.self.view_is) c.requires.phases))
+    (subst (λ (w : World). All (λ k. k.phase + 1 < 2 ^ 64) w.clocks) (sym c.self.view_is) c.requires.phases))

@@ -26,11 +26,13 @@ returns-clause-bytes c =
     let copied = c.copy_from_slice.new.self in
     let buf = c.args.buf.now in
     let rest : take (length c.deref.result.now - given) (drop given c.deref.result.now) ≡ drop given items =
-        rest_of c.deref.result.now given ∙ ap (λ xs. drop given xs) c.deref.ensures.value in
+    rest_of c.deref.result.now given ∙ ap (λ xs. drop given xs) c.deref.ensures.value in
     let was : drop given items ≡ c.args.self.now.rest = ap (λ t. t.rest) (c.self.view_is ∙ c.is_set_to_fail.ensures.counted) in
     let count : n ≡ min (length (drop given items)) (length buf) = rw rest at c.min-count.ensures in
     let same : copied ≡ take n (drop given items) = rw rest at c.copy_from_slice.ensures.after in
-    rw (← was) (taken_and_left items given n copied _ same (omega arith),
+    rw (← was) (
+      taken_and_left items given n copied _ same (omega arith),
       λ z room. left_at_end items given n buf count z
-        (let h : length copied + (length buf - n) ≡ length (copied ++ drop n buf) = sym (simp (length-append, length-drop)) in
-         let k : length copied ≡ min n (length buf) = c.copy_from_slice.ensures.len ∙ length-take n buf in omega arith))
+          (let h : length copied + (length buf - n) ≡ length (copied ++ drop n buf) = sym (simp (length-append, length-drop)) in
+          let k : length copied ≡ min n (length buf) = c.copy_from_slice.ensures.len ∙ length-take n buf in omega arith),
+    )
