@@ -1,11 +1,11 @@
 -- How many steps, activities, clocks and slots a module can take, as sums over its instructions.
-use Rattle.std.specs.Prelude.{ℕ, ◌+◌, ◌≤◌, max, slice_get, sum_by, fold, map}
+use Rattle.std.specs.Prelude.{ℕ, zero, suc, ◌+◌, ◌≤◌, max, length, slice_get, sum_by, fold, map}
 use Rattle.std.specs.Option.{option_map_or}
 use Rattle.xk_types.specs.declared.instr.Instr.{Instr}
 use Rattle.xk_types.specs.declared.instr.Instr.TheVariants as instr
-use Rattle.xk_types.specs.Code.{UnitValue, ModuleValue}
+use Rattle.xk_types.specs.Code.{ModuleValue, unit_started}
 
--- the steps of an instruction
+-- the steps of an instruction itself
 abbrev pub steps_weight : Instr → ℕ
 steps_weight (instr.Lit d n) = 1
 steps_weight (instr.Add d x y) = 1
@@ -14,13 +14,22 @@ steps_weight (instr.Make d) = 1
 steps_weight (instr.Resume c) = 1
 steps_weight (instr.Drop c) = 1
 steps_weight instr.Advance = 2
+steps_weight (instr.Spawn t args) = 1
 steps_weight instr.Ret = 1
 
--- the activities that it starts
+-- the activities that it starts itself
 abbrev pub activities_weight : Instr → ℕ
-activities_weight i = 0
+activities_weight (instr.Lit d n) = 0
+activities_weight (instr.Add d x y) = 0
+activities_weight (instr.Print x) = 0
+activities_weight (instr.Make d) = 0
+activities_weight (instr.Resume c) = 0
+activities_weight (instr.Drop c) = 0
+activities_weight instr.Advance = 0
+activities_weight (instr.Spawn t args) = 1
+activities_weight instr.Ret = 0
 
--- the clocks that it makes
+-- the clocks that it makes itself
 abbrev pub clocks_weight : Instr → ℕ
 clocks_weight (instr.Lit d n) = 0
 clocks_weight (instr.Add d x y) = 0
@@ -29,14 +38,19 @@ clocks_weight (instr.Make d) = 1
 clocks_weight (instr.Resume c) = 0
 clocks_weight (instr.Drop c) = 0
 clocks_weight instr.Advance = 0
+clocks_weight (instr.Spawn t args) = 0
 clocks_weight instr.Ret = 0
 
--- the sum of a weight over a unit's instructions
-abbrev pub total_of : (Instr → ℕ) → UnitValue → ℕ
-total_of weight u = sum_by weight u.code
+-- The sum of a weight over a unit's instructions, each with the sum of the unit that it starts, down to this many starts one
+-- below another.
+unfoldable pub total_within : (Instr → ℕ) → ModuleValue → ℕ → ℕ → ℕ
+total_within weight m zero unit = 0
+total_within weight m (suc depth) unit =
+    option_map_or (λ u. sum_by (λ i. weight i + option_map_or (total_within weight m depth) (unit_started i) 0) u.code) (slice_get m.units unit) 0
 
+-- What a unit starts has a greater number, so that no more starts than there are units stand one below another.
 abbrev pub total : (Instr → ℕ) → ModuleValue → ℕ → ℕ
-total weight m unit = option_map_or (total_of weight) (slice_get m.units unit) 0
+total weight m unit = total_within weight m (length m.units) unit
 
 -- the most steps of a unit
 abbrev pub cost : ModuleValue → ℕ → ℕ

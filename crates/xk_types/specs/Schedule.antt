@@ -60,6 +60,7 @@ abbrev pub is_local : Event → Bool
 is_local event.Local = true
 is_local (event.Printed n) = false
 is_local event.Made = false
+is_local event.Spawned = false
 is_local event.Resumed = false
 is_local event.Dropped = false
 is_local event.Arrived = false
@@ -84,6 +85,7 @@ abbrev pub number_printed : Event → Option ℤ
 number_printed event.Local = None
 number_printed (event.Printed n) = Some n
 number_printed event.Made = None
+number_printed event.Spawned = None
 number_printed event.Resumed = None
 number_printed event.Dropped = None
 number_printed event.Arrived = None

@@ -4,8 +4,10 @@
 -- says that the activity has done its work in the phase and doesn't block; `advanceAll` resumes every clock of the
 -- activity and blocks until all of them have advanced; `drop` ends the registration; an operation on a clock without a
 -- registration raises ClockUseException; a clock advances when every activity registered on it has resumed it; an
--- activity that ends is registered on no clock any more. This project's own rules: a second resume has no effect; the two
--- halves of `advanceAll` are two steps.
+-- activity that ends is registered on no clock any more; `async clocked(c1, .., cn) S` starts an activity registered on the
+-- clocks named, and the starter must be registered on each. From the chapter Activities: `async S` starts an activity that
+-- runs S, and the starter goes on without waiting. This project's own rules: a second resume has no effect; the two halves
+-- of `advanceAll` are two steps; a child stands on a clock that it is given where its starter stands.
 use Rattle.std.specs.Prelude.{ℕ, suc, ℤ, ◌+◌, ◌==◌, Bool, true, false, not, ◌&&◌, List, [], ◌∷◌, ◌++◌, map, length, replicate, Option, Some, None, slice_get, slice_set, if◌then◌else◌}
 use Rattle.std.specs.Int.{w64, int_wrapping_add}
 use Rattle.std.specs.List.{list_any}
@@ -19,8 +21,10 @@ use Rattle.xk_types.specs.declared.names.Standing.{Standing}
 use Rattle.xk_types.specs.declared.names.Standing.TheVariants as standing
 use Rattle.xk_types.specs.declared.names.Event.{Event}
 use Rattle.xk_types.specs.declared.names.Event.TheVariants as event
-use Rattle.xk_types.specs.Code.{ModuleValue}
-use Rattle.xk_types.specs.World.{Activity, Clock, World, standing_of, instruction_at}
+use Rattle.xk_types.specs.declared.unit.ParamKind.{ParamKind}
+use Rattle.xk_types.specs.declared.unit.ParamKind.TheVariants as param
+use Rattle.xk_types.specs.Code.{UnitValue, ModuleValue, is_body}
+use Rattle.xk_types.specs.World.{Finish, Activity, Clock, World, standing_of, frame_with, instruction_at}
 
 -- Why a step is wrong: a clock operation by an activity that isn't registered on the clock; an unset slot is read; a
 -- number is wanted and a clock stands there, or the reverse; there is no such instruction, unit, slot or shared number.
@@ -127,6 +131,41 @@ made w a act =
       clocks = w.clocks ++ new_clock (length w.activities) a ∷ [];
     })) event.Made
 
+-- ---- starting an activity
+
+-- the finish that governs what activity a starts: the innermost that it has open, else the one that governs it
+abbrev pub governing : ℕ → Activity → Finish
+governing a act = if act.opened == 0 then act.governed else record { owner = Some a; depth = act.opened }
+
+-- what activity a starts with these values: it begins with the `since` of its starter
+abbrev pub child : ModuleValue → ℕ → Activity → ℕ → List Value → Activity
+child m a act unit values = record {
+  frame = frame_with m unit values;
+  callers = [];
+  status = status.Running;
+  since = act.since;
+  opened = 0;
+  governed = governing a act;
+}
+
+abbrev pub names_clock : ℕ → Value → Bool
+names_clock c value.Unset = false
+names_clock c (value.Number n) = false
+names_clock c (value.Clock k) = k == c
+
+-- one of the values names clock c
+abbrev pub is_given : List Value → ℕ → Bool
+is_given values c = list_any (names_clock c) values
+
+-- A clock when activity a has started the next one: a child stands where its starter does if it is given the clock.
+abbrev pub joined_on : ℕ → Bool → Clock → Clock
+joined_on a given c = record c { standings = c.standings ++ (if given then standing_of c a else standing.Apart) ∷ [] }
+
+-- the clocks when activity a has started the next one, and given it those of these numbers
+abbrev pub joined : ℕ → (ℕ → Bool) → List Clock → List Clock
+joined a given [] = []
+joined a given (c ∷ cs) = joined_on a (given 0) c ∷ joined a (λ k. given (suc k)) cs
+
 -- ---- an activity after its step
 
 -- on to the next instruction
@@ -181,24 +220,49 @@ put_in (Some old) act d v go = go (onward (with_slots act (slice_set act.frame.s
 abbrev pub writing : Activity → ℕ → Value → (Activity → Outcome) → Outcome
 writing act d v go = put_in (slot_at act d) act d v go
 
+-- the values of arguments, each of what its parameter takes
+abbrev pub arguments_in : World → ℕ → Activity → List ParamKind → List ℕ → (List Value → Outcome) → Outcome
+arguments_in w a act [] [] go = go []
+arguments_in w a act [] (x ∷ xs) go = Wrong OutOfRange
+arguments_in w a act (p ∷ ps) [] go = Wrong OutOfRange
+arguments_in w a act (param.Number ∷ ps) (x ∷ xs) go =
+    number_in (slot_at act x) (λ n. arguments_in w a act ps xs (λ values. go (value.Number n ∷ values)))
+arguments_in w a act (param.Clock ∷ ps) (x ∷ xs) go =
+    clock_in w a (slot_at act x) (λ c. arguments_in w a act ps xs (λ values. go (value.Clock c ∷ values)))
+
+-- activity a goes on, an activity that it starts takes the next number, and the step ends
+abbrev pub spawned : ModuleValue → World → ℕ → Activity → ℕ → List Value → Outcome
+spawned m w a act unit values =
+    Stepped (settled (record w {
+      activities = slice_set w.activities a (onward act) ++ child m a act unit values ∷ [];
+      clocks = joined a (is_given values) w.clocks;
+    })) event.Spawned
+
+-- activity a starts one that runs this unit; only a body can be started
+abbrev pub spawning : ModuleValue → World → ℕ → Activity → ℕ → List ℕ → Option UnitValue → Outcome
+spawning m w a act unit args None = Wrong OutOfRange
+spawning m w a act unit args (Some u) =
+    if is_body u.kind then arguments_in w a act u.params args (spawned m w a act unit) else Wrong OutOfRange
+
 -- ---- a step
 
 -- what a running activity does at an instruction
-abbrev pub carried_out : World → ℕ → Activity → Instr → Outcome
-carried_out w a act (instr.Lit d n) = writing act d (value.Number n) (λ next. done w a next none event.Local)
-carried_out w a act (instr.Add d x y) =
+abbrev pub carried_out : ModuleValue → World → ℕ → Activity → Instr → Outcome
+carried_out m w a act (instr.Lit d n) = writing act d (value.Number n) (λ next. done w a next none event.Local)
+carried_out m w a act (instr.Add d x y) =
     number_in (slot_at act x) (λ p. number_in (slot_at act y) (λ q.
     writing act d (value.Number (int_wrapping_add w64 p q)) (λ next. done w a next none event.Local)))
-carried_out w a act (instr.Print x) = number_in (slot_at act x) (λ n. done w a (onward act) none (event.Printed n))
-carried_out w a act (instr.Make k) = writing act k (value.Clock (length w.clocks)) (λ next. made w a next)
-carried_out w a act (instr.Resume k) = clock_in w a (slot_at act k) (λ c. done w a (onward act) (only c resumed) event.Resumed)
-carried_out w a act (instr.Drop k) = clock_in w a (slot_at act k) (λ c. done w a (onward act) (only c dropped) event.Dropped)
-carried_out w a act instr.Advance = done w a (arrived act) (all resumed) event.Arrived
-carried_out w a act instr.Ret = done w a (ended act) (all dropped) event.Ended
+carried_out m w a act (instr.Print x) = number_in (slot_at act x) (λ n. done w a (onward act) none (event.Printed n))
+carried_out m w a act (instr.Make k) = writing act k (value.Clock (length w.clocks)) (λ next. made w a next)
+carried_out m w a act (instr.Resume k) = clock_in w a (slot_at act k) (λ c. done w a (onward act) (only c resumed) event.Resumed)
+carried_out m w a act (instr.Drop k) = clock_in w a (slot_at act k) (λ c. done w a (onward act) (only c dropped) event.Dropped)
+carried_out m w a act instr.Advance = done w a (arrived act) (all resumed) event.Arrived
+carried_out m w a act (instr.Spawn t args) = spawning m w a act t args (slice_get m.units t)
+carried_out m w a act instr.Ret = done w a (ended act) (all dropped) event.Ended
 
-abbrev pub run_at : World → ℕ → Activity → Option Instr → Outcome
-run_at w a act None = Wrong OutOfRange
-run_at w a act (Some i) = carried_out w a act i
+abbrev pub run_at : ModuleValue → World → ℕ → Activity → Option Instr → Outcome
+run_at m w a act None = Wrong OutOfRange
+run_at m w a act (Some i) = carried_out m w a act i
 
 -- an activity waits at an `advance` as long as it is signalled on a clock
 abbrev pub waits : World → ℕ → Bool
@@ -209,7 +273,7 @@ abbrev pub passing : World → ℕ → Activity → Outcome
 passing w a act = if waits w a then Blocked else done w a (past act (w.steps + 1)) (all passed) event.Passed
 
 abbrev pub step_by : ModuleValue → World → ℕ → Activity → Status → Outcome
-step_by m w a act status.Running = run_at w a act (instruction_at m act.frame)
+step_by m w a act status.Running = run_at m w a act (instruction_at m act.frame)
 step_by m w a act status.Arrived = passing w a act
 step_by m w a act status.Ended = Blocked
 

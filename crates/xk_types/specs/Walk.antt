@@ -12,7 +12,7 @@ use Rattle.xk_types.specs.declared.rules.Rule.TheVariants as rule
 use Rattle.xk_types.specs.declared.rules.Kind.{Kind}
 use Rattle.xk_types.specs.declared.rules.Kind.TheVariants as kind
 use Rattle.xk_types.specs.declared.rules.Visit.{Visit}
-use Rattle.xk_types.specs.Code.{UnitValue, ModuleValue}
+use Rattle.xk_types.specs.Code.{UnitValue, ModuleValue, params_of}
 use Rattle.xk_types.specs.Order.{Has}
 
 -- what an instruction leaves of a kind: the kinds that it may be afterwards, or a refusal by a rule
@@ -70,6 +70,17 @@ writes d new s k = if s == d then overwritten k (becomes new) else becomes k
 abbrev pub uses : ℕ → Kind → ℕ → Kind → After
 uses c new s k = if s == c then as_clock k (becomes new) else becomes k
 
+-- it hands on the clock in slot c, which stays as it is
+abbrev pub hands_on : ℕ → ℕ → Kind → After → After
+hands_on c s k go = if s == c then as_clock k go else go
+
+-- it gives arguments to parameters: each is read as a number, or handed on
+abbrev pub gives : List ParamKind → List ℕ → ℕ → Kind → After → After
+gives [] xs s k go = go
+gives (p ∷ ps) [] s k go = go
+gives (param.Number ∷ ps) (x ∷ xs) s k go = reads x s k (gives ps xs s k go)
+gives (param.Clock ∷ ps) (x ∷ xs) s k go = hands_on x s k (gives ps xs s k go)
+
 -- ---- the table: what an instruction of unit u leaves of the kind k of slot s
 
 abbrev pub after : ModuleValue → UnitValue → Instr → ℕ → Kind → After
@@ -80,6 +91,7 @@ after m u (instr.Make d) s k = writes d kind.Live s k
 after m u (instr.Resume c) s k = uses c kind.Resumed s k
 after m u (instr.Drop c) s k = uses c kind.Out s k
 after m u instr.Advance s k = becomes (awake k)
+after m u (instr.Spawn t args) s k = gives (params_of m t) args s k (becomes k)
 after m u instr.Ret s k = becomes k
 
 -- ---- edges
@@ -93,6 +105,7 @@ successors (instr.Make d) at = (at + 1) ∷ []
 successors (instr.Resume c) at = (at + 1) ∷ []
 successors (instr.Drop c) at = (at + 1) ∷ []
 successors instr.Advance at = (at + 1) ∷ []
+successors (instr.Spawn t args) at = (at + 1) ∷ []
 successors instr.Ret at = []
 
 abbrev pub places_after : Option Instr → ℕ → List ℕ

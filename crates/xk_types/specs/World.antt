@@ -2,7 +2,7 @@
 --
 -- X10 Language Specification 2.4: an activity runs a statement on its own (chapter Activities); a clock has a phase, and
 -- each activity registered on it has resumed it in this phase or has not (chapter Clocks).
-use Rattle.std.specs.Prelude.{ℕ, ℤ, List, [], ◌∷◌, Option, None, replicate, slice_get, slice_index_or, option_and_then}
+use Rattle.std.specs.Prelude.{ℕ, ℤ, ◌-◌, List, [], ◌∷◌, ◌++◌, length, Option, None, replicate, slice_get, slice_index_or, option_and_then}
 use Rattle.std.specs.Option.{option_map_or}
 use Rattle.xk_types.specs.declared.instr.Instr.{Instr}
 use Rattle.xk_types.specs.declared.names.Value.{Value}
@@ -59,6 +59,10 @@ slots_of m u = option_map_or (λ unit. unit.slots) (slice_get m.units u) 0
 -- a unit's frame before its first step
 abbrev pub start_of : ModuleValue → ℕ → Frame
 start_of m u = record { unit = u; place = 0; slots = replicate (slots_of m u) value.Unset }
+
+-- the frame of a unit before its first step, its parameters being given these values
+abbrev pub frame_with : ModuleValue → ℕ → List Value → Frame
+frame_with m u values = record { unit = u; place = 0; slots = values ++ replicate (slots_of m u - length values) value.Unset }
 
 -- main before its first step
 abbrev pub main_of : ModuleValue → Activity

@@ -1,8 +1,50 @@
 //! The bytecode's instructions.
 
-/// One instruction of a unit's code. Slots are named by number, from 0; every instruction but `Ret` goes on to the
-/// next.
-#[derive(Clone, Copy, Debug, PartialEq, Eq)]
+ghost use Rattle.std.specs.Prelude.{◌≡◌, length};
+ghost use Rattle.xk_types.specs.Code.{arguments_of};
+
+use std::marker::Model;
+
+/// The slots whose values a unit is given, one for each of its parameters and in their order.
+#[derive(Drop)]
+pub struct Args {
+    slots: Vec<u16>,
+}
+
+impl Model for Args {
+    ghost use Rattle.std.specs.Prelude.{ℕ, List};
+
+    ghost Value = { List ℕ };
+
+    ghost view = { λ a. a.slots.items };
+}
+
+impl Args {
+    /// The arguments that these slots hold, in this order.
+    pub fn new(slots: Vec<u16>) -> Args
+        ensures { result ≡ slots.items }
+    {
+        Args { slots }
+    }
+
+    /// The slots, in order.
+    pub fn slots(&self) -> &[u16]
+        ensures { result.now ≡ self.now }
+    {
+        &self.slots
+    }
+
+    /// How many there are.
+    pub fn count(&self) -> usize
+        ensures { result ≡ length self.now }
+    {
+        self.slots.len()
+    }
+}
+
+/// One instruction of a unit's code. Slots and units are named by number, from 0; every instruction but `Ret` goes on to
+/// the next.
+#[derive(Drop)]
 pub enum Instr {
     /// `lit d n`: slot d becomes the number n.
     Lit(u16, i64),
@@ -18,6 +60,21 @@ pub enum Instr {
     Drop(u16),
     /// `advance`: resumes every clock of the activity, then waits until all of them have advanced. Two steps.
     Advance,
+    /// `spawn u args`: starts a new activity that runs unit u with these arguments. It is registered on the clocks among
+    /// them, and stands on each where its starter stands.
+    Spawn(u16, Args),
     /// `ret`: the activity ends.
     Ret,
+}
+
+impl Instr {
+    /// How many arguments the instruction hands to a unit.
+    pub fn argument_count(&self) -> usize
+        ensures { result ≡ length (arguments_of self.now) }
+    {
+        match self {
+            Instr::Spawn(_, args) => args.count(),
+            _ => 0,
+        }
+    }
 }

@@ -12,10 +12,10 @@ mod unit;
 
 pub use counted::Counted;
 pub use device::{Failed, Sink, Source};
-pub use instr::Instr;
+pub use instr::{Args, Instr};
 pub use names::{Act, ClockId, Entry, Event, Standing, Status, Value};
 pub use rules::{Kind, Rule, Visit};
 pub use tape::Tape;
 pub use unit::{
-    Limit, MAX_CODE, MAX_SHARED, MAX_SLOTS, MAX_UNITS, Module, ParamKind, Unit, UnitKind,
+    Limit, MAX_ARGS, MAX_CODE, MAX_SHARED, MAX_SLOTS, MAX_UNITS, Module, ParamKind, Unit, UnitKind,
 };

@@ -74,6 +74,8 @@ pub enum Event {
     Local,
     Printed(i64),
     Made,
+    /// A new activity was started: it has the next number.
+    Spawned,
     Resumed,
     Dropped,
     /// The first step of an `advance`.

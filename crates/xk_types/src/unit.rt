@@ -11,6 +11,8 @@ use std::marker::Model;
 pub enum UnitKind {
     /// The code of activity 0.
     Main,
+    /// The code of an activity that another one starts.
+    Body,
 }
 
 /// What a parameter takes.
@@ -66,22 +68,25 @@ pub const MAX_SHARED: usize = 256;
 pub const MAX_SLOTS: u16 = 64;
 /// The most instructions of a unit.
 pub const MAX_CODE: usize = 4096;
+/// The most arguments of an instruction.
+pub const MAX_ARGS: usize = 64;
 
 impl Unit {
-    /// At most 64 slots, no more parameters than slots, at most 4,096 instructions.
+    /// At most 64 slots, no more parameters than slots, at most 4,096 instructions, and each with at most 64 arguments.
     pub fn is_within_limits(&self) -> bool
         ensures { IsTrue result ↔ IsUnitWithinLimits self.now }
     {
         self.slots <= MAX_SLOTS
             && self.params.len() <= self.slots as usize
             && self.code.len() <= MAX_CODE
+            && self.code.iter().all(|i| i.argument_count() <= MAX_ARGS)
     }
 }
 
 impl Module {
     /// The module of these shared numbers and units, or both back where they go beyond a limit: 1 to 1,024 units, at
     /// most 256 shared numbers, and each unit with at most 64 slots, no more parameters than slots and at most 4,096
-    /// instructions. Takes no memory.
+    /// instructions, each with at most 64 arguments. Takes no memory.
     pub fn new(shared: Vec<i64>, units: Vec<Unit>) -> Result<Module, (Vec<i64>, Vec<Unit>, Limit)>
         ensures made { IfOk result (λ m. m ≡ module_of shared.items units.items) }
         ensures limits { IsOk result ↔ IsWithinLimits (module_of shared.items units.items) }
