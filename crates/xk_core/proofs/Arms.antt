@@ -1,17 +1,35 @@
 -- From a step of the definition to what the arms owe, and back.
-use Rattle.std.proofs.Common.{◌≡◌, ℕ, ℤ, ◌<◌, Bool, true, false, length, Option, Some, None, slice_get, refl, ap, sym, cond, get_or, All, ◌∙◌}
-use Rattle.std.proofs.lemmas.Option.{slice_get_within, slice_get_read}
+use Rattle.std.specs.Prelude.{slice_set}
+use Rattle.std.proofs.Common.{◌≡◌, ◌||◌, ℕ, zero, suc, ℤ, ◌+◌, ◌-◌, ◌<◌, ◌≤◌, Bool, true, false, List, [], ◌∷◌, ◌++◌, length, map, replicate, arith, Option, Some, None, slice_get, refl, ap, sym, cond, get_or, All, ◌∙◌}
+use Rattle.std.proofs.lemmas.Option.{slice_get_within, slice_get_read, get_or_from_slice_get}
+use Rattle.std.proofs.lemmas.Bool.{false≢true}
+use Rattle.std.proofs.lemmas.List.{length-map}
 use Rattle.xk_types.specs.declared.instr.Instr.{Instr}
 use Rattle.xk_types.specs.declared.instr.Instr.TheVariants as instr
 use Rattle.xk_types.specs.declared.names.Value.{Value}
 use Rattle.xk_types.specs.declared.names.Value.TheVariants as value
 use Rattle.xk_types.specs.declared.names.Event.{Event}
-use Rattle.xk_types.specs.World.{Activity, Clock, World, standing_of}
-use Rattle.xk_types.specs.Step.{Outcome, Wrong, ClockUse, carried_out, done, number_in, clock_in, registered_on, put_in, is_signalled, is_pending, slot_at}
+use Rattle.xk_types.specs.declared.names.Event.TheVariants as event
+use Rattle.xk_types.specs.declared.unit.ParamKind.{ParamKind}
+use Rattle.xk_types.specs.declared.unit.ParamKind.TheVariants as param
+use Rattle.std.specs.Option.{option_map_or}
+use Rattle.xk_types.specs.Code.{UnitValue, ModuleValue, is_body, IsUnitWithinLimits, IsWithinLimits}
+use Rattle.xk_types.specs.World.{Activity, Clock, World, standing_of, slots_of}
+use Rattle.xk_types.specs.Step.{Outcome, Wrong, Stepped, ClockUse, OutOfRange, carried_out, done, number_in, clock_in, registered_on, put_in, arguments_in, names_clock, is_given, joined, spawned, spawning, settled, onward, is_signalled, is_pending, slot_at}
 use Rattle.xk_types.specs.Schedule.{is_step}
 use Rattle.xk_core.specs.declared.change.Change.{Change}
 use Rattle.xk_core.specs.Change.{after_change}
-use Rattle.xk_core.specs.Arm.{CanCarry, Carries, IsRoomy, carried, carried_by}
+use Rattle.xk_core.specs.Joining.{given_slots, started}
+use Rattle.xk_core.specs.Arm.{value_at, grows, CanCarry, Carries, IsRoomy, carried, carried_by}
+
+-- the value that is read in a slot is the one there
+value_there : (act : Activity) (s : ℕ) (v : Value) → slot_at act s ≡ Some v → value_at act s ≡ v
+value_there act s v e = get_or_from_slice_get act.frame.slots s v value.Unset e
+
+-- what holds of the first and of all others holds of all
+all_cons : (P : ℕ → Type 0) (x : ℕ) (xs : List ℕ) → P x → All P xs → All P (x ∷ xs)
+all_cons P x xs p h zero d lt = p
+all_cons P x xs p h (suc k) d lt = h k d (omega arith)
 
 -- a step that reads a number has one
 number_there : (o : Option Value) (go : ℤ → Outcome) → is_step (number_in o go) ≡ true → (n : ℤ) × (o ≡ Some (value.Number n)) × (is_step (go n) ≡ true)
@@ -45,67 +63,186 @@ registered_step (Some c) a go h = tested (is_signalled (standing_of c a)) (is_pe
     tested false true k = refl
     tested false false k = cc
 
--- an activity that takes a step at an instruction other than `make` has what it works on
-pub can_carry : (w : World) (a : ℕ) (act : Activity) (i : Instr) → is_step (carried_out w a act i) ≡ true → ((d : ℕ) → i ≡ instr.Make d → ⊥) → CanCarry act i
-can_carry w a act (instr.Lit d n) h one = let s = slot_there act d _ _ h in slice_get_within _ d _ s.1
-can_carry w a act (instr.Add d x y) h one =
+-- ---- arguments
+
+-- arguments of a step are there: as many as parameters, each in a slot, and the step goes on with their values
+pub arguments_there : (w : World) (a : ℕ) (act : Activity) (ps : List ParamKind) (xs : List ℕ) (go : List Value → Outcome) → is_step (arguments_in w a act ps xs go) ≡ true
+    → (length xs ≡ length ps) × All (λ s. s < length act.frame.slots) xs × (arguments_in w a act ps xs go ≡ go (map (value_at act) xs))
+arguments_there w a act [] [] go h = (refl, λ k d lt. absurd (omega arith), refl)
+arguments_there w a act [] (x ∷ xs) go h = cc
+arguments_there w a act (p ∷ ps) [] go h = cc
+arguments_there w a act (param.Number ∷ ps) (x ∷ xs) go h =
+    let n = number_there (slot_at act x) (λ z. arguments_in w a act ps xs (λ values. go (value.Number z ∷ values))) h in
+    let r = arguments_there w a act ps xs (λ values. go (value.Number n.0 ∷ values)) n.2 in
+    (ap suc r.0, all_cons (λ s. s < length act.frame.slots) x xs (slice_get_within act.frame.slots x _ n.1) r.1,
+      ap (λ o. number_in o (λ z. arguments_in w a act ps xs (λ values. go (value.Number z ∷ values)))) n.1 ∙ r.2
+      ∙ ap (λ v. go (v ∷ map (value_at act) xs)) (sym (value_there act x _ n.1)))
+arguments_there w a act (param.Clock ∷ ps) (x ∷ xs) go h =
+    let c = clock_there w a (slot_at act x) (λ k. arguments_in w a act ps xs (λ values. go (value.Clock k ∷ values))) h in
+    let g : is_step (registered_on (slice_get w.clocks c.0) a (arguments_in w a act ps xs (λ values. go (value.Clock c.0 ∷ values)))) ≡ true = rw c.1 at h in
+    let e = registered_step (slice_get w.clocks c.0) a (arguments_in w a act ps xs (λ values. go (value.Clock c.0 ∷ values))) g in
+    let r = arguments_there w a act ps xs (λ values. go (value.Clock c.0 ∷ values)) (rw e at g) in
+    (ap suc r.0, all_cons (λ s. s < length act.frame.slots) x xs (slice_get_within act.frame.slots x _ c.1) r.1,
+      ap (λ o. clock_in w a o (λ k. arguments_in w a act ps xs (λ values. go (value.Clock k ∷ values)))) c.1 ∙ e ∙ r.2
+      ∙ ap (λ v. go (v ∷ map (value_at act) xs)) (sym (value_there act x _ c.1)))
+
+-- ---- instructions of one activity
+
+-- an activity that takes a step at an instruction that adds nothing has what it works on
+pub can_carry : (m : ModuleValue) (w : World) (a : ℕ) (act : Activity) (i : Instr) → is_step (carried_out m w a act i) ≡ true → grows i ≡ false → CanCarry act i
+can_carry m w a act (instr.Lit d n) h one = let s = slot_there act d _ _ h in slice_get_within _ d _ s.1
+can_carry m w a act (instr.Add d x y) h one =
     let p = number_there (slot_at act x) _ h in
     let q = number_there (slot_at act y) _ p.2 in
     let s = slot_there act d _ _ q.2 in
     ((p.0, p.1), (q.0, q.1), slice_get_within _ d _ s.1)
-can_carry w a act (instr.Print x) h one = let p = number_there (slot_at act x) _ h in (p.0, p.1)
-can_carry w a act (instr.Make d) h one = one d refl
-can_carry w a act (instr.Resume k) h one = clock_there w a (slot_at act k) _ h
-can_carry w a act (instr.Drop k) h one = clock_there w a (slot_at act k) _ h
-can_carry w a act instr.Advance h one = tt
-can_carry w a act instr.Ret h one = tt
+can_carry m w a act (instr.Print x) h one = let p = number_there (slot_at act x) _ h in (p.0, p.1)
+can_carry m w a act (instr.Make d) h one = absurd (false≢true (sym one))
+can_carry m w a act (instr.Spawn t args) h one = absurd (false≢true (sym one))
+can_carry m w a act (instr.Resume k) h one = clock_there w a (slot_at act k) _ h
+can_carry m w a act (instr.Drop k) h one = clock_there w a (slot_at act k) _ h
+can_carry m w a act instr.Advance h one = tt
+can_carry m w a act instr.Ret h one = tt
 
 -- what it leaves is what the definition gives
-pub carries_done : (w : World) (a : ℕ) (act : Activity) (i : Instr) (next : Activity) (ch : Change) (e : Event) → is_step (carried_out w a act i) ≡ true → Carries act i next ch e → carried_out w a act i ≡ done w a next (after_change ch) e
-carries_done w a act (instr.Lit d n) next ch e h did =
+pub carries_done : (m : ModuleValue) (w : World) (a : ℕ) (act : Activity) (i : Instr) (next : Activity) (ch : Change) (e : Event) → is_step (carried_out m w a act i) ≡ true → Carries act i next ch e → carried_out m w a act i ≡ done w a next (after_change ch) e
+carries_done m w a act (instr.Lit d n) next ch e h did =
     let s = slot_there act d _ _ h in rw (s.1, did.0, did.1, did.2) refl
-carries_done w a act (instr.Add d x y) next ch e h did =
+carries_done m w a act (instr.Add d x y) next ch e h did =
     let p = number_there (slot_at act x) _ h in
     let q = number_there (slot_at act y) _ p.2 in
     let s = slot_there act d _ _ q.2 in
     rw (did.2, did.3, s.1, did.4, did.5, did.6) refl
-carries_done w a act (instr.Print x) next ch e h did = rw (did.1, did.2, did.3, did.4) refl
-carries_done w a act (instr.Make d) next ch e h did = absurd did
-carries_done w a act (instr.Resume k) next ch e h did =
+carries_done m w a act (instr.Print x) next ch e h did = rw (did.1, did.2, did.3, did.4) refl
+carries_done m w a act (instr.Make d) next ch e h did = absurd did
+carries_done m w a act (instr.Spawn t args) next ch e h did = absurd did
+carries_done m w a act (instr.Resume k) next ch e h did =
     rw (did.1, did.2, did.3, did.4) (registered_step _ a _ (rw did.1 at h))
-carries_done w a act (instr.Drop k) next ch e h did =
+carries_done m w a act (instr.Drop k) next ch e h did =
     rw (did.1, did.2, did.3, did.4) (registered_step _ a _ (rw did.1 at h))
-carries_done w a act instr.Advance next ch e h did = rw (did.0, did.1, did.2) refl
-carries_done w a act instr.Ret next ch e h did = rw (did.0, did.1, did.2) refl
+carries_done m w a act instr.Advance next ch e h did = rw (did.0, did.1, did.2) refl
+carries_done m w a act instr.Ret next ch e h did = rw (did.0, did.1, did.2) refl
 
 -- ---- over the list of activities
 
-within_by : (w : World) (a : ℕ) (i : Instr) (o : Option Activity) → slice_get w.activities a ≡ o → is_step (carried_by w a i o) ≡ true → a < length w.activities
-within_by w a i None e h = cc
-within_by w a i (Some act) e h = slice_get_within w.activities a act e
+within_by : (m : ModuleValue) (w : World) (a : ℕ) (i : Instr) (o : Option Activity) → slice_get w.activities a ≡ o → is_step (carried_by m w a i o) ≡ true → a < length w.activities
+within_by m w a i None e h = cc
+within_by m w a i (Some act) e h = slice_get_within w.activities a act e
 
 -- an activity that takes a step exists
-pub carried_within : (w : World) (a : ℕ) (i : Instr) → is_step (carried w a i) ≡ true → a < length w.activities
-carried_within w a i h = within_by w a i (slice_get w.activities a) refl h
+pub carried_within : (m : ModuleValue) (w : World) (a : ℕ) (i : Instr) → is_step (carried m w a i) ≡ true → a < length w.activities
+carried_within m w a i h = within_by m w a i (slice_get w.activities a) refl h
 
 -- the activity that is read at a place is the one there
 pub read_at : (w : World) (a : ℕ) (act : Activity) → a < length w.activities → act ≡ get_or w.activities a act → slice_get w.activities a ≡ Some act
 read_at w a act lt e = slice_get_read w.activities (length w.activities) a act refl lt e
 
 -- the step of the activity there
-pub carried_there : (w : World) (a : ℕ) (i : Instr) (act : Activity) → slice_get w.activities a ≡ Some act → carried w a i ≡ carried_out w a act i
-carried_there w a i act e = ap (carried_by w a i) e
+pub carried_there : (m : ModuleValue) (w : World) (a : ℕ) (i : Instr) (act : Activity) → slice_get w.activities a ≡ Some act → carried m w a i ≡ carried_out m w a act i
+carried_there m w a i act e = ap (carried_by m w a i) e
 
-pub operands_there : (w : World) (a : ℕ) (i : Instr) (act : Activity) → is_step (carried w a i) ≡ true → ((d : ℕ) → i ≡ instr.Make d → ⊥) → act ≡ get_or w.activities a act → CanCarry act i
-operands_there w a i act h one e =
-    can_carry w a act i (ap is_step (sym (carried_there w a i act (read_at w a act (carried_within w a i h) e))) ∙ h) one
+pub operands_there : (m : ModuleValue) (w : World) (a : ℕ) (i : Instr) (act : Activity) → is_step (carried m w a i) ≡ true → grows i ≡ false → act ≡ get_or w.activities a act → CanCarry act i
+operands_there m w a i act h one e =
+    can_carry m w a act i (ap is_step (sym (carried_there m w a i act (read_at w a act (carried_within m w a i h) e))) ∙ h) one
 
 -- the step that the arm took
-pub arm_done : (w : World) (a : ℕ) (i : Instr) (act next : Activity) (ch : Change) (e : Event) → is_step (carried w a i) ≡ true → act ≡ get_or w.activities a act → Carries act i next ch e → carried w a i ≡ done w a next (after_change ch) e
-arm_done w a i act next ch e h is did =
-    let there = carried_there w a i act (read_at w a act (carried_within w a i h) is) in
-    there ∙ carries_done w a act i next ch e (ap is_step (sym there) ∙ h) did
+pub arm_done : (m : ModuleValue) (w : World) (a : ℕ) (i : Instr) (act next : Activity) (ch : Change) (e : Event) → is_step (carried m w a i) ≡ true → act ≡ get_or w.activities a act → Carries act i next ch e → carried m w a i ≡ done w a next (after_change ch) e
+arm_done m w a i act next ch e h is did =
+    let there = carried_there m w a i act (read_at w a act (carried_within m w a i h) is) in
+    there ∙ carries_done m w a act i next ch e (ap is_step (sym there) ∙ h) did
 
 -- each clock knows where an activity stands that exists
 pub stands_there : (w : World) (a : ℕ) → IsRoomy w a → a < length w.activities → All (λ c. a < length c.standings) w.clocks
 stands_there w a room lt k d within = rw (room.standings k d within) lt
+
+-- ---- starting an activity
+
+-- slots that nothing was written to name no clock
+given_padded : (xs : List Value) (n c : ℕ) → is_given (xs ++ replicate n value.Unset) c ≡ is_given xs c
+given_padded [] zero c = refl
+given_padded [] (suc n) c = given_padded [] n c
+given_padded (x ∷ xs) n c = ap (λ b. names_clock c x || b) (given_padded xs n c)
+
+joined_same : (a : ℕ) (f g : ℕ → Bool) (cs : List Clock) → ((k : ℕ) → f k ≡ g k) → joined a f cs ≡ joined a g cs
+joined_same a f g [] h = refl
+joined_same a f g (c ∷ cs) h = rw (h 0, joined_same a (λ k. f (suc k)) (λ k. g (suc k)) cs (λ k. h (suc k))) refl
+
+-- the unit is a body
+body_there : (b : Bool) (o : Outcome) → is_step (cond b o (Wrong OutOfRange)) ≡ true → (cond b o (Wrong OutOfRange) ≡ o) × (is_step o ≡ true)
+body_there true o h = (refl, h)
+body_there false o h = cc
+
+-- what a step at a `spawn` has: as many arguments as the unit has parameters, each in a slot; and what it leads to
+pub record IsSpawn (m : ModuleValue) (w : World) (a : ℕ) (act : Activity) (unit : ℕ) (args : List ℕ) (u : UnitValue) : Type 0 where
+  pub count : length args ≡ length u.params
+  pub slots : All (λ s. s < length act.frame.slots) args
+  pub goes : carried m w a (instr.Spawn unit args) ≡ spawned m w a act unit (map (value_at act) args)
+
+spawning_there : (m : ModuleValue) (w : World) (a : ℕ) (act : Activity) (unit : ℕ) (args : List ℕ) (u : UnitValue) → slice_get m.units unit ≡ Some u
+    → slice_get w.activities a ≡ Some act → is_step (carried m w a (instr.Spawn unit args)) ≡ true → IsSpawn m w a act unit args u
+spawning_there m w a act unit args u found here h =
+    let e : carried m w a (instr.Spawn unit args) ≡ spawning m w a act unit args (Some u) =
+          carried_there m w a (instr.Spawn unit args) act here ∙ ap (spawning m w a act unit args) found in
+    let b = body_there (is_body u.kind) (arguments_in w a act u.params args (spawned m w a act unit)) (ap is_step (sym e) ∙ h) in
+    let r = arguments_there w a act u.params args (spawned m w a act unit) b.1 in
+    record { count = r.0; slots = r.1; goes = e ∙ b.0 ∙ r.2 }
+
+spawn_by : (m : ModuleValue) (w : World) (a : ℕ) (act : Activity) (unit : ℕ) (args : List ℕ) (o : Option UnitValue) → slice_get m.units unit ≡ o
+    → slice_get w.activities a ≡ Some act → is_step (carried m w a (instr.Spawn unit args)) ≡ true → (u : UnitValue) × (slice_get m.units unit ≡ Some u)
+spawn_by m w a act unit args None e here h =
+    let g : is_step (spawning m w a act unit args None) ≡ true = ap is_step (sym (carried_there m w a (instr.Spawn unit args) act here ∙ ap (spawning m w a act unit args) e)) ∙ h in
+    cc
+spawn_by m w a act unit args (Some u) e here h = (u, e)
+
+-- the unit that is started exists
+pub spawn_unit : (m : ModuleValue) (w : World) (a : ℕ) (act : Activity) (unit : ℕ) (args : List ℕ) → act ≡ get_or w.activities a act
+    → is_step (carried m w a (instr.Spawn unit args)) ≡ true → (u : UnitValue) × (slice_get m.units unit ≡ Some u)
+spawn_unit m w a act unit args is h =
+    spawn_by m w a act unit args (slice_get m.units unit) refl (read_at w a act (carried_within m w a (instr.Spawn unit args) h) is) h
+
+pub spawn_there : (m : ModuleValue) (w : World) (a : ℕ) (act : Activity) (unit : ℕ) (args : List ℕ) (u : UnitValue) → u ≡ get_or m.units unit u
+    → act ≡ get_or w.activities a act → is_step (carried m w a (instr.Spawn unit args)) ≡ true → IsSpawn m w a act unit args u
+spawn_there m w a act unit args u at is h =
+    let v = spawn_unit m w a act unit args is h in
+    spawning_there m w a act unit args u (slice_get_read m.units (length m.units) unit u refl (slice_get_within m.units unit v.0 v.1) at)
+      (read_at w a act (carried_within m w a (instr.Spawn unit args) h) is) h
+
+-- the world before its clocks settle
+abbrev pub started_world : World → ℕ → Activity → ℕ → List Value → World
+started_world w a act unit slots = record w {
+  activities = slice_set w.activities a (onward act) ++ started a act unit slots ∷ [];
+  clocks = joined a (is_given slots) w.clocks;
+}
+
+pub spawn_done : (m : ModuleValue) (w : World) (a : ℕ) (act : Activity) (unit : ℕ) (args : List ℕ) (u : UnitValue) → u ≡ get_or m.units unit u
+    → act ≡ get_or w.activities a act → is_step (carried m w a (instr.Spawn unit args)) ≡ true
+    → carried m w a (instr.Spawn unit args) ≡ Stepped (settled (started_world w a act unit (given_slots act args u.slots))) event.Spawned
+spawn_done m w a act unit args u at is h =
+    let s = spawn_there m w a act unit args u at is h in
+    let v = spawn_unit m w a act unit args is h in
+    let found : slice_get m.units unit ≡ Some u = slice_get_read m.units (length m.units) unit u refl (slice_get_within m.units unit v.0 v.1) at in
+    let size : slots_of m unit ≡ u.slots = ap (λ o. option_map_or (λ x. x.slots) o 0) found in
+    s.goes ∙ rw (size, length-map args (value_at act),
+      joined_same a (is_given (given_slots act args u.slots)) (is_given (map (value_at act) args)) w.clocks (given_padded (map (value_at act) args) (u.slots - length args))) refl
+
+-- the unit has room for what it is given
+pub spawn_fits : (m : ModuleValue) (w : World) (a : ℕ) (act : Activity) (unit : ℕ) (args : List ℕ) (u : UnitValue) → IsWithinLimits m → u ≡ get_or m.units unit u
+    → act ≡ get_or w.activities a act → is_step (carried m w a (instr.Spawn unit args)) ≡ true → length args ≤ u.slots
+spawn_fits m w a act unit args u limits at is h =
+    let s = spawn_there m w a act unit args u at is h in
+    let v = spawn_unit m w a act unit args is h in
+    let fits : IsUnitWithinLimits u = rw (sym at) at (limits.each unit u (slice_get_within m.units unit v.0 v.1)) in
+    omega (arith, s.count, fits.params)
+
+same_some : {X : Type 0} (x y : X) → Some x ≡ Some y → x ≡ y
+same_some x y e = cc
+
+-- two readings of one place
+pub same_read : (w : World) (a : ℕ) (x y : Activity) → a < length w.activities → x ≡ get_or w.activities a x → y ≡ get_or w.activities a y → x ≡ y
+same_read w a x y lt e f = same_some x y (sym (read_at w a x lt e) ∙ read_at w a y lt f)
+
+-- the world before its clocks settle, by its parts
+pub started_parts : (w : World) (a : ℕ) (act next child : Activity) (unit : ℕ) (slots : List Value) (acts : List Activity) (clocks : List Clock)
+    → acts ≡ slice_set w.activities a next ++ child ∷ [] → next ≡ onward act → child ≡ started a act unit slots → clocks ≡ joined a (is_given child.frame.slots) w.clocks
+    → record w { activities = acts; clocks = clocks } ≡ started_world w a act unit slots
+started_parts w a act next child unit slots acts clocks e f g h = rw (h, e, f, g) refl

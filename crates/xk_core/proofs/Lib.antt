@@ -1,4 +1,2 @@
 pub mod Clocks
 pub mod Arms
-pub mod Ableness
-pub mod Cores

@@ -1,5 +1,5 @@
 -- What an instruction does to its own activity, and what a step owes to the machine's number types.
-use Rattle.std.specs.Prelude.{◌≡◌, ℕ, ℤ, ◌+◌, ◌<◌, ◌^◌, Option, Some, None, length, slice_get, slice_set, All}
+use Rattle.std.specs.Prelude.{◌≡◌, ℕ, ℤ, ◌+◌, ◌<◌, ◌^◌, Bool, true, false, Option, Some, None, length, slice_get, slice_set, slice_index_or, All}
 use Rattle.std.specs.Int.{w64, int_wrapping_add}
 use Rattle.xk_types.specs.declared.instr.Instr.{Instr}
 use Rattle.xk_types.specs.declared.instr.Instr.TheVariants as instr
@@ -7,6 +7,7 @@ use Rattle.xk_types.specs.declared.names.Value.{Value}
 use Rattle.xk_types.specs.declared.names.Value.TheVariants as value
 use Rattle.xk_types.specs.declared.names.Event.{Event}
 use Rattle.xk_types.specs.declared.names.Event.TheVariants as event
+use Rattle.xk_types.specs.Code.{ModuleValue}
 use Rattle.xk_types.specs.World.{Activity, World}
 use Rattle.xk_types.specs.Step.{Outcome, Blocked, carried_out, passing, slot_at, onward, with_slots, arrived, ended}
 use Rattle.xk_core.specs.declared.change.Move.TheVariants as move
@@ -20,7 +21,23 @@ IsNumberAt act s = (n : ℤ) × (slot_at act s ≡ Some (value.Number n))
 abbrev pub IsClockAt : Activity → ℕ → Type 0
 IsClockAt act s = (c : ℕ) × (slot_at act s ≡ Some (value.Clock c))
 
--- the activity has what the instruction works on; `make` concerns more than one activity
+-- what a slot holds, and nothing where there is no such slot
+abbrev pub value_at : Activity → ℕ → Value
+value_at act s = slice_index_or act.frame.slots s value.Unset
+
+-- the instruction adds a clock or an activity, for which memory is wanted
+abbrev pub grows : Instr → Bool
+grows (instr.Lit d n) = false
+grows (instr.Add d x y) = false
+grows (instr.Print x) = false
+grows (instr.Make d) = true
+grows (instr.Resume k) = false
+grows (instr.Drop k) = false
+grows instr.Advance = false
+grows (instr.Spawn t args) = true
+grows instr.Ret = false
+
+-- the activity has what the instruction works on, which concerns no other activity
 abbrev pub CanCarry : Activity → Instr → Type 0
 CanCarry act (instr.Lit d n) = d < length act.frame.slots
 CanCarry act (instr.Add d x y) = IsNumberAt act x × IsNumberAt act y × (d < length act.frame.slots)
@@ -29,6 +46,7 @@ CanCarry act (instr.Make d) = ⊥
 CanCarry act (instr.Resume k) = IsClockAt act k
 CanCarry act (instr.Drop k) = IsClockAt act k
 CanCarry act instr.Advance = Unit {0}
+CanCarry act (instr.Spawn t args) = ⊥
 CanCarry act instr.Ret = Unit {0}
 
 -- the activity after it has written a slot
@@ -48,16 +66,17 @@ Carries act (instr.Resume k) next ch e =
     (c : ℕ) × (slot_at act k ≡ Some (value.Clock c)) × (next ≡ onward act) × (ch ≡ change.Only c move.Resume) × (e ≡ event.Resumed)
 Carries act (instr.Drop k) next ch e =
     (c : ℕ) × (slot_at act k ≡ Some (value.Clock c)) × (next ≡ onward act) × (ch ≡ change.Only c move.Drop) × (e ≡ event.Dropped)
+Carries act (instr.Spawn t args) next ch e = ⊥
 Carries act instr.Advance next ch e = (next ≡ arrived act) × (ch ≡ change.All move.Resume) × (e ≡ event.Arrived)
 Carries act instr.Ret next ch e = (next ≡ ended act) × (ch ≡ change.All move.Drop) × (e ≡ event.Ended)
 
-abbrev pub carried_by : World → ℕ → Instr → Option Activity → Outcome
-carried_by w a i None = Blocked
-carried_by w a i (Some act) = carried_out w a act i
+abbrev pub carried_by : ModuleValue → World → ℕ → Instr → Option Activity → Outcome
+carried_by m w a i None = Blocked
+carried_by m w a i (Some act) = carried_out m w a act i
 
 -- what activity a does at an instruction
-abbrev pub carried : World → ℕ → Instr → Outcome
-carried w a i = carried_by w a i (slice_get w.activities a)
+abbrev pub carried : ModuleValue → World → ℕ → Instr → Outcome
+carried m w a i = carried_by m w a i (slice_get w.activities a)
 
 abbrev pub passing_by : World → ℕ → Option Activity → Outcome
 passing_by w a None = Blocked

@@ -1,14 +1,16 @@
 //! An activity: its frame, and how it stands.
 
-ghost use Rattle.std.specs.Prelude.{◌≡◌, ℕ, ℤ, ◌+◌, ◌<◌, ◌^◌, length, Some, slice_set};
+ghost use Rattle.std.specs.Prelude.{◌≡◌, ℕ, ℤ, ◌+◌, ◌<◌, ◌≤◌, ◌^◌, length, map, Some, slice_set, All, IfOk};
 ghost use Rattle.xk_types.specs.declared.names.Value.TheVariants as value;
 ghost use Rattle.xk_types.specs.declared.instr.Instr.TheVariants as instr;
 ghost use Rattle.xk_types.specs.Step.{slot_at, onward, with_slots, arrived, ended, past};
 ghost use Rattle.xk_types.specs.Schedule.{is_ended};
 ghost use Rattle.xk_core.specs.declared.change.Change.TheVariants as change;
-ghost use Rattle.xk_core.specs.Arm.{IsClockAt, CanCarry, Carries};
+ghost use Rattle.xk_core.specs.Joining.{started, given_slots};
+ghost use Rattle.xk_core.specs.Arm.{value_at, IsClockAt, CanCarry, Carries};
 
 use crate::change::{Change, Move};
+use std::alloc::{AllocError, Global};
 use std::marker::Model;
 use xk_types::{ClockId, Event, Instr, Status, Value};
 
@@ -130,6 +132,36 @@ impl Activity {
         }
     }
 
+    /// The values of these slots.
+    fn values(&self, alloc: Global, args: &[u16]) -> Result<Vec<Value>, AllocError>
+        requires { All (λ s. s < length self.now.frame.slots) args.now }
+        ensures { IfOk result (λ v. v.items ≡ map (value_at self.now) args.now) }
+    {
+        let mut values = Vec::with_capacity(alloc, args.len())?;
+        for s in args {
+            values.push(self.frame.slots[*s as usize])?;
+        }
+        Ok(values)
+    }
+
+    /// What this activity starts: it runs a unit that has this many slots, the first of them given the values of these slots.
+    pub fn start(&self, alloc: Global, unit: u16, args: &[u16], size: u16) -> Result<Activity, AllocError>
+        requires slots { All (λ s. s < length self.now.frame.slots) args.now }
+        requires fits { length args.now ≤ size }
+        ensures { (a : ℕ) → IfOk result (λ x. x ≡ started a self.now unit (given_slots self.now args.now size)) }
+    {
+        let mut slots = self.values(alloc, args)?;
+        slots.resize(size as usize, Value::Unset)?;
+        Ok(Activity::new(Frame::new(unit, slots), self.since))
+    }
+
+    /// Its slots.
+    pub fn slots(&self) -> &[Value]
+        ensures { result.now ≡ self.now.frame.slots }
+    {
+        &self.frame.slots
+    }
+
     /// On to the next instruction.
     pub fn go_on(&mut self)
         requires { self.old.frame.place + 1 < 2 ^ 16 }
@@ -173,22 +205,23 @@ impl Activity {
     }
 
     /// Carries out an instruction that concerns this activity and its standings alone.
-    pub fn carry_out(&mut self, instr: Instr) -> (Change, Event)
+    pub fn carry_out(&mut self, instr: &Instr) -> (Change, Event)
         requires place { self.old.frame.place + 1 < 2 ^ 16 }
-        requires operands { CanCarry self.old instr }
-        ensures { Carries self.old instr self.new result.0 result.1 }
+        requires operands { CanCarry self.old instr.now }
+        ensures { Carries self.old instr.now self.new result.0 result.1 }
     {
         match instr {
-            Instr::Lit(d, n) => self.write(d, n),
-            Instr::Add(d, x, y) => self.write(d, self.number(x).wrapping_add(self.number(y))),
+            Instr::Lit(d, n) => self.write(*d, *n),
+            Instr::Add(d, x, y) => self.write(*d, self.number(*x).wrapping_add(self.number(*y))),
             Instr::Print(x) => {
-                let n = self.number(x);
+                let n = self.number(*x);
                 self.go_on();
                 (Change::Nothing, Event::Printed(n))
             }
             Instr::Make(_) => unreachable!(),
-            Instr::Resume(k) => (self.operate(k, Move::Resume), Event::Resumed),
-            Instr::Drop(k) => (self.operate(k, Move::Drop), Event::Dropped),
+            Instr::Spawn(_, _) => unreachable!(),
+            Instr::Resume(k) => (self.operate(*k, Move::Resume), Event::Resumed),
+            Instr::Drop(k) => (self.operate(*k, Move::Drop), Event::Dropped),
             Instr::Advance => {
                 self.arrive();
                 (Change::All(Move::Resume), Event::Arrived)

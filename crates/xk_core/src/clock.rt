@@ -1,10 +1,11 @@
 //! A clock: its phase, and where each activity stands on it.
 
-ghost use Rattle.std.specs.Prelude.{◌≡◌, ◌+◌, ◌<◌, ◌^◌, length, map, IfOk};
+ghost use Rattle.std.specs.Prelude.{◌≡◌, ◌+◌, ◌<◌, ◌^◌, length, map, IfOk, OnOk, OnErr};
 ghost use Rattle.std.specs.List.{list_any};
 ghost use Rattle.xk_types.specs.World.{standing_of};
-ghost use Rattle.xk_types.specs.Step.{new_clock, moved_on, is_ready, is_signalled, is_pending, settled_clock, advanced};
+ghost use Rattle.xk_types.specs.Step.{new_clock, moved_on, joined_on, is_ready, is_signalled, is_pending, settled_clock, advanced};
 ghost use Rattle.xk_core.specs.Change.{after_change};
+ghost use Rattle.xk_core.specs.Joining.{left_by_last};
 
 use crate::change::{Change, advance, is_pending, is_signalled};
 use std::alloc::{AllocError, Global};
@@ -68,6 +69,28 @@ impl Clock {
         ensures { self.new ≡ moved_on a (after_change change k) self.old }
     {
         self.standings[a] = change.of(k, self.standings[a]);
+    }
+
+    /// Takes in the activity of the next number: where it is given the clock, it stands where activity a does that started
+    /// it. Where memory is refused nothing changes.
+    pub fn join(&mut self, a: usize, given: bool) -> Result<(), AllocError>
+        ensures joined { OnOk result (self.new ≡ joined_on a given self.old) }
+        ensures refused { OnErr result (self.new ≡ self.old) }
+    {
+        let standing = if given {
+            self.standing(a)
+        } else {
+            Standing::Apart
+        };
+        self.standings.push(standing)?;
+        Ok(())
+    }
+
+    /// Puts out the activity of the greatest number again.
+    pub fn leave(&mut self)
+        ensures { self.new ≡ left_by_last self.old }
+    {
+        self.standings.pop();
     }
 
     /// Whether somebody is registered, and all who are have resumed.

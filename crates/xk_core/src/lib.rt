@@ -4,11 +4,6 @@
 mod activity;
 mod change;
 mod clock;
-pub mod laws;
-mod machine;
 mod state;
 
-pub use machine::Core;
 
-#[cfg(test)]
-mod tests;

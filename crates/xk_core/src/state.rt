@@ -1,22 +1,23 @@
 //! The world of a running program, and the arms of its steps.
 
-ghost use Rattle.std.specs.Prelude.{◌≡◌, ℕ, ◌+◌, ◌<◌, ◌^◌, true, false, length, map, slice_get, option_copied, IfOk, IfSome, IfNone, OnErr, All};
+ghost use Rattle.std.specs.Prelude.{◌≡◌, ℕ, ◌+◌, ◌<◌, ◌≤◌, ◌^◌, Bool, true, false, List, length, map, slice_get, option_copied, IfOk, IfErr, IfSome, IfNone, OnOk, OnErr, All};
 ghost use Rattle.xk_types.specs.declared.names.Value.TheVariants as value;
 ghost use Rattle.xk_types.specs.declared.instr.Instr.TheVariants as instruction;
-ghost use Rattle.xk_types.specs.Step.{Stepped, settled, settled_clock, moved};
-ghost use Rattle.xk_types.specs.Step.{waits};
+ghost use Rattle.xk_types.specs.Step.{Stepped, settled, settled_clock, moved, joined, names_clock, is_given, waits};
 ghost use Rattle.xk_types.specs.Schedule.{is_step, all_ended};
 ghost use Rattle.xk_core.specs.Able.{is_able};
 ghost use Rattle.xk_core.specs.Opening.{opening_with};
 ghost use Rattle.xk_core.specs.Change.{after_change};
-ghost use Rattle.xk_core.specs.Arm.{carried, passed_on, IsRoomy};
+ghost use Rattle.xk_core.specs.Arm.{grows, carried, passed_on, IsRoomy};
+ghost use Rattle.xk_core.specs.Joining.{joined_first};
+ghost use Rattle.xk_types.specs.World as world;
 
 use crate::activity::{Activity, Frame};
 use crate::change::{Change, Move, is_signalled};
 use crate::clock::Clock;
 use std::alloc::{AllocError, Global};
 use std::marker::Model;
-use xk_types::{ClockId, Event, Instr, Status, Value};
+use xk_types::{ClockId, Event, Instr, Module, Status, Value};
 
 #[derive(Drop)]
 pub struct State {
@@ -54,6 +55,65 @@ fn settle_all(clocks: &mut Vec<Clock>, now: u64)
     }
 }
 
+/// Whether the value names clock c.
+fn names_clock(v: &Value, c: usize) -> bool
+    ensures { result ≡ names_clock c v.now }
+{
+    match v {
+        Value::Clock(k) => k.0 as usize == c,
+        Value::Unset | Value::Number(_) => false,
+    }
+}
+
+/// Whether one of the values names clock c.
+fn is_given(values: &[Value], c: usize) -> bool
+    ensures { result ≡ is_given values.now c }
+{
+    values.iter().any(|v| names_clock(v, c))
+}
+
+/// The clocks take in the activity of the next number, which activity a starts with these values. Stops at the first clock
+/// that memory is refused to, and gives its number.
+fn join_each(clocks: &mut Vec<Clock>, a: usize, values: &[Value]) -> Result<(), usize>
+    ensures joined { OnOk result (clocks.new.items ≡ joined a (is_given values.now) clocks.old.items) }
+    ensures stopped { IfErr result (λ k. clocks.new.items ≡ joined_first k a (is_given values.now) clocks.old.items) }
+    ensures within { IfErr result (λ k. k ≤ length clocks.new.items) }
+{
+    for (k, clock) in clocks.iter_mut().enumerate() {
+        if clock.join(a, is_given(values, k)).is_err() {
+            return Err(k);
+        }
+    }
+    Ok(())
+}
+
+/// The first n clocks put out the activity of the greatest number again.
+fn leave_first(clocks: &mut Vec<Clock>, n: usize)
+    requires { n ≤ length clocks.old.items }
+    ensures { (a : ℕ) (given : ℕ → Bool) (before : List world.Clock)
+        → clocks.old.items ≡ joined_first n a given before → clocks.new.items ≡ before }
+{
+    for k in 0..n {
+        let clock = &mut clocks[k];
+        clock.leave();
+    }
+}
+
+/// The clocks take in the activity of the next number, which activity a starts with these values. Where memory is refused
+/// nothing changes.
+fn join_all(clocks: &mut Vec<Clock>, a: usize, values: &[Value]) -> Result<(), AllocError>
+    ensures joined { OnOk result (clocks.new.items ≡ joined a (is_given values.now) clocks.old.items) }
+    ensures refused { OnErr result (clocks.new.items ≡ clocks.old.items) }
+{
+    match join_each(clocks, a, values) {
+        Ok(()) => Ok(()),
+        Err(n) => {
+            leave_first(clocks, n);
+            Err(AllocError)
+        }
+    }
+}
+
 impl State {
     /// The end of a step: it is counted, and each clock that is ready advances.
     fn settle(&mut self)
@@ -76,27 +136,28 @@ impl State {
         self.settle();
     }
 
-    /// Activity a carries out an instruction. Only the making of a clock wants memory; where that is refused nothing
-    /// changes.
-    pub fn carry_out(&mut self, a: usize, instr: Instr) -> Result<Event, AllocError>
-        requires enabled { is_step (carried self.old a instr) ≡ true }
+    /// Activity a carries out an instruction of this module. Only the making of a clock and the start of an activity want
+    /// memory; where that is refused nothing changes.
+    pub fn carry_out(&mut self, program: &Module, a: usize, instr: &Instr) -> Result<Event, AllocError>
+        requires enabled { is_step (carried program.now self.old a instr.now) ≡ true }
         requires room { IsRoomy self.old a }
-        ensures stepped { IfOk result (λ e. carried self.old a instr ≡ Stepped self.new e) }
+        ensures stepped { IfOk result (λ e. carried program.now self.old a instr.now ≡ Stepped self.new e) }
         ensures refused { OnErr result (self.new ≡ self.old) }
-        ensures only_at_make { OnErr result ((d : ℕ) × (instr ≡ instruction.Make d)) }
+        ensures only_where_it_grows { OnErr result (grows instr.now ≡ true) }
     {
         match instr {
-            Instr::Make(d) => self.make(a, d),
-            _ => Ok(self.carry_alone(a, instr)),
+            Instr::Make(d) => self.make(program, a, *d),
+            Instr::Spawn(unit, args) => self.spawn(program, a, *unit, args.slots()),
+            _ => Ok(self.carry_alone(program, a, instr)),
         }
     }
 
-    /// Activity a carries out an instruction other than `make`.
-    fn carry_alone(&mut self, a: usize, instr: Instr) -> Event
-        requires enabled { is_step (carried self.old a instr) ≡ true }
-        requires single { (d : ℕ) → instr ≡ instruction.Make d → ⊥ }
+    /// Activity a carries out an instruction that adds no clock and no activity.
+    fn carry_alone(&mut self, program: &Module, a: usize, instr: &Instr) -> Event
+        requires enabled { is_step (carried program.now self.old a instr.now) ≡ true }
+        requires single { grows instr.now ≡ false }
         requires room { IsRoomy self.old a }
-        ensures { carried self.old a instr ≡ Stepped self.new result }
+        ensures { carried program.now self.old a instr.now ≡ Stepped self.new result }
     {
         let act = &mut self.activities[a];
         let (change, event) = act.carry_out(instr);
@@ -105,10 +166,10 @@ impl State {
     }
 
     /// Activity a makes a clock, and puts its name into slot d. Where memory is refused nothing changes.
-    fn make(&mut self, a: usize, d: u16) -> Result<Event, AllocError>
-        requires enabled { is_step (carried self.old a (instruction.Make d)) ≡ true }
+    fn make(&mut self, program: &Module, a: usize, d: u16) -> Result<Event, AllocError>
+        requires enabled { is_step (carried program.now self.old a (instruction.Make d)) ≡ true }
         requires room { IsRoomy self.old a }
-        ensures made { IfOk result (λ e. carried self.old a (instruction.Make d) ≡ Stepped self.new e) }
+        ensures made { IfOk result (λ e. carried program.now self.old a (instruction.Make d) ≡ Stepped self.new e) }
         ensures refused { OnErr result (self.new ≡ self.old) }
     {
         let name = ClockId(self.clocks.len() as u32);
@@ -118,6 +179,27 @@ impl State {
         act.put(d, Value::Clock(name));
         self.settle();
         Ok(Event::Made)
+    }
+
+    /// Activity a starts one that runs this unit with the values of these slots. Where memory is refused nothing changes.
+    fn spawn(&mut self, program: &Module, a: usize, unit: u16, args: &[u16]) -> Result<Event, AllocError>
+        requires enabled { is_step (carried program.now self.old a (instruction.Spawn unit args.now)) ≡ true }
+        requires room { IsRoomy self.old a }
+        ensures started { IfOk result (λ e. carried program.now self.old a (instruction.Spawn unit args.now) ≡ Stepped self.new e) }
+        ensures refused { OnErr result (self.new ≡ self.old) }
+    {
+        let alloc = *self.activities.allocator();
+        let body = &program.units()[unit as usize];
+        let size = body.slots;
+        let starter = &self.activities[a];
+        let child = starter.start(alloc, unit, args, size)?;
+        self.activities.try_reserve(1)?;
+        join_all(&mut self.clocks, a, child.slots())?;
+        let act = &mut self.activities[a];
+        act.go_on();
+        self.activities.push(child)?;
+        self.settle();
+        Ok(Event::Spawned)
     }
 
     /// Activity a passes the `advance` that it waits at.

@@ -1,0 +1,31 @@
+-- How an activity is started, and how the clocks take it in, one after the other, and put it out again.
+use Rattle.std.specs.Prelude.{ℕ, ◌-◌, Bool, List, [], ◌++◌, length, map, replicate, take, drop}
+use Rattle.xk_types.specs.declared.names.Value.{Value}
+use Rattle.xk_types.specs.declared.names.Value.TheVariants as value
+use Rattle.xk_types.specs.declared.names.Status.TheVariants as status
+use Rattle.xk_types.specs.World.{Activity, Clock}
+use Rattle.xk_types.specs.Step.{governing, joined}
+use Rattle.xk_core.specs.Arm.{value_at}
+
+-- the slots of a unit that has this many, of which the first are given these of the activity
+abbrev pub given_slots : Activity → List ℕ → ℕ → List Value
+given_slots act args size = map (value_at act) args ++ replicate (size - length args) value.Unset
+
+-- what activity a starts that runs a unit with these slots
+abbrev pub started : ℕ → Activity → ℕ → List Value → Activity
+started a act unit slots = record {
+  frame = record { unit = unit; place = 0; slots = slots };
+  callers = [];
+  status = status.Running;
+  since = act.since;
+  opened = 0;
+  governed = governing a act;
+}
+
+-- without the activity of the greatest number
+abbrev pub left_by_last : Clock → Clock
+left_by_last c = record c { standings = take (length c.standings - 1) c.standings }
+
+-- the clocks when the first n of them have taken in what activity a starts
+abbrev pub joined_first : ℕ → ℕ → (ℕ → Bool) → List Clock → List Clock
+joined_first n a given cs = joined a given (take n cs) ++ drop n cs
