@@ -4,9 +4,12 @@ pub mod Standings
 pub mod Settling
 pub mod Walks
 pub mod Fits
+pub mod Totals
 pub mod Rows
 pub mod Measure
 pub mod Steps
+pub mod Given
+pub mod Operands
 pub mod Running
 pub mod Waiting
 pub mod Instructions

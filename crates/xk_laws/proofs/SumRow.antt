@@ -1,9 +1,10 @@
 -- One module that is accepted: 2 + 3, a clock that is made and waited for once.
-use Rattle.std.proofs.Common.{◌≡◌, ℕ, zero, suc, ◌<◌, pos, Bool, true, false, ◌==◌, ◌⊎◌, inl, inr, [], ◌∷◌, refl, sym, ap, ◌∙◌, subst, arith}
+use Rattle.std.proofs.Common.{◌≡◌, ℕ, zero, suc, ◌<◌, ◌≤◌, pos, Bool, true, false, ◌&&◌, ◌==◌, length, ◌⊎◌, inl, inr, [], ◌∷◌, refl, sym, ap, ◌∙◌, subst, arith}
 use Rattle.std.specs.Prelude.{slice_get}
 use Rattle.std.proofs.lemmas.Option.{none-some, same_Some}
-use Rattle.std.proofs.lemmas.Bool.{and_right, false≢true}
-use Rattle.std.proofs.lemmas.List.Elements.{All-cons, All-nil}
+use Rattle.std.proofs.lemmas.Bool.{and_right, or_from, false≢true}
+use Rattle.std.proofs.lemmas.List.Elements.{All-cons, All-nil, All-from_recursion}
+use Rattle.xk_types.specs.declared.instr.Instr.{Instr}
 use Rattle.xk_types.specs.declared.instr.Instr.TheVariants as instr
 use Rattle.xk_types.specs.declared.unit.UnitKind.TheVariants as unit_kind
 use Rattle.xk_types.specs.declared.rules.Rule.{Rule}
@@ -11,7 +12,7 @@ use Rattle.xk_types.specs.declared.rules.Rule.TheVariants as rule
 use Rattle.xk_types.specs.declared.rules.Kind.{Kind}
 use Rattle.xk_types.specs.declared.rules.Kind.TheVariants as kind
 use Rattle.xk_types.specs.declared.rules.Visit.{Visit}
-use Rattle.xk_types.specs.Code.{UnitValue, ModuleValue, IsUnitWithinLimits, IsWithinLimits}
+use Rattle.xk_types.specs.Code.{UnitValue, ModuleValue, IsUnitWithinLimits, IsWithinLimits, arguments_of}
 use Rattle.xk_types.specs.Order.{Has}
 use Rattle.xk_types.specs.Shape.{breaks_in, HasShape}
 use Rattle.xk_types.specs.Walk.{After, To, Refused, MayBecome, IsVisited, IsRefusedAt, entry_kinds, places_after, row}
@@ -35,7 +36,7 @@ sum_row = record { shared = []; units = sum_unit ∷ [] }
 -- ---- shape
 
 -- no place of the unit breaks a rule
-shape_at : (r : Rule) (at : ℕ) → breaks_in r 0 sum_unit at ≡ false
+shape_at : (r : Rule) (at : ℕ) → breaks_in sum_row r 0 sum_unit at ≡ false
 shape_at rule.Target at = refl
 shape_at rule.Block at = refl
 shape_at rule.Slot zero = refl
@@ -47,7 +48,13 @@ shape_at rule.Slot (suc (suc (suc (suc (suc zero))))) = refl
 shape_at rule.Slot (suc (suc (suc (suc (suc (suc zero)))))) = refl
 shape_at rule.Slot (suc (suc (suc (suc (suc (suc (suc at))))))) = refl
 shape_at rule.Unit zero = refl
-shape_at rule.Unit (suc at) = and_right (suc at == 0) false refl
+shape_at rule.Unit (suc zero) = refl
+shape_at rule.Unit (suc (suc zero)) = refl
+shape_at rule.Unit (suc (suc (suc zero))) = refl
+shape_at rule.Unit (suc (suc (suc (suc zero)))) = refl
+shape_at rule.Unit (suc (suc (suc (suc (suc zero))))) = refl
+shape_at rule.Unit (suc (suc (suc (suc (suc (suc zero)))))) = refl
+shape_at rule.Unit (suc (suc (suc (suc (suc (suc (suc at))))))) = or_from ((suc (suc (suc (suc (suc (suc (suc at)))))) == 0) && false) false (and_right (suc (suc (suc (suc (suc (suc (suc at)))))) == 0) false refl) refl
 shape_at rule.Cell at = refl
 shape_at rule.Loop at = refl
 shape_at rule.End zero = refl
@@ -67,7 +74,14 @@ shape_at rule.Home (suc (suc (suc (suc (suc zero))))) = refl
 shape_at rule.Home (suc (suc (suc (suc (suc (suc zero)))))) = refl
 shape_at rule.Home (suc (suc (suc (suc (suc (suc (suc at))))))) = refl
 shape_at rule.Registers at = refl
-shape_at rule.SameClock at = refl
+shape_at rule.SameClock zero = refl
+shape_at rule.SameClock (suc zero) = refl
+shape_at rule.SameClock (suc (suc zero)) = refl
+shape_at rule.SameClock (suc (suc (suc zero))) = refl
+shape_at rule.SameClock (suc (suc (suc (suc zero)))) = refl
+shape_at rule.SameClock (suc (suc (suc (suc (suc zero))))) = refl
+shape_at rule.SameClock (suc (suc (suc (suc (suc (suc zero)))))) = refl
+shape_at rule.SameClock (suc (suc (suc (suc (suc (suc (suc at))))))) = refl
 shape_at rule.Use at = refl
 shape_at rule.Held at = refl
 shape_at rule.Leak at = refl
@@ -200,11 +214,16 @@ sum_kinds zero s q r h = by (same_Some sum_unit h.u h.found)
 
 -- the module is accepted
 pub sum_row_accepted : IsAccepted sum_row
+unfolding Rattle.xk_types.specs.Bound.total_within
 sum_row_accepted = record {
   shape = sum_shape;
   kinds = sum_kinds;
   bounds = record { steps = omega arith; activities = omega arith; clocks = omega arith; stack = omega arith };
 }
+
+-- few arguments
+abbrev few_arguments : Instr → Type 0
+few_arguments i = length (arguments_of i) ≤ 64
 
 -- it is within the limits
 pub sum_row_limits : IsWithinLimits sum_row
@@ -212,7 +231,7 @@ sum_row_limits = record {
   some = omega arith;
   units = omega arith;
   shared = omega arith;
-  each = All-cons IsUnitWithinLimits sum_unit [] (record { slots = omega arith; params = omega arith; code = omega arith }) (All-nil IsUnitWithinLimits);
+  each = All-cons IsUnitWithinLimits sum_unit [] (record { slots = omega arith; params = omega arith; code = omega arith; arguments = All-from_recursion few_arguments sum_unit.code (omega arith) }) (All-nil IsUnitWithinLimits);
 }
 
 -- the law says something of it
