@@ -28,6 +28,7 @@ abbrev sum_row : ModuleValue
 sum_row = main_only 3 (instr.Lit 0 (pos 2) ∷ instr.Lit 1 (pos 3) ∷ instr.Add 0 0 1 ∷ instr.Make 2 ∷ instr.Advance ∷ instr.Print 0 ∷ instr.Ret ∷ [])
 
 sum_bounds : (steps_bound sum_row ≡ 8) × (activities_bound sum_row ≡ 1) × (clocks_bound sum_row ≡ 1) × (stack_bound sum_row ≡ 3)
+unfolding Rattle.xk_types.specs.Bound.total_within
 sum_bounds = (refl, refl, refl, refl)
 
 abbrev eight : List ℕ
@@ -104,4 +105,5 @@ abbrev resume_row : ModuleValue
 resume_row = main_only 1 (instr.Make 0 ∷ instr.Resume 0 ∷ instr.Resume 0 ∷ instr.Advance ∷ instr.Drop 0 ∷ instr.Ret ∷ [])
 
 resume_ended : (steps_bound resume_row ≡ 7) × (looked (last_world (run resume_row (replicate 7 0) (opening resume_row))) ≡ Some (true, 7, (1, 2) ∷ []))
+unfolding Rattle.xk_types.specs.Bound.total_within
 resume_ended = (refl, refl)
