@@ -17,5 +17,7 @@ pub mod Progress
 pub mod Opening
 pub mod Counts
 pub mod Reached
+pub mod Checked
 pub mod SumRow
+pub mod PairRow
 pub mod Needed
