@@ -1,15 +1,17 @@
--- What the shape of an accepted module gives: its units fit.
-use Rattle.std.proofs.Common.{◌≡◌, ℕ, zero, suc, ◌+◌, ◌<◌, Bool, true, false, not, ◌==◌, ◌||◌, ◌&&◌, inl, inr, List, [], ◌∷◌, length, Some, sym, ap, ◌∙◌, arith, ltb-true}
+-- What the shape of an accepted module gives: its units fit, and what they start.
+use Rattle.std.proofs.Common.{◌≡◌, ℕ, zero, suc, ◌+◌, ◌<◌, Bool, true, false, not, ◌==◌, ◌||◌, ◌&&◌, inl, inr, List, [], ◌∷◌, length, Some, None, Option, refl, sym, ap, ◌∙◌, subst, arith, ltb-true, eqb-true}
 use Rattle.std.specs.Prelude.{slice_get, nat_lt}
 use Rattle.std.specs.List.{list_all}
-use Rattle.std.proofs.lemmas.Bool.{eqb-false, or_parts, and_parts, not-false}
-use Rattle.std.proofs.lemmas.Option.{slice_get_within}
+use Rattle.std.specs.Option.{option_map_or}
+use Rattle.std.proofs.lemmas.Bool.{eqb-false, or_parts, and_parts, not-false, false≢true}
+use Rattle.std.proofs.lemmas.Option.{slice_get_within, none-some, same_Some}
 use Rattle.xk_types.specs.declared.instr.Instr.{Instr}
+use Rattle.xk_types.specs.declared.instr.Instr.TheVariants as instr
 use Rattle.xk_types.specs.declared.rules.Rule.{Rule}
 use Rattle.xk_types.specs.declared.rules.Rule.TheVariants as rule
-use Rattle.xk_types.specs.Code.{UnitValue, ModuleValue}
+use Rattle.xk_types.specs.Code.{UnitValue, ModuleValue, is_body, params_of, unit_started}
 use Rattle.xk_types.specs.Order.{Has}
-use Rattle.xk_types.specs.Shape.{slots_named, is_ret, instr_is, breaks_unit_of, breaks_in, breaks_end, HasShape}
+use Rattle.xk_types.specs.Shape.{slots_named, is_ret, instr_is, is_in_place, is_startable, starts_amiss, clock_arguments, has_twice, gives_twice, breaks_unit_of, breaks_in, breaks_end, HasShape}
 
 -- a unit that fits
 pub record IsFit (u : UnitValue) : Type 0 where
@@ -27,8 +29,8 @@ all_has test (y ∷ xs) x h (inl e) = rw (← e) (and_parts (test y) (list_all t
 all_has test (y ∷ xs) x h (inr g) = all_has test xs x (and_parts (test y) (list_all test xs) h).1 g
 
 -- no place of a known unit breaks a rule
-pub unbroken : (m : ModuleValue) → HasShape m → (r : Rule) (unit : ℕ) (u : UnitValue) → slice_get m.units unit ≡ Some u → (at : ℕ) → breaks_in r unit u at ≡ false
-unbroken m shape r unit u found at = ap (λ o. breaks_unit_of r unit o at) (sym found) ∙ shape r unit at
+pub unbroken : (m : ModuleValue) → HasShape m → (r : Rule) (unit : ℕ) (u : UnitValue) → slice_get m.units unit ≡ Some u → (at : ℕ) → breaks_in m r unit u at ≡ false
+unbroken m shape r unit u found at = ap (λ o. breaks_unit_of m r unit o at) (sym found) ∙ shape r unit at
 
 -- the two halves of the rule on the end that are used: an instruction that isn't `ret` isn't the last, and there is one
 abbrev last_but_ret : UnitValue → ℕ → Instr → Bool
@@ -58,12 +60,66 @@ unit_fits m shape unit u found = record {
       (rw other at (ap (instr_is (last_but_ret u at)) (sym here) ∙ (ends_well u at (end_ok at)).0));
 }
   where
-    slots_ok : (at : ℕ) → breaks_in rule.Slot unit u at ≡ false
+    slots_ok : (at : ℕ) → breaks_in m rule.Slot unit u at ≡ false
     slots_ok at = unbroken m shape rule.Slot unit u found at
 
-    end_ok : (at : ℕ) → breaks_in rule.End unit u at ≡ false
+    end_ok : (at : ℕ) → breaks_in m rule.End unit u at ≡ false
     end_ok at = unbroken m shape rule.End unit u found at
 
     go : (n : ℕ) → (n == 0) ≡ false → 0 < n
     go zero e = absurd (grind arith)
     go (suc n) e = omega arith
+
+-- ---- what a unit starts
+
+-- unit number `unit` may start unit t with these arguments
+pub record IsStart (m : ModuleValue) (unit t : ℕ) (args : List ℕ) : Type 0 where
+  pub v : UnitValue
+  pub found : slice_get m.units t ≡ Some v
+  pub body : is_body v.kind ≡ true
+  pub later : unit < t
+  pub count : length args ≡ length v.params
+  -- no slot is handed on twice as a clock
+  pub once : has_twice (clock_arguments v.params args) ≡ false
+
+-- the two rules on what is started, in parts
+start_parts : (m : ModuleValue) (unit t : ℕ) (args : List ℕ) → is_startable unit t args (slice_get m.units t) ≡ true → has_twice (clock_arguments (params_of m t) args) ≡ false
+    → IsStart m unit t args
+start_parts m unit t args fits once = go (slice_get m.units t) refl fits
+  where
+    go : (o : Option UnitValue) → slice_get m.units t ≡ o → is_startable unit t args o ≡ true → IsStart m unit t args
+    go None e h = absurd (false≢true h)
+    go (Some v) e h =
+        let p = and_parts (is_body v.kind && nat_lt unit t) (length args == length v.params) h in
+        let q = and_parts (is_body v.kind) (nat_lt unit t) p.0 in
+        record {
+          v = v;
+          found = e;
+          body = q.0;
+          later = ltb-true unit t q.1;
+          count = eqb-true (length args) (length v.params) p.1;
+          once = subst (λ ps. has_twice (clock_arguments ps args) ≡ false) (ap (λ o. option_map_or (λ u. u.params) o []) e) once;
+        }
+
+-- what a `spawn` of a unit of a module with the shape starts
+pub start_fits : (m : ModuleValue) → HasShape m → (unit : ℕ) (u : UnitValue) → slice_get m.units unit ≡ Some u
+    → (t : ℕ) (args : List ℕ) (at : ℕ) → slice_get u.code at ≡ Some (instr.Spawn t args) → IsStart m unit t args
+start_fits m shape unit u found t args at here = start_parts m unit t args
+    (not-false (is_startable unit t args (slice_get m.units t)) (ap (instr_is (starts_amiss m unit)) (sym here) ∙ rule_ok.1))
+    (ap (instr_is (gives_twice m)) (sym here) ∙ unbroken m shape rule.SameClock unit u found at)
+  where
+    rule_ok : (((at == 0) && not (is_in_place unit u)) ≡ false) × (instr_is (starts_amiss m unit) (slice_get u.code at) ≡ false)
+    rule_ok = or_parts ((at == 0) && not (is_in_place unit u)) (instr_is (starts_amiss m unit) (slice_get u.code at)) (unbroken m shape rule.Unit unit u found at)
+
+-- what an instruction starts has a greater number
+pub started_later : (m : ModuleValue) → HasShape m → (unit : ℕ) (u : UnitValue) → slice_get m.units unit ≡ Some u
+    → (i : Instr) (at : ℕ) → slice_get u.code at ≡ Some i → (t : ℕ) → unit_started i ≡ Some t → unit < t
+started_later m shape unit u found (instr.Lit d n) at here t e = absurd (none-some t e)
+started_later m shape unit u found (instr.Add d x y) at here t e = absurd (none-some t e)
+started_later m shape unit u found (instr.Print x) at here t e = absurd (none-some t e)
+started_later m shape unit u found (instr.Make d) at here t e = absurd (none-some t e)
+started_later m shape unit u found (instr.Resume c) at here t e = absurd (none-some t e)
+started_later m shape unit u found (instr.Drop c) at here t e = absurd (none-some t e)
+started_later m shape unit u found instr.Advance at here t e = absurd (none-some t e)
+started_later m shape unit u found (instr.Spawn x args) at here t e = subst (λ k. unit < k) (same_Some x t e) (start_fits m shape unit u found x args at here).later
+started_later m shape unit u found instr.Ret at here t e = absurd (none-some t e)

@@ -1,5 +1,5 @@
 -- Each instruction of a running activity is a step that keeps the invariant.
-use Rattle.std.proofs.Common.{◌≡◌, ℕ, ◌+◌, ◌<◌, Bool, true, false, cond, ◌==◌, [], ◌∷◌, ◌++◌, length, set, ℤ, Some, None, Option, refl, sym, ap, ◌∙◌, subst, arith, inl, inr}
+use Rattle.std.proofs.Common.{◌≡◌, ℕ, ◌+◌, ◌<◌, Bool, true, false, cond, ◌==◌, List, [], ◌∷◌, ◌++◌, length, set, ℤ, Some, None, Option, refl, sym, ap, ◌∙◌, subst, arith, inl, inr}
 use Rattle.std.specs.Prelude.{slice_get}
 use Rattle.std.specs.Int.{w64, int_wrapping_add}
 use Rattle.std.specs.Option.{option_map_or, option_and_then}
@@ -15,79 +15,29 @@ use Rattle.xk_types.specs.declared.names.Standing.{Standing}
 use Rattle.xk_types.specs.declared.names.Standing.TheVariants as standing
 use Rattle.xk_types.specs.declared.rules.Kind.{Kind}
 use Rattle.xk_types.specs.declared.rules.Kind.TheVariants as kind
-use Rattle.xk_types.specs.Code.{ModuleValue}
+use Rattle.xk_types.specs.Code.{ModuleValue, params_of, unit_started}
 use Rattle.xk_types.specs.World.{Activity, Clock, World, standing_of, instruction_at}
 use Rattle.xk_types.specs.Schedule.{is_ended}
 use Rattle.xk_types.specs.Accepted.{IsAccepted}
 use Rattle.xk_types.specs.declared.names.Event.{Event}
 use Rattle.xk_types.specs.declared.names.Event.TheVariants as event
-use Rattle.xk_types.specs.Step.{done, made, Outcome, Blocked, Wrong, Stepped, ClockUse, onward, with_slots, arrived, ended, none, only, all, resumed, dropped, is_signalled, is_pending, number_in, clock_in, registered_on, put_in, carried_out, run_at, new_clock}
+use Rattle.xk_types.specs.Step.{Outcome, done, made, onward, with_slots, arrived, ended, none, only, all, resumed, dropped, is_signalled, number_in, clock_in, child, is_given, spawned, carried_out, run_at, new_clock}
 use Rattle.xk_types.specs.Order.{Has}
 use Rattle.xk_types.specs.Shape.{slots_named, is_ret}
-use Rattle.xk_types.specs.Walk.{after, reads, writes, becomes, MayBecome, successors}
+use Rattle.xk_types.specs.Walk.{after, reads, writes, gives, becomes, MayBecome, successors}
 use Rattle.xk_types.specs.Bound.{steps_weight, clocks_weight}
 use Rattle.xk_laws.proofs.Invariant.{Each, Stands, IsActivitySound, IsSound, stands_on, looks, kind_by, kind_of, is_held}
 use Rattle.xk_laws.proofs.Lists.{get_inside}
 use Rattle.xk_laws.proofs.Walks.{Allowed}
-use Rattle.xk_laws.proofs.Rows.{reads_row, writes_row, uses_row, IsWritten, IsUsed, resumed_kind, resumed_held}
+use Rattle.xk_laws.proofs.Rows.{reads_row, writes_row, uses_row, gives_row, IsWritten, IsUsed, resumed_kind, resumed_held}
 use Rattle.xk_laws.proofs.Standings.{stands_on-push_old, stands_on-push_new, new_same}
-use Rattle.xk_laws.proofs.Measure.{paid_on, paid_arrive, paid_end}
-use Rattle.xk_laws.proofs.Steps.{IsNext, StandsNear, done_sound, made_sound}
+use Rattle.xk_laws.proofs.Measure.{paid_on, paid_arrive, paid_end, paid_start, owed_first}
+use Rattle.xk_laws.proofs.Steps.{IsNext, StandsNear, done_sound, made_sound, begun_sound}
 use Rattle.xk_laws.proofs.Running.{IsAt, slot_there, row_allowed, leaving, writing, using}
-use Rattle.xk_laws.proofs.Fits.{unit_fits}
+use Rattle.xk_laws.proofs.Fits.{IsStart, unit_fits, start_fits}
+use Rattle.xk_laws.proofs.Given.{AreGiven, child_sound}
+use Rattle.xk_laws.proofs.Operands.{Moves, put_moves, number_moves, clock_moves, arguments_move}
 use Rattle.xk_laws.proofs.Waiting.{arriving, ending}
-
--- a step is taken, and leads to a sound world
-abbrev pub Moves : ModuleValue → Outcome → Type 0
-Moves m Blocked = ⊥
-Moves m (Wrong c) = ⊥
-Moves m (Stepped v e) = IsSound m v
-
--- ---- operands
-
--- a slot that is there is written
-put_moves : (m : ModuleValue) (o : Option Value) (old : Value) (act : Activity) (d : ℕ) (v : Value) (go : Activity → Outcome) → o ≡ Some old
-    → Moves m (go (onward (with_slots act (set act.frame.slots d v)))) → Moves m (put_in o act d v go)
-put_moves m o old act d v go e h = subst (λ x. Moves m (put_in x act d v go)) (sym e) h
-
--- a clock's name has no number's kind
-clock_no_number : (s : Standing) → kind_by s ≡ kind.Number → ⊥
-clock_no_number standing.Apart e = grind arith
-clock_no_number standing.Open e = grind arith
-clock_no_number standing.Signalled e = grind arith
-clock_no_number standing.Ahead e = grind arith
-
--- a slot of a number's kind is read
-number_moves : (m : ModuleValue) (stands : ℕ → Standing) (o : Option Value) (v : Value) (go : ℤ → Outcome) → o ≡ Some v
-    → kind_of (λ k. kind_by (stands k)) v ≡ kind.Number → ((n : ℤ) → Moves m (go n)) → Moves m (number_in o go)
-number_moves m stands o v go e is h = subst (λ x. Moves m (number_in x go)) (sym e) (cases v is)
-  where
-    cases : (x : Value) → kind_of (λ k. kind_by (stands k)) x ≡ kind.Number → Moves m (number_in (Some x) go)
-    cases value.Unset g = absurd (grind arith)
-    cases (value.Number n) g = h n
-    cases (value.Clock k) g = absurd (clock_no_number (stands k) g)
-
--- a clock on which the activity is registered is used
-registered_moves : (m : ModuleValue) (a : ℕ) (o : Option Clock) (go : Outcome) → is_held (kind_by (option_map_or (λ c. standing_of c a) o standing.Apart)) ≡ true
-    → Moves m go → Moves m (registered_on o a go)
-registered_moves m a None go held h = absurd (false≢true held)
-registered_moves m a (Some c) go held h = cases (standing_of c a) held
-  where
-    cases : (s : Standing) → is_held (kind_by s) ≡ true → Moves m (cond (is_signalled s) go (cond (is_pending s) go (Wrong ClockUse)))
-    cases standing.Apart g = absurd (false≢true g)
-    cases standing.Open g = h
-    cases standing.Signalled g = h
-    cases standing.Ahead g = h
-
--- a slot of a held clock's kind is used
-clock_moves : (m : ModuleValue) (w : World) (a : ℕ) (o : Option Value) (v : Value) (go : ℕ → Outcome) → o ≡ Some v
-    → is_held (kind_of (λ k. kind_by (stands_on w.clocks a k)) v) ≡ true → ((k : ℕ) → v ≡ value.Clock k → Moves m (go k)) → Moves m (clock_in w a o go)
-clock_moves m w a o v go e is h = subst (λ x. Moves m (clock_in w a x go)) (sym e) (cases v is h)
-  where
-    cases : (x : Value) → is_held (kind_of (λ k. kind_by (stands_on w.clocks a k)) x) ≡ true → ((k : ℕ) → x ≡ value.Clock k → Moves m (go k)) → Moves m (clock_in w a (Some x) go)
-    cases value.Unset g f = absurd (false≢true g)
-    cases (value.Number n) g f = absurd (false≢true g)
-    cases (value.Clock k) g f = registered_moves m a (slice_get w.clocks k) (go k) g (f k refl)
 
 -- two names of one clock
 same_name : (j k : ℕ) → value.Clock j ≡ value.Clock k → j ≡ k
@@ -156,24 +106,24 @@ module _ (m : ModuleValue) (ok : IsAccepted m) (w : World) (a : ℕ) (was : Acti
   kept k c at = kept_near was.status was.since c.last (w.steps + 1) (standing_of c a) (let h = me.since in omega arith) ((sound.clocks k c at).stands a was found)
 
   -- an instruction that changes no standing is a step
-  local_moves : (i : Instr) → Here i → (act : Activity) → steps_weight i ≡ 1 → clocks_weight i ≡ 0
+  local_moves : (i : Instr) → Here i → (act : Activity) → steps_weight i ≡ 1 → clocks_weight i ≡ 0 → unit_started i ≡ None
       → act.status ≡ was.status → act.since ≡ was.since → act.frame.place ≡ was.frame.place + 1
       → IsNext m me.u (looks w.clocks a) (length w.clocks) (w.steps + 1) was act → (e : Event) → Moves m (done w a act none e)
-  local_moves i here act one zero' st sc place n e = done_sound m w a was act none sound found (record {
+  local_moves i here act one zero' alone st sc place n e = done_sound m w a was act none sound found (record {
     next = n;
     apart = λ k. refl;
     stands = λ k c at. rw (st, sc) (kept k c at);
-    paid = rw zero' at (paid_on m was act me.u i me.unit n.unit running (st ∙ running) place here one);
+    paid = rw zero' at (paid_on m was act me.u i me.unit n.unit running (st ∙ running) place here one alone);
   })
 
   -- `lit`
-  lit_moves : (d : ℕ) (n : ℤ) → Here (instr.Lit d n) → Moves m (carried_out w a was (instr.Lit d n))
+  lit_moves : (d : ℕ) (n : ℤ) → Here (instr.Lit d n) → Moves m (carried_out m w a was (instr.Lit d n))
   lit_moves d n here =
       let i = instr.Lit d n in
       let c = at_it i here in
       let old = slot_there m (stands_on w.clocks a) (length w.clocks) w.steps was me.u i c d (inl refl) in
       put_moves m (slice_get was.frame.slots d) old.0 was d (value.Number n) (λ next. done w a next none event.Local) old.1
-      (local_moves i here (onward (with_slots was (set was.frame.slots d (value.Number n)))) refl refl refl refl refl
+      (local_moves i here (onward (with_slots was (set was.frame.slots d (value.Number n)))) refl refl refl refl refl refl
       (writing m (stands_on w.clocks a) (length w.clocks) w.steps was me.u i c d old.0 (value.Number n) kind.Number (looks w.clocks a) (length w.clocks) old.1 refl (inl refl)
       (record { rows = writes_row d kind.Number; becomes = refl; more = omega arith; same = λ k h. refl; fresh = λ k e. absurd (grind arith); holds = λ k h. inl h }))
       event.Local)
@@ -188,7 +138,7 @@ module _ (m : ModuleValue) (ok : IsAccepted m) (w : World) (a : ℕ) (was : Acti
       (reads_it (kind_of (looks w.clocks a) v.0) (row_allowed m (stands_on w.clocks a) (length w.clocks) w.steps was me.u i c x v.0 v.1)) h
 
   -- `add`
-  add_moves : (d x y : ℕ) → Here (instr.Add d x y) → Moves m (carried_out w a was (instr.Add d x y))
+  add_moves : (d x y : ℕ) → Here (instr.Add d x y) → Moves m (carried_out m w a was (instr.Add d x y))
   add_moves d x y here =
       let i = instr.Add d x y in
       let c = at_it i here in
@@ -196,23 +146,23 @@ module _ (m : ModuleValue) (ok : IsAccepted m) (w : World) (a : ℕ) (was : Acti
       is_number i here x (inr (inl refl)) (λ k h. (add_parts d x y x k h).0 refl) _ (λ p.
       is_number i here y (inr (inr (inl refl))) (λ k h. (add_parts d x y y k h).1 refl) _ (λ q.
       put_moves m (slice_get was.frame.slots d) old.0 was d (value.Number (int_wrapping_add w64 p q)) (λ next. done w a next none event.Local) old.1
-      (local_moves i here (onward (with_slots was (set was.frame.slots d (value.Number (int_wrapping_add w64 p q))))) refl refl refl refl refl
+      (local_moves i here (onward (with_slots was (set was.frame.slots d (value.Number (int_wrapping_add w64 p q))))) refl refl refl refl refl refl
       (writing m (stands_on w.clocks a) (length w.clocks) w.steps was me.u i c d old.0 (value.Number (int_wrapping_add w64 p q)) kind.Number (looks w.clocks a) (length w.clocks) old.1 refl (inl refl)
       (record { rows = λ s k h. (add_parts d x y s k h).2; becomes = refl; more = omega arith; same = λ k h. refl; fresh = λ k e. absurd (grind arith); holds = λ k h. inl h }))
       event.Local)))
 
   -- `print`
-  print_moves : (x : ℕ) → Here (instr.Print x) → Moves m (carried_out w a was (instr.Print x))
+  print_moves : (x : ℕ) → Here (instr.Print x) → Moves m (carried_out m w a was (instr.Print x))
   print_moves x here =
       let i = instr.Print x in
       is_number i here x (inl refl) (λ k h. (reads_row x x k (becomes k) h).0 refl) _ (λ n.
-      local_moves i here (onward was) refl refl refl refl refl
+      local_moves i here (onward was) refl refl refl refl refl refl
       (leaving m (stands_on w.clocks a) (length w.clocks) w.steps was me.u i (at_it i here) refl (inl refl)
       (λ s k h. subst (λ row. MayBecome row k) (sym (reads_row x s k (becomes k) h).1) (inl refl)))
       (event.Printed n))
 
   -- `make`
-  make_moves : (d : ℕ) → Here (instr.Make d) → Moves m (carried_out w a was (instr.Make d))
+  make_moves : (d : ℕ) → Here (instr.Make d) → Moves m (carried_out m w a was (instr.Make d))
   make_moves d here =
       let i = instr.Make d in
       let c = at_it i here in
@@ -234,18 +184,18 @@ module _ (m : ModuleValue) (ok : IsAccepted m) (w : World) (a : ℕ) (was : Acti
       }) in
       put_moves m (slice_get was.frame.slots d) old.0 was d (value.Clock count) (λ x. made w a x) old.1
       (made_sound m w a was act sound found
-      (record { next = next; running = running; same_status = refl; same_since = refl; paid = paid_on m was act me.u i me.unit refl running running refl here refl }))
+      (record { next = next; running = running; same_status = refl; same_since = refl; paid = paid_on m was act me.u i me.unit refl running running refl here refl refl }))
 
   -- an instruction that changes where the activity stands on the clock in slot x
   use_moves : (i : Instr) → Here i → (x : ℕ) (kd : Kind) (f : Standing → Standing) (e : Event) → Has (slots_named i) x → is_ret i ≡ false → Has (successors i was.frame.place) (was.frame.place + 1)
-      → steps_weight i ≡ 1 → clocks_weight i ≡ 0
+      → steps_weight i ≡ 1 → clocks_weight i ≡ 0 → unit_started i ≡ None
       → ((s : ℕ) (old : Kind) → Allowed (after m me.u i s old) → IsUsed (after m me.u i s old) x kd s old)
       → ((s : Standing) → is_held (kind_by s) ≡ true → kind_by (f s) ≡ kd)
       → ((s : Standing) → is_held (kind_by (f s)) ≡ true → is_held (kind_by s) ≡ true)
       → f standing.Apart ≡ standing.Apart
       → ((st : Status) (since last now : ℕ) (s : Standing) → since < now → is_ended st ≡ false → Stands st since last s → StandsNear st since last now (f s))
       → Moves m (clock_in w a (slice_get was.frame.slots x) (λ c. done w a (onward was) (only c f) e))
-  use_moves i here x kd f e named other on one zero' rows becomes keeps apart near =
+  use_moves i here x kd f e named other on one zero' alone rows becomes keeps apart near =
       let c = at_it i here in
       let v = slot_there m (stands_on w.clocks a) (length w.clocks) w.steps was me.u i c x named in
       clock_moves m w a (slice_get was.frame.slots x) v.0 (λ k. done w a (onward was) (only k f) e) v.1
@@ -255,21 +205,21 @@ module _ (m : ModuleValue) (ok : IsAccepted m) (w : World) (a : ℕ) (was : Acti
         apart = λ j. only_apart k j f apart;
         stands = λ j d at. only_near was.status was.since d.last (w.steps + 1) k j f (standing_of d a) (kept j d at)
             (near was.status was.since d.last (w.steps + 1) (standing_of d a) (let h = me.since in omega arith) (ap is_ended running) ((sound.clocks j d at).stands a was found));
-        paid = rw zero' at (paid_on m was (onward was) me.u i me.unit refl running running refl here one);
+        paid = rw zero' at (paid_on m was (onward was) me.u i me.unit refl running running refl here one alone);
       }))
 
   -- `resume`
-  resume_moves : (x : ℕ) → Here (instr.Resume x) → Moves m (carried_out w a was (instr.Resume x))
-  resume_moves x here = use_moves (instr.Resume x) here x kind.Resumed resumed event.Resumed (inl refl) refl (inl refl) refl refl
+  resume_moves : (x : ℕ) → Here (instr.Resume x) → Moves m (carried_out m w a was (instr.Resume x))
+  resume_moves x here = use_moves (instr.Resume x) here x kind.Resumed resumed event.Resumed (inl refl) refl (inl refl) refl refl refl
       (uses_row x kind.Resumed) resumed_kind resumed_held refl (λ st since last now s before e h. resumed_near st st since last now s before e h)
 
   -- `drop`
-  drop_moves : (x : ℕ) → Here (instr.Drop x) → Moves m (carried_out w a was (instr.Drop x))
-  drop_moves x here = use_moves (instr.Drop x) here x kind.Out dropped event.Dropped (inl refl) refl (inl refl) refl refl
+  drop_moves : (x : ℕ) → Here (instr.Drop x) → Moves m (carried_out m w a was (instr.Drop x))
+  drop_moves x here = use_moves (instr.Drop x) here x kind.Out dropped event.Dropped (inl refl) refl (inl refl) refl refl refl
       (uses_row x kind.Out) (λ s h. refl) (λ s h. absurd (false≢true h)) refl (λ st since last now s before e h. dropped_near st since last now)
 
   -- the first half of `advance`
-  advance_moves : Here instr.Advance → Moves m (carried_out w a was instr.Advance)
+  advance_moves : Here instr.Advance → Moves m (carried_out m w a was instr.Advance)
   advance_moves here = done_sound m w a was (arrived was) (all resumed) sound found (record {
     next = arriving m (stands_on w.clocks a) (length w.clocks) w.steps was me.u (at_it instr.Advance here);
     apart = λ k. refl;
@@ -278,7 +228,7 @@ module _ (m : ModuleValue) (ok : IsAccepted m) (w : World) (a : ℕ) (was : Acti
   })
 
   -- `ret`
-  ret_moves : Here instr.Ret → Moves m (carried_out w a was instr.Ret)
+  ret_moves : Here instr.Ret → Moves m (carried_out m w a was instr.Ret)
   ret_moves here = done_sound m w a was (ended was) (all dropped) sound found (record {
     next = ending m (stands_on w.clocks a) (length w.clocks) w.steps was me.u (at_it instr.Ret here);
     apart = λ k. refl;
@@ -286,8 +236,39 @@ module _ (m : ModuleValue) (ok : IsAccepted m) (w : World) (a : ℕ) (was : Acti
     paid = paid_end m was (ended was) me.u me.unit refl running refl refl here;
   })
 
+  -- `spawn`, with values that are given
+  started_moves : (t : ℕ) (args : List ℕ) → Here (instr.Spawn t args) → (s : IsStart m was.frame.unit t args) (values : List Value)
+      → AreGiven (stands_on w.clocks a) was.frame.slots s.v.params args values → Moves m (spawned m w a was t values)
+  started_moves t args here s values given =
+      let i = instr.Spawn t args in
+      let new = child m a was t values in
+      begun_sound m w a was (onward was) new (is_given values) sound found (record {
+        next = leaving m (stands_on w.clocks a) (length w.clocks) w.steps was me.u i (at_it i here) refl (inl refl)
+            (λ z k h. subst (λ row. MayBecome row k) (sym (gives_row (params_of m t) args z k (becomes k) h)) (inl refl));
+        begins = child_sound m sound.limits ok.shape (stands_on w.clocks a) (length w.clocks) w.steps (w.steps + 1) a was (omega arith) me t s.v s.found args s.once values given;
+        same_status = refl;
+        same_since = refl;
+        new_status = sym running;
+        new_since = refl;
+        shared = paid_start m was (onward was) new me.u t args me.unit refl running running refl here
+            (λ weight half. owed_first weight half m ok.shape new s.v s.found refl refl);
+      })
+
+  -- `spawn`
+  spawn_moves : (t : ℕ) (args : List ℕ) → Here (instr.Spawn t args) → Moves m (carried_out m w a was (instr.Spawn t args))
+  spawn_moves t args here =
+      let i = instr.Spawn t args in
+      let c = at_it i here in
+      let s = start_fits m ok.shape was.frame.unit me.u me.unit t args was.frame.place here in
+      let params : params_of m t ≡ s.v.params = ap (λ o. option_map_or (λ u. u.params) o []) s.found in
+      rw (s.found, s.body) (arguments_move m w a was s.v.params args (spawned m w a was t) s.count
+      (λ x named. slot_there m (stands_on w.clocks a) (length w.clocks) w.steps was me.u i c x named)
+      (λ z v at. subst (λ ps. Allowed (gives ps args z (kind_of (looks w.clocks a) v) (becomes (kind_of (looks w.clocks a) v)))) params
+      (row_allowed m (stands_on w.clocks a) (length w.clocks) w.steps was me.u i c z v at))
+      (λ values given. started_moves t args here s values given))
+
   -- every instruction is a step
-  instruction_moves : (i : Instr) → Here i → Moves m (carried_out w a was i)
+  instruction_moves : (i : Instr) → Here i → Moves m (carried_out m w a was i)
   instruction_moves (instr.Lit d n) here = lit_moves d n here
   instruction_moves (instr.Add d x y) here = add_moves d x y here
   instruction_moves (instr.Print x) here = print_moves x here
@@ -295,10 +276,11 @@ module _ (m : ModuleValue) (ok : IsAccepted m) (w : World) (a : ℕ) (was : Acti
   instruction_moves (instr.Resume x) here = resume_moves x here
   instruction_moves (instr.Drop x) here = drop_moves x here
   instruction_moves instr.Advance here = advance_moves here
+  instruction_moves (instr.Spawn t args) here = spawn_moves t args here
   instruction_moves instr.Ret here = ret_moves here
 
   -- an activity that runs takes a step
-  pub running_moves : Moves m (run_at w a was (instruction_at m was.frame))
+  pub running_moves : Moves m (run_at m w a was (instruction_at m was.frame))
   running_moves =
       let i = get_inside me.u.code was.frame.place me.frame.place in
-      subst (λ o. Moves m (run_at w a was o)) (sym (ap (option_and_then (λ unit. slice_get unit.code was.frame.place)) me.unit ∙ i.1)) (instruction_moves i.0 i.1)
+      subst (λ o. Moves m (run_at m w a was o)) (sym (ap (option_and_then (λ unit. slice_get unit.code was.frame.place)) me.unit ∙ i.1)) (instruction_moves i.0 i.1)

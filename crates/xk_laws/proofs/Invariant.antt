@@ -11,12 +11,12 @@ use Rattle.xk_types.specs.declared.names.Standing.{Standing}
 use Rattle.xk_types.specs.declared.names.Standing.TheVariants as standing
 use Rattle.xk_types.specs.declared.rules.Kind.{Kind}
 use Rattle.xk_types.specs.declared.rules.Kind.TheVariants as kind
-use Rattle.xk_types.specs.Code.{UnitValue, ModuleValue}
+use Rattle.xk_types.specs.Code.{UnitValue, ModuleValue, IsWithinLimits, unit_started}
 use Rattle.xk_types.specs.World.{Frame, Activity, Clock, World, root, standing_of}
 use Rattle.xk_types.specs.Step.{is_ready}
 use Rattle.xk_types.specs.Schedule.{is_ended}
 use Rattle.xk_types.specs.Walk.{IsVisited, awake}
-use Rattle.xk_types.specs.Bound.{steps_weight, activities_weight, clocks_weight, steps_bound, activities_bound, clocks_bound}
+use Rattle.xk_types.specs.Bound.{steps_weight, activities_weight, clocks_weight, total, steps_bound, activities_bound, clocks_bound}
 
 -- something holds of each element, under its number
 abbrev pub Each : {X : Type 0} → (ℕ → X → Type 0) → List X → Type 0
@@ -90,7 +90,6 @@ pub record IsFrameSound (u : UnitValue) (clocks : ℕ) (f : Frame) : Type 0 wher
 
 -- an activity, by the kinds of clocks' names for it, the number of clocks and the number of steps
 pub record IsActivitySound (m : ModuleValue) (look : ℕ → Kind) (clocks now : ℕ) (act : Activity) : Type 0 where
-  pub main : act.frame.unit ≡ 0
   pub callers : act.callers ≡ []
   pub opened : act.opened ≡ 0
   pub governed : act.governed ≡ root
@@ -107,6 +106,10 @@ pub record IsActivitySound (m : ModuleValue) (look : ℕ → Kind) (clocks now :
 
 -- ---- what is still to pay
 
+-- the weight of an instruction, with all of the unit that it starts
+abbrev pub with_started : (Instr → ℕ) → ModuleValue → Instr → ℕ
+with_started weight m i = weight i + option_map_or (total weight m) (unit_started i) 0
+
 -- the weight of the instructions from a place on
 abbrev pub from_on : (Instr → ℕ) → UnitValue → ℕ → ℕ
 from_on weight u at = sum_by weight (drop at u.code)
@@ -117,9 +120,9 @@ owed_by weight half u at status.Running = from_on weight u at
 owed_by weight half u at status.Arrived = half + from_on weight u (at + 1)
 owed_by weight half u at status.Ended = 0
 
--- what an activity has still to pay
+-- what an activity has still to pay, with all that it will start
 abbrev pub owed : (Instr → ℕ) → ℕ → ModuleValue → Activity → ℕ
-owed weight half m act = option_map_or (λ u. owed_by weight half u act.frame.place act.status) (slice_get m.units act.frame.unit) 0
+owed weight half m act = option_map_or (λ u. owed_by (with_started weight m) half u act.frame.place act.status) (slice_get m.units act.frame.unit) 0
 
 -- what all activities owe
 abbrev pub owing : (Instr → ℕ) → ℕ → ModuleValue → List Activity → ℕ
@@ -128,6 +131,7 @@ owing weight half m activities = sum_by (owed weight half m) activities
 -- ---- worlds
 
 pub record IsSound (m : ModuleValue) (w : World) : Type 0 where
+  pub limits : IsWithinLimits m
   pub activities : Each (λ a act. IsActivitySound m (looks w.clocks a) (length w.clocks) w.steps act) w.activities
   pub clocks : Each (λ k c. IsClockSound w.activities w.steps c) w.clocks
   pub cells : w.cells ≡ m.shared

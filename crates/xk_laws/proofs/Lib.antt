@@ -4,9 +4,12 @@ pub mod Standings
 pub mod Settling
 pub mod Walks
 pub mod Fits
+pub mod Totals
 pub mod Rows
 pub mod Measure
 pub mod Steps
+pub mod Given
+pub mod Operands
 pub mod Running
 pub mod Waiting
 pub mod Instructions
@@ -14,5 +17,7 @@ pub mod Progress
 pub mod Opening
 pub mod Counts
 pub mod Reached
+pub mod Checked
 pub mod SumRow
+pub mod PairRow
 pub mod Needed

@@ -1,8 +1,9 @@
 -- Lists by number: what a change of one element, a push and a map leave at each place.
-use Rattle.std.proofs.Common.{◌≡◌, ℕ, zero, suc, ◌+◌, ◌<◌, ◌≤◌, max, Bool, true, false, ◌||◌, List, [], ◌∷◌, ◌++◌, map, length, set, drop, Some, fold, refl, sym, ap, ◌∙◌, subst, arith, sum_by}
+use Rattle.std.proofs.Common.{◌≡◌, ℕ, zero, suc, ◌+◌, ◌<◌, ◌≤◌, max, Bool, true, false, ◌||◌, List, [], ◌∷◌, ◌++◌, map, length, set, drop, Some, fold, replicate, refl, sym, ap, ◌∙◌, subst, arith, sum_by}
 use Rattle.std.specs.Prelude.{slice_get}
 use Rattle.std.specs.List.{list_any, list_all}
 use Rattle.std.proofs.lemmas.List.Sums.{sum_by-set}
+use Rattle.std.proofs.lemmas.Bool.{or_left, or_right}
 use Rattle.std.proofs.lemmas.Option.{slice_get_within, get_or_from_slice_get, none-some, same_Some}
 use Rattle.xk_laws.proofs.Invariant.{Each}
 
@@ -69,7 +70,32 @@ get-push_other [] y (suc k) h = refl
 get-push_other (x ∷ xs) y zero h = refl
 get-push_other (x ∷ xs) y (suc k) h = get-push_other xs y k (λ e. h (ap suc e))
 
+-- equal elements are equal
+pub get-replicate : {X : Type 0} (n : ℕ) (y x : X) (s : ℕ) → slice_get (replicate n y) s ≡ Some x → y ≡ x
+get-replicate zero y x s h = absurd (none-some x h)
+get-replicate (suc n) y x zero h = same_Some y x h
+get-replicate (suc n) y x (suc s) h = get-replicate n y x s h
+
+-- an element of the first of two lists
+pub get-append_left : {X : Type 0} (xs ys : List X) (k : ℕ) (x : X) → slice_get xs k ≡ Some x → slice_get (xs ++ ys) k ≡ Some x
+get-append_left [] ys k x h = absurd (none-some x h)
+get-append_left (z ∷ xs) ys zero x h = h
+get-append_left (z ∷ xs) ys (suc k) x h = get-append_left xs ys k x h
+
+-- what holds of each, and of an element at each place behind them, holds of each after a filling with that element
+pub each_filled : {X : Type 0} (P : ℕ → X → Type 0) (xs : List X) (n : ℕ) (y : X) → Each P xs → ((s : ℕ) → length xs ≤ s → P s y) → Each P (xs ++ replicate n y)
+each_filled P [] n y all behind s x h = subst (P s) (get-replicate n y x s h) (behind s (omega arith))
+each_filled P (z ∷ xs) n y all behind zero x h = all zero x h
+each_filled P (z ∷ xs) n y all behind (suc s) x h =
+    each_filled (λ j. P (suc j)) xs n y (λ j w. all (suc j) w) (λ j g. behind (suc j) (omega arith)) s x h
+
 -- ---- tests over a list
+
+-- one element that passes is enough
+pub any_given : {X : Type 0} (test : X → Bool) (xs : List X) (k : ℕ) (x : X) → slice_get xs k ≡ Some x → test x ≡ true → list_any test xs ≡ true
+any_given test [] k x h e = absurd (none-some x h)
+any_given test (z ∷ xs) zero x h e = or_left (test z) (list_any test xs) (ap test (same_Some z x h) ∙ e)
+any_given test (z ∷ xs) (suc k) x h e = or_right (test z) (list_any test xs) (any_given test xs k x h e)
 
 -- an element that passes
 pub any_found : {X : Type 0} (test : X → Bool) (xs : List X) → list_any test xs ≡ true → (k : ℕ) × (x : X) × (slice_get xs k ≡ Some x) × (test x ≡ true)

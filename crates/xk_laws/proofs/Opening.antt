@@ -1,8 +1,8 @@
 -- The opening world is sound.
-use Rattle.std.proofs.Common.{◌≡◌, ℕ, zero, suc, ◌==◌, [], ◌∷◌, length, replicate, Some, refl, sym, ap, ◌∙◌, subst, arith, inl, eqb-true}
+use Rattle.std.proofs.Common.{◌≡◌, ℕ, zero, suc, true, not, ◌==◌, [], ◌∷◌, length, replicate, Some, refl, sym, ap, ◌∙◌, subst, arith, inl, eqb-true}
 use Rattle.std.specs.Prelude.{slice_get}
 use Rattle.std.specs.Option.{option_map_or}
-use Rattle.std.proofs.lemmas.Bool.{false≢true, not-false}
+use Rattle.std.proofs.lemmas.Bool.{false≢true, not-false, and_parts, or_parts}
 use Rattle.std.proofs.lemmas.List.{length-replicate, nil_from_length}
 use Rattle.std.proofs.lemmas.List.Sums.{sum_by-cons}
 use Rattle.std.proofs.lemmas.Option.{none-some, same_Some}
@@ -12,23 +12,18 @@ use Rattle.xk_types.specs.declared.names.Value.TheVariants as value
 use Rattle.xk_types.specs.declared.names.Status.TheVariants as status
 use Rattle.xk_types.specs.declared.rules.Rule.TheVariants as rule
 use Rattle.xk_types.specs.declared.rules.Kind.TheVariants as kind
-use Rattle.xk_types.specs.Code.{UnitValue, ModuleValue, IsWithinLimits}
+use Rattle.xk_types.specs.Code.{UnitValue, ModuleValue, IsWithinLimits, is_main}
 use Rattle.xk_types.specs.Order.{Has}
 use Rattle.xk_types.specs.World.{opening, main_of, slots_of}
-use Rattle.xk_types.specs.Shape.{HasShape}
+use Rattle.xk_types.specs.Shape.{instr_is, is_in_place, starts_amiss, HasShape}
 use Rattle.xk_types.specs.Walk.{entry_kinds, entry_of}
-use Rattle.xk_types.specs.Bound.{steps_weight, activities_weight, clocks_weight}
+use Rattle.xk_types.specs.Bound.{steps_weight, activities_weight, clocks_weight, total}
 use Rattle.xk_types.specs.Accepted.{IsAccepted}
 use Rattle.xk_laws.proofs.Invariant.{Each, Expects, IsActivitySound, IsSound, looks, kind_of, owed, owing}
-use Rattle.xk_laws.proofs.Lists.{get_inside}
+use Rattle.xk_laws.proofs.Lists.{get_inside, get-replicate}
+use Rattle.xk_laws.proofs.Measure.{owed_first}
 use Rattle.xk_laws.proofs.Walks.{visited_entry}
 use Rattle.xk_laws.proofs.Fits.{unit_fits, unbroken}
-
--- equal elements are equal
-get-replicate : {X : Type 0} (n : ℕ) (y x : X) (s : ℕ) → slice_get (replicate n y) s ≡ Some x → y ≡ x
-get-replicate zero y x s h = absurd (none-some x h)
-get-replicate (suc n) y x zero h = same_Some y x h
-get-replicate (suc n) y x (suc s) h = get-replicate n y x s h
 
 -- what holds of the only element
 each_one : {X : Type 0} (P : ℕ → X → Type 0) (x : X) → P 0 x → Each P (x ∷ [])
@@ -39,21 +34,29 @@ each_one P x h (suc i) y e = absurd (none-some y e)
 main_entry : (m : ModuleValue) → HasShape m → (u : UnitValue) → slice_get m.units 0 ≡ Some u → (s : ℕ) → Has (entry_kinds u s) kind.Unset
 main_entry m shape u found s =
     subst (λ list. Has (entry_of (slice_get list s)) kind.Unset)
-    (sym (nil_from_length u.params (eqb-true (length u.params) 0 (not-false (length u.params == 0) (unbroken m shape rule.Unit 0 u found 0))))) (inl refl)
+    (sym (nil_from_length u.params (eqb-true (length u.params) 0 (and_parts (is_main u.kind) (length u.params == 0) in_place).1))) (inl refl)
+  where
+    in_place : is_in_place 0 u ≡ true
+    in_place = not-false (is_in_place 0 u) (or_parts (not (is_in_place 0 u)) (instr_is (starts_amiss m 0) (slice_get u.code 0)) (unbroken m shape rule.Unit 0 u found 0)).0
 
--- what one activity owes
-owing_one : (weight : Instr → ℕ) (half : ℕ) (m : ModuleValue) → owing weight half m (main_of m ∷ []) ≡ owed weight half m (main_of m)
-owing_one weight half m = let h = sum_by-cons (owed weight half m) (main_of m) [] in omega arith
+-- main owes all that its unit weighs
+owing_main : (weight : Instr → ℕ) (half : ℕ) (m : ModuleValue) → HasShape m → (u : UnitValue) → slice_get m.units 0 ≡ Some u
+    → owing weight half m (main_of m ∷ []) ≡ total weight m 0
+owing_main weight half m shape u found =
+    let h = sum_by-cons (owed weight half m) (main_of m) [] in
+    let g = owed_first weight half m shape (main_of m) u found refl refl in
+    omega arith
 
 -- the opening world of an accepted module is sound
 pub opening_sound : (m : ModuleValue) → IsWithinLimits m → IsAccepted m → IsSound m (opening m)
 opening_sound m limits ok = record {
+  limits = limits;
   activities = each_one (λ a act. IsActivitySound m (looks [] a) 0 0 act) (main_of m) main;
   clocks = λ k c h. absurd (none-some c h);
   cells = refl;
-  steps = let h = owing_one steps_weight 1 m in omega arith;
-  started = let h = owing_one activities_weight 0 m in omega arith;
-  made = let h = owing_one clocks_weight 0 m in omega arith;
+  steps = let h = owing_main steps_weight 1 m ok.shape first.0 first.1 in omega arith;
+  started = let h = owing_main activities_weight 0 m ok.shape first.0 first.1 in omega arith;
+  made = let h = owing_main clocks_weight 0 m ok.shape first.0 first.1 in omega arith;
 }
   where
     first : (u : UnitValue) × (slice_get m.units 0 ≡ Some u)
@@ -64,7 +67,6 @@ opening_sound m limits ok = record {
 
     main : IsActivitySound m (looks [] 0) 0 0 (main_of m)
     main = record {
-      main = refl;
       callers = refl;
       opened = refl;
       governed = refl;

@@ -21,7 +21,8 @@ use Rattle.xk_laws.proofs.Fits.{unit_fits}
 use Rattle.xk_laws.proofs.Measure.{paid_pass}
 use Rattle.xk_laws.proofs.Steps.{StandsNear, done_sound}
 use Rattle.xk_laws.proofs.Waiting.{going_on}
-use Rattle.xk_laws.proofs.Instructions.{Moves, running_moves}
+use Rattle.xk_laws.proofs.Operands.{Moves}
+use Rattle.xk_laws.proofs.Instructions.{running_moves}
 
 -- ---- the second half of an `advance`
 

@@ -1,17 +1,22 @@
 -- What holds of each world that a legal schedule of an accepted module leads to, and the law over every schedule.
-use Rattle.std.proofs.Common.{◌≡◌, ℕ, ◌+◌, ◌<◌, ◌≤◌, true, false, List, [], ◌∷◌, ◌++◌, map, length, get_or, sum_by, refl, sym, ap, ◌∙◌, subst, arith}
-use Rattle.std.specs.Option.{option_map}
+use Rattle.std.proofs.Common.{◌≡◌, ℕ, ◌+◌, ◌<◌, ◌≤◌, true, false, List, [], ◌∷◌, ◌++◌, map, length, get_or, sum_by, Some, refl, sym, ap, ◌∙◌, subst, arith}
+use Rattle.std.specs.Prelude.{slice_get}
+use Rattle.std.specs.Option.{option_map, option_and_then}
 use Rattle.std.proofs.lemmas.Option.{slice_get-get_or, slice_get-map}
+use Rattle.xk_types.specs.declared.instr.Instr.TheVariants as instr
 use Rattle.xk_types.specs.declared.names.Event.{Event}
 use Rattle.xk_types.specs.declared.rules.Kind.{Kind}
-use Rattle.xk_types.specs.Code.{ModuleValue, IsWithinLimits}
-use Rattle.xk_types.specs.World.{Activity, World, opening}
+use Rattle.xk_types.specs.Code.{UnitValue, ModuleValue, IsUnitWithinLimits, IsWithinLimits, is_body}
+use Rattle.xk_types.specs.Order.{Has}
+use Rattle.xk_types.specs.World.{Activity, Clock, World, root, opening, instruction_at}
 use Rattle.xk_types.specs.Step.{Cause, Outcome, Blocked, Wrong, Stepped, step}
 use Rattle.xk_types.specs.Schedule.{Course, Through, Wronged, run, run_on, IsReached, is_enabled, all_ended}
 use Rattle.xk_types.specs.Bound.{steps_bound, activities_bound, clocks_bound, stack_bound}
 use Rattle.xk_types.specs.Accepted.{IsAccepted, EverySchedule, slots_held}
 use Rattle.xk_laws.proofs.Invariant.{IsActivitySound, IsSound, looks}
 use Rattle.xk_laws.proofs.Lists.{max_each}
+use Rattle.xk_laws.proofs.Fits.{unit_fits, start_fits}
+use Rattle.xk_laws.proofs.Given.{unit_limits}
 use Rattle.xk_laws.proofs.Counts.{step_counts}
 use Rattle.xk_laws.proofs.Progress.{Keeps, step_keeps, stuck_ended}
 use Rattle.xk_laws.proofs.Opening.{opening_sound}
@@ -114,6 +119,72 @@ stepped_room m limits ok w v a e r h = reached_room m limits ok v (reached_step 
 pub reached_ends : (m : ModuleValue) → IsWithinLimits m → IsAccepted m → (w : World) → IsReached m w
     → ((a : ℕ) → a < length w.activities → is_enabled m w a ≡ false) → all_ended w ≡ true
 reached_ends m limits ok w r stuck = stuck_ended m ok w (reached_sound m limits ok w r) stuck
+
+-- ---- what stands in a reached world
+
+-- there are no more activities than the bound
+pub reached_activities : (m : ModuleValue) → IsWithinLimits m → IsAccepted m → (w : World) → IsReached m w → length w.activities ≤ activities_bound m
+reached_activities m limits ok w r = (reached_room m limits ok w r).activities
+
+-- each clock has a standing for each activity
+pub reached_width : (m : ModuleValue) → IsWithinLimits m → IsAccepted m → (w : World) → IsReached m w
+    → (k : ℕ) (c : Clock) → slice_get w.clocks k ≡ Some c → length c.standings ≡ length w.activities
+reached_width m limits ok w r k c found = ((reached_sound m limits ok w r).clocks k c found).width
+
+-- what an activity is made of: a unit of the module, all of its slots, an instruction of it, no callers and no open finish
+pub record IsPlaced (m : ModuleValue) (act : Activity) : Type 0 where
+  pub u : UnitValue
+  pub found : slice_get m.units act.frame.unit ≡ Some u
+  pub slots : length act.frame.slots ≡ u.slots
+  pub place : act.frame.place < length u.code
+  pub callers : act.callers ≡ []
+  pub opened : act.opened ≡ 0
+  pub governed : act.governed ≡ root
+
+-- each activity of a reached world
+pub reached_placed : (m : ModuleValue) → IsWithinLimits m → IsAccepted m → (w : World) → IsReached m w
+    → (a : ℕ) (act : Activity) → slice_get w.activities a ≡ Some act → IsPlaced m act
+reached_placed m limits ok w r a act found =
+    let s = (reached_sound m limits ok w r).activities a act found in
+    record {
+      u = s.u;
+      found = s.unit;
+      slots = s.frame.slots;
+      place = s.frame.place;
+      callers = s.callers;
+      opened = s.opened;
+      governed = s.governed;
+    }
+
+-- what an activity that stands at `spawn t args` starts: a body, of greater number, with a parameter for each argument and a
+-- slot for each parameter; and its own slots that the arguments name
+pub record StandsAtSpawn (m : ModuleValue) (act : Activity) (t : ℕ) (args : List ℕ) : Type 0 where
+  pub v : UnitValue
+  pub found : slice_get m.units t ≡ Some v
+  pub body : is_body v.kind ≡ true
+  pub later : act.frame.unit < t
+  pub count : length args ≡ length v.params
+  pub limits : IsUnitWithinLimits v
+  pub slots : (x : ℕ) → Has args x → x < length act.frame.slots
+
+-- each activity of a reached world that stands there
+pub reached_start : (m : ModuleValue) → IsWithinLimits m → IsAccepted m → (w : World) → IsReached m w
+    → (a : ℕ) (act : Activity) → slice_get w.activities a ≡ Some act
+    → (t : ℕ) (args : List ℕ) → instruction_at m act.frame ≡ Some (instr.Spawn t args) → StandsAtSpawn m act t args
+reached_start m limits ok w r a act found t args at =
+    let s = (reached_sound m limits ok w r).activities a act found in
+    let here = sym (ap (option_and_then (λ unit. slice_get unit.code act.frame.place)) s.unit) ∙ at in
+    let fit = unit_fits m ok.shape act.frame.unit s.u s.unit in
+    let start = start_fits m ok.shape act.frame.unit s.u s.unit t args act.frame.place here in
+    record {
+      v = start.v;
+      found = start.found;
+      body = start.body;
+      later = start.later;
+      count = start.count;
+      limits = unit_limits m limits t start.v start.found;
+      slots = λ x named. (let h = fit.slots (instr.Spawn t args) act.frame.place x here named in omega (arith, s.frame.slots));
+    }
 
 -- ---- the law
 

@@ -1,13 +1,16 @@
 -- Kinds: what the rows of the table give where they don't refuse, and how changes of standings move kinds.
-use Rattle.std.proofs.Common.{◌≡◌, ℕ, Bool, true, false, ◌==◌, inl, cond, refl, sym, ap, subst, arith, eqb-true, eq-eqb, ne_eqb}
+use Rattle.std.proofs.Common.{◌≡◌, ℕ, Bool, true, false, ◌==◌, List, [], ◌∷◌, inl, inr, cond, refl, sym, ap, ◌∙◌, subst, arith, eqb-true, eq-eqb, ne_eqb}
 use Rattle.std.proofs.lemmas.Bool.{eqb-false}
 use Rattle.xk_types.specs.declared.names.Standing.{Standing}
 use Rattle.xk_types.specs.declared.names.Standing.TheVariants as standing
 use Rattle.xk_types.specs.declared.rules.Rule.TheVariants as rule
 use Rattle.xk_types.specs.declared.rules.Kind.{Kind}
 use Rattle.xk_types.specs.declared.rules.Kind.TheVariants as kind
+use Rattle.xk_types.specs.declared.unit.ParamKind.{ParamKind}
+use Rattle.xk_types.specs.declared.unit.ParamKind.TheVariants as param
+use Rattle.xk_types.specs.Order.{Has}
 use Rattle.xk_types.specs.Step.{is_signalled, resumed, passed, only}
-use Rattle.xk_types.specs.Walk.{After, MayBecome, becomes, as_number, as_clock, overwritten, awake, reads, writes, uses}
+use Rattle.xk_types.specs.Walk.{After, MayBecome, becomes, as_number, as_clock, overwritten, awake, reads, writes, uses, hands_on, gives}
 use Rattle.xk_laws.proofs.Invariant.{kind_by, is_held}
 use Rattle.xk_laws.proofs.Walks.{Allowed}
 
@@ -77,6 +80,25 @@ uses_row c new s k h = let r = cases (s == c) refl h in record { here = r.0; oth
         (λ same. (r.0, subst (λ z. MayBecome z new) (sym r.1) (inl refl)), λ differs. absurd (differs (eqb-true s c e)))
     cases false e g = (λ same. absurd (eqb-false s c e same), λ differs. inl refl)
 
+-- an instruction that hands on the clock in slot x goes on, and finds one there that is held
+pub hands_row : (x s : ℕ) (k : Kind) (go : After) → Allowed (hands_on x s k go) → (s ≡ x → is_held k ≡ true) × (hands_on x s k go ≡ go)
+hands_row x s k go h = cases (s == x) refl h
+  where
+    cases : (b : Bool) → (s == x) ≡ b → Allowed (cond b (as_clock k go) go) → (s ≡ x → is_held k ≡ true) × (cond b (as_clock k go) go ≡ go)
+    cases true e g = let r = clock_row k go g in (λ same. r.0, r.1)
+    cases false e g = (λ same. absurd (eqb-false s x e same), refl)
+
+-- one that gives arguments goes on
+pub gives_row : (ps : List ParamKind) (xs : List ℕ) (s : ℕ) (k : Kind) (go : After) → Allowed (gives ps xs s k go) → gives ps xs s k go ≡ go
+gives_row [] xs s k go h = refl
+gives_row (p ∷ ps) [] s k go h = refl
+gives_row (param.Number ∷ ps) (x ∷ xs) s k go h =
+    let r = reads_row x s k (gives ps xs s k go) h in
+    r.1 ∙ gives_row ps xs s k go (subst Allowed r.1 h)
+gives_row (param.Clock ∷ ps) (x ∷ xs) s k go h =
+    let r = hands_row x s k (gives ps xs s k go) h in
+    r.1 ∙ gives_row ps xs s k go (subst Allowed r.1 h)
+
 -- ---- changes
 
 -- after a resume a clock that was held is resumed
@@ -113,6 +135,13 @@ passed_awake standing.Apart h = refl
 passed_awake standing.Open h = refl
 passed_awake standing.Signalled h = absurd (grind arith)
 passed_awake standing.Ahead h = refl
+
+-- a clock that is held is live or resumed
+pub held_entry : (s : Standing) → is_held (kind_by s) ≡ true → Has (kind.Live ∷ kind.Resumed ∷ []) (kind_by s)
+held_entry standing.Apart h = absurd (grind arith)
+held_entry standing.Open h = inl refl
+held_entry standing.Signalled h = inr (inl refl)
+held_entry standing.Ahead h = inr (inl refl)
 
 -- a change of one clock alone
 pub only_here : (c : ℕ) (f : Standing → Standing) (s : Standing) → only c f c s ≡ f s

@@ -4,7 +4,7 @@ use Rattle.std.proofs.lemmas.List.{length-map}
 use Rattle.xk_types.specs.declared.names.Status.{Status}
 use Rattle.xk_types.specs.declared.names.Standing.{Standing}
 use Rattle.xk_types.specs.declared.names.Standing.TheVariants as standing
-use Rattle.xk_types.specs.Code.{ModuleValue}
+use Rattle.xk_types.specs.Code.{ModuleValue, IsWithinLimits}
 use Rattle.xk_types.specs.World.{Activity, Clock, World, standing_of}
 use Rattle.xk_types.specs.Step.{is_signalled, is_pending, advanced, settled_clock, settled}
 use Rattle.xk_types.specs.Bound.{steps_weight, activities_weight, clocks_weight, steps_bound, activities_bound, clocks_bound}
@@ -22,6 +22,7 @@ pub record IsClockNear (activities : List Activity) (now : ℕ) (c : Clock) : Ty
 
 -- a world before the end of a step: the invariant holds, but for clocks that are ready
 pub record IsNear (m : ModuleValue) (w : World) : Type 0 where
+  pub limits : IsWithinLimits m
   pub activities : Each (λ a act. IsActivitySound m (looks w.clocks a) (length w.clocks) (w.steps + 1) act) w.activities
   pub clocks : Each (λ k c. IsClockNear w.activities (w.steps + 1) c) w.clocks
   pub cells : w.cells ≡ m.shared
@@ -53,6 +54,7 @@ clock_settled activities now c n = settled_cases now c (IsClockSound activities 
 -- and the world's
 pub world_settled : (m : ModuleValue) (w : World) → IsNear m w → IsSound m (settled w)
 world_settled m w n = record {
+  limits = n.limits;
   activities = λ a act at. rw (fun_ext (looks (map (settled_clock (w.steps + 1)) w.clocks) a) (looks w.clocks a) (looks-settled (w.steps + 1) w.clocks a), length-map w.clocks (settled_clock (w.steps + 1))) (n.activities a act at);
   clocks = each_map (settled_clock (w.steps + 1)) (λ k c. IsClockSound w.activities (w.steps + 1) c) w.clocks
       (λ k c at. clock_settled w.activities (w.steps + 1) c (n.clocks k c at));

@@ -1,15 +1,16 @@
--- Where activities stand on clocks: what a change of one activity's standings leaves, a new clock, and an advance.
-use Rattle.std.proofs.Common.{◌≡◌, ℕ, zero, suc, ◌+◌, ◌<◌, Bool, true, false, not, ◌||◌, ◌&&◌, List, [], ◌∷◌, ◌++◌, map, length, get_or, replicate, Some, refl, sym, ap, ◌∙◌, subst, arith, length-set, get_or-set_same, get_or-set_other}
+-- Where activities stand on clocks: what a change of one activity's standings leaves, a new clock, a new activity, and an
+-- advance.
+use Rattle.std.proofs.Common.{◌≡◌, ℕ, zero, suc, ◌+◌, ◌<◌, Bool, true, false, cond, not, ◌||◌, ◌&&◌, List, [], ◌∷◌, ◌++◌, map, length, get_or, replicate, Some, refl, sym, ap, ◌∙◌, subst, arith, length-set, get_or-set_same, get_or-set_other}
 use Rattle.std.specs.Prelude.{slice_get}
 use Rattle.std.specs.List.{list_any}
 use Rattle.std.specs.Option.{option_map_or}
-use Rattle.std.proofs.lemmas.List.{length-replicate}
+use Rattle.std.proofs.lemmas.List.{length-replicate, get_or_push, get_or_append_left}
 use Rattle.std.proofs.lemmas.Option.{none-some, same_Some}
 use Rattle.std.proofs.lemmas.Bool.{or_parts, and_parts, cond_both, not-true}
 use Rattle.xk_types.specs.declared.names.Standing.{Standing}
 use Rattle.xk_types.specs.declared.names.Standing.TheVariants as standing
 use Rattle.xk_types.specs.World.{Clock, standing_of}
-use Rattle.xk_types.specs.Step.{is_signalled, is_pending, is_ready, advanced, settled_clock, moved_on, moved, new_clock}
+use Rattle.xk_types.specs.Step.{is_signalled, is_pending, is_ready, advanced, settled_clock, moved_on, moved, joined_on, joined, new_clock}
 use Rattle.xk_laws.proofs.Invariant.{Each, stands_on, kind_by, looks}
 use Rattle.xk_laws.proofs.Lists.{get-push_other, get_push}
 
@@ -124,6 +125,42 @@ stands_on-push_old clocks d a k h = ap (λ o. option_map_or (λ x. standing_of x
 -- where an activity stands on the clock that was pushed
 pub stands_on-push_new : (clocks : List Clock) (d : Clock) (a : ℕ) → stands_on (clocks ++ d ∷ []) a (length clocks) ≡ standing_of d a
 stands_on-push_new clocks d a = ap (λ o. option_map_or (λ x. standing_of x a) o standing.Apart) (get_push clocks d)
+
+-- ---- one activity more
+
+-- where it stands
+pub stand_joined_new : (a n : ℕ) (given : Bool) (c : Clock) → length c.standings ≡ n → standing_of (joined_on a given c) n ≡ cond given (standing_of c a) standing.Apart
+stand_joined_new a n given c h = get_or_push c.standings (cond given (standing_of c a) standing.Apart) standing.Apart n h
+
+-- where others stand
+pub stand_joined_old : (a b : ℕ) (given : Bool) (c : Clock) → b < length c.standings → standing_of (joined_on a given c) b ≡ standing_of c b
+stand_joined_old a b given c h = get_or_append_left c.standings (cond given (standing_of c a) standing.Apart ∷ []) standing.Apart b h
+
+-- there are as many clocks
+pub length-joined : (a : ℕ) (given : ℕ → Bool) (clocks : List Clock) → length (joined a given clocks) ≡ length clocks
+length-joined a given [] = refl
+length-joined a given (c ∷ cs) = ap suc (length-joined a (λ j. given (suc j)) cs)
+
+-- what holds of each clock that was joined holds of each clock after it
+pub each_joined : (a : ℕ) (given : ℕ → Bool) (P : ℕ → Clock → Type 0) (clocks : List Clock)
+    → Each (λ k c. P k (joined_on a (given k) c)) clocks → Each P (joined a given clocks)
+each_joined a given P [] all k c h = absurd (none-some c h)
+each_joined a given P (d ∷ cs) all zero c h = subst (P zero) (same_Some (joined_on a (given 0) d) c h) (all zero d refl)
+each_joined a given P (d ∷ cs) all (suc k) c h = each_joined a (λ j. given (suc j)) (λ j. P (suc j)) cs (λ j x. all (suc j) x) k c h
+
+-- others stand where they stood
+pub stands_on-joined_old : (a b : ℕ) (given : ℕ → Bool) (clocks : List Clock) (k : ℕ) → Each (λ j c. b < length c.standings) clocks
+    → stands_on (joined a given clocks) b k ≡ stands_on clocks b k
+stands_on-joined_old a b given [] k w = refl
+stands_on-joined_old a b given (c ∷ cs) zero w = stand_joined_old a b (given 0) c (w zero c refl)
+stands_on-joined_old a b given (c ∷ cs) (suc k) w = stands_on-joined_old a b (λ j. given (suc j)) cs k (λ j x. w (suc j) x)
+
+-- the new one stands where its starter does, on clocks that it is given
+pub stands_on-joined_new : (a n : ℕ) (given : ℕ → Bool) (clocks : List Clock) (k : ℕ) → Each (λ j c. length c.standings ≡ n) clocks
+    → stands_on (joined a given clocks) n k ≡ cond (given k) (stands_on clocks a k) standing.Apart
+stands_on-joined_new a n given [] k w = cond_both (given k) standing.Apart standing.Apart (λ s. standing.Apart ≡ s) (λ e. refl) (λ e. refl)
+stands_on-joined_new a n given (c ∷ cs) zero w = stand_joined_new a n (given 0) c (w zero c refl)
+stands_on-joined_new a n given (c ∷ cs) (suc k) w = stands_on-joined_new a n (λ j. given (suc j)) cs k (λ j x. w (suc j) x)
 
 -- ---- an advance
 

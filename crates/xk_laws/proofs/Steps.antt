@@ -1,9 +1,11 @@
--- Steps that change one activity: they keep the invariant of worlds.
-use Rattle.std.proofs.Common.{◌≡◌, ℕ, ◌+◌, ◌<◌, ◌≤◌, true, List, [], ◌∷◌, ◌++◌, length, set, Some, sym, ap, ◌∙◌, subst, arith, length-set}
+-- Steps that change one activity, or start another: they keep the invariant of worlds.
+use Rattle.std.proofs.Common.{◌≡◌, ℕ, ◌+◌, ◌<◌, ◌≤◌, Bool, true, false, cond, List, [], ◌∷◌, ◌++◌, length, set, Some, sym, ap, ◌∙◌, subst, arith, length-set}
 use Rattle.std.specs.Prelude.{slice_get}
 use Rattle.std.proofs.lemmas.List.{length_push, set-get_or}
+use Rattle.std.proofs.lemmas.List.Sums.{sum_by_push}
 use Rattle.std.proofs.lemmas.Bool.{false≢true}
 use Rattle.std.proofs.lemmas.Option.{slice_get_within}
+use Rattle.xk_types.specs.declared.instr.Instr.{Instr}
 use Rattle.xk_types.specs.declared.instr.Instr.TheVariants as instr
 use Rattle.xk_types.specs.declared.names.Status.{Status}
 use Rattle.xk_types.specs.declared.names.Status.TheVariants as status
@@ -12,13 +14,13 @@ use Rattle.xk_types.specs.declared.names.Standing.TheVariants as standing
 use Rattle.xk_types.specs.declared.rules.Kind.{Kind}
 use Rattle.xk_types.specs.Code.{UnitValue, ModuleValue}
 use Rattle.xk_types.specs.World.{Activity, Clock, World, standing_of}
-use Rattle.xk_types.specs.Step.{is_signalled, moved, moved_on, new_clock, settled}
+use Rattle.xk_types.specs.Step.{is_signalled, moved, moved_on, joined, joined_on, new_clock, settled}
 use Rattle.xk_types.specs.Bound.{steps_weight, activities_weight, clocks_weight}
-use Rattle.xk_laws.proofs.Invariant.{Each, Stands, Expects, Names, IsFrameSound, IsClockSound, IsActivitySound, IsSound, stands_on, looks, kind_by, kind_of, is_held}
+use Rattle.xk_laws.proofs.Invariant.{Each, Stands, Expects, Names, IsFrameSound, IsClockSound, IsActivitySound, IsSound, stands_on, looks, kind_by, kind_of, is_held, owed, owing}
 use Rattle.xk_laws.proofs.Lists.{each_set, each_push, fun_ext}
-use Rattle.xk_laws.proofs.Standings.{stand_same, stand_other, each_moved, length-moved, stands_on-moved_other, stands_on-moved_same, stands_on-push_other, new_same, new_other, new_width}
+use Rattle.xk_laws.proofs.Standings.{stand_same, stand_other, each_moved, length-moved, stands_on-moved_other, stands_on-moved_same, stands_on-push_other, new_same, new_other, new_width, stand_joined_old, stand_joined_new, length-joined, each_joined, stands_on-joined_old, stands_on-joined_new}
 use Rattle.xk_laws.proofs.Settling.{IsClockNear, IsNear, world_settled}
-use Rattle.xk_laws.proofs.Measure.{IsPaid, owing_set}
+use Rattle.xk_laws.proofs.Measure.{IsPaid, IsShared, owing_set}
 
 -- ---- the changed activity
 
@@ -38,7 +40,6 @@ pub record IsNext (m : ModuleValue) (u : UnitValue) (look : ℕ → Kind) (clock
 next_sound : (m : ModuleValue) (old look : ℕ → Kind) (before clocks then' now : ℕ) (was act : Activity) (s : IsActivitySound m old before then' was)
     → IsNext m s.u look clocks now was act → IsActivitySound m look clocks now act
 next_sound m old look before clocks then' now was act s n = record {
-  main = n.unit ∙ s.main;
   callers = n.callers ∙ s.callers;
   opened = n.opened ∙ s.opened;
   governed = n.governed ∙ s.governed;
@@ -57,7 +58,6 @@ next_sound m old look before clocks then' now was act s n = record {
 pub sound_later : (m : ModuleValue) (look : ℕ → Kind) (before clocks then' now : ℕ) (act : Activity) → before ≤ clocks → then' ≤ now
     → IsActivitySound m look before then' act → IsActivitySound m look clocks now act
 sound_later m look before clocks then' now act more later s = record {
-  main = s.main;
   callers = s.callers;
   opened = s.opened;
   governed = s.governed;
@@ -88,6 +88,7 @@ left w a act clocks = record w { activities = set w.activities a act; clocks = c
 left_near : (m : ModuleValue) (w : World) (a : ℕ) (was act : Activity) (clocks : List Clock) (sound : IsSound m w) (found : slice_get w.activities a ≡ Some was)
     → IsLeft m w a was act clocks (sound.activities a was found).u → IsNear m (left w a act clocks)
 left_near m w a was act clocks sound found l = record {
+  limits = sound.limits;
   activities = each_set (λ b x. IsActivitySound m (looks clocks b) (length clocks) (w.steps + 1) x) w.activities a was act found
       (next_sound m (looks w.clocks a) (looks clocks a) (length w.clocks) (length clocks) w.steps (w.steps + 1) was act (sound.activities a was found) l.next)
       (λ b x differs at. subst (λ look. IsActivitySound m look (length clocks) (w.steps + 1) x)
@@ -218,3 +219,107 @@ made_sound m w a was act sound found d = left_sound m w a was act (w.clocks ++ n
       (new_near w.activities w.steps a was act found d.running);
   paid = (1, d.paid, length_push w.clocks (new_clock (length w.activities) a));
 })
+
+-- ---- `spawned`: one activity changes and has started another
+
+-- what such a step leaves of the activity, and the new one, which is given these clocks
+pub record IsStarted (m : ModuleValue) (w : World) (a : ℕ) (was act new : Activity) (given : ℕ → Bool) (u : UnitValue) : Type 0 where
+  pub next : IsNext m u (looks w.clocks a) (length w.clocks) (w.steps + 1) was act
+  pub begins : IsActivitySound m (λ k. kind_by (cond (given k) (stands_on w.clocks a k) standing.Apart)) (length w.clocks) (w.steps + 1) new
+  pub same_status : act.status ≡ was.status
+  pub same_since : act.since ≡ was.since
+  pub new_status : new.status ≡ was.status
+  pub new_since : new.since ≡ was.since
+  pub shared : IsShared m was act new
+
+-- where the new activity stands
+given_stands : (st : Status) (since last : ℕ) (given : Bool) (s : Standing) → Stands st since last s → Stands st since last (cond given s standing.Apart)
+given_stands st since last true s h = h
+given_stands st since last false s h = tt
+
+-- a clock, nearly sound before there was one activity more
+joined_near : (activities : List Activity) (now a : ℕ) (new : Activity) (given : Bool) (c : Clock) → IsClockNear activities now c
+    → Stands new.status new.since c.last (cond given (standing_of c a) standing.Apart) → new.since < now
+    → IsClockNear (activities ++ new ∷ []) now (joined_on a given c)
+joined_near activities now a new given c n here before = record {
+  width = omega (arith, length_push c.standings (cond given (standing_of c a) standing.Apart), length_push activities new, n.width);
+  last = n.last;
+  phase = n.phase;
+  stands = each_push (λ b x. Stands x.status x.since c.last (standing_of (joined_on a given c) b)) activities new
+      (λ b x at. subst (Stands x.status x.since c.last) (sym (old b x at)) (n.stands b x at))
+      (subst (Stands new.status new.since c.last) (sym (stand_joined_new a (length activities) given c n.width)) here);
+  signalled = each_push (λ b x. is_signalled (standing_of (joined_on a given c) b) ≡ true → x.since < now) activities new
+      (λ b x at g. n.signalled b x at (ap is_signalled (sym (old b x at)) ∙ g))
+      (λ g. before);
+}
+  where
+    old : (b : ℕ) (x : Activity) → slice_get activities b ≡ Some x → standing_of (joined_on a given c) b ≡ standing_of c b
+    old b x at = stand_joined_old a b given c (let h = slice_get_within activities b x at in omega (arith, n.width))
+
+-- the world that such a step leaves, before its end
+abbrev pub begun : World → ℕ → Activity → Activity → (ℕ → Bool) → World
+begun w a act new given = record w { activities = set w.activities a act ++ new ∷ []; clocks = joined a given w.clocks }
+
+module _ (m : ModuleValue) (w : World) (a : ℕ) (was act new : Activity) (given : ℕ → Bool) (sound : IsSound m w) (found : slice_get w.activities a ≡ Some was)
+    (d : IsStarted m w a was act new given (sound.activities a was found).u) where
+  -- the activities but the new one
+  abbrev before : List Activity
+  before = set w.activities a act
+
+  -- they are as many as there were
+  before_width : length before ≡ length w.activities
+  before_width = length-set w.activities a act
+
+  -- the clocks after the step
+  abbrev after_clocks : List Clock
+  after_clocks = joined a given w.clocks
+
+  -- a standing for each activity
+  widths : Each (λ k c. length c.standings ≡ length before) w.clocks
+  widths k c at = (sound.clocks k c at).width ∙ sym before_width
+
+  -- for the old ones clocks' names have the kinds that they had
+  old_looks : (b : ℕ) → b < length before → looks w.clocks b ≡ looks after_clocks b
+  old_looks b inside = fun_ext (looks w.clocks b) (looks after_clocks b)
+      (λ k. ap kind_by (sym (stands_on-joined_old a b given w.clocks k (λ j c at. omega (arith, widths j c at)))))
+
+  -- for the new one those of the clocks that it is given
+  new_looks : (λ k. kind_by (cond (given k) (stands_on w.clocks a k) standing.Apart)) ≡ looks after_clocks (length before)
+  new_looks = fun_ext (λ k. kind_by (cond (given k) (stands_on w.clocks a k) standing.Apart)) (looks after_clocks (length before))
+      (λ k. ap kind_by (sym (stands_on-joined_new a (length before) given w.clocks k widths)))
+
+  -- the old ones are sound
+  old_sound : Each (λ b x. IsActivitySound m (looks w.clocks b) (length w.clocks) (w.steps + 1) x) before
+  old_sound = each_set (λ b x. IsActivitySound m (looks w.clocks b) (length w.clocks) (w.steps + 1) x) w.activities a was act found
+      (next_sound m (looks w.clocks a) (looks w.clocks a) (length w.clocks) (length w.clocks) w.steps (w.steps + 1) was act (sound.activities a was found) d.next)
+      (λ b x differs at. sound_later m (looks w.clocks b) (length w.clocks) (length w.clocks) w.steps (w.steps + 1) x (omega arith) (omega arith) (sound.activities b x at))
+
+  -- and the clocks nearly
+  all_near : Each (λ k c. IsClockNear (before ++ new ∷ []) (w.steps + 1) c) after_clocks
+  all_near = each_joined a given (λ k c. IsClockNear (before ++ new ∷ []) (w.steps + 1) c) w.clocks
+      (λ k c at. joined_near before (w.steps + 1) a new (given k) c
+      (same_clock w.activities w.steps a was act c found (λ b x g. (sound.activities b x g).since) d.same_status d.same_since (sound.clocks k c at))
+      (rw (d.new_status, d.new_since) (given_stands was.status was.since c.last (given k) (standing_of c a) ((sound.clocks k c at).stands a was found)))
+      (let h = (sound.activities a was found).since in let e = d.new_since in omega arith))
+
+  -- the debts after the step
+  debts : (weight : Instr → ℕ) (half : ℕ) → owing weight half m (before ++ new ∷ []) + owed weight half m was ≡ owing weight half m w.activities + owed weight half m act + owed weight half m new
+  debts weight half = omega (arith, sum_by_push (owed weight half m) before new, owing_set weight half m w.activities a was act found)
+
+  -- the world is nearly sound
+  begun_near : IsNear m (begun w a act new given)
+  begun_near = record {
+    limits = sound.limits;
+    activities = each_push (λ b x. IsActivitySound m (looks after_clocks b) (length after_clocks) (w.steps + 1) x) before new
+        (λ b x at. rw (length-joined a given w.clocks) (subst (λ look. IsActivitySound m look (length w.clocks) (w.steps + 1) x) (old_looks b (slice_get_within before b x at)) (old_sound b x at)))
+        (rw (length-joined a given w.clocks) (subst (λ look. IsActivitySound m look (length w.clocks) (w.steps + 1) new) new_looks d.begins));
+    clocks = all_near;
+    cells = sound.cells;
+    steps = omega (arith, debts steps_weight 1, d.shared.steps, sound.steps);
+    started = omega (arith, length_push before new, before_width, debts activities_weight 0, d.shared.started, sound.started);
+    made = omega (arith, length-joined a given w.clocks, debts clocks_weight 0, d.shared.made, sound.made);
+  }
+
+  -- and at the end of the step sound
+  pub begun_sound : IsSound m (settled (begun w a act new given))
+  begun_sound = world_settled m (begun w a act new given) begun_near
