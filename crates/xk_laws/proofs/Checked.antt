@@ -1,22 +1,24 @@
 -- A test that shows a module accepted, by tables of kinds: it computes at a module that is written out.
-use Rattle.std.proofs.Common.{◌≡◌, ℕ, zero, suc, ◌+◌, ◌<◌, ◌≤◌, Bool, true, false, not, ◌==◌, ◌||◌, ◌&&◌, inl, inr, List, [], ◌∷◌, length, Some, None, Option, refl, sym, ap, ◌∙◌, subst, arith}
+use Rattle.std.proofs.Common.{◌≡◌, ℕ, zero, suc, ◌<◌, ◌≤◌, Bool, true, false, not, ◌==◌, ◌||◌, ◌&&◌, inl, inr, List, [], ◌∷◌, length, Some, None, Option, refl, sym, ap, ◌∙◌, subst, arith}
 use Rattle.std.specs.Prelude.{slice_get}
 use Rattle.std.specs.List.{list_all, list_any}
 use Rattle.std.specs.Option.{option_map_or}
 use Rattle.std.proofs.lemmas.Bool.{and_parts, and_left, or_from, not-true, ne_eqb, cases_lt, false≢true}
 use Rattle.std.proofs.lemmas.Option.{slice_get_within, slice_get_past}
+use Rattle.xk_types.specs.declared.instr.Instr.{Instr}
 use Rattle.xk_types.specs.declared.rules.Rule.{Rule}
 use Rattle.xk_types.specs.declared.rules.Rule.TheVariants as rule
 use Rattle.xk_types.specs.declared.rules.Kind.{Kind}
 use Rattle.xk_types.specs.declared.rules.Kind.TheVariants as kind
 use Rattle.xk_types.specs.declared.rules.Visit.{Visit}
-use Rattle.xk_types.specs.Code.{UnitValue, ModuleValue}
+use Rattle.xk_types.specs.Code.{UnitValue, ModuleValue, arguments_of}
 use Rattle.xk_types.specs.Names.{kind_place}
 use Rattle.xk_types.specs.Order.{Has}
 use Rattle.xk_types.specs.Shape.{is_in_place, breaks_in, breaks_unit_of, HasShape}
 use Rattle.xk_types.specs.Walk.{After, To, Refused, MayBecome, IsEdge, IsVisited, IsRefusedAt, entry_kinds, places_after, row, row_of}
 use Rattle.xk_types.specs.Bound.{IsWithinBounds}
 use Rattle.xk_types.specs.Accepted.{IsAccepted}
+use Rattle.xk_laws.proofs.Lists.{all_has}
 use Rattle.xk_laws.proofs.Walks.{visited_closed}
 
 -- ---- tests over numbers and lists
@@ -32,12 +34,6 @@ below_at test zero k h inside = absurd (omega arith)
 below_at test (suc n) k h inside =
     let p = and_parts (test n) (each_below test n) h in
     elim (cases_lt k n) [ inl less ↦ below_at test n k p.1 less | inr more ↦ subst (λ j. test j ≡ true) (omega arith) p.0 ]
-
--- what all of a list pass, its elements pass
-all_has : {X : Type 0} (test : X → Bool) (xs : List X) (x : X) → list_all test xs ≡ true → Has xs x → test x ≡ true
-all_has test [] x h g = absurd g
-all_has test (y ∷ xs) x h (inl e) = subst (λ z. test z ≡ true) e (and_parts (test y) (list_all test xs) h).0
-all_has test (y ∷ xs) x h (inr g) = all_has test xs x (and_parts (test y) (list_all test xs) h).1 g
 
 -- one of two where the other is true
 other_half : (p q : Bool) → p ≡ true → (not p || q) ≡ true → q ≡ true
@@ -205,6 +201,12 @@ kinds_from m tables h unit s q r b = never_refused m b.u s (tables unit s)
     (sym (ap (λ o. option_map_or (λ u. each_below (λ t. is_closed m u t (tables unit t)) u.slots) o true) b.found)
     ∙ below_at (λ n. option_map_or (λ u. each_below (λ t. is_closed m u t (tables n t)) u.slots) (slice_get m.units n) true) (length m.units) unit h (slice_get_within m.units unit b.u b.found))
     b.slot) q r b.visited b.refused
+
+-- ---- limits
+
+-- an instruction has no more arguments than the limit
+abbrev pub HasFewArguments : Instr → Type 0
+HasFewArguments i = length (arguments_of i) ≤ 64
 
 -- ---- accepted
 

@@ -1,10 +1,11 @@
 -- What the shape of an accepted module gives: its units fit, and what they start.
-use Rattle.std.proofs.Common.{◌≡◌, ℕ, zero, suc, ◌+◌, ◌<◌, Bool, true, false, not, ◌==◌, ◌||◌, ◌&&◌, inl, inr, List, [], ◌∷◌, length, Some, None, Option, refl, sym, ap, ◌∙◌, subst, arith, ltb-true, eqb-true}
+use Rattle.std.proofs.Common.{◌≡◌, ℕ, zero, suc, ◌+◌, ◌<◌, Bool, true, false, not, ◌==◌, ◌||◌, ◌&&◌, List, [], length, Some, None, Option, refl, sym, ap, ◌∙◌, subst, arith, ltb-true, eqb-true}
 use Rattle.std.specs.Prelude.{slice_get, nat_lt}
 use Rattle.std.specs.List.{list_all}
 use Rattle.std.specs.Option.{option_map_or}
 use Rattle.std.proofs.lemmas.Bool.{eqb-false, or_parts, and_parts, not-false, false≢true}
 use Rattle.std.proofs.lemmas.Option.{slice_get_within, none-some, same_Some}
+use Rattle.xk_laws.proofs.Lists.{all_has}
 use Rattle.xk_types.specs.declared.instr.Instr.{Instr}
 use Rattle.xk_types.specs.declared.instr.Instr.TheVariants as instr
 use Rattle.xk_types.specs.declared.rules.Rule.{Rule}
@@ -21,12 +22,6 @@ pub record IsFit (u : UnitValue) : Type 0 where
   pub slots : (i : Instr) (at s : ℕ) → slice_get u.code at ≡ Some i → Has (slots_named i) s → s < u.slots
   -- behind each instruction but `ret` stands another
   pub next : (i : Instr) (at : ℕ) → slice_get u.code at ≡ Some i → is_ret i ≡ false → at + 1 < length u.code
-
--- what all of a list pass, its elements pass
-all_has : (test : ℕ → Bool) (xs : List ℕ) (x : ℕ) → list_all test xs ≡ true → Has xs x → test x ≡ true
-all_has test [] x h g = absurd g
-all_has test (y ∷ xs) x h (inl e) = rw (← e) (and_parts (test y) (list_all test xs) h).0
-all_has test (y ∷ xs) x h (inr g) = all_has test xs x (and_parts (test y) (list_all test xs) h).1 g
 
 -- no place of a known unit breaks a rule
 pub unbroken : (m : ModuleValue) → HasShape m → (r : Rule) (unit : ℕ) (u : UnitValue) → slice_get m.units unit ≡ Some u → (at : ℕ) → breaks_in m r unit u at ≡ false

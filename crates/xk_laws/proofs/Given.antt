@@ -1,6 +1,6 @@
 -- What an activity is given when it is started: the values of its parameters, and that it begins sound.
-use Rattle.std.proofs.Common.{◌≡◌, ℕ, zero, suc, ◌+◌, ◌-◌, ◌<◌, ◌≤◌, Bool, true, false, cond, ◌==◌, ◌||◌, List, [], ◌∷◌, ◌++◌, length, replicate, Some, None, Option, refl, sym, ap, ◌∙◌, subst, arith, ◌⊎◌, inl, inr, eqb-true, eq-eqb, length-append}
-use Rattle.std.specs.Prelude.{slice_get, get_or}
+use Rattle.std.proofs.Common.{◌≡◌, ℕ, zero, suc, ◌-◌, ◌≤◌, Bool, true, false, cond, ◌==◌, List, [], ◌∷◌, ◌++◌, length, replicate, Some, Option, refl, sym, ap, ◌∙◌, subst, arith, ◌⊎◌, inl, inr, eqb-true, eq-eqb, length-append}
+use Rattle.std.specs.Prelude.{slice_get}
 use Rattle.std.specs.List.{list_any}
 use Rattle.std.specs.Option.{option_map_or}
 use Rattle.std.proofs.lemmas.List.{length-replicate}
@@ -9,7 +9,6 @@ use Rattle.std.proofs.lemmas.Bool.{false≢true, or_parts, or_left, or_right}
 use Rattle.std.proofs.lemmas.Option.{none-some, same_Some, slice_get_within, slice_get_past, get_or_from_slice_get}
 use Rattle.xk_types.specs.declared.names.Value.{Value}
 use Rattle.xk_types.specs.declared.names.Value.TheVariants as value
-use Rattle.xk_types.specs.declared.names.Status.TheVariants as status
 use Rattle.xk_types.specs.declared.names.Standing.{Standing}
 use Rattle.xk_types.specs.declared.names.Standing.TheVariants as standing
 use Rattle.xk_types.specs.declared.unit.ParamKind.{ParamKind}
@@ -17,11 +16,11 @@ use Rattle.xk_types.specs.declared.unit.ParamKind.TheVariants as param
 use Rattle.xk_types.specs.declared.rules.Kind.{Kind}
 use Rattle.xk_types.specs.Code.{UnitValue, ModuleValue, IsUnitWithinLimits, IsWithinLimits}
 use Rattle.xk_types.specs.Order.{Has}
-use Rattle.xk_types.specs.World.{Finish, Activity, root, slots_of}
+use Rattle.xk_types.specs.World.{Activity, root, slots_of}
 use Rattle.xk_types.specs.Step.{governing, child, names_clock, is_given}
 use Rattle.xk_types.specs.Shape.{HasShape, clock_arguments, has_twice}
-use Rattle.xk_types.specs.Walk.{entry_of, entry_kinds}
-use Rattle.xk_laws.proofs.Invariant.{Each, Expects, Names, IsFrameSound, IsActivitySound, kind_by, kind_of, is_held}
+use Rattle.xk_types.specs.Walk.{entry_of}
+use Rattle.xk_laws.proofs.Invariant.{Each, Names, IsActivitySound, kind_by, kind_of, is_held}
 use Rattle.xk_laws.proofs.Lists.{get-append_left, each_filled, any_found, any_given}
 use Rattle.xk_laws.proofs.Walks.{visited_entry}
 use Rattle.xk_laws.proofs.Rows.{held_entry}

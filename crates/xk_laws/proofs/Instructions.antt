@@ -1,5 +1,5 @@
 -- Each instruction of a running activity is a step that keeps the invariant.
-use Rattle.std.proofs.Common.{◌≡◌, ℕ, ◌+◌, ◌<◌, Bool, true, false, cond, ◌==◌, List, [], ◌∷◌, ◌++◌, length, set, ℤ, Some, None, Option, refl, sym, ap, ◌∙◌, subst, arith, inl, inr}
+use Rattle.std.proofs.Common.{◌≡◌, ℕ, ◌+◌, ◌<◌, Bool, true, false, cond, ◌==◌, List, [], ◌∷◌, ◌++◌, length, set, ℤ, Some, None, refl, sym, ap, ◌∙◌, subst, arith, inl, inr}
 use Rattle.std.specs.Prelude.{slice_get}
 use Rattle.std.specs.Int.{w64, int_wrapping_add}
 use Rattle.std.specs.Option.{option_map_or, option_and_then}
@@ -16,12 +16,12 @@ use Rattle.xk_types.specs.declared.names.Standing.TheVariants as standing
 use Rattle.xk_types.specs.declared.rules.Kind.{Kind}
 use Rattle.xk_types.specs.declared.rules.Kind.TheVariants as kind
 use Rattle.xk_types.specs.Code.{ModuleValue, params_of, unit_started}
-use Rattle.xk_types.specs.World.{Activity, Clock, World, standing_of, instruction_at}
+use Rattle.xk_types.specs.World.{Activity, World, standing_of, instruction_at}
 use Rattle.xk_types.specs.Schedule.{is_ended}
 use Rattle.xk_types.specs.Accepted.{IsAccepted}
 use Rattle.xk_types.specs.declared.names.Event.{Event}
 use Rattle.xk_types.specs.declared.names.Event.TheVariants as event
-use Rattle.xk_types.specs.Step.{Outcome, done, made, onward, with_slots, arrived, ended, none, only, all, resumed, dropped, is_signalled, number_in, clock_in, child, is_given, spawned, carried_out, run_at, new_clock}
+use Rattle.xk_types.specs.Step.{Outcome, done, made, onward, with_slots, arrived, ended, none, only, all, resumed, dropped, number_in, clock_in, child, is_given, spawned, carried_out, run_at, new_clock}
 use Rattle.xk_types.specs.Order.{Has}
 use Rattle.xk_types.specs.Shape.{slots_named, is_ret}
 use Rattle.xk_types.specs.Walk.{after, reads, writes, gives, becomes, MayBecome, successors}

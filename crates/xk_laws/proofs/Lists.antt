@@ -1,10 +1,11 @@
 -- Lists by number: what a change of one element, a push and a map leave at each place.
-use Rattle.std.proofs.Common.{◌≡◌, ℕ, zero, suc, ◌+◌, ◌<◌, ◌≤◌, max, Bool, true, false, ◌||◌, List, [], ◌∷◌, ◌++◌, map, length, set, drop, Some, fold, replicate, refl, sym, ap, ◌∙◌, subst, arith, sum_by}
+use Rattle.std.proofs.Common.{◌≡◌, ℕ, zero, suc, ◌+◌, ◌<◌, ◌≤◌, max, Bool, true, false, ◌||◌, List, [], ◌∷◌, ◌++◌, map, length, set, drop, Some, fold, replicate, inl, inr, refl, sym, ap, ◌∙◌, subst, arith, sum_by}
 use Rattle.std.specs.Prelude.{slice_get}
 use Rattle.std.specs.List.{list_any, list_all}
 use Rattle.std.proofs.lemmas.List.Sums.{sum_by-set}
-use Rattle.std.proofs.lemmas.Bool.{or_left, or_right}
+use Rattle.std.proofs.lemmas.Bool.{and_parts, or_left, or_right}
 use Rattle.std.proofs.lemmas.Option.{slice_get_within, get_or_from_slice_get, none-some, same_Some}
+use Rattle.xk_types.specs.Order.{Has}
 use Rattle.xk_laws.proofs.Invariant.{Each}
 
 -- two functions that agree everywhere are one
@@ -90,6 +91,12 @@ each_filled P (z ∷ xs) n y all behind (suc s) x h =
     each_filled (λ j. P (suc j)) xs n y (λ j w. all (suc j) w) (λ j g. behind (suc j) (omega arith)) s x h
 
 -- ---- tests over a list
+
+-- what all of a list pass, its elements pass
+pub all_has : {X : Type 0} (test : X → Bool) (xs : List X) (x : X) → list_all test xs ≡ true → Has xs x → test x ≡ true
+all_has test [] x h g = absurd g
+all_has test (y ∷ xs) x h (inl e) = subst (λ z. test z ≡ true) e (and_parts (test y) (list_all test xs) h).0
+all_has test (y ∷ xs) x h (inr g) = all_has test xs x (and_parts (test y) (list_all test xs) h).1 g
 
 -- one element that passes is enough
 pub any_given : {X : Type 0} (test : X → Bool) (xs : List X) (k : ℕ) (x : X) → slice_get xs k ≡ Some x → test x ≡ true → list_any test xs ≡ true

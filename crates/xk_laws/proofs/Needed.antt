@@ -1,14 +1,14 @@
 -- The premises of the law are needed: without either of them it is false.
-use Rattle.std.proofs.Common.{◌≤◌, [], ◌∷◌, length, refl, arith}
+use Rattle.std.proofs.Common.{[], ◌∷◌, refl, arith}
 use Rattle.std.proofs.lemmas.List.Elements.{All-cons, All-nil, All-from_recursion}
 use Rattle.std.proofs.lemmas.Option.{none-some}
-use Rattle.xk_types.specs.declared.instr.Instr.{Instr}
 use Rattle.xk_types.specs.declared.instr.Instr.TheVariants as instr
 use Rattle.xk_types.specs.declared.unit.UnitKind.TheVariants as unit_kind
-use Rattle.xk_types.specs.Code.{UnitValue, ModuleValue, IsUnitWithinLimits, IsWithinLimits, arguments_of}
+use Rattle.xk_types.specs.Code.{UnitValue, ModuleValue, IsUnitWithinLimits, IsWithinLimits}
 use Rattle.xk_types.specs.World.{opening}
 use Rattle.xk_types.specs.Step.{Missing, OutOfRange}
 use Rattle.xk_types.specs.Accepted.{IsAccepted, EverySchedule}
+use Rattle.xk_laws.proofs.Checked.{HasFewArguments}
 
 -- a clock that was never made is dropped
 abbrev drop_unit : UnitValue
@@ -18,17 +18,13 @@ drop_unit = record { kind = unit_kind.Main; params = []; slots = 1; code = instr
 abbrev drop_row : ModuleValue
 drop_row = record { shared = []; units = drop_unit ∷ [] }
 
--- few arguments
-abbrev few_arguments : Instr → Type 0
-few_arguments i = length (arguments_of i) ≤ 64
-
 -- it is within the limits
 drop_limits : IsWithinLimits drop_row
 drop_limits = record {
   some = omega arith;
   units = omega arith;
   shared = omega arith;
-  each = All-cons IsUnitWithinLimits drop_unit [] (record { slots = omega arith; params = omega arith; code = omega arith; arguments = All-from_recursion few_arguments drop_unit.code (omega arith) }) (All-nil IsUnitWithinLimits);
+  each = All-cons IsUnitWithinLimits drop_unit [] (record { slots = omega arith; params = omega arith; code = omega arith; arguments = All-from_recursion HasFewArguments drop_unit.code (omega arith) }) (All-nil IsUnitWithinLimits);
 }
 
 -- not every module within the limits keeps the law

@@ -1,19 +1,18 @@
 -- A module of two activities that is accepted: main makes a clock, starts an activity with it and a number, and both wait
 -- for the clock once.
-use Rattle.std.proofs.Common.{◌≡◌, ◌≤◌, ℕ, zero, suc, pos, Bool, true, false, List, [], ◌∷◌, length, refl, arith}
+use Rattle.std.proofs.Common.{◌≡◌, ℕ, zero, suc, pos, Bool, true, false, List, [], ◌∷◌, length, refl, arith}
 use Rattle.std.proofs.lemmas.List.Elements.{All-cons, All-nil, All-from_recursion}
-use Rattle.xk_types.specs.declared.instr.Instr.{Instr}
 use Rattle.xk_types.specs.declared.instr.Instr.TheVariants as instr
 use Rattle.xk_types.specs.declared.unit.UnitKind.TheVariants as unit_kind
 use Rattle.xk_types.specs.declared.unit.ParamKind.TheVariants as param
 use Rattle.xk_types.specs.declared.rules.Kind.{Kind}
 use Rattle.xk_types.specs.declared.rules.Kind.TheVariants as kind
-use Rattle.xk_types.specs.Code.{UnitValue, ModuleValue, IsUnitWithinLimits, IsWithinLimits, arguments_of}
+use Rattle.xk_types.specs.Code.{UnitValue, ModuleValue, IsUnitWithinLimits, IsWithinLimits}
 use Rattle.xk_types.specs.World.{opening}
 use Rattle.xk_types.specs.Schedule.{Course, Through, Held, Wronged, run, all_ended, printed}
 use Rattle.xk_types.specs.Bound.{steps_bound, activities_bound, clocks_bound}
 use Rattle.xk_types.specs.Accepted.{IsAccepted, EverySchedule}
-use Rattle.xk_laws.proofs.Checked.{accepted_by}
+use Rattle.xk_laws.proofs.Checked.{HasFewArguments, accepted_by}
 use Rattle.xk_laws.proofs.Reached.{every_schedule}
 
 -- main
@@ -65,10 +64,6 @@ pub pair_row_accepted : IsAccepted pair_row
 unfolding Rattle.xk_types.specs.Bound.total_within
 pair_row_accepted = accepted_by pair_row pair_kinds refl refl (record { steps = omega arith; activities = omega arith; clocks = omega arith; stack = omega arith })
 
--- few arguments
-abbrev few_arguments : Instr → Type 0
-few_arguments i = length (arguments_of i) ≤ 64
-
 -- it is within the limits
 pub pair_row_limits : IsWithinLimits pair_row
 pair_row_limits = record {
@@ -76,9 +71,9 @@ pair_row_limits = record {
   units = omega arith;
   shared = omega arith;
   each = All-cons IsUnitWithinLimits main_unit (body_unit ∷ [])
-      (record { slots = omega arith; params = omega arith; code = omega arith; arguments = All-from_recursion few_arguments main_unit.code (omega arith) })
+      (record { slots = omega arith; params = omega arith; code = omega arith; arguments = All-from_recursion HasFewArguments main_unit.code (omega arith) })
       (All-cons IsUnitWithinLimits body_unit []
-      (record { slots = omega arith; params = omega arith; code = omega arith; arguments = All-from_recursion few_arguments body_unit.code (omega arith) })
+      (record { slots = omega arith; params = omega arith; code = omega arith; arguments = All-from_recursion HasFewArguments body_unit.code (omega arith) })
       (All-nil IsUnitWithinLimits));
 }
 

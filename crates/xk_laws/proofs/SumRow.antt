@@ -1,14 +1,13 @@
 -- One module that is accepted: 2 + 3, a clock that is made and waited for once.
-use Rattle.std.proofs.Common.{◌≤◌, ℕ, zero, suc, pos, List, [], ◌∷◌, length, refl, arith}
+use Rattle.std.proofs.Common.{ℕ, zero, suc, pos, [], ◌∷◌, refl, arith}
 use Rattle.std.proofs.lemmas.List.Elements.{All-cons, All-nil, All-from_recursion}
-use Rattle.xk_types.specs.declared.instr.Instr.{Instr}
 use Rattle.xk_types.specs.declared.instr.Instr.TheVariants as instr
 use Rattle.xk_types.specs.declared.unit.UnitKind.TheVariants as unit_kind
 use Rattle.xk_types.specs.declared.rules.Kind.{Kind}
 use Rattle.xk_types.specs.declared.rules.Kind.TheVariants as kind
-use Rattle.xk_types.specs.Code.{UnitValue, ModuleValue, IsUnitWithinLimits, IsWithinLimits, arguments_of}
+use Rattle.xk_types.specs.Code.{UnitValue, ModuleValue, IsUnitWithinLimits, IsWithinLimits}
 use Rattle.xk_types.specs.Accepted.{IsAccepted, EverySchedule}
-use Rattle.xk_laws.proofs.Checked.{accepted_by}
+use Rattle.xk_laws.proofs.Checked.{HasFewArguments, accepted_by}
 use Rattle.xk_laws.proofs.Reached.{every_schedule}
 
 -- its unit
@@ -43,10 +42,6 @@ unfolding Rattle.xk_types.specs.Bound.total_within
 sum_row_accepted = accepted_by sum_row (λ unit s at. kind_at s at ∷ []) refl refl
     (record { steps = omega arith; activities = omega arith; clocks = omega arith; stack = omega arith })
 
--- few arguments
-abbrev few_arguments : Instr → Type 0
-few_arguments i = length (arguments_of i) ≤ 64
-
 -- it is within the limits
 pub sum_row_limits : IsWithinLimits sum_row
 sum_row_limits = record {
@@ -54,7 +49,7 @@ sum_row_limits = record {
   units = omega arith;
   shared = omega arith;
   each = All-cons IsUnitWithinLimits sum_unit []
-      (record { slots = omega arith; params = omega arith; code = omega arith; arguments = All-from_recursion few_arguments sum_unit.code (omega arith) }) (All-nil IsUnitWithinLimits);
+      (record { slots = omega arith; params = omega arith; code = omega arith; arguments = All-from_recursion HasFewArguments sum_unit.code (omega arith) }) (All-nil IsUnitWithinLimits);
 }
 
 -- the law says something of it
