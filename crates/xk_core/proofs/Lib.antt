@@ -1,2 +1,5 @@
 pub mod Clocks
 pub mod Arms
+pub mod Ableness
+pub mod Cores
+pub mod Runs

@@ -3,3 +3,5 @@ pub mod Arm
 pub mod Joining
 pub mod Able
 pub mod Opening
+pub mod Core
+pub mod Schedules

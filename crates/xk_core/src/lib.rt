@@ -4,6 +4,11 @@
 mod activity;
 mod change;
 mod clock;
+pub mod laws;
+mod machine;
+mod schedule;
 mod state;
 
+pub use machine::Core;
+pub use schedule::{Halt, Ran, run_schedule};
 

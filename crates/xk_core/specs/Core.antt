@@ -1,0 +1,41 @@
+-- A running core, as its clauses see it: a module, and a world that a legal schedule of it reaches.
+use Rattle.std.specs.Prelude.{◌≡◌, ℕ, ◌<◌, true, false, Option, Some, None, slice_get}
+use Rattle.xk_types.specs.declared.instr.Instr.{Instr}
+use Rattle.xk_types.specs.declared.names.Status.{Status}
+use Rattle.xk_types.specs.declared.names.Status.TheVariants as status
+use Rattle.xk_types.specs.Code.{ModuleValue, IsWithinLimits}
+use Rattle.xk_types.specs.World.{Activity, World, instruction_at}
+use Rattle.xk_types.specs.Schedule.{IsReached, is_enabled}
+use Rattle.xk_types.specs.Accepted.{IsAccepted}
+use Rattle.xk_core.specs.Arm.{grows}
+
+pub record CoreValue : Type 0 where
+  pub module_run : ModuleValue
+  pub world : World
+
+-- the module is accepted, and some legal schedule of it leads to the world
+pub record IsCore (m : ModuleValue) (w : World) : Type 0 where
+  pub limits : IsWithinLimits m
+  pub accepted : IsAccepted m
+  pub reached : IsReached m w
+
+abbrev pub instruction_by : ModuleValue → Activity → Status → Option Instr
+instruction_by m act status.Running = instruction_at m act.frame
+instruction_by m act status.Arrived = None
+instruction_by m act status.Ended = None
+
+abbrev pub instruction_of : ModuleValue → Option Activity → Option Instr
+instruction_of m None = None
+instruction_of m (Some act) = instruction_by m act act.status
+
+-- the instruction that activity a carries out next, if it runs
+abbrev pub next_instruction : ModuleValue → World → ℕ → Option Instr
+next_instruction m w a = instruction_of m (slice_get w.activities a)
+
+-- activity a is about to make a clock or to start an activity, for which memory is wanted
+abbrev pub IsAboutToGrow : ModuleValue → World → ℕ → Type 0
+IsAboutToGrow m w a = (i : Instr) × (next_instruction m w a ≡ Some i) × (grows i ≡ true)
+
+-- a is enabled, and nobody of a smaller number is
+abbrev pub IsLeastEnabled : ModuleValue → World → ℕ → Type 0
+IsLeastEnabled m w a = (is_enabled m w a ≡ true) × ((b : ℕ) → b < a → is_enabled m w b ≡ false)
