@@ -20,7 +20,7 @@ use Rattle.xk_types.specs.Code.{UnitValue, ModuleValue}
 abbrev pub long : ℤ → Data
 long z = number (of_integer z)
 
--- a whole number that isn't negative, as of a slot
+-- a whole number that isn't negative, as of a slot or a unit
 abbrev pub word : ℕ → Data
 word n = number (unsigned n)
 
@@ -49,10 +49,12 @@ instr_value (instr.Make k) = named (codes "make") (word k ∷ [])
 instr_value (instr.Resume k) = named (codes "resume") (word k ∷ [])
 instr_value (instr.Drop k) = named (codes "drop") (word k ∷ [])
 instr_value instr.Advance = named (codes "advance") []
+instr_value (instr.Spawn t args) = named (codes "spawn") (word t ∷ array_of (map word args) ∷ [])
 instr_value instr.Ret = named (codes "ret") []
 
 abbrev pub kind_value : UnitKind → Data
 kind_value unit_kind.Main = string (codes "main")
+kind_value unit_kind.Body = string (codes "body")
 
 -- the letter of a parameter: `n` or `c`
 abbrev pub letter : ParamKind → ℕ
@@ -93,6 +95,7 @@ IsInstrInRange (instr.Make k) = IsWord k
 IsInstrInRange (instr.Resume k) = IsWord k
 IsInstrInRange (instr.Drop k) = IsWord k
 IsInstrInRange instr.Advance = Unit {0}
+IsInstrInRange (instr.Spawn t args) = IsWord t × AllByRecursion IsWord args
 IsInstrInRange instr.Ret = Unit {0}
 
 pub record IsUnitInRange (u : UnitValue) : Type 0 where

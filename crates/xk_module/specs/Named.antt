@@ -116,6 +116,15 @@ lit_at (a ∷ b ∷ []) = do
   Some (d, n)
 lit_at _ = None
 
+-- a unit, and the slots of an array
+unfoldable pub spawn_at : List Data → Option (ℕ × List ℕ)
+spawn_at (a ∷ b ∷ []) = do
+  t ← word_at a
+  values ← array_at b
+  args ← each word_at values
+  Some (t, args)
+spawn_at _ = None
+
 -- the instruction of this name with these operands
 unfoldable pub instr_of : List ℕ → List Data → Option Instr
 instr_of name operands =
@@ -126,6 +135,7 @@ instr_of name operands =
     else if bytes_eq name (codes "resume") then (one_at operands >>= λ k. Some (instr.Resume k))
     else if bytes_eq name (codes "drop") then (one_at operands >>= λ k. Some (instr.Drop k))
     else if bytes_eq name (codes "advance") then (none_at operands >>= λ _. Some instr.Advance)
+    else if bytes_eq name (codes "spawn") then (spawn_at operands >>= λ x. Some (instr.Spawn x.0 x.1))
     else if bytes_eq name (codes "ret") then (none_at operands >>= λ _. Some instr.Ret)
     else None
 
@@ -143,7 +153,10 @@ instr_at d = do
 -- ---- units and modules
 
 abbrev pub kind_of : List ℕ → Option UnitKind
-kind_of name = if bytes_eq name (codes "main") then Some unit_kind.Main else None
+kind_of name =
+    if bytes_eq name (codes "main") then Some unit_kind.Main
+    else if bytes_eq name (codes "body") then Some unit_kind.Body
+    else None
 
 unfoldable pub kind_at : Data → Option UnitKind
 kind_at d = do

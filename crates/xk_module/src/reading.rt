@@ -4,13 +4,13 @@ ghost use Rattle.std.specs.Prelude.{◌≡◌, List, Option, map};
 ghost use Rattle.serde_json.specs.Data.{Data};
 ghost use Rattle.serde_json.specs.View.{view};
 ghost use Rattle.xk_types.specs.Code.{module_of};
-ghost use Rattle.xk_module.specs.Named.{Gives, views, each, none_at, one_at, three_at, lit_at, instr_of, kind_at, param_at, params_at, version_at, module_at};
+ghost use Rattle.xk_module.specs.Named.{Gives, views, each, none_at, one_at, three_at, lit_at, spawn_at, instr_of, kind_at, param_at, params_at, version_at, module_at};
 
 use crate::fault::Refusal;
 use crate::json::{array, end, field, long, object, text, word};
 use serde_json::Value;
 use std::alloc::Global;
-use xk_types::{Instr, ParamKind, Unit, UnitKind};
+use xk_types::{Args, Instr, ParamKind, Unit, UnitKind};
 
 /// What a JSON value can name.
 trait Named: Drop {
@@ -43,17 +43,27 @@ impl Named for i64 {
     }
 }
 
+impl Named for u16 {
+    ghost use Rattle.xk_module.specs.Named.{word_at};
+
+    ghost named = { word_at };
+
+    fn read(_alloc: Global, value: &Value) -> Result<u16, Refusal> {
+        word(value)
+    }
+}
+
 impl Named for Instr {
     ghost use Rattle.xk_module.specs.Named.{instr_at};
 
     ghost named = { instr_at };
 
     #[tactic(auto, unfolding(crate::specs::Named::instr_at))]
-    fn read(_alloc: Global, value: &Value) -> Result<Instr, Refusal> {
+    fn read(alloc: Global, value: &Value) -> Result<Instr, Refusal> {
         let Some((name, operands)) = array(value)?.split_first() else {
             return Err(Refusal::Unfit);
         };
-        instr(text(name)?, operands)
+        instr(alloc, text(name)?, operands)
     }
 }
 
@@ -85,7 +95,7 @@ impl Named for Unit {
 
 /// The instruction of this name with these operands.
 #[tactic(auto, unfolding(crate::specs::Named::instr_of))]
-fn instr(name: &str, operands: &[Value]) -> Result<Instr, Refusal>
+fn instr(alloc: Global, name: &str, operands: &[Value]) -> Result<Instr, Refusal>
     ensures { Gives (λ x. x) result (instr_of name.now (views operands.now)) }
 {
     match name {
@@ -104,6 +114,10 @@ fn instr(name: &str, operands: &[Value]) -> Result<Instr, Refusal>
         "advance" => {
             no_operand(operands)?;
             Ok(Instr::Advance)
+        }
+        "spawn" => {
+            let (unit, slots) = unit_and_slots(alloc, operands)?;
+            Ok(Instr::Spawn(unit, Args::new(slots)))
         }
         "ret" => {
             no_operand(operands)?;
@@ -152,12 +166,23 @@ fn slot_and_number(operands: &[Value]) -> Result<(u16, i64), Refusal>
     }
 }
 
+#[tactic(auto, unfolding(crate::specs::Named::spawn_at))]
+fn unit_and_slots(alloc: Global, operands: &[Value]) -> Result<(u16, Vec<u16>), Refusal>
+    ensures { Gives (λ x. (x.0, x.1.items)) result (spawn_at (views operands.now)) }
+{
+    match operands {
+        [unit, slots] => Ok((word(unit)?, all(alloc, array(slots)?)?)),
+        _ => Err(Refusal::Unfit),
+    }
+}
+
 #[tactic(auto, unfolding(crate::specs::Named::kind_at))]
 fn unit_kind(value: &Value) -> Result<UnitKind, Refusal>
     ensures { Gives (λ x. x) result (kind_at (view value.now)) }
 {
     match text(value)? {
         "main" => Ok(UnitKind::Main),
+        "body" => Ok(UnitKind::Body),
         _ => Err(Refusal::Unfit),
     }
 }

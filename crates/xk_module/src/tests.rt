@@ -1,10 +1,14 @@
 use crate::{ModuleFault, read_module};
 use std::alloc::{AllocError, Global};
 use std::test::Fail;
-use xk_types::{Instr, Module, ParamKind, UnitKind};
+use xk_types::{Args, Instr, Module, ParamKind, Unit, UnitKind};
 
 const SUM: &str =
     "{\"version\":1,\"shared\":[],\"units\":[{\"kind\":\"main\",\"params\":\"\",\"slots\":3,\"code\":[[\"lit\",0,2],[\"lit\",1,3],[\"add\",0,0,1],[\"make\",2],[\"advance\"],[\"print\",0],[\"ret\"]]}]}";
+
+/// Main and an activity that it starts, both on one clock.
+const STARTED: &str =
+    "{\"shared\":[],\"units\":[{\"code\":[[\"make\",0],[\"spawn\",1,[0]],[\"advance\"],[\"lit\",1,1],[\"print\",1],[\"ret\"]],\"kind\":\"main\",\"params\":\"\",\"slots\":2},{\"code\":[[\"advance\"],[\"lit\",1,2],[\"print\",1],[\"ret\"]],\"kind\":\"body\",\"params\":\"c\",\"slots\":2}],\"version\":1}";
 
 /// The text of a module with one unit.
 fn with_unit(alloc: Global, unit: &str) -> Result<String, AllocError> {
@@ -32,12 +36,54 @@ fn with_units(alloc: Global, count: usize) -> Result<String, AllocError> {
     Ok(text)
 }
 
+/// The text of a module that starts an activity with so many arguments: the slots 0, 1000, 2000 and so on, and then the
+/// last.
+fn with_arguments(alloc: Global, count: usize, last: &str) -> Result<String, AllocError> {
+    let mut slots = String::new(alloc);
+    for i in 1..count {
+        let slot = format!(in alloc; "{},", (i - 1) % 65 * 1000)?;
+        slots.push_str(slot.as_str())?;
+    }
+    let code = format!(in alloc; "[\"spawn\",1,[{slots}{last}]]")?;
+    with_code(alloc, code.as_str())
+}
+
 fn fault(alloc: Global, text: &str) -> Option<ModuleFault> {
     read_module(alloc, text.as_bytes()).err()
 }
 
-fn instructions(module: &Module) -> Option<&[Instr]> {
-    module.units().first().map(|unit| unit.code.as_slice())
+fn are_same(found: &Instr, wanted: &Instr) -> bool {
+    match (found, wanted) {
+        (Instr::Lit(d, n), Instr::Lit(e, k)) => d == e && n == k,
+        (Instr::Add(d, a, b), Instr::Add(e, p, q)) => d == e && a == p && b == q,
+        (Instr::Print(a), Instr::Print(b)) => a == b,
+        (Instr::Make(a), Instr::Make(b)) => a == b,
+        (Instr::Resume(a), Instr::Resume(b)) => a == b,
+        (Instr::Drop(a), Instr::Drop(b)) => a == b,
+        (Instr::Advance, Instr::Advance) => true,
+        (Instr::Spawn(t, args), Instr::Spawn(u, others)) => {
+            t == u && args.slots() == others.slots()
+        }
+        (Instr::Ret, Instr::Ret) => true,
+        _ => false,
+    }
+}
+
+fn has_code(unit: &Unit, wanted: &[Instr]) -> bool {
+    unit.code.len() == wanted.len()
+        && unit
+            .code
+            .iter()
+            .zip(wanted.iter())
+            .all(|(found, wanted)| are_same(found, wanted))
+}
+
+/// The code of the first unit.
+fn starts_with(module: &Module, wanted: &[Instr]) -> bool {
+    module
+        .units()
+        .first()
+        .is_some_and(|unit| has_code(unit, wanted))
 }
 
 #[test]
@@ -61,7 +107,97 @@ fn reads_a_module(rt: HostRuntime) -> Result<(), Fail> {
         Instr::Print(0),
         Instr::Ret,
     ];
-    assert!(rt; instructions(&module).is_some_and(|code| code == sum.as_slice()));
+    assert!(rt; starts_with(&module, sum.as_slice()));
+    Ok(())
+}
+
+#[test]
+fn reads_an_activity_that_is_started(rt: HostRuntime) -> Result<(), Fail> {
+    let alloc = rt.alloc();
+    let module = read_module(alloc, STARTED.as_bytes())
+        .ok()
+        .ok_or("a module")?;
+    let main = [
+        Instr::Make(0),
+        Instr::Spawn(1, Args::new(vec![in alloc; 0]?)),
+        Instr::Advance,
+        Instr::Lit(1, 1),
+        Instr::Print(1),
+        Instr::Ret,
+    ];
+    let body = [
+        Instr::Advance,
+        Instr::Lit(1, 2),
+        Instr::Print(1),
+        Instr::Ret,
+    ];
+    assert_eq!(rt; module.shared().len(), 0);
+    let units = module.units();
+    assert_eq!(rt; units.len(), 2);
+    let (first, second) = (&units[0], &units[1]);
+    assert_eq!(rt; first.kind, UnitKind::Main);
+    assert_eq!(rt; first.params.len(), 0);
+    assert_eq!(rt; first.slots, 2);
+    assert!(rt; has_code(first, main.as_slice()));
+    assert_eq!(rt; second.kind, UnitKind::Body);
+    assert!(rt; second.params.as_slice() == [ParamKind::Clock].as_slice());
+    assert_eq!(rt; second.slots, 2);
+    assert!(rt; has_code(second, body.as_slice()));
+    Ok(())
+}
+
+/// A growth that was refused is the only reason to be out of memory: the same text is read the second time.
+#[test]
+fn reads_again_where_memory_was_refused(rt: HostRuntime) -> Result<(), Fail> {
+    let read = match read_module(rt.alloc(), STARTED.as_bytes()) {
+        Err(ModuleFault::OutOfMemory) => read_module(rt.alloc(), STARTED.as_bytes()),
+        answer => answer,
+    };
+    let module = read.ok().ok_or("a module")?;
+    let units = module.units();
+    assert_eq!(rt; units.len(), 2);
+    let (first, second) = (&units[0], &units[1]);
+    assert_eq!(rt; first.code.len(), 6);
+    assert_eq!(rt; second.code.len(), 4);
+    Ok(())
+}
+
+#[test]
+fn arguments_in_order(rt: HostRuntime) -> Result<(), Fail> {
+    let alloc = rt.alloc();
+    let code = "[\"spawn\",65535,[65535,7,0,7]],[\"spawn\",0,[]]";
+    let text = with_code(alloc, code)?;
+    let module = read_module(alloc, text.as_bytes()).ok().ok_or("a module")?;
+    let wanted = [
+        Instr::Spawn(65535, Args::new(vec![in alloc; 65535, 7, 0, 7]?)),
+        Instr::Spawn(0, Args::new(Vec::new(alloc))),
+    ];
+    assert!(rt; starts_with(&module, wanted.as_slice()));
+    Ok(())
+}
+
+#[test]
+fn at_most_64_arguments(rt: HostRuntime) -> Result<(), Fail> {
+    let alloc = rt.alloc();
+    let text = with_arguments(alloc, 64, "65535")?;
+    let module = read_module(alloc, text.as_bytes()).ok().ok_or("a module")?;
+    let mut slots = Vec::new(alloc);
+    for i in 0..63u16 {
+        slots.push(i * 1000)?;
+    }
+    slots.push(65535)?;
+    assert!(rt; starts_with(&module, [Instr::Spawn(1, Args::new(slots))].as_slice()));
+    let text = with_arguments(alloc, 65, "0")?;
+    assert_eq!(rt; fault(alloc, text.as_str()), Some(ModuleFault::Limit));
+    // What doesn't fit comes first.
+    for last in ["65536", "-1", "1.0", "\"0\"", "[0]", "null"] {
+        let text = with_arguments(alloc, 65, last)?;
+        assert_eq!(rt;
+            fault(alloc, text.as_str()),
+            Some(ModuleFault::NotAModule),
+            "{last}"
+        );
+    }
     Ok(())
 }
 
@@ -129,7 +265,9 @@ fn no_module(rt: HostRuntime) {
 #[test]
 fn no_unit(rt: HostRuntime) -> Result<(), Fail> {
     let units = [
-        "\"kind\":\"body\",\"params\":\"\",\"slots\":3,\"code\":[]",
+        "\"kind\":\"method\",\"params\":\"\",\"slots\":3,\"code\":[]",
+        "\"kind\":\"Body\",\"params\":\"\",\"slots\":3,\"code\":[]",
+        "\"kind\":1,\"params\":\"\",\"slots\":3,\"code\":[]",
         "\"kind\":\"main\",\"params\":\"x\",\"slots\":3,\"code\":[]",
         "\"kind\":\"main\",\"params\":[],\"slots\":3,\"code\":[]",
         "\"kind\":\"main\",\"params\":\"\",\"slots\":65536,\"code\":[]",
@@ -168,6 +306,24 @@ fn no_code(rt: HostRuntime) -> Result<(), Fail> {
         "[\"print\",[0]]",
         "[\"make\",\"0\"]",
         "[\"drop\",-1]",
+        "[\"spawn\"]",
+        "[\"spawn\",1]",
+        "[\"spawn\",1,[0],0]",
+        "[\"spawn\",1,0]",
+        "[\"spawn\",1,0,1]",
+        "[\"spawn\",1,\"0\"]",
+        "[\"spawn\",1,null]",
+        "[\"spawn\",1,{}]",
+        "[\"spawn\",1,[65536]]",
+        "[\"spawn\",1,[-1]]",
+        "[\"spawn\",1,[0,1.0]]",
+        "[\"spawn\",1,[\"0\"]]",
+        "[\"spawn\",1,[[0]]]",
+        "[\"spawn\",1,[null,0]]",
+        "[\"spawn\",[0],1]",
+        "[\"spawn\",65536,[]]",
+        "[\"spawn\",-1,[]]",
+        "[\"Spawn\",1,[]]",
     ];
     for code in codes {
         let text = with_code(rt.alloc(), code)?;
@@ -220,7 +376,7 @@ fn every_instruction_and_literal(rt: HostRuntime) -> Result<(), Fail> {
         Instr::Resume(4),
         Instr::Drop(5),
     ];
-    assert!(rt; instructions(&module).is_some_and(|code| code == found.as_slice()));
+    assert!(rt; starts_with(&module, found.as_slice()));
     Ok(())
 }
 

@@ -14,10 +14,11 @@ use xk_types::Module;
 
 /// Reads a module from its text, which is one JSON object in UTF-8 with the keys `version` (the number 1), `shared` (an
 /// array of whole numbers of 64 bits, signed) and `units` (an array of objects), and no other. A unit has the keys
-/// `kind` (`"main"`), `params` (a letter for each parameter, `n` for a number and `c` for a clock), `slots` (0 to
+/// `kind` (`"main"` or `"body"`), `params` (a letter for each parameter, `n` for a number and `c` for a clock), `slots` (0 to
 /// 65,535) and `code`, and no other. The code is an array of instructions, and an instruction an array of its name and
 /// its operands: `["lit",d,n]`, `["add",d,a,b]`, `["print",a]`, `["make",k]`, `["resume",k]`, `["drop",k]`,
-/// `["advance"]`, `["ret"]`, where n is a whole number of 64 bits, signed, and the others are slots from 0 to 65,535.
+/// `["advance"]`, `["spawn",u,[s,..]]`, `["ret"]`, where n is a whole number of 64 bits, signed, u is a unit from 0 to 65,535, and
+/// the others are slots from 0 to 65,535; the array of a `spawn` has the slots of its arguments, in order.
 ///
 /// Keys come in any order, and white space is free; of a key that comes twice the last value counts. `1.0`, `1e0` and `-0` are
 /// no whole numbers. The limits of a module count only where the whole value fits.
