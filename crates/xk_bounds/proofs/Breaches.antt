@@ -14,54 +14,54 @@ use Rattle.xk_bounds.specs.Breach.{IsNowhereBroken, IsLeastBreach, IsFirstPlace}
 use Rattle.xk_bounds.specs.Straight.{IsStraight}
 
 -- behind the code nothing is broken
-pub breaks_past : (r : Rule) (unit : ℕ) (u : UnitValue) (at : ℕ) → length u.code ≤ at → 0 < at → breaks_in r unit u at ≡ false
-breaks_past rule.Target unit u at h p = refl
-breaks_past rule.Block unit u at h p = refl
-breaks_past rule.Slot unit u at h p = rw (slice_get_past u.code at h) refl
-breaks_past rule.Unit unit u at h p = rw (ne_eqb at 0 (λ e. omega arith)) refl
-breaks_past rule.Cell unit u at h p = refl
-breaks_past rule.Loop unit u at h p = refl
-breaks_past rule.End unit u at h p = rw (slice_get_past u.code at h, ne_eqb at 0 (λ e. omega arith)) refl
-breaks_past rule.Home unit u at h p = rw (slice_get_past u.code at h) refl
-breaks_past rule.Registers unit u at h p = refl
-breaks_past rule.SameClock unit u at h p = refl
-breaks_past rule.Use unit u at h p = refl
-breaks_past rule.Held unit u at h p = refl
-breaks_past rule.Leak unit u at h p = refl
-breaks_past rule.Steps unit u at h p = refl
-breaks_past rule.Activities unit u at h p = refl
-breaks_past rule.Clocks unit u at h p = refl
-breaks_past rule.Stack unit u at h p = refl
+pub breaks_past : (m : ModuleValue) (r : Rule) (unit : ℕ) (u : UnitValue) (at : ℕ) → length u.code ≤ at → 0 < at → breaks_in m r unit u at ≡ false
+breaks_past m rule.Target unit u at h p = refl
+breaks_past m rule.Block unit u at h p = refl
+breaks_past m rule.Slot unit u at h p = rw (slice_get_past u.code at h) refl
+breaks_past m rule.Unit unit u at h p = rw (slice_get_past u.code at h, ne_eqb at 0 (λ e. omega arith)) refl
+breaks_past m rule.Cell unit u at h p = refl
+breaks_past m rule.Loop unit u at h p = refl
+breaks_past m rule.End unit u at h p = rw (slice_get_past u.code at h, ne_eqb at 0 (λ e. omega arith)) refl
+breaks_past m rule.Home unit u at h p = rw (slice_get_past u.code at h) refl
+breaks_past m rule.Registers unit u at h p = refl
+breaks_past m rule.SameClock unit u at h p = rw (slice_get_past u.code at h) refl
+breaks_past m rule.Use unit u at h p = refl
+breaks_past m rule.Held unit u at h p = refl
+breaks_past m rule.Leak unit u at h p = refl
+breaks_past m rule.Steps unit u at h p = refl
+breaks_past m rule.Activities unit u at h p = refl
+breaks_past m rule.Clocks unit u at h p = refl
+breaks_past m rule.Stack unit u at h p = refl
 
 -- no place of a unit that exists not breaks a rule
-breaks_none : (r : Rule) (unit at : ℕ) (o : Option UnitValue) → ((u : UnitValue) → breaks_in r unit u at ≡ false) → breaks_unit_of r unit o at ≡ false
-breaks_none r unit at None h = refl
-breaks_none r unit at (Some u) h = h u
+breaks_none : (m : ModuleValue) (r : Rule) (unit at : ℕ) (o : Option UnitValue) → ((u : UnitValue) → breaks_in m r unit u at ≡ false) → breaks_unit_of m r unit o at ≡ false
+breaks_none m r unit at None h = refl
+breaks_none m r unit at (Some u) h = h u
 
 -- a rule that no unit breaks is broken nowhere
-never_broken : (m : ModuleValue) (r : Rule) → ((unit : ℕ) (u : UnitValue) (at : ℕ) → breaks_in r unit u at ≡ false) → IsNowhereBroken m r
-never_broken m r h = λ unit at. breaks_none r unit at (slice_get m.units unit) (λ u. h unit u at)
+never_broken : (m : ModuleValue) (r : Rule) → ((unit : ℕ) (u : UnitValue) (at : ℕ) → breaks_in m r unit u at ≡ false) → IsNowhereBroken m r
+never_broken m r h = λ unit at. breaks_none m r unit at (slice_get m.units unit) (λ u. h unit u at)
 
--- of the rules below a number only four have to be looked at
-pub nowhere_below : (m : ModuleValue) (n : ℕ) → (3 < n → IsNowhereBroken m rule.Slot) → (4 < n → IsNowhereBroken m rule.Unit) → (7 < n → IsNowhereBroken m rule.End) → (8 < n → IsNowhereBroken m rule.Home)
+-- of the rules below a number only five have to be looked at
+pub nowhere_below : (m : ModuleValue) (n : ℕ) → (3 < n → IsNowhereBroken m rule.Slot) → (4 < n → IsNowhereBroken m rule.Unit) → (7 < n → IsNowhereBroken m rule.End) → (8 < n → IsNowhereBroken m rule.Home) → (10 < n → IsNowhereBroken m rule.SameClock)
     → (r : Rule) → rule_number r < n → IsNowhereBroken m r
-nowhere_below m n slot unit end home rule.Target lt = never_broken m rule.Target (λ _ _ _. refl)
-nowhere_below m n slot unit end home rule.Block lt = never_broken m rule.Block (λ _ _ _. refl)
-nowhere_below m n slot unit end home rule.Slot lt = slot lt
-nowhere_below m n slot unit end home rule.Unit lt = unit lt
-nowhere_below m n slot unit end home rule.Cell lt = never_broken m rule.Cell (λ _ _ _. refl)
-nowhere_below m n slot unit end home rule.Loop lt = never_broken m rule.Loop (λ _ _ _. refl)
-nowhere_below m n slot unit end home rule.End lt = end lt
-nowhere_below m n slot unit end home rule.Home lt = home lt
-nowhere_below m n slot unit end home rule.Registers lt = never_broken m rule.Registers (λ _ _ _. refl)
-nowhere_below m n slot unit end home rule.SameClock lt = never_broken m rule.SameClock (λ _ _ _. refl)
-nowhere_below m n slot unit end home rule.Use lt = never_broken m rule.Use (λ _ _ _. refl)
-nowhere_below m n slot unit end home rule.Held lt = never_broken m rule.Held (λ _ _ _. refl)
-nowhere_below m n slot unit end home rule.Leak lt = never_broken m rule.Leak (λ _ _ _. refl)
-nowhere_below m n slot unit end home rule.Steps lt = never_broken m rule.Steps (λ _ _ _. refl)
-nowhere_below m n slot unit end home rule.Activities lt = never_broken m rule.Activities (λ _ _ _. refl)
-nowhere_below m n slot unit end home rule.Clocks lt = never_broken m rule.Clocks (λ _ _ _. refl)
-nowhere_below m n slot unit end home rule.Stack lt = never_broken m rule.Stack (λ _ _ _. refl)
+nowhere_below m n slot unit end home same rule.Target lt = never_broken m rule.Target (λ _ _ _. refl)
+nowhere_below m n slot unit end home same rule.Block lt = never_broken m rule.Block (λ _ _ _. refl)
+nowhere_below m n slot unit end home same rule.Slot lt = slot lt
+nowhere_below m n slot unit end home same rule.Unit lt = unit lt
+nowhere_below m n slot unit end home same rule.Cell lt = never_broken m rule.Cell (λ _ _ _. refl)
+nowhere_below m n slot unit end home same rule.Loop lt = never_broken m rule.Loop (λ _ _ _. refl)
+nowhere_below m n slot unit end home same rule.End lt = end lt
+nowhere_below m n slot unit end home same rule.Home lt = home lt
+nowhere_below m n slot unit end home same rule.Registers lt = never_broken m rule.Registers (λ _ _ _. refl)
+nowhere_below m n slot unit end home same rule.SameClock lt = same lt
+nowhere_below m n slot unit end home same rule.Use lt = never_broken m rule.Use (λ _ _ _. refl)
+nowhere_below m n slot unit end home same rule.Held lt = never_broken m rule.Held (λ _ _ _. refl)
+nowhere_below m n slot unit end home same rule.Leak lt = never_broken m rule.Leak (λ _ _ _. refl)
+nowhere_below m n slot unit end home same rule.Steps lt = never_broken m rule.Steps (λ _ _ _. refl)
+nowhere_below m n slot unit end home same rule.Activities lt = never_broken m rule.Activities (λ _ _ _. refl)
+nowhere_below m n slot unit end home same rule.Clocks lt = never_broken m rule.Clocks (λ _ _ _. refl)
+nowhere_below m n slot unit end home same rule.Stack lt = never_broken m rule.Stack (λ _ _ _. refl)
 
 -- every rule has a number below 18
 number_small : (r : Rule) → rule_number r < 18
@@ -83,9 +83,9 @@ number_small rule.Activities = omega arith
 number_small rule.Clocks = omega arith
 number_small rule.Stack = omega arith
 
--- a module has the shape where none of the four is broken
-pub shape_from : (m : ModuleValue) → IsNowhereBroken m rule.Slot → IsNowhereBroken m rule.Unit → IsNowhereBroken m rule.End → IsNowhereBroken m rule.Home → HasShape m
-shape_from m slot unit end home = λ r. nowhere_below m 18 (λ _. slot) (λ _. unit) (λ _. end) (λ _. home) r (number_small r)
+-- a module has the shape where none of the five is broken
+pub shape_from : (m : ModuleValue) → IsNowhereBroken m rule.Slot → IsNowhereBroken m rule.Unit → IsNowhereBroken m rule.End → IsNowhereBroken m rule.Home → IsNowhereBroken m rule.SameClock → HasShape m
+shape_from m slot unit end home same = λ r. nowhere_below m 18 (λ _. slot) (λ _. unit) (λ _. end) (λ _. home) (λ _. same) r (number_small r)
 
 -- the least breach of a rule is the fault, where no rule of smaller number is broken
 pub fault_from : (m : ModuleValue) (r : Rule) (f : ShapeFault) → IsLeastBreach m r f → ((r' : Rule) → rule_number r' < rule_number r → IsNowhereBroken m r') → IsShapeFault m f
@@ -102,11 +102,11 @@ module _ (m : ModuleValue) (r : Rule) where
   abbrev pub IsUnbrokenBelow : ℕ → Type 0
   IsUnbrokenBelow n = (unit at : ℕ) → unit < n → breaks m r unit at ≡ false
 
-  breaks_of : (unit : ℕ) (u : UnitValue) → slice_get m.units unit ≡ Some u → (at : ℕ) → breaks m r unit at ≡ breaks_in r unit u at
-  breaks_of unit u found at = ap (λ o. breaks_unit_of r unit o at) found
+  breaks_of : (unit : ℕ) (u : UnitValue) → slice_get m.units unit ≡ Some u → (at : ℕ) → breaks m r unit at ≡ breaks_in m r unit u at
+  breaks_of unit u found at = ap (λ o. breaks_unit_of m r unit o at) found
 
   -- one unit more
-  pub unbroken_more : (n : ℕ) (u : UnitValue) → slice_get m.units n ≡ Some u → IsUnbrokenBelow n → ((at : ℕ) → breaks_in r n u at ≡ false) → IsUnbrokenBelow (n + 1)
+  pub unbroken_more : (n : ℕ) (u : UnitValue) → slice_get m.units n ≡ Some u → IsUnbrokenBelow n → ((at : ℕ) → breaks_in m r n u at ≡ false) → IsUnbrokenBelow (n + 1)
   unbroken_more n u found below here = λ unit at lt.
       elim (cases_lt unit n) [
         | inl before ↦ below unit at before
@@ -125,7 +125,7 @@ module _ (m : ModuleValue) (r : Rule) where
       ]
 
   -- the first place of the first unit that has one
-  pub least_breach : (unit : ℕ) (u : UnitValue) (at : ℕ) → slice_get m.units unit ≡ Some u → IsUnbrokenBelow unit → IsFirstPlace r unit u (Some at) → IsLeastBreach m r (record { rule = r; unit = unit; at = at })
+  pub least_breach : (unit : ℕ) (u : UnitValue) (at : ℕ) → slice_get m.units unit ≡ Some u → IsUnbrokenBelow unit → IsFirstPlace m r unit u (Some at) → IsLeastBreach m r (record { rule = r; unit = unit; at = at })
   least_breach unit u at found below first = record {
     rule = refl;
     broken = breaks_of unit u found at ∙ first.0;
@@ -147,15 +147,9 @@ module _ (m : ModuleValue) (r : Rule) where
 
 -- ---- what code without a breach is like
 
--- the unit with the number 0, without parameters
-main_from : (unit : ℕ) (u : UnitValue) → breaks_in rule.Unit unit u 0 ≡ false → (unit ≡ 0) × (length u.params ≡ 0)
-main_from unit u h =
-    let both = and_parts (eqb unit 0) (eqb (length u.params) 0) (not-false (eqb unit 0 && eqb (length u.params) 0) h) in
-    (eqb-true unit 0 both.0, eqb-true (length u.params) 0 both.1)
-
 -- an instruction before the last is no `ret`
-goes_on_from : (unit : ℕ) (u : UnitValue) (at : ℕ) (i : Instr) → slice_get u.code at ≡ Some i → at + 1 < length u.code → breaks_in rule.End unit u at ≡ false → is_ret i ≡ false
-goes_on_from unit u at i found more h =
+goes_on_from : (m : ModuleValue) (unit : ℕ) (u : UnitValue) (at : ℕ) (i : Instr) → slice_get u.code at ≡ Some i → at + 1 < length u.code → breaks_in m rule.End unit u at ≡ false → is_ret i ≡ false
+goes_on_from m unit u at i found more h =
     let early : Option Instr → Bool = λ o. instr_is (λ x. is_ret x && nat_lt (at + 1) (length u.code)) o in
     let late : Option Instr → Bool = λ o. instr_is (λ x. not (is_ret x) && eqb (at + 1) (length u.code)) o in
     let none = eqb at 0 && eqb (length u.code) 0 in
@@ -169,12 +163,9 @@ goes_on_from unit u at i found more h =
     ]
 
 module _ (m : ModuleValue) (shape : HasShape m) (unit : ℕ) (u : UnitValue) (found : slice_get m.units unit ≡ Some u) where
-  unbroken : (r : Rule) (at : ℕ) → breaks_in r unit u at ≡ false
-  unbroken r at = sym (ap (λ o. breaks_unit_of r unit o at) found) ∙ shape r unit at
+  unbroken : (r : Rule) (at : ℕ) → breaks_in m r unit u at ≡ false
+  unbroken r at = sym (ap (λ o. breaks_unit_of m r unit o at) found) ∙ shape r unit at
 
   -- its code is straight
   pub straight_from : IsStraight u
-  straight_from = record {
-    params = (main_from unit u (unbroken rule.Unit 0)).1;
-    goes_on = λ at i here more. goes_on_from unit u at i here more (unbroken rule.End at);
-  }
+  straight_from at i here more = goes_on_from m unit u at i here more (unbroken rule.End at)

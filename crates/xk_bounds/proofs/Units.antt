@@ -12,7 +12,7 @@ use Rattle.xk_bounds.specs.declared.kinds.KindError.{KindError}
 use Rattle.xk_bounds.specs.declared.kinds.KindError.TheVariants.{Fault, OutOfMemory}
 use Rattle.xk_bounds.specs.Place.{visit, IsReached}
 use Rattle.xk_bounds.specs.Refused.{IsKindFault, IsNeverRefused}
-use Rattle.xk_bounds.specs.Straight.{IsTheKind, IsRefusedIn, IsNeverRefusedIn, IsUnitFault, FailsUnit, FailsModule}
+use Rattle.xk_bounds.specs.Straight.{IsRefusedIn, IsNeverRefusedIn, IsUnitFault, FailsUnit, FailsModule}
 
 -- a place of the module that is refused is refused in its unit
 refused_in : (m : ModuleValue) (unit : ℕ) (u : UnitValue) (s : ℕ) (q : Visit) (r : Rule) → slice_get m.units unit ≡ Some u → IsRefusedAt m unit s q r → IsRefusedIn m u s q r
@@ -54,21 +54,11 @@ never_refused m h unit s q r refused = h unit refused.u refused.found s q r (ref
 
 module _ (m : ModuleValue) (unit : ℕ) (u : UnitValue) (s at : ℕ) (found : slice_get m.units unit ≡ Some u) where
   -- what is reached in the module is visited in the unit
-  reached_in : (k : Kind) → IsReached m unit s (visit at k) → IsVisited m u s (visit at k)
+  pub reached_in : (k : Kind) → IsReached m unit s (visit at k) → IsVisited m u s (visit at k)
   reached_in k h =
       let P : UnitValue → Type 0 = λ v. IsVisited m v s (visit at k) in
       subst P (same_Some _ _ (sym h.found ∙ found)) h.visited
 
-  -- the one kind is reached
-  pub one_reached : (one : Kind) → IsTheKind m u s at one → (k : Kind) → k ≡ one → IsReached m unit s (visit at k)
-  one_reached one h k same =
-      let P : Kind → Type 0 = λ x. IsVisited m u s (visit at x) in
-      record { u = u; found = found; visited = subst P (sym same) h.visited }
-
-  -- and no other
-  pub reached_one : (one : Kind) → IsTheKind m u s at one → (k : Kind) → IsReached m unit s (visit at k) → k ≡ one
-  reached_one one h k r = h.only k (reached_in k r)
-
-  -- what isn't visited isn't reached
-  pub none_reached : ((k : Kind) → IsVisited m u s (visit at k) → ⊥) → (k : Kind) → IsReached m unit s (visit at k) → ⊥
-  none_reached none k r = none k (reached_in k r)
+  -- and the other way round
+  pub visited_reached : (k : Kind) → IsVisited m u s (visit at k) → IsReached m unit s (visit at k)
+  visited_reached k v = record { u = u; found = found; visited = v }

@@ -17,6 +17,6 @@ pub record IsLeastBreach (m : ModuleValue) (r : Rule) (f : ShapeFault) : Type 0 
   pub least : (unit at : ℕ) → breaks m r unit at ≡ true → NotAfter (f.unit ∷ f.at ∷ []) (unit ∷ at ∷ [])
 
 -- the first instruction of a unit that breaks the rule, if one does
-abbrev pub IsFirstPlace : Rule → ℕ → UnitValue → Option ℕ → Type 0
-IsFirstPlace r unit u None = (at : ℕ) → breaks_in r unit u at ≡ false
-IsFirstPlace r unit u (Some first) = (breaks_in r unit u first ≡ true) × ((at : ℕ) → at < first → breaks_in r unit u at ≡ false)
+abbrev pub IsFirstPlace : ModuleValue → Rule → ℕ → UnitValue → Option ℕ → Type 0
+IsFirstPlace m r unit u None = (at : ℕ) → breaks_in m r unit u at ≡ false
+IsFirstPlace m r unit u (Some first) = (breaks_in m r unit u first ≡ true) × ((at : ℕ) → at < first → breaks_in m r unit u at ≡ false)

@@ -1,9 +1,30 @@
 -- The bounds of a module, as the verifier holds them.
-use Rattle.std.specs.Prelude.{◌≡◌}
-use Rattle.xk_types.specs.Code.{ModuleValue, IsWithinLimits}
-use Rattle.xk_types.specs.Bound.{steps_bound, activities_bound, clocks_bound, stack_bound}
+use Rattle.std.specs.Prelude.{◌≡◌, ℕ, ◌+◌, min, List, sum_by, slice_index}
+use Rattle.std.specs.Option.{option_map_or}
+use Rattle.xk_types.specs.declared.instr.Instr.{Instr}
+use Rattle.xk_types.specs.Code.{ModuleValue, IsWithinLimits, unit_started}
+use Rattle.xk_types.specs.Bound.{total, steps_weight, activities_weight, clocks_weight, steps_bound, activities_bound, clocks_bound, stack_bound}
 use Rattle.xk_types.specs.Accepted.{IsAccepted}
 use Rattle.xk_bounds.specs.declared.bounds.Bounds.{Bounds}
+use Rattle.xk_bounds.specs.declared.bounds.Quantity.{Quantity}
+use Rattle.xk_bounds.specs.declared.bounds.Quantity.TheVariants as quantity
+
+-- what an instruction itself adds to a quantity
+abbrev pub weight_of : Quantity → Instr → ℕ
+weight_of quantity.Steps i = steps_weight i
+weight_of quantity.Activities i = activities_weight i
+weight_of quantity.Clocks i = clocks_weight i
+
+-- what it adds with the unit that it starts, where a table says what each unit adds
+abbrev pub added : (Instr → ℕ) → (ℕ → ℕ) → Instr → ℕ
+added weight table i = weight i + option_map_or table (unit_started i) 0
+
+-- they are those of the module, but that a number above `cut` is told as `cut`
+pub record AreCut (m : ModuleValue) (cut : ℕ) (b : Bounds) : Type 0 where
+  pub steps : b.steps ≡ min (steps_bound m) cut
+  pub activities : b.activities ≡ min (total activities_weight m 0) cut + 1
+  pub clocks : b.clocks ≡ min (clocks_bound m) cut
+  pub stack : b.stack ≡ stack_bound m
 
 -- they are those of the module
 pub record AreBounds (m : ModuleValue) (b : Bounds) : Type 0 where

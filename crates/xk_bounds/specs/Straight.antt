@@ -1,10 +1,12 @@
 -- Kinds along straight code: what the verifier's passes over it say.
-use Rattle.std.specs.Prelude.{◌≡◌, ℕ, ◌+◌, ◌<◌, false, List, [], ◌∷◌, length, Some, slice_get, slice_index_or, Result, Ok, Err}
+use Rattle.std.specs.Prelude.{◌≡◌, ℕ, ◌+◌, ◌<◌, ◌⊎◌, false, List, [], ◌∷◌, length, Option, Some, None, slice_get, slice_index_or, Result, Ok, Err}
 use Rattle.xk_types.specs.declared.instr.Instr.{Instr}
 use Rattle.xk_types.specs.declared.rules.Rule.{Rule}
 use Rattle.xk_types.specs.declared.rules.Kind.{Kind}
 use Rattle.xk_types.specs.declared.rules.Kind.TheVariants as kind
 use Rattle.xk_types.specs.declared.rules.Visit.{Visit}
+use Rattle.xk_types.specs.declared.unit.ParamKind.{ParamKind}
+use Rattle.xk_types.specs.declared.unit.ParamKind.TheVariants as param
 use Rattle.xk_types.specs.Code.{UnitValue, ModuleValue}
 use Rattle.xk_types.specs.Names.{kind_place}
 use Rattle.xk_types.specs.Order.{NotAfter}
@@ -19,10 +21,23 @@ use Rattle.xk_bounds.specs.declared.kinds.Stop.{Stop}
 use Rattle.xk_bounds.specs.Place.{visit}
 use Rattle.xk_bounds.specs.Refused.{IsKindFault}
 
--- a unit without parameters whose walks go on to its last instruction
-pub record IsStraight (u : UnitValue) : Type 0 where
-  pub params : length u.params ≡ 0
-  pub goes_on : (at : ℕ) (i : Instr) → slice_get u.code at ≡ Some i → at + 1 < length u.code → is_ret i ≡ false
+-- each instruction of the unit but its last leads to the next
+abbrev pub IsStraight : UnitValue → Type 0
+IsStraight u = (at : ℕ) (i : Instr) → slice_get u.code at ≡ Some i → at + 1 < length u.code → is_ret i ≡ false
+
+-- the least kind that a slot may have before the first instruction
+abbrev pub least_of : Option ParamKind → Kind
+least_of None = kind.Unset
+least_of (Some param.Number) = kind.Number
+least_of (Some param.Clock) = kind.Live
+
+abbrev pub least_entry : UnitValue → ℕ → Kind
+least_entry u s = least_of (slice_get u.params s)
+
+-- No instruction tells a clock that is live from one that is resumed: it refuses both or neither, by the same rule. So
+-- where the least kind is live, some walk may have resumed in its place; else there is no other.
+abbrev pub IsAlike : Kind → Kind → Type 0
+IsAlike k other = (other ≡ k) ⊎ ((k ≡ kind.Live) × (other ≡ kind.Resumed))
 
 -- one kind afterwards, or the rule that refuses
 abbrev pub IsRow : After → Result Kind Rule → Type 0
@@ -33,10 +48,15 @@ IsRow a (Err r) = a ≡ Refused r
 abbrev pub kind_in : List Kind → ℕ → Kind
 kind_in ks s = slice_index_or ks s kind.Unset
 
--- every walk of the slot that ends at the instruction has this kind there, and one does
-pub record IsTheKind (m : ModuleValue) (u : UnitValue) (s at : ℕ) (k : Kind) : Type 0 where
+-- some walk of the slot that ends at the instruction has this kind there, and no walk has another that isn't like it
+pub record IsLeastKind (m : ModuleValue) (u : UnitValue) (s at : ℕ) (k : Kind) : Type 0 where
   pub visited : IsVisited m u s (visit at k)
-  pub only : (other : Kind) → IsVisited m u s (visit at other) → other ≡ k
+  pub alike : (other : Kind) → IsVisited m u s (visit at other) → IsAlike k other
+
+-- the row has the least kind of each slot before the first instruction
+pub record IsFirstRow (u : UnitValue) (row : List Kind) : Type 0 where
+  pub slots : length row ≡ u.slots
+  pub each : (s : ℕ) → s < u.slots → kind_in row s ≡ least_entry u s
 
 -- the instruction leaves of each kind of the old row the one of the new row
 pub record IsNextRow (m : ModuleValue) (u : UnitValue) (i : Instr) (old new : List Kind) : Type 0 where

@@ -1,12 +1,15 @@
 //! The bounds on runs.
 
-ghost use Rattle.std.specs.Prelude.{◌≡◌, ◌<◌, ◌≤◌, length, sum_by, MatchResult};
-ghost use Rattle.xk_types.specs.Code.{ModuleValue};
-ghost use Rattle.xk_types.specs.Bound.{steps_weight, clocks_weight, stack_bound, IsWithinBounds};
+ghost use Rattle.std.specs.Prelude.{◌≡◌, ◌+◌, ◌<◌, ◌≤◌, min, length, sum_by, slice_index, IfOk, MatchResult};
+ghost use Rattle.std.specs.Option.{option_map_or};
+ghost use Rattle.xk_types.specs.Code.{ModuleValue, unit_started};
+ghost use Rattle.xk_types.specs.Shape.{HasShape};
+ghost use Rattle.xk_types.specs.Bound.{total, stack_bound, IsWithinBounds};
 ghost use Rattle.xk_bounds.specs.Refused.{IsBoundFault};
-ghost use Rattle.xk_bounds.specs.Measure.{AreBounds};
+ghost use Rattle.xk_bounds.specs.Measure.{AreBounds, AreCut, added, weight_of};
 
 use crate::refusal::BoundFault;
+use std::alloc::{AllocError, Global};
 use xk_types::{Instr, Module, Rule};
 
 /// The most that a run of a module may take.
@@ -27,24 +30,36 @@ const MAX_CLOCKS: u32 = 100_000;
 
 const MAX_STACK: u32 = 4096;
 
+/// Larger than each limit: a greater number is told as this one, so that no sum grows without end.
+const CUT: u64 = 1_000_000_001;
+
+/// What is counted of a run.
+#[derive(Clone, Copy)]
+enum Quantity {
+    Steps,
+    /// The activities that are started.
+    Activities,
+    Clocks,
+}
+
 impl Bounds {
-    /// The bounds of a module. No instruction starts an activity, so there is main alone.
-    pub(crate) fn of(m: &Module) -> Bounds
-        ensures { AreBounds m.now result }
+    /// The bounds of a module, each cut at `CUT`.
+    pub(crate) fn of(alloc: Global, m: &Module) -> Result<Bounds, AllocError>
+        requires { HasShape m.now }
+        ensures { IfOk result (AreCut m.now CUT) }
     {
-        let main = &m.units()[0];
-        Bounds {
-            steps: steps_of(&main.code),
-            activities: 1,
-            clocks: clocks_of(&main.code),
+        Ok(Bounds {
+            steps: most(alloc, m, Quantity::Steps)?,
+            activities: most(alloc, m, Quantity::Activities)? as u32 + 1,
+            clocks: most(alloc, m, Quantity::Clocks)? as u32,
             stack: stack_of(m),
-        }
+        })
     }
 
-    /// Tries the rules on bounds in the order of their numbers.
+    /// Tries the rules on bounds in the order of their numbers. Bounds that are within their limits aren't cut.
     pub(crate) fn check(&self) -> Result<(), BoundFault>
-        ensures { (m : ModuleValue) → AreBounds m self.now
-            → MatchResult result (λ _. IsWithinBounds m) (IsBoundFault m) }
+        ensures { (m : ModuleValue) → AreCut m CUT self.now
+            → MatchResult result (λ _. IsWithinBounds m × AreBounds m self.now) (IsBoundFault m) }
     {
         within(Rule::Steps, self.steps, MAX_STEPS)?;
         within(
@@ -70,33 +85,68 @@ fn within(rule: Rule, bound: u64, limit: u64) -> Result<(), BoundFault>
     }
 }
 
-/// The steps of these instructions, each carried out once.
-fn steps_of(code: &[Instr]) -> u64
-    requires { length code.now ≤ 4096 }
-    ensures { result ≡ sum_by steps_weight code.now }
+/// The most that a run of main takes, with all that it starts, cut at `CUT`. A unit starts only units of greater number,
+/// so that the table is filled from the last unit on.
+fn most(alloc: Global, m: &Module, counted: Quantity) -> Result<u64, AllocError>
+    requires { HasShape m.now }
+    ensures { IfOk result (λ n. n ≡ min (total (weight_of counted) m.now 0) CUT) }
 {
-    let mut steps = 0;
-    for instr in code {
-        steps += match instr {
-            Instr::Advance => 2,
-            _ => 1,
-        };
+    let units = m.units();
+    let mut table = vec![in alloc; 0; units.len()]?;
+    for unit in (0..units.len()).rev() {
+        let u = &units[unit];
+        let most = most_of(counted, &u.code, &table);
+        table[unit] = most;
     }
-    steps
+    Ok(table[0])
 }
 
-/// The clocks that these instructions make.
-fn clocks_of(code: &[Instr]) -> u32
-    requires { length code.now ≤ 4096 }
-    ensures { result ≡ sum_by clocks_weight code.now }
+/// The most that these instructions take, with what the table says of the units that they start, cut at `CUT`.
+fn most_of(counted: Quantity, code: &[Instr], table: &[u64]) -> u64
+    ensures { result ≡ min (sum_by (added (weight_of counted) (slice_index table.now)) code.now) CUT }
 {
-    let mut clocks = 0;
+    let mut most = 0;
     for instr in code {
-        if let Instr::Make(_) = instr {
-            clocks += 1;
-        }
+        most = cut_sum(cut_sum(most, weight(counted, instr)), started(instr, table));
     }
-    clocks
+    most
+}
+
+/// What the table says of the unit that the instruction starts.
+fn started(instr: &Instr, table: &[u64]) -> u64
+    ensures { result ≡ option_map_or (slice_index table.now) (unit_started instr.now) 0 }
+{
+    match instr {
+        Instr::Spawn(unit, _) => table.get(*unit as usize).copied().unwrap_or(0),
+        _ => 0,
+    }
+}
+
+/// What the instruction itself takes.
+fn weight(counted: Quantity, instr: &Instr) -> u64
+    ensures { result ≡ weight_of counted instr.now }
+{
+    match counted {
+        Quantity::Steps => match instr {
+            Instr::Advance => 2,
+            _ => 1,
+        },
+        Quantity::Activities => match instr {
+            Instr::Spawn(_, _) => 1,
+            _ => 0,
+        },
+        Quantity::Clocks => match instr {
+            Instr::Make(_) => 1,
+            _ => 0,
+        },
+    }
+}
+
+/// The sum, cut at `CUT`.
+fn cut_sum(a: u64, b: u64) -> u64
+    ensures { result ≡ min (a + b) CUT }
+{
+    a.saturating_add(b).min(CUT)
 }
 
 /// The greatest number of slots of a unit.

@@ -1,14 +1,14 @@
 //! The rules on the shape of code.
 
 ghost use Rattle.std.specs.Prelude.{◌≡◌, ℕ, ◌+◌, ◌<◌, ◌≤◌, ◌||◌, ◌&&◌, not, ◌==◌, nat_lt, false, true, length, slice_get, OnOk, IfErr, MatchResult, MatchOption};
-ghost use Rattle.std.specs.List.{list_all};
-ghost use Rattle.xk_types.specs.Code.{IsUnitWithinLimits};
-ghost use Rattle.xk_types.specs.Shape.{breaks_in, breaks_slot, breaks_unit, breaks_end, breaks_home, slots_named, is_ret, makes_below, HasShape};
+ghost use Rattle.std.specs.List.{list_all, list_any};
+ghost use Rattle.xk_types.specs.Code.{IsUnitWithinLimits, params_of};
+ghost use Rattle.xk_types.specs.Shape.{breaks_in, breaks_slot, is_in_place, starts_amiss, instr_is, is_startable, breaks_end, breaks_home, clock_arguments, has_twice, gives_twice, breaks_same_clock, slots_named, is_ret, makes_below, HasShape};
 ghost use Rattle.xk_bounds.specs.Refused.{IsShapeFault};
 ghost use Rattle.xk_bounds.specs.Breach.{IsNowhereBroken, IsLeastBreach, IsFirstPlace};
 
 use crate::refusal::ShapeFault;
-use xk_types::{Instr, Module, Rule, Unit};
+use xk_types::{Args, Instr, Module, ParamKind, Rule, Unit, UnitKind};
 
 /// Tries the rules on shape in the order of their numbers, each over the whole module by rising unit and instruction.
 /// Takes no memory.
@@ -19,7 +19,8 @@ pub(crate) fn check_shape(m: &Module) -> Result<(), ShapeFault>
     check_rule(m, Rule::Slot)?;
     check_rule(m, Rule::Unit)?;
     check_rule(m, Rule::End)?;
-    check_rule(m, Rule::Home)
+    check_rule(m, Rule::Home)?;
+    check_rule(m, Rule::SameClock)
 }
 
 /// Looks for the least place that breaks the rule.
@@ -28,7 +29,7 @@ fn check_rule(m: &Module, rule: Rule) -> Result<(), ShapeFault>
 {
     let mut unit = 0;
     for u in m.units() {
-        if let Some(at) = first_place(rule, unit, u) {
+        if let Some(at) = first_place(m, rule, unit, u) {
             return Err(ShapeFault { rule, unit, at });
         }
         unit += 1;
@@ -37,13 +38,13 @@ fn check_rule(m: &Module, rule: Rule) -> Result<(), ShapeFault>
 }
 
 /// The least instruction of a unit that breaks the rule.
-fn first_place(rule: Rule, unit: u16, u: &Unit) -> Option<u16>
+fn first_place(m: &Module, rule: Rule, unit: u16, u: &Unit) -> Option<u16>
     requires { IsUnitWithinLimits u.now }
-    ensures { IsFirstPlace rule unit u.now result }
+    ensures { IsFirstPlace m.now rule unit u.now result }
 {
     let places = u.code.len().max(1) as u16;
     for at in 0..places {
-        if breaks_rule(rule, unit, u, at) {
+        if breaks_rule(m, rule, unit, u, at) {
             return Some(at);
         }
     }
@@ -51,21 +52,21 @@ fn first_place(rule: Rule, unit: u16, u: &Unit) -> Option<u16>
 }
 
 /// Whether an instruction of a unit breaks the rule. A fault of the whole unit is one of instruction 0.
-fn breaks_rule(rule: Rule, unit: u16, u: &Unit, at: u16) -> bool
+fn breaks_rule(m: &Module, rule: Rule, unit: u16, u: &Unit, at: u16) -> bool
     requires { IsUnitWithinLimits u.now }
-    ensures { result ≡ breaks_in rule unit u.now at }
+    ensures { result ≡ breaks_in m.now rule unit u.now at }
 {
     match rule {
         Rule::Slot => names_missing_slot(u, at),
-        Rule::Unit => at == 0 && !(unit == 0 && u.params.is_empty()),
+        Rule::Unit => (at == 0 && !is_in_place(unit, u)) || starts_wrongly(m, unit, u, at),
         Rule::End => ends_wrongly(u, at),
         Rule::Home => makes_param(u, at),
+        Rule::SameClock => gives_clock_twice(m, u, at),
         Rule::Target
         | Rule::Block
         | Rule::Cell
         | Rule::Loop
         | Rule::Registers
-        | Rule::SameClock
         | Rule::Use
         | Rule::Held
         | Rule::Leak
@@ -90,15 +91,48 @@ fn names_missing_slot(u: &Unit, at: u16) -> bool
 fn names_below(instr: &Instr, slots: u16) -> bool
     ensures { result ≡ list_all (λ s. nat_lt s slots) (slots_named instr.now) }
 {
-    match *instr {
-        Instr::Lit(d, _) => d < slots,
-        Instr::Add(d, x, y) => d < slots && x < slots && y < slots,
-        Instr::Print(x) => x < slots,
-        Instr::Make(d) => d < slots,
-        Instr::Resume(c) => c < slots,
-        Instr::Drop(c) => c < slots,
+    match instr {
+        Instr::Lit(d, _) => *d < slots,
+        Instr::Add(d, x, y) => *d < slots && *x < slots && *y < slots,
+        Instr::Print(x) => *x < slots,
+        Instr::Make(d) => *d < slots,
+        Instr::Resume(c) => *c < slots,
+        Instr::Drop(c) => *c < slots,
         Instr::Advance => true,
+        Instr::Spawn(_, args) => args.slots().iter().all(|s| *s < slots),
         Instr::Ret => true,
+    }
+}
+
+/// Whether the unit may have this number: unit 0 is main and takes nothing, and no other is main.
+fn is_in_place(unit: u16, u: &Unit) -> bool
+    ensures { result ≡ is_in_place unit u.now }
+{
+    match u.kind {
+        UnitKind::Main => unit == 0 && u.params.is_empty(),
+        UnitKind::Body => unit != 0,
+    }
+}
+
+/// Whether the instruction starts a unit that the unit with this number may not start so.
+fn starts_wrongly(m: &Module, unit: u16, u: &Unit, at: u16) -> bool
+    ensures { result ≡ instr_is (starts_amiss m.now unit) (slice_get u.now.code at) }
+{
+    match u.code.get(at as usize) {
+        Some(Instr::Spawn(started, args)) => !is_startable(m, unit, *started, args),
+        _ => false,
+    }
+}
+
+/// Whether the unit to be started is there, is a body, has the greater number, and takes so many arguments.
+fn is_startable(m: &Module, unit: u16, started: u16, args: &Args) -> bool
+    ensures { result ≡ is_startable unit started args.now (slice_get m.now.units started) }
+{
+    match m.units().get(started as usize) {
+        Some(u) => {
+            u.kind == UnitKind::Body && unit < started && args.count() == u.params.len()
+        }
+        None => false,
     }
 }
 
@@ -122,4 +156,58 @@ fn makes_param(u: &Unit, at: u16) -> bool
         Some(Instr::Make(d)) => (*d as usize) < u.params.len(),
         _ => false,
     }
+}
+
+/// Whether the instruction hands the clock of one slot on twice.
+fn gives_clock_twice(m: &Module, u: &Unit, at: u16) -> bool
+    ensures { result ≡ breaks_same_clock m.now u.now at }
+{
+    match u.code.get(at as usize) {
+        Some(Instr::Spawn(started, args)) => has_clock_twice(params_of(m, *started), args.slots()),
+        _ => false,
+    }
+}
+
+/// The parameters of a unit, or none where there is no such unit.
+pub(crate) fn params_of(m: &Module, unit: u16) -> &[ParamKind]
+    ensures { result.now ≡ params_of m.now unit }
+{
+    match m.units().get(unit as usize) {
+        Some(u) => &u.params,
+        None => &[],
+    }
+}
+
+/// Whether some slot stands twice among the arguments for clocks.
+fn has_clock_twice(params: &[ParamKind], args: &[u16]) -> bool
+    ensures { result ≡ has_twice (clock_arguments params.now args.now) }
+{
+    for i in 0..params.len().min(args.len()) {
+        match params[i] {
+            ParamKind::Number => {}
+            ParamKind::Clock => {
+                if has_clock(&params[i + 1..], &args[i + 1..], args[i]) {
+                    return true;
+                }
+            }
+        }
+    }
+    false
+}
+
+/// Whether the slot stands among the arguments for clocks.
+fn has_clock(params: &[ParamKind], args: &[u16], slot: u16) -> bool
+    ensures { result ≡ list_any (λ s. s == slot) (clock_arguments params.now args.now) }
+{
+    for i in 0..params.len().min(args.len()) {
+        match params[i] {
+            ParamKind::Number => {}
+            ParamKind::Clock => {
+                if args[i] == slot {
+                    return true;
+                }
+            }
+        }
+    }
+    false
 }

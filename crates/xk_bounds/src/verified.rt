@@ -13,10 +13,10 @@ ghost use Rattle.xk_bounds.specs.Straight.{refusal_of};
 
 use crate::bounds::Bounds;
 use crate::kind_set::KindSet;
-use crate::kinds::{KindError, check_kinds, kind_before};
+use crate::kinds::{KindError, check_kinds, kinds_before};
 use crate::refusal::Refusal;
 use crate::shape::check_shape;
-use std::alloc::Global;
+use std::alloc::{AllocError, Global};
 use std::marker::Model;
 use xk_types::Module;
 
@@ -40,7 +40,7 @@ impl Model for Verified {
 
 /// Accepts the module, or gives it back with the first rule that it breaks, at the least place where it does. Rules are
 /// tried in the order of their numbers, but V11 to V13 together. `OutOfMemory` comes only where room for the kinds of a
-/// unit's slots, or for a walk, was refused.
+/// unit's slots, for a walk, or for a table of the units was refused.
 pub fn verify(alloc: Global, m: Module) -> Result<Verified, (Module, Refusal)>
     ensures accepted { IfOk result (λ v. (v ≡ m) × IsAccepted m) }
     ensures refused { IfErr result (λ e. (e.0 ≡ m) × Refuses m e.1) }
@@ -59,7 +59,7 @@ fn check(alloc: Global, m: &Module) -> Result<Bounds, Refusal>
 {
     check_shape(m).map_err(Refusal::Shape)?;
     check_kinds(alloc, m)?;
-    let bounds = Bounds::of(m);
+    let bounds = Bounds::of(alloc, m)?;
     bounds.check().map_err(Refusal::Bound)?;
     Ok(bounds)
 }
@@ -72,6 +72,16 @@ impl From<KindError> for Refusal {
             KindError::Fault(fault) => Refusal::Kind(fault),
             KindError::OutOfMemory => Refusal::OutOfMemory,
         }
+    }
+}
+
+impl From<AllocError> for Refusal {
+    ghost use Rattle.xk_bounds.specs.declared.refusal.Refusal.TheVariants as refusal;
+
+    ghost from_gives = { λ _ r. r ≡ refusal.OutOfMemory };
+
+    fn from(_e: AllocError) -> Refusal {
+        Refusal::OutOfMemory
     }
 }
 
@@ -90,10 +100,8 @@ impl Verified {
         requires { HasPlace self.now unit at slot }
         ensures { (k : Kind) → IsTrue (kinds_have result k) ↔ IsReached self.now unit slot (visit at k) }
     {
-        match kind_before(&self.checked.units()[unit as usize], slot, at) {
-            Some(kind) => KindSet::of(kind),
-            None => KindSet::empty(),
-        }
+        let u = &self.checked.units()[unit as usize];
+        kinds_before(&self.checked, u, slot, at)
     }
 
     /// The most steps of a run: at most 1,000,000,000.

@@ -28,7 +28,7 @@ returns-in_err-check_unit c =
     let e = c.in_err-check_unit.field-0.0 in
     let found = found_unit m c.units-u-items.result.now c.loop-u.u-index u c.units-u-items.ensures.listed c.loop-u-test.true c.u-item.is in
     let here : slice_get m.units n ≡ Some u = ap (slice_get m.units) inv.0 ∙ found in
-    let fails = fails_module m n u e here (λ k v lt at. inv.1 k v (omega arith) at) (c.in_err-check_unit.ensures m) in
+    let fails = fails_module m n u e here (λ k v lt at. inv.1 k v (omega arith) at) c.in_err-check_unit.ensures in
     let p = err_from_is_err_and c.from_residual.result c.from_residual.ensures.1 in rw (p.1, p.2) fails
 
 pub loop-u-preserved : goal.loop-u-preserved
@@ -44,7 +44,7 @@ loop-u-preserved c =
         | inr after ↦
             let same : n ≡ k = omega arith in
             let P : UnitValue → Type 0 = λ x. IsNeverRefusedIn m x in
-            subst P (same_Some _ _ (sym found ∙ ap (slice_get m.units) same ∙ at)) (c.in_ok-check_unit.ensures m)
+            subst P (same_Some _ _ (sym found ∙ ap (slice_get m.units) same ∙ at)) c.in_ok-check_unit.ensures
       ],
     )
 

@@ -4,4 +4,4 @@ use Rattle.xk_types.specs.Shape.{breaks_in}
 use Rattle.xk_bounds.proofs.shape.first_place.Given as goal
 
 abbrev pub invariant-loop-at : goal.invariant-loop-at
-invariant-loop-at l = (k : ℕ) → k < l.at → breaks_in l.rule l.unit l.u k ≡ false
+invariant-loop-at l = (k : ℕ) → k < l.at → breaks_in l.m l.rule l.unit l.u k ≡ false

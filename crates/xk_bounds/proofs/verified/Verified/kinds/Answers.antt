@@ -1,14 +1,15 @@
--- the one kind of the slot at the place
-use Rattle.std.proofs.Common.{◌≡◌, ℕ, List, length, get_or, Some, slice_get, ap, sym, ◌∙◌, subst, arith}
+-- the kinds of the slot at the place
+use Rattle.std.proofs.Common.{◌≡◌, ℕ, IsTrue, ◌↔◌, List, length, get_or, Some, slice_get, ap, sym, ◌∙◌, subst, arith}
 use Rattle.std.proofs.lemmas.Option.{get_or_from_slice_get}
 use Rattle.xk_types.specs.declared.rules.Kind.{Kind}
 use Rattle.xk_types.specs.Code.{UnitValue, ModuleValue}
 use Rattle.xk_types.specs.Walk.{IsVisited}
 use Rattle.xk_types.specs.Shape.{HasShape}
 use Rattle.xk_bounds.specs.Place.{visit}
-use Rattle.xk_bounds.specs.Straight.{IsStraight, IsTheKind}
+use Rattle.xk_bounds.specs.KindSet.{kinds_have}
+use Rattle.xk_bounds.specs.Straight.{IsStraight}
 use Rattle.xk_bounds.proofs.Breaches.{straight_from}
-use Rattle.xk_bounds.proofs.Units.{one_reached, reached_one, none_reached}
+use Rattle.xk_bounds.proofs.Units.{visited_reached, reached_in}
 use Rattle.xk_bounds.proofs.verified.Verified.kinds.Goals as goal
 
 -- the unit that was read is the one with that number
@@ -16,41 +17,30 @@ unit_is : (m checked : ModuleValue) (xs : List UnitValue) (n : ℕ) (u read : Un
 unit_is m checked xs n u read same listed found is =
     is ∙ get_or_from_slice_get xs n u read (ap (λ ys. slice_get ys n) (listed ∙ ap (λ (x : ModuleValue). x.units) same) ∙ found)
 
-pub kind_before-requires-clause-straight : goal.kind_before-requires-clause-straight
-kind_before-requires-clause-straight c =
+pub kinds_before-requires-clause-straight : goal.kinds_before-requires-clause-straight
+kinds_before-requires-clause-straight c =
     let m = c.args.self.now in
     let r = c.requires in
     let same = unit_is m c.self.inside.checked c.units.result.now c.args.unit r.u c.index-units-unit.result c.self.view_is c.units.ensures.listed r.found c.index-units-unit.is in
     let shape = subst HasShape c.self.view_is c.self.invariant.accepted.shape in
     subst IsStraight (sym same) (straight_from m shape c.args.unit r.u r.found)
 
-pub kind_before-requires-clause-inside : goal.kind_before-requires-clause-inside
-kind_before-requires-clause-inside c =
+pub kinds_before-requires-clause-inside : goal.kinds_before-requires-clause-inside
+kinds_before-requires-clause-inside c =
     let m = c.args.self.now in
     let r = c.requires in
     let same = unit_is m c.self.inside.checked c.units.result.now c.args.unit r.u c.index-units-unit.result c.self.view_is c.units.ensures.listed r.found c.index-units-unit.is in
     let long : length c.index-units-unit.result.code ≡ length r.u.code = ap (λ (x : UnitValue). length x.code) same in
     let place = r.place in omega arith
 
-pub returns-in-Some : goal.returns-in-Some
-returns-in-Some c = λ k.
+pub returns : goal.returns
+returns c = λ k.
     let m = c.args.self.now in
     let r = c.requires in
     let same = unit_is m c.self.inside.checked c.units.result.now c.args.unit r.u c.index-units-unit.result c.self.view_is c.units.ensures.listed r.found c.index-units-unit.is in
-    let P : UnitValue → Type 0 = λ u. IsTheKind m u c.args.slot c.args.at c.in-Some.kind in
-    let one = subst P same (c.in-Some.ensures m) in
-    let of = c.of.ensures k in (
-      λ t. one_reached m c.args.unit r.u c.args.slot c.args.at r.found c.in-Some.kind one k (of.0 t),
-      λ h. of.1 (reached_one m c.args.unit r.u c.args.slot c.args.at r.found c.in-Some.kind one k h),
-    )
-
-pub returns-in-None : goal.returns-in-None
-returns-in-None c = λ k.
-    let m = c.args.self.now in
-    let r = c.requires in
-    let same = unit_is m c.self.inside.checked c.units.result.now c.args.unit r.u c.index-units-unit.result c.self.view_is c.units.ensures.listed r.found c.index-units-unit.is in
-    let P : UnitValue → Type 0 = λ u. (k' : Kind) → IsVisited m u c.args.slot (visit c.args.at k') → ⊥ in
-    let none = subst P same (c.in-None.ensures m) in (
-      λ t. absurd (c.empty.ensures k t),
-      λ h. absurd (none_reached m c.args.unit r.u c.args.slot c.args.at r.found none k h),
+    let P : UnitValue → Type 0 = λ u. IsTrue (kinds_have c.kinds_before.result k) ↔ IsVisited m u c.args.slot (visit c.args.at k) in
+    let Q : ModuleValue → Type 0 = λ x. IsTrue (kinds_have c.kinds_before.result k) ↔ IsVisited x c.index-units-unit.result c.args.slot (visit c.args.at k) in
+    let of = subst P same (subst Q c.self.view_is (c.kinds_before.ensures k)) in (
+      λ t. visited_reached m c.args.unit r.u c.args.slot c.args.at r.found k (of.0 t),
+      λ h. of.1 (reached_in m c.args.unit r.u c.args.slot c.args.at r.found k h),
     )
