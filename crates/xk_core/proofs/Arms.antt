@@ -73,18 +73,22 @@ arguments_there w a act [] (x ∷ xs) go h = cc
 arguments_there w a act (p ∷ ps) [] go h = cc
 arguments_there w a act (param.Number ∷ ps) (x ∷ xs) go h =
     let n = number_there (slot_at act x) (λ z. arguments_in w a act ps xs (λ values. go (value.Number z ∷ values))) h in
-    let r = arguments_there w a act ps xs (λ values. go (value.Number n.0 ∷ values)) n.2 in
-    (ap suc r.0, all_cons (λ s. s < length act.frame.slots) x xs (slice_get_within act.frame.slots x _ n.1) r.1,
+    let r = arguments_there w a act ps xs (λ values. go (value.Number n.0 ∷ values)) n.2 in (
+      ap suc r.0,
+      all_cons (λ s. s < length act.frame.slots) x xs (slice_get_within act.frame.slots x _ n.1) r.1,
       ap (λ o. number_in o (λ z. arguments_in w a act ps xs (λ values. go (value.Number z ∷ values)))) n.1 ∙ r.2
-      ∙ ap (λ v. go (v ∷ map (value_at act) xs)) (sym (value_there act x _ n.1)))
+          ∙ ap (λ v. go (v ∷ map (value_at act) xs)) (sym (value_there act x _ n.1)),
+    )
 arguments_there w a act (param.Clock ∷ ps) (x ∷ xs) go h =
     let c = clock_there w a (slot_at act x) (λ k. arguments_in w a act ps xs (λ values. go (value.Clock k ∷ values))) h in
     let g : is_step (registered_on (slice_get w.clocks c.0) a (arguments_in w a act ps xs (λ values. go (value.Clock c.0 ∷ values)))) ≡ true = rw c.1 at h in
     let e = registered_step (slice_get w.clocks c.0) a (arguments_in w a act ps xs (λ values. go (value.Clock c.0 ∷ values))) g in
-    let r = arguments_there w a act ps xs (λ values. go (value.Clock c.0 ∷ values)) (rw e at g) in
-    (ap suc r.0, all_cons (λ s. s < length act.frame.slots) x xs (slice_get_within act.frame.slots x _ c.1) r.1,
+    let r = arguments_there w a act ps xs (λ values. go (value.Clock c.0 ∷ values)) (rw e at g) in (
+      ap suc r.0,
+      all_cons (λ s. s < length act.frame.slots) x xs (slice_get_within act.frame.slots x _ c.1) r.1,
       ap (λ o. clock_in w a o (λ k. arguments_in w a act ps xs (λ values. go (value.Clock k ∷ values)))) c.1 ∙ e ∙ r.2
-      ∙ ap (λ v. go (v ∷ map (value_at act) xs)) (sym (value_there act x _ c.1)))
+          ∙ ap (λ v. go (v ∷ map (value_at act) xs)) (sym (value_there act x _ c.1)),
+    )
 
 -- ---- instructions of one activity
 
@@ -182,7 +186,7 @@ spawning_there : (m : ModuleValue) (w : World) (a : ℕ) (act : Activity) (unit 
     → slice_get w.activities a ≡ Some act → is_step (carried m w a (instr.Spawn unit args)) ≡ true → IsSpawn m w a act unit args u
 spawning_there m w a act unit args u found here h =
     let e : carried m w a (instr.Spawn unit args) ≡ spawning m w a act unit args (Some u) =
-          carried_there m w a (instr.Spawn unit args) act here ∙ ap (spawning m w a act unit args) found in
+    carried_there m w a (instr.Spawn unit args) act here ∙ ap (spawning m w a act unit args) found in
     let b = body_there (is_body u.kind) (arguments_in w a act u.params args (spawned m w a act unit)) (ap is_step (sym e) ∙ h) in
     let r = arguments_there w a act u.params args (spawned m w a act unit) b.1 in
     record { count = r.0; slots = r.1; goes = e ∙ b.0 ∙ r.2 }
@@ -205,7 +209,7 @@ pub spawn_there : (m : ModuleValue) (w : World) (a : ℕ) (act : Activity) (unit
 spawn_there m w a act unit args u at is h =
     let v = spawn_unit m w a act unit args is h in
     spawning_there m w a act unit args u (slice_get_read m.units (length m.units) unit u refl (slice_get_within m.units unit v.0 v.1) at)
-      (read_at w a act (carried_within m w a (instr.Spawn unit args) h) is) h
+    (read_at w a act (carried_within m w a (instr.Spawn unit args) h) is) h
 
 -- the world before its clocks settle
 abbrev pub started_world : World → ℕ → Activity → ℕ → List Value → World
@@ -222,8 +226,11 @@ spawn_done m w a act unit args u at is h =
     let v = spawn_unit m w a act unit args is h in
     let found : slice_get m.units unit ≡ Some u = slice_get_read m.units (length m.units) unit u refl (slice_get_within m.units unit v.0 v.1) at in
     let size : slots_of m unit ≡ u.slots = ap (λ o. option_map_or (λ x. x.slots) o 0) found in
-    s.goes ∙ rw (size, length-map args (value_at act),
-      joined_same a (is_given (given_slots act args u.slots)) (is_given (map (value_at act) args)) w.clocks (given_padded (map (value_at act) args) (u.slots - length args))) refl
+    s.goes ∙ rw (
+      size,
+      length-map args (value_at act),
+      joined_same a (is_given (given_slots act args u.slots)) (is_given (map (value_at act) args)) w.clocks (given_padded (map (value_at act) args) (u.slots - length args)),
+    ) refl
 
 -- the unit has room for what it is given
 pub spawn_fits : (m : ModuleValue) (w : World) (a : ℕ) (act : Activity) (unit : ℕ) (args : List ℕ) (u : UnitValue) → IsWithinLimits m → u ≡ get_or m.units unit u

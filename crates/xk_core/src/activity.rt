@@ -145,7 +145,13 @@ impl Activity {
     }
 
     /// What this activity starts: it runs a unit that has this many slots, the first of them given the values of these slots.
-    pub fn start(&self, alloc: Global, unit: u16, args: &[u16], size: u16) -> Result<Activity, AllocError>
+    pub fn start(
+        &self,
+        alloc: Global,
+        unit: u16,
+        args: &[u16],
+        size: u16,
+    ) -> Result<Activity, AllocError>
         requires slots { All (λ s. s < length self.now.frame.slots) args.now }
         requires fits { length args.now ≤ size }
         ensures { (a : ℕ) → IfOk result (λ x. x ≡ started a self.now unit (given_slots self.now args.now size)) }

@@ -12,3 +12,5 @@ mod state;
 pub use machine::Core;
 pub use schedule::{Halt, Ran, run_schedule};
 
+#[cfg(test)]
+mod tests;

@@ -48,7 +48,11 @@ fn note(seen: &mut Vec<Event>, event: Event)
 
 /// Carries out a schedule: one step of each activity that it names, in order. It stops before the first that isn't enabled,
 /// or where memory was refused; the room for the events is taken before the first step.
-pub fn run_schedule<'m>(alloc: Global, start: Core<'m>, schedule: &[u32]) -> Result<Ran<'m>, Halt<'m>>
+pub fn run_schedule<'m>(
+    alloc: Global,
+    start: Core<'m>,
+    schedule: &[u32],
+) -> Result<Ran<'m>, Halt<'m>>
     ensures ran { IfOk result (λ r. run start.entry.module_run schedule.now start.entry.world ≡ Through r.core.world) }
     ensures seen { IfOk result (λ r. r.seen.items ≡ events_seen start.entry.module_run schedule.now start.entry.world) }
     ensures same_module { IfOk result (λ r. r.core.module_run ≡ start.entry.module_run) }

@@ -138,7 +138,12 @@ impl State {
 
     /// Activity a carries out an instruction of this module. Only the making of a clock and the start of an activity want
     /// memory; where that is refused nothing changes.
-    pub fn carry_out(&mut self, program: &Module, a: usize, instr: &Instr) -> Result<Event, AllocError>
+    pub fn carry_out(
+        &mut self,
+        program: &Module,
+        a: usize,
+        instr: &Instr,
+    ) -> Result<Event, AllocError>
         requires enabled { is_step (carried program.now self.old a instr.now) ≡ true }
         requires room { IsRoomy self.old a }
         ensures stepped { IfOk result (λ e. carried program.now self.old a instr.now ≡ Stepped self.new e) }
@@ -182,7 +187,13 @@ impl State {
     }
 
     /// Activity a starts one that runs this unit with the values of these slots. Where memory is refused nothing changes.
-    fn spawn(&mut self, program: &Module, a: usize, unit: u16, args: &[u16]) -> Result<Event, AllocError>
+    fn spawn(
+        &mut self,
+        program: &Module,
+        a: usize,
+        unit: u16,
+        args: &[u16],
+    ) -> Result<Event, AllocError>
         requires enabled { is_step (carried program.now self.old a (instruction.Spawn unit args.now)) ≡ true }
         requires room { IsRoomy self.old a }
         ensures started { IfOk result (λ e. carried program.now self.old a (instruction.Spawn unit args.now) ≡ Stepped self.new e) }

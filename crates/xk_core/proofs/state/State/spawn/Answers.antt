@@ -14,21 +14,21 @@ pub start-requires-clause-slots : goal.start-requires-clause-slots
 start-requires-clause-slots c =
     let w : World = record { activities = c.self.inside.activities.items; clocks = c.self.inside.clocks.items; cells = c.self.inside.cells.items; steps = c.self.inside.steps } in
     (spawn_there c.args.program.now w c.args.a c.index-starter.result.now c.args.unit c.args.args.now c.index-units-unit.result
-      (subst (λ l. c.index-units-unit.result ≡ get_or l c.args.unit c.index-units-unit.result) c.units.ensures.listed c.index-units-unit.is) c.index-starter.ensures
-      (subst (λ (v : World). is_step (carried c.args.program.now v c.args.a (instruction.Spawn c.args.unit c.args.args.now)) ≡ true) (sym c.self.view_is) c.requires.enabled)).slots
+    (subst (λ l. c.index-units-unit.result ≡ get_or l c.args.unit c.index-units-unit.result) c.units.ensures.listed c.index-units-unit.is) c.index-starter.ensures
+    (subst (λ (v : World). is_step (carried c.args.program.now v c.args.a (instruction.Spawn c.args.unit c.args.args.now)) ≡ true) (sym c.self.view_is) c.requires.enabled)).slots
 
 pub start-requires-clause-fits : goal.start-requires-clause-fits
 start-requires-clause-fits c =
     let w : World = record { activities = c.self.inside.activities.items; clocks = c.self.inside.clocks.items; cells = c.self.inside.cells.items; steps = c.self.inside.steps } in
     rw (ap (λ u. u.slots) c.body.view_is)
     (spawn_fits c.args.program.now w c.args.a c.index-starter.result.now c.args.unit c.args.args.now c.index-units-unit.result c.units.ensures.limits
-      (subst (λ l. c.index-units-unit.result ≡ get_or l c.args.unit c.index-units-unit.result) c.units.ensures.listed c.index-units-unit.is) c.index-starter.ensures
-      (subst (λ (v : World). is_step (carried c.args.program.now v c.args.a (instruction.Spawn c.args.unit c.args.args.now)) ≡ true) (sym c.self.view_is) c.requires.enabled))
+    (subst (λ l. c.index-units-unit.result ≡ get_or l c.args.unit c.index-units-unit.result) c.units.ensures.listed c.index-units-unit.is) c.index-starter.ensures
+    (subst (λ (v : World). is_step (carried c.args.program.now v c.args.a (instruction.Spawn c.args.unit c.args.args.now)) ≡ true) (sym c.self.view_is) c.requires.enabled))
 
 pub index_mut-act-requires : goal.index_mut-act-requires
 index_mut-act-requires c =
     let lt : c.args.a < length c.self.inside.activities.items =
-     (subst (λ (v : World). c.args.a < length v.activities) (sym c.self.view_is)
+    (subst (λ (v : World). c.args.a < length v.activities) (sym c.self.view_is)
     (carried_within c.args.program.now c.args.self.now c.args.a (instruction.Spawn c.args.unit c.args.args.now) c.requires.enabled)) in
     omega (arith, lt, c.try_reserve.ensures.len, c.self.inside.activities.ok)
 
@@ -51,18 +51,17 @@ returns-clause-started c =
     let w : World = record { activities = c.self.inside.activities.items; clocks = c.self.inside.clocks.items; cells = c.self.inside.cells.items; steps = c.self.inside.steps } in
     subst (λ (v : World). carried c.args.program.now v c.args.a (instruction.Spawn c.args.unit c.args.args.now) ≡ Stepped c.settle.new.self event.Spawned) c.self.view_is
     (spawn_done c.args.program.now w c.args.a c.index-starter.result.now c.args.unit c.args.args.now c.index-units-unit.result
-      (subst (λ l. c.index-units-unit.result ≡ get_or l c.args.unit c.index-units-unit.result) c.units.ensures.listed c.index-units-unit.is) c.index-starter.ensures
-      (subst (λ (v : World). is_step (carried c.args.program.now v c.args.a (instruction.Spawn c.args.unit c.args.args.now)) ≡ true) (sym c.self.view_is) c.requires.enabled)
+    (subst (λ l. c.index-units-unit.result ≡ get_or l c.args.unit c.index-units-unit.result) c.units.ensures.listed c.index-units-unit.is) c.index-starter.ensures
+    (subst (λ (v : World). is_step (carried c.args.program.now v c.args.a (instruction.Spawn c.args.unit c.args.args.now)) ≡ true) (sym c.self.view_is) c.requires.enabled)
     ∙ ap (λ v. Stepped v event.Spawned) (sym (c.settle.ensures ∙ ap settled
-      (started_parts w c.args.a c.index-starter.result.now c.go_on.new.self c.in_ok-child.child c.args.unit
-      (given_slots c.index-starter.result.now c.args.args.now c.index-units-unit.result.slots) c.push.new.self.items c.join_all.new.clocks.items
-      (subst (λ l. c.push.new.self.items ≡ slice_set l c.args.a c.go_on.new.self ++ c.in_ok-child.child ∷ []) c.try_reserve.ensures.items c.in_ok-push.ensures.items)
-      (c.go_on.ensures ∙ ap onward
-        (same_read w c.args.a c.index_mut-act.result.now c.index-starter.result.now
-        (subst (λ (v : World). c.args.a < length v.activities) (sym c.self.view_is)
-        (carried_within c.args.program.now c.args.self.now c.args.a (instruction.Spawn c.args.unit c.args.args.now) c.requires.enabled))
-        (subst (λ l. c.index_mut-act.result.now ≡ get_or l c.args.a c.index_mut-act.result.now) c.try_reserve.ensures.items c.index_mut-act.ensures.value)
-        c.index-starter.ensures))
-      (c.in_ok-child.ensures c.args.a ∙ ap (λ u. started c.args.a c.index-starter.result.now c.args.unit (given_slots c.index-starter.result.now c.args.args.now u.slots)) c.body.view_is)
-      (c.in_ok-join_all.ensures.joined ∙ ap (λ l. joined c.args.a (is_given l) c.self.inside.clocks.items) c.slots.ensures)))))
-
+    (started_parts w c.args.a c.index-starter.result.now c.go_on.new.self c.in_ok-child.child c.args.unit
+    (given_slots c.index-starter.result.now c.args.args.now c.index-units-unit.result.slots) c.push.new.self.items c.join_all.new.clocks.items
+    (subst (λ l. c.push.new.self.items ≡ slice_set l c.args.a c.go_on.new.self ++ c.in_ok-child.child ∷ []) c.try_reserve.ensures.items c.in_ok-push.ensures.items)
+    (c.go_on.ensures ∙ ap onward
+    (same_read w c.args.a c.index_mut-act.result.now c.index-starter.result.now
+    (subst (λ (v : World). c.args.a < length v.activities) (sym c.self.view_is)
+    (carried_within c.args.program.now c.args.self.now c.args.a (instruction.Spawn c.args.unit c.args.args.now) c.requires.enabled))
+    (subst (λ l. c.index_mut-act.result.now ≡ get_or l c.args.a c.index_mut-act.result.now) c.try_reserve.ensures.items c.index_mut-act.ensures.value)
+    c.index-starter.ensures))
+    (c.in_ok-child.ensures c.args.a ∙ ap (λ u. started c.args.a c.index-starter.result.now c.args.unit (given_slots c.index-starter.result.now c.args.args.now u.slots)) c.body.view_is)
+    (c.in_ok-join_all.ensures.joined ∙ ap (λ l. joined c.args.a (is_given l) c.self.inside.clocks.items) c.slots.ensures)))))
