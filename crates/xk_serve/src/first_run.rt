@@ -38,6 +38,7 @@ fn keep(printed: &mut Vec<i64>, event: Event) -> Result<(), AllocError>
         }
         Event::Local
         | Event::Made
+        | Event::Spawned
         | Event::Resumed
         | Event::Dropped
         | Event::Arrived
