@@ -17,35 +17,81 @@ pub struct Row {
     pub answer: Answer,
 }
 
-/// The programs.
-pub fn rows() -> [Row; 8] {
+/// Programs of one activity.
+pub fn alone() -> [Row; 3] {
     [
         Row {
-            text: "{\"version\":1,\"shared\":[],\"units\":[{\"kind\":\"main\",\"params\":\"\",\"slots\":3,\"code\":[[\"lit\",0,2],[\"lit\",1,3],[\"add\",0,0,1],[\"make\",2],[\"advance\"],[\"print\",0],[\"ret\"]]}]}",
+            text: r#"{"version":1,"shared":[],"units":[{"kind":"main","params":"","slots":3,"code":[["lit",0,2],["lit",1,3],["add",0,0,1],["make",2],["advance"],["print",0],["ret"]]}]}"#,
             answer: Answer::Runs(&[5], 8),
         },
         Row {
-            text: "{\"version\":1,\"shared\":[7,-7],\"units\":[{\"kind\":\"main\",\"params\":\"\",\"slots\":1,\"code\":[[\"make\",0],[\"resume\",0],[\"resume\",0],[\"advance\"],[\"drop\",0],[\"ret\"]]}]}",
+            text: r#"{"version":1,"shared":[7,-7],"units":[{"kind":"main","params":"","slots":1,"code":[["make",0],["resume",0],["resume",0],["advance"],["drop",0],["ret"]]}]}"#,
             answer: Answer::Runs(&[], 7),
         },
         Row {
-            text: "{\"version\":1,\"shared\":[],\"units\":[{\"kind\":\"main\",\"params\":\"\",\"slots\":1,\"code\":[[\"advance\"],[\"lit\",0,7],[\"print\",0],[\"ret\"]]}]}",
+            text: r#"{"version":1,"shared":[],"units":[{"kind":"main","params":"","slots":1,"code":[["advance"],["lit",0,7],["print",0],["ret"]]}]}"#,
             answer: Answer::Runs(&[7], 5),
         },
+    ]
+}
+
+/// Programs of several activities.
+pub fn several() -> [Row; 4] {
+    [
         Row {
-            text: "{\"version\":1,\"shared\":[],\"units\":[{\"kind\":\"main\",\"params\":\"\",\"slots\":1,\"code\":[[\"drop\",0],[\"ret\"]]}]}",
+            text: r#"{"version":1,"shared":[],"units":[{"kind":"main","params":"","slots":2,"code":[["make",0],["spawn",1,[0]],["advance"],["lit",1,1],["print",1],["ret"]]},{"kind":"body","params":"c","slots":2,"code":[["advance"],["lit",1,2],["print",1],["ret"]]}]}"#,
+            answer: Answer::Runs(&[1, 2], 12),
+        },
+        Row {
+            text: r#"{"version":1,"shared":[],"units":[{"kind":"main","params":"","slots":1,"code":[["make",0],["spawn",1,[0]],["resume",0],["spawn",2,[0]],["advance"],["ret"]]},{"kind":"body","params":"c","slots":1,"code":[["advance"],["ret"]]},{"kind":"body","params":"c","slots":2,"code":[["advance"],["lit",1,3],["print",1],["ret"]]}]}"#,
+            answer: Answer::Runs(&[3], 15),
+        },
+        Row {
+            text: r#"{"version":1,"shared":[],"units":[{"kind":"main","params":"","slots":3,"code":[["make",0],["make",1],["make",2],["spawn",1,[0,1]],["spawn",2,[1,2]],["spawn",3,[2,0]],["ret"]]},{"kind":"body","params":"cc","slots":2,"code":[["advance"],["advance"],["ret"]]},{"kind":"body","params":"cc","slots":2,"code":[["advance"],["advance"],["ret"]]},{"kind":"body","params":"cc","slots":2,"code":[["advance"],["advance"],["ret"]]}]}"#,
+            answer: Answer::Runs(&[], 22),
+        },
+        Row {
+            text: r#"{"version":1,"shared":[],"units":[{"kind":"main","params":"","slots":2,"code":[["lit",0,5],["make",1],["spawn",1,[0,1,0]],["lit",0,7],["print",0],["ret"]]},{"kind":"body","params":"ncn","slots":4,"code":[["add",3,0,2],["drop",1],["print",3],["ret"]]}]}"#,
+            answer: Answer::Runs(&[7, 10], 10),
+        },
+    ]
+}
+
+/// Programs that the verifier refuses.
+pub fn refused() -> [Row; 6] {
+    [
+        Row {
+            text: r#"{"version":1,"shared":[],"units":[{"kind":"main","params":"","slots":1,"code":[["drop",0],["ret"]]}]}"#,
             answer: Answer::Refused(11),
         },
         Row {
-            text: "{\"version\":1,\"shared\":[],\"units\":[{\"kind\":\"main\",\"params\":\"\",\"slots\":1,\"code\":[[\"make\",0],[\"lit\",0,1],[\"ret\"]]}]}",
+            text: r#"{"version":1,"shared":[],"units":[{"kind":"main","params":"","slots":1,"code":[["make",0],["lit",0,1],["ret"]]}]}"#,
             answer: Answer::Refused(13),
         },
         Row {
-            text: "{\"version\":1,\"shared\":[],\"units\":[{\"kind\":\"main\",\"params\":\"\",\"slots\":1,\"code\":[[\"lit\",1,1],[\"ret\"]]}]}",
+            text: r#"{"version":1,"shared":[],"units":[{"kind":"main","params":"","slots":1,"code":[["lit",1,1],["ret"]]}]}"#,
             answer: Answer::Refused(3),
         },
         Row {
-            text: "{\"version\":1,\"shared\":[],\"units\":[{\"kind\":\"main\",\"params\":\"\",\"slots\":65,\"code\":[[\"ret\"]]}]}",
+            text: r#"{"version":1,"shared":[],"units":[{"kind":"main","params":"","slots":1,"code":[["make",0],["spawn",2,[0]],["ret"]]},{"kind":"body","params":"c","slots":1,"code":[["ret"]]}]}"#,
+            answer: Answer::Refused(4),
+        },
+        Row {
+            text: r#"{"version":1,"shared":[],"units":[{"kind":"main","params":"","slots":1,"code":[["make",0],["spawn",1,[0,0]],["ret"]]},{"kind":"body","params":"cc","slots":2,"code":[["ret"]]}]}"#,
+            answer: Answer::Refused(10),
+        },
+        Row {
+            text: r#"{"version":1,"shared":[],"units":[{"kind":"main","params":"","slots":1,"code":[["make",0],["drop",0],["spawn",1,[0]],["ret"]]},{"kind":"body","params":"c","slots":1,"code":[["ret"]]}]}"#,
+            answer: Answer::Refused(11),
+        },
+    ]
+}
+
+/// Texts that are no module.
+pub fn unread() -> [Row; 2] {
+    [
+        Row {
+            text: r#"{"version":1,"shared":[],"units":[{"kind":"main","params":"","slots":65,"code":[["ret"]]}]}"#,
             answer: Answer::Unread("M3 Limit"),
         },
         Row {

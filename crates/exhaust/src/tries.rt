@@ -1,11 +1,11 @@
 //! The calls, each made again where it was refused memory.
 
-use crate::rows::{Answer, Row, rows};
-use std::alloc::{AllocError, Global};
+use crate::rows::{Answer, Row, alone, refused, several, unread};
+use std::alloc::Global;
 use xk_bounds::{Refusal, Verified, verify};
-use xk_core::Core;
+use xk_core::{Core, Halt, Ran, run_schedule};
 use xk_module::{ModuleFault, read_module};
-use xk_types::{Event, Module, Rule, Sink, Source, Tape};
+use xk_types::{Act, ClockId, Event, Module, Rule, Sink, Source, Tape};
 
 /// What went wrong.
 #[derive(Drop)]
@@ -13,10 +13,18 @@ pub struct Wrong(pub &'static str);
 
 /// Every call on every program.
 pub fn all(alloc: Global) -> Result<(), Wrong> {
-    for row in &rows() {
+    on_rows(alloc, &alone())?;
+    on_rows(alloc, &several())?;
+    on_rows(alloc, &refused())?;
+    on_rows(alloc, &unread())?;
+    on_tape(alloc)
+}
+
+fn on_rows(alloc: Global, rows: &[Row]) -> Result<(), Wrong> {
+    for row in rows {
         on_row(alloc, row)?;
     }
-    on_tape(alloc)
+    Ok(())
 }
 
 // Reads, verifies and runs one program.
@@ -25,7 +33,7 @@ fn on_row(alloc: Global, row: &Row) -> Result<(), Wrong> {
         (Err(fault), Answer::Unread(label)) => {
             holds(fault.label() == Some(*label), "a text is refused otherwise")
         }
-        (Ok(program), Answer::Refused(number)) => refused(alloc, program, *number),
+        (Ok(program), Answer::Refused(number)) => breaks(alloc, program, *number),
         (Ok(program), Answer::Runs(printed, steps)) => runs(alloc, program, printed, *steps),
         _ => Err(Wrong("a text is read otherwise")),
     }
@@ -61,7 +69,7 @@ fn number_of(refusal: &Refusal) -> Option<u8> {
     Some(rule.number())
 }
 
-fn refused(alloc: Global, program: Module, number: u8) -> Result<(), Wrong> {
+fn breaks(alloc: Global, program: Module, number: u8) -> Result<(), Wrong> {
     match checked(alloc, program) {
         Ok(_) => Err(Wrong("a module is accepted that breaks a rule")),
         Err((_, refusal)) => holds(
@@ -76,12 +84,22 @@ fn runs(alloc: Global, program: Module, printed: &[i64], steps: u64) -> Result<(
         return Err(Wrong("a module is refused that breaks no rule"));
     };
     holds(verified.steps() == steps, "the bound is another")?;
-    let Ok(mut core) = opened(alloc, &verified) else {
-        return Err(Wrong("a core isn't opened at the second try"));
-    };
+    let schedule = first_schedule(alloc, &verified, printed)?;
+    by_schedule(alloc, &verified, &schedule)
+}
+
+// Runs a module by the least enabled activity, step by step, and gives the numbers of those that stepped. It takes the
+// verified number of steps and prints these numbers.
+fn first_schedule(alloc: Global, verified: &Verified, printed: &[i64]) -> Result<Vec<u32>, Wrong> {
+    let mut schedule = Vec::new(alloc);
+    let mut core = opened(alloc, verified)?;
     let mut left = printed;
-    for _ in 0..steps {
-        let Event::Printed(n) = stepped(&mut core)? else {
+    for _ in 0..verified.steps() {
+        let Some(act) = core.pick() else {
+            return Err(Wrong("nobody is enabled before the end"));
+        };
+        note(&mut schedule, act.0)?;
+        let Event::Printed(n) = stepped(&mut core, act)? else {
             continue;
         };
         let Some((first, others)) = left.split_first() else {
@@ -94,21 +112,34 @@ fn runs(alloc: Global, program: Module, printed: &[i64], steps: u64) -> Result<(
     holds(
         core.ended() && core.pick().is_none(),
         "a run isn't over after its steps",
-    )
+    )?;
+    Ok(schedule)
 }
 
-fn opened<'m>(alloc: Global, verified: &'m Verified) -> Result<Core<'m>, AllocError> {
+// Adds a number to a list, at the second try where memory was refused.
+fn note(list: &mut Vec<u32>, number: u32) -> Result<(), Wrong> {
+    if list.push(number).is_ok() {
+        return Ok(());
+    }
+    list.push(number)
+        .map_err(|_| Wrong("a list doesn't grow at the second try"))
+}
+
+// Opens a core, at the second try where memory was refused.
+fn opened<'m>(alloc: Global, verified: &'m Verified) -> Result<Core<'m>, Wrong> {
     match Core::open(alloc, verified) {
-        Err(_) => Core::open(alloc, verified),
-        answer => answer,
+        Err(_) => Core::open(alloc, verified).map_err(|_| Wrong(
+            "a core isn't opened at the second try",
+        )),
+        Ok(core) => Ok(core),
     }
 }
 
-// One step of the least enabled activity, a second time where memory was refused.
-fn stepped(core: &mut Core) -> Result<Event, Wrong> {
-    let Some(act) = core.pick() else {
-        return Err(Wrong("nobody is enabled before the end"));
-    };
+// One step of the activity, a second time where memory was refused.
+fn stepped(core: &mut Core, act: Act) -> Result<Event, Wrong> {
+    if !core.enabled(act) {
+        return Err(Wrong("a step isn't enabled"));
+    }
     let before = core.steps_done();
     match core.step(act) {
         Ok(event) => Ok(event),
@@ -118,6 +149,89 @@ fn stepped(core: &mut Core) -> Result<Event, Wrong> {
                 .map_err(|_| Wrong("a step is refused at the second try"))
         }
     }
+}
+
+// The same run in one call. Where it is halted for want of memory, the core is where the steps before led, and goes on from
+// there to the same end. A second core is stepped beside it.
+fn by_schedule(alloc: Global, verified: &Verified, schedule: &[u32]) -> Result<(), Wrong> {
+    let mut beside = opened(alloc, verified)?;
+    let start = opened(alloc, verified)?;
+    match run_schedule(alloc, start, schedule) {
+        Ok(ran) => ends_alike(&mut beside, schedule, &ran),
+        Err(Halt::NotEnabled { .. }) => Err(Wrong("a schedule is halted that is legal")),
+        Err(Halt::OutOfMemory { at, core }) => goes_on(alloc, &mut beside, schedule, at, core),
+    }
+}
+
+// A core that was halted for want of memory before the step at this place.
+fn goes_on<'m>(
+    alloc: Global,
+    beside: &mut Core<'m>,
+    schedule: &[u32],
+    at: usize,
+    core: Core<'m>,
+) -> Result<(), Wrong> {
+    let Some((done, left)) = schedule.split_at_checked(at) else {
+        return Err(Wrong("a schedule is halted behind its end"));
+    };
+    for number in done {
+        stepped(beside, Act(*number))?;
+    }
+    holds(
+        are_alike(beside, &core),
+        "a halted core isn't where the steps before led",
+    )?;
+    match run_schedule(alloc, core, left) {
+        Ok(ran) => ends_alike(beside, left, &ran),
+        Err(_) => Err(Wrong("a schedule is halted at the second try")),
+    }
+}
+
+// The steps of the second core are seen to do the same, and lead to the same end.
+fn ends_alike(beside: &mut Core, schedule: &[u32], ran: &Ran) -> Result<(), Wrong> {
+    let mut seen = ran.seen.iter();
+    for number in schedule {
+        let event = stepped(beside, Act(*number))?;
+        if event != Event::Local {
+            holds(seen.next() == Some(&event), "another event is seen")?;
+        }
+    }
+    holds(seen.next().is_none(), "an event is seen too many")?;
+    holds(
+        ran.core.ended() && are_alike(beside, &ran.core),
+        "a schedule leads elsewhere",
+    )
+}
+
+// Whether the calls on two cores answer the same.
+fn are_alike(a: &Core, b: &Core) -> bool {
+    a.steps_done() == b.steps_done() && acts_are_alike(a, b) && clocks_are_alike(a, b)
+}
+
+fn acts_are_alike(a: &Core, b: &Core) -> bool {
+    if a.activities() != b.activities() {
+        return false;
+    }
+    for n in 0..a.activities() {
+        let act = Act(n);
+        if a.enabled(act) != b.enabled(act) || a.since(act) != b.since(act) {
+            return false;
+        }
+    }
+    true
+}
+
+fn clocks_are_alike(a: &Core, b: &Core) -> bool {
+    if a.clocks() != b.clocks() {
+        return false;
+    }
+    for n in 0..a.clocks() {
+        let clock = ClockId(n);
+        if a.phase(clock) != b.phase(clock) || a.last(clock) != b.last(clock) {
+            return false;
+        }
+    }
+    true
 }
 
 // A tape: made, read and written.

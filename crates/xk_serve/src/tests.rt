@@ -2,6 +2,7 @@ use super::*;
 use std::alloc::{AllocError, Global};
 use std::io;
 use std::io::{ErrorKind, Read, Write};
+use std::process::Abort;
 use xk_types::{Counted, Failed, Sink, Source, Tape};
 use xk_words::{Command, Form, Job};
 
@@ -59,11 +60,78 @@ fn served(
     Ok(Seen { status, out, err })
 }
 
+// A body: the letters of its parameters, how many slots it has, its code.
+#[derive(Clone, Copy)]
+struct Body {
+    params: &'static str,
+    slots: u32,
+    code: &'static str,
+}
+
+// The text of a unit.
+fn unit_text(
+    alloc: Global,
+    kind: &str,
+    params: &str,
+    slots: u32,
+    code: &str,
+) -> Result<String, AllocError> {
+    format!(in alloc;
+        "{{\"kind\":\"{kind}\",\"params\":\"{params}\",\"slots\":{slots},\"code\":[{code}]}}"
+    )
+}
+
+// The text of a module of these units.
+fn units_text(alloc: Global, units: &str) -> Result<String, AllocError> {
+    format!(in alloc; "{{\"version\":1,\"shared\":[],\"units\":[{units}]}}")
+}
+
+// The text of a module of main and these bodies.
+fn program_text(
+    alloc: Global,
+    slots: u32,
+    code: &str,
+    bodies: &[Body],
+) -> Result<String, AllocError> {
+    let mut units = unit_text(alloc, "main", "", slots, code)?;
+    for body in bodies {
+        units.push(',')?;
+        let unit = unit_text(alloc, "body", body.params, body.slots, body.code)?;
+        units.push_str(unit.as_str())?;
+    }
+    units_text(alloc, units.as_str())
+}
+
 // The text of a module of one main unit.
 fn module_text(alloc: Global, slots: u32, code: &str) -> Result<String, AllocError> {
-    format!(in alloc;
-        "{{\"version\":1,\"shared\":[],\"units\":[{{\"kind\":\"main\",\"params\":\"\",\"slots\":{slots},\"code\":[{code}]}}]}}"
-    )
+    program_text(alloc, slots, code, &[])
+}
+
+// The command on the module succeeds, and writes this.
+fn gives(
+    rt: &impl Abort,
+    alloc: Global,
+    command: Command,
+    text: &str,
+    wanted: &str,
+) -> Result<(), AllocError> {
+    let seen = served(alloc, command, text.as_bytes(), NOWHERE)?;
+    assert!(rt;
+        seen.status == 0 && seen.err.written().is_empty(),
+        "{wanted}"
+    );
+    assert!(rt; seen.out.written() == wanted.as_bytes(), "{wanted}");
+    Ok(())
+}
+
+// Both commands refuse the module, with this line.
+fn refuses(rt: &impl Abort, alloc: Global, text: &str, line: &str) -> Result<(), AllocError> {
+    for command in [Command::Check, Command::Run] {
+        let seen = served(alloc, command, text.as_bytes(), NOWHERE)?;
+        assert!(rt; seen.status == 1 && seen.out.written().is_empty(), "{line}");
+        assert!(rt; seen.err.written() == line.as_bytes(), "{line}");
+    }
+    Ok(())
 }
 
 #[test]
@@ -96,14 +164,200 @@ fn rows_are_answered(rt: HostRuntime) -> Result<(), AllocError> {
         ),
     ] {
         let text = module_text(rt.alloc(), slots, code)?;
-        let checked = served(rt.alloc(), Command::Check, text.as_bytes(), NOWHERE)?;
-        assert!(rt; checked.status == 0 && checked.out.written() == check.as_bytes());
-        assert!(rt; checked.err.written().is_empty());
-        let ran = served(rt.alloc(), Command::Run, text.as_bytes(), NOWHERE)?;
-        assert!(rt; ran.status == 0 && ran.out.written() == run.as_bytes());
-        assert!(rt; ran.err.written().is_empty());
+        gives(&rt, rt.alloc(), Command::Check, text.as_str(), check)?;
+        gives(&rt, rt.alloc(), Command::Run, text.as_str(), run)?;
     }
     Ok(())
+}
+
+// Main and these bodies: what `check` and `run` write.
+fn answers(
+    rt: &impl Abort,
+    alloc: Global,
+    slots: u32,
+    code: &str,
+    bodies: &[Body],
+    check: &str,
+    run: &str,
+) -> Result<(), AllocError> {
+    let text = program_text(alloc, slots, code, bodies)?;
+    gives(rt, alloc, Command::Check, text.as_str(), check)?;
+    gives(rt, alloc, Command::Run, text.as_str(), run)
+}
+
+// Main starts an activity on its clock, and both go one phase on.
+#[test]
+fn two_are_in_step(rt: HostRuntime) -> Result<(), AllocError> {
+    answers(
+        &rt,
+        rt.alloc(),
+        2,
+        r#"["make",0],["spawn",1,[0]],["advance"],["lit",1,1],["print",1],["ret"]"#,
+        &[Body {
+            params: "c",
+            slots: 2,
+            code: r#"["advance"],["lit",1,2],["print",1],["ret"]"#,
+        }],
+        "accepted steps 12 activities 2 clocks 1\n",
+        "1\n2\nended steps 12\n",
+    )
+}
+
+// The clock has advanced before the start, so that the child begins ahead.
+#[test]
+fn one_starts_ahead(rt: HostRuntime) -> Result<(), AllocError> {
+    answers(
+        &rt,
+        rt.alloc(),
+        1,
+        r#"["make",0],["resume",0],["spawn",1,[0]],["advance"],["ret"]"#,
+        &[Body {
+            params: "c",
+            slots: 1,
+            code: r#"["advance"],["ret"]"#,
+        }],
+        "accepted steps 9 activities 2 clocks 1\n",
+        "ended steps 9\n",
+    )
+}
+
+// Main has resumed the clock at the second start, so that the second child begins signalled.
+#[test]
+fn one_starts_signalled(rt: HostRuntime) -> Result<(), AllocError> {
+    answers(
+        &rt,
+        rt.alloc(),
+        1,
+        r#"["make",0],["spawn",1,[0]],["resume",0],["spawn",2,[0]],["advance"],["ret"]"#,
+        &[
+            Body {
+                params: "c",
+                slots: 1,
+                code: r#"["advance"],["ret"]"#,
+            },
+            Body {
+                params: "c",
+                slots: 2,
+                code: r#"["advance"],["lit",1,3],["print",1],["ret"]"#,
+            },
+        ],
+        "accepted steps 15 activities 3 clocks 1\n",
+        "3\nended steps 15\n",
+    )
+}
+
+// Main leaves the clock to the activity that it started.
+#[test]
+fn one_is_left_alone(rt: HostRuntime) -> Result<(), AllocError> {
+    answers(
+        &rt,
+        rt.alloc(),
+        1,
+        r#"["make",0],["spawn",1,[0]],["drop",0],["ret"]"#,
+        &[Body {
+            params: "c",
+            slots: 2,
+            code: r#"["advance"],["lit",1,4],["print",1],["ret"]"#,
+        }],
+        "accepted steps 9 activities 2 clocks 1\n",
+        "4\nended steps 9\n",
+    )
+}
+
+// Two phases, the first resumed twice.
+#[test]
+fn two_phases(rt: HostRuntime) -> Result<(), AllocError> {
+    answers(
+        &rt,
+        rt.alloc(),
+        1,
+        r#"["make",0],["spawn",1,[0]],["resume",0],["resume",0],["advance"],["advance"],["ret"]"#,
+        &[Body {
+            params: "c",
+            slots: 2,
+            code: r#"["advance"],["advance"],["lit",1,2],["print",1],["ret"]"#,
+        }],
+        "accepted steps 16 activities 2 clocks 1\n",
+        "2\nended steps 16\n",
+    )
+}
+
+// Three activities, each on two of three clocks.
+#[test]
+fn a_ring_of_clocks(rt: HostRuntime) -> Result<(), AllocError> {
+    let twice = r#"["advance"],["advance"],["ret"]"#;
+    let pair = Body {
+        params: "cc",
+        slots: 2,
+        code: twice,
+    };
+    answers(
+        &rt,
+        rt.alloc(),
+        3,
+        r#"["make",0],["make",1],["make",2],["spawn",1,[0,1]],["spawn",2,[1,2]],["spawn",3,[2,0]],["ret"]"#,
+        &[pair, pair, pair],
+        "accepted steps 22 activities 4 clocks 3\n",
+        "ended steps 22\n",
+    )
+}
+
+// A number is handed on by value: the child prints what it was given, whatever its starter writes afterwards.
+#[test]
+fn numbers_are_given(rt: HostRuntime) -> Result<(), AllocError> {
+    answers(
+        &rt,
+        rt.alloc(),
+        2,
+        r#"["lit",0,5],["make",1],["spawn",1,[0,1,0]],["lit",0,7],["print",0],["ret"]"#,
+        &[Body {
+            params: "ncn",
+            slots: 4,
+            code: r#"["add",3,0,2],["drop",1],["print",3],["ret"]"#,
+        }],
+        "accepted steps 10 activities 2 clocks 1\n",
+        "7\n10\nended steps 10\n",
+    )
+}
+
+// Main and `bodies` bodies, at least one: each but the last starts the next one twice.
+fn doubling(alloc: Global, bodies: u32) -> Result<String, AllocError> {
+    let mut units = String::new(alloc);
+    for unit in 0..bodies {
+        let kind = if unit == 0 { "main" } else { "body" };
+        let next = unit + 1;
+        let code = format!(in alloc; "[\"spawn\",{next},[]],[\"spawn\",{next},[]],[\"ret\"]")?;
+        units.push_str(unit_text(alloc, kind, "", 0, code.as_str())?.as_str())?;
+        units.push(',')?;
+    }
+    units.push_str(unit_text(alloc, "body", "", 0, r#"["ret"]"#)?.as_str())?;
+    units_text(alloc, units.as_str())
+}
+
+#[test]
+fn doublings_are_counted(rt: HostRuntime) -> Result<(), AllocError> {
+    let few = doubling(rt.alloc(), 3)?;
+    let line = "accepted steps 29 activities 15 clocks 0\n";
+    gives(&rt, rt.alloc(), Command::Check, few.as_str(), line)?;
+    gives(
+        &rt,
+        rt.alloc(),
+        Command::Run,
+        few.as_str(),
+        "ended steps 29\n",
+    )?;
+
+    let most = doubling(rt.alloc(), 15)?;
+    let line = "accepted steps 131069 activities 65535 clocks 0\n";
+    gives(&rt, rt.alloc(), Command::Check, most.as_str(), line)?;
+
+    let many = doubling(rt.alloc(), 16)?;
+    let line = "x10clock: V15 Activities over 100000\n";
+    refuses(&rt, rt.alloc(), many.as_str(), line)?;
+
+    let all = doubling(rt.alloc(), 1023)?;
+    let line = "x10clock: V14 Steps over 1000000000\n";
+    refuses(&rt, rt.alloc(), all.as_str(), line)
 }
 
 #[test]
@@ -129,15 +383,202 @@ fn rows_are_refused(rt: HostRuntime) -> Result<(), AllocError> {
         (1, "[\"ret\"", "x10clock: M1 NotJson\n"),
     ] {
         let text = module_text(rt.alloc(), slots, code)?;
-        for command in [Command::Check, Command::Run] {
-            let refused = served(rt.alloc(), command, text.as_bytes(), NOWHERE)?;
-            assert!(rt; refused.status == 1 && refused.err.written() == line.as_bytes());
-            assert!(rt; refused.out.written().is_empty());
-        }
+        refuses(&rt, rt.alloc(), text.as_str(), line)?;
     }
     let empty = served(rt.alloc(), Command::Check, &[], NOWHERE)?;
     assert!(rt; empty.status == 1 && empty.err.written() == b"x10clock: M1 NotJson\n".as_slice());
     Ok(())
+}
+
+// The bodies of the modules below: one that takes nothing, one on a clock, one on two, one that prints a number.
+const NOTHING: Body = Body {
+    params: "",
+    slots: 0,
+    code: r#"["ret"]"#,
+};
+
+const ON_ONE: Body = Body {
+    params: "c",
+    slots: 1,
+    code: r#"["advance"],["ret"]"#,
+};
+
+const ON_TWO: Body = Body {
+    params: "cc",
+    slots: 2,
+    code: r#"["ret"]"#,
+};
+
+const PRINTS: Body = Body {
+    params: "n",
+    slots: 1,
+    code: r#"["print",0],["ret"]"#,
+};
+
+// Main of this code and these slots beside one body is refused.
+fn refuses_main(
+    rt: &impl Abort,
+    alloc: Global,
+    code: &str,
+    body: Body,
+    line: &str,
+) -> Result<(), AllocError> {
+    let text = program_text(alloc, 2, code, &[body])?;
+    refuses(rt, alloc, text.as_str(), line)
+}
+
+#[test]
+fn starts_are_refused(rt: HostRuntime) -> Result<(), AllocError> {
+    for (code, body, line) in [
+        // A unit that isn't there.
+        (
+            r#"["make",0],["spawn",2,[0]],["ret"]"#,
+            ON_ONE,
+            "x10clock: V4 Unit unit 0 at 1\n",
+        ),
+        // Main.
+        (
+            r#"["lit",0,1],["advance"],["spawn",0,[]],["ret"]"#,
+            NOTHING,
+            "x10clock: V4 Unit unit 0 at 2\n",
+        ),
+        // Too few arguments, and too many.
+        (
+            r#"["make",0],["spawn",1,[]],["ret"]"#,
+            ON_ONE,
+            "x10clock: V4 Unit unit 0 at 1\n",
+        ),
+        (
+            r#"["make",0],["make",1],["spawn",1,[0,1]],["ret"]"#,
+            ON_ONE,
+            "x10clock: V4 Unit unit 0 at 2\n",
+        ),
+        // One slot for two clocks; as numbers the two are kinds' business, not this rule's.
+        (
+            r#"["make",0],["spawn",1,[0,0]],["ret"]"#,
+            ON_TWO,
+            "x10clock: V10 SameClock unit 0 at 1\n",
+        ),
+        // An argument's slot that isn't there comes before all.
+        (
+            r#"["make",0],["spawn",1,[2,2]],["ret"]"#,
+            ON_TWO,
+            "x10clock: V3 Slot unit 0 at 1\n",
+        ),
+    ] {
+        refuses_main(&rt, rt.alloc(), code, body, line)?;
+    }
+    Ok(())
+}
+
+#[test]
+fn arguments_are_refused(rt: HostRuntime) -> Result<(), AllocError> {
+    for (code, body, line) in [
+        // A clock that was dropped, one that never was, a number.
+        (
+            r#"["make",0],["drop",0],["spawn",1,[0]],["ret"]"#,
+            ON_ONE,
+            "x10clock: V11 Use unit 0 at 2 slot 0 out walk 0 1 2\n",
+        ),
+        (
+            r#"["make",0],["spawn",1,[1]],["ret"]"#,
+            ON_ONE,
+            "x10clock: V11 Use unit 0 at 1 slot 1 unset walk 0 1\n",
+        ),
+        (
+            r#"["lit",0,7],["spawn",1,[0]],["ret"]"#,
+            ON_ONE,
+            "x10clock: V11 Use unit 0 at 1 slot 0 number walk 0 1\n",
+        ),
+        // A clock in the place of a number.
+        (
+            r#"["make",0],["resume",0],["spawn",1,[0]],["ret"]"#,
+            PRINTS,
+            "x10clock: V11 Use unit 0 at 2 slot 0 resumed walk 0 1 2\n",
+        ),
+        // Two clocks of which the second was dropped.
+        (
+            r#"["make",0],["make",1],["drop",1],["spawn",1,[0,1]],["ret"]"#,
+            ON_TWO,
+            "x10clock: V11 Use unit 0 at 3 slot 1 out walk 0 1 2 3\n",
+        ),
+    ] {
+        refuses_main(&rt, rt.alloc(), code, body, line)?;
+    }
+    Ok(())
+}
+
+// Main is as it should be: the body is refused.
+#[test]
+fn bodies_are_refused(rt: HostRuntime) -> Result<(), AllocError> {
+    for (params, code, line) in [
+        (
+            "c",
+            r#"["spawn",0,[]],["ret"]"#,
+            "x10clock: V4 Unit unit 1 at 0\n",
+        ),
+        (
+            "c",
+            r#"["resume",0],["spawn",1,[0]],["ret"]"#,
+            "x10clock: V4 Unit unit 1 at 1\n",
+        ),
+        (
+            "c",
+            r#"["advance"],["make",0],["ret"]"#,
+            "x10clock: V8 Home unit 1 at 1\n",
+        ),
+        // A clock parameter is live or resumed at first: live is the lesser kind.
+        (
+            "c",
+            r#"["print",0],["ret"]"#,
+            "x10clock: V11 Use unit 1 at 0 slot 0 live walk 0\n",
+        ),
+        (
+            "c",
+            r#"["advance"],["lit",0,1],["ret"]"#,
+            "x10clock: V13 Leak unit 1 at 1 slot 0 live walk 0 1\n",
+        ),
+    ] {
+        let main = r#"["make",0],["spawn",1,[0]],["ret"]"#;
+        let body = Body {
+            params,
+            slots: 1,
+            code,
+        };
+        let text = program_text(rt.alloc(), 1, main, &[body])?;
+        refuses(&rt, rt.alloc(), text.as_str(), line)?;
+    }
+    Ok(())
+}
+
+#[test]
+fn units_out_of_place_are_refused(rt: HostRuntime) -> Result<(), AllocError> {
+    let alloc = rt.alloc();
+    let body = unit_text(alloc, "body", "", 0, r#"["ret"]"#)?;
+    let main = unit_text(alloc, "main", "", 0, r#"["ret"]"#)?;
+    let takes = unit_text(alloc, "main", "n", 1, r#"["ret"]"#)?;
+    let alone = units_text(alloc, body.as_str())?;
+    refuses(
+        &rt,
+        alloc,
+        alone.as_str(),
+        "x10clock: V4 Unit unit 0 at 0\n",
+    )?;
+    let takes = units_text(alloc, takes.as_str())?;
+    refuses(
+        &rt,
+        alloc,
+        takes.as_str(),
+        "x10clock: V4 Unit unit 0 at 0\n",
+    )?;
+    let mains = format!(in alloc; "{main},{main}")?;
+    let mains = units_text(alloc, mains.as_str())?;
+    refuses(
+        &rt,
+        alloc,
+        mains.as_str(),
+        "x10clock: V4 Unit unit 1 at 0\n",
+    )
 }
 
 #[test]

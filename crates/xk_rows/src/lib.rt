@@ -1,0 +1,14 @@
+//! Tests of schedules on the core: rows whose runs are known from outside, and many runs beside a second telling of what a
+//! step does.
+#![tactic(auto)]
+
+#[cfg(test)]
+mod agreement;
+#[cfg(test)]
+mod order;
+#[cfg(test)]
+mod plain;
+#[cfg(test)]
+mod programs;
+#[cfg(test)]
+mod rows;

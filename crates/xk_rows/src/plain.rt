@@ -1,0 +1,364 @@
+//! What a step does, told a second time, as X10's chapter on clocks tells it: a clock knows who is registered on it and has
+//! not resumed it, who has resumed it, and who may go on since it has advanced.
+
+use std::alloc::Global;
+use std::collections::BTreeSet;
+use std::mem;
+use std::test::Fail;
+use xk_types::{Args, ClockId, Event, Instr, Module, ParamKind, Status, Unit, Value};
+
+/// Those registered on a clock, by what they have done in its phase.
+#[derive(Drop)]
+struct Barrier {
+    /// They have work to do in this phase.
+    open: BTreeSet<u32>,
+    /// They have done it, and the phase isn't over.
+    signalled: BTreeSet<u32>,
+    /// They had done it, and the next phase has begun; they have not passed into it.
+    ahead: BTreeSet<u32>,
+    phase: u64,
+    last: u64,
+}
+
+/// An activity: its unit, the place of its next instruction, its slots.
+#[derive(Drop)]
+struct Actor {
+    unit: usize,
+    place: usize,
+    slots: Vec<Value>,
+    status: Status,
+    since: u64,
+}
+
+/// All activities and clocks of a running module.
+#[derive(Drop)]
+pub struct Plain<'m> {
+    program: &'m Module,
+    actors: Vec<Actor>,
+    barriers: Vec<Barrier>,
+    steps: u64,
+}
+
+impl Barrier {
+    /// A clock that this activity has made.
+    fn made_by(alloc: Global, a: u32) -> Result<Barrier, Fail> {
+        let mut open = BTreeSet::new(alloc);
+        open.insert(a)?;
+        Ok(Barrier {
+            open,
+            signalled: BTreeSet::new(alloc),
+            ahead: BTreeSet::new(alloc),
+            phase: 0,
+            last: 0,
+        })
+    }
+
+    fn has(&self, a: u32) -> bool {
+        self.open.contains(&a) || self.signalled.contains(&a) || self.ahead.contains(&a)
+    }
+
+    /// Who was open has done its work; nobody else is moved.
+    fn resume(&mut self, a: u32) -> Result<(), Fail> {
+        if self.open.remove(&a) {
+            self.signalled.insert(a)?;
+        }
+        Ok(())
+    }
+
+    /// Who was ahead enters the phase.
+    fn pass(&mut self, a: u32) -> Result<(), Fail> {
+        if self.ahead.remove(&a) {
+            self.open.insert(a)?;
+        }
+        Ok(())
+    }
+
+    fn leave(&mut self, a: u32) {
+        self.open.remove(&a);
+        self.signalled.remove(&a);
+        self.ahead.remove(&a);
+    }
+
+    /// A child comes to stand beside its starter.
+    fn join(&mut self, starter: u32, child: u32) -> Result<(), Fail> {
+        if self.open.contains(&starter) {
+            self.open.insert(child)?;
+        } else if self.signalled.contains(&starter) {
+            self.signalled.insert(child)?;
+        } else if self.ahead.contains(&starter) {
+            self.ahead.insert(child)?;
+        }
+        Ok(())
+    }
+
+    /// The phase is over where somebody is registered and all have done their work: then all are ahead.
+    fn settle(&mut self, now: u64) {
+        if self.open.is_empty() && self.ahead.is_empty() && !self.signalled.is_empty() {
+            mem::swap(&mut self.ahead, &mut self.signalled);
+            self.phase = self.phase.saturating_add(1);
+            self.last = now;
+        }
+    }
+}
+
+impl Actor {
+    /// An activity before its first step: its first slots hold these values.
+    fn new(unit: usize, form: &Unit, given: Vec<Value>, since: u64) -> Result<Actor, Fail> {
+        let mut slots = given;
+        for _ in slots.len()..form.slots as usize {
+            slots.push(Value::Unset)?;
+        }
+        Ok(Actor {
+            unit,
+            place: 0,
+            slots,
+            status: Status::Running,
+            since,
+        })
+    }
+
+    fn number(&self, slot: u16) -> Result<i64, Fail> {
+        match self.slots.get(slot as usize) {
+            Some(Value::Number(n)) => Ok(*n),
+            _ => Err("a number is missing".into()),
+        }
+    }
+
+    fn write(&mut self, slot: u16, value: Value) -> Result<(), Fail> {
+        match self.slots.get_mut(slot as usize) {
+            Some(place) => {
+                *place = value;
+                Ok(())
+            }
+            None => Err("a slot is missing".into()),
+        }
+    }
+
+    fn go_on(&mut self) {
+        self.place = self.place.saturating_add(1);
+    }
+}
+
+impl<'m> Plain<'m> {
+    /// Main alone, no clock.
+    pub fn opening(alloc: Global, program: &'m Module) -> Result<Plain<'m>, Fail> {
+        let Some(form) = program.units().first() else {
+            return Err("there is no main".into());
+        };
+        let mut actors = Vec::new(alloc);
+        actors.push(Actor::new(0, form, Vec::new(alloc), 0)?)?;
+        Ok(Plain {
+            program,
+            actors,
+            barriers: Vec::new(alloc),
+            steps: 0,
+        })
+    }
+
+    pub fn steps(&self) -> u64 {
+        self.steps
+    }
+
+    pub fn actor_count(&self) -> usize {
+        self.actors.len()
+    }
+
+    pub fn barrier_count(&self) -> usize {
+        self.barriers.len()
+    }
+
+    pub fn since(&self, a: usize) -> Option<u64> {
+        Some(self.actors.get(a)?.since)
+    }
+
+    /// How often the clock has advanced, and in which step last.
+    pub fn advances(&self, c: usize) -> Option<(u64, u64)> {
+        let barrier = self.barriers.get(c)?;
+        Some((barrier.phase, barrier.last))
+    }
+
+    pub fn is_over(&self) -> bool {
+        self.actors.iter().all(|a| a.status == Status::Ended)
+    }
+
+    /// Whether the activity can step: it is there, isn't over, and waits for no clock.
+    pub fn can_step(&self, a: u32) -> bool {
+        match self.actors.get(a as usize) {
+            None => false,
+            Some(actor) => match actor.status {
+                Status::Running => true,
+                Status::Arrived => !self.waits(a),
+                Status::Ended => false,
+            },
+        }
+    }
+
+    fn waits(&self, a: u32) -> bool {
+        for barrier in &self.barriers {
+            if barrier.signalled.contains(&a) {
+                return true;
+            }
+        }
+        false
+    }
+
+    /// Those that can step, in rising order.
+    pub fn able(&self, alloc: Global) -> Result<Vec<u32>, Fail> {
+        let mut able = Vec::new(alloc);
+        for a in 0..u32::try_from(self.actors.len())? {
+            if self.can_step(a) {
+                able.push(a)?;
+            }
+        }
+        Ok(able)
+    }
+
+    fn actor(&self, a: u32) -> Result<&Actor, Fail> {
+        match self.actors.get(a as usize) {
+            Some(actor) => Ok(actor),
+            None => Err("an activity is missing".into()),
+        }
+    }
+
+    fn actor_mut(&mut self, a: u32) -> Result<&mut Actor, Fail> {
+        match self.actors.get_mut(a as usize) {
+            Some(actor) => Ok(actor),
+            None => Err("an activity is missing".into()),
+        }
+    }
+
+    /// The clock that the activity's slot names, on which it must be registered.
+    fn barrier_of(&mut self, a: u32, slot: u16) -> Result<(u32, &mut Barrier), Fail> {
+        let Some(Value::Clock(clock)) = self.actor(a)?.slots.get(slot as usize).copied() else {
+            return Err("a clock is missing".into());
+        };
+        match self.barriers.get_mut(clock.0 as usize) {
+            Some(barrier) if barrier.has(a) => Ok((clock.0, barrier)),
+            _ => Err("a clock is used without a registration".into()),
+        }
+    }
+
+    /// One step of an activity that can step, and what it does.
+    pub fn step(&mut self, alloc: Global, a: u32) -> Result<Event, Fail> {
+        let now = self.steps.saturating_add(1);
+        self.steps = now;
+        let event = match self.actor(a)?.status {
+            Status::Running => self.carry_out(alloc, a)?,
+            Status::Arrived => self.pass(a, now)?,
+            Status::Ended => return Err("an activity steps after its end".into()),
+        };
+        for barrier in &mut self.barriers {
+            barrier.settle(now);
+        }
+        Ok(event)
+    }
+
+    fn pass(&mut self, a: u32, now: u64) -> Result<Event, Fail> {
+        for barrier in &mut self.barriers {
+            barrier.pass(a)?;
+        }
+        let actor = self.actor_mut(a)?;
+        actor.status = Status::Running;
+        actor.since = now;
+        actor.go_on();
+        Ok(Event::Passed)
+    }
+
+    fn carry_out(&mut self, alloc: Global, a: u32) -> Result<Event, Fail> {
+        let program = self.program;
+        let actor = self.actor(a)?;
+        let Some(form) = program.units().get(actor.unit) else {
+            return Err("a unit is missing".into());
+        };
+        let Some(instr) = form.code.get(actor.place) else {
+            return Err("an instruction is missing".into());
+        };
+        match instr {
+            Instr::Advance => self.arrive(a),
+            Instr::Ret => self.end(a),
+            _ => {
+                let event = self.act(alloc, a, instr)?;
+                self.actor_mut(a)?.go_on();
+                Ok(event)
+            }
+        }
+    }
+
+    fn arrive(&mut self, a: u32) -> Result<Event, Fail> {
+        for barrier in &mut self.barriers {
+            barrier.resume(a)?;
+        }
+        self.actor_mut(a)?.status = Status::Arrived;
+        Ok(Event::Arrived)
+    }
+
+    fn end(&mut self, a: u32) -> Result<Event, Fail> {
+        for barrier in &mut self.barriers {
+            barrier.leave(a);
+        }
+        self.actor_mut(a)?.status = Status::Ended;
+        Ok(Event::Ended)
+    }
+
+    /// An instruction after which the activity goes on to the next.
+    fn act(&mut self, alloc: Global, a: u32, instr: &Instr) -> Result<Event, Fail> {
+        match instr {
+            Instr::Lit(d, n) => {
+                self.actor_mut(a)?.write(*d, Value::Number(*n))?;
+                Ok(Event::Local)
+            }
+            Instr::Add(d, x, y) => {
+                let actor = self.actor_mut(a)?;
+                let sum = actor.number(*x)?.wrapping_add(actor.number(*y)?);
+                actor.write(*d, Value::Number(sum))?;
+                Ok(Event::Local)
+            }
+            Instr::Print(x) => Ok(Event::Printed(self.actor(a)?.number(*x)?)),
+            Instr::Make(d) => self.make(alloc, a, *d),
+            Instr::Resume(c) => {
+                self.barrier_of(a, *c)?.1.resume(a)?;
+                Ok(Event::Resumed)
+            }
+            Instr::Drop(c) => {
+                self.barrier_of(a, *c)?.1.leave(a);
+                Ok(Event::Dropped)
+            }
+            Instr::Spawn(t, args) => self.spawn(alloc, a, *t as usize, args),
+            Instr::Advance | Instr::Ret => Err("no instruction to go on from".into()),
+        }
+    }
+
+    fn make(&mut self, alloc: Global, a: u32, slot: u16) -> Result<Event, Fail> {
+        let clock = ClockId(u32::try_from(self.barriers.len())?);
+        self.barriers.push(Barrier::made_by(alloc, a)?)?;
+        self.actor_mut(a)?.write(slot, Value::Clock(clock))?;
+        Ok(Event::Made)
+    }
+
+    fn spawn(&mut self, alloc: Global, a: u32, unit: usize, args: &Args) -> Result<Event, Fail> {
+        let program = self.program;
+        let Some(form) = program.units().get(unit) else {
+            return Err("a unit is missing".into());
+        };
+        let child = u32::try_from(self.actors.len())?;
+        let mut given = Vec::new(alloc);
+        for (slot, kind) in args.slots().iter().zip(form.params.iter()) {
+            given.push(self.give(a, child, *slot, *kind)?)?;
+        }
+        let since = self.actor(a)?.since;
+        self.actors.push(Actor::new(unit, form, given, since)?)?;
+        Ok(Event::Spawned)
+    }
+
+    /// What the child is given for a parameter; a clock takes the child in.
+    fn give(&mut self, a: u32, child: u32, slot: u16, kind: ParamKind) -> Result<Value, Fail> {
+        match kind {
+            ParamKind::Number => Ok(Value::Number(self.actor(a)?.number(slot)?)),
+            ParamKind::Clock => {
+                let (clock, barrier) = self.barrier_of(a, slot)?;
+                barrier.join(a, child)?;
+                Ok(Value::Clock(ClockId(clock)))
+            }
+        }
+    }
+}

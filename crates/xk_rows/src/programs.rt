@@ -1,0 +1,73 @@
+//! Modules of several activities, as text.
+
+use std::alloc::Global;
+use std::test::Fail;
+use xk_bounds::{Verified, verify};
+use xk_module::read_module;
+
+/// Main starts an activity on its clock, and both go one phase on.
+pub const IN_STEP: &str =
+    r#"{"version":1,"shared":[],"units":[{"kind":"main","params":"","slots":2,"code":[["make",0],["spawn",1,[0]],["advance"],["lit",1,1],["print",1],["ret"]]},{"kind":"body","params":"c","slots":2,"code":[["advance"],["lit",1,2],["print",1],["ret"]]}]}"#;
+
+/// The clock has advanced before the start: the child begins ahead.
+pub const STARTS_AHEAD: &str =
+    r#"{"version":1,"shared":[],"units":[{"kind":"main","params":"","slots":1,"code":[["make",0],["resume",0],["spawn",1,[0]],["advance"],["ret"]]},{"kind":"body","params":"c","slots":1,"code":[["advance"],["ret"]]}]}"#;
+
+/// Main has resumed the clock at the second start: the second child begins signalled.
+pub const STARTS_SIGNALLED: &str =
+    r#"{"version":1,"shared":[],"units":[{"kind":"main","params":"","slots":1,"code":[["make",0],["spawn",1,[0]],["resume",0],["spawn",2,[0]],["advance"],["ret"]]},{"kind":"body","params":"c","slots":1,"code":[["advance"],["ret"]]},{"kind":"body","params":"c","slots":2,"code":[["advance"],["lit",1,3],["print",1],["ret"]]}]}"#;
+
+/// Main leaves the clock to the activity that it started.
+pub const LEFT_ALONE: &str =
+    r#"{"version":1,"shared":[],"units":[{"kind":"main","params":"","slots":1,"code":[["make",0],["spawn",1,[0]],["drop",0],["ret"]]},{"kind":"body","params":"c","slots":2,"code":[["advance"],["lit",1,4],["print",1],["ret"]]}]}"#;
+
+/// Two phases, the first resumed twice.
+pub const TWO_PHASES: &str =
+    r#"{"version":1,"shared":[],"units":[{"kind":"main","params":"","slots":1,"code":[["make",0],["spawn",1,[0]],["resume",0],["resume",0],["advance"],["advance"],["ret"]]},{"kind":"body","params":"c","slots":2,"code":[["advance"],["advance"],["lit",1,2],["print",1],["ret"]]}]}"#;
+
+/// Three activities, each on two of three clocks.
+pub const RING: &str =
+    r#"{"version":1,"shared":[],"units":[{"kind":"main","params":"","slots":3,"code":[["make",0],["make",1],["make",2],["spawn",1,[0,1]],["spawn",2,[1,2]],["spawn",3,[2,0]],["ret"]]},{"kind":"body","params":"cc","slots":2,"code":[["advance"],["advance"],["ret"]]},{"kind":"body","params":"cc","slots":2,"code":[["advance"],["advance"],["ret"]]},{"kind":"body","params":"cc","slots":2,"code":[["advance"],["advance"],["ret"]]}]}"#;
+
+/// Numbers are given by value, and sums of them wrap.
+pub const GIVEN: &str =
+    r#"{"version":1,"shared":[],"units":[{"kind":"main","params":"","slots":3,"code":[["lit",0,9223372036854775807],["lit",2,1],["make",1],["spawn",1,[0,1,2]],["lit",0,7],["print",0],["advance"],["ret"]]},{"kind":"body","params":"ncn","slots":4,"code":[["add",3,0,2],["drop",1],["print",3],["advance"],["ret"]]}]}"#;
+
+/// Each activity starts the next unit's twice.
+pub const DOUBLING: &str =
+    r#"{"version":1,"shared":[],"units":[{"kind":"main","params":"","slots":0,"code":[["spawn",1,[]],["spawn",1,[]],["ret"]]},{"kind":"body","params":"","slots":0,"code":[["spawn",2,[]],["spawn",2,[]],["ret"]]},{"kind":"body","params":"","slots":0,"code":[["spawn",3,[]],["spawn",3,[]],["ret"]]},{"kind":"body","params":"","slots":0,"code":[["advance"],["ret"]]}]}"#;
+
+/// A clock goes from hand to hand: each leaves it to what it starts, in another standing.
+pub const HANDED_ON: &str =
+    r#"{"version":1,"shared":[],"units":[{"kind":"main","params":"","slots":1,"code":[["make",0],["resume",0],["spawn",1,[0]],["drop",0],["ret"]]},{"kind":"body","params":"c","slots":1,"code":[["advance"],["spawn",2,[0]],["resume",0],["spawn",3,[0]],["ret"]]},{"kind":"body","params":"c","slots":1,"code":[["resume",0],["spawn",3,[0]],["advance"],["advance"],["ret"]]},{"kind":"body","params":"c","slots":2,"code":[["advance"],["advance"],["lit",1,8],["print",1],["ret"]]}]}"#;
+
+/// Two clocks that are left and handed on in two orders, and a third that a child makes.
+pub const CROSSED: &str =
+    r#"{"version":1,"shared":[],"units":[{"kind":"main","params":"","slots":3,"code":[["make",0],["make",1],["spawn",1,[0,1]],["advance"],["drop",0],["spawn",2,[1]],["resume",1],["advance"],["lit",2,9],["print",2],["ret"]]},{"kind":"body","params":"cc","slots":3,"code":[["resume",1],["spawn",2,[0]],["drop",0],["spawn",3,[1]],["advance"],["make",2],["spawn",3,[2]],["advance"],["drop",2],["advance"],["ret"]]},{"kind":"body","params":"c","slots":1,"code":[["advance"],["drop",0],["advance"],["ret"]]},{"kind":"body","params":"c","slots":2,"code":[["resume",0],["advance"],["lit",1,6],["print",1],["advance"],["ret"]]}]}"#;
+
+/// All of them, with their names.
+pub fn all() -> [(&'static str, &'static str); 10] {
+    [
+        ("in step", IN_STEP),
+        ("starts ahead", STARTS_AHEAD),
+        ("starts signalled", STARTS_SIGNALLED),
+        ("left alone", LEFT_ALONE),
+        ("two phases", TWO_PHASES),
+        ("ring", RING),
+        ("given", GIVEN),
+        ("doubling", DOUBLING),
+        ("handed on", HANDED_ON),
+        ("crossed", CROSSED),
+    ]
+}
+
+/// The module that a text names, verified.
+pub fn accepted(alloc: Global, text: &str) -> Result<Verified, Fail> {
+    let Ok(program) = read_module(alloc, text.as_bytes()) else {
+        return Err("a text is no module".into());
+    };
+    let Ok(verified) = verify(alloc, program) else {
+        return Err("a module is refused".into());
+    };
+    Ok(verified)
+}

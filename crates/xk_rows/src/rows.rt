@@ -1,0 +1,211 @@
+//! Schedules whose runs are known from outside.
+
+use crate::order::{Order, schedule_in};
+use crate::programs::{
+    IN_STEP, LEFT_ALONE, RING, STARTS_AHEAD, STARTS_SIGNALLED, TWO_PHASES, accepted,
+};
+use std::alloc::Global;
+use std::process::Abort;
+use std::test::Fail;
+use xk_bounds::Verified;
+use xk_core::{Core, Halt, Ran, run_schedule};
+use xk_types::{Act, ClockId, Event};
+
+/// The schedule from the opening core, which has to go through.
+fn ran<'m>(alloc: Global, verified: &'m Verified, schedule: &[u32]) -> Result<Ran<'m>, Fail> {
+    match run_schedule(alloc, Core::open(alloc, verified)?, schedule) {
+        Ok(ran) => Ok(ran),
+        Err(_) => Err("a schedule is halted".into()),
+    }
+}
+
+/// The schedule from the opening core, which has to be halted by an activity that isn't enabled: where, and the core there.
+fn halted<'m>(
+    alloc: Global,
+    verified: &'m Verified,
+    schedule: &[u32],
+) -> Result<(usize, Core<'m>), Fail> {
+    match run_schedule(alloc, Core::open(alloc, verified)?, schedule) {
+        Err(Halt::NotEnabled { at, core }) => Ok((at, core)),
+        _ => Err("a schedule isn't halted".into()),
+    }
+}
+
+/// The phase of each clock, and the step of its last advance.
+fn advances(alloc: Global, core: &Core) -> Result<Vec<(u64, u64)>, Fail> {
+    let mut list = Vec::new(alloc);
+    for c in 0..core.clocks() {
+        list.push((core.phase(ClockId(c)), core.last(ClockId(c))))?;
+    }
+    Ok(list)
+}
+
+/// The step of the last pass of each activity.
+fn passes(alloc: Global, core: &Core) -> Result<Vec<u64>, Fail> {
+    let mut list = Vec::new(alloc);
+    for a in 0..core.activities() {
+        list.push(core.since(Act(a)))?;
+    }
+    Ok(list)
+}
+
+/// This is the schedule of the module in that order, and it ends so.
+fn ends(
+    rt: &impl Abort,
+    alloc: Global,
+    text: &str,
+    order: Order,
+    schedule: &[u32],
+    clocks: &[(u64, u64)],
+    since: &[u64],
+) -> Result<(), Fail> {
+    let verified = accepted(alloc, text)?;
+    let found = schedule_in(alloc, verified.module(), order)?;
+    assert_eq!(rt; found.as_slice(), schedule);
+    let ran = ran(alloc, &verified, schedule)?;
+    assert!(rt; ran.core.ended() && ran.core.pick().is_none());
+    assert_eq!(rt; ran.core.steps_done(), verified.steps());
+    assert_eq!(rt; advances(alloc, &ran.core)?.as_slice(), clocks);
+    assert_eq!(rt; passes(alloc, &ran.core)?.as_slice(), since);
+    Ok(())
+}
+
+#[test]
+fn two_in_step(rt: HostRuntime) -> Result<(), Fail> {
+    let alloc = rt.alloc();
+    let verified = accepted(alloc, IN_STEP)?;
+    let schedule = [0, 0, 0, 1, 0, 0, 0, 0, 1, 1, 1, 1];
+    let ran = ran(alloc, &verified, &schedule)?;
+    let wanted = [
+        Event::Made,
+        Event::Spawned,
+        Event::Arrived,
+        Event::Arrived,
+        Event::Passed,
+        Event::Printed(1),
+        Event::Ended,
+        Event::Passed,
+        Event::Printed(2),
+        Event::Ended,
+    ];
+    assert_eq!(rt; ran.seen.as_slice(), wanted.as_slice());
+    ends(
+        &rt,
+        alloc,
+        IN_STEP,
+        Order::First,
+        &schedule,
+        &[(1, 4)],
+        &[5, 9],
+    )
+}
+
+#[test]
+fn two_in_step_are_halted(rt: HostRuntime) -> Result<(), Fail> {
+    let alloc = rt.alloc();
+    let verified = accepted(alloc, IN_STEP)?;
+    let (at, core) = halted(alloc, &verified, &[0, 0, 0, 0])?;
+    assert_eq!(rt; (at, core.steps_done()), (3, 3));
+    assert_eq!(rt; (core.activities(), core.clocks()), (2, 1));
+    assert!(rt; !core.enabled(Act(0)) && core.enabled(Act(1)));
+    assert_eq!(rt; advances(alloc, &core)?.as_slice(), [(0, 0)].as_slice());
+    let (at, core) = halted(alloc, &verified, &[1])?;
+    assert_eq!(rt; (at, core.steps_done(), core.activities()), (0, 0, 1));
+    let nothing = ran(alloc, &verified, &[])?;
+    assert!(rt; nothing.seen.is_empty());
+    assert_eq!(rt;
+        (nothing.core.steps_done(), nothing.core.activities()),
+        (0, 1)
+    );
+    assert_eq!(rt; nothing.core.clocks(), 0);
+    assert_eq!(rt; nothing.core.pick(), Some(Act(0)));
+    Ok(())
+}
+
+#[test]
+fn a_child_starts_ahead(rt: HostRuntime) -> Result<(), Fail> {
+    let schedule = [0, 0, 0, 0, 0, 0, 1, 1, 1];
+    ends(
+        &rt,
+        rt.alloc(),
+        STARTS_AHEAD,
+        Order::First,
+        &schedule,
+        &[(1, 2)],
+        &[5, 8],
+    )
+}
+
+#[test]
+fn a_child_starts_signalled(rt: HostRuntime) -> Result<(), Fail> {
+    let schedule = [0, 0, 0, 0, 0, 1, 0, 0, 1, 1, 2, 2, 2, 2, 2];
+    ends(
+        &rt,
+        rt.alloc(),
+        STARTS_SIGNALLED,
+        Order::First,
+        &schedule,
+        &[(1, 6)],
+        &[7, 9, 12],
+    )
+}
+
+#[test]
+fn a_child_is_left_alone(rt: HostRuntime) -> Result<(), Fail> {
+    let first = [0, 0, 0, 0, 1, 1, 1, 1, 1];
+    ends(
+        &rt,
+        rt.alloc(),
+        LEFT_ALONE,
+        Order::First,
+        &first,
+        &[(1, 5)],
+        &[0, 6],
+    )?;
+    // The drop lets the clock advance.
+    let last = [0, 0, 1, 0, 1, 1, 1, 1, 0];
+    ends(
+        &rt,
+        rt.alloc(),
+        LEFT_ALONE,
+        Order::Last,
+        &last,
+        &[(1, 4)],
+        &[0, 5],
+    )
+}
+
+#[test]
+fn nobody_is_two_phases_on(rt: HostRuntime) -> Result<(), Fail> {
+    let alloc = rt.alloc();
+    let verified = accepted(alloc, TWO_PHASES)?;
+    let (at, core) = halted(alloc, &verified, &[0, 0, 0, 1, 1, 1, 1])?;
+    assert_eq!(rt; (at, core.steps_done()), (6, 6));
+    assert_eq!(rt; advances(alloc, &core)?.as_slice(), [(1, 4)].as_slice());
+    let schedule = [0, 0, 0, 1, 1, 1, 0, 0, 0, 0, 0, 0, 1, 1, 1, 1];
+    let ran = ran(alloc, &verified, &schedule)?;
+    assert!(rt; ran.core.ended());
+    assert_eq!(rt;
+        advances(alloc, &ran.core)?.as_slice(),
+        [(2, 10)].as_slice()
+    );
+    assert_eq!(rt; passes(alloc, &ran.core)?.as_slice(), [11, 13].as_slice());
+    Ok(())
+}
+
+#[test]
+fn a_ring_of_three(rt: HostRuntime) -> Result<(), Fail> {
+    let schedule = [
+        0, 0, 0, 0, 0, 0, 0, 1, 2, 3, 1, 1, 2, 2, 3, 3, 1, 1, 2, 2, 3, 3,
+    ];
+    let clocks = [(2, 16), (2, 14), (2, 16)];
+    ends(
+        &rt,
+        rt.alloc(),
+        RING,
+        Order::First,
+        &schedule,
+        &clocks,
+        &[0, 17, 19, 21],
+    )
+}
