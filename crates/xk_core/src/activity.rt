@@ -90,6 +90,7 @@ impl Activity {
         self.frame.place
     }
 
+    /// Whether it goes on, waits at an `advance`, or is over.
     pub fn status(&self) -> Status
         ensures { result ≡ self.now.status }
     {

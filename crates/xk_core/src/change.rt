@@ -34,6 +34,7 @@ impl Move {
 /// A change of an activity's standings.
 #[derive(Clone, Copy, Debug, PartialEq, Eq)]
 pub enum Change {
+    /// On no clock.
     Nothing,
     /// On the clock of this number.
     Only(usize, Move),
@@ -54,6 +55,7 @@ impl Change {
     }
 }
 
+/// Whether it is a registration that has resumed the clock, which hasn't advanced since.
 pub fn is_signalled(s: Standing) -> bool
     ensures { result ≡ is_signalled s }
 {

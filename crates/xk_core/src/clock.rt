@@ -12,6 +12,7 @@ use std::alloc::{AllocError, Global};
 use std::marker::Model;
 use xk_types::Standing;
 
+/// A clock, with a standing for each activity, in the order of their numbers.
 #[derive(Drop)]
 pub struct Clock {
     phase: u64,
@@ -113,12 +114,14 @@ impl Clock {
     }
 }
 
+/// Whether somebody is signalled.
 fn some_signalled(standings: &[Standing]) -> bool
     ensures { result ≡ list_any is_signalled standings.now }
 {
     standings.iter().any(|s| is_signalled(*s))
 }
 
+/// Whether somebody keeps the clock back.
 fn some_pending(standings: &[Standing]) -> bool
     ensures { result ≡ list_any is_pending standings.now }
 {

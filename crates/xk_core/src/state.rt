@@ -19,6 +19,7 @@ use std::alloc::{AllocError, Global};
 use std::marker::Model;
 use xk_types::{ClockId, Event, Instr, Module, Status, Value};
 
+/// The world: activities and clocks by their numbers, the shared numbers, and how many steps were taken.
 #[derive(Drop)]
 pub struct State {
     activities: Vec<Activity>,

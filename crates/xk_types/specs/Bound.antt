@@ -1,4 +1,5 @@
--- How many steps, activities, clocks and slots a module can take, as sums over its instructions.
+-- How many steps, activities and clocks a run of a module can take, as sums over its instructions, and how many slots an
+-- activity. The bounds and their limits are this project's own.
 use Rattle.std.specs.Prelude.{ℕ, zero, suc, ◌+◌, ◌≤◌, max, length, slice_get, sum_by, fold, map}
 use Rattle.std.specs.Option.{option_map_or}
 use Rattle.xk_types.specs.declared.instr.Instr.{Instr}

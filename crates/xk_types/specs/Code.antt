@@ -1,4 +1,4 @@
--- What a module is, apart from where it lies in memory, and its limits.
+-- What a module is, apart from where it lies in memory, and its limits. Bytecode, modules and limits are this project's own.
 use Rattle.std.specs.Prelude.{ℕ, ℤ, ◌≤◌, Bool, true, false, List, [], length, slice_get, Option, Some, None, All}
 use Rattle.std.specs.Option.{option_map_or}
 use Rattle.xk_types.specs.declared.instr.Instr.{Instr}

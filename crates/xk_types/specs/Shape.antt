@@ -1,4 +1,4 @@
--- The rules on the shape of code: which places break them.
+-- The rules on the shape of code: which places break them. They are this project's own.
 use Rattle.std.specs.Prelude.{◌≡◌, ℕ, ◌+◌, ◌==◌, nat_lt, Bool, true, false, not, ◌&&◌, ◌||◌, List, [], ◌∷◌, length, Option, Some, None, slice_get, if◌then◌else◌}
 use Rattle.std.specs.List.{list_all, list_any}
 use Rattle.xk_types.specs.declared.instr.Instr.{Instr}

@@ -6,8 +6,11 @@
 -- registration raises ClockUseException; a clock advances when every activity registered on it has resumed it; an
 -- activity that ends is registered on no clock any more; `async clocked(c1, .., cn) S` starts an activity registered on the
 -- clocks named, and the starter must be registered on each. From the chapter Activities: `async S` starts an activity that
--- runs S, and the starter goes on without waiting. This project's own rules: a second resume has no effect; the two halves
--- of `advanceAll` are two steps; a child stands on a clock that it is given where its starter stands.
+-- runs S, and the starter goes on without waiting. X10's `Long` has 64 bits in two's complement, and its sums wrap.
+-- This project's own rules: a second resume has no effect; the two halves of `advanceAll` are two steps; a child stands on a
+-- clock that it is given where its starter stands, and a missing registration is the only ground of ClockUseException, so
+-- that a starter that has resumed a clock may hand it on; a clock that can advance does so at the end of the same step, and
+-- one that nobody is registered on never does; what else is wrong but ClockUseException.
 use Rattle.std.specs.Prelude.{ℕ, suc, ℤ, ◌+◌, ◌==◌, Bool, true, false, not, ◌&&◌, List, [], ◌∷◌, ◌++◌, map, length, replicate, Option, Some, None, slice_get, slice_set, if◌then◌else◌}
 use Rattle.std.specs.Int.{w64, int_wrapping_add}
 use Rattle.std.specs.List.{list_any}
@@ -27,7 +30,8 @@ use Rattle.xk_types.specs.Code.{UnitValue, ModuleValue, is_body}
 use Rattle.xk_types.specs.World.{Finish, Activity, Clock, World, standing_of, frame_with, instruction_at}
 
 -- Why a step is wrong: a clock operation by an activity that isn't registered on the clock; an unset slot is read; a
--- number is wanted and a clock stands there, or the reverse; there is no such instruction, unit, slot or shared number.
+-- number is wanted and a clock stands there, or the reverse; there is no such instruction, unit, slot, clock or shared
+-- number, or the unit can't be started so: it is no body, or has another number of parameters than there are arguments.
 pub data Cause : Type 0 where
   ClockUse : Cause
   Missing : Cause

@@ -1,7 +1,8 @@
 -- What the verifier follows: the kind of one slot along walks through one unit's code.
 --
 -- A slot's kind says what it holds: nothing, a number, or the name of a clock on which the activity is registered and
--- open (live), registered and signalled or ahead (resumed), or registered no more (out).
+-- open (live), registered and signalled or ahead (resumed), or registered no more (out). Kinds, table and walks are this
+-- project's own.
 use Rattle.std.specs.Prelude.{◌≡◌, ℕ, ◌+◌, ◌<◌, ◌==◌, List, [], ◌∷◌, Option, Some, None, slice_get, if◌then◌else◌}
 use Rattle.xk_types.specs.declared.instr.Instr.{Instr}
 use Rattle.xk_types.specs.declared.instr.Instr.TheVariants as instr

@@ -1,7 +1,8 @@
 -- The world of a running program.
 --
 -- X10 Language Specification 2.4: an activity runs a statement on its own (chapter Activities); a clock has a phase, and
--- each activity registered on it has resumed it in this phase or has not (chapter Clocks).
+-- each activity registered on it has resumed it in this phase or has not (chapter Clocks). How a world is written down is
+-- this project's own.
 use Rattle.std.specs.Prelude.{ℕ, ℤ, ◌-◌, List, [], ◌∷◌, ◌++◌, length, Option, None, replicate, slice_get, slice_index_or, option_and_then}
 use Rattle.std.specs.Option.{option_map_or}
 use Rattle.xk_types.specs.declared.instr.Instr.{Instr}
@@ -13,7 +14,7 @@ use Rattle.xk_types.specs.declared.names.Standing.{Standing}
 use Rattle.xk_types.specs.declared.names.Standing.TheVariants as standing
 use Rattle.xk_types.specs.Code.{ModuleValue}
 
--- a method in progress: its unit, the instruction that it stands at, its slots
+-- a unit in progress: its number, the instruction that it stands at, its slots
 pub record Frame : Type 0 where
   pub unit : ℕ
   pub place : ℕ
@@ -25,8 +26,9 @@ pub record Finish : Type 0 where
   pub owner : Option ℕ
   pub depth : ℕ
 
--- an activity: its present frame, the frames that wait for it to return, its status, the number of the step of its last
--- pass, how many finishes it has open, and the finish that governs it
+-- An activity: its present frame, the frames that wait for it to return, its status, the number of the step of its last pass
+-- (its starter's, until it passes itself), how many finishes it has open, and the finish that governs it. Whether a step is
+-- possible, and what else it changes, depends neither on when an activity passed nor on when a clock advanced.
 pub record Activity : Type 0 where
   pub frame : Frame
   pub callers : List Frame

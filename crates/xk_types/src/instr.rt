@@ -5,7 +5,8 @@ ghost use Rattle.xk_types.specs.Code.{arguments_of};
 
 use std::marker::Model;
 
-/// The slots whose values a unit is given, one for each of its parameters and in their order.
+/// The slots whose values a unit is given: where the verifier accepts the module, one for each of its parameters and in their
+/// order.
 #[derive(Drop)]
 pub struct Args {
     slots: Vec<u16>,

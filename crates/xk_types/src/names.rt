@@ -49,13 +49,16 @@ pub enum Value {
 /// Whether an activity goes on, waits at an `advance`, or is over.
 #[derive(Clone, Copy, Debug, PartialEq, Eq)]
 pub enum Status {
+    /// It carries out the instruction that it stands at with its next step.
     Running,
     /// It took the first step of an `advance`, and hasn't taken the second.
     Arrived,
+    /// It came to its `ret`, and takes no step any more.
     Ended,
 }
 
-/// Where an activity stands on a clock.
+/// Where an activity stands on a clock. One that is started stands on the clocks that it is given where its starter does, as
+/// if it had itself done what its starter did.
 #[derive(Clone, Copy, Debug, PartialEq, Eq)]
 pub enum Standing {
     /// It isn't registered on the clock.
@@ -71,16 +74,22 @@ pub enum Standing {
 /// What one step does. A step whose event is `Local` can't be seen by another activity.
 #[derive(Clone, Copy, Debug, PartialEq, Eq)]
 pub enum Event {
+    /// Nothing changed but the activity's own frame.
     Local,
+    /// The number was printed.
     Printed(i64),
+    /// A new clock was made: it has the next number.
     Made,
     /// A new activity was started: it has the next number.
     Spawned,
+    /// A clock was resumed.
     Resumed,
+    /// A registration was ended.
     Dropped,
     /// The first step of an `advance`.
     Arrived,
     /// The second step of an `advance`.
     Passed,
+    /// The activity ended.
     Ended,
 }

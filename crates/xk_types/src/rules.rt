@@ -95,16 +95,16 @@ impl Rule {
     }
 }
 
-/// What a walk knows of a slot.
+/// What a walk knows of a slot. This project's own, as the rules are.
 #[derive(Clone, Copy, Debug, PartialEq, Eq)]
 pub enum Kind {
     /// Nothing was written to it.
     Unset,
     /// It holds a number.
     Number,
-    /// It names a clock that the activity hasn't resumed in this phase.
+    /// It names a clock on which the activity is open: not resumed since its last pass, or since it was registered.
     Live,
-    /// It names a clock that the activity has resumed.
+    /// It names a clock on which the activity is signalled or ahead: resumed, and not passed since.
     Resumed,
     /// It names a clock that the activity has dropped.
     Out,
@@ -128,6 +128,8 @@ impl Kind {
 /// One stop of a walk: an instruction, and the kind of the walk's slot before it.
 #[derive(Clone, Copy, Debug, PartialEq, Eq)]
 pub struct Visit {
+    /// The instruction's number in the unit's code.
     pub at: u16,
+    /// What the slot may hold before it.
     pub kind: Kind,
 }
