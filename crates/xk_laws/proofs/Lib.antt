@@ -15,6 +15,7 @@ pub mod Waiting
 pub mod Instructions
 pub mod Progress
 pub mod Opening
+pub mod Forms
 pub mod Counts
 pub mod Reached
 pub mod Checked

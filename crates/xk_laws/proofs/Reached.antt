@@ -111,80 +111,10 @@ sound_room m w s = record {
 pub reached_room : (m : ModuleValue) → IsWithinLimits m → IsAccepted m → (w : World) → IsReached m w → HasRoom m w
 reached_room m limits ok w r = sound_room m w (reached_sound m limits ok w r)
 
--- and so is the world after a step of it
-pub stepped_room : (m : ModuleValue) → IsWithinLimits m → IsAccepted m → (w v : World) (a : ℕ) (e : Event) → IsReached m w → step m w a ≡ Stepped v e → HasRoom m v
-stepped_room m limits ok w v a e r h = reached_room m limits ok v (reached_step m w v a e r h)
-
 -- where nobody is enabled, all have ended
 pub reached_ends : (m : ModuleValue) → IsWithinLimits m → IsAccepted m → (w : World) → IsReached m w
     → ((a : ℕ) → a < length w.activities → is_enabled m w a ≡ false) → all_ended w ≡ true
 reached_ends m limits ok w r stuck = stuck_ended m ok w (reached_sound m limits ok w r) stuck
-
--- ---- what stands in a reached world
-
--- there are no more activities than the bound
-pub reached_activities : (m : ModuleValue) → IsWithinLimits m → IsAccepted m → (w : World) → IsReached m w → length w.activities ≤ activities_bound m
-reached_activities m limits ok w r = (reached_room m limits ok w r).activities
-
--- each clock has a standing for each activity
-pub reached_width : (m : ModuleValue) → IsWithinLimits m → IsAccepted m → (w : World) → IsReached m w
-    → (k : ℕ) (c : Clock) → slice_get w.clocks k ≡ Some c → length c.standings ≡ length w.activities
-reached_width m limits ok w r k c found = ((reached_sound m limits ok w r).clocks k c found).width
-
--- what an activity is made of: a unit of the module, all of its slots, an instruction of it, no callers and no open finish
-pub record IsPlaced (m : ModuleValue) (act : Activity) : Type 0 where
-  pub u : UnitValue
-  pub found : slice_get m.units act.frame.unit ≡ Some u
-  pub slots : length act.frame.slots ≡ u.slots
-  pub place : act.frame.place < length u.code
-  pub callers : act.callers ≡ []
-  pub opened : act.opened ≡ 0
-  pub governed : act.governed ≡ root
-
--- each activity of a reached world
-pub reached_placed : (m : ModuleValue) → IsWithinLimits m → IsAccepted m → (w : World) → IsReached m w
-    → (a : ℕ) (act : Activity) → slice_get w.activities a ≡ Some act → IsPlaced m act
-reached_placed m limits ok w r a act found =
-    let s = (reached_sound m limits ok w r).activities a act found in
-    record {
-      u = s.u;
-      found = s.unit;
-      slots = s.frame.slots;
-      place = s.frame.place;
-      callers = s.callers;
-      opened = s.opened;
-      governed = s.governed;
-    }
-
--- what an activity that stands at `spawn t args` starts: a body, of greater number, with a parameter for each argument and a
--- slot for each parameter; and its own slots that the arguments name
-pub record StandsAtSpawn (m : ModuleValue) (act : Activity) (t : ℕ) (args : List ℕ) : Type 0 where
-  pub v : UnitValue
-  pub found : slice_get m.units t ≡ Some v
-  pub body : is_body v.kind ≡ true
-  pub later : act.frame.unit < t
-  pub count : length args ≡ length v.params
-  pub limits : IsUnitWithinLimits v
-  pub slots : (x : ℕ) → Has args x → x < length act.frame.slots
-
--- each activity of a reached world that stands there
-pub reached_start : (m : ModuleValue) → IsWithinLimits m → IsAccepted m → (w : World) → IsReached m w
-    → (a : ℕ) (act : Activity) → slice_get w.activities a ≡ Some act
-    → (t : ℕ) (args : List ℕ) → instruction_at m act.frame ≡ Some (instr.Spawn t args) → StandsAtSpawn m act t args
-reached_start m limits ok w r a act found t args at =
-    let s = (reached_sound m limits ok w r).activities a act found in
-    let here = sym (ap (option_and_then (λ unit. slice_get unit.code act.frame.place)) s.unit) ∙ at in
-    let fit = unit_fits m ok.shape act.frame.unit s.u s.unit in
-    let start = start_fits m ok.shape act.frame.unit s.u s.unit t args act.frame.place here in
-    record {
-      v = start.v;
-      found = start.found;
-      body = start.body;
-      later = start.later;
-      count = start.count;
-      limits = unit_limits m limits t start.v start.found;
-      slots = λ x named. (let h = fit.slots (instr.Spawn t args) act.frame.place x here named in omega (arith, s.frame.slots));
-    }
 
 -- ---- the law
 
