@@ -25,10 +25,10 @@ loop-unit-preserved c =
     let lt : unit < length units = omega (arith, inv.0) in
     let found : slice_get m.units unit ≡ Some u = ap (λ us. slice_get us unit) (sym c.units-units.ensures.listed) ∙ slice_get_read units (length units) unit u refl lt c.index-units-unit.is in
     let read : most ≡ min (sum_by (added weight (slice_index table)) u.code) CUT =
-        let code : c.deref.result.now ≡ u.code = c.deref.ensures.value ∙ ap (λ (x : UnitValue). x.code) c.u.view_is in
-        let Q : List Instr → Type 0 = λ is. most ≡ min (sum_by (added weight (slice_index table)) is) CUT in
-        let R : List ℕ → Type 0 = λ xs. most ≡ min (sum_by (added weight (slice_index xs)) c.deref.result.now) CUT in
-        subst Q code (subst R c.deref-in-loop-unit.ensures.value c.most_of-most.ensures)
+    let code : c.deref.result.now ≡ u.code = c.deref.ensures.value ∙ ap (λ (x : UnitValue). x.code) c.u.view_is in
+    let Q : List Instr → Type 0 = λ is. most ≡ min (sum_by (added weight (slice_index table)) is) CUT in
+    let R : List ℕ → Type 0 = λ xs. most ≡ min (sum_by (added weight (slice_index xs)) c.deref.result.now) CUT in
+    subst Q code (subst R c.deref-in-loop-unit.ensures.value c.most_of-most.ensures)
     in
     let here = read ∙ total_cut weight m c.requires CUT table unit u found (λ t above inside. inv.1 t (omega arith) inside) in (
       length-set table unit most ∙ inv.0,
