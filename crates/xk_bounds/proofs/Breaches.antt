@@ -1,7 +1,7 @@
 -- Which rules on shape are broken where, and what code without a breach is like.
 use Rattle.std.proofs.Common.{◌≡◌, ℕ, ◌+◌, ◌<◌, ◌≤◌, Bool, true, false, not, ◌&&◌, ◌||◌, eqb, nat_lt, length, Option, Some, None, slice_get, refl, ap, subst, sym, ◌∙◌, arith, inl, inr}
 use Rattle.std.proofs.lemmas.Option.{slice_get_past}
-use Rattle.std.proofs.lemmas.Bool.{ne_eqb, eqb-true, lt-ltb, not-false, and_parts, and_cases, or_parts, cases_lt, cases_order, both_ways}
+use Rattle.std.proofs.lemmas.Bool.{ne_eqb, lt-ltb, and_cases, or_parts, cases_lt, cases_order, both_ways}
 use Rattle.xk_types.specs.declared.instr.Instr.{Instr}
 use Rattle.xk_types.specs.declared.rules.Rule.{Rule}
 use Rattle.xk_types.specs.declared.rules.Rule.TheVariants as rule

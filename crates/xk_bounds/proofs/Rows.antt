@@ -15,7 +15,7 @@ use Rattle.xk_types.specs.Order.{NotAfter}
 use Rattle.xk_types.specs.Walk.{After, To, Refused, after, row_of, IsVisited}
 use Rattle.xk_bounds.specs.declared.kinds.Stop.{Stop}
 use Rattle.xk_bounds.specs.Place.{visit}
-use Rattle.xk_bounds.specs.Straight.{IsStraight, IsAlike, IsLeastKind, IsFirstRow, IsNextRow, IsFirstStop, IsRefusedIn, IsNeverRefusedIn, kind_in, least_entry}
+use Rattle.xk_bounds.specs.Straight.{IsStraight, IsAlike, IsLeastKind, IsFirstRow, IsNextRow, IsFirstStop, IsRefusedIn, IsNeverRefusedIn, kind_in}
 use Rattle.xk_bounds.proofs.Alike.{refused_alike}
 use Rattle.xk_bounds.proofs.Walks.{least_start, least_more}
 

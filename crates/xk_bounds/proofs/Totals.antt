@@ -1,5 +1,5 @@
 -- Sums over a unit's instructions, each with the sum of the unit that it starts, and such sums cut at a number.
-use Rattle.std.proofs.Common.{◌≡◌, ℕ, zero, suc, ◌+◌, ◌<◌, ◌≤◌, ◌&&◌, eqb, min, nat_lt, Bool, true, false, not, List, [], ◌∷◌, length, Option, Some, None, slice_get, slice_index, sum_by, sym, refl, ap, ◌∙◌, arith}
+use Rattle.std.proofs.Common.{◌≡◌, ℕ, zero, suc, ◌+◌, ◌<◌, ◌≤◌, ◌&&◌, eqb, min, nat_lt, true, false, not, List, [], ◌∷◌, length, Option, Some, None, slice_get, slice_index, sum_by, sym, refl, ap, ◌∙◌, arith}
 use Rattle.std.specs.Option.{option_map_or}
 use Rattle.std.proofs.lemmas.Option.{slice_get_past, slice_get_within, same_Some}
 use Rattle.std.proofs.lemmas.Bool.{and_parts, or_parts, not-false, ltb-true, both_ways}

@@ -1,5 +1,5 @@
 -- The bounds of a module, as the verifier holds them.
-use Rattle.std.specs.Prelude.{◌≡◌, ℕ, ◌+◌, min, List, sum_by, slice_index}
+use Rattle.std.specs.Prelude.{◌≡◌, ℕ, ◌+◌, min}
 use Rattle.std.specs.Option.{option_map_or}
 use Rattle.xk_types.specs.declared.instr.Instr.{Instr}
 use Rattle.xk_types.specs.Code.{ModuleValue, IsWithinLimits, unit_started}

@@ -126,7 +126,13 @@ fn step_row(m: &Module, instr: &Instr, row: &mut Vec<Kind>) -> Result<(), Stop>
 }
 
 /// The walk of one slot from the first instruction to this one, along its least kinds.
-fn walk_to(alloc: Global, m: &Module, u: &Unit, slot: u16, end: u16) -> Result<Vec<Visit>, AllocError>
+fn walk_to(
+    alloc: Global,
+    m: &Module,
+    u: &Unit,
+    slot: u16,
+    end: u16,
+) -> Result<Vec<Visit>, AllocError>
     requires straight { IsStraight u.now }
     requires inside { end < length u.now.code }
     requires reached { (k : Kind) × IsVisited m.now u.now slot (visit end k) }
@@ -185,7 +191,14 @@ fn kinds_after(m: &Module, instr: &Instr, slot: u16, kinds: KindSet) -> KindSet
 }
 
 /// What is left so far, with what an instruction leaves of one kind more, where that is one of the set.
-fn with_after(m: &Module, instr: &Instr, slot: u16, kinds: KindSet, kind: Kind, left: KindSet) -> KindSet
+fn with_after(
+    m: &Module,
+    instr: &Instr,
+    slot: u16,
+    kinds: KindSet,
+    kind: Kind,
+    left: KindSet,
+) -> KindSet
     ensures { (u : UnitValue) (k : Kind)
         → IsTrue (kinds_have result k)
         ↔ (IsTrue (kinds_have left k)

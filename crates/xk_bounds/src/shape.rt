@@ -129,9 +129,7 @@ fn is_startable(m: &Module, unit: u16, started: u16, args: &Args) -> bool
     ensures { result ≡ is_startable unit started args.now (slice_get m.now.units started) }
 {
     match m.units().get(started as usize) {
-        Some(u) => {
-            u.kind == UnitKind::Body && unit < started && args.count() == u.params.len()
-        }
+        Some(u) => { u.kind == UnitKind::Body && unit < started && args.count() == u.params.len() }
         None => false,
     }
 }

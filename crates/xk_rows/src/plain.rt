@@ -227,14 +227,21 @@ impl<'m> Plain<'m> {
         }
     }
 
-    /// The clock that the activity's slot names, on which it must be registered.
-    fn barrier_of(&mut self, a: u32, slot: u16) -> Result<(u32, &mut Barrier), Fail> {
-        let Some(Value::Clock(clock)) = self.actor(a)?.slots.get(slot as usize).copied() else {
+    /// The number of the clock that the activity's slot names, on which it must be registered.
+    fn clock_of(&self, a: u32, slot: u16) -> Result<u32, Fail> {
+        let Some(Value::Clock(clock)) = self.actor(a)?.slots.get(slot as usize) else {
             return Err("a clock is missing".into());
         };
-        match self.barriers.get_mut(clock.0 as usize) {
-            Some(barrier) if barrier.has(a) => Ok((clock.0, barrier)),
+        match self.barriers.get(clock.0 as usize) {
+            Some(barrier) if barrier.has(a) => Ok(clock.0),
             _ => Err("a clock is used without a registration".into()),
+        }
+    }
+
+    fn barrier_mut(&mut self, c: u32) -> Result<&mut Barrier, Fail> {
+        match self.barriers.get_mut(c as usize) {
+            Some(barrier) => Ok(barrier),
+            None => Err("a clock is missing".into()),
         }
     }
 
@@ -316,11 +323,13 @@ impl<'m> Plain<'m> {
             Instr::Print(x) => Ok(Event::Printed(self.actor(a)?.number(*x)?)),
             Instr::Make(d) => self.make(alloc, a, *d),
             Instr::Resume(c) => {
-                self.barrier_of(a, *c)?.1.resume(a)?;
+                let clock = self.clock_of(a, *c)?;
+                self.barrier_mut(clock)?.resume(a)?;
                 Ok(Event::Resumed)
             }
             Instr::Drop(c) => {
-                self.barrier_of(a, *c)?.1.leave(a);
+                let clock = self.clock_of(a, *c)?;
+                self.barrier_mut(clock)?.leave(a);
                 Ok(Event::Dropped)
             }
             Instr::Spawn(t, args) => self.spawn(alloc, a, *t as usize, args),
@@ -355,8 +364,8 @@ impl<'m> Plain<'m> {
         match kind {
             ParamKind::Number => Ok(Value::Number(self.actor(a)?.number(slot)?)),
             ParamKind::Clock => {
-                let (clock, barrier) = self.barrier_of(a, slot)?;
-                barrier.join(a, child)?;
+                let clock = self.clock_of(a, slot)?;
+                self.barrier_mut(clock)?.join(a, child)?;
                 Ok(Value::Clock(ClockId(clock)))
             }
         }

@@ -1,5 +1,5 @@
 -- one unit more, from the last on
-use Rattle.std.proofs.Common.{◌≡◌, ℕ, ◌+◌, ◌-◌, ◌<◌, ◌≤◌, min, List, length, refl, Some, slice_get, slice_index, sum_by, inl, inr, sym, ap, ◌∙◌, subst, arith, get_or-set_other, get_or-set_same}
+use Rattle.std.proofs.Common.{◌≡◌, ℕ, ◌-◌, ◌<◌, min, List, length, refl, Some, slice_get, slice_index, sum_by, inl, inr, sym, ap, ◌∙◌, subst, arith, get_or-set_other, get_or-set_same}
 use Rattle.std.proofs.Math.ListN.{length-set, set}
 use Rattle.std.proofs.lemmas.Bool.{cases_lt}
 use Rattle.std.proofs.lemmas.Option.{slice_get_read}
@@ -25,10 +25,10 @@ loop-unit-preserved c =
     let lt : unit < length units = omega (arith, inv.0) in
     let found : slice_get m.units unit ≡ Some u = ap (λ us. slice_get us unit) (sym c.units-units.ensures.listed) ∙ slice_get_read units (length units) unit u refl lt c.index-units-unit.is in
     let read : most ≡ min (sum_by (added weight (slice_index table)) u.code) CUT =
-        let code : c.deref.result.now ≡ u.code = c.deref.ensures.value ∙ ap (λ (x : UnitValue). x.code) c.u.view_is in
-        let Q : List Instr → Type 0 = λ is. most ≡ min (sum_by (added weight (slice_index table)) is) CUT in
-        let R : List ℕ → Type 0 = λ xs. most ≡ min (sum_by (added weight (slice_index xs)) c.deref.result.now) CUT in
-        subst Q code (subst R c.deref-in-loop-unit.ensures.value c.most_of-most.ensures)
+    let code : c.deref.result.now ≡ u.code = c.deref.ensures.value ∙ ap (λ (x : UnitValue). x.code) c.u.view_is in
+    let Q : List Instr → Type 0 = λ is. most ≡ min (sum_by (added weight (slice_index table)) is) CUT in
+    let R : List ℕ → Type 0 = λ xs. most ≡ min (sum_by (added weight (slice_index xs)) c.deref.result.now) CUT in
+    subst Q code (subst R c.deref-in-loop-unit.ensures.value c.most_of-most.ensures)
     in
     let here = read ∙ total_cut weight m c.requires CUT table unit u found (λ t above inside. inv.1 t (omega arith) inside) in (
       length-set table unit most ∙ inv.0,

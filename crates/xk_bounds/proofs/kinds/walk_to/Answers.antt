@@ -5,7 +5,7 @@ use Rattle.xk_types.specs.declared.rules.Visit.{Visit}
 use Rattle.xk_types.specs.Code.{UnitValue}
 use Rattle.xk_types.specs.Walk.{IsWalk, EndsAt}
 use Rattle.xk_bounds.specs.Place.{visit}
-use Rattle.xk_bounds.specs.Straight.{IsLeastKind, least_entry}
+use Rattle.xk_bounds.specs.Straight.{IsLeastKind}
 use Rattle.xk_bounds.proofs.Walks.{least_start, least_more, least_edge, least_is_one, walk_more, ends_at_push, walk_start, stopped, found_read}
 use Rattle.xk_bounds.proofs.kinds.walk_to.Goals as goal
 

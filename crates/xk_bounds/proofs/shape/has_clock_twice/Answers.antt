@@ -19,9 +19,9 @@ loop-i-preserved c =
       | in-Clock+else-has_clock w ↦
           let rest = has_twice (clock_arguments (drop (n + 1) ps) (drop (n + 1) xs)) in
           let none : list_any (λ y. eqb y (get_or xs n 0)) (clock_arguments (drop (n + 1) ps) (drop (n + 1) xs)) ≡ false =
-              let P : List ParamKind → Type 0 = λ qs. w.has_clock.result ≡ list_any (λ y. eqb y (get_or xs n 0)) (clock_arguments qs (take (length xs - (n + 1)) (drop (n + 1) xs))) in
-              let Q : List ℕ → Type 0 = λ ys. w.has_clock.result ≡ list_any (λ y. eqb y (get_or xs n 0)) (clock_arguments (drop (n + 1) ps) ys) in
-              sym (subst Q (take_rest xs (n + 1)) (subst P (take_rest ps (n + 1)) w.has_clock.ensures)) ∙ w.if-has_clock.false
+          let P : List ParamKind → Type 0 = λ qs. w.has_clock.result ≡ list_any (λ y. eqb y (get_or xs n 0)) (clock_arguments qs (take (length xs - (n + 1)) (drop (n + 1) xs))) in
+          let Q : List ℕ → Type 0 = λ ys. w.has_clock.result ≡ list_any (λ y. eqb y (get_or xs n 0)) (clock_arguments (drop (n + 1) ps) ys) in
+          sym (subst Q (take_rest xs (n + 1)) (subst P (take_rest ps (n + 1)) w.has_clock.ensures)) ∙ w.if-has_clock.false
           in
           c.loop-i.invariant ∙ ap has_twice (clocks_more ps xs n lt w.in-Clock.is) ∙ ap (λ b. b || rest) none
     ]

@@ -1,7 +1,6 @@
 -- the kinds of the slot at the place
 use Rattle.std.proofs.Common.{◌≡◌, ℕ, IsTrue, ◌↔◌, List, length, get_or, Some, slice_get, ap, sym, ◌∙◌, subst, arith}
 use Rattle.std.proofs.lemmas.Option.{get_or_from_slice_get}
-use Rattle.xk_types.specs.declared.rules.Kind.{Kind}
 use Rattle.xk_types.specs.Code.{UnitValue, ModuleValue}
 use Rattle.xk_types.specs.Walk.{IsVisited}
 use Rattle.xk_types.specs.Shape.{HasShape}
