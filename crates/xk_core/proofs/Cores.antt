@@ -1,5 +1,6 @@
 -- What holds of a core, by the law.
-use Rattle.std.proofs.Common.{◌≡◌, ℕ, ◌+◌, ◌<◌, ◌≤◌, ◌^◌, true, false, List, length, Option, Some, None, Result, Ok, Err, IfOk, OnOk, OnErr, slice_get, slice_index_or, All, arith, refl, sym, ◌∙◌}
+use Rattle.std.proofs.Common.{◌≡◌, ℕ, ◌+◌, ◌<◌, ◌≤◌, ◌^◌, Bool, true, false, cond, inl, inr, List, length, Option, Some, None, Result, Ok, Err, IfOk, OnOk, OnErr, slice_get, slice_index_or, All, arith, refl, sym, ◌∙◌}
+use Rattle.std.proofs.lemmas.Bool.{cases_lt}
 use Rattle.std.proofs.lemmas.Option.{slice_get-get_or, get_or_from_slice_get, slice_get_within}
 use Rattle.xk_types.specs.declared.names.Event.{Event}
 use Rattle.xk_types.specs.declared.names.Status.{Status}
@@ -12,11 +13,11 @@ use Rattle.xk_types.specs.Schedule.{is_step, is_enabled, all_ended}
 use Rattle.xk_types.specs.Bound.{steps_bound}
 use Rattle.xk_types.specs.Accepted.{IsAccepted}
 use Rattle.xk_laws.proofs.Invariant.{IsSound, IsClockSound}
-use Rattle.xk_laws.proofs.Counts.{step_counts}
+use Rattle.xk_laws.proofs.Counts.{step_counts, step_keeps_over}
 use Rattle.xk_laws.proofs.Reached.{HasRoom, opening_only, opening_reached, reached_step, reached_sound, reached_right, reached_room, reached_ends}
 use Rattle.xk_core.specs.Arm.{IsRoomy, carried_by, carried, passing_by, passed_on}
 use Rattle.xk_core.specs.Able.{is_able}
-use Rattle.xk_core.specs.Core.{IsCore, instruction_by, instruction_of, next_instruction}
+use Rattle.xk_core.specs.Core.{IsCore, is_over, AreOver, instruction_by, instruction_of, next_instruction}
 use Rattle.xk_core.proofs.Ableness.{able_enabled}
 
 -- what holds of each element, at an element that is there
@@ -118,3 +119,18 @@ at_ok P (Err e) p = tt
 pub carried_counts : {E : Type 0} (m : ModuleValue) (w v : World) (a : ℕ) (i : Instr) (r : Result Event E) → next_instruction m w a ≡ Some i → IfOk r (λ e. carried m w a i ≡ Stepped v e) → OnOk r (v.steps ≡ w.steps + 1)
 carried_counts m w v a i (Ok e) next h = step_counts m w v a e (carry_step m w a i next ∙ h)
 carried_counts m w v a i (Err x) next h = tt
+
+-- ---- who is over
+
+-- one more of the first that are over, if the next one is
+pub over_next : (acts : List Activity) (n : ℕ) → is_over acts n ≡ true → AreOver acts n → AreOver acts (n + 1)
+over_next acts n e h b lt = elim (cases_lt b n) [ inl below ↦ h b below | inr above ↦ (let same : b ≡ n = omega (arith, above, lt) in rw same e) ]
+
+pub passed_over : (m : ModuleValue) (w v : World) (a : ℕ) (e : Event) (n : ℕ) → is_enabled m w a ≡ true → next_instruction m w a ≡ None → passed_on w a ≡ Stepped v e
+    → AreOver w.activities n → AreOver v.activities n
+passed_over m w v a e n enabled next p h b lt = step_keeps_over m w v a e (pass_step m w a enabled next ∙ p) b (h b lt)
+
+pub carried_over : {E : Type 0} (m : ModuleValue) (w v : World) (a : ℕ) (i : Instr) (r : Result Event E) (n : ℕ) → next_instruction m w a ≡ Some i
+    → IfOk r (λ e. carried m w a i ≡ Stepped v e) → OnErr r (v ≡ w) → AreOver w.activities n → AreOver v.activities n
+carried_over m w v a i (Ok e) n next p same h b lt = step_keeps_over m w v a e (carry_step m w a i next ∙ p) b (h b lt)
+carried_over m w v a i (Err x) n next p same h b lt = rw same (h b lt)

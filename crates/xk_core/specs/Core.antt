@@ -1,11 +1,12 @@
 -- A running core, as its clauses see it: a module, and a world that a legal schedule of it reaches.
-use Rattle.std.specs.Prelude.{◌≡◌, ℕ, ◌<◌, true, false, Option, Some, None, slice_get}
+use Rattle.std.specs.Prelude.{◌≡◌, ℕ, ◌<◌, Bool, true, false, List, Option, Some, None, slice_get}
+use Rattle.std.specs.Option.{option_map_or}
 use Rattle.xk_types.specs.declared.instr.Instr.{Instr}
 use Rattle.xk_types.specs.declared.names.Status.{Status}
 use Rattle.xk_types.specs.declared.names.Status.TheVariants as status
 use Rattle.xk_types.specs.Code.{ModuleValue, IsWithinLimits}
 use Rattle.xk_types.specs.World.{Activity, World, instruction_at}
-use Rattle.xk_types.specs.Schedule.{IsReached, is_enabled}
+use Rattle.xk_types.specs.Schedule.{IsReached, is_enabled, is_ended}
 use Rattle.xk_types.specs.Accepted.{IsAccepted}
 use Rattle.xk_core.specs.Arm.{grows}
 
@@ -18,6 +19,14 @@ pub record IsCore (m : ModuleValue) (w : World) : Type 0 where
   pub limits : IsWithinLimits m
   pub accepted : IsAccepted m
   pub reached : IsReached m w
+
+-- activity b is there and has ended
+abbrev pub is_over : List Activity → ℕ → Bool
+is_over acts b = option_map_or (λ act. is_ended act.status) (slice_get acts b) false
+
+-- the first n activities have ended
+abbrev pub AreOver : List Activity → ℕ → Type 0
+AreOver acts n = (b : ℕ) → b < n → is_over acts b ≡ true
 
 abbrev pub instruction_by : ModuleValue → Activity → Status → Option Instr
 instruction_by m act status.Running = instruction_at m act.frame

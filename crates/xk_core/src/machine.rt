@@ -19,16 +19,18 @@ use xk_types::{Act, ClockId, Event, Instr, Status};
 pub struct Core<'m> {
     verified: &'m Verified,
     state: State,
+    /// The first activities, as many as this, have ended.
+    over: usize,
 }
 
 impl<'m> Model for Core<'m> {
-    ghost use Rattle.xk_core.specs.Core.{CoreValue, IsCore};
+    ghost use Rattle.xk_core.specs.Core.{CoreValue, IsCore, AreOver};
 
     ghost Value = { CoreValue };
 
     ghost view = { λ c. record { module_run = c.verified.now; world = c.state } };
 
-    ghost invariant = { λ c. IsCore c.verified.now c.state };
+    ghost invariant = { λ c. IsCore c.verified.now c.state × AreOver c.state.activities c.over };
 }
 
 impl<'m> Core<'m> {
@@ -39,7 +41,11 @@ impl<'m> Core<'m> {
         let program = verified.module();
         let main = &program.units()[0];
         let state = State::opening(alloc, main.slots, program.shared())?;
-        Ok(Core { verified, state })
+        Ok(Core {
+            verified,
+            state,
+            over: 0,
+        })
     }
 
     /// Whether the activity exists and can take a step.
@@ -61,7 +67,7 @@ impl<'m> Core<'m> {
         ensures least { IfSome result (IsLeastEnabled self.now.module_run self.now.world) }
         ensures none { IfNone result (all_ended self.now.world ≡ true) }
     {
-        let a = self.state.first_able()?;
+        let a = self.state.first_able(self.over)?;
         Some(Act(a as u32))
     }
 
@@ -150,6 +156,7 @@ impl<'m> Core<'m> {
         ensures only_where_it_grows { OnErr result (IsAboutToGrow self.old.module_run self.old.world act) }
     {
         let a = act.0 as usize;
+        self.over = self.state.count_over(self.over);
         match self.next_instruction(a) {
             None => Ok(self.state.pass(a)),
             Some(instr) => self.state.carry_out(self.verified.module(), a, instr),

@@ -6,6 +6,7 @@ ghost use Rattle.xk_types.specs.declared.instr.Instr.TheVariants as instruction;
 ghost use Rattle.xk_types.specs.Step.{Stepped, settled, settled_clock, moved, joined, names_clock, is_given, waits};
 ghost use Rattle.xk_types.specs.Schedule.{is_step, all_ended};
 ghost use Rattle.xk_core.specs.Able.{is_able};
+ghost use Rattle.xk_core.specs.Core.{is_over, AreOver};
 ghost use Rattle.xk_core.specs.Opening.{opening_with};
 ghost use Rattle.xk_core.specs.Change.{after_change};
 ghost use Rattle.xk_core.specs.Arm.{grows, carried, passed_on, IsRoomy};
@@ -305,13 +306,36 @@ impl State {
         }
     }
 
-    /// The least activity that neither waits nor is over.
-    pub fn first_able(&self) -> Option<usize>
+    /// Whether activity a exists and is over.
+    pub fn is_over(&self, a: usize) -> bool
+        ensures { result ≡ is_over self.now.activities a }
+    {
+        match self.activities.get(a) {
+            None => false,
+            Some(act) => act.is_ended(),
+        }
+    }
+
+    /// One more of the first activities that are over, if the next one is.
+    pub fn count_over(&self, over: usize) -> usize
+        requires { AreOver self.now.activities over }
+        ensures { AreOver self.now.activities result }
+    {
+        if over < self.activity_count() && self.is_over(over) {
+            over + 1
+        } else {
+            over
+        }
+    }
+
+    /// The least activity that neither waits nor is over, of which the first ones, as many as this, are over.
+    pub fn first_able(&self, over: usize) -> Option<usize>
+        requires { AreOver self.now.activities over }
         ensures least { IfSome result (λ a. (is_able self.now a ≡ true) × ((b : ℕ) → b < a → is_able self.now b ≡ false)) }
         ensures none { IfNone result ((b : ℕ) → b < length self.now.activities → is_able self.now b ≡ false) }
         ensures within { IfSome result (λ a. a < length self.now.activities) }
     {
-        for a in 0..self.activities.len() {
+        for a in over..self.activities.len() {
             if self.is_able(a) {
                 return Some(a);
             }

@@ -3,4 +3,4 @@ use Rattle.xk_core.proofs.Cores.{core_names}
 use Rattle.xk_core.proofs.machine.Core.activities.Goals as goal
 
 pub overflow_cast-result : goal.overflow_cast-result
-overflow_cast-result c = omega (arith, core_names c.self.inside.verified.now c.self.inside.state c.self.invariant, c.activity_count.ensures)
+overflow_cast-result c = omega (arith, core_names c.self.inside.verified.now c.self.inside.state c.self.invariant.0, c.activity_count.ensures)
