@@ -51,3 +51,8 @@ pub shows_more : (m : ModuleValue) (list : List ℕ) (w v x : World) (i d : ℕ)
     → step m v (get_or list i d) ≡ Stepped x e → events_seen m (take (i + 1) list) w ≡ events_seen m (take i list) w ++ shown e
 shows_more m list w v x i d e lt h g =
     ap (λ l. events_seen m l w) (take_more list i d lt) ∙ seen_more m (take i list) w v x (get_or list i d) e h g
+
+-- a list that isn't empty has a first
+pub first_there : (list : List ℕ) → (length list ≡ 0 → ⊥) → (a : ℕ) × (slice_get list 0 ≡ Some a)
+first_there [] h = absurd (h refl)
+first_there (a ∷ list) h = (a, refl)
