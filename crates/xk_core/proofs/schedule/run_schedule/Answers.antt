@@ -1,9 +1,9 @@
-use Rattle.std.proofs.Common.{◌≡◌, ◌+◌, ◌++◌, ◌∙◌, refl, subst, sym, ap, get_or, take, arith, inl, inr}
+use Rattle.std.proofs.Common.{◌≡◌, ◌++◌, ◌∙◌, refl, subst, sym, ap, get_or, arith, inl, inr}
 use Rattle.std.proofs.lemmas.Bool.{false≢true}
 use Rattle.std.proofs.lemmas.Option.{slice_get-get_or}
 use Rattle.xk_types.specs.Step.{Stepped, step}
 use Rattle.xk_core.specs.Core.{CoreValue, IsAboutToGrow}
-use Rattle.xk_core.specs.Schedules.{shown, events_seen, LeadsPart}
+use Rattle.xk_core.specs.Schedules.{shown, LeadsPart}
 use Rattle.xk_core.proofs.Runs.{leads_more, shows_more, first_there}
 use Rattle.xk_core.proofs.schedule.run_schedule.Goals as goal
 
