@@ -52,12 +52,14 @@ def leaves(value, path=()):
 def changed_value(rng, value):
     """The value with one part replaced, dropped, doubled or moved."""
     value = copy.deepcopy(value)
-    path = rng.choice([p for p in leaves(value) if p])
+    paths = [p for p in leaves(value) if p]
+    operands = [p for p in paths if "code" in p and len(p) > 4] if rng.random() < 0.7 else []
+    path = rng.choice(operands or paths)
     holder = value
     for key in path[:-1]:
         holder = holder[key]
     old = holder[path[-1]]
-    kind = rng.randrange(6)
+    kind = rng.randrange(8)
     if kind == 0 and isinstance(holder, list):
         del holder[path[-1]]
     elif kind == 1 and isinstance(holder, list):
@@ -67,8 +69,8 @@ def changed_value(rng, value):
         holder[path[-1]], holder[other] = holder[other], old
     elif isinstance(old, str):
         holder[path[-1]] = rng.choice(WORDS)
-    elif isinstance(old, int) and kind < 5:
-        holder[path[-1]] = old + rng.choice([-1, 1])
+    elif isinstance(old, int) and kind < 7:
+        holder[path[-1]] = old + rng.choice([-1, 1]) if rng.random() < 0.5 else rng.randrange(4)
     else:
         holder[path[-1]] = rng.choice(NUMBERS)
     return value
@@ -101,7 +103,7 @@ def case(rng, seeds):
         value = json.loads(text)
     except ValueError:
         value = None
-    if value is None or rng.random() < 0.4:
+    if value is None or rng.random() < 0.2:
         return changed_bytes(rng, text) if text else b" "
     for _ in range(rng.choice([1, 1, 1, 2, 3, 6])):
         value = changed_value(rng, value)

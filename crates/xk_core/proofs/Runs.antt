@@ -1,5 +1,5 @@
 -- A schedule goes on by a step.
-use Rattle.std.proofs.Common.{◌≡◌, ℕ, suc, ◌+◌, ◌<◌, Bool, true, false, not, List, [], ◌∷◌, ◌++◌, length, map, take, filter, get_or, Some, refl, sym, ap, ◌∙◌, add-one, slice_get}
+use Rattle.std.proofs.Common.{◌≡◌, ℕ, ◌+◌, ◌<◌, Bool, true, false, not, List, [], ◌∷◌, ◌++◌, length, map, take, filter, get_or, Some, refl, sym, ap, ◌∙◌, add-one, slice_get}
 use Rattle.std.proofs.Math.Seq.{take-suc}
 use Rattle.std.proofs.lemmas.List.{map-append}
 use Rattle.std.proofs.lemmas.List.Elements.{filter-append}
@@ -7,7 +7,7 @@ use Rattle.xk_types.specs.declared.names.Event.{Event}
 use Rattle.xk_types.specs.Code.{ModuleValue}
 use Rattle.xk_types.specs.World.{World}
 use Rattle.xk_types.specs.Step.{Stepped, step}
-use Rattle.xk_types.specs.Schedule.{Through, run, run_on, is_local, events, events_on, seen}
+use Rattle.xk_types.specs.Schedule.{Through, run, is_local, events, events_on, seen}
 use Rattle.xk_laws.proofs.Reached.{first_step, run_more}
 use Rattle.xk_core.specs.Schedules.{shown, events_seen, LeadsPart}
 
@@ -51,3 +51,8 @@ pub shows_more : (m : ModuleValue) (list : List ℕ) (w v x : World) (i d : ℕ)
     → step m v (get_or list i d) ≡ Stepped x e → events_seen m (take (i + 1) list) w ≡ events_seen m (take i list) w ++ shown e
 shows_more m list w v x i d e lt h g =
     ap (λ l. events_seen m l w) (take_more list i d lt) ∙ seen_more m (take i list) w v x (get_or list i d) e h g
+
+-- a list that isn't empty has a first
+pub first_there : (list : List ℕ) → (length list ≡ 0 → ⊥) → (a : ℕ) × (slice_get list 0 ≡ Some a)
+first_there [] h = absurd (h refl)
+first_there (a ∷ list) h = (a, refl)

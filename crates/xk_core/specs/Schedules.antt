@@ -24,10 +24,10 @@ LeadsPart m list w at v = run m (take at list) w ≡ Through v
 abbrev pub StopsAt : ModuleValue → List ℕ → World → ℕ → World → Type 0
 StopsAt m list w at v = LeadsPart m list w at v × (a : ℕ) × (slice_get list at ≡ Some a) × (is_enabled m v a ≡ false)
 
--- the first `at` steps of the list lead from w to v, where memory was wanted: for the list of events before the first step,
--- or because the activity that is named next is about to make a clock or to start an activity
+-- the first `at` steps of the list lead from w to v, one is left, and memory was wanted: for the list of events before the
+-- first step, or because the activity that is named next is about to make a clock or to start an activity
 abbrev pub WantsMemoryAt : ModuleValue → List ℕ → World → ℕ → World → Type 0
-WantsMemoryAt m list w at v = LeadsPart m list w at v × ((at ≡ 0) ⊎ ((a : ℕ) × (slice_get list at ≡ Some a) × IsAboutToGrow m v a))
+WantsMemoryAt m list w at v = LeadsPart m list w at v × (a : ℕ) × (slice_get list at ≡ Some a) × ((at ≡ 0) ⊎ IsAboutToGrow m v a)
 
 -- how a schedule was halted that a core was to carry out
 abbrev pub IsHalt : CoreValue → List ℕ → Halt → Type 0

@@ -97,7 +97,7 @@ impl Activity {
         self.status
     }
 
-    /// The number of the step of its last pass.
+    /// The number of the step of its last pass; before the first, what it began with.
     pub fn since(&self) -> u64
         ensures { result ≡ self.now.since }
     {

@@ -34,7 +34,7 @@ impl<'m> Model for Core<'m> {
 }
 
 impl<'m> Core<'m> {
-    /// The opening world of a module: main alone, before its first step.
+    /// The opening world of a module: main alone, before its first step. Err where memory was refused.
     pub fn open(alloc: Global, verified: &'m Verified) -> Result<Core<'m>, AllocError>
         ensures { IfOk result (λ c. c ≡ record { module_run = verified.now; world = opening verified.now }) }
     {
@@ -48,7 +48,7 @@ impl<'m> Core<'m> {
         })
     }
 
-    /// Whether the activity exists and can take a step.
+    /// Whether the activity exists and can take a step: it runs, or it waits at an `advance` and no clock holds it back.
     pub fn enabled(&self, act: Act) -> bool
         ensures { result ≡ is_enabled self.now.module_run self.now.world act }
     {
@@ -96,7 +96,8 @@ impl<'m> Core<'m> {
         self.state.clock_count() as u32
     }
 
-    /// The number of the activity's last pass of an `advance`, counted in steps from 1; 0 before the first.
+    /// The number of the step that was the activity's last pass of an `advance`, counted from 1. Before its first pass it is
+    /// what its starter's was at the start, and main's is 0.
     pub fn since(&self, act: Act) -> u64
         requires { act < length self.now.world.activities }
         ensures { option_map (λ a. a.since) (slice_get self.now.world.activities act) ≡ Some result }

@@ -23,7 +23,8 @@ pub struct Ran<'m> {
 pub enum Halt<'m> {
     /// The activity that it names at this place, counted from 0, isn't enabled. The core is where the steps before led.
     NotEnabled { at: usize, core: Core<'m> },
-    /// Memory was refused before the step at this place, counted from 0. The core is where the steps before led.
+    /// Memory was refused before the step at this place, counted from 0: for the list of events, which can be before the
+    /// first alone, or for that step. The core is where the steps before led.
     OutOfMemory { at: usize, core: Core<'m> },
 }
 
@@ -47,7 +48,7 @@ fn note(seen: &mut Vec<Event>, event: Event)
 }
 
 /// Carries out a schedule: one step of each activity that it names, in order. It stops before the first that isn't enabled,
-/// or where memory was refused; the room for the events is taken before the first step.
+/// or where memory was refused; the room for the events is taken before the first step. An empty schedule takes none.
 pub fn run_schedule<'m>(
     alloc: Global,
     start: Core<'m>,

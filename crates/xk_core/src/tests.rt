@@ -4,17 +4,25 @@ use super::*;
 use std::alloc::Global;
 use std::test::Fail;
 use xk_bounds::{Verified, verify};
-use xk_types::{Act, ClockId, Event, Instr, Module, Unit, UnitKind};
+use xk_types::{Act, Args, ClockId, Event, Instr, Module, ParamKind, Unit, UnitKind};
 
 // A main of this code.
 fn main_of(alloc: Global, slots: u16, code: Vec<Instr>) -> Result<Verified, Fail> {
     let mut units = Vec::new(alloc);
-    units.push(Unit {
+    units.push(main_unit(alloc, slots, code))?;
+    accepted(alloc, units)
+}
+
+fn main_unit(alloc: Global, slots: u16, code: Vec<Instr>) -> Unit {
+    Unit {
         kind: UnitKind::Main,
         params: Vec::new(alloc),
         slots,
         code,
-    })?;
+    }
+}
+
+fn accepted(alloc: Global, units: Vec<Unit>) -> Result<Verified, Fail> {
     let Ok(program) = Module::new(Vec::new(alloc), units) else {
         return Err("beyond the limits".into());
     };
@@ -22,6 +30,37 @@ fn main_of(alloc: Global, slots: u16, code: Vec<Instr>) -> Result<Verified, Fail
         return Err("refused".into());
     };
     Ok(verified)
+}
+
+// Main starts an activity with two numbers and its clock, and both go one phase on. The child prints the sum of its numbers,
+// then the last; main prints the first afterwards.
+fn two_in_step(alloc: Global) -> Result<Verified, Fail> {
+    let args = vec![in alloc; 1, 0, 2]?;
+    let main = vec![in alloc;
+        Instr::Make(0),
+        Instr::Lit(1, 7),
+        Instr::Lit(2, 30),
+        Instr::Spawn(1, Args::new(args)),
+        Instr::Advance,
+        Instr::Print(1),
+        Instr::Ret,
+    ]?;
+    let body = vec![in alloc;
+        Instr::Add(3, 0, 2),
+        Instr::Print(3),
+        Instr::Print(2),
+        Instr::Advance,
+        Instr::Ret,
+    ]?;
+    let mut units = Vec::new(alloc);
+    units.push(main_unit(alloc, 3, main))?;
+    units.push(Unit {
+        kind: UnitKind::Body,
+        params: vec![in alloc; ParamKind::Number, ParamKind::Clock, ParamKind::Number]?,
+        slots: 4,
+        code: body,
+    })?;
+    accepted(alloc, units)
 }
 
 // The events of the run that always steps the least enabled activity.
@@ -120,5 +159,108 @@ fn sums_wrap(rt: HostRuntime) -> Result<(), Fail> {
     let mut core = Core::open(alloc, &verified)?;
     let events = run_first(alloc, &mut core)?;
     assert_eq!(rt; events.get(3).copied(), Some(Event::Printed(i64::MIN)));
+    Ok(())
+}
+
+#[test]
+fn a_schedule_of_two_activities(rt: HostRuntime) -> Result<(), Fail> {
+    let alloc = rt.alloc();
+    let verified = two_in_step(alloc)?;
+    laws::every_schedule(&verified);
+    let schedule = [0, 0, 0, 0, 0, 1, 1, 1, 1, 1, 0, 1, 0, 0];
+    let Ok(Ran { core, seen }) = run_schedule(alloc, Core::open(alloc, &verified)?, &schedule)
+    else {
+        return Err("halted".into());
+    };
+    let wanted = [
+        Event::Made,
+        Event::Spawned,
+        Event::Arrived,
+        Event::Printed(37),
+        Event::Printed(30),
+        Event::Arrived,
+        Event::Passed,
+        Event::Passed,
+        Event::Ended,
+        Event::Printed(7),
+        Event::Ended,
+    ];
+    assert_eq!(rt; seen.as_slice(), wanted.as_slice());
+    assert!(rt; core.ended() && core.pick().is_none());
+    assert_eq!(rt; core.steps_done(), 14);
+    assert_eq!(rt; core.activities(), 2);
+    assert_eq!(rt; core.clocks(), 1);
+    assert_eq!(rt; core.phase(ClockId(0)), 1);
+    assert_eq!(rt; core.last(ClockId(0)), 9);
+    assert_eq!(rt; core.since(Act(0)), 11);
+    assert_eq!(rt; core.since(Act(1)), 10);
+    Ok(())
+}
+
+#[test]
+fn a_halted_core_goes_on(rt: HostRuntime) -> Result<(), Fail> {
+    let alloc = rt.alloc();
+    let verified = two_in_step(alloc)?;
+    // the second number names an activity that isn't started yet
+    let start = Core::open(alloc, &verified)?;
+    let Err(Halt::NotEnabled { at: 1, core }) = run_schedule(alloc, start, &[0, 1, 0]) else {
+        return Err("not halted at 1".into());
+    };
+    assert_eq!(rt; core.steps_done(), 1);
+    // main waits for the child, which hasn't resumed the clock
+    let Err(Halt::NotEnabled { at: 4, core }) = run_schedule(alloc, core, &[0, 0, 0, 0, 0, 1])
+    else {
+        return Err("not halted at 4".into());
+    };
+    assert_eq!(rt; core.steps_done(), 5);
+    assert!(rt; !core.enabled(Act(0)) && core.enabled(Act(1)) && !core.ended());
+    assert_eq!(rt; core.pick(), Some(Act(1)));
+    assert_eq!(rt; core.phase(ClockId(0)), 0);
+    let Ok(Ran { core, seen }) = run_schedule(alloc, core, &[1, 1, 1, 1, 0, 0]) else {
+        return Err("halted".into());
+    };
+    let wanted = [
+        Event::Printed(37),
+        Event::Printed(30),
+        Event::Arrived,
+        Event::Passed,
+        Event::Printed(7),
+    ];
+    assert_eq!(rt; seen.as_slice(), wanted.as_slice());
+    assert_eq!(rt; core.last(ClockId(0)), 9);
+    assert_eq!(rt; core.since(Act(0)), 10);
+    assert_eq!(rt; core.since(Act(1)), 0);
+    Ok(())
+}
+
+#[test]
+fn a_child_begins_with_the_since_of_its_starter(rt: HostRuntime) -> Result<(), Fail> {
+    let alloc = rt.alloc();
+    let main = vec![in alloc;
+        Instr::Advance,
+        Instr::Spawn(1, Args::new(Vec::new(alloc))),
+        Instr::Ret,
+    ]?;
+    let mut units = Vec::new(alloc);
+    units.push(main_unit(alloc, 0, main))?;
+    units.push(Unit {
+        kind: UnitKind::Body,
+        params: Vec::new(alloc),
+        slots: 0,
+        code: vec![in alloc; Instr::Advance, Instr::Ret]?,
+    })?;
+    let verified = accepted(alloc, units)?;
+    let start = Core::open(alloc, &verified)?;
+    let Ok(Ran { core, .. }) = run_schedule(alloc, start, &[0, 0, 0]) else {
+        return Err("halted".into());
+    };
+    assert_eq!(rt; core.activities(), 2);
+    assert_eq!(rt; (core.since(Act(0)), core.since(Act(1))), (2, 2));
+    let Ok(Ran { core, seen }) = run_schedule(alloc, core, &[1, 0, 1, 1]) else {
+        return Err("halted".into());
+    };
+    let wanted = [Event::Arrived, Event::Ended, Event::Passed, Event::Ended];
+    assert_eq!(rt; seen.as_slice(), wanted.as_slice());
+    assert_eq!(rt; (core.since(Act(0)), core.since(Act(1))), (2, 6));
     Ok(())
 }

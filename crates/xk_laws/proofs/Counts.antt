@@ -1,6 +1,6 @@
 -- Each step counts itself, and who has ended stays so.
 use Rattle.std.proofs.lemmas.Bool.{false≢true}
-use Rattle.std.proofs.Common.{◌≡◌, ℕ, zero, suc, ◌+◌, Bool, true, false, List, ◌∷◌, [], ◌++◌, length, set, Some, None, Option, refl, subst, sym, ap, ◌∙◌}
+use Rattle.std.proofs.Common.{◌≡◌, ℕ, zero, suc, ◌+◌, Bool, true, false, List, ◌∷◌, [], ◌++◌, Some, refl, subst, sym, ap, ◌∙◌}
 use Rattle.std.specs.Prelude.{slice_get, slice_set}
 use Rattle.std.specs.Option.{option_map_or}
 use Rattle.xk_types.specs.declared.names.Event.{Event}
@@ -8,7 +8,7 @@ use Rattle.xk_types.specs.Code.{ModuleValue}
 use Rattle.xk_types.specs.World.{Activity, World}
 use Rattle.xk_types.specs.Step.{Outcome, Blocked, Wrong, Stepped, step}
 use Rattle.xk_types.specs.Schedule.{is_ended}
-use Rattle.xk_laws.proofs.Forms.{HoldsOfForms, step_form}
+use Rattle.xk_laws.proofs.Forms.{step_form}
 
 -- the world that a step leads to has one step more
 abbrev Counts : ℕ → Outcome → Type 0

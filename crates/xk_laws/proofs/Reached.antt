@@ -1,22 +1,17 @@
 -- What holds of each world that a legal schedule of an accepted module leads to, and the law over every schedule.
-use Rattle.std.proofs.Common.{◌≡◌, ℕ, ◌+◌, ◌<◌, ◌≤◌, true, false, List, [], ◌∷◌, ◌++◌, map, length, get_or, sum_by, Some, refl, sym, ap, ◌∙◌, subst, arith}
-use Rattle.std.specs.Prelude.{slice_get}
-use Rattle.std.specs.Option.{option_map, option_and_then}
+use Rattle.std.proofs.Common.{◌≡◌, ℕ, ◌+◌, ◌<◌, ◌≤◌, true, false, List, [], ◌∷◌, ◌++◌, map, length, get_or, sum_by, refl, sym, ap, ◌∙◌, subst, arith}
+use Rattle.std.specs.Option.{option_map}
 use Rattle.std.proofs.lemmas.Option.{slice_get-get_or, slice_get-map}
-use Rattle.xk_types.specs.declared.instr.Instr.TheVariants as instr
 use Rattle.xk_types.specs.declared.names.Event.{Event}
 use Rattle.xk_types.specs.declared.rules.Kind.{Kind}
-use Rattle.xk_types.specs.Code.{UnitValue, ModuleValue, IsUnitWithinLimits, IsWithinLimits, is_body}
-use Rattle.xk_types.specs.Order.{Has}
-use Rattle.xk_types.specs.World.{Activity, Clock, World, root, opening, instruction_at}
+use Rattle.xk_types.specs.Code.{ModuleValue, IsWithinLimits}
+use Rattle.xk_types.specs.World.{Activity, World, opening}
 use Rattle.xk_types.specs.Step.{Cause, Outcome, Blocked, Wrong, Stepped, step}
 use Rattle.xk_types.specs.Schedule.{Course, Through, Wronged, run, run_on, IsReached, is_enabled, all_ended}
 use Rattle.xk_types.specs.Bound.{steps_bound, activities_bound, clocks_bound, stack_bound}
 use Rattle.xk_types.specs.Accepted.{IsAccepted, EverySchedule, slots_held}
 use Rattle.xk_laws.proofs.Invariant.{IsActivitySound, IsSound, looks}
 use Rattle.xk_laws.proofs.Lists.{max_each}
-use Rattle.xk_laws.proofs.Fits.{unit_fits, start_fits}
-use Rattle.xk_laws.proofs.Given.{unit_limits}
 use Rattle.xk_laws.proofs.Counts.{step_counts}
 use Rattle.xk_laws.proofs.Progress.{Keeps, step_keeps, stuck_ended}
 use Rattle.xk_laws.proofs.Opening.{opening_sound}

@@ -1,6 +1,6 @@
 //! Reads modules out of JSON values.
 
-ghost use Rattle.std.specs.Prelude.{◌≡◌, List, Option, map};
+ghost use Rattle.std.specs.Prelude.{◌≡◌, IsErrOf, List, Option, codes, length, map};
 ghost use Rattle.serde_json.specs.Data.{Data};
 ghost use Rattle.serde_json.specs.View.{view};
 ghost use Rattle.xk_types.specs.Code.{module_of};
@@ -96,7 +96,8 @@ impl Named for Unit {
 /// The instruction of this name with these operands.
 #[tactic(auto, unfolding(crate::specs::Named::instr_of))]
 fn instr(alloc: Global, name: &str, operands: &[Value]) -> Result<Instr, Refusal>
-    ensures { Gives (λ x. x) result (instr_of name.now (views operands.now)) }
+    ensures given { Gives (λ x. x) result (instr_of name.now (views operands.now)) }
+    ensures memory { IsErrOf result Refusal.Memory → name.now ≡ codes "spawn" }
 {
     match name {
         "lit" => {
@@ -128,7 +129,8 @@ fn instr(alloc: Global, name: &str, operands: &[Value]) -> Result<Instr, Refusal
 }
 
 fn no_operand(operands: &[Value]) -> Result<(), Refusal>
-    ensures { Gives (λ x. x) result (none_at (views operands.now)) }
+    ensures given { Gives (λ x. x) result (none_at (views operands.now)) }
+    ensures no_memory { ¬ IsErrOf result Refusal.Memory }
 {
     match operands {
         [] => Ok(()),
@@ -138,7 +140,8 @@ fn no_operand(operands: &[Value]) -> Result<(), Refusal>
 
 #[tactic(auto, unfolding(crate::specs::Named::one_at))]
 fn one_slot(operands: &[Value]) -> Result<u16, Refusal>
-    ensures { Gives (λ x. x) result (one_at (views operands.now)) }
+    ensures given { Gives (λ x. x) result (one_at (views operands.now)) }
+    ensures no_memory { ¬ IsErrOf result Refusal.Memory }
 {
     match operands {
         [a] => word(a),
@@ -148,7 +151,8 @@ fn one_slot(operands: &[Value]) -> Result<u16, Refusal>
 
 #[tactic(auto, unfolding(crate::specs::Named::three_at))]
 fn three_slots(operands: &[Value]) -> Result<(u16, u16, u16), Refusal>
-    ensures { Gives (λ x. x) result (three_at (views operands.now)) }
+    ensures given { Gives (λ x. x) result (three_at (views operands.now)) }
+    ensures no_memory { ¬ IsErrOf result Refusal.Memory }
 {
     match operands {
         [a, b, c] => Ok((word(a)?, word(b)?, word(c)?)),
@@ -158,7 +162,8 @@ fn three_slots(operands: &[Value]) -> Result<(u16, u16, u16), Refusal>
 
 #[tactic(auto, unfolding(crate::specs::Named::lit_at))]
 fn slot_and_number(operands: &[Value]) -> Result<(u16, i64), Refusal>
-    ensures { Gives (λ x. x) result (lit_at (views operands.now)) }
+    ensures given { Gives (λ x. x) result (lit_at (views operands.now)) }
+    ensures no_memory { ¬ IsErrOf result Refusal.Memory }
 {
     match operands {
         [d, n] => Ok((word(d)?, long(n)?)),
@@ -168,7 +173,8 @@ fn slot_and_number(operands: &[Value]) -> Result<(u16, i64), Refusal>
 
 #[tactic(auto, unfolding(crate::specs::Named::spawn_at))]
 fn unit_and_slots(alloc: Global, operands: &[Value]) -> Result<(u16, Vec<u16>), Refusal>
-    ensures { Gives (λ x. (x.0, x.1.items)) result (spawn_at (views operands.now)) }
+    ensures given { Gives (λ x. (x.0, x.1.items)) result (spawn_at (views operands.now)) }
+    ensures memory { IsErrOf result Refusal.Memory → length operands.now ≡ 2 }
 {
     match operands {
         [unit, slots] => Ok((word(unit)?, all(alloc, array(slots)?)?)),
@@ -178,7 +184,8 @@ fn unit_and_slots(alloc: Global, operands: &[Value]) -> Result<(u16, Vec<u16>), 
 
 #[tactic(auto, unfolding(crate::specs::Named::kind_at))]
 fn unit_kind(value: &Value) -> Result<UnitKind, Refusal>
-    ensures { Gives (λ x. x) result (kind_at (view value.now)) }
+    ensures given { Gives (λ x. x) result (kind_at (view value.now)) }
+    ensures no_memory { ¬ IsErrOf result Refusal.Memory }
 {
     match text(value)? {
         "main" => Ok(UnitKind::Main),
@@ -200,7 +207,8 @@ fn param_kinds(alloc: Global, value: &Value) -> Result<Vec<ParamKind>, Refusal>
 }
 
 fn param_kind(letter: u8) -> Result<ParamKind, Refusal>
-    ensures { Gives (λ x. x) result (param_at letter) }
+    ensures given { Gives (λ x. x) result (param_at letter) }
+    ensures no_memory { ¬ IsErrOf result Refusal.Memory }
 {
     match letter {
         b'n' => Ok(ParamKind::Number),
@@ -212,7 +220,8 @@ fn param_kind(letter: u8) -> Result<ParamKind, Refusal>
 /// The version is 1.
 #[tactic(auto, unfolding(crate::specs::Named::version_at))]
 fn version(value: &Value) -> Result<(), Refusal>
-    ensures { Gives (λ x. x) result (version_at (view value.now)) }
+    ensures given { Gives (λ x. x) result (version_at (view value.now)) }
+    ensures no_memory { ¬ IsErrOf result Refusal.Memory }
 {
     match value.as_u64() {
         Some(1) => Ok(()),

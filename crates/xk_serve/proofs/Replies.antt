@@ -1,5 +1,6 @@
 -- From a fault and how it was told to the clauses of the whole program.
-use Rattle.std.proofs.Common.{◌≡◌, ◌≢◌, ◌⊎◌, ℕ, List, [], Option, Some, None, inl, inr, refl, sym, ◌∙◌}
+use Rattle.std.proofs.Common.{◌≡◌, ◌≢◌, ◌⊎◌, ℕ, List, [], length, Option, Some, None, inl, inr, refl, sym, ◌∙◌}
+use Rattle.std.proofs.Math.Seq.{take-length}
 use Rattle.std.proofs.lemmas.List.{append-nil}
 use Rattle.std.specs.Prelude.{IfSome}
 use Rattle.std.specs.Io.KnownBytes.{Appends}
@@ -7,8 +8,9 @@ use Rattle.xk_words.specs.declared.job.Command.{Command}
 use Rattle.xk_serve.specs.declared.fault.Fault.{Fault}
 use Rattle.xk_serve.specs.declared.fault.Fault.TheVariants as fault
 use Rattle.xk_serve.specs.Answer.{FailsBy, done_reply, fault_reply}
-use Rattle.xk_serve.specs.Lines.{status_of}
-use Rattle.xk_serve.specs.Serving.{Answered, Prints, Reports, StandsAgainst}
+use Rattle.xk_serve.specs.Bytes.{AppendsBeginning}
+use Rattle.xk_serve.specs.Lines.{device_line, fault_line, memory_line, status_of}
+use Rattle.xk_serve.specs.Serving.{Answered, ErrBegins, IsTold, Prints, Reports, StandsAgainst, Tells}
 
 -- nothing was written
 pub appends_none : (a : Option (List ℕ)) → Appends a a []
@@ -17,9 +19,9 @@ appends_none (Some xs) = sym (append-nil xs)
 
 -- a fault that isn't a device's is one of the bytes
 against_bytes : (bytes : List ℕ) (old new : ℕ) (f : Fault) → StandsAgainst (Some bytes) old new f → status_of f ≢ 5 → FailsBy bytes f
-against_bytes bytes old new (fault.Text f) h n = h
-against_bytes bytes old new (fault.Refused r) h n = h
-against_bytes bytes old new fault.OutOfMemory h n = h
+against_bytes bytes old new (fault.Text f) h n = h.1
+against_bytes bytes old new (fault.Refused r) h n = h.1
+against_bytes bytes old new fault.OutOfMemory h n = h.1
 against_bytes bytes old new fault.Device h n = absurd (n refl)
 
 -- a fault that was told is an answer
@@ -70,12 +72,72 @@ printed_answers c None text shown out_old out_new err_old err_new result Failing
 printed_answers c (Some bytes) text shown out_old out_new err_old err_new result Failing h e p = λ not4 not5. printed_answer c bytes text shown out_old out_new err_old err_new result Failing h e p not5
 
 -- a fault of the bytes that were read is one of those that are known
-pub against_known : (known : Option (List ℕ)) (bytes : List ℕ) (old new : ℕ) (f : Fault) → IfSome known (λ k. bytes ≡ k) → FailsBy bytes f → StandsAgainst known old new f
-against_known None bytes old new (fault.Text f) e h = tt
-against_known None bytes old new (fault.Refused r) e h = tt
-against_known None bytes old new fault.OutOfMemory e h = tt
-against_known None bytes old new fault.Device e h = absurd h
-against_known (Some k) bytes old new (fault.Text f) e h = rw e at h
-against_known (Some k) bytes old new (fault.Refused r) e h = rw e at h
-against_known (Some k) bytes old new fault.OutOfMemory e h = tt
-against_known (Some k) bytes old new fault.Device e h = absurd h
+pub against_known : (known : Option (List ℕ)) (bytes : List ℕ) (old new : ℕ) (f : Fault) → new ≡ old → IfSome known (λ k. bytes ≡ k) → FailsBy bytes f → StandsAgainst known old new f
+against_known None bytes old new (fault.Text f) s e h = (s, tt)
+against_known None bytes old new (fault.Refused r) s e h = (s, tt)
+against_known None bytes old new fault.OutOfMemory s e h = (s, tt)
+against_known None bytes old new fault.Device s e h = absurd h
+against_known (Some k) bytes old new (fault.Text f) s e h = (s, rw e at h)
+against_known (Some k) bytes old new (fault.Refused r) s e h = (s, rw e at h)
+against_known (Some k) bytes old new fault.OutOfMemory s e h = (s, tt)
+against_known (Some k) bytes old new fault.Device s e h = absurd h
+
+-- ---- devices
+
+-- nothing is a beginning of any text
+pub begins_none : (a : Option (List ℕ)) (text : List ℕ) → AppendsBeginning a a text
+begins_none a text = (0, appends_none a)
+
+-- of a line that was told a beginning was written
+pub tells_begins : (line : List ℕ) (status : ℕ) (old new : Option (List ℕ)) (faults_old faults_new result : ℕ)
+    → Tells line status old new faults_old faults_new result → AppendsBeginning old new line
+tells_begins line status old new faults_old faults_new result (inl p) = (length line, rw (take-length line) p.1)
+tells_begins line status old new faults_old faults_new result (inr p) = p.1
+
+-- a fault that stands against known bytes may be told
+told_of : (bytes : List ℕ) (old new : ℕ) (f : Fault) → StandsAgainst (Some bytes) old new f → IsTold bytes f
+told_of bytes old new (fault.Text f) h = inr h.1
+told_of bytes old new (fault.Refused r) h = inr h.1
+told_of bytes old new fault.OutOfMemory h = inr tt
+told_of bytes old new fault.Device h = inl refl
+
+-- a fault that was reported was told by a beginning of a line
+pub report_begins : (known : Option (List ℕ)) (old new : ℕ) (f : Fault) (err_old err_new : Option (List ℕ)) (faults_old faults_new result : ℕ)
+    → StandsAgainst known old new f → Reports f err_old err_new faults_old faults_new result → IfSome known (λ bytes. ErrBegins bytes err_old err_new)
+report_begins None old new f err_old err_new faults_old faults_new result h r = tt
+report_begins (Some bytes) old new f err_old err_new faults_old faults_new result h (inl p) =
+    (f, told_of bytes old new f h, tells_begins (fault_line f) _ err_old err_new _ _ _ p)
+report_begins (Some bytes) old new f err_old err_new faults_old faults_new result h (inr p) =
+    (fault.OutOfMemory, inr tt, tells_begins memory_line _ err_old err_new _ _ _ p.1)
+
+-- a source that failed is told of with status 5
+source_stands : (known : Option (List ℕ)) (old new : ℕ) (f : Fault) → StandsAgainst known old new f → status_of f ≢ 5 → new ≡ old
+source_stands known old new (fault.Text f) h n = h.0
+source_stands known old new (fault.Refused r) h n = h.0
+source_stands known old new fault.OutOfMemory h n = h.0
+source_stands known old new fault.Device h n = absurd (n refl)
+
+source_stands_else : (known : Option (List ℕ)) (old new : ℕ) (f : Fault) → StandsAgainst known old new f → f ≢ fault.Device → new ≡ old
+source_stands_else known old new (fault.Text f) h n = h.0
+source_stands_else known old new (fault.Refused r) h n = h.0
+source_stands_else known old new fault.OutOfMemory h n = h.0
+source_stands_else known old new fault.Device h n = absurd (n refl)
+
+-- a fault was reported, and not by 5: neither the source failed nor the sink
+pub report_faults : (known : Option (List ℕ)) (old new : ℕ) (f : Fault) (err_old err_new : Option (List ℕ)) (faults_old faults_new result : ℕ)
+    → StandsAgainst known old new f → Reports f err_old err_new faults_old faults_new result → result ≢ 5 → (new ≡ old) × (faults_new ≡ faults_old)
+report_faults known old new f err_old err_new faults_old faults_new result h (inl (inl p)) n = (source_stands known old new f h (λ e. n (p.0 ∙ e)), p.2)
+report_faults known old new f err_old err_new faults_old faults_new result h (inl (inr p)) n = absurd (n p.0)
+report_faults known old new f err_old err_new faults_old faults_new result h (inr (d, inl p)) n = (source_stands_else known old new f h d, p.2)
+report_faults known old new f err_old err_new faults_old faults_new result h (inr (d, inr p)) n = absurd (n p.0)
+
+-- a device's fault was told
+pub device_reports : (f : Fault) (line : List ℕ) (err_old err_new : Option (List ℕ)) (faults_old faults_new result : ℕ)
+    → f ≡ fault.Device → line ≡ device_line → Tells line 5 err_old err_new faults_old faults_new result → Reports f err_old err_new faults_old faults_new result
+device_reports f line err_old err_new faults_old faults_new result e d t = rw e (inl (rw d at t))
+
+-- its line was begun
+pub device_begins : (err_old err_new : Option (List ℕ)) (faults_old faults_new result : ℕ)
+    → Reports fault.Device err_old err_new faults_old faults_new result → AppendsBeginning err_old err_new device_line
+device_begins err_old err_new faults_old faults_new result (inl p) = tells_begins device_line _ err_old err_new _ _ _ p
+device_begins err_old err_new faults_old faults_new result (inr p) = absurd (p.0 refl)

@@ -1,13 +1,13 @@
 -- What reading to the end and writing a text do to devices.
-use Rattle.std.specs.Prelude.{ℕ, ⊤, List, Option, take}
+use Rattle.std.specs.Prelude.{◌≡◌, ℕ, List, Option, take}
 use Rattle.std.specs.Io.KnownBytes.{Appends}
 use Rattle.xk_types.specs.Device.{Rose}
 use Rattle.xk_serve.specs.declared.fault.Fault.{Fault}
 use Rattle.xk_serve.specs.declared.fault.Fault.TheVariants as fault
 
--- reading failed for want of memory, or because the device did
+-- reading failed for want of memory, and then no read failed, or because the device did
 abbrev pub FailsRead : ℕ → ℕ → Fault → Type 0
-FailsRead old new fault.OutOfMemory = ⊤
+FailsRead old new fault.OutOfMemory = new ≡ old
 FailsRead old new fault.Device = Rose old new
 FailsRead old new _ = ⊥
 

@@ -14,15 +14,18 @@ use Rattle.xk_serve.specs.Lines.{done_text, fault_line, memory_line, status_of}
 abbrev pub Prints : Command → List ℕ → List ℕ → Type 0
 Prints c bytes text = (d : Done) × Succeeds c bytes d × (text ≡ done_text d)
 
--- The fault is one of the known bytes, or want of memory, or the source failed. The numbers are its failures before and
--- after.
+-- The fault is one of the known bytes, or want of memory, and then the source didn't fail; or the source failed. The
+-- numbers are its failures before and after.
 abbrev pub StandsAgainst : Option (List ℕ) → ℕ → ℕ → Fault → Type 0
 StandsAgainst known old new fault.Device = Rose old new
-StandsAgainst known old new f = IfSome known (λ bytes. FailsBy bytes f)
+StandsAgainst known old new f = (new ≡ old) × IfSome known (λ bytes. FailsBy bytes f)
 
--- The line was written and the status is this one, or the sink failed and it is 5.
+-- The line was written, the sink didn't fail and the status is this one; or a beginning of the line was written, the sink
+-- failed and the status is 5.
 abbrev pub Tells : List ℕ → ℕ → Option (List ℕ) → Option (List ℕ) → ℕ → ℕ → ℕ → Type 0
-Tells line status old new faults_old faults_new result = ((result ≡ status) × Appends old new line) ⊎ ((result ≡ 5) × Rose faults_old faults_new)
+Tells line status old new faults_old faults_new result =
+    ((result ≡ status) × Appends old new line × (faults_new ≡ faults_old))
+    ⊎ ((result ≡ 5) × AppendsBeginning old new line × Rose faults_old faults_new)
 
 -- the fault is told, or, where its line couldn't be made, want of memory
 abbrev pub Reports : Fault → Option (List ℕ) → Option (List ℕ) → ℕ → ℕ → ℕ → Type 0
@@ -41,3 +44,11 @@ pub record Answered (c : Command) (bytes : List ℕ) (status : ℕ) (out_old out
 -- standard output got nothing, or a beginning of what a success of the command prints
 abbrev pub OutBegins : Command → List ℕ → Option (List ℕ) → Option (List ℕ) → Type 0
 OutBegins c bytes old new = Appends old new [] ⊎ ((d : Done) × Succeeds c bytes d × AppendsBeginning old new (done_text d))
+
+-- the line of this fault may be told: a device failed, or the fault is one of the bytes
+abbrev pub IsTold : List ℕ → Fault → Type 0
+IsTold bytes f = (f ≡ fault.Device) ⊎ FailsBy bytes f
+
+-- standard error got a beginning of one such line
+abbrev pub ErrBegins : List ℕ → Option (List ℕ) → Option (List ℕ) → Type 0
+ErrBegins bytes old new = (f : Fault) × IsTold bytes f × AppendsBeginning old new (fault_line f)

@@ -1,11 +1,11 @@
 //! The program between its devices.
 
-ghost use Rattle.std.specs.Prelude.{◌≡◌, ◌≢◌, ◌⊎◌, [], IfOk, IfErr, IfSome, string_bytes};
+ghost use Rattle.std.specs.Prelude.{◌≡◌, ◌≢◌, ◌⊎◌, [], IfOk, IfErr, IfSome, OnOk, string_bytes};
 ghost use Rattle.std.specs.Io.KnownBytes.{Appends};
 ghost use Rattle.xk_types.specs.Device.{Rose};
 ghost use Rattle.xk_serve.specs.Bytes.{AppendsBeginning};
 ghost use Rattle.xk_serve.specs.Lines.{device_line, memory_line};
-ghost use Rattle.xk_serve.specs.Serving.{Answered, OutBegins, Prints, Reports, StandsAgainst, Tells};
+ghost use Rattle.xk_serve.specs.Serving.{Answered, ErrBegins, OutBegins, Prints, Reports, StandsAgainst, Tells};
 
 use crate::answering::answer;
 use crate::bytes::{read_all, write_all};
@@ -16,7 +16,8 @@ use xk_words::{Command, Job};
 
 /// Reads the program, does the job, and writes what comes of it: its result to `out`, or one line to `err`. The answer is
 /// the exit status: 0 where the job is done, 1 where the program is refused, 4 where memory ran out, 5 where a device
-/// failed. The result is written once it is whole, so `out` stays empty but at 0 and 5. No log is read or written yet.
+/// failed. Whatever the answer but 5, no read or write failed. The result is written once it is whole, so `out` stays empty
+/// but at 0 and 5, and `err` never gets more than one line. No log is read or written yet.
 pub fn serve<P: Source, L: Source, O: Sink, E: Sink, K: Sink>(
     alloc: Global,
     job: &Job<'_>,
@@ -31,8 +32,11 @@ pub fn serve<P: Source, L: Source, O: Sink, E: Sink, K: Sink>(
 
     // Memory and devices.
     ensures out_begins { IfSome (P.remaining program.old) (λ bytes. OutBegins job.now.command bytes (O.contents out.old) (O.contents out.new)) }
+    ensures err_begins { IfSome (P.remaining program.old) (λ bytes. ErrBegins bytes (E.contents err.old) (E.contents err.new)) }
     ensures memory_out { result ≡ 4 → Appends (O.contents out.old) (O.contents out.new) [] }
     ensures memory_err { result ≡ 4 → Appends (E.contents err.old) (E.contents err.new) memory_line }
+    ensures faults { result ≢ 5 → (P.fault_count program.new ≡ P.fault_count program.old)
+        × (O.fault_count out.new ≡ O.fault_count out.old) × (E.fault_count err.new ≡ E.fault_count err.old) }
     ensures device { result ≡ 5 → Rose (P.fault_count program.old) (P.fault_count program.new)
         ⊎ (Rose (O.fault_count out.old) (O.fault_count out.new) ⊎ Rose (E.fault_count err.old) (E.fault_count err.new)) }
 
@@ -51,6 +55,7 @@ pub fn serve<P: Source, L: Source, O: Sink, E: Sink, K: Sink>(
 // What the job's result is written as.
 fn result_text<P: Source>(alloc: Global, command: Command, program: &mut P) -> Result<String, Fault>
     ensures done { IfOk result (λ text. IfSome (P.remaining program.old) (λ bytes. Prints command bytes (string_bytes text))) }
+    ensures no_fault { OnOk result (P.fault_count program.new ≡ P.fault_count program.old) }
     ensures fault { IfErr result (StandsAgainst (P.remaining program.old) (P.fault_count program.old) (P.fault_count program.new)) }
 {
     let bytes = read_all(alloc, program)?;
@@ -64,6 +69,8 @@ fn print<O: Sink, E: Sink>(alloc: Global, text: &str, out: &mut O, err: &mut E) 
         ⊎ ((result ≡ 5) × Rose (O.fault_count out.old) (O.fault_count out.new)) }
     ensures told { result ≡ 5 → Appends (E.contents err.old) (E.contents err.new) device_line ⊎ Rose (E.fault_count err.old) (E.fault_count err.new) }
     ensures beginning { AppendsBeginning (O.contents out.old) (O.contents out.new) text.now }
+    ensures err_beginning { AppendsBeginning (E.contents err.old) (E.contents err.new) device_line }
+    ensures faults { result ≢ 5 → (O.fault_count out.new ≡ O.fault_count out.old) × (E.fault_count err.new ≡ E.fault_count err.old) }
 {
     match write_all(out, text.as_bytes()) {
         Ok(()) => 0,
@@ -86,7 +93,7 @@ pub fn report<E: Sink>(alloc: Global, fault: &Fault, err: &mut E) -> u8
     }
 }
 
-/// Writes a line, and gives the status, or 5 where it can't be written.
+/// Writes a line, and gives the status, or 5 where it can't be written: then a beginning of it was.
 pub fn tell<E: Sink>(line: &str, status: u8, err: &mut E) -> u8
     ensures { Tells line.now status (E.contents err.old) (E.contents err.new) (E.fault_count err.old) (E.fault_count err.new) result }
 {

@@ -57,10 +57,6 @@ total weight m unit = total_within weight m (length m.units) unit
 abbrev pub cost : ModuleValue → ℕ → ℕ
 cost m unit = total steps_weight m unit
 
--- the most slots in the frames of one activity that runs a unit
-abbrev pub stack : ModuleValue → ℕ → ℕ
-stack m unit = option_map_or (λ u. u.slots) (slice_get m.units unit) 0
-
 -- the most steps of a run
 abbrev pub steps_bound : ModuleValue → ℕ
 steps_bound m = cost m 0

@@ -83,11 +83,15 @@ FitsKind k (fault.Help text) = (k ≡ kind.DisplayHelp) ⊎ (k ≡ kind.DisplayV
 FitsKind k (fault.NotUnderstood text) = (k ≢ kind.DisplayHelp) × (k ≢ kind.DisplayVersion) × (k ≢ kind.OutOfMemory)
 FitsKind k fault.OutOfMemory = ⊤
 
+-- a mistake is among the kinds: one that is no request for help or for the version
+abbrev pub HasMistake : Kinds → Type 0
+HasMistake kinds = (k : ErrorKind) × IsAmong k kinds × (k ≢ kind.DisplayHelp) × (k ≢ kind.DisplayVersion)
+
 -- Help is told only where it was asked for, and words are called not understood only where `clap` finds a mistake in
--- them, or no job.
+-- them, or where it finds nothing wrong and no job.
 abbrev pub IsRefused : Kinds → Option Asked → WordsFault → Type 0
 IsRefused kinds asked (fault.Help text) = IsAmong kind.DisplayHelp kinds ⊎ IsAmong kind.DisplayVersion kinds
-IsRefused kinds asked (fault.NotUnderstood text) = (kinds ≢ []) ⊎ (asked ≡ None)
+IsRefused kinds asked (fault.NotUnderstood text) = HasMistake kinds ⊎ ((kinds ≡ []) × (asked ≡ None))
 IsRefused kinds asked fault.OutOfMemory = ⊤
 
 -- the status that the program ends with

@@ -124,3 +124,11 @@ fn words_are_refused(rt: HostRuntime) {
         }
     }
 }
+
+#[test]
+fn want_of_memory_is_told(rt: HostRuntime) {
+    match WordsFault::OutOfMemory.to_string(rt.alloc()) {
+        Ok(shown) => assert_eq!(rt; shown.as_str(), "out of memory"),
+        Err(_) => panic!(rt; "out of memory"),
+    }
+}

@@ -1,4 +1,4 @@
-use Rattle.std.proofs.Common.{◌≡◌, ◌+◌, sym, ◌∙◌, ap, arith, get_or}
+use Rattle.std.proofs.Common.{◌≡◌, sym, ◌∙◌, ap, arith, get_or}
 use Rattle.xk_types.specs.Step.{is_given, joined_on}
 use Rattle.xk_core.proofs.Clocks.{joined_over_next, ok_gives}
 use Rattle.xk_core.proofs.state.join_each.Goals as goal

@@ -1,6 +1,5 @@
-use Rattle.std.proofs.Common.{◌≡◌, ◌+◌, sym, ◌∙◌, ap, arith, subst}
-use Rattle.xk_core.specs.Joining.{joined_first}
-use Rattle.xk_core.proofs.Clocks.{left_first, left_over_next, left_joined, length-left_first}
+use Rattle.std.proofs.Common.{◌≡◌, ◌∙◌, arith}
+use Rattle.xk_core.proofs.Clocks.{left_over_next, left_joined}
 use Rattle.xk_core.proofs.state.leave_first.Goals as goal
 
 pub loop-k-preserved : goal.loop-k-preserved

@@ -1,6 +1,6 @@
 use Rattle.xk_serve.specs.Serving.{OutBegins}
 use Rattle.std.proofs.Common.{inl}
-use Rattle.xk_serve.proofs.Replies.{appends_none, of_known, printed_answers, told_answers}
+use Rattle.xk_serve.proofs.Replies.{appends_none, of_known, printed_answers, report_begins, told_answers}
 use Rattle.xk_serve.proofs.serving.serve.Goals as goal
 
 pub returns-in-Ok-clause-answered : goal.returns-in-Ok-clause-answered
@@ -15,3 +15,7 @@ pub returns-in-Err-clause-out_begins : goal.returns-in-Err-clause-out_begins
 returns-in-Err-clause-out_begins g c =
     of_known (g.P.Source.remaining c.args.program.now) (λ bytes. OutBegins c.args.job.now.command bytes (g.O.Sink.contents c.args.out.now) (g.O.Sink.contents c.args.out.now))
     (λ bytes. inl (appends_none (g.O.Sink.contents c.args.out.now)))
+
+pub returns-in-Err-clause-err_begins : goal.returns-in-Err-clause-err_begins
+returns-in-Err-clause-err_begins g c =
+    report_begins (g.P.Source.remaining c.args.program.now) _ _ c.in-Err.fault _ _ _ _ _ c.in-Err.ensures.fault c.report.ensures

@@ -1,4 +1,4 @@
-use Rattle.std.proofs.Common.{◌≡◌, ◌⊎◌, inl, inr, [], List, Option, None, true, refl, sym, ap, subst, ◌∙◌}
+use Rattle.std.proofs.Common.{◌≡◌, ◌⊎◌, inl, inr, [], List, Option, None, true, refl, sym, ap, ◌∙◌}
 use Rattle.clap.specs.Words.{App, IsAmong, Kinds, Text, app_of, fault_of, is_simple, is_simple_and_free, subcommand_of, subcommand_rows_of}
 use Rattle.clap.specs.declared.error.kind.ErrorKind.{ErrorKind}
 use Rattle.clap.specs.declared.error.kind.ErrorKind.TheVariants as kind
@@ -14,7 +14,7 @@ refused_by kinds asked k (fault.Help text) (inl e) (inr h) = cc
 refused_by kinds asked k (fault.Help text) (inr among) (inl h) = inl (rw h at among)
 refused_by kinds asked k (fault.Help text) (inr among) (inr h) = inr (rw h at among)
 refused_by kinds asked k (fault.NotUnderstood text) (inl e) fits = absurd (fits.2 e)
-refused_by kinds asked k (fault.NotUnderstood text) (inr among) fits = inl (λ e. subst (IsAmong k) e among)
+refused_by kinds asked k (fault.NotUnderstood text) (inr among) fits = inl (k, among, fits.0, fits.1)
 refused_by kinds asked k fault.OutOfMemory has fits = tt
 
 simple : is_simple command_line ≡ true

@@ -1,10 +1,10 @@
-use Rattle.std.proofs.Common.{◌≡◌, ◌≤◌, ◌+◌, true, Some, None, IfOk, OnOk, ◌∙◌, sym, subst, ap}
+use Rattle.std.proofs.Common.{◌≡◌, ◌≤◌, ◌+◌, true, IfOk, OnOk, ◌∙◌, sym, subst, ap}
 use Rattle.std.specs.Option.{option_copied}
 use Rattle.xk_types.specs.Schedule.{is_enabled}
 use Rattle.xk_types.specs.Bound.{steps_bound}
 use Rattle.xk_types.specs.Step.{Stepped}
 use Rattle.xk_core.specs.Arm.{carried}
-use Rattle.xk_core.specs.Core.{CoreValue, next_instruction}
+use Rattle.xk_core.specs.Core.{CoreValue}
 use Rattle.xk_core.proofs.Cores.{core_roomy, core_bound, core_passed, core_carried, at_ok, carried_counts, passed_over, carried_over}
 use Rattle.xk_core.proofs.machine.Core.step.Goals as goal
 
