@@ -428,22 +428,21 @@ fn refuses_main(
     refuses(rt, alloc, text.as_str(), line)
 }
 
+// A unit that isn't there; main; too few arguments, and too many; one slot for two clocks; a slot that isn't there, which
+// comes before all.
 #[test]
 fn starts_are_refused(rt: HostRuntime) -> Result<(), AllocError> {
     for (code, body, line) in [
-        // A unit that isn't there.
         (
             r#"["make",0],["spawn",2,[0]],["ret"]"#,
             ON_ONE,
             "x10clock: V4 Unit unit 0 at 1\n",
         ),
-        // Main.
         (
             r#"["lit",0,1],["advance"],["spawn",0,[]],["ret"]"#,
             NOTHING,
             "x10clock: V4 Unit unit 0 at 2\n",
         ),
-        // Too few arguments, and too many.
         (
             r#"["make",0],["spawn",1,[]],["ret"]"#,
             ON_ONE,
@@ -454,13 +453,11 @@ fn starts_are_refused(rt: HostRuntime) -> Result<(), AllocError> {
             ON_ONE,
             "x10clock: V4 Unit unit 0 at 2\n",
         ),
-        // One slot for two clocks; as numbers the two are kinds' business, not this rule's.
         (
             r#"["make",0],["spawn",1,[0,0]],["ret"]"#,
             ON_TWO,
             "x10clock: V10 SameClock unit 0 at 1\n",
         ),
-        // An argument's slot that isn't there comes before all.
         (
             r#"["make",0],["spawn",1,[2,2]],["ret"]"#,
             ON_TWO,
