@@ -215,6 +215,7 @@ fn a_halted_core_goes_on(rt: HostRuntime) -> Result<(), Fail> {
     assert_eq!(rt; core.steps_done(), 5);
     assert!(rt; !core.enabled(Act(0)) && core.enabled(Act(1)) && !core.ended());
     assert_eq!(rt; core.pick(), Some(Act(1)));
+    assert_eq!(rt; core.clocks(), 1);
     assert_eq!(rt; core.phase(ClockId(0)), 0);
     let Ok(Ran { core, seen }) = run_schedule(alloc, core, &[1, 1, 1, 1, 0, 0]) else {
         return Err("halted".into());
@@ -227,7 +228,9 @@ fn a_halted_core_goes_on(rt: HostRuntime) -> Result<(), Fail> {
         Event::Printed(7),
     ];
     assert_eq!(rt; seen.as_slice(), wanted.as_slice());
+    assert_eq!(rt; core.clocks(), 1);
     assert_eq!(rt; core.last(ClockId(0)), 9);
+    assert_eq!(rt; core.activities(), 2);
     assert_eq!(rt; core.since(Act(0)), 10);
     assert_eq!(rt; core.since(Act(1)), 0);
     Ok(())
@@ -261,6 +264,7 @@ fn a_child_begins_with_the_since_of_its_starter(rt: HostRuntime) -> Result<(), F
     };
     let wanted = [Event::Arrived, Event::Ended, Event::Passed, Event::Ended];
     assert_eq!(rt; seen.as_slice(), wanted.as_slice());
+    assert_eq!(rt; core.activities(), 2);
     assert_eq!(rt; (core.since(Act(0)), core.since(Act(1))), (2, 6));
     Ok(())
 }
