@@ -4,14 +4,18 @@
 use std::io::{ErrorKind, Read};
 use std::process::ExitCode;
 use std::{env, fs, io};
-use xk_serve::{Fault, report, serve, tell};
+use xk_serve::{Fault, report, serve, tell, tell_words};
 use xk_types::{Counted, Sink};
-use xk_words::{Job, WordsFault, read_job};
+use xk_words::{Job, read_job};
+
+#[cfg(test)]
+mod tests;
 
 fn main(rt: HostRuntime) -> ExitCode {
+    let mut out = Counted::new(rt.stdout());
     let mut err = Counted::new(rt.stderr());
     let status = match words(&rt) {
-        Ok(words) => on_words(&rt, &words, &mut err),
+        Ok(words) => on_words(&rt, &words, &mut out, &mut err),
         Err(e) if e.kind() == ErrorKind::OutOfMemory => {
             report(rt.alloc(), &Fault::OutOfMemory, &mut err)
         }
@@ -26,26 +30,24 @@ fn words(rt: &HostRuntime) -> io::Result<Vec<String>> {
 }
 
 // Does what the words ask for.
-fn on_words<E: Sink>(rt: &HostRuntime, words: &[String], err: &mut E) -> u8 {
+fn on_words<O: Sink, E: Sink>(rt: &HostRuntime, words: &[String], out: &mut O, err: &mut E) -> u8 {
     let texts: Vec<&str> = match words.iter().map(|word| word.as_str()).collect(rt.alloc()) {
         Ok(texts) => texts,
         Err(_) => return report(rt.alloc(), &Fault::OutOfMemory, err),
     };
     match read_job(rt.alloc(), &texts) {
-        Ok(job) => on_job(rt, &job, err),
-        Err(WordsFault::Help(text)) => tell(text.as_str(), 0, &mut Counted::new(rt.stdout())),
-        Err(WordsFault::NotUnderstood(text)) => tell(text.as_str(), 2, err),
-        Err(WordsFault::OutOfMemory) => report(rt.alloc(), &Fault::OutOfMemory, err),
+        Ok(job) => on_job(rt, &job, out, err),
+        Err(fault) => tell_words(&fault, out, err),
     }
 }
 
 // Opens FILE, and does the job.
-fn on_job<E: Sink>(rt: &HostRuntime, job: &Job<'_>, err: &mut E) -> u8 {
+fn on_job<O: Sink, E: Sink>(rt: &HostRuntime, job: &Job<'_>, out: &mut O, err: &mut E) -> u8 {
     if job.file == "-" {
-        return on_program(rt, job, rt.stdin(), err);
+        return on_program(rt, job, rt.stdin(), out, err);
     }
     match fs::open(rt, job.file) {
-        Ok(file) => on_program(rt, job, file, err),
+        Ok(file) => on_program(rt, job, file, out, err),
         Err(e) if e.kind() == ErrorKind::OutOfMemory => {
             report(rt.alloc(), &Fault::OutOfMemory, err)
         }
@@ -54,22 +56,22 @@ fn on_job<E: Sink>(rt: &HostRuntime, job: &Job<'_>, err: &mut E) -> u8 {
 }
 
 // Does the job on an open program. There are no logs yet.
-fn on_program<P: Read + Drop, E: Sink>(
+fn on_program<P: Read + Drop, O: Sink, E: Sink>(
     rt: &HostRuntime,
     job: &Job<'_>,
     program: P,
+    out: &mut O,
     err: &mut E,
 ) -> u8 {
     let mut source = Counted::new(program);
     let mut log_in = Counted::new(io::empty());
-    let mut out = Counted::new(rt.stdout());
     let mut log_out = Counted::new(io::sink());
     serve(
         rt.alloc(),
         job,
         &mut source,
         &mut log_in,
-        &mut out,
+        out,
         err,
         &mut log_out,
     )

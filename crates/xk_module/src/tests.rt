@@ -407,3 +407,18 @@ fn labels(rt: HostRuntime) {
         assert_eq!(rt; fault.label(), label, "{fault}");
     }
 }
+
+/// What a fault says of itself.
+#[test]
+fn faults_are_told(rt: HostRuntime) -> Result<(), Fail> {
+    for (fault, text) in [
+        (ModuleFault::NotJson, "the bytes are no JSON text"),
+        (ModuleFault::NotAModule, "the JSON value names no module"),
+        (ModuleFault::Limit, "the module goes beyond a limit"),
+        (ModuleFault::OutOfMemory, "out of memory"),
+    ] {
+        let shown = format!(in rt.alloc(); "{fault}")?;
+        assert_eq!(rt; shown.as_str(), text);
+    }
+    Ok(())
+}

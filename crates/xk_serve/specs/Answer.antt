@@ -23,10 +23,11 @@ ComesTo command.Check m (done.Ended numbers steps) = ⊥
 ComesTo command.Run m (done.Accepted steps activities clocks) = ⊥
 ComesTo command.Run m (done.Ended numbers steps) = IsFirstRun m numbers.items steps
 
--- the bytes are a text of an accepted module, and the command on it comes to that
+-- the bytes are a text of an accepted module within the limits, and the command on it comes to that
 pub record Succeeds (c : Command) (bytes : List ℕ) (d : Done) : Type 0 where
   pub of : ModuleValue
   pub read : IsModuleText bytes of
+  pub limits : IsWithinLimits of
   pub accepted : IsAccepted of
   pub done : ComesTo c of d
 

@@ -1,8 +1,10 @@
 -- What the program does with its devices.
-use Rattle.std.specs.Prelude.{◌≡◌, ◌≢◌, ℕ, ◌⊎◌, List, [], Option, IfSome}
+use Rattle.std.specs.Prelude.{◌≡◌, ◌≢◌, ℕ, ◌⊎◌, List, [], Option, IfSome, string_bytes}
 use Rattle.std.specs.Io.KnownBytes.{Appends}
 use Rattle.xk_types.specs.Device.{Rose}
 use Rattle.xk_words.specs.declared.job.Command.{Command}
+use Rattle.xk_words.specs.declared.words_fault.WordsFault.{WordsFault}
+use Rattle.xk_words.specs.declared.words_fault.WordsFault.TheVariants as words
 use Rattle.xk_serve.specs.declared.done.Done.{Done}
 use Rattle.xk_serve.specs.declared.fault.Fault.{Fault}
 use Rattle.xk_serve.specs.declared.fault.Fault.TheVariants as fault
@@ -52,3 +54,10 @@ IsTold bytes f = (f ≡ fault.Device) ⊎ FailsBy bytes f
 -- standard error got a beginning of one such line
 abbrev pub ErrBegins : List ℕ → Option (List ℕ) → Option (List ℕ) → Type 0
 ErrBegins bytes old new = (f : Fault) × IsTold bytes f × AppendsBeginning old new (fault_line f)
+
+-- How words that are no job are told, where the first predicate says what standard output got and with which status,
+-- and the second one the same of standard error: help goes to the one, all else to the other.
+abbrev pub TellsWords : WordsFault → (List ℕ → ℕ → Type 0) → (List ℕ → ℕ → Type 0) → Type 0
+TellsWords (words.Help text) On_out On_err = On_out (string_bytes text) 0
+TellsWords (words.NotUnderstood text) On_out On_err = On_err (string_bytes text) 2
+TellsWords words.OutOfMemory On_out On_err = On_err memory_line 4

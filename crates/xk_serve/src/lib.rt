@@ -13,7 +13,7 @@ pub use bytes::{read_all, write_all};
 pub use done::Done;
 pub use fault::Fault;
 pub use first_run::run_first;
-pub use serving::{report, serve, tell};
+pub use serving::{report, serve, tell, tell_words};
 
 #[cfg(test)]
 mod tests;

@@ -5,14 +5,14 @@ ghost use Rattle.std.specs.Io.KnownBytes.{Appends};
 ghost use Rattle.xk_types.specs.Device.{Rose};
 ghost use Rattle.xk_serve.specs.Bytes.{AppendsBeginning};
 ghost use Rattle.xk_serve.specs.Lines.{device_line, memory_line};
-ghost use Rattle.xk_serve.specs.Serving.{Answered, ErrBegins, OutBegins, Prints, Reports, StandsAgainst, Tells};
+ghost use Rattle.xk_serve.specs.Serving.{Answered, ErrBegins, OutBegins, Prints, Reports, StandsAgainst, Tells, TellsWords};
 
 use crate::answering::answer;
 use crate::bytes::{read_all, write_all};
 use crate::fault::{DEVICE_LINE, Fault, MEMORY_LINE};
 use std::alloc::Global;
 use xk_types::{Sink, Source};
-use xk_words::{Command, Job};
+use xk_words::{Command, Job, WordsFault};
 
 /// Reads the program, does the job, and writes what comes of it: its result to `out`, or one line to `err`. The answer is
 /// the exit status: 0 where the job is done, 1 where the program is refused, 4 where memory ran out, 5 where a device
@@ -100,5 +100,19 @@ pub fn tell<E: Sink>(line: &str, status: u8, err: &mut E) -> u8
     match write_all(err, line.as_bytes()) {
         Ok(()) => status,
         Err(_) => 5,
+    }
+}
+
+/// Says why words are no job: help on `out`, with status 0, and all else on `err`, with status 2, or 4 where memory ran out. The
+/// status is 5 where the text can't be written.
+pub fn tell_words<O: Sink, E: Sink>(fault: &WordsFault, out: &mut O, err: &mut E) -> u8
+    ensures { TellsWords fault.now
+        (λ text status. (err.new ≡ err.old) × Tells text status (O.contents out.old) (O.contents out.new) (O.fault_count out.old) (O.fault_count out.new) result)
+        (λ text status. (out.new ≡ out.old) × Tells text status (E.contents err.old) (E.contents err.new) (E.fault_count err.old) (E.fault_count err.new) result) }
+{
+    match fault {
+        WordsFault::Help(text) => tell(text.as_str(), 0, out),
+        WordsFault::NotUnderstood(text) => tell(text.as_str(), 2, err),
+        WordsFault::OutOfMemory => tell(MEMORY_LINE, 4, err),
     }
 }

@@ -3,6 +3,7 @@ use std::alloc::{AllocError, Global};
 use std::io;
 use std::io::{ErrorKind, Read, Write};
 use std::process::Abort;
+use xk_module::ModuleFault;
 use xk_types::{Counted, Failed, Sink, Source, Tape};
 use xk_words::{Command, Form, Job};
 
@@ -427,22 +428,21 @@ fn refuses_main(
     refuses(rt, alloc, text.as_str(), line)
 }
 
+// A unit that isn't there; main; too few arguments, and too many; one slot for two clocks; a slot that isn't there, which
+// comes before all.
 #[test]
 fn starts_are_refused(rt: HostRuntime) -> Result<(), AllocError> {
     for (code, body, line) in [
-        // A unit that isn't there.
         (
             r#"["make",0],["spawn",2,[0]],["ret"]"#,
             ON_ONE,
             "x10clock: V4 Unit unit 0 at 1\n",
         ),
-        // Main.
         (
             r#"["lit",0,1],["advance"],["spawn",0,[]],["ret"]"#,
             NOTHING,
             "x10clock: V4 Unit unit 0 at 2\n",
         ),
-        // Too few arguments, and too many.
         (
             r#"["make",0],["spawn",1,[]],["ret"]"#,
             ON_ONE,
@@ -453,13 +453,11 @@ fn starts_are_refused(rt: HostRuntime) -> Result<(), AllocError> {
             ON_ONE,
             "x10clock: V4 Unit unit 0 at 2\n",
         ),
-        // One slot for two clocks; as numbers the two are kinds' business, not this rule's.
         (
             r#"["make",0],["spawn",1,[0,0]],["ret"]"#,
             ON_TWO,
             "x10clock: V10 SameClock unit 0 at 1\n",
         ),
-        // An argument's slot that isn't there comes before all.
         (
             r#"["make",0],["spawn",1,[2,2]],["ret"]"#,
             ON_TWO,
@@ -655,4 +653,87 @@ fn failures_are_counted(rt: HostRuntime) {
     let mut writer = Counted::new(Faulty { calls: 0 });
     assert!(rt; writer.write(b"text") == Err(Failed) && writer.faults() == 1);
     assert!(rt; writer.write(b"") == Ok(0) && writer.faults() == 1);
+}
+
+// A writer that takes three bytes at a time, and so many in all; then it fails.
+#[derive(Drop)]
+struct Narrow {
+    room: usize,
+    taken: Vec<u8>,
+}
+
+impl Narrow {
+    fn new(alloc: Global, room: usize) -> Counted<Narrow> {
+        Counted::new(Narrow {
+            room,
+            taken: Vec::new(alloc),
+        })
+    }
+}
+
+impl Write for Narrow {
+    fn write(&mut self, buf: &[u8]) -> io::Result<usize> {
+        let count = buf.len().min(3).min(self.room);
+        if count == 0 && !buf.is_empty() {
+            return Err(io::Error::from(ErrorKind::Other));
+        }
+        self.taken.extend_from_slice(&buf[..count])?;
+        self.room -= count;
+        Ok(count)
+    }
+
+    fn flush(&mut self) -> io::Result<()> {
+        Ok(())
+    }
+}
+
+#[test]
+fn lines_are_cut_short(rt: HostRuntime) {
+    let line = "x10clock: device\n";
+    for room in 0..=line.len() {
+        let mut err = Narrow::new(rt.alloc(), room);
+        let status = report(rt.alloc(), &Fault::Device, &mut err);
+        assert_eq!(rt; status, 5);
+        assert_eq!(rt; err.faults(), u64::from(room < line.len()));
+        let taken = err.into_inner().taken;
+        assert!(rt;
+            taken.as_slice() == &line.as_bytes()[..room],
+            "{room} bytes"
+        );
+    }
+    let mut out = Narrow::new(rt.alloc(), 4);
+    assert!(rt; tell("told\n", 2, &mut out) == 5 && out.faults() == 1);
+    assert!(rt; out.into_inner().taken.as_slice() == b"told".as_slice());
+}
+
+#[test]
+fn numbers_are_printed(rt: HostRuntime) -> Result<(), AllocError> {
+    let text = module_text(
+        rt.alloc(),
+        2,
+        r#"["lit",0,-9223372036854775808],["print",0],["lit",1,-1],["add",0,0,1],["print",0],["print",1],["lit",0,0],["print",0],["ret"]"#,
+    )?;
+    gives(
+        &rt,
+        rt.alloc(),
+        Command::Run,
+        text.as_str(),
+        "-9223372036854775808\n9223372036854775807\n-1\n0\nended steps 9\n",
+    )
+}
+
+#[test]
+fn faults_are_told(rt: HostRuntime) -> Result<(), AllocError> {
+    for (fault, text) in [
+        (Fault::OutOfMemory, "out of memory"),
+        (Fault::Device, "a device failed"),
+        (
+            Fault::Text(ModuleFault::Limit),
+            "the module goes beyond a limit",
+        ),
+    ] {
+        let shown = format!(in rt.alloc(); "{fault}")?;
+        assert_eq!(rt; shown.as_str(), text);
+    }
+    Ok(())
 }
