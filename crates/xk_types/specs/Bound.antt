@@ -1,53 +1,47 @@
 -- How many steps, activities and clocks a run of a module can take, as sums over its instructions, and how many slots an
 -- activity. The bounds and their limits are this project's own.
-use Rattle.std.specs.Prelude.{ℕ, zero, suc, ◌+◌, ◌≤◌, max, length, slice_get, sum_by, fold, map}
+use Rattle.std.specs.Prelude.{ℕ, zero, suc, ◌+◌, ◌*◌, ◌≤◌, max, List, [], ◌∷◌, length, slice_get, fold, map, filter}
 use Rattle.std.specs.Option.{option_map_or}
 use Rattle.xk_types.specs.declared.instr.Instr.{Instr}
 use Rattle.xk_types.specs.declared.instr.Instr.TheVariants as instr
-use Rattle.xk_types.specs.Code.{ModuleValue, unit_started}
+use Rattle.xk_types.specs.Code.{UnitValue, ModuleValue, unit_started, Loop, loops, is_round, turns}
 
 -- the steps of an instruction itself
 abbrev pub steps_weight : Instr → ℕ
-steps_weight (instr.Lit d n) = 1
-steps_weight (instr.Add d x y) = 1
-steps_weight (instr.Print x) = 1
-steps_weight (instr.Make d) = 1
-steps_weight (instr.Resume c) = 1
-steps_weight (instr.Drop c) = 1
 steps_weight instr.Advance = 2
-steps_weight (instr.Spawn t args) = 1
-steps_weight instr.Ret = 1
+steps_weight _ = 1
 
 -- the activities that it starts itself
 abbrev pub activities_weight : Instr → ℕ
-activities_weight (instr.Lit d n) = 0
-activities_weight (instr.Add d x y) = 0
-activities_weight (instr.Print x) = 0
-activities_weight (instr.Make d) = 0
-activities_weight (instr.Resume c) = 0
-activities_weight (instr.Drop c) = 0
-activities_weight instr.Advance = 0
 activities_weight (instr.Spawn t args) = 1
-activities_weight instr.Ret = 0
+activities_weight _ = 0
 
 -- the clocks that it makes itself
 abbrev pub clocks_weight : Instr → ℕ
-clocks_weight (instr.Lit d n) = 0
-clocks_weight (instr.Add d x y) = 0
-clocks_weight (instr.Print x) = 0
 clocks_weight (instr.Make d) = 1
-clocks_weight (instr.Resume c) = 0
-clocks_weight (instr.Drop c) = 0
-clocks_weight instr.Advance = 0
-clocks_weight (instr.Spawn t args) = 0
-clocks_weight instr.Ret = 0
+clocks_weight _ = 0
 
--- The sum of a weight over a unit's instructions, each with the sum of the unit that it starts, down to this many starts one
--- below another.
+-- the turns of the loops that a place lies in, multiplied
+abbrev pub product : List Loop → ℕ
+product [] = 1
+product (l ∷ ls) = turns l * product ls
+
+-- how often an instruction at this place is carried out at most, each time that its unit is
+abbrev pub visits : UnitValue → ℕ → ℕ
+visits u at = product (filter (is_round at) (loops u))
+
+-- the sum over instructions from a place on
+abbrev pub sum_from : (ℕ → Instr → ℕ) → ℕ → List Instr → ℕ
+sum_from f at [] = 0
+sum_from f at (i ∷ is) = f at i + sum_from f (suc at) is
+
+-- The sum of a weight over a unit's instructions, each with the sum of the unit that it starts, and as often as it is carried
+-- out, down to this many starts one below another.
 unfoldable pub total_within : (Instr → ℕ) → ModuleValue → ℕ → ℕ → ℕ
 total_within weight m zero unit = 0
 total_within weight m (suc depth) unit =
-    option_map_or (λ u. sum_by (λ i. weight i + option_map_or (total_within weight m depth) (unit_started i) 0) u.code) (slice_get m.units unit) 0
+    option_map_or (λ u. sum_from (λ at i. visits u at * (weight i + option_map_or (total_within weight m depth) (unit_started i) 0)) 0 u.code)
+    (slice_get m.units unit) 0
 
 -- What a unit starts has a greater number, so that no more starts than there are units stand one below another.
 abbrev pub total : (Instr → ℕ) → ModuleValue → ℕ → ℕ

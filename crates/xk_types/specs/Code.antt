@@ -1,6 +1,8 @@
 -- What a module is, apart from where it lies in memory, and its limits. Bytecode, modules and limits are this project's own.
-use Rattle.std.specs.Prelude.{ℕ, ℤ, ◌≤◌, Bool, true, false, List, [], length, slice_get, Option, Some, None, All}
+use Rattle.std.specs.Prelude.{ℕ, suc, ℤ, ◌+◌, ◌==◌, ◌≤◌, ◌-ℤ◌, nat_abs, int_lt, int_le, nat_lt, nat_le, Bool, true, false, not, ◌&&◌, List, [], ◌∷◌, length, slice_get, Option, Some, None, All, if◌then◌else◌}
 use Rattle.std.specs.Option.{option_map_or}
+use Rattle.xk_types.specs.declared.instr.Comparison.{Comparison}
+use Rattle.xk_types.specs.declared.instr.Comparison.TheVariants as comparison
 use Rattle.xk_types.specs.declared.instr.Instr.{Instr}
 use Rattle.xk_types.specs.declared.instr.Instr.TheVariants as instr
 use Rattle.xk_types.specs.declared.unit.UnitKind.{UnitKind}
@@ -24,27 +26,22 @@ module_of shared units = record { shared = shared; units = units }
 
 -- the slots whose values an instruction hands to a unit
 abbrev pub arguments_of : Instr → List ℕ
-arguments_of (instr.Lit d n) = []
-arguments_of (instr.Add d x y) = []
-arguments_of (instr.Print x) = []
-arguments_of (instr.Make d) = []
-arguments_of (instr.Resume c) = []
-arguments_of (instr.Drop c) = []
-arguments_of instr.Advance = []
 arguments_of (instr.Spawn t args) = args
-arguments_of instr.Ret = []
+arguments_of _ = []
 
 -- the unit that an instruction starts, if it starts one
 abbrev pub unit_started : Instr → Option ℕ
-unit_started (instr.Lit d n) = None
-unit_started (instr.Add d x y) = None
-unit_started (instr.Print x) = None
-unit_started (instr.Make d) = None
-unit_started (instr.Resume c) = None
-unit_started (instr.Drop c) = None
-unit_started instr.Advance = None
 unit_started (instr.Spawn t args) = Some t
-unit_started instr.Ret = None
+unit_started _ = None
+
+-- the two numbers compare so
+abbrev pub compares : Comparison → ℤ → ℤ → Bool
+compares comparison.Eq a b = int_le a b && int_le b a
+compares comparison.Ne a b = not (int_le a b && int_le b a)
+compares comparison.Lt a b = int_lt a b
+compares comparison.Le a b = int_le a b
+compares comparison.Gt a b = int_lt b a
+compares comparison.Ge a b = int_le b a
 
 -- the parameters of a unit
 abbrev pub params_of : ModuleValue → ℕ → List ParamKind
@@ -58,6 +55,48 @@ is_main unit_kind.Body = false
 abbrev pub is_body : UnitKind → Bool
 is_body unit_kind.Main = false
 is_body unit_kind.Body = true
+
+-- ---- loops
+
+-- a loop: the places of its `for` and of its `next`, its slot, its bounds
+pub record Loop : Type 0 where
+  pub first : ℕ
+  pub last : ℕ
+  pub slot : ℕ
+  pub lo : ℤ
+  pub hi : ℤ
+
+-- it is a `next` that names this place
+abbrev pub is_next_of : ℕ → Option Instr → Bool
+is_next_of first (Some (instr.Next b)) = b == first
+is_next_of first _ = false
+
+-- the loop that an instruction at place `first` begins: a `for` and a `next` that name each other
+abbrev pub loop_begun : UnitValue → ℕ → Instr → Option Loop
+loop_begun u first (instr.For k lo hi e) = if is_next_of first (slice_get u.code e) then Some (record { first = first; last = e; slot = k; lo = lo; hi = hi }) else None
+loop_begun u first _ = None
+
+abbrev pub loops_from : UnitValue → ℕ → List Instr → List Loop
+loops_from u at [] = []
+loops_from u at (i ∷ is) = option_map_or (λ l. l ∷ loops_from u (suc at) is) (loop_begun u at i) (loops_from u (suc at) is)
+
+-- the loops of a unit, by the places of their `for`
+abbrev pub loops : UnitValue → List Loop
+loops u = loops_from u 0 u.code
+
+-- the place lies in the loop: behind its `for`, and up to its `next`
+abbrev pub is_round : ℕ → Loop → Bool
+is_round at l = nat_lt l.first at && nat_le at l.last
+
+-- the place lies strictly between its `for` and its `next`
+abbrev pub is_within : ℕ → Loop → Bool
+is_within at l = nat_lt l.first at && nat_lt at l.last
+
+-- how many turns a loop takes
+abbrev pub turns : Loop → ℕ
+turns l = if int_le l.lo l.hi then nat_abs (l.hi -ℤ l.lo) + 1 else 0
+
+-- ---- limits
 
 -- at most 64 slots, no more parameters than slots, at most 4,096 instructions, each with at most 64 arguments
 pub record IsUnitWithinLimits (u : UnitValue) : Type 0 where

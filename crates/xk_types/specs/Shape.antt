@@ -1,18 +1,26 @@
 -- The rules on the shape of code: which places break them. They are this project's own.
-use Rattle.std.specs.Prelude.{◌≡◌, ℕ, ◌+◌, ◌==◌, nat_lt, Bool, true, false, not, ◌&&◌, ◌||◌, List, [], ◌∷◌, length, Option, Some, None, slice_get, if◌then◌else◌}
+use Rattle.std.specs.Prelude.{◌≡◌, ℕ, ◌+◌, ◌==◌, nat_lt, int_lt, option_and_then, Bool, true, false, not, ◌&&◌, ◌||◌, List, [], ◌∷◌, length, Option, Some, None, slice_get, if◌then◌else◌}
 use Rattle.std.specs.List.{list_all, list_any}
+use Rattle.std.specs.Option.{option_map_or}
 use Rattle.xk_types.specs.declared.instr.Instr.{Instr}
 use Rattle.xk_types.specs.declared.instr.Instr.TheVariants as instr
 use Rattle.xk_types.specs.declared.rules.Rule.{Rule}
 use Rattle.xk_types.specs.declared.rules.Rule.TheVariants as rule
 use Rattle.xk_types.specs.declared.unit.ParamKind.{ParamKind}
 use Rattle.xk_types.specs.declared.unit.ParamKind.TheVariants as param
-use Rattle.xk_types.specs.Code.{UnitValue, ModuleValue, is_main, is_body, params_of}
+use Rattle.xk_types.specs.Code.{UnitValue, ModuleValue, is_main, is_body, params_of, Loop, loop_begun, loops, is_round, is_within}
 
--- the slots that an instruction names
+-- the slots that an instruction names; that of a `next` is its `for`'s
 abbrev pub slots_named : Instr → List ℕ
 slots_named (instr.Lit d n) = d ∷ []
+slots_named (instr.Copy d x) = d ∷ x ∷ []
 slots_named (instr.Add d x y) = d ∷ x ∷ y ∷ []
+slots_named (instr.Sub d x y) = d ∷ x ∷ y ∷ []
+slots_named (instr.Mul d x y) = d ∷ x ∷ y ∷ []
+slots_named (instr.Unless op x y t) = x ∷ y ∷ []
+slots_named (instr.Jump t) = []
+slots_named (instr.For k lo hi e) = k ∷ []
+slots_named (instr.Next b) = []
 slots_named (instr.Print x) = x ∷ []
 slots_named (instr.Make d) = d ∷ []
 slots_named (instr.Resume c) = c ∷ []
@@ -21,33 +29,107 @@ slots_named instr.Advance = []
 slots_named (instr.Spawn t args) = args
 slots_named instr.Ret = []
 
+-- the slot that an instruction writes, if it writes one
+abbrev pub slot_written : Instr → Option ℕ
+slot_written (instr.Lit d n) = Some d
+slot_written (instr.Copy d x) = Some d
+slot_written (instr.Add d x y) = Some d
+slot_written (instr.Sub d x y) = Some d
+slot_written (instr.Mul d x y) = Some d
+slot_written (instr.For k lo hi e) = Some k
+slot_written (instr.Make d) = Some d
+slot_written _ = None
+
+-- where an instruction may go but to the next, ahead of it
+abbrev pub target : Instr → Option ℕ
+target (instr.Unless op x y t) = Some t
+target (instr.Jump t) = Some t
+target _ = None
+
 abbrev pub is_ret : Instr → Bool
-is_ret (instr.Lit d n) = false
-is_ret (instr.Add d x y) = false
-is_ret (instr.Print x) = false
-is_ret (instr.Make d) = false
-is_ret (instr.Resume c) = false
-is_ret (instr.Drop c) = false
-is_ret instr.Advance = false
-is_ret (instr.Spawn t args) = false
 is_ret instr.Ret = true
+is_ret _ = false
 
 -- the instruction makes a clock in one of the first n slots
 abbrev pub makes_below : ℕ → Instr → Bool
-makes_below n (instr.Lit d v) = false
-makes_below n (instr.Add d x y) = false
-makes_below n (instr.Print x) = false
 makes_below n (instr.Make d) = nat_lt d n
-makes_below n (instr.Resume c) = false
-makes_below n (instr.Drop c) = false
-makes_below n instr.Advance = false
-makes_below n (instr.Spawn t args) = false
-makes_below n instr.Ret = false
+makes_below n _ = false
 
 -- a test of the instruction at a place, and no where there is none
 abbrev pub instr_is : (Instr → Bool) → Option Instr → Bool
 instr_is test None = false
 instr_is test (Some i) = test i
+
+-- ---- targets, loops
+
+-- the place lies ahead of place `at`, and inside the code
+abbrev pub lies_ahead : UnitValue → ℕ → ℕ → Bool
+lies_ahead u at t = nat_lt at t && nat_lt t (length u.code)
+
+-- the places that the instruction at this place names lie ahead of it and inside the code, or, for a `next`, behind it
+abbrev pub aims_well : UnitValue → ℕ → Instr → Bool
+aims_well u at (instr.Unless op x y t) = lies_ahead u at t
+aims_well u at (instr.Jump t) = lies_ahead u at t
+aims_well u at (instr.For k lo hi e) = lies_ahead u at e
+aims_well u at (instr.Next b) = nat_lt b at
+aims_well u at _ = true
+
+-- V1: targets and the ends of loops lie ahead and inside the code, their beginnings behind
+abbrev pub breaks_target : UnitValue → ℕ → Bool
+breaks_target u at = instr_is (λ i. not (aims_well u at i)) (slice_get u.code at)
+
+-- one loop begins inside the other, and ends behind its end
+abbrev pub overlaps : Loop → Loop → Bool
+overlaps l k =
+    (nat_lt l.first k.first && nat_lt k.first l.last && nat_lt l.last k.last)
+    || (nat_lt k.first l.first && nat_lt l.first k.last && nat_lt k.last l.last)
+
+-- the loop that the instruction at this place begins or ends
+abbrev pub loop_ended : UnitValue → ℕ → ℕ → Option Instr → Option Loop
+loop_ended u at b None = None
+loop_ended u at b (Some i) = option_and_then (λ l. if l.last == at then Some l else None) (loop_begun u b i)
+
+-- there is no such loop, or it overlaps another in part
+abbrev pub is_amiss : UnitValue → Option Loop → Bool
+is_amiss u None = true
+is_amiss u (Some l) = list_any (overlaps l) (loops u)
+
+-- one of the two, and not the other
+abbrev pub differ : Bool → Bool → Bool
+differ true q = not q
+differ false q = q
+
+-- A jump from one place to another leaves the loop, or comes into it. It may end at the loop's `next`, and not begin there.
+abbrev pub crosses : ℕ → ℕ → Loop → Bool
+crosses at t l = differ (is_within at l) (is_round t l)
+
+abbrev pub is_crossing : UnitValue → ℕ → Instr → Bool
+is_crossing u at (instr.For k lo hi e) = is_amiss u (loop_begun u at (instr.For k lo hi e))
+is_crossing u at (instr.Next b) = is_amiss u (loop_ended u at b (slice_get u.code b))
+is_crossing u at (instr.Unless op x y t) = list_any (crosses at t) (loops u)
+is_crossing u at (instr.Jump t) = list_any (crosses at t) (loops u)
+is_crossing u at _ = false
+
+-- V2: a `for` and a `next` name each other; loops nest or lie apart; no jump leaves a loop or comes into one
+abbrev pub breaks_block : UnitValue → ℕ → Bool
+breaks_block u at = instr_is (is_crossing u at) (slice_get u.code at)
+
+-- the bounds of the loop that it begins are out of order
+abbrev pub is_backward : Instr → Bool
+is_backward (instr.For k lo hi e) = int_lt hi lo
+is_backward _ = false
+
+-- it writes this slot
+abbrev pub writes_slot : ℕ → Instr → Bool
+writes_slot s i = option_map_or (λ d. d == s) (slot_written i) false
+
+-- V6: a loop's bounds are in order, and no instruction inside it writes its slot
+abbrev pub breaks_loop : UnitValue → ℕ → Bool
+breaks_loop u at =
+    instr_is is_backward (slice_get u.code at)
+    || instr_is (λ i. list_any (λ l. is_within at l && writes_slot l.slot i) (loops u)) (slice_get u.code at)
+
+-- ---- slots, units, the end
 
 -- V3: every slot that an instruction names is one of the unit's
 abbrev pub breaks_slot : UnitValue → ℕ → Bool
@@ -63,15 +145,8 @@ is_startable unit t args None = false
 is_startable unit t args (Some v) = is_body v.kind && nat_lt unit t && (length args == length v.params)
 
 abbrev pub starts_amiss : ModuleValue → ℕ → Instr → Bool
-starts_amiss m unit (instr.Lit d n) = false
-starts_amiss m unit (instr.Add d x y) = false
-starts_amiss m unit (instr.Print x) = false
-starts_amiss m unit (instr.Make d) = false
-starts_amiss m unit (instr.Resume c) = false
-starts_amiss m unit (instr.Drop c) = false
-starts_amiss m unit instr.Advance = false
 starts_amiss m unit (instr.Spawn t args) = not (is_startable unit t args (slice_get m.units t))
-starts_amiss m unit instr.Ret = false
+starts_amiss m unit _ = false
 
 -- V4: unit 0 is the only main, and has no parameters (a breach is reported at instruction 0); a unit that is started fits
 abbrev pub breaks_unit : ModuleValue → ℕ → UnitValue → ℕ → Bool
@@ -101,30 +176,22 @@ has_twice [] = false
 has_twice (x ∷ xs) = list_any (λ y. y == x) xs || has_twice xs
 
 abbrev pub gives_twice : ModuleValue → Instr → Bool
-gives_twice m (instr.Lit d n) = false
-gives_twice m (instr.Add d x y) = false
-gives_twice m (instr.Print x) = false
-gives_twice m (instr.Make d) = false
-gives_twice m (instr.Resume c) = false
-gives_twice m (instr.Drop c) = false
-gives_twice m instr.Advance = false
 gives_twice m (instr.Spawn t args) = has_twice (clock_arguments (params_of m t) args)
-gives_twice m instr.Ret = false
+gives_twice m _ = false
 
 -- V10: no slot stands twice among the clocks that are handed on
 abbrev pub breaks_same_clock : ModuleValue → UnitValue → ℕ → Bool
 breaks_same_clock m u at = instr_is (gives_twice m) (slice_get u.code at)
 
--- Rules about what this machine's instructions don't have, as targets, blocks, loops and shared numbers, are broken
--- nowhere; nor is V9, that a clock is handed on only in the block that made it, where all code of a unit is one block; nor
+-- The rule on shared numbers, which this machine's instructions don't name, is broken nowhere; nor is V9, that a clock is handed on only in the block that made it, where all code of a unit is one block; nor
 -- are rules that aren't about shape.
 abbrev pub breaks_in : ModuleValue → Rule → ℕ → UnitValue → ℕ → Bool
-breaks_in m rule.Target unit u at = false
-breaks_in m rule.Block unit u at = false
+breaks_in m rule.Target unit u at = breaks_target u at
+breaks_in m rule.Block unit u at = breaks_block u at
 breaks_in m rule.Slot unit u at = breaks_slot u at
 breaks_in m rule.Unit unit u at = breaks_unit m unit u at
 breaks_in m rule.Cell unit u at = false
-breaks_in m rule.Loop unit u at = false
+breaks_in m rule.Loop unit u at = breaks_loop u at
 breaks_in m rule.End unit u at = breaks_end u at
 breaks_in m rule.Home unit u at = breaks_home u at
 breaks_in m rule.Registers unit u at = false

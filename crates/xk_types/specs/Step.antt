@@ -6,16 +6,18 @@
 -- registration raises ClockUseException; a clock advances when every activity registered on it has resumed it; an
 -- activity that ends is registered on no clock any more; `async clocked(c1, .., cn) S` starts an activity registered on the
 -- clocks named, and the starter must be registered on each. From the chapter Activities: `async S` starts an activity that
--- runs S, and the starter goes on without waiting. X10's `Long` has 64 bits in two's complement, and its sums wrap.
+-- runs S, and the starter goes on without waiting. X10's `Long` has 64 bits in two's complement, and its sums, differences and
+-- products wrap; `for (i in a..b)` runs for each whole number from a to b.
 -- This project's own rules: a second resume has no effect; the two halves of `advanceAll` are two steps; a child stands on a
 -- clock that it is given where its starter stands, and a missing registration is the only ground of ClockUseException, so
 -- that a starter that has resumed a clock may hand it on; a clock that can advance does so at the end of the same step, and
 -- one that nobody is registered on never does; what else is wrong but ClockUseException.
-use Rattle.std.specs.Prelude.{ℕ, suc, ℤ, ◌+◌, ◌==◌, Bool, true, false, not, ◌&&◌, List, [], ◌∷◌, ◌++◌, map, length, replicate, Option, Some, None, slice_get, slice_set, if◌then◌else◌}
-use Rattle.std.specs.Int.{w64, int_wrapping_add}
+use Rattle.std.specs.Prelude.{ℕ, suc, ℤ, pos, ◌+ℤ◌, int_lt, ◌+◌, ◌==◌, Bool, true, false, not, ◌&&◌, List, [], ◌∷◌, ◌++◌, map, length, replicate, Option, Some, None, slice_get, slice_set, if◌then◌else◌}
+use Rattle.std.specs.Int.{w64, int_wrapping_add, int_wrapping_sub, int_wrapping_mul}
 use Rattle.std.specs.List.{list_any}
 use Rattle.xk_types.specs.declared.instr.Instr.{Instr}
 use Rattle.xk_types.specs.declared.instr.Instr.TheVariants as instr
+use Rattle.xk_types.specs.declared.instr.Comparison.{Comparison}
 use Rattle.xk_types.specs.declared.names.Value.{Value}
 use Rattle.xk_types.specs.declared.names.Value.TheVariants as value
 use Rattle.xk_types.specs.declared.names.Status.{Status}
@@ -26,7 +28,7 @@ use Rattle.xk_types.specs.declared.names.Event.{Event}
 use Rattle.xk_types.specs.declared.names.Event.TheVariants as event
 use Rattle.xk_types.specs.declared.unit.ParamKind.{ParamKind}
 use Rattle.xk_types.specs.declared.unit.ParamKind.TheVariants as param
-use Rattle.xk_types.specs.Code.{UnitValue, ModuleValue, is_body}
+use Rattle.xk_types.specs.Code.{UnitValue, ModuleValue, is_body, compares}
 use Rattle.xk_types.specs.World.{Finish, Activity, Clock, World, standing_of, frame_with, instruction_at}
 
 -- Why a step is wrong: a clock operation by an activity that isn't registered on the clock; an unset slot is read; a
@@ -176,6 +178,10 @@ joined a given (c ∷ cs) = joined_on a (given 0) c ∷ joined a (λ k. given (s
 abbrev pub onward : Activity → Activity
 onward act = record act { frame = record act.frame { place = act.frame.place + 1 } }
 
+-- on to this place
+abbrev pub going : Activity → ℕ → Activity
+going act t = record act { frame = record act.frame { place = t } }
+
 -- with these slots
 abbrev pub with_slots : Activity → List Value → Activity
 with_slots act slots = record act { frame = record act.frame { slots = slots } }
@@ -204,10 +210,17 @@ number_in (Some value.Unset) go = Wrong Missing
 number_in (Some (value.Number n)) go = go n
 number_in (Some (value.Clock c)) go = Wrong WrongKind
 
+-- registered on a clock
+abbrev pub is_registered : Standing → Bool
+is_registered standing.Apart = false
+is_registered standing.Open = true
+is_registered standing.Signalled = true
+is_registered standing.Ahead = true
+
 -- a clock on which the activity has to be registered
 abbrev pub registered_on : Option Clock → ℕ → Outcome → Outcome
 registered_on None a go = Wrong OutOfRange
-registered_on (Some c) a go = if is_signalled (standing_of c a) then go else if is_pending (standing_of c a) then go else Wrong ClockUse
+registered_on (Some c) a go = if is_registered (standing_of c a) then go else Wrong ClockUse
 
 -- a slot that has to name a clock on which the activity is registered
 abbrev pub clock_in : World → ℕ → Option Value → (ℕ → Outcome) → Outcome
@@ -248,14 +261,43 @@ spawning m w a act unit args None = Wrong OutOfRange
 spawning m w a act unit args (Some u) =
     if is_body u.kind then arguments_in w a act u.params args (spawned m w a act unit) else Wrong OutOfRange
 
+-- ---- numbers
+
+-- slot d becomes a number that comes of two others
+abbrev pub computing : World → ℕ → Activity → (ℤ → ℤ → ℤ) → ℕ → ℕ → ℕ → Outcome
+computing w a act f d x y =
+    number_in (slot_at act x) (λ p. number_in (slot_at act y) (λ q.
+    writing act d (value.Number (f p q)) (λ next. done w a next none event.Local)))
+
+-- the activity goes on, or to place t, by how two numbers compare
+abbrev pub branching : World → ℕ → Activity → Comparison → ℕ → ℕ → ℕ → Outcome
+branching w a act op x y t =
+    number_in (slot_at act x) (λ p. number_in (slot_at act y) (λ q.
+    done w a (if compares op p q then onward act else going act t) none event.Local))
+
+-- the loop's slot has its next number, and the turn begins behind the `for` at place b
+abbrev pub again : Activity → ℕ → ℕ → ℤ → Activity
+again act b k n = going (with_slots act (slice_set act.frame.slots k (value.Number (n +ℤ pos 1)))) (b + 1)
+
+-- a turn of the loop whose `for` stands at place b ends
+abbrev pub turning : World → ℕ → Activity → ℕ → Option Instr → Outcome
+turning w a act b (Some (instr.For k lo hi e)) =
+    number_in (slot_at act k) (λ n. done w a (if int_lt n hi then again act b k n else onward act) none event.Local)
+turning w a act b _ = Wrong OutOfRange
+
 -- ---- a step
 
 -- what a running activity does at an instruction
 abbrev pub carried_out : ModuleValue → World → ℕ → Activity → Instr → Outcome
 carried_out m w a act (instr.Lit d n) = writing act d (value.Number n) (λ next. done w a next none event.Local)
-carried_out m w a act (instr.Add d x y) =
-    number_in (slot_at act x) (λ p. number_in (slot_at act y) (λ q.
-    writing act d (value.Number (int_wrapping_add w64 p q)) (λ next. done w a next none event.Local)))
+carried_out m w a act (instr.Copy d x) = number_in (slot_at act x) (λ n. writing act d (value.Number n) (λ next. done w a next none event.Local))
+carried_out m w a act (instr.Add d x y) = computing w a act (int_wrapping_add w64) d x y
+carried_out m w a act (instr.Sub d x y) = computing w a act (int_wrapping_sub w64) d x y
+carried_out m w a act (instr.Mul d x y) = computing w a act (int_wrapping_mul w64) d x y
+carried_out m w a act (instr.Unless op x y t) = branching w a act op x y t
+carried_out m w a act (instr.Jump t) = done w a (going act t) none event.Local
+carried_out m w a act (instr.For k lo hi e) = writing act k (value.Number lo) (λ next. done w a next none event.Local)
+carried_out m w a act (instr.Next b) = turning w a act b (instruction_at m (record act.frame { place = b }))
 carried_out m w a act (instr.Print x) = number_in (slot_at act x) (λ n. done w a (onward act) none (event.Printed n))
 carried_out m w a act (instr.Make k) = writing act k (value.Clock (length w.clocks)) (λ next. made w a next)
 carried_out m w a act (instr.Resume k) = clock_in w a (slot_at act k) (λ c. done w a (onward act) (only c resumed) event.Resumed)

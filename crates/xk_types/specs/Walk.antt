@@ -63,6 +63,16 @@ awake kind.Out = kind.Out
 abbrev pub reads : ℕ → ℕ → Kind → After → After
 reads x s k go = if s == x then as_number k go else go
 
+-- it reads this slot, if there is one
+abbrev pub may_read : Option ℕ → ℕ → Kind → After → After
+may_read None s k go = go
+may_read (Some x) s k go = reads x s k go
+
+-- the slot of the loop that a `for` begins
+abbrev pub loop_slot : Option Instr → Option ℕ
+loop_slot (Some (instr.For k lo hi e)) = Some k
+loop_slot _ = None
+
 -- it writes slot d, which then has the new kind
 abbrev pub writes : ℕ → Kind → ℕ → Kind → After
 writes d new s k = if s == d then overwritten k (becomes new) else becomes k
@@ -86,7 +96,14 @@ gives (param.Clock ∷ ps) (x ∷ xs) s k go = hands_on x s k (gives ps xs s k g
 
 abbrev pub after : ModuleValue → UnitValue → Instr → ℕ → Kind → After
 after m u (instr.Lit d n) s k = writes d kind.Number s k
+after m u (instr.Copy d x) s k = reads x s k (writes d kind.Number s k)
 after m u (instr.Add d x y) s k = reads x s k (reads y s k (writes d kind.Number s k))
+after m u (instr.Sub d x y) s k = reads x s k (reads y s k (writes d kind.Number s k))
+after m u (instr.Mul d x y) s k = reads x s k (reads y s k (writes d kind.Number s k))
+after m u (instr.Unless op x y t) s k = reads x s k (reads y s k (becomes k))
+after m u (instr.Jump t) s k = becomes k
+after m u (instr.For d lo hi e) s k = writes d kind.Number s k
+after m u (instr.Next b) s k = may_read (loop_slot (slice_get u.code b)) s k (becomes k)
 after m u (instr.Print x) s k = reads x s k (becomes k)
 after m u (instr.Make d) s k = writes d kind.Live s k
 after m u (instr.Resume c) s k = uses c kind.Resumed s k
@@ -99,15 +116,11 @@ after m u instr.Ret s k = becomes k
 
 -- where an instruction at this place may lead
 abbrev pub successors : Instr → ℕ → List ℕ
-successors (instr.Lit d n) at = (at + 1) ∷ []
-successors (instr.Add d x y) at = (at + 1) ∷ []
-successors (instr.Print x) at = (at + 1) ∷ []
-successors (instr.Make d) at = (at + 1) ∷ []
-successors (instr.Resume c) at = (at + 1) ∷ []
-successors (instr.Drop c) at = (at + 1) ∷ []
-successors instr.Advance at = (at + 1) ∷ []
-successors (instr.Spawn t args) at = (at + 1) ∷ []
+successors (instr.Unless op x y t) at = (at + 1) ∷ t ∷ []
+successors (instr.Jump t) at = t ∷ []
+successors (instr.Next b) at = (at + 1) ∷ (b + 1) ∷ []
 successors instr.Ret at = []
+successors _ at = (at + 1) ∷ []
 
 abbrev pub places_after : Option Instr → ℕ → List ℕ
 places_after None at = []

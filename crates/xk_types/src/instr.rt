@@ -1,7 +1,7 @@
 //! The bytecode's instructions.
 
 ghost use Rattle.std.specs.Prelude.{◌≡◌, length};
-ghost use Rattle.xk_types.specs.Code.{arguments_of};
+ghost use Rattle.xk_types.specs.Code.{arguments_of, compares};
 
 use std::marker::Model;
 
@@ -43,14 +43,62 @@ impl Args {
     }
 }
 
-/// One instruction of a unit's code. Slots and units are named by number, from 0; every instruction but `Ret` goes on to
-/// the next.
+/// How `unless` compares two numbers.
+#[derive(Clone, Copy, Debug, PartialEq, Eq)]
+pub enum Comparison {
+    /// They are equal.
+    Eq,
+    /// They differ.
+    Ne,
+    /// The first is less.
+    Lt,
+    /// The first is less, or they are equal.
+    Le,
+    /// The first is greater.
+    Gt,
+    /// The first is greater, or they are equal.
+    Ge,
+}
+
+impl Comparison {
+    /// Whether the two numbers compare so.
+    pub fn holds(self, a: i64, b: i64) -> bool
+        ensures { result ≡ compares self a b }
+    {
+        match self {
+            Comparison::Eq => a == b,
+            Comparison::Ne => a != b,
+            Comparison::Lt => a < b,
+            Comparison::Le => a <= b,
+            Comparison::Gt => a > b,
+            Comparison::Ge => a >= b,
+        }
+    }
+}
+
+/// One instruction of a unit's code. Slots, units and places in the code are named by number, from 0; an instruction goes on
+/// to the next, where nothing else is said.
 #[derive(Drop)]
 pub enum Instr {
     /// `lit d n`: slot d becomes the number n.
     Lit(u16, i64),
+    /// `copy d a`: slot d becomes the number in a.
+    Copy(u16, u16),
     /// `add d a b`: slot d becomes the sum of the numbers in a and b, wrapped to 64 bits.
     Add(u16, u16, u16),
+    /// `sub d a b`: slot d becomes the number in a less the one in b, wrapped to 64 bits.
+    Sub(u16, u16, u16),
+    /// `mul d a b`: slot d becomes the product of the numbers in a and b, wrapped to 64 bits.
+    Mul(u16, u16, u16),
+    /// `unless op a b t`: goes to place t, unless the numbers in a and b compare so.
+    Unless(Comparison, u16, u16, u16),
+    /// `jump t`: goes to place t.
+    Jump(u16),
+    /// `for k lo hi e`: begins a loop whose `next` stands at place e: slot k becomes lo.
+    For(u16, i64, i64, u16),
+    /// `next b`: ends a turn of the loop whose `for` stands at place b. Where its slot is less than its upper bound, it becomes
+    /// one more, and the loop goes round again from place b + 1.
+    Next(u16),
     /// `print a`: prints the number in a.
     Print(u16),
     /// `make k`: makes a clock, registers the activity on it, and puts its name into slot k.
@@ -64,7 +112,7 @@ pub enum Instr {
     /// `spawn u args`: starts a new activity that runs unit u with these arguments. It is registered on the clocks among
     /// them, and stands on each where its starter stands.
     Spawn(u16, Args),
-    /// `ret`: the activity ends.
+    /// `ret`: the activity ends. Goes nowhere.
     Ret,
 }
 

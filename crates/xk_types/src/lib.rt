@@ -12,7 +12,7 @@ mod unit;
 
 pub use counted::Counted;
 pub use device::{Failed, Sink, Source};
-pub use instr::{Args, Instr};
+pub use instr::{Args, Comparison, Instr};
 pub use names::{Act, ClockId, Entry, Event, Standing, Status, Value};
 pub use rules::{Kind, Rule, Visit};
 pub use tape::Tape;
