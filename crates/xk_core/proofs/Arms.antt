@@ -1,7 +1,7 @@
 -- From a step of the definition to what the arms owe, and back.
 use Rattle.std.specs.Prelude.{slice_set}
 use Rattle.std.proofs.Common.{◌≡◌, ◌||◌, ℕ, zero, suc, ℤ, ◌-◌, ◌<◌, ◌≤◌, Bool, true, false, List, [], ◌∷◌, ◌++◌, length, map, replicate, arith, Option, Some, None, slice_get, refl, ap, sym, cond, get_or, All, ◌∙◌}
-use Rattle.std.proofs.lemmas.Option.{slice_get_within, slice_get_read, get_or_from_slice_get}
+use Rattle.std.proofs.lemmas.Option.{slice_get_within, slice_get_read, slice_get-get_or, get_or_from_slice_get}
 use Rattle.std.proofs.lemmas.Bool.{false≢true}
 use Rattle.std.proofs.lemmas.List.{length-map}
 use Rattle.xk_types.specs.declared.instr.Instr.{Instr}
@@ -15,12 +15,12 @@ use Rattle.xk_types.specs.declared.unit.ParamKind.TheVariants as param
 use Rattle.std.specs.Option.{option_map_or}
 use Rattle.xk_types.specs.Code.{UnitValue, ModuleValue, is_body, IsUnitWithinLimits, IsWithinLimits}
 use Rattle.xk_types.specs.World.{Activity, Clock, World, standing_of, slots_of}
-use Rattle.xk_types.specs.Step.{Outcome, Wrong, Stepped, ClockUse, OutOfRange, carried_out, done, number_in, clock_in, registered_on, put_in, arguments_in, names_clock, is_given, joined, spawned, spawning, settled, onward, is_signalled, is_pending, slot_at}
+use Rattle.xk_types.specs.Step.{Outcome, Wrong, Stepped, ClockUse, OutOfRange, carried_out, done, number_in, clock_in, registered_on, put_in, arguments_in, names_clock, is_given, joined, spawned, spawning, settled, none, onward, with_slots, is_signalled, is_pending, slot_at}
 use Rattle.xk_types.specs.Schedule.{is_step}
-use Rattle.xk_core.specs.declared.change.Change.{Change}
-use Rattle.xk_core.specs.Change.{after_change}
+use Rattle.xk_core.specs.declared.change.StepChange.{StepChange}
+use Rattle.xk_core.specs.Change.{standing_after_step}
 use Rattle.xk_core.specs.Joining.{given_slots, started}
-use Rattle.xk_core.specs.Arm.{value_at, grows, CanCarry, Carries, IsRoomy, carried, carried_by}
+use Rattle.xk_core.specs.Arm.{value_at, grows, CanCarry, Writes, Carries, IsRoomy, carried, carried_by}
 
 -- the value that is read in a slot is the one there
 value_there : (act : Activity) (s : ℕ) (v : Value) → slot_at act s ≡ Some v → value_at act s ≡ v
@@ -108,15 +108,14 @@ can_carry m w a act (instr.Drop k) h one = clock_there w a (slot_at act k) _ h
 can_carry m w a act instr.Advance h one = tt
 can_carry m w a act instr.Ret h one = tt
 
+-- a slot that is there is written as the definition writes it
+pub slot_written : (act : Activity) (d : ℕ) (v : Value) (next : Activity) → d < length act.frame.slots → next ≡ onward (with_slots act (slice_set act.frame.slots d v)) → Writes act d v next
+slot_written act d v next lt e go = ap (λ o. put_in o act d v go) (slice_get-get_or act.frame.slots d value.Unset lt) ∙ ap go (sym e)
+
 -- what it leaves is what the definition gives
-pub carries_done : (m : ModuleValue) (w : World) (a : ℕ) (act : Activity) (i : Instr) (next : Activity) (ch : Change) (e : Event) → is_step (carried_out m w a act i) ≡ true → Carries act i next ch e → carried_out m w a act i ≡ done w a next (after_change ch) e
-carries_done m w a act (instr.Lit d n) next ch e h did =
-    let s = slot_there act d _ _ h in rw (s.1, did.0, did.1, did.2) refl
-carries_done m w a act (instr.Add d x y) next ch e h did =
-    let p = number_there (slot_at act x) _ h in
-    let q = number_there (slot_at act y) _ p.2 in
-    let s = slot_there act d _ _ q.2 in
-    rw (did.2, did.3, s.1, did.4, did.5, did.6) refl
+pub carries_done : (m : ModuleValue) (w : World) (a : ℕ) (act : Activity) (i : Instr) (next : Activity) (ch : StepChange) (e : Event) → is_step (carried_out m w a act i) ≡ true → Carries act i next ch e → carried_out m w a act i ≡ done w a next (standing_after_step ch) e
+carries_done m w a act (instr.Lit d n) next ch e h did = rw (did.1, did.2) (did.0 (λ x. done w a x none event.Local))
+carries_done m w a act (instr.Add d x y) next ch e h did = rw (did.2, did.3, did.5, did.6) (did.4 (λ x. done w a x none event.Local))
 carries_done m w a act (instr.Print x) next ch e h did = rw (did.1, did.2, did.3, did.4) refl
 carries_done m w a act (instr.Make d) next ch e h did = absurd did
 carries_done m w a act (instr.Spawn t args) next ch e h did = absurd did
@@ -150,7 +149,7 @@ operands_there m w a i act h one e =
     can_carry m w a act i (ap is_step (sym (carried_there m w a i act (read_at w a act (carried_within m w a i h) e))) ∙ h) one
 
 -- the step that the arm took
-pub arm_done : (m : ModuleValue) (w : World) (a : ℕ) (i : Instr) (act next : Activity) (ch : Change) (e : Event) → is_step (carried m w a i) ≡ true → act ≡ get_or w.activities a act → Carries act i next ch e → carried m w a i ≡ done w a next (after_change ch) e
+pub arm_done : (m : ModuleValue) (w : World) (a : ℕ) (i : Instr) (act next : Activity) (ch : StepChange) (e : Event) → is_step (carried m w a i) ≡ true → act ≡ get_or w.activities a act → Carries act i next ch e → carried m w a i ≡ done w a next (standing_after_step ch) e
 arm_done m w a i act next ch e h is did =
     let there = carried_there m w a i act (read_at w a act (carried_within m w a i h) is) in
     there ∙ carries_done m w a act i next ch e (ap is_step (sym there) ∙ h) did

@@ -1,5 +1,5 @@
 -- What an instruction does to its own activity, and what a step owes to the machine's number types.
-use Rattle.std.specs.Prelude.{◌≡◌, ℕ, ℤ, ◌+◌, ◌<◌, ◌^◌, Bool, true, false, Option, Some, None, length, slice_get, slice_set, slice_index_or, All}
+use Rattle.std.specs.Prelude.{◌≡◌, ℕ, ℤ, ◌+◌, ◌<◌, ◌^◌, Bool, true, false, Option, Some, None, length, slice_get, slice_index_or, All}
 use Rattle.std.specs.Int.{w64, int_wrapping_add}
 use Rattle.xk_types.specs.declared.instr.Instr.{Instr}
 use Rattle.xk_types.specs.declared.instr.Instr.TheVariants as instr
@@ -9,10 +9,10 @@ use Rattle.xk_types.specs.declared.names.Event.{Event}
 use Rattle.xk_types.specs.declared.names.Event.TheVariants as event
 use Rattle.xk_types.specs.Code.{ModuleValue}
 use Rattle.xk_types.specs.World.{Activity, World}
-use Rattle.xk_types.specs.Step.{Outcome, Blocked, carried_out, passing, slot_at, onward, with_slots, arrived, ended}
-use Rattle.xk_core.specs.declared.change.Move.TheVariants as move
-use Rattle.xk_core.specs.declared.change.Change.{Change}
-use Rattle.xk_core.specs.declared.change.Change.TheVariants as change
+use Rattle.xk_types.specs.Step.{Outcome, Blocked, carried_out, passing, slot_at, writing, onward, arrived, ended}
+use Rattle.xk_core.specs.declared.change.StandingChange.TheVariants as standing_change
+use Rattle.xk_core.specs.declared.change.StepChange.{StepChange}
+use Rattle.xk_core.specs.declared.change.StepChange.TheVariants as step_change
 
 -- the slot holds a number, or names a clock
 abbrev pub IsNumberAt : Activity → ℕ → Type 0
@@ -49,26 +49,26 @@ CanCarry act instr.Advance = Unit {0}
 CanCarry act (instr.Spawn t args) = ⊥
 CanCarry act instr.Ret = Unit {0}
 
--- the activity after it has written a slot
-abbrev pub put : Activity → ℕ → Value → Activity
-put act d v = onward (with_slots act (slice_set act.frame.slots d v))
+-- the definition writes this value to slot d of the activity, and goes on with `next`
+abbrev pub Writes : Activity → ℕ → Value → Activity → Type 0
+Writes act d v next = (go : Activity → Outcome) → writing act d v go ≡ go next
 
 -- The instruction leaves the activity so, changes its standings so, and is seen so.
-abbrev pub Carries : Activity → Instr → Activity → Change → Event → Type 0
-Carries act (instr.Lit d n) next ch e = (next ≡ put act d (value.Number n)) × (ch ≡ change.Nothing) × (e ≡ event.Local)
+abbrev pub Carries : Activity → Instr → Activity → StepChange → Event → Type 0
+Carries act (instr.Lit d n) next ch e = Writes act d (value.Number n) next × (ch ≡ step_change.Nothing) × (e ≡ event.Local)
 Carries act (instr.Add d x y) next ch e =
     (p : ℤ) × (q : ℤ) × (slot_at act x ≡ Some (value.Number p)) × (slot_at act y ≡ Some (value.Number q))
-    × (next ≡ put act d (value.Number (int_wrapping_add w64 p q))) × (ch ≡ change.Nothing) × (e ≡ event.Local)
+    × Writes act d (value.Number (int_wrapping_add w64 p q)) next × (ch ≡ step_change.Nothing) × (e ≡ event.Local)
 Carries act (instr.Print x) next ch e =
-    (p : ℤ) × (slot_at act x ≡ Some (value.Number p)) × (next ≡ onward act) × (ch ≡ change.Nothing) × (e ≡ event.Printed p)
+    (p : ℤ) × (slot_at act x ≡ Some (value.Number p)) × (next ≡ onward act) × (ch ≡ step_change.Nothing) × (e ≡ event.Printed p)
 Carries act (instr.Make d) next ch e = ⊥
 Carries act (instr.Resume k) next ch e =
-    (c : ℕ) × (slot_at act k ≡ Some (value.Clock c)) × (next ≡ onward act) × (ch ≡ change.Only c move.Resume) × (e ≡ event.Resumed)
+    (c : ℕ) × (slot_at act k ≡ Some (value.Clock c)) × (next ≡ onward act) × (ch ≡ step_change.Only c standing_change.Resume) × (e ≡ event.Resumed)
 Carries act (instr.Drop k) next ch e =
-    (c : ℕ) × (slot_at act k ≡ Some (value.Clock c)) × (next ≡ onward act) × (ch ≡ change.Only c move.Drop) × (e ≡ event.Dropped)
+    (c : ℕ) × (slot_at act k ≡ Some (value.Clock c)) × (next ≡ onward act) × (ch ≡ step_change.Only c standing_change.Drop) × (e ≡ event.Dropped)
 Carries act (instr.Spawn t args) next ch e = ⊥
-Carries act instr.Advance next ch e = (next ≡ arrived act) × (ch ≡ change.All move.Resume) × (e ≡ event.Arrived)
-Carries act instr.Ret next ch e = (next ≡ ended act) × (ch ≡ change.All move.Drop) × (e ≡ event.Ended)
+Carries act instr.Advance next ch e = (next ≡ arrived act) × (ch ≡ step_change.All standing_change.Resume) × (e ≡ event.Arrived)
+Carries act instr.Ret next ch e = (next ≡ ended act) × (ch ≡ step_change.All standing_change.Drop) × (e ≡ event.Ended)
 
 abbrev pub carried_by : ModuleValue → World → ℕ → Instr → Option Activity → Outcome
 carried_by m w a i None = Blocked

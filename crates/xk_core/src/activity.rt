@@ -2,14 +2,14 @@
 
 ghost use Rattle.std.specs.Prelude.{◌≡◌, ℕ, ℤ, ◌+◌, ◌<◌, ◌≤◌, ◌^◌, length, map, Some, slice_set, All, IfOk};
 ghost use Rattle.xk_types.specs.declared.names.Value.TheVariants as value;
-ghost use Rattle.xk_types.specs.declared.instr.Instr.TheVariants as instr;
 ghost use Rattle.xk_types.specs.Step.{slot_at, onward, with_slots, arrived, ended, past};
 ghost use Rattle.xk_types.specs.Schedule.{is_ended};
-ghost use Rattle.xk_core.specs.declared.change.Change.TheVariants as change;
+ghost use Rattle.xk_core.specs.declared.change.StepChange.TheVariants as step_change;
+ghost use Rattle.xk_types.specs.declared.names.Event.TheVariants as event;
 ghost use Rattle.xk_core.specs.Joining.{started, given_slots};
-ghost use Rattle.xk_core.specs.Arm.{value_at, IsClockAt, CanCarry, Carries};
+ghost use Rattle.xk_core.specs.Arm.{value_at, IsClockAt, CanCarry, Writes, Carries};
 
-use crate::change::{Change, Move};
+use crate::change::{StandingChange, StepChange};
 use std::alloc::{AllocError, Global};
 use std::marker::Model;
 use xk_types::{ClockId, Event, Instr, Status, Value};
@@ -212,7 +212,7 @@ impl Activity {
     }
 
     /// Carries out an instruction that concerns this activity and its standings alone.
-    pub fn carry_out(&mut self, instr: &Instr) -> (Change, Event)
+    pub fn carry_out(&mut self, instr: &Instr) -> (StepChange, Event)
         requires place { self.old.frame.place + 1 < 2 ^ 16 }
         requires operands { CanCarry self.old instr.now }
         ensures { Carries self.old instr.now self.new result.0 result.1 }
@@ -223,42 +223,45 @@ impl Activity {
             Instr::Print(x) => {
                 let n = self.number(*x);
                 self.go_on();
-                (Change::Nothing, Event::Printed(n))
+                (StepChange::Nothing, Event::Printed(n))
             }
             Instr::Make(_) => unreachable!(),
             Instr::Spawn(_, _) => unreachable!(),
-            Instr::Resume(k) => (self.operate(*k, Move::Resume), Event::Resumed),
-            Instr::Drop(k) => (self.operate(*k, Move::Drop), Event::Dropped),
+            Instr::Resume(k) => (self.operate(*k, StandingChange::Resume), Event::Resumed),
+            Instr::Drop(k) => (self.operate(*k, StandingChange::Drop), Event::Dropped),
             Instr::Advance => {
                 self.arrive();
-                (Change::All(Move::Resume), Event::Arrived)
+                (StepChange::All(StandingChange::Resume), Event::Arrived)
             }
             Instr::Ret => {
                 self.end();
-                (Change::All(Move::Drop), Event::Ended)
+                (StepChange::All(StandingChange::Drop), Event::Ended)
             }
         }
     }
 
-    /// Writes a number, which nobody sees.
-    fn write(&mut self, d: u16, n: i64) -> (Change, Event)
+    /// Writes a number to a slot and goes on, for any instruction that does; nobody sees it.
+    #[tactic(auto, using(crate::proofs::Arms::slot_written))]
+    fn write(&mut self, d: u16, n: i64) -> (StepChange, Event)
         requires place { self.old.frame.place + 1 < 2 ^ 16 }
         requires slot { d < length self.old.frame.slots }
-        ensures { Carries self.old (instr.Lit d n) self.new result.0 result.1 }
+        ensures written { Writes self.old d (value.Number n) self.new }
+        ensures change { result.0 ≡ step_change.Nothing }
+        ensures seen { result.1 ≡ event.Local }
     {
         self.put(d, Value::Number(n));
-        (Change::Nothing, Event::Local)
+        (StepChange::Nothing, Event::Local)
     }
 
-    /// Goes on, and makes this move on the clock in slot k.
-    fn operate(&mut self, k: u16, what: Move) -> Change
+    /// Goes on, and makes this change where it stands on the clock in slot k.
+    fn operate(&mut self, k: u16, what: StandingChange) -> StepChange
         requires place { self.old.frame.place + 1 < 2 ^ 16 }
         requires clock { IsClockAt self.old k }
         ensures going { self.new ≡ onward self.old }
-        ensures change { (c : ℕ) × (slot_at self.old k ≡ Some (value.Clock c)) × (result ≡ change.Only c what) }
+        ensures change { (c : ℕ) × (slot_at self.old k ≡ Some (value.Clock c)) × (result ≡ step_change.Only c what) }
     {
         let c = self.clock(k);
         self.go_on();
-        Change::Only(c.0 as usize, what)
+        StepChange::Only(c.0 as usize, what)
     }
 }

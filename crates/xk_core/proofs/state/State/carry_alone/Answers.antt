@@ -11,8 +11,8 @@ carry_out-change-requires-clause-operands c =
     operands_there c.args.program.now c.args.self.now c.args.a c.args.instr.now c.index_mut-act.result.now c.requires.enabled c.requires.single
     (subst (λ (w : World). c.index_mut-act.result.now ≡ get_or w.activities c.args.a c.index_mut-act.result.now) c.self.view_is c.index_mut-act.ensures.value)
 
-pub finish-requires-clause-standings : goal.finish-requires-clause-standings
-finish-requires-clause-standings c =
+pub end_step-requires-clause-standings : goal.end_step-requires-clause-standings
+end_step-requires-clause-standings c =
     subst (λ (w : World). All (λ k. c.args.a < length k.standings) w.clocks) (sym c.self.view_is)
     (stands_there c.args.self.now c.args.a c.requires.room (carried_within c.args.program.now c.args.self.now c.args.a c.args.instr.now c.requires.enabled))
 
@@ -20,7 +20,7 @@ pub returns : goal.returns
 returns c =
     let w : World = record { activities = c.self.inside.activities.items; clocks = c.self.inside.clocks.items; cells = c.self.inside.cells.items; steps = c.self.inside.steps } in
     let enabled : is_step (carried c.args.program.now w c.args.a c.args.instr.now) ≡ true = subst (λ (v : World). is_step (carried c.args.program.now v c.args.a c.args.instr.now) ≡ true) (sym c.self.view_is) c.requires.enabled in
-    subst (λ (v : World). carried c.args.program.now v c.args.a c.args.instr.now ≡ Stepped c.finish.new.self c.carry_out-change.result.1) c.self.view_is
+    subst (λ (v : World). carried c.args.program.now v c.args.a c.args.instr.now ≡ Stepped c.end_step.new.self c.carry_out-change.result.1) c.self.view_is
     (arm_done c.args.program.now w c.args.a c.args.instr.now c.index_mut-act.result.now c.carry_out-change.new.self c.carry_out-change.result.0 c.carry_out-change.result.1
     enabled c.index_mut-act.ensures.value c.carry_out-change.ensures
-    ∙ ap (λ v. Stepped v c.carry_out-change.result.1) (sym c.finish.ensures))
+    ∙ ap (λ v. Stepped v c.carry_out-change.result.1) (sym c.end_step.ensures))
