@@ -7,7 +7,7 @@ use xk_module::ModuleFault;
 use xk_types::{Counted, Failed, Sink, Source, Tape};
 use xk_words::{Command, Form, Job};
 
-// What the program answered, and the tapes that it wrote to.
+/// What the program answered, and the tapes that it wrote to.
 #[derive(Drop)]
 struct Seen {
     status: u8,
@@ -15,7 +15,7 @@ struct Seen {
     err: Tape,
 }
 
-// The calls at which the program's tape and those for its result and its errors fail; 0 is none.
+/// The calls at which the program's tape and those for its result and its errors fail; 0 is none.
 #[derive(Clone, Copy)]
 struct Failing {
     program: u64,
@@ -32,7 +32,7 @@ const NOWHERE: Failing = Failing {
 const SUM: &str =
     "[\"lit\",0,2],[\"lit\",1,3],[\"add\",0,0,1],[\"make\",2],[\"advance\"],[\"print\",0],[\"ret\"]";
 
-// The answer to a command on these bytes, over tapes that fail so.
+/// The answer to a command on these bytes, over tapes that fail so.
 fn served(
     alloc: Global,
     command: Command,
@@ -61,7 +61,7 @@ fn served(
     Ok(Seen { status, out, err })
 }
 
-// A body: the letters of its parameters, how many slots it has, its code.
+/// A body: the letters of its parameters, how many slots it has, its code.
 #[derive(Clone, Copy)]
 struct Body {
     params: &'static str,
@@ -69,7 +69,7 @@ struct Body {
     code: &'static str,
 }
 
-// The text of a unit.
+/// The text of a unit.
 fn unit_text(
     alloc: Global,
     kind: &str,
@@ -82,12 +82,12 @@ fn unit_text(
     )
 }
 
-// The text of a module of these units.
+/// The text of a module of these units.
 fn units_text(alloc: Global, units: &str) -> Result<String, AllocError> {
     format!(in alloc; "{{\"version\":1,\"shared\":[],\"units\":[{units}]}}")
 }
 
-// The text of a module of main and these bodies.
+/// The text of a module of main and these bodies.
 fn program_text(
     alloc: Global,
     slots: u32,
@@ -103,12 +103,12 @@ fn program_text(
     units_text(alloc, units.as_str())
 }
 
-// The text of a module of one main unit.
+/// The text of a module of one main unit.
 fn module_text(alloc: Global, slots: u32, code: &str) -> Result<String, AllocError> {
     program_text(alloc, slots, code, &[])
 }
 
-// The command on the module succeeds, and writes this.
+/// The command on the module succeeds, and writes this.
 fn gives(
     rt: &impl Abort,
     alloc: Global,
@@ -125,7 +125,7 @@ fn gives(
     Ok(())
 }
 
-// Both commands refuse the module, with this line.
+/// Both commands refuse the module, with this line.
 fn refuses(rt: &impl Abort, alloc: Global, text: &str, line: &str) -> Result<(), AllocError> {
     for command in [Command::Check, Command::Run] {
         let seen = served(alloc, command, text.as_bytes(), NOWHERE)?;
@@ -171,7 +171,7 @@ fn rows_are_answered(rt: HostRuntime) -> Result<(), AllocError> {
     Ok(())
 }
 
-// Main and these bodies: what `check` and `run` write.
+/// Main and these bodies: what `check` and `run` write.
 fn answers(
     rt: &impl Abort,
     alloc: Global,
@@ -186,7 +186,7 @@ fn answers(
     gives(rt, alloc, Command::Run, text.as_str(), run)
 }
 
-// Main starts an activity on its clock, and both go one phase on.
+/// Main starts an activity on its clock, and both go one phase on.
 #[test]
 fn two_are_in_step(rt: HostRuntime) -> Result<(), AllocError> {
     answers(
@@ -204,7 +204,7 @@ fn two_are_in_step(rt: HostRuntime) -> Result<(), AllocError> {
     )
 }
 
-// The clock has advanced before the start, so that the child begins ahead.
+/// The clock has advanced before the start, so that the child begins ahead.
 #[test]
 fn one_starts_ahead(rt: HostRuntime) -> Result<(), AllocError> {
     answers(
@@ -222,7 +222,7 @@ fn one_starts_ahead(rt: HostRuntime) -> Result<(), AllocError> {
     )
 }
 
-// Main has resumed the clock at the second start, so that the second child begins signalled.
+/// Main has resumed the clock at the second start, so that the second child begins signalled.
 #[test]
 fn one_starts_signalled(rt: HostRuntime) -> Result<(), AllocError> {
     answers(
@@ -247,7 +247,7 @@ fn one_starts_signalled(rt: HostRuntime) -> Result<(), AllocError> {
     )
 }
 
-// Main leaves the clock to the activity that it started.
+/// Main leaves the clock to the activity that it started.
 #[test]
 fn one_is_left_alone(rt: HostRuntime) -> Result<(), AllocError> {
     answers(
@@ -265,7 +265,7 @@ fn one_is_left_alone(rt: HostRuntime) -> Result<(), AllocError> {
     )
 }
 
-// Two phases, the first resumed twice.
+/// Two phases, the first resumed twice.
 #[test]
 fn two_phases(rt: HostRuntime) -> Result<(), AllocError> {
     answers(
@@ -283,7 +283,7 @@ fn two_phases(rt: HostRuntime) -> Result<(), AllocError> {
     )
 }
 
-// Three activities, each on two of three clocks.
+/// Three activities, each on two of three clocks.
 #[test]
 fn a_ring_of_clocks(rt: HostRuntime) -> Result<(), AllocError> {
     let twice = r#"["advance"],["advance"],["ret"]"#;
@@ -303,7 +303,7 @@ fn a_ring_of_clocks(rt: HostRuntime) -> Result<(), AllocError> {
     )
 }
 
-// A number is handed on by value: the child prints what it was given, whatever its starter writes afterwards.
+/// A number is handed on by value: the child prints what it was given, whatever its starter writes afterwards.
 #[test]
 fn numbers_are_given(rt: HostRuntime) -> Result<(), AllocError> {
     answers(
@@ -321,7 +321,7 @@ fn numbers_are_given(rt: HostRuntime) -> Result<(), AllocError> {
     )
 }
 
-// Main and `bodies` bodies, at least one: each but the last starts the next one twice.
+/// Main and `bodies` bodies, at least one: each but the last starts the next one twice.
 fn doubling(alloc: Global, bodies: u32) -> Result<String, AllocError> {
     let mut units = String::new(alloc);
     for unit in 0..bodies {
@@ -391,7 +391,7 @@ fn rows_are_refused(rt: HostRuntime) -> Result<(), AllocError> {
     Ok(())
 }
 
-// The bodies of the modules below: one that takes nothing, one on a clock, one on two, one that prints a number.
+/// The bodies of the modules below: one that takes nothing, one on a clock, one on two, one that prints a number.
 const NOTHING: Body = Body {
     params: "",
     slots: 0,
@@ -416,7 +416,7 @@ const PRINTS: Body = Body {
     code: r#"["print",0],["ret"]"#,
 };
 
-// Main of this code and these slots beside one body is refused.
+/// Main of this code and these slots beside one body is refused.
 fn refuses_main(
     rt: &impl Abort,
     alloc: Global,
@@ -428,8 +428,8 @@ fn refuses_main(
     refuses(rt, alloc, text.as_str(), line)
 }
 
-// A unit that isn't there; main; too few arguments, and too many; one slot for two clocks; a slot that isn't there, which
-// comes before all.
+/// A unit that isn't there; main; too few arguments, and too many; one slot for two clocks; a slot that isn't there,
+/// which comes before all.
 #[test]
 fn starts_are_refused(rt: HostRuntime) -> Result<(), AllocError> {
     for (code, body, line) in [
@@ -506,7 +506,7 @@ fn arguments_are_refused(rt: HostRuntime) -> Result<(), AllocError> {
     Ok(())
 }
 
-// Main is as it should be: the body is refused.
+/// Main is as it should be: the body is refused.
 #[test]
 fn bodies_are_refused(rt: HostRuntime) -> Result<(), AllocError> {
     for (params, code, line) in [
@@ -604,7 +604,7 @@ fn devices_fail(rt: HostRuntime) -> Result<(), AllocError> {
     Ok(())
 }
 
-// A reader that is interrupted, then gives a byte, then fails; and a writer that is interrupted, then takes nothing.
+/// A reader that is interrupted, then gives a byte, then fails; and a writer that is interrupted, then takes nothing.
 #[derive(Drop)]
 struct Faulty {
     calls: u64,
@@ -655,7 +655,7 @@ fn failures_are_counted(rt: HostRuntime) {
     assert!(rt; writer.write(b"") == Ok(0) && writer.faults() == 1);
 }
 
-// A writer that takes three bytes at a time, and so many in all; then it fails.
+/// A writer that takes three bytes at a time, and so many in all; then it fails.
 #[derive(Drop)]
 struct Narrow {
     room: usize,
