@@ -14,7 +14,7 @@ use Rattle.xk_types.specs.Accepted.{IsAccepted}
 use Rattle.xk_laws.proofs.Invariant.{IsSound, IsClockSound}
 use Rattle.xk_laws.proofs.Counts.{step_counts, step_keeps_over}
 use Rattle.xk_laws.proofs.Reached.{HasRoom, opening_only, reached_step, reached_sound, reached_room, reached_ends}
-use Rattle.xk_core.specs.Arm.{IsRoomy, carried_by, carried, passing_by, passed_on}
+use Rattle.xk_core.specs.Arm.{IsRoomy, IsRunningUnit, carried_by, carried, passing_by, passed_on}
 use Rattle.xk_core.specs.Able.{is_able}
 use Rattle.xk_core.specs.Core.{IsCore, AreOver, instruction_by, instruction_of, next_instruction}
 use Rattle.xk_core.proofs.Ableness.{able_enabled}
@@ -41,6 +41,13 @@ roomy m w a limits accepted sound room = record {
 pub core_roomy : (m : ModuleValue) (w : World) (a : ℕ) → IsCore m w → IsRoomy w a
 core_roomy m w a core =
     roomy m w a core.limits core.accepted (reached_sound m core.limits core.accepted w core.reached) (reached_room m core.limits core.accepted w core.reached)
+
+-- an activity of a core runs a unit of its module
+pub core_runs : (m : ModuleValue) (w : World) (a : ℕ) → IsCore m w → IsRunningUnit m w a
+core_runs m w a core act there =
+    let s = (reached_sound m core.limits core.accepted w core.reached).activities a act there in
+    let u = all_at IsUnitWithinLimits m.units act.frame.unit s.u core.limits.each s.unit in
+    record { u = s.u; found = s.unit; short = omega (arith, u.code) }
 
 -- a core goes on by a step
 pub core_stepped : (m : ModuleValue) (w v : World) (a : ℕ) (e : Event) → IsCore m w → step m w a ≡ Stepped v e → IsCore m v

@@ -9,7 +9,7 @@ ghost use Rattle.xk_core.specs.Able.{is_able};
 ghost use Rattle.xk_core.specs.Core.{is_over, AreOver};
 ghost use Rattle.xk_core.specs.Opening.{opening_with};
 ghost use Rattle.xk_core.specs.Change.{standing_after_step};
-ghost use Rattle.xk_core.specs.Arm.{grows, carried, passed_on, IsRoomy};
+ghost use Rattle.xk_core.specs.Arm.{grows, carried, passed_on, IsRoomy, IsRunningUnit};
 ghost use Rattle.xk_core.specs.Joining.{joined_first};
 ghost use Rattle.xk_types.specs.World as world;
 
@@ -148,6 +148,7 @@ impl State {
     ) -> Result<Event, AllocError>
         requires enabled { is_step (carried program.now self.old a instr.now) ≡ true }
         requires room { IsRoomy self.old a }
+        requires unit { IsRunningUnit program.now self.old a }
         ensures stepped { IfOk result (λ e. carried program.now self.old a instr.now ≡ Stepped self.new e) }
         ensures refused { OnErr result (self.new ≡ self.old) }
         ensures only_where_it_grows { OnErr result (grows instr.now ≡ true) }
@@ -164,10 +165,12 @@ impl State {
         requires enabled { is_step (carried program.now self.old a instr.now) ≡ true }
         requires single { grows instr.now ≡ false }
         requires room { IsRoomy self.old a }
+        requires unit { IsRunningUnit program.now self.old a }
         ensures { carried program.now self.old a instr.now ≡ Stepped self.new result }
     {
         let act = &mut self.activities[a];
-        let (change, event) = act.carry_out(instr);
+        let unit = &program.units()[act.unit() as usize];
+        let (change, event) = act.carry_out(unit, instr);
         self.end_step(a, change);
         event
     }

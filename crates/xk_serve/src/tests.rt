@@ -361,6 +361,229 @@ fn doublings_are_counted(rt: HostRuntime) -> Result<(), AllocError> {
     refuses(&rt, rt.alloc(), all.as_str(), line)
 }
 
+/// A branch is taken or not, by how two numbers compare; sums wrap.
+#[test]
+fn branches_are_taken(rt: HostRuntime) -> Result<(), AllocError> {
+    answers(
+        &rt,
+        rt.alloc(),
+        2,
+        r#"["lit",0,2],["lit",1,1],["unless","eq",0,1,6],["lit",1,1],["print",1],["jump",8],["lit",1,0],["print",1],["ret"]"#,
+        &[],
+        "accepted steps 9 activities 1 clocks 0\n",
+        "0\nended steps 6\n",
+    )?;
+    answers(
+        &rt,
+        rt.alloc(),
+        2,
+        r#"["lit",0,9223372036854775807],["lit",1,1],["add",0,0,1],["print",0],["ret"]"#,
+        &[],
+        "accepted steps 5 activities 1 clocks 0\n",
+        "-9223372036854775808\nended steps 5\n",
+    )
+}
+
+/// Differences and products, and a copy of a number that changes afterwards.
+#[test]
+fn numbers_are_computed(rt: HostRuntime) -> Result<(), AllocError> {
+    answers(
+        &rt,
+        rt.alloc(),
+        3,
+        r#"["lit",0,7],["lit",1,-3],["copy",2,0],["sub",0,0,1],["mul",1,0,1],["print",0],["print",1],["print",2],["ret"]"#,
+        &[],
+        "accepted steps 9 activities 1 clocks 0\n",
+        "10\n-30\n7\nended steps 9\n",
+    )
+}
+
+/// A loop over numbers below and above nothing; loops one in the other; a loop of phases of two activities.
+#[test]
+fn loops_go_round(rt: HostRuntime) -> Result<(), AllocError> {
+    answers(
+        &rt,
+        rt.alloc(),
+        1,
+        r#"["for",0,-1,1,2],["print",0],["next",0],["ret"]"#,
+        &[],
+        "accepted steps 8 activities 1 clocks 0\n",
+        "-1\n0\n1\nended steps 8\n",
+    )?;
+    answers(
+        &rt,
+        rt.alloc(),
+        3,
+        r#"["lit",2,0],["for",0,1,3,5],["for",1,1,4,4],["add",2,2,1],["next",2],["next",1],["print",2],["ret"]"#,
+        &[],
+        "accepted steps 34 activities 1 clocks 0\n",
+        "30\nended steps 34\n",
+    )?;
+    answers(
+        &rt,
+        rt.alloc(),
+        2,
+        r#"["make",0],["spawn",1,[0]],["for",1,1,3,4],["advance"],["next",2],["print",1],["ret"]"#,
+        &[Body {
+            params: "c",
+            slots: 2,
+            code: r#"["for",1,1,3,2],["advance"],["next",0],["drop",0],["ret"]"#,
+        }],
+        "accepted steps 26 activities 2 clocks 1\n",
+        "3\nended steps 26\n",
+    )
+}
+
+/// What the bounds of these modules are.
+#[test]
+fn turns_are_counted(rt: HostRuntime) -> Result<(), AllocError> {
+    let started = Body {
+        params: "",
+        slots: 0,
+        code: r#"["ret"]"#,
+    };
+    for (hi, line) in [
+        (99999, "accepted steps 299999 activities 100000 clocks 0\n"),
+        (100000, "x10clock: V15 Activities over 100000\n"),
+    ] {
+        let code =
+            format!(in rt.alloc(); "[\"for\",0,1,{hi},2],[\"spawn\",1,[]],[\"next\",0],[\"ret\"]")?;
+        let text = program_text(rt.alloc(), 1, code.as_str(), &[started])?;
+        if line.starts_with("x10clock") {
+            refuses(&rt, rt.alloc(), text.as_str(), line)?;
+        } else {
+            gives(&rt, rt.alloc(), Command::Check, text.as_str(), line)?;
+        }
+    }
+    let text = module_text(
+        rt.alloc(),
+        1,
+        r#"["for",0,1,999999998,1],["next",0],["ret"]"#,
+    )?;
+    let line = "accepted steps 1000000000 activities 1 clocks 0\n";
+    gives(&rt, rt.alloc(), Command::Check, text.as_str(), line)
+}
+
+/// Bounds that are passed: by loops in loops, by one turn, by as many turns as there are numbers, by clocks.
+#[test]
+fn turns_beyond_bounds_are_refused(rt: HostRuntime) -> Result<(), AllocError> {
+    for (slots, code, line) in [
+        (
+            3,
+            r#"["for",0,1,1000,5],["for",1,1,1000,4],["for",2,1,1000,3],["next",2],["next",1],["next",0],["ret"]"#,
+            "x10clock: V14 Steps over 1000000000\n",
+        ),
+        (
+            1,
+            r#"["for",0,1,999999999,1],["next",0],["ret"]"#,
+            "x10clock: V14 Steps over 1000000000\n",
+        ),
+        (
+            1,
+            r#"["for",0,-9223372036854775808,9223372036854775807,1],["next",0],["ret"]"#,
+            "x10clock: V14 Steps over 1000000000\n",
+        ),
+        (
+            3,
+            r#"["for",0,1,1000,5],["for",1,1,101,4],["make",2],["drop",2],["next",1],["next",0],["ret"]"#,
+            "x10clock: V16 Clocks over 100000\n",
+        ),
+    ] {
+        let text = module_text(rt.alloc(), slots, code)?;
+        refuses(&rt, rt.alloc(), text.as_str(), line)?;
+    }
+    Ok(())
+}
+
+/// Clocks that one branch or one turn drops or loses, with the walk that finds it.
+#[test]
+fn branches_and_turns_are_walked(rt: HostRuntime) -> Result<(), AllocError> {
+    for (slots, code, line) in [
+        (
+            3,
+            r#"["make",0],["lit",1,1],["lit",2,1],["unless","eq",1,2,5],["drop",0],["resume",0],["ret"]"#,
+            "x10clock: V11 Use unit 0 at 5 slot 0 out walk 0 1 2 3 4 5\n",
+        ),
+        (
+            2,
+            r#"["make",0],["for",1,1,3,3],["drop",0],["next",1],["ret"]"#,
+            "x10clock: V11 Use unit 0 at 2 slot 0 out walk 0 1 2 3 2\n",
+        ),
+        (
+            2,
+            r#"["make",0],["for",1,1,1,3],["drop",0],["next",1],["ret"]"#,
+            "x10clock: V11 Use unit 0 at 2 slot 0 out walk 0 1 2 3 2\n",
+        ),
+        (
+            2,
+            r#"["for",0,1,2,2],["make",1],["next",0],["ret"]"#,
+            "x10clock: V13 Leak unit 0 at 1 slot 1 live walk 0 1 2 1\n",
+        ),
+        // The shortest walk, by the branch that goes over the first turn's instructions.
+        (
+            2,
+            r#"["lit",0,1],["unless","eq",0,0,3],["lit",0,2],["resume",1],["ret"]"#,
+            "x10clock: V11 Use unit 0 at 3 slot 1 unset walk 0 1 3\n",
+        ),
+    ] {
+        let text = module_text(rt.alloc(), slots, code)?;
+        refuses(&rt, rt.alloc(), text.as_str(), line)?;
+    }
+    Ok(())
+}
+
+/// Targets behind and beyond, jumps over the edge of a loop, halves of loops, loops that overlap, bounds out of order, a
+/// loop's slot that is written inside.
+#[test]
+fn shapes_are_refused(rt: HostRuntime) -> Result<(), AllocError> {
+    for (code, line) in [
+        (
+            r#"["jump",0],["ret"]"#,
+            "x10clock: V1 Target unit 0 at 0\n",
+        ),
+        (
+            r#"["jump",2],["ret"]"#,
+            "x10clock: V1 Target unit 0 at 0\n",
+        ),
+        (
+            r#"["lit",0,1],["next",1],["ret"]"#,
+            "x10clock: V1 Target unit 0 at 1\n",
+        ),
+        (
+            r#"["jump",2],["for",0,1,2,2],["next",1],["ret"]"#,
+            "x10clock: V2 Block unit 0 at 0\n",
+        ),
+        (
+            r#"["for",0,1,2,2],["jump",3],["next",0],["ret"]"#,
+            "x10clock: V2 Block unit 0 at 1\n",
+        ),
+        (
+            r#"["for",0,1,2,1],["lit",1,1],["ret"]"#,
+            "x10clock: V2 Block unit 0 at 0\n",
+        ),
+        (
+            r#"["lit",0,1],["next",0],["ret"]"#,
+            "x10clock: V2 Block unit 0 at 1\n",
+        ),
+        (
+            r#"["for",0,1,2,2],["for",1,1,2,3],["next",0],["next",1],["ret"]"#,
+            "x10clock: V2 Block unit 0 at 0\n",
+        ),
+        (
+            r#"["lit",1,1],["for",0,2,1,2],["next",1],["ret"]"#,
+            "x10clock: V6 Loop unit 0 at 1\n",
+        ),
+        (
+            r#"["for",0,1,2,2],["lit",0,1],["next",0],["ret"]"#,
+            "x10clock: V6 Loop unit 0 at 1\n",
+        ),
+    ] {
+        let text = module_text(rt.alloc(), 2, code)?;
+        refuses(&rt, rt.alloc(), text.as_str(), line)?;
+    }
+    Ok(())
+}
+
 #[test]
 fn rows_are_refused(rt: HostRuntime) -> Result<(), AllocError> {
     for (slots, code, line) in [
@@ -379,7 +602,7 @@ fn rows_are_refused(rt: HostRuntime) -> Result<(), AllocError> {
             "[\"lit\",1,1],[\"ret\"]",
             "x10clock: V3 Slot unit 0 at 0\n",
         ),
-        (1, "[\"jump\",1],[\"ret\"]", "x10clock: M2 NotAModule\n"),
+        (1, "[\"finish\",1],[\"ret\"]", "x10clock: M2 NotAModule\n"),
         (65, "[\"ret\"]", "x10clock: M3 Limit\n"),
         (1, "[\"ret\"", "x10clock: M1 NotJson\n"),
     ] {

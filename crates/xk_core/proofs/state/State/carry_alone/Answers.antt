@@ -1,9 +1,10 @@
 use Rattle.std.proofs.Common.{◌≡◌, ◌<◌, true, subst, sym, ◌∙◌, ap, get_or, length, All}
+use Rattle.std.proofs.lemmas.Option.{slice_get_within}
 use Rattle.xk_types.specs.World.{World}
 use Rattle.xk_types.specs.Step.{Stepped}
 use Rattle.xk_types.specs.Schedule.{is_step}
 use Rattle.xk_core.specs.Arm.{carried}
-use Rattle.xk_core.proofs.Arms.{operands_there, arm_done, stands_there, carried_within}
+use Rattle.xk_core.proofs.Arms.{operands_there, arm_done, stands_there, carried_within, read_at, unit_read}
 use Rattle.xk_core.proofs.state.State.carry_alone.Goals as goal
 
 pub carry_out-change-requires-clause-operands : goal.carry_out-change-requires-clause-operands
