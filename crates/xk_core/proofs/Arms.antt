@@ -210,12 +210,25 @@ pub carried_there : (m : ModuleValue) (w : World) (a : ℕ) (i : Instr) (act : A
 carried_there m w a i act e = ap (carried_by m w a i) e
 
 -- the unit that is read at the activity's number is the one that it runs
-pub unit_read : (m : ModuleValue) (w : World) (a : ℕ) (act : Activity) (u : UnitValue) → IsRunningUnit m w a → slice_get w.activities a ≡ Some act → u ≡ get_or m.units act.frame.unit u
-    → (slice_get m.units act.frame.unit ≡ Some u) × (length u.code < 2 ^ 16)
-unit_read m w a act u runs there is =
+pub unit_read : (m : ModuleValue) (w : World) (a : ℕ) (act : Activity) (u : UnitValue) (units : List UnitValue) (n : ℕ) → IsRunningUnit m w a → slice_get w.activities a ≡ Some act
+    → units ≡ m.units → n ≡ act.frame.unit → u ≡ get_or units n u → (slice_get m.units act.frame.unit ≡ Some u) × (length u.code < 2 ^ 16)
+unit_read m w a act u units n runs there same which is =
     let r = runs act there in
-    let found : slice_get m.units act.frame.unit ≡ Some u = slice_get_read m.units (length m.units) act.frame.unit u refl (slice_get_within m.units act.frame.unit r.u r.found) is in
+    let found : slice_get m.units act.frame.unit ≡ Some u = slice_get_read m.units (length m.units) act.frame.unit u refl (slice_get_within m.units act.frame.unit r.u r.found)
+        (is ∙ ap (λ l. get_or l n u) same ∙ ap (λ k. get_or m.units k u) which) in
     (found, subst (λ v. length v.code < 2 ^ 16) (same_some r.u u (sym r.found ∙ found)) r.short)
+
+-- it is one of the module's
+pub unit_within : (m : ModuleValue) (w : World) (a : ℕ) (act : Activity) (units : List UnitValue) (n : ℕ) → IsRunningUnit m w a → slice_get w.activities a ≡ Some act
+    → units ≡ m.units → n ≡ act.frame.unit → n < length units
+unit_within m w a act units n runs there same which =
+    let r = runs act there in
+    let h = slice_get_within m.units act.frame.unit r.u r.found in
+    omega (arith, which, ap length same)
+
+-- the activity that is read takes the step
+pub actor_there : (m : ModuleValue) (w : World) (a : ℕ) (i : Instr) (act : Activity) → is_step (carried m w a i) ≡ true → act ≡ get_or w.activities a act → slice_get w.activities a ≡ Some act
+actor_there m w a i act h is = read_at w a act (carried_within m w a i h) is
 
 pub operands_there : (m : ModuleValue) (w : World) (a : ℕ) (i : Instr) (act : Activity) (u : UnitValue) → is_step (carried m w a i) ≡ true → grows i ≡ false → act ≡ get_or w.activities a act
     → slice_get m.units act.frame.unit ≡ Some u → CanCarry u act i

@@ -278,7 +278,7 @@ impl Activity {
     fn turn(&mut self, unit: &Unit, b: u16) -> (StepChange, Event)
         requires place { self.old.frame.place + 1 < 2 ^ 16 }
         requires short { length unit.now.code < 2 ^ 16 }
-        requires loop { IsTurnAt unit.now self.old b }
+        requires begun { IsTurnAt unit.now self.old b }
         ensures turned { Turned unit.now self.old b self.new }
         ensures local { IsLocal result.0 result.1 }
     {

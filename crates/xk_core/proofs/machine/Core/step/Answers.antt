@@ -27,7 +27,7 @@ pub carry_out-requires-clause-room : goal.carry_out-requires-clause-room
 carry_out-requires-clause-room c = core_roomy c.self.inside.verified.now c.self.inside.state c.act.inside.0 c.self.invariant.0
 
 pub carry_out-requires-clause-unit : goal.carry_out-requires-clause-unit
-carry_out-requires-clause-unit c = core_runs c.self.inside.verified.now c.self.inside.state c.act.inside.0 c.self.invariant.0
+carry_out-requires-clause-unit c = rw c.module.ensures.same (core_runs c.self.inside.verified.now c.self.inside.state c.act.inside.0 c.self.invariant.0)
 
 pub invariant_of-self-in-Some : goal.invariant_of-self-in-Some
 invariant_of-self-in-Some c =
