@@ -1,3 +1,1 @@
-pub mod Breaches
 pub mod Clocks
-pub mod Collected

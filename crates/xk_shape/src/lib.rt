@@ -6,6 +6,8 @@ mod jumps;
 mod nesting;
 mod rules;
 mod shaped;
+#[cfg(test)]
+mod tests;
 
 pub use fault::{ShapeError, ShapeFault};
 pub use nesting::{Loop, loops};

@@ -18,9 +18,9 @@ pub struct Loop {
     pub last: u16,
     /// The slot that counts its turns.
     pub slot: u16,
-    /// What the slot holds in the first turn.
+    /// The lower bound: what the slot holds in the first turn.
     pub lo: i64,
-    /// What it holds in the last.
+    /// The upper bound: what it holds in the last.
     pub hi: i64,
 }
 
@@ -34,7 +34,7 @@ impl Model for Loop {
     ghost inverse = { λ l. record { first = l.first; last = l.last; slot = l.slot; lo = l.lo; hi = l.hi } };
 }
 
-/// The loops of a unit, by the places of their `for`.
+/// The loops of a unit, by the places of their `for`. The error is that room for them was refused.
 pub fn loops(alloc: Global, u: &Unit) -> Result<Vec<Loop>, AllocError>
     ensures { IfOk result (λ found. found.items ≡ loops_of u.now) }
 {
@@ -93,11 +93,7 @@ impl Loop {
     fn is_crossed(&self, at: u16, target: u16) -> bool
         ensures { result ≡ crosses at target self.now }
     {
-        if self.is_within(at) {
-            !self.is_round(target)
-        } else {
-            self.is_round(target)
-        }
+        self.is_within(at) != self.is_round(target)
     }
 
     /// Whether one of the two begins inside the other and ends behind its end.

@@ -155,10 +155,17 @@ fn ends_wrongly(u: &Unit, at: u16) -> bool
 {
     let next = at as usize + 1;
     match u.code.get(at as usize) {
-        Some(Instr::Ret) => next < u.code.len(),
+        Some(instr) if is_ret(instr) => next < u.code.len(),
         Some(_) => next == u.code.len(),
         None => at == 0 && u.code.is_empty(),
     }
+}
+
+/// Whether the instruction is a `ret`.
+fn is_ret(instr: &Instr) -> bool
+    ensures { result ≡ is_ret instr.now }
+{
+    matches!(instr, Instr::Ret)
 }
 
 /// Whether the instruction makes a clock in a parameter.
