@@ -1,0 +1,7 @@
+pub mod Given
+pub mod Sets
+pub mod Walks
+pub mod Searches
+pub mod OneRow
+pub mod Oks
+pub mod Ways

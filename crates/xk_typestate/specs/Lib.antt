@@ -1,0 +1,4 @@
+pub mod KindSet
+pub mod Place
+pub mod Rows
+pub mod Search
