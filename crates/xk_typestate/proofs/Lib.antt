@@ -5,3 +5,8 @@ pub mod Searches
 pub mod OneRow
 pub mod Oks
 pub mod Ways
+pub mod Stops
+pub mod Pushes
+pub mod Back
+pub mod Shapes
+pub mod Units

@@ -2,3 +2,7 @@ pub mod KindSet
 pub mod Place
 pub mod Rows
 pub mod Search
+pub mod Found
+pub mod Shaped
+pub mod Refused
+pub mod Trail

@@ -17,7 +17,7 @@ pub record HasPlace (m : ModuleValue) (unit at s : ℕ) : Type 0 where
   pub slot : s < u.slots
 
 -- some walk of that slot in that unit ends there
-pub record IsReached (m : ModuleValue) (unit s : ℕ) (q : Visit) : Type 0 where
+pub record IsVisitedIn (m : ModuleValue) (unit s : ℕ) (q : Visit) : Type 0 where
   pub u : UnitValue
   pub found : slice_get m.units unit ≡ Some u
   pub visited : IsVisited m u s q

@@ -1,10 +1,11 @@
 //! The table of kinds, and where instructions lead: all that depends on which instructions there are.
 
-ghost use Rattle.std.specs.Prelude.{◌≡◌, ℕ, ◌↔◌, ◌<◌, length, IsTrue, MatchResult};
+ghost use Rattle.std.specs.Prelude.{◌≡◌, ℕ, ◌↔◌, ◌<◌, [], ◌∷◌, IsTrue, MatchResult, Some, slice_get};
 ghost use Rattle.xk_types.specs.declared.rules.Kind.{Kind};
-ghost use Rattle.xk_types.specs.Code.{UnitValue, params_of};
+ghost use Rattle.xk_types.specs.declared.rules.Kind.TheVariants.{Number};
+ghost use Rattle.xk_types.specs.Code.{params_of};
 ghost use Rattle.xk_types.specs.Order.{Has};
-ghost use Rattle.xk_types.specs.Walk.{After, Refused, after, awake, reads, writes, uses, hands_on, gives, successors, entry_kinds, MayBecome};
+ghost use Rattle.xk_types.specs.Walk.{After, Refused, after, awake, reads, may_read, loop_slot, writes, uses, hands_on, gives, successors, entry_kinds, MayBecome};
 ghost use Rattle.xk_typestate.specs.KindSet.{kinds_have};
 ghost use Rattle.xk_typestate.specs.Rows.{IsRow, places};
 
@@ -21,19 +22,27 @@ pub(crate) enum Ways {
 
 /// Where an instruction at this place may lead.
 pub(crate) fn ways_from(instr: &Instr, at: u16) -> Ways
-    requires { at < 65535 }
+    requires room { at < 65535 }
+    requires inside { (to : ℕ) → Has (successors instr.now at) to → to < 65536 }
     ensures { (to : ℕ) → Has (places result) to ↔ Has (successors instr.now at) to }
 {
     match instr {
-        Instr::Lit(_, _)
-        | Instr::Add(_, _, _)
-        | Instr::Print(_)
-        | Instr::Make(_)
-        | Instr::Resume(_)
-        | Instr::Drop(_)
-        | Instr::Advance
-        | Instr::Spawn(_, _) => Ways::One(at + 1),
+        Instr::Unless(_, _, _, t) => either(at + 1, *t),
+        Instr::Jump(t) => Ways::One(*t),
+        Instr::Next(b) => either(at + 1, *b + 1),
         Instr::Ret => Ways::Nowhere,
+        _ => Ways::One(at + 1),
+    }
+}
+
+/// The ways to both places.
+fn either(a: u16, b: u16) -> Ways
+    ensures { (to : ℕ) → Has (places result) to ↔ Has (a ∷ b ∷ []) to }
+{
+    if a < b {
+        Ways::Two(a, b)
+    } else {
+        Ways::Two(b, a)
     }
 }
 
@@ -49,26 +58,43 @@ pub(crate) fn kinds_at_entry(u: &Unit, slot: u16) -> KindSet
 }
 
 /// What an instruction leaves of the kind of a slot, or nothing where it refuses it.
-pub(crate) fn kinds_left(m: &Module, instr: &Instr, slot: u16, kind: Kind) -> KindSet
-    ensures { (u : UnitValue) (k : Kind)
-        → IsTrue (kinds_have result k) ↔ MayBecome (after m.now u instr.now slot kind) k }
+pub(crate) fn kinds_left(m: &Module, u: &Unit, instr: &Instr, slot: u16, kind: Kind) -> KindSet
+    ensures { (k : Kind)
+        → IsTrue (kinds_have result k) ↔ MayBecome (after m.now u.now instr.now slot kind) k }
 {
-    match kinds_after(m, instr, slot, kind) {
+    match kinds_after(m, u, instr, slot, kind) {
         Ok(kinds) => kinds,
         Err(_) => KindSet::empty(),
     }
 }
 
 /// What an instruction leaves of the kind of a slot, or the rule by which it refuses it.
-pub(crate) fn kinds_after(m: &Module, instr: &Instr, slot: u16, kind: Kind) -> Result<KindSet, Rule>
-    ensures { (u : UnitValue) → IsRow (after m.now u instr.now slot kind) result }
+pub(crate) fn kinds_after(
+    m: &Module,
+    u: &Unit,
+    instr: &Instr,
+    slot: u16,
+    kind: Kind,
+) -> Result<KindSet, Rule>
+    ensures { IsRow (after m.now u.now instr.now slot kind) result }
 {
     match instr {
-        Instr::Lit(d, _) => written(*d, Kind::Number, slot, kind),
-        Instr::Add(d, x, y) => {
+        Instr::Lit(d, _) | Instr::For(d, _, _, _) => written(*d, Kind::Number, slot, kind),
+        Instr::Copy(d, x) => {
+            read(*x, slot, kind)?;
+            written(*d, Kind::Number, slot, kind)
+        }
+        Instr::Add(d, x, y) => computed(*d, *x, *y, slot, kind),
+        Instr::Sub(d, x, y) => computed(*d, *x, *y, slot, kind),
+        Instr::Mul(d, x, y) => computed(*d, *x, *y, slot, kind),
+        Instr::Unless(_, x, y, _) => {
             read(*x, slot, kind)?;
             read(*y, slot, kind)?;
-            written(*d, Kind::Number, slot, kind)
+            Ok(KindSet::of(kind))
+        }
+        Instr::Next(b) => {
+            may_read(loop_slot(u, *b), slot, kind)?;
+            Ok(KindSet::of(kind))
         }
         Instr::Print(x) => {
             read(*x, slot, kind)?;
@@ -82,7 +108,50 @@ pub(crate) fn kinds_after(m: &Module, instr: &Instr, slot: u16, kind: Kind) -> R
             given(params_of(m, *started), args.slots(), slot, kind)?;
             Ok(KindSet::of(kind))
         }
+        Instr::Jump(_) => Ok(KindSet::of(kind)),
         Instr::Ret => Ok(KindSet::of(kind)),
+    }
+}
+
+/// Reads two slots as numbers, then writes a number.
+fn computed(d: u16, x: u16, y: u16, slot: u16, kind: Kind) -> Result<KindSet, Rule>
+    ensures { IsRow (reads x slot kind (reads y slot kind (writes d Number slot kind))) result }
+{
+    read(x, slot, kind)?;
+    read(y, slot, kind)?;
+    written(d, Kind::Number, slot, kind)
+}
+
+/// The slot of the loop that begins at this place; none where no loop does.
+fn loop_slot(u: &Unit, at: u16) -> Option<u16>
+    ensures { result ≡ loop_slot (slice_get u.now.code at) }
+{
+    match u.code.get(at as usize) {
+        Some(instr) => slot_of_for(instr),
+        None => None,
+    }
+}
+
+/// The slot of a `for`; none for other instructions.
+fn slot_of_for(instr: &Instr) -> Option<u16>
+    ensures { result ≡ loop_slot (Some instr.now) }
+{
+    match instr {
+        Instr::For(k, _, _, _) => Some(*k),
+        _ => None,
+    }
+}
+
+/// Reads this slot as a number, if there is one, where the walk is on it.
+fn may_read(x: Option<u16>, slot: u16, kind: Kind) -> Result<(), Rule>
+    ensures { (go : After)
+        → MatchResult result
+        (λ _. may_read x slot kind go ≡ go)
+        (λ r. may_read x slot kind go ≡ Refused r) }
+{
+    match x {
+        Some(x) => read(x, slot, kind),
+        None => Ok(()),
     }
 }
 

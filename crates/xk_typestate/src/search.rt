@@ -70,7 +70,7 @@ impl Search {
     {
         let stop = self.found[done].stop;
         let instr = &u.code[stop.at as usize];
-        let kinds = kinds_left(m, instr, slot, stop.kind);
+        let kinds = kinds_left(m, u, instr, slot, stop.kind);
         self.put_ways(ways_from(instr, stop.at), kinds, Some(done))
     }
 
