@@ -1,7 +1,8 @@
 -- A walk, from its end back to its beginning.
-use Rattle.std.proofs.Common.{◌≡◌, ℕ, ◌<◌, List, [], ◌∷◌, ◌++◌, reverse, Option, Some, None, slice_get, refl, sym, ap, ◌∙◌, subst}
+use Rattle.std.proofs.Common.{◌≡◌, ℕ, ◌+◌, ◌<◌, List, [], ◌∷◌, ◌++◌, length, get_or, reverse, inl, inr, arith, Option, Some, None, sym, ap, ◌∙◌, subst}
 use Rattle.std.proofs.lemmas.List.{reverse-append}
-use Rattle.std.proofs.lemmas.Option.{same_Some}
+use Rattle.std.proofs.lemmas.Option.{same_Some, slice_get-get_or}
+use Rattle.std.proofs.lemmas.Bool.{cases_lt}
 use Rattle.xk_types.specs.declared.rules.Visit.{Visit}
 use Rattle.xk_types.specs.Code.{UnitValue, ModuleValue}
 use Rattle.xk_types.specs.Walk.{IsEdge, IsWalk, Continues, last_of, EndsAt}
@@ -11,6 +12,19 @@ use Rattle.xk_typestate.specs.declared.search.Found.{Found}
 
 pub same_found : (found : List Found) (n : ℕ) (f g : Found) → IsFound found n f → IsFound found n g → f ≡ g
 same_found found n f g h k = same_Some f g (sym h ∙ k)
+
+-- the stop stands nowhere below a place, and not there
+pub nowhere_more : (found : List Found) (q : Visit) (i : ℕ) (d : Found) → i < length found → ((get_or found i d).stop ≡ q → ⊥)
+    → ((n : ℕ) → n < i → IsPlaceOf found q n → ⊥) → (n : ℕ) → n < i + 1 → IsPlaceOf found q n → ⊥
+nowhere_more found q i d inside other below n lt h =
+    elim (cases_lt n i) [
+      | inl before ↦ below n before h
+      | inr last ↦
+          let same : n ≡ i = omega arith in
+          let f = h.0 in
+          let there : IsFound found i f = subst (λ k. IsFound found k f) same h.1 in
+          other (ap (λ (x : Found). x.stop) (same_found found i (get_or found i d) f (slice_get-get_or found i d inside) there) ∙ h.2)
+    ]
 
 module _ (m : ModuleValue) (u : UnitValue) (s : ℕ) (found : List Found) (place : ℕ) where
   -- the stops so far, last first, go on from the stop at the next place to the end

@@ -1,14 +1,14 @@
 -- Code that has the shape is closed: every instruction leads to places inside it.
-use Rattle.std.proofs.Common.{◌≡◌, ℕ, ◌+◌, ◌<◌, Bool, true, false, not, ◌&&◌, eqb, ltb, length, Option, Some, None, slice_get, inl, inr, refl, ap, sym, ◌∙◌, subst, arith, ◌⊎◌}
+use Rattle.std.proofs.Common.{◌≡◌, ℕ, ◌+◌, ◌<◌, true, false, not, ◌&&◌, eqb, length, Some, slice_get, inl, inr, refl, ap, sym, ◌∙◌, subst, arith, ◌⊎◌}
 use Rattle.std.proofs.lemmas.Option.{slice_get_within}
-use Rattle.std.proofs.lemmas.Bool.{or_parts, and_parts, and_from, not-false, eqb-false, eq-eqb, ltb-true, true≢false, cases_lt}
+use Rattle.std.proofs.lemmas.Bool.{or_parts, and_parts, and_from, not-false, eq-eqb, ltb-true, true≢false, cases_lt}
 use Rattle.xk_types.specs.declared.instr.Instr.{Instr}
 use Rattle.xk_types.specs.declared.instr.Instr.TheVariants as instr
 use Rattle.xk_types.specs.declared.rules.Rule.TheVariants as rule
 use Rattle.xk_types.specs.Code.{UnitValue, ModuleValue}
 use Rattle.xk_types.specs.Order.{Has}
 use Rattle.xk_types.specs.Walk.{successors}
-use Rattle.xk_types.specs.Shape.{breaks_in, breaks_unit_of, instr_is, is_ret, aims_well, lies_ahead, breaks_target, breaks_end, HasShape}
+use Rattle.xk_types.specs.Shape.{breaks_unit_of, instr_is, is_ret, aims_well, lies_ahead, breaks_target, breaks_end, HasShape}
 use Rattle.xk_typestate.specs.Search.{IsClosed}
 
 module _ (u : UnitValue) (at : ℕ) where
@@ -44,7 +44,7 @@ module _ (u : UnitValue) (at : ℕ) where
   goes_on : (i : Instr) → slice_get u.code at ≡ Some i → breaks_end u at ≡ false → is_ret i ≡ false → at + 1 < length u.code
   goes_on i found whole other =
       let lt = slice_get_within u.code at i found in
-      let last = (or_parts _ _ (or_parts _ _ whole).0).1 in
+      let last : instr_is (λ j. not (is_ret j) && eqb (at + 1) (length u.code)) (slice_get u.code at) ≡ false = (or_parts _ _ (or_parts _ _ whole).0).1 in
       let here : (not (is_ret i) && eqb (at + 1) (length u.code)) ≡ false = sym (ap (instr_is (λ i. not (is_ret i) && eqb (at + 1) (length u.code))) found) ∙ last in
       elim (cases_lt (at + 1) (length u.code)) [
         | inl more ↦ more

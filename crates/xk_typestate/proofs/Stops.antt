@@ -1,5 +1,5 @@
 -- The least stop: kind by kind, slot by slot, instruction by instruction.
-use Rattle.std.proofs.Common.{◌≡◌, ℕ, zero, suc, ◌+◌, ◌<◌, ◌≤◌, IsTrue, List, [], ◌∷◌, length, get_or, Option, Some, None, slice_get, inl, inr, refl, sym, ap, ◌∙◌, subst, arith}
+use Rattle.std.proofs.Common.{◌≡◌, ℕ, zero, suc, ◌+◌, ◌<◌, ◌≤◌, IsTrue, List, [], length, get_or, None, slice_get, inl, inr, refl, sym, ap, ◌∙◌, subst, arith}
 use Rattle.std.proofs.lemmas.Option.{slice_get_past}
 use Rattle.std.proofs.lemmas.Bool.{cases_lt, cases_order}
 use Rattle.xk_types.specs.declared.rules.Rule.{Rule}
@@ -7,14 +7,13 @@ use Rattle.xk_types.specs.declared.rules.Kind.{Kind}
 use Rattle.xk_types.specs.declared.rules.Visit.{Visit}
 use Rattle.xk_types.specs.Code.{UnitValue, ModuleValue}
 use Rattle.xk_types.specs.Names.{kind_place}
-use Rattle.xk_types.specs.Order.{NotAfter}
 use Rattle.xk_types.specs.Walk.{To, Refused, row, row_of, IsVisited}
 use Rattle.xk_typestate.specs.declared.refused.Stop.{Stop}
 use Rattle.xk_typestate.specs.KindSet.{KindsValue, kinds_have}
 use Rattle.xk_typestate.specs.Place.{visit}
 use Rattle.xk_typestate.specs.Trail.{AreTrails, kinds_in}
 use Rattle.xk_typestate.specs.Refused.{IsRefusedIn, IsNeverRefusedIn, IsFirstStop, IsNeverRefusedThere, IsFirstThere, AreAllowed, IsFirstKind, IsAllowed}
-use Rattle.xk_typestate.proofs.Searches.{five, kind_at, kind_place-lt}
+use Rattle.xk_typestate.proofs.Searches.{five, kind_at}
 
 -- ---- kinds
 

@@ -2,7 +2,6 @@
 use Rattle.std.specs.Prelude.{◌≡◌, ℕ, ◌<◌, List, Some}
 use Rattle.xk_types.specs.declared.rules.Visit.{Visit}
 use Rattle.xk_types.specs.Code.{UnitValue, ModuleValue}
-use Rattle.xk_types.specs.Walk.{IsWalk, EndsAt}
 use Rattle.xk_typestate.specs.Search.{IsFound, Came}
 use Rattle.xk_typestate.specs.declared.search.Found.{Found}
 

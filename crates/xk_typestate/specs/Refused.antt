@@ -1,12 +1,12 @@
 -- Walks that end where the table refuses to go on, and the least of them.
-use Rattle.std.specs.Prelude.{◌≡◌, ℕ, ◌<◌, List, [], ◌∷◌, Option, Some, None, slice_get, IsTrue}
+use Rattle.std.specs.Prelude.{◌≡◌, ℕ, ◌<◌, List, [], ◌∷◌, Some, slice_get, IsTrue}
 use Rattle.xk_types.specs.declared.rules.Rule.{Rule}
 use Rattle.xk_types.specs.declared.rules.Kind.{Kind}
 use Rattle.xk_types.specs.declared.rules.Visit.{Visit}
 use Rattle.xk_types.specs.Code.{UnitValue, ModuleValue}
 use Rattle.xk_types.specs.Names.{kind_place}
 use Rattle.xk_types.specs.Order.{NotAfter}
-use Rattle.xk_types.specs.Walk.{After, Refused, row, IsWalk, EndsAt, IsVisited, IsRefusedAt}
+use Rattle.xk_types.specs.Walk.{Refused, row, IsWalk, EndsAt, IsVisited, IsRefusedAt}
 use Rattle.xk_typestate.specs.declared.refusal.KindFault.{KindFault}
 use Rattle.xk_typestate.specs.declared.refusal.KindError.{KindError}
 use Rattle.xk_typestate.specs.declared.refusal.KindError.TheVariants.{Fault, OutOfMemory}

@@ -69,14 +69,7 @@ fn stop_of(m: &Module, u: &Unit, at: u16, slot: u16, kinds: KindSet) -> Option<S
 }
 
 /// The rule that refuses the kind, where it is one of the set and a rule does.
-fn refusal_of(
-    m: &Module,
-    u: &Unit,
-    at: u16,
-    slot: u16,
-    kinds: KindSet,
-    kind: Kind,
-) -> Option<Rule>
+fn refusal_of(m: &Module, u: &Unit, at: u16, slot: u16, kinds: KindSet, kind: Kind) -> Option<Rule>
     requires { at < length u.now.code }
     ensures { MatchOption result (IsAllowed m.now u.now slot at kinds kind)
         (λ r. IsTrue (kinds_have kinds kind) × (row m.now u.now slot (visit at kind) ≡ Refused r)) }

@@ -1,5 +1,5 @@
 -- one kind is left
-use Rattle.std.proofs.Common.{◌≡◌, rules}
+use Rattle.std.proofs.Common.{rules}
 use Rattle.xk_typestate.proofs.OneRow.{one_row}
 use Rattle.xk_typestate.proofs.rows.kinds_after.Goals as goal
 

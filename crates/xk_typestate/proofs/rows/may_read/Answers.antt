@@ -1,5 +1,4 @@
 -- the slot, where there is one
-use Rattle.std.proofs.Common.{◌≡◌}
 use Rattle.xk_typestate.proofs.rows.may_read.Goals as goal
 
 pub returns-in-Some : goal.returns-in-Some

@@ -1,5 +1,5 @@
 -- a turn of a loop begins inside the code
-use Rattle.std.proofs.Common.{◌≡◌, ◌+◌, ◌<◌, inl, inr, refl, sym, subst, arith}
+use Rattle.std.proofs.Common.{◌+◌, ◌<◌, inl, inr, refl, sym, subst, arith}
 use Rattle.xk_types.specs.Order.{Has}
 use Rattle.xk_types.specs.Walk.{successors}
 use Rattle.xk_typestate.proofs.rows.ways_from.Goals as goal

@@ -1,11 +1,10 @@
 -- the set in the table
-use Rattle.std.proofs.Common.{◌≡◌, [], get_or, length, ap, sym, ◌∙◌, subst, arith}
+use Rattle.std.proofs.Common.{[], ap, sym, ◌∙◌, subst, arith}
 use Rattle.std.proofs.lemmas.List.{get_or_read}
 use Rattle.std.proofs.lemmas.Option.{slice_get_within}
-use Rattle.xk_types.specs.Code.{ModuleValue}
 use Rattle.xk_typestate.specs.KindSet.{kinds_have}
 use Rattle.xk_typestate.specs.Place.{visit}
-use Rattle.xk_typestate.specs.Trail.{AreAllTrails, AreTrails, kinds_in}
+use Rattle.xk_typestate.specs.Trail.{AreAllTrails, AreTrails}
 use Rattle.xk_typestate.proofs.Units.{visited_reached, reached_in}
 use Rattle.xk_typestate.proofs.typed.Typed.kinds.Goals as goal
 
