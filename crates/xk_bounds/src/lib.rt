@@ -3,14 +3,6 @@
 #![tactic(auto)]
 
 mod bounds;
-mod kind_set;
-mod kinds;
 mod refusal;
-mod shape;
-#[cfg(test)]
-mod tests;
-mod verified;
 
-pub use kind_set::KindSet;
-pub use refusal::{BoundFault, KindFault, Refusal, ShapeFault};
-pub use verified::{Verified, verify};
+pub use refusal::BoundFault;
