@@ -2,3 +2,4 @@ pub mod Cuts
 pub mod Visits
 pub mod Measured
 pub mod Totals
+pub mod Refusals

@@ -3,9 +3,10 @@ use Rattle.std.specs.Prelude.{◌≡◌, ℕ, ◌+◌, ◌*◌, min, ℤ, false,
 use Rattle.std.specs.Option.{option_map_or}
 use Rattle.xk_types.specs.declared.instr.Instr.{Instr}
 use Rattle.xk_types.specs.declared.instr.Instr.TheVariants as instr
-use Rattle.xk_types.specs.Code.{UnitValue, ModuleValue, unit_started, Loop, turns}
+use Rattle.xk_types.specs.Code.{UnitValue, ModuleValue, IsWithinLimits, unit_started, Loop, turns}
 use Rattle.xk_types.specs.Shape.{breaks_target, breaks_block}
 use Rattle.xk_types.specs.Bound.{visits, sum_from, total, steps_weight, activities_weight, clocks_weight, steps_bound, activities_bound, clocks_bound, stack_bound}
+use Rattle.xk_types.specs.Accepted.{IsAccepted}
 use Rattle.xk_bounds.specs.declared.bounds.Bounds.{Bounds}
 use Rattle.xk_bounds.specs.declared.bounds.Quantity.{Quantity}
 use Rattle.xk_bounds.specs.declared.bounds.Quantity.TheVariants as quantity
@@ -57,3 +58,9 @@ pub record AreBounds (m : ModuleValue) (b : Bounds) : Type 0 where
   pub activities : b.activities ≡ activities_bound m
   pub clocks : b.clocks ≡ clocks_bound m
   pub stack : b.stack ≡ stack_bound m
+
+-- the module is accepted, and these are its bounds
+pub record IsVerified (m : ModuleValue) (b : Bounds) : Type 0 where
+  pub limits : IsWithinLimits m
+  pub accepted : IsAccepted m
+  pub bounds : AreBounds m b

@@ -6,7 +6,7 @@ ghost use Rattle.xk_types.specs.Code.{ModuleValue, unit_started, turns};
 ghost use Rattle.xk_types.specs.Shape.{HasShape};
 ghost use Rattle.xk_types.specs.Bound.{total, stack_bound, IsWithinBounds};
 ghost use Rattle.xk_bounds.specs.Refused.{IsBoundFault};
-ghost use Rattle.xk_bounds.specs.Measure.{AreBounds, AreCut, HasBlocks, added_by, weight_of, visits_next, loop_between};
+ghost use Rattle.xk_bounds.specs.Measure.{AreBounds, AreCut, HasBlocks, added, added_by, weight_of, visits_next, loop_between};
 
 use crate::refusal::BoundFault;
 use std::alloc::{AllocError, Global};
@@ -111,8 +111,7 @@ fn most_of(alloc: Global, counted: Quantity, u: &Unit, table: &[u64]) -> Result<
     let mut here = 1;
     let mut most = 0;
     for instr in &u.code {
-        let once = cut_sum(weight(counted, instr), started(instr, table));
-        most = cut_sum(most, cut_product(here, once));
+        most = cut_sum(most, cut_product(here, once(counted, instr, table)));
         before.push(here)?;
         here = visits_next(&before, here, instr);
     }
@@ -140,6 +139,13 @@ fn turns(lo: i64, hi: i64) -> u64
     } else {
         0
     }
+}
+
+/// What the instruction takes each time, with what the table says of the unit that it starts, cut at `CUT`.
+fn once(counted: Quantity, instr: &Instr, table: &[u64]) -> u64
+    ensures { result ≡ min (added (weight_of counted) (slice_index table.now) instr.now) CUT }
+{
+    cut_sum(weight(counted, instr), started(instr, table))
 }
 
 /// What the table says of the unit that the instruction starts.

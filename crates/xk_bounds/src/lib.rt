@@ -4,5 +4,9 @@
 
 mod bounds;
 mod refusal;
+mod verified;
 
-pub use refusal::BoundFault;
+pub use refusal::{BoundFault, Refusal};
+pub use verified::{Verified, verify};
+pub use xk_shape::ShapeFault;
+pub use xk_typestate::{KindFault, KindSet};

@@ -1,6 +1,14 @@
 //! Why the verifier refuses a module.
 
+ghost use Rattle.std.specs.Prelude.{◌≡◌};
+ghost use Rattle.xk_bounds.specs.Refused.{of_shape, of_kinds};
+ghost use Rattle.xk_bounds.specs.declared.refusal.Refusal.TheVariants.{OutOfMemory};
+
+use std::alloc::AllocError;
+use thiserror::Error;
+use xk_shape::{ShapeError, ShapeFault};
 use xk_types::Rule;
+use xk_typestate::{KindError, KindFault};
 
 /// A bound that is over its limit: the first of V14 to V17 that is.
 #[derive(Clone, Copy, Debug, PartialEq, Eq)]
@@ -8,4 +16,48 @@ pub struct BoundFault {
     pub rule: Rule,
     /// The most that the rule allows.
     pub limit: u64,
+}
+
+/// Why a module isn't accepted.
+#[derive(Debug, Drop, Error)]
+pub enum Refusal {
+    #[error("the code breaks rule V{number} {name} in unit {unit} at {at}", number = .0.rule.number(), name = .0.rule.name(), unit = .0.unit, at = .0.at)]
+    Shape(ShapeFault),
+    #[error("slot {slot} breaks rule V{number} {name} in unit {unit} at {at}, where it is {kind}", slot = .0.slot, number = .0.rule.number(), name = .0.rule.name(), unit = .0.unit, at = .0.at, kind = .0.kind.name())]
+    Kind(KindFault),
+    #[error("a run may go over {limit}, by rule V{number} {name}", limit = .0.limit, number = .0.rule.number(), name = .0.rule.name())]
+    Bound(BoundFault),
+    /// The verifier couldn't grow what it works on.
+    #[error("out of memory")]
+    OutOfMemory,
+}
+
+impl From<ShapeError> for Refusal {
+    ghost from_gives = { λ e r. r ≡ of_shape e };
+
+    fn from(e: ShapeError) -> Refusal {
+        match e {
+            ShapeError::Fault(fault) => Refusal::Shape(fault),
+            ShapeError::OutOfMemory => Refusal::OutOfMemory,
+        }
+    }
+}
+
+impl From<KindError> for Refusal {
+    ghost from_gives = { λ e r. r ≡ of_kinds e };
+
+    fn from(e: KindError) -> Refusal {
+        match e {
+            KindError::Fault(fault) => Refusal::Kind(fault),
+            KindError::OutOfMemory => Refusal::OutOfMemory,
+        }
+    }
+}
+
+impl From<AllocError> for Refusal {
+    ghost from_gives = { λ _ r. r ≡ OutOfMemory };
+
+    fn from(_e: AllocError) -> Refusal {
+        Refusal::OutOfMemory
+    }
 }

@@ -1,5 +1,5 @@
 -- one instruction more
-use Rattle.std.proofs.Common.{◌≡◌, ℕ, suc, ◌+◌, min, List, length, Some, slice_get, slice_index, refl, sym, ap, ◌∙◌, subst, arith}
+use Rattle.std.proofs.Common.{◌≡◌, ℕ, suc, ◌+◌, List, length, Some, slice_get, slice_index, refl, sym, ap, ◌∙◌, subst, arith}
 use Rattle.std.proofs.lemmas.Option.{slice_get_read}
 use Rattle.xk_types.specs.Code.{UnitValue}
 use Rattle.xk_bounds.specs.declared.bounds.TheConstants.{CUT}
@@ -22,10 +22,9 @@ loop-instr-preserved c =
     let items = c.deref-instr-items.result.now in
     let listed : items ≡ u.code = c.deref-instr-items.ensures.value ∙ ap (λ (x : UnitValue). x.code) c.u.view_is in
     let found : slice_get u.code at ≡ Some i = ap (λ is. slice_get is at) (sym listed) ∙ slice_get_read items (length items) at i refl c.loop-instr-test.true c.instr-item.is in
-    let once = c.cut_sum-once.ensures ∙ ap (λ n. min (n + c.started.result) CUT) c.weight.ensures ∙ ap (λ n. min (weight i + n) CUT) c.started.ensures in
     let P : List ℕ → Type 0 = λ xs. c.visits_next-here.result ≡ visits_next CUT xs c.loop-instr.here i in
     let beyond = subst P c.deref.ensures.value c.visits_next-here.ensures in
     let next : suc at ≡ at + 1 = omega arith in
     subst (λ n. IsMeasured weight table u CUT n after c.visits_next-here.result c.cut_sum-most.result) next
-    (measured_next weight table u CUT at i before after c.loop-instr.here c.visits_next-here.result c.loop-instr.most c.cut_sum-once.result c.cut_product.result c.cut_sum-most.result c.requires found
-    c.in_ok-push.ensures.items beyond once c.cut_product.ensures c.cut_sum-most.ensures c.loop-instr.invariant)
+    (measured_next weight table u CUT at i before after c.loop-instr.here c.visits_next-here.result c.loop-instr.most c.once.result c.cut_product.result c.cut_sum-most.result c.requires found
+    c.in_ok-push.ensures.items beyond c.once.ensures c.cut_product.ensures c.cut_sum-most.ensures c.loop-instr.invariant)

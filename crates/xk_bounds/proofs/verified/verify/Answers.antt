@@ -1,0 +1,17 @@
+-- an accepted module is refused for want of memory alone
+use Rattle.std.proofs.Common.{ap, sym, ◌∙◌, subst}
+use Rattle.xk_types.specs.Code.{ModuleValue}
+use Rattle.xk_types.specs.Accepted.{IsAccepted}
+use Rattle.xk_bounds.specs.Refused.{Refuses, of_kinds}
+use Rattle.xk_bounds.proofs.Refusals.{refused_by_memory}
+use Rattle.xk_bounds.proofs.verified.verify.Goals as goal
+
+pub returns-in-Err-check_kinds-clause-never_wrongly : goal.returns-in-Err-check_kinds-clause-never_wrongly
+returns-in-Err-check_kinds-clause-never_wrongly c = λ h.
+    let accepted = subst IsAccepted (sym c.in-Ok.ensures.made.0) h in
+    c.into-in-Err-check_kinds.ensures ∙ ap of_kinds (c.in-Err-check_kinds.ensures.never_wrongly accepted.kinds)
+
+pub returns-in-Err-measure-clause-never_wrongly : goal.returns-in-Err-measure-clause-never_wrongly
+returns-in-Err-measure-clause-never_wrongly c = λ h.
+    let same = c.module.ensures.same ∙ c.in-Ok-check_kinds.ensures.accepted.0 ∙ c.in-Ok.ensures.made.0 in
+    refused_by_memory c.args.m c.in-Err-measure.refusal h (subst (λ (m : ModuleValue). Refuses m c.in-Err-measure.refusal) same c.in-Err-measure.ensures.refused)

@@ -1,0 +1,120 @@
+//! Modules that were accepted.
+
+ghost use Rattle.std.specs.Prelude.{◌≡◌, ◌↔◌, IsTrue, IfOk, IfErr};
+ghost use Rattle.xk_types.specs.declared.rules.Kind.{Kind};
+ghost use Rattle.xk_types.specs.Code.{IsWithinLimits};
+ghost use Rattle.xk_types.specs.Shape.{HasShape};
+ghost use Rattle.xk_types.specs.Bound.{steps_bound, activities_bound, clocks_bound, stack_bound, IsWithinBounds};
+ghost use Rattle.xk_types.specs.Accepted.{IsAccepted};
+ghost use Rattle.xk_typestate.specs.KindSet.{kinds_have};
+ghost use Rattle.xk_typestate.specs.Place.{visit, HasPlace, IsVisitedIn};
+ghost use Rattle.xk_typestate.specs.Refused.{IsNeverRefused};
+ghost use Rattle.xk_bounds.specs.Measure.{AreBounds};
+ghost use Rattle.xk_bounds.specs.Refused.{Refuses};
+
+use crate::bounds::Bounds;
+use crate::refusal::Refusal;
+use std::alloc::Global;
+use std::marker::Model;
+use xk_shape::shape;
+use xk_types::Module;
+use xk_typestate::{KindSet, Typed, check_kinds};
+
+/// A module that the verifier accepted.
+#[derive(Drop)]
+pub struct Verified {
+    typed: Typed,
+    bounds: Bounds,
+}
+
+impl Model for Verified {
+    ghost use Rattle.xk_types.specs.Code.{ModuleValue};
+    ghost use Rattle.xk_bounds.specs.Measure.{IsVerified};
+
+    ghost Value = { ModuleValue };
+
+    ghost view = { λ v. v.typed };
+
+    ghost invariant = { λ v. IsVerified v.typed v.bounds };
+}
+
+/// Accepts the module, or gives it back with the first rule that it breaks, at the least place where it does. Rules are
+/// tried in the order of their numbers, but V11 to V13 together. `OutOfMemory` comes only where room for the loops of a
+/// unit, for the kinds of its slots, for a walk, or for what the bounds are reckoned in was refused.
+pub fn verify(alloc: Global, m: Module) -> Result<Verified, (Module, Refusal)>
+    ensures accepted { IfOk result (λ v. (v ≡ m) × IsAccepted m) }
+    ensures refused { IfErr result (λ e. (e.0 ≡ m) × Refuses m e.1) }
+    ensures never_wrongly { IsAccepted m → IfErr result (λ e. e.1 ≡ Refusal.OutOfMemory) }
+{
+    let shaped = match shape(alloc, m) {
+        Ok(shaped) => shaped,
+        Err((m, error)) => return Err((m, error.into())),
+    };
+    let typed = match check_kinds(alloc, shaped) {
+        Ok(typed) => typed,
+        Err((shaped, error)) => return Err((shaped.into_module(), error.into())),
+    };
+    match measure(alloc, typed.module()) {
+        Ok(bounds) => Ok(Verified { typed, bounds }),
+        Err(refusal) => Err((typed.into_module(), refusal)),
+    }
+}
+
+/// Measures the bounds, and tries the rules on them.
+fn measure(alloc: Global, m: &Module) -> Result<Bounds, Refusal>
+    requires shape { HasShape m.now }
+    requires kinds { IsNeverRefused m.now }
+    ensures within { IfOk result (λ b. IsWithinBounds m.now × AreBounds m.now b) }
+    ensures refused { IfErr result (Refuses m.now) }
+{
+    let bounds = Bounds::of(alloc, m)?;
+    bounds.check().map_err(Refusal::Bound)?;
+    Ok(bounds)
+}
+
+impl Verified {
+    /// The module that was accepted.
+    pub fn module(&self) -> &Module
+        ensures same { result.now ≡ self.now }
+        ensures accepted { IsAccepted self.now }
+        ensures limits { IsWithinLimits self.now }
+    {
+        self.typed.module()
+    }
+
+    /// The kinds that the slot may have before the instruction: those that walks end with there.
+    pub fn kinds(&self, unit: u16, at: u16, slot: u16) -> KindSet
+        requires { HasPlace self.now unit at slot }
+        ensures { (k : Kind) → IsTrue (kinds_have result k) ↔ IsVisitedIn self.now unit slot (visit at k) }
+    {
+        self.typed.kinds(unit, at, slot)
+    }
+
+    /// The most steps of a run: at most 1,000,000,000.
+    pub fn steps(&self) -> u64
+        ensures { result ≡ steps_bound self.now }
+    {
+        self.bounds.steps
+    }
+
+    /// The most activities of a run, main among them: at most 100,000.
+    pub fn activities(&self) -> u32
+        ensures { result ≡ activities_bound self.now }
+    {
+        self.bounds.activities
+    }
+
+    /// The most clocks of a run: at most 100,000.
+    pub fn clocks(&self) -> u32
+        ensures { result ≡ clocks_bound self.now }
+    {
+        self.bounds.clocks
+    }
+
+    /// The most slots in the frames of one activity: at most 4,096.
+    pub fn stack(&self) -> u32
+        ensures { result ≡ stack_bound self.now }
+    {
+        self.bounds.stack
+    }
+}
