@@ -4,6 +4,8 @@
 
 mod bounds;
 mod refusal;
+#[cfg(test)]
+mod tests;
 mod verified;
 
 pub use refusal::{BoundFault, Refusal};
