@@ -1,0 +1,29 @@
+-- Where one rule on the shape of code is broken.
+use Rattle.std.specs.Prelude.{◌≡◌, ℕ, ◌<◌, true, false, [], ◌∷◌, Option, Some, None}
+use Rattle.xk_types.specs.declared.rules.Rule.{Rule}
+use Rattle.xk_types.specs.Code.{UnitValue, ModuleValue}
+use Rattle.xk_types.specs.Order.{NotAfter}
+use Rattle.xk_types.specs.Shape.{breaks, breaks_in}
+use Rattle.xk_shape.specs.declared.fault.ShapeFault.{ShapeFault}
+use Rattle.xk_shape.specs.declared.fault.ShapeError.{ShapeError}
+use Rattle.xk_shape.specs.declared.fault.ShapeError.TheVariants.{Fault, OutOfMemory}
+
+-- no place breaks the rule
+abbrev pub IsNowhereBroken : ModuleValue → Rule → Type 0
+IsNowhereBroken m r = (unit at : ℕ) → breaks m r unit at ≡ false
+
+-- the fault is of that rule, and names the least place that breaks it
+pub record IsLeastBreach (m : ModuleValue) (r : Rule) (f : ShapeFault) : Type 0 where
+  pub rule : f.rule ≡ r
+  pub broken : breaks m r f.unit f.at ≡ true
+  pub least : (unit at : ℕ) → breaks m r unit at ≡ true → NotAfter (f.unit ∷ f.at ∷ []) (unit ∷ at ∷ [])
+
+-- what an error says of one rule
+abbrev pub FailsRule : ModuleValue → Rule → ShapeError → Type 0
+FailsRule m r (Fault f) = IsLeastBreach m r f
+FailsRule m r OutOfMemory = Unit {0}
+
+-- the first instruction of a unit that breaks the rule, if one does
+abbrev pub IsFirstPlace : ModuleValue → Rule → ℕ → UnitValue → Option ℕ → Type 0
+IsFirstPlace m r unit u None = (at : ℕ) → breaks_in m r unit u at ≡ false
+IsFirstPlace m r unit u (Some first) = (breaks_in m r unit u first ≡ true) × ((at : ℕ) → at < first → breaks_in m r unit u at ≡ false)

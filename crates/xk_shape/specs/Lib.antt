@@ -1,0 +1,3 @@
+pub mod Shaped
+pub mod Fault
+pub mod Breach

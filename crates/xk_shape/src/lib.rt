@@ -1,0 +1,15 @@
+//! The rules on the shape of code: where targets lie, how loops nest, which slots, units and parameters there are.
+#![tactic(auto)]
+
+mod fault;
+mod jumps;
+mod nesting;
+mod rules;
+mod shaped;
+#[cfg(test)]
+mod tests;
+
+pub use fault::{ShapeError, ShapeFault};
+pub use nesting::{Loop, loops};
+pub use rules::params_of;
+pub use shaped::{Shaped, shape};

@@ -1,0 +1,233 @@
+//! The rules on the shape of code, tried one after another.
+
+ghost use Rattle.std.specs.Prelude.{◌≡◌, ℕ, ◌+◌, ◌<◌, ◌≤◌, ◌||◌, ◌&&◌, not, ◌==◌, nat_lt, false, true, length, slice_get, MatchResult, MatchOption};
+ghost use Rattle.std.specs.List.{list_all, list_any};
+ghost use Rattle.xk_types.specs.Code.{IsUnitWithinLimits, params_of, loops as loops_of};
+ghost use Rattle.xk_types.specs.Shape.{breaks_in, breaks_slot, is_in_place, starts_amiss, instr_is, is_startable, breaks_end, breaks_home, clock_arguments, has_twice, gives_twice, breaks_same_clock, slots_named, is_ret, makes_below, HasShape};
+ghost use Rattle.xk_shape.specs.Fault.{Refuses};
+ghost use Rattle.xk_shape.specs.Breach.{IsNowhereBroken, FailsRule, IsFirstPlace};
+
+use crate::fault::{ShapeError, ShapeFault};
+use crate::jumps::{aims_amiss, crosses_edge, misuses_loop};
+use crate::nesting::{Loop, loops};
+use std::alloc::Global;
+use xk_types::{Args, Instr, Module, ParamKind, Rule, Unit, UnitKind};
+
+/// Tries the rules on shape in the order of their numbers, each over the whole module by rising unit and instruction.
+pub(crate) fn check_shape(alloc: Global, m: &Module) -> Result<(), ShapeError>
+    ensures { MatchResult result (λ _. HasShape m.now) (Refuses m.now) }
+{
+    check_rule(alloc, m, Rule::Target)?;
+    check_rule(alloc, m, Rule::Block)?;
+    check_rule(alloc, m, Rule::Slot)?;
+    check_rule(alloc, m, Rule::Unit)?;
+    check_rule(alloc, m, Rule::Loop)?;
+    check_rule(alloc, m, Rule::End)?;
+    check_rule(alloc, m, Rule::Home)?;
+    check_rule(alloc, m, Rule::SameClock)
+}
+
+/// Looks for the least place that breaks the rule.
+fn check_rule(alloc: Global, m: &Module, rule: Rule) -> Result<(), ShapeError>
+    ensures { MatchResult result (λ _. IsNowhereBroken m.now rule) (FailsRule m.now rule) }
+{
+    let mut unit = 0;
+    for u in m.units() {
+        let among = loops(alloc, u)?;
+        if let Some(at) = first_place(m, rule, unit, u, &among) {
+            return Err(ShapeError::Fault(ShapeFault { rule, unit, at }));
+        }
+        unit += 1;
+    }
+    Ok(())
+}
+
+/// The least instruction of a unit that breaks the rule. The loops are those of the unit.
+fn first_place(m: &Module, rule: Rule, unit: u16, u: &Unit, among: &[Loop]) -> Option<u16>
+    requires limits { IsUnitWithinLimits u.now }
+    requires loops { among.now ≡ loops_of u.now }
+    ensures { IsFirstPlace m.now rule unit u.now result }
+{
+    let places = u.code.len().max(1) as u16;
+    for at in 0..places {
+        if breaks_rule(m, rule, unit, u, among, at) {
+            return Some(at);
+        }
+    }
+    None
+}
+
+/// Whether an instruction of a unit, which has these loops, breaks the rule. A fault of the whole unit is one of
+/// instruction 0.
+fn breaks_rule(m: &Module, rule: Rule, unit: u16, u: &Unit, among: &[Loop], at: u16) -> bool
+    requires limits { IsUnitWithinLimits u.now }
+    requires loops { among.now ≡ loops_of u.now }
+    ensures { result ≡ breaks_in m.now rule unit u.now at }
+{
+    match rule {
+        Rule::Target => aims_amiss(u, at),
+        Rule::Block => crosses_edge(u, among, at),
+        Rule::Slot => names_missing_slot(u, at),
+        Rule::Unit => (at == 0 && !is_in_place(unit, u)) || starts_wrongly(m, unit, u, at),
+        Rule::Loop => misuses_loop(u, among, at),
+        Rule::End => ends_wrongly(u, at),
+        Rule::Home => makes_param(u, at),
+        Rule::SameClock => gives_clock_twice(m, u, at),
+        Rule::Cell
+        | Rule::Registers
+        | Rule::Use
+        | Rule::Held
+        | Rule::Leak
+        | Rule::Steps
+        | Rule::Activities
+        | Rule::Clocks
+        | Rule::Stack => false,
+    }
+}
+
+/// Whether the instruction names a slot that the unit doesn't have.
+fn names_missing_slot(u: &Unit, at: u16) -> bool
+    ensures { result ≡ breaks_slot u.now at }
+{
+    match u.code.get(at as usize) {
+        Some(instr) => !names_below(instr, u.slots),
+        None => false,
+    }
+}
+
+/// Whether every slot that the instruction names is one of the first ones.
+fn names_below(instr: &Instr, slots: u16) -> bool
+    ensures { result ≡ list_all (λ s. nat_lt s slots) (slots_named instr.now) }
+{
+    match instr {
+        Instr::Lit(d, _) => *d < slots,
+        Instr::Copy(d, x) => *d < slots && *x < slots,
+        Instr::Add(d, x, y) => *d < slots && *x < slots && *y < slots,
+        Instr::Sub(d, x, y) => *d < slots && *x < slots && *y < slots,
+        Instr::Mul(d, x, y) => *d < slots && *x < slots && *y < slots,
+        Instr::Unless(_, x, y, _) => *x < slots && *y < slots,
+        Instr::Jump(_) => true,
+        Instr::For(slot, _, _, _) => *slot < slots,
+        Instr::Next(_) => true,
+        Instr::Print(x) => *x < slots,
+        Instr::Make(d) => *d < slots,
+        Instr::Resume(c) => *c < slots,
+        Instr::Drop(c) => *c < slots,
+        Instr::Advance => true,
+        Instr::Spawn(_, args) => args.slots().iter().all(|s| *s < slots),
+        Instr::Ret => true,
+    }
+}
+
+/// Whether the unit may have this number: unit 0 is main and takes nothing, and no other is main.
+fn is_in_place(unit: u16, u: &Unit) -> bool
+    ensures { result ≡ is_in_place unit u.now }
+{
+    match u.kind {
+        UnitKind::Main => unit == 0 && u.params.is_empty(),
+        UnitKind::Body => unit != 0,
+    }
+}
+
+/// Whether the instruction starts a unit that the unit with this number may not start so.
+fn starts_wrongly(m: &Module, unit: u16, u: &Unit, at: u16) -> bool
+    ensures { result ≡ instr_is (starts_amiss m.now unit) (slice_get u.now.code at) }
+{
+    match u.code.get(at as usize) {
+        Some(Instr::Spawn(started, args)) => !is_startable(m, unit, *started, args),
+        _ => false,
+    }
+}
+
+/// Whether the unit to be started is there, is a body, has the greater number, and takes so many arguments.
+fn is_startable(m: &Module, unit: u16, started: u16, args: &Args) -> bool
+    ensures { result ≡ is_startable unit started args.now (slice_get m.now.units started) }
+{
+    match m.units().get(started as usize) {
+        Some(u) => { u.kind == UnitKind::Body && unit < started && args.count() == u.params.len() }
+        None => false,
+    }
+}
+
+/// Whether the instruction is a `ret` before the end of the code, or another one at its end, or there is no code.
+fn ends_wrongly(u: &Unit, at: u16) -> bool
+    ensures { result ≡ breaks_end u.now at }
+{
+    let next = at as usize + 1;
+    match u.code.get(at as usize) {
+        Some(instr) if is_ret(instr) => next < u.code.len(),
+        Some(_) => next == u.code.len(),
+        None => at == 0 && u.code.is_empty(),
+    }
+}
+
+/// Whether the instruction is a `ret`.
+fn is_ret(instr: &Instr) -> bool
+    ensures { result ≡ is_ret instr.now }
+{
+    matches!(instr, Instr::Ret)
+}
+
+/// Whether the instruction makes a clock in a parameter.
+fn makes_param(u: &Unit, at: u16) -> bool
+    ensures { result ≡ breaks_home u.now at }
+{
+    match u.code.get(at as usize) {
+        Some(Instr::Make(d)) => (*d as usize) < u.params.len(),
+        _ => false,
+    }
+}
+
+/// Whether the instruction hands the clock of one slot on twice.
+fn gives_clock_twice(m: &Module, u: &Unit, at: u16) -> bool
+    ensures { result ≡ breaks_same_clock m.now u.now at }
+{
+    match u.code.get(at as usize) {
+        Some(Instr::Spawn(started, args)) => has_clock_twice(params_of(m, *started), args.slots()),
+        _ => false,
+    }
+}
+
+/// The parameters of a unit, or none where there is no such unit.
+pub fn params_of(m: &Module, unit: u16) -> &[ParamKind]
+    ensures { result.now ≡ params_of m.now unit }
+{
+    match m.units().get(unit as usize) {
+        Some(u) => &u.params,
+        None => &[],
+    }
+}
+
+/// Whether some slot stands twice among the arguments for clocks.
+fn has_clock_twice(params: &[ParamKind], args: &[u16]) -> bool
+    ensures { result ≡ has_twice (clock_arguments params.now args.now) }
+{
+    for i in 0..params.len().min(args.len()) {
+        match params[i] {
+            ParamKind::Number => {}
+            ParamKind::Clock => {
+                if has_clock(&params[i + 1..], &args[i + 1..], args[i]) {
+                    return true;
+                }
+            }
+        }
+    }
+    false
+}
+
+/// Whether the slot stands among the arguments for clocks.
+fn has_clock(params: &[ParamKind], args: &[u16], slot: u16) -> bool
+    ensures { result ≡ list_any (λ s. s == slot) (clock_arguments params.now args.now) }
+{
+    for i in 0..params.len().min(args.len()) {
+        match params[i] {
+            ParamKind::Number => {}
+            ParamKind::Clock => {
+                if args[i] == slot {
+                    return true;
+                }
+            }
+        }
+    }
+    false
+}
