@@ -6,6 +6,7 @@ use Rattle.std.specs.Option.{option_map_or}
 use Rattle.std.proofs.lemmas.Bool.{eqb-false, or_parts, and_parts, not-false, false≢true}
 use Rattle.std.proofs.lemmas.Option.{slice_get_within, none-some, same_Some}
 use Rattle.xk_laws.proofs.Lists.{all_has}
+use Rattle.xk_laws.proofs.Loops.{AreLoops, are_loops}
 use Rattle.xk_types.specs.declared.instr.Instr.{Instr}
 use Rattle.xk_types.specs.declared.instr.Instr.TheVariants as instr
 use Rattle.xk_types.specs.declared.rules.Rule.{Rule}
@@ -20,6 +21,8 @@ pub record IsFit (u : UnitValue) : Type 0 where
   pub some : 0 < length u.code
   -- the slots that an instruction names are the unit's
   pub slots : (i : Instr) (at s : ℕ) → slice_get u.code at ≡ Some i → Has (slots_named i) s → s < u.slots
+  -- its loops are in order
+  pub loops : AreLoops u
   -- behind each instruction but `ret` stands another
   pub next : (i : Instr) (at : ℕ) → slice_get u.code at ≡ Some i → is_ret i ≡ false → at + 1 < length u.code
 
@@ -51,6 +54,7 @@ unit_fits m shape unit u found = record {
   some = go (length u.code) (ends_well u 0 (end_ok 0)).1;
   slots = λ i at s here named. ltb-true s u.slots (all_has (λ t. nat_lt t u.slots) (slots_named i) s
       (not-false (list_all (λ t. nat_lt t u.slots) (slots_named i)) (ap (instr_is (λ j. not (list_all (λ t. nat_lt t u.slots) (slots_named j)))) (sym here) ∙ slots_ok at)) named);
+  loops = are_loops u (unbroken m shape rule.Target unit u found) (unbroken m shape rule.Block unit u found) (unbroken m shape rule.Loop unit u found);
   next = λ i at here other. next_below at (length u.code) (slice_get_within u.code at i here)
       (rw other at (ap (instr_is (last_but_ret u at)) (sym here) ∙ (ends_well u at (end_ok at)).0));
 }
@@ -109,12 +113,19 @@ start_fits m shape unit u found t args at here = start_parts m unit t args
 -- what an instruction starts has a greater number
 pub started_later : (m : ModuleValue) → HasShape m → (unit : ℕ) (u : UnitValue) → slice_get m.units unit ≡ Some u
     → (i : Instr) (at : ℕ) → slice_get u.code at ≡ Some i → (t : ℕ) → unit_started i ≡ Some t → unit < t
+started_later m shape unit u found (instr.Spawn x args) at here t e = subst (λ k. unit < k) (same_Some x t e) (start_fits m shape unit u found x args at here).later
 started_later m shape unit u found (instr.Lit d n) at here t e = absurd (none-some t e)
+started_later m shape unit u found (instr.Copy d x) at here t e = absurd (none-some t e)
 started_later m shape unit u found (instr.Add d x y) at here t e = absurd (none-some t e)
+started_later m shape unit u found (instr.Sub d x y) at here t e = absurd (none-some t e)
+started_later m shape unit u found (instr.Mul d x y) at here t e = absurd (none-some t e)
+started_later m shape unit u found (instr.Unless op x y g) at here t e = absurd (none-some t e)
+started_later m shape unit u found (instr.Jump g) at here t e = absurd (none-some t e)
+started_later m shape unit u found (instr.For k lo hi g) at here t e = absurd (none-some t e)
+started_later m shape unit u found (instr.Next b) at here t e = absurd (none-some t e)
 started_later m shape unit u found (instr.Print x) at here t e = absurd (none-some t e)
 started_later m shape unit u found (instr.Make d) at here t e = absurd (none-some t e)
 started_later m shape unit u found (instr.Resume c) at here t e = absurd (none-some t e)
 started_later m shape unit u found (instr.Drop c) at here t e = absurd (none-some t e)
 started_later m shape unit u found instr.Advance at here t e = absurd (none-some t e)
-started_later m shape unit u found (instr.Spawn x args) at here t e = subst (λ k. unit < k) (same_Some x t e) (start_fits m shape unit u found x args at here).later
 started_later m shape unit u found instr.Ret at here t e = absurd (none-some t e)

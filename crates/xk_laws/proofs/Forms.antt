@@ -1,6 +1,7 @@
 -- What a step can come to: it is blocked, it is wrong, or it has one of three forms.
 use Rattle.std.proofs.Common.{◌≡◌, ℕ, Bool, true, false, cond, List, [], ◌∷◌, ℤ, Some, None, Option, refl, ap}
 use Rattle.std.specs.Prelude.{slice_get}
+use Rattle.std.specs.Int.{w64, int_wrapping_add, int_wrapping_sub, int_wrapping_mul}
 use Rattle.xk_types.specs.declared.instr.Instr.{Instr}
 use Rattle.xk_types.specs.declared.instr.Instr.TheVariants as instr
 use Rattle.xk_types.specs.declared.names.Value.{Value}
@@ -13,7 +14,7 @@ use Rattle.xk_types.specs.declared.unit.ParamKind.{ParamKind}
 use Rattle.xk_types.specs.declared.unit.ParamKind.TheVariants as param
 use Rattle.xk_types.specs.Code.{UnitValue, ModuleValue, is_body}
 use Rattle.xk_types.specs.World.{Activity, Clock, World, standing_of, instruction_at}
-use Rattle.xk_types.specs.Step.{Cause, Outcome, Blocked, Wrong, ClockUse, OutOfRange, is_signalled, is_pending, number_in, clock_in, registered_on, put_in, slot_at, arguments_in, spawned, spawning, carried_out, run_at, done, made, waits, passing, step_by, step_of, step}
+use Rattle.xk_types.specs.Step.{Cause, Outcome, Blocked, Wrong, ClockUse, OutOfRange, is_registered, number_in, clock_in, registered_on, put_in, slot_at, arguments_in, computing, branching, turning, again, going, onward, spawned, spawning, carried_out, run_at, done, made, waits, passing, step_by, step_of, step}
 use Rattle.xk_types.specs.Schedule.{is_ended}
 
 -- What holds of a blocked step, of each wrong one, and of the three forms: one that changes activity a and where it stands, one
@@ -35,12 +36,11 @@ number_form P wrong (Some (value.Clock c)) go h = wrong _
 -- where a registration is wanted
 registered_form : (P : Outcome → Type 0) → ((c : Cause) → P (Wrong c)) → (o : Option Clock) (a : ℕ) (go : Outcome) → P go → P (registered_on o a go)
 registered_form P wrong None a go h = wrong _
-registered_form P wrong (Some c) a go h = cases (is_signalled (standing_of c a)) (is_pending (standing_of c a))
+registered_form P wrong (Some c) a go h = cases (is_registered (standing_of c a))
   where
-    cases : (p q : Bool) → P (cond p go (cond q go (Wrong ClockUse)))
-    cases true q = h
-    cases false true = h
-    cases false false = wrong _
+    cases : (b : Bool) → P (cond b go (Wrong ClockUse))
+    cases true = h
+    cases false = wrong _
 
 -- where a clock is wanted
 clock_form : (P : Outcome → Type 0) → ((c : Cause) → P (Wrong c)) → (w : World) (a : ℕ) (o : Option Value) (go : ℕ → Outcome) → ((k : ℕ) → P (go k)) → P (clock_in w a o go)
@@ -76,12 +76,46 @@ spawning_form P wrong m w a act t args (Some u) h = cases (is_body u.kind)
     cases true = arguments_form P wrong w a act u.params args (spawned m w a act t) h
     cases false = wrong _
 
+-- where a number is computed from two others
+computing_form : (P : Outcome → Type 0) (m : ModuleValue) (w : World) (a : ℕ) → HoldsOfForms P m w a → (act : Activity) (g : ℤ → ℤ → ℤ) (d x y : ℕ) → slice_get w.activities a ≡ Some act
+    → is_ended act.status ≡ false → P (computing w a act g d x y)
+computing_form P m w a f act g d x y at alive =
+    number_form P f.wrong (slot_at act x) _ (λ p. number_form P f.wrong (slot_at act y) _ (λ q. put_form P f.wrong (slot_at act d) act d _ _ (λ z. f.done act z _ _ at alive)))
+
+-- where a turn of a loop ends
+turning_form : (P : Outcome → Type 0) (m : ModuleValue) (w : World) (a : ℕ) → HoldsOfForms P m w a → (act : Activity) (b : ℕ) (o : Option Instr) → slice_get w.activities a ≡ Some act
+    → is_ended act.status ≡ false → P (turning w a act b o)
+turning_form P m w a f act b (Some (instr.For k lo hi e)) at alive = number_form P f.wrong (slot_at act k) _ (λ n. f.done act _ _ _ at alive)
+turning_form P m w a f act b None at alive = f.wrong _
+turning_form P m w a f act b (Some (instr.Lit d n)) at alive = f.wrong _
+turning_form P m w a f act b (Some (instr.Copy d x)) at alive = f.wrong _
+turning_form P m w a f act b (Some (instr.Add d x y)) at alive = f.wrong _
+turning_form P m w a f act b (Some (instr.Sub d x y)) at alive = f.wrong _
+turning_form P m w a f act b (Some (instr.Mul d x y)) at alive = f.wrong _
+turning_form P m w a f act b (Some (instr.Unless op x y t)) at alive = f.wrong _
+turning_form P m w a f act b (Some (instr.Jump t)) at alive = f.wrong _
+turning_form P m w a f act b (Some (instr.Next c)) at alive = f.wrong _
+turning_form P m w a f act b (Some (instr.Print x)) at alive = f.wrong _
+turning_form P m w a f act b (Some (instr.Make k)) at alive = f.wrong _
+turning_form P m w a f act b (Some (instr.Resume k)) at alive = f.wrong _
+turning_form P m w a f act b (Some (instr.Drop k)) at alive = f.wrong _
+turning_form P m w a f act b (Some instr.Advance) at alive = f.wrong _
+turning_form P m w a f act b (Some (instr.Spawn t args)) at alive = f.wrong _
+turning_form P m w a f act b (Some instr.Ret) at alive = f.wrong _
+
 -- each instruction
 instruction_form : (P : Outcome → Type 0) (m : ModuleValue) (w : World) (a : ℕ) → HoldsOfForms P m w a → (act : Activity) (i : Instr) → slice_get w.activities a ≡ Some act
     → is_ended act.status ≡ false → P (carried_out m w a act i)
 instruction_form P m w a f act (instr.Lit d n) at alive = put_form P f.wrong (slot_at act d) act d _ _ (λ x. f.done act x _ _ at alive)
-instruction_form P m w a f act (instr.Add d x y) at alive =
-    number_form P f.wrong (slot_at act x) _ (λ p. number_form P f.wrong (slot_at act y) _ (λ q. put_form P f.wrong (slot_at act d) act d _ _ (λ z. f.done act z _ _ at alive)))
+instruction_form P m w a f act (instr.Copy d x) at alive = number_form P f.wrong (slot_at act x) _ (λ p. put_form P f.wrong (slot_at act d) act d _ _ (λ z. f.done act z _ _ at alive))
+instruction_form P m w a f act (instr.Add d x y) at alive = computing_form P m w a f act (int_wrapping_add w64) d x y at alive
+instruction_form P m w a f act (instr.Sub d x y) at alive = computing_form P m w a f act (int_wrapping_sub w64) d x y at alive
+instruction_form P m w a f act (instr.Mul d x y) at alive = computing_form P m w a f act (int_wrapping_mul w64) d x y at alive
+instruction_form P m w a f act (instr.Unless op x y t) at alive =
+    number_form P f.wrong (slot_at act x) _ (λ p. number_form P f.wrong (slot_at act y) _ (λ q. f.done act _ _ _ at alive))
+instruction_form P m w a f act (instr.Jump t) at alive = f.done act _ _ _ at alive
+instruction_form P m w a f act (instr.For k lo hi e) at alive = put_form P f.wrong (slot_at act k) act k _ _ (λ x. f.done act x _ _ at alive)
+instruction_form P m w a f act (instr.Next b) at alive = turning_form P m w a f act b (instruction_at m (record act.frame { place = b })) at alive
 instruction_form P m w a f act (instr.Print x) at alive = number_form P f.wrong (slot_at act x) _ (λ n. f.done act _ _ _ at alive)
 instruction_form P m w a f act (instr.Make k) at alive = put_form P f.wrong (slot_at act k) act k _ _ (λ x. f.made act x at alive)
 instruction_form P m w a f act (instr.Resume k) at alive = clock_form P f.wrong w a (slot_at act k) _ (λ c. f.done act _ _ _ at alive)

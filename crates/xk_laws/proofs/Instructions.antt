@@ -1,7 +1,7 @@
 -- Each instruction of a running activity is a step that keeps the invariant.
-use Rattle.std.proofs.Common.{◌≡◌, ℕ, ◌+◌, ◌<◌, Bool, true, false, cond, ◌==◌, List, [], ◌∷◌, ◌++◌, length, set, ℤ, Some, None, refl, sym, ap, ◌∙◌, subst, arith, inl, inr}
+use Rattle.std.proofs.Common.{◌≡◌, ℕ, ◌+◌, ◌<◌, Bool, true, false, cond, ◌==◌, List, [], ◌∷◌, ◌++◌, length, set, ℤ, pos, ◌+ℤ◌, int_lt, Some, None, refl, sym, ap, ◌∙◌, subst, arith, inl, inr}
 use Rattle.std.specs.Prelude.{slice_get}
-use Rattle.std.specs.Int.{w64, int_wrapping_add}
+use Rattle.std.specs.Int.{w64, int_wrapping_add, int_wrapping_sub, int_wrapping_mul}
 use Rattle.std.specs.Option.{option_map_or, option_and_then}
 use Rattle.std.proofs.lemmas.Option.{slice_get_within}
 use Rattle.std.proofs.lemmas.Bool.{cases_eq, false≢true}
@@ -15,26 +15,27 @@ use Rattle.xk_types.specs.declared.names.Standing.{Standing}
 use Rattle.xk_types.specs.declared.names.Standing.TheVariants as standing
 use Rattle.xk_types.specs.declared.rules.Kind.{Kind}
 use Rattle.xk_types.specs.declared.rules.Kind.TheVariants as kind
-use Rattle.xk_types.specs.Code.{ModuleValue, params_of, unit_started}
+use Rattle.xk_types.specs.declared.instr.Comparison.{Comparison}
+use Rattle.xk_types.specs.Code.{ModuleValue, Loop, compares, params_of, unit_started}
 use Rattle.xk_types.specs.World.{Activity, World, standing_of, instruction_at}
 use Rattle.xk_types.specs.Schedule.{is_ended}
 use Rattle.xk_types.specs.Accepted.{IsAccepted}
 use Rattle.xk_types.specs.declared.names.Event.{Event}
 use Rattle.xk_types.specs.declared.names.Event.TheVariants as event
-use Rattle.xk_types.specs.Step.{Outcome, done, made, onward, with_slots, arrived, ended, none, only, all, resumed, dropped, number_in, clock_in, child, is_given, spawned, carried_out, run_at, new_clock}
+use Rattle.xk_types.specs.Step.{Outcome, done, made, onward, going, again, with_slots, arrived, ended, none, only, all, resumed, dropped, number_in, clock_in, put_in, computing, turning, child, is_given, spawned, carried_out, run_at, new_clock}
 use Rattle.xk_types.specs.Order.{Has}
-use Rattle.xk_types.specs.Shape.{slots_named, is_ret}
-use Rattle.xk_types.specs.Walk.{after, reads, writes, gives, becomes, MayBecome, successors}
+use Rattle.xk_types.specs.Shape.{slots_named, slot_written, is_ret}
+use Rattle.xk_types.specs.Walk.{after, reads, may_read, loop_slot, writes, gives, becomes, MayBecome, successors}
 use Rattle.xk_types.specs.Bound.{steps_weight, clocks_weight}
 use Rattle.xk_laws.proofs.Invariant.{Each, Stands, IsActivitySound, IsSound, stands_on, looks, kind_by, kind_of, is_held}
-use Rattle.xk_laws.proofs.Lists.{get_inside}
+use Rattle.xk_laws.proofs.Lists.{get_inside, get-set_other}
 use Rattle.xk_laws.proofs.Walks.{Allowed}
 use Rattle.xk_laws.proofs.Rows.{reads_row, writes_row, uses_row, gives_row, IsWritten, IsUsed, resumed_kind, resumed_held}
 use Rattle.xk_laws.proofs.Standings.{stands_on-push_old, stands_on-push_new, new_same}
-use Rattle.xk_laws.proofs.Measure.{paid_on, paid_arrive, paid_end, paid_start, owed_first}
+use Rattle.xk_laws.proofs.Measure.{GoesOn, IsTaken, paid_on, paid_arrive, paid_end, paid_start, owed_first}
 use Rattle.xk_laws.proofs.Steps.{IsNext, StandsNear, done_sound, made_sound, begun_sound}
-use Rattle.xk_laws.proofs.Running.{IsAt, slot_there, row_allowed, leaving, writing, using}
-use Rattle.xk_laws.proofs.Fits.{IsStart, unit_fits, start_fits}
+use Rattle.xk_laws.proofs.Running.{IsAt, IsWrite, slot_there, row_allowed, next_inside, leaving, leaving_to, writing, writing_to, using}
+use Rattle.xk_laws.proofs.Fits.{IsFit, IsStart, unit_fits, start_fits}
 use Rattle.xk_laws.proofs.Given.{AreGiven, child_sound}
 use Rattle.xk_laws.proofs.Operands.{Moves, put_moves, number_moves, clock_moves, arguments_move}
 use Rattle.xk_laws.proofs.Waiting.{arriving, ending}
@@ -50,6 +51,20 @@ add_parts d x y s k h =
     let first = reads_row x s k (reads y s k (writes d kind.Number s k)) h in
     let second = reads_row y s k (writes d kind.Number s k) (λ r e. h r (first.1 ∙ e)) in
     (first.0, second.0, subst (λ row. IsWritten row d kind.Number s k) (sym (first.1 ∙ second.1)) (writes_row d kind.Number s k (λ r e. h r (first.1 ∙ (second.1 ∙ e)))))
+
+-- what the row of `copy` reads and writes
+copy_parts : (d x s : ℕ) (k : Kind) → Allowed (reads x s k (writes d kind.Number s k)) → (s ≡ x → k ≡ kind.Number) × IsWritten (reads x s k (writes d kind.Number s k)) d kind.Number s k
+copy_parts d x s k h =
+    let first = reads_row x s k (writes d kind.Number s k) h in
+    (first.0, subst (λ row. IsWritten row d kind.Number s k) (sym first.1) (writes_row d kind.Number s k (λ r e. h r (first.1 ∙ e))))
+
+-- what the row of `unless` reads
+read_parts : (x y s : ℕ) (k : Kind) → Allowed (reads x s k (reads y s k (becomes k)))
+    → (s ≡ x → k ≡ kind.Number) × (s ≡ y → k ≡ kind.Number) × (reads x s k (reads y s k (becomes k)) ≡ becomes k)
+read_parts x y s k h =
+    let first = reads_row x s k (reads y s k (becomes k)) h in
+    let second = reads_row y s k (becomes k) (λ r e. h r (first.1 ∙ e)) in
+    (first.0, second.0, first.1 ∙ second.1)
 
 -- ---- standings after a step, before its end
 
@@ -105,58 +120,178 @@ module _ (m : ModuleValue) (ok : IsAccepted m) (w : World) (a : ℕ) (was : Acti
   kept : Each (λ k c. StandsNear was.status was.since c.last (w.steps + 1) (standing_of c a)) w.clocks
   kept k c at = kept_near was.status was.since c.last (w.steps + 1) (standing_of c a) (let h = me.since in omega arith) ((sound.clocks k c at).stands a was found)
 
+  -- what the activity becomes pays, where it stays in its unit
+  taken : (i : Instr) → Here i → (act : Activity) → act.frame.unit ≡ was.frame.unit → IsTaken m me.u i was act
+  taken i here act same = record { fit = unit_fits m ok.shape was.frame.unit me.u me.unit; found = me.unit; same = same; running = running; here = here }
+
   -- an instruction that changes no standing is a step
   local_moves : (i : Instr) → Here i → (act : Activity) → steps_weight i ≡ 1 → clocks_weight i ≡ 0 → unit_started i ≡ None
-      → act.status ≡ was.status → act.since ≡ was.since → act.frame.place ≡ was.frame.place + 1
+      → act.status ≡ was.status → act.since ≡ was.since → GoesOn me.u i was act
       → IsNext m me.u (looks w.clocks a) (length w.clocks) (w.steps + 1) was act → (e : Event) → Moves m (done w a act none e)
-  local_moves i here act one zero' alone st sc place n e = done_sound m w a was act none sound found (record {
+  local_moves i here act one zero' alone st sc goes n e = done_sound m w a was act none sound found (record {
     next = n;
     apart = λ k. refl;
     stands = λ k c at. rw (st, sc) (kept k c at);
-    paid = rw zero' at (paid_on m was act me.u i me.unit n.unit running (st ∙ running) place here one alone);
+    paid = rw zero' at (paid_on m me.u i was act (taken i here act n.unit) (st ∙ running) goes one alone);
   })
+
+  -- what stands in a slot that the table finds to be a number
+  is_number : (i : Instr) → Here i → (x : ℕ) → x < me.u.slots → ((k : Kind) → Allowed (after m me.u i x k) → k ≡ kind.Number)
+      → (go : ℤ → Outcome) → ((n : ℤ) → slice_get was.frame.slots x ≡ Some (value.Number n) → Moves m (go n)) → Moves m (number_in (slice_get was.frame.slots x) go)
+  is_number i here x inside reads_it go h =
+      let v = get_inside was.frame.slots x (omega (arith, me.frame.slots)) in
+      number_moves m (stands_on w.clocks a) (slice_get was.frame.slots x) v.0 go v.1
+      (reads_it (kind_of (looks w.clocks a) v.0) (row_allowed m (stands_on w.clocks a) (length w.clocks) w.steps was me.u i (at_it i here) x v.0 v.1))
+      (λ n e. h n (v.1 ∙ ap (λ z. Some z) e))
+
+  -- a slot that it names is the unit's
+  named_inside : (i : Instr) → Here i → (x : ℕ) → Has (slots_named i) x → x < me.u.slots
+  named_inside i here x named = (at_it i here).fit.slots i was.frame.place x here named
+
+  -- a number that is written to slot d fits in
+  number_written : (i : Instr) (d : ℕ) (n : ℤ) → ((s : ℕ) (k : Kind) → Allowed (after m me.u i s k) → IsWritten (after m me.u i s k) d kind.Number s k)
+      → (c : IsAt m (stands_on w.clocks a) (length w.clocks) w.steps was me.u i)
+      → IsWrite m (stands_on w.clocks a) (length w.clocks) w.steps was me.u i c d (value.Number n) kind.Number (looks w.clocks a) (length w.clocks)
+  number_written i d n rows c = record { rows = rows; becomes = refl; more = omega arith; same = λ k h. refl; fresh = λ k e. absurd (grind arith); holds = λ k h. inl h }
+
+  -- an instruction that writes a number to slot d, and goes on
+  put_number : (i : Instr) → Here i → (d : ℕ) (n : ℤ) → Has (slots_named i) d → is_ret i ≡ false → Has (successors i was.frame.place) (was.frame.place + 1)
+      → steps_weight i ≡ 1 → clocks_weight i ≡ 0 → unit_started i ≡ None
+      → ((s : ℕ) (k : Kind) → Allowed (after m me.u i s k) → IsWritten (after m me.u i s k) d kind.Number s k)
+      → GoesOn me.u i was (onward (with_slots was (set was.frame.slots d (value.Number n))))
+      → Moves m (put_in (slice_get was.frame.slots d) was d (value.Number n) (λ next. done w a next none event.Local))
+  put_number i here d n named other on one zero' alone rows goes =
+      let c = at_it i here in
+      let old = slot_there m (stands_on w.clocks a) (length w.clocks) w.steps was me.u i c d named in
+      put_moves m (slice_get was.frame.slots d) old.0 was d (value.Number n) (λ next. done w a next none event.Local) old.1
+      (local_moves i here (onward (with_slots was (set was.frame.slots d (value.Number n)))) one zero' alone refl refl goes
+      (writing m (stands_on w.clocks a) (length w.clocks) w.steps was me.u i c d old.0 (value.Number n) kind.Number (looks w.clocks a) (length w.clocks) old.1 other on
+      (number_written i d n rows c)) event.Local)
+
+  -- all slots but the one written stay
+  others_stay : (d : ℕ) (v : Value) (s : ℕ) → (Some d ≡ Some s → ⊥) → slice_get (set was.frame.slots d v) s ≡ slice_get was.frame.slots s
+  others_stay d v s differs = get-set_other was.frame.slots d s v (λ e. differs (ap (λ z. Some z) (sym e)))
 
   -- `lit`
   lit_moves : (d : ℕ) (n : ℤ) → Here (instr.Lit d n) → Moves m (carried_out m w a was (instr.Lit d n))
-  lit_moves d n here =
-      let i = instr.Lit d n in
-      let c = at_it i here in
-      let old = slot_there m (stands_on w.clocks a) (length w.clocks) w.steps was me.u i c d (inl refl) in
-      put_moves m (slice_get was.frame.slots d) old.0 was d (value.Number n) (λ next. done w a next none event.Local) old.1
-      (local_moves i here (onward (with_slots was (set was.frame.slots d (value.Number n)))) refl refl refl refl refl refl
-      (writing m (stands_on w.clocks a) (length w.clocks) w.steps was me.u i c d old.0 (value.Number n) kind.Number (looks w.clocks a) (length w.clocks) old.1 refl (inl refl)
-      (record { rows = writes_row d kind.Number; becomes = refl; more = omega arith; same = λ k h. refl; fresh = λ k e. absurd (grind arith); holds = λ k h. inl h }))
-      event.Local)
+  lit_moves d n here = put_number (instr.Lit d n) here d n (inl refl) refl (inl refl) refl refl refl (writes_row d kind.Number) (refl, others_stay d (value.Number n))
 
-  -- what stands in a slot that a row reads is a number
-  is_number : (i : Instr) → Here i → (x : ℕ) → Has (slots_named i) x → ((k : Kind) → Allowed (after m me.u i x k) → k ≡ kind.Number)
-      → (go : ℤ → Outcome) → ((n : ℤ) → Moves m (go n)) → Moves m (number_in (slice_get was.frame.slots x) go)
-  is_number i here x named reads_it go h =
-      let c = at_it i here in
-      let v = slot_there m (stands_on w.clocks a) (length w.clocks) w.steps was me.u i c x named in
-      number_moves m (stands_on w.clocks a) (slice_get was.frame.slots x) v.0 go v.1
-      (reads_it (kind_of (looks w.clocks a) v.0) (row_allowed m (stands_on w.clocks a) (length w.clocks) w.steps was me.u i c x v.0 v.1)) h
+  -- `copy`
+  copy_moves : (d x : ℕ) → Here (instr.Copy d x) → Moves m (carried_out m w a was (instr.Copy d x))
+  copy_moves d x here =
+      let i = instr.Copy d x in
+      is_number i here x (named_inside i here x (inr (inl refl))) (λ k h. (reads_row x x k (writes d kind.Number x k) h).0 refl) _
+      (λ n e. put_number i here d n (inl refl) refl (inl refl) refl refl refl (λ s k h. (copy_parts d x s k h).1) (refl, others_stay d (value.Number n)))
 
-  -- `add`
-  add_moves : (d x y : ℕ) → Here (instr.Add d x y) → Moves m (carried_out m w a was (instr.Add d x y))
-  add_moves d x y here =
-      let i = instr.Add d x y in
-      let c = at_it i here in
-      let old = slot_there m (stands_on w.clocks a) (length w.clocks) w.steps was me.u i c d (inl refl) in
-      is_number i here x (inr (inl refl)) (λ k h. (add_parts d x y x k h).0 refl) _ (λ p.
-      is_number i here y (inr (inr (inl refl))) (λ k h. (add_parts d x y y k h).1 refl) _ (λ q.
-      put_moves m (slice_get was.frame.slots d) old.0 was d (value.Number (int_wrapping_add w64 p q)) (λ next. done w a next none event.Local) old.1
-      (local_moves i here (onward (with_slots was (set was.frame.slots d (value.Number (int_wrapping_add w64 p q))))) refl refl refl refl refl refl
-      (writing m (stands_on w.clocks a) (length w.clocks) w.steps was me.u i c d old.0 (value.Number (int_wrapping_add w64 p q)) kind.Number (looks w.clocks a) (length w.clocks) old.1 refl (inl refl)
-      (record { rows = λ s k h. (add_parts d x y s k h).2; becomes = refl; more = omega arith; same = λ k h. refl; fresh = λ k e. absurd (grind arith); holds = λ k h. inl h }))
-      event.Local)))
+  -- `add`, `sub`, `mul`
+  computing_moves : (i : Instr) → Here i → (f : ℤ → ℤ → ℤ) (d x y : ℕ) → slots_named i ≡ d ∷ x ∷ y ∷ [] → slot_written i ≡ Some d → is_ret i ≡ false
+      → Has (successors i was.frame.place) (was.frame.place + 1) → steps_weight i ≡ 1 → clocks_weight i ≡ 0 → unit_started i ≡ None
+      → ((s : ℕ) (k : Kind) → after m me.u i s k ≡ reads x s k (reads y s k (writes d kind.Number s k)))
+      → ((n : ℤ) → GoesOn me.u i was (onward (with_slots was (set was.frame.slots d (value.Number n)))))
+      → Moves m (computing w a was f d x y)
+  computing_moves i here f d x y named written other on one zero' alone row goes =
+      is_number i here x (named_inside i here x (subst (λ list. Has list x) (sym named) (inr (inl refl)))) (λ k h. (add_parts d x y x k (subst Allowed (row x k) h)).0 refl) _ (λ p e.
+      is_number i here y (named_inside i here y (subst (λ list. Has list y) (sym named) (inr (inr (inl refl))))) (λ k h. (add_parts d x y y k (subst Allowed (row y k) h)).1 refl) _ (λ q g.
+      put_number i here d (f p q) (subst (λ list. Has list d) (sym named) (inl refl)) other on one zero' alone
+      (λ s k h. subst (λ r. IsWritten r d kind.Number s k) (sym (row s k)) (add_parts d x y s k (subst Allowed (row s k) h)).2) (goes (f p q))))
+
+  -- ---- branches and loops
+
+  -- an instruction that changes nothing, and goes to this place
+  only_going : (i : Instr) → Here i → (to : ℕ) → Has (successors i was.frame.place) to → to < length me.u.code → steps_weight i ≡ 1 → clocks_weight i ≡ 0 → unit_started i ≡ None
+      → ((s : ℕ) (k : Kind) → Allowed (after m me.u i s k) → MayBecome (after m me.u i s k) k) → GoesOn me.u i was (going was to) → Moves m (done w a (going was to) none event.Local)
+  only_going i here to on inside one zero' alone rows goes = local_moves i here (going was to) one zero' alone refl refl goes
+      (leaving_to m (stands_on w.clocks a) (length w.clocks) w.steps was me.u i (at_it i here) to on inside rows) event.Local
+
+  -- `unless`
+  unless_moves : (op : Comparison) (x y t : ℕ) → Here (instr.Unless op x y t) → Moves m (carried_out m w a was (instr.Unless op x y t))
+  unless_moves op x y t here =
+      is_number i here x (named_inside i here x (inl refl)) (λ k h. (read_parts x y x k h).0 refl) _ (λ p e.
+      is_number i here y (named_inside i here y (inr (inl refl))) (λ k h. (read_parts x y y k h).1 refl) _ (λ q g. cases (compares op p q)))
+    where
+      i : Instr
+      i = instr.Unless op x y t
+
+      rows : (s : ℕ) (k : Kind) → Allowed (after m me.u i s k) → MayBecome (after m me.u i s k) k
+      rows s k h = subst (λ r. MayBecome r k) (sym (read_parts x y s k h).2) (inl refl)
+
+      cases : (b : Bool) → Moves m (done w a (cond b (onward was) (going was t)) none event.Local)
+      cases true = only_going i here (was.frame.place + 1) (inl refl) (next_inside m (stands_on w.clocks a) (length w.clocks) w.steps was me.u i (at_it i here) refl) refl refl refl rows (refl, inl refl)
+      cases false = only_going i here t (inr (inl refl)) ((at_it i here).fit.loops.ahead i was.frame.place t here refl).1 refl refl refl rows (refl, inr refl)
+
+  -- `jump`
+  jump_moves : (t : ℕ) → Here (instr.Jump t) → Moves m (carried_out m w a was (instr.Jump t))
+  jump_moves t here =
+      let i = instr.Jump t in
+      only_going i here t (inl refl) ((at_it i here).fit.loops.ahead i was.frame.place t here refl).1 refl refl refl (λ s k h. inl refl) (refl, refl)
+
+  -- `for`
+  for_moves : (k : ℕ) (lo hi : ℤ) (e : ℕ) → Here (instr.For k lo hi e) → Moves m (carried_out m w a was (instr.For k lo hi e))
+  for_moves k lo hi e here =
+      let i = instr.For k lo hi e in
+      put_number i here k lo (inl refl) refl (inl refl) refl refl refl (writes_row k kind.Number)
+      (refl, refl, (let h = named_inside i here k (inl refl) in omega (arith, me.frame.slots)))
+
+  -- `next`
+  next_moves : (b : ℕ) → Here (instr.Next b) → Moves m (carried_out m w a was (instr.Next b))
+  next_moves b here = subst (λ o. Moves m (turning w a was b o)) (sym (ap (option_and_then (λ unit. slice_get unit.code b)) me.unit ∙ begins))
+      (is_number i here k (fit.slots (instr.For k lo hi at) b k begins (inl refl)) (λ kd h. (reads_row k k kd (becomes kd) (subst Allowed (row k kd) h)).0 refl) _
+      (λ n holds. cases n holds (int_lt n hi) refl))
+    where
+      i : Instr
+      i = instr.Next b
+
+      at : ℕ
+      at = was.frame.place
+
+      fit : IsFit me.u
+      fit = (at_it i here).fit
+
+      loop : (l : Loop) × (slice_get me.u.code b ≡ Some (instr.For l.slot l.lo l.hi at)) × (b < at)
+      loop = fit.loops.ended at b here
+
+      k : ℕ
+      k = loop.0.slot
+
+      lo : ℤ
+      lo = loop.0.lo
+
+      hi : ℤ
+      hi = loop.0.hi
+
+      begins : slice_get me.u.code b ≡ Some (instr.For k lo hi at)
+      begins = loop.1
+
+      row : (s : ℕ) (kd : Kind) → after m me.u i s kd ≡ reads k s kd (becomes kd)
+      row s kd = ap (λ o. may_read (loop_slot o) s kd (becomes kd)) begins
+
+      rows : (s : ℕ) (kd : Kind) → Allowed (after m me.u i s kd) → after m me.u i s kd ≡ becomes kd
+      rows s kd h = row s kd ∙ (reads_row k s kd (becomes kd) (subst Allowed (row s kd) h)).1
+
+      written : (s : ℕ) (kd : Kind) → Allowed (after m me.u i s kd) → IsWritten (after m me.u i s kd) k kind.Number s kd
+      written s kd h =
+          let number : s ≡ k → kd ≡ kind.Number = (reads_row k s kd (becomes kd) (subst Allowed (row s kd) h)).0 in
+          record {
+            here = λ e. (ap is_held (number e), subst (λ r. MayBecome r kind.Number) (sym (rows s kd h)) (inl (number e)));
+            other = λ differs. subst (λ r. MayBecome r kd) (sym (rows s kd h)) (inl refl);
+          }
+
+      cases : (n : ℤ) → slice_get was.frame.slots k ≡ Some (value.Number n) → (x : Bool) → int_lt n hi ≡ x
+          → Moves m (done w a (cond x (again was b k n) (onward was)) none event.Local)
+      cases n holds true less = local_moves i here (again was b k n) refl refl refl refl refl
+          (k, lo, hi, at, n, begins, holds, inl (less, refl, refl))
+          (writing_to m (stands_on w.clocks a) (length w.clocks) w.steps was me.u i (at_it i here) k (value.Number n) (value.Number (n +ℤ pos 1)) kind.Number (looks w.clocks a) (length w.clocks) (b + 1) holds
+          (inr (inl refl)) (let h = slice_get_within me.u.code at i here in let g = loop.2 in omega arith) (number_written i k (n +ℤ pos 1) written (at_it i here)))
+          event.Local
+      cases n holds false more = only_going i here (at + 1) (inl refl) (next_inside m (stands_on w.clocks a) (length w.clocks) w.steps was me.u i (at_it i here) refl) refl refl refl
+          (λ s kd h. subst (λ r. MayBecome r kd) (sym (rows s kd h)) (inl refl)) (k, lo, hi, at, n, begins, holds, inr (more, refl, refl))
 
   -- `print`
   print_moves : (x : ℕ) → Here (instr.Print x) → Moves m (carried_out m w a was (instr.Print x))
   print_moves x here =
       let i = instr.Print x in
-      is_number i here x (inl refl) (λ k h. (reads_row x x k (becomes k) h).0 refl) _ (λ n.
-      local_moves i here (onward was) refl refl refl refl refl refl
+      is_number i here x (named_inside i here x (inl refl)) (λ k h. (reads_row x x k (becomes k) h).0 refl) _ (λ n e.
+      local_moves i here (onward was) refl refl refl refl refl (refl, λ s differs. refl)
       (leaving m (stands_on w.clocks a) (length w.clocks) w.steps was me.u i (at_it i here) refl (inl refl)
       (λ s k h. subst (λ row. MayBecome row k) (sym (reads_row x s k (becomes k) h).1) (inl refl)))
       (event.Printed n))
@@ -184,18 +319,18 @@ module _ (m : ModuleValue) (ok : IsAccepted m) (w : World) (a : ℕ) (was : Acti
       }) in
       put_moves m (slice_get was.frame.slots d) old.0 was d (value.Clock count) (λ x. made w a x) old.1
       (made_sound m w a was act sound found
-      (record { next = next; running = running; same_status = refl; same_since = refl; paid = paid_on m was act me.u i me.unit refl running running refl here refl refl }))
+      (record { next = next; running = running; same_status = refl; same_since = refl; paid = paid_on m me.u i was act (taken i here act refl) running (refl, others_stay d (value.Clock count)) refl refl }))
 
   -- an instruction that changes where the activity stands on the clock in slot x
   use_moves : (i : Instr) → Here i → (x : ℕ) (kd : Kind) (f : Standing → Standing) (e : Event) → Has (slots_named i) x → is_ret i ≡ false → Has (successors i was.frame.place) (was.frame.place + 1)
-      → steps_weight i ≡ 1 → clocks_weight i ≡ 0 → unit_started i ≡ None
+      → steps_weight i ≡ 1 → clocks_weight i ≡ 0 → unit_started i ≡ None → GoesOn me.u i was (onward was)
       → ((s : ℕ) (old : Kind) → Allowed (after m me.u i s old) → IsUsed (after m me.u i s old) x kd s old)
       → ((s : Standing) → is_held (kind_by s) ≡ true → kind_by (f s) ≡ kd)
       → ((s : Standing) → is_held (kind_by (f s)) ≡ true → is_held (kind_by s) ≡ true)
       → f standing.Apart ≡ standing.Apart
       → ((st : Status) (since last now : ℕ) (s : Standing) → since < now → is_ended st ≡ false → Stands st since last s → StandsNear st since last now (f s))
       → Moves m (clock_in w a (slice_get was.frame.slots x) (λ c. done w a (onward was) (only c f) e))
-  use_moves i here x kd f e named other on one zero' alone rows becomes keeps apart near =
+  use_moves i here x kd f e named other on one zero' alone goes rows becomes keeps apart near =
       let c = at_it i here in
       let v = slot_there m (stands_on w.clocks a) (length w.clocks) w.steps was me.u i c x named in
       clock_moves m w a (slice_get was.frame.slots x) v.0 (λ k. done w a (onward was) (only k f) e) v.1
@@ -205,17 +340,17 @@ module _ (m : ModuleValue) (ok : IsAccepted m) (w : World) (a : ℕ) (was : Acti
         apart = λ j. only_apart k j f apart;
         stands = λ j d at. only_near was.status was.since d.last (w.steps + 1) k j f (standing_of d a) (kept j d at)
             (near was.status was.since d.last (w.steps + 1) (standing_of d a) (let h = me.since in omega arith) (ap is_ended running) ((sound.clocks j d at).stands a was found));
-        paid = rw zero' at (paid_on m was (onward was) me.u i me.unit refl running running refl here one alone);
+        paid = rw zero' at (paid_on m me.u i was (onward was) (taken i here (onward was) refl) running goes one alone);
       }))
 
   -- `resume`
   resume_moves : (x : ℕ) → Here (instr.Resume x) → Moves m (carried_out m w a was (instr.Resume x))
-  resume_moves x here = use_moves (instr.Resume x) here x kind.Resumed resumed event.Resumed (inl refl) refl (inl refl) refl refl refl
+  resume_moves x here = use_moves (instr.Resume x) here x kind.Resumed resumed event.Resumed (inl refl) refl (inl refl) refl refl refl (refl, λ s differs. refl)
       (uses_row x kind.Resumed) resumed_kind resumed_held refl (λ st since last now s before e h. resumed_near st st since last now s before e h)
 
   -- `drop`
   drop_moves : (x : ℕ) → Here (instr.Drop x) → Moves m (carried_out m w a was (instr.Drop x))
-  drop_moves x here = use_moves (instr.Drop x) here x kind.Out dropped event.Dropped (inl refl) refl (inl refl) refl refl refl
+  drop_moves x here = use_moves (instr.Drop x) here x kind.Out dropped event.Dropped (inl refl) refl (inl refl) refl refl refl (refl, λ s differs. refl)
       (uses_row x kind.Out) (λ s h. refl) (λ s h. absurd (false≢true h)) refl (λ st since last now s before e h. dropped_near st since last now)
 
   -- the first half of `advance`
@@ -224,7 +359,7 @@ module _ (m : ModuleValue) (ok : IsAccepted m) (w : World) (a : ℕ) (was : Acti
     next = arriving m (stands_on w.clocks a) (length w.clocks) w.steps was me.u (at_it instr.Advance here);
     apart = λ k. refl;
     stands = λ k c at. resumed_near was.status status.Arrived was.since c.last (w.steps + 1) (standing_of c a) (let h = me.since in omega arith) refl ((sound.clocks k c at).stands a was found);
-    paid = paid_arrive m was (arrived was) me.u me.unit refl running refl refl here;
+    paid = paid_arrive m me.u instr.Advance was (arrived was) (taken instr.Advance here (arrived was) refl) refl refl refl refl;
   })
 
   -- `ret`
@@ -233,7 +368,7 @@ module _ (m : ModuleValue) (ok : IsAccepted m) (w : World) (a : ℕ) (was : Acti
     next = ending m (stands_on w.clocks a) (length w.clocks) w.steps was me.u (at_it instr.Ret here);
     apart = λ k. refl;
     stands = λ k c at. dropped_near status.Ended was.since c.last (w.steps + 1);
-    paid = paid_end m was (ended was) me.u me.unit refl running refl refl here;
+    paid = paid_end m me.u instr.Ret was (ended was) (taken instr.Ret here (ended was) refl) refl refl;
   })
 
   -- `spawn`, with values that are given
@@ -250,7 +385,7 @@ module _ (m : ModuleValue) (ok : IsAccepted m) (w : World) (a : ℕ) (was : Acti
         same_since = refl;
         new_status = sym running;
         new_since = refl;
-        shared = paid_start m was (onward was) new me.u t args me.unit refl running running refl here
+        shared = paid_start m me.u i was (onward was) (taken i here (onward was) refl) new t running (refl, λ z differs. refl) refl refl refl
             (λ weight half. owed_first weight half m ok.shape new s.v s.found refl refl);
       })
 
@@ -270,7 +405,14 @@ module _ (m : ModuleValue) (ok : IsAccepted m) (w : World) (a : ℕ) (was : Acti
   -- every instruction is a step
   instruction_moves : (i : Instr) → Here i → Moves m (carried_out m w a was i)
   instruction_moves (instr.Lit d n) here = lit_moves d n here
-  instruction_moves (instr.Add d x y) here = add_moves d x y here
+  instruction_moves (instr.Copy d x) here = copy_moves d x here
+  instruction_moves (instr.Add d x y) here = computing_moves (instr.Add d x y) here (int_wrapping_add w64) d x y refl refl refl (inl refl) refl refl refl (λ s k. refl) (λ n. (refl, others_stay d (value.Number n)))
+  instruction_moves (instr.Sub d x y) here = computing_moves (instr.Sub d x y) here (int_wrapping_sub w64) d x y refl refl refl (inl refl) refl refl refl (λ s k. refl) (λ n. (refl, others_stay d (value.Number n)))
+  instruction_moves (instr.Mul d x y) here = computing_moves (instr.Mul d x y) here (int_wrapping_mul w64) d x y refl refl refl (inl refl) refl refl refl (λ s k. refl) (λ n. (refl, others_stay d (value.Number n)))
+  instruction_moves (instr.Unless op x y t) here = unless_moves op x y t here
+  instruction_moves (instr.Jump t) here = jump_moves t here
+  instruction_moves (instr.For k lo hi e) here = for_moves k lo hi e here
+  instruction_moves (instr.Next b) here = next_moves b here
   instruction_moves (instr.Print x) here = print_moves x here
   instruction_moves (instr.Make d) here = make_moves d here
   instruction_moves (instr.Resume x) here = resume_moves x here

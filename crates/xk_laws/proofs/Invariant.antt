@@ -1,5 +1,5 @@
 -- The invariant of worlds: what holds in each world that a legal schedule of an accepted module leads to.
-use Rattle.std.specs.Prelude.{◌≡◌, ℕ, ◌+◌, ◌<◌, ◌≤◌, Bool, true, false, List, [], length, drop, Some, slice_get, sum_by}
+use Rattle.std.specs.Prelude.{◌≡◌, ℕ, ◌+◌, ◌<◌, ◌≤◌, Bool, true, false, List, [], length, Some, slice_get, sum_by}
 use Rattle.std.specs.Option.{option_map_or}
 use Rattle.xk_types.specs.declared.instr.Instr.{Instr}
 use Rattle.xk_types.specs.declared.instr.Instr.TheVariants as instr
@@ -16,6 +16,7 @@ use Rattle.xk_types.specs.World.{Frame, Activity, Clock, World, root, standing_o
 use Rattle.xk_types.specs.Step.{is_ready}
 use Rattle.xk_types.specs.Schedule.{is_ended}
 use Rattle.xk_types.specs.Walk.{IsVisited, awake}
+use Rattle.xk_laws.proofs.Turns.{due}
 use Rattle.xk_types.specs.Bound.{steps_weight, activities_weight, clocks_weight, total, steps_bound, activities_bound, clocks_bound}
 
 -- something holds of each element, under its number
@@ -110,19 +111,16 @@ pub record IsActivitySound (m : ModuleValue) (look : ℕ → Kind) (clocks now :
 abbrev pub with_started : (Instr → ℕ) → ModuleValue → Instr → ℕ
 with_started weight m i = weight i + option_map_or (total weight m) (unit_started i) 0
 
--- the weight of the instructions from a place on
-abbrev pub from_on : (Instr → ℕ) → UnitValue → ℕ → ℕ
-from_on weight u at = sum_by weight (drop at u.code)
-
--- What an activity has still to pay, by its status; one that has arrived owes `half` of its `advance`.
-abbrev pub owed_by : (Instr → ℕ) → ℕ → UnitValue → ℕ → Status → ℕ
-owed_by weight half u at status.Running = from_on weight u at
-owed_by weight half u at status.Arrived = half + from_on weight u (at + 1)
-owed_by weight half u at status.Ended = 0
+-- What an activity has still to pay, by its place, slots and status; one that has arrived owes `half` of its `advance`.
+abbrev pub owed_by : (Instr → ℕ) → ℕ → UnitValue → ℕ → List Value → Status → ℕ
+owed_by weight half u at slots status.Running = due weight u at slots
+owed_by weight half u at slots status.Arrived = half + due weight u (at + 1) slots
+owed_by weight half u at slots status.Ended = 0
 
 -- what an activity has still to pay, with all that it will start
 abbrev pub owed : (Instr → ℕ) → ℕ → ModuleValue → Activity → ℕ
-owed weight half m act = option_map_or (λ u. owed_by (with_started weight m) half u act.frame.place act.status) (slice_get m.units act.frame.unit) 0
+owed weight half m act =
+    option_map_or (λ u. owed_by (with_started weight m) half u act.frame.place act.frame.slots act.status) (slice_get m.units act.frame.unit) 0
 
 -- what all activities owe
 abbrev pub owing : (Instr → ℕ) → ℕ → ModuleValue → List Activity → ℕ

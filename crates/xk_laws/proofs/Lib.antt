@@ -1,3 +1,5 @@
+pub mod Loops
+pub mod Turns
 pub mod Invariant
 pub mod Lists
 pub mod Standings

@@ -1,8 +1,7 @@
 -- What activities owe: it falls with each step.
-use Rattle.std.proofs.Common.{◌≡◌, ℕ, suc, ◌+◌, ◌≤◌, List, drop, set, sum_by, Some, None, sym, ap, ◌∙◌, arith, add-one}
+use Rattle.std.proofs.Common.{◌≡◌, ℕ, ◌+◌, ◌≤◌, List, set, Some, None, refl, sym, ap, ◌∙◌, subst, arith}
 use Rattle.std.specs.Prelude.{slice_get}
 use Rattle.std.specs.Option.{option_map_or}
-use Rattle.std.proofs.lemmas.List.Sums.{sum_by-cons}
 use Rattle.xk_types.specs.declared.instr.Instr.{Instr}
 use Rattle.xk_types.specs.declared.instr.Instr.TheVariants as instr
 use Rattle.xk_types.specs.declared.names.Status.{Status}
@@ -11,15 +10,11 @@ use Rattle.xk_types.specs.Code.{UnitValue, ModuleValue, unit_started}
 use Rattle.xk_types.specs.World.{Activity}
 use Rattle.xk_types.specs.Shape.{HasShape}
 use Rattle.xk_types.specs.Bound.{steps_weight, activities_weight, clocks_weight, total}
-use Rattle.xk_laws.proofs.Invariant.{with_started, from_on, owed_by, owed, owing}
-use Rattle.xk_laws.proofs.Lists.{drop_from, sum_set}
+use Rattle.xk_laws.proofs.Turns.{due, Goes, due_start, due_step, due_end}
+use Rattle.xk_laws.proofs.Invariant.{with_started, owed_by, owed, owing}
+use Rattle.xk_laws.proofs.Fits.{IsFit, unit_fits}
+use Rattle.xk_laws.proofs.Lists.{sum_set}
 use Rattle.xk_laws.proofs.Totals.{total_sum}
-
--- the instruction at a place, and those behind it
-pub from_next : (weight : Instr → ℕ) (u : UnitValue) (at : ℕ) (i : Instr) → slice_get u.code at ≡ Some i
-    → from_on weight u at ≡ weight i + from_on weight u (at + 1)
-from_next weight u at i here =
-    ap (sum_by weight) (drop_from u.code at i here) ∙ sum_by-cons weight i (drop (suc at) u.code) ∙ ap (λ n. weight i + from_on weight u n) (sym (add-one at))
 
 -- an instruction that starts nothing
 alone : (weight : Instr → ℕ) (m : ModuleValue) (i : Instr) → unit_started i ≡ None → with_started weight m i ≡ weight i
@@ -27,14 +22,16 @@ alone weight m i e = let h = ap (λ o. option_map_or (total weight m) o 0) e in 
 
 -- an activity's debt, by its unit
 pub owed_at : (weight : Instr → ℕ) (half : ℕ) (m : ModuleValue) (act : Activity) (u : UnitValue) → slice_get m.units act.frame.unit ≡ Some u
-    → owed weight half m act ≡ owed_by (with_started weight m) half u act.frame.place act.status
-owed_at weight half m act u found = ap (λ o. option_map_or (λ x. owed_by (with_started weight m) half x act.frame.place act.status) o 0) found
+    → owed weight half m act ≡ owed_by (with_started weight m) half u act.frame.place act.frame.slots act.status
+owed_at weight half m act u found = ap (λ o. option_map_or (λ x. owed_by (with_started weight m) half x act.frame.place act.frame.slots act.status) o 0) found
 
 -- an activity's debt before its first step
 pub owed_first : (weight : Instr → ℕ) (half : ℕ) (m : ModuleValue) → HasShape m → (act : Activity) (u : UnitValue) → slice_get m.units act.frame.unit ≡ Some u
     → act.status ≡ status.Running → act.frame.place ≡ 0 → owed weight half m act ≡ total weight m act.frame.unit
 owed_first weight half m shape act u found running first =
-    owed_at weight half m act u found ∙ ap (owed_by (with_started weight m) half u act.frame.place) running ∙ ap (from_on (with_started weight m) u) first
+    owed_at weight half m act u found ∙ ap (owed_by (with_started weight m) half u act.frame.place act.frame.slots) running
+    ∙ ap (λ n. due (with_started weight m) u n act.frame.slots) first
+    ∙ due_start u (unit_fits m shape act.frame.unit u found).loops (with_started weight m) act.frame.slots
     ∙ sym (total_sum weight m shape act.frame.unit u found)
 
 -- what a step takes off its activity's debts: a step, and so many clocks
@@ -54,75 +51,101 @@ pub owing_set : (weight : Instr → ℕ) (half : ℕ) (m : ModuleValue) (activit
     → owing weight half m (set activities a act) + owed weight half m was ≡ owing weight half m activities + owed weight half m act
 owing_set weight half m activities a was act found = sum_set (owed weight half m) activities a was act found
 
--- from debts by status to debts
-paid : (m : ModuleValue) (was act : Activity) (u : UnitValue) (clocks : ℕ) (st new : Status) (to : ℕ) → slice_get m.units was.frame.unit ≡ Some u → act.frame.unit ≡ was.frame.unit
-    → was.status ≡ st → act.status ≡ new → act.frame.place ≡ to
-    → owed_by (with_started steps_weight m) 1 u to new + 1 ≤ owed_by (with_started steps_weight m) 1 u was.frame.place st
-    → owed_by (with_started activities_weight m) 0 u to new ≤ owed_by (with_started activities_weight m) 0 u was.frame.place st
-    → owed_by (with_started clocks_weight m) 0 u to new + clocks ≤ owed_by (with_started clocks_weight m) 0 u was.frame.place st
-    → IsPaid m was act clocks
-paid m was act u clocks st new to found same e f g p q r = record {
-  steps = rw (before steps_weight 1, behind steps_weight 1) p;
-  started = rw (before activities_weight 0, behind activities_weight 0) q;
-  made = rw (before clocks_weight 0, behind clocks_weight 0) r;
-}
-  where
-    before : (weight : Instr → ℕ) (half : ℕ) → owed weight half m was ≡ owed_by (with_started weight m) half u was.frame.place st
-    before weight half = owed_at weight half m was u found ∙ ap (owed_by (with_started weight m) half u was.frame.place) e
+-- what an activity of unit u owes, by its status
+record IsOf (m : ModuleValue) (u : UnitValue) (act : Activity) (st : Status) : Type 0 where
+  found : slice_get m.units act.frame.unit ≡ Some u
+  status : act.status ≡ st
 
-    behind : (weight : Instr → ℕ) (half : ℕ) → owed weight half m act ≡ owed_by (with_started weight m) half u to new
-    behind weight half = owed_at weight half m act u (ap (slice_get m.units) same ∙ found) ∙ ap (owed_by (with_started weight m) half u act.frame.place) f ∙ ap (λ n. owed_by (with_started weight m) half u n new) g
+debt : (weight : Instr → ℕ) (half : ℕ) (m : ModuleValue) (u : UnitValue) (act : Activity) (st : Status) → IsOf m u act st
+    → owed weight half m act ≡ owed_by (with_started weight m) half u act.frame.place act.frame.slots st
+debt weight half m u act st is = owed_at weight half m act u is.found ∙ ap (owed_by (with_started weight m) half u act.frame.place act.frame.slots) is.status
 
--- an instruction of one step that starts nothing
-pub paid_on : (m : ModuleValue) (was act : Activity) (u : UnitValue) (i : Instr) → slice_get m.units was.frame.unit ≡ Some u → act.frame.unit ≡ was.frame.unit
-    → was.status ≡ status.Running → act.status ≡ status.Running → act.frame.place ≡ was.frame.place + 1
-    → slice_get u.code was.frame.place ≡ Some i → steps_weight i ≡ 1 → unit_started i ≡ None → IsPaid m was act (clocks_weight i)
-paid_on m was act u i found same e f g here one starts =
-    let at = was.frame.place in
-    paid m was act u (clocks_weight i) status.Running status.Running (at + 1) found same e f g
-    (omega (arith, from_next (with_started steps_weight m) u at i here, alone steps_weight m i starts))
-    (omega (arith, from_next (with_started activities_weight m) u at i here))
-    (omega (arith, from_next (with_started clocks_weight m) u at i here, alone clocks_weight m i starts))
+-- an instruction that a running activity carries out, and goes on
+abbrev pub GoesOn : UnitValue → Instr → Activity → Activity → Type 0
+GoesOn u i was act = Goes u i was.frame.place was.frame.slots act.frame.place act.frame.slots
 
--- the first half of an `advance`
-pub paid_arrive : (m : ModuleValue) (was act : Activity) (u : UnitValue) → slice_get m.units was.frame.unit ≡ Some u → act.frame.unit ≡ was.frame.unit
-    → was.status ≡ status.Running → act.status ≡ status.Arrived → act.frame.place ≡ was.frame.place
-    → slice_get u.code was.frame.place ≡ Some instr.Advance → IsPaid m was act 0
-paid_arrive m was act u found same e f g here =
-    let at = was.frame.place in
-    paid m was act u 0 status.Running status.Arrived at found same e f g
-    (omega (arith, from_next (with_started steps_weight m) u at instr.Advance here))
-    (omega (arith, from_next (with_started activities_weight m) u at instr.Advance here))
-    (omega (arith, from_next (with_started clocks_weight m) u at instr.Advance here))
+-- a running activity of unit u carries out instruction i, and is `act` afterwards
+pub record IsTaken (m : ModuleValue) (u : UnitValue) (i : Instr) (was act : Activity) : Type 0 where
+  pub fit : IsFit u
+  pub found : slice_get m.units was.frame.unit ≡ Some u
+  pub same : act.frame.unit ≡ was.frame.unit
+  pub running : was.status ≡ status.Running
+  pub here : slice_get u.code was.frame.place ≡ Some i
 
--- the second
+module _ (m : ModuleValue) (u : UnitValue) (i : Instr) (was act : Activity) (t : IsTaken m u i was act) where
+  -- the debts before
+  before : (weight : Instr → ℕ) (half : ℕ) → owed weight half m was ≡ due (with_started weight m) u was.frame.place was.frame.slots
+  before weight half = debt weight half m u was status.Running (record { found = t.found; status = t.running })
+
+  -- and behind
+  behind : (weight : Instr → ℕ) (half : ℕ) (st : Status) → act.status ≡ st
+      → owed weight half m act ≡ owed_by (with_started weight m) half u act.frame.place act.frame.slots st
+  behind weight half st e = debt weight half m u act st (record { found = ap (slice_get m.units) t.same ∙ t.found; status = e })
+
+  -- the debts fall by all that the instruction weighs
+  falls : (weight : Instr → ℕ) (half : ℕ) → act.status ≡ status.Running → GoesOn u i was act → owed weight half m act + with_started weight m i ≤ owed weight half m was
+  falls weight half e goes =
+      let h = due_step u t.fit.loops (with_started weight m) i was.frame.place act.frame.place was.frame.slots act.frame.slots t.here goes in
+      omega (arith, before weight half, behind weight half status.Running e)
+
+  -- an instruction of one step that starts nothing
+  pub paid_on : act.status ≡ status.Running → GoesOn u i was act → steps_weight i ≡ 1 → unit_started i ≡ None → IsPaid m was act (clocks_weight i)
+  paid_on e goes one starts = record {
+    steps = omega (arith, falls steps_weight 1 e goes, alone steps_weight m i starts);
+    started = omega (arith, falls activities_weight 0 e goes);
+    made = omega (arith, falls clocks_weight 0 e goes, alone clocks_weight m i starts);
+  }
+
+  -- a start, of an activity that owes all that its unit weighs
+  pub paid_start : (new : Activity) (unit : ℕ) → act.status ≡ status.Running → GoesOn u i was act → steps_weight i ≡ 1 → activities_weight i ≡ 1 → unit_started i ≡ Some unit
+      → ((weight : Instr → ℕ) (half : ℕ) → owed weight half m new ≡ total weight m unit) → IsShared m was act new
+  paid_start new unit e goes one starts is owes = record {
+    steps = omega (arith, falls steps_weight 1 e goes, owes steps_weight 1, all steps_weight);
+    started = omega (arith, falls activities_weight 0 e goes, owes activities_weight 0, all activities_weight);
+    made = omega (arith, falls clocks_weight 0 e goes, owes clocks_weight 0, all clocks_weight);
+  }
+    where
+      all : (weight : Instr → ℕ) → with_started weight m i ≡ weight i + total weight m unit
+      all weight = ap (λ o. weight i + option_map_or (total weight m) o 0) is
+
+  -- the first half of an `advance`
+  pub paid_arrive : act.status ≡ status.Arrived → act.frame.place ≡ was.frame.place → act.frame.slots ≡ was.frame.slots → i ≡ instr.Advance → IsPaid m was act 0
+  paid_arrive e at slots is = record {
+    steps = omega (arith, half_falls steps_weight 1, ap steps_weight is);
+    started = omega (arith, half_falls activities_weight 0);
+    made = omega (arith, half_falls clocks_weight 0);
+  }
+    where
+      goes : Goes u i was.frame.place was.frame.slots (was.frame.place + 1) was.frame.slots
+      goes = subst (λ x. Goes u x was.frame.place was.frame.slots (was.frame.place + 1) was.frame.slots) (sym is) (refl, λ s differs. refl)
+
+      half_falls : (weight : Instr → ℕ) (half : ℕ) → owed weight half m act + weight i ≤ owed weight half m was + half
+      half_falls weight half =
+          let h = due_step u t.fit.loops (with_started weight m) i was.frame.place (was.frame.place + 1) was.frame.slots was.frame.slots t.here goes in
+          let same : due (with_started weight m) u (act.frame.place + 1) act.frame.slots ≡ due (with_started weight m) u (was.frame.place + 1) was.frame.slots =
+              ap (λ n. due (with_started weight m) u (n + 1) act.frame.slots) at ∙ ap (due (with_started weight m) u (was.frame.place + 1)) slots in
+          omega (arith, before weight half, behind weight half status.Arrived e)
+
+  -- the end
+  pub paid_end : act.status ≡ status.Ended → steps_weight i ≡ 1 → IsPaid m was act 0
+  paid_end e one = record {
+    steps = (let h = due_end u (with_started steps_weight m) i was.frame.place was.frame.slots t.here in omega (arith, before steps_weight 1, behind steps_weight 1 status.Ended e));
+    started = omega (arith, behind activities_weight 0 status.Ended e);
+    made = omega (arith, behind clocks_weight 0 status.Ended e);
+  }
+
+-- the second half of an `advance`
 pub paid_pass : (m : ModuleValue) (was act : Activity) (u : UnitValue) → slice_get m.units was.frame.unit ≡ Some u → act.frame.unit ≡ was.frame.unit
-    → was.status ≡ status.Arrived → act.status ≡ status.Running → act.frame.place ≡ was.frame.place + 1 → IsPaid m was act 0
-paid_pass m was act u found same e f g =
-    paid m was act u 0 status.Arrived status.Running (was.frame.place + 1) found same e f g (omega arith) (omega arith) (omega arith)
-
--- the end
-pub paid_end : (m : ModuleValue) (was act : Activity) (u : UnitValue) → slice_get m.units was.frame.unit ≡ Some u → act.frame.unit ≡ was.frame.unit
-    → was.status ≡ status.Running → act.status ≡ status.Ended → act.frame.place ≡ was.frame.place
-    → slice_get u.code was.frame.place ≡ Some instr.Ret → IsPaid m was act 0
-paid_end m was act u found same e f g here =
-    let at = was.frame.place in
-    paid m was act u 0 status.Running status.Ended at found same e f g
-    (omega (arith, from_next (with_started steps_weight m) u at instr.Ret here)) (omega arith) (omega arith)
-
--- a `spawn`, of an activity that owes all that its unit weighs
-pub paid_start : (m : ModuleValue) (was act new : Activity) (u : UnitValue) (t : ℕ) (args : List ℕ) → slice_get m.units was.frame.unit ≡ Some u → act.frame.unit ≡ was.frame.unit
-    → was.status ≡ status.Running → act.status ≡ status.Running → act.frame.place ≡ was.frame.place + 1
-    → slice_get u.code was.frame.place ≡ Some (instr.Spawn t args)
-    → ((weight : Instr → ℕ) (half : ℕ) → owed weight half m new ≡ total weight m t) → IsShared m was act new
-paid_start m was act new u t args found same e f g here debt = record {
-  steps = omega (arith, falls steps_weight 1, debt steps_weight 1);
-  started = omega (arith, falls activities_weight 0, debt activities_weight 0);
-  made = omega (arith, falls clocks_weight 0, debt clocks_weight 0);
+    → was.status ≡ status.Arrived → act.status ≡ status.Running → act.frame.place ≡ was.frame.place + 1 → act.frame.slots ≡ was.frame.slots → IsPaid m was act 0
+paid_pass m was act u found same e f at slots = record {
+  steps = omega (arith, before steps_weight 1, behind steps_weight 1);
+  started = omega (arith, before activities_weight 0, behind activities_weight 0);
+  made = omega (arith, before clocks_weight 0, behind clocks_weight 0);
 }
   where
-    falls : (weight : Instr → ℕ) (half : ℕ) → owed weight half m was ≡ weight (instr.Spawn t args) + total weight m t + owed weight half m act
-    falls weight half =
-        let before = owed_at weight half m was u found ∙ ap (owed_by (with_started weight m) half u was.frame.place) e in
-        let behind = owed_at weight half m act u (ap (slice_get m.units) same ∙ found) ∙ ap (owed_by (with_started weight m) half u act.frame.place) f ∙ ap (from_on (with_started weight m) u) g in
-        before ∙ from_next (with_started weight m) u was.frame.place (instr.Spawn t args) here ∙ ap (λ n. weight (instr.Spawn t args) + total weight m t + n) (sym behind)
+    before : (weight : Instr → ℕ) (half : ℕ) → owed weight half m was ≡ half + due (with_started weight m) u (was.frame.place + 1) was.frame.slots
+    before weight half = debt weight half m u was status.Arrived (record { found = found; status = e })
+
+    behind : (weight : Instr → ℕ) (half : ℕ) → owed weight half m act ≡ due (with_started weight m) u (was.frame.place + 1) was.frame.slots
+    behind weight half = debt weight half m u act status.Running (record { found = ap (slice_get m.units) same ∙ found; status = f })
+        ∙ ap (λ n. due (with_started weight m) u n act.frame.slots) at ∙ ap (due (with_started weight m) u (was.frame.place + 1)) slots

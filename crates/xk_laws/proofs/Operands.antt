@@ -13,7 +13,7 @@ use Rattle.xk_types.specs.declared.rules.Kind.TheVariants as kind
 use Rattle.xk_types.specs.Code.{ModuleValue}
 use Rattle.xk_types.specs.Order.{Has}
 use Rattle.xk_types.specs.World.{Activity, Clock, World, standing_of}
-use Rattle.xk_types.specs.Step.{Outcome, Blocked, Wrong, Stepped, ClockUse, onward, with_slots, is_signalled, is_pending, number_in, clock_in, registered_on, put_in, arguments_in}
+use Rattle.xk_types.specs.Step.{Outcome, Blocked, Wrong, Stepped, ClockUse, onward, with_slots, is_registered, number_in, clock_in, registered_on, put_in, arguments_in}
 use Rattle.xk_types.specs.Walk.{becomes, gives}
 use Rattle.xk_laws.proofs.Invariant.{IsSound, stands_on, looks, kind_by, kind_of, is_held}
 use Rattle.xk_laws.proofs.Walks.{Allowed}
@@ -42,13 +42,13 @@ clock_no_number standing.Ahead e = grind arith
 
 -- a slot of a number's kind is read
 pub number_moves : (m : ModuleValue) (stands : ℕ → Standing) (o : Option Value) (v : Value) (go : ℤ → Outcome) → o ≡ Some v
-    → kind_of (λ k. kind_by (stands k)) v ≡ kind.Number → ((n : ℤ) → Moves m (go n)) → Moves m (number_in o go)
-number_moves m stands o v go e is h = subst (λ x. Moves m (number_in x go)) (sym e) (cases v is)
+    → kind_of (λ k. kind_by (stands k)) v ≡ kind.Number → ((n : ℤ) → v ≡ value.Number n → Moves m (go n)) → Moves m (number_in o go)
+number_moves m stands o v go e is h = subst (λ x. Moves m (number_in x go)) (sym e) (cases v is h)
   where
-    cases : (x : Value) → kind_of (λ k. kind_by (stands k)) x ≡ kind.Number → Moves m (number_in (Some x) go)
-    cases value.Unset g = absurd (grind arith)
-    cases (value.Number n) g = h n
-    cases (value.Clock k) g = absurd (clock_no_number (stands k) g)
+    cases : (x : Value) → kind_of (λ k. kind_by (stands k)) x ≡ kind.Number → ((n : ℤ) → x ≡ value.Number n → Moves m (go n)) → Moves m (number_in (Some x) go)
+    cases value.Unset g f = absurd (grind arith)
+    cases (value.Number n) g f = f n refl
+    cases (value.Clock k) g f = absurd (clock_no_number (stands k) g)
 
 -- a clock on which the activity is registered is used
 registered_moves : (m : ModuleValue) (a : ℕ) (o : Option Clock) (go : Outcome) → is_held (kind_by (option_map_or (λ c. standing_of c a) o standing.Apart)) ≡ true
@@ -56,7 +56,7 @@ registered_moves : (m : ModuleValue) (a : ℕ) (o : Option Clock) (go : Outcome)
 registered_moves m a None go held h = absurd (false≢true held)
 registered_moves m a (Some c) go held h = cases (standing_of c a) held
   where
-    cases : (s : Standing) → is_held (kind_by s) ≡ true → Moves m (cond (is_signalled s) go (cond (is_pending s) go (Wrong ClockUse)))
+    cases : (s : Standing) → is_held (kind_by s) ≡ true → Moves m (cond (is_registered s) go (Wrong ClockUse))
     cases standing.Apart g = absurd (false≢true g)
     cases standing.Open g = h
     cases standing.Signalled g = h
@@ -85,7 +85,7 @@ arguments_move m w a act (param.Number ∷ ps) (x ∷ xs) go same there rows h =
     let kd = kind_of (looks w.clocks a) in
     let v = there x (inl refl) in
     number_moves m (stands_on w.clocks a) (slice_get act.frame.slots x) v.0 _ v.1 ((reads_row x x (kd v.0) (gives ps xs x (kd v.0) (becomes (kd v.0))) (rows x v.0 v.1)).0 refl)
-    (λ n. arguments_move m w a act ps xs (λ values. go (value.Number n ∷ values)) (omega arith) (λ y named. there y (inr named))
+    (λ n is. arguments_move m w a act ps xs (λ values. go (value.Number n ∷ values)) (omega arith) (λ y named. there y (inr named))
     (λ s y at. subst Allowed (reads_row x s (kd y) (gives ps xs s (kd y) (becomes (kd y))) (rows s y at)).1 (rows s y at))
     (λ values g. h (value.Number n ∷ values) (given_more (stands_on w.clocks a) act.frame.slots param.Number ps x xs (value.Number n) values refl g)))
 arguments_move m w a act (param.Clock ∷ ps) (x ∷ xs) go same there rows h =

@@ -48,7 +48,7 @@ pass_moves m ok w a was sound found waiting free = done_sound m w a was (past wa
   apart = λ k. refl;
   stands = λ k c at. passed_near was.status was.since c.last (w.steps + 1) (standing_of c a) (let h = (sound.clocks k c at).last in omega arith)
       (subst (λ s. is_signalled s ≡ false) (stands_on_at w.clocks a k c at) (quiet_on w.clocks a k free)) ((sound.clocks k c at).stands a was found);
-  paid = paid_pass m was (past was (w.steps + 1)) me.u me.unit refl waiting refl refl;
+  paid = paid_pass m was (past was (w.steps + 1)) me.u me.unit refl waiting refl refl refl;
 })
   where
     me : IsActivitySound m (looks w.clocks a) (length w.clocks) w.steps was

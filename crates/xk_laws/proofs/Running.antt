@@ -12,7 +12,7 @@ use Rattle.xk_types.specs.declared.rules.Kind.{Kind}
 use Rattle.xk_types.specs.Code.{UnitValue, ModuleValue}
 use Rattle.xk_types.specs.Order.{Has}
 use Rattle.xk_types.specs.World.{Activity}
-use Rattle.xk_types.specs.Step.{onward, with_slots, only}
+use Rattle.xk_types.specs.Step.{onward, going, with_slots, only}
 use Rattle.xk_types.specs.Shape.{slots_named, is_ret}
 use Rattle.xk_types.specs.Walk.{MayBecome, IsVisited, after, successors}
 use Rattle.xk_types.specs.Accepted.{IsAccepted}
@@ -63,10 +63,10 @@ module _ (m : ModuleValue) (stands : ℕ → Standing) (clocks now : ℕ) (was :
       let h = slice_get_within was.frame.slots s v at in
       visited_allowed m c.ok was.frame.unit u unit_found s (omega (arith, slots_length)) i was.frame.place c.here (kind_of look v) (visited_here s v at)
 
-  -- what a slot becomes is visited at the next place
-  pub next_visited : (s : ℕ) (v : Value) (new : Kind) → Has (successors i was.frame.place) (was.frame.place + 1) → slice_get was.frame.slots s ≡ Some v
-      → MayBecome (after m u i s (kind_of look v)) new → IsVisited m u s (record { at = was.frame.place + 1; kind = new })
-  next_visited s v new on at may = visited_next m u s i was.frame.place c.here (was.frame.place + 1) (kind_of look v) new on may (visited_here s v at)
+  -- what a slot becomes is visited at a next place
+  pub next_visited : (s : ℕ) (v : Value) (new : Kind) (to : ℕ) → Has (successors i was.frame.place) to → slice_get was.frame.slots s ≡ Some v
+      → MayBecome (after m u i s (kind_of look v)) new → IsVisited m u s (record { at = to; kind = new })
+  next_visited s v new to on at may = visited_next m u s i was.frame.place c.here to (kind_of look v) new on may (visited_here s v at)
 
   -- ---- on to the next instruction, with slots that came of the old ones
 
@@ -82,10 +82,10 @@ module _ (m : ModuleValue) (stands : ℕ → Standing) (clocks now : ℕ) (was :
     apart : (s t k : ℕ) → Names slots s k → Names slots t k → s ≡ t
     held : (k : ℕ) → is_held (new k) ≡ true → (s : ℕ) × Names slots s k
 
-  -- an instruction that goes on to the next
-  straight : (new : ℕ → Kind) (count : ℕ) (slots : List Value) → is_ret i ≡ false → Has (successors i was.frame.place) (was.frame.place + 1)
-      → AreNames new count slots → Turns new slots → IsNext m u new count (now + 1) was (onward (with_slots was slots))
-  straight new count slots other on names turns = record {
+  -- an instruction that goes on to this place
+  straight : (new : ℕ → Kind) (count : ℕ) (slots : List Value) (to : ℕ) → Has (successors i was.frame.place) to → to < length u.code
+      → AreNames new count slots → Turns new slots → IsNext m u new count (now + 1) was (going (with_slots was slots) to)
+  straight new count slots to on inside names turns = record {
     unit = refl;
     callers = refl;
     opened = refl;
@@ -93,22 +93,31 @@ module _ (m : ModuleValue) (stands : ℕ → Standing) (clocks now : ℕ) (was :
     since = omega (arith, c.me.since);
     frame = record {
       slots = names.width ∙ slots_length;
-      place = c.fit.next i was.frame.place c.here other;
+      place = inside;
       known = names.known;
       apart = names.apart;
     };
     kinds = λ s v at. let t = turns s v at in
-        subst (λ st. Expects m u st (was.frame.place + 1) s (kind_of new v)) (sym c.running) (next_visited s t.0 (kind_of new v) on t.1 t.2);
+        subst (λ st. Expects m u st to s (kind_of new v)) (sym c.running) (next_visited s t.0 (kind_of new v) to on t.1 t.2);
     advance = λ e. absurd (grind (arith, c.running));
     held = names.held;
   }
 
-  -- an instruction that leaves each kind as it is
-  pub leaving : is_ret i ≡ false → Has (successors i was.frame.place) (was.frame.place + 1) → ((s : ℕ) (k : Kind) → Allowed (after m u i s k) → MayBecome (after m u i s k) k)
-      → IsNext m u look clocks (now + 1) was (onward was)
-  leaving other on rows = straight look clocks was.frame.slots other on
+  -- an instruction that leaves each kind as it is, and goes to this place
+  pub leaving_to : (to : ℕ) → Has (successors i was.frame.place) to → to < length u.code → ((s : ℕ) (k : Kind) → Allowed (after m u i s k) → MayBecome (after m u i s k) k)
+      → IsNext m u look clocks (now + 1) was (going was to)
+  leaving_to to on inside rows = straight look clocks was.frame.slots to on inside
       (record { width = refl; known = c.me.frame.known; apart = c.me.frame.apart; held = c.me.held })
       (λ s v at. (v, at, rows s (kind_of look v) (row_allowed s v at)))
+
+  -- the next place, where there is one
+  pub next_inside : is_ret i ≡ false → was.frame.place + 1 < length u.code
+  next_inside other = c.fit.next i was.frame.place c.here other
+
+  -- one that goes to the next
+  pub leaving : is_ret i ≡ false → Has (successors i was.frame.place) (was.frame.place + 1) → ((s : ℕ) (k : Kind) → Allowed (after m u i s k) → MayBecome (after m u i s k) k)
+      → IsNext m u look clocks (now + 1) was (onward was)
+  leaving other on rows = leaving_to (was.frame.place + 1) on (next_inside other) rows
 
   -- what doesn't change kinds of known clocks changes no slot's
   kind_same : (new : ℕ → Kind) → (s : ℕ) (v : Value) → slice_get was.frame.slots s ≡ Some v
@@ -144,10 +153,10 @@ module _ (m : ModuleValue) (stands : ℕ → Standing) (clocks now : ℕ) (was :
   written_apart d v count s t k fresh (inr p) (inl q) = let f = fresh k (sym q.1) in let h = c.me.frame.known s k p.1 in absurd (omega (arith, f.0))
   written_apart d v count s t k fresh (inr p) (inr q) = c.me.frame.apart s t k p.1 q.1
 
-  -- an instruction that writes slot d
-  pub writing : (d : ℕ) (old v : Value) (kd : Kind) (new : ℕ → Kind) (count : ℕ) → slice_get was.frame.slots d ≡ Some old → is_ret i ≡ false → Has (successors i was.frame.place) (was.frame.place + 1)
-      → IsWrite d v kd new count → IsNext m u new count (now + 1) was (onward (with_slots was (set was.frame.slots d v)))
-  writing d old v kd new count at other on wr = straight new count (set was.frame.slots d v) other on
+  -- an instruction that writes slot d, and goes to this place
+  pub writing_to : (d : ℕ) (old v : Value) (kd : Kind) (new : ℕ → Kind) (count : ℕ) (to : ℕ) → slice_get was.frame.slots d ≡ Some old → Has (successors i was.frame.place) to → to < length u.code
+      → IsWrite d v kd new count → IsNext m u new count (now + 1) was (going (with_slots was (set was.frame.slots d v)) to)
+  writing_to d old v kd new count to at on inside wr = straight new count (set was.frame.slots d v) to on inside
       (record {
         width = length-set was.frame.slots d v;
         known = λ s k named. known s k (all s (value.Clock k) named);
@@ -182,6 +191,11 @@ module _ (m : ModuleValue) (stands : ℕ → Standing) (clocks now : ℕ) (was :
             (sym (kind_same new s x p.1 (λ k named. wr.same k (c.me.frame.known s k named)))) ((row s x p.1).other p.0),
       )
 
+  -- one that goes to the next
+  pub writing : (d : ℕ) (old v : Value) (kd : Kind) (new : ℕ → Kind) (count : ℕ) → slice_get was.frame.slots d ≡ Some old → is_ret i ≡ false → Has (successors i was.frame.place) (was.frame.place + 1)
+      → IsWrite d v kd new count → IsNext m u new count (now + 1) was (onward (with_slots was (set was.frame.slots d v)))
+  writing d old v kd new count at other on wr = writing_to d old v kd new count (was.frame.place + 1) at on (next_inside other) wr
+
   -- ---- a clock is used
 
   -- an instruction that uses the clock k in slot x
@@ -190,7 +204,7 @@ module _ (m : ModuleValue) (stands : ℕ → Standing) (clocks now : ℕ) (was :
       → (is_held (look k) ≡ true → kind_by (f (stands k)) ≡ kd)
       → ((s : Standing) → is_held (kind_by (f s)) ≡ true → is_held (kind_by s) ≡ true)
       → IsNext m u (λ j. kind_by (only k f j (stands j))) clocks (now + 1) was (onward was)
-  using x k kd f at other on rows becomes keeps = straight new clocks was.frame.slots other on
+  using x k kd f at other on rows becomes keeps = straight new clocks was.frame.slots (was.frame.place + 1) on (next_inside other)
       (record {
         width = refl;
         known = c.me.frame.known;

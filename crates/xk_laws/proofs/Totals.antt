@@ -1,32 +1,36 @@
 -- The sum of a weight over a unit with all that it starts: over the unit's instructions, each with the sum of the unit that
 -- it starts.
-use Rattle.std.proofs.Common.{◌≡◌, ℕ, zero, suc, ◌+◌, ◌≤◌, List, [], ◌∷◌, length, sum_by, Some, None, Option, refl, sym, ap, ◌∙◌, arith}
+use Rattle.std.proofs.Common.{◌≡◌, ℕ, zero, suc, ◌+◌, ◌*◌, ◌≤◌, List, [], ◌∷◌, length, Some, None, Option, refl, sym, ap, ◌∙◌, subst, arith}
 use Rattle.std.specs.Prelude.{slice_get}
 use Rattle.std.specs.Option.{option_map_or}
-use Rattle.std.proofs.lemmas.List.Sums.{sum_by-cons}
 use Rattle.std.proofs.lemmas.Option.{slice_get_within}
 use Rattle.xk_types.specs.declared.instr.Instr.{Instr}
 use Rattle.xk_types.specs.Code.{UnitValue, ModuleValue, unit_started}
 use Rattle.xk_types.specs.Shape.{HasShape}
-use Rattle.xk_types.specs.Bound.{total_within, total}
-use Rattle.xk_laws.proofs.Invariant.{Each, with_started}
+use Rattle.xk_types.specs.Bound.{total_within, total, visits, sum_from}
+use Rattle.xk_laws.proofs.Invariant.{with_started}
 use Rattle.xk_laws.proofs.Fits.{started_later}
 
--- two weights that agree on each element have one sum
-sum_same : {X : Type 0} (f g : X → ℕ) (xs : List X) → Each (λ k x. f x ≡ g x) xs → sum_by f xs ≡ sum_by g xs
-sum_same f g [] h = refl
-sum_same f g (x ∷ xs) h =
-    let rest = sum_same f g xs (λ k y. h (suc k) y) in
-    let first = h zero x refl in
-    omega (arith, sum_by-cons f x xs, sum_by-cons g x xs)
+-- two weights that agree on each instruction have one sum
+sum_same : (f g : ℕ → Instr → ℕ) (at : ℕ) (xs : List Instr) → ((k n : ℕ) (x : Instr) → slice_get xs k ≡ Some x → f n x ≡ g n x)
+    → sum_from f at xs ≡ sum_from g at xs
+sum_same f g at [] h = refl
+sum_same f g at (x ∷ xs) h =
+    let first = h zero at x refl in
+    let rest = sum_same f g (suc at) xs (λ k n y here. h (suc k) n y here) in
+    omega arith
 
 -- the weight of an instruction, with so many starts one below another
 abbrev weighed : (Instr → ℕ) → ModuleValue → ℕ → Instr → ℕ
 weighed weight m depth i = weight i + option_map_or (total_within weight m depth) (unit_started i) 0
 
+-- the sum over a unit, each instruction as often as it is carried out
+abbrev pub sum_over : UnitValue → (Instr → ℕ) → ℕ
+sum_over u weight = sum_from (λ at i. visits u at * weight i) 0 u.code
+
 -- the sum over a unit that may not be there
 abbrev sum_of : (Instr → ℕ) → ModuleValue → ℕ → Option UnitValue → ℕ
-sum_of weight m depth o = option_map_or (λ u. sum_by (weighed weight m depth) u.code) o 0
+sum_of weight m depth o = option_map_or (λ u. sum_over u (weighed weight m depth)) o 0
 
 -- one start more
 within_next : (weight : Instr → ℕ) (m : ModuleValue) (depth unit : ℕ) → total_within weight m (suc depth) unit ≡ sum_of weight m depth (slice_get m.units unit)
@@ -58,11 +62,11 @@ within_more weight m shape (suc depth) unit h =
     go : (o : Option UnitValue) → slice_get m.units unit ≡ o → ((t : ℕ) → length m.units ≤ t + depth → total_within weight m depth t ≡ total_within weight m (suc depth) t)
         → sum_of weight m depth o ≡ sum_of weight m (suc depth) o
     go None e more = refl
-    go (Some u) e more = sum_same (weighed weight m depth) (weighed weight m (suc depth)) u.code
-        (λ at i here. ap (λ n. weight i + n) (below u e i at here more (unit_started i) refl))
+    go (Some u) e more = sum_same (λ at i. visits u at * weighed weight m depth i) (λ at i. visits u at * weighed weight m (suc depth) i) 0 u.code
+        (λ k at i here. ap (λ n. visits u at * (weight i + n)) (below u e i k here more (unit_started i) refl))
 
 -- the sum over a unit
 pub total_sum : (weight : Instr → ℕ) (m : ModuleValue) → HasShape m → (unit : ℕ) (u : UnitValue) → slice_get m.units unit ≡ Some u
-    → total weight m unit ≡ sum_by (with_started weight m) u.code
+    → total weight m unit ≡ sum_over u (with_started weight m)
 total_sum weight m shape unit u found =
     within_more weight m shape (length m.units) unit (omega arith) ∙ within_next weight m (length m.units) unit ∙ ap (sum_of weight m (length m.units)) found

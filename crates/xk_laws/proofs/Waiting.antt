@@ -45,7 +45,7 @@ arriving m stands clocks now was u c = record {
     apart = c.me.frame.apart;
   };
   kinds = λ s v at. subst (λ k. IsVisited m u s (record { at = was.frame.place + 1; kind = k })) (sym (resumed_value stands v))
-      (next_visited m stands clocks now was u instr.Advance c s v (awake (kind_of (λ k. kind_by (stands k)) v)) (inl refl) at (inl refl));
+      (next_visited m stands clocks now was u instr.Advance c s v (awake (kind_of (λ k. kind_by (stands k)) v)) (was.frame.place + 1) (inl refl) at (inl refl));
   advance = λ e. c.here;
   held = λ k h. c.me.held k (resumed_held (stands k) h);
 }

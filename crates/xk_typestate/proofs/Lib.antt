@@ -1,0 +1,12 @@
+pub mod Given
+pub mod Sets
+pub mod Walks
+pub mod Searches
+pub mod OneRow
+pub mod Oks
+pub mod Ways
+pub mod Stops
+pub mod Pushes
+pub mod Back
+pub mod Shapes
+pub mod Units

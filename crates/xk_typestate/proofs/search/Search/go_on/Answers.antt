@@ -1,0 +1,32 @@
+-- the edges from one stop
+use Rattle.std.proofs.Common.{◌≡◌, ℕ, length, Some, refl, ap, arith}
+use Rattle.std.proofs.lemmas.Option.{slice_get_read}
+use Rattle.xk_types.specs.Code.{UnitValue}
+use Rattle.xk_types.specs.Order.{Has}
+use Rattle.xk_typestate.specs.Rows.{places}
+use Rattle.xk_typestate.specs.Search.{CanCome}
+use Rattle.xk_typestate.proofs.Walks.{edge_of, edge_place, edge_kind, found_read}
+use Rattle.xk_typestate.proofs.Searches.{searched_done, came_inside}
+use Rattle.xk_typestate.proofs.Oks.{ok_by_three}
+use Rattle.xk_typestate.proofs.search.Search.go_on.Goals as goal
+
+pub returns-clause-searched : goal.returns-clause-searched
+returns-clause-searched c =
+    let m = c.args.m.now in
+    let u = c.args.u.now in
+    let s = c.args.slot in
+    let n = c.args.done in
+    let f = c.index.result.now in
+    let i = c.index-instr.result.now in
+    let old = c.args.self.now in
+    let now = c.put_ways.new.self in
+    let found = slice_get_read old.found.items (length old.found.items) n f refl c.requires.place c.index.ensures in
+    let inside = came_inside m u s c.requires.closed old.found.items n f.stop f.from (c.requires.searched.came n f found) in
+    let same = ap (λ (x : UnitValue). x.code) c.u.view_is in
+    let as_long : length c.u.inside.code.items ≡ length u.code = ap length same in
+    let here = found_read c.u.inside.code.items u.code f.stop.at i same (omega arith) c.index-instr.ensures in
+    let lt = c.requires.place in
+    let come : (to : ℕ) → Has (places c.ways_from.result) to → CanCome m u s old to c.kinds_left-kinds.result (Some n) = λ to h k has. (lt, (f, found, edge_of m u s f.stop i to k here ((c.ways_from.ensures to).0 h) ((c.kinds_left-kinds.ensures k).0 has))) in
+    ok_by_three _ _ _ _ _ c.put_ways.ensures.grown c.put_ways.ensures.put (c.put_ways.ensures.searched m u s n c.requires.searched come)
+    (λ _ grown put so_far. searched_done m u s now n f so_far (grown.found n f found) (omega (arith, grown.more))
+    (λ q edge. put q.at ((c.ways_from.ensures q.at).1 (edge_place m u s f.stop q i here edge)) q.kind ((c.kinds_left-kinds.ensures q.kind).1 (edge_kind m u s f.stop q i here edge))))

@@ -1,0 +1,25 @@
+-- what is visited is found
+use Rattle.std.proofs.Common.{sym, ◌∙◌, subst}
+use Rattle.xk_types.specs.Walk.{IsWalk, EndsAt}
+use Rattle.xk_typestate.specs.Found.{IsPlaceOf, HasCome}
+use Rattle.xk_typestate.proofs.Oks.{ok_then}
+use Rattle.xk_typestate.proofs.Searches.{visited_seen}
+use Rattle.xk_typestate.proofs.walk.walk_to.Goals as goal
+
+pub unreachable-requires : goal.unreachable-requires
+unreachable-requires c =
+    let whole = c.in_ok-search.ensures in
+    let end = c.args.end in
+    let seen = visited_seen c.args.m.now c.args.u.now c.args.slot c.in_ok-search.search whole end c.requires.visited in
+    let at = whole.searched.listed end seen in
+    c.in-None.ensures at.0 (subst (λ x. IsPlaceOf x end at.0) (sym c.deref.ensures.value) (at.1, at.2, at.3))
+
+pub returns : goal.returns
+returns c =
+    let m = c.args.m.now in
+    let u = c.args.u.now in
+    let s = c.args.slot in
+    let end = c.args.end in
+    let come = subst (λ x. HasCome m u s x) (sym c.deref-in-Some.ensures.value) c.in_ok-search.ensures.searched.came in
+    let at = subst (λ x. IsPlaceOf x end c.in-Some.place) (c.deref.ensures.value ∙ sym c.deref-in-Some.ensures.value) c.in-Some.ensures in
+    ok_then c.walk_back.result _ (λ w. IsWalk m u s w.items × EndsAt w.items end) (c.walk_back.ensures m u s come) (λ w h. (h.0, h.1 end at))

@@ -1,0 +1,8 @@
+pub mod KindSet
+pub mod Place
+pub mod Rows
+pub mod Search
+pub mod Found
+pub mod Shaped
+pub mod Refused
+pub mod Trail

@@ -1,0 +1,24 @@
+-- What the code answers to the table of kinds and to the edges.
+use Rattle.std.specs.Prelude.{◌≡◌, ℕ, ◌↔◌, List, [], ◌∷◌, Result, Ok, Err, IsTrue}
+use Rattle.xk_types.specs.declared.rules.Rule.{Rule}
+use Rattle.xk_types.specs.declared.rules.Kind.{Kind}
+use Rattle.xk_types.specs.Order.{Has}
+use Rattle.xk_types.specs.Walk.{After, To, Refused}
+use Rattle.xk_typestate.specs.KindSet.{KindsValue, kinds_have}
+use Rattle.xk_typestate.specs.declared.rows.Ways.{Ways}
+use Rattle.xk_typestate.specs.declared.rows.Ways.TheVariants.{Nowhere, One, Two}
+
+-- the set has the kinds of the list
+abbrev pub HasAll : KindsValue → List Kind → Type 0
+HasAll set list = (k : Kind) → IsTrue (kinds_have set k) ↔ Has list k
+
+-- the kinds that are left, or the rule that refuses
+abbrev pub IsRow : After → Result KindsValue Rule → Type 0
+IsRow a (Ok set) = (list : List Kind) × (a ≡ To list) × HasAll set list
+IsRow a (Err r) = a ≡ Refused r
+
+-- the places that ways lead to
+abbrev pub places : Ways → List ℕ
+places Nowhere = []
+places (One to) = to ∷ []
+places (Two first second) = first ∷ second ∷ []

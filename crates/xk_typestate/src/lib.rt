@@ -1,0 +1,17 @@
+//! The kinds of slots, followed along walks through code with branches and loops.
+#![tactic(auto)]
+
+mod kind_set;
+mod refusal;
+mod refused;
+mod rows;
+mod search;
+mod shaped;
+mod trail;
+mod typed;
+mod walk;
+
+pub use kind_set::KindSet;
+pub use refusal::{KindError, KindFault};
+pub use shaped::Shaped;
+pub use typed::{Typed, check_kinds};

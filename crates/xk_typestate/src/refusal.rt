@@ -1,0 +1,40 @@
+//! Why the kinds of a module aren't in order.
+
+ghost use Rattle.std.specs.Prelude.{◌≡◌};
+ghost use Rattle.xk_typestate.specs.declared.refusal.KindError.TheVariants.{OutOfMemory};
+
+use std::alloc::AllocError;
+use thiserror::Error;
+use xk_types::{Kind, Rule, Visit};
+
+/// A slot that may be used as what it isn't: the least by unit, instruction, slot and kind.
+#[derive(Debug, Drop)]
+pub struct KindFault {
+    /// One of V11 to V13.
+    pub rule: Rule,
+    pub unit: u16,
+    pub at: u16,
+    pub slot: u16,
+    /// What the slot may hold before the instruction.
+    pub kind: Kind,
+    /// A walk through the unit from its first instruction to this one, with the slot's kind at each stop.
+    pub walk: Vec<Visit>,
+}
+
+/// Why the kinds of a module aren't in order, or aren't known.
+#[derive(Debug, Drop, Error)]
+pub enum KindError {
+    #[error("slot {slot} breaks rule V{number} {name} in unit {unit} at {at}, where it is {kind}", slot = .0.slot, number = .0.rule.number(), name = .0.rule.name(), unit = .0.unit, at = .0.at, kind = .0.kind.name())]
+    Fault(KindFault),
+    /// What the kinds are kept in couldn't be grown.
+    #[error("out of memory")]
+    OutOfMemory,
+}
+
+impl From<AllocError> for KindError {
+    ghost from_gives = { λ _ e. e ≡ OutOfMemory };
+
+    fn from(_e: AllocError) -> KindError {
+        KindError::OutOfMemory
+    }
+}

@@ -1,0 +1,242 @@
+//! The table of kinds, and where instructions lead: all that depends on which instructions there are.
+
+ghost use Rattle.std.specs.Prelude.{◌≡◌, ℕ, ◌↔◌, ◌<◌, [], ◌∷◌, IsTrue, MatchResult, Some, slice_get};
+ghost use Rattle.xk_types.specs.declared.rules.Kind.{Kind};
+ghost use Rattle.xk_types.specs.declared.rules.Kind.TheVariants.{Number};
+ghost use Rattle.xk_types.specs.Code.{params_of};
+ghost use Rattle.xk_types.specs.Order.{Has};
+ghost use Rattle.xk_types.specs.Walk.{After, Refused, after, awake, reads, may_read, loop_slot, writes, uses, hands_on, gives, successors, entry_kinds, MayBecome};
+ghost use Rattle.xk_typestate.specs.KindSet.{kinds_have};
+ghost use Rattle.xk_typestate.specs.Rows.{IsRow, places};
+
+use crate::kind_set::KindSet;
+use xk_types::{Instr, Kind, Module, ParamKind, Rule, Unit};
+
+/// Where an instruction may lead, in rising order.
+#[derive(Clone, Copy)]
+pub(crate) enum Ways {
+    Nowhere,
+    One(u16),
+    Two(u16, u16),
+}
+
+/// Where an instruction at this place may lead.
+pub(crate) fn ways_from(instr: &Instr, at: u16) -> Ways
+    requires room { at < 65535 }
+    requires inside { (to : ℕ) → Has (successors instr.now at) to → to < 65536 }
+    ensures { (to : ℕ) → Has (places result) to ↔ Has (successors instr.now at) to }
+{
+    match instr {
+        Instr::Unless(_, _, _, t) => either(at + 1, *t),
+        Instr::Jump(t) => Ways::One(*t),
+        Instr::Next(b) => either(at + 1, *b + 1),
+        Instr::Ret => Ways::Nowhere,
+        _ => Ways::One(at + 1),
+    }
+}
+
+/// The ways to both places.
+fn either(a: u16, b: u16) -> Ways
+    ensures { (to : ℕ) → Has (places result) to ↔ Has (a ∷ b ∷ []) to }
+{
+    if a < b {
+        Ways::Two(a, b)
+    } else {
+        Ways::Two(b, a)
+    }
+}
+
+/// The kinds that a slot may have before the first instruction.
+pub(crate) fn kinds_at_entry(u: &Unit, slot: u16) -> KindSet
+    ensures { (k : Kind) → IsTrue (kinds_have result k) ↔ Has (entry_kinds u.now slot) k }
+{
+    match u.params.get(slot as usize) {
+        Some(ParamKind::Number) => KindSet::of(Kind::Number),
+        Some(ParamKind::Clock) => KindSet::of(Kind::Live).with(Kind::Resumed),
+        None => KindSet::of(Kind::Unset),
+    }
+}
+
+/// What an instruction leaves of the kind of a slot, or nothing where it refuses it.
+pub(crate) fn kinds_left(m: &Module, u: &Unit, instr: &Instr, slot: u16, kind: Kind) -> KindSet
+    ensures { (k : Kind)
+        → IsTrue (kinds_have result k) ↔ MayBecome (after m.now u.now instr.now slot kind) k }
+{
+    match kinds_after(m, u, instr, slot, kind) {
+        Ok(kinds) => kinds,
+        Err(_) => KindSet::empty(),
+    }
+}
+
+/// What an instruction leaves of the kind of a slot, or the rule by which it refuses it.
+pub(crate) fn kinds_after(
+    m: &Module,
+    u: &Unit,
+    instr: &Instr,
+    slot: u16,
+    kind: Kind,
+) -> Result<KindSet, Rule>
+    ensures { IsRow (after m.now u.now instr.now slot kind) result }
+{
+    match instr {
+        Instr::Lit(d, _) | Instr::For(d, _, _, _) => written(*d, Kind::Number, slot, kind),
+        Instr::Copy(d, x) => {
+            read(*x, slot, kind)?;
+            written(*d, Kind::Number, slot, kind)
+        }
+        Instr::Add(d, x, y) => computed(*d, *x, *y, slot, kind),
+        Instr::Sub(d, x, y) => computed(*d, *x, *y, slot, kind),
+        Instr::Mul(d, x, y) => computed(*d, *x, *y, slot, kind),
+        Instr::Unless(_, x, y, _) => {
+            read(*x, slot, kind)?;
+            read(*y, slot, kind)?;
+            Ok(KindSet::of(kind))
+        }
+        Instr::Next(b) => {
+            may_read(loop_slot(u, *b), slot, kind)?;
+            Ok(KindSet::of(kind))
+        }
+        Instr::Print(x) => {
+            read(*x, slot, kind)?;
+            Ok(KindSet::of(kind))
+        }
+        Instr::Make(d) => written(*d, Kind::Live, slot, kind),
+        Instr::Resume(c) => used(*c, Kind::Resumed, slot, kind),
+        Instr::Drop(c) => used(*c, Kind::Out, slot, kind),
+        Instr::Advance => Ok(KindSet::of(woken(kind))),
+        Instr::Spawn(started, args) => {
+            given(params_of(m, *started), args.slots(), slot, kind)?;
+            Ok(KindSet::of(kind))
+        }
+        Instr::Jump(_) => Ok(KindSet::of(kind)),
+        Instr::Ret => Ok(KindSet::of(kind)),
+    }
+}
+
+/// Reads two slots as numbers, then writes a number.
+fn computed(d: u16, x: u16, y: u16, slot: u16, kind: Kind) -> Result<KindSet, Rule>
+    ensures { IsRow (reads x slot kind (reads y slot kind (writes d Number slot kind))) result }
+{
+    read(x, slot, kind)?;
+    read(y, slot, kind)?;
+    written(d, Kind::Number, slot, kind)
+}
+
+/// The slot of the loop that begins at this place; none where no loop does.
+fn loop_slot(u: &Unit, at: u16) -> Option<u16>
+    ensures { result ≡ loop_slot (slice_get u.now.code at) }
+{
+    match u.code.get(at as usize) {
+        Some(instr) => slot_of_for(instr),
+        None => None,
+    }
+}
+
+/// The slot of a `for`; none for other instructions.
+fn slot_of_for(instr: &Instr) -> Option<u16>
+    ensures { result ≡ loop_slot (Some instr.now) }
+{
+    match instr {
+        Instr::For(k, _, _, _) => Some(*k),
+        _ => None,
+    }
+}
+
+/// Reads this slot as a number, if there is one, where the walk is on it.
+fn may_read(x: Option<u16>, slot: u16, kind: Kind) -> Result<(), Rule>
+    ensures { (go : After)
+        → MatchResult result
+        (λ _. may_read x slot kind go ≡ go)
+        (λ r. may_read x slot kind go ≡ Refused r) }
+{
+    match x {
+        Some(x) => read(x, slot, kind),
+        None => Ok(()),
+    }
+}
+
+/// The kinds of a unit's parameters; none where there is no such unit.
+fn params_of(m: &Module, unit: u16) -> &[ParamKind]
+    ensures { result.now ≡ params_of m.now unit }
+{
+    match m.units().get(unit as usize) {
+        Some(u) => &u.params,
+        None => &[],
+    }
+}
+
+/// Gives slots to parameters: a number is read, a clock handed on.
+fn given(params: &[ParamKind], args: &[u16], slot: u16, kind: Kind) -> Result<(), Rule>
+    ensures { (go : After)
+        → MatchResult result
+        (λ _. gives params.now args.now slot kind go ≡ go)
+        (λ r. gives params.now args.now slot kind go ≡ Refused r) }
+{
+    for i in 0..params.len().min(args.len()) {
+        match params[i] {
+            ParamKind::Number => read(args[i], slot, kind)?,
+            ParamKind::Clock => handed_on(args[i], slot, kind)?,
+        }
+    }
+    Ok(())
+}
+
+/// Reads a slot as a number, where the walk is on it.
+fn read(x: u16, slot: u16, kind: Kind) -> Result<(), Rule>
+    ensures { (go : After)
+        → MatchResult result
+        (λ _. reads x slot kind go ≡ go)
+        (λ r. reads x slot kind go ≡ Refused r) }
+{
+    if slot != x || kind == Kind::Number {
+        Ok(())
+    } else {
+        Err(Rule::Use)
+    }
+}
+
+/// Hands a slot on as a clock, where the walk is on it.
+fn handed_on(c: u16, slot: u16, kind: Kind) -> Result<(), Rule>
+    ensures { (go : After)
+        → MatchResult result
+        (λ _. hands_on c slot kind go ≡ go)
+        (λ r. hands_on c slot kind go ≡ Refused r) }
+{
+    match kind {
+        _ if slot != c => Ok(()),
+        Kind::Live | Kind::Resumed => Ok(()),
+        Kind::Unset | Kind::Number | Kind::Out => Err(Rule::Use),
+    }
+}
+
+/// Writes a slot, where the walk is on it.
+fn written(d: u16, new: Kind, slot: u16, kind: Kind) -> Result<KindSet, Rule>
+    ensures { IsRow (writes d new slot kind) result }
+{
+    match kind {
+        _ if slot != d => Ok(KindSet::of(kind)),
+        Kind::Unset | Kind::Number | Kind::Out => Ok(KindSet::of(new)),
+        Kind::Live | Kind::Resumed => Err(Rule::Leak),
+    }
+}
+
+/// Uses a slot as a clock, where the walk is on it.
+fn used(c: u16, new: Kind, slot: u16, kind: Kind) -> Result<KindSet, Rule>
+    ensures { IsRow (uses c new slot kind) result }
+{
+    match kind {
+        _ if slot != c => Ok(KindSet::of(kind)),
+        Kind::Live | Kind::Resumed => Ok(KindSet::of(new)),
+        Kind::Unset | Kind::Number | Kind::Out => Err(Rule::Use),
+    }
+}
+
+/// What `advance` leaves of a kind.
+fn woken(kind: Kind) -> Kind
+    ensures { result ≡ awake kind }
+{
+    match kind {
+        Kind::Resumed => Kind::Live,
+        Kind::Unset | Kind::Number | Kind::Live | Kind::Out => kind,
+    }
+}

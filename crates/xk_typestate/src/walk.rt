@@ -1,0 +1,62 @@
+//! Walks to a stop.
+
+ghost use Rattle.std.specs.Prelude.{◌≡◌, ℕ, ◌<◌, ◌≤◌, length, IfOk, MatchOption};
+ghost use Rattle.xk_types.specs.declared.rules.Visit.{Visit};
+ghost use Rattle.xk_types.specs.Code.{UnitValue, ModuleValue};
+ghost use Rattle.xk_types.specs.Walk.{IsWalk, EndsAt, IsVisited};
+ghost use Rattle.xk_typestate.specs.Search.{IsClosed};
+ghost use Rattle.xk_typestate.specs.Found.{IsPlaceOf, IsNowhere, ComesFromBefore, HasCome};
+
+use crate::search::{Found, search_slot};
+use std::alloc::{AllocError, Global};
+use xk_types::{Module, Unit, Visit};
+
+/// A walk of the slot that ends at this stop: of the shortest, the first that a breadth-first search finds.
+pub(crate) fn walk_to(
+    alloc: Global,
+    m: &Module,
+    u: &Unit,
+    slot: u16,
+    end: Visit,
+) -> Result<Vec<Visit>, AllocError>
+    requires closed { IsClosed u.now }
+    requires limits { length u.now.code ≤ 4096 }
+    requires visited { IsVisited m.now u.now slot end }
+    ensures { IfOk result (λ w. IsWalk m.now u.now slot w.items × EndsAt w.items end) }
+{
+    let search = search_slot(alloc, m, u, slot)?;
+    match place_of(&search.found, end) {
+        Some(place) => walk_back(alloc, &search.found, place),
+        None => unreachable!(),
+    }
+}
+
+/// Where the stop stands among those found.
+fn place_of(found: &[Found], stop: Visit) -> Option<usize>
+    ensures { MatchOption result (IsNowhere found.now stop) (IsPlaceOf found.now stop) }
+{
+    for i in 0..found.len() {
+        if found[i].stop == stop {
+            return Some(i);
+        }
+    }
+    None
+}
+
+/// The walk that led to the stop at this place.
+fn walk_back(alloc: Global, found: &[Found], place: usize) -> Result<Vec<Visit>, AllocError>
+    requires order { ComesFromBefore found.now }
+    requires inside { place < length found.now }
+    ensures { (m : ModuleValue) (u : UnitValue) (s : ℕ)
+        → HasCome m u s found.now
+        → IfOk result (λ w. IsWalk m u s w.items × ((q : Visit) → IsPlaceOf found.now q place → EndsAt w.items q)) }
+{
+    let mut walk = Vec::new(alloc);
+    let mut next = Some(place);
+    while let Some(n) = next {
+        walk.push(found[n].stop)?;
+        next = found[n].from;
+    }
+    walk.reverse();
+    Ok(walk)
+}
