@@ -1,8 +1,5 @@
-pub mod Walks
-pub mod Rows
-pub mod Units
-pub mod Breaches
+pub mod Cuts
+pub mod Visits
+pub mod Measured
 pub mod Totals
-pub mod Alike
-pub mod Given
 pub mod Refusals

@@ -4,32 +4,20 @@ use Rattle.std.proofs.lemmas.Bool.{both_ways}
 use Rattle.xk_types.specs.declared.rules.Rule.{Rule}
 use Rattle.xk_types.specs.declared.rules.Rule.TheVariants as rule
 use Rattle.xk_types.specs.Code.{ModuleValue}
+use Rattle.xk_types.specs.Bound.{bound_of, limit_of, IsWithinBounds}
 use Rattle.xk_types.specs.Accepted.{IsAccepted}
-use Rattle.xk_types.specs.Bound.{IsWithinBounds}
+use Rattle.xk_typestate.specs.Place.{visit}
 use Rattle.xk_bounds.specs.declared.refusal.Refusal.{Refusal}
 use Rattle.xk_bounds.specs.declared.refusal.Refusal.TheVariants as refusal
-use Rattle.xk_bounds.specs.Place.{visit}
-use Rattle.xk_bounds.specs.Refused.{Refuses, bound_of, limit_of}
+use Rattle.xk_bounds.specs.Refused.{Refuses}
 
 -- no bound of an accepted module is over its limit
 within_limit : (m : ModuleValue) → IsWithinBounds m → (r : Rule) → limit_of r < bound_of m r → ⊥
-within_limit m h rule.Target lt = omega arith
-within_limit m h rule.Block lt = omega arith
-within_limit m h rule.Slot lt = omega arith
-within_limit m h rule.Unit lt = omega arith
-within_limit m h rule.Cell lt = omega arith
-within_limit m h rule.Loop lt = omega arith
-within_limit m h rule.End lt = omega arith
-within_limit m h rule.Home lt = omega arith
-within_limit m h rule.Registers lt = omega arith
-within_limit m h rule.SameClock lt = omega arith
-within_limit m h rule.Use lt = omega arith
-within_limit m h rule.Held lt = omega arith
-within_limit m h rule.Leak lt = omega arith
 within_limit m h rule.Steps lt = omega (arith, h.steps)
 within_limit m h rule.Activities lt = omega (arith, h.activities)
 within_limit m h rule.Clocks lt = omega (arith, h.clocks)
 within_limit m h rule.Stack lt = omega (arith, h.stack)
+within_limit m h _ lt = omega arith
 
 -- an accepted module is refused for want of memory alone
 pub refused_by_memory : (m : ModuleValue) (e : Refusal) → IsAccepted m → Refuses m e → e ≡ refusal.OutOfMemory

@@ -1,36 +1,24 @@
 -- Sums over a unit's instructions, each with the sum of the unit that it starts, and such sums cut at a number.
-use Rattle.std.proofs.Common.{◌≡◌, ℕ, zero, suc, ◌+◌, ◌<◌, ◌≤◌, ◌&&◌, eqb, min, nat_lt, true, false, not, List, [], ◌∷◌, length, Option, Some, None, slice_get, slice_index, sum_by, sym, refl, ap, ◌∙◌, arith}
+use Rattle.std.proofs.Common.{◌≡◌, ℕ, zero, suc, ◌+◌, ◌<◌, ◌≤◌, ◌&&◌, eqb, min, nat_lt, true, false, not, List, length, Option, Some, None, slice_get, slice_index, sym, refl, ap, ◌∙◌, arith}
 use Rattle.std.specs.Option.{option_map_or}
 use Rattle.std.proofs.lemmas.Option.{slice_get_past, slice_get_within, same_Some}
 use Rattle.std.proofs.lemmas.Bool.{and_parts, or_parts, not-false, ltb-true, both_ways}
-use Rattle.std.proofs.lemmas.List.Sums.{sum_by-cons}
 use Rattle.xk_types.specs.declared.instr.Instr.{Instr}
 use Rattle.xk_types.specs.declared.instr.Instr.TheVariants as instr
 use Rattle.xk_types.specs.declared.rules.Rule.TheVariants as rule
 use Rattle.xk_types.specs.Code.{UnitValue, ModuleValue, unit_started, is_body}
 use Rattle.xk_types.specs.Shape.{is_startable, starts_amiss, instr_is, is_in_place, breaks_unit_of, HasShape}
-use Rattle.xk_types.specs.Bound.{total_within, total}
-use Rattle.xk_bounds.specs.Measure.{added}
+use Rattle.xk_types.specs.Bound.{visits, total_within, total}
+use Rattle.xk_bounds.specs.Measure.{HasBlocks, added, added_by}
+use Rattle.xk_bounds.proofs.Cuts.{sum_same, sum_cut}
 
--- ---- sums
+-- ---- what the shape tells of a unit
 
--- terms that are equal at each element have the same sum
-sum_same : (f g : Instr → ℕ) (xs : List Instr) → ((at : ℕ) (x : Instr) → slice_get xs at ≡ Some x → f x ≡ g x) → sum_by f xs ≡ sum_by g xs
-sum_same f g [] same = refl
-sum_same f g (x ∷ xs) same =
-    let head = same zero x refl in
-    let rest = sum_same f g xs (λ at y found. same (suc at) y found) in
-    omega (arith, sum_by-cons f x xs, sum_by-cons g x xs)
-
--- terms that are the same when they are cut have the same sum when it is cut
-sum_cut : (cut : ℕ) (f g : Instr → ℕ) (xs : List Instr) → ((at : ℕ) (x : Instr) → slice_get xs at ≡ Some x → min (f x) cut ≡ min (g x) cut) → min (sum_by f xs) cut ≡ min (sum_by g xs) cut
-sum_cut cut f g [] same = refl
-sum_cut cut f g (x ∷ xs) same =
-    let head = same zero x refl in
-    let rest = sum_cut cut f g xs (λ at y found. same (suc at) y found) in
-    omega (arith, sum_by-cons f x xs, sum_by-cons g x xs)
-
--- ---- what an instruction starts
+pub blocks_from : (m : ModuleValue) → HasShape m → (unit : ℕ) (u : UnitValue) → slice_get m.units unit ≡ Some u → HasBlocks u
+blocks_from m shape unit u found = record {
+  targets = λ at. sym (ap (λ o. breaks_unit_of m rule.Target unit o at) found) ∙ shape rule.Target unit at;
+  blocks = λ at. sym (ap (λ o. breaks_unit_of m rule.Block unit o at) found) ∙ shape rule.Block unit at;
+}
 
 startable_is : (unit t : ℕ) (args : List ℕ) (o : Option UnitValue) → is_startable unit t args o ≡ true → (unit < t) × ((v : UnitValue) × (o ≡ Some v))
 startable_is unit t args None h = absurd (both_ways false refl h)
@@ -40,20 +28,13 @@ startable_is unit t args (Some v) h =
     (ltb-true unit t first.1, (v, refl))
 
 starts_greater : (m : ModuleValue) (unit : ℕ) (i : Instr) (t : ℕ) → starts_amiss m unit i ≡ false → unit_started i ≡ Some t → (unit < t) × (t < length m.units)
-starts_greater m unit (instr.Lit d n) t h e = cc
-starts_greater m unit (instr.Add d x y) t h e = cc
-starts_greater m unit (instr.Print x) t h e = cc
-starts_greater m unit (instr.Make d) t h e = cc
-starts_greater m unit (instr.Resume c) t h e = cc
-starts_greater m unit (instr.Drop c) t h e = cc
-starts_greater m unit instr.Advance t h e = cc
 starts_greater m unit (instr.Spawn v args) t h e =
     let same = same_Some v t e in
     let is = startable_is unit v args (slice_get m.units v) (not-false (is_startable unit v args (slice_get m.units v)) h) in
     let inside = slice_get_within m.units v is.1.0 is.1.1 in
     let greater = is.0 in
     (omega arith, omega arith)
-starts_greater m unit instr.Ret t h e = cc
+starts_greater m unit _ t h e = cc
 
 module _ (weight : Instr → ℕ) (m : ModuleValue) (shape : HasShape m) where
   -- a unit that an instruction starts is there, and has a greater number
@@ -65,7 +46,7 @@ module _ (weight : Instr → ℕ) (m : ModuleValue) (shape : HasShape m) where
 
   -- the sum over a unit's code, where this says what the unit that is started adds
   abbrev over_code : (ℕ → ℕ) → Option UnitValue → ℕ
-  over_code below o = option_map_or (λ u. sum_by (added weight below) u.code) o 0
+  over_code below o = option_map_or (λ u. added_by weight below u) o 0
 
   added_same : (below above : ℕ → ℕ) (i : Instr) (o : Option ℕ) → unit_started i ≡ o → ((t : ℕ) → o ≡ Some t → below t ≡ above t) → added weight below i ≡ added weight above i
   added_same below above i None e same = rw e refl
@@ -74,7 +55,7 @@ module _ (weight : Instr → ℕ) (m : ModuleValue) (shape : HasShape m) where
   over_same : (below above : ℕ → ℕ) (unit : ℕ) (o : Option UnitValue) → slice_get m.units unit ≡ o → ((t : ℕ) → unit < t → below t ≡ above t) → over_code below o ≡ over_code above o
   over_same below above unit None found same = refl
   over_same below above unit (Some u) found same =
-      sum_same (added weight below) (added weight above) u.code (λ at i here. added_same below above i (unit_started i) refl (λ t e. same t (started_is unit u at i t found here e).0))
+      sum_same (visits u) (added weight below) (added weight above) 0 u.code (λ at i here. added_same below above i (unit_started i) refl (λ t e. same t (started_is unit u at i t found here e).0))
 
   -- one start more below another adds nothing where there are no more units
   stable : (depth unit : ℕ) → length m.units ≤ depth + unit → total_within weight m depth unit ≡ total_within weight m (suc depth) unit
@@ -83,12 +64,12 @@ module _ (weight : Instr → ℕ) (m : ModuleValue) (shape : HasShape m) where
   stable (suc depth) unit le =
       over_same (total_within weight m depth) (total_within weight m (suc depth)) unit (slice_get m.units unit) refl (λ t lt. stable depth t (omega arith))
 
-  one_more : (depth unit : ℕ) (u : UnitValue) → slice_get m.units unit ≡ Some u → total_within weight m (suc depth) unit ≡ sum_by (added weight (total_within weight m depth)) u.code
+  one_more : (depth unit : ℕ) (u : UnitValue) → slice_get m.units unit ≡ Some u → total_within weight m (suc depth) unit ≡ added_by weight (total_within weight m depth) u
   unfolding total_within
   one_more depth unit u found = ap (over_code (total_within weight m depth)) found
 
   -- the sum of a unit is that over its code, each instruction with the sum of the unit that it starts
-  pub total_is : (unit : ℕ) (u : UnitValue) → slice_get m.units unit ≡ Some u → total weight m unit ≡ sum_by (added weight (total weight m)) u.code
+  pub total_is : (unit : ℕ) (u : UnitValue) → slice_get m.units unit ≡ Some u → total weight m unit ≡ added_by weight (total weight m) u
   total_is unit u found = stable (length m.units) unit (omega arith) ∙ one_more (length m.units) unit u found
 
   added_cut : (cut : ℕ) (below above : ℕ → ℕ) (i : Instr) (o : Option ℕ) → unit_started i ≡ o → ((t : ℕ) → o ≡ Some t → below t ≡ min (above t) cut) → min (added weight below i) cut ≡ min (added weight above i) cut
@@ -97,7 +78,7 @@ module _ (weight : Instr → ℕ) (m : ModuleValue) (shape : HasShape m) where
 
   -- the sum over a unit's code is the unit's, cut, where a table has the sums of the units of greater number, cut
   pub total_cut : (cut : ℕ) (table : List ℕ) (unit : ℕ) (u : UnitValue) → slice_get m.units unit ≡ Some u → ((t : ℕ) → unit < t → t < length m.units → slice_index table t ≡ min (total weight m t) cut)
-      → min (sum_by (added weight (slice_index table)) u.code) cut ≡ min (total weight m unit) cut
+      → min (added_by weight (slice_index table) u) cut ≡ min (total weight m unit) cut
   total_cut cut table unit u found greater =
-      sum_cut cut (added weight (slice_index table)) (added weight (total weight m)) u.code (λ at i here. added_cut cut (slice_index table) (total weight m) i (unit_started i) refl (λ t e. let is = started_is unit u at i t found here e in greater t is.0 is.1))
+      sum_cut cut (visits u) (added weight (slice_index table)) (added weight (total weight m)) 0 u.code (λ at i here. added_cut cut (slice_index table) (total weight m) i (unit_started i) refl (λ t e. let is = started_is unit u at i t found here e in greater t is.0 is.1))
       ∙ ap (λ n. min n cut) (sym (total_is unit u found))

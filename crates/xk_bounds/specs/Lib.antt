@@ -1,6 +1,2 @@
-pub mod KindSet
-pub mod Place
 pub mod Refused
-pub mod Breach
-pub mod Straight
 pub mod Measure

@@ -1,9 +1,11 @@
 -- The bounds of a module, as the verifier holds them.
-use Rattle.std.specs.Prelude.{◌≡◌, ℕ, ◌+◌, min}
+use Rattle.std.specs.Prelude.{◌≡◌, ℕ, ◌+◌, ◌*◌, min, ℤ, false, List, slice_index}
 use Rattle.std.specs.Option.{option_map_or}
 use Rattle.xk_types.specs.declared.instr.Instr.{Instr}
-use Rattle.xk_types.specs.Code.{ModuleValue, IsWithinLimits, unit_started}
-use Rattle.xk_types.specs.Bound.{total, steps_weight, activities_weight, clocks_weight, steps_bound, activities_bound, clocks_bound, stack_bound}
+use Rattle.xk_types.specs.declared.instr.Instr.TheVariants as instr
+use Rattle.xk_types.specs.Code.{UnitValue, ModuleValue, IsWithinLimits, unit_started, Loop, turns}
+use Rattle.xk_types.specs.Shape.{breaks_target, breaks_block}
+use Rattle.xk_types.specs.Bound.{visits, sum_from, total, steps_weight, activities_weight, clocks_weight, steps_bound, activities_bound, clocks_bound, stack_bound}
 use Rattle.xk_types.specs.Accepted.{IsAccepted}
 use Rattle.xk_bounds.specs.declared.bounds.Bounds.{Bounds}
 use Rattle.xk_bounds.specs.declared.bounds.Quantity.{Quantity}
@@ -18,6 +20,30 @@ weight_of quantity.Clocks i = clocks_weight i
 -- what it adds with the unit that it starts, where a table says what each unit adds
 abbrev pub added : (Instr → ℕ) → (ℕ → ℕ) → Instr → ℕ
 added weight table i = weight i + option_map_or table (unit_started i) 0
+
+-- what the instruction at a place of a unit adds each time that the unit is carried out
+abbrev pub added_at : (Instr → ℕ) → (ℕ → ℕ) → UnitValue → ℕ → Instr → ℕ
+added_at weight table u at i = visits u at * added weight table i
+
+-- what the unit adds
+abbrev pub added_by : (Instr → ℕ) → (ℕ → ℕ) → UnitValue → ℕ
+added_by weight table u = sum_from (added_at weight table u) 0 u.code
+
+-- each `for` of the unit has its `next`, and loops nest or lie apart
+pub record HasBlocks (u : UnitValue) : Type 0 where
+  pub targets : (at : ℕ) → breaks_target u at ≡ false
+  pub blocks : (at : ℕ) → breaks_block u at ≡ false
+
+-- a loop with these bounds
+abbrev pub loop_between : ℤ → ℤ → Loop
+loop_between lo hi = record { first = 0; last = 0; slot = 0; lo = lo; hi = hi }
+
+-- How often the next instruction is carried out, cut, where this one is `here` times, and the list says it of those before:
+-- behind a loop as often as its `for`.
+abbrev pub visits_next : ℕ → List ℕ → ℕ → Instr → ℕ
+visits_next cut before here (instr.For k lo hi e) = min (here * turns (loop_between lo hi)) cut
+visits_next cut before here (instr.Next first) = slice_index before first
+visits_next cut before here _ = here
 
 -- they are those of the module, but that a number above `cut` is told as `cut`
 pub record AreCut (m : ModuleValue) (cut : ℕ) (b : Bounds) : Type 0 where

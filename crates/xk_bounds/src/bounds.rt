@@ -1,16 +1,16 @@
 //! The bounds on runs.
 
-ghost use Rattle.std.specs.Prelude.{◌≡◌, ◌+◌, ◌<◌, ◌≤◌, min, length, sum_by, slice_index, IfOk, MatchResult};
+ghost use Rattle.std.specs.Prelude.{◌≡◌, ◌+◌, ◌*◌, ◌<◌, ◌≤◌, min, slice_index, IfOk, MatchResult};
 ghost use Rattle.std.specs.Option.{option_map_or};
-ghost use Rattle.xk_types.specs.Code.{ModuleValue, unit_started};
+ghost use Rattle.xk_types.specs.Code.{ModuleValue, unit_started, turns};
 ghost use Rattle.xk_types.specs.Shape.{HasShape};
 ghost use Rattle.xk_types.specs.Bound.{total, stack_bound, IsWithinBounds};
 ghost use Rattle.xk_bounds.specs.Refused.{IsBoundFault};
-ghost use Rattle.xk_bounds.specs.Measure.{AreBounds, AreCut, added, weight_of};
+ghost use Rattle.xk_bounds.specs.Measure.{AreBounds, AreCut, HasBlocks, added, added_by, weight_of, visits_next, loop_between};
 
 use crate::refusal::BoundFault;
 use std::alloc::{AllocError, Global};
-use xk_types::{Instr, Module, Rule};
+use xk_types::{Instr, Module, Rule, Unit};
 
 /// The most that a run of a module may take.
 #[derive(Clone, Copy)]
@@ -95,21 +95,57 @@ fn most(alloc: Global, m: &Module, counted: Quantity) -> Result<u64, AllocError>
     let mut table = vec![in alloc; 0; units.len()]?;
     for unit in (0..units.len()).rev() {
         let u = &units[unit];
-        let most = most_of(counted, &u.code, &table);
+        let most = most_of(alloc, counted, u, &table)?;
         table[unit] = most;
     }
     Ok(table[0])
 }
 
-/// The most that these instructions take, with what the table says of the units that they start, cut at `CUT`.
-fn most_of(counted: Quantity, code: &[Instr], table: &[u64]) -> u64
-    ensures { result ≡ min (sum_by (added (weight_of counted) (slice_index table.now)) code.now) CUT }
+/// The most that a unit takes, with what the table says of the units that it starts, cut at `CUT`.
+fn most_of(alloc: Global, counted: Quantity, u: &Unit, table: &[u64]) -> Result<u64, AllocError>
+    requires { HasBlocks u.now }
+    ensures { IfOk result
+        (λ n. n ≡ min (added_by (weight_of counted) (slice_index table.now) u.now) CUT) }
 {
+    let mut before = Vec::with_capacity(alloc, u.code.len())?;
+    let mut here = 1;
     let mut most = 0;
-    for instr in code {
-        most = cut_sum(cut_sum(most, weight(counted, instr)), started(instr, table));
+    for instr in &u.code {
+        most = cut_sum(most, cut_product(here, once(counted, instr, table)));
+        before.push(here)?;
+        here = visits_next(&before, here, instr);
     }
-    most
+    Ok(most)
+}
+
+/// How often the next instruction is carried out, cut at `CUT`, where this one is `here` times, and the list says it of
+/// those before. Behind a loop all is as it was before it.
+fn visits_next(before: &[u64], here: u64, instr: &Instr) -> u64
+    ensures { result ≡ visits_next CUT before.now here instr.now }
+{
+    match instr {
+        Instr::For(_, lo, hi, _) => cut_product(here, turns(*lo, *hi)),
+        Instr::Next(first) => before.get(*first as usize).copied().unwrap_or(0),
+        _ => here,
+    }
+}
+
+/// How many turns a loop with these bounds takes, cut at `CUT`.
+fn turns(lo: i64, hi: i64) -> u64
+    ensures { result ≡ min (turns (loop_between lo hi)) CUT }
+{
+    if lo <= hi {
+        hi.abs_diff(lo).saturating_add(1).min(CUT)
+    } else {
+        0
+    }
+}
+
+/// What the instruction takes each time, with what the table says of the unit that it starts, cut at `CUT`.
+fn once(counted: Quantity, instr: &Instr, table: &[u64]) -> u64
+    ensures { result ≡ min (added (weight_of counted) (slice_index table.now) instr.now) CUT }
+{
+    cut_sum(weight(counted, instr), started(instr, table))
 }
 
 /// What the table says of the unit that the instruction starts.
@@ -147,6 +183,13 @@ fn cut_sum(a: u64, b: u64) -> u64
     ensures { result ≡ min (a + b) CUT }
 {
     a.saturating_add(b).min(CUT)
+}
+
+/// The product, cut at `CUT`.
+fn cut_product(a: u64, b: u64) -> u64
+    ensures { result ≡ min (a * b) CUT }
+{
+    a.saturating_mul(b).min(CUT)
 }
 
 /// The greatest number of slots of a unit.

@@ -3,14 +3,12 @@
 #![tactic(auto)]
 
 mod bounds;
-mod kind_set;
-mod kinds;
 mod refusal;
-mod shape;
 #[cfg(test)]
 mod tests;
 mod verified;
 
-pub use kind_set::KindSet;
-pub use refusal::{BoundFault, KindFault, Refusal, ShapeFault};
+pub use refusal::{BoundFault, Refusal};
 pub use verified::{Verified, verify};
+pub use xk_shape::ShapeFault;
+pub use xk_typestate::{KindFault, KindSet};

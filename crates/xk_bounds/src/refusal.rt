@@ -1,32 +1,14 @@
 //! Why the verifier refuses a module.
 
+ghost use Rattle.std.specs.Prelude.{◌≡◌};
+ghost use Rattle.xk_bounds.specs.Refused.{of_shape, of_kinds};
+ghost use Rattle.xk_bounds.specs.declared.refusal.Refusal.TheVariants.{OutOfMemory};
+
+use std::alloc::AllocError;
 use thiserror::Error;
-use xk_types::{Kind, Rule, Visit};
-
-/// A place that breaks a rule on the shape of code: the first rule that any place breaks, at its least place by unit
-/// and instruction.
-#[derive(Clone, Copy, Debug, PartialEq, Eq)]
-pub struct ShapeFault {
-    /// One of V1 to V10.
-    pub rule: Rule,
-    pub unit: u16,
-    /// The instruction, or 0 where the fault is one of the whole unit.
-    pub at: u16,
-}
-
-/// A slot that may be used as what it isn't: the least by unit, instruction, slot and kind.
-#[derive(Debug, Drop)]
-pub struct KindFault {
-    /// One of V11 to V13.
-    pub rule: Rule,
-    pub unit: u16,
-    pub at: u16,
-    pub slot: u16,
-    /// What the slot may hold before the instruction.
-    pub kind: Kind,
-    /// A walk through the unit from its first instruction to this one, with the slot's kind at each stop.
-    pub walk: Vec<Visit>,
-}
+use xk_shape::{ShapeError, ShapeFault};
+use xk_types::Rule;
+use xk_typestate::{KindError, KindFault};
 
 /// A bound that is over its limit: the first of V14 to V17 that is.
 #[derive(Clone, Copy, Debug, PartialEq, Eq)]
@@ -48,4 +30,34 @@ pub enum Refusal {
     /// The verifier couldn't grow what it works on.
     #[error("out of memory")]
     OutOfMemory,
+}
+
+impl From<ShapeError> for Refusal {
+    ghost from_gives = { λ e r. r ≡ of_shape e };
+
+    fn from(e: ShapeError) -> Refusal {
+        match e {
+            ShapeError::Fault(fault) => Refusal::Shape(fault),
+            ShapeError::OutOfMemory => Refusal::OutOfMemory,
+        }
+    }
+}
+
+impl From<KindError> for Refusal {
+    ghost from_gives = { λ e r. r ≡ of_kinds e };
+
+    fn from(e: KindError) -> Refusal {
+        match e {
+            KindError::Fault(fault) => Refusal::Kind(fault),
+            KindError::OutOfMemory => Refusal::OutOfMemory,
+        }
+    }
+}
+
+impl From<AllocError> for Refusal {
+    ghost from_gives = { λ _ r. r ≡ OutOfMemory };
+
+    fn from(_e: AllocError) -> Refusal {
+        Refusal::OutOfMemory
+    }
 }

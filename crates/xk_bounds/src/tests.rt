@@ -1,8 +1,7 @@
 use crate::{KindSet, Refusal, Verified, verify};
 use std::alloc::{AllocError, Global};
-use std::process::Abort;
 use std::test::Fail;
-use xk_types::{Args, Instr, Kind, Limit, Module, ParamKind, Rule, Unit, UnitKind, Visit};
+use xk_types::{Args, Instr, Kind, Limit, Module, ParamKind, Unit, UnitKind};
 
 /// A unit.
 fn unit_of(
@@ -58,38 +57,19 @@ fn verdict_of(
     Ok(verdict(alloc, vec![in alloc; unit]?)?)
 }
 
-/// What the verifier says of main, with this code and two slots, and a unit that it starts.
-fn verdict_with(
-    alloc: Global,
-    code: Vec<Instr>,
-    started: Unit,
-) -> Result<Result<Verified, Refusal>, Fail> {
-    let unit = main_unit(alloc, 2, code)?;
-    Ok(verdict(alloc, vec![in alloc; unit, started]?)?)
-}
-
-/// The rule's number, the unit and the instruction of a fault of shape.
-fn shape_fault(verdict: Result<Verified, Refusal>) -> Option<(u8, u16, u16)> {
-    match verdict {
-        Err(Refusal::Shape(f)) => Some((f.rule.number(), f.unit, f.at)),
-        _ => None,
-    }
-}
-
-/// The rule's number, the unit, the instruction, the slot and its kind of a fault of kinds.
-fn kind_fault(verdict: Result<Verified, Refusal>) -> Option<(u8, u16, u16, u16, Kind)> {
-    match verdict {
-        Err(Refusal::Kind(f)) => Some((f.rule.number(), f.unit, f.at, f.slot, f.kind)),
-        _ => None,
-    }
-}
-
 /// The rule's number and the limit of a fault of bounds.
 fn bound_fault(verdict: Result<Verified, Refusal>) -> Option<(u8, u64)> {
     match verdict {
         Err(Refusal::Bound(f)) => Some((f.rule.number(), f.limit)),
         _ => None,
     }
+}
+
+/// The most steps, activities and clocks, where the module is accepted.
+fn measured(verdict: Result<Verified, Refusal>) -> Option<(u64, u32, u32)> {
+    verdict
+        .ok()
+        .map(|v| (v.steps(), v.activities(), v.clocks()))
 }
 
 /// The kinds of a slot, where the place exists.
@@ -142,242 +122,6 @@ fn accepts_short_programs(rt: HostRuntime) -> Result<(), Fail> {
     ]?;
     let verdict = verdict_of(alloc, 1, prints)?;
     assert_eq!(rt; verdict.map(|v| v.steps()).ok(), Some(5));
-    Ok(())
-}
-
-#[test]
-fn follows_a_clock(rt: HostRuntime) -> Result<(), Fail> {
-    let alloc = rt.alloc();
-    let code = vec![in alloc;
-        Instr::Make(0),
-        Instr::Resume(0),
-        Instr::Resume(0),
-        Instr::Advance,
-        Instr::Drop(0),
-        Instr::Ret,
-    ]?;
-    let Ok(v) = verdict_of(alloc, 1, code)? else {
-        panic!(rt; "refused");
-    };
-    assert_eq!(rt; v.steps(), 7);
-    assert_eq!(rt; kinds_at(&v, 0, 3, 0), Some(KindSet::of(Kind::Resumed)));
-    assert_eq!(rt; kinds_at(&v, 0, 4, 0), Some(KindSet::of(Kind::Live)));
-    assert_eq!(rt; kinds_at(&v, 0, 5, 0), Some(KindSet::of(Kind::Out)));
-    Ok(())
-}
-
-/// A stop of a walk.
-fn stop(at: u16, kind: Kind) -> Visit {
-    Visit { at, kind }
-}
-
-/// The code of a main unit with two slots is refused by the rule, with this walk of the slot.
-fn refused(
-    rt: &impl Abort,
-    alloc: Global,
-    code: Vec<Instr>,
-    rule: Rule,
-    slot: u16,
-    walk: &[Visit],
-) -> Result<(), Fail> {
-    let Err(Refusal::Kind(f)) = verdict_of(alloc, 2, code)? else {
-        panic!(rt; "not refused by its kinds");
-    };
-    assert_eq!(rt; f.rule, rule);
-    assert_eq!(rt; (f.unit, f.slot), (0, slot));
-    assert_eq!(rt; f.walk.as_slice(), walk);
-    assert_eq!(rt; walk.last().copied(), Some(stop(f.at, f.kind)));
-    Ok(())
-}
-
-#[test]
-fn refuses_uses(rt: HostRuntime) -> Result<(), Fail> {
-    let alloc = rt.alloc();
-    let code = vec![in alloc; Instr::Drop(0), Instr::Ret]?;
-    refused(&rt, alloc, code, Rule::Use, 0, &[stop(0, Kind::Unset)])?;
-
-    let code = vec![in alloc; Instr::Make(0), Instr::Print(0), Instr::Ret]?;
-    let walk = [stop(0, Kind::Unset), stop(1, Kind::Live)];
-    refused(&rt, alloc, code, Rule::Use, 0, &walk)?;
-
-    let code = vec![in alloc;
-        Instr::Make(0),
-        Instr::Drop(0),
-        Instr::Resume(0),
-        Instr::Ret,
-    ]?;
-    let walk = [
-        stop(0, Kind::Unset),
-        stop(1, Kind::Live),
-        stop(2, Kind::Out),
-    ];
-    refused(&rt, alloc, code, Rule::Use, 0, &walk)
-}
-
-#[test]
-fn refuses_leaks(rt: HostRuntime) -> Result<(), Fail> {
-    let alloc = rt.alloc();
-    let code = vec![in alloc; Instr::Make(0), Instr::Lit(0, 1), Instr::Ret]?;
-    let walk = [stop(0, Kind::Unset), stop(1, Kind::Live)];
-    refused(&rt, alloc, code, Rule::Leak, 0, &walk)
-}
-
-#[test]
-fn refuses_the_least_slot(rt: HostRuntime) -> Result<(), Fail> {
-    let alloc = rt.alloc();
-    let code = vec![in alloc; Instr::Add(0, 1, 0), Instr::Ret]?;
-    refused(&rt, alloc, code, Rule::Use, 0, &[stop(0, Kind::Unset)])?;
-
-    let code = vec![in alloc; Instr::Lit(0, 4), Instr::Add(0, 0, 1), Instr::Ret]?;
-    let walk = [stop(0, Kind::Unset), stop(1, Kind::Unset)];
-    refused(&rt, alloc, code, Rule::Use, 1, &walk)
-}
-
-#[test]
-fn refuses_shapes(rt: HostRuntime) -> Result<(), Fail> {
-    let alloc = rt.alloc();
-    let no_slot = verdict_of(alloc, 1, vec![in alloc; Instr::Lit(1, 1), Instr::Ret]?)?;
-    assert_eq!(rt; shape_fault(no_slot), Some((3, 0, 0)));
-    let slot_before_end = verdict_of(
-        alloc,
-        2,
-        vec![in alloc; Instr::Ret, Instr::Add(0, 1, 2), Instr::Ret]?,
-    )?;
-    assert_eq!(rt; shape_fault(slot_before_end), Some((3, 0, 1)));
-    let empty = verdict_of(alloc, 0, vec![in alloc;]?)?;
-    assert_eq!(rt; shape_fault(empty), Some((7, 0, 0)));
-    let early = verdict_of(alloc, 0, vec![in alloc; Instr::Ret, Instr::Ret]?)?;
-    assert_eq!(rt; shape_fault(early), Some((7, 0, 0)));
-    let no_end = verdict_of(alloc, 0, vec![in alloc; Instr::Advance, Instr::Advance]?)?;
-    assert_eq!(rt; shape_fault(no_end), Some((7, 0, 1)));
-    Ok(())
-}
-
-#[test]
-fn refuses_units(rt: HostRuntime) -> Result<(), Fail> {
-    let alloc = rt.alloc();
-    let second = main_unit(alloc, 0, vec![in alloc;]?)?;
-    let mains = verdict_with(alloc, vec![in alloc; Instr::Ret]?, second)?;
-    assert_eq!(rt; shape_fault(mains), Some((4, 1, 0)));
-
-    let code = vec![in alloc; Instr::Make(0), Instr::Ret]?;
-    let takes = unit_of(alloc, UnitKind::Main, &[ParamKind::Clock], 1, code)?;
-    let takes = verdict(alloc, vec![in alloc; takes]?)?;
-    assert_eq!(rt; shape_fault(takes), Some((4, 0, 0)));
-
-    let first = body(alloc, &[], 0, vec![in alloc; Instr::Ret]?)?;
-    let first = verdict(alloc, vec![in alloc; first]?)?;
-    assert_eq!(rt; shape_fault(first), Some((4, 0, 0)));
-    Ok(())
-}
-
-#[test]
-fn refuses_starts(rt: HostRuntime) -> Result<(), Fail> {
-    let alloc = rt.alloc();
-    let missing = vec![in alloc; spawn(alloc, 1, &[])?, Instr::Ret]?;
-    assert_eq!(rt;
-        shape_fault(verdict_of(alloc, 0, missing)?),
-        Some((4, 0, 0))
-    );
-
-    let start = vec![in alloc; Instr::Advance, spawn(alloc, 1, &[])?, Instr::Ret]?;
-    let second = main_unit(alloc, 0, vec![in alloc; Instr::Ret]?)?;
-    let main_started = verdict_with(alloc, start, second)?;
-    assert_eq!(rt; shape_fault(main_started), Some((4, 0, 1)));
-
-    let start = vec![in alloc; spawn(alloc, 1, &[0])?, Instr::Ret]?;
-    let takes_none = body(alloc, &[], 1, vec![in alloc; Instr::Ret]?)?;
-    let too_many = verdict_with(alloc, start, takes_none)?;
-    assert_eq!(rt; shape_fault(too_many), Some((4, 0, 0)));
-
-    let start = vec![in alloc; spawn(alloc, 1, &[])?, Instr::Ret]?;
-    let takes_one = body(alloc, &[ParamKind::Number], 1, vec![in alloc; Instr::Ret]?)?;
-    let too_few = verdict_with(alloc, start, takes_one)?;
-    assert_eq!(rt; shape_fault(too_few), Some((4, 0, 0)));
-    Ok(())
-}
-
-#[test]
-fn refuses_starts_of_smaller_numbers(rt: HostRuntime) -> Result<(), Fail> {
-    let alloc = rt.alloc();
-    let start = vec![in alloc; spawn(alloc, 1, &[])?, Instr::Ret]?;
-    let itself = body(alloc, &[], 0, start)?;
-    let itself = verdict_with(alloc, vec![in alloc; Instr::Ret]?, itself)?;
-    assert_eq!(rt; shape_fault(itself), Some((4, 1, 0)));
-
-    let main = main_unit(alloc, 0, vec![in alloc; Instr::Ret]?)?;
-    let first = body(alloc, &[], 0, vec![in alloc; Instr::Ret]?)?;
-    let start = vec![in alloc; Instr::Advance, spawn(alloc, 1, &[])?, Instr::Ret]?;
-    let second = body(alloc, &[], 0, start)?;
-    let back = verdict(alloc, vec![in alloc; main, first, second]?)?;
-    assert_eq!(rt; shape_fault(back), Some((4, 2, 1)));
-    Ok(())
-}
-
-#[test]
-fn refuses_arguments(rt: HostRuntime) -> Result<(), Fail> {
-    let alloc = rt.alloc();
-    let start = vec![in alloc; spawn(alloc, 1, &[2])?, Instr::Ret]?;
-    let takes_one = body(alloc, &[ParamKind::Number], 1, vec![in alloc; Instr::Ret]?)?;
-    let no_slot = verdict_with(alloc, start, takes_one)?;
-    assert_eq!(rt; shape_fault(no_slot), Some((3, 0, 0)));
-
-    let clocks = [ParamKind::Clock, ParamKind::Number, ParamKind::Clock];
-    let start = vec![in alloc; Instr::Make(0), spawn(alloc, 1, &[0, 1, 0])?, Instr::Ret]?;
-    let takes_two = body(alloc, &clocks, 3, vec![in alloc; Instr::Ret]?)?;
-    let same_clock = verdict_with(alloc, start, takes_two)?;
-    assert_eq!(rt; shape_fault(same_clock), Some((10, 0, 1)));
-
-    let start = vec![in alloc; Instr::Ret]?;
-    let makes = vec![in alloc; Instr::Advance, Instr::Make(0), Instr::Ret]?;
-    let makes = body(alloc, &[ParamKind::Number], 1, makes)?;
-    let param_made = verdict_with(alloc, start, makes)?;
-    assert_eq!(rt; shape_fault(param_made), Some((8, 1, 1)));
-    Ok(())
-}
-
-#[test]
-fn refuses_kinds_of_arguments(rt: HostRuntime) -> Result<(), Fail> {
-    let alloc = rt.alloc();
-    let start = vec![in alloc;
-        Instr::Make(0),
-        Instr::Drop(0),
-        spawn(alloc, 1, &[0])?,
-        Instr::Ret,
-    ]?;
-    let takes_clock = body(alloc, &[ParamKind::Clock], 1, vec![in alloc; Instr::Ret]?)?;
-    let out = kind_fault(verdict_with(alloc, start, takes_clock)?);
-    assert_eq!(rt; out, Some((11, 0, 2, 0, Kind::Out)));
-
-    let start = vec![in alloc; spawn(alloc, 1, &[1])?, Instr::Ret]?;
-    let takes_number = body(alloc, &[ParamKind::Number], 1, vec![in alloc; Instr::Ret]?)?;
-    let unset = kind_fault(verdict_with(alloc, start, takes_number)?);
-    assert_eq!(rt; unset, Some((11, 0, 0, 1, Kind::Unset)));
-
-    let both = [ParamKind::Clock, ParamKind::Number];
-    let start = vec![in alloc; Instr::Make(0), spawn(alloc, 1, &[0, 0])?, Instr::Ret]?;
-    let takes_both = body(alloc, &both, 2, vec![in alloc; Instr::Ret]?)?;
-    let not_number = kind_fault(verdict_with(alloc, start, takes_both)?);
-    assert_eq!(rt; not_number, Some((11, 0, 1, 0, Kind::Live)));
-    Ok(())
-}
-
-#[test]
-fn refuses_uses_of_parameters(rt: HostRuntime) -> Result<(), Fail> {
-    let alloc = rt.alloc();
-    let code = vec![in alloc; Instr::Advance, Instr::Lit(0, 1), Instr::Ret]?;
-    let loses = body(alloc, &[ParamKind::Clock], 1, code)?;
-    let Err(Refusal::Kind(f)) = verdict_with(alloc, vec![in alloc; Instr::Ret]?, loses)? else {
-        panic!(rt; "not refused by its kinds");
-    };
-    assert_eq!(rt; (f.rule, f.unit, f.slot), (Rule::Leak, 1, 0));
-    let walk = [stop(0, Kind::Live), stop(1, Kind::Live)];
-    assert_eq!(rt; f.walk.as_slice(), walk.as_slice());
-
-    let code = vec![in alloc; Instr::Resume(0), Instr::Ret]?;
-    let resumes = body(alloc, &[ParamKind::Number], 1, code)?;
-    let number = kind_fault(verdict_with(alloc, vec![in alloc; Instr::Ret]?, resumes)?);
-    assert_eq!(rt; number, Some((11, 1, 0, 0, Kind::Number)));
     Ok(())
 }
 
@@ -504,6 +248,116 @@ fn refuses_what_doubles_too_often(rt: HostRuntime) -> Result<(), Fail> {
     Ok(())
 }
 
+/// A loop with these bounds and nothing inside.
+fn empty_loop(alloc: Global, lo: i64, hi: i64) -> Result<Vec<Instr>, AllocError> {
+    Ok(vec![in alloc; Instr::For(0, lo, hi, 1), Instr::Next(0), Instr::Ret]?)
+}
+
+#[test]
+fn counts_turns(rt: HostRuntime) -> Result<(), Fail> {
+    let alloc = rt.alloc();
+    let one = measured(verdict_of(alloc, 1, empty_loop(alloc, -7, -7)?)?);
+    assert_eq!(rt; one, Some((3, 1, 0)));
+    let most = measured(verdict_of(alloc, 1, empty_loop(alloc, 1, 999_999_998)?)?);
+    assert_eq!(rt; most, Some((1_000_000_000, 1, 0)));
+    let more = bound_fault(verdict_of(alloc, 1, empty_loop(alloc, 1, 999_999_999)?)?);
+    assert_eq!(rt; more, Some((14, 1_000_000_000)));
+    let all = bound_fault(verdict_of(alloc, 1, empty_loop(alloc, i64::MIN, i64::MAX)?)?);
+    assert_eq!(rt; all, Some((14, 1_000_000_000)));
+    Ok(())
+}
+
+#[test]
+fn counts_what_stands_behind_a_loop_once(rt: HostRuntime) -> Result<(), Fail> {
+    let alloc = rt.alloc();
+    let two_loops = vec![in alloc;
+        Instr::For(0, 1, 3, 1),
+        Instr::Next(0),
+        Instr::For(0, 1, 4, 3),
+        Instr::Next(2),
+        Instr::Advance,
+        Instr::Ret,
+    ]?;
+    let two_loops = measured(verdict_of(alloc, 1, two_loops)?);
+    assert_eq!(rt; two_loops, Some((12, 1, 0)));
+    Ok(())
+}
+
+#[test]
+fn refuses_three_loops_one_in_another(rt: HostRuntime) -> Result<(), Fail> {
+    let alloc = rt.alloc();
+    let code = vec![in alloc;
+        Instr::For(0, 1, 1000, 5),
+        Instr::For(1, 1, 1000, 4),
+        Instr::For(2, 1, 1000, 3),
+        Instr::Next(2),
+        Instr::Next(1),
+        Instr::Next(0),
+        Instr::Ret,
+    ]?;
+    let steps = bound_fault(verdict_of(alloc, 3, code)?);
+    assert_eq!(rt; steps, Some((14, 1_000_000_000)));
+    Ok(())
+}
+
+/// A clock made and dropped in a loop of so many turns, in a loop of 1,000.
+fn clocks_in_loops(alloc: Global, turns: i64) -> Result<Vec<Instr>, AllocError> {
+    Ok(vec![in alloc;
+        Instr::For(0, 1, 1000, 5),
+        Instr::For(1, 1, turns, 4),
+        Instr::Make(2),
+        Instr::Drop(2),
+        Instr::Next(1),
+        Instr::Next(0),
+        Instr::Ret,
+    ]?)
+}
+
+#[test]
+fn counts_clocks_in_loops(rt: HostRuntime) -> Result<(), Fail> {
+    let alloc = rt.alloc();
+    let most = measured(verdict_of(alloc, 3, clocks_in_loops(alloc, 100)?)?);
+    assert_eq!(rt; most, Some((302_002, 1, 100_000)));
+    let more = bound_fault(verdict_of(alloc, 3, clocks_in_loops(alloc, 101)?)?);
+    assert_eq!(rt; more, Some((16, 100_000)));
+    Ok(())
+}
+
+/// Main, which starts this body in a loop of so many turns.
+fn starts_in_a_loop(alloc: Global, turns: i64, started: Unit) -> Result<Vec<Unit>, AllocError> {
+    let code = vec![in alloc;
+        Instr::For(0, 1, turns, 2),
+        spawn(alloc, 1, &[])?,
+        Instr::Next(0),
+        Instr::Ret,
+    ]?;
+    let main = main_unit(alloc, 1, code)?;
+    Ok(vec![in alloc; main, started]?)
+}
+
+#[test]
+fn counts_starts_in_a_loop(rt: HostRuntime) -> Result<(), Fail> {
+    let alloc = rt.alloc();
+    let ret = body(alloc, &[], 0, vec![in alloc; Instr::Ret]?)?;
+    let most = measured(verdict(alloc, starts_in_a_loop(alloc, 99_999, ret)?)?);
+    assert_eq!(rt; most, Some((299_999, 100_000, 0)));
+    let ret = body(alloc, &[], 0, vec![in alloc; Instr::Ret]?)?;
+    let more = bound_fault(verdict(alloc, starts_in_a_loop(alloc, 100_000, ret)?)?);
+    assert_eq!(rt; more, Some((15, 100_000)));
+
+    let code = vec![in alloc;
+        Instr::For(0, 1, 5, 3),
+        Instr::Make(1),
+        Instr::Drop(1),
+        Instr::Next(0),
+        Instr::Ret,
+    ]?;
+    let makes = body(alloc, &[], 2, code)?;
+    let both = measured(verdict(alloc, starts_in_a_loop(alloc, 10, makes)?)?);
+    assert_eq!(rt; both, Some((192, 11, 50)));
+    Ok(())
+}
+
 #[test]
 fn says_why(rt: HostRuntime) -> Result<(), Fail> {
     let alloc = rt.alloc();
@@ -526,13 +380,4 @@ fn says_why(rt: HostRuntime) -> Result<(), Fail> {
         "slot 0 breaks rule V11 Use in unit 0 at 1, where it is live"
     );
     Ok(())
-}
-
-#[test]
-fn holds_kinds(rt: HostRuntime) {
-    let clocks = KindSet::of(Kind::Live).with(Kind::Resumed);
-    assert!(rt; clocks.contains(Kind::Live) && clocks.contains(Kind::Resumed));
-    assert!(rt; !clocks.contains(Kind::Out) && !clocks.is_empty());
-    assert!(rt; KindSet::empty().is_empty() && !KindSet::empty().contains(Kind::Unset));
-    assert_ne!(rt; clocks, KindSet::of(Kind::Live));
 }

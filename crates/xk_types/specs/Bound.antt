@@ -4,6 +4,8 @@ use Rattle.std.specs.Prelude.{ℕ, zero, suc, ◌+◌, ◌*◌, ◌≤◌, max, 
 use Rattle.std.specs.Option.{option_map_or}
 use Rattle.xk_types.specs.declared.instr.Instr.{Instr}
 use Rattle.xk_types.specs.declared.instr.Instr.TheVariants as instr
+use Rattle.xk_types.specs.declared.rules.Rule.{Rule}
+use Rattle.xk_types.specs.declared.rules.Rule.TheVariants as rule
 use Rattle.xk_types.specs.Code.{UnitValue, ModuleValue, unit_started, Loop, loops, is_round, turns}
 
 -- the steps of an instruction itself
@@ -67,9 +69,25 @@ clocks_bound m = total clocks_weight m 0
 abbrev pub stack_bound : ModuleValue → ℕ
 stack_bound m = fold max 0 (map (λ u. u.slots) m.units)
 
--- V14 to V17
+-- V14 to V17: what each of them limits; nothing for any other rule
+abbrev pub bound_of : ModuleValue → Rule → ℕ
+bound_of m rule.Steps = steps_bound m
+bound_of m rule.Activities = activities_bound m
+bound_of m rule.Clocks = clocks_bound m
+bound_of m rule.Stack = stack_bound m
+bound_of m _ = 0
+
+-- the most that each of them allows
+abbrev pub limit_of : Rule → ℕ
+limit_of rule.Steps = 1000000000
+limit_of rule.Activities = 100000
+limit_of rule.Clocks = 100000
+limit_of rule.Stack = 4096
+limit_of _ = 0
+
+-- none of them is broken
 pub record IsWithinBounds (m : ModuleValue) : Type 0 where
-  pub steps : steps_bound m ≤ 1000000000
-  pub activities : activities_bound m ≤ 100000
-  pub clocks : clocks_bound m ≤ 100000
-  pub stack : stack_bound m ≤ 4096
+  pub steps : bound_of m rule.Steps ≤ limit_of rule.Steps
+  pub activities : bound_of m rule.Activities ≤ limit_of rule.Activities
+  pub clocks : bound_of m rule.Clocks ≤ limit_of rule.Clocks
+  pub stack : bound_of m rule.Stack ≤ limit_of rule.Stack

@@ -1,15 +1,24 @@
 -- one unit more, from the last on
-use Rattle.std.proofs.Common.{◌≡◌, ℕ, ◌-◌, ◌<◌, min, List, length, refl, Some, slice_get, slice_index, sum_by, inl, inr, sym, ap, ◌∙◌, subst, arith, get_or-set_other, get_or-set_same}
+use Rattle.std.proofs.Common.{◌≡◌, ℕ, ◌-◌, ◌<◌, min, List, length, refl, Some, slice_get, slice_index, inl, inr, sym, ap, ◌∙◌, subst, arith, get_or-set_other, get_or-set_same}
 use Rattle.std.proofs.Math.ListN.{length-set, set}
 use Rattle.std.proofs.lemmas.Bool.{cases_lt}
 use Rattle.std.proofs.lemmas.Option.{slice_get_read}
-use Rattle.xk_types.specs.declared.instr.Instr.{Instr}
-use Rattle.xk_types.specs.Code.{UnitValue}
 use Rattle.xk_types.specs.Bound.{total}
 use Rattle.xk_bounds.specs.declared.bounds.TheConstants.{CUT}
-use Rattle.xk_bounds.specs.Measure.{added, weight_of}
-use Rattle.xk_bounds.proofs.Totals.{total_cut}
+use Rattle.xk_bounds.specs.Measure.{added_by, weight_of}
+use Rattle.xk_bounds.proofs.Totals.{blocks_from, total_cut}
 use Rattle.xk_bounds.proofs.bounds.most.Goals as goal
+
+pub most_of-requires : goal.most_of-requires
+most_of-requires c =
+    let m = c.args.m.now in
+    let unit = c.loop-unit.unit - 1 in
+    let units = c.units-units.result.now in
+    let u = c.index-units-unit.result in
+    let inv = c.loop-unit.invariant in
+    let as_long : length units ≡ length m.units = ap length c.units-units.ensures.listed in
+    let lt : unit < length units = omega (arith, inv.0) in
+    blocks_from m c.requires unit u (ap (λ us. slice_get us unit) (sym c.units-units.ensures.listed) ∙ slice_get_read units (length units) unit u refl lt c.index-units-unit.is)
 
 pub loop-unit-preserved : goal.loop-unit-preserved
 loop-unit-preserved c =
@@ -17,19 +26,15 @@ loop-unit-preserved c =
     let weight = weight_of c.args.counted in
     let unit = c.loop-unit.unit - 1 in
     let table = c.loop-unit.table.items in
-    let most = c.most_of-most.result in
+    let most = c.in_ok-most.most in
     let inv = c.loop-unit.invariant in
     let units = c.units-units.result.now in
     let u = c.index-units-unit.result in
     let as_long : length units ≡ length m.units = ap length c.units-units.ensures.listed in
     let lt : unit < length units = omega (arith, inv.0) in
     let found : slice_get m.units unit ≡ Some u = ap (λ us. slice_get us unit) (sym c.units-units.ensures.listed) ∙ slice_get_read units (length units) unit u refl lt c.index-units-unit.is in
-    let read : most ≡ min (sum_by (added weight (slice_index table)) u.code) CUT =
-    let code : c.deref.result.now ≡ u.code = c.deref.ensures.value ∙ ap (λ (x : UnitValue). x.code) c.u.view_is in
-    let Q : List Instr → Type 0 = λ is. most ≡ min (sum_by (added weight (slice_index table)) is) CUT in
-    let R : List ℕ → Type 0 = λ xs. most ≡ min (sum_by (added weight (slice_index xs)) c.deref.result.now) CUT in
-    subst Q code (subst R c.deref-in-loop-unit.ensures.value c.most_of-most.ensures)
-    in
+    let R : List ℕ → Type 0 = λ xs. most ≡ min (added_by weight (slice_index xs) u) CUT in
+    let read : most ≡ min (added_by weight (slice_index table) u) CUT = subst R c.deref.ensures.value c.in_ok-most.ensures in
     let here = read ∙ total_cut weight m c.requires CUT table unit u found (λ t above inside. inv.1 t (omega arith) inside) in (
       length-set table unit most ∙ inv.0,
       λ t from inside. elim (cases_lt unit t) [

@@ -1,0 +1,249 @@
+-- How often instructions are carried out: from one place of a unit to the next.
+use Rattle.std.proofs.Common.{◌≡◌, ℕ, ℤ, zero, suc, ◌+◌, ◌*◌, ◌<◌, ◌≤◌, eqb, min, cond, nat_lt, nat_le, Bool, true, false, not, ◌&&◌, List, [], ◌∷◌, length, filter, Option, Some, None, slice_get, slice_index, inl, inr, sym, refl, ap, ◌∙◌, subst, arith}
+use Rattle.std.specs.Bool.{Decides}
+use Rattle.std.specs.List.{list_any}
+use Rattle.std.specs.Option.{option_map_or}
+use Rattle.std.proofs.Math.Nat.{mul_comm, mul_left_comm}
+use Rattle.std.proofs.lemmas.Option.{same_Some, cond_some, option_and_then_some}
+use Rattle.std.proofs.lemmas.Bool.{and_parts, or_parts, not-false, ltb-true, leb-true, le-leb, le-ltb, lt-ltb, eqb-true, both_ways, false_from_ne_true, cases_order}
+use Rattle.std.proofs.lemmas.Bool.Decides.{same_from_decides, Decides-and, Decides-like, Decides-ltb}
+use Rattle.xk_types.specs.declared.instr.Instr.{Instr}
+use Rattle.xk_types.specs.declared.instr.Instr.TheVariants as instr
+use Rattle.xk_types.specs.Order.{Has}
+use Rattle.xk_types.specs.Code.{UnitValue, Loop, loop_begun, loops_from, loops, is_next_of, is_round, turns}
+use Rattle.xk_types.specs.Shape.{aims_well, instr_is, is_crossing, is_amiss, loop_ended, overlaps}
+use Rattle.xk_types.specs.Bound.{product, visits}
+use Rattle.xk_bounds.specs.Measure.{HasBlocks, loop_between, visits_next}
+use Rattle.xk_bounds.proofs.Cuts.{cut_left}
+
+-- ---- products
+
+chosen : (b : Bool) (l : Loop) (xs ys : List Loop) → product xs ≡ product ys → product (cond b (l ∷ xs) xs) ≡ product (cond b (l ∷ ys) ys)
+chosen true l xs ys e = ap (λ n. turns l * n) e
+chosen false l xs ys e = e
+
+chosen_times : (b : Bool) (t : ℕ) (l : Loop) (xs ys : List Loop) → product xs ≡ t * product ys → product (cond b (l ∷ xs) xs) ≡ t * product (cond b (l ∷ ys) ys)
+chosen_times true t l xs ys e = ap (λ n. turns l * n) e ∙ mul_left_comm (turns l) t (product ys)
+chosen_times false t l xs ys e = e
+
+-- two tests that agree on the loops of a list choose the same product
+product_same : (p q : Loop → Bool) (ls : List Loop) → ((l : Loop) → Has ls l → p l ≡ q l) → product (filter p ls) ≡ product (filter q ls)
+product_same p q [] same = refl
+product_same p q (l ∷ ls) same =
+    ap (λ b. product (cond b (l ∷ filter p ls) (filter p ls))) (same l (inl refl))
+    ∙ chosen (q l) l (filter p ls) (filter q ls) (product_same p q ls (λ k has. same k (inr has)))
+
+-- a test that chooses none
+product_none : (p : Loop → Bool) (ls : List Loop) → ((l : Loop) → p l ≡ false) → product (filter p ls) ≡ 1
+product_none p [] none = refl
+product_none p (l ∷ ls) none = ap (λ b. product (cond b (l ∷ filter p ls) (filter p ls))) (none l) ∙ product_none p ls none
+
+none_any : (f : Loop → Bool) (ls : List Loop) → list_any f ls ≡ false → (l : Loop) → Has ls l → f l ≡ false
+none_any f [] h l has = absurd has
+none_any f (k ∷ ls) h l (inl same) = ap f (sym same) ∙ (or_parts (f k) (list_any f ls) h).0
+none_any f (k ∷ ls) h l (inr has) = none_any f ls (or_parts (f k) (list_any f ls) h).1 l has
+
+-- ---- the loops of a unit
+
+-- its `for` and its `next` stand where it says
+record IsLoop (u : UnitValue) (l : Loop) : Type 0 where
+  begins : slice_get u.code l.first ≡ Some (instr.For l.slot l.lo l.hi l.last)
+  ends : slice_get u.code l.last ≡ Some (instr.Next l.first)
+
+next_is : (first : ℕ) (o : Option Instr) → is_next_of first o ≡ true → o ≡ Some (instr.Next first)
+next_is first (Some (instr.Next b)) h = ap (λ n. Some (instr.Next n)) (eqb-true b first h)
+next_is first _ h = absurd (both_ways false refl h)
+
+begun_is : (u : UnitValue) (first : ℕ) (i : Instr) (l : Loop) → slice_get u.code first ≡ Some i → loop_begun u first i ≡ Some l → (l.first ≡ first) × IsLoop u l
+begun_is u first (instr.For k lo hi e) l here h =
+    let both = cond_some (is_next_of first (slice_get u.code e)) (record { first = first; last = e; slot = k; lo = lo; hi = hi }) l h in
+    subst (λ (x : Loop). (x.first ≡ first) × IsLoop u x) both.1 (refl, record { begins = here; ends = next_is first (slice_get u.code e) both.0 })
+begun_is u first _ l here h = cc
+
+-- the list is the unit's code from a place on
+abbrev IsFrom : UnitValue → ℕ → List Instr → Type 0
+IsFrom u n is = (j : ℕ) → slice_get is j ≡ slice_get u.code (n + j)
+
+module _ (u : UnitValue) where
+  from_next : (n : ℕ) (i : Instr) (is : List Instr) → IsFrom u n (i ∷ is) → IsFrom u (suc n) is
+  from_next n i is from = λ j. let e : n + suc j ≡ suc n + j = omega arith in from (suc j) ∙ ap (slice_get u.code) e
+
+  from_here : (n : ℕ) (i : Instr) (is : List Instr) → IsFrom u n (i ∷ is) → slice_get u.code n ≡ Some i
+  from_here n i is from = let e : n ≡ n + 0 = omega arith in ap (slice_get u.code) e ∙ sym (from 0)
+
+  member_here : (n : ℕ) (i : Instr) (rest : List Loop) (l : Loop) (o : Option Loop) → slice_get u.code n ≡ Some i → loop_begun u n i ≡ o → (Has rest l → (suc n ≤ l.first) × IsLoop u l)
+      → Has (option_map_or (λ k. k ∷ rest) o rest) l → (n ≤ l.first) × IsLoop u l
+  member_here n i rest l None here e later has = let is = later has in (omega arith, is.1)
+  member_here n i rest l (Some k) here e later (inl same) =
+      let is = begun_is u n i k here e in
+      subst (λ (x : Loop). (n ≤ x.first) × IsLoop u x) same (omega arith, is.1)
+  member_here n i rest l (Some k) here e later (inr has) = let is = later has in (omega arith, is.1)
+
+  member_from : (n : ℕ) (is : List Instr) → IsFrom u n is → (l : Loop) → Has (loops_from u n is) l → (n ≤ l.first) × IsLoop u l
+  member_from n [] from l has = absurd has
+  member_from n (i ∷ is) from l has =
+      member_here n i (loops_from u (suc n) is) l (loop_begun u n i) (from_here n i is from) refl (member_from (suc n) is (from_next n i is from) l) has
+
+  member_is : (l : Loop) → Has (loops u) l → IsLoop u l
+  member_is l has = (member_from 0 u.code (λ j. let e : j ≡ 0 + j = omega arith in ap (slice_get u.code) e) l has).1
+
+  -- ---- places round which loops lie
+
+  decides_round : (at : ℕ) (l : Loop) → Decides (is_round at l) ((l.first < at) × (at ≤ l.last))
+  decides_round at l = Decides-and (nat_lt l.first at) (nat_le at l.last) (Decides-ltb l.first at) (leb-true at l.last, le-leb at l.last)
+
+  round_same : (a b : ℕ) (l : Loop) → ((l.first < a) × (a ≤ l.last) → (l.first < b) × (b ≤ l.last)) → ((l.first < b) × (b ≤ l.last) → (l.first < a) × (a ≤ l.last)) → is_round a l ≡ is_round b l
+  round_same a b l to from = same_from_decides (is_round a l) (is_round b l) (Decides-like (is_round a l) to from (decides_round a l)) (decides_round b l)
+
+  -- a loop that neither begins nor ends at a place lies round it and the next, or round none of the two
+  round_next : (at : ℕ) (l : Loop) → (l.first ≡ at → ⊥) → (l.last ≡ at → ⊥) → is_round (suc at) l ≡ is_round at l
+  round_next at l begins ends = round_same (suc at) at l (λ h. (omega arith, omega arith)) (λ h. (omega arith, omega arith))
+
+  -- an instruction that is no `for`, and one that is no `next`
+  abbrev begins_none : Instr → Bool
+  begins_none (instr.For k lo hi e) = false
+  begins_none _ = true
+
+  abbrev ends_none : Instr → Bool
+  ends_none (instr.Next b) = false
+  ends_none _ = true
+
+  no_begin : (at : ℕ) (i : Instr) (l : Loop) → slice_get u.code at ≡ Some i → begins_none i ≡ true → IsLoop u l → l.first ≡ at → ⊥
+  no_begin at i l here none is e =
+      both_ways (begins_none i) (ap begins_none (same_Some _ _ (sym here ∙ ap (slice_get u.code) (sym e) ∙ is.begins))) none
+
+  no_end : (at : ℕ) (i : Instr) (l : Loop) → slice_get u.code at ≡ Some i → ends_none i ≡ true → IsLoop u l → l.last ≡ at → ⊥
+  no_end at i l here none is e =
+      both_ways (ends_none i) (ap ends_none (same_Some _ _ (sym here ∙ ap (slice_get u.code) (sym e) ∙ is.ends))) none
+
+  -- behind any other instruction the count is the same
+  stays : (at : ℕ) (i : Instr) → slice_get u.code at ≡ Some i → begins_none i ≡ true → ends_none i ≡ true → visits u (suc at) ≡ visits u at
+  stays at i here no_for no_next =
+      product_same (is_round (suc at)) (is_round at) (loops u) (λ l has. let is = member_is l has in round_next at l (no_begin at i l here no_for is) (no_end at i l here no_next is))
+
+  pub starts : visits u 0 ≡ 1
+  starts = product_none (is_round 0) (loops u) (λ l. rw (le-ltb l.first 0 (omega arith)) refl)
+
+  -- ---- into a loop
+
+  not_amiss : (o : Option Loop) → is_amiss u o ≡ false → (l : Loop) × (o ≡ Some l) × (list_any (overlaps l) (loops u) ≡ false)
+  not_amiss None h = absurd (both_ways true h refl)
+  not_amiss (Some l) h = (l, refl, h)
+
+  entered_here : (n : ℕ) (rest : List Loop) (l : Loop) (p q : Loop → Bool) (o : Option Loop) → o ≡ Some l → p l ≡ true → q l ≡ false → product (filter p rest) ≡ product (filter q rest)
+      → product (filter p (option_map_or (λ k. k ∷ rest) o rest)) ≡ turns l * product (filter q (option_map_or (λ k. k ∷ rest) o rest))
+  entered_here n rest l p q o e passes fails same =
+      ap (λ x. product (filter p (option_map_or (λ k. k ∷ rest) x rest))) e
+      ∙ ap (λ b. product (cond b (l ∷ filter p rest) (filter p rest))) passes
+      ∙ ap (λ x. turns l * x) (same ∙ sym (ap (λ b. product (cond b (l ∷ filter q rest) (filter q rest))) fails))
+      ∙ sym (ap (λ x. turns l * product (filter q (option_map_or (λ k. k ∷ rest) x rest))) e)
+
+  entered_later : (rest : List Loop) (t : ℕ) (p q : Loop → Bool) (o : Option Loop) → ((k : Loop) → o ≡ Some k → p k ≡ q k) → product (filter p rest) ≡ t * product (filter q rest)
+      → product (filter p (option_map_or (λ k. k ∷ rest) o rest)) ≡ t * product (filter q (option_map_or (λ k. k ∷ rest) o rest))
+  entered_later rest t p q None same e = e
+  entered_later rest t p q (Some k) same e =
+      ap (λ b. product (cond b (k ∷ filter p rest) (filter p rest))) (same k refl) ∙ chosen_times (q k) t k (filter p rest) (filter q rest) e
+
+  module _ (at : ℕ) (i : Instr) (l : Loop) (here : slice_get u.code at ≡ Some i) (is_for : ends_none i ≡ true) (begun : loop_begun u at i ≡ Some l) (ahead : at < l.last) where
+    entered : (n j : ℕ) (is : List Instr) → IsFrom u n is → slice_get is j ≡ Some i → n + j ≡ at
+        → product (filter (is_round (suc at)) (loops_from u n is)) ≡ turns l * product (filter (is_round at) (loops_from u n is))
+    entered n j [] from found e = cc
+    entered n zero (x ∷ is) from found e =
+        let first = begun_is u at i l here begun in
+        let same : n ≡ at = omega arith in
+        entered_here n (loops_from u (suc n) is) l (is_round (suc at)) (is_round at) (loop_begun u n x)
+        (ap (λ k. loop_begun u k x) same ∙ ap (loop_begun u at) (same_Some x i found) ∙ begun)
+        ((decides_round (suc at) l).1 (omega arith, omega arith))
+        (false_from_ne_true (is_round at l) (λ round. let of = (decides_round at l).0 round in omega arith))
+        (product_same (is_round (suc at)) (is_round at) (loops_from u (suc n) is) (λ k has.
+        let at_k = member_from (suc n) is (from_next n x is from) k has in
+        round_next at k (λ eq. omega arith) (no_end at i k here is_for at_k.1)))
+    entered n (suc j) (x ∷ is) from found e =
+        entered_later (loops_from u (suc n) is) (turns l) (is_round (suc at)) (is_round at) (loop_begun u n x)
+        (λ k eq.
+        let at_k = begun_is u n x k (from_here n x is from) eq in
+        round_next at k (λ eq. omega arith) (no_end at i k here is_for at_k.1))
+        (entered (suc n) j is (from_next n x is from) found (omega arith))
+
+  -- behind a `for`, each turn of its loop
+  pub enters : (at k : ℕ) (lo hi : ℤ) (e : ℕ) → HasBlocks u → slice_get u.code at ≡ Some (instr.For k lo hi e) → visits u (suc at) ≡ turns (loop_between lo hi) * visits u at
+  enters at k lo hi e blocks here =
+      let i = instr.For k lo hi e in
+      let loop : Loop = record { first = at; last = e; slot = k; lo = lo; hi = hi } in
+      let some = not_amiss (loop_begun u at i) (sym (ap (instr_is (is_crossing u at)) here) ∙ blocks.blocks at) in
+      let both = cond_some (is_next_of at (slice_get u.code e)) loop some.0 some.1 in
+      let begun : loop_begun u at i ≡ Some loop = ap (λ b. cond b (Some loop) None) both.0 in
+      let aims = not-false (aims_well u at i) (sym (ap (instr_is (λ x. not (aims_well u at x))) here) ∙ blocks.targets at) in
+      let ahead = ltb-true at e (and_parts (nat_lt at e) (nat_lt e (length u.code)) aims).0 in
+      entered at i loop here refl begun ahead 0 at u.code (λ j. let eq : j ≡ 0 + j = omega arith in ap (slice_get u.code) eq) here (omega arith)
+
+  -- ---- out of a loop
+
+  ended_is : (at first : ℕ) (l : Loop) (o : Option Instr) → slice_get u.code first ≡ o → loop_ended u at first o ≡ Some l → (l.first ≡ first) × (l.last ≡ at) × IsLoop u l
+  ended_is at first l None here h = cc
+  ended_is at first l (Some i) here h =
+      option_and_then_some (λ k. cond (eqb k.last at) (Some k) None) (loop_begun u first i) l h (λ k begun kept.
+      let both = cond_some (eqb k.last at) k l kept in
+      let is = begun_is u first i k here begun in
+      subst (λ (x : Loop). (x.first ≡ first) × (x.last ≡ at) × IsLoop u x) both.1 (is.0, eqb-true k.last at both.0, is.1))
+
+  -- of two loops of one `for`, or of one `next`, one is the other
+  same_end : (l k : Loop) → IsLoop u l → IsLoop u k → k.first ≡ l.first → k.last ≡ l.last
+  same_end l k is at_k e = let same = same_Some _ _ (sym at_k.begins ∙ ap (slice_get u.code) e ∙ is.begins) in cc
+
+  same_begin : (l k : Loop) → IsLoop u l → IsLoop u k → k.last ≡ l.last → k.first ≡ l.first
+  same_begin l k is at_k e = let same = same_Some _ _ (sym at_k.ends ∙ ap (slice_get u.code) e ∙ is.ends) in cc
+
+  no_rise : (a b c d : ℕ) → (nat_lt a b && nat_lt b c && nat_lt c d) ≡ false → a < b → b < c → c < d → ⊥
+  no_rise a b c d h p q r = both_ways (nat_lt a b && nat_lt b c && nat_lt c d) h (rw (lt-ltb a b p, lt-ltb b c q, lt-ltb c d r) refl)
+
+  -- a loop lies round the place behind a `next` where it lies round its `for`
+  round_left : (l k : Loop) → l.first < l.last → IsLoop u l → IsLoop u k → overlaps l k ≡ false → is_round (suc l.last) k ≡ is_round l.first k
+  round_left l k long is at_k apart =
+      let parts = or_parts (nat_lt l.first k.first && nat_lt k.first l.last && nat_lt l.last k.last) (nat_lt k.first l.first && nat_lt l.first k.last && nat_lt k.last l.last) apart in
+      let begins = no_begin l.last (instr.Next l.first) k is.ends refl at_k in
+      let ends = no_end l.first (instr.For l.slot l.lo l.hi l.last) k is.begins refl at_k in
+      let inside = no_rise l.first k.first l.last k.last parts.0 in
+      let about = no_rise k.first l.first k.last l.last parts.1 in
+      round_same (suc l.last) l.first k
+      (λ h.
+      let before : k.first < l.first = elim (cases_order k.first l.first) [
+        | inl same ↦ let e = same_end l k is at_k same in absurd (omega arith)
+        | inr apart ↦ elim apart [ inl lt ↦ lt | inr gt ↦ absurd (inside gt (omega arith) (omega arith)) ]
+      ]
+      in (before, omega arith))
+      (λ h.
+      let lt : l.first < k.last = omega arith in
+      let behind : l.last < k.last = elim (cases_order l.last k.last) [
+        | inl same ↦ let e = same_begin l k is at_k (sym same) in absurd (omega arith)
+        | inr apart ↦ elim apart [ inl lt ↦ lt | inr gt ↦ absurd (about h.0 lt gt) ]
+      ]
+      in (omega arith, omega arith))
+
+  pub leaves : (at first : ℕ) → HasBlocks u → slice_get u.code at ≡ Some (instr.Next first) → (first < at) × (visits u (suc at) ≡ visits u first)
+  leaves at first blocks here =
+      let i = instr.Next first in
+      let some = not_amiss (loop_ended u at first (slice_get u.code first)) (sym (ap (instr_is (is_crossing u at)) here) ∙ blocks.blocks at) in
+      let l = some.0 in
+      let is = ended_is at first l (slice_get u.code first) refl some.1 in
+      let aims = not-false (aims_well u at i) (sym (ap (instr_is (λ x. not (aims_well u at x))) here) ∙ blocks.targets at) in
+      let behind = ltb-true first at aims in
+      let P : ℕ → ℕ → Type 0 = λ a b. visits u (suc a) ≡ visits u b in
+      let long : l.first < l.last = omega arith in
+      let same = product_same (is_round (suc l.last)) (is_round l.first) (loops u) (λ k has. round_left l k long is.2 (member_is k has) (none_any (overlaps l) (loops u) some.2 k has)) in
+      (behind, subst (λ b. P at b) is.0 (subst (λ a. P a l.first) is.1 same))
+
+-- ---- one place on
+
+-- the count behind an instruction, cut, is what is reckoned from the counts so far
+pub next_measured : (u : UnitValue) (cut at here : ℕ) (before : List ℕ) (i : Instr) → HasBlocks u → slice_get u.code at ≡ Some i → here ≡ min (visits u at) cut → ((k : ℕ) → k < at → slice_index before k ≡ min (visits u k) cut)
+    → visits_next cut before here i ≡ min (visits u (suc at)) cut
+next_measured u cut at here before (instr.For k lo hi e) blocks found is counted =
+    ap (λ n. min (n * turns (loop_between lo hi)) cut) is
+    ∙ cut_left cut (visits u at) (turns (loop_between lo hi))
+    ∙ ap (λ n. min n cut) (mul_comm (visits u at) (turns (loop_between lo hi)) ∙ sym (enters u at k lo hi e blocks found))
+next_measured u cut at here before (instr.Next first) blocks found is counted =
+    let out = leaves u at first blocks found in
+    counted first out.0 ∙ ap (λ n. min n cut) (sym out.1)
+next_measured u cut at here before i blocks found is counted =
+    is ∙ ap (λ n. min n cut) (sym (stays u at i found refl refl))
