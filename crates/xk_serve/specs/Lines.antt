@@ -5,7 +5,7 @@ use Rattle.xk_types.specs.declared.rules.Rule.{Rule}
 use Rattle.xk_types.specs.declared.rules.Visit.{Visit}
 use Rattle.xk_types.specs.Names.{rule_number, rule_name, kind_name}
 use Rattle.xk_module.specs.Faults.{fault_label}
-use Rattle.xk_bounds.specs.declared.refusal.KindFault.{KindFault}
+use Rattle.xk_typestate.specs.declared.refusal.KindFault.{KindFault}
 use Rattle.xk_bounds.specs.declared.refusal.BoundFault.{BoundFault}
 use Rattle.xk_bounds.specs.declared.refusal.Refusal.{Refusal}
 use Rattle.xk_bounds.specs.declared.refusal.Refusal.TheVariants as refusal
