@@ -1,7 +1,7 @@
 #!/bin/sh
 # Refuses each growth in turn, the first, the second and so on, until a run ends without a refusal: in `exhaust`, which
-# makes each library call again where it was refused memory, and in `x10clock` itself on small programs, which has to
-# answer as it does with ample memory, or with status 4, an empty standard output and its line.
+# makes each library call again where it was refused memory, and in `x10clock` itself on small programs and on words that
+# are no job, which has to answer as it does with ample memory, or with status 4, an empty standard output and its line.
 set -eu
 cd "$(dirname "$0")/.."
 top=$PWD
@@ -41,36 +41,76 @@ while :; do
     [ -e "$work/mark" ] || break
     k=$((k + 1))
 done
+[ "$k" -gt 1 ] || fail "exhaust: no growth was refused"
 total=$((total + k - 1))
 
+# ample WORDS..: what x10clock answers to these words with ample memory.
+ample() {
+    refusing 0 "$top/crates/x10clock/out/x10clock" "$@"
+    wanted=$status
+    cp "$work/out" "$work/wanted-out"
+    cp "$work/err" "$work/wanted-err"
+}
+
+# each_growth NAME WORDS..: x10clock answers so, or that memory ran out, whichever of its growths is refused.
 printf 'x10clock: out of memory\n' > "$work/memory"
+each_growth() {
+    what=$1
+    shift
+    k=1
+    while :; do
+        refusing "$k" "$top/crates/x10clock/out/x10clock" "$@"
+        if [ "$status" = 4 ]; then
+            [ ! -s "$work/out" ] || fail "$what, growth $k: output with status 4"
+            cmp -s "$work/err" "$work/memory" || fail "$what, growth $k: $(cat "$work/err")"
+            [ -e "$work/mark" ] || fail "$what: out of memory without a refused growth"
+        else
+            [ "$status" = "$wanted" ] || fail "$what, growth $k: status $status"
+            cmp -s "$work/out" "$work/wanted-out" || fail "$what, growth $k: $(cat "$work/out")"
+            cmp -s "$work/err" "$work/wanted-err" || fail "$what, growth $k: $(cat "$work/err")"
+        fi
+        [ -e "$work/mark" ] || break
+        k=$((k + 1))
+    done
+    [ "$k" -gt 1 ] || fail "$what: no growth was refused"
+    total=$((total + k - 1))
+}
+
 for row in tests/rows/*.json; do
     base=${row%.json}
     cp "$row" "$work/in"
     for command in check run; do
-        refusing 0 "$top/crates/x10clock/out/x10clock" "$command" --module -
-        wanted=$status
-        cp "$work/out" "$work/wanted-out"
-        cp "$work/err" "$work/wanted-err"
+        ample "$command" --module -
         [ "$command" = check ] || cmp -s "$work/out" "$base.stdout" || fail "$row: $(cat "$work/out")"
         [ "$command" = check ] || cmp -s "$work/err" "$base.stderr" || fail "$row: $(cat "$work/err")"
-        k=1
-        while :; do
-            refusing "$k" "$top/crates/x10clock/out/x10clock" "$command" --module -
-            if [ "$status" = 4 ]; then
-                [ ! -s "$work/out" ] || fail "$row, growth $k: output with status 4"
-                cmp -s "$work/err" "$work/memory" || fail "$row, growth $k: $(cat "$work/err")"
-                [ -e "$work/mark" ] || fail "$row: out of memory without a refused growth"
-            else
-                [ "$status" = "$wanted" ] || fail "$row, growth $k: status $status"
-                cmp -s "$work/out" "$work/wanted-out" || fail "$row, growth $k: $(cat "$work/out")"
-                cmp -s "$work/err" "$work/wanted-err" || fail "$row, growth $k: $(cat "$work/err")"
-            fi
-            [ -e "$work/mark" ] || break
-            k=$((k + 1))
-        done
-        total=$((total + k - 1))
+        each_growth "$row" "$command" --module -
     done
 done
+
+# begins FILE LINE: the text in FILE begins with this line; an empty line stands for an empty text.
+begins() {
+    [ "$(head -n 1 "$1")" = "$2" ] && { [ -n "$2" ] || [ ! -s "$1" ]; }
+}
+
+# no_job NAME STATUS OUT ERR WORDS..: x10clock answers these words with this status and texts that begin so.
+no_job() {
+    said=$1
+    wanted_status=$2
+    wanted_out=$3
+    wanted_err=$4
+    shift 4
+    ample "$@"
+    [ "$wanted" = "$wanted_status" ] || fail "$said: status $wanted"
+    begins "$work/out" "$wanted_out" || fail "$said, output: $(cat "$work/out")"
+    begins "$work/err" "$wanted_err" || fail "$said, error: $(cat "$work/err")"
+    each_growth "$said" "$@"
+}
+
+: > "$work/in"
+no_job "no words" 2 "" "error: 'x10clock' requires a subcommand but one was not provided"
+no_job walk 2 "" "error: unrecognized subcommand 'walk'" walk
+no_job --help 0 "Verifies and runs clocked programs." "" --help
+no_job "a word not in UTF-8" 2 "" "x10clock: a word is not in UTF-8" run --module "$(printf '\377')"
+[ "$(wc -l < "$work/wanted-err")" = 1 ] || fail "a word not in UTF-8: $(cat "$work/wanted-err")"
 
 echo "refused growths: $total refused, all answered as they must"

@@ -1,12 +1,14 @@
 //! Small programs as module text, with their answers.
 
+use xk_types::Rule;
+
 /// What becomes of a text.
 #[derive(Drop)]
 pub enum Answer {
     /// It runs: the numbers printed, and the steps taken.
     Runs(&'static [i64], u64),
-    /// The verifier refuses it by the rule of this number.
-    Refused(u8),
+    /// The verifier refuses it by this rule.
+    Refused(Rule),
     /// It is no module: the label that is printed.
     Unread(&'static str),
 }
@@ -62,27 +64,27 @@ pub fn refused() -> [Row; 6] {
     [
         Row {
             text: r#"{"version":1,"shared":[],"units":[{"kind":"main","params":"","slots":1,"code":[["drop",0],["ret"]]}]}"#,
-            answer: Answer::Refused(11),
+            answer: Answer::Refused(Rule::Use),
         },
         Row {
             text: r#"{"version":1,"shared":[],"units":[{"kind":"main","params":"","slots":1,"code":[["make",0],["lit",0,1],["ret"]]}]}"#,
-            answer: Answer::Refused(13),
+            answer: Answer::Refused(Rule::Leak),
         },
         Row {
             text: r#"{"version":1,"shared":[],"units":[{"kind":"main","params":"","slots":1,"code":[["lit",1,1],["ret"]]}]}"#,
-            answer: Answer::Refused(3),
+            answer: Answer::Refused(Rule::Slot),
         },
         Row {
             text: r#"{"version":1,"shared":[],"units":[{"kind":"main","params":"","slots":1,"code":[["make",0],["spawn",2,[0]],["ret"]]},{"kind":"body","params":"c","slots":1,"code":[["ret"]]}]}"#,
-            answer: Answer::Refused(4),
+            answer: Answer::Refused(Rule::Unit),
         },
         Row {
             text: r#"{"version":1,"shared":[],"units":[{"kind":"main","params":"","slots":1,"code":[["make",0],["spawn",1,[0,0]],["ret"]]},{"kind":"body","params":"cc","slots":2,"code":[["ret"]]}]}"#,
-            answer: Answer::Refused(10),
+            answer: Answer::Refused(Rule::SameClock),
         },
         Row {
             text: r#"{"version":1,"shared":[],"units":[{"kind":"main","params":"","slots":1,"code":[["make",0],["drop",0],["spawn",1,[0]],["ret"]]},{"kind":"body","params":"c","slots":1,"code":[["ret"]]}]}"#,
-            answer: Answer::Refused(11),
+            answer: Answer::Refused(Rule::Use),
         },
     ]
 }

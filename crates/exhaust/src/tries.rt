@@ -27,13 +27,13 @@ fn on_rows(alloc: Global, rows: &[Row]) -> Result<(), Wrong> {
     Ok(())
 }
 
-// Reads, verifies and runs one program.
+/// Reads, verifies and runs one program.
 fn on_row(alloc: Global, row: &Row) -> Result<(), Wrong> {
     match (read(alloc, row.text.as_bytes()), &row.answer) {
         (Err(fault), Answer::Unread(label)) => {
             holds(fault.label() == Some(*label), "a text is refused otherwise")
         }
-        (Ok(program), Answer::Refused(number)) => breaks(alloc, program, *number),
+        (Ok(program), Answer::Refused(rule)) => breaks(alloc, program, *rule),
         (Ok(program), Answer::Runs(printed, steps)) => runs(alloc, program, printed, *steps),
         _ => Err(Wrong("a text is read otherwise")),
     }
@@ -43,7 +43,7 @@ fn holds(fact: bool, otherwise: &'static str) -> Result<(), Wrong> {
     if fact { Ok(()) } else { Err(Wrong(otherwise)) }
 }
 
-// Reads a module, a second time where memory was refused.
+/// Reads a module, a second time where memory was refused.
 fn read(alloc: Global, text: &[u8]) -> Result<Module, ModuleFault> {
     match read_module(alloc, text) {
         Err(ModuleFault::OutOfMemory) => read_module(alloc, text),
@@ -51,7 +51,7 @@ fn read(alloc: Global, text: &[u8]) -> Result<Module, ModuleFault> {
     }
 }
 
-// Verifies a module, a second time with what came back where memory was refused.
+/// Verifies a module, a second time with what came back where memory was refused.
 fn checked(alloc: Global, program: Module) -> Result<Verified, (Module, Refusal)> {
     match verify(alloc, program) {
         Err((same, Refusal::OutOfMemory)) => verify(alloc, same),
@@ -59,21 +59,21 @@ fn checked(alloc: Global, program: Module) -> Result<Verified, (Module, Refusal)
     }
 }
 
-fn number_of(refusal: &Refusal) -> Option<u8> {
-    let rule: Rule = match refusal {
-        Refusal::Shape(fault) => fault.rule,
-        Refusal::Kind(fault) => fault.rule,
-        Refusal::Bound(fault) => fault.rule,
-        Refusal::OutOfMemory => return None,
-    };
-    Some(rule.number())
+/// The rule that a refusal names, if it is for one.
+fn rule_of(refusal: &Refusal) -> Option<Rule> {
+    match refusal {
+        Refusal::Shape(fault) => Some(fault.rule),
+        Refusal::Kind(fault) => Some(fault.rule),
+        Refusal::Bound(fault) => Some(fault.rule),
+        Refusal::OutOfMemory => None,
+    }
 }
 
-fn breaks(alloc: Global, program: Module, number: u8) -> Result<(), Wrong> {
+fn breaks(alloc: Global, program: Module, rule: Rule) -> Result<(), Wrong> {
     match checked(alloc, program) {
         Ok(_) => Err(Wrong("a module is accepted that breaks a rule")),
         Err((_, refusal)) => holds(
-            number_of(&refusal) == Some(number),
+            rule_of(&refusal) == Some(rule),
             "a module is refused otherwise",
         ),
     }
@@ -88,8 +88,8 @@ fn runs(alloc: Global, program: Module, printed: &[i64], steps: u64) -> Result<(
     by_schedule(alloc, &verified, &schedule)
 }
 
-// Runs a module by the least enabled activity, step by step, and gives the numbers of those that stepped. It takes the
-// verified number of steps and prints these numbers.
+/// Runs a module by the least enabled activity, step by step, and gives the numbers of those that stepped. It takes the
+/// verified number of steps and prints these numbers.
 fn first_schedule(alloc: Global, verified: &Verified, printed: &[i64]) -> Result<Vec<u32>, Wrong> {
     let mut schedule = Vec::new(alloc);
     let mut core = opened(alloc, verified)?;
@@ -116,7 +116,7 @@ fn first_schedule(alloc: Global, verified: &Verified, printed: &[i64]) -> Result
     Ok(schedule)
 }
 
-// Adds a number to a list, at the second try where memory was refused.
+/// Adds a number to a list, at the second try where memory was refused.
 fn note(list: &mut Vec<u32>, number: u32) -> Result<(), Wrong> {
     if list.push(number).is_ok() {
         return Ok(());
@@ -125,7 +125,7 @@ fn note(list: &mut Vec<u32>, number: u32) -> Result<(), Wrong> {
         .map_err(|_| Wrong("a list doesn't grow at the second try"))
 }
 
-// Opens a core, at the second try where memory was refused.
+/// Opens a core, at the second try where memory was refused.
 fn opened<'m>(alloc: Global, verified: &'m Verified) -> Result<Core<'m>, Wrong> {
     match Core::open(alloc, verified) {
         Err(_) => Core::open(alloc, verified).map_err(|_| Wrong(
@@ -135,7 +135,7 @@ fn opened<'m>(alloc: Global, verified: &'m Verified) -> Result<Core<'m>, Wrong> 
     }
 }
 
-// One step of the activity, a second time where memory was refused.
+/// One step of the activity, a second time where memory was refused.
 fn stepped(core: &mut Core, act: Act) -> Result<Event, Wrong> {
     if !core.enabled(act) {
         return Err(Wrong("a step isn't enabled"));
@@ -151,8 +151,8 @@ fn stepped(core: &mut Core, act: Act) -> Result<Event, Wrong> {
     }
 }
 
-// The same run in one call. Where it is halted for want of memory, the core is where the steps before led, and goes on from
-// there to the same end. A second core is stepped beside it.
+/// The same run in one call. Where it is halted for want of memory, the core is where the steps before led, and goes on from
+/// there to the same end. A second core is stepped beside it.
 fn by_schedule(alloc: Global, verified: &Verified, schedule: &[u32]) -> Result<(), Wrong> {
     let mut beside = opened(alloc, verified)?;
     let start = opened(alloc, verified)?;
@@ -163,7 +163,7 @@ fn by_schedule(alloc: Global, verified: &Verified, schedule: &[u32]) -> Result<(
     }
 }
 
-// A core that was halted for want of memory before the step at this place.
+/// A core that was halted for want of memory before the step at this place.
 fn goes_on<'m>(
     alloc: Global,
     beside: &mut Core<'m>,
@@ -187,7 +187,7 @@ fn goes_on<'m>(
     }
 }
 
-// The steps of the second core are seen to do the same, and lead to the same end.
+/// The steps of the second core are seen to do the same, and lead to the same end.
 fn ends_alike(beside: &mut Core, schedule: &[u32], ran: &Ran) -> Result<(), Wrong> {
     let mut seen = ran.seen.iter();
     for number in schedule {
@@ -203,7 +203,7 @@ fn ends_alike(beside: &mut Core, schedule: &[u32], ran: &Ran) -> Result<(), Wron
     )
 }
 
-// Whether the calls on two cores answer the same.
+/// Whether the calls on two cores answer the same.
 fn are_alike(a: &Core, b: &Core) -> bool {
     a.steps_done() == b.steps_done() && acts_are_alike(a, b) && clocks_are_alike(a, b)
 }
@@ -234,7 +234,7 @@ fn clocks_are_alike(a: &Core, b: &Core) -> bool {
     true
 }
 
-// A tape: made, read and written.
+/// A tape: made, read and written.
 fn on_tape(alloc: Global) -> Result<(), Wrong> {
     let made = match Tape::new(alloc, b"in") {
         Err(_) => Tape::new(alloc, b"in"),

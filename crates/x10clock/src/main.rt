@@ -24,12 +24,12 @@ fn main(rt: HostRuntime) -> ExitCode {
     ExitCode::from(status)
 }
 
-// The words of the command line.
+/// The words of the command line.
 fn words(rt: &HostRuntime) -> io::Result<Vec<String>> {
     Ok(env::args(rt)?.collect(rt.alloc())?)
 }
 
-// Does what the words ask for.
+/// Does what the words ask for.
 fn on_words<O: Sink, E: Sink>(rt: &HostRuntime, words: &[String], out: &mut O, err: &mut E) -> u8 {
     let texts: Vec<&str> = match words.iter().map(|word| word.as_str()).collect(rt.alloc()) {
         Ok(texts) => texts,
@@ -41,7 +41,7 @@ fn on_words<O: Sink, E: Sink>(rt: &HostRuntime, words: &[String], out: &mut O, e
     }
 }
 
-// Opens FILE, and does the job.
+/// Opens FILE, and does the job.
 fn on_job<O: Sink, E: Sink>(rt: &HostRuntime, job: &Job<'_>, out: &mut O, err: &mut E) -> u8 {
     if job.file == "-" {
         return on_program(rt, job, rt.stdin(), out, err);
@@ -55,7 +55,7 @@ fn on_job<O: Sink, E: Sink>(rt: &HostRuntime, job: &Job<'_>, out: &mut O, err: &
     }
 }
 
-// Does the job on an open program. There are no logs yet.
+/// Does the job on an open program. There are no logs yet.
 fn on_program<P: Read + Drop, O: Sink, E: Sink>(
     rt: &HostRuntime,
     job: &Job<'_>,

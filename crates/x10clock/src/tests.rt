@@ -2,7 +2,7 @@ use super::*;
 use std::alloc::AllocError;
 use xk_types::Tape;
 
-// What the program said to its words.
+/// What the program said to its words.
 #[derive(Drop)]
 struct Said {
     status: u8,
@@ -47,7 +47,7 @@ fn words_are_not_understood(rt: HostRuntime) -> Result<(), AllocError> {
     Ok(())
 }
 
-// A file that isn't there is a device that failed.
+/// A file that isn't there is a device that failed.
 #[test]
 fn files_are_missing(rt: HostRuntime) -> Result<(), AllocError> {
     for command in ["check", "run"] {
@@ -61,7 +61,7 @@ fn files_are_missing(rt: HostRuntime) -> Result<(), AllocError> {
     Ok(())
 }
 
-// A file that is there is opened and read, and not standard input: this one is empty, and a folder can't be read.
+/// A file that is there is opened and read, and not standard input: this one is empty, and a folder can't be read.
 #[test]
 fn files_are_read(rt: HostRuntime) -> Result<(), AllocError> {
     let empty = answer_to(

@@ -1,7 +1,7 @@
 -- From a step of the definition to what the arms owe, and back.
 use Rattle.std.specs.Prelude.{slice_set}
-use Rattle.std.proofs.Common.{◌≡◌, ◌||◌, ℕ, zero, suc, ℤ, ◌-◌, ◌<◌, ◌≤◌, Bool, true, false, List, [], ◌∷◌, ◌++◌, length, map, replicate, arith, Option, Some, None, slice_get, refl, ap, sym, cond, get_or, All, ◌∙◌}
-use Rattle.std.proofs.lemmas.Option.{slice_get_within, slice_get_read, get_or_from_slice_get}
+use Rattle.std.proofs.Common.{◌≡◌, ◌||◌, ℕ, zero, suc, ℤ, ◌-◌, ◌<◌, ◌≤◌, Bool, true, false, List, [], ◌∷◌, ◌++◌, length, map, replicate, arith, Option, Some, None, slice_get, refl, ap, sym, cond, get_or, All, subst, ◌^◌, ◌∙◌}
+use Rattle.std.proofs.lemmas.Option.{slice_get_within, slice_get_read, slice_get-get_or, get_or_from_slice_get}
 use Rattle.std.proofs.lemmas.Bool.{false≢true}
 use Rattle.std.proofs.lemmas.List.{length-map}
 use Rattle.xk_types.specs.declared.instr.Instr.{Instr}
@@ -12,15 +12,18 @@ use Rattle.xk_types.specs.declared.names.Event.{Event}
 use Rattle.xk_types.specs.declared.names.Event.TheVariants as event
 use Rattle.xk_types.specs.declared.unit.ParamKind.{ParamKind}
 use Rattle.xk_types.specs.declared.unit.ParamKind.TheVariants as param
-use Rattle.std.specs.Option.{option_map_or}
+use Rattle.std.specs.Option.{option_map_or, option_and_then}
 use Rattle.xk_types.specs.Code.{UnitValue, ModuleValue, is_body, IsUnitWithinLimits, IsWithinLimits}
-use Rattle.xk_types.specs.World.{Activity, Clock, World, standing_of, slots_of}
-use Rattle.xk_types.specs.Step.{Outcome, Wrong, Stepped, ClockUse, OutOfRange, carried_out, done, number_in, clock_in, registered_on, put_in, arguments_in, names_clock, is_given, joined, spawned, spawning, settled, onward, is_signalled, is_pending, slot_at}
+use Rattle.xk_types.specs.World.{Activity, Clock, World, standing_of, slots_of, instruction_at}
+use Rattle.xk_types.specs.Step.{Outcome, Wrong, Stepped, ClockUse, OutOfRange, carried_out, done, number_in, clock_in, registered_on, put_in, arguments_in, names_clock, is_given, joined, spawned, spawning, settled, none, onward, with_slots, is_registered, computing, turning, slot_at}
 use Rattle.xk_types.specs.Schedule.{is_step}
-use Rattle.xk_core.specs.declared.change.Change.{Change}
-use Rattle.xk_core.specs.Change.{after_change}
+use Rattle.xk_core.specs.declared.change.StepChange.{StepChange}
+use Rattle.xk_core.specs.Change.{standing_after_step}
 use Rattle.xk_core.specs.Joining.{given_slots, started}
-use Rattle.xk_core.specs.Arm.{value_at, grows, CanCarry, Carries, IsRoomy, carried, carried_by}
+use Rattle.xk_core.specs.Arm.{value_at, grows, AreNumbersAt, IsTurnAt, IsLocal, Computes, IsRunningUnit, CanCarry, Writes, Carries, IsRoomy, carried, carried_by}
+
+same_some : {X : Type 0} (x y : X) → Some x ≡ Some y → x ≡ y
+same_some x y e = cc
 
 -- the value that is read in a slot is the one there
 value_there : (act : Activity) (s : ℕ) (v : Value) → slot_at act s ≡ Some v → value_at act s ≡ v
@@ -56,12 +59,11 @@ slot_there act d v go h = slot_there_at (slot_at act d) refl h
 -- a registered clock goes on
 registered_step : (o : Option Clock) (a : ℕ) (go : Outcome) → is_step (registered_on o a go) ≡ true → registered_on o a go ≡ go
 registered_step None a go h = cc
-registered_step (Some c) a go h = tested (is_signalled (standing_of c a)) (is_pending (standing_of c a)) h
+registered_step (Some c) a go h = tested (is_registered (standing_of c a)) h
   where
-    tested : (s p : Bool) → is_step (cond s go (cond p go (Wrong ClockUse))) ≡ true → cond s go (cond p go (Wrong ClockUse)) ≡ go
-    tested true p k = refl
-    tested false true k = refl
-    tested false false k = cc
+    tested : (s : Bool) → is_step (cond s go (Wrong ClockUse)) ≡ true → cond s go (Wrong ClockUse) ≡ go
+    tested true k = refl
+    tested false k = cc
 
 -- ---- arguments
 
@@ -92,40 +94,102 @@ arguments_there w a act (param.Clock ∷ ps) (x ∷ xs) go h =
 
 -- ---- instructions of one activity
 
--- an activity that takes a step at an instruction that adds nothing has what it works on
-pub can_carry : (m : ModuleValue) (w : World) (a : ℕ) (act : Activity) (i : Instr) → is_step (carried_out m w a act i) ≡ true → grows i ≡ false → CanCarry act i
-can_carry m w a act (instr.Lit d n) h one = let s = slot_there act d _ _ h in slice_get_within _ d _ s.1
-can_carry m w a act (instr.Add d x y) h one =
+-- two numbers that a step reads
+numbers_there : (act : Activity) (x y : ℕ) (go : ℤ → ℤ → Outcome) → is_step (number_in (slot_at act x) (λ p. number_in (slot_at act y) (λ q. go p q))) ≡ true
+    → AreNumbersAt act x y × (p : ℤ) × (q : ℤ) × (is_step (go p q) ≡ true)
+numbers_there act x y go h =
     let p = number_there (slot_at act x) _ h in
     let q = number_there (slot_at act y) _ p.2 in
-    let s = slot_there act d _ _ q.2 in
-    ((p.0, p.1), (q.0, q.1), slice_get_within _ d _ s.1)
-can_carry m w a act (instr.Print x) h one = let p = number_there (slot_at act x) _ h in (p.0, p.1)
-can_carry m w a act (instr.Make d) h one = absurd (false≢true (sym one))
-can_carry m w a act (instr.Spawn t args) h one = absurd (false≢true (sym one))
-can_carry m w a act (instr.Resume k) h one = clock_there w a (slot_at act k) _ h
-can_carry m w a act (instr.Drop k) h one = clock_there w a (slot_at act k) _ h
-can_carry m w a act instr.Advance h one = tt
-can_carry m w a act instr.Ret h one = tt
+    (((p.0, p.1), (q.0, q.1)), p.0, q.0, q.2)
+
+-- a step that computes has what it computes with
+can_compute : (w : World) (a : ℕ) (act : Activity) (f : ℤ → ℤ → ℤ) (d x y : ℕ) → is_step (computing w a act f d x y) ≡ true → AreNumbersAt act x y × (d < length act.frame.slots)
+can_compute w a act f d x y h =
+    let r = numbers_there act x y _ h in
+    let s = slot_there act d _ _ r.3 in
+    (r.0, slice_get_within _ d _ s.1)
+
+-- a step at a `next` has its loop
+can_turn : (w : World) (a : ℕ) (u : UnitValue) (act : Activity) (b : ℕ) (o : Option Instr) → slice_get u.code b ≡ o → is_step (turning w a act b o) ≡ true → IsTurnAt u act b
+can_turn w a u act b (Some (instr.For k lo hi e)) at h =
+    let n = number_there (slot_at act k) _ h in
+    record { k = k; lo = lo; hi = hi; e = e; begins = at; number = (n.0, n.1) }
+can_turn w a u act b None at h = cc
+can_turn w a u act b (Some (instr.Lit d n)) at h = cc
+can_turn w a u act b (Some (instr.Copy d x)) at h = cc
+can_turn w a u act b (Some (instr.Add d x y)) at h = cc
+can_turn w a u act b (Some (instr.Sub d x y)) at h = cc
+can_turn w a u act b (Some (instr.Mul d x y)) at h = cc
+can_turn w a u act b (Some (instr.Unless op x y t)) at h = cc
+can_turn w a u act b (Some (instr.Jump t)) at h = cc
+can_turn w a u act b (Some (instr.Next c)) at h = cc
+can_turn w a u act b (Some (instr.Print x)) at h = cc
+can_turn w a u act b (Some (instr.Make d)) at h = cc
+can_turn w a u act b (Some (instr.Resume k)) at h = cc
+can_turn w a u act b (Some (instr.Drop k)) at h = cc
+can_turn w a u act b (Some instr.Advance) at h = cc
+can_turn w a u act b (Some (instr.Spawn t args)) at h = cc
+can_turn w a u act b (Some instr.Ret) at h = cc
+
+-- the instruction at a place of its unit
+pub instruction_there : (m : ModuleValue) (u : UnitValue) (act : Activity) (b : ℕ) → slice_get m.units act.frame.unit ≡ Some u → instruction_at m (record act.frame { place = b }) ≡ slice_get u.code b
+instruction_there m u act b found = ap (option_and_then (λ unit. slice_get unit.code b)) found
+
+-- an activity that takes a step at an instruction that adds nothing has what it works on
+pub can_carry : (m : ModuleValue) (w : World) (a : ℕ) (u : UnitValue) (act : Activity) (i : Instr) → slice_get m.units act.frame.unit ≡ Some u
+    → is_step (carried_out m w a act i) ≡ true → grows i ≡ false → CanCarry u act i
+can_carry m w a u act (instr.Lit d n) found h one = let s = slot_there act d _ _ h in slice_get_within _ d _ s.1
+can_carry m w a u act (instr.Copy d x) found h one =
+    let p = number_there (slot_at act x) _ h in
+    let s = slot_there act d _ _ p.2 in
+    ((p.0, p.1), slice_get_within _ d _ s.1)
+can_carry m w a u act (instr.Add d x y) found h one = can_compute w a act _ d x y h
+can_carry m w a u act (instr.Sub d x y) found h one = can_compute w a act _ d x y h
+can_carry m w a u act (instr.Mul d x y) found h one = can_compute w a act _ d x y h
+can_carry m w a u act (instr.Unless op x y t) found h one = (numbers_there act x y _ h).0
+can_carry m w a u act (instr.Jump t) found h one = tt
+can_carry m w a u act (instr.For k lo hi e) found h one = let s = slot_there act k _ _ h in slice_get_within _ k _ s.1
+can_carry m w a u act (instr.Next b) found h one =
+    can_turn w a u act b (slice_get u.code b) refl (ap (λ o. is_step (turning w a act b o)) (sym (instruction_there m u act b found)) ∙ h)
+can_carry m w a u act (instr.Print x) found h one = let p = number_there (slot_at act x) _ h in (p.0, p.1)
+can_carry m w a u act (instr.Make d) found h one = absurd (false≢true (sym one))
+can_carry m w a u act (instr.Spawn t args) found h one = absurd (false≢true (sym one))
+can_carry m w a u act (instr.Resume k) found h one = clock_there w a (slot_at act k) _ h
+can_carry m w a u act (instr.Drop k) found h one = clock_there w a (slot_at act k) _ h
+can_carry m w a u act instr.Advance found h one = tt
+can_carry m w a u act instr.Ret found h one = tt
+
+-- a slot that is there is written as the definition writes it
+pub slot_written : (act : Activity) (d : ℕ) (v : Value) (next : Activity) → d < length act.frame.slots → next ≡ onward (with_slots act (slice_set act.frame.slots d v)) → Writes act d v next
+slot_written act d v next lt e go = ap (λ o. put_in o act d v go) (slice_get-get_or act.frame.slots d value.Unset lt) ∙ ap go (sym e)
+
+-- what is computed is what the definition computes
+computes_done : (w : World) (a : ℕ) (act : Activity) (f : ℤ → ℤ → ℤ) (d x y : ℕ) (next : Activity) (ch : StepChange) (e : Event) → Computes f act d x y next → IsLocal ch e
+    → computing w a act f d x y ≡ done w a next (standing_after_step ch) e
+computes_done w a act f d x y next ch e did is = rw (did.2, did.3, is.0, is.1) (did.4 (λ z. done w a z none event.Local))
 
 -- what it leaves is what the definition gives
-pub carries_done : (m : ModuleValue) (w : World) (a : ℕ) (act : Activity) (i : Instr) (next : Activity) (ch : Change) (e : Event) → is_step (carried_out m w a act i) ≡ true → Carries act i next ch e → carried_out m w a act i ≡ done w a next (after_change ch) e
-carries_done m w a act (instr.Lit d n) next ch e h did =
-    let s = slot_there act d _ _ h in rw (s.1, did.0, did.1, did.2) refl
-carries_done m w a act (instr.Add d x y) next ch e h did =
-    let p = number_there (slot_at act x) _ h in
-    let q = number_there (slot_at act y) _ p.2 in
-    let s = slot_there act d _ _ q.2 in
-    rw (did.2, did.3, s.1, did.4, did.5, did.6) refl
-carries_done m w a act (instr.Print x) next ch e h did = rw (did.1, did.2, did.3, did.4) refl
-carries_done m w a act (instr.Make d) next ch e h did = absurd did
-carries_done m w a act (instr.Spawn t args) next ch e h did = absurd did
-carries_done m w a act (instr.Resume k) next ch e h did =
+pub carries_done : (m : ModuleValue) (w : World) (a : ℕ) (u : UnitValue) (act : Activity) (i : Instr) (next : Activity) (ch : StepChange) (e : Event) → slice_get m.units act.frame.unit ≡ Some u
+    → is_step (carried_out m w a act i) ≡ true → Carries u act i next ch e → carried_out m w a act i ≡ done w a next (standing_after_step ch) e
+carries_done m w a u act (instr.Lit d n) next ch e found h did = rw (did.1.0, did.1.1) (did.0 (λ x. done w a x none event.Local))
+carries_done m w a u act (instr.Copy d x) next ch e found h did = rw (did.1, did.3.0, did.3.1) (did.2 (λ z. done w a z none event.Local))
+carries_done m w a u act (instr.Add d x y) next ch e found h did = computes_done w a act _ d x y next ch e did.0 did.1
+carries_done m w a u act (instr.Sub d x y) next ch e found h did = computes_done w a act _ d x y next ch e did.0 did.1
+carries_done m w a u act (instr.Mul d x y) next ch e found h did = computes_done w a act _ d x y next ch e did.0 did.1
+carries_done m w a u act (instr.Unless op x y t) next ch e found h did = rw (did.2, did.3, did.4, did.5.0, did.5.1) refl
+carries_done m w a u act (instr.Jump t) next ch e found h did = rw (did.0, did.1.0, did.1.1) refl
+carries_done m w a u act (instr.For k lo hi end) next ch e found h did = rw (did.1.0, did.1.1) (did.0 (λ x. done w a x none event.Local))
+carries_done m w a u act (instr.Next b) next ch e found h did =
+    ap (turning w a act b) (instruction_there m u act b found ∙ did.0.begins) ∙ rw (did.0.number, did.0.goes, did.1.0, did.1.1) refl
+carries_done m w a u act (instr.Print x) next ch e found h did = rw (did.1, did.2, did.3, did.4) refl
+carries_done m w a u act (instr.Make d) next ch e found h did = absurd did
+carries_done m w a u act (instr.Spawn t args) next ch e found h did = absurd did
+carries_done m w a u act (instr.Resume k) next ch e found h did =
     rw (did.1, did.2, did.3, did.4) (registered_step _ a _ (rw did.1 at h))
-carries_done m w a act (instr.Drop k) next ch e h did =
+carries_done m w a u act (instr.Drop k) next ch e found h did =
     rw (did.1, did.2, did.3, did.4) (registered_step _ a _ (rw did.1 at h))
-carries_done m w a act instr.Advance next ch e h did = rw (did.0, did.1, did.2) refl
-carries_done m w a act instr.Ret next ch e h did = rw (did.0, did.1, did.2) refl
+carries_done m w a u act instr.Advance next ch e found h did = rw (did.0, did.1, did.2) refl
+carries_done m w a u act instr.Ret next ch e found h did = rw (did.0, did.1, did.2) refl
 
 -- ---- over the list of activities
 
@@ -145,15 +209,38 @@ read_at w a act lt e = slice_get_read w.activities (length w.activities) a act r
 pub carried_there : (m : ModuleValue) (w : World) (a : ℕ) (i : Instr) (act : Activity) → slice_get w.activities a ≡ Some act → carried m w a i ≡ carried_out m w a act i
 carried_there m w a i act e = ap (carried_by m w a i) e
 
-pub operands_there : (m : ModuleValue) (w : World) (a : ℕ) (i : Instr) (act : Activity) → is_step (carried m w a i) ≡ true → grows i ≡ false → act ≡ get_or w.activities a act → CanCarry act i
-operands_there m w a i act h one e =
-    can_carry m w a act i (ap is_step (sym (carried_there m w a i act (read_at w a act (carried_within m w a i h) e))) ∙ h) one
+-- the unit that is read at the activity's number is the one that it runs
+pub unit_read : (m : ModuleValue) (w : World) (a : ℕ) (act : Activity) (u : UnitValue) (units : List UnitValue) (n : ℕ) → IsRunningUnit m w a → slice_get w.activities a ≡ Some act
+    → units ≡ m.units → n ≡ act.frame.unit → u ≡ get_or units n u → (slice_get m.units act.frame.unit ≡ Some u) × (length u.code < 2 ^ 16)
+unit_read m w a act u units n runs there same which is =
+    let r = runs act there in
+    let found : slice_get m.units act.frame.unit ≡ Some u = slice_get_read m.units (length m.units) act.frame.unit u refl (slice_get_within m.units act.frame.unit r.u r.found)
+        (is ∙ ap (λ l. get_or l n u) same ∙ ap (λ k. get_or m.units k u) which) in
+    (found, subst (λ v. length v.code < 2 ^ 16) (same_some r.u u (sym r.found ∙ found)) r.short)
+
+-- it is one of the module's
+pub unit_within : (m : ModuleValue) (w : World) (a : ℕ) (act : Activity) (units : List UnitValue) (n : ℕ) → IsRunningUnit m w a → slice_get w.activities a ≡ Some act
+    → units ≡ m.units → n ≡ act.frame.unit → n < length units
+unit_within m w a act units n runs there same which =
+    let r = runs act there in
+    let h = slice_get_within m.units act.frame.unit r.u r.found in
+    omega (arith, which, ap length same)
+
+-- the activity that is read takes the step
+pub actor_there : (m : ModuleValue) (w : World) (a : ℕ) (i : Instr) (act : Activity) → is_step (carried m w a i) ≡ true → act ≡ get_or w.activities a act → slice_get w.activities a ≡ Some act
+actor_there m w a i act h is = read_at w a act (carried_within m w a i h) is
+
+pub operands_there : (m : ModuleValue) (w : World) (a : ℕ) (i : Instr) (act : Activity) (u : UnitValue) → is_step (carried m w a i) ≡ true → grows i ≡ false → act ≡ get_or w.activities a act
+    → slice_get m.units act.frame.unit ≡ Some u → CanCarry u act i
+operands_there m w a i act u h one e found =
+    can_carry m w a u act i found (ap is_step (sym (carried_there m w a i act (read_at w a act (carried_within m w a i h) e))) ∙ h) one
 
 -- the step that the arm took
-pub arm_done : (m : ModuleValue) (w : World) (a : ℕ) (i : Instr) (act next : Activity) (ch : Change) (e : Event) → is_step (carried m w a i) ≡ true → act ≡ get_or w.activities a act → Carries act i next ch e → carried m w a i ≡ done w a next (after_change ch) e
-arm_done m w a i act next ch e h is did =
+pub arm_done : (m : ModuleValue) (w : World) (a : ℕ) (i : Instr) (act next : Activity) (u : UnitValue) (ch : StepChange) (e : Event) → is_step (carried m w a i) ≡ true → act ≡ get_or w.activities a act
+    → slice_get m.units act.frame.unit ≡ Some u → Carries u act i next ch e → carried m w a i ≡ done w a next (standing_after_step ch) e
+arm_done m w a i act next u ch e h is found did =
     let there = carried_there m w a i act (read_at w a act (carried_within m w a i h) is) in
-    there ∙ carries_done m w a act i next ch e (ap is_step (sym there) ∙ h) did
+    there ∙ carries_done m w a u act i next ch e found (ap is_step (sym there) ∙ h) did
 
 -- each clock knows where an activity stands that exists
 pub stands_there : (w : World) (a : ℕ) → IsRoomy w a → a < length w.activities → All (λ c. a < length c.standings) w.clocks
@@ -240,9 +327,6 @@ spawn_fits m w a act unit args u limits at is h =
     let v = spawn_unit m w a act unit args is h in
     let fits : IsUnitWithinLimits u = rw (sym at) at (limits.each unit u (slice_get_within m.units unit v.0 v.1)) in
     omega (arith, s.count, fits.params)
-
-same_some : {X : Type 0} (x y : X) → Some x ≡ Some y → x ≡ y
-same_some x y e = cc
 
 -- two readings of one place
 pub same_read : (w : World) (a : ℕ) (x y : Activity) → a < length w.activities → x ≡ get_or w.activities a x → y ≡ get_or w.activities a y → x ≡ y

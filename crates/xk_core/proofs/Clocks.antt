@@ -50,11 +50,6 @@ pub length-joined : (a : ℕ) (g : ℕ → Bool) (cs : List Clock) → length (j
 length-joined a g [] = refl
 length-joined a g (c ∷ cs) = ap suc (length-joined a (λ j. g (suc j)) cs)
 
-pub length-joined_first : (n a : ℕ) (g : ℕ → Bool) (cs : List Clock) → length (joined_first n a g cs) ≡ length cs
-length-joined_first zero a g cs = refl
-length-joined_first (suc n) a g [] = refl
-length-joined_first (suc n) a g (c ∷ cs) = ap suc (length-joined_first n a (λ j. g (suc j)) cs)
-
 -- the first n clocks without the activity of the greatest number
 abbrev pub left_first : ℕ → List Clock → List Clock
 left_first zero cs = cs
@@ -70,11 +65,6 @@ left_over_more (z ∷ xs) ys (suc i) x lt h is =
 
 pub left_over_next : (xs ys : List Clock) (i : ℕ) (x : Clock) → i < length xs → ys ≡ left_first i xs → x ≡ get_or ys i x → set ys i (left_by_last x) ≡ left_first (i + 1) xs
 left_over_next xs ys i x lt h is = rw add-one (left_over_more xs ys i x lt h is)
-
-pub length-left_first : (n : ℕ) (cs : List Clock) → length (left_first n cs) ≡ length cs
-length-left_first zero cs = refl
-length-left_first (suc n) [] = refl
-length-left_first (suc n) (c ∷ cs) = ap suc (length-left_first n cs)
 
 -- all but the last of a list that something was put behind
 all_but_last : {X : Type 0} (xs : List X) (y : X) → take (length (xs ++ y ∷ []) - 1) (xs ++ y ∷ []) ≡ xs

@@ -1,6 +1,5 @@
 -- What holds of a core, by the law.
-use Rattle.std.proofs.Common.{◌≡◌, ℕ, ◌+◌, ◌<◌, ◌≤◌, ◌^◌, true, false, inl, inr, List, length, Option, Some, None, Result, Ok, Err, IfOk, OnOk, OnErr, slice_get, slice_index_or, All, arith, refl, sym, ◌∙◌}
-use Rattle.std.proofs.lemmas.Bool.{cases_lt}
+use Rattle.std.proofs.Common.{◌≡◌, ℕ, ◌+◌, ◌<◌, ◌≤◌, ◌^◌, true, false, List, length, Option, Some, None, Result, Ok, Err, IfOk, OnOk, OnErr, slice_get, slice_index_or, All, arith, refl, sym, ◌∙◌}
 use Rattle.std.proofs.lemmas.Option.{slice_get-get_or, get_or_from_slice_get, slice_get_within}
 use Rattle.xk_types.specs.declared.names.Event.{Event}
 use Rattle.xk_types.specs.declared.names.Status.{Status}
@@ -14,10 +13,10 @@ use Rattle.xk_types.specs.Bound.{steps_bound}
 use Rattle.xk_types.specs.Accepted.{IsAccepted}
 use Rattle.xk_laws.proofs.Invariant.{IsSound, IsClockSound}
 use Rattle.xk_laws.proofs.Counts.{step_counts, step_keeps_over}
-use Rattle.xk_laws.proofs.Reached.{HasRoom, opening_only, opening_reached, reached_step, reached_sound, reached_right, reached_room, reached_ends}
-use Rattle.xk_core.specs.Arm.{IsRoomy, carried_by, carried, passing_by, passed_on}
+use Rattle.xk_laws.proofs.Reached.{HasRoom, opening_only, reached_step, reached_sound, reached_room, reached_ends}
+use Rattle.xk_core.specs.Arm.{IsRoomy, IsRunningUnit, carried_by, carried, passing_by, passed_on}
 use Rattle.xk_core.specs.Able.{is_able}
-use Rattle.xk_core.specs.Core.{IsCore, is_over, AreOver, instruction_by, instruction_of, next_instruction}
+use Rattle.xk_core.specs.Core.{IsCore, AreOver, instruction_by, instruction_of, next_instruction}
 use Rattle.xk_core.proofs.Ableness.{able_enabled}
 
 -- what holds of each element, at an element that is there
@@ -43,6 +42,13 @@ pub core_roomy : (m : ModuleValue) (w : World) (a : ℕ) → IsCore m w → IsRo
 core_roomy m w a core =
     roomy m w a core.limits core.accepted (reached_sound m core.limits core.accepted w core.reached) (reached_room m core.limits core.accepted w core.reached)
 
+-- an activity of a core runs a unit of its module
+pub core_runs : (m : ModuleValue) (w : World) (a : ℕ) → IsCore m w → IsRunningUnit m w a
+core_runs m w a core act there =
+    let s = (reached_sound m core.limits core.accepted w core.reached).activities a act there in
+    let u = all_at IsUnitWithinLimits m.units act.frame.unit s.u core.limits.each s.unit in
+    record { u = s.u; found = s.unit; short = omega (arith, u.code) }
+
 -- a core goes on by a step
 pub core_stepped : (m : ModuleValue) (w v : World) (a : ℕ) (e : Event) → IsCore m w → step m w a ≡ Stepped v e → IsCore m v
 core_stepped m w v a e core h = record { limits = core.limits; accepted = core.accepted; reached = reached_step m w v a e core.reached h }
@@ -53,7 +59,7 @@ core_bound m w core = (reached_room m core.limits core.accepted w core.reached).
 
 -- who is able is enabled
 pub core_able : (m : ModuleValue) (w : World) (a : ℕ) → IsCore m w → is_able w a ≡ is_enabled m w a
-core_able m w a core = able_enabled m w a (reached_right m core.limits core.accepted w core.reached a)
+core_able m w a core = able_enabled m core.accepted w (reached_sound m core.limits core.accepted w core.reached) a
 
 -- where nobody is able, all have ended
 pub core_ends : (m : ModuleValue) (w : World) → IsCore m w → ((a : ℕ) → a < length w.activities → is_able w a ≡ false) → all_ended w ≡ true
@@ -62,10 +68,6 @@ core_ends m w core h = reached_ends m core.limits core.accepted w core.reached (
 -- there are no more activities than a number of 32 bits names
 pub core_names : (m : ModuleValue) (w : World) → IsCore m w → length w.activities < 2 ^ 32
 core_names m w core = omega (arith, (reached_room m core.limits core.accepted w core.reached).activities, core.accepted.bounds.activities)
-
--- the opening world is a core
-pub core_opening : (m : ModuleValue) → IsWithinLimits m → IsAccepted m → IsCore m (opening m)
-core_opening m limits accepted = record { limits = limits; accepted = accepted; reached = opening_reached m }
 
 -- ---- the two ways to step
 
@@ -121,10 +123,6 @@ carried_counts m w v a i (Ok e) next h = step_counts m w v a e (carry_step m w a
 carried_counts m w v a i (Err x) next h = tt
 
 -- ---- who is over
-
--- one more of the first that are over, if the next one is
-pub over_next : (acts : List Activity) (n : ℕ) → is_over acts n ≡ true → AreOver acts n → AreOver acts (n + 1)
-over_next acts n e h b lt = elim (cases_lt b n) [ inl below ↦ h b below | inr above ↦ (let same : b ≡ n = omega (arith, above, lt) in rw same e) ]
 
 pub passed_over : (m : ModuleValue) (w v : World) (a : ℕ) (e : Event) (n : ℕ) → is_enabled m w a ≡ true → next_instruction m w a ≡ None → passed_on w a ≡ Stepped v e
     → AreOver w.activities n → AreOver v.activities n

@@ -2,17 +2,19 @@
 
 ghost use Rattle.std.specs.Prelude.{◌≡◌, ℕ, ℤ, ◌+◌, ◌<◌, ◌≤◌, ◌^◌, length, map, Some, slice_set, All, IfOk};
 ghost use Rattle.xk_types.specs.declared.names.Value.TheVariants as value;
-ghost use Rattle.xk_types.specs.declared.instr.Instr.TheVariants as instr;
-ghost use Rattle.xk_types.specs.Step.{slot_at, onward, with_slots, arrived, ended, past};
+ghost use Rattle.xk_types.specs.declared.instr.Instr.TheVariants as instruction;
+ghost use Rattle.xk_types.specs.Code.{UnitValue};
+ghost use Rattle.xk_types.specs.Step.{slot_at, onward, going, with_slots, arrived, ended, past};
 ghost use Rattle.xk_types.specs.Schedule.{is_ended};
-ghost use Rattle.xk_core.specs.declared.change.Change.TheVariants as change;
+ghost use Rattle.xk_core.specs.declared.change.StepChange.TheVariants as step_change;
+ghost use Rattle.xk_types.specs.declared.names.Event.TheVariants as event;
 ghost use Rattle.xk_core.specs.Joining.{started, given_slots};
-ghost use Rattle.xk_core.specs.Arm.{value_at, IsClockAt, CanCarry, Carries};
+ghost use Rattle.xk_core.specs.Arm.{value_at, IsClockAt, AreNumbersAt, IsTurnAt, CanCarry, Writes, IsLocal, Turned, Carries};
 
-use crate::change::{Change, Move};
+use crate::change::{StandingChange, StepChange};
 use std::alloc::{AllocError, Global};
 use std::marker::Model;
-use xk_types::{ClockId, Event, Instr, Status, Value};
+use xk_types::{ClockId, Comparison, Event, Instr, Status, Unit, Value};
 
 /// A unit in progress: the instruction that it stands at, and its slots.
 #[derive(Drop)]
@@ -177,6 +179,13 @@ impl Activity {
         self.frame.place += 1;
     }
 
+    /// On to this place.
+    pub fn go_to(&mut self, t: u16)
+        ensures { self.new ≡ going self.old t }
+    {
+        self.frame.place = t;
+    }
+
     /// Writes a slot, and goes on to the next instruction.
     pub fn put(&mut self, d: u16, v: Value)
         requires place { self.old.frame.place + 1 < 2 ^ 16 }
@@ -211,54 +220,104 @@ impl Activity {
         self.since = now;
     }
 
-    /// Carries out an instruction that concerns this activity and its standings alone.
-    pub fn carry_out(&mut self, instr: &Instr) -> (Change, Event)
+    /// Carries out an instruction of this unit, which the activity runs, that concerns this activity and its standings alone.
+    pub fn carry_out(&mut self, unit: &Unit, instr: &Instr) -> (StepChange, Event)
         requires place { self.old.frame.place + 1 < 2 ^ 16 }
-        requires operands { CanCarry self.old instr.now }
-        ensures { Carries self.old instr.now self.new result.0 result.1 }
+        requires short { length unit.now.code < 2 ^ 16 }
+        requires operands { CanCarry unit.now self.old instr.now }
+        ensures { Carries unit.now self.old instr.now self.new result.0 result.1 }
     {
         match instr {
             Instr::Lit(d, n) => self.write(*d, *n),
+            Instr::Copy(d, x) => self.write(*d, self.number(*x)),
             Instr::Add(d, x, y) => self.write(*d, self.number(*x).wrapping_add(self.number(*y))),
+            Instr::Sub(d, x, y) => self.write(*d, self.number(*x).wrapping_sub(self.number(*y))),
+            Instr::Mul(d, x, y) => self.write(*d, self.number(*x).wrapping_mul(self.number(*y))),
+            Instr::Unless(op, x, y, t) => self.branch(*op, *x, *y, *t),
+            Instr::Jump(t) => {
+                self.go_to(*t);
+                (StepChange::Nothing, Event::Local)
+            }
+            Instr::For(k, lo, _, _) => self.write(*k, *lo),
+            Instr::Next(b) => self.turn(unit, *b),
             Instr::Print(x) => {
                 let n = self.number(*x);
                 self.go_on();
-                (Change::Nothing, Event::Printed(n))
+                (StepChange::Nothing, Event::Printed(n))
             }
             Instr::Make(_) => unreachable!(),
             Instr::Spawn(_, _) => unreachable!(),
-            Instr::Resume(k) => (self.operate(*k, Move::Resume), Event::Resumed),
-            Instr::Drop(k) => (self.operate(*k, Move::Drop), Event::Dropped),
+            Instr::Resume(k) => (self.operate(*k, StandingChange::Resume), Event::Resumed),
+            Instr::Drop(k) => (self.operate(*k, StandingChange::Drop), Event::Dropped),
             Instr::Advance => {
                 self.arrive();
-                (Change::All(Move::Resume), Event::Arrived)
+                (StepChange::All(StandingChange::Resume), Event::Arrived)
             }
             Instr::Ret => {
                 self.end();
-                (Change::All(Move::Drop), Event::Ended)
+                (StepChange::All(StandingChange::Drop), Event::Ended)
             }
         }
     }
 
-    /// Writes a number, which nobody sees.
-    fn write(&mut self, d: u16, n: i64) -> (Change, Event)
+    /// Goes on, or to place t, by how the numbers in two slots compare.
+    fn branch(&mut self, op: Comparison, x: u16, y: u16, t: u16) -> (StepChange, Event)
         requires place { self.old.frame.place + 1 < 2 ^ 16 }
-        requires slot { d < length self.old.frame.slots }
-        ensures { Carries self.old (instr.Lit d n) self.new result.0 result.1 }
+        requires operands { AreNumbersAt self.old x y }
+        ensures { (u : UnitValue) → Carries u self.old (instruction.Unless op x y t) self.new result.0 result.1 }
     {
-        self.put(d, Value::Number(n));
-        (Change::Nothing, Event::Local)
+        if op.holds(self.number(x), self.number(y)) {
+            self.go_on();
+        } else {
+            self.go_to(t);
+        }
+        (StepChange::Nothing, Event::Local)
     }
 
-    /// Goes on, and makes this move on the clock in slot k.
-    fn operate(&mut self, k: u16, what: Move) -> Change
+    /// Ends a turn of the loop that begins at place b of the unit: goes round again, or on.
+    fn turn(&mut self, unit: &Unit, b: u16) -> (StepChange, Event)
+        requires place { self.old.frame.place + 1 < 2 ^ 16 }
+        requires short { length unit.now.code < 2 ^ 16 }
+        requires begun { IsTurnAt unit.now self.old b }
+        ensures turned { Turned unit.now self.old b self.new }
+        ensures local { IsLocal result.0 result.1 }
+    {
+        let (k, hi) = match unit.code.get(b as usize) {
+            Some(Instr::For(k, _, hi, _)) => (*k, *hi),
+            _ => unreachable!(),
+        };
+        let n = self.number(k);
+        if n < hi {
+            self.frame.slots[k as usize] = Value::Number(n + 1);
+            self.go_to(b + 1);
+        } else {
+            self.go_on();
+        }
+        (StepChange::Nothing, Event::Local)
+    }
+
+    /// Writes a number to a slot and goes on, for any instruction that does; nobody sees it.
+    #[tactic(auto, using(crate::proofs::Arms::slot_written))]
+    fn write(&mut self, d: u16, n: i64) -> (StepChange, Event)
+        requires place { self.old.frame.place + 1 < 2 ^ 16 }
+        requires slot { d < length self.old.frame.slots }
+        ensures written { Writes self.old d (value.Number n) self.new }
+        ensures change { result.0 ≡ step_change.Nothing }
+        ensures seen { result.1 ≡ event.Local }
+    {
+        self.put(d, Value::Number(n));
+        (StepChange::Nothing, Event::Local)
+    }
+
+    /// Goes on, and makes this change where it stands on the clock in slot k.
+    fn operate(&mut self, k: u16, what: StandingChange) -> StepChange
         requires place { self.old.frame.place + 1 < 2 ^ 16 }
         requires clock { IsClockAt self.old k }
         ensures going { self.new ≡ onward self.old }
-        ensures change { (c : ℕ) × (slot_at self.old k ≡ Some (value.Clock c)) × (result ≡ change.Only c what) }
+        ensures change { (c : ℕ) × (slot_at self.old k ≡ Some (value.Clock c)) × (result ≡ step_change.Only c what) }
     {
         let c = self.clock(k);
         self.go_on();
-        Change::Only(c.0 as usize, what)
+        StepChange::Only(c.0 as usize, what)
     }
 }

@@ -2,13 +2,13 @@
 
 ghost use Rattle.std.specs.Prelude.{◌≡◌};
 ghost use Rattle.xk_types.specs.Step.{is_signalled, is_pending, advanced};
-ghost use Rattle.xk_core.specs.Change.{after_move, after_change};
+ghost use Rattle.xk_core.specs.Change.{standing_after, standing_after_step};
 
 use xk_types::Standing;
 
-/// A change of one standing.
+/// A change of where an activity stands on one clock.
 #[derive(Clone, Copy, Debug, PartialEq, Eq)]
-pub enum Move {
+pub enum StandingChange {
     /// Open becomes signalled.
     Resume,
     /// Ahead becomes open.
@@ -17,40 +17,40 @@ pub enum Move {
     Drop,
 }
 
-impl Move {
+impl StandingChange {
     /// The standing afterwards.
     pub fn of(self, s: Standing) -> Standing
-        ensures { result ≡ after_move self s }
+        ensures { result ≡ standing_after self s }
     {
         match (self, s) {
-            (Move::Resume, Standing::Open) => Standing::Signalled,
-            (Move::Pass, Standing::Ahead) => Standing::Open,
-            (Move::Drop, _) => Standing::Apart,
+            (StandingChange::Resume, Standing::Open) => Standing::Signalled,
+            (StandingChange::Pass, Standing::Ahead) => Standing::Open,
+            (StandingChange::Drop, _) => Standing::Apart,
             (_, same) => same,
         }
     }
 }
 
-/// A change of an activity's standings.
+/// What a step changes of where its activity stands on clocks.
 #[derive(Clone, Copy, Debug, PartialEq, Eq)]
-pub enum Change {
+pub enum StepChange {
     /// On no clock.
     Nothing,
     /// On the clock of this number.
-    Only(usize, Move),
+    Only(usize, StandingChange),
     /// On every clock.
-    All(Move),
+    All(StandingChange),
 }
 
-impl Change {
+impl StepChange {
     /// The standing on clock k afterwards.
     pub fn of(self, k: usize, s: Standing) -> Standing
-        ensures { result ≡ after_change self k s }
+        ensures { result ≡ standing_after_step self k s }
     {
         match self {
-            Change::Nothing => s,
-            Change::Only(c, m) => if k == c { m.of(s) } else { s },
-            Change::All(m) => m.of(s),
+            StepChange::Nothing => s,
+            StepChange::Only(c, one) => if k == c { one.of(s) } else { s },
+            StepChange::All(one) => one.of(s),
         }
     }
 }

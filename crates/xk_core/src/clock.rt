@@ -4,10 +4,10 @@ ghost use Rattle.std.specs.Prelude.{◌≡◌, ◌+◌, ◌<◌, ◌^◌, length
 ghost use Rattle.std.specs.List.{list_any};
 ghost use Rattle.xk_types.specs.World.{standing_of};
 ghost use Rattle.xk_types.specs.Step.{new_clock, moved_on, joined_on, is_ready, is_signalled, is_pending, settled_clock, advanced};
-ghost use Rattle.xk_core.specs.Change.{after_change};
+ghost use Rattle.xk_core.specs.Change.{standing_after_step};
 ghost use Rattle.xk_core.specs.Joining.{left_by_last};
 
-use crate::change::{Change, advance, is_pending, is_signalled};
+use crate::change::{StepChange, advance, is_pending, is_signalled};
 use std::alloc::{AllocError, Global};
 use std::marker::Model;
 use xk_types::Standing;
@@ -65,9 +65,9 @@ impl Clock {
     }
 
     /// Changes the standing of activity a, this clock being number k.
-    pub fn change(&mut self, a: usize, k: usize, change: Change)
+    pub fn change(&mut self, a: usize, k: usize, change: StepChange)
         requires { a < length self.old.standings }
-        ensures { self.new ≡ moved_on a (after_change change k) self.old }
+        ensures { self.new ≡ moved_on a (standing_after_step change k) self.old }
     {
         self.standings[a] = change.of(k, self.standings[a]);
     }

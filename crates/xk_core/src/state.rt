@@ -8,13 +8,13 @@ ghost use Rattle.xk_types.specs.Schedule.{is_step, all_ended};
 ghost use Rattle.xk_core.specs.Able.{is_able};
 ghost use Rattle.xk_core.specs.Core.{is_over, AreOver};
 ghost use Rattle.xk_core.specs.Opening.{opening_with};
-ghost use Rattle.xk_core.specs.Change.{after_change};
-ghost use Rattle.xk_core.specs.Arm.{grows, carried, passed_on, IsRoomy};
+ghost use Rattle.xk_core.specs.Change.{standing_after_step};
+ghost use Rattle.xk_core.specs.Arm.{grows, carried, passed_on, IsRoomy, IsRunningUnit};
 ghost use Rattle.xk_core.specs.Joining.{joined_first};
 ghost use Rattle.xk_types.specs.World as world;
 
 use crate::activity::{Activity, Frame};
-use crate::change::{Change, Move, is_signalled};
+use crate::change::{StandingChange, StepChange, is_signalled};
 use crate::clock::Clock;
 use std::alloc::{AllocError, Global};
 use std::marker::Model;
@@ -38,9 +38,9 @@ impl Model for State {
 }
 
 /// Changes the standings of activity a.
-fn change_all(clocks: &mut Vec<Clock>, a: usize, change: Change)
+fn change_all(clocks: &mut Vec<Clock>, a: usize, change: StepChange)
     requires { All (λ c. a < length c.standings) clocks.old.items }
-    ensures { clocks.new.items ≡ moved a (after_change change) clocks.old.items }
+    ensures { clocks.new.items ≡ moved a (standing_after_step change) clocks.old.items }
 {
     for (k, clock) in clocks.iter_mut().enumerate() {
         clock.change(a, k, change);
@@ -128,11 +128,11 @@ impl State {
     }
 
     /// The end of a step of activity a, whose standings change.
-    fn finish(&mut self, a: usize, change: Change)
+    fn end_step(&mut self, a: usize, change: StepChange)
         requires steps { self.old.steps + 1 < 2 ^ 64 }
         requires phases { All (λ c. c.phase + 1 < 2 ^ 64) self.old.clocks }
         requires standings { All (λ c. a < length c.standings) self.old.clocks }
-        ensures { self.new ≡ settled (record self.old { clocks = moved a (after_change change) self.old.clocks }) }
+        ensures { self.new ≡ settled (record self.old { clocks = moved a (standing_after_step change) self.old.clocks }) }
     {
         change_all(&mut self.clocks, a, change);
         self.settle();
@@ -148,6 +148,7 @@ impl State {
     ) -> Result<Event, AllocError>
         requires enabled { is_step (carried program.now self.old a instr.now) ≡ true }
         requires room { IsRoomy self.old a }
+        requires unit { IsRunningUnit program.now self.old a }
         ensures stepped { IfOk result (λ e. carried program.now self.old a instr.now ≡ Stepped self.new e) }
         ensures refused { OnErr result (self.new ≡ self.old) }
         ensures only_where_it_grows { OnErr result (grows instr.now ≡ true) }
@@ -164,11 +165,13 @@ impl State {
         requires enabled { is_step (carried program.now self.old a instr.now) ≡ true }
         requires single { grows instr.now ≡ false }
         requires room { IsRoomy self.old a }
+        requires unit { IsRunningUnit program.now self.old a }
         ensures { carried program.now self.old a instr.now ≡ Stepped self.new result }
     {
         let act = &mut self.activities[a];
-        let (change, event) = act.carry_out(instr);
-        self.finish(a, change);
+        let unit = &program.units()[act.unit() as usize];
+        let (change, event) = act.carry_out(unit, instr);
+        self.end_step(a, change);
         event
     }
 
@@ -224,7 +227,7 @@ impl State {
         let now = self.steps + 1;
         let act = &mut self.activities[a];
         act.pass(now);
-        self.finish(a, Change::All(Move::Pass));
+        self.end_step(a, StepChange::All(StandingChange::Pass));
         Event::Passed
     }
 

@@ -6,7 +6,7 @@ use std::test::Fail;
 use xk_bounds::{Verified, verify};
 use xk_types::{Act, Args, ClockId, Event, Instr, Module, ParamKind, Unit, UnitKind};
 
-// A main of this code.
+/// A main of this code.
 fn main_of(alloc: Global, slots: u16, code: Vec<Instr>) -> Result<Verified, Fail> {
     let mut units = Vec::new(alloc);
     units.push(main_unit(alloc, slots, code))?;
@@ -32,8 +32,8 @@ fn accepted(alloc: Global, units: Vec<Unit>) -> Result<Verified, Fail> {
     Ok(verified)
 }
 
-// Main starts an activity with two numbers and its clock, and both go one phase on. The child prints the sum of its numbers,
-// then the last; main prints the first afterwards.
+/// Main starts an activity with two numbers and its clock, and both go one phase on. The child prints the sum of its numbers,
+/// then the last; main prints the first afterwards.
 fn two_in_step(alloc: Global) -> Result<Verified, Fail> {
     let args = vec![in alloc; 1, 0, 2]?;
     let main = vec![in alloc;
@@ -63,7 +63,7 @@ fn two_in_step(alloc: Global) -> Result<Verified, Fail> {
     accepted(alloc, units)
 }
 
-// The events of the run that always steps the least enabled activity.
+/// The events of the run that always steps the least enabled activity.
 fn run_first(alloc: Global, core: &mut Core) -> Result<Vec<Event>, Fail> {
     let mut events = Vec::new(alloc);
     for _ in 0..1000 {

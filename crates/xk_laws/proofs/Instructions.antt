@@ -1,5 +1,5 @@
 -- Each instruction of a running activity is a step that keeps the invariant.
-use Rattle.std.proofs.Common.{◌≡◌, ℕ, ◌+◌, ◌<◌, Bool, true, false, cond, ◌==◌, List, [], ◌∷◌, ◌++◌, length, set, ℤ, pos, ◌+ℤ◌, int_lt, Some, None, refl, sym, ap, ◌∙◌, subst, arith, inl, inr}
+use Rattle.std.proofs.Common.{◌≡◌, ℕ, ◌+◌, ◌<◌, Bool, true, false, cond, ◌==◌, List, [], ◌∷◌, ◌++◌, length, set, ℤ, pos, ◌+ℤ◌, int_lt, Some, None, refl, sym, ap, ◌∙◌, subst, arith, ◌⊎◌, inl, inr}
 use Rattle.std.specs.Prelude.{slice_get}
 use Rattle.std.specs.Int.{w64, int_wrapping_add, int_wrapping_sub, int_wrapping_mul}
 use Rattle.std.specs.Option.{option_map_or, option_and_then}
@@ -16,7 +16,7 @@ use Rattle.xk_types.specs.declared.names.Standing.TheVariants as standing
 use Rattle.xk_types.specs.declared.rules.Kind.{Kind}
 use Rattle.xk_types.specs.declared.rules.Kind.TheVariants as kind
 use Rattle.xk_types.specs.declared.instr.Comparison.{Comparison}
-use Rattle.xk_types.specs.Code.{ModuleValue, Loop, compares, params_of, unit_started}
+use Rattle.xk_types.specs.Code.{ModuleValue, compares, params_of, unit_started}
 use Rattle.xk_types.specs.World.{Activity, World, standing_of, instruction_at}
 use Rattle.xk_types.specs.Schedule.{is_ended}
 use Rattle.xk_types.specs.Accepted.{IsAccepted}
@@ -29,6 +29,8 @@ use Rattle.xk_types.specs.Walk.{after, reads, may_read, loop_slot, writes, gives
 use Rattle.xk_types.specs.Bound.{steps_weight, clocks_weight}
 use Rattle.xk_laws.proofs.Invariant.{Each, Stands, IsActivitySound, IsSound, stands_on, looks, kind_by, kind_of, is_held}
 use Rattle.xk_laws.proofs.Lists.{get_inside, get-set_other}
+use Rattle.xk_laws.proofs.Loops.{IsEnd}
+use Rattle.xk_laws.proofs.Turns.{IsTurn}
 use Rattle.xk_laws.proofs.Walks.{Allowed}
 use Rattle.xk_laws.proofs.Rows.{reads_row, writes_row, uses_row, gives_row, IsWritten, IsUsed, resumed_kind, resumed_held}
 use Rattle.xk_laws.proofs.Standings.{stands_on-push_old, stands_on-push_new, new_same}
@@ -216,21 +218,21 @@ module _ (m : ModuleValue) (ok : IsAccepted m) (w : World) (a : ℕ) (was : Acti
       rows s k h = subst (λ r. MayBecome r k) (sym (read_parts x y s k h).2) (inl refl)
 
       cases : (b : Bool) → Moves m (done w a (cond b (onward was) (going was t)) none event.Local)
-      cases true = only_going i here (was.frame.place + 1) (inl refl) (next_inside m (stands_on w.clocks a) (length w.clocks) w.steps was me.u i (at_it i here) refl) refl refl refl rows (refl, inl refl)
-      cases false = only_going i here t (inr (inl refl)) ((at_it i here).fit.loops.ahead i was.frame.place t here refl).1 refl refl refl rows (refl, inr refl)
+      cases true = only_going i here (was.frame.place + 1) (inl refl) (next_inside m (stands_on w.clocks a) (length w.clocks) w.steps was me.u i (at_it i here) refl) refl refl refl rows (inl refl, refl)
+      cases false = only_going i here t (inr (inl refl)) ((at_it i here).fit.loops.kept i was.frame.place t here refl).inside refl refl refl rows (inr refl, refl)
 
   -- `jump`
   jump_moves : (t : ℕ) → Here (instr.Jump t) → Moves m (carried_out m w a was (instr.Jump t))
   jump_moves t here =
       let i = instr.Jump t in
-      only_going i here t (inl refl) ((at_it i here).fit.loops.ahead i was.frame.place t here refl).1 refl refl refl (λ s k h. inl refl) (refl, refl)
+      only_going i here t (inl refl) ((at_it i here).fit.loops.kept i was.frame.place t here refl).inside refl refl refl (λ s k h. inl refl) (refl, refl)
 
   -- `for`
   for_moves : (k : ℕ) (lo hi : ℤ) (e : ℕ) → Here (instr.For k lo hi e) → Moves m (carried_out m w a was (instr.For k lo hi e))
   for_moves k lo hi e here =
       let i = instr.For k lo hi e in
       put_number i here k lo (inl refl) refl (inl refl) refl refl refl (writes_row k kind.Number)
-      (refl, refl, (let h = named_inside i here k (inl refl) in omega (arith, me.frame.slots)))
+      (refl, (let h = named_inside i here k (inl refl) in omega (arith, me.frame.slots)), refl)
 
   -- `next`
   next_moves : (b : ℕ) → Here (instr.Next b) → Moves m (carried_out m w a was (instr.Next b))
@@ -247,20 +249,25 @@ module _ (m : ModuleValue) (ok : IsAccepted m) (w : World) (a : ℕ) (was : Acti
       fit : IsFit me.u
       fit = (at_it i here).fit
 
-      loop : (l : Loop) × (slice_get me.u.code b ≡ Some (instr.For l.slot l.lo l.hi at)) × (b < at)
-      loop = fit.loops.ended at b here
+      loop : IsEnd me.u b at
+      loop = fit.loops.ended b at here
 
       k : ℕ
-      k = loop.0.slot
+      k = loop.k
 
       lo : ℤ
-      lo = loop.0.lo
+      lo = loop.lo
 
       hi : ℤ
-      hi = loop.0.hi
+      hi = loop.hi
 
       begins : slice_get me.u.code b ≡ Some (instr.For k lo hi at)
-      begins = loop.1
+      begins = loop.for
+
+      turn : (n : ℤ) (q : ℕ) (new : List Value) → slice_get was.frame.slots k ≡ Some (value.Number n)
+          → ((int_lt n hi ≡ true) × (q ≡ b + 1) × (new ≡ set was.frame.slots k (value.Number (n +ℤ pos 1)))) ⊎ ((int_lt n hi ≡ false) × (q ≡ at + 1) × (new ≡ was.frame.slots))
+          → IsTurn me.u b at was.frame.slots q new
+      turn n q new holds goes = record { k = k; e = at; lo = lo; hi = hi; n = n; for = begins; number = holds; goes = goes }
 
       row : (s : ℕ) (kd : Kind) → after m me.u i s kd ≡ reads k s kd (becomes kd)
       row s kd = ap (λ o. may_read (loop_slot o) s kd (becomes kd)) begins
@@ -279,12 +286,12 @@ module _ (m : ModuleValue) (ok : IsAccepted m) (w : World) (a : ℕ) (was : Acti
       cases : (n : ℤ) → slice_get was.frame.slots k ≡ Some (value.Number n) → (x : Bool) → int_lt n hi ≡ x
           → Moves m (done w a (cond x (again was b k n) (onward was)) none event.Local)
       cases n holds true less = local_moves i here (again was b k n) refl refl refl refl refl
-          (k, lo, hi, at, n, begins, holds, inl (less, refl, refl))
+          (turn n (b + 1) (set was.frame.slots k (value.Number (n +ℤ pos 1))) holds (inl (less, refl, refl)))
           (writing_to m (stands_on w.clocks a) (length w.clocks) w.steps was me.u i (at_it i here) k (value.Number n) (value.Number (n +ℤ pos 1)) kind.Number (looks w.clocks a) (length w.clocks) (b + 1) holds
-          (inr (inl refl)) (let h = slice_get_within me.u.code at i here in let g = loop.2 in omega arith) (number_written i k (n +ℤ pos 1) written (at_it i here)))
+          (inr (inl refl)) (let h = slice_get_within me.u.code at i here in let g = loop.ahead in omega arith) (number_written i k (n +ℤ pos 1) written (at_it i here)))
           event.Local
       cases n holds false more = only_going i here (at + 1) (inl refl) (next_inside m (stands_on w.clocks a) (length w.clocks) w.steps was me.u i (at_it i here) refl) refl refl refl
-          (λ s kd h. subst (λ r. MayBecome r kd) (sym (rows s kd h)) (inl refl)) (k, lo, hi, at, n, begins, holds, inr (more, refl, refl))
+          (λ s kd h. subst (λ r. MayBecome r kd) (sym (rows s kd h)) (inl refl)) (turn n (at + 1) was.frame.slots holds (inr (more, refl, refl)))
 
   -- `print`
   print_moves : (x : ℕ) → Here (instr.Print x) → Moves m (carried_out m w a was (instr.Print x))

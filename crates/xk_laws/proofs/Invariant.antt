@@ -16,12 +16,9 @@ use Rattle.xk_types.specs.World.{Frame, Activity, Clock, World, root, standing_o
 use Rattle.xk_types.specs.Step.{is_ready}
 use Rattle.xk_types.specs.Schedule.{is_ended}
 use Rattle.xk_types.specs.Walk.{IsVisited, awake}
+pub use Rattle.xk_laws.proofs.Lists.{Each}
 use Rattle.xk_laws.proofs.Turns.{due}
 use Rattle.xk_types.specs.Bound.{steps_weight, activities_weight, clocks_weight, total, steps_bound, activities_bound, clocks_bound}
-
--- something holds of each element, under its number
-abbrev pub Each : {X : Type 0} → (ℕ → X → Type 0) → List X → Type 0
-Each {X} P xs = (i : ℕ) (x : X) → slice_get xs i ≡ Some x → P i x
 
 -- ---- clocks
 

@@ -23,4 +23,5 @@ pub mod Reached
 pub mod Checked
 pub mod SumRow
 pub mod PairRow
+pub mod PhasesRow
 pub mod Needed

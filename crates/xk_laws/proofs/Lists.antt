@@ -6,7 +6,10 @@ use Rattle.std.proofs.lemmas.List.Sums.{sum_by-set}
 use Rattle.std.proofs.lemmas.Bool.{and_parts, or_left, or_right}
 use Rattle.std.proofs.lemmas.Option.{slice_get_within, get_or_from_slice_get, none-some, same_Some}
 use Rattle.xk_types.specs.Order.{Has}
-use Rattle.xk_laws.proofs.Invariant.{Each}
+
+-- something holds of each element, under its number
+abbrev pub Each : {X : Type 0} → (ℕ → X → Type 0) → List X → Type 0
+Each {X} P xs = (i : ℕ) (x : X) → slice_get xs i ≡ Some x → P i x
 
 -- two functions that agree everywhere are one
 pub fun_ext : {A B : Type 0} (f g : A → B) → ((x : A) → f x ≡ g x) → f ≡ g

@@ -1,14 +1,267 @@
--- STUB
-use Rattle.std.proofs.Common.{◌≡◌, ℕ, ◌+◌, ◌<◌, Bool, true, false, ℤ, length, Some, int_le}
-use Rattle.std.specs.Prelude.{slice_get}
+-- What the rules on shape say of the loops of a unit.
+use Rattle.std.proofs.Common.{◌≡◌, ℕ, zero, suc, ◌+◌, ◌<◌, ◌==◌, ℤ, int_lt, int_le, Bool, true, false, not, ◌&&◌, List, [], ◌∷◌, length, Option, Some, None, inl, inr, refl, sym, ap, ◌∙◌, subst, arith, ltb-true, eqb-true, true≢false, option_and_then}
+use Rattle.std.specs.Prelude.{slice_get, nat_lt, if◌then◌else◌}
+use Rattle.std.specs.Option.{option_map_or}
+use Rattle.std.specs.List.{list_any}
+use Rattle.std.proofs.lemmas.Bool.{or_parts, and_parts, and_from, not-false, eq-eqb, false≢true}
+use Rattle.std.proofs.lemmas.Int.{ints}
+use Rattle.std.proofs.lemmas.Option.{none-some, same_Some, cond_some}
 use Rattle.xk_types.specs.declared.instr.Instr.{Instr}
 use Rattle.xk_types.specs.declared.instr.Instr.TheVariants as instr
-use Rattle.xk_types.specs.Code.{UnitValue, Loop, loops, is_within, is_round}
+use Rattle.xk_types.specs.Code.{UnitValue, Loop, is_next_of, loop_begun, loops_from, loops, is_round, is_within}
 use Rattle.xk_types.specs.Order.{Has}
-use Rattle.xk_types.specs.Shape.{target, breaks_target, breaks_block, breaks_loop}
+use Rattle.xk_types.specs.Shape.{instr_is, slot_written, target, lies_ahead, aims_well, breaks_target, overlaps, loop_ended, is_amiss, differ, crosses, is_crossing, breaks_block, is_backward, writes_slot, breaks_loop}
 
+-- ---- what holds of them
+
+-- the loop whose `for` stands at place `first`
+abbrev pub loop_of : ℕ → ℕ → ℤ → ℤ → ℕ → Loop
+loop_of first k lo hi e = record { first = first; last = e; slot = k; lo = lo; hi = hi }
+
+-- a `for` and a `next` that name each other, and bounds in order
+pub record IsLoop (u : UnitValue) (l : Loop) : Type 0 where
+  pub for : slice_get u.code l.first ≡ Some (instr.For l.slot l.lo l.hi l.last)
+  pub next : slice_get u.code l.last ≡ Some (instr.Next l.first)
+  pub ahead : l.first < l.last
+  pub order : int_le l.lo l.hi ≡ true
+
+-- the `next` at place e ends the loop that this `for` at place b begins
+pub record IsEnd (u : UnitValue) (b e : ℕ) : Type 0 where
+  pub k : ℕ
+  pub lo : ℤ
+  pub hi : ℤ
+  pub for : slice_get u.code b ≡ Some (instr.For k lo hi e)
+  pub ahead : b < e
+
+-- A jump from place p to place t goes ahead, and leaves or enters no loop. It may end at a loop's `next`.
+pub record IsKept (u : UnitValue) (p t : ℕ) : Type 0 where
+  pub ahead : p < t
+  pub inside : t < length u.code
+  pub same : (l : Loop) → Has (loops u) l → is_within p l ≡ is_round t l
+
+-- each loop begins ahead of those behind it in the list
+abbrev pub Rising : List Loop → Type 0
+Rising [] = Unit {0}
+Rising (l ∷ ls) = ((k : Loop) → Has ls k → l.first < k.first) × Rising ls
+
+-- the loops of a unit that breaks no rule on shape
 pub record AreLoops (u : UnitValue) : Type 0 where
-  pub ended : (e b : ℕ) → slice_get u.code e ≡ Some (instr.Next b) → (l : Loop) × (slice_get u.code b ≡ Some (instr.For l.slot l.lo l.hi e)) × (b < e)
-  pub ahead : (i : Instr) (p t : ℕ) → slice_get u.code p ≡ Some i → target i ≡ Some t → (p < t) × (t < length u.code)
+  -- each `for` begins one, which ends inside the code
+  pub begun : (b k e : ℕ) (lo hi : ℤ) → slice_get u.code b ≡ Some (instr.For k lo hi e) → Has (loops u) (loop_of b k lo hi e) × (e < length u.code)
+  -- each `next` ends one
+  pub ended : (b e : ℕ) → slice_get u.code e ≡ Some (instr.Next b) → IsEnd u b e
+  pub is : (l : Loop) → Has (loops u) l → IsLoop u l
+  -- they nest, or lie apart
+  pub apart : (l k : Loop) → Has (loops u) l → Has (loops u) k → overlaps l k ≡ false
+  pub rising : Rising (loops u)
+  -- jumps stay in the loops that they stand in
+  pub kept : (i : Instr) (p t : ℕ) → slice_get u.code p ≡ Some i → target i ≡ Some t → IsKept u p t
+  -- no instruction in a loop writes its slot
+  pub unwritten : (i : Instr) (at : ℕ) (l : Loop) → slice_get u.code at ≡ Some i → Has (loops u) l → is_within at l ≡ true → slot_written i ≡ Some l.slot → ⊥
 
-axiom pub are_loops : (u : UnitValue) → ((at : ℕ) → breaks_target u at ≡ false) → ((at : ℕ) → breaks_block u at ≡ false) → ((at : ℕ) → breaks_loop u at ≡ false) → AreLoops u
+-- ---- what begins a loop
+
+-- instruction i at place `at` is the `for` of the loop, and its `next` names it
+record Begins (u : UnitValue) (at : ℕ) (i : Instr) (l : Loop) : Type 0 where
+  pub is : i ≡ instr.For l.slot l.lo l.hi l.last
+  pub first : l.first ≡ at
+  pub next : slice_get u.code l.last ≡ Some (instr.Next at)
+
+-- what the test on a `next` says
+next_is : (first : ℕ) (o : Option Instr) → is_next_of first o ≡ true → o ≡ Some (instr.Next first)
+next_is first None h = absurd (false≢true h)
+next_is first (Some (instr.Next b)) h = ap (λ n. Some (instr.Next n)) (eqb-true b first h)
+next_is first (Some _) h = absurd (false≢true h)
+
+-- what `loop_begun` finds
+begins : (u : UnitValue) (at : ℕ) (i : Instr) (l : Loop) → loop_begun u at i ≡ Some l → Begins u at i l
+begins u at (instr.For k lo hi e) l h =
+    let p = cond_some (is_next_of at (slice_get u.code e)) (loop_of at k lo hi e) l h in
+    subst (Begins u at (instr.For k lo hi e)) p.1 (record { is = refl; first = refl; next = next_is at (slice_get u.code e) p.0 })
+begins u at _ l h = absurd (none-some l h)
+
+-- an element of the list of loops, and the instruction that begins it
+record IsFound (u : UnitValue) (at : ℕ) (is : List Instr) (l : Loop) : Type 0 where
+  pub j : ℕ
+  pub i : Instr
+  pub found : slice_get is j ≡ Some i
+  pub begins : Begins u (at + j) i l
+
+-- each element of the list is begun by an instruction
+loop_found : (u : UnitValue) (at : ℕ) (is : List Instr) (l : Loop) → Has (loops_from u at is) l → IsFound u at is l
+loop_found u at [] l h = absurd h
+loop_found u at (i ∷ is) l h = go (loop_begun u at i) refl (loop_found u (suc at) is l) h
+  where
+    go : (o : Option Loop) → loop_begun u at i ≡ o → (Has (loops_from u (suc at) is) l → IsFound u (suc at) is l)
+        → Has (option_map_or (λ k. k ∷ loops_from u (suc at) is) o (loops_from u (suc at) is)) l → IsFound u at (i ∷ is) l
+    go None e later g =
+        let r = later g in
+        let same : suc at + r.j ≡ at + suc r.j = omega arith in
+        record { j = suc r.j; i = r.i; found = r.found; begins = subst (λ n. Begins u n r.i l) same r.begins }
+    go (Some k) e later (inl q) =
+        let same : at ≡ at + 0 = omega arith in
+        record { j = 0; i = i; found = refl; begins = subst (λ n. Begins u n i l) same (begins u at i l (e ∙ ap Some q)) }
+    go (Some k) e later (inr g) =
+        let r = later g in
+        let same : suc at + r.j ≡ at + suc r.j = omega arith in
+        record { j = suc r.j; i = r.i; found = r.found; begins = subst (λ n. Begins u n r.i l) same r.begins }
+
+-- what an instruction begins is an element
+loop_had : (u : UnitValue) (at : ℕ) (is : List Instr) (j n : ℕ) (i : Instr) (l : Loop) → slice_get is j ≡ Some i → n ≡ at + j → loop_begun u n i ≡ Some l → Has (loops_from u at is) l
+loop_had u at [] j n i l h e g = absurd (none-some i h)
+loop_had u at (x ∷ is) zero n i l h e g =
+    let same : n ≡ at = omega arith in
+    subst (λ o. Has (option_map_or (λ k. k ∷ loops_from u (suc at) is) o (loops_from u (suc at) is)) l)
+    (sym (ap (loop_begun u at) (same_Some x i h) ∙ ap (λ m. loop_begun u m i) (sym same) ∙ g)) (inl refl)
+loop_had u at (x ∷ is) (suc j) n i l h e g = go (loop_begun u at x) (loop_had u (suc at) is j n i l h (omega arith) g)
+  where
+    go : (o : Option Loop) → Has (loops_from u (suc at) is) l → Has (option_map_or (λ k. k ∷ loops_from u (suc at) is) o (loops_from u (suc at) is)) l
+    go None r = r
+    go (Some k) r = inr r
+
+-- they rise
+loops_rise : (u : UnitValue) (at : ℕ) (is : List Instr) → Rising (loops_from u at is)
+loops_rise u at [] = tt
+loops_rise u at (i ∷ is) = go (loop_begun u at i) refl (loops_rise u (suc at) is)
+  where
+    go : (o : Option Loop) → loop_begun u at i ≡ o → Rising (loops_from u (suc at) is)
+        → Rising (option_map_or (λ k. k ∷ loops_from u (suc at) is) o (loops_from u (suc at) is))
+    go None e r = r
+    go (Some l) e r = ((λ k h. (let f = loop_found u (suc at) is k h in omega (arith, f.begins.first, (begins u at i l e).first))), r)
+
+-- ---- from the rules
+
+-- no element passes a test that none passes
+none_has : {X : Type 0} (test : X → Bool) (xs : List X) (x : X) → list_any test xs ≡ false → Has xs x → test x ≡ false
+none_has test [] x h g = absurd g
+none_has test (y ∷ xs) x h (inl e) = subst (λ z. test z ≡ false) e (or_parts (test y) (list_any test xs) h).0
+none_has test (y ∷ xs) x h (inr g) = none_has test xs x (or_parts (test y) (list_any test xs) h).1 g
+
+-- a loop that isn't amiss is one, and overlaps none
+not_amiss : (u : UnitValue) (o : Option Loop) → is_amiss u o ≡ false → (l : Loop) × (o ≡ Some l) × (list_any (overlaps l) (loops u) ≡ false)
+not_amiss u None h = absurd (true≢false h)
+not_amiss u (Some l) h = (l, refl, h)
+
+-- two tests that don't differ are one
+not_differ : (p q : Bool) → differ p q ≡ false → p ≡ q
+not_differ true true h = refl
+not_differ true false h = absurd (true≢false h)
+not_differ false true h = absurd (true≢false h)
+not_differ false false h = refl
+
+-- bounds that aren't out of order
+in_order : (lo hi : ℤ) → int_lt hi lo ≡ false → int_le lo hi ≡ true
+in_order lo hi h = grind (arith, ints)
+
+module _ (u : UnitValue) (targets : (at : ℕ) → breaks_target u at ≡ false) (blocks : (at : ℕ) → breaks_block u at ≡ false) (kinds : (at : ℕ) → breaks_loop u at ≡ false) where
+  -- the three rules at an instruction
+  aims : (at : ℕ) (i : Instr) → slice_get u.code at ≡ Some i → aims_well u at i ≡ true
+  aims at i here = not-false (aims_well u at i) (ap (instr_is (λ x. not (aims_well u at x))) (sym here) ∙ targets at)
+
+  uncrossing : (at : ℕ) (i : Instr) → slice_get u.code at ≡ Some i → is_crossing u at i ≡ false
+  uncrossing at i here = ap (instr_is (is_crossing u at)) (sym here) ∙ blocks at
+
+  forward : (at : ℕ) (i : Instr) → slice_get u.code at ≡ Some i → is_backward i ≡ false
+  forward at i here = ap (instr_is is_backward) (sym here)
+      ∙ (or_parts (instr_is is_backward (slice_get u.code at)) (instr_is (λ x. list_any (λ l. is_within at l && writes_slot l.slot x) (loops u)) (slice_get u.code at)) (kinds at)).0
+
+  unwriting : (at : ℕ) (i : Instr) → slice_get u.code at ≡ Some i → list_any (λ l. is_within at l && writes_slot l.slot i) (loops u) ≡ false
+  unwriting at i here = ap (instr_is (λ x. list_any (λ l. is_within at l && writes_slot l.slot x) (loops u))) (sym here)
+      ∙ (or_parts (instr_is is_backward (slice_get u.code at)) (instr_is (λ x. list_any (λ l. is_within at l && writes_slot l.slot x) (loops u)) (slice_get u.code at)) (kinds at)).1
+
+  -- what lies ahead
+  ahead : (at t : ℕ) → lies_ahead u at t ≡ true → (at < t) × (t < length u.code)
+  ahead at t h = let p = and_parts (nat_lt at t) (nat_lt t (length u.code)) h in (ltb-true at t p.0, ltb-true t (length u.code) p.1)
+
+  -- each `for` begins a loop
+  begun_at : (b k e : ℕ) (lo hi : ℤ) → slice_get u.code b ≡ Some (instr.For k lo hi e)
+      → (l : Loop) × (loop_begun u b (instr.For k lo hi e) ≡ Some l) × (list_any (overlaps l) (loops u) ≡ false)
+  begun_at b k e lo hi here = not_amiss u (loop_begun u b (instr.For k lo hi e)) (uncrossing b (instr.For k lo hi e) here)
+
+  -- that one
+  begun_is : (b k e : ℕ) (lo hi : ℤ) → slice_get u.code b ≡ Some (instr.For k lo hi e) → loop_begun u b (instr.For k lo hi e) ≡ Some (loop_of b k lo hi e)
+  begun_is b k e lo hi here =
+      let g = begun_at b k e lo hi here in
+      let p = cond_some (is_next_of b (slice_get u.code e)) (loop_of b k lo hi e) g.0 g.1 in
+      g.1 ∙ ap Some (sym p.1)
+
+  -- and it is among the loops
+  begun_has : (b k e : ℕ) (lo hi : ℤ) → slice_get u.code b ≡ Some (instr.For k lo hi e) → Has (loops u) (loop_of b k lo hi e)
+  begun_has b k e lo hi here = loop_had u 0 u.code b b (instr.For k lo hi e) (loop_of b k lo hi e) here (omega arith) (begun_is b k e lo hi here)
+
+  -- each `next` ends one
+  ended_at : (b e : ℕ) → slice_get u.code e ≡ Some (instr.Next b) → IsEnd u b e
+  ended_at b e here = go (slice_get u.code b) refl (not_amiss u (loop_ended u e b (slice_get u.code b)) (uncrossing e (instr.Next b) here))
+    where
+      go : (o : Option Instr) → slice_get u.code b ≡ o → (l : Loop) × (loop_ended u e b o ≡ Some l) × (list_any (overlaps l) (loops u) ≡ false) → IsEnd u b e
+      go None f g = absurd (none-some g.0 g.1)
+      go (Some i) f g = inner (loop_begun u b i) refl g.1
+        where
+          inner : (o : Option Loop) → loop_begun u b i ≡ o → option_and_then (λ l. if l.last == e then Some l else None) o ≡ Some g.0 → IsEnd u b e
+          inner None q r = absurd (none-some g.0 r)
+          inner (Some l) q r =
+              let s = begins u b i l q in
+              let last = eqb-true l.last e (cond_some (l.last == e) l g.0 r).0 in
+              record {
+                k = l.slot;
+                lo = l.lo;
+                hi = l.hi;
+                for = f ∙ ap Some s.is ∙ ap (λ n. Some (instr.For l.slot l.lo l.hi n)) last;
+                ahead = ltb-true b e (aims e (instr.Next b) here);
+              }
+
+  -- what each loop is
+  is_loop : (l : Loop) → Has (loops u) l → IsLoop u l
+  is_loop l h =
+      let f = loop_found u 0 u.code l h in
+      let place : f.j ≡ l.first = omega (arith, f.begins.first) in
+      let same : 0 + f.j ≡ l.first = omega arith in
+      let for : slice_get u.code l.first ≡ Some (instr.For l.slot l.lo l.hi l.last) = ap (slice_get u.code) (sym place) ∙ f.found ∙ ap Some f.begins.is in
+      record {
+        for = for;
+        next = subst (λ n. slice_get u.code l.last ≡ Some (instr.Next n)) same f.begins.next;
+        ahead = (ahead l.first l.last (aims l.first (instr.For l.slot l.lo l.hi l.last) for)).0;
+        order = in_order l.lo l.hi (forward l.first (instr.For l.slot l.lo l.hi l.last) for);
+      }
+
+  -- none overlaps another
+  none_overlaps : (l k : Loop) → Has (loops u) l → Has (loops u) k → overlaps l k ≡ false
+  none_overlaps l k h g =
+      let for = (is_loop l h).for in
+      let b = begun_at l.first l.slot l.last l.lo l.hi for in
+      let same : b.0 ≡ l = same_Some b.0 l (sym b.1 ∙ begun_is l.first l.slot l.last l.lo l.hi for) in
+      subst (λ x. overlaps x k ≡ false) same (none_has (overlaps b.0) (loops u) k b.2 g)
+
+  -- jumps keep to their loops
+  kept_at : (i : Instr) (p t : ℕ) → slice_get u.code p ≡ Some i → target i ≡ Some t → lies_ahead u p t ≡ true → list_any (crosses p t) (loops u) ≡ false → IsKept u p t
+  kept_at i p t here e aim cross = record {
+    ahead = (ahead p t aim).0;
+    inside = (ahead p t aim).1;
+    same = λ l h. not_differ (is_within p l) (is_round t l) (none_has (crosses p t) (loops u) l cross h);
+  }
+
+  kept_by : (i : Instr) (p t : ℕ) → slice_get u.code p ≡ Some i → target i ≡ Some t → IsKept u p t
+  kept_by (instr.Unless op x y s) p t here e = subst (IsKept u p) (same_Some s t e)
+      (kept_at (instr.Unless op x y s) p s here refl (aims p (instr.Unless op x y s) here) (uncrossing p (instr.Unless op x y s) here))
+  kept_by (instr.Jump s) p t here e = subst (IsKept u p) (same_Some s t e)
+      (kept_at (instr.Jump s) p s here refl (aims p (instr.Jump s) here) (uncrossing p (instr.Jump s) here))
+  kept_by _ p t here e = absurd (none-some t e)
+
+  -- nothing in a loop writes its slot
+  none_writes : (i : Instr) (at : ℕ) (l : Loop) → slice_get u.code at ≡ Some i → Has (loops u) l → is_within at l ≡ true → slot_written i ≡ Some l.slot → ⊥
+  none_writes i at l here h within e =
+      let off : (is_within at l && writes_slot l.slot i) ≡ false = none_has (λ x. is_within at x && writes_slot x.slot i) (loops u) l (unwriting at i here) h in
+      let on : writes_slot l.slot i ≡ true = ap (λ o. option_map_or (λ d. d == l.slot) o false) e ∙ eq-eqb l.slot l.slot refl in
+      false≢true (sym off ∙ and_from (is_within at l) (writes_slot l.slot i) within on)
+
+  -- the loops of a unit whose places break none of the three rules
+  pub are_loops : AreLoops u
+  are_loops = record {
+    begun = λ b k e lo hi here. (begun_has b k e lo hi here, (ahead b e (aims b (instr.For k lo hi e) here)).1);
+    ended = ended_at;
+    is = is_loop;
+    apart = none_overlaps;
+    rising = loops_rise u 0 u.code;
+    kept = kept_by;
+    unwritten = none_writes;
+  }

@@ -12,7 +12,7 @@ use Rattle.xk_types.specs.Shape.{HasShape}
 use Rattle.xk_types.specs.Bound.{steps_weight, activities_weight, clocks_weight, total}
 use Rattle.xk_laws.proofs.Turns.{due, Goes, due_start, due_step, due_end}
 use Rattle.xk_laws.proofs.Invariant.{with_started, owed_by, owed, owing}
-use Rattle.xk_laws.proofs.Fits.{IsFit, unit_fits}
+use Rattle.xk_laws.proofs.Fits.{IsFit}
 use Rattle.xk_laws.proofs.Lists.{sum_set}
 use Rattle.xk_laws.proofs.Totals.{total_sum}
 
@@ -31,7 +31,7 @@ pub owed_first : (weight : Instr → ℕ) (half : ℕ) (m : ModuleValue) → Has
 owed_first weight half m shape act u found running first =
     owed_at weight half m act u found ∙ ap (owed_by (with_started weight m) half u act.frame.place act.frame.slots) running
     ∙ ap (λ n. due (with_started weight m) u n act.frame.slots) first
-    ∙ due_start u (unit_fits m shape act.frame.unit u found).loops (with_started weight m) act.frame.slots
+    ∙ due_start u (with_started weight m) act.frame.slots
     ∙ sym (total_sum weight m shape act.frame.unit u found)
 
 -- what a step takes off its activity's debts: a step, and so many clocks
@@ -85,7 +85,7 @@ module _ (m : ModuleValue) (u : UnitValue) (i : Instr) (was act : Activity) (t :
   -- the debts fall by all that the instruction weighs
   falls : (weight : Instr → ℕ) (half : ℕ) → act.status ≡ status.Running → GoesOn u i was act → owed weight half m act + with_started weight m i ≤ owed weight half m was
   falls weight half e goes =
-      let h = due_step u t.fit.loops (with_started weight m) i was.frame.place act.frame.place was.frame.slots act.frame.slots t.here goes in
+      let h = due_step u t.fit.loops (with_started weight m) i was.frame.place was.frame.slots act.frame.place act.frame.slots t.here goes in
       omega (arith, before weight half, behind weight half status.Running e)
 
   -- an instruction of one step that starts nothing
@@ -121,9 +121,9 @@ module _ (m : ModuleValue) (u : UnitValue) (i : Instr) (was act : Activity) (t :
 
       half_falls : (weight : Instr → ℕ) (half : ℕ) → owed weight half m act + weight i ≤ owed weight half m was + half
       half_falls weight half =
-          let h = due_step u t.fit.loops (with_started weight m) i was.frame.place (was.frame.place + 1) was.frame.slots was.frame.slots t.here goes in
+          let h = due_step u t.fit.loops (with_started weight m) i was.frame.place was.frame.slots (was.frame.place + 1) was.frame.slots t.here goes in
           let same : due (with_started weight m) u (act.frame.place + 1) act.frame.slots ≡ due (with_started weight m) u (was.frame.place + 1) was.frame.slots =
-              ap (λ n. due (with_started weight m) u (n + 1) act.frame.slots) at ∙ ap (due (with_started weight m) u (was.frame.place + 1)) slots in
+          ap (λ n. due (with_started weight m) u (n + 1) act.frame.slots) at ∙ ap (due (with_started weight m) u (was.frame.place + 1)) slots in
           omega (arith, before weight half, behind weight half status.Arrived e)
 
   -- the end

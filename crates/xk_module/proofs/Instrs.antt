@@ -3,11 +3,13 @@ use Rattle.std.proofs.Common.{◌≡◌, ℕ, ℤ, cond, List, [], ◌∷◌, ma
 use Rattle.std.specs.Bool.{⊤}
 use Rattle.std.specs.List.{AllByRecursion}
 use Rattle.std.specs.Str.{bytes_eq}
-use Rattle.serde_json.specs.Data.{Data}
+use Rattle.serde_json.specs.Data.{Data, string}
+use Rattle.xk_types.specs.declared.instr.Comparison.{Comparison}
+use Rattle.xk_types.specs.declared.instr.Comparison.TheVariants as comparison
 use Rattle.xk_types.specs.declared.instr.Instr.{Instr}
 use Rattle.xk_types.specs.declared.instr.Instr.TheVariants as instr
-use Rattle.xk_module.specs.ModuleText.{long, word, named, array_of, instr_value, IsWord, IsLong, IsInstrInRange}
-use Rattle.xk_module.specs.Named.{◌>>=◌, word_at, none_at, one_at, three_at, lit_at, spawn_at, instr_of, instr_at}
+use Rattle.xk_module.specs.ModuleText.{long, word, named, array_of, comparison_name, instr_value, IsWord, IsLong, IsInstrInRange}
+use Rattle.xk_module.specs.Named.{◌>>=◌, word_at, none_at, one_at, two_at, three_at, lit_at, comparison_of, comparison_at, unless_at, for_at, spawn_at, instr_of, instr_at}
 use Rattle.xk_module.proofs.Lists.{listed-items_of}
 use Rattle.xk_module.proofs.Parts.{bind_some, by_name, word_takes, word_again, long_takes, long_again, array_takes, head_takes, end_takes, str_takes, each_takes, each_again}
 
@@ -36,6 +38,32 @@ one_again x p = word_again x p
 
 one : IsShape one_at (λ a. word a ∷ []) IsWord
 one = record { takes = one_takes; again = one_again }
+
+abbrev two_values : ℕ × ℕ → List Data
+two_values x = word x.0 ∷ word x.1 ∷ []
+
+abbrev AreTwoWords : ℕ × ℕ → Type 0
+AreTwoWords x = IsWord x.0 × IsWord x.1
+
+two_takes : (operands : List Data) (x : ℕ × ℕ) → two_at operands ≡ Some x → (operands ≡ two_values x) × AreTwoWords x
+unfolding two_at
+two_takes (a ∷ b ∷ []) x e =
+    let p = bind_some _ _ _ e in
+    let q = bind_some _ _ _ p.2 in
+    let i = word_takes a p.0 p.1 in
+    let j = word_takes b q.0 q.1 in
+    let same : (p.0, q.0) ≡ x = cc in
+    subst (λ (x : ℕ × ℕ). (a ∷ b ∷ [] ≡ two_values x) × AreTwoWords x) same (cc (i.0, j.0), (i.1, j.1))
+two_takes [] x e = absurd cc
+two_takes (a ∷ []) x e = absurd cc
+two_takes (a ∷ b ∷ c ∷ rest) x e = absurd cc
+
+two_again : (x : ℕ × ℕ) → AreTwoWords x → two_at (two_values x) ≡ Some x
+unfolding two_at
+two_again x p = rw (word_again x.0 p.0, word_again x.1 p.1) refl
+
+two : IsShape two_at two_values AreTwoWords
+two = record { takes = two_takes; again = two_again }
 
 abbrev three_values : ℕ × ℕ × ℕ → List Data
 three_values x = word x.0 ∷ word x.1 ∷ word x.2 ∷ []
@@ -92,6 +120,102 @@ lit_again x p = rw (word_again x.0 p.0, long_again x.1 p.1) refl
 lit : IsShape lit_at lit_values AreWordAndLong
 lit = record { takes = lit_takes; again = lit_again }
 
+-- the name of this comparison was read, or that of another one
+by_comparison : (this : Comparison) (name : List ℕ) (others : Option Comparison) (op : Comparison)
+    → cond (bytes_eq name (comparison_name this)) (Some this) others ≡ Some op → (others ≡ Some op → name ≡ comparison_name op)
+    → name ≡ comparison_name op
+by_comparison this name others op e there =
+    by_name name (comparison_name this) _ _ op (name ≡ comparison_name op) e (λ same e. let h : this ≡ op = cc in same ∙ ap comparison_name h) there
+
+comparison_of_takes : (name : List ℕ) (op : Comparison) → comparison_of name ≡ Some op → name ≡ comparison_name op
+comparison_of_takes name op e =
+    by_comparison comparison.Eq name _ op e (λ e.
+    by_comparison comparison.Ne name _ op e (λ e.
+    by_comparison comparison.Lt name _ op e (λ e.
+    by_comparison comparison.Le name _ op e (λ e.
+    by_comparison comparison.Gt name _ op e (λ e.
+    by_comparison comparison.Ge name _ op e (λ e.
+    absurd cc))))))
+
+comparison_takes : (d : Data) (op : Comparison) → comparison_at d ≡ Some op → d ≡ string (comparison_name op)
+unfolding comparison_at
+comparison_takes d op e =
+    let name = bind_some _ _ _ e in
+    str_takes d name.0 name.1 ∙ ap string (comparison_of_takes name.0 op name.2)
+
+comparison_again : (op : Comparison) → comparison_at (string (comparison_name op)) ≡ Some op
+unfolding comparison_at
+comparison_again comparison.Eq = refl
+comparison_again comparison.Ne = refl
+comparison_again comparison.Lt = refl
+comparison_again comparison.Le = refl
+comparison_again comparison.Gt = refl
+comparison_again comparison.Ge = refl
+
+abbrev unless_values : Comparison × ℕ × ℕ × ℕ → List Data
+unless_values x = string (comparison_name x.0) ∷ word x.1 ∷ word x.2 ∷ word x.3 ∷ []
+
+abbrev AreOfUnless : Comparison × ℕ × ℕ × ℕ → Type 0
+AreOfUnless x = IsWord x.1 × IsWord x.2 × IsWord x.3
+
+unless_takes : (operands : List Data) (x : Comparison × ℕ × ℕ × ℕ) → unless_at operands ≡ Some x → (operands ≡ unless_values x) × AreOfUnless x
+unfolding unless_at
+unless_takes (a ∷ b ∷ c ∷ d ∷ []) x e =
+    let p = bind_some _ _ _ e in
+    let q = bind_some _ _ _ p.2 in
+    let r = bind_some _ _ _ q.2 in
+    let s = bind_some _ _ _ r.2 in
+    let i = comparison_takes a p.0 p.1 in
+    let j = word_takes b q.0 q.1 in
+    let k = word_takes c r.0 r.1 in
+    let l = word_takes d s.0 s.1 in
+    let same : (p.0, q.0, r.0, s.0) ≡ x = cc in
+    subst (λ (x : Comparison × ℕ × ℕ × ℕ). (a ∷ b ∷ c ∷ d ∷ [] ≡ unless_values x) × AreOfUnless x) same (cc (i, j.0, k.0, l.0), (j.1, k.1, l.1))
+unless_takes [] x e = absurd cc
+unless_takes (a ∷ []) x e = absurd cc
+unless_takes (a ∷ b ∷ []) x e = absurd cc
+unless_takes (a ∷ b ∷ c ∷ []) x e = absurd cc
+unless_takes (a ∷ b ∷ c ∷ d ∷ f ∷ rest) x e = absurd cc
+
+unless_again : (x : Comparison × ℕ × ℕ × ℕ) → AreOfUnless x → unless_at (unless_values x) ≡ Some x
+unfolding unless_at
+unless_again x p = rw (comparison_again x.0, word_again x.1 p.0, word_again x.2 p.1, word_again x.3 p.2) refl
+
+unless : IsShape unless_at unless_values AreOfUnless
+unless = record { takes = unless_takes; again = unless_again }
+
+abbrev for_values : ℕ × ℤ × ℤ × ℕ → List Data
+for_values x = word x.0 ∷ long x.1 ∷ long x.2 ∷ word x.3 ∷ []
+
+abbrev AreOfFor : ℕ × ℤ × ℤ × ℕ → Type 0
+AreOfFor x = IsWord x.0 × IsLong x.1 × IsLong x.2 × IsWord x.3
+
+for_takes : (operands : List Data) (x : ℕ × ℤ × ℤ × ℕ) → for_at operands ≡ Some x → (operands ≡ for_values x) × AreOfFor x
+unfolding for_at
+for_takes (a ∷ b ∷ c ∷ d ∷ []) x e =
+    let p = bind_some _ _ _ e in
+    let q = bind_some _ _ _ p.2 in
+    let r = bind_some _ _ _ q.2 in
+    let s = bind_some _ _ _ r.2 in
+    let i = word_takes a p.0 p.1 in
+    let j = long_takes b q.0 q.1 in
+    let k = long_takes c r.0 r.1 in
+    let l = word_takes d s.0 s.1 in
+    let same : (p.0, q.0, r.0, s.0) ≡ x = cc in
+    subst (λ (x : ℕ × ℤ × ℤ × ℕ). (a ∷ b ∷ c ∷ d ∷ [] ≡ for_values x) × AreOfFor x) same (cc (i.0, j.0, k.0, l.0), (i.1, j.1, k.1, l.1))
+for_takes [] x e = absurd cc
+for_takes (a ∷ []) x e = absurd cc
+for_takes (a ∷ b ∷ []) x e = absurd cc
+for_takes (a ∷ b ∷ c ∷ []) x e = absurd cc
+for_takes (a ∷ b ∷ c ∷ d ∷ f ∷ rest) x e = absurd cc
+
+for_again : (x : ℕ × ℤ × ℤ × ℕ) → AreOfFor x → for_at (for_values x) ≡ Some x
+unfolding for_at
+for_again x p = rw (word_again x.0 p.0, long_again x.1 p.1, long_again x.2 p.2, word_again x.3 p.3) refl
+
+counted : IsShape for_at for_values AreOfFor
+counted = record { takes = for_takes; again = for_again }
+
 abbrev spawn_values : ℕ × List ℕ → List Data
 spawn_values x = word x.0 ∷ array_of (map word x.1) ∷ []
 
@@ -144,7 +268,14 @@ instr_of_takes : (name : List ℕ) (operands : List Data) (i : Instr) → instr_
 unfolding instr_of
 instr_of_takes name operands i e =
     by_shape lit (codes "lit") (λ x. instr.Lit x.0 x.1) (λ x p. (refl, p)) name operands _ i e (λ e.
+    by_shape two (codes "copy") (λ x. instr.Copy x.0 x.1) (λ x p. (refl, p)) name operands _ i e (λ e.
     by_shape three (codes "add") (λ x. instr.Add x.0 x.1 x.2) (λ x p. (refl, p)) name operands _ i e (λ e.
+    by_shape three (codes "sub") (λ x. instr.Sub x.0 x.1 x.2) (λ x p. (refl, p)) name operands _ i e (λ e.
+    by_shape three (codes "mul") (λ x. instr.Mul x.0 x.1 x.2) (λ x p. (refl, p)) name operands _ i e (λ e.
+    by_shape unless (codes "unless") (λ x. instr.Unless x.0 x.1 x.2 x.3) (λ x p. (refl, p)) name operands _ i e (λ e.
+    by_shape one (codes "jump") instr.Jump (λ x p. (refl, p)) name operands _ i e (λ e.
+    by_shape counted (codes "for") (λ x. instr.For x.0 x.1 x.2 x.3) (λ x p. (refl, p)) name operands _ i e (λ e.
+    by_shape one (codes "next") instr.Next (λ x p. (refl, p)) name operands _ i e (λ e.
     by_shape one (codes "print") instr.Print (λ x p. (refl, p)) name operands _ i e (λ e.
     by_shape one (codes "make") instr.Make (λ x p. (refl, p)) name operands _ i e (λ e.
     by_shape one (codes "resume") instr.Resume (λ x p. (refl, p)) name operands _ i e (λ e.
@@ -152,7 +283,7 @@ instr_of_takes name operands i e =
     by_shape none (codes "advance") (λ _. instr.Advance) (λ x p. (refl, p)) name operands _ i e (λ e.
     by_shape spawn (codes "spawn") (λ x. instr.Spawn x.0 x.1) (λ x p. (refl, p)) name operands _ i e (λ e.
     by_shape none (codes "ret") (λ _. instr.Ret) (λ x p. (refl, p)) name operands _ i e (λ e.
-    absurd cc)))))))))
+    absurd cc))))))))))))))))
 
 pub instr_takes : (d : Data) (i : Instr) → instr_at d ≡ Some i → (d ≡ instr_value i) × IsInstrInRange i
 unfolding instr_at
@@ -174,7 +305,16 @@ instr_of_again name operands i e = ap (instr_of name) (listed-items_of operands)
 pub instr_again : (i : Instr) → IsInstrInRange i → instr_at (instr_value i) ≡ Some i
 unfolding instr_of
 instr_again (instr.Lit d n) p = instr_of_again (codes "lit") (lit_values (d, n)) (instr.Lit d n) (rw (lit_again (d, n) p) refl)
+instr_again (instr.Copy d a) p = instr_of_again (codes "copy") (two_values (d, a)) (instr.Copy d a) (rw (two_again (d, a) p) refl)
 instr_again (instr.Add d a b) p = instr_of_again (codes "add") (three_values (d, a, b)) (instr.Add d a b) (rw (three_again (d, a, b) p) refl)
+instr_again (instr.Sub d a b) p = instr_of_again (codes "sub") (three_values (d, a, b)) (instr.Sub d a b) (rw (three_again (d, a, b) p) refl)
+instr_again (instr.Mul d a b) p = instr_of_again (codes "mul") (three_values (d, a, b)) (instr.Mul d a b) (rw (three_again (d, a, b) p) refl)
+instr_again (instr.Unless op a b t) p =
+    instr_of_again (codes "unless") (unless_values (op, a, b, t)) (instr.Unless op a b t) (rw (unless_again (op, a, b, t) p) refl)
+instr_again (instr.Jump t) p = instr_of_again (codes "jump") (word t ∷ []) (instr.Jump t) (rw (one_again t p) refl)
+instr_again (instr.For k lo hi e) p =
+    instr_of_again (codes "for") (for_values (k, lo, hi, e)) (instr.For k lo hi e) (rw (for_again (k, lo, hi, e) p) refl)
+instr_again (instr.Next b) p = instr_of_again (codes "next") (word b ∷ []) (instr.Next b) (rw (one_again b p) refl)
 instr_again (instr.Print a) p = instr_of_again (codes "print") (word a ∷ []) (instr.Print a) (rw (one_again a p) refl)
 instr_again (instr.Make k) p = instr_of_again (codes "make") (word k ∷ []) (instr.Make k) (rw (one_again k p) refl)
 instr_again (instr.Resume k) p = instr_of_again (codes "resume") (word k ∷ []) (instr.Resume k) (rw (one_again k p) refl)

@@ -10,7 +10,6 @@ use Rattle.serde_json.specs.Find.{as_number, as_str, as_u64}
 use Rattle.serde_json.specs.View.{items_of}
 use Rattle.xk_module.specs.ModuleText.{long, word, array_of, members_of, object_of, IsWord, IsLong}
 use Rattle.xk_module.specs.Named.{◌>>=◌, listed, listed_members, array_at, object_at, field_at, end_at, head_at, word_at, long_of, long_at, each}
-use Rattle.xk_module.proofs.Lists.{listed-items_of}
 
 -- the value of a step that found one
 pub bind_some : {A B : Type 0} (f : A → Option B) (o : Option A) (y : B) → (o >>= f) ≡ Some y → (x : A) × (o ≡ Some x) × (f x ≡ Some y)
@@ -105,10 +104,6 @@ members_of-listed : (ms : Members) → members_of (listed_members ms) ≡ ms
 members_of-listed no_members = refl
 members_of-listed (member k d ms) = ap (member k d) (members_of-listed ms)
 
-listed-members_of : (ms : List (List ℕ × Data)) → listed_members (members_of ms) ≡ ms
-listed-members_of [] = refl
-listed-members_of (m ∷ ms) = ap (λ (xs : List (List ℕ × Data)). m ∷ xs) (listed-members_of ms)
-
 pub array_takes : (d : Data) (ds : List Data) → array_at d ≡ Some ds → d ≡ array_of ds
 array_takes null ds e = absurd cc
 array_takes (boolean b) ds e = absurd cc
@@ -119,9 +114,6 @@ array_takes (array items) ds e =
     ap array (sym (items_of-listed items) ∙ ap items_of same)
 array_takes (object ms) ds e = absurd cc
 
-pub array_again : (ds : List Data) → array_at (array_of ds) ≡ Some ds
-array_again ds = ap Some (listed-items_of ds)
-
 pub object_takes : (d : Data) (ms : List (List ℕ × Data)) → object_at d ≡ Some ms → d ≡ object_of ms
 object_takes null ms e = absurd cc
 object_takes (boolean b) ms e = absurd cc
@@ -131,9 +123,6 @@ object_takes (array items) ms e = absurd cc
 object_takes (object members) ms e =
     let same : listed_members members ≡ ms = cc in
     ap object (sym (members_of-listed members) ∙ ap members_of same)
-
-pub object_again : (ms : List (List ℕ × Data)) → object_at (object_of ms) ≡ Some ms
-object_again ms = ap Some (listed-members_of ms)
 
 field_takes : (key : List ℕ) (ms : List (List ℕ × Data)) (x : Data × List (List ℕ × Data)) → field_at key ms ≡ Some x → ms ≡ (key, x.0) ∷ x.1
 field_takes key [] x e = absurd cc

@@ -6,6 +6,8 @@ use Rattle.serde_json.specs.Data.{Data, number, string, array, object, unsigned,
 use Rattle.serde_json.specs.Find.{of_integer}
 use Rattle.serde_json.specs.Read.{read}
 use Rattle.serde_json.specs.View.{items_of}
+use Rattle.xk_types.specs.declared.instr.Comparison.{Comparison}
+use Rattle.xk_types.specs.declared.instr.Comparison.TheVariants as comparison
 use Rattle.xk_types.specs.declared.instr.Instr.{Instr}
 use Rattle.xk_types.specs.declared.instr.Instr.TheVariants as instr
 use Rattle.xk_types.specs.declared.unit.UnitKind.{UnitKind}
@@ -20,7 +22,7 @@ use Rattle.xk_types.specs.Code.{UnitValue, ModuleValue}
 abbrev pub long : ℤ → Data
 long z = number (of_integer z)
 
--- a whole number that isn't negative, as of a slot or a unit
+-- a whole number that isn't negative, as of a slot, a unit or a place in the code
 abbrev pub word : ℕ → Data
 word n = number (unsigned n)
 
@@ -37,13 +39,28 @@ object_of members = object (members_of members)
 
 -- ---- modules
 
+abbrev pub comparison_name : Comparison → List ℕ
+comparison_name comparison.Eq = codes "eq"
+comparison_name comparison.Ne = codes "ne"
+comparison_name comparison.Lt = codes "lt"
+comparison_name comparison.Le = codes "le"
+comparison_name comparison.Gt = codes "gt"
+comparison_name comparison.Ge = codes "ge"
+
 -- an instruction's name, then its operands in order
 abbrev pub named : List ℕ → List Data → Data
 named name operands = array_of (string name ∷ operands)
 
 abbrev pub instr_value : Instr → Data
 instr_value (instr.Lit d n) = named (codes "lit") (word d ∷ long n ∷ [])
+instr_value (instr.Copy d a) = named (codes "copy") (word d ∷ word a ∷ [])
 instr_value (instr.Add d a b) = named (codes "add") (word d ∷ word a ∷ word b ∷ [])
+instr_value (instr.Sub d a b) = named (codes "sub") (word d ∷ word a ∷ word b ∷ [])
+instr_value (instr.Mul d a b) = named (codes "mul") (word d ∷ word a ∷ word b ∷ [])
+instr_value (instr.Unless op a b t) = named (codes "unless") (string (comparison_name op) ∷ word a ∷ word b ∷ word t ∷ [])
+instr_value (instr.Jump t) = named (codes "jump") (word t ∷ [])
+instr_value (instr.For k lo hi e) = named (codes "for") (word k ∷ long lo ∷ long hi ∷ word e ∷ [])
+instr_value (instr.Next b) = named (codes "next") (word b ∷ [])
 instr_value (instr.Print a) = named (codes "print") (word a ∷ [])
 instr_value (instr.Make k) = named (codes "make") (word k ∷ [])
 instr_value (instr.Resume k) = named (codes "resume") (word k ∷ [])
@@ -89,7 +106,14 @@ IsLong z = FitsSigned w64 z
 
 abbrev pub IsInstrInRange : Instr → Type 0
 IsInstrInRange (instr.Lit d n) = IsWord d × IsLong n
+IsInstrInRange (instr.Copy d a) = IsWord d × IsWord a
 IsInstrInRange (instr.Add d a b) = IsWord d × IsWord a × IsWord b
+IsInstrInRange (instr.Sub d a b) = IsWord d × IsWord a × IsWord b
+IsInstrInRange (instr.Mul d a b) = IsWord d × IsWord a × IsWord b
+IsInstrInRange (instr.Unless op a b t) = IsWord a × IsWord b × IsWord t
+IsInstrInRange (instr.Jump t) = IsWord t
+IsInstrInRange (instr.For k lo hi e) = IsWord k × IsLong lo × IsLong hi × IsWord e
+IsInstrInRange (instr.Next b) = IsWord b
 IsInstrInRange (instr.Print a) = IsWord a
 IsInstrInRange (instr.Make k) = IsWord k
 IsInstrInRange (instr.Resume k) = IsWord k

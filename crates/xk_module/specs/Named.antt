@@ -6,6 +6,8 @@ use Rattle.serde_json.specs.Data.{Num, unsigned, negative, float, Data, Items, n
 use Rattle.serde_json.specs.Find.{as_number, as_str, as_array, as_object, as_u64}
 use Rattle.serde_json.specs.View.{view}
 use Rattle.serde_json.specs.declared.value.Value.{Value}
+use Rattle.xk_types.specs.declared.instr.Comparison.{Comparison}
+use Rattle.xk_types.specs.declared.instr.Comparison.TheVariants as comparison
 use Rattle.xk_types.specs.declared.instr.Instr.{Instr}
 use Rattle.xk_types.specs.declared.instr.Instr.TheVariants as instr
 use Rattle.xk_types.specs.declared.unit.UnitKind.{UnitKind}
@@ -94,10 +96,18 @@ each f (x ∷ xs) = do
 abbrev pub none_at : List Data → Option ⊤
 none_at operands = end_at operands
 
--- one slot
+-- one slot, or one place
 unfoldable pub one_at : List Data → Option ℕ
 one_at (a ∷ []) = word_at a
 one_at _ = None
+
+-- two slots
+unfoldable pub two_at : List Data → Option (ℕ × ℕ)
+two_at (a ∷ b ∷ []) = do
+  x ← word_at a
+  y ← word_at b
+  Some (x, y)
+two_at _ = None
 
 -- three slots
 unfoldable pub three_at : List Data → Option (ℕ × ℕ × ℕ)
@@ -116,6 +126,41 @@ lit_at (a ∷ b ∷ []) = do
   Some (d, n)
 lit_at _ = None
 
+abbrev pub comparison_of : List ℕ → Option Comparison
+comparison_of name =
+    if bytes_eq name (codes "eq") then Some comparison.Eq
+    else if bytes_eq name (codes "ne") then Some comparison.Ne
+    else if bytes_eq name (codes "lt") then Some comparison.Lt
+    else if bytes_eq name (codes "le") then Some comparison.Le
+    else if bytes_eq name (codes "gt") then Some comparison.Gt
+    else if bytes_eq name (codes "ge") then Some comparison.Ge
+    else None
+
+unfoldable pub comparison_at : Data → Option Comparison
+comparison_at d = do
+  name ← as_str d
+  comparison_of name
+
+-- a comparison, two slots and a place
+unfoldable pub unless_at : List Data → Option (Comparison × ℕ × ℕ × ℕ)
+unless_at (a ∷ b ∷ c ∷ d ∷ []) = do
+  op ← comparison_at a
+  x ← word_at b
+  y ← word_at c
+  t ← word_at d
+  Some (op, x, y, t)
+unless_at _ = None
+
+-- a slot, two bounds and a place
+unfoldable pub for_at : List Data → Option (ℕ × ℤ × ℤ × ℕ)
+for_at (a ∷ b ∷ c ∷ d ∷ []) = do
+  k ← word_at a
+  lo ← long_at b
+  hi ← long_at c
+  e ← word_at d
+  Some (k, lo, hi, e)
+for_at _ = None
+
 -- a unit, and the slots of an array
 unfoldable pub spawn_at : List Data → Option (ℕ × List ℕ)
 spawn_at (a ∷ b ∷ []) = do
@@ -129,7 +174,14 @@ spawn_at _ = None
 unfoldable pub instr_of : List ℕ → List Data → Option Instr
 instr_of name operands =
     if bytes_eq name (codes "lit") then (lit_at operands >>= λ x. Some (instr.Lit x.0 x.1))
+    else if bytes_eq name (codes "copy") then (two_at operands >>= λ x. Some (instr.Copy x.0 x.1))
     else if bytes_eq name (codes "add") then (three_at operands >>= λ x. Some (instr.Add x.0 x.1 x.2))
+    else if bytes_eq name (codes "sub") then (three_at operands >>= λ x. Some (instr.Sub x.0 x.1 x.2))
+    else if bytes_eq name (codes "mul") then (three_at operands >>= λ x. Some (instr.Mul x.0 x.1 x.2))
+    else if bytes_eq name (codes "unless") then (unless_at operands >>= λ x. Some (instr.Unless x.0 x.1 x.2 x.3))
+    else if bytes_eq name (codes "jump") then (one_at operands >>= λ t. Some (instr.Jump t))
+    else if bytes_eq name (codes "for") then (for_at operands >>= λ x. Some (instr.For x.0 x.1 x.2 x.3))
+    else if bytes_eq name (codes "next") then (one_at operands >>= λ b. Some (instr.Next b))
     else if bytes_eq name (codes "print") then (one_at operands >>= λ a. Some (instr.Print a))
     else if bytes_eq name (codes "make") then (one_at operands >>= λ k. Some (instr.Make k))
     else if bytes_eq name (codes "resume") then (one_at operands >>= λ k. Some (instr.Resume k))

@@ -4,13 +4,13 @@ ghost use Rattle.std.specs.Prelude.{◌≡◌, IsErrOf, List, Option, codes, len
 ghost use Rattle.serde_json.specs.Data.{Data};
 ghost use Rattle.serde_json.specs.View.{view};
 ghost use Rattle.xk_types.specs.Code.{module_of};
-ghost use Rattle.xk_module.specs.Named.{Gives, views, each, none_at, one_at, three_at, lit_at, spawn_at, instr_of, kind_at, param_at, params_at, version_at, module_at};
+ghost use Rattle.xk_module.specs.Named.{Gives, views, each, none_at, one_at, two_at, three_at, lit_at, comparison_at, unless_at, for_at, spawn_at, instr_of, kind_at, param_at, params_at, version_at, module_at};
 
 use crate::fault::Refusal;
 use crate::json::{array, end, field, long, object, text, word};
 use serde_json::Value;
 use std::alloc::Global;
-use xk_types::{Args, Instr, ParamKind, Unit, UnitKind};
+use xk_types::{Args, Comparison, Instr, ParamKind, Unit, UnitKind};
 
 /// What a JSON value can name.
 trait Named: Drop {
@@ -100,30 +100,25 @@ fn instr(alloc: Global, name: &str, operands: &[Value]) -> Result<Instr, Refusal
     ensures memory { IsErrOf result Refusal.Memory → name.now ≡ codes "spawn" }
 {
     match name {
-        "lit" => {
-            let (d, n) = slot_and_number(operands)?;
-            Ok(Instr::Lit(d, n))
-        }
-        "add" => {
-            let (d, a, b) = three_slots(operands)?;
-            Ok(Instr::Add(d, a, b))
-        }
-        "print" => Ok(Instr::Print(one_slot(operands)?)),
-        "make" => Ok(Instr::Make(one_slot(operands)?)),
-        "resume" => Ok(Instr::Resume(one_slot(operands)?)),
-        "drop" => Ok(Instr::Drop(one_slot(operands)?)),
-        "advance" => {
-            no_operand(operands)?;
-            Ok(Instr::Advance)
-        }
+        "lit" => slot_and_number(operands).map(|(d, n)| Instr::Lit(d, n)),
+        "copy" => two_slots(operands).map(|(d, a)| Instr::Copy(d, a)),
+        "add" => three_slots(operands).map(|(d, a, b)| Instr::Add(d, a, b)),
+        "sub" => three_slots(operands).map(|(d, a, b)| Instr::Sub(d, a, b)),
+        "mul" => three_slots(operands).map(|(d, a, b)| Instr::Mul(d, a, b)),
+        "unless" => compared_slots(operands).map(|(op, a, b, t)| Instr::Unless(op, a, b, t)),
+        "jump" => one_word(operands).map(Instr::Jump),
+        "for" => slot_and_bounds(operands).map(|(k, lo, hi, e)| Instr::For(k, lo, hi, e)),
+        "next" => one_word(operands).map(Instr::Next),
+        "print" => one_word(operands).map(Instr::Print),
+        "make" => one_word(operands).map(Instr::Make),
+        "resume" => one_word(operands).map(Instr::Resume),
+        "drop" => one_word(operands).map(Instr::Drop),
+        "advance" => no_operand(operands).map(|()| Instr::Advance),
         "spawn" => {
             let (unit, slots) = unit_and_slots(alloc, operands)?;
             Ok(Instr::Spawn(unit, Args::new(slots)))
         }
-        "ret" => {
-            no_operand(operands)?;
-            Ok(Instr::Ret)
-        }
+        "ret" => no_operand(operands).map(|()| Instr::Ret),
         _ => Err(Refusal::Unfit),
     }
 }
@@ -138,13 +133,25 @@ fn no_operand(operands: &[Value]) -> Result<(), Refusal>
     }
 }
 
+/// A slot or a place.
 #[tactic(auto, unfolding(crate::specs::Named::one_at))]
-fn one_slot(operands: &[Value]) -> Result<u16, Refusal>
+fn one_word(operands: &[Value]) -> Result<u16, Refusal>
     ensures given { Gives (λ x. x) result (one_at (views operands.now)) }
     ensures no_memory { ¬ IsErrOf result Refusal.Memory }
 {
     match operands {
         [a] => word(a),
+        _ => Err(Refusal::Unfit),
+    }
+}
+
+#[tactic(auto, unfolding(crate::specs::Named::two_at))]
+fn two_slots(operands: &[Value]) -> Result<(u16, u16), Refusal>
+    ensures given { Gives (λ x. x) result (two_at (views operands.now)) }
+    ensures no_memory { ¬ IsErrOf result Refusal.Memory }
+{
+    match operands {
+        [a, b] => Ok((word(a)?, word(b)?)),
         _ => Err(Refusal::Unfit),
     }
 }
@@ -167,6 +174,46 @@ fn slot_and_number(operands: &[Value]) -> Result<(u16, i64), Refusal>
 {
     match operands {
         [d, n] => Ok((word(d)?, long(n)?)),
+        _ => Err(Refusal::Unfit),
+    }
+}
+
+#[tactic(auto, unfolding(crate::specs::Named::comparison_at))]
+fn comparison(value: &Value) -> Result<Comparison, Refusal>
+    ensures given { Gives (λ x. x) result (comparison_at (view value.now)) }
+    ensures no_memory { ¬ IsErrOf result Refusal.Memory }
+{
+    match text(value)? {
+        "eq" => Ok(Comparison::Eq),
+        "ne" => Ok(Comparison::Ne),
+        "lt" => Ok(Comparison::Lt),
+        "le" => Ok(Comparison::Le),
+        "gt" => Ok(Comparison::Gt),
+        "ge" => Ok(Comparison::Ge),
+        _ => Err(Refusal::Unfit),
+    }
+}
+
+/// A comparison, two slots and a place.
+#[tactic(auto, unfolding(crate::specs::Named::unless_at))]
+fn compared_slots(operands: &[Value]) -> Result<(Comparison, u16, u16, u16), Refusal>
+    ensures given { Gives (λ x. x) result (unless_at (views operands.now)) }
+    ensures no_memory { ¬ IsErrOf result Refusal.Memory }
+{
+    match operands {
+        [op, a, b, t] => Ok((comparison(op)?, word(a)?, word(b)?, word(t)?)),
+        _ => Err(Refusal::Unfit),
+    }
+}
+
+/// A slot, two bounds and a place.
+#[tactic(auto, unfolding(crate::specs::Named::for_at))]
+fn slot_and_bounds(operands: &[Value]) -> Result<(u16, i64, i64, u16), Refusal>
+    ensures given { Gives (λ x. x) result (for_at (views operands.now)) }
+    ensures no_memory { ¬ IsErrOf result Refusal.Memory }
+{
+    match operands {
+        [k, lo, hi, e] => Ok((word(k)?, long(lo)?, long(hi)?, word(e)?)),
         _ => Err(Refusal::Unfit),
     }
 }

@@ -1,7 +1,7 @@
 use crate::{ModuleFault, read_module};
 use std::alloc::{AllocError, Global};
 use std::test::Fail;
-use xk_types::{Args, Instr, Module, ParamKind, Unit, UnitKind};
+use xk_types::{Args, Comparison, Instr, Module, ParamKind, Unit, UnitKind};
 
 const SUM: &str =
     "{\"version\":1,\"shared\":[],\"units\":[{\"kind\":\"main\",\"params\":\"\",\"slots\":3,\"code\":[[\"lit\",0,2],[\"lit\",1,3],[\"add\",0,0,1],[\"make\",2],[\"advance\"],[\"print\",0],[\"ret\"]]}]}";
@@ -52,10 +52,32 @@ fn fault(alloc: Global, text: &str) -> Option<ModuleFault> {
     read_module(alloc, text.as_bytes()).err()
 }
 
+/// The first of these codes that isn't refused for what it is.
+fn first_taken<'a>(alloc: Global, codes: &[&'a str]) -> Result<Option<&'a str>, AllocError> {
+    for code in codes {
+        let text = with_code(alloc, code)?;
+        if fault(alloc, text.as_str()) != Some(ModuleFault::NotAModule) {
+            return Ok(Some(*code));
+        }
+    }
+    Ok(None)
+}
+
 fn are_same(found: &Instr, wanted: &Instr) -> bool {
     match (found, wanted) {
         (Instr::Lit(d, n), Instr::Lit(e, k)) => d == e && n == k,
+        (Instr::Copy(d, a), Instr::Copy(e, b)) => d == e && a == b,
         (Instr::Add(d, a, b), Instr::Add(e, p, q)) => d == e && a == p && b == q,
+        (Instr::Sub(d, a, b), Instr::Sub(e, p, q)) => d == e && a == p && b == q,
+        (Instr::Mul(d, a, b), Instr::Mul(e, p, q)) => d == e && a == p && b == q,
+        (Instr::Unless(op, a, b, t), Instr::Unless(other, p, q, u)) => {
+            op == other && a == p && b == q && t == u
+        }
+        (Instr::Jump(t), Instr::Jump(u)) => t == u,
+        (Instr::For(k, lo, hi, e), Instr::For(s, from, to, f)) => {
+            k == s && lo == from && hi == to && e == f
+        }
+        (Instr::Next(b), Instr::Next(f)) => b == f,
         (Instr::Print(a), Instr::Print(b)) => a == b,
         (Instr::Make(a), Instr::Make(b)) => a == b,
         (Instr::Resume(a), Instr::Resume(b)) => a == b,
@@ -290,7 +312,7 @@ fn no_unit(rt: HostRuntime) -> Result<(), Fail> {
 #[test]
 fn no_code(rt: HostRuntime) -> Result<(), Fail> {
     let codes = [
-        "[\"jump\",1]",
+        "[\"goto\",1]",
         "[\"Ret\"]",
         "[]",
         "[0]",
@@ -325,14 +347,70 @@ fn no_code(rt: HostRuntime) -> Result<(), Fail> {
         "[\"spawn\",-1,[]]",
         "[\"Spawn\",1,[]]",
     ];
-    for code in codes {
-        let text = with_code(rt.alloc(), code)?;
-        assert_eq!(rt;
-            fault(rt.alloc(), text.as_str()),
-            Some(ModuleFault::NotAModule),
-            "{code}"
-        );
-    }
+    assert_eq!(rt; first_taken(rt.alloc(), codes.as_slice())?, None);
+    Ok(())
+}
+
+#[test]
+fn no_branch_or_loop(rt: HostRuntime) -> Result<(), Fail> {
+    let codes = [
+        "[\"Jump\",1]",
+        "[\"jump\"]",
+        "[\"jump\",1,2]",
+        "[\"jump\",65536]",
+        "[\"jump\",-1]",
+        "[\"jump\",1.0]",
+        "[\"jump\",\"1\"]",
+        "[\"copy\",0]",
+        "[\"copy\",0,1,2]",
+        "[\"copy\",65536,0]",
+        "[\"copy\",0,65536]",
+        "[\"sub\",0,1]",
+        "[\"sub\",0,1,2,3]",
+        "[\"sub\",0,1,65536]",
+        "[\"mul\",0,1]",
+        "[\"mul\",0,1,2,3]",
+        "[\"mul\",0,-1,2]",
+        "[\"mul\",0,1.0,2]",
+        "[\"unless\",\"==\",0,1,2]",
+        "[\"unless\",\"Eq\",0,1,2]",
+        "[\"unless\",\"eq \",0,1,2]",
+        "[\"unless\",\"\",0,1,2]",
+        "[\"unless\",0,0,1,2]",
+        "[\"unless\",[\"eq\"],0,1,2]",
+        "[\"unless\",null,0,1,2]",
+        "[\"unless\",0,1,2]",
+        "[\"unless\",\"eq\",0,1]",
+        "[\"unless\",\"eq\",0,1,2,3]",
+        "[\"unless\",0,\"eq\",1,2]",
+        "[\"unless\",\"lt\",65536,1,2]",
+        "[\"unless\",\"lt\",0,65536,2]",
+        "[\"unless\",\"lt\",0,1,65536]",
+        "[\"unless\",\"lt\",0,1,-1]",
+        "[\"unless\",\"lt\",0,1,2.0]",
+        "[\"for\",0,1,2]",
+        "[\"for\",0,1,2,3,4]",
+        "[\"for\",65536,1,2,3]",
+        "[\"for\",-1,1,2,3]",
+        "[\"for\",0,1,2,65536]",
+        "[\"for\",0,1,2,-1]",
+        "[\"for\",0,1.0,2,3]",
+        "[\"for\",0,1,2.0,3]",
+        "[\"for\",0,1,1e1,3]",
+        "[\"for\",0,-0,2,3]",
+        "[\"for\",0,9223372036854775808,2,3]",
+        "[\"for\",0,1,9223372036854775808,3]",
+        "[\"for\",0,-9223372036854775809,2,3]",
+        "[\"for\",0,1,-9223372036854775809,3]",
+        "[\"for\",0,\"1\",2,3]",
+        "[\"for\",0,[1,2],3]",
+        "[\"next\"]",
+        "[\"next\",0,1]",
+        "[\"next\",65536]",
+        "[\"next\",-1]",
+        "[\"next\",0.0]",
+    ];
+    assert_eq!(rt; first_taken(rt.alloc(), codes.as_slice())?, None);
     Ok(())
 }
 
@@ -363,7 +441,7 @@ fn beyond_a_limit(rt: HostRuntime) -> Result<(), Fail> {
 }
 
 #[test]
-fn every_instruction_and_literal(rt: HostRuntime) -> Result<(), Fail> {
+fn literals_and_clocks(rt: HostRuntime) -> Result<(), Fail> {
     let code =
         "[\"lit\",65535,9223372036854775807],[\"lit\",0,-9223372036854775808],[\"resume\",4],[\"drop\",5]";
     let text = with_code(rt.alloc(), code)?;
@@ -375,6 +453,37 @@ fn every_instruction_and_literal(rt: HostRuntime) -> Result<(), Fail> {
         Instr::Lit(0, i64::MIN),
         Instr::Resume(4),
         Instr::Drop(5),
+    ];
+    assert!(rt; starts_with(&module, found.as_slice()));
+    Ok(())
+}
+
+#[test]
+fn branches_and_loops(rt: HostRuntime) -> Result<(), Fail> {
+    let code =
+        "[\"copy\",1,2],[\"copy\",65535,0],[\"sub\",3,1,2],[\"mul\",4,5,6],[\"unless\",\"eq\",1,2,3],[\"unless\",\"ne\",4,5,6],[\"unless\",\"lt\",7,8,9],[\"unless\",\"le\",0,0,0],[\"unless\",\"gt\",3,2,1],[\"unless\",\"ge\",65535,65534,65533],[\"jump\",0],[\"jump\",65535],[\"for\",1,-2,3,4],[\"for\",5,9,-9,0],[\"for\",65535,-9223372036854775808,9223372036854775807,65534],[\"next\",0],[\"next\",65535]";
+    let text = with_code(rt.alloc(), code)?;
+    let module = read_module(rt.alloc(), text.as_bytes())
+        .ok()
+        .ok_or("a module")?;
+    let found = [
+        Instr::Copy(1, 2),
+        Instr::Copy(65535, 0),
+        Instr::Sub(3, 1, 2),
+        Instr::Mul(4, 5, 6),
+        Instr::Unless(Comparison::Eq, 1, 2, 3),
+        Instr::Unless(Comparison::Ne, 4, 5, 6),
+        Instr::Unless(Comparison::Lt, 7, 8, 9),
+        Instr::Unless(Comparison::Le, 0, 0, 0),
+        Instr::Unless(Comparison::Gt, 3, 2, 1),
+        Instr::Unless(Comparison::Ge, 65535, 65534, 65533),
+        Instr::Jump(0),
+        Instr::Jump(65535),
+        Instr::For(1, -2, 3, 4),
+        Instr::For(5, 9, -9, 0),
+        Instr::For(65535, i64::MIN, i64::MAX, 65534),
+        Instr::Next(0),
+        Instr::Next(65535),
     ];
     assert!(rt; starts_with(&module, found.as_slice()));
     Ok(())

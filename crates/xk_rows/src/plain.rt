@@ -2,10 +2,11 @@
 //! not resumed it, who has resumed it, and who may go on since it has advanced.
 
 use std::alloc::Global;
+use std::cmp::Ordering;
 use std::collections::BTreeSet;
 use std::mem;
 use std::test::Fail;
-use xk_types::{Args, ClockId, Event, Instr, Module, ParamKind, Status, Unit, Value};
+use xk_types::{Args, ClockId, Comparison, Event, Instr, Module, ParamKind, Status, Unit, Value};
 
 /// Those registered on a clock, by what they have done in its phase.
 #[derive(Drop)]
@@ -136,6 +137,64 @@ impl Actor {
 
     fn go_on(&mut self) {
         self.place = self.place.saturating_add(1);
+    }
+}
+
+/// The 64 lowest bits of a number, in two's complement.
+fn wrapped(n: i128) -> i64 {
+    n as i64
+}
+
+/// The number that an instruction makes of others.
+fn computed(actor: &Actor, instr: &Instr) -> Result<i64, Fail> {
+    let (x, y) = match instr {
+        Instr::Copy(_, x) => (*x, *x),
+        Instr::Add(_, x, y) | Instr::Sub(_, x, y) | Instr::Mul(_, x, y) => (*x, *y),
+        _ => return Err("no instruction that computes".into()),
+    };
+    let (x, y) = (actor.number(x)? as i128, actor.number(y)? as i128);
+    Ok(wrapped(match instr {
+        Instr::Add(_, _, _) => x.wrapping_add(y),
+        Instr::Sub(_, _, _) => x.wrapping_sub(y),
+        Instr::Mul(_, _, _) => x.wrapping_mul(y),
+        _ => x,
+    }))
+}
+
+/// Whether two numbers compare so.
+fn compares(op: Comparison, x: i64, y: i64) -> bool {
+    let order = x.cmp(&y);
+    match op {
+        Comparison::Eq => order == Ordering::Equal,
+        Comparison::Ne => order != Ordering::Equal,
+        Comparison::Lt => order == Ordering::Less,
+        Comparison::Le => order != Ordering::Greater,
+        Comparison::Gt => order == Ordering::Greater,
+        Comparison::Ge => order != Ordering::Less,
+    }
+}
+
+/// Where a branch, a jump or the end of a turn leads; the end of a turn moves the loop's slot.
+fn branched(actor: &mut Actor, form: &Unit, instr: &Instr) -> Result<usize, Fail> {
+    let behind = actor.place.saturating_add(1);
+    match instr {
+        Instr::Jump(t) => Ok(*t as usize),
+        Instr::Unless(op, x, y, t) => {
+            let holds = compares(*op, actor.number(*x)?, actor.number(*y)?);
+            Ok(if holds { behind } else { *t as usize })
+        }
+        Instr::Next(b) => {
+            let Some(Instr::For(slot, _, hi, _)) = form.code.get(*b as usize) else {
+                return Err("a turn ends without a loop".into());
+            };
+            let n = actor.number(*slot)?;
+            if n >= *hi {
+                return Ok(behind);
+            }
+            actor.write(*slot, Value::Number(n.saturating_add(1)))?;
+            Ok((*b as usize).saturating_add(1))
+        }
+        _ => Err("no branch".into()),
     }
 }
 
@@ -283,6 +342,11 @@ impl<'m> Plain<'m> {
         match instr {
             Instr::Advance => self.arrive(a),
             Instr::Ret => self.end(a),
+            Instr::Unless(_, _, _, _) | Instr::Jump(_) | Instr::Next(_) => {
+                let place = branched(self.actor_mut(a)?, form, instr)?;
+                self.actor_mut(a)?.place = place;
+                Ok(Event::Local)
+            }
             _ => {
                 let event = self.act(alloc, a, instr)?;
                 self.actor_mut(a)?.go_on();
@@ -310,14 +374,17 @@ impl<'m> Plain<'m> {
     /// An instruction after which the activity goes on to the next.
     fn act(&mut self, alloc: Global, a: u32, instr: &Instr) -> Result<Event, Fail> {
         match instr {
-            Instr::Lit(d, n) => {
+            Instr::Lit(d, n) | Instr::For(d, n, _, _) => {
                 self.actor_mut(a)?.write(*d, Value::Number(*n))?;
                 Ok(Event::Local)
             }
-            Instr::Add(d, x, y) => {
+            Instr::Copy(d, _)
+            | Instr::Add(d, _, _)
+            | Instr::Sub(d, _, _)
+            | Instr::Mul(d, _, _) => {
                 let actor = self.actor_mut(a)?;
-                let sum = actor.number(*x)?.wrapping_add(actor.number(*y)?);
-                actor.write(*d, Value::Number(sum))?;
+                let n = computed(actor, instr)?;
+                actor.write(*d, Value::Number(n))?;
                 Ok(Event::Local)
             }
             Instr::Print(x) => Ok(Event::Printed(self.actor(a)?.number(*x)?)),
@@ -333,7 +400,11 @@ impl<'m> Plain<'m> {
                 Ok(Event::Dropped)
             }
             Instr::Spawn(t, args) => self.spawn(alloc, a, *t as usize, args),
-            Instr::Advance | Instr::Ret => Err("no instruction to go on from".into()),
+            Instr::Unless(_, _, _, _)
+            | Instr::Jump(_)
+            | Instr::Next(_)
+            | Instr::Advance
+            | Instr::Ret => Err("no instruction to go on from".into()),
         }
     }
 

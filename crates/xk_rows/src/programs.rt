@@ -45,8 +45,16 @@ pub const HANDED_ON: &str =
 pub const CROSSED: &str =
     r#"{"version":1,"shared":[],"units":[{"kind":"main","params":"","slots":3,"code":[["make",0],["make",1],["spawn",1,[0,1]],["advance"],["drop",0],["spawn",2,[1]],["resume",1],["advance"],["lit",2,9],["print",2],["ret"]]},{"kind":"body","params":"cc","slots":3,"code":[["resume",1],["spawn",2,[0]],["drop",0],["spawn",3,[1]],["advance"],["make",2],["spawn",3,[2]],["advance"],["drop",2],["advance"],["ret"]]},{"kind":"body","params":"c","slots":1,"code":[["advance"],["drop",0],["advance"],["ret"]]},{"kind":"body","params":"c","slots":2,"code":[["resume",0],["advance"],["lit",1,6],["print",1],["advance"],["ret"]]}]}"#;
 
+/// Two activities, three phases each in a loop; one of them resumes in every second phase before it waits, and sums up.
+pub const PHASES: &str =
+    r#"{"version":1,"shared":[],"units":[{"kind":"main","params":"","slots":5,"code":[["make",0],["spawn",1,[0]],["lit",3,0],["lit",4,0],["for",1,-1,1,12],["lit",2,0],["unless","ne",1,2,9],["resume",0],["jump",10],["sub",3,3,1],["advance"],["add",4,4,3],["next",4],["print",4],["ret"]]},{"kind":"body","params":"c","slots":3,"code":[["lit",2,1],["for",1,1,3,5],["mul",2,2,1],["advance"],["print",2],["next",1],["drop",0],["copy",1,2],["print",1],["ret"]]}]}"#;
+
+/// Activities started in two loops, one in the other, each on the clock of its turn.
+pub const TEAMS: &str =
+    r#"{"version":1,"shared":[],"units":[{"kind":"main","params":"","slots":5,"code":[["for",0,1,2,9],["make",2],["for",1,1,2,7],["unless","lt",0,1,6],["mul",3,0,1],["spawn",1,[2,3]],["lit",3,0],["next",2],["drop",2],["next",0],["ret"]]},{"kind":"body","params":"cn","slots":3,"code":[["lit",2,1],["advance"],["unless","ge",1,2,4],["print",1],["ret"]]}]}"#;
+
 /// All of them, with their names.
-pub fn all() -> [(&'static str, &'static str); 10] {
+pub fn all() -> [(&'static str, &'static str); 12] {
     [
         ("in step", IN_STEP),
         ("starts ahead", STARTS_AHEAD),
@@ -58,6 +66,8 @@ pub fn all() -> [(&'static str, &'static str); 10] {
         ("doubling", DOUBLING),
         ("handed on", HANDED_ON),
         ("crossed", CROSSED),
+        ("phases", PHASES),
+        ("teams", TEAMS),
     ]
 }
 

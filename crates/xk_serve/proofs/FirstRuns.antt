@@ -77,7 +77,3 @@ front_more m v x a e numbers f l s = record {
   least = least_more m f.list (opening m) v x a e f.least l s;
   numbers_are = ap (λ ns. ns ++ option_to_list (number_printed e)) f.numbers_are ∙ sym (printed_more m f.list (opening m) v x a e f.least s);
 }
-
--- nothing was done yet
-pub front_at_opening : (m : ModuleValue) → IsFrontOfRun m (opening m) []
-front_at_opening m = record { list = []; least = refl; numbers_are = refl }

@@ -14,7 +14,7 @@ use xk_words::Command;
 
 /// What the command on the module with this text comes to, or what stands against it. A fault is of the text (M1 to M3),
 /// of the module (V1 to V17), or want of memory; it is never `Device`.
-pub fn answer(alloc: Global, command: Command, bytes: &[u8]) -> Result<Done, Fault>
+pub(crate) fn answer(alloc: Global, command: Command, bytes: &[u8]) -> Result<Done, Fault>
     ensures done { IfOk result (Succeeds command bytes.now) }
     ensures fault { IfErr result (FailsBy bytes.now) }
 {
@@ -23,7 +23,7 @@ pub fn answer(alloc: Global, command: Command, bytes: &[u8]) -> Result<Done, Fau
     Ok(carry_out(alloc, command, &verified)?)
 }
 
-// The command on an accepted module.
+/// The command on an accepted module.
 fn carry_out(alloc: Global, command: Command, verified: &Verified) -> Result<Done, AllocError>
     ensures { IfOk result (ComesTo command verified.now) }
 {

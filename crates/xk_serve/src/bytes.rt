@@ -9,12 +9,12 @@ use crate::fault::Fault;
 use std::alloc::Global;
 use xk_types::{Failed, Sink, Source};
 
-// How many bytes one read asks for.
+/// How many bytes one read asks for.
 const PIECE: usize = 4096;
 
 /// All that the source has left. The only faults are `Device`, where a read failed, and `OutOfMemory`. The memory that it
 /// takes is in proportion to what was read.
-pub fn read_all<R: Source>(alloc: Global, source: &mut R) -> Result<Vec<u8>, Fault>
+pub(crate) fn read_all<R: Source>(alloc: Global, source: &mut R) -> Result<Vec<u8>, Fault>
     ensures all { IfOk result (λ bytes. IfSome (R.remaining source.old) (λ known. bytes.items ≡ known)) }
     ensures no_fault { OnOk result (R.fault_count source.new ≡ R.fault_count source.old) }
     ensures failed { IfErr result (FailsRead (R.fault_count source.old) (R.fault_count source.new)) }
@@ -31,7 +31,7 @@ pub fn read_all<R: Source>(alloc: Global, source: &mut R) -> Result<Vec<u8>, Fau
 }
 
 /// Writes the whole text, or, where a write fails, a beginning of it.
-pub fn write_all<W: Sink>(sink: &mut W, text: &[u8]) -> Result<(), Failed>
+pub(crate) fn write_all<W: Sink>(sink: &mut W, text: &[u8]) -> Result<(), Failed>
     ensures all { OnOk result (Appends (W.contents sink.old) (W.contents sink.new) text.now) }
     ensures beginning { AppendsBeginning (W.contents sink.old) (W.contents sink.new) text.now }
     ensures no_fault { OnOk result (W.fault_count sink.new ≡ W.fault_count sink.old) }

@@ -7,7 +7,7 @@ use std::alloc::{AllocError, Global};
 
 /// What a job comes to where nothing stands against it.
 #[derive(Debug, Drop)]
-pub enum Done {
+pub(crate) enum Done {
     /// `check`: the module is accepted, with these bounds on its runs.
     Accepted {
         steps: u64,
@@ -23,7 +23,7 @@ pub enum Done {
 
 impl Done {
     /// What goes to standard output.
-    pub fn text(&self, alloc: Global) -> Result<String, AllocError>
+    pub(crate) fn text(&self, alloc: Global) -> Result<String, AllocError>
         ensures { IfOk result (λ text. string_bytes text ≡ done_text self.now) }
     {
         match self {
@@ -41,7 +41,7 @@ impl Done {
     }
 }
 
-// `accepted steps 8 activities 1 clocks 1`.
+/// `accepted steps 8 activities 1 clocks 1`.
 fn accepted_line(
     alloc: Global,
     steps: u64,
@@ -53,7 +53,7 @@ fn accepted_line(
     format!(in alloc; "accepted steps {steps} activities {activities} clocks {clocks}\n")
 }
 
-// Each number on a line of its own.
+/// Each number on a line of its own.
 fn number_lines(alloc: Global, numbers: &[i64]) -> Result<String, AllocError>
     ensures { IfOk result (λ text. string_bytes text ≡ number_lines numbers.now) }
 {
@@ -64,7 +64,7 @@ fn number_lines(alloc: Global, numbers: &[i64]) -> Result<String, AllocError>
     Ok(text)
 }
 
-// `ended steps 8`.
+/// `ended steps 8`.
 fn ended_line(alloc: Global, steps: u64) -> Result<String, AllocError>
     ensures { IfOk result (λ text. string_bytes text ≡ ended_line steps) }
 {

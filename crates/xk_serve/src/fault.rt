@@ -35,7 +35,7 @@ pub(crate) const DEVICE_LINE: &str = "x10clock: device\n";
 
 impl Fault {
     /// The status that the program ends with: 1 for a module that is refused, 4 for want of memory, 5 for a device.
-    pub fn status(&self) -> u8
+    pub(crate) fn status(&self) -> u8
         ensures { result ≡ status_of self.now }
     {
         match self {
@@ -47,7 +47,7 @@ impl Fault {
     }
 
     /// The line that goes to standard error.
-    pub fn line(&self, alloc: Global) -> Result<String, AllocError>
+    pub(crate) fn line(&self, alloc: Global) -> Result<String, AllocError>
         ensures { IfOk result (λ text. string_bytes text ≡ fault_line self.now) }
     {
         match self {
@@ -100,7 +100,7 @@ impl From<(Module, Refusal)> for Fault {
     }
 }
 
-// The status of a fault of the module text.
+/// The status of a fault of the module text.
 fn label_status(fault: ModuleFault) -> u8
     ensures { result ≡ label_status (fault_label fault) }
 {
@@ -110,7 +110,7 @@ fn label_status(fault: ModuleFault) -> u8
     }
 }
 
-// The status of a refusal.
+/// The status of a refusal.
 fn refusal_status(refusal: &Refusal) -> u8
     ensures { result ≡ refusal_status refusal.now }
 {
@@ -120,7 +120,7 @@ fn refusal_status(refusal: &Refusal) -> u8
     }
 }
 
-// The line of a fault of the module text.
+/// The line of a fault of the module text.
 fn label_line(alloc: Global, fault: ModuleFault) -> Result<String, AllocError>
     ensures { IfOk result (λ text. string_bytes text ≡ label_line (fault_label fault)) }
 {
@@ -130,7 +130,7 @@ fn label_line(alloc: Global, fault: ModuleFault) -> Result<String, AllocError>
     }
 }
 
-// The line of a refusal.
+/// The line of a refusal.
 fn refusal_line(alloc: Global, refusal: &Refusal) -> Result<String, AllocError>
     ensures { IfOk result (λ text. string_bytes text ≡ refusal_line refusal.now) }
 {
@@ -145,14 +145,14 @@ fn refusal_line(alloc: Global, refusal: &Refusal) -> Result<String, AllocError>
     }
 }
 
-// A line of the program's own.
+/// A line of the program's own.
 fn line(alloc: Global, text: &str) -> Result<String, AllocError>
     ensures { IfOk result (λ whole. string_bytes whole ≡ line text.now) }
 {
     format!(in alloc; "x10clock: {text}\n")
 }
 
-// `V9 Registers`.
+/// `V9 Registers`.
 fn rule_text(alloc: Global, rule: Rule) -> Result<String, AllocError>
     ensures { IfOk result (λ text. string_bytes text ≡ rule_text rule) }
 {
@@ -161,7 +161,7 @@ fn rule_text(alloc: Global, rule: Rule) -> Result<String, AllocError>
     format!(in alloc; "V{number} {name}")
 }
 
-// `V9 Registers unit 0 at 2`.
+/// `V9 Registers unit 0 at 2`.
 fn place_text(alloc: Global, rule: Rule, unit: u16, at: u16) -> Result<String, AllocError>
     ensures { IfOk result (λ text. string_bytes text ≡ place_text rule unit at) }
 {
@@ -169,7 +169,7 @@ fn place_text(alloc: Global, rule: Rule, unit: u16, at: u16) -> Result<String, A
     format!(in alloc; "{rule} unit {unit} at {at}")
 }
 
-// `V12 Held unit 0 at 3 slot 0 live walk 0 1 2 3`.
+/// `V12 Held unit 0 at 3 slot 0 live walk 0 1 2 3`.
 fn kind_text(alloc: Global, fault: &KindFault) -> Result<String, AllocError>
     ensures { IfOk result (λ text. string_bytes text ≡ kind_text fault.now) }
 {
@@ -180,7 +180,7 @@ fn kind_text(alloc: Global, fault: &KindFault) -> Result<String, AllocError>
     format!(in alloc; "{place} slot {slot} {kind} walk{walk}")
 }
 
-// The instructions of a walk, each after a blank.
+/// The instructions of a walk, each after a blank.
 fn walk_text(alloc: Global, walk: &[Visit]) -> Result<String, AllocError>
     ensures { IfOk result (λ text. string_bytes text ≡ walk_text walk.now) }
 {
@@ -192,7 +192,7 @@ fn walk_text(alloc: Global, walk: &[Visit]) -> Result<String, AllocError>
     Ok(text)
 }
 
-// `V14 Steps over 1000000000`.
+/// `V14 Steps over 1000000000`.
 fn bound_text(alloc: Global, fault: &BoundFault) -> Result<String, AllocError>
     ensures { IfOk result (λ text. string_bytes text ≡ bound_text fault.now) }
 {

@@ -12,7 +12,7 @@ use xk_types::Event;
 
 /// Runs the module to its end, and gives the numbers that it prints and how many steps it takes. Each step is one of the
 /// least enabled activity.
-pub fn run_first(alloc: Global, verified: &Verified) -> Result<(Vec<i64>, u64), AllocError>
+pub(crate) fn run_first(alloc: Global, verified: &Verified) -> Result<(Vec<i64>, u64), AllocError>
     ensures { IfOk result (λ run. IsFirstRun verified.now run.0.items run.1) }
 {
     let mut core = Core::open(alloc, verified)?;
@@ -27,7 +27,7 @@ pub fn run_first(alloc: Global, verified: &Verified) -> Result<(Vec<i64>, u64), 
     }
 }
 
-// Keeps the number that an event prints, if it does.
+/// Keeps the number that an event prints, if it does.
 fn keep(printed: &mut Vec<i64>, event: Event) -> Result<(), AllocError>
     ensures { OnOk result (printed.new.items ≡ printed.old.items ++ option_to_list (number_printed event)) }
 {

@@ -52,7 +52,7 @@ pub fn serve<P: Source, L: Source, O: Sink, E: Sink, K: Sink>(
     }
 }
 
-// What the job's result is written as.
+/// What the job's result is written as.
 fn result_text<P: Source>(alloc: Global, command: Command, program: &mut P) -> Result<String, Fault>
     ensures done { IfOk result (λ text. IfSome (P.remaining program.old) (λ bytes. Prints command bytes (string_bytes text))) }
     ensures no_fault { OnOk result (P.fault_count program.new ≡ P.fault_count program.old) }
@@ -63,7 +63,7 @@ fn result_text<P: Source>(alloc: Global, command: Command, program: &mut P) -> R
     Ok(done.text(alloc)?)
 }
 
-// Writes the result. Where that fails, says so.
+/// Writes the result. Where that fails, says so.
 fn print<O: Sink, E: Sink>(alloc: Global, text: &str, out: &mut O, err: &mut E) -> u8
     ensures printed { ((result ≡ 0) × Appends (O.contents out.old) (O.contents out.new) text.now × Appends (E.contents err.old) (E.contents err.new) [])
         ⊎ ((result ≡ 5) × Rose (O.fault_count out.old) (O.fault_count out.new)) }

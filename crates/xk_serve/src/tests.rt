@@ -7,7 +7,7 @@ use xk_module::ModuleFault;
 use xk_types::{Counted, Failed, Sink, Source, Tape};
 use xk_words::{Command, Form, Job};
 
-// What the program answered, and the tapes that it wrote to.
+/// What the program answered, and the tapes that it wrote to.
 #[derive(Drop)]
 struct Seen {
     status: u8,
@@ -15,7 +15,7 @@ struct Seen {
     err: Tape,
 }
 
-// The calls at which the program's tape and those for its result and its errors fail; 0 is none.
+/// The calls at which the program's tape and those for its result and its errors fail; 0 is none.
 #[derive(Clone, Copy)]
 struct Failing {
     program: u64,
@@ -32,7 +32,7 @@ const NOWHERE: Failing = Failing {
 const SUM: &str =
     "[\"lit\",0,2],[\"lit\",1,3],[\"add\",0,0,1],[\"make\",2],[\"advance\"],[\"print\",0],[\"ret\"]";
 
-// The answer to a command on these bytes, over tapes that fail so.
+/// The answer to a command on these bytes, over tapes that fail so.
 fn served(
     alloc: Global,
     command: Command,
@@ -61,7 +61,7 @@ fn served(
     Ok(Seen { status, out, err })
 }
 
-// A body: the letters of its parameters, how many slots it has, its code.
+/// A body: the letters of its parameters, how many slots it has, its code.
 #[derive(Clone, Copy)]
 struct Body {
     params: &'static str,
@@ -69,7 +69,7 @@ struct Body {
     code: &'static str,
 }
 
-// The text of a unit.
+/// The text of a unit.
 fn unit_text(
     alloc: Global,
     kind: &str,
@@ -82,12 +82,12 @@ fn unit_text(
     )
 }
 
-// The text of a module of these units.
+/// The text of a module of these units.
 fn units_text(alloc: Global, units: &str) -> Result<String, AllocError> {
     format!(in alloc; "{{\"version\":1,\"shared\":[],\"units\":[{units}]}}")
 }
 
-// The text of a module of main and these bodies.
+/// The text of a module of main and these bodies.
 fn program_text(
     alloc: Global,
     slots: u32,
@@ -103,12 +103,12 @@ fn program_text(
     units_text(alloc, units.as_str())
 }
 
-// The text of a module of one main unit.
+/// The text of a module of one main unit.
 fn module_text(alloc: Global, slots: u32, code: &str) -> Result<String, AllocError> {
     program_text(alloc, slots, code, &[])
 }
 
-// The command on the module succeeds, and writes this.
+/// The command on the module succeeds, and writes this.
 fn gives(
     rt: &impl Abort,
     alloc: Global,
@@ -125,7 +125,7 @@ fn gives(
     Ok(())
 }
 
-// Both commands refuse the module, with this line.
+/// Both commands refuse the module, with this line.
 fn refuses(rt: &impl Abort, alloc: Global, text: &str, line: &str) -> Result<(), AllocError> {
     for command in [Command::Check, Command::Run] {
         let seen = served(alloc, command, text.as_bytes(), NOWHERE)?;
@@ -171,7 +171,7 @@ fn rows_are_answered(rt: HostRuntime) -> Result<(), AllocError> {
     Ok(())
 }
 
-// Main and these bodies: what `check` and `run` write.
+/// Main and these bodies: what `check` and `run` write.
 fn answers(
     rt: &impl Abort,
     alloc: Global,
@@ -186,7 +186,7 @@ fn answers(
     gives(rt, alloc, Command::Run, text.as_str(), run)
 }
 
-// Main starts an activity on its clock, and both go one phase on.
+/// Main starts an activity on its clock, and both go one phase on.
 #[test]
 fn two_are_in_step(rt: HostRuntime) -> Result<(), AllocError> {
     answers(
@@ -204,7 +204,7 @@ fn two_are_in_step(rt: HostRuntime) -> Result<(), AllocError> {
     )
 }
 
-// The clock has advanced before the start, so that the child begins ahead.
+/// The clock has advanced before the start, so that the child begins ahead.
 #[test]
 fn one_starts_ahead(rt: HostRuntime) -> Result<(), AllocError> {
     answers(
@@ -222,7 +222,7 @@ fn one_starts_ahead(rt: HostRuntime) -> Result<(), AllocError> {
     )
 }
 
-// Main has resumed the clock at the second start, so that the second child begins signalled.
+/// Main has resumed the clock at the second start, so that the second child begins signalled.
 #[test]
 fn one_starts_signalled(rt: HostRuntime) -> Result<(), AllocError> {
     answers(
@@ -247,7 +247,7 @@ fn one_starts_signalled(rt: HostRuntime) -> Result<(), AllocError> {
     )
 }
 
-// Main leaves the clock to the activity that it started.
+/// Main leaves the clock to the activity that it started.
 #[test]
 fn one_is_left_alone(rt: HostRuntime) -> Result<(), AllocError> {
     answers(
@@ -265,7 +265,7 @@ fn one_is_left_alone(rt: HostRuntime) -> Result<(), AllocError> {
     )
 }
 
-// Two phases, the first resumed twice.
+/// Two phases, the first resumed twice.
 #[test]
 fn two_phases(rt: HostRuntime) -> Result<(), AllocError> {
     answers(
@@ -283,7 +283,7 @@ fn two_phases(rt: HostRuntime) -> Result<(), AllocError> {
     )
 }
 
-// Three activities, each on two of three clocks.
+/// Three activities, each on two of three clocks.
 #[test]
 fn a_ring_of_clocks(rt: HostRuntime) -> Result<(), AllocError> {
     let twice = r#"["advance"],["advance"],["ret"]"#;
@@ -303,7 +303,7 @@ fn a_ring_of_clocks(rt: HostRuntime) -> Result<(), AllocError> {
     )
 }
 
-// A number is handed on by value: the child prints what it was given, whatever its starter writes afterwards.
+/// A number is handed on by value: the child prints what it was given, whatever its starter writes afterwards.
 #[test]
 fn numbers_are_given(rt: HostRuntime) -> Result<(), AllocError> {
     answers(
@@ -321,7 +321,7 @@ fn numbers_are_given(rt: HostRuntime) -> Result<(), AllocError> {
     )
 }
 
-// Main and `bodies` bodies, at least one: each but the last starts the next one twice.
+/// Main and `bodies` bodies, at least one: each but the last starts the next one twice.
 fn doubling(alloc: Global, bodies: u32) -> Result<String, AllocError> {
     let mut units = String::new(alloc);
     for unit in 0..bodies {
@@ -361,6 +361,229 @@ fn doublings_are_counted(rt: HostRuntime) -> Result<(), AllocError> {
     refuses(&rt, rt.alloc(), all.as_str(), line)
 }
 
+/// A branch is taken or not, by how two numbers compare; sums wrap.
+#[test]
+fn branches_are_taken(rt: HostRuntime) -> Result<(), AllocError> {
+    answers(
+        &rt,
+        rt.alloc(),
+        2,
+        r#"["lit",0,2],["lit",1,1],["unless","eq",0,1,6],["lit",1,1],["print",1],["jump",8],["lit",1,0],["print",1],["ret"]"#,
+        &[],
+        "accepted steps 9 activities 1 clocks 0\n",
+        "0\nended steps 6\n",
+    )?;
+    answers(
+        &rt,
+        rt.alloc(),
+        2,
+        r#"["lit",0,9223372036854775807],["lit",1,1],["add",0,0,1],["print",0],["ret"]"#,
+        &[],
+        "accepted steps 5 activities 1 clocks 0\n",
+        "-9223372036854775808\nended steps 5\n",
+    )
+}
+
+/// Differences and products, and a copy of a number that changes afterwards.
+#[test]
+fn numbers_are_computed(rt: HostRuntime) -> Result<(), AllocError> {
+    answers(
+        &rt,
+        rt.alloc(),
+        3,
+        r#"["lit",0,7],["lit",1,-3],["copy",2,0],["sub",0,0,1],["mul",1,0,1],["print",0],["print",1],["print",2],["ret"]"#,
+        &[],
+        "accepted steps 9 activities 1 clocks 0\n",
+        "10\n-30\n7\nended steps 9\n",
+    )
+}
+
+/// A loop over numbers below and above nothing; loops one in the other; a loop of phases of two activities.
+#[test]
+fn loops_go_round(rt: HostRuntime) -> Result<(), AllocError> {
+    answers(
+        &rt,
+        rt.alloc(),
+        1,
+        r#"["for",0,-1,1,2],["print",0],["next",0],["ret"]"#,
+        &[],
+        "accepted steps 8 activities 1 clocks 0\n",
+        "-1\n0\n1\nended steps 8\n",
+    )?;
+    answers(
+        &rt,
+        rt.alloc(),
+        3,
+        r#"["lit",2,0],["for",0,1,3,5],["for",1,1,4,4],["add",2,2,1],["next",2],["next",1],["print",2],["ret"]"#,
+        &[],
+        "accepted steps 34 activities 1 clocks 0\n",
+        "30\nended steps 34\n",
+    )?;
+    answers(
+        &rt,
+        rt.alloc(),
+        2,
+        r#"["make",0],["spawn",1,[0]],["for",1,1,3,4],["advance"],["next",2],["print",1],["ret"]"#,
+        &[Body {
+            params: "c",
+            slots: 2,
+            code: r#"["for",1,1,3,2],["advance"],["next",0],["drop",0],["ret"]"#,
+        }],
+        "accepted steps 26 activities 2 clocks 1\n",
+        "3\nended steps 26\n",
+    )
+}
+
+/// What the bounds of these modules are.
+#[test]
+fn turns_are_counted(rt: HostRuntime) -> Result<(), AllocError> {
+    let started = Body {
+        params: "",
+        slots: 0,
+        code: r#"["ret"]"#,
+    };
+    for (hi, line) in [
+        (99999, "accepted steps 299999 activities 100000 clocks 0\n"),
+        (100000, "x10clock: V15 Activities over 100000\n"),
+    ] {
+        let code =
+            format!(in rt.alloc(); "[\"for\",0,1,{hi},2],[\"spawn\",1,[]],[\"next\",0],[\"ret\"]")?;
+        let text = program_text(rt.alloc(), 1, code.as_str(), &[started])?;
+        if line.starts_with("x10clock") {
+            refuses(&rt, rt.alloc(), text.as_str(), line)?;
+        } else {
+            gives(&rt, rt.alloc(), Command::Check, text.as_str(), line)?;
+        }
+    }
+    let text = module_text(
+        rt.alloc(),
+        1,
+        r#"["for",0,1,999999998,1],["next",0],["ret"]"#,
+    )?;
+    let line = "accepted steps 1000000000 activities 1 clocks 0\n";
+    gives(&rt, rt.alloc(), Command::Check, text.as_str(), line)
+}
+
+/// Bounds that are passed: by loops in loops, by one turn, by as many turns as there are numbers, by clocks.
+#[test]
+fn turns_beyond_bounds_are_refused(rt: HostRuntime) -> Result<(), AllocError> {
+    for (slots, code, line) in [
+        (
+            3,
+            r#"["for",0,1,1000,5],["for",1,1,1000,4],["for",2,1,1000,3],["next",2],["next",1],["next",0],["ret"]"#,
+            "x10clock: V14 Steps over 1000000000\n",
+        ),
+        (
+            1,
+            r#"["for",0,1,999999999,1],["next",0],["ret"]"#,
+            "x10clock: V14 Steps over 1000000000\n",
+        ),
+        (
+            1,
+            r#"["for",0,-9223372036854775808,9223372036854775807,1],["next",0],["ret"]"#,
+            "x10clock: V14 Steps over 1000000000\n",
+        ),
+        (
+            3,
+            r#"["for",0,1,1000,5],["for",1,1,101,4],["make",2],["drop",2],["next",1],["next",0],["ret"]"#,
+            "x10clock: V16 Clocks over 100000\n",
+        ),
+    ] {
+        let text = module_text(rt.alloc(), slots, code)?;
+        refuses(&rt, rt.alloc(), text.as_str(), line)?;
+    }
+    Ok(())
+}
+
+/// Clocks that one branch or one turn drops or loses, with the walk that finds it.
+#[test]
+fn branches_and_turns_are_walked(rt: HostRuntime) -> Result<(), AllocError> {
+    for (slots, code, line) in [
+        (
+            3,
+            r#"["make",0],["lit",1,1],["lit",2,1],["unless","eq",1,2,5],["drop",0],["resume",0],["ret"]"#,
+            "x10clock: V11 Use unit 0 at 5 slot 0 out walk 0 1 2 3 4 5\n",
+        ),
+        (
+            2,
+            r#"["make",0],["for",1,1,3,3],["drop",0],["next",1],["ret"]"#,
+            "x10clock: V11 Use unit 0 at 2 slot 0 out walk 0 1 2 3 2\n",
+        ),
+        (
+            2,
+            r#"["make",0],["for",1,1,1,3],["drop",0],["next",1],["ret"]"#,
+            "x10clock: V11 Use unit 0 at 2 slot 0 out walk 0 1 2 3 2\n",
+        ),
+        (
+            2,
+            r#"["for",0,1,2,2],["make",1],["next",0],["ret"]"#,
+            "x10clock: V13 Leak unit 0 at 1 slot 1 live walk 0 1 2 1\n",
+        ),
+        // The shortest walk, by the branch that goes over the first turn's instructions.
+        (
+            2,
+            r#"["lit",0,1],["unless","eq",0,0,3],["lit",0,2],["resume",1],["ret"]"#,
+            "x10clock: V11 Use unit 0 at 3 slot 1 unset walk 0 1 3\n",
+        ),
+    ] {
+        let text = module_text(rt.alloc(), slots, code)?;
+        refuses(&rt, rt.alloc(), text.as_str(), line)?;
+    }
+    Ok(())
+}
+
+/// Targets behind and beyond, jumps over the edge of a loop, halves of loops, loops that overlap, bounds out of order, a
+/// loop's slot that is written inside.
+#[test]
+fn shapes_are_refused(rt: HostRuntime) -> Result<(), AllocError> {
+    for (code, line) in [
+        (
+            r#"["jump",0],["ret"]"#,
+            "x10clock: V1 Target unit 0 at 0\n",
+        ),
+        (
+            r#"["jump",2],["ret"]"#,
+            "x10clock: V1 Target unit 0 at 0\n",
+        ),
+        (
+            r#"["lit",0,1],["next",1],["ret"]"#,
+            "x10clock: V1 Target unit 0 at 1\n",
+        ),
+        (
+            r#"["jump",2],["for",0,1,2,2],["next",1],["ret"]"#,
+            "x10clock: V2 Block unit 0 at 0\n",
+        ),
+        (
+            r#"["for",0,1,2,2],["jump",3],["next",0],["ret"]"#,
+            "x10clock: V2 Block unit 0 at 1\n",
+        ),
+        (
+            r#"["for",0,1,2,1],["lit",1,1],["ret"]"#,
+            "x10clock: V2 Block unit 0 at 0\n",
+        ),
+        (
+            r#"["lit",0,1],["next",0],["ret"]"#,
+            "x10clock: V2 Block unit 0 at 1\n",
+        ),
+        (
+            r#"["for",0,1,2,2],["for",1,1,2,3],["next",0],["next",1],["ret"]"#,
+            "x10clock: V2 Block unit 0 at 0\n",
+        ),
+        (
+            r#"["lit",1,1],["for",0,2,1,2],["next",1],["ret"]"#,
+            "x10clock: V6 Loop unit 0 at 1\n",
+        ),
+        (
+            r#"["for",0,1,2,2],["lit",0,1],["next",0],["ret"]"#,
+            "x10clock: V6 Loop unit 0 at 1\n",
+        ),
+    ] {
+        let text = module_text(rt.alloc(), 2, code)?;
+        refuses(&rt, rt.alloc(), text.as_str(), line)?;
+    }
+    Ok(())
+}
+
 #[test]
 fn rows_are_refused(rt: HostRuntime) -> Result<(), AllocError> {
     for (slots, code, line) in [
@@ -379,7 +602,7 @@ fn rows_are_refused(rt: HostRuntime) -> Result<(), AllocError> {
             "[\"lit\",1,1],[\"ret\"]",
             "x10clock: V3 Slot unit 0 at 0\n",
         ),
-        (1, "[\"jump\",1],[\"ret\"]", "x10clock: M2 NotAModule\n"),
+        (1, "[\"finish\",1],[\"ret\"]", "x10clock: M2 NotAModule\n"),
         (65, "[\"ret\"]", "x10clock: M3 Limit\n"),
         (1, "[\"ret\"", "x10clock: M1 NotJson\n"),
     ] {
@@ -391,7 +614,7 @@ fn rows_are_refused(rt: HostRuntime) -> Result<(), AllocError> {
     Ok(())
 }
 
-// The bodies of the modules below: one that takes nothing, one on a clock, one on two, one that prints a number.
+/// The bodies of the modules below: one that takes nothing, one on a clock, one on two, one that prints a number.
 const NOTHING: Body = Body {
     params: "",
     slots: 0,
@@ -416,7 +639,7 @@ const PRINTS: Body = Body {
     code: r#"["print",0],["ret"]"#,
 };
 
-// Main of this code and these slots beside one body is refused.
+/// Main of this code and these slots beside one body is refused.
 fn refuses_main(
     rt: &impl Abort,
     alloc: Global,
@@ -428,8 +651,8 @@ fn refuses_main(
     refuses(rt, alloc, text.as_str(), line)
 }
 
-// A unit that isn't there; main; too few arguments, and too many; one slot for two clocks; a slot that isn't there, which
-// comes before all.
+/// A unit that isn't there; main; too few arguments, and too many; one slot for two clocks; a slot that isn't there,
+/// which comes before all.
 #[test]
 fn starts_are_refused(rt: HostRuntime) -> Result<(), AllocError> {
     for (code, body, line) in [
@@ -506,7 +729,7 @@ fn arguments_are_refused(rt: HostRuntime) -> Result<(), AllocError> {
     Ok(())
 }
 
-// Main is as it should be: the body is refused.
+/// Main is as it should be: the body is refused.
 #[test]
 fn bodies_are_refused(rt: HostRuntime) -> Result<(), AllocError> {
     for (params, code, line) in [
@@ -604,7 +827,7 @@ fn devices_fail(rt: HostRuntime) -> Result<(), AllocError> {
     Ok(())
 }
 
-// A reader that is interrupted, then gives a byte, then fails; and a writer that is interrupted, then takes nothing.
+/// A reader that is interrupted, then gives a byte, then fails; and a writer that is interrupted, then takes nothing.
 #[derive(Drop)]
 struct Faulty {
     calls: u64,
@@ -655,7 +878,7 @@ fn failures_are_counted(rt: HostRuntime) {
     assert!(rt; writer.write(b"") == Ok(0) && writer.faults() == 1);
 }
 
-// A writer that takes three bytes at a time, and so many in all; then it fails.
+/// A writer that takes three bytes at a time, and so many in all; then it fails.
 #[derive(Drop)]
 struct Narrow {
     room: usize,

@@ -3,6 +3,5 @@ pub mod Place
 pub mod Rows
 pub mod Search
 pub mod Found
-pub mod Shaped
 pub mod Refused
 pub mod Trail

@@ -6,12 +6,10 @@ mod refusal;
 mod refused;
 mod rows;
 mod search;
-mod shaped;
 mod trail;
 mod typed;
 mod walk;
 
 pub use kind_set::KindSet;
 pub use refusal::{KindError, KindFault};
-pub use shaped::Shaped;
 pub use typed::{Typed, check_kinds};

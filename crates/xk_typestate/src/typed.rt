@@ -14,11 +14,11 @@ ghost use Rattle.xk_typestate.specs.declared.refusal.KindError.TheVariants as ki
 use crate::kind_set::KindSet;
 use crate::refusal::{KindError, KindFault};
 use crate::refused::first_stop;
-use crate::shaped::Shaped;
 use crate::trail::Trails;
 use crate::walk::walk_to;
 use std::alloc::{AllocError, Global};
 use std::marker::Model;
+use xk_shape::Shaped;
 use xk_types::{Module, Unit, Visit};
 
 /// A module whose slots are used as what they hold, with the kinds of each slot at each instruction.

@@ -27,7 +27,7 @@ pub fn read_job<'a>(alloc: Global, words: &'a [&'a str]) -> Result<Job<'a>, Word
     }
 }
 
-// The program's command line.
+/// The program's command line.
 fn line<'a>(alloc: Global) -> Result<clap::Command<'a>, AllocError>
     ensures { IfOk result (λ c. app_of c ≡ command_line) }
 {
@@ -40,7 +40,7 @@ fn line<'a>(alloc: Global) -> Result<clap::Command<'a>, AllocError>
         .subcommand(run)
 }
 
-// A command on a module in FILE.
+/// A command on a module in FILE.
 fn on_file<'a>(
     alloc: Global,
     name: &'a str,
@@ -64,7 +64,7 @@ fn on_file<'a>(
         .arg(file)
 }
 
-// The job in what `clap` found.
+/// The job in what `clap` found.
 fn job_in<'a>(matches: &ArgMatches<'a>) -> Option<Job<'a>>
     ensures { option_map asked_value result ≡ asked_in (subcommand_rows_of matches.now) }
 {
@@ -72,7 +72,7 @@ fn job_in<'a>(matches: &ArgMatches<'a>) -> Option<Job<'a>>
     job_by(name, given)
 }
 
-// The job of a command's name and what was given with it.
+/// The job of a command's name and what was given with it.
 fn job_by<'a>(name: &str, given: &ArgMatches<'a>) -> Option<Job<'a>>
     ensures { option_map asked_value result ≡ asked_by name.now (rows_of (found_of given.now)) }
 {
@@ -85,7 +85,7 @@ fn job_by<'a>(name: &str, given: &ArgMatches<'a>) -> Option<Job<'a>>
     })
 }
 
-// The command of a name.
+/// The command of a name.
 fn command_named(name: &str) -> Option<Command>
     ensures { result ≡ command_named name.now }
 {
@@ -96,7 +96,7 @@ fn command_named(name: &str) -> Option<Command>
     }
 }
 
-// What is said where `clap` took the words and named no job. It doesn't come to that.
+/// What is said where `clap` took the words and named no job. It doesn't come to that.
 fn not_a_job(alloc: Global) -> WordsFault
     ensures { IsRefused [] None result }
 {
@@ -106,7 +106,7 @@ fn not_a_job(alloc: Global) -> WordsFault
     }
 }
 
-// `clap`'s answer where it doesn't take the words.
+/// `clap`'s answer where it doesn't take the words.
 fn words_fault(alloc: Global, error: &clap::Error) -> WordsFault
     ensures { FitsKind (kind_of error.now) result }
 {

@@ -5,7 +5,7 @@ use Rattle.xk_types.specs.Bound.{steps_bound}
 use Rattle.xk_types.specs.Step.{Stepped}
 use Rattle.xk_core.specs.Arm.{carried}
 use Rattle.xk_core.specs.Core.{CoreValue}
-use Rattle.xk_core.proofs.Cores.{core_roomy, core_bound, core_passed, core_carried, at_ok, carried_counts, passed_over, carried_over}
+use Rattle.xk_core.proofs.Cores.{core_roomy, core_runs, core_bound, core_passed, core_carried, at_ok, carried_counts, passed_over, carried_over}
 use Rattle.xk_core.proofs.machine.Core.step.Goals as goal
 
 pub pass-requires-clause-room : goal.pass-requires-clause-room
@@ -25,6 +25,9 @@ invariant_of-self-in-None c =
 
 pub carry_out-requires-clause-room : goal.carry_out-requires-clause-room
 carry_out-requires-clause-room c = core_roomy c.self.inside.verified.now c.self.inside.state c.act.inside.0 c.self.invariant.0
+
+pub carry_out-requires-clause-unit : goal.carry_out-requires-clause-unit
+carry_out-requires-clause-unit c = rw c.module.ensures.same (core_runs c.self.inside.verified.now c.self.inside.state c.act.inside.0 c.self.invariant.0)
 
 pub invariant_of-self-in-Some : goal.invariant_of-self-in-Some
 invariant_of-self-in-Some c =

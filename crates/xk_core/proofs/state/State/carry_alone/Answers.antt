@@ -3,16 +3,38 @@ use Rattle.xk_types.specs.World.{World}
 use Rattle.xk_types.specs.Step.{Stepped}
 use Rattle.xk_types.specs.Schedule.{is_step}
 use Rattle.xk_core.specs.Arm.{carried}
-use Rattle.xk_core.proofs.Arms.{operands_there, arm_done, stands_there, carried_within}
+use Rattle.xk_core.proofs.Arms.{operands_there, arm_done, stands_there, carried_within, actor_there, unit_read, unit_within}
 use Rattle.xk_core.proofs.state.State.carry_alone.Goals as goal
+
+pub bounds-units-unit : goal.bounds-units-unit
+bounds-units-unit c = unit_within c.args.program.now c.args.self.now c.args.a c.index_mut-act.result.now c.units.result.now c.unit.result c.requires.unit
+    (actor_there c.args.program.now c.args.self.now c.args.a c.args.instr.now c.index_mut-act.result.now c.requires.enabled
+    (subst (λ (w : World). c.index_mut-act.result.now ≡ get_or w.activities c.args.a c.index_mut-act.result.now) c.self.view_is c.index_mut-act.ensures.value))
+    c.units.ensures.listed c.unit.ensures
+
+pub carry_out-change-requires-clause-place : goal.carry_out-change-requires-clause-place
+carry_out-change-requires-clause-place c = c.requires.room.place c.index_mut-act.result.now
+    (actor_there c.args.program.now c.args.self.now c.args.a c.args.instr.now c.index_mut-act.result.now c.requires.enabled
+    (subst (λ (w : World). c.index_mut-act.result.now ≡ get_or w.activities c.args.a c.index_mut-act.result.now) c.self.view_is c.index_mut-act.ensures.value))
+
+pub carry_out-change-requires-clause-short : goal.carry_out-change-requires-clause-short
+carry_out-change-requires-clause-short c =
+    (unit_read c.args.program.now c.args.self.now c.args.a c.index_mut-act.result.now c.index-units-unit.result c.units.result.now c.unit.result c.requires.unit
+    (actor_there c.args.program.now c.args.self.now c.args.a c.args.instr.now c.index_mut-act.result.now c.requires.enabled
+    (subst (λ (w : World). c.index_mut-act.result.now ≡ get_or w.activities c.args.a c.index_mut-act.result.now) c.self.view_is c.index_mut-act.ensures.value))
+    c.units.ensures.listed c.unit.ensures c.index-units-unit.is).1
 
 pub carry_out-change-requires-clause-operands : goal.carry_out-change-requires-clause-operands
 carry_out-change-requires-clause-operands c =
-    operands_there c.args.program.now c.args.self.now c.args.a c.args.instr.now c.index_mut-act.result.now c.requires.enabled c.requires.single
+    operands_there c.args.program.now c.args.self.now c.args.a c.args.instr.now c.index_mut-act.result.now c.index-units-unit.result c.requires.enabled c.requires.single
     (subst (λ (w : World). c.index_mut-act.result.now ≡ get_or w.activities c.args.a c.index_mut-act.result.now) c.self.view_is c.index_mut-act.ensures.value)
+    (unit_read c.args.program.now c.args.self.now c.args.a c.index_mut-act.result.now c.index-units-unit.result c.units.result.now c.unit.result c.requires.unit
+    (actor_there c.args.program.now c.args.self.now c.args.a c.args.instr.now c.index_mut-act.result.now c.requires.enabled
+    (subst (λ (w : World). c.index_mut-act.result.now ≡ get_or w.activities c.args.a c.index_mut-act.result.now) c.self.view_is c.index_mut-act.ensures.value))
+    c.units.ensures.listed c.unit.ensures c.index-units-unit.is).0
 
-pub finish-requires-clause-standings : goal.finish-requires-clause-standings
-finish-requires-clause-standings c =
+pub end_step-requires-clause-standings : goal.end_step-requires-clause-standings
+end_step-requires-clause-standings c =
     subst (λ (w : World). All (λ k. c.args.a < length k.standings) w.clocks) (sym c.self.view_is)
     (stands_there c.args.self.now c.args.a c.requires.room (carried_within c.args.program.now c.args.self.now c.args.a c.args.instr.now c.requires.enabled))
 
@@ -20,7 +42,12 @@ pub returns : goal.returns
 returns c =
     let w : World = record { activities = c.self.inside.activities.items; clocks = c.self.inside.clocks.items; cells = c.self.inside.cells.items; steps = c.self.inside.steps } in
     let enabled : is_step (carried c.args.program.now w c.args.a c.args.instr.now) ≡ true = subst (λ (v : World). is_step (carried c.args.program.now v c.args.a c.args.instr.now) ≡ true) (sym c.self.view_is) c.requires.enabled in
-    subst (λ (v : World). carried c.args.program.now v c.args.a c.args.instr.now ≡ Stepped c.finish.new.self c.carry_out-change.result.1) c.self.view_is
-    (arm_done c.args.program.now w c.args.a c.args.instr.now c.index_mut-act.result.now c.carry_out-change.new.self c.carry_out-change.result.0 c.carry_out-change.result.1
-    enabled c.index_mut-act.ensures.value c.carry_out-change.ensures
-    ∙ ap (λ v. Stepped v c.carry_out-change.result.1) (sym c.finish.ensures))
+    let found =
+    (unit_read c.args.program.now c.args.self.now c.args.a c.index_mut-act.result.now c.index-units-unit.result c.units.result.now c.unit.result c.requires.unit
+    (actor_there c.args.program.now c.args.self.now c.args.a c.args.instr.now c.index_mut-act.result.now c.requires.enabled
+    (subst (λ (w : World). c.index_mut-act.result.now ≡ get_or w.activities c.args.a c.index_mut-act.result.now) c.self.view_is c.index_mut-act.ensures.value))
+    c.units.ensures.listed c.unit.ensures c.index-units-unit.is).0 in
+    subst (λ (v : World). carried c.args.program.now v c.args.a c.args.instr.now ≡ Stepped c.end_step.new.self c.carry_out-change.result.1) c.self.view_is
+    (arm_done c.args.program.now w c.args.a c.args.instr.now c.index_mut-act.result.now c.carry_out-change.new.self c.index-units-unit.result c.carry_out-change.result.0 c.carry_out-change.result.1
+    enabled c.index_mut-act.ensures.value found c.carry_out-change.ensures
+    ∙ ap (λ v. Stepped v c.carry_out-change.result.1) (sym c.end_step.ensures))
