@@ -20,8 +20,7 @@ pub returns-in-Ok-measure-clause-accepted : goal.returns-in-Ok-measure-clause-ac
 returns-in-Ok-measure-clause-accepted c =
     let shaped = c.in-Ok.ensures.made in
     let typed = c.in-Ok-check_kinds.ensures.accepted in
-    let same = c.module.ensures.same ∙ typed.0 ∙ shaped.0 in
-    (
+    let same = c.module.ensures.same ∙ typed.0 ∙ shaped.0 in (
       typed.0 ∙ shaped.0,
       record { shape = shaped.1; kinds = subst IsNeverRefused shaped.0 typed.1; bounds = subst IsWithinBounds same c.in-Ok-measure.ensures.within.0 },
     )
