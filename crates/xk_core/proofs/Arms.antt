@@ -215,7 +215,7 @@ pub unit_read : (m : ModuleValue) (w : World) (a : ℕ) (act : Activity) (u : Un
 unit_read m w a act u units n runs there same which is =
     let r = runs act there in
     let found : slice_get m.units act.frame.unit ≡ Some u = slice_get_read m.units (length m.units) act.frame.unit u refl (slice_get_within m.units act.frame.unit r.u r.found)
-        (is ∙ ap (λ l. get_or l n u) same ∙ ap (λ k. get_or m.units k u) which) in
+    (is ∙ ap (λ l. get_or l n u) same ∙ ap (λ k. get_or m.units k u) which) in
     (found, subst (λ v. length v.code < 2 ^ 16) (same_some r.u u (sym r.found ∙ found)) r.short)
 
 -- it is one of the module's

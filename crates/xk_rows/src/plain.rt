@@ -140,25 +140,15 @@ impl Actor {
     }
 }
 
-/// The 64 lowest bits of a number, in two's complement.
-fn wrapped(n: i128) -> i64 {
-    n as i64
-}
-
 /// The number that an instruction makes of others.
 fn computed(actor: &Actor, instr: &Instr) -> Result<i64, Fail> {
-    let (x, y) = match instr {
-        Instr::Copy(_, x) => (*x, *x),
-        Instr::Add(_, x, y) | Instr::Sub(_, x, y) | Instr::Mul(_, x, y) => (*x, *y),
-        _ => return Err("no instruction that computes".into()),
-    };
-    let (x, y) = (actor.number(x)? as i128, actor.number(y)? as i128);
-    Ok(wrapped(match instr {
-        Instr::Add(_, _, _) => x.wrapping_add(y),
-        Instr::Sub(_, _, _) => x.wrapping_sub(y),
-        Instr::Mul(_, _, _) => x.wrapping_mul(y),
-        _ => x,
-    }))
+    match instr {
+        Instr::Copy(_, x) => actor.number(*x),
+        Instr::Add(_, x, y) => Ok(actor.number(*x)?.wrapping_add(actor.number(*y)?)),
+        Instr::Sub(_, x, y) => Ok(actor.number(*x)?.wrapping_sub(actor.number(*y)?)),
+        Instr::Mul(_, x, y) => Ok(actor.number(*x)?.wrapping_mul(actor.number(*y)?)),
+        _ => Err("no instruction that computes".into()),
+    }
 }
 
 /// Whether two numbers compare so.
@@ -378,10 +368,7 @@ impl<'m> Plain<'m> {
                 self.actor_mut(a)?.write(*d, Value::Number(*n))?;
                 Ok(Event::Local)
             }
-            Instr::Copy(d, _)
-            | Instr::Add(d, _, _)
-            | Instr::Sub(d, _, _)
-            | Instr::Mul(d, _, _) => {
+            Instr::Copy(d, _) | Instr::Add(d, _, _) | Instr::Sub(d, _, _) | Instr::Mul(d, _, _) => {
                 let actor = self.actor_mut(a)?;
                 let n = computed(actor, instr)?;
                 actor.write(*d, Value::Number(n))?;

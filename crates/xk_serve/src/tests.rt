@@ -446,8 +446,9 @@ fn turns_are_counted(rt: HostRuntime) -> Result<(), AllocError> {
         (99999, "accepted steps 299999 activities 100000 clocks 0\n"),
         (100000, "x10clock: V15 Activities over 100000\n"),
     ] {
-        let code =
-            format!(in rt.alloc(); "[\"for\",0,1,{hi},2],[\"spawn\",1,[]],[\"next\",0],[\"ret\"]")?;
+        let code = format!(in rt.alloc();
+            "[\"for\",0,1,{hi},2],[\"spawn\",1,[]],[\"next\",0],[\"ret\"]"
+        )?;
         let text = program_text(rt.alloc(), 1, code.as_str(), &[started])?;
         if line.starts_with("x10clock") {
             refuses(&rt, rt.alloc(), text.as_str(), line)?;
@@ -537,14 +538,8 @@ fn branches_and_turns_are_walked(rt: HostRuntime) -> Result<(), AllocError> {
 #[test]
 fn shapes_are_refused(rt: HostRuntime) -> Result<(), AllocError> {
     for (code, line) in [
-        (
-            r#"["jump",0],["ret"]"#,
-            "x10clock: V1 Target unit 0 at 0\n",
-        ),
-        (
-            r#"["jump",2],["ret"]"#,
-            "x10clock: V1 Target unit 0 at 0\n",
-        ),
+        (r#"["jump",0],["ret"]"#, "x10clock: V1 Target unit 0 at 0\n"),
+        (r#"["jump",2],["ret"]"#, "x10clock: V1 Target unit 0 at 0\n"),
         (
             r#"["lit",0,1],["next",1],["ret"]"#,
             "x10clock: V1 Target unit 0 at 1\n",
