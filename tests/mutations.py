@@ -24,7 +24,10 @@ SECONDS = 20
 LONGEST_RUN = 2_000_000
 
 NUMBERS = [0, 1, 2, 63, 64, 65, 4095, 4096, 65534, 65535, 65536, -1, 2**31, 2**63 - 1, 2**63, -(2**63), -(2**63) - 1, 2**64, 1.0, 1e300]
-WORDS = ["lit", "add", "print", "make", "resume", "drop", "advance", "spawn", "ret", "main", "body", "method", "", "c", "n", "cc", "cn", "jump", "Make"]
+WORDS = [
+    "lit", "copy", "add", "sub", "mul", "unless", "jump", "for", "next", "print", "make", "resume", "drop", "advance", "spawn", "ret", "call", "Make",
+    "eq", "ne", "lt", "le", "gt", "ge", "main", "body", "method", "", "c", "n", "cc", "cn",
+]
 
 RULES = {
     **dict(zip(range(1, 11), "Target Block Slot Unit Cell Loop End Home Registers SameClock".split())),

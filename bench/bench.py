@@ -1,0 +1,72 @@
+#!/usr/bin/env python3
+"""Times the built program: checks of many great units, and a run of a hundred million steps.
+
+    python3 bench/bench.py [PROGRAM]
+
+PROGRAM is crates/x10clock/out/x10clock unless another is named. Prints seconds and the most memory that a process took.
+"""
+import json
+import os
+import resource
+import subprocess
+import sys
+import tempfile
+import time
+
+PROGRAM = sys.argv[1] if len(sys.argv) > 1 else "crates/x10clock/out/x10clock"
+
+
+def module(units):
+    return json.dumps({"version": 1, "shared": [], "units": units}, separators=(",", ":"))
+
+
+def unit(kind, slots, code):
+    return {"kind": kind, "params": "", "slots": slots, "code": code}
+
+
+def great_unit(kind, next_unit):
+    """4,096 instructions over 64 slots: numbers, branches, and loops of one turn, eight of them one in the other."""
+    code = [["lit", slot, slot] for slot in range(64)]
+    while len(code) < 4096 - 50:
+        at = len(code)
+        slots = [8 + (at + i) % 40 for i in range(8)]
+        ends = [at + 8 + 16 + 7 - i for i in range(8)]
+        code += [["for", slots[i], 1, 1, ends[i]] for i in range(8)]
+        for i in range(8):
+            place = len(code)
+            code += [["unless", "lt", i, (i + 1) % 8, place + 2], ["add", i, i, 48 + i]]
+        code += [["next", at + 7 - i] for i in range(8)]
+    while len(code) < 4094:
+        code.append(["copy", len(code) % 8, 48])
+    code.append(["spawn", next_unit, []] if next_unit else ["copy", 0, 1])
+    code.append(["ret"])
+    return unit(kind, 64, code)
+
+
+def great_module(count):
+    return module([great_unit("main" if i == 0 else "body", i + 1 if i + 1 < count else None) for i in range(count)])
+
+
+def counting(turns):
+    """A loop in a loop: a sum, and the end of a turn; two steps for each turn of the inner one."""
+    code = [["lit", 2, 0], ["for", 0, 1, turns, 5], ["for", 1, 1, 5000, 4], ["add", 2, 2, 1], ["next", 2], ["next", 1], ["print", 2], ["ret"]]
+    return module([unit("main", 3, code)])
+
+
+def timed(name, command, text):
+    with tempfile.NamedTemporaryFile("w", suffix=".json", delete=False) as file:
+        file.write(text)
+    start = time.monotonic()
+    pid = subprocess.Popen([PROGRAM, command, "--module", file.name], stdout=subprocess.PIPE, stderr=subprocess.STDOUT)
+    out = pid.stdout.read().decode().strip().replace("\n", " | ")
+    _, status, usage = os.wait4(pid.pid, 0)
+    seconds = time.monotonic() - start
+    os.unlink(file.name)
+    print(f"{name}: {seconds:.2f} s, {usage.ru_maxrss // 1024} MB, status {os.waitstatus_to_exitcode(status)}: {out}")
+    return seconds
+
+
+for count in (50, 100, 200):
+    timed(f"check of {count} units of 4,096 instructions over 64 slots", "check", great_module(count))
+seconds = timed("run of 100,030,004 steps", "run", counting(9999))
+print(f"steps a second: {100_010_002 / seconds:,.0f}")
