@@ -155,10 +155,10 @@ comparison_again comparison.Ge = refl
 abbrev unless_values : Comparison × ℕ × ℕ × ℕ → List Data
 unless_values x = string (comparison_name x.0) ∷ word x.1 ∷ word x.2 ∷ word x.3 ∷ []
 
-abbrev AreOfUnless : Comparison × ℕ × ℕ × ℕ → Type 0
-AreOfUnless x = IsWord x.1 × IsWord x.2 × IsWord x.3
+abbrev IsUnlessInRange : Comparison × ℕ × ℕ × ℕ → Type 0
+IsUnlessInRange x = IsWord x.1 × IsWord x.2 × IsWord x.3
 
-unless_takes : (operands : List Data) (x : Comparison × ℕ × ℕ × ℕ) → unless_at operands ≡ Some x → (operands ≡ unless_values x) × AreOfUnless x
+unless_takes : (operands : List Data) (x : Comparison × ℕ × ℕ × ℕ) → unless_at operands ≡ Some x → (operands ≡ unless_values x) × IsUnlessInRange x
 unfolding unless_at
 unless_takes (a ∷ b ∷ c ∷ d ∷ []) x e =
     let p = bind_some _ _ _ e in
@@ -170,27 +170,27 @@ unless_takes (a ∷ b ∷ c ∷ d ∷ []) x e =
     let k = word_takes c r.0 r.1 in
     let l = word_takes d s.0 s.1 in
     let same : (p.0, q.0, r.0, s.0) ≡ x = cc in
-    subst (λ (x : Comparison × ℕ × ℕ × ℕ). (a ∷ b ∷ c ∷ d ∷ [] ≡ unless_values x) × AreOfUnless x) same (cc (i, j.0, k.0, l.0), (j.1, k.1, l.1))
+    subst (λ (x : Comparison × ℕ × ℕ × ℕ). (a ∷ b ∷ c ∷ d ∷ [] ≡ unless_values x) × IsUnlessInRange x) same (cc (i, j.0, k.0, l.0), (j.1, k.1, l.1))
 unless_takes [] x e = absurd cc
 unless_takes (a ∷ []) x e = absurd cc
 unless_takes (a ∷ b ∷ []) x e = absurd cc
 unless_takes (a ∷ b ∷ c ∷ []) x e = absurd cc
 unless_takes (a ∷ b ∷ c ∷ d ∷ f ∷ rest) x e = absurd cc
 
-unless_again : (x : Comparison × ℕ × ℕ × ℕ) → AreOfUnless x → unless_at (unless_values x) ≡ Some x
+unless_again : (x : Comparison × ℕ × ℕ × ℕ) → IsUnlessInRange x → unless_at (unless_values x) ≡ Some x
 unfolding unless_at
 unless_again x p = rw (comparison_again x.0, word_again x.1 p.0, word_again x.2 p.1, word_again x.3 p.2) refl
 
-unless : IsShape unless_at unless_values AreOfUnless
+unless : IsShape unless_at unless_values IsUnlessInRange
 unless = record { takes = unless_takes; again = unless_again }
 
 abbrev for_values : ℕ × ℤ × ℤ × ℕ → List Data
 for_values x = word x.0 ∷ long x.1 ∷ long x.2 ∷ word x.3 ∷ []
 
-abbrev AreOfFor : ℕ × ℤ × ℤ × ℕ → Type 0
-AreOfFor x = IsWord x.0 × IsLong x.1 × IsLong x.2 × IsWord x.3
+abbrev IsForInRange : ℕ × ℤ × ℤ × ℕ → Type 0
+IsForInRange x = IsWord x.0 × IsLong x.1 × IsLong x.2 × IsWord x.3
 
-for_takes : (operands : List Data) (x : ℕ × ℤ × ℤ × ℕ) → for_at operands ≡ Some x → (operands ≡ for_values x) × AreOfFor x
+for_takes : (operands : List Data) (x : ℕ × ℤ × ℤ × ℕ) → for_at operands ≡ Some x → (operands ≡ for_values x) × IsForInRange x
 unfolding for_at
 for_takes (a ∷ b ∷ c ∷ d ∷ []) x e =
     let p = bind_some _ _ _ e in
@@ -202,18 +202,18 @@ for_takes (a ∷ b ∷ c ∷ d ∷ []) x e =
     let k = long_takes c r.0 r.1 in
     let l = word_takes d s.0 s.1 in
     let same : (p.0, q.0, r.0, s.0) ≡ x = cc in
-    subst (λ (x : ℕ × ℤ × ℤ × ℕ). (a ∷ b ∷ c ∷ d ∷ [] ≡ for_values x) × AreOfFor x) same (cc (i.0, j.0, k.0, l.0), (i.1, j.1, k.1, l.1))
+    subst (λ (x : ℕ × ℤ × ℤ × ℕ). (a ∷ b ∷ c ∷ d ∷ [] ≡ for_values x) × IsForInRange x) same (cc (i.0, j.0, k.0, l.0), (i.1, j.1, k.1, l.1))
 for_takes [] x e = absurd cc
 for_takes (a ∷ []) x e = absurd cc
 for_takes (a ∷ b ∷ []) x e = absurd cc
 for_takes (a ∷ b ∷ c ∷ []) x e = absurd cc
 for_takes (a ∷ b ∷ c ∷ d ∷ f ∷ rest) x e = absurd cc
 
-for_again : (x : ℕ × ℤ × ℤ × ℕ) → AreOfFor x → for_at (for_values x) ≡ Some x
+for_again : (x : ℕ × ℤ × ℤ × ℕ) → IsForInRange x → for_at (for_values x) ≡ Some x
 unfolding for_at
 for_again x p = rw (word_again x.0 p.0, long_again x.1 p.1, long_again x.2 p.2, word_again x.3 p.3) refl
 
-counted : IsShape for_at for_values AreOfFor
+counted : IsShape for_at for_values IsForInRange
 counted = record { takes = for_takes; again = for_again }
 
 abbrev spawn_values : ℕ × List ℕ → List Data
