@@ -1,35 +1,39 @@
 use crate::{Loop, ShapeError, loops, params_of, shape};
 use std::alloc::{AllocError, Global};
 use std::test::Fail;
-use xk_types::{Args, Comparison, Instr, Limit, Module, ParamKind, Unit, UnitKind};
+use xk_types::{Args, Comparison, Instr, Module, ParamKind, Unit, UnitKind};
 
 /// A unit.
-fn unit_of(
+fn unit_of<const N: usize>(
     alloc: Global,
     kind: UnitKind,
     params: &[ParamKind],
     slots: u16,
-    code: Vec<Instr>,
+    code: [Instr; N],
 ) -> Result<Unit, AllocError> {
     Ok(Unit {
         kind,
         params: Vec::from_slice(alloc, params)?,
         slots,
-        code,
+        code: Vec::from_array(alloc, code)?,
     })
 }
 
 /// A main unit.
-fn main_unit(alloc: Global, slots: u16, code: Vec<Instr>) -> Result<Unit, AllocError> {
+fn main_unit<const N: usize>(
+    alloc: Global,
+    slots: u16,
+    code: [Instr; N],
+) -> Result<Unit, AllocError> {
     unit_of(alloc, UnitKind::Main, &[], slots, code)
 }
 
 /// A unit that is started.
-fn body(
+fn body<const N: usize>(
     alloc: Global,
     params: &[ParamKind],
     slots: u16,
-    code: Vec<Instr>,
+    code: [Instr; N],
 ) -> Result<Unit, AllocError> {
     unit_of(alloc, UnitKind::Body, params, slots, code)
 }
@@ -40,12 +44,13 @@ fn spawn(alloc: Global, unit: u16, args: &[u16]) -> Result<Instr, AllocError> {
 }
 
 /// The module of these units.
-fn module(alloc: Global, units: Vec<Unit>) -> Result<Module, Limit> {
-    Module::new(Vec::new(alloc), units).map_err(|e| e.2)
+fn module<const N: usize>(alloc: Global, units: [Unit; N]) -> Result<Module, Fail> {
+    let units = Vec::from_array(alloc, units)?;
+    Ok(Module::new(Vec::new(alloc), units).map_err(|e| e.2)?)
 }
 
 /// The rule's number, the unit and the instruction of the fault that these units have, or none.
-fn fault(alloc: Global, units: Vec<Unit>) -> Result<Option<(u8, u16, u16)>, Fail> {
+fn fault<const N: usize>(alloc: Global, units: [Unit; N]) -> Result<Option<(u8, u16, u16)>, Fail> {
     match shape(alloc, module(alloc, units)?) {
         Ok(_) => Ok(None),
         Err((_, ShapeError::Fault(f))) => Ok(Some((f.rule.number(), f.unit, f.at))),
@@ -54,19 +59,20 @@ fn fault(alloc: Global, units: Vec<Unit>) -> Result<Option<(u8, u16, u16)>, Fail
 }
 
 /// That of one main unit with two slots.
-fn fault_of(alloc: Global, code: Vec<Instr>) -> Result<Option<(u8, u16, u16)>, Fail> {
-    let unit = main_unit(alloc, 2, code)?;
-    fault(alloc, vec![in alloc; unit]?)
+fn fault_of<const N: usize>(
+    alloc: Global,
+    code: [Instr; N],
+) -> Result<Option<(u8, u16, u16)>, Fail> {
+    fault(alloc, [main_unit(alloc, 2, code)?])
 }
 
 /// That of main, with this code and two slots, and a unit that it starts.
-fn fault_with(
+fn fault_with<const N: usize>(
     alloc: Global,
-    code: Vec<Instr>,
+    code: [Instr; N],
     started: Unit,
 ) -> Result<Option<(u8, u16, u16)>, Fail> {
-    let unit = main_unit(alloc, 2, code)?;
-    fault(alloc, vec![in alloc; unit, started]?)
+    fault(alloc, [main_unit(alloc, 2, code)?, started])
 }
 
 /// A loop of two turns in slot 0 that ends at this place.
@@ -77,16 +83,16 @@ fn twice(last: u16) -> Instr {
 #[test]
 fn hands_the_module_back(rt: HostRuntime) -> Result<(), Fail> {
     let alloc = rt.alloc();
-    let unit = main_unit(alloc, 1, vec![in alloc; Instr::Ret]?)?;
-    let m = module(alloc, vec![in alloc; unit]?)?;
+    let unit = main_unit(alloc, 1, [Instr::Ret])?;
+    let m = module(alloc, [unit])?;
     let Ok(shaped) = shape(alloc, m) else {
         panic!(rt; "refused");
     };
     assert_eq!(rt; shaped.module().units().len(), 1);
     assert_eq!(rt; shaped.into_module().units().len(), 1);
 
-    let unit = main_unit(alloc, 1, vec![in alloc; Instr::Advance]?)?;
-    let m = module(alloc, vec![in alloc; unit]?)?;
+    let unit = main_unit(alloc, 1, [Instr::Advance])?;
+    let m = module(alloc, [unit])?;
     let Err((m, error)) = shape(alloc, m) else {
         panic!(rt; "not refused");
     };
@@ -99,14 +105,14 @@ fn hands_the_module_back(rt: HostRuntime) -> Result<(), Fail> {
 #[test]
 fn finds_loops(rt: HostRuntime) -> Result<(), Fail> {
     let alloc = rt.alloc();
-    let code = vec![in alloc;
+    let code = [
         twice(3),
         Instr::For(1, -5, 5, 2),
         Instr::Next(1),
         Instr::Next(0),
         Instr::Next(0),
         Instr::Ret,
-    ]?;
+    ];
     let found = loops(alloc, &main_unit(alloc, 2, code)?)?;
     let outer = Loop {
         first: 0,
@@ -129,13 +135,13 @@ fn finds_loops(rt: HostRuntime) -> Result<(), Fail> {
 #[test]
 fn refuses_targets(rt: HostRuntime) -> Result<(), Fail> {
     let alloc = rt.alloc();
-    let itself = vec![in alloc; Instr::Jump(1), Instr::Jump(1), Instr::Jump(4), Instr::Ret]?;
+    let itself = [Instr::Jump(1), Instr::Jump(1), Instr::Jump(4), Instr::Ret];
     assert_eq!(rt; fault_of(alloc, itself)?, Some((1, 0, 1)));
-    let past = vec![in alloc; Instr::Jump(1), Instr::Jump(3), Instr::Jump(4), Instr::Ret]?;
+    let past = [Instr::Jump(1), Instr::Jump(3), Instr::Jump(4), Instr::Ret];
     assert_eq!(rt; fault_of(alloc, past)?, Some((1, 0, 2)));
-    let last = vec![in alloc; Instr::Jump(1), Instr::Jump(3), Instr::Jump(3), Instr::Ret]?;
+    let last = [Instr::Jump(1), Instr::Jump(3), Instr::Jump(3), Instr::Ret];
     assert_eq!(rt; fault_of(alloc, last)?, None);
-    let unless = vec![in alloc; Instr::Unless(Comparison::Lt, 0, 1, 0), Instr::Ret]?;
+    let unless = [Instr::Unless(Comparison::Lt, 0, 1, 0), Instr::Ret];
     assert_eq!(rt; fault_of(alloc, unless)?, Some((1, 0, 0)));
     Ok(())
 }
@@ -143,11 +149,11 @@ fn refuses_targets(rt: HostRuntime) -> Result<(), Fail> {
 #[test]
 fn refuses_ends_of_loops(rt: HostRuntime) -> Result<(), Fail> {
     let alloc = rt.alloc();
-    let itself = vec![in alloc; Instr::Advance, twice(1), Instr::Next(2), Instr::Ret]?;
+    let itself = [Instr::Advance, twice(1), Instr::Next(2), Instr::Ret];
     assert_eq!(rt; fault_of(alloc, itself)?, Some((1, 0, 1)));
-    let past = vec![in alloc; twice(4), Instr::Next(0), Instr::Next(9), Instr::Ret]?;
+    let past = [twice(4), Instr::Next(0), Instr::Next(9), Instr::Ret];
     assert_eq!(rt; fault_of(alloc, past)?, Some((1, 0, 0)));
-    let ahead = vec![in alloc; twice(1), Instr::Next(0), Instr::Next(9), Instr::Ret]?;
+    let ahead = [twice(1), Instr::Next(0), Instr::Next(9), Instr::Ret];
     assert_eq!(rt; fault_of(alloc, ahead)?, Some((1, 0, 2)));
     Ok(())
 }
@@ -155,11 +161,11 @@ fn refuses_ends_of_loops(rt: HostRuntime) -> Result<(), Fail> {
 #[test]
 fn refuses_jumps_into_loops(rt: HostRuntime) -> Result<(), Fail> {
     let alloc = rt.alloc();
-    let to_next = vec![in alloc; Instr::Jump(2), twice(2), Instr::Next(1), Instr::Ret]?;
+    let to_next = [Instr::Jump(2), twice(2), Instr::Next(1), Instr::Ret];
     assert_eq!(rt; fault_of(alloc, to_next)?, Some((2, 0, 0)));
-    let to_for = vec![in alloc; Instr::Jump(1), twice(2), Instr::Next(1), Instr::Ret]?;
+    let to_for = [Instr::Jump(1), twice(2), Instr::Next(1), Instr::Ret];
     assert_eq!(rt; fault_of(alloc, to_for)?, None);
-    let past = vec![in alloc; Instr::Jump(3), twice(2), Instr::Next(1), Instr::Ret]?;
+    let past = [Instr::Jump(3), twice(2), Instr::Next(1), Instr::Ret];
     assert_eq!(rt; fault_of(alloc, past)?, None);
     Ok(())
 }
@@ -167,9 +173,9 @@ fn refuses_jumps_into_loops(rt: HostRuntime) -> Result<(), Fail> {
 #[test]
 fn refuses_jumps_out_of_loops(rt: HostRuntime) -> Result<(), Fail> {
     let alloc = rt.alloc();
-    let to_next = vec![in alloc; twice(2), Instr::Jump(2), Instr::Next(0), Instr::Ret]?;
+    let to_next = [twice(2), Instr::Jump(2), Instr::Next(0), Instr::Ret];
     assert_eq!(rt; fault_of(alloc, to_next)?, None);
-    let past = vec![in alloc; twice(2), Instr::Jump(3), Instr::Next(0), Instr::Ret]?;
+    let past = [twice(2), Instr::Jump(3), Instr::Next(0), Instr::Ret];
     assert_eq!(rt; fault_of(alloc, past)?, Some((2, 0, 1)));
     Ok(())
 }
@@ -177,15 +183,15 @@ fn refuses_jumps_out_of_loops(rt: HostRuntime) -> Result<(), Fail> {
 #[test]
 fn refuses_unpaired_loops(rt: HostRuntime) -> Result<(), Fail> {
     let alloc = rt.alloc();
-    let other_end = vec![in alloc; twice(1), Instr::Lit(0, 1), Instr::Next(0), Instr::Ret]?;
+    let other_end = [twice(1), Instr::Lit(0, 1), Instr::Next(0), Instr::Ret];
     assert_eq!(rt; fault_of(alloc, other_end)?, Some((2, 0, 0)));
-    let no_for = vec![in alloc; Instr::Lit(0, 1), Instr::Next(0), Instr::Ret]?;
+    let no_for = [Instr::Lit(0, 1), Instr::Next(0), Instr::Ret];
     assert_eq!(rt; fault_of(alloc, no_for)?, Some((2, 0, 1)));
     let inner = Instr::For(1, 1, 2, 3);
-    let overlapping = vec![in alloc; twice(2), inner, Instr::Next(0), Instr::Next(1), Instr::Ret]?;
+    let overlapping = [twice(2), inner, Instr::Next(0), Instr::Next(1), Instr::Ret];
     assert_eq!(rt; fault_of(alloc, overlapping)?, Some((2, 0, 0)));
     let inner = Instr::For(1, 1, 2, 2);
-    let nested = vec![in alloc; twice(3), inner, Instr::Next(1), Instr::Next(0), Instr::Ret]?;
+    let nested = [twice(3), inner, Instr::Next(1), Instr::Next(0), Instr::Ret];
     assert_eq!(rt; fault_of(alloc, nested)?, None);
     Ok(())
 }
@@ -193,19 +199,19 @@ fn refuses_unpaired_loops(rt: HostRuntime) -> Result<(), Fail> {
 #[test]
 fn refuses_uses_of_loops(rt: HostRuntime) -> Result<(), Fail> {
     let alloc = rt.alloc();
-    let backward = vec![in alloc; Instr::For(0, 2, 1, 1), Instr::Next(0), Instr::Ret]?;
+    let backward = [Instr::For(0, 2, 1, 1), Instr::Next(0), Instr::Ret];
     assert_eq!(rt; fault_of(alloc, backward)?, Some((6, 0, 0)));
-    let written = vec![in alloc; twice(2), Instr::Lit(0, 1), Instr::Next(0), Instr::Ret]?;
+    let written = [twice(2), Instr::Lit(0, 1), Instr::Next(0), Instr::Ret];
     assert_eq!(rt; fault_of(alloc, written)?, Some((6, 0, 1)));
-    let again = vec![in alloc;
+    let again = [
         twice(3),
         twice(2),
         Instr::Next(1),
         Instr::Next(0),
         Instr::Ret,
-    ]?;
+    ];
     assert_eq!(rt; fault_of(alloc, again)?, Some((6, 0, 1)));
-    let other = vec![in alloc; twice(2), Instr::Lit(1, 1), Instr::Next(0), Instr::Ret]?;
+    let other = [twice(2), Instr::Lit(1, 1), Instr::Next(0), Instr::Ret];
     assert_eq!(rt; fault_of(alloc, other)?, None);
     Ok(())
 }
@@ -213,8 +219,8 @@ fn refuses_uses_of_loops(rt: HostRuntime) -> Result<(), Fail> {
 #[test]
 fn tries_rules_one_after_another(rt: HostRuntime) -> Result<(), Fail> {
     let alloc = rt.alloc();
-    let backward = vec![in alloc; Instr::For(0, 2, 1, 1), Instr::Next(0), Instr::Ret]?;
-    let leaves = vec![in alloc; twice(2), Instr::Jump(3), Instr::Next(0), Instr::Ret]?;
+    let backward = [Instr::For(0, 2, 1, 1), Instr::Next(0), Instr::Ret];
+    let leaves = [twice(2), Instr::Jump(3), Instr::Next(0), Instr::Ret];
     let leaves = body(alloc, &[], 1, leaves)?;
     assert_eq!(rt; fault_with(alloc, backward, leaves)?, Some((2, 1, 1)));
     Ok(())
@@ -223,15 +229,15 @@ fn tries_rules_one_after_another(rt: HostRuntime) -> Result<(), Fail> {
 #[test]
 fn refuses_slots(rt: HostRuntime) -> Result<(), Fail> {
     let alloc = rt.alloc();
-    let no_slot = vec![in alloc; Instr::Lit(2, 1), Instr::Ret]?;
+    let no_slot = [Instr::Lit(2, 1), Instr::Ret];
     assert_eq!(rt; fault_of(alloc, no_slot)?, Some((3, 0, 0)));
-    let before_end = vec![in alloc; Instr::Ret, Instr::Add(0, 1, 2), Instr::Ret]?;
+    let before_end = [Instr::Ret, Instr::Add(0, 1, 2), Instr::Ret];
     assert_eq!(rt; fault_of(alloc, before_end)?, Some((3, 0, 1)));
-    let copied = vec![in alloc; Instr::Copy(1, 2), Instr::Ret]?;
+    let copied = [Instr::Copy(1, 2), Instr::Ret];
     assert_eq!(rt; fault_of(alloc, copied)?, Some((3, 0, 0)));
-    let compared = vec![in alloc; Instr::Unless(Comparison::Eq, 2, 0, 1), Instr::Ret]?;
+    let compared = [Instr::Unless(Comparison::Eq, 2, 0, 1), Instr::Ret];
     assert_eq!(rt; fault_of(alloc, compared)?, Some((3, 0, 0)));
-    let counted = vec![in alloc; Instr::For(2, 2, 1, 1), Instr::Next(0), Instr::Ret]?;
+    let counted = [Instr::For(2, 2, 1, 1), Instr::Next(0), Instr::Ret];
     assert_eq!(rt; fault_of(alloc, counted)?, Some((3, 0, 0)));
     Ok(())
 }
@@ -239,10 +245,10 @@ fn refuses_slots(rt: HostRuntime) -> Result<(), Fail> {
 #[test]
 fn refuses_ends(rt: HostRuntime) -> Result<(), Fail> {
     let alloc = rt.alloc();
-    assert_eq!(rt; fault_of(alloc, vec![in alloc;]?)?, Some((7, 0, 0)));
-    let early = vec![in alloc; Instr::Ret, Instr::Ret]?;
+    assert_eq!(rt; fault_of(alloc, [])?, Some((7, 0, 0)));
+    let early = [Instr::Ret, Instr::Ret];
     assert_eq!(rt; fault_of(alloc, early)?, Some((7, 0, 0)));
-    let no_end = vec![in alloc; Instr::Advance, Instr::Advance]?;
+    let no_end = [Instr::Advance, Instr::Advance];
     assert_eq!(rt; fault_of(alloc, no_end)?, Some((7, 0, 1)));
     Ok(())
 }
@@ -250,35 +256,35 @@ fn refuses_ends(rt: HostRuntime) -> Result<(), Fail> {
 #[test]
 fn refuses_units(rt: HostRuntime) -> Result<(), Fail> {
     let alloc = rt.alloc();
-    let second = main_unit(alloc, 0, vec![in alloc;]?)?;
-    let mains = fault_with(alloc, vec![in alloc; Instr::Ret]?, second)?;
+    let second = main_unit(alloc, 0, [])?;
+    let mains = fault_with(alloc, [Instr::Ret], second)?;
     assert_eq!(rt; mains, Some((4, 1, 0)));
 
-    let code = vec![in alloc; Instr::Make(0), Instr::Ret]?;
+    let code = [Instr::Make(0), Instr::Ret];
     let takes = unit_of(alloc, UnitKind::Main, &[ParamKind::Clock], 1, code)?;
-    assert_eq!(rt; fault(alloc, vec![in alloc; takes]?)?, Some((4, 0, 0)));
+    assert_eq!(rt; fault(alloc, [takes])?, Some((4, 0, 0)));
 
-    let first = body(alloc, &[], 0, vec![in alloc; Instr::Ret]?)?;
-    assert_eq!(rt; fault(alloc, vec![in alloc; first]?)?, Some((4, 0, 0)));
+    let first = body(alloc, &[], 0, [Instr::Ret])?;
+    assert_eq!(rt; fault(alloc, [first])?, Some((4, 0, 0)));
     Ok(())
 }
 
 #[test]
 fn refuses_starts(rt: HostRuntime) -> Result<(), Fail> {
     let alloc = rt.alloc();
-    let missing = vec![in alloc; spawn(alloc, 1, &[])?, Instr::Ret]?;
+    let missing = [spawn(alloc, 1, &[])?, Instr::Ret];
     assert_eq!(rt; fault_of(alloc, missing)?, Some((4, 0, 0)));
 
-    let start = vec![in alloc; Instr::Advance, spawn(alloc, 1, &[])?, Instr::Ret]?;
-    let second = main_unit(alloc, 0, vec![in alloc; Instr::Ret]?)?;
+    let start = [Instr::Advance, spawn(alloc, 1, &[])?, Instr::Ret];
+    let second = main_unit(alloc, 0, [Instr::Ret])?;
     assert_eq!(rt; fault_with(alloc, start, second)?, Some((4, 0, 1)));
 
-    let start = vec![in alloc; spawn(alloc, 1, &[0])?, Instr::Ret]?;
-    let takes_none = body(alloc, &[], 1, vec![in alloc; Instr::Ret]?)?;
+    let start = [spawn(alloc, 1, &[0])?, Instr::Ret];
+    let takes_none = body(alloc, &[], 1, [Instr::Ret])?;
     assert_eq!(rt; fault_with(alloc, start, takes_none)?, Some((4, 0, 0)));
 
-    let start = vec![in alloc; spawn(alloc, 1, &[])?, Instr::Ret]?;
-    let takes_one = body(alloc, &[ParamKind::Number], 1, vec![in alloc; Instr::Ret]?)?;
+    let start = [spawn(alloc, 1, &[])?, Instr::Ret];
+    let takes_one = body(alloc, &[ParamKind::Number], 1, [Instr::Ret])?;
     assert_eq!(rt; fault_with(alloc, start, takes_one)?, Some((4, 0, 0)));
     Ok(())
 }
@@ -286,16 +292,16 @@ fn refuses_starts(rt: HostRuntime) -> Result<(), Fail> {
 #[test]
 fn refuses_starts_of_smaller_numbers(rt: HostRuntime) -> Result<(), Fail> {
     let alloc = rt.alloc();
-    let start = vec![in alloc; spawn(alloc, 1, &[])?, Instr::Ret]?;
+    let start = [spawn(alloc, 1, &[])?, Instr::Ret];
     let itself = body(alloc, &[], 0, start)?;
-    let itself = fault_with(alloc, vec![in alloc; Instr::Ret]?, itself)?;
+    let itself = fault_with(alloc, [Instr::Ret], itself)?;
     assert_eq!(rt; itself, Some((4, 1, 0)));
 
-    let main = main_unit(alloc, 0, vec![in alloc; Instr::Ret]?)?;
-    let first = body(alloc, &[], 0, vec![in alloc; Instr::Ret]?)?;
-    let start = vec![in alloc; Instr::Advance, spawn(alloc, 1, &[])?, Instr::Ret]?;
+    let main = main_unit(alloc, 0, [Instr::Ret])?;
+    let first = body(alloc, &[], 0, [Instr::Ret])?;
+    let start = [Instr::Advance, spawn(alloc, 1, &[])?, Instr::Ret];
     let second = body(alloc, &[], 0, start)?;
-    let back = fault(alloc, vec![in alloc; main, first, second]?)?;
+    let back = fault(alloc, [main, first, second])?;
     assert_eq!(rt; back, Some((4, 2, 1)));
     Ok(())
 }
@@ -303,17 +309,17 @@ fn refuses_starts_of_smaller_numbers(rt: HostRuntime) -> Result<(), Fail> {
 #[test]
 fn refuses_arguments(rt: HostRuntime) -> Result<(), Fail> {
     let alloc = rt.alloc();
-    let start = vec![in alloc; spawn(alloc, 1, &[2])?, Instr::Ret]?;
-    let takes_one = body(alloc, &[ParamKind::Number], 1, vec![in alloc; Instr::Ret]?)?;
+    let start = [spawn(alloc, 1, &[2])?, Instr::Ret];
+    let takes_one = body(alloc, &[ParamKind::Number], 1, [Instr::Ret])?;
     assert_eq!(rt; fault_with(alloc, start, takes_one)?, Some((3, 0, 0)));
 
     let clocks = [ParamKind::Clock, ParamKind::Number, ParamKind::Clock];
-    let start = vec![in alloc; Instr::Make(0), spawn(alloc, 1, &[0, 1, 0])?, Instr::Ret]?;
-    let takes_two = body(alloc, &clocks, 3, vec![in alloc; Instr::Ret]?)?;
+    let start = [Instr::Make(0), spawn(alloc, 1, &[0, 1, 0])?, Instr::Ret];
+    let takes_two = body(alloc, &clocks, 3, [Instr::Ret])?;
     assert_eq!(rt; fault_with(alloc, start, takes_two)?, Some((10, 0, 1)));
 
-    let start = vec![in alloc; Instr::Ret]?;
-    let makes = vec![in alloc; Instr::Advance, Instr::Make(0), Instr::Ret]?;
+    let start = [Instr::Ret];
+    let makes = [Instr::Advance, Instr::Make(0), Instr::Ret];
     let makes = body(alloc, &[ParamKind::Number], 1, makes)?;
     assert_eq!(rt; fault_with(alloc, start, makes)?, Some((8, 1, 1)));
     Ok(())
@@ -323,8 +329,8 @@ fn refuses_arguments(rt: HostRuntime) -> Result<(), Fail> {
 fn gives_parameters(rt: HostRuntime) -> Result<(), Fail> {
     let alloc = rt.alloc();
     let params = [ParamKind::Clock, ParamKind::Number];
-    let takes_two = body(alloc, &params, 2, vec![in alloc; Instr::Ret]?)?;
-    let m = module(alloc, vec![in alloc; takes_two]?)?;
+    let takes_two = body(alloc, &params, 2, [Instr::Ret])?;
+    let m = module(alloc, [takes_two])?;
     assert_eq!(rt; params_of(&m, 0), params.as_slice());
     assert!(rt; params_of(&m, 1).is_empty());
     Ok(())
