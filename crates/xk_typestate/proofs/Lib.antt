@@ -1,3 +1,4 @@
+pub mod Bits
 pub mod Given
 pub mod Sets
 pub mod Walks

@@ -1,4 +1,5 @@
 pub mod KindSet
+pub mod Bits
 pub mod Place
 pub mod Rows
 pub mod Search

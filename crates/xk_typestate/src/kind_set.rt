@@ -2,7 +2,7 @@
 
 ghost use Rattle.std.specs.Prelude.{◌≡◌, ◌↔◌, ◌⊎◌, ◌≢◌, IsTrue};
 ghost use Rattle.xk_types.specs.declared.rules.Kind.{Kind};
-ghost use Rattle.xk_typestate.specs.KindSet.{kinds_have, kinds_with, no_kinds};
+ghost use Rattle.xk_typestate.specs.KindSet.{kinds_have, kinds_with, no_kinds, kind_bit};
 
 use std::marker::Model;
 use xk_types::Kind;
@@ -19,21 +19,37 @@ pub(crate) const KINDS: [Kind; 5] = [
 /// A set of the five kinds.
 #[derive(Clone, Copy, Debug, PartialEq, Eq)]
 pub struct KindSet {
-    unset: bool,
-    number: bool,
-    live: bool,
-    resumed: bool,
-    out: bool,
+    /// One bit for each kind that is one of the set.
+    bits: u8,
 }
 
 impl Model for KindSet {
-    ghost use Rattle.xk_typestate.specs.KindSet.{KindsValue};
+    ghost use Rattle.std.specs.Prelude.{◌<◌};
+    ghost use Rattle.xk_typestate.specs.KindSet.{KindsValue, kinds_of, bits_of};
+    ghost use Rattle.xk_typestate.specs.Bits.{bits_back};
 
     ghost Value = { KindsValue };
 
-    ghost view = { λ s. record { unset = s.unset; number = s.number; live = s.live; resumed = s.resumed; out = s.out } };
+    ghost view = { λ s. kinds_of s.bits };
 
-    ghost inverse = { λ s. record { unset = s.unset; number = s.number; live = s.live; resumed = s.resumed; out = s.out } };
+    ghost invariant = { λ s. s.bits < 32 };
+
+    ghost inverse = { λ s. record { bits = bits_of s } };
+
+    ghost inverse_ok = { λ s h i. record { bits = bits_back s.bits h i } };
+}
+
+/// The bit that stands for a kind.
+fn bit(kind: Kind) -> u8
+    ensures { result ≡ kind_bit kind }
+{
+    match kind {
+        Kind::Unset => 1,
+        Kind::Number => 2,
+        Kind::Live => 4,
+        Kind::Resumed => 8,
+        Kind::Out => 16,
+    }
 }
 
 impl KindSet {
@@ -42,13 +58,7 @@ impl KindSet {
         ensures made { result ≡ no_kinds }
         ensures has { (k : Kind) → ¬ (IsTrue (kinds_have result k)) }
     {
-        KindSet {
-            unset: false,
-            number: false,
-            live: false,
-            resumed: false,
-            out: false,
-        }
+        KindSet { bits: 0 }
     }
 
     /// The set of one kind.
@@ -59,37 +69,26 @@ impl KindSet {
     }
 
     /// The set with one kind more.
-    pub fn with(mut self, kind: Kind) -> KindSet
+    pub fn with(self, kind: Kind) -> KindSet
         ensures made { result ≡ kinds_with self kind }
         ensures has { (k : Kind) → IsTrue (kinds_have result k) ↔ ((k ≡ kind) ⊎ IsTrue (kinds_have self k)) }
     {
-        match kind {
-            Kind::Unset => self.unset = true,
-            Kind::Number => self.number = true,
-            Kind::Live => self.live = true,
-            Kind::Resumed => self.resumed = true,
-            Kind::Out => self.out = true,
+        KindSet {
+            bits: self.bits | bit(kind),
         }
-        self
     }
 
     /// Whether the kind is one of the set.
     pub fn contains(self, kind: Kind) -> bool
         ensures { result ≡ kinds_have self kind }
     {
-        match kind {
-            Kind::Unset => self.unset,
-            Kind::Number => self.number,
-            Kind::Live => self.live,
-            Kind::Resumed => self.resumed,
-            Kind::Out => self.out,
-        }
+        self.bits & bit(kind) != 0
     }
 
     /// Whether no kind is one of the set.
     pub fn is_empty(self) -> bool
         ensures { IsTrue result ↔ ((k : Kind) → ¬ (IsTrue (kinds_have self k))) }
     {
-        !(self.unset || self.number || self.live || self.resumed || self.out)
+        self.bits == 0
     }
 }

@@ -3,13 +3,13 @@
 ghost use Rattle.std.specs.Prelude.{◌≡◌, ℕ, ◌↔◌, ◌<◌, [], ◌∷◌, IsTrue, MatchResult, Some, slice_get};
 ghost use Rattle.xk_types.specs.declared.rules.Kind.{Kind};
 ghost use Rattle.xk_types.specs.declared.rules.Kind.TheVariants.{Number};
-ghost use Rattle.xk_types.specs.Code.{params_of};
 ghost use Rattle.xk_types.specs.Order.{Has};
 ghost use Rattle.xk_types.specs.Walk.{After, Refused, after, awake, reads, may_read, loop_slot, writes, uses, hands_on, gives, successors, entry_kinds, MayBecome};
 ghost use Rattle.xk_typestate.specs.KindSet.{kinds_have};
 ghost use Rattle.xk_typestate.specs.Rows.{IsRow, places};
 
 use crate::kind_set::KindSet;
+use xk_shape::params_of;
 use xk_types::{Instr, Kind, Module, ParamKind, Rule, Unit};
 
 /// Where an instruction may lead, in rising order.
@@ -152,16 +152,6 @@ fn may_read(x: Option<u16>, slot: u16, kind: Kind) -> Result<(), Rule>
     match x {
         Some(x) => read(x, slot, kind),
         None => Ok(()),
-    }
-}
-
-/// The kinds of a unit's parameters; none where there is no such unit.
-fn params_of(m: &Module, unit: u16) -> &[ParamKind]
-    ensures { result.now ≡ params_of m.now unit }
-{
-    match m.units().get(unit as usize) {
-        Some(u) => &u.params,
-        None => &[],
     }
 }
 

@@ -1,0 +1,113 @@
+use crate::{KindError, KindFault, KindSet, Typed, check_kinds};
+use std::alloc::Global;
+use std::process::Abort;
+use std::test::Fail;
+use xk_shape::shape;
+use xk_types::{Comparison, Instr, Kind, Limit, Module, ParamKind, Unit, UnitKind};
+
+/// The module of these units.
+fn module(alloc: Global, units: Vec<Unit>) -> Result<Module, Limit> {
+    Module::new(Vec::new(alloc), units).map_err(|e| e.2)
+}
+
+/// What the check says of a main unit that ends at once and a unit with three slots, these parameters and this code.
+fn check(
+    rt: &impl Abort,
+    alloc: Global,
+    params: &[ParamKind],
+    code: Vec<Instr>,
+) -> Result<Result<Typed, KindError>, Fail> {
+    let main = Unit {
+        kind: UnitKind::Main,
+        params: Vec::new(alloc),
+        slots: 0,
+        code: vec![in alloc; Instr::Ret]?,
+    };
+    let body = Unit {
+        kind: UnitKind::Body,
+        params: Vec::from_slice(alloc, params)?,
+        slots: 3,
+        code,
+    };
+    match shape(alloc, module(alloc, vec![in alloc; main, body]?)?) {
+        Ok(shaped) => Ok(check_kinds(alloc, shaped).map_err(|e| e.1)),
+        Err(_) => panic!(rt; "no shape"),
+    }
+}
+
+/// The kinds of a slot of unit 1 before an instruction; none where there is no such place.
+fn kinds_at(typed: &Typed, at: u16, slot: u16) -> Option<KindSet> {
+    let u = typed.module().units().get(1)?;
+    if (at as usize) < u.code.len() && slot < u.slots {
+        Some(typed.kinds(1, at, slot))
+    } else {
+        None
+    }
+}
+
+/// The module, where it is typed.
+fn typed(
+    rt: &impl Abort,
+    alloc: Global,
+    params: &[ParamKind],
+    code: Vec<Instr>,
+) -> Result<Typed, Fail> {
+    match check(rt, alloc, params, code)? {
+        Ok(typed) => Ok(typed),
+        Err(_) => panic!(rt; "refused"),
+    }
+}
+
+/// The fault, where there is one.
+fn fault(rt: &impl Abort, alloc: Global, code: Vec<Instr>) -> Result<KindFault, Fail> {
+    match check(rt, alloc, &[], code)? {
+        Err(KindError::Fault(fault)) => Ok(fault),
+        _ => panic!(rt; "no fault"),
+    }
+}
+
+#[test]
+fn joins_branches(rt: HostRuntime) -> Result<(), Fail> {
+    let alloc = rt.alloc();
+    let code = vec![in alloc;
+        Instr::Lit(0, 1),
+        Instr::Unless(Comparison::Lt, 0, 0, 3),
+        Instr::Lit(2, 7),
+        Instr::Ret,
+    ]?;
+    let typed = typed(&rt, alloc, &[], code)?;
+    let either = KindSet::of(Kind::Unset).with(Kind::Number);
+    assert_eq!(rt; kinds_at(&typed, 3, 2), Some(either));
+    assert_eq!(rt; kinds_at(&typed, 3, 0), Some(KindSet::of(Kind::Number)));
+    Ok(())
+}
+
+#[test]
+fn enters_with_clocks(rt: HostRuntime) -> Result<(), Fail> {
+    let alloc = rt.alloc();
+    let code = vec![in alloc; Instr::Advance, Instr::Ret]?;
+    let typed = typed(&rt, alloc, &[ParamKind::Clock], code)?;
+    let either = KindSet::of(Kind::Live).with(Kind::Resumed);
+    assert_eq!(rt; kinds_at(&typed, 0, 0), Some(either));
+    assert_eq!(rt; kinds_at(&typed, 1, 0), Some(KindSet::of(Kind::Live)));
+    Ok(())
+}
+
+#[test]
+fn refuses_in_the_second_turn(rt: HostRuntime) -> Result<(), Fail> {
+    let alloc = rt.alloc();
+    let code = vec![in alloc;
+        Instr::Make(0),
+        Instr::For(1, 1, 3, 3),
+        Instr::Drop(0),
+        Instr::Next(1),
+        Instr::Ret,
+    ]?;
+    let fault = fault(&rt, alloc, code)?;
+    assert_eq!(rt; fault.rule.number(), 11);
+    assert_eq!(rt; (fault.unit, fault.at, fault.slot), (1, 2, 0));
+    assert_eq!(rt; fault.kind, Kind::Out);
+    let places: Vec<u16> = fault.walk.iter().map(|v| v.at).collect(alloc)?;
+    assert_eq!(rt; places.as_slice(), [0, 1, 2, 3, 2].as_slice());
+    Ok(())
+}
