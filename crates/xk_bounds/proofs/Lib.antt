@@ -2,4 +2,5 @@ pub mod Cuts
 pub mod Visits
 pub mod Measured
 pub mod Totals
+pub mod Stacks
 pub mod Refusals

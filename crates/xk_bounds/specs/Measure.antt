@@ -1,11 +1,11 @@
 -- The bounds of a module, as the verifier holds them.
-use Rattle.std.specs.Prelude.{◌≡◌, ℕ, ◌+◌, ◌*◌, min, ℤ, false, List, slice_index}
+use Rattle.std.specs.Prelude.{◌≡◌, ℕ, ◌+◌, ◌*◌, min, ℤ, false, List, map, slice_index}
 use Rattle.std.specs.Option.{option_map_or}
 use Rattle.xk_types.specs.declared.instr.Instr.{Instr}
 use Rattle.xk_types.specs.declared.instr.Instr.TheVariants as instr
-use Rattle.xk_types.specs.Code.{UnitValue, ModuleValue, IsWithinLimits, unit_started, Loop, turns}
+use Rattle.xk_types.specs.Code.{UnitValue, ModuleValue, IsWithinLimits, unit_called, unit_run, Loop, turns}
 use Rattle.xk_types.specs.Shape.{breaks_target, breaks_block}
-use Rattle.xk_types.specs.Bound.{visits, sum_from, total, steps_weight, activities_weight, clocks_weight, steps_bound, activities_bound, clocks_bound, stack_bound}
+use Rattle.xk_types.specs.Bound.{visits, sum_from, total, steps_weight, activities_weight, clocks_weight, steps_bound, activities_bound, clocks_bound, greatest, stack_bound}
 use Rattle.xk_types.specs.Accepted.{IsAccepted}
 use Rattle.xk_bounds.specs.declared.bounds.Bounds.{Bounds}
 use Rattle.xk_bounds.specs.declared.bounds.Quantity.{Quantity}
@@ -17,9 +17,9 @@ weight_of quantity.Steps i = steps_weight i
 weight_of quantity.Activities i = activities_weight i
 weight_of quantity.Clocks i = clocks_weight i
 
--- what it adds with the unit that it starts, where a table says what each unit adds
+-- what it adds with the unit that it calls or starts, where a table says what each unit adds
 abbrev pub added : (Instr → ℕ) → (ℕ → ℕ) → Instr → ℕ
-added weight table i = weight i + option_map_or table (unit_started i) 0
+added weight table i = weight i + option_map_or table (unit_run i) 0
 
 -- what the instruction at a place of a unit adds each time that the unit is carried out
 abbrev pub added_at : (Instr → ℕ) → (ℕ → ℕ) → UnitValue → ℕ → Instr → ℕ
@@ -28,6 +28,14 @@ added_at weight table u at i = visits u at * added weight table i
 -- what the unit adds
 abbrev pub added_by : (Instr → ℕ) → (ℕ → ℕ) → UnitValue → ℕ
 added_by weight table u = sum_from (added_at weight table u) 0 u.code
+
+-- the slots of the unit that an instruction calls, where a table says them of each unit
+abbrev pub called_by : (ℕ → ℕ) → Instr → ℕ
+called_by table i = option_map_or table (unit_called i) 0
+
+-- the slots of a unit, with the most of those that it calls
+abbrev pub stack_by : (ℕ → ℕ) → UnitValue → ℕ
+stack_by table u = u.slots + greatest (map (called_by table) u.code)
 
 -- each `for` of the unit has its `next`, and loops nest or lie apart
 pub record HasBlocks (u : UnitValue) : Type 0 where
@@ -50,7 +58,7 @@ pub record AreCut (m : ModuleValue) (cut : ℕ) (b : Bounds) : Type 0 where
   pub steps : b.steps ≡ min (steps_bound m) cut
   pub activities : b.activities ≡ min (total activities_weight m 0) cut + 1
   pub clocks : b.clocks ≡ min (clocks_bound m) cut
-  pub stack : b.stack ≡ stack_bound m
+  pub stack : b.stack ≡ min (stack_bound m) cut
 
 -- they are those of the module
 pub record AreBounds (m : ModuleValue) (b : Bounds) : Type 0 where

@@ -2,11 +2,11 @@
 
 ghost use Rattle.std.specs.Prelude.{◌≡◌, ◌+◌, ◌*◌, ◌<◌, ◌≤◌, min, slice_index, IfOk, MatchResult};
 ghost use Rattle.std.specs.Option.{option_map_or};
-ghost use Rattle.xk_types.specs.Code.{ModuleValue, unit_started, turns};
+ghost use Rattle.xk_types.specs.Code.{ModuleValue, unit_called, unit_run, turns};
 ghost use Rattle.xk_types.specs.Shape.{HasShape};
 ghost use Rattle.xk_types.specs.Bound.{total, stack_bound, IsWithinBounds};
 ghost use Rattle.xk_bounds.specs.Refused.{IsBoundFault};
-ghost use Rattle.xk_bounds.specs.Measure.{AreBounds, AreCut, HasBlocks, added, added_by, weight_of, visits_next, loop_between};
+ghost use Rattle.xk_bounds.specs.Measure.{AreBounds, AreCut, HasBlocks, added, added_by, stack_by, weight_of, visits_next, loop_between};
 
 use crate::refusal::BoundFault;
 use std::alloc::{AllocError, Global};
@@ -52,7 +52,7 @@ impl Bounds {
             steps: most(alloc, m, Quantity::Steps)?,
             activities: most(alloc, m, Quantity::Activities)? as u32 + 1,
             clocks: most(alloc, m, Quantity::Clocks)? as u32,
-            stack: stack_of(m),
+            stack: deepest(alloc, m)? as u32,
         })
     }
 
@@ -85,8 +85,8 @@ fn within(rule: Rule, bound: u64, limit: u64) -> Result<(), BoundFault>
     }
 }
 
-/// The most that a run of main takes, with all that it starts, cut at `CUT`. A unit starts only units of greater number,
-/// so that the table is filled from the last unit on.
+/// The most that a run of main takes, with all that it calls and starts, cut at `CUT`. A unit calls and starts only units of
+/// greater number, so that the table is filled from the last unit on.
 fn most(alloc: Global, m: &Module, counted: Quantity) -> Result<u64, AllocError>
     requires { HasShape m.now }
     ensures { IfOk result (λ n. n ≡ min (total (weight_of counted) m.now 0) CUT) }
@@ -101,7 +101,7 @@ fn most(alloc: Global, m: &Module, counted: Quantity) -> Result<u64, AllocError>
     Ok(table[0])
 }
 
-/// The most that a unit takes, with what the table says of the units that it starts, cut at `CUT`.
+/// The most that a unit takes, with what the table says of the units that it calls and starts, cut at `CUT`.
 fn most_of(alloc: Global, counted: Quantity, u: &Unit, table: &[u64]) -> Result<u64, AllocError>
     requires { HasBlocks u.now }
     ensures { IfOk result
@@ -141,19 +141,21 @@ fn turns(lo: i64, hi: i64) -> u64
     }
 }
 
-/// What the instruction takes each time, with what the table says of the unit that it starts, cut at `CUT`.
+/// What the instruction takes each time, with what the table says of the unit that it calls or starts, cut at `CUT`.
 fn once(counted: Quantity, instr: &Instr, table: &[u64]) -> u64
     ensures { result ≡ min (added (weight_of counted) (slice_index table.now) instr.now) CUT }
 {
-    cut_sum(weight(counted, instr), started(instr, table))
+    cut_sum(weight(counted, instr), run(instr, table))
 }
 
-/// What the table says of the unit that the instruction starts.
-fn started(instr: &Instr, table: &[u64]) -> u64
-    ensures { result ≡ option_map_or (slice_index table.now) (unit_started instr.now) 0 }
+/// What the table says of the unit that the instruction calls or starts.
+fn run(instr: &Instr, table: &[u64]) -> u64
+    ensures { result ≡ option_map_or (slice_index table.now) (unit_run instr.now) 0 }
 {
     match instr {
-        Instr::Spawn(unit, _) => table.get(*unit as usize).copied().unwrap_or(0),
+        Instr::Call(unit, _) | Instr::Spawn(unit, _) => {
+            table.get(*unit as usize).copied().unwrap_or(0)
+        }
         _ => 0,
     }
 }
@@ -192,13 +194,40 @@ fn cut_product(a: u64, b: u64) -> u64
     a.saturating_mul(b).min(CUT)
 }
 
-/// The greatest number of slots of a unit.
-fn stack_of(m: &Module) -> u32
-    ensures { result ≡ stack_bound m.now }
+/// The most slots in the frames of one activity, cut at `CUT`. A unit calls only units of greater number, so that the table
+/// is filled from the last unit on.
+fn deepest(alloc: Global, m: &Module) -> Result<u64, AllocError>
+    requires { HasShape m.now }
+    ensures { IfOk result (λ n. n ≡ min (stack_bound m.now) CUT) }
 {
+    let units = m.units();
+    let mut table = vec![in alloc; 0; units.len()]?;
     let mut stack = 0;
-    for u in m.units() {
-        stack = stack.max(u32::from(u.slots));
+    for unit in (0..units.len()).rev() {
+        let slots = stack_of(&units[unit], &table);
+        table[unit] = slots;
+        stack = u64::max(stack, slots);
     }
-    stack
+    Ok(stack)
+}
+
+/// The slots of a unit, with the most that the table says of a unit that it calls, cut at `CUT`.
+fn stack_of(u: &Unit, table: &[u64]) -> u64
+    ensures { result ≡ min (stack_by (slice_index table.now) u.now) CUT }
+{
+    let mut below = 0;
+    for instr in &u.code {
+        below = u64::max(below, called(instr, table));
+    }
+    cut_sum(u64::from(u.slots), below)
+}
+
+/// What the table says of the unit that the instruction calls.
+fn called(instr: &Instr, table: &[u64]) -> u64
+    ensures { result ≡ option_map_or (slice_index table.now) (unit_called instr.now) 0 }
+{
+    match instr {
+        Instr::Call(unit, _) => table.get(*unit as usize).copied().unwrap_or(0),
+        _ => 0,
+    }
 }

@@ -34,6 +34,21 @@ fn body(
     unit_of(alloc, UnitKind::Body, params, slots, code)
 }
 
+/// A unit that is called.
+fn method(
+    alloc: Global,
+    params: &[ParamKind],
+    slots: u16,
+    code: Vec<Instr>,
+) -> Result<Unit, AllocError> {
+    unit_of(alloc, UnitKind::Method, params, slots, code)
+}
+
+/// The instruction that calls the unit with these slots.
+fn call(alloc: Global, unit: u16, args: &[u16]) -> Result<Instr, AllocError> {
+    Ok(Instr::Call(unit, Args::new(Vec::from_slice(alloc, args)?)))
+}
+
 /// The instruction that starts the unit with these slots.
 fn spawn(alloc: Global, unit: u16, args: &[u16]) -> Result<Instr, AllocError> {
     Ok(Instr::Spawn(unit, Args::new(Vec::from_slice(alloc, args)?)))
@@ -355,6 +370,80 @@ fn counts_starts_in_a_loop(rt: HostRuntime) -> Result<(), Fail> {
     let makes = body(alloc, &[], 2, code)?;
     let both = measured(verdict(alloc, starts_in_a_loop(alloc, 10, makes)?)?);
     assert_eq!(rt; both, Some((192, 11, 50)));
+    Ok(())
+}
+
+#[test]
+fn counts_each_call(rt: HostRuntime) -> Result<(), Fail> {
+    let alloc = rt.alloc();
+    let code = vec![in alloc;
+        Instr::Lit(0, 7),
+        call(alloc, 1, &[0])?,
+        call(alloc, 1, &[0])?,
+        Instr::Ret,
+    ]?;
+    let main = main_unit(alloc, 1, code)?;
+    let code = vec![in alloc; Instr::Copy(1, 0), Instr::Print(1), Instr::Ret]?;
+    let prints = method(alloc, &[ParamKind::Number], 2, code)?;
+    let Ok(v) = verdict(alloc, vec![in alloc; main, prints]?)? else {
+        panic!(rt; "refused");
+    };
+    assert_eq!(rt;
+        (v.steps(), v.activities(), v.clocks(), v.stack()),
+        (10, 1, 0, 3)
+    );
+    Ok(())
+}
+
+#[test]
+fn counts_calls_of_a_body(rt: HostRuntime) -> Result<(), Fail> {
+    let alloc = rt.alloc();
+    let code = vec![in alloc; spawn(alloc, 1, &[])?, Instr::Ret]?;
+    let main = main_unit(alloc, 1, code)?;
+    let code = vec![in alloc;
+        Instr::For(0, 1, 3, 2),
+        call(alloc, 2, &[])?,
+        Instr::Next(0),
+        Instr::Ret,
+    ]?;
+    let calls = body(alloc, &[], 2, code)?;
+    let code = vec![in alloc; Instr::Make(0), Instr::Drop(0), Instr::Ret]?;
+    let makes = method(alloc, &[], 5, code)?;
+    let Ok(v) = verdict(alloc, vec![in alloc; main, calls, makes]?)? else {
+        panic!(rt; "refused");
+    };
+    assert_eq!(rt;
+        (v.steps(), v.activities(), v.clocks(), v.stack()),
+        (19, 2, 3, 7)
+    );
+    Ok(())
+}
+
+/// Main and so many methods, each of 64 slots, each but the last of which calls the next.
+fn calls_in_a_chain(alloc: Global, methods: u16) -> Result<Vec<Unit>, AllocError> {
+    let mut units = Vec::new(alloc);
+    let code = vec![in alloc; call(alloc, 1, &[])?, Instr::Ret]?;
+    units.push(main_unit(alloc, 64, code)?)?;
+    for unit in 1..methods {
+        let code = vec![in alloc; call(alloc, unit + 1, &[])?, Instr::Ret]?;
+        units.push(method(alloc, &[], 64, code)?)?;
+    }
+    units.push(method(alloc, &[], 64, vec![in alloc; Instr::Ret]?)?)?;
+    Ok(units)
+}
+
+#[test]
+fn bounds_the_stack(rt: HostRuntime) -> Result<(), Fail> {
+    let alloc = rt.alloc();
+    let Ok(v) = verdict(alloc, calls_in_a_chain(alloc, 63)?)? else {
+        panic!(rt; "refused");
+    };
+    assert_eq!(rt;
+        (v.steps(), v.activities(), v.clocks(), v.stack()),
+        (127, 1, 0, 4096)
+    );
+    let more = bound_fault(verdict(alloc, calls_in_a_chain(alloc, 64)?)?);
+    assert_eq!(rt; more, Some((17, 4096)));
     Ok(())
 }
 

@@ -13,14 +13,14 @@ use Rattle.xk_types.specs.declared.names.Event.TheVariants as event
 use Rattle.xk_types.specs.declared.unit.ParamKind.{ParamKind}
 use Rattle.xk_types.specs.declared.unit.ParamKind.TheVariants as param
 use Rattle.std.specs.Option.{option_map_or, option_and_then}
-use Rattle.xk_types.specs.Code.{UnitValue, ModuleValue, is_body, IsUnitWithinLimits, IsWithinLimits}
-use Rattle.xk_types.specs.World.{Activity, Clock, World, standing_of, slots_of, instruction_at}
-use Rattle.xk_types.specs.Step.{Outcome, Wrong, Stepped, ClockUse, OutOfRange, carried_out, done, number_in, clock_in, registered_on, put_in, arguments_in, names_clock, is_given, joined, spawned, spawning, settled, none, onward, with_slots, is_registered, computing, turning, slot_at}
+use Rattle.xk_types.specs.Code.{UnitValue, ModuleValue, is_body, IsUnitWithinLimits, IsWithinLimits, is_method}
+use Rattle.xk_types.specs.World.{Activity, Clock, World, standing_of, slots_of, instruction_at, Frame}
+use Rattle.xk_types.specs.Step.{Outcome, Wrong, Stepped, ClockUse, OutOfRange, carried_out, done, number_in, clock_in, registered_on, put_in, arguments_in, names_clock, is_given, joined, spawned, spawning, settled, none, onward, with_slots, is_registered, computing, turning, slot_at, called, calling, returning}
 use Rattle.xk_types.specs.Schedule.{is_step}
 use Rattle.xk_core.specs.declared.change.StepChange.{StepChange}
 use Rattle.xk_core.specs.Change.{standing_after_step}
-use Rattle.xk_core.specs.Joining.{given_slots, started}
-use Rattle.xk_core.specs.Arm.{value_at, grows, AreNumbersAt, IsTurnAt, IsLocal, Computes, IsRunningUnit, CanCarry, Writes, Carries, IsRoomy, carried, carried_by}
+use Rattle.xk_core.specs.Joining.{given_slots, started, called_with}
+use Rattle.xk_core.specs.Arm.{value_at, grows, AreNumbersAt, IsTurnAt, IsLocal, Computes, IsRunningUnit, CanCarry, Writes, Carries, IsRoomy, carried, carried_by, Leaves}
 
 same_some : {X : Type 0} (x y : X) → Some x ≡ Some y → x ≡ y
 same_some x y e = cc
@@ -115,21 +115,7 @@ can_turn w a u act b (Some (instr.For k lo hi e)) at h =
     let n = number_there (slot_at act k) _ h in
     record { k = k; lo = lo; hi = hi; e = e; begins = at; number = (n.0, n.1) }
 can_turn w a u act b None at h = cc
-can_turn w a u act b (Some (instr.Lit d n)) at h = cc
-can_turn w a u act b (Some (instr.Copy d x)) at h = cc
-can_turn w a u act b (Some (instr.Add d x y)) at h = cc
-can_turn w a u act b (Some (instr.Sub d x y)) at h = cc
-can_turn w a u act b (Some (instr.Mul d x y)) at h = cc
-can_turn w a u act b (Some (instr.Unless op x y t)) at h = cc
-can_turn w a u act b (Some (instr.Jump t)) at h = cc
-can_turn w a u act b (Some (instr.Next c)) at h = cc
-can_turn w a u act b (Some (instr.Print x)) at h = cc
-can_turn w a u act b (Some (instr.Make d)) at h = cc
-can_turn w a u act b (Some (instr.Resume k)) at h = cc
-can_turn w a u act b (Some (instr.Drop k)) at h = cc
-can_turn w a u act b (Some instr.Advance) at h = cc
-can_turn w a u act b (Some (instr.Spawn t args)) at h = cc
-can_turn w a u act b (Some instr.Ret) at h = cc
+can_turn w a u act b (Some _) at h = cc
 
 -- the instruction at a place of its unit
 pub instruction_there : (m : ModuleValue) (u : UnitValue) (act : Activity) (b : ℕ) → slice_get m.units act.frame.unit ≡ Some u → instruction_at m (record act.frame { place = b }) ≡ slice_get u.code b
@@ -153,6 +139,7 @@ can_carry m w a u act (instr.Next b) found h one =
     can_turn w a u act b (slice_get u.code b) refl (ap (λ o. is_step (turning w a act b o)) (sym (instruction_there m u act b found)) ∙ h)
 can_carry m w a u act (instr.Print x) found h one = let p = number_there (slot_at act x) _ h in (p.0, p.1)
 can_carry m w a u act (instr.Make d) found h one = absurd (false≢true (sym one))
+can_carry m w a u act (instr.Call t args) found h one = absurd (false≢true (sym one))
 can_carry m w a u act (instr.Spawn t args) found h one = absurd (false≢true (sym one))
 can_carry m w a u act (instr.Resume k) found h one = clock_there w a (slot_at act k) _ h
 can_carry m w a u act (instr.Drop k) found h one = clock_there w a (slot_at act k) _ h
@@ -167,6 +154,12 @@ slot_written act d v next lt e go = ap (λ o. put_in o act d v go) (slice_get-ge
 computes_done : (w : World) (a : ℕ) (act : Activity) (f : ℤ → ℤ → ℤ) (d x y : ℕ) (next : Activity) (ch : StepChange) (e : Event) → Computes f act d x y next → IsLocal ch e
     → computing w a act f d x y ≡ done w a next (standing_after_step ch) e
 computes_done w a act f d x y next ch e did is = rw (did.2, did.3, is.0, is.1) (did.4 (λ z. done w a z none event.Local))
+
+-- a `ret` is the definition's
+leaves_done : (w : World) (a : ℕ) (act : Activity) (fs : List Frame) (next : Activity) (ch : StepChange) (e : Event) → Leaves act fs next ch e
+    → returning w a act fs ≡ done w a next (standing_after_step ch) e
+leaves_done w a act [] next ch e did = rw (did.0, did.1, did.2) refl
+leaves_done w a act (f ∷ fs) next ch e did = rw (did.0, did.1.0, did.1.1) refl
 
 -- what it leaves is what the definition gives
 pub carries_done : (m : ModuleValue) (w : World) (a : ℕ) (u : UnitValue) (act : Activity) (i : Instr) (next : Activity) (ch : StepChange) (e : Event) → slice_get m.units act.frame.unit ≡ Some u
@@ -183,13 +176,14 @@ carries_done m w a u act (instr.Next b) next ch e found h did =
     ap (turning w a act b) (instruction_there m u act b found ∙ did.0.begins) ∙ rw (did.0.number, did.0.goes, did.1.0, did.1.1) refl
 carries_done m w a u act (instr.Print x) next ch e found h did = rw (did.1, did.2, did.3, did.4) refl
 carries_done m w a u act (instr.Make d) next ch e found h did = absurd did
+carries_done m w a u act (instr.Call t args) next ch e found h did = absurd did
 carries_done m w a u act (instr.Spawn t args) next ch e found h did = absurd did
 carries_done m w a u act (instr.Resume k) next ch e found h did =
     rw (did.1, did.2, did.3, did.4) (registered_step _ a _ (rw did.1 at h))
 carries_done m w a u act (instr.Drop k) next ch e found h did =
     rw (did.1, did.2, did.3, did.4) (registered_step _ a _ (rw did.1 at h))
 carries_done m w a u act instr.Advance next ch e found h did = rw (did.0, did.1, did.2) refl
-carries_done m w a u act instr.Ret next ch e found h did = rw (did.0, did.1, did.2) refl
+carries_done m w a u act instr.Ret next ch e found h did = leaves_done w a act act.callers next ch e did
 
 -- ---- over the list of activities
 
@@ -297,6 +291,56 @@ spawn_there m w a act unit args u at is h =
     let v = spawn_unit m w a act unit args is h in
     spawning_there m w a act unit args u (slice_get_read m.units (length m.units) unit u refl (slice_get_within m.units unit v.0 v.1) at)
     (read_at w a act (carried_within m w a (instr.Spawn unit args) h) is) h
+
+-- ---- calling a method
+
+-- what a step at a `call` has: as many arguments as the unit has parameters, each in a slot; and what it leads to
+pub record IsCall (m : ModuleValue) (w : World) (a : ℕ) (act : Activity) (unit : ℕ) (args : List ℕ) (u : UnitValue) : Type 0 where
+  pub found : slice_get m.units unit ≡ Some u
+  pub count : length args ≡ length u.params
+  pub slots : All (λ s. s < length act.frame.slots) args
+  pub goes : carried m w a (instr.Call unit args) ≡ done w a (called m act unit (map (value_at act) args)) none event.Local
+
+-- the unit that is called exists
+call_by : (m : ModuleValue) (w : World) (a : ℕ) (act : Activity) (unit : ℕ) (args : List ℕ) (o : Option UnitValue) → slice_get m.units unit ≡ o
+    → is_step (calling m w a act unit args o) ≡ true → (u : UnitValue) × (slice_get m.units unit ≡ Some u)
+call_by m w a act unit args None e h = cc
+call_by m w a act unit args (Some u) e h = (u, e)
+
+call_step : (m : ModuleValue) (w : World) (a : ℕ) (act : Activity) (unit : ℕ) (args : List ℕ) → act ≡ get_or w.activities a act
+    → is_step (carried m w a (instr.Call unit args)) ≡ true → carried m w a (instr.Call unit args) ≡ calling m w a act unit args (slice_get m.units unit)
+call_step m w a act unit args is h = carried_there m w a (instr.Call unit args) act (read_at w a act (carried_within m w a (instr.Call unit args) h) is)
+
+pub call_unit : (m : ModuleValue) (w : World) (a : ℕ) (act : Activity) (unit : ℕ) (args : List ℕ) → act ≡ get_or w.activities a act
+    → is_step (carried m w a (instr.Call unit args)) ≡ true → (u : UnitValue) × (slice_get m.units unit ≡ Some u)
+call_unit m w a act unit args is h = call_by m w a act unit args (slice_get m.units unit) refl (ap is_step (sym (call_step m w a act unit args is h)) ∙ h)
+
+pub call_there : (m : ModuleValue) (w : World) (a : ℕ) (act : Activity) (unit : ℕ) (args : List ℕ) (u : UnitValue) → u ≡ get_or m.units unit u
+    → act ≡ get_or w.activities a act → is_step (carried m w a (instr.Call unit args)) ≡ true → IsCall m w a act unit args u
+call_there m w a act unit args u at is h =
+    let v = call_unit m w a act unit args is h in
+    let found : slice_get m.units unit ≡ Some u = slice_get_read m.units (length m.units) unit u refl (slice_get_within m.units unit v.0 v.1) at in
+    let e : carried m w a (instr.Call unit args) ≡ calling m w a act unit args (Some u) = call_step m w a act unit args is h ∙ ap (calling m w a act unit args) found in
+    let b = body_there (is_method u.kind) (arguments_in w a act u.params args (λ values. done w a (called m act unit values) none event.Local)) (ap is_step (sym e) ∙ h) in
+    let r = arguments_there w a act u.params args (λ values. done w a (called m act unit values) none event.Local) b.1 in
+    record { found = found; count = r.0; slots = r.1; goes = e ∙ b.0 ∙ r.2 }
+
+-- what it leads to, by what the code makes of the activity
+pub call_done : (m : ModuleValue) (w : World) (a : ℕ) (act : Activity) (unit : ℕ) (args : List ℕ) (u : UnitValue) → u ≡ get_or m.units unit u
+    → act ≡ get_or w.activities a act → is_step (carried m w a (instr.Call unit args)) ≡ true
+    → carried m w a (instr.Call unit args) ≡ done w a (called_with act unit (given_slots act args u.slots)) none event.Local
+call_done m w a act unit args u at is h =
+    let s = call_there m w a act unit args u at is h in
+    let size : slots_of m unit ≡ u.slots = ap (λ o. option_map_or (λ x. x.slots) o 0) s.found in
+    s.goes ∙ rw (size, length-map args (value_at act)) refl
+
+-- the unit has room for what it is given
+pub call_fits : (m : ModuleValue) (w : World) (a : ℕ) (act : Activity) (unit : ℕ) (args : List ℕ) (u : UnitValue) → IsWithinLimits m → u ≡ get_or m.units unit u
+    → act ≡ get_or w.activities a act → is_step (carried m w a (instr.Call unit args)) ≡ true → length args ≤ u.slots
+call_fits m w a act unit args u limits at is h =
+    let s = call_there m w a act unit args u at is h in
+    let fits : IsUnitWithinLimits u = rw (sym at) at (limits.each unit u (slice_get_within m.units unit u s.found)) in
+    omega (arith, s.count, fits.params)
 
 -- the world before its clocks settle
 abbrev pub started_world : World → ℕ → Activity → ℕ → List Value → World

@@ -1,17 +1,19 @@
 -- What holds of a core, by the law.
-use Rattle.std.proofs.Common.{◌≡◌, ℕ, ◌+◌, ◌<◌, ◌≤◌, ◌^◌, true, false, List, length, Option, Some, None, Result, Ok, Err, IfOk, OnOk, OnErr, slice_get, slice_index_or, All, arith, refl, sym, ◌∙◌}
+use Rattle.std.proofs.Common.{◌≡◌, ℕ, ◌+◌, ◌<◌, ◌≤◌, ◌^◌, true, false, List, [], ◌∷◌, length, Option, Some, None, Result, Ok, Err, IfOk, OnOk, OnErr, slice_get, slice_index_or, All, arith, refl, sym, ◌∙◌}
 use Rattle.std.proofs.lemmas.Option.{slice_get-get_or, get_or_from_slice_get, slice_get_within}
 use Rattle.xk_types.specs.declared.names.Event.{Event}
 use Rattle.xk_types.specs.declared.names.Status.{Status}
 use Rattle.xk_types.specs.declared.names.Status.TheVariants as status
 use Rattle.xk_types.specs.declared.instr.Instr.{Instr}
 use Rattle.xk_types.specs.Code.{ModuleValue, IsUnitWithinLimits, IsWithinLimits}
-use Rattle.xk_types.specs.World.{Activity, World, opening}
+use Rattle.xk_types.specs.World.{Frame, Activity, World, opening}
 use Rattle.xk_types.specs.Step.{Stepped, carried_out, run_at, passing, step_by, step_of, step}
 use Rattle.xk_types.specs.Schedule.{is_step, is_enabled, all_ended}
 use Rattle.xk_types.specs.Bound.{steps_bound}
 use Rattle.xk_types.specs.Accepted.{IsAccepted}
-use Rattle.xk_laws.proofs.Invariant.{IsSound, IsClockSound}
+use Rattle.std.proofs.lemmas.List.Elements.{All-cons, All-nil}
+use Rattle.xk_types.specs.declared.rules.Kind.{Kind}
+use Rattle.xk_laws.proofs.Invariant.{IsSound, IsClockSound, AreWaiting, looks}
 use Rattle.xk_laws.proofs.Counts.{step_counts, step_keeps_over}
 use Rattle.xk_laws.proofs.Reached.{HasRoom, opening_only, reached_step, reached_sound, reached_room, reached_ends}
 use Rattle.xk_core.specs.Arm.{IsRoomy, IsRunningUnit, carried_by, carried, passing_by, passed_on}
@@ -22,6 +24,14 @@ use Rattle.xk_core.proofs.Ableness.{able_enabled}
 -- what holds of each element, at an element that is there
 all_at : {X : Type 0} (P : X → Type 0) (xs : List X) (i : ℕ) (x : X) → All P xs → slice_get xs i ≡ Some x → P x
 all_at P xs i x h e = rw (get_or_from_slice_get xs i x x e) at (h i x (slice_get_within xs i x e))
+
+-- each frame that waits stands at a place of its unit
+waiting_places : (m : ModuleValue) (look : ℕ → Kind) (st : Status) (clocks : ℕ) (g : Frame) (fs : List Frame) → IsWithinLimits m → AreWaiting m look st clocks g fs
+    → All (λ f. f.place + 1 < 2 ^ 16) fs
+waiting_places m look st clocks g [] limits w = All-nil (λ f. f.place + 1 < 2 ^ 16)
+waiting_places m look st clocks g (f ∷ fs) limits w =
+    let u = all_at IsUnitWithinLimits m.units f.unit w.0.u limits.each w.0.found in
+    All-cons (λ x. x.place + 1 < 2 ^ 16) f fs (omega (arith, w.0.frame.place, u.code)) (waiting_places m look st clocks f fs limits w.1)
 
 -- one more of each number fits its type
 roomy : (m : ModuleValue) (w : World) (a : ℕ) → IsWithinLimits m → IsAccepted m → IsSound m w → HasRoom m w → IsRoomy w a
@@ -35,6 +45,7 @@ roomy m w a limits accepted sound room = record {
       let s = sound.activities a act there in
       let u = all_at IsUnitWithinLimits m.units act.frame.unit s.u limits.each s.unit in
       omega (arith, s.frame.place, u.code);
+  callers = λ act there. (let s = sound.activities a act there in waiting_places m (looks w.clocks a) act.status (length w.clocks) act.frame act.callers limits s.waiting);
   standings = λ k d lt. (sound.clocks k _ (slice_get-get_or w.clocks k d lt)).width;
 }
 

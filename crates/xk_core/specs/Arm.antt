@@ -1,5 +1,5 @@
 -- What an instruction does to its own activity, and what a step owes to the machine's number types.
-use Rattle.std.specs.Prelude.{◌≡◌, ℕ, ℤ, ◌+◌, ◌<◌, ◌^◌, Bool, true, false, Option, Some, None, length, slice_get, slice_index_or, All, int_lt, if◌then◌else◌}
+use Rattle.std.specs.Prelude.{◌≡◌, ℕ, ℤ, ◌+◌, ◌<◌, ◌^◌, Bool, true, false, List, [], ◌∷◌, Option, Some, None, length, slice_get, slice_index_or, All, int_lt, if◌then◌else◌}
 use Rattle.std.specs.Int.{w64, int_wrapping_add, int_wrapping_sub, int_wrapping_mul}
 use Rattle.xk_types.specs.declared.instr.Instr.{Instr}
 use Rattle.xk_types.specs.declared.instr.Instr.TheVariants as instr
@@ -8,8 +8,8 @@ use Rattle.xk_types.specs.declared.names.Value.TheVariants as value
 use Rattle.xk_types.specs.declared.names.Event.{Event}
 use Rattle.xk_types.specs.declared.names.Event.TheVariants as event
 use Rattle.xk_types.specs.Code.{UnitValue, ModuleValue, compares}
-use Rattle.xk_types.specs.World.{Activity, World}
-use Rattle.xk_types.specs.Step.{Outcome, Blocked, carried_out, passing, slot_at, writing, onward, going, again, arrived, ended}
+use Rattle.xk_types.specs.World.{Frame, Activity, World}
+use Rattle.xk_types.specs.Step.{Outcome, Blocked, carried_out, passing, slot_at, writing, onward, going, again, back_in, arrived, ended}
 use Rattle.xk_core.specs.declared.change.StandingChange.TheVariants as standing_change
 use Rattle.xk_core.specs.declared.change.StepChange.{StepChange}
 use Rattle.xk_core.specs.declared.change.StepChange.TheVariants as step_change
@@ -25,9 +25,10 @@ IsClockAt act s = (c : ℕ) × (slot_at act s ≡ Some (value.Clock c))
 abbrev pub value_at : Activity → ℕ → Value
 value_at act s = slice_index_or act.frame.slots s value.Unset
 
--- the instruction adds a clock or an activity, for which memory is wanted
+-- the instruction adds a clock, a frame or an activity, for which memory is wanted
 abbrev pub grows : Instr → Bool
 grows (instr.Make d) = true
+grows (instr.Call t args) = true
 grows (instr.Spawn t args) = true
 grows _ = false
 
@@ -60,6 +61,7 @@ CanCarry u act (instr.Make d) = ⊥
 CanCarry u act (instr.Resume k) = IsClockAt act k
 CanCarry u act (instr.Drop k) = IsClockAt act k
 CanCarry u act instr.Advance = Unit {0}
+CanCarry u act (instr.Call t args) = ⊥
 CanCarry u act (instr.Spawn t args) = ⊥
 CanCarry u act instr.Ret = Unit {0}
 
@@ -87,6 +89,11 @@ pub record Turned (u : UnitValue) (act : Activity) (b : ℕ) (next : Activity) :
   pub number : slot_at act k ≡ Some (value.Number n)
   pub goes : next ≡ (if int_lt n hi then again act b k n else onward act)
 
+-- a `ret`, by the frames that wait: it is over, or goes back behind the last `call`
+abbrev pub Leaves : Activity → List Frame → Activity → StepChange → Event → Type 0
+Leaves act [] next ch e = (next ≡ ended act) × (ch ≡ step_change.All standing_change.Drop) × (e ≡ event.Ended)
+Leaves act (f ∷ fs) next ch e = (next ≡ back_in act f fs) × IsLocal ch e
+
 -- The instruction leaves the activity, which runs unit u, so, changes its standings so, and is seen so.
 abbrev pub Carries : UnitValue → Activity → Instr → Activity → StepChange → Event → Type 0
 Carries u act (instr.Lit d n) next ch e = Writes act d (value.Number n) next × IsLocal ch e
@@ -107,9 +114,10 @@ Carries u act (instr.Resume k) next ch e =
     (c : ℕ) × (slot_at act k ≡ Some (value.Clock c)) × (next ≡ onward act) × (ch ≡ step_change.Only c standing_change.Resume) × (e ≡ event.Resumed)
 Carries u act (instr.Drop k) next ch e =
     (c : ℕ) × (slot_at act k ≡ Some (value.Clock c)) × (next ≡ onward act) × (ch ≡ step_change.Only c standing_change.Drop) × (e ≡ event.Dropped)
+Carries u act (instr.Call t args) next ch e = ⊥
 Carries u act (instr.Spawn t args) next ch e = ⊥
 Carries u act instr.Advance next ch e = (next ≡ arrived act) × (ch ≡ step_change.All standing_change.Resume) × (e ≡ event.Arrived)
-Carries u act instr.Ret next ch e = (next ≡ ended act) × (ch ≡ step_change.All standing_change.Drop) × (e ≡ event.Ended)
+Carries u act instr.Ret next ch e = Leaves act act.callers next ch e
 
 abbrev pub carried_by : ModuleValue → World → ℕ → Instr → Option Activity → Outcome
 carried_by m w a i None = Blocked
@@ -133,6 +141,7 @@ pub record IsRoomy (w : World) (a : ℕ) : Type 0 where
   pub phases : All (λ c. c.phase + 1 < 2 ^ 64) w.clocks
   pub clocks : length w.clocks + 1 < 2 ^ 32
   pub place : (act : Activity) → slice_get w.activities a ≡ Some act → act.frame.place + 1 < 2 ^ 16
+  pub callers : (act : Activity) → slice_get w.activities a ≡ Some act → All (λ f. f.place + 1 < 2 ^ 16) act.callers
   pub standings : All (λ c. length c.standings ≡ length w.activities) w.clocks
 
 -- the activity runs a unit of the module, each of whose places fits its type

@@ -1,5 +1,5 @@
--- How an activity is started, and how the clocks take it in, one after the other, and put it out again.
-use Rattle.std.specs.Prelude.{ℕ, ◌-◌, Bool, List, [], ◌++◌, length, map, replicate, take, drop}
+-- How an activity is started, or calls a method, and how the clocks take it in, one after the other, and put it out again.
+use Rattle.std.specs.Prelude.{ℕ, ◌-◌, Bool, List, [], ◌∷◌, ◌++◌, length, map, replicate, take, drop}
 use Rattle.xk_types.specs.declared.names.Value.{Value}
 use Rattle.xk_types.specs.declared.names.Value.TheVariants as value
 use Rattle.xk_types.specs.declared.names.Status.TheVariants as status
@@ -21,6 +21,10 @@ started a act unit slots = record {
   opened = 0;
   governed = governing a act;
 }
+
+-- the activity after it has called a unit with these slots
+abbrev pub called_with : Activity → ℕ → List Value → Activity
+called_with act unit slots = record act { frame = record { unit = unit; place = 0; slots = slots }; callers = act.frame ∷ act.callers }
 
 -- without the activity of the greatest number
 abbrev pub left_by_last : Clock → Clock

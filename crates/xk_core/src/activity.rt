@@ -1,6 +1,6 @@
 //! An activity: its frame, and how it stands.
 
-ghost use Rattle.std.specs.Prelude.{◌≡◌, ℕ, ℤ, ◌+◌, ◌<◌, ◌≤◌, ◌^◌, length, map, Some, slice_set, All, IfOk};
+ghost use Rattle.std.specs.Prelude.{◌≡◌, ℕ, ℤ, ◌+◌, ◌<◌, ◌≤◌, ◌^◌, length, map, Some, slice_set, All, IfOk, OnOk, OnErr};
 ghost use Rattle.xk_types.specs.declared.names.Value.TheVariants as value;
 ghost use Rattle.xk_types.specs.declared.instr.Instr.TheVariants as instruction;
 ghost use Rattle.xk_types.specs.Code.{UnitValue};
@@ -8,12 +8,13 @@ ghost use Rattle.xk_types.specs.Step.{slot_at, onward, going, with_slots, arrive
 ghost use Rattle.xk_types.specs.Schedule.{is_ended};
 ghost use Rattle.xk_core.specs.declared.change.StepChange.TheVariants as step_change;
 ghost use Rattle.xk_types.specs.declared.names.Event.TheVariants as event;
-ghost use Rattle.xk_core.specs.Joining.{started, given_slots};
-ghost use Rattle.xk_core.specs.Arm.{value_at, IsClockAt, AreNumbersAt, IsTurnAt, CanCarry, Writes, IsLocal, Turned, Carries};
+ghost use Rattle.xk_core.specs.Joining.{started, called_with, given_slots};
+ghost use Rattle.xk_core.specs.Arm.{value_at, IsClockAt, AreNumbersAt, IsTurnAt, CanCarry, Writes, IsLocal, Turned, Leaves, Carries};
 
 use crate::change::{StandingChange, StepChange};
 use std::alloc::{AllocError, Global};
 use std::marker::Model;
+use std::mem;
 use xk_types::{ClockId, Comparison, Event, Instr, Status, Unit, Value};
 
 /// A unit in progress: the instruction that it stands at, and its slots.
@@ -45,21 +46,23 @@ impl Frame {
     }
 }
 
-/// An activity. In this machine it has one frame, and no finish but the one that governs main.
+/// An activity. In this machine it has no finish but the one that governs main.
 #[derive(Drop)]
 pub struct Activity {
     frame: Frame,
+    /// The frames that wait at a `call`, the one that has waited longest first.
+    callers: Vec<Frame>,
     status: Status,
     since: u64,
 }
 
 impl Model for Activity {
-    ghost use Rattle.std.specs.Prelude.{[]};
+    ghost use Rattle.std.specs.Prelude.{reverse};
     ghost use Rattle.xk_types.specs.World as world;
 
     ghost Value = { world.Activity };
 
-    ghost view = { λ a. record { frame = a.frame; callers = []; status = a.status; since = a.since; opened = 0; governed = world.root } };
+    ghost view = { λ a. record { frame = a.frame; callers = reverse a.callers.items; status = a.status; since = a.since; opened = 0; governed = world.root } };
 }
 
 impl Activity {
@@ -68,11 +71,12 @@ impl Activity {
     ghost use Rattle.xk_types.specs.declared.names.Status.TheVariants as status;
 
     /// An activity before its first step.
-    pub fn new(frame: Frame, since: u64) -> Activity
+    pub fn new(alloc: Global, frame: Frame, since: u64) -> Activity
         ensures { result ≡ record { frame = frame; callers = []; status = status.Running; since = since; opened = 0; governed = root } }
     {
         Activity {
             frame,
+            callers: Vec::new(alloc),
             status: Status::Running,
             since,
         }
@@ -161,7 +165,29 @@ impl Activity {
     {
         let mut slots = self.values(alloc, args)?;
         slots.resize(size as usize, Value::Unset)?;
-        Ok(Activity::new(Frame::new(unit, slots), self.since))
+        Ok(Activity::new(alloc, Frame::new(unit, slots), self.since))
+    }
+
+    /// Runs a unit that has this many slots, the first of them given the values of these slots, and waits for it at its `call`.
+    /// Where memory is refused nothing changes.
+    pub fn call(
+        &mut self,
+        alloc: Global,
+        unit: u16,
+        args: &[u16],
+        size: u16,
+    ) -> Result<(), AllocError>
+        requires slots { All (λ s. s < length self.old.frame.slots) args.now }
+        requires fits { length args.now ≤ size }
+        ensures called { OnOk result (self.new ≡ called_with self.old unit (given_slots self.old args.now size)) }
+        ensures refused { OnErr result (self.new ≡ self.old) }
+    {
+        let mut slots = self.values(alloc, args)?;
+        slots.resize(size as usize, Value::Unset)?;
+        self.callers.try_reserve(1)?;
+        let waiting = mem::replace(&mut self.frame, Frame::new(unit, slots));
+        self.callers.push(waiting)?;
+        Ok(())
     }
 
     /// Its slots.
@@ -225,6 +251,7 @@ impl Activity {
         requires place { self.old.frame.place + 1 < 2 ^ 16 }
         requires short { length unit.now.code < 2 ^ 16 }
         requires operands { CanCarry unit.now self.old instr.now }
+        requires callers { All (λ f. f.place + 1 < 2 ^ 16) self.old.callers }
         ensures { Carries unit.now self.old instr.now self.new result.0 result.1 }
     {
         match instr {
@@ -246,6 +273,7 @@ impl Activity {
                 (StepChange::Nothing, Event::Printed(n))
             }
             Instr::Make(_) => unreachable!(),
+            Instr::Call(_, _) => unreachable!(),
             Instr::Spawn(_, _) => unreachable!(),
             Instr::Resume(k) => (self.operate(*k, StandingChange::Resume), Event::Resumed),
             Instr::Drop(k) => (self.operate(*k, StandingChange::Drop), Event::Dropped),
@@ -253,7 +281,22 @@ impl Activity {
                 self.arrive();
                 (StepChange::All(StandingChange::Resume), Event::Arrived)
             }
-            Instr::Ret => {
+            Instr::Ret => self.leave(),
+        }
+    }
+
+    /// Goes back into the frame that waits, behind its `call`, or is over where none does.
+    fn leave(&mut self) -> (StepChange, Event)
+        requires { All (λ f. f.place + 1 < 2 ^ 16) self.old.callers }
+        ensures { Leaves self.old self.old.callers self.new result.0 result.1 }
+    {
+        match self.callers.pop() {
+            Some(waiting) => {
+                self.frame = waiting;
+                self.frame.place += 1;
+                (StepChange::Nothing, Event::Local)
+            }
+            None => {
                 self.end();
                 (StepChange::All(StandingChange::Drop), Event::Ended)
             }

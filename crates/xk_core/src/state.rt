@@ -138,8 +138,8 @@ impl State {
         self.settle();
     }
 
-    /// Activity a carries out an instruction of this module. Only the making of a clock and the start of an activity want
-    /// memory; where that is refused nothing changes.
+    /// Activity a carries out an instruction of this module. Only the making of a clock, a call and the start of an activity
+    /// want memory; where that is refused nothing changes.
     pub fn carry_out(
         &mut self,
         program: &Module,
@@ -155,6 +155,7 @@ impl State {
     {
         match instr {
             Instr::Make(d) => self.make(program, a, *d),
+            Instr::Call(unit, args) => self.call(program, a, *unit, args.slots()),
             Instr::Spawn(unit, args) => self.spawn(program, a, *unit, args.slots()),
             _ => Ok(self.carry_alone(program, a, instr)),
         }
@@ -189,6 +190,28 @@ impl State {
         act.put(d, Value::Clock(name));
         self.settle();
         Ok(Event::Made)
+    }
+
+    /// Activity a calls this unit with the values of these slots. Where memory is refused nothing changes.
+    fn call(
+        &mut self,
+        program: &Module,
+        a: usize,
+        unit: u16,
+        args: &[u16],
+    ) -> Result<Event, AllocError>
+        requires enabled { is_step (carried program.now self.old a (instruction.Call unit args.now)) ≡ true }
+        requires room { IsRoomy self.old a }
+        ensures called { IfOk result (λ e. carried program.now self.old a (instruction.Call unit args.now) ≡ Stepped self.new e) }
+        ensures refused { OnErr result (self.new ≡ self.old) }
+    {
+        let alloc = *self.activities.allocator();
+        let method = &program.units()[unit as usize];
+        let size = method.slots;
+        let act = &mut self.activities[a];
+        act.call(alloc, unit, args, size)?;
+        self.end_step(a, StepChange::Nothing);
+        Ok(Event::Local)
     }
 
     /// Activity a starts one that runs this unit with the values of these slots. Where memory is refused nothing changes.
@@ -237,7 +260,7 @@ impl State {
     {
         let slots = vec![in alloc; Value::Unset; slots as usize]?;
         let mut activities = Vec::new(alloc);
-        activities.push(Activity::new(Frame::new(0, slots), 0))?;
+        activities.push(Activity::new(alloc, Frame::new(0, slots), 0))?;
         Ok(State {
             activities,
             clocks: Vec::new(alloc),

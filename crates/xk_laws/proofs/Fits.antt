@@ -1,5 +1,5 @@
 -- What the shape of an accepted module gives: its units fit, and what they start.
-use Rattle.std.proofs.Common.{◌≡◌, ℕ, zero, suc, ◌+◌, ◌<◌, Bool, true, false, not, ◌==◌, ◌||◌, ◌&&◌, List, [], length, Some, None, Option, refl, sym, ap, ◌∙◌, subst, arith, ltb-true, eqb-true}
+use Rattle.std.proofs.Common.{◌≡◌, ℕ, zero, suc, ◌+◌, ◌<◌, Bool, true, false, not, ◌==◌, ◌||◌, ◌&&◌, List, [], length, Some, None, Option, refl, sym, ap, ◌∙◌, subst, arith, ◌≤◌, ltb-true, ltb-false, eqb-true}
 use Rattle.std.specs.Prelude.{slice_get, nat_lt}
 use Rattle.std.specs.List.{list_all}
 use Rattle.std.specs.Option.{option_map_or}
@@ -11,9 +11,10 @@ use Rattle.xk_types.specs.declared.instr.Instr.{Instr}
 use Rattle.xk_types.specs.declared.instr.Instr.TheVariants as instr
 use Rattle.xk_types.specs.declared.rules.Rule.{Rule}
 use Rattle.xk_types.specs.declared.rules.Rule.TheVariants as rule
-use Rattle.xk_types.specs.Code.{UnitValue, ModuleValue, is_body, params_of, unit_started}
+use Rattle.xk_types.specs.declared.unit.UnitKind.{UnitKind}
+use Rattle.xk_types.specs.Code.{UnitValue, ModuleValue, is_method, is_body, params_of, clock_arguments, unit_called, unit_run}
 use Rattle.xk_types.specs.Order.{Has}
-use Rattle.xk_types.specs.Shape.{slots_named, is_ret, instr_is, is_in_place, is_startable, starts_amiss, clock_arguments, has_twice, gives_twice, breaks_unit_of, breaks_in, breaks_end, HasShape}
+use Rattle.xk_types.specs.Shape.{slots_named, is_ret, instr_is, is_in_place, is_fitting, runs_amiss, takes_clock, mishandles, has_twice, gives_twice, breaks_unit_of, breaks_in, breaks_end, HasShape}
 
 -- a unit that fits
 pub record IsFit (u : UnitValue) : Type 0 where
@@ -25,6 +26,10 @@ pub record IsFit (u : UnitValue) : Type 0 where
   pub loops : AreLoops u
   -- behind each instruction but `ret` stands another
   pub next : (i : Instr) (at : ℕ) → slice_get u.code at ≡ Some i → is_ret i ≡ false → at + 1 < length u.code
+  -- no parameter is made
+  pub unmade : (d at : ℕ) → slice_get u.code at ≡ Some (instr.Make d) → length u.params ≤ d
+  -- a method drops no clock that it was lent
+  pub undropped : (k at : ℕ) → slice_get u.code at ≡ Some (instr.Drop k) → is_method u.kind ≡ true → takes_clock (slice_get u.params k) ≡ false
 
 -- no place of a known unit breaks a rule
 pub unbroken : (m : ModuleValue) → HasShape m → (r : Rule) (unit : ℕ) (u : UnitValue) → slice_get m.units unit ≡ Some u → (at : ℕ) → breaks_in m r unit u at ≡ false
@@ -57,8 +62,13 @@ unit_fits m shape unit u found = record {
   loops = are_loops u (unbroken m shape rule.Target unit u found) (unbroken m shape rule.Block unit u found) (unbroken m shape rule.Loop unit u found);
   next = λ i at here other. next_below at (length u.code) (slice_get_within u.code at i here)
       (rw other at (ap (instr_is (last_but_ret u at)) (sym here) ∙ (ends_well u at (end_ok at)).0));
+  unmade = λ d at here. ltb-false d (length u.params) (ap (instr_is (mishandles u)) (sym here) ∙ home_ok at);
+  undropped = λ k at here method. rw method at (ap (instr_is (mishandles u)) (sym here) ∙ home_ok at);
 }
   where
+    home_ok : (at : ℕ) → breaks_in m rule.Home unit u at ≡ false
+    home_ok at = unbroken m shape rule.Home unit u found at
+
     slots_ok : (at : ℕ) → breaks_in m rule.Slot unit u at ≡ false
     slots_ok at = unbroken m shape rule.Slot unit u found at
 
@@ -69,63 +79,63 @@ unit_fits m shape unit u found = record {
     go zero e = absurd (grind arith)
     go (suc n) e = omega arith
 
--- ---- what a unit starts
+-- ---- what a unit calls or starts
 
--- unit number `unit` may start unit t with these arguments
-pub record IsStart (m : ModuleValue) (unit t : ℕ) (args : List ℕ) : Type 0 where
+-- unit number `unit` may run unit t, of such a kind, with these arguments
+pub record IsRun (kind : UnitKind → Bool) (m : ModuleValue) (unit t : ℕ) (args : List ℕ) : Type 0 where
   pub v : UnitValue
   pub found : slice_get m.units t ≡ Some v
-  pub body : is_body v.kind ≡ true
+  pub fits : kind v.kind ≡ true
   pub later : unit < t
   pub count : length args ≡ length v.params
   -- no slot is handed on twice as a clock
   pub once : has_twice (clock_arguments v.params args) ≡ false
 
--- the two rules on what is started, in parts
-start_parts : (m : ModuleValue) (unit t : ℕ) (args : List ℕ) → is_startable unit t args (slice_get m.units t) ≡ true → has_twice (clock_arguments (params_of m t) args) ≡ false
-    → IsStart m unit t args
-start_parts m unit t args fits once = go (slice_get m.units t) refl fits
+-- the two rules on what is called or started, in parts
+run_parts : (kind : UnitKind → Bool) (m : ModuleValue) (unit t : ℕ) (args : List ℕ) → is_fitting kind unit t args (slice_get m.units t) ≡ true
+    → has_twice (clock_arguments (params_of m t) args) ≡ false → IsRun kind m unit t args
+run_parts kind m unit t args fits once = go (slice_get m.units t) refl fits
   where
-    go : (o : Option UnitValue) → slice_get m.units t ≡ o → is_startable unit t args o ≡ true → IsStart m unit t args
+    go : (o : Option UnitValue) → slice_get m.units t ≡ o → is_fitting kind unit t args o ≡ true → IsRun kind m unit t args
     go None e h = absurd (false≢true h)
     go (Some v) e h =
-        let p = and_parts (is_body v.kind && nat_lt unit t) (length args == length v.params) h in
-        let q = and_parts (is_body v.kind) (nat_lt unit t) p.0 in
+        let p = and_parts (kind v.kind && nat_lt unit t) (length args == length v.params) h in
+        let q = and_parts (kind v.kind) (nat_lt unit t) p.0 in
         record {
           v = v;
           found = e;
-          body = q.0;
+          fits = q.0;
           later = ltb-true unit t q.1;
           count = eqb-true (length args) (length v.params) p.1;
           once = subst (λ ps. has_twice (clock_arguments ps args) ≡ false) (ap (λ o. option_map_or (λ u. u.params) o []) e) once;
         }
 
--- what a `spawn` of a unit of a module with the shape starts
-pub start_fits : (m : ModuleValue) → HasShape m → (unit : ℕ) (u : UnitValue) → slice_get m.units unit ≡ Some u
-    → (t : ℕ) (args : List ℕ) (at : ℕ) → slice_get u.code at ≡ Some (instr.Spawn t args) → IsStart m unit t args
-start_fits m shape unit u found t args at here = start_parts m unit t args
-    (not-false (is_startable unit t args (slice_get m.units t)) (ap (instr_is (starts_amiss m unit)) (sym here) ∙ rule_ok.1))
-    (ap (instr_is (gives_twice m)) (sym here) ∙ unbroken m shape rule.SameClock unit u found at)
-  where
-    rule_ok : (((at == 0) && not (is_in_place unit u)) ≡ false) × (instr_is (starts_amiss m unit) (slice_get u.code at) ≡ false)
-    rule_ok = or_parts ((at == 0) && not (is_in_place unit u)) (instr_is (starts_amiss m unit) (slice_get u.code at)) (unbroken m shape rule.Unit unit u found at)
+module _ (m : ModuleValue) (shape : HasShape m) (unit : ℕ) (u : UnitValue) (found : slice_get m.units unit ≡ Some u) where
+  -- the instruction at a place runs nothing amiss, and gives no clock twice
+  run_ok : (i : Instr) (at : ℕ) → slice_get u.code at ≡ Some i → (runs_amiss m unit i ≡ false) × (gives_twice m i ≡ false)
+  run_ok i at here =
+      let h = or_parts ((at == 0) && not (is_in_place unit u)) (instr_is (runs_amiss m unit) (slice_get u.code at)) (unbroken m shape rule.Unit unit u found at) in
+      (ap (instr_is (runs_amiss m unit)) (sym here) ∙ h.1, ap (instr_is (gives_twice m)) (sym here) ∙ unbroken m shape rule.SameClock unit u found at)
 
--- what an instruction starts has a greater number
-pub started_later : (m : ModuleValue) → HasShape m → (unit : ℕ) (u : UnitValue) → slice_get m.units unit ≡ Some u
-    → (i : Instr) (at : ℕ) → slice_get u.code at ≡ Some i → (t : ℕ) → unit_started i ≡ Some t → unit < t
-started_later m shape unit u found (instr.Spawn x args) at here t e = subst (λ k. unit < k) (same_Some x t e) (start_fits m shape unit u found x args at here).later
-started_later m shape unit u found (instr.Lit d n) at here t e = absurd (none-some t e)
-started_later m shape unit u found (instr.Copy d x) at here t e = absurd (none-some t e)
-started_later m shape unit u found (instr.Add d x y) at here t e = absurd (none-some t e)
-started_later m shape unit u found (instr.Sub d x y) at here t e = absurd (none-some t e)
-started_later m shape unit u found (instr.Mul d x y) at here t e = absurd (none-some t e)
-started_later m shape unit u found (instr.Unless op x y g) at here t e = absurd (none-some t e)
-started_later m shape unit u found (instr.Jump g) at here t e = absurd (none-some t e)
-started_later m shape unit u found (instr.For k lo hi g) at here t e = absurd (none-some t e)
-started_later m shape unit u found (instr.Next b) at here t e = absurd (none-some t e)
-started_later m shape unit u found (instr.Print x) at here t e = absurd (none-some t e)
-started_later m shape unit u found (instr.Make d) at here t e = absurd (none-some t e)
-started_later m shape unit u found (instr.Resume c) at here t e = absurd (none-some t e)
-started_later m shape unit u found (instr.Drop c) at here t e = absurd (none-some t e)
-started_later m shape unit u found instr.Advance at here t e = absurd (none-some t e)
-started_later m shape unit u found instr.Ret at here t e = absurd (none-some t e)
+  -- what a `spawn` of a unit of a module with the shape starts
+  pub start_fits : (t : ℕ) (args : List ℕ) (at : ℕ) → slice_get u.code at ≡ Some (instr.Spawn t args) → IsRun is_body m unit t args
+  start_fits t args at here =
+      let h = run_ok (instr.Spawn t args) at here in
+      run_parts is_body m unit t args (not-false (is_fitting is_body unit t args (slice_get m.units t)) h.0) h.1
+
+  -- what a `call` calls
+  pub call_fits : (t : ℕ) (args : List ℕ) (at : ℕ) → slice_get u.code at ≡ Some (instr.Call t args) → IsRun is_method m unit t args
+  call_fits t args at here =
+      let h = run_ok (instr.Call t args) at here in
+      run_parts is_method m unit t args (not-false (is_fitting is_method unit t args (slice_get m.units t)) h.0) h.1
+
+  -- what an instruction runs has a greater number
+  pub run_later : (i : Instr) (at : ℕ) → slice_get u.code at ≡ Some i → (t : ℕ) → unit_run i ≡ Some t → unit < t
+  run_later (instr.Call x args) at here t e = subst (λ k. unit < k) (same_Some x t e) (call_fits x args at here).later
+  run_later (instr.Spawn x args) at here t e = subst (λ k. unit < k) (same_Some x t e) (start_fits x args at here).later
+  run_later _ at here t e = absurd (none-some t e)
+
+  -- and what it calls too
+  pub called_later : (i : Instr) (at : ℕ) → slice_get u.code at ≡ Some i → (t : ℕ) → unit_called i ≡ Some t → unit < t
+  called_later (instr.Call x args) at here t e = subst (λ k. unit < k) (same_Some x t e) (call_fits x args at here).later
+  called_later _ at here t e = absurd (none-some t e)

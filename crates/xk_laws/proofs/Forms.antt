@@ -10,11 +10,12 @@ use Rattle.xk_types.specs.declared.names.Standing.{Standing}
 use Rattle.xk_types.specs.declared.names.Status.{Status}
 use Rattle.xk_types.specs.declared.names.Status.TheVariants as status
 use Rattle.xk_types.specs.declared.names.Event.{Event}
+use Rattle.xk_types.specs.declared.names.Event.TheVariants as event
 use Rattle.xk_types.specs.declared.unit.ParamKind.{ParamKind}
 use Rattle.xk_types.specs.declared.unit.ParamKind.TheVariants as param
-use Rattle.xk_types.specs.Code.{UnitValue, ModuleValue, is_body}
-use Rattle.xk_types.specs.World.{Activity, Clock, World, standing_of, instruction_at}
-use Rattle.xk_types.specs.Step.{Cause, Outcome, Blocked, Wrong, ClockUse, OutOfRange, is_registered, number_in, clock_in, registered_on, put_in, slot_at, arguments_in, computing, turning, spawned, spawning, carried_out, run_at, done, made, waits, passing, step_by, step_of, step}
+use Rattle.xk_types.specs.Code.{UnitValue, ModuleValue, is_method, is_body}
+use Rattle.xk_types.specs.World.{Frame, Activity, Clock, World, standing_of, instruction_at}
+use Rattle.xk_types.specs.Step.{Cause, Outcome, Blocked, Wrong, ClockUse, OutOfRange, is_registered, number_in, clock_in, registered_on, put_in, slot_at, arguments_in, computing, turning, spawned, spawning, carried_out, run_at, done, made, waits, passing, step_by, step_of, step, called, calling, returning, none}
 use Rattle.xk_types.specs.Schedule.{is_ended}
 
 -- What holds of a blocked step, of each wrong one, and of the three forms: one that changes activity a and where it stands, one
@@ -87,21 +88,23 @@ turning_form : (P : Outcome → Type 0) (m : ModuleValue) (w : World) (a : ℕ) 
     → is_ended act.status ≡ false → P (turning w a act b o)
 turning_form P m w a f act b (Some (instr.For k lo hi e)) at alive = number_form P f.wrong (slot_at act k) _ (λ n. f.done act _ _ _ at alive)
 turning_form P m w a f act b None at alive = f.wrong _
-turning_form P m w a f act b (Some (instr.Lit d n)) at alive = f.wrong _
-turning_form P m w a f act b (Some (instr.Copy d x)) at alive = f.wrong _
-turning_form P m w a f act b (Some (instr.Add d x y)) at alive = f.wrong _
-turning_form P m w a f act b (Some (instr.Sub d x y)) at alive = f.wrong _
-turning_form P m w a f act b (Some (instr.Mul d x y)) at alive = f.wrong _
-turning_form P m w a f act b (Some (instr.Unless op x y t)) at alive = f.wrong _
-turning_form P m w a f act b (Some (instr.Jump t)) at alive = f.wrong _
-turning_form P m w a f act b (Some (instr.Next c)) at alive = f.wrong _
-turning_form P m w a f act b (Some (instr.Print x)) at alive = f.wrong _
-turning_form P m w a f act b (Some (instr.Make k)) at alive = f.wrong _
-turning_form P m w a f act b (Some (instr.Resume k)) at alive = f.wrong _
-turning_form P m w a f act b (Some (instr.Drop k)) at alive = f.wrong _
-turning_form P m w a f act b (Some instr.Advance) at alive = f.wrong _
-turning_form P m w a f act b (Some (instr.Spawn t args)) at alive = f.wrong _
-turning_form P m w a f act b (Some instr.Ret) at alive = f.wrong _
+turning_form P m w a f act b (Some _) at alive = f.wrong _
+
+-- where a method is called
+calling_form : (P : Outcome → Type 0) (m : ModuleValue) (w : World) (a : ℕ) → HoldsOfForms P m w a → (act : Activity) (t : ℕ) (args : List ℕ) (o : Option UnitValue) → slice_get w.activities a ≡ Some act
+    → is_ended act.status ≡ false → P (calling m w a act t args o)
+calling_form P m w a f act t args None at alive = f.wrong _
+calling_form P m w a f act t args (Some u) at alive = cases (is_method u.kind)
+  where
+    cases : (b : Bool) → P (cond b (arguments_in w a act u.params args (λ values. done w a (called m act t values) none event.Local)) (Wrong OutOfRange))
+    cases true = arguments_form P f.wrong w a act u.params args _ (λ values. f.done act _ _ _ at alive)
+    cases false = f.wrong _
+
+-- where a unit ends
+returning_form : (P : Outcome → Type 0) (m : ModuleValue) (w : World) (a : ℕ) → HoldsOfForms P m w a → (act : Activity) (fs : List Frame) → slice_get w.activities a ≡ Some act
+    → is_ended act.status ≡ false → P (returning w a act fs)
+returning_form P m w a f act [] at alive = f.done act _ _ _ at alive
+returning_form P m w a f act (g ∷ fs) at alive = f.done act _ _ _ at alive
 
 -- each instruction
 instruction_form : (P : Outcome → Type 0) (m : ModuleValue) (w : World) (a : ℕ) → HoldsOfForms P m w a → (act : Activity) (i : Instr) → slice_get w.activities a ≡ Some act
@@ -122,7 +125,8 @@ instruction_form P m w a f act (instr.Resume k) at alive = clock_form P f.wrong 
 instruction_form P m w a f act (instr.Drop k) at alive = clock_form P f.wrong w a (slot_at act k) _ (λ c. f.done act _ _ _ at alive)
 instruction_form P m w a f act instr.Advance at alive = f.done act _ _ _ at alive
 instruction_form P m w a f act (instr.Spawn t args) at alive = spawning_form P f.wrong m w a act t args (slice_get m.units t) (λ values. f.spawned act t values at alive)
-instruction_form P m w a f act instr.Ret at alive = f.done act _ _ _ at alive
+instruction_form P m w a f act (instr.Call t args) at alive = calling_form P m w a f act t args (slice_get m.units t) at alive
+instruction_form P m w a f act instr.Ret at alive = returning_form P m w a f act act.callers at alive
 
 run_form : (P : Outcome → Type 0) (m : ModuleValue) (w : World) (a : ℕ) → HoldsOfForms P m w a → (act : Activity) (o : Option Instr) → slice_get w.activities a ≡ Some act
     → is_ended act.status ≡ false → P (run_at m w a act o)

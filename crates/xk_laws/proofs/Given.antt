@@ -14,13 +14,15 @@ use Rattle.xk_types.specs.declared.names.Standing.TheVariants as standing
 use Rattle.xk_types.specs.declared.unit.ParamKind.{ParamKind}
 use Rattle.xk_types.specs.declared.unit.ParamKind.TheVariants as param
 use Rattle.xk_types.specs.declared.rules.Kind.{Kind}
-use Rattle.xk_types.specs.Code.{UnitValue, ModuleValue, IsUnitWithinLimits, IsWithinLimits}
+use Rattle.xk_types.specs.Code.{UnitValue, ModuleValue, clock_arguments, IsUnitWithinLimits, IsWithinLimits}
 use Rattle.xk_types.specs.Order.{Has}
-use Rattle.xk_types.specs.World.{Activity, root, slots_of}
+use Rattle.xk_types.specs.World.{Frame, Activity, root, slots_of, frame_with}
 use Rattle.xk_types.specs.Step.{governing, child, names_clock, is_given}
-use Rattle.xk_types.specs.Shape.{HasShape, clock_arguments, has_twice}
-use Rattle.xk_types.specs.Walk.{entry_of}
-use Rattle.xk_laws.proofs.Invariant.{Each, Names, IsActivitySound, kind_by, kind_of, is_held}
+use Rattle.xk_types.specs.Shape.{HasShape, has_twice}
+use Rattle.xk_types.specs.Walk.{entry_of, IsVisited, MayBecome, across}
+use Rattle.xk_types.specs.declared.rules.Kind.TheVariants as kind
+use Rattle.xk_laws.proofs.Invariant.{Each, Names, Waits, IsFrameSound, IsActivitySound, kind_by, kind_of, is_held}
+use Rattle.xk_laws.proofs.Totals.{stack_within_bound}
 use Rattle.xk_laws.proofs.Lists.{get-append_left, each_filled, any_found, any_given}
 use Rattle.xk_laws.proofs.Walks.{visited_entry}
 use Rattle.xk_laws.proofs.Rows.{held_entry}
@@ -68,7 +70,7 @@ number_clock : Some param.Number ≡ Some param.Clock → ⊥
 number_clock e = grind arith
 
 -- a slot that is handed on stands among those that are
-handed_on : (ps : List ParamKind) (xs : List ℕ) (s x : ℕ) → slice_get ps s ≡ Some param.Clock → slice_get xs s ≡ Some x
+pub handed_on : (ps : List ParamKind) (xs : List ℕ) (s x : ℕ) → slice_get ps s ≡ Some param.Clock → slice_get xs s ≡ Some x
     → list_any (λ y. y == x) (clock_arguments ps xs) ≡ true
 handed_on [] xs s x p o = absurd (none-some param.Clock p)
 handed_on (q ∷ ps) [] s x p o = absurd (none-some x o)
@@ -137,18 +139,60 @@ module _ (stands : ℕ → Standing) (slots : List Value) (ps : List ParamKind) 
   begins_clock s k (inl g) = (g.1.0, g.1.1, g.1.2, g.1.3)
   begins_clock s k (inr e) = absurd (clock_unset k e.0)
 
-  -- the kind of each slot is one of its parameter's
-  begins_kind : (s : ℕ) (v : Value) → Begins stands slots ps xs values s v → Has (entry_of (slice_get ps s)) (kind_of (new_look stands values) v)
-  begins_kind s value.Unset (inl g) = absurd g.1
-  begins_kind s (value.Number n) (inl g) = rw g.1 (inl refl)
-  begins_kind s (value.Clock k) (inl g) = rw (g.1.1, look_given stands values s k g.0) (held_entry (stands k) g.1.4)
-  begins_kind s v (inr e) = rw (e.0, slice_get_past ps s e.1) (inl refl)
+  -- the kind of each slot is one of its parameter's, where clocks' names have the kinds that they have for the starter
+  begins_kind : (look : ℕ → Kind) → ((s k : ℕ) → slice_get values s ≡ Some (value.Clock k) → look k ≡ kind_by (stands k))
+      → (s : ℕ) (v : Value) → Begins stands slots ps xs values s v → Has (entry_of (slice_get ps s)) (kind_of look v)
+  begins_kind look same s value.Unset (inl g) = absurd g.1
+  begins_kind look same s (value.Number n) (inl g) = rw g.1 (inl refl)
+  begins_kind look same s (value.Clock k) (inl g) = rw (g.1.1, same s k g.0) (held_entry (stands k) g.1.4)
+  begins_kind look same s v (inr e) = rw (e.0, slice_get_past ps s e.1) (inl refl)
 
   -- what is held stands in a slot
   begins_held : (n k : ℕ) → is_held (new_look stands values k) ≡ true → (s : ℕ) × Names (values ++ replicate n value.Unset) s k
   begins_held n k h =
       let r = any_found (names_clock k) values (held_given (is_given values k) (stands k) h) in
       (r.0, get-append_left values (replicate n value.Unset) r.0 (value.Clock k) (r.2 ∙ ap (λ v. Some v) (named_clock k r.1 r.3)))
+
+-- ---- a frame that begins
+
+-- what a unit begins with that is given these values from the slots of a frame
+pub record Begun (m : ModuleValue) (stands : ℕ → Standing) (look : ℕ → Kind) (clocks : ℕ) (slots : List Value) (t : ℕ) (v : UnitValue) (args : List ℕ) (f : Frame) : Type 0 where
+  pub frame : IsFrameSound v clocks f
+  pub kinds : Each (λ s x. IsVisited m v s (record { at = 0; kind = kind_of look x })) f.slots
+  -- a name in a slot is the name that stands in a slot that is lent to it
+  pub names : (s k : ℕ) → Names f.slots s k → (x : ℕ) × (slice_get v.params s ≡ Some param.Clock) × (slice_get args s ≡ Some x) × Names slots x k
+
+pub frame_begun : (m : ModuleValue) → IsWithinLimits m → HasShape m → (stands : ℕ → Standing) (look : ℕ → Kind) (clocks : ℕ) (u : UnitValue) (g : Frame) → IsFrameSound u clocks g
+    → (t : ℕ) (v : UnitValue) → slice_get m.units t ≡ Some v → (args : List ℕ) → has_twice (clock_arguments v.params args) ≡ false
+    → (values : List Value) → AreGiven stands g.slots v.params args values
+    → ((s k : ℕ) → slice_get values s ≡ Some (value.Clock k) → look k ≡ kind_by (stands k))
+    → Begun m stands look clocks g.slots t v args (frame_with m t values)
+frame_begun m limits shape stands look clocks u g sound t v found args once values given same = record {
+  frame = record {
+    slots = length-append values (replicate rest value.Unset) ∙ omega (arith, length-replicate rest value.Unset, given.width, slots, (unit_limits m limits t v found).params);
+    place = (unit_fits m shape t v found).some;
+    known = λ s k h. (let r = name s k h in sound.known r.0 k r.3);
+    apart = λ s z k g h.
+        (let p = name s k g in
+        let q = name z k h in
+        handed_once v.params args s z p.0 once p.1 q.1 p.2 (q.2 ∙ ap (λ y. Some y) (sound.apart q.0 p.0 k q.3 p.3)));
+  };
+  kinds = λ s x h. visited_entry m v s (kind_of look x) (begins_kind stands g.slots v.params args values given look same s x (each s x h));
+  names = name;
+}
+  where
+    rest : ℕ
+    rest = slots_of m t - length values
+
+    slots : slots_of m t ≡ v.slots
+    slots = ap (λ o. option_map_or (λ u. u.slots) o 0) found
+
+    each : Each (Begins stands g.slots v.params args values) (values ++ replicate rest value.Unset)
+    each = each_begins stands g.slots v.params args values given rest
+
+    name : (s k : ℕ) → Names (values ++ replicate rest value.Unset) s k
+        → (x : ℕ) × (slice_get v.params s ≡ Some param.Clock) × (slice_get args s ≡ Some x) × Names g.slots x k
+    name s k h = begins_clock stands g.slots v.params args values given s k (each s (value.Clock k) h)
 
 -- ---- the new activity
 
@@ -162,36 +206,37 @@ pub child_sound : (m : ModuleValue) → IsWithinLimits m → HasShape m → (sta
     → (t : ℕ) (v : UnitValue) → slice_get m.units t ≡ Some v → (args : List ℕ) → has_twice (clock_arguments v.params args) ≡ false
     → (values : List Value) → AreGiven stands was.frame.slots v.params args values
     → IsActivitySound m (new_look stands values) clocks now (child m a was t values)
-child_sound m limits shape stands clocks then' now a was later me t v found args once values given = record {
-  callers = refl;
-  opened = refl;
-  governed = governed_root a was me.opened me.governed;
-  since = omega (arith, me.since);
-  u = v;
-  unit = found;
-  frame = record {
-    slots = length-append values (replicate rest value.Unset) ∙ omega (arith, length-replicate rest value.Unset, given.width, slots, (unit_limits m limits t v found).params);
-    place = (unit_fits m shape t v found).some;
-    known = λ s k h. (let r = name s k h in me.frame.known r.0 k r.3);
-    apart = λ s z k g h.
-        (let p = name s k g in
-        let q = name z k h in
-        handed_once v.params args s z p.0 once p.1 q.1 p.2 (q.2 ∙ ap (λ y. Some y) (me.frame.apart q.0 p.0 k q.3 p.3)));
-  };
-  kinds = λ s x h. visited_entry m v s (kind_of (new_look stands values) x) (begins_kind stands was.frame.slots v.params args values given s x (each s x h));
-  advance = λ e. absurd (grind arith);
-  held = λ k h. begins_held stands was.frame.slots v.params args values given rest k h;
-}
+child_sound m limits shape stands clocks then' now a was later me t v found args once values given =
+    let b = frame_begun m limits shape stands (new_look stands values) clocks me.u was.frame me.frame t v found args once values given (look_given stands values) in
+    record {
+      opened = refl;
+      governed = governed_root a was me.opened me.governed;
+      since = omega (arith, me.since);
+      u = v;
+      unit = found;
+      frame = b.frame;
+      kinds = b.kinds;
+      advance = λ e. absurd (grind arith);
+      held = λ k h. inl (begins_held stands was.frame.slots v.params args values given (slots_of m t - length values) k h);
+      waiting = tt;
+      room = (let h = stack_within_bound m t v found in omega arith);
+      alone = λ e. refl;
+    }
+
+-- ---- a method
+
+-- what a call leaves of each kind is visited behind it
+pub across_waits : (lent : Bool) (k : Kind) (R : Kind → Type 0) → (lent ≡ true → is_held k ≡ true) → ((new : Kind) → MayBecome (across lent k) new → R new) → Waits lent k R
+across_waits true k R held may = let b = both k (held refl) may in (held refl, b.0, b.1)
   where
-    rest : ℕ
-    rest = slots_of m t - length values
-
-    slots : slots_of m t ≡ v.slots
-    slots = ap (λ o. option_map_or (λ u. u.slots) o 0) found
-
-    each : Each (Begins stands was.frame.slots v.params args values) (values ++ replicate rest value.Unset)
-    each = each_begins stands was.frame.slots v.params args values given rest
-
-    name : (s k : ℕ) → Names (values ++ replicate rest value.Unset) s k
-        → (x : ℕ) × (slice_get v.params s ≡ Some param.Clock) × (slice_get args s ≡ Some x) × Names was.frame.slots x k
-    name s k h = begins_clock stands was.frame.slots v.params args values given s k (each s (value.Clock k) h)
+    both : (j : Kind) → is_held j ≡ true → ((new : Kind) → MayBecome (across true j) new → R new) → R kind.Live × R kind.Resumed
+    both kind.Unset h g = absurd (grind arith)
+    both kind.Number h g = absurd (grind arith)
+    both kind.Live h g = (g kind.Live (inl refl), g kind.Resumed (inr (inl refl)))
+    both kind.Resumed h g = (g kind.Live (inl refl), g kind.Resumed (inr (inl refl)))
+    both kind.Out h g = absurd (grind arith)
+across_waits false kind.Unset R held may = may kind.Unset (inl refl)
+across_waits false kind.Number R held may = may kind.Number (inl refl)
+across_waits false kind.Live R held may = may kind.Live (inl refl)
+across_waits false kind.Resumed R held may = (may kind.Live (inl refl), may kind.Resumed (inr (inl refl)))
+across_waits false kind.Out R held may = may kind.Out (inl refl)

@@ -11,6 +11,7 @@ pub mod Rows
 pub mod Measure
 pub mod Steps
 pub mod Given
+pub mod Callers
 pub mod Operands
 pub mod Running
 pub mod Waiting

@@ -15,13 +15,14 @@ use Rattle.xk_types.specs.declared.rules.Kind.TheVariants as kind
 use Rattle.xk_types.specs.Code.{UnitValue, ModuleValue, IsWithinLimits, is_main}
 use Rattle.xk_types.specs.Order.{Has}
 use Rattle.xk_types.specs.World.{opening, main_of, slots_of}
-use Rattle.xk_types.specs.Shape.{instr_is, is_in_place, starts_amiss, HasShape}
+use Rattle.xk_types.specs.Shape.{instr_is, is_in_place, runs_amiss, HasShape}
 use Rattle.xk_types.specs.Walk.{entry_kinds, entry_of}
 use Rattle.xk_types.specs.Bound.{steps_weight, activities_weight, clocks_weight, total}
 use Rattle.xk_types.specs.Accepted.{IsAccepted}
 use Rattle.xk_laws.proofs.Invariant.{Each, Expects, IsActivitySound, IsSound, looks, kind_of, owed, owing}
 use Rattle.xk_laws.proofs.Lists.{get_inside, get-replicate}
 use Rattle.xk_laws.proofs.Measure.{owed_first}
+use Rattle.xk_laws.proofs.Totals.{stack_within_bound}
 use Rattle.xk_laws.proofs.Walks.{visited_entry}
 use Rattle.xk_laws.proofs.Fits.{unit_fits, unbroken}
 
@@ -37,14 +38,14 @@ main_entry m shape u found s =
     (sym (nil_from_length u.params (eqb-true (length u.params) 0 (and_parts (is_main u.kind) (length u.params == 0) in_place).1))) (inl refl)
   where
     in_place : is_in_place 0 u ≡ true
-    in_place = not-false (is_in_place 0 u) (or_parts (not (is_in_place 0 u)) (instr_is (starts_amiss m 0) (slice_get u.code 0)) (unbroken m shape rule.Unit 0 u found 0)).0
+    in_place = not-false (is_in_place 0 u) (or_parts (not (is_in_place 0 u)) (instr_is (runs_amiss m 0) (slice_get u.code 0)) (unbroken m shape rule.Unit 0 u found 0)).0
 
 -- main owes all that its unit weighs
 owing_main : (weight : Instr → ℕ) (half : ℕ) (m : ModuleValue) → HasShape m → (u : UnitValue) → slice_get m.units 0 ≡ Some u
     → owing weight half m (main_of m ∷ []) ≡ total weight m 0
 owing_main weight half m shape u found =
     let h = sum_by-cons (owed weight half m) (main_of m) [] in
-    let g = owed_first weight half m shape (main_of m) u found refl refl in
+    let g = owed_first weight half m shape (main_of m) u found refl refl refl in
     omega arith
 
 -- the opening world of an accepted module is sound
@@ -67,7 +68,6 @@ opening_sound m limits ok = record {
 
     main : IsActivitySound m (looks [] 0) 0 0 (main_of m)
     main = record {
-      callers = refl;
       opened = refl;
       governed = refl;
       since = omega arith;
@@ -83,4 +83,7 @@ opening_sound m limits ok = record {
           (visited_entry m first.0 s kind.Unset (main_entry m ok.shape first.0 first.1 s));
       advance = λ e. absurd (grind arith);
       held = λ c h. absurd (false≢true h);
+      waiting = tt;
+      room = (let h = stack_within_bound m 0 first.0 first.1 in omega arith);
+      alone = λ e. refl;
     }

@@ -14,7 +14,8 @@ use Rattle.xk_types.specs.Code.{ModuleValue}
 use Rattle.xk_types.specs.Order.{Has}
 use Rattle.xk_types.specs.World.{Activity, Clock, World, standing_of}
 use Rattle.xk_types.specs.Step.{Outcome, Blocked, Wrong, Stepped, ClockUse, onward, with_slots, is_registered, number_in, clock_in, registered_on, put_in, arguments_in}
-use Rattle.xk_types.specs.Walk.{becomes, gives}
+use Rattle.xk_types.specs.declared.rules.Kind.{Kind}
+use Rattle.xk_types.specs.Walk.{After, gives}
 use Rattle.xk_laws.proofs.Invariant.{IsSound, stands_on, looks, kind_by, kind_of, is_held}
 use Rattle.xk_laws.proofs.Walks.{Allowed}
 use Rattle.xk_laws.proofs.Rows.{reads_row, hands_row}
@@ -73,27 +74,27 @@ clock_moves m w a o v go e is h = subst (λ x. Moves m (clock_in w a x go)) (sym
     cases (value.Clock k) g f = registered_moves m a (slice_get w.clocks k) (go k) g (f k refl)
 
 -- arguments of their parameters' kinds are given
-pub arguments_move : (m : ModuleValue) (w : World) (a : ℕ) (act : Activity) (ps : List ParamKind) (xs : List ℕ) (go : List Value → Outcome) → length xs ≡ length ps
+pub arguments_move : (m : ModuleValue) (w : World) (a : ℕ) (act : Activity) (ps : List ParamKind) (xs : List ℕ) (fin : ℕ → Kind → After) (go : List Value → Outcome) → length xs ≡ length ps
     → ((x : ℕ) → Has xs x → (v : Value) × (slice_get act.frame.slots x ≡ Some v))
-    → ((s : ℕ) (v : Value) → slice_get act.frame.slots s ≡ Some v → Allowed (gives ps xs s (kind_of (looks w.clocks a) v) (becomes (kind_of (looks w.clocks a) v))))
+    → ((s : ℕ) (v : Value) → slice_get act.frame.slots s ≡ Some v → Allowed (gives ps xs s (kind_of (looks w.clocks a) v) (fin s (kind_of (looks w.clocks a) v))))
     → ((values : List Value) → AreGiven (stands_on w.clocks a) act.frame.slots ps xs values → Moves m (go values))
     → Moves m (arguments_in w a act ps xs go)
-arguments_move m w a act [] [] go same there rows h = h [] (given_none (stands_on w.clocks a) act.frame.slots)
-arguments_move m w a act [] (x ∷ xs) go same there rows h = absurd (omega arith)
-arguments_move m w a act (p ∷ ps) [] go same there rows h = absurd (omega arith)
-arguments_move m w a act (param.Number ∷ ps) (x ∷ xs) go same there rows h =
+arguments_move m w a act [] [] fin go same there rows h = h [] (given_none (stands_on w.clocks a) act.frame.slots)
+arguments_move m w a act [] (x ∷ xs) fin go same there rows h = absurd (omega arith)
+arguments_move m w a act (p ∷ ps) [] fin go same there rows h = absurd (omega arith)
+arguments_move m w a act (param.Number ∷ ps) (x ∷ xs) fin go same there rows h =
     let kd = kind_of (looks w.clocks a) in
     let v = there x (inl refl) in
-    number_moves m (stands_on w.clocks a) (slice_get act.frame.slots x) v.0 _ v.1 ((reads_row x x (kd v.0) (gives ps xs x (kd v.0) (becomes (kd v.0))) (rows x v.0 v.1)).0 refl)
-    (λ n is. arguments_move m w a act ps xs (λ values. go (value.Number n ∷ values)) (omega arith) (λ y named. there y (inr named))
-    (λ s y at. subst Allowed (reads_row x s (kd y) (gives ps xs s (kd y) (becomes (kd y))) (rows s y at)).1 (rows s y at))
+    number_moves m (stands_on w.clocks a) (slice_get act.frame.slots x) v.0 _ v.1 ((reads_row x x (kd v.0) (gives ps xs x (kd v.0) (fin x (kd v.0))) (rows x v.0 v.1)).0 refl)
+    (λ n is. arguments_move m w a act ps xs fin (λ values. go (value.Number n ∷ values)) (omega arith) (λ y named. there y (inr named))
+    (λ s y at. subst Allowed (reads_row x s (kd y) (gives ps xs s (kd y) (fin s (kd y))) (rows s y at)).1 (rows s y at))
     (λ values g. h (value.Number n ∷ values) (given_more (stands_on w.clocks a) act.frame.slots param.Number ps x xs (value.Number n) values refl g)))
-arguments_move m w a act (param.Clock ∷ ps) (x ∷ xs) go same there rows h =
+arguments_move m w a act (param.Clock ∷ ps) (x ∷ xs) fin go same there rows h =
     let kd = kind_of (looks w.clocks a) in
     let v = there x (inl refl) in
-    let held : is_held (kd v.0) ≡ true = (hands_row x x (kd v.0) (gives ps xs x (kd v.0) (becomes (kd v.0))) (rows x v.0 v.1)).0 refl in
+    let held : is_held (kd v.0) ≡ true = (hands_row x x (kd v.0) (gives ps xs x (kd v.0) (fin x (kd v.0))) (rows x v.0 v.1)).0 refl in
     clock_moves m w a (slice_get act.frame.slots x) v.0 _ v.1 held
-    (λ k is. arguments_move m w a act ps xs (λ values. go (value.Clock k ∷ values)) (omega arith) (λ y named. there y (inr named))
-    (λ s y at. subst Allowed (hands_row x s (kd y) (gives ps xs s (kd y) (becomes (kd y))) (rows s y at)).1 (rows s y at))
+    (λ k is. arguments_move m w a act ps xs fin (λ values. go (value.Clock k ∷ values)) (omega arith) (λ y named. there y (inr named))
+    (λ s y at. subst Allowed (hands_row x s (kd y) (gives ps xs s (kd y) (fin s (kd y))) (rows s y at)).1 (rows s y at))
     (λ values g. h (value.Clock k ∷ values) (given_more (stands_on w.clocks a) act.frame.slots param.Clock ps x xs (value.Clock k) values
     (x, refl, refl, v.1 ∙ ap (λ z. Some z) is, subst (λ z. is_held (kd z) ≡ true) is held) g)))

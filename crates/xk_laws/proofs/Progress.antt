@@ -14,12 +14,12 @@ use Rattle.xk_types.specs.World.{Activity, Clock, World, standing_of}
 use Rattle.xk_types.specs.Step.{Outcome, Blocked, Wrong, Stepped, is_signalled, is_pending, all, passed, past, done, waits, step_by, step_of, step}
 use Rattle.xk_types.specs.Schedule.{is_step, is_enabled, is_ended, all_ended}
 use Rattle.xk_types.specs.Accepted.{IsAccepted}
-use Rattle.xk_laws.proofs.Invariant.{Stands, IsActivitySound, IsSound, stands_on, looks}
+use Rattle.xk_laws.proofs.Invariant.{Stands, IsActivitySound, IsSound, stands_on, looks, kind_by}
 use Rattle.xk_laws.proofs.Lists.{get_inside, any_found, all_given}
 use Rattle.xk_laws.proofs.Standings.{held_back, stands_on_at}
 use Rattle.xk_laws.proofs.Fits.{unit_fits}
 use Rattle.xk_laws.proofs.Measure.{paid_pass}
-use Rattle.xk_laws.proofs.Steps.{StandsNear, done_sound}
+use Rattle.xk_laws.proofs.Steps.{StandsNear, done_sound, next_sound}
 use Rattle.xk_laws.proofs.Waiting.{going_on}
 use Rattle.xk_laws.proofs.Operands.{Moves}
 use Rattle.xk_laws.proofs.Instructions.{running_moves}
@@ -44,11 +44,12 @@ passed_near st since last now standing.Ahead before quiet h = ((refl, omega arit
 pass_moves : (m : ModuleValue) → IsAccepted m → (w : World) (a : ℕ) (was : Activity) → IsSound m w → slice_get w.activities a ≡ Some was → was.status ≡ status.Arrived
     → waits w a ≡ false → Moves m (done w a (past was (w.steps + 1)) (all passed) event.Passed)
 pass_moves m ok w a was sound found waiting free = done_sound m w a was (past was (w.steps + 1)) (all passed) sound found (record {
-  next = going_on m (stands_on w.clocks a) (length w.clocks) w.steps was me (unit_fits m ok.shape was.frame.unit me.u me.unit) waiting (λ k. quiet_on w.clocks a k free);
+  next = next_sound m (looks w.clocks a) (λ k. kind_by (passed (stands_on w.clocks a k))) (length w.clocks) (length w.clocks) w.steps (w.steps + 1) was (past was (w.steps + 1)) me
+      (going_on m (stands_on w.clocks a) (length w.clocks) w.steps was me (unit_fits m ok.shape was.frame.unit me.u me.unit) waiting (λ k. quiet_on w.clocks a k free));
   apart = λ k. refl;
   stands = λ k c at. passed_near was.status was.since c.last (w.steps + 1) (standing_of c a) (let h = (sound.clocks k c at).last in omega arith)
       (subst (λ s. is_signalled s ≡ false) (stands_on_at w.clocks a k c at) (quiet_on w.clocks a k free)) ((sound.clocks k c at).stands a was found);
-  paid = paid_pass m was (past was (w.steps + 1)) me.u me.unit refl waiting refl refl refl;
+  paid = paid_pass m was (past was (w.steps + 1)) me.u me.unit refl waiting refl refl refl refl;
 })
   where
     me : IsActivitySound m (looks w.clocks a) (length w.clocks) w.steps was

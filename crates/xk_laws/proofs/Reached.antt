@@ -1,7 +1,6 @@
 -- What holds of each world that a legal schedule of an accepted module leads to, and the law over every schedule.
-use Rattle.std.proofs.Common.{◌≡◌, ℕ, ◌+◌, ◌<◌, ◌≤◌, true, false, List, [], ◌∷◌, ◌++◌, map, length, get_or, sum_by, refl, sym, ap, ◌∙◌, subst, arith}
-use Rattle.std.specs.Option.{option_map}
-use Rattle.std.proofs.lemmas.Option.{slice_get-get_or, slice_get-map}
+use Rattle.std.proofs.Common.{◌≡◌, ℕ, ◌+◌, ◌<◌, ◌≤◌, true, false, List, [], ◌∷◌, ◌++◌, length, get_or, refl, sym, ap, ◌∙◌, subst, arith}
+use Rattle.std.proofs.lemmas.Option.{slice_get-get_or}
 use Rattle.xk_types.specs.declared.names.Event.{Event}
 use Rattle.xk_types.specs.declared.rules.Kind.{Kind}
 use Rattle.xk_types.specs.Code.{ModuleValue, IsWithinLimits}
@@ -11,7 +10,8 @@ use Rattle.xk_types.specs.Schedule.{Course, Through, Wronged, run, run_on, IsRea
 use Rattle.xk_types.specs.Bound.{steps_bound, activities_bound, clocks_bound, stack_bound}
 use Rattle.xk_types.specs.Accepted.{IsAccepted, EverySchedule, slots_held}
 use Rattle.xk_laws.proofs.Invariant.{IsActivitySound, IsSound, looks}
-use Rattle.xk_laws.proofs.Lists.{max_each}
+use Rattle.xk_types.specs.Shape.{HasShape}
+use Rattle.xk_laws.proofs.Totals.{stack_own}
 use Rattle.xk_laws.proofs.Counts.{step_counts}
 use Rattle.xk_laws.proofs.Progress.{Keeps, step_keeps, stuck_ended}
 use Rattle.xk_laws.proofs.Opening.{opening_sound}
@@ -114,12 +114,8 @@ reached_ends m limits ok w r stuck = stuck_ended m ok w (reached_sound m limits 
 -- ---- the law
 
 -- an activity's frames have no more slots than the bound
-sound_stack : (m : ModuleValue) (look : ℕ → Kind) (clocks now : ℕ) (act : Activity) → IsActivitySound m look clocks now act → slots_held act ≤ stack_bound m
-sound_stack m look clocks now act s =
-    let alone : sum_by (λ f. length f.slots) act.callers ≡ 0 = ap (sum_by (λ f. length f.slots)) s.callers in
-    let slots = s.frame.slots in
-    let most = max_each (map (λ u. u.slots) m.units) 0 act.frame.unit s.u.slots (slice_get-map (λ u. u.slots) m.units act.frame.unit ∙ ap (option_map (λ u. u.slots)) s.unit) in
-    omega arith
+sound_stack : (m : ModuleValue) → HasShape m → (look : ℕ → Kind) (clocks now : ℕ) (act : Activity) → IsActivitySound m look clocks now act → slots_held act ≤ stack_bound m
+sound_stack m shape look clocks now act s = omega (arith, s.frame.slots, stack_own m shape act.frame.unit s.u s.unit, s.room)
 
 -- the law over every schedule
 pub every_schedule : (m : ModuleValue) → IsWithinLimits m → IsAccepted m → EverySchedule m
@@ -130,7 +126,7 @@ every_schedule m limits ok = record {
   clocks = λ list w h. (reached_room m limits ok w (list, h)).clocks;
   stack = λ list w h k d inside.
       (let s = reached_sound m limits ok w (list, h) in
-      sound_stack m (looks w.clocks k) (length w.clocks) w.steps (get_or w.activities k d)
+      sound_stack m ok.shape (looks w.clocks k) (length w.clocks) w.steps (get_or w.activities k d)
       (s.activities k (get_or w.activities k d) (slice_get-get_or w.activities k d inside)));
   ends = λ list w h stuck. reached_ends m limits ok w (list, h) (λ a inside. stuck a);
 }

@@ -1,6 +1,6 @@
 -- Kinds: what the rows of the table give where they don't refuse, and how changes of standings move kinds.
 use Rattle.std.proofs.Common.{◌≡◌, ℕ, Bool, true, false, ◌==◌, List, [], ◌∷◌, inl, inr, cond, refl, sym, ap, ◌∙◌, subst, arith, eqb-true, eq-eqb, ne_eqb}
-use Rattle.std.proofs.lemmas.Bool.{eqb-false}
+use Rattle.std.proofs.lemmas.Bool.{eqb-false, or_cases}
 use Rattle.xk_types.specs.declared.names.Standing.{Standing}
 use Rattle.xk_types.specs.declared.names.Standing.TheVariants as standing
 use Rattle.xk_types.specs.declared.rules.Rule.TheVariants as rule
@@ -10,7 +10,7 @@ use Rattle.xk_types.specs.declared.unit.ParamKind.{ParamKind}
 use Rattle.xk_types.specs.declared.unit.ParamKind.TheVariants as param
 use Rattle.xk_types.specs.Order.{Has}
 use Rattle.xk_types.specs.Step.{is_signalled, resumed, passed, only}
-use Rattle.xk_types.specs.Walk.{After, MayBecome, becomes, as_number, as_clock, overwritten, awake, reads, writes, uses, hands_on, gives}
+use Rattle.xk_types.specs.Walk.{After, MayBecome, becomes, as_number, as_clock, overwritten, awake, reads, writes, uses, hands_on, gives, is_lent}
 use Rattle.xk_laws.proofs.Invariant.{kind_by, is_held}
 use Rattle.xk_laws.proofs.Walks.{Allowed}
 
@@ -33,7 +33,7 @@ clock_row kind.Resumed go h = (refl, refl)
 clock_row kind.Out go h = absurd (h rule.Use refl)
 
 -- nothing that is held is overwritten
-over_row : (k : Kind) (go : After) → Allowed (overwritten k go) → (is_held k ≡ false) × (overwritten k go ≡ go)
+pub over_row : (k : Kind) (go : After) → Allowed (overwritten k go) → (is_held k ≡ false) × (overwritten k go ≡ go)
 over_row kind.Unset go h = (refl, refl)
 over_row kind.Number go h = (refl, refl)
 over_row kind.Live go h = absurd (h rule.Leak refl)
@@ -98,6 +98,19 @@ gives_row (param.Number ∷ ps) (x ∷ xs) s k go h =
 gives_row (param.Clock ∷ ps) (x ∷ xs) s k go h =
     let r = hands_row x s k (gives ps xs s k go) h in
     r.1 ∙ gives_row ps xs s k go (subst Allowed r.1 h)
+
+-- and what is lent is held
+pub gives_held : (ps : List ParamKind) (xs : List ℕ) (s : ℕ) (k : Kind) (go : After) → Allowed (gives ps xs s k go) → is_lent ps xs s ≡ true → is_held k ≡ true
+gives_held [] xs s k go h e = absurd (grind arith)
+gives_held (p ∷ ps) [] s k go h e = absurd (grind arith)
+gives_held (param.Number ∷ ps) (x ∷ xs) s k go h e =
+    gives_held ps xs s k go (subst Allowed (reads_row x s k (gives ps xs s k go) h).1 h) e
+gives_held (param.Clock ∷ ps) (x ∷ xs) s k go h e =
+    let r = hands_row x s k (gives ps xs s k go) h in
+    elim (or_cases (x == s) (is_lent ps xs s) e) [
+      | inl here ↦ r.0 (sym (eqb-true x s here))
+      | inr later ↦ gives_held ps xs s k go (subst Allowed r.1 h) later
+    ]
 
 -- ---- changes
 

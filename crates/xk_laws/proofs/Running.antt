@@ -1,8 +1,8 @@
 -- What an instruction leaves of the activity that carries it out.
 use Rattle.std.proofs.Common.{◌≡◌, ℕ, ◌+◌, ◌<◌, ◌≤◌, true, false, List, length, set, Some, refl, sym, ap, ◌∙◌, subst, arith, length-set, ◌⊎◌, inl, inr}
 use Rattle.std.specs.Prelude.{slice_get}
-use Rattle.std.proofs.lemmas.Bool.{cases_eq, false≢true}
-use Rattle.std.proofs.lemmas.Option.{slice_get_within}
+use Rattle.std.proofs.lemmas.Bool.{cases_eq, cases_lt, false≢true}
+use Rattle.std.proofs.lemmas.Option.{slice_get_within, same_Some}
 use Rattle.xk_types.specs.declared.instr.Instr.{Instr}
 use Rattle.xk_types.specs.declared.names.Value.{Value}
 use Rattle.xk_types.specs.declared.names.Value.TheVariants as value
@@ -16,7 +16,8 @@ use Rattle.xk_types.specs.Step.{onward, going, with_slots, only}
 use Rattle.xk_types.specs.Shape.{slots_named, is_ret}
 use Rattle.xk_types.specs.Walk.{MayBecome, IsVisited, after, successors}
 use Rattle.xk_types.specs.Accepted.{IsAccepted}
-use Rattle.xk_laws.proofs.Invariant.{Each, Expects, Names, IsActivitySound, kind_by, kind_of, is_held}
+use Rattle.xk_laws.proofs.Invariant.{Each, Expects, Names, NamesNone, NamedIn, once_past, IsActivitySound, kind_by, kind_of, is_held}
+use Rattle.xk_laws.proofs.Callers.{IsMild, names_known, still_waiting}
 use Rattle.xk_laws.proofs.Lists.{get_inside, get_once, get-set_same, get-set_other, each_set}
 use Rattle.xk_laws.proofs.Walks.{Allowed, visited_allowed, visited_next}
 use Rattle.xk_laws.proofs.Fits.{IsFit}
@@ -77,10 +78,13 @@ module _ (m : ModuleValue) (stands : ℕ → Standing) (clocks now : ℕ) (was :
 
   -- names in slots after the step
   record AreNames (new : ℕ → Kind) (count : ℕ) (slots : List Value) : Type 0 where
+    more : clocks ≤ count
     width : length slots ≡ length was.frame.slots
     known : (s k : ℕ) → Names slots s k → k < count
     apart : (s t k : ℕ) → Names slots s k → Names slots t k → s ≡ t
-    held : (k : ℕ) → is_held (new k) ≡ true → (s : ℕ) × Names slots s k
+    held : (k : ℕ) → is_held (new k) ≡ true → ((s : ℕ) × Names slots s k) ⊎ NamedIn was.callers k
+    own : (t k : ℕ) → Names slots t k → Names was.frame.slots t k ⊎ ((length u.params ≤ t) × (clocks ≤ k))
+    mild : (k : ℕ) → IsMild look was.status new was.status was.frame was.callers k
 
   -- an instruction that goes on to this place
   straight : (new : ℕ → Kind) (count : ℕ) (slots : List Value) (to : ℕ) → Has (successors i was.frame.place) to → to < length u.code
@@ -101,13 +105,16 @@ module _ (m : ModuleValue) (stands : ℕ → Standing) (clocks now : ℕ) (was :
         subst (λ st. Expects m u st to s (kind_of new v)) (sym c.running) (next_visited s t.0 (kind_of new v) to on t.1 t.2);
     advance = λ e. absurd (grind (arith, c.running));
     held = names.held;
+    waiting = still_waiting m look new was.status was.status clocks count names.more was.frame (record was.frame { place = to; slots = slots }) was.callers c.me.waiting refl
+        (λ v found t k named. subst (λ x. Names was.frame.slots t k ⊎ ((length x.params ≤ t) × (clocks ≤ k))) (same_Some u v (sym unit_found ∙ found)) (names.own t k named)) names.mild;
+    alone = λ e. absurd (grind (arith, c.running));
   }
 
   -- an instruction that leaves each kind as it is, and goes to this place
   pub leaving_to : (to : ℕ) → Has (successors i was.frame.place) to → to < length u.code → ((s : ℕ) (k : Kind) → Allowed (after m u i s k) → MayBecome (after m u i s k) k)
       → IsNext m u look clocks (now + 1) was (going was to)
   leaving_to to on inside rows = straight look clocks was.frame.slots to on inside
-      (record { width = refl; known = c.me.frame.known; apart = c.me.frame.apart; held = c.me.held })
+      (record { more = omega arith; width = refl; known = c.me.frame.known; apart = c.me.frame.apart; held = c.me.held; own = λ t k named. inl named; mild = λ k. inl refl })
       (λ s v at. (v, at, rows s (kind_of look v) (row_allowed s v at)))
 
   -- the next place, where there is one
@@ -144,6 +151,7 @@ module _ (m : ModuleValue) (stands : ℕ → Standing) (clocks now : ℕ) (was :
     pub same : (k : ℕ) → k < clocks → new k ≡ look k
     pub fresh : (k : ℕ) → v ≡ value.Clock k → (clocks ≤ k) × (k < count)
     pub holds : (k : ℕ) → is_held (new k) ≡ true → (is_held (look k) ≡ true) ⊎ (v ≡ value.Clock k)
+    pub own : (k : ℕ) → v ≡ value.Clock k → length u.params ≤ d
 
   -- no two slots name one clock
   written_apart : (d : ℕ) (v : Value) (count s t k : ℕ) → ((j : ℕ) → v ≡ value.Clock j → (clocks ≤ j) × (j < count))
@@ -158,10 +166,13 @@ module _ (m : ModuleValue) (stands : ℕ → Standing) (clocks now : ℕ) (was :
       → IsWrite d v kd new count → IsNext m u new count (now + 1) was (going (with_slots was (set was.frame.slots d v)) to)
   writing_to d old v kd new count to at on inside wr = straight new count (set was.frame.slots d v) to on inside
       (record {
+        more = wr.more;
         width = length-set was.frame.slots d v;
         known = λ s k named. known s k (all s (value.Clock k) named);
         apart = λ s t k p q. written_apart d v count s t k wr.fresh (all s (value.Clock k) p) (all t (value.Clock k) q);
         held = λ k h. held k (wr.holds k h);
+        own = λ t k named. own t k (all t (value.Clock k) named);
+        mild = λ k. mild k;
       })
       (λ s x g. turn s x (all s x g))
     where
@@ -175,10 +186,22 @@ module _ (m : ModuleValue) (stands : ℕ → Standing) (clocks now : ℕ) (was :
       row : (s : ℕ) (x : Value) → slice_get was.frame.slots s ≡ Some x → IsWritten (after m u i s (kind_of look x)) d kd s (kind_of look x)
       row s x g = wr.rows s (kind_of look x) (row_allowed s x g)
 
-      held : (k : ℕ) → (is_held (look k) ≡ true) ⊎ (v ≡ value.Clock k) → (s : ℕ) × Names (set was.frame.slots d v) s k
-      held k (inr e) = (d, get-set_same was.frame.slots d old v at ∙ ap (λ x. Some x) e)
-      held k (inl h) = let r = c.me.held k h in
-          (r.0, get-set_other was.frame.slots d r.0 v (λ same. false≢true (sym ((row r.0 (value.Clock k) r.1).here same).0 ∙ h)) ∙ r.1)
+      held : (k : ℕ) → (is_held (look k) ≡ true) ⊎ (v ≡ value.Clock k) → ((s : ℕ) × Names (set was.frame.slots d v) s k) ⊎ NamedIn was.callers k
+      held k (inr e) = inl (d, get-set_same was.frame.slots d old v at ∙ ap (λ x. Some x) e)
+      held k (inl h) = elim (c.me.held k h) [
+        | inl r ↦ inl (r.0, get-set_other was.frame.slots d r.0 v (λ same. false≢true (sym ((row r.0 (value.Clock k) r.1).here same).0 ∙ h)) ∙ r.1)
+        | inr below ↦ inr below
+      ]
+
+      own : (t k : ℕ) → Written d v t (value.Clock k) → Names was.frame.slots t k ⊎ ((length u.params ≤ t) × (clocks ≤ k))
+      own t k (inl p) = inr (subst (λ n. length u.params ≤ n) (sym p.0) (wr.own k (sym p.1)), (wr.fresh k (sym p.1)).0)
+      own t k (inr p) = inl p.1
+
+      mild : (k : ℕ) → IsMild look was.status new was.status was.frame was.callers k
+      mild k = elim (cases_lt k clocks) [
+        | inl old' ↦ inl (ap (once_past was.status) (wr.same k old'))
+        | inr fresh ↦ inr (inr (inr (names_known m look was.status clocks was.frame was.callers c.me.waiting k fresh)))
+      ]
 
       turn : (s : ℕ) (x : Value) → Written d v s x → (was_x : Value) × (slice_get was.frame.slots s ≡ Some was_x) × MayBecome (after m u i s (kind_of look was_x)) (kind_of new x)
       turn s x (inl p) =
@@ -203,13 +226,17 @@ module _ (m : ModuleValue) (stands : ℕ → Standing) (clocks now : ℕ) (was :
       → ((s : ℕ) (old : Kind) → Allowed (after m u i s old) → IsUsed (after m u i s old) x kd s old)
       → (is_held (look k) ≡ true → kind_by (f (stands k)) ≡ kd)
       → ((s : Standing) → is_held (kind_by (f s)) ≡ true → is_held (kind_by s) ≡ true)
+      → (is_held kd ≡ true) ⊎ NamesNone was.callers k
       → IsNext m u (λ j. kind_by (only k f j (stands j))) clocks (now + 1) was (onward was)
-  using x k kd f at other on rows becomes keeps = straight new clocks was.frame.slots (was.frame.place + 1) on (next_inside other)
+  using x k kd f at other on rows becomes keeps below = straight new clocks was.frame.slots (was.frame.place + 1) on (next_inside other)
       (record {
+        more = omega arith;
         width = refl;
         known = c.me.frame.known;
         apart = c.me.frame.apart;
         held = λ j h. c.me.held j (only_held k f keeps j (stands j) h);
+        own = λ t j named. inl named;
+        mild = λ j. mild j (cases_eq j k);
       })
       (λ s v g. turn s v g (cases_eq s x))
     where
@@ -218,6 +245,16 @@ module _ (m : ModuleValue) (stands : ℕ → Standing) (clocks now : ℕ) (was :
 
       row : (s : ℕ) (v : Value) → slice_get was.frame.slots s ≡ Some v → IsUsed (after m u i s (kind_of look v)) x kd s (kind_of look v)
       row s v g = rows s (kind_of look v) (row_allowed s v g)
+
+      is_new : is_held (look k) ≡ true → new k ≡ kd
+      is_new h = ap kind_by (only_here k f (stands k)) ∙ becomes h
+
+      mild : (j : ℕ) → (j ≡ k) ⊎ (j ≡ k → ⊥) → IsMild look was.status new was.status was.frame was.callers j
+      mild j (inr differs) = inl (ap (once_past was.status) (ap kind_by (only_other k f j (stands j) differs)))
+      mild j (inl e) = subst (λ n. IsMild look was.status new was.status was.frame was.callers n) (sym e) (elim below [
+        | inl held ↦ inr (inr (inl (ap (λ st. is_held (once_past st (new k))) c.running ∙ ap is_held (is_new ((row x (value.Clock k) at).here refl).0) ∙ held, x, at)))
+        | inr none' ↦ inr (inr (inr none'))
+      ])
 
       turn : (s : ℕ) (v : Value) → slice_get was.frame.slots s ≡ Some v → (s ≡ x) ⊎ (s ≡ x → ⊥)
           → (old : Value) × (slice_get was.frame.slots s ≡ Some old) × MayBecome (after m u i s (kind_of look old)) (kind_of new v)

@@ -1,5 +1,5 @@
 -- Steps that change one activity, or start another: they keep the invariant of worlds.
-use Rattle.std.proofs.Common.{◌≡◌, ℕ, ◌+◌, ◌<◌, ◌≤◌, Bool, true, false, cond, List, [], ◌∷◌, ◌++◌, length, set, Some, sym, ap, ◌∙◌, subst, arith, length-set}
+use Rattle.std.proofs.Common.{◌≡◌, ℕ, ◌+◌, ◌<◌, ◌≤◌, Bool, true, false, cond, List, [], ◌∷◌, ◌++◌, length, set, Some, refl, inl, sym, ap, ◌∙◌, subst, arith, length-set}
 use Rattle.std.specs.Prelude.{slice_get}
 use Rattle.std.proofs.lemmas.List.{length_push, set-get_or}
 use Rattle.std.proofs.lemmas.List.Sums.{sum_by_push}
@@ -15,8 +15,9 @@ use Rattle.xk_types.specs.declared.rules.Kind.{Kind}
 use Rattle.xk_types.specs.Code.{UnitValue, ModuleValue}
 use Rattle.xk_types.specs.World.{Activity, Clock, World, standing_of}
 use Rattle.xk_types.specs.Step.{is_signalled, moved, moved_on, joined, joined_on, new_clock, settled}
-use Rattle.xk_types.specs.Bound.{steps_weight, activities_weight, clocks_weight}
-use Rattle.xk_laws.proofs.Invariant.{Each, Stands, Expects, Names, IsFrameSound, IsClockSound, IsActivitySound, IsSound, stands_on, looks, kind_by, kind_of, is_held, owed, owing}
+use Rattle.xk_types.specs.Bound.{steps_weight, activities_weight, clocks_weight, stack_of}
+use Rattle.xk_laws.proofs.Callers.{frame_later, still_waiting}
+use Rattle.xk_laws.proofs.Invariant.{Each, Stands, Expects, NamedIn, AreWaiting, slots_in, IsFrameSound, IsClockSound, IsActivitySound, IsSound, stands_on, looks, kind_by, kind_of, is_held, owed, owing}
 use Rattle.xk_laws.proofs.Lists.{each_set, each_push, fun_ext}
 use Rattle.xk_laws.proofs.Standings.{stand_same, stand_other, each_moved, length-moved, stands_on-moved_other, stands_on-moved_same, stands_on-push_other, new_same, new_other, new_width, stand_joined_old, stand_joined_new, length-joined, each_joined, stands_on-joined_old, stands_on-joined_new}
 use Rattle.xk_laws.proofs.Settling.{IsClockNear, IsNear, world_settled}
@@ -24,7 +25,8 @@ use Rattle.xk_laws.proofs.Measure.{IsPaid, IsShared, owing_set}
 
 -- ---- the changed activity
 
--- What a step of activity `was` of unit u leaves of it: `act`, among so many clocks, whose names have these kinds.
+-- What a step of activity `was` of unit u leaves of it, where it stays in its frame: `act`, among so many clocks, whose names have
+-- these kinds.
 pub record IsNext (m : ModuleValue) (u : UnitValue) (look : ℕ → Kind) (clocks now : ℕ) (was act : Activity) : Type 0 where
   pub unit : act.frame.unit ≡ was.frame.unit
   pub callers : act.callers ≡ was.callers
@@ -34,13 +36,14 @@ pub record IsNext (m : ModuleValue) (u : UnitValue) (look : ℕ → Kind) (clock
   pub frame : IsFrameSound u clocks act.frame
   pub kinds : Each (λ s v. Expects m u act.status act.frame.place s (kind_of look v)) act.frame.slots
   pub advance : act.status ≡ status.Arrived → slice_get u.code act.frame.place ≡ Some instr.Advance
-  pub held : (c : ℕ) → is_held (look c) ≡ true → (s : ℕ) × Names act.frame.slots s c
+  pub held : (c : ℕ) → is_held (look c) ≡ true → NamedIn (act.frame ∷ act.callers) c
+  pub waiting : AreWaiting m look act.status clocks act.frame act.callers
+  pub alone : act.status ≡ status.Ended → act.callers ≡ []
 
 -- it is sound
-next_sound : (m : ModuleValue) (old look : ℕ → Kind) (before clocks then' now : ℕ) (was act : Activity) (s : IsActivitySound m old before then' was)
+pub next_sound : (m : ModuleValue) (old look : ℕ → Kind) (before clocks then' now : ℕ) (was act : Activity) (s : IsActivitySound m old before then' was)
     → IsNext m s.u look clocks now was act → IsActivitySound m look clocks now act
 next_sound m old look before clocks then' now was act s n = record {
-  callers = n.callers ∙ s.callers;
   opened = n.opened ∙ s.opened;
   governed = n.governed ∙ s.governed;
   since = n.since;
@@ -50,6 +53,9 @@ next_sound m old look before clocks then' now was act s n = record {
   kinds = n.kinds;
   advance = n.advance;
   held = n.held;
+  waiting = n.waiting;
+  room = (let h = s.room in let p : slots_in act.callers ≡ slots_in was.callers = ap slots_in n.callers in let q : stack_of m act.frame.unit ≡ stack_of m was.frame.unit = ap (stack_of m) n.unit in omega arith);
+  alone = n.alone;
 }
 
 -- ---- all others
@@ -58,23 +64,25 @@ next_sound m old look before clocks then' now was act s n = record {
 pub sound_later : (m : ModuleValue) (look : ℕ → Kind) (before clocks then' now : ℕ) (act : Activity) → before ≤ clocks → then' ≤ now
     → IsActivitySound m look before then' act → IsActivitySound m look clocks now act
 sound_later m look before clocks then' now act more later s = record {
-  callers = s.callers;
   opened = s.opened;
   governed = s.governed;
   since = omega (arith, s.since);
   u = s.u;
   unit = s.unit;
-  frame = record { slots = s.frame.slots; place = s.frame.place; known = λ t c g. (let h = s.frame.known t c g in omega arith); apart = s.frame.apart };
+  frame = frame_later s.u before clocks act.frame more s.frame;
   kinds = s.kinds;
   advance = s.advance;
   held = s.held;
+  waiting = still_waiting m look look act.status act.status before clocks more act.frame act.frame act.callers s.waiting refl (λ v at t c named. inl named) (λ c. inl refl);
+  room = s.room;
+  alone = s.alone;
 }
 
 -- ---- the world
 
 -- what a step leaves of the world: `act` in the place of `was`, these clocks, on which others stand where they stood
-pub record IsLeft (m : ModuleValue) (w : World) (a : ℕ) (was act : Activity) (clocks : List Clock) (u : UnitValue) : Type 0 where
-  pub next : IsNext m u (looks clocks a) (length clocks) (w.steps + 1) was act
+pub record IsLeft (m : ModuleValue) (w : World) (a : ℕ) (was act : Activity) (clocks : List Clock) : Type 0 where
+  pub next : IsActivitySound m (looks clocks a) (length clocks) (w.steps + 1) act
   pub more : length w.clocks ≤ length clocks
   pub others : (b k : ℕ) → (b ≡ a → ⊥) → stands_on clocks b k ≡ stands_on w.clocks b k
   pub near : Each (λ k c. IsClockNear (set w.activities a act) (w.steps + 1) c) clocks
@@ -86,11 +94,11 @@ left w a act clocks = record w { activities = set w.activities a act; clocks = c
 
 -- it is nearly sound
 left_near : (m : ModuleValue) (w : World) (a : ℕ) (was act : Activity) (clocks : List Clock) (sound : IsSound m w) (found : slice_get w.activities a ≡ Some was)
-    → IsLeft m w a was act clocks (sound.activities a was found).u → IsNear m (left w a act clocks)
+    → IsLeft m w a was act clocks → IsNear m (left w a act clocks)
 left_near m w a was act clocks sound found l = record {
   limits = sound.limits;
   activities = each_set (λ b x. IsActivitySound m (looks clocks b) (length clocks) (w.steps + 1) x) w.activities a was act found
-      (next_sound m (looks w.clocks a) (looks clocks a) (length w.clocks) (length clocks) w.steps (w.steps + 1) was act (sound.activities a was found) l.next)
+      l.next
       (λ b x differs at. subst (λ look. IsActivitySound m look (length clocks) (w.steps + 1) x)
       (fun_ext (looks w.clocks b) (looks clocks b) (λ k. ap kind_by (sym (l.others b k differs))))
       (sound_later m (looks w.clocks b) (length w.clocks) (length clocks) w.steps (w.steps + 1) x l.more (omega arith) (sound.activities b x at)));
@@ -103,7 +111,7 @@ left_near m w a was act clocks sound found l = record {
 
 -- and at the end of the step sound
 pub left_sound : (m : ModuleValue) (w : World) (a : ℕ) (was act : Activity) (clocks : List Clock) (sound : IsSound m w) (found : slice_get w.activities a ≡ Some was)
-    → IsLeft m w a was act clocks (sound.activities a was found).u → IsSound m (settled (left w a act clocks))
+    → IsLeft m w a was act clocks → IsSound m (settled (left w a act clocks))
 left_sound m w a was act clocks sound found l = world_settled m (left w a act clocks) (left_near m w a was act clocks sound found l)
 
 -- ---- clocks, nearly
@@ -135,17 +143,17 @@ near_clock activities now a was act f c found since s n = record {
 -- ---- `done`: one activity changes, and where it stands
 
 -- what such a step leaves of the activity and of the clocks
-pub record IsChange (m : ModuleValue) (w : World) (a : ℕ) (was act : Activity) (change : ℕ → Standing → Standing) (u : UnitValue) : Type 0 where
-  pub next : IsNext m u (λ k. kind_by (change k (stands_on w.clocks a k))) (length w.clocks) (w.steps + 1) was act
+pub record IsChange (m : ModuleValue) (w : World) (a : ℕ) (was act : Activity) (change : ℕ → Standing → Standing) : Type 0 where
+  pub next : IsActivitySound m (λ k. kind_by (change k (stands_on w.clocks a k))) (length w.clocks) (w.steps + 1) act
   pub apart : (k : ℕ) → change k standing.Apart ≡ standing.Apart
   pub stands : Each (λ k c. StandsNear act.status act.since c.last (w.steps + 1) (change k (standing_of c a))) w.clocks
   pub paid : IsPaid m was act 0
 
 -- it keeps the invariant
 pub done_sound : (m : ModuleValue) (w : World) (a : ℕ) (was act : Activity) (change : ℕ → Standing → Standing) (sound : IsSound m w) (found : slice_get w.activities a ≡ Some was)
-    → IsChange m w a was act change (sound.activities a was found).u → IsSound m (settled (left w a act (moved a change w.clocks)))
+    → IsChange m w a was act change → IsSound m (settled (left w a act (moved a change w.clocks)))
 done_sound m w a was act change sound found d = left_sound m w a was act (moved a change w.clocks) sound found (record {
-  next = rw (length-moved a change w.clocks) (subst (λ look. IsNext m me.u look (length w.clocks) (w.steps + 1) was act)
+  next = rw (length-moved a change w.clocks) (subst (λ look. IsActivitySound m look (length w.clocks) (w.steps + 1) act)
       (fun_ext (λ k. kind_by (change k (stands_on w.clocks a k))) (looks (moved a change w.clocks) a)
       (λ k. ap kind_by (sym (stands_on-moved_same a change w.clocks k within d.apart)))) d.next);
   more = omega (arith, length-moved a change w.clocks);
@@ -155,16 +163,13 @@ done_sound m w a was act change sound found d = left_sound m w a was act (moved 
   paid = (0, d.paid, omega (arith, length-moved a change w.clocks));
 })
   where
-    me : IsActivitySound m (looks w.clocks a) (length w.clocks) w.steps was
-    me = sound.activities a was found
-
     within : Each (λ k c. a < length c.standings) w.clocks
     within k c at = subst (λ n. a < n) (sym (sound.clocks k c at).width) (slice_get_within w.activities a was found)
 
 -- ---- `made`: one activity changes and has made a clock
 
-pub record IsMaking (m : ModuleValue) (w : World) (a : ℕ) (was act : Activity) (u : UnitValue) : Type 0 where
-  pub next : IsNext m u (looks (w.clocks ++ new_clock (length w.activities) a ∷ []) a) (length w.clocks + 1) (w.steps + 1) was act
+pub record IsMaking (m : ModuleValue) (w : World) (a : ℕ) (was act : Activity) : Type 0 where
+  pub next : IsActivitySound m (looks (w.clocks ++ new_clock (length w.activities) a ∷ []) a) (length w.clocks + 1) (w.steps + 1) act
   pub running : act.status ≡ status.Running
   pub same_status : act.status ≡ was.status
   pub same_since : act.since ≡ was.since
@@ -208,7 +213,7 @@ new_near activities now a was act found running = record {
 
 -- it keeps the invariant
 pub made_sound : (m : ModuleValue) (w : World) (a : ℕ) (was act : Activity) (sound : IsSound m w) (found : slice_get w.activities a ≡ Some was)
-    → IsMaking m w a was act (sound.activities a was found).u
+    → IsMaking m w a was act
     → IsSound m (settled (left w a act (w.clocks ++ new_clock (length w.activities) a ∷ [])))
 made_sound m w a was act sound found d = left_sound m w a was act (w.clocks ++ new_clock (length w.activities) a ∷ []) sound found (record {
   next = rw (length_push w.clocks (new_clock (length w.activities) a)) d.next;
@@ -223,8 +228,8 @@ made_sound m w a was act sound found d = left_sound m w a was act (w.clocks ++ n
 -- ---- `spawned`: one activity changes and has started another
 
 -- what such a step leaves of the activity, and the new one, which is given these clocks
-pub record IsStarted (m : ModuleValue) (w : World) (a : ℕ) (was act new : Activity) (given : ℕ → Bool) (u : UnitValue) : Type 0 where
-  pub next : IsNext m u (looks w.clocks a) (length w.clocks) (w.steps + 1) was act
+pub record IsStarted (m : ModuleValue) (w : World) (a : ℕ) (was act new : Activity) (given : ℕ → Bool) : Type 0 where
+  pub next : IsActivitySound m (looks w.clocks a) (length w.clocks) (w.steps + 1) act
   pub begins : IsActivitySound m (λ k. kind_by (cond (given k) (stands_on w.clocks a k) standing.Apart)) (length w.clocks) (w.steps + 1) new
   pub same_status : act.status ≡ was.status
   pub same_since : act.since ≡ was.since
@@ -261,7 +266,7 @@ abbrev pub begun : World → ℕ → Activity → Activity → (ℕ → Bool) �
 begun w a act new given = record w { activities = set w.activities a act ++ new ∷ []; clocks = joined a given w.clocks }
 
 module _ (m : ModuleValue) (w : World) (a : ℕ) (was act new : Activity) (given : ℕ → Bool) (sound : IsSound m w) (found : slice_get w.activities a ≡ Some was)
-    (d : IsStarted m w a was act new given (sound.activities a was found).u) where
+    (d : IsStarted m w a was act new given) where
   -- the activities but the new one
   abbrev before : List Activity
   before = set w.activities a act
@@ -291,7 +296,7 @@ module _ (m : ModuleValue) (w : World) (a : ℕ) (was act new : Activity) (given
   -- the old ones are sound
   old_sound : Each (λ b x. IsActivitySound m (looks w.clocks b) (length w.clocks) (w.steps + 1) x) before
   old_sound = each_set (λ b x. IsActivitySound m (looks w.clocks b) (length w.clocks) (w.steps + 1) x) w.activities a was act found
-      (next_sound m (looks w.clocks a) (looks w.clocks a) (length w.clocks) (length w.clocks) w.steps (w.steps + 1) was act (sound.activities a was found) d.next)
+      d.next
       (λ b x differs at. sound_later m (looks w.clocks b) (length w.clocks) (length w.clocks) w.steps (w.steps + 1) x (omega arith) (omega arith) (sound.activities b x at))
 
   -- and the clocks nearly

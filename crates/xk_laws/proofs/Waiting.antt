@@ -1,5 +1,5 @@
 -- What the two halves of an `advance`, and the end, leave of an activity.
-use Rattle.std.proofs.Common.{◌≡◌, ℕ, ◌+◌, ◌<◌, false, length, refl, sym, ap, ◌∙◌, subst, arith, inl}
+use Rattle.std.proofs.Common.{◌≡◌, ℕ, ◌+◌, ◌<◌, false, [], length, refl, sym, ap, ◌∙◌, subst, arith, inl, inr}
 use Rattle.std.proofs.lemmas.Bool.{false≢true}
 use Rattle.xk_types.specs.declared.instr.Instr.TheVariants as instr
 use Rattle.xk_types.specs.declared.names.Value.{Value}
@@ -10,7 +10,8 @@ use Rattle.xk_types.specs.Code.{UnitValue, ModuleValue}
 use Rattle.xk_types.specs.World.{Activity}
 use Rattle.xk_types.specs.Step.{arrived, ended, past, resumed, passed, dropped, is_signalled}
 use Rattle.xk_types.specs.Walk.{IsVisited, awake}
-use Rattle.xk_laws.proofs.Invariant.{Expects, IsActivitySound, kind_by, kind_of}
+use Rattle.xk_laws.proofs.Invariant.{Expects, AreWaiting, once_past, IsActivitySound, kind_by, kind_of}
+use Rattle.xk_laws.proofs.Callers.{still_waiting}
 use Rattle.xk_laws.proofs.Fits.{IsFit}
 use Rattle.xk_laws.proofs.Rows.{resumed_held, resumed_awake, passed_held, passed_awake}
 use Rattle.xk_laws.proofs.Steps.{IsNext}
@@ -48,6 +49,10 @@ arriving m stands clocks now was u c = record {
       (next_visited m stands clocks now was u instr.Advance c s v (awake (kind_of (λ k. kind_by (stands k)) v)) (was.frame.place + 1) (inl refl) at (inl refl));
   advance = λ e. c.here;
   held = λ k h. c.me.held k (resumed_held (stands k) h);
+  waiting = still_waiting m (λ k. kind_by (stands k)) (λ k. kind_by (resumed (stands k))) was.status status.Arrived clocks clocks (omega arith) was.frame was.frame was.callers c.me.waiting refl
+      (λ v found t k named. inl named)
+      (λ k. inr (inl (resumed_awake (stands k) ∙ ap (λ st. awake (once_past st (kind_by (stands k)))) (sym c.running))));
+  alone = λ e. absurd (grind arith);
 }
 
 -- the second half, of an activity that is signalled on no clock
@@ -70,12 +75,16 @@ going_on m stands clocks now was me fit waiting quiet = record {
       (subst (λ st. Expects m me.u st was.frame.place s (kind_of (λ k. kind_by (stands k)) v)) waiting (me.kinds s v at));
   advance = λ e. absurd (grind arith);
   held = λ k h. me.held k (passed_held (stands k) h);
+  waiting = still_waiting m (λ k. kind_by (stands k)) (λ k. kind_by (passed (stands k))) was.status status.Running clocks clocks (omega arith) was.frame (record was.frame { place = was.frame.place + 1 }) was.callers me.waiting refl
+      (λ v found t k named. inl named)
+      (λ k. inl (passed_awake (stands k) (quiet k) ∙ ap (λ st. once_past st (kind_by (stands k))) (sym waiting)));
+  alone = λ e. absurd (grind arith);
 }
 
--- the end
-pub ending : (m : ModuleValue) (stands : ℕ → Standing) (clocks now : ℕ) (was : Activity) (u : UnitValue) → IsAt m stands clocks now was u instr.Ret
+-- the end, where no frame waits
+pub ending : (m : ModuleValue) (stands : ℕ → Standing) (clocks now : ℕ) (was : Activity) (u : UnitValue) → IsAt m stands clocks now was u instr.Ret → was.callers ≡ []
     → IsNext m u (λ k. kind_by (dropped (stands k))) clocks (now + 1) was (ended was)
-ending m stands clocks now was u c = record {
+ending m stands clocks now was u c none' = record {
   unit = refl;
   callers = refl;
   opened = refl;
@@ -90,4 +99,6 @@ ending m stands clocks now was u c = record {
   kinds = λ s v at. tt;
   advance = λ e. absurd (grind arith);
   held = λ k h. absurd (false≢true h);
+  waiting = subst (AreWaiting m (λ k. kind_by (dropped (stands k))) status.Ended clocks was.frame) (sym none') tt;
+  alone = λ e. none';
 }

@@ -9,7 +9,7 @@ use Rattle.xk_types.specs.declared.instr.Comparison.TheVariants as comparison
 use Rattle.xk_types.specs.declared.instr.Instr.{Instr}
 use Rattle.xk_types.specs.declared.instr.Instr.TheVariants as instr
 use Rattle.xk_module.specs.ModuleText.{long, word, named, array_of, comparison_name, instr_value, IsWord, IsLong, IsInstrInRange}
-use Rattle.xk_module.specs.Named.{◌>>=◌, word_at, none_at, one_at, two_at, three_at, lit_at, comparison_of, comparison_at, unless_at, for_at, spawn_at, instr_of, instr_at}
+use Rattle.xk_module.specs.Named.{◌>>=◌, word_at, none_at, one_at, two_at, three_at, lit_at, comparison_of, comparison_at, unless_at, for_at, run_at, instr_of, instr_at}
 use Rattle.xk_module.proofs.Lists.{listed-items_of}
 use Rattle.xk_module.proofs.Parts.{bind_some, by_name, word_takes, word_again, long_takes, long_again, array_takes, head_takes, end_takes, str_takes, each_takes, each_again}
 
@@ -216,15 +216,15 @@ for_again x p = rw (word_again x.0 p.0, long_again x.1 p.1, long_again x.2 p.2, 
 counted : IsShape for_at for_values IsForInRange
 counted = record { takes = for_takes; again = for_again }
 
-abbrev spawn_values : ℕ × List ℕ → List Data
-spawn_values x = word x.0 ∷ array_of (map word x.1) ∷ []
+abbrev run_values : ℕ × List ℕ → List Data
+run_values x = word x.0 ∷ array_of (map word x.1) ∷ []
 
 abbrev AreWordAndWords : ℕ × List ℕ → Type 0
 AreWordAndWords x = IsWord x.0 × AllByRecursion IsWord x.1
 
-spawn_takes : (operands : List Data) (x : ℕ × List ℕ) → spawn_at operands ≡ Some x → (operands ≡ spawn_values x) × AreWordAndWords x
-unfolding spawn_at
-spawn_takes (a ∷ b ∷ []) x e =
+run_takes : (operands : List Data) (x : ℕ × List ℕ) → run_at operands ≡ Some x → (operands ≡ run_values x) × AreWordAndWords x
+unfolding run_at
+run_takes (a ∷ b ∷ []) x e =
     let p = bind_some _ _ _ e in
     let q = bind_some _ _ _ p.2 in
     let r = bind_some _ _ _ q.2 in
@@ -233,17 +233,17 @@ spawn_takes (a ∷ b ∷ []) x e =
     let k = each_takes word_at word IsWord word_takes q.0 r.0 r.1 in
     let whole : b ≡ array_of (map word r.0) = j ∙ ap array_of k.0 in
     let same : (p.0, r.0) ≡ x = cc in
-    subst (λ (x : ℕ × List ℕ). (a ∷ b ∷ [] ≡ spawn_values x) × AreWordAndWords x) same (cc (i.0, whole), (i.1, k.1))
-spawn_takes [] x e = absurd cc
-spawn_takes (a ∷ []) x e = absurd cc
-spawn_takes (a ∷ b ∷ c ∷ rest) x e = absurd cc
+    subst (λ (x : ℕ × List ℕ). (a ∷ b ∷ [] ≡ run_values x) × AreWordAndWords x) same (cc (i.0, whole), (i.1, k.1))
+run_takes [] x e = absurd cc
+run_takes (a ∷ []) x e = absurd cc
+run_takes (a ∷ b ∷ c ∷ rest) x e = absurd cc
 
-spawn_again : (x : ℕ × List ℕ) → AreWordAndWords x → spawn_at (spawn_values x) ≡ Some x
-unfolding spawn_at
-spawn_again x p = rw (word_again x.0 p.0, listed-items_of (map word x.1), each_again word_at word IsWord word_again x.1 p.1) refl
+run_again : (x : ℕ × List ℕ) → AreWordAndWords x → run_at (run_values x) ≡ Some x
+unfolding run_at
+run_again x p = rw (word_again x.0 p.0, listed-items_of (map word x.1), each_again word_at word IsWord word_again x.1 p.1) refl
 
-spawn : IsShape spawn_at spawn_values AreWordAndWords
-spawn = record { takes = spawn_takes; again = spawn_again }
+run : IsShape run_at run_values AreWordAndWords
+run = record { takes = run_takes; again = run_again }
 
 -- ---- an instruction by its name
 
@@ -281,9 +281,10 @@ instr_of_takes name operands i e =
     by_shape one (codes "resume") instr.Resume (λ x p. (refl, p)) name operands _ i e (λ e.
     by_shape one (codes "drop") instr.Drop (λ x p. (refl, p)) name operands _ i e (λ e.
     by_shape none (codes "advance") (λ _. instr.Advance) (λ x p. (refl, p)) name operands _ i e (λ e.
-    by_shape spawn (codes "spawn") (λ x. instr.Spawn x.0 x.1) (λ x p. (refl, p)) name operands _ i e (λ e.
+    by_shape run (codes "call") (λ x. instr.Call x.0 x.1) (λ x p. (refl, p)) name operands _ i e (λ e.
+    by_shape run (codes "spawn") (λ x. instr.Spawn x.0 x.1) (λ x p. (refl, p)) name operands _ i e (λ e.
     by_shape none (codes "ret") (λ _. instr.Ret) (λ x p. (refl, p)) name operands _ i e (λ e.
-    absurd cc))))))))))))))))
+    absurd cc)))))))))))))))))
 
 pub instr_takes : (d : Data) (i : Instr) → instr_at d ≡ Some i → (d ≡ instr_value i) × IsInstrInRange i
 unfolding instr_at
@@ -320,6 +321,8 @@ instr_again (instr.Make k) p = instr_of_again (codes "make") (word k ∷ []) (in
 instr_again (instr.Resume k) p = instr_of_again (codes "resume") (word k ∷ []) (instr.Resume k) (rw (one_again k p) refl)
 instr_again (instr.Drop k) p = instr_of_again (codes "drop") (word k ∷ []) (instr.Drop k) (rw (one_again k p) refl)
 instr_again instr.Advance p = instr_of_again (codes "advance") [] instr.Advance refl
+instr_again (instr.Call t args) p =
+    instr_of_again (codes "call") (run_values (t, args)) (instr.Call t args) (rw (run_again (t, args) p) refl)
 instr_again (instr.Spawn t args) p =
-    instr_of_again (codes "spawn") (spawn_values (t, args)) (instr.Spawn t args) (rw (spawn_again (t, args) p) refl)
+    instr_of_again (codes "spawn") (run_values (t, args)) (instr.Spawn t args) (rw (run_again (t, args) p) refl)
 instr_again instr.Ret p = instr_of_again (codes "ret") [] instr.Ret refl

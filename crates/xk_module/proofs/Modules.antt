@@ -21,8 +21,9 @@ use Rattle.xk_module.proofs.Instrs.{instr_takes, instr_again}
 kind_of_takes : (name : List ℕ) (k : UnitKind) → kind_of name ≡ Some k → string name ≡ kind_value k
 kind_of_takes name k e =
     by_name name (codes "main") _ _ k (string name ≡ kind_value k) e (λ same e. let h : unit_kind.Main ≡ k = cc in ap string same ∙ ap kind_value h) (λ e.
+    by_name name (codes "method") _ _ k (string name ≡ kind_value k) e (λ same e. let h : unit_kind.Method ≡ k = cc in ap string same ∙ ap kind_value h) (λ e.
     by_name name (codes "body") _ _ k (string name ≡ kind_value k) e (λ same e. let h : unit_kind.Body ≡ k = cc in ap string same ∙ ap kind_value h) (λ e.
-    absurd cc))
+    absurd cc)))
 
 kind_takes : (d : Data) (k : UnitKind) → kind_at d ≡ Some k → d ≡ kind_value k
 unfolding kind_at
@@ -33,6 +34,7 @@ kind_takes d k e =
 kind_again : (k : UnitKind) → kind_at (kind_value k) ≡ Some k
 unfolding kind_at
 kind_again unit_kind.Main = refl
+kind_again unit_kind.Method = refl
 kind_again unit_kind.Body = refl
 
 param_takes : (n : ℕ) (k : ParamKind) → param_at n ≡ Some k → (n ≡ letter k) × ⊤

@@ -66,11 +66,13 @@ instr_value (instr.Make k) = named (codes "make") (word k ∷ [])
 instr_value (instr.Resume k) = named (codes "resume") (word k ∷ [])
 instr_value (instr.Drop k) = named (codes "drop") (word k ∷ [])
 instr_value instr.Advance = named (codes "advance") []
+instr_value (instr.Call t args) = named (codes "call") (word t ∷ array_of (map word args) ∷ [])
 instr_value (instr.Spawn t args) = named (codes "spawn") (word t ∷ array_of (map word args) ∷ [])
 instr_value instr.Ret = named (codes "ret") []
 
 abbrev pub kind_value : UnitKind → Data
 kind_value unit_kind.Main = string (codes "main")
+kind_value unit_kind.Method = string (codes "method")
 kind_value unit_kind.Body = string (codes "body")
 
 -- the letter of a parameter: `n` or `c`
@@ -119,6 +121,7 @@ IsInstrInRange (instr.Make k) = IsWord k
 IsInstrInRange (instr.Resume k) = IsWord k
 IsInstrInRange (instr.Drop k) = IsWord k
 IsInstrInRange instr.Advance = Unit {0}
+IsInstrInRange (instr.Call t args) = IsWord t × AllByRecursion IsWord args
 IsInstrInRange (instr.Spawn t args) = IsWord t × AllByRecursion IsWord args
 IsInstrInRange instr.Ret = Unit {0}
 

@@ -161,14 +161,14 @@ for_at (a ∷ b ∷ c ∷ d ∷ []) = do
   Some (k, lo, hi, e)
 for_at _ = None
 
--- a unit, and the slots of an array
-unfoldable pub spawn_at : List Data → Option (ℕ × List ℕ)
-spawn_at (a ∷ b ∷ []) = do
+-- a unit that is run, and the slots of an array
+unfoldable pub run_at : List Data → Option (ℕ × List ℕ)
+run_at (a ∷ b ∷ []) = do
   t ← word_at a
   values ← array_at b
   args ← each word_at values
   Some (t, args)
-spawn_at _ = None
+run_at _ = None
 
 -- the instruction of this name with these operands
 unfoldable pub instr_of : List ℕ → List Data → Option Instr
@@ -187,7 +187,8 @@ instr_of name operands =
     else if bytes_eq name (codes "resume") then (one_at operands >>= λ k. Some (instr.Resume k))
     else if bytes_eq name (codes "drop") then (one_at operands >>= λ k. Some (instr.Drop k))
     else if bytes_eq name (codes "advance") then (none_at operands >>= λ _. Some instr.Advance)
-    else if bytes_eq name (codes "spawn") then (spawn_at operands >>= λ x. Some (instr.Spawn x.0 x.1))
+    else if bytes_eq name (codes "call") then (run_at operands >>= λ x. Some (instr.Call x.0 x.1))
+    else if bytes_eq name (codes "spawn") then (run_at operands >>= λ x. Some (instr.Spawn x.0 x.1))
     else if bytes_eq name (codes "ret") then (none_at operands >>= λ _. Some instr.Ret)
     else None
 
@@ -207,6 +208,7 @@ instr_at d = do
 abbrev pub kind_of : List ℕ → Option UnitKind
 kind_of name =
     if bytes_eq name (codes "main") then Some unit_kind.Main
+    else if bytes_eq name (codes "method") then Some unit_kind.Method
     else if bytes_eq name (codes "body") then Some unit_kind.Body
     else None
 

@@ -1,10 +1,10 @@
 //! Reads modules out of JSON values.
 
-ghost use Rattle.std.specs.Prelude.{◌≡◌, IsErrOf, List, Option, codes, length, map};
+ghost use Rattle.std.specs.Prelude.{◌≡◌, ◌⊎◌, IsErrOf, List, Option, codes, length, map};
 ghost use Rattle.serde_json.specs.Data.{Data};
 ghost use Rattle.serde_json.specs.View.{view};
 ghost use Rattle.xk_types.specs.Code.{module_of};
-ghost use Rattle.xk_module.specs.Named.{Gives, views, each, none_at, one_at, two_at, three_at, lit_at, comparison_at, unless_at, for_at, spawn_at, instr_of, kind_at, param_at, params_at, version_at, module_at};
+ghost use Rattle.xk_module.specs.Named.{Gives, views, each, none_at, one_at, two_at, three_at, lit_at, comparison_at, unless_at, for_at, run_at, instr_of, kind_at, param_at, params_at, version_at, module_at};
 
 use crate::fault::Refusal;
 use crate::json::{array, end, field, long, object, text, word};
@@ -97,7 +97,8 @@ impl Named for Unit {
 #[tactic(auto, unfolding(crate::specs::Named::instr_of))]
 fn instr(alloc: Global, name: &str, operands: &[Value]) -> Result<Instr, Refusal>
     ensures given { Gives (λ x. x) result (instr_of name.now (views operands.now)) }
-    ensures memory { IsErrOf result Refusal.Memory → name.now ≡ codes "spawn" }
+    ensures memory { IsErrOf result Refusal.Memory
+        → (name.now ≡ codes "call") ⊎ (name.now ≡ codes "spawn") }
 {
     match name {
         "lit" => slot_and_number(operands).map(|(d, n)| Instr::Lit(d, n)),
@@ -114,10 +115,8 @@ fn instr(alloc: Global, name: &str, operands: &[Value]) -> Result<Instr, Refusal
         "resume" => one_word(operands).map(Instr::Resume),
         "drop" => one_word(operands).map(Instr::Drop),
         "advance" => no_operand(operands).map(|()| Instr::Advance),
-        "spawn" => {
-            let (unit, slots) = unit_and_slots(alloc, operands)?;
-            Ok(Instr::Spawn(unit, Args::new(slots)))
-        }
+        "call" => unit_and_args(alloc, operands).map(|(unit, args)| Instr::Call(unit, args)),
+        "spawn" => unit_and_args(alloc, operands).map(|(unit, args)| Instr::Spawn(unit, args)),
         "ret" => no_operand(operands).map(|()| Instr::Ret),
         _ => Err(Refusal::Unfit),
     }
@@ -218,13 +217,14 @@ fn slot_and_bounds(operands: &[Value]) -> Result<(u16, i64, i64, u16), Refusal>
     }
 }
 
-#[tactic(auto, unfolding(crate::specs::Named::spawn_at))]
-fn unit_and_slots(alloc: Global, operands: &[Value]) -> Result<(u16, Vec<u16>), Refusal>
-    ensures given { Gives (λ x. (x.0, x.1.items)) result (spawn_at (views operands.now)) }
+/// A unit that is run, and its arguments.
+#[tactic(auto, unfolding(crate::specs::Named::run_at))]
+fn unit_and_args(alloc: Global, operands: &[Value]) -> Result<(u16, Args), Refusal>
+    ensures given { Gives (λ x. x) result (run_at (views operands.now)) }
     ensures memory { IsErrOf result Refusal.Memory → length operands.now ≡ 2 }
 {
     match operands {
-        [unit, slots] => Ok((word(unit)?, all(alloc, array(slots)?)?)),
+        [unit, slots] => Ok((word(unit)?, Args::new(all(alloc, array(slots)?)?))),
         _ => Err(Refusal::Unfit),
     }
 }
@@ -236,6 +236,7 @@ fn unit_kind(value: &Value) -> Result<UnitKind, Refusal>
 {
     match text(value)? {
         "main" => Ok(UnitKind::Main),
+        "method" => Ok(UnitKind::Method),
         "body" => Ok(UnitKind::Body),
         _ => Err(Refusal::Unfit),
     }

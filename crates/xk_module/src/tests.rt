@@ -10,6 +10,10 @@ const SUM: &str =
 const STARTED: &str =
     "{\"shared\":[],\"units\":[{\"code\":[[\"make\",0],[\"spawn\",1,[0]],[\"advance\"],[\"lit\",1,1],[\"print\",1],[\"ret\"]],\"kind\":\"main\",\"params\":\"\",\"slots\":2},{\"code\":[[\"advance\"],[\"lit\",1,2],[\"print\",1],[\"ret\"]],\"kind\":\"body\",\"params\":\"c\",\"slots\":2}],\"version\":1}";
 
+/// Main, and a method that it calls twice with its clock and a number.
+const CALLED: &str =
+    "{\"shared\":[],\"units\":[{\"code\":[[\"make\",1],[\"lit\",0,5],[\"call\",1,[1,0]],[\"call\",1,[1,0]],[\"ret\"]],\"kind\":\"main\",\"params\":\"\",\"slots\":2},{\"code\":[[\"advance\"],[\"print\",1],[\"ret\"]],\"kind\":\"method\",\"params\":\"cn\",\"slots\":2}],\"version\":1}";
+
 /// The text of a module with one unit.
 fn with_unit(alloc: Global, unit: &str) -> Result<String, AllocError> {
     format!(in alloc; "{{\"version\":1,\"shared\":[],\"units\":[{{{unit}}}]}}")
@@ -36,15 +40,20 @@ fn with_units(alloc: Global, count: usize) -> Result<String, AllocError> {
     Ok(text)
 }
 
-/// The text of a module that starts an activity with so many arguments: the slots 0, 1000, 2000 and so on, and then the
-/// last.
-fn with_arguments(alloc: Global, count: usize, last: &str) -> Result<String, AllocError> {
+/// The text of a module that runs a unit, by this instruction, with so many arguments: the slots 0, 1000, 2000 and so on,
+/// and then the last.
+fn with_arguments(
+    alloc: Global,
+    name: &str,
+    count: usize,
+    last: &str,
+) -> Result<String, AllocError> {
     let mut slots = String::new(alloc);
     for i in 1..count {
         let slot = format!(in alloc; "{},", (i - 1) % 65 * 1000)?;
         slots.push_str(slot.as_str())?;
     }
-    let code = format!(in alloc; "[\"spawn\",1,[{slots}{last}]]")?;
+    let code = format!(in alloc; "[\"{name}\",1,[{slots}{last}]]")?;
     with_code(alloc, code.as_str())
 }
 
@@ -83,6 +92,9 @@ fn are_same(found: &Instr, wanted: &Instr) -> bool {
         (Instr::Resume(a), Instr::Resume(b)) => a == b,
         (Instr::Drop(a), Instr::Drop(b)) => a == b,
         (Instr::Advance, Instr::Advance) => true,
+        (Instr::Call(t, args), Instr::Call(u, others)) => {
+            t == u && args.slots() == others.slots()
+        }
         (Instr::Spawn(t, args), Instr::Spawn(u, others)) => {
             t == u && args.slots() == others.slots()
         }
@@ -168,6 +180,32 @@ fn reads_an_activity_that_is_started(rt: HostRuntime) -> Result<(), Fail> {
     Ok(())
 }
 
+#[test]
+fn reads_a_method_that_is_called(rt: HostRuntime) -> Result<(), Fail> {
+    let alloc = rt.alloc();
+    let module = read_module(alloc, CALLED.as_bytes())
+        .ok()
+        .ok_or("a module")?;
+    let main = [
+        Instr::Make(1),
+        Instr::Lit(0, 5),
+        Instr::Call(1, Args::new(vec![in alloc; 1, 0]?)),
+        Instr::Call(1, Args::new(vec![in alloc; 1, 0]?)),
+        Instr::Ret,
+    ];
+    let method = [Instr::Advance, Instr::Print(1), Instr::Ret];
+    let units = module.units();
+    assert_eq!(rt; units.len(), 2);
+    let (first, second) = (&units[0], &units[1]);
+    assert_eq!(rt; first.kind, UnitKind::Main);
+    assert!(rt; has_code(first, main.as_slice()));
+    assert_eq!(rt; second.kind, UnitKind::Method);
+    assert!(rt; second.params.as_slice() == [ParamKind::Clock, ParamKind::Number].as_slice());
+    assert_eq!(rt; second.slots, 2);
+    assert!(rt; has_code(second, method.as_slice()));
+    Ok(())
+}
+
 /// A growth that was refused is the only reason to be out of memory: the same text is read the second time.
 #[test]
 fn reads_again_where_memory_was_refused(rt: HostRuntime) -> Result<(), Fail> {
@@ -187,12 +225,15 @@ fn reads_again_where_memory_was_refused(rt: HostRuntime) -> Result<(), Fail> {
 #[test]
 fn arguments_in_order(rt: HostRuntime) -> Result<(), Fail> {
     let alloc = rt.alloc();
-    let code = "[\"spawn\",65535,[65535,7,0,7]],[\"spawn\",0,[]]";
+    let code =
+        "[\"spawn\",65535,[65535,7,0,7]],[\"spawn\",0,[]],[\"call\",65535,[65535,7,0,7]],[\"call\",0,[]]";
     let text = with_code(alloc, code)?;
     let module = read_module(alloc, text.as_bytes()).ok().ok_or("a module")?;
     let wanted = [
         Instr::Spawn(65535, Args::new(vec![in alloc; 65535, 7, 0, 7]?)),
         Instr::Spawn(0, Args::new(Vec::new(alloc))),
+        Instr::Call(65535, Args::new(vec![in alloc; 65535, 7, 0, 7]?)),
+        Instr::Call(0, Args::new(Vec::new(alloc))),
     ];
     assert!(rt; starts_with(&module, wanted.as_slice()));
     Ok(())
@@ -201,7 +242,7 @@ fn arguments_in_order(rt: HostRuntime) -> Result<(), Fail> {
 #[test]
 fn at_most_64_arguments(rt: HostRuntime) -> Result<(), Fail> {
     let alloc = rt.alloc();
-    let text = with_arguments(alloc, 64, "65535")?;
+    let text = with_arguments(alloc, "spawn", 64, "65535")?;
     let module = read_module(alloc, text.as_bytes()).ok().ok_or("a module")?;
     let mut slots = Vec::new(alloc);
     for i in 0..63u16 {
@@ -209,11 +250,15 @@ fn at_most_64_arguments(rt: HostRuntime) -> Result<(), Fail> {
     }
     slots.push(65535)?;
     assert!(rt; starts_with(&module, [Instr::Spawn(1, Args::new(slots))].as_slice()));
-    let text = with_arguments(alloc, 65, "0")?;
+    let text = with_arguments(alloc, "spawn", 65, "0")?;
+    assert_eq!(rt; fault(alloc, text.as_str()), Some(ModuleFault::Limit));
+    let text = with_arguments(alloc, "call", 64, "65535")?;
+    assert_eq!(rt; fault(alloc, text.as_str()), None);
+    let text = with_arguments(alloc, "call", 65, "0")?;
     assert_eq!(rt; fault(alloc, text.as_str()), Some(ModuleFault::Limit));
     // What doesn't fit comes first.
     for last in ["65536", "-1", "1.0", "\"0\"", "[0]", "null"] {
-        let text = with_arguments(alloc, 65, last)?;
+        let text = with_arguments(alloc, "spawn", 65, last)?;
         assert_eq!(rt;
             fault(alloc, text.as_str()),
             Some(ModuleFault::NotAModule),
@@ -287,7 +332,8 @@ fn no_module(rt: HostRuntime) {
 #[test]
 fn no_unit(rt: HostRuntime) -> Result<(), Fail> {
     let units = [
-        "\"kind\":\"method\",\"params\":\"\",\"slots\":3,\"code\":[]",
+        "\"kind\":\"Method\",\"params\":\"\",\"slots\":3,\"code\":[]",
+        "\"kind\":\"methods\",\"params\":\"\",\"slots\":3,\"code\":[]",
         "\"kind\":\"Body\",\"params\":\"\",\"slots\":3,\"code\":[]",
         "\"kind\":1,\"params\":\"\",\"slots\":3,\"code\":[]",
         "\"kind\":\"main\",\"params\":\"x\",\"slots\":3,\"code\":[]",
@@ -346,6 +392,36 @@ fn no_code(rt: HostRuntime) -> Result<(), Fail> {
         "[\"spawn\",65536,[]]",
         "[\"spawn\",-1,[]]",
         "[\"Spawn\",1,[]]",
+    ];
+    assert_eq!(rt; first_taken(rt.alloc(), codes.as_slice())?, None);
+    Ok(())
+}
+
+#[test]
+fn no_call(rt: HostRuntime) -> Result<(), Fail> {
+    let codes = [
+        "[\"Call\",1,[]]",
+        "[\"call\"]",
+        "[\"call\",1]",
+        "[\"call\",[0]]",
+        "[\"call\",1,[0],0]",
+        "[\"call\",1,[0],[1]]",
+        "[\"call\",1,0]",
+        "[\"call\",1,0,1]",
+        "[\"call\",1,\"0\"]",
+        "[\"call\",1,null]",
+        "[\"call\",1,{}]",
+        "[\"call\",1,[65536]]",
+        "[\"call\",1,[-1]]",
+        "[\"call\",1,[0,1.0]]",
+        "[\"call\",1,[\"0\"]]",
+        "[\"call\",1,[[0]]]",
+        "[\"call\",1,[null,0]]",
+        "[\"call\",[0],1]",
+        "[\"call\",\"1\",[]]",
+        "[\"call\",1.0,[]]",
+        "[\"call\",65536,[]]",
+        "[\"call\",-1,[]]",
     ];
     assert_eq!(rt; first_taken(rt.alloc(), codes.as_slice())?, None);
     Ok(())

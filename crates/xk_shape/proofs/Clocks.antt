@@ -4,7 +4,7 @@ use Rattle.std.proofs.lemmas.List.{drop_more, at_drop_all}
 use Rattle.std.proofs.lemmas.Bool.{cases_lt}
 use Rattle.xk_types.specs.declared.unit.ParamKind.{ParamKind}
 use Rattle.xk_types.specs.declared.unit.ParamKind.TheVariants as param
-use Rattle.xk_types.specs.Shape.{clock_arguments}
+use Rattle.xk_types.specs.Code.{clock_arguments}
 
 no_clocks : (ps : List ParamKind) → clock_arguments ps [] ≡ []
 no_clocks [] = refl

@@ -2,8 +2,8 @@
 
 ghost use Rattle.std.specs.Prelude.{◌≡◌, ℕ, ◌+◌, ◌<◌, ◌≤◌, ◌||◌, ◌&&◌, not, ◌==◌, nat_lt, false, true, length, slice_get, MatchResult, MatchOption};
 ghost use Rattle.std.specs.List.{list_all, list_any};
-ghost use Rattle.xk_types.specs.Code.{IsUnitWithinLimits, params_of, loops as loops_of};
-ghost use Rattle.xk_types.specs.Shape.{breaks_in, breaks_slot, is_in_place, starts_amiss, instr_is, is_startable, breaks_end, breaks_home, clock_arguments, has_twice, gives_twice, breaks_same_clock, slots_named, is_ret, makes_below, HasShape};
+ghost use Rattle.xk_types.specs.Code.{IsUnitWithinLimits, params_of, is_method, is_body, clock_arguments, loops as loops_of};
+ghost use Rattle.xk_types.specs.Shape.{breaks_in, breaks_slot, is_in_place, runs_amiss, instr_is, is_fitting, breaks_end, breaks_home, takes_clock, has_twice, gives_twice, breaks_same_clock, slots_named, is_ret, HasShape};
 ghost use Rattle.xk_shape.specs.Fault.{Refuses};
 ghost use Rattle.xk_shape.specs.Breach.{IsNowhereBroken, FailsRule, IsFirstPlace};
 
@@ -68,10 +68,10 @@ fn breaks_rule(m: &Module, rule: Rule, unit: u16, u: &Unit, among: &[Loop], at: 
         Rule::Target => aims_amiss(u, at),
         Rule::Block => crosses_edge(u, among, at),
         Rule::Slot => names_missing_slot(u, at),
-        Rule::Unit => (at == 0 && !is_in_place(unit, u)) || starts_wrongly(m, unit, u, at),
+        Rule::Unit => (at == 0 && !is_in_place(unit, u)) || runs_wrongly(m, unit, u, at),
         Rule::Loop => misuses_loop(u, among, at),
         Rule::End => ends_wrongly(u, at),
-        Rule::Home => makes_param(u, at),
+        Rule::Home => mishandles_param(u, at),
         Rule::SameClock => gives_clock_twice(m, u, at),
         Rule::Cell
         | Rule::Registers
@@ -114,7 +114,7 @@ fn names_below(instr: &Instr, slots: u16) -> bool
         Instr::Resume(c) => *c < slots,
         Instr::Drop(c) => *c < slots,
         Instr::Advance => true,
-        Instr::Spawn(_, args) => args.slots().iter().all(|s| *s < slots),
+        Instr::Call(_, args) | Instr::Spawn(_, args) => args.slots().iter().all(|s| *s < slots),
         Instr::Ret => true,
     }
 }
@@ -125,28 +125,46 @@ fn is_in_place(unit: u16, u: &Unit) -> bool
 {
     match u.kind {
         UnitKind::Main => unit == 0 && u.params.is_empty(),
-        UnitKind::Body => unit != 0,
+        UnitKind::Method | UnitKind::Body => unit != 0,
     }
 }
 
-/// Whether the instruction starts a unit that the unit with this number may not start so.
-fn starts_wrongly(m: &Module, unit: u16, u: &Unit, at: u16) -> bool
-    ensures { result ≡ instr_is (starts_amiss m.now unit) (slice_get u.now.code at) }
+/// Whether the instruction calls or starts a unit that the unit with this number may not run so.
+fn runs_wrongly(m: &Module, unit: u16, u: &Unit, at: u16) -> bool
+    ensures { result ≡ instr_is (runs_amiss m.now unit) (slice_get u.now.code at) }
 {
     match u.code.get(at as usize) {
+        Some(Instr::Call(called, args)) => !is_callable(m, unit, *called, args),
         Some(Instr::Spawn(started, args)) => !is_startable(m, unit, *started, args),
         _ => false,
     }
 }
 
-/// Whether the unit to be started is there, is a body, has the greater number, and takes so many arguments.
-fn is_startable(m: &Module, unit: u16, started: u16, args: &Args) -> bool
-    ensures { result ≡ is_startable unit started args.now (slice_get m.now.units started) }
+/// Whether the unit to be called is there, is a method, and may be run so.
+fn is_callable(m: &Module, unit: u16, called: u16, args: &Args) -> bool
+    ensures { result ≡ is_fitting is_method unit called args.now (slice_get m.now.units called) }
 {
-    match m.units().get(started as usize) {
-        Some(u) => { u.kind == UnitKind::Body && unit < started && args.count() == u.params.len() }
+    match m.units().get(called as usize) {
+        Some(u) => u.kind == UnitKind::Method && may_run(unit, called, args, u),
         None => false,
     }
+}
+
+/// Whether the unit to be started is there, is a body, and may be run so.
+fn is_startable(m: &Module, unit: u16, started: u16, args: &Args) -> bool
+    ensures { result ≡ is_fitting is_body unit started args.now (slice_get m.now.units started) }
+{
+    match m.units().get(started as usize) {
+        Some(u) => u.kind == UnitKind::Body && may_run(unit, started, args, u),
+        None => false,
+    }
+}
+
+/// Whether the unit to be run has the greater number, and takes so many arguments.
+fn may_run(unit: u16, number: u16, args: &Args, u: &Unit) -> bool
+    ensures { result ≡ (nat_lt unit number && (length args.now == length u.now.params)) }
+{
+    unit < number && args.count() == u.params.len()
 }
 
 /// Whether the instruction is a `ret` before the end of the code, or another one at its end, or there is no code.
@@ -168,13 +186,24 @@ fn is_ret(instr: &Instr) -> bool
     matches!(instr, Instr::Ret)
 }
 
-/// Whether the instruction makes a clock in a parameter.
-fn makes_param(u: &Unit, at: u16) -> bool
+/// Whether the instruction makes a clock in a parameter, or drops one that a method was lent.
+fn mishandles_param(u: &Unit, at: u16) -> bool
     ensures { result ≡ breaks_home u.now at }
 {
     match u.code.get(at as usize) {
         Some(Instr::Make(d)) => (*d as usize) < u.params.len(),
+        Some(Instr::Drop(c)) => u.kind == UnitKind::Method && takes_clock(u, *c),
         _ => false,
+    }
+}
+
+/// Whether the slot is a parameter that takes a clock.
+fn takes_clock(u: &Unit, slot: u16) -> bool
+    ensures { result ≡ takes_clock (slice_get u.now.params slot) }
+{
+    match u.params.get(slot as usize) {
+        Some(ParamKind::Clock) => true,
+        Some(ParamKind::Number) | None => false,
     }
 }
 
@@ -183,7 +212,9 @@ fn gives_clock_twice(m: &Module, u: &Unit, at: u16) -> bool
     ensures { result ≡ breaks_same_clock m.now u.now at }
 {
     match u.code.get(at as usize) {
-        Some(Instr::Spawn(started, args)) => has_clock_twice(params_of(m, *started), args.slots()),
+        Some(Instr::Call(run, args) | Instr::Spawn(run, args)) => {
+            has_clock_twice(params_of(m, *run), args.slots())
+        }
         _ => false,
     }
 }

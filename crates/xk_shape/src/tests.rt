@@ -38,6 +38,21 @@ fn body<const N: usize>(
     unit_of(alloc, UnitKind::Body, params, slots, code)
 }
 
+/// A unit that is called.
+fn method<const N: usize>(
+    alloc: Global,
+    params: &[ParamKind],
+    slots: u16,
+    code: [Instr; N],
+) -> Result<Unit, AllocError> {
+    unit_of(alloc, UnitKind::Method, params, slots, code)
+}
+
+/// The instruction that calls the unit with these slots.
+fn call(alloc: Global, unit: u16, args: &[u16]) -> Result<Instr, AllocError> {
+    Ok(Instr::Call(unit, Args::new(Vec::from_slice(alloc, args)?)))
+}
+
 /// The instruction that starts the unit with these slots.
 fn spawn(alloc: Global, unit: u16, args: &[u16]) -> Result<Instr, AllocError> {
     Ok(Instr::Spawn(unit, Args::new(Vec::from_slice(alloc, args)?)))
@@ -66,7 +81,7 @@ fn fault_of<const N: usize>(
     fault(alloc, [main_unit(alloc, 2, code)?])
 }
 
-/// That of main, with this code and two slots, and a unit that it starts.
+/// That of main, with this code and two slots, and a unit that it calls or starts.
 fn fault_with<const N: usize>(
     alloc: Global,
     code: [Instr; N],
@@ -266,6 +281,9 @@ fn refuses_units(rt: HostRuntime) -> Result<(), Fail> {
 
     let first = body(alloc, &[], 0, [Instr::Ret])?;
     assert_eq!(rt; fault(alloc, [first])?, Some((4, 0, 0)));
+
+    let first = method(alloc, &[], 0, [Instr::Ret])?;
+    assert_eq!(rt; fault(alloc, [first])?, Some((4, 0, 0)));
     Ok(())
 }
 
@@ -303,6 +321,94 @@ fn refuses_starts_of_smaller_numbers(rt: HostRuntime) -> Result<(), Fail> {
     let second = body(alloc, &[], 0, start)?;
     let back = fault(alloc, [main, first, second])?;
     assert_eq!(rt; back, Some((4, 2, 1)));
+    Ok(())
+}
+
+#[test]
+fn refuses_units_of_another_kind(rt: HostRuntime) -> Result<(), Fail> {
+    let alloc = rt.alloc();
+    let calls_body = [call(alloc, 1, &[])?, Instr::Ret];
+    let started = body(alloc, &[], 0, [Instr::Ret])?;
+    assert_eq!(rt; fault_with(alloc, calls_body, started)?, Some((4, 0, 0)));
+
+    let starts_method = [spawn(alloc, 1, &[])?, Instr::Ret];
+    let called = method(alloc, &[], 0, [Instr::Ret])?;
+    assert_eq!(rt; fault_with(alloc, starts_method, called)?, Some((4, 0, 0)));
+
+    let calls_method = [call(alloc, 1, &[])?, Instr::Ret];
+    let called = method(alloc, &[], 0, [Instr::Ret])?;
+    assert_eq!(rt; fault_with(alloc, calls_method, called)?, None);
+    Ok(())
+}
+
+#[test]
+fn refuses_calls(rt: HostRuntime) -> Result<(), Fail> {
+    let alloc = rt.alloc();
+    let of_main = [call(alloc, 0, &[])?, Instr::Ret];
+    assert_eq!(rt; fault_of(alloc, of_main)?, Some((4, 0, 0)));
+
+    let missing = [call(alloc, 1, &[])?, Instr::Ret];
+    assert_eq!(rt; fault_of(alloc, missing)?, Some((4, 0, 0)));
+
+    let too_few = [Instr::Advance, call(alloc, 1, &[])?, Instr::Ret];
+    let takes_one = method(alloc, &[ParamKind::Number], 1, [Instr::Ret])?;
+    assert_eq!(rt; fault_with(alloc, too_few, takes_one)?, Some((4, 0, 1)));
+    Ok(())
+}
+
+#[test]
+fn refuses_calls_of_smaller_numbers(rt: HostRuntime) -> Result<(), Fail> {
+    let alloc = rt.alloc();
+    let calls = [call(alloc, 1, &[])?, Instr::Ret];
+    let itself = method(alloc, &[], 0, calls)?;
+    let itself = fault_with(alloc, [Instr::Ret], itself)?;
+    assert_eq!(rt; itself, Some((4, 1, 0)));
+
+    let main = main_unit(alloc, 0, [Instr::Ret])?;
+    let first = method(alloc, &[], 0, [Instr::Ret])?;
+    let calls = [Instr::Advance, call(alloc, 1, &[])?, Instr::Ret];
+    let second = method(alloc, &[], 0, calls)?;
+    let back = fault(alloc, [main, first, second])?;
+    assert_eq!(rt; back, Some((4, 2, 1)));
+    Ok(())
+}
+
+#[test]
+fn refuses_arguments_of_calls(rt: HostRuntime) -> Result<(), Fail> {
+    let alloc = rt.alloc();
+    let calls = [call(alloc, 1, &[2])?, Instr::Ret];
+    let takes_one = method(alloc, &[ParamKind::Number], 1, [Instr::Ret])?;
+    assert_eq!(rt; fault_with(alloc, calls, takes_one)?, Some((3, 0, 0)));
+
+    let clocks = [ParamKind::Clock, ParamKind::Clock];
+    let calls = [Instr::Make(0), call(alloc, 1, &[0, 0])?, Instr::Ret];
+    let takes_two = method(alloc, &clocks, 2, [Instr::Ret])?;
+    assert_eq!(rt; fault_with(alloc, calls, takes_two)?, Some((10, 0, 1)));
+
+    let numbers = [ParamKind::Number, ParamKind::Number];
+    let calls = [Instr::Lit(0, 1), call(alloc, 1, &[0, 0])?, Instr::Ret];
+    let takes_two = method(alloc, &numbers, 2, [Instr::Ret])?;
+    assert_eq!(rt; fault_with(alloc, calls, takes_two)?, None);
+    Ok(())
+}
+
+#[test]
+fn refuses_drops_of_lent_clocks(rt: HostRuntime) -> Result<(), Fail> {
+    let alloc = rt.alloc();
+    let calls = [Instr::Make(0), call(alloc, 1, &[0])?, Instr::Ret];
+    let lent = [Instr::Make(1), Instr::Drop(0), Instr::Drop(1), Instr::Ret];
+    let lent = method(alloc, &[ParamKind::Clock], 2, lent)?;
+    assert_eq!(rt; fault_with(alloc, calls, lent)?, Some((8, 1, 1)));
+
+    let calls = [Instr::Make(0), call(alloc, 1, &[0])?, Instr::Ret];
+    let own = [Instr::Make(1), Instr::Drop(1), Instr::Ret];
+    let own = method(alloc, &[ParamKind::Clock], 2, own)?;
+    assert_eq!(rt; fault_with(alloc, calls, own)?, None);
+
+    let starts = [Instr::Make(0), spawn(alloc, 1, &[0])?, Instr::Ret];
+    let handed_on = [Instr::Drop(0), Instr::Ret];
+    let handed_on = body(alloc, &[ParamKind::Clock], 1, handed_on)?;
+    assert_eq!(rt; fault_with(alloc, starts, handed_on)?, None);
     Ok(())
 }
 

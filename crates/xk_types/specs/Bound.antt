@@ -6,7 +6,7 @@ use Rattle.xk_types.specs.declared.instr.Instr.{Instr}
 use Rattle.xk_types.specs.declared.instr.Instr.TheVariants as instr
 use Rattle.xk_types.specs.declared.rules.Rule.{Rule}
 use Rattle.xk_types.specs.declared.rules.Rule.TheVariants as rule
-use Rattle.xk_types.specs.Code.{UnitValue, ModuleValue, unit_started, Loop, loops, is_round, turns}
+use Rattle.xk_types.specs.Code.{UnitValue, ModuleValue, unit_called, unit_run, Loop, loops, is_round, turns}
 
 -- the steps of an instruction itself
 abbrev pub steps_weight : Instr → ℕ
@@ -37,15 +37,15 @@ abbrev pub sum_from : (ℕ → Instr → ℕ) → ℕ → List Instr → ℕ
 sum_from f at [] = 0
 sum_from f at (i ∷ is) = f at i + sum_from f (suc at) is
 
--- The sum of a weight over a unit's instructions, each with the sum of the unit that it starts, and as often as it is carried
--- out, down to this many starts one below another.
+-- The sum of a weight over a unit's instructions, each with the sum of the unit that it calls or starts, and as often as it is
+-- carried out, down to this many calls and starts one below another.
 unfoldable pub total_within : (Instr → ℕ) → ModuleValue → ℕ → ℕ → ℕ
 total_within weight m zero unit = 0
 total_within weight m (suc depth) unit =
-    option_map_or (λ u. sum_from (λ at i. visits u at * (weight i + option_map_or (total_within weight m depth) (unit_started i) 0)) 0 u.code)
+    option_map_or (λ u. sum_from (λ at i. visits u at * (weight i + option_map_or (total_within weight m depth) (unit_run i) 0)) 0 u.code)
     (slice_get m.units unit) 0
 
--- What a unit starts has a greater number, so that no more starts than there are units stand one below another.
+-- What a unit calls or starts has a greater number, so that no more than there are units stand one below another.
 abbrev pub total : (Instr → ℕ) → ModuleValue → ℕ → ℕ
 total weight m unit = total_within weight m (length m.units) unit
 
@@ -65,9 +65,28 @@ activities_bound m = total activities_weight m 0 + 1
 abbrev pub clocks_bound : ModuleValue → ℕ
 clocks_bound m = total clocks_weight m 0
 
+-- the greatest of the numbers
+abbrev pub greatest : List ℕ → ℕ
+greatest ns = fold max 0 ns
+
+-- The slots of a unit, with the most of those that it calls, down to this many calls one below another.
+unfoldable pub stack_within : ModuleValue → ℕ → ℕ → ℕ
+stack_within m zero unit = 0
+stack_within m (suc depth) unit =
+    option_map_or (λ u. u.slots + greatest (map (λ i. option_map_or (stack_within m depth) (unit_called i) 0) u.code)) (slice_get m.units unit) 0
+
+-- the most slots in the frames of an activity from the one of this unit on
+abbrev pub stack_of : ModuleValue → ℕ → ℕ
+stack_of m unit = stack_within m (length m.units) unit
+
+-- the greatest among the first n
+abbrev pub greatest_below : (ℕ → ℕ) → ℕ → ℕ
+greatest_below f zero = 0
+greatest_below f (suc n) = max (f n) (greatest_below f n)
+
 -- the most slots in the frames of one activity
 abbrev pub stack_bound : ModuleValue → ℕ
-stack_bound m = fold max 0 (map (λ u. u.slots) m.units)
+stack_bound m = greatest_below (stack_of m) (length m.units)
 
 -- V14 to V17: what each of them limits; nothing for any other rule
 abbrev pub bound_of : ModuleValue → Rule → ℕ

@@ -8,6 +8,7 @@ use Rattle.xk_types.specs.declared.instr.Instr.TheVariants as instr
 use Rattle.xk_types.specs.declared.unit.UnitKind.{UnitKind}
 use Rattle.xk_types.specs.declared.unit.UnitKind.TheVariants as unit_kind
 use Rattle.xk_types.specs.declared.unit.ParamKind.{ParamKind}
+use Rattle.xk_types.specs.declared.unit.ParamKind.TheVariants as param
 
 -- a unit: its kind, the kinds of its parameters, how many slots it has, its instructions
 pub record UnitValue : Type 0 where
@@ -26,13 +27,20 @@ module_of shared units = record { shared = shared; units = units }
 
 -- the slots whose values an instruction hands to a unit
 abbrev pub arguments_of : Instr → List ℕ
+arguments_of (instr.Call t args) = args
 arguments_of (instr.Spawn t args) = args
 arguments_of _ = []
 
--- the unit that an instruction starts, if it starts one
-abbrev pub unit_started : Instr → Option ℕ
-unit_started (instr.Spawn t args) = Some t
-unit_started _ = None
+-- the unit that an instruction calls, if it calls one
+abbrev pub unit_called : Instr → Option ℕ
+unit_called (instr.Call t args) = Some t
+unit_called _ = None
+
+-- the unit that it calls or starts
+abbrev pub unit_run : Instr → Option ℕ
+unit_run (instr.Call t args) = Some t
+unit_run (instr.Spawn t args) = Some t
+unit_run _ = None
 
 -- the two numbers compare so
 abbrev pub compares : Comparison → ℤ → ℤ → Bool
@@ -47,14 +55,28 @@ compares comparison.Ge a b = int_le b a
 abbrev pub params_of : ModuleValue → ℕ → List ParamKind
 params_of m unit = option_map_or (λ u. u.params) (slice_get m.units unit) []
 
--- a unit of main, of an activity that another one starts
+-- a unit of main, of a method, of an activity that another one starts
 abbrev pub is_main : UnitKind → Bool
 is_main unit_kind.Main = true
+is_main unit_kind.Method = false
 is_main unit_kind.Body = false
+
+abbrev pub is_method : UnitKind → Bool
+is_method unit_kind.Main = false
+is_method unit_kind.Method = true
+is_method unit_kind.Body = false
 
 abbrev pub is_body : UnitKind → Bool
 is_body unit_kind.Main = false
+is_body unit_kind.Method = false
 is_body unit_kind.Body = true
+
+-- the arguments that parameters take as clocks
+abbrev pub clock_arguments : List ParamKind → List ℕ → List ℕ
+clock_arguments [] xs = []
+clock_arguments (p ∷ ps) [] = []
+clock_arguments (param.Number ∷ ps) (x ∷ xs) = clock_arguments ps xs
+clock_arguments (param.Clock ∷ ps) (x ∷ xs) = x ∷ clock_arguments ps xs
 
 -- ---- loops
 

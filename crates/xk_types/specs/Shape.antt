@@ -6,9 +6,10 @@ use Rattle.xk_types.specs.declared.instr.Instr.{Instr}
 use Rattle.xk_types.specs.declared.instr.Instr.TheVariants as instr
 use Rattle.xk_types.specs.declared.rules.Rule.{Rule}
 use Rattle.xk_types.specs.declared.rules.Rule.TheVariants as rule
+use Rattle.xk_types.specs.declared.unit.UnitKind.{UnitKind}
 use Rattle.xk_types.specs.declared.unit.ParamKind.{ParamKind}
 use Rattle.xk_types.specs.declared.unit.ParamKind.TheVariants as param
-use Rattle.xk_types.specs.Code.{UnitValue, ModuleValue, is_main, is_body, params_of, Loop, loop_begun, loops, is_round, is_within}
+use Rattle.xk_types.specs.Code.{UnitValue, ModuleValue, is_main, is_method, is_body, params_of, clock_arguments, Loop, loop_begun, loops, is_round, is_within}
 
 -- the slots that an instruction names; that of a `next` is its `for`'s
 abbrev pub slots_named : Instr → List ℕ
@@ -26,6 +27,7 @@ slots_named (instr.Make d) = d ∷ []
 slots_named (instr.Resume c) = c ∷ []
 slots_named (instr.Drop c) = c ∷ []
 slots_named instr.Advance = []
+slots_named (instr.Call t args) = args
 slots_named (instr.Spawn t args) = args
 slots_named instr.Ret = []
 
@@ -49,11 +51,6 @@ target _ = None
 abbrev pub is_ret : Instr → Bool
 is_ret instr.Ret = true
 is_ret _ = false
-
--- the instruction makes a clock in one of the first n slots
-abbrev pub makes_below : ℕ → Instr → Bool
-makes_below n (instr.Make d) = nat_lt d n
-makes_below n _ = false
 
 -- a test of the instruction at a place, and no where there is none
 abbrev pub instr_is : (Instr → Bool) → Option Instr → Bool
@@ -139,18 +136,21 @@ breaks_slot u at = instr_is (λ i. not (list_all (λ s. nat_lt s u.slots) (slots
 abbrev pub is_in_place : ℕ → UnitValue → Bool
 is_in_place unit u = if unit == 0 then is_main u.kind && (length u.params == 0) else not (is_main u.kind)
 
--- what unit number `unit` starts is a body of greater number, and is given as many arguments as it has parameters
-abbrev pub is_startable : ℕ → ℕ → List ℕ → Option UnitValue → Bool
-is_startable unit t args None = false
-is_startable unit t args (Some v) = is_body v.kind && nat_lt unit t && (length args == length v.params)
+-- what unit number `unit` calls or starts is of such a kind and of greater number, and is given as many arguments as it has
+-- parameters
+abbrev pub is_fitting : (UnitKind → Bool) → ℕ → ℕ → List ℕ → Option UnitValue → Bool
+is_fitting kind unit t args None = false
+is_fitting kind unit t args (Some v) = kind v.kind && nat_lt unit t && (length args == length v.params)
 
-abbrev pub starts_amiss : ModuleValue → ℕ → Instr → Bool
-starts_amiss m unit (instr.Spawn t args) = not (is_startable unit t args (slice_get m.units t))
-starts_amiss m unit _ = false
+abbrev pub runs_amiss : ModuleValue → ℕ → Instr → Bool
+runs_amiss m unit (instr.Call t args) = not (is_fitting is_method unit t args (slice_get m.units t))
+runs_amiss m unit (instr.Spawn t args) = not (is_fitting is_body unit t args (slice_get m.units t))
+runs_amiss m unit _ = false
 
--- V4: unit 0 is the only main, and has no parameters (a breach is reported at instruction 0); a unit that is started fits
+-- V4: unit 0 is the only main, and has no parameters (a breach is reported at instruction 0); a unit that is called or started
+-- fits
 abbrev pub breaks_unit : ModuleValue → ℕ → UnitValue → ℕ → Bool
-breaks_unit m unit u at = ((at == 0) && not (is_in_place unit u)) || instr_is (starts_amiss m unit) (slice_get u.code at)
+breaks_unit m unit u at = ((at == 0) && not (is_in_place unit u)) || instr_is (runs_amiss m unit) (slice_get u.code at)
 
 -- V7: the last instruction is `ret`, and no other is; for empty code a breach is reported at 0
 abbrev pub breaks_end : UnitValue → ℕ → Bool
@@ -159,16 +159,22 @@ breaks_end u at =
     || instr_is (λ i. not (is_ret i) && (at + 1 == length u.code)) (slice_get u.code at)
     || ((at == 0) && (length u.code == 0))
 
--- V8: no parameter is made. (Where all code is one block, all that make the clock of one slot stand in one block.)
-abbrev pub breaks_home : UnitValue → ℕ → Bool
-breaks_home u at = instr_is (makes_below (length u.params)) (slice_get u.code at)
+-- the parameter takes a clock
+abbrev pub takes_clock : Option ParamKind → Bool
+takes_clock None = false
+takes_clock (Some param.Number) = false
+takes_clock (Some param.Clock) = true
 
--- the arguments that parameters take as clocks
-abbrev pub clock_arguments : List ParamKind → List ℕ → List ℕ
-clock_arguments [] xs = []
-clock_arguments (p ∷ ps) [] = []
-clock_arguments (param.Number ∷ ps) (x ∷ xs) = clock_arguments ps xs
-clock_arguments (param.Clock ∷ ps) (x ∷ xs) = x ∷ clock_arguments ps xs
+-- the instruction makes a clock in a parameter, or drops one that a method was lent
+abbrev pub mishandles : UnitValue → Instr → Bool
+mishandles u (instr.Make d) = nat_lt d (length u.params)
+mishandles u (instr.Drop k) = is_method u.kind && takes_clock (slice_get u.params k)
+mishandles u _ = false
+
+-- V8: no parameter is made, and no method drops a clock that it was lent. (Where all code is one block, all that make the
+-- clock of one slot stand in one block.)
+abbrev pub breaks_home : UnitValue → ℕ → Bool
+breaks_home u at = instr_is (mishandles u) (slice_get u.code at)
 
 -- some number stands twice in the list
 abbrev pub has_twice : List ℕ → Bool
@@ -176,6 +182,7 @@ has_twice [] = false
 has_twice (x ∷ xs) = list_any (λ y. y == x) xs || has_twice xs
 
 abbrev pub gives_twice : ModuleValue → Instr → Bool
+gives_twice m (instr.Call t args) = has_twice (clock_arguments (params_of m t) args)
 gives_twice m (instr.Spawn t args) = has_twice (clock_arguments (params_of m t) args)
 gives_twice m _ = false
 

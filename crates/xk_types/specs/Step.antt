@@ -28,12 +28,13 @@ use Rattle.xk_types.specs.declared.names.Event.{Event}
 use Rattle.xk_types.specs.declared.names.Event.TheVariants as event
 use Rattle.xk_types.specs.declared.unit.ParamKind.{ParamKind}
 use Rattle.xk_types.specs.declared.unit.ParamKind.TheVariants as param
-use Rattle.xk_types.specs.Code.{UnitValue, ModuleValue, is_body, compares}
-use Rattle.xk_types.specs.World.{Finish, Activity, Clock, World, standing_of, frame_with, instruction_at}
+use Rattle.xk_types.specs.Code.{UnitValue, ModuleValue, is_method, is_body, compares}
+use Rattle.xk_types.specs.World.{Frame, Finish, Activity, Clock, World, standing_of, frame_with, instruction_at}
 
 -- Why a step is wrong: a clock operation by an activity that isn't registered on the clock; an unset slot is read; a
 -- number is wanted and a clock stands there, or the reverse; there is no such instruction, unit, slot, clock or shared
--- number, or the unit can't be started so: it is no body, or has another number of parameters than there are arguments.
+-- number, or the unit can't be called or started so: it is no method or no body, or has another number of parameters than there
+-- are arguments.
 pub data Cause : Type 0 where
   ClockUse : Cause
   Missing : Cause
@@ -261,6 +262,27 @@ spawning m w a act unit args None = Wrong OutOfRange
 spawning m w a act unit args (Some u) =
     if is_body u.kind then arguments_in w a act u.params args (spawned m w a act unit) else Wrong OutOfRange
 
+-- ---- calling a method
+
+-- the activity runs a unit with these values, and the frame that it ran waits at its `call`
+abbrev pub called : ModuleValue → Activity → ℕ → List Value → Activity
+called m act unit values = record act { frame = frame_with m unit values; callers = act.frame ∷ act.callers }
+
+-- activity a calls this unit; only a method can be called
+abbrev pub calling : ModuleValue → World → ℕ → Activity → ℕ → List ℕ → Option UnitValue → Outcome
+calling m w a act unit args None = Wrong OutOfRange
+calling m w a act unit args (Some u) =
+    if is_method u.kind then arguments_in w a act u.params args (λ values. done w a (called m act unit values) none event.Local) else Wrong OutOfRange
+
+-- back in the frame that waited, behind its `call`
+abbrev pub back_in : Activity → Frame → List Frame → Activity
+back_in act f fs = record act { frame = record f { place = f.place + 1 }; callers = fs }
+
+-- a `ret`, by the frames that wait: back to the last of them, or the end of the activity
+abbrev pub returning : World → ℕ → Activity → List Frame → Outcome
+returning w a act [] = done w a (ended act) (all dropped) event.Ended
+returning w a act (f ∷ fs) = done w a (back_in act f fs) none event.Local
+
 -- ---- numbers
 
 -- slot d becomes a number that comes of two others
@@ -303,8 +325,9 @@ carried_out m w a act (instr.Make k) = writing act k (value.Clock (length w.cloc
 carried_out m w a act (instr.Resume k) = clock_in w a (slot_at act k) (λ c. done w a (onward act) (only c resumed) event.Resumed)
 carried_out m w a act (instr.Drop k) = clock_in w a (slot_at act k) (λ c. done w a (onward act) (only c dropped) event.Dropped)
 carried_out m w a act instr.Advance = done w a (arrived act) (all resumed) event.Arrived
+carried_out m w a act (instr.Call t args) = calling m w a act t args (slice_get m.units t)
 carried_out m w a act (instr.Spawn t args) = spawning m w a act t args (slice_get m.units t)
-carried_out m w a act instr.Ret = done w a (ended act) (all dropped) event.Ended
+carried_out m w a act instr.Ret = returning w a act act.callers
 
 abbrev pub run_at : ModuleValue → World → ℕ → Activity → Option Instr → Outcome
 run_at m w a act None = Wrong OutOfRange

@@ -3,7 +3,7 @@
 -- A slot's kind says what it holds: nothing, a number, or the name of a clock on which the activity is registered and
 -- open (live), registered and signalled or ahead (resumed), or registered no more (out). Kinds, table and walks are this
 -- project's own.
-use Rattle.std.specs.Prelude.{◌≡◌, ℕ, ◌+◌, ◌<◌, ◌==◌, List, [], ◌∷◌, Option, Some, None, slice_get, if◌then◌else◌}
+use Rattle.std.specs.Prelude.{◌≡◌, ℕ, ◌+◌, ◌<◌, ◌==◌, nat_lt, Bool, true, false, not, ◌&&◌, length, List, [], ◌∷◌, Option, Some, None, slice_get, if◌then◌else◌}
 use Rattle.xk_types.specs.declared.instr.Instr.{Instr}
 use Rattle.xk_types.specs.declared.instr.Instr.TheVariants as instr
 use Rattle.xk_types.specs.declared.unit.ParamKind.{ParamKind}
@@ -13,7 +13,8 @@ use Rattle.xk_types.specs.declared.rules.Rule.TheVariants as rule
 use Rattle.xk_types.specs.declared.rules.Kind.{Kind}
 use Rattle.xk_types.specs.declared.rules.Kind.TheVariants as kind
 use Rattle.xk_types.specs.declared.rules.Visit.{Visit}
-use Rattle.xk_types.specs.Code.{UnitValue, ModuleValue, params_of}
+use Rattle.std.specs.List.{list_any}
+use Rattle.xk_types.specs.Code.{UnitValue, ModuleValue, params_of, clock_arguments, is_method}
 use Rattle.xk_types.specs.Order.{Has}
 
 -- what an instruction leaves of a kind: the kinds that it may be afterwards, or a refusal by a rule
@@ -92,6 +93,24 @@ gives (p ∷ ps) [] s k go = go
 gives (param.Number ∷ ps) (x ∷ xs) s k go = reads x s k (gives ps xs s k go)
 gives (param.Clock ∷ ps) (x ∷ xs) s k go = hands_on x s k (gives ps xs s k go)
 
+-- What a call leaves of a kind, by whether the slot is lent: the method may resume what it is lent, and wait for all clocks, so
+-- that what was resumed is live again.
+abbrev pub across : Bool → Kind → After
+across lent kind.Unset = becomes kind.Unset
+across lent kind.Number = becomes kind.Number
+across false kind.Live = becomes kind.Live
+across true kind.Live = To (kind.Live ∷ kind.Resumed ∷ [])
+across lent kind.Resumed = To (kind.Live ∷ kind.Resumed ∷ [])
+across lent kind.Out = becomes kind.Out
+
+-- the slot is lent with these arguments
+abbrev pub is_lent : List ParamKind → List ℕ → ℕ → Bool
+is_lent ps xs s = list_any (λ x. x == s) (clock_arguments ps xs)
+
+-- the slot is a method's own: its clock is lost when the method returns
+abbrev pub is_own : UnitValue → ℕ → Bool
+is_own u s = is_method u.kind && not (nat_lt s (length u.params))
+
 -- ---- the table: what an instruction of unit u leaves of the kind k of slot s
 
 abbrev pub after : ModuleValue → UnitValue → Instr → ℕ → Kind → After
@@ -109,8 +128,9 @@ after m u (instr.Make d) s k = writes d kind.Live s k
 after m u (instr.Resume c) s k = uses c kind.Resumed s k
 after m u (instr.Drop c) s k = uses c kind.Out s k
 after m u instr.Advance s k = becomes (awake k)
+after m u (instr.Call t args) s k = gives (params_of m t) args s k (across (is_lent (params_of m t) args s) k)
 after m u (instr.Spawn t args) s k = gives (params_of m t) args s k (becomes k)
-after m u instr.Ret s k = becomes k
+after m u instr.Ret s k = if is_own u s then overwritten k (becomes k) else becomes k
 
 -- ---- edges
 

@@ -109,10 +109,13 @@ pub enum Instr {
     Drop(u16),
     /// `advance`: resumes every clock of the activity, then waits until all of them have advanced. Two steps.
     Advance,
+    /// `call u args`: runs unit u, a method, with these arguments, and goes on when it returns. The method borrows the clocks
+    /// among them.
+    Call(u16, Args),
     /// `spawn u args`: starts a new activity that runs unit u with these arguments. It is registered on the clocks among
     /// them, and stands on each where its starter stands.
     Spawn(u16, Args),
-    /// `ret`: the activity ends. Goes nowhere.
+    /// `ret`: in a method, back behind the `call` that runs it; else the activity ends. Goes nowhere.
     Ret,
 }
 
@@ -122,7 +125,7 @@ impl Instr {
         ensures { result ≡ length (arguments_of self.now) }
     {
         match self {
-            Instr::Spawn(_, args) => args.count(),
+            Instr::Call(_, args) | Instr::Spawn(_, args) => args.count(),
             _ => 0,
         }
     }

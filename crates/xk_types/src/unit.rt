@@ -11,6 +11,8 @@ use std::marker::Model;
 pub enum UnitKind {
     /// The code of activity 0.
     Main,
+    /// Code that an activity runs where it is called.
+    Method,
     /// The code of an activity that another one starts.
     Body,
 }

@@ -5,8 +5,8 @@ use Rattle.std.proofs.lemmas.Bool.{cases_lt}
 use Rattle.xk_types.specs.declared.rules.Kind.{Kind}
 use Rattle.xk_types.specs.declared.unit.ParamKind.{ParamKind}
 use Rattle.xk_types.specs.declared.unit.ParamKind.TheVariants as param
+use Rattle.xk_types.specs.Code.{clock_arguments}
 use Rattle.xk_types.specs.Walk.{After, reads, hands_on, gives}
-use Rattle.xk_types.specs.Shape.{clock_arguments}
 
 nothing_given : (ps : List ParamKind) (s : ℕ) (k : Kind) (go : After) → gives ps [] s k go ≡ go
 nothing_given [] s k go = refl

@@ -38,6 +38,7 @@ module _ (u : UnitValue) (at : ℕ) where
   inside_of (instr.Resume k) lt aims next to h = one (at + 1) to (next refl) h
   inside_of (instr.Drop k) lt aims next to h = one (at + 1) to (next refl) h
   inside_of instr.Advance lt aims next to h = one (at + 1) to (next refl) h
+  inside_of (instr.Call t args) lt aims next to h = one (at + 1) to (next refl) h
   inside_of (instr.Spawn t args) lt aims next to h = one (at + 1) to (next refl) h
 
   -- an instruction that isn't `ret` isn't the last

@@ -1,16 +1,16 @@
 //! The table of kinds, and where instructions lead: all that depends on which instructions there are.
 
-ghost use Rattle.std.specs.Prelude.{◌≡◌, ℕ, ◌↔◌, ◌<◌, [], ◌∷◌, IsTrue, MatchResult, Some, slice_get};
+ghost use Rattle.std.specs.Prelude.{◌≡◌, ℕ, ◌↔◌, ◌<◌, [], ◌∷◌, IsTrue, MatchResult, Ok, Some, slice_get, if◌then◌else◌};
 ghost use Rattle.xk_types.specs.declared.rules.Kind.{Kind};
 ghost use Rattle.xk_types.specs.declared.rules.Kind.TheVariants.{Number};
 ghost use Rattle.xk_types.specs.Order.{Has};
-ghost use Rattle.xk_types.specs.Walk.{After, Refused, after, awake, reads, may_read, loop_slot, writes, uses, hands_on, gives, successors, entry_kinds, MayBecome};
+ghost use Rattle.xk_types.specs.Walk.{After, Refused, after, becomes, awake, reads, may_read, loop_slot, overwritten, writes, uses, hands_on, gives, across, is_lent, is_own, successors, entry_kinds, MayBecome};
 ghost use Rattle.xk_typestate.specs.KindSet.{kinds_have};
 ghost use Rattle.xk_typestate.specs.Rows.{IsRow, places};
 
 use crate::kind_set::KindSet;
 use xk_shape::params_of;
-use xk_types::{Instr, Kind, Module, ParamKind, Rule, Unit};
+use xk_types::{Instr, Kind, Module, ParamKind, Rule, Unit, UnitKind};
 
 /// Where an instruction may lead, in rising order.
 #[derive(Clone, Copy)]
@@ -104,12 +104,17 @@ pub(crate) fn kinds_after(
         Instr::Resume(c) => used(*c, Kind::Resumed, slot, kind),
         Instr::Drop(c) => used(*c, Kind::Out, slot, kind),
         Instr::Advance => Ok(KindSet::of(woken(kind))),
+        Instr::Call(called, args) => {
+            let params = params_of(m, *called);
+            given(params, args.slots(), slot, kind)?;
+            Ok(kinds_across(is_lent(params, args.slots(), slot), kind))
+        }
         Instr::Spawn(started, args) => {
             given(params_of(m, *started), args.slots(), slot, kind)?;
             Ok(KindSet::of(kind))
         }
         Instr::Jump(_) => Ok(KindSet::of(kind)),
-        Instr::Ret => Ok(KindSet::of(kind)),
+        Instr::Ret => returned(u, slot, kind),
     }
 }
 
@@ -203,8 +208,18 @@ fn handed_on(c: u16, slot: u16, kind: Kind) -> Result<(), Rule>
 fn written(d: u16, new: Kind, slot: u16, kind: Kind) -> Result<KindSet, Rule>
     ensures { IsRow (writes d new slot kind) result }
 {
+    if slot == d {
+        overwritten(kind, new)
+    } else {
+        Ok(KindSet::of(kind))
+    }
+}
+
+/// Overwrites a slot: a clock on which the activity is still registered would be lost.
+fn overwritten(kind: Kind, new: Kind) -> Result<KindSet, Rule>
+    ensures { IsRow (overwritten kind (becomes new)) result }
+{
     match kind {
-        _ if slot != d => Ok(KindSet::of(kind)),
         Kind::Unset | Kind::Number | Kind::Out => Ok(KindSet::of(new)),
         Kind::Live | Kind::Resumed => Err(Rule::Leak),
     }
@@ -228,5 +243,54 @@ fn woken(kind: Kind) -> Kind
     match kind {
         Kind::Resumed => Kind::Live,
         Kind::Unset | Kind::Number | Kind::Live | Kind::Out => kind,
+    }
+}
+
+/// What a call leaves of a kind, by whether the slot is lent.
+fn kinds_across(lent: bool, kind: Kind) -> KindSet
+    ensures { IsRow (across lent kind) (Ok result) }
+{
+    match kind {
+        Kind::Live if !lent => KindSet::of(kind),
+        Kind::Live | Kind::Resumed => KindSet::of(Kind::Live).with(Kind::Resumed),
+        Kind::Unset | Kind::Number | Kind::Out => KindSet::of(kind),
+    }
+}
+
+/// Whether a parameter takes the slot as a clock.
+fn is_lent(params: &[ParamKind], args: &[u16], slot: u16) -> bool
+    ensures { result ≡ is_lent params.now args.now slot }
+{
+    for i in 0..params.len().min(args.len()) {
+        match params[i] {
+            ParamKind::Number => {}
+            ParamKind::Clock => {
+                if args[i] == slot {
+                    return true;
+                }
+            }
+        }
+    }
+    false
+}
+
+/// What `ret` leaves of a kind: where a method returns, its own slots are lost.
+fn returned(u: &Unit, slot: u16, kind: Kind) -> Result<KindSet, Rule>
+    ensures { IsRow (if is_own u.now slot then overwritten kind (becomes kind) else becomes kind) result }
+{
+    if is_own(u, slot) {
+        overwritten(kind, kind)
+    } else {
+        Ok(KindSet::of(kind))
+    }
+}
+
+/// Whether the slot is a method's own, and no parameter.
+fn is_own(u: &Unit, slot: u16) -> bool
+    ensures { result ≡ is_own u.now slot }
+{
+    match u.kind {
+        UnitKind::Method => slot as usize >= u.params.len(),
+        UnitKind::Main | UnitKind::Body => false,
     }
 }

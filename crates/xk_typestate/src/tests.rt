@@ -3,17 +3,19 @@ use std::alloc::Global;
 use std::process::Abort;
 use std::test::Fail;
 use xk_shape::shape;
-use xk_types::{Comparison, Instr, Kind, Limit, Module, ParamKind, Unit, UnitKind};
+use xk_types::{Args, Comparison, Instr, Kind, Limit, Module, ParamKind, Unit, UnitKind};
 
 /// The module of these units.
 fn module(alloc: Global, units: Vec<Unit>) -> Result<Module, Limit> {
     Module::new(Vec::new(alloc), units).map_err(|e| e.2)
 }
 
-/// What the check says of a main unit that ends at once and a unit with three slots, these parameters and this code.
+/// What the check says of a main unit that ends at once, a unit with three slots, of this kind, with these parameters and
+/// this code, and a method that is lent a clock.
 fn check(
     rt: &impl Abort,
     alloc: Global,
+    kind: UnitKind,
     params: &[ParamKind],
     code: Vec<Instr>,
 ) -> Result<Result<Typed, KindError>, Fail> {
@@ -23,13 +25,19 @@ fn check(
         slots: 0,
         code: vec![in alloc; Instr::Ret]?,
     };
-    let body = Unit {
-        kind: UnitKind::Body,
+    let unit = Unit {
+        kind,
         params: Vec::from_slice(alloc, params)?,
         slots: 3,
         code,
     };
-    match shape(alloc, module(alloc, vec![in alloc; main, body]?)?) {
+    let method = Unit {
+        kind: UnitKind::Method,
+        params: vec![in alloc; ParamKind::Clock]?,
+        slots: 1,
+        code: vec![in alloc; Instr::Ret]?,
+    };
+    match shape(alloc, module(alloc, vec![in alloc; main, unit, method]?)?) {
         Ok(shaped) => Ok(check_kinds(alloc, shaped).map_err(|e| e.1)),
         Err(_) => panic!(rt; "no shape"),
     }
@@ -45,22 +53,27 @@ fn kinds_at(typed: &Typed, at: u16, slot: u16) -> Option<KindSet> {
     }
 }
 
-/// The module, where it is typed.
+/// The module with a body of this code, where it is typed.
 fn typed(
     rt: &impl Abort,
     alloc: Global,
     params: &[ParamKind],
     code: Vec<Instr>,
 ) -> Result<Typed, Fail> {
-    match check(rt, alloc, params, code)? {
+    match check(rt, alloc, UnitKind::Body, params, code)? {
         Ok(typed) => Ok(typed),
         Err(_) => panic!(rt; "refused"),
     }
 }
 
-/// The fault, where there is one.
-fn fault(rt: &impl Abort, alloc: Global, code: Vec<Instr>) -> Result<KindFault, Fail> {
-    match check(rt, alloc, &[], code)? {
+/// The fault of the module with a unit of this kind and code, where there is one.
+fn fault(
+    rt: &impl Abort,
+    alloc: Global,
+    kind: UnitKind,
+    code: Vec<Instr>,
+) -> Result<KindFault, Fail> {
+    match check(rt, alloc, kind, &[], code)? {
         Err(KindError::Fault(fault)) => Ok(fault),
         _ => panic!(rt; "no fault"),
     }
@@ -103,11 +116,41 @@ fn refuses_in_the_second_turn(rt: HostRuntime) -> Result<(), Fail> {
         Instr::Next(1),
         Instr::Ret,
     ]?;
-    let fault = fault(&rt, alloc, code)?;
+    let fault = fault(&rt, alloc, UnitKind::Body, code)?;
     assert_eq!(rt; fault.rule.number(), 11);
     assert_eq!(rt; (fault.unit, fault.at, fault.slot), (1, 2, 0));
     assert_eq!(rt; fault.kind, Kind::Out);
     let places: Vec<u16> = fault.walk.iter().map(|v| v.at).collect(alloc)?;
     assert_eq!(rt; places.as_slice(), [0, 1, 2, 3, 2].as_slice());
+    Ok(())
+}
+
+#[test]
+fn lends_clocks(rt: HostRuntime) -> Result<(), Fail> {
+    let alloc = rt.alloc();
+    let code = vec![in alloc;
+        Instr::Make(0),
+        Instr::Make(1),
+        Instr::Make(2),
+        Instr::Resume(2),
+        Instr::Call(2, Args::new(vec![in alloc; 0]?)),
+        Instr::Ret,
+    ]?;
+    let typed = typed(&rt, alloc, &[], code)?;
+    let either = KindSet::of(Kind::Live).with(Kind::Resumed);
+    assert_eq!(rt; kinds_at(&typed, 5, 0), Some(either));
+    assert_eq!(rt; kinds_at(&typed, 5, 1), Some(KindSet::of(Kind::Live)));
+    assert_eq!(rt; kinds_at(&typed, 5, 2), Some(either));
+    Ok(())
+}
+
+#[test]
+fn refuses_a_method_that_keeps_a_clock(rt: HostRuntime) -> Result<(), Fail> {
+    let alloc = rt.alloc();
+    let code = vec![in alloc; Instr::Make(0), Instr::Ret]?;
+    let fault = fault(&rt, alloc, UnitKind::Method, code)?;
+    assert_eq!(rt; fault.rule.number(), 13);
+    assert_eq!(rt; (fault.unit, fault.at, fault.slot), (1, 1, 0));
+    assert_eq!(rt; fault.kind, Kind::Live);
     Ok(())
 }

@@ -1,6 +1,8 @@
--- the greatest among the units so far
-use Rattle.std.proofs.Common.{◌≡◌, max, fold, take}
+-- the most among the instructions so far
+use Rattle.std.proofs.Common.{◌≡◌, map, take, slice_index}
+use Rattle.xk_types.specs.Bound.{greatest}
+use Rattle.xk_bounds.specs.Measure.{called_by}
 use Rattle.xk_bounds.proofs.bounds.stack_of.Given as goal
 
-abbrev pub invariant-loop-u : goal.invariant-loop-u
-invariant-loop-u l = l.stack ≡ fold (λ a u. max a u.slots) 0 (take l.u-index l.m.units)
+abbrev pub invariant-loop-instr : goal.invariant-loop-instr
+invariant-loop-instr l = l.below ≡ greatest (map (called_by (slice_index l.table)) (take l.instr-index l.u.code))

@@ -2,7 +2,7 @@
 use Rattle.std.proofs.Common.{ℕ, ◌+◌, ◌<◌, ◌≤◌, min, ◌||◌, eqb, Bool, List, length, get_or, drop, ap, sym, ◌∙◌, arith}
 use Rattle.std.specs.List.{list_any}
 use Rattle.std.proofs.lemmas.Bool.{ne_eqb}
-use Rattle.xk_types.specs.Shape.{clock_arguments}
+use Rattle.xk_types.specs.Code.{clock_arguments}
 use Rattle.xk_shape.proofs.Clocks.{clocks_skip, clocks_more, clocks_end}
 use Rattle.xk_shape.proofs.rules.has_clock.Goals as goal
 use Rattle.xk_shape.proofs.rules.has_clock.Goals.{in-Number, in-Clock+else-args-i}

@@ -1,7 +1,7 @@
 -- the arguments that are left decide
 use Rattle.std.proofs.Common.{◌≡◌, eqb, drop}
 use Rattle.std.specs.List.{list_any}
-use Rattle.xk_types.specs.Shape.{clock_arguments}
+use Rattle.xk_types.specs.Code.{clock_arguments}
 use Rattle.xk_shape.proofs.rules.has_clock.Given as goal
 
 abbrev pub invariant-loop-i : goal.invariant-loop-i

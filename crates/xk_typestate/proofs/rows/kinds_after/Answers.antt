@@ -20,6 +20,3 @@ returns-in_ok-given-in-Spawn c = one_row _ c.args.kind c.of-in-Spawn.result (sea
 
 pub returns-in-Jump : goal.returns-in-Jump
 returns-in-Jump c = one_row _ c.args.kind c.of-in-Jump.result (search rules) c.of-in-Jump.ensures
-
-pub returns-in-Ret : goal.returns-in-Ret
-returns-in-Ret c = one_row _ c.args.kind c.of-in-Ret.result (search rules) c.of-in-Ret.ensures
