@@ -5,8 +5,8 @@ use Rattle.xk_types.specs.declared.instr.Instr.{Instr}
 use Rattle.xk_types.specs.declared.names.Status.{Status}
 use Rattle.xk_types.specs.declared.names.Status.TheVariants as status
 use Rattle.xk_types.specs.Code.{ModuleValue, IsWithinLimits}
-use Rattle.xk_types.specs.World.{Activity, World, instruction_at}
-use Rattle.xk_types.specs.Schedule.{IsReached, is_enabled, is_ended}
+use Rattle.xk_types.specs.World.{Activity, World, instruction_at, is_ended}
+use Rattle.xk_types.specs.Schedule.{IsReached, is_enabled}
 use Rattle.xk_types.specs.Accepted.{IsAccepted}
 use Rattle.xk_core.specs.Arm.{grows}
 

@@ -5,7 +5,6 @@ ghost use Rattle.xk_types.specs.declared.names.Value.TheVariants as value;
 ghost use Rattle.xk_types.specs.declared.instr.Instr.TheVariants as instruction;
 ghost use Rattle.xk_types.specs.Code.{UnitValue};
 ghost use Rattle.xk_types.specs.Step.{slot_at, onward, going, with_slots, arrived, ended, past};
-ghost use Rattle.xk_types.specs.Schedule.{is_ended};
 ghost use Rattle.xk_core.specs.declared.change.StepChange.TheVariants as step_change;
 ghost use Rattle.xk_types.specs.declared.names.Event.TheVariants as event;
 ghost use Rattle.xk_core.specs.Joining.{started, called_with, given_slots};
@@ -67,7 +66,7 @@ impl Model for Activity {
 
 impl Activity {
     ghost use Rattle.std.specs.Prelude.{[]};
-    ghost use Rattle.xk_types.specs.World.{root};
+    ghost use Rattle.xk_types.specs.World.{root, is_ended};
     ghost use Rattle.xk_types.specs.declared.names.Status.TheVariants as status;
 
     /// An activity before its first step.

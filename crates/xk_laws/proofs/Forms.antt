@@ -14,9 +14,8 @@ use Rattle.xk_types.specs.declared.names.Event.TheVariants as event
 use Rattle.xk_types.specs.declared.unit.ParamKind.{ParamKind}
 use Rattle.xk_types.specs.declared.unit.ParamKind.TheVariants as param
 use Rattle.xk_types.specs.Code.{UnitValue, ModuleValue, is_method, is_body}
-use Rattle.xk_types.specs.World.{Frame, Activity, Clock, World, standing_of, instruction_at}
+use Rattle.xk_types.specs.World.{Frame, Activity, Clock, World, standing_of, instruction_at, is_ended}
 use Rattle.xk_types.specs.Step.{Cause, Outcome, Blocked, Wrong, ClockUse, OutOfRange, is_registered, number_in, clock_in, registered_on, put_in, slot_at, arguments_in, computing, turning, spawned, spawning, carried_out, run_at, done, made, waits, passing, step_by, step_of, step, called, calling, returning, none}
-use Rattle.xk_types.specs.Schedule.{is_ended}
 
 -- What holds of a blocked step, of each wrong one, and of the three forms: one that changes activity a and where it stands, one
 -- that makes a clock, one that starts an activity. Who takes a step hasn't ended.

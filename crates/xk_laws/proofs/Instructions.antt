@@ -17,8 +17,7 @@ use Rattle.xk_types.specs.declared.rules.Kind.{Kind}
 use Rattle.xk_types.specs.declared.rules.Kind.TheVariants as kind
 use Rattle.xk_types.specs.declared.instr.Comparison.{Comparison}
 use Rattle.xk_types.specs.Code.{ModuleValue, compares, params_of, unit_run, UnitValue, is_method, is_body}
-use Rattle.xk_types.specs.World.{Activity, World, standing_of, instruction_at, Frame, frame_with}
-use Rattle.xk_types.specs.Schedule.{is_ended}
+use Rattle.xk_types.specs.World.{Activity, World, standing_of, instruction_at, Frame, frame_with, is_ended}
 use Rattle.xk_types.specs.Accepted.{IsAccepted}
 use Rattle.xk_types.specs.declared.names.Event.{Event}
 use Rattle.xk_types.specs.declared.names.Event.TheVariants as event

@@ -10,9 +10,9 @@ use Rattle.xk_types.specs.declared.names.Standing.{Standing}
 use Rattle.xk_types.specs.declared.names.Standing.TheVariants as standing
 use Rattle.xk_types.specs.declared.names.Event.TheVariants as event
 use Rattle.xk_types.specs.Code.{ModuleValue}
-use Rattle.xk_types.specs.World.{Activity, Clock, World, standing_of}
+use Rattle.xk_types.specs.World.{Activity, Clock, World, standing_of, is_ended}
 use Rattle.xk_types.specs.Step.{Outcome, Blocked, Wrong, Stepped, is_signalled, is_pending, all, passed, past, done, waits, step_by, step_of, step}
-use Rattle.xk_types.specs.Schedule.{is_step, is_enabled, is_ended, all_ended}
+use Rattle.xk_types.specs.Schedule.{is_step, is_enabled, all_ended}
 use Rattle.xk_types.specs.Accepted.{IsAccepted}
 use Rattle.xk_laws.proofs.Invariant.{Stands, IsActivitySound, IsSound, stands_on, looks, kind_by}
 use Rattle.xk_laws.proofs.Lists.{get_inside, any_found, all_given}

@@ -3,12 +3,10 @@
 -- whose, is this project's own.
 use Rattle.std.specs.Prelude.{◌≡◌, ℕ, ℤ, Bool, true, false, not, List, [], ◌∷◌, Option, Some, None, filter}
 use Rattle.std.specs.List.{list_all, filter_map}
-use Rattle.xk_types.specs.declared.names.Status.{Status}
-use Rattle.xk_types.specs.declared.names.Status.TheVariants as status
 use Rattle.xk_types.specs.declared.names.Event.{Event}
 use Rattle.xk_types.specs.declared.names.Event.TheVariants as event
 use Rattle.xk_types.specs.Code.{ModuleValue}
-use Rattle.xk_types.specs.World.{World, opening}
+use Rattle.xk_types.specs.World.{World, opening, is_ended}
 use Rattle.xk_types.specs.Step.{Cause, Outcome, Blocked, Wrong, Stepped, step}
 
 -- How a list of activity numbers goes: through to a last world; or it stops in a world before a step that is blocked, or
@@ -47,11 +45,6 @@ is_step (Stepped w e) = true
 abbrev pub is_enabled : ModuleValue → World → ℕ → Bool
 is_enabled m w a = is_step (step m w a)
 
-abbrev pub is_ended : Status → Bool
-is_ended status.Running = false
-is_ended status.Arrived = false
-is_ended status.Ended = true
-
 -- every activity has ended
 abbrev pub all_ended : World → Bool
 all_ended w = list_all (λ act. is_ended act.status) w.activities
@@ -62,6 +55,8 @@ abbrev pub is_local : Event → Bool
 is_local event.Local = true
 is_local (event.Printed n) = false
 is_local event.Made = false
+is_local event.Opened = false
+is_local event.Closed = false
 is_local event.Spawned = false
 is_local event.Resumed = false
 is_local event.Dropped = false
@@ -87,6 +82,8 @@ abbrev pub number_printed : Event → Option ℤ
 number_printed event.Local = None
 number_printed (event.Printed n) = Some n
 number_printed event.Made = None
+number_printed event.Opened = None
+number_printed event.Closed = None
 number_printed event.Spawned = None
 number_printed event.Resumed = None
 number_printed event.Dropped = None

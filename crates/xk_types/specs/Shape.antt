@@ -1,5 +1,5 @@
 -- The rules on the shape of code: which places break them. They are this project's own.
-use Rattle.std.specs.Prelude.{◌≡◌, ℕ, ◌+◌, ◌==◌, nat_lt, int_lt, option_and_then, Bool, true, false, not, ◌&&◌, ◌||◌, List, [], ◌∷◌, length, Option, Some, None, slice_get, if◌then◌else◌}
+use Rattle.std.specs.Prelude.{◌≡◌, ℕ, ◌+◌, ◌==◌, nat_lt, int_lt, option_and_then, Bool, true, false, not, ◌&&◌, ◌||◌, List, [], ◌∷◌, ◌++◌, length, map, take, Option, Some, None, slice_get, if◌then◌else◌}
 use Rattle.std.specs.List.{list_all, list_any}
 use Rattle.std.specs.Option.{option_map_or}
 use Rattle.xk_types.specs.declared.instr.Instr.{Instr}
@@ -9,7 +9,8 @@ use Rattle.xk_types.specs.declared.rules.Rule.TheVariants as rule
 use Rattle.xk_types.specs.declared.unit.UnitKind.{UnitKind}
 use Rattle.xk_types.specs.declared.unit.ParamKind.{ParamKind}
 use Rattle.xk_types.specs.declared.unit.ParamKind.TheVariants as param
-use Rattle.xk_types.specs.Code.{UnitValue, ModuleValue, is_main, is_method, is_body, params_of, clock_arguments, Loop, loop_begun, loops, is_round, is_within}
+use Rattle.xk_types.specs.Code.{UnitValue, ModuleValue, is_main, is_method, is_body, params_of, clock_arguments, Loop, loop_begun, loops, is_within}
+use Rattle.xk_types.specs.Blocks.{Span, finish_opened, finishes, is_inside, block_at, takes_clock, made_from, homes, is_elsewhere}
 
 -- the slots that an instruction names; that of a `next` is its `for`'s
 abbrev pub slots_named : Instr → List ℕ
@@ -22,6 +23,8 @@ slots_named (instr.Unless op x y t) = x ∷ y ∷ []
 slots_named (instr.Jump t) = []
 slots_named (instr.For k lo hi e) = k ∷ []
 slots_named (instr.Next b) = []
+slots_named (instr.Finish e) = []
+slots_named (instr.EndFinish b) = []
 slots_named (instr.Print x) = x ∷ []
 slots_named (instr.Make d) = d ∷ []
 slots_named (instr.Resume c) = c ∷ []
@@ -69,45 +72,65 @@ aims_well u at (instr.Unless op x y t) = lies_ahead u at t
 aims_well u at (instr.Jump t) = lies_ahead u at t
 aims_well u at (instr.For k lo hi e) = lies_ahead u at e
 aims_well u at (instr.Next b) = nat_lt b at
+aims_well u at (instr.Finish e) = lies_ahead u at e
+aims_well u at (instr.EndFinish b) = nat_lt b at
 aims_well u at _ = true
 
--- V1: targets and the ends of loops lie ahead and inside the code, their beginnings behind
+-- V1: targets and the ends of loops and finishes lie ahead and inside the code, their beginnings behind
 abbrev pub breaks_target : UnitValue → ℕ → Bool
 breaks_target u at = instr_is (λ i. not (aims_well u at i)) (slice_get u.code at)
 
--- one loop begins inside the other, and ends behind its end
-abbrev pub overlaps : Loop → Loop → Bool
+-- the loop from its `for` to its `next`
+abbrev pub span_of : Loop → Span
+span_of l = record { first = l.first; last = l.last }
+
+-- the loop or the finish that an instruction at place `at` begins
+abbrev pub span_begun : UnitValue → ℕ → Instr → Option Span
+span_begun u at (instr.For k lo hi e) = option_map span_of (loop_begun u at (instr.For k lo hi e))
+span_begun u at (instr.Finish e) = finish_opened u at (instr.Finish e)
+span_begun u at _ = None
+
+-- the loops and the finishes of a unit
+abbrev pub spans : UnitValue → List Span
+spans u = map span_of (loops u) ++ finishes u
+
+-- one of the two begins inside the other, and ends behind its end
+abbrev pub overlaps : Span → Span → Bool
 overlaps l k =
     (nat_lt l.first k.first && nat_lt k.first l.last && nat_lt l.last k.last)
     || (nat_lt k.first l.first && nat_lt l.first k.last && nat_lt k.last l.last)
 
--- the loop that the instruction at this place begins or ends
-abbrev pub loop_ended : UnitValue → ℕ → ℕ → Option Instr → Option Loop
-loop_ended u at b None = None
-loop_ended u at b (Some i) = option_and_then (λ l. if l.last == at then Some l else None) (loop_begun u b i)
+-- the loop or the finish that begins at place b, if it ends at place `at`
+abbrev pub span_ended : UnitValue → ℕ → ℕ → Option Instr → Option Span
+span_ended u at b None = None
+span_ended u at b (Some i) = option_and_then (λ l. if l.last == at then Some l else None) (span_begun u b i)
 
--- there is no such loop, or it overlaps another in part
-abbrev pub is_amiss : UnitValue → Option Loop → Bool
+-- there is no such span, or it overlaps another in part
+abbrev pub is_amiss : UnitValue → Option Span → Bool
 is_amiss u None = true
-is_amiss u (Some l) = list_any (overlaps l) (loops u)
+is_amiss u (Some l) = list_any (overlaps l) (spans u)
 
 -- one of the two, and not the other
 abbrev pub differ : Bool → Bool → Bool
 differ true q = not q
 differ false q = q
 
--- A jump from one place to another leaves the loop, or comes into it. It may end at the loop's `next`, and not begin there.
-abbrev pub crosses : ℕ → ℕ → Loop → Bool
-crosses at t l = differ (is_within at l) (is_round t l)
+-- A jump from one place to another leaves the loop or the finish, or comes into it. It may end at the last instruction of it, and not
+-- begin there.
+abbrev pub crosses : ℕ → ℕ → Span → Bool
+crosses at t l = differ (nat_lt l.first at && nat_lt at l.last) (is_inside t l)
 
 abbrev pub is_crossing : UnitValue → ℕ → Instr → Bool
-is_crossing u at (instr.For k lo hi e) = is_amiss u (loop_begun u at (instr.For k lo hi e))
-is_crossing u at (instr.Next b) = is_amiss u (loop_ended u at b (slice_get u.code b))
-is_crossing u at (instr.Unless op x y t) = list_any (crosses at t) (loops u)
-is_crossing u at (instr.Jump t) = list_any (crosses at t) (loops u)
+is_crossing u at (instr.For k lo hi e) = is_amiss u (span_begun u at (instr.For k lo hi e))
+is_crossing u at (instr.Finish e) = is_amiss u (span_begun u at (instr.Finish e))
+is_crossing u at (instr.Next b) = is_amiss u (span_ended u at b (slice_get u.code b))
+is_crossing u at (instr.EndFinish b) = is_amiss u (span_ended u at b (slice_get u.code b))
+is_crossing u at (instr.Unless op x y t) = list_any (crosses at t) (spans u)
+is_crossing u at (instr.Jump t) = list_any (crosses at t) (spans u)
 is_crossing u at _ = false
 
--- V2: a `for` and a `next` name each other; loops nest or lie apart; no jump leaves a loop or comes into one
+-- V2: a `for` and a `next`, and a `finish` and an `endfinish`, name each other; loops and finishes nest or lie apart; no jump leaves
+-- one or comes into one
 abbrev pub breaks_block : UnitValue → ℕ → Bool
 breaks_block u at = instr_is (is_crossing u at) (slice_get u.code at)
 
@@ -159,22 +182,31 @@ breaks_end u at =
     || instr_is (λ i. not (is_ret i) && (at + 1 == length u.code)) (slice_get u.code at)
     || ((at == 0) && (length u.code == 0))
 
--- the parameter takes a clock
-abbrev pub takes_clock : Option ParamKind → Bool
-takes_clock None = false
-takes_clock (Some param.Number) = false
-takes_clock (Some param.Clock) = true
-
 -- the instruction makes a clock in a parameter, or drops one that a method was lent
 abbrev pub mishandles : UnitValue → Instr → Bool
 mishandles u (instr.Make d) = nat_lt d (length u.params)
 mishandles u (instr.Drop k) = is_method u.kind && takes_clock (slice_get u.params k)
 mishandles u _ = false
 
--- V8: no parameter is made, and no method drops a clock that it was lent. (Where all code is one block, all that make the
--- clock of one slot stand in one block.)
+-- an instruction before this place makes the clock of the same slot, in another block
+abbrev pub moves_home : UnitValue → ℕ → Instr → Bool
+moves_home u at (instr.Make d) = is_elsewhere (block_at u at) (made_from u d 0 (take at u.code))
+moves_home u at _ = false
+
+-- V8: all that make the clock of one slot stand directly in one block; no parameter is made, and no method drops a clock that it was
+-- lent
 abbrev pub breaks_home : UnitValue → ℕ → Bool
-breaks_home u at = instr_is (mishandles u) (slice_get u.code at)
+breaks_home u at = instr_is (λ i. mishandles u i || moves_home u at i) (slice_get u.code at)
+
+-- a clock among what it hands to a unit is at home in another block than this place
+abbrev pub gives_away : ModuleValue → UnitValue → ℕ → Instr → Bool
+gives_away m u at (instr.Call t args) = list_any (λ x. is_elsewhere (block_at u at) (homes u x)) (clock_arguments (params_of m t) args)
+gives_away m u at (instr.Spawn t args) = list_any (λ x. is_elsewhere (block_at u at) (homes u x)) (clock_arguments (params_of m t) args)
+gives_away m u at _ = false
+
+-- V9: a clock is handed on only in the block that is its home
+abbrev pub breaks_registers : ModuleValue → UnitValue → ℕ → Bool
+breaks_registers m u at = instr_is (gives_away m u at) (slice_get u.code at)
 
 -- some number stands twice in the list
 abbrev pub has_twice : List ℕ → Bool
@@ -190,8 +222,7 @@ gives_twice m _ = false
 abbrev pub breaks_same_clock : ModuleValue → UnitValue → ℕ → Bool
 breaks_same_clock m u at = instr_is (gives_twice m) (slice_get u.code at)
 
--- The rule on shared numbers, which this machine's instructions don't name, is broken nowhere; nor is V9, that a clock is handed on only in the block that made it, where all code of a unit is one block; nor
--- are rules that aren't about shape.
+-- The rule on shared numbers, which this machine's instructions don't name, is broken nowhere; nor are rules that aren't about shape.
 abbrev pub breaks_in : ModuleValue → Rule → ℕ → UnitValue → ℕ → Bool
 breaks_in m rule.Target unit u at = breaks_target u at
 breaks_in m rule.Block unit u at = breaks_block u at
@@ -201,7 +232,7 @@ breaks_in m rule.Cell unit u at = false
 breaks_in m rule.Loop unit u at = breaks_loop u at
 breaks_in m rule.End unit u at = breaks_end u at
 breaks_in m rule.Home unit u at = breaks_home u at
-breaks_in m rule.Registers unit u at = false
+breaks_in m rule.Registers unit u at = breaks_registers m u at
 breaks_in m rule.SameClock unit u at = breaks_same_clock m u at
 breaks_in m rule.Use unit u at = false
 breaks_in m rule.Held unit u at = false

@@ -6,15 +6,17 @@
 -- registration raises ClockUseException; a clock advances when every activity registered on it has resumed it; an
 -- activity that ends is registered on no clock any more; `async clocked(c1, .., cn) S` starts an activity registered on the
 -- clocks named, and the starter must be registered on each. From the chapter Activities: `async S` starts an activity that
--- runs S, and the starter goes on without waiting. X10's `Long` has 64 bits in two's complement, and its sums, differences and
+-- runs S, and the starter goes on without waiting; `finish S` runs S, and waits for the end of all activities that S started, and
+-- that these started in turn. X10's `Long` has 64 bits in two's complement, and its sums, differences and
 -- products wrap; `for (i in a..b)` runs for each whole number from a to b.
 -- This project's own rules: a second resume has no effect; the two halves of `advanceAll` are two steps; a child stands on a
 -- clock that it is given where its starter stands, and a missing registration is the only ground of ClockUseException, so
 -- that a starter that has resumed a clock may hand it on; a clock that can advance does so at the end of the same step, and
 -- one that nobody is registered on never does; what else is wrong but ClockUseException.
-use Rattle.std.specs.Prelude.{ℕ, suc, ℤ, pos, ◌+ℤ◌, int_lt, ◌+◌, ◌==◌, Bool, true, false, not, ◌&&◌, List, [], ◌∷◌, ◌++◌, map, length, replicate, Option, Some, None, slice_get, slice_set, if◌then◌else◌}
+use Rattle.std.specs.Prelude.{ℕ, zero, suc, ℤ, pos, ◌+ℤ◌, int_lt, ◌+◌, ◌==◌, Bool, true, false, not, ◌&&◌, ◌||◌, List, [], ◌∷◌, ◌++◌, map, length, replicate, Option, Some, None, slice_get, slice_set, if◌then◌else◌}
 use Rattle.std.specs.Int.{w64, int_wrapping_add, int_wrapping_sub, int_wrapping_mul}
 use Rattle.std.specs.List.{list_any}
+use Rattle.std.specs.Option.{option_map_or}
 use Rattle.xk_types.specs.declared.instr.Instr.{Instr}
 use Rattle.xk_types.specs.declared.instr.Instr.TheVariants as instr
 use Rattle.xk_types.specs.declared.instr.Comparison.{Comparison}
@@ -29,11 +31,11 @@ use Rattle.xk_types.specs.declared.names.Event.TheVariants as event
 use Rattle.xk_types.specs.declared.unit.ParamKind.{ParamKind}
 use Rattle.xk_types.specs.declared.unit.ParamKind.TheVariants as param
 use Rattle.xk_types.specs.Code.{UnitValue, ModuleValue, is_method, is_body, compares}
-use Rattle.xk_types.specs.World.{Frame, Finish, Activity, Clock, World, standing_of, frame_with, instruction_at}
+use Rattle.xk_types.specs.World.{Frame, Finish, Activity, Clock, World, is_ended, standing_of, frame_with, instruction_at}
 
 -- Why a step is wrong: a clock operation by an activity that isn't registered on the clock; an unset slot is read; a
 -- number is wanted and a clock stands there, or the reverse; there is no such instruction, unit, slot, clock or shared
--- number, or the unit can't be called or started so: it is no method or no body, or has another number of parameters than there
+-- number, no finish that could be closed, or the unit can't be called or started so: it is no method or no body, or has another number of parameters than there
 -- are arguments.
 pub data Cause : Type 0 where
   ClockUse : Cause
@@ -140,9 +142,13 @@ made w a act =
 
 -- ---- starting an activity
 
+-- the finish that activity a opened last
+abbrev pub innermost : ℕ → Activity → Finish
+innermost a act = record { owner = Some a; depth = act.opened }
+
 -- the finish that governs what activity a starts: the innermost that it has open, else the one that governs it
 abbrev pub governing : ℕ → Activity → Finish
-governing a act = if act.opened == 0 then act.governed else record { owner = Some a; depth = act.opened }
+governing a act = if act.opened == 0 then act.governed else innermost a act
 
 -- what activity a starts with these values: it begins with the `since` of its starter
 abbrev pub child : ModuleValue → ℕ → Activity → ℕ → List Value → Activity
@@ -283,6 +289,50 @@ abbrev pub returning : World → ℕ → Activity → List Frame → Outcome
 returning w a act [] = done w a (ended act) (all dropped) event.Ended
 returning w a act (f ∷ fs) = done w a (back_in act f fs) none event.Local
 
+-- ---- finishes
+
+abbrev pub same_owner : Option ℕ → Option ℕ → Bool
+same_owner None None = true
+same_owner None (Some b) = false
+same_owner (Some a) None = false
+same_owner (Some a) (Some b) = a == b
+
+abbrev pub same_finish : Finish → Finish → Bool
+same_finish f g = same_owner f.owner g.owner && (f.depth == g.depth)
+
+-- Activity b is under the finish: the finish governs it, or what governs it has an owner that is under the finish; down to this many
+-- owners.
+unfoldable pub under_within : List Activity → Finish → ℕ → ℕ → Bool
+under_within acts f zero b = false
+under_within acts f (suc n) b =
+    option_map_or (λ act. same_finish act.governed f || option_map_or (under_within acts f n) act.governed.owner false) (slice_get acts b) false
+
+-- An activity governs only activities of greater number, so that there are no more owners, one above the other, than activities.
+abbrev pub is_under : List Activity → Finish → ℕ → Bool
+is_under acts f b = under_within acts f (length acts) b
+
+-- one of these activities, the first of them number b, is under the finish and hasn't ended
+abbrev pub awaits_from : List Activity → Finish → ℕ → List Activity → Bool
+awaits_from acts f b [] = false
+awaits_from acts f b (x ∷ xs) = (is_under acts f b && not (is_ended x.status)) || awaits_from acts f (suc b) xs
+
+-- an activity under the finish hasn't ended
+abbrev pub awaits : List Activity → Finish → Bool
+awaits acts f = awaits_from acts f 0 acts
+
+-- a `finish`: one more is open
+abbrev pub entered : Activity → Activity
+entered act = record (onward act) { opened = act.opened + 1 }
+
+-- an `endfinish`: this many are still open
+abbrev pub left : Activity → ℕ → Activity
+left act n = record (onward act) { opened = n }
+
+-- an `endfinish`, by how many finishes are open: it waits for all under the innermost, and closes that one
+abbrev pub closing : World → ℕ → Activity → ℕ → Outcome
+closing w a act zero = Wrong OutOfRange
+closing w a act (suc n) = if awaits w.activities (innermost a act) then Blocked else done w a (left act n) none event.Closed
+
 -- ---- numbers
 
 -- slot d becomes a number that comes of two others
@@ -320,6 +370,8 @@ carried_out m w a act (instr.Unless op x y t) = branching w a act op x y t
 carried_out m w a act (instr.Jump t) = done w a (going act t) none event.Local
 carried_out m w a act (instr.For k lo hi e) = writing act k (value.Number lo) (λ next. done w a next none event.Local)
 carried_out m w a act (instr.Next b) = turning w a act b (instruction_at m (record act.frame { place = b }))
+carried_out m w a act (instr.Finish e) = done w a (entered act) none event.Opened
+carried_out m w a act (instr.EndFinish b) = closing w a act act.opened
 carried_out m w a act (instr.Print x) = number_in (slot_at act x) (λ n. done w a (onward act) none (event.Printed n))
 carried_out m w a act (instr.Make k) = writing act k (value.Clock (length w.clocks)) (λ next. made w a next)
 carried_out m w a act (instr.Resume k) = clock_in w a (slot_at act k) (λ c. done w a (onward act) (only c resumed) event.Resumed)

@@ -15,6 +15,7 @@ use Rattle.xk_types.specs.declared.rules.Kind.TheVariants as kind
 use Rattle.xk_types.specs.declared.rules.Visit.{Visit}
 use Rattle.std.specs.List.{list_any}
 use Rattle.xk_types.specs.Code.{UnitValue, ModuleValue, params_of, clock_arguments, is_method}
+use Rattle.xk_types.specs.Blocks.{block_at, homes, is_here}
 use Rattle.xk_types.specs.Order.{Has}
 
 -- what an instruction leaves of a kind: the kinds that it may be afterwards, or a refusal by a rule
@@ -51,6 +52,14 @@ overwritten kind.Number go = go
 overwritten kind.Live go = Refused rule.Leak
 overwritten kind.Resumed go = Refused rule.Leak
 overwritten kind.Out go = go
+
+-- at the end of the block that made the clock: a clock on which the activity is still registered would keep back those for whom it waits
+abbrev pub let_go : Kind → After → After
+let_go kind.Unset go = go
+let_go kind.Number go = go
+let_go kind.Live go = Refused rule.Held
+let_go kind.Resumed go = Refused rule.Held
+let_go kind.Out go = go
 
 -- after the pass of an `advance`
 abbrev pub awake : Kind → Kind
@@ -123,6 +132,8 @@ after m u (instr.Unless op x y t) s k = reads x s k (reads y s k (becomes k))
 after m u (instr.Jump t) s k = becomes k
 after m u (instr.For d lo hi e) s k = writes d kind.Number s k
 after m u (instr.Next b) s k = may_read (loop_slot (slice_get u.code b)) s k (becomes k)
+after m u (instr.Finish e) s k = becomes k
+after m u (instr.EndFinish b) s k = if is_here (block_at u (b + 1)) (homes u s) then let_go k (becomes k) else becomes k
 after m u (instr.Print x) s k = reads x s k (becomes k)
 after m u (instr.Make d) s k = writes d kind.Live s k
 after m u (instr.Resume c) s k = uses c kind.Resumed s k

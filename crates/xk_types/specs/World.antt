@@ -3,7 +3,7 @@
 -- X10 Language Specification 2.4: an activity runs a statement on its own (chapter Activities); a clock has a phase, and
 -- each activity registered on it has resumed it in this phase or has not (chapter Clocks). How a world is written down is
 -- this project's own.
-use Rattle.std.specs.Prelude.{ℕ, ℤ, ◌-◌, List, [], ◌∷◌, ◌++◌, length, Option, None, replicate, slice_get, slice_index_or, option_and_then}
+use Rattle.std.specs.Prelude.{ℕ, ℤ, ◌-◌, List, [], ◌∷◌, ◌++◌, length, Bool, true, false, Option, None, replicate, slice_get, slice_index_or, option_and_then}
 use Rattle.std.specs.Option.{option_map_or}
 use Rattle.xk_types.specs.declared.instr.Instr.{Instr}
 use Rattle.xk_types.specs.declared.names.Value.{Value}
@@ -36,6 +36,11 @@ pub record Activity : Type 0 where
   pub since : ℕ
   pub opened : ℕ
   pub governed : Finish
+
+abbrev pub is_ended : Status → Bool
+is_ended status.Running = false
+is_ended status.Arrived = false
+is_ended status.Ended = true
 
 -- a clock: its phase, the number of the step in which it last advanced, and where each activity stands on it
 pub record Clock : Type 0 where

@@ -99,6 +99,10 @@ pub enum Instr {
     /// `next b`: ends a turn of the loop whose `for` stands at place b. Where its slot is less than its upper bound, it becomes
     /// one more, and the loop goes round again from place b + 1.
     Next(u16),
+    /// `finish e`: opens a finish, whose `endfinish` stands at place e. It governs what the activity starts until then.
+    Finish(u16),
+    /// `endfinish b`: waits until every activity under the finish that the `finish` at place b opened has ended, and closes it.
+    EndFinish(u16),
     /// `print a`: prints the number in a.
     Print(u16),
     /// `make k`: makes a clock, registers the activity on it, and puts its name into slot k.

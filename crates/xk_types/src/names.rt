@@ -80,6 +80,10 @@ pub enum Event {
     Printed(i64),
     /// A new clock was made: it has the next number.
     Made,
+    /// A finish was opened.
+    Opened,
+    /// A finish was closed.
+    Closed,
     /// A new activity was started: it has the next number.
     Spawned,
     /// A clock was resumed.
