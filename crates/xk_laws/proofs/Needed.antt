@@ -14,7 +14,7 @@ use Rattle.xk_types.specs.Order.{Has}
 use Rattle.xk_types.specs.World.{opening, main_of}
 use Rattle.xk_types.specs.Step.{Missing, OutOfRange}
 use Rattle.xk_types.specs.Accepted.{IsAccepted, EverySchedule}
-use Rattle.xk_types.specs.Walk.{MayBecome, IsEdge, IsVisited, places_after, row, overwritten, becomes}
+use Rattle.xk_types.specs.Walk.{MayBecome, IsVisited, places_after, row, overwritten, becomes}
 use Rattle.xk_types.specs.Kinds.{KindsAreSound}
 use Rattle.xk_laws.proofs.Walks.{visited_closed}
 use Rattle.xk_laws.proofs.Checked.{HasFewArguments}
