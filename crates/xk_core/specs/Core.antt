@@ -41,7 +41,7 @@ instruction_of m (Some act) = instruction_by m act act.status
 abbrev pub next_instruction : ModuleValue → World → ℕ → Option Instr
 next_instruction m w a = instruction_of m (slice_get w.activities a)
 
--- activity a is about to make a clock or to start an activity, for which memory is wanted
+-- activity a is about to make a clock, to call a method or to start an activity, for which memory is wanted
 abbrev pub IsAboutToGrow : ModuleValue → World → ℕ → Type 0
 IsAboutToGrow m w a = (i : Instr) × (next_instruction m w a ≡ Some i) × (grows i ≡ true)
 
