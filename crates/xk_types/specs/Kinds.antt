@@ -50,7 +50,7 @@ pub record HasVisitedKinds (m : ModuleValue) (clocks : List Clock) (a : ℕ) (f 
       → IsVisited m u s (record { at = f.place; kind = kind_of (λ c. kind_by (stands_on clocks a c)) v })
 
 -- So it is with each running activity of each world that a legal schedule leads to. One that has arrived stands between the two
--- steps of an `advance`, which walks take as one; one that has ended stands nowhere.
+-- steps of an `advance`, which walks take as one, and one that has ended goes nowhere; nor is anything said of frames that wait.
 abbrev pub KindsAreSound : ModuleValue → Type 0
 KindsAreSound m = (list : List ℕ) (w : World) → Leads m list w → (a : ℕ) (act : Activity) → slice_get w.activities a ≡ Some act
     → act.status ≡ status.Running → HasVisitedKinds m w.clocks a act.frame
