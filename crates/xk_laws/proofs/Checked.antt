@@ -178,7 +178,7 @@ module _ (m : ModuleValue) (u : UnitValue) (s : ℕ) (table : ℕ → List Kind)
       on (Refused r) may h = absurd may
 
   -- what is visited is in the table
-  visited_among : (q : Visit) → IsVisited m u s q → is_among (table q.at) q.kind ≡ true
+  pub visited_among : (q : Visit) → IsVisited m u s q → is_among (table q.at) q.kind ≡ true
   visited_among q v = visited_closed m u s (λ p. is_among (table p.at) p.kind ≡ true)
       (λ p first entry. subst (λ at. is_among (table at) p.kind ≡ true) (sym first)
       (all_has (is_among (table 0)) (entry_kinds u s) p.kind (and_parts (list_all (is_among (table 0)) (entry_kinds u s)) _ closed).0 entry))

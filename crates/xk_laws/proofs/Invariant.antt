@@ -17,15 +17,12 @@ use Rattle.xk_types.specs.Code.{UnitValue, ModuleValue, IsWithinLimits, unit_run
 use Rattle.xk_types.specs.World.{Frame, Activity, Clock, World, root, standing_of, is_ended}
 use Rattle.xk_types.specs.Step.{is_ready}
 use Rattle.xk_types.specs.Walk.{IsVisited, awake, is_lent}
+pub use Rattle.xk_types.specs.Kinds.{stands_on, kind_by, kind_of}
 pub use Rattle.xk_laws.proofs.Lists.{Each}
 use Rattle.xk_laws.proofs.Turns.{due}
 use Rattle.xk_types.specs.Bound.{steps_weight, activities_weight, clocks_weight, total, steps_bound, activities_bound, clocks_bound, stack_of, stack_bound}
 
 -- ---- clocks
-
--- where activity a stands on clock number k
-abbrev pub stands_on : List Clock → ℕ → ℕ → Standing
-stands_on clocks a k = option_map_or (λ c. standing_of c a) (slice_get clocks k) standing.Apart
 
 -- What holds between an activity and a clock that last advanced in step `last`, by where the activity stands on it.
 abbrev pub Stands : Status → ℕ → ℕ → Standing → Type 0
@@ -44,22 +41,9 @@ pub record IsClockSound (activities : List Activity) (now : ℕ) (c : Clock) : T
 
 -- ---- activities
 
--- the kind of a slot that names a clock, by where the activity stands on the clock
-abbrev pub kind_by : Standing → Kind
-kind_by standing.Apart = kind.Out
-kind_by standing.Open = kind.Live
-kind_by standing.Signalled = kind.Resumed
-kind_by standing.Ahead = kind.Resumed
-
 -- the kind of a clock's name, for each clock, as activity a stands
 abbrev pub looks : List Clock → ℕ → ℕ → Kind
 looks clocks a k = kind_by (stands_on clocks a k)
-
--- the kind of what a slot holds
-abbrev pub kind_of : (ℕ → Kind) → Value → Kind
-kind_of look value.Unset = kind.Unset
-kind_of look (value.Number n) = kind.Number
-kind_of look (value.Clock c) = look c
 
 -- a registered clock's name has this kind
 abbrev pub is_held : Kind → Bool

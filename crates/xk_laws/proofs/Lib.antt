@@ -25,4 +25,5 @@ pub mod Checked
 pub mod SumRow
 pub mod PairRow
 pub mod PhasesRow
+pub mod KindsRow
 pub mod Needed

@@ -9,7 +9,8 @@ use Rattle.xk_types.specs.Step.{Cause, Outcome, Blocked, Wrong, Stepped, step}
 use Rattle.xk_types.specs.Schedule.{Course, Through, Wronged, run, run_on, IsReached, is_enabled, all_ended}
 use Rattle.xk_types.specs.Bound.{steps_bound, activities_bound, clocks_bound, stack_bound}
 use Rattle.xk_types.specs.Accepted.{IsAccepted, EverySchedule, slots_held}
-use Rattle.xk_laws.proofs.Invariant.{IsActivitySound, IsSound, looks}
+use Rattle.xk_types.specs.Kinds.{KindsAreSound, kind_of}
+use Rattle.xk_laws.proofs.Invariant.{IsActivitySound, IsSound, looks, Expects}
 use Rattle.xk_types.specs.Shape.{HasShape}
 use Rattle.xk_laws.proofs.Totals.{stack_own}
 use Rattle.xk_laws.proofs.Counts.{step_counts}
@@ -130,3 +131,15 @@ every_schedule m limits ok = record {
       (s.activities k (get_or w.activities k d) (slice_get-get_or w.activities k d inside)));
   ends = λ list w h stuck. reached_ends m limits ok w (list, h) (λ a inside. stuck a);
 }
+
+-- the kinds are sound
+pub kinds_sound : (m : ModuleValue) → IsWithinLimits m → IsAccepted m → KindsAreSound m
+kinds_sound m limits ok list w h a act there running =
+    let s = (reached_sound m limits ok w (list, h)).activities a act there in
+    record {
+      u = s.u;
+      found = s.unit;
+      slots = s.frame.slots;
+      known = s.frame.known;
+      visited = λ k v at. subst (λ st. Expects m s.u st act.frame.place k (kind_of (looks w.clocks a) v)) running (s.kinds k v at);
+    }

@@ -8,4 +8,5 @@ pub mod Walk
 pub mod Shape
 pub mod Bound
 pub mod Accepted
+pub mod Kinds
 pub mod Device
