@@ -4,6 +4,7 @@ pub mod World
 pub mod Step
 pub mod Schedule
 pub mod Order
+pub mod Blocks
 pub mod Walk
 pub mod Shape
 pub mod Bound
