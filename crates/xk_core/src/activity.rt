@@ -317,6 +317,16 @@ impl Activity {
         (StepChange::Nothing, Event::Local)
     }
 
+    /// Begins a turn of the loop whose `for` stands at place b, with number n in its slot k.
+    fn begin_turn(&mut self, b: u16, k: u16, n: i64)
+        requires place { b + 1 < 2 ^ 16 }
+        requires slot { k < length self.old.frame.slots }
+        ensures { self.new ≡ going (with_slots self.old (slice_set self.old.frame.slots k (value.Number n))) (b + 1) }
+    {
+        self.frame.slots[k as usize] = Value::Number(n);
+        self.frame.place = b + 1;
+    }
+
     /// Ends a turn of the loop that begins at place b of the unit: goes round again, or on.
     fn turn(&mut self, unit: &Unit, b: u16) -> (StepChange, Event)
         requires place { self.old.frame.place + 1 < 2 ^ 16 }
@@ -331,8 +341,7 @@ impl Activity {
         };
         let n = self.number(k);
         if n < hi {
-            self.frame.slots[k as usize] = Value::Number(n + 1);
-            self.go_to(b + 1);
+            self.begin_turn(b, k, n + 1);
         } else {
             self.go_on();
         }

@@ -33,6 +33,11 @@ carry_out-change-requires-clause-operands c =
     (subst (λ (w : World). c.index_mut-act.result.now ≡ get_or w.activities c.args.a c.index_mut-act.result.now) c.self.view_is c.index_mut-act.ensures.value))
     c.units.ensures.listed c.unit.ensures c.index-units-unit.is).0
 
+pub carry_out-change-requires-clause-callers : goal.carry_out-change-requires-clause-callers
+carry_out-change-requires-clause-callers c = c.requires.room.callers c.index_mut-act.result.now
+    (actor_there c.args.program.now c.args.self.now c.args.a c.args.instr.now c.index_mut-act.result.now c.requires.enabled
+    (subst (λ (w : World). c.index_mut-act.result.now ≡ get_or w.activities c.args.a c.index_mut-act.result.now) c.self.view_is c.index_mut-act.ensures.value))
+
 pub end_step-requires-clause-standings : goal.end_step-requires-clause-standings
 end_step-requires-clause-standings c =
     subst (λ (w : World). All (λ k. c.args.a < length k.standings) w.clocks) (sym c.self.view_is)
