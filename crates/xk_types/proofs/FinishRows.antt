@@ -1,5 +1,5 @@
 -- Worked rows: finishes, by evaluation.
-use Rattle.std.proofs.Common.{◌≡◌, ℕ, pos, List, [], ◌∷◌, inl, inr, refl, Bool, true, false, Option, Some, None, replicate, arith}
+use Rattle.std.proofs.Common.{◌≡◌, ℕ, pos, List, [], ◌∷◌, inl, refl, Bool, true, false, arith}
 use Rattle.xk_types.specs.declared.instr.Instr.{Instr}
 use Rattle.xk_types.specs.declared.instr.Instr.TheVariants as instr
 use Rattle.xk_types.specs.declared.unit.UnitKind.TheVariants as unit_kind
@@ -11,12 +11,12 @@ use Rattle.xk_types.specs.declared.rules.Kind.TheVariants as kind
 use Rattle.xk_types.specs.declared.rules.Visit.{Visit}
 use Rattle.xk_types.specs.Code.{UnitValue, ModuleValue}
 use Rattle.xk_types.specs.Blocks.{block_at, homes}
-use Rattle.xk_types.specs.World.{World, opening}
-use Rattle.xk_types.specs.Step.{Cause, OutOfRange, is_under, under_within}
+use Rattle.xk_types.specs.World.{opening}
+use Rattle.xk_types.specs.Step.{under_within}
 use Rattle.xk_types.specs.Schedule.{Course, Through, Held, Wronged, run, all_ended, printed}
-use Rattle.xk_types.specs.Walk.{To, Refused, row, IsRefusedAt}
+use Rattle.xk_types.specs.Walk.{IsRefusedAt}
 use Rattle.xk_types.specs.Shape.{breaks}
-use Rattle.xk_types.specs.Bound.{total_within, stack_within, steps_bound, activities_bound, clocks_bound}
+use Rattle.xk_types.specs.Bound.{total_within, steps_bound, activities_bound, clocks_bound}
 
 abbrev main_with : ℕ → List Instr → UnitValue
 main_with slots code = record { kind = unit_kind.Main; params = []; slots = slots; code = code }
