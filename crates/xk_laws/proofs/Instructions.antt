@@ -23,7 +23,8 @@ use Rattle.xk_types.specs.declared.names.Event.{Event}
 use Rattle.xk_types.specs.declared.names.Event.TheVariants as event
 use Rattle.xk_types.specs.Step.{Outcome, done, made, onward, going, again, with_slots, arrived, ended, none, only, all, resumed, dropped, number_in, clock_in, put_in, computing, turning, child, is_given, spawned, carried_out, run_at, new_clock, called, back_in, returning}
 use Rattle.xk_types.specs.Order.{Has}
-use Rattle.xk_types.specs.Shape.{slots_named, slot_written, is_ret, takes_clock}
+use Rattle.xk_types.specs.Shape.{slots_named, slot_written, is_ret}
+use Rattle.xk_types.specs.Blocks.{takes_clock}
 use Rattle.xk_types.specs.Walk.{after, reads, may_read, loop_slot, writes, gives, becomes, MayBecome, successors, across, is_lent, is_own, overwritten, IsVisited}
 use Rattle.xk_types.specs.Bound.{steps_weight, clocks_weight}
 use Rattle.xk_laws.proofs.Invariant.{Each, Stands, IsActivitySound, IsSound, stands_on, looks, kind_by, kind_of, is_held, NamesNone, NamedIn, once_past, Waits, IsWaiting, AreWaiting, Names, Expects}

@@ -1,4 +1,7 @@
+pub mod Begun
 pub mod Loops
+pub mod Finishes
+pub mod Blocks
 pub mod Turns
 pub mod Invariant
 pub mod Lists
