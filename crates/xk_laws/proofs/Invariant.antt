@@ -134,8 +134,6 @@ AreWaiting m look st clocks g (f ∷ fs) = IsWaiting m look st clocks g f fs × 
 
 -- an activity, by the kinds of clocks' names for it, the number of clocks and the number of steps
 pub record IsActivitySound (m : ModuleValue) (look : ℕ → Kind) (clocks now : ℕ) (act : Activity) : Type 0 where
-  pub opened : act.opened ≡ 0
-  pub governed : act.governed ≡ root
   pub since : act.since ≤ now
   pub u : UnitValue
   pub unit : slice_get m.units act.frame.unit ≡ Some u

@@ -13,12 +13,14 @@ pub mod Totals
 pub mod Rows
 pub mod Measure
 pub mod Steps
+pub mod Scopes
 pub mod Given
 pub mod Callers
 pub mod Operands
 pub mod Running
 pub mod Waiting
 pub mod Instructions
+pub mod ScopeSteps
 pub mod Progress
 pub mod Opening
 pub mod Forms

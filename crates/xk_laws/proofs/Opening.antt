@@ -68,8 +68,6 @@ opening_sound m limits ok = record {
 
     main : IsActivitySound m (looks [] 0) 0 0 (main_of m)
     main = record {
-      opened = refl;
-      governed = refl;
       since = omega arith;
       u = first.0;
       unit = first.1;
