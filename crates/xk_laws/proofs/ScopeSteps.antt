@@ -1,5 +1,5 @@
 -- Each step keeps the scopes of clocks.
-use Rattle.std.proofs.Common.{◌≡◌, ℕ, zero, suc, ◌+◌, ◌<◌, ◌≤◌, ◌==◌, ◌||◌, not, Bool, true, false, cond, List, [], ◌∷◌, ◌++◌, length, set, sum_by, ℤ, pos, ◌+ℤ◌, int_lt, Option, Some, None, inl, inr, ◌⊎◌, refl, sym, ap, ◌∙◌, subst, arith, length-set, eqb-true}
+use Rattle.std.proofs.Common.{◌≡◌, ℕ, zero, suc, ◌+◌, ◌<◌, ◌≤◌, ◌==◌, ◌||◌, not, Bool, true, false, cond, List, [], ◌∷◌, ◌++◌, length, map, set, sum_by, ℤ, pos, ◌+ℤ◌, int_lt, Option, Some, None, inl, inr, ◌⊎◌, refl, sym, ap, ◌∙◌, subst, arith, length-set, eqb-true}
 use Rattle.std.specs.Prelude.{slice_get}
 use Rattle.std.specs.Int.{w64, int_wrapping_add, int_wrapping_sub, int_wrapping_mul}
 use Rattle.std.specs.List.{list_any}
@@ -25,7 +25,7 @@ use Rattle.xk_types.specs.declared.unit.ParamKind.TheVariants as param
 use Rattle.xk_types.specs.Code.{UnitValue, ModuleValue, params_of, clock_arguments, compares, is_method, is_body}
 use Rattle.xk_types.specs.Blocks.{block_at, depth_at, same_block, takes_clock, makes, made_from, homes, is_elsewhere, is_here}
 use Rattle.xk_types.specs.World.{Frame, Finish, Activity, Clock, World, standing_of, instruction_at, frame_with}
-use Rattle.xk_types.specs.Step.{Outcome, Blocked, Wrong, Stepped, ClockUse, OutOfRange, is_registered, number_in, clock_in, registered_on, put_in, slot_at, arguments_in, computing, turning, again, spawned, spawning, carried_out, run_at, done, made, onward, going, with_slots, arrived, ended, past, none, only, all, resumed, passed, dropped, child, innermost, awaits, left, closing, called, calling, back_in, returning, new_clock, is_given, governing, joined, entered, moved}
+use Rattle.xk_types.specs.Step.{Outcome, Blocked, Wrong, Stepped, ClockUse, OutOfRange, is_registered, number_in, clock_in, registered_on, put_in, slot_at, arguments_in, computing, turning, again, spawned, spawning, carried_out, run_at, done, made, onward, going, with_slots, arrived, ended, past, none, only, all, resumed, passed, dropped, child, innermost, awaits, left, closing, called, calling, back_in, returning, new_clock, is_given, governing, joined, entered, moved, settled_clock, passing, waits, step_by, step_of, step}
 use Rattle.xk_types.specs.Order.{Has}
 use Rattle.xk_types.specs.Shape.{HasShape, instr_is, gives_away, target}
 use Rattle.xk_types.specs.Accepted.{IsAccepted}
@@ -376,3 +376,295 @@ module _ (m : ModuleValue) (ok : IsAccepted m) (w : World) (a : ℕ) (was : Acti
         cases : (x : Bool) → Scopes m (cond x Blocked (done w a (left was n) none event.Closed))
         cases true = tt
         cases false = close_scopes b n here e
+
+    -- ---- clocks
+
+    -- an instruction that changes where the activity stands on a clock
+    using_scopes : (i : Instr) → Here i → is_border i ≡ false → (x : ℕ) (f : Standing → Standing) (e : Event) → f standing.Apart ≡ standing.Apart
+        → ((st : Standing) → is_held (kind_by (f st)) ≡ true → is_held (kind_by st) ≡ true) → Scopes m (clock_in w a (slot_at was x) (λ c. done w a (onward was) (only c f) e))
+    using_scopes i here plain x f e apart registers = clock_scopes m w a (slot_at was x) _ (λ c is held. goes_on i here plain (only c f) e (λ k. stays_apart c k) (only_registers c f registers))
+      where
+        stays_apart : (c k : ℕ) → only c f k standing.Apart ≡ standing.Apart
+        stays_apart c k = cases (k == c)
+          where
+            cases : (b : Bool) → cond b (f standing.Apart) standing.Apart ≡ standing.Apart
+            cases true = apart
+            cases false = refl
+
+    -- the scopes after a clock was made
+    abbrev more_scopes : List Finish
+    more_scopes = scoped.scopes ++ governing a was ∷ []
+
+    more_keep : Keeps scoped.scopes more_scopes
+    more_keep c g h = get-push_other scoped.scopes (governing a was) c (λ e. absurd (let r = slice_get_within scoped.scopes c g h in omega arith)) ∙ h
+
+    -- `make`
+    made_scopes : (d : ℕ) (old : Value) → Here (instr.Make d) → slot_at was d ≡ Some old → Scopes m (made w a (onward (with_slots was (set was.frame.slots d (value.Clock (length w.clocks))))))
+    made_scopes d old here at = left_scoped m w a was act clocks scoped found (record {
+      more = more_scopes;
+      keeps = more_keep;
+      width = omega (arith, length_push scoped.scopes (governing a was), length_push w.clocks (new_clock (length w.activities) a), scoped.width);
+      next = record {
+        opened = mine.opened ∙ sum_by-cons (opened_in m) was.frame was.callers ∙ ap (λ n. n + opened_by m was.callers) (depth_here was.frame refl ∙ ap length (sym block) ∙ sym (depth_here act.frame refl))
+            ∙ sym (sum_by-cons (opened_in m) act.frame was.callers);
+        owner = mine.owner;
+        homes = ((λ s c named held. slot s c held (all s (value.Clock c) named c refl)), homes_kept m a was.governed scoped.scopes more_scopes (looks w.clocks a) (looks clocks a) was.callers more_keep
+            (λ c named held. old_held c (below_known was.frame was.callers c named me.waiting) held) mine.homes.1);
+      };
+      others = λ b k differs. stands_on-push_other (length w.activities) a b w.clocks k differs;
+    })
+      where
+        clocks : List Clock
+        clocks = w.clocks ++ new_clock (length w.activities) a ∷ []
+
+        act : Activity
+        act = onward (with_slots was (set was.frame.slots d (value.Clock (length w.clocks))))
+
+        block : block_at me.u (was.frame.place + 1) ≡ block_at me.u was.frame.place
+        block = block_next me.u fit.finishes was.frame.place (instr.Make d) here refl
+
+        -- a name is the new one, in slot d, or was there
+        all : Each (λ z x. (k : ℕ) → x ≡ value.Clock k → ((z ≡ d) × (k ≡ length w.clocks)) ⊎ Names was.frame.slots z k) (set was.frame.slots d (value.Clock (length w.clocks)))
+        all = each_set (λ z x. (k : ℕ) → x ≡ value.Clock k → ((z ≡ d) × (k ≡ length w.clocks)) ⊎ Names was.frame.slots z k) was.frame.slots d old (value.Clock (length w.clocks)) at
+            (λ k e. inl (refl, cc)) (λ z x differs g k e. inr (g ∙ ap Some e))
+
+        old_held : (c : ℕ) → c < length w.clocks → is_held (looks clocks a c) ≡ true → is_held (looks w.clocks a c) ≡ true
+        old_held c known h = subst (λ st. is_held (kind_by st) ≡ true) (stands_on-push_old w.clocks (new_clock (length w.activities) a) a c (λ e. absurd (omega arith))) h
+
+        below_known : (g : Frame) (fs : List Frame) (c : ℕ) → NamedIn fs c → AreWaiting m (looks w.clocks a) was.status (length w.clocks) g fs → c < length w.clocks
+        below_known g [] c named waiting = absurd named
+        below_known g (f ∷ fs) c (inl p) waiting = waiting.0.frame.known p.0 c p.1
+        below_known g (f ∷ fs) c (inr p) waiting = below_known f fs c p waiting.1
+
+        slot : (s c : ℕ) → is_held (looks clocks a c) ≡ true → ((s ≡ d) × (c ≡ length w.clocks)) ⊎ Names was.frame.slots s c → IsHome m a was.governed more_scopes act.frame (opened_by m was.callers) s c
+        slot s c held (inl p) = record {
+          u = me.u;
+          found = me.unit;
+          home = block_at me.u was.frame.place;
+          is = subst (λ z. Has (homes me.u z) (block_at me.u was.frame.place)) (sym p.0) (make_home me.u d was.frame.place here);
+          round = subst (IsRound (block_at me.u was.frame.place)) (sym block) (round_same (block_at me.u was.frame.place));
+          scope = ap (slice_get more_scopes) (p.1 ∙ sym scoped.width) ∙ get_push scoped.scopes (governing a was)
+              ∙ ap Some (governing_at a was ∙ ap (finish_at a was.governed) (mine.opened ∙ sum_by-cons (opened_in m) was.frame was.callers ∙ ap (λ n. n + opened_by m was.callers) (depth_here was.frame refl)));
+        }
+        slot s c held (inr named) = frame_home more_scopes (looks clocks a) act.frame (opened_by m was.callers) refl block s c
+            (home_kept m a was.governed scoped.scopes more_scopes was.frame (opened_by m was.callers) s c more_keep (mine.homes.0 s c named (old_held c (me.frame.known s c named) held)))
+
+    -- ---- units
+
+    -- what a frame that begins names, it was given: at home in the block of the `call` or `spawn`, so that its scope is the deepest finish
+    given_home : (t : ℕ) (args : List ℕ) (v : UnitValue) → slice_get m.units t ≡ Some v
+        → list_any (λ x. is_elsewhere (block_at me.u was.frame.place) (homes me.u x)) (clock_arguments (params_of m t) args) ≡ false
+        → (s c x : ℕ) → slice_get v.params s ≡ Some param.Clock → slice_get args s ≡ Some x → Names was.frame.slots x c → is_held (looks w.clocks a c) ≡ true
+        → slice_get scoped.scopes c ≡ Some (governing a was)
+    given_home t args v at kept s c x p o named held =
+        let h = mine.homes.0 x c named held in
+        let is : h.u ≡ me.u = same_Some h.u me.u (sym h.found ∙ me.unit) in
+        let same : h.home ≡ block_at me.u was.frame.place = handed_home m me.u was.frame.place t args v at kept s x p o h.home (subst (λ y. Has (homes y x) h.home) is h.is) in
+        let deep : length h.home + opened_by m was.callers ≡ was.opened =
+        ap (λ l. length l + opened_by m was.callers) same ∙ ap (λ n. n + opened_by m was.callers) (sym (depth_here was.frame refl)) ∙ sym (mine.opened ∙ sum_by-cons (opened_in m) was.frame was.callers) in
+        h.scope ∙ ap (λ n. Some (finish_at a was.governed n)) deep ∙ ap Some (sym (governing_at a was))
+
+    -- nothing is handed on outside its home
+    none_away : (t : ℕ) (args : List ℕ) (i : Instr) → Here i → gives_away m me.u was.frame.place i ≡ list_any (λ x. is_elsewhere (block_at me.u was.frame.place) (homes me.u x)) (clock_arguments (params_of m t) args)
+        → list_any (λ x. is_elsewhere (block_at me.u was.frame.place) (homes me.u x)) (clock_arguments (params_of m t) args) ≡ false
+    none_away t args i here is = sym is ∙ ap (instr_is (gives_away m me.u was.frame.place)) (sym here) ∙ unbroken m ok.shape rule.Registers was.frame.unit me.u me.unit was.frame.place
+
+    -- `call`, with values that are given
+    called_scopes : (t : ℕ) (args : List ℕ) → Here (instr.Call t args) → (values : List Value)
+        → (r : IsRun is_method m was.frame.unit t args) → AreGiven (stands_on w.clocks a) was.frame.slots r.v.params args values → Scopes m (done w a (called m was t values) none event.Local)
+    called_scopes t args here values r given = done_scopes (called m was t values) none event.Local (λ k. refl) (record {
+      opened = (let none' : opened_in m (frame_with m t values) ≡ 0 = ap (λ o. option_map_or (λ u. depth_at u 0) o 0) r.found ∙ ap length (block_start r.v (unit_fits m ok.shape t r.v r.found).finishes) in
+          omega (arith, mine.opened, sum_by-cons (opened_in m) (frame_with m t values) (was.frame ∷ was.callers)));
+      owner = mine.owner;
+      homes = ((λ s c named held. slot s c held (begins.names s c named)), mine.homes);
+    })
+      where
+        begins : Begun m (stands_on w.clocks a) (looks w.clocks a) (length w.clocks) was.frame.slots t r.v args (frame_with m t values)
+        begins = frame_begun m sound.limits ok.shape (stands_on w.clocks a) (looks w.clocks a) (length w.clocks) me.u was.frame me.frame t r.v r.found args r.once values given (λ s k h. refl)
+
+        slot : (s c : ℕ) → is_held (looks w.clocks a c) ≡ true → (x : ℕ) × (slice_get r.v.params s ≡ Some param.Clock) × (slice_get args s ≡ Some x) × Names was.frame.slots x c
+            → IsHome m a was.governed scoped.scopes (frame_with m t values) (opened_by m (was.frame ∷ was.callers)) s c
+        slot s c held p = record {
+          u = r.v;
+          found = r.found;
+          home = [];
+          is = param_home r.v s p.1;
+          round = tt;
+          scope = given_home t args r.v r.found (none_away t args (instr.Call t args) here refl) s c p.0 p.1 p.2 p.3 held
+              ∙ ap Some (governing_at a was ∙ ap (finish_at a was.governed) (let e = mine.opened in omega arith));
+        }
+
+    -- `call`
+    calling_scopes : (t : ℕ) (args : List ℕ) → Here (instr.Call t args) → Scopes m (carried_out m w a was (instr.Call t args))
+    calling_scopes t args here =
+        let r = call_fits m ok.shape was.frame.unit me.u me.unit t args was.frame.place here in
+        rw (r.found, r.fits) (arguments_scopes m w a was r.v.params args (λ values. done w a (called m was t values) none event.Local) (λ values given. called_scopes t args here values r given))
+
+    -- the end of a method
+    back_scopes : Here instr.Ret → (f : Frame) (fs : List Frame) → was.callers ≡ f ∷ fs → Scopes m (done w a (back_in was f fs) none event.Local)
+    back_scopes here f fs under = done_scopes (back_in was f fs) none event.Local (λ k. refl) (record {
+      opened = (let none' : opened_in m was.frame ≡ 0 = depth_here was.frame refl ∙ ap length (block_end me.u fit.finishes was.frame.place (fit.last was.frame.place here) instr.Ret here refl) in
+          let same : opened_in m f ≡ opened_in m (record f { place = f.place + 1 }) = depth f refl ∙ ap length (sym block) ∙ sym (depth (record f { place = f.place + 1 }) refl) in
+          let below : opened_by m was.callers ≡ opened_in m f + opened_by m fs = ap (opened_by m) under ∙ sum_by-cons (opened_in m) f fs in
+          omega (arith, mine.opened, sum_by-cons (opened_in m) was.frame was.callers, sum_by-cons (opened_in m) (record f { place = f.place + 1 }) fs));
+      owner = mine.owner;
+      homes = ((λ s c named held. slot s c (lower.0 s c named held)), lower.1);
+    })
+      where
+        top : IsWaiting m (looks w.clocks a) was.status (length w.clocks) was.frame f fs
+        top = (subst (AreWaiting m (looks w.clocks a) was.status (length w.clocks) was.frame) under me.waiting).0
+
+        block : block_at top.u (f.place + 1) ≡ block_at top.u f.place
+        block = block_next top.u (unit_fits m ok.shape f.unit top.u top.found).finishes f.place (instr.Call was.frame.unit top.args) top.call refl
+
+        depth : (g : Frame) → g.unit ≡ f.unit → opened_in m g ≡ depth_at top.u g.place
+        depth g same = ap (λ o. option_map_or (λ u. depth_at u g.place) o 0) (ap (slice_get m.units) same ∙ top.found)
+
+        lower : AreHome m a was.governed scoped.scopes (looks w.clocks a) (f ∷ fs)
+        lower = subst (AreHome m a was.governed scoped.scopes (looks w.clocks a)) under mine.homes.1
+
+        slot : (s c : ℕ) → IsHome m a was.governed scoped.scopes f (opened_by m fs) s c → IsHome m a was.governed scoped.scopes (record f { place = f.place + 1 }) (opened_by m fs) s c
+        slot s c h =
+            let is : h.u ≡ top.u = same_Some h.u top.u (sym h.found ∙ top.found) in
+            record {
+              u = h.u;
+              found = h.found;
+              home = h.home;
+              is = h.is;
+              round = subst (λ v. IsRound h.home (block_at v (f.place + 1))) (sym is) (subst (IsRound h.home) (sym block) (subst (λ v. IsRound h.home (block_at v f.place)) is h.round));
+              scope = h.scope;
+            }
+
+    -- the end of an activity
+    end_scopes : Scopes m (done w a (ended was) (all dropped) event.Ended)
+    end_scopes = keeps_to (ended was) (all dropped) event.Ended refl refl refl refl refl (λ s c named. named) (λ k. refl) (λ k st h. absurd (false≢true h))
+
+    ret_scopes : Here instr.Ret → (fs : List Frame) → was.callers ≡ fs → Scopes m (returning w a was fs)
+    ret_scopes here [] e = end_scopes
+    ret_scopes here (f ∷ fs) e = back_scopes here f fs e
+
+    -- what a new activity stands on, its starter stands on
+    given_held : (b : Bool) (st : Standing) → is_held (kind_by (cond b st standing.Apart)) ≡ true → is_held (kind_by st) ≡ true
+    given_held true st h = h
+    given_held false st h = absurd (false≢true h)
+
+    -- the finish that governs it has an owner of smaller number
+    deep_owner : (d o : ℕ) → (finish_at a was.governed d).owner ≡ Some o → o ≤ a
+    deep_owner zero o e = (let h = mine.owner o e in omega arith)
+    deep_owner (suc d) o e = (let h = same_Some a o e in omega arith)
+
+    -- `spawn`, with values that are given
+    module _ (t : ℕ) (args : List ℕ) (here : Here (instr.Spawn t args)) (values : List Value) (r : IsRun is_body m was.frame.unit t args)
+        (given : AreGiven (stands_on w.clocks a) was.frame.slots r.v.params args values) where
+      abbrev new : Activity
+      new = child m a was t values
+
+      -- the activities but the new one
+      abbrev before : List Activity
+      before = set w.activities a (onward was)
+
+      abbrev joined_clocks : List Clock
+      joined_clocks = joined a (is_given values) w.clocks
+
+      widths : Each (λ k c. length c.standings ≡ length before) w.clocks
+      widths k c at = (sound.clocks k c at).width ∙ sym (length-set w.activities a (onward was))
+
+      old_looks : (b : ℕ) → b < length before → looks w.clocks b ≡ looks joined_clocks b
+      old_looks b inside = fun_ext (looks w.clocks b) (looks joined_clocks b)
+          (λ k. ap kind_by (sym (stands_on-joined_old a b (is_given values) w.clocks k (λ j c at. omega (arith, widths j c at)))))
+
+      new_looks : new_look (stands_on w.clocks a) values ≡ looks joined_clocks (length before)
+      new_looks = fun_ext (new_look (stands_on w.clocks a) values) (looks joined_clocks (length before))
+          (λ k. ap kind_by (sym (stands_on-joined_new a (length before) (is_given values) w.clocks k widths)))
+
+      begins : Begun m (stands_on w.clocks a) (new_look (stands_on w.clocks a) values) (length w.clocks) was.frame.slots t r.v args (frame_with m t values)
+      begins = frame_begun m sound.limits ok.shape (stands_on w.clocks a) (new_look (stands_on w.clocks a) values) (length w.clocks) me.u was.frame me.frame t r.v r.found args r.once values given (look_given (stands_on w.clocks a) values)
+
+      slot : (s c : ℕ) → is_held (new_look (stands_on w.clocks a) values c) ≡ true → (x : ℕ) × (slice_get r.v.params s ≡ Some param.Clock) × (slice_get args s ≡ Some x) × Names was.frame.slots x c
+          → IsHome m (length before) (governing a was) scoped.scopes (frame_with m t values) 0 s c
+      slot s c held p = record {
+        u = r.v;
+        found = r.found;
+        home = [];
+        is = param_home r.v s p.1;
+        round = tt;
+        scope = given_home t args r.v r.found (none_away t args (instr.Spawn t args) here refl) s c p.0 p.1 p.2 p.3 (given_held (is_given values c) (stands_on w.clocks a c) held);
+      }
+
+      new_scoped : IsScopedIn m scoped.scopes (new_look (stands_on w.clocks a) values) (length before) new
+      new_scoped = record {
+        opened = (let none' : opened_in m (frame_with m t values) ≡ 0 = ap (λ o. option_map_or (λ u. depth_at u 0) o 0) r.found ∙ ap length (block_start r.v (unit_fits m ok.shape t r.v r.found).finishes) in
+            omega (arith, sum_by-cons (opened_in m) (frame_with m t values) []));
+        owner = λ o e. (let h = deep_owner was.opened o (ap (λ g. g.owner) (sym (governing_at a was)) ∙ e) in
+            let n = slice_get_within w.activities a was found in omega (arith, length-set w.activities a (onward was)));
+        homes = ((λ s c named held. slot s c held (begins.names s c named)), tt);
+      }
+
+      started_scopes : Scopes m (spawned m w a was t values)
+      started_scopes = record {
+        scopes = scoped.scopes;
+        width = scoped.width ∙ sym (length-joined a (is_given values) w.clocks) ∙ sym (length-map joined_clocks (settled_clock (w.steps + 1)));
+        activities = each_push (λ b x. IsScopedIn m scoped.scopes (looks (map (settled_clock (w.steps + 1)) joined_clocks) b) b x) before new
+            (λ b x at. subst (λ look. IsScopedIn m scoped.scopes look b x) (old_looks b (slice_get_within before b x at) ∙ sym (settled_looks (w.steps + 1) joined_clocks b)) (old b x at))
+            (subst (λ look. IsScopedIn m scoped.scopes look (length before) new) (new_looks ∙ sym (settled_looks (w.steps + 1) joined_clocks (length before))) new_scoped);
+      }
+        where
+          old : Each (λ b x. IsScopedIn m scoped.scopes (looks w.clocks b) b x) before
+          old = each_set (λ b x. IsScopedIn m scoped.scopes (looks w.clocks b) b x) w.activities a was (onward was) found
+              (stays (onward was) (looks w.clocks a) refl refl refl refl (block_next me.u fit.finishes was.frame.place (instr.Spawn t args) here refl) (λ s c named. named) (λ c held. held))
+              (λ b x differs at. scoped.activities b x at)
+
+    -- `spawn`
+    spawning_scopes : (t : ℕ) (args : List ℕ) → Here (instr.Spawn t args) → Scopes m (carried_out m w a was (instr.Spawn t args))
+    spawning_scopes t args here =
+        let r = start_fits m ok.shape was.frame.unit me.u me.unit t args was.frame.place here in
+        rw (r.found, r.fits) (arguments_scopes m w a was r.v.params args (spawned m w a was t) (λ values given. started_scopes t args here values r given))
+
+    -- every instruction
+    instruction_scopes : (i : Instr) → Here i → Scopes m (carried_out m w a was i)
+    instruction_scopes (instr.Lit d n) here = writes_number (instr.Lit d n) here refl d n
+    instruction_scopes (instr.Copy d x) here = number_scopes m w a (slot_at was x) _ (λ n e. writes_number (instr.Copy d x) here refl d n)
+    instruction_scopes (instr.Add d x y) here = computing_scopes (instr.Add d x y) here refl (int_wrapping_add w64) d x y
+    instruction_scopes (instr.Sub d x y) here = computing_scopes (instr.Sub d x y) here refl (int_wrapping_sub w64) d x y
+    instruction_scopes (instr.Mul d x y) here = computing_scopes (instr.Mul d x y) here refl (int_wrapping_mul w64) d x y
+    instruction_scopes (instr.Unless op x y t) here = number_scopes m w a (slot_at was x) _ (λ p e. number_scopes m w a (slot_at was y) _ (λ q g. unless_scopes (instr.Unless op x y t) here refl t refl (compares op p q)))
+    instruction_scopes (instr.Jump t) here = goes_to (instr.Jump t) here refl t refl
+    instruction_scopes (instr.For k lo hi e) here = writes_number (instr.For k lo hi e) here refl k lo
+    instruction_scopes (instr.Next b) here = turning_scopes b here (instruction_at m (record was.frame { place = b }))
+    instruction_scopes (instr.Finish e) here = finish_scopes e here
+    instruction_scopes (instr.EndFinish b) here = closing_scopes b was.opened here refl
+    instruction_scopes (instr.Print x) here = number_scopes m w a (slot_at was x) _ (λ n e. goes_on (instr.Print x) here refl none (event.Printed n) (λ k. refl) (λ k st h. h))
+    instruction_scopes (instr.Make d) here = put_scopes m w a (slot_at was d) was d (value.Clock (length w.clocks)) (λ next. made w a next) (λ old at. made_scopes d old here at)
+    instruction_scopes (instr.Resume x) here = using_scopes (instr.Resume x) here refl x resumed event.Resumed refl resumed_registers
+    instruction_scopes (instr.Drop x) here = using_scopes (instr.Drop x) here refl x dropped event.Dropped refl (λ st h. absurd (false≢true h))
+    instruction_scopes instr.Advance here = keeps_to (arrived was) (all resumed) event.Arrived refl refl refl refl refl (λ s c named. named) (λ k. refl) (λ k st h. resumed_registers st h)
+    instruction_scopes (instr.Call t args) here = calling_scopes t args here
+    instruction_scopes (instr.Spawn t args) here = spawning_scopes t args here
+    instruction_scopes instr.Ret here = ret_scopes here was.callers refl
+
+    run_scopes : Scopes m (run_at m w a was (instruction_at m was.frame))
+    run_scopes =
+        let i = get_inside me.u.code was.frame.place me.frame.place in
+        subst (λ o. Scopes m (run_at m w a was o)) (sym (ap (option_and_then (λ unit. slice_get unit.code was.frame.place)) me.unit ∙ i.1)) (instruction_scopes i.0 i.1)
+
+  -- the second half of an `advance`
+  pass_scopes : was.status ≡ status.Arrived → Scopes m (passing w a was)
+  pass_scopes waiting = cases (waits w a)
+    where
+      cases : (b : Bool) → Scopes m (cond b Blocked (done w a (past was (w.steps + 1)) (all passed) event.Passed))
+      cases true = tt
+      cases false = keeps_to (past was (w.steps + 1)) (all passed) event.Passed refl refl refl refl (block_next me.u fit.finishes was.frame.place instr.Advance (me.advance waiting) refl)
+          (λ s c named. named) (λ k. refl) (λ k st h. passed_registers st h)
+
+-- every step of a sound world keeps its scopes
+pub step_scopes : (m : ModuleValue) → IsAccepted m → (w : World) → IsSound m w → IsScoped m w → (a : ℕ) → Scopes m (step m w a)
+step_scopes m ok w sound scoped a = of (slice_get w.activities a) refl
+  where
+    by : (act : Activity) → slice_get w.activities a ≡ Some act → (st : Status) → act.status ≡ st → Scopes m (step_by m w a act st)
+    by act found status.Running e = run_scopes m ok w a act sound scoped found e
+    by act found status.Arrived e = pass_scopes m ok w a act sound scoped found e
+    by act found status.Ended e = tt
+
+    of : (o : Option Activity) → slice_get w.activities a ≡ o → Scopes m (step_of m w a o)
+    of None e = tt
+    of (Some act) e = by act e act.status refl
