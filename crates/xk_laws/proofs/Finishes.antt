@@ -1,6 +1,6 @@
 -- What the rules on shape say of the finishes of a unit.
-use Rattle.std.proofs.Common.{◌≡◌, ℕ, ◌+◌, ◌<◌, ◌==◌, Bool, true, false, ◌&&◌, length, Option, Some, None, refl, sym, ap, ◌∙◌, subst, arith, ltb-true, eqb-true, option_and_then, option_map}
-use Rattle.std.specs.Prelude.{slice_get, nat_lt, if◌then◌else◌}
+use Rattle.std.proofs.Common.{◌≡◌, ℕ, ◌+◌, ◌<◌, ◌==◌, Bool, true, false, length, Option, Some, None, refl, sym, ap, ◌∙◌, subst, arith, eqb-true, option_and_then, option_map}
+use Rattle.std.specs.Prelude.{slice_get, if◌then◌else◌}
 use Rattle.std.specs.List.{list_any}
 use Rattle.std.proofs.lemmas.Bool.{false≢true}
 use Rattle.std.proofs.lemmas.Option.{none-some, same_Some, cond_some}
@@ -11,7 +11,7 @@ use Rattle.xk_types.specs.Blocks.{Span, is_end_of, finish_opened, finishes}
 use Rattle.xk_types.specs.Order.{Has}
 use Rattle.xk_types.specs.Shape.{breaks_target, breaks_block, breaks_loop, span_of, span_begun, spans, span_ended, overlaps}
 use Rattle.xk_laws.proofs.Begun.{Rising, begun_found, begun_had, begun_rise}
-use Rattle.xk_laws.proofs.Loops.{begins, none_has, not_amiss, loop_span, finish_span, of_loop, aims, uncrossing, ahead, loop_apart, EndsSpan}
+use Rattle.xk_laws.proofs.Loops.{begins, none_has, not_amiss, finish_span, aims, uncrossing, ahead, loop_apart, EndsSpan}
 
 -- the finish between these two places
 abbrev pub finish_of : ℕ → ℕ → Span

@@ -14,9 +14,9 @@ use Rattle.xk_types.specs.declared.rules.Rule.{Rule}
 use Rattle.xk_types.specs.declared.rules.Rule.TheVariants as rule
 use Rattle.xk_types.specs.declared.unit.UnitKind.{UnitKind}
 use Rattle.xk_types.specs.Code.{UnitValue, ModuleValue, is_method, is_body, params_of, clock_arguments, unit_called, unit_run}
-use Rattle.xk_types.specs.Blocks.{takes_clock, block_at, homes, is_elsewhere}
+use Rattle.xk_types.specs.Blocks.{takes_clock}
 use Rattle.xk_types.specs.Order.{Has}
-use Rattle.xk_types.specs.Shape.{slots_named, is_ret, instr_is, is_in_place, is_fitting, runs_amiss, mishandles, moves_home, gives_away, has_twice, gives_twice, breaks_unit_of, breaks_in, breaks_end, HasShape}
+use Rattle.xk_types.specs.Shape.{slots_named, is_ret, instr_is, is_in_place, is_fitting, runs_amiss, mishandles, moves_home, has_twice, gives_twice, breaks_unit_of, breaks_in, breaks_end, HasShape}
 
 -- a unit that fits
 pub record IsFit (u : UnitValue) : Type 0 where

@@ -16,8 +16,8 @@ use Rattle.xk_types.specs.declared.unit.ParamKind.TheVariants as param
 use Rattle.xk_types.specs.declared.rules.Kind.{Kind}
 use Rattle.xk_types.specs.Code.{UnitValue, ModuleValue, clock_arguments, IsUnitWithinLimits, IsWithinLimits}
 use Rattle.xk_types.specs.Order.{Has}
-use Rattle.xk_types.specs.World.{Frame, Activity, root, slots_of, frame_with}
-use Rattle.xk_types.specs.Step.{governing, child, names_clock, is_given}
+use Rattle.xk_types.specs.World.{Frame, Activity, slots_of, frame_with}
+use Rattle.xk_types.specs.Step.{child, names_clock, is_given}
 use Rattle.xk_types.specs.Shape.{HasShape, has_twice}
 use Rattle.xk_types.specs.Walk.{entry_of, IsVisited, MayBecome, across}
 use Rattle.xk_types.specs.declared.rules.Kind.TheVariants as kind

@@ -1,5 +1,5 @@
 -- Each instruction of a running activity is a step that keeps the invariant.
-use Rattle.std.proofs.Common.{◌≡◌, ℕ, zero, suc, ◌+◌, ◌<◌, Bool, true, false, cond, ◌==◌, List, [], ◌∷◌, ◌++◌, length, set, ℤ, pos, ◌+ℤ◌, int_lt, Some, None, refl, sym, ap, ◌∙◌, subst, arith, ◌⊎◌, ◌≤◌, not, ltb-true, inl, inr}
+use Rattle.std.proofs.Common.{◌≡◌, ℕ, suc, ◌+◌, ◌<◌, Bool, true, false, cond, ◌==◌, List, [], ◌∷◌, ◌++◌, length, set, ℤ, pos, ◌+ℤ◌, int_lt, Some, None, refl, sym, ap, ◌∙◌, subst, arith, ◌⊎◌, ◌≤◌, not, ltb-true, inl, inr}
 use Rattle.std.specs.Prelude.{slice_get, nat_lt}
 use Rattle.std.specs.Int.{w64, int_wrapping_add, int_wrapping_sub, int_wrapping_mul}
 use Rattle.std.specs.Option.{option_map_or, option_and_then}

@@ -21,6 +21,7 @@ pub mod Running
 pub mod Waiting
 pub mod Instructions
 pub mod ScopeSteps
+pub mod Under
 pub mod Progress
 pub mod Opening
 pub mod Forms

@@ -1,5 +1,5 @@
 -- What the rules on shape say of the loops of a unit.
-use Rattle.std.proofs.Common.{◌≡◌, ℕ, zero, suc, ◌+◌, ◌<◌, ◌==◌, ℤ, int_lt, int_le, Bool, true, false, not, ◌&&◌, List, [], ◌∷◌, length, Option, Some, None, inl, inr, refl, sym, ap, ◌∙◌, subst, arith, ltb-true, eqb-true, true≢false, option_and_then, option_map, map, ◌++◌}
+use Rattle.std.proofs.Common.{◌≡◌, ℕ, ◌+◌, ◌<◌, ◌==◌, ℤ, int_lt, int_le, Bool, true, false, not, ◌&&◌, List, [], ◌∷◌, length, Option, Some, None, inl, inr, refl, sym, ap, ◌∙◌, subst, arith, ltb-true, eqb-true, true≢false, option_and_then, option_map, map, ◌++◌}
 use Rattle.std.specs.Prelude.{slice_get, nat_lt, if◌then◌else◌}
 use Rattle.std.specs.Option.{option_map_or}
 use Rattle.std.specs.List.{list_any}
@@ -9,9 +9,9 @@ use Rattle.std.proofs.lemmas.Option.{none-some, same_Some, cond_some}
 use Rattle.xk_types.specs.declared.instr.Instr.{Instr}
 use Rattle.xk_types.specs.declared.instr.Instr.TheVariants as instr
 use Rattle.xk_types.specs.Code.{UnitValue, Loop, is_next_of, loop_begun, loops, is_round, is_within}
-use Rattle.xk_types.specs.Blocks.{Span, is_end_of, finish_opened, finishes, is_inside}
+use Rattle.xk_types.specs.Blocks.{Span, is_end_of, finishes, is_inside}
 use Rattle.xk_types.specs.Order.{Has}
-use Rattle.xk_laws.proofs.Begun.{Rising, IsBegun, begun_found, begun_had, begun_rise}
+use Rattle.xk_laws.proofs.Begun.{Rising, begun_found, begun_had, begun_rise}
 use Rattle.xk_types.specs.Shape.{instr_is, slot_written, target, lies_ahead, aims_well, breaks_target, span_of, span_begun, spans, overlaps, span_ended, is_amiss, differ, crosses, is_crossing, breaks_block, is_backward, writes_slot, breaks_loop}
 
 -- ---- what holds of them

@@ -1,10 +1,10 @@
 -- Each step keeps the scopes of clocks.
-use Rattle.std.proofs.Common.{◌≡◌, ℕ, zero, suc, ◌+◌, ◌<◌, ◌≤◌, ◌==◌, ◌||◌, not, Bool, true, false, cond, List, [], ◌∷◌, ◌++◌, length, map, set, sum_by, ℤ, pos, ◌+ℤ◌, int_lt, Option, Some, None, inl, inr, ◌⊎◌, refl, sym, ap, ◌∙◌, subst, arith, length-set, eqb-true}
+use Rattle.std.proofs.Common.{◌≡◌, ℕ, zero, suc, ◌+◌, ◌<◌, ◌≤◌, ◌==◌, ◌||◌, not, Bool, true, false, cond, List, [], ◌∷◌, ◌++◌, length, map, set, ℤ, pos, ◌+ℤ◌, int_lt, Option, Some, None, inl, inr, ◌⊎◌, refl, sym, ap, ◌∙◌, subst, arith, length-set, eqb-true}
 use Rattle.std.specs.Prelude.{slice_get}
 use Rattle.std.specs.Int.{w64, int_wrapping_add, int_wrapping_sub, int_wrapping_mul}
 use Rattle.std.specs.List.{list_any}
 use Rattle.std.specs.Option.{option_map_or, option_and_then}
-use Rattle.std.proofs.lemmas.Bool.{false≢true, cases_eq, eq-eqb, and_parts, or_parts, not-false, ne_eqb}
+use Rattle.std.proofs.lemmas.Bool.{false≢true, eq-eqb, and_parts, not-false}
 use Rattle.std.proofs.lemmas.List.{length_push, length-map}
 use Rattle.std.proofs.lemmas.List.Sums.{sum_by-cons}
 use Rattle.std.proofs.lemmas.Option.{none-some, same_Some, slice_get_within}
@@ -25,14 +25,14 @@ use Rattle.xk_types.specs.declared.unit.ParamKind.TheVariants as param
 use Rattle.xk_types.specs.Code.{UnitValue, ModuleValue, params_of, clock_arguments, compares, is_method, is_body}
 use Rattle.xk_types.specs.Blocks.{block_at, depth_at, same_block, takes_clock, makes, made_from, homes, is_elsewhere, is_here}
 use Rattle.xk_types.specs.World.{Frame, Finish, Activity, Clock, World, standing_of, instruction_at, frame_with}
-use Rattle.xk_types.specs.Step.{Outcome, Blocked, Wrong, Stepped, ClockUse, OutOfRange, is_registered, number_in, clock_in, registered_on, put_in, slot_at, arguments_in, computing, turning, again, spawned, spawning, carried_out, run_at, done, made, onward, going, with_slots, arrived, ended, past, none, only, all, resumed, passed, dropped, child, innermost, awaits, left, closing, called, calling, back_in, returning, new_clock, is_given, governing, joined, entered, moved, settled_clock, passing, waits, step_by, step_of, step}
+use Rattle.xk_types.specs.Step.{Outcome, Blocked, Wrong, ClockUse, is_registered, number_in, clock_in, registered_on, put_in, slot_at, arguments_in, computing, turning, again, spawned, carried_out, run_at, done, made, onward, going, with_slots, arrived, ended, past, none, only, all, resumed, passed, dropped, child, innermost, awaits, left, closing, called, back_in, returning, new_clock, is_given, governing, joined, entered, moved, settled_clock, passing, waits, step_by, step_of, step}
 use Rattle.xk_types.specs.Order.{Has}
-use Rattle.xk_types.specs.Shape.{HasShape, instr_is, gives_away, target}
+use Rattle.xk_types.specs.Shape.{instr_is, gives_away, target}
 use Rattle.xk_types.specs.Accepted.{IsAccepted}
 use Rattle.xk_types.specs.Walk.{let_go, becomes}
-use Rattle.xk_laws.proofs.Invariant.{Each, Names, NamedIn, IsWaiting, AreWaiting, IsActivitySound, IsSound, looks, kind_by, kind_of, is_held, stands_on}
-use Rattle.xk_laws.proofs.Lists.{get_inside, get_once, get-set_same, get-set_other, each_set, each_push, get_push, get-push_other, fun_ext, any_given}
-use Rattle.xk_laws.proofs.Standings.{stands_on-moved_same, stands_on-moved_other, length-moved, stands_on-push_old, stands_on-push_other, stands_on-joined_old, stands_on-joined_new, length-joined, looks-settled}
+use Rattle.xk_laws.proofs.Invariant.{Each, Names, NamedIn, IsWaiting, AreWaiting, IsActivitySound, IsSound, looks, kind_by, is_held, stands_on}
+use Rattle.xk_laws.proofs.Lists.{get_inside, each_set, each_push, get_push, get-push_other, fun_ext}
+use Rattle.xk_laws.proofs.Standings.{stands_on-moved_same, stands_on-moved_other, length-moved, stands_on-push_old, stands_on-push_other, stands_on-joined_old, stands_on-joined_new, length-joined}
 use Rattle.xk_laws.proofs.Fits.{IsFit, IsRun, unit_fits, unbroken, start_fits, call_fits}
 use Rattle.xk_laws.proofs.Loops.{none_has}
 use Rattle.xk_laws.proofs.Blocks.{is_border, block_next, block_jump, block_round, block_opened, block_closed, block_begun, block_end, block_start}
@@ -40,8 +40,7 @@ use Rattle.xk_laws.proofs.Given.{AreGiven, given_none, given_more, Begun, frame_
 use Rattle.xk_laws.proofs.Rows.{let_go_held}
 use Rattle.xk_laws.proofs.Walks.{Allowed}
 use Rattle.xk_laws.proofs.Running.{IsAt, row_allowed}
-use Rattle.xk_laws.proofs.Callers.{names_known}
-use Rattle.xk_laws.proofs.Scopes.{finish_at, opened_in, opened_by, governing_at, IsRound, round_same, round_more, round_less, IsHome, AreHome, IsScopedIn, IsScoped, Scopes, Keeps, home_kept, homes_kept, scoped_kept, IsLeftScoped, left_scoped, settled_looks}
+use Rattle.xk_laws.proofs.Scopes.{finish_at, opened_in, opened_by, governing_at, IsRound, round_same, round_more, round_less, IsHome, AreHome, IsScopedIn, IsScoped, Scopes, Keeps, home_kept, homes_kept, left_scoped, settled_looks}
 
 -- ---- blocks, one and the same
 

@@ -1,12 +1,10 @@
 -- Clocks and finishes. A clock belongs to the finish that is innermost where it is made, its scope: whoever is registered on the clock is
 -- governed by that finish, or has it open.
-use Rattle.std.proofs.Common.{◌≡◌, ℕ, zero, suc, ◌+◌, ◌<◌, ◌≤◌, ◌==◌, Bool, true, false, cond, List, [], ◌∷◌, ◌++◌, length, map, set, sum_by, Some, None, inl, inr, ◌⊎◌, refl, sym, ap, ◌∙◌, subst, arith}
+use Rattle.std.proofs.Common.{◌≡◌, ℕ, zero, suc, ◌+◌, ◌<◌, ◌≤◌, ◌==◌, true, cond, List, [], ◌∷◌, ◌++◌, length, map, sum_by, Some, inl, inr, ◌⊎◌, refl, sym, ap, ◌∙◌, subst, arith}
 use Rattle.std.specs.Prelude.{slice_get}
 use Rattle.std.specs.Option.{option_map_or}
-use Rattle.std.proofs.lemmas.Bool.{false≢true, ne_eqb}
+use Rattle.std.proofs.lemmas.Bool.{ne_eqb}
 use Rattle.std.proofs.lemmas.List.{length-map}
-use Rattle.std.proofs.lemmas.List.Sums.{sum_by-cons}
-use Rattle.xk_types.specs.declared.names.Standing.{Standing}
 use Rattle.xk_types.specs.declared.rules.Kind.{Kind}
 use Rattle.xk_types.specs.Code.{UnitValue, ModuleValue}
 use Rattle.xk_types.specs.Blocks.{block_at, depth_at, homes}
@@ -14,7 +12,7 @@ use Rattle.xk_types.specs.World.{Frame, Finish, Activity, Clock, World}
 use Rattle.xk_types.specs.Step.{Outcome, Blocked, Wrong, Stepped, governing, settled, settled_clock}
 use Rattle.xk_types.specs.Order.{Has}
 use Rattle.xk_laws.proofs.Invariant.{Each, Names, NamedIn, looks, kind_by, is_held, stands_on}
-use Rattle.xk_laws.proofs.Lists.{each_set, each_push, fun_ext}
+use Rattle.xk_laws.proofs.Lists.{each_set, fun_ext}
 use Rattle.xk_laws.proofs.Standings.{looks-settled}
 use Rattle.xk_laws.proofs.Steps.{left}
 
