@@ -1,5 +1,5 @@
 #!/usr/bin/env python3
-"""Times the built program: checks of many great units, and a run of a hundred million steps.
+"""Times the built program: runs of a hundred million steps, in one unit and by calls, and checks of many great units.
 
     python3 bench/bench.py [PROGRAM]
 
@@ -20,8 +20,8 @@ def module(units):
     return json.dumps({"version": 1, "shared": [], "units": units}, separators=(",", ":"))
 
 
-def unit(kind, slots, code):
-    return {"kind": kind, "params": "", "slots": slots, "code": code}
+def unit(kind, slots, code, params=""):
+    return {"kind": kind, "params": params, "slots": slots, "code": code}
 
 
 def great_unit(kind, next_unit):
@@ -53,6 +53,12 @@ def counting(turns):
     return module([unit("main", 3, code)])
 
 
+def calling(turns):
+    """A loop in a loop that calls a method with a number: the call, a sum, the `ret` and the end of a turn are four steps."""
+    code = [["for", 0, 1, turns, 4], ["for", 1, 1, 5000, 3], ["call", 1, [1]], ["next", 1], ["next", 0], ["ret"]]
+    return module([unit("main", 2, code), unit("method", 2, [["add", 1, 0, 0], ["ret"]], "n")])
+
+
 def timed(name, command, text):
     with tempfile.NamedTemporaryFile("w", suffix=".json", delete=False) as file:
         file.write(text)
@@ -66,7 +72,10 @@ def timed(name, command, text):
     return seconds
 
 
+# The runs first: the memory of a process counts from what this one held when it began, and great modules are great here too.
+seconds = timed("run of 100,010,002 steps", "run", counting(9999))
+print(f"steps a second: {100_010_002 / seconds:,.0f}")
+seconds = timed("run of 24,995,000 calls", "run", calling(4999))
+print(f"calls a second: {24_995_000 / seconds:,.0f}")
 for count in (50, 100, 200):
     timed(f"check of {count} units of 4,096 instructions over 64 slots", "check", great_module(count))
-seconds = timed("run of 100,030,004 steps", "run", counting(9999))
-print(f"steps a second: {100_010_002 / seconds:,.0f}")

@@ -29,6 +29,12 @@ WORDS = [
     "eq", "ne", "lt", "le", "gt", "ge", "main", "body", "method", "", "c", "n", "cc", "cn",
 ]
 
+# Words that can stand for one another where the rest of the value still fits.
+KIN = [
+    group.split()
+    for group in ("add sub mul", "print make resume drop jump next", "advance ret", "call spawn", "eq ne lt le gt ge", "main body method", "c n", "cc cn")
+]
+
 RULES = {
     **dict(zip(range(1, 11), "Target Block Slot Unit Cell Loop End Home Registers SameClock".split())),
     **dict(zip(range(11, 14), "Use Held Leak".split())),
@@ -71,7 +77,8 @@ def changed_value(rng, value):
         other = rng.randrange(len(holder))
         holder[path[-1]], holder[other] = holder[other], old
     elif isinstance(old, str):
-        holder[path[-1]] = rng.choice(WORDS)
+        kin = next((group for group in KIN if old in group), WORDS)
+        holder[path[-1]] = rng.choice(kin if rng.random() < 0.7 else WORDS)
     elif isinstance(old, int) and kind < 7:
         holder[path[-1]] = old + rng.choice([-1, 1]) if rng.random() < 0.5 else rng.randrange(4)
     else:

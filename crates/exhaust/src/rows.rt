@@ -20,7 +20,7 @@ pub struct Row {
 }
 
 /// Programs of one activity.
-pub fn alone() -> [Row; 3] {
+pub fn alone() -> [Row; 6] {
     [
         Row {
             text: r#"{"version":1,"shared":[],"units":[{"kind":"main","params":"","slots":3,"code":[["lit",0,2],["lit",1,3],["add",0,0,1],["make",2],["advance"],["print",0],["ret"]]}]}"#,
@@ -34,11 +34,23 @@ pub fn alone() -> [Row; 3] {
             text: r#"{"version":1,"shared":[],"units":[{"kind":"main","params":"","slots":1,"code":[["advance"],["lit",0,7],["print",0],["ret"]]}]}"#,
             answer: Answer::Runs(&[7], 5),
         },
+        Row {
+            text: r#"{"version":1,"shared":[],"units":[{"kind":"main","params":"","slots":2,"code":[["make",0],["make",1],["resume",1],["call",1,[0]],["resume",1],["ret"]]},{"kind":"method","params":"c","slots":1,"code":[["advance"],["ret"]]}]}"#,
+            answer: Answer::Runs(&[], 9),
+        },
+        Row {
+            text: r#"{"version":1,"shared":[],"units":[{"kind":"main","params":"","slots":1,"code":[["lit",0,2],["call",1,[0]],["call",1,[0]],["print",0],["ret"]]},{"kind":"method","params":"n","slots":2,"code":[["add",0,0,0],["call",2,[0]],["print",0],["ret"]]},{"kind":"method","params":"n","slots":60,"code":[["add",59,0,0],["print",59],["ret"]]}]}"#,
+            answer: Answer::Runs(&[8, 4, 8, 4, 2], 19),
+        },
+        Row {
+            text: r#"{"version":1,"shared":[],"units":[{"kind":"main","params":"","slots":1,"code":[["for",0,-1,1,2],["call",1,[0]],["next",0],["ret"]]},{"kind":"method","params":"n","slots":2,"code":[["make",1],["print",0],["drop",1],["ret"]]}]}"#,
+            answer: Answer::Runs(&[-1, 0, 1], 20),
+        },
     ]
 }
 
 /// Programs of several activities.
-pub fn several() -> [Row; 4] {
+pub fn several() -> [Row; 6] {
     [
         Row {
             text: r#"{"version":1,"shared":[],"units":[{"kind":"main","params":"","slots":2,"code":[["make",0],["spawn",1,[0]],["advance"],["lit",1,1],["print",1],["ret"]]},{"kind":"body","params":"c","slots":2,"code":[["advance"],["lit",1,2],["print",1],["ret"]]}]}"#,
@@ -56,11 +68,19 @@ pub fn several() -> [Row; 4] {
             text: r#"{"version":1,"shared":[],"units":[{"kind":"main","params":"","slots":2,"code":[["lit",0,5],["make",1],["spawn",1,[0,1,0]],["lit",0,7],["print",0],["ret"]]},{"kind":"body","params":"ncn","slots":4,"code":[["add",3,0,2],["drop",1],["print",3],["ret"]]}]}"#,
             answer: Answer::Runs(&[7, 10], 10),
         },
+        Row {
+            text: r#"{"version":1,"shared":[],"units":[{"kind":"main","params":"","slots":2,"code":[["make",0],["spawn",1,[0]],["for",1,1,2,4],["call",2,[0,1]],["next",2],["call",3,[0]],["advance"],["ret"]]},{"kind":"body","params":"c","slots":2,"code":[["for",1,1,2,2],["call",2,[0,1]],["next",0],["drop",0],["ret"]]},{"kind":"method","params":"cn","slots":2,"code":[["resume",0],["print",1],["advance"],["ret"]]},{"kind":"method","params":"c","slots":1,"code":[["resume",0],["ret"]]}]}"#,
+            answer: Answer::Runs(&[1, 2, 1, 2], 40),
+        },
+        Row {
+            text: r#"{"version":1,"shared":[],"units":[{"kind":"main","params":"","slots":1,"code":[["make",0],["call",1,[0]],["call",1,[0]],["advance"],["ret"]]},{"kind":"method","params":"c","slots":3,"code":[["make",1],["spawn",2,[1,0]],["resume",0],["advance"],["lit",2,3],["print",2],["drop",1],["ret"]]},{"kind":"body","params":"cc","slots":2,"code":[["resume",0],["advance"],["drop",1],["advance"],["ret"]]}]}"#,
+            answer: Answer::Runs(&[3, 3], 38),
+        },
     ]
 }
 
 /// Programs that the verifier refuses.
-pub fn refused() -> [Row; 6] {
+pub fn refused() -> [Row; 9] {
     [
         Row {
             text: r#"{"version":1,"shared":[],"units":[{"kind":"main","params":"","slots":1,"code":[["drop",0],["ret"]]}]}"#,
@@ -84,6 +104,18 @@ pub fn refused() -> [Row; 6] {
         },
         Row {
             text: r#"{"version":1,"shared":[],"units":[{"kind":"main","params":"","slots":1,"code":[["make",0],["drop",0],["spawn",1,[0]],["ret"]]},{"kind":"body","params":"c","slots":1,"code":[["ret"]]}]}"#,
+            answer: Answer::Refused(Rule::Use),
+        },
+        Row {
+            text: r#"{"version":1,"shared":[],"units":[{"kind":"main","params":"","slots":0,"code":[["call",1,[]],["ret"]]},{"kind":"method","params":"","slots":1,"code":[["make",0],["ret"]]}]}"#,
+            answer: Answer::Refused(Rule::Leak),
+        },
+        Row {
+            text: r#"{"version":1,"shared":[],"units":[{"kind":"main","params":"","slots":1,"code":[["make",0],["call",1,[0]],["ret"]]},{"kind":"method","params":"c","slots":1,"code":[["drop",0],["ret"]]}]}"#,
+            answer: Answer::Refused(Rule::Home),
+        },
+        Row {
+            text: r#"{"version":1,"shared":[],"units":[{"kind":"main","params":"","slots":1,"code":[["make",0],["drop",0],["call",1,[0]],["ret"]]},{"kind":"method","params":"c","slots":1,"code":[["ret"]]}]}"#,
             answer: Answer::Refused(Rule::Use),
         },
     ]

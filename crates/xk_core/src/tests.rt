@@ -89,6 +89,7 @@ fn sum_and_one_phase(rt: HostRuntime) -> Result<(), Fail> {
     ]?;
     let verified = main_of(alloc, 3, code)?;
     laws::every_schedule(&verified);
+    laws::kinds_sound(&verified);
     let mut core = Core::open(alloc, &verified)?;
     assert_eq!(rt; core.pick(), Some(Act(0)));
     assert!(rt; core.enabled(Act(0)) && !core.enabled(Act(1)) && !core.ended());

@@ -6,7 +6,9 @@ use std::cmp::Ordering;
 use std::collections::BTreeSet;
 use std::mem;
 use std::test::Fail;
-use xk_types::{Args, ClockId, Comparison, Event, Instr, Module, ParamKind, Status, Unit, Value};
+use xk_types::{
+    Args, ClockId, Comparison, Event, Instr, Module, ParamKind, Status, Unit, UnitKind, Value,
+};
 
 /// Those registered on a clock, by what they have done in its phase.
 #[derive(Drop)]
@@ -21,12 +23,18 @@ struct Barrier {
     last: u64,
 }
 
-/// An activity: its unit, the place of its next instruction, its slots.
+/// A unit that is under way: the place of its next instruction, its slots.
 #[derive(Drop)]
-struct Actor {
+struct Frame {
     unit: usize,
     place: usize,
     slots: Vec<Value>,
+}
+
+/// An activity: the units that it has under way, each but the last at the call of the next.
+#[derive(Drop)]
+struct Actor {
+    frames: Vec<Frame>,
     status: Status,
     since: u64,
 }
@@ -102,19 +110,17 @@ impl Barrier {
     }
 }
 
-impl Actor {
-    /// An activity before its first step: its first slots hold these values.
-    fn new(unit: usize, form: &Unit, given: Vec<Value>, since: u64) -> Result<Actor, Fail> {
+impl Frame {
+    /// A unit before its first instruction: its first slots hold these values.
+    fn new(unit: usize, form: &Unit, given: Vec<Value>) -> Result<Frame, Fail> {
         let mut slots = given;
         for _ in slots.len()..form.slots as usize {
             slots.push(Value::Unset)?;
         }
-        Ok(Actor {
+        Ok(Frame {
             unit,
             place: 0,
             slots,
-            status: Status::Running,
-            since,
         })
     }
 
@@ -140,13 +146,26 @@ impl Actor {
     }
 }
 
+impl Actor {
+    /// An activity before its first step.
+    fn new(alloc: Global, frame: Frame, since: u64) -> Result<Actor, Fail> {
+        let mut frames = Vec::new(alloc);
+        frames.push(frame)?;
+        Ok(Actor {
+            frames,
+            status: Status::Running,
+            since,
+        })
+    }
+}
+
 /// The number that an instruction makes of others.
-fn computed(actor: &Actor, instr: &Instr) -> Result<i64, Fail> {
+fn computed(frame: &Frame, instr: &Instr) -> Result<i64, Fail> {
     match instr {
-        Instr::Copy(_, x) => actor.number(*x),
-        Instr::Add(_, x, y) => Ok(actor.number(*x)?.wrapping_add(actor.number(*y)?)),
-        Instr::Sub(_, x, y) => Ok(actor.number(*x)?.wrapping_sub(actor.number(*y)?)),
-        Instr::Mul(_, x, y) => Ok(actor.number(*x)?.wrapping_mul(actor.number(*y)?)),
+        Instr::Copy(_, x) => frame.number(*x),
+        Instr::Add(_, x, y) => Ok(frame.number(*x)?.wrapping_add(frame.number(*y)?)),
+        Instr::Sub(_, x, y) => Ok(frame.number(*x)?.wrapping_sub(frame.number(*y)?)),
+        Instr::Mul(_, x, y) => Ok(frame.number(*x)?.wrapping_mul(frame.number(*y)?)),
         _ => Err("no instruction that computes".into()),
     }
 }
@@ -165,26 +184,33 @@ fn compares(op: Comparison, x: i64, y: i64) -> bool {
 }
 
 /// Where a branch, a jump or the end of a turn leads; the end of a turn moves the loop's slot.
-fn branched(actor: &mut Actor, form: &Unit, instr: &Instr) -> Result<usize, Fail> {
-    let behind = actor.place.saturating_add(1);
+fn branched(frame: &mut Frame, form: &Unit, instr: &Instr) -> Result<usize, Fail> {
+    let behind = frame.place.saturating_add(1);
     match instr {
         Instr::Jump(t) => Ok(*t as usize),
         Instr::Unless(op, x, y, t) => {
-            let holds = compares(*op, actor.number(*x)?, actor.number(*y)?);
+            let holds = compares(*op, frame.number(*x)?, frame.number(*y)?);
             Ok(if holds { behind } else { *t as usize })
         }
         Instr::Next(b) => {
             let Some(Instr::For(slot, _, hi, _)) = form.code.get(*b as usize) else {
                 return Err("a turn ends without a loop".into());
             };
-            let n = actor.number(*slot)?;
+            let n = frame.number(*slot)?;
             if n >= *hi {
                 return Ok(behind);
             }
-            actor.write(*slot, Value::Number(n.saturating_add(1)))?;
+            frame.write(*slot, Value::Number(n.saturating_add(1)))?;
             Ok((*b as usize).saturating_add(1))
         }
         _ => Err("no branch".into()),
+    }
+}
+
+fn unit_of(program: &Module, unit: usize) -> Result<&Unit, Fail> {
+    match program.units().get(unit) {
+        Some(form) => Ok(form),
+        None => Err("a unit is missing".into()),
     }
 }
 
@@ -194,8 +220,9 @@ impl<'m> Plain<'m> {
         let Some(form) = program.units().first() else {
             return Err("there is no main".into());
         };
+        let main = Frame::new(0, form, Vec::new(alloc))?;
         let mut actors = Vec::new(alloc);
-        actors.push(Actor::new(0, form, Vec::new(alloc), 0)?)?;
+        actors.push(Actor::new(alloc, main, 0)?)?;
         Ok(Plain {
             program,
             actors,
@@ -276,9 +303,24 @@ impl<'m> Plain<'m> {
         }
     }
 
+    /// What the activity is in the midst of.
+    fn frame(&self, a: u32) -> Result<&Frame, Fail> {
+        match self.actor(a)?.frames.last() {
+            Some(frame) => Ok(frame),
+            None => Err("an activity has nothing under way".into()),
+        }
+    }
+
+    fn frame_mut(&mut self, a: u32) -> Result<&mut Frame, Fail> {
+        match self.actor_mut(a)?.frames.last_mut() {
+            Some(frame) => Ok(frame),
+            None => Err("an activity has nothing under way".into()),
+        }
+    }
+
     /// The number of the clock that the activity's slot names, on which it must be registered.
     fn clock_of(&self, a: u32, slot: u16) -> Result<u32, Fail> {
-        let Some(Value::Clock(clock)) = self.actor(a)?.slots.get(slot as usize) else {
+        let Some(Value::Clock(clock)) = self.frame(a)?.slots.get(slot as usize) else {
             return Err("a clock is missing".into());
         };
         match self.barriers.get(clock.0 as usize) {
@@ -316,30 +358,29 @@ impl<'m> Plain<'m> {
         let actor = self.actor_mut(a)?;
         actor.status = Status::Running;
         actor.since = now;
-        actor.go_on();
+        self.frame_mut(a)?.go_on();
         Ok(Event::Passed)
     }
 
     fn carry_out(&mut self, alloc: Global, a: u32) -> Result<Event, Fail> {
         let program = self.program;
-        let actor = self.actor(a)?;
-        let Some(form) = program.units().get(actor.unit) else {
-            return Err("a unit is missing".into());
-        };
-        let Some(instr) = form.code.get(actor.place) else {
+        let frame = self.frame(a)?;
+        let form = unit_of(program, frame.unit)?;
+        let Some(instr) = form.code.get(frame.place) else {
             return Err("an instruction is missing".into());
         };
         match instr {
             Instr::Advance => self.arrive(a),
-            Instr::Ret => self.end(a),
+            Instr::Call(t, args) => self.call(alloc, a, *t as usize, args),
+            Instr::Ret => self.leave(a),
             Instr::Unless(_, _, _, _) | Instr::Jump(_) | Instr::Next(_) => {
-                let place = branched(self.actor_mut(a)?, form, instr)?;
-                self.actor_mut(a)?.place = place;
+                let place = branched(self.frame_mut(a)?, form, instr)?;
+                self.frame_mut(a)?.place = place;
                 Ok(Event::Local)
             }
             _ => {
                 let event = self.act(alloc, a, instr)?;
-                self.actor_mut(a)?.go_on();
+                self.frame_mut(a)?.go_on();
                 Ok(event)
             }
         }
@@ -351,6 +392,31 @@ impl<'m> Plain<'m> {
         }
         self.actor_mut(a)?.status = Status::Arrived;
         Ok(Event::Arrived)
+    }
+
+    /// Begins a method, in the same activity: it is registered where it was.
+    fn call(&mut self, alloc: Global, a: u32, unit: usize, args: &Args) -> Result<Event, Fail> {
+        let form = unit_of(self.program, unit)?;
+        if form.kind != UnitKind::Method || form.params.len() != args.count() {
+            return Err("what is called is no method, or takes other arguments".into());
+        }
+        let mut given = Vec::new(alloc);
+        for (slot, kind) in args.slots().iter().zip(form.params.iter()) {
+            given.push(self.value(a, *slot, *kind)?)?;
+        }
+        let method = Frame::new(unit, form, given)?;
+        self.actor_mut(a)?.frames.push(method)?;
+        Ok(Event::Local)
+    }
+
+    /// Ends what is under way: behind its call if it was called, else the activity is over.
+    fn leave(&mut self, a: u32) -> Result<Event, Fail> {
+        self.actor_mut(a)?.frames.pop();
+        if self.actor(a)?.frames.is_empty() {
+            return self.end(a);
+        }
+        self.frame_mut(a)?.go_on();
+        Ok(Event::Local)
     }
 
     fn end(&mut self, a: u32) -> Result<Event, Fail> {
@@ -365,16 +431,16 @@ impl<'m> Plain<'m> {
     fn act(&mut self, alloc: Global, a: u32, instr: &Instr) -> Result<Event, Fail> {
         match instr {
             Instr::Lit(d, n) | Instr::For(d, n, _, _) => {
-                self.actor_mut(a)?.write(*d, Value::Number(*n))?;
+                self.frame_mut(a)?.write(*d, Value::Number(*n))?;
                 Ok(Event::Local)
             }
             Instr::Copy(d, _) | Instr::Add(d, _, _) | Instr::Sub(d, _, _) | Instr::Mul(d, _, _) => {
-                let actor = self.actor_mut(a)?;
-                let n = computed(actor, instr)?;
-                actor.write(*d, Value::Number(n))?;
+                let frame = self.frame_mut(a)?;
+                let n = computed(frame, instr)?;
+                frame.write(*d, Value::Number(n))?;
                 Ok(Event::Local)
             }
-            Instr::Print(x) => Ok(Event::Printed(self.actor(a)?.number(*x)?)),
+            Instr::Print(x) => Ok(Event::Printed(self.frame(a)?.number(*x)?)),
             Instr::Make(d) => self.make(alloc, a, *d),
             Instr::Resume(c) => {
                 let clock = self.clock_of(a, *c)?;
@@ -391,6 +457,7 @@ impl<'m> Plain<'m> {
             | Instr::Jump(_)
             | Instr::Next(_)
             | Instr::Advance
+            | Instr::Call(_, _)
             | Instr::Ret => Err("no instruction to go on from".into()),
         }
     }
@@ -398,34 +465,37 @@ impl<'m> Plain<'m> {
     fn make(&mut self, alloc: Global, a: u32, slot: u16) -> Result<Event, Fail> {
         let clock = ClockId(u32::try_from(self.barriers.len())?);
         self.barriers.push(Barrier::made_by(alloc, a)?)?;
-        self.actor_mut(a)?.write(slot, Value::Clock(clock))?;
+        self.frame_mut(a)?.write(slot, Value::Clock(clock))?;
         Ok(Event::Made)
     }
 
     fn spawn(&mut self, alloc: Global, a: u32, unit: usize, args: &Args) -> Result<Event, Fail> {
-        let program = self.program;
-        let Some(form) = program.units().get(unit) else {
-            return Err("a unit is missing".into());
-        };
+        let form = unit_of(self.program, unit)?;
         let child = u32::try_from(self.actors.len())?;
         let mut given = Vec::new(alloc);
         for (slot, kind) in args.slots().iter().zip(form.params.iter()) {
             given.push(self.give(a, child, *slot, *kind)?)?;
         }
         let since = self.actor(a)?.since;
-        self.actors.push(Actor::new(unit, form, given, since)?)?;
+        let body = Frame::new(unit, form, given)?;
+        self.actors.push(Actor::new(alloc, body, since)?)?;
         Ok(Event::Spawned)
     }
 
     /// What the child is given for a parameter; a clock takes the child in.
     fn give(&mut self, a: u32, child: u32, slot: u16, kind: ParamKind) -> Result<Value, Fail> {
+        let value = self.value(a, slot, kind)?;
+        if let Value::Clock(clock) = value {
+            self.barrier_mut(clock.0)?.join(a, child)?;
+        }
+        Ok(value)
+    }
+
+    /// The activity's value for a parameter.
+    fn value(&self, a: u32, slot: u16, kind: ParamKind) -> Result<Value, Fail> {
         match kind {
-            ParamKind::Number => Ok(Value::Number(self.actor(a)?.number(slot)?)),
-            ParamKind::Clock => {
-                let clock = self.clock_of(a, slot)?;
-                self.barrier_mut(clock)?.join(a, child)?;
-                Ok(Value::Clock(ClockId(clock)))
-            }
+            ParamKind::Number => Ok(Value::Number(self.frame(a)?.number(slot)?)),
+            ParamKind::Clock => Ok(Value::Clock(ClockId(self.clock_of(a, slot)?))),
         }
     }
 }

@@ -53,8 +53,33 @@ pub const PHASES: &str =
 pub const TEAMS: &str =
     r#"{"version":1,"shared":[],"units":[{"kind":"main","params":"","slots":5,"code":[["for",0,1,2,9],["make",2],["for",1,1,2,7],["unless","lt",0,1,6],["mul",3,0,1],["spawn",1,[2,3]],["lit",3,0],["next",2],["drop",2],["next",0],["ret"]]},{"kind":"body","params":"cn","slots":3,"code":[["lit",2,1],["advance"],["unless","ge",1,2,4],["print",1],["ret"]]}]}"#;
 
+/// A method waits for all clocks, of which it is lent one; the other has been resumed before the call, and is again behind it.
+pub const METHOD_WAITS: &str =
+    r#"{"version":1,"shared":[],"units":[{"kind":"main","params":"","slots":2,"code":[["make",0],["make",1],["resume",1],["call",1,[0]],["resume",1],["ret"]]},{"kind":"method","params":"c","slots":1,"code":[["advance"],["ret"]]}]}"#;
+
+/// Two activities call a method with a number, by value, and this one calls another.
+pub const NESTED_CALLS: &str =
+    r#"{"version":1,"shared":[],"units":[{"kind":"main","params":"","slots":1,"code":[["lit",0,2],["spawn",1,[0]],["call",2,[0]],["call",2,[0]],["print",0],["ret"]]},{"kind":"body","params":"n","slots":1,"code":[["call",2,[0]],["print",0],["ret"]]},{"kind":"method","params":"n","slots":2,"code":[["add",0,0,0],["call",3,[0]],["print",0],["ret"]]},{"kind":"method","params":"n","slots":60,"code":[["add",59,0,0],["print",59],["ret"]]}]}"#;
+
+/// Two activities call in a loop a method that prints the turn's number and waits on the clock that it is lent; then one calls
+/// a method that only resumes the clock.
+pub const CALLED_PHASES: &str =
+    r#"{"version":1,"shared":[],"units":[{"kind":"main","params":"","slots":2,"code":[["make",0],["spawn",1,[0]],["for",1,1,3,4],["call",2,[0,1]],["next",2],["call",3,[0]],["advance"],["ret"]]},{"kind":"body","params":"c","slots":2,"code":[["for",1,1,3,2],["call",2,[0,1]],["next",0],["drop",0],["ret"]]},{"kind":"method","params":"cn","slots":2,"code":[["resume",0],["print",1],["advance"],["ret"]]},{"kind":"method","params":"c","slots":1,"code":[["resume",0],["ret"]]}]}"#;
+
+/// A method makes a clock of its own, starts an activity on it and on the one that it is lent, and drops its own.
+pub const METHODS_OWN: &str =
+    r#"{"version":1,"shared":[],"units":[{"kind":"main","params":"","slots":1,"code":[["make",0],["call",1,[0]],["call",1,[0]],["advance"],["ret"]]},{"kind":"method","params":"c","slots":3,"code":[["make",1],["spawn",2,[1,0]],["resume",0],["advance"],["lit",2,3],["print",2],["drop",1],["ret"]]},{"kind":"body","params":"cc","slots":2,"code":[["resume",0],["advance"],["drop",1],["advance"],["ret"]]}]}"#;
+
+/// A method lends what it is lent to another one; each starts an activity on it.
+pub const LENT_ON: &str =
+    r#"{"version":1,"shared":[],"units":[{"kind":"main","params":"","slots":1,"code":[["make",0],["call",1,[0]],["advance"],["ret"]]},{"kind":"method","params":"c","slots":1,"code":[["spawn",3,[0]],["call",2,[0]],["resume",0],["ret"]]},{"kind":"method","params":"c","slots":1,"code":[["resume",0],["spawn",3,[0]],["advance"],["ret"]]},{"kind":"body","params":"c","slots":2,"code":[["advance"],["lit",1,5],["print",1],["ret"]]}]}"#;
+
+/// Two activities lend two clocks to a method in both orders, and each leaves another one.
+pub const LENT_CROSSED: &str =
+    r#"{"version":1,"shared":[],"units":[{"kind":"main","params":"","slots":2,"code":[["make",0],["make",1],["spawn",1,[0,1]],["call",2,[0,1]],["call",2,[1,0]],["drop",0],["advance"],["ret"]]},{"kind":"body","params":"cc","slots":2,"code":[["call",2,[1,0]],["drop",1],["call",3,[0]],["advance"],["ret"]]},{"kind":"method","params":"cc","slots":2,"code":[["resume",0],["advance"],["resume",1],["ret"]]},{"kind":"method","params":"c","slots":1,"code":[["advance"],["resume",0],["ret"]]}]}"#;
+
 /// All of them, with their names.
-pub fn all() -> [(&'static str, &'static str); 12] {
+pub fn all() -> [(&'static str, &'static str); 18] {
     [
         ("in step", IN_STEP),
         ("starts ahead", STARTS_AHEAD),
@@ -68,6 +93,12 @@ pub fn all() -> [(&'static str, &'static str); 12] {
         ("crossed", CROSSED),
         ("phases", PHASES),
         ("teams", TEAMS),
+        ("method waits", METHOD_WAITS),
+        ("nested calls", NESTED_CALLS),
+        ("called phases", CALLED_PHASES),
+        ("method's own", METHODS_OWN),
+        ("lent on", LENT_ON),
+        ("lent crossed", LENT_CROSSED),
     ]
 }
 

@@ -2,7 +2,8 @@
 
 use crate::order::{Order, schedule_in};
 use crate::programs::{
-    IN_STEP, LEFT_ALONE, RING, STARTS_AHEAD, STARTS_SIGNALLED, TWO_PHASES, accepted,
+    IN_STEP, LEFT_ALONE, METHOD_WAITS, NESTED_CALLS, RING, STARTS_AHEAD, STARTS_SIGNALLED,
+    TWO_PHASES, accepted,
 };
 use std::alloc::Global;
 use std::process::Abort;
@@ -208,4 +209,58 @@ fn a_ring_of_three(rt: HostRuntime) -> Result<(), Fail> {
         &clocks,
         &[0, 17, 19, 21],
     )
+}
+
+/// The clock that the method is lent advances as it arrives, the other one at each resume of main.
+#[test]
+fn a_method_waits(rt: HostRuntime) -> Result<(), Fail> {
+    let alloc = rt.alloc();
+    let schedule = [0; 9];
+    let verified = accepted(alloc, METHOD_WAITS)?;
+    let ran = ran(alloc, &verified, &schedule)?;
+    let wanted = [
+        Event::Made,
+        Event::Made,
+        Event::Resumed,
+        Event::Arrived,
+        Event::Passed,
+        Event::Resumed,
+        Event::Ended,
+    ];
+    assert_eq!(rt; ran.seen.as_slice(), wanted.as_slice());
+    ends(
+        &rt,
+        alloc,
+        METHOD_WAITS,
+        Order::First,
+        &schedule,
+        &[(1, 5), (2, 8)],
+        &[6],
+    )
+}
+
+/// The numbers that a module prints under a schedule that it has to follow through.
+fn printed(alloc: Global, text: &str, schedule: &[u32]) -> Result<Vec<i64>, Fail> {
+    let verified = accepted(alloc, text)?;
+    let ran = ran(alloc, &verified, schedule)?;
+    let mut numbers = Vec::new(alloc);
+    for event in &ran.seen {
+        if let Event::Printed(n) = event {
+            numbers.push(*n)?;
+        }
+    }
+    Ok(numbers)
+}
+
+/// Two activities are in the same methods at the same time, each with frames of its own.
+#[test]
+fn calls_are_nested(rt: HostRuntime) -> Result<(), Fail> {
+    let alloc = rt.alloc();
+    let first = [0; 20];
+    let child = [1; 10];
+    let mut schedule = Vec::from_slice(alloc, &first)?;
+    schedule.extend_from_slice(&child)?;
+    let numbers = printed(alloc, NESTED_CALLS, &schedule)?;
+    assert_eq!(rt; numbers.as_slice(), [8, 4, 8, 4, 2, 8, 4, 2].as_slice());
+    Ok(())
 }

@@ -61,9 +61,10 @@ fn served(
     Ok(Seen { status, out, err })
 }
 
-/// A body: the letters of its parameters, how many slots it has, its code.
+/// A unit beside main: what it is for, the letters of its parameters, how many slots it has, its code.
 #[derive(Clone, Copy)]
-struct Body {
+struct Unit {
+    kind: &'static str,
     params: &'static str,
     slots: u32,
     code: &'static str,
@@ -87,18 +88,18 @@ fn units_text(alloc: Global, units: &str) -> Result<String, AllocError> {
     format!(in alloc; "{{\"version\":1,\"shared\":[],\"units\":[{units}]}}")
 }
 
-/// The text of a module of main and these bodies.
+/// The text of a module of main and these units.
 fn program_text(
     alloc: Global,
     slots: u32,
     code: &str,
-    bodies: &[Body],
+    others: &[Unit],
 ) -> Result<String, AllocError> {
     let mut units = unit_text(alloc, "main", "", slots, code)?;
-    for body in bodies {
+    for unit in others {
         units.push(',')?;
-        let unit = unit_text(alloc, "body", body.params, body.slots, body.code)?;
-        units.push_str(unit.as_str())?;
+        let text = unit_text(alloc, unit.kind, unit.params, unit.slots, unit.code)?;
+        units.push_str(text.as_str())?;
     }
     units_text(alloc, units.as_str())
 }
@@ -171,17 +172,17 @@ fn rows_are_answered(rt: HostRuntime) -> Result<(), AllocError> {
     Ok(())
 }
 
-/// Main and these bodies: what `check` and `run` write.
+/// Main and these units: what `check` and `run` write.
 fn answers(
     rt: &impl Abort,
     alloc: Global,
     slots: u32,
     code: &str,
-    bodies: &[Body],
+    others: &[Unit],
     check: &str,
     run: &str,
 ) -> Result<(), AllocError> {
-    let text = program_text(alloc, slots, code, bodies)?;
+    let text = program_text(alloc, slots, code, others)?;
     gives(rt, alloc, Command::Check, text.as_str(), check)?;
     gives(rt, alloc, Command::Run, text.as_str(), run)
 }
@@ -194,7 +195,8 @@ fn two_are_in_step(rt: HostRuntime) -> Result<(), AllocError> {
         rt.alloc(),
         2,
         r#"["make",0],["spawn",1,[0]],["advance"],["lit",1,1],["print",1],["ret"]"#,
-        &[Body {
+        &[Unit {
+            kind: "body",
             params: "c",
             slots: 2,
             code: r#"["advance"],["lit",1,2],["print",1],["ret"]"#,
@@ -212,7 +214,8 @@ fn one_starts_ahead(rt: HostRuntime) -> Result<(), AllocError> {
         rt.alloc(),
         1,
         r#"["make",0],["resume",0],["spawn",1,[0]],["advance"],["ret"]"#,
-        &[Body {
+        &[Unit {
+            kind: "body",
             params: "c",
             slots: 1,
             code: r#"["advance"],["ret"]"#,
@@ -231,12 +234,14 @@ fn one_starts_signalled(rt: HostRuntime) -> Result<(), AllocError> {
         1,
         r#"["make",0],["spawn",1,[0]],["resume",0],["spawn",2,[0]],["advance"],["ret"]"#,
         &[
-            Body {
+            Unit {
+                kind: "body",
                 params: "c",
                 slots: 1,
                 code: r#"["advance"],["ret"]"#,
             },
-            Body {
+            Unit {
+                kind: "body",
                 params: "c",
                 slots: 2,
                 code: r#"["advance"],["lit",1,3],["print",1],["ret"]"#,
@@ -255,7 +260,8 @@ fn one_is_left_alone(rt: HostRuntime) -> Result<(), AllocError> {
         rt.alloc(),
         1,
         r#"["make",0],["spawn",1,[0]],["drop",0],["ret"]"#,
-        &[Body {
+        &[Unit {
+            kind: "body",
             params: "c",
             slots: 2,
             code: r#"["advance"],["lit",1,4],["print",1],["ret"]"#,
@@ -273,7 +279,8 @@ fn two_phases(rt: HostRuntime) -> Result<(), AllocError> {
         rt.alloc(),
         1,
         r#"["make",0],["spawn",1,[0]],["resume",0],["resume",0],["advance"],["advance"],["ret"]"#,
-        &[Body {
+        &[Unit {
+            kind: "body",
             params: "c",
             slots: 2,
             code: r#"["advance"],["advance"],["lit",1,2],["print",1],["ret"]"#,
@@ -287,7 +294,8 @@ fn two_phases(rt: HostRuntime) -> Result<(), AllocError> {
 #[test]
 fn a_ring_of_clocks(rt: HostRuntime) -> Result<(), AllocError> {
     let twice = r#"["advance"],["advance"],["ret"]"#;
-    let pair = Body {
+    let pair = Unit {
+        kind: "body",
         params: "cc",
         slots: 2,
         code: twice,
@@ -311,7 +319,8 @@ fn numbers_are_given(rt: HostRuntime) -> Result<(), AllocError> {
         rt.alloc(),
         2,
         r#"["lit",0,5],["make",1],["spawn",1,[0,1,0]],["lit",0,7],["print",0],["ret"]"#,
-        &[Body {
+        &[Unit {
+            kind: "body",
             params: "ncn",
             slots: 4,
             code: r#"["add",3,0,2],["drop",1],["print",3],["ret"]"#,
@@ -424,7 +433,8 @@ fn loops_go_round(rt: HostRuntime) -> Result<(), AllocError> {
         rt.alloc(),
         2,
         r#"["make",0],["spawn",1,[0]],["for",1,1,3,4],["advance"],["next",2],["print",1],["ret"]"#,
-        &[Body {
+        &[Unit {
+            kind: "body",
             params: "c",
             slots: 2,
             code: r#"["for",1,1,3,2],["advance"],["next",0],["drop",0],["ret"]"#,
@@ -434,10 +444,155 @@ fn loops_go_round(rt: HostRuntime) -> Result<(), AllocError> {
     )
 }
 
+/// A method is run with a number, by value, and goes on where it was called; a method calls another; a call in a loop.
+#[test]
+fn methods_are_called(rt: HostRuntime) -> Result<(), AllocError> {
+    let prints = Unit {
+        kind: "method",
+        params: "n",
+        slots: 60,
+        code: r#"["add",59,0,0],["print",59],["ret"]"#,
+    };
+    answers(
+        &rt,
+        rt.alloc(),
+        1,
+        r#"["lit",0,2],["call",1,[0]],["call",1,[0]],["print",0],["ret"]"#,
+        &[
+            Unit {
+                kind: "method",
+                params: "n",
+                slots: 2,
+                code: r#"["add",0,0,0],["call",2,[0]],["print",0],["ret"]"#,
+            },
+            prints,
+        ],
+        "accepted steps 19 activities 1 clocks 0\n",
+        "8\n4\n8\n4\n2\nended steps 19\n",
+    )?;
+    answers(
+        &rt,
+        rt.alloc(),
+        1,
+        r#"["for",0,1,3,2],["call",1,[0]],["next",0],["ret"]"#,
+        &[prints],
+        "accepted steps 17 activities 1 clocks 0\n",
+        "2\n4\n6\nended steps 17\n",
+    )
+}
+
+/// A method waits for all clocks of the activity, of which it is lent one.
+#[test]
+fn a_method_waits(rt: HostRuntime) -> Result<(), AllocError> {
+    answers(
+        &rt,
+        rt.alloc(),
+        2,
+        r#"["make",0],["make",1],["resume",1],["call",1,[0]],["resume",1],["ret"]"#,
+        &[WAITS],
+        "accepted steps 9 activities 1 clocks 2\n",
+        "ended steps 9\n",
+    )
+}
+
+/// Two activities go from phase to phase in a method; then one of them calls one that resumes the clock, and the other leaves it.
+#[test]
+fn methods_keep_in_step(rt: HostRuntime) -> Result<(), AllocError> {
+    answers(
+        &rt,
+        rt.alloc(),
+        2,
+        r#"["make",0],["spawn",1,[0]],["for",1,1,2,4],["call",2,[0,1]],["next",2],["call",3,[0]],["advance"],["ret"]"#,
+        &[
+            Unit {
+                kind: "body",
+                params: "c",
+                slots: 2,
+                code: r#"["for",1,1,2,2],["call",2,[0,1]],["next",0],["drop",0],["ret"]"#,
+            },
+            Unit {
+                kind: "method",
+                params: "cn",
+                slots: 2,
+                code: r#"["resume",0],["print",1],["advance"],["ret"]"#,
+            },
+            Unit {
+                kind: "method",
+                params: "c",
+                slots: 1,
+                code: r#"["resume",0],["ret"]"#,
+            },
+        ],
+        "accepted steps 40 activities 2 clocks 1\n",
+        "1\n2\n1\n2\nended steps 40\n",
+    )
+}
+
+/// A method makes a clock, starts an activity on it and on the one that it is lent, and drops its own.
+#[test]
+fn a_method_has_clocks_of_its_own(rt: HostRuntime) -> Result<(), AllocError> {
+    answers(
+        &rt,
+        rt.alloc(),
+        1,
+        r#"["make",0],["call",1,[0]],["call",1,[0]],["advance"],["ret"]"#,
+        &[
+            Unit {
+                kind: "method",
+                params: "c",
+                slots: 3,
+                code: r#"["make",1],["spawn",2,[1,0]],["resume",0],["advance"],["lit",2,3],["print",2],["drop",1],["ret"]"#,
+            },
+            Unit {
+                kind: "body",
+                params: "cc",
+                slots: 2,
+                code: r#"["resume",0],["advance"],["drop",1],["advance"],["ret"]"#,
+            },
+        ],
+        "accepted steps 38 activities 3 clocks 3\n",
+        "3\n3\nended steps 38\n",
+    )
+}
+
+/// Main and `methods` methods, at least one, all of 64 slots: each but the last calls the next one.
+fn calls_in_a_chain(alloc: Global, methods: u32) -> Result<String, AllocError> {
+    let mut units = String::new(alloc);
+    for unit in 0..methods {
+        let kind = if unit == 0 { "main" } else { "method" };
+        let next = unit + 1;
+        let code = format!(in alloc; "[\"call\",{next},[]],[\"ret\"]")?;
+        units.push_str(unit_text(alloc, kind, "", 64, code.as_str())?.as_str())?;
+        units.push(',')?;
+    }
+    units.push_str(unit_text(alloc, "method", "", 64, r#"["ret"]"#)?.as_str())?;
+    units_text(alloc, units.as_str())
+}
+
+/// The slots of all frames of an activity are at most 4,096.
+#[test]
+fn frames_are_counted(rt: HostRuntime) -> Result<(), AllocError> {
+    let most = calls_in_a_chain(rt.alloc(), 63)?;
+    let line = "accepted steps 127 activities 1 clocks 0\n";
+    gives(&rt, rt.alloc(), Command::Check, most.as_str(), line)?;
+    gives(
+        &rt,
+        rt.alloc(),
+        Command::Run,
+        most.as_str(),
+        "ended steps 127\n",
+    )?;
+
+    let many = calls_in_a_chain(rt.alloc(), 64)?;
+    let line = "x10clock: V17 Stack over 4096\n";
+    refuses(&rt, rt.alloc(), many.as_str(), line)
+}
+
 /// What the bounds of these modules are.
 #[test]
 fn turns_are_counted(rt: HostRuntime) -> Result<(), AllocError> {
-    let started = Body {
+    let started = Unit {
+        kind: "body",
         params: "",
         slots: 0,
         code: r#"["ret"]"#,
@@ -609,40 +764,52 @@ fn rows_are_refused(rt: HostRuntime) -> Result<(), AllocError> {
     Ok(())
 }
 
-/// The bodies of the modules below: one that takes nothing, one on a clock, one on two, one that prints a number.
-const NOTHING: Body = Body {
+/// Units of the modules below: a body that takes nothing, one on a clock, one on two, one that prints a number; a method that is
+/// lent a clock and waits.
+const NOTHING: Unit = Unit {
+    kind: "body",
     params: "",
     slots: 0,
     code: r#"["ret"]"#,
 };
 
-const ON_ONE: Body = Body {
+const ON_ONE: Unit = Unit {
+    kind: "body",
     params: "c",
     slots: 1,
     code: r#"["advance"],["ret"]"#,
 };
 
-const ON_TWO: Body = Body {
+const ON_TWO: Unit = Unit {
+    kind: "body",
     params: "cc",
     slots: 2,
     code: r#"["ret"]"#,
 };
 
-const PRINTS: Body = Body {
+const PRINTS: Unit = Unit {
+    kind: "body",
     params: "n",
     slots: 1,
     code: r#"["print",0],["ret"]"#,
 };
 
-/// Main of this code and these slots beside one body is refused.
+const WAITS: Unit = Unit {
+    kind: "method",
+    params: "c",
+    slots: 1,
+    code: r#"["advance"],["ret"]"#,
+};
+
+/// Main of this code, with two slots, beside one unit is refused.
 fn refuses_main(
     rt: &impl Abort,
     alloc: Global,
     code: &str,
-    body: Body,
+    other: Unit,
     line: &str,
 ) -> Result<(), AllocError> {
-    let text = program_text(alloc, 2, code, &[body])?;
+    let text = program_text(alloc, 2, code, &[other])?;
     refuses(rt, alloc, text.as_str(), line)
 }
 
@@ -756,7 +923,8 @@ fn bodies_are_refused(rt: HostRuntime) -> Result<(), AllocError> {
         ),
     ] {
         let main = r#"["make",0],["spawn",1,[0]],["ret"]"#;
-        let body = Body {
+        let body = Unit {
+            kind: "body",
             params,
             slots: 1,
             code,
@@ -765,6 +933,144 @@ fn bodies_are_refused(rt: HostRuntime) -> Result<(), AllocError> {
         refuses(&rt, rt.alloc(), text.as_str(), line)?;
     }
     Ok(())
+}
+
+/// Main; a body that is called, and a method that is started; a unit that isn't there; too few arguments, and too many; one slot
+/// for two clocks; a slot that isn't there, which comes before all.
+#[test]
+fn calls_are_refused(rt: HostRuntime) -> Result<(), AllocError> {
+    let lent_two = Unit {
+        kind: "method",
+        params: "cc",
+        slots: 2,
+        code: r#"["ret"]"#,
+    };
+    for (code, other, line) in [
+        (
+            r#"["call",0,[]],["ret"]"#,
+            WAITS,
+            "x10clock: V4 Unit unit 0 at 0\n",
+        ),
+        (
+            r#"["make",0],["call",1,[0]],["ret"]"#,
+            ON_ONE,
+            "x10clock: V4 Unit unit 0 at 1\n",
+        ),
+        (
+            r#"["make",0],["spawn",1,[0]],["ret"]"#,
+            WAITS,
+            "x10clock: V4 Unit unit 0 at 1\n",
+        ),
+        (
+            r#"["make",0],["call",2,[0]],["ret"]"#,
+            WAITS,
+            "x10clock: V4 Unit unit 0 at 1\n",
+        ),
+        (
+            r#"["make",0],["call",1,[]],["ret"]"#,
+            WAITS,
+            "x10clock: V4 Unit unit 0 at 1\n",
+        ),
+        (
+            r#"["make",0],["make",1],["call",1,[0,1]],["ret"]"#,
+            WAITS,
+            "x10clock: V4 Unit unit 0 at 2\n",
+        ),
+        (
+            r#"["make",0],["call",1,[0,0]],["ret"]"#,
+            lent_two,
+            "x10clock: V10 SameClock unit 0 at 1\n",
+        ),
+        (
+            r#"["make",0],["call",1,[2,2]],["ret"]"#,
+            lent_two,
+            "x10clock: V3 Slot unit 0 at 1\n",
+        ),
+    ] {
+        refuses_main(&rt, rt.alloc(), code, other, line)?;
+    }
+    Ok(())
+}
+
+/// A clock that was dropped, one that never was, a number is lent. What a call has resumed or not isn't known behind it.
+#[test]
+fn loans_are_refused(rt: HostRuntime) -> Result<(), AllocError> {
+    for (code, line) in [
+        (
+            r#"["make",0],["drop",0],["call",1,[0]],["ret"]"#,
+            "x10clock: V11 Use unit 0 at 2 slot 0 out walk 0 1 2\n",
+        ),
+        (
+            r#"["make",0],["call",1,[1]],["ret"]"#,
+            "x10clock: V11 Use unit 0 at 1 slot 1 unset walk 0 1\n",
+        ),
+        (
+            r#"["lit",0,7],["call",1,[0]],["ret"]"#,
+            "x10clock: V11 Use unit 0 at 1 slot 0 number walk 0 1\n",
+        ),
+        (
+            r#"["make",0],["call",1,[0]],["lit",0,1],["ret"]"#,
+            "x10clock: V13 Leak unit 0 at 2 slot 0 live walk 0 1 2\n",
+        ),
+        (
+            r#"["make",0],["make",1],["resume",1],["call",1,[0]],["print",1],["ret"]"#,
+            "x10clock: V11 Use unit 0 at 4 slot 1 live walk 0 1 2 3 4\n",
+        ),
+    ] {
+        refuses_main(&rt, rt.alloc(), code, WAITS, line)?;
+    }
+    Ok(())
+}
+
+/// Main is as it should be: the method is refused. It may not drop what it is lent, nor keep a clock that it made.
+#[test]
+fn methods_are_refused(rt: HostRuntime) -> Result<(), AllocError> {
+    for (code, line) in [
+        (r#"["drop",0],["ret"]"#, "x10clock: V8 Home unit 1 at 0\n"),
+        (r#"["make",0],["ret"]"#, "x10clock: V8 Home unit 1 at 0\n"),
+        (
+            r#"["make",1],["ret"]"#,
+            "x10clock: V13 Leak unit 1 at 1 slot 1 live walk 0 1\n",
+        ),
+        (
+            r#"["make",1],["resume",1],["ret"]"#,
+            "x10clock: V13 Leak unit 1 at 2 slot 1 resumed walk 0 1 2\n",
+        ),
+        (
+            r#"["lit",0,1],["ret"]"#,
+            "x10clock: V13 Leak unit 1 at 0 slot 0 live walk 0\n",
+        ),
+        (
+            r#"["call",1,[0]],["ret"]"#,
+            "x10clock: V4 Unit unit 1 at 0\n",
+        ),
+    ] {
+        let method = Unit {
+            slots: 2,
+            code,
+            ..WAITS
+        };
+        refuses_main(
+            &rt,
+            rt.alloc(),
+            r#"["make",0],["call",1,[0]],["ret"]"#,
+            method,
+            line,
+        )?;
+    }
+    let keeps = Unit {
+        kind: "method",
+        params: "",
+        slots: 1,
+        code: r#"["make",0],["ret"]"#,
+    };
+    refuses_main(
+        &rt,
+        rt.alloc(),
+        r#"["call",1,[]],["ret"]"#,
+        keeps,
+        "x10clock: V13 Leak unit 1 at 1 slot 0 live walk 0 1\n",
+    )
 }
 
 #[test]
@@ -785,6 +1091,14 @@ fn units_out_of_place_are_refused(rt: HostRuntime) -> Result<(), AllocError> {
         &rt,
         alloc,
         takes.as_str(),
+        "x10clock: V4 Unit unit 0 at 0\n",
+    )?;
+    let method = unit_text(alloc, "method", "", 0, r#"["ret"]"#)?;
+    let alone = units_text(alloc, method.as_str())?;
+    refuses(
+        &rt,
+        alloc,
+        alone.as_str(),
         "x10clock: V4 Unit unit 0 at 0\n",
     )?;
     let mains = format!(in alloc; "{main},{main}")?;

@@ -2,13 +2,12 @@
 -- waits for the end of all activities that were started meanwhile. That `finish` and `endfinish` are instructions, and what they
 -- make of the code, is this project's own.
 use Rattle.std.specs.Prelude.{ℕ, suc, ◌==◌, nat_lt, nat_le, Bool, true, false, not, ◌&&◌, List, [], ◌∷◌, ◌++◌, map, filter, length, slice_get, Option, Some, None, if◌then◌else◌}
-use Rattle.std.specs.Option.{option_map_or}
 use Rattle.std.specs.List.{list_any}
 use Rattle.xk_types.specs.declared.instr.Instr.{Instr}
 use Rattle.xk_types.specs.declared.instr.Instr.TheVariants as instr
 use Rattle.xk_types.specs.declared.unit.ParamKind.{ParamKind}
 use Rattle.xk_types.specs.declared.unit.ParamKind.TheVariants as param
-use Rattle.xk_types.specs.Code.{UnitValue}
+use Rattle.xk_types.specs.Code.{UnitValue, begun_from}
 
 -- a stretch of code: the places of its first and of its last instruction, which name each other
 pub record Span : Type 0 where
@@ -27,13 +26,9 @@ abbrev pub finish_opened : UnitValue → ℕ → Instr → Option Span
 finish_opened u first (instr.Finish e) = if is_end_of first (slice_get u.code e) then Some (record { first = first; last = e }) else None
 finish_opened u first _ = None
 
-abbrev pub finishes_from : UnitValue → ℕ → List Instr → List Span
-finishes_from u at [] = []
-finishes_from u at (i ∷ is) = option_map_or (λ f. f ∷ finishes_from u (suc at) is) (finish_opened u at i) (finishes_from u (suc at) is)
-
 -- the finishes of a unit, by the places of their `finish`
 abbrev pub finishes : UnitValue → List Span
-finishes u = finishes_from u 0 u.code
+finishes u = begun_from (finish_opened u) 0 u.code
 
 -- the place lies in the finish: behind its `finish`, and up to its `endfinish`
 abbrev pub is_inside : ℕ → Span → Bool

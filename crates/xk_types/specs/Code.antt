@@ -98,9 +98,13 @@ abbrev pub loop_begun : UnitValue → ℕ → Instr → Option Loop
 loop_begun u first (instr.For k lo hi e) = if is_next_of first (slice_get u.code e) then Some (record { first = first; last = e; slot = k; lo = lo; hi = hi }) else None
 loop_begun u first _ = None
 
+-- what instructions begin, the first of them at place `at`, in their order
+abbrev pub begun_from : {X : Type 0} → (ℕ → Instr → Option X) → ℕ → List Instr → List X
+begun_from begun at [] = []
+begun_from begun at (i ∷ is) = option_map_or (λ x. x ∷ begun_from begun (suc at) is) (begun at i) (begun_from begun (suc at) is)
+
 abbrev pub loops_from : UnitValue → ℕ → List Instr → List Loop
-loops_from u at [] = []
-loops_from u at (i ∷ is) = option_map_or (λ l. l ∷ loops_from u (suc at) is) (loop_begun u at i) (loops_from u (suc at) is)
+loops_from u at is = begun_from (loop_begun u) at is
 
 -- the loops of a unit, by the places of their `for`
 abbrev pub loops : UnitValue → List Loop

@@ -7,8 +7,6 @@ use Rattle.xk_types.specs.declared.instr.Instr.TheVariants as instr
 use Rattle.xk_types.specs.declared.rules.Rule.{Rule}
 use Rattle.xk_types.specs.declared.rules.Rule.TheVariants as rule
 use Rattle.xk_types.specs.declared.unit.UnitKind.{UnitKind}
-use Rattle.xk_types.specs.declared.unit.ParamKind.{ParamKind}
-use Rattle.xk_types.specs.declared.unit.ParamKind.TheVariants as param
 use Rattle.xk_types.specs.Code.{UnitValue, ModuleValue, is_main, is_method, is_body, params_of, clock_arguments, Loop, loop_begun, loops, is_within}
 use Rattle.xk_types.specs.Blocks.{Span, finish_opened, finishes, is_inside, block_at, takes_clock, made_from, homes, is_elsewhere}
 
