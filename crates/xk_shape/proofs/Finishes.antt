@@ -78,6 +78,9 @@ begins u at (instr.Finish e) f h =
     subst (Begins u at (instr.Finish e)) p.1 (record { is = refl; first = refl; next = end_is at (slice_get u.code e) p.0 })
 begins u at _ f h = absurd (none-some f h)
 
+pub begins_at : (u : UnitValue) (at : ℕ) (i : Instr) (f : Span) → finish_opened u at i ≡ Some f → f.first ≡ at
+begins_at u at i f h = (begins u at i f h).first
+
 -- those that begin with the instructions from a place on lie from there on
 pub none_before : (u : UnitValue) (at : ℕ) (is : List Instr) (f : Span) → Has (begun_from (finish_opened u) at is) f → at ≤ f.first
 none_before u at is f h = let r = begun_found (finish_opened u) at is f h in let b = begins u (at + r.j) r.i f r.begins in omega (arith, b.first)
