@@ -24,7 +24,7 @@ use Rattle.xk_types.specs.declared.unit.ParamKind.{ParamKind}
 use Rattle.xk_types.specs.declared.unit.ParamKind.TheVariants as param
 use Rattle.xk_types.specs.Code.{UnitValue, ModuleValue, params_of, clock_arguments, compares, is_method, is_body}
 use Rattle.xk_types.specs.Blocks.{block_at, depth_at, same_block, takes_clock, makes, made_from, homes, is_elsewhere, is_here}
-use Rattle.xk_types.specs.World.{Frame, Finish, Activity, Clock, World, standing_of, instruction_at, frame_with}
+use Rattle.xk_types.specs.World.{Frame, Finish, Activity, Clock, World, standing_of, instruction_at, frame_with, base_of}
 use Rattle.xk_types.specs.Step.{Outcome, Blocked, Wrong, ClockUse, is_registered, number_in, clock_in, registered_on, put_in, slot_at, arguments_in, computing, turning, again, spawned, carried_out, run_at, done, made, onward, going, with_slots, arrived, ended, past, none, only, all, resumed, passed, dropped, child, innermost, awaits, left, closing, called, back_in, returning, new_clock, is_given, governing, joined, entered, moved, settled_clock, passing, waits, step_by, step_of, step}
 use Rattle.xk_types.specs.Order.{Has}
 use Rattle.xk_types.specs.Shape.{instr_is, gives_away, target}
@@ -42,7 +42,7 @@ use Rattle.xk_laws.proofs.Totals.{room_called}
 use Rattle.xk_types.specs.Bound.{room_of}
 use Rattle.xk_laws.proofs.Walks.{Allowed}
 use Rattle.xk_laws.proofs.Running.{IsAt, row_allowed}
-use Rattle.xk_laws.proofs.Scopes.{finish_at, opened_in, opened_by, governing_at, IsRound, round_same, round_more, round_less, IsHome, AreHome, base_of, AreRoomy, rooms_same, IsScopedIn, IsScoped, Scopes, Keeps, home_kept, homes_kept, left_scoped, settled_looks}
+use Rattle.xk_laws.proofs.Scopes.{finish_at, opened_in, opened_by, governing_at, IsRound, round_same, round_more, round_less, IsHome, AreHome, AreRoomy, rooms_same, IsScopedIn, IsScoped, Scopes, Keeps, home_kept, homes_kept, left_scoped, settled_looks}
 
 -- ---- blocks, one and the same
 

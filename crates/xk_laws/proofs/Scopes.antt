@@ -9,7 +9,7 @@ use Rattle.xk_types.specs.declared.rules.Kind.{Kind}
 use Rattle.xk_types.specs.Code.{UnitValue, ModuleValue}
 use Rattle.xk_types.specs.Blocks.{block_at, depth_at, homes}
 use Rattle.xk_types.specs.Bound.{room_of}
-use Rattle.xk_types.specs.World.{Frame, Finish, Activity, Clock, World}
+use Rattle.xk_types.specs.World.{Frame, Finish, Activity, Clock, World, base_of, base_unit}
 use Rattle.xk_types.specs.Step.{Outcome, Blocked, Wrong, Stepped, governing, settled, settled_clock}
 use Rattle.xk_types.specs.Order.{Has}
 use Rattle.xk_laws.proofs.Invariant.{Each, Names, NamedIn, looks, kind_by, is_held, stands_on}
@@ -101,27 +101,19 @@ abbrev pub AreHome : ModuleValue → ℕ → Finish → List Finish → (ℕ →
 AreHome m a g scopes look [] = Unit {0}
 AreHome m a g scopes look (f ∷ fs) = ((s c : ℕ) → Names f.slots s c → is_held (look c) ≡ true → IsHome m a g scopes f (opened_by m fs) s c) × AreHome m a g scopes look fs
 
--- the unit of the lowest of these frames, below the first
-abbrev pub base_of : Frame → List Frame → ℕ
-base_of f [] = f.unit
-base_of f (g ∷ gs) = base_of g gs
-
--- the unit that an activity began with
-abbrev pub base_unit : Activity → ℕ
-base_unit act = base_of act.frame act.callers
-
 -- each of these frames has room for the finishes of its unit, and those below, in what the lowest unit has room for
 abbrev pub AreRoomy : ModuleValue → ℕ → List Frame → Type 0
 AreRoomy m base [] = Unit {0}
 AreRoomy m base (f ∷ fs) = (opened_by m fs + room_of m f.unit ≤ room_of m base) × AreRoomy m base fs
 
--- the same with another frame of the same unit on top
+-- with another frame of the same unit on top the lowest unit is the same
+pub based : (f g : Frame) (fs : List Frame) → g.unit ≡ f.unit → base_of g fs ≡ base_of f fs
+based f g [] same = same
+based f g (x ∷ fs) same = refl
+
+-- and there is room
 pub rooms_same : (m : ModuleValue) (f g : Frame) (fs : List Frame) → g.unit ≡ f.unit → AreRoomy m (base_of f fs) (f ∷ fs) → AreRoomy m (base_of g fs) (g ∷ fs)
-rooms_same m f g fs same h = subst (λ b. AreRoomy m b (g ∷ fs)) (sym (based fs)) ((let r = h.0 in let e : room_of m g.unit ≡ room_of m f.unit = ap (room_of m) same in omega arith), h.1)
-  where
-    based : (l : List Frame) → base_of g l ≡ base_of f l
-    based [] = same
-    based (x ∷ l) = refl
+rooms_same m f g fs same h = subst (λ b. AreRoomy m b (g ∷ fs)) (sym (based f g fs same)) ((let r = h.0 in let e : room_of m g.unit ≡ room_of m f.unit = ap (room_of m) same in omega arith), h.1)
 
 -- an activity, by the kinds of clocks' names for it
 pub record IsScopedIn (m : ModuleValue) (scopes : List Finish) (look : ℕ → Kind) (a : ℕ) (act : Activity) : Type 0 where
