@@ -176,6 +176,19 @@ module _ (m : ModuleValue) (ns : List NodeValue) (w : World) (over a : ℕ) (h :
   pub parts_able : (is_able w a && not (is_kept m (told ns w) a)) ≡ is_enabled m (told ns w) a
   parts_able = ap (λ b. b && not (is_kept m (told ns w) a)) (sym (able_told ns w h.are.width a)) ∙ core_able m (told ns w) a h.core
 
+  -- who has ended is not enabled
+  pub parts_over : a < over → is_enabled m (told ns w) a ≡ false
+  parts_over lt = by (told_at ns w.activities h.are.width a) (h.first a lt)
+    where
+      by : At ns w.activities a → is_over w.activities a ≡ true → is_enabled m (told ns w) a ≡ false
+      by (Nobody e g) o = ap (λ z. is_step (step_of m (told ns w) a z)) g
+      by (Somebody n x k e g) o = ap (λ z. is_step (step_of m (told ns w) a z)) g ∙ st x.status (sym (ap (λ z. option_map_or (λ (act : Activity). is_ended act.status) z false) e) ∙ o)
+        where
+          st : (s : Status) → is_ended s ≡ true → is_step (step_by m (told ns w) a (with_node n x) s) ≡ false
+          st status.Running f = absurd (false≢true f)
+          st status.Arrived f = absurd (false≢true f)
+          st status.Ended f = refl
+
   -- ---- a pass
 
   -- an enabled activity that doesn't run passes, also without finishes
