@@ -46,6 +46,11 @@ joined_over_more a g (z ∷ xs) ys (suc i) x lt h is =
 pub joined_over_next : (a : ℕ) (g : ℕ → Bool) (xs ys : List Clock) (i : ℕ) (x : Clock) → i < length xs → ys ≡ joined_first i a g xs → x ≡ get_or ys i x → set ys i (joined_on a (g i) x) ≡ joined_first (i + 1) a g xs
 joined_over_next a g xs ys i x lt h is = rw add-one (joined_over_more a g xs ys i x lt h is)
 
+-- all of them have
+pub joined_whole : (a : ℕ) (g : ℕ → Bool) (cs : List Clock) → joined_first (length cs) a g cs ≡ joined a g cs
+joined_whole a g [] = refl
+joined_whole a g (c ∷ cs) = ap (λ l. joined_on a (g 0) c ∷ l) (joined_whole a (λ k. g (suc k)) cs)
+
 pub length-joined : (a : ℕ) (g : ℕ → Bool) (cs : List Clock) → length (joined a g cs) ≡ length cs
 length-joined a g [] = refl
 length-joined a g (c ∷ cs) = ap suc (length-joined a (λ j. g (suc j)) cs)

@@ -29,9 +29,9 @@ use Rattle.xk_finishes.proofs.Activities.{awaits_same}
 use Rattle.xk_core.specs.Arm.{value_at, carried, carried_by, passed_on, passing_by, concerns_finishes, IsRoomy, IsRunningUnit}
 use Rattle.xk_core.specs.Able.{able_by, able_of, is_able, kept_by, is_kept}
 use Rattle.xk_core.specs.Core.{IsCore, is_over, AreOver, instruction_by, instruction_of, next_instruction}
-use Rattle.xk_core.specs.Told.{with_node, with_nodes, told, IsToldOf, AreTold}
-use Rattle.xk_core.proofs.Cores.{core_roomy, core_runs, core_stepped, core_able, pass_step, carry_step}
-use Rattle.xk_core.proofs.Told.{length_told, get_told, set_told, set_both, push_told, told_so, is_end, Leaves, Tells, IsTold, carried_told, spawn_told}
+use Rattle.xk_core.specs.Told.{with_node, with_nodes, told, is_end, IsToldOf, AreTold}
+use Rattle.xk_core.proofs.Cores.{core_roomy, core_runs, core_stepped, core_bound, core_able, pass_step, carry_step}
+use Rattle.xk_core.proofs.Told.{length_told, get_told, set_told, set_both, push_told, told_so, Leaves, Tells, IsTold, carried_told, spawn_told}
 use Rattle.xk_core.proofs.Arms.{spawning_there, spawn_by}
 
 -- ---- an activity and its node
@@ -54,6 +54,10 @@ told_at ns xs width a = by (slice_get xs a) refl
             let x = get_inside xs a (omega (arith, length_told ns xs width)) in
             absurd (none-some x.0 (sym e ∙ x.1)))
     by (Some x) e = (let n = get_inside ns a (let inside = slice_get_within xs a x e in omega arith) in Somebody n.0 x n.1 e (get_told ns xs a n.0 x n.1 e))
+
+pub twice : (b : Bool) → not (not b) ≡ b
+twice true = refl
+twice false = refl
 
 -- the node of an activity that is there
 node_is : (ns : List NodeValue) (a : ℕ) (n : NodeValue) → slice_get ns a ≡ Some n → node_at ns a ≡ n
@@ -505,3 +509,24 @@ module _ (m : ModuleValue) (ns : List NodeValue) (w : World) (over a : ℕ) (h :
           go true q = absurd (grind arith)
           go false q = subst (λ (z : World). AreTold m ns z.activities) (same_world _ v event.Passed e q)
               (told_stays m ns w.activities a n x (past x (w.steps + 1)) h.are k p (sym (runs_on x.status refl)) (based x.frame (past x (w.steps + 1)).frame x.callers refl))
+
+-- ---- whether memory was there or not
+
+-- where it was, the new activity is told of; else nothing changed
+pub started_held : {E : Type 0} (m : ModuleValue) (ns ks : List NodeValue) (w v : World) (over a t : ℕ) (args : List ℕ) (room : ℕ) (r : Result Event E) → IsHeld m ns w over
+    → next_instruction m (told ns w) a ≡ Some (instr.Spawn t args) → is_enabled m (told ns w) a ≡ true → room ≡ room_of m t
+    → IfOk r (λ e. carried m w a (instr.Spawn t args) ≡ Stepped v e) → OnOk r (ks ≡ ns ++ fresh_node (governing_of a (node_at ns a)) room ∷ []) → OnErr r (v ≡ w) → OnErr r (ks ≡ ns)
+    → IsHeld m ks v over × IfOk r (λ e. step m (told ns w) a ≡ Stepped (told ks v) e)
+started_held m ns ks w v over a t args room (Ok e) h next enabled fits is new same kept =
+    let goes = spawn_stepped m ns w over a h t args room next v e is in
+    let are = spawn_are m ns w over a h t args room next v e enabled is fits in
+    rw new (held_on m ns (ns ++ fresh_node (governing_of a (node_at ns a)) room ∷ []) w v over a e h are goes, goes)
+started_held m ns ks w v over a t args room (Err x) h next enabled fits is new same kept = rw (same, kept) (h, tt)
+
+pub taken_counts : {E : Type 0} (m : ModuleValue) (w v : World) (a : ℕ) (r : Result Event E) → IfOk r (λ e. step m w a ≡ Stepped v e) → OnOk r (v.steps ≡ w.steps + 1)
+taken_counts m w v a (Ok e) h = step_counts m w v a e h
+taken_counts m w v a (Err x) h = tt
+
+pub taken_bound : {E : Type 0} (m : ModuleValue) (w v : World) (a : ℕ) (r : Result Event E) → IsCore m w → IfOk r (λ e. step m w a ≡ Stepped v e) → OnOk r (v.steps ≤ steps_bound m)
+taken_bound m w v a (Ok e) core h = core_bound m v (core_stepped m w v a e core h)
+taken_bound m w v a (Err x) core h = tt

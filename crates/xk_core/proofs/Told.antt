@@ -22,7 +22,7 @@ use Rattle.xk_laws.proofs.Lists.{get-set_same, get-set_other}
 use Rattle.xk_laws.proofs.Scopes.{based}
 use Rattle.xk_finishes.specs.Tree.{NodeValue}
 use Rattle.xk_core.specs.Arm.{concerns_finishes, carried_by, carried}
-use Rattle.xk_core.specs.Told.{with_node, with_nodes, told}
+use Rattle.xk_core.specs.Told.{with_node, with_nodes, told, is_end}
 
 -- ---- lists
 
@@ -65,11 +65,6 @@ abbrev pub told_so : List NodeValue → Outcome → Outcome
 told_so ns Blocked = Blocked
 told_so ns (Wrong c) = Wrong c
 told_so ns (Stepped w e) = Stepped (told ns w) e
-
--- it is the end of the activity
-abbrev pub is_end : Event → Bool
-is_end event.Ended = true
-is_end _ = false
 
 -- what a step at instruction i leaves of activity a alone: it ends exactly where that is seen, at a `ret` with no frame that waits, and began
 -- with the same unit

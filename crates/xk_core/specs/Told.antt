@@ -1,5 +1,5 @@
 -- A world without finishes, and what the tree of finishes tells of its activities.
-use Rattle.std.specs.Prelude.{◌≡◌, ℕ, ◌+◌, List, [], ◌∷◌, length, Some, slice_get}
+use Rattle.std.specs.Prelude.{◌≡◌, ℕ, ◌+◌, Bool, true, false, List, [], ◌∷◌, length, Some, slice_get}
 use Rattle.xk_types.specs.declared.names.Event.{Event}
 use Rattle.xk_types.specs.declared.names.Event.TheVariants as event
 use Rattle.xk_types.specs.Code.{ModuleValue}
@@ -25,6 +25,11 @@ told ns w = record w { activities = with_nodes ns w.activities }
 pub record IsToldOf (m : ModuleValue) (n : NodeValue) (act : Activity) : Type 0 where
   pub ended : n.ended ≡ is_ended act.status
   pub room : n.room ≡ room_of m (base_unit act)
+
+-- it is the end of the activity
+abbrev pub is_end : Event → Bool
+is_end event.Ended = true
+is_end _ = false
 
 -- the tree tells of these activities
 pub record AreTold (m : ModuleValue) (ns : List NodeValue) (acts : List Activity) : Type 0 where

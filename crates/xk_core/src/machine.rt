@@ -7,6 +7,7 @@ ghost use Rattle.xk_types.specs.Schedule.{IsReached, is_enabled, all_ended};
 ghost use Rattle.xk_types.specs.Bound.{steps_bound};
 ghost use Rattle.xk_core.specs.Core.{next_instruction, IsAboutToGrow, IsLeastEnabled};
 ghost use Rattle.xk_core.specs.Able.{is_kept};
+ghost use Rattle.xk_core.specs.Told.{is_end};
 ghost use Rattle.xk_core.specs.Arm.{grows, concerns_finishes};
 ghost use Rattle.xk_types.specs.declared.instr.Instr.TheVariants as instruction;
 
@@ -37,6 +38,13 @@ impl<'m> Model for Core<'m> {
     ghost view = { λ c. record { module_run = c.verified.now; world = told c.finishes c.state } };
 
     ghost invariant = { λ c. IsCore c.verified.now (told c.finishes c.state) × AreTold c.verified.now c.finishes c.state.activities × AreOver c.state.activities c.over };
+}
+
+/// Whether what a step did was to end its activity.
+fn is_end(event: Event) -> bool
+    ensures { result ≡ is_end event }
+{
+    matches!(event, Event::Ended)
 }
 
 impl<'m> Core<'m> {
@@ -252,7 +260,7 @@ impl<'m> Core<'m> {
         ensures only_where_it_grows { OnErr result (grows instr.now ≡ true) }
     {
         let event = self.state.carry_out(self.verified.module(), act.0 as usize, instr)?;
-        if matches!(event, Event::Ended) {
+        if is_end(event) {
             self.finishes.ended(act);
         }
         Ok(event)

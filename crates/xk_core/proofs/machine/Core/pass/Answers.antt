@@ -12,7 +12,7 @@ use Rattle.xk_core.specs.Core.{CoreValue, IsLeastEnabled, next_instruction}
 use Rattle.xk_core.specs.Told.{told}
 use Rattle.xk_core.proofs.Cores.{core_bound, core_stepped, core_names, core_clocks, core_ends, core_fresh}
 use Rattle.xk_core.proofs.Finishing.{IsHeld, held, held_on, parts, parts_roomy, parts_runs, parts_able, parts_over, pass_enabled, pass_stepped, pass_are, runs, exists, alive, open_room, open_stepped, open_are, close_open, close_empty, close_stepped, close_are, kept_told, carry_enabled, carry_stepped, carry_closed, carry_ended, spawn_enabled, spawn_within, spawn_stepped, spawn_are, able_told, next_told, since_told, ended_told}
-use Rattle.xk_core.proofs.Told.{length_told, is_end}
+use Rattle.xk_core.proofs.Told.{length_told}
 use Rattle.xk_core.proofs.machine.Core.pass.Goals as goal
 
 pub pass-requires-clause-enabled : goal.pass-requires-clause-enabled

@@ -6,7 +6,8 @@ use Rattle.xk_types.specs.Step.{Stepped, is_given, joined, onward, settled}
 use Rattle.xk_types.specs.Schedule.{is_step}
 use Rattle.xk_core.specs.Arm.{carried}
 use Rattle.xk_core.specs.Joining.{given_slots, started}
-use Rattle.xk_core.proofs.Clocks.{phases-joined}
+use Rattle.xk_core.specs.Joining.{joined_first}
+use Rattle.xk_core.proofs.Clocks.{phases-joined, joined_whole, length-joined}
 use Rattle.xk_core.proofs.Arms.{spawn_there, spawn_done, spawn_fits, carried_within, read_at, same_read, started_parts}
 use Rattle.xk_core.proofs.state.State.spawn.Goals as goal
 
@@ -24,6 +25,16 @@ start-requires-clause-fits c =
     (spawn_fits c.args.program.now w c.args.a c.index-starter.result.now c.args.unit c.args.args.now c.index-units-unit.result c.units.ensures.limits
     (subst (λ l. c.index-units-unit.result ≡ get_or l c.args.unit c.index-units-unit.result) c.units.ensures.listed c.index-units-unit.is) c.index-starter.ensures
     (subst (λ (v : World). is_step (carried c.args.program.now v c.args.a (instruction.Spawn c.args.unit c.args.args.now)) ≡ true) (sym c.self.view_is) c.requires.enabled))
+
+pub returns-then-is_err-clause-refused : goal.returns-then-is_err-clause-refused
+returns-then-is_err-clause-refused c =
+    let given = is_given c.slots.result.now in
+    let joins : c.join_all.new.clocks.items ≡ joined c.args.a given c.self.inside.clocks.items = c.in_ok-join_all.ensures.joined in
+    let size : length c.self.inside.clocks.items ≡ c.len-n.result = omega (arith, c.len-n.ensures, ap length joins, length-joined c.args.a given c.self.inside.clocks.items, c.join_all.new.clocks.ok) in
+    let clocks : c.leave_first.new.clocks.items ≡ c.self.inside.clocks.items = c.leave_first.ensures c.args.a given c.self.inside.clocks.items
+    (joins ∙ sym (joined_whole c.args.a given c.self.inside.clocks.items) ∙ ap (λ n. joined_first n c.args.a given c.self.inside.clocks.items) size) in
+    ap (λ acts. record { activities = acts; clocks = c.leave_first.new.clocks.items; cells = c.self.inside.cells.items; steps = c.self.inside.steps }) c.try_reserve.ensures.items
+    ∙ ap (λ cs. record { activities = c.self.inside.activities.items; clocks = cs; cells = c.self.inside.cells.items; steps = c.self.inside.steps }) clocks ∙ c.self.view_is
 
 pub index_mut-act-requires : goal.index_mut-act-requires
 index_mut-act-requires c =
