@@ -16,7 +16,7 @@ use Rattle.xk_types.specs.Step.{under_within}
 use Rattle.xk_types.specs.Schedule.{Course, Through, Held, Wronged, run, all_ended, printed}
 use Rattle.xk_types.specs.Walk.{IsRefusedAt}
 use Rattle.xk_types.specs.Shape.{breaks}
-use Rattle.xk_types.specs.Bound.{total_within, stack_within, stack_of, chain_within, frames_of, nesting, room_of, steps_bound, activities_bound, clocks_bound}
+use Rattle.xk_types.specs.Bound.{total_within, stack_of, chain_within, frames_of, nesting, room_of, steps_bound, activities_bound, clocks_bound}
 
 abbrev main_with : ℕ → List Instr → UnitValue
 main_with slots code = record { kind = unit_kind.Main; params = []; slots = slots; code = code }
@@ -160,24 +160,24 @@ alone = (refl, refl)
 
 -- ---- rooms
 
--- Main opens a finish, and two more inside it, one behind the other, in the second of which it calls a method; that one opens a
--- finish, behind which it calls another one, whose two are one in the other.
+-- Main opens a finish, and two more inside it, one behind the other, in the second of which it calls a method, and behind them it starts
+-- a body that calls the same one; this opens a finish, and behind it calls another method, whose two are one in the other.
 abbrev deep : ModuleValue
 deep = module_with (
     main_with 2
-    (instr.Finish 6 ∷ instr.Finish 2 ∷ instr.EndFinish 1 ∷ instr.Finish 5 ∷ instr.Call 1 [] ∷ instr.EndFinish 3 ∷ instr.EndFinish 0 ∷ instr.Spawn 3 [] ∷ instr.Ret ∷ [])
-    ∷ method_with 3 (instr.Finish 1 ∷ instr.EndFinish 0 ∷ instr.Call 2 [] ∷ instr.Ret ∷ [])
+    (instr.Finish 6 ∷ instr.Finish 2 ∷ instr.EndFinish 1 ∷ instr.Finish 5 ∷ instr.Call 2 [] ∷ instr.EndFinish 3 ∷ instr.EndFinish 0 ∷ instr.Spawn 1 [] ∷ instr.Ret ∷ [])
+    ∷ body_with [] 64 (instr.Call 2 [] ∷ instr.Ret ∷ [])
+    ∷ method_with 3 (instr.Finish 1 ∷ instr.EndFinish 0 ∷ instr.Call 3 [] ∷ instr.Ret ∷ [])
     ∷ method_with 5 (instr.Finish 3 ∷ instr.Finish 2 ∷ instr.EndFinish 1 ∷ instr.EndFinish 0 ∷ instr.Ret ∷ [])
-    ∷ body_with [] 64 (instr.Call 1 [] ∷ instr.Ret ∷ [])
     ∷ [])
 
-deep_nesting : map nesting deep.units ≡ 2 ∷ 1 ∷ 2 ∷ 0 ∷ []
+deep_nesting : map nesting deep.units ≡ 2 ∷ 0 ∷ 1 ∷ 2 ∷ []
 deep_nesting = refl
 
 -- what a unit starts counts for none of these
-deep_rooms : (map (room_of deep) (0 ∷ 1 ∷ 2 ∷ 3 ∷ 4 ∷ []) ≡ 5 ∷ 3 ∷ 2 ∷ 3 ∷ 0 ∷ []) × (map (frames_of deep) (0 ∷ 1 ∷ 2 ∷ 3 ∷ 4 ∷ []) ≡ 3 ∷ 2 ∷ 1 ∷ 3 ∷ 0 ∷ [])
-    × (map (stack_of deep) (0 ∷ 1 ∷ 2 ∷ 3 ∷ 4 ∷ []) ≡ 10 ∷ 8 ∷ 5 ∷ 72 ∷ 0 ∷ [])
-unfolding chain_within stack_within
+deep_rooms : (map (room_of deep) (0 ∷ 1 ∷ 2 ∷ 3 ∷ 4 ∷ []) ≡ 5 ∷ 3 ∷ 3 ∷ 2 ∷ 0 ∷ []) × (map (frames_of deep) (0 ∷ 1 ∷ 2 ∷ 3 ∷ 4 ∷ []) ≡ 3 ∷ 3 ∷ 2 ∷ 1 ∷ 0 ∷ [])
+    × (map (stack_of deep) (0 ∷ 1 ∷ 2 ∷ 3 ∷ 4 ∷ []) ≡ 10 ∷ 72 ∷ 8 ∷ 5 ∷ 0 ∷ [])
+unfolding chain_within
 deep_rooms = (refl, refl, refl)
 
 -- three levels, and then one finish behind the other
