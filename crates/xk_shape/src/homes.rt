@@ -1,10 +1,11 @@
 //! The rules on the homes of slots, which are tried where loops and finishes nest.
 
-ghost use Rattle.std.specs.Prelude.{◌≡◌, ℕ, ◌<◌, ◌||◌, false, slice_get, Some, IfOk, MatchResult};
+ghost use Rattle.std.specs.Prelude.{◌≡◌, ℕ, ◌<◌, ◌≤◌, ◌||◌, false, length, slice_get, Some, IfOk, MatchResult};
 ghost use Rattle.std.specs.List.{list_any};
 ghost use Rattle.xk_types.specs.Code.{clock_arguments};
 ghost use Rattle.xk_types.specs.Blocks.{block_at, homes, is_elsewhere};
 ghost use Rattle.xk_types.specs.Shape.{mishandles, moves_home, breaks_home, gives_away, breaks_registers};
+ghost use Rattle.xk_types.specs.declared.instr.Instr.TheVariants.{Make};
 ghost use Rattle.xk_types.specs.declared.rules.Rule.TheVariants as rule;
 ghost use Rattle.xk_shape.specs.Blocks.{IsOrderly, HasBlocks, AreTables};
 ghost use Rattle.xk_shape.specs.Breach.{IsNowhereBroken, FailsRule, IsFirst};
@@ -69,10 +70,22 @@ fn is_moved(u: &Unit, tables: &Tables, at: u16, instr: &Instr) -> bool
     ensures { result ≡ (mishandles u.now instr.now || moves_home u.now at instr.now) }
 {
     match instr {
-        Instr::Make(d) => { (*d as usize) < u.params.len() || tables.is_away(*d, at as usize) }
+        Instr::Make(d) => (*d as usize) < u.params.len() || is_made_elsewhere(u, tables, at, *d),
         Instr::Drop(c) => u.kind == UnitKind::Method && takes_clock(u, *c),
         _ => false,
     }
+}
+
+/// Whether an instruction before this one, which makes the clock of a slot that is no parameter, makes it in another block.
+fn is_made_elsewhere(u: &Unit, tables: &Tables, at: u16, slot: u16) -> bool
+    requires orderly { IsOrderly u.now }
+    requires tables { AreTables u.now tables.now }
+    requires before { (k : ℕ) → k < at → breaks_home u.now k ≡ false }
+    requires own { length u.now.params ≤ slot }
+    requires here { slice_get u.now.code at ≡ Some (Make slot) }
+    ensures { result ≡ moves_home u.now at (Make slot) }
+{
+    tables.is_away(slot, at as usize)
 }
 
 /// Looks for the least place that hands a clock on outside its home.

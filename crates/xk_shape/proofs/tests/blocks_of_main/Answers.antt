@@ -1,5 +1,5 @@
 -- main is a unit of a module that has the shape
-use Rattle.std.proofs.Common.{◌≡◌, ◌<◌, length, ap, ◌∙◌, arith}
+use Rattle.std.proofs.Common.{◌<◌, length, ap, ◌∙◌, arith}
 use Rattle.xk_types.specs.Code.{ModuleValue}
 use Rattle.xk_shape.proofs.Units.{unit_at, blocks_of_shape}
 use Rattle.xk_shape.proofs.tests.blocks_of_main.Goals as goal
