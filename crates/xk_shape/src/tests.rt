@@ -1,4 +1,4 @@
-use crate::{Loop, ShapeError, loops, params_of, shape};
+use crate::{Blocks, Loop, ShapeError, Shaped, loops, params_of, shape};
 use std::alloc::{AllocError, Global};
 use std::test::Fail;
 use xk_types::{Args, Comparison, Instr, Module, ParamKind, Unit, UnitKind};
@@ -212,6 +212,128 @@ fn refuses_unpaired_loops(rt: HostRuntime) -> Result<(), Fail> {
 }
 
 #[test]
+fn refuses_ends_of_finishes(rt: HostRuntime) -> Result<(), Fail> {
+    let alloc = rt.alloc();
+    let itself = [
+        Instr::Advance,
+        Instr::Finish(1),
+        Instr::EndFinish(2),
+        Instr::Ret,
+    ];
+    assert_eq!(rt; fault_of(alloc, itself)?, Some((1, 0, 1)));
+    let past = [Instr::Finish(3), Instr::EndFinish(0), Instr::EndFinish(9)];
+    assert_eq!(rt; fault_of(alloc, past)?, Some((1, 0, 0)));
+    let ahead = [
+        Instr::Finish(1),
+        Instr::EndFinish(0),
+        Instr::EndFinish(2),
+        Instr::Ret,
+    ];
+    assert_eq!(rt; fault_of(alloc, ahead)?, Some((1, 0, 2)));
+    Ok(())
+}
+
+#[test]
+fn refuses_unpaired_finishes(rt: HostRuntime) -> Result<(), Fail> {
+    let alloc = rt.alloc();
+    let other_end = [Instr::Finish(1), Instr::Lit(0, 1), Instr::Ret];
+    assert_eq!(rt; fault_of(alloc, other_end)?, Some((2, 0, 0)));
+    let no_finish = [Instr::Lit(0, 1), Instr::EndFinish(0), Instr::Ret];
+    assert_eq!(rt; fault_of(alloc, no_finish)?, Some((2, 0, 1)));
+    let other_start = [
+        Instr::Finish(2),
+        Instr::EndFinish(0),
+        Instr::EndFinish(0),
+        Instr::Ret,
+    ];
+    assert_eq!(rt; fault_of(alloc, other_start)?, Some((2, 0, 1)));
+    let ends_loop = [twice(1), Instr::EndFinish(0), Instr::Ret];
+    assert_eq!(rt; fault_of(alloc, ends_loop)?, Some((2, 0, 0)));
+    let two = [
+        Instr::Finish(3),
+        Instr::Finish(2),
+        Instr::EndFinish(1),
+        Instr::EndFinish(0),
+        Instr::Finish(5),
+        Instr::EndFinish(4),
+        Instr::Ret,
+    ];
+    assert_eq!(rt; fault_of(alloc, two)?, None);
+    Ok(())
+}
+
+#[test]
+fn refuses_finishes_that_overlap(rt: HostRuntime) -> Result<(), Fail> {
+    let alloc = rt.alloc();
+    let finishes = [
+        Instr::Advance,
+        Instr::Finish(3),
+        Instr::Finish(4),
+        Instr::EndFinish(1),
+        Instr::EndFinish(2),
+        Instr::Ret,
+    ];
+    assert_eq!(rt; fault_of(alloc, finishes)?, Some((2, 0, 1)));
+    let finish_first = [
+        Instr::Finish(2),
+        twice(3),
+        Instr::EndFinish(0),
+        Instr::Next(1),
+        Instr::Ret,
+    ];
+    assert_eq!(rt; fault_of(alloc, finish_first)?, Some((2, 0, 0)));
+    let loop_first = [
+        twice(2),
+        Instr::Finish(3),
+        Instr::Next(0),
+        Instr::EndFinish(1),
+        Instr::Ret,
+    ];
+    assert_eq!(rt; fault_of(alloc, loop_first)?, Some((2, 0, 0)));
+    let nested = [
+        Instr::Finish(5),
+        twice(4),
+        Instr::Finish(3),
+        Instr::EndFinish(2),
+        Instr::Next(1),
+        Instr::EndFinish(0),
+        Instr::Ret,
+    ];
+    assert_eq!(rt; fault_of(alloc, nested)?, None);
+    Ok(())
+}
+
+#[test]
+fn refuses_jumps_over_edges_of_finishes(rt: HostRuntime) -> Result<(), Fail> {
+    let alloc = rt.alloc();
+    let out = [
+        Instr::Finish(2),
+        Instr::Jump(3),
+        Instr::EndFinish(0),
+        Instr::Ret,
+    ];
+    assert_eq!(rt; fault_of(alloc, out)?, Some((2, 0, 1)));
+    let to_the_end = [
+        Instr::Finish(2),
+        Instr::Jump(2),
+        Instr::EndFinish(0),
+        Instr::Ret,
+    ];
+    assert_eq!(rt; fault_of(alloc, to_the_end)?, None);
+    let unless = Instr::Unless(Comparison::Lt, 0, 1, 2);
+    let into = [unless, Instr::Finish(2), Instr::EndFinish(1), Instr::Ret];
+    assert_eq!(rt; fault_of(alloc, into)?, Some((2, 0, 0)));
+    let to_the_start = [
+        Instr::Jump(1),
+        Instr::Finish(2),
+        Instr::EndFinish(1),
+        Instr::Ret,
+    ];
+    assert_eq!(rt; fault_of(alloc, to_the_start)?, None);
+    Ok(())
+}
+
+#[test]
 fn refuses_uses_of_loops(rt: HostRuntime) -> Result<(), Fail> {
     let alloc = rt.alloc();
     let backward = [Instr::For(0, 2, 1, 1), Instr::Next(0), Instr::Ret];
@@ -409,6 +531,217 @@ fn refuses_drops_of_lent_clocks(rt: HostRuntime) -> Result<(), Fail> {
     let handed_on = [Instr::Drop(0), Instr::Ret];
     let handed_on = body(alloc, &[ParamKind::Clock], 1, handed_on)?;
     assert_eq!(rt; fault_with(alloc, starts, handed_on)?, None);
+    Ok(())
+}
+
+#[test]
+fn refuses_clocks_that_move(rt: HostRuntime) -> Result<(), Fail> {
+    let alloc = rt.alloc();
+    let inwards = [
+        Instr::Make(0),
+        Instr::Drop(0),
+        Instr::Finish(5),
+        Instr::Make(0),
+        Instr::Drop(0),
+        Instr::EndFinish(2),
+        Instr::Ret,
+    ];
+    assert_eq!(rt; fault_of(alloc, inwards)?, Some((8, 0, 3)));
+    let outwards = [
+        Instr::Finish(3),
+        Instr::Make(0),
+        Instr::Drop(0),
+        Instr::EndFinish(0),
+        Instr::Make(0),
+        Instr::Ret,
+    ];
+    assert_eq!(rt; fault_of(alloc, outwards)?, Some((8, 0, 4)));
+    let sideways = [
+        Instr::Finish(3),
+        Instr::Make(0),
+        Instr::Drop(0),
+        Instr::EndFinish(0),
+        Instr::Finish(6),
+        Instr::Make(0),
+        Instr::EndFinish(4),
+        Instr::Make(0),
+        Instr::Ret,
+    ];
+    assert_eq!(rt; fault_of(alloc, sideways)?, Some((8, 0, 5)));
+    Ok(())
+}
+
+#[test]
+fn keeps_clocks_in_one_block(rt: HostRuntime) -> Result<(), Fail> {
+    let alloc = rt.alloc();
+    let around = [
+        Instr::Make(0),
+        Instr::Drop(0),
+        Instr::Finish(4),
+        Instr::Make(1),
+        Instr::EndFinish(2),
+        Instr::Make(0),
+        Instr::Ret,
+    ];
+    assert_eq!(rt; fault_of(alloc, around)?, None);
+    let in_a_loop = [
+        Instr::Finish(6),
+        Instr::For(0, 1, 2, 5),
+        Instr::Make(1),
+        Instr::Drop(1),
+        Instr::Make(1),
+        Instr::Next(1),
+        Instr::EndFinish(0),
+        Instr::Ret,
+    ];
+    assert_eq!(rt; fault_of(alloc, in_a_loop)?, None);
+    Ok(())
+}
+
+#[test]
+fn refuses_outer_clocks_in_finishes(rt: HostRuntime) -> Result<(), Fail> {
+    let alloc = rt.alloc();
+    let starts = [
+        Instr::Make(0),
+        Instr::Finish(3),
+        spawn(alloc, 1, &[0])?,
+        Instr::EndFinish(1),
+        Instr::Advance,
+        Instr::Ret,
+    ];
+    let waits = body(alloc, &[ParamKind::Clock], 1, [Instr::Ret])?;
+    assert_eq!(rt; fault_with(alloc, starts, waits)?, Some((9, 0, 2)));
+
+    let calls = [
+        Instr::Make(0),
+        Instr::Finish(3),
+        call(alloc, 1, &[0])?,
+        Instr::EndFinish(1),
+        Instr::Ret,
+    ];
+    let waits = method(alloc, &[ParamKind::Clock], 1, [Instr::Ret])?;
+    assert_eq!(rt; fault_with(alloc, calls, waits)?, Some((9, 0, 2)));
+
+    let of_outer_finish = [
+        Instr::Finish(5),
+        Instr::Make(0),
+        Instr::Finish(4),
+        spawn(alloc, 1, &[0])?,
+        Instr::EndFinish(2),
+        Instr::EndFinish(0),
+        Instr::Ret,
+    ];
+    let waits = body(alloc, &[ParamKind::Clock], 1, [Instr::Ret])?;
+    let inner = fault_with(alloc, of_outer_finish, waits)?;
+    assert_eq!(rt; inner, Some((9, 0, 3)));
+    Ok(())
+}
+
+#[test]
+fn refuses_clocks_behind_their_home(rt: HostRuntime) -> Result<(), Fail> {
+    let alloc = rt.alloc();
+    let behind = [
+        Instr::Finish(2),
+        Instr::Make(1),
+        Instr::EndFinish(0),
+        spawn(alloc, 1, &[0, 1])?,
+        Instr::Ret,
+    ];
+    let params = [ParamKind::Number, ParamKind::Clock];
+    let waits = body(alloc, &params, 2, [Instr::Ret])?;
+    assert_eq!(rt; fault_with(alloc, behind, waits)?, Some((9, 0, 3)));
+
+    let code = [
+        Instr::Finish(2),
+        spawn(alloc, 2, &[0])?,
+        Instr::EndFinish(0),
+        Instr::Ret,
+    ];
+    let main = main_unit(alloc, 0, [Instr::Ret])?;
+    let starts = body(alloc, &[ParamKind::Clock], 1, code)?;
+    let waits = body(alloc, &[ParamKind::Clock], 1, [Instr::Ret])?;
+    let of_parameter = fault(alloc, [main, starts, waits])?;
+    assert_eq!(rt; of_parameter, Some((9, 1, 1)));
+    Ok(())
+}
+
+#[test]
+fn hands_clocks_on_at_home(rt: HostRuntime) -> Result<(), Fail> {
+    let alloc = rt.alloc();
+    let inside = [
+        Instr::Finish(4),
+        Instr::Make(0),
+        spawn(alloc, 1, &[0])?,
+        Instr::Drop(0),
+        Instr::EndFinish(0),
+        Instr::Ret,
+    ];
+    let waits = body(alloc, &[ParamKind::Clock], 1, [Instr::Ret])?;
+    assert_eq!(rt; fault_with(alloc, inside, waits)?, None);
+
+    let numbers = [
+        Instr::Lit(0, 1),
+        Instr::Finish(3),
+        spawn(alloc, 1, &[0])?,
+        Instr::EndFinish(1),
+        Instr::Ret,
+    ];
+    let counts = body(alloc, &[ParamKind::Number], 1, [Instr::Ret])?;
+    assert_eq!(rt; fault_with(alloc, numbers, counts)?, None);
+
+    let around = [
+        Instr::Make(0),
+        Instr::Finish(2),
+        Instr::EndFinish(1),
+        spawn(alloc, 1, &[0])?,
+        Instr::Ret,
+    ];
+    let code = [spawn(alloc, 2, &[0])?, Instr::Ret];
+    let main = main_unit(alloc, 1, around)?;
+    let starts = body(alloc, &[ParamKind::Clock], 1, code)?;
+    let waits = body(alloc, &[ParamKind::Clock], 1, [Instr::Ret])?;
+    assert_eq!(rt; fault(alloc, [main, starts, waits])?, None);
+    Ok(())
+}
+
+/// The blocks of main.
+fn blocks_of_main(alloc: Global, shaped: &Shaped) -> Result<Blocks<'_>, AllocError> {
+    let main = &shaped.module().units()[0];
+    Blocks::of(alloc, main)
+}
+
+#[test]
+fn tells_homes_and_depths(rt: HostRuntime) -> Result<(), Fail> {
+    let alloc = rt.alloc();
+    let code = [
+        Instr::Make(0),
+        Instr::Finish(6),
+        Instr::Make(1),
+        Instr::Finish(5),
+        Instr::Make(2),
+        Instr::EndFinish(3),
+        Instr::EndFinish(1),
+        Instr::Ret,
+    ];
+    let m = module(alloc, [main_unit(alloc, 4, code)?])?;
+    let Ok(shaped) = shape(alloc, m) else {
+        panic!(rt; "refused");
+    };
+    let blocks = blocks_of_main(alloc, &shaped)?;
+    assert!(rt; blocks.is_home(1, 1) && !blocks.is_home(1, 3));
+    assert!(rt; blocks.is_home(2, 3) && !blocks.is_home(2, 1));
+    assert!(rt; !blocks.is_home(0, 1) && !blocks.is_home(0, 3));
+    assert!(rt; !blocks.is_home(3, 1) && !blocks.is_home(64, 1));
+    let depths = [
+        blocks.depth_at(1),
+        blocks.depth_at(2),
+        blocks.depth_at(4),
+        blocks.depth_at(6),
+        blocks.depth_at(7),
+        blocks.depth_at(9),
+    ];
+    assert_eq!(rt; depths, [0, 1, 2, 1, 0, 0]);
+    assert_eq!(rt; blocks.nesting(), 2);
     Ok(())
 }
 
