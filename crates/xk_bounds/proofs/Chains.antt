@@ -10,7 +10,7 @@ use Rattle.xk_types.specs.declared.instr.Instr.TheVariants as instr
 use Rattle.xk_types.specs.Code.{UnitValue, ModuleValue, unit_called, unit_run, begun_from}
 use Rattle.xk_types.specs.Blocks.{Span, finish_opened, finishes, is_inside, depth_at}
 use Rattle.xk_types.specs.Shape.{HasShape}
-use Rattle.xk_types.specs.Bound.{stack_within, chain_within, chain_of, greatest_below, nesting}
+use Rattle.xk_types.specs.Bound.{chain_within, chain_of, greatest_below, nesting}
 use Rattle.xk_bounds.specs.Rooms.{called_by, most_called}
 use Rattle.xk_bounds.proofs.Totals.{run_is}
 
@@ -114,20 +114,6 @@ module _ (own : UnitValue → ℕ) (m : ModuleValue) where
       let h = over_small bound (bound * depth) (chain_within own m depth) (slice_get m.units unit) (small unit) (chain_small bound small depth) in
       let p = mul-suc bound depth in
       omega arith
-
--- ---- slots
-
--- the slots of a unit with the most of those that it calls are such a number
-pub slots_chain : (m : ModuleValue) (depth unit : ℕ) → stack_within m depth unit ≡ chain_within (λ u. u.slots) m depth unit
-unfolding stack_within chain_within
-slots_chain m zero unit = refl
-slots_chain m (suc depth) unit =
-    let below = stack_within m depth in
-    let above = chain_within (λ u. u.slots) m depth in
-    let same : (t : ℕ) → below t ≡ above t = slots_chain m depth in
-    let each : (i : Instr) → called_by below i ≡ called_by above i = λ i. ap (λ f. called_by f i) (λ j t. same t j) in
-    ap (λ (f : UnitValue → ℕ). option_map_or f (slice_get m.units unit) 0)
-    (λ j u. u.slots + fold_same (called_by below) (called_by above) 0 u.code (λ at i here. each i) j)
 
 -- ---- finishes
 

@@ -9,7 +9,7 @@ use Rattle.xk_types.specs.Shape.{HasShape}
 use Rattle.xk_types.specs.Bound.{stack_of, stack_bound, greatest_below, nesting}
 use Rattle.xk_bounds.specs.declared.room.Room.{Room}
 use Rattle.xk_bounds.specs.Rooms.{nothing, slots_in, frames_in, finishes_in, IsRoomBy, IsSmall, IsRoom, AreRooms}
-use Rattle.xk_bounds.proofs.Chains.{below_same, chain_is, chain_small, slots_chain, nesting_small}
+use Rattle.xk_bounds.proofs.Chains.{below_same, chain_is, chain_small, nesting_small}
 
 module _ (m : ModuleValue) where
   -- a room is reckoned from those of the units of greater number
@@ -18,7 +18,7 @@ module _ (m : ModuleValue) where
   room_by shape table unit u r found greater by =
       let most = length m.units in
       record {
-        slots = by.slots ∙ chain_is (λ v. v.slots) m shape (slots_in table) unit u found (λ t lt inside. (greater t lt inside).slots ∙ slots_chain m most t) ∙ sym (slots_chain m most unit);
+        slots = by.slots ∙ chain_is (λ v. v.slots) m shape (slots_in table) unit u found (λ t lt inside. (greater t lt inside).slots);
         frames = by.frames ∙ chain_is (λ v. 1) m shape (frames_in table) unit u found (λ t lt inside. (greater t lt inside).frames);
         finishes = by.finishes ∙ chain_is nesting m shape (finishes_in table) unit u found (λ t lt inside. (greater t lt inside).finishes);
       }
@@ -35,7 +35,7 @@ module _ (m : ModuleValue) where
         let few = limits.units in
         record {
           slots =
-              let told = is.slots ∙ slots_chain m most unit in
+              let told = is.slots in
               let h = chain_small (λ v. v.slots) m 64 (λ k u found. (within k u found).slots) most unit in
               omega arith;
           frames =

@@ -7,14 +7,16 @@ use Rattle.std.proofs.lemmas.Bool.{eqb-false, or_parts, and_parts, not-false, fa
 use Rattle.std.proofs.lemmas.Option.{slice_get_within, none-some, same_Some}
 use Rattle.xk_laws.proofs.Lists.{all_has}
 use Rattle.xk_laws.proofs.Loops.{AreLoops, are_loops}
+use Rattle.xk_laws.proofs.Finishes.{AreFinishes, are_finishes}
 use Rattle.xk_types.specs.declared.instr.Instr.{Instr}
 use Rattle.xk_types.specs.declared.instr.Instr.TheVariants as instr
 use Rattle.xk_types.specs.declared.rules.Rule.{Rule}
 use Rattle.xk_types.specs.declared.rules.Rule.TheVariants as rule
 use Rattle.xk_types.specs.declared.unit.UnitKind.{UnitKind}
 use Rattle.xk_types.specs.Code.{UnitValue, ModuleValue, is_method, is_body, params_of, clock_arguments, unit_called, unit_run}
+use Rattle.xk_types.specs.Blocks.{takes_clock}
 use Rattle.xk_types.specs.Order.{Has}
-use Rattle.xk_types.specs.Shape.{slots_named, is_ret, instr_is, is_in_place, is_fitting, runs_amiss, takes_clock, mishandles, has_twice, gives_twice, breaks_unit_of, breaks_in, breaks_end, HasShape}
+use Rattle.xk_types.specs.Shape.{slots_named, is_ret, instr_is, is_in_place, is_fitting, runs_amiss, mishandles, moves_home, has_twice, gives_twice, breaks_unit_of, breaks_in, breaks_end, HasShape}
 
 -- a unit that fits
 pub record IsFit (u : UnitValue) : Type 0 where
@@ -22,10 +24,12 @@ pub record IsFit (u : UnitValue) : Type 0 where
   pub some : 0 < length u.code
   -- the slots that an instruction names are the unit's
   pub slots : (i : Instr) (at s : ℕ) → slice_get u.code at ≡ Some i → Has (slots_named i) s → s < u.slots
-  -- its loops are in order
+  -- its loops and its finishes are in order
   pub loops : AreLoops u
-  -- behind each instruction but `ret` stands another
+  pub finishes : AreFinishes u
+  -- behind each instruction but `ret` stands another, and behind `ret` none
   pub next : (i : Instr) (at : ℕ) → slice_get u.code at ≡ Some i → is_ret i ≡ false → at + 1 < length u.code
+  pub last : (at : ℕ) → slice_get u.code at ≡ Some instr.Ret → length u.code ≤ at + 1
   -- no parameter is made
   pub unmade : (d at : ℕ) → slice_get u.code at ≡ Some (instr.Make d) → length u.params ≤ d
   -- a method drops no clock that it was lent
@@ -49,6 +53,11 @@ ends_well u at h =
     let p = or_parts (instr_is (ret_but_last u at) (slice_get u.code at) || instr_is (last_but_ret u at) (slice_get u.code at)) ((at == 0) && (length u.code == 0)) h in
     ((or_parts (instr_is (ret_but_last u at) (slice_get u.code at)) (instr_is (last_but_ret u at) (slice_get u.code at)) p.0).1, p.1)
 
+rets_end : (u : UnitValue) (at : ℕ) → breaks_end u at ≡ false → instr_is (ret_but_last u at) (slice_get u.code at) ≡ false
+rets_end u at h =
+    let p = or_parts (instr_is (ret_but_last u at) (slice_get u.code at) || instr_is (last_but_ret u at) (slice_get u.code at)) ((at == 0) && (length u.code == 0)) h in
+    (or_parts (instr_is (ret_but_last u at) (slice_get u.code at)) (instr_is (last_but_ret u at) (slice_get u.code at)) p.0).0
+
 -- one number below another, or the same
 next_below : (at n : ℕ) → at < n → (at + 1 == n) ≡ false → at + 1 < n
 next_below at n h e = let g = eqb-false (at + 1) n e in omega arith
@@ -59,15 +68,17 @@ unit_fits m shape unit u found = record {
   some = go (length u.code) (ends_well u 0 (end_ok 0)).1;
   slots = λ i at s here named. ltb-true s u.slots (all_has (λ t. nat_lt t u.slots) (slots_named i) s
       (not-false (list_all (λ t. nat_lt t u.slots) (slots_named i)) (ap (instr_is (λ j. not (list_all (λ t. nat_lt t u.slots) (slots_named j)))) (sym here) ∙ slots_ok at)) named);
+  finishes = are_finishes u (unbroken m shape rule.Target unit u found) (unbroken m shape rule.Block unit u found) (unbroken m shape rule.Loop unit u found);
   loops = are_loops u (unbroken m shape rule.Target unit u found) (unbroken m shape rule.Block unit u found) (unbroken m shape rule.Loop unit u found);
   next = λ i at here other. next_below at (length u.code) (slice_get_within u.code at i here)
       (rw other at (ap (instr_is (last_but_ret u at)) (sym here) ∙ (ends_well u at (end_ok at)).0));
-  unmade = λ d at here. ltb-false d (length u.params) (ap (instr_is (mishandles u)) (sym here) ∙ home_ok at);
-  undropped = λ k at here method. rw method at (ap (instr_is (mishandles u)) (sym here) ∙ home_ok at);
+  last = λ at here. ltb-false (at + 1) (length u.code) (ap (instr_is (ret_but_last u at)) (sym here) ∙ (rets_end u at (end_ok at)));
+  unmade = λ d at here. ltb-false d (length u.params) (handled (instr.Make d) at here);
+  undropped = λ k at here method. rw method at (handled (instr.Drop k) at here);
 }
   where
-    home_ok : (at : ℕ) → breaks_in m rule.Home unit u at ≡ false
-    home_ok at = unbroken m shape rule.Home unit u found at
+    handled : (i : Instr) (at : ℕ) → slice_get u.code at ≡ Some i → mishandles u i ≡ false
+    handled i at here = (or_parts (mishandles u i) (moves_home u at i) (ap (instr_is (λ j. mishandles u j || moves_home u at j)) (sym here) ∙ unbroken m shape rule.Home unit u found at)).0
 
     slots_ok : (at : ℕ) → breaks_in m rule.Slot unit u at ≡ false
     slots_ok at = unbroken m shape rule.Slot unit u found at

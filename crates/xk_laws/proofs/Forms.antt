@@ -1,5 +1,5 @@
 -- What a step can come to: it is blocked, it is wrong, or it has one of three forms.
-use Rattle.std.proofs.Common.{◌≡◌, ℕ, Bool, true, false, cond, List, [], ◌∷◌, ℤ, Some, None, Option, refl, ap}
+use Rattle.std.proofs.Common.{◌≡◌, ℕ, zero, suc, Bool, true, false, cond, List, [], ◌∷◌, ℤ, Some, None, Option, refl, ap}
 use Rattle.std.specs.Prelude.{slice_get}
 use Rattle.std.specs.Int.{w64, int_wrapping_add, int_wrapping_sub, int_wrapping_mul}
 use Rattle.xk_types.specs.declared.instr.Instr.{Instr}
@@ -15,7 +15,7 @@ use Rattle.xk_types.specs.declared.unit.ParamKind.{ParamKind}
 use Rattle.xk_types.specs.declared.unit.ParamKind.TheVariants as param
 use Rattle.xk_types.specs.Code.{UnitValue, ModuleValue, is_method, is_body}
 use Rattle.xk_types.specs.World.{Frame, Activity, Clock, World, standing_of, instruction_at, is_ended}
-use Rattle.xk_types.specs.Step.{Cause, Outcome, Blocked, Wrong, ClockUse, OutOfRange, is_registered, number_in, clock_in, registered_on, put_in, slot_at, arguments_in, computing, turning, spawned, spawning, carried_out, run_at, done, made, waits, passing, step_by, step_of, step, called, calling, returning, none}
+use Rattle.xk_types.specs.Step.{Cause, Outcome, Blocked, Wrong, ClockUse, OutOfRange, is_registered, number_in, clock_in, registered_on, put_in, slot_at, arguments_in, computing, turning, spawned, spawning, carried_out, run_at, done, made, waits, passing, step_by, step_of, step, called, calling, returning, none, awaits, innermost, left, closing}
 
 -- What holds of a blocked step, of each wrong one, and of the three forms: one that changes activity a and where it stands, one
 -- that makes a clock, one that starts an activity. Who takes a step hasn't ended.
@@ -105,6 +105,16 @@ returning_form : (P : Outcome → Type 0) (m : ModuleValue) (w : World) (a : ℕ
 returning_form P m w a f act [] at alive = f.done act _ _ _ at alive
 returning_form P m w a f act (g ∷ fs) at alive = f.done act _ _ _ at alive
 
+-- where a finish ends
+closing_form : (P : Outcome → Type 0) (m : ModuleValue) (w : World) (a : ℕ) → HoldsOfForms P m w a → (act : Activity) (n : ℕ) → slice_get w.activities a ≡ Some act
+    → is_ended act.status ≡ false → P (closing w a act n)
+closing_form P m w a f act zero at alive = f.wrong _
+closing_form P m w a f act (suc n) at alive = cases (awaits w.activities (innermost a act))
+  where
+    cases : (b : Bool) → P (cond b Blocked (done w a (left act n) none event.Closed))
+    cases true = f.blocked
+    cases false = f.done act _ _ _ at alive
+
 -- each instruction
 instruction_form : (P : Outcome → Type 0) (m : ModuleValue) (w : World) (a : ℕ) → HoldsOfForms P m w a → (act : Activity) (i : Instr) → slice_get w.activities a ≡ Some act
     → is_ended act.status ≡ false → P (carried_out m w a act i)
@@ -118,6 +128,8 @@ instruction_form P m w a f act (instr.Unless op x y t) at alive =
 instruction_form P m w a f act (instr.Jump t) at alive = f.done act _ _ _ at alive
 instruction_form P m w a f act (instr.For k lo hi e) at alive = put_form P f.wrong (slot_at act k) act k _ _ (λ x. f.done act x _ _ at alive)
 instruction_form P m w a f act (instr.Next b) at alive = turning_form P m w a f act b (instruction_at m (record act.frame { place = b })) at alive
+instruction_form P m w a f act (instr.Finish e) at alive = f.done act _ _ _ at alive
+instruction_form P m w a f act (instr.EndFinish b) at alive = closing_form P m w a f act act.opened at alive
 instruction_form P m w a f act (instr.Print x) at alive = number_form P f.wrong (slot_at act x) _ (λ n. f.done act _ _ _ at alive)
 instruction_form P m w a f act (instr.Make k) at alive = put_form P f.wrong (slot_at act k) act k _ _ (λ x. f.made act x at alive)
 instruction_form P m w a f act (instr.Resume k) at alive = clock_form P f.wrong w a (slot_at act k) _ (λ c. f.done act _ _ _ at alive)

@@ -16,8 +16,8 @@ use Rattle.xk_types.specs.declared.unit.ParamKind.TheVariants as param
 use Rattle.xk_types.specs.declared.rules.Kind.{Kind}
 use Rattle.xk_types.specs.Code.{UnitValue, ModuleValue, clock_arguments, IsUnitWithinLimits, IsWithinLimits}
 use Rattle.xk_types.specs.Order.{Has}
-use Rattle.xk_types.specs.World.{Frame, Activity, root, slots_of, frame_with}
-use Rattle.xk_types.specs.Step.{governing, child, names_clock, is_given}
+use Rattle.xk_types.specs.World.{Frame, Activity, slots_of, frame_with}
+use Rattle.xk_types.specs.Step.{child, names_clock, is_given}
 use Rattle.xk_types.specs.Shape.{HasShape, has_twice}
 use Rattle.xk_types.specs.Walk.{entry_of, IsVisited, MayBecome, across}
 use Rattle.xk_types.specs.declared.rules.Kind.TheVariants as kind
@@ -104,7 +104,7 @@ abbrev pub new_look : (ℕ → Standing) → List Value → ℕ → Kind
 new_look stands values k = kind_by (cond (is_given values k) (stands k) standing.Apart)
 
 -- a clock that it is given has the kind that its name has for the starter
-look_given : (stands : ℕ → Standing) (values : List Value) (s k : ℕ) → slice_get values s ≡ Some (value.Clock k) → new_look stands values k ≡ kind_by (stands k)
+pub look_given : (stands : ℕ → Standing) (values : List Value) (s k : ℕ) → slice_get values s ≡ Some (value.Clock k) → new_look stands values k ≡ kind_by (stands k)
 look_given stands values s k h =
     ap (λ b. kind_by (cond b (stands k) standing.Apart)) (any_given (names_clock k) values s (value.Clock k) h (eq-eqb k k refl))
 
@@ -196,10 +196,6 @@ frame_begun m limits shape stands look clocks u g sound t v found args once valu
 
 -- ---- the new activity
 
--- the finish that governs it is main's, where its starter has none open
-governed_root : (a : ℕ) (act : Activity) → act.opened ≡ 0 → act.governed ≡ root → governing a act ≡ root
-governed_root a act none' e = rw (eq-eqb act.opened 0 none') e
-
 -- it begins sound
 pub child_sound : (m : ModuleValue) → IsWithinLimits m → HasShape m → (stands : ℕ → Standing) (clocks then' now a : ℕ) (was : Activity) → then' ≤ now
     → IsActivitySound m (λ k. kind_by (stands k)) clocks then' was
@@ -209,8 +205,6 @@ pub child_sound : (m : ModuleValue) → IsWithinLimits m → HasShape m → (sta
 child_sound m limits shape stands clocks then' now a was later me t v found args once values given =
     let b = frame_begun m limits shape stands (new_look stands values) clocks me.u was.frame me.frame t v found args once values given (look_given stands values) in
     record {
-      opened = refl;
-      governed = governed_root a was me.opened me.governed;
       since = omega (arith, me.since);
       u = v;
       unit = found;

@@ -1,5 +1,5 @@
 -- Each instruction of a running activity is a step that keeps the invariant.
-use Rattle.std.proofs.Common.{◌≡◌, ℕ, ◌+◌, ◌<◌, Bool, true, false, cond, ◌==◌, List, [], ◌∷◌, ◌++◌, length, set, ℤ, pos, ◌+ℤ◌, int_lt, Some, None, refl, sym, ap, ◌∙◌, subst, arith, ◌⊎◌, ◌≤◌, not, ltb-true, inl, inr}
+use Rattle.std.proofs.Common.{◌≡◌, ℕ, suc, ◌+◌, ◌<◌, Bool, true, false, cond, ◌==◌, List, [], ◌∷◌, ◌++◌, length, set, ℤ, pos, ◌+ℤ◌, int_lt, Some, None, refl, sym, ap, ◌∙◌, subst, arith, ◌⊎◌, ◌≤◌, not, ltb-true, inl, inr}
 use Rattle.std.specs.Prelude.{slice_get, nat_lt}
 use Rattle.std.specs.Int.{w64, int_wrapping_add, int_wrapping_sub, int_wrapping_mul}
 use Rattle.std.specs.Option.{option_map_or, option_and_then}
@@ -21,17 +21,18 @@ use Rattle.xk_types.specs.World.{Activity, World, standing_of, instruction_at, F
 use Rattle.xk_types.specs.Accepted.{IsAccepted}
 use Rattle.xk_types.specs.declared.names.Event.{Event}
 use Rattle.xk_types.specs.declared.names.Event.TheVariants as event
-use Rattle.xk_types.specs.Step.{Outcome, done, made, onward, going, again, with_slots, arrived, ended, none, only, all, resumed, dropped, number_in, clock_in, put_in, computing, turning, child, is_given, spawned, carried_out, run_at, new_clock, called, back_in, returning}
+use Rattle.xk_types.specs.Step.{Outcome, done, made, onward, going, again, with_slots, arrived, ended, none, only, all, resumed, dropped, number_in, clock_in, put_in, computing, turning, child, is_given, spawned, carried_out, run_at, new_clock, called, back_in, returning, awaits, innermost, closing}
 use Rattle.xk_types.specs.Order.{Has}
-use Rattle.xk_types.specs.Shape.{slots_named, slot_written, is_ret, takes_clock}
-use Rattle.xk_types.specs.Walk.{after, reads, may_read, loop_slot, writes, gives, becomes, MayBecome, successors, across, is_lent, is_own, overwritten, IsVisited}
+use Rattle.xk_types.specs.Shape.{slots_named, slot_written, is_ret}
+use Rattle.xk_types.specs.Blocks.{takes_clock, block_at, homes, is_here}
+use Rattle.xk_types.specs.Walk.{after, reads, may_read, loop_slot, writes, gives, becomes, MayBecome, successors, across, is_lent, is_own, overwritten, let_go, IsVisited}
 use Rattle.xk_types.specs.Bound.{steps_weight, clocks_weight}
 use Rattle.xk_laws.proofs.Invariant.{Each, Stands, IsActivitySound, IsSound, stands_on, looks, kind_by, kind_of, is_held, NamesNone, NamedIn, once_past, Waits, IsWaiting, AreWaiting, Names, Expects}
 use Rattle.xk_laws.proofs.Lists.{get_inside, get-set_other}
 use Rattle.xk_laws.proofs.Loops.{IsEnd}
 use Rattle.xk_laws.proofs.Turns.{IsTurn}
 use Rattle.xk_laws.proofs.Walks.{Allowed}
-use Rattle.xk_laws.proofs.Rows.{reads_row, writes_row, uses_row, gives_row, IsWritten, IsUsed, resumed_kind, resumed_held, over_row, gives_held}
+use Rattle.xk_laws.proofs.Rows.{reads_row, writes_row, uses_row, gives_row, IsWritten, IsUsed, resumed_kind, resumed_held, over_row, gives_held, let_go_row}
 use Rattle.xk_laws.proofs.Standings.{stands_on-push_old, stands_on-push_new, new_same}
 use Rattle.xk_laws.proofs.Measure.{GoesOn, IsTaken, paid_on, paid_arrive, paid_end, paid_start, owed_first, IsPaid, paid_call, paid_back}
 use Rattle.xk_laws.proofs.Steps.{IsNext, StandsNear, done_sound, made_sound, begun_sound, next_sound}
@@ -307,6 +308,40 @@ module _ (m : ModuleValue) (ok : IsAccepted m) (w : World) (a : ℕ) (was : Acti
       cases n holds false more = only_going i here (at + 1) (inl refl) (next_inside m (stands_on w.clocks a) (length w.clocks) w.steps was me.u i (at_it i here) refl) refl refl refl
           (λ s kd h. subst (λ r. MayBecome r kd) (sym (rows s kd h)) (inl refl)) (turn n (at + 1) was.frame.slots holds (inr (more, refl, refl)))
 
+  -- what a step leaves of the activity doesn't depend on how many finishes it has open
+  reopened : (act : Activity) (n : ℕ) → IsNext m me.u (looks w.clocks a) (length w.clocks) (w.steps + 1) was act
+      → IsNext m me.u (looks w.clocks a) (length w.clocks) (w.steps + 1) was (record act { opened = n })
+  reopened act n next = record {
+    unit = next.unit;
+    callers = next.callers;
+    since = next.since;
+    frame = next.frame;
+    kinds = next.kinds;
+    advance = next.advance;
+    held = next.held;
+    waiting = next.waiting;
+    alone = next.alone;
+  }
+
+  -- an instruction that goes on, with so many finishes open
+  border_moves : (i : Instr) → Here i → (n : ℕ) (e : Event) → is_ret i ≡ false → Has (successors i was.frame.place) (was.frame.place + 1) → steps_weight i ≡ 1 → clocks_weight i ≡ 0 → unit_run i ≡ None
+      → GoesOn me.u i was (onward was) → ((s : ℕ) (k : Kind) → Allowed (after m me.u i s k) → MayBecome (after m me.u i s k) k) → Moves m (done w a (record (onward was) { opened = n }) none e)
+  border_moves i here n e other on one zero' alone goes rows = local_moves i here (record (onward was) { opened = n }) one zero' alone refl refl goes
+      (reopened (onward was) n (leaving m (stands_on w.clocks a) (length w.clocks) w.steps was me.u i (at_it i here) other on rows)) e
+
+  -- `finish`
+  finish_moves : (e : ℕ) → Here (instr.Finish e) → Moves m (carried_out m w a was (instr.Finish e))
+  finish_moves e here = border_moves (instr.Finish e) here (was.opened + 1) event.Opened refl (inl refl) refl refl refl (refl, λ s differs. refl) (λ s k h. inl refl)
+
+  -- `endfinish`, where nobody is awaited
+  close_moves : (b n : ℕ) → Here (instr.EndFinish b) → was.opened ≡ suc n → awaits w.activities (innermost a was) ≡ false → Moves m (carried_out m w a was (instr.EndFinish b))
+  close_moves b n here some free = subst (λ k. Moves m (closing w a was k)) (sym some) (rw free
+      (border_moves (instr.EndFinish b) here n event.Closed refl (inl refl) refl refl refl (refl, λ s differs. refl) (λ s k h. row (is_here (block_at me.u (b + 1)) (homes me.u s)) k h)))
+    where
+      row : (x : Bool) (k : Kind) → Allowed (cond x (let_go k (becomes k)) (becomes k)) → MayBecome (cond x (let_go k (becomes k)) (becomes k)) k
+      row true k h = let_go_row k h
+      row false k h = inl refl
+
   -- `print`
   print_moves : (x : ℕ) → Here (instr.Print x) → Moves m (carried_out m w a was (instr.Print x))
   print_moves x here =
@@ -418,8 +453,6 @@ module _ (m : ModuleValue) (ok : IsAccepted m) (w : World) (a : ℕ) (was : Acti
   back_moves : Here instr.Ret → (f : Frame) (fs : List Frame) → was.callers ≡ f ∷ fs → Moves m (done w a (back_in was f fs) none event.Local)
   back_moves here f fs under = frames_move (back_in was f fs) refl refl
       (record {
-        opened = me.opened;
-        governed = me.governed;
         since = (let h = me.since in omega arith);
         u = top.u;
         unit = top.found;
@@ -470,8 +503,6 @@ module _ (m : ModuleValue) (ok : IsAccepted m) (w : World) (a : ℕ) (was : Acti
       → AreGiven (stands_on w.clocks a) was.frame.slots r.v.params args values → Moves m (done w a (called m was t values) none event.Local)
   called_moves t args here r values given = frames_move (called m was t values) refl refl
       (record {
-        opened = me.opened;
-        governed = me.governed;
         since = (let h = me.since in omega arith);
         u = r.v;
         unit = r.found;
@@ -571,28 +602,40 @@ module _ (m : ModuleValue) (ok : IsAccepted m) (w : World) (a : ℕ) (was : Acti
       (row_allowed m (stands_on w.clocks a) (length w.clocks) w.steps was me.u i c z v at))
       (λ values given. started_moves t args here s values given))
 
-  -- every instruction is a step
-  instruction_moves : (i : Instr) → Here i → Moves m (carried_out m w a was i)
-  instruction_moves (instr.Lit d n) here = lit_moves d n here
-  instruction_moves (instr.Copy d x) here = copy_moves d x here
-  instruction_moves (instr.Add d x y) here = computing_moves (instr.Add d x y) here (int_wrapping_add w64) d x y refl refl refl (inl refl) refl refl refl (λ s k. refl) (λ n. (refl, others_stay d (value.Number n)))
-  instruction_moves (instr.Sub d x y) here = computing_moves (instr.Sub d x y) here (int_wrapping_sub w64) d x y refl refl refl (inl refl) refl refl refl (λ s k. refl) (λ n. (refl, others_stay d (value.Number n)))
-  instruction_moves (instr.Mul d x y) here = computing_moves (instr.Mul d x y) here (int_wrapping_mul w64) d x y refl refl refl (inl refl) refl refl refl (λ s k. refl) (λ n. (refl, others_stay d (value.Number n)))
-  instruction_moves (instr.Unless op x y t) here = unless_moves op x y t here
-  instruction_moves (instr.Jump t) here = jump_moves t here
-  instruction_moves (instr.For k lo hi e) here = for_moves k lo hi e here
-  instruction_moves (instr.Next b) here = next_moves b here
-  instruction_moves (instr.Print x) here = print_moves x here
-  instruction_moves (instr.Make d) here = make_moves d here
-  instruction_moves (instr.Resume x) here = resume_moves x here
-  instruction_moves (instr.Drop x) here = drop_moves x here
-  instruction_moves instr.Advance here = advance_moves here
-  instruction_moves (instr.Call t args) here = call_moves t args here
-  instruction_moves (instr.Spawn t args) here = spawn_moves t args here
-  instruction_moves instr.Ret here = ret_moves here
+  -- nothing keeps an instruction back: at an `endfinish` a finish is open, and nobody is awaited
+  abbrev pub IsFree : Instr → Type 0
+  IsFree (instr.EndFinish b) = (n : ℕ) × (was.opened ≡ suc n) × (awaits w.activities (innermost a was) ≡ false)
+  IsFree _ = Unit {0}
 
-  -- an activity that runs takes a step
-  pub running_moves : Moves m (run_at m w a was (instruction_at m was.frame))
-  running_moves =
-      let i = get_inside me.u.code was.frame.place me.frame.place in
-      subst (λ o. Moves m (run_at m w a was o)) (sym (ap (option_and_then (λ unit. slice_get unit.code was.frame.place)) me.unit ∙ i.1)) (instruction_moves i.0 i.1)
+  -- every instruction that nothing keeps back is a step
+  instruction_moves : (i : Instr) → Here i → IsFree i → Moves m (carried_out m w a was i)
+  instruction_moves (instr.Lit d n) here free = lit_moves d n here
+  instruction_moves (instr.Copy d x) here free = copy_moves d x here
+  instruction_moves (instr.Add d x y) here free = computing_moves (instr.Add d x y) here (int_wrapping_add w64) d x y refl refl refl (inl refl) refl refl refl (λ s k. refl) (λ n. (refl, others_stay d (value.Number n)))
+  instruction_moves (instr.Sub d x y) here free = computing_moves (instr.Sub d x y) here (int_wrapping_sub w64) d x y refl refl refl (inl refl) refl refl refl (λ s k. refl) (λ n. (refl, others_stay d (value.Number n)))
+  instruction_moves (instr.Mul d x y) here free = computing_moves (instr.Mul d x y) here (int_wrapping_mul w64) d x y refl refl refl (inl refl) refl refl refl (λ s k. refl) (λ n. (refl, others_stay d (value.Number n)))
+  instruction_moves (instr.Unless op x y t) here free = unless_moves op x y t here
+  instruction_moves (instr.Jump t) here free = jump_moves t here
+  instruction_moves (instr.For k lo hi e) here free = for_moves k lo hi e here
+  instruction_moves (instr.Next b) here free = next_moves b here
+  instruction_moves (instr.Finish e) here free = finish_moves e here
+  instruction_moves (instr.EndFinish b) here free = close_moves b free.0 here free.1 free.2
+  instruction_moves (instr.Print x) here free = print_moves x here
+  instruction_moves (instr.Make d) here free = make_moves d here
+  instruction_moves (instr.Resume x) here free = resume_moves x here
+  instruction_moves (instr.Drop x) here free = drop_moves x here
+  instruction_moves instr.Advance here free = advance_moves here
+  instruction_moves (instr.Call t args) here free = call_moves t args here
+  instruction_moves (instr.Spawn t args) here free = spawn_moves t args here
+  instruction_moves instr.Ret here free = ret_moves here
+
+  -- the instruction that it stands at
+  pub standing_at : (i : Instr) × Here i
+  standing_at = get_inside me.u.code was.frame.place me.frame.place
+
+  pub instruction_found : (i : Instr) → Here i → instruction_at m was.frame ≡ Some i
+  instruction_found i here = ap (option_and_then (λ unit. slice_get unit.code was.frame.place)) me.unit ∙ here
+
+  -- an activity that runs takes a step, where nothing keeps it back
+  pub running_moves : (i : Instr) → Here i → IsFree i → Moves m (run_at m w a was (instruction_at m was.frame))
+  running_moves i here free = subst (λ o. Moves m (run_at m w a was o)) (sym (instruction_found i here)) (instruction_moves i here free)

@@ -14,7 +14,7 @@ use Rattle.xk_types.specs.declared.rules.Kind.TheVariants as kind
 use Rattle.xk_types.specs.declared.unit.ParamKind.{ParamKind}
 use Rattle.xk_types.specs.declared.unit.ParamKind.TheVariants as param
 use Rattle.xk_types.specs.Code.{UnitValue, ModuleValue, IsWithinLimits, unit_run, is_method}
-use Rattle.xk_types.specs.World.{Frame, Activity, Clock, World, root, standing_of, is_ended}
+use Rattle.xk_types.specs.World.{Frame, Activity, Clock, World, standing_of, is_ended}
 use Rattle.xk_types.specs.Step.{is_ready}
 use Rattle.xk_types.specs.Walk.{IsVisited, awake, is_lent}
 pub use Rattle.xk_types.specs.Kinds.{stands_on, kind_by, kind_of}
@@ -134,8 +134,6 @@ AreWaiting m look st clocks g (f ∷ fs) = IsWaiting m look st clocks g f fs × 
 
 -- an activity, by the kinds of clocks' names for it, the number of clocks and the number of steps
 pub record IsActivitySound (m : ModuleValue) (look : ℕ → Kind) (clocks now : ℕ) (act : Activity) : Type 0 where
-  pub opened : act.opened ≡ 0
-  pub governed : act.governed ≡ root
   pub since : act.since ≤ now
   pub u : UnitValue
   pub unit : slice_get m.units act.frame.unit ≡ Some u

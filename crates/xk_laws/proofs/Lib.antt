@@ -1,4 +1,7 @@
+pub mod Begun
 pub mod Loops
+pub mod Finishes
+pub mod Blocks
 pub mod Turns
 pub mod Invariant
 pub mod Lists
@@ -10,12 +13,15 @@ pub mod Totals
 pub mod Rows
 pub mod Measure
 pub mod Steps
+pub mod Scopes
 pub mod Given
 pub mod Callers
 pub mod Operands
 pub mod Running
 pub mod Waiting
 pub mod Instructions
+pub mod ScopeSteps
+pub mod Under
 pub mod Progress
 pub mod Opening
 pub mod Forms

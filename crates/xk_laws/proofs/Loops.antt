@@ -1,5 +1,5 @@
 -- What the rules on shape say of the loops of a unit.
-use Rattle.std.proofs.Common.{◌≡◌, ℕ, zero, suc, ◌+◌, ◌<◌, ◌==◌, ℤ, int_lt, int_le, Bool, true, false, not, ◌&&◌, List, [], ◌∷◌, length, Option, Some, None, inl, inr, refl, sym, ap, ◌∙◌, subst, arith, ltb-true, eqb-true, true≢false, option_and_then}
+use Rattle.std.proofs.Common.{◌≡◌, ℕ, ◌+◌, ◌<◌, ◌==◌, ℤ, int_lt, int_le, Bool, true, false, not, ◌&&◌, List, [], ◌∷◌, length, Option, Some, None, inl, inr, refl, sym, ap, ◌∙◌, subst, arith, ltb-true, eqb-true, true≢false, option_and_then, option_map, map, ◌++◌}
 use Rattle.std.specs.Prelude.{slice_get, nat_lt, if◌then◌else◌}
 use Rattle.std.specs.Option.{option_map_or}
 use Rattle.std.specs.List.{list_any}
@@ -8,9 +8,11 @@ use Rattle.std.proofs.lemmas.Int.{ints}
 use Rattle.std.proofs.lemmas.Option.{none-some, same_Some, cond_some}
 use Rattle.xk_types.specs.declared.instr.Instr.{Instr}
 use Rattle.xk_types.specs.declared.instr.Instr.TheVariants as instr
-use Rattle.xk_types.specs.Code.{UnitValue, Loop, is_next_of, loop_begun, loops_from, loops, is_round, is_within}
+use Rattle.xk_types.specs.Code.{UnitValue, Loop, is_next_of, loop_begun, loops, is_round, is_within}
+use Rattle.xk_types.specs.Blocks.{Span, is_end_of, finishes, is_inside}
 use Rattle.xk_types.specs.Order.{Has}
-use Rattle.xk_types.specs.Shape.{instr_is, slot_written, target, lies_ahead, aims_well, breaks_target, overlaps, loop_ended, is_amiss, differ, crosses, is_crossing, breaks_block, is_backward, writes_slot, breaks_loop}
+use Rattle.xk_laws.proofs.Begun.{Rising, begun_found, begun_had, begun_rise}
+use Rattle.xk_types.specs.Shape.{instr_is, slot_written, target, lies_ahead, aims_well, breaks_target, span_of, span_begun, spans, overlaps, span_ended, is_amiss, differ, crosses, is_crossing, breaks_block, is_backward, writes_slot, breaks_loop}
 
 -- ---- what holds of them
 
@@ -33,16 +35,12 @@ pub record IsEnd (u : UnitValue) (b e : ℕ) : Type 0 where
   pub for : slice_get u.code b ≡ Some (instr.For k lo hi e)
   pub ahead : b < e
 
--- A jump from place p to place t goes ahead, and leaves or enters no loop. It may end at a loop's `next`.
+-- A jump from place p to place t goes ahead, and leaves or enters no loop and no finish. It may end at the last instruction of one.
 pub record IsKept (u : UnitValue) (p t : ℕ) : Type 0 where
   pub ahead : p < t
   pub inside : t < length u.code
   pub same : (l : Loop) → Has (loops u) l → is_within p l ≡ is_round t l
-
--- each loop begins ahead of those behind it in the list
-abbrev pub Rising : List Loop → Type 0
-Rising [] = Unit {0}
-Rising (l ∷ ls) = ((k : Loop) → Has ls k → l.first < k.first) × Rising ls
+  pub finishes : (f : Span) → Has (finishes u) f → (nat_lt f.first p && nat_lt p f.last) ≡ is_inside t f
 
 -- the loops of a unit that breaks no rule on shape
 pub record AreLoops (u : UnitValue) : Type 0 where
@@ -52,8 +50,8 @@ pub record AreLoops (u : UnitValue) : Type 0 where
   pub ended : (b e : ℕ) → slice_get u.code e ≡ Some (instr.Next b) → IsEnd u b e
   pub is : (l : Loop) → Has (loops u) l → IsLoop u l
   -- they nest, or lie apart
-  pub apart : (l k : Loop) → Has (loops u) l → Has (loops u) k → overlaps l k ≡ false
-  pub rising : Rising (loops u)
+  pub apart : (l k : Loop) → Has (loops u) l → Has (loops u) k → overlaps (span_of l) (span_of k) ≡ false
+  pub rising : Rising (λ l. l.first) (loops u)
   -- jumps stay in the loops that they stand in
   pub kept : (i : Instr) (p t : ℕ) → slice_get u.code p ≡ Some i → target i ≡ Some t → IsKept u p t
   -- no instruction in a loop writes its slot
@@ -62,7 +60,7 @@ pub record AreLoops (u : UnitValue) : Type 0 where
 -- ---- what begins a loop
 
 -- instruction i at place `at` is the `for` of the loop, and its `next` names it
-record Begins (u : UnitValue) (at : ℕ) (i : Instr) (l : Loop) : Type 0 where
+pub record Begins (u : UnitValue) (at : ℕ) (i : Instr) (l : Loop) : Type 0 where
   pub is : i ≡ instr.For l.slot l.lo l.hi l.last
   pub first : l.first ≡ at
   pub next : slice_get u.code l.last ≡ Some (instr.Next at)
@@ -74,73 +72,55 @@ next_is first (Some (instr.Next b)) h = ap (λ n. Some (instr.Next n)) (eqb-true
 next_is first (Some _) h = absurd (false≢true h)
 
 -- what `loop_begun` finds
-begins : (u : UnitValue) (at : ℕ) (i : Instr) (l : Loop) → loop_begun u at i ≡ Some l → Begins u at i l
+pub begins : (u : UnitValue) (at : ℕ) (i : Instr) (l : Loop) → loop_begun u at i ≡ Some l → Begins u at i l
 begins u at (instr.For k lo hi e) l h =
     let p = cond_some (is_next_of at (slice_get u.code e)) (loop_of at k lo hi e) l h in
     subst (Begins u at (instr.For k lo hi e)) p.1 (record { is = refl; first = refl; next = next_is at (slice_get u.code e) p.0 })
 begins u at _ l h = absurd (none-some l h)
 
--- an element of the list of loops, and the instruction that begins it
-record IsFound (u : UnitValue) (at : ℕ) (is : List Instr) (l : Loop) : Type 0 where
-  pub j : ℕ
-  pub i : Instr
-  pub found : slice_get is j ≡ Some i
-  pub begins : Begins u (at + j) i l
-
--- each element of the list is begun by an instruction
-loop_found : (u : UnitValue) (at : ℕ) (is : List Instr) (l : Loop) → Has (loops_from u at is) l → IsFound u at is l
-loop_found u at [] l h = absurd h
-loop_found u at (i ∷ is) l h = go (loop_begun u at i) refl (loop_found u (suc at) is l) h
-  where
-    go : (o : Option Loop) → loop_begun u at i ≡ o → (Has (loops_from u (suc at) is) l → IsFound u (suc at) is l)
-        → Has (option_map_or (λ k. k ∷ loops_from u (suc at) is) o (loops_from u (suc at) is)) l → IsFound u at (i ∷ is) l
-    go None e later g =
-        let r = later g in
-        let same : suc at + r.j ≡ at + suc r.j = omega arith in
-        record { j = suc r.j; i = r.i; found = r.found; begins = subst (λ n. Begins u n r.i l) same r.begins }
-    go (Some k) e later (inl q) =
-        let same : at ≡ at + 0 = omega arith in
-        record { j = 0; i = i; found = refl; begins = subst (λ n. Begins u n i l) same (begins u at i l (e ∙ ap Some q)) }
-    go (Some k) e later (inr g) =
-        let r = later g in
-        let same : suc at + r.j ≡ at + suc r.j = omega arith in
-        record { j = suc r.j; i = r.i; found = r.found; begins = subst (λ n. Begins u n r.i l) same r.begins }
-
--- what an instruction begins is an element
-loop_had : (u : UnitValue) (at : ℕ) (is : List Instr) (j n : ℕ) (i : Instr) (l : Loop) → slice_get is j ≡ Some i → n ≡ at + j → loop_begun u n i ≡ Some l → Has (loops_from u at is) l
-loop_had u at [] j n i l h e g = absurd (none-some i h)
-loop_had u at (x ∷ is) zero n i l h e g =
-    let same : n ≡ at = omega arith in
-    subst (λ o. Has (option_map_or (λ k. k ∷ loops_from u (suc at) is) o (loops_from u (suc at) is)) l)
-    (sym (ap (loop_begun u at) (same_Some x i h) ∙ ap (λ m. loop_begun u m i) (sym same) ∙ g)) (inl refl)
-loop_had u at (x ∷ is) (suc j) n i l h e g = go (loop_begun u at x) (loop_had u (suc at) is j n i l h (omega arith) g)
-  where
-    go : (o : Option Loop) → Has (loops_from u (suc at) is) l → Has (option_map_or (λ k. k ∷ loops_from u (suc at) is) o (loops_from u (suc at) is)) l
-    go None r = r
-    go (Some k) r = inr r
-
--- they rise
-loops_rise : (u : UnitValue) (at : ℕ) (is : List Instr) → Rising (loops_from u at is)
-loops_rise u at [] = tt
-loops_rise u at (i ∷ is) = go (loop_begun u at i) refl (loops_rise u (suc at) is)
-  where
-    go : (o : Option Loop) → loop_begun u at i ≡ o → Rising (loops_from u (suc at) is)
-        → Rising (option_map_or (λ k. k ∷ loops_from u (suc at) is) o (loops_from u (suc at) is))
-    go None e r = r
-    go (Some l) e r = ((λ k h. (let f = loop_found u (suc at) is k h in omega (arith, f.begins.first, (begins u at i l e).first))), r)
+-- where a loop begins
+begins_first : (u : UnitValue) (at : ℕ) (i : Instr) (l : Loop) → loop_begun u at i ≡ Some l → l.first ≡ at
+begins_first u at i l h = (begins u at i l h).first
 
 -- ---- from the rules
 
 -- no element passes a test that none passes
-none_has : {X : Type 0} (test : X → Bool) (xs : List X) (x : X) → list_any test xs ≡ false → Has xs x → test x ≡ false
+pub none_has : {X : Type 0} (test : X → Bool) (xs : List X) (x : X) → list_any test xs ≡ false → Has xs x → test x ≡ false
 none_has test [] x h g = absurd g
 none_has test (y ∷ xs) x h (inl e) = subst (λ z. test z ≡ false) e (or_parts (test y) (list_any test xs) h).0
 none_has test (y ∷ xs) x h (inr g) = none_has test xs x (or_parts (test y) (list_any test xs) h).1 g
 
--- a loop that isn't amiss is one, and overlaps none
-not_amiss : (u : UnitValue) (o : Option Loop) → is_amiss u o ≡ false → (l : Loop) × (o ≡ Some l) × (list_any (overlaps l) (loops u) ≡ false)
+-- a span that isn't amiss is one, and overlaps none
+pub not_amiss : (u : UnitValue) (o : Option Span) → is_amiss u o ≡ false → (s : Span) × (o ≡ Some s) × (list_any (overlaps s) (spans u) ≡ false)
 not_amiss u None h = absurd (true≢false h)
-not_amiss u (Some l) h = (l, refl, h)
+not_amiss u (Some s) h = (s, refl, h)
+
+-- the span of a loop, if there is one
+pub of_loop : (o : Option Loop) (s : Span) → option_map span_of o ≡ Some s → (l : Loop) × (o ≡ Some l) × (span_of l ≡ s)
+of_loop None s h = absurd (none-some s h)
+of_loop (Some l) s h = (l, refl, same_Some (span_of l) s h)
+
+-- an element of two lists
+has_left : {X : Type 0} (xs ys : List X) (x : X) → Has xs x → Has (xs ++ ys) x
+has_left [] ys x h = absurd h
+has_left (z ∷ xs) ys x (inl e) = inl e
+has_left (z ∷ xs) ys x (inr h) = inr (has_left xs ys x h)
+
+has_right : {X : Type 0} (xs ys : List X) (x : X) → Has ys x → Has (xs ++ ys) x
+has_right [] ys x h = h
+has_right (z ∷ xs) ys x h = inr (has_right xs ys x h)
+
+has_map : {X Y : Type 0} (f : X → Y) (xs : List X) (x : X) → Has xs x → Has (map f xs) (f x)
+has_map f [] x h = absurd h
+has_map f (y ∷ xs) x (inl e) = inl (ap f e)
+has_map f (y ∷ xs) x (inr h) = inr (has_map f xs x h)
+
+-- loops and finishes are spans
+pub loop_span : (u : UnitValue) (l : Loop) → Has (loops u) l → Has (spans u) (span_of l)
+loop_span u l h = has_left (map span_of (loops u)) (finishes u) (span_of l) (has_map span_of (loops u) l h)
+
+pub finish_span : (u : UnitValue) (f : Span) → Has (finishes u) f → Has (spans u) f
+finish_span u f h = has_right (map span_of (loops u)) (finishes u) f h
 
 -- two tests that don't differ are one
 not_differ : (p q : Bool) → differ p q ≡ false → p ≡ q
@@ -155,10 +135,10 @@ in_order lo hi h = grind (arith, ints)
 
 module _ (u : UnitValue) (targets : (at : ℕ) → breaks_target u at ≡ false) (blocks : (at : ℕ) → breaks_block u at ≡ false) (kinds : (at : ℕ) → breaks_loop u at ≡ false) where
   -- the three rules at an instruction
-  aims : (at : ℕ) (i : Instr) → slice_get u.code at ≡ Some i → aims_well u at i ≡ true
+  pub aims : (at : ℕ) (i : Instr) → slice_get u.code at ≡ Some i → aims_well u at i ≡ true
   aims at i here = not-false (aims_well u at i) (ap (instr_is (λ x. not (aims_well u at x))) (sym here) ∙ targets at)
 
-  uncrossing : (at : ℕ) (i : Instr) → slice_get u.code at ≡ Some i → is_crossing u at i ≡ false
+  pub uncrossing : (at : ℕ) (i : Instr) → slice_get u.code at ≡ Some i → is_crossing u at i ≡ false
   uncrossing at i here = ap (instr_is (is_crossing u at)) (sym here) ∙ blocks at
 
   forward : (at : ℕ) (i : Instr) → slice_get u.code at ≡ Some i → is_backward i ≡ false
@@ -170,13 +150,16 @@ module _ (u : UnitValue) (targets : (at : ℕ) → breaks_target u at ≡ false)
       ∙ (or_parts (instr_is is_backward (slice_get u.code at)) (instr_is (λ x. list_any (λ l. is_within at l && writes_slot l.slot x) (loops u)) (slice_get u.code at)) (kinds at)).1
 
   -- what lies ahead
-  ahead : (at t : ℕ) → lies_ahead u at t ≡ true → (at < t) × (t < length u.code)
+  pub ahead : (at t : ℕ) → lies_ahead u at t ≡ true → (at < t) × (t < length u.code)
   ahead at t h = let p = and_parts (nat_lt at t) (nat_lt t (length u.code)) h in (ltb-true at t p.0, ltb-true t (length u.code) p.1)
 
   -- each `for` begins a loop
   begun_at : (b k e : ℕ) (lo hi : ℤ) → slice_get u.code b ≡ Some (instr.For k lo hi e)
-      → (l : Loop) × (loop_begun u b (instr.For k lo hi e) ≡ Some l) × (list_any (overlaps l) (loops u) ≡ false)
-  begun_at b k e lo hi here = not_amiss u (loop_begun u b (instr.For k lo hi e)) (uncrossing b (instr.For k lo hi e) here)
+      → (l : Loop) × (loop_begun u b (instr.For k lo hi e) ≡ Some l) × (list_any (overlaps (span_of l)) (spans u) ≡ false)
+  begun_at b k e lo hi here =
+      let g = not_amiss u (span_begun u b (instr.For k lo hi e)) (uncrossing b (instr.For k lo hi e) here) in
+      let l = of_loop (loop_begun u b (instr.For k lo hi e)) g.0 g.1 in
+      (l.0, l.1, subst (λ s. list_any (overlaps s) (spans u) ≡ false) (sym l.2) g.2)
 
   -- that one
   begun_is : (b k e : ℕ) (lo hi : ℤ) → slice_get u.code b ≡ Some (instr.For k lo hi e) → loop_begun u b (instr.For k lo hi e) ≡ Some (loop_of b k lo hi e)
@@ -187,57 +170,76 @@ module _ (u : UnitValue) (targets : (at : ℕ) → breaks_target u at ≡ false)
 
   -- and it is among the loops
   begun_has : (b k e : ℕ) (lo hi : ℤ) → slice_get u.code b ≡ Some (instr.For k lo hi e) → Has (loops u) (loop_of b k lo hi e)
-  begun_has b k e lo hi here = loop_had u 0 u.code b b (instr.For k lo hi e) (loop_of b k lo hi e) here (omega arith) (begun_is b k e lo hi here)
+  begun_has b k e lo hi here = begun_had (loop_begun u) 0 u.code b b (instr.For k lo hi e) (loop_of b k lo hi e) here (omega arith) (begun_is b k e lo hi here)
+
+  -- the instruction at the end of a span that begins at place b
+  abbrev pub EndsSpan : ℕ → ℕ → Instr → Span → Type 0
+  EndsSpan b e i s = option_and_then (λ l. if l.last == e then Some l else None) (span_begun u b i) ≡ Some s
+
+  -- it is the end of a loop, where a `next` stands there
+  next_ends : (b e : ℕ) (i : Instr) (s : Span) → slice_get u.code e ≡ Some (instr.Next b) → slice_get u.code b ≡ Some i → EndsSpan b e i s → IsEnd u b e
+  next_ends b e (instr.For k lo hi x) s here f g = inner (loop_begun u b (instr.For k lo hi x)) refl g
+    where
+      inner : (o : Option Loop) → loop_begun u b (instr.For k lo hi x) ≡ o → option_and_then (λ l. if l.last == e then Some l else None) (option_map span_of o) ≡ Some s → IsEnd u b e
+      inner None q r = absurd (none-some s r)
+      inner (Some l) q r =
+          let is = begins u b (instr.For k lo hi x) l q in
+          let last = eqb-true l.last e (cond_some (l.last == e) (span_of l) s r).0 in
+          record {
+            k = l.slot;
+            lo = l.lo;
+            hi = l.hi;
+            for = f ∙ ap Some is.is ∙ ap (λ n. Some (instr.For l.slot l.lo l.hi n)) last;
+            ahead = ltb-true b e (aims e (instr.Next b) here);
+          }
+  next_ends b e (instr.Finish x) s here f g = inner (is_end_of b (slice_get u.code x)) refl g
+    where
+      inner : (t : Bool) → is_end_of b (slice_get u.code x) ≡ t
+          → option_and_then (λ l. if l.last == e then Some l else None) (if t then Some (record { first = b; last = x }) else None) ≡ Some s → IsEnd u b e
+      inner true q r =
+          let last = eqb-true x e (cond_some (x == e) (record { first = b; last = x }) s r).0 in
+          absurd (false≢true (sym (ap (is_end_of b) (ap (slice_get u.code) last ∙ here)) ∙ q))
+      inner false q r = absurd (none-some s r)
+  next_ends b e _ s here f g = absurd (none-some s g)
 
   -- each `next` ends one
   ended_at : (b e : ℕ) → slice_get u.code e ≡ Some (instr.Next b) → IsEnd u b e
-  ended_at b e here = go (slice_get u.code b) refl (not_amiss u (loop_ended u e b (slice_get u.code b)) (uncrossing e (instr.Next b) here))
+  ended_at b e here = go (slice_get u.code b) refl (not_amiss u (span_ended u e b (slice_get u.code b)) (uncrossing e (instr.Next b) here))
     where
-      go : (o : Option Instr) → slice_get u.code b ≡ o → (l : Loop) × (loop_ended u e b o ≡ Some l) × (list_any (overlaps l) (loops u) ≡ false) → IsEnd u b e
+      go : (o : Option Instr) → slice_get u.code b ≡ o → (s : Span) × (span_ended u e b o ≡ Some s) × (list_any (overlaps s) (spans u) ≡ false) → IsEnd u b e
       go None f g = absurd (none-some g.0 g.1)
-      go (Some i) f g = inner (loop_begun u b i) refl g.1
-        where
-          inner : (o : Option Loop) → loop_begun u b i ≡ o → option_and_then (λ l. if l.last == e then Some l else None) o ≡ Some g.0 → IsEnd u b e
-          inner None q r = absurd (none-some g.0 r)
-          inner (Some l) q r =
-              let s = begins u b i l q in
-              let last = eqb-true l.last e (cond_some (l.last == e) l g.0 r).0 in
-              record {
-                k = l.slot;
-                lo = l.lo;
-                hi = l.hi;
-                for = f ∙ ap Some s.is ∙ ap (λ n. Some (instr.For l.slot l.lo l.hi n)) last;
-                ahead = ltb-true b e (aims e (instr.Next b) here);
-              }
+      go (Some i) f g = next_ends b e i g.0 here f g.1
 
   -- what each loop is
-  is_loop : (l : Loop) → Has (loops u) l → IsLoop u l
+  pub is_loop : (l : Loop) → Has (loops u) l → IsLoop u l
   is_loop l h =
-      let f = loop_found u 0 u.code l h in
-      let place : f.j ≡ l.first = omega (arith, f.begins.first) in
+      let f = begun_found (loop_begun u) 0 u.code l h in
+      let g = begins u (0 + f.j) f.i l f.begins in
+      let place : f.j ≡ l.first = omega (arith, g.first) in
       let same : 0 + f.j ≡ l.first = omega arith in
-      let for : slice_get u.code l.first ≡ Some (instr.For l.slot l.lo l.hi l.last) = ap (slice_get u.code) (sym place) ∙ f.found ∙ ap Some f.begins.is in
+      let for : slice_get u.code l.first ≡ Some (instr.For l.slot l.lo l.hi l.last) = ap (slice_get u.code) (sym place) ∙ f.found ∙ ap Some g.is in
       record {
         for = for;
-        next = subst (λ n. slice_get u.code l.last ≡ Some (instr.Next n)) same f.begins.next;
+        next = subst (λ n. slice_get u.code l.last ≡ Some (instr.Next n)) same g.next;
         ahead = (ahead l.first l.last (aims l.first (instr.For l.slot l.lo l.hi l.last) for)).0;
         order = in_order l.lo l.hi (forward l.first (instr.For l.slot l.lo l.hi l.last) for);
       }
 
-  -- none overlaps another
-  none_overlaps : (l k : Loop) → Has (loops u) l → Has (loops u) k → overlaps l k ≡ false
-  none_overlaps l k h g =
+  -- none overlaps a loop or a finish
+  pub loop_apart : (l : Loop) (s : Span) → Has (loops u) l → Has (spans u) s → overlaps (span_of l) s ≡ false
+  loop_apart l s h g =
       let for = (is_loop l h).for in
       let b = begun_at l.first l.slot l.last l.lo l.hi for in
       let same : b.0 ≡ l = same_Some b.0 l (sym b.1 ∙ begun_is l.first l.slot l.last l.lo l.hi for) in
-      subst (λ x. overlaps x k ≡ false) same (none_has (overlaps b.0) (loops u) k b.2 g)
+      subst (λ x. overlaps (span_of x) s ≡ false) same (none_has (overlaps (span_of b.0)) (spans u) s b.2 g)
 
-  -- jumps keep to their loops
-  kept_at : (i : Instr) (p t : ℕ) → slice_get u.code p ≡ Some i → target i ≡ Some t → lies_ahead u p t ≡ true → list_any (crosses p t) (loops u) ≡ false → IsKept u p t
+  -- jumps keep to their loops and finishes
+  kept_at : (i : Instr) (p t : ℕ) → slice_get u.code p ≡ Some i → target i ≡ Some t → lies_ahead u p t ≡ true → list_any (crosses p t) (spans u) ≡ false → IsKept u p t
   kept_at i p t here e aim cross = record {
     ahead = (ahead p t aim).0;
     inside = (ahead p t aim).1;
-    same = λ l h. not_differ (is_within p l) (is_round t l) (none_has (crosses p t) (loops u) l cross h);
+    same = λ l h. not_differ (is_within p l) (is_round t l) (none_has (crosses p t) (spans u) (span_of l) cross (loop_span u l h));
+    finishes = λ f h. not_differ (nat_lt f.first p && nat_lt p f.last) (is_inside t f) (none_has (crosses p t) (spans u) f cross (finish_span u f h));
   }
 
   kept_by : (i : Instr) (p t : ℕ) → slice_get u.code p ≡ Some i → target i ≡ Some t → IsKept u p t
@@ -260,8 +262,8 @@ module _ (u : UnitValue) (targets : (at : ℕ) → breaks_target u at ≡ false)
     begun = λ b k e lo hi here. (begun_has b k e lo hi here, (ahead b e (aims b (instr.For k lo hi e) here)).1);
     ended = ended_at;
     is = is_loop;
-    apart = none_overlaps;
-    rising = loops_rise u 0 u.code;
+    apart = λ l k h g. loop_apart l (span_of k) h (loop_span u k g);
+    rising = begun_rise (loop_begun u) (λ l. l.first) (begins_first u) 0 u.code;
     kept = kept_by;
     unwritten = none_writes;
   }

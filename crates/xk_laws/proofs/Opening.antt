@@ -25,6 +25,9 @@ use Rattle.xk_laws.proofs.Measure.{owed_first}
 use Rattle.xk_laws.proofs.Totals.{stack_within_bound}
 use Rattle.xk_laws.proofs.Walks.{visited_entry}
 use Rattle.xk_laws.proofs.Fits.{unit_fits, unbroken}
+use Rattle.xk_types.specs.Blocks.{depth_at}
+use Rattle.xk_laws.proofs.Blocks.{block_start}
+use Rattle.xk_laws.proofs.Scopes.{opened_in, IsScopedIn, IsScoped}
 
 -- what holds of the only element
 each_one : {X : Type 0} (P : ℕ → X → Type 0) (x : X) → P 0 x → Each P (x ∷ [])
@@ -68,8 +71,6 @@ opening_sound m limits ok = record {
 
     main : IsActivitySound m (looks [] 0) 0 0 (main_of m)
     main = record {
-      opened = refl;
-      governed = refl;
       since = omega arith;
       u = first.0;
       unit = first.1;
@@ -87,3 +88,20 @@ opening_sound m limits ok = record {
       room = (let h = stack_within_bound m 0 first.0 first.1 in omega arith);
       alone = λ e. refl;
     }
+
+-- and no clock has a scope
+pub opening_scoped : (m : ModuleValue) → IsWithinLimits m → IsAccepted m → IsScoped m (opening m)
+opening_scoped m limits ok = record {
+  scopes = [];
+  width = refl;
+  activities = each_one (λ a act. IsScopedIn m [] (looks [] a) a act) (main_of m) (record {
+    opened = (let none' : opened_in m (main_of m).frame ≡ 0 = ap (λ x. option_map_or (λ u. depth_at u 0) x 0) first.1 ∙ ap length (block_start first.0 (unit_fits m ok.shape 0 first.0 first.1).finishes) in
+        omega (arith, sum_by-cons (opened_in m) (main_of m).frame []));
+    rooms = (omega arith, tt);
+    owner = λ o e. absurd (none-some o e);
+    homes = ((λ s c named held. absurd (false≢true held)), tt);
+  });
+}
+  where
+    first : (u : UnitValue) × (slice_get m.units 0 ≡ Some u)
+    first = get_inside m.units 0 limits.some

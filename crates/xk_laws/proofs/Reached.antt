@@ -15,7 +15,9 @@ use Rattle.xk_types.specs.Shape.{HasShape}
 use Rattle.xk_laws.proofs.Totals.{stack_own}
 use Rattle.xk_laws.proofs.Counts.{step_counts}
 use Rattle.xk_laws.proofs.Progress.{Keeps, step_keeps, stuck_ended}
-use Rattle.xk_laws.proofs.Opening.{opening_sound}
+use Rattle.xk_laws.proofs.Opening.{opening_sound, opening_scoped}
+use Rattle.xk_laws.proofs.Scopes.{IsScoped, Scopes}
+use Rattle.xk_laws.proofs.ScopeSteps.{step_scopes}
 
 -- ---- runs
 
@@ -46,22 +48,34 @@ run_counts m (b ∷ list) w v h =
     let here = step_counts m w f.0 b f.1 f.2 in
     omega arith
 
--- a run from a sound world leads to a sound one
-run_sound : (m : ModuleValue) → IsAccepted m → (list : List ℕ) (w v : World) → IsSound m w → run m list w ≡ Through v → IsSound m v
-run_sound m ok [] w v sound h = subst (IsSound m) (same_through w v h) sound
-run_sound m ok (b ∷ list) w v sound h =
-    let f = first_step w v (step m w b) (run m list) h in
-    run_sound m ok list f.0 v (subst (Keeps m) f.2 (step_keeps m ok w sound b)) f.3
+-- a world that is sound, and whose clocks have their scopes
+pub record IsWhole (m : ModuleValue) (w : World) : Type 0 where
+  pub sound : IsSound m w
+  pub scoped : IsScoped m w
 
--- a run from a sound world is never wrong
-run_right : (m : ModuleValue) → IsAccepted m → (list : List ℕ) (w v : World) (c : Cause) → IsSound m w → run m list w ≡ Wronged v c → ⊥
-run_right m ok [] w v c sound h = grind arith
-run_right m ok (b ∷ list) w v c sound h = by (step m w b) (step_keeps m ok w sound b) h (λ x s. run_right m ok list x v c s)
+-- a step from such a world leads to one
+step_whole : (m : ModuleValue) → IsAccepted m → (w v : World) (a : ℕ) (e : Event) → IsWhole m w → step m w a ≡ Stepped v e → IsWhole m v
+step_whole m ok w v a e whole h = record {
+  sound = subst (Keeps m) h (step_keeps m ok w whole.sound whole.scoped a);
+  scoped = subst (Scopes m) h (step_scopes m ok w whole.sound whole.scoped a);
+}
+
+-- and a run
+run_whole : (m : ModuleValue) → IsAccepted m → (list : List ℕ) (w v : World) → IsWhole m w → run m list w ≡ Through v → IsWhole m v
+run_whole m ok [] w v whole h = subst (IsWhole m) (same_through w v h) whole
+run_whole m ok (b ∷ list) w v whole h =
+    let f = first_step w v (step m w b) (run m list) h in
+    run_whole m ok list f.0 v (step_whole m ok w f.0 b f.1 whole f.2) f.3
+
+-- a run from such a world is never wrong
+run_right : (m : ModuleValue) → IsAccepted m → (list : List ℕ) (w v : World) (c : Cause) → IsWhole m w → run m list w ≡ Wronged v c → ⊥
+run_right m ok [] w v c whole h = grind arith
+run_right m ok (b ∷ list) w v c whole h = by (step m w b) refl (step_keeps m ok w whole.sound whole.scoped b) h (λ x s. run_right m ok list x v c s)
   where
-    by : (o : Outcome) → Keeps m o → run_on w o (run m list) ≡ Wronged v c → ((x : World) → IsSound m x → run m list x ≡ Wronged v c → ⊥) → ⊥
-    by Blocked k g later = grind arith
-    by (Wrong d) k g later = k
-    by (Stepped x e) k g later = later x k g
+    by : (o : Outcome) → step m w b ≡ o → Keeps m o → run_on w o (run m list) ≡ Wronged v c → ((x : World) → IsWhole m x → run m list x ≡ Wronged v c → ⊥) → ⊥
+    by Blocked q k g later = grind arith
+    by (Wrong d) q k g later = k
+    by (Stepped x e) q k g later = later x (step_whole m ok w x b e whole q) g
 
 -- ---- worlds that are reached
 
@@ -81,13 +95,21 @@ opening_only m w r h = by r.0 r.1
     by [] e = sym (same_through (opening m) w e)
     by (a ∷ list) e = let n = run_counts m (a ∷ list) (opening m) w e in absurd (omega arith)
 
+-- the opening world is whole
+opening_whole : (m : ModuleValue) → IsWithinLimits m → IsAccepted m → IsWhole m (opening m)
+opening_whole m limits ok = record { sound = opening_sound m limits ok; scoped = opening_scoped m limits ok }
+
 -- a world that is reached is sound
 pub reached_sound : (m : ModuleValue) → IsWithinLimits m → IsAccepted m → (w : World) → IsReached m w → IsSound m w
-reached_sound m limits ok w r = run_sound m ok r.0 (opening m) w (opening_sound m limits ok) r.1
+reached_sound m limits ok w r = (run_whole m ok r.0 (opening m) w (opening_whole m limits ok) r.1).sound
+
+-- and its clocks have their scopes
+pub reached_scoped : (m : ModuleValue) → IsWithinLimits m → IsAccepted m → (w : World) → IsReached m w → IsScoped m w
+reached_scoped m limits ok w r = (run_whole m ok r.0 (opening m) w (opening_whole m limits ok) r.1).scoped
 
 -- no step of it is wrong
 pub reached_right : (m : ModuleValue) → IsWithinLimits m → IsAccepted m → (w : World) → IsReached m w → (a : ℕ) (c : Cause) → step m w a ≡ Wrong c → ⊥
-reached_right m limits ok w r a c h = subst (Keeps m) h (step_keeps m ok w (reached_sound m limits ok w r) a)
+reached_right m limits ok w r a c h = subst (Keeps m) h (step_keeps m ok w (reached_sound m limits ok w r) (reached_scoped m limits ok w r) a)
 
 -- the numbers of a world, within the bounds of its module
 pub record HasRoom (m : ModuleValue) (w : World) : Type 0 where
@@ -110,7 +132,7 @@ reached_room m limits ok w r = sound_room m w (reached_sound m limits ok w r)
 -- where nobody is enabled, all have ended
 pub reached_ends : (m : ModuleValue) → IsWithinLimits m → IsAccepted m → (w : World) → IsReached m w
     → ((a : ℕ) → a < length w.activities → is_enabled m w a ≡ false) → all_ended w ≡ true
-reached_ends m limits ok w r stuck = stuck_ended m ok w (reached_sound m limits ok w r) stuck
+reached_ends m limits ok w r stuck = stuck_ended m ok w (reached_sound m limits ok w r) (reached_scoped m limits ok w r) stuck
 
 -- ---- the law
 
@@ -121,7 +143,7 @@ sound_stack m shape look clocks now act s = omega (arith, s.frame.slots, stack_o
 -- the law over every schedule
 pub every_schedule : (m : ModuleValue) → IsWithinLimits m → IsAccepted m → EverySchedule m
 every_schedule m limits ok = record {
-  never_wrong = λ list w c h. run_right m ok list (opening m) w c (opening_sound m limits ok) h;
+  never_wrong = λ list w c h. run_right m ok list (opening m) w c (opening_whole m limits ok) h;
   steps = λ list w h. (let n = run_counts m list (opening m) w h in let room = (reached_room m limits ok w (list, h)).steps in omega arith);
   activities = λ list w h. (reached_room m limits ok w (list, h)).activities;
   clocks = λ list w h. (reached_room m limits ok w (list, h)).clocks;

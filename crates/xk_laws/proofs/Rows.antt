@@ -10,7 +10,7 @@ use Rattle.xk_types.specs.declared.unit.ParamKind.{ParamKind}
 use Rattle.xk_types.specs.declared.unit.ParamKind.TheVariants as param
 use Rattle.xk_types.specs.Order.{Has}
 use Rattle.xk_types.specs.Step.{is_signalled, resumed, passed, only}
-use Rattle.xk_types.specs.Walk.{After, MayBecome, becomes, as_number, as_clock, overwritten, awake, reads, writes, uses, hands_on, gives, is_lent}
+use Rattle.xk_types.specs.Walk.{After, MayBecome, becomes, as_number, as_clock, overwritten, let_go, awake, reads, writes, uses, hands_on, gives, is_lent}
 use Rattle.xk_laws.proofs.Invariant.{kind_by, is_held}
 use Rattle.xk_laws.proofs.Walks.{Allowed}
 
@@ -39,6 +39,21 @@ over_row kind.Number go h = (refl, refl)
 over_row kind.Live go h = absurd (h rule.Leak refl)
 over_row kind.Resumed go h = absurd (h rule.Leak refl)
 over_row kind.Out go h = (refl, refl)
+
+-- nothing that is held is there at the end of its home
+pub let_go_row : (k : Kind) → Allowed (let_go k (becomes k)) → MayBecome (let_go k (becomes k)) k
+let_go_row kind.Unset h = inl refl
+let_go_row kind.Number h = inl refl
+let_go_row kind.Live h = absurd (h rule.Held refl)
+let_go_row kind.Resumed h = absurd (h rule.Held refl)
+let_go_row kind.Out h = inl refl
+
+pub let_go_held : (k : Kind) → Allowed (let_go k (becomes k)) → is_held k ≡ false
+let_go_held kind.Unset h = refl
+let_go_held kind.Number h = refl
+let_go_held kind.Live h = absurd (h rule.Held refl)
+let_go_held kind.Resumed h = absurd (h rule.Held refl)
+let_go_held kind.Out h = refl
 
 -- an instruction that reads slot x goes on, and finds a number there
 pub reads_row : (x s : ℕ) (k : Kind) (go : After) → Allowed (reads x s k go) → (s ≡ x → k ≡ kind.Number) × (reads x s k go ≡ go)

@@ -92,8 +92,6 @@ module _ (m : ModuleValue) (stands : ℕ → Standing) (clocks now : ℕ) (was :
   straight new count slots to on inside names turns = record {
     unit = refl;
     callers = refl;
-    opened = refl;
-    governed = refl;
     since = omega (arith, c.me.since);
     frame = record {
       slots = names.width ∙ slots_length;

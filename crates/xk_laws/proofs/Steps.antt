@@ -30,8 +30,6 @@ use Rattle.xk_laws.proofs.Measure.{IsPaid, IsShared, owing_set}
 pub record IsNext (m : ModuleValue) (u : UnitValue) (look : ℕ → Kind) (clocks now : ℕ) (was act : Activity) : Type 0 where
   pub unit : act.frame.unit ≡ was.frame.unit
   pub callers : act.callers ≡ was.callers
-  pub opened : act.opened ≡ was.opened
-  pub governed : act.governed ≡ was.governed
   pub since : act.since ≤ now
   pub frame : IsFrameSound u clocks act.frame
   pub kinds : Each (λ s v. Expects m u act.status act.frame.place s (kind_of look v)) act.frame.slots
@@ -44,8 +42,6 @@ pub record IsNext (m : ModuleValue) (u : UnitValue) (look : ℕ → Kind) (clock
 pub next_sound : (m : ModuleValue) (old look : ℕ → Kind) (before clocks then' now : ℕ) (was act : Activity) (s : IsActivitySound m old before then' was)
     → IsNext m s.u look clocks now was act → IsActivitySound m look clocks now act
 next_sound m old look before clocks then' now was act s n = record {
-  opened = n.opened ∙ s.opened;
-  governed = n.governed ∙ s.governed;
   since = n.since;
   u = s.u;
   unit = ap (slice_get m.units) n.unit ∙ s.unit;
@@ -64,8 +60,6 @@ next_sound m old look before clocks then' now was act s n = record {
 pub sound_later : (m : ModuleValue) (look : ℕ → Kind) (before clocks then' now : ℕ) (act : Activity) → before ≤ clocks → then' ≤ now
     → IsActivitySound m look before then' act → IsActivitySound m look clocks now act
 sound_later m look before clocks then' now act more later s = record {
-  opened = s.opened;
-  governed = s.governed;
   since = omega (arith, s.since);
   u = s.u;
   unit = s.unit;

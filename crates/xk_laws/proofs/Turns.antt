@@ -6,7 +6,8 @@ use Rattle.std.proofs.lemmas.Bool.Decides.{nat_tests}
 use Rattle.std.proofs.lemmas.Int.{ints}
 use Rattle.std.proofs.lemmas.Option.{none-some, same_Some}
 use Rattle.xk_laws.proofs.Lists.{fun_ext, get_inside, get_once, get-set_same, get-set_other}
-use Rattle.xk_laws.proofs.Loops.{Rising, AreLoops, loop_of}
+use Rattle.xk_laws.proofs.Begun.{Rising}
+use Rattle.xk_laws.proofs.Loops.{AreLoops, loop_of}
 use Rattle.xk_types.specs.declared.instr.Instr.{Instr}
 use Rattle.xk_types.specs.declared.instr.Instr.TheVariants as instr
 use Rattle.xk_types.specs.declared.names.Value.{Value}
@@ -14,7 +15,7 @@ use Rattle.xk_types.specs.declared.names.Value.TheVariants as value
 use Rattle.xk_types.specs.Bound.{product, visits, sum_from}
 use Rattle.xk_types.specs.Code.{UnitValue, Loop, loops, is_round, is_within, turns}
 use Rattle.xk_types.specs.Order.{Has}
-use Rattle.xk_types.specs.Shape.{slot_written, target, overlaps}
+use Rattle.xk_types.specs.Shape.{slot_written, target, span_of, overlaps}
 
 -- ---- what is left
 
@@ -295,7 +296,7 @@ has_filter {X} test (y ∷ xs) x (inr g) e = go (test y) (has_filter test xs x g
     go false h = h
 
 -- where two loops don't overlap the one that begins inside the other ends no later
-not_behind : (l k : Loop) → overlaps l k ≡ false → l.first < k.first → k.first < l.last → k.last ≤ l.last
+not_behind : (l k : Loop) → overlaps (span_of l) (span_of k) ≡ false → l.first < k.first → k.first < l.last → k.last ≤ l.last
 not_behind l k h f g = grind (arith, nat_tests)
 
 module _ (u : UnitValue) (a : AreLoops u) where
@@ -323,7 +324,7 @@ module _ (u : UnitValue) (a : AreLoops u) where
   }
 
   -- loops round one place are a nest
-  nested_from : (at : ℕ) (ls : List Loop) → Rising ls → ((l : Loop) → Has ls l → Has (loops u) l) → Nested (filter (is_round at) ls)
+  nested_from : (at : ℕ) (ls : List Loop) → Rising (λ l. l.first) ls → ((l : Loop) → Has ls l → Has (loops u) l) → Nested (filter (is_round at) ls)
   nested_from at [] rise known = tt
   nested_from at (l ∷ ls) rise known = go (is_round at l) refl (nested_from at ls rise.1 (λ k h. known k (inr h)))
     where

@@ -36,8 +36,6 @@ pub arriving : (m : ModuleValue) (stands : ℕ → Standing) (clocks now : ℕ) 
 arriving m stands clocks now was u c = record {
   unit = refl;
   callers = refl;
-  opened = refl;
-  governed = refl;
   since = omega (arith, c.me.since);
   frame = record {
     slots = c.me.frame.slots ∙ ap (λ x. x.slots) c.unit;
@@ -62,8 +60,6 @@ pub going_on : (m : ModuleValue) (stands : ℕ → Standing) (clocks now : ℕ) 
 going_on m stands clocks now was me fit waiting quiet = record {
   unit = refl;
   callers = refl;
-  opened = refl;
-  governed = refl;
   since = omega arith;
   frame = record {
     slots = me.frame.slots;
@@ -87,8 +83,6 @@ pub ending : (m : ModuleValue) (stands : ℕ → Standing) (clocks now : ℕ) (w
 ending m stands clocks now was u c none' = record {
   unit = refl;
   callers = refl;
-  opened = refl;
-  governed = refl;
   since = omega (arith, c.me.since);
   frame = record {
     slots = c.me.frame.slots ∙ ap (λ x. x.slots) c.unit;

@@ -276,6 +276,8 @@ instr_of_takes name operands i e =
     by_shape one (codes "jump") instr.Jump (λ x p. (refl, p)) name operands _ i e (λ e.
     by_shape counted (codes "for") (λ x. instr.For x.0 x.1 x.2 x.3) (λ x p. (refl, p)) name operands _ i e (λ e.
     by_shape one (codes "next") instr.Next (λ x p. (refl, p)) name operands _ i e (λ e.
+    by_shape one (codes "finish") instr.Finish (λ x p. (refl, p)) name operands _ i e (λ e.
+    by_shape one (codes "endfinish") instr.EndFinish (λ x p. (refl, p)) name operands _ i e (λ e.
     by_shape one (codes "print") instr.Print (λ x p. (refl, p)) name operands _ i e (λ e.
     by_shape one (codes "make") instr.Make (λ x p. (refl, p)) name operands _ i e (λ e.
     by_shape one (codes "resume") instr.Resume (λ x p. (refl, p)) name operands _ i e (λ e.
@@ -284,7 +286,7 @@ instr_of_takes name operands i e =
     by_shape run (codes "call") (λ x. instr.Call x.0 x.1) (λ x p. (refl, p)) name operands _ i e (λ e.
     by_shape run (codes "spawn") (λ x. instr.Spawn x.0 x.1) (λ x p. (refl, p)) name operands _ i e (λ e.
     by_shape none (codes "ret") (λ _. instr.Ret) (λ x p. (refl, p)) name operands _ i e (λ e.
-    absurd cc)))))))))))))))))
+    absurd cc)))))))))))))))))))
 
 pub instr_takes : (d : Data) (i : Instr) → instr_at d ≡ Some i → (d ≡ instr_value i) × IsInstrInRange i
 unfolding instr_at
@@ -316,6 +318,8 @@ instr_again (instr.Jump t) p = instr_of_again (codes "jump") (word t ∷ []) (in
 instr_again (instr.For k lo hi e) p =
     instr_of_again (codes "for") (for_values (k, lo, hi, e)) (instr.For k lo hi e) (rw (for_again (k, lo, hi, e) p) refl)
 instr_again (instr.Next b) p = instr_of_again (codes "next") (word b ∷ []) (instr.Next b) (rw (one_again b p) refl)
+instr_again (instr.Finish e) p = instr_of_again (codes "finish") (word e ∷ []) (instr.Finish e) (rw (one_again e p) refl)
+instr_again (instr.EndFinish b) p = instr_of_again (codes "endfinish") (word b ∷ []) (instr.EndFinish b) (rw (one_again b p) refl)
 instr_again (instr.Print a) p = instr_of_again (codes "print") (word a ∷ []) (instr.Print a) (rw (one_again a p) refl)
 instr_again (instr.Make k) p = instr_of_again (codes "make") (word k ∷ []) (instr.Make k) (rw (one_again k p) refl)
 instr_again (instr.Resume k) p = instr_of_again (codes "resume") (word k ∷ []) (instr.Resume k) (rw (one_again k p) refl)

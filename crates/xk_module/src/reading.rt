@@ -110,6 +110,8 @@ fn instr(alloc: Global, name: &str, operands: &[Value]) -> Result<Instr, Refusal
         "jump" => one_word(operands).map(Instr::Jump),
         "for" => slot_and_bounds(operands).map(|(k, lo, hi, e)| Instr::For(k, lo, hi, e)),
         "next" => one_word(operands).map(Instr::Next),
+        "finish" => one_word(operands).map(Instr::Finish),
+        "endfinish" => one_word(operands).map(Instr::EndFinish),
         "print" => one_word(operands).map(Instr::Print),
         "make" => one_word(operands).map(Instr::Make),
         "resume" => one_word(operands).map(Instr::Resume),

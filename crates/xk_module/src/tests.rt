@@ -14,6 +14,10 @@ const STARTED: &str =
 const CALLED: &str =
     "{\"shared\":[],\"units\":[{\"code\":[[\"make\",1],[\"lit\",0,5],[\"call\",1,[1,0]],[\"call\",1,[1,0]],[\"ret\"]],\"kind\":\"main\",\"params\":\"\",\"slots\":2},{\"code\":[[\"advance\"],[\"print\",1],[\"ret\"]],\"kind\":\"method\",\"params\":\"cn\",\"slots\":2}],\"version\":1}";
 
+/// Main, and an activity that it starts inside a finish, on a clock that it drops before the finish ends.
+const FINISHED: &str =
+    "{\"shared\":[],\"units\":[{\"code\":[[\"finish\",4],[\"make\",0],[\"spawn\",1,[0]],[\"drop\",0],[\"endfinish\",0],[\"ret\"]],\"kind\":\"main\",\"params\":\"\",\"slots\":1},{\"code\":[[\"advance\"],[\"ret\"]],\"kind\":\"body\",\"params\":\"c\",\"slots\":1}],\"version\":1}";
+
 /// The text of a module with one unit.
 fn with_unit(alloc: Global, unit: &str) -> Result<String, AllocError> {
     format!(in alloc; "{{\"version\":1,\"shared\":[],\"units\":[{{{unit}}}]}}")
@@ -87,6 +91,8 @@ fn are_same(found: &Instr, wanted: &Instr) -> bool {
             k == s && lo == from && hi == to && e == f
         }
         (Instr::Next(b), Instr::Next(f)) => b == f,
+        (Instr::Finish(e), Instr::Finish(f)) => e == f,
+        (Instr::EndFinish(b), Instr::EndFinish(f)) => b == f,
         (Instr::Print(a), Instr::Print(b)) => a == b,
         (Instr::Make(a), Instr::Make(b)) => a == b,
         (Instr::Resume(a), Instr::Resume(b)) => a == b,
@@ -203,6 +209,29 @@ fn reads_a_method_that_is_called(rt: HostRuntime) -> Result<(), Fail> {
     assert!(rt; second.params.as_slice() == [ParamKind::Clock, ParamKind::Number].as_slice());
     assert_eq!(rt; second.slots, 2);
     assert!(rt; has_code(second, method.as_slice()));
+    Ok(())
+}
+
+#[test]
+fn reads_a_finish(rt: HostRuntime) -> Result<(), Fail> {
+    let alloc = rt.alloc();
+    let module = read_module(alloc, FINISHED.as_bytes())
+        .ok()
+        .ok_or("a module")?;
+    let main = [
+        Instr::Finish(4),
+        Instr::Make(0),
+        Instr::Spawn(1, Args::new(vec![in alloc; 0]?)),
+        Instr::Drop(0),
+        Instr::EndFinish(0),
+        Instr::Ret,
+    ];
+    let body = [Instr::Advance, Instr::Ret];
+    let units = module.units();
+    assert_eq!(rt; units.len(), 2);
+    let (first, second) = (&units[0], &units[1]);
+    assert!(rt; has_code(first, main.as_slice()));
+    assert!(rt; has_code(second, body.as_slice()));
     Ok(())
 }
 
@@ -491,6 +520,30 @@ fn no_branch_or_loop(rt: HostRuntime) -> Result<(), Fail> {
 }
 
 #[test]
+fn no_finish(rt: HostRuntime) -> Result<(), Fail> {
+    let codes = [
+        "[\"Finish\",1]",
+        "[\"finish\"]",
+        "[\"finish\",1,2]",
+        "[\"finish\",65536]",
+        "[\"finish\",-1]",
+        "[\"finish\",1.0]",
+        "[\"finish\",\"1\"]",
+        "[\"finish\",[1]]",
+        "[\"endFinish\",0]",
+        "[\"end_finish\",0]",
+        "[\"endfinish\"]",
+        "[\"endfinish\",0,1]",
+        "[\"endfinish\",65536]",
+        "[\"endfinish\",-1]",
+        "[\"endfinish\",-0]",
+        "[\"endfinish\",null]",
+    ];
+    assert_eq!(rt; first_taken(rt.alloc(), codes.as_slice())?, None);
+    Ok(())
+}
+
+#[test]
 fn beyond_a_limit(rt: HostRuntime) -> Result<(), Fail> {
     let alloc = rt.alloc();
     let limit = Some(ModuleFault::Limit);
@@ -560,6 +613,26 @@ fn branches_and_loops(rt: HostRuntime) -> Result<(), Fail> {
         Instr::For(65535, i64::MIN, i64::MAX, 65534),
         Instr::Next(0),
         Instr::Next(65535),
+    ];
+    assert!(rt; starts_with(&module, found.as_slice()));
+    Ok(())
+}
+
+#[test]
+fn finishes(rt: HostRuntime) -> Result<(), Fail> {
+    let code =
+        "[\"finish\",0],[\"finish\",65535],[\"endfinish\",0],[\"endfinish\",65535],[\"finish\",7],[\"endfinish\",4]";
+    let text = with_code(rt.alloc(), code)?;
+    let module = read_module(rt.alloc(), text.as_bytes())
+        .ok()
+        .ok_or("a module")?;
+    let found = [
+        Instr::Finish(0),
+        Instr::Finish(65535),
+        Instr::EndFinish(0),
+        Instr::EndFinish(65535),
+        Instr::Finish(7),
+        Instr::EndFinish(4),
     ];
     assert!(rt; starts_with(&module, found.as_slice()));
     Ok(())

@@ -16,7 +16,7 @@ use Rattle.xk_types.specs.Step.{under_within}
 use Rattle.xk_types.specs.Schedule.{Course, Through, Held, Wronged, run, all_ended, printed}
 use Rattle.xk_types.specs.Walk.{IsRefusedAt}
 use Rattle.xk_types.specs.Shape.{breaks}
-use Rattle.xk_types.specs.Bound.{total_within, stack_within, stack_of, chain_within, frames_of, nesting, room_of, steps_bound, activities_bound, clocks_bound}
+use Rattle.xk_types.specs.Bound.{total_within, stack_of, chain_within, frames_of, nesting, room_of, steps_bound, activities_bound, clocks_bound}
 
 abbrev main_with : ℕ → List Instr → UnitValue
 main_with slots code = record { kind = unit_kind.Main; params = []; slots = slots; code = code }
@@ -177,7 +177,7 @@ deep_nesting = refl
 -- what a unit starts counts for none of these
 deep_rooms : (map (room_of deep) (0 ∷ 1 ∷ 2 ∷ 3 ∷ 4 ∷ []) ≡ 5 ∷ 3 ∷ 3 ∷ 2 ∷ 0 ∷ []) × (map (frames_of deep) (0 ∷ 1 ∷ 2 ∷ 3 ∷ 4 ∷ []) ≡ 3 ∷ 3 ∷ 2 ∷ 1 ∷ 0 ∷ [])
     × (map (stack_of deep) (0 ∷ 1 ∷ 2 ∷ 3 ∷ 4 ∷ []) ≡ 10 ∷ 72 ∷ 8 ∷ 5 ∷ 0 ∷ [])
-unfolding chain_within stack_within
+unfolding chain_within
 deep_rooms = (refl, refl, refl)
 
 -- three levels, and then one finish behind the other

@@ -70,15 +70,18 @@ clocks_bound m = total clocks_weight m 0
 abbrev pub greatest : List ℕ → ℕ
 greatest ns = fold max 0 ns
 
--- The slots of a unit, with the most of those that it calls, down to this many calls one below another.
-unfoldable pub stack_within : ModuleValue → ℕ → ℕ → ℕ
-stack_within m zero unit = 0
-stack_within m (suc depth) unit =
-    option_map_or (λ u. u.slots + greatest (map (λ i. option_map_or (stack_within m depth) (unit_called i) 0) u.code)) (slice_get m.units unit) 0
+-- A number of a unit, with the most of those that it calls, down to this many calls one below another.
+unfoldable pub chain_within : (UnitValue → ℕ) → ModuleValue → ℕ → ℕ → ℕ
+chain_within own m zero unit = 0
+chain_within own m (suc depth) unit =
+    option_map_or (λ u. own u + greatest (map (λ i. option_map_or (chain_within own m depth) (unit_called i) 0) u.code)) (slice_get m.units unit) 0
+
+abbrev pub chain_of : (UnitValue → ℕ) → ModuleValue → ℕ → ℕ
+chain_of own m unit = chain_within own m (length m.units) unit
 
 -- the most slots in the frames of an activity from the one of this unit on
 abbrev pub stack_of : ModuleValue → ℕ → ℕ
-stack_of m unit = stack_within m (length m.units) unit
+stack_of m unit = chain_of (λ u. u.slots) m unit
 
 -- the greatest among the first n
 abbrev pub greatest_below : (ℕ → ℕ) → ℕ → ℕ
@@ -90,15 +93,6 @@ abbrev pub stack_bound : ModuleValue → ℕ
 stack_bound m = greatest_below (stack_of m) (length m.units)
 
 -- ---- the room of a unit: what an activity needs at most to run it, and what it calls
-
--- A number of a unit, with the most of those that it calls, down to this many calls one below another.
-unfoldable pub chain_within : (UnitValue → ℕ) → ModuleValue → ℕ → ℕ → ℕ
-chain_within own m zero unit = 0
-chain_within own m (suc depth) unit =
-    option_map_or (λ u. own u + greatest (map (λ i. option_map_or (chain_within own m depth) (unit_called i) 0) u.code)) (slice_get m.units unit) 0
-
-abbrev pub chain_of : (UnitValue → ℕ) → ModuleValue → ℕ → ℕ
-chain_of own m unit = chain_within own m (length m.units) unit
 
 -- the most frames of an activity from the one of this unit on
 abbrev pub frames_of : ModuleValue → ℕ → ℕ
