@@ -1,7 +1,6 @@
 -- The finishes around a place, from one place to the next.
-use Rattle.std.proofs.Common.{◌≡◌, ℕ, zero, suc, ◌+◌, ◌<◌, ◌≤◌, nat_lt, nat_le, Bool, true, false, ◌&&◌, List, [], ◌∷◌, ◌++◌, length, map, filter, cond, Option, Some, None, slice_get, inl, inr, refl, sym, ap, ◌∙◌, subst, arith}
+use Rattle.std.proofs.Common.{◌≡◌, ℕ, suc, ◌<◌, ◌≤◌, nat_lt, nat_le, Bool, true, false, ◌&&◌, List, [], ◌∷◌, ◌++◌, length, map, filter, cond, Option, Some, None, slice_get, inl, inr, refl, sym, ap, ◌∙◌, arith}
 use Rattle.std.specs.Bool.{Decides}
-use Rattle.std.specs.List.{last_or}
 use Rattle.std.specs.Option.{option_map_or}
 use Rattle.std.proofs.lemmas.Option.{same_Some}
 use Rattle.std.proofs.lemmas.Bool.{or_parts, leb-true, le-leb, lt-ltb, both_ways, false_from_ne_true, cases_order}
@@ -10,10 +9,10 @@ use Rattle.xk_types.specs.declared.instr.Instr.{Instr}
 use Rattle.xk_types.specs.declared.instr.Instr.TheVariants as instr
 use Rattle.xk_types.specs.Order.{Has}
 use Rattle.xk_types.specs.Code.{UnitValue, begun_from}
-use Rattle.xk_types.specs.Blocks.{Span, finish_opened, finishes, is_inside, block_at, depth_at}
+use Rattle.xk_types.specs.Blocks.{Span, finish_opened, finishes, is_inside, block_at}
 use Rattle.xk_types.specs.Shape.{overlaps}
-use Rattle.xk_shape.specs.Blocks.{IsOrderly, innermost, place_at}
-use Rattle.xk_shape.proofs.Finishes.{IsFinish, IsApart, finish_of, begins_at, none_before, is_finish, one_last, one_first, begun_at, ended_at, is_apart}
+use Rattle.xk_shape.specs.Blocks.{IsOrderly}
+use Rattle.xk_shape.proofs.Finishes.{IsFinish, finish_of, begins_at, none_before, is_finish, one_last, one_first, begun_at, ended_at, is_apart}
 
 -- ---- the chosen ones of a list
 
@@ -110,7 +109,7 @@ ends_inside f g apart p q = elim (cases_order g.last f.last) [
     | inl lt ↦ omega arith
     | inr gt ↦
         absurd (no_rise f.first g.first f.last g.last
-          (or_parts (nat_lt f.first g.first && nat_lt g.first f.last && nat_lt f.last g.last) (nat_lt g.first f.first && nat_lt f.first g.last && nat_lt g.last f.last) apart).0 p q gt)
+        (or_parts (nat_lt f.first g.first && nat_lt g.first f.last && nat_lt f.last g.last) (nat_lt g.first f.first && nat_lt f.first g.last && nat_lt g.last f.last) apart).0 p q gt)
   ]
 ]
 

@@ -1,5 +1,5 @@
 -- The finishes of a unit: which instructions they begin and end with, and in which order they come.
-use Rattle.std.proofs.Common.{◌≡◌, ℕ, ℤ, zero, suc, ◌+◌, ◌<◌, ◌≤◌, ◌==◌, eqb, nat_lt, Bool, true, false, not, ◌&&◌, List, [], ◌∷◌, ◌++◌, length, map, Option, Some, None, slice_get, inl, inr, refl, sym, ap, ◌∙◌, subst, arith, cond, if◌then◌else◌}
+use Rattle.std.proofs.Common.{◌≡◌, ℕ, ℤ, zero, suc, ◌+◌, ◌<◌, ◌≤◌, ◌==◌, nat_lt, Bool, true, false, not, List, [], ◌∷◌, ◌++◌, length, map, Option, Some, None, slice_get, inl, inr, refl, sym, ap, ◌∙◌, subst, arith, cond, if◌then◌else◌}
 use Rattle.std.specs.List.{list_any}
 use Rattle.std.specs.Option.{option_map_or, option_and_then}
 use Rattle.std.specs.Prelude.{option_map}
@@ -30,6 +30,7 @@ begun_found {X} begun at (i ∷ is) x h = go (begun at i) refl (begun_found begu
     later_found r =
         let same : suc at + r.j ≡ at + suc r.j = omega arith in
         record { j = suc r.j; i = r.i; found = r.found; begins = subst (λ n. begun n r.i ≡ Some x) same r.begins }
+
     go : (o : Option X) → begun at i ≡ o → (Has (begun_from begun (suc at) is) x → IsFound begun (suc at) is x)
         → Has (option_map_or (λ k. k ∷ begun_from begun (suc at) is) o (begun_from begun (suc at) is)) x → IsFound begun at (i ∷ is) x
     go None e later g = later_found (later g)

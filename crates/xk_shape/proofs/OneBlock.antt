@@ -1,14 +1,15 @@
 -- Two places stand directly in one block where the innermost finishes around them are one.
-use Rattle.std.proofs.Common.{◌≡◌, ℕ, suc, ◌+◌, ◌<◌, ◌≤◌, ◌⊎◌, ◌==◌, Bool, true, false, ◌&&◌, List, [], ◌∷◌, ◌++◌, length, map, filter, cond, Option, Some, None, inl, inr, refl, sym, ap, ◌∙◌, subst, arith}
+use Rattle.std.proofs.Common.{◌≡◌, ℕ, ◌<◌, ◌≤◌, ◌⊎◌, ◌==◌, eqb, Bool, true, false, List, [], ◌∷◌, ◌++◌, map, filter, cond, Option, Some, None, inl, inr, refl, sym, ap, ◌∙◌, subst, arith}
 use Rattle.std.specs.Bool.{Decides}
 use Rattle.std.specs.List.{last_or}
+use Rattle.std.specs.Option.{option_eq}
 use Rattle.std.proofs.lemmas.Option.{same_Some, none-some}
 use Rattle.std.proofs.lemmas.Bool.{and_parts, and_from, eqb-true, eq-eqb, both_ways, false≢true, cases_order}
 use Rattle.xk_types.specs.Order.{Has}
 use Rattle.xk_types.specs.Code.{UnitValue}
 use Rattle.xk_types.specs.Blocks.{Span, finishes, is_inside, block_at, same_block}
 use Rattle.xk_shape.specs.Blocks.{IsOrderly, innermost}
-use Rattle.xk_shape.proofs.Finishes.{IsApart, one_last, is_apart}
+use Rattle.xk_shape.proofs.Finishes.{one_last, is_apart}
 use Rattle.xk_shape.proofs.Around.{around, Ascends, finishes_ascend, around_same, ends_inside, decides_inside}
 
 -- ---- the last of a list
@@ -59,6 +60,7 @@ last_chosen p (f ∷ fs) o m asc h = go (p f) refl (λ x. last_chosen p fs x m a
       first = r.first;
       last = λ g has on. elim has [ inl same ↦ subst (λ (x : Span). x.first ≤ m) same (own (ap p same ∙ on)) | inr later ↦ r.last g later on ];
     }
+
     go : (b : Bool) → p f ≡ b → ((x : Option ℕ) → last_or x (around p fs) ≡ Some m → ((x ≡ Some m) × NoneChosen p fs) ⊎ LastChosen p fs m)
         → last_or o (map (λ x. x.first) (cond b (f ∷ filter p fs) (filter p fs))) ≡ Some m → ((o ≡ Some m) × NoneChosen p (f ∷ fs)) ⊎ LastChosen p (f ∷ fs) m
     go true e rest l = elim (rest (Some f.first) l) [
@@ -78,7 +80,7 @@ last_chosen p (f ∷ fs) o m asc h = go (p f) refl (λ x. last_chosen p fs x m a
       | inr r ↦ inr (kept r (λ on. absurd (both_ways (p f) e on)))
     ]
 
-both_true : (p q : Bool) → (p ≡ true → q ≡ true) → (q ≡ true → p ≡ true) → p ≡ q
+pub both_true : (p q : Bool) → (p ≡ true → q ≡ true) → (q ≡ true → p ≡ true) → p ≡ q
 both_true true q to from = sym (to refl)
 both_true false true to from = from refl
 both_true false false to from = refl
@@ -149,3 +151,9 @@ decides_block xs ys = (same_list xs ys, λ e. subst (λ zs. same_block xs zs ≡
 pub decides_place : (u : UnitValue) → IsOrderly u → (a b : ℕ) → Decides (same_block (block_at u a) (block_at u b)) (innermost (block_at u a) ≡ innermost (block_at u b))
 decides_place u orderly a b =
     (λ on. ap innermost (same_list (block_at u a) (block_at u b) on), λ e. (decides_block (block_at u a) (block_at u b)).1 (same_innermost u orderly a b e))
+
+pub decides_option : (a b : Option ℕ) → Decides (option_eq eqb a b) (a ≡ b)
+decides_option None None = (λ on. refl, λ e. refl)
+decides_option None (Some y) = (λ on. absurd (false≢true on), λ e. absurd (none-some y e))
+decides_option (Some x) None = (λ on. absurd (false≢true on), λ e. absurd (none-some x (sym e)))
+decides_option (Some x) (Some y) = (λ on. ap Some (eqb-true x y on), λ e. eq-eqb x y (same_Some x y e))

@@ -1,6 +1,6 @@
 -- What the shape of a module says of one of its units.
-use Rattle.std.proofs.Common.{◌≡◌, ℕ, false, Option, Some, slice_get, subst}
-use Rattle.std.proofs.lemmas.Option.{get_or_from_slice_get, slice_get_within}
+use Rattle.std.proofs.Common.{◌≡◌, ℕ, ◌<◌, false, List, length, get_or, Option, Some, slice_get, sym, ap, ◌∙◌, subst}
+use Rattle.std.proofs.lemmas.Option.{slice_get-get_or, get_or_from_slice_get, slice_get_within}
 use Rattle.std.proofs.lemmas.List.Elements.{All-get_or}
 use Rattle.xk_types.specs.declared.rules.Rule.{Rule}
 use Rattle.xk_types.specs.declared.rules.Rule.TheVariants as rule
@@ -10,7 +10,7 @@ use Rattle.xk_shape.specs.Breach.{IsNowhereBroken}
 use Rattle.xk_shape.specs.Blocks.{IsOrderly, HasBlocks}
 
 -- a rule that no place of the module breaks is broken nowhere in the unit
-pub unbroken_in : (m : ModuleValue) (u : UnitValue) (r : Rule) (unit : ℕ) → IsNowhereBroken m r → slice_get m.units unit ≡ Some u → (at : ℕ) → breaks_in m r unit u at ≡ false
+unbroken_in : (m : ModuleValue) (u : UnitValue) (r : Rule) (unit : ℕ) → IsNowhereBroken m r → slice_get m.units unit ≡ Some u → (at : ℕ) → breaks_in m r unit u at ≡ false
 unbroken_in m u r unit nowhere found at =
     let P : Option UnitValue → Type 0 = λ o. breaks_unit_of m r unit o at ≡ false in
     subst P found (nowhere unit at)
@@ -30,9 +30,16 @@ orderly_of m u unit limits targets blocks slots found = record {
   slots = unbroken_in m u rule.Slot unit slots found;
 }
 
+-- an element as a loop over the units gives it
+pub unit_at : (units : List UnitValue) (m : ModuleValue) (n : ℕ) (u : UnitValue) → units ≡ m.units → n < length units → u ≡ get_or units n u → slice_get m.units n ≡ Some u
+unit_at units m n u listed inside is =
+    ap (λ us. slice_get us n) (sym listed) ∙ slice_get-get_or units n u inside ∙ ap Some (sym is)
+
+pub blocks_of : (m : ModuleValue) (u : UnitValue) (unit : ℕ) → IsWithinLimits m → IsNowhereBroken m rule.Target → IsNowhereBroken m rule.Block → IsNowhereBroken m rule.Slot → IsNowhereBroken m rule.Home
+    → slice_get m.units unit ≡ Some u
+    → HasBlocks u
+blocks_of m u unit limits targets blocks slots homes found = record { orderly = orderly_of m u unit limits targets blocks slots found; homes = unbroken_in m u rule.Home unit homes found }
+
 -- a unit of a module that has the shape has blocks, and its slots are at home in no more than one
 pub blocks_of_shape : (m : ModuleValue) (u : UnitValue) (unit : ℕ) → IsWithinLimits m → HasShape m → slice_get m.units unit ≡ Some u → HasBlocks u
-blocks_of_shape m u unit limits shape found = record {
-  orderly = orderly_of m u unit limits (shape rule.Target) (shape rule.Block) (shape rule.Slot) found;
-  homes = unbroken_in m u rule.Home unit (shape rule.Home) found;
-}
+blocks_of_shape m u unit limits shape found = blocks_of m u unit limits (shape rule.Target) (shape rule.Block) (shape rule.Slot) (shape rule.Home) found

@@ -1,6 +1,7 @@
 //! The blocks that finishes make of a unit, and the homes of its slots.
 
 ghost use Rattle.std.specs.Prelude.{◌≡◌, ℕ, ◌+◌, ◌≤◌, not, false, length, slice_get, IfOk};
+ghost use Rattle.std.specs.List.{position};
 ghost use Rattle.std.specs.Option.{option_map_or};
 ghost use Rattle.xk_types.specs.Code.{UnitValue};
 ghost use Rattle.xk_types.specs.Blocks.{block_at, depth_at, same_block, takes_clock, makes, homes, is_here, is_elsewhere};
@@ -111,9 +112,9 @@ impl Tables {
             → AreTables u self.now
             → result ≡ option_map_or (λ home. same_block (block_at u at) (block_at u home)) (home_place u slot) false }
     {
-        match self.homes.get(slot as usize) {
-            Some(Some(home)) => self.is_one_block(at, *home),
-            Some(None) | None => false,
+        match self.home(slot) {
+            Some(home) => self.is_one_block(at, home),
+            None => false,
         }
     }
 
@@ -124,9 +125,22 @@ impl Tables {
             → AreTables u self.now
             → result ≡ option_map_or (λ home. not (same_block (block_at u at) (block_at u home))) (home_place u slot) false }
     {
+        match self.home(slot) {
+            Some(home) => !self.is_one_block(at, home),
+            None => false,
+        }
+    }
+
+    /// A place that stands directly in the slot's home, if it has one.
+    fn home(&self, slot: u16) -> Option<usize>
+        ensures { (u : UnitValue)
+            → IsOrderly u
+            → AreTables u self.now
+            → result ≡ home_place u slot }
+    {
         match self.homes.get(slot as usize) {
-            Some(Some(home)) => !self.is_one_block(at, *home),
-            Some(None) | None => false,
+            Some(home) => *home,
+            None => None,
         }
     }
 
@@ -142,9 +156,15 @@ impl Tables {
 
     /// The place of the `finish` that begins the block of a place; none where the block is the whole unit.
     fn finish_of(&self, at: usize) -> Option<u16>
-        ensures { (u : UnitValue) → AreTables u self.now → result ≡ innermost (block_at u at) }
+        ensures { (u : UnitValue)
+            → IsOrderly u
+            → AreTables u self.now
+            → result ≡ innermost (block_at u at) }
     {
-        self.places.get(at)?.finish
+        match self.places.get(at) {
+            Some(place) => place.finish,
+            None => None,
+        }
     }
 }
 
@@ -204,8 +224,15 @@ fn home_place(u: &Unit, slot: u16) -> Option<usize>
     if takes_clock(u, slot) {
         Some(0)
     } else {
-        u.code.iter().position(|instr| makes(slot, instr))
+        first_made(&u.code, slot)
     }
+}
+
+/// The first place that makes the clock of the slot.
+fn first_made(code: &[Instr], slot: u16) -> Option<usize>
+    ensures { result ≡ position (makes slot) code.now }
+{
+    code.iter().position(|instr| makes(slot, instr))
 }
 
 /// Whether the slot is a parameter that takes a clock.

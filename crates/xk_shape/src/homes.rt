@@ -1,12 +1,12 @@
 //! The rules on the homes of slots, which are tried where loops and finishes nest.
 
-ghost use Rattle.std.specs.Prelude.{◌≡◌, ℕ, ◌<◌, ◌≤◌, false, length, IfOk, MatchResult};
+ghost use Rattle.std.specs.Prelude.{◌≡◌, ℕ, ◌<◌, ◌||◌, false, slice_get, Some, IfOk, MatchResult};
 ghost use Rattle.std.specs.List.{list_any};
 ghost use Rattle.xk_types.specs.Code.{clock_arguments};
 ghost use Rattle.xk_types.specs.Blocks.{block_at, homes, is_elsewhere};
-ghost use Rattle.xk_types.specs.Shape.{breaks_home, breaks_registers};
+ghost use Rattle.xk_types.specs.Shape.{mishandles, moves_home, breaks_home, gives_away, breaks_registers};
 ghost use Rattle.xk_types.specs.declared.rules.Rule.TheVariants as rule;
-ghost use Rattle.xk_shape.specs.Blocks.{IsOrderly, AreTables};
+ghost use Rattle.xk_shape.specs.Blocks.{IsOrderly, HasBlocks, AreTables};
 ghost use Rattle.xk_shape.specs.Breach.{IsNowhereBroken, FailsRule, IsFirst};
 
 use crate::blocks::{Blocks, Tables, takes_clock};
@@ -47,7 +47,7 @@ fn first_moved(alloc: Global, u: &Unit) -> Result<Option<u16>, AllocError>
     Ok(None)
 }
 
-/// Whether the instruction breaks the rule on homes, where none before it does.
+/// Whether the instruction at this place breaks the rule on homes, where none before it does.
 fn moves_home(u: &Unit, tables: &Tables, at: u16) -> bool
     requires orderly { IsOrderly u.now }
     requires tables { AreTables u.now tables.now }
@@ -55,10 +55,22 @@ fn moves_home(u: &Unit, tables: &Tables, at: u16) -> bool
     ensures { result ≡ breaks_home u.now at }
 {
     match u.code.get(at as usize) {
-        Some(Instr::Make(d)) => {
-            (*d as usize) < u.params.len() || tables.is_away(*d, at as usize)
-        }
-        Some(Instr::Drop(c)) => u.kind == UnitKind::Method && takes_clock(u, *c),
+        Some(instr) => is_moved(u, tables, at, instr),
+        None => false,
+    }
+}
+
+/// The same of the instruction that stands at this place.
+fn is_moved(u: &Unit, tables: &Tables, at: u16, instr: &Instr) -> bool
+    requires orderly { IsOrderly u.now }
+    requires tables { AreTables u.now tables.now }
+    requires before { (k : ℕ) → k < at → breaks_home u.now k ≡ false }
+    requires here { slice_get u.now.code at ≡ Some instr.now }
+    ensures { result ≡ (mishandles u.now instr.now || moves_home u.now at instr.now) }
+{
+    match instr {
+        Instr::Make(d) => { (*d as usize) < u.params.len() || tables.is_away(*d, at as usize) }
+        Instr::Drop(c) => u.kind == UnitKind::Method && takes_clock(u, *c),
         _ => false,
     }
 }
@@ -73,8 +85,7 @@ pub(crate) fn check_registers(alloc: Global, m: &Module) -> Result<(), ShapeErro
 {
     let mut unit = 0;
     for u in m.units() {
-        let blocks = Blocks::of(alloc, u)?;
-        if let Some(at) = first_given_away(m, u, &blocks) {
+        if let Some(at) = first_given_away(alloc, m, u)? {
             let rule = Rule::Registers;
             return Err(ShapeError::Fault(ShapeFault { rule, unit, at }));
         }
@@ -84,26 +95,36 @@ pub(crate) fn check_registers(alloc: Global, m: &Module) -> Result<(), ShapeErro
 }
 
 /// The least instruction of a unit that hands a clock on outside its home.
-fn first_given_away(m: &Module, u: &Unit, blocks: &Blocks) -> Option<u16>
-    requires limits { length u.now.code ≤ 4096 }
-    requires blocks { blocks.now ≡ u.now }
-    ensures { IsFirst (breaks_registers m.now u.now) result }
+fn first_given_away(alloc: Global, m: &Module, u: &Unit) -> Result<Option<u16>, AllocError>
+    requires { HasBlocks u.now }
+    ensures { IfOk result (IsFirst (breaks_registers m.now u.now)) }
 {
+    let blocks = Blocks::of(alloc, u)?;
     for at in 0..u.code.len() as u16 {
-        if gives_away(m, u, blocks, at) {
-            return Some(at);
+        if gives_away(m, u, &blocks, at) {
+            return Ok(Some(at));
         }
     }
-    None
+    Ok(None)
 }
 
-/// Whether the instruction hands a clock on outside its home.
+/// Whether the instruction at this place hands a clock on outside its home.
 fn gives_away(m: &Module, u: &Unit, blocks: &Blocks, at: u16) -> bool
     requires { blocks.now ≡ u.now }
     ensures { result ≡ breaks_registers m.now u.now at }
 {
     match u.code.get(at as usize) {
-        Some(Instr::Call(run, args) | Instr::Spawn(run, args)) => {
+        Some(instr) => is_given_away(m, blocks, at, instr),
+        None => false,
+    }
+}
+
+/// The same of an instruction that may stand at this place.
+fn is_given_away(m: &Module, blocks: &Blocks, at: u16, instr: &Instr) -> bool
+    ensures { result ≡ gives_away m.now blocks.now at instr.now }
+{
+    match instr {
+        Instr::Call(run, args) | Instr::Spawn(run, args) => {
             has_clock_away(params_of(m, *run), args.slots(), blocks, at)
         }
         _ => false,

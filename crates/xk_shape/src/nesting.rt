@@ -1,6 +1,6 @@
 //! The loops and finishes of a unit, and how they lie to places and to one another.
 
-ghost use Rattle.std.specs.Prelude.{◌≡◌, IfOk, slice_get};
+ghost use Rattle.std.specs.Prelude.{◌≡◌, IfOk, map, slice_get};
 ghost use Rattle.std.specs.List.{list_any};
 ghost use Rattle.xk_types.specs.Code.{loop_begun, loops as loops_of, is_within};
 ghost use Rattle.xk_types.specs.Blocks.{finish_opened, finishes as finishes_of, is_inside};
@@ -76,9 +76,16 @@ fn spans(alloc: Global, u: &Unit, loops: &[Loop]) -> Result<Vec<Span>, AllocErro
     requires { loops.now ≡ loops_of u.now }
     ensures { IfOk result (λ found. found.items ≡ spans_of u.now) }
 {
-    let mut found: Vec<Span> = loops.iter().map(|l| l.span()).collect(alloc)?;
+    let mut found = loop_spans(alloc, loops)?;
     found.extend_from_slice(&finishes(alloc, u)?)?;
     Ok(found)
+}
+
+/// The loops, each from its `for` to its `next`.
+fn loop_spans(alloc: Global, loops: &[Loop]) -> Result<Vec<Span>, AllocError>
+    ensures { IfOk result (λ found. found.items ≡ map span_of loops.now) }
+{
+    loops.iter().map(|l| l.span()).collect(alloc)
 }
 
 /// The finishes of a unit, by the places of their `finish`.
