@@ -2,5 +2,6 @@ pub mod Cuts
 pub mod Visits
 pub mod Measured
 pub mod Totals
-pub mod Stacks
+pub mod Chains
+pub mod Rooms
 pub mod Refusals

@@ -6,7 +6,8 @@ use Rattle.std.proofs.lemmas.Option.{slice_get_within, get_or_from_slice_get}
 use Rattle.xk_types.specs.declared.instr.Instr.{Instr}
 use Rattle.xk_types.specs.Code.{UnitValue}
 use Rattle.xk_types.specs.Bound.{visits, sum_from}
-use Rattle.xk_bounds.specs.Measure.{HasBlocks, added, added_at, added_by, visits_next}
+use Rattle.xk_shape.specs.Blocks.{IsOrderly}
+use Rattle.xk_bounds.specs.Measure.{added, added_at, added_by, visits_next}
 use Rattle.xk_bounds.proofs.Cuts.{cut_left, cut_right}
 use Rattle.xk_bounds.proofs.Visits.{starts, next_measured}
 
@@ -32,7 +33,7 @@ module _ (weight : Instr → ℕ) (table : ℕ → ℕ) (u : UnitValue) (cut : �
   }
 
   -- one instruction more
-  pub measured_next : (at : ℕ) (i : Instr) (before after : List ℕ) (here beyond most once product sum : ℕ) → HasBlocks u → slice_get u.code at ≡ Some i → after ≡ before ++ here ∷ [] → beyond ≡ visits_next cut after here i
+  pub measured_next : (at : ℕ) (i : Instr) (before after : List ℕ) (here beyond most once product sum : ℕ) → IsOrderly u → slice_get u.code at ≡ Some i → after ≡ before ++ here ∷ [] → beyond ≡ visits_next cut after here i
       → once ≡ min (added weight table i) cut → product ≡ min (here * once) cut → sum ≡ min (most + product) cut
       → IsMeasured weight table u cut at before here most → IsMeasured weight table u cut (suc at) after beyond sum
   measured_next at i before after here beyond most once product sum blocks found pushed is_beyond is_once is_product is_sum so_far =

@@ -10,16 +10,10 @@ use Rattle.xk_types.specs.declared.unit.UnitKind.{UnitKind}
 use Rattle.xk_types.specs.Code.{UnitValue, ModuleValue, unit_run, is_method, is_body}
 use Rattle.xk_types.specs.Shape.{is_fitting, runs_amiss, instr_is, is_in_place, breaks_unit_of, HasShape}
 use Rattle.xk_types.specs.Bound.{visits, total_within, total}
-use Rattle.xk_bounds.specs.Measure.{HasBlocks, added, added_by}
+use Rattle.xk_bounds.specs.Measure.{added, added_by}
 use Rattle.xk_bounds.proofs.Cuts.{sum_same, sum_cut}
 
 -- ---- what the shape tells of a unit
-
-pub blocks_from : (m : ModuleValue) → HasShape m → (unit : ℕ) (u : UnitValue) → slice_get m.units unit ≡ Some u → HasBlocks u
-blocks_from m shape unit u found = record {
-  targets = λ at. sym (ap (λ o. breaks_unit_of m rule.Target unit o at) found) ∙ shape rule.Target unit at;
-  blocks = λ at. sym (ap (λ o. breaks_unit_of m rule.Block unit o at) found) ∙ shape rule.Block unit at;
-}
 
 fitting_is : (kind : UnitKind → Bool) (unit t : ℕ) (args : List ℕ) (o : Option UnitValue) → is_fitting kind unit t args o ≡ true → (unit < t) × ((v : UnitValue) × (o ≡ Some v))
 fitting_is kind unit t args None h = absurd (both_ways false refl h)

@@ -1,5 +1,5 @@
 -- How often instructions are carried out: from one place of a unit to the next.
-use Rattle.std.proofs.Common.{◌≡◌, ℕ, ℤ, zero, suc, ◌+◌, ◌*◌, ◌<◌, ◌≤◌, eqb, min, cond, nat_lt, nat_le, Bool, true, false, not, ◌&&◌, List, [], ◌∷◌, length, filter, Option, Some, None, slice_get, slice_index, inl, inr, sym, refl, ap, ◌∙◌, subst, arith}
+use Rattle.std.proofs.Common.{◌≡◌, ℕ, ℤ, zero, suc, ◌+◌, ◌*◌, ◌<◌, ◌≤◌, eqb, min, cond, nat_lt, nat_le, Bool, true, false, not, ◌&&◌, List, [], ◌∷◌, ◌++◌, length, map, filter, Option, Some, None, option_map, slice_get, slice_index, inl, inr, sym, refl, ap, ◌∙◌, subst, arith}
 use Rattle.std.specs.Bool.{Decides}
 use Rattle.std.specs.List.{list_any}
 use Rattle.std.specs.Option.{option_map_or}
@@ -10,10 +10,12 @@ use Rattle.std.proofs.lemmas.Bool.Decides.{same_from_decides, Decides-and, Decid
 use Rattle.xk_types.specs.declared.instr.Instr.{Instr}
 use Rattle.xk_types.specs.declared.instr.Instr.TheVariants as instr
 use Rattle.xk_types.specs.Order.{Has}
-use Rattle.xk_types.specs.Code.{UnitValue, Loop, loop_begun, loops_from, loops, is_next_of, is_round, turns}
-use Rattle.xk_types.specs.Shape.{aims_well, instr_is, is_crossing, is_amiss, loop_ended, overlaps}
+use Rattle.xk_types.specs.Code.{UnitValue, Loop, loop_begun, begun_from, loops, is_next_of, is_round, turns}
+use Rattle.xk_types.specs.Blocks.{Span, is_end_of, finishes}
+use Rattle.xk_types.specs.Shape.{aims_well, instr_is, is_crossing, is_amiss, span_of, spans, span_begun, span_ended, overlaps}
 use Rattle.xk_types.specs.Bound.{product, visits}
-use Rattle.xk_bounds.specs.Measure.{HasBlocks, loop_between, visits_next}
+use Rattle.xk_shape.specs.Blocks.{IsOrderly}
+use Rattle.xk_bounds.specs.Measure.{loop_between, visits_next}
 use Rattle.xk_bounds.proofs.Cuts.{cut_left}
 
 -- ---- products
@@ -38,10 +40,11 @@ product_none : (p : Loop → Bool) (ls : List Loop) → ((l : Loop) → p l ≡ 
 product_none p [] none = refl
 product_none p (l ∷ ls) none = ap (λ b. product (cond b (l ∷ filter p ls) (filter p ls))) (none l) ∙ product_none p ls none
 
-none_any : (f : Loop → Bool) (ls : List Loop) → list_any f ls ≡ false → (l : Loop) → Has ls l → f l ≡ false
-none_any f [] h l has = absurd has
-none_any f (k ∷ ls) h l (inl same) = ap f (sym same) ∙ (or_parts (f k) (list_any f ls) h).0
-none_any f (k ∷ ls) h l (inr has) = none_any f ls (or_parts (f k) (list_any f ls) h).1 l has
+-- a test that no loop or finish passes
+none_any : (f : Span → Bool) (ls : List Loop) (fs : List Span) → list_any f (map span_of ls ++ fs) ≡ false → (l : Loop) → Has ls l → f (span_of l) ≡ false
+none_any f [] fs h l has = absurd has
+none_any f (k ∷ ls) fs h l (inl same) = ap (λ x. f (span_of x)) (sym same) ∙ (or_parts (f (span_of k)) (list_any f (map span_of ls ++ fs)) h).0
+none_any f (k ∷ ls) fs h l (inr has) = none_any f ls fs (or_parts (f (span_of k)) (list_any f (map span_of ls ++ fs)) h).1 l has
 
 -- ---- the loops of a unit
 
@@ -79,10 +82,10 @@ module _ (u : UnitValue) where
       subst (λ (x : Loop). (n ≤ x.first) × IsLoop u x) same (omega arith, is.1)
   member_here n i rest l (Some k) here e later (inr has) = let is = later has in (omega arith, is.1)
 
-  member_from : (n : ℕ) (is : List Instr) → IsFrom u n is → (l : Loop) → Has (loops_from u n is) l → (n ≤ l.first) × IsLoop u l
+  member_from : (n : ℕ) (is : List Instr) → IsFrom u n is → (l : Loop) → Has (begun_from (loop_begun u) n is) l → (n ≤ l.first) × IsLoop u l
   member_from n [] from l has = absurd has
   member_from n (i ∷ is) from l has =
-      member_here n i (loops_from u (suc n) is) l (loop_begun u n i) (from_here n i is from) refl (member_from (suc n) is (from_next n i is from) l) has
+      member_here n i (begun_from (loop_begun u) (suc n) is) l (loop_begun u n i) (from_here n i is from) refl (member_from (suc n) is (from_next n i is from) l) has
 
   member_is : (l : Loop) → Has (loops u) l → IsLoop u l
   member_is l has = (member_from 0 u.code (λ j. let e : j ≡ 0 + j = omega arith in ap (slice_get u.code) e) l has).1
@@ -126,7 +129,7 @@ module _ (u : UnitValue) where
 
   -- ---- into a loop
 
-  not_amiss : (o : Option Loop) → is_amiss u o ≡ false → (l : Loop) × (o ≡ Some l) × (list_any (overlaps l) (loops u) ≡ false)
+  not_amiss : (o : Option Span) → is_amiss u o ≡ false → (l : Span) × (o ≡ Some l) × (list_any (overlaps l) (spans u) ≡ false)
   not_amiss None h = absurd (both_ways true h refl)
   not_amiss (Some l) h = (l, refl, h)
 
@@ -146,32 +149,38 @@ module _ (u : UnitValue) where
 
   module _ (at : ℕ) (i : Instr) (l : Loop) (here : slice_get u.code at ≡ Some i) (is_for : ends_none i ≡ true) (begun : loop_begun u at i ≡ Some l) (ahead : at < l.last) where
     entered : (n j : ℕ) (is : List Instr) → IsFrom u n is → slice_get is j ≡ Some i → n + j ≡ at
-        → product (filter (is_round (suc at)) (loops_from u n is)) ≡ turns l * product (filter (is_round at) (loops_from u n is))
+        → product (filter (is_round (suc at)) (begun_from (loop_begun u) n is)) ≡ turns l * product (filter (is_round at) (begun_from (loop_begun u) n is))
     entered n j [] from found e = cc
     entered n zero (x ∷ is) from found e =
         let first = begun_is u at i l here begun in
         let same : n ≡ at = omega arith in
-        entered_here n (loops_from u (suc n) is) l (is_round (suc at)) (is_round at) (loop_begun u n x)
+        entered_here n (begun_from (loop_begun u) (suc n) is) l (is_round (suc at)) (is_round at) (loop_begun u n x)
         (ap (λ k. loop_begun u k x) same ∙ ap (loop_begun u at) (same_Some x i found) ∙ begun)
         ((decides_round (suc at) l).1 (omega arith, omega arith))
         (false_from_ne_true (is_round at l) (λ round. let of = (decides_round at l).0 round in omega arith))
-        (product_same (is_round (suc at)) (is_round at) (loops_from u (suc n) is) (λ k has.
+        (product_same (is_round (suc at)) (is_round at) (begun_from (loop_begun u) (suc n) is) (λ k has.
         let at_k = member_from (suc n) is (from_next n x is from) k has in
         round_next at k (λ eq. omega arith) (no_end at i k here is_for at_k.1)))
     entered n (suc j) (x ∷ is) from found e =
-        entered_later (loops_from u (suc n) is) (turns l) (is_round (suc at)) (is_round at) (loop_begun u n x)
+        entered_later (begun_from (loop_begun u) (suc n) is) (turns l) (is_round (suc at)) (is_round at) (loop_begun u n x)
         (λ k eq.
         let at_k = begun_is u n x k (from_here n x is from) eq in
         round_next at k (λ eq. omega arith) (no_end at i k here is_for at_k.1))
         (entered (suc n) j is (from_next n x is from) found (omega arith))
 
+  -- what is the span of a loop
+  loop_is : (o : Option Loop) (s : Span) → option_map span_of o ≡ Some s → (l : Loop) × (o ≡ Some l) × (span_of l ≡ s)
+  loop_is None s h = cc
+  loop_is (Some l) s h = (l, refl, same_Some _ _ h)
+
   -- behind a `for`, each turn of its loop
-  pub enters : (at k : ℕ) (lo hi : ℤ) (e : ℕ) → HasBlocks u → slice_get u.code at ≡ Some (instr.For k lo hi e) → visits u (suc at) ≡ turns (loop_between lo hi) * visits u at
+  pub enters : (at k : ℕ) (lo hi : ℤ) (e : ℕ) → IsOrderly u → slice_get u.code at ≡ Some (instr.For k lo hi e) → visits u (suc at) ≡ turns (loop_between lo hi) * visits u at
   enters at k lo hi e blocks here =
       let i = instr.For k lo hi e in
       let loop : Loop = record { first = at; last = e; slot = k; lo = lo; hi = hi } in
-      let some = not_amiss (loop_begun u at i) (sym (ap (instr_is (is_crossing u at)) here) ∙ blocks.blocks at) in
-      let both = cond_some (is_next_of at (slice_get u.code e)) loop some.0 some.1 in
+      let some = not_amiss (span_begun u at i) (sym (ap (instr_is (is_crossing u at)) here) ∙ blocks.blocks at) in
+      let is = loop_is (loop_begun u at i) some.0 some.1 in
+      let both = cond_some (is_next_of at (slice_get u.code e)) loop is.0 is.1 in
       let begun : loop_begun u at i ≡ Some loop = ap (λ b. cond b (Some loop) None) both.0 in
       let aims = not-false (aims_well u at i) (sym (ap (instr_is (λ x. not (aims_well u at x))) here) ∙ blocks.targets at) in
       let ahead = ltb-true at e (and_parts (nat_lt at e) (nat_lt e (length u.code)) aims).0 in
@@ -179,13 +188,31 @@ module _ (u : UnitValue) where
 
   -- ---- out of a loop
 
-  ended_is : (at first : ℕ) (l : Loop) (o : Option Instr) → slice_get u.code first ≡ o → loop_ended u at first o ≡ Some l → (l.first ≡ first) × (l.last ≡ at) × IsLoop u l
-  ended_is at first l None here h = cc
-  ended_is at first l (Some i) here h =
-      option_and_then_some (λ k. cond (eqb k.last at) (Some k) None) (loop_begun u first i) l h (λ k begun kept.
-      let both = cond_some (eqb k.last at) k l kept in
-      let is = begun_is u first i k here begun in
-      subst (λ (x : Loop). (x.first ≡ first) × (x.last ≡ at) × IsLoop u x) both.1 (is.0, eqb-true k.last at both.0, is.1))
+  -- it is the span of a loop that ends at this place
+  record IsEnded (at first : ℕ) (s : Span) : Type 0 where
+    l : Loop
+    span : span_of l ≡ s
+    begins : l.first ≡ first
+    ends : l.last ≡ at
+    is : IsLoop u l
+
+  begun_ended : (at first : ℕ) (i : Instr) (s : Span) → slice_get u.code at ≡ Some (instr.Next first) → slice_get u.code first ≡ Some i → span_begun u first i ≡ Some s → s.last ≡ at → IsEnded at first s
+  begun_ended at first (instr.For k lo hi e) s next here begun ends =
+      let of = loop_is (loop_begun u first (instr.For k lo hi e)) s begun in
+      let is = begun_is u first (instr.For k lo hi e) of.0 here of.1 in
+      record { l = of.0; span = of.2; begins = is.0; ends = ap (λ (x : Span). x.last) of.2 ∙ ends; is = is.1 }
+  begun_ended at first (instr.Finish e) s next here begun ends =
+      let both = cond_some (is_end_of first (slice_get u.code e)) (record { first = first; last = e }) s begun in
+      let same : e ≡ at = ap (λ (x : Span). x.last) both.1 ∙ ends in
+      absurd (both_ways true (sym both.0 ∙ ap (λ n. is_end_of first (slice_get u.code n)) same ∙ ap (is_end_of first) next) refl)
+  begun_ended at first _ s next here begun ends = cc
+
+  ended_is : (at first : ℕ) (s : Span) (o : Option Instr) → slice_get u.code at ≡ Some (instr.Next first) → slice_get u.code first ≡ o → span_ended u at first o ≡ Some s → IsEnded at first s
+  ended_is at first s None next here h = cc
+  ended_is at first s (Some i) next here h =
+      option_and_then_some (λ k. cond (eqb k.last at) (Some k) None) (span_begun u first i) s h (λ k begun kept.
+      let both = cond_some (eqb k.last at) k s kept in
+      subst (IsEnded at first) both.1 (begun_ended at first i k next here begun (eqb-true k.last at both.0)))
 
   -- of two loops of one `for`, or of one `next`, one is the other
   same_end : (l k : Loop) → IsLoop u l → IsLoop u k → k.first ≡ l.first → k.last ≡ l.last
@@ -198,7 +225,7 @@ module _ (u : UnitValue) where
   no_rise a b c d h p q r = both_ways (nat_lt a b && nat_lt b c && nat_lt c d) h (rw (lt-ltb a b p, lt-ltb b c q, lt-ltb c d r) refl)
 
   -- a loop lies round the place behind a `next` where it lies round its `for`
-  round_left : (l k : Loop) → l.first < l.last → IsLoop u l → IsLoop u k → overlaps l k ≡ false → is_round (suc l.last) k ≡ is_round l.first k
+  round_left : (l k : Loop) → l.first < l.last → IsLoop u l → IsLoop u k → overlaps (span_of l) (span_of k) ≡ false → is_round (suc l.last) k ≡ is_round l.first k
   round_left l k long is at_k apart =
       let parts = or_parts (nat_lt l.first k.first && nat_lt k.first l.last && nat_lt l.last k.last) (nat_lt k.first l.first && nat_lt l.first k.last && nat_lt k.last l.last) apart in
       let begins = no_begin l.last (instr.Next l.first) k is.ends refl at_k in
@@ -220,23 +247,24 @@ module _ (u : UnitValue) where
       ]
       in (omega arith, omega arith))
 
-  pub leaves : (at first : ℕ) → HasBlocks u → slice_get u.code at ≡ Some (instr.Next first) → (first < at) × (visits u (suc at) ≡ visits u first)
+  pub leaves : (at first : ℕ) → IsOrderly u → slice_get u.code at ≡ Some (instr.Next first) → (first < at) × (visits u (suc at) ≡ visits u first)
   leaves at first blocks here =
       let i = instr.Next first in
-      let some = not_amiss (loop_ended u at first (slice_get u.code first)) (sym (ap (instr_is (is_crossing u at)) here) ∙ blocks.blocks at) in
-      let l = some.0 in
-      let is = ended_is at first l (slice_get u.code first) refl some.1 in
+      let some = not_amiss (span_ended u at first (slice_get u.code first)) (sym (ap (instr_is (is_crossing u at)) here) ∙ blocks.blocks at) in
+      let ended = ended_is at first some.0 (slice_get u.code first) here refl some.1 in
+      let l = ended.l in
       let aims = not-false (aims_well u at i) (sym (ap (instr_is (λ x. not (aims_well u at x))) here) ∙ blocks.targets at) in
       let behind = ltb-true first at aims in
       let P : ℕ → ℕ → Type 0 = λ a b. visits u (suc a) ≡ visits u b in
-      let long : l.first < l.last = omega arith in
-      let same = product_same (is_round (suc l.last)) (is_round l.first) (loops u) (λ k has. round_left l k long is.2 (member_is k has) (none_any (overlaps l) (loops u) some.2 k has)) in
-      (behind, subst (λ b. P at b) is.0 (subst (λ a. P a l.first) is.1 same))
+      let long : l.first < l.last = omega (arith, ended.begins, ended.ends, behind) in
+      let apart : list_any (overlaps (span_of l)) (spans u) ≡ false = ap (λ x. list_any (overlaps x) (spans u)) ended.span ∙ some.2 in
+      let same = product_same (is_round (suc l.last)) (is_round l.first) (loops u) (λ k has. round_left l k long ended.is (member_is k has) (none_any (overlaps (span_of l)) (loops u) (finishes u) apart k has)) in
+      (behind, subst (λ b. P at b) ended.begins (subst (λ a. P a l.first) ended.ends same))
 
 -- ---- one place on
 
 -- the count behind an instruction, cut, is what is reckoned from the counts so far
-pub next_measured : (u : UnitValue) (cut at here : ℕ) (before : List ℕ) (i : Instr) → HasBlocks u → slice_get u.code at ≡ Some i → here ≡ min (visits u at) cut → ((k : ℕ) → k < at → slice_index before k ≡ min (visits u k) cut)
+pub next_measured : (u : UnitValue) (cut at here : ℕ) (before : List ℕ) (i : Instr) → IsOrderly u → slice_get u.code at ≡ Some i → here ≡ min (visits u at) cut → ((k : ℕ) → k < at → slice_index before k ≡ min (visits u k) cut)
     → visits_next cut before here i ≡ min (visits u (suc at)) cut
 next_measured u cut at here before (instr.For k lo hi e) blocks found is counted =
     ap (λ n. min (n * turns (loop_between lo hi)) cut) is

@@ -1,2 +1,3 @@
 pub mod Refused
+pub mod Rooms
 pub mod Measure

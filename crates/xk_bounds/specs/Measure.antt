@@ -1,15 +1,15 @@
 -- The bounds of a module, as the verifier holds them.
-use Rattle.std.specs.Prelude.{◌≡◌, ℕ, ◌+◌, ◌*◌, min, ℤ, false, List, map, slice_index}
+use Rattle.std.specs.Prelude.{◌≡◌, ℕ, ◌+◌, ◌*◌, min, ℤ, List, slice_index}
 use Rattle.std.specs.Option.{option_map_or}
 use Rattle.xk_types.specs.declared.instr.Instr.{Instr}
 use Rattle.xk_types.specs.declared.instr.Instr.TheVariants as instr
-use Rattle.xk_types.specs.Code.{UnitValue, ModuleValue, IsWithinLimits, unit_called, unit_run, Loop, turns}
-use Rattle.xk_types.specs.Shape.{breaks_target, breaks_block}
-use Rattle.xk_types.specs.Bound.{visits, sum_from, total, steps_weight, activities_weight, clocks_weight, steps_bound, activities_bound, clocks_bound, greatest, stack_bound}
+use Rattle.xk_types.specs.Code.{UnitValue, ModuleValue, IsWithinLimits, unit_run, Loop, turns}
+use Rattle.xk_types.specs.Bound.{visits, sum_from, total, steps_weight, activities_weight, clocks_weight, steps_bound, activities_bound, clocks_bound, stack_bound}
 use Rattle.xk_types.specs.Accepted.{IsAccepted}
 use Rattle.xk_bounds.specs.declared.bounds.Bounds.{Bounds}
 use Rattle.xk_bounds.specs.declared.bounds.Quantity.{Quantity}
 use Rattle.xk_bounds.specs.declared.bounds.Quantity.TheVariants as quantity
+use Rattle.xk_bounds.specs.Rooms.{AreRooms}
 
 -- what an instruction itself adds to a quantity
 abbrev pub weight_of : Quantity → Instr → ℕ
@@ -29,19 +29,6 @@ added_at weight table u at i = visits u at * added weight table i
 abbrev pub added_by : (Instr → ℕ) → (ℕ → ℕ) → UnitValue → ℕ
 added_by weight table u = sum_from (added_at weight table u) 0 u.code
 
--- the slots of the unit that an instruction calls, where a table says them of each unit
-abbrev pub called_by : (ℕ → ℕ) → Instr → ℕ
-called_by table i = option_map_or table (unit_called i) 0
-
--- the slots of a unit, with the most of those that it calls
-abbrev pub stack_by : (ℕ → ℕ) → UnitValue → ℕ
-stack_by table u = u.slots + greatest (map (called_by table) u.code)
-
--- each `for` of the unit has its `next`, and loops nest or lie apart
-pub record HasBlocks (u : UnitValue) : Type 0 where
-  pub targets : (at : ℕ) → breaks_target u at ≡ false
-  pub blocks : (at : ℕ) → breaks_block u at ≡ false
-
 -- a loop with these bounds
 abbrev pub loop_between : ℤ → ℤ → Loop
 loop_between lo hi = record { first = 0; last = 0; slot = 0; lo = lo; hi = hi }
@@ -53,12 +40,13 @@ visits_next cut before here (instr.For k lo hi e) = min (here * turns (loop_betw
 visits_next cut before here (instr.Next first) = slice_index before first
 visits_next cut before here _ = here
 
--- they are those of the module, but that a number above `cut` is told as `cut`
+-- they are those of the module, but that a sum above `cut` is told as `cut`
 pub record AreCut (m : ModuleValue) (cut : ℕ) (b : Bounds) : Type 0 where
   pub steps : b.steps ≡ min (steps_bound m) cut
   pub activities : b.activities ≡ min (total activities_weight m 0) cut + 1
   pub clocks : b.clocks ≡ min (clocks_bound m) cut
-  pub stack : b.stack ≡ min (stack_bound m) cut
+  pub stack : b.stack ≡ stack_bound m
+  pub rooms : AreRooms m b.rooms.items
 
 -- they are those of the module
 pub record AreBounds (m : ModuleValue) (b : Bounds) : Type 0 where
@@ -66,6 +54,7 @@ pub record AreBounds (m : ModuleValue) (b : Bounds) : Type 0 where
   pub activities : b.activities ≡ activities_bound m
   pub clocks : b.clocks ≡ clocks_bound m
   pub stack : b.stack ≡ stack_bound m
+  pub rooms : AreRooms m b.rooms.items
 
 -- the module is accepted, and these are its bounds
 pub record IsVerified (m : ModuleValue) (b : Bounds) : Type 0 where

@@ -2,24 +2,28 @@
 
 ghost use Rattle.std.specs.Prelude.{◌≡◌, ◌+◌, ◌*◌, ◌<◌, ◌≤◌, min, slice_index, IfOk, MatchResult};
 ghost use Rattle.std.specs.Option.{option_map_or};
-ghost use Rattle.xk_types.specs.Code.{ModuleValue, unit_called, unit_run, turns};
+ghost use Rattle.xk_types.specs.Code.{ModuleValue, unit_run, turns};
 ghost use Rattle.xk_types.specs.Shape.{HasShape};
-ghost use Rattle.xk_types.specs.Bound.{total, stack_bound, IsWithinBounds};
+ghost use Rattle.xk_types.specs.Bound.{total, IsWithinBounds};
+ghost use Rattle.xk_shape.specs.Blocks.{IsOrderly};
 ghost use Rattle.xk_bounds.specs.Refused.{IsBoundFault};
-ghost use Rattle.xk_bounds.specs.Measure.{AreBounds, AreCut, HasBlocks, added, added_by, stack_by, weight_of, visits_next, loop_between};
+ghost use Rattle.xk_bounds.specs.Measure.{AreBounds, AreCut, added, added_by, weight_of, visits_next, loop_between};
 
 use crate::refusal::BoundFault;
+use crate::room::{Room, deepest, rooms};
 use std::alloc::{AllocError, Global};
 use xk_types::{Instr, Module, Rule, Unit};
 
 /// The most that a run of a module may take.
-#[derive(Clone, Copy)]
+#[derive(Drop)]
 pub(crate) struct Bounds {
     pub steps: u64,
     pub activities: u32,
     pub clocks: u32,
     /// The slots in the frames of one activity.
     pub stack: u32,
+    /// What an activity needs to run each unit.
+    pub rooms: Vec<Room>,
 }
 
 const MAX_STEPS: u64 = 1_000_000_000;
@@ -43,16 +47,18 @@ enum Quantity {
 }
 
 impl Bounds {
-    /// The bounds of a module, each cut at `CUT`.
+    /// The bounds of a module, those that are sums cut at `CUT`.
     pub(crate) fn of(alloc: Global, m: &Module) -> Result<Bounds, AllocError>
         requires { HasShape m.now }
         ensures { IfOk result (AreCut m.now CUT) }
     {
+        let rooms = rooms(alloc, m)?;
         Ok(Bounds {
             steps: most(alloc, m, Quantity::Steps)?,
             activities: most(alloc, m, Quantity::Activities)? as u32 + 1,
             clocks: most(alloc, m, Quantity::Clocks)? as u32,
-            stack: deepest(alloc, m)? as u32,
+            stack: deepest(&rooms),
+            rooms,
         })
     }
 
@@ -103,7 +109,7 @@ fn most(alloc: Global, m: &Module, counted: Quantity) -> Result<u64, AllocError>
 
 /// The most that a unit takes, with what the table says of the units that it calls and starts, cut at `CUT`.
 fn most_of(alloc: Global, counted: Quantity, u: &Unit, table: &[u64]) -> Result<u64, AllocError>
-    requires { HasBlocks u.now }
+    requires { IsOrderly u.now }
     ensures { IfOk result
         (λ n. n ≡ min (added_by (weight_of counted) (slice_index table.now) u.now) CUT) }
 {
@@ -192,42 +198,4 @@ fn cut_product(a: u64, b: u64) -> u64
     ensures { result ≡ min (a * b) CUT }
 {
     a.saturating_mul(b).min(CUT)
-}
-
-/// The most slots in the frames of one activity, cut at `CUT`. A unit calls only units of greater number, so that the table
-/// is filled from the last unit on.
-fn deepest(alloc: Global, m: &Module) -> Result<u64, AllocError>
-    requires { HasShape m.now }
-    ensures { IfOk result (λ n. n ≡ min (stack_bound m.now) CUT) }
-{
-    let units = m.units();
-    let mut table = vec![in alloc; 0; units.len()]?;
-    let mut stack = 0;
-    for unit in (0..units.len()).rev() {
-        let slots = stack_of(&units[unit], &table);
-        table[unit] = slots;
-        stack = u64::max(stack, slots);
-    }
-    Ok(stack)
-}
-
-/// The slots of a unit, with the most that the table says of a unit that it calls, cut at `CUT`.
-fn stack_of(u: &Unit, table: &[u64]) -> u64
-    ensures { result ≡ min (stack_by (slice_index table.now) u.now) CUT }
-{
-    let mut below = 0;
-    for instr in &u.code {
-        below = u64::max(below, called(instr, table));
-    }
-    cut_sum(u64::from(u.slots), below)
-}
-
-/// What the table says of the unit that the instruction calls.
-fn called(instr: &Instr, table: &[u64]) -> u64
-    ensures { result ≡ option_map_or (slice_index table.now) (unit_called instr.now) 0 }
-{
-    match instr {
-        Instr::Call(unit, _) => table.get(*unit as usize).copied().unwrap_or(0),
-        _ => 0,
-    }
 }

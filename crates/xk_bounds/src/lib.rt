@@ -4,11 +4,13 @@
 
 mod bounds;
 mod refusal;
+mod room;
 #[cfg(test)]
 mod tests;
 mod verified;
 
 pub use refusal::{BoundFault, Refusal};
+pub use room::Room;
 pub use verified::{Verified, verify};
 pub use xk_shape::ShapeFault;
 pub use xk_typestate::{KindFault, KindSet};

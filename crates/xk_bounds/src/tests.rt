@@ -1,4 +1,4 @@
-use crate::{KindSet, Refusal, Verified, verify};
+use crate::{KindSet, Refusal, Room, Verified, verify};
 use std::alloc::{AllocError, Global};
 use std::test::Fail;
 use xk_types::{Args, Instr, Kind, Limit, Module, ParamKind, Unit, UnitKind};
@@ -444,6 +444,128 @@ fn bounds_the_stack(rt: HostRuntime) -> Result<(), Fail> {
     );
     let more = bound_fault(verdict(alloc, calls_in_a_chain(alloc, 64)?)?);
     assert_eq!(rt; more, Some((17, 4096)));
+    Ok(())
+}
+
+/// Main, which starts a body inside a finish, and that one another body.
+fn nested_starts(alloc: Global) -> Result<Vec<Unit>, AllocError> {
+    let code = vec![in alloc;
+        Instr::Finish(2),
+        spawn(alloc, 1, &[])?,
+        Instr::EndFinish(0),
+        Instr::Lit(0, 2),
+        Instr::Print(0),
+        Instr::Ret,
+    ]?;
+    let main = main_unit(alloc, 1, code)?;
+    let code = vec![in alloc; spawn(alloc, 2, &[])?, Instr::Ret]?;
+    let starts = body(alloc, &[], 0, code)?;
+    let code = vec![in alloc; Instr::Lit(0, 1), Instr::Print(0), Instr::Ret]?;
+    let prints = body(alloc, &[], 1, code)?;
+    Ok(vec![in alloc; main, starts, prints]?)
+}
+
+/// Main, which makes a clock inside a finish, and starts a body that waits for it; it drops the clock, or holds it to the end.
+fn clock_in_a_finish(alloc: Global, drops: bool) -> Result<Vec<Unit>, AllocError> {
+    let end = if drops { 4 } else { 3 };
+    let mut code = Vec::new(alloc);
+    code.push(Instr::Finish(end))?;
+    code.push(Instr::Make(0))?;
+    code.push(spawn(alloc, 1, &[0])?)?;
+    if drops {
+        code.push(Instr::Drop(0))?;
+    }
+    code.push(Instr::EndFinish(0))?;
+    code.push(Instr::Ret)?;
+    let main = main_unit(alloc, 1, code)?;
+    let code = vec![in alloc; Instr::Advance, Instr::Ret]?;
+    let waits = body(alloc, &[ParamKind::Clock], 1, code)?;
+    Ok(vec![in alloc; main, waits]?)
+}
+
+#[test]
+fn measures_finishes(rt: HostRuntime) -> Result<(), Fail> {
+    let alloc = rt.alloc();
+    let nested = measured(verdict(alloc, nested_starts(alloc)?)?);
+    assert_eq!(rt; nested, Some((11, 3, 0)));
+    let dropped = measured(verdict(alloc, clock_in_a_finish(alloc, true)?)?);
+    assert_eq!(rt; dropped, Some((9, 2, 1)));
+    let Err(e) = verdict(alloc, clock_in_a_finish(alloc, false)?)? else {
+        panic!(rt; "accepted");
+    };
+    let text = format!(in alloc; "{e}")?;
+    assert_eq!(rt;
+        text.as_str(),
+        "slot 0 breaks rule V12 Held in unit 0 at 3, where it is live"
+    );
+    Ok(())
+}
+
+/// Main, which opens two finishes one inside the other, calls the first method there and starts a body behind them; the body calls
+/// the same method, which opens a finish, and behind it calls another one, which opens two.
+fn finishes_in_calls(alloc: Global) -> Result<Vec<Unit>, AllocError> {
+    let code = vec![in alloc;
+        Instr::Finish(6),
+        Instr::Finish(2),
+        Instr::EndFinish(1),
+        Instr::Finish(5),
+        call(alloc, 2, &[])?,
+        Instr::EndFinish(3),
+        Instr::EndFinish(0),
+        spawn(alloc, 1, &[])?,
+        Instr::Ret,
+    ]?;
+    let main = main_unit(alloc, 2, code)?;
+    let code = vec![in alloc; call(alloc, 2, &[])?, Instr::Ret]?;
+    let calls = body(alloc, &[], 64, code)?;
+    let code = vec![in alloc;
+        Instr::Finish(1),
+        Instr::EndFinish(0),
+        call(alloc, 3, &[])?,
+        Instr::Ret,
+    ]?;
+    let first = method(alloc, &[], 3, code)?;
+    let code = vec![in alloc;
+        Instr::Finish(3),
+        Instr::Finish(2),
+        Instr::EndFinish(1),
+        Instr::EndFinish(0),
+        Instr::Ret,
+    ]?;
+    let second = method(alloc, &[], 5, code)?;
+    Ok(vec![in alloc; main, calls, first, second]?)
+}
+
+/// The room of a unit, where the unit exists.
+fn room_of(v: &Verified, unit: u16) -> Option<Room> {
+    if (unit as usize) < v.module().units().len() {
+        Some(v.room(unit))
+    } else {
+        None
+    }
+}
+
+/// A room of so many slots, frames and finishes.
+fn room(slots: u32, frames: u32, finishes: u32) -> Option<Room> {
+    Some(Room {
+        slots,
+        frames,
+        finishes,
+    })
+}
+
+#[test]
+fn tells_rooms(rt: HostRuntime) -> Result<(), Fail> {
+    let alloc = rt.alloc();
+    let Ok(v) = verdict(alloc, finishes_in_calls(alloc)?)? else {
+        panic!(rt; "refused");
+    };
+    assert_eq!(rt; room_of(&v, 0), room(10, 3, 5));
+    assert_eq!(rt; room_of(&v, 1), room(72, 3, 3));
+    assert_eq!(rt; room_of(&v, 2), room(8, 2, 3));
+    assert_eq!(rt; room_of(&v, 3), room(5, 1, 2));
+    assert_eq!(rt; room_of(&v, 4), None);
+    assert_eq!(rt; v.stack(), 72);
     Ok(())
 }
 

@@ -1,10 +1,10 @@
 //! Modules that were accepted.
 
-ghost use Rattle.std.specs.Prelude.{◌≡◌, ◌↔◌, IsTrue, IfOk, IfErr};
+ghost use Rattle.std.specs.Prelude.{◌≡◌, ◌↔◌, ◌<◌, length, IsTrue, IfOk, IfErr};
 ghost use Rattle.xk_types.specs.declared.rules.Kind.{Kind};
 ghost use Rattle.xk_types.specs.Code.{IsWithinLimits};
 ghost use Rattle.xk_types.specs.Shape.{HasShape};
-ghost use Rattle.xk_types.specs.Bound.{steps_bound, activities_bound, clocks_bound, stack_bound, IsWithinBounds};
+ghost use Rattle.xk_types.specs.Bound.{steps_bound, activities_bound, clocks_bound, stack_of, stack_bound, frames_of, room_of, IsWithinBounds};
 ghost use Rattle.xk_types.specs.Accepted.{IsAccepted};
 ghost use Rattle.xk_typestate.specs.KindSet.{kinds_have};
 ghost use Rattle.xk_typestate.specs.Place.{visit, HasPlace, IsVisitedIn};
@@ -14,6 +14,7 @@ ghost use Rattle.xk_bounds.specs.Refused.{Refuses};
 
 use crate::bounds::Bounds;
 use crate::refusal::Refusal;
+use crate::room::Room;
 use std::alloc::Global;
 use std::marker::Model;
 use xk_shape::shape;
@@ -39,8 +40,8 @@ impl Model for Verified {
 }
 
 /// Accepts the module, or gives it back with the first rule that it breaks, at the least place where it does. Rules are
-/// tried in the order of their numbers, but V11 to V13 together. `OutOfMemory` comes only where room for the loops of a
-/// unit, for the kinds of its slots, for a walk, or for what the bounds are reckoned in was refused.
+/// tried in the order of their numbers, but V11 to V13 together. `OutOfMemory` comes only where room for the loops and blocks of
+/// a unit, for the kinds of its slots, for a walk, or for what the bounds are reckoned in was refused.
 pub fn verify(alloc: Global, m: Module) -> Result<Verified, (Module, Refusal)>
     ensures accepted { IfOk result (λ v. (v ≡ m) × IsAccepted m) }
     ensures refused { IfErr result (λ e. (e.0 ≡ m) × Refuses m e.1) }
@@ -116,5 +117,15 @@ impl Verified {
         ensures { result ≡ stack_bound self.now }
     {
         self.bounds.stack
+    }
+
+    /// The most that an activity has at once to run this unit, and what it calls.
+    pub fn room(&self, unit: u16) -> Room
+        requires { unit < length self.now.units }
+        ensures slots { result.slots ≡ stack_of self.now unit }
+        ensures frames { result.frames ≡ frames_of self.now unit }
+        ensures finishes { result.finishes ≡ room_of self.now unit }
+    {
+        self.bounds.rooms[unit as usize]
     }
 }

@@ -3,3 +3,4 @@ pub mod Arms
 pub mod Ableness
 pub mod Cores
 pub mod Runs
+pub mod Told

@@ -32,6 +32,13 @@ grows (instr.Call t args) = true
 grows (instr.Spawn t args) = true
 grows _ = false
 
+-- it opens or closes a finish, or starts an activity
+abbrev pub concerns_finishes : Instr → Bool
+concerns_finishes (instr.Finish e) = true
+concerns_finishes (instr.EndFinish b) = true
+concerns_finishes (instr.Spawn t args) = true
+concerns_finishes _ = false
+
 -- both slots hold numbers
 abbrev pub AreNumbersAt : Activity → ℕ → ℕ → Type 0
 AreNumbersAt act x y = IsNumberAt act x × IsNumberAt act y

@@ -5,3 +5,4 @@ pub mod Able
 pub mod Opening
 pub mod Core
 pub mod Schedules
+pub mod Told

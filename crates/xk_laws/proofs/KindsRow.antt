@@ -58,7 +58,7 @@ kinds_at (suc unit) s at = kind.Live ∷ kind.Resumed ∷ []
 
 -- the module is accepted
 pub kinds_row_accepted : IsAccepted kinds_row
-unfolding Rattle.xk_types.specs.Bound.total_within Rattle.xk_types.specs.Bound.stack_within
+unfolding Rattle.xk_types.specs.Bound.total_within Rattle.xk_types.specs.Bound.chain_within
 kinds_row_accepted = accepted_by kinds_row kinds_at refl refl (record { steps = omega arith; activities = omega arith; clocks = omega arith; stack = omega arith })
 
 -- it is within the limits

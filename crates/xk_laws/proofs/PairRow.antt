@@ -61,7 +61,7 @@ pair_kinds (suc unit) = body_kinds
 
 -- the module is accepted
 pub pair_row_accepted : IsAccepted pair_row
-unfolding Rattle.xk_types.specs.Bound.total_within Rattle.xk_types.specs.Bound.stack_within
+unfolding Rattle.xk_types.specs.Bound.total_within Rattle.xk_types.specs.Bound.chain_within
 pair_row_accepted = accepted_by pair_row pair_kinds refl refl (record { steps = omega arith; activities = omega arith; clocks = omega arith; stack = omega arith })
 
 -- it is within the limits
@@ -96,5 +96,5 @@ pair_list = 0 ∷ 0 ∷ 0 ∷ 0 ∷ 1 ∷ 1 ∷ 1 ∷ 0 ∷ 0 ∷ 0 ∷ 1 ∷ 1 
 -- it takes as many steps as the bound has
 pub pair_run : (comes_to_end (run pair_row pair_list (opening pair_row)) ≡ true) × (printed pair_row pair_list (opening pair_row) ≡ pos 12 ∷ [])
     × (steps_bound pair_row ≡ length pair_list) × (activities_bound pair_row ≡ 2) × (clocks_bound pair_row ≡ 1)
-unfolding Rattle.xk_types.specs.Bound.total_within Rattle.xk_types.specs.Bound.stack_within
+unfolding Rattle.xk_types.specs.Bound.total_within Rattle.xk_types.specs.Bound.chain_within
 pair_run = (refl, refl, refl, refl, refl)

@@ -44,7 +44,7 @@ kinds_at (suc s) (suc (suc at)) = kind.Number ∷ []
 
 -- the module is accepted
 pub phases_row_accepted : IsAccepted phases_row
-unfolding Rattle.xk_types.specs.Bound.total_within Rattle.xk_types.specs.Bound.stack_within
+unfolding Rattle.xk_types.specs.Bound.total_within Rattle.xk_types.specs.Bound.chain_within
 phases_row_accepted = accepted_by phases_row (λ unit s at. kinds_at s at) refl refl
     (record { steps = omega arith; activities = omega arith; clocks = omega arith; stack = omega arith })
 

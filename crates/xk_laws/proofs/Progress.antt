@@ -1,5 +1,5 @@
 -- No step of a sound world is wrong, each leads to a sound one, and where nobody is enabled, all have ended.
-use Rattle.std.proofs.Common.{◌≡◌, ℕ, zero, suc, ◌+◌, ◌<◌, ◌≤◌, Bool, true, false, cond, List, [], ◌∷◌, ◌++◌, length, Some, None, Option, refl, sym, ap, ◌∙◌, subst, arith, ◌⊎◌, inl, inr}
+use Rattle.std.proofs.Common.{◌≡◌, ℕ, zero, suc, ◌+◌, ◌<◌, ◌≤◌, Bool, true, false, cond, not, List, [], ◌∷◌, ◌++◌, length, Some, None, Option, refl, sym, ap, ◌∙◌, subst, arith, ◌⊎◌, inl, inr}
 use Rattle.std.specs.Prelude.{slice_get}
 use Rattle.std.specs.List.{list_any}
 use Rattle.std.proofs.lemmas.Bool.{false≢true, or_parts, true_from_ne_false}
@@ -17,7 +17,7 @@ use Rattle.xk_types.specs.Blocks.{block_at, depth_at, homes}
 use Rattle.xk_types.specs.Order.{Has}
 use Rattle.xk_types.specs.declared.instr.Instr.{Instr}
 use Rattle.xk_types.specs.declared.instr.Instr.TheVariants as instr
-use Rattle.xk_types.specs.World.{Frame, Finish, Activity, Clock, World, standing_of, instruction_at, is_ended}
+use Rattle.xk_types.specs.World.{Frame, Finish, Activity, Clock, World, standing_of, instruction_at, base_unit, is_ended}
 use Rattle.xk_types.specs.Step.{Outcome, Blocked, Wrong, Stepped, is_signalled, is_pending, all, passed, past, done, waits, run_at, closing, innermost, awaits, is_under, step_by, step_of, step}
 use Rattle.xk_types.specs.Schedule.{is_step, is_enabled, all_ended}
 use Rattle.xk_types.specs.Accepted.{IsAccepted}
@@ -30,7 +30,9 @@ use Rattle.xk_laws.proofs.Steps.{StandsNear, done_sound, next_sound}
 use Rattle.xk_laws.proofs.Waiting.{going_on}
 use Rattle.xk_laws.proofs.Operands.{Moves}
 use Rattle.xk_laws.proofs.Instructions.{IsFree, standing_at, instruction_found, running_moves}
-use Rattle.xk_laws.proofs.Blocks.{block_closed}
+use Rattle.xk_laws.proofs.Blocks.{block_opened, block_closed, block_end}
+use Rattle.xk_laws.proofs.Totals.{nesting_at, room_own}
+use Rattle.xk_types.specs.Bound.{room_of}
 use Rattle.xk_laws.proofs.Scopes.{finish_at, opened_in, opened_by, IsRound, round_length, round_shorter, AreHome, IsScoped}
 use Rattle.xk_laws.proofs.ScopeSteps.{closed_home}
 use Rattle.xk_laws.proofs.Under.{AreOwned, under_governed, under_owner, under_cases, under_above, IsAwaited, awaited}
@@ -88,13 +90,35 @@ moves_step m (Stepped v e) h = refl
 
 module _ (m : ModuleValue) (ok : IsAccepted m) (w : World) (sound : IsSound m w) (scoped : IsScoped m w) where
   -- an activity that runs and stands at an `endfinish` has a finish open, more than the frames below have
-  open_at_end : (a : ℕ) (act : Activity) (found : slice_get w.activities a ≡ Some act) (b : ℕ) → slice_get (sound.activities a act found).u.code act.frame.place ≡ Some (instr.EndFinish b)
+  pub open_at_end : (a : ℕ) (act : Activity) (found : slice_get w.activities a ≡ Some act) (b : ℕ) → slice_get (sound.activities a act found).u.code act.frame.place ≡ Some (instr.EndFinish b)
       → opened_by m act.callers < act.opened
   open_at_end a act found b here =
       let me = sound.activities a act found in
       let depth : opened_in m act.frame ≡ length (block_at me.u (act.frame.place + 1) ++ b ∷ []) =
       ap (λ o. option_map_or (λ u. depth_at u act.frame.place) o 0) me.unit ∙ ap length (block_closed me.u (unit_fits m ok.shape act.frame.unit me.u me.unit).finishes b act.frame.place here) in
       omega (arith, (scoped.activities a act found).opened, sum_by-cons (opened_in m) act.frame act.callers, length_push (block_at me.u (act.frame.place + 1)) b)
+
+  -- one that stands at a `finish` has room for one more
+  pub room_at_finish : (a : ℕ) (act : Activity) (found : slice_get w.activities a ≡ Some act) (e : ℕ) → slice_get (sound.activities a act found).u.code act.frame.place ≡ Some (instr.Finish e)
+      → act.opened < room_of m (base_unit act)
+  room_at_finish a act found e here =
+      let me = sound.activities a act found in
+      let fit = unit_fits m ok.shape act.frame.unit me.u me.unit in
+      let depth : opened_in m act.frame ≡ depth_at me.u act.frame.place = ap (λ o. option_map_or (λ u. depth_at u act.frame.place) o 0) me.unit in
+      let more : depth_at me.u (act.frame.place + 1) ≡ length (block_at me.u act.frame.place ++ act.frame.place ∷ []) = ap length (block_opened me.u fit.finishes act.frame.place e here) in
+      let s = scoped.activities a act found in
+      omega (arith, s.opened, s.rooms.0, sum_by-cons (opened_in m) act.frame act.callers, length_push (block_at me.u act.frame.place) act.frame.place,
+      nesting_at me.u (act.frame.place + 1) (fit.next (instr.Finish e) act.frame.place here refl), room_own m ok.shape act.frame.unit me.u me.unit)
+
+  -- one that ends has closed all that it opened
+  pub closed_at_end : (a : ℕ) (act : Activity) (found : slice_get w.activities a ≡ Some act) → slice_get (sound.activities a act found).u.code act.frame.place ≡ Some instr.Ret → act.callers ≡ [] → act.opened ≡ 0
+  closed_at_end a act found here alone =
+      let me = sound.activities a act found in
+      let fit = unit_fits m ok.shape act.frame.unit me.u me.unit in
+      let depth : opened_in m act.frame ≡ 0 =
+      ap (λ o. option_map_or (λ u. depth_at u act.frame.place) o 0) me.unit ∙ ap length (block_end me.u fit.finishes act.frame.place (fit.last act.frame.place here) instr.Ret here refl) in
+      let below : opened_by m act.callers ≡ 0 = ap (opened_by m) alone in
+      omega (arith, (scoped.activities a act found).opened, sum_by-cons (opened_in m) act.frame act.callers)
 
   -- it waits at an `endfinish` for somebody who hasn't ended
   pub record IsAtEnd (a : ℕ) (act : Activity) (found : slice_get w.activities a ≡ Some act) : Type 0 where
@@ -122,6 +146,31 @@ module _ (m : ModuleValue) (ok : IsAccepted m) (w : World) (sound : IsSound m w)
       by : (n : ℕ) → act.opened ≡ n → closing w a act n ≡ Blocked
       by zero q = absurd (let r = open_at_end a act found e.b e.here in omega arith)
       by (suc n) q = rw e.awaited refl
+
+  -- an instruction keeps the activity back: at an `endfinish` somebody under the finish hasn't ended
+  abbrev pub is_kept : ℕ → Activity → Instr → Bool
+  is_kept a act (instr.EndFinish b) = awaits w.activities (innermost a act)
+  is_kept a act _ = false
+
+  -- who runs is enabled, where nothing keeps it back
+  pub running_enabled : (a : ℕ) (act : Activity) → slice_get w.activities a ≡ Some act → act.status ≡ status.Running → (i : Instr) → instruction_at m act.frame ≡ Some i
+      → is_enabled m w a ≡ not (is_kept a act i)
+  running_enabled a act found running i at =
+      ap (λ o. is_step (step_of m w a o)) found ∙ ap (λ st. is_step (step_by m w a act st)) running
+      ∙ elim (free_or_end a act found running s.0 s.1) [
+        | inl free ↦ moves_step m (run_at m w a act (instruction_at m act.frame)) (running_moves m ok w a act sound found running s.0 s.1 free) ∙ ap not (unkept s.0 free ∙ ap (is_kept a act) same)
+        | inr e ↦ ap is_step (end_blocked a act found running e) ∙ ap not (sym e.awaited ∙ ap (is_kept a act) (same_Some (instr.EndFinish e.b) s.0 (sym e.here ∙ s.1) ∙ same))
+      ]
+    where
+      s : (j : Instr) × (slice_get (sound.activities a act found).u.code act.frame.place ≡ Some j)
+      s = standing_at m ok w a act sound found running
+
+      same : s.0 ≡ i
+      same = same_Some s.0 i (sym (instruction_found m ok w a act sound found running s.0 s.1) ∙ at)
+
+      unkept : (j : Instr) → IsFree m ok w a act sound found running j → false ≡ is_kept a act j
+      unkept (instr.EndFinish b) free = sym free.2
+      unkept _ free = refl
 
   -- no step of a sound world is wrong, and each leads to a sound one
   pub step_keeps : (a : ℕ) → Keeps m (step m w a)

@@ -104,7 +104,7 @@ pub reached_sound : (m : ModuleValue) → IsWithinLimits m → IsAccepted m → 
 reached_sound m limits ok w r = (run_whole m ok r.0 (opening m) w (opening_whole m limits ok) r.1).sound
 
 -- and its clocks have their scopes
-reached_scoped : (m : ModuleValue) → IsWithinLimits m → IsAccepted m → (w : World) → IsReached m w → IsScoped m w
+pub reached_scoped : (m : ModuleValue) → IsWithinLimits m → IsAccepted m → (w : World) → IsReached m w → IsScoped m w
 reached_scoped m limits ok w r = (run_whole m ok r.0 (opening m) w (opening_whole m limits ok) r.1).scoped
 
 -- no step of it is wrong

@@ -24,7 +24,7 @@ use Rattle.xk_types.specs.declared.unit.ParamKind.{ParamKind}
 use Rattle.xk_types.specs.declared.unit.ParamKind.TheVariants as param
 use Rattle.xk_types.specs.Code.{UnitValue, ModuleValue, params_of, clock_arguments, compares, is_method, is_body}
 use Rattle.xk_types.specs.Blocks.{block_at, depth_at, same_block, takes_clock, makes, made_from, homes, is_elsewhere, is_here}
-use Rattle.xk_types.specs.World.{Frame, Finish, Activity, Clock, World, standing_of, instruction_at, frame_with}
+use Rattle.xk_types.specs.World.{Frame, Finish, Activity, Clock, World, standing_of, instruction_at, frame_with, base_of}
 use Rattle.xk_types.specs.Step.{Outcome, Blocked, Wrong, ClockUse, is_registered, number_in, clock_in, registered_on, put_in, slot_at, arguments_in, computing, turning, again, spawned, carried_out, run_at, done, made, onward, going, with_slots, arrived, ended, past, none, only, all, resumed, passed, dropped, child, innermost, awaits, left, closing, called, back_in, returning, new_clock, is_given, governing, joined, entered, moved, settled_clock, passing, waits, step_by, step_of, step}
 use Rattle.xk_types.specs.Order.{Has}
 use Rattle.xk_types.specs.Shape.{instr_is, gives_away, target}
@@ -38,9 +38,11 @@ use Rattle.xk_laws.proofs.Loops.{none_has}
 use Rattle.xk_laws.proofs.Blocks.{is_border, block_next, block_jump, block_round, block_opened, block_closed, block_begun, block_end, block_start}
 use Rattle.xk_laws.proofs.Given.{AreGiven, given_none, given_more, Begun, frame_begun, look_given, new_look}
 use Rattle.xk_laws.proofs.Rows.{let_go_held}
+use Rattle.xk_laws.proofs.Totals.{room_called}
+use Rattle.xk_types.specs.Bound.{room_of}
 use Rattle.xk_laws.proofs.Walks.{Allowed}
 use Rattle.xk_laws.proofs.Running.{IsAt, row_allowed}
-use Rattle.xk_laws.proofs.Scopes.{finish_at, opened_in, opened_by, governing_at, IsRound, round_same, round_more, round_less, IsHome, AreHome, IsScopedIn, IsScoped, Scopes, Keeps, home_kept, homes_kept, left_scoped, settled_looks}
+use Rattle.xk_laws.proofs.Scopes.{finish_at, opened_in, opened_by, governing_at, IsRound, round_same, round_more, round_less, IsHome, AreHome, AreRoomy, rooms_same, IsScopedIn, IsScoped, Scopes, Keeps, home_kept, homes_kept, left_scoped, settled_looks}
 
 -- ---- blocks, one and the same
 
@@ -242,6 +244,7 @@ module _ (m : ModuleValue) (ok : IsAccepted m) (w : World) (a : ℕ) (was : Acti
         opened ∙ mine.opened ∙ sum_by-cons (opened_in m) was.frame was.callers
         ∙ ap (λ n. n + opened_by m was.callers) (depth_here was.frame refl ∙ ap length (sym block) ∙ sym (depth_here act.frame unit))
         ∙ ap (λ fs. opened_in m act.frame + opened_by m fs) (sym callers) ∙ sym (sum_by-cons (opened_in m) act.frame act.callers);
+    rooms = subst (λ fs. AreRoomy m (base_of act.frame fs) (act.frame ∷ fs)) (sym callers) (rooms_same m was.frame act.frame was.callers unit mine.rooms);
     owner = λ o e. mine.owner o (ap (λ g. g.owner) (sym governed) ∙ e);
     homes = subst (λ g. AreHome m a g scoped.scopes look (act.frame ∷ act.callers)) (sym governed) (subst (λ fs. AreHome m a was.governed scoped.scopes look (act.frame ∷ fs)) (sym callers) (
       (λ s c named held. frame_home scoped.scopes look act.frame (opened_by m was.callers) unit block s c (mine.homes.0 s c (names s c named) (fewer c held))),
@@ -307,6 +310,7 @@ module _ (m : ModuleValue) (ok : IsAccepted m) (w : World) (a : ℕ) (was : Acti
       opened = (let d = depth_here was.frame refl in
           let n : opened_in m (entered was).frame ≡ length (block_at me.u was.frame.place ++ was.frame.place ∷ []) = depth_here (entered was).frame refl ∙ ap length block in
           omega (arith, mine.opened, sum_by-cons (opened_in m) was.frame was.callers, sum_by-cons (opened_in m) (entered was).frame was.callers, length_push (block_at me.u was.frame.place) was.frame.place));
+      rooms = rooms_same m was.frame (entered was).frame was.callers refl mine.rooms;
       owner = mine.owner;
       homes = ((λ s c named held. inner s c (mine.homes.0 s c named held)), mine.homes.1);
     })
@@ -344,6 +348,7 @@ module _ (m : ModuleValue) (ok : IsAccepted m) (w : World) (a : ℕ) (was : Acti
       opened = (let d = depth_here was.frame refl ∙ ap length block in
           let k = depth_here (left was n).frame refl in
           omega (arith, some, mine.opened, sum_by-cons (opened_in m) was.frame was.callers, sum_by-cons (opened_in m) (left was n).frame was.callers, length_push (block_at me.u (was.frame.place + 1)) b));
+      rooms = rooms_same m was.frame (left was n).frame was.callers refl mine.rooms;
       owner = mine.owner;
       homes = ((λ s c named held. outer s c named held (mine.homes.0 s c named held)), mine.homes.1);
     })
@@ -406,6 +411,7 @@ module _ (m : ModuleValue) (ok : IsAccepted m) (w : World) (a : ℕ) (was : Acti
       next = record {
         opened = mine.opened ∙ sum_by-cons (opened_in m) was.frame was.callers ∙ ap (λ n. n + opened_by m was.callers) (depth_here was.frame refl ∙ ap length (sym block) ∙ sym (depth_here act.frame refl))
             ∙ sym (sum_by-cons (opened_in m) act.frame was.callers);
+        rooms = rooms_same m was.frame act.frame was.callers refl mine.rooms;
         owner = mine.owner;
         homes = ((λ s c named held. slot s c held (all s (value.Clock c) named c refl)), homes_kept m a was.governed scoped.scopes more_scopes (looks w.clocks a) (looks clocks a) was.callers more_keep
             (λ c named held. old_held c (below_known was.frame was.callers c named me.waiting) held) mine.homes.1);
@@ -474,6 +480,7 @@ module _ (m : ModuleValue) (ok : IsAccepted m) (w : World) (a : ℕ) (was : Acti
     called_scopes t args here values r given = done_scopes (called m was t values) none event.Local (λ k. refl) (record {
       opened = (let none' : opened_in m (frame_with m t values) ≡ 0 = ap (λ o. option_map_or (λ u. depth_at u 0) o 0) r.found ∙ ap length (block_start r.v (unit_fits m ok.shape t r.v r.found).finishes) in
           omega (arith, mine.opened, sum_by-cons (opened_in m) (frame_with m t values) (was.frame ∷ was.callers)));
+      rooms = ((let h = room_called m ok.shape was.frame.unit me.u me.unit was.frame.place t args here in let d = depth_here was.frame refl in omega (arith, mine.rooms.0, sum_by-cons (opened_in m) was.frame was.callers)), mine.rooms);
       owner = mine.owner;
       homes = ((λ s c named held. slot s c held (begins.names s c named)), mine.homes);
     })
@@ -506,6 +513,7 @@ module _ (m : ModuleValue) (ok : IsAccepted m) (w : World) (a : ℕ) (was : Acti
           let same : opened_in m f ≡ opened_in m (record f { place = f.place + 1 }) = depth f refl ∙ ap length (sym block) ∙ sym (depth (record f { place = f.place + 1 }) refl) in
           let below : opened_by m was.callers ≡ opened_in m f + opened_by m fs = ap (opened_by m) under ∙ sum_by-cons (opened_in m) f fs in
           omega (arith, mine.opened, sum_by-cons (opened_in m) was.frame was.callers, sum_by-cons (opened_in m) (record f { place = f.place + 1 }) fs));
+      rooms = rooms_same m f (record f { place = f.place + 1 }) fs refl (subst (λ l. AreRoomy m (base_of was.frame l) (was.frame ∷ l)) under mine.rooms).1;
       owner = mine.owner;
       homes = ((λ s c named held. slot s c (lower.0 s c named held)), lower.1);
     })
@@ -594,6 +602,7 @@ module _ (m : ModuleValue) (ok : IsAccepted m) (w : World) (a : ℕ) (was : Acti
       new_scoped = record {
         opened = (let none' : opened_in m (frame_with m t values) ≡ 0 = ap (λ o. option_map_or (λ u. depth_at u 0) o 0) r.found ∙ ap length (block_start r.v (unit_fits m ok.shape t r.v r.found).finishes) in
             omega (arith, sum_by-cons (opened_in m) (frame_with m t values) []));
+        rooms = (omega arith, tt);
         owner = λ o e. (let h = deep_owner was.opened o (ap (λ g. g.owner) (sym (governing_at a was)) ∙ e) in
             let n = slice_get_within w.activities a was found in omega (arith, length-set w.activities a (onward was)));
         homes = ((λ s c named held. slot s c held (begins.names s c named)), tt);

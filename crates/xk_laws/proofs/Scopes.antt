@@ -8,7 +8,8 @@ use Rattle.std.proofs.lemmas.List.{length-map}
 use Rattle.xk_types.specs.declared.rules.Kind.{Kind}
 use Rattle.xk_types.specs.Code.{UnitValue, ModuleValue}
 use Rattle.xk_types.specs.Blocks.{block_at, depth_at, homes}
-use Rattle.xk_types.specs.World.{Frame, Finish, Activity, Clock, World}
+use Rattle.xk_types.specs.Bound.{room_of}
+use Rattle.xk_types.specs.World.{Frame, Finish, Activity, Clock, World, base_of, base_unit}
 use Rattle.xk_types.specs.Step.{Outcome, Blocked, Wrong, Stepped, governing, settled, settled_clock}
 use Rattle.xk_types.specs.Order.{Has}
 use Rattle.xk_laws.proofs.Invariant.{Each, Names, NamedIn, looks, kind_by, is_held, stands_on}
@@ -100,10 +101,25 @@ abbrev pub AreHome : ModuleValue → ℕ → Finish → List Finish → (ℕ →
 AreHome m a g scopes look [] = Unit {0}
 AreHome m a g scopes look (f ∷ fs) = ((s c : ℕ) → Names f.slots s c → is_held (look c) ≡ true → IsHome m a g scopes f (opened_by m fs) s c) × AreHome m a g scopes look fs
 
+-- each of these frames has room for the finishes of its unit, and those below, in what the lowest unit has room for
+abbrev pub AreRoomy : ModuleValue → ℕ → List Frame → Type 0
+AreRoomy m base [] = Unit {0}
+AreRoomy m base (f ∷ fs) = (opened_by m fs + room_of m f.unit ≤ room_of m base) × AreRoomy m base fs
+
+-- with another frame of the same unit on top the lowest unit is the same
+pub based : (f g : Frame) (fs : List Frame) → g.unit ≡ f.unit → base_of g fs ≡ base_of f fs
+based f g [] same = same
+based f g (x ∷ fs) same = refl
+
+-- and there is room
+pub rooms_same : (m : ModuleValue) (f g : Frame) (fs : List Frame) → g.unit ≡ f.unit → AreRoomy m (base_of f fs) (f ∷ fs) → AreRoomy m (base_of g fs) (g ∷ fs)
+rooms_same m f g fs same h = subst (λ b. AreRoomy m b (g ∷ fs)) (sym (based f g fs same)) ((let r = h.0 in let e : room_of m g.unit ≡ room_of m f.unit = ap (room_of m) same in omega arith), h.1)
+
 -- an activity, by the kinds of clocks' names for it
 pub record IsScopedIn (m : ModuleValue) (scopes : List Finish) (look : ℕ → Kind) (a : ℕ) (act : Activity) : Type 0 where
   -- it has the finishes open that stand round the places of its frames
   pub opened : act.opened ≡ opened_by m (act.frame ∷ act.callers)
+  pub rooms : AreRoomy m (base_unit act) (act.frame ∷ act.callers)
   -- it is governed by the finish of an activity that was there before it
   pub owner : (o : ℕ) → act.governed.owner ≡ Some o → o < a
   pub homes : AreHome m a act.governed scopes look (act.frame ∷ act.callers)
@@ -144,7 +160,7 @@ homes_kept m a g scopes more look new (f ∷ fs) keeps fewer h = (
 pub scoped_kept : (m : ModuleValue) (scopes more : List Finish) (look new : ℕ → Kind) (a : ℕ) (act : Activity) → Keeps scopes more
     → ((c : ℕ) → NamedIn (act.frame ∷ act.callers) c → is_held (new c) ≡ true → is_held (look c) ≡ true) → IsScopedIn m scopes look a act → IsScopedIn m more new a act
 scoped_kept m scopes more look new a act keeps fewer s =
-    record { opened = s.opened; owner = s.owner; homes = homes_kept m a act.governed scopes more look new (act.frame ∷ act.callers) keeps fewer s.homes }
+    record { opened = s.opened; rooms = s.rooms; owner = s.owner; homes = homes_kept m a act.governed scopes more look new (act.frame ∷ act.callers) keeps fewer s.homes }
 
 -- ---- the world after a step
 

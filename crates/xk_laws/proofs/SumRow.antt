@@ -38,7 +38,7 @@ kind_at (suc (suc s)) (suc (suc (suc (suc at)))) = kind.Live
 
 -- the module is accepted
 pub sum_row_accepted : IsAccepted sum_row
-unfolding Rattle.xk_types.specs.Bound.total_within Rattle.xk_types.specs.Bound.stack_within
+unfolding Rattle.xk_types.specs.Bound.total_within Rattle.xk_types.specs.Bound.chain_within
 sum_row_accepted = accepted_by sum_row (λ unit s at. kind_at s at ∷ []) refl refl
     (record { steps = omega arith; activities = omega arith; clocks = omega arith; stack = omega arith })
 

@@ -8,7 +8,8 @@ use Rattle.xk_types.specs.declared.instr.Instr.{Instr}
 use Rattle.xk_types.specs.Code.{UnitValue, ModuleValue, unit_called, unit_run}
 use Rattle.xk_types.specs.Shape.{HasShape}
 use Rattle.xk_types.specs.declared.instr.Instr.TheVariants as instr
-use Rattle.xk_types.specs.Bound.{total_within, total, visits, sum_from, stack_within, stack_of, stack_bound, greatest, greatest_below}
+use Rattle.xk_types.specs.Blocks.{depth_at}
+use Rattle.xk_types.specs.Bound.{total_within, total, visits, sum_from, chain_within, chain_of, stack_of, stack_bound, nesting, room_of, greatest, greatest_below}
 use Rattle.std.specs.Option.{option_map}
 use Rattle.std.proofs.lemmas.Option.{slice_get-map}
 use Rattle.std.proofs.lemmas.Bool.{cases_eq}
@@ -90,58 +91,66 @@ map_same f g (x ∷ xs) h =
     let rest = map_same f g xs (λ k y here. h (suc k) y here) in
     ap (λ n. n ∷ map f xs) first ∙ ap (λ list. g x ∷ list) rest
 
--- the slots of a unit that may not be there, with so many calls one below another
-abbrev slots_with : ModuleValue → ℕ → Option UnitValue → ℕ
-slots_with m depth o = option_map_or (λ u. u.slots + greatest (map (λ i. option_map_or (stack_within m depth) (unit_called i) 0) u.code)) o 0
+-- a number of a unit that may not be there, with so many calls one below another
+abbrev chain_with : (UnitValue → ℕ) → ModuleValue → ℕ → Option UnitValue → ℕ
+chain_with own m depth o = option_map_or (λ u. own u + greatest (map (λ i. option_map_or (chain_within own m depth) (unit_called i) 0) u.code)) o 0
 
-stack_next : (m : ModuleValue) (depth unit : ℕ) → stack_within m (suc depth) unit ≡ slots_with m depth (slice_get m.units unit)
-unfolding stack_within
-stack_next m depth unit = refl
+chain_next : (own : UnitValue → ℕ) (m : ModuleValue) (depth unit : ℕ) → chain_within own m (suc depth) unit ≡ chain_with own m depth (slice_get m.units unit)
+unfolding chain_within
+chain_next own m depth unit = refl
 
-stack_none : (m : ModuleValue) (unit : ℕ) → stack_within m zero unit ≡ 0
-unfolding stack_within
-stack_none m unit = refl
+chain_none : (own : UnitValue → ℕ) (m : ModuleValue) (unit : ℕ) → chain_within own m zero unit ≡ 0
+unfolding chain_within
+chain_none own m unit = refl
 
 -- from as many calls on as there are units from this one on, one more changes nothing
-stack_more : (m : ModuleValue) → HasShape m → (depth unit : ℕ) → length m.units ≤ unit + depth → stack_within m depth unit ≡ stack_within m (suc depth) unit
-stack_more m shape zero unit h = stack_none m unit ∙ past (slice_get m.units unit) refl ∙ sym (stack_next m zero unit)
+chain_more : (own : UnitValue → ℕ) (m : ModuleValue) → HasShape m → (depth unit : ℕ) → length m.units ≤ unit + depth → chain_within own m depth unit ≡ chain_within own m (suc depth) unit
+chain_more own m shape zero unit h = chain_none own m unit ∙ past (slice_get m.units unit) refl ∙ sym (chain_next own m zero unit)
   where
-    past : (o : Option UnitValue) → slice_get m.units unit ≡ o → 0 ≡ slots_with m zero o
+    past : (o : Option UnitValue) → slice_get m.units unit ≡ o → 0 ≡ chain_with own m zero o
     past None e = refl
     past (Some u) e = absurd (let g = slice_get_within m.units unit u e in omega arith)
-stack_more m shape (suc depth) unit h =
-    stack_next m depth unit ∙ go (slice_get m.units unit) refl (stack_more m shape depth) ∙ sym (stack_next m (suc depth) unit)
+chain_more own m shape (suc depth) unit h =
+    chain_next own m depth unit ∙ go (slice_get m.units unit) refl (chain_more own m shape depth) ∙ sym (chain_next own m (suc depth) unit)
   where
     below : (u : UnitValue) → slice_get m.units unit ≡ Some u → (i : Instr) (at : ℕ) → slice_get u.code at ≡ Some i
-        → ((t : ℕ) → length m.units ≤ t + depth → stack_within m depth t ≡ stack_within m (suc depth) t)
-        → (o : Option ℕ) → unit_called i ≡ o → option_map_or (stack_within m depth) o 0 ≡ option_map_or (stack_within m (suc depth)) o 0
+        → ((t : ℕ) → length m.units ≤ t + depth → chain_within own m depth t ≡ chain_within own m (suc depth) t)
+        → (o : Option ℕ) → unit_called i ≡ o → option_map_or (chain_within own m depth) o 0 ≡ option_map_or (chain_within own m (suc depth)) o 0
     below u found i at here more None e = refl
     below u found i at here more (Some t) e = more t (let g = called_later m shape unit u found i at here t e in omega arith)
 
-    go : (o : Option UnitValue) → slice_get m.units unit ≡ o → ((t : ℕ) → length m.units ≤ t + depth → stack_within m depth t ≡ stack_within m (suc depth) t)
-        → slots_with m depth o ≡ slots_with m (suc depth) o
+    go : (o : Option UnitValue) → slice_get m.units unit ≡ o → ((t : ℕ) → length m.units ≤ t + depth → chain_within own m depth t ≡ chain_within own m (suc depth) t)
+        → chain_with own m depth o ≡ chain_with own m (suc depth) o
     go None e more = refl
-    go (Some u) e more = ap (λ ns. u.slots + greatest ns)
-        (map_same (λ i. option_map_or (stack_within m depth) (unit_called i) 0) (λ i. option_map_or (stack_within m (suc depth)) (unit_called i) 0) u.code
+    go (Some u) e more = ap (λ ns. own u + greatest ns)
+        (map_same (λ i. option_map_or (chain_within own m depth) (unit_called i) 0) (λ i. option_map_or (chain_within own m (suc depth)) (unit_called i) 0) u.code
         (λ at i here. below u e i at here more (unit_called i) refl))
 
--- a unit's slots, with those of the units that it calls
-stack_sum : (m : ModuleValue) → HasShape m → (unit : ℕ) (u : UnitValue) → slice_get m.units unit ≡ Some u
-    → stack_of m unit ≡ u.slots + greatest (map (λ i. option_map_or (stack_of m) (unit_called i) 0) u.code)
-stack_sum m shape unit u found =
-    stack_more m shape (length m.units) unit (omega arith) ∙ stack_next m (length m.units) unit ∙ ap (slots_with m (length m.units)) found
+-- a unit's number, with those of the units that it calls
+chain_sum : (own : UnitValue → ℕ) (m : ModuleValue) → HasShape m → (unit : ℕ) (u : UnitValue) → slice_get m.units unit ≡ Some u
+    → chain_of own m unit ≡ own u + greatest (map (λ i. option_map_or (chain_of own m) (unit_called i) 0) u.code)
+chain_sum own m shape unit u found =
+    chain_more own m shape (length m.units) unit (omega arith) ∙ chain_next own m (length m.units) unit ∙ ap (chain_with own m (length m.units)) found
 
--- its own slots are among them
-pub stack_own : (m : ModuleValue) → HasShape m → (unit : ℕ) (u : UnitValue) → slice_get m.units unit ≡ Some u → u.slots ≤ stack_of m unit
-stack_own m shape unit u found = let h = stack_sum m shape unit u found in omega arith
+-- its own is among them
+pub chain_own : (own : UnitValue → ℕ) (m : ModuleValue) → HasShape m → (unit : ℕ) (u : UnitValue) → slice_get m.units unit ≡ Some u → own u ≤ chain_of own m unit
+chain_own own m shape unit u found = let h = chain_sum own m shape unit u found in omega arith
 
 -- and those of a unit that it calls
+pub chain_called : (own : UnitValue → ℕ) (m : ModuleValue) → HasShape m → (unit : ℕ) (u : UnitValue) → slice_get m.units unit ≡ Some u
+    → (at t : ℕ) (args : List ℕ) → slice_get u.code at ≡ Some (instr.Call t args) → own u + chain_of own m t ≤ chain_of own m unit
+chain_called own m shape unit u found at t args here =
+    let h = chain_sum own m shape unit u found in
+    let g = most_at (λ i. option_map_or (chain_of own m) (unit_called i) 0) u.code at (instr.Call t args) here in
+    omega arith
+
+-- so it is with slots
+pub stack_own : (m : ModuleValue) → HasShape m → (unit : ℕ) (u : UnitValue) → slice_get m.units unit ≡ Some u → u.slots ≤ stack_of m unit
+stack_own m shape unit u found = chain_own (λ v. v.slots) m shape unit u found
+
 pub stack_called : (m : ModuleValue) → HasShape m → (unit : ℕ) (u : UnitValue) → slice_get m.units unit ≡ Some u
     → (at t : ℕ) (args : List ℕ) → slice_get u.code at ≡ Some (instr.Call t args) → u.slots + stack_of m t ≤ stack_of m unit
-stack_called m shape unit u found at t args here =
-    let h = stack_sum m shape unit u found in
-    let g = most_at (λ i. option_map_or (stack_of m) (unit_called i) 0) u.code at (instr.Call t args) here in
-    omega arith
+stack_called m shape unit u found at t args here = chain_called (λ v. v.slots) m shape unit u found at t args here
 
 -- one of the first n is no more than the greatest of them
 below_most : (f : ℕ → ℕ) (n k : ℕ) → k < n → f k ≤ greatest_below f n
@@ -151,3 +160,21 @@ below_most f (suc n) k h = elim (cases_eq k n) [ inl e ↦ (let g = ap f e in om
 -- no unit has more than the bound
 pub stack_within_bound : (m : ModuleValue) (unit : ℕ) (u : UnitValue) → slice_get m.units unit ≡ Some u → stack_of m unit ≤ stack_bound m
 stack_within_bound m unit u found = below_most (stack_of m) (length m.units) unit (slice_get_within m.units unit u found)
+
+-- ---- the finishes that are open
+
+-- a place has no more finishes round it than the greatest nesting
+pub nesting_at : (u : UnitValue) (at : ℕ) → at < length u.code → depth_at u at ≤ nesting u
+nesting_at u at inside = below_most (depth_at u) (length u.code) at inside
+
+-- a unit has room for its own
+pub room_own : (m : ModuleValue) → HasShape m → (unit : ℕ) (u : UnitValue) → slice_get m.units unit ≡ Some u → nesting u ≤ room_of m unit
+room_own m shape unit u found = chain_own nesting m shape unit u found
+
+-- and, with its own at a call, for those of the unit that is called
+pub room_called : (m : ModuleValue) → HasShape m → (unit : ℕ) (u : UnitValue) → slice_get m.units unit ≡ Some u
+    → (at t : ℕ) (args : List ℕ) → slice_get u.code at ≡ Some (instr.Call t args) → depth_at u at + room_of m t ≤ room_of m unit
+room_called m shape unit u found at t args here =
+    let h = chain_called nesting m shape unit u found at t args here in
+    let g = nesting_at u at (slice_get_within u.code at (instr.Call t args) here) in
+    omega arith

@@ -1,1 +1,5 @@
 pub mod Clocks
+pub mod Units
+pub mod Finishes
+pub mod Around
+pub mod OneBlock

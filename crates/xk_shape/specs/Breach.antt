@@ -1,9 +1,10 @@
 -- Where one rule on the shape of code is broken.
-use Rattle.std.specs.Prelude.{◌≡◌, ℕ, ◌<◌, true, false, [], ◌∷◌, Option, Some, None}
+use Rattle.std.specs.Prelude.{◌≡◌, ℕ, ◌<◌, Bool, true, false, [], ◌∷◌, Option, Some, None}
 use Rattle.xk_types.specs.declared.rules.Rule.{Rule}
-use Rattle.xk_types.specs.Code.{UnitValue, ModuleValue}
+use Rattle.xk_types.specs.declared.rules.Rule.TheVariants as rule
+use Rattle.xk_types.specs.Code.{ModuleValue}
 use Rattle.xk_types.specs.Order.{NotAfter}
-use Rattle.xk_types.specs.Shape.{breaks, breaks_in}
+use Rattle.xk_types.specs.Shape.{breaks}
 use Rattle.xk_shape.specs.declared.fault.ShapeFault.{ShapeFault}
 use Rattle.xk_shape.specs.declared.fault.ShapeError.{ShapeError}
 use Rattle.xk_shape.specs.declared.fault.ShapeError.TheVariants.{Fault, OutOfMemory}
@@ -23,7 +24,13 @@ abbrev pub FailsRule : ModuleValue → Rule → ShapeError → Type 0
 FailsRule m r (Fault f) = IsLeastBreach m r f
 FailsRule m r OutOfMemory = Unit {0}
 
--- the first instruction of a unit that breaks the rule, if one does
-abbrev pub IsFirstPlace : ModuleValue → Rule → ℕ → UnitValue → Option ℕ → Type 0
-IsFirstPlace m r unit u None = (at : ℕ) → breaks_in m r unit u at ≡ false
-IsFirstPlace m r unit u (Some first) = (breaks_in m r unit u first ≡ true) × ((at : ℕ) → at < first → breaks_in m r unit u at ≡ false)
+-- the first place that the test finds, if it finds one
+abbrev pub IsFirst : (ℕ → Bool) → Option ℕ → Type 0
+IsFirst test None = (at : ℕ) → test at ≡ false
+IsFirst test (Some first) = (test first ≡ true) × ((at : ℕ) → at < first → test at ≡ false)
+
+-- whether an instruction breaks the rule can be seen without knowing what others make of the unit's slots
+abbrev pub IsOnInstructions : Rule → Type 0
+IsOnInstructions rule.Home = ⊥
+IsOnInstructions rule.Registers = ⊥
+IsOnInstructions _ = Unit {0}

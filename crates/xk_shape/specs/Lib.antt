@@ -1,3 +1,5 @@
 pub mod Shaped
 pub mod Fault
 pub mod Breach
+pub mod Nests
+pub mod Blocks

@@ -1,11 +1,11 @@
-//! The rules on targets and loops.
+//! The rules on targets, loops and finishes.
 
 ghost use Rattle.std.specs.Prelude.{◌≡◌, ◌&&◌, true, MatchOption};
 ghost use Rattle.std.specs.List.{list_any};
 ghost use Rattle.xk_types.specs.Code.{loops as loops_of, is_within};
-ghost use Rattle.xk_types.specs.Shape.{lies_ahead, aims_well, breaks_target, overlaps, is_crossing, breaks_block, slot_written, is_backward, writes_slot, breaks_loop};
+ghost use Rattle.xk_types.specs.Shape.{spans as spans_of, lies_ahead, aims_well, breaks_target, overlaps, is_crossing, breaks_block, slot_written, is_backward, writes_slot, breaks_loop};
 
-use crate::nesting::{Loop, crosses_any, loop_begun, loop_ended, overlaps_any};
+use crate::nesting::{Loop, Span, crosses_any, overlaps_any, span_begun, span_ended};
 use xk_types::{Instr, Unit};
 
 /// Whether a place that the instruction names lies where it may not.
@@ -18,7 +18,8 @@ pub(crate) fn aims_amiss(u: &Unit, at: u16) -> bool
     }
 }
 
-/// Whether the places that the instruction names lie ahead of it and inside the code, or, for a `next`, behind it.
+/// Whether the places that the instruction names lie ahead of it and inside the code, or, for the end of a loop or a finish,
+/// behind it.
 fn aims_well(u: &Unit, at: u16, instr: &Instr) -> bool
     ensures { result ≡ aims_well u.now at instr.now }
 {
@@ -27,6 +28,8 @@ fn aims_well(u: &Unit, at: u16, instr: &Instr) -> bool
         Instr::Jump(target) => lies_ahead(u, at, *target),
         Instr::For(_, _, _, last) => lies_ahead(u, at, *last),
         Instr::Next(first) => *first < at,
+        Instr::Finish(last) => lies_ahead(u, at, *last),
+        Instr::EndFinish(first) => *first < at,
         _ => true,
     }
 }
@@ -38,9 +41,9 @@ fn lies_ahead(u: &Unit, at: u16, target: u16) -> bool
     at < target && (target as usize) < u.code.len()
 }
 
-/// Whether the instruction has no partner, is one of a loop that overlaps another, or jumps over the edge of a loop.
-pub(crate) fn crosses_edge(u: &Unit, among: &[Loop], at: u16) -> bool
-    requires { among.now ≡ loops_of u.now }
+/// Whether the instruction has no partner, is one of a loop or finish that overlaps another, or jumps over the edge of one.
+pub(crate) fn crosses_edge(u: &Unit, among: &[Span], at: u16) -> bool
+    requires { among.now ≡ spans_of u.now }
     ensures { result ≡ breaks_block u.now at }
 {
     match u.code.get(at as usize) {
@@ -50,25 +53,27 @@ pub(crate) fn crosses_edge(u: &Unit, among: &[Loop], at: u16) -> bool
 }
 
 /// The same of an instruction that may stand at this place.
-fn is_crossing(u: &Unit, among: &[Loop], at: u16, instr: &Instr) -> bool
-    requires { among.now ≡ loops_of u.now }
+fn is_crossing(u: &Unit, among: &[Span], at: u16, instr: &Instr) -> bool
+    requires { among.now ≡ spans_of u.now }
     ensures { result ≡ is_crossing u.now at instr.now }
 {
     match instr {
-        Instr::For(_, _, _, _) => is_amiss(among, loop_begun(u, at as usize, instr)),
-        Instr::Next(first) => is_amiss(among, loop_ended(u, at, *first)),
+        Instr::For(_, _, _, _) | Instr::Finish(_) => {
+            is_amiss(among, span_begun(u, at as usize, instr))
+        }
+        Instr::Next(first) | Instr::EndFinish(first) => is_amiss(among, span_ended(u, at, *first)),
         Instr::Unless(_, _, _, target) => crosses_any(among, at, *target),
         Instr::Jump(target) => crosses_any(among, at, *target),
         _ => false,
     }
 }
 
-/// Whether there is no such loop, or it overlaps one of the others in part.
-fn is_amiss(among: &[Loop], found: Option<Loop>) -> bool
-    ensures { MatchOption found (result ≡ true) (λ l. result ≡ list_any (overlaps l) among.now) }
+/// Whether there is no such loop or finish, or it overlaps one of the others in part.
+fn is_amiss(among: &[Span], found: Option<Span>) -> bool
+    ensures { MatchOption found (result ≡ true) (λ s. result ≡ list_any (overlaps s) among.now) }
 {
     match found {
-        Some(l) => overlaps_any(&l, among),
+        Some(s) => overlaps_any(&s, among),
         None => true,
     }
 }

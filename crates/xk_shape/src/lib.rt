@@ -1,7 +1,10 @@
-//! The rules on the shape of code: where targets lie, how loops nest, which slots, units and parameters there are.
+//! The rules on the shape of code: where targets lie, how loops and finishes nest, where slots are
+//! at home, which slots, units and parameters there are.
 #![tactic(auto)]
 
+mod blocks;
 mod fault;
+mod homes;
 mod jumps;
 mod nesting;
 mod rules;
@@ -9,6 +12,7 @@ mod shaped;
 #[cfg(test)]
 mod tests;
 
+pub use blocks::Blocks;
 pub use fault::{ShapeError, ShapeFault};
 pub use nesting::{Loop, loops};
 pub use rules::params_of;

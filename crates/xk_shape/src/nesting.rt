@@ -1,9 +1,11 @@
-//! The loops of a unit, and how they lie to places and to one another.
+//! The loops and finishes of a unit, and how they lie to places and to one another.
 
 ghost use Rattle.std.specs.Prelude.{◌≡◌, IfOk, slice_get};
 ghost use Rattle.std.specs.List.{list_any};
-ghost use Rattle.xk_types.specs.Code.{loop_begun, loops as loops_of, is_round, is_within};
-ghost use Rattle.xk_types.specs.Shape.{loop_ended, overlaps, crosses};
+ghost use Rattle.xk_types.specs.Code.{loop_begun, loops as loops_of, is_within};
+ghost use Rattle.xk_types.specs.Blocks.{finish_opened, finishes as finishes_of, is_inside};
+ghost use Rattle.xk_types.specs.Shape.{span_of, span_begun, span_ended, spans as spans_of, overlaps, crosses};
+ghost use Rattle.xk_shape.specs.Nests.{AreNests};
 
 use std::alloc::{AllocError, Global};
 use std::marker::Model;
@@ -32,6 +34,64 @@ impl Model for Loop {
     ghost view = { λ l. record { first = l.first; last = l.last; slot = l.slot; lo = l.lo; hi = l.hi } };
 
     ghost inverse = { λ l. record { first = l.first; last = l.last; slot = l.slot; lo = l.lo; hi = l.hi } };
+}
+
+/// A stretch of code: the places of its first and of its last instruction, which name each other.
+#[derive(Clone, Copy, Debug, PartialEq, Eq)]
+pub(crate) struct Span {
+    first: u16,
+    last: u16,
+}
+
+impl Model for Span {
+    ghost use Rattle.xk_types.specs.Blocks as blocks;
+
+    ghost Value = { blocks.Span };
+
+    ghost view = { λ s. record { first = s.first; last = s.last } };
+
+    ghost inverse = { λ s. record { first = s.first; last = s.last } };
+}
+
+/// The loops of a unit, and all stretches that nest: its loops and its finishes.
+#[derive(Drop)]
+pub(crate) struct Nests {
+    pub(crate) loops: Vec<Loop>,
+    pub(crate) spans: Vec<Span>,
+}
+
+impl Nests {
+    /// Those of this unit. The error is that room for them was refused.
+    pub(crate) fn of(alloc: Global, u: &Unit) -> Result<Nests, AllocError>
+        ensures { IfOk result (AreNests u.now) }
+    {
+        let loops = loops(alloc, u)?;
+        let spans = spans(alloc, u, &loops)?;
+        Ok(Nests { loops, spans })
+    }
+}
+
+/// The loops and finishes of a unit, which has these loops.
+fn spans(alloc: Global, u: &Unit, loops: &[Loop]) -> Result<Vec<Span>, AllocError>
+    requires { loops.now ≡ loops_of u.now }
+    ensures { IfOk result (λ found. found.items ≡ spans_of u.now) }
+{
+    let mut found: Vec<Span> = loops.iter().map(|l| l.span()).collect(alloc)?;
+    found.extend_from_slice(&finishes(alloc, u)?)?;
+    Ok(found)
+}
+
+/// The finishes of a unit, by the places of their `finish`.
+fn finishes(alloc: Global, u: &Unit) -> Result<Vec<Span>, AllocError>
+    ensures { IfOk result (λ found. found.items ≡ finishes_of u.now) }
+{
+    let mut found = Vec::new(alloc);
+    for (at, instr) in u.code.iter().enumerate() {
+        if let Some(f) = finish_opened(u, at, instr) {
+            found.push(f)?;
+        }
+    }
+    Ok(found)
 }
 
 /// The loops of a unit, by the places of their `for`. The error is that room for them was refused.
@@ -66,20 +126,50 @@ pub(crate) fn loop_begun(u: &Unit, at: usize, instr: &Instr) -> Option<Loop>
     }
 }
 
-/// The loop that the instruction at place `first` begins, if it ends at place `at`.
-pub(crate) fn loop_ended(u: &Unit, at: u16, first: u16) -> Option<Loop>
-    ensures { result ≡ loop_ended u.now at first (slice_get u.now.code first) }
+/// The finish that the instruction at this place opens.
+fn finish_opened(u: &Unit, at: usize, instr: &Instr) -> Option<Span>
+    ensures { result ≡ finish_opened u.now at instr.now }
 {
-    let l = loop_begun(u, first as usize, u.code.get(first as usize)?)?;
-    if l.last == at { Some(l) } else { None }
+    match instr {
+        Instr::Finish(last) => match u.code.get(*last as usize) {
+            Some(Instr::EndFinish(first)) if *first as usize == at => Some(Span {
+                first: *first,
+                last: *last,
+            }),
+            _ => None,
+        },
+        _ => None,
+    }
+}
+
+/// The loop or the finish that the instruction at this place begins.
+pub(crate) fn span_begun(u: &Unit, at: usize, instr: &Instr) -> Option<Span>
+    ensures { result ≡ span_begun u.now at instr.now }
+{
+    match instr {
+        Instr::For(_, _, _, _) => Some(loop_begun(u, at, instr)?.span()),
+        Instr::Finish(_) => finish_opened(u, at, instr),
+        _ => None,
+    }
+}
+
+/// The loop or the finish that the instruction at place `first` begins, if it ends at place `at`.
+pub(crate) fn span_ended(u: &Unit, at: u16, first: u16) -> Option<Span>
+    ensures { result ≡ span_ended u.now at first (slice_get u.now.code first) }
+{
+    let s = span_begun(u, first as usize, u.code.get(first as usize)?)?;
+    if s.last == at { Some(s) } else { None }
 }
 
 impl Loop {
-    /// Whether the place lies behind the `for`, and not behind the `next`.
-    fn is_round(&self, at: u16) -> bool
-        ensures { result ≡ is_round at self.now }
+    /// The loop from its `for` to its `next`.
+    fn span(&self) -> Span
+        ensures { result ≡ span_of self.now }
     {
-        self.first < at && at <= self.last
+        Span {
+            first: self.first,
+            last: self.last,
+        }
     }
 
     /// Whether the place lies strictly between the `for` and the `next`.
@@ -88,16 +178,25 @@ impl Loop {
     {
         self.first < at && at < self.last
     }
+}
 
-    /// Whether a jump from one place to the other leaves the loop or comes into it.
+impl Span {
+    /// Whether the place lies behind the first instruction, and not behind the last.
+    fn is_inside(&self, at: u16) -> bool
+        ensures { result ≡ is_inside at self.now }
+    {
+        self.first < at && at <= self.last
+    }
+
+    /// Whether a jump from one place to the other leaves the stretch or comes into it.
     fn is_crossed(&self, at: u16, target: u16) -> bool
         ensures { result ≡ crosses at target self.now }
     {
-        self.is_within(at) != self.is_round(target)
+        (self.first < at && at < self.last) != self.is_inside(target)
     }
 
     /// Whether one of the two begins inside the other and ends behind its end.
-    fn overlaps(&self, other: &Loop) -> bool
+    fn overlaps(&self, other: &Span) -> bool
         ensures { result ≡ overlaps self.now other.now }
     {
         (self.first < other.first && other.first < self.last && self.last < other.last)
@@ -105,16 +204,16 @@ impl Loop {
     }
 }
 
-/// Whether the loop overlaps one of the others in part.
-pub(crate) fn overlaps_any(l: &Loop, others: &[Loop]) -> bool
-    ensures { result ≡ list_any (overlaps l.now) others.now }
+/// Whether the stretch overlaps one of the others in part.
+pub(crate) fn overlaps_any(s: &Span, others: &[Span]) -> bool
+    ensures { result ≡ list_any (overlaps s.now) others.now }
 {
-    others.iter().any(|other| l.overlaps(other))
+    others.iter().any(|other| s.overlaps(other))
 }
 
-/// Whether a jump from one place to the other leaves one of the loops or comes into it.
-pub(crate) fn crosses_any(among: &[Loop], at: u16, target: u16) -> bool
+/// Whether a jump from one place to the other leaves one of the stretches or comes into it.
+pub(crate) fn crosses_any(among: &[Span], at: u16, target: u16) -> bool
     ensures { result ≡ list_any (crosses at target) among.now }
 {
-    among.iter().any(|l| l.is_crossed(at, target))
+    among.iter().any(|s| s.is_crossed(at, target))
 }

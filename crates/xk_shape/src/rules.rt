@@ -2,14 +2,16 @@
 
 ghost use Rattle.std.specs.Prelude.{◌≡◌, ℕ, ◌+◌, ◌<◌, ◌≤◌, ◌||◌, ◌&&◌, not, ◌==◌, nat_lt, false, true, length, slice_get, MatchResult, MatchOption};
 ghost use Rattle.std.specs.List.{list_all, list_any};
-ghost use Rattle.xk_types.specs.Code.{IsUnitWithinLimits, params_of, is_method, is_body, clock_arguments, loops as loops_of};
-ghost use Rattle.xk_types.specs.Shape.{breaks_in, breaks_slot, is_in_place, runs_amiss, instr_is, is_fitting, breaks_end, breaks_home, takes_clock, has_twice, gives_twice, breaks_same_clock, slots_named, is_ret, HasShape};
+ghost use Rattle.xk_types.specs.Code.{IsUnitWithinLimits, params_of, is_method, is_body, clock_arguments};
+ghost use Rattle.xk_types.specs.Shape.{breaks_in, breaks_slot, is_in_place, runs_amiss, instr_is, is_fitting, breaks_end, has_twice, gives_twice, breaks_same_clock, slots_named, is_ret, HasShape};
 ghost use Rattle.xk_shape.specs.Fault.{Refuses};
-ghost use Rattle.xk_shape.specs.Breach.{IsNowhereBroken, FailsRule, IsFirstPlace};
+ghost use Rattle.xk_shape.specs.Nests.{AreNests};
+ghost use Rattle.xk_shape.specs.Breach.{IsOnInstructions, IsNowhereBroken, FailsRule, IsFirst};
 
 use crate::fault::{ShapeError, ShapeFault};
+use crate::homes::{check_homes, check_registers};
 use crate::jumps::{aims_amiss, crosses_edge, misuses_loop};
-use crate::nesting::{Loop, loops};
+use crate::nesting::Nests;
 use std::alloc::Global;
 use xk_types::{Args, Instr, Module, ParamKind, Rule, Unit, UnitKind};
 
@@ -23,18 +25,20 @@ pub(crate) fn check_shape(alloc: Global, m: &Module) -> Result<(), ShapeError>
     check_rule(alloc, m, Rule::Unit)?;
     check_rule(alloc, m, Rule::Loop)?;
     check_rule(alloc, m, Rule::End)?;
-    check_rule(alloc, m, Rule::Home)?;
+    check_homes(alloc, m)?;
+    check_registers(alloc, m)?;
     check_rule(alloc, m, Rule::SameClock)
 }
 
 /// Looks for the least place that breaks the rule.
 fn check_rule(alloc: Global, m: &Module, rule: Rule) -> Result<(), ShapeError>
+    requires { IsOnInstructions rule }
     ensures { MatchResult result (λ _. IsNowhereBroken m.now rule) (FailsRule m.now rule) }
 {
     let mut unit = 0;
     for u in m.units() {
-        let among = loops(alloc, u)?;
-        if let Some(at) = first_place(m, rule, unit, u, &among) {
+        let nests = Nests::of(alloc, u)?;
+        if let Some(at) = first_place(m, rule, unit, u, &nests) {
             return Err(ShapeError::Fault(ShapeFault { rule, unit, at }));
         }
         unit += 1;
@@ -42,39 +46,40 @@ fn check_rule(alloc: Global, m: &Module, rule: Rule) -> Result<(), ShapeError>
     Ok(())
 }
 
-/// The least instruction of a unit that breaks the rule. The loops are those of the unit.
-fn first_place(m: &Module, rule: Rule, unit: u16, u: &Unit, among: &[Loop]) -> Option<u16>
+/// The least instruction of a unit, whose loops and finishes these are, that breaks the rule.
+fn first_place(m: &Module, rule: Rule, unit: u16, u: &Unit, nests: &Nests) -> Option<u16>
+    requires rule { IsOnInstructions rule }
     requires limits { IsUnitWithinLimits u.now }
-    requires loops { among.now ≡ loops_of u.now }
-    ensures { IsFirstPlace m.now rule unit u.now result }
+    requires nests { AreNests u.now nests.now }
+    ensures { IsFirst (breaks_in m.now rule unit u.now) result }
 {
     let places = u.code.len().max(1) as u16;
     for at in 0..places {
-        if breaks_rule(m, rule, unit, u, among, at) {
+        if breaks_rule(m, rule, unit, u, nests, at) {
             return Some(at);
         }
     }
     None
 }
 
-/// Whether an instruction of a unit, which has these loops, breaks the rule. A fault of the whole unit is one of
+/// Whether an instruction of a unit, whose loops and finishes these are, breaks the rule. A fault of the whole unit is one of
 /// instruction 0.
-fn breaks_rule(m: &Module, rule: Rule, unit: u16, u: &Unit, among: &[Loop], at: u16) -> bool
+fn breaks_rule(m: &Module, rule: Rule, unit: u16, u: &Unit, nests: &Nests, at: u16) -> bool
+    requires rule { IsOnInstructions rule }
     requires limits { IsUnitWithinLimits u.now }
-    requires loops { among.now ≡ loops_of u.now }
+    requires nests { AreNests u.now nests.now }
     ensures { result ≡ breaks_in m.now rule unit u.now at }
 {
     match rule {
         Rule::Target => aims_amiss(u, at),
-        Rule::Block => crosses_edge(u, among, at),
+        Rule::Block => crosses_edge(u, &nests.spans, at),
         Rule::Slot => names_missing_slot(u, at),
         Rule::Unit => (at == 0 && !is_in_place(unit, u)) || runs_wrongly(m, unit, u, at),
-        Rule::Loop => misuses_loop(u, among, at),
+        Rule::Loop => misuses_loop(u, &nests.loops, at),
         Rule::End => ends_wrongly(u, at),
-        Rule::Home => mishandles_param(u, at),
         Rule::SameClock => gives_clock_twice(m, u, at),
+        Rule::Home | Rule::Registers => unreachable!(),
         Rule::Cell
-        | Rule::Registers
         | Rule::Use
         | Rule::Held
         | Rule::Leak
@@ -108,7 +113,7 @@ fn names_below(instr: &Instr, slots: u16) -> bool
         Instr::Unless(_, x, y, _) => *x < slots && *y < slots,
         Instr::Jump(_) => true,
         Instr::For(slot, _, _, _) => *slot < slots,
-        Instr::Next(_) => true,
+        Instr::Next(_) | Instr::Finish(_) | Instr::EndFinish(_) => true,
         Instr::Print(x) => *x < slots,
         Instr::Make(d) => *d < slots,
         Instr::Resume(c) => *c < slots,
@@ -184,27 +189,6 @@ fn is_ret(instr: &Instr) -> bool
     ensures { result ≡ is_ret instr.now }
 {
     matches!(instr, Instr::Ret)
-}
-
-/// Whether the instruction makes a clock in a parameter, or drops one that a method was lent.
-fn mishandles_param(u: &Unit, at: u16) -> bool
-    ensures { result ≡ breaks_home u.now at }
-{
-    match u.code.get(at as usize) {
-        Some(Instr::Make(d)) => (*d as usize) < u.params.len(),
-        Some(Instr::Drop(c)) => u.kind == UnitKind::Method && takes_clock(u, *c),
-        _ => false,
-    }
-}
-
-/// Whether the slot is a parameter that takes a clock.
-fn takes_clock(u: &Unit, slot: u16) -> bool
-    ensures { result ≡ takes_clock (slice_get u.now.params slot) }
-{
-    match u.params.get(slot as usize) {
-        Some(ParamKind::Clock) => true,
-        Some(ParamKind::Number) | None => false,
-    }
 }
 
 /// Whether the instruction hands the clock of one slot on twice.

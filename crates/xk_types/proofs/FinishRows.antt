@@ -1,5 +1,5 @@
 -- Worked rows: finishes, by evaluation.
-use Rattle.std.proofs.Common.{◌≡◌, ℕ, pos, List, [], ◌∷◌, inl, refl, Bool, true, false, arith}
+use Rattle.std.proofs.Common.{◌≡◌, ℕ, pos, List, [], ◌∷◌, inl, refl, Bool, true, false, map, arith}
 use Rattle.xk_types.specs.declared.instr.Instr.{Instr}
 use Rattle.xk_types.specs.declared.instr.Instr.TheVariants as instr
 use Rattle.xk_types.specs.declared.unit.UnitKind.TheVariants as unit_kind
@@ -16,10 +16,13 @@ use Rattle.xk_types.specs.Step.{under_within}
 use Rattle.xk_types.specs.Schedule.{Course, Through, Held, Wronged, run, all_ended, printed}
 use Rattle.xk_types.specs.Walk.{IsRefusedAt}
 use Rattle.xk_types.specs.Shape.{breaks}
-use Rattle.xk_types.specs.Bound.{total_within, steps_bound, activities_bound, clocks_bound}
+use Rattle.xk_types.specs.Bound.{total_within, stack_of, chain_within, frames_of, nesting, room_of, steps_bound, activities_bound, clocks_bound}
 
 abbrev main_with : ℕ → List Instr → UnitValue
 main_with slots code = record { kind = unit_kind.Main; params = []; slots = slots; code = code }
+
+abbrev method_with : ℕ → List Instr → UnitValue
+method_with slots code = record { kind = unit_kind.Method; params = []; slots = slots; code = code }
 
 abbrev body_with : List ParamKind → ℕ → List Instr → UnitValue
 body_with params slots code = record { kind = unit_kind.Body; params = params; slots = slots; code = code }
@@ -107,8 +110,11 @@ inner_held = record {
   u = inner_main;
   found = refl;
   slot = omega arith;
-  visited = (visit 0 kind.Unset ∷ visit 1 kind.Unset ∷ visit 2 kind.Live ∷ visit 3 kind.Live ∷ [],
-    (refl, inl refl, (record { place = inl refl; kind = inl refl }, (record { place = inl refl; kind = inl refl }, (record { place = inl refl; kind = inl refl }, tt)))), refl);
+  visited = (
+    visit 0 kind.Unset ∷ visit 1 kind.Unset ∷ visit 2 kind.Live ∷ visit 3 kind.Live ∷ [],
+    (refl, inl refl, (record { place = inl refl; kind = inl refl }, (record { place = inl refl; kind = inl refl }, (record { place = inl refl; kind = inl refl }, tt)))),
+    refl,
+  );
   refused = refl;
 }
 
@@ -151,3 +157,33 @@ overlap = refl
 
 alone : (breaks (jumps (instr.Finish 1 ∷ instr.Ret ∷ [])) rule.Block 0 0 ≡ true) × (breaks (jumps (instr.Finish 1 ∷ instr.Ret ∷ [])) rule.Target 0 0 ≡ false)
 alone = (refl, refl)
+
+-- ---- rooms
+
+-- Main opens a finish, and two more inside it, one behind the other, in the second of which it calls a method, and behind them it starts
+-- a body that calls the same one; this opens a finish, and behind it calls another method, whose two are one in the other.
+abbrev deep : ModuleValue
+deep = module_with (
+    main_with 2
+    (instr.Finish 6 ∷ instr.Finish 2 ∷ instr.EndFinish 1 ∷ instr.Finish 5 ∷ instr.Call 2 [] ∷ instr.EndFinish 3 ∷ instr.EndFinish 0 ∷ instr.Spawn 1 [] ∷ instr.Ret ∷ [])
+    ∷ body_with [] 64 (instr.Call 2 [] ∷ instr.Ret ∷ [])
+    ∷ method_with 3 (instr.Finish 1 ∷ instr.EndFinish 0 ∷ instr.Call 3 [] ∷ instr.Ret ∷ [])
+    ∷ method_with 5 (instr.Finish 3 ∷ instr.Finish 2 ∷ instr.EndFinish 1 ∷ instr.EndFinish 0 ∷ instr.Ret ∷ [])
+    ∷ [])
+
+deep_nesting : map nesting deep.units ≡ 2 ∷ 0 ∷ 1 ∷ 2 ∷ []
+deep_nesting = refl
+
+-- what a unit starts counts for none of these
+deep_rooms : (map (room_of deep) (0 ∷ 1 ∷ 2 ∷ 3 ∷ 4 ∷ []) ≡ 5 ∷ 3 ∷ 3 ∷ 2 ∷ 0 ∷ []) × (map (frames_of deep) (0 ∷ 1 ∷ 2 ∷ 3 ∷ 4 ∷ []) ≡ 3 ∷ 3 ∷ 2 ∷ 1 ∷ 0 ∷ [])
+    × (map (stack_of deep) (0 ∷ 1 ∷ 2 ∷ 3 ∷ 4 ∷ []) ≡ 10 ∷ 72 ∷ 8 ∷ 5 ∷ 0 ∷ [])
+unfolding chain_within
+deep_rooms = (refl, refl, refl)
+
+-- three levels, and then one finish behind the other
+abbrev three_deep : UnitValue
+three_deep = main_with 0
+    (instr.Finish 5 ∷ instr.Finish 4 ∷ instr.Finish 3 ∷ instr.EndFinish 2 ∷ instr.EndFinish 1 ∷ instr.EndFinish 0 ∷ instr.Finish 7 ∷ instr.EndFinish 6 ∷ instr.Ret ∷ [])
+
+three_deep_nesting : nesting three_deep ≡ 3
+three_deep_nesting = refl

@@ -16,7 +16,7 @@ use Rattle.xk_types.specs.Step.{Cause, OutOfRange}
 use Rattle.xk_types.specs.Schedule.{Course, Through, Held, Wronged, run, all_ended, printed, events}
 use Rattle.xk_types.specs.Walk.{To, Refused, row, IsRefusedAt}
 use Rattle.xk_types.specs.Shape.{breaks}
-use Rattle.xk_types.specs.Bound.{total_within, stack_within, steps_bound, activities_bound, clocks_bound, stack_bound}
+use Rattle.xk_types.specs.Bound.{total_within, chain_within, steps_bound, activities_bound, clocks_bound, stack_bound}
 
 abbrev main_with : ℕ → List Instr → UnitValue
 main_with slots code = record { kind = unit_kind.Main; params = []; slots = slots; code = code }
@@ -39,7 +39,7 @@ abbrev stepping : ModuleValue
 stepping = module_with (stepping_main ∷ method_with (param.Clock ∷ []) 1 (instr.Advance ∷ instr.Ret ∷ []) ∷ [])
 
 stepping_bounds : (steps_bound stepping ≡ 9) × (activities_bound stepping ≡ 1) × (clocks_bound stepping ≡ 2) × (stack_bound stepping ≡ 3)
-unfolding total_within stack_within
+unfolding total_within chain_within
 stepping_bounds = (refl, refl, refl, refl)
 
 -- each step, and where the clocks stand at the end: one advanced in step 5, the other in steps 3 and 8
@@ -130,7 +130,7 @@ nested_printed : printed nested (replicate 19 0) (opening nested) ≡ pos 8 ∷ 
 nested_printed = refl
 
 nested_bounds : (steps_bound nested ≡ 19) × (stack_bound nested ≡ 63)
-unfolding total_within stack_within
+unfolding total_within chain_within
 nested_bounds = (refl, refl)
 
 nested_ends : looked (run nested (replicate 19 0) (opening nested)) ≡ Some (true, 19, [])

@@ -28,7 +28,7 @@ abbrev sum_row : ModuleValue
 sum_row = main_only 3 (instr.Lit 0 (pos 2) ∷ instr.Lit 1 (pos 3) ∷ instr.Add 0 0 1 ∷ instr.Make 2 ∷ instr.Advance ∷ instr.Print 0 ∷ instr.Ret ∷ [])
 
 sum_bounds : (steps_bound sum_row ≡ 8) × (activities_bound sum_row ≡ 1) × (clocks_bound sum_row ≡ 1) × (stack_bound sum_row ≡ 3)
-unfolding Rattle.xk_types.specs.Bound.total_within Rattle.xk_types.specs.Bound.stack_within
+unfolding Rattle.xk_types.specs.Bound.total_within Rattle.xk_types.specs.Bound.chain_within
 sum_bounds = (refl, refl, refl, refl)
 
 abbrev eight : List ℕ

@@ -115,7 +115,7 @@ pair_row = module_with (
     ∷ [])
 
 pair_bounds : (steps_bound pair_row ≡ 12) × (activities_bound pair_row ≡ 2) × (clocks_bound pair_row ≡ 1) × (stack_bound pair_row ≡ 2)
-unfolding total_within Rattle.xk_types.specs.Bound.stack_within
+unfolding total_within Rattle.xk_types.specs.Bound.chain_within
 pair_bounds = (refl, refl, refl, refl)
 
 abbrev pair_list : List ℕ

@@ -1,5 +1,5 @@
--- How many steps, activities and clocks a run of a module can take, as sums over its instructions, and how many slots an
--- activity. The bounds and their limits are this project's own.
+-- How many steps, activities and clocks a run of a module can take, as sums over its instructions, and how many slots, frames and
+-- open finishes an activity. The bounds and their limits are this project's own.
 use Rattle.std.specs.Prelude.{ℕ, zero, suc, ◌+◌, ◌*◌, ◌≤◌, max, List, [], ◌∷◌, length, slice_get, fold, map, filter}
 use Rattle.std.specs.Option.{option_map_or}
 use Rattle.xk_types.specs.declared.instr.Instr.{Instr}
@@ -7,6 +7,7 @@ use Rattle.xk_types.specs.declared.instr.Instr.TheVariants as instr
 use Rattle.xk_types.specs.declared.rules.Rule.{Rule}
 use Rattle.xk_types.specs.declared.rules.Rule.TheVariants as rule
 use Rattle.xk_types.specs.Code.{UnitValue, ModuleValue, unit_called, unit_run, Loop, loops, is_round, turns}
+use Rattle.xk_types.specs.Blocks.{depth_at}
 
 -- the steps of an instruction itself
 abbrev pub steps_weight : Instr → ℕ
@@ -69,15 +70,18 @@ clocks_bound m = total clocks_weight m 0
 abbrev pub greatest : List ℕ → ℕ
 greatest ns = fold max 0 ns
 
--- The slots of a unit, with the most of those that it calls, down to this many calls one below another.
-unfoldable pub stack_within : ModuleValue → ℕ → ℕ → ℕ
-stack_within m zero unit = 0
-stack_within m (suc depth) unit =
-    option_map_or (λ u. u.slots + greatest (map (λ i. option_map_or (stack_within m depth) (unit_called i) 0) u.code)) (slice_get m.units unit) 0
+-- A number of a unit, with the most of those that it calls, down to this many calls one below another.
+unfoldable pub chain_within : (UnitValue → ℕ) → ModuleValue → ℕ → ℕ → ℕ
+chain_within own m zero unit = 0
+chain_within own m (suc depth) unit =
+    option_map_or (λ u. own u + greatest (map (λ i. option_map_or (chain_within own m depth) (unit_called i) 0) u.code)) (slice_get m.units unit) 0
+
+abbrev pub chain_of : (UnitValue → ℕ) → ModuleValue → ℕ → ℕ
+chain_of own m unit = chain_within own m (length m.units) unit
 
 -- the most slots in the frames of an activity from the one of this unit on
 abbrev pub stack_of : ModuleValue → ℕ → ℕ
-stack_of m unit = stack_within m (length m.units) unit
+stack_of m unit = chain_of (λ u. u.slots) m unit
 
 -- the greatest among the first n
 abbrev pub greatest_below : (ℕ → ℕ) → ℕ → ℕ
@@ -87,6 +91,20 @@ greatest_below f (suc n) = max (f n) (greatest_below f n)
 -- the most slots in the frames of one activity
 abbrev pub stack_bound : ModuleValue → ℕ
 stack_bound m = greatest_below (stack_of m) (length m.units)
+
+-- ---- the room of a unit: what an activity needs at most to run it, and what it calls
+
+-- the most frames of an activity from the one of this unit on
+abbrev pub frames_of : ModuleValue → ℕ → ℕ
+frames_of m unit = chain_of (λ u. 1) m unit
+
+-- the greatest nesting of a unit's finishes: the most that are open at one of its places, of those that it opens itself
+abbrev pub nesting : UnitValue → ℕ
+nesting u = greatest_below (depth_at u) (length u.code)
+
+-- the most finishes that are open at once in an activity, of those that are opened from this unit on
+abbrev pub room_of : ModuleValue → ℕ → ℕ
+room_of m unit = chain_of nesting m unit
 
 -- V14 to V17: what each of them limits; nothing for any other rule
 abbrev pub bound_of : ModuleValue → Rule → ℕ

@@ -55,6 +55,15 @@ pub record World : Type 0 where
   pub cells : List ℤ
   pub steps : ℕ
 
+-- the unit of the lowest of an activity's frames, the first of which is its present one
+abbrev pub base_of : Frame → List Frame → ℕ
+base_of f [] = f.unit
+base_of f (g ∷ gs) = base_of g gs
+
+-- the unit that an activity began with
+abbrev pub base_unit : Activity → ℕ
+base_unit act = base_of act.frame act.callers
+
 -- the finish that governs main
 abbrev pub root : Finish
 root = record { owner = None; depth = 0 }

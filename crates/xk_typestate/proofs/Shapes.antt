@@ -33,6 +33,8 @@ module _ (u : UnitValue) (at : ℕ) where
   inside_of (instr.Sub d x y) lt aims next to h = one (at + 1) to (next refl) h
   inside_of (instr.Mul d x y) lt aims next to h = one (at + 1) to (next refl) h
   inside_of (instr.For k lo hi e) lt aims next to h = one (at + 1) to (next refl) h
+  inside_of (instr.Finish e) lt aims next to h = one (at + 1) to (next refl) h
+  inside_of (instr.EndFinish b) lt aims next to h = one (at + 1) to (next refl) h
   inside_of (instr.Print x) lt aims next to h = one (at + 1) to (next refl) h
   inside_of (instr.Make d) lt aims next to h = one (at + 1) to (next refl) h
   inside_of (instr.Resume k) lt aims next to h = one (at + 1) to (next refl) h

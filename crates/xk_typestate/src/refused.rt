@@ -11,6 +11,7 @@ ghost use Rattle.xk_typestate.specs.Trail.{AreTrails};
 use crate::kind_set::{KINDS, KindSet};
 use crate::rows::kinds_after;
 use crate::trail::Trails;
+use xk_shape::Blocks;
 use xk_types::{Kind, Module, Rule, Unit};
 
 /// A slot whose kind an instruction refuses.
@@ -22,14 +23,15 @@ pub(crate) struct Stop {
     pub(crate) rule: Rule,
 }
 
-/// The least stop of a unit, by instruction, slot and kind.
-pub(crate) fn first_stop(m: &Module, u: &Unit, trails: &Trails) -> Option<Stop>
+/// The least stop of a unit, by instruction, slot and kind. The blocks are those of the unit.
+pub(crate) fn first_stop(m: &Module, u: &Unit, blocks: &Blocks, trails: &Trails) -> Option<Stop>
+    requires blocks { blocks.now ≡ u.now }
     requires limits { IsUnitWithinLimits u.now }
     requires trails { AreTrails m.now u.now trails.now }
     ensures { MatchOption result (IsNeverRefusedIn m.now u.now) (IsFirstStop m.now u.now) }
 {
     for at in 0..u.code.len() {
-        if let Some(stop) = stop_at(m, u, trails, at as u16) {
+        if let Some(stop) = stop_at(m, u, blocks, trails, at as u16) {
             return Some(stop);
         }
     }
@@ -37,13 +39,14 @@ pub(crate) fn first_stop(m: &Module, u: &Unit, trails: &Trails) -> Option<Stop>
 }
 
 /// The least stop at one instruction, by slot and kind.
-fn stop_at(m: &Module, u: &Unit, trails: &Trails, at: u16) -> Option<Stop>
+fn stop_at(m: &Module, u: &Unit, blocks: &Blocks, trails: &Trails, at: u16) -> Option<Stop>
+    requires blocks { blocks.now ≡ u.now }
     requires trails { AreTrails m.now u.now trails.now }
     requires inside { at < length u.now.code }
     ensures { MatchOption result (IsNeverRefusedThere m.now u.now at) (IsFirstThere m.now u.now at) }
 {
     for slot in 0..u.slots {
-        if let Some(stop) = stop_of(m, u, at, slot, trails.kinds(at, slot)) {
+        if let Some(stop) = stop_of(m, u, blocks, at, slot, trails.kinds(at, slot)) {
             return Some(stop);
         }
     }
@@ -51,12 +54,20 @@ fn stop_at(m: &Module, u: &Unit, trails: &Trails, at: u16) -> Option<Stop>
 }
 
 /// The stop of one slot at one instruction, with the least of these kinds that is refused.
-fn stop_of(m: &Module, u: &Unit, at: u16, slot: u16, kinds: KindSet) -> Option<Stop>
-    requires { at < length u.now.code }
+fn stop_of(
+    m: &Module,
+    u: &Unit,
+    blocks: &Blocks,
+    at: u16,
+    slot: u16,
+    kinds: KindSet,
+) -> Option<Stop>
+    requires blocks { blocks.now ≡ u.now }
+    requires inside { at < length u.now.code }
     ensures { MatchOption result (AreAllowed m.now u.now slot at kinds) (IsFirstKind m.now u.now slot at kinds) }
 {
     for kind in KINDS {
-        if let Some(rule) = refusal_of(m, u, at, slot, kinds, kind) {
+        if let Some(rule) = refusal_of(m, u, blocks, at, slot, kinds, kind) {
             return Some(Stop {
                 at,
                 slot,
@@ -69,13 +80,22 @@ fn stop_of(m: &Module, u: &Unit, at: u16, slot: u16, kinds: KindSet) -> Option<S
 }
 
 /// The rule that refuses the kind, where it is one of the set and a rule does.
-fn refusal_of(m: &Module, u: &Unit, at: u16, slot: u16, kinds: KindSet, kind: Kind) -> Option<Rule>
-    requires { at < length u.now.code }
+fn refusal_of(
+    m: &Module,
+    u: &Unit,
+    blocks: &Blocks,
+    at: u16,
+    slot: u16,
+    kinds: KindSet,
+    kind: Kind,
+) -> Option<Rule>
+    requires blocks { blocks.now ≡ u.now }
+    requires inside { at < length u.now.code }
     ensures { MatchOption result (IsAllowed m.now u.now slot at kinds kind)
         (λ r. IsTrue (kinds_have kinds kind) × (row m.now u.now slot (visit at kind) ≡ Refused r)) }
 {
     if !kinds.contains(kind) {
         return None;
     }
-    kinds_after(m, u, &u.code[at as usize], slot, kind).err()
+    kinds_after(m, u, blocks, &u.code[at as usize], slot, kind).err()
 }

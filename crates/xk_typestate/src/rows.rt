@@ -4,12 +4,12 @@ ghost use Rattle.std.specs.Prelude.{◌≡◌, ℕ, ◌↔◌, ◌<◌, [], ◌�
 ghost use Rattle.xk_types.specs.declared.rules.Kind.{Kind};
 ghost use Rattle.xk_types.specs.declared.rules.Kind.TheVariants.{Number};
 ghost use Rattle.xk_types.specs.Order.{Has};
-ghost use Rattle.xk_types.specs.Walk.{After, Refused, after, becomes, awake, reads, may_read, loop_slot, overwritten, writes, uses, hands_on, gives, across, is_lent, is_own, successors, entry_kinds, MayBecome};
+ghost use Rattle.xk_types.specs.Walk.{After, Refused, after, becomes, awake, reads, may_read, loop_slot, overwritten, let_go, writes, uses, hands_on, gives, across, is_lent, is_own, successors, entry_kinds, MayBecome};
 ghost use Rattle.xk_typestate.specs.KindSet.{kinds_have};
 ghost use Rattle.xk_typestate.specs.Rows.{IsRow, places};
 
 use crate::kind_set::KindSet;
-use xk_shape::params_of;
+use xk_shape::{Blocks, params_of};
 use xk_types::{Instr, Kind, Module, ParamKind, Rule, Unit, UnitKind};
 
 /// Where an instruction may lead, in rising order.
@@ -57,25 +57,35 @@ pub(crate) fn kinds_at_entry(u: &Unit, slot: u16) -> KindSet
     }
 }
 
-/// What an instruction leaves of the kind of a slot, or nothing where it refuses it.
-pub(crate) fn kinds_left(m: &Module, u: &Unit, instr: &Instr, slot: u16, kind: Kind) -> KindSet
+/// What an instruction leaves of the kind of a slot, or nothing where it refuses it. The blocks are those of the unit.
+pub(crate) fn kinds_left(
+    m: &Module,
+    u: &Unit,
+    blocks: &Blocks,
+    instr: &Instr,
+    slot: u16,
+    kind: Kind,
+) -> KindSet
+    requires { blocks.now ≡ u.now }
     ensures { (k : Kind)
         → IsTrue (kinds_have result k) ↔ MayBecome (after m.now u.now instr.now slot kind) k }
 {
-    match kinds_after(m, u, instr, slot, kind) {
+    match kinds_after(m, u, blocks, instr, slot, kind) {
         Ok(kinds) => kinds,
         Err(_) => KindSet::empty(),
     }
 }
 
-/// What an instruction leaves of the kind of a slot, or the rule by which it refuses it.
+/// What an instruction leaves of the kind of a slot, or the rule by which it refuses it. The blocks are those of the unit.
 pub(crate) fn kinds_after(
     m: &Module,
     u: &Unit,
+    blocks: &Blocks,
     instr: &Instr,
     slot: u16,
     kind: Kind,
 ) -> Result<KindSet, Rule>
+    requires { blocks.now ≡ u.now }
     ensures { IsRow (after m.now u.now instr.now slot kind) result }
 {
     match instr {
@@ -113,7 +123,8 @@ pub(crate) fn kinds_after(
             given(params_of(m, *started), args.slots(), slot, kind)?;
             Ok(KindSet::of(kind))
         }
-        Instr::Jump(_) => Ok(KindSet::of(kind)),
+        Instr::EndFinish(first) => closed(blocks.is_home(slot, *first), kind),
+        Instr::Jump(_) | Instr::Finish(_) => Ok(KindSet::of(kind)),
         Instr::Ret => returned(u, slot, kind),
     }
 }
@@ -272,6 +283,27 @@ fn is_lent(params: &[ParamKind], args: &[u16], slot: u16) -> bool
         }
     }
     false
+}
+
+/// What `endfinish` leaves of a kind, by whether it ends the block that is the slot's home.
+fn closed(home: bool, kind: Kind) -> Result<KindSet, Rule>
+    ensures { IsRow (if home then let_go kind (becomes kind) else becomes kind) result }
+{
+    if home {
+        let_go(kind)
+    } else {
+        Ok(KindSet::of(kind))
+    }
+}
+
+/// Ends the home of a slot: a clock on which the activity is still registered would keep back those for whom it waits.
+fn let_go(kind: Kind) -> Result<KindSet, Rule>
+    ensures { IsRow (let_go kind (becomes kind)) result }
+{
+    match kind {
+        Kind::Unset | Kind::Number | Kind::Out => Ok(KindSet::of(kind)),
+        Kind::Live | Kind::Resumed => Err(Rule::Held),
+    }
 }
 
 /// What `ret` leaves of a kind: where a method returns, its own slots are lost.

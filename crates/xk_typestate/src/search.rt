@@ -10,6 +10,7 @@ ghost use Rattle.xk_typestate.specs.Search.{IsClosed, IsFound, IsSearched, IsCom
 use crate::kind_set::{KINDS, KindSet};
 use crate::rows::{Ways, kinds_at_entry, kinds_left, ways_from};
 use std::alloc::{AllocError, Global};
+use xk_shape::Blocks;
 use xk_types::{Kind, Module, Unit, Visit};
 
 /// A stop that walks come to.
@@ -27,13 +28,15 @@ pub(crate) struct Search {
     pub(crate) found: Vec<Found>,
 }
 
-/// All stops that walks of the slot come to.
+/// All stops that walks of the slot come to. The blocks are those of the unit.
 pub(crate) fn search_slot(
     alloc: Global,
     m: &Module,
     u: &Unit,
+    blocks: &Blocks,
     slot: u16,
 ) -> Result<Search, AllocError>
+    requires blocks { blocks.now ≡ u.now }
     requires closed { IsClosed u.now }
     requires limits { length u.now.code ≤ 4096 }
     ensures { IfOk result (IsComplete m.now u.now slot) }
@@ -42,7 +45,7 @@ pub(crate) fn search_slot(
     search.put_all(0, kinds_at_entry(u, slot), None)?;
     let mut done = 0;
     while done < search.found.len() {
-        search.go_on(m, u, slot, done)?;
+        search.go_on(m, u, blocks, slot, done)?;
         done += 1;
     }
     Ok(search)
@@ -60,7 +63,15 @@ impl Search {
     }
 
     /// Puts the stops that edges lead to from the one at this place.
-    fn go_on(&mut self, m: &Module, u: &Unit, slot: u16, done: usize) -> Result<(), AllocError>
+    fn go_on(
+        &mut self,
+        m: &Module,
+        u: &Unit,
+        blocks: &Blocks,
+        slot: u16,
+        done: usize,
+    ) -> Result<(), AllocError>
+        requires blocks { blocks.now ≡ u.now }
         requires closed { IsClosed u.now }
         requires limits { length u.now.code ≤ 4096 }
         requires searched { IsSearched m.now u.now slot self.old done }
@@ -70,7 +81,7 @@ impl Search {
     {
         let stop = self.found[done].stop;
         let instr = &u.code[stop.at as usize];
-        let kinds = kinds_left(m, u, instr, slot, stop.kind);
+        let kinds = kinds_left(m, u, blocks, instr, slot, stop.kind);
         self.put_ways(ways_from(instr, stop.at), kinds, Some(done))
     }
 

@@ -43,14 +43,19 @@ fn check(
     }
 }
 
-/// The kinds of a slot of unit 1 before an instruction; none where there is no such place.
-fn kinds_at(typed: &Typed, at: u16, slot: u16) -> Option<KindSet> {
-    let u = typed.module().units().get(1)?;
+/// The kinds of a slot before an instruction; none where there is no such place.
+fn kinds_in(typed: &Typed, unit: u16, at: u16, slot: u16) -> Option<KindSet> {
+    let u = typed.module().units().get(unit as usize)?;
     if (at as usize) < u.code.len() && slot < u.slots {
-        Some(typed.kinds(1, at, slot))
+        Some(typed.kinds(unit, at, slot))
     } else {
         None
     }
+}
+
+/// The same of unit 1.
+fn kinds_at(typed: &Typed, at: u16, slot: u16) -> Option<KindSet> {
+    kinds_in(typed, 1, at, slot)
 }
 
 /// The module with a body of this code, where it is typed.
@@ -152,5 +157,125 @@ fn refuses_a_method_that_keeps_a_clock(rt: HostRuntime) -> Result<(), Fail> {
     assert_eq!(rt; fault.rule.number(), 13);
     assert_eq!(rt; (fault.unit, fault.at, fault.slot), (1, 1, 0));
     assert_eq!(rt; fault.kind, Kind::Live);
+    Ok(())
+}
+
+/// What the check says of a main unit that has one slot and this code, and of a body that is given a clock and waits for it.
+fn check_main(
+    rt: &impl Abort,
+    alloc: Global,
+    code: Vec<Instr>,
+) -> Result<Result<Typed, KindError>, Fail> {
+    let main = Unit {
+        kind: UnitKind::Main,
+        params: Vec::new(alloc),
+        slots: 1,
+        code,
+    };
+    let body = Unit {
+        kind: UnitKind::Body,
+        params: vec![in alloc; ParamKind::Clock]?,
+        slots: 1,
+        code: vec![in alloc; Instr::Advance, Instr::Ret]?,
+    };
+    match shape(alloc, module(alloc, vec![in alloc; main, body]?)?) {
+        Ok(shaped) => Ok(check_kinds(alloc, shaped).map_err(|e| e.1)),
+        Err(_) => panic!(rt; "no shape"),
+    }
+}
+
+/// The instruction that starts the body with the clock in slot 0.
+fn spawn(alloc: Global) -> Result<Instr, Fail> {
+    Ok(Instr::Spawn(1, Args::new(vec![in alloc; 0]?)))
+}
+
+#[test]
+fn refuses_a_clock_held_at_the_end_of_its_home(rt: HostRuntime) -> Result<(), Fail> {
+    let alloc = rt.alloc();
+    let code = vec![in alloc;
+        Instr::Finish(3),
+        Instr::Make(0),
+        spawn(alloc)?,
+        Instr::EndFinish(0),
+        Instr::Ret,
+    ]?;
+    let Err(KindError::Fault(fault)) = check_main(&rt, alloc, code)? else {
+        panic!(rt; "no fault");
+    };
+    assert_eq!(rt; fault.rule.number(), 12);
+    assert_eq!(rt; (fault.unit, fault.at, fault.slot), (0, 3, 0));
+    assert_eq!(rt; fault.kind, Kind::Live);
+    let places: Vec<u16> = fault.walk.iter().map(|v| v.at).collect(alloc)?;
+    assert_eq!(rt; places.as_slice(), [0, 1, 2, 3].as_slice());
+    Ok(())
+}
+
+#[test]
+fn refuses_a_resumed_clock_held_at_the_end_of_its_home(rt: HostRuntime) -> Result<(), Fail> {
+    let alloc = rt.alloc();
+    let code = vec![in alloc;
+        Instr::Finish(4),
+        Instr::Make(0),
+        spawn(alloc)?,
+        Instr::Resume(0),
+        Instr::EndFinish(0),
+        Instr::Ret,
+    ]?;
+    let Err(KindError::Fault(fault)) = check_main(&rt, alloc, code)? else {
+        panic!(rt; "no fault");
+    };
+    assert_eq!(rt; fault.rule.number(), 12);
+    assert_eq!(rt; (fault.unit, fault.at, fault.slot), (0, 4, 0));
+    assert_eq!(rt; fault.kind, Kind::Resumed);
+    Ok(())
+}
+
+#[test]
+fn ends_the_home_of_a_dropped_clock(rt: HostRuntime) -> Result<(), Fail> {
+    let alloc = rt.alloc();
+    let code = vec![in alloc;
+        Instr::Finish(4),
+        Instr::Make(0),
+        spawn(alloc)?,
+        Instr::Drop(0),
+        Instr::EndFinish(0),
+        Instr::Ret,
+    ]?;
+    let Ok(typed) = check_main(&rt, alloc, code)? else {
+        panic!(rt; "refused");
+    };
+    assert_eq!(rt; kinds_in(&typed, 0, 3, 0), Some(KindSet::of(Kind::Live)));
+    assert_eq!(rt; kinds_in(&typed, 0, 5, 0), Some(KindSet::of(Kind::Out)));
+    Ok(())
+}
+
+#[test]
+fn ends_a_block_with_a_clock_of_an_outer_one(rt: HostRuntime) -> Result<(), Fail> {
+    let alloc = rt.alloc();
+    let code = vec![in alloc;
+        Instr::Finish(6),
+        Instr::Make(0),
+        Instr::Resume(0),
+        Instr::Finish(4),
+        Instr::EndFinish(3),
+        Instr::Drop(0),
+        Instr::EndFinish(0),
+        Instr::Ret,
+    ]?;
+    let Ok(typed) = check_main(&rt, alloc, code)? else {
+        panic!(rt; "refused");
+    };
+    assert_eq!(rt; kinds_in(&typed, 0, 5, 0), Some(KindSet::of(Kind::Resumed)));
+
+    let code = vec![in alloc;
+        Instr::Make(0),
+        Instr::Finish(2),
+        Instr::EndFinish(1),
+        Instr::Ret,
+    ]?;
+    let Ok(typed) = check_main(&rt, alloc, code)? else {
+        panic!(rt; "refused");
+    };
+    assert_eq!(rt; kinds_in(&typed, 0, 3, 0), Some(KindSet::of(Kind::Live)));
     Ok(())
 }

@@ -10,6 +10,7 @@ use crate::kind_set::KindSet;
 use crate::search::search_slot;
 use std::alloc::{AllocError, Global};
 use std::marker::Model;
+use xk_shape::Blocks;
 use xk_types::{Module, Unit};
 
 /// The kinds that walks of one slot have at each instruction.
@@ -44,12 +45,19 @@ impl Model for Trails {
 
 impl Trail {
     /// The kinds of this slot.
-    fn follow(alloc: Global, m: &Module, u: &Unit, slot: u16) -> Result<Trail, AllocError>
+    fn follow(
+        alloc: Global,
+        m: &Module,
+        u: &Unit,
+        blocks: &Blocks,
+        slot: u16,
+    ) -> Result<Trail, AllocError>
+        requires blocks { blocks.now ≡ u.now }
         requires closed { IsClosed u.now }
         requires limits { length u.now.code ≤ 4096 }
         ensures { IfOk result (IsTrail m.now u.now slot) }
     {
-        let search = search_slot(alloc, m, u, slot)?;
+        let search = search_slot(alloc, m, u, blocks, slot)?;
         Ok(Trail { kinds: search.seen })
     }
 
@@ -64,14 +72,20 @@ impl Trail {
 
 impl Trails {
     /// The kinds of this unit's slots.
-    pub(crate) fn follow(alloc: Global, m: &Module, u: &Unit) -> Result<Trails, AllocError>
+    pub(crate) fn follow(
+        alloc: Global,
+        m: &Module,
+        u: &Unit,
+        blocks: &Blocks,
+    ) -> Result<Trails, AllocError>
+        requires blocks { blocks.now ≡ u.now }
         requires closed { IsClosed u.now }
         requires limits { IsUnitWithinLimits u.now }
         ensures { IfOk result (AreTrails m.now u.now) }
     {
         let mut slots = Vec::with_capacity(alloc, u.slots as usize)?;
         for slot in 0..u.slots {
-            slots.push(Trail::follow(alloc, m, u, slot)?)?;
+            slots.push(Trail::follow(alloc, m, u, blocks, slot)?)?;
         }
         Ok(Trails { slots })
     }

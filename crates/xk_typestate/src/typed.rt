@@ -2,8 +2,9 @@
 
 ghost use Rattle.std.specs.Prelude.{◌≡◌, ◌↔◌, ℕ, IsTrue, IfOk, IfErr, MatchResult, Some, slice_get};
 ghost use Rattle.xk_types.specs.declared.rules.Kind.{Kind};
-ghost use Rattle.xk_types.specs.Code.{IsWithinLimits, IsUnitWithinLimits};
+ghost use Rattle.xk_types.specs.Code.{IsWithinLimits};
 ghost use Rattle.xk_types.specs.Shape.{HasShape};
+ghost use Rattle.xk_shape.specs.Blocks.{HasBlocks};
 ghost use Rattle.xk_typestate.specs.KindSet.{kinds_have};
 ghost use Rattle.xk_typestate.specs.Place.{visit, HasPlace, IsVisitedIn};
 ghost use Rattle.xk_typestate.specs.Refused.{IsNeverRefused, IsNeverRefusedIn, FailsModule, FailsUnit};
@@ -18,7 +19,7 @@ use crate::trail::Trails;
 use crate::walk::walk_to;
 use std::alloc::{AllocError, Global};
 use std::marker::Model;
-use xk_shape::Shaped;
+use xk_shape::{Blocks, Shaped};
 use xk_types::{Module, Unit, Visit};
 
 /// A module whose slots are used as what they hold, with the kinds of each slot at each instruction.
@@ -40,8 +41,8 @@ impl Model for Typed {
 }
 
 /// Takes the module if no walk of a slot ends where the table of kinds refuses to go on, or gives it back with the least
-/// slot that is refused, by unit, instruction, slot and kind. `OutOfMemory` comes only where room for the kinds or for a
-/// walk was refused.
+/// slot that is refused, by unit, instruction, slot and kind. `OutOfMemory` comes only where room for the blocks of a unit, for
+/// the kinds or for a walk was refused.
 pub fn check_kinds(alloc: Global, shaped: Shaped) -> Result<Typed, (Shaped, KindError)>
     ensures accepted { IfOk result (λ t. (t ≡ shaped) × IsNeverRefused shaped) }
     ensures refused { IfErr result (λ e. FailsModule shaped e.1) }
@@ -73,19 +74,20 @@ fn check_units(alloc: Global, m: &Module) -> Result<Vec<Trails>, KindError>
 
 /// Follows every slot of one unit, and stops at the least place that is refused.
 fn check_unit(alloc: Global, m: &Module, unit: u16, u: &Unit) -> Result<Trails, KindError>
+    requires blocks { HasBlocks u.now }
     requires closed { IsClosed u.now }
-    requires limits { IsUnitWithinLimits u.now }
     ensures { MatchResult result (λ t. IsNeverRefusedIn m.now u.now × AreTrails m.now u.now t) (FailsUnit m.now unit u.now) }
 {
-    let trails = Trails::follow(alloc, m, u)?;
-    let Some(stop) = first_stop(m, u, &trails) else {
+    let blocks = Blocks::of(alloc, u)?;
+    let trails = Trails::follow(alloc, m, u, &blocks)?;
+    let Some(stop) = first_stop(m, u, &blocks, &trails) else {
         return Ok(trails);
     };
     let end = Visit {
         at: stop.at,
         kind: stop.kind,
     };
-    let walk = walk_to(alloc, m, u, stop.slot, end)?;
+    let walk = walk_to(alloc, m, u, &blocks, stop.slot, end)?;
     Err(KindError::Fault(KindFault {
         rule: stop.rule,
         unit,

@@ -9,6 +9,7 @@ ghost use Rattle.xk_typestate.specs.Found.{IsPlaceOf, IsNowhere, ComesFromBefore
 
 use crate::search::{Found, search_slot};
 use std::alloc::{AllocError, Global};
+use xk_shape::Blocks;
 use xk_types::{Module, Unit, Visit};
 
 /// A walk of the slot that ends at this stop: of the shortest, the first that a breadth-first search finds.
@@ -16,15 +17,17 @@ pub(crate) fn walk_to(
     alloc: Global,
     m: &Module,
     u: &Unit,
+    blocks: &Blocks,
     slot: u16,
     end: Visit,
 ) -> Result<Vec<Visit>, AllocError>
+    requires blocks { blocks.now ≡ u.now }
     requires closed { IsClosed u.now }
     requires limits { length u.now.code ≤ 4096 }
     requires visited { IsVisited m.now u.now slot end }
     ensures { IfOk result (λ w. IsWalk m.now u.now slot w.items × EndsAt w.items end) }
 {
-    let search = search_slot(alloc, m, u, slot)?;
+    let search = search_slot(alloc, m, u, blocks, slot)?;
     match place_of(&search.found, end) {
         Some(place) => walk_back(alloc, &search.found, place),
         None => unreachable!(),

@@ -5,8 +5,9 @@ use Rattle.std.proofs.lemmas.Bool.{cases_lt}
 use Rattle.std.proofs.lemmas.Option.{slice_get_read}
 use Rattle.xk_types.specs.Bound.{total}
 use Rattle.xk_bounds.specs.declared.bounds.TheConstants.{CUT}
+use Rattle.xk_shape.proofs.Units.{blocks_of_shape}
 use Rattle.xk_bounds.specs.Measure.{added_by, weight_of}
-use Rattle.xk_bounds.proofs.Totals.{blocks_from, total_cut}
+use Rattle.xk_bounds.proofs.Totals.{total_cut}
 use Rattle.xk_bounds.proofs.bounds.most.Goals as goal
 
 pub most_of-requires : goal.most_of-requires
@@ -18,7 +19,7 @@ most_of-requires c =
     let inv = c.loop-unit.invariant in
     let as_long : length units ≡ length m.units = ap length c.units-units.ensures.listed in
     let lt : unit < length units = omega (arith, inv.0) in
-    blocks_from m c.requires unit u (ap (λ us. slice_get us unit) (sym c.units-units.ensures.listed) ∙ slice_get_read units (length units) unit u refl lt c.index-units-unit.is)
+    (blocks_of_shape m u unit c.units-units.ensures.limits c.requires (ap (λ us. slice_get us unit) (sym c.units-units.ensures.listed) ∙ slice_get_read units (length units) unit u refl lt c.index-units-unit.is)).orderly
 
 pub loop-unit-preserved : goal.loop-unit-preserved
 loop-unit-preserved c =

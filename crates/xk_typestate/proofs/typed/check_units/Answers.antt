@@ -4,6 +4,7 @@ use Rattle.std.proofs.lemmas.Option.{slice_get_read, slice_get_within, same_Some
 use Rattle.std.proofs.lemmas.Bool.{cases_lt}
 use Rattle.std.proofs.lemmas.Result.{err_from_is_err_and}
 use Rattle.xk_types.specs.Code.{UnitValue, ModuleValue}
+use Rattle.xk_shape.proofs.Units.{blocks_of_shape}
 use Rattle.xk_typestate.specs.Refused.{IsNeverRefusedIn}
 use Rattle.xk_typestate.specs.Trail.{AreTrails}
 use Rattle.xk_typestate.proofs.Pushes.{each_more}
@@ -20,6 +21,13 @@ check_unit-requires-clause-closed c =
     let u = c.u-item.result in
     let n = c.loop-u.u-index in
     closed_from m c.requires n u (found_unit m c.units-u-items.result.now n u c.units-u-items.ensures.listed c.loop-u-test.true c.u-item.is)
+
+pub check_unit-requires-clause-blocks : goal.check_unit-requires-clause-blocks
+check_unit-requires-clause-blocks c =
+    let m = c.args.m.now in
+    let u = c.u-item.result in
+    let n = c.loop-u.u-index in
+    blocks_of_shape m u n c.units-u-items.ensures.limits c.requires (found_unit m c.units-u-items.result.now n u c.units-u-items.ensures.listed c.loop-u-test.true c.u-item.is)
 
 pub returns-in_err-of_unit : goal.returns-in_err-of_unit
 returns-in_err-of_unit c =

@@ -1,0 +1,3 @@
+pub mod Activities
+pub mod Owners
+pub mod Under

@@ -1,0 +1,67 @@
+//! A finish by its name.
+
+ghost use Rattle.std.specs.Prelude.{◌≡◌, Some};
+ghost use Rattle.xk_types.specs.World.{root};
+ghost use Rattle.xk_types.specs.Step.{same_finish};
+
+use std::marker::Model;
+use xk_types::Act;
+
+/// A finish. It is named by the activity that opened it and by how many that one then had open, this one among them; both are
+/// used again once it is closed. Nobody opens the finish that governs main.
+#[derive(Clone, Copy)]
+pub struct Finish {
+    owner: Option<Act>,
+    depth: u32,
+}
+
+impl Model for Finish {
+    ghost use Rattle.xk_types.specs.World as world;
+
+    ghost Value = { world.Finish };
+
+    ghost view = { λ f. record { owner = f.owner; depth = f.depth } };
+
+    ghost inverse = { λ f. record { owner = f.owner; depth = f.depth } };
+}
+
+impl Finish {
+    /// The one that governs main.
+    pub fn root() -> Finish
+        ensures { result ≡ root }
+    {
+        Finish {
+            owner: None,
+            depth: 0,
+        }
+    }
+
+    /// The one that the activity opened as its last, when it then had this many open.
+    pub fn opened_by(owner: Act, depth: u32) -> Finish
+        ensures { result ≡ record { owner = Some owner; depth = depth } }
+    {
+        Finish {
+            owner: Some(owner),
+            depth,
+        }
+    }
+
+    /// The activity that opened it, if one did.
+    pub fn owner(self) -> Option<Act>
+        ensures { result ≡ self.owner }
+    {
+        self.owner
+    }
+
+    /// Whether it is this one.
+    pub fn is(self, other: Finish) -> bool
+        ensures { result ≡ same_finish self other }
+    {
+        let same_owner = match (self.owner, other.owner) {
+            (None, None) => true,
+            (Some(a), Some(b)) => a.0 == b.0,
+            _ => false,
+        };
+        same_owner && self.depth == other.depth
+    }
+}

@@ -1,0 +1,11 @@
+//! Which finishes are open in a running program, and who is under them.
+#![tactic(auto)]
+
+mod finish;
+pub mod laws;
+mod node;
+#[cfg(test)]
+mod tests;
+mod tree;
+
+pub use tree::FinishTree;

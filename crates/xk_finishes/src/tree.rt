@@ -1,0 +1,146 @@
+//! The tree of finishes.
+
+ghost use Rattle.std.specs.Prelude.{◌≡◌, ◌<◌, ◌^◌, false, not, List, [], ◌∷◌, ◌++◌, length, Some, slice_get, IfOk, OnOk, OnErr};
+ghost use Rattle.xk_types.specs.World.{Activity, root};
+ghost use Rattle.xk_types.specs.Step as step;
+ghost use Rattle.xk_finishes.specs.Tree.{fresh_node, node_at, node_entered, node_left, node_ended, changed_at, governing_of, is_under, awaits, awaits_innermost, AreOwnersEarlier, AreNodesOf};
+
+use crate::finish::Finish;
+use crate::node::Node;
+use std::alloc::{AllocError, Global};
+use std::marker::Model;
+use xk_types::Act;
+
+/// The finishes of a running program, as it tells of each activity that starts or ends, and of each finish that is opened or
+/// closed. Activities are numbered from 0, which is main, in the order in which they start.
+///
+/// X10 Language Specification 2.4, chapter Activities: `finish S` runs S, then waits until every activity that was started
+/// meanwhile, directly or through other activities, has ended; and main runs under a finish that nobody opens. So a finish
+/// *governs* what its owner starts while it is the innermost that the owner has open, and what starts an activity with none
+/// open hands the finish on that governs it itself. An activity is *under* the finish that governs it, and under each that
+/// the owner of that one is under.
+#[derive(Drop)]
+pub struct FinishTree {
+    nodes: Vec<Node>,
+}
+
+impl Model for FinishTree {
+    ghost use Rattle.std.specs.Prelude.{List};
+    ghost use Rattle.xk_finishes.specs.Tree.{NodeValue, AreOwnersEarlier};
+
+    ghost Value = { List NodeValue };
+
+    ghost view = { λ t. t.nodes.items };
+
+    ghost invariant = { λ t. AreOwnersEarlier t.nodes.items };
+}
+
+/// Whether activity b is under the finish.
+fn is_under(nodes: &[Node], finish: Finish, b: usize) -> bool
+    requires exists { b < length nodes.now }
+    requires owners { AreOwnersEarlier nodes.now }
+    ensures { result ≡ is_under nodes.now finish b }
+{
+    let mut governed = nodes[b].governed();
+    while !governed.is(finish) {
+        match governed.owner() {
+            None => return false,
+            Some(owner) => governed = nodes[owner.0 as usize].governed(),
+        }
+    }
+    true
+}
+
+/// Whether somebody under the finish hasn't ended.
+fn awaits(nodes: &[Node], finish: Finish) -> bool
+    requires { AreOwnersEarlier nodes.now }
+    ensures { result ≡ awaits nodes.now finish }
+{
+    for (b, node) in nodes.iter().enumerate() {
+        if !node.ended() && is_under(nodes, finish, b) {
+            return true;
+        }
+    }
+    false
+}
+
+impl FinishTree {
+    /// The finish that nobody opens, and main, which it governs and which has room for this many finishes open at once.
+    pub fn open(alloc: Global, room: u32) -> Result<FinishTree, AllocError>
+        ensures { IfOk result (λ tree. tree ≡ fresh_node root room ∷ []) }
+    {
+        let mut nodes = Vec::new(alloc);
+        nodes.push(Node::new(Finish::root(), room))?;
+        Ok(FinishTree { nodes })
+    }
+
+    /// An activity starts another, which has room for this many finishes open at once, and takes the next number. It is
+    /// governed by the innermost finish that its starter has open, else by the one that governs the starter. Where memory is
+    /// refused nothing changes.
+    pub fn spawned(&mut self, starter: Act, room: u32) -> Result<Act, AllocError>
+        requires exists { starter < length self.old }
+        requires runs { (node_at self.old starter).ended ≡ false }
+        requires numbers { length self.old < 2 ^ 32 }
+        ensures number { IfOk result (λ act. act ≡ length self.old) }
+        ensures started { OnOk result
+            (self.new ≡ self.old ++ fresh_node (governing_of starter (node_at self.old starter)) room ∷ []) }
+        ensures refused { OnErr result (self.new ≡ self.old) }
+    {
+        let number = Act(self.nodes.len() as u32);
+        let governed = self.nodes[starter.0 as usize].governing(starter);
+        self.nodes.push(Node::new(governed, room))?;
+        Ok(number)
+    }
+
+    /// The activity opens a finish, which becomes the innermost that it has open.
+    pub fn enter(&mut self, act: Act)
+        requires exists { act < length self.old }
+        requires runs { (node_at self.old act).ended ≡ false }
+        requires room { (node_at self.old act).opened < (node_at self.old act).room }
+        ensures opened { self.new ≡ changed_at self.old act node_entered }
+    {
+        self.nodes[act.0 as usize].enter();
+    }
+
+    /// The activity ends. It has closed each finish that it opened.
+    pub fn ended(&mut self, act: Act)
+        requires exists { act < length self.old }
+        requires runs { (node_at self.old act).ended ≡ false }
+        requires closed { (node_at self.old act).opened ≡ 0 }
+        ensures ended { self.new ≡ changed_at self.old act node_ended }
+    {
+        self.nodes[act.0 as usize].end();
+    }
+
+    /// The activity closes its innermost open finish. Everybody under it has ended.
+    pub fn leave(&mut self, act: Act)
+        requires exists { act < length self.old }
+        requires opened { 0 < (node_at self.old act).opened }
+        requires empty { awaits_innermost self.old act ≡ false }
+        ensures closed { self.new ≡ changed_at self.old act node_left }
+    {
+        self.nodes[act.0 as usize].leave();
+    }
+
+    /// Whether everybody under the innermost open finish of the activity has ended, so that its `endfinish` waits for nobody.
+    /// Looks at all activities, and goes up from owner to owner for each that hasn't ended.
+    pub fn empty(&self, act: Act) -> bool
+        requires exists { act < length self.now }
+        requires opened { 0 < (node_at self.now act).opened }
+        ensures waits { result ≡ not (awaits_innermost self.now act) }
+        // The same in the terms of a step, whatever else the activities are.
+        ensures step { (acts : List Activity) (a : Activity) → AreNodesOf acts self.now
+            → slice_get acts act ≡ Some a → result ≡ not (step.awaits acts (step.innermost act a)) }
+    {
+        !self.waits(act)
+    }
+
+    /// Whether somebody under the innermost open finish of the activity hasn't ended.
+    fn waits(&self, act: Act) -> bool
+        requires { act < length self.now }
+        ensures { result ≡ awaits_innermost self.now act }
+    {
+        let opened = self.nodes[act.0 as usize].opened();
+        awaits(&self.nodes, Finish::opened_by(act, opened))
+    }
+}
