@@ -20,7 +20,7 @@ use Rattle.xk_types.specs.Schedule.{is_step}
 use Rattle.xk_core.specs.declared.change.StepChange.{StepChange}
 use Rattle.xk_core.specs.Change.{standing_after_step}
 use Rattle.xk_core.specs.Joining.{given_slots, started, called_with}
-use Rattle.xk_core.specs.Arm.{value_at, grows, AreNumbersAt, IsTurnAt, IsLocal, Computes, IsRunningUnit, CanCarry, Writes, Carries, IsRoomy, carried, carried_by, Leaves}
+use Rattle.xk_core.specs.Arm.{value_at, grows, concerns_finishes, AreNumbersAt, IsTurnAt, IsLocal, Computes, IsRunningUnit, CanCarry, Writes, Carries, IsRoomy, carried, carried_by, Leaves}
 
 same_some : {X : Type 0} (x y : X) → Some x ≡ Some y → x ≡ y
 same_some x y e = cc
@@ -123,28 +123,30 @@ instruction_there m u act b found = ap (option_and_then (λ unit. slice_get unit
 
 -- an activity that takes a step at an instruction that adds nothing has what it works on
 pub can_carry : (m : ModuleValue) (w : World) (a : ℕ) (u : UnitValue) (act : Activity) (i : Instr) → slice_get m.units act.frame.unit ≡ Some u
-    → is_step (carried_out m w a act i) ≡ true → grows i ≡ false → CanCarry u act i
-can_carry m w a u act (instr.Lit d n) found h one = let s = slot_there act d _ _ h in slice_get_within _ d _ s.1
-can_carry m w a u act (instr.Copy d x) found h one =
+    → is_step (carried_out m w a act i) ≡ true → grows i ≡ false → concerns_finishes i ≡ false → CanCarry u act i
+can_carry m w a u act (instr.Lit d n) found h one plain = let s = slot_there act d _ _ h in slice_get_within _ d _ s.1
+can_carry m w a u act (instr.Copy d x) found h one plain =
     let p = number_there (slot_at act x) _ h in
     let s = slot_there act d _ _ p.2 in
     ((p.0, p.1), slice_get_within _ d _ s.1)
-can_carry m w a u act (instr.Add d x y) found h one = can_compute w a act _ d x y h
-can_carry m w a u act (instr.Sub d x y) found h one = can_compute w a act _ d x y h
-can_carry m w a u act (instr.Mul d x y) found h one = can_compute w a act _ d x y h
-can_carry m w a u act (instr.Unless op x y t) found h one = (numbers_there act x y _ h).0
-can_carry m w a u act (instr.Jump t) found h one = tt
-can_carry m w a u act (instr.For k lo hi e) found h one = let s = slot_there act k _ _ h in slice_get_within _ k _ s.1
-can_carry m w a u act (instr.Next b) found h one =
+can_carry m w a u act (instr.Add d x y) found h one plain = can_compute w a act _ d x y h
+can_carry m w a u act (instr.Sub d x y) found h one plain = can_compute w a act _ d x y h
+can_carry m w a u act (instr.Mul d x y) found h one plain = can_compute w a act _ d x y h
+can_carry m w a u act (instr.Unless op x y t) found h one plain = (numbers_there act x y _ h).0
+can_carry m w a u act (instr.Jump t) found h one plain = tt
+can_carry m w a u act (instr.For k lo hi e) found h one plain = let s = slot_there act k _ _ h in slice_get_within _ k _ s.1
+can_carry m w a u act (instr.Next b) found h one plain =
     can_turn w a u act b (slice_get u.code b) refl (ap (λ o. is_step (turning w a act b o)) (sym (instruction_there m u act b found)) ∙ h)
-can_carry m w a u act (instr.Print x) found h one = let p = number_there (slot_at act x) _ h in (p.0, p.1)
-can_carry m w a u act (instr.Make d) found h one = absurd (false≢true (sym one))
-can_carry m w a u act (instr.Call t args) found h one = absurd (false≢true (sym one))
-can_carry m w a u act (instr.Spawn t args) found h one = absurd (false≢true (sym one))
-can_carry m w a u act (instr.Resume k) found h one = clock_there w a (slot_at act k) _ h
-can_carry m w a u act (instr.Drop k) found h one = clock_there w a (slot_at act k) _ h
-can_carry m w a u act instr.Advance found h one = tt
-can_carry m w a u act instr.Ret found h one = tt
+can_carry m w a u act (instr.Print x) found h one plain = let p = number_there (slot_at act x) _ h in (p.0, p.1)
+can_carry m w a u act (instr.Finish e) found h one plain = absurd (false≢true (sym plain))
+can_carry m w a u act (instr.EndFinish b) found h one plain = absurd (false≢true (sym plain))
+can_carry m w a u act (instr.Make d) found h one plain = absurd (false≢true (sym one))
+can_carry m w a u act (instr.Call t args) found h one plain = absurd (false≢true (sym one))
+can_carry m w a u act (instr.Spawn t args) found h one plain = absurd (false≢true (sym one))
+can_carry m w a u act (instr.Resume k) found h one plain = clock_there w a (slot_at act k) _ h
+can_carry m w a u act (instr.Drop k) found h one plain = clock_there w a (slot_at act k) _ h
+can_carry m w a u act instr.Advance found h one plain = tt
+can_carry m w a u act instr.Ret found h one plain = tt
 
 -- a slot that is there is written as the definition writes it
 pub slot_written : (act : Activity) (d : ℕ) (v : Value) (next : Activity) → d < length act.frame.slots → next ≡ onward (with_slots act (slice_set act.frame.slots d v)) → Writes act d v next
@@ -175,6 +177,8 @@ carries_done m w a u act (instr.For k lo hi end) next ch e found h did = rw (did
 carries_done m w a u act (instr.Next b) next ch e found h did =
     ap (turning w a act b) (instruction_there m u act b found ∙ did.0.begins) ∙ rw (did.0.number, did.0.goes, did.1.0, did.1.1) refl
 carries_done m w a u act (instr.Print x) next ch e found h did = rw (did.1, did.2, did.3, did.4) refl
+carries_done m w a u act (instr.Finish x) next ch e found h did = absurd did
+carries_done m w a u act (instr.EndFinish b) next ch e found h did = absurd did
 carries_done m w a u act (instr.Make d) next ch e found h did = absurd did
 carries_done m w a u act (instr.Call t args) next ch e found h did = absurd did
 carries_done m w a u act (instr.Spawn t args) next ch e found h did = absurd did
@@ -224,10 +228,10 @@ unit_within m w a act units n runs there same which =
 pub actor_there : (m : ModuleValue) (w : World) (a : ℕ) (i : Instr) (act : Activity) → is_step (carried m w a i) ≡ true → act ≡ get_or w.activities a act → slice_get w.activities a ≡ Some act
 actor_there m w a i act h is = read_at w a act (carried_within m w a i h) is
 
-pub operands_there : (m : ModuleValue) (w : World) (a : ℕ) (i : Instr) (act : Activity) (u : UnitValue) → is_step (carried m w a i) ≡ true → grows i ≡ false → act ≡ get_or w.activities a act
+pub operands_there : (m : ModuleValue) (w : World) (a : ℕ) (i : Instr) (act : Activity) (u : UnitValue) → is_step (carried m w a i) ≡ true → grows i ≡ false → concerns_finishes i ≡ false → act ≡ get_or w.activities a act
     → slice_get m.units act.frame.unit ≡ Some u → CanCarry u act i
-operands_there m w a i act u h one e found =
-    can_carry m w a u act i found (ap is_step (sym (carried_there m w a i act (read_at w a act (carried_within m w a i h) e))) ∙ h) one
+operands_there m w a i act u h one plain e found =
+    can_carry m w a u act i found (ap is_step (sym (carried_there m w a i act (read_at w a act (carried_within m w a i h) e))) ∙ h) one plain
 
 -- the step that the arm took
 pub arm_done : (m : ModuleValue) (w : World) (a : ℕ) (i : Instr) (act next : Activity) (u : UnitValue) (ch : StepChange) (e : Event) → is_step (carried m w a i) ≡ true → act ≡ get_or w.activities a act

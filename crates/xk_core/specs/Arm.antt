@@ -64,6 +64,8 @@ CanCarry u act (instr.Jump t) = Unit {0}
 CanCarry u act (instr.For k lo hi e) = k < length act.frame.slots
 CanCarry u act (instr.Next b) = IsTurnAt u act b
 CanCarry u act (instr.Print x) = IsNumberAt act x
+CanCarry u act (instr.Finish e) = ⊥
+CanCarry u act (instr.EndFinish b) = ⊥
 CanCarry u act (instr.Make d) = ⊥
 CanCarry u act (instr.Resume k) = IsClockAt act k
 CanCarry u act (instr.Drop k) = IsClockAt act k
@@ -116,6 +118,8 @@ Carries u act (instr.For k lo hi end) next ch e = Writes act k (value.Number lo)
 Carries u act (instr.Next b) next ch e = Turned u act b next × IsLocal ch e
 Carries u act (instr.Print x) next ch e =
     (p : ℤ) × (slot_at act x ≡ Some (value.Number p)) × (next ≡ onward act) × (ch ≡ step_change.Nothing) × (e ≡ event.Printed p)
+Carries u act (instr.Finish x) next ch e = ⊥
+Carries u act (instr.EndFinish b) next ch e = ⊥
 Carries u act (instr.Make d) next ch e = ⊥
 Carries u act (instr.Resume k) next ch e =
     (c : ℕ) × (slot_at act k ≡ Some (value.Clock c)) × (next ≡ onward act) × (ch ≡ step_change.Only c standing_change.Resume) × (e ≡ event.Resumed)

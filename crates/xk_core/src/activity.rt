@@ -45,7 +45,7 @@ impl Frame {
     }
 }
 
-/// An activity. In this machine it has no finish but the one that governs main.
+/// An activity, but for its finishes.
 #[derive(Drop)]
 pub struct Activity {
     frame: Frame,
@@ -271,6 +271,8 @@ impl Activity {
                 self.go_on();
                 (StepChange::Nothing, Event::Printed(n))
             }
+            Instr::Finish(_) => unreachable!(),
+            Instr::EndFinish(_) => unreachable!(),
             Instr::Make(_) => unreachable!(),
             Instr::Call(_, _) => unreachable!(),
             Instr::Spawn(_, _) => unreachable!(),

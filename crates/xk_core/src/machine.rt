@@ -1,17 +1,21 @@
 //! The core: a module that the verifier accepted, and a world that a legal schedule of it reaches.
 
-ghost use Rattle.std.specs.Prelude.{◌≡◌, true, ◌+◌, ◌<◌, ◌≤◌, Some, length, option_map, option_copied, slice_get, IsTrue, IfOk, IfSome, IfNone, OnOk, OnErr};
+ghost use Rattle.std.specs.Prelude.{◌≡◌, true, false, ◌+◌, ◌<◌, ◌≤◌, Some, None, length, option_map, option_copied, slice_get, IsTrue, IfOk, IfSome, IfNone, OnOk, OnErr};
 ghost use Rattle.xk_types.specs.World.{opening};
 ghost use Rattle.xk_types.specs.Step.{Stepped, step};
 ghost use Rattle.xk_types.specs.Schedule.{IsReached, is_enabled, all_ended};
 ghost use Rattle.xk_types.specs.Bound.{steps_bound};
 ghost use Rattle.xk_core.specs.Core.{next_instruction, IsAboutToGrow, IsLeastEnabled};
+ghost use Rattle.xk_core.specs.Able.{is_kept};
+ghost use Rattle.xk_core.specs.Arm.{grows, concerns_finishes};
+ghost use Rattle.xk_types.specs.declared.instr.Instr.TheVariants as instruction;
 
 use crate::state::State;
 use std::alloc::{AllocError, Global};
 use std::marker::Model;
 use xk_bounds::Verified;
-use xk_types::{Act, ClockId, Event, Instr, Status};
+use xk_finishes::FinishTree;
+use xk_types::{Act, Args, ClockId, Event, Instr, Status};
 
 /// A running program: one world, which some legal schedule of its module reaches. Every call is proved to keep it so, and
 /// no step of it raises ClockUseException or meets a missing or wrong operand.
@@ -19,18 +23,20 @@ use xk_types::{Act, ClockId, Event, Instr, Status};
 pub struct Core<'m> {
     verified: &'m Verified,
     state: State,
+    finishes: FinishTree,
     /// The first activities, as many as this, have ended.
     over: usize,
 }
 
 impl<'m> Model for Core<'m> {
     ghost use Rattle.xk_core.specs.Core.{CoreValue, IsCore, AreOver};
+    ghost use Rattle.xk_core.specs.Told.{told, AreTold};
 
     ghost Value = { CoreValue };
 
-    ghost view = { λ c. record { module_run = c.verified.now; world = c.state } };
+    ghost view = { λ c. record { module_run = c.verified.now; world = told c.finishes c.state } };
 
-    ghost invariant = { λ c. IsCore c.verified.now c.state × AreOver c.state.activities c.over };
+    ghost invariant = { λ c. IsCore c.verified.now (told c.finishes c.state) × AreTold c.verified.now c.finishes c.state.activities × AreOver c.state.activities c.over };
 }
 
 impl<'m> Core<'m> {
@@ -41,18 +47,31 @@ impl<'m> Core<'m> {
         let program = verified.module();
         let main = &program.units()[0];
         let state = State::opening(alloc, main.slots, program.shared())?;
+        let finishes = FinishTree::open(alloc, verified.room(0).finishes)?;
         Ok(Core {
             verified,
             state,
+            finishes,
             over: 0,
         })
     }
 
-    /// Whether the activity exists and can take a step: it runs, or it waits at an `advance` and no clock holds it back.
+    /// Whether the activity exists and can take a step: it runs, and doesn't wait at an `endfinish` for somebody who hasn't ended; or
+    /// it waits at an `advance` and no clock holds it back.
     pub fn enabled(&self, act: Act) -> bool
         ensures { result ≡ is_enabled self.now.module_run self.now.world act }
     {
-        self.state.is_able(act.0 as usize)
+        self.state.is_able(act.0 as usize) && !self.is_kept(act)
+    }
+
+    /// Whether the activity stands at an `endfinish`, and somebody under the finish hasn't ended.
+    fn is_kept(&self, act: Act) -> bool
+        ensures { result ≡ is_kept self.now.module_run self.now.world act }
+    {
+        match self.next_instruction(act.0 as usize) {
+            Some(Instr::EndFinish(_)) => !self.finishes.empty(act),
+            _ => false,
+        }
     }
 
     /// Whether every activity has ended.
@@ -67,8 +86,13 @@ impl<'m> Core<'m> {
         ensures least { IfSome result (IsLeastEnabled self.now.module_run self.now.world) }
         ensures none { IfNone result (all_ended self.now.world ≡ true) }
     {
-        let a = self.state.first_able(self.over)?;
-        Some(Act(a as u32))
+        for a in self.over..self.state.activity_count() {
+            let act = Act(a as u32);
+            if self.enabled(act) {
+                return Some(act);
+            }
+        }
+        None
     }
 
     /// How many steps were taken: never more than the verified number.
@@ -144,8 +168,8 @@ impl<'m> Core<'m> {
         }
     }
 
-    /// One step of the activity, and what it is seen to do. Only the making of a clock and the start of an activity want
-    /// memory; where that is refused the core is as before.
+    /// One step of the activity, and what it is seen to do. Only the making of a clock, a call of a method and the start of an
+    /// activity want memory; where that is refused the core is as before.
     pub fn step(&mut self, act: Act) -> Result<Event, AllocError>
         requires { IsTrue (is_enabled self.old.module_run self.old.world act) }
         ensures stepped { IfOk result (λ e. step self.old.module_run self.old.world act ≡ Stepped self.new.world e) }
@@ -156,11 +180,88 @@ impl<'m> Core<'m> {
         ensures refused { OnErr result (self.new ≡ self.old) }
         ensures only_where_it_grows { OnErr result (IsAboutToGrow self.old.module_run self.old.world act) }
     {
-        let a = act.0 as usize;
         self.over = self.state.count_over(self.over);
-        match self.next_instruction(a) {
-            None => Ok(self.state.pass(a)),
-            Some(instr) => self.state.carry_out(self.verified.module(), a, instr),
+        self.take(act)
+    }
+
+    /// Takes the step.
+    fn take(&mut self, act: Act) -> Result<Event, AllocError>
+        requires { IsTrue (is_enabled self.old.module_run self.old.world act) }
+        ensures stepped { IfOk result (λ e. step self.old.module_run self.old.world act ≡ Stepped self.new.world e) }
+        ensures same_module { self.new.module_run ≡ self.old.module_run }
+        ensures refused { OnErr result (self.new ≡ self.old) }
+        ensures only_where_it_grows { OnErr result (IsAboutToGrow self.old.module_run self.old.world act) }
+    {
+        match self.next_instruction(act.0 as usize) {
+            None => Ok(self.pass(act)),
+            Some(Instr::Finish(e)) => Ok(self.open_finish(act, *e)),
+            Some(Instr::EndFinish(b)) => Ok(self.close_finish(act, *b)),
+            Some(Instr::Spawn(unit, args)) => self.start(act, *unit, args),
+            Some(instr) => self.carry_out(act, instr),
         }
+    }
+
+    /// The activity passes the `advance` that it waits at.
+    fn pass(&mut self, act: Act) -> Event
+        requires enabled { is_enabled self.old.module_run self.old.world act ≡ true }
+        requires waits { next_instruction self.old.module_run self.old.world act ≡ None }
+        ensures stepped { step self.old.module_run self.old.world act ≡ Stepped self.new.world result }
+        ensures same_module { self.new.module_run ≡ self.old.module_run }
+    {
+        self.state.pass(act.0 as usize)
+    }
+
+    /// The activity opens a finish.
+    fn open_finish(&mut self, act: Act, e: u16) -> Event
+        requires enabled { is_enabled self.old.module_run self.old.world act ≡ true }
+        requires here { next_instruction self.old.module_run self.old.world act ≡ Some (instruction.Finish e) }
+        ensures stepped { step self.old.module_run self.old.world act ≡ Stepped self.new.world result }
+        ensures same_module { self.new.module_run ≡ self.old.module_run }
+    {
+        self.finishes.enter(act);
+        self.state.go_on(act.0 as usize);
+        Event::Opened
+    }
+
+    /// The activity closes its innermost open finish.
+    fn close_finish(&mut self, act: Act, b: u16) -> Event
+        requires enabled { is_enabled self.old.module_run self.old.world act ≡ true }
+        requires here { next_instruction self.old.module_run self.old.world act ≡ Some (instruction.EndFinish b) }
+        ensures stepped { step self.old.module_run self.old.world act ≡ Stepped self.new.world result }
+        ensures same_module { self.new.module_run ≡ self.old.module_run }
+    {
+        self.finishes.leave(act);
+        self.state.go_on(act.0 as usize);
+        Event::Closed
+    }
+
+    /// The activity starts another, which runs this unit with these arguments.
+    fn start(&mut self, act: Act, unit: u16, args: &Args) -> Result<Event, AllocError>
+        requires enabled { is_enabled self.old.module_run self.old.world act ≡ true }
+        requires here { next_instruction self.old.module_run self.old.world act ≡ Some (instruction.Spawn unit args.now) }
+        ensures stepped { IfOk result (λ e. step self.old.module_run self.old.world act ≡ Stepped self.new.world e) }
+        ensures same_module { self.new.module_run ≡ self.old.module_run }
+        ensures refused { OnErr result (self.new ≡ self.old) }
+    {
+        let program = self.verified.module();
+        let room = self.verified.room(unit).finishes;
+        self.state.spawn(&mut self.finishes, program, act.0 as usize, unit, args.slots(), room)
+    }
+
+    /// The activity carries out an instruction that opens or closes no finish, and starts no activity.
+    fn carry_out(&mut self, act: Act, instr: &Instr) -> Result<Event, AllocError>
+        requires enabled { is_enabled self.old.module_run self.old.world act ≡ true }
+        requires here { next_instruction self.old.module_run self.old.world act ≡ Some instr.now }
+        requires plain { concerns_finishes instr.now ≡ false }
+        ensures stepped { IfOk result (λ e. step self.old.module_run self.old.world act ≡ Stepped self.new.world e) }
+        ensures same_module { self.new.module_run ≡ self.old.module_run }
+        ensures refused { OnErr result (self.new ≡ self.old) }
+        ensures only_where_it_grows { OnErr result (grows instr.now ≡ true) }
+    {
+        let event = self.state.carry_out(self.verified.module(), act.0 as usize, instr)?;
+        if matches!(event, Event::Ended) {
+            self.finishes.ended(act);
+        }
+        Ok(event)
     }
 }

@@ -1,15 +1,16 @@
-//! The world of a running program, and the arms of its steps.
+//! The world of a running program, but for its finishes, and the arms of its steps.
 
-ghost use Rattle.std.specs.Prelude.{◌≡◌, ℕ, ◌+◌, ◌<◌, ◌≤◌, ◌^◌, Bool, true, false, List, length, map, slice_get, option_copied, IfOk, IfErr, IfSome, IfNone, OnOk, OnErr, All};
+ghost use Rattle.std.specs.Prelude.{◌≡◌, ℕ, ◌+◌, ◌<◌, ◌≤◌, ◌^◌, Bool, true, false, List, [], ◌∷◌, ◌++◌, Some, length, map, slice_get, slice_set, option_copied, IfOk, IfErr, IfSome, IfNone, OnOk, OnErr, All};
 ghost use Rattle.xk_types.specs.declared.names.Value.TheVariants as value;
 ghost use Rattle.xk_types.specs.declared.instr.Instr.TheVariants as instruction;
-ghost use Rattle.xk_types.specs.Step.{Stepped, settled, settled_clock, moved, joined, names_clock, is_given, waits};
+ghost use Rattle.xk_types.specs.Step.{Stepped, settled, settled_clock, moved, joined, names_clock, is_given, waits, onward, none};
+ghost use Rattle.xk_finishes.specs.Tree.{node_at, fresh_node, governing_of};
 ghost use Rattle.xk_types.specs.Schedule.{is_step, all_ended};
 ghost use Rattle.xk_core.specs.Able.{is_able};
 ghost use Rattle.xk_core.specs.Core.{is_over, AreOver};
 ghost use Rattle.xk_core.specs.Opening.{opening_with};
 ghost use Rattle.xk_core.specs.Change.{standing_after_step};
-ghost use Rattle.xk_core.specs.Arm.{grows, carried, passed_on, IsRoomy, IsRunningUnit};
+ghost use Rattle.xk_core.specs.Arm.{grows, concerns_finishes, carried, passed_on, IsRoomy, IsRunningUnit};
 ghost use Rattle.xk_core.specs.Joining.{joined_first};
 ghost use Rattle.xk_types.specs.World as world;
 
@@ -18,9 +19,11 @@ use crate::change::{StandingChange, StepChange, is_signalled};
 use crate::clock::Clock;
 use std::alloc::{AllocError, Global};
 use std::marker::Model;
-use xk_types::{ClockId, Event, Instr, Module, Status, Value};
+use xk_finishes::FinishTree;
+use xk_types::{Act, ClockId, Event, Instr, Module, Status, Value};
 
-/// The world: activities and clocks by their numbers, the shared numbers, and how many steps were taken.
+/// The world, but for its finishes: activities and clocks by their numbers, the shared numbers, and how many steps were taken. It
+/// stands for the world in which no activity has a finish open, and main's finish governs all.
 #[derive(Drop)]
 pub struct State {
     activities: Vec<Activity>,
@@ -138,8 +141,8 @@ impl State {
         self.settle();
     }
 
-    /// Activity a carries out an instruction of this module. Only the making of a clock, a call and the start of an activity
-    /// want memory; where that is refused nothing changes.
+    /// Activity a carries out an instruction of this module that opens or closes no finish, and starts no activity. Only the making
+    /// of a clock and a call want memory; where that is refused nothing changes.
     pub fn carry_out(
         &mut self,
         program: &Module,
@@ -147,6 +150,7 @@ impl State {
         instr: &Instr,
     ) -> Result<Event, AllocError>
         requires enabled { is_step (carried program.now self.old a instr.now) ≡ true }
+        requires plain { concerns_finishes instr.now ≡ false }
         requires room { IsRoomy self.old a }
         requires unit { IsRunningUnit program.now self.old a }
         ensures stepped { IfOk result (λ e. carried program.now self.old a instr.now ≡ Stepped self.new e) }
@@ -156,15 +160,15 @@ impl State {
         match instr {
             Instr::Make(d) => self.make(program, a, *d),
             Instr::Call(unit, args) => self.call(program, a, *unit, args.slots()),
-            Instr::Spawn(unit, args) => self.spawn(program, a, *unit, args.slots()),
             _ => Ok(self.carry_alone(program, a, instr)),
         }
     }
 
-    /// Activity a carries out an instruction that adds no clock and no activity.
+    /// Activity a carries out an instruction that adds no clock, no frame and no activity, and concerns no finish.
     fn carry_alone(&mut self, program: &Module, a: usize, instr: &Instr) -> Event
         requires enabled { is_step (carried program.now self.old a instr.now) ≡ true }
         requires single { grows instr.now ≡ false }
+        requires plain { concerns_finishes instr.now ≡ false }
         requires room { IsRoomy self.old a }
         requires unit { IsRunningUnit program.now self.old a }
         ensures { carried program.now self.old a instr.now ≡ Stepped self.new result }
@@ -214,18 +218,38 @@ impl State {
         Ok(Event::Local)
     }
 
-    /// Activity a starts one that runs this unit with the values of these slots. Where memory is refused nothing changes.
-    fn spawn(
+    /// Activity a goes on to the next instruction, and the step ends.
+    pub fn go_on(&mut self, a: usize)
+        requires there { a < length self.old.activities }
+        requires room { IsRoomy self.old a }
+        ensures { (act : world.Activity) → slice_get self.old.activities a ≡ Some act
+            → self.new ≡ settled (record self.old { activities = slice_set self.old.activities a (onward act); clocks = moved a none self.old.clocks }) }
+    {
+        let act = &mut self.activities[a];
+        act.go_on();
+        self.end_step(a, StepChange::Nothing);
+    }
+
+    /// Activity a starts one that runs this unit with the values of these slots, which the tree takes in with this much room for
+    /// finishes. Where memory is refused nothing changes.
+    pub fn spawn(
         &mut self,
+        finishes: &mut FinishTree,
         program: &Module,
         a: usize,
         unit: u16,
         args: &[u16],
+        finish_room: u32,
     ) -> Result<Event, AllocError>
         requires enabled { is_step (carried program.now self.old a (instruction.Spawn unit args.now)) ≡ true }
         requires room { IsRoomy self.old a }
+        requires told { length finishes.old ≡ length self.old.activities }
+        requires runs { (node_at finishes.old a).ended ≡ false }
+        requires numbers { length self.old.activities < 2 ^ 32 }
         ensures started { IfOk result (λ e. carried program.now self.old a (instruction.Spawn unit args.now) ≡ Stepped self.new e) }
+        ensures finishes { OnOk result (finishes.new ≡ finishes.old ++ fresh_node (governing_of a (node_at finishes.old a)) finish_room ∷ []) }
         ensures refused { OnErr result (self.new ≡ self.old) }
+        ensures finishes_refused { OnErr result (finishes.new ≡ finishes.old) }
     {
         let alloc = *self.activities.allocator();
         let body = &program.units()[unit as usize];
@@ -234,6 +258,11 @@ impl State {
         let child = starter.start(alloc, unit, args, size)?;
         self.activities.try_reserve(1)?;
         join_all(&mut self.clocks, a, child.slots())?;
+        if finishes.spawned(Act(a as u32), finish_room).is_err() {
+            let n = self.clocks.len();
+            leave_first(&mut self.clocks, n);
+            return Err(AllocError);
+        }
         let act = &mut self.activities[a];
         act.go_on();
         self.activities.push(child)?;
@@ -352,20 +381,5 @@ impl State {
         } else {
             over
         }
-    }
-
-    /// The least activity that neither waits nor is over, of which the first ones, as many as this, are over.
-    pub fn first_able(&self, over: usize) -> Option<usize>
-        requires { AreOver self.now.activities over }
-        ensures least { IfSome result (λ a. (is_able self.now a ≡ true) × ((b : ℕ) → b < a → is_able self.now b ≡ false)) }
-        ensures none { IfNone result ((b : ℕ) → b < length self.now.activities → is_able self.now b ≡ false) }
-        ensures within { IfSome result (λ a. a < length self.now.activities) }
-    {
-        for a in over..self.activities.len() {
-            if self.is_able(a) {
-                return Some(a);
-            }
-        }
-        None
     }
 }
