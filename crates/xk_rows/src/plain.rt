@@ -544,8 +544,7 @@ impl<'m> Plain<'m> {
     fn open(&mut self, alloc: Global, a: u32) -> Result<Event, Fail> {
         let place = self.frame(a)?.place;
         let number = self.gatherings.len();
-        self.gatherings
-            .push(Gathering::begun_by(alloc, a, place)?)?;
+        self.gatherings.push(Gathering::begun_by(alloc, a, place)?)?;
         self.frame_mut(a)?.finishes.push(number)?;
         Ok(Event::Opened)
     }

@@ -126,8 +126,8 @@ pub const EARLY_END: &str =
 pub const CALLED_INSIDE: &str =
     r#"{"version":1,"shared":[],"units":[{"kind":"main","params":"","slots":1,"code":[["finish",3],["lit",0,1],["call",1,[0]],["endfinish",0],["lit",0,5],["print",0],["ret"]]},{"kind":"method","params":"n","slots":2,"code":[["spawn",3,[0]],["finish",3],["call",2,[0]],["endfinish",1],["lit",1,4],["print",1],["ret"]]},{"kind":"method","params":"n","slots":2,"code":[["add",1,0,0],["spawn",3,[1]],["add",1,1,0],["spawn",3,[1]],["ret"]]},{"kind":"body","params":"n","slots":1,"code":[["print",0],["ret"]]}]}"#;
 
-/// All of them, with their names.
-pub fn all() -> [(&'static str, &'static str); 30] {
+/// Those without finishes, with their names.
+pub fn without_finishes() -> [(&'static str, &'static str); 18] {
     [
         ("in step", IN_STEP),
         ("starts ahead", STARTS_AHEAD),
@@ -147,6 +147,12 @@ pub fn all() -> [(&'static str, &'static str); 30] {
         ("method's own", METHODS_OWN),
         ("lent on", LENT_ON),
         ("lent crossed", LENT_CROSSED),
+    ]
+}
+
+/// Those with finishes.
+pub fn with_finishes() -> [(&'static str, &'static str); 12] {
+    [
         ("waits for all", FINISHED),
         ("clock inside", CLOCK_INSIDE),
         ("pair inside", PAIR_INSIDE),
