@@ -16,7 +16,7 @@ use Rattle.xk_types.specs.declared.unit.ParamKind.{ParamKind}
 use Rattle.xk_types.specs.declared.unit.ParamKind.TheVariants as param
 use Rattle.xk_types.specs.Code.{UnitValue, ModuleValue, compares, is_method, is_body}
 use Rattle.xk_types.specs.World.{Frame, Activity, Clock, World, standing_of, instruction_at, base_of, base_unit, is_ended}
-use Rattle.xk_types.specs.Step.{Outcome, Blocked, Wrong, Stepped, ClockUse, OutOfRange, is_registered, number_in, clock_in, registered_on, put_in, slot_at, arguments_in, computing, turning, again, spawned, spawning, carried_out, done, made, onward, going, with_slots, arrived, ended, none, only, all, resumed, dropped, called, calling, back_in, returning, settled, moved, child, governing, joined, is_given}
+use Rattle.xk_types.specs.Step.{Outcome, Blocked, Wrong, Stepped, ClockUse, OutOfRange, is_registered, number_in, clock_in, registered_on, put_in, slot_at, arguments_in, computing, turning, again, spawned, spawning, new_clock, carried_out, done, made, onward, going, with_slots, arrived, ended, none, only, all, resumed, dropped, called, calling, back_in, returning, settled, moved, child, governing, joined, is_given}
 use Rattle.xk_types.specs.Schedule.{is_step}
 use Rattle.xk_laws.proofs.Lists.{get-set_same, get-set_other}
 use Rattle.xk_laws.proofs.Scopes.{based}
@@ -71,138 +71,144 @@ abbrev pub is_end : Event → Bool
 is_end event.Ended = true
 is_end _ = false
 
--- Where it is a step, the activity alone changed: it ended exactly where that is seen, and began with the same unit.
-abbrev pub Tells : World → ℕ → Activity → Outcome → Type 0
-Tells w a x Blocked = Unit {0}
-Tells w a x (Wrong c) = Unit {0}
-Tells w a x (Stepped v e) = (y : Activity) × (v.activities ≡ slice_set w.activities a y) × (is_ended y.status ≡ is_end e) × (base_unit y ≡ base_unit x)
+-- what a step at instruction i leaves of activity a alone: it ends exactly where that is seen, at a `ret` with no frame that waits, and began
+-- with the same unit
+pub record Leaves (i : Instr) (w : World) (a : ℕ) (x : Activity) (v : World) (e : Event) : Type 0 where
+  pub y : Activity
+  pub activities : v.activities ≡ slice_set w.activities a y
+  pub over : is_ended y.status ≡ is_end e
+  pub base : base_unit y ≡ base_unit x
+  pub last : is_end e ≡ true → (i ≡ instr.Ret) × (x.callers ≡ [])
+
+abbrev pub Tells : Instr → World → ℕ → Activity → Outcome → Type 0
+Tells i w a x Blocked = Unit {0}
+Tells i w a x (Wrong c) = Unit {0}
+Tells i w a x (Stepped v e) = Leaves i w a x v e
 
 -- the two outcomes are one, but for finishes
-pub record IsTold (ns : List NodeValue) (w : World) (a : ℕ) (x : Activity) (with' without : Outcome) : Type 0 where
+pub record IsTold (i : Instr) (ns : List NodeValue) (w : World) (a : ℕ) (x : Activity) (with' without : Outcome) : Type 0 where
   pub same : with' ≡ told_so ns without
-  pub tells : Tells w a x without
+  pub tells : Tells i w a x without
 
 module _ (m : ModuleValue) (ns : List NodeValue) (w : World) (a : ℕ) (n : NodeValue) (x : Activity) (width : length ns ≡ length w.activities) (here : slice_get ns a ≡ Some n) (found : slice_get w.activities a ≡ Some x)
     (alive : is_ended x.status ≡ false) where
-  abbrev Told : Outcome → Outcome → Type 0
-  Told p q = IsTold ns w a x p q
+  abbrev Told : Instr → Outcome → Outcome → Type 0
+  Told i p q = IsTold i ns w a x p q
 
-  wrong_told : (p q : Outcome) → p ≡ q → told_so ns q ≡ q → Tells w a x q → Told p q
-  wrong_told p q e same t = record { same = e ∙ sym same; tells = t }
-
-  done_told : (y : Activity) (change : ℕ → Standing → Standing) (e : Event) → is_ended y.status ≡ is_end e → base_unit y ≡ base_unit x → Told (done (told ns w) a (with_node n y) change e) (done w a y change e)
-  done_told y change e over based' = record {
+  done_told : (i : Instr) (y : Activity) (change : ℕ → Standing → Standing) (e : Event) → is_ended y.status ≡ is_end e → base_unit y ≡ base_unit x → (is_end e ≡ true → (i ≡ instr.Ret) × (x.callers ≡ []))
+      → Told i (done (told ns w) a (with_node n y) change e) (done w a y change e)
+  done_told i y change e over based' last = record {
     same = ap (λ l. Stepped (settled (record w { activities = l; clocks = moved a change w.clocks })) e) (sym (set_told ns w.activities a n y here));
-    tells = (y, refl, over, based');
+    tells = record { y = y; activities = refl; over = over; base = based'; last = last };
   }
 
   -- an activity that runs on in its unit
-  goes_told : (y : Activity) (change : ℕ → Standing → Standing) (e : Event) → y.status ≡ x.status → y.frame.unit ≡ x.frame.unit → y.callers ≡ x.callers → is_end e ≡ false
-      → Told (done (told ns w) a (with_node n y) change e) (done w a y change e)
-  goes_told y change e st unit callers other = done_told y change e (ap is_ended st ∙ alive ∙ sym other)
-      (ap (base_of y.frame) callers ∙ based x.frame y.frame x.callers unit)
+  goes_told : (i : Instr) → (y : Activity) (change : ℕ → Standing → Standing) (e : Event) → y.status ≡ x.status → y.frame.unit ≡ x.frame.unit → y.callers ≡ x.callers → is_end e ≡ false
+      → Told i (done (told ns w) a (with_node n y) change e) (done w a y change e)
+  goes_told i y change e st unit callers other = done_told i y change e (ap is_ended st ∙ alive ∙ sym other)
+      (ap (base_of y.frame) callers ∙ based x.frame y.frame x.callers unit) (λ q. absurd (false≢true (sym other ∙ q)))
 
-  number_told : (o : Option Value) (go' go : ℤ → Outcome) → ((z : ℤ) → Told (go' z) (go z)) → Told (number_in o go') (number_in o go)
-  number_told None go' go h = record { same = refl; tells = tt }
-  number_told (Some value.Unset) go' go h = record { same = refl; tells = tt }
-  number_told (Some (value.Number z)) go' go h = h z
-  number_told (Some (value.Clock c)) go' go h = record { same = refl; tells = tt }
+  number_told : (i : Instr) → (o : Option Value) (go' go : ℤ → Outcome) → ((z : ℤ) → Told i (go' z) (go z)) → Told i (number_in o go') (number_in o go)
+  number_told i None go' go h = record { same = refl; tells = tt }
+  number_told i (Some value.Unset) go' go h = record { same = refl; tells = tt }
+  number_told i (Some (value.Number z)) go' go h = h z
+  number_told i (Some (value.Clock c)) go' go h = record { same = refl; tells = tt }
 
-  registered_told : (o : Option Clock) (go' go : Outcome) → Told go' go → Told (registered_on o a go') (registered_on o a go)
-  registered_told None go' go h = record { same = refl; tells = tt }
-  registered_told (Some c) go' go h = cases (is_registered (standing_of c a))
+  registered_told : (i : Instr) → (o : Option Clock) (go' go : Outcome) → Told i go' go → Told i (registered_on o a go') (registered_on o a go)
+  registered_told i None go' go h = record { same = refl; tells = tt }
+  registered_told i (Some c) go' go h = cases (is_registered (standing_of c a))
     where
-      cases : (b : Bool) → Told (cond b go' (Wrong ClockUse)) (cond b go (Wrong ClockUse))
+      cases : (b : Bool) → Told i (cond b go' (Wrong ClockUse)) (cond b go (Wrong ClockUse))
       cases true = h
       cases false = record { same = refl; tells = tt }
 
-  clock_told : (o : Option Value) (go' go : ℕ → Outcome) → ((c : ℕ) → Told (go' c) (go c)) → Told (clock_in (told ns w) a o go') (clock_in w a o go)
-  clock_told None go' go h = record { same = refl; tells = tt }
-  clock_told (Some value.Unset) go' go h = record { same = refl; tells = tt }
-  clock_told (Some (value.Number z)) go' go h = record { same = refl; tells = tt }
-  clock_told (Some (value.Clock c)) go' go h = registered_told (slice_get w.clocks c) (go' c) (go c) (h c)
+  clock_told : (i : Instr) → (o : Option Value) (go' go : ℕ → Outcome) → ((c : ℕ) → Told i (go' c) (go c)) → Told i (clock_in (told ns w) a o go') (clock_in w a o go)
+  clock_told i None go' go h = record { same = refl; tells = tt }
+  clock_told i (Some value.Unset) go' go h = record { same = refl; tells = tt }
+  clock_told i (Some (value.Number z)) go' go h = record { same = refl; tells = tt }
+  clock_told i (Some (value.Clock c)) go' go h = registered_told i (slice_get w.clocks c) (go' c) (go c) (h c)
 
-  put_told : (o : Option Value) (d : ℕ) (v : Value) (go' go : Activity → Outcome) → Told (go' (with_node n (onward (with_slots x (slice_set x.frame.slots d v))))) (go (onward (with_slots x (slice_set x.frame.slots d v))))
-      → Told (put_in o (with_node n x) d v go') (put_in o x d v go)
-  put_told None d v go' go h = record { same = refl; tells = tt }
-  put_told (Some old) d v go' go h = h
+  put_told : (i : Instr) → (o : Option Value) (d : ℕ) (v : Value) (go' go : Activity → Outcome) → Told i (go' (with_node n (onward (with_slots x (slice_set x.frame.slots d v))))) (go (onward (with_slots x (slice_set x.frame.slots d v))))
+      → Told i (put_in o (with_node n x) d v go') (put_in o x d v go)
+  put_told i None d v go' go h = record { same = refl; tells = tt }
+  put_told i (Some old) d v go' go h = h
 
-  arguments_told : (ps : List ParamKind) (xs : List ℕ) (go' go : List Value → Outcome) → ((values : List Value) → Told (go' values) (go values)) → Told (arguments_in (told ns w) a (with_node n x) ps xs go') (arguments_in w a x ps xs go)
-  arguments_told [] [] go' go h = h []
-  arguments_told [] (z ∷ xs) go' go h = record { same = refl; tells = tt }
-  arguments_told (p ∷ ps) [] go' go h = record { same = refl; tells = tt }
-  arguments_told (param.Number ∷ ps) (z ∷ xs) go' go h = number_told (slot_at x z) _ _
-      (λ k. arguments_told ps xs (λ values. go' (value.Number k ∷ values)) (λ values. go (value.Number k ∷ values)) (λ values. h (value.Number k ∷ values)))
-  arguments_told (param.Clock ∷ ps) (z ∷ xs) go' go h = clock_told (slot_at x z) _ _
-      (λ k. arguments_told ps xs (λ values. go' (value.Clock k ∷ values)) (λ values. go (value.Clock k ∷ values)) (λ values. h (value.Clock k ∷ values)))
+  arguments_told : (i : Instr) → (ps : List ParamKind) (xs : List ℕ) (go' go : List Value → Outcome) → ((values : List Value) → Told i (go' values) (go values)) → Told i (arguments_in (told ns w) a (with_node n x) ps xs go') (arguments_in w a x ps xs go)
+  arguments_told i [] [] go' go h = h []
+  arguments_told i [] (z ∷ xs) go' go h = record { same = refl; tells = tt }
+  arguments_told i (p ∷ ps) [] go' go h = record { same = refl; tells = tt }
+  arguments_told i (param.Number ∷ ps) (z ∷ xs) go' go h = number_told i (slot_at x z) _ _
+      (λ k. arguments_told i ps xs (λ values. go' (value.Number k ∷ values)) (λ values. go (value.Number k ∷ values)) (λ values. h (value.Number k ∷ values)))
+  arguments_told i (param.Clock ∷ ps) (z ∷ xs) go' go h = clock_told i (slot_at x z) _ _
+      (λ k. arguments_told i ps xs (λ values. go' (value.Clock k ∷ values)) (λ values. go (value.Clock k ∷ values)) (λ values. h (value.Clock k ∷ values)))
 
-  writes_told : (d : ℕ) (v : Value) → Told (put_in (slot_at x d) (with_node n x) d v (λ next. done (told ns w) a next none event.Local)) (put_in (slot_at x d) x d v (λ next. done w a next none event.Local))
-  writes_told d v = put_told (slot_at x d) d v _ _ (goes_told (onward (with_slots x (slice_set x.frame.slots d v))) none event.Local refl refl refl refl)
+  writes_told : (i : Instr) → (d : ℕ) (v : Value) → Told i (put_in (slot_at x d) (with_node n x) d v (λ next. done (told ns w) a next none event.Local)) (put_in (slot_at x d) x d v (λ next. done w a next none event.Local))
+  writes_told i d v = put_told i (slot_at x d) d v _ _ (goes_told i (onward (with_slots x (slice_set x.frame.slots d v))) none event.Local refl refl refl refl)
 
-  computing_told : (f : ℤ → ℤ → ℤ) (d y z : ℕ) → Told (computing (told ns w) a (with_node n x) f d y z) (computing w a x f d y z)
-  computing_told f d y z = number_told (slot_at x y) _ _ (λ p. number_told (slot_at x z) _ _ (λ q. writes_told d (value.Number (f p q))))
+  computing_told : (i : Instr) → (f : ℤ → ℤ → ℤ) (d y z : ℕ) → Told i (computing (told ns w) a (with_node n x) f d y z) (computing w a x f d y z)
+  computing_told i f d y z = number_told i (slot_at x y) _ _ (λ p. number_told i (slot_at x z) _ _ (λ q. writes_told i d (value.Number (f p q))))
 
-  branch_told : (t : ℕ) (b : Bool) → Told (done (told ns w) a (cond b (onward (with_node n x)) (going (with_node n x) t)) none event.Local) (done w a (cond b (onward x) (going x t)) none event.Local)
-  branch_told t true = goes_told (onward x) none event.Local refl refl refl refl
-  branch_told t false = goes_told (going x t) none event.Local refl refl refl refl
+  branch_told : (i : Instr) → (t : ℕ) (b : Bool) → Told i (done (told ns w) a (cond b (onward (with_node n x)) (going (with_node n x) t)) none event.Local) (done w a (cond b (onward x) (going x t)) none event.Local)
+  branch_told i t true = goes_told i (onward x) none event.Local refl refl refl refl
+  branch_told i t false = goes_told i (going x t) none event.Local refl refl refl refl
 
-  turn_told : (b k : ℕ) (z : ℤ) (c : Bool) → Told (done (told ns w) a (cond c (again (with_node n x) b k z) (onward (with_node n x))) none event.Local) (done w a (cond c (again x b k z) (onward x)) none event.Local)
-  turn_told b k z true = goes_told (again x b k z) none event.Local refl refl refl refl
-  turn_told b k z false = goes_told (onward x) none event.Local refl refl refl refl
+  turn_told : (i : Instr) → (b k : ℕ) (z : ℤ) (c : Bool) → Told i (done (told ns w) a (cond c (again (with_node n x) b k z) (onward (with_node n x))) none event.Local) (done w a (cond c (again x b k z) (onward x)) none event.Local)
+  turn_told i b k z true = goes_told i (again x b k z) none event.Local refl refl refl refl
+  turn_told i b k z false = goes_told i (onward x) none event.Local refl refl refl refl
 
-  turning_told : (b : ℕ) (o : Option Instr) → Told (turning (told ns w) a (with_node n x) b o) (turning w a x b o)
-  turning_told b (Some (instr.For k lo hi e)) = number_told (slot_at x k) _ _ (λ z. turn_told b k z (int_lt z hi))
-  turning_told b None = record { same = refl; tells = tt }
-  turning_told b (Some _) = record { same = refl; tells = tt }
+  turning_told : (i : Instr) → (b : ℕ) (o : Option Instr) → Told i (turning (told ns w) a (with_node n x) b o) (turning w a x b o)
+  turning_told i b (Some (instr.For k lo hi e)) = number_told i (slot_at x k) _ _ (λ z. turn_told i b k z (int_lt z hi))
+  turning_told i b None = record { same = refl; tells = tt }
+  turning_told i b (Some _) = record { same = refl; tells = tt }
 
-  made_told : (y : Activity) → y.status ≡ x.status → y.frame.unit ≡ x.frame.unit → y.callers ≡ x.callers → Told (made (told ns w) a (with_node n y)) (made w a y)
-  made_told y st unit callers = record {
-    same = rw (length_told ns w.activities width) (ap (λ l. Stepped (settled (record w { activities = l; clocks = w.clocks ++ _ })) event.Made) (sym (set_told ns w.activities a n y here)));
-    tells = (y, refl, ap is_ended st ∙ alive, ap (base_of y.frame) callers ∙ based x.frame y.frame x.callers unit);
+  made_told : (i : Instr) → (y : Activity) → y.status ≡ x.status → y.frame.unit ≡ x.frame.unit → y.callers ≡ x.callers → Told i (made (told ns w) a (with_node n y)) (made w a y)
+  made_told i y st unit callers = record {
+    same = rw (length_told ns w.activities width) (ap (λ l. Stepped (settled (record w { activities = l; clocks = w.clocks ++ new_clock (length w.activities) a ∷ [] })) event.Made) (sym (set_told ns w.activities a n y here)));
+    tells = record { y = y; activities = refl; over = ap is_ended st ∙ alive; base = ap (base_of y.frame) callers ∙ based x.frame y.frame x.callers unit; last = λ q. absurd (false≢true q) };
   }
 
-  calling_told : (t : ℕ) (args : List ℕ) (o : Option UnitValue) → Told (calling m (told ns w) a (with_node n x) t args o) (calling m w a x t args o)
-  calling_told t args None = record { same = refl; tells = tt }
-  calling_told t args (Some u) = cases (is_method u.kind)
+  calling_told : (i : Instr) → (t : ℕ) (args : List ℕ) (o : Option UnitValue) → Told i (calling m (told ns w) a (with_node n x) t args o) (calling m w a x t args o)
+  calling_told i t args None = record { same = refl; tells = tt }
+  calling_told i t args (Some u) = cases (is_method u.kind)
     where
-      cases : (b : Bool) → Told (cond b (arguments_in (told ns w) a (with_node n x) u.params args (λ values. done (told ns w) a (called m (with_node n x) t values) none event.Local)) (Wrong OutOfRange))
+      cases : (b : Bool) → Told i (cond b (arguments_in (told ns w) a (with_node n x) u.params args (λ values. done (told ns w) a (called m (with_node n x) t values) none event.Local)) (Wrong OutOfRange))
           (cond b (arguments_in w a x u.params args (λ values. done w a (called m x t values) none event.Local)) (Wrong OutOfRange))
-      cases true = arguments_told u.params args _ _ (λ values. done_told (called m x t values) none event.Local alive refl)
+      cases true = arguments_told i u.params args _ _ (λ values. done_told i (called m x t values) none event.Local alive refl (λ q. absurd (false≢true q)))
       cases false = record { same = refl; tells = tt }
 
-  returning_told : (fs : List Frame) → x.callers ≡ fs → Told (returning (told ns w) a (with_node n x) fs) (returning w a x fs)
-  returning_told [] e = done_told (ended x) (all dropped) event.Ended refl refl
-  returning_told (f ∷ fs) e = done_told (back_in x f fs) none event.Local alive (based f (record f { place = f.place + 1 }) fs refl ∙ sym (ap (base_of x.frame) e))
+  returning_told : (i : Instr) → (fs : List Frame) → x.callers ≡ fs → i ≡ instr.Ret → Told i (returning (told ns w) a (with_node n x) fs) (returning w a x fs)
+  returning_told i [] e ret = done_told i (ended x) (all dropped) event.Ended refl refl (λ q. (ret, e))
+  returning_told i (f ∷ fs) e ret = done_told i (back_in x f fs) none event.Local alive (based f (record f { place = f.place + 1 }) fs refl ∙ sym (ap (base_of x.frame) e)) (λ q. absurd (false≢true q))
 
   -- each instruction that doesn't concern finishes
-  instruction_told : (i : Instr) → concerns_finishes i ≡ false → Told (carried_out m (told ns w) a (with_node n x) i) (carried_out m w a x i)
-  instruction_told (instr.Lit d z) h = writes_told d (value.Number z)
-  instruction_told (instr.Copy d y) h = number_told (slot_at x y) _ _ (λ z. writes_told d (value.Number z))
-  instruction_told (instr.Add d y z) h = computing_told (int_wrapping_add w64) d y z
-  instruction_told (instr.Sub d y z) h = computing_told (int_wrapping_sub w64) d y z
-  instruction_told (instr.Mul d y z) h = computing_told (int_wrapping_mul w64) d y z
-  instruction_told (instr.Unless op y z t) h = number_told (slot_at x y) _ _ (λ p. number_told (slot_at x z) _ _ (λ q. branch_told t (compares op p q)))
-  instruction_told (instr.Jump t) h = goes_told (going x t) none event.Local refl refl refl refl
-  instruction_told (instr.For k lo hi e) h = writes_told k (value.Number lo)
-  instruction_told (instr.Next b) h = turning_told b (instruction_at m (record x.frame { place = b }))
+  instruction_told : (i : Instr) → concerns_finishes i ≡ false → Told i (carried_out m (told ns w) a (with_node n x) i) (carried_out m w a x i)
+  instruction_told (instr.Lit d z) h = writes_told (instr.Lit d z) d (value.Number z)
+  instruction_told (instr.Copy d y) h = number_told (instr.Copy d y) (slot_at x y) _ _ (λ z. writes_told (instr.Copy d y) d (value.Number z))
+  instruction_told (instr.Add d y z) h = computing_told (instr.Add d y z) (int_wrapping_add w64) d y z
+  instruction_told (instr.Sub d y z) h = computing_told (instr.Sub d y z) (int_wrapping_sub w64) d y z
+  instruction_told (instr.Mul d y z) h = computing_told (instr.Mul d y z) (int_wrapping_mul w64) d y z
+  instruction_told (instr.Unless op y z t) h = number_told (instr.Unless op y z t) (slot_at x y) _ _ (λ p. number_told (instr.Unless op y z t) (slot_at x z) _ _ (λ q. branch_told (instr.Unless op y z t) t (compares op p q)))
+  instruction_told (instr.Jump t) h = goes_told (instr.Jump t) (going x t) none event.Local refl refl refl refl
+  instruction_told (instr.For k lo hi e) h = writes_told (instr.For k lo hi e) k (value.Number lo)
+  instruction_told (instr.Next b) h = turning_told (instr.Next b) b (instruction_at m (record x.frame { place = b }))
   instruction_told (instr.Finish e) h = absurd (false≢true (sym h))
   instruction_told (instr.EndFinish b) h = absurd (false≢true (sym h))
-  instruction_told (instr.Print y) h = number_told (slot_at x y) _ _ (λ z. goes_told (onward x) none (event.Printed z) refl refl refl refl)
-  instruction_told (instr.Make d) h = (put_told (slot_at x d) d (value.Clock (length w.clocks)) _ _ (made_told (onward (with_slots x (slice_set x.frame.slots d (value.Clock (length w.clocks))))) refl refl refl))
-  instruction_told (instr.Resume k) h = clock_told (slot_at x k) _ _ (λ c. goes_told (onward x) (only c resumed) event.Resumed refl refl refl refl)
-  instruction_told (instr.Drop k) h = clock_told (slot_at x k) _ _ (λ c. goes_told (onward x) (only c dropped) event.Dropped refl refl refl refl)
-  instruction_told instr.Advance h = done_told (arrived x) (all resumed) event.Arrived refl (based x.frame x.frame x.callers refl)
-  instruction_told (instr.Call t args) h = calling_told t args (slice_get m.units t)
+  instruction_told (instr.Print y) h = number_told (instr.Print y) (slot_at x y) _ _ (λ z. goes_told (instr.Print y) (onward x) none (event.Printed z) refl refl refl refl)
+  instruction_told (instr.Make d) h = (put_told (instr.Make d) (slot_at x d) d (value.Clock (length w.clocks)) _ _ (made_told (instr.Make d) (onward (with_slots x (slice_set x.frame.slots d (value.Clock (length w.clocks))))) refl refl refl))
+  instruction_told (instr.Resume k) h = clock_told (instr.Resume k) (slot_at x k) _ _ (λ c. goes_told (instr.Resume k) (onward x) (only c resumed) event.Resumed refl refl refl refl)
+  instruction_told (instr.Drop k) h = clock_told (instr.Drop k) (slot_at x k) _ _ (λ c. goes_told (instr.Drop k) (onward x) (only c dropped) event.Dropped refl refl refl refl)
+  instruction_told instr.Advance h = done_told instr.Advance (arrived x) (all resumed) event.Arrived refl refl (λ q. absurd (false≢true q))
+  instruction_told (instr.Call t args) h = calling_told (instr.Call t args) t args (slice_get m.units t)
   instruction_told (instr.Spawn t args) h = absurd (false≢true (sym h))
-  instruction_told instr.Ret h = returning_told x.callers refl
+  instruction_told instr.Ret h = returning_told instr.Ret x.callers refl refl
 
   -- what an activity does at such an instruction
-  pub carried_told : (i : Instr) → concerns_finishes i ≡ false → Told (carried m (told ns w) a i) (carried m w a i)
+  pub carried_told : (i : Instr) → concerns_finishes i ≡ false → Told i (carried m (told ns w) a i) (carried m w a i)
   carried_told i h =
       let t = instruction_told i h in
       record {
         same = ap (carried_by m (told ns w) a i) (get_told ns w.activities a n x here found) ∙ t.same ∙ ap (told_so ns) (sym (ap (carried_by m w a i) found));
-        tells = subst (Tells w a x) (sym (ap (carried_by m w a i) found)) t.tells;
+        tells = subst (Tells i w a x) (sym (ap (carried_by m w a i) found)) t.tells;
       }
 
   -- ---- starting an activity

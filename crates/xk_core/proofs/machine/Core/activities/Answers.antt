@@ -1,6 +1,8 @@
 use Rattle.std.proofs.Common.{arith}
+use Rattle.xk_core.specs.Told.{told}
 use Rattle.xk_core.proofs.Cores.{core_names}
+use Rattle.xk_core.proofs.Told.{length_told}
 use Rattle.xk_core.proofs.machine.Core.activities.Goals as goal
 
 pub overflow_cast-result : goal.overflow_cast-result
-overflow_cast-result c = omega (arith, core_names c.self.inside.verified.now c.self.inside.state c.self.invariant.0, c.activity_count.ensures)
+overflow_cast-result c = omega (arith, core_names c.self.inside.verified.now (told c.self.inside.finishes c.self.inside.state) c.self.invariant.0, c.activity_count.ensures, length_told c.self.inside.finishes c.self.inside.state.activities c.self.invariant.1.width)
