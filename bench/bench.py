@@ -91,7 +91,7 @@ seconds = timed("run of 24,995,000 calls", "run", calling(4999))
 print(f"calls a second: {24_995_000 / seconds:,.0f}")
 seconds = timed("run of 24,995,000 finishes", "run", finishing(4999))
 print(f"finishes a second: {24_995_000 / seconds:,.0f}")
-for count in (2_000, 4_000, 8_000):
+for count in (1_000, 2_000, 4_000):
     timed(f"run of {count} activities, each in a finish", "run", gathering(count))
 for count in (50, 100, 200):
     timed(f"check of {count} units of 4,096 instructions over 64 slots", "check", great_module(count))
