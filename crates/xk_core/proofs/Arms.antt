@@ -267,7 +267,7 @@ pub record IsSpawn (m : ModuleValue) (w : World) (a : ℕ) (act : Activity) (uni
   pub slots : All (λ s. s < length act.frame.slots) args
   pub goes : carried m w a (instr.Spawn unit args) ≡ spawned m w a act unit (map (value_at act) args)
 
-spawning_there : (m : ModuleValue) (w : World) (a : ℕ) (act : Activity) (unit : ℕ) (args : List ℕ) (u : UnitValue) → slice_get m.units unit ≡ Some u
+pub spawning_there : (m : ModuleValue) (w : World) (a : ℕ) (act : Activity) (unit : ℕ) (args : List ℕ) (u : UnitValue) → slice_get m.units unit ≡ Some u
     → slice_get w.activities a ≡ Some act → is_step (carried m w a (instr.Spawn unit args)) ≡ true → IsSpawn m w a act unit args u
 spawning_there m w a act unit args u found here h =
     let e : carried m w a (instr.Spawn unit args) ≡ spawning m w a act unit args (Some u) =
@@ -276,7 +276,7 @@ spawning_there m w a act unit args u found here h =
     let r = arguments_there w a act u.params args (spawned m w a act unit) b.1 in
     record { count = r.0; slots = r.1; goes = e ∙ b.0 ∙ r.2 }
 
-spawn_by : (m : ModuleValue) (w : World) (a : ℕ) (act : Activity) (unit : ℕ) (args : List ℕ) (o : Option UnitValue) → slice_get m.units unit ≡ o
+pub spawn_by : (m : ModuleValue) (w : World) (a : ℕ) (act : Activity) (unit : ℕ) (args : List ℕ) (o : Option UnitValue) → slice_get m.units unit ≡ o
     → slice_get w.activities a ≡ Some act → is_step (carried m w a (instr.Spawn unit args)) ≡ true → (u : UnitValue) × (slice_get m.units unit ≡ Some u)
 spawn_by m w a act unit args None e here h =
     let g : is_step (spawning m w a act unit args None) ≡ true = ap is_step (sym (carried_there m w a (instr.Spawn unit args) act here ∙ ap (spawning m w a act unit args) e)) ∙ h in

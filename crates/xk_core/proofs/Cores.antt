@@ -1,5 +1,5 @@
 -- What holds of a core, by the law.
-use Rattle.std.proofs.Common.{◌≡◌, ℕ, ◌+◌, ◌<◌, ◌≤◌, ◌^◌, true, false, List, [], ◌∷◌, length, Option, Some, None, Result, Ok, Err, IfOk, OnOk, OnErr, slice_get, slice_index_or, All, arith, refl, sym, ◌∙◌}
+use Rattle.std.proofs.Common.{◌≡◌, ℕ, ◌+◌, ◌<◌, ◌≤◌, ◌^◌, true, false, not, ◌&&◌, List, [], ◌∷◌, length, Option, Some, None, Result, Ok, Err, IfOk, OnOk, OnErr, slice_get, slice_index_or, All, arith, refl, sym, ◌∙◌}
 use Rattle.std.proofs.lemmas.Option.{slice_get-get_or, get_or_from_slice_get, slice_get_within}
 use Rattle.xk_types.specs.declared.names.Event.{Event}
 use Rattle.xk_types.specs.declared.names.Status.{Status}
@@ -15,9 +15,9 @@ use Rattle.std.proofs.lemmas.List.Elements.{All-cons, All-nil}
 use Rattle.xk_types.specs.declared.rules.Kind.{Kind}
 use Rattle.xk_laws.proofs.Invariant.{IsSound, IsClockSound, AreWaiting, looks}
 use Rattle.xk_laws.proofs.Counts.{step_counts, step_keeps_over}
-use Rattle.xk_laws.proofs.Reached.{HasRoom, opening_only, reached_step, reached_sound, reached_room, reached_ends}
+use Rattle.xk_laws.proofs.Reached.{HasRoom, opening_only, reached_step, reached_sound, reached_scoped, reached_room, reached_ends}
 use Rattle.xk_core.specs.Arm.{IsRoomy, IsRunningUnit, carried_by, carried, passing_by, passed_on}
-use Rattle.xk_core.specs.Able.{is_able}
+use Rattle.xk_core.specs.Able.{is_able, is_kept}
 use Rattle.xk_core.specs.Core.{IsCore, AreOver, instruction_by, instruction_of, next_instruction}
 use Rattle.xk_core.proofs.Ableness.{able_enabled}
 
@@ -68,13 +68,13 @@ core_stepped m w v a e core h = record { limits = core.limits; accepted = core.a
 pub core_bound : (m : ModuleValue) (w : World) → IsCore m w → w.steps ≤ steps_bound m
 core_bound m w core = (reached_room m core.limits core.accepted w core.reached).steps
 
--- who is able is enabled
-pub core_able : (m : ModuleValue) (w : World) (a : ℕ) → IsCore m w → is_able w a ≡ is_enabled m w a
-core_able m w a core = able_enabled m core.accepted w (reached_sound m core.limits core.accepted w core.reached) a
+-- who is able and isn't kept is enabled
+pub core_able : (m : ModuleValue) (w : World) (a : ℕ) → IsCore m w → (is_able w a && not (is_kept m w a)) ≡ is_enabled m w a
+core_able m w a core = able_enabled m core.accepted w (reached_sound m core.limits core.accepted w core.reached) (reached_scoped m core.limits core.accepted w core.reached) a
 
--- where nobody is able, all have ended
-pub core_ends : (m : ModuleValue) (w : World) → IsCore m w → ((a : ℕ) → a < length w.activities → is_able w a ≡ false) → all_ended w ≡ true
-core_ends m w core h = reached_ends m core.limits core.accepted w core.reached (λ a lt. sym (core_able m w a core) ∙ h a lt)
+-- where nobody is enabled, all have ended
+pub core_ends : (m : ModuleValue) (w : World) → IsCore m w → ((a : ℕ) → a < length w.activities → is_enabled m w a ≡ false) → all_ended w ≡ true
+core_ends m w core h = reached_ends m core.limits core.accepted w core.reached h
 
 -- there are no more activities than a number of 32 bits names
 pub core_names : (m : ModuleValue) (w : World) → IsCore m w → length w.activities < 2 ^ 32
@@ -108,13 +108,6 @@ carry_at m w a (Some act) i e = carry_of m w a act act.status i e
 pub carry_step : (m : ModuleValue) (w : World) (a : ℕ) (i : Instr) → next_instruction m w a ≡ Some i → step m w a ≡ carried m w a i
 carry_step m w a i e = carry_at m w a (slice_get w.activities a) i e
 
-pub core_passed : (m : ModuleValue) (w v : World) (a : ℕ) (e : Event) → IsCore m w → is_enabled m w a ≡ true → next_instruction m w a ≡ None → passed_on w a ≡ Stepped v e → IsCore m v
-core_passed m w v a e core h next p = core_stepped m w v a e core (pass_step m w a h next ∙ p)
-
-pub core_carried : {E : Type 0} (m : ModuleValue) (w v : World) (a : ℕ) (i : Instr) (r : Result Event E) → IsCore m w → next_instruction m w a ≡ Some i → IfOk r (λ e. carried m w a i ≡ Stepped v e) → OnErr r (v ≡ w) → IsCore m v
-core_carried m w v a i (Ok e) core next h same = core_stepped m w v a e core (carry_step m w a i next ∙ h)
-core_carried m w v a i (Err x) core next h same = rw same core
-
 -- a core that has taken no step is in the opening world
 pub core_fresh : (m : ModuleValue) (w : World) → IsCore m w → w.steps ≡ 0 → w ≡ opening m
 core_fresh m w core h = opening_only m w core.reached h
@@ -127,19 +120,3 @@ core_clocks m w core = omega (arith, (reached_room m core.limits core.accepted w
 pub at_ok : {A E : Type 0} (P : Type 0) (r : Result A E) → P → OnOk r P
 at_ok P (Ok x) p = p
 at_ok P (Err e) p = tt
-
--- a step that an instruction takes is counted
-pub carried_counts : {E : Type 0} (m : ModuleValue) (w v : World) (a : ℕ) (i : Instr) (r : Result Event E) → next_instruction m w a ≡ Some i → IfOk r (λ e. carried m w a i ≡ Stepped v e) → OnOk r (v.steps ≡ w.steps + 1)
-carried_counts m w v a i (Ok e) next h = step_counts m w v a e (carry_step m w a i next ∙ h)
-carried_counts m w v a i (Err x) next h = tt
-
--- ---- who is over
-
-pub passed_over : (m : ModuleValue) (w v : World) (a : ℕ) (e : Event) (n : ℕ) → is_enabled m w a ≡ true → next_instruction m w a ≡ None → passed_on w a ≡ Stepped v e
-    → AreOver w.activities n → AreOver v.activities n
-passed_over m w v a e n enabled next p h b lt = step_keeps_over m w v a e (pass_step m w a enabled next ∙ p) b (h b lt)
-
-pub carried_over : {E : Type 0} (m : ModuleValue) (w v : World) (a : ℕ) (i : Instr) (r : Result Event E) (n : ℕ) → next_instruction m w a ≡ Some i
-    → IfOk r (λ e. carried m w a i ≡ Stepped v e) → OnErr r (v ≡ w) → AreOver w.activities n → AreOver v.activities n
-carried_over m w v a i (Ok e) n next p same h b lt = step_keeps_over m w v a e (carry_step m w a i next ∙ p) b (h b lt)
-carried_over m w v a i (Err x) n next p same h b lt = rw same (h b lt)

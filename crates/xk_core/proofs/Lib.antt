@@ -4,3 +4,4 @@ pub mod Ableness
 pub mod Cores
 pub mod Runs
 pub mod Told
+pub mod Finishing

@@ -15,7 +15,7 @@ use std::alloc::{AllocError, Global};
 use std::marker::Model;
 use xk_bounds::Verified;
 use xk_finishes::FinishTree;
-use xk_types::{Act, Args, ClockId, Event, Instr, Status};
+use xk_types::{Act, Args, ClockId, Event, Instr};
 
 /// A running program: one world, which some legal schedule of its module reaches. Every call is proved to keep it so, and
 /// no step of it raises ClockUseException or meets a missing or wrong operand.
@@ -158,14 +158,7 @@ impl<'m> Core<'m> {
     fn next_instruction(&self, a: usize) -> Option<&'m Instr>
         ensures { option_copied result ≡ next_instruction self.now.module_run self.now.world a }
     {
-        let act = self.state.activity(a)?;
-        match act.status() {
-            Status::Running => {
-                let unit = self.verified.module().units().get(act.unit() as usize)?;
-                unit.code.get(act.place() as usize)
-            }
-            Status::Arrived | Status::Ended => None,
-        }
+        self.state.next_instruction(self.verified.module(), a)
     }
 
     /// One step of the activity, and what it is seen to do. Only the making of a clock, a call of a method and the start of an

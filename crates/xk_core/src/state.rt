@@ -7,7 +7,7 @@ ghost use Rattle.xk_types.specs.Step.{Stepped, settled, settled_clock, moved, jo
 ghost use Rattle.xk_finishes.specs.Tree.{node_at, fresh_node, governing_of};
 ghost use Rattle.xk_types.specs.Schedule.{is_step, all_ended};
 ghost use Rattle.xk_core.specs.Able.{is_able};
-ghost use Rattle.xk_core.specs.Core.{is_over, AreOver};
+ghost use Rattle.xk_core.specs.Core.{is_over, AreOver, next_instruction};
 ghost use Rattle.xk_core.specs.Opening.{opening_with};
 ghost use Rattle.xk_core.specs.Change.{standing_after_step};
 ghost use Rattle.xk_core.specs.Arm.{grows, concerns_finishes, carried, passed_on, IsRoomy, IsRunningUnit};
@@ -331,6 +331,20 @@ impl State {
         ensures { option_copied result ≡ slice_get self.now.clocks c }
     {
         self.clocks.get(c)
+    }
+
+    /// The instruction of this module that activity a carries out next, if it runs.
+    pub fn next_instruction<'m>(&self, program: &'m Module, a: usize) -> Option<&'m Instr>
+        ensures { option_copied result ≡ next_instruction program.now self.now a }
+    {
+        let act = self.activities.get(a)?;
+        match act.status() {
+            Status::Running => {
+                let unit = program.units().get(act.unit() as usize)?;
+                unit.code.get(act.place() as usize)
+            }
+            Status::Arrived | Status::Ended => None,
+        }
     }
 
     /// Whether every activity has ended.

@@ -1,0 +1,507 @@
+-- What holds of a core by its parts: a world without finishes, and the tree that tells of them.
+use Rattle.std.proofs.Common.{◌≡◌, ℕ, zero, suc, ◌+◌, ◌-◌, ◌<◌, ◌≤◌, ◌^◌, ◌==◌, Bool, true, false, not, ◌&&◌, cond, List, [], ◌∷◌, ◌++◌, length, map, set, Option, Some, None, Result, Ok, Err, IfOk, OnOk, OnErr, inl, inr, ◌⊎◌, refl, sym, ap, ◌∙◌, subst, arith, slice_get, slice_set, slice_index_or, get_or, All, option_map, length-set}
+use Rattle.std.specs.Option.{option_map_or}
+use Rattle.std.specs.List.{list_any, list_all}
+use Rattle.std.proofs.lemmas.Bool.{false≢true, cases_eq, not-true, and_parts}
+use Rattle.std.proofs.lemmas.Option.{none-some, same_Some, slice_get_within, slice_get_past, slice_get-get_or, get_or_from_slice_get}
+use Rattle.std.proofs.lemmas.List.{length_push}
+use Rattle.xk_types.specs.declared.instr.Instr.{Instr}
+use Rattle.xk_types.specs.declared.instr.Instr.TheVariants as instr
+use Rattle.xk_types.specs.declared.names.Status.{Status}
+use Rattle.xk_types.specs.declared.names.Status.TheVariants as status
+use Rattle.xk_types.specs.declared.names.Event.{Event}
+use Rattle.xk_types.specs.declared.names.Event.TheVariants as event
+use Rattle.xk_types.specs.Code.{ModuleValue}
+use Rattle.xk_types.specs.Bound.{steps_bound, room_of}
+use Rattle.xk_types.specs.World.{Activity, Clock, World, standing_of, base_of, base_unit, is_ended, main_of, opening, instruction_at}
+use Rattle.xk_types.specs.Step.{Outcome, Blocked, Wrong, Stepped, waits, step_by, step_of, step, run_at, carried_out, passing, past, done, none, all, passed, onward, moved, settled, entered, left, closing, awaits, innermost, governing, child}
+use Rattle.xk_types.specs.Schedule.{is_step, is_enabled, all_ended}
+use Rattle.xk_laws.proofs.Lists.{get_inside, get-set_same, get-set_other, get_push, get-push_other}
+use Rattle.xk_laws.proofs.Counts.{step_counts, step_keeps_over}
+use Rattle.xk_laws.proofs.Invariant.{IsSound}
+use Rattle.xk_laws.proofs.Scopes.{IsScoped, based}
+use Rattle.xk_laws.proofs.Reached.{reached_sound, reached_scoped}
+use Rattle.xk_laws.proofs.Instructions.{standing_at, instruction_found}
+use Rattle.xk_laws.proofs.Progress.{room_at_finish, open_at_end, closed_at_end}
+use Rattle.xk_finishes.specs.Tree.{NodeValue, node_at, fresh_node, node_entered, node_left, node_ended, changed_at, governing_of, awaits_innermost, IsNodeOf, AreNodesOf}
+use Rattle.xk_finishes.specs.Tree as tree
+use Rattle.xk_finishes.proofs.Activities.{awaits_same}
+use Rattle.xk_core.specs.Arm.{value_at, carried, carried_by, passed_on, passing_by, concerns_finishes, IsRoomy, IsRunningUnit}
+use Rattle.xk_core.specs.Able.{able_by, able_of, is_able, kept_by, is_kept}
+use Rattle.xk_core.specs.Core.{IsCore, is_over, AreOver, instruction_by, instruction_of, next_instruction}
+use Rattle.xk_core.specs.Told.{with_node, with_nodes, told, IsToldOf, AreTold}
+use Rattle.xk_core.proofs.Cores.{core_roomy, core_runs, core_stepped, core_able, pass_step, carry_step}
+use Rattle.xk_core.proofs.Told.{length_told, get_told, set_told, set_both, push_told, told_so, is_end, Leaves, Tells, IsTold, carried_told, spawn_told}
+use Rattle.xk_core.proofs.Arms.{spawning_there, spawn_by}
+
+-- ---- an activity and its node
+
+-- what both lists have at a number: nothing, or an activity and what the tree tells of it
+pub data At (ns : List NodeValue) (xs : List Activity) (a : ℕ) : Type 0 where
+  Nobody : slice_get xs a ≡ None → slice_get (with_nodes ns xs) a ≡ None → At ns xs a
+  Somebody : (n : NodeValue) (x : Activity) → slice_get ns a ≡ Some n → slice_get xs a ≡ Some x → slice_get (with_nodes ns xs) a ≡ Some (with_node n x) → At ns xs a
+
+pub told_at : (ns : List NodeValue) (xs : List Activity) → length ns ≡ length xs → (a : ℕ) → At ns xs a
+told_at ns xs width a = by (slice_get xs a) refl
+  where
+    by : (o : Option Activity) → slice_get xs a ≡ o → At ns xs a
+    by None e = Nobody e (none (slice_get (with_nodes ns xs) a) refl)
+      where
+        none : (o : Option Activity) → slice_get (with_nodes ns xs) a ≡ o → slice_get (with_nodes ns xs) a ≡ None
+        none None h = h
+        none (Some y) h =
+            (let inside = slice_get_within (with_nodes ns xs) a y h in
+            let x = get_inside xs a (omega (arith, length_told ns xs width)) in
+            absurd (none-some x.0 (sym e ∙ x.1)))
+    by (Some x) e = (let n = get_inside ns a (let inside = slice_get_within xs a x e in omega arith) in Somebody n.0 x n.1 e (get_told ns xs a n.0 x n.1 e))
+
+-- the node of an activity that is there
+node_is : (ns : List NodeValue) (a : ℕ) (n : NodeValue) → slice_get ns a ≡ Some n → node_at ns a ≡ n
+node_is ns a n h = get_or_from_slice_get ns a n _ h
+
+-- ---- what is read of a core
+
+-- statuses are the same
+over_told : (ns : List NodeValue) (xs : List Activity) → length ns ≡ length xs → (b : ℕ) → is_over (with_nodes ns xs) b ≡ is_over xs b
+over_told ns xs width b = by (told_at ns xs width b)
+  where
+    by : At ns xs b → is_over (with_nodes ns xs) b ≡ is_over xs b
+    by (Nobody e g) = ap (λ o. option_map_or (λ (act : Activity). is_ended act.status) o false) (g ∙ sym e)
+    by (Somebody n x h e g) = ap (λ o. option_map_or (λ (act : Activity). is_ended act.status) o false) g ∙ sym (ap (λ o. option_map_or (λ (act : Activity). is_ended act.status) o false) e)
+
+pub ended_told : (ns : List NodeValue) (xs : List Activity) → length ns ≡ length xs → list_all (λ (act : Activity). is_ended act.status) (with_nodes ns xs) ≡ list_all (λ (act : Activity). is_ended act.status) xs
+ended_told [] [] h = refl
+ended_told [] (x ∷ xs) h = absurd (omega arith)
+ended_told (n ∷ ns) [] h = refl
+ended_told (n ∷ ns) (x ∷ xs) h = ap (λ b. is_ended x.status && b) (ended_told ns xs (omega arith))
+
+pub able_told : (ns : List NodeValue) (w : World) → length ns ≡ length w.activities → (a : ℕ) → is_able (told ns w) a ≡ is_able w a
+able_told ns w width a = by (told_at ns w.activities width a)
+  where
+    by : At ns w.activities a → is_able (told ns w) a ≡ is_able w a
+    by (Nobody e g) = ap (able_of (told ns w) a) g ∙ sym (ap (able_of w a) e)
+    by (Somebody n x h e g) = ap (able_of (told ns w) a) g ∙ same x.status ∙ sym (ap (able_of w a) e)
+      where
+        same : (s : Status) → able_by (told ns w) a s ≡ able_by w a s
+        same status.Running = refl
+        same status.Arrived = refl
+        same status.Ended = refl
+
+pub next_told : (m : ModuleValue) (ns : List NodeValue) (w : World) → length ns ≡ length w.activities → (a : ℕ) → next_instruction m (told ns w) a ≡ next_instruction m w a
+next_told m ns w width a = by (told_at ns w.activities width a)
+  where
+    by : At ns w.activities a → next_instruction m (told ns w) a ≡ next_instruction m w a
+    by (Nobody e g) = ap (instruction_of m) g ∙ sym (ap (instruction_of m) e)
+    by (Somebody n x h e g) = ap (instruction_of m) g ∙ same x.status ∙ sym (ap (instruction_of m) e)
+      where
+        same : (s : Status) → instruction_by m (with_node n x) s ≡ instruction_by m x s
+        same status.Running = refl
+        same status.Arrived = refl
+        same status.Ended = refl
+
+pub since_told : (ns : List NodeValue) (w : World) → length ns ≡ length w.activities → (a : ℕ) → option_map (λ (x : Activity). x.since) (slice_get (told ns w).activities a) ≡ option_map (λ (x : Activity). x.since) (slice_get w.activities a)
+since_told ns w width a = by (told_at ns w.activities width a)
+  where
+    by : At ns w.activities a → option_map (λ (x : Activity). x.since) (slice_get (told ns w).activities a) ≡ option_map (λ (x : Activity). x.since) (slice_get w.activities a)
+    by (Nobody e g) = ap (option_map (λ (x : Activity). x.since)) (g ∙ sym e)
+    by (Somebody n x h e g) = ap (option_map (λ (x : Activity). x.since)) g ∙ sym (ap (option_map (λ (x : Activity). x.since)) e)
+
+-- the tree tells of the activities as the definition has them
+pub nodes_told : (m : ModuleValue) (ns : List NodeValue) (xs : List Activity) → AreTold m ns xs → AreNodesOf (with_nodes ns xs) ns
+nodes_told m ns xs t = from ns xs t.width (λ a n x h g. (t.each a n x h g).ended)
+  where
+    from : (ks : List NodeValue) (ys : List Activity) → length ks ≡ length ys → ((a : ℕ) (n : NodeValue) (x : Activity) → slice_get ks a ≡ Some n → slice_get ys a ≡ Some x → n.ended ≡ is_ended x.status)
+        → AreNodesOf (with_nodes ks ys) ks
+    from [] [] h each = tt
+    from [] (y ∷ ys) h each = tt
+    from (k ∷ ks) [] h each = absurd (omega arith)
+    from (k ∷ ks) (y ∷ ys) h each = (ap (λ b. record { opened = k.opened; room = k.room; governed = k.governed; ended = b }) (each zero k y refl refl), from ks ys (omega arith) (λ a n x p q. each (suc a) n x p q))
+
+-- ---- a core, by its parts
+
+-- the world is one that a legal schedule reaches, the tree tells of it, and as many activities have ended
+pub record IsHeld (m : ModuleValue) (ns : List NodeValue) (w : World) (over : ℕ) : Type 0 where
+  pub core : IsCore m (told ns w)
+  pub are : AreTold m ns w.activities
+  pub first : AreOver w.activities over
+
+pub held : (m : ModuleValue) (ns : List NodeValue) (w : World) (over : ℕ) → IsCore m (told ns w) × AreTold m ns w.activities × AreOver w.activities over → IsHeld m ns w over
+held m ns w over h = record { core = h.0; are = h.1; first = h.2 }
+
+pub parts : (m : ModuleValue) (ns : List NodeValue) (w : World) (over : ℕ) → IsHeld m ns w over → IsCore m (told ns w) × AreTold m ns w.activities × AreOver w.activities over
+parts m ns w over h = (h.core, h.are, h.first)
+
+-- it goes on by a step
+pub held_on : (m : ModuleValue) (ns ks : List NodeValue) (w v : World) (over a : ℕ) (e : Event) → IsHeld m ns w over → AreTold m ks v.activities → step m (told ns w) a ≡ Stepped (told ks v) e → IsHeld m ks v over
+held_on m ns ks w v over a e h are goes = record {
+  core = core_stepped m (told ns w) (told ks v) a e h.core goes;
+  are = are;
+  first = λ b lt. sym (over_told ks v.activities are.width b) ∙ step_keeps_over m (told ns w) (told ks v) a e goes b (over_told ns w.activities h.are.width b ∙ h.first b lt);
+}
+
+module _ (m : ModuleValue) (ns : List NodeValue) (w : World) (over a : ℕ) (h : IsHeld m ns w over) where
+  -- one more of each number fits its type
+  pub parts_roomy : IsRoomy w a
+  parts_roomy =
+      let r = core_roomy m (told ns w) a h.core in
+      record {
+        steps = r.steps;
+        phases = r.phases;
+        clocks = r.clocks;
+        place = λ act there. by act there (told_at ns w.activities h.are.width a);
+        callers = λ act there. below act there (told_at ns w.activities h.are.width a);
+        standings = λ k d lt. r.standings k d lt ∙ length_told ns w.activities h.are.width;
+      }
+    where
+      by : (act : Activity) → slice_get w.activities a ≡ Some act → At ns w.activities a → act.frame.place + 1 < 2 ^ 16
+      by act there (Nobody e g) = absurd (none-some act (sym e ∙ there))
+      by act there (Somebody n x k e g) = (let same : x ≡ act = same_Some x act (sym e ∙ there) in
+          subst (λ (y : Activity). y.frame.place + 1 < 2 ^ 16) same ((core_roomy m (told ns w) a h.core).place (with_node n x) g))
+
+      below : (act : Activity) → slice_get w.activities a ≡ Some act → At ns w.activities a → All (λ f. f.place + 1 < 2 ^ 16) act.callers
+      below act there (Nobody e g) = absurd (none-some act (sym e ∙ there))
+      below act there (Somebody n x k e g) = (let same : x ≡ act = same_Some x act (sym e ∙ there) in
+          subst (λ (y : Activity). All (λ f. f.place + 1 < 2 ^ 16) y.callers) same ((core_roomy m (told ns w) a h.core).callers (with_node n x) g))
+
+  pub parts_runs : IsRunningUnit m w a
+  parts_runs act there = by (told_at ns w.activities h.are.width a)
+    where
+      by : At ns w.activities a → Rattle.xk_core.specs.Arm.RunsUnit m act
+      by (Nobody e g) = absurd (none-some act (sym e ∙ there))
+      by (Somebody n x k e g) = (let same : x ≡ act = same_Some x act (sym e ∙ there) in
+          let r = core_runs m (told ns w) a h.core (with_node n x) g in
+          subst (Rattle.xk_core.specs.Arm.RunsUnit m) same (record { u = r.u; found = r.found; short = r.short }))
+
+  -- who is able and isn't kept is enabled
+  pub parts_able : (is_able w a && not (is_kept m (told ns w) a)) ≡ is_enabled m (told ns w) a
+  parts_able = ap (λ b. b && not (is_kept m (told ns w) a)) (sym (able_told ns w h.are.width a)) ∙ core_able m (told ns w) a h.core
+
+  -- who has ended is not enabled
+  pub parts_over : a < over → is_enabled m (told ns w) a ≡ false
+  parts_over lt = by (told_at ns w.activities h.are.width a) (h.first a lt)
+    where
+      by : At ns w.activities a → is_over w.activities a ≡ true → is_enabled m (told ns w) a ≡ false
+      by (Nobody e g) o = ap (λ z. is_step (step_of m (told ns w) a z)) g
+      by (Somebody n x k e g) o = ap (λ z. is_step (step_of m (told ns w) a z)) g ∙ st x.status (sym (ap (λ z. option_map_or (λ (act : Activity). is_ended act.status) z false) e) ∙ o)
+        where
+          st : (s : Status) → is_ended s ≡ true → is_step (step_by m (told ns w) a (with_node n x) s) ≡ false
+          st status.Running f = absurd (false≢true f)
+          st status.Arrived f = absurd (false≢true f)
+          st status.Ended f = refl
+
+  -- ---- a pass
+
+  -- an enabled activity that doesn't run passes, also without finishes
+  module _ (enabled : is_enabled m (told ns w) a ≡ true) (next : next_instruction m (told ns w) a ≡ None) where
+    pass_goes : step m (told ns w) a ≡ passed_on (told ns w) a
+    pass_goes = pass_step m (told ns w) a enabled next
+
+    pass_same : (o : Outcome) → passed_on w a ≡ o → At ns w.activities a → passed_on (told ns w) a ≡ told_so ns o
+    pass_same o e (Nobody p g) = ap (passing_by (told ns w) a) g ∙ ap (told_so ns) (sym (ap (passing_by w a) p) ∙ e)
+    pass_same o e (Somebody n x k p g) = ap (passing_by (told ns w) a) g ∙ waits_same (waits w a) ∙ ap (told_so ns) (sym (ap (passing_by w a) p) ∙ e)
+      where
+        waits_same : (b : Bool) → cond b Blocked (done (told ns w) a (past (with_node n x) (w.steps + 1)) (all passed) event.Passed) ≡ told_so ns (cond b Blocked (done w a (past x (w.steps + 1)) (all passed) event.Passed))
+        waits_same true = refl
+        waits_same false = ap (λ l. Stepped (settled (record w { activities = l; clocks = moved a (all passed) w.clocks })) event.Passed) (sym (set_told ns w.activities a n (past x (w.steps + 1)) k))
+
+    pub pass_enabled : is_step (passed_on w a) ≡ true
+    pass_enabled = so (passed_on w a) refl
+      where
+        so : (o : Outcome) → passed_on w a ≡ o → is_step o ≡ true
+        so o e = is o (sym (pass_same o e (told_at ns w.activities h.are.width a)) ∙ sym pass_goes) 
+          where
+            is : (q : Outcome) → told_so ns q ≡ step m (told ns w) a → is_step q ≡ true
+            is Blocked f = absurd (false≢true (ap is_step f ∙ enabled))
+            is (Wrong c) f = absurd (false≢true (ap is_step f ∙ enabled))
+            is (Stepped v x) f = refl
+
+    pub pass_stepped : (v : World) (e : Event) → passed_on w a ≡ Stepped v e → step m (told ns w) a ≡ Stepped (told ns v) e
+    pass_stepped v e p = pass_goes ∙ pass_same (Stepped v e) p (told_at ns w.activities h.are.width a)
+
+-- ---- what the tree tells after a step
+
+told_set : (m : ModuleValue) (ns : List NodeValue) (xs : List Activity) (a : ℕ) (k : NodeValue) (x y : Activity) → AreTold m ns xs → slice_get xs a ≡ Some x → IsToldOf m k y
+    → (ks : List NodeValue) → length ks ≡ length ns → slice_get ks a ≡ Some k → ((b : ℕ) → (b ≡ a → ⊥) → slice_get ks b ≡ slice_get ns b) → AreTold m ks (slice_set xs a y)
+told_set m ns xs a k x y t found now ks width here others = record {
+  width = width ∙ t.width ∙ sym (length-set xs a y);
+  each = λ b n z p q. by b n z p q (cases_eq b a);
+}
+  where
+    by : (b : ℕ) (n : NodeValue) (z : Activity) → slice_get ks b ≡ Some n → slice_get (slice_set xs a y) b ≡ Some z → (b ≡ a) ⊎ (b ≡ a → ⊥) → IsToldOf m n z
+    by b n z p q (inl e) =
+        let nk : k ≡ n = same_Some k n (sym here ∙ ap (slice_get ks) (sym e) ∙ p) in
+        let yz : y ≡ z = same_Some y z (sym (get-set_same xs a x y found) ∙ ap (slice_get (slice_set xs a y)) (sym e) ∙ q) in
+        subst (λ v. IsToldOf m n v) yz (subst (λ v. IsToldOf m v y) nk now)
+    by b n z p q (inr differs) = t.each b n z (sym (others b differs) ∙ p) (sym (get-set_other xs a b y differs) ∙ q)
+
+-- the same tree
+told_stays : (m : ModuleValue) (ns : List NodeValue) (xs : List Activity) (a : ℕ) (n : NodeValue) (x y : Activity) → AreTold m ns xs → slice_get ns a ≡ Some n → slice_get xs a ≡ Some x
+    → is_ended y.status ≡ is_ended x.status → base_unit y ≡ base_unit x → AreTold m ns (slice_set xs a y)
+told_stays m ns xs a n x y t here found st base = told_set m ns xs a n x y t found
+    (let s = t.each a n x here found in record { ended = s.ended ∙ sym st; room = s.room ∙ ap (room_of m) (sym base) }) ns refl here (λ b differs. refl)
+
+-- a node changed too
+told_changed : (m : ModuleValue) (ns : List NodeValue) (xs : List Activity) (a : ℕ) (n k : NodeValue) (x y : Activity) → AreTold m ns xs → slice_get ns a ≡ Some n → slice_get xs a ≡ Some x
+    → IsToldOf m k y → AreTold m (slice_set ns a k) (slice_set xs a y)
+told_changed m ns xs a n k x y t here found now = told_set m ns xs a k x y t found now (slice_set ns a k) (length-set ns a k) (get-set_same ns a n k here) (λ b differs. get-set_other ns a b k differs)
+
+-- a new activity
+told_push : (m : ModuleValue) (ns : List NodeValue) (xs : List Activity) (k : NodeValue) (y : Activity) → AreTold m ns xs → IsToldOf m k y → AreTold m (ns ++ k ∷ []) (xs ++ y ∷ [])
+told_push m ns xs k y t now = record {
+  width = omega (arith, length_push ns k, length_push xs y, t.width);
+  each = λ b n z p q. by b n z p q (cases_eq b (length ns));
+}
+  where
+    by : (b : ℕ) (n : NodeValue) (z : Activity) → slice_get (ns ++ k ∷ []) b ≡ Some n → slice_get (xs ++ y ∷ []) b ≡ Some z → (b ≡ length ns) ⊎ (b ≡ length ns → ⊥) → IsToldOf m n z
+    by b n z p q (inl e) =
+        let nk : k ≡ n = same_Some k n (sym (get_push ns k) ∙ ap (slice_get (ns ++ k ∷ [])) (sym e) ∙ p) in
+        let yz : y ≡ z = same_Some y z (sym (get_push xs y) ∙ ap (slice_get (xs ++ y ∷ [])) (sym t.width ∙ sym e) ∙ q) in
+        subst (λ v. IsToldOf m n v) yz (subst (λ v. IsToldOf m v y) nk now)
+    by b n z p q (inr differs) = t.each b n z (sym (get-push_other ns k b differs) ∙ p) (sym (get-push_other xs y b (λ e. differs (e ∙ sym t.width))) ∙ q)
+
+-- the finishes of an activity don't depend on whether it has ended
+ended_same : (ns : List NodeValue) (xs : List Activity) (a : ℕ) (n : NodeValue) → slice_get ns a ≡ Some n → with_nodes (slice_set ns a (node_ended n)) xs ≡ with_nodes ns xs
+ended_same [] xs a n h = refl
+ended_same (k ∷ ns) [] zero n h = refl
+ended_same (k ∷ ns) [] (suc a) n h = refl
+ended_same (k ∷ ns) (x ∷ xs) zero n h = ap (λ z. with_node (node_ended z) x ∷ with_nodes ns xs) (sym (same_Some k n h))
+ended_same (k ∷ ns) (x ∷ xs) (suc a) n h = ap (λ l. with_node k x ∷ l) (ended_same ns xs a n h)
+
+-- one step leads to one world
+pub same_world : (v u : World) (e f : Event) → Stepped v e ≡ Stepped u f → v ≡ u
+same_world v u e f q = cc
+
+-- ---- one activity of a core
+
+module _ (m : ModuleValue) (ns : List NodeValue) (w : World) (over a : ℕ) (h : IsHeld m ns w over) where
+  -- an activity that runs, and what the tree tells of it
+  pub record Runs (i : Instr) : Type 0 where
+    pub n : NodeValue
+    pub x : Activity
+    pub here : slice_get ns a ≡ Some n
+    pub found : slice_get w.activities a ≡ Some x
+    pub both : slice_get (told ns w).activities a ≡ Some (with_node n x)
+    pub running : x.status ≡ status.Running
+    pub at : instruction_at m x.frame ≡ Some i
+
+  pub runs : (i : Instr) → next_instruction m (told ns w) a ≡ Some i → Runs i
+  runs i next = by (told_at ns w.activities h.are.width a)
+    where
+      by : At ns w.activities a → Runs i
+      by (Nobody e g) = absurd (none-some i (sym (ap (instruction_of m) g) ∙ next))
+      by (Somebody n x k e g) = go x.status refl (sym (ap (instruction_of m) g) ∙ next)
+        where
+          go : (s : Status) → x.status ≡ s → instruction_by m (with_node n x) s ≡ Some i → Runs i
+          go status.Running st f = record { n = n; x = x; here = k; found = e; both = g; running = st; at = f }
+          go status.Arrived st f = absurd (none-some i f)
+          go status.Ended st f = absurd (none-some i f)
+
+  sound : IsSound m (told ns w)
+  sound = reached_sound m h.core.limits h.core.accepted (told ns w) h.core.reached
+
+  scoped : IsScoped m (told ns w)
+  scoped = reached_scoped m h.core.limits h.core.accepted (told ns w) h.core.reached
+
+  -- it stands at the instruction in the unit that it runs
+  stands : (i : Instr) (r : Runs i) → slice_get (sound.activities a (with_node r.n r.x) r.both).u.code r.x.frame.place ≡ Some i
+  stands i r =
+      let s = standing_at m h.core.accepted (told ns w) a (with_node r.n r.x) sound r.both r.running in
+      let same : s.0 ≡ i = same_Some s.0 i (sym (instruction_found m h.core.accepted (told ns w) a (with_node r.n r.x) sound r.both r.running s.0 s.1) ∙ r.at) in
+      s.1 ∙ ap Some same
+
+  pub exists : (i : Instr) → Runs i → (a < length ns) × (a < length w.activities)
+  exists i r = (slice_get_within ns a r.n r.here, slice_get_within w.activities a r.x r.found)
+
+  pub alive : (i : Instr) → Runs i → (node_at ns a).ended ≡ false
+  alive i r = ap (λ (n : NodeValue). n.ended) (node_is ns a r.n r.here) ∙ (h.are.each a r.n r.x r.here r.found).ended ∙ ap is_ended r.running
+
+  -- the step is what the activity does at the instruction
+  goes : (i : Instr) → next_instruction m (told ns w) a ≡ Some i → (r : Runs i) → step m (told ns w) a ≡ carried_out m (told ns w) a (with_node r.n r.x) i
+  goes i next r = carry_step m (told ns w) a i next ∙ ap (carried_by m (told ns w) a i) r.both
+
+  -- ---- `finish`
+
+  pub open_room : (e : ℕ) → Runs (instr.Finish e) → (node_at ns a).opened < (node_at ns a).room
+  open_room e r =
+      let k = node_is ns a r.n r.here in
+      let q = room_at_finish m h.core.accepted (told ns w) sound scoped a (with_node r.n r.x) r.both e (stands (instr.Finish e) r) in
+      let s = (h.are.each a r.n r.x r.here r.found).room in
+      subst (λ (z : NodeValue). z.opened < z.room) (sym k) (omega (arith, q, s))
+
+  pub open_stepped : (e : ℕ) → next_instruction m (told ns w) a ≡ Some (instr.Finish e) → (r : Runs (instr.Finish e)) → (v : World)
+      → v ≡ settled (record w { activities = slice_set w.activities a (onward r.x); clocks = moved a none w.clocks })
+      → step m (told ns w) a ≡ Stepped (told (changed_at ns a node_entered) v) event.Opened
+  open_stepped e next r v is = goes (instr.Finish e) next r
+      ∙ ap (λ l. Stepped (settled (record w { activities = l; clocks = moved a none w.clocks })) event.Opened)
+      (sym (set_both ns w.activities a (node_entered r.n) (onward r.x)) ∙ ap (λ z. with_nodes (slice_set ns a (node_entered z)) (slice_set w.activities a (onward r.x))) (sym (node_is ns a r.n r.here)))
+      ∙ ap (λ u. Stepped (told (changed_at ns a node_entered) u) event.Opened) (sym is)
+
+  pub open_are : (e : ℕ) (r : Runs (instr.Finish e)) (v : World) → v ≡ settled (record w { activities = slice_set w.activities a (onward r.x); clocks = moved a none w.clocks })
+      → AreTold m (changed_at ns a node_entered) v.activities
+  open_are e r v is = subst (λ (u : World). AreTold m (changed_at ns a node_entered) u.activities) (sym is)
+      (subst (λ z. AreTold m (slice_set ns a (node_entered z)) (slice_set w.activities a (onward r.x))) (sym (node_is ns a r.n r.here))
+      (told_changed m ns w.activities a r.n (node_entered r.n) r.x (onward r.x) h.are r.here r.found
+      (let s = h.are.each a r.n r.x r.here r.found in record { ended = s.ended; room = s.room ∙ ap (room_of m) (sym (based r.x.frame (onward r.x).frame r.x.callers refl)) })))
+
+  -- ---- `endfinish`
+
+  pub close_open : (b : ℕ) → Runs (instr.EndFinish b) → 0 < (node_at ns a).opened
+  close_open b r =
+      let q = open_at_end m h.core.accepted (told ns w) sound scoped a (with_node r.n r.x) r.both b (stands (instr.EndFinish b) r) in
+      subst (λ (z : NodeValue). 0 < z.opened) (sym (node_is ns a r.n r.here)) (omega (arith, q))
+
+  -- the tree awaits somebody where the definition does
+  pub awaits_told : (i : Instr) (r : Runs i) → awaits_innermost ns a ≡ awaits (told ns w).activities (innermost a (with_node r.n r.x))
+  awaits_told i r = awaits_same (with_nodes ns w.activities) ns (nodes_told m ns w.activities h.are) (tree.innermost_of a (node_at ns a))
+      ∙ ap (λ (z : NodeValue). awaits (told ns w).activities (record { owner = Some a; depth = z.opened })) (node_is ns a r.n r.here)
+
+  pub kept_told : (b : ℕ) → next_instruction m (told ns w) a ≡ Some (instr.EndFinish b) → (r : Runs (instr.EndFinish b)) → is_kept m (told ns w) a ≡ awaits_innermost ns a
+  kept_told b next r = ap (kept_by (told ns w) a (slice_get (told ns w).activities a)) next ∙ ap (λ o. kept_by (told ns w) a o (Some (instr.EndFinish b))) r.both ∙ sym (awaits_told (instr.EndFinish b) r)
+
+  -- what the definition does there
+  close_by : (b : ℕ) → next_instruction m (told ns w) a ≡ Some (instr.EndFinish b) → (r : Runs (instr.EndFinish b)) → is_enabled m (told ns w) a ≡ true
+      → (awaits_innermost ns a ≡ false) × (step m (told ns w) a ≡ done (told ns w) a (left (with_node r.n r.x) (r.n.opened - 1)) none event.Closed)
+  close_by b next r enabled = by r.n.opened refl (awaits (told ns w).activities (innermost a (with_node r.n r.x))) refl
+    where
+      start : step m (told ns w) a ≡ closing (told ns w) a (with_node r.n r.x) r.n.opened
+      start = goes (instr.EndFinish b) next r
+
+      by : (k : ℕ) → r.n.opened ≡ k → (x : Bool) → awaits (told ns w).activities (innermost a (with_node r.n r.x)) ≡ x
+          → (awaits_innermost ns a ≡ false) × (step m (told ns w) a ≡ done (told ns w) a (left (with_node r.n r.x) (r.n.opened - 1)) none event.Closed)
+      by zero e x q = absurd (false≢true (sym (ap is_step (start ∙ ap (closing (told ns w) a (with_node r.n r.x)) e)) ∙ enabled))
+      by (suc k) e true q = absurd (false≢true (sym (ap is_step (start ∙ ap (closing (told ns w) a (with_node r.n r.x)) e ∙ ap (λ c. cond c Blocked (done (told ns w) a (left (with_node r.n r.x) k) none event.Closed)) q)) ∙ enabled))
+      by (suc k) e false q = (
+        awaits_told (instr.EndFinish b) r ∙ q,
+        start ∙ ap (closing (told ns w) a (with_node r.n r.x)) e ∙ ap (λ c. cond c Blocked (done (told ns w) a (left (with_node r.n r.x) k) none event.Closed)) q
+        ∙ ap (λ j. done (told ns w) a (left (with_node r.n r.x) j) none event.Closed) (omega arith),
+      )
+
+  pub close_empty : (b : ℕ) → next_instruction m (told ns w) a ≡ Some (instr.EndFinish b) → is_enabled m (told ns w) a ≡ true → awaits_innermost ns a ≡ false
+  close_empty b next enabled = (close_by b next (runs (instr.EndFinish b) next) enabled).0
+
+  pub close_stepped : (b : ℕ) → next_instruction m (told ns w) a ≡ Some (instr.EndFinish b) → is_enabled m (told ns w) a ≡ true → (r : Runs (instr.EndFinish b)) → (v : World)
+      → v ≡ settled (record w { activities = slice_set w.activities a (onward r.x); clocks = moved a none w.clocks })
+      → step m (told ns w) a ≡ Stepped (told (changed_at ns a node_left) v) event.Closed
+  close_stepped b next enabled r v is = (close_by b next r enabled).1
+      ∙ ap (λ l. Stepped (settled (record w { activities = l; clocks = moved a none w.clocks })) event.Closed)
+      (sym (set_both ns w.activities a (node_left r.n) (onward r.x)) ∙ ap (λ z. with_nodes (slice_set ns a (node_left z)) (slice_set w.activities a (onward r.x))) (sym (node_is ns a r.n r.here)))
+      ∙ ap (λ u. Stepped (told (changed_at ns a node_left) u) event.Closed) (sym is)
+
+  pub close_are : (b : ℕ) (r : Runs (instr.EndFinish b)) (v : World) → v ≡ settled (record w { activities = slice_set w.activities a (onward r.x); clocks = moved a none w.clocks })
+      → AreTold m (changed_at ns a node_left) v.activities
+  close_are b r v is = subst (λ (u : World). AreTold m (changed_at ns a node_left) u.activities) (sym is)
+      (subst (λ z. AreTold m (slice_set ns a (node_left z)) (slice_set w.activities a (onward r.x))) (sym (node_is ns a r.n r.here))
+      (told_changed m ns w.activities a r.n (node_left r.n) r.x (onward r.x) h.are r.here r.found
+      (let s = h.are.each a r.n r.x r.here r.found in record { ended = s.ended; room = s.room ∙ ap (room_of m) (sym (based r.x.frame (onward r.x).frame r.x.callers refl)) })))
+
+  -- ---- other instructions of one activity
+
+  module _ (i : Instr) (plain : concerns_finishes i ≡ false) (next : next_instruction m (told ns w) a ≡ Some i) where
+    r : Runs i
+    r = runs i next
+
+    both_told : IsTold i ns w a r.x (carried m (told ns w) a i) (carried m w a i)
+    both_told = carried_told m ns w a r.n r.x h.are.width r.here r.found (ap is_ended r.running) i plain
+
+    carry_goes : step m (told ns w) a ≡ told_so ns (carried m w a i)
+    carry_goes = carry_step m (told ns w) a i next ∙ both_told.same
+
+    pub carry_enabled : is_enabled m (told ns w) a ≡ true → is_step (carried m w a i) ≡ true
+    carry_enabled enabled = by (carried m w a i) (sym carry_goes)
+      where
+        by : (o : Outcome) → told_so ns o ≡ step m (told ns w) a → is_step o ≡ true
+        by Blocked f = absurd (false≢true (ap is_step f ∙ enabled))
+        by (Wrong c) f = absurd (false≢true (ap is_step f ∙ enabled))
+        by (Stepped v x) f = refl
+
+    leaves : (v : World) (e : Event) → carried m w a i ≡ Stepped v e → Leaves i w a r.x v e
+    leaves v e is = subst (Tells i w a r.x) is both_told.tells
+
+    -- where the activity goes on, the tree stays
+    pub carry_stepped : (v : World) (e : Event) → carried m w a i ≡ Stepped v e → is_end e ≡ false → (step m (told ns w) a ≡ Stepped (told ns v) e) × AreTold m ns v.activities
+    carry_stepped v e is on =
+        let l = leaves v e is in
+        (carry_goes ∙ ap (told_so ns) is, subst (AreTold m ns) (sym l.activities) (told_stays m ns w.activities a r.n r.x l.y h.are r.here r.found (l.over ∙ on ∙ sym (ap is_ended r.running)) l.base))
+
+    -- where it ends, it has closed what it opened
+    pub carry_closed : (v : World) (e : Event) → carried m w a i ≡ Stepped v e → is_end e ≡ true → (node_at ns a).opened ≡ 0
+    carry_closed v e is end =
+        let q = (leaves v e is).last end in
+        ap (λ (z : NodeValue). z.opened) (node_is ns a r.n r.here)
+        ∙ closed_at_end m h.core.accepted (told ns w) sound scoped a (with_node r.n r.x) r.both (stands i r ∙ ap Some q.0) q.1
+
+    -- and the tree is told
+    pub carry_ended : (v : World) (e : Event) → carried m w a i ≡ Stepped v e → is_end e ≡ true
+        → (step m (told ns w) a ≡ Stepped (told (changed_at ns a node_ended) v) e) × AreTold m (changed_at ns a node_ended) v.activities
+    carry_ended v e is end =
+        let l = leaves v e is in
+        let k = node_is ns a r.n r.here in
+        (
+          carry_goes ∙ ap (told_so ns) is ∙ ap (λ xs. Stepped (record v { activities = xs }) e) (sym (ap (λ z. with_nodes (slice_set ns a (node_ended z)) v.activities) k ∙ ended_same ns v.activities a r.n r.here)),
+          subst (AreTold m (changed_at ns a node_ended)) (sym l.activities) (subst (λ z. AreTold m (slice_set ns a (node_ended z)) (slice_set w.activities a l.y)) (sym k)
+          (told_changed m ns w.activities a r.n (node_ended r.n) r.x l.y h.are r.here r.found
+          (let s = h.are.each a r.n r.x r.here r.found in record { ended = sym (l.over ∙ end); room = s.room ∙ ap (room_of m) (sym l.base) }))),
+        )
+
+  -- ---- `spawn`
+
+  module _ (t : ℕ) (args : List ℕ) (room : ℕ) (next : next_instruction m (told ns w) a ≡ Some (instr.Spawn t args)) where
+    s : Runs (instr.Spawn t args)
+    s = runs (instr.Spawn t args) next
+
+    -- what the tree tells of the new activity
+    abbrev new_node : NodeValue
+    new_node = fresh_node (governing_of a s.n) room
+
+    spawn_goes : step m (told ns w) a ≡ told_so (ns ++ new_node ∷ []) (carried m w a (instr.Spawn t args))
+    spawn_goes = carry_step m (told ns w) a (instr.Spawn t args) next
+        ∙ spawn_told m ns w a s.n s.x h.are.width s.here s.found (ap is_ended s.running) new_node refl refl t args
+
+    pub spawn_enabled : is_enabled m (told ns w) a ≡ true → is_step (carried m w a (instr.Spawn t args)) ≡ true
+    spawn_enabled enabled = by (carried m w a (instr.Spawn t args)) (sym spawn_goes)
+      where
+        by : (o : Outcome) → told_so (ns ++ new_node ∷ []) o ≡ step m (told ns w) a → is_step o ≡ true
+        by Blocked f = absurd (false≢true (ap is_step f ∙ enabled))
+        by (Wrong c) f = absurd (false≢true (ap is_step f ∙ enabled))
+        by (Stepped v x) f = refl
+
+    -- the unit that is started
+    pub spawn_within : is_enabled m (told ns w) a ≡ true → t < length m.units
+    spawn_within enabled = (let u = spawn_by m w a s.x t args (slice_get m.units t) refl s.found (spawn_enabled enabled) in slice_get_within m.units t u.0 u.1)
+
+    node_new : fresh_node (governing_of a (node_at ns a)) room ≡ new_node
+    node_new = ap (λ z. fresh_node (governing_of a z) room) (node_is ns a s.n s.here)
+
+    pub spawn_stepped : (v : World) (e : Event) → carried m w a (instr.Spawn t args) ≡ Stepped v e
+        → step m (told ns w) a ≡ Stepped (told (ns ++ fresh_node (governing_of a (node_at ns a)) room ∷ []) v) e
+    spawn_stepped v e is = spawn_goes ∙ ap (told_so (ns ++ new_node ∷ [])) is ∙ ap (λ z. Stepped (told (ns ++ z ∷ []) v) e) (sym node_new)
+
+    pub spawn_are : (v : World) (e : Event) → is_enabled m (told ns w) a ≡ true → carried m w a (instr.Spawn t args) ≡ Stepped v e → room ≡ room_of m t
+        → AreTold m (ns ++ fresh_node (governing_of a (node_at ns a)) room ∷ []) v.activities
+    spawn_are v e enabled is fits =
+        let u = spawn_by m w a s.x t args (slice_get m.units t) refl s.found (spawn_enabled enabled) in
+        let g = spawning_there m w a s.x t args u.0 u.1 s.found (spawn_enabled enabled) in
+        let world = same_world _ v event.Spawned e (sym g.goes ∙ is) in
+        subst (λ (z : World). AreTold m (ns ++ fresh_node (governing_of a (node_at ns a)) room ∷ []) z.activities) world
+        (subst (λ z. AreTold m (ns ++ z ∷ []) (slice_set w.activities a (onward s.x) ++ child m a s.x t (map (value_at s.x) args) ∷ [])) (sym node_new)
+        (told_push m ns (slice_set w.activities a (onward s.x)) new_node (child m a s.x t (map (value_at s.x) args))
+        (told_stays m ns w.activities a s.n s.x (onward s.x) h.are s.here s.found refl (based s.x.frame (onward s.x).frame s.x.callers refl)) (record { ended = refl; room = fits })))
+
+  -- ---- a pass
+
+  pub pass_are : (v : World) (e : Event) → is_enabled m (told ns w) a ≡ true → passed_on w a ≡ Stepped v e → AreTold m ns v.activities
+  pass_are v e enabled is = by (told_at ns w.activities h.are.width a)
+    where
+      by : At ns w.activities a → AreTold m ns v.activities
+      by (Nobody p g) = absurd (let q : Blocked ≡ Stepped v e = sym (ap (passing_by w a) p) ∙ is in grind arith)
+      by (Somebody n x k p g) = go (waits w a) (sym (ap (passing_by w a) p) ∙ is)
+        where
+          runs_on : (st : Status) → x.status ≡ st → is_ended st ≡ false
+          runs_on status.Running f = refl
+          runs_on status.Arrived f = refl
+          runs_on status.Ended f = absurd (false≢true (sym (ap (λ o. is_step (step_of m (told ns w) a o)) g ∙ ap (λ z. is_step (step_by m (told ns w) a (with_node n x) z)) f) ∙ enabled))
+
+          go : (b : Bool) → cond b Blocked (done w a (past x (w.steps + 1)) (all passed) event.Passed) ≡ Stepped v e → AreTold m ns v.activities
+          go true q = absurd (grind arith)
+          go false q = subst (λ (z : World). AreTold m ns z.activities) (same_world _ v event.Passed e q)
+              (told_stays m ns w.activities a n x (past x (w.steps + 1)) h.are k p (sym (runs_on x.status refl)) (based x.frame (past x (w.steps + 1)).frame x.callers refl))
