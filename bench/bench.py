@@ -1,5 +1,5 @@
 #!/usr/bin/env python3
-"""Times the built program: runs of a hundred million steps, in one unit and by calls, and checks of many great units.
+"""Times the built program: runs of a hundred million steps, in one unit, by calls and by finishes, and checks of many great units.
 
     python3 bench/bench.py [PROGRAM]
 
@@ -59,6 +59,18 @@ def calling(turns):
     return module([unit("main", 2, code), unit("method", 2, [["add", 1, 0, 0], ["ret"]], "n")])
 
 
+def finishing(turns):
+    """A loop in a loop that opens a finish and closes it: with the end of a turn three steps."""
+    code = [["for", 0, 1, turns, 5], ["for", 1, 1, 5000, 4], ["finish", 3], ["endfinish", 2], ["next", 1], ["next", 0], ["ret"]]
+    return module([unit("main", 2, code)])
+
+
+def gathering(turns):
+    """A loop that waits in each turn for an activity that it starts. The end of a finish looks at all activities that there were."""
+    code = [["for", 0, 1, turns, 4], ["finish", 3], ["spawn", 1, []], ["endfinish", 1], ["next", 0], ["ret"]]
+    return module([unit("main", 1, code), unit("body", 0, [["ret"]])])
+
+
 def timed(name, command, text):
     with tempfile.NamedTemporaryFile("w", suffix=".json", delete=False) as file:
         file.write(text)
@@ -77,5 +89,9 @@ seconds = timed("run of 100,010,002 steps", "run", counting(9999))
 print(f"steps a second: {100_010_002 / seconds:,.0f}")
 seconds = timed("run of 24,995,000 calls", "run", calling(4999))
 print(f"calls a second: {24_995_000 / seconds:,.0f}")
+seconds = timed("run of 24,995,000 finishes", "run", finishing(4999))
+print(f"finishes a second: {24_995_000 / seconds:,.0f}")
+for count in (1_000, 2_000, 4_000):
+    timed(f"run of {count} activities, each in a finish", "run", gathering(count))
 for count in (50, 100, 200):
     timed(f"check of {count} units of 4,096 instructions over 64 slots", "check", great_module(count))

@@ -25,14 +25,15 @@ LONGEST_RUN = 2_000_000
 
 NUMBERS = [0, 1, 2, 63, 64, 65, 4095, 4096, 65534, 65535, 65536, -1, 2**31, 2**63 - 1, 2**63, -(2**63), -(2**63) - 1, 2**64, 1.0, 1e300]
 WORDS = [
-    "lit", "copy", "add", "sub", "mul", "unless", "jump", "for", "next", "print", "make", "resume", "drop", "advance", "spawn", "ret", "call", "Make",
+    "lit", "copy", "add", "sub", "mul", "unless", "jump", "for", "next", "finish", "endfinish", "print", "make", "resume", "drop", "advance", "spawn",
+    "ret", "call", "Make",
     "eq", "ne", "lt", "le", "gt", "ge", "main", "body", "method", "", "c", "n", "cc", "cn",
 ]
 
 # Words that can stand for one another where the rest of the value still fits.
 KIN = [
     group.split()
-    for group in ("add sub mul", "print make resume drop jump next", "advance ret", "call spawn", "eq ne lt le gt ge", "main body method", "c n", "cc cn")
+    for group in ("add sub mul", "print make resume drop jump next finish endfinish", "advance ret", "call spawn", "eq ne lt le gt ge", "main body method", "c n", "cc cn")
 ]
 
 RULES = {

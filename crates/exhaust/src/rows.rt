@@ -20,7 +20,7 @@ pub struct Row {
 }
 
 /// Programs of one activity.
-pub fn alone() -> [Row; 6] {
+pub fn alone() -> [Row; 7] {
     [
         Row {
             text: r#"{"version":1,"shared":[],"units":[{"kind":"main","params":"","slots":3,"code":[["lit",0,2],["lit",1,3],["add",0,0,1],["make",2],["advance"],["print",0],["ret"]]}]}"#,
@@ -46,11 +46,15 @@ pub fn alone() -> [Row; 6] {
             text: r#"{"version":1,"shared":[],"units":[{"kind":"main","params":"","slots":1,"code":[["for",0,-1,1,2],["call",1,[0]],["next",0],["ret"]]},{"kind":"method","params":"n","slots":2,"code":[["make",1],["print",0],["drop",1],["ret"]]}]}"#,
             answer: Answer::Runs(&[-1, 0, 1], 20),
         },
+        Row {
+            text: r#"{"version":1,"shared":[],"units":[{"kind":"main","params":"","slots":1,"code":[["for",0,1,2,5],["finish",4],["finish",3],["endfinish",2],["endfinish",1],["next",0],["call",1,[]],["print",0],["ret"]]},{"kind":"method","params":"","slots":1,"code":[["finish",3],["make",0],["drop",0],["endfinish",0],["ret"]]}]}"#,
+            answer: Answer::Runs(&[2], 19),
+        },
     ]
 }
 
 /// Programs of several activities.
-pub fn several() -> [Row; 6] {
+pub fn several() -> [Row; 9] {
     [
         Row {
             text: r#"{"version":1,"shared":[],"units":[{"kind":"main","params":"","slots":2,"code":[["make",0],["spawn",1,[0]],["advance"],["lit",1,1],["print",1],["ret"]]},{"kind":"body","params":"c","slots":2,"code":[["advance"],["lit",1,2],["print",1],["ret"]]}]}"#,
@@ -76,11 +80,23 @@ pub fn several() -> [Row; 6] {
             text: r#"{"version":1,"shared":[],"units":[{"kind":"main","params":"","slots":1,"code":[["make",0],["call",1,[0]],["call",1,[0]],["advance"],["ret"]]},{"kind":"method","params":"c","slots":3,"code":[["make",1],["spawn",2,[1,0]],["resume",0],["advance"],["lit",2,3],["print",2],["drop",1],["ret"]]},{"kind":"body","params":"cc","slots":2,"code":[["resume",0],["advance"],["drop",1],["advance"],["ret"]]}]}"#,
             answer: Answer::Runs(&[3, 3], 38),
         },
+        Row {
+            text: r#"{"version":1,"shared":[],"units":[{"kind":"main","params":"","slots":1,"code":[["finish",2],["spawn",1,[]],["endfinish",0],["lit",0,2],["print",0],["ret"]]},{"kind":"body","params":"","slots":0,"code":[["spawn",2,[]],["ret"]]},{"kind":"body","params":"","slots":1,"code":[["lit",0,1],["print",0],["ret"]]}]}"#,
+            answer: Answer::Runs(&[1, 2], 11),
+        },
+        Row {
+            text: r#"{"version":1,"shared":[],"units":[{"kind":"main","params":"","slots":1,"code":[["finish",4],["make",0],["spawn",1,[0]],["drop",0],["endfinish",0],["ret"]]},{"kind":"body","params":"c","slots":1,"code":[["advance"],["ret"]]}]}"#,
+            answer: Answer::Runs(&[], 9),
+        },
+        Row {
+            text: r#"{"version":1,"shared":[],"units":[{"kind":"main","params":"","slots":2,"code":[["make",0],["for",1,1,2,3],["call",1,[0,1]],["next",1],["ret"]]},{"kind":"method","params":"cn","slots":3,"code":[["finish",7],["make",2],["spawn",2,[2,1]],["resume",2],["spawn",2,[2,1]],["advance"],["drop",2],["endfinish",0],["resume",0],["ret"]]},{"kind":"body","params":"cn","slots":2,"code":[["advance"],["print",1],["ret"]]}]}"#,
+            answer: Answer::Runs(&[1, 1, 2, 2], 45),
+        },
     ]
 }
 
 /// Programs that the verifier refuses.
-pub fn refused() -> [Row; 9] {
+pub fn refused() -> [Row; 13] {
     [
         Row {
             text: r#"{"version":1,"shared":[],"units":[{"kind":"main","params":"","slots":1,"code":[["drop",0],["ret"]]}]}"#,
@@ -117,6 +133,22 @@ pub fn refused() -> [Row; 9] {
         Row {
             text: r#"{"version":1,"shared":[],"units":[{"kind":"main","params":"","slots":1,"code":[["make",0],["drop",0],["call",1,[0]],["ret"]]},{"kind":"method","params":"c","slots":1,"code":[["ret"]]}]}"#,
             answer: Answer::Refused(Rule::Use),
+        },
+        Row {
+            text: r#"{"version":1,"shared":[],"units":[{"kind":"main","params":"","slots":1,"code":[["finish",2],["jump",3],["endfinish",0],["ret"]]}]}"#,
+            answer: Answer::Refused(Rule::Block),
+        },
+        Row {
+            text: r#"{"version":1,"shared":[],"units":[{"kind":"main","params":"","slots":1,"code":[["make",0],["drop",0],["finish",5],["make",0],["drop",0],["endfinish",2],["ret"]]}]}"#,
+            answer: Answer::Refused(Rule::Home),
+        },
+        Row {
+            text: r#"{"version":1,"shared":[],"units":[{"kind":"main","params":"","slots":1,"code":[["make",0],["finish",3],["spawn",1,[0]],["endfinish",1],["advance"],["ret"]]},{"kind":"body","params":"c","slots":1,"code":[["advance"],["ret"]]}]}"#,
+            answer: Answer::Refused(Rule::Registers),
+        },
+        Row {
+            text: r#"{"version":1,"shared":[],"units":[{"kind":"main","params":"","slots":1,"code":[["finish",3],["make",0],["spawn",1,[0]],["endfinish",0],["ret"]]},{"kind":"body","params":"c","slots":1,"code":[["advance"],["ret"]]}]}"#,
+            answer: Answer::Refused(Rule::Held),
         },
     ]
 }

@@ -2,7 +2,7 @@
 
 use crate::order::{Dice, Order, schedule_in};
 use crate::plain::Plain;
-use crate::programs::{accepted, all};
+use crate::programs::{accepted, with_finishes, without_finishes};
 use std::alloc::Global;
 use std::test::Fail;
 use xk_bounds::Verified;
@@ -213,12 +213,8 @@ fn tried(
     found
 }
 
-fn tried_by_plan(
-    rt: &impl Eprint,
-    alloc: Global,
-    name: &str,
-    verified: &Verified,
-) -> Result<(), Fail> {
+fn tried_by_plan(rt: &impl Eprint, alloc: Global, name: &str, text: &str) -> Result<(), Fail> {
+    let verified = accepted(alloc, text)?;
     let mut dice = Dice::new(1);
     for order in [
         Order::First,
@@ -230,39 +226,49 @@ fn tried_by_plan(
         Order::Without(2),
         Order::Without(3),
     ] {
-        tried(rt, alloc, name, verified, order, &mut dice)?;
+        tried(rt, alloc, name, &verified, order, &mut dice)?;
     }
     Ok(())
 }
 
-fn tried_by_chance(
-    rt: &impl Eprint,
-    alloc: Global,
-    name: &str,
-    verified: &Verified,
-) -> Result<(), Fail> {
+fn tried_by_chance(rt: &impl Eprint, alloc: Global, name: &str, text: &str) -> Result<(), Fail> {
+    let verified = accepted(alloc, text)?;
     let mut dice = Dice::new(2);
     for seed in 0..RANDOM {
         let order = Order::Random(Dice::new(seed));
-        tried(rt, alloc, name, verified, order, &mut dice)?;
+        tried(rt, alloc, name, &verified, order, &mut dice)?;
     }
     Ok(())
 }
 
 #[test]
 fn planned_orders_agree(rt: HostRuntime) -> Result<(), Fail> {
-    for (name, text) in all() {
-        let verified = accepted(rt.alloc(), text)?;
-        tried_by_plan(&rt, rt.alloc(), name, &verified)?;
+    for (name, text) in without_finishes() {
+        tried_by_plan(&rt, rt.alloc(), name, text)?;
+    }
+    Ok(())
+}
+
+#[test]
+fn planned_orders_of_finishes_agree(rt: HostRuntime) -> Result<(), Fail> {
+    for (name, text) in with_finishes() {
+        tried_by_plan(&rt, rt.alloc(), name, text)?;
     }
     Ok(())
 }
 
 #[test]
 fn random_orders_agree(rt: HostRuntime) -> Result<(), Fail> {
-    for (name, text) in all() {
-        let verified = accepted(rt.alloc(), text)?;
-        tried_by_chance(&rt, rt.alloc(), name, &verified)?;
+    for (name, text) in without_finishes() {
+        tried_by_chance(&rt, rt.alloc(), name, text)?;
+    }
+    Ok(())
+}
+
+#[test]
+fn random_orders_of_finishes_agree(rt: HostRuntime) -> Result<(), Fail> {
+    for (name, text) in with_finishes() {
+        tried_by_chance(&rt, rt.alloc(), name, text)?;
     }
     Ok(())
 }

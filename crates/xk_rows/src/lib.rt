@@ -5,6 +5,8 @@
 #[cfg(test)]
 mod agreement;
 #[cfg(test)]
+mod every;
+#[cfg(test)]
 mod order;
 #[cfg(test)]
 mod plain;

@@ -48,7 +48,10 @@ impl Order {
             Order::First => able.first().copied(),
             Order::Last => able.last().copied(),
             Order::Round(before) => {
-                let next = first_above(able, *before)?;
+                let next = match first_above(able, *before) {
+                    Some(next) => next,
+                    None => *able.first()?,
+                };
                 *before = next;
                 Some(next)
             }
@@ -64,13 +67,14 @@ impl Order {
     }
 }
 
-fn first_above(able: &[u32], before: u32) -> Option<u32> {
+/// The least of these numbers, which rise, that is greater than this one.
+pub fn first_above(able: &[u32], before: u32) -> Option<u32> {
     for a in able {
         if *a > before {
             return Some(*a);
         }
     }
-    able.first().copied()
+    None
 }
 
 fn first_but(able: &[u32], shunned: u32) -> Option<u32> {

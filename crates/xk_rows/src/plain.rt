@@ -1,5 +1,5 @@
-//! What a step does, told a second time, as X10's chapter on clocks tells it: a clock knows who is registered on it and has
-//! not resumed it, who has resumed it, and who may go on since it has advanced.
+//! What a step does, told a second time, as X10's chapters on activities and clocks tell it: a clock knows who is registered on
+//! it and has not resumed it, who has resumed it, and who may go on since it has advanced; a finish knows who is in it.
 
 use std::alloc::Global;
 use std::cmp::Ordering;
@@ -23,12 +23,21 @@ struct Barrier {
     last: u64,
 }
 
-/// A unit that is under way: the place of its next instruction, its slots.
+/// A finish: where its unit began it, and who is in it. These are the activity that began it, until it is closed, and all that
+/// were started by somebody in it, as long as they aren't over.
+#[derive(Drop)]
+struct Gathering {
+    begun: usize,
+    inside: BTreeSet<u32>,
+}
+
+/// A unit that is under way: the place of its next instruction, its slots, and the finishes that it has begun and not closed.
 #[derive(Drop)]
 struct Frame {
     unit: usize,
     place: usize,
     slots: Vec<Value>,
+    finishes: Vec<usize>,
 }
 
 /// An activity: the units that it has under way, each but the last at the call of the next.
@@ -39,12 +48,13 @@ struct Actor {
     since: u64,
 }
 
-/// All activities and clocks of a running module.
+/// All activities, clocks and finishes of a running module.
 #[derive(Drop)]
 pub struct Plain<'m> {
     program: &'m Module,
     actors: Vec<Actor>,
     barriers: Vec<Barrier>,
+    gatherings: Vec<Gathering>,
     steps: u64,
 }
 
@@ -110,9 +120,34 @@ impl Barrier {
     }
 }
 
+impl Gathering {
+    /// A finish that this activity has begun.
+    fn begun_by(alloc: Global, a: u32, place: usize) -> Result<Gathering, Fail> {
+        let mut inside = BTreeSet::new(alloc);
+        inside.insert(a)?;
+        Ok(Gathering {
+            begun: place,
+            inside,
+        })
+    }
+
+    /// Who is started in the finish is in it too.
+    fn join(&mut self, starter: u32, child: u32) -> Result<(), Fail> {
+        if self.inside.contains(&starter) {
+            self.inside.insert(child)?;
+        }
+        Ok(())
+    }
+
+    /// Somebody else is in it than the one that began it.
+    fn has_others(&self) -> bool {
+        self.inside.len() > 1
+    }
+}
+
 impl Frame {
     /// A unit before its first instruction: its first slots hold these values.
-    fn new(unit: usize, form: &Unit, given: Vec<Value>) -> Result<Frame, Fail> {
+    fn new(alloc: Global, unit: usize, form: &Unit, given: Vec<Value>) -> Result<Frame, Fail> {
         let mut slots = given;
         for _ in slots.len()..form.slots as usize {
             slots.push(Value::Unset)?;
@@ -121,6 +156,7 @@ impl Frame {
             unit,
             place: 0,
             slots,
+            finishes: Vec::new(alloc),
         })
     }
 
@@ -220,13 +256,14 @@ impl<'m> Plain<'m> {
         let Some(form) = program.units().first() else {
             return Err("there is no main".into());
         };
-        let main = Frame::new(0, form, Vec::new(alloc))?;
+        let main = Frame::new(alloc, 0, form, Vec::new(alloc))?;
         let mut actors = Vec::new(alloc);
         actors.push(Actor::new(alloc, main, 0)?)?;
         Ok(Plain {
             program,
             actors,
             barriers: Vec::new(alloc),
+            gatherings: Vec::new(alloc),
             steps: 0,
         })
     }
@@ -257,15 +294,37 @@ impl<'m> Plain<'m> {
         self.actors.iter().all(|a| a.status == Status::Ended)
     }
 
-    /// Whether the activity can step: it is there, isn't over, and waits for no clock.
+    /// Whether the activity can step: it is there, isn't over, and waits for no clock and no finish.
     pub fn can_step(&self, a: u32) -> bool {
         match self.actors.get(a as usize) {
             None => false,
             Some(actor) => match actor.status {
-                Status::Running => true,
+                Status::Running => !self.has_company(actor),
                 Status::Arrived => !self.waits(a),
                 Status::Ended => false,
             },
+        }
+    }
+
+    /// The activity stands at the end of a finish, in which there are others.
+    fn has_company(&self, actor: &Actor) -> bool {
+        match actor.frames.last() {
+            Some(frame) if self.is_at_end(frame) => match frame.finishes.last() {
+                Some(f) => self.gatherings.get(*f).is_some_and(|g| g.has_others()),
+                None => false,
+            },
+            _ => false,
+        }
+    }
+
+    /// The next instruction closes a finish.
+    fn is_at_end(&self, frame: &Frame) -> bool {
+        let Some(form) = self.program.units().get(frame.unit) else {
+            return false;
+        };
+        match form.code.get(frame.place) {
+            Some(Instr::EndFinish(_)) => true,
+            _ => false,
         }
     }
 
@@ -404,13 +463,16 @@ impl<'m> Plain<'m> {
         for (slot, kind) in args.slots().iter().zip(form.params.iter()) {
             given.push(self.value(a, *slot, *kind)?)?;
         }
-        let method = Frame::new(unit, form, given)?;
+        let method = Frame::new(alloc, unit, form, given)?;
         self.actor_mut(a)?.frames.push(method)?;
         Ok(Event::Local)
     }
 
     /// Ends what is under way: behind its call if it was called, else the activity is over.
     fn leave(&mut self, a: u32) -> Result<Event, Fail> {
+        if !self.frame(a)?.finishes.is_empty() {
+            return Err("a unit is over, and a finish of it isn't".into());
+        }
         self.actor_mut(a)?.frames.pop();
         if self.actor(a)?.frames.is_empty() {
             return self.end(a);
@@ -423,8 +485,16 @@ impl<'m> Plain<'m> {
         for barrier in &mut self.barriers {
             barrier.leave(a);
         }
+        self.go_out(a);
         self.actor_mut(a)?.status = Status::Ended;
         Ok(Event::Ended)
+    }
+
+    /// Who is over is in no finish any more.
+    fn go_out(&mut self, a: u32) {
+        for gathering in &mut self.gatherings {
+            gathering.inside.remove(&a);
+        }
     }
 
     /// An instruction after which the activity goes on to the next.
@@ -452,6 +522,8 @@ impl<'m> Plain<'m> {
                 self.barrier_mut(clock)?.leave(a);
                 Ok(Event::Dropped)
             }
+            Instr::Finish(_) => self.open(alloc, a),
+            Instr::EndFinish(b) => self.close(a, *b as usize),
             Instr::Spawn(t, args) => self.spawn(alloc, a, *t as usize, args),
             Instr::Unless(_, _, _, _)
             | Instr::Jump(_)
@@ -469,6 +541,29 @@ impl<'m> Plain<'m> {
         Ok(Event::Made)
     }
 
+    fn open(&mut self, alloc: Global, a: u32) -> Result<Event, Fail> {
+        let place = self.frame(a)?.place;
+        let number = self.gatherings.len();
+        self.gatherings.push(Gathering::begun_by(alloc, a, place)?)?;
+        self.frame_mut(a)?.finishes.push(number)?;
+        Ok(Event::Opened)
+    }
+
+    /// Closes the finish that the unit began last, which it has to have begun at this place.
+    fn close(&mut self, a: u32, begun: usize) -> Result<Event, Fail> {
+        let Some(number) = self.frame_mut(a)?.finishes.pop() else {
+            return Err("a finish is closed that wasn't begun".into());
+        };
+        let Some(gathering) = self.gatherings.get_mut(number) else {
+            return Err("a finish is missing".into());
+        };
+        if gathering.begun != begun || gathering.has_others() {
+            return Err("a finish is closed in the wrong place, or too early".into());
+        }
+        gathering.inside.remove(&a);
+        Ok(Event::Closed)
+    }
+
     fn spawn(&mut self, alloc: Global, a: u32, unit: usize, args: &Args) -> Result<Event, Fail> {
         let form = unit_of(self.program, unit)?;
         let child = u32::try_from(self.actors.len())?;
@@ -477,9 +572,18 @@ impl<'m> Plain<'m> {
             given.push(self.give(a, child, *slot, *kind)?)?;
         }
         let since = self.actor(a)?.since;
-        let body = Frame::new(unit, form, given)?;
+        let body = Frame::new(alloc, unit, form, given)?;
         self.actors.push(Actor::new(alloc, body, since)?)?;
+        self.take_in(a, child)?;
         Ok(Event::Spawned)
+    }
+
+    /// The child is in each finish that its starter is in.
+    fn take_in(&mut self, starter: u32, child: u32) -> Result<(), Fail> {
+        for gathering in &mut self.gatherings {
+            gathering.join(starter, child)?;
+        }
+        Ok(())
     }
 
     /// What the child is given for a parameter; a clock takes the child in.

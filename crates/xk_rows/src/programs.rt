@@ -78,8 +78,56 @@ pub const LENT_ON: &str =
 pub const LENT_CROSSED: &str =
     r#"{"version":1,"shared":[],"units":[{"kind":"main","params":"","slots":2,"code":[["make",0],["make",1],["spawn",1,[0,1]],["call",2,[0,1]],["call",2,[1,0]],["drop",0],["advance"],["ret"]]},{"kind":"body","params":"cc","slots":2,"code":[["call",2,[1,0]],["drop",1],["call",3,[0]],["advance"],["ret"]]},{"kind":"method","params":"cc","slots":2,"code":[["resume",0],["advance"],["resume",1],["ret"]]},{"kind":"method","params":"c","slots":1,"code":[["advance"],["resume",0],["ret"]]}]}"#;
 
-/// All of them, with their names.
-pub fn all() -> [(&'static str, &'static str); 18] {
+/// Main waits for the activity that it starts, and for the one that this one starts.
+pub const FINISHED: &str =
+    r#"{"version":1,"shared":[],"units":[{"kind":"main","params":"","slots":1,"code":[["finish",2],["spawn",1,[]],["endfinish",0],["lit",0,2],["print",0],["ret"]]},{"kind":"body","params":"","slots":0,"code":[["spawn",2,[]],["ret"]]},{"kind":"body","params":"","slots":1,"code":[["lit",0,1],["print",0],["ret"]]}]}"#;
+
+/// A clock is made in a finish, handed on, and dropped before the finish ends.
+pub const CLOCK_INSIDE: &str =
+    r#"{"version":1,"shared":[],"units":[{"kind":"main","params":"","slots":1,"code":[["finish",4],["make",0],["spawn",1,[0]],["drop",0],["endfinish",0],["ret"]]},{"kind":"body","params":"c","slots":1,"code":[["advance"],["ret"]]}]}"#;
+
+/// The same with two activities, started while the clock may already have been resumed.
+pub const PAIR_INSIDE: &str =
+    r#"{"version":1,"shared":[],"units":[{"kind":"main","params":"","slots":1,"code":[["finish",5],["make",0],["spawn",1,[0]],["spawn",1,[0]],["drop",0],["endfinish",0],["ret"]]},{"kind":"body","params":"c","slots":1,"code":[["advance"],["ret"]]}]}"#;
+
+/// A finish in a finish: the inner one waits for the second activity alone.
+pub const FINISHES_NESTED: &str =
+    r#"{"version":1,"shared":[],"units":[{"kind":"main","params":"","slots":1,"code":[["finish",7],["spawn",1,[]],["finish",4],["spawn",2,[]],["endfinish",2],["lit",0,3],["print",0],["endfinish",0],["lit",0,4],["print",0],["ret"]]},{"kind":"body","params":"","slots":1,"code":[["lit",0,1],["print",0],["ret"]]},{"kind":"body","params":"","slots":1,"code":[["lit",0,2],["print",0],["ret"]]}]}"#;
+
+/// An activity that was started before the inner finish starts another one, for which the inner finish doesn't wait.
+pub const STARTED_OUTSIDE: &str =
+    r#"{"version":1,"shared":[],"units":[{"kind":"main","params":"","slots":1,"code":[["finish",7],["spawn",1,[]],["finish",4],["spawn",2,[]],["endfinish",2],["lit",0,2],["print",0],["endfinish",0],["lit",0,3],["print",0],["ret"]]},{"kind":"body","params":"","slots":0,"code":[["spawn",2,[]],["ret"]]},{"kind":"body","params":"","slots":1,"code":[["lit",0,1],["print",0],["ret"]]}]}"#;
+
+/// An activity in the finish of main has a finish of its own, and starts another activity behind it.
+pub const CHILDS_FINISH: &str =
+    r#"{"version":1,"shared":[],"units":[{"kind":"main","params":"","slots":1,"code":[["finish",2],["spawn",1,[]],["endfinish",0],["lit",0,4],["print",0],["ret"]]},{"kind":"body","params":"","slots":1,"code":[["finish",2],["spawn",2,[]],["endfinish",0],["lit",0,2],["print",0],["spawn",3,[]],["ret"]]},{"kind":"body","params":"","slots":1,"code":[["lit",0,1],["print",0],["ret"]]},{"kind":"body","params":"","slots":1,"code":[["lit",0,3],["print",0],["ret"]]}]}"#;
+
+/// Main closes a finish, while an activity waits for it on a clock that it made before.
+pub const OUTER_CLOCK: &str =
+    r#"{"version":1,"shared":[],"units":[{"kind":"main","params":"","slots":2,"code":[["make",0],["spawn",1,[0]],["finish",4],["spawn",2,[]],["endfinish",2],["advance"],["lit",1,3],["print",1],["ret"]]},{"kind":"body","params":"c","slots":2,"code":[["lit",1,2],["advance"],["print",1],["ret"]]},{"kind":"body","params":"","slots":1,"code":[["lit",0,1],["print",0],["ret"]]}]}"#;
+
+/// Main waits in a finish for two clocks, one from outside it; an activity on that one has a finish too, and resumes in it.
+pub const WAITS_INSIDE: &str =
+    r#"{"version":1,"shared":[],"units":[{"kind":"main","params":"","slots":3,"code":[["make",0],["spawn",1,[0]],["finish",8],["make",1],["spawn",2,[1]],["advance"],["drop",1],["resume",0],["endfinish",2],["advance"],["lit",2,9],["print",2],["ret"]]},{"kind":"body","params":"c","slots":2,"code":[["advance"],["finish",4],["spawn",3,[]],["resume",0],["endfinish",1],["advance"],["ret"]]},{"kind":"body","params":"c","slots":2,"code":[["advance"],["lit",1,7],["print",1],["advance"],["ret"]]},{"kind":"body","params":"","slots":1,"code":[["lit",0,8],["print",0],["ret"]]}]}"#;
+
+/// A method that is called in a loop makes a clock in a finish, and starts activities on it, live and resumed.
+pub const METHODS_FINISH: &str =
+    r#"{"version":1,"shared":[],"units":[{"kind":"main","params":"","slots":2,"code":[["make",0],["for",1,1,2,3],["call",1,[0,1]],["next",1],["ret"]]},{"kind":"method","params":"cn","slots":3,"code":[["finish",7],["make",2],["spawn",2,[2,1]],["resume",2],["spawn",2,[2,1]],["advance"],["drop",2],["endfinish",0],["resume",0],["ret"]]},{"kind":"body","params":"cn","slots":2,"code":[["advance"],["print",1],["ret"]]}]}"#;
+
+/// Rounds of a loop, each of which closes a finish; in it a loop starts activities on the clock of the round.
+pub const ROUNDS: &str =
+    r#"{"version":1,"shared":[],"units":[{"kind":"main","params":"","slots":3,"code":[["for",0,1,2,9],["finish",7],["make",2],["for",1,1,2,5],["spawn",1,[2,0]],["next",3],["drop",2],["endfinish",1],["print",0],["next",0],["ret"]]},{"kind":"body","params":"cn","slots":3,"code":[["resume",0],["sub",2,1,1],["advance"],["sub",2,2,1],["print",2],["ret"]]}]}"#;
+
+/// Branches in a finish go to its end; what each turn starts is over before the next.
+pub const EARLY_END: &str =
+    r#"{"version":1,"shared":[],"units":[{"kind":"main","params":"","slots":2,"code":[["for",0,1,3,8],["finish",7],["lit",1,2],["unless","ne",0,1,7],["spawn",1,[0]],["unless","gt",0,1,7],["spawn",1,[1]],["endfinish",1],["next",0],["print",0],["ret"]]},{"kind":"body","params":"n","slots":1,"code":[["print",0],["ret"]]}]}"#;
+
+/// Methods that are called in a finish start activities in it, one of them in a finish of its own.
+pub const CALLED_INSIDE: &str =
+    r#"{"version":1,"shared":[],"units":[{"kind":"main","params":"","slots":1,"code":[["finish",3],["lit",0,1],["call",1,[0]],["endfinish",0],["lit",0,5],["print",0],["ret"]]},{"kind":"method","params":"n","slots":2,"code":[["spawn",3,[0]],["finish",3],["call",2,[0]],["endfinish",1],["lit",1,4],["print",1],["ret"]]},{"kind":"method","params":"n","slots":2,"code":[["add",1,0,0],["spawn",3,[1]],["add",1,1,0],["spawn",3,[1]],["ret"]]},{"kind":"body","params":"n","slots":1,"code":[["print",0],["ret"]]}]}"#;
+
+/// Those without finishes, with their names.
+pub fn without_finishes() -> [(&'static str, &'static str); 18] {
     [
         ("in step", IN_STEP),
         ("starts ahead", STARTS_AHEAD),
@@ -101,6 +149,37 @@ pub fn all() -> [(&'static str, &'static str); 18] {
         ("lent crossed", LENT_CROSSED),
     ]
 }
+
+/// Those with finishes.
+pub fn with_finishes() -> [(&'static str, &'static str); 12] {
+    [
+        ("waits for all", FINISHED),
+        ("clock inside", CLOCK_INSIDE),
+        ("pair inside", PAIR_INSIDE),
+        ("nested finishes", FINISHES_NESTED),
+        ("started outside", STARTED_OUTSIDE),
+        ("child's finish", CHILDS_FINISH),
+        ("outer clock", OUTER_CLOCK),
+        ("waits inside", WAITS_INSIDE),
+        ("method's finish", METHODS_FINISH),
+        ("rounds", ROUNDS),
+        ("early end", EARLY_END),
+        ("called inside", CALLED_INSIDE),
+    ]
+}
+
+/// Main hands a clock from outside into a finish: the activity waits for main on it, and main for the activity. It breaks the rule on
+/// clocks that are handed on.
+pub const CLOCK_HANDED_IN: &str =
+    r#"{"version":1,"shared":[],"units":[{"kind":"main","params":"","slots":1,"code":[["make",0],["finish",3],["spawn",1,[0]],["endfinish",1],["advance"],["ret"]]},{"kind":"body","params":"c","slots":1,"code":[["advance"],["ret"]]}]}"#;
+
+/// Main is still registered on a clock at the end of the finish in which it made it. It breaks the rule on clocks that are held.
+pub const CLOCK_HELD: &str =
+    r#"{"version":1,"shared":[],"units":[{"kind":"main","params":"","slots":1,"code":[["finish",3],["make",0],["spawn",1,[0]],["endfinish",0],["ret"]]},{"kind":"body","params":"c","slots":1,"code":[["advance"],["ret"]]}]}"#;
+
+/// Main hands a clock that it made in a finish into an inner one. It breaks the rule on clocks that are handed on.
+pub const CLOCK_HANDED_DEEPER: &str =
+    r#"{"version":1,"shared":[],"units":[{"kind":"main","params":"","slots":1,"code":[["finish",5],["make",0],["finish",4],["spawn",1,[0]],["endfinish",2],["endfinish",0],["ret"]]},{"kind":"body","params":"c","slots":1,"code":[["advance"],["ret"]]}]}"#;
 
 /// The module that a text names, verified.
 pub fn accepted(alloc: Global, text: &str) -> Result<Verified, Fail> {

@@ -2,8 +2,8 @@
 
 use crate::order::{Order, schedule_in};
 use crate::programs::{
-    IN_STEP, LEFT_ALONE, METHOD_WAITS, NESTED_CALLS, RING, STARTS_AHEAD, STARTS_SIGNALLED,
-    TWO_PHASES, accepted,
+    CLOCK_INSIDE, FINISHED, IN_STEP, LEFT_ALONE, METHOD_WAITS, NESTED_CALLS, RING, STARTS_AHEAD,
+    STARTS_SIGNALLED, TWO_PHASES, accepted,
 };
 use std::alloc::Global;
 use std::process::Abort;
@@ -239,17 +239,22 @@ fn a_method_waits(rt: HostRuntime) -> Result<(), Fail> {
     )
 }
 
-/// The numbers that a module prints under a schedule that it has to follow through.
-fn printed(alloc: Global, text: &str, schedule: &[u32]) -> Result<Vec<i64>, Fail> {
-    let verified = accepted(alloc, text)?;
-    let ran = ran(alloc, &verified, schedule)?;
+/// The numbers that are printed by what is seen.
+pub fn numbers(alloc: Global, seen: &[Event]) -> Result<Vec<i64>, Fail> {
     let mut numbers = Vec::new(alloc);
-    for event in &ran.seen {
+    for event in seen {
         if let Event::Printed(n) = event {
             numbers.push(*n)?;
         }
     }
     Ok(numbers)
+}
+
+/// The numbers that a module prints under a schedule that it has to follow through.
+fn printed(alloc: Global, text: &str, schedule: &[u32]) -> Result<Vec<i64>, Fail> {
+    let verified = accepted(alloc, text)?;
+    let ran = ran(alloc, &verified, schedule)?;
+    numbers(alloc, &ran.seen)
 }
 
 /// Two activities are in the same methods at the same time, each with frames of its own.
@@ -263,4 +268,65 @@ fn calls_are_nested(rt: HostRuntime) -> Result<(), Fail> {
     let numbers = printed(alloc, NESTED_CALLS, &schedule)?;
     assert_eq!(rt; numbers.as_slice(), [8, 4, 8, 4, 2, 8, 4, 2].as_slice());
     Ok(())
+}
+
+/// Main waits at the end of its finish for the child, and, once that has ended, for the child of the child.
+#[test]
+fn a_finish_waits(rt: HostRuntime) -> Result<(), Fail> {
+    let alloc = rt.alloc();
+    let verified = accepted(alloc, FINISHED)?;
+    let (at, core) = halted(alloc, &verified, &[0, 0, 0])?;
+    assert_eq!(rt; (at, core.steps_done(), core.activities()), (2, 2, 2));
+    assert!(rt; !core.enabled(Act(0)) && core.enabled(Act(1)));
+    let (at, core) = halted(alloc, &verified, &[0, 0, 1, 1, 0])?;
+    assert_eq!(rt; (at, core.steps_done(), core.activities()), (4, 4, 3));
+    assert!(rt; !core.enabled(Act(0)) && !core.enabled(Act(1)) && core.enabled(Act(2)));
+    let schedule = [0, 0, 1, 1, 2, 2, 2, 0, 0, 0, 0];
+    let ran = ran(alloc, &verified, &schedule)?;
+    let wanted = [
+        Event::Opened,
+        Event::Spawned,
+        Event::Spawned,
+        Event::Ended,
+        Event::Printed(1),
+        Event::Ended,
+        Event::Closed,
+        Event::Printed(2),
+        Event::Ended,
+    ];
+    assert_eq!(rt; ran.seen.as_slice(), wanted.as_slice());
+    ends(
+        &rt,
+        alloc,
+        FINISHED,
+        Order::First,
+        &schedule,
+        &[],
+        &[0, 0, 0],
+    )
+}
+
+/// The clock of a finish advances once main has dropped it and the child has arrived, in either order.
+#[test]
+fn a_clock_is_dropped_in_its_finish(rt: HostRuntime) -> Result<(), Fail> {
+    let first = [0, 0, 0, 0, 1, 1, 1, 0, 0];
+    ends(
+        &rt,
+        rt.alloc(),
+        CLOCK_INSIDE,
+        Order::First,
+        &first,
+        &[(1, 5)],
+        &[0, 6],
+    )?;
+    let last = [0, 0, 0, 1, 0, 1, 1, 0, 0];
+    ends(
+        &rt,
+        rt.alloc(),
+        CLOCK_INSIDE,
+        Order::Last,
+        &last,
+        &[(1, 5)],
+        &[0, 6],
+    )
 }

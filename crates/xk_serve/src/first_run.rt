@@ -38,6 +38,8 @@ fn keep(printed: &mut Vec<i64>, event: Event) -> Result<(), AllocError>
         }
         Event::Local
         | Event::Made
+        | Event::Opened
+        | Event::Closed
         | Event::Spawned
         | Event::Resumed
         | Event::Dropped

@@ -555,6 +555,105 @@ fn a_method_has_clocks_of_its_own(rt: HostRuntime) -> Result<(), AllocError> {
     )
 }
 
+/// A finish waits for the activity that is started in it, and for the one that this one starts.
+#[test]
+fn a_finish_waits(rt: HostRuntime) -> Result<(), AllocError> {
+    answers(
+        &rt,
+        rt.alloc(),
+        1,
+        r#"["finish",2],["spawn",1,[]],["endfinish",0],["lit",0,2],["print",0],["ret"]"#,
+        &[
+            Unit {
+                kind: "body",
+                params: "",
+                slots: 0,
+                code: r#"["spawn",2,[]],["ret"]"#,
+            },
+            Unit {
+                kind: "body",
+                params: "",
+                slots: 1,
+                code: r#"["lit",0,1],["print",0],["ret"]"#,
+            },
+        ],
+        "accepted steps 11 activities 3 clocks 0\n",
+        "1\n2\nended steps 11\n",
+    )
+}
+
+/// A clock that is made in a finish, handed on, and dropped before the end.
+#[test]
+fn a_finish_has_a_clock(rt: HostRuntime) -> Result<(), AllocError> {
+    answers(
+        &rt,
+        rt.alloc(),
+        1,
+        r#"["finish",4],["make",0],["spawn",1,[0]],["drop",0],["endfinish",0],["ret"]"#,
+        &[ON_ONE],
+        "accepted steps 9 activities 2 clocks 1\n",
+        "ended steps 9\n",
+    )
+}
+
+/// A finish in each turn of a loop; a finish in a finish; a method with a finish, a clock made in it, and a lent one.
+#[test]
+fn finishes_stand_anywhere(rt: HostRuntime) -> Result<(), AllocError> {
+    answers(
+        &rt,
+        rt.alloc(),
+        2,
+        r#"["for",0,1,2,5],["finish",3],["spawn",1,[0]],["endfinish",1],["print",0],["next",0],["ret"]"#,
+        &[PRINTS],
+        "accepted steps 16 activities 3 clocks 0\n",
+        "1\n1\n2\n2\nended steps 16\n",
+    )?;
+    answers(
+        &rt,
+        rt.alloc(),
+        1,
+        r#"["finish",7],["spawn",1,[]],["finish",4],["spawn",2,[]],["endfinish",2],["lit",0,3],["print",0],["endfinish",0],["lit",0,4],["print",0],["ret"]"#,
+        &[
+            Unit {
+                kind: "body",
+                params: "",
+                slots: 1,
+                code: r#"["lit",0,1],["print",0],["ret"]"#,
+            },
+            Unit {
+                kind: "body",
+                params: "",
+                slots: 1,
+                code: r#"["lit",0,2],["print",0],["ret"]"#,
+            },
+        ],
+        "accepted steps 17 activities 3 clocks 0\n",
+        "1\n2\n3\n4\nended steps 17\n",
+    )?;
+    answers(
+        &rt,
+        rt.alloc(),
+        1,
+        r#"["make",0],["call",1,[0]],["call",1,[0]],["advance"],["ret"]"#,
+        &[
+            Unit {
+                kind: "method",
+                params: "c",
+                slots: 3,
+                code: r#"["finish",5],["make",1],["spawn",2,[1]],["advance"],["drop",1],["endfinish",0],["lit",2,3],["print",2],["ret"]"#,
+            },
+            Unit {
+                kind: "body",
+                params: "c",
+                slots: 2,
+                code: r#"["lit",1,1],["advance"],["print",1],["ret"]"#,
+            },
+        ],
+        "accepted steps 36 activities 3 clocks 3\n",
+        "1\n3\n1\n3\nended steps 36\n",
+    )
+}
+
 /// Main and `methods` methods, at least one, all of 64 slots: each but the last calls the next one.
 fn calls_in_a_chain(alloc: Global, methods: u32) -> Result<String, AllocError> {
     let mut units = String::new(alloc);
@@ -752,7 +851,7 @@ fn rows_are_refused(rt: HostRuntime) -> Result<(), AllocError> {
             "[\"lit\",1,1],[\"ret\"]",
             "x10clock: V3 Slot unit 0 at 0\n",
         ),
-        (1, "[\"finish\",1],[\"ret\"]", "x10clock: M2 NotAModule\n"),
+        (1, "[\"get\",0,0],[\"ret\"]", "x10clock: M2 NotAModule\n"),
         (65, "[\"ret\"]", "x10clock: M3 Limit\n"),
         (1, "[\"ret\"", "x10clock: M1 NotJson\n"),
     ] {
@@ -1071,6 +1170,147 @@ fn methods_are_refused(rt: HostRuntime) -> Result<(), AllocError> {
         keeps,
         "x10clock: V13 Leak unit 1 at 1 slot 0 live walk 0 1\n",
     )
+}
+
+/// Places that a `finish` or an `endfinish` can't name; half finishes, jumps over the edge of one, finishes and loops that overlap
+/// or name one another.
+#[test]
+fn finishes_are_refused(rt: HostRuntime) -> Result<(), AllocError> {
+    for (code, line) in [
+        (
+            r#"["finish",0],["ret"]"#,
+            "x10clock: V1 Target unit 0 at 0\n",
+        ),
+        (
+            r#"["lit",0,1],["endfinish",2],["ret"]"#,
+            "x10clock: V1 Target unit 0 at 1\n",
+        ),
+        (
+            r#"["finish",1],["ret"]"#,
+            "x10clock: V2 Block unit 0 at 0\n",
+        ),
+        (
+            r#"["finish",2],["jump",3],["endfinish",0],["ret"]"#,
+            "x10clock: V2 Block unit 0 at 1\n",
+        ),
+        (
+            r#"["jump",2],["finish",2],["endfinish",1],["ret"]"#,
+            "x10clock: V2 Block unit 0 at 0\n",
+        ),
+        (
+            r#"["lit",0,1],["endfinish",0],["ret"]"#,
+            "x10clock: V2 Block unit 0 at 1\n",
+        ),
+        (
+            r#"["finish",2],["for",0,1,2,3],["endfinish",0],["next",1],["ret"]"#,
+            "x10clock: V2 Block unit 0 at 0\n",
+        ),
+        (
+            r#"["for",0,1,2,2],["finish",3],["next",0],["endfinish",1],["ret"]"#,
+            "x10clock: V2 Block unit 0 at 0\n",
+        ),
+        (
+            r#"["finish",2],["lit",0,1],["next",0],["ret"]"#,
+            "x10clock: V2 Block unit 0 at 0\n",
+        ),
+        (
+            r#"["for",0,1,2,1],["endfinish",0],["ret"]"#,
+            "x10clock: V2 Block unit 0 at 0\n",
+        ),
+    ] {
+        let text = module_text(rt.alloc(), 2, code)?;
+        refuses(&rt, rt.alloc(), text.as_str(), line)?;
+    }
+    Ok(())
+}
+
+/// What may not become of clocks where there are finishes.
+#[test]
+fn clocks_of_finishes_are_refused(rt: HostRuntime) -> Result<(), AllocError> {
+    for (code, other, line) in [
+        // A clock from outside is handed in, or lent.
+        (
+            r#"["make",0],["finish",3],["spawn",1,[0]],["endfinish",1],["advance"],["ret"]"#,
+            ON_ONE,
+            "x10clock: V9 Registers unit 0 at 2\n",
+        ),
+        (
+            r#"["make",0],["finish",3],["call",1,[0]],["endfinish",1],["ret"]"#,
+            WAITS,
+            "x10clock: V9 Registers unit 0 at 2\n",
+        ),
+        // One from an outer finish into an inner one; one from inside is handed on behind.
+        (
+            r#"["finish",5],["make",0],["finish",4],["spawn",1,[0]],["endfinish",2],["endfinish",0],["ret"]"#,
+            ON_ONE,
+            "x10clock: V9 Registers unit 0 at 3\n",
+        ),
+        (
+            r#"["finish",3],["make",0],["drop",0],["endfinish",0],["spawn",1,[0]],["ret"]"#,
+            ON_ONE,
+            "x10clock: V9 Registers unit 0 at 4\n",
+        ),
+        // It is still held at the end: live, resumed, or on one of two ways.
+        (
+            r#"["finish",3],["make",0],["spawn",1,[0]],["endfinish",0],["ret"]"#,
+            ON_ONE,
+            "x10clock: V12 Held unit 0 at 3 slot 0 live walk 0 1 2 3\n",
+        ),
+        (
+            r#"["finish",3],["make",0],["resume",0],["endfinish",0],["ret"]"#,
+            ON_ONE,
+            "x10clock: V12 Held unit 0 at 3 slot 0 resumed walk 0 1 2 3\n",
+        ),
+        (
+            r#"["lit",1,0],["finish",5],["make",0],["unless","eq",1,1,5],["drop",0],["endfinish",1],["ret"]"#,
+            ON_ONE,
+            "x10clock: V12 Held unit 0 at 5 slot 0 live walk 0 1 2 3 5\n",
+        ),
+        // One slot is made inside and outside, and in two finishes.
+        (
+            r#"["make",0],["drop",0],["finish",5],["make",0],["drop",0],["endfinish",2],["ret"]"#,
+            ON_ONE,
+            "x10clock: V8 Home unit 0 at 3\n",
+        ),
+        (
+            r#"["finish",3],["make",0],["drop",0],["endfinish",0],["finish",7],["make",0],["drop",0],["endfinish",4],["ret"]"#,
+            ON_ONE,
+            "x10clock: V8 Home unit 0 at 5\n",
+        ),
+    ] {
+        refuses_main(&rt, rt.alloc(), code, other, line)?;
+    }
+    Ok(())
+}
+
+/// A clock that a body was given, or that a method was lent, is handed on in a finish.
+#[test]
+fn clocks_of_units_are_kept_out_of_finishes(rt: HostRuntime) -> Result<(), AllocError> {
+    for (main, kind, code, other) in [
+        (
+            r#"["make",0],["spawn",1,[0]],["ret"]"#,
+            "body",
+            r#"["finish",2],["spawn",2,[0]],["endfinish",0],["ret"]"#,
+            ON_ONE,
+        ),
+        (
+            r#"["make",0],["call",1,[0]],["ret"]"#,
+            "method",
+            r#"["finish",2],["call",2,[0]],["endfinish",0],["ret"]"#,
+            WAITS,
+        ),
+    ] {
+        let unit = Unit {
+            kind,
+            params: "c",
+            slots: 1,
+            code,
+        };
+        let text = program_text(rt.alloc(), 1, main, &[unit, other])?;
+        let line = "x10clock: V9 Registers unit 1 at 1\n";
+        refuses(&rt, rt.alloc(), text.as_str(), line)?;
+    }
+    Ok(())
 }
 
 #[test]

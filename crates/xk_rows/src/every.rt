@@ -1,0 +1,224 @@
+//! All schedules of small modules, one after the other.
+
+use crate::order::{Order, first_above, schedule_in};
+use crate::plain::Plain;
+use crate::programs::{
+    CHILDS_FINISH, CLOCK_HANDED_DEEPER, CLOCK_HANDED_IN, CLOCK_HELD, CLOCK_INSIDE, EARLY_END,
+    FINISHED, FINISHES_NESTED, IN_STEP, LEFT_ALONE, OUTER_CLOCK, PAIR_INSIDE, STARTED_OUTSIDE,
+    accepted,
+};
+use crate::rows::numbers;
+use std::alloc::Global;
+use std::process::Abort;
+use std::test::Fail;
+use xk_bounds::{Refusal, Verified, verify};
+use xk_core::{Core, Ran, run_schedule};
+use xk_module::read_module;
+use xk_types::{Act, Rule};
+
+/// More schedules than any of the modules has.
+const MOST: usize = 10_000;
+
+/// A schedule of a module to its end: for each step its activity, and those that were enabled.
+#[derive(Drop)]
+struct Path {
+    steps: Vec<u32>,
+    enabled: Vec<Vec<u32>>,
+}
+
+impl Path {
+    /// How the next schedule begins: alike up to the last step at which a greater number was enabled, and then with that.
+    fn next(self) -> Result<Option<Vec<u32>>, Fail> {
+        let Path {
+            mut steps,
+            mut enabled,
+        } = self;
+        for _ in 0..steps.len() {
+            let (Some(a), Some(able)) = (steps.pop(), enabled.pop()) else {
+                return Err("a path is broken".into());
+            };
+            if let Some(next) = first_above(&able, a) {
+                steps.push(next)?;
+                return Ok(Some(steps));
+            }
+        }
+        Ok(None)
+    }
+}
+
+/// Those that are enabled, in rising order.
+fn enabled(alloc: Global, core: &Core) -> Result<Vec<u32>, Fail> {
+    let mut list = Vec::new(alloc);
+    for a in 0..core.activities() {
+        if core.enabled(Act(a)) {
+            list.push(a)?;
+        }
+    }
+    Ok(list)
+}
+
+/// The core after one step.
+fn stepped<'m>(alloc: Global, core: Core<'m>, a: u32) -> Result<Core<'m>, Fail> {
+    match run_schedule(alloc, core, &[a]) {
+        Ok(Ran { core: next, .. }) => Ok(next),
+        Err(_) => Err("an enabled step is halted".into()),
+    }
+}
+
+/// The schedule that begins so, and then takes the least that is enabled, until nobody is. Then all have ended, and no more steps
+/// were taken than the verified number.
+fn followed(alloc: Global, verified: &Verified, begin: &[u32]) -> Result<Path, Fail> {
+    let mut path = Path {
+        steps: Vec::new(alloc),
+        enabled: Vec::new(alloc),
+    };
+    let mut core = Core::open(alloc, verified)?;
+    for at in 0..=verified.steps() {
+        let able = enabled(alloc, &core)?;
+        let Some(least) = able.first().copied() else {
+            return if core.ended() {
+                Ok(path)
+            } else {
+                Err("nobody is enabled before the end".into())
+            };
+        };
+        let a = begin.get(at as usize).copied().unwrap_or(least);
+        core = stepped(alloc, core, a)?;
+        path.steps.push(a)?;
+        path.enabled.push(able)?;
+    }
+    Err("a run is longer than its bound".into())
+}
+
+/// The numbers that the whole schedule prints, in one call.
+fn printed(alloc: Global, verified: &Verified, schedule: &[u32]) -> Result<Vec<i64>, Fail> {
+    match run_schedule(alloc, Core::open(alloc, verified)?, schedule) {
+        Ok(ran) if ran.core.ended() => numbers(alloc, &ran.seen),
+        _ => Err("a schedule doesn't lead to the end".into()),
+    }
+}
+
+fn has(lists: &[&[i64]], list: &[i64]) -> bool {
+    for one in lists {
+        if *one == list {
+            return true;
+        }
+    }
+    false
+}
+
+/// How many schedules the module has. Under each of them all end, and it prints one of these lists of numbers.
+fn count(alloc: Global, text: &str, lists: &[&[i64]]) -> Result<usize, Fail> {
+    let verified = accepted(alloc, text)?;
+    let mut begin = Vec::new(alloc);
+    for before in 0..MOST {
+        let path = followed(alloc, &verified, &begin)?;
+        let numbers = printed(alloc, &verified, &path.steps)?;
+        if !has(lists, &numbers) {
+            return Err("other numbers are printed".into());
+        }
+        match path.next()? {
+            Some(next) => begin = next,
+            None => return Ok(before + 1),
+        }
+    }
+    Err("a module has more schedules".into())
+}
+
+#[test]
+fn every_schedule_ends(rt: HostRuntime) -> Result<(), Fail> {
+    let alloc = rt.alloc();
+    // Either of the two arrives first, and then each has four steps.
+    let found = count(alloc, IN_STEP, &[&[1, 2], &[2, 1]])?;
+    assert_eq!(rt; found, 2 * 70);
+    // Main drops, and the child arrives or not, and then main's last step comes somewhere.
+    let found = count(alloc, LEFT_ALONE, &[&[4]])?;
+    assert_eq!(rt; found, 6 + 5);
+    Ok(())
+}
+
+/// What the end of a finish waits for is printed first.
+#[test]
+fn every_schedule_waits_for_all(rt: HostRuntime) -> Result<(), Fail> {
+    let alloc = rt.alloc();
+    // The child's end comes before, between or behind the three steps of its own child.
+    let found = count(alloc, FINISHED, &[&[1, 2]])?;
+    assert_eq!(rt; found, 4);
+    let found = count(alloc, CHILDS_FINISH, &[&[1, 2, 3, 4]])?;
+    assert_eq!(rt; found, 4);
+    // Three steps of the first child among eight that have one order.
+    let lists: [&[i64]; 3] = [&[1, 2, 3, 4], &[2, 1, 3, 4], &[2, 3, 1, 4]];
+    let found = count(alloc, FINISHES_NESTED, &lists)?;
+    assert_eq!(rt; found, 165);
+    // Five steps among eight, and four orders of the five.
+    let found = count(alloc, STARTED_OUTSIDE, &[&[1, 1, 2, 3], &[1, 2, 1, 3]])?;
+    assert_eq!(rt; found, 4 * 1287);
+    Ok(())
+}
+
+/// Clocks inside finishes, and one outside.
+#[test]
+fn every_schedule_of_clocks_ends(rt: HostRuntime) -> Result<(), Fail> {
+    let alloc = rt.alloc();
+    // The child arrives before the drop or after it.
+    let found = count(alloc, CLOCK_INSIDE, &[&[]])?;
+    assert_eq!(rt; found, 2);
+    // Eight orders until both have arrived and main has dropped, and six of the last two steps of each.
+    let found = count(alloc, PAIR_INSIDE, &[&[]])?;
+    assert_eq!(rt; found, 8 * 6);
+    // Two steps of the child among seven until both have arrived, then three among four.
+    let found = count(alloc, OUTER_CLOCK, &[&[1, 2, 3], &[1, 3, 2]])?;
+    assert_eq!(rt; found, 36 * 35);
+    Ok(())
+}
+
+#[test]
+fn every_schedule_of_branches_ends(rt: HostRuntime) -> Result<(), Fail> {
+    // In the first turn main's branch comes among two steps of a child; in the last two of a child among four.
+    let found = count(rt.alloc(), EARLY_END, &[&[1, 2, 3, 3], &[1, 3, 2, 3]])?;
+    assert_eq!(rt; found, 3 * 15);
+    Ok(())
+}
+
+/// In this order the module comes to where nobody can step, and not all are over.
+fn is_stuck(alloc: Global, text: &str, order: Order) -> Result<bool, Fail> {
+    let Ok(program) = read_module(alloc, text.as_bytes()) else {
+        return Err("a text is no module".into());
+    };
+    let schedule = schedule_in(alloc, &program, order)?;
+    let mut plain = Plain::opening(alloc, &program)?;
+    for a in &schedule {
+        plain.step(alloc, *a)?;
+    }
+    Ok(!plain.is_over())
+}
+
+/// The rule that the module breaks, if it breaks one.
+fn broken(alloc: Global, text: &str) -> Result<Option<Rule>, Fail> {
+    let Ok(program) = read_module(alloc, text.as_bytes()) else {
+        return Err("a text is no module".into());
+    };
+    match verify(alloc, program) {
+        Ok(_) => Ok(None),
+        Err((_, Refusal::Shape(fault))) => Ok(Some(fault.rule)),
+        Err((_, Refusal::Kind(fault))) => Ok(Some(fault.rule)),
+        Err((_, Refusal::Bound(fault))) => Ok(Some(fault.rule)),
+        Err((_, Refusal::OutOfMemory)) => Err("memory is refused".into()),
+    }
+}
+
+fn refused_as_stuck(rt: &impl Abort, alloc: Global, text: &str, rule: Rule) -> Result<(), Fail> {
+    assert!(rt; broken(alloc, text)? == Some(rule));
+    for order in [Order::First, Order::Last, Order::Round(0)] {
+        assert!(rt; is_stuck(alloc, text, order)?);
+    }
+    Ok(())
+}
+
+/// Modules that the rules on clocks and finishes refuse, and that would wait for ever.
+#[test]
+fn what_is_refused_would_wait(rt: HostRuntime) -> Result<(), Fail> {
+    refused_as_stuck(&rt, rt.alloc(), CLOCK_HANDED_IN, Rule::Registers)?;
+    refused_as_stuck(&rt, rt.alloc(), CLOCK_HELD, Rule::Held)?;
+    refused_as_stuck(&rt, rt.alloc(), CLOCK_HANDED_DEEPER, Rule::Registers)
+}
