@@ -1091,7 +1091,8 @@ fn calls_are_refused(rt: HostRuntime) -> Result<(), AllocError> {
     Ok(())
 }
 
-/// A clock that was dropped, one that never was, a number is lent. What a call has resumed or not isn't known behind it.
+/// A clock that was dropped, one that never was, and a number can't be lent. Behind a call a lent clock is held still, and one
+/// that was resumed may be live.
 #[test]
 fn loans_are_refused(rt: HostRuntime) -> Result<(), AllocError> {
     for (code, line) in [

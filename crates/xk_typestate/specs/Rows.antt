@@ -1,5 +1,5 @@
 -- What the code answers to the table of kinds and to the edges.
-use Rattle.std.specs.Prelude.{◌≡◌, ℕ, ◌↔◌, List, [], ◌∷◌, Result, Ok, Err, IsTrue}
+use Rattle.std.specs.Prelude.{◌≡◌, ℕ, ◌≤◌, ◌↔◌, List, [], ◌∷◌, Result, Ok, Err, IsTrue}
 use Rattle.xk_types.specs.declared.rules.Rule.{Rule}
 use Rattle.xk_types.specs.declared.rules.Kind.{Kind}
 use Rattle.xk_types.specs.Order.{Has}
@@ -22,3 +22,9 @@ abbrev pub places : Ways → List ℕ
 places Nowhere = []
 places (One to) = to ∷ []
 places (Two first second) = first ∷ second ∷ []
+
+-- the first of two is not the greater
+abbrev pub AreRising : Ways → Type 0
+AreRising Nowhere = Unit {0}
+AreRising (One to) = Unit {0}
+AreRising (Two first second) = first ≤ second

@@ -6,7 +6,7 @@ ghost use Rattle.xk_types.specs.declared.rules.Kind.TheVariants.{Number};
 ghost use Rattle.xk_types.specs.Order.{Has};
 ghost use Rattle.xk_types.specs.Walk.{After, Refused, after, becomes, awake, reads, may_read, loop_slot, overwritten, let_go, writes, uses, hands_on, gives, across, is_lent, is_own, successors, entry_kinds, MayBecome};
 ghost use Rattle.xk_typestate.specs.KindSet.{kinds_have};
-ghost use Rattle.xk_typestate.specs.Rows.{IsRow, places};
+ghost use Rattle.xk_typestate.specs.Rows.{IsRow, places, AreRising};
 
 use crate::kind_set::KindSet;
 use xk_shape::{Blocks, params_of};
@@ -24,7 +24,8 @@ pub(crate) enum Ways {
 pub(crate) fn ways_from(instr: &Instr, at: u16) -> Ways
     requires room { at < 65535 }
     requires inside { (to : ℕ) → Has (successors instr.now at) to → to < 65536 }
-    ensures { (to : ℕ) → Has (places result) to ↔ Has (successors instr.now at) to }
+    ensures edges { (to : ℕ) → Has (places result) to ↔ Has (successors instr.now at) to }
+    ensures rising { AreRising result }
 {
     match instr {
         Instr::Unless(_, _, _, t) => either(at + 1, *t),
@@ -37,7 +38,8 @@ pub(crate) fn ways_from(instr: &Instr, at: u16) -> Ways
 
 /// The ways to both places.
 fn either(a: u16, b: u16) -> Ways
-    ensures { (to : ℕ) → Has (places result) to ↔ Has (a ∷ b ∷ []) to }
+    ensures both { (to : ℕ) → Has (places result) to ↔ Has (a ∷ b ∷ []) to }
+    ensures rising { AreRising result }
 {
     if a < b {
         Ways::Two(a, b)

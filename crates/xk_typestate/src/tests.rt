@@ -131,6 +131,24 @@ fn refuses_in_the_second_turn(rt: HostRuntime) -> Result<(), Fail> {
 }
 
 #[test]
+fn walks_by_the_nearer_branch(rt: HostRuntime) -> Result<(), Fail> {
+    let alloc = rt.alloc();
+    let code = vec![in alloc;
+        Instr::Lit(1, 5),
+        Instr::Unless(Comparison::Eq, 1, 1, 3),
+        Instr::Jump(4),
+        Instr::Print(1),
+        Instr::Print(0),
+        Instr::Ret,
+    ]?;
+    let fault = fault(&rt, alloc, UnitKind::Body, code)?;
+    assert_eq!(rt; (fault.unit, fault.at, fault.slot), (1, 4, 0));
+    let places: Vec<u16> = fault.walk.iter().map(|v| v.at).collect(alloc)?;
+    assert_eq!(rt; places.as_slice(), [0, 1, 2, 4].as_slice());
+    Ok(())
+}
+
+#[test]
 fn lends_clocks(rt: HostRuntime) -> Result<(), Fail> {
     let alloc = rt.alloc();
     let code = vec![in alloc;

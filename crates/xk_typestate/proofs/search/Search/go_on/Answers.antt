@@ -26,7 +26,7 @@ returns-clause-searched c =
     let as_long : length c.u.inside.code.items ≡ length u.code = ap length same in
     let here = found_read c.u.inside.code.items u.code f.stop.at i same (omega arith) c.index-instr.ensures in
     let lt = c.requires.place in
-    let come : (to : ℕ) → Has (places c.ways_from.result) to → CanCome m u s old to c.kinds_left-kinds.result (Some n) = λ to h k has. (lt, (f, found, edge_of m u s f.stop i to k here ((c.ways_from.ensures to).0 h) ((c.kinds_left-kinds.ensures k).0 has))) in
+    let come : (to : ℕ) → Has (places c.ways_from.result) to → CanCome m u s old to c.kinds_left-kinds.result (Some n) = λ to h k has. (lt, (f, found, edge_of m u s f.stop i to k here ((c.ways_from.ensures.edges to).0 h) ((c.kinds_left-kinds.ensures k).0 has))) in
     ok_by_three _ _ _ _ _ c.put_ways.ensures.grown c.put_ways.ensures.put (c.put_ways.ensures.searched m u s n c.requires.searched come)
     (λ _ grown put so_far. searched_done m u s now n f so_far (grown.found n f found) (omega (arith, grown.more))
-    (λ q edge. put q.at ((c.ways_from.ensures q.at).1 (edge_place m u s f.stop q i here edge)) q.kind ((c.kinds_left-kinds.ensures q.kind).1 (edge_kind m u s f.stop q i here edge))))
+    (λ q edge. put q.at ((c.ways_from.ensures.edges q.at).1 (edge_place m u s f.stop q i here edge)) q.kind ((c.kinds_left-kinds.ensures q.kind).1 (edge_kind m u s f.stop q i here edge))))
