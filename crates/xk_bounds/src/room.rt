@@ -22,7 +22,7 @@ pub struct Room {
     pub finishes: u32,
 }
 
-/// What no unit needs.
+/// No room at all.
 const NOTHING: Room = Room {
     slots: 0,
     frames: 0,
