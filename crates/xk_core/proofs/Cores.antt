@@ -1,5 +1,5 @@
 -- What holds of a core, by the law.
-use Rattle.std.proofs.Common.{◌≡◌, ℕ, ◌+◌, ◌<◌, ◌≤◌, ◌^◌, true, false, not, ◌&&◌, List, [], ◌∷◌, length, Option, Some, None, Result, Ok, Err, IfOk, OnOk, OnErr, slice_get, slice_index_or, All, arith, refl, sym, ◌∙◌}
+use Rattle.std.proofs.Common.{◌≡◌, ℕ, ◌+◌, ◌<◌, ◌≤◌, ◌^◌, true, false, not, ◌&&◌, List, [], ◌∷◌, length, Option, Some, None, Result, Ok, Err, OnOk, slice_get, slice_index_or, All, arith, refl}
 use Rattle.std.proofs.lemmas.Option.{slice_get-get_or, get_or_from_slice_get, slice_get_within}
 use Rattle.xk_types.specs.declared.names.Event.{Event}
 use Rattle.xk_types.specs.declared.names.Status.{Status}
@@ -14,11 +14,10 @@ use Rattle.xk_types.specs.Accepted.{IsAccepted}
 use Rattle.std.proofs.lemmas.List.Elements.{All-cons, All-nil}
 use Rattle.xk_types.specs.declared.rules.Kind.{Kind}
 use Rattle.xk_laws.proofs.Invariant.{IsSound, IsClockSound, AreWaiting, looks}
-use Rattle.xk_laws.proofs.Counts.{step_counts, step_keeps_over}
 use Rattle.xk_laws.proofs.Reached.{HasRoom, opening_only, reached_step, reached_sound, reached_scoped, reached_room, reached_ends}
 use Rattle.xk_core.specs.Arm.{IsRoomy, IsRunningUnit, carried_by, carried, passing_by, passed_on}
 use Rattle.xk_core.specs.Able.{is_able, is_kept}
-use Rattle.xk_core.specs.Core.{IsCore, AreOver, instruction_by, instruction_of, next_instruction}
+use Rattle.xk_core.specs.Core.{IsCore, instruction_by, instruction_of, next_instruction}
 use Rattle.xk_core.proofs.Ableness.{able_enabled}
 
 -- what holds of each element, at an element that is there

@@ -1,9 +1,9 @@
 -- What holds of a core by its parts: a world without finishes, and the tree that tells of them.
-use Rattle.std.proofs.Common.{◌≡◌, ℕ, zero, suc, ◌+◌, ◌-◌, ◌<◌, ◌≤◌, ◌^◌, ◌==◌, Bool, true, false, not, ◌&&◌, cond, List, [], ◌∷◌, ◌++◌, length, map, set, Option, Some, None, Result, Ok, Err, IfOk, OnOk, OnErr, inl, inr, ◌⊎◌, refl, sym, ap, ◌∙◌, subst, arith, slice_get, slice_set, slice_index_or, get_or, All, option_map, length-set}
+use Rattle.std.proofs.Common.{◌≡◌, ℕ, zero, suc, ◌+◌, ◌-◌, ◌<◌, ◌≤◌, ◌^◌, Bool, true, false, not, ◌&&◌, cond, List, [], ◌∷◌, ◌++◌, length, map, Option, Some, None, Result, Ok, Err, IfOk, OnOk, OnErr, inl, inr, ◌⊎◌, refl, sym, ap, ◌∙◌, subst, arith, slice_get, slice_set, All, option_map, length-set}
 use Rattle.std.specs.Option.{option_map_or}
-use Rattle.std.specs.List.{list_any, list_all}
-use Rattle.std.proofs.lemmas.Bool.{false≢true, cases_eq, not-true, and_parts}
-use Rattle.std.proofs.lemmas.Option.{none-some, same_Some, slice_get_within, slice_get_past, slice_get-get_or, get_or_from_slice_get}
+use Rattle.std.specs.List.{list_all}
+use Rattle.std.proofs.lemmas.Bool.{false≢true, cases_eq}
+use Rattle.std.proofs.lemmas.Option.{none-some, same_Some, slice_get_within, get_or_from_slice_get}
 use Rattle.std.proofs.lemmas.List.{length_push}
 use Rattle.xk_types.specs.declared.instr.Instr.{Instr}
 use Rattle.xk_types.specs.declared.instr.Instr.TheVariants as instr
@@ -13,9 +13,9 @@ use Rattle.xk_types.specs.declared.names.Event.{Event}
 use Rattle.xk_types.specs.declared.names.Event.TheVariants as event
 use Rattle.xk_types.specs.Code.{ModuleValue}
 use Rattle.xk_types.specs.Bound.{steps_bound, room_of}
-use Rattle.xk_types.specs.World.{Activity, Clock, World, standing_of, base_of, base_unit, is_ended, main_of, opening, instruction_at}
-use Rattle.xk_types.specs.Step.{Outcome, Blocked, Wrong, Stepped, waits, step_by, step_of, step, run_at, carried_out, passing, past, done, none, all, passed, onward, moved, settled, entered, left, closing, awaits, innermost, governing, child}
-use Rattle.xk_types.specs.Schedule.{is_step, is_enabled, all_ended}
+use Rattle.xk_types.specs.World.{Activity, World, base_unit, is_ended, instruction_at}
+use Rattle.xk_types.specs.Step.{Outcome, Blocked, Wrong, Stepped, waits, step_by, step_of, step, carried_out, past, done, none, all, passed, onward, moved, settled, left, closing, awaits, innermost, child}
+use Rattle.xk_types.specs.Schedule.{is_step, is_enabled}
 use Rattle.xk_laws.proofs.Lists.{get_inside, get-set_same, get-set_other, get_push, get-push_other}
 use Rattle.xk_laws.proofs.Counts.{step_counts, step_keeps_over}
 use Rattle.xk_laws.proofs.Invariant.{IsSound}
@@ -31,7 +31,7 @@ use Rattle.xk_core.specs.Able.{able_by, able_of, is_able, kept_by, is_kept}
 use Rattle.xk_core.specs.Core.{IsCore, is_over, AreOver, instruction_by, instruction_of, next_instruction}
 use Rattle.xk_core.specs.Told.{with_node, with_nodes, told, is_end, IsToldOf, AreTold}
 use Rattle.xk_core.proofs.Cores.{core_roomy, core_runs, core_stepped, core_bound, core_able, pass_step, carry_step}
-use Rattle.xk_core.proofs.Told.{length_told, get_told, set_told, set_both, push_told, told_so, Leaves, Tells, IsTold, carried_told, spawn_told}
+use Rattle.xk_core.proofs.Told.{length_told, get_told, set_told, set_both, told_so, Leaves, Tells, IsTold, carried_told, spawn_told}
 use Rattle.xk_core.proofs.Arms.{spawning_there, spawn_by}
 
 -- ---- an activity and its node
@@ -212,7 +212,7 @@ module _ (m : ModuleValue) (ns : List NodeValue) (w : World) (over a : ℕ) (h :
     pass_enabled = so (passed_on w a) refl
       where
         so : (o : Outcome) → passed_on w a ≡ o → is_step o ≡ true
-        so o e = is o (sym (pass_same o e (told_at ns w.activities h.are.width a)) ∙ sym pass_goes) 
+        so o e = is o (sym (pass_same o e (told_at ns w.activities h.are.width a)) ∙ sym pass_goes)
           where
             is : (q : Outcome) → told_so ns q ≡ step m (told ns w) a → is_step q ≡ true
             is Blocked f = absurd (false≢true (ap is_step f ∙ enabled))
@@ -377,7 +377,7 @@ module _ (m : ModuleValue) (ns : List NodeValue) (w : World) (over a : ℕ) (h :
       by (suc k) e false q = (
         awaits_told (instr.EndFinish b) r ∙ q,
         start ∙ ap (closing (told ns w) a (with_node r.n r.x)) e ∙ ap (λ c. cond c Blocked (done (told ns w) a (left (with_node r.n r.x) k) none event.Closed)) q
-        ∙ ap (λ j. done (told ns w) a (left (with_node r.n r.x) j) none event.Closed) (omega arith),
+            ∙ ap (λ j. done (told ns w) a (left (with_node r.n r.x) j) none event.Closed) (omega arith),
       )
 
   pub close_empty : (b : ℕ) → next_instruction m (told ns w) a ≡ Some (instr.EndFinish b) → is_enabled m (told ns w) a ≡ true → awaits_innermost ns a ≡ false
@@ -439,12 +439,11 @@ module _ (m : ModuleValue) (ns : List NodeValue) (w : World) (over a : ℕ) (h :
         → (step m (told ns w) a ≡ Stepped (told (changed_at ns a node_ended) v) e) × AreTold m (changed_at ns a node_ended) v.activities
     carry_ended v e is end =
         let l = leaves v e is in
-        let k = node_is ns a r.n r.here in
-        (
+        let k = node_is ns a r.n r.here in (
           carry_goes ∙ ap (told_so ns) is ∙ ap (λ xs. Stepped (record v { activities = xs }) e) (sym (ap (λ z. with_nodes (slice_set ns a (node_ended z)) v.activities) k ∙ ended_same ns v.activities a r.n r.here)),
           subst (AreTold m (changed_at ns a node_ended)) (sym l.activities) (subst (λ z. AreTold m (slice_set ns a (node_ended z)) (slice_set w.activities a l.y)) (sym k)
-          (told_changed m ns w.activities a r.n (node_ended r.n) r.x l.y h.are r.here r.found
-          (let s = h.are.each a r.n r.x r.here r.found in record { ended = sym (l.over ∙ end); room = s.room ∙ ap (room_of m) (sym l.base) }))),
+              (told_changed m ns w.activities a r.n (node_ended r.n) r.x l.y h.are r.here r.found
+              (let s = h.are.each a r.n r.x r.here r.found in record { ended = sym (l.over ∙ end); room = s.room ∙ ap (room_of m) (sym l.base) }))),
         )
 
   -- ---- `spawn`

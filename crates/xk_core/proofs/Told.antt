@@ -1,10 +1,8 @@
 -- A step of a world without finishes is one of the world with them.
-use Rattle.std.proofs.Common.{◌≡◌, ℕ, zero, suc, ◌+◌, ◌<◌, Bool, true, false, cond, List, [], ◌∷◌, ◌++◌, length, set, map, ℤ, int_lt, Option, Some, None, refl, sym, ap, ◌∙◌, subst, arith, slice_get, slice_set, length-set}
+use Rattle.std.proofs.Common.{◌≡◌, ℕ, zero, suc, ◌+◌, Bool, true, false, cond, List, [], ◌∷◌, ◌++◌, length, ℤ, int_lt, Option, Some, None, refl, sym, ap, ◌∙◌, subst, arith, slice_get, slice_set, length-set}
 use Rattle.std.specs.Int.{w64, int_wrapping_add, int_wrapping_sub, int_wrapping_mul}
-use Rattle.std.specs.Option.{option_map_or}
-use Rattle.std.proofs.lemmas.Bool.{false≢true, cases_eq}
-use Rattle.std.proofs.lemmas.Option.{none-some, same_Some, slice_get_within}
-use Rattle.std.proofs.lemmas.List.{length_push}
+use Rattle.std.proofs.lemmas.Bool.{false≢true}
+use Rattle.std.proofs.lemmas.Option.{none-some, same_Some}
 use Rattle.xk_types.specs.declared.instr.Instr.{Instr}
 use Rattle.xk_types.specs.declared.instr.Instr.TheVariants as instr
 use Rattle.xk_types.specs.declared.names.Value.{Value}
@@ -17,8 +15,6 @@ use Rattle.xk_types.specs.declared.unit.ParamKind.TheVariants as param
 use Rattle.xk_types.specs.Code.{UnitValue, ModuleValue, compares, is_method, is_body}
 use Rattle.xk_types.specs.World.{Frame, Activity, Clock, World, standing_of, instruction_at, base_of, base_unit, is_ended}
 use Rattle.xk_types.specs.Step.{Outcome, Blocked, Wrong, Stepped, ClockUse, OutOfRange, is_registered, number_in, clock_in, registered_on, put_in, slot_at, arguments_in, computing, turning, again, spawned, spawning, new_clock, carried_out, done, made, onward, going, with_slots, arrived, ended, none, only, all, resumed, dropped, called, calling, back_in, returning, settled, moved, child, governing, joined, is_given}
-use Rattle.xk_types.specs.Schedule.{is_step}
-use Rattle.xk_laws.proofs.Lists.{get-set_same, get-set_other}
 use Rattle.xk_laws.proofs.Scopes.{based}
 use Rattle.xk_finishes.specs.Tree.{NodeValue}
 use Rattle.xk_core.specs.Arm.{concerns_finishes, carried_by, carried}

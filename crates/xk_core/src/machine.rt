@@ -246,7 +246,14 @@ impl<'m> Core<'m> {
     {
         let program = self.verified.module();
         let room = self.verified.room(unit).finishes;
-        self.state.spawn(&mut self.finishes, program, act.0 as usize, unit, args.slots(), room)
+        self.state.spawn(
+            &mut self.finishes,
+            program,
+            act.0 as usize,
+            unit,
+            args.slots(),
+            room,
+        )
     }
 
     /// The activity carries out an instruction that opens or closes no finish, and starts no activity.
@@ -259,7 +266,9 @@ impl<'m> Core<'m> {
         ensures refused { OnErr result (self.new ≡ self.old) }
         ensures only_where_it_grows { OnErr result (grows instr.now ≡ true) }
     {
-        let event = self.state.carry_out(self.verified.module(), act.0 as usize, instr)?;
+        let event = self
+            .state
+            .carry_out(self.verified.module(), act.0 as usize, instr)?;
         if is_end(event) {
             self.finishes.ended(act);
         }

@@ -107,8 +107,15 @@ module _ (m : ModuleValue) (ok : IsAccepted m) (w : World) (sound : IsSound m w)
       let depth : opened_in m act.frame ≡ depth_at me.u act.frame.place = ap (λ o. option_map_or (λ u. depth_at u act.frame.place) o 0) me.unit in
       let more : depth_at me.u (act.frame.place + 1) ≡ length (block_at me.u act.frame.place ++ act.frame.place ∷ []) = ap length (block_opened me.u fit.finishes act.frame.place e here) in
       let s = scoped.activities a act found in
-      omega (arith, s.opened, s.rooms.0, sum_by-cons (opened_in m) act.frame act.callers, length_push (block_at me.u act.frame.place) act.frame.place,
-      nesting_at me.u (act.frame.place + 1) (fit.next (instr.Finish e) act.frame.place here refl), room_own m ok.shape act.frame.unit me.u me.unit)
+      omega (
+        arith,
+        s.opened,
+        s.rooms.0,
+        sum_by-cons (opened_in m) act.frame act.callers,
+        length_push (block_at me.u act.frame.place) act.frame.place,
+        nesting_at me.u (act.frame.place + 1) (fit.next (instr.Finish e) act.frame.place here refl),
+        room_own m ok.shape act.frame.unit me.u me.unit,
+      )
 
   -- one that ends has closed all that it opened
   pub closed_at_end : (a : ℕ) (act : Activity) (found : slice_get w.activities a ≡ Some act) → slice_get (sound.activities a act found).u.code act.frame.place ≡ Some instr.Ret → act.callers ≡ [] → act.opened ≡ 0

@@ -39,7 +39,6 @@ use Rattle.xk_laws.proofs.Blocks.{is_border, block_next, block_jump, block_round
 use Rattle.xk_laws.proofs.Given.{AreGiven, given_none, given_more, Begun, frame_begun, look_given, new_look}
 use Rattle.xk_laws.proofs.Rows.{let_go_held}
 use Rattle.xk_laws.proofs.Totals.{room_called}
-use Rattle.xk_types.specs.Bound.{room_of}
 use Rattle.xk_laws.proofs.Walks.{Allowed}
 use Rattle.xk_laws.proofs.Running.{IsAt, row_allowed}
 use Rattle.xk_laws.proofs.Scopes.{finish_at, opened_in, opened_by, governing_at, IsRound, round_same, round_more, round_less, IsHome, AreHome, AreRoomy, rooms_same, IsScopedIn, IsScoped, Scopes, Keeps, home_kept, homes_kept, left_scoped, settled_looks}
@@ -413,8 +412,11 @@ module _ (m : ModuleValue) (ok : IsAccepted m) (w : World) (a : ℕ) (was : Acti
             ∙ sym (sum_by-cons (opened_in m) act.frame was.callers);
         rooms = rooms_same m was.frame act.frame was.callers refl mine.rooms;
         owner = mine.owner;
-        homes = ((λ s c named held. slot s c held (all s (value.Clock c) named c refl)), homes_kept m a was.governed scoped.scopes more_scopes (looks w.clocks a) (looks clocks a) was.callers more_keep
-            (λ c named held. old_held c (below_known was.frame was.callers c named me.waiting) held) mine.homes.1);
+        homes = (
+          (λ s c named held. slot s c held (all s (value.Clock c) named c refl)),
+          homes_kept m a was.governed scoped.scopes more_scopes (looks w.clocks a) (looks clocks a) was.callers more_keep
+              (λ c named held. old_held c (below_known was.frame was.callers c named me.waiting) held) mine.homes.1,
+        );
       };
       others = λ b k differs. stands_on-push_other (length w.activities) a b w.clocks k differs;
     })

@@ -1,20 +1,11 @@
-use Rattle.std.proofs.Common.{◌≡◌, ◌≤◌, ◌+◌, ◌-◌, ◌<◌, ℕ, true, false, not, ◌&&◌, Some, None, Ok, Err, Result, IfOk, OnOk, length, slice_get, slice_set, ◌∙◌, sym, subst, ap, arith}
-use Rattle.std.proofs.lemmas.Bool.{false≢true}
-use Rattle.std.proofs.lemmas.Option.{none-some}
-use Rattle.std.specs.Option.{option_copied}
-use Rattle.xk_types.specs.declared.instr.Instr.TheVariants as instruction
-use Rattle.xk_types.specs.World.{Activity, World, opening}
-use Rattle.xk_types.specs.Step.{Stepped, step, settled, onward, moved, none}
-use Rattle.xk_types.specs.Schedule.{is_enabled, all_ended, is_step}
-use Rattle.xk_types.specs.Bound.{steps_bound, room_of}
-use Rattle.xk_finishes.specs.Tree.{node_at, node_entered, node_left, node_ended, changed_at, governing_of, fresh_node, awaits_innermost}
-use Rattle.xk_core.specs.Arm.{carried, passed_on, IsRunningUnit}
-use Rattle.xk_core.specs.Able.{is_able, is_kept}
-use Rattle.xk_core.specs.Core.{CoreValue, IsLeastEnabled, next_instruction}
-use Rattle.xk_core.specs.Told.{told, is_end}
-use Rattle.xk_core.proofs.Cores.{core_bound, core_stepped, core_names, core_clocks, core_ends, core_fresh}
-use Rattle.xk_core.proofs.Finishing.{IsHeld, held, held_on, parts, parts_roomy, parts_runs, parts_able, parts_over, pass_enabled, pass_stepped, pass_are, runs, exists, alive, open_room, open_stepped, open_are, close_open, close_empty, close_stepped, close_are, kept_told, carry_enabled, carry_stepped, carry_closed, carry_ended, spawn_enabled, spawn_within, spawn_stepped, spawn_are, started_held, taken_counts, taken_bound, able_told, next_told, since_told, ended_told}
-use Rattle.xk_core.proofs.Told.{length_told}
+use Rattle.std.proofs.Common.{◌≡◌, true, Some, ◌∙◌, sym, subst}
+use Rattle.xk_types.specs.Step.{Stepped, step}
+use Rattle.xk_types.specs.Schedule.{is_enabled}
+use Rattle.xk_finishes.specs.Tree.{node_ended, changed_at}
+use Rattle.xk_core.specs.Arm.{carried, IsRunningUnit}
+use Rattle.xk_core.specs.Core.{CoreValue, next_instruction}
+use Rattle.xk_core.specs.Told.{told}
+use Rattle.xk_core.proofs.Finishing.{held, held_on, parts, parts_roomy, parts_runs, runs, exists, alive, carry_enabled, carry_stepped, carry_closed, carry_ended}
 use Rattle.xk_core.proofs.machine.Core.carry_out.Goals as goal
 
 pub carry_out-requires-clause-enabled : goal.carry_out-requires-clause-enabled
@@ -33,37 +24,36 @@ pub ended-requires-clause-runs : goal.ended-requires-clause-runs
 ended-requires-clause-runs c = alive c.self.inside.verified.now c.self.inside.finishes c.self.inside.state c.self.inside.over c.args.act (held c.self.inside.verified.now c.self.inside.finishes c.self.inside.state c.self.inside.over c.self.invariant) c.args.instr.now (runs c.self.inside.verified.now c.self.inside.finishes c.self.inside.state c.self.inside.over c.args.act (held c.self.inside.verified.now c.self.inside.finishes c.self.inside.state c.self.inside.over c.self.invariant) c.args.instr.now (subst (λ (v : CoreValue). next_instruction v.module_run v.world c.args.act ≡ Some c.args.instr.now) (sym c.self.view_is) c.requires.here))
 
 pub ended-requires-clause-closed : goal.ended-requires-clause-closed
-ended-requires-clause-closed c = 
+ended-requires-clause-closed c =
     let goes : carried c.self.inside.verified.now c.self.inside.state c.args.act c.args.instr.now ≡ Stepped c.carry_out.new.self c.in_ok-event.event =
     subst (λ p. carried p c.self.inside.state c.args.act c.args.instr.now ≡ Stepped c.carry_out.new.self c.in_ok-event.event) c.module.ensures.same
     (subst (λ n. carried c.module.result.now c.self.inside.state n c.args.instr.now ≡ Stepped c.carry_out.new.self c.in_ok-event.event) c.act.view_is c.in_ok-event.ensures.stepped) in
     carry_closed c.self.inside.verified.now c.self.inside.finishes c.self.inside.state c.self.inside.over c.args.act (held c.self.inside.verified.now c.self.inside.finishes c.self.inside.state c.self.inside.over c.self.invariant) c.args.instr.now c.requires.plain (subst (λ (v : CoreValue). next_instruction v.module_run v.world c.args.act ≡ Some c.args.instr.now) (sym c.self.view_is) c.requires.here) c.carry_out.new.self c.in_ok-event.event goes (sym c.is_end.ensures ∙ c.if-is_end.true)
 
 pub invariant_of-self-then-is_end : goal.invariant_of-self-then-is_end
-invariant_of-self-then-is_end c = 
+invariant_of-self-then-is_end c =
     let goes : carried c.self.inside.verified.now c.self.inside.state c.args.act c.args.instr.now ≡ Stepped c.carry_out.new.self c.in_ok-event.event =
     subst (λ p. carried p c.self.inside.state c.args.act c.args.instr.now ≡ Stepped c.carry_out.new.self c.in_ok-event.event) c.module.ensures.same
     (subst (λ n. carried c.module.result.now c.self.inside.state n c.args.instr.now ≡ Stepped c.carry_out.new.self c.in_ok-event.event) c.act.view_is c.in_ok-event.ensures.stepped) in
     rw c.ended.ensures.ended (parts c.self.inside.verified.now (changed_at c.self.inside.finishes c.args.act node_ended) c.carry_out.new.self c.self.inside.over (held_on c.self.inside.verified.now c.self.inside.finishes (changed_at c.self.inside.finishes c.args.act node_ended) c.self.inside.state c.carry_out.new.self c.self.inside.over c.args.act c.in_ok-event.event (held c.self.inside.verified.now c.self.inside.finishes c.self.inside.state c.self.inside.over c.self.invariant) (carry_ended c.self.inside.verified.now c.self.inside.finishes c.self.inside.state c.self.inside.over c.args.act (held c.self.inside.verified.now c.self.inside.finishes c.self.inside.state c.self.inside.over c.self.invariant) c.args.instr.now c.requires.plain (subst (λ (v : CoreValue). next_instruction v.module_run v.world c.args.act ≡ Some c.args.instr.now) (sym c.self.view_is) c.requires.here) c.carry_out.new.self c.in_ok-event.event goes (sym c.is_end.ensures ∙ c.if-is_end.true)).1 (carry_ended c.self.inside.verified.now c.self.inside.finishes c.self.inside.state c.self.inside.over c.args.act (held c.self.inside.verified.now c.self.inside.finishes c.self.inside.state c.self.inside.over c.self.invariant) c.args.instr.now c.requires.plain (subst (λ (v : CoreValue). next_instruction v.module_run v.world c.args.act ≡ Some c.args.instr.now) (sym c.self.view_is) c.requires.here) c.carry_out.new.self c.in_ok-event.event goes (sym c.is_end.ensures ∙ c.if-is_end.true)).0))
 
 pub invariant_of-self-else-is_end : goal.invariant_of-self-else-is_end
-invariant_of-self-else-is_end c = 
+invariant_of-self-else-is_end c =
     let goes : carried c.self.inside.verified.now c.self.inside.state c.args.act c.args.instr.now ≡ Stepped c.carry_out.new.self c.in_ok-event.event =
     subst (λ p. carried p c.self.inside.state c.args.act c.args.instr.now ≡ Stepped c.carry_out.new.self c.in_ok-event.event) c.module.ensures.same
     (subst (λ n. carried c.module.result.now c.self.inside.state n c.args.instr.now ≡ Stepped c.carry_out.new.self c.in_ok-event.event) c.act.view_is c.in_ok-event.ensures.stepped) in
     parts c.self.inside.verified.now c.self.inside.finishes c.carry_out.new.self c.self.inside.over (held_on c.self.inside.verified.now c.self.inside.finishes c.self.inside.finishes c.self.inside.state c.carry_out.new.self c.self.inside.over c.args.act c.in_ok-event.event (held c.self.inside.verified.now c.self.inside.finishes c.self.inside.state c.self.inside.over c.self.invariant) (carry_stepped c.self.inside.verified.now c.self.inside.finishes c.self.inside.state c.self.inside.over c.args.act (held c.self.inside.verified.now c.self.inside.finishes c.self.inside.state c.self.inside.over c.self.invariant) c.args.instr.now c.requires.plain (subst (λ (v : CoreValue). next_instruction v.module_run v.world c.args.act ≡ Some c.args.instr.now) (sym c.self.view_is) c.requires.here) c.carry_out.new.self c.in_ok-event.event goes (sym c.is_end.ensures ∙ c.if-is_end.false)).1 (carry_stepped c.self.inside.verified.now c.self.inside.finishes c.self.inside.state c.self.inside.over c.args.act (held c.self.inside.verified.now c.self.inside.finishes c.self.inside.state c.self.inside.over c.self.invariant) c.args.instr.now c.requires.plain (subst (λ (v : CoreValue). next_instruction v.module_run v.world c.args.act ≡ Some c.args.instr.now) (sym c.self.view_is) c.requires.here) c.carry_out.new.self c.in_ok-event.event goes (sym c.is_end.ensures ∙ c.if-is_end.false)).0)
 
 pub returns-then-is_end-clause-stepped : goal.returns-then-is_end-clause-stepped
-returns-then-is_end-clause-stepped c = 
+returns-then-is_end-clause-stepped c =
     let goes : carried c.self.inside.verified.now c.self.inside.state c.args.act c.args.instr.now ≡ Stepped c.carry_out.new.self c.in_ok-event.event =
     subst (λ p. carried p c.self.inside.state c.args.act c.args.instr.now ≡ Stepped c.carry_out.new.self c.in_ok-event.event) c.module.ensures.same
     (subst (λ n. carried c.module.result.now c.self.inside.state n c.args.instr.now ≡ Stepped c.carry_out.new.self c.in_ok-event.event) c.act.view_is c.in_ok-event.ensures.stepped) in
     rw c.ended.ensures.ended (subst (λ (v : CoreValue). step v.module_run v.world c.args.act ≡ Stepped (told (changed_at c.self.inside.finishes c.args.act node_ended) c.carry_out.new.self) c.in_ok-event.event) c.self.view_is (carry_ended c.self.inside.verified.now c.self.inside.finishes c.self.inside.state c.self.inside.over c.args.act (held c.self.inside.verified.now c.self.inside.finishes c.self.inside.state c.self.inside.over c.self.invariant) c.args.instr.now c.requires.plain (subst (λ (v : CoreValue). next_instruction v.module_run v.world c.args.act ≡ Some c.args.instr.now) (sym c.self.view_is) c.requires.here) c.carry_out.new.self c.in_ok-event.event goes (sym c.is_end.ensures ∙ c.if-is_end.true)).0)
 
 pub returns-else-is_end-clause-stepped : goal.returns-else-is_end-clause-stepped
-returns-else-is_end-clause-stepped c = 
+returns-else-is_end-clause-stepped c =
     let goes : carried c.self.inside.verified.now c.self.inside.state c.args.act c.args.instr.now ≡ Stepped c.carry_out.new.self c.in_ok-event.event =
     subst (λ p. carried p c.self.inside.state c.args.act c.args.instr.now ≡ Stepped c.carry_out.new.self c.in_ok-event.event) c.module.ensures.same
     (subst (λ n. carried c.module.result.now c.self.inside.state n c.args.instr.now ≡ Stepped c.carry_out.new.self c.in_ok-event.event) c.act.view_is c.in_ok-event.ensures.stepped) in
     subst (λ (v : CoreValue). step v.module_run v.world c.args.act ≡ Stepped (told c.self.inside.finishes c.carry_out.new.self) c.in_ok-event.event) c.self.view_is (carry_stepped c.self.inside.verified.now c.self.inside.finishes c.self.inside.state c.self.inside.over c.args.act (held c.self.inside.verified.now c.self.inside.finishes c.self.inside.state c.self.inside.over c.self.invariant) c.args.instr.now c.requires.plain (subst (λ (v : CoreValue). next_instruction v.module_run v.world c.args.act ≡ Some c.args.instr.now) (sym c.self.view_is) c.requires.here) c.carry_out.new.self c.in_ok-event.event goes (sym c.is_end.ensures ∙ c.if-is_end.false)).0
-

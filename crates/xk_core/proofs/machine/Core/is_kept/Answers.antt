@@ -1,41 +1,31 @@
-use Rattle.std.proofs.Common.{◌≡◌, ◌≤◌, ◌+◌, ◌-◌, ◌<◌, ℕ, true, false, not, ◌&&◌, Some, None, Ok, Err, Result, IfOk, OnOk, length, slice_get, slice_set, ◌∙◌, sym, subst, ap, arith}
-use Rattle.std.proofs.lemmas.Bool.{false≢true}
-use Rattle.std.proofs.lemmas.Option.{none-some}
+use Rattle.std.proofs.Common.{◌≡◌, not, Some, ◌∙◌, sym, subst, ap}
 use Rattle.std.specs.Option.{option_copied}
 use Rattle.xk_types.specs.declared.instr.Instr.TheVariants as instruction
-use Rattle.xk_types.specs.World.{Activity, World, opening}
-use Rattle.xk_types.specs.Step.{Stepped, step, settled, onward, moved, none}
-use Rattle.xk_types.specs.Schedule.{is_enabled, all_ended, is_step}
-use Rattle.xk_types.specs.Bound.{steps_bound, room_of}
-use Rattle.xk_finishes.specs.Tree.{node_at, node_entered, node_left, node_ended, changed_at, governing_of, fresh_node, awaits_innermost}
-use Rattle.xk_core.specs.Arm.{carried, passed_on, IsRunningUnit}
-use Rattle.xk_core.specs.Able.{is_able, is_kept}
-use Rattle.xk_core.specs.Core.{CoreValue, IsLeastEnabled, next_instruction}
-use Rattle.xk_core.specs.Told.{told, is_end}
-use Rattle.xk_core.proofs.Cores.{core_bound, core_stepped, core_names, core_clocks, core_ends, core_fresh}
-use Rattle.xk_core.proofs.Finishing.{IsHeld, held, held_on, parts, parts_roomy, parts_runs, parts_able, parts_over, pass_enabled, pass_stepped, pass_are, runs, exists, alive, open_room, open_stepped, open_are, close_open, close_empty, close_stepped, close_are, kept_told, carry_enabled, carry_stepped, carry_closed, carry_ended, spawn_enabled, spawn_within, spawn_stepped, spawn_are, started_held, taken_counts, taken_bound, able_told, next_told, since_told, ended_told}
-use Rattle.xk_core.proofs.Told.{length_told}
+use Rattle.xk_finishes.specs.Tree.{awaits_innermost}
+use Rattle.xk_core.specs.Able.{is_kept}
+use Rattle.xk_core.specs.Core.{CoreValue, next_instruction}
+use Rattle.xk_core.specs.Told.{told}
+use Rattle.xk_core.proofs.Finishing.{held, runs, exists, close_open, kept_told}
 use Rattle.xk_core.proofs.Finishing.{twice}
 use Rattle.xk_core.proofs.machine.Core.is_kept.Goals as goal
 
 pub empty-requires-clause-exists : goal.empty-requires-clause-exists
-empty-requires-clause-exists c = 
+empty-requires-clause-exists c =
     let next : next_instruction c.self.inside.verified.now (told c.self.inside.finishes c.self.inside.state) c.args.act ≡ Some (instruction.EndFinish c.in-Some-EndFinish.field-0-0) =
     subst (λ (v : CoreValue). next_instruction v.module_run v.world c.args.act ≡ Some (instruction.EndFinish c.in-Some-EndFinish.field-0-0)) (sym c.self.view_is)
     (ap (next_instruction c.args.self.now.module_run c.args.self.now.world) (sym c.act.view_is) ∙ sym c.next_instruction.ensures ∙ ap option_copied c.in-Some-EndFinish.is ∙ ap (λ i. Some i) c.in-Some-EndFinish.field-0-is) in
     (exists c.self.inside.verified.now c.self.inside.finishes c.self.inside.state c.self.inside.over c.args.act (held c.self.inside.verified.now c.self.inside.finishes c.self.inside.state c.self.inside.over c.self.invariant) (instruction.EndFinish c.in-Some-EndFinish.field-0-0) (runs c.self.inside.verified.now c.self.inside.finishes c.self.inside.state c.self.inside.over c.args.act (held c.self.inside.verified.now c.self.inside.finishes c.self.inside.state c.self.inside.over c.self.invariant) (instruction.EndFinish c.in-Some-EndFinish.field-0-0) next)).0
 
 pub empty-requires-clause-opened : goal.empty-requires-clause-opened
-empty-requires-clause-opened c = 
+empty-requires-clause-opened c =
     let next : next_instruction c.self.inside.verified.now (told c.self.inside.finishes c.self.inside.state) c.args.act ≡ Some (instruction.EndFinish c.in-Some-EndFinish.field-0-0) =
     subst (λ (v : CoreValue). next_instruction v.module_run v.world c.args.act ≡ Some (instruction.EndFinish c.in-Some-EndFinish.field-0-0)) (sym c.self.view_is)
     (ap (next_instruction c.args.self.now.module_run c.args.self.now.world) (sym c.act.view_is) ∙ sym c.next_instruction.ensures ∙ ap option_copied c.in-Some-EndFinish.is ∙ ap (λ i. Some i) c.in-Some-EndFinish.field-0-is) in
     close_open c.self.inside.verified.now c.self.inside.finishes c.self.inside.state c.self.inside.over c.args.act (held c.self.inside.verified.now c.self.inside.finishes c.self.inside.state c.self.inside.over c.self.invariant) c.in-Some-EndFinish.field-0-0 (runs c.self.inside.verified.now c.self.inside.finishes c.self.inside.state c.self.inside.over c.args.act (held c.self.inside.verified.now c.self.inside.finishes c.self.inside.state c.self.inside.over c.self.invariant) (instruction.EndFinish c.in-Some-EndFinish.field-0-0) next)
 
 pub returns-in-Some-EndFinish : goal.returns-in-Some-EndFinish
-returns-in-Some-EndFinish c = 
+returns-in-Some-EndFinish c =
     let next : next_instruction c.self.inside.verified.now (told c.self.inside.finishes c.self.inside.state) c.args.act ≡ Some (instruction.EndFinish c.in-Some-EndFinish.field-0-0) =
     subst (λ (v : CoreValue). next_instruction v.module_run v.world c.args.act ≡ Some (instruction.EndFinish c.in-Some-EndFinish.field-0-0)) (sym c.self.view_is)
     (ap (next_instruction c.args.self.now.module_run c.args.self.now.world) (sym c.act.view_is) ∙ sym c.next_instruction.ensures ∙ ap option_copied c.in-Some-EndFinish.is ∙ ap (λ i. Some i) c.in-Some-EndFinish.field-0-is) in
     rw c.empty.ensures.waits (subst (λ (v : CoreValue). not (not (awaits_innermost c.self.inside.finishes c.args.act)) ≡ is_kept v.module_run v.world c.args.act) c.self.view_is (twice (awaits_innermost c.self.inside.finishes c.args.act) ∙ sym (kept_told c.self.inside.verified.now c.self.inside.finishes c.self.inside.state c.self.inside.over c.args.act (held c.self.inside.verified.now c.self.inside.finishes c.self.inside.state c.self.inside.over c.self.invariant) c.in-Some-EndFinish.field-0-0 next (runs c.self.inside.verified.now c.self.inside.finishes c.self.inside.state c.self.inside.over c.args.act (held c.self.inside.verified.now c.self.inside.finishes c.self.inside.state c.self.inside.over c.self.invariant) (instruction.EndFinish c.in-Some-EndFinish.field-0-0) next))))
-

@@ -1,18 +1,11 @@
-use Rattle.std.proofs.Common.{◌≡◌, ◌≤◌, ◌+◌, ◌-◌, ◌<◌, ℕ, true, false, not, ◌&&◌, Some, None, IfOk, OnOk, length, slice_get, slice_set, ◌∙◌, sym, subst, ap, arith}
-use Rattle.std.specs.Option.{option_copied}
+use Rattle.std.proofs.Common.{◌≡◌, Some, slice_get, slice_set, sym, subst}
 use Rattle.xk_types.specs.declared.instr.Instr.TheVariants as instruction
-use Rattle.xk_types.specs.World.{Activity, World, opening}
+use Rattle.xk_types.specs.World.{Activity}
 use Rattle.xk_types.specs.Step.{Stepped, step, settled, onward, moved, none}
-use Rattle.xk_types.specs.Schedule.{is_enabled, all_ended, is_step}
-use Rattle.xk_types.specs.Bound.{steps_bound, room_of}
-use Rattle.xk_finishes.specs.Tree.{node_at, node_entered, node_left, node_ended, changed_at, governing_of, fresh_node, awaits_innermost}
-use Rattle.xk_core.specs.Arm.{carried, passed_on}
-use Rattle.xk_core.specs.Able.{is_able, is_kept}
-use Rattle.xk_core.specs.Core.{CoreValue, IsLeastEnabled, next_instruction}
+use Rattle.xk_finishes.specs.Tree.{node_entered, changed_at}
+use Rattle.xk_core.specs.Core.{CoreValue, next_instruction}
 use Rattle.xk_core.specs.Told.{told}
-use Rattle.xk_core.proofs.Cores.{core_bound, core_stepped, core_names, core_clocks, core_ends, core_fresh}
-use Rattle.xk_core.proofs.Finishing.{IsHeld, held, held_on, parts, parts_roomy, parts_runs, parts_able, parts_over, pass_enabled, pass_stepped, pass_are, runs, exists, alive, open_room, open_stepped, open_are, close_open, close_empty, close_stepped, close_are, kept_told, carry_enabled, carry_stepped, carry_closed, carry_ended, spawn_enabled, spawn_within, spawn_stepped, spawn_are, able_told, next_told, since_told, ended_told}
-use Rattle.xk_core.proofs.Told.{length_told}
+use Rattle.xk_core.proofs.Finishing.{held, held_on, parts, parts_roomy, runs, exists, alive, open_room, open_stepped, open_are}
 use Rattle.xk_types.specs.declared.names.Event.TheVariants as event
 use Rattle.xk_core.proofs.machine.Core.open_finish.Goals as goal
 
@@ -32,7 +25,7 @@ pub go_on-requires-clause-room : goal.go_on-requires-clause-room
 go_on-requires-clause-room c = rw c.act.view_is (parts_roomy c.self.inside.verified.now c.self.inside.finishes c.self.inside.state c.self.inside.over c.args.act (held c.self.inside.verified.now c.self.inside.finishes c.self.inside.state c.self.inside.over c.self.invariant))
 
 pub invariant_of-self : goal.invariant_of-self
-invariant_of-self c = 
+invariant_of-self c =
     let r = (runs c.self.inside.verified.now c.self.inside.finishes c.self.inside.state c.self.inside.over c.args.act (held c.self.inside.verified.now c.self.inside.finishes c.self.inside.state c.self.inside.over c.self.invariant) (instruction.Finish c.args.e) (subst (λ (v : CoreValue). next_instruction v.module_run v.world c.args.act ≡ Some (instruction.Finish c.args.e)) (sym c.self.view_is) c.requires.here)) in
     let is : c.go_on.new.self ≡ settled (record c.self.inside.state { activities = slice_set c.self.inside.state.activities c.args.act (onward r.x); clocks = moved c.args.act none c.self.inside.state.clocks }) =
     subst (λ n. (act : Activity) → slice_get c.self.inside.state.activities n ≡ Some act → c.go_on.new.self ≡ settled (record c.self.inside.state { activities = slice_set c.self.inside.state.activities n (onward act); clocks = moved n none c.self.inside.state.clocks })) c.act.view_is c.go_on.ensures r.x r.found in
@@ -41,9 +34,8 @@ invariant_of-self c =
     (open_stepped c.self.inside.verified.now c.self.inside.finishes c.self.inside.state c.self.inside.over c.args.act (held c.self.inside.verified.now c.self.inside.finishes c.self.inside.state c.self.inside.over c.self.invariant) c.args.e (subst (λ (v : CoreValue). next_instruction v.module_run v.world c.args.act ≡ Some (instruction.Finish c.args.e)) (sym c.self.view_is) c.requires.here) r c.go_on.new.self is)))
 
 pub returns-clause-stepped : goal.returns-clause-stepped
-returns-clause-stepped c = 
+returns-clause-stepped c =
     let r = (runs c.self.inside.verified.now c.self.inside.finishes c.self.inside.state c.self.inside.over c.args.act (held c.self.inside.verified.now c.self.inside.finishes c.self.inside.state c.self.inside.over c.self.invariant) (instruction.Finish c.args.e) (subst (λ (v : CoreValue). next_instruction v.module_run v.world c.args.act ≡ Some (instruction.Finish c.args.e)) (sym c.self.view_is) c.requires.here)) in
     let is : c.go_on.new.self ≡ settled (record c.self.inside.state { activities = slice_set c.self.inside.state.activities c.args.act (onward r.x); clocks = moved c.args.act none c.self.inside.state.clocks }) =
     subst (λ n. (act : Activity) → slice_get c.self.inside.state.activities n ≡ Some act → c.go_on.new.self ≡ settled (record c.self.inside.state { activities = slice_set c.self.inside.state.activities n (onward act); clocks = moved n none c.self.inside.state.clocks })) c.act.view_is c.go_on.ensures r.x r.found in
     rw c.enter.ensures.opened (subst (λ (v : CoreValue). step v.module_run v.world c.args.act ≡ Stepped (told (changed_at c.self.inside.finishes c.args.act node_entered) c.go_on.new.self) event.Opened) c.self.view_is (open_stepped c.self.inside.verified.now c.self.inside.finishes c.self.inside.state c.self.inside.over c.args.act (held c.self.inside.verified.now c.self.inside.finishes c.self.inside.state c.self.inside.over c.self.invariant) c.args.e (subst (λ (v : CoreValue). next_instruction v.module_run v.world c.args.act ≡ Some (instruction.Finish c.args.e)) (sym c.self.view_is) c.requires.here) r c.go_on.new.self is))
-

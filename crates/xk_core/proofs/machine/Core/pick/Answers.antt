@@ -1,19 +1,9 @@
-use Rattle.std.proofs.Common.{◌≡◌, ◌≤◌, ◌+◌, ◌-◌, ◌<◌, ℕ, true, false, not, ◌&&◌, Some, None, Ok, Err, Result, IfOk, OnOk, length, slice_get, slice_set, ◌∙◌, sym, subst, ap, arith}
-use Rattle.std.proofs.lemmas.Bool.{false≢true}
-use Rattle.std.proofs.lemmas.Option.{none-some}
-use Rattle.std.specs.Option.{option_copied}
-use Rattle.xk_types.specs.declared.instr.Instr.TheVariants as instruction
-use Rattle.xk_types.specs.World.{Activity, World, opening}
-use Rattle.xk_types.specs.Step.{Stepped, step, settled, onward, moved, none}
-use Rattle.xk_types.specs.Schedule.{is_enabled, all_ended, is_step}
-use Rattle.xk_types.specs.Bound.{steps_bound, room_of}
-use Rattle.xk_finishes.specs.Tree.{node_at, node_entered, node_left, node_ended, changed_at, governing_of, fresh_node, awaits_innermost}
-use Rattle.xk_core.specs.Arm.{carried, passed_on, IsRunningUnit}
-use Rattle.xk_core.specs.Able.{is_able, is_kept}
-use Rattle.xk_core.specs.Core.{CoreValue, IsLeastEnabled, next_instruction}
-use Rattle.xk_core.specs.Told.{told, is_end}
-use Rattle.xk_core.proofs.Cores.{core_bound, core_stepped, core_names, core_clocks, core_ends, core_fresh}
-use Rattle.xk_core.proofs.Finishing.{IsHeld, held, held_on, parts, parts_roomy, parts_runs, parts_able, parts_over, pass_enabled, pass_stepped, pass_are, runs, exists, alive, open_room, open_stepped, open_are, close_open, close_empty, close_stepped, close_are, kept_told, carry_enabled, carry_stepped, carry_closed, carry_ended, spawn_enabled, spawn_within, spawn_stepped, spawn_are, started_held, taken_counts, taken_bound, able_told, next_told, since_told, ended_told}
+use Rattle.std.proofs.Common.{◌≡◌, true, false, sym, subst, arith}
+use Rattle.xk_types.specs.Schedule.{is_enabled, all_ended}
+use Rattle.xk_core.specs.Core.{CoreValue}
+use Rattle.xk_core.specs.Told.{told}
+use Rattle.xk_core.proofs.Cores.{core_names, core_ends}
+use Rattle.xk_core.proofs.Finishing.{held, parts_over}
 use Rattle.xk_core.proofs.Told.{length_told}
 use Rattle.xk_core.proofs.machine.Core.pick.Goals as goal
 
@@ -27,4 +17,3 @@ pub returns-clause-none : goal.returns-clause-none
 returns-clause-none c = subst (λ (v : CoreValue). all_ended v.world ≡ true) c.self.view_is (core_ends c.self.inside.verified.now (told c.self.inside.finishes c.self.inside.state) c.self.invariant.0
     (λ b lt. subst (λ (v : CoreValue). is_enabled v.module_run v.world b ≡ false) (sym c.self.view_is)
     (c.loop-a.invariant b (omega (arith, lt, c.activity_count-a-end.ensures, length_told c.self.inside.finishes c.self.inside.state.activities c.self.invariant.1.width, c.loop-a-test.false)))))
-

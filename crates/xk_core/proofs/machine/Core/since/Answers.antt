@@ -1,26 +1,16 @@
-use Rattle.std.proofs.Common.{◌≡◌, ◌≤◌, ◌+◌, ◌-◌, ◌<◌, ℕ, true, false, not, ◌&&◌, Some, None, Ok, Err, Result, IfOk, OnOk, length, slice_get, slice_set, ◌∙◌, sym, subst, ap, arith}
-use Rattle.std.proofs.lemmas.Bool.{false≢true}
+use Rattle.std.proofs.Common.{◌≡◌, ◌<◌, Some, length, slice_get, ◌∙◌, sym, subst, ap, arith}
 use Rattle.std.proofs.lemmas.Option.{none-some}
 use Rattle.std.specs.Option.{option_copied}
-use Rattle.xk_types.specs.declared.instr.Instr.TheVariants as instruction
-use Rattle.xk_types.specs.World.{Activity, World, opening}
-use Rattle.xk_types.specs.Step.{Stepped, step, settled, onward, moved, none}
-use Rattle.xk_types.specs.Schedule.{is_enabled, all_ended, is_step}
-use Rattle.xk_types.specs.Bound.{steps_bound, room_of}
-use Rattle.xk_finishes.specs.Tree.{node_at, node_entered, node_left, node_ended, changed_at, governing_of, fresh_node, awaits_innermost}
-use Rattle.xk_core.specs.Arm.{carried, passed_on, IsRunningUnit}
-use Rattle.xk_core.specs.Able.{is_able, is_kept}
-use Rattle.xk_core.specs.Core.{CoreValue, IsLeastEnabled, next_instruction}
-use Rattle.xk_core.specs.Told.{told, is_end}
-use Rattle.xk_core.proofs.Cores.{core_bound, core_stepped, core_names, core_clocks, core_ends, core_fresh}
-use Rattle.xk_core.proofs.Finishing.{IsHeld, held, held_on, parts, parts_roomy, parts_runs, parts_able, parts_over, pass_enabled, pass_stepped, pass_are, runs, exists, alive, open_room, open_stepped, open_are, close_open, close_empty, close_stepped, close_are, kept_told, carry_enabled, carry_stepped, carry_closed, carry_ended, spawn_enabled, spawn_within, spawn_stepped, spawn_are, started_held, taken_counts, taken_bound, able_told, next_told, since_told, ended_told}
+use Rattle.xk_types.specs.World.{Activity}
+use Rattle.xk_core.specs.Core.{CoreValue}
+use Rattle.xk_core.proofs.Finishing.{since_told}
 use Rattle.xk_core.proofs.Told.{length_told}
 use Rattle.std.specs.Prelude.{option_map}
 use Rattle.xk_laws.proofs.Lists.{get_inside}
 use Rattle.xk_core.proofs.machine.Core.since.Goals as goal
 
 pub unreachable-requires : goal.unreachable-requires
-unreachable-requires c = 
+unreachable-requires c =
     let lt : c.args.act < length c.self.inside.state.activities = omega (arith, subst (λ (v : CoreValue). c.args.act < length v.world.activities) (sym c.self.view_is) c.requires, length_told c.self.inside.finishes c.self.inside.state.activities c.self.invariant.1.width) in
     let x = get_inside c.self.inside.state.activities c.args.act lt in
     none-some x.0 (sym (ap option_copied c.in-None.is) ∙ c.activity.ensures ∙ ap (slice_get c.self.inside.state.activities) c.act.view_is ∙ x.1)
@@ -29,4 +19,3 @@ pub returns : goal.returns
 returns c = subst (λ (v : CoreValue). option_map (λ (x : Activity). x.since) (slice_get v.world.activities c.args.act) ≡ Some c.since.result) c.self.view_is
     (since_told c.self.inside.finishes c.self.inside.state c.self.invariant.1.width c.args.act
     ∙ ap (option_map (λ (x : Activity). x.since)) (ap (slice_get c.self.inside.state.activities) (sym c.act.view_is) ∙ sym c.activity.ensures ∙ ap option_copied c.in-Some.is) ∙ ap (λ n. Some n) (sym c.since.ensures))
-

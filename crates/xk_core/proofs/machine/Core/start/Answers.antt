@@ -1,21 +1,15 @@
-use Rattle.std.proofs.Common.{◌≡◌, ◌≤◌, ◌+◌, ◌-◌, ◌<◌, ℕ, true, false, not, ◌&&◌, Some, None, Ok, Err, Result, IfOk, OnOk, length, slice_get, slice_set, ◌∙◌, sym, subst, ap, arith}
-use Rattle.std.proofs.lemmas.Bool.{false≢true}
-use Rattle.std.proofs.lemmas.Option.{none-some}
-use Rattle.std.specs.Option.{option_copied}
+use Rattle.std.proofs.Common.{◌≡◌, true, Some, IfOk, OnOk, sym, subst, arith}
 use Rattle.xk_types.specs.declared.instr.Instr.TheVariants as instruction
-use Rattle.xk_types.specs.World.{Activity, World, opening}
-use Rattle.xk_types.specs.Step.{Stepped, step, settled, onward, moved, none}
-use Rattle.xk_types.specs.Schedule.{is_enabled, all_ended, is_step}
-use Rattle.xk_types.specs.Bound.{steps_bound, room_of}
-use Rattle.xk_finishes.specs.Tree.{node_at, node_entered, node_left, node_ended, changed_at, governing_of, fresh_node, awaits_innermost}
-use Rattle.xk_core.specs.Arm.{carried, passed_on, IsRunningUnit}
-use Rattle.xk_core.specs.Able.{is_able, is_kept}
-use Rattle.xk_core.specs.Core.{CoreValue, IsLeastEnabled, next_instruction}
-use Rattle.xk_core.specs.Told.{told, is_end}
-use Rattle.xk_core.proofs.Cores.{core_bound, core_stepped, core_names, core_clocks, core_ends, core_fresh}
-use Rattle.xk_core.proofs.Finishing.{IsHeld, held, held_on, parts, parts_roomy, parts_runs, parts_able, parts_over, pass_enabled, pass_stepped, pass_are, runs, exists, alive, open_room, open_stepped, open_are, close_open, close_empty, close_stepped, close_are, kept_told, carry_enabled, carry_stepped, carry_closed, carry_ended, spawn_enabled, spawn_within, spawn_stepped, spawn_are, started_held, taken_counts, taken_bound, able_told, next_told, since_told, ended_told}
+use Rattle.xk_types.specs.Step.{Stepped, step}
+use Rattle.xk_types.specs.Schedule.{is_enabled}
+use Rattle.xk_finishes.specs.Tree.{node_at, governing_of, fresh_node}
+use Rattle.xk_core.specs.Arm.{carried}
+use Rattle.xk_core.specs.Core.{CoreValue, next_instruction}
+use Rattle.xk_core.specs.Told.{told}
+use Rattle.xk_core.proofs.Cores.{core_names}
+use Rattle.xk_core.proofs.Finishing.{held, parts, parts_roomy, runs, alive, spawn_enabled, started_held}
 use Rattle.xk_core.proofs.Told.{length_told}
-use Rattle.std.proofs.Common.{[], ◌∷◌, ◌++◌, OnErr}
+use Rattle.std.proofs.Common.{[], ◌∷◌, ◌++◌}
 use Rattle.xk_core.proofs.machine.Core.start.Goals as goal
 
 pub spawn-requires-clause-enabled : goal.spawn-requires-clause-enabled
@@ -31,7 +25,7 @@ pub spawn-requires-clause-numbers : goal.spawn-requires-clause-numbers
 spawn-requires-clause-numbers c = omega (arith, core_names c.self.inside.verified.now (told c.self.inside.finishes c.self.inside.state) c.self.invariant.0, length_told c.self.inside.finishes c.self.inside.state.activities c.self.invariant.1.width)
 
 pub invariant_of-self : goal.invariant_of-self
-invariant_of-self c = 
+invariant_of-self c =
     let h = (held c.self.inside.verified.now c.self.inside.finishes c.self.inside.state c.self.inside.over c.self.invariant) in
     let goes : IfOk c.spawn.result (λ e. carried c.self.inside.verified.now c.self.inside.state c.args.act (instruction.Spawn c.args.unit c.args.args.now) ≡ Stepped c.spawn.new.self e) =
     subst (λ xs. IfOk c.spawn.result (λ e. carried c.self.inside.verified.now c.self.inside.state c.args.act (instruction.Spawn c.args.unit xs) ≡ Stepped c.spawn.new.self e)) c.slots.ensures
@@ -43,7 +37,7 @@ invariant_of-self c =
     parts c.self.inside.verified.now c.spawn.new.finishes c.spawn.new.self c.self.inside.over both.0
 
 pub returns-clause-stepped : goal.returns-clause-stepped
-returns-clause-stepped c = 
+returns-clause-stepped c =
     let h = (held c.self.inside.verified.now c.self.inside.finishes c.self.inside.state c.self.inside.over c.self.invariant) in
     let goes : IfOk c.spawn.result (λ e. carried c.self.inside.verified.now c.self.inside.state c.args.act (instruction.Spawn c.args.unit c.args.args.now) ≡ Stepped c.spawn.new.self e) =
     subst (λ xs. IfOk c.spawn.result (λ e. carried c.self.inside.verified.now c.self.inside.state c.args.act (instruction.Spawn c.args.unit xs) ≡ Stepped c.spawn.new.self e)) c.slots.ensures
@@ -53,4 +47,3 @@ returns-clause-stepped c =
     let both = started_held c.self.inside.verified.now c.self.inside.finishes c.spawn.new.finishes c.self.inside.state c.spawn.new.self c.self.inside.over c.args.act c.args.unit c.args.args.now c.room-room.result.finishes c.spawn.result h
     (subst (λ (v : CoreValue). next_instruction v.module_run v.world c.args.act ≡ Some (instruction.Spawn c.args.unit c.args.args.now)) (sym c.self.view_is) c.requires.here) (subst (λ (v : CoreValue). is_enabled v.module_run v.world c.args.act ≡ true) (sym c.self.view_is) c.requires.enabled) c.room-room.ensures.finishes goes taken c.spawn.ensures.refused c.spawn.ensures.finishes_refused in
     subst (λ (v : CoreValue). IfOk c.spawn.result (λ e. step v.module_run v.world c.args.act ≡ Stepped (told c.spawn.new.finishes c.spawn.new.self) e)) c.self.view_is both.1
-
