@@ -1,10 +1,11 @@
 -- A module with a finish that is accepted: main opens it, makes a clock inside, starts an activity with the clock, drops it, and at
 -- the end of the finish waits until the activity has ended.
-use Rattle.std.proofs.Common.{◌≡◌, ℕ, zero, suc, ◌≤◌, Bool, true, false, List, [], ◌∷◌, length, Option, Some, None, refl, sym, ap, ◌∙◌, subst, arith}
+use Rattle.std.proofs.Common.{◌≡◌, ℕ, zero, suc, ◌≤◌, Bool, true, false, ◌&&◌, List, [], ◌∷◌, length, Option, Some, None, refl, sym, ap, ◌∙◌, subst, arith}
 use Rattle.std.specs.Prelude.{slice_get}
+use Rattle.std.specs.List.{list_all}
 use Rattle.std.specs.Option.{option_map_or}
 use Rattle.std.proofs.lemmas.Bool.{false≢true}
-use Rattle.std.proofs.lemmas.Option.{slice_get_past}
+use Rattle.std.proofs.lemmas.Option.{none-some, same_Some, slice_get_past}
 use Rattle.std.proofs.lemmas.List.Elements.{All-cons, All-nil, All-from_recursion}
 use Rattle.xk_types.specs.declared.instr.Instr.TheVariants as instr
 use Rattle.xk_types.specs.declared.unit.UnitKind.TheVariants as unit_kind
@@ -167,3 +168,18 @@ other_goes list w h on main = go (is_enabled finish_row w 1) refl
         nobody zero = main
         nobody (suc zero) = e
         nobody (suc (suc a)) = beyond list w h a
+
+-- an activity hasn't ended, so that not all have
+not_all : (xs : List Activity) (k : ℕ) (act : Activity) → slice_get xs k ≡ Some act → is_ended act.status ≡ false → list_all (λ x. is_ended x.status) xs ≡ false
+not_all [] k act there on = absurd (none-some act there)
+not_all (x ∷ xs) zero act there on = rw (ap (λ y. is_ended y.status) (same_Some x act there) ∙ on) refl
+not_all (x ∷ xs) (suc k) act there on = go (is_ended x.status) (not_all xs k act there on)
+  where
+    go : (b : Bool) → list_all (λ y. is_ended y.status) xs ≡ false → (b && list_all (λ y. is_ended y.status) xs) ≡ false
+    go true rest = rest
+    go false rest = refl
+
+-- so while main waits, it waits for one that goes on
+pub other_goes_on : (rest : List ℕ) (w : World) → Leads finish_row (from_end rest) w → (act : Activity) → slice_get w.activities 1 ≡ Some act
+    → is_ended act.status ≡ false → is_enabled finish_row w 1 ≡ true
+other_goes_on rest w h act there on = other_goes (from_end rest) w h (not_all w.activities 1 act there on) (waits_for_other rest w h act there on)
