@@ -82,7 +82,7 @@ finish_row_bounds = (refl, refl, refl)
 
 -- ---- main waits
 
--- a list of steps after main's first four, which bring it to its `endfinish`
+-- a list that begins with the four steps that bring main to its `endfinish`
 abbrev pub from_end : List ℕ → List ℕ
 from_end rest = 0 ∷ 0 ∷ 0 ∷ 0 ∷ rest
 
@@ -104,7 +104,7 @@ waits_at_end = (refl, refl, refl, refl)
 short : (v w : World) → Held v ≡ Through w → ⊥
 short v w e = grind arith
 
--- what main can do at the end of a run
+-- main can take no step at the end of a run
 abbrev main_stays : Course → Type 0
 main_stays (Through w) = is_enabled finish_row w 0 ≡ false
 main_stays (Held w) = Unit {0}
@@ -116,7 +116,7 @@ other_ended (Through w) = option_map_or (λ act. is_ended act.status) (slice_get
 other_ended (Held w) = false
 other_ended (Wronged w c) = false
 
--- it hasn't
+-- where it is still on, that is not so
 not_over : (w : World) (act : Activity) → slice_get w.activities 1 ≡ Some act → is_ended act.status ≡ false → other_ended (Through w) ≡ true → ⊥
 not_over w act there on h = false≢true (sym on ∙ sym (ap (λ o. option_map_or (λ x. is_ended x.status) o false) there) ∙ h)
 
