@@ -32,4 +32,5 @@ pub mod SumRow
 pub mod PairRow
 pub mod PhasesRow
 pub mod KindsRow
+pub mod FinishRow
 pub mod Needed
