@@ -55,6 +55,8 @@ printed_by : (a : ℕ) (e : Event) → filter_map number_in (filter is_seen ((a,
 printed_by a event.Local = refl
 printed_by a (event.Printed n) = refl
 printed_by a event.Made = refl
+printed_by a event.Opened = refl
+printed_by a event.Closed = refl
 printed_by a event.Spawned = refl
 printed_by a event.Resumed = refl
 printed_by a event.Dropped = refl
