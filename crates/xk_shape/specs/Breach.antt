@@ -29,8 +29,8 @@ abbrev pub IsFirst : (ℕ → Bool) → Option ℕ → Type 0
 IsFirst test None = (at : ℕ) → test at ≡ false
 IsFirst test (Some first) = (test first ≡ true) × ((at : ℕ) → at < first → test at ≡ false)
 
--- whether an instruction breaks the rule can be seen without knowing what others make of the unit's slots
-abbrev pub IsOnInstructions : Rule → Type 0
-IsOnInstructions rule.Home = ⊥
-IsOnInstructions rule.Registers = ⊥
-IsOnInstructions _ = Unit {0}
+-- it is tried place by place: so are all but the two on homes, which are tried where loops and finishes are known to nest
+abbrev pub IsTriedByPlace : Rule → Type 0
+IsTriedByPlace rule.Home = ⊥
+IsTriedByPlace rule.Registers = ⊥
+IsTriedByPlace _ = Unit {0}

@@ -20,7 +20,7 @@ pub struct ShapeFault {
 pub enum ShapeError {
     #[error("the code breaks rule V{number} {name} in unit {unit} at {at}", number = .0.rule.number(), name = .0.rule.name(), unit = .0.unit, at = .0.at)]
     Fault(ShapeFault),
-    /// Room for the loops of a unit was refused.
+    /// Room for the loops, finishes or homes of a unit was refused.
     #[error("out of memory")]
     OutOfMemory,
 }

@@ -25,7 +25,7 @@ pub(crate) fn check_homes(alloc: Global, m: &Module) -> Result<(), ShapeError>
 {
     let mut unit = 0;
     for u in m.units() {
-        if let Some(at) = first_moved(alloc, u)? {
+        if let Some(at) = first_stray(alloc, u)? {
             let rule = Rule::Home;
             return Err(ShapeError::Fault(ShapeFault { rule, unit, at }));
         }
@@ -35,13 +35,13 @@ pub(crate) fn check_homes(alloc: Global, m: &Module) -> Result<(), ShapeError>
 }
 
 /// The least instruction of a unit that breaks the rule on homes.
-fn first_moved(alloc: Global, u: &Unit) -> Result<Option<u16>, AllocError>
+fn first_stray(alloc: Global, u: &Unit) -> Result<Option<u16>, AllocError>
     requires { IsOrderly u.now }
     ensures { IfOk result (IsFirst (breaks_home u.now)) }
 {
     let tables = Tables::of(alloc, u)?;
     for at in 0..u.code.len() as u16 {
-        if moves_home(u, &tables, at) {
+        if strays(u, &tables, at) {
             return Ok(Some(at));
         }
     }
@@ -49,20 +49,20 @@ fn first_moved(alloc: Global, u: &Unit) -> Result<Option<u16>, AllocError>
 }
 
 /// Whether the instruction at this place breaks the rule on homes, where none before it does.
-fn moves_home(u: &Unit, tables: &Tables, at: u16) -> bool
+fn strays(u: &Unit, tables: &Tables, at: u16) -> bool
     requires orderly { IsOrderly u.now }
     requires tables { AreTables u.now tables.now }
     requires before { (k : ℕ) → k < at → breaks_home u.now k ≡ false }
     ensures { result ≡ breaks_home u.now at }
 {
     match u.code.get(at as usize) {
-        Some(instr) => is_moved(u, tables, at, instr),
+        Some(instr) => is_stray(u, tables, at, instr),
         None => false,
     }
 }
 
 /// The same of the instruction that stands at this place.
-fn is_moved(u: &Unit, tables: &Tables, at: u16, instr: &Instr) -> bool
+fn is_stray(u: &Unit, tables: &Tables, at: u16, instr: &Instr) -> bool
     requires orderly { IsOrderly u.now }
     requires tables { AreTables u.now tables.now }
     requires before { (k : ℕ) → k < at → breaks_home u.now k ≡ false }

@@ -6,7 +6,7 @@ ghost use Rattle.xk_types.specs.Code.{IsUnitWithinLimits, params_of, is_method, 
 ghost use Rattle.xk_types.specs.Shape.{breaks_in, breaks_slot, is_in_place, runs_amiss, instr_is, is_fitting, breaks_end, has_twice, gives_twice, breaks_same_clock, slots_named, is_ret, HasShape};
 ghost use Rattle.xk_shape.specs.Fault.{Refuses};
 ghost use Rattle.xk_shape.specs.Nests.{AreNests};
-ghost use Rattle.xk_shape.specs.Breach.{IsOnInstructions, IsNowhereBroken, FailsRule, IsFirst};
+ghost use Rattle.xk_shape.specs.Breach.{IsTriedByPlace, IsNowhereBroken, FailsRule, IsFirst};
 
 use crate::fault::{ShapeError, ShapeFault};
 use crate::homes::{check_homes, check_registers};
@@ -32,7 +32,7 @@ pub(crate) fn check_shape(alloc: Global, m: &Module) -> Result<(), ShapeError>
 
 /// Looks for the least place that breaks the rule.
 fn check_rule(alloc: Global, m: &Module, rule: Rule) -> Result<(), ShapeError>
-    requires { IsOnInstructions rule }
+    requires { IsTriedByPlace rule }
     ensures { MatchResult result (λ _. IsNowhereBroken m.now rule) (FailsRule m.now rule) }
 {
     let mut unit = 0;
@@ -48,7 +48,7 @@ fn check_rule(alloc: Global, m: &Module, rule: Rule) -> Result<(), ShapeError>
 
 /// The least instruction of a unit, whose loops and finishes these are, that breaks the rule.
 fn first_place(m: &Module, rule: Rule, unit: u16, u: &Unit, nests: &Nests) -> Option<u16>
-    requires rule { IsOnInstructions rule }
+    requires rule { IsTriedByPlace rule }
     requires limits { IsUnitWithinLimits u.now }
     requires nests { AreNests u.now nests.now }
     ensures { IsFirst (breaks_in m.now rule unit u.now) result }
@@ -65,7 +65,7 @@ fn first_place(m: &Module, rule: Rule, unit: u16, u: &Unit, nests: &Nests) -> Op
 /// Whether an instruction of a unit, whose loops and finishes these are, breaks the rule. A fault of the whole unit is one of
 /// instruction 0.
 fn breaks_rule(m: &Module, rule: Rule, unit: u16, u: &Unit, nests: &Nests, at: u16) -> bool
-    requires rule { IsOnInstructions rule }
+    requires rule { IsTriedByPlace rule }
     requires limits { IsUnitWithinLimits u.now }
     requires nests { AreNests u.now nests.now }
     ensures { result ≡ breaks_in m.now rule unit u.now at }

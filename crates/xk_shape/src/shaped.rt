@@ -29,8 +29,8 @@ impl Model for Shaped {
 }
 
 /// Takes the module if its code has the shape, or gives it back with the first rule that it breaks, at the least place where
-/// it does. Rules are tried in the order of their numbers. `OutOfMemory` comes only where room for the loops of a unit was
-/// refused.
+/// it does. Rules are tried in the order of their numbers. `OutOfMemory` comes only where room for the loops, finishes or homes
+/// of a unit was refused.
 pub fn shape(alloc: Global, m: Module) -> Result<Shaped, (Module, ShapeError)>
     ensures made { IfOk result (λ s. (s ≡ m) × HasShape m) }
     ensures refused { IfErr result (λ e. Refuses m e.1) }
