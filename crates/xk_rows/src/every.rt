@@ -7,7 +7,7 @@ use crate::programs::{
     FINISHED, FINISHES_NESTED, IN_STEP, LEFT_ALONE, OUTER_CLOCK, PAIR_INSIDE, STARTED_OUTSIDE,
     accepted,
 };
-use crate::rows::numbers;
+use crate::rows::{numbers, ran};
 use std::alloc::Global;
 use std::process::Abort;
 use std::test::Fail;
@@ -92,10 +92,11 @@ fn followed(alloc: Global, verified: &Verified, begin: &[u32]) -> Result<Path, F
 
 /// The numbers that the whole schedule prints, in one call.
 fn printed(alloc: Global, verified: &Verified, schedule: &[u32]) -> Result<Vec<i64>, Fail> {
-    match run_schedule(alloc, Core::open(alloc, verified)?, schedule) {
-        Ok(ran) if ran.core.ended() => numbers(alloc, &ran.seen),
-        _ => Err("a schedule doesn't lead to the end".into()),
+    let ran = ran(alloc, verified, schedule)?;
+    if !ran.core.ended() {
+        return Err("a schedule doesn't lead to the end".into());
     }
+    numbers(alloc, &ran.seen)
 }
 
 fn has(lists: &[&[i64]], list: &[i64]) -> bool {
@@ -200,10 +201,12 @@ fn broken(alloc: Global, text: &str) -> Result<Option<Rule>, Fail> {
     };
     match verify(alloc, program) {
         Ok(_) => Ok(None),
-        Err((_, Refusal::Shape(fault))) => Ok(Some(fault.rule)),
-        Err((_, Refusal::Kind(fault))) => Ok(Some(fault.rule)),
-        Err((_, Refusal::Bound(fault))) => Ok(Some(fault.rule)),
-        Err((_, Refusal::OutOfMemory)) => Err("memory is refused".into()),
+        Err((_, refusal)) => match refusal {
+            Refusal::Shape(fault) => Ok(Some(fault.rule)),
+            Refusal::Kind(fault) => Ok(Some(fault.rule)),
+            Refusal::Bound(fault) => Ok(Some(fault.rule)),
+            Refusal::OutOfMemory => Err("memory is refused".into()),
+        },
     }
 }
 

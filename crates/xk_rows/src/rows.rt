@@ -13,7 +13,7 @@ use xk_core::{Core, Halt, Ran, run_schedule};
 use xk_types::{Act, ClockId, Event};
 
 /// The schedule from the opening core, which has to go through.
-fn ran<'m>(alloc: Global, verified: &'m Verified, schedule: &[u32]) -> Result<Ran<'m>, Fail> {
+pub fn ran<'m>(alloc: Global, verified: &'m Verified, schedule: &[u32]) -> Result<Ran<'m>, Fail> {
     match run_schedule(alloc, Core::open(alloc, verified)?, schedule) {
         Ok(ran) => Ok(ran),
         Err(_) => Err("a schedule is halted".into()),
