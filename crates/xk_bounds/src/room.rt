@@ -10,8 +10,8 @@ use std::alloc::{AllocError, Global};
 use xk_shape::Blocks;
 use xk_types::{Instr, Module, Unit};
 
-/// The most of each that an activity has at once, from the frame of one unit on: what the unit has itself, and the most of what
-/// those have that it calls.
+/// At most so much of each an activity has at once, from the frame of one unit on: what the unit has itself, and the most of what
+/// those have that it calls, wherever it calls them.
 #[derive(Clone, Copy, Debug, PartialEq, Eq)]
 pub struct Room {
     /// The slots in its frames: at most 4,096.

@@ -56,7 +56,16 @@ fn spawn(alloc: Global, unit: u16, args: &[u16]) -> Result<Instr, AllocError> {
 
 /// What the verifier says of these units.
 fn verdict(alloc: Global, units: Vec<Unit>) -> Result<Result<Verified, Refusal>, Limit> {
-    match Module::new(Vec::new(alloc), units) {
+    verdict_sharing(alloc, Vec::new(alloc), units)
+}
+
+/// The same, with shared numbers.
+fn verdict_sharing(
+    alloc: Global,
+    shared: Vec<i64>,
+    units: Vec<Unit>,
+) -> Result<Result<Verified, Refusal>, Limit> {
+    match Module::new(shared, units) {
         Ok(m) => Ok(verify(alloc, m).map_err(|e| e.1)),
         Err((_, _, limit)) => Err(limit),
     }
@@ -282,6 +291,47 @@ fn counts_turns(rt: HostRuntime) -> Result<(), Fail> {
     Ok(())
 }
 
+/// Main, which starts three activities and prints the shared number once they have ended, and these, which each add to it.
+fn shared_sum(alloc: Global) -> Result<Vec<Unit>, AllocError> {
+    let code = vec![in alloc;
+        Instr::Finish(4),
+        Instr::For(0, 1, 3, 3),
+        spawn(alloc, 1, &[0])?,
+        Instr::Next(1),
+        Instr::EndFinish(0),
+        Instr::Get(1, 0),
+        Instr::Print(1),
+        Instr::Ret,
+    ]?;
+    let main = main_unit(alloc, 2, code)?;
+    let code = vec![in alloc; Instr::AddTo(0, 0), Instr::Ret]?;
+    let adds = body(alloc, &[ParamKind::Number], 1, code)?;
+    Ok(vec![in alloc; main, adds]?)
+}
+
+#[test]
+fn accepts_a_shared_sum(rt: HostRuntime) -> Result<(), Fail> {
+    let alloc = rt.alloc();
+    let shared = vec![in alloc; 0]?;
+    let Ok(v) = verdict_sharing(alloc, shared, shared_sum(alloc)?)? else {
+        panic!(rt; "refused");
+    };
+    assert_eq!(rt; (v.steps(), v.activities(), v.clocks()), (18, 4, 0));
+    assert_eq!(rt; kinds_at(&v, 0, 5, 1), Some(KindSet::of(Kind::Unset)));
+    assert_eq!(rt; kinds_at(&v, 0, 6, 1), Some(KindSet::of(Kind::Number)));
+    Ok(())
+}
+
+#[test]
+fn refuses_a_sum_that_nobody_shares(rt: HostRuntime) -> Result<(), Fail> {
+    let alloc = rt.alloc();
+    let Err(Refusal::Shape(f)) = verdict(alloc, shared_sum(alloc)?)? else {
+        panic!(rt; "no fault of shape");
+    };
+    assert_eq!(rt; (f.rule.number(), f.unit, f.at), (5, 0, 5));
+    Ok(())
+}
+
 #[test]
 fn counts_what_stands_behind_a_loop_once(rt: HostRuntime) -> Result<(), Fail> {
     let alloc = rt.alloc();
@@ -501,7 +551,7 @@ fn measures_finishes(rt: HostRuntime) -> Result<(), Fail> {
     Ok(())
 }
 
-/// Main, which opens two finishes one inside the other, calls the first method there and starts a body behind them; the body calls
+/// Main, which opens finishes one inside the other, calls the first method there and starts a body behind them; the body calls
 /// the same method, which opens a finish, and behind it calls another one, which opens two.
 fn finishes_in_calls(alloc: Global) -> Result<Vec<Unit>, AllocError> {
     let code = vec![in alloc;

@@ -119,7 +119,7 @@ impl Verified {
         self.bounds.stack
     }
 
-    /// The most that an activity has at once to run this unit, and what it calls.
+    /// At most so much an activity has at once to run this unit, and what it calls.
     pub fn room(&self, unit: u16) -> Room
         requires { unit < length self.now.units }
         ensures slots { result.slots ≡ stack_of self.now unit }

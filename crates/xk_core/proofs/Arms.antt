@@ -15,12 +15,12 @@ use Rattle.xk_types.specs.declared.unit.ParamKind.TheVariants as param
 use Rattle.std.specs.Option.{option_map_or, option_and_then}
 use Rattle.xk_types.specs.Code.{UnitValue, ModuleValue, is_body, IsUnitWithinLimits, IsWithinLimits, is_method}
 use Rattle.xk_types.specs.World.{Activity, Clock, World, standing_of, slots_of, instruction_at, Frame}
-use Rattle.xk_types.specs.Step.{Outcome, Wrong, Stepped, ClockUse, OutOfRange, carried_out, done, number_in, clock_in, registered_on, put_in, arguments_in, names_clock, is_given, joined, spawned, spawning, settled, none, onward, with_slots, is_registered, computing, turning, slot_at, called, calling, returning}
+use Rattle.xk_types.specs.Step.{Outcome, Wrong, Stepped, ClockUse, OutOfRange, carried_out, done, number_in, clock_in, registered_on, put_in, arguments_in, names_clock, is_given, joined, spawned, spawning, settled, none, onward, with_slots, is_registered, computing, turning, slot_at, called, calling, returning, cell_in, stored, writing}
 use Rattle.xk_types.specs.Schedule.{is_step}
 use Rattle.xk_core.specs.declared.change.StepChange.{StepChange}
 use Rattle.xk_core.specs.Change.{standing_after_step}
 use Rattle.xk_core.specs.Joining.{given_slots, started, called_with}
-use Rattle.xk_core.specs.Arm.{value_at, grows, concerns_finishes, AreNumbersAt, IsTurnAt, IsLocal, Computes, IsRunningUnit, CanCarry, Writes, Carries, IsRoomy, carried, carried_by, Leaves}
+use Rattle.xk_core.specs.Arm.{value_at, grows, concerns_finishes, concerns_cells, AreNumbersAt, IsTurnAt, IsLocal, Computes, IsRunningUnit, CanCarry, Writes, Carries, IsRoomy, carried, carried_by, Leaves}
 
 same_some : {X : Type 0} (x y : X) → Some x ≡ Some y → x ≡ y
 same_some x y e = cc
@@ -123,30 +123,33 @@ instruction_there m u act b found = ap (option_and_then (λ unit. slice_get unit
 
 -- an activity that takes a step at an instruction that adds nothing has what it works on
 pub can_carry : (m : ModuleValue) (w : World) (a : ℕ) (u : UnitValue) (act : Activity) (i : Instr) → slice_get m.units act.frame.unit ≡ Some u
-    → is_step (carried_out m w a act i) ≡ true → grows i ≡ false → concerns_finishes i ≡ false → CanCarry u act i
-can_carry m w a u act (instr.Lit d n) found h one plain = let s = slot_there act d _ _ h in slice_get_within _ d _ s.1
-can_carry m w a u act (instr.Copy d x) found h one plain =
+    → is_step (carried_out m w a act i) ≡ true → grows i ≡ false → concerns_finishes i ≡ false → concerns_cells i ≡ false → CanCarry u act i
+can_carry m w a u act (instr.Lit d n) found h one plain own = let s = slot_there act d _ _ h in slice_get_within _ d _ s.1
+can_carry m w a u act (instr.Copy d x) found h one plain own =
     let p = number_there (slot_at act x) _ h in
     let s = slot_there act d _ _ p.2 in
     ((p.0, p.1), slice_get_within _ d _ s.1)
-can_carry m w a u act (instr.Add d x y) found h one plain = can_compute w a act _ d x y h
-can_carry m w a u act (instr.Sub d x y) found h one plain = can_compute w a act _ d x y h
-can_carry m w a u act (instr.Mul d x y) found h one plain = can_compute w a act _ d x y h
-can_carry m w a u act (instr.Unless op x y t) found h one plain = (numbers_there act x y _ h).0
-can_carry m w a u act (instr.Jump t) found h one plain = tt
-can_carry m w a u act (instr.For k lo hi e) found h one plain = let s = slot_there act k _ _ h in slice_get_within _ k _ s.1
-can_carry m w a u act (instr.Next b) found h one plain =
+can_carry m w a u act (instr.Add d x y) found h one plain own = can_compute w a act _ d x y h
+can_carry m w a u act (instr.Sub d x y) found h one plain own = can_compute w a act _ d x y h
+can_carry m w a u act (instr.Mul d x y) found h one plain own = can_compute w a act _ d x y h
+can_carry m w a u act (instr.Unless op x y t) found h one plain own = (numbers_there act x y _ h).0
+can_carry m w a u act (instr.Jump t) found h one plain own = tt
+can_carry m w a u act (instr.For k lo hi e) found h one plain own = let s = slot_there act k _ _ h in slice_get_within _ k _ s.1
+can_carry m w a u act (instr.Next b) found h one plain own =
     can_turn w a u act b (slice_get u.code b) refl (ap (λ o. is_step (turning w a act b o)) (sym (instruction_there m u act b found)) ∙ h)
-can_carry m w a u act (instr.Print x) found h one plain = let p = number_there (slot_at act x) _ h in (p.0, p.1)
-can_carry m w a u act (instr.Finish e) found h one plain = absurd (false≢true (sym plain))
-can_carry m w a u act (instr.EndFinish b) found h one plain = absurd (false≢true (sym plain))
-can_carry m w a u act (instr.Make d) found h one plain = absurd (false≢true (sym one))
-can_carry m w a u act (instr.Call t args) found h one plain = absurd (false≢true (sym one))
-can_carry m w a u act (instr.Spawn t args) found h one plain = absurd (false≢true (sym one))
-can_carry m w a u act (instr.Resume k) found h one plain = clock_there w a (slot_at act k) _ h
-can_carry m w a u act (instr.Drop k) found h one plain = clock_there w a (slot_at act k) _ h
-can_carry m w a u act instr.Advance found h one plain = tt
-can_carry m w a u act instr.Ret found h one plain = tt
+can_carry m w a u act (instr.Print x) found h one plain own = let p = number_there (slot_at act x) _ h in (p.0, p.1)
+can_carry m w a u act (instr.Get d s) found h one plain own = absurd (false≢true (sym own))
+can_carry m w a u act (instr.Put s x) found h one plain own = absurd (false≢true (sym own))
+can_carry m w a u act (instr.AddTo s x) found h one plain own = absurd (false≢true (sym own))
+can_carry m w a u act (instr.Finish e) found h one plain own = absurd (false≢true (sym plain))
+can_carry m w a u act (instr.EndFinish b) found h one plain own = absurd (false≢true (sym plain))
+can_carry m w a u act (instr.Make d) found h one plain own = absurd (false≢true (sym one))
+can_carry m w a u act (instr.Call t args) found h one plain own = absurd (false≢true (sym one))
+can_carry m w a u act (instr.Spawn t args) found h one plain own = absurd (false≢true (sym one))
+can_carry m w a u act (instr.Resume k) found h one plain own = clock_there w a (slot_at act k) _ h
+can_carry m w a u act (instr.Drop k) found h one plain own = clock_there w a (slot_at act k) _ h
+can_carry m w a u act instr.Advance found h one plain own = tt
+can_carry m w a u act instr.Ret found h one plain own = tt
 
 -- a slot that is there is written as the definition writes it
 pub slot_written : (act : Activity) (d : ℕ) (v : Value) (next : Activity) → d < length act.frame.slots → next ≡ onward (with_slots act (slice_set act.frame.slots d v)) → Writes act d v next
@@ -177,6 +180,9 @@ carries_done m w a u act (instr.For k lo hi end) next ch e found h did = rw (did
 carries_done m w a u act (instr.Next b) next ch e found h did =
     ap (turning w a act b) (instruction_there m u act b found ∙ did.0.begins) ∙ rw (did.0.number, did.0.goes, did.1.0, did.1.1) refl
 carries_done m w a u act (instr.Print x) next ch e found h did = rw (did.1, did.2, did.3, did.4) refl
+carries_done m w a u act (instr.Get d s) next ch e found h did = absurd did
+carries_done m w a u act (instr.Put s x) next ch e found h did = absurd did
+carries_done m w a u act (instr.AddTo s x) next ch e found h did = absurd did
 carries_done m w a u act (instr.Finish x) next ch e found h did = absurd did
 carries_done m w a u act (instr.EndFinish b) next ch e found h did = absurd did
 carries_done m w a u act (instr.Make d) next ch e found h did = absurd did
@@ -228,10 +234,10 @@ unit_within m w a act units n runs there same which =
 pub actor_there : (m : ModuleValue) (w : World) (a : ℕ) (i : Instr) (act : Activity) → is_step (carried m w a i) ≡ true → act ≡ get_or w.activities a act → slice_get w.activities a ≡ Some act
 actor_there m w a i act h is = read_at w a act (carried_within m w a i h) is
 
-pub operands_there : (m : ModuleValue) (w : World) (a : ℕ) (i : Instr) (act : Activity) (u : UnitValue) → is_step (carried m w a i) ≡ true → grows i ≡ false → concerns_finishes i ≡ false → act ≡ get_or w.activities a act
+pub operands_there : (m : ModuleValue) (w : World) (a : ℕ) (i : Instr) (act : Activity) (u : UnitValue) → is_step (carried m w a i) ≡ true → grows i ≡ false → concerns_finishes i ≡ false → concerns_cells i ≡ false → act ≡ get_or w.activities a act
     → slice_get m.units act.frame.unit ≡ Some u → CanCarry u act i
-operands_there m w a i act u h one plain e found =
-    can_carry m w a u act i found (ap is_step (sym (carried_there m w a i act (read_at w a act (carried_within m w a i h) e))) ∙ h) one plain
+operands_there m w a i act u h one plain own e found =
+    can_carry m w a u act i found (ap is_step (sym (carried_there m w a i act (read_at w a act (carried_within m w a i h) e))) ∙ h) one plain own
 
 -- the step that the arm took
 pub arm_done : (m : ModuleValue) (w : World) (a : ℕ) (i : Instr) (act next : Activity) (u : UnitValue) (ch : StepChange) (e : Event) → is_step (carried m w a i) ≡ true → act ≡ get_or w.activities a act
@@ -385,3 +391,54 @@ pub started_parts : (w : World) (a : ℕ) (act next child : Activity) (unit : �
     → acts ≡ slice_set w.activities a next ++ child ∷ [] → next ≡ onward act → child ≡ started a act unit slots → clocks ≡ joined a (is_given child.frame.slots) w.clocks
     → record w { activities = acts; clocks = clocks } ≡ started_world w a act unit slots
 started_parts w a act next child unit slots acts clocks e f g h = rw (h, e, f, g) refl
+
+-- ---- shared numbers
+
+-- what a step that reads one has: it is there, and so is the slot that is written
+pub record IsGet (m : ModuleValue) (w : World) (a : ℕ) (act : Activity) (d s : ℕ) : Type 0 where
+  pub n : ℤ
+  pub cell : slice_get w.cells s ≡ Some n
+  pub slot : d < length act.frame.slots
+  pub goes : carried m w a (instr.Get d s) ≡ done w a (onward (with_slots act (slice_set act.frame.slots d (value.Number n)))) none event.Got
+
+cell_there : (o : Option ℤ) (go : ℤ → Outcome) → is_step (cell_in o go) ≡ true → (n : ℤ) × (o ≡ Some n) × (cell_in o go ≡ go n) × (is_step (go n) ≡ true)
+cell_there None go h = absurd (false≢true h)
+cell_there (Some n) go h = (n, refl, refl, h)
+
+pub get_there : (m : ModuleValue) (w : World) (a : ℕ) (act : Activity) (d s : ℕ) → act ≡ get_or w.activities a act → is_step (carried m w a (instr.Get d s)) ≡ true → IsGet m w a act d s
+get_there m w a act d s is h =
+    let e = carried_there m w a (instr.Get d s) act (read_at w a act (carried_within m w a (instr.Get d s) h) is) in
+    let c = cell_there (slice_get w.cells s) (λ n. writing act d (value.Number n) (λ next. done w a next none event.Got)) (ap is_step (sym e) ∙ h) in
+    let p = put_there (slot_at act d) act d (value.Number c.0) (λ next. done w a next none event.Got) c.3 in
+    record { n = c.0; cell = c.1; slot = slice_get_within act.frame.slots d p.0 p.1; goes = e ∙ c.2 ∙ p.2 }
+  where
+    put_there : (o : Option Value) (x : Activity) (k : ℕ) (v : Value) (go : Activity → Outcome) → is_step (put_in o x k v go) ≡ true
+        → (old : Value) × (o ≡ Some old) × (put_in o x k v go ≡ go (onward (with_slots x (slice_set x.frame.slots k v))))
+    put_there None x k v go q = absurd (false≢true q)
+    put_there (Some old) x k v go q = (old, refl, refl)
+
+-- what one has that writes one: it is there, and a number stands in the slot that is read
+pub record IsStore (m : ModuleValue) (w : World) (a : ℕ) (act : Activity) (i : Instr) (s x : ℕ) (new : ℤ → ℤ → ℤ) (e : Event) : Type 0 where
+  pub n : ℤ
+  pub number : slot_at act x ≡ Some (value.Number n)
+  pub old : ℤ
+  pub cell : slice_get w.cells s ≡ Some old
+  pub goes : carried m w a i ≡ stored w a act s (new old n) e
+
+pub store_there : (m : ModuleValue) (w : World) (a : ℕ) (act : Activity) (i : Instr) (s x : ℕ) (new : ℤ → ℤ → ℤ) (e : Event)
+    → carried_out m w a act i ≡ number_in (slot_at act x) (λ n. cell_in (slice_get w.cells s) (λ old. stored w a act s (new old n) e))
+    → act ≡ get_or w.activities a act → is_step (carried m w a i) ≡ true → IsStore m w a act i s x new e
+store_there m w a act i s x new e row is h =
+    let t = carried_there m w a i act (read_at w a act (carried_within m w a i h) is) ∙ row in
+    let n = number_at (slot_at act x) (λ k. cell_in (slice_get w.cells s) (λ old. stored w a act s (new old k) e)) (ap is_step (sym t) ∙ h) in
+    let c = cell_there (slice_get w.cells s) (λ old. stored w a act s (new old n.0) e) n.3 in
+    record { n = n.0; number = n.1; old = c.0; cell = c.1; goes = t ∙ n.2 ∙ c.2 }
+  where
+    number_at : (o : Option Value) (go : ℤ → Outcome) → is_step (number_in o go) ≡ true → (n : ℤ) × (o ≡ Some (value.Number n)) × (number_in o go ≡ go n) × (is_step (go n) ≡ true)
+    number_at None go q = absurd (false≢true q)
+    number_at (Some value.Unset) go q = absurd (false≢true q)
+    number_at (Some (value.Number n)) go q = (n, refl, refl, q)
+    number_at (Some (value.Clock c)) go q = absurd (false≢true q)
+
+pub same_number : (n k : ℤ) → value.Number n ≡ value.Number k → n ≡ k
+same_number n k e = cc

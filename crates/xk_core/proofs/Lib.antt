@@ -5,3 +5,4 @@ pub mod Cores
 pub mod Runs
 pub mod Told
 pub mod Finishing
+pub mod ChoiceRows

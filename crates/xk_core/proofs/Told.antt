@@ -14,7 +14,7 @@ use Rattle.xk_types.specs.declared.unit.ParamKind.{ParamKind}
 use Rattle.xk_types.specs.declared.unit.ParamKind.TheVariants as param
 use Rattle.xk_types.specs.Code.{UnitValue, ModuleValue, compares, is_method, is_body}
 use Rattle.xk_types.specs.World.{Frame, Activity, Clock, World, standing_of, instruction_at, base_of, base_unit, is_ended}
-use Rattle.xk_types.specs.Step.{Outcome, Blocked, Wrong, Stepped, ClockUse, OutOfRange, is_registered, number_in, clock_in, registered_on, put_in, slot_at, arguments_in, computing, turning, again, spawned, spawning, new_clock, carried_out, done, made, onward, going, with_slots, arrived, ended, none, only, all, resumed, dropped, called, calling, back_in, returning, settled, moved, child, governing, joined, is_given}
+use Rattle.xk_types.specs.Step.{Outcome, Blocked, Wrong, Stepped, ClockUse, OutOfRange, is_registered, number_in, clock_in, registered_on, put_in, slot_at, arguments_in, computing, turning, again, spawned, spawning, new_clock, carried_out, done, made, onward, going, with_slots, arrived, ended, none, only, all, resumed, dropped, called, calling, back_in, returning, settled, moved, cell_in, stored, child, governing, joined, is_given}
 use Rattle.xk_laws.proofs.Scopes.{based}
 use Rattle.xk_finishes.specs.Tree.{NodeValue}
 use Rattle.xk_core.specs.Arm.{concerns_finishes, carried_by, carried}
@@ -171,6 +171,20 @@ module _ (m : ModuleValue) (ns : List NodeValue) (w : World) (a : ℕ) (n : Node
   returning_told i [] e ret = done_told i (ended x) (all dropped) event.Ended refl refl (λ q. (ret, e))
   returning_told i (f ∷ fs) e ret = done_told i (back_in x f fs) none event.Local alive (based f (record f { place = f.place + 1 }) fs refl ∙ sym (ap (base_of x.frame) e)) (λ q. absurd (false≢true q))
 
+  cell_told : (i : Instr) (o : Option ℤ) (go' go : ℤ → Outcome) → ((n : ℤ) → Told i (go' n) (go n)) → Told i (cell_in o go') (cell_in o go)
+  cell_told i None go' go h = record { same = refl; tells = tt }
+  cell_told i (Some z) go' go h = h z
+
+  stored_told : (i : Instr) (s : ℕ) (z : ℤ) (e : Event) → is_end e ≡ false → Told i (stored (told ns w) a (with_node n x) s z e) (stored w a x s z e)
+  stored_told i s z e other = record {
+    same = ap (λ l. Stepped (settled (record w { activities = l; clocks = moved a none w.clocks; cells = slice_set w.cells s z })) e) (sym (set_told ns w.activities a n (onward x) here));
+    tells = record { y = onward x; activities = refl; over = alive ∙ sym other; base = based x.frame (onward x).frame x.callers refl; last = λ q. absurd (false≢true (sym other ∙ q)) };
+  }
+
+  -- what is seen of a slot that is written
+  seen_told : (i : Instr) (d : ℕ) (v : Value) (e : Event) → is_end e ≡ false → Told i (put_in (slot_at x d) (with_node n x) d v (λ next. done (told ns w) a next none e)) (put_in (slot_at x d) x d v (λ next. done w a next none e))
+  seen_told i d v e other = put_told i (slot_at x d) d v _ _ (goes_told i (onward (with_slots x (slice_set x.frame.slots d v))) none e refl refl refl other)
+
   -- each instruction that doesn't concern finishes
   instruction_told : (i : Instr) → concerns_finishes i ≡ false → Told i (carried_out m (told ns w) a (with_node n x) i) (carried_out m w a x i)
   instruction_told (instr.Lit d z) h = writes_told (instr.Lit d z) d (value.Number z)
@@ -182,6 +196,10 @@ module _ (m : ModuleValue) (ns : List NodeValue) (w : World) (a : ℕ) (n : Node
   instruction_told (instr.Jump t) h = goes_told (instr.Jump t) (going x t) none event.Local refl refl refl refl
   instruction_told (instr.For k lo hi e) h = writes_told (instr.For k lo hi e) k (value.Number lo)
   instruction_told (instr.Next b) h = turning_told (instr.Next b) b (instruction_at m (record x.frame { place = b }))
+  instruction_told (instr.Get d s) h = cell_told (instr.Get d s) (slice_get w.cells s) _ _ (λ z. seen_told (instr.Get d s) d (value.Number z) event.Got refl)
+  instruction_told (instr.Put s y) h = number_told (instr.Put s y) (slot_at x y) _ _ (λ z. cell_told (instr.Put s y) (slice_get w.cells s) _ _ (λ old. stored_told (instr.Put s y) s z event.Put refl))
+  instruction_told (instr.AddTo s y) h = number_told (instr.AddTo s y) (slot_at x y) _ _
+      (λ z. cell_told (instr.AddTo s y) (slice_get w.cells s) _ _ (λ old. stored_told (instr.AddTo s y) s (int_wrapping_add w64 old z) event.Added refl))
   instruction_told (instr.Finish e) h = absurd (false≢true (sym h))
   instruction_told (instr.EndFinish b) h = absurd (false≢true (sym h))
   instruction_told (instr.Print y) h = number_told (instr.Print y) (slot_at x y) _ _ (λ z. goes_told (instr.Print y) (onward x) none (event.Printed z) refl refl refl refl)

@@ -32,6 +32,13 @@ grows (instr.Call t args) = true
 grows (instr.Spawn t args) = true
 grows _ = false
 
+-- it reads or writes a shared number
+abbrev pub concerns_cells : Instr → Bool
+concerns_cells (instr.Get d s) = true
+concerns_cells (instr.Put s x) = true
+concerns_cells (instr.AddTo s x) = true
+concerns_cells _ = false
+
 -- it opens or closes a finish, or starts an activity
 abbrev pub concerns_finishes : Instr → Bool
 concerns_finishes (instr.Finish e) = true
@@ -64,6 +71,9 @@ CanCarry u act (instr.Jump t) = Unit {0}
 CanCarry u act (instr.For k lo hi e) = k < length act.frame.slots
 CanCarry u act (instr.Next b) = IsTurnAt u act b
 CanCarry u act (instr.Print x) = IsNumberAt act x
+CanCarry u act (instr.Get d s) = ⊥
+CanCarry u act (instr.Put s x) = ⊥
+CanCarry u act (instr.AddTo s x) = ⊥
 CanCarry u act (instr.Finish e) = ⊥
 CanCarry u act (instr.EndFinish b) = ⊥
 CanCarry u act (instr.Make d) = ⊥
@@ -118,6 +128,9 @@ Carries u act (instr.For k lo hi end) next ch e = Writes act k (value.Number lo)
 Carries u act (instr.Next b) next ch e = Turned u act b next × IsLocal ch e
 Carries u act (instr.Print x) next ch e =
     (p : ℤ) × (slot_at act x ≡ Some (value.Number p)) × (next ≡ onward act) × (ch ≡ step_change.Nothing) × (e ≡ event.Printed p)
+Carries u act (instr.Get d s) next ch e = ⊥
+Carries u act (instr.Put s x) next ch e = ⊥
+Carries u act (instr.AddTo s x) next ch e = ⊥
 Carries u act (instr.Finish x) next ch e = ⊥
 Carries u act (instr.EndFinish b) next ch e = ⊥
 Carries u act (instr.Make d) next ch e = ⊥

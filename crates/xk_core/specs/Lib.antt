@@ -6,3 +6,4 @@ pub mod Opening
 pub mod Core
 pub mod Schedules
 pub mod Told
+pub mod Choosing

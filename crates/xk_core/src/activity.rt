@@ -95,7 +95,7 @@ impl Activity {
         self.frame.place
     }
 
-    /// Whether it goes on, waits at an `advance`, or is over.
+    /// Whether it runs, waits at an `advance`, or is over.
     pub fn status(&self) -> Status
         ensures { result ≡ self.now.status }
     {
@@ -271,6 +271,9 @@ impl Activity {
                 self.go_on();
                 (StepChange::Nothing, Event::Printed(n))
             }
+            Instr::Get(_, _) => unreachable!(),
+            Instr::Put(_, _) => unreachable!(),
+            Instr::AddTo(_, _) => unreachable!(),
             Instr::Finish(_) => unreachable!(),
             Instr::EndFinish(_) => unreachable!(),
             Instr::Make(_) => unreachable!(),

@@ -3,6 +3,7 @@
 
 mod activity;
 mod change;
+pub mod chooser;
 mod clock;
 pub mod laws;
 mod machine;

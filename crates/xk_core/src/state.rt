@@ -1,6 +1,6 @@
 //! The world of a running program, but for its finishes, and the arms of its steps.
 
-ghost use Rattle.std.specs.Prelude.{◌≡◌, ℕ, ◌+◌, ◌<◌, ◌≤◌, ◌^◌, Bool, true, false, List, [], ◌∷◌, ◌++◌, Some, length, map, slice_get, slice_set, option_copied, IfOk, IfErr, IfSome, IfNone, OnOk, OnErr, All};
+ghost use Rattle.std.specs.Prelude.{◌≡◌, ℕ, ℤ, ◌+◌, ◌<◌, ◌≤◌, ◌^◌, Bool, true, false, List, [], ◌∷◌, ◌++◌, Some, length, map, slice_get, slice_set, option_copied, IfOk, IfErr, IfSome, IfNone, OnOk, OnErr, All};
 ghost use Rattle.xk_types.specs.declared.names.Value.TheVariants as value;
 ghost use Rattle.xk_types.specs.declared.instr.Instr.TheVariants as instruction;
 ghost use Rattle.xk_types.specs.Step.{Stepped, settled, settled_clock, moved, joined, names_clock, is_given, waits, onward, none};
@@ -10,7 +10,7 @@ ghost use Rattle.xk_core.specs.Able.{is_able};
 ghost use Rattle.xk_core.specs.Core.{is_over, AreOver, next_instruction};
 ghost use Rattle.xk_core.specs.Opening.{opening_with};
 ghost use Rattle.xk_core.specs.Change.{standing_after_step};
-ghost use Rattle.xk_core.specs.Arm.{grows, concerns_finishes, carried, passed_on, IsRoomy, IsRunningUnit};
+ghost use Rattle.xk_core.specs.Arm.{grows, concerns_finishes, concerns_cells, carried, passed_on, IsRoomy, IsRunningUnit};
 ghost use Rattle.xk_core.specs.Joining.{joined_first};
 ghost use Rattle.xk_types.specs.World as world;
 
@@ -119,6 +119,22 @@ fn join_all(clocks: &mut Vec<Clock>, a: usize, values: &[Value]) -> Result<(), A
     }
 }
 
+/// A shared number, as a slot holds it.
+fn cell(cells: &[i64], s: u16) -> Value
+    requires { s < length cells.now }
+    ensures { (n : ℤ) → slice_get cells.now s ≡ Some n → result ≡ value.Number n }
+{
+    Value::Number(cells[s as usize])
+}
+
+/// Writes a shared number.
+fn set_cell(cells: &mut Vec<i64>, s: u16, n: i64)
+    requires { s < length cells.old.items }
+    ensures { cells.new.items ≡ slice_set cells.old.items s n }
+{
+    cells[s as usize] = n;
+}
+
 impl State {
     /// The end of a step: it is counted, and each clock that is ready advances.
     fn settle(&mut self)
@@ -160,15 +176,20 @@ impl State {
         match instr {
             Instr::Make(d) => self.make(program, a, *d),
             Instr::Call(unit, args) => self.call(program, a, *unit, args.slots()),
+            Instr::Get(d, s) => Ok(self.get(program, a, *d, *s)),
+            Instr::Put(s, x) => Ok(self.put(program, a, *s, *x)),
+            Instr::AddTo(s, x) => Ok(self.add_to(program, a, *s, *x)),
             _ => Ok(self.carry_alone(program, a, instr)),
         }
     }
 
-    /// Activity a carries out an instruction that adds no clock, no frame and no activity, and concerns no finish.
+    /// Activity a carries out an instruction that adds no clock, no frame and no activity, and concerns no finish and no shared
+    /// number.
     fn carry_alone(&mut self, program: &Module, a: usize, instr: &Instr) -> Event
         requires enabled { is_step (carried program.now self.old a instr.now) ≡ true }
         requires single { grows instr.now ≡ false }
         requires plain { concerns_finishes instr.now ≡ false }
+        requires own { concerns_cells instr.now ≡ false }
         requires room { IsRoomy self.old a }
         requires unit { IsRunningUnit program.now self.old a }
         ensures { carried program.now self.old a instr.now ≡ Stepped self.new result }
@@ -178,6 +199,47 @@ impl State {
         let (change, event) = act.carry_out(unit, instr);
         self.end_step(a, change);
         event
+    }
+
+    /// Activity a reads a shared number into slot d.
+    fn get(&mut self, program: &Module, a: usize, d: u16, s: u16) -> Event
+        requires enabled { is_step (carried program.now self.old a (instruction.Get d s)) ≡ true }
+        requires room { IsRoomy self.old a }
+        ensures { carried program.now self.old a (instruction.Get d s) ≡ Stepped self.new result }
+    {
+        let n = cell(&self.cells, s);
+        let act = &mut self.activities[a];
+        act.put(d, n);
+        self.end_step(a, StepChange::Nothing);
+        Event::Got
+    }
+
+    /// Activity a writes the number in slot x to a shared number.
+    fn put(&mut self, program: &Module, a: usize, s: u16, x: u16) -> Event
+        requires enabled { is_step (carried program.now self.old a (instruction.Put s x)) ≡ true }
+        requires room { IsRoomy self.old a }
+        ensures { carried program.now self.old a (instruction.Put s x) ≡ Stepped self.new result }
+    {
+        let act = &mut self.activities[a];
+        let n = act.number(x);
+        act.go_on();
+        set_cell(&mut self.cells, s, n);
+        self.end_step(a, StepChange::Nothing);
+        Event::Put
+    }
+
+    /// Activity a adds the number in slot x to a shared number, in one step.
+    fn add_to(&mut self, program: &Module, a: usize, s: u16, x: u16) -> Event
+        requires enabled { is_step (carried program.now self.old a (instruction.AddTo s x)) ≡ true }
+        requires room { IsRoomy self.old a }
+        ensures { carried program.now self.old a (instruction.AddTo s x) ≡ Stepped self.new result }
+    {
+        let act = &mut self.activities[a];
+        let n = act.number(x);
+        act.go_on();
+        self.cells[s as usize] = self.cells[s as usize].wrapping_add(n);
+        self.end_step(a, StepChange::Nothing);
+        Event::Added
     }
 
     /// Activity a makes a clock, and puts its name into slot d. Where memory is refused nothing changes.
@@ -361,7 +423,7 @@ impl State {
         self.clocks.iter().any(|c| is_signalled(c.standing(a)))
     }
 
-    /// Whether activity a exists, and neither waits nor is over.
+    /// Whether activity a exists, doesn't wait at an `advance`, and isn't over.
     pub fn is_able(&self, a: usize) -> bool
         ensures { result ≡ is_able self.now a }
     {

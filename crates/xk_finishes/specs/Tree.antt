@@ -53,14 +53,14 @@ changed_at nodes a change = slice_set nodes a (change (node_at nodes a))
 
 -- ---- who is under a finish
 
--- Activity b is under the finish: the finish governs it, or what governs it has an owner that is under the finish; down to this many
--- owners.
+-- Activity b is under the finish: the finish governs it, or what governs it has an owner that is under the finish. No more
+-- activities are looked at than this, b among them.
 unfoldable pub under_within : List NodeValue → Finish → ℕ → ℕ → Bool
 under_within nodes f zero b = false
 under_within nodes f (suc n) b =
     option_map_or (λ node. same_finish node.governed f || option_map_or (under_within nodes f n) node.governed.owner false) (slice_get nodes b) false
 
--- An activity governs only activities of greater number, so that there are no more owners, one above the other, than activities.
+-- The owner of a finish has a smaller number than those whom it governs, so that looking at as many as there are is enough.
 abbrev pub is_under : List NodeValue → Finish → ℕ → Bool
 is_under nodes f b = under_within nodes f (length nodes) b
 

@@ -7,7 +7,7 @@ ghost use Rattle.xk_types.specs.Step.{same_finish};
 use std::marker::Model;
 use xk_types::Act;
 
-/// A finish. It is named by the activity that opened it and by how many that one then had open, this one among them; both are
+/// A finish. It is named by the activity that opened it and by how many that one then had open, this one among them; the pair is
 /// used again once it is closed. Nobody opens the finish that governs main.
 #[derive(Clone, Copy)]
 pub struct Finish {

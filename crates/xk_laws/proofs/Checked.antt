@@ -44,7 +44,7 @@ other_half false q e h = absurd (false≢true e)
 
 -- the rules on shape that some instruction can break
 abbrev shape_rules : List Rule
-shape_rules = rule.Target ∷ rule.Block ∷ rule.Slot ∷ rule.Unit ∷ rule.Loop ∷ rule.End ∷ rule.Home ∷ rule.Registers ∷ rule.SameClock ∷ []
+shape_rules = rule.Target ∷ rule.Block ∷ rule.Slot ∷ rule.Unit ∷ rule.Cell ∷ rule.Loop ∷ rule.End ∷ rule.Home ∷ rule.Registers ∷ rule.SameClock ∷ []
 
 -- no place of the unit breaks them, nor the one behind its code
 abbrev pub is_unit_shaped : ModuleValue → ℕ → UnitValue → Bool
@@ -61,7 +61,7 @@ none_beyond m rule.Block unit u at h = rw (slice_get_past u.code at (omega arith
 none_beyond m rule.Slot unit u at h = rw (slice_get_past u.code at (omega arith)) refl
 none_beyond m rule.Unit unit u at h =
     rw (slice_get_past u.code at (omega arith)) (or_from ((at == 0) && not (is_in_place unit u)) false (and_left (at == 0) (not (is_in_place unit u)) (ne_eqb at 0 (λ e. omega arith))) refl)
-none_beyond m rule.Cell unit u at h = refl
+none_beyond m rule.Cell unit u at h = rw (slice_get_past u.code at (omega arith)) refl
 none_beyond m rule.Loop unit u at h = rw (slice_get_past u.code at (omega arith)) refl
 none_beyond m rule.End unit u at h =
     rw (slice_get_past u.code at (omega arith)) (or_from false ((at == 0) && (length u.code == 0)) refl (and_left (at == 0) (length u.code == 0) (ne_eqb at 0 (λ e. omega arith))))
@@ -82,12 +82,12 @@ by_rule m unit u at h rule.Target = h rule.Target (inl refl)
 by_rule m unit u at h rule.Block = h rule.Block (inr (inl refl))
 by_rule m unit u at h rule.Slot = h rule.Slot (inr (inr (inl refl)))
 by_rule m unit u at h rule.Unit = h rule.Unit (inr (inr (inr (inl refl))))
-by_rule m unit u at h rule.Cell = refl
-by_rule m unit u at h rule.Loop = h rule.Loop (inr (inr (inr (inr (inl refl)))))
-by_rule m unit u at h rule.End = h rule.End (inr (inr (inr (inr (inr (inl refl))))))
-by_rule m unit u at h rule.Home = h rule.Home (inr (inr (inr (inr (inr (inr (inl refl)))))))
-by_rule m unit u at h rule.Registers = h rule.Registers (inr (inr (inr (inr (inr (inr (inr (inl refl))))))))
-by_rule m unit u at h rule.SameClock = h rule.SameClock (inr (inr (inr (inr (inr (inr (inr (inr (inl refl)))))))))
+by_rule m unit u at h rule.Cell = h rule.Cell (inr (inr (inr (inr (inl refl)))))
+by_rule m unit u at h rule.Loop = h rule.Loop (inr (inr (inr (inr (inr (inl refl))))))
+by_rule m unit u at h rule.End = h rule.End (inr (inr (inr (inr (inr (inr (inl refl)))))))
+by_rule m unit u at h rule.Home = h rule.Home (inr (inr (inr (inr (inr (inr (inr (inl refl))))))))
+by_rule m unit u at h rule.Registers = h rule.Registers (inr (inr (inr (inr (inr (inr (inr (inr (inl refl)))))))))
+by_rule m unit u at h rule.SameClock = h rule.SameClock (inr (inr (inr (inr (inr (inr (inr (inr (inr (inl refl))))))))))
 by_rule m unit u at h rule.Use = refl
 by_rule m unit u at h rule.Held = refl
 by_rule m unit u at h rule.Leak = refl

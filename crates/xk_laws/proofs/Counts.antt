@@ -22,6 +22,7 @@ step_counts m w v a e h = subst (Counts w.steps) h (step_form (Counts w.steps) m
   wrong = λ c. tt;
   done = λ act next change f at alive. refl;
   made = λ act next at alive. refl;
+  stored = λ act s n e at alive. refl;
   spawned = λ act t values at alive. refl;
 }))
 
@@ -58,5 +59,6 @@ step_keeps_over m w v a e h = subst (KeepsOver w.activities) h (step_form (Keeps
   wrong = λ c. tt;
   done = λ act next change f at alive b over. over_set w.activities a b act next at alive over;
   made = λ act next at alive b over. over_set w.activities a b act next at alive over;
+  stored = λ act s n e at alive b over. over_set w.activities a b act _ at alive over;
   spawned = λ act t values at alive b over. over_append (slice_set w.activities a _) _ b (over_set w.activities a b act _ at alive over);
 }))

@@ -16,7 +16,7 @@ use Rattle.xk_types.specs.declared.unit.UnitKind.{UnitKind}
 use Rattle.xk_types.specs.Code.{UnitValue, ModuleValue, is_method, is_body, params_of, clock_arguments, unit_called, unit_run}
 use Rattle.xk_types.specs.Blocks.{takes_clock}
 use Rattle.xk_types.specs.Order.{Has}
-use Rattle.xk_types.specs.Shape.{slots_named, is_ret, instr_is, is_in_place, is_fitting, runs_amiss, mishandles, moves_home, has_twice, gives_twice, breaks_unit_of, breaks_in, breaks_end, HasShape}
+use Rattle.xk_types.specs.Shape.{slots_named, is_ret, instr_is, is_in_place, is_fitting, runs_amiss, mishandles, moves_home, has_twice, gives_twice, breaks_unit_of, breaks_in, cell_named, breaks_end, HasShape}
 
 -- a unit that fits
 pub record IsFit (u : UnitValue) : Type 0 where
@@ -127,6 +127,12 @@ module _ (m : ModuleValue) (shape : HasShape m) (unit : ℕ) (u : UnitValue) (fo
   run_ok i at here =
       let h = or_parts ((at == 0) && not (is_in_place unit u)) (instr_is (runs_amiss m unit) (slice_get u.code at)) (unbroken m shape rule.Unit unit u found at) in
       (ap (instr_is (runs_amiss m unit)) (sym here) ∙ h.1, ap (instr_is (gives_twice m)) (sym here) ∙ unbroken m shape rule.SameClock unit u found at)
+
+  -- a shared number that an instruction names is one of the module's
+  pub cell_fits : (i : Instr) (at s : ℕ) → slice_get u.code at ≡ Some i → cell_named i ≡ Some s → s < length m.shared
+  cell_fits i at s here named = ltb-true s (length m.shared) (not-false (nat_lt s (length m.shared))
+      (ap (λ o. option_map_or (λ k. not (nat_lt k (length m.shared))) o false) (sym named)
+      ∙ ap (instr_is (λ j. option_map_or (λ k. not (nat_lt k (length m.shared))) (cell_named j) false)) (sym here) ∙ unbroken m shape rule.Cell unit u found at))
 
   -- what a `spawn` of a unit of a module with the shape starts
   pub start_fits : (t : ℕ) (args : List ℕ) (at : ℕ) → slice_get u.code at ≡ Some (instr.Spawn t args) → IsRun is_body m unit t args

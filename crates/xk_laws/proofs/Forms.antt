@@ -1,4 +1,4 @@
--- What a step can come to: it is blocked, it is wrong, or it has one of three forms.
+-- What a step can come to: it is blocked, it is wrong, or it has one of four forms.
 use Rattle.std.proofs.Common.{◌≡◌, ℕ, zero, suc, Bool, true, false, cond, List, [], ◌∷◌, ℤ, Some, None, Option, refl, ap}
 use Rattle.std.specs.Prelude.{slice_get}
 use Rattle.std.specs.Int.{w64, int_wrapping_add, int_wrapping_sub, int_wrapping_mul}
@@ -15,15 +15,16 @@ use Rattle.xk_types.specs.declared.unit.ParamKind.{ParamKind}
 use Rattle.xk_types.specs.declared.unit.ParamKind.TheVariants as param
 use Rattle.xk_types.specs.Code.{UnitValue, ModuleValue, is_method, is_body}
 use Rattle.xk_types.specs.World.{Frame, Activity, Clock, World, standing_of, instruction_at, is_ended}
-use Rattle.xk_types.specs.Step.{Cause, Outcome, Blocked, Wrong, ClockUse, OutOfRange, is_registered, number_in, clock_in, registered_on, put_in, slot_at, arguments_in, computing, turning, spawned, spawning, carried_out, run_at, done, made, waits, passing, step_by, step_of, step, called, calling, returning, none, awaits, innermost, left, closing}
+use Rattle.xk_types.specs.Step.{Cause, Outcome, Blocked, Wrong, ClockUse, OutOfRange, is_registered, number_in, clock_in, registered_on, put_in, slot_at, arguments_in, computing, turning, spawned, spawning, carried_out, run_at, done, made, waits, passing, step_by, step_of, step, called, calling, returning, none, awaits, innermost, left, closing, cell_in, stored}
 
--- What holds of a blocked step, of each wrong one, and of the three forms: one that changes activity a and where it stands, one
--- that makes a clock, one that starts an activity. Who takes a step hasn't ended.
+-- What holds of a blocked step, of each wrong one, and of the four forms: one that changes activity a and where it stands, one
+-- that makes a clock, one that writes a shared number, one that starts an activity. Who takes a step hasn't ended.
 pub record HoldsOfForms (P : Outcome → Type 0) (m : ModuleValue) (w : World) (a : ℕ) : Type 0 where
   pub blocked : P Blocked
   pub wrong : (c : Cause) → P (Wrong c)
   pub done : (act next : Activity) (change : ℕ → Standing → Standing) (e : Event) → slice_get w.activities a ≡ Some act → is_ended act.status ≡ false → P (done w a next change e)
   pub made : (act next : Activity) → slice_get w.activities a ≡ Some act → is_ended act.status ≡ false → P (made w a next)
+  pub stored : (act : Activity) (s : ℕ) (n : ℤ) (e : Event) → slice_get w.activities a ≡ Some act → is_ended act.status ≡ false → P (stored w a act s n e)
   pub spawned : (act : Activity) (t : ℕ) (values : List Value) → slice_get w.activities a ≡ Some act → is_ended act.status ≡ false → P (spawned m w a act t values)
 
 -- where a number is wanted
@@ -115,6 +116,11 @@ closing_form P m w a f act (suc n) at alive = cases (awaits w.activities (innerm
     cases true = f.blocked
     cases false = f.done act _ _ _ at alive
 
+-- where a shared number is wanted
+cell_form : (P : Outcome → Type 0) → ((c : Cause) → P (Wrong c)) → (o : Option ℤ) (go : ℤ → Outcome) → ((n : ℤ) → P (go n)) → P (cell_in o go)
+cell_form P wrong None go h = wrong _
+cell_form P wrong (Some n) go h = h n
+
 -- each instruction
 instruction_form : (P : Outcome → Type 0) (m : ModuleValue) (w : World) (a : ℕ) → HoldsOfForms P m w a → (act : Activity) (i : Instr) → slice_get w.activities a ≡ Some act
     → is_ended act.status ≡ false → P (carried_out m w a act i)
@@ -128,6 +134,9 @@ instruction_form P m w a f act (instr.Unless op x y t) at alive =
 instruction_form P m w a f act (instr.Jump t) at alive = f.done act _ _ _ at alive
 instruction_form P m w a f act (instr.For k lo hi e) at alive = put_form P f.wrong (slot_at act k) act k _ _ (λ x. f.done act x _ _ at alive)
 instruction_form P m w a f act (instr.Next b) at alive = turning_form P m w a f act b (instruction_at m (record act.frame { place = b })) at alive
+instruction_form P m w a f act (instr.Get d s) at alive = cell_form P f.wrong (slice_get w.cells s) _ (λ n. put_form P f.wrong (slot_at act d) act d _ _ (λ x. f.done act x _ _ at alive))
+instruction_form P m w a f act (instr.Put s x) at alive = number_form P f.wrong (slot_at act x) _ (λ n. cell_form P f.wrong (slice_get w.cells s) _ (λ old. f.stored act s _ _ at alive))
+instruction_form P m w a f act (instr.AddTo s x) at alive = number_form P f.wrong (slot_at act x) _ (λ n. cell_form P f.wrong (slice_get w.cells s) _ (λ old. f.stored act s _ _ at alive))
 instruction_form P m w a f act (instr.Finish e) at alive = f.done act _ _ _ at alive
 instruction_form P m w a f act (instr.EndFinish b) at alive = closing_form P m w a f act act.opened at alive
 instruction_form P m w a f act (instr.Print x) at alive = number_form P f.wrong (slot_at act x) _ (λ n. f.done act _ _ _ at alive)

@@ -23,7 +23,7 @@ use Rattle.xk_types.specs.declared.names.Event.{Event}
 use Rattle.xk_types.specs.declared.names.Event.TheVariants as event
 use Rattle.xk_types.specs.Step.{Outcome, done, made, onward, going, again, with_slots, arrived, ended, none, only, all, resumed, dropped, number_in, clock_in, put_in, computing, turning, child, is_given, spawned, carried_out, run_at, new_clock, called, back_in, returning, awaits, innermost, closing}
 use Rattle.xk_types.specs.Order.{Has}
-use Rattle.xk_types.specs.Shape.{slots_named, slot_written, is_ret}
+use Rattle.xk_types.specs.Shape.{slots_named, slot_written, cell_named, is_ret}
 use Rattle.xk_types.specs.Blocks.{takes_clock, block_at, homes, is_here}
 use Rattle.xk_types.specs.Walk.{after, reads, may_read, loop_slot, writes, gives, becomes, MayBecome, successors, across, is_lent, is_own, overwritten, let_go, IsVisited}
 use Rattle.xk_types.specs.Bound.{steps_weight, clocks_weight}
@@ -37,9 +37,9 @@ use Rattle.xk_laws.proofs.Standings.{stands_on-push_old, stands_on-push_new, new
 use Rattle.xk_laws.proofs.Measure.{GoesOn, IsTaken, paid_on, paid_arrive, paid_end, paid_start, owed_first, IsPaid, paid_call, paid_back}
 use Rattle.xk_laws.proofs.Steps.{IsNext, StandsNear, done_sound, made_sound, begun_sound, next_sound}
 use Rattle.xk_laws.proofs.Running.{IsAt, IsWrite, slot_there, row_allowed, next_inside, leaving, leaving_to, writing, writing_to, using, next_visited}
-use Rattle.xk_laws.proofs.Fits.{IsFit, IsRun, unit_fits, start_fits, call_fits}
+use Rattle.xk_laws.proofs.Fits.{IsFit, IsRun, unit_fits, start_fits, call_fits, cell_fits}
 use Rattle.xk_laws.proofs.Given.{AreGiven, child_sound, Begun, frame_begun, across_waits}
-use Rattle.xk_laws.proofs.Operands.{Moves, put_moves, number_moves, clock_moves, arguments_move}
+use Rattle.xk_laws.proofs.Operands.{Moves, cell_moves, stored_moves, put_moves, number_moves, clock_moves, arguments_move}
 use Rattle.xk_laws.proofs.Waiting.{arriving, ending}
 use Rattle.xk_laws.proofs.Callers.{still_waiting, waits_now}
 use Rattle.xk_laws.proofs.Totals.{stack_called}
@@ -171,19 +171,19 @@ module _ (m : ModuleValue) (ok : IsAccepted m) (w : World) (a : ℕ) (was : Acti
       → IsWrite m (stands_on w.clocks a) (length w.clocks) w.steps was me.u i c d (value.Number n) kind.Number (looks w.clocks a) (length w.clocks)
   number_written i d n rows c = record { rows = rows; becomes = refl; more = omega arith; same = λ k h. refl; fresh = λ k e. absurd (grind arith); holds = λ k h. inl h; own = λ k e. absurd (grind arith) }
 
-  -- an instruction that writes a number to slot d, and goes on
-  put_number : (i : Instr) → Here i → (d : ℕ) (n : ℤ) → Has (slots_named i) d → is_ret i ≡ false → Has (successors i was.frame.place) (was.frame.place + 1)
+  -- an instruction that writes a number to slot d, and goes on, and what is seen of it
+  put_number : (e : Event) (i : Instr) → Here i → (d : ℕ) (n : ℤ) → Has (slots_named i) d → is_ret i ≡ false → Has (successors i was.frame.place) (was.frame.place + 1)
       → steps_weight i ≡ 1 → clocks_weight i ≡ 0 → unit_run i ≡ None
       → ((s : ℕ) (k : Kind) → Allowed (after m me.u i s k) → IsWritten (after m me.u i s k) d kind.Number s k)
       → GoesOn me.u i was (onward (with_slots was (set was.frame.slots d (value.Number n))))
-      → Moves m (put_in (slice_get was.frame.slots d) was d (value.Number n) (λ next. done w a next none event.Local))
-  put_number i here d n named other on one zero' alone rows goes =
+      → Moves m (put_in (slice_get was.frame.slots d) was d (value.Number n) (λ next. done w a next none e))
+  put_number e i here d n named other on one zero' alone rows goes =
       let c = at_it i here in
       let old = slot_there m (stands_on w.clocks a) (length w.clocks) w.steps was me.u i c d named in
-      put_moves m (slice_get was.frame.slots d) old.0 was d (value.Number n) (λ next. done w a next none event.Local) old.1
+      put_moves m (slice_get was.frame.slots d) old.0 was d (value.Number n) (λ next. done w a next none e) old.1
       (local_moves i here (onward (with_slots was (set was.frame.slots d (value.Number n)))) one zero' alone refl refl goes
       (writing m (stands_on w.clocks a) (length w.clocks) w.steps was me.u i c d old.0 (value.Number n) kind.Number (looks w.clocks a) (length w.clocks) old.1 other on
-      (number_written i d n rows c)) event.Local)
+      (number_written i d n rows c)) e)
 
   -- all slots but the one written stay
   others_stay : (d : ℕ) (v : Value) (s : ℕ) → (Some d ≡ Some s → ⊥) → slice_get (set was.frame.slots d v) s ≡ slice_get was.frame.slots s
@@ -191,14 +191,14 @@ module _ (m : ModuleValue) (ok : IsAccepted m) (w : World) (a : ℕ) (was : Acti
 
   -- `lit`
   lit_moves : (d : ℕ) (n : ℤ) → Here (instr.Lit d n) → Moves m (carried_out m w a was (instr.Lit d n))
-  lit_moves d n here = put_number (instr.Lit d n) here d n (inl refl) refl (inl refl) refl refl refl (writes_row d kind.Number) (refl, others_stay d (value.Number n))
+  lit_moves d n here = put_number event.Local (instr.Lit d n) here d n (inl refl) refl (inl refl) refl refl refl (writes_row d kind.Number) (refl, others_stay d (value.Number n))
 
   -- `copy`
   copy_moves : (d x : ℕ) → Here (instr.Copy d x) → Moves m (carried_out m w a was (instr.Copy d x))
   copy_moves d x here =
       let i = instr.Copy d x in
       is_number i here x (named_inside i here x (inr (inl refl))) (λ k h. (reads_row x x k (writes d kind.Number x k) h).0 refl) _
-      (λ n e. put_number i here d n (inl refl) refl (inl refl) refl refl refl (λ s k h. (copy_parts d x s k h).1) (refl, others_stay d (value.Number n)))
+      (λ n e. put_number event.Local i here d n (inl refl) refl (inl refl) refl refl refl (λ s k h. (copy_parts d x s k h).1) (refl, others_stay d (value.Number n)))
 
   -- `add`, `sub`, `mul`
   computing_moves : (i : Instr) → Here i → (f : ℤ → ℤ → ℤ) (d x y : ℕ) → slots_named i ≡ d ∷ x ∷ y ∷ [] → slot_written i ≡ Some d → is_ret i ≡ false
@@ -209,7 +209,7 @@ module _ (m : ModuleValue) (ok : IsAccepted m) (w : World) (a : ℕ) (was : Acti
   computing_moves i here f d x y named written other on one zero' alone row goes =
       is_number i here x (named_inside i here x (subst (λ list. Has list x) (sym named) (inr (inl refl)))) (λ k h. (add_parts d x y x k (subst Allowed (row x k) h)).0 refl) _ (λ p e.
       is_number i here y (named_inside i here y (subst (λ list. Has list y) (sym named) (inr (inr (inl refl))))) (λ k h. (add_parts d x y y k (subst Allowed (row y k) h)).1 refl) _ (λ q g.
-      put_number i here d (f p q) (subst (λ list. Has list d) (sym named) (inl refl)) other on one zero' alone
+      put_number event.Local i here d (f p q) (subst (λ list. Has list d) (sym named) (inl refl)) other on one zero' alone
       (λ s k h. subst (λ r. IsWritten r d kind.Number s k) (sym (row s k)) (add_parts d x y s k (subst Allowed (row s k) h)).2) (goes (f p q))))
 
   -- ---- branches and loops
@@ -246,7 +246,7 @@ module _ (m : ModuleValue) (ok : IsAccepted m) (w : World) (a : ℕ) (was : Acti
   for_moves : (k : ℕ) (lo hi : ℤ) (e : ℕ) → Here (instr.For k lo hi e) → Moves m (carried_out m w a was (instr.For k lo hi e))
   for_moves k lo hi e here =
       let i = instr.For k lo hi e in
-      put_number i here k lo (inl refl) refl (inl refl) refl refl refl (writes_row k kind.Number)
+      put_number event.Local i here k lo (inl refl) refl (inl refl) refl refl refl (writes_row k kind.Number)
       (refl, (let h = named_inside i here k (inl refl) in omega (arith, me.frame.slots)), refl)
 
   -- `next`
@@ -307,6 +307,42 @@ module _ (m : ModuleValue) (ok : IsAccepted m) (w : World) (a : ℕ) (was : Acti
           event.Local
       cases n holds false more = only_going i here (at + 1) (inl refl) (next_inside m (stands_on w.clocks a) (length w.clocks) w.steps was me.u i (at_it i here) refl) refl refl refl
           (λ s kd h. subst (λ r. MayBecome r kd) (sym (rows s kd h)) (inl refl)) (turn n (at + 1) was.frame.slots holds (inr (more, refl, refl)))
+
+  -- a shared number that it names is there
+  cell_there : (i : Instr) → Here i → (s : ℕ) → cell_named i ≡ Some s → (n : ℤ) × (slice_get w.cells s ≡ Some n)
+  cell_there i here s named = get_inside w.cells s (let h = cell_fits m ok.shape was.frame.unit me.u me.unit i was.frame.place s here named in omega (arith, sound.cells))
+
+  -- `get`
+  get_moves : (d s : ℕ) → Here (instr.Get d s) → Moves m (carried_out m w a was (instr.Get d s))
+  get_moves d s here =
+      let n = cell_there (instr.Get d s) here s refl in
+      cell_moves m (slice_get w.cells s) n.0 _ n.1
+      (put_number event.Got (instr.Get d s) here d n.0 (inl refl) refl (inl refl) refl refl refl (writes_row d kind.Number) (refl, others_stay d (value.Number n.0)))
+
+  -- an instruction that reads slot x, and goes on
+  reads_on : (i : Instr) → Here i → (x : ℕ) (e : Event) → Has (slots_named i) x → is_ret i ≡ false → Has (successors i was.frame.place) (was.frame.place + 1) → steps_weight i ≡ 1 → clocks_weight i ≡ 0 → unit_run i ≡ None
+      → GoesOn me.u i was (onward was) → ((s : ℕ) (k : Kind) → after m me.u i s k ≡ reads x s k (becomes k)) → Moves m (done w a (onward was) none e)
+  reads_on i here x e named other on one zero' alone goes row = local_moves i here (onward was) one zero' alone refl refl goes
+      (leaving m (stands_on w.clocks a) (length w.clocks) w.steps was me.u i (at_it i here) other on
+      (λ s k h. subst (λ r. MayBecome r k) (sym (row s k ∙ (reads_row x s k (becomes k) (subst Allowed (row s k) h)).1)) (inl refl))) e
+
+  -- `put`
+  store_moves : (s x : ℕ) → Here (instr.Put s x) → Moves m (carried_out m w a was (instr.Put s x))
+  store_moves s x here =
+      let i = instr.Put s x in
+      let c = cell_there i here s refl in
+      is_number i here x (named_inside i here x (inl refl)) (λ k h. (reads_row x x k (becomes k) h).0 refl) _ (λ n e.
+      cell_moves m (slice_get w.cells s) c.0 _ c.1 (stored_moves m w a was s n event.Put
+      (reads_on i here x event.Put (inl refl) refl (inl refl) refl refl refl (refl, λ z differs. refl) (λ z k. refl))))
+
+  -- `addto`
+  add_moves : (s x : ℕ) → Here (instr.AddTo s x) → Moves m (carried_out m w a was (instr.AddTo s x))
+  add_moves s x here =
+      let i = instr.AddTo s x in
+      let c = cell_there i here s refl in
+      is_number i here x (named_inside i here x (inl refl)) (λ k h. (reads_row x x k (becomes k) h).0 refl) _ (λ n e.
+      cell_moves m (slice_get w.cells s) c.0 _ c.1 (stored_moves m w a was s (int_wrapping_add w64 c.0 n) event.Added
+      (reads_on i here x event.Added (inl refl) refl (inl refl) refl refl refl (refl, λ z differs. refl) (λ z k. refl))))
 
   -- what a step leaves of the activity doesn't depend on how many finishes it has open
   reopened : (act : Activity) (n : ℕ) → IsNext m me.u (looks w.clocks a) (length w.clocks) (w.steps + 1) was act
@@ -618,6 +654,9 @@ module _ (m : ModuleValue) (ok : IsAccepted m) (w : World) (a : ℕ) (was : Acti
   instruction_moves (instr.Jump t) here free = jump_moves t here
   instruction_moves (instr.For k lo hi e) here free = for_moves k lo hi e here
   instruction_moves (instr.Next b) here free = next_moves b here
+  instruction_moves (instr.Get d s) here free = get_moves d s here
+  instruction_moves (instr.Put s x) here free = store_moves s x here
+  instruction_moves (instr.AddTo s x) here free = add_moves s x here
   instruction_moves (instr.Finish e) here free = finish_moves e here
   instruction_moves (instr.EndFinish b) here free = close_moves b free.0 here free.1 free.2
   instruction_moves (instr.Print x) here free = print_moves x here

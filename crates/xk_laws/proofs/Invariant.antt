@@ -184,7 +184,7 @@ pub record IsSound (m : ModuleValue) (w : World) : Type 0 where
   pub limits : IsWithinLimits m
   pub activities : Each (λ a act. IsActivitySound m (looks w.clocks a) (length w.clocks) w.steps act) w.activities
   pub clocks : Each (λ k c. IsClockSound w.activities w.steps c) w.clocks
-  pub cells : w.cells ≡ m.shared
+  pub cells : length w.cells ≡ length m.shared
   -- what was spent, and what is owed, is within the bounds
   pub steps : w.steps + owing steps_weight 1 m w.activities ≤ steps_bound m
   pub started : length w.activities + owing activities_weight 0 m w.activities ≤ activities_bound m

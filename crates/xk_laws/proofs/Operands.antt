@@ -1,6 +1,6 @@
 -- Operands that a sound activity of an accepted module has: a step goes on with them.
-use Rattle.std.proofs.Common.{◌≡◌, ℕ, true, cond, List, [], ◌∷◌, length, set, ℤ, Some, None, Option, refl, sym, ap, ◌∙◌, subst, arith, inl, inr}
-use Rattle.std.specs.Prelude.{slice_get}
+use Rattle.std.proofs.Common.{◌≡◌, ℕ, true, cond, List, [], ◌∷◌, length, set, ℤ, Some, None, Option, refl, sym, ap, ◌∙◌, subst, arith, inl, inr, length-set}
+use Rattle.std.specs.Prelude.{slice_get, slice_set}
 use Rattle.std.specs.Option.{option_map_or}
 use Rattle.std.proofs.lemmas.Bool.{false≢true}
 use Rattle.xk_types.specs.declared.names.Value.{Value}
@@ -13,7 +13,10 @@ use Rattle.xk_types.specs.declared.rules.Kind.TheVariants as kind
 use Rattle.xk_types.specs.Code.{ModuleValue}
 use Rattle.xk_types.specs.Order.{Has}
 use Rattle.xk_types.specs.World.{Activity, Clock, World, standing_of}
-use Rattle.xk_types.specs.Step.{Outcome, Blocked, Wrong, Stepped, ClockUse, onward, with_slots, is_registered, number_in, clock_in, registered_on, put_in, arguments_in}
+use Rattle.xk_types.specs.Step.{Outcome, Blocked, Wrong, Stepped, ClockUse, onward, with_slots, is_registered, number_in, clock_in, registered_on, put_in, arguments_in, cell_in, stored, done, none, moved, settled}
+use Rattle.xk_types.specs.declared.names.Event.{Event}
+use Rattle.xk_laws.proofs.Settling.{cells_sound}
+use Rattle.xk_laws.proofs.Steps.{left}
 use Rattle.xk_types.specs.declared.rules.Kind.{Kind}
 use Rattle.xk_types.specs.Walk.{After, gives}
 use Rattle.xk_laws.proofs.Invariant.{IsSound, stands_on, looks, kind_by, kind_of, is_held}
@@ -33,6 +36,14 @@ Moves m (Stepped v e) = IsSound m v
 pub put_moves : (m : ModuleValue) (o : Option Value) (old : Value) (act : Activity) (d : ℕ) (v : Value) (go : Activity → Outcome) → o ≡ Some old
     → Moves m (go (onward (with_slots act (set act.frame.slots d v)))) → Moves m (put_in o act d v go)
 put_moves m o old act d v go e h = subst (λ x. Moves m (put_in x act d v go)) (sym e) h
+
+-- a shared number that is there is used
+pub cell_moves : (m : ModuleValue) (o : Option ℤ) (n : ℤ) (go : ℤ → Outcome) → o ≡ Some n → Moves m (go n) → Moves m (cell_in o go)
+cell_moves m o n go e h = subst (λ x. Moves m (cell_in x go)) (sym e) h
+
+-- and written: a step that goes on may write one too
+pub stored_moves : (m : ModuleValue) (w : World) (a : ℕ) (act : Activity) (s : ℕ) (n : ℤ) (e : Event) → Moves m (done w a (onward act) none e) → Moves m (stored w a act s n e)
+stored_moves m w a act s n e h = cells_sound m (settled (left w a (onward act) (moved a none w.clocks))) (slice_set w.cells s n) h (length-set w.cells s n)
 
 -- a clock's name has no number's kind
 clock_no_number : (s : Standing) → kind_by s ≡ kind.Number → ⊥

@@ -25,7 +25,7 @@ use Rattle.xk_types.specs.declared.unit.ParamKind.TheVariants as param
 use Rattle.xk_types.specs.Code.{UnitValue, ModuleValue, params_of, clock_arguments, compares, is_method, is_body}
 use Rattle.xk_types.specs.Blocks.{block_at, depth_at, same_block, takes_clock, makes, made_from, homes, is_elsewhere, is_here}
 use Rattle.xk_types.specs.World.{Frame, Finish, Activity, Clock, World, standing_of, instruction_at, frame_with, base_of}
-use Rattle.xk_types.specs.Step.{Outcome, Blocked, Wrong, ClockUse, is_registered, number_in, clock_in, registered_on, put_in, slot_at, arguments_in, computing, turning, again, spawned, carried_out, run_at, done, made, onward, going, with_slots, arrived, ended, past, none, only, all, resumed, passed, dropped, child, innermost, awaits, left, closing, called, back_in, returning, new_clock, is_given, governing, joined, entered, moved, settled_clock, passing, waits, step_by, step_of, step}
+use Rattle.xk_types.specs.Step.{Outcome, Blocked, Wrong, ClockUse, is_registered, number_in, clock_in, registered_on, put_in, slot_at, arguments_in, computing, turning, again, spawned, carried_out, run_at, done, made, onward, going, with_slots, arrived, ended, past, none, only, all, resumed, passed, dropped, child, innermost, awaits, left, closing, called, back_in, returning, new_clock, is_given, governing, joined, entered, moved, settled_clock, passing, waits, step_by, step_of, step, cell_in, stored}
 use Rattle.xk_types.specs.Order.{Has}
 use Rattle.xk_types.specs.Shape.{instr_is, gives_away, target}
 use Rattle.xk_types.specs.Accepted.{IsAccepted}
@@ -139,6 +139,14 @@ module _ (m : ModuleValue) (w : World) (a : ℕ) where
   clock_scopes (Some value.Unset) go h = tt
   clock_scopes (Some (value.Number n)) go h = tt
   clock_scopes (Some (value.Clock k)) go h = registered_scopes (slice_get w.clocks k) (go k) (λ held. h k refl held)
+
+  cell_scopes : (o : Option ℤ) (go : ℤ → Outcome) → ((n : ℤ) → Scopes m (go n)) → Scopes m (cell_in o go)
+  cell_scopes None go h = tt
+  cell_scopes (Some n) go h = h n
+
+  -- a shared number that is written concerns no scope
+  stored_scopes : (act : Activity) (s : ℕ) (n : ℤ) (e : Event) → Scopes m (done w a (onward act) none e) → Scopes m (stored w a act s n e)
+  stored_scopes act s n e h = record { scopes = h.scopes; width = h.width; activities = h.activities }
 
   put_scopes : (o : Option Value) (act : Activity) (d : ℕ) (v : Value) (go : Activity → Outcome) → ((old : Value) → o ≡ Some old → Scopes m (go (onward (with_slots act (set act.frame.slots d v))))) → Scopes m (put_in o act d v go)
   put_scopes None act d v go h = tt
@@ -274,13 +282,13 @@ module _ (m : ModuleValue) (ok : IsAccepted m) (w : World) (a : ℕ) (was : Acti
     goes_on i here plain change e apart registers = keeps_to (onward was) change e refl refl refl refl (block_next me.u fit.finishes was.frame.place i here plain) (λ s c named. named) apart registers
 
     -- one that writes a number to slot d, and goes on
-    writes_number : (i : Instr) → Here i → is_border i ≡ false → (d : ℕ) (n : ℤ) → Scopes m (put_in (slot_at was d) was d (value.Number n) (λ next. done w a next none event.Local))
-    writes_number i here plain d n = put_scopes m w a (slot_at was d) was d (value.Number n) (λ next. done w a next none event.Local)
-        (λ old at. keeps_to (onward (with_slots was (set was.frame.slots d (value.Number n)))) none event.Local refl refl refl refl
+    writes_number : (e : Event) (i : Instr) → Here i → is_border i ≡ false → (d : ℕ) (n : ℤ) → Scopes m (put_in (slot_at was d) was d (value.Number n) (λ next. done w a next none e))
+    writes_number e i here plain d n = put_scopes m w a (slot_at was d) was d (value.Number n) (λ next. done w a next none e)
+        (λ old at. keeps_to (onward (with_slots was (set was.frame.slots d (value.Number n)))) none e refl refl refl refl
         (block_next me.u fit.finishes was.frame.place i here plain) (number_names was.frame.slots d old n at) (λ k. refl) (λ k st h. h))
 
     computing_scopes : (i : Instr) → Here i → is_border i ≡ false → (f : ℤ → ℤ → ℤ) (d x y : ℕ) → Scopes m (computing w a was f d x y)
-    computing_scopes i here plain f d x y = number_scopes m w a (slot_at was x) _ (λ p e. number_scopes m w a (slot_at was y) _ (λ q g. writes_number i here plain d (f p q)))
+    computing_scopes i here plain f d x y = number_scopes m w a (slot_at was x) _ (λ p e. number_scopes m w a (slot_at was y) _ (λ q g. writes_number event.Local i here plain d (f p q)))
 
     -- one that goes to this place
     goes_to : (i : Instr) → Here i → is_border i ≡ false → (t : ℕ) → target i ≡ Some t → Scopes m (done w a (going was t) none event.Local)
@@ -632,15 +640,20 @@ module _ (m : ModuleValue) (ok : IsAccepted m) (w : World) (a : ℕ) (was : Acti
 
     -- every instruction
     instruction_scopes : (i : Instr) → Here i → Scopes m (carried_out m w a was i)
-    instruction_scopes (instr.Lit d n) here = writes_number (instr.Lit d n) here refl d n
-    instruction_scopes (instr.Copy d x) here = number_scopes m w a (slot_at was x) _ (λ n e. writes_number (instr.Copy d x) here refl d n)
+    instruction_scopes (instr.Lit d n) here = writes_number event.Local (instr.Lit d n) here refl d n
+    instruction_scopes (instr.Copy d x) here = number_scopes m w a (slot_at was x) _ (λ n e. writes_number event.Local (instr.Copy d x) here refl d n)
     instruction_scopes (instr.Add d x y) here = computing_scopes (instr.Add d x y) here refl (int_wrapping_add w64) d x y
     instruction_scopes (instr.Sub d x y) here = computing_scopes (instr.Sub d x y) here refl (int_wrapping_sub w64) d x y
     instruction_scopes (instr.Mul d x y) here = computing_scopes (instr.Mul d x y) here refl (int_wrapping_mul w64) d x y
     instruction_scopes (instr.Unless op x y t) here = number_scopes m w a (slot_at was x) _ (λ p e. number_scopes m w a (slot_at was y) _ (λ q g. unless_scopes (instr.Unless op x y t) here refl t refl (compares op p q)))
     instruction_scopes (instr.Jump t) here = goes_to (instr.Jump t) here refl t refl
-    instruction_scopes (instr.For k lo hi e) here = writes_number (instr.For k lo hi e) here refl k lo
+    instruction_scopes (instr.For k lo hi e) here = writes_number event.Local (instr.For k lo hi e) here refl k lo
     instruction_scopes (instr.Next b) here = turning_scopes b here (instruction_at m (record was.frame { place = b }))
+    instruction_scopes (instr.Get d s) here = cell_scopes m w a (slice_get w.cells s) _ (λ n. writes_number event.Got (instr.Get d s) here refl d n)
+    instruction_scopes (instr.Put s x) here = number_scopes m w a (slot_at was x) _ (λ n e. cell_scopes m w a (slice_get w.cells s) _
+        (λ old. stored_scopes m w a was s n event.Put (goes_on (instr.Put s x) here refl none event.Put (λ k. refl) (λ k st h. h))))
+    instruction_scopes (instr.AddTo s x) here = number_scopes m w a (slot_at was x) _ (λ n e. cell_scopes m w a (slice_get w.cells s) _
+        (λ old. stored_scopes m w a was s (int_wrapping_add w64 old n) event.Added (goes_on (instr.AddTo s x) here refl none event.Added (λ k. refl) (λ k st h. h))))
     instruction_scopes (instr.Finish e) here = finish_scopes e here
     instruction_scopes (instr.EndFinish b) here = closing_scopes b was.opened here refl
     instruction_scopes (instr.Print x) here = number_scopes m w a (slot_at was x) _ (λ n e. goes_on (instr.Print x) here refl none (event.Printed n) (λ k. refl) (λ k st h. h))

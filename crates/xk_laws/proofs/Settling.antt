@@ -1,5 +1,5 @@
 -- The end of a step: it keeps the invariant of worlds.
-use Rattle.std.proofs.Common.{◌≡◌, ℕ, ◌+◌, ◌<◌, ◌≤◌, true, false, List, map, length, refl, sym, ◌∙◌, subst, arith}
+use Rattle.std.proofs.Common.{◌≡◌, ℕ, ℤ, ◌+◌, ◌<◌, ◌≤◌, true, false, List, map, length, refl, sym, ◌∙◌, subst, arith}
 use Rattle.std.proofs.lemmas.List.{length-map}
 use Rattle.xk_types.specs.declared.names.Status.{Status}
 use Rattle.xk_types.specs.declared.names.Standing.{Standing}
@@ -25,7 +25,7 @@ pub record IsNear (m : ModuleValue) (w : World) : Type 0 where
   pub limits : IsWithinLimits m
   pub activities : Each (λ a act. IsActivitySound m (looks w.clocks a) (length w.clocks) (w.steps + 1) act) w.activities
   pub clocks : Each (λ k c. IsClockNear w.activities (w.steps + 1) c) w.clocks
-  pub cells : w.cells ≡ m.shared
+  pub cells : length w.cells ≡ length m.shared
   pub steps : w.steps + 1 + owing steps_weight 1 m w.activities ≤ steps_bound m
   pub started : length w.activities + owing activities_weight 0 m w.activities ≤ activities_bound m
   pub made : length w.clocks + owing clocks_weight 0 m w.activities ≤ clocks_bound m
@@ -37,6 +37,18 @@ stands_advanced st since last now standing.Apart h g p = tt
 stands_advanced st since last now standing.Open h g p = absurd (grind arith)
 stands_advanced st since last now standing.Signalled h g p = (h.0, g refl)
 stands_advanced st since last now standing.Ahead h g p = absurd (grind arith)
+
+-- other shared numbers, as many as there were, keep the invariant
+pub cells_sound : (m : ModuleValue) (w : World) (cells : List ℤ) → IsSound m w → length cells ≡ length w.cells → IsSound m (record w { cells = cells })
+cells_sound m w cells s same = record {
+  limits = s.limits;
+  activities = s.activities;
+  clocks = s.clocks;
+  cells = same ∙ s.cells;
+  steps = s.steps;
+  started = s.started;
+  made = s.made;
+}
 
 -- the end of a step keeps a clock's invariant
 clock_settled : (activities : List Activity) (now : ℕ) (c : Clock) → IsClockNear activities now c → IsClockSound activities now (settled_clock now c)

@@ -278,6 +278,9 @@ instr_of_takes name operands i e =
     by_shape one (codes "next") instr.Next (λ x p. (refl, p)) name operands _ i e (λ e.
     by_shape one (codes "finish") instr.Finish (λ x p. (refl, p)) name operands _ i e (λ e.
     by_shape one (codes "endfinish") instr.EndFinish (λ x p. (refl, p)) name operands _ i e (λ e.
+    by_shape two (codes "get") (λ x. instr.Get x.0 x.1) (λ x p. (refl, p)) name operands _ i e (λ e.
+    by_shape two (codes "put") (λ x. instr.Put x.0 x.1) (λ x p. (refl, p)) name operands _ i e (λ e.
+    by_shape two (codes "addto") (λ x. instr.AddTo x.0 x.1) (λ x p. (refl, p)) name operands _ i e (λ e.
     by_shape one (codes "print") instr.Print (λ x p. (refl, p)) name operands _ i e (λ e.
     by_shape one (codes "make") instr.Make (λ x p. (refl, p)) name operands _ i e (λ e.
     by_shape one (codes "resume") instr.Resume (λ x p. (refl, p)) name operands _ i e (λ e.
@@ -286,7 +289,7 @@ instr_of_takes name operands i e =
     by_shape run (codes "call") (λ x. instr.Call x.0 x.1) (λ x p. (refl, p)) name operands _ i e (λ e.
     by_shape run (codes "spawn") (λ x. instr.Spawn x.0 x.1) (λ x p. (refl, p)) name operands _ i e (λ e.
     by_shape none (codes "ret") (λ _. instr.Ret) (λ x p. (refl, p)) name operands _ i e (λ e.
-    absurd cc)))))))))))))))))))
+    absurd cc))))))))))))))))))))))
 
 pub instr_takes : (d : Data) (i : Instr) → instr_at d ≡ Some i → (d ≡ instr_value i) × IsInstrInRange i
 unfolding instr_at
@@ -320,6 +323,9 @@ instr_again (instr.For k lo hi e) p =
 instr_again (instr.Next b) p = instr_of_again (codes "next") (word b ∷ []) (instr.Next b) (rw (one_again b p) refl)
 instr_again (instr.Finish e) p = instr_of_again (codes "finish") (word e ∷ []) (instr.Finish e) (rw (one_again e p) refl)
 instr_again (instr.EndFinish b) p = instr_of_again (codes "endfinish") (word b ∷ []) (instr.EndFinish b) (rw (one_again b p) refl)
+instr_again (instr.Get d s) p = instr_of_again (codes "get") (two_values (d, s)) (instr.Get d s) (rw (two_again (d, s) p) refl)
+instr_again (instr.Put s a) p = instr_of_again (codes "put") (two_values (s, a)) (instr.Put s a) (rw (two_again (s, a) p) refl)
+instr_again (instr.AddTo s a) p = instr_of_again (codes "addto") (two_values (s, a)) (instr.AddTo s a) (rw (two_again (s, a) p) refl)
 instr_again (instr.Print a) p = instr_of_again (codes "print") (word a ∷ []) (instr.Print a) (rw (one_again a p) refl)
 instr_again (instr.Make k) p = instr_of_again (codes "make") (word k ∷ []) (instr.Make k) (rw (one_again k p) refl)
 instr_again (instr.Resume k) p = instr_of_again (codes "resume") (word k ∷ []) (instr.Resume k) (rw (one_again k p) refl)

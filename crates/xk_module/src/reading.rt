@@ -102,7 +102,7 @@ fn instr(alloc: Global, name: &str, operands: &[Value]) -> Result<Instr, Refusal
 {
     match name {
         "lit" => slot_and_number(operands).map(|(d, n)| Instr::Lit(d, n)),
-        "copy" => two_slots(operands).map(|(d, a)| Instr::Copy(d, a)),
+        "copy" => two_words(operands).map(|(d, a)| Instr::Copy(d, a)),
         "add" => three_slots(operands).map(|(d, a, b)| Instr::Add(d, a, b)),
         "sub" => three_slots(operands).map(|(d, a, b)| Instr::Sub(d, a, b)),
         "mul" => three_slots(operands).map(|(d, a, b)| Instr::Mul(d, a, b)),
@@ -112,6 +112,9 @@ fn instr(alloc: Global, name: &str, operands: &[Value]) -> Result<Instr, Refusal
         "next" => one_word(operands).map(Instr::Next),
         "finish" => one_word(operands).map(Instr::Finish),
         "endfinish" => one_word(operands).map(Instr::EndFinish),
+        "get" => two_words(operands).map(|(d, s)| Instr::Get(d, s)),
+        "put" => two_words(operands).map(|(s, a)| Instr::Put(s, a)),
+        "addto" => two_words(operands).map(|(s, a)| Instr::AddTo(s, a)),
         "print" => one_word(operands).map(Instr::Print),
         "make" => one_word(operands).map(Instr::Make),
         "resume" => one_word(operands).map(Instr::Resume),
@@ -146,8 +149,9 @@ fn one_word(operands: &[Value]) -> Result<u16, Refusal>
     }
 }
 
+/// Two slots, or a slot and a shared number.
 #[tactic(auto, unfolding(crate::specs::Named::two_at))]
-fn two_slots(operands: &[Value]) -> Result<(u16, u16), Refusal>
+fn two_words(operands: &[Value]) -> Result<(u16, u16), Refusal>
     ensures given { Gives (λ x. x) result (two_at (views operands.now)) }
     ensures no_memory { ¬ IsErrOf result Refusal.Memory }
 {

@@ -18,6 +18,10 @@ const CALLED: &str =
 const FINISHED: &str =
     "{\"shared\":[],\"units\":[{\"code\":[[\"finish\",4],[\"make\",0],[\"spawn\",1,[0]],[\"drop\",0],[\"endfinish\",0],[\"ret\"]],\"kind\":\"main\",\"params\":\"\",\"slots\":1},{\"code\":[[\"advance\"],[\"ret\"]],\"kind\":\"body\",\"params\":\"c\",\"slots\":1}],\"version\":1}";
 
+/// Main, and three activities that each add a number to the shared one, which main prints once they have ended.
+const SUMMED: &str =
+    "{\"shared\":[0],\"units\":[{\"code\":[[\"finish\",4],[\"for\",0,1,3,3],[\"spawn\",1,[0]],[\"next\",1],[\"endfinish\",0],[\"get\",1,0],[\"print\",1],[\"ret\"]],\"kind\":\"main\",\"params\":\"\",\"slots\":2},{\"code\":[[\"addto\",0,0],[\"ret\"]],\"kind\":\"body\",\"params\":\"n\",\"slots\":1}],\"version\":1}";
+
 /// The text of a module with one unit.
 fn with_unit(alloc: Global, unit: &str) -> Result<String, AllocError> {
     format!(in alloc; "{{\"version\":1,\"shared\":[],\"units\":[{{{unit}}}]}}")
@@ -93,6 +97,9 @@ fn are_same(found: &Instr, wanted: &Instr) -> bool {
         (Instr::Next(b), Instr::Next(f)) => b == f,
         (Instr::Finish(e), Instr::Finish(f)) => e == f,
         (Instr::EndFinish(b), Instr::EndFinish(f)) => b == f,
+        (Instr::Get(d, s), Instr::Get(e, c)) => d == e && s == c,
+        (Instr::Put(s, a), Instr::Put(c, b)) => s == c && a == b,
+        (Instr::AddTo(s, a), Instr::AddTo(c, b)) => s == c && a == b,
         (Instr::Print(a), Instr::Print(b)) => a == b,
         (Instr::Make(a), Instr::Make(b)) => a == b,
         (Instr::Resume(a), Instr::Resume(b)) => a == b,
@@ -230,6 +237,32 @@ fn reads_a_finish(rt: HostRuntime) -> Result<(), Fail> {
     let units = module.units();
     assert_eq!(rt; units.len(), 2);
     let (first, second) = (&units[0], &units[1]);
+    assert!(rt; has_code(first, main.as_slice()));
+    assert!(rt; has_code(second, body.as_slice()));
+    Ok(())
+}
+
+#[test]
+fn reads_a_shared_sum(rt: HostRuntime) -> Result<(), Fail> {
+    let alloc = rt.alloc();
+    let module = read_module(alloc, SUMMED.as_bytes())
+        .ok()
+        .ok_or("a module")?;
+    let main = [
+        Instr::Finish(4),
+        Instr::For(0, 1, 3, 3),
+        Instr::Spawn(1, Args::new(vec![in alloc; 0]?)),
+        Instr::Next(1),
+        Instr::EndFinish(0),
+        Instr::Get(1, 0),
+        Instr::Print(1),
+        Instr::Ret,
+    ];
+    let body = [Instr::AddTo(0, 0), Instr::Ret];
+    let units = module.units();
+    assert_eq!(rt; units.len(), 2);
+    let (first, second) = (&units[0], &units[1]);
+    assert!(rt; module.shared() == [0].as_slice());
     assert!(rt; has_code(first, main.as_slice()));
     assert!(rt; has_code(second, body.as_slice()));
     Ok(())
@@ -544,6 +577,40 @@ fn no_finish(rt: HostRuntime) -> Result<(), Fail> {
 }
 
 #[test]
+fn no_shared_number(rt: HostRuntime) -> Result<(), Fail> {
+    let codes = [
+        "[\"Get\",0,0]",
+        "[\"get\"]",
+        "[\"get\",0]",
+        "[\"get\",0,1,2]",
+        "[\"get\",65536,0]",
+        "[\"get\",0,65536]",
+        "[\"get\",-1,0]",
+        "[\"get\",0,1.0]",
+        "[\"get\",0,[1]]",
+        "[\"get\",\"0\",0]",
+        "[\"Put\",0,0]",
+        "[\"put\",0]",
+        "[\"put\",0,1,2]",
+        "[\"put\",65536,0]",
+        "[\"put\",0,65536]",
+        "[\"put\",0,-1]",
+        "[\"put\",1e0,0]",
+        "[\"put\",0,null]",
+        "[\"addTo\",0,0]",
+        "[\"add_to\",0,0]",
+        "[\"addto\",0]",
+        "[\"addto\",0,1,2]",
+        "[\"addto\",65536,0]",
+        "[\"addto\",0,65536]",
+        "[\"addto\",-0,0]",
+        "[\"addto\",0,\"1\"]",
+    ];
+    assert_eq!(rt; first_taken(rt.alloc(), codes.as_slice())?, None);
+    Ok(())
+}
+
+#[test]
 fn beyond_a_limit(rt: HostRuntime) -> Result<(), Fail> {
     let alloc = rt.alloc();
     let limit = Some(ModuleFault::Limit);
@@ -633,6 +700,30 @@ fn finishes(rt: HostRuntime) -> Result<(), Fail> {
         Instr::EndFinish(65535),
         Instr::Finish(7),
         Instr::EndFinish(4),
+    ];
+    assert!(rt; starts_with(&module, found.as_slice()));
+    Ok(())
+}
+
+#[test]
+fn shared_numbers(rt: HostRuntime) -> Result<(), Fail> {
+    let code =
+        "[\"get\",0,65535],[\"get\",65535,0],[\"put\",0,65535],[\"put\",65535,0],[\"addto\",0,65535],[\"addto\",65535,0],[\"get\",3,4],[\"put\",5,6],[\"addto\",7,8],[\"add\",1,2,3]";
+    let text = with_code(rt.alloc(), code)?;
+    let module = read_module(rt.alloc(), text.as_bytes())
+        .ok()
+        .ok_or("a module")?;
+    let found = [
+        Instr::Get(0, 65535),
+        Instr::Get(65535, 0),
+        Instr::Put(0, 65535),
+        Instr::Put(65535, 0),
+        Instr::AddTo(0, 65535),
+        Instr::AddTo(65535, 0),
+        Instr::Get(3, 4),
+        Instr::Put(5, 6),
+        Instr::AddTo(7, 8),
+        Instr::Add(1, 2, 3),
     ];
     assert!(rt; starts_with(&module, found.as_slice()));
     Ok(())

@@ -17,11 +17,12 @@ use xk_types::Module;
 /// (`"main"`, `"method"` or `"body"`), `params` (a letter for each parameter, `n` for a number and `c` for a clock),
 /// `slots` (0 to 65,535) and `code`, and no other. The code is an array of instructions, and an instruction an array of its
 /// name and its operands: `["lit",d,n]`, `["copy",d,a]`, `["add",d,a,b]`, `["sub",d,a,b]`, `["mul",d,a,b]`,
-/// `["unless",op,a,b,t]`, `["jump",t]`, `["for",k,lo,hi,e]`, `["next",b]`, `["finish",e]`, `["endfinish",b]`,
-/// `["print",a]`, `["make",k]`, `["resume",k]`, `["drop",k]`, `["advance"]`, `["call",u,[s,..]]`, `["spawn",u,[s,..]]`,
-/// `["ret"]`. Here n, lo and hi are whole numbers of 64 bits, signed, and op is one of `"eq"`, `"ne"`, `"lt"`, `"le"`,
-/// `"gt"` and `"ge"`; t, e and what `next` and `endfinish` have are places in the code, u is a unit, and the others are
-/// slots, all three from 0 to 65,535. The array of a `call` or a `spawn` has the slots of its arguments, in order.
+/// `["unless",op,a,b,t]`, `["jump",t]`, `["for",k,lo,hi,e]`, `["next",b]`, `["finish",e]`, `["endfinish",b]`, `["get",d,s]`,
+/// `["put",s,a]`, `["addto",s,a]`, `["print",a]`, `["make",k]`, `["resume",k]`, `["drop",k]`, `["advance"]`,
+/// `["call",u,[x,..]]`, `["spawn",u,[x,..]]`, `["ret"]`. Here n, lo and hi are whole numbers of 64 bits, signed, and op is one
+/// of `"eq"`, `"ne"`, `"lt"`, `"le"`, `"gt"` and `"ge"`; t, e and what `next` and `endfinish` have are places in the code, s is
+/// a shared number by its place, u is a unit, and the others are slots, all four from 0 to 65,535. The array of a `call` or a
+/// `spawn` has the slots of its arguments, in order.
 ///
 /// Keys come in any order, and white space is free; of a key that comes twice the last value counts. `1.0`, `1e0` and `-0` are
 /// no whole numbers. The limits of a module count only where the whole value fits.

@@ -851,7 +851,7 @@ fn rows_are_refused(rt: HostRuntime) -> Result<(), AllocError> {
             "[\"lit\",1,1],[\"ret\"]",
             "x10clock: V3 Slot unit 0 at 0\n",
         ),
-        (1, "[\"get\",0,0],[\"ret\"]", "x10clock: M2 NotAModule\n"),
+        (1, "[\"load\",0,0],[\"ret\"]", "x10clock: M2 NotAModule\n"),
         (65, "[\"ret\"]", "x10clock: M3 Limit\n"),
         (1, "[\"ret\"", "x10clock: M1 NotJson\n"),
     ] {

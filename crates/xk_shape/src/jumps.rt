@@ -120,6 +120,7 @@ fn slot_written(instr: &Instr) -> Option<u16>
         Instr::Sub(d, _, _) => Some(*d),
         Instr::Mul(d, _, _) => Some(*d),
         Instr::For(slot, _, _, _) => Some(*slot),
+        Instr::Get(d, _) => Some(*d),
         Instr::Make(d) => Some(*d),
         _ => None,
     }

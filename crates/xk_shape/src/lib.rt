@@ -1,5 +1,5 @@
 //! The rules on the shape of code: where targets lie, how loops and finishes nest, where slots are
-//! at home, which slots, units and parameters there are.
+//! at home, which slots, shared numbers, units and parameters there are.
 #![tactic(auto)]
 
 mod blocks;

@@ -3,7 +3,7 @@
 ghost use Rattle.std.specs.Prelude.{◌≡◌, ℕ, ◌+◌, ◌<◌, ◌≤◌, ◌||◌, ◌&&◌, not, ◌==◌, nat_lt, false, true, length, slice_get, MatchResult, MatchOption};
 ghost use Rattle.std.specs.List.{list_all, list_any};
 ghost use Rattle.xk_types.specs.Code.{IsUnitWithinLimits, params_of, is_method, is_body, clock_arguments};
-ghost use Rattle.xk_types.specs.Shape.{breaks_in, breaks_slot, is_in_place, runs_amiss, instr_is, is_fitting, breaks_end, has_twice, gives_twice, breaks_same_clock, slots_named, is_ret, HasShape};
+ghost use Rattle.xk_types.specs.Shape.{breaks_in, breaks_slot, breaks_cell, is_in_place, runs_amiss, instr_is, is_fitting, breaks_end, has_twice, gives_twice, breaks_same_clock, slots_named, is_ret, HasShape};
 ghost use Rattle.xk_shape.specs.Fault.{Refuses};
 ghost use Rattle.xk_shape.specs.Nests.{AreNests};
 ghost use Rattle.xk_shape.specs.Breach.{IsTriedByPlace, IsNowhereBroken, FailsRule, IsFirst};
@@ -23,6 +23,7 @@ pub(crate) fn check_shape(alloc: Global, m: &Module) -> Result<(), ShapeError>
     check_rule(alloc, m, Rule::Block)?;
     check_rule(alloc, m, Rule::Slot)?;
     check_rule(alloc, m, Rule::Unit)?;
+    check_rule(alloc, m, Rule::Cell)?;
     check_rule(alloc, m, Rule::Loop)?;
     check_rule(alloc, m, Rule::End)?;
     check_homes(alloc, m)?;
@@ -75,12 +76,12 @@ fn breaks_rule(m: &Module, rule: Rule, unit: u16, u: &Unit, nests: &Nests, at: u
         Rule::Block => crosses_edge(u, &nests.spans, at),
         Rule::Slot => names_missing_slot(u, at),
         Rule::Unit => (at == 0 && !is_in_place(unit, u)) || runs_wrongly(m, unit, u, at),
+        Rule::Cell => names_missing_cell(m, u, at),
         Rule::Loop => misuses_loop(u, &nests.loops, at),
         Rule::End => ends_wrongly(u, at),
         Rule::SameClock => gives_clock_twice(m, u, at),
         Rule::Home | Rule::Registers => unreachable!(),
-        Rule::Cell
-        | Rule::Use
+        Rule::Use
         | Rule::Held
         | Rule::Leak
         | Rule::Steps
@@ -114,6 +115,8 @@ fn names_below(instr: &Instr, slots: u16) -> bool
         Instr::Jump(_) => true,
         Instr::For(slot, _, _, _) => *slot < slots,
         Instr::Next(_) | Instr::Finish(_) | Instr::EndFinish(_) => true,
+        Instr::Get(d, _) => *d < slots,
+        Instr::Put(_, x) | Instr::AddTo(_, x) => *x < slots,
         Instr::Print(x) => *x < slots,
         Instr::Make(d) => *d < slots,
         Instr::Resume(c) => *c < slots,
@@ -121,6 +124,18 @@ fn names_below(instr: &Instr, slots: u16) -> bool
         Instr::Advance => true,
         Instr::Call(_, args) | Instr::Spawn(_, args) => args.slots().iter().all(|s| *s < slots),
         Instr::Ret => true,
+    }
+}
+
+/// Whether the instruction names a shared number that the module doesn't have.
+fn names_missing_cell(m: &Module, u: &Unit, at: u16) -> bool
+    ensures { result ≡ breaks_cell m.now u.now at }
+{
+    match u.code.get(at as usize) {
+        Some(Instr::Get(_, cell) | Instr::Put(cell, _) | Instr::AddTo(cell, _)) => {
+            *cell as usize >= m.shared().len()
+        }
+        _ => false,
     }
 }
 

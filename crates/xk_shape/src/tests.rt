@@ -58,15 +58,34 @@ fn spawn(alloc: Global, unit: u16, args: &[u16]) -> Result<Instr, AllocError> {
     Ok(Instr::Spawn(unit, Args::new(Vec::from_slice(alloc, args)?)))
 }
 
+/// The module of these units, with shared numbers.
+fn module_sharing<const N: usize>(
+    alloc: Global,
+    shared: &[i64],
+    units: [Unit; N],
+) -> Result<Module, Fail> {
+    let shared = Vec::from_slice(alloc, shared)?;
+    let units = Vec::from_array(alloc, units)?;
+    Ok(Module::new(shared, units).map_err(|e| e.2)?)
+}
+
 /// The module of these units.
 fn module<const N: usize>(alloc: Global, units: [Unit; N]) -> Result<Module, Fail> {
-    let units = Vec::from_array(alloc, units)?;
-    Ok(Module::new(Vec::new(alloc), units).map_err(|e| e.2)?)
+    module_sharing(alloc, &[], units)
 }
 
 /// The rule's number, the unit and the instruction of the fault that these units have, or none.
 fn fault<const N: usize>(alloc: Global, units: [Unit; N]) -> Result<Option<(u8, u16, u16)>, Fail> {
-    match shape(alloc, module(alloc, units)?) {
+    fault_sharing(alloc, &[], units)
+}
+
+/// The same, with shared numbers.
+fn fault_sharing<const N: usize>(
+    alloc: Global,
+    shared: &[i64],
+    units: [Unit; N],
+) -> Result<Option<(u8, u16, u16)>, Fail> {
+    match shape(alloc, module_sharing(alloc, shared, units)?) {
         Ok(_) => Ok(None),
         Err((_, ShapeError::Fault(f))) => Ok(Some((f.rule.number(), f.unit, f.at))),
         Err((_, ShapeError::OutOfMemory)) => Err(AllocError)?,
@@ -376,6 +395,68 @@ fn refuses_slots(rt: HostRuntime) -> Result<(), Fail> {
     assert_eq!(rt; fault_of(alloc, compared)?, Some((3, 0, 0)));
     let counted = [Instr::For(2, 2, 1, 1), Instr::Next(0), Instr::Ret];
     assert_eq!(rt; fault_of(alloc, counted)?, Some((3, 0, 0)));
+    Ok(())
+}
+
+/// The fault of one main unit with two slots, where two numbers are shared.
+fn fault_of_two<const N: usize>(
+    alloc: Global,
+    code: [Instr; N],
+) -> Result<Option<(u8, u16, u16)>, Fail> {
+    fault_sharing(alloc, &[7, 8], [main_unit(alloc, 2, code)?])
+}
+
+#[test]
+fn refuses_shared_numbers(rt: HostRuntime) -> Result<(), Fail> {
+    let alloc = rt.alloc();
+    let none = [Instr::Get(0, 0), Instr::Ret];
+    assert_eq!(rt; fault_of(alloc, none)?, Some((5, 0, 0)));
+    let last = [Instr::AddTo(1, 0), Instr::Ret];
+    assert_eq!(rt; fault_of_two(alloc, last)?, None);
+    let got = [Instr::Get(0, 1), Instr::Get(1, 2), Instr::Ret];
+    assert_eq!(rt; fault_of_two(alloc, got)?, Some((5, 0, 1)));
+    let put = [Instr::Put(1, 0), Instr::Put(2, 0), Instr::Ret];
+    assert_eq!(rt; fault_of_two(alloc, put)?, Some((5, 0, 1)));
+    let added = [Instr::AddTo(0, 1), Instr::AddTo(65535, 1), Instr::Ret];
+    assert_eq!(rt; fault_of_two(alloc, added)?, Some((5, 0, 1)));
+
+    let main = main_unit(alloc, 0, [Instr::Ret])?;
+    let code = [Instr::Advance, Instr::Put(2, 0), Instr::Ret];
+    let starts = body(alloc, &[ParamKind::Number], 1, code)?;
+    let in_body = fault_sharing(alloc, &[7, 8], [main, starts])?;
+    assert_eq!(rt; in_body, Some((5, 1, 1)));
+    Ok(())
+}
+
+#[test]
+fn refuses_slots_of_shared_numbers(rt: HostRuntime) -> Result<(), Fail> {
+    let alloc = rt.alloc();
+    let got = [Instr::Get(2, 0), Instr::Ret];
+    assert_eq!(rt; fault_of_two(alloc, got)?, Some((3, 0, 0)));
+    let put = [Instr::Put(0, 2), Instr::Ret];
+    assert_eq!(rt; fault_of_two(alloc, put)?, Some((3, 0, 0)));
+    let added = [Instr::AddTo(0, 2), Instr::Ret];
+    assert_eq!(rt; fault_of_two(alloc, added)?, Some((3, 0, 0)));
+    let counted = [twice(2), Instr::Get(0, 0), Instr::Next(0), Instr::Ret];
+    assert_eq!(rt; fault_of_two(alloc, counted)?, Some((6, 0, 1)));
+    let put = [twice(2), Instr::Put(0, 0), Instr::Next(0), Instr::Ret];
+    assert_eq!(rt; fault_of_two(alloc, put)?, None);
+    Ok(())
+}
+
+#[test]
+fn tries_shared_numbers_between_units_and_loops(rt: HostRuntime) -> Result<(), Fail> {
+    let alloc = rt.alloc();
+    let got = [Instr::Get(0, 0), Instr::Ret];
+    let second = main_unit(alloc, 0, [Instr::Ret])?;
+    assert_eq!(rt; fault_with(alloc, got, second)?, Some((4, 1, 0)));
+    let backward = [
+        Instr::For(0, 2, 1, 1),
+        Instr::Next(0),
+        Instr::Get(1, 0),
+        Instr::Ret,
+    ];
+    assert_eq!(rt; fault_of(alloc, backward)?, Some((5, 0, 2)));
     Ok(())
 }
 

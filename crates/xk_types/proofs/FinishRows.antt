@@ -62,11 +62,26 @@ nested_waits : (way (run nested (0 ∷ 0 ∷ 0 ∷ []) (opening nested)) ≡ Sto
 unfolding under_within
 nested_waits = (refl, refl)
 
--- under every schedule 1 is printed before 2
+-- 1 is printed before 2
 nested_ends : (way (run nested (0 ∷ 0 ∷ 1 ∷ 1 ∷ 2 ∷ 2 ∷ 2 ∷ 0 ∷ 0 ∷ 0 ∷ 0 ∷ []) (opening nested)) ≡ Goes 11 true)
     × (printed nested (0 ∷ 0 ∷ 1 ∷ 2 ∷ 2 ∷ 1 ∷ 2 ∷ 0 ∷ 0 ∷ 0 ∷ 0 ∷ []) (opening nested) ≡ pos 1 ∷ pos 2 ∷ [])
 unfolding under_within
 nested_ends = (refl, refl)
+
+-- ---- an activity that has a finish open itself, and whose child is awaited through it
+
+abbrev through : ModuleValue
+through = module_with (
+    main_with 0 (instr.Finish 2 ∷ instr.Spawn 1 [] ∷ instr.EndFinish 0 ∷ instr.Ret ∷ [])
+    ∷ body_with [] 0 (instr.Finish 2 ∷ instr.Spawn 2 [] ∷ instr.Ret ∷ [])
+    ∷ body_with [] 0 (instr.Ret ∷ [])
+    ∷ [])
+
+-- (The module isn't accepted: activity 1 ends with its finish open. So main waits for activity 2 alone, which that finish governs.)
+through_waits : (way (run through (0 ∷ 0 ∷ 1 ∷ 1 ∷ 1 ∷ 0 ∷ []) (opening through)) ≡ Stops 5)
+    × (way (run through (0 ∷ 0 ∷ 1 ∷ 1 ∷ 1 ∷ 2 ∷ 0 ∷ 0 ∷ []) (opening through)) ≡ Goes 8 true)
+unfolding under_within
+through_waits = (refl, refl)
 
 -- ---- no finish is open
 
@@ -85,7 +100,7 @@ outer_registers : (breaks outer rule.Registers 0 2 ≡ true) × (breaks outer ru
     × (breaks outer rule.Block 0 3 ≡ false) × (breaks outer rule.Registers 1 0 ≡ false)
 outer_registers = (refl, refl, refl, refl, refl)
 
--- so they would: after three steps of each, nobody is enabled
+-- so they would: after three steps of main and one of the other, nobody is enabled
 outer_stuck : (way (run outer (0 ∷ 0 ∷ 0 ∷ 1 ∷ 0 ∷ []) (opening outer)) ≡ Stops 4) × (way (run outer (0 ∷ 0 ∷ 0 ∷ 1 ∷ 1 ∷ []) (opening outer)) ≡ Stops 4)
 unfolding under_within
 outer_stuck = (refl, refl)

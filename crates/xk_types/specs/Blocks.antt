@@ -71,7 +71,7 @@ made_from u s at [] = []
 made_from u s at (i ∷ is) = if makes s i then block_at u at ∷ made_from u s (suc at) is else made_from u s (suc at) is
 
 -- The homes of a slot: the whole unit for a parameter that takes a clock, and the blocks that make its clock. The verifier sees to it
--- that these are one.
+-- that no two of them differ.
 abbrev pub homes : UnitValue → ℕ → List (List ℕ)
 homes u s = (if takes_clock (slice_get u.params s) then [] ∷ [] else []) ++ made_from u s 0 u.code
 

@@ -39,7 +39,7 @@ sum_from f at [] = 0
 sum_from f at (i ∷ is) = f at i + sum_from f (suc at) is
 
 -- The sum of a weight over a unit's instructions, each with the sum of the unit that it calls or starts, and as often as it is
--- carried out, down to this many calls and starts one below another.
+-- carried out, looking at no more units one below another than this, the unit among them.
 unfoldable pub total_within : (Instr → ℕ) → ModuleValue → ℕ → ℕ → ℕ
 total_within weight m zero unit = 0
 total_within weight m (suc depth) unit =
@@ -70,7 +70,8 @@ clocks_bound m = total clocks_weight m 0
 abbrev pub greatest : List ℕ → ℕ
 greatest ns = fold max 0 ns
 
--- A number of a unit, with the most of those that it calls, down to this many calls one below another.
+-- A number of a unit, with the most of those that it calls, looking at no more units one below another than this, the unit among
+-- them.
 unfoldable pub chain_within : (UnitValue → ℕ) → ModuleValue → ℕ → ℕ → ℕ
 chain_within own m zero unit = 0
 chain_within own m (suc depth) unit =
@@ -102,7 +103,8 @@ frames_of m unit = chain_of (λ u. 1) m unit
 abbrev pub nesting : UnitValue → ℕ
 nesting u = greatest_below (depth_at u) (length u.code)
 
--- the most finishes that are open at once in an activity, of those that are opened from this unit on
+-- No more finishes than these are open at once in an activity, of those that are opened from this unit on: the greatest nesting of the
+-- unit, with the greatest among those that it calls, wherever it calls them.
 abbrev pub room_of : ModuleValue → ℕ → ℕ
 room_of m unit = chain_of nesting m unit
 

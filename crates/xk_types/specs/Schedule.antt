@@ -55,6 +55,9 @@ abbrev pub is_local : Event → Bool
 is_local event.Local = true
 is_local (event.Printed n) = false
 is_local event.Made = false
+is_local event.Got = false
+is_local event.Put = false
+is_local event.Added = false
 is_local event.Opened = false
 is_local event.Closed = false
 is_local event.Spawned = false
@@ -82,6 +85,9 @@ abbrev pub number_printed : Event → Option ℤ
 number_printed event.Local = None
 number_printed (event.Printed n) = Some n
 number_printed event.Made = None
+number_printed event.Got = None
+number_printed event.Put = None
+number_printed event.Added = None
 number_printed event.Opened = None
 number_printed event.Closed = None
 number_printed event.Spawned = None

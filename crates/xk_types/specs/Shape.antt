@@ -23,6 +23,9 @@ slots_named (instr.For k lo hi e) = k ∷ []
 slots_named (instr.Next b) = []
 slots_named (instr.Finish e) = []
 slots_named (instr.EndFinish b) = []
+slots_named (instr.Get d s) = d ∷ []
+slots_named (instr.Put s x) = x ∷ []
+slots_named (instr.AddTo s x) = x ∷ []
 slots_named (instr.Print x) = x ∷ []
 slots_named (instr.Make d) = d ∷ []
 slots_named (instr.Resume c) = c ∷ []
@@ -39,6 +42,7 @@ slot_written (instr.Copy d x) = Some d
 slot_written (instr.Add d x y) = Some d
 slot_written (instr.Sub d x y) = Some d
 slot_written (instr.Mul d x y) = Some d
+slot_written (instr.Get d s) = Some d
 slot_written (instr.For k lo hi e) = Some k
 slot_written (instr.Make d) = Some d
 slot_written _ = None
@@ -153,6 +157,17 @@ breaks_loop u at =
 abbrev pub breaks_slot : UnitValue → ℕ → Bool
 breaks_slot u at = instr_is (λ i. not (list_all (λ s. nat_lt s u.slots) (slots_named i))) (slice_get u.code at)
 
+-- the shared number that an instruction names, if it names one
+abbrev pub cell_named : Instr → Option ℕ
+cell_named (instr.Get d s) = Some s
+cell_named (instr.Put s x) = Some s
+cell_named (instr.AddTo s x) = Some s
+cell_named _ = None
+
+-- V5: every shared number that is named is one of the module's
+abbrev pub breaks_cell : ModuleValue → UnitValue → ℕ → Bool
+breaks_cell m u at = instr_is (λ i. option_map_or (λ s. not (nat_lt s (length m.shared))) (cell_named i) false) (slice_get u.code at)
+
 -- unit 0 is main and has no parameters, and no other unit is main
 abbrev pub is_in_place : ℕ → UnitValue → Bool
 is_in_place unit u = if unit == 0 then is_main u.kind && (length u.params == 0) else not (is_main u.kind)
@@ -220,13 +235,13 @@ gives_twice m _ = false
 abbrev pub breaks_same_clock : ModuleValue → UnitValue → ℕ → Bool
 breaks_same_clock m u at = instr_is (gives_twice m) (slice_get u.code at)
 
--- The rule on shared numbers, which this machine's instructions don't name, is broken nowhere; nor are rules that aren't about shape.
+-- Rules that aren't about shape are broken nowhere.
 abbrev pub breaks_in : ModuleValue → Rule → ℕ → UnitValue → ℕ → Bool
 breaks_in m rule.Target unit u at = breaks_target u at
 breaks_in m rule.Block unit u at = breaks_block u at
 breaks_in m rule.Slot unit u at = breaks_slot u at
 breaks_in m rule.Unit unit u at = breaks_unit m unit u at
-breaks_in m rule.Cell unit u at = false
+breaks_in m rule.Cell unit u at = breaks_cell m u at
 breaks_in m rule.Loop unit u at = breaks_loop u at
 breaks_in m rule.End unit u at = breaks_end u at
 breaks_in m rule.Home unit u at = breaks_home u at

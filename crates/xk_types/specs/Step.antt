@@ -9,7 +9,8 @@
 -- runs S, and the starter goes on without waiting; `finish S` runs S, and waits for the end of all activities that S started, and
 -- that these started in turn. X10's `Long` has 64 bits in two's complement, and its sums, differences and
 -- products wrap; `for (i in a..b)` runs for each whole number from a to b.
--- This project's own rules: a second resume has no effect; the two halves of `advanceAll` are two steps; a child stands on a
+-- `atomic S` runs S in one step as others see it (chapter Concurrency).
+-- This project's own rules: what is read and written in one step is a shared number, and one sum to it; a second resume has no effect; the two halves of `advanceAll` are two steps; a child stands on a
 -- clock that it is given where its starter stands, and a missing registration is the only ground of ClockUseException, so
 -- that a starter that has resumed a clock may hand it on; a clock that can advance does so at the end of the same step, and
 -- one that nobody is registered on never does; what else is wrong but ClockUseException.
@@ -300,14 +301,14 @@ same_owner (Some a) (Some b) = a == b
 abbrev pub same_finish : Finish → Finish → Bool
 same_finish f g = same_owner f.owner g.owner && (f.depth == g.depth)
 
--- Activity b is under the finish: the finish governs it, or what governs it has an owner that is under the finish; down to this many
--- owners.
+-- Activity b is under the finish: the finish governs it, or what governs it has an owner that is under the finish. No more
+-- activities are looked at than this, b among them.
 unfoldable pub under_within : List Activity → Finish → ℕ → ℕ → Bool
 under_within acts f zero b = false
 under_within acts f (suc n) b =
     option_map_or (λ act. same_finish act.governed f || option_map_or (under_within acts f n) act.governed.owner false) (slice_get acts b) false
 
--- An activity governs only activities of greater number, so that there are no more owners, one above the other, than activities.
+-- The owner of a finish has a smaller number than those whom it governs, so that looking at as many as there are is enough.
 abbrev pub is_under : List Activity → Finish → ℕ → Bool
 is_under acts f b = under_within acts f (length acts) b
 
@@ -357,6 +358,17 @@ turning w a act b (Some (instr.For k lo hi e)) =
     number_in (slot_at act k) (λ n. done w a (if int_lt n hi then again act b k n else onward act) none event.Local)
 turning w a act b _ = Wrong OutOfRange
 
+-- ---- shared numbers
+
+-- a shared number that has to be there
+abbrev pub cell_in : Option ℤ → (ℤ → Outcome) → Outcome
+cell_in None go = Wrong OutOfRange
+cell_in (Some n) go = go n
+
+-- shared number s becomes n, and the activity goes on
+abbrev pub stored : World → ℕ → Activity → ℕ → ℤ → Event → Outcome
+stored w a act s n e = done (record w { cells = slice_set w.cells s n }) a (onward act) none e
+
 -- ---- a step
 
 -- what a running activity does at an instruction
@@ -372,6 +384,10 @@ carried_out m w a act (instr.For k lo hi e) = writing act k (value.Number lo) (�
 carried_out m w a act (instr.Next b) = turning w a act b (instruction_at m (record act.frame { place = b }))
 carried_out m w a act (instr.Finish e) = done w a (entered act) none event.Opened
 carried_out m w a act (instr.EndFinish b) = closing w a act act.opened
+carried_out m w a act (instr.Get d s) = cell_in (slice_get w.cells s) (λ n. writing act d (value.Number n) (λ next. done w a next none event.Got))
+carried_out m w a act (instr.Put s x) = number_in (slot_at act x) (λ n. cell_in (slice_get w.cells s) (λ old. stored w a act s n event.Put))
+carried_out m w a act (instr.AddTo s x) =
+    number_in (slot_at act x) (λ n. cell_in (slice_get w.cells s) (λ old. stored w a act s (int_wrapping_add w64 old n) event.Added))
 carried_out m w a act (instr.Print x) = number_in (slot_at act x) (λ n. done w a (onward act) none (event.Printed n))
 carried_out m w a act (instr.Make k) = writing act k (value.Clock (length w.clocks)) (λ next. made w a next)
 carried_out m w a act (instr.Resume k) = clock_in w a (slot_at act k) (λ c. done w a (onward act) (only c resumed) event.Resumed)

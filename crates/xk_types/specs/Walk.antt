@@ -132,7 +132,11 @@ after m u (instr.Unless op x y t) s k = reads x s k (reads y s k (becomes k))
 after m u (instr.Jump t) s k = becomes k
 after m u (instr.For d lo hi e) s k = writes d kind.Number s k
 after m u (instr.Next b) s k = may_read (loop_slot (slice_get u.code b)) s k (becomes k)
+after m u (instr.Get d c) s k = writes d kind.Number s k
+after m u (instr.Put c x) s k = reads x s k (becomes k)
+after m u (instr.AddTo c x) s k = reads x s k (becomes k)
 after m u (instr.Finish e) s k = becomes k
+-- (the block that it ends is that of the place behind its `finish`)
 after m u (instr.EndFinish b) s k = if is_here (block_at u (b + 1)) (homes u s) then let_go k (becomes k) else becomes k
 after m u (instr.Print x) s k = reads x s k (becomes k)
 after m u (instr.Make d) s k = writes d kind.Live s k

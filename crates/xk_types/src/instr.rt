@@ -99,10 +99,18 @@ pub enum Instr {
     /// `next b`: ends a turn of the loop whose `for` stands at place b. Where its slot is less than its upper bound, it becomes
     /// one more, and the loop goes round again from place b + 1.
     Next(u16),
-    /// `finish e`: opens a finish, whose `endfinish` stands at place e. It governs what the activity starts until then.
+    /// `finish e`: opens a finish, whose `endfinish` stands at place e. It governs what the activity starts while it is the
+    /// innermost that the activity has open.
     Finish(u16),
-    /// `endfinish b`: waits until every activity under the finish that the `finish` at place b opened has ended, and closes it.
+    /// `endfinish b`: waits until every activity under the innermost finish that the activity has open has ended, and closes it.
+    /// Where the verifier accepts the module, it is the one that the `finish` at place b opened.
     EndFinish(u16),
+    /// `get d s`: slot d becomes shared number s.
+    Get(u16, u16),
+    /// `put s a`: shared number s becomes the number in a.
+    Put(u16, u16),
+    /// `addto s a`: shared number s becomes its sum with the number in a, wrapped to 64 bits: one step reads and writes it.
+    AddTo(u16, u16),
     /// `print a`: prints the number in a.
     Print(u16),
     /// `make k`: makes a clock, registers the activity on it, and puts its name into slot k.

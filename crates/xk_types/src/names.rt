@@ -46,7 +46,7 @@ pub enum Value {
     Clock(ClockId),
 }
 
-/// Whether an activity goes on, waits at an `advance`, or is over.
+/// Whether an activity runs, waits at an `advance`, or is over. One that waits at an `endfinish` runs.
 #[derive(Clone, Copy, Debug, PartialEq, Eq)]
 pub enum Status {
     /// It carries out the instruction that it stands at with its next step.
@@ -80,6 +80,12 @@ pub enum Event {
     Printed(i64),
     /// A new clock was made: it has the next number.
     Made,
+    /// A shared number was read.
+    Got,
+    /// A shared number was written.
+    Put,
+    /// A number was added to a shared one.
+    Added,
     /// A finish was opened.
     Opened,
     /// A finish was closed.

@@ -21,15 +21,16 @@ pub enum Rule {
     Loop,
     /// V7: the last instruction is `ret`, and no other is.
     End,
-    /// V8: all that make the clock of one slot stand in one block; no parameter is made.
+    /// V8: all that make the clock of one slot stand in one block; no parameter is made, and no method drops a clock that it was
+    /// lent.
     Home,
-    /// V9: a clock is handed on only in the block that made it.
+    /// V9: a clock is handed on only in the block that is its home.
     Registers,
     /// V10: no slot stands twice among the clocks that are handed on.
     SameClock,
     /// V11: a slot is used as what it isn't.
     Use,
-    /// V12: a clock is held where its block ends.
+    /// V12: a clock is held at the end of its home.
     Held,
     /// V13: a clock that is held is lost.
     Leak,

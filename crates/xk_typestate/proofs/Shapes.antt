@@ -35,6 +35,9 @@ module _ (u : UnitValue) (at : ℕ) where
   inside_of (instr.For k lo hi e) lt aims next to h = one (at + 1) to (next refl) h
   inside_of (instr.Finish e) lt aims next to h = one (at + 1) to (next refl) h
   inside_of (instr.EndFinish b) lt aims next to h = one (at + 1) to (next refl) h
+  inside_of (instr.Get d s) lt aims next to h = one (at + 1) to (next refl) h
+  inside_of (instr.Put s x) lt aims next to h = one (at + 1) to (next refl) h
+  inside_of (instr.AddTo s x) lt aims next to h = one (at + 1) to (next refl) h
   inside_of (instr.Print x) lt aims next to h = one (at + 1) to (next refl) h
   inside_of (instr.Make d) lt aims next to h = one (at + 1) to (next refl) h
   inside_of (instr.Resume k) lt aims next to h = one (at + 1) to (next refl) h

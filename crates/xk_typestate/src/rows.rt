@@ -91,7 +91,9 @@ pub(crate) fn kinds_after(
     ensures { IsRow (after m.now u.now instr.now slot kind) result }
 {
     match instr {
-        Instr::Lit(d, _) | Instr::For(d, _, _, _) => written(*d, Kind::Number, slot, kind),
+        Instr::Lit(d, _) | Instr::For(d, _, _, _) | Instr::Get(d, _) => {
+            written(*d, Kind::Number, slot, kind)
+        }
         Instr::Copy(d, x) => {
             read(*x, slot, kind)?;
             written(*d, Kind::Number, slot, kind)
@@ -108,7 +110,7 @@ pub(crate) fn kinds_after(
             may_read(loop_slot(u, *b), slot, kind)?;
             Ok(KindSet::of(kind))
         }
-        Instr::Print(x) => {
+        Instr::Put(_, x) | Instr::AddTo(_, x) | Instr::Print(x) => {
             read(*x, slot, kind)?;
             Ok(KindSet::of(kind))
         }

@@ -3,11 +3,12 @@ use std::alloc::Global;
 use std::process::Abort;
 use std::test::Fail;
 use xk_shape::shape;
-use xk_types::{Args, Comparison, Instr, Kind, Limit, Module, ParamKind, Unit, UnitKind};
+use xk_types::{Args, Comparison, Instr, Kind, Module, ParamKind, Unit, UnitKind};
 
-/// The module of these units.
-fn module(alloc: Global, units: Vec<Unit>) -> Result<Module, Limit> {
-    Module::new(Vec::new(alloc), units).map_err(|e| e.2)
+/// The module of these units, with one shared number.
+fn module(alloc: Global, units: Vec<Unit>) -> Result<Module, Fail> {
+    let shared = vec![in alloc; 5]?;
+    Ok(Module::new(shared, units).map_err(|e| e.2)?)
 }
 
 /// What the check says of a main unit that ends at once, a unit with three slots, of this kind, with these parameters and
@@ -145,6 +146,47 @@ fn walks_by_the_nearer_branch(rt: HostRuntime) -> Result<(), Fail> {
     assert_eq!(rt; (fault.unit, fault.at, fault.slot), (1, 4, 0));
     let places: Vec<u16> = fault.walk.iter().map(|v| v.at).collect(alloc)?;
     assert_eq!(rt; places.as_slice(), [0, 1, 2, 4].as_slice());
+    Ok(())
+}
+
+#[test]
+fn reads_and_writes_shared_numbers(rt: HostRuntime) -> Result<(), Fail> {
+    let alloc = rt.alloc();
+    let code = vec![in alloc;
+        Instr::Get(0, 0),
+        Instr::Put(0, 0),
+        Instr::AddTo(0, 0),
+        Instr::Print(0),
+        Instr::Ret,
+    ]?;
+    let typed = typed(&rt, alloc, &[], code)?;
+    assert_eq!(rt; kinds_at(&typed, 0, 0), Some(KindSet::of(Kind::Unset)));
+    assert_eq!(rt; kinds_at(&typed, 1, 0), Some(KindSet::of(Kind::Number)));
+    assert_eq!(rt; kinds_at(&typed, 3, 0), Some(KindSet::of(Kind::Number)));
+    assert_eq!(rt; kinds_at(&typed, 4, 1), Some(KindSet::of(Kind::Unset)));
+    Ok(())
+}
+
+#[test]
+fn refuses_slots_of_shared_numbers(rt: HostRuntime) -> Result<(), Fail> {
+    let alloc = rt.alloc();
+    let code = vec![in alloc; Instr::Get(0, 0), Instr::Put(0, 1), Instr::Ret]?;
+    let put = fault(&rt, alloc, UnitKind::Body, code)?;
+    assert_eq!(rt; put.rule.number(), 11);
+    assert_eq!(rt; (put.unit, put.at, put.slot), (1, 1, 1));
+    assert_eq!(rt; put.kind, Kind::Unset);
+
+    let code = vec![in alloc; Instr::Make(0), Instr::AddTo(0, 0), Instr::Ret]?;
+    let added = fault(&rt, alloc, UnitKind::Body, code)?;
+    assert_eq!(rt; added.rule.number(), 11);
+    assert_eq!(rt; (added.unit, added.at, added.slot), (1, 1, 0));
+    assert_eq!(rt; added.kind, Kind::Live);
+
+    let code = vec![in alloc; Instr::Make(0), Instr::Get(0, 0), Instr::Ret]?;
+    let got = fault(&rt, alloc, UnitKind::Body, code)?;
+    assert_eq!(rt; got.rule.number(), 13);
+    assert_eq!(rt; (got.unit, got.at, got.slot), (1, 1, 0));
+    assert_eq!(rt; got.kind, Kind::Live);
     Ok(())
 }
 

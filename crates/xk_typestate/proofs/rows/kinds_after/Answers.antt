@@ -14,8 +14,8 @@ returns-in_ok-read-in-Unless-2 c = one_row _ c.args.kind c.of.result (search rul
 pub returns-in_ok-may_read-in-Next : goal.returns-in_ok-may_read-in-Next
 returns-in_ok-may_read-in-Next c = one_row _ c.args.kind c.of-in-Next.result (search rules) c.of-in-Next.ensures
 
-pub returns-in_ok-read-in-Print : goal.returns-in_ok-read-in-Print
-returns-in_ok-read-in-Print c = one_row _ c.args.kind c.of-in-Print.result (search rules) c.of-in-Print.ensures
+pub returns-in_ok-read-in-Put : goal.returns-in_ok-read-in-Put
+returns-in_ok-read-in-Put c = one_row _ c.args.kind c.of-in-Put.result (search rules) c.of-in-Put.ensures
 
 pub returns-in-Advance : goal.returns-in-Advance
 returns-in-Advance c = one_row _ c.woken.result c.of-in-Advance.result (search rules) c.of-in-Advance.ensures

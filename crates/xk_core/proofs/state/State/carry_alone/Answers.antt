@@ -26,7 +26,7 @@ carry_out-change-requires-clause-short c =
 
 pub carry_out-change-requires-clause-operands : goal.carry_out-change-requires-clause-operands
 carry_out-change-requires-clause-operands c =
-    operands_there c.args.program.now c.args.self.now c.args.a c.args.instr.now c.index_mut-act.result.now c.index-units-unit.result c.requires.enabled c.requires.single c.requires.plain
+    operands_there c.args.program.now c.args.self.now c.args.a c.args.instr.now c.index_mut-act.result.now c.index-units-unit.result c.requires.enabled c.requires.single c.requires.plain c.requires.own
     (subst (λ (w : World). c.index_mut-act.result.now ≡ get_or w.activities c.args.a c.index_mut-act.result.now) c.self.view_is c.index_mut-act.ensures.value)
     (unit_read c.args.program.now c.args.self.now c.args.a c.index_mut-act.result.now c.index-units-unit.result c.units.result.now c.unit.result c.requires.unit
     (actor_there c.args.program.now c.args.self.now c.args.a c.args.instr.now c.index_mut-act.result.now c.requires.enabled

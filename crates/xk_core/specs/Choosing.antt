@@ -1,0 +1,45 @@
+-- Choosers: who takes the next step, and schedules that follow one. X10 Language Specification 2.4, chapter Activities, leaves the order of
+-- steps open; that somebody chooses it, and how, is this project's own.
+use Rattle.std.specs.Prelude.{◌≡◌, ℕ, zero, suc, ◌%◌, nat_le, List, [], ◌∷◌, length, filter, Option, Some, None, slice_get, slice_index_or}
+use Rattle.xk_types.specs.declared.names.Event.{Event}
+use Rattle.xk_types.specs.Code.{ModuleValue}
+use Rattle.xk_types.specs.World.{World}
+use Rattle.xk_types.specs.Step.{Outcome, Blocked, Wrong, Stepped, step}
+use Rattle.xk_types.specs.Schedule.{is_enabled}
+
+-- so many numbers, from a on
+abbrev pub numbers_from : ℕ → ℕ → List ℕ
+numbers_from a zero = []
+numbers_from a (suc n) = a ∷ numbers_from (suc a) n
+
+-- the enabled activities, rising
+abbrev pub enabled_in : ModuleValue → World → List ℕ
+enabled_in m w = filter (is_enabled m w) (numbers_from 0 (length w.activities))
+
+abbrev pub goes_on : Outcome → (World → Type 0) → Type 0
+goes_on Blocked go = ⊥
+goes_on (Wrong c) go = ⊥
+goes_on (Stepped v e) go = go v
+
+-- The list is legal from the world, and follows a chooser in this state, which answers a list of activities so, and then is in such a state:
+-- each member is the enabled activity at the place that is answered, counted round the list.
+abbrev pub Follows : {S : Type 0} → (S → List ℕ → ℕ) → (S → List ℕ → S) → ModuleValue → S → World → List ℕ → Type 0
+Follows answer after m s w [] = Unit {0}
+Follows answer after m s w (a ∷ list) =
+    (slice_get (enabled_in m w) (answer s (enabled_in m w) % length (enabled_in m w)) ≡ Some a)
+    × goes_on (step m w a) (λ v. Follows answer after m (after s (enabled_in m w)) v list)
+
+-- ---- the choosers that stand ready
+
+-- the place of the first in a rising list that is greater than the one taken before; beyond the end where none is
+abbrev pub place_above : ℕ → List ℕ → ℕ
+place_above taken list = length (filter (λ a. nat_le a taken) list)
+
+-- the place that each in turn has, after the one taken before
+abbrev pub turn_of : Option ℕ → List ℕ → ℕ
+turn_of None list = 0
+turn_of (Some taken) list = place_above taken list
+
+-- who was taken then
+abbrev pub turn_after : Option ℕ → List ℕ → Option ℕ
+turn_after o list = Some (slice_index_or list (turn_of o list % length list) 0)
