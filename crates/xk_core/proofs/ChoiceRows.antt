@@ -1,12 +1,12 @@
 -- Worked rows: schedules that follow a chooser, by evaluation.
-use Rattle.std.proofs.Common.{◌≡◌, ℕ, pos, List, [], ◌∷◌, refl, length, ◌-◌, Bool, true, Option, Some, None}
+use Rattle.std.proofs.Common.{◌≡◌, ℕ, pos, [], ◌∷◌, refl}
 use Rattle.xk_types.specs.declared.instr.Instr.TheVariants as instr
 use Rattle.xk_types.specs.declared.unit.UnitKind.TheVariants as unit_kind
 use Rattle.xk_types.specs.declared.unit.ParamKind.TheVariants as param
 use Rattle.xk_types.specs.Code.{ModuleValue}
 use Rattle.xk_types.specs.World.{opening}
 use Rattle.xk_types.specs.Schedule.{printed}
-use Rattle.xk_core.specs.Choosing.{enabled_in, Follows, place_above}
+use Rattle.xk_core.specs.Choosing.{Follows}
 
 -- two activities wait for one another on a clock, and print
 abbrev pair : ModuleValue

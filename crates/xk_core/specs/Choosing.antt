@@ -1,11 +1,14 @@
 -- Choosers: who takes the next step, and schedules that follow one. X10 Language Specification 2.4, chapter Activities, leaves the order of
 -- steps open; that somebody chooses it, and how, is this project's own.
-use Rattle.std.specs.Prelude.{◌≡◌, ℕ, zero, suc, ◌%◌, nat_le, List, [], ◌∷◌, length, filter, Option, Some, None, slice_get, slice_index_or}
-use Rattle.xk_types.specs.declared.names.Event.{Event}
+use Rattle.std.specs.Prelude.{◌≡◌, ℕ, zero, suc, ◌%◌, nat_le, nat_lt, ◌<◌, Bool, if◌then◌else◌, ◌++◌, List, [], ◌∷◌, length, filter, Option, Some, None, slice_get, slice_index_or}
 use Rattle.xk_types.specs.Code.{ModuleValue}
 use Rattle.xk_types.specs.World.{World}
 use Rattle.xk_types.specs.Step.{Outcome, Blocked, Wrong, Stepped, step}
 use Rattle.xk_types.specs.Schedule.{is_enabled}
+
+-- each is smaller than the next
+abbrev pub IsRising : List ℕ → Type 0
+IsRising xs = (i x y : ℕ) → slice_get xs i ≡ Some x → slice_get xs (suc i) ≡ Some y → x < y
 
 -- so many numbers, from a on
 abbrev pub numbers_from : ℕ → ℕ → List ℕ
@@ -15,6 +18,10 @@ numbers_from a (suc n) = a ∷ numbers_from (suc a) n
 -- the enabled activities, rising
 abbrev pub enabled_in : ModuleValue → World → List ℕ
 enabled_in m w = filter (is_enabled m w) (numbers_from 0 (length w.activities))
+
+-- a rising list, with number b in it or not
+abbrev pub with_member : ℕ → Bool → List ℕ → List ℕ
+with_member b is_in xs = filter (λ x. nat_lt x b) xs ++ ((if is_in then b ∷ [] else []) ++ filter (λ x. nat_lt b x) xs)
 
 abbrev pub goes_on : Outcome → (World → Type 0) → Type 0
 goes_on Blocked go = ⊥
@@ -28,6 +35,16 @@ Follows answer after m s w [] = Unit {0}
 Follows answer after m s w (a ∷ list) =
     (slice_get (enabled_in m w) (answer s (enabled_in m w) % length (enabled_in m w)) ≡ Some a)
     × goes_on (step m w a) (λ v. Follows answer after m (after s (enabled_in m w)) v list)
+
+abbrev pub state_on : {S : Type 0} → Outcome → S → (World → S) → S
+state_on Blocked s go = s
+state_on (Wrong c) s go = s
+state_on (Stepped v e) s go = go v
+
+-- the state in which a chooser is left that has chosen each step of the list
+abbrev pub state_after : {S : Type 0} → (S → List ℕ → S) → ModuleValue → S → World → List ℕ → S
+state_after after m s w [] = s
+state_after after m s w (a ∷ list) = state_on (step m w a) s (λ v. state_after after m (after s (enabled_in m w)) v list)
 
 -- ---- the choosers that stand ready
 

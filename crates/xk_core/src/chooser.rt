@@ -1,7 +1,7 @@
 //! Who takes the next step.
 
 ghost use Rattle.std.specs.Prelude.{◌≡◌, ◌<◌, ◌≤◌, ◌-◌, ◌^◌, length};
-ghost use Rattle.xk_core.specs.Choosing.{place_above, turn_of};
+ghost use Rattle.xk_core.specs.Choosing.{IsRising, place_above, turn_of};
 
 use std::marker::Model;
 
@@ -19,6 +19,7 @@ pub trait Chooser {
     /// the end is counted round the list.
     fn choose(&mut self, enabled: &[u32]) -> u32
         requires some { 0 < length enabled.now }
+        requires rising { IsRising enabled.now }
         requires numbers { length enabled.now < 2 ^ 32 }
         ensures answers { result ≡ answer self.old enabled.now }
         ensures goes_on { self.new ≡ after self.old enabled.now };
@@ -82,6 +83,7 @@ impl Round {
 
     /// The place of the one whose turn it is; beyond the end where the turn begins again.
     fn place(&self, enabled: &[u32]) -> usize
+        requires rising { IsRising enabled.now }
         ensures place { result ≡ turn_of self.now enabled.now }
         ensures within { result ≤ length enabled.now }
     {
@@ -94,10 +96,11 @@ impl Round {
 
 /// How many of the numbers aren't above this one.
 fn up_to(taken: u32, enabled: &[u32]) -> usize
+    requires rising { IsRising enabled.now }
     ensures place { result ≡ place_above taken enabled.now }
     ensures within { result ≤ length enabled.now }
 {
-    enabled.iter().filter(|a| **a <= taken).count()
+    enabled.partition_point(|a| *a <= taken)
 }
 
 impl Chooser for Round {

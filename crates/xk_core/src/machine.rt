@@ -5,7 +5,7 @@ ghost use Rattle.xk_types.specs.World.{opening};
 ghost use Rattle.xk_types.specs.Step.{Stepped, step};
 ghost use Rattle.xk_types.specs.Schedule.{IsReached, is_enabled, all_ended};
 ghost use Rattle.xk_types.specs.Bound.{steps_bound};
-ghost use Rattle.xk_core.specs.Core.{next_instruction, IsAboutToGrow, IsLeastEnabled};
+ghost use Rattle.xk_core.specs.Core.{next_instruction, governor, IsAboutToGrow, IsCore, IsLeastEnabled, IsQuiet};
 ghost use Rattle.xk_core.specs.Able.{is_kept};
 ghost use Rattle.xk_core.specs.Told.{is_end};
 ghost use Rattle.xk_core.specs.Arm.{grows, concerns_finishes};
@@ -64,6 +64,15 @@ impl<'m> Core<'m> {
         })
     }
 
+    /// The module that it runs, as `open` was given it.
+    pub fn module(&self) -> &'m Verified
+        ensures same { result.now ≡ self.now.module_run }
+        // A core that has taken no step is in the opening world.
+        ensures opening { self.now.world.steps ≡ 0 → self.now.world ≡ opening self.now.module_run }
+    {
+        self.verified
+    }
+
     /// Whether the activity exists and can take a step: it runs, and doesn't wait at an `endfinish` for somebody who hasn't ended; or
     /// it waits at an `advance` and no clock holds it back.
     pub fn enabled(&self, act: Act) -> bool
@@ -116,7 +125,9 @@ impl<'m> Core<'m> {
 
     /// How many activities were made, main among them. They are numbered from 0.
     pub fn activities(&self) -> u32
-        ensures { result ≡ length self.now.world.activities }
+        ensures count { result ≡ length self.now.world.activities }
+        // The module is accepted, and every core is where a legal schedule of it leads.
+        ensures core { IsCore self.now.module_run self.now.world }
     {
         self.state.activity_count() as u32
     }
@@ -160,6 +171,21 @@ impl<'m> Core<'m> {
             Some(c) => c.phase(),
             None => unreachable!(),
         }
+    }
+
+    /// Whether no clock advanced in the last step.
+    pub(crate) fn is_quiet(&self) -> bool
+        ensures { result ≡ true → IsQuiet self.now.world }
+    {
+        self.state.is_quiet()
+    }
+
+    /// The activity that opened the finish which governs this one, if one did.
+    pub(crate) fn governor(&self, act: Act) -> Option<Act>
+        requires { act < length self.now.world.activities }
+        ensures { result ≡ governor self.now.world act }
+    {
+        self.finishes.governor(act)
     }
 
     /// The instruction that activity a carries out next, if it runs.

@@ -7,7 +7,7 @@ ghost use Rattle.xk_types.specs.Step.{Stepped, settled, settled_clock, moved, jo
 ghost use Rattle.xk_finishes.specs.Tree.{node_at, fresh_node, governing_of};
 ghost use Rattle.xk_types.specs.Schedule.{is_step, all_ended};
 ghost use Rattle.xk_core.specs.Able.{is_able};
-ghost use Rattle.xk_core.specs.Core.{is_over, AreOver, next_instruction};
+ghost use Rattle.xk_core.specs.Core.{is_over, AreOver, IsQuiet, next_instruction};
 ghost use Rattle.xk_core.specs.Opening.{opening_with};
 ghost use Rattle.xk_core.specs.Change.{standing_after_step};
 ghost use Rattle.xk_core.specs.Arm.{grows, concerns_finishes, concerns_cells, carried, passed_on, IsRoomy, IsRunningUnit};
@@ -393,6 +393,13 @@ impl State {
         ensures { option_copied result ≡ slice_get self.now.clocks c }
     {
         self.clocks.get(c)
+    }
+
+    /// Whether no clock advanced in the last step.
+    pub fn is_quiet(&self) -> bool
+        ensures { result ≡ true → IsQuiet self.now }
+    {
+        self.clocks.iter().all(|c| c.last() != self.steps)
     }
 
     /// The instruction of this module that activity a carries out next, if it runs.

@@ -135,6 +135,14 @@ impl FinishTree {
         !self.waits(act)
     }
 
+    /// The activity that opened the finish which governs this one; None where nobody did, as for main.
+    pub fn governor(&self, act: Act) -> Option<Act>
+        requires { act < length self.now }
+        ensures { result ≡ (node_at self.now act).governed.owner }
+    {
+        self.nodes[act.0 as usize].governed().owner()
+    }
+
     /// Whether somebody under the innermost open finish of the activity hasn't ended.
     fn waits(&self, act: Act) -> bool
         requires { act < length self.now }

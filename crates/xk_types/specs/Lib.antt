@@ -11,3 +11,4 @@ pub mod Bound
 pub mod Accepted
 pub mod Kinds
 pub mod Device
+pub mod Logs

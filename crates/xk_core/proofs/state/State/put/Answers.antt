@@ -1,15 +1,14 @@
-use Rattle.std.proofs.Common.{◌≡◌, ◌<◌, refl, true, subst, sym, ◌∙◌, ap, get_or, length, slice_get, slice_set, All, arith}
-use Rattle.std.specs.Int.{w64, int_wrapping_add}
+use Rattle.std.proofs.Common.{◌≡◌, ◌<◌, refl, true, subst, sym, ◌∙◌, ap, get_or, length, slice_set, All, arith}
+use Rattle.std.specs.Int.{w64}
 use Rattle.std.proofs.lemmas.Int.{to_z-of_z}
-use Rattle.std.proofs.lemmas.Option.{slice_get_within, same_Some, get_or_from_slice_get}
+use Rattle.std.proofs.lemmas.Option.{slice_get_within, same_Some}
 use Rattle.xk_types.specs.declared.instr.Instr.TheVariants as instruction
-use Rattle.xk_types.specs.declared.names.Value.TheVariants as value
 use Rattle.xk_types.specs.declared.names.Event.TheVariants as event
 use Rattle.xk_types.specs.World.{World}
-use Rattle.xk_types.specs.Step.{Stepped, done, none, stored, moved, settled, onward, with_slots}
+use Rattle.xk_types.specs.Step.{Stepped, none, stored, moved, settled}
 use Rattle.xk_types.specs.Schedule.{is_step}
 use Rattle.xk_core.specs.Arm.{carried}
-use Rattle.xk_core.proofs.Arms.{get_there, store_there, same_number, carried_within, stands_there, actor_there}
+use Rattle.xk_core.proofs.Arms.{store_there, same_number, carried_within, stands_there, actor_there}
 use Rattle.xk_core.proofs.state.State.put.Goals as goal
 
 pub number-n-requires : goal.number-n-requires

@@ -1,0 +1,179 @@
+//! A core that a chooser drives, step by step.
+
+ghost use Rattle.std.specs.Prelude.{◌≡◌, ◌⊎◌, ◌+◌, ◌<◌, ◌≤◌, true, false, Bool, Some, None, length, IfOk, IfErr, IfSome, OnOk, OnErr, IsTrue};
+ghost use Rattle.std.specs.Vec.{vec_len, vec_capacity};
+ghost use Rattle.xk_types.specs.declared.names.Event.TheVariants as event;
+ghost use Rattle.xk_types.specs.World.{World, opening};
+ghost use Rattle.xk_types.specs.Step.{Stepped, step};
+ghost use Rattle.xk_types.specs.Schedule.{is_enabled, all_ended};
+ghost use Rattle.xk_types.specs.Bound.{steps_bound};
+ghost use Rattle.xk_core.specs.Choosing.{IsRising, enabled_in, with_member};
+ghost use Rattle.xk_core.specs.Core.{IsCore};
+ghost use Rattle.xk_core.specs.Touched.{touched};
+
+use crate::chooser::Chooser;
+use crate::machine::Core;
+use crate::members::set_member;
+use std::alloc::{AllocError, Global};
+use std::marker::Model;
+use xk_types::{Act, Event};
+
+/// Whose step it was, and what it was seen to do.
+#[derive(Clone, Copy, Debug)]
+pub struct Turn {
+    pub act: Act,
+    pub event: Event,
+}
+
+/// A core, and the list of its activities that can take a step. The list is kept from step to step: a step looks at its own activity, at
+/// one that it starts, and at one that may wait for its end; at all of them where a clock advances.
+#[derive(Drop)]
+pub struct Driver<'m> {
+    core: Core<'m>,
+    /// Those who can take a step, rising.
+    enabled: Vec<u32>,
+}
+
+impl<'m> Model for Driver<'m> {
+    ghost use Rattle.xk_core.specs.Core.{CoreValue};
+    ghost use Rattle.xk_core.specs.Driving.{IsListed};
+    ghost use Rattle.std.specs.Vec.{vec_capacity};
+
+    ghost Value = { CoreValue };
+
+    ghost view = { λ d. d.core };
+
+    ghost invariant = { λ d. IsListed d.core d.enabled.items (vec_capacity d.enabled) };
+}
+
+/// Lists those who can take a step.
+fn list_all(enabled: &mut Vec<u32>, core: &Core<'_>)
+    requires room { length core.now.world.activities < vec_capacity enabled.old }
+    ensures list { enabled.new.items ≡ enabled_in core.now.module_run core.now.world }
+    ensures room { vec_capacity enabled.old ≤ vec_capacity enabled.new }
+{
+    enabled.clear();
+    for a in 0..core.activities() {
+        if core.enabled(Act(a)) && enabled.push(a).is_err() {
+            unreachable!()
+        }
+    }
+}
+
+/// Puts an activity into the list if it can take a step, and else takes it out.
+fn list_one(enabled: &mut Vec<u32>, core: &Core<'_>, act: Act)
+    requires rising { IsRising enabled.old.items }
+    requires room { vec_len enabled.old < vec_capacity enabled.old }
+    ensures list { enabled.new.items ≡ with_member act (is_enabled core.now.module_run core.now.world act) enabled.old.items }
+    ensures length { vec_len enabled.new ≤ vec_len enabled.old + 1 }
+    ensures room { vec_capacity enabled.old ≤ vec_capacity enabled.new }
+{
+    set_member(enabled, act.0, core.enabled(act));
+}
+
+/// Who but the activity that took it may be able to step after a step that no clock advanced in, and not before, or the other way round: one
+/// that it started, and where it ended its activity the one that opened the finish which governs it.
+fn touched(core: &Core<'_>, act: Act, event: Event) -> Option<Act>
+    requires { act < length core.now.world.activities }
+    ensures { result ≡ touched core.now.world act event }
+{
+    match event {
+        Event::Spawned => Some(Act(core.activities() - 1)),
+        Event::Ended => core.governor(act),
+        _ => None,
+    }
+}
+
+/// Brings the list up to date after a step of the activity.
+fn list_after(enabled: &mut Vec<u32>, core: &Core<'_>, act: Act, event: Event)
+    requires there { act < length core.now.world.activities }
+    requires rising { IsRising enabled.old.items }
+    requires room { length core.now.world.activities < vec_capacity enabled.old }
+    requires room_for_two { vec_len enabled.old + 1 < vec_capacity enabled.old }
+    ensures list { (before : World) → IsCore core.now.module_run before → step core.now.module_run before act ≡ Stepped core.now.world event
+        → enabled.old.items ≡ enabled_in core.now.module_run before → enabled.new.items ≡ enabled_in core.now.module_run core.now.world }
+    ensures room { vec_capacity enabled.old ≤ vec_capacity enabled.new }
+{
+    if !core.is_quiet() {
+        list_all(enabled, core);
+        return;
+    }
+    list_one(enabled, core, act);
+    if let Some(other) = touched(core, act, event) {
+        list_one(enabled, core, other);
+    }
+}
+
+impl<'m> Driver<'m> {
+    ghost use Rattle.xk_core.specs.Driving.{IsTaken, IsPutOff};
+
+    /// Takes a core over. Where memory is refused, the core is given back as it was.
+    pub fn new(alloc: Global, start: Core<'m>) -> Result<Driver<'m>, Core<'m>>
+        ensures same { IfOk result (λ d. d ≡ start.entry) }
+        // A core that has taken no step is in the opening world.
+        ensures opening { IfOk result (λ d. d.world.steps ≡ 0 → d.world ≡ opening d.module_run) }
+        ensures back { IfErr result (λ c. c ≡ start.entry) }
+    {
+        let Ok(mut enabled) = Vec::with_capacity(alloc, start.activities() as usize + 2) else {
+            return Err(start);
+        };
+        list_all(&mut enabled, &start);
+        Ok(Driver {
+            core: start,
+            enabled,
+        })
+    }
+
+    /// The core.
+    pub fn core(&self) -> &Core<'m>
+        ensures { result.now ≡ self.now }
+    {
+        &self.core
+    }
+
+    /// The core, handed out.
+    pub fn into_core(self) -> Core<'m>
+        ensures { result ≡ self.entry }
+    {
+        self.core
+    }
+
+    /// Whether all have ended.
+    pub fn over(&self) -> bool
+        ensures { result ≡ all_ended self.now.world }
+    {
+        self.enabled.is_empty()
+    }
+
+    /// One step of the activity, and what it is seen to do. Err where memory was refused: then the core is as before.
+    pub fn step(&mut self, act: Act) -> Result<Event, AllocError>
+        requires { IsTrue (is_enabled self.old.module_run self.old.world act) }
+        ensures stepped { IfOk result (λ e. step self.old.module_run self.old.world act ≡ Stepped self.new.world e) }
+        ensures bound { OnOk result (self.new.world.steps ≤ steps_bound self.new.module_run) }
+        ensures same_module { self.new.module_run ≡ self.old.module_run }
+        ensures refused { OnErr result (self.new ≡ self.old) }
+    {
+        let more = self.core.activities() as usize + 3 - self.enabled.len();
+        self.enabled.try_reserve(more)?;
+        let event = self.core.step(act)?;
+        list_after(&mut self.enabled, &self.core, act, event);
+        Ok(event)
+    }
+
+    /// The next turn: the step of the activity that the chooser names, and nothing where all have ended. Err where memory was refused:
+    /// then no step was taken, though the chooser was asked.
+    pub fn turn<C: Chooser>(&mut self, chooser: &mut C) -> Result<Option<Turn>, AllocError>
+        ensures taken { IfOk result (IsTaken C.answer C.after self.old chooser.old self.new chooser.new) }
+        // The verified number of steps is never passed.
+        ensures bound { IfOk result (λ o. IfSome o (λ turn. self.new.world.steps ≤ steps_bound self.new.module_run)) }
+        ensures refused { OnErr result (IsPutOff C.after self.old chooser.old self.new chooser.new) }
+    {
+        if self.enabled.is_empty() {
+            return Ok(None);
+        }
+        let answer = chooser.choose(&self.enabled) as usize;
+        let act = Act(self.enabled[answer % self.enabled.len()]);
+        let event = self.step(act)?;
+        Ok(Some(Turn { act, event }))
+    }
+}
