@@ -1,2 +1,2 @@
-pub mod FirstRuns
+pub mod OrderedRuns
 pub mod Replies

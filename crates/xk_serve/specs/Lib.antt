@@ -1,5 +1,5 @@
 pub mod Lines
 pub mod Bytes
-pub mod FirstRun
+pub mod OrderedRun
 pub mod Answer
 pub mod Serving

@@ -2,19 +2,18 @@
 use Rattle.std.specs.Prelude.{◌≡◌, ◌≢◌, ℕ, ◌⊎◌, List, [], Option, IfSome, string_bytes}
 use Rattle.std.specs.Io.KnownBytes.{Appends}
 use Rattle.xk_types.specs.Device.{Rose}
-use Rattle.xk_words.specs.declared.job.Command.{Command}
 use Rattle.xk_words.specs.declared.words_fault.WordsFault.{WordsFault}
 use Rattle.xk_words.specs.declared.words_fault.WordsFault.TheVariants as words
 use Rattle.xk_serve.specs.declared.done.Done.{Done}
 use Rattle.xk_serve.specs.declared.fault.Fault.{Fault}
 use Rattle.xk_serve.specs.declared.fault.Fault.TheVariants as fault
 use Rattle.xk_serve.specs.Bytes.{AppendsBeginning}
-use Rattle.xk_serve.specs.Answer.{Answers, FailsBy, Reply, Succeeds}
+use Rattle.xk_serve.specs.Answer.{Answers, FailsBy, Reply, Succeeds, Task}
 use Rattle.xk_serve.specs.Lines.{done_text, fault_line, memory_line, status_of}
 
--- the text is what a success of the command on these bytes prints
-abbrev pub Prints : Command → List ℕ → List ℕ → Type 0
-Prints c bytes text = (d : Done) × Succeeds c bytes d × (text ≡ done_text d)
+-- the text is what a success of the task on these bytes prints
+abbrev pub Prints : Task → List ℕ → List ℕ → Type 0
+Prints t bytes text = (d : Done) × Succeeds t bytes d × (text ≡ done_text d)
 
 -- The fault is one of the known bytes, or want of memory, and then the source didn't fail; or the source failed. The
 -- numbers are its failures before and after.
@@ -35,17 +34,17 @@ Reports f old new faults_old faults_new result =
     Tells (fault_line f) (status_of f) old new faults_old faults_new result
     ⊎ ((f ≢ fault.Device) × Tells memory_line 4 old new faults_old faults_new result)
 
--- status and texts are an answer to the command on these bytes
-pub record Answered (c : Command) (bytes : List ℕ) (status : ℕ) (out_old out_new err_old err_new : Option (List ℕ)) : Type 0 where
+-- status and texts are an answer to the task on these bytes
+pub record Answered (t : Task) (bytes : List ℕ) (status : ℕ) (out_old out_new err_old err_new : Option (List ℕ)) : Type 0 where
   pub reply : Reply
-  pub answers : Answers c bytes reply
+  pub answers : Answers t bytes reply
   pub status_is : status ≡ reply.status
   pub out_is : Appends out_old out_new reply.out
   pub err_is : Appends err_old err_new reply.err
 
--- standard output got nothing, or a beginning of what a success of the command prints
-abbrev pub OutBegins : Command → List ℕ → Option (List ℕ) → Option (List ℕ) → Type 0
-OutBegins c bytes old new = Appends old new [] ⊎ ((d : Done) × Succeeds c bytes d × AppendsBeginning old new (done_text d))
+-- standard output got nothing, or a beginning of what a success of the task prints
+abbrev pub OutBegins : Task → List ℕ → Option (List ℕ) → Option (List ℕ) → Type 0
+OutBegins t bytes old new = Appends old new [] ⊎ ((d : Done) × Succeeds t bytes d × AppendsBeginning old new (done_text d))
 
 -- the line of this fault may be told: a device failed, or the fault is one of the bytes
 abbrev pub IsTold : List ℕ → Fault → Type 0

@@ -5,7 +5,7 @@ mod answering;
 mod bytes;
 mod done;
 mod fault;
-mod first_run;
+mod ordered_run;
 mod serving;
 
 pub use fault::Fault;

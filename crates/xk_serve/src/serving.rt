@@ -3,6 +3,7 @@
 ghost use Rattle.std.specs.Prelude.{◌≡◌, ◌≢◌, ◌⊎◌, [], IfOk, IfErr, IfSome, OnOk, string_bytes};
 ghost use Rattle.std.specs.Io.KnownBytes.{Appends};
 ghost use Rattle.xk_types.specs.Device.{Rose};
+ghost use Rattle.xk_serve.specs.Answer.{task_of};
 ghost use Rattle.xk_serve.specs.Bytes.{AppendsBeginning};
 ghost use Rattle.xk_serve.specs.Lines.{device_line, memory_line};
 ghost use Rattle.xk_serve.specs.Serving.{Answered, ErrBegins, OutBegins, Prints, Reports, StandsAgainst, Tells, TellsWords};
@@ -12,7 +13,7 @@ use crate::bytes::{read_all, write_all};
 use crate::fault::{DEVICE_LINE, Fault, MEMORY_LINE};
 use std::alloc::Global;
 use xk_types::{Sink, Source};
-use xk_words::{Command, Job, WordsFault};
+use xk_words::{Job, WordsFault};
 
 /// Reads the program, does the job, and writes what comes of it: its result to `out`, or one line to `err`. The answer is
 /// the exit status: 0 where the job is done, 1 where the program is refused, 4 where memory ran out, 5 where a device
@@ -28,10 +29,10 @@ pub fn serve<P: Source, L: Source, O: Sink, E: Sink, K: Sink>(
     _log_out: &mut K,
 ) -> u8
     ensures answered { IfSome (P.remaining program.old) (λ bytes. result ≢ 4 → result ≢ 5
-        → Answered job.now.command bytes result (O.contents out.old) (O.contents out.new) (E.contents err.old) (E.contents err.new)) }
+        → Answered (task_of job.now) bytes result (O.contents out.old) (O.contents out.new) (E.contents err.old) (E.contents err.new)) }
 
     // Memory and devices.
-    ensures out_begins { IfSome (P.remaining program.old) (λ bytes. OutBegins job.now.command bytes (O.contents out.old) (O.contents out.new)) }
+    ensures out_begins { IfSome (P.remaining program.old) (λ bytes. OutBegins (task_of job.now) bytes (O.contents out.old) (O.contents out.new)) }
     ensures err_begins { IfSome (P.remaining program.old) (λ bytes. ErrBegins bytes (E.contents err.old) (E.contents err.new)) }
     ensures memory_out { result ≡ 4 → Appends (O.contents out.old) (O.contents out.new) [] }
     ensures memory_err { result ≡ 4 → Appends (E.contents err.old) (E.contents err.new) memory_line }
@@ -46,20 +47,20 @@ pub fn serve<P: Source, L: Source, O: Sink, E: Sink, K: Sink>(
     ensures log_in { _log_in.new ≡ _log_in.old }
     ensures log_out { _log_out.new ≡ _log_out.old }
 {
-    match result_text(alloc, job.command, program) {
+    match result_text(alloc, job, program) {
         Ok(text) => print(alloc, text.as_str(), out, err),
         Err(fault) => report(alloc, &fault, err),
     }
 }
 
 /// What the job's result is written as.
-fn result_text<P: Source>(alloc: Global, command: Command, program: &mut P) -> Result<String, Fault>
-    ensures done { IfOk result (λ text. IfSome (P.remaining program.old) (λ bytes. Prints command bytes (string_bytes text))) }
+fn result_text<P: Source>(alloc: Global, job: &Job<'_>, program: &mut P) -> Result<String, Fault>
+    ensures done { IfOk result (λ text. IfSome (P.remaining program.old) (λ bytes. Prints (task_of job.now) bytes (string_bytes text))) }
     ensures no_fault { OnOk result (P.fault_count program.new ≡ P.fault_count program.old) }
     ensures fault { IfErr result (StandsAgainst (P.remaining program.old) (P.fault_count program.old) (P.fault_count program.new)) }
 {
     let bytes = read_all(alloc, program)?;
-    let done = answer(alloc, command, &bytes)?;
+    let done = answer(alloc, job, &bytes)?;
     Ok(done.text(alloc)?)
 }
 

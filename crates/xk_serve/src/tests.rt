@@ -5,7 +5,7 @@ use std::io::{ErrorKind, Read, Write};
 use std::process::Abort;
 use xk_module::ModuleFault;
 use xk_types::{Counted, Failed, Sink, Source, Tape};
-use xk_words::{Command, Form, Job};
+use xk_words::{Command, Form, Job, Order};
 
 /// What the program answered, and the tapes that it wrote to.
 #[derive(Drop)]
@@ -39,9 +39,21 @@ fn served(
     bytes: &[u8],
     failing: Failing,
 ) -> Result<Seen, AllocError> {
+    served_in_order(alloc, command, None, bytes, failing)
+}
+
+/// The answer to a command, with an order or without one.
+fn served_in_order(
+    alloc: Global,
+    command: Command,
+    order: Option<Order>,
+    bytes: &[u8],
+    failing: Failing,
+) -> Result<Seen, AllocError> {
     let job = Job {
         command,
         form: Form::Module,
+        order,
         file: "-",
     };
     let mut program = Tape::new(alloc, bytes)?.failing_at(failing.program);
@@ -83,14 +95,30 @@ fn unit_text(
     )
 }
 
-/// The text of a module of these units.
+/// The text of a module of these units, with no shared number.
 fn units_text(alloc: Global, units: &str) -> Result<String, AllocError> {
-    format!(in alloc; "{{\"version\":1,\"shared\":[],\"units\":[{units}]}}")
+    shared_text(alloc, "", units)
 }
 
-/// The text of a module of main and these units.
+/// The text of a module of these shared numbers and units.
+fn shared_text(alloc: Global, shared: &str, units: &str) -> Result<String, AllocError> {
+    format!(in alloc; "{{\"version\":1,\"shared\":[{shared}],\"units\":[{units}]}}")
+}
+
+/// The text of a module of main and these units, with no shared number.
 fn program_text(
     alloc: Global,
+    slots: u32,
+    code: &str,
+    others: &[Unit],
+) -> Result<String, AllocError> {
+    sharing_text(alloc, "", slots, code, others)
+}
+
+/// The text of a module of these shared numbers, main and these units.
+fn sharing_text(
+    alloc: Global,
+    shared: &str,
     slots: u32,
     code: &str,
     others: &[Unit],
@@ -101,7 +129,7 @@ fn program_text(
         let text = unit_text(alloc, unit.kind, unit.params, unit.slots, unit.code)?;
         units.push_str(text.as_str())?;
     }
-    units_text(alloc, units.as_str())
+    shared_text(alloc, shared, units.as_str())
 }
 
 /// The text of a module of one main unit.
@@ -117,7 +145,19 @@ fn gives(
     text: &str,
     wanted: &str,
 ) -> Result<(), AllocError> {
-    let seen = served(alloc, command, text.as_bytes(), NOWHERE)?;
+    gives_in_order(rt, alloc, command, None, text, wanted)
+}
+
+/// The command on the module, with an order or without one, succeeds, and writes this.
+fn gives_in_order(
+    rt: &impl Abort,
+    alloc: Global,
+    command: Command,
+    order: Option<Order>,
+    text: &str,
+    wanted: &str,
+) -> Result<(), AllocError> {
+    let seen = served_in_order(alloc, command, order, text.as_bytes(), NOWHERE)?;
     assert!(rt;
         seen.status == 0 && seen.err.written().is_empty(),
         "{wanted}"
@@ -185,6 +225,165 @@ fn answers(
     let text = program_text(alloc, slots, code, others)?;
     gives(rt, alloc, Command::Check, text.as_str(), check)?;
     gives(rt, alloc, Command::Run, text.as_str(), run)
+}
+
+/// What `check` writes of a module, and what `run` writes in the orders `first`, `last` and `round`; with none it is `first`.
+fn answers_in_orders(
+    rt: &impl Abort,
+    alloc: Global,
+    text: &str,
+    check: &str,
+    first: &str,
+    last: &str,
+    round: &str,
+) -> Result<(), AllocError> {
+    gives(rt, alloc, Command::Check, text, check)?;
+    for (order, run) in [
+        (None, first),
+        (Some(Order::First), first),
+        (Some(Order::Last), last),
+        (Some(Order::Round), round),
+    ] {
+        gives_in_order(rt, alloc, Command::Run, order, text, run)?;
+    }
+    Ok(())
+}
+
+/// Both activities of two wait for one another, and then print: who goes first shows in which number is the first.
+#[test]
+fn orders_show(rt: HostRuntime) -> Result<(), AllocError> {
+    let text = program_text(
+        rt.alloc(),
+        2,
+        r#"["make",0],["spawn",1,[0]],["advance"],["lit",1,1],["print",1],["ret"]"#,
+        &[Unit {
+            kind: "body",
+            params: "c",
+            slots: 2,
+            code: r#"["advance"],["lit",1,2],["print",1],["ret"]"#,
+        }],
+    )?;
+    answers_in_orders(
+        &rt,
+        rt.alloc(),
+        text.as_str(),
+        "accepted steps 12 activities 2 clocks 1\n",
+        "1\n2\nended steps 12\n",
+        "2\n1\nended steps 12\n",
+        "2\n1\nended steps 12\n",
+    )
+}
+
+/// A module that prints the same in each order.
+fn answers_alike(
+    rt: &impl Abort,
+    alloc: Global,
+    text: &str,
+    check: &str,
+    run: &str,
+) -> Result<(), AllocError> {
+    answers_in_orders(rt, alloc, text, check, run, run, run)
+}
+
+/// A clock that main leaves to another; one that is made in a finish; three in a ring.
+#[test]
+fn orders_come_to_one_end(rt: HostRuntime) -> Result<(), AllocError> {
+    let left = program_text(
+        rt.alloc(),
+        1,
+        r#"["make",0],["spawn",1,[0]],["drop",0],["ret"]"#,
+        &[Unit {
+            kind: "body",
+            params: "c",
+            slots: 2,
+            code: r#"["advance"],["lit",1,4],["print",1],["ret"]"#,
+        }],
+    )?;
+    answers_alike(
+        &rt,
+        rt.alloc(),
+        left.as_str(),
+        "accepted steps 9 activities 2 clocks 1\n",
+        "4\nended steps 9\n",
+    )?;
+    let inside = program_text(
+        rt.alloc(),
+        1,
+        r#"["finish",4],["make",0],["spawn",1,[0]],["drop",0],["endfinish",0],["ret"]"#,
+        &[ON_ONE],
+    )?;
+    answers_alike(
+        &rt,
+        rt.alloc(),
+        inside.as_str(),
+        "accepted steps 9 activities 2 clocks 1\n",
+        "ended steps 9\n",
+    )?;
+    let pair = Unit {
+        code: r#"["advance"],["advance"],["ret"]"#,
+        ..ON_TWO
+    };
+    let ring = program_text(
+        rt.alloc(),
+        3,
+        r#"["make",0],["make",1],["make",2],["spawn",1,[0,1]],["spawn",2,[1,2]],["spawn",3,[2,0]],["ret"]"#,
+        &[pair, pair, pair],
+    )?;
+    answers_alike(
+        &rt,
+        rt.alloc(),
+        ring.as_str(),
+        "accepted steps 22 activities 4 clocks 3\n",
+        "ended steps 22\n",
+    )
+}
+
+/// Three activities add to one shared number, which main reads when they have ended.
+#[test]
+fn sums_are_shared(rt: HostRuntime) -> Result<(), AllocError> {
+    let text = sharing_text(
+        rt.alloc(),
+        "0",
+        2,
+        r#"["finish",4],["for",0,1,3,3],["spawn",1,[0]],["next",1],["endfinish",0],["get",1,0],["print",1],["ret"]"#,
+        &[Unit {
+            code: r#"["addto",0,0],["ret"]"#,
+            ..PRINTS
+        }],
+    )?;
+    answers_alike(
+        &rt,
+        rt.alloc(),
+        text.as_str(),
+        "accepted steps 18 activities 4 clocks 0\n",
+        "6\nended steps 18\n",
+    )
+}
+
+/// A shared number is written and read; one that isn't there is refused.
+#[test]
+fn shared_numbers_are_used(rt: HostRuntime) -> Result<(), AllocError> {
+    let text = sharing_text(
+        rt.alloc(),
+        "7,-1",
+        1,
+        r#"["get",0,1],["print",0],["put",0,0],["get",0,0],["print",0],["ret"]"#,
+        &[],
+    )?;
+    answers_alike(
+        &rt,
+        rt.alloc(),
+        text.as_str(),
+        "accepted steps 6 activities 1 clocks 0\n",
+        "-1\n-1\nended steps 6\n",
+    )?;
+    let none = module_text(rt.alloc(), 1, r#"["get",0,0],["ret"]"#)?;
+    refuses(
+        &rt,
+        rt.alloc(),
+        none.as_str(),
+        "x10clock: V5 Cell unit 0 at 0\n",
+    )
 }
 
 /// Main starts an activity on its clock, and both go one phase on.
@@ -716,6 +915,13 @@ fn turns_are_counted(rt: HostRuntime) -> Result<(), AllocError> {
         r#"["for",0,1,999999998,1],["next",0],["ret"]"#,
     )?;
     let line = "accepted steps 1000000000 activities 1 clocks 0\n";
+    gives(&rt, rt.alloc(), Command::Check, text.as_str(), line)?;
+    let text = module_text(
+        rt.alloc(),
+        3,
+        r#"["for",0,1,1000,5],["for",1,1,100,4],["make",2],["drop",2],["next",1],["next",0],["ret"]"#,
+    )?;
+    let line = "accepted steps 302002 activities 1 clocks 100000\n";
     gives(&rt, rt.alloc(), Command::Check, text.as_str(), line)
 }
 

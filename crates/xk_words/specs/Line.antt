@@ -1,11 +1,12 @@
 -- The program's command line in the terms of `clap`, and what its words ask for.
-use Rattle.std.specs.Prelude.{ℕ, ◌≡◌, ◌≢◌, ◌⊎◌, ⊤, true, false, List, [], map, Option, Some, None, option_and_then, option_map, codes, if◌then◌else◌}
+use Rattle.std.specs.Prelude.{ℕ, ◌≡◌, ◌≢◌, ◌⊎◌, ⊤, true, false, List, [], ◌∷◌, map, Option, Some, None, option_and_then, option_map, codes, if◌then◌else◌}
 use Rattle.std.specs.Borrow.{Bor}
 use Rattle.std.specs.Str.{bytes_eq}
 use Rattle.clap.specs.Words.{App, IsAmong, Kinds, Row, Rule, Text, fault_of, first_of, new_app, new_rule, subcommand_of, with_rule, with_subcommand}
 use Rattle.clap.specs.declared.builder.command.Command.{Command as clap_Command}
 use Rattle.clap.specs.declared.builder.command.Command.TheViews.{out-Command}
 use Rattle.clap.specs.declared.builder.action.ArgAction.TheVariants as action
+use Rattle.clap.specs.declared.builder.value_parser.ValueParser.TheVariants as parser
 use Rattle.clap.specs.declared.error.kind.ErrorKind.{ErrorKind}
 use Rattle.clap.specs.declared.error.kind.ErrorKind.TheVariants as kind
 use Rattle.xk_words.specs.declared.job.Command.{Command}
@@ -13,6 +14,8 @@ use Rattle.xk_words.specs.declared.job.Command.TheVariants as command
 use Rattle.xk_words.specs.declared.job.Form.{Form}
 use Rattle.xk_words.specs.declared.job.Form.TheVariants as form
 use Rattle.xk_words.specs.declared.job.Job.{Job}
+use Rattle.xk_words.specs.declared.job.Order.{Order}
+use Rattle.xk_words.specs.declared.job.Order.TheVariants as order
 use Rattle.xk_words.specs.declared.words_fault.WordsFault.{WordsFault}
 use Rattle.xk_words.specs.declared.words_fault.WordsFault.TheVariants as fault
 
@@ -30,12 +33,24 @@ file_place = record (new_rule (codes "FILE")) { required = true; action = Some a
 abbrev pub on_file : Text → App
 on_file name = with_rule (with_rule (new_app name) module_flag) file_place
 
+-- texts that stand somewhere in memory
+abbrev pub Names : Type 0
+Names = Bor (List (Bor Text))
+
+-- `--order ORDER`, which takes one of these names
+abbrev pub order_option : Names → Rule
+order_option names = record (new_rule (codes "ORDER")) { long = Some (codes "order"); action = Some action.Set; parser = Some (parser.Names names) }
+
+-- the command on a module in FILE whose steps are taken in an order
+abbrev pub run_line : Names → App
+run_line names = with_rule (on_file (codes "run")) (order_option names)
+
 -- the program with a command that has to be there
 abbrev pub program : App
 program = record (new_app (codes "x10clock")) { top = record (new_app (codes "x10clock")).top { subcommand_required = true } }
 
-abbrev pub command_line : App
-command_line = with_subcommand (with_subcommand program (on_file (codes "check")).top) (on_file (codes "run")).top
+abbrev pub command_line : Names → App
+command_line names = with_subcommand (with_subcommand program (on_file (codes "check")).top) (run_line names).top
 
 -- no argument of the command is one of its subcommands too
 abbrev pub HasNoGlobals : clap_Command → Type 0
@@ -45,9 +60,18 @@ HasNoGlobals c = (out-Command c).has_globals ≡ false
 abbrev pub texts : List (Bor Text) → List Text
 texts words = map (λ w. w.now) words
 
+-- the names of the orders
+abbrev pub AreOrders : Names → Type 0
+AreOrders names = texts names.now ≡ codes "first" ∷ codes "last" ∷ codes "round" ∷ []
+
+-- This holds of the names of the orders. `clap` is told of a list of names by where it lies in memory; nothing that is said here looks at
+-- that.
+abbrev pub WithOrders : (Names → Type 0) → Type 0
+WithOrders P = (names : Names) × AreOrders names × P names
+
 -- the kinds of mistake, or requests for help, that `clap` finds in the words
-unfoldable pub faults_in : List Text → Kinds
-faults_in words = fault_of command_line words
+unfoldable pub faults_in : Names → List Text → Kinds
+faults_in names words = fault_of (command_line names) words
 
 -- ---- what the words ask for
 
@@ -55,25 +79,36 @@ faults_in words = fault_of command_line words
 pub record Asked : Type 0 where
   pub command : Command
   pub form : Form
+  pub order : Option Order
   pub file : Text
 
 abbrev pub asked_value : Job → Asked
-asked_value job = record { command = job.command; form = job.form; file = job.file.now }
+asked_value job = record { command = job.command; form = job.form; order = job.order; file = job.file.now }
 
 abbrev pub command_named : Text → Option Command
 command_named name = if bytes_eq name (codes "check") then Some command.Check else (if bytes_eq name (codes "run") then Some command.Run else None)
 
+abbrev pub order_named : Text → Option Order
+order_named name =
+    if bytes_eq name (codes "first") then Some order.First
+    else (if bytes_eq name (codes "last") then Some order.Last else (if bytes_eq name (codes "round") then Some order.Round else None))
+
+-- the order that was given
+abbrev pub order_in : List Row → Option Order
+order_in given = option_and_then order_named (first_of (codes "ORDER") given)
+
 -- the job of a command's name and what was given with it
 abbrev pub asked_by : Text → List Row → Option Asked
 asked_by name given =
-    option_and_then (λ c. option_map (λ file. record { command = c; form = form.Module; file = file }) (first_of (codes "FILE") given)) (command_named name)
+    option_and_then (λ c. option_map (λ file. record { command = c; form = form.Module; order = order_in given; file = file }) (first_of (codes "FILE") given))
+    (command_named name)
 
 abbrev pub asked_in : Option (Text × List Row) → Option Asked
 asked_in found = option_and_then (λ p. asked_by p.0 p.1) found
 
 -- the job that the words ask for, as `clap` takes them apart
-unfoldable pub job_of : List Text → Option Asked
-job_of words = asked_in (subcommand_of command_line words)
+unfoldable pub job_of : Names → List Text → Option Asked
+job_of names words = asked_in (subcommand_of (command_line names) words)
 
 -- ---- why words are refused
 

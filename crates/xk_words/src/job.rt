@@ -16,11 +16,24 @@ pub enum Form {
     Module,
 }
 
+/// Who takes the next step of a run.
+#[derive(Clone, Copy, Debug, PartialEq, Eq)]
+pub enum Order {
+    /// `first`: the least enabled activity.
+    First,
+    /// `last`: the greatest.
+    Last,
+    /// `round`: the least of greater number than the one taken before, else the least of all.
+    Round,
+}
+
 /// One command on one file.
 #[derive(Clone, Copy, Debug, PartialEq, Eq)]
 pub struct Job<'a> {
     pub command: Command,
     pub form: Form,
+    /// The order of a run's steps, where one was given.
+    pub order: Option<Order>,
     /// The file's path; `-` is standard input.
     pub file: &'a str,
 }

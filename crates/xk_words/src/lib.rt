@@ -5,7 +5,7 @@ mod job;
 mod line;
 mod words_fault;
 
-pub use job::{Command, Form, Job};
+pub use job::{Command, Form, Job, Order};
 pub use line::read_job;
 pub use words_fault::WordsFault;
 

@@ -2,20 +2,23 @@
 
 ghost use Rattle.std.specs.Prelude.{◌≡◌, [], Some, None, IfOk, OnOk, IfErr, option_map};
 ghost use Rattle.clap.specs.Words.{app_of, found_of, kind_of, rows_of, subcommand_rows_of};
-ghost use Rattle.xk_words.specs.Line.{FitsKind, HasNoGlobals, IsRefused, asked_by, asked_in, asked_value, command_line, command_named, faults_in, job_of, on_file, texts};
+ghost use Rattle.xk_words.specs.Line.{FitsKind, HasNoGlobals, IsRefused, WithOrders, asked_by, asked_in, asked_value, command_line, command_named, faults_in, job_of, on_file, order_in, order_named, run_line, texts};
 
-use crate::job::{Command, Form, Job};
+use crate::job::{Command, Form, Job, Order};
 use crate::words_fault::WordsFault;
 use clap::error::ErrorKind;
 use clap::{Arg, ArgAction, ArgMatches};
 use std::alloc::{AllocError, Global};
 
+/// The names of the orders.
+static ORDERS: [&str; 3] = ["first", "last", "round"];
+
 /// The job that the words ask for; the first word is the program's name. Where they ask for help or aren't understood,
 /// the fault has `clap`'s text.
 pub fn read_job<'a>(alloc: Global, words: &'a [&'a str]) -> Result<Job<'a>, WordsFault>
-    ensures job { IfOk result (λ job. job_of (texts words.entry.now) ≡ Some (asked_value job)) }
-    ensures understood { OnOk result (faults_in (texts words.entry.now) ≡ []) }
-    ensures refused { IfErr result (IsRefused (faults_in (texts words.entry.now)) (job_of (texts words.entry.now))) }
+    ensures job { IfOk result (λ job. WithOrders (λ names. job_of names (texts words.entry.now) ≡ Some (asked_value job))) }
+    ensures understood { OnOk result (WithOrders (λ names. faults_in names (texts words.entry.now) ≡ [])) }
+    ensures refused { IfErr result (λ fault. WithOrders (λ names. IsRefused (faults_in names (texts words.entry.now)) (job_of names (texts words.entry.now)) fault)) }
 {
     let command_line = line(alloc)?;
     match command_line.try_get_matches_from(words) {
@@ -29,15 +32,30 @@ pub fn read_job<'a>(alloc: Global, words: &'a [&'a str]) -> Result<Job<'a>, Word
 
 /// The program's command line.
 fn line<'a>(alloc: Global) -> Result<clap::Command<'a>, AllocError>
-    ensures { IfOk result (λ c. app_of c ≡ command_line) }
+    ensures { IfOk result (λ c. WithOrders (λ names. app_of c ≡ command_line names)) }
 {
     let check = on_file(alloc, "check", "Says whether a program is accepted.")?;
-    let run = on_file(alloc, "run", "Runs a program and prints what it prints.")?;
+    let run = run_line(alloc)?;
     clap::Command::new(alloc, "x10clock")
         .about("Verifies and runs clocked programs.")
         .subcommand_required(true)
         .subcommand(check)?
         .subcommand(run)
+}
+
+/// The command `run`.
+fn run_line<'a>(alloc: Global) -> Result<clap::Command<'a>, AllocError>
+    ensures shape { IfOk result (λ c. WithOrders (λ names. app_of c ≡ run_line names)) }
+    ensures local { IfOk result HasNoGlobals }
+{
+    let order = Arg::new(alloc, "ORDER")
+        .long("order")
+        .help(
+            "Who takes the next step: the least activity that can (the default), the greatest, or each in turn",
+        )
+        .action(ArgAction::Set)
+        .value_parser(ORDERS.as_slice());
+    on_file(alloc, "run", "Runs a program and prints what it prints.")?.arg(order)
 }
 
 /// A command on a module in FILE.
@@ -81,8 +99,29 @@ fn job_by<'a>(name: &str, given: &ArgMatches<'a>) -> Option<Job<'a>>
     Some(Job {
         command,
         form: Form::Module,
+        order: order_in(given),
         file,
     })
+}
+
+/// The order that was given.
+fn order_in(given: &ArgMatches<'_>) -> Option<Order>
+    ensures { result ≡ order_in (rows_of (found_of given.now)) }
+{
+    let name = given.get_str("ORDER")?;
+    order_named(name)
+}
+
+/// The order of a name.
+fn order_named(name: &str) -> Option<Order>
+    ensures { result ≡ order_named name.now }
+{
+    match name {
+        "first" => Some(Order::First),
+        "last" => Some(Order::Last),
+        "round" => Some(Order::Round),
+        _ => None,
+    }
 }
 
 /// The command of a name.

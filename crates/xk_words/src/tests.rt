@@ -15,7 +15,20 @@ Options:
 
 const RUN_HELP: &str = "Runs a program and prints what it prints.
 
-Usage: x10clock run --module <FILE>
+Usage: x10clock run [OPTIONS] --module <FILE>
+
+Arguments:
+  <FILE>  The program; - is standard input
+
+Options:
+      --module         FILE is a module text
+      --order <ORDER>  Who takes the next step: the least activity that can (the default), the greatest, or each in turn [possible values: first, last, round]
+  -h, --help           Print help
+";
+
+const CHECK_HELP: &str = "Says whether a program is accepted.
+
+Usage: x10clock check --module <FILE>
 
 Arguments:
   <FILE>  The program; - is standard input
@@ -72,6 +85,36 @@ Usage: x10clock check --module <FILE>
 For more information, try '--help'.
 ";
 
+const UNKNOWN_ORDER: &str = "error: invalid value 'least' for '--order <ORDER>'
+  [possible values: first, last, round]
+
+  tip: a similar value exists: 'last'
+
+For more information, try '--help'.
+";
+
+const NO_ORDER: &str = "error: a value is required for '--order <ORDER>' but none was supplied
+  [possible values: first, last, round]
+
+For more information, try '--help'.
+";
+
+const TWO_ORDERS: &str = "error: the argument '--order <ORDER>' cannot be used multiple times
+
+Usage: x10clock run [OPTIONS] --module <FILE>
+
+For more information, try '--help'.
+";
+
+const ORDER_OF_CHECK: &str = "error: unexpected argument '--order' found
+
+  tip: a similar argument exists: '--module'
+
+Usage: x10clock check --module <FILE>
+
+For more information, try '--help'.
+";
+
 #[test]
 fn words_are_jobs(rt: HostRuntime) {
     for (words, command, file) in [
@@ -82,9 +125,36 @@ fn words_are_jobs(rt: HostRuntime) {
         let job = Job {
             command,
             form: Form::Module,
+            order: None,
             file,
         };
         assert!(rt; matches!(read_job(rt.alloc(), words.as_slice()), Ok(read) if read == job));
+    }
+}
+
+#[test]
+fn orders_are_named(rt: HostRuntime) {
+    for (words, order) in [
+        (
+            ["x10clock", "run", "--module", "--order", "first", "f"].as_slice(),
+            Order::First,
+        ),
+        (
+            ["x10clock", "run", "--order", "last", "--module", "f"].as_slice(),
+            Order::Last,
+        ),
+        (
+            ["x10clock", "run", "--module", "f", "--order=round"].as_slice(),
+            Order::Round,
+        ),
+    ] {
+        let job = Job {
+            command: Command::Run,
+            form: Form::Module,
+            order: Some(order),
+            file: "f",
+        };
+        assert!(rt; matches!(read_job(rt.alloc(), words), Ok(read) if read == job));
     }
 }
 
@@ -93,6 +163,7 @@ fn words_are_refused(rt: HostRuntime) {
     for (words, status, text) in [
         (["x10clock", "--help"].as_slice(), 0, HELP),
         (["x10clock", "run", "--help"].as_slice(), 0, RUN_HELP),
+        (["x10clock", "check", "--help"].as_slice(), 0, CHECK_HELP),
         (["x10clock"].as_slice(), 2, NO_COMMAND),
         (
             ["x10clock", "walk", "--module", "-"].as_slice(),
@@ -110,6 +181,29 @@ fn words_are_refused(rt: HostRuntime) {
             ["x10clock", "check", "--module", "f", "g"].as_slice(),
             2,
             TWO_FILES,
+        ),
+        (
+            ["x10clock", "run", "--module", "--order", "least", "f"].as_slice(),
+            2,
+            UNKNOWN_ORDER,
+        ),
+        (
+            ["x10clock", "run", "--module", "f", "--order"].as_slice(),
+            2,
+            NO_ORDER,
+        ),
+        (
+            [
+                "x10clock", "run", "--module", "--order", "last", "--order", "last", "f",
+            ]
+            .as_slice(),
+            2,
+            TWO_ORDERS,
+        ),
+        (
+            ["x10clock", "check", "--module", "--order", "first", "f"].as_slice(),
+            2,
+            ORDER_OF_CHECK,
         ),
     ] {
         match read_job(rt.alloc(), words) {

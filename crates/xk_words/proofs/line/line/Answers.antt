@@ -4,7 +4,7 @@ use Rattle.clap.specs.Words.{App, app_of, with_subcommand}
 use Rattle.clap.specs.Simple.{app_of_fields, on_top}
 use Rattle.clap.specs.declared.builder.command.Command.{Command}
 use Rattle.clap.specs.declared.builder.command.Command.TheOpen.{Command-F}
-use Rattle.xk_words.specs.Line.{on_file, program}
+use Rattle.xk_words.specs.Line.{on_file, program, run_line}
 use Rattle.xk_words.proofs.line.line.Goals as goal
 
 pub returns : goal.returns
@@ -13,8 +13,13 @@ returns c =
     ap app_of_fields (c.subcommand_required.ensures ∙ ap (λ (f : Command-F Command). record f { subcommand_required = true }) c.about.ensures)
     ∙ ap (λ (a : App). on_top (λ s. record s { subcommand_required = true }) a) c.new.ensures.app in
     let check_is : app_of c.in_ok-check.check ≡ on_file (codes "check") = c.in_ok-check.ensures.shape in
-    let run_is : app_of c.in_ok-run.run' ≡ on_file (codes "run") = c.in_ok-run.ensures.shape in
+    let orders = c.in_ok-run.ensures.shape in
+    let run_is : app_of c.in_ok-run.run' ≡ run_line orders.0 = orders.2 in
     IfOk-weaker c.subcommand-2.result _ _
-    (λ r h. h.shape c.in_ok-run.ensures.local
-    ∙ ap₂ with_subcommand (c.in_ok-subcommand.ensures.shape c.in_ok-check.ensures.local ∙ ap₂ with_subcommand top_is (ap (λ (a : App). a.top) check_is)) (ap (λ (a : App). a.top) run_is))
+    (λ r h. (
+      orders.0,
+      orders.1,
+      h.shape c.in_ok-run.ensures.local
+          ∙ ap₂ with_subcommand (c.in_ok-subcommand.ensures.shape c.in_ok-check.ensures.local ∙ ap₂ with_subcommand top_is (ap (λ (a : App). a.top) check_is)) (ap (λ (a : App). a.top) run_is),
+    ))
     c.subcommand-2.ensures

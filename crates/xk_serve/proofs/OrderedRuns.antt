@@ -1,0 +1,73 @@
+-- How a run in an order goes on by a step, and comes to its end.
+use Rattle.std.proofs.Common.{◌≡◌, ℕ, ℤ, List, [], ◌∷◌, ◌++◌, refl, sym, ap, subst, ◌∙◌}
+use Rattle.std.specs.Option.{option_to_list}
+use Rattle.xk_types.specs.declared.names.Event.{Event}
+use Rattle.xk_types.specs.Code.{ModuleValue}
+use Rattle.xk_types.specs.World.{World, opening}
+use Rattle.xk_types.specs.Step.{Outcome, Blocked, Wrong, Stepped, step}
+use Rattle.xk_types.specs.Schedule.{Leads, number_printed, printed}
+use Rattle.xk_core.specs.Core.{CoreValue}
+use Rattle.xk_core.specs.Choosing.{enabled_in, Follows, goes_on, state_after}
+use Rattle.xk_core.specs.Driving.{IsTurn}
+use Rattle.xk_serve.specs.OrderedRun.{IsRunThat}
+use Rattle.xk_core.proofs.Following.{Names, follows_more, printed_more, run_on_more, state_more}
+
+-- A list that follows a chooser, which began in state b, leads here, and printed these numbers; the chooser is in state s.
+pub record IsFront {S : Type 0} (answer : S → List ℕ → ℕ) (after : S → List ℕ → S) (m : ModuleValue) (b : S) (w : World) (s : S) (numbers : List ℤ) : Type 0 where
+  pub list : List ℕ
+  pub follows : Follows answer after m b (opening m) list
+  pub leads : Leads m list w
+  pub state_is : s ≡ state_after after m b (opening m) list
+  pub numbers_are : numbers ≡ printed m list (opening m)
+
+-- before the first step
+pub front_opens : {S : Type 0} (answer : S → List ℕ → ℕ) (after : S → List ℕ → S) (m : ModuleValue) (b : S) → IsFront answer after m b (opening m) b []
+front_opens answer after m b = record { list = []; follows = tt; leads = refl; state_is = refl; numbers_are = refl }
+
+-- a turn more
+front_on : {S : Type 0} (answer : S → List ℕ → ℕ) (after : S → List ℕ → S) (b : S) (c d : CoreValue) (s t : S) (a : ℕ) (e : Event) (numbers : List ℤ)
+    → IsFront answer after c.module_run b c.world s numbers → IsTurn answer after c s a e d t
+    → IsFront answer after c.module_run b d.world t (numbers ++ option_to_list (number_printed e))
+front_on answer after b c d s t a e numbers f turn =
+    let m = c.module_run in
+    record {
+      list = f.list ++ a ∷ [];
+      follows = follows_more answer after m f.list b (opening m) c.world d.world a e f.leads f.follows
+          (subst (λ z. Names answer m z c.world a) f.state_is turn.chosen) turn.stepped;
+      leads = run_on_more m f.list (opening m) c.world d.world a e f.leads turn.stepped;
+      state_is = turn.goes_on ∙ ap (λ z. after z (enabled_in m c.world)) f.state_is ∙ sym (state_more after m f.list b (opening m) c.world d.world a e f.leads turn.stepped);
+      numbers_are = ap (λ ns. ns ++ option_to_list (number_printed e)) f.numbers_are ∙ sym (printed_more m f.list (opening m) c.world d.world a e f.leads turn.stepped);
+    }
+
+pub front_more : {S : Type 0} (answer : S → List ℕ → ℕ) (after : S → List ℕ → S) (m : ModuleValue) (b : S) (c d : CoreValue) (s t : S) (a : ℕ) (e : Event) (numbers : List ℤ)
+    → c.module_run ≡ m → IsFront answer after m b c.world s numbers → IsTurn answer after c s a e d t
+    → IsFront answer after m b d.world t (numbers ++ option_to_list (number_printed e))
+front_more answer after m b c d s t a e numbers same f turn =
+    subst (λ n. IsFront answer after n b d.world t (numbers ++ option_to_list (number_printed e))) same
+    (front_on answer after b c d s t a e numbers (subst (λ n. IsFront answer after n b c.world s numbers) (sym same) f) turn)
+
+-- ---- choosers without a state
+
+goes_on_weaker : (o : Outcome) (P Q : World → Type 0) → ((w : World) → P w → Q w) → goes_on o P → goes_on o Q
+goes_on_weaker Blocked P Q f h = h
+goes_on_weaker (Wrong c) P Q f h = h
+goes_on_weaker (Stepped w e) P Q f h = f w h
+
+-- a list that follows one follows it whatever stands for its state
+follows_any : {S : Type 0} (place : List ℕ → ℕ) (m : ModuleValue) (s : S) (list : List ℕ) (w : World)
+    → Follows {S = S} (λ z enabled. place enabled) (λ z enabled. z) m s w list → Follows {S = Unit {0}} (λ z enabled. place enabled) (λ z enabled. z) m tt w list
+follows_any place m s [] w h = tt
+follows_any place m s (a ∷ list) w h = (h.0, goes_on_weaker (step m w a) _ _ (λ v k. follows_any place m s list v k) h.1)
+
+pub without_state : {S : Type 0} (place : List ℕ → ℕ) (m : ModuleValue) (s : S) (numbers : List ℤ) (steps : ℕ)
+    → IsRunThat (Follows {S = S} (λ z enabled. place enabled) (λ z enabled. z) m s (opening m)) m numbers steps
+    → IsRunThat (Follows {S = Unit {0}} (λ z enabled. place enabled) (λ z enabled. z) m tt (opening m)) m numbers steps
+without_state place m s numbers steps r = record {
+  list = r.list;
+  last = r.last;
+  follows = follows_any place m s r.list (opening m) r.follows;
+  leads = r.leads;
+  over = r.over;
+  numbers_are = r.numbers_are;
+  steps_are = r.steps_are;
+}

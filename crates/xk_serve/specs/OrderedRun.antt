@@ -1,0 +1,29 @@
+-- Runs of a module to its end, each step taken in an order.
+use Rattle.std.specs.Prelude.{◌≡◌, ℕ, ℤ, ◌-◌, true, List, length, None}
+use Rattle.xk_types.specs.Code.{ModuleValue}
+use Rattle.xk_types.specs.World.{World, opening}
+use Rattle.xk_types.specs.Schedule.{Leads, all_ended, printed}
+use Rattle.xk_words.specs.declared.job.Order.{Order}
+use Rattle.xk_words.specs.declared.job.Order.TheVariants as order
+use Rattle.xk_core.specs.Choosing.{Follows, turn_of, turn_after}
+
+-- Each step of the list, from the opening world on, is one of the enabled activity that has its turn: the least; the greatest; the least
+-- of greater number than the one taken before, else the least.
+abbrev pub FollowsOrder : Order → ModuleValue → List ℕ → Type 0
+FollowsOrder order.First m list = Follows {S = Unit {0}} (λ s enabled. 0) (λ s enabled. s) m tt (opening m) list
+FollowsOrder order.Last m list = Follows {S = Unit {0}} (λ s enabled. length enabled - 1) (λ s enabled. s) m tt (opening m) list
+FollowsOrder order.Round m list = Follows turn_of turn_after m None (opening m) list
+
+-- A list of which this holds leads from the opening world to one in which all have ended, prints these numbers, and takes so many steps.
+pub record IsRunThat (Has : List ℕ → Type 0) (m : ModuleValue) (numbers : List ℤ) (steps : ℕ) : Type 0 where
+  pub list : List ℕ
+  pub last : World
+  pub follows : Has list
+  pub leads : Leads m list last
+  pub over : all_ended last ≡ true
+  pub numbers_are : numbers ≡ printed m list (opening m)
+  pub steps_are : steps ≡ last.steps
+
+-- the run in this order prints these numbers, and takes so many steps
+abbrev pub IsOrderedRun : Order → ModuleValue → List ℤ → ℕ → Type 0
+IsOrderedRun o m = IsRunThat (FollowsOrder o m) m
