@@ -113,6 +113,12 @@ pub record IsOneStep (m : ModuleValue) (w v : World) (a : ℕ) (e : Event) : Typ
   pub stepped : step m w a ≡ Stepped v e
   pub quiet : IsQuiet v
 
+-- who steps is in the list
+pub listed_own : (m : ModuleValue) (w v : World) (a : ℕ) (e : Event) → step m w a ≡ Stepped v e → with_member a true (enabled_in m w) ≡ enabled_in m w
+listed_own m w v a e h =
+    ap (λ b. with_member a b (enabled_in m w)) (sym (ap is_step h))
+    ∙ sym (member_changed (is_enabled m w) (is_enabled m w) (length w.activities) a (steps_within m w v a e h) (λ k lt ne. refl))
+
 -- where nobody else is concerned
 pub listed_alone : (m : ModuleValue) (w v : World) (a : ℕ) (e : Event) → IsOneStep m w v a e → touched v a e ≡ None → with_member a (is_enabled m v a) (enabled_in m w) ≡ enabled_in m v
 listed_alone m w v a e s none = by (sort_of v a e)

@@ -71,6 +71,20 @@ fn list_one(enabled: &mut Vec<u32>, core: &Core<'_>, act: Act)
     set_member(enabled, act.0, core.enabled(act));
 }
 
+/// Takes an activity that is in the list out of it, if it can't take another step.
+fn list_own(enabled: &mut Vec<u32>, core: &Core<'_>, act: Act)
+    requires rising { IsRising enabled.old.items }
+    ensures list { with_member act true enabled.old.items ≡ enabled.old.items
+        → enabled.new.items ≡ with_member act (is_enabled core.now.module_run core.now.world act) enabled.old.items }
+    ensures rising { IsRising enabled.new.items }
+    ensures length { vec_len enabled.new ≤ vec_len enabled.old + 1 }
+    ensures room { vec_capacity enabled.old ≤ vec_capacity enabled.new }
+{
+    if !core.enabled(act) {
+        set_member(enabled, act.0, false);
+    }
+}
+
 /// Who but the activity that took it may be able to step after a step that no clock advanced in, and not before, or the other way round: one
 /// that it started, and where it ended its activity the one that opened the finish which governs it.
 fn touched(core: &Core<'_>, act: Act, event: Event) -> Option<Act>
@@ -98,7 +112,7 @@ fn list_after(enabled: &mut Vec<u32>, core: &Core<'_>, act: Act, event: Event)
         list_all(enabled, core);
         return;
     }
-    list_one(enabled, core, act);
+    list_own(enabled, core, act);
     if let Some(other) = touched(core, act, event) {
         list_one(enabled, core, other);
     }

@@ -1,20 +1,16 @@
-use Rattle.std.proofs.Common.{◌∙◌, ap, sym}
+use Rattle.std.proofs.Common.{true, ◌∙◌, ap, sym}
 use Rattle.xk_types.specs.Schedule.{is_enabled}
 use Rattle.xk_core.specs.Choosing.{with_member}
-use Rattle.xk_core.proofs.Membership.{with_member_rises}
-use Rattle.xk_core.proofs.Listing.{listed_alone, listed_two}
+use Rattle.xk_core.proofs.Listing.{listed_own, listed_alone, listed_two}
 use Rattle.xk_core.proofs.driver.list_after.Goals as goal
-
-pub list_one-requires-in-Some-clause-rising : goal.list_one-requires-in-Some-clause-rising
-list_one-requires-in-Some-clause-rising c =
-    rw c.list_one.ensures.list (with_member_rises c.args.act (is_enabled c.args.core.now.module_run c.args.core.now.world c.args.act) c.args.enabled.now.items c.requires.rising)
 
 pub returns-in-Some-clause-list : goal.returns-in-Some-clause-list
 returns-in-Some-clause-list c before core stepped is =
     let w = c.args.core.now.world in
     let can = is_enabled c.args.core.now.module_run w in
-    c.list_one-in-Some.ensures.list
-    ∙ ap (with_member c.in-Some.other (can c.in-Some.other)) (c.list_one.ensures.list ∙ ap (with_member c.args.act (can c.args.act)) is)
+    let own = c.list_own.ensures.list (ap (with_member c.args.act true) is ∙ listed_own c.args.core.now.module_run before w c.args.act c.args.event stepped ∙ sym is) in
+    c.list_one.ensures.list
+    ∙ ap (with_member c.in-Some.other (can c.in-Some.other)) (own ∙ ap (with_member c.args.act (can c.args.act)) is)
     ∙ listed_two c.args.core.now.module_run before w c.args.act c.in-Some.other c.args.event
     (record { core = core; stepped = stepped; quiet = c.is_quiet.ensures c.if-not-is_quiet.false }) (sym c.touched.ensures ∙ c.in-Some.is)
 
@@ -22,6 +18,7 @@ pub returns-in_default-clause-list : goal.returns-in_default-clause-list
 returns-in_default-clause-list c before core stepped is =
     let w = c.args.core.now.world in
     let can = is_enabled c.args.core.now.module_run w in
-    c.list_one.ensures.list ∙ ap (with_member c.args.act (can c.args.act)) is
+    let own = c.list_own.ensures.list (ap (with_member c.args.act true) is ∙ listed_own c.args.core.now.module_run before w c.args.act c.args.event stepped ∙ sym is) in
+    own ∙ ap (with_member c.args.act (can c.args.act)) is
     ∙ listed_alone c.args.core.now.module_run before w c.args.act c.args.event
     (record { core = core; stepped = stepped; quiet = c.is_quiet.ensures c.if-not-is_quiet.false }) (sym c.in_default.ensures)
