@@ -85,6 +85,13 @@ for row in tests/rows/*.json; do
         [ "$command" = check ] || cmp -s "$work/err" "$base.stderr" || fail "$row: $(cat "$work/err")"
         each_growth "$row" "$command" --module -
     done
+    for order in first last round; do
+        [ -e "$base.$order.stdout" ] || continue
+        ample run --module --order "$order" -
+        cmp -s "$work/out" "$base.$order.stdout" || fail "$row, order $order: $(cat "$work/out")"
+        [ ! -s "$work/err" ] || fail "$row, order $order: $(cat "$work/err")"
+        each_growth "$row, order $order" run --module --order "$order" -
+    done
 done
 
 # begins FILE LINE: the text in FILE begins with this line; an empty line stands for an empty text.
@@ -109,6 +116,8 @@ no_job() {
 : > "$work/in"
 no_job "no words" 2 "" "error: 'x10clock' requires a subcommand but one was not provided"
 no_job walk 2 "" "error: unrecognized subcommand 'walk'" walk
+no_job "an unknown order" 2 "" "error: invalid value 'least' for '--order <ORDER>'" run --module --order least -
+no_job "an order for check" 2 "" "error: unexpected argument '--order' found" check --module --order first -
 no_job --help 0 "Verifies and runs clocked programs." "" --help
 no_job "a word not in UTF-8" 2 "" "x10clock: a word is not in UTF-8" run --module "$(printf '\377')"
 [ "$(wc -l < "$work/wanted-err")" = 1 ] || fail "a word not in UTF-8: $(cat "$work/wanted-err")"

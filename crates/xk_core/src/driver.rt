@@ -181,6 +181,7 @@ impl<'m> Driver<'m> {
         // The verified number of steps is never passed.
         ensures bound { IfOk result (λ o. IfSome o (λ turn. self.new.world.steps ≤ steps_bound self.new.module_run)) }
         ensures refused { OnErr result (IsPutOff C.after self.old chooser.old self.new chooser.new) }
+        ensures asked { OnErr result (chooser.new ≡ C.after chooser.old (enabled_in self.old.module_run self.old.world)) }
     {
         if self.enabled.is_empty() {
             return Ok(None);

@@ -20,6 +20,8 @@ pub use machine::Core;
 pub use schedule::{Halt, Ran, run_schedule};
 
 #[cfg(test)]
+mod driving_tests;
+#[cfg(test)]
 mod members_tests;
 #[cfg(test)]
 mod tests;

@@ -35,6 +35,9 @@ returns-in_err-event-clause-refused g c = on_err c.from_residual.result _ (recor
   asked = inr (c.choose-answer.ensures.goes_on ∙ ap (g.C.Chooser.after c.args.chooser.now) (c.deref.ensures.value ∙ c.self.invariant.list_is ∙ ap (λ (v : CoreValue). enabled_in v.module_run v.world) c.self.view_is));
 })
 
+pub returns-in_err-event-clause-asked : goal.returns-in_err-event-clause-asked
+returns-in_err-event-clause-asked g c = on_err c.from_residual.result _ (c.choose-answer.ensures.goes_on ∙ ap (g.C.Chooser.after c.args.chooser.now) (c.deref.ensures.value ∙ c.self.invariant.list_is ∙ ap (λ (v : CoreValue). enabled_in v.module_run v.world) c.self.view_is))
+
 pub returns-clause-taken : goal.returns-clause-taken
 returns-clause-taken g c = record {
   chosen = subst (λ (v : CoreValue). slice_get (enabled_in v.module_run v.world) (g.C.Chooser.answer c.args.chooser.now (enabled_in v.module_run v.world) % length (enabled_in v.module_run v.world)) ≡ Some c.index.result.now) c.self.view_is
