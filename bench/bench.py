@@ -1,5 +1,6 @@
 #!/usr/bin/env python3
-"""Times the built program: runs of a hundred million steps, in one unit, by calls and by finishes, and checks of many great units.
+"""Times the built program: runs of a hundred million steps, in one unit, by calls and by finishes; runs of many activities in each order;
+and checks of many great units.
 
     python3 bench/bench.py [PROGRAM]
 
@@ -16,8 +17,11 @@ import time
 PROGRAM = sys.argv[1] if len(sys.argv) > 1 else "crates/x10clock/out/x10clock"
 
 
-def module(units):
-    return json.dumps({"version": 1, "shared": [], "units": units}, separators=(",", ":"))
+ORDERS = ("first", "last", "round")
+
+
+def module(units, shared=()):
+    return json.dumps({"version": 1, "shared": list(shared), "units": units}, separators=(",", ":"))
 
 
 def unit(kind, slots, code, params=""):
@@ -71,11 +75,28 @@ def gathering(turns):
     return module([unit("main", 1, code), unit("body", 0, [["ret"]])])
 
 
-def timed(name, command, text):
+def starting(count):
+    """A loop that starts an activity in each turn: `for (i in 1..count) async { }`. Its steps are two for each turn, one for each
+    activity, and two."""
+    return module([unit("main", 1, [["for", 0, 1, count, 2], ["spawn", 1, []], ["next", 0], ["ret"]]), unit("body", 0, [["ret"]])])
+
+
+def starting_in_finish(count):
+    """The same with a finish round the loop, and a shared number to which each activity adds one."""
+    main = [["finish", 4], ["for", 0, 1, count, 3], ["spawn", 1, []], ["next", 1], ["endfinish", 0], ["get", 0, 0], ["print", 0], ["ret"]]
+    return module([unit("main", 1, main), unit("body", 1, [["lit", 0, 1], ["addto", 0, 0], ["ret"]])], [0])
+
+
+def knows_orders():
+    told = subprocess.run([PROGRAM, "run", "--help"], capture_output=True, check=False).stdout
+    return b"--order" in told
+
+
+def timed(name, command, text, words=()):
     with tempfile.NamedTemporaryFile("w", suffix=".json", delete=False) as file:
         file.write(text)
     start = time.monotonic()
-    pid = subprocess.Popen([PROGRAM, command, "--module", file.name], stdout=subprocess.PIPE, stderr=subprocess.STDOUT)
+    pid = subprocess.Popen([PROGRAM, command, *words, "--module", file.name], stdout=subprocess.PIPE, stderr=subprocess.STDOUT)
     out = pid.stdout.read().decode().strip().replace("\n", " | ")
     _, status, usage = os.wait4(pid.pid, 0)
     seconds = time.monotonic() - start
@@ -93,5 +114,8 @@ seconds = timed("run of 24,995,000 finishes", "run", finishing(4999))
 print(f"finishes a second: {24_995_000 / seconds:,.0f}")
 for count in (1_000, 2_000, 4_000):
     timed(f"run of {count} activities, each in a finish", "run", gathering(count))
+for order in ORDERS if knows_orders() else ():
+    timed(f"run of 100,000 activities, order {order}", "run", starting(99_999), ("--order", order))
+    timed(f"run of 2,001 activities, a finish round them, order {order}", "run", starting_in_finish(2_000), ("--order", order))
 for count in (50, 100, 200):
     timed(f"check of {count} units of 4,096 instructions over 64 slots", "check", great_module(count))

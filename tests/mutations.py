@@ -1,7 +1,8 @@
 #!/usr/bin/env python3
-"""Feeds the built program modules that nobody wrote: those of tests/rows, changed byte by byte and operand by operand.
+"""Feeds the built program modules that nobody wrote: those of tests/rows and a few more, changed byte by byte and operand by operand.
 
-Every answer must be one of the stated forms, with its status; an accepted module must end within its bound; nothing may hang.
+Every answer must be one of the stated forms, with its status; an accepted module must end within its bound, in each order that the
+program knows; nothing may hang.
 Needs the built program (crates/x10clock/out/x10clock) and python3. The gate doesn't run it.
 
     python3 tests/mutations.py [CASES] [SEED]      20,000 cases and seed 1 where none are given
@@ -25,7 +26,7 @@ LONGEST_RUN = 2_000_000
 
 NUMBERS = [0, 1, 2, 63, 64, 65, 4095, 4096, 65534, 65535, 65536, -1, 2**31, 2**63 - 1, 2**63, -(2**63), -(2**63) - 1, 2**64, 1.0, 1e300]
 WORDS = [
-    "lit", "copy", "add", "sub", "mul", "unless", "jump", "for", "next", "finish", "endfinish", "print", "make", "resume", "drop", "advance", "spawn",
+    "lit", "copy", "add", "sub", "mul", "get", "put", "addto", "unless", "jump", "for", "next", "finish", "endfinish", "print", "make", "resume", "drop", "advance", "spawn",
     "ret", "call", "Make",
     "eq", "ne", "lt", "le", "gt", "ge", "main", "body", "method", "", "c", "n", "cc", "cn",
 ]
@@ -33,7 +34,7 @@ WORDS = [
 # Words that can stand for one another where the rest of the value still fits.
 KIN = [
     group.split()
-    for group in ("add sub mul", "print make resume drop jump next finish endfinish", "advance ret", "call spawn", "eq ne lt le gt ge", "main body method", "c n", "cc cn")
+    for group in ("add sub mul", "copy get put addto", "print make resume drop jump next finish endfinish", "advance ret", "call spawn", "eq ne lt le gt ge", "main body method", "c n", "cc cn")
 ]
 
 RULES = {
@@ -43,12 +44,38 @@ RULES = {
 }
 LIMITS = {14: 1_000_000_000, 15: 100_000, 16: 100_000, 17: 4_096}
 
+# Modules with shared numbers, each of which is accepted: their code by units, main first, with the kind, parameters and slots of each.
+SHARING = [
+    (
+        [0],
+        ("main", "", 2, [["finish", 4], ["for", 0, 1, 3, 3], ["spawn", 1, [0]], ["next", 1], ["endfinish", 0], ["get", 1, 0], ["print", 1], ["ret"]]),
+        ("body", "n", 1, [["addto", 0, 0], ["ret"]]),
+    ),
+    (
+        [0],
+        ("main", "", 1, [["finish", 3], ["spawn", 1, []], ["spawn", 1, []], ["endfinish", 0], ["get", 0, 0], ["print", 0], ["ret"]]),
+        ("body", "", 2, [["get", 0, 0], ["lit", 1, 1], ["add", 0, 0, 1], ["put", 0, 0], ["ret"]]),
+    ),
+    (
+        [2**63 - 1, -5, 0],
+        ("main", "", 3, [["make", 0], ["spawn", 1, [0]], ["get", 1, 0], ["put", 2, 1], ["advance"], ["call", 2, [1]], ["advance"], ["get", 2, 1], ["print", 2], ["ret"]]),
+        ("body", "c", 2, [["advance"], ["get", 1, 2], ["addto", 0, 1], ["print", 1], ["advance"], ["ret"]]),
+        ("method", "n", 1, [["addto", 1, 0], ["ret"]]),
+    ),
+]
+
 ACCEPTED = re.compile(r"accepted steps (\d+) activities (\d+) clocks (\d+)\n")
 ENDED = re.compile(r"((?:-?\d+\n)*)ended steps (\d+)\n")
 UNREAD = re.compile(r"x10clock: (?:M1 NotJson|M2 NotAModule|M3 Limit)\n")
 SHAPE = re.compile(r"x10clock: V(\d+) (\w+) unit (\d+) at (\d+)\n")
 KIND = re.compile(r"x10clock: V(\d+) (\w+) unit \d+ at (\d+) slot \d+ (?:unset|number|live|resumed|out) walk (\d+(?: \d+)*)\n")
 BOUND = re.compile(r"x10clock: V(\d+) (\w+) over (\d+)\n")
+
+
+def sharing(numbers, *units):
+    """The text of a module with these shared numbers."""
+    forms = [{"kind": kind, "params": params, "slots": slots, "code": code} for kind, params, slots, code in units]
+    return json.dumps({"version": 1, "shared": numbers, "units": forms}, separators=(",", ":")).encode()
 
 
 def leaves(value, path=()):
@@ -121,9 +148,15 @@ def case(rng, seeds):
     return json.dumps(value).encode()
 
 
-def answer(command, text):
-    done = subprocess.run([PROGRAM, command, "--module", "-"], input=text, capture_output=True, timeout=SECONDS, check=False)
+def answer(command, text, order=()):
+    done = subprocess.run([PROGRAM, command, *order, "--module", "-"], input=text, capture_output=True, timeout=SECONDS, check=False)
     return done.returncode, done.stdout.decode(), done.stderr.decode()
+
+
+def orders():
+    """The words for each order that the program knows; the first is the one that it keeps where none is named."""
+    told = subprocess.run([PROGRAM, "run", "--help"], capture_output=True, timeout=SECONDS, check=False).stdout
+    return [["--order", order] for order in ("first", "last", "round")] if b"--order" in told else []
 
 
 def refusal(line):
@@ -149,7 +182,19 @@ def ended(bound, code, out, err):
     return code == 0 and err == "" and found is not None and 1 <= int(found[2]) <= bound
 
 
-def judged(text):
+def misrun(text, bound, named):
+    """What is wrong with the runs of an accepted module, if anything is: each ends within the bound, and the first order is the usual one."""
+    run = answer("run", text)
+    if not ended(bound, *run):
+        return ("run", *run)
+    for order in named:
+        again = answer("run", text, order)
+        if not ended(bound, *again) or (order == named[0] and again != run):
+            return ("run", *order, *again)
+    return None
+
+
+def judged(text, named):
     """What became of a text, and what is wrong with the answer, if anything is."""
     try:
         code, out, err = answer("check", text)
@@ -158,8 +203,7 @@ def judged(text):
             bound = int(accepted[1])
             if bound > LONGEST_RUN:
                 return "accepted, not run", None
-            run = answer("run", text)
-            return "accepted", None if ended(bound, *run) else ("run", *run)
+            return "accepted", misrun(text, bound, named)
         label = refusal(err) if code == 1 and out == "" else None
         if label is None:
             return "?", ("check", code, out, err)
@@ -172,19 +216,20 @@ def judged(text):
 def main():
     cases = int(sys.argv[1]) if len(sys.argv) > 1 else 20_000
     rng = random.Random(int(sys.argv[2]) if len(sys.argv) > 2 else 1)
-    seeds = [path.read_bytes() for path in sorted((TOP / "tests/rows").glob("*.json"))]
+    seeds = [path.read_bytes() for path in sorted((TOP / "tests/rows").glob("*.json"))] + [sharing(*form) for form in SHARING]
+    named = orders()
     texts = seeds + [case(rng, seeds) for _ in range(cases)]
     seen = collections.Counter()
     wrong = 0
     with concurrent.futures.ThreadPoolExecutor() as pool:
-        for text, (label, fault) in zip(texts, pool.map(judged, texts)):
+        for text, (label, fault) in zip(texts, pool.map(lambda text: judged(text, named), texts)):
             seen[label] += 1
             if fault:
                 wrong += 1
                 print(f"{text!r}\n    {fault}", file=sys.stderr)
     for label, count in sorted(seen.items()):
         print(f"{count:7} {label}")
-    print(f"{len(texts)} cases, {wrong} answered wrongly")
+    print(f"{len(texts)} cases, {wrong} answered wrongly; {len(named)} orders named")
     return 1 if wrong else 0
 
 

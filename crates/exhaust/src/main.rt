@@ -3,13 +3,21 @@
 //! when it is made again. Run it with growths refused, one at a time: `tests/refused-growths.sh` does.
 #![tactic(auto)]
 
+mod drives;
 mod rows;
 mod tries;
 
+use std::alloc::Global;
 use std::process::ExitCode;
+use tries::Wrong;
+
+fn every_call(alloc: Global) -> Result<(), Wrong> {
+    tries::all(alloc)?;
+    drives::all(alloc)
+}
 
 fn main(rt: HostRuntime) -> ExitCode {
-    match tries::all(rt.alloc()) {
+    match every_call(rt.alloc()) {
         Ok(()) => {
             let _ = rt.println("every call answered as it must");
             ExitCode::SUCCESS

@@ -166,3 +166,56 @@ pub fn unread() -> [Row; 2] {
         },
     ]
 }
+
+/// A program that choosers drive: its steps, and the numbers that it prints when the least activity steps, when the greatest does, and
+/// when each does in turn.
+#[derive(Drop)]
+pub struct DrivenRow {
+    pub text: &'static str,
+    pub steps: u64,
+    pub first: &'static [i64],
+    pub last: &'static [i64],
+    pub round: &'static [i64],
+}
+
+/// Programs that choosers drive: a pair on a clock, three clocks in a ring, a method that waits, a shared sum, and fifty activities that a
+/// loop starts.
+pub fn driven() -> [DrivenRow; 5] {
+    [
+        DrivenRow {
+            text: r#"{"version":1,"shared":[],"units":[{"kind":"main","params":"","slots":2,"code":[["make",0],["spawn",1,[0]],["advance"],["lit",1,1],["print",1],["ret"]]},{"kind":"body","params":"c","slots":2,"code":[["advance"],["lit",1,2],["print",1],["ret"]]}]}"#,
+            steps: 12,
+            first: &[1, 2],
+            last: &[2, 1],
+            round: &[2, 1],
+        },
+        DrivenRow {
+            text: r#"{"version":1,"shared":[],"units":[{"kind":"main","params":"","slots":3,"code":[["make",0],["make",1],["make",2],["spawn",1,[0,1]],["spawn",2,[1,2]],["spawn",3,[2,0]],["ret"]]},{"kind":"body","params":"cc","slots":2,"code":[["advance"],["advance"],["ret"]]},{"kind":"body","params":"cc","slots":2,"code":[["advance"],["advance"],["ret"]]},{"kind":"body","params":"cc","slots":2,"code":[["advance"],["advance"],["ret"]]}]}"#,
+            steps: 22,
+            first: &[],
+            last: &[],
+            round: &[],
+        },
+        DrivenRow {
+            text: r#"{"version":1,"shared":[],"units":[{"kind":"main","params":"","slots":2,"code":[["make",0],["make",1],["resume",1],["call",1,[0]],["resume",1],["ret"]]},{"kind":"method","params":"c","slots":1,"code":[["advance"],["ret"]]}]}"#,
+            steps: 9,
+            first: &[],
+            last: &[],
+            round: &[],
+        },
+        DrivenRow {
+            text: r#"{"version":1,"shared":[0],"units":[{"kind":"main","params":"","slots":2,"code":[["finish",4],["for",0,1,3,3],["spawn",1,[0]],["next",1],["endfinish",0],["get",1,0],["print",1],["ret"]]},{"kind":"body","params":"n","slots":1,"code":[["addto",0,0],["ret"]]}]}"#,
+            steps: 18,
+            first: &[6],
+            last: &[6],
+            round: &[6],
+        },
+        DrivenRow {
+            text: r#"{"version":1,"shared":[],"units":[{"kind":"main","params":"","slots":1,"code":[["for",0,1,50,2],["spawn",1,[]],["next",0],["ret"]]},{"kind":"body","params":"","slots":0,"code":[["ret"]]}]}"#,
+            steps: 152,
+            first: &[],
+            last: &[],
+            round: &[],
+        },
+    ]
+}

@@ -1,5 +1,7 @@
 //! The calls, each made again where it was refused memory.
 
+ghost use Rattle.std.specs.Prelude.{◌≡◌, IfOk};
+
 use crate::rows::{Answer, Row, alone, refused, several, unread};
 use std::alloc::Global;
 use xk_bounds::{Refusal, Verified, verify};
@@ -39,12 +41,12 @@ fn on_row(alloc: Global, row: &Row) -> Result<(), Wrong> {
     }
 }
 
-fn holds(fact: bool, otherwise: &'static str) -> Result<(), Wrong> {
+pub fn holds(fact: bool, otherwise: &'static str) -> Result<(), Wrong> {
     if fact { Ok(()) } else { Err(Wrong(otherwise)) }
 }
 
 /// Reads a module, a second time where memory was refused.
-fn read(alloc: Global, text: &[u8]) -> Result<Module, ModuleFault> {
+pub fn read(alloc: Global, text: &[u8]) -> Result<Module, ModuleFault> {
     match read_module(alloc, text) {
         Err(ModuleFault::OutOfMemory) => read_module(alloc, text),
         answer => answer,
@@ -52,7 +54,7 @@ fn read(alloc: Global, text: &[u8]) -> Result<Module, ModuleFault> {
 }
 
 /// Verifies a module, a second time with what came back where memory was refused.
-fn checked(alloc: Global, program: Module) -> Result<Verified, (Module, Refusal)> {
+pub fn checked(alloc: Global, program: Module) -> Result<Verified, (Module, Refusal)> {
     match verify(alloc, program) {
         Err((same, Refusal::OutOfMemory)) => verify(alloc, same),
         answer => answer,
@@ -117,7 +119,7 @@ fn first_schedule(alloc: Global, verified: &Verified, printed: &[i64]) -> Result
 }
 
 /// Adds a number to a list, at the second try where memory was refused.
-fn note(list: &mut Vec<u32>, number: u32) -> Result<(), Wrong> {
+pub fn note(list: &mut Vec<u32>, number: u32) -> Result<(), Wrong> {
     if list.push(number).is_ok() {
         return Ok(());
     }
@@ -126,12 +128,15 @@ fn note(list: &mut Vec<u32>, number: u32) -> Result<(), Wrong> {
 }
 
 /// Opens a core, at the second try where memory was refused.
-fn opened<'m>(alloc: Global, verified: &'m Verified) -> Result<Core<'m>, Wrong> {
+pub fn opened<'m>(alloc: Global, verified: &'m Verified) -> Result<Core<'m>, Wrong>
+    ensures unstarted { IfOk result (λ c. c.world.steps ≡ 0) }
+{
     match Core::open(alloc, verified) {
-        Err(_) => Core::open(alloc, verified).map_err(|_| Wrong(
-            "a core isn't opened at the second try",
-        )),
         Ok(core) => Ok(core),
+        Err(_) => match Core::open(alloc, verified) {
+            Ok(core) => Ok(core),
+            Err(_) => Err(Wrong("a core isn't opened at the second try")),
+        },
     }
 }
 
@@ -204,7 +209,7 @@ fn ends_alike(beside: &mut Core, schedule: &[u32], ran: &Ran) -> Result<(), Wron
 }
 
 /// Whether the calls on two cores answer the same.
-fn are_alike(a: &Core, b: &Core) -> bool {
+pub fn are_alike(a: &Core, b: &Core) -> bool {
     a.steps_done() == b.steps_done() && acts_are_alike(a, b) && clocks_are_alike(a, b)
 }
 

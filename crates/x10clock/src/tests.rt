@@ -39,8 +39,24 @@ fn words_are_not_understood(rt: HostRuntime) -> Result<(), AllocError> {
         ["x10clock"].as_slice(),
         ["x10clock", "walk"].as_slice(),
         ["x10clock", "run", "--module"].as_slice(),
-        ["x10clock", "run", "--module", "--order", "least", "/dev/null"].as_slice(),
-        ["x10clock", "check", "--module", "--order", "first", "/dev/null"].as_slice(),
+        [
+            "x10clock",
+            "run",
+            "--module",
+            "--order",
+            "least",
+            "/dev/null",
+        ]
+        .as_slice(),
+        [
+            "x10clock",
+            "check",
+            "--module",
+            "--order",
+            "first",
+            "/dev/null",
+        ]
+        .as_slice(),
     ] {
         let refused = answer_to(&rt, words)?;
         assert!(rt; refused.status == 2 && refused.out.written().is_empty());

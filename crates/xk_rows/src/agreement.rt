@@ -2,7 +2,7 @@
 
 use crate::order::{Dice, Order, schedule_in};
 use crate::plain::Plain;
-use crate::programs::{accepted, with_finishes, without_finishes};
+use crate::programs::{accepted, with_finishes, with_shared_numbers, without_finishes};
 use std::alloc::Global;
 use std::test::Fail;
 use xk_bounds::Verified;
@@ -268,6 +268,15 @@ fn random_orders_agree(rt: HostRuntime) -> Result<(), Fail> {
 #[test]
 fn random_orders_of_finishes_agree(rt: HostRuntime) -> Result<(), Fail> {
     for (name, text) in with_finishes() {
+        tried_by_chance(&rt, rt.alloc(), name, text)?;
+    }
+    Ok(())
+}
+
+#[test]
+fn orders_of_shared_numbers_agree(rt: HostRuntime) -> Result<(), Fail> {
+    for (name, text) in with_shared_numbers() {
+        tried_by_plan(&rt, rt.alloc(), name, text)?;
         tried_by_chance(&rt, rt.alloc(), name, text)?;
     }
     Ok(())

@@ -4,8 +4,8 @@ use crate::order::{Order, first_above, schedule_in};
 use crate::plain::Plain;
 use crate::programs::{
     CHILDS_FINISH, CLOCK_HANDED_DEEPER, CLOCK_HANDED_IN, CLOCK_HELD, CLOCK_INSIDE, EARLY_END,
-    FINISHED, FINISHES_NESTED, IN_STEP, LEFT_ALONE, OUTER_CLOCK, PAIR_INSIDE, STARTED_OUTSIDE,
-    accepted,
+    FINISHED, FINISHES_NESTED, IN_STEP, KEPT_UPDATES, LEFT_ALONE, LOST_UPDATE, OUTER_CLOCK,
+    PAIR_INSIDE, SHARED_SUM, STARTED_OUTSIDE, accepted,
 };
 use crate::rows::{numbers, ran};
 use std::alloc::Global;
@@ -108,22 +108,42 @@ fn has(lists: &[&[i64]], list: &[i64]) -> bool {
     false
 }
 
-/// How many schedules the module has. Under each of them all end, and it prints one of these lists of numbers.
-fn count(alloc: Global, text: &str, lists: &[&[i64]]) -> Result<usize, Fail> {
+/// What the module prints under each of its schedules. Under each of them all end.
+fn all_printed(alloc: Global, text: &str) -> Result<Vec<Vec<i64>>, Fail> {
     let verified = accepted(alloc, text)?;
+    let mut all = Vec::new(alloc);
     let mut begin = Vec::new(alloc);
-    for before in 0..MOST {
+    for _ in 0..MOST {
         let path = followed(alloc, &verified, &begin)?;
-        let numbers = printed(alloc, &verified, &path.steps)?;
-        if !has(lists, &numbers) {
-            return Err("other numbers are printed".into());
-        }
+        all.push(printed(alloc, &verified, &path.steps)?)?;
         match path.next()? {
             Some(next) => begin = next,
-            None => return Ok(before + 1),
+            None => return Ok(all),
         }
     }
     Err("a module has more schedules".into())
+}
+
+/// How many schedules the module has. Under each of them all end, and it prints one of these lists of numbers.
+fn count(alloc: Global, text: &str, lists: &[&[i64]]) -> Result<usize, Fail> {
+    let all = all_printed(alloc, text)?;
+    for numbers in &all {
+        if !has(lists, numbers) {
+            return Err("other numbers are printed".into());
+        }
+    }
+    Ok(all.len())
+}
+
+/// Under how many of its schedules the module prints these numbers.
+fn times(alloc: Global, text: &str, wanted: &[i64]) -> Result<usize, Fail> {
+    let mut times = 0usize;
+    for numbers in &all_printed(alloc, text)? {
+        if numbers.as_slice() == wanted {
+            times = times.saturating_add(1);
+        }
+    }
+    Ok(times)
 }
 
 #[test]
@@ -178,6 +198,32 @@ fn every_schedule_of_branches_ends(rt: HostRuntime) -> Result<(), Fail> {
     // In the first turn main's branch comes among two steps of a child; in the last two of a child among four.
     let found = count(rt.alloc(), EARLY_END, &[&[1, 2, 3, 3], &[1, 3, 2, 3]])?;
     assert_eq!(rt; found, 3 * 15);
+    Ok(())
+}
+
+/// What is added in one step is never lost.
+#[test]
+fn every_schedule_adds_up(rt: HostRuntime) -> Result<(), Fail> {
+    let alloc = rt.alloc();
+    // Three steps of the first activity among the second's start and its three.
+    let found = count(alloc, KEPT_UPDATES, &[&[2]])?;
+    assert_eq!(rt; found, 35);
+    // Eleven steps come behind the first start, each behind one other: 11! by how many come behind each and itself.
+    let found = count(alloc, SHARED_SUM, &[&[6]])?;
+    assert_eq!(rt; found, 39_916_800 / (9 * 8 * 5 * 4 * 2 * 2 * 2));
+    Ok(())
+}
+
+/// What is read and written in two steps can be lost.
+#[test]
+fn some_schedules_lose_an_update(rt: HostRuntime) -> Result<(), Fail> {
+    let alloc = rt.alloc();
+    // Five steps of the first activity among the second's start and its five.
+    let found = count(alloc, LOST_UPDATE, &[&[1], &[2]])?;
+    assert_eq!(rt; found, 462);
+    // Either the first has written before the second reads, or the other way round.
+    let found = times(alloc, LOST_UPDATE, &[2])?;
+    assert_eq!(rt; found, 31 + 6);
     Ok(())
 }
 

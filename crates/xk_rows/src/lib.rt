@@ -1,9 +1,11 @@
 //! Tests of schedules on the core: rows whose runs are known from outside, and many runs beside a second telling of what a
-//! step does.
+//! step does; runs that choosers drive.
 #![tactic(auto)]
 
 #[cfg(test)]
 mod agreement;
+#[cfg(test)]
+mod driven;
 #[cfg(test)]
 mod every;
 #[cfg(test)]

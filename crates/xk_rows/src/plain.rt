@@ -48,11 +48,12 @@ struct Actor {
     since: u64,
 }
 
-/// All activities, clocks and finishes of a running module.
+/// All activities, clocks, finishes and shared numbers of a running module.
 #[derive(Drop)]
 pub struct Plain<'m> {
     program: &'m Module,
     actors: Vec<Actor>,
+    cells: Vec<i64>,
     barriers: Vec<Barrier>,
     gatherings: Vec<Gathering>,
     steps: u64,
@@ -251,7 +252,7 @@ fn unit_of(program: &Module, unit: usize) -> Result<&Unit, Fail> {
 }
 
 impl<'m> Plain<'m> {
-    /// Main alone, no clock.
+    /// Main alone, no clock; the shared numbers are those that the module names.
     pub fn opening(alloc: Global, program: &'m Module) -> Result<Plain<'m>, Fail> {
         let Some(form) = program.units().first() else {
             return Err("there is no main".into());
@@ -262,6 +263,7 @@ impl<'m> Plain<'m> {
         Ok(Plain {
             program,
             actors,
+            cells: Vec::from_slice(alloc, program.shared())?,
             barriers: Vec::new(alloc),
             gatherings: Vec::new(alloc),
             steps: 0,
@@ -395,6 +397,14 @@ impl<'m> Plain<'m> {
         }
     }
 
+    /// A number that all share.
+    fn cell(&mut self, s: u16) -> Result<&mut i64, Fail> {
+        match self.cells.get_mut(s as usize) {
+            Some(cell) => Ok(cell),
+            None => Err("a shared number is missing".into()),
+        }
+    }
+
     /// One step of an activity that can step, and what it does.
     pub fn step(&mut self, alloc: Global, a: u32) -> Result<Event, Fail> {
         let now = self.steps.saturating_add(1);
@@ -509,6 +519,23 @@ impl<'m> Plain<'m> {
                 let n = computed(frame, instr)?;
                 frame.write(*d, Value::Number(n))?;
                 Ok(Event::Local)
+            }
+            Instr::Get(d, s) => {
+                let n = *self.cell(*s)?;
+                self.frame_mut(a)?.write(*d, Value::Number(n))?;
+                Ok(Event::Got)
+            }
+            Instr::Put(s, x) => {
+                let n = self.frame(a)?.number(*x)?;
+                let cell = self.cell(*s)?;
+                *cell = n;
+                Ok(Event::Put)
+            }
+            Instr::AddTo(s, x) => {
+                let n = self.frame(a)?.number(*x)?;
+                let cell = self.cell(*s)?;
+                *cell = cell.wrapping_add(n);
+                Ok(Event::Added)
             }
             Instr::Print(x) => Ok(Event::Printed(self.frame(a)?.number(*x)?)),
             Instr::Make(d) => self.make(alloc, a, *d),

@@ -126,6 +126,37 @@ pub const EARLY_END: &str =
 pub const CALLED_INSIDE: &str =
     r#"{"version":1,"shared":[],"units":[{"kind":"main","params":"","slots":1,"code":[["finish",3],["lit",0,1],["call",1,[0]],["endfinish",0],["lit",0,5],["print",0],["ret"]]},{"kind":"method","params":"n","slots":2,"code":[["spawn",3,[0]],["finish",3],["call",2,[0]],["endfinish",1],["lit",1,4],["print",1],["ret"]]},{"kind":"method","params":"n","slots":2,"code":[["add",1,0,0],["spawn",3,[1]],["add",1,1,0],["spawn",3,[1]],["ret"]]},{"kind":"body","params":"n","slots":1,"code":[["print",0],["ret"]]}]}"#;
 
+/// Three activities add the number that each is given to a shared one.
+pub const SHARED_SUM: &str =
+    r#"{"version":1,"shared":[0],"units":[{"kind":"main","params":"","slots":2,"code":[["finish",4],["for",0,1,3,3],["spawn",1,[0]],["next",1],["endfinish",0],["get",1,0],["print",1],["ret"]]},{"kind":"body","params":"n","slots":1,"code":[["addto",0,0],["ret"]]}]}"#;
+
+/// Two activities read a shared number, and each writes one more: of two that read the same, one addition is lost.
+pub const LOST_UPDATE: &str =
+    r#"{"version":1,"shared":[0],"units":[{"kind":"main","params":"","slots":1,"code":[["finish",3],["spawn",1,[]],["spawn",1,[]],["endfinish",0],["get",0,0],["print",0],["ret"]]},{"kind":"body","params":"","slots":2,"code":[["get",0,0],["lit",1,1],["add",0,0,1],["put",0,0],["ret"]]}]}"#;
+
+/// The same with additions in one step, of which none is lost.
+pub const KEPT_UPDATES: &str =
+    r#"{"version":1,"shared":[0],"units":[{"kind":"main","params":"","slots":1,"code":[["finish",3],["spawn",1,[]],["spawn",1,[]],["endfinish",0],["get",0,0],["print",0],["ret"]]},{"kind":"body","params":"","slots":1,"code":[["lit",0,1],["addto",0,0],["ret"]]}]}"#;
+
+/// Sums of shared numbers wrap; one is handed from activity to activity by a clock's phases, and another stays as it was.
+pub const HANDED_ROUND: &str =
+    r#"{"version":1,"shared":[9223372036854775807,-5,0],"units":[{"kind":"main","params":"","slots":3,"code":[["make",0],["spawn",1,[0]],["get",1,0],["put",2,1],["advance"],["advance"],["get",1,0],["print",1],["get",2,1],["print",2],["ret"]]},{"kind":"body","params":"c","slots":2,"code":[["advance"],["get",1,2],["addto",0,1],["print",1],["advance"],["ret"]]}]}"#;
+
+/// Methods read and write shared numbers as their callers do.
+pub const CALLED_SUMS: &str =
+    r#"{"version":1,"shared":[1,2],"units":[{"kind":"main","params":"","slots":2,"code":[["lit",0,3],["spawn",1,[0]],["call",2,[0]],["get",1,1],["print",1],["print",0],["ret"]]},{"kind":"body","params":"n","slots":1,"code":[["call",2,[0]],["get",0,0],["print",0],["ret"]]},{"kind":"method","params":"n","slots":2,"code":[["get",1,0],["mul",1,1,0],["put",0,1],["addto",1,1],["ret"]]}]}"#;
+
+/// Those with shared numbers, with their names.
+pub fn with_shared_numbers() -> [(&'static str, &'static str); 5] {
+    [
+        ("shared sum", SHARED_SUM),
+        ("lost update", LOST_UPDATE),
+        ("kept updates", KEPT_UPDATES),
+        ("handed round", HANDED_ROUND),
+        ("called sums", CALLED_SUMS),
+    ]
+}
+
 /// Those without finishes, with their names.
 pub fn without_finishes() -> [(&'static str, &'static str); 18] {
     [

@@ -2,8 +2,8 @@
 
 use crate::order::{Order, schedule_in};
 use crate::programs::{
-    CLOCK_INSIDE, FINISHED, IN_STEP, LEFT_ALONE, METHOD_WAITS, NESTED_CALLS, RING, STARTS_AHEAD,
-    STARTS_SIGNALLED, TWO_PHASES, accepted,
+    CLOCK_INSIDE, FINISHED, HANDED_ROUND, IN_STEP, LEFT_ALONE, LOST_UPDATE, METHOD_WAITS,
+    NESTED_CALLS, RING, SHARED_SUM, STARTS_AHEAD, STARTS_SIGNALLED, TWO_PHASES, accepted,
 };
 use std::alloc::Global;
 use std::process::Abort;
@@ -329,4 +329,78 @@ fn a_clock_is_dropped_in_its_finish(rt: HostRuntime) -> Result<(), Fail> {
         &[(1, 5)],
         &[0, 6],
     )
+}
+
+/// Three activities add to a shared number, in three orders of steps.
+#[test]
+fn a_sum_is_shared(rt: HostRuntime) -> Result<(), Fail> {
+    let alloc = rt.alloc();
+    let first = [0, 0, 0, 0, 0, 0, 0, 0, 1, 1, 2, 2, 3, 3, 0, 0, 0, 0];
+    let last = [0, 0, 0, 1, 1, 0, 0, 2, 2, 0, 0, 3, 3, 0, 0, 0, 0, 0];
+    let round = [0, 0, 0, 1, 0, 1, 0, 2, 0, 2, 0, 3, 0, 3, 0, 0, 0, 0];
+    let since = [0, 0, 0, 0];
+    ends(&rt, alloc, SHARED_SUM, Order::First, &first, &[], &since)?;
+    ends(&rt, alloc, SHARED_SUM, Order::Last, &last, &[], &since)?;
+    ends(&rt, alloc, SHARED_SUM, Order::Round(0), &round, &[], &since)?;
+    for schedule in [first, last, round] {
+        let numbers = printed(alloc, SHARED_SUM, &schedule)?;
+        assert_eq!(rt; numbers.as_slice(), [6].as_slice());
+    }
+    Ok(())
+}
+
+/// What is done to shared numbers is seen, and when.
+#[test]
+fn shared_numbers_are_seen(rt: HostRuntime) -> Result<(), Fail> {
+    let alloc = rt.alloc();
+    let verified = accepted(alloc, SHARED_SUM)?;
+    let sum = ran(alloc, &verified, &[0, 0, 0, 1, 1, 0, 0, 2, 0, 0])?;
+    let wanted = [
+        Event::Opened,
+        Event::Spawned,
+        Event::Added,
+        Event::Ended,
+        Event::Spawned,
+        Event::Added,
+        Event::Spawned,
+    ];
+    assert_eq!(rt; sum.seen.as_slice(), wanted.as_slice());
+    let verified = accepted(alloc, LOST_UPDATE)?;
+    let lost = ran(alloc, &verified, &[0, 0, 0, 1, 2, 1, 2, 1, 2, 1, 2])?;
+    let wanted = [
+        Event::Opened,
+        Event::Spawned,
+        Event::Spawned,
+        Event::Got,
+        Event::Got,
+        Event::Put,
+        Event::Put,
+    ];
+    assert_eq!(rt; lost.seen.as_slice(), wanted.as_slice());
+    Ok(())
+}
+
+/// Of two that read a shared number before either writes it, one addition is lost.
+#[test]
+fn an_update_is_lost(rt: HostRuntime) -> Result<(), Fail> {
+    let alloc = rt.alloc();
+    let crossed = [0, 0, 0, 1, 2, 1, 2, 1, 2, 1, 2, 1, 2, 0, 0, 0, 0];
+    let numbers = printed(alloc, LOST_UPDATE, &crossed)?;
+    assert_eq!(rt; numbers.as_slice(), [1].as_slice());
+    let in_turn = [0, 0, 0, 1, 1, 1, 1, 2, 2, 2, 2, 1, 2, 0, 0, 0, 0];
+    let numbers = printed(alloc, LOST_UPDATE, &in_turn)?;
+    assert_eq!(rt; numbers.as_slice(), [2].as_slice());
+    Ok(())
+}
+
+/// The child reads in the second phase what main wrote in the first, and main in the third what the child added in the second.
+#[test]
+fn a_number_is_handed_round(rt: HostRuntime) -> Result<(), Fail> {
+    let schedule = [
+        0, 0, 0, 0, 0, 1, 0, 0, 1, 1, 1, 1, 1, 0, 0, 0, 0, 0, 0, 1, 1,
+    ];
+    let numbers = printed(rt.alloc(), HANDED_ROUND, &schedule)?;
+    let wanted = [i64::MAX, -2, -5];
+    assert_eq!(rt; numbers.as_slice(), wanted.as_slice());
+    Ok(())
 }
