@@ -17,7 +17,7 @@ use Rattle.xk_types.specs.World.{Activity, World, base_unit, is_ended, instructi
 use Rattle.xk_types.specs.Step.{Outcome, Blocked, Wrong, Stepped, waits, step_by, step_of, step, carried_out, past, done, none, all, passed, onward, moved, settled, left, closing, awaits, innermost, child}
 use Rattle.xk_types.specs.Schedule.{is_step, is_enabled}
 use Rattle.xk_laws.proofs.Lists.{get_inside, get-set_same, get-set_other, get_push, get-push_other}
-use Rattle.xk_laws.proofs.Counts.{step_counts, step_keeps_over}
+use Rattle.xk_laws.proofs.Counts.{step_counts}
 use Rattle.xk_laws.proofs.Invariant.{IsSound}
 use Rattle.xk_laws.proofs.Scopes.{IsScoped, based}
 use Rattle.xk_laws.proofs.Reached.{reached_sound, reached_scoped}
@@ -28,7 +28,7 @@ use Rattle.xk_finishes.specs.Tree as tree
 use Rattle.xk_finishes.proofs.Activities.{awaits_same}
 use Rattle.xk_core.specs.Arm.{value_at, carried, carried_by, passed_on, passing_by, concerns_finishes, IsRoomy, IsRunningUnit}
 use Rattle.xk_core.specs.Able.{able_by, able_of, is_able, kept_by, is_kept}
-use Rattle.xk_core.specs.Core.{IsCore, is_over, AreOver, instruction_by, instruction_of, next_instruction}
+use Rattle.xk_core.specs.Core.{IsCore, instruction_by, instruction_of, next_instruction}
 use Rattle.xk_core.specs.Told.{with_node, with_nodes, told, is_end, IsToldOf, AreTold}
 use Rattle.xk_core.proofs.Cores.{core_roomy, core_runs, core_stepped, core_bound, core_able, pass_step, carry_step}
 use Rattle.xk_core.proofs.Told.{length_told, get_told, set_told, set_both, told_so, Leaves, Tells, IsTold, carried_told, spawn_told}
@@ -66,13 +66,6 @@ node_is ns a n h = get_or_from_slice_get ns a n _ h
 -- ---- what is read of a core
 
 -- statuses are the same
-over_told : (ns : List NodeValue) (xs : List Activity) → length ns ≡ length xs → (b : ℕ) → is_over (with_nodes ns xs) b ≡ is_over xs b
-over_told ns xs width b = by (told_at ns xs width b)
-  where
-    by : At ns xs b → is_over (with_nodes ns xs) b ≡ is_over xs b
-    by (Nobody e g) = ap (λ o. option_map_or (λ (act : Activity). is_ended act.status) o false) (g ∙ sym e)
-    by (Somebody n x h e g) = ap (λ o. option_map_or (λ (act : Activity). is_ended act.status) o false) g ∙ sym (ap (λ o. option_map_or (λ (act : Activity). is_ended act.status) o false) e)
-
 pub ended_told : (ns : List NodeValue) (xs : List Activity) → length ns ≡ length xs → list_all (λ (act : Activity). is_ended act.status) (with_nodes ns xs) ≡ list_all (λ (act : Activity). is_ended act.status) xs
 ended_told [] [] h = refl
 ended_told [] (x ∷ xs) h = absurd (omega arith)
@@ -123,27 +116,25 @@ nodes_told m ns xs t = from ns xs t.width (λ a n x h g. (t.each a n x h g).ende
 
 -- ---- a core, by its parts
 
--- the world is one that a legal schedule reaches, the tree tells of it, and as many activities have ended
-pub record IsHeld (m : ModuleValue) (ns : List NodeValue) (w : World) (over : ℕ) : Type 0 where
+-- the world is one that a legal schedule reaches, and the tree tells of it
+pub record IsHeld (m : ModuleValue) (ns : List NodeValue) (w : World) : Type 0 where
   pub core : IsCore m (told ns w)
   pub are : AreTold m ns w.activities
-  pub first : AreOver w.activities over
 
-pub held : (m : ModuleValue) (ns : List NodeValue) (w : World) (over : ℕ) → IsCore m (told ns w) × AreTold m ns w.activities × AreOver w.activities over → IsHeld m ns w over
-held m ns w over h = record { core = h.0; are = h.1; first = h.2 }
+pub held : (m : ModuleValue) (ns : List NodeValue) (w : World) → IsCore m (told ns w) × AreTold m ns w.activities → IsHeld m ns w
+held m ns w h = record { core = h.0; are = h.1 }
 
-pub parts : (m : ModuleValue) (ns : List NodeValue) (w : World) (over : ℕ) → IsHeld m ns w over → IsCore m (told ns w) × AreTold m ns w.activities × AreOver w.activities over
-parts m ns w over h = (h.core, h.are, h.first)
+pub parts : (m : ModuleValue) (ns : List NodeValue) (w : World) → IsHeld m ns w → IsCore m (told ns w) × AreTold m ns w.activities
+parts m ns w h = (h.core, h.are)
 
 -- it goes on by a step
-pub held_on : (m : ModuleValue) (ns ks : List NodeValue) (w v : World) (over a : ℕ) (e : Event) → IsHeld m ns w over → AreTold m ks v.activities → step m (told ns w) a ≡ Stepped (told ks v) e → IsHeld m ks v over
-held_on m ns ks w v over a e h are goes = record {
+pub held_on : (m : ModuleValue) (ns ks : List NodeValue) (w v : World) (a : ℕ) (e : Event) → IsHeld m ns w → AreTold m ks v.activities → step m (told ns w) a ≡ Stepped (told ks v) e → IsHeld m ks v
+held_on m ns ks w v a e h are goes = record {
   core = core_stepped m (told ns w) (told ks v) a e h.core goes;
   are = are;
-  first = λ b lt. sym (over_told ks v.activities are.width b) ∙ step_keeps_over m (told ns w) (told ks v) a e goes b (over_told ns w.activities h.are.width b ∙ h.first b lt);
 }
 
-module _ (m : ModuleValue) (ns : List NodeValue) (w : World) (over a : ℕ) (h : IsHeld m ns w over) where
+module _ (m : ModuleValue) (ns : List NodeValue) (w : World) (a : ℕ) (h : IsHeld m ns w) where
   -- one more of each number fits its type
   pub parts_roomy : IsRoomy w a
   parts_roomy =
@@ -179,19 +170,6 @@ module _ (m : ModuleValue) (ns : List NodeValue) (w : World) (over a : ℕ) (h :
   -- who is able and isn't kept is enabled
   pub parts_able : (is_able w a && not (is_kept m (told ns w) a)) ≡ is_enabled m (told ns w) a
   parts_able = ap (λ b. b && not (is_kept m (told ns w) a)) (sym (able_told ns w h.are.width a)) ∙ core_able m (told ns w) a h.core
-
-  -- who has ended is not enabled
-  pub parts_over : a < over → is_enabled m (told ns w) a ≡ false
-  parts_over lt = by (told_at ns w.activities h.are.width a) (h.first a lt)
-    where
-      by : At ns w.activities a → is_over w.activities a ≡ true → is_enabled m (told ns w) a ≡ false
-      by (Nobody e g) o = ap (λ z. is_step (step_of m (told ns w) a z)) g
-      by (Somebody n x k e g) o = ap (λ z. is_step (step_of m (told ns w) a z)) g ∙ st x.status (sym (ap (λ z. option_map_or (λ (act : Activity). is_ended act.status) z false) e) ∙ o)
-        where
-          st : (s : Status) → is_ended s ≡ true → is_step (step_by m (told ns w) a (with_node n x) s) ≡ false
-          st status.Running f = absurd (false≢true f)
-          st status.Arrived f = absurd (false≢true f)
-          st status.Ended f = refl
 
   -- ---- a pass
 
@@ -277,7 +255,7 @@ same_world v u e f q = cc
 
 -- ---- one activity of a core
 
-module _ (m : ModuleValue) (ns : List NodeValue) (w : World) (over a : ℕ) (h : IsHeld m ns w over) where
+module _ (m : ModuleValue) (ns : List NodeValue) (w : World) (a : ℕ) (h : IsHeld m ns w) where
   -- an activity that runs, and what the tree tells of it
   pub record Runs (i : Instr) : Type 0 where
     pub n : NodeValue
@@ -512,15 +490,15 @@ module _ (m : ModuleValue) (ns : List NodeValue) (w : World) (over a : ℕ) (h :
 -- ---- whether memory was there or not
 
 -- where it was, the new activity is told of; else nothing changed
-pub started_held : {E : Type 0} (m : ModuleValue) (ns ks : List NodeValue) (w v : World) (over a t : ℕ) (args : List ℕ) (room : ℕ) (r : Result Event E) → IsHeld m ns w over
+pub started_held : {E : Type 0} (m : ModuleValue) (ns ks : List NodeValue) (w v : World) (a t : ℕ) (args : List ℕ) (room : ℕ) (r : Result Event E) → IsHeld m ns w
     → next_instruction m (told ns w) a ≡ Some (instr.Spawn t args) → is_enabled m (told ns w) a ≡ true → room ≡ room_of m t
     → IfOk r (λ e. carried m w a (instr.Spawn t args) ≡ Stepped v e) → OnOk r (ks ≡ ns ++ fresh_node (governing_of a (node_at ns a)) room ∷ []) → OnErr r (v ≡ w) → OnErr r (ks ≡ ns)
-    → IsHeld m ks v over × IfOk r (λ e. step m (told ns w) a ≡ Stepped (told ks v) e)
-started_held m ns ks w v over a t args room (Ok e) h next enabled fits is new same kept =
-    let goes = spawn_stepped m ns w over a h t args room next v e is in
-    let are = spawn_are m ns w over a h t args room next v e enabled is fits in
-    rw new (held_on m ns (ns ++ fresh_node (governing_of a (node_at ns a)) room ∷ []) w v over a e h are goes, goes)
-started_held m ns ks w v over a t args room (Err x) h next enabled fits is new same kept = rw (same, kept) (h, tt)
+    → IsHeld m ks v × IfOk r (λ e. step m (told ns w) a ≡ Stepped (told ks v) e)
+started_held m ns ks w v a t args room (Ok e) h next enabled fits is new same kept =
+    let goes = spawn_stepped m ns w a h t args room next v e is in
+    let are = spawn_are m ns w a h t args room next v e enabled is fits in
+    rw new (held_on m ns (ns ++ fresh_node (governing_of a (node_at ns a)) room ∷ []) w v a e h are goes, goes)
+started_held m ns ks w v a t args room (Err x) h next enabled fits is new same kept = rw (same, kept) (h, tt)
 
 pub taken_counts : {E : Type 0} (m : ModuleValue) (w v : World) (a : ℕ) (r : Result Event E) → IfOk r (λ e. step m w a ≡ Stepped v e) → OnOk r (v.steps ≡ w.steps + 1)
 taken_counts m w v a (Ok e) h = step_counts m w v a e h

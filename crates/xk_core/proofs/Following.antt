@@ -8,27 +8,10 @@ use Rattle.xk_types.specs.declared.names.Event.TheVariants as event
 use Rattle.xk_types.specs.Code.{ModuleValue}
 use Rattle.xk_types.specs.World.{World}
 use Rattle.xk_types.specs.Step.{Outcome, Blocked, Wrong, Stepped, step}
-use Rattle.xk_types.specs.Schedule.{Course, Through, run, run_on, events, events_on, is_local, seen, number_printed, printed}
+use Rattle.xk_types.specs.Schedule.{Through, run, events, is_local, seen, number_printed, printed}
+use Rattle.xk_laws.proofs.Reached.{first_step}
+use Rattle.xk_core.proofs.Runs.{same_world, events_more}
 use Rattle.xk_core.specs.Choosing.{enabled_in, Follows, goes_on, state_after, state_on}
-
--- ---- runs
-
-same_world : (w v : World) → Through w ≡ Through v → w ≡ v
-same_world w v e = cc
-
--- a run that comes through took its first step
-first_step : (w v : World) (o : Outcome) (go : World → Course) → run_on w o go ≡ Through v → (x : World) × (e : Event) × (o ≡ Stepped x e) × (go x ≡ Through v)
-first_step w v Blocked go h = absurd (grind arith)
-first_step w v (Wrong c) go h = absurd (grind arith)
-first_step w v (Stepped x e) go h = (x, e, refl, h)
-
--- a run goes on by a step
-pub run_on_more : (m : ModuleValue) (list : List ℕ) (w v x : World) (a : ℕ) (e : Event) → run m list w ≡ Through v → step m v a ≡ Stepped x e
-    → run m (list ++ a ∷ []) w ≡ Through x
-run_on_more m [] w v x a e h g = ap (λ o. run_on w o (run m [])) (ap (λ z. step m z a) (same_world w v h) ∙ g)
-run_on_more m (b ∷ list) w v x a e h g =
-    let f = first_step w v (step m w b) (run m list) h in
-    ap (λ o. run_on w o (run m (list ++ a ∷ []))) f.2 ∙ run_on_more m list f.0 v x a e f.3 g
 
 -- ---- choosers
 
@@ -65,16 +48,6 @@ state_more after m (b ∷ list) s w v x a e h g =
     ∙ sym (ap (λ o. after (state_on o s (λ z. state_after after m next z list)) (enabled_in m v)) t.2)
 
 -- ---- what is printed
-
--- the events of one step more
-events_more : (m : ModuleValue) (list : List ℕ) (w v x : World) (a : ℕ) (e : Event) → run m list w ≡ Through v → step m v a ≡ Stepped x e
-    → events m (list ++ a ∷ []) w ≡ events m list w ++ (a, e) ∷ []
-events_more m [] w v x a e h g = ap (λ o. events_on a o (events m [])) (ap (λ z. step m z a) (same_world w v h) ∙ g)
-events_more m (b ∷ list) w v x a e h g =
-    let f = first_step w v (step m w b) (run m list) h in
-    ap (λ o. events_on b o (events m (list ++ a ∷ []))) f.2
-    ∙ ap (λ l. (b, f.1) ∷ l) (events_more m list f.0 v x a e f.3 g)
-    ∙ sym (ap (λ o. events_on b o (events m list) ++ (a, e) ∷ []) f.2)
 
 abbrev number_in : ℕ × Event → Option ℤ
 number_in p = number_printed p.1

@@ -193,11 +193,11 @@ pub named_at : (m : ModuleValue) (w : World) (list : List ℕ) (i x : ℕ) → l
 named_at m w list i x is lt named = ap (λ l. slice_get l i) (sym is) ∙ slice_get-get_or list i x lt ∙ ap (λ y. Some y) (sym named)
 
 -- whom a chooser names, by its answer to the list
-pub chosen_at : {S : Type 0} (answer : S → List ℕ → ℕ) (m : ModuleValue) (w : World) (s : S) (list shown : List ℕ) (n r x : ℕ) → list ≡ enabled_in m w → shown ≡ list → n ≡ length list → (n == 0) ≡ false
-    → r ≡ answer s shown → x ≡ get_or list (r % n) x → slice_get (enabled_in m w) (answer s (enabled_in m w) % length (enabled_in m w)) ≡ Some x
-chosen_at answer m w s list shown n r x is same wide some answers named =
+pub chosen_at : {S : Type 0} (answer : S → List ℕ → ℕ) (m : ModuleValue) (w : World) (s : S) (list shown : List ℕ) (n r k x : ℕ) → list ≡ enabled_in m w → shown ≡ list → n ≡ length list → (n == 0) ≡ false
+    → r ≡ answer s shown → k ≡ r % n → x ≡ get_or list k x → slice_get (enabled_in m w) (answer s (enabled_in m w) % length (enabled_in m w)) ≡ Some x
+chosen_at answer m w s list shown n r k x is same wide some answers place named =
     ap (slice_get (enabled_in m w)) (sym (ap (λ z. z % n) (answers ∙ ap (answer s) (same ∙ is)) ∙ ap (λ k. answer s (enabled_in m w) % k) (wide ∙ ap length is)))
-    ∙ named_at m w list (r % n) x is (let below : r % n < n = mod_below r n (positive (eqb-false n 0 some)) in omega (arith, below, wide)) named
+    ∙ named_at m w list (r % n) x is (let below : r % n < n = mod_below r n (positive (eqb-false n 0 some)) in omega (arith, below, wide)) (named ∙ ap (λ j. get_or list j x) place)
   where
     positive : (n ≡ 0 → ⊥) → 0 < n
     positive h = omega (arith, h)

@@ -11,10 +11,10 @@ use Rattle.xk_types.specs.Schedule.{Through, run, is_local, events, events_on, s
 use Rattle.xk_laws.proofs.Reached.{first_step, run_more}
 use Rattle.xk_core.specs.Schedules.{shown, events_seen, LeadsPart}
 
-same_world : (w v : World) → Through w ≡ Through v → w ≡ v
+pub same_world : (w v : World) → Through w ≡ Through v → w ≡ v
 same_world w v e = cc
 
-events_more : (m : ModuleValue) (list : List ℕ) (w v x : World) (a : ℕ) (e : Event) → run m list w ≡ Through v → step m v a ≡ Stepped x e
+pub events_more : (m : ModuleValue) (list : List ℕ) (w v x : World) (a : ℕ) (e : Event) → run m list w ≡ Through v → step m v a ≡ Stepped x e
     → events m (list ++ a ∷ []) w ≡ events m list w ++ (a, e) ∷ []
 events_more m [] w v x a e h g = ap (λ o. events_on a o (events m [])) (ap (λ z. step m z a) (same_world w v h) ∙ g)
 events_more m (b ∷ list) w v x a e h g =

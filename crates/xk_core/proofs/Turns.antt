@@ -12,10 +12,11 @@ use Rattle.xk_types.specs.Schedule.{Through, run, printed, number_printed}
 use Rattle.xk_types.specs.Bound.{steps_bound}
 use Rattle.xk_types.specs.Logs.{schedule_of}
 use Rattle.xk_laws.proofs.Counts.{step_counts}
+use Rattle.xk_laws.proofs.Reached.{run_more}
 use Rattle.xk_core.specs.Core.{CoreValue}
 use Rattle.xk_core.specs.Choosing.{enabled_in, Follows, state_after}
 use Rattle.xk_core.specs.Driving.{IsTurn, IsPutOff, IsRunOf, IsNoted, IsChosen, IsChosenSoFar, entry_of}
-use Rattle.xk_core.proofs.Following.{run_on_more, follows_more, state_more, printed_more}
+use Rattle.xk_core.proofs.Following.{follows_more, state_more, printed_more}
 
 -- one entry more is one step more
 schedule_more : (log : List Entry) (a : ℕ) → schedule_of (log ++ entry_of a ∷ []) ≡ schedule_of log ++ a ∷ []
@@ -30,7 +31,7 @@ pub run_goes_on : {S : Type 0} (answer : S → List ℕ → ℕ) (after : S → 
 run_goes_on answer after m k log numbers c d s t a e r turn is =
     subst (λ j. IsRunOf j (log ++ entry_of a ∷ []) (numbers ++ option_to_list (number_printed e)) d) (sym is) (record {
       module_is = turn.same_module ∙ r.module_is;
-      leads = ap (λ l. run m l (opening m)) (schedule_more log a) ∙ run_on_more m (schedule_of log) (opening m) c.world d.world a e r.leads stepped;
+      leads = ap (λ l. run m l (opening m)) (schedule_more log a) ∙ run_more m (schedule_of log) (opening m) c.world d.world a e r.leads stepped;
       prints = ap (λ l. l ++ option_to_list (number_printed e)) r.prints
           ∙ sym (ap (λ l. printed m l (opening m)) (schedule_more log a) ∙ printed_more m (schedule_of log) (opening m) c.world d.world a e r.leads stepped);
     })

@@ -20,14 +20,6 @@ pub record IsCore (m : ModuleValue) (w : World) : Type 0 where
   pub accepted : IsAccepted m
   pub reached : IsReached m w
 
--- activity b is there and has ended
-abbrev pub is_over : List Activity → ℕ → Bool
-is_over acts b = option_map_or (λ act. is_ended act.status) (slice_get acts b) false
-
--- the first n activities have ended
-abbrev pub AreOver : List Activity → ℕ → Type 0
-AreOver acts n = (b : ℕ) → b < n → is_over acts b ≡ true
-
 abbrev pub instruction_by : ModuleValue → Activity → Status → Option Instr
 instruction_by m act status.Running = instruction_at m act.frame
 instruction_by m act status.Arrived = None

@@ -1,6 +1,6 @@
 //! Who takes the next step.
 
-ghost use Rattle.std.specs.Prelude.{◌≡◌, ◌<◌, ◌≤◌, ◌-◌, ◌^◌, length};
+ghost use Rattle.std.specs.Prelude.{◌≡◌, ◌<◌, ◌≤◌, ◌-◌, ◌%◌, ◌^◌, length};
 ghost use Rattle.xk_core.specs.Choosing.{IsRising, place_above, turn_of};
 
 use std::marker::Model;
@@ -23,6 +23,16 @@ pub trait Chooser {
         requires numbers { length enabled.now < 2 ^ 32 }
         ensures answers { result ≡ answer self.old enabled.now }
         ensures goes_on { self.new ≡ after self.old enabled.now };
+}
+
+/// A place in a list of n, counted round it. A division takes longer than all else that a turn does besides its step, and most answers need
+/// none.
+pub(crate) fn place_in(answer: usize, n: usize) -> usize
+    requires { 0 < n }
+    ensures place { result ≡ answer % n }
+    ensures within { result < n }
+{
+    if answer < n { answer } else { answer % n }
 }
 
 /// The least enabled activity, at each step.
@@ -112,7 +122,7 @@ impl Chooser for Round {
 
     fn choose(&mut self, enabled: &[u32]) -> u32 {
         let place = self.place(enabled);
-        self.taken = Some(enabled[place % enabled.len()]);
+        self.taken = Some(enabled[place_in(place, enabled.len())]);
         place as u32
     }
 }

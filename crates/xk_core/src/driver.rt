@@ -11,7 +11,7 @@ ghost use Rattle.xk_core.specs.Choosing.{IsRising, enabled_in, with_member};
 ghost use Rattle.xk_core.specs.Core.{IsCore};
 ghost use Rattle.xk_core.specs.Touched.{touched};
 
-use crate::chooser::Chooser;
+use crate::chooser::{Chooser, place_in};
 use crate::machine::Core;
 use crate::members::set_member;
 use std::alloc::{AllocError, Global};
@@ -187,7 +187,7 @@ impl<'m> Driver<'m> {
             return Ok(None);
         }
         let answer = chooser.choose(&self.enabled) as usize;
-        let act = Act(self.enabled[answer % self.enabled.len()]);
+        let act = Act(self.enabled[place_in(answer, self.enabled.len())]);
         let event = self.step(act)?;
         Ok(Some(Turn { act, event }))
     }

@@ -25,19 +25,17 @@ pub struct Core<'m> {
     verified: &'m Verified,
     state: State,
     finishes: FinishTree,
-    /// The first activities, as many as this, have ended.
-    over: usize,
 }
 
 impl<'m> Model for Core<'m> {
-    ghost use Rattle.xk_core.specs.Core.{CoreValue, IsCore, AreOver};
+    ghost use Rattle.xk_core.specs.Core.{CoreValue, IsCore};
     ghost use Rattle.xk_core.specs.Told.{told, AreTold};
 
     ghost Value = { CoreValue };
 
     ghost view = { λ c. record { module_run = c.verified.now; world = told c.finishes c.state } };
 
-    ghost invariant = { λ c. IsCore c.verified.now (told c.finishes c.state) × AreTold c.verified.now c.finishes c.state.activities × AreOver c.state.activities c.over };
+    ghost invariant = { λ c. IsCore c.verified.now (told c.finishes c.state) × AreTold c.verified.now c.finishes c.state.activities };
 }
 
 /// Whether what a step did was to end its activity.
@@ -60,7 +58,6 @@ impl<'m> Core<'m> {
             verified,
             state,
             finishes,
-            over: 0,
         })
     }
 
@@ -103,7 +100,7 @@ impl<'m> Core<'m> {
         ensures least { IfSome result (IsLeastEnabled self.now.module_run self.now.world) }
         ensures none { IfNone result (all_ended self.now.world ≡ true) }
     {
-        for a in self.over..self.state.activity_count() {
+        for a in 0..self.state.activity_count() {
             let act = Act(a as u32);
             if self.enabled(act) {
                 return Some(act);
@@ -207,19 +204,21 @@ impl<'m> Core<'m> {
         ensures refused { OnErr result (self.new ≡ self.old) }
         ensures only_where_it_grows { OnErr result (IsAboutToGrow self.old.module_run self.old.world act) }
     {
-        self.over = self.state.count_over(self.over);
-        self.take(act)
+        let program = self.verified.module();
+        let next = self.state.next_instruction(program, act.0 as usize);
+        self.take(act, next)
     }
 
-    /// Takes the step.
-    fn take(&mut self, act: Act) -> Result<Event, AllocError>
-        requires { IsTrue (is_enabled self.old.module_run self.old.world act) }
+    /// The activity carries out this instruction, which is its next one, or passes the `advance` that it waits at.
+    fn take(&mut self, act: Act, next: Option<&Instr>) -> Result<Event, AllocError>
+        requires enabled { IsTrue (is_enabled self.old.module_run self.old.world act) }
+        requires here { option_copied next ≡ next_instruction self.old.module_run self.old.world act }
         ensures stepped { IfOk result (λ e. step self.old.module_run self.old.world act ≡ Stepped self.new.world e) }
         ensures same_module { self.new.module_run ≡ self.old.module_run }
         ensures refused { OnErr result (self.new ≡ self.old) }
         ensures only_where_it_grows { OnErr result (IsAboutToGrow self.old.module_run self.old.world act) }
     {
-        match self.next_instruction(act.0 as usize) {
+        match next {
             None => Ok(self.pass(act)),
             Some(Instr::Finish(e)) => Ok(self.open_finish(act, *e)),
             Some(Instr::EndFinish(b)) => Ok(self.close_finish(act, *b)),

@@ -7,7 +7,7 @@ ghost use Rattle.xk_types.specs.Step.{Stepped, settled, settled_clock, moved, jo
 ghost use Rattle.xk_finishes.specs.Tree.{node_at, fresh_node, governing_of};
 ghost use Rattle.xk_types.specs.Schedule.{is_step, all_ended};
 ghost use Rattle.xk_core.specs.Able.{is_able};
-ghost use Rattle.xk_core.specs.Core.{is_over, AreOver, IsQuiet, next_instruction};
+ghost use Rattle.xk_core.specs.Core.{IsQuiet, next_instruction};
 ghost use Rattle.xk_core.specs.Opening.{opening_with};
 ghost use Rattle.xk_core.specs.Change.{standing_after_step};
 ghost use Rattle.xk_core.specs.Arm.{grows, concerns_finishes, concerns_cells, carried, passed_on, IsRoomy, IsRunningUnit};
@@ -441,28 +441,6 @@ impl State {
                 Status::Arrived => !self.waits(a),
                 Status::Ended => false,
             },
-        }
-    }
-
-    /// Whether activity a exists and is over.
-    pub fn is_over(&self, a: usize) -> bool
-        ensures { result ≡ is_over self.now.activities a }
-    {
-        match self.activities.get(a) {
-            None => false,
-            Some(act) => act.is_ended(),
-        }
-    }
-
-    /// One more of the first activities that are over, if the next one is.
-    pub fn count_over(&self, over: usize) -> usize
-        requires { AreOver self.now.activities over }
-        ensures { AreOver self.now.activities result }
-    {
-        if over < self.activity_count() && self.is_over(over) {
-            over + 1
-        } else {
-            over
         }
     }
 }

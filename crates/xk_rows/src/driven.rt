@@ -2,10 +2,7 @@
 
 ghost use Rattle.std.specs.Prelude.{◌≡◌, ◌-◌};
 
-use crate::order::{Order, schedule_in};
-use crate::programs::{
-    IN_STEP, SHARED_SUM, accepted, with_finishes, with_shared_numbers, without_finishes,
-};
+use crate::programs::{IN_STEP, SHARED_SUM, accepted};
 use crate::rows::{numbers, ran};
 use std::alloc::Global;
 use std::process::Abort;
@@ -145,39 +142,4 @@ fn a_shared_sum_is_driven(rt: HostRuntime) -> Result<(), Fail> {
     drives(&rt, alloc, SHARED_SUM, Last, &last, &[6])?;
     let round = [0, 0, 0, 1, 0, 1, 0, 2, 0, 2, 0, 3, 0, 3, 0, 0, 0, 0];
     drives(&rt, alloc, SHARED_SUM, Round::new(), &round, &[6])
-}
-
-/// Driven by the chooser, the module goes as the second telling goes in this order.
-fn agrees<C: Chooser + Copy>(
-    alloc: Global,
-    verified: &Verified,
-    chooser: C,
-    order: Order,
-) -> Result<(), Fail> {
-    let schedule = schedule_in(alloc, verified.module(), order)?;
-    if followed(alloc, verified, chooser)?.as_slice() != schedule.as_slice() {
-        return Err("a chooser chooses otherwise".into());
-    }
-    Ok(())
-}
-
-fn each_agrees(alloc: Global, text: &str) -> Result<(), Fail> {
-    let verified = accepted(alloc, text)?;
-    agrees(alloc, &verified, First, Order::First)?;
-    agrees(alloc, &verified, Last, Order::Last)?;
-    agrees(alloc, &verified, Round::new(), Order::Round(0))
-}
-
-#[test]
-fn choosers_agree(rt: HostRuntime) -> Result<(), Fail> {
-    for (_, text) in without_finishes() {
-        each_agrees(rt.alloc(), text)?;
-    }
-    for (_, text) in with_finishes() {
-        each_agrees(rt.alloc(), text)?;
-    }
-    for (_, text) in with_shared_numbers() {
-        each_agrees(rt.alloc(), text)?;
-    }
-    Ok(())
 }

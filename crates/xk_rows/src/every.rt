@@ -1,23 +1,28 @@
 //! All schedules of small modules, one after the other.
 
-use crate::order::{Order, first_above, schedule_in};
-use crate::plain::Plain;
 use crate::programs::{
-    CHILDS_FINISH, CLOCK_HANDED_DEEPER, CLOCK_HANDED_IN, CLOCK_HELD, CLOCK_INSIDE, EARLY_END,
-    FINISHED, FINISHES_NESTED, IN_STEP, KEPT_UPDATES, LEFT_ALONE, LOST_UPDATE, OUTER_CLOCK,
-    PAIR_INSIDE, SHARED_SUM, STARTED_OUTSIDE, accepted,
+    CHILDS_FINISH, CLOCK_INSIDE, EARLY_END, FINISHED, FINISHES_NESTED, IN_STEP, KEPT_UPDATES,
+    LEFT_ALONE, LOST_UPDATE, OUTER_CLOCK, PAIR_INSIDE, SHARED_SUM, STARTED_OUTSIDE, accepted,
 };
 use crate::rows::{numbers, ran};
 use std::alloc::Global;
-use std::process::Abort;
 use std::test::Fail;
-use xk_bounds::{Refusal, Verified, verify};
+use xk_bounds::Verified;
 use xk_core::{Core, Ran, run_schedule};
-use xk_module::read_module;
-use xk_types::{Act, Rule};
+use xk_types::Act;
 
 /// More schedules than any of the modules has.
 const MOST: usize = 10_000;
+
+/// The least of these numbers, which rise, that is greater than this one.
+fn first_above(able: &[u32], before: u32) -> Option<u32> {
+    for a in able {
+        if *a > before {
+            return Some(*a);
+        }
+    }
+    None
+}
 
 /// A schedule of a module to its end: for each step its activity, and those that were enabled.
 #[derive(Drop)]
@@ -225,49 +230,4 @@ fn some_schedules_lose_an_update(rt: HostRuntime) -> Result<(), Fail> {
     let found = times(alloc, LOST_UPDATE, &[2])?;
     assert_eq!(rt; found, 31 + 6);
     Ok(())
-}
-
-/// In this order the module comes to where nobody can step, and not all are over.
-fn is_stuck(alloc: Global, text: &str, order: Order) -> Result<bool, Fail> {
-    let Ok(program) = read_module(alloc, text.as_bytes()) else {
-        return Err("a text is no module".into());
-    };
-    let schedule = schedule_in(alloc, &program, order)?;
-    let mut plain = Plain::opening(alloc, &program)?;
-    for a in &schedule {
-        plain.step(alloc, *a)?;
-    }
-    Ok(!plain.is_over())
-}
-
-/// The rule that the module breaks, if it breaks one.
-fn broken(alloc: Global, text: &str) -> Result<Option<Rule>, Fail> {
-    let Ok(program) = read_module(alloc, text.as_bytes()) else {
-        return Err("a text is no module".into());
-    };
-    match verify(alloc, program) {
-        Ok(_) => Ok(None),
-        Err((_, refusal)) => match refusal {
-            Refusal::Shape(fault) => Ok(Some(fault.rule)),
-            Refusal::Kind(fault) => Ok(Some(fault.rule)),
-            Refusal::Bound(fault) => Ok(Some(fault.rule)),
-            Refusal::OutOfMemory => Err("memory is refused".into()),
-        },
-    }
-}
-
-fn refused_as_stuck(rt: &impl Abort, alloc: Global, text: &str, rule: Rule) -> Result<(), Fail> {
-    assert!(rt; broken(alloc, text)? == Some(rule));
-    for order in [Order::First, Order::Last, Order::Round(0)] {
-        assert!(rt; is_stuck(alloc, text, order)?);
-    }
-    Ok(())
-}
-
-/// Modules that the rules on clocks and finishes refuse, and that would wait for ever.
-#[test]
-fn what_is_refused_would_wait(rt: HostRuntime) -> Result<(), Fail> {
-    refused_as_stuck(&rt, rt.alloc(), CLOCK_HANDED_IN, Rule::Registers)?;
-    refused_as_stuck(&rt, rt.alloc(), CLOCK_HELD, Rule::Held)?;
-    refused_as_stuck(&rt, rt.alloc(), CLOCK_HANDED_DEEPER, Rule::Registers)
 }

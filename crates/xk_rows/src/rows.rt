@@ -1,6 +1,5 @@
 //! Schedules whose runs are known from outside.
 
-use crate::order::{Order, schedule_in};
 use crate::programs::{
     CLOCK_INSIDE, FINISHED, HANDED_ROUND, IN_STEP, LEFT_ALONE, LOST_UPDATE, METHOD_WAITS,
     NESTED_CALLS, RING, SHARED_SUM, STARTS_AHEAD, STARTS_SIGNALLED, TWO_PHASES, accepted,
@@ -50,19 +49,16 @@ fn passes(alloc: Global, core: &Core) -> Result<Vec<u64>, Fail> {
     Ok(list)
 }
 
-/// This is the schedule of the module in that order, and it ends so.
+/// The module goes through this schedule, and ends so.
 fn ends(
     rt: &impl Abort,
     alloc: Global,
     text: &str,
-    order: Order,
     schedule: &[u32],
     clocks: &[(u64, u64)],
     since: &[u64],
 ) -> Result<(), Fail> {
     let verified = accepted(alloc, text)?;
-    let found = schedule_in(alloc, verified.module(), order)?;
-    assert_eq!(rt; found.as_slice(), schedule);
     let ran = ran(alloc, &verified, schedule)?;
     assert!(rt; ran.core.ended() && ran.core.pick().is_none());
     assert_eq!(rt; ran.core.steps_done(), verified.steps());
@@ -90,15 +86,7 @@ fn two_in_step(rt: HostRuntime) -> Result<(), Fail> {
         Event::Ended,
     ];
     assert_eq!(rt; ran.seen.as_slice(), wanted.as_slice());
-    ends(
-        &rt,
-        alloc,
-        IN_STEP,
-        Order::First,
-        &schedule,
-        &[(1, 4)],
-        &[5, 9],
-    )
+    ends(&rt, alloc, IN_STEP, &schedule, &[(1, 4)], &[5, 9])
 }
 
 #[test]
@@ -126,15 +114,7 @@ fn two_in_step_are_halted(rt: HostRuntime) -> Result<(), Fail> {
 #[test]
 fn a_child_starts_ahead(rt: HostRuntime) -> Result<(), Fail> {
     let schedule = [0, 0, 0, 0, 0, 0, 1, 1, 1];
-    ends(
-        &rt,
-        rt.alloc(),
-        STARTS_AHEAD,
-        Order::First,
-        &schedule,
-        &[(1, 2)],
-        &[5, 8],
-    )
+    ends(&rt, rt.alloc(), STARTS_AHEAD, &schedule, &[(1, 2)], &[5, 8])
 }
 
 #[test]
@@ -144,7 +124,6 @@ fn a_child_starts_signalled(rt: HostRuntime) -> Result<(), Fail> {
         &rt,
         rt.alloc(),
         STARTS_SIGNALLED,
-        Order::First,
         &schedule,
         &[(1, 6)],
         &[7, 9, 12],
@@ -154,26 +133,10 @@ fn a_child_starts_signalled(rt: HostRuntime) -> Result<(), Fail> {
 #[test]
 fn a_child_is_left_alone(rt: HostRuntime) -> Result<(), Fail> {
     let first = [0, 0, 0, 0, 1, 1, 1, 1, 1];
-    ends(
-        &rt,
-        rt.alloc(),
-        LEFT_ALONE,
-        Order::First,
-        &first,
-        &[(1, 5)],
-        &[0, 6],
-    )?;
+    ends(&rt, rt.alloc(), LEFT_ALONE, &first, &[(1, 5)], &[0, 6])?;
     // The drop lets the clock advance.
     let last = [0, 0, 1, 0, 1, 1, 1, 1, 0];
-    ends(
-        &rt,
-        rt.alloc(),
-        LEFT_ALONE,
-        Order::Last,
-        &last,
-        &[(1, 4)],
-        &[0, 5],
-    )
+    ends(&rt, rt.alloc(), LEFT_ALONE, &last, &[(1, 4)], &[0, 5])
 }
 
 #[test]
@@ -200,15 +163,7 @@ fn a_ring_of_three(rt: HostRuntime) -> Result<(), Fail> {
         0, 0, 0, 0, 0, 0, 0, 1, 2, 3, 1, 1, 2, 2, 3, 3, 1, 1, 2, 2, 3, 3,
     ];
     let clocks = [(2, 16), (2, 14), (2, 16)];
-    ends(
-        &rt,
-        rt.alloc(),
-        RING,
-        Order::First,
-        &schedule,
-        &clocks,
-        &[0, 17, 19, 21],
-    )
+    ends(&rt, rt.alloc(), RING, &schedule, &clocks, &[0, 17, 19, 21])
 }
 
 /// The clock that the method is lent advances as it arrives, the other one at each resume of main.
@@ -228,15 +183,7 @@ fn a_method_waits(rt: HostRuntime) -> Result<(), Fail> {
         Event::Ended,
     ];
     assert_eq!(rt; ran.seen.as_slice(), wanted.as_slice());
-    ends(
-        &rt,
-        alloc,
-        METHOD_WAITS,
-        Order::First,
-        &schedule,
-        &[(1, 5), (2, 8)],
-        &[6],
-    )
+    ends(&rt, alloc, METHOD_WAITS, &schedule, &[(1, 5), (2, 8)], &[6])
 }
 
 /// The numbers that are printed by what is seen.
@@ -295,40 +242,16 @@ fn a_finish_waits(rt: HostRuntime) -> Result<(), Fail> {
         Event::Ended,
     ];
     assert_eq!(rt; ran.seen.as_slice(), wanted.as_slice());
-    ends(
-        &rt,
-        alloc,
-        FINISHED,
-        Order::First,
-        &schedule,
-        &[],
-        &[0, 0, 0],
-    )
+    ends(&rt, alloc, FINISHED, &schedule, &[], &[0, 0, 0])
 }
 
 /// The clock of a finish advances once main has dropped it and the child has arrived, in either order.
 #[test]
 fn a_clock_is_dropped_in_its_finish(rt: HostRuntime) -> Result<(), Fail> {
     let first = [0, 0, 0, 0, 1, 1, 1, 0, 0];
-    ends(
-        &rt,
-        rt.alloc(),
-        CLOCK_INSIDE,
-        Order::First,
-        &first,
-        &[(1, 5)],
-        &[0, 6],
-    )?;
+    ends(&rt, rt.alloc(), CLOCK_INSIDE, &first, &[(1, 5)], &[0, 6])?;
     let last = [0, 0, 0, 1, 0, 1, 1, 0, 0];
-    ends(
-        &rt,
-        rt.alloc(),
-        CLOCK_INSIDE,
-        Order::Last,
-        &last,
-        &[(1, 5)],
-        &[0, 6],
-    )
+    ends(&rt, rt.alloc(), CLOCK_INSIDE, &last, &[(1, 5)], &[0, 6])
 }
 
 /// Three activities add to a shared number, in three orders of steps.
@@ -339,9 +262,9 @@ fn a_sum_is_shared(rt: HostRuntime) -> Result<(), Fail> {
     let last = [0, 0, 0, 1, 1, 0, 0, 2, 2, 0, 0, 3, 3, 0, 0, 0, 0, 0];
     let round = [0, 0, 0, 1, 0, 1, 0, 2, 0, 2, 0, 3, 0, 3, 0, 0, 0, 0];
     let since = [0, 0, 0, 0];
-    ends(&rt, alloc, SHARED_SUM, Order::First, &first, &[], &since)?;
-    ends(&rt, alloc, SHARED_SUM, Order::Last, &last, &[], &since)?;
-    ends(&rt, alloc, SHARED_SUM, Order::Round(0), &round, &[], &since)?;
+    ends(&rt, alloc, SHARED_SUM, &first, &[], &since)?;
+    ends(&rt, alloc, SHARED_SUM, &last, &[], &since)?;
+    ends(&rt, alloc, SHARED_SUM, &round, &[], &since)?;
     for schedule in [first, last, round] {
         let numbers = printed(alloc, SHARED_SUM, &schedule)?;
         assert_eq!(rt; numbers.as_slice(), [6].as_slice());

@@ -10,7 +10,8 @@ use Rattle.xk_core.specs.Core.{CoreValue}
 use Rattle.xk_core.specs.Choosing.{enabled_in, Follows, goes_on, state_after}
 use Rattle.xk_core.specs.Driving.{IsTurn}
 use Rattle.xk_serve.specs.OrderedRun.{IsRunThat}
-use Rattle.xk_core.proofs.Following.{Names, follows_more, printed_more, run_on_more, state_more}
+use Rattle.xk_laws.proofs.Reached.{run_more}
+use Rattle.xk_core.proofs.Following.{Names, follows_more, printed_more, state_more}
 
 -- A list that follows a chooser, which began in state b, leads here, and printed these numbers; the chooser is in state s.
 pub record IsFront {S : Type 0} (answer : S → List ℕ → ℕ) (after : S → List ℕ → S) (m : ModuleValue) (b : S) (w : World) (s : S) (numbers : List ℤ) : Type 0 where
@@ -34,7 +35,7 @@ front_on answer after b c d s t a e numbers f turn =
       list = f.list ++ a ∷ [];
       follows = follows_more answer after m f.list b (opening m) c.world d.world a e f.leads f.follows
           (subst (λ z. Names answer m z c.world a) f.state_is turn.chosen) turn.stepped;
-      leads = run_on_more m f.list (opening m) c.world d.world a e f.leads turn.stepped;
+      leads = run_more m f.list (opening m) c.world d.world a e f.leads turn.stepped;
       state_is = turn.goes_on ∙ ap (λ z. after z (enabled_in m c.world)) f.state_is ∙ sym (state_more after m f.list b (opening m) c.world d.world a e f.leads turn.stepped);
       numbers_are = ap (λ ns. ns ++ option_to_list (number_printed e)) f.numbers_are ∙ sym (printed_more m f.list (opening m) c.world d.world a e f.leads turn.stepped);
     }

@@ -24,8 +24,8 @@ choose-answer-requires-clause-numbers g c =
 pub step-requires : goal.step-requires
 step-requires g c = subst (λ (v : CoreValue). IsTrue (is_enabled v.module_run v.world c.index.result.now)) c.self.view_is
     (listed_enabled c.self.inside.core.module_run c.self.inside.core.world _ c.index.result.now
-    (chosen_at g.C.Chooser.answer c.self.inside.core.module_run c.self.inside.core.world c.args.chooser.now c.self.inside.enabled.items c.deref.result.now c.len.result c.choose-answer.result c.index.result.now
-    c.self.invariant.list_is c.deref.ensures.value (c.len.ensures ∙ c.self.inside.enabled.ok.0) (ap (λ n. n == 0) c.len.ensures ∙ sym c.is_empty.ensures ∙ c.if-is_empty.false) c.choose-answer.ensures.answers c.index.ensures))
+    (chosen_at g.C.Chooser.answer c.self.inside.core.module_run c.self.inside.core.world c.args.chooser.now c.self.inside.enabled.items c.deref.result.now c.len.result c.choose-answer.result c.place_in.result c.index.result.now
+    c.self.invariant.list_is c.deref.ensures.value (c.len.ensures ∙ c.self.inside.enabled.ok.0) (ap (λ n. n == 0) c.len.ensures ∙ sym c.is_empty.ensures ∙ c.if-is_empty.false) c.choose-answer.ensures.answers c.place_in.ensures.place c.index.ensures))
 
 pub returns-in_err-event-clause-refused : goal.returns-in_err-event-clause-refused
 returns-in_err-event-clause-refused g c = on_err c.from_residual.result _ (record {
@@ -41,8 +41,8 @@ returns-in_err-event-clause-asked g c = on_err c.from_residual.result _ (c.choos
 pub returns-clause-taken : goal.returns-clause-taken
 returns-clause-taken g c = record {
   chosen = subst (λ (v : CoreValue). slice_get (enabled_in v.module_run v.world) (g.C.Chooser.answer c.args.chooser.now (enabled_in v.module_run v.world) % length (enabled_in v.module_run v.world)) ≡ Some c.index.result.now) c.self.view_is
-      (chosen_at g.C.Chooser.answer c.self.inside.core.module_run c.self.inside.core.world c.args.chooser.now c.self.inside.enabled.items c.deref.result.now c.len.result c.choose-answer.result c.index.result.now
-      c.self.invariant.list_is c.deref.ensures.value (c.len.ensures ∙ c.self.inside.enabled.ok.0) (ap (λ n. n == 0) c.len.ensures ∙ sym c.is_empty.ensures ∙ c.if-is_empty.false) c.choose-answer.ensures.answers c.index.ensures);
+      (chosen_at g.C.Chooser.answer c.self.inside.core.module_run c.self.inside.core.world c.args.chooser.now c.self.inside.enabled.items c.deref.result.now c.len.result c.choose-answer.result c.place_in.result c.index.result.now
+      c.self.invariant.list_is c.deref.ensures.value (c.len.ensures ∙ c.self.inside.enabled.ok.0) (ap (λ n. n == 0) c.len.ensures ∙ sym c.is_empty.ensures ∙ c.if-is_empty.false) c.choose-answer.ensures.answers c.place_in.ensures.place c.index.ensures);
   stepped = c.in_ok-event.ensures.stepped;
   same_module = c.step.ensures.same_module;
   goes_on = c.choose-answer.ensures.goes_on ∙ ap (g.C.Chooser.after c.args.chooser.now) (c.deref.ensures.value ∙ c.self.invariant.list_is ∙ ap (λ (v : CoreValue). enabled_in v.module_run v.world) c.self.view_is);

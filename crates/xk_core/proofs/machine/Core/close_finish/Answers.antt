@@ -11,32 +11,32 @@ use Rattle.xk_types.specs.declared.names.Event.TheVariants as event
 use Rattle.xk_core.proofs.machine.Core.close_finish.Goals as goal
 
 pub leave-requires-clause-exists : goal.leave-requires-clause-exists
-leave-requires-clause-exists c = (exists c.self.inside.verified.now c.self.inside.finishes c.self.inside.state c.self.inside.over c.args.act (held c.self.inside.verified.now c.self.inside.finishes c.self.inside.state c.self.inside.over c.self.invariant) (instruction.EndFinish c.args.b) (runs c.self.inside.verified.now c.self.inside.finishes c.self.inside.state c.self.inside.over c.args.act (held c.self.inside.verified.now c.self.inside.finishes c.self.inside.state c.self.inside.over c.self.invariant) (instruction.EndFinish c.args.b) (subst (λ (v : CoreValue). next_instruction v.module_run v.world c.args.act ≡ Some (instruction.EndFinish c.args.b)) (sym c.self.view_is) c.requires.here))).0
+leave-requires-clause-exists c = (exists c.self.inside.verified.now c.self.inside.finishes c.self.inside.state c.args.act (held c.self.inside.verified.now c.self.inside.finishes c.self.inside.state c.self.invariant) (instruction.EndFinish c.args.b) (runs c.self.inside.verified.now c.self.inside.finishes c.self.inside.state c.args.act (held c.self.inside.verified.now c.self.inside.finishes c.self.inside.state c.self.invariant) (instruction.EndFinish c.args.b) (subst (λ (v : CoreValue). next_instruction v.module_run v.world c.args.act ≡ Some (instruction.EndFinish c.args.b)) (sym c.self.view_is) c.requires.here))).0
 
 pub leave-requires-clause-opened : goal.leave-requires-clause-opened
-leave-requires-clause-opened c = close_open c.self.inside.verified.now c.self.inside.finishes c.self.inside.state c.self.inside.over c.args.act (held c.self.inside.verified.now c.self.inside.finishes c.self.inside.state c.self.inside.over c.self.invariant) c.args.b (runs c.self.inside.verified.now c.self.inside.finishes c.self.inside.state c.self.inside.over c.args.act (held c.self.inside.verified.now c.self.inside.finishes c.self.inside.state c.self.inside.over c.self.invariant) (instruction.EndFinish c.args.b) (subst (λ (v : CoreValue). next_instruction v.module_run v.world c.args.act ≡ Some (instruction.EndFinish c.args.b)) (sym c.self.view_is) c.requires.here))
+leave-requires-clause-opened c = close_open c.self.inside.verified.now c.self.inside.finishes c.self.inside.state c.args.act (held c.self.inside.verified.now c.self.inside.finishes c.self.inside.state c.self.invariant) c.args.b (runs c.self.inside.verified.now c.self.inside.finishes c.self.inside.state c.args.act (held c.self.inside.verified.now c.self.inside.finishes c.self.inside.state c.self.invariant) (instruction.EndFinish c.args.b) (subst (λ (v : CoreValue). next_instruction v.module_run v.world c.args.act ≡ Some (instruction.EndFinish c.args.b)) (sym c.self.view_is) c.requires.here))
 
 pub leave-requires-clause-empty : goal.leave-requires-clause-empty
-leave-requires-clause-empty c = close_empty c.self.inside.verified.now c.self.inside.finishes c.self.inside.state c.self.inside.over c.args.act (held c.self.inside.verified.now c.self.inside.finishes c.self.inside.state c.self.inside.over c.self.invariant) c.args.b (subst (λ (v : CoreValue). next_instruction v.module_run v.world c.args.act ≡ Some (instruction.EndFinish c.args.b)) (sym c.self.view_is) c.requires.here) (subst (λ (v : CoreValue). is_enabled v.module_run v.world c.args.act ≡ true) (sym c.self.view_is) c.requires.enabled)
+leave-requires-clause-empty c = close_empty c.self.inside.verified.now c.self.inside.finishes c.self.inside.state c.args.act (held c.self.inside.verified.now c.self.inside.finishes c.self.inside.state c.self.invariant) c.args.b (subst (λ (v : CoreValue). next_instruction v.module_run v.world c.args.act ≡ Some (instruction.EndFinish c.args.b)) (sym c.self.view_is) c.requires.here) (subst (λ (v : CoreValue). is_enabled v.module_run v.world c.args.act ≡ true) (sym c.self.view_is) c.requires.enabled)
 
 pub go_on-requires-clause-there : goal.go_on-requires-clause-there
-go_on-requires-clause-there c = rw c.act.view_is (exists c.self.inside.verified.now c.self.inside.finishes c.self.inside.state c.self.inside.over c.args.act (held c.self.inside.verified.now c.self.inside.finishes c.self.inside.state c.self.inside.over c.self.invariant) (instruction.EndFinish c.args.b) (runs c.self.inside.verified.now c.self.inside.finishes c.self.inside.state c.self.inside.over c.args.act (held c.self.inside.verified.now c.self.inside.finishes c.self.inside.state c.self.inside.over c.self.invariant) (instruction.EndFinish c.args.b) (subst (λ (v : CoreValue). next_instruction v.module_run v.world c.args.act ≡ Some (instruction.EndFinish c.args.b)) (sym c.self.view_is) c.requires.here))).1
+go_on-requires-clause-there c = rw c.act.view_is (exists c.self.inside.verified.now c.self.inside.finishes c.self.inside.state c.args.act (held c.self.inside.verified.now c.self.inside.finishes c.self.inside.state c.self.invariant) (instruction.EndFinish c.args.b) (runs c.self.inside.verified.now c.self.inside.finishes c.self.inside.state c.args.act (held c.self.inside.verified.now c.self.inside.finishes c.self.inside.state c.self.invariant) (instruction.EndFinish c.args.b) (subst (λ (v : CoreValue). next_instruction v.module_run v.world c.args.act ≡ Some (instruction.EndFinish c.args.b)) (sym c.self.view_is) c.requires.here))).1
 
 pub go_on-requires-clause-room : goal.go_on-requires-clause-room
-go_on-requires-clause-room c = rw c.act.view_is (parts_roomy c.self.inside.verified.now c.self.inside.finishes c.self.inside.state c.self.inside.over c.args.act (held c.self.inside.verified.now c.self.inside.finishes c.self.inside.state c.self.inside.over c.self.invariant))
+go_on-requires-clause-room c = rw c.act.view_is (parts_roomy c.self.inside.verified.now c.self.inside.finishes c.self.inside.state c.args.act (held c.self.inside.verified.now c.self.inside.finishes c.self.inside.state c.self.invariant))
 
 pub invariant_of-self : goal.invariant_of-self
 invariant_of-self c =
-    let r = (runs c.self.inside.verified.now c.self.inside.finishes c.self.inside.state c.self.inside.over c.args.act (held c.self.inside.verified.now c.self.inside.finishes c.self.inside.state c.self.inside.over c.self.invariant) (instruction.EndFinish c.args.b) (subst (λ (v : CoreValue). next_instruction v.module_run v.world c.args.act ≡ Some (instruction.EndFinish c.args.b)) (sym c.self.view_is) c.requires.here)) in
+    let r = (runs c.self.inside.verified.now c.self.inside.finishes c.self.inside.state c.args.act (held c.self.inside.verified.now c.self.inside.finishes c.self.inside.state c.self.invariant) (instruction.EndFinish c.args.b) (subst (λ (v : CoreValue). next_instruction v.module_run v.world c.args.act ≡ Some (instruction.EndFinish c.args.b)) (sym c.self.view_is) c.requires.here)) in
     let is : c.go_on.new.self ≡ settled (record c.self.inside.state { activities = slice_set c.self.inside.state.activities c.args.act (onward r.x); clocks = moved c.args.act none c.self.inside.state.clocks }) =
     subst (λ n. (act : Activity) → slice_get c.self.inside.state.activities n ≡ Some act → c.go_on.new.self ≡ settled (record c.self.inside.state { activities = slice_set c.self.inside.state.activities n (onward act); clocks = moved n none c.self.inside.state.clocks })) c.act.view_is c.go_on.ensures r.x r.found in
-    rw c.leave.ensures.closed (parts c.self.inside.verified.now (changed_at c.self.inside.finishes c.args.act node_left) c.go_on.new.self c.self.inside.over (held_on c.self.inside.verified.now c.self.inside.finishes (changed_at c.self.inside.finishes c.args.act node_left) c.self.inside.state c.go_on.new.self c.self.inside.over c.args.act event.Closed (held c.self.inside.verified.now c.self.inside.finishes c.self.inside.state c.self.inside.over c.self.invariant)
-    (close_are c.self.inside.verified.now c.self.inside.finishes c.self.inside.state c.self.inside.over c.args.act (held c.self.inside.verified.now c.self.inside.finishes c.self.inside.state c.self.inside.over c.self.invariant) c.args.b r c.go_on.new.self is)
-    (close_stepped c.self.inside.verified.now c.self.inside.finishes c.self.inside.state c.self.inside.over c.args.act (held c.self.inside.verified.now c.self.inside.finishes c.self.inside.state c.self.inside.over c.self.invariant) c.args.b (subst (λ (v : CoreValue). next_instruction v.module_run v.world c.args.act ≡ Some (instruction.EndFinish c.args.b)) (sym c.self.view_is) c.requires.here) (subst (λ (v : CoreValue). is_enabled v.module_run v.world c.args.act ≡ true) (sym c.self.view_is) c.requires.enabled) r c.go_on.new.self is)))
+    rw c.leave.ensures.closed (parts c.self.inside.verified.now (changed_at c.self.inside.finishes c.args.act node_left) c.go_on.new.self (held_on c.self.inside.verified.now c.self.inside.finishes (changed_at c.self.inside.finishes c.args.act node_left) c.self.inside.state c.go_on.new.self c.args.act event.Closed (held c.self.inside.verified.now c.self.inside.finishes c.self.inside.state c.self.invariant)
+    (close_are c.self.inside.verified.now c.self.inside.finishes c.self.inside.state c.args.act (held c.self.inside.verified.now c.self.inside.finishes c.self.inside.state c.self.invariant) c.args.b r c.go_on.new.self is)
+    (close_stepped c.self.inside.verified.now c.self.inside.finishes c.self.inside.state c.args.act (held c.self.inside.verified.now c.self.inside.finishes c.self.inside.state c.self.invariant) c.args.b (subst (λ (v : CoreValue). next_instruction v.module_run v.world c.args.act ≡ Some (instruction.EndFinish c.args.b)) (sym c.self.view_is) c.requires.here) (subst (λ (v : CoreValue). is_enabled v.module_run v.world c.args.act ≡ true) (sym c.self.view_is) c.requires.enabled) r c.go_on.new.self is)))
 
 pub returns-clause-stepped : goal.returns-clause-stepped
 returns-clause-stepped c =
-    let r = (runs c.self.inside.verified.now c.self.inside.finishes c.self.inside.state c.self.inside.over c.args.act (held c.self.inside.verified.now c.self.inside.finishes c.self.inside.state c.self.inside.over c.self.invariant) (instruction.EndFinish c.args.b) (subst (λ (v : CoreValue). next_instruction v.module_run v.world c.args.act ≡ Some (instruction.EndFinish c.args.b)) (sym c.self.view_is) c.requires.here)) in
+    let r = (runs c.self.inside.verified.now c.self.inside.finishes c.self.inside.state c.args.act (held c.self.inside.verified.now c.self.inside.finishes c.self.inside.state c.self.invariant) (instruction.EndFinish c.args.b) (subst (λ (v : CoreValue). next_instruction v.module_run v.world c.args.act ≡ Some (instruction.EndFinish c.args.b)) (sym c.self.view_is) c.requires.here)) in
     let is : c.go_on.new.self ≡ settled (record c.self.inside.state { activities = slice_set c.self.inside.state.activities c.args.act (onward r.x); clocks = moved c.args.act none c.self.inside.state.clocks }) =
     subst (λ n. (act : Activity) → slice_get c.self.inside.state.activities n ≡ Some act → c.go_on.new.self ≡ settled (record c.self.inside.state { activities = slice_set c.self.inside.state.activities n (onward act); clocks = moved n none c.self.inside.state.clocks })) c.act.view_is c.go_on.ensures r.x r.found in
-    rw c.leave.ensures.closed (subst (λ (v : CoreValue). step v.module_run v.world c.args.act ≡ Stepped (told (changed_at c.self.inside.finishes c.args.act node_left) c.go_on.new.self) event.Closed) c.self.view_is (close_stepped c.self.inside.verified.now c.self.inside.finishes c.self.inside.state c.self.inside.over c.args.act (held c.self.inside.verified.now c.self.inside.finishes c.self.inside.state c.self.inside.over c.self.invariant) c.args.b (subst (λ (v : CoreValue). next_instruction v.module_run v.world c.args.act ≡ Some (instruction.EndFinish c.args.b)) (sym c.self.view_is) c.requires.here) (subst (λ (v : CoreValue). is_enabled v.module_run v.world c.args.act ≡ true) (sym c.self.view_is) c.requires.enabled) r c.go_on.new.self is))
+    rw c.leave.ensures.closed (subst (λ (v : CoreValue). step v.module_run v.world c.args.act ≡ Stepped (told (changed_at c.self.inside.finishes c.args.act node_left) c.go_on.new.self) event.Closed) c.self.view_is (close_stepped c.self.inside.verified.now c.self.inside.finishes c.self.inside.state c.args.act (held c.self.inside.verified.now c.self.inside.finishes c.self.inside.state c.self.invariant) c.args.b (subst (λ (v : CoreValue). next_instruction v.module_run v.world c.args.act ≡ Some (instruction.EndFinish c.args.b)) (sym c.self.view_is) c.requires.here) (subst (λ (v : CoreValue). is_enabled v.module_run v.world c.args.act ≡ true) (sym c.self.view_is) c.requires.enabled) r c.go_on.new.self is))

@@ -10,10 +10,10 @@ pub returns-then-is_able : goal.returns-then-is_able
 returns-then-is_able c =
     let able : is_able c.self.inside.state c.args.act ≡ true = sym (c.is_able.ensures ∙ ap (λ n. is_able c.self.inside.state n) c.act.view_is) ∙ c.if-is_able.true in
     subst (λ (v : CoreValue). not c.is_kept.result ≡ is_enabled v.module_run v.world c.args.act) c.self.view_is
-    (ap not (c.is_kept.ensures ∙ ap (λ (v : CoreValue). is_kept v.module_run v.world c.args.act) (sym c.self.view_is)) ∙ ap (λ b. b && not (is_kept c.self.inside.verified.now (told c.self.inside.finishes c.self.inside.state) c.args.act)) (sym able) ∙ parts_able c.self.inside.verified.now c.self.inside.finishes c.self.inside.state c.self.inside.over c.args.act (held c.self.inside.verified.now c.self.inside.finishes c.self.inside.state c.self.inside.over c.self.invariant))
+    (ap not (c.is_kept.ensures ∙ ap (λ (v : CoreValue). is_kept v.module_run v.world c.args.act) (sym c.self.view_is)) ∙ ap (λ b. b && not (is_kept c.self.inside.verified.now (told c.self.inside.finishes c.self.inside.state) c.args.act)) (sym able) ∙ parts_able c.self.inside.verified.now c.self.inside.finishes c.self.inside.state c.args.act (held c.self.inside.verified.now c.self.inside.finishes c.self.inside.state c.self.invariant))
 
 pub returns-else-is_able : goal.returns-else-is_able
 returns-else-is_able c =
     let able : is_able c.self.inside.state c.args.act ≡ false = sym (c.is_able.ensures ∙ ap (λ n. is_able c.self.inside.state n) c.act.view_is) ∙ c.if-is_able.false in
     subst (λ (v : CoreValue). c.is_able.result ≡ is_enabled v.module_run v.world c.args.act) c.self.view_is
-    (c.if-is_able.false ∙ ap (λ b. b && not (is_kept c.self.inside.verified.now (told c.self.inside.finishes c.self.inside.state) c.args.act)) (sym able) ∙ parts_able c.self.inside.verified.now c.self.inside.finishes c.self.inside.state c.self.inside.over c.args.act (held c.self.inside.verified.now c.self.inside.finishes c.self.inside.state c.self.inside.over c.self.invariant))
+    (c.if-is_able.false ∙ ap (λ b. b && not (is_kept c.self.inside.verified.now (told c.self.inside.finishes c.self.inside.state) c.args.act)) (sym able) ∙ parts_able c.self.inside.verified.now c.self.inside.finishes c.self.inside.state c.args.act (held c.self.inside.verified.now c.self.inside.finishes c.self.inside.state c.self.invariant))

@@ -3,12 +3,8 @@ use Rattle.xk_types.specs.Schedule.{is_enabled, all_ended}
 use Rattle.xk_core.specs.Core.{CoreValue}
 use Rattle.xk_core.specs.Told.{told}
 use Rattle.xk_core.proofs.Cores.{core_names, core_ends}
-use Rattle.xk_core.proofs.Finishing.{held, parts_over}
 use Rattle.xk_core.proofs.Told.{length_told}
 use Rattle.xk_core.proofs.machine.Core.pick.Goals as goal
-
-pub loop-a-init : goal.loop-a-init
-loop-a-init c b lt = subst (λ (v : CoreValue). is_enabled v.module_run v.world b ≡ false) c.self.view_is (parts_over c.self.inside.verified.now c.self.inside.finishes c.self.inside.state c.self.inside.over b (held c.self.inside.verified.now c.self.inside.finishes c.self.inside.state c.self.inside.over c.self.invariant) lt)
 
 pub overflow_cast-act : goal.overflow_cast-act
 overflow_cast-act c = omega (arith, core_names c.self.inside.verified.now (told c.self.inside.finishes c.self.inside.state) c.self.invariant.0, c.activity_count-a-end.ensures, length_told c.self.inside.finishes c.self.inside.state.activities c.self.invariant.1.width, c.loop-a-test.true)

@@ -1,11 +1,18 @@
-use Rattle.std.proofs.Common.{◌≡◌, ◌+◌, OnOk, subst}
-use Rattle.xk_core.specs.Core.{CoreValue}
-use Rattle.xk_core.specs.Told.{told}
-use Rattle.xk_core.proofs.Finishing.{taken_counts, taken_bound}
+use Rattle.std.proofs.Common.{◌≡◌, ◌∙◌, option_copied, sym, subst}
+use Rattle.xk_core.specs.Core.{CoreValue, IsCore, next_instruction}
+use Rattle.xk_core.proofs.Finishing.{next_told, taken_counts, taken_bound}
 use Rattle.xk_core.proofs.machine.Core.step.Goals as goal
 
+pub take-requires-clause-here : goal.take-requires-clause-here
+take-requires-clause-here c =
+    let found : option_copied c.next_instruction-next.result ≡ next_instruction c.self.inside.verified.now c.self.inside.state c.args.act =
+    subst (λ n. option_copied c.next_instruction-next.result ≡ next_instruction c.self.inside.verified.now c.self.inside.state n) c.act.view_is (rw (← c.module-program.ensures.same) c.next_instruction-next.ensures) in
+    subst (λ (v : CoreValue). option_copied c.next_instruction-next.result ≡ next_instruction v.module_run v.world c.args.act) c.self.view_is
+    (found ∙ sym (next_told c.self.inside.verified.now c.self.inside.finishes c.self.inside.state c.self.invariant.1.width c.args.act))
+
 pub returns-clause-counted : goal.returns-clause-counted
-returns-clause-counted c = subst (λ (v : CoreValue). OnOk c.take.result (c.take.new.self.world.steps ≡ v.world.steps + 1)) c.self.view_is (taken_counts c.self.inside.verified.now (told c.self.inside.finishes c.self.inside.state) c.take.new.self.world c.args.act c.take.result c.take.ensures.stepped)
+returns-clause-counted c = taken_counts c.args.self.now.module_run c.args.self.now.world c.take.new.self.world c.args.act c.take.result c.take.ensures.stepped
 
 pub returns-clause-bound : goal.returns-clause-bound
-returns-clause-bound c = rw c.take.ensures.same_module (taken_bound c.self.inside.verified.now (told c.self.inside.finishes c.self.inside.state) c.take.new.self.world c.args.act c.take.result c.self.invariant.0 c.take.ensures.stepped)
+returns-clause-bound c = rw c.take.ensures.same_module (taken_bound c.args.self.now.module_run c.args.self.now.world c.take.new.self.world c.args.act c.take.result
+    (subst (λ (v : CoreValue). IsCore v.module_run v.world) c.self.view_is c.self.invariant.0) c.take.ensures.stepped)
