@@ -8,9 +8,6 @@ use xk_serve::{Fault, report, serve, tell, tell_words};
 use xk_types::{Counted, Sink};
 use xk_words::{Job, read_job};
 
-#[cfg(test)]
-mod tests;
-
 fn main(rt: HostRuntime) -> ExitCode {
     let mut out = Counted::new(rt.stdout());
     let mut err = Counted::new(rt.stderr());

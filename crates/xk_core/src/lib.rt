@@ -18,8 +18,3 @@ pub use driver::{Driver, Turn};
 pub use driving::{Ended, Partial, drive};
 pub use machine::Core;
 pub use schedule::{Halt, Ran, run_schedule};
-
-#[cfg(test)]
-mod members_tests;
-#[cfg(test)]
-mod tests;

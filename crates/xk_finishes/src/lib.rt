@@ -4,8 +4,6 @@
 mod finish;
 pub mod laws;
 mod node;
-#[cfg(test)]
-mod tests;
 mod tree;
 
 pub use tree::FinishTree;

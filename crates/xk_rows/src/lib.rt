@@ -2,9 +2,15 @@
 #![tactic(auto)]
 
 #[cfg(test)]
+mod cores;
+#[cfg(test)]
+mod devices;
+#[cfg(test)]
 mod driven;
 #[cfg(test)]
 mod every;
+#[cfg(test)]
+mod finishes;
 #[cfg(test)]
 mod programs;
 #[cfg(test)]

@@ -5,6 +5,18 @@ use std::test::Fail;
 use xk_bounds::{Verified, verify};
 use xk_module::read_module;
 
+/// A sum of two numbers, and a phase of a clock on which main is alone.
+pub const SUM_AND_PHASE: &str =
+    r#"{"version":1,"shared":[],"units":[{"kind":"main","params":"","slots":3,"code":[["lit",0,2],["lit",1,3],["add",0,0,1],["make",2],["advance"],["print",0],["ret"]]}]}"#;
+
+/// A clock that is resumed twice in one phase.
+pub const RESUMED_TWICE: &str =
+    r#"{"version":1,"shared":[],"units":[{"kind":"main","params":"","slots":1,"code":[["make",0],["resume",0],["resume",0],["advance"],["drop",0],["ret"]]}]}"#;
+
+/// Main starts an activity behind an `advance`.
+pub const LATE_CHILD: &str =
+    r#"{"version":1,"shared":[],"units":[{"kind":"main","params":"","slots":0,"code":[["advance"],["spawn",1,[]],["ret"]]},{"kind":"body","params":"","slots":0,"code":[["advance"],["ret"]]}]}"#;
+
 /// Main starts an activity on its clock, and both go one phase on.
 pub const IN_STEP: &str =
     r#"{"version":1,"shared":[],"units":[{"kind":"main","params":"","slots":2,"code":[["make",0],["spawn",1,[0]],["advance"],["lit",1,1],["print",1],["ret"]]},{"kind":"body","params":"c","slots":2,"code":[["advance"],["lit",1,2],["print",1],["ret"]]}]}"#;

@@ -32,7 +32,7 @@ fn halted<'m>(
 }
 
 /// The phase of each clock, and the step of its last advance.
-fn advances(alloc: Global, core: &Core) -> Result<Vec<(u64, u64)>, Fail> {
+pub fn advances(alloc: Global, core: &Core) -> Result<Vec<(u64, u64)>, Fail> {
     let mut list = Vec::new(alloc);
     for c in 0..core.clocks() {
         list.push((core.phase(ClockId(c)), core.last(ClockId(c))))?;
@@ -41,7 +41,7 @@ fn advances(alloc: Global, core: &Core) -> Result<Vec<(u64, u64)>, Fail> {
 }
 
 /// The step of the last pass of each activity.
-fn passes(alloc: Global, core: &Core) -> Result<Vec<u64>, Fail> {
+pub fn passes(alloc: Global, core: &Core) -> Result<Vec<u64>, Fail> {
     let mut list = Vec::new(alloc);
     for a in 0..core.activities() {
         list.push(core.since(Act(a)))?;

@@ -19,6 +19,3 @@ pub use tape::Tape;
 pub use unit::{
     Limit, MAX_ARGS, MAX_CODE, MAX_SHARED, MAX_SLOTS, MAX_UNITS, Module, ParamKind, Unit, UnitKind,
 };
-
-#[cfg(test)]
-mod tests;

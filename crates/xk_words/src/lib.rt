@@ -8,6 +8,3 @@ mod words_fault;
 pub use job::{Command, Form, Job, Order};
 pub use line::read_job;
 pub use words_fault::WordsFault;
-
-#[cfg(test)]
-mod tests;

@@ -1,6 +1,8 @@
-use super::*;
+//! Devices that are interrupted.
+
 use std::io;
 use std::io::{ErrorKind, Read, Write};
+use xk_types::{Counted, Failed, Sink, Source};
 
 // A reader and writer that is interrupted at each first call, moves one byte at each second one, and fails at each third.
 #[derive(Drop)]

@@ -1,5 +1,7 @@
-use crate::FinishTree;
+//! Trees of finishes.
+
 use std::test::Fail;
+use xk_finishes::FinishTree;
 use xk_types::Act;
 
 const MAIN: Act = Act(0);

@@ -1,0 +1,44 @@
+#!/bin/sh
+# Plays transcripts of the built program again, and compares them line for line: what `examples/*.txt` tell of the programs beside them, and
+# what `tests/words.txt` tells of the command line.
+#
+# A transcript has, for each call, a line `$ x10clock WORDS`, as a shell takes it, then what goes to standard output, then what goes to
+# standard error, each line of which begins with `! `, and, where it isn't 0, the status. Standard input is empty. A call is made in the
+# folder of its transcript. With `--write` the transcripts are written anew.
+set -eu
+cd "$(dirname "$0")/.."
+program=${X10CLOCK:-$PWD/crates/x10clock/out/x10clock}
+case $program in /*) ;; *) program=$PWD/$program ;; esac
+[ -x "$program" ] || (cd crates/x10clock && rt run -- run --module - < stdin > /dev/null)
+work=$(mktemp -d)
+trap 'rm -rf "$work"' EXIT
+
+# said LINE: what comes of the call in this line of a transcript.
+said() {
+    status=0
+    eval "\"\$program\"${1#\$ x10clock}" < /dev/null > "$work/out" 2> "$work/err" || status=$?
+    echo "$1"
+    cat "$work/out"
+    sed 's/^/! /' "$work/err"
+    [ "$status" = 0 ] || echo "(status $status)"
+}
+
+# played FILE: the transcript again.
+played() {
+    grep '^\$ x10clock' "$1" | while IFS= read -r line; do
+        (cd "$(dirname "$1")" && said "$line")
+    done
+}
+
+count=0
+for file in tests/words.txt examples/*.txt; do
+    played "$file" > "$work/played"
+    if [ "${1:-}" = --write ]; then
+        cp "$work/played" "$file"
+    else
+        diff "$file" "$work/played" || { echo "transcripts: $file" >&2; exit 1; }
+    fi
+    count=$((count + $(grep -c '^\$ x10clock' "$file")))
+done
+[ "$count" -gt 0 ] || { echo "transcripts: none" >&2; exit 1; }
+echo "transcripts: $count calls, all answered so"
