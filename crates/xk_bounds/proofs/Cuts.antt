@@ -1,4 +1,4 @@
--- Sums and products of numbers that are cut.
+-- Sums and products of numbers that are cut at a greatest one are the same when their parts are cut.
 use Rattle.std.proofs.Common.{◌≡◌, ℕ, zero, suc, ◌*◌, min, List, [], ◌∷◌, Some, slice_get, inl, inr, sym, refl, ap, ◌∙◌, arith}
 use Rattle.std.proofs.Math.Nat.{mul_comm, le-mul_of_pos_right}
 use Rattle.std.proofs.lemmas.Bool.{cases_lt}

@@ -54,9 +54,6 @@ module _ (m : ModuleValue) where
 
 -- ---- one room more in a table
 
-pub nothing_small : IsSmall nothing
-nothing_small = record { slots = omega arith; frames = omega arith; finishes = omega arith }
-
 -- what holds of each place still does when what is written there has it
 pub each_set : (P : ℕ → Room → Type 0) (table : List Room) (unit : ℕ) (r d : Room) → unit < length table → P unit r → (t : ℕ) → ((t ≡ unit → ⊥) → P t (get_or table t d)) → P t (get_or (set table unit r) t d)
 each_set P table unit r d inside here t other = elim (cases_order unit t) [

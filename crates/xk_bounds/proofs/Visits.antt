@@ -1,22 +1,24 @@
--- How often instructions are carried out: from one place of a unit to the next.
-use Rattle.std.proofs.Common.{◌≡◌, ℕ, ℤ, zero, suc, ◌+◌, ◌*◌, ◌<◌, ◌≤◌, eqb, min, cond, nat_lt, nat_le, Bool, true, false, not, ◌&&◌, List, [], ◌∷◌, ◌++◌, length, map, filter, Option, Some, None, option_map, slice_get, slice_index, inl, inr, sym, refl, ap, ◌∙◌, subst, arith}
+-- How often an instruction is carried out at most, from one place of a unit to the next: what is carried along the code is right.
+use Rattle.std.proofs.Common.{◌≡◌, ℕ, ℤ, zero, suc, ◌+◌, ◌*◌, ◌<◌, ◌≤◌, eqb, min, cond, nat_lt, nat_le, Bool, true, false, not, ◌&&◌, List, [], ◌∷◌, ◌++◌, length, map, filter, Option, Some, None, slice_get, slice_index, inl, inr, sym, refl, ap, ◌∙◌, subst, arith}
 use Rattle.std.specs.Bool.{Decides}
 use Rattle.std.specs.List.{list_any}
 use Rattle.std.specs.Option.{option_map_or}
 use Rattle.std.proofs.Math.Nat.{mul_comm, mul_left_comm}
 use Rattle.std.proofs.lemmas.Option.{same_Some, cond_some, option_and_then_some}
-use Rattle.std.proofs.lemmas.Bool.{and_parts, or_parts, not-false, ltb-true, leb-true, le-leb, le-ltb, lt-ltb, eqb-true, both_ways, false_from_ne_true, cases_order}
+use Rattle.std.proofs.lemmas.Bool.{and_parts, or_parts, not-false, ltb-true, leb-true, le-leb, le-ltb, eqb-true, both_ways, false_from_ne_true, cases_order}
 use Rattle.std.proofs.lemmas.Bool.Decides.{same_from_decides, Decides-and, Decides-like, Decides-ltb}
 use Rattle.xk_types.specs.declared.instr.Instr.{Instr}
 use Rattle.xk_types.specs.declared.instr.Instr.TheVariants as instr
 use Rattle.xk_types.specs.Order.{Has}
 use Rattle.xk_types.specs.Code.{UnitValue, Loop, loop_begun, begun_from, loops, is_next_of, is_round, turns}
 use Rattle.xk_types.specs.Blocks.{Span, is_end_of, finishes}
-use Rattle.xk_types.specs.Shape.{aims_well, instr_is, is_crossing, is_amiss, span_of, spans, span_begun, span_ended, overlaps}
+use Rattle.xk_types.specs.Shape.{aims_well, instr_is, is_crossing, span_of, spans, span_begun, span_ended, overlaps}
 use Rattle.xk_types.specs.Bound.{product, visits}
 use Rattle.xk_shape.specs.Blocks.{IsOrderly}
 use Rattle.xk_bounds.specs.Measure.{loop_between, visits_next}
 use Rattle.xk_bounds.proofs.Cuts.{cut_left}
+use Rattle.xk_types.proofs.Shape.Spans.{next_is, not_amiss, of_loop}
+use Rattle.xk_shape.proofs.Around.{no_rise}
 
 -- ---- products
 
@@ -52,10 +54,6 @@ none_any f (k ∷ ls) fs h l (inr has) = none_any f ls fs (or_parts (f (span_of 
 record IsLoop (u : UnitValue) (l : Loop) : Type 0 where
   begins : slice_get u.code l.first ≡ Some (instr.For l.slot l.lo l.hi l.last)
   ends : slice_get u.code l.last ≡ Some (instr.Next l.first)
-
-next_is : (first : ℕ) (o : Option Instr) → is_next_of first o ≡ true → o ≡ Some (instr.Next first)
-next_is first (Some (instr.Next b)) h = ap (λ n. Some (instr.Next n)) (eqb-true b first h)
-next_is first _ h = absurd (both_ways false refl h)
 
 begun_is : (u : UnitValue) (first : ℕ) (i : Instr) (l : Loop) → slice_get u.code first ≡ Some i → loop_begun u first i ≡ Some l → (l.first ≡ first) × IsLoop u l
 begun_is u first (instr.For k lo hi e) l here h =
@@ -129,10 +127,6 @@ module _ (u : UnitValue) where
 
   -- ---- into a loop
 
-  not_amiss : (o : Option Span) → is_amiss u o ≡ false → (l : Span) × (o ≡ Some l) × (list_any (overlaps l) (spans u) ≡ false)
-  not_amiss None h = absurd (both_ways true h refl)
-  not_amiss (Some l) h = (l, refl, h)
-
   entered_here : (n : ℕ) (rest : List Loop) (l : Loop) (p q : Loop → Bool) (o : Option Loop) → o ≡ Some l → p l ≡ true → q l ≡ false → product (filter p rest) ≡ product (filter q rest)
       → product (filter p (option_map_or (λ k. k ∷ rest) o rest)) ≡ turns l * product (filter q (option_map_or (λ k. k ∷ rest) o rest))
   entered_here n rest l p q o e passes fails same =
@@ -168,18 +162,13 @@ module _ (u : UnitValue) where
         round_next at k (λ eq. omega arith) (no_end at i k here is_for at_k.1))
         (entered (suc n) j is (from_next n x is from) found (omega arith))
 
-  -- what is the span of a loop
-  loop_is : (o : Option Loop) (s : Span) → option_map span_of o ≡ Some s → (l : Loop) × (o ≡ Some l) × (span_of l ≡ s)
-  loop_is None s h = cc
-  loop_is (Some l) s h = (l, refl, same_Some _ _ h)
-
   -- behind a `for`, each turn of its loop
   pub enters : (at k : ℕ) (lo hi : ℤ) (e : ℕ) → IsOrderly u → slice_get u.code at ≡ Some (instr.For k lo hi e) → visits u (suc at) ≡ turns (loop_between lo hi) * visits u at
   enters at k lo hi e blocks here =
       let i = instr.For k lo hi e in
       let loop : Loop = record { first = at; last = e; slot = k; lo = lo; hi = hi } in
-      let some = not_amiss (span_begun u at i) (sym (ap (instr_is (is_crossing u at)) here) ∙ blocks.blocks at) in
-      let is = loop_is (loop_begun u at i) some.0 some.1 in
+      let some = not_amiss u (span_begun u at i) (sym (ap (instr_is (is_crossing u at)) here) ∙ blocks.blocks at) in
+      let is = of_loop (loop_begun u at i) some.0 some.1 in
       let both = cond_some (is_next_of at (slice_get u.code e)) loop is.0 is.1 in
       let begun : loop_begun u at i ≡ Some loop = ap (λ b. cond b (Some loop) None) both.0 in
       let aims = not-false (aims_well u at i) (sym (ap (instr_is (λ x. not (aims_well u at x))) here) ∙ blocks.targets at) in
@@ -198,7 +187,7 @@ module _ (u : UnitValue) where
 
   begun_ended : (at first : ℕ) (i : Instr) (s : Span) → slice_get u.code at ≡ Some (instr.Next first) → slice_get u.code first ≡ Some i → span_begun u first i ≡ Some s → s.last ≡ at → IsEnded at first s
   begun_ended at first (instr.For k lo hi e) s next here begun ends =
-      let of = loop_is (loop_begun u first (instr.For k lo hi e)) s begun in
+      let of = of_loop (loop_begun u first (instr.For k lo hi e)) s begun in
       let is = begun_is u first (instr.For k lo hi e) of.0 here of.1 in
       record { l = of.0; span = of.2; begins = is.0; ends = ap (λ (x : Span). x.last) of.2 ∙ ends; is = is.1 }
   begun_ended at first (instr.Finish e) s next here begun ends =
@@ -220,9 +209,6 @@ module _ (u : UnitValue) where
 
   same_begin : (l k : Loop) → IsLoop u l → IsLoop u k → k.last ≡ l.last → k.first ≡ l.first
   same_begin l k is at_k e = let same = same_Some _ _ (sym at_k.ends ∙ ap (slice_get u.code) e ∙ is.ends) in cc
-
-  no_rise : (a b c d : ℕ) → (nat_lt a b && nat_lt b c && nat_lt c d) ≡ false → a < b → b < c → c < d → ⊥
-  no_rise a b c d h p q r = both_ways (nat_lt a b && nat_lt b c && nat_lt c d) h (rw (lt-ltb a b p, lt-ltb b c q, lt-ltb c d r) refl)
 
   -- a loop lies round the place behind a `next` where it lies round its `for`
   round_left : (l k : Loop) → l.first < l.last → IsLoop u l → IsLoop u k → overlaps (span_of l) (span_of k) ≡ false → is_round (suc l.last) k ≡ is_round l.first k
@@ -250,7 +236,7 @@ module _ (u : UnitValue) where
   pub leaves : (at first : ℕ) → IsOrderly u → slice_get u.code at ≡ Some (instr.Next first) → (first < at) × (visits u (suc at) ≡ visits u first)
   leaves at first blocks here =
       let i = instr.Next first in
-      let some = not_amiss (span_ended u at first (slice_get u.code first)) (sym (ap (instr_is (is_crossing u at)) here) ∙ blocks.blocks at) in
+      let some = not_amiss u (span_ended u at first (slice_get u.code first)) (sym (ap (instr_is (is_crossing u at)) here) ∙ blocks.blocks at) in
       let ended = ended_is at first some.0 (slice_get u.code first) here refl some.1 in
       let l = ended.l in
       let aims = not-false (aims_well u at i) (sym (ap (instr_is (λ x. not (aims_well u at x))) here) ∙ blocks.targets at) in

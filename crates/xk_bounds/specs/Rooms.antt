@@ -6,17 +6,21 @@ use Rattle.xk_types.specs.Code.{UnitValue, ModuleValue, unit_called}
 use Rattle.xk_types.specs.Bound.{greatest, stack_of, frames_of, nesting, room_of}
 use Rattle.xk_bounds.specs.declared.room.Room.{Room}
 
+-- no room at all
 abbrev pub nothing : Room
 nothing = record { slots = 0; frames = 0; finishes = 0 }
 
 -- ---- a table that says a room of each unit
 
+-- the slots that a table says of a unit
 abbrev pub slots_in : List Room → ℕ → ℕ
 slots_in table t = (slice_index_or table t nothing).slots
 
+-- the frames
 abbrev pub frames_in : List Room → ℕ → ℕ
 frames_in table t = (slice_index_or table t nothing).frames
 
+-- the finishes
 abbrev pub finishes_in : List Room → ℕ → ℕ
 finishes_in table t = (slice_index_or table t nothing).finishes
 
@@ -56,6 +60,7 @@ pub record IsSmall (r : Room) : Type 0 where
   pub frames : r.frames ≤ 1024
   pub finishes : r.finishes ≤ 4194304
 
+-- the room of a unit of the module
 pub record IsRoom (m : ModuleValue) (unit : ℕ) (r : Room) : Type 0 where
   pub slots : r.slots ≡ stack_of m unit
   pub frames : r.frames ≡ frames_of m unit

@@ -17,8 +17,11 @@ use xk_types::{Instr, Module, Rule, Unit};
 /// The most that a run of a module may take.
 #[derive(Drop)]
 pub(crate) struct Bounds {
+    /// The steps.
     pub steps: u64,
+    /// The activities, main among them.
     pub activities: u32,
+    /// The clocks that are made.
     pub clocks: u32,
     /// The slots in the frames of one activity.
     pub stack: u32,
@@ -26,12 +29,16 @@ pub(crate) struct Bounds {
     pub rooms: Vec<Room>,
 }
 
+/// The most steps that V14 allows.
 const MAX_STEPS: u64 = 1_000_000_000;
 
+/// The most activities that V15 allows.
 const MAX_ACTIVITIES: u32 = 100_000;
 
+/// The most clocks that V16 allows.
 const MAX_CLOCKS: u32 = 100_000;
 
+/// The most slots in the frames of one activity that V17 allows.
 const MAX_STACK: u32 = 4096;
 
 /// Larger than each limit: a greater number is told as this one, so that no sum grows without end.
@@ -40,9 +47,11 @@ const CUT: u64 = 1_000_000_001;
 /// What is counted of a run.
 #[derive(Clone, Copy)]
 enum Quantity {
+    /// The steps.
     Steps,
     /// The activities that are started.
     Activities,
+    /// The clocks that are made.
     Clocks,
 }
 

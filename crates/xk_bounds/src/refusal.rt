@@ -13,6 +13,7 @@ use xk_typestate::{KindError, KindFault};
 /// A bound that is over its limit: the first of V14 to V17 that is.
 #[derive(Clone, Copy, Debug, PartialEq, Eq)]
 pub struct BoundFault {
+    /// One of V14 to V17.
     pub rule: Rule,
     /// The most that the rule allows.
     pub limit: u64,

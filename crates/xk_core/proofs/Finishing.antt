@@ -19,10 +19,10 @@ use Rattle.xk_types.specs.Schedule.{is_step, is_enabled}
 use Rattle.xk_laws.proofs.Lists.{get_inside, get-set_same, get-set_other, get_push, get-push_other}
 use Rattle.xk_laws.proofs.Counts.{step_counts}
 use Rattle.xk_laws.proofs.Invariant.{IsSound}
-use Rattle.xk_laws.proofs.Scopes.{IsScoped, based}
+use Rattle.xk_laws.proofs.Scopes.Invariant.{IsScoped, based}
 use Rattle.xk_laws.proofs.Reached.{reached_sound, reached_scoped}
-use Rattle.xk_laws.proofs.Instructions.{standing_at, instruction_found}
-use Rattle.xk_laws.proofs.Progress.{room_at_finish, open_at_end, closed_at_end}
+use Rattle.xk_laws.proofs.NeverWrong.Instructions.{standing_at, instruction_found}
+use Rattle.xk_laws.proofs.NeverWrong.Steps.{room_at_finish, open_at_end, closed_at_end}
 use Rattle.xk_finishes.specs.Tree.{NodeValue, node_at, fresh_node, node_entered, node_left, node_ended, changed_at, governing_of, awaits_innermost, IsNodeOf, AreNodesOf}
 use Rattle.xk_finishes.specs.Tree as tree
 use Rattle.xk_finishes.proofs.Activities.{awaits_same}

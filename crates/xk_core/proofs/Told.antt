@@ -15,7 +15,7 @@ use Rattle.xk_types.specs.declared.unit.ParamKind.TheVariants as param
 use Rattle.xk_types.specs.Code.{UnitValue, ModuleValue, compares, is_method, is_body}
 use Rattle.xk_types.specs.World.{Frame, Activity, Clock, World, standing_of, instruction_at, base_of, base_unit, is_ended}
 use Rattle.xk_types.specs.Step.{Outcome, Blocked, Wrong, Stepped, ClockUse, OutOfRange, is_registered, number_in, clock_in, registered_on, put_in, slot_at, arguments_in, computing, turning, again, spawned, spawning, new_clock, carried_out, done, made, onward, going, with_slots, arrived, ended, none, only, all, resumed, dropped, called, calling, back_in, returning, settled, moved, cell_in, stored, child, governing, joined, is_given}
-use Rattle.xk_laws.proofs.Scopes.{based}
+use Rattle.xk_laws.proofs.Scopes.Invariant.{based}
 use Rattle.xk_finishes.specs.Tree.{NodeValue}
 use Rattle.xk_core.specs.Arm.{concerns_finishes, carried_by, carried}
 use Rattle.xk_core.specs.Told.{with_node, with_nodes, told, is_end}

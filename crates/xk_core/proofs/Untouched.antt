@@ -19,9 +19,10 @@ use Rattle.xk_types.specs.Schedule.{is_enabled}
 use Rattle.xk_laws.proofs.Invariant.{IsClockSound}
 use Rattle.xk_laws.proofs.Lists.{Each, get-set_same, get-set_other, get-push_other, get-append_left}
 use Rattle.xk_laws.proofs.Reached.{reached_sound}
-use Rattle.xk_laws.proofs.Scopes.{governing_at}
-use Rattle.xk_laws.proofs.Under.{AreOwned}
-use Rattle.xk_laws.proofs.Standings.{settled_cases, stand_other, new_other, stand_joined_old}
+use Rattle.xk_laws.proofs.Scopes.Invariant.{governing_at}
+use Rattle.xk_laws.proofs.Scopes.Under.{AreOwned}
+use Rattle.xk_laws.proofs.Clocks.Advance.{settled_cases}
+use Rattle.xk_laws.proofs.Clocks.Standings.{stand_other, new_other, stand_joined_old}
 use Rattle.xk_core.specs.Able.{able_by, able_of, kept_by}
 use Rattle.xk_core.specs.Core.{IsCore, IsQuiet, governor, instruction_of}
 use Rattle.xk_core.proofs.Cores.{core_able, core_stepped}

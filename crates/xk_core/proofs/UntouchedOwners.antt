@@ -10,9 +10,9 @@ use Rattle.xk_types.specs.Schedule.{Through, run}
 use Rattle.xk_laws.proofs.Invariant.{IsActivitySound, IsSound, looks}
 use Rattle.xk_laws.proofs.Lists.{Each, each_set, each_push, get-set_same, get-set_other, get_once, get-append_left}
 use Rattle.xk_laws.proofs.Reached.{first_step, opening_reached, reached_sound, reached_scoped}
-use Rattle.xk_laws.proofs.Progress.{closed_at_end}
-use Rattle.xk_laws.proofs.Scopes.{IsScoped, finish_at, governing_at}
-use Rattle.xk_laws.proofs.Under.{AreOwned, under_governed, IsAwaited}
+use Rattle.xk_laws.proofs.NeverWrong.Steps.{closed_at_end}
+use Rattle.xk_laws.proofs.Scopes.Invariant.{IsScoped, finish_at, governing_at}
+use Rattle.xk_laws.proofs.Scopes.Under.{AreOwned, under_governed, IsAwaited}
 use Rattle.xk_core.specs.Core.{IsCore}
 use Rattle.xk_core.proofs.Cores.{core_stepped}
 use Rattle.xk_core.proofs.UntouchedForms.{GoesOn, step_kind}

@@ -44,6 +44,7 @@ node_entered node = record node { opened = node.opened + 1 }
 abbrev pub node_left : NodeValue → NodeValue
 node_left node = record node { opened = node.opened - 1 }
 
+-- the activity is over
 abbrev pub node_ended : NodeValue → NodeValue
 node_ended node = record node { ended = true }
 

@@ -1,4 +1,4 @@
--- What a step can come to: it is blocked, it is wrong, or it has one of four forms.
+-- What a step can come to: it is blocked, it is wrong, or it has one of four forms. What holds of these holds of each step.
 use Rattle.std.proofs.Common.{◌≡◌, ℕ, zero, suc, Bool, true, false, cond, List, [], ◌∷◌, ℤ, Some, None, Option, refl, ap}
 use Rattle.std.specs.Prelude.{slice_get}
 use Rattle.std.specs.Int.{w64, int_wrapping_add, int_wrapping_sub, int_wrapping_mul}

@@ -1,4 +1,4 @@
--- The invariant of worlds: what holds in each world that a legal schedule of an accepted module leads to.
+-- The invariant: what holds in each world that a legal schedule of an accepted module leads to.
 use Rattle.std.specs.Prelude.{◌≡◌, ℕ, ◌+◌, ◌<◌, ◌≤◌, ◌⊎◌, ◌∷◌, Bool, true, false, List, [], length, Some, slice_get, sum_by}
 use Rattle.std.specs.Option.{option_map_or}
 use Rattle.xk_types.specs.declared.instr.Instr.{Instr}
@@ -19,7 +19,7 @@ use Rattle.xk_types.specs.Step.{is_ready}
 use Rattle.xk_types.specs.Walk.{IsVisited, awake, is_lent}
 pub use Rattle.xk_types.specs.Kinds.{stands_on, kind_by, kind_of}
 pub use Rattle.xk_laws.proofs.Lists.{Each}
-use Rattle.xk_laws.proofs.Turns.{due}
+use Rattle.xk_laws.proofs.Bound.Turns.{due}
 use Rattle.xk_types.specs.Bound.{steps_weight, activities_weight, clocks_weight, total, steps_bound, activities_bound, clocks_bound, stack_of, stack_bound}
 
 -- ---- clocks

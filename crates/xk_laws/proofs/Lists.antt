@@ -1,11 +1,10 @@
--- Lists by number: what a change of one element, a push and a map leave at each place.
-use Rattle.std.proofs.Common.{◌≡◌, ℕ, zero, suc, ◌+◌, ◌<◌, ◌≤◌, max, Bool, true, false, ◌||◌, List, [], ◌∷◌, ◌++◌, map, length, set, drop, Some, fold, replicate, inl, inr, refl, sym, ap, ◌∙◌, subst, arith, sum_by}
+-- Lists by number: what a write of one element, a push and a map leave at each place; tests over a list, and sums.
+use Rattle.std.proofs.Common.{◌≡◌, ℕ, zero, suc, ◌+◌, ◌<◌, ◌≤◌, max, Bool, true, false, ◌||◌, List, [], ◌∷◌, ◌++◌, map, length, set, Some, fold, replicate, refl, sym, ap, ◌∙◌, subst, arith, sum_by}
 use Rattle.std.specs.Prelude.{slice_get}
 use Rattle.std.specs.List.{list_any, list_all}
 use Rattle.std.proofs.lemmas.List.Sums.{sum_by-set}
-use Rattle.std.proofs.lemmas.Bool.{and_parts, or_left, or_right}
+use Rattle.std.proofs.lemmas.Bool.{or_left, or_right}
 use Rattle.std.proofs.lemmas.Option.{slice_get_within, get_or_from_slice_get, none-some, same_Some}
-use Rattle.xk_types.specs.Order.{Has}
 
 -- something holds of each element, under its number
 abbrev pub Each : {X : Type 0} → (ℕ → X → Type 0) → List X → Type 0
@@ -95,12 +94,6 @@ each_filled P (z ∷ xs) n y all behind (suc s) x h =
 
 -- ---- tests over a list
 
--- what all of a list pass, its elements pass
-pub all_has : {X : Type 0} (test : X → Bool) (xs : List X) (x : X) → list_all test xs ≡ true → Has xs x → test x ≡ true
-all_has test [] x h g = absurd g
-all_has test (y ∷ xs) x h (inl e) = subst (λ z. test z ≡ true) e (and_parts (test y) (list_all test xs) h).0
-all_has test (y ∷ xs) x h (inr g) = all_has test xs x (and_parts (test y) (list_all test xs) h).1 g
-
 -- one element that passes is enough
 pub any_given : {X : Type 0} (test : X → Bool) (xs : List X) (k : ℕ) (x : X) → slice_get xs k ≡ Some x → test x ≡ true → list_any test xs ≡ true
 any_given test [] k x h e = absurd (none-some x h)
@@ -138,9 +131,3 @@ max_each (y ∷ xs) s (suc i) x h = max_each xs (max s y) i x h
 -- a sum after a write
 pub sum_set : {X : Type 0} (f : X → ℕ) (xs : List X) (a : ℕ) (old new : X) → slice_get xs a ≡ Some old → sum_by f (set xs a new) + f old ≡ sum_by f xs + f new
 sum_set f xs a old new h = rw (get_or_from_slice_get xs a old old h) at (sum_by-set f xs a new old (slice_get_within xs a old h))
-
--- what is left from a place on begins with what stands there
-pub drop_from : {X : Type 0} (xs : List X) (p : ℕ) (x : X) → slice_get xs p ≡ Some x → drop p xs ≡ x ∷ drop (suc p) xs
-drop_from [] p x h = absurd (none-some x h)
-drop_from (y ∷ xs) zero x h = ap (λ z. z ∷ xs) (same_Some y x h)
-drop_from (y ∷ xs) (suc p) x h = drop_from xs p x h

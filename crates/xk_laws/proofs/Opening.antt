@@ -1,4 +1,4 @@
--- The opening world is sound.
+-- The opening world keeps the invariants.
 use Rattle.std.proofs.Common.{◌≡◌, ℕ, zero, suc, true, not, ◌==◌, [], ◌∷◌, length, replicate, Some, refl, sym, ap, ◌∙◌, subst, arith, inl, eqb-true}
 use Rattle.std.specs.Prelude.{slice_get}
 use Rattle.std.specs.Option.{option_map_or}
@@ -21,13 +21,13 @@ use Rattle.xk_types.specs.Bound.{steps_weight, activities_weight, clocks_weight,
 use Rattle.xk_types.specs.Accepted.{IsAccepted}
 use Rattle.xk_laws.proofs.Invariant.{Each, Expects, IsActivitySound, IsSound, looks, kind_of, owed, owing}
 use Rattle.xk_laws.proofs.Lists.{get_inside, get-replicate}
-use Rattle.xk_laws.proofs.Measure.{owed_first}
-use Rattle.xk_laws.proofs.Totals.{stack_within_bound}
-use Rattle.xk_laws.proofs.Walks.{visited_entry}
-use Rattle.xk_laws.proofs.Fits.{unit_fits, unbroken}
+use Rattle.xk_laws.proofs.Bound.Measure.{owed_first}
+use Rattle.xk_laws.proofs.Bound.Totals.{stack_within_bound}
+use Rattle.xk_types.proofs.Walks.{visited_entry}
+use Rattle.xk_laws.proofs.Shape.Units.{unit_fits, unbroken}
 use Rattle.xk_types.specs.Blocks.{depth_at}
-use Rattle.xk_laws.proofs.Blocks.{block_start}
-use Rattle.xk_laws.proofs.Scopes.{opened_in, IsScopedIn, IsScoped}
+use Rattle.xk_laws.proofs.Shape.Blocks.{block_start}
+use Rattle.xk_laws.proofs.Scopes.Invariant.{opened_in, IsScopedIn, IsScoped}
 
 -- what holds of the only element
 each_one : {X : Type 0} (P : ℕ → X → Type 0) (x : X) → P 0 x → Each P (x ∷ [])

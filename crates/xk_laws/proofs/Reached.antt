@@ -1,23 +1,20 @@
--- What holds of each world that a legal schedule of an accepted module leads to, and the law over every schedule.
-use Rattle.std.proofs.Common.{◌≡◌, ℕ, ◌+◌, ◌<◌, ◌≤◌, true, false, List, [], ◌∷◌, ◌++◌, length, get_or, refl, sym, ap, ◌∙◌, subst, arith}
-use Rattle.std.proofs.lemmas.Option.{slice_get-get_or}
+-- Each world that a legal schedule of an accepted module leads to is sound, its clocks have their scopes, and its numbers are within the
+-- bounds; and a run is never wrong.
+use Rattle.std.proofs.Common.{◌≡◌, ℕ, ◌+◌, ◌<◌, ◌≤◌, true, false, List, [], ◌∷◌, ◌++◌, length, refl, sym, ap, ◌∙◌, subst, arith}
 use Rattle.xk_types.specs.declared.names.Event.{Event}
-use Rattle.xk_types.specs.declared.rules.Kind.{Kind}
 use Rattle.xk_types.specs.Code.{ModuleValue, IsWithinLimits}
-use Rattle.xk_types.specs.World.{Activity, World, opening}
+use Rattle.xk_types.specs.World.{World, opening}
 use Rattle.xk_types.specs.Step.{Cause, Outcome, Blocked, Wrong, Stepped, step}
 use Rattle.xk_types.specs.Schedule.{Course, Through, Wronged, run, run_on, IsReached, is_enabled, all_ended}
-use Rattle.xk_types.specs.Bound.{steps_bound, activities_bound, clocks_bound, stack_bound}
-use Rattle.xk_types.specs.Accepted.{IsAccepted, EverySchedule, slots_held}
-use Rattle.xk_types.specs.Kinds.{KindsAreSound, kind_of}
-use Rattle.xk_laws.proofs.Invariant.{IsActivitySound, IsSound, looks, Expects}
-use Rattle.xk_types.specs.Shape.{HasShape}
-use Rattle.xk_laws.proofs.Totals.{stack_own}
+use Rattle.xk_types.specs.Bound.{steps_bound, activities_bound, clocks_bound}
+use Rattle.xk_types.specs.Accepted.{IsAccepted}
+use Rattle.xk_laws.proofs.Invariant.{IsSound}
 use Rattle.xk_laws.proofs.Counts.{step_counts}
-use Rattle.xk_laws.proofs.Progress.{Keeps, step_keeps, stuck_ended}
+use Rattle.xk_laws.proofs.NeverWrong.Steps.{Keeps, step_keeps}
+use Rattle.xk_laws.proofs.Progress.Ends.{stuck_ended}
 use Rattle.xk_laws.proofs.Opening.{opening_sound, opening_scoped}
-use Rattle.xk_laws.proofs.Scopes.{IsScoped, Scopes}
-use Rattle.xk_laws.proofs.ScopeSteps.{step_scopes}
+use Rattle.xk_laws.proofs.Scopes.Invariant.{IsScoped, Scopes}
+use Rattle.xk_laws.proofs.Scopes.Steps.{step_scopes}
 
 -- ---- runs
 
@@ -40,7 +37,7 @@ run_more m (b ∷ list) w v x a e h g =
     ap (λ o. run_on w o (run m (list ++ a ∷ []))) f.2 ∙ run_more m list f.0 v x a e f.3 g
 
 -- each step of a run is counted
-run_counts : (m : ModuleValue) (list : List ℕ) (w v : World) → run m list w ≡ Through v → v.steps ≡ w.steps + length list
+pub run_counts : (m : ModuleValue) (list : List ℕ) (w v : World) → run m list w ≡ Through v → v.steps ≡ w.steps + length list
 run_counts m [] w v h = let e = ap (λ z. z.steps) (same_through w v h) in omega arith
 run_counts m (b ∷ list) w v h =
     let f = first_step w v (step m w b) (run m list) h in
@@ -68,7 +65,7 @@ run_whole m ok (b ∷ list) w v whole h =
     run_whole m ok list f.0 v (step_whole m ok w f.0 b f.1 whole f.2) f.3
 
 -- a run from such a world is never wrong
-run_right : (m : ModuleValue) → IsAccepted m → (list : List ℕ) (w v : World) (c : Cause) → IsWhole m w → run m list w ≡ Wronged v c → ⊥
+pub run_right : (m : ModuleValue) → IsAccepted m → (list : List ℕ) (w v : World) (c : Cause) → IsWhole m w → run m list w ≡ Wronged v c → ⊥
 run_right m ok [] w v c whole h = grind arith
 run_right m ok (b ∷ list) w v c whole h = by (step m w b) refl (step_keeps m ok w whole.sound whole.scoped b) h (λ x s. run_right m ok list x v c s)
   where
@@ -96,7 +93,7 @@ opening_only m w r h = by r.0 r.1
     by (a ∷ list) e = let n = run_counts m (a ∷ list) (opening m) w e in absurd (omega arith)
 
 -- the opening world is whole
-opening_whole : (m : ModuleValue) → IsWithinLimits m → IsAccepted m → IsWhole m (opening m)
+pub opening_whole : (m : ModuleValue) → IsWithinLimits m → IsAccepted m → IsWhole m (opening m)
 opening_whole m limits ok = record { sound = opening_sound m limits ok; scoped = opening_scoped m limits ok }
 
 -- a world that is reached is sound
@@ -106,10 +103,6 @@ reached_sound m limits ok w r = (run_whole m ok r.0 (opening m) w (opening_whole
 -- and its clocks have their scopes
 pub reached_scoped : (m : ModuleValue) → IsWithinLimits m → IsAccepted m → (w : World) → IsReached m w → IsScoped m w
 reached_scoped m limits ok w r = (run_whole m ok r.0 (opening m) w (opening_whole m limits ok) r.1).scoped
-
--- no step of it is wrong
-pub reached_right : (m : ModuleValue) → IsWithinLimits m → IsAccepted m → (w : World) → IsReached m w → (a : ℕ) (c : Cause) → step m w a ≡ Wrong c → ⊥
-reached_right m limits ok w r a c h = subst (Keeps m) h (step_keeps m ok w (reached_sound m limits ok w r) (reached_scoped m limits ok w r) a)
 
 -- the numbers of a world, within the bounds of its module
 pub record HasRoom (m : ModuleValue) (w : World) : Type 0 where
@@ -133,35 +126,3 @@ reached_room m limits ok w r = sound_room m w (reached_sound m limits ok w r)
 pub reached_ends : (m : ModuleValue) → IsWithinLimits m → IsAccepted m → (w : World) → IsReached m w
     → ((a : ℕ) → a < length w.activities → is_enabled m w a ≡ false) → all_ended w ≡ true
 reached_ends m limits ok w r stuck = stuck_ended m ok w (reached_sound m limits ok w r) (reached_scoped m limits ok w r) stuck
-
--- ---- the law
-
--- an activity's frames have no more slots than the bound
-sound_stack : (m : ModuleValue) → HasShape m → (look : ℕ → Kind) (clocks now : ℕ) (act : Activity) → IsActivitySound m look clocks now act → slots_held act ≤ stack_bound m
-sound_stack m shape look clocks now act s = omega (arith, s.frame.slots, stack_own m shape act.frame.unit s.u s.unit, s.room)
-
--- the law over every schedule
-pub every_schedule : (m : ModuleValue) → IsWithinLimits m → IsAccepted m → EverySchedule m
-every_schedule m limits ok = record {
-  never_wrong = λ list w c h. run_right m ok list (opening m) w c (opening_whole m limits ok) h;
-  steps = λ list w h. (let n = run_counts m list (opening m) w h in let room = (reached_room m limits ok w (list, h)).steps in omega arith);
-  activities = λ list w h. (reached_room m limits ok w (list, h)).activities;
-  clocks = λ list w h. (reached_room m limits ok w (list, h)).clocks;
-  stack = λ list w h k d inside.
-      (let s = reached_sound m limits ok w (list, h) in
-      sound_stack m ok.shape (looks w.clocks k) (length w.clocks) w.steps (get_or w.activities k d)
-      (s.activities k (get_or w.activities k d) (slice_get-get_or w.activities k d inside)));
-  ends = λ list w h stuck. reached_ends m limits ok w (list, h) (λ a inside. stuck a);
-}
-
--- the kinds are sound
-pub kinds_sound : (m : ModuleValue) → IsWithinLimits m → IsAccepted m → KindsAreSound m
-kinds_sound m limits ok list w h a act there running =
-    let s = (reached_sound m limits ok w (list, h)).activities a act there in
-    record {
-      u = s.u;
-      found = s.unit;
-      slots = s.frame.slots;
-      known = s.frame.known;
-      visited = λ k v at. subst (λ st. Expects m s.u st act.frame.place k (kind_of (looks w.clocks a) v)) running (s.kinds k v at);
-    }

@@ -98,7 +98,7 @@ abbrev pub ends_none : Instr → Bool
 ends_none (instr.EndFinish b) = false
 ends_none _ = true
 
-no_rise : (a b c d : ℕ) → (nat_lt a b && nat_lt b c && nat_lt c d) ≡ false → a < b → b < c → c < d → ⊥
+pub no_rise : (a b c d : ℕ) → (nat_lt a b && nat_lt b c && nat_lt c d) ≡ false → a < b → b < c → c < d → ⊥
 no_rise a b c d h p q r = both_ways (nat_lt a b && nat_lt b c && nat_lt c d) h (rw (lt-ltb a b p, lt-ltb b c q, lt-ltb c d r) refl)
 
 -- of two that don't overlap, one that begins inside the other ends inside it

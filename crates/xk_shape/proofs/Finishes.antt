@@ -1,56 +1,20 @@
 -- The finishes of a unit: which instructions they begin and end with, and in which order they come.
-use Rattle.std.proofs.Common.{◌≡◌, ℕ, ℤ, zero, suc, ◌+◌, ◌<◌, ◌≤◌, ◌==◌, nat_lt, Bool, true, false, not, List, [], ◌∷◌, ◌++◌, length, map, Option, Some, None, slice_get, inl, inr, refl, sym, ap, ◌∙◌, subst, arith, cond, if◌then◌else◌}
+use Rattle.std.proofs.Common.{◌≡◌, ℕ, ℤ, ◌+◌, ◌<◌, ◌≤◌, ◌==◌, Bool, true, false, List, length, Option, Some, None, slice_get, refl, sym, ap, ◌∙◌, subst, arith, cond, if◌then◌else◌}
 use Rattle.std.specs.List.{list_any}
-use Rattle.std.specs.Option.{option_map_or, option_and_then}
+use Rattle.std.specs.Option.{option_and_then}
 use Rattle.std.specs.Prelude.{option_map}
 use Rattle.std.proofs.lemmas.Option.{same_Some, cond_some, none-some}
-use Rattle.std.proofs.lemmas.Bool.{and_parts, or_parts, not-false, ltb-true, eqb-true, false≢true, true≢false}
+use Rattle.std.proofs.lemmas.Bool.{eqb-true, false≢true}
 use Rattle.xk_types.specs.declared.instr.Instr.{Instr}
 use Rattle.xk_types.specs.declared.instr.Instr.TheVariants as instr
 use Rattle.xk_types.specs.Order.{Has}
-use Rattle.xk_types.specs.Code.{UnitValue, Loop, begun_from, loops, is_next_of}
+use Rattle.xk_types.specs.Code.{UnitValue, Loop, begun_from, is_next_of}
 use Rattle.xk_types.specs.Blocks.{Span, is_end_of, finish_opened, finishes}
-use Rattle.xk_types.specs.Shape.{lies_ahead, aims_well, instr_is, is_crossing, is_amiss, span_of, span_begun, span_ended, spans, overlaps}
+use Rattle.xk_types.specs.Shape.{span_of, span_begun, span_ended, spans, overlaps}
 use Rattle.xk_shape.specs.Blocks.{IsOrderly}
-
--- ---- lists of what instructions begin
-
--- an element of such a list, and the instruction that begins it
-record IsFound {X : Type 0} (begun : ℕ → Instr → Option X) (at : ℕ) (is : List Instr) (x : X) : Type 0 where
-  pub j : ℕ
-  pub i : Instr
-  pub found : slice_get is j ≡ Some i
-  pub begins : begun (at + j) i ≡ Some x
-
-begun_found : {X : Type 0} (begun : ℕ → Instr → Option X) (at : ℕ) (is : List Instr) (x : X) → Has (begun_from begun at is) x → IsFound begun at is x
-begun_found begun at [] x h = absurd h
-begun_found {X} begun at (i ∷ is) x h = go (begun at i) refl (begun_found begun (suc at) is x) h
-  where
-    later_found : IsFound begun (suc at) is x → IsFound begun at (i ∷ is) x
-    later_found r =
-        let same : suc at + r.j ≡ at + suc r.j = omega arith in
-        record { j = suc r.j; i = r.i; found = r.found; begins = subst (λ n. begun n r.i ≡ Some x) same r.begins }
-
-    go : (o : Option X) → begun at i ≡ o → (Has (begun_from begun (suc at) is) x → IsFound begun (suc at) is x)
-        → Has (option_map_or (λ k. k ∷ begun_from begun (suc at) is) o (begun_from begun (suc at) is)) x → IsFound begun at (i ∷ is) x
-    go None e later g = later_found (later g)
-    go (Some k) e later (inl q) =
-        let same : at ≡ at + 0 = omega arith in
-        record { j = 0; i = i; found = refl; begins = subst (λ n. begun n i ≡ Some x) same (e ∙ ap Some q) }
-    go (Some k) e later (inr g) = later_found (later g)
-
--- what an instruction begins is an element
-begun_had : {X : Type 0} (begun : ℕ → Instr → Option X) (at : ℕ) (is : List Instr) (j n : ℕ) (i : Instr) (x : X) → slice_get is j ≡ Some i → n ≡ at + j → begun n i ≡ Some x → Has (begun_from begun at is) x
-begun_had begun at [] j n i x h e g = absurd (none-some i h)
-begun_had begun at (y ∷ is) zero n i x h e g =
-    let same : n ≡ at = omega arith in
-    subst (λ o. Has (option_map_or (λ k. k ∷ begun_from begun (suc at) is) o (begun_from begun (suc at) is)) x)
-    (sym (ap (begun at) (same_Some y i h) ∙ ap (λ m. begun m i) (sym same) ∙ g)) (inl refl)
-begun_had {X} begun at (y ∷ is) (suc j) n i x h e g = go (begun at y) (begun_had begun (suc at) is j n i x h (omega arith) g)
-  where
-    go : (o : Option X) → Has (begun_from begun (suc at) is) x → Has (option_map_or (λ k. k ∷ begun_from begun (suc at) is) o (begun_from begun (suc at) is)) x
-    go None r = r
-    go (Some k) r = inr r
+use Rattle.xk_types.proofs.Members.{none_has}
+use Rattle.xk_types.proofs.Shape.Begun.{begun_found, begun_had}
+use Rattle.xk_types.proofs.Shape.Spans.{end_is, not_amiss, finish_span, aims, uncrossing, ahead}
 
 -- ---- finishes
 
@@ -58,11 +22,6 @@ begun_had {X} begun at (y ∷ is) (suc j) n i x h e g = go (begun at y) (begun_h
 pub record IsFinish (u : UnitValue) (f : Span) : Type 0 where
   pub begins : slice_get u.code f.first ≡ Some (instr.Finish f.last)
   pub ends : slice_get u.code f.last ≡ Some (instr.EndFinish f.first)
-
-end_is : (first : ℕ) (o : Option Instr) → is_end_of first o ≡ true → o ≡ Some (instr.EndFinish first)
-end_is first None h = absurd (false≢true h)
-end_is first (Some (instr.EndFinish b)) h = ap (λ n. Some (instr.EndFinish n)) (eqb-true b first h)
-end_is first (Some _) h = absurd (false≢true h)
 
 abbrev pub finish_of : ℕ → ℕ → Span
 finish_of first last = record { first = first; last = last }
@@ -107,21 +66,6 @@ one_first u f g is at_g e = let same = same_Some _ _ (sym at_g.ends ∙ ap (slic
 
 -- ---- what the rules say of them
 
--- no element passes a test that none passes
-pub none_has : {X : Type 0} (test : X → Bool) (xs : List X) (x : X) → list_any test xs ≡ false → Has xs x → test x ≡ false
-none_has test [] x h g = absurd g
-none_has test (y ∷ xs) x h (inl e) = subst (λ z. test z ≡ false) e (or_parts (test y) (list_any test xs) h).0
-none_has test (y ∷ xs) x h (inr g) = none_has test xs x (or_parts (test y) (list_any test xs) h).1 g
-
-has_right : {X : Type 0} (xs ys : List X) (x : X) → Has ys x → Has (xs ++ ys) x
-has_right [] ys x h = h
-has_right (y ∷ xs) ys x h = inr (has_right xs ys x h)
-
--- a stretch that isn't amiss is one, and overlaps no finish
-not_amiss : (u : UnitValue) (o : Option Span) → is_amiss u o ≡ false → (s : Span) × (o ≡ Some s) × (list_any (overlaps s) (spans u) ≡ false)
-not_amiss u None h = absurd (true≢false h)
-not_amiss u (Some s) h = (s, refl, h)
-
 -- what a loop is taken for that begins as a stretch
 abbrev loop_of : ℕ → ℕ → ℕ → ℤ → ℤ → Loop
 loop_of first last k lo hi = record { first = first; last = last; slot = k; lo = lo; hi = hi }
@@ -139,29 +83,20 @@ pub record IsApart (u : UnitValue) (f : Span) : Type 0 where
   pub apart : (g : Span) → Has (finishes u) g → overlaps f g ≡ false
 
 module _ (u : UnitValue) (orderly : IsOrderly u) where
-  aims : (at : ℕ) (i : Instr) → slice_get u.code at ≡ Some i → aims_well u at i ≡ true
-  aims at i here = not-false (aims_well u at i) (ap (instr_is (λ x. not (aims_well u at x))) (sym here) ∙ orderly.targets at)
-
-  uncrossing : (at : ℕ) (i : Instr) → slice_get u.code at ≡ Some i → is_crossing u at i ≡ false
-  uncrossing at i here = ap (instr_is (is_crossing u at)) (sym here) ∙ orderly.blocks at
-
-  ahead : (at t : ℕ) → lies_ahead u at t ≡ true → (at < t) × (t < length u.code)
-  ahead at t h = let p = and_parts (nat_lt at t) (nat_lt t (length u.code)) h in (ltb-true at t p.0, ltb-true t (length u.code) p.1)
-
   -- each `finish` begins one
   pub begun_at : (b e : ℕ) → slice_get u.code b ≡ Some (instr.Finish e) → IsApart u (finish_of b e)
   begun_at b e here =
       let i = instr.Finish e in
-      let g = not_amiss u (span_begun u b i) (uncrossing b i here) in
+      let g = not_amiss u (span_begun u b i) (uncrossing u orderly.blocks b i here) in
       let p = cond_some (is_end_of b (slice_get u.code e)) (finish_of b e) g.0 g.1 in
-      let aim = ahead b e (aims b i here) in
+      let aim = ahead u b e (aims u orderly.targets b i here) in
       let has = begun_had (finish_opened u) 0 u.code b b i (finish_of b e) here (omega arith) (g.1 ∙ ap Some (sym p.1)) in
       record {
         is = is_finish u (finish_of b e) has;
         has = has;
         ahead = aim.0;
         inside = aim.1;
-        apart = λ k h. none_has (overlaps (finish_of b e)) (spans u) k (ap (λ s. list_any (overlaps s) (spans u)) p.1 ∙ g.2) (has_right (map span_of (loops u)) (finishes u) k h);
+        apart = λ k h. none_has (overlaps (finish_of b e)) (spans u) k (ap (λ s. list_any (overlaps s) (spans u)) p.1 ∙ g.2) (finish_span u k h);
       }
 
   pub is_apart : (f : Span) → Has (finishes u) f → IsApart u f
@@ -181,7 +116,7 @@ module _ (u : UnitValue) (orderly : IsOrderly u) where
 
   -- each `endfinish` ends one
   pub ended_at : (at first : ℕ) → slice_get u.code at ≡ Some (instr.EndFinish first) → IsApart u (finish_of first at)
-  ended_at at first here = go (slice_get u.code first) refl (not_amiss u (span_ended u at first (slice_get u.code first)) (uncrossing at (instr.EndFinish first) here))
+  ended_at at first here = go (slice_get u.code first) refl (not_amiss u (span_ended u at first (slice_get u.code first)) (uncrossing u orderly.blocks at (instr.EndFinish first) here))
     where
       go : (o : Option Instr) → slice_get u.code first ≡ o → (s : Span) × (span_ended u at first o ≡ Some s) × (list_any (overlaps s) (spans u) ≡ false) → IsApart u (finish_of first at)
       go None f g = absurd (none-some g.0 g.1)

@@ -1,8 +1,8 @@
-pub mod Clocks
+pub mod Arguments
 pub mod Units
 pub mod Finishes
 pub mod Around
 pub mod OneBlock
-pub mod Places
-pub mod Tables
-pub mod HomesOf
+pub mod TablePlaces
+pub mod TableLists
+pub mod TableHomes

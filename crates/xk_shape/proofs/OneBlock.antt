@@ -1,16 +1,18 @@
 -- Two places stand directly in one block where the innermost finishes around them are one.
-use Rattle.std.proofs.Common.{◌≡◌, ℕ, ◌<◌, ◌≤◌, ◌⊎◌, ◌==◌, eqb, Bool, true, false, List, [], ◌∷◌, ◌++◌, map, filter, cond, Option, Some, None, inl, inr, refl, sym, ap, ◌∙◌, subst, arith}
+use Rattle.std.proofs.Common.{◌≡◌, ℕ, ◌<◌, ◌≤◌, ◌⊎◌, eqb, Bool, true, false, List, [], ◌∷◌, ◌++◌, map, filter, cond, Option, Some, None, inl, inr, refl, sym, ap, ◌∙◌, subst, arith}
 use Rattle.std.specs.Bool.{Decides}
 use Rattle.std.specs.List.{last_or}
 use Rattle.std.specs.Option.{option_eq}
 use Rattle.std.proofs.lemmas.Option.{same_Some, none-some}
-use Rattle.std.proofs.lemmas.Bool.{and_parts, and_from, eqb-true, eq-eqb, both_ways, false≢true, cases_order}
+use Rattle.std.proofs.lemmas.Bool.{eqb-true, eq-eqb, both_ways, false≢true, cases_order}
 use Rattle.xk_types.specs.Order.{Has}
 use Rattle.xk_types.specs.Code.{UnitValue}
 use Rattle.xk_types.specs.Blocks.{Span, finishes, is_inside, block_at, same_block}
 use Rattle.xk_shape.specs.Blocks.{IsOrderly, innermost}
 use Rattle.xk_shape.proofs.Finishes.{one_last, is_apart}
 use Rattle.xk_shape.proofs.Around.{around, Ascends, finishes_ascend, around_same, ends_inside, decides_inside}
+use Rattle.xk_types.proofs.Shape.Spans.{same_is, is_same}
+use Rattle.xk_types.proofs.Members.{same_test}
 
 -- ---- the last of a list
 
@@ -80,11 +82,6 @@ last_chosen p (f ∷ fs) o m asc h = go (p f) refl (λ x. last_chosen p fs x m a
       | inr r ↦ inr (kept r (λ on. absurd (both_ways (p f) e on)))
     ]
 
-pub both_true : (p q : Bool) → (p ≡ true → q ≡ true) → (q ≡ true → p ≡ true) → p ≡ q
-both_true true q to from = sym (to refl)
-both_true false true to from = from refl
-both_true false false to from = refl
-
 -- ---- two places
 
 module _ (u : UnitValue) (orderly : IsOrderly u) where
@@ -126,31 +123,19 @@ module _ (u : UnitValue) (orderly : IsOrderly u) where
         | inr of_a ↦ elim (last_chosen (is_inside b) (finishes u) None m (finishes_ascend u 0 u.code) (same ∙ at_a)) [
           | inl none ↦ absurd (none-some m none.0)
           | inr of_b ↦ around_same (is_inside a) (is_inside b) (finishes u)
-              (λ f has. both_true (is_inside a f) (is_inside b f) (all_around a b m of_a of_b f has) (all_around b a m of_b of_a f has))
+              (λ f has. same_test (is_inside a f) (is_inside b f) (all_around a b m of_a of_b f has) (all_around b a m of_b of_a f has))
         ]
       ]
 
 -- ---- the test on blocks
 
-same_list : (xs ys : List ℕ) → same_block xs ys ≡ true → xs ≡ ys
-same_list [] [] h = refl
-same_list [] (y ∷ ys) h = absurd (false≢true h)
-same_list (x ∷ xs) [] h = absurd (false≢true h)
-same_list (x ∷ xs) (y ∷ ys) h =
-    let p = and_parts (x == y) (same_block xs ys) h in
-    ap (λ z. z ∷ xs) (eqb-true x y p.0) ∙ ap (λ zs. y ∷ zs) (same_list xs ys p.1)
-
-same_itself : (xs : List ℕ) → same_block xs xs ≡ true
-same_itself [] = refl
-same_itself (x ∷ xs) = and_from (x == x) (same_block xs xs) (eq-eqb x x refl) (same_itself xs)
-
 pub decides_block : (xs ys : List ℕ) → Decides (same_block xs ys) (xs ≡ ys)
-decides_block xs ys = (same_list xs ys, λ e. subst (λ zs. same_block xs zs ≡ true) e (same_itself xs))
+decides_block xs ys = (same_is xs ys, λ e. subst (λ zs. same_block xs zs ≡ true) e (is_same xs))
 
 -- two places stand directly in one block where the innermost finishes around them are one
 pub decides_place : (u : UnitValue) → IsOrderly u → (a b : ℕ) → Decides (same_block (block_at u a) (block_at u b)) (innermost (block_at u a) ≡ innermost (block_at u b))
 decides_place u orderly a b =
-    (λ on. ap innermost (same_list (block_at u a) (block_at u b) on), λ e. (decides_block (block_at u a) (block_at u b)).1 (same_innermost u orderly a b e))
+    (λ on. ap innermost (same_is (block_at u a) (block_at u b) on), λ e. (decides_block (block_at u a) (block_at u b)).1 (same_innermost u orderly a b e))
 
 pub decides_option : (a b : Option ℕ) → Decides (option_eq eqb a b) (a ≡ b)
 decides_option None None = (λ on. refl, λ e. refl)

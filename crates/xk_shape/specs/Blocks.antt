@@ -25,6 +25,7 @@ pub record HasBlocks (u : UnitValue) : Type 0 where
 abbrev pub innermost : List ℕ → Option ℕ
 innermost block = last_or None block
 
+-- how a place lies to the finishes of its unit
 abbrev pub place_at : UnitValue → ℕ → Place
 place_at u at = record { finish = innermost (block_at u at); depth = depth_at u at }
 
@@ -39,11 +40,13 @@ AreFirstPlaces u places = (at : ℕ) → at < length places → slice_get places
 abbrev pub home_place : UnitValue → ℕ → Option ℕ
 home_place u s = if takes_clock (slice_get u.params s) then Some 0 else position (makes s) u.code
 
+-- so the first slots have their homes
 abbrev pub AreFirstHomes : UnitValue → List (Option ℕ) → Type 0
 AreFirstHomes u hs = (s : ℕ) → s < length hs → slice_get hs s ≡ Some (home_place u s)
 
 -- ---- all of them
 
+-- the tables are those of the unit: they have each place and each slot
 pub record AreTables (u : UnitValue) (t : Tables) : Type 0 where
   pub all_places : length t.places.items ≡ length u.code
   pub places : AreFirstPlaces u t.places.items

@@ -10,8 +10,9 @@ use xk_types::Rule;
 pub struct ShapeFault {
     /// One of V1 to V10.
     pub rule: Rule,
+    /// The unit, by its number.
     pub unit: u16,
-    /// The instruction, or 0 where the fault is one of the whole unit.
+    /// The place of the instruction in the unit's code, or 0 where the fault is one of the whole unit.
     pub at: u16,
 }
 

@@ -14,6 +14,5 @@ mod tests;
 
 pub use blocks::Blocks;
 pub use fault::{ShapeError, ShapeFault};
-pub use nesting::{Loop, loops};
 pub use rules::params_of;
 pub use shaped::{Shaped, shape};

@@ -13,17 +13,17 @@ use xk_types::{Instr, Unit};
 
 /// A loop: a `for` and a `next` that name each other.
 #[derive(Clone, Copy, Debug, PartialEq, Eq)]
-pub struct Loop {
+pub(crate) struct Loop {
     /// The place of its `for`.
-    pub first: u16,
+    pub(crate) first: u16,
     /// The place of its `next`.
-    pub last: u16,
+    pub(crate) last: u16,
     /// The slot that counts its turns.
-    pub slot: u16,
+    pub(crate) slot: u16,
     /// The lower bound: what the slot holds in the first turn.
-    pub lo: i64,
+    pub(crate) lo: i64,
     /// The upper bound: what it holds in the last.
-    pub hi: i64,
+    pub(crate) hi: i64,
 }
 
 impl Model for Loop {
@@ -102,7 +102,7 @@ fn finishes(alloc: Global, u: &Unit) -> Result<Vec<Span>, AllocError>
 }
 
 /// The loops of a unit, by the places of their `for`. The error is that room for them was refused.
-pub fn loops(alloc: Global, u: &Unit) -> Result<Vec<Loop>, AllocError>
+pub(crate) fn loops(alloc: Global, u: &Unit) -> Result<Vec<Loop>, AllocError>
     ensures { IfOk result (λ found. found.items ≡ loops_of u.now) }
 {
     let mut found = Vec::new(alloc);

@@ -1,4 +1,5 @@
-use crate::{Blocks, Loop, ShapeError, Shaped, loops, params_of, shape};
+use crate::nesting::{Loop, loops};
+use crate::{Blocks, ShapeError, Shaped, params_of, shape};
 use std::alloc::{AllocError, Global};
 use std::test::Fail;
 use xk_types::{Args, Comparison, Instr, Module, ParamKind, Unit, UnitKind};

@@ -77,6 +77,7 @@ chain_within own m zero unit = 0
 chain_within own m (suc depth) unit =
     option_map_or (λ u. own u + greatest (map (λ i. option_map_or (chain_within own m depth) (unit_called i) 0) u.code)) (slice_get m.units unit) 0
 
+-- the same, as deep as there are units: none is deeper, since each calls only greater ones
 abbrev pub chain_of : (UnitValue → ℕ) → ModuleValue → ℕ → ℕ
 chain_of own m unit = chain_within own m (length m.units) unit
 

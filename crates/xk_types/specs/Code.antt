@@ -22,6 +22,7 @@ pub record ModuleValue : Type 0 where
   pub shared : List ℤ
   pub units : List UnitValue
 
+-- the module of these shared numbers and units
 abbrev pub module_of : List ℤ → List UnitValue → ModuleValue
 module_of shared units = record { shared = shared; units = units }
 
@@ -61,11 +62,13 @@ is_main unit_kind.Main = true
 is_main unit_kind.Method = false
 is_main unit_kind.Body = false
 
+-- a unit of a method
 abbrev pub is_method : UnitKind → Bool
 is_method unit_kind.Main = false
 is_method unit_kind.Method = true
 is_method unit_kind.Body = false
 
+-- a unit of an activity that another one starts
 abbrev pub is_body : UnitKind → Bool
 is_body unit_kind.Main = false
 is_body unit_kind.Method = false
@@ -103,6 +106,7 @@ abbrev pub begun_from : {X : Type 0} → (ℕ → Instr → Option X) → ℕ �
 begun_from begun at [] = []
 begun_from begun at (i ∷ is) = option_map_or (λ x. x ∷ begun_from begun (suc at) is) (begun at i) (begun_from begun (suc at) is)
 
+-- the loops that instructions begin, the first of them at place `at`
 abbrev pub loops_from : UnitValue → ℕ → List Instr → List Loop
 loops_from u at is = begun_from (loop_begun u) at is
 

@@ -5,6 +5,7 @@ use Rattle.xk_types.specs.declared.rules.Rule.TheVariants as rule
 use Rattle.xk_types.specs.declared.rules.Kind.{Kind}
 use Rattle.xk_types.specs.declared.rules.Kind.TheVariants as kind
 
+-- the number of a rule: V1 has the number 1
 abbrev pub rule_number : Rule → ℕ
 rule_number rule.Target = 1
 rule_number rule.Block = 2
@@ -24,6 +25,7 @@ rule_number rule.Activities = 15
 rule_number rule.Clocks = 16
 rule_number rule.Stack = 17
 
+-- the name of a rule, as it is printed behind its number
 abbrev pub rule_name : Rule → List ℕ
 rule_name rule.Target = codes "Target"
 rule_name rule.Block = codes "Block"
@@ -43,6 +45,7 @@ rule_name rule.Activities = codes "Activities"
 rule_name rule.Clocks = codes "Clocks"
 rule_name rule.Stack = codes "Stack"
 
+-- the name of a kind
 abbrev pub kind_name : Kind → List ℕ
 kind_name kind.Unset = codes "unset"
 kind_name kind.Number = codes "number"

@@ -16,6 +16,7 @@ pub data Course : Type 0 where
   Held : World → Course
   Wronged : World → Cause → Course
 
+-- a run goes on behind a step that is taken, and stops before any other
 abbrev pub run_on : World → Outcome → (World → Course) → Course
 run_on w Blocked go = Held w
 run_on w (Wrong c) go = Wronged w c
@@ -36,6 +37,7 @@ IsReached m w = (list : List ℕ) × Leads m list w
 
 -- ---- enabled, ended
 
+-- a step is taken
 abbrev pub is_step : Outcome → Bool
 is_step Blocked = false
 is_step (Wrong c) = false
@@ -51,6 +53,7 @@ all_ended w = list_all (λ act. is_ended act.status) w.activities
 
 -- ---- what is seen of a run
 
+-- no other activity sees it
 abbrev pub is_local : Event → Bool
 is_local event.Local = true
 is_local (event.Printed n) = false
@@ -67,6 +70,7 @@ is_local event.Arrived = false
 is_local event.Passed = false
 is_local event.Ended = false
 
+-- the event of a step of activity a, and those of the rest of the run
 abbrev pub events_on : ℕ → Outcome → (World → List (ℕ × Event)) → List (ℕ × Event)
 events_on a Blocked go = []
 events_on a (Wrong c) go = []
@@ -81,6 +85,7 @@ events m (a ∷ list) w = events_on a (step m w a) (events m list)
 abbrev pub seen : ModuleValue → List ℕ → World → List (ℕ × Event)
 seen m list w = filter (λ p. not (is_local p.1)) (events m list w)
 
+-- the number that an event prints
 abbrev pub number_printed : Event → Option ℤ
 number_printed event.Local = None
 number_printed (event.Printed n) = Some n

@@ -53,6 +53,7 @@ target (instr.Unless op x y t) = Some t
 target (instr.Jump t) = Some t
 target _ = None
 
+-- the instruction is a `ret`
 abbrev pub is_ret : Instr → Bool
 is_ret instr.Ret = true
 is_ret _ = false
@@ -122,6 +123,7 @@ differ false q = q
 abbrev pub crosses : ℕ → ℕ → Span → Bool
 crosses at t l = differ (nat_lt l.first at && nat_lt at l.last) (is_inside t l)
 
+-- the instruction is half of a loop or a finish that is amiss, or a jump that crosses the edge of one
 abbrev pub is_crossing : UnitValue → ℕ → Instr → Bool
 is_crossing u at (instr.For k lo hi e) = is_amiss u (span_begun u at (instr.For k lo hi e))
 is_crossing u at (instr.Finish e) = is_amiss u (span_begun u at (instr.Finish e))
@@ -178,6 +180,7 @@ abbrev pub is_fitting : (UnitKind → Bool) → ℕ → ℕ → List ℕ → Opt
 is_fitting kind unit t args None = false
 is_fitting kind unit t args (Some v) = kind v.kind && nat_lt unit t && (length args == length v.params)
 
+-- the instruction calls or starts a unit that isn't fitting
 abbrev pub runs_amiss : ModuleValue → ℕ → Instr → Bool
 runs_amiss m unit (instr.Call t args) = not (is_fitting is_method unit t args (slice_get m.units t))
 runs_amiss m unit (instr.Spawn t args) = not (is_fitting is_body unit t args (slice_get m.units t))
@@ -226,6 +229,7 @@ abbrev pub has_twice : List ℕ → Bool
 has_twice [] = false
 has_twice (x ∷ xs) = list_any (λ y. y == x) xs || has_twice xs
 
+-- the instruction lends or hands on the clock of one slot twice
 abbrev pub gives_twice : ModuleValue → Instr → Bool
 gives_twice m (instr.Call t args) = has_twice (clock_arguments (params_of m t) args)
 gives_twice m (instr.Spawn t args) = has_twice (clock_arguments (params_of m t) args)
@@ -255,6 +259,7 @@ breaks_in m rule.Activities unit u at = false
 breaks_in m rule.Clocks unit u at = false
 breaks_in m rule.Stack unit u at = false
 
+-- a place of a unit breaks the rule; where there is no such unit nothing does
 abbrev pub breaks_unit_of : ModuleValue → Rule → ℕ → Option UnitValue → ℕ → Bool
 breaks_unit_of m r unit None at = false
 breaks_unit_of m r unit (Some u) at = breaks_in m r unit u at

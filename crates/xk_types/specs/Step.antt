@@ -52,6 +52,7 @@ pub data Outcome : Type 0 where
 
 -- ---- standings
 
+-- it has resumed, and the clock hasn't advanced since
 abbrev pub is_signalled : Standing → Bool
 is_signalled standing.Apart = false
 is_signalled standing.Open = false
@@ -92,12 +93,15 @@ dropped s = standing.Apart
 
 -- ---- the end of a step: each clock that somebody is registered on, all of them signalled, advances
 
+-- somebody is signalled on the clock, and nobody is open or ahead
 abbrev pub is_ready : Clock → Bool
 is_ready c = list_any is_signalled c.standings && not (list_any is_pending c.standings)
 
+-- a clock at the end of step number `now`: it advances if it is ready
 abbrev pub settled_clock : ℕ → Clock → Clock
 settled_clock now c = if is_ready c then record { phase = c.phase + 1; last = now; standings = map advanced c.standings } else c
 
+-- the world at the end of a step, which is counted
 abbrev pub settled : World → World
 settled w = record w { clocks = map (settled_clock (w.steps + 1)) w.clocks; steps = w.steps + 1 }
 
@@ -162,6 +166,7 @@ child m a act unit values = record {
   governed = governing a act;
 }
 
+-- the value is the name of clock c
 abbrev pub names_clock : ℕ → Value → Bool
 names_clock c value.Unset = false
 names_clock c (value.Number n) = false
@@ -208,6 +213,7 @@ past act now = record (onward act) { status = status.Running; since = now }
 
 -- ---- operands
 
+-- what a slot of the present frame holds
 abbrev pub slot_at : Activity → ℕ → Option Value
 slot_at act s = slice_get act.frame.slots s
 
@@ -242,6 +248,7 @@ abbrev pub put_in : Option Value → Activity → ℕ → Value → (Activity �
 put_in None act d v go = Wrong OutOfRange
 put_in (Some old) act d v go = go (onward (with_slots act (slice_set act.frame.slots d v)))
 
+-- slot d is written: the activity goes on with it
 abbrev pub writing : Activity → ℕ → Value → (Activity → Outcome) → Outcome
 writing act d v go = put_in (slot_at act d) act d v go
 
@@ -292,12 +299,14 @@ returning w a act (f ∷ fs) = done w a (back_in act f fs) none event.Local
 
 -- ---- finishes
 
+-- both finishes have one owner, or none
 abbrev pub same_owner : Option ℕ → Option ℕ → Bool
 same_owner None None = true
 same_owner None (Some b) = false
 same_owner (Some a) None = false
 same_owner (Some a) (Some b) = a == b
 
+-- both are one finish
 abbrev pub same_finish : Finish → Finish → Bool
 same_finish f g = same_owner f.owner g.owner && (f.depth == g.depth)
 
@@ -397,6 +406,7 @@ carried_out m w a act (instr.Call t args) = calling m w a act t args (slice_get 
 carried_out m w a act (instr.Spawn t args) = spawning m w a act t args (slice_get m.units t)
 carried_out m w a act instr.Ret = returning w a act act.callers
 
+-- what a running activity does, by the instruction that it stands at
 abbrev pub run_at : ModuleValue → World → ℕ → Activity → Option Instr → Outcome
 run_at m w a act None = Wrong OutOfRange
 run_at m w a act (Some i) = carried_out m w a act i
@@ -409,11 +419,13 @@ waits w a = list_any (λ c. is_signalled (standing_of c a)) w.clocks
 abbrev pub passing : World → ℕ → Activity → Outcome
 passing w a act = if waits w a then Blocked else done w a (past act (w.steps + 1)) (all passed) event.Passed
 
+-- a step of an activity, by its status
 abbrev pub step_by : ModuleValue → World → ℕ → Activity → Status → Outcome
 step_by m w a act status.Running = run_at m w a act (instruction_at m act.frame)
 step_by m w a act status.Arrived = passing w a act
 step_by m w a act status.Ended = Blocked
 
+-- a step of the activity that has the number, if there is one
 abbrev pub step_of : ModuleValue → World → ℕ → Option Activity → Outcome
 step_of m w a None = Blocked
 step_of m w a (Some act) = step_by m w a act act.status

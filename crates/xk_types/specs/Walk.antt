@@ -122,6 +122,7 @@ is_own u s = is_method u.kind && not (nat_lt s (length u.params))
 
 -- ---- the table: what an instruction of unit u leaves of the kind k of slot s
 
+-- what the instruction asks of the slot, and what it leaves there
 abbrev pub after : ModuleValue → UnitValue → Instr → ℕ → Kind → After
 after m u (instr.Lit d n) s k = writes d kind.Number s k
 after m u (instr.Copy d x) s k = reads x s k (writes d kind.Number s k)
@@ -157,10 +158,12 @@ successors (instr.Next b) at = (at + 1) ∷ (b + 1) ∷ []
 successors instr.Ret at = []
 successors _ at = (at + 1) ∷ []
 
+-- where the instruction at a place may lead
 abbrev pub places_after : Option Instr → ℕ → List ℕ
 places_after None at = []
 places_after (Some i) at = successors i at
 
+-- what the instruction at a place leaves of a kind
 abbrev pub row_of : ModuleValue → UnitValue → ℕ → Kind → Option Instr → After
 row_of m u s k None = To []
 row_of m u s k (Some i) = after m u i s k
@@ -169,6 +172,7 @@ row_of m u s k (Some i) = after m u i s k
 abbrev pub row : ModuleValue → UnitValue → ℕ → Visit → After
 row m u s p = row_of m u s p.kind (slice_get u.code p.at)
 
+-- the row leaves this kind, among others or alone
 abbrev pub MayBecome : After → Kind → Type 0
 MayBecome (To ks) k = Has ks k
 MayBecome (Refused r) k = ⊥
@@ -180,6 +184,7 @@ pub record IsEdge (m : ModuleValue) (u : UnitValue) (s : ℕ) (p q : Visit) : Ty
 
 -- ---- walks
 
+-- the kinds that a slot may have at first, by the parameter that it is
 abbrev pub entry_of : Option ParamKind → List Kind
 entry_of None = kind.Unset ∷ []
 entry_of (Some param.Number) = kind.Number ∷ []
@@ -189,6 +194,7 @@ entry_of (Some param.Clock) = kind.Live ∷ kind.Resumed ∷ []
 abbrev pub entry_kinds : UnitValue → ℕ → List Kind
 entry_kinds u s = entry_of (slice_get u.params s)
 
+-- each stop of the list is joined to the one before it by an edge, and the first of them to p
 abbrev pub Continues : ModuleValue → UnitValue → ℕ → Visit → List Visit → Type 0
 Continues m u s p [] = Unit {0}
 Continues m u s p (q ∷ rest) = IsEdge m u s p q × Continues m u s q rest
@@ -198,10 +204,12 @@ abbrev pub IsWalk : ModuleValue → UnitValue → ℕ → List Visit → Type 0
 IsWalk m u s [] = ⊥
 IsWalk m u s (p ∷ rest) = (p.at ≡ 0) × Has (entry_kinds u s) p.kind × Continues m u s p rest
 
+-- the last stop of a list that begins with p
 abbrev pub last_of : Visit → List Visit → Visit
 last_of p [] = p
 last_of p (q ∷ rest) = last_of q rest
 
+-- the list ends with this stop
 abbrev pub EndsAt : List Visit → Visit → Type 0
 EndsAt [] q = ⊥
 EndsAt (p ∷ rest) q = last_of p rest ≡ q

@@ -37,6 +37,7 @@ pub record Activity : Type 0 where
   pub opened : ℕ
   pub governed : Finish
 
+-- the activity is over
 abbrev pub is_ended : Status → Bool
 is_ended status.Running = false
 is_ended status.Arrived = false

@@ -31,7 +31,9 @@ impl Model for ClockId {
 /// One entry of a log: an activity, and how many steps it took one after another, at least 1.
 #[derive(Clone, Copy, Debug, PartialEq, Eq)]
 pub struct Entry {
+    /// The activity, by its number.
     pub act: u32,
+    /// How many steps it took.
     pub steps: u32,
 }
 

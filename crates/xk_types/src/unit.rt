@@ -20,16 +20,22 @@ pub enum UnitKind {
 /// What a parameter takes.
 #[derive(Clone, Copy, Debug, PartialEq, Eq)]
 pub enum ParamKind {
+    /// A number, by value.
     Number,
+    /// A clock: a method is lent it, and an activity that is started is registered on it.
     Clock,
 }
 
 /// A piece of code with its parameters and slots. The parameters are the first slots.
 #[derive(Drop)]
 pub struct Unit {
+    /// What it is for.
     pub kind: UnitKind,
+    /// What its first slots take, one after another.
     pub params: Vec<ParamKind>,
+    /// How many slots it has.
     pub slots: u16,
+    /// Its instructions, numbered from 0.
     pub code: Vec<Instr>,
 }
 

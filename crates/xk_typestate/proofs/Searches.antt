@@ -18,8 +18,9 @@ use Rattle.xk_typestate.specs.Place.{visit}
 use Rattle.xk_typestate.specs.Search.{IsClosed, IsFound, Came, AreSearched, IsSearched, IsComplete, IsPut, Extends, HasPut, CanCome, holds, kinds_absent}
 use Rattle.xk_typestate.specs.declared.search.Found.{Found}
 use Rattle.xk_typestate.specs.declared.search.Search.{Search}
-use Rattle.xk_typestate.proofs.Sets.{have_added, have_kept, have_only, absent_with, none_have}
-use Rattle.xk_typestate.proofs.Walks.{same_visit, visited_start, visited_more, visited_closed, edge_inside}
+use Rattle.xk_typestate.proofs.KindSets.{have_added, have_kept, have_only, absent_with, none_have}
+use Rattle.xk_typestate.proofs.Edges.{same_visit, edge_inside}
+use Rattle.xk_types.proofs.Walks.{visited_start, visited_closed, visited_on}
 
 -- ---- lists that one element was added to
 
@@ -204,7 +205,7 @@ module _ (m : ModuleValue) (u : UnitValue) (s : ℕ) where
   came_visited : (found : List Found) (n : ℕ) (q : Visit) (from : Option ℕ)
       → ((j : ℕ) (f : Found) → j < n → IsFound found j f → IsVisited m u s f.stop) → Came m u s found n q from → IsVisited m u s q
   came_visited found n q None before c = visited_start m u s q c.0 c.1
-  came_visited found n q (Some j) before c = visited_more m u s c.1.0.stop q (before j c.1.0 c.0 c.1.1) c.1.2
+  came_visited found n q (Some j) before c = visited_on m u s c.1.0.stop q (before j c.1.0 c.0 c.1.1) c.1.2
 
   found_visited : (found : List Found) → ((n : ℕ) (f : Found) → IsFound found n f → Came m u s found n f.stop f.from)
       → (b n : ℕ) (f : Found) → n < b → IsFound found n f → IsVisited m u s f.stop
@@ -230,7 +231,7 @@ module _ (m : ModuleValue) (u : UnitValue) (s : ℕ) where
   -- what is visited is seen
   pub visited_seen : (r : Search) → IsComplete m u s r → (q : Visit) → IsVisited m u s q → IsTrue (holds r.seen.items q)
   visited_seen r whole q v =
-      visited_closed m u s (λ x. IsTrue (holds r.seen.items x)) (seen_closed r whole) (entry_seen r whole) q v
+      visited_closed m u s (λ x. IsTrue (holds r.seen.items x)) (entry_seen r whole) (seen_closed r whole) q v
 
 -- ---- what grows
 

@@ -1,4 +1,4 @@
--- From one unit to the module.
+-- From the units to the module: the least fault of the first unit that has one is the module's.
 use Rattle.std.proofs.Common.{◌≡◌, ℕ, ◌<◌, Some, slice_get, inl, inr, sym, ap, ◌∙◌, subst, arith}
 use Rattle.std.proofs.lemmas.Option.{same_Some}
 use Rattle.std.proofs.lemmas.Bool.{cases_order}

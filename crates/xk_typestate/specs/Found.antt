@@ -17,5 +17,6 @@ IsNowhere found q = (n : ℕ) → IsPlaceOf found q n → ⊥
 abbrev pub ComesFromBefore : List Found → Type 0
 ComesFromBefore found = (n : ℕ) (f : Found) (before : ℕ) → IsFound found n f → f.from ≡ Some before → before < n
 
+-- each stop found was come to as it says
 abbrev pub HasCome : ModuleValue → UnitValue → ℕ → List Found → Type 0
 HasCome m u s found = (n : ℕ) (f : Found) → IsFound found n f → Came m u s found n f.stop f.from

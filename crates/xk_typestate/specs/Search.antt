@@ -45,6 +45,7 @@ pub record AreSearched (m : ModuleValue) (u : UnitValue) (s : ℕ) (seen : List 
   pub closed : (n : ℕ) (f : Found) (q : Visit) → IsFound found n f → n < done → IsEdge m u s f.stop q → IsTrue (holds seen q)
   pub once : length found + sum_by kinds_absent seen ≡ 5 * length u.code
 
+-- the search has come so far, for what it has seen and found
 abbrev pub IsSearched : ModuleValue → UnitValue → ℕ → Search → ℕ → Type 0
 IsSearched m u s r done = AreSearched m u s r.seen.items r.found.items done
 

@@ -12,8 +12,11 @@ use xk_types::{Kind, Rule, Visit};
 pub struct KindFault {
     /// One of V11 to V13.
     pub rule: Rule,
+    /// The unit, by its number.
     pub unit: u16,
+    /// The place of the instruction in the unit's code.
     pub at: u16,
+    /// The slot, by its number.
     pub slot: u16,
     /// What the slot may hold before the instruction.
     pub kind: Kind,

@@ -15,8 +15,11 @@ use xk_types::{Instr, Kind, Module, ParamKind, Rule, Unit, UnitKind};
 /// Where an instruction may lead, in rising order.
 #[derive(Clone, Copy)]
 pub(crate) enum Ways {
+    /// The walk ends.
     Nowhere,
+    /// To this place.
     One(u16),
+    /// To one of these places, the lesser first.
     Two(u16, u16),
 }
 

@@ -1,7 +1,7 @@
 -- the instruction that stands there, and how the next place lies
 use Rattle.std.proofs.Common.{◌+◌, Some, None, sym, ap, ◌∙◌, arith}
 use Rattle.xk_shape.specs.declared.blocks.Place.{Place}
-use Rattle.xk_shape.proofs.Places.{found_at, place_known, begins_no, ends_no, depth_few, place_begins, place_ends, place_stays}
+use Rattle.xk_shape.proofs.TablePlaces.{found_at, place_known, begins_no, ends_no, depth_few, place_begins, place_ends, place_stays}
 use Rattle.xk_shape.proofs.blocks.behind.Goals as goal
 
 abbrev outside : Place

@@ -1,8 +1,8 @@
 -- one place more
 use Rattle.std.proofs.Common.{length, sym, ap, ◌∙◌, arith}
 use Rattle.xk_shape.specs.Blocks.{place_at}
-use Rattle.xk_shape.proofs.Places.{place_first}
-use Rattle.xk_shape.proofs.Tables.{known_more, long_more}
+use Rattle.xk_shape.proofs.TablePlaces.{place_first}
+use Rattle.xk_shape.proofs.TableLists.{known_more, long_more}
 use Rattle.xk_shape.proofs.blocks.places.Goals as goal
 
 pub loop-at-init : goal.loop-at-init

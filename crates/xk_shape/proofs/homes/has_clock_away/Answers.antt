@@ -3,7 +3,7 @@ use Rattle.std.proofs.Common.{ℕ, ◌+◌, ◌<◌, ◌≤◌, min, ◌||◌, B
 use Rattle.std.specs.List.{list_any}
 use Rattle.xk_types.specs.Code.{clock_arguments}
 use Rattle.xk_types.specs.Blocks.{block_at, homes, is_elsewhere}
-use Rattle.xk_shape.proofs.Clocks.{clocks_skip, clocks_more, clocks_end}
+use Rattle.xk_shape.proofs.Arguments.{clocks_skip, clocks_more, clocks_end}
 use Rattle.xk_shape.proofs.homes.has_clock_away.Goals as goal
 use Rattle.xk_shape.proofs.homes.has_clock_away.Goals.{in-Number, in-Clock+else-is_away}
 

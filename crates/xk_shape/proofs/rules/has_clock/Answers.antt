@@ -3,7 +3,7 @@ use Rattle.std.proofs.Common.{ℕ, ◌+◌, ◌<◌, ◌≤◌, min, ◌||◌, e
 use Rattle.std.specs.List.{list_any}
 use Rattle.std.proofs.lemmas.Bool.{ne_eqb}
 use Rattle.xk_types.specs.Code.{clock_arguments}
-use Rattle.xk_shape.proofs.Clocks.{clocks_skip, clocks_more, clocks_end}
+use Rattle.xk_shape.proofs.Arguments.{clocks_skip, clocks_more, clocks_end}
 use Rattle.xk_shape.proofs.rules.has_clock.Goals as goal
 use Rattle.xk_shape.proofs.rules.has_clock.Goals.{in-Number, in-Clock+else-args-i}
 

@@ -5,7 +5,7 @@ use Rattle.std.proofs.lemmas.List.{take_rest}
 use Rattle.xk_types.specs.declared.unit.ParamKind.{ParamKind}
 use Rattle.xk_types.specs.Code.{clock_arguments}
 use Rattle.xk_types.specs.Shape.{has_twice}
-use Rattle.xk_shape.proofs.Clocks.{clocks_skip, clocks_more, clocks_end}
+use Rattle.xk_shape.proofs.Arguments.{clocks_skip, clocks_more, clocks_end}
 use Rattle.xk_shape.proofs.rules.has_clock_twice.Goals as goal
 use Rattle.xk_shape.proofs.rules.has_clock_twice.Goals.{in-Number, in-Clock+else-has_clock}
 

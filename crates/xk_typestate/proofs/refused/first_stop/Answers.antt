@@ -1,8 +1,8 @@
 -- instruction after instruction
 use Rattle.std.proofs.Common.{◌≡◌, length, ap, arith}
 use Rattle.xk_types.specs.Code.{UnitValue}
-use Rattle.xk_typestate.proofs.Oks.{none_left}
-use Rattle.xk_typestate.proofs.Stops.{before_more, first_of_unit, before_end}
+use Rattle.xk_typestate.proofs.Results.{none_left}
+use Rattle.xk_typestate.proofs.LeastStop.{before_more, first_of_unit, before_end}
 use Rattle.xk_typestate.proofs.refused.first_stop.Goals as goal
 
 pub loop-at-init : goal.loop-at-init

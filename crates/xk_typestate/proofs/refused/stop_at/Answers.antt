@@ -1,8 +1,8 @@
 -- slot after slot
 use Rattle.std.proofs.Common.{ap, arith}
 use Rattle.xk_types.specs.Code.{UnitValue}
-use Rattle.xk_typestate.proofs.Oks.{none_left}
-use Rattle.xk_typestate.proofs.Stops.{unrefused_more, first_there}
+use Rattle.xk_typestate.proofs.Results.{none_left}
+use Rattle.xk_typestate.proofs.LeastStop.{unrefused_more, first_there}
 use Rattle.xk_typestate.proofs.refused.stop_at.Goals as goal
 
 pub loop-slot-preserved : goal.loop-slot-preserved

@@ -1,8 +1,8 @@
 -- kind after kind
 use Rattle.std.proofs.Common.{refl, arith}
 use Rattle.xk_typestate.proofs.Searches.{kind_place-lt}
-use Rattle.xk_typestate.proofs.Oks.{none_left}
-use Rattle.xk_typestate.proofs.Stops.{allowed_more, first_kind}
+use Rattle.xk_typestate.proofs.Results.{none_left}
+use Rattle.xk_typestate.proofs.LeastStop.{allowed_more, first_kind}
 use Rattle.xk_typestate.proofs.refused.stop_of.Goals as goal
 
 pub loop-kind-init : goal.loop-kind-init

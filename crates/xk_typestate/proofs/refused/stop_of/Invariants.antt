@@ -1,5 +1,5 @@
 -- the kinds so far are allowed
-use Rattle.xk_typestate.proofs.Stops.{AreAllowedBelow}
+use Rattle.xk_typestate.proofs.LeastStop.{AreAllowedBelow}
 use Rattle.xk_typestate.proofs.refused.stop_of.Given as goal
 
 abbrev pub invariant-loop-kind : goal.invariant-loop-kind

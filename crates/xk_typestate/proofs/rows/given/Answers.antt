@@ -1,6 +1,6 @@
 -- all is given
 use Rattle.std.proofs.Common.{◌≤◌, min, length, ◌∙◌, arith}
-use Rattle.xk_typestate.proofs.Given.{given_end}
+use Rattle.xk_typestate.proofs.Arguments.{given_end}
 use Rattle.xk_typestate.proofs.rows.given.Goals as goal
 
 pub returns : goal.returns

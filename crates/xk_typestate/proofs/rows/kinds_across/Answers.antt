@@ -1,7 +1,7 @@
 -- one kind is left, or two
 use Rattle.std.proofs.Common.{rules}
 use Rattle.xk_types.specs.declared.rules.Kind.TheVariants as kind
-use Rattle.xk_typestate.proofs.OneRow.{one_row, two_row}
+use Rattle.xk_typestate.proofs.TableRows.{one_row, two_row}
 use Rattle.xk_typestate.proofs.rows.kinds_across.Goals as goal
 
 pub returns-in-Live : goal.returns-in-Live

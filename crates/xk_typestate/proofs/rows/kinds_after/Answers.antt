@@ -5,7 +5,7 @@ use Rattle.xk_types.specs.Code.{UnitValue}
 use Rattle.xk_types.specs.Blocks.{block_at, homes, is_here}
 use Rattle.xk_types.specs.Walk.{after, becomes, let_go}
 use Rattle.xk_typestate.specs.Rows.{IsRow}
-use Rattle.xk_typestate.proofs.OneRow.{one_row}
+use Rattle.xk_typestate.proofs.TableRows.{one_row}
 use Rattle.xk_typestate.proofs.rows.kinds_after.Goals as goal
 
 pub returns-in_ok-read-in-Unless-2 : goal.returns-in_ok-read-in-Unless-2

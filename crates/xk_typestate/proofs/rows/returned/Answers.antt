@@ -1,7 +1,7 @@
 -- one kind is left
 use Rattle.std.proofs.Common.{ap, sym, ◌∙◌, if◌then◌else◌}
 use Rattle.xk_types.specs.Walk.{becomes, overwritten}
-use Rattle.xk_typestate.proofs.OneRow.{one_row}
+use Rattle.xk_typestate.proofs.TableRows.{one_row}
 use Rattle.xk_typestate.proofs.rows.returned.Goals as goal
 
 pub returns-else-is_own : goal.returns-else-is_own

@@ -1,6 +1,6 @@
 -- one kind is left
 use Rattle.std.proofs.Common.{rules}
-use Rattle.xk_typestate.proofs.OneRow.{one_row}
+use Rattle.xk_typestate.proofs.TableRows.{one_row}
 use Rattle.xk_typestate.proofs.rows.used.Goals as goal
 
 pub returns-then-slot-c : goal.returns-then-slot-c

@@ -1,6 +1,6 @@
 -- one kind is left
 use Rattle.std.proofs.Common.{rules}
-use Rattle.xk_typestate.proofs.OneRow.{one_row}
+use Rattle.xk_typestate.proofs.TableRows.{one_row}
 use Rattle.xk_typestate.proofs.rows.written.Goals as goal
 
 pub returns-else-slot-d : goal.returns-else-slot-d

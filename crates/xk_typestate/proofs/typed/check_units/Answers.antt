@@ -7,9 +7,9 @@ use Rattle.xk_types.specs.Code.{UnitValue, ModuleValue}
 use Rattle.xk_shape.proofs.Units.{blocks_of_shape}
 use Rattle.xk_typestate.specs.Refused.{IsNeverRefusedIn}
 use Rattle.xk_typestate.specs.Trail.{AreTrails}
-use Rattle.xk_typestate.proofs.Pushes.{each_more}
+use Rattle.xk_typestate.proofs.Lists.{each_more}
 use Rattle.xk_typestate.proofs.Units.{fails_module, never_refused}
-use Rattle.xk_typestate.proofs.Shapes.{closed_from}
+use Rattle.xk_typestate.proofs.InsideCode.{closed_from}
 use Rattle.xk_typestate.proofs.typed.check_units.Goals as goal
 
 found_unit : (m : ModuleValue) (xs : List UnitValue) (n : ℕ) (u : UnitValue) → xs ≡ m.units → n < length xs → u ≡ get_or xs n u → slice_get m.units n ≡ Some u

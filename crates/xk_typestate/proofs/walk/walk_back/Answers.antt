@@ -4,7 +4,7 @@ use Rattle.std.proofs.lemmas.Option.{slice_get-get_or}
 use Rattle.xk_types.specs.declared.rules.Kind.TheVariants as kind
 use Rattle.xk_typestate.specs.Place.{visit}
 use Rattle.xk_typestate.specs.declared.search.Found.{Found}
-use Rattle.xk_typestate.proofs.Back.{IsBack, back_more}
+use Rattle.xk_typestate.proofs.WalkBack.{IsBack, back_more}
 use Rattle.xk_typestate.proofs.walk.walk_back.Goals as goal
 
 pub loop-next-preserved : goal.loop-next-preserved

@@ -3,7 +3,7 @@ use Rattle.std.proofs.Common.{◌≡◌, ℕ, ◌+◌, ◌<◌, length, Some}
 use Rattle.std.specs.Option.{option_map_or}
 use Rattle.xk_types.specs.Code.{UnitValue, ModuleValue}
 use Rattle.xk_typestate.specs.Found.{HasCome}
-use Rattle.xk_typestate.proofs.Back.{IsBack}
+use Rattle.xk_typestate.proofs.WalkBack.{IsBack}
 use Rattle.xk_typestate.proofs.walk.walk_back.Given as goal
 
 abbrev pub invariant-loop-next : goal.invariant-loop-next

@@ -2,7 +2,7 @@
 use Rattle.std.proofs.Common.{sym, ◌∙◌, subst}
 use Rattle.xk_types.specs.Walk.{IsWalk, EndsAt}
 use Rattle.xk_typestate.specs.Found.{IsPlaceOf, HasCome}
-use Rattle.xk_typestate.proofs.Oks.{ok_then}
+use Rattle.xk_typestate.proofs.Results.{ok_then}
 use Rattle.xk_typestate.proofs.Searches.{visited_seen}
 use Rattle.xk_typestate.proofs.walk.walk_to.Goals as goal
 

@@ -3,7 +3,7 @@ use Rattle.std.proofs.Common.{◌≤◌, length, sym, ap, ◌∙◌, arith}
 use Rattle.xk_types.specs.Code.{UnitValue}
 use Rattle.xk_types.specs.Blocks.{depth_at}
 use Rattle.xk_shape.specs.declared.blocks.Place.{Place}
-use Rattle.xk_shape.proofs.Places.{place_past}
+use Rattle.xk_shape.proofs.TablePlaces.{place_past}
 use Rattle.xk_shape.proofs.blocks.Blocks.depth_at.Goals as goal
 
 pub returns-in-None : goal.returns-in-None

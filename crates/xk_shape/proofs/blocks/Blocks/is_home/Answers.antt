@@ -2,7 +2,7 @@
 use Rattle.std.proofs.Common.{◌+◌, sym, ap, ◌∙◌}
 use Rattle.xk_types.specs.Code.{UnitValue}
 use Rattle.xk_types.specs.Blocks.{block_at, same_block, homes, is_here}
-use Rattle.xk_shape.proofs.HomesOf.{homes_any}
+use Rattle.xk_shape.proofs.TableHomes.{homes_any}
 use Rattle.xk_shape.proofs.blocks.Blocks.is_home.Goals as goal
 
 pub returns : goal.returns

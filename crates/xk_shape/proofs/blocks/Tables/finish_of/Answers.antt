@@ -1,7 +1,7 @@
 -- behind the last place there is no finish
 use Rattle.std.proofs.Common.{length, sym, ap, arith}
 use Rattle.xk_shape.specs.declared.blocks.Place.{Place}
-use Rattle.xk_shape.proofs.Places.{place_past}
+use Rattle.xk_shape.proofs.TablePlaces.{place_past}
 use Rattle.xk_shape.proofs.blocks.Tables.finish_of.Goals as goal
 
 pub returns-in-None : goal.returns-in-None

@@ -5,9 +5,9 @@ use Rattle.xk_types.specs.Code.{UnitValue}
 use Rattle.xk_types.specs.Order.{Has}
 use Rattle.xk_typestate.specs.Rows.{places}
 use Rattle.xk_typestate.specs.Search.{CanCome}
-use Rattle.xk_typestate.proofs.Walks.{edge_of, edge_place, edge_kind, found_read}
+use Rattle.xk_typestate.proofs.Edges.{edge_of, edge_place, edge_kind, found_read}
 use Rattle.xk_typestate.proofs.Searches.{searched_done, came_inside}
-use Rattle.xk_typestate.proofs.Oks.{ok_by_three}
+use Rattle.xk_typestate.proofs.Results.{ok_by_three}
 use Rattle.xk_typestate.proofs.search.Search.go_on.Goals as goal
 
 pub returns-clause-searched : goal.returns-clause-searched

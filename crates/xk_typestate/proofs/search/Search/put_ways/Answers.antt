@@ -4,8 +4,8 @@ use Rattle.xk_types.specs.Order.{Has}
 use Rattle.xk_typestate.specs.Rows.{places}
 use Rattle.xk_typestate.specs.Search.{HasPut}
 use Rattle.xk_typestate.proofs.Searches.{can_come_on, has_put_on}
-use Rattle.xk_typestate.proofs.Oks.{ok_by_two}
-use Rattle.xk_typestate.proofs.Ways.{has_one, has_first, has_second, one_of_two}
+use Rattle.xk_typestate.proofs.Results.{ok_by_two}
+use Rattle.xk_typestate.proofs.WaysOn.{has_one, has_first, has_second, one_of_two}
 use Rattle.xk_typestate.proofs.search.Search.put_ways.Goals as goal
 
 pub put_all-requires : goal.put_all-requires

@@ -1,0 +1,3 @@
+-- What the rules on shape say of one unit, which the verifier and the law both need.
+pub mod Begun
+pub mod Spans
