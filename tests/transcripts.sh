@@ -17,7 +17,7 @@ trap 'rm -rf "$work"' EXIT
 said() {
     status=0
     eval "\"\$program\"${1#\$ x10clock}" < /dev/null > "$work/out" 2> "$work/err" || status=$?
-    echo "$1"
+    printf '%s\n' "$1"
     cat "$work/out"
     sed 's/^/! /' "$work/err"
     [ "$status" = 0 ] || echo "(status $status)"

@@ -5,8 +5,6 @@
 mod bounds;
 mod refusal;
 mod room;
-#[cfg(test)]
-mod tests;
 mod verified;
 
 pub use refusal::{BoundFault, Refusal};

@@ -1,4 +1,4 @@
--- Choosers: who takes the next step, and schedules that follow one. X10 Language Specification 2.4, chapter Activities, leaves the order of
+-- Choosers: who takes the next step, and schedules that follow one. X10 Language Specification 2.4, chapter Activities, Spawning an activity, leaves the order of
 -- steps open; that somebody chooses it, and how, is this project's own.
 use Rattle.std.specs.Prelude.{◌≡◌, ℕ, zero, suc, ◌%◌, nat_le, nat_lt, ◌<◌, Bool, if◌then◌else◌, ◌++◌, List, [], ◌∷◌, length, filter, Option, Some, None, slice_get, slice_index_or}
 use Rattle.xk_types.specs.Code.{ModuleValue}

@@ -1,6 +1,6 @@
 -- The tree of finishes: what it keeps of each activity, and who is under which finish.
 --
--- X10 Language Specification 2.4, chapter Activities: `finish S` runs S, and waits for the end of all activities that S started, and
+-- X10 Language Specification 2.4, chapter Activities, Finish: `finish S` runs S, and waits for the end of all activities that S started, and
 -- that these started in turn. How a finish is named, and what governs an activity, is this project's own.
 --
 -- `specs/Step` of xk_types says the same of whole activities. The tree knows of an activity only what concerns finishes, so it is

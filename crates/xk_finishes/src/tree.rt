@@ -14,7 +14,7 @@ use xk_types::Act;
 /// The finishes of a running program, and who is under them. The tree is told of each activity that starts or ends, and of
 /// each finish that is opened or closed. Activities are numbered from 0, which is main, in the order in which they start.
 ///
-/// X10 Language Specification 2.4, chapter Activities: `finish S` runs S, then waits until every activity that was started
+/// X10 Language Specification 2.4, chapter Activities, Finish: `finish S` runs S, then waits until every activity that was started
 /// meanwhile, directly or through other activities, has ended; and main runs under a finish that nobody opens. So a finish
 /// *governs* what its owner starts while it is the innermost that the owner has open; what is started by an activity with none
 /// open is governed by the finish that governs that activity. An activity is *under* the finish that governs it, and under

@@ -9,6 +9,3 @@ mod text;
 
 pub use fault::ModuleFault;
 pub use text::read_module;
-
-#[cfg(test)]
-mod tests;

@@ -3,7 +3,7 @@
 ghost use Rattle.std.specs.Prelude.{◌≡◌, ◌-◌};
 
 use crate::programs::{IN_STEP, SHARED_SUM, accepted};
-use crate::rows::{numbers, ran};
+use crate::schedules::{numbers, ran};
 use std::alloc::Global;
 use std::process::Abort;
 use std::test::Fail;

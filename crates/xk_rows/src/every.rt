@@ -4,12 +4,11 @@ use crate::programs::{
     CHILDS_FINISH, CLOCK_INSIDE, EARLY_END, FINISHED, FINISHES_NESTED, IN_STEP, KEPT_UPDATES,
     LEFT_ALONE, LOST_UPDATE, OUTER_CLOCK, PAIR_INSIDE, SHARED_SUM, STARTED_OUTSIDE, accepted,
 };
-use crate::rows::{numbers, ran};
+use crate::schedules::{enabled, gone_on, numbers, ran};
 use std::alloc::Global;
 use std::test::Fail;
 use xk_bounds::Verified;
-use xk_core::{Core, Ran, run_schedule};
-use xk_types::Act;
+use xk_core::Core;
 
 /// More schedules than any of the modules has.
 const MOST: usize = 10_000;
@@ -51,25 +50,6 @@ impl Path {
     }
 }
 
-/// Those that are enabled, in rising order.
-fn enabled(alloc: Global, core: &Core) -> Result<Vec<u32>, Fail> {
-    let mut list = Vec::new(alloc);
-    for a in 0..core.activities() {
-        if core.enabled(Act(a)) {
-            list.push(a)?;
-        }
-    }
-    Ok(list)
-}
-
-/// The core after one step.
-fn stepped<'m>(alloc: Global, core: Core<'m>, a: u32) -> Result<Core<'m>, Fail> {
-    match run_schedule(alloc, core, &[a]) {
-        Ok(Ran { core: next, .. }) => Ok(next),
-        Err(_) => Err("an enabled step is halted".into()),
-    }
-}
-
 /// The schedule that begins so, and then takes the least that is enabled, until nobody is. Then all have ended, and no more steps
 /// were taken than the verified number.
 fn followed(alloc: Global, verified: &Verified, begin: &[u32]) -> Result<Path, Fail> {
@@ -88,7 +68,7 @@ fn followed(alloc: Global, verified: &Verified, begin: &[u32]) -> Result<Path, F
             };
         };
         let a = begin.get(at as usize).copied().unwrap_or(least);
-        core = stepped(alloc, core, a)?;
+        core = gone_on(alloc, core, &[a])?.core;
         path.steps.push(a)?;
         path.enabled.push(able)?;
     }

@@ -1,8 +1,7 @@
-//! Tests of schedules on the core: those whose runs are known from outside, all schedules of small modules, and runs that choosers drive.
+//! Tests of the libraries: what is read, verified and answered; schedules whose runs are known from outside, all schedules of small modules,
+//! and runs that choosers drive.
 #![tactic(auto)]
 
-#[cfg(test)]
-mod cores;
 #[cfg(test)]
 mod devices;
 #[cfg(test)]
@@ -14,4 +13,10 @@ mod finishes;
 #[cfg(test)]
 mod programs;
 #[cfg(test)]
-mod rows;
+mod reader;
+#[cfg(test)]
+mod schedules;
+#[cfg(test)]
+mod serving;
+#[cfg(test)]
+mod verifier;

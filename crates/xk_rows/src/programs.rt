@@ -4,6 +4,7 @@ use std::alloc::Global;
 use std::test::Fail;
 use xk_bounds::{Verified, verify};
 use xk_module::read_module;
+use xk_types::Module;
 
 /// A sum of two numbers, and a phase of a clock on which main is alone.
 pub const SUM_AND_PHASE: &str =
@@ -97,13 +98,18 @@ pub const KEPT_UPDATES: &str =
 pub const HANDED_ROUND: &str =
     r#"{"version":1,"shared":[9223372036854775807,-5,0],"units":[{"kind":"main","params":"","slots":3,"code":[["make",0],["spawn",1,[0]],["get",1,0],["put",2,1],["advance"],["advance"],["get",1,0],["print",1],["get",2,1],["print",2],["ret"]]},{"kind":"body","params":"c","slots":2,"code":[["advance"],["get",1,2],["addto",0,1],["print",1],["advance"],["ret"]]}]}"#;
 
+/// The module that a text names.
+pub fn module(alloc: Global, text: &str) -> Result<Module, Fail> {
+    match read_module(alloc, text.as_bytes()) {
+        Ok(program) => Ok(program),
+        Err(_) => Err("a text is no module".into()),
+    }
+}
+
 /// The module that a text names, verified.
 pub fn accepted(alloc: Global, text: &str) -> Result<Verified, Fail> {
-    let Ok(program) = read_module(alloc, text.as_bytes()) else {
-        return Err("a text is no module".into());
-    };
-    let Ok(verified) = verify(alloc, program) else {
-        return Err("a module is refused".into());
-    };
-    Ok(verified)
+    match verify(alloc, module(alloc, text)?) {
+        Ok(verified) => Ok(verified),
+        Err(_) => Err("a module is refused".into()),
+    }
 }

@@ -10,6 +10,3 @@ mod serving;
 
 pub use fault::Fault;
 pub use serving::{report, serve, tell, tell_words};
-
-#[cfg(test)]
-mod tests;

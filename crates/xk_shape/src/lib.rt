@@ -9,8 +9,6 @@ mod jumps;
 mod nesting;
 mod rules;
 mod shaped;
-#[cfg(test)]
-mod tests;
 
 pub use blocks::Blocks;
 pub use fault::{ShapeError, ShapeFault};

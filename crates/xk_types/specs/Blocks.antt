@@ -1,4 +1,4 @@
--- Finishes in the code, and where a slot is at home. X10 Language Specification 2.4, chapter Activities: `finish S` runs S, and
+-- Finishes in the code, and where a slot is at home. X10 Language Specification 2.4, chapter Activities, Finish: `finish S` runs S, and
 -- waits for the end of all activities that were started meanwhile. That `finish` and `endfinish` are instructions, and what they
 -- make of the code, is this project's own.
 use Rattle.std.specs.Prelude.{ℕ, suc, ◌==◌, nat_lt, nat_le, Bool, true, false, not, ◌&&◌, List, [], ◌∷◌, ◌++◌, map, filter, length, slice_get, Option, Some, None, if◌then◌else◌}

@@ -1,4 +1,5 @@
--- What a module is, apart from where it lies in memory, and its limits. Bytecode, modules and limits are this project's own.
+-- What a module is, apart from where it lies in memory, and its limits. Bytecode, modules and limits are this project's own. A loop is
+-- X10's `for (i in a..b)` (X10 Language Specification 2.4, chapter Statements, For statement).
 use Rattle.std.specs.Prelude.{ℕ, suc, ℤ, ◌+◌, ◌==◌, ◌≤◌, ◌-ℤ◌, nat_abs, int_lt, int_le, nat_lt, nat_le, Bool, true, false, not, ◌&&◌, List, [], ◌∷◌, length, slice_get, Option, Some, None, All, if◌then◌else◌}
 use Rattle.std.specs.Option.{option_map_or}
 use Rattle.xk_types.specs.declared.instr.Comparison.{Comparison}

@@ -1,7 +1,7 @@
 -- What walks tell of slots is so in every run.
 --
--- X10 Language Specification 2.4, chapter Clocks: an activity is registered on a clock or it isn't; one that is has resumed the
--- clock in this phase or hasn't. What each kind says of that is this project's own, as kinds and walks are.
+-- X10 Language Specification 2.4, chapter Clocks, Registering new activities on clocks and Resuming clocks: an activity is
+-- registered on a clock or it isn't; one that is has resumed the clock in this phase or hasn't. What each kind says of that is this project's own, as kinds and walks are.
 use Rattle.std.specs.Prelude.{◌≡◌, ℕ, ◌<◌, List, length, Some, slice_get}
 use Rattle.std.specs.Option.{option_map_or}
 use Rattle.xk_types.specs.declared.names.Value.{Value}

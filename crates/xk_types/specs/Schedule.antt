@@ -1,6 +1,6 @@
--- Schedules: lists of activity numbers, and what comes of them. X10 Language Specification 2.4, chapter Activities: activities
--- go on at the same time, and the program ends when all have ended. That one step goes after another, and that a list says
--- whose, is this project's own.
+-- Schedules: lists of activity numbers, and what comes of them. X10 Language Specification 2.4, chapter Activities: activities go on at
+-- the same time (Spawning an activity), and the program ends when all have ended (Initial activity). That one step goes after another, and
+-- that a list says whose, is this project's own.
 use Rattle.std.specs.Prelude.{◌≡◌, ℕ, ℤ, Bool, true, false, not, List, [], ◌∷◌, Option, Some, None, filter}
 use Rattle.std.specs.List.{list_all, filter_map}
 use Rattle.xk_types.specs.declared.names.Event.{Event}

@@ -1,4 +1,8 @@
 -- The rules on the shape of code: which places break them. They are this project's own.
+--
+-- X10 Language Specification 2.4, chapter Clocks, section Deadlock Freedom, names a discipline under which programs with clocks don't wait
+-- for ever, and doesn't enforce it. V8 and V9 here, and V12 of the walks, are this project's, and are enforced: a clock that is made inside a
+-- finish may be handed on there, and has to be dropped before its end.
 use Rattle.std.specs.Prelude.{◌≡◌, ℕ, ◌+◌, ◌==◌, nat_lt, int_lt, option_map, option_and_then, Bool, true, false, not, ◌&&◌, ◌||◌, List, [], ◌∷◌, ◌++◌, length, map, take, Option, Some, None, slice_get, if◌then◌else◌}
 use Rattle.std.specs.List.{list_all, list_any}
 use Rattle.std.specs.Option.{option_map_or}
@@ -35,7 +39,7 @@ slots_named (instr.Call t args) = args
 slots_named (instr.Spawn t args) = args
 slots_named instr.Ret = []
 
--- the slot that an instruction writes, if it writes one
+-- the slot that an instruction names and writes, if it does (a `next` writes its `for`'s)
 abbrev pub slot_written : Instr → Option ℕ
 slot_written (instr.Lit d n) = Some d
 slot_written (instr.Copy d x) = Some d

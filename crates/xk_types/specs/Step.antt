@@ -1,19 +1,22 @@
 -- One step of one activity.
 --
--- From the X10 Language Specification 2.4, chapter Clocks: `Clock.make()` registers the activity that makes; `resume`
--- says that the activity has done its work in the phase and doesn't block; `advanceAll` resumes every clock of the
--- activity and blocks until all of them have advanced; `drop` ends the registration; an operation on a clock without a
--- registration raises ClockUseException; a clock advances when every activity registered on it has resumed it; an
--- activity that ends is registered on no clock any more; `async clocked(c1, .., cn) S` starts an activity registered on the
--- clocks named, and the starter must be registered on each. From the chapter Activities: `async S` starts an activity that
--- runs S, and the starter goes on without waiting; `finish S` runs S, and waits for the end of all activities that S started, and
--- that these started in turn. X10's `Long` has 64 bits in two's complement, and its sums, differences and
--- products wrap; `for (i in a..b)` runs for each whole number from a to b.
--- `atomic S` runs S in one step as others see it (chapter Concurrency).
--- This project's own rules: what is read and written in one step is a shared number, and one sum to it; a second resume has no effect; the two halves of `advanceAll` are two steps; a child stands on a
--- clock that it is given where its starter stands, and a missing registration is the only ground of ClockUseException, so
--- that a starter that has resumed a clock may hand it on; a clock that can advance does so at the end of the same step, and
--- one that nobody is registered on never does; what else is wrong but ClockUseException.
+-- From the X10 Language Specification 2.4, chapter Clocks, by sections. Creating new clocks: `Clock.make()` registers the activity that
+-- makes; an activity that ends is registered on no clock any more. Registering new activities on clocks: `async clocked(c1, .., cn) S`
+-- starts an activity registered on the clocks named, and the starter must be registered on each. Resuming clocks: `resume` says that
+-- the activity has done its work in the phase and doesn't block; a second one in the phase has no effect (and Program equivalences).
+-- Advancing clocks: `advanceAll` resumes every clock of the activity and blocks until all of them have advanced. Dropping clocks:
+-- `drop` ends the registration. All of these: an operation on a clock without a registration raises ClockUseException. The chapter's
+-- beginning: a clock advances when every activity registered on it has resumed it.
+-- From the chapter Activities. Spawning an activity: `async S` starts an activity that runs S, and the starter goes on without
+-- waiting. Finish: `finish S` runs S, and waits for the end of all activities that S started, and that these started in turn. Atomic
+-- blocks: `atomic S` runs S in one step as others see it.
+-- From other chapters: a `Long` has 64 bits in two's complement, and its sums, differences and products wrap; `for (i in a..b)` runs for
+-- each whole number from a to b.
+-- This project's own rules: a shared number is read, written or added to in one step, and there is no other `atomic`; an activity's
+-- phase ends with its pass, so that a resume of one that is ahead has no effect; the two halves of `advanceAll` are two steps; a child
+-- stands on a clock that it is given where its starter stands, and a missing registration is the only ground of ClockUseException, so
+-- that a starter that has resumed a clock may hand it on; a clock that can advance does so at the end of the same step, and one that
+-- nobody is registered on never does; what else is wrong but ClockUseException.
 use Rattle.std.specs.Prelude.{ℕ, zero, suc, ℤ, pos, ◌+ℤ◌, int_lt, ◌+◌, ◌==◌, Bool, true, false, not, ◌&&◌, ◌||◌, List, [], ◌∷◌, ◌++◌, map, length, replicate, Option, Some, None, slice_get, slice_set, if◌then◌else◌}
 use Rattle.std.specs.Int.{w64, int_wrapping_add, int_wrapping_sub, int_wrapping_mul}
 use Rattle.std.specs.List.{list_any}
@@ -36,8 +39,8 @@ use Rattle.xk_types.specs.World.{Frame, Finish, Activity, Clock, World, is_ended
 
 -- Why a step is wrong: a clock operation by an activity that isn't registered on the clock; an unset slot is read; a
 -- number is wanted and a clock stands there, or the reverse; there is no such instruction, unit, slot, clock or shared
--- number, no finish that could be closed, or the unit can't be called or started so: it is no method or no body, or has another number of parameters than there
--- are arguments.
+-- number, no `for` where a `next` names one, no finish that could be closed, or the unit can't be called or started so: it is no method or
+-- no body, or has another number of parameters than there are arguments.
 pub data Cause : Type 0 where
   ClockUse : Cause
   Missing : Cause

@@ -1,8 +1,8 @@
 -- The world of a running program.
 --
--- X10 Language Specification 2.4: an activity runs a statement on its own (chapter Activities); a clock has a phase, and
--- each activity registered on it has resumed it in this phase or has not (chapter Clocks). How a world is written down is
--- this project's own.
+-- X10 Language Specification 2.4: an activity runs a statement on its own, and main is the first one (chapter Activities, Spawning an
+-- activity and Initial activity); a clock has a phase, and each activity registered on it has resumed it in this phase or has not (chapter
+-- Clocks, its beginning and Resuming clocks). How a world is written down is this project's own.
 use Rattle.std.specs.Prelude.{ℕ, ℤ, ◌-◌, List, [], ◌∷◌, ◌++◌, length, Bool, true, false, Option, None, replicate, slice_get, slice_index_or, option_and_then}
 use Rattle.std.specs.Option.{option_map_or}
 use Rattle.xk_types.specs.declared.instr.Instr.{Instr}
@@ -27,7 +27,7 @@ pub record Finish : Type 0 where
   pub depth : ℕ
 
 -- An activity: its present frame, the frames that wait for it to return, its status, the number of the step of its last pass
--- (its starter's, until it passes itself), how many finishes it has open, and the finish that governs it. Whether a step is
+-- (until then, what its starter's was at the start), how many finishes it has open, and the finish that governs it. Whether a step is
 -- possible, and what else it changes, depends neither on when an activity passed nor on when a clock advanced.
 pub record Activity : Type 0 where
   pub frame : Frame

@@ -76,7 +76,7 @@ pub enum Standing {
 /// What one step does. A step whose event is `Local` can't be seen by another activity.
 #[derive(Clone, Copy, Debug, PartialEq, Eq)]
 pub enum Event {
-    /// Nothing changed but the activity's own frame.
+    /// Nothing changed but the activity's own frames.
     Local,
     /// The number was printed.
     Printed(i64),

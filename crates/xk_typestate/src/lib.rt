@@ -6,8 +6,6 @@ mod refusal;
 mod refused;
 mod rows;
 mod search;
-#[cfg(test)]
-mod tests;
 mod trail;
 mod typed;
 mod walk;
