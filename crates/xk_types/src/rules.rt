@@ -107,7 +107,7 @@ pub enum Kind {
     Live,
     /// It names a clock on which the activity is signalled or ahead: resumed, and not passed since.
     Resumed,
-    /// It names a clock that the activity has dropped.
+    /// It names a clock on which the activity isn't registered any more.
     Out,
 }
 
