@@ -1,50 +1,49 @@
 #!/usr/bin/env python3
-"""Feeds the built program modules that nobody wrote: those of tests/rows and a few more, changed byte by byte and operand by operand.
+"""Feeds the built program modules that nobody wrote, and compares each answer with a second telling of it (tests/telling.py).
 
-Every answer must be one of the stated forms, with its status; an accepted module must end within its bound, in each order that the
-program knows; nothing may hang.
-Needs the built program (crates/x10clock/out/x10clock) and python3. The gate doesn't run it.
+The modules are those of tests/rows and whole programs that are made up here, as they are, with a rule broken, or changed operand by
+operand and byte by byte (tests/generated.py). `check` and `run`, the latter in each order, have to answer what the telling answers,
+byte for byte; where there are several walks to what is refused, another shortest one is taken too, and counted. Of an accepted module with few worlds
+the telling goes through all schedules, and looks whether the promises hold.
+Needs the built program and python3. The gate doesn't run it.
 
-    python3 tests/mutations.py [CASES] [SEED]      20,000 cases and seed 1 where none are given
+    python3 tests/mutations.py [CASES] [SEED] [--jobs N] [--program PATH] [--worlds N] [--only CASE]
+
+20,000 cases, seed 1, 2 jobs, crates/x10clock/out/x10clock and 1,000 worlds where nothing else is said. `--only` prints one case alone.
 """
 
+from __future__ import annotations
+
+import argparse
 import collections
 import concurrent.futures
-import copy
 import json
 import pathlib
 import random
 import re
 import subprocess
 import sys
+import zlib
+from dataclasses import dataclass, field
+
+import generated
+import telling
+from telling import Accepted, Order, Refused
 
 TOP = pathlib.Path(__file__).resolve().parent.parent
-PROGRAM = TOP / "crates/x10clock/out/x10clock"
 SECONDS = 20
-# Runs of more steps than this are checked and not run.
-LONGEST_RUN = 2_000_000
+# Runs of more steps than this are not made at all; those of more steps, or of more steps times activities and clocks, than these are
+# looked at for their form alone; and schedules are followed where there are no more activities than this.
+LONGEST_RUN, LONGEST_COMPARED, MOST_WORK, MOST_ACTIVITIES = 2_000_000, 20_000, 2_000_000, 64
+# The program looks at all clocks in many steps: with more of them times steps than this it isn't run.
+MOST_CLOCK_STEPS = 300_000_000
+CHUNK = 100
+SHOWN = 5
 
-NUMBERS = [0, 1, 2, 63, 64, 65, 4095, 4096, 65534, 65535, 65536, -1, 2**31, 2**63 - 1, 2**63, -(2**63), -(2**63) - 1, 2**64, 1.0, 1e300]
-WORDS = [
-    "lit", "copy", "add", "sub", "mul", "get", "put", "addto", "unless", "jump", "for", "next", "finish", "endfinish", "print", "make", "resume", "drop", "advance", "spawn",
-    "ret", "call", "Make",
-    "eq", "ne", "lt", "le", "gt", "ge", "main", "body", "method", "", "c", "n", "cc", "cn",
-]
+ENDED = re.compile(r"((?:-?\d+\n)*)ended steps (\d+)\n")
+WALK = re.compile(r"x10clock: (?P<refused>.* walk )(?P<places>\d+(?: \d+)*)\n")
 
-# Words that can stand for one another where the rest of the value still fits.
-KIN = [
-    group.split()
-    for group in ("add sub mul", "copy get put addto", "print make resume drop jump next finish endfinish", "advance ret", "call spawn", "eq ne lt le gt ge", "main body method", "c n", "cc cn")
-]
-
-RULES = {
-    **dict(zip(range(1, 11), "Target Block Slot Unit Cell Loop End Home Registers SameClock".split())),
-    **dict(zip(range(11, 14), "Use Held Leak".split())),
-    **dict(zip(range(14, 18), "Steps Activities Clocks Stack".split())),
-}
-LIMITS = {14: 1_000_000_000, 15: 100_000, 16: 100_000, 17: 4_096}
-
-# Modules with shared numbers, each of which is accepted: their code by units, main first, with the kind, parameters and slots of each.
+# Modules with shared numbers, each of which is accepted: their numbers, and their units with kind, parameters, slots and code.
 SHARING = [
     (
         [0],
@@ -64,173 +63,255 @@ SHARING = [
     ),
 ]
 
-ACCEPTED = re.compile(r"accepted steps (\d+) activities (\d+) clocks (\d+)\n")
-ENDED = re.compile(r"((?:-?\d+\n)*)ended steps (\d+)\n")
-UNREAD = re.compile(r"x10clock: (?:M1 NotJson|M2 NotAModule|M3 Limit)\n")
-SHAPE = re.compile(r"x10clock: V(\d+) (\w+) unit (\d+) at (\d+)\n")
-KIND = re.compile(r"x10clock: V(\d+) (\w+) unit \d+ at (\d+) slot \d+ (?:unset|number|live|resumed|out) walk (\d+(?: \d+)*)\n")
-BOUND = re.compile(r"x10clock: V(\d+) (\w+) over (\d+)\n")
 
-
-def sharing(numbers, *units):
+def sharing(numbers: list[int], *units: tuple) -> bytes:
     """The text of a module with these shared numbers."""
-    forms = [{"kind": kind, "params": params, "slots": slots, "code": code} for kind, params, slots, code in units]
-    return json.dumps({"version": 1, "shared": numbers, "units": forms}, separators=(",", ":")).encode()
+    forms = [generated.unit(*form) for form in units]
+    return json.dumps(generated.module(*forms, shared=tuple(numbers)), separators=(",", ":")).encode()
 
 
-def leaves(value, path=()):
-    """The paths of all that stands in a JSON value."""
-    yield path
-    children = value.items() if isinstance(value, dict) else enumerate(value) if isinstance(value, list) else ()
-    for key, child in children:
-        yield from leaves(child, path + (key,))
+def seed_texts() -> list[bytes]:
+    return [path.read_bytes() for path in sorted((TOP / "tests/rows").glob("*.json"))] + [sharing(*form) for form in SHARING]
 
 
-def changed_value(rng, value):
-    """The value with one part replaced, dropped, doubled or moved."""
-    value = copy.deepcopy(value)
-    paths = [p for p in leaves(value) if p]
-    operands = [p for p in paths if "code" in p and len(p) > 4] if rng.random() < 0.7 else []
-    path = rng.choice(operands or paths)
-    holder = value
-    for key in path[:-1]:
-        holder = holder[key]
-    old = holder[path[-1]]
-    kind = rng.randrange(8)
-    if kind == 0 and isinstance(holder, list):
-        del holder[path[-1]]
-    elif kind == 1 and isinstance(holder, list):
-        holder.insert(rng.randrange(len(holder) + 1), copy.deepcopy(old))
-    elif kind == 2 and isinstance(holder, list) and len(holder) > 1:
-        other = rng.randrange(len(holder))
-        holder[path[-1]], holder[other] = holder[other], old
-    elif isinstance(old, str):
-        kin = next((group for group in KIN if old in group), WORDS)
-        holder[path[-1]] = rng.choice(kin if rng.random() < 0.7 else WORDS)
-    elif isinstance(old, int) and kind < 7:
-        holder[path[-1]] = old + rng.choice([-1, 1]) if rng.random() < 0.5 else rng.randrange(4)
-    else:
-        holder[path[-1]] = rng.choice(NUMBERS)
-    return value
+@dataclass(frozen=True)
+class Answer:
+    status: int
+    out: str
+    err: str
 
 
-def changed_bytes(rng, text):
-    """The bytes with a few of them replaced, dropped, doubled or cut off."""
-    text = bytearray(text)
-    for _ in range(rng.choice([1, 1, 1, 2, 5])):
-        at = rng.randrange(len(text) + 1)
-        kind = rng.randrange(5)
-        if kind == 0:
-            text[at : at + 1] = bytes([rng.randrange(256)])
-        elif kind == 1:
-            del text[at : at + 1]
-        elif kind == 2:
-            text[at:at] = text[at : at + rng.randrange(1, 20)]
-        elif kind == 3:
-            text[at:at] = rng.choice([b"0", b"9", b"-", b".", b"e", b",", b"[", b"]", b"{", b"}", b'"', b"\\", b" ", b"\xff", b"\x00"])
-        elif len(text) > 1:
-            del text[at:]
-        if not text:
-            break
-    return bytes(text)
+def refused(line: str) -> Answer:
+    return Answer(1, "", f"x10clock: {line}\n")
 
 
-def case(rng, seeds):
-    text = rng.choice(seeds)
+def done(text: str) -> Answer:
+    return Answer(0, text, "")
+
+
+@dataclass
+class Outcome:
+    """What became of one text: its label, what was counted, and what differs, if anything does."""
+
+    label: str
+    counts: collections.Counter = field(default_factory=collections.Counter)
+    differences: list[str] = field(default_factory=list)
+
+    def differ(self, words: str, wanted: object, got: object) -> None:
+        self.differences.append(f"{words}\n      telling: {wanted}\n      program: {got}")
+
+
+def is_sampled(text: bytes) -> bool:
+    """One text in four, in which `run` is tried too where it has to say what is known already."""
+    return zlib.crc32(text) % 4 == 0
+
+
+@dataclass(frozen=True)
+class Comparer:
+    """Asks the program and the telling, and compares."""
+
+    program: pathlib.Path
+    worlds: int
+
+    def ask(self, text: bytes, command: str, *more: str) -> Answer:
+        words = [self.program, command, *more, "--module", "-"]
+        try:
+            ran = subprocess.run(words, input=text, capture_output=True, timeout=SECONDS, check=False)
+        except subprocess.TimeoutExpired:
+            return Answer(-1, "", "no answer in time")
+        return Answer(ran.returncode, ran.stdout.decode("utf-8", "replace"), ran.stderr.decode("utf-8", "replace"))
+
+    def outcome(self, text: bytes) -> Outcome:
+        judged = telling.judge(text)
+        if isinstance(judged, Refused):
+            return self.of_refused(text, judged)
+        outcome = Outcome("accepted")
+        told = done(judged.bounds.line() + "\n")
+        answer = self.ask(text, "check")
+        if answer != told:
+            outcome.differ("check", told, answer)
+        elif judged.bounds.steps <= LONGEST_RUN and judged.bounds.steps * judged.bounds.clocks <= MOST_CLOCK_STEPS:
+            self.runs(text, judged, outcome)
+        else:
+            outcome.counts["accepted modules that were not run"] += 1
+        self.schedules(judged, outcome)
+        return outcome
+
+    def of_refused(self, text: bytes, judged: Refused) -> Outcome:
+        """`check` and `run` have to give the same line."""
+        outcome = Outcome(judged.label)
+        told = refused(judged.line)
+        answer = self.ask(text, "check")
+        if answer != told:
+            if self.is_other_walk(judged, told, answer):
+                outcome.counts["refusals with another shortest walk"] += 1
+            else:
+                outcome.differ("check", told, answer)
+        if is_sampled(text):
+            again = self.ask(text, "run")
+            if again != answer:
+                outcome.differ("run after check", answer, again)
+        return outcome
+
+    def is_other_walk(self, judged: Refused, told: Answer, answer: Answer) -> bool:
+        """Whether the answer is the telling's, but for the walk, which is another shortest one."""
+        found = WALK.fullmatch(answer.err)
+        if not judged.by_kind or not found or answer != Answer(told.status, told.out, answer.err):
+            return False
+        fault = judged.by_kind
+        places = [int(place) for place in found["places"].split()]
+        walks = judged.kinds.slots[fault.unit][fault.slot]
+        same = f"x10clock: {fault.line(places)}\n" == answer.err
+        return same and len(places) == len(fault.walk) and walks.is_walk(places, (fault.place, fault.kind))
+
+    def runs(self, text: bytes, judged: Accepted, outcome: Outcome) -> None:
+        bounds = judged.bounds
+        exact = bounds.steps <= LONGEST_COMPARED and bounds.steps * (bounds.activities + bounds.clocks) <= MOST_WORK
+        for order in Order:
+            answer = self.ask(text, "run", "--order", order.value)
+            if order is Order.FIRST and is_sampled(text):
+                usual = self.ask(text, "run")
+                if answer != usual:
+                    outcome.differ("run, with --order first and without", answer, usual)
+            if not exact:
+                outcome.counts["runs looked at for their form"] += 1
+                ended = ENDED.fullmatch(answer.out)
+                if answer != done(answer.out) or not ended or int(ended[2]) > bounds.steps:
+                    outcome.differ(f"run --order {order.value}", f"ended within {bounds.steps} steps", answer)
+                continue
+            outcome.counts["runs compared"] += 1
+            try:
+                ran = telling.run(judged.module, order)
+            except telling.Wrong as wrong:
+                outcome.differ(f"run --order {order.value}", f"a wrong step: {wrong}", answer)
+                continue
+            told = done(ran.text())
+            if answer != told or not ran.ended or ran.steps > bounds.steps:
+                outcome.differ(f"run --order {order.value}", told if ran.ended else "nobody can step", answer)
+
+    def schedules(self, judged: Accepted, outcome: Outcome) -> None:
+        few = judged.bounds.activities <= MOST_ACTIVITIES and judged.bounds.steps <= LONGEST_COMPARED
+        try:
+            worlds = telling.Schedules(judged, self.worlds).walk() if few else None
+        except telling.Broken as broken:
+            outcome.differences.append(f"a promise is broken: {broken}")
+            return
+        if worlds is None:
+            outcome.counts["accepted modules with too many worlds"] += 1
+            return
+        outcome.counts["modules taken through all schedules"] += 1
+        outcome.counts["worlds in them"] += worlds
+        if judged.bounds.activities > 1:
+            outcome.counts["of them with several activities"] += 1
+
+
+# Smaller texts with the same fault.
+
+
+def smaller(text: bytes) -> list[bytes]:
+    """Texts that have a little less than this one."""
     try:
         value = json.loads(text)
-    except ValueError:
-        value = None
-    if value is None or rng.random() < 0.2:
-        return changed_bytes(rng, text) if text else b" "
-    for _ in range(rng.choice([1, 1, 1, 2, 3, 6])):
-        value = changed_value(rng, value)
-    return json.dumps(value).encode()
+        units = [unit["code"] for unit in value["units"]]
+        found = []
+        if len(units) > 1:
+            found.append({**value, "units": value["units"][:-1]})
+        for number, code in enumerate(units):
+            for place in range(len(code)):
+                changed = json.loads(text)
+                changed["units"][number]["code"] = generated.without(code, place)
+                found.append(changed)
+        return [json.dumps(value, separators=(",", ":")).encode() for value in found]
+    except (ValueError, TypeError, KeyError, IndexError, AttributeError):
+        return [text[:at] + text[at + 1 :] for at in range(min(len(text), 400))]
 
 
-def answer(command, text, order=()):
-    done = subprocess.run([PROGRAM, command, *order, "--module", "-"], input=text, capture_output=True, timeout=SECONDS, check=False)
-    return done.returncode, done.stdout.decode(), done.stderr.decode()
+def shrunk(comparer: Comparer, text: bytes) -> bytes:
+    """A smaller text that is answered differently too, if one is found soon."""
+    for _ in range(100):
+        better = next((one for one in smaller(text) if comparer.outcome(one).differences), None)
+        if better is None:
+            return text
+        text = better
+    return text
 
 
-def orders():
-    """The words for each order that the program knows; the first is the one that it keeps where none is named."""
-    told = subprocess.run([PROGRAM, "run", "--help"], capture_output=True, timeout=SECONDS, check=False).stdout
-    return [["--order", order] for order in ("first", "last", "round")] if b"--order" in told else []
+# Cases.
 
 
-def refusal(line):
-    """The label of a refusal in one of the stated forms, or None."""
-    if UNREAD.fullmatch(line):
-        return line.split()[1]
-    for form, numbers in ((SHAPE, range(1, 11)), (KIND, range(11, 14)), (BOUND, range(14, 18))):
-        found = form.fullmatch(line)
-        if not found:
-            continue
-        rule = int(found[1])
-        fits = rule in numbers and RULES[rule] == found[2]
-        if form is KIND:
-            fits = fits and found[4].split()[0] == "0" and found[4].split()[-1] == found[3]
-        if form is BOUND:
-            fits = fits and LIMITS[rule] == int(found[3])
-        return f"V{rule}" if fits else None
-    return None
+@dataclass
+class Summary:
+    cases: int = 0
+    labels: collections.Counter = field(default_factory=collections.Counter)
+    counts: collections.Counter = field(default_factory=collections.Counter)
+    differing: list[tuple[int, bytes, list[str]]] = field(default_factory=list)
+
+    def add(self, case: int, text: bytes, outcome: Outcome) -> None:
+        self.cases += 1
+        self.labels[outcome.label] += 1
+        self.counts += outcome.counts
+        if outcome.differences:
+            self.differing.append((case, text, outcome.differences))
+
+    def join(self, other: Summary) -> None:
+        self.cases += other.cases
+        self.labels += other.labels
+        self.counts += other.counts
+        self.differing += other.differing
 
 
-def ended(bound, code, out, err):
-    found = ENDED.fullmatch(out)
-    return code == 0 and err == "" and found is not None and 1 <= int(found[2]) <= bound
+def text_of_case(seed: int, case: int, seeds: list[bytes]) -> bytes:
+    """The first cases are the seeds themselves; each other one is made by its number alone."""
+    return seeds[case] if case < len(seeds) else generated.case(random.Random(f"{seed} {case}"), seeds)
 
 
-def misrun(text, bound, named):
-    """What is wrong with the runs of an accepted module, if anything is: each ends within the bound, and the first order is the usual one."""
-    run = answer("run", text)
-    if not ended(bound, *run):
-        return ("run", *run)
-    for order in named:
-        again = answer("run", text, order)
-        if not ended(bound, *again) or (order == named[0] and again != run):
-            return ("run", *order, *again)
-    return None
+def compared(comparer: Comparer, seed: int, cases: range) -> Summary:
+    seeds, summary = seed_texts(), Summary()
+    for case in cases:
+        text = text_of_case(seed, case, seeds)
+        try:
+            outcome = comparer.outcome(text)
+        except Exception as fault:  # A fault of the telling is a difference like any other.
+            outcome = Outcome("?", differences=[f"the telling failed: {fault!r}"])
+        summary.add(case, text, outcome)
+    return summary
 
 
-def judged(text, named):
-    """What became of a text, and what is wrong with the answer, if anything is."""
-    try:
-        code, out, err = answer("check", text)
-        accepted = ACCEPTED.fullmatch(out)
-        if code == 0 and accepted and err == "":
-            bound = int(accepted[1])
-            if bound > LONGEST_RUN:
-                return "accepted, not run", None
-            return "accepted", misrun(text, bound, named)
-        label = refusal(err) if code == 1 and out == "" else None
-        if label is None:
-            return "?", ("check", code, out, err)
-        run = answer("run", text)
-        return label, None if run == (code, out, err) else ("run", *run)
-    except subprocess.TimeoutExpired:
-        return "?", ("no answer in time",)
+def in_order(label: str) -> tuple[str, int]:
+    return (label[0], int(label[1:])) if label[1:].isdigit() else ("~", 0)
 
 
-def main():
-    cases = int(sys.argv[1]) if len(sys.argv) > 1 else 20_000
-    rng = random.Random(int(sys.argv[2]) if len(sys.argv) > 2 else 1)
-    seeds = [path.read_bytes() for path in sorted((TOP / "tests/rows").glob("*.json"))] + [sharing(*form) for form in SHARING]
-    named = orders()
-    texts = seeds + [case(rng, seeds) for _ in range(cases)]
-    seen = collections.Counter()
-    wrong = 0
-    with concurrent.futures.ThreadPoolExecutor() as pool:
-        for text, (label, fault) in zip(texts, pool.map(lambda text: judged(text, named), texts)):
-            seen[label] += 1
-            if fault:
-                wrong += 1
-                print(f"{text!r}\n    {fault}", file=sys.stderr)
-    for label, count in sorted(seen.items()):
-        print(f"{count:7} {label}")
-    print(f"{len(texts)} cases, {wrong} answered wrongly; {len(named)} orders named")
-    return 1 if wrong else 0
+def words() -> argparse.Namespace:
+    parser = argparse.ArgumentParser(description="Compares what x10clock answers with a second telling.")
+    parser.add_argument("cases", nargs="?", type=int, default=20_000)
+    parser.add_argument("seed", nargs="?", type=int, default=1)
+    parser.add_argument("--jobs", type=int, default=2)
+    parser.add_argument("--program", type=pathlib.Path, default=TOP / "crates/x10clock/out/x10clock")
+    parser.add_argument("--worlds", type=int, default=1_000)
+    parser.add_argument("--only", type=int)
+    return parser.parse_args()
+
+
+def main() -> int:
+    given = words()
+    comparer = Comparer(given.program.resolve(), given.worlds)
+    if given.only is not None:
+        text = text_of_case(given.seed, given.only, seed_texts())
+        sys.stdout.buffer.write(text + b"\n")
+        return 0
+    summary = Summary()
+    chunks = [range(start, min(start + CHUNK, given.cases)) for start in range(0, given.cases, CHUNK)]
+    with concurrent.futures.ProcessPoolExecutor(given.jobs) as pool:
+        for part in concurrent.futures.as_completed([pool.submit(compared, comparer, given.seed, chunk) for chunk in chunks]):
+            summary.join(part.result())
+    for label in sorted(summary.labels, key=in_order):
+        print(f"{summary.labels[label]:8} {label}")
+    for name, count in sorted(summary.counts.items()):
+        print(f"{count:8} {name}")
+    for case, text, differences in sorted(summary.differing)[:SHOWN]:
+        print(f"case {case}: {text!r}", *differences, f"smaller: {shrunk(comparer, text)!r}", sep="\n    ", file=sys.stderr)
+    print(f"{summary.cases} cases, {len(summary.differing)} with a difference")
+    return 1 if summary.differing else 0
 
 
 if __name__ == "__main__":
