@@ -662,11 +662,11 @@ def broken_program(rng: random.Random) -> dict:
 # Programs at the limits.
 
 
-def unit(kind: str, params: str, slots: int, code: Code) -> dict:
+def unit_form(kind: str, params: str, slots: int, code: Code) -> dict:
     return {"kind": kind, "params": params, "slots": slots, "code": code}
 
 
-def module(*units: dict, shared: tuple[int, ...] = ()) -> dict:
+def module_form(*units: dict, shared: tuple[int, ...] = ()) -> dict:
     return {"version": 1, "shared": list(shared), "units": list(units)}
 
 
@@ -701,33 +701,33 @@ def many_steps(rng: random.Random) -> dict:
         rest = 1_000_000_000 - 2 - turns * weight
         for _ in range(max(0, min(6, rest + rng.choice([-1, 0, 0, 1])))):
             code.insert(len(code) - 1, ["lit", 4, 1])
-        return module(unit("main", "", 6, code))
+        return module_form(unit_form("main", "", 6, code))
     if way == 1:
-        return module(unit("main", "", 6, nest(rng, factors(rng, 1_000_000_000 // weight), body)))
+        return module_form(unit_form("main", "", 6, nest(rng, factors(rng, 1_000_000_000 // weight), body)))
     if way == 2:
-        return module(unit("main", "", 6, [["for", 0, -(2**63), 2**63 - 1, 1], ["next", 0], ["ret"]]))
+        return module_form(unit_form("main", "", 6, [["for", 0, -(2**63), 2**63 - 1, 1], ["next", 0], ["ret"]]))
     kind = rng.choice(["body", "method"])
     word = "spawn" if kind == "body" else "call"
     height = rng.choice([3, 9, 27, 28, 29, 200])
-    tower = [unit(kind, "", 0, [[word, number + 1, []]] * 2 + [["ret"]]) for number in range(1, height)] + [unit(kind, "", 0, [["ret"]])]
-    return module(unit("main", "", 0, [[word, 1, []]] * 2 + [["ret"]]), *tower)
+    tower = [unit_form(kind, "", 0, [[word, number + 1, []]] * 2 + [["ret"]]) for number in range(1, height)] + [unit_form(kind, "", 0, [["ret"]])]
+    return module_form(unit_form("main", "", 0, [[word, 1, []]] * 2 + [["ret"]]), *tower)
 
 
 def many_activities(rng: random.Random) -> dict:
     product = 100_000 + rng.choice([-2, -1, 0, 1, 2])
     turns = rng.choice([[99_999], [100_000], [3, 33_333], [9, 11_111], [271, 369], [41, 2439], factors(rng, product)])
     below = rng.choice([0, 0, 0, 1, 2])
-    bodies = [unit("body", "", 0, [["spawn", 2 + number, []] for number in range(below)] + [["ret"]])] + [unit("body", "", 0, [["ret"]]) for _ in range(below)]
+    bodies = [unit_form("body", "", 0, [["spawn", 2 + number, []] for number in range(below)] + [["ret"]])] + [unit_form("body", "", 0, [["ret"]]) for _ in range(below)]
     if below:
         turns = factors(rng, max(1, 99_999 // (1 + below)))
-    return module(unit("main", "", 6, nest(rng, turns, [["spawn", 1, []]])), *bodies)
+    return module_form(unit_form("main", "", 6, nest(rng, turns, [["spawn", 1, []]])), *bodies)
 
 
 def many_clocks(rng: random.Random) -> dict:
     turns = rng.choice([[100_000], [100_001], [1000, 100], [1000, 101], [11, 9091], [317, 316], factors(rng, 100_000)])
     if rng.random() < 0.5:
-        return module(unit("main", "", 6, nest(rng, turns, [["make", 5], ["drop", 5]])))
-    return module(unit("main", "", 6, nest(rng, turns, [["call", 1, []]])), unit("method", "", 1, [["make", 0], ["drop", 0], ["ret"]]))
+        return module_form(unit_form("main", "", 6, nest(rng, turns, [["make", 5], ["drop", 5]])))
+    return module_form(unit_form("main", "", 6, nest(rng, turns, [["call", 1, []]])), unit_form("method", "", 1, [["make", 0], ["drop", 0], ["ret"]]))
 
 
 def high_stack(rng: random.Random) -> dict:
@@ -743,8 +743,8 @@ def high_stack(rng: random.Random) -> dict:
         calls = [["call", number + 1, []]] if number + 1 < len(sizes) else []
         if calls and rng.random() < 0.1:
             calls.append(["call", rng.randrange(number + 1, len(sizes)), []])
-        units.append(unit("method" if number else "main", "", slots, calls + [["ret"]]))
-    return module(*units)
+        units.append(unit_form("method" if number else "main", "", slots, calls + [["ret"]]))
+    return module_form(*units)
 
 
 def large(rng: random.Random) -> dict:
@@ -752,18 +752,18 @@ def large(rng: random.Random) -> dict:
     way = rng.randrange(6)
     more = rng.choice([-1, 0, 0, 1, 1])
     if way == 0:
-        return module(unit("main", "", 0, [["ret"]]), *[unit(rng.choice(["body", "method"]), "", 0, [["ret"]])] * (1023 + more))
+        return module_form(unit_form("main", "", 0, [["ret"]]), *[unit_form(rng.choice(["body", "method"]), "", 0, [["ret"]])] * (1023 + more))
     if way == 1:
-        return module(unit("main", "", 64 + more, [["lit", 63 + rng.choice([0, more]), 1], ["ret"]]))
+        return module_form(unit_form("main", "", 64 + more, [["lit", 63 + rng.choice([0, more]), 1], ["ret"]]))
     if way == 2:
-        return module(unit("main", "", 1, [["lit", 0, 1]] * (4095 + more) + [["ret"]]))
+        return module_form(unit_form("main", "", 1, [["lit", 0, 1]] * (4095 + more) + [["ret"]]))
     if way == 3:
-        return module(unit("main", "", 1, [["get", 0, 255 + rng.choice([0, more])], ["ret"]]), shared=(1,) * (256 + more))
+        return module_form(unit_form("main", "", 1, [["get", 0, 255 + rng.choice([0, more])], ["ret"]]), shared=(1,) * (256 + more))
     if way == 4:
         count = 64 + more
-        return module(unit("main", "", 1, [["lit", 0, 1], ["spawn", 1, [0] * count], ["ret"]]), unit("body", "n" * min(64, count), 64, [["ret"]]))
+        return module_form(unit_form("main", "", 1, [["lit", 0, 1], ["spawn", 1, [0] * count], ["ret"]]), unit_form("body", "n" * min(64, count), 64, [["ret"]]))
     slots = rng.choice([0, 1, 2, 64])
-    return module(unit("main", "", 0, [["ret"]]), unit("body", "c" * max(0, slots + more), slots, [["ret"]])) if rng.random() < 0.8 else module()
+    return module_form(unit_form("main", "", 0, [["ret"]]), unit_form("body", "c" * max(0, slots + more), slots, [["ret"]])) if rng.random() < 0.8 else module_form()
 
 
 def long_code(rng: random.Random) -> dict:
@@ -786,7 +786,7 @@ def long_code(rng: random.Random) -> dict:
             code.append(rng.choice([["unless", rng.choice(OPERATORS), 0, 0, place + far], ["resume", 1], ["advance"], ["lit", 0, 1], ["jump", place + far]]))
         code += [["advance"]] * 6
     end = rng.choice([[], [], [["print", 1]], [["drop", 1]], [["drop", 1], ["drop", 1]], [["lit", 1, 0]]])
-    return module(unit("main", "", slots, code + end + [["ret"]]))
+    return module_form(unit_form("main", "", slots, code + end + [["ret"]]))
 
 
 # Changes of a value, and of its text.

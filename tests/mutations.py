@@ -31,15 +31,16 @@ import telling
 from telling import Accepted, Order, Refused
 
 TOP = pathlib.Path(__file__).resolve().parent.parent
-SECONDS = 20
+SECONDS = 60
 # Runs of more steps than this are not made at all; those of more steps, or of more steps times activities and clocks, than these are
 # looked at for their form alone; and schedules are followed where there are no more activities than this.
 LONGEST_RUN, LONGEST_COMPARED, MOST_WORK, MOST_ACTIVITIES = 2_000_000, 20_000, 2_000_000, 64
-# The program looks at all clocks in many steps: with more of them times steps than this it isn't run.
+# The program looks at all clocks in each step: where there are more clocks times steps than this it isn't run.
 MOST_CLOCK_STEPS = 300_000_000
 CHUNK = 100
 SHOWN = 5
 
+LATE = "no answer in time"
 ENDED = re.compile(r"((?:-?\d+\n)*)ended steps (\d+)\n")
 WALK = re.compile(r"x10clock: (?P<refused>.* walk )(?P<places>\d+(?: \d+)*)\n")
 
@@ -66,8 +67,8 @@ SHARING = [
 
 def sharing(numbers: list[int], *units: tuple) -> bytes:
     """The text of a module with these shared numbers."""
-    forms = [generated.unit(*form) for form in units]
-    return json.dumps(generated.module(*forms, shared=tuple(numbers)), separators=(",", ":")).encode()
+    forms = [generated.unit_form(*form) for form in units]
+    return json.dumps(generated.module_form(*forms, shared=tuple(numbers)), separators=(",", ":")).encode()
 
 
 def seed_texts() -> list[bytes]:
@@ -97,7 +98,9 @@ class Outcome:
     counts: collections.Counter = field(default_factory=collections.Counter)
     differences: list[str] = field(default_factory=list)
 
-    def differ(self, words: str, wanted: object, got: object) -> None:
+    def differ(self, words: str, wanted: object, got: Answer) -> None:
+        if got.err == LATE:
+            self.counts["answers that didn't come in time"] += 1
         self.differences.append(f"{words}\n      telling: {wanted}\n      program: {got}")
 
 
@@ -118,7 +121,7 @@ class Comparer:
         try:
             ran = subprocess.run(words, input=text, capture_output=True, timeout=SECONDS, check=False)
         except subprocess.TimeoutExpired:
-            return Answer(-1, "", "no answer in time")
+            return Answer(-1, "", LATE)
         return Answer(ran.returncode, ran.stdout.decode("utf-8", "replace"), ran.stderr.decode("utf-8", "replace"))
 
     def outcome(self, text: bytes) -> Outcome:

@@ -20,7 +20,7 @@ import re
 import sys
 from collections import Counter, deque
 from collections.abc import Callable, Iterable, Iterator
-from dataclasses import dataclass, field
+from dataclasses import dataclass
 from functools import cached_property
 from typing import NamedTuple
 
@@ -914,7 +914,6 @@ class Turn:
     clocks: list[Clock]
     shared: list[int]
     printed: int | None = None
-    changed: dict[int, Value] = field(default_factory=dict)
 
     @property
     def me(self) -> Activity:
