@@ -246,6 +246,7 @@ impl Activity {
     }
 
     /// Carries out an instruction of this unit, which the activity runs, that concerns this activity and its standings alone.
+    #[inline(always)]
     pub fn carry_out(&mut self, unit: &Unit, instr: &Instr) -> (StepChange, Event)
         requires place { self.old.frame.place + 1 < 2 ^ 16 }
         requires short { length unit.now.code < 2 ^ 16 }
@@ -308,6 +309,7 @@ impl Activity {
     }
 
     /// Goes on, or to place t, by how the numbers in two slots compare.
+    #[inline(always)]
     fn branch(&mut self, op: Comparison, x: u16, y: u16, t: u16) -> (StepChange, Event)
         requires place { self.old.frame.place + 1 < 2 ^ 16 }
         requires operands { AreNumbersAt self.old x y }
@@ -332,6 +334,7 @@ impl Activity {
     }
 
     /// Ends a turn of the loop that begins at place b of the unit: goes round again, or on.
+    #[inline(always)]
     fn turn(&mut self, unit: &Unit, b: u16) -> (StepChange, Event)
         requires place { self.old.frame.place + 1 < 2 ^ 16 }
         requires short { length unit.now.code < 2 ^ 16 }
@@ -354,6 +357,7 @@ impl Activity {
 
     /// Writes a number to a slot and goes on, for any instruction that does; nobody sees it.
     #[tactic(auto, using(crate::proofs::Arms::slot_written))]
+    #[inline(always)]
     fn write(&mut self, d: u16, n: i64) -> (StepChange, Event)
         requires place { self.old.frame.place + 1 < 2 ^ 16 }
         requires slot { d < length self.old.frame.slots }

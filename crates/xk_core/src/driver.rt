@@ -72,6 +72,7 @@ fn list_one(enabled: &mut Vec<u32>, core: &Core<'_>, act: Act)
 }
 
 /// Takes an activity that is in the list out of it, if it can't take another step.
+#[inline(always)]
 fn list_own(enabled: &mut Vec<u32>, core: &Core<'_>, act: Act)
     requires rising { IsRising enabled.old.items }
     ensures list { with_member act true enabled.old.items ≡ enabled.old.items
@@ -87,6 +88,7 @@ fn list_own(enabled: &mut Vec<u32>, core: &Core<'_>, act: Act)
 
 /// Who but the activity that took it may be able to step after a step that no clock advanced in, and not before, or the other way round: one
 /// that it started, and where it ended its activity the one that opened the finish which governs it.
+#[inline(always)]
 fn touched(core: &Core<'_>, act: Act, event: Event) -> Option<Act>
     requires { act < length core.now.world.activities }
     ensures { result ≡ touched core.now.world act event }
@@ -99,6 +101,7 @@ fn touched(core: &Core<'_>, act: Act, event: Event) -> Option<Act>
 }
 
 /// Brings the list up to date after a step of the activity.
+#[inline(always)]
 fn list_after(enabled: &mut Vec<u32>, core: &Core<'_>, act: Act, event: Event)
     requires there { act < length core.now.world.activities }
     requires rising { IsRising enabled.old.items }
@@ -160,6 +163,7 @@ impl<'m> Driver<'m> {
     }
 
     /// One step of the activity, and what it is seen to do. Err where memory was refused: then the core is as before.
+    #[inline(always)]
     pub fn step(&mut self, act: Act) -> Result<Event, AllocError>
         requires { IsTrue (is_enabled self.old.module_run self.old.world act) }
         ensures stepped { IfOk result (λ e. step self.old.module_run self.old.world act ≡ Stepped self.new.world e) }
@@ -176,6 +180,7 @@ impl<'m> Driver<'m> {
 
     /// The next turn: the step of the activity that the chooser names, and nothing where all have ended. Err where memory was refused:
     /// then no step was taken, though the chooser was asked.
+    #[inline(always)]
     pub fn turn<C: Chooser>(&mut self, chooser: &mut C) -> Result<Option<Turn>, AllocError>
         ensures taken { IfOk result (IsTaken C.answer C.after self.old chooser.old self.new chooser.new) }
         // The verified number of steps is never passed.

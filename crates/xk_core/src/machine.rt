@@ -72,6 +72,7 @@ impl<'m> Core<'m> {
 
     /// Whether the activity exists and can take a step: it runs, and doesn't wait at an `endfinish` for somebody who hasn't ended; or
     /// it waits at an `advance` and no clock holds it back.
+    #[inline(always)]
     pub fn enabled(&self, act: Act) -> bool
         ensures { result ≡ is_enabled self.now.module_run self.now.world act }
     {
@@ -79,6 +80,7 @@ impl<'m> Core<'m> {
     }
 
     /// Whether the activity stands at an `endfinish`, and somebody under the finish hasn't ended.
+    #[inline(always)]
     fn is_kept(&self, act: Act) -> bool
         ensures { result ≡ is_kept self.now.module_run self.now.world act }
     {
@@ -171,6 +173,7 @@ impl<'m> Core<'m> {
     }
 
     /// Whether no clock advanced in the last step.
+    #[inline(always)]
     pub(crate) fn is_quiet(&self) -> bool
         ensures { result ≡ true → IsQuiet self.now.world }
     {
@@ -186,6 +189,7 @@ impl<'m> Core<'m> {
     }
 
     /// The instruction that activity a carries out next, if it runs.
+    #[inline(always)]
     fn next_instruction(&self, a: usize) -> Option<&'m Instr>
         ensures { option_copied result ≡ next_instruction self.now.module_run self.now.world a }
     {
@@ -194,6 +198,7 @@ impl<'m> Core<'m> {
 
     /// One step of the activity, and what it is seen to do. Only the making of a clock, a call of a method and the start of an
     /// activity want memory; where that is refused the core is as before.
+    #[inline(always)]
     pub fn step(&mut self, act: Act) -> Result<Event, AllocError>
         requires { IsTrue (is_enabled self.old.module_run self.old.world act) }
         ensures stepped { IfOk result (λ e. step self.old.module_run self.old.world act ≡ Stepped self.new.world e) }
@@ -210,6 +215,7 @@ impl<'m> Core<'m> {
     }
 
     /// The activity carries out this instruction, which is its next one, or passes the `advance` that it waits at.
+    #[inline(always)]
     fn take(&mut self, act: Act, next: Option<&Instr>) -> Result<Event, AllocError>
         requires enabled { IsTrue (is_enabled self.old.module_run self.old.world act) }
         requires here { option_copied next ≡ next_instruction self.old.module_run self.old.world act }
@@ -282,6 +288,7 @@ impl<'m> Core<'m> {
     }
 
     /// The activity carries out an instruction that opens or closes no finish, and starts no activity.
+    #[inline(always)]
     fn carry_out(&mut self, act: Act, instr: &Instr) -> Result<Event, AllocError>
         requires enabled { is_enabled self.old.module_run self.old.world act ≡ true }
         requires here { next_instruction self.old.module_run self.old.world act ≡ Some instr.now }

@@ -41,6 +41,7 @@ impl Model for State {
 }
 
 /// Changes the standings of activity a.
+#[inline(always)]
 fn change_all(clocks: &mut Vec<Clock>, a: usize, change: StepChange)
     requires { All (λ c. a < length c.standings) clocks.old.items }
     ensures { clocks.new.items ≡ moved a (standing_after_step change) clocks.old.items }
@@ -51,6 +52,7 @@ fn change_all(clocks: &mut Vec<Clock>, a: usize, change: StepChange)
 }
 
 /// Advances each clock that is ready, in the step of this number.
+#[inline(always)]
 fn settle_all(clocks: &mut Vec<Clock>, now: u64)
     requires { All (λ c. c.phase + 1 < 2 ^ 64) clocks.old.items }
     ensures { clocks.new.items ≡ map (settled_clock now) clocks.old.items }
@@ -137,6 +139,7 @@ fn set_cell(cells: &mut Vec<i64>, s: u16, n: i64)
 
 impl State {
     /// The end of a step: it is counted, and each clock that is ready advances.
+    #[inline(always)]
     fn settle(&mut self)
         requires steps { self.old.steps + 1 < 2 ^ 64 }
         requires phases { All (λ c. c.phase + 1 < 2 ^ 64) self.old.clocks }
@@ -147,6 +150,7 @@ impl State {
     }
 
     /// The end of a step of activity a, whose standings change.
+    #[inline(always)]
     fn end_step(&mut self, a: usize, change: StepChange)
         requires steps { self.old.steps + 1 < 2 ^ 64 }
         requires phases { All (λ c. c.phase + 1 < 2 ^ 64) self.old.clocks }
@@ -159,6 +163,7 @@ impl State {
 
     /// Activity a carries out an instruction of this module that opens or closes no finish, and starts no activity. Only the making
     /// of a clock and a call want memory; where that is refused nothing changes.
+    #[inline(always)]
     pub fn carry_out(
         &mut self,
         program: &Module,
@@ -185,6 +190,7 @@ impl State {
 
     /// Activity a carries out an instruction that adds no clock, no frame and no activity, and concerns no finish and no shared
     /// number.
+    #[inline(always)]
     fn carry_alone(&mut self, program: &Module, a: usize, instr: &Instr) -> Event
         requires enabled { is_step (carried program.now self.old a instr.now) ≡ true }
         requires single { grows instr.now ≡ false }
@@ -396,6 +402,7 @@ impl State {
     }
 
     /// Whether no clock advanced in the last step.
+    #[inline(always)]
     pub fn is_quiet(&self) -> bool
         ensures { result ≡ true → IsQuiet self.now }
     {
@@ -403,6 +410,7 @@ impl State {
     }
 
     /// The instruction of this module that activity a carries out next, if it runs.
+    #[inline(always)]
     pub fn next_instruction<'m>(&self, program: &'m Module, a: usize) -> Option<&'m Instr>
         ensures { option_copied result ≡ next_instruction program.now self.now a }
     {
@@ -431,6 +439,7 @@ impl State {
     }
 
     /// Whether activity a exists, doesn't wait at an `advance`, and isn't over.
+    #[inline(always)]
     pub fn is_able(&self, a: usize) -> bool
         ensures { result ≡ is_able self.now a }
     {
