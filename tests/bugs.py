@@ -1,0 +1,230 @@
+#!/usr/bin/env python3
+"""Plants bugs in the crates and asks the prover whether the contracts refuse them.
+
+    tests/bugs.py [--top FOLDER] [--plan] [--keep FOLDER] CRATE [BUG ..]
+
+Bugs stand in tests/bugs/CRATE.bugs, each as
+
+    bug: its_name
+    why: what is wrong, in words
+    file: src/file.rt
+    old: a text that stands once in that file
+    new: what stands there instead
+
+with further pairs of `old:` and `new:` where one isn't enough. A line `passes: reason` says that no contract refuses it, and why that is
+right. Contracts are all that callers see, so bugs in different functions are planted together and tried by one `rt check`: each function
+says for itself whether it is refused. A bug whose function meets a name that is gone is told as refused for a name: that shows nothing.
+
+It changes the files of the crate while it runs and puts them back: run it on a copy of the repository. The status is 0 where each bug is
+refused by its own function, or passes as said.
+"""
+import argparse
+import os
+import re
+import subprocess
+import sys
+import time
+from dataclasses import dataclass, field
+
+
+@dataclass
+class Bug:
+    name: str
+    why: str = ""
+    passes: str = ""
+    file: str = ""
+    pairs: list = field(default_factory=list)
+
+
+def read_bugs(path):
+    bugs = []
+    for number, line in enumerate(open(path, encoding="utf-8"), 1):
+        line = line.rstrip("\n")
+        word, _, rest = line.partition(":")
+        rest = rest[1:] if rest.startswith(" ") else rest
+        if not line or line.startswith("#"):
+            continue
+        if word == "bug":
+            bugs.append(Bug(rest))
+        elif word in ("why", "passes", "file"):
+            setattr(bugs[-1], word, rest)
+        elif word == "old":
+            bugs[-1].pairs.append([rest, ""])
+        elif word == "new":
+            bugs[-1].pairs[-1][1] = rest
+        else:
+            sys.exit(f"{path}:{number}: not understood: {line}")
+    names = [b.name for b in bugs]
+    for name in {n for n in names if names.count(n) > 1}:
+        sys.exit(f"{path}: two bugs are called {name}")
+    return bugs
+
+
+def functions(text):
+    """First and last line and name of each function, with its impl."""
+    lines, found, of = text.split("\n"), [], ""
+    for first, line in enumerate(lines, 1):
+        if line == "}":
+            of = ""
+        if m := re.match(r"(?:impl|pub trait|trait)(?:<[^>]*>)? (.*?) \{$", line):
+            of = m[1] + " :: "
+        if m := re.match(r"(\s*)(?:pub(?:\(crate\))? )?(?:const )?fn (\w+)", line):
+            end, last = m[1] + "}", first
+            while last <= len(lines) and lines[last - 1] != end and not (last == first and line.endswith(";")):
+                last += 1
+            found.append((first, last, (of if m[1] else "") + m[2]))
+    return found
+
+
+class Crate:
+    def __init__(self, top, name):
+        self.path = os.path.join(top, "crates", name)
+        self.name = name
+        self.texts = {}
+
+    def text(self, file):
+        if file not in self.texts:
+            self.texts[file] = open(os.path.join(self.path, file), encoding="utf-8").read()
+        return self.texts[file]
+
+    def places(self, bug):
+        """The functions that a bug changes, or the lines, where it changes something outside of functions."""
+        text, hit = self.text(bug.file), set()
+        fs = functions(text)
+        for old, _ in bug.pairs:
+            line = text.count("\n", 0, text.find(old)) + 1
+            f = next((f for f in fs if f[0] <= line <= f[1]), None)
+            hit.add((bug.file, *f) if f else (bug.file, line, line, ""))
+        return hit
+
+    def stale(self, bug):
+        if not os.path.exists(os.path.join(self.path, bug.file)):
+            return f"{bug.file} isn't there"
+        wrong = [old for old, _ in bug.pairs if self.text(bug.file).count(old) != 1]
+        return f"not once in {bug.file}: {wrong[0]}" if wrong else ""
+
+    def batches(self, bugs):
+        """Bugs that change different functions; what changes no function is tried alone."""
+        left, done = list(bugs), []
+        while left:
+            used, taken = set(), []
+            for bug in left:
+                places = self.places(bug)
+                alone = any(not name for *_, name in places)
+                if (alone and taken) or places & used:
+                    continue
+                used |= places
+                taken.append(bug)
+                if alone:
+                    break
+            done.append(taken)
+            left = [b for b in left if b not in taken]
+        return done
+
+    def planted(self, bugs):
+        cuts = {}
+        for bug in bugs:
+            for old, new in bug.pairs:
+                at = self.text(bug.file).find(old)
+                cuts.setdefault(bug.file, []).append((at, at + len(old), new))
+        texts = {}
+        for file, found in cuts.items():
+            text = self.text(file)
+            for first, end, new in sorted(found, reverse=True):
+                text = text[:first] + new + text[end:]
+            texts[file] = text
+        return texts
+
+    def write(self, texts):
+        for file, text in texts.items():
+            with open(os.path.join(self.path, file), "w", encoding="utf-8") as f:
+                f.write(text)
+
+    def check(self, bugs):
+        texts = self.planted(bugs)
+        try:
+            self.write(texts)
+            ran = subprocess.run(["rt", "check", "--jobs", "1"], cwd=self.path, capture_output=True, text=True, errors="replace")
+        finally:
+            self.write({file: self.text(file) for file in texts})
+        return ran.returncode, ran.stdout + ran.stderr
+
+
+# What the prover says where a name that a proof cites is gone, and where the changed text is no program.
+OF_A_NAME = re.compile(r"no such|not in scope|unknown|no field|has no|isn't a step|not a field|undefined", re.I)
+NO_PROGRAM = re.compile(r"error\[E\d+\]|mismatched types|cannot find|expected .* found|unused|unreachable", re.I)
+
+
+def own_lines(crate, bug, lines):
+    found = []
+    for file, first, last, name in crate.places(bug):
+        short, stem = name.split(" :: ")[-1], os.path.basename(file)[:-3]
+        for line in lines:
+            m = re.match(r"(?:\w+: )?(?:\./)?(\S+?):(\d+):(?:\d+:)? ?(.*)", line)
+            if not m:
+                continue
+            if not name:
+                found += [line] if "error" in line or "not proved" in line else []
+            elif m[1] == file and first <= int(m[2]) <= last:
+                found.append(line)
+            elif re.match(rf"proofs/{stem}/(.*/)?{short}(/|\.antt)", m[1]):
+                found.append(line)
+    errors = [line for line in found if "error" in line]
+    return errors or found
+
+
+def told(crate, bug, lines):
+    mine = own_lines(crate, bug, lines)
+    if not mine:
+        return ("passes" if any(line.startswith("logic=") for line in lines) else "not judged"), ""
+    if all(OF_A_NAME.search(line) for line in mine):
+        return "refused for a name", mine[0]
+    if all(NO_PROGRAM.search(line) for line in mine):
+        return "no program", mine[0]
+    return "refused", next(line for line in mine if not OF_A_NAME.search(line))
+
+
+def main():
+    p = argparse.ArgumentParser()
+    p.add_argument("--top", default=os.path.join(os.path.dirname(__file__), ".."))
+    p.add_argument("--plan", action="store_true", help="say what would be tried together")
+    p.add_argument("--keep", help="a folder for what the prover says")
+    p.add_argument("crate")
+    p.add_argument("bugs", nargs="*")
+    a = p.parse_args()
+    crate = Crate(a.top, a.crate)
+    bugs = read_bugs(os.path.join(a.top, "tests", "bugs", a.crate + ".bugs"))
+    if a.bugs:
+        bugs = [b for b in bugs if b.name in a.bugs]
+    wrong = {}
+    for bug in bugs:
+        if why := crate.stale(bug):
+            wrong[bug.name] = why
+            print(f"  {bug.name:40} stale: {why}", flush=True)
+    counts = {}
+    for number, batch in enumerate(crate.batches([b for b in bugs if b.name not in wrong])):
+        if a.plan:
+            print(number, " ".join(b.name for b in batch))
+            continue
+        began = time.time()
+        status, out = crate.check(batch)
+        lines = out.splitlines()
+        if a.keep:
+            with open(os.path.join(a.keep, f"{a.crate}-{number}.txt"), "w", encoding="utf-8") as f:
+                f.write(out)
+        print(f"== {a.crate} {number}: {len(batch)} bugs, {time.time() - began:.0f} s, status {status}: {lines[-1][:100]}", flush=True)
+        for bug in batch:
+            word, line = told(crate, bug, lines)
+            if bug.passes and word == "passes":
+                word = "passes, as said"
+            counts[word] = counts.get(word, 0) + 1
+            if word not in ("refused", "passes, as said"):
+                wrong[bug.name] = word
+            print(f"  {bug.name:40} {word:20} {line[:160]}", flush=True)
+    print(f"{a.crate}: {len(bugs)} bugs: " + ", ".join(f"{n} {word}" for word, n in sorted(counts.items())))
+    for name, why in wrong.items():
+        print(f"  look at {name}: {why}")
+    sys.exit(1 if wrong else 0)
+
+
+main()
