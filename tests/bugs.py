@@ -13,7 +13,8 @@ Bugs stand in tests/bugs/CRATE.bugs, each as
 
 with further pairs of `old:` and `new:` where one isn't enough. A line `passes: reason` says that no contract refuses it, and why that is
 right. Contracts are all that callers see, so bugs in different functions are planted together and tried by one `rt check`: each function
-says for itself whether it is refused. A bug whose function meets a name that is gone is told as refused for a name: that shows nothing.
+says for itself whether it is refused; one that calls a function which is refused waits for another check, if it must. A bug whose function
+meets a name that is gone is told as refused for a name: that shows nothing.
 
 It changes the files of the crate while it runs and puts them back: run it on a copy of the repository. The status is 0 where each bug is
 refused by its own function, or passes as said.
@@ -144,10 +145,10 @@ class Crate:
         texts = self.planted(bugs)
         try:
             self.write(texts)
-            ran = subprocess.run(["rt", "check", "--jobs", "1"], cwd=self.path, capture_output=True, text=True, errors="replace")
+            ran = subprocess.run(["rt", "check", "--jobs", "1"], cwd=self.path, capture_output=True, text=True, errors="replace", check=False)
         finally:
             self.write({file: self.text(file) for file in texts})
-        return ran.returncode, ran.stdout + ran.stderr
+        return ran.stdout + ran.stderr
 
 
 # What the prover says where a name that a proof cites is gone, and where the changed text is no program.
@@ -173,15 +174,32 @@ def own_lines(crate, bug, lines):
     return errors or found
 
 
+def without_proof(crate, bug, lines):
+    """What is said of the bug's functions themselves, which have no proof."""
+    found = []
+    for file, _, _, name in crate.places(bug):
+        short, stem = name.split(" :: ")[-1], os.path.basename(file)[:-3]
+        for line in lines:
+            m = re.match(r"fn \w+::(\S+): no proof: (.*)", line)
+            path = m[1].split("::") if m else []
+            if name and path[-1:] == [short] and (path[0] == stem or stem in ("lib", "main")):
+                found.append(m[2])
+    return found
+
+
 def told(crate, bug, lines):
-    mine = own_lines(crate, bug, lines)
-    if not mine:
-        return ("passes" if any(line.startswith("logic=") for line in lines) else "not judged"), ""
-    if all(OF_A_NAME.search(line) for line in mine):
+    mine, reasons = own_lines(crate, bug, lines), without_proof(crate, bug, lines)
+    if not any(line.startswith("logic=") for line in lines):
+        return "not judged", ""
+    if mine and all(OF_A_NAME.search(line) for line in mine):
         return "refused for a name", mine[0]
-    if all(NO_PROGRAM.search(line) for line in mine):
+    if mine and all(NO_PROGRAM.search(line) for line in mine):
         return "no program", mine[0]
-    return "refused", next(line for line in mine if not OF_A_NAME.search(line))
+    if mine:
+        return "refused", next(line for line in mine if not OF_A_NAME.search(line))
+    if any("did not prove" in reason for reason in reasons):
+        return "refused", next(reason for reason in reasons if "did not prove" in reason)
+    return ("not tried", reasons[0]) if reasons else ("passes", "")
 
 
 def main():
@@ -201,26 +219,35 @@ def main():
         if why := crate.stale(bug):
             wrong[bug.name] = why
             print(f"  {bug.name:40} stale: {why}", flush=True)
-    counts = {}
-    for number, batch in enumerate(crate.batches([b for b in bugs if b.name not in wrong])):
-        if a.plan:
-            print(number, " ".join(b.name for b in batch))
-            continue
-        began = time.time()
-        status, out = crate.check(batch)
-        lines = out.splitlines()
-        if a.keep:
-            with open(os.path.join(a.keep, f"{a.crate}-{number}.txt"), "w", encoding="utf-8") as f:
-                f.write(out)
-        print(f"== {a.crate} {number}: {len(batch)} bugs, {time.time() - began:.0f} s, status {status}: {lines[-1][:100]}", flush=True)
-        for bug in batch:
-            word, line = told(crate, bug, lines)
-            if bug.passes and word == "passes":
-                word = "passes, as said"
-            counts[word] = counts.get(word, 0) + 1
-            if word not in ("refused", "passes, as said"):
-                wrong[bug.name] = word
-            print(f"  {bug.name:40} {word:20} {line[:160]}", flush=True)
+    counts, number, left = {}, 0, [b for b in bugs if b.name not in wrong]
+    for _ in range(3):
+        later = []
+        for batch in crate.batches(left):
+            if a.plan:
+                print(number, " ".join(b.name for b in batch))
+                number += 1
+                continue
+            began = time.time()
+            out = crate.check(batch)
+            lines = out.splitlines()
+            if a.keep:
+                with open(os.path.join(a.keep, f"{a.crate}-{number}.txt"), "w", encoding="utf-8") as f:
+                    f.write(out)
+            print(f"== {a.crate} {number}: {len(batch)} bugs, {time.time() - began:.0f} s", flush=True)
+            number += 1
+            for bug in batch:
+                word, line = told(crate, bug, lines)
+                print(f"  {bug.name:40} {word:20} {line[:160]}", flush=True)
+                if word == "not tried":
+                    later.append(bug)
+                    continue
+                word += ", as said" if bug.passes and word == "passes" else ""
+                counts[word] = counts.get(word, 0) + 1
+                if word not in ("refused", "passes, as said"):
+                    wrong[bug.name] = word
+        left = later
+    for bug in left:
+        wrong[bug.name] = "not tried"
     print(f"{a.crate}: {len(bugs)} bugs: " + ", ".join(f"{n} {word}" for word, n in sorted(counts.items())))
     for name, why in wrong.items():
         print(f"  look at {name}: {why}")

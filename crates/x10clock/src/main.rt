@@ -1,6 +1,12 @@
 //! The program: words to a job, files and streams to devices, and the status that serving it answers.
 #![tactic(auto)]
 
+ghost use Rattle.std.specs.Prelude.{◌≡◌, ◌≢◌, [], IfSome};
+ghost use Rattle.std.specs.Io.KnownBytes.{Appends};
+ghost use Rattle.xk_serve.specs.Answer.{task_of};
+ghost use Rattle.xk_serve.specs.Lines.{memory_line};
+ghost use Rattle.xk_serve.specs.Serving.{Answered, ErrBegins, OutBegins};
+
 use std::io::{ErrorKind, Read};
 use std::process::ExitCode;
 use std::{env, fs, io};
@@ -59,7 +65,14 @@ fn on_program<P: Read + Drop, O: Sink, E: Sink>(
     program: P,
     out: &mut O,
     err: &mut E,
-) -> u8 {
+) -> u8
+    ensures answered { IfSome (P.remaining program) (λ bytes. result ≢ 4 → result ≢ 5
+        → Answered (task_of job.now) bytes result (O.contents out.old) (O.contents out.new) (E.contents err.old) (E.contents err.new)) }
+    ensures out_begins { IfSome (P.remaining program) (λ bytes. OutBegins (task_of job.now) bytes (O.contents out.old) (O.contents out.new)) }
+    ensures err_begins { IfSome (P.remaining program) (λ bytes. ErrBegins bytes (E.contents err.old) (E.contents err.new)) }
+    ensures memory_out { result ≡ 4 → Appends (O.contents out.old) (O.contents out.new) [] }
+    ensures memory_err { result ≡ 4 → Appends (E.contents err.old) (E.contents err.new) memory_line }
+{
     let mut source = Counted::new(program);
     let mut log_in = Counted::new(io::empty());
     let mut log_out = Counted::new(io::sink());

@@ -1,5 +1,5 @@
 -- How a schedule that follows a chooser goes on by a step.
-use Rattle.std.proofs.Common.{◌≡◌, ℕ, ℤ, ◌%◌, Bool, not, List, [], ◌∷◌, ◌++◌, length, Option, Some, filter, refl, sym, ap, subst, ◌∙◌, arith, slice_get}
+use Rattle.std.proofs.Common.{◌≡◌, ℕ, ℤ, ◌%◌, Bool, not, List, [], ◌∷◌, ◌++◌, length, Option, Some, filter, refl, sym, ap, subst, ◌∙◌, slice_get}
 use Rattle.std.specs.List.{filter_map}
 use Rattle.std.specs.Option.{option_to_list}
 use Rattle.std.proofs.lemmas.List.Elements.{filter-append, filter_map-append}
@@ -7,7 +7,7 @@ use Rattle.xk_types.specs.declared.names.Event.{Event}
 use Rattle.xk_types.specs.declared.names.Event.TheVariants as event
 use Rattle.xk_types.specs.Code.{ModuleValue}
 use Rattle.xk_types.specs.World.{World}
-use Rattle.xk_types.specs.Step.{Outcome, Blocked, Wrong, Stepped, step}
+use Rattle.xk_types.specs.Step.{Stepped, step}
 use Rattle.xk_types.specs.Schedule.{Through, run, events, is_local, seen, number_printed, printed}
 use Rattle.xk_laws.proofs.Reached.{first_step}
 use Rattle.xk_core.proofs.Runs.{same_world, events_more}

@@ -14,7 +14,7 @@ use Rattle.xk_types.specs.Code.{ModuleValue}
 use Rattle.xk_types.specs.World.{Activity, World, is_ended}
 use Rattle.xk_types.specs.Step.{Stepped, step, step_by, step_of}
 use Rattle.xk_types.specs.Schedule.{is_step, is_enabled, all_ended}
-use Rattle.xk_core.specs.Core.{IsCore, IsQuiet, governor}
+use Rattle.xk_core.specs.Core.{IsCore, is_quiet, governor}
 use Rattle.xk_core.specs.Choosing.{IsRising, numbers_from, enabled_in, with_member}
 use Rattle.xk_core.specs.Touched.{touched}
 use Rattle.xk_core.proofs.Cores.{core_ends}
@@ -111,7 +111,7 @@ elsewhere a q p k ne = rw (ne_eqb k a ne) refl
 pub record IsOneStep (m : ModuleValue) (w v : World) (a : ℕ) (e : Event) : Type 0 where
   pub core : IsCore m w
   pub stepped : step m w a ≡ Stepped v e
-  pub quiet : IsQuiet v
+  pub quiet : is_quiet v ≡ true
 
 -- who steps is in the list
 pub listed_own : (m : ModuleValue) (w v : World) (a : ℕ) (e : Event) → step m w a ≡ Stepped v e → with_member a true (enabled_in m w) ≡ enabled_in m w

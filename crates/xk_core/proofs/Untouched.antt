@@ -1,7 +1,8 @@
 -- A step of one activity leaves each other as able to step as it was, but for the one that it starts, those on a clock that advances, and,
 -- where it ends its activity, the owner of the finish that governs that one.
-use Rattle.std.proofs.Common.{◌≡◌, ℕ, zero, suc, ◌+◌, ◌<◌, ◌&&◌, ◌||◌, not, Bool, false, cond, List, [], ◌∷◌, ◌++◌, map, length, Option, Some, None, refl, sym, ap, ◌∙◌, subst, arith, slice_get, slice_set, option_and_then, length-set}
-use Rattle.std.specs.List.{list_any}
+use Rattle.std.proofs.Common.{◌≡◌, ℕ, zero, suc, ◌+◌, ◌<◌, ◌&&◌, ◌||◌, ◌==◌, not, Bool, true, false, true≢false, cond, List, [], ◌∷◌, ◌++◌, map, length, Option, Some, None, refl, sym, ap, ap₂, ◌∙◌, subst, arith, slice_get, slice_set, option_and_then, length-set}
+use Rattle.std.specs.List.{list_all, list_any}
+use Rattle.std.proofs.lemmas.Bool.{and_parts, eq-eqb}
 use Rattle.std.proofs.lemmas.List.{length_push}
 use Rattle.std.proofs.lemmas.Option.{none-some, same_Some, slice_get_within}
 use Rattle.xk_types.specs.declared.instr.Instr.{Instr}
@@ -24,7 +25,7 @@ use Rattle.xk_laws.proofs.Scopes.Under.{AreOwned}
 use Rattle.xk_laws.proofs.Clocks.Advance.{settled_cases}
 use Rattle.xk_laws.proofs.Clocks.Standings.{stand_other, new_other, stand_joined_old}
 use Rattle.xk_core.specs.Able.{able_by, able_of, kept_by}
-use Rattle.xk_core.specs.Core.{IsCore, IsQuiet, governor, instruction_of}
+use Rattle.xk_core.specs.Core.{IsCore, is_quiet, governor, instruction_of}
 use Rattle.xk_core.proofs.Cores.{core_able, core_stepped}
 use Rattle.xk_core.proofs.UntouchedForms.{GoesOn, is_start, step_kind}
 use Rattle.xk_core.proofs.UntouchedOwners.{core_owned, core_open}
@@ -32,10 +33,16 @@ use Rattle.xk_core.proofs.UntouchedAwaits.{owned_set, awaits_on, awaits_end, awa
 
 -- ---- clocks
 
+-- what differs by a test
+apart : (x now : ℕ) → not (x == now) ≡ true → x ≡ now → ⊥
+apart x now h e = true≢false (sym h ∙ ap not (eq-eqb x now e))
+
 -- where no clock advances, the end of a step changes none
-settled_quiet : (now : ℕ) (clocks : List Clock) → ((k : ℕ) (c : Clock) → slice_get (map (settled_clock now) clocks) k ≡ Some c → c.last ≡ now → ⊥) → map (settled_clock now) clocks ≡ clocks
+settled_quiet : (now : ℕ) (clocks : List Clock) → list_all (λ c. not (c.last == now)) (map (settled_clock now) clocks) ≡ true → map (settled_clock now) clocks ≡ clocks
 settled_quiet now [] quiet = refl
-settled_quiet now (c ∷ cs) quiet = ap (λ l. settled_clock now c ∷ l) (settled_quiet now cs (λ k. quiet (suc k))) ∙ ap (λ d. d ∷ cs) (same (quiet zero (settled_clock now c) refl))
+settled_quiet now (c ∷ cs) quiet =
+    let parts = and_parts (not ((settled_clock now c).last == now)) (list_all (λ d. not (d.last == now)) (map (settled_clock now) cs)) quiet in
+    ap (λ l. settled_clock now c ∷ l) (settled_quiet now cs parts.1) ∙ ap (λ d. d ∷ cs) (same (apart (settled_clock now c).last now parts.0))
   where
     same : ((settled_clock now c).last ≡ now → ⊥) → settled_clock now c ≡ c
     same = settled_cases now c (λ d. (d.last ≡ now → ⊥) → d ≡ c) (λ ready never. absurd (never refl)) (λ unready never. refl)
@@ -94,15 +101,15 @@ same_enabled m w v b core later same waiting awaiting =
 abbrev Leaves : ModuleValue → World → ℕ → ℕ → Outcome → Type 0
 Leaves m w a b Blocked = Unit {0}
 Leaves m w a b (Wrong c) = Unit {0}
-Leaves m w a b (Stepped v e) = IsCore m v → IsQuiet v → (e ≡ event.Ended → governor w a ≡ Some b → ⊥) → is_enabled m v b ≡ is_enabled m w b
+Leaves m w a b (Stepped v e) = IsCore m v → is_quiet v ≡ true → (e ≡ event.Ended → governor w a ≡ Some b → ⊥) → is_enabled m v b ≡ is_enabled m w b
 
 module _ (m : ModuleValue) (w : World) (a b : ℕ) (core : IsCore m w) (inside : b < length w.activities) (differs : b ≡ a → ⊥) where
   -- one activity changes, and where it stands
   leaves_moved : (act next : Activity) (change : ℕ → Standing → Standing) (v : World) → v.activities ≡ slice_set w.activities a next → v.clocks ≡ map (settled_clock (w.steps + 1)) (moved a change w.clocks)
-      → v.steps ≡ w.steps + 1 → IsCore m v → IsQuiet v → ((x : Activity) → awaits (slice_set w.activities a next) (innermost b x) ≡ awaits w.activities (innermost b x)) → is_enabled m v b ≡ is_enabled m w b
+      → v.steps ≡ w.steps + 1 → IsCore m v → is_quiet v ≡ true → ((x : Activity) → awaits (slice_set w.activities a next) (innermost b x) ≡ awaits w.activities (innermost b x)) → is_enabled m v b ≡ is_enabled m w b
   leaves_moved act next change v acts clocks steps later quiet awaiting =
       same_enabled m w v b core later (ap (λ l. slice_get l b) acts ∙ get-set_other w.activities a b next differs)
-      (ap (waits_on b) (clocks ∙ settled_quiet (w.steps + 1) (moved a change w.clocks) (λ k c at last. quiet k c (ap (λ l. slice_get l k) clocks ∙ at) (last ∙ sym steps))) ∙ waits_moved a b change w.clocks differs)
+      (ap (waits_on b) (clocks ∙ settled_quiet (w.steps + 1) (moved a change w.clocks) (sym (ap₂ (λ n l. list_all (λ (c : Clock). not (c.last == n)) l) steps clocks) ∙ quiet)) ∙ waits_moved a b change w.clocks differs)
       (λ x found. ap (λ l. awaits l (innermost b x)) acts ∙ awaiting x)
 
   -- it goes on
@@ -150,7 +157,7 @@ module _ (m : ModuleValue) (w : World) (a b : ℕ) (core : IsCore m w) (inside :
   })
 
 -- a step leaves others as able to step as they were
-pub untouched : (m : ModuleValue) (w v : World) (a : ℕ) (e : Event) → IsCore m w → step m w a ≡ Stepped v e → IsQuiet v → (b : ℕ) → b < length w.activities → (b ≡ a → ⊥)
+pub untouched : (m : ModuleValue) (w v : World) (a : ℕ) (e : Event) → IsCore m w → step m w a ≡ Stepped v e → is_quiet v ≡ true → (b : ℕ) → b < length w.activities → (b ≡ a → ⊥)
     → (e ≡ event.Ended → governor w a ≡ Some b → ⊥) → is_enabled m v b ≡ is_enabled m w b
 untouched m w v a e core h quiet b inside differs another = subst (Leaves m w a b) h (step_leaves m w a b core inside differs) (core_stepped m w v a e core h) quiet another
 

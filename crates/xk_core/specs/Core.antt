@@ -1,11 +1,11 @@
 -- A running core, as its clauses see it: a module, and a world that a legal schedule of it reaches.
-use Rattle.std.specs.Prelude.{◌≡◌, ℕ, ◌<◌, Bool, true, false, List, Option, Some, None, slice_get, option_and_then}
-use Rattle.std.specs.Option.{option_map_or}
+use Rattle.std.specs.Prelude.{◌≡◌, ℕ, ◌<◌, ◌==◌, Bool, true, false, not, Option, Some, None, slice_get, option_and_then}
+use Rattle.std.specs.List.{list_all}
 use Rattle.xk_types.specs.declared.instr.Instr.{Instr}
 use Rattle.xk_types.specs.declared.names.Status.{Status}
 use Rattle.xk_types.specs.declared.names.Status.TheVariants as status
 use Rattle.xk_types.specs.Code.{ModuleValue, IsWithinLimits}
-use Rattle.xk_types.specs.World.{Activity, Clock, World, instruction_at, is_ended}
+use Rattle.xk_types.specs.World.{Activity, World, instruction_at}
 use Rattle.xk_types.specs.Schedule.{IsReached, is_enabled}
 use Rattle.xk_types.specs.Accepted.{IsAccepted}
 use Rattle.xk_core.specs.Arm.{grows}
@@ -46,5 +46,5 @@ abbrev pub governor : World → ℕ → Option ℕ
 governor w a = option_and_then (λ act. act.governed.owner) (slice_get w.activities a)
 
 -- no clock advanced in the step that led to this world
-abbrev pub IsQuiet : World → Type 0
-IsQuiet w = (k : ℕ) (c : Clock) → slice_get w.clocks k ≡ Some c → c.last ≡ w.steps → ⊥
+abbrev pub is_quiet : World → Bool
+is_quiet w = list_all (λ c. not (c.last == w.steps)) w.clocks

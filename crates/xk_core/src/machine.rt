@@ -5,7 +5,7 @@ ghost use Rattle.xk_types.specs.World.{opening};
 ghost use Rattle.xk_types.specs.Step.{Stepped, step};
 ghost use Rattle.xk_types.specs.Schedule.{IsReached, is_enabled, all_ended};
 ghost use Rattle.xk_types.specs.Bound.{steps_bound};
-ghost use Rattle.xk_core.specs.Core.{next_instruction, governor, IsAboutToGrow, IsCore, IsLeastEnabled, IsQuiet};
+ghost use Rattle.xk_core.specs.Core.{next_instruction, governor, IsAboutToGrow, IsCore, IsLeastEnabled, is_quiet};
 ghost use Rattle.xk_core.specs.Able.{is_kept};
 ghost use Rattle.xk_core.specs.Told.{is_end};
 ghost use Rattle.xk_core.specs.Arm.{grows, concerns_finishes};
@@ -175,7 +175,7 @@ impl<'m> Core<'m> {
     /// Whether no clock advanced in the last step.
     #[inline(always)]
     pub(crate) fn is_quiet(&self) -> bool
-        ensures { result ≡ true → IsQuiet self.now.world }
+        ensures { result ≡ is_quiet self.now.world }
     {
         self.state.is_quiet()
     }

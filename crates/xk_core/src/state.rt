@@ -7,7 +7,7 @@ ghost use Rattle.xk_types.specs.Step.{Stepped, settled, settled_clock, moved, jo
 ghost use Rattle.xk_finishes.specs.Tree.{node_at, fresh_node, governing_of};
 ghost use Rattle.xk_types.specs.Schedule.{is_step, all_ended};
 ghost use Rattle.xk_core.specs.Able.{is_able};
-ghost use Rattle.xk_core.specs.Core.{IsQuiet, next_instruction};
+ghost use Rattle.xk_core.specs.Core.{is_quiet, next_instruction};
 ghost use Rattle.xk_core.specs.Opening.{opening_with};
 ghost use Rattle.xk_core.specs.Change.{standing_after_step};
 ghost use Rattle.xk_core.specs.Arm.{grows, concerns_finishes, concerns_cells, carried, passed_on, IsRoomy, IsRunningUnit};
@@ -404,7 +404,7 @@ impl State {
     /// Whether no clock advanced in the last step.
     #[inline(always)]
     pub fn is_quiet(&self) -> bool
-        ensures { result ≡ true → IsQuiet self.now }
+        ensures { result ≡ is_quiet self.now }
     {
         self.clocks.iter().all(|c| c.last() != self.steps)
     }

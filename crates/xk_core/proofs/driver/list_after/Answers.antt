@@ -12,7 +12,7 @@ returns-in-Some-clause-list c before core stepped is =
     c.list_one.ensures.list
     ∙ ap (with_member c.in-Some.other (can c.in-Some.other)) (own ∙ ap (with_member c.args.act (can c.args.act)) is)
     ∙ listed_two c.args.core.now.module_run before w c.args.act c.in-Some.other c.args.event
-    (record { core = core; stepped = stepped; quiet = c.is_quiet.ensures c.if-not-is_quiet.false }) (sym c.touched.ensures ∙ c.in-Some.is)
+    (record { core = core; stepped = stepped; quiet = sym c.is_quiet.ensures ∙ c.if-not-is_quiet.false }) (sym c.touched.ensures ∙ c.in-Some.is)
 
 pub returns-in_default-clause-list : goal.returns-in_default-clause-list
 returns-in_default-clause-list c before core stepped is =
@@ -21,4 +21,4 @@ returns-in_default-clause-list c before core stepped is =
     let own = c.list_own.ensures.list (ap (with_member c.args.act true) is ∙ listed_own c.args.core.now.module_run before w c.args.act c.args.event stepped ∙ sym is) in
     own ∙ ap (with_member c.args.act (can c.args.act)) is
     ∙ listed_alone c.args.core.now.module_run before w c.args.act c.args.event
-    (record { core = core; stepped = stepped; quiet = c.is_quiet.ensures c.if-not-is_quiet.false }) (sym c.in_default.ensures)
+    (record { core = core; stepped = stepped; quiet = sym c.is_quiet.ensures ∙ c.if-not-is_quiet.false }) (sym c.in_default.ensures)
