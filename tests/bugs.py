@@ -151,31 +151,29 @@ class Crate:
         return ran.stdout + ran.stderr
 
 
-# What the prover says where a name that a proof cites is gone, and where the changed text is no program.
-OF_A_NAME = re.compile(r"no such|not in scope|unknown|no field|has no|isn't a step|not a field|undefined", re.I)
-NO_PROGRAM = re.compile(r"error\[E\d+\]|mismatched types|cannot find|expected .* found|unused|unreachable", re.I)
+# What the prover says of a goal that it doesn't prove; where a name that a proof cites is gone; and where the changed text is no program.
+OF_A_GOAL = re.compile(r"error|not proved|found no proof")
+OF_A_NAME = re.compile(r"no such|not in scope|unknown|no field|has no `", re.I)
+NO_PROGRAM = re.compile(r"error\[E\d+\]|mismatched types|cannot find|expected .* found `", re.I)
 
 
 def own_lines(crate, bug, lines):
+    """What is said of places in the bug's functions, or in the proofs that belong to them; of any, where it changes no function."""
     found = []
     for file, first, last, name in crate.places(bug):
         short, stem = name.split(" :: ")[-1], os.path.basename(file)[:-3]
+        own_proof = re.compile(rf"proofs/{stem}/(.*/)?{short}(/|\.antt)")
         for line in lines:
-            m = re.match(r"(?:\w+: )?(?:\./)?(\S+?):(\d+):(?:\d+:)? ?(.*)", line)
-            if not m:
+            m = re.match(r"(?:note: )?(?:\./)?(\S+?):(\d+):\d+: (.*)", line)
+            if not m or not OF_A_GOAL.search(m[3]):
                 continue
-            if not name:
-                found += [line] if "error" in line or "not proved" in line else []
-            elif m[1] == file and first <= int(m[2]) <= last:
+            if not name or own_proof.match(m[1]) or (m[1] == file and first <= int(m[2]) <= last):
                 found.append(line)
-            elif re.match(rf"proofs/{stem}/(.*/)?{short}(/|\.antt)", m[1]):
-                found.append(line)
-    errors = [line for line in found if "error" in line]
-    return errors or found
+    return found
 
 
 def without_proof(crate, bug, lines):
-    """What is said of the bug's functions themselves, which have no proof."""
+    """What is said of the bug's functions as a whole, where they have no proof."""
     found = []
     for file, _, _, name in crate.places(bug):
         short, stem = name.split(" :: ")[-1], os.path.basename(file)[:-3]
@@ -188,6 +186,7 @@ def without_proof(crate, bug, lines):
 
 
 def told(crate, bug, lines):
+    """What becomes of a bug, and a line that says so."""
     mine, reasons = own_lines(crate, bug, lines), without_proof(crate, bug, lines)
     if not any(line.startswith("logic=") for line in lines):
         return "not judged", ""
@@ -202,6 +201,27 @@ def told(crate, bug, lines):
     return ("not tried", reasons[0]) if reasons else ("passes", "")
 
 
+def try_all(crate, bugs, keep):
+    """What becomes of each bug, by its name. One that waits for a function which is refused is tried again, three times at most."""
+    answers, number, left = {}, 0, bugs
+    for _ in range(3):
+        later = []
+        for batch in crate.batches(left):
+            began = time.time()
+            out = crate.check(batch)
+            if keep:
+                with open(os.path.join(keep, f"{crate.name}-{number}.txt"), "w", encoding="utf-8") as f:
+                    f.write(out)
+            print(f"== {crate.name} {number}: {len(batch)} bugs, {time.time() - began:.0f} s", flush=True)
+            number += 1
+            for bug in batch:
+                answers[bug.name], line = told(crate, bug, out.splitlines())
+                print(f"  {bug.name:40} {answers[bug.name]:20} {line[:160]}", flush=True)
+            later += [b for b in batch if answers[b.name] == "not tried"]
+        left = later
+    return answers
+
+
 def main():
     p = argparse.ArgumentParser()
     p.add_argument("--top", default=os.path.join(os.path.dirname(__file__), ".."))
@@ -212,46 +232,23 @@ def main():
     a = p.parse_args()
     crate = Crate(a.top, a.crate)
     bugs = read_bugs(os.path.join(a.top, "tests", "bugs", a.crate + ".bugs"))
-    if a.bugs:
-        bugs = [b for b in bugs if b.name in a.bugs]
-    wrong = {}
-    for bug in bugs:
-        if why := crate.stale(bug):
-            wrong[bug.name] = why
-            print(f"  {bug.name:40} stale: {why}", flush=True)
-    counts, number, left = {}, 0, [b for b in bugs if b.name not in wrong]
-    for _ in range(3):
-        later = []
-        for batch in crate.batches(left):
-            if a.plan:
-                print(number, " ".join(b.name for b in batch))
-                number += 1
-                continue
-            began = time.time()
-            out = crate.check(batch)
-            lines = out.splitlines()
-            if a.keep:
-                with open(os.path.join(a.keep, f"{a.crate}-{number}.txt"), "w", encoding="utf-8") as f:
-                    f.write(out)
-            print(f"== {a.crate} {number}: {len(batch)} bugs, {time.time() - began:.0f} s", flush=True)
-            number += 1
-            for bug in batch:
-                word, line = told(crate, bug, lines)
-                print(f"  {bug.name:40} {word:20} {line[:160]}", flush=True)
-                if word == "not tried":
-                    later.append(bug)
-                    continue
-                word += ", as said" if bug.passes and word == "passes" else ""
-                counts[word] = counts.get(word, 0) + 1
-                if word not in ("refused", "passes, as said"):
-                    wrong[bug.name] = word
-        left = later
-    for bug in left:
-        wrong[bug.name] = "not tried"
-    print(f"{a.crate}: {len(bugs)} bugs: " + ", ".join(f"{n} {word}" for word, n in sorted(counts.items())))
+    bugs = [b for b in bugs if not a.bugs or b.name in a.bugs]
+    stale = {b.name: crate.stale(b) for b in bugs if crate.stale(b)}
+    fresh = [b for b in bugs if b.name not in stale]
+    if a.plan:
+        for batch in crate.batches(fresh):
+            print(len(batch), *(b.name for b in batch))
+        answers = {}
+    else:
+        answers = try_all(crate, fresh, a.keep)
+    wanted = {b.name: "passes" if b.passes else "refused" for b in bugs}
+    wrong = {name: word for name, word in {**answers, **stale}.items() if word != wanted[name]}
+    counts = ", ".join(f"{list(answers.values()).count(word)} {word}" for word in sorted(set(answers.values())))
+    print(f"{a.crate}: {len(bugs)} bugs: {counts}")
     for name, why in wrong.items():
         print(f"  look at {name}: {why}")
     sys.exit(1 if wrong else 0)
 
 
-main()
+if __name__ == "__main__":
+    main()
