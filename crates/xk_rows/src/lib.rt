@@ -9,8 +9,6 @@ mod driven;
 #[cfg(test)]
 mod every;
 #[cfg(test)]
-mod finishes;
-#[cfg(test)]
 mod programs;
 #[cfg(test)]
 mod reader;
