@@ -82,40 +82,67 @@ fn breaks(alloc: Global, program: Module, rule: Rule) -> Result<(), Wrong> {
 }
 
 fn runs(alloc: Global, program: Module, printed: &[i64], steps: u64) -> Result<(), Wrong> {
-    let Ok(verified) = checked(alloc, program) else {
-        return Err(Wrong("a module is refused that breaks no rule"));
-    };
-    holds(verified.steps() == steps, "the bound is another")?;
-    let schedule = first_schedule(alloc, &verified, printed)?;
-    by_schedule(alloc, &verified, &schedule)
+    match checked(alloc, program) {
+        Ok(verified) => runs_verified(alloc, &verified, printed, steps),
+        Err(_) => Err(Wrong("a module is refused that breaks no rule")),
+    }
 }
 
-/// Runs a module by the least enabled activity, step by step, and gives the numbers of those that stepped. It takes the
-/// verified number of steps and prints these numbers.
-fn first_schedule(alloc: Global, verified: &Verified, printed: &[i64]) -> Result<Vec<u32>, Wrong> {
+fn runs_verified(
+    alloc: Global,
+    verified: &Verified,
+    printed: &[i64],
+    steps: u64,
+) -> Result<(), Wrong> {
+    holds(verified.steps() == steps, "the bound is another")?;
     let mut schedule = Vec::new(alloc);
-    let mut core = opened(alloc, verified)?;
+    first_schedule(alloc, verified, &mut schedule, printed)?;
+    by_schedule(alloc, verified, &schedule)
+}
+
+/// Runs a module by the least enabled activity, step by step, and notes the numbers of those that stepped. It takes the
+/// verified number of steps and prints these numbers.
+fn first_schedule(
+    alloc: Global,
+    verified: &Verified,
+    schedule: &mut Vec<u32>,
+    printed: &[i64],
+) -> Result<(), Wrong> {
+    let mut least = opened(alloc, verified)?;
     let mut left = printed;
     for _ in 0..verified.steps() {
-        let Some(act) = core.pick() else {
-            return Err(Wrong("nobody is enabled before the end"));
-        };
-        note(&mut schedule, act.0)?;
-        let Event::Printed(n) = stepped(&mut core, act)? else {
-            continue;
-        };
-        let Some((first, others)) = left.split_first() else {
-            return Err(Wrong("a number is printed too many"));
-        };
-        holds(*first == n, "another number is printed")?;
-        left = others;
+        left = least_steps(&mut least, schedule, left)?;
     }
     holds(left.is_empty(), "a number isn't printed")?;
     holds(
-        core.ended() && core.pick().is_none(),
+        least.ended() && least.pick().is_none(),
         "a run isn't over after its steps",
-    )?;
-    Ok(schedule)
+    )
+}
+
+/// One step of the least enabled activity, which is noted. The answer is what is left of the numbers that are still to be printed.
+fn least_steps<'a>(
+    least: &mut Core,
+    schedule: &mut Vec<u32>,
+    left: &'a [i64],
+) -> Result<&'a [i64], Wrong> {
+    let Some(act) = least.pick() else {
+        return Err(Wrong("nobody is enabled before the end"));
+    };
+    note(schedule, act.0)?;
+    match stepped(least, act)? {
+        Event::Printed(n) => next_printed(left, n),
+        _ => Ok(left),
+    }
+}
+
+/// The numbers behind the first, which is the one that is printed.
+pub fn next_printed(left: &[i64], n: i64) -> Result<&[i64], Wrong> {
+    let Some((first, others)) = left.split_first() else {
+        return Err(Wrong("a number is printed too many"));
+    };
+    holds(*first == n, "another number is printed")?;
+    Ok(others)
 }
 
 /// Adds a number to a list, at the second try where memory was refused.
@@ -141,71 +168,107 @@ pub fn opened<'m>(alloc: Global, verified: &'m Verified) -> Result<Core<'m>, Wro
 }
 
 /// One step of the activity, a second time where memory was refused.
-fn stepped(core: &mut Core, act: Act) -> Result<Event, Wrong> {
+pub fn stepped(core: &mut Core, act: Act) -> Result<Event, Wrong> {
     if !core.enabled(act) {
         return Err(Wrong("a step isn't enabled"));
     }
     let before = core.steps_done();
+    if let Ok(event) = core.step(act) {
+        return Ok(event);
+    }
+    holds(core.steps_done() == before, "a refused step was counted")?;
     match core.step(act) {
         Ok(event) => Ok(event),
-        Err(_) => {
-            holds(core.steps_done() == before, "a refused step was counted")?;
-            core.step(act)
-                .map_err(|_| Wrong("a step is refused at the second try"))
-        }
+        Err(_) => Err(Wrong("a step is refused at the second try")),
     }
 }
 
 /// The same run in one call. Where it is halted for want of memory, the core is where the steps before led, and goes on from
-/// there to the same end. A second core is stepped beside it.
+/// there to the same end.
 fn by_schedule(alloc: Global, verified: &Verified, schedule: &[u32]) -> Result<(), Wrong> {
-    let mut beside = opened(alloc, verified)?;
     let start = opened(alloc, verified)?;
     match run_schedule(alloc, start, schedule) {
-        Ok(ran) => ends_alike(&mut beside, schedule, &ran),
+        Ok(ran) => ends_alike(alloc, verified, schedule, 0, &ran),
         Err(Halt::NotEnabled { .. }) => Err(Wrong("a schedule is halted that is legal")),
-        Err(Halt::OutOfMemory { at, core }) => goes_on(alloc, &mut beside, schedule, at, core),
+        Err(Halt::OutOfMemory { at, core }) => goes_on(alloc, verified, schedule, at, core),
     }
 }
 
 /// A core that was halted for want of memory before the step at this place.
 fn goes_on<'m>(
     alloc: Global,
-    beside: &mut Core<'m>,
+    verified: &'m Verified,
     schedule: &[u32],
     at: usize,
-    core: Core<'m>,
+    halted: Core<'m>,
 ) -> Result<(), Wrong> {
     let Some((done, left)) = schedule.split_at_checked(at) else {
         return Err(Wrong("a schedule is halted behind its end"));
     };
-    for number in done {
-        stepped(beside, Act(*number))?;
-    }
-    holds(
-        are_alike(beside, &core),
-        "a halted core isn't where the steps before led",
-    )?;
-    match run_schedule(alloc, core, left) {
-        Ok(ran) => ends_alike(beside, left, &ran),
+    is_behind(alloc, verified, done, &halted)?;
+    match run_schedule(alloc, halted, left) {
+        Ok(ran) => ends_alike(alloc, verified, schedule, at, &ran),
         Err(_) => Err(Wrong("a schedule is halted at the second try")),
     }
 }
 
-/// The steps of the second core are seen to do the same, and lead to the same end.
-fn ends_alike(beside: &mut Core, schedule: &[u32], ran: &Ran) -> Result<(), Wrong> {
-    let mut seen = ran.seen.iter();
-    for number in schedule {
-        let event = stepped(beside, Act(*number))?;
-        if event != Event::Local {
-            holds(seen.next() == Some(&event), "another event is seen")?;
-        }
-    }
-    holds(seen.next().is_none(), "an event is seen too many")?;
+/// The core is where these steps lead, as a second one that takes them shows.
+fn is_behind(alloc: Global, verified: &Verified, done: &[u32], halted: &Core) -> Result<(), Wrong> {
+    let mut beside = opened(alloc, verified)?;
+    steps_through(&mut beside, done)?;
     holds(
-        ran.core.ended() && are_alike(beside, &ran.core),
+        are_alike(&beside, halted),
+        "a halted core isn't where the steps before led",
+    )
+}
+
+/// Steps a core through a schedule.
+pub fn steps_through(core: &mut Core, schedule: &[u32]) -> Result<(), Wrong> {
+    for number in schedule {
+        stepped(core, Act(*number))?;
+    }
+    Ok(())
+}
+
+/// A second core that takes the steps of the schedule is seen to do the same from this place on, and comes to the same end.
+fn ends_alike(
+    alloc: Global,
+    verified: &Verified,
+    schedule: &[u32],
+    at: usize,
+    ran: &Ran,
+) -> Result<(), Wrong> {
+    let Some((done, left)) = schedule.split_at_checked(at) else {
+        return Err(Wrong("a schedule is halted behind its end"));
+    };
+    let mut beside = opened(alloc, verified)?;
+    steps_through(&mut beside, done)?;
+    is_seen(&mut beside, left, &ran.seen)?;
+    holds(
+        ran.core.ended() && are_alike(&beside, &ran.core),
         "a schedule leads elsewhere",
     )
+}
+
+/// The steps of the core are seen to do this.
+fn is_seen(core: &mut Core, schedule: &[u32], seen: &[Event]) -> Result<(), Wrong> {
+    let mut left = seen;
+    for number in schedule {
+        let event = stepped(core, Act(*number))?;
+        if event != Event::Local {
+            left = next_seen(left, event)?;
+        }
+    }
+    holds(left.is_empty(), "an event is seen too many")
+}
+
+/// The events behind the first, which is this one.
+fn next_seen(left: &[Event], event: Event) -> Result<&[Event], Wrong> {
+    let Some((first, others)) = left.split_first() else {
+        return Err(Wrong("an event isn't seen"));
+    };
+    holds(*first == event, "another event is seen")?;
+    Ok(others)
 }
 
 /// Whether the calls on two cores answer the same.
