@@ -45,51 +45,50 @@ impl Chooser for Alternating {
     }
 }
 
-/// The activities that a log names, each entry of which is one step.
-fn schedule_of(alloc: Global, log: &[Entry]) -> Result<Vec<u32>, Fail> {
-    let mut schedule = Vec::new(alloc);
-    for entry in log {
-        if entry.steps != 1 {
-            return Err("an entry of a log isn't one step".into());
+/// Whether a log names these activities, each entry of which is one step.
+fn names(log: &[Entry], schedule: &[u32]) -> bool {
+    for (entry, act) in log.iter().zip(schedule.iter()) {
+        if entry.act != *act || entry.steps != 1 {
+            return false;
         }
-        schedule.push(entry.act)?;
     }
-    Ok(schedule)
+    log.len() == schedule.len()
 }
 
-/// The module, driven by the chooser to its end.
-fn driven<'m, C: Chooser + Copy>(
+/// Whether a driven run is over, by this schedule, and printed these numbers. The schedule is legal, takes as many steps, and prints the
+/// same.
+fn is_driven(
     alloc: Global,
-    verified: &'m Verified,
-    chooser: C,
-) -> Result<Ended<'m>, Fail> {
-    let mut chooser = chooser;
-    let start = Core::open(alloc, verified)?;
-    match drive(alloc, start, &mut chooser) {
-        Ok(ended) => Ok(ended),
-        Err(_) => Err("a run is cut short".into()),
-    }
+    verified: &Verified,
+    ended: &Ended,
+    schedule: &[u32],
+    printed: &[i64],
+) -> Result<bool, Fail> {
+    let again = ran(alloc, verified, schedule)?;
+    let numbers = numbers(alloc, &again.seen)?;
+    Ok(
+        ended.core.ended()
+            && again.over
+            && ended.core.steps_done() == again.steps
+            && names(&ended.log, schedule)
+            && ended.printed.as_slice() == printed
+            && numbers.as_slice() == printed,
+    )
 }
 
-/// The schedule of a driven run. It is legal, takes the verified number of steps, and prints what the run printed.
-fn followed<C: Chooser + Copy>(
+/// Whether the chooser drives the module so.
+fn is_followed<C: Chooser + Copy>(
     alloc: Global,
     verified: &Verified,
     chooser: C,
-) -> Result<Vec<u32>, Fail> {
-    let ended = driven(alloc, verified, chooser)?;
-    let schedule = schedule_of(alloc, &ended.log)?;
-    let again = ran(alloc, verified, &schedule)?;
-    if !ended.core.ended() || !again.core.ended() {
-        return Err("a driven run isn't over".into());
+    schedule: &[u32],
+    printed: &[i64],
+) -> Result<bool, Fail> {
+    let mut asked = chooser;
+    match drive(alloc, Core::open(alloc, verified)?, &mut asked) {
+        Ok(ended) => is_driven(alloc, verified, &ended, schedule, printed),
+        Err(_) => Err("a run is cut short".into()),
     }
-    if ended.core.steps_done() != again.core.steps_done() {
-        return Err("another number of steps".into());
-    }
-    if numbers(alloc, &again.seen)?.as_slice() != ended.printed.as_slice() {
-        return Err("other numbers are printed".into());
-    }
-    Ok(schedule)
 }
 
 /// Driven by the chooser, the module has this schedule and prints these numbers.
@@ -102,10 +101,7 @@ fn drives<C: Chooser + Copy>(
     printed: &[i64],
 ) -> Result<(), Fail> {
     let verified = accepted(alloc, text)?;
-    let found = followed(alloc, &verified, chooser)?;
-    assert_eq!(rt; found.as_slice(), schedule);
-    let again = ran(alloc, &verified, schedule)?;
-    assert_eq!(rt; numbers(alloc, &again.seen)?.as_slice(), printed);
+    assert!(rt; is_followed(alloc, &verified, chooser, schedule, printed)?);
     Ok(())
 }
 

@@ -4,11 +4,12 @@ use crate::programs::{
     CHILDS_FINISH, CLOCK_INSIDE, EARLY_END, FINISHED, FINISHES_NESTED, IN_STEP, KEPT_UPDATES,
     LEFT_ALONE, LOST_UPDATE, OUTER_CLOCK, PAIR_INSIDE, SHARED_SUM, STARTED_OUTSIDE, accepted,
 };
-use crate::schedules::{enabled, gone_on, numbers, ran};
+use crate::schedules::{enabled, numbers, ran};
 use std::alloc::Global;
 use std::test::Fail;
 use xk_bounds::Verified;
 use xk_core::Core;
+use xk_types::Act;
 
 /// More schedules than any of the modules has.
 const MOST: usize = 10_000;
@@ -50,6 +51,37 @@ impl Path {
     }
 }
 
+/// One step of this activity, which has to be enabled.
+fn stepped(core: &mut Core, a: u32) -> Result<(), Fail> {
+    if !core.enabled(Act(a)) {
+        return Err("a step isn't enabled".into());
+    }
+    core.step(Act(a))?;
+    Ok(())
+}
+
+/// Goes on through a schedule that begins so, and then takes the least that is enabled, until nobody is, and notes it. No more than so many
+/// steps are taken.
+fn follow(
+    alloc: Global,
+    core: &mut Core,
+    begin: &[u32],
+    bound: u64,
+    path: &mut Path,
+) -> Result<(), Fail> {
+    for at in 0..=bound {
+        let able = enabled(alloc, core)?;
+        let Some(least) = able.first().copied() else {
+            return Ok(());
+        };
+        let a = begin.get(at as usize).copied().unwrap_or(least);
+        stepped(core, a)?;
+        path.steps.push(a)?;
+        path.enabled.push(able)?;
+    }
+    Err("a run is longer than its bound".into())
+}
+
 /// The schedule that begins so, and then takes the least that is enabled, until nobody is. Then all have ended, and no more steps
 /// were taken than the verified number.
 fn followed(alloc: Global, verified: &Verified, begin: &[u32]) -> Result<Path, Fail> {
@@ -58,30 +90,21 @@ fn followed(alloc: Global, verified: &Verified, begin: &[u32]) -> Result<Path, F
         enabled: Vec::new(alloc),
     };
     let mut core = Core::open(alloc, verified)?;
-    for at in 0..=verified.steps() {
-        let able = enabled(alloc, &core)?;
-        let Some(least) = able.first().copied() else {
-            return if core.ended() {
-                Ok(path)
-            } else {
-                Err("nobody is enabled before the end".into())
-            };
-        };
-        let a = begin.get(at as usize).copied().unwrap_or(least);
-        core = gone_on(alloc, core, &[a])?.core;
-        path.steps.push(a)?;
-        path.enabled.push(able)?;
+    follow(alloc, &mut core, begin, verified.steps(), &mut path)?;
+    if core.ended() {
+        Ok(path)
+    } else {
+        Err("nobody is enabled before the end".into())
     }
-    Err("a run is longer than its bound".into())
 }
 
 /// The numbers that the whole schedule prints, in one call.
 fn printed(alloc: Global, verified: &Verified, schedule: &[u32]) -> Result<Vec<i64>, Fail> {
-    let ran = ran(alloc, verified, schedule)?;
-    if !ran.core.ended() {
+    let known = ran(alloc, verified, schedule)?;
+    if !known.over {
         return Err("a schedule doesn't lead to the end".into());
     }
-    numbers(alloc, &ran.seen)
+    numbers(alloc, &known.seen)
 }
 
 fn has(lists: &[&[i64]], list: &[i64]) -> bool {

@@ -9,14 +9,14 @@ use std::alloc::Global;
 use std::process::Abort;
 use std::test::Fail;
 use xk_bounds::Verified;
-use xk_core::{Core, Halt, Ran, laws, run_schedule};
+use xk_core::{Core, Halt, laws, run_schedule};
 use xk_types::{Act, ClockId, Event};
 
 /// What is known of a run.
 #[derive(Drop)]
-struct Known {
+pub struct Known {
     /// What was seen on the way.
-    seen: Vec<Event>,
+    pub seen: Vec<Event>,
     /// The phase of each clock, and the step of its last advance.
     clocks: Vec<(u64, u64)>,
     /// The step of the last pass of each activity.
@@ -24,7 +24,9 @@ struct Known {
     /// Those that can step, rising.
     enabled: Vec<u32>,
     /// How many steps were taken.
-    steps: u64,
+    pub steps: u64,
+    /// Whether all have ended.
+    pub over: bool,
 }
 
 /// The phase of each clock, and the step of its last advance.
@@ -57,49 +59,51 @@ pub fn enabled(alloc: Global, core: &Core) -> Result<Vec<u32>, Fail> {
 }
 
 /// What is known of a run that led to this core.
-fn told(alloc: Global, core: &Core, seen: Vec<Event>) -> Result<Known, Fail> {
+fn told(alloc: Global, core: &Core, seen: &[Event]) -> Result<Known, Fail> {
     Ok(Known {
-        seen,
+        seen: Vec::from_slice(alloc, seen)?,
         clocks: advances(alloc, core)?,
         since: passes(alloc, core)?,
         enabled: enabled(alloc, core)?,
         steps: core.steps_done(),
+        over: core.ended(),
     })
 }
 
-/// The core once it has gone on through this schedule.
-pub fn gone_on<'m>(alloc: Global, core: Core<'m>, schedule: &[u32]) -> Result<Ran<'m>, Fail> {
+/// What is known once the core has gone on through this schedule.
+fn gone_on(alloc: Global, core: Core, schedule: &[u32]) -> Result<Known, Fail> {
     match run_schedule(alloc, core, schedule) {
-        Ok(ran) => Ok(ran),
+        Ok(ran) => told(alloc, &ran.core, &ran.seen),
         Err(_) => Err("a schedule is halted".into()),
     }
 }
 
-/// The schedule from the opening core, which has to go through.
-pub fn ran<'m>(alloc: Global, verified: &'m Verified, schedule: &[u32]) -> Result<Ran<'m>, Fail> {
+/// What is known of the run through this schedule from the opening core.
+pub fn ran(alloc: Global, verified: &Verified, schedule: &[u32]) -> Result<Known, Fail> {
     gone_on(alloc, Core::open(alloc, verified)?, schedule)
 }
 
 /// What is known of the module's run through this schedule.
 fn after(alloc: Global, text: &str, schedule: &[u32]) -> Result<Known, Fail> {
     let verified = accepted(alloc, text)?;
-    let Ran { core, seen } = ran(alloc, &verified, schedule)?;
-    told(alloc, &core, seen)
+    ran(alloc, &verified, schedule)
 }
 
-/// The schedule from the opening core, which has to be halted by an activity that isn't enabled: where, and the core there.
-fn halt<'m>(
+/// The schedule from the opening core has to be halted by an activity that isn't enabled: where, and what is known once the core there has
+/// gone on through another.
+fn halt(
     alloc: Global,
-    verified: &'m Verified,
+    verified: &Verified,
     schedule: &[u32],
-) -> Result<(usize, Core<'m>), Fail> {
+    then: &[u32],
+) -> Result<(usize, Known), Fail> {
     match run_schedule(alloc, Core::open(alloc, verified)?, schedule) {
-        Err(Halt::NotEnabled { at, core }) => Ok((at, core)),
+        Err(Halt::NotEnabled { at, core }) => Ok((at, gone_on(alloc, core, then)?)),
         _ => Err("a schedule isn't halted".into()),
     }
 }
 
-/// Where the schedule is halted, and what is known once the core there has gone on through another.
+/// The same of a module.
 fn halted(
     alloc: Global,
     text: &str,
@@ -107,9 +111,7 @@ fn halted(
     then: &[u32],
 ) -> Result<(usize, Known), Fail> {
     let verified = accepted(alloc, text)?;
-    let (at, core) = halt(alloc, &verified, schedule)?;
-    let Ran { core, seen } = gone_on(alloc, core, then)?;
-    Ok((at, told(alloc, &core, seen)?))
+    halt(alloc, &verified, schedule, then)
 }
 
 /// The module goes through this schedule to its end, and ends so.
@@ -122,7 +124,7 @@ fn ends(
     since: &[u64],
 ) -> Result<(), Fail> {
     let end = after(alloc, text, schedule)?;
-    assert!(rt; end.enabled.is_empty() && end.steps == schedule.len() as u64);
+    assert!(rt; end.over && end.enabled.is_empty() && end.steps == schedule.len() as u64);
     assert_eq!(rt; end.clocks.as_slice(), clocks);
     assert_eq!(rt; end.since.as_slice(), since);
     Ok(())
@@ -165,16 +167,29 @@ fn shows(
     Ok(())
 }
 
-/// The events of the run that always steps the least enabled activity, up to its end.
-fn run_first(alloc: Global, core: &mut Core) -> Result<Vec<Event>, Fail> {
-    let mut events = Vec::new(alloc);
+/// Steps the least enabled activity, up to the end, and notes what is seen.
+fn run_first(core: &mut Core, events: &mut Vec<Event>) -> Result<(), Fail> {
     for _ in 0..1000 {
         let Some(act) = core.pick() else {
             break;
         };
         events.push(core.step(act)?)?;
     }
-    Ok(events)
+    Ok(())
+}
+
+/// What is known of the run that always steps the least enabled activity, with the local steps.
+fn first(alloc: Global, verified: &Verified) -> Result<Known, Fail> {
+    let mut core = Core::open(alloc, verified)?;
+    let mut events = Vec::new(alloc);
+    run_first(&mut core, &mut events)?;
+    told(alloc, &core, &events)
+}
+
+/// Who is the least that can step at the start, and whether activity 1 can.
+fn opening(alloc: Global, verified: &Verified) -> Result<(Option<Act>, bool), Fail> {
+    let core = Core::open(alloc, verified)?;
+    Ok((core.pick(), core.enabled(Act(1))))
 }
 
 #[test]
@@ -183,10 +198,8 @@ fn sum_and_one_phase(rt: HostRuntime) -> Result<(), Fail> {
     let verified = accepted(alloc, SUM_AND_PHASE)?;
     laws::every_schedule(&verified);
     laws::kinds_sound(&verified);
-    let mut core = Core::open(alloc, &verified)?;
-    assert_eq!(rt; core.pick(), Some(Act(0)));
-    assert!(rt; core.enabled(Act(0)) && !core.enabled(Act(1)) && !core.ended());
-    let events = run_first(alloc, &mut core)?;
+    assert_eq!(rt; opening(alloc, &verified)?, (Some(Act(0)), false));
+    let end = first(alloc, &verified)?;
     let wanted = [
         Event::Local,
         Event::Local,
@@ -197,8 +210,8 @@ fn sum_and_one_phase(rt: HostRuntime) -> Result<(), Fail> {
         Event::Printed(5),
         Event::Ended,
     ];
-    assert_eq!(rt; events.as_slice(), wanted.as_slice());
-    assert!(rt; core.ended() && core.pick().is_none() && core.steps_done() == 8);
+    assert_eq!(rt; end.seen.as_slice(), wanted.as_slice());
+    assert!(rt; end.over && end.steps == 8);
     ends(&rt, alloc, SUM_AND_PHASE, &[0; 8], &[(1, 5)], &[6])
 }
 
@@ -254,7 +267,7 @@ fn two_in_step_are_halted(rt: HostRuntime) -> Result<(), Fail> {
 #[test]
 fn nothing_happens(rt: HostRuntime) -> Result<(), Fail> {
     let known = after(rt.alloc(), IN_STEP, &[])?;
-    assert!(rt; known.seen.is_empty() && known.clocks.is_empty());
+    assert!(rt; !known.over && known.seen.is_empty() && known.clocks.is_empty());
     assert_eq!(rt; (known.steps, known.since.len()), (0, 1));
     assert_eq!(rt; known.enabled.as_slice(), [0].as_slice());
     Ok(())

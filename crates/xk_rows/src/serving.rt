@@ -6,27 +6,11 @@ use std::io::Write;
 use xk_module::ModuleFault;
 use xk_serve::{Fault, report, serve, tell, tell_words};
 use xk_types::{Counted, Sink, Tape};
-use xk_words::{Command, Form, Job, Order, WordsFault};
+use xk_words::{Command, Form, Job, WordsFault};
 
 /// Adds two numbers, makes a clock and advances, prints the sum.
 const SUM: &str =
     r#"{"version":1,"shared":[],"units":[{"kind":"main","params":"","slots":3,"code":[["lit",0,2],["lit",1,3],["add",0,0,1],["make",2],["advance"],["print",0],["ret"]]}]}"#;
-
-/// Main, which prints 1, and an activity that prints 2, each of which waits for the other before.
-const IN_STEP: &str =
-    r#"{"version":1,"shared":[],"units":[{"kind":"main","params":"","slots":2,"code":[["make",0],["spawn",1,[0]],["advance"],["lit",1,1],["print",1],["ret"]]},{"kind":"body","params":"c","slots":2,"code":[["advance"],["lit",1,2],["print",1],["ret"]]}]}"#;
-
-/// Names a slot that isn't there.
-const NO_SLOT: &str =
-    r#"{"version":1,"shared":[],"units":[{"kind":"main","params":"","slots":1,"code":[["lit",1,1],["ret"]]}]}"#;
-
-/// Loses a clock.
-const LOST: &str =
-    r#"{"version":1,"shared":[],"units":[{"kind":"main","params":"","slots":1,"code":[["make",0],["lit",0,1],["ret"]]}]}"#;
-
-/// Takes too many steps.
-const LONG: &str =
-    r#"{"version":1,"shared":[],"units":[{"kind":"main","params":"","slots":1,"code":[["for",0,1,999999999,1],["next",0],["ret"]]}]}"#;
 
 /// The calls at which the tapes of the program, of its result and of its errors fail; 0 is none.
 #[derive(Clone, Copy)]
@@ -42,135 +26,73 @@ const NOWHERE: Failing = Failing {
     err: 0,
 };
 
-/// What the program answered, and the tapes that it wrote to.
-#[derive(Drop)]
-struct Seen {
-    status: u8,
-    out: Tape,
-    err: Tape,
-}
-
-impl Seen {
-    /// It wrote this to its output and this to its errors.
-    fn is(&self, status: u8, out: &str, err: &str) -> bool {
-        self.status == status
-            && self.out.written() == out.as_bytes()
-            && self.err.written() == err.as_bytes()
-    }
-}
-
-/// The answer to a command on a program of these bytes.
-fn answer_to<O: Sink, E: Sink>(
-    alloc: Global,
-    command: Command,
-    order: Option<Order>,
-    program: &mut Tape,
-    out: &mut O,
-    err: &mut E,
-) -> Result<u8, AllocError> {
+/// The status of a run of a program, over these devices.
+fn answer_to<O: Sink>(alloc: Global, program: &mut Tape, out: &mut O, err: &mut Tape) -> u8 {
     let job = Job {
-        command,
+        command: Command::Run,
         form: Form::Module,
-        order,
+        order: None,
         file: "-",
     };
-    let mut log_in = Tape::new(alloc, &[])?;
-    let mut log_out = Tape::new(alloc, &[])?;
-    Ok(serve(alloc, &job, program, &mut log_in, out, err, &mut log_out))
+    let mut log_in = Counted::new(io::empty());
+    let mut log_out = Counted::new(io::sink());
+    serve(alloc, &job, program, &mut log_in, out, err, &mut log_out)
 }
 
-/// The answer to a command over tapes that fail so.
-fn served(
+/// Whether these are the texts that the tapes were given.
+fn are_written(out: &Tape, wanted: &str, err: &Tape, line: &str) -> bool {
+    out.written() == wanted.as_bytes() && err.written() == line.as_bytes()
+}
+
+/// Whether a run over tapes that fail so leaves the output empty and has this status and line.
+fn refuses(
     alloc: Global,
-    command: Command,
-    order: Option<Order>,
     text: &str,
     failing: Failing,
-) -> Result<Seen, AllocError> {
+    wanted: u8,
+    line: &str,
+) -> Result<bool, AllocError> {
     let mut program = Tape::new(alloc, text.as_bytes())?.failing_at(failing.program);
     let mut out = Tape::new(alloc, &[])?.failing_at(failing.out);
     let mut err = Tape::new(alloc, &[])?.failing_at(failing.err);
-    let status = answer_to(alloc, command, order, &mut program, &mut out, &mut err)?;
-    Ok(Seen { status, out, err })
-}
-
-#[test]
-fn programs_are_served(rt: HostRuntime) -> Result<(), AllocError> {
-    let checked = served(rt.alloc(), Command::Check, None, SUM, NOWHERE)?;
-    assert!(rt; checked.is(0, "accepted steps 8 activities 1 clocks 1\n", ""));
-    let ran = served(rt.alloc(), Command::Run, None, SUM, NOWHERE)?;
-    assert!(rt; ran.is(0, "5\nended steps 8\n", ""));
-    Ok(())
-}
-
-/// Who goes first shows in which number is the first.
-#[test]
-fn orders_show(rt: HostRuntime) -> Result<(), AllocError> {
-    let first = "1\n2\nended steps 12\n";
-    let other = "2\n1\nended steps 12\n";
-    for (order, out) in [
-        (None, first),
-        (Some(Order::First), first),
-        (Some(Order::Last), other),
-        (Some(Order::Round), other),
-    ] {
-        let ran = served(rt.alloc(), Command::Run, order, IN_STEP, NOWHERE)?;
-        assert!(rt; ran.is(0, out, ""));
-    }
-    Ok(())
-}
-
-/// A text that is none, and what the verifier refuses: by a place, by a walk, by a bound.
-#[test]
-fn programs_are_refused(rt: HostRuntime) -> Result<(), AllocError> {
-    for (text, line) in [
-        ("", "x10clock: M1 NotJson\n"),
-        (NO_SLOT, "x10clock: V3 Slot unit 0 at 0\n"),
-        (
-            LOST,
-            "x10clock: V13 Leak unit 0 at 1 slot 0 live walk 0 1\n",
-        ),
-        (LONG, "x10clock: V14 Steps over 1000000000\n"),
-    ] {
-        let refused = served(rt.alloc(), Command::Run, None, text, NOWHERE)?;
-        assert!(rt; refused.is(1, "", line), "{line}");
-    }
-    Ok(())
+    let status = answer_to(alloc, &mut program, &mut out, &mut err);
+    Ok(status == wanted && are_written(&out, "", &err, line))
 }
 
 /// The first read fails, the second, or the first write; then the line that says so too. A refusal that can't be written.
 #[test]
 fn devices_fail(rt: HostRuntime) -> Result<(), AllocError> {
+    let alloc = rt.alloc();
+    let line = "x10clock: device\n";
     for (program, out) in [(1, 0), (2, 0), (0, 1)] {
         let failing = Failing {
             program,
             out,
             err: 0,
         };
-        let failed = served(rt.alloc(), Command::Run, None, SUM, failing)?;
-        assert!(rt; failed.is(5, "", "x10clock: device\n"));
+        assert!(rt; refuses(alloc, SUM, failing, 5, line)?);
         let failing = Failing { err: 1, ..failing };
-        let untold = served(rt.alloc(), Command::Run, None, SUM, failing)?;
-        assert!(rt; untold.is(5, "", ""));
+        assert!(rt; refuses(alloc, SUM, failing, 5, "")?);
     }
     let failing = Failing { err: 1, ..NOWHERE };
-    let untold = served(rt.alloc(), Command::Run, None, "", failing)?;
-    assert!(rt; untold.is(5, "", ""));
+    assert!(rt; refuses(alloc, "", failing, 5, "")?);
     Ok(())
 }
 
-/// A writer that takes three bytes at a time, and so many in all; then it takes none.
+/// A writer that takes three bytes at a time, and so many in all; then it takes none. It looks whether they begin a text.
 #[derive(Drop)]
 struct Narrow {
     room: usize,
-    taken: Vec<u8>,
+    left: &'static [u8],
+    alike: bool,
 }
 
 impl Narrow {
-    fn new(alloc: Global, room: usize) -> Counted<Narrow> {
+    fn new(text: &'static str, room: usize) -> Counted<Narrow> {
         Counted::new(Narrow {
             room,
-            taken: Vec::new(alloc),
+            left: text.as_bytes(),
+            alike: true,
         })
     }
 }
@@ -178,7 +100,13 @@ impl Narrow {
 impl Write for Narrow {
     fn write(&mut self, buf: &[u8]) -> io::Result<usize> {
         let count = buf.len().min(3).min(self.room);
-        self.taken.extend_from_slice(&buf[..count])?;
+        match self.left.split_at_checked(count) {
+            Some((begin, rest)) => {
+                self.alike = self.alike && begin == &buf[..count];
+                self.left = rest;
+            }
+            None => self.alike = false,
+        }
         self.room -= count;
         Ok(count)
     }
@@ -188,65 +116,89 @@ impl Write for Narrow {
     }
 }
 
+/// How many bytes of the text the writer hasn't taken; none where it took others.
+fn untaken(writer: Counted<Narrow>) -> Option<usize> {
+    let narrow = writer.into_inner();
+    narrow.alike.then_some(narrow.left.len())
+}
+
+/// What a run prints.
+const RESULT: &str = "5\nended steps 8\n";
+
+/// Of a run whose output has so much room: its status, whether its line is this, and what of its result isn't taken.
+fn cut_result(
+    alloc: Global,
+    room: usize,
+    line: &str,
+) -> Result<(u8, bool, Option<usize>), AllocError> {
+    let mut program = Tape::new(alloc, SUM.as_bytes())?;
+    let mut err = Tape::new(alloc, &[])?;
+    let mut out = Narrow::new(RESULT, room);
+    let status = answer_to(alloc, &mut program, &mut out, &mut err);
+    let is_told = err.written() == line.as_bytes();
+    Ok((status, is_told, untaken(out)))
+}
+
 /// What stands in the output is a beginning of the result.
 #[test]
 fn results_are_cut_short(rt: HostRuntime) -> Result<(), AllocError> {
-    let result = "5\nended steps 8\n";
-    for room in 0..=result.len() {
-        let mut program = Tape::new(rt.alloc(), SUM.as_bytes())?;
-        let mut out = Narrow::new(rt.alloc(), room);
-        let mut err = Tape::new(rt.alloc(), &[])?;
-        let status = answer_to(
-            rt.alloc(),
-            Command::Run,
-            None,
-            &mut program,
-            &mut out,
-            &mut err,
-        )?;
-        let (wanted, line) = if room < result.len() {
-            (5, "x10clock: device\n")
-        } else {
-            (0, "")
-        };
-        assert!(rt; status == wanted && err.written() == line.as_bytes());
-        let taken = out.into_inner().taken;
-        assert!(rt;
-            taken.as_slice() == &result.as_bytes()[..room],
-            "{room} bytes"
-        );
+    let length = RESULT.len();
+    for room in 0..length {
+        let cut = cut_result(rt.alloc(), room, "x10clock: device\n")?;
+        assert_eq!(rt; cut, (5, true, Some(length - room)));
     }
+    let whole = cut_result(rt.alloc(), length, "")?;
+    assert_eq!(rt; whole, (0, true, Some(0)));
     Ok(())
+}
+
+/// Of the line of a device over so much room: the status, the faults, and what of it isn't taken.
+fn cut_line(alloc: Global, room: usize) -> (u8, u64, Option<usize>) {
+    let mut err = Narrow::new("x10clock: device\n", room);
+    let status = report(alloc, &Fault::Device, &mut err);
+    let faults = err.faults();
+    (status, faults, untaken(err))
+}
+
+/// The same of a text that is told with status 2.
+fn cut_text(text: &'static str, room: usize) -> (u8, u64, Option<usize>) {
+    let mut out = Narrow::new(text, room);
+    let status = tell(text, 2, &mut out);
+    let faults = out.faults();
+    (status, faults, untaken(out))
 }
 
 /// A line of errors is cut short likewise; an empty text needs no room.
 #[test]
 fn lines_are_cut_short(rt: HostRuntime) {
-    let line = "x10clock: device\n";
-    for room in 0..=line.len() {
-        let mut err = Narrow::new(rt.alloc(), room);
-        let status = report(rt.alloc(), &Fault::Device, &mut err);
-        assert_eq!(rt; status, 5);
-        assert_eq!(rt; err.faults(), u64::from(room < line.len()));
-        let taken = err.into_inner().taken;
-        assert!(rt;
-            taken.as_slice() == &line.as_bytes()[..room],
-            "{room} bytes"
-        );
+    let length = "x10clock: device\n".len();
+    for room in 0..length {
+        assert_eq!(rt; cut_line(rt.alloc(), room), (5, 1, Some(length - room)));
     }
-    let mut out = Narrow::new(rt.alloc(), 4);
-    assert!(rt; tell("told\n", 2, &mut out) == 5 && out.faults() == 1);
-    assert!(rt; out.into_inner().taken.as_slice() == b"told".as_slice());
-    let mut full = Narrow::new(rt.alloc(), 0);
-    assert!(rt; tell("", 2, &mut full) == 2 && full.write(b"") == Ok(0) && full.faults() == 0);
+    assert_eq!(rt; cut_line(rt.alloc(), length), (5, 0, Some(0)));
+    assert_eq!(rt; cut_text("told\n", 4), (5, 1, Some(1)));
+    assert_eq!(rt; cut_text("", 0), (2, 0, Some(0)));
 }
 
-/// What is said of words that are no job, over tapes that fail so.
-fn told(alloc: Global, fault: &WordsFault, failing: Failing) -> Result<Seen, AllocError> {
+/// Nothing is written where there is no room, and that is no fault.
+#[test]
+fn nothing_needs_no_room(rt: HostRuntime) {
+    let mut full = Narrow::new("", 0);
+    assert!(rt; full.write(b"") == Ok(0) && full.faults() == 0);
+}
+
+/// Whether this is what is said of words that are no job, over tapes that fail so.
+fn is_told(
+    alloc: Global,
+    fault: &WordsFault,
+    failing: Failing,
+    wanted: u8,
+    texts: (&str, &str),
+) -> Result<bool, AllocError> {
     let mut out = Tape::new(alloc, &[])?.failing_at(failing.out);
     let mut err = Tape::new(alloc, &[])?.failing_at(failing.err);
     let status = tell_words(fault, &mut out, &mut err);
-    Ok(Seen { status, out, err })
+    Ok(status == wanted && are_written(&out, texts.0, &err, texts.1))
 }
 
 /// Help goes to the output, all else to the errors.
@@ -266,10 +218,10 @@ fn words_faults_are_told(rt: HostRuntime) -> Result<(), AllocError> {
         (&memory, 4, "", "x10clock: out of memory\n"),
     ] {
         assert!(rt;
-            told(rt.alloc(), fault, NOWHERE)?.is(status, out, err),
+            is_told(rt.alloc(), fault, NOWHERE, status, (out, err))?,
             "{fault}"
         );
-        assert!(rt; told(rt.alloc(), fault, first)?.is(5, "", ""), "{fault}");
+        assert!(rt; is_told(rt.alloc(), fault, first, 5, ("", ""))?, "{fault}");
     }
     Ok(())
 }
