@@ -162,7 +162,8 @@ def own_lines(crate, bug, lines):
     found = []
     for file, first, last, name in crate.places(bug):
         short, stem = name.split(" :: ")[-1], os.path.basename(file)[:-3]
-        own_proof = re.compile(rf"proofs/{stem}/(.*/)?{short}(/|\.antt)")
+        folder = "" if stem in ("lib", "main") else stem + "/"
+        own_proof = re.compile(rf"proofs/{folder}(.*/)?{short}(/|\.antt)")
         for line in lines:
             m = re.match(r"(?:note: )?(?:\./)?(\S+?):(\d+):\d+: (.*)", line)
             if not m or not OF_A_GOAL.search(m[3]):
