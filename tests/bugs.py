@@ -70,8 +70,8 @@ def functions(text):
         if m := re.match(r"(?:impl|pub trait|trait)(?:<[^>]*>)? (.*?) \{$", line):
             of = m[1] + " :: "
         if m := re.match(r"(\s*)(?:pub(?:\(crate\))? )?(?:const )?fn (\w+)", line):
-            end, last = m[1] + "}", first
-            while last <= len(lines) and lines[last - 1] != end and not (last == first and line.endswith(";")):
+            ends, last = (m[1] + "}", m[1] + "{}"), first
+            while last <= len(lines) and lines[last - 1] not in ends and not (last == first and line.endswith(";")):
                 last += 1
             found.append((first, last, (of if m[1] else "") + m[2]))
     return found
