@@ -178,9 +178,9 @@ pub struct DrivenRow {
     pub round: &'static [i64],
 }
 
-/// Programs that choosers drive: a pair on a clock, three clocks in a ring, a method that waits, a shared sum, and fifty activities that a
-/// loop starts.
-pub fn driven() -> [DrivenRow; 5] {
+/// Programs that choosers drive: a pair on a clock, three clocks in a ring, a method that waits, a shared sum, fifty activities that a
+/// loop starts, and a run of some thousand steps.
+pub fn driven() -> [DrivenRow; 6] {
     [
         DrivenRow {
             text: r#"{"version":1,"shared":[],"units":[{"kind":"main","params":"","slots":2,"code":[["make",0],["spawn",1,[0]],["advance"],["lit",1,1],["print",1],["ret"]]},{"kind":"body","params":"c","slots":2,"code":[["advance"],["lit",1,2],["print",1],["ret"]]}]}"#,
@@ -216,6 +216,13 @@ pub fn driven() -> [DrivenRow; 5] {
             first: &[],
             last: &[],
             round: &[],
+        },
+        DrivenRow {
+            text: r#"{"version":1,"shared":[],"units":[{"kind":"main","params":"","slots":1,"code":[["for",0,1,3000,1],["next",0],["print",0],["ret"]]}]}"#,
+            steps: 3003,
+            first: &[3000],
+            last: &[3000],
+            round: &[3000],
         },
     ]
 }
