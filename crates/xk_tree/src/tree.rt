@@ -1,0 +1,160 @@
+//! Trees. They keep where in the text their names, numbers, types, parentheses and `-` stand, as offsets in bytes.
+
+use xk_types::{Comparison, ParamKind};
+
+/// A name, and where it stands.
+#[derive(Clone, Copy, Debug)]
+pub struct Name<'t> {
+    /// The offset of its first byte.
+    pub at: usize,
+    /// Its letters, digits and `_`, in ASCII.
+    pub text: &'t [u8],
+}
+
+/// A whole number of 64 bits, as it is written.
+#[derive(Clone, Copy, Debug, PartialEq, Eq)]
+pub struct Number {
+    /// The offset of the `-` before its digits, if there is one.
+    pub minus: Option<usize>,
+    /// The offset of its first digit.
+    pub at: usize,
+    /// What it is worth.
+    pub value: i64,
+}
+
+/// What joins two expressions.
+#[derive(Clone, Copy, Debug, PartialEq, Eq)]
+pub enum Operator {
+    /// `+`, a sum that wraps.
+    Plus,
+    /// `-`, a difference that wraps.
+    Minus,
+    /// `*`, a product that wraps.
+    Times,
+}
+
+/// An expression. Its value is a number of 64 bits.
+#[derive(Drop)]
+pub enum Expr<'t> {
+    /// A number.
+    Number(Number),
+    /// A name.
+    Name(Name<'t>),
+    /// `( e )`, with the offset of its `(`.
+    Paren(usize, Box<Expr<'t>>),
+    /// `- e`, with the offset of its `-`.
+    Negation(usize, Box<Expr<'t>>),
+    /// Two expressions with an operator between them, and the operator's offset.
+    Binary(Operator, Box<Expr<'t>>, usize, Box<Expr<'t>>),
+}
+
+/// The name of a type: `Long`, a number, or `Clock`.
+#[derive(Clone, Copy, Debug, PartialEq, Eq)]
+pub struct TypeName {
+    /// The offset of its first byte.
+    pub at: usize,
+    /// Which of the two it is.
+    pub kind: ParamKind,
+}
+
+/// A word that says what is done, as `resume`, and the `(` behind it.
+#[derive(Clone, Copy, Debug, PartialEq, Eq)]
+pub struct Verb {
+    /// The offset of the word.
+    pub at: usize,
+    /// The offset of the `(`.
+    pub paren: usize,
+}
+
+/// What stands behind the `=` of a declaration.
+#[derive(Drop)]
+pub enum Right<'t> {
+    /// `Clock.make()`, with the offset of `Clock`.
+    Make(usize, Verb),
+    /// An expression, or a shared number alone.
+    Expr(Expr<'t>),
+}
+
+/// The clocks that an `async` registers its activity on: `clocked (c, ..)`.
+#[derive(Drop)]
+pub struct ClockList<'t> {
+    /// The offset of its `(`.
+    pub paren: usize,
+    /// At least one.
+    pub names: Vec<Name<'t>>,
+}
+
+/// A statement.
+#[derive(Drop)]
+pub enum Stmt<'t> {
+    /// `{ .. }`
+    Block(Vec<Stmt<'t>>),
+    /// `;`
+    Empty,
+    /// `val x: T = r;`, or `var` where the first is true. The type may be left out.
+    Declare(bool, Name<'t>, Option<TypeName>, Right<'t>),
+    /// `x = e;`
+    Assign(Name<'t>, Expr<'t>),
+    /// `atomic x = y + e;`
+    Atomic(Name<'t>, Name<'t>, Expr<'t>),
+    /// `if (l op r) s`, with the offset of its `(`.
+    If(usize, Expr<'t>, Comparison, Expr<'t>, Box<Stmt<'t>>),
+    /// `if (l op r) s else t`, with the offset of its `(`.
+    IfElse(usize, Expr<'t>, Comparison, Expr<'t>, Box<Stmt<'t>>, Box<Stmt<'t>>),
+    /// `for (i in a..b) s`, with the offset of its `(`.
+    For(usize, Name<'t>, Number, Number, Box<Stmt<'t>>),
+    /// `async s` or `async clocked (c, ..) s`, with the offset of `async`.
+    Async(usize, Option<ClockList<'t>>, Box<Stmt<'t>>),
+    /// `finish s`
+    Finish(Box<Stmt<'t>>),
+    /// `f(e, ..);`, with the offset of its `(`.
+    Call(Name<'t>, usize, Vec<Expr<'t>>),
+    /// `c.resume();`
+    Resume(Name<'t>, Verb),
+    /// `c.drop();`
+    Drop(Name<'t>, Verb),
+    /// `Clock.advanceAll();`, with the offset of `Clock`.
+    AdvanceAll(usize, Verb),
+    /// `Console.OUT.println(e);`, with the offset of `OUT`.
+    Print(usize, Verb, Expr<'t>),
+}
+
+/// A parameter: `x: T`.
+#[derive(Clone, Copy, Debug)]
+pub struct Param<'t> {
+    /// Its name.
+    pub name: Name<'t>,
+    /// What it takes.
+    pub takes: TypeName,
+}
+
+/// A shared number: `shared s = n;`.
+#[derive(Clone, Copy, Debug)]
+pub struct Shared<'t> {
+    /// Its name.
+    pub name: Name<'t>,
+    /// What it is at the start.
+    pub start: Number,
+}
+
+/// A method: `def f(x: T, ..) { .. }`.
+#[derive(Drop)]
+pub struct Method<'t> {
+    /// Its name.
+    pub name: Name<'t>,
+    /// The offset of its `(`.
+    pub paren: usize,
+    /// Its parameters.
+    pub params: Vec<Param<'t>>,
+    /// The statements of its body.
+    pub body: Vec<Stmt<'t>>,
+}
+
+/// A program: its shared numbers and its methods, in the order of the text.
+#[derive(Drop)]
+pub struct Tree<'t> {
+    /// The shared numbers.
+    pub shared: Vec<Shared<'t>>,
+    /// The methods; the program begins with the one called `main`.
+    pub methods: Vec<Method<'t>>,
+}
