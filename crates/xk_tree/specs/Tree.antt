@@ -1,9 +1,10 @@
 -- Trees, apart from where they lie in memory. Numbers called `at`, `paren` or `minus` are offsets in the text.
-use Rattle.std.specs.Prelude.{ℕ, ℤ, Bool, List, [], ◌∷◌, map, Option, option_map}
+use Rattle.std.specs.Prelude.{ℕ, List, [], ◌∷◌, map, Option, option_map}
 use Rattle.xk_types.specs.declared.instr.Comparison.{Comparison}
 use Rattle.xk_types.specs.declared.unit.ParamKind.{ParamKind}
 use Rattle.xk_tree.specs.declared.tree.Operator.{Operator}
 use Rattle.xk_tree.specs.declared.tree.Number.{Number}
+use Rattle.xk_tree.specs.declared.tree.Binding.{Binding}
 use Rattle.xk_tree.specs.declared.tree.TypeName.{TypeName}
 use Rattle.xk_tree.specs.declared.tree.Verb.{Verb}
 use Rattle.xk_tree.specs.declared.tree.Name as name
@@ -49,7 +50,7 @@ mutual
   pub data Statement : Type 0 where
     Block : Statements → Statement
     Empty : Statement
-    Declare : Bool → Word → Option TypeName → Source → Statement
+    Declare : Binding → Word → Option TypeName → Source → Statement
     Assign : Word → Expression → Statement
     Atomic : Word → Word → Expression → Statement
     If : ℕ → Expression → Comparison → Expression → Statement → Statement
@@ -119,7 +120,7 @@ listed (s ∷ ss) = More s (listed ss)
 abbrev pub layer_statement : Stmt-F Statement → Statement
 layer_statement (layer.Block ss) = Block (listed ss.items)
 layer_statement layer.Empty = Empty
-layer_statement (layer.Declare is_var n ty r) = Declare is_var (word n) ty (source r)
+layer_statement (layer.Declare b n ty r) = Declare b (word n) ty (source r)
 layer_statement (layer.Assign n e) = Assign (word n) (expression e)
 layer_statement (layer.Atomic n m e) = Atomic (word n) (word m) (expression e)
 layer_statement (layer.If at l c r s) = If at (expression l) c (expression r) s.value

@@ -6,6 +6,6 @@ mod tree;
 
 pub use fault::{FrontError, FrontFault, FrontRule};
 pub use tree::{
-    ClockList, Expr, Method, Name, Number, Operator, Param, Right, Shared, Stmt, Tree, TypeName,
-    Verb,
+    Binding, ClockList, Expr, Method, Name, Number, Operator, Param, Right, Shared, Stmt, Tree,
+    TypeName, Verb,
 };

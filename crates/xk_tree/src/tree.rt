@@ -66,6 +66,15 @@ pub struct Verb {
     pub paren: usize,
 }
 
+/// Whether what a name stands for may change.
+#[derive(Clone, Copy, Debug, PartialEq, Eq)]
+pub enum Binding {
+    /// `val`: it stays.
+    Val,
+    /// `var`: it may be assigned to.
+    Var,
+}
+
 /// What stands behind the `=` of a declaration.
 #[derive(Drop)]
 pub enum Right<'t> {
@@ -91,8 +100,8 @@ pub enum Stmt<'t> {
     Block(Vec<Stmt<'t>>),
     /// `;`
     Empty,
-    /// `val x: T = r;`, or `var` where the first is true. The type may be left out.
-    Declare(bool, Name<'t>, Option<TypeName>, Right<'t>),
+    /// `val x: T = r;` or `var x: T = r;`. The type may be left out.
+    Declare(Binding, Name<'t>, Option<TypeName>, Right<'t>),
     /// `x = e;`
     Assign(Name<'t>, Expr<'t>),
     /// `atomic x = y + e;`
