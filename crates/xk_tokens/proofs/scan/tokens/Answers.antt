@@ -1,0 +1,18 @@
+use Rattle.std.proofs.Common.{arith, map}
+use Rattle.xk_tokens.specs.Tokens.{token_value}
+use Rattle.xk_tokens.specs.Views.{piece_value}
+use Rattle.xk_tokens.proofs.Lengths.{front_room, goes_on}
+use Rattle.xk_tokens.proofs.scan.tokens.Goals as goal
+
+pub split_at-requires : goal.split_at-requires
+split_at-requires c = (front_room c.loop-piece.rest.now (piece_value c.in-Some.piece) c.in-Some.ensures).1
+
+pub loop-piece-smaller : goal.loop-piece-smaller
+loop-piece-smaller c =
+    let w = front_room c.loop-piece.rest.now (piece_value c.in-Some.piece) c.in-Some.ensures in
+    omega (arith, w.0, w.1, c.split_at.ensures.back_len)
+
+pub loop-piece-preserved : goal.loop-piece-preserved
+loop-piece-preserved c =
+    let g = goes_on c.args.text.now c.loop-piece.rest.now c.split_at.result.1.now (map token_value c.loop-piece.tokens.items) (map token_value c.put.new.tokens.items) (piece_value c.in-Some.piece) c.in-Some.ensures c.loop-piece.invariant.room c.loop-piece.invariant.so_far c.in_ok-put.ensures c.split_at.ensures.back in
+    record { room = g.0; so_far = g.1 }

@@ -1,0 +1,4 @@
+pub mod Tokens
+pub mod Pieces
+pub mod Lexing
+pub mod Views

@@ -1,0 +1,126 @@
+-- What a text spells: it is cut into pieces, each as long as can be, and some of these are tokens.
+use Rattle.std.specs.Prelude.{◌≡◌, ◌≢◌, ℕ, ◌+◌, ◌-◌, ◌*◌, ◌^◌, ◌≤◌, ◌==◌, nat_le, Bool, false, IsTrue, IsFalse, not, ◌&&◌, ◌||◌, List, [], ◌∷◌, ◌++◌, length, Option, Some, None, codes, if◌then◌else◌}
+use Rattle.std.specs.List.{list_all}
+use Rattle.xk_tokens.specs.declared.token.Sign.{Sign}
+use Rattle.xk_tokens.specs.declared.token.Keyword.{Keyword}
+use Rattle.xk_tokens.specs.Tokens.{Lexeme, Name, Reserved, Number, BadNumber, Symbol, Stray, TokenValue, keyword_of, sign_text}
+
+-- ---- bytes
+
+abbrev pub is_blank : ℕ → Bool
+is_blank b = b == 32 || b == 9 || b == 10 || b == 13
+
+abbrev pub is_letter : ℕ → Bool
+is_letter b = (nat_le 97 b && nat_le b 122) || (nat_le 65 b && nat_le b 90) || b == 95
+
+abbrev pub is_digit : ℕ → Bool
+is_digit b = nat_le 48 b && nat_le b 57
+
+abbrev pub is_word_byte : ℕ → Bool
+is_word_byte b = is_letter b || is_digit b
+
+abbrev pub isnt_line_feed : ℕ → Bool
+isnt_line_feed b = not (b == 10)
+
+-- whether the first byte, if there is one, passes
+abbrev pub begins : (ℕ → Bool) → List ℕ → Bool
+begins p [] = false
+begins p (b ∷ bs) = p b
+
+-- ---- words and digit runs
+
+abbrev pub word_or_name : List ℕ → Option Keyword → Lexeme
+word_or_name text (Some k) = Reserved k
+word_or_name text None = Name text
+
+-- what a word is
+abbrev pub word_of : List ℕ → Lexeme
+word_of text = word_or_name text (keyword_of text)
+
+-- the number that digits stand for, where those before them stand for v
+abbrev pub decimal : ℕ → List ℕ → ℕ
+decimal v [] = v
+decimal v (d ∷ ds) = decimal (v * 10 + (d - 48)) ds
+
+-- a 0 before other digits
+abbrev pub has_leading_zero : List ℕ → Bool
+has_leading_zero [] = false
+has_leading_zero (d ∷ []) = false
+has_leading_zero (d ∷ e ∷ ds) = d == 48
+
+-- what a digit run is
+unfoldable pub number_of : List ℕ → Lexeme
+number_of ds =
+    if has_leading_zero ds then BadNumber
+    else if nat_le (decimal 0 ds) (2 ^ 63) then Number (decimal 0 ds)
+    else BadNumber
+
+-- ---- pieces
+
+-- blanks and comments, which stand between tokens, and tokens
+pub data Piece : Type 0 where
+  Blank : ℕ → Piece
+  LineComment : List ℕ → Piece
+  BlockComment : List ℕ → Piece
+  Word : List ℕ → Piece
+  Digits : List ℕ → Piece
+  Mark : Sign → Piece
+
+-- its bytes
+abbrev pub piece_text : Piece → List ℕ
+piece_text (Blank b) = b ∷ []
+piece_text (LineComment body) = codes "//" ++ body
+piece_text (BlockComment body) = codes "/*" ++ body ++ codes "*/"
+piece_text (Word text) = text
+piece_text (Digits digits) = digits
+piece_text (Mark s) = sign_text s
+
+-- It is of its form, and where `after` follows it is as long as can be: a comment up to the line's end or the text's end, one up to the
+-- first `*/`, a word and a digit run up to the first other byte, and the longest sign.
+abbrev pub IsPiece : Piece → List ℕ → Type 0
+IsPiece (Blank b) after = IsTrue (is_blank b)
+IsPiece (LineComment body) after = IsTrue (list_all isnt_line_feed body) × IsFalse (begins isnt_line_feed after)
+IsPiece (BlockComment body) after = (front back : List ℕ) → body ++ codes "*/" ≡ front ++ codes "*/" ++ back → length body ≤ length front
+IsPiece (Word text) after = IsTrue (begins is_letter text) × IsTrue (list_all is_word_byte text) × IsFalse (begins is_word_byte after)
+IsPiece (Digits digits) after = IsTrue (begins is_digit digits) × IsTrue (list_all is_digit digits) × IsFalse (begins is_digit after)
+IsPiece (Mark s) after = (t : Sign) (back : List ℕ) → sign_text s ++ after ≡ sign_text t ++ back → length (sign_text t) ≤ length (sign_text s)
+
+-- these pieces, one after another, are what stands before `rest`
+abbrev pub ArePieces : List Piece → List ℕ → List ℕ → Type 0
+ArePieces [] text rest = text ≡ rest
+ArePieces (p ∷ ps) text rest = (after : List ℕ) × (text ≡ piece_text p ++ after) × IsPiece p after × ArePieces ps after rest
+
+-- ---- their tokens
+
+-- the token that a piece is, if it is one
+abbrev pub token_of : Piece → Option Lexeme
+token_of (Blank b) = None
+token_of (LineComment body) = None
+token_of (BlockComment body) = None
+token_of (Word text) = Some (word_of text)
+token_of (Digits digits) = Some (number_of digits)
+token_of (Mark s) = Some (Symbol s)
+
+-- a token at this offset, if there is one, before others
+abbrev pub told : ℕ → Option Lexeme → List TokenValue → List TokenValue
+told at None ts = ts
+told at (Some l) ts = record { at = at; what = l } ∷ ts
+
+-- the tokens among pieces of which the first begins at this offset
+abbrev pub tokens_at : ℕ → List Piece → List TokenValue
+tokens_at at [] = []
+tokens_at at (p ∷ ps) = told at (token_of p) (tokens_at (at + length (piece_text p)) ps)
+
+-- the text is pieces, and these are their tokens
+abbrev pub SpellsTokens : List ℕ → List TokenValue → Type 0
+SpellsTokens text tokens = (ps : List Piece) × ArePieces ps text [] × (tokens ≡ tokens_at 0 ps)
+
+-- no piece begins here
+abbrev pub HasNoPiece : List ℕ → Type 0
+HasNoPiece text = (p : Piece) (after : List ℕ) → text ≡ piece_text p ++ after → ¬ IsPiece p after
+
+-- the text is pieces up to a rest at which no piece begins: their tokens, and the rest as a stray one
+abbrev pub Strays : List ℕ → List TokenValue → Type 0
+Strays text tokens =
+    (ps : List Piece) × (rest : List ℕ) × ArePieces ps text rest × (rest ≢ []) × HasNoPiece rest
+    × (tokens ≡ tokens_at 0 ps ++ record { at = length text - length rest; what = Stray } ∷ [])
