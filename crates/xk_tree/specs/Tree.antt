@@ -52,7 +52,7 @@ mutual
     Empty : Statement
     Declare : Binding → Word → Option TypeName → Source → Statement
     Assign : Word → Expression → Statement
-    Atomic : Word → Word → Expression → Statement
+    Atomic : Word → Word → ℕ → Expression → Statement
     If : ℕ → Expression → Comparison → Expression → Statement → Statement
     IfElse : ℕ → Expression → Comparison → Expression → Statement → Statement → Statement
     For : ℕ → Word → Number → Number → Statement → Statement
@@ -122,7 +122,7 @@ layer_statement (layer.Block ss) = Block (listed ss.items)
 layer_statement layer.Empty = Empty
 layer_statement (layer.Declare b n ty r) = Declare b (word n) ty (source r)
 layer_statement (layer.Assign n e) = Assign (word n) (expression e)
-layer_statement (layer.Atomic n m e) = Atomic (word n) (word m) (expression e)
+layer_statement (layer.Atomic n m at e) = Atomic (word n) (word m) at (expression e)
 layer_statement (layer.If at l c r s) = If at (expression l) c (expression r) s.value
 layer_statement (layer.IfElse at l c r s t) = IfElse at (expression l) c (expression r) s.value t.value
 layer_statement (layer.For at n a b s) = For at (word n) a b s.value

@@ -104,8 +104,8 @@ pub enum Stmt<'t> {
     Declare(Binding, Name<'t>, Option<TypeName>, Right<'t>),
     /// `x = e;`
     Assign(Name<'t>, Expr<'t>),
-    /// `atomic x = y + e;`
-    Atomic(Name<'t>, Name<'t>, Expr<'t>),
+    /// `atomic x = y + e;`, with the offset of its `+`.
+    Atomic(Name<'t>, Name<'t>, usize, Expr<'t>),
     /// `if (l op r) s`, with the offset of its `(`.
     If(usize, Expr<'t>, Comparison, Expr<'t>, Box<Stmt<'t>>),
     /// `if (l op r) s else t`, with the offset of its `(`.
