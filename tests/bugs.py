@@ -13,8 +13,15 @@ Bugs stand in tests/bugs/CRATE.bugs, each as
 
 with further pairs of `old:` and `new:` where one isn't enough. A line `passes: reason` says that no contract refuses it, and why that is
 right. Contracts are all that callers see, so bugs in different functions are planted together and tried by one `rt check`: each function
-says for itself whether it is refused; one that calls a function which is refused waits for another check, if it must. A bug whose function
-meets a name that is gone is told as refused for a name: that shows nothing.
+says for itself whether it is refused; one that calls a function which is refused waits for another check, if it must. What becomes of a bug:
+
+    refused             a goal of its function isn't proved
+    refused at answer   the answer that a proof file has for a goal of its function proves it no more
+    only names          the proof file cites names that are gone, and nothing else is said: that shows nothing, since a right body of
+                        another form would be met so too; take another bug, which leaves calls and names as they are
+    no program          it doesn't compile
+    passes              it is proved
+    not tried           a function that its own one calls is refused in each check
 
 It changes the files of the crate while it runs and puts them back: run it on a copy of the repository. The status is 0 where each bug is
 refused by its own function, or passes as said.
@@ -58,22 +65,41 @@ def read_bugs(path):
     names = [b.name for b in bugs]
     for name in {n for n in names if names.count(n) > 1}:
         sys.exit(f"{path}: two bugs are called {name}")
+    for bug in bugs:
+        if not bug.why or not bug.file or not bug.pairs:
+            sys.exit(f"{path}: {bug.name} has no why, no file, or nothing that it changes")
     return bugs
 
 
+def function_end(lines, first, indent):
+    """The number of the last line of the function whose head begins in line `first`; lines are counted from 1. A method of a trait may have
+    no body: it ends where its head does."""
+    in_head = True
+    for number in range(first, len(lines) + 1):
+        line = lines[number - 1]
+        is_signature = number == first or line.startswith(indent + ")")
+        if line in (indent + "}", indent + "{}") or is_signature and line.endswith(("}", ";")) or in_head and line.endswith("};"):
+            return number
+        in_head = in_head and line != indent + "{" and not (is_signature and line.endswith("{"))
+    return len(lines)
+
+
+def owner_of(head):
+    """What the functions of an impl or a trait stand under in the names of the prover: the type, with the trait that it implements."""
+    words = [re.sub(r"[<:].*", "", word) for word in head.split(" for ")]
+    return "".join(reversed(words))
+
+
 def functions(text):
-    """First and last line and name of each function, with its impl."""
-    lines, found, of = text.split("\n"), [], ""
+    """First and last line of each function, the impl or trait that it stands in, and its name."""
+    lines, found, owner = text.split("\n"), [], ""
     for first, line in enumerate(lines, 1):
         if line == "}":
-            of = ""
+            owner = ""
         if m := re.match(r"(?:impl|pub trait|trait)(?:<[^>]*>)? (.*?) \{$", line):
-            of = m[1] + " :: "
-        if m := re.match(r"(\s*)(?:pub(?:\(crate\))? )?(?:const )?fn (\w+)", line):
-            ends, last = (m[1] + "}", m[1] + "{}"), first
-            while last <= len(lines) and lines[last - 1] not in ends and not (last == first and line.endswith(";")):
-                last += 1
-            found.append((first, last, (of if m[1] else "") + m[2]))
+            owner = owner_of(m[1])
+        if m := re.match(r"(\s*)(?:pub(?:\(crate\))? )?(?:const |final )?fn (\w+)", line):
+            found.append((first, function_end(lines, first, m[1]), owner if m[1] else "", m[2]))
     return found
 
 
@@ -95,7 +121,7 @@ class Crate:
         for old, _ in bug.pairs:
             line = text.count("\n", 0, text.find(old)) + 1
             f = next((f for f in fs if f[0] <= line <= f[1]), None)
-            hit.add((bug.file, *f) if f else (bug.file, line, line, ""))
+            hit.add((bug.file, *f) if f else (bug.file, line, line, "", ""))
         return hit
 
     def stale(self, bug):
@@ -151,59 +177,91 @@ class Crate:
         return ran.stdout + ran.stderr
 
 
-# What the prover says of a goal that it doesn't prove; where a name that a proof cites is gone; and where the changed text is no program.
-OF_A_GOAL = re.compile(r"error|not proved|found no proof")
-OF_A_NAME = re.compile(r"no such|not in scope|unknown|no field|has no `", re.I)
-NO_PROGRAM = re.compile(r"error\[E\d+\]|mismatched types|cannot find|expected .* found `", re.I)
+# What the prover says where a goal isn't proved, and where a name that a proof file cites is gone.
+OPEN = re.compile(r"not proved|found no proof|did not prove")
+GONE = re.compile(r"no such|not in scope|unknown|no field|has no `", re.I)
+SAID = re.compile(r"(?:note: )?(?:\./)?(\S+?):(\d+):\d+: (.*)")
 
 
-def own_lines(crate, bug, lines):
+@dataclass
+class Said:
+    """What the prover says of the functions that a bug changes."""
+
+    program: list = field(default_factory=list)
+    goals: list = field(default_factory=list)
+    answers: list = field(default_factory=list)
+    names: list = field(default_factory=list)
+    lost_invariant: bool = False
+    without_proof: list = field(default_factory=list)
+
+    def add_proof_line(self, path, text):
+        if GONE.search(text):
+            self.names.append(text)
+            self.lost_invariant |= path.endswith("Invariants.antt")
+        elif text.startswith("error"):
+            self.answers.append(text)
+
+    def add_source_line(self, text):
+        if OPEN.search(text):
+            self.goals.append(text)
+        elif text.startswith("error"):
+            self.program.append(text)
+
+    def own_goals(self):
+        """The open goals, but for those that stay open because a name is gone: all where that is an invariant's; else those that an answer
+        may have been for, which is lost with the name of its goal."""
+        if self.lost_invariant:
+            return []
+        lost = {m[1].split("-")[0] for name in self.names if (m := re.search(r"has no `([\w-]+)` that can be named", name))}
+        stems = [(m[1].split("-")[0] if (m := re.search(r"\(`([\w-]+)`\)", goal)) else "", goal) for goal in self.goals]
+        return [goal for stem, goal in stems if stem not in lost]
+
+    def verdict(self):
+        """What becomes of the bug, and a line that says so."""
+        if self.program:
+            return "no program", self.program[0]
+        if goals := self.own_goals():
+            return "refused", goals[0]
+        if self.answers and not self.lost_invariant:
+            return "refused at answer", self.answers[0]
+        if self.names:
+            return "only names", self.names[0]
+        for reason in self.without_proof:
+            if OPEN.search(reason):
+                return "refused", reason
+        return ("not tried", self.without_proof[0]) if self.without_proof else ("passes", "")
+
+
+def said(crate, bug, lines):
     """What is said of places in the bug's functions, or in the proofs that belong to them; of any, where it changes no function."""
-    found = []
-    for file, first, last, name in crate.places(bug):
-        short, stem = name.split(" :: ")[-1], os.path.basename(file)[:-3]
+    found = Said()
+    for file, first, last, owner, name in crate.places(bug):
+        stem = os.path.basename(file)[:-3]
         folder = "" if stem in ("lib", "main") else stem + "/"
-        own_proof = re.compile(rf"proofs/{folder}(.*/)?{short}(/|\.antt)")
+        own_proof = re.compile(rf"proofs/{folder}{owner and owner + '/'}{name}(/|\.antt)", re.I)
+        own_path = ([] if stem in ("lib", "main") else [stem]) + ([owner.lower()] if owner else []) + [name]
         for line in lines:
-            m = re.match(r"(?:note: )?(?:\./)?(\S+?):(\d+):\d+: (.*)", line)
-            if not m or not OF_A_GOAL.search(m[3]):
-                continue
-            if not name or own_proof.match(m[1]) or (m[1] == file and first <= int(m[2]) <= last):
-                found.append(line)
-    return found
-
-
-def without_proof(crate, bug, lines):
-    """What is said of the bug's functions as a whole, where they have no proof."""
-    found = []
-    for file, _, _, name in crate.places(bug):
-        short, stem = name.split(" :: ")[-1], os.path.basename(file)[:-3]
-        for line in lines:
-            m = re.match(r"fn \w+::(\S+): no proof: (.*)", line)
-            path = m[1].split("::") if m else []
-            if name and path[-1:] == [short] and (path[0] == stem or stem in ("lib", "main")):
-                found.append(m[2])
+            if m := SAID.match(line):
+                if m[1].startswith("proofs/") and (not name or own_proof.match(m[1])):
+                    found.add_proof_line(m[1], m[3])
+                elif not name or m[1] == file and first <= int(m[2]) <= last:
+                    found.add_source_line(m[3])
+            elif m := re.match(r"fn \w+::(\S+): no proof: (.*)", line):
+                if name and [word.lower() for word in m[1].split("::")] == own_path:
+                    found.without_proof.append(m[2])
     return found
 
 
 def told(crate, bug, lines):
     """What becomes of a bug, and a line that says so."""
-    mine, reasons = own_lines(crate, bug, lines), without_proof(crate, bug, lines)
-    if not any(line.startswith("logic=") for line in lines):
-        return "not judged", ""
-    if mine and all(OF_A_NAME.search(line) for line in mine):
-        return "refused for a name", mine[0]
-    if mine and all(NO_PROGRAM.search(line) for line in mine):
-        return "no program", mine[0]
-    if mine:
-        return "refused", next(line for line in mine if not OF_A_NAME.search(line))
-    if any("did not prove" in reason for reason in reasons):
-        return "refused", next(reason for reason in reasons if "did not prove" in reason)
-    return ("not tried", reasons[0]) if reasons else ("passes", "")
+    word, line = said(crate, bug, lines).verdict()
+    if not any(line.startswith("logic=") for line in lines) and word != "no program":
+        return "not tried", "the check came to no end"
+    return word, line
 
 
 def try_all(crate, bugs, keep):
-    """What becomes of each bug, by its name. One that waits for a function which is refused is tried again, three times at most."""
+    """What becomes of each bug, by its name. One that another keeps from being tried is tried again, three times at most."""
     answers, number, left = {}, 0, bugs
     for _ in range(3):
         later = []
@@ -217,7 +275,7 @@ def try_all(crate, bugs, keep):
             number += 1
             for bug in batch:
                 answers[bug.name], line = told(crate, bug, out.splitlines())
-                print(f"  {bug.name:40} {answers[bug.name]:20} {line[:160]}", flush=True)
+                print(f"  {bug.name:40} {answers[bug.name]:18} {line[:160]}", flush=True)
             later += [b for b in batch if answers[b.name] == "not tried"]
         left = later
     return answers
@@ -242,8 +300,8 @@ def main():
         answers = {}
     else:
         answers = try_all(crate, fresh, a.keep)
-    wanted = {b.name: "passes" if b.passes else "refused" for b in bugs}
-    wrong = {name: word for name, word in {**answers, **stale}.items() if word != wanted[name]}
+    wanted = {b.name: ["passes"] if b.passes else ["refused", "refused at answer"] for b in bugs}
+    wrong = {name: word for name, word in {**answers, **stale}.items() if word not in wanted[name]}
     counts = ", ".join(f"{list(answers.values()).count(word)} {word}" for word in sorted(set(answers.values())))
     print(f"{a.crate}: {len(bugs)} bugs: {counts}")
     for name, why in wrong.items():
