@@ -68,3 +68,16 @@ echo 'accepted steps 127 activities 1 clocks 0'
 echo 'run: ended steps 127'
 units 65 method 64 '["call",NEXT,[]],["ret"]' '["ret"]'
 echo 'x10clock: V17 Stack over 4096'
+
+# A text of five megabytes, of a hundred units of the longest code.
+units 100 body 1 "$(repeated 4095 '["lit",0,7]'),[\"ret\"]" "$(repeated 4095 '["lit",0,7]'),[\"ret\"]"
+echo 'accepted steps 4096 activities 1 clocks 0'
+echo 'run: ended steps 4096'
+
+# 1,024 units of 64 slots, each of which writes and reads them, and starts the next one.
+numbers=$(awk 'BEGIN { for (k = 0; k < 64; k++) printf "[\"lit\",%d,%d],", k, k; for (k = 1; k < 64; k++) printf "[\"add\",0,0,%d],", k }')
+units 1024 body 64 "$numbers[\"spawn\",NEXT,[]],[\"ret\"]" "$numbers[\"print\",0],[\"ret\"]"
+echo 'accepted steps 132096 activities 1024 clocks 0'
+echo 'run: 2016,ended steps 132096'
+echo 'last: 2016,ended steps 132096'
+echo 'round: 2016,ended steps 132096'
