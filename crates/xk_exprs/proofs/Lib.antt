@@ -1,0 +1,5 @@
+pub mod Loops
+pub mod Numbers
+pub mod Takes
+pub mod Chains
+pub mod Again

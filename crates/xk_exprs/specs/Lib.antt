@@ -1,0 +1,5 @@
+pub mod Marks
+pub mod Readers
+pub mod Spelling
+pub mod Exprs
+pub mod Laws

@@ -1,0 +1,248 @@
+//! Numbers and expressions, by recursive descent.
+
+ghost use Rattle.std.specs.Prelude.{◌≡◌};
+ghost use Rattle.xk_tree.specs.Tree.{Binary, expression};
+ghost use Rattle.xk_exprs.specs.Marks.{marks};
+ghost use Rattle.xk_exprs.specs.Readers.{Gives};
+ghost use Rattle.xk_exprs.specs.Exprs.{value_of, literal, number_from, number_at, factor_at, terms, sums, whole_at, whole_term_at};
+
+use crate::parts::{close, depth_fault, digits, literal_fault, minus, next, operator, unexpected};
+use std::alloc::Global;
+use xk_tokens::{Kind, Sign, Token};
+use xk_tree::{Expr, FrontError, FrontFault, Name, Number, Operator};
+
+/// How many operators an expression may have.
+const MAX_OPERATORS: u32 = 64;
+
+/// What was read, how many operators are left, and the tokens behind it.
+type Found<'s, 't> = (Expr<'t>, u32, &'s [Token<'t>]);
+
+/// What digits are worth, or digits behind a `-`, if it has 64 bits.
+#[tactic(auto, unfolding(crate::specs::Exprs::value_of))]
+fn value_of(minus: Option<usize>, digits: u64) -> Option<i64>
+    ensures { result ≡ value_of minus digits }
+{
+    match minus {
+        None if digits < 1 << 63 => Some(digits as i64),
+        Some(_) if digits < 1 << 63 => Some(-(digits as i64)),
+        Some(_) if digits == 1 << 63 => Some(i64::MIN),
+        _ => None,
+    }
+}
+
+/// The number of digits at an offset, behind the offset of a `-` if there is one.
+fn literal(minus: Option<usize>, at: usize, digits: u64) -> Result<Number, FrontError>
+    ensures { Gives (λ n. n) result (literal minus at digits) }
+{
+    match value_of(minus, digits) {
+        Some(value) => Ok(Number { minus, at, value }),
+        None => Err(FrontError::Fault(literal_fault(at))),
+    }
+}
+
+/// A number from its digits on.
+fn number_from<'s, 't>(
+    minus: Option<usize>,
+    tokens: &'s [Token<'t>],
+    end: usize,
+) -> Result<(Number, &'s [Token<'t>]), FrontError>
+    ensures { Gives (λ x. (x.0, marks x.1.now)) result (number_from minus (marks tokens.now)) }
+{
+    let Some((token, rest)) = next(tokens) else {
+        return Err(FrontError::Fault(unexpected(tokens, end)));
+    };
+    match token.kind {
+        Kind::Number(digits) => {
+            let number = literal(minus, token.at, digits)?;
+            Ok((number, rest))
+        }
+        Kind::BadNumber => Err(FrontError::Fault(literal_fault(token.at))),
+        _ => Err(FrontError::Fault(unexpected(tokens, end))),
+    }
+}
+
+/// A number, and the tokens behind it.
+#[tactic(auto, unfolding(crate::specs::Exprs::number_at))]
+pub fn read_number<'s, 't>(
+    tokens: &'s [Token<'t>],
+    end: usize,
+) -> Result<(Number, &'s [Token<'t>]), FrontError>
+    ensures { Gives (λ x. (x.0, marks x.1.now)) result (number_at (marks tokens.now)) }
+{
+    match minus(tokens) {
+        Some((at, rest)) => number_from(Some(at), rest, end),
+        None => number_from(None, tokens, end),
+    }
+}
+
+fn binary<'t>(
+    alloc: Global,
+    operator: Operator,
+    left: Expr<'t>,
+    at: usize,
+    right: Expr<'t>,
+) -> Result<Expr<'t>, FrontError>
+    ensures { Gives expression result
+        (Some (Binary operator (expression left.entry) at (expression right.entry))) }
+{
+    Ok(Expr::Binary(
+        operator,
+        Box::new(alloc, left)?,
+        at,
+        Box::new(alloc, right)?,
+    ))
+}
+
+/// The fault of a `-` that may be no negation any more: the limit, or that of the digits behind it.
+fn negation_fault(at: usize, tokens: &[Token]) -> FrontFault {
+    match tokens {
+        [token, ..] => match token.kind {
+            Kind::BadNumber => literal_fault(token.at),
+            _ => depth_fault(at),
+        },
+        [] => depth_fault(at),
+    }
+}
+
+#[cycle(exprs)]
+#[tactic(auto, unfolding(crate::specs::Exprs::factor_at))]
+fn factor<'s, 't>(
+    alloc: Global,
+    levels: u32,
+    operators: u32,
+    tokens: &'s [Token<'t>],
+    end: usize,
+) -> Result<Found<'s, 't>, FrontError>
+    ensures { Gives (λ f. ((expression f.0, f.1), marks f.2.now)) result
+        (factor_at levels operators (marks tokens.now)) }
+{
+    let Some((token, rest)) = next(tokens) else {
+        return Err(FrontError::Fault(unexpected(tokens, end)));
+    };
+    match token.kind {
+        Kind::Name(text) => {
+            let name = Name { at: token.at, text };
+            Ok((Expr::Name(name), operators, rest))
+        }
+        Kind::Number(digits) => {
+            let number = literal(None, token.at, digits)?;
+            Ok((Expr::Number(number), operators, rest))
+        }
+        Kind::BadNumber => Err(FrontError::Fault(literal_fault(token.at))),
+        Kind::Sign(sign) => match sign {
+            Sign::LeftParen => {
+                if levels == 0 {
+                    return Err(FrontError::Fault(depth_fault(token.at)));
+                }
+                let (inner, operators, rest) = sum(alloc, levels - 1, operators, rest, end)?;
+                let rest = close(rest, end)?;
+                Ok((
+                    Expr::Paren(token.at, Box::new(alloc, inner)?),
+                    operators,
+                    rest,
+                ))
+            }
+            Sign::Minus => {
+                if let Some((at, digits, rest)) = digits(rest) {
+                    let number = literal(Some(token.at), at, digits)?;
+                    return Ok((Expr::Number(number), operators, rest));
+                }
+                if levels == 0 || operators == 0 {
+                    return Err(FrontError::Fault(negation_fault(token.at, rest)));
+                }
+                let (inner, operators, rest) = factor(alloc, levels - 1, operators - 1, rest, end)?;
+                Ok((
+                    Expr::Negation(token.at, Box::new(alloc, inner)?),
+                    operators,
+                    rest,
+                ))
+            }
+            _ => Err(FrontError::Fault(unexpected(tokens, end))),
+        },
+        _ => Err(FrontError::Fault(unexpected(tokens, end))),
+    }
+}
+
+#[cycle(exprs)]
+fn term<'s, 't>(
+    alloc: Global,
+    levels: u32,
+    operators: u32,
+    tokens: &'s [Token<'t>],
+    end: usize,
+) -> Result<Found<'s, 't>, FrontError>
+    ensures { Gives (λ f. ((expression f.0, f.1), marks f.2.now)) result
+        (terms (factor_at levels) operators (marks tokens.now)) }
+{
+    let (mut left, mut operators, mut rest) = factor(alloc, levels, operators, tokens, end)?;
+    while let Some((at, times, after)) = operator(1, rest) {
+        if operators == 0 {
+            return Err(FrontError::Fault(depth_fault(at)));
+        }
+        let (right, right_operators, right_rest) = factor(
+            alloc,
+            levels,
+            operators - 1,
+            after,
+            end,
+        )?;
+        left = binary(alloc, times, left, at, right)?;
+        operators = right_operators;
+        rest = right_rest;
+    }
+    Ok((left, operators, rest))
+}
+
+#[cycle(exprs)]
+fn sum<'s, 't>(
+    alloc: Global,
+    levels: u32,
+    operators: u32,
+    tokens: &'s [Token<'t>],
+    end: usize,
+) -> Result<Found<'s, 't>, FrontError>
+    ensures { Gives (λ f. ((expression f.0, f.1), marks f.2.now)) result
+        (sums (factor_at levels) operators (marks tokens.now)) }
+{
+    let (mut left, mut operators, mut rest) = term(alloc, levels, operators, tokens, end)?;
+    while let Some((at, sign, after)) = operator(2, rest) {
+        if operators == 0 {
+            return Err(FrontError::Fault(depth_fault(at)));
+        }
+        let (right, right_operators, right_rest) = term(alloc, levels, operators - 1, after, end)?;
+        left = binary(alloc, sign, left, at, right)?;
+        operators = right_operators;
+        rest = right_rest;
+    }
+    Ok((left, operators, rest))
+}
+
+/// An expression, where so many levels are left, and the tokens behind it.
+#[tactic(auto, unfolding(crate::specs::Exprs::whole_at))]
+pub fn read_expr<'s, 't>(
+    alloc: Global,
+    levels: u32,
+    tokens: &'s [Token<'t>],
+    end: usize,
+) -> Result<(Expr<'t>, &'s [Token<'t>]), FrontError>
+    ensures { Gives (λ x. (expression x.0, marks x.1.now)) result
+        (whole_at levels (marks tokens.now)) }
+{
+    let (expr, _, rest) = sum(alloc, levels, MAX_OPERATORS, tokens, end)?;
+    Ok((expr, rest))
+}
+
+/// A term, where so many levels are left, and the tokens behind it.
+#[tactic(auto, unfolding(crate::specs::Exprs::whole_term_at))]
+pub fn read_term<'s, 't>(
+    alloc: Global,
+    levels: u32,
+    tokens: &'s [Token<'t>],
+    end: usize,
+) -> Result<(Expr<'t>, &'s [Token<'t>]), FrontError>
+    ensures { Gives (λ x. (expression x.0, marks x.1.now)) result
+        (whole_term_at levels (marks tokens.now)) }
+{
+    let (expr, _, rest) = term(alloc, levels, MAX_OPERATORS, tokens, end)?;
+    Ok((expr, rest))
+}
