@@ -2,6 +2,7 @@
 use Rattle.std.proofs.Common.{◌≡◌, ℕ, zero, suc, ◌+◌, ◌-◌, ◌*◌, ◌^◌, leb, ◌<◌, ◌≤◌, ◌==◌, Bool, true, false, cond, List, [], ◌∷◌, length, drop, ◌++◌, append_assoc, length-drop, Option, Some, None, option_map, unwrap_or, refl, sym, ap, subst, ◌∙◌, arith}
 use Rattle.std.proofs.lemmas.Bool.{lt-leb}
 use Rattle.xk_tokens.specs.declared.token.Sign.{Sign}
+use Rattle.std.proofs.lemmas.List.{append-nil}
 use Rattle.std.specs.List.{prefix_len}
 use Rattle.std.proofs.lemmas.List.Sums.{prefix_len-le-length}
 use Rattle.xk_tokens.specs.Tokens.{Lexeme, TokenValue}
@@ -131,3 +132,8 @@ goes_on text rest after old new p e room so_far made left =
           ∙ sym (front_next at rest p e))
           ∙ so_far,
     )
+
+-- at the text's end all are there
+pub ends : (tokens : List TokenValue) (text rest : List ℕ) → None ≡ front_at rest → tokens ++ lexed_from 0 (length text - length rest) rest ≡ lexed text → tokens ≡ lexed text
+ends tokens text [] e so_far = sym (append-nil tokens) ∙ so_far
+ends tokens text (b ∷ bs) e so_far = absurd cc

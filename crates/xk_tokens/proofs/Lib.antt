@@ -1,1 +1,7 @@
 pub mod Lengths
+pub mod Comments
+pub mod Runs
+pub mod Read
+pub mod Found
+pub mod Texts
+pub mod Offsets

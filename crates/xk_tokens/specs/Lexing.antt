@@ -4,14 +4,14 @@ use Rattle.std.specs.List.{prefix_len}
 use Rattle.xk_tokens.specs.declared.token.Sign.{Sign}
 use Rattle.xk_tokens.specs.declared.token.Sign.TheVariants as sign
 use Rattle.xk_tokens.specs.Tokens.{Lexeme, Symbol, Stray, TokenValue}
-use Rattle.xk_tokens.specs.Pieces.{is_blank, is_letter, is_digit, is_word_byte, isnt_line_feed, decimal, word_of, number_of, told}
+use Rattle.xk_tokens.specs.Pieces.{is_blank, is_letter, is_digit, is_word_byte, isnt_line_feed, decimal, slash, star, word_of, number_of, told}
 
 -- ---- parts
 
 abbrev pub begins_close : List ℕ → Bool
 begins_close [] = false
 begins_close (a ∷ []) = false
-begins_close (a ∷ b ∷ bs) = a == 42 && b == 47
+begins_close (a ∷ b ∷ bs) = a == star && b == slash
 
 -- how many bytes stand before the first `*/`
 abbrev pub closing : List ℕ → Option ℕ
@@ -82,7 +82,7 @@ comment_at (a ∷ []) = None
 comment_at (a ∷ b ∷ bs) =
     if a == 47 then
     (if b == 47 then Some (None, prefix_len isnt_line_feed bs + 2)
-    else if b == 42 then Some (closed (a ∷ b ∷ bs) (closing bs))
+    else if b == star then Some (closed (a ∷ b ∷ bs) (closing bs))
     else None)
     else None
 

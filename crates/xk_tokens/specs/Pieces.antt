@@ -1,6 +1,6 @@
 -- What a text spells: it is cut into pieces, each as long as can be, and some of these are tokens.
-use Rattle.std.specs.Prelude.{◌≡◌, ◌≢◌, ℕ, ◌+◌, ◌-◌, ◌*◌, ◌^◌, ◌≤◌, ◌==◌, nat_le, Bool, false, IsTrue, IsFalse, not, ◌&&◌, ◌||◌, List, [], ◌∷◌, ◌++◌, length, Option, Some, None, codes, if◌then◌else◌}
-use Rattle.std.specs.List.{list_all}
+use Rattle.std.specs.Prelude.{◌≡◌, ◌≢◌, ℕ, ◌+◌, ◌-◌, ◌*◌, ◌^◌, ◌≤◌, ◌==◌, nat_le, ◌⊎◌, Bool, true, false, IsTrue, IsFalse, not, ◌&&◌, ◌||◌, List, [], ◌∷◌, ◌++◌, length, map, Option, Some, None, if◌then◌else◌}
+use Rattle.std.specs.List.{list_all, list_any}
 use Rattle.xk_tokens.specs.declared.token.Sign.{Sign}
 use Rattle.xk_tokens.specs.declared.token.Keyword.{Keyword}
 use Rattle.xk_tokens.specs.Tokens.{Lexeme, Name, Reserved, Number, BadNumber, Symbol, Stray, TokenValue, keyword_of, sign_text}
@@ -21,6 +21,12 @@ is_word_byte b = is_letter b || is_digit b
 
 abbrev pub isnt_line_feed : ℕ → Bool
 isnt_line_feed b = not (b == 10)
+
+abbrev pub slash : ℕ
+slash = 47
+
+abbrev pub star : ℕ
+star = 42
 
 -- whether the first byte, if there is one, passes
 abbrev pub begins : (ℕ → Bool) → List ℕ → Bool
@@ -69,8 +75,8 @@ pub data Piece : Type 0 where
 -- its bytes
 abbrev pub piece_text : Piece → List ℕ
 piece_text (Blank b) = b ∷ []
-piece_text (LineComment body) = codes "//" ++ body
-piece_text (BlockComment body) = codes "/*" ++ body ++ codes "*/"
+piece_text (LineComment body) = slash ∷ slash ∷ body
+piece_text (BlockComment body) = slash ∷ star ∷ (body ++ star ∷ slash ∷ [])
 piece_text (Word text) = text
 piece_text (Digits digits) = digits
 piece_text (Mark s) = sign_text s
@@ -80,7 +86,7 @@ piece_text (Mark s) = sign_text s
 abbrev pub IsPiece : Piece → List ℕ → Type 0
 IsPiece (Blank b) after = IsTrue (is_blank b)
 IsPiece (LineComment body) after = IsTrue (list_all isnt_line_feed body) × IsFalse (begins isnt_line_feed after)
-IsPiece (BlockComment body) after = (front back : List ℕ) → body ++ codes "*/" ≡ front ++ codes "*/" ++ back → length body ≤ length front
+IsPiece (BlockComment body) after = (front back : List ℕ) → body ++ star ∷ slash ∷ [] ≡ front ++ star ∷ slash ∷ back → length body ≤ length front
 IsPiece (Word text) after = IsTrue (begins is_letter text) × IsTrue (list_all is_word_byte text) × IsFalse (begins is_word_byte after)
 IsPiece (Digits digits) after = IsTrue (begins is_digit digits) × IsTrue (list_all is_digit digits) × IsFalse (begins is_digit after)
 IsPiece (Mark s) after = (t : Sign) (back : List ℕ) → sign_text s ++ after ≡ sign_text t ++ back → length (sign_text t) ≤ length (sign_text s)
@@ -115,12 +121,34 @@ tokens_at at (p ∷ ps) = told at (token_of p) (tokens_at (at + length (piece_te
 abbrev pub SpellsTokens : List ℕ → List TokenValue → Type 0
 SpellsTokens text tokens = (ps : List Piece) × ArePieces ps text [] × (tokens ≡ tokens_at 0 ps)
 
--- no piece begins here
+-- ---- texts that spell none
+
+-- no piece begins the text
 abbrev pub HasNoPiece : List ℕ → Type 0
 HasNoPiece text = (p : Piece) (after : List ℕ) → text ≡ piece_text p ++ after → ¬ IsPiece p after
 
--- the text is pieces up to a rest at which no piece begins: their tokens, and the rest as a stray one
+-- a stray token at this offset
+abbrev pub stray_at : ℕ → TokenValue
+stray_at at = record { at = at; what = Stray }
+
+-- The text is pieces up to a rest, not empty, that no piece begins. The tokens are those of the pieces, and the rest as a stray one.
 abbrev pub Strays : List ℕ → List TokenValue → Type 0
 Strays text tokens =
     (ps : List Piece) × (rest : List ℕ) × ArePieces ps text rest × (rest ≢ []) × HasNoPiece rest
-    × (tokens ≡ tokens_at 0 ps ++ record { at = length text - length rest; what = Stray } ∷ [])
+    × (tokens ≡ tokens_at 0 ps ++ stray_at (length text - length rest) ∷ [])
+
+-- the text spells these tokens, or strays after all but the last
+unfoldable pub IsReadAs : List ℕ → List TokenValue → Type 0
+IsReadAs text tokens = SpellsTokens text tokens ⊎ Strays text tokens
+
+abbrev pub is_stray : Lexeme → Bool
+is_stray Stray = true
+is_stray l = false
+
+abbrev pub has_stray : List TokenValue → Bool
+has_stray tokens = list_any (λ t. is_stray t.what) tokens
+
+-- ---- offsets
+
+abbrev pub offsets : List TokenValue → List ℕ
+offsets tokens = map (λ t. t.at) tokens

@@ -4,7 +4,7 @@ ghost use Rattle.std.specs.Prelude.{◌≡◌, ◌+◌, ◌<◌, ◌≤◌, [], 
 ghost use Rattle.std.specs.List.{prefix_len};
 ghost use Rattle.std.specs.Str.{bytes_eq};
 ghost use Rattle.xk_tokens.specs.Tokens.{keyword_of, lexeme, token_value};
-ghost use Rattle.xk_tokens.specs.Pieces.{is_blank, is_letter, is_digit, is_word_byte, isnt_line_feed, word_of, number_of, told};
+ghost use Rattle.xk_tokens.specs.Pieces.{IsReadAs, is_blank, is_letter, is_digit, is_word_byte, isnt_line_feed, word_of, number_of, told};
 ghost use Rattle.xk_tokens.specs.Lexing.{closing, comment_at, front_at, lexed, piece_at, sign_at, sign_of_one, sign_of_two, value_of};
 ghost use Rattle.xk_tokens.specs.Views.{piece_value};
 
@@ -309,9 +309,10 @@ fn put<'t>(tokens: &mut Vec<Token<'t>>, at: usize, kind: Option<Kind<'t>>) -> Re
     }
 }
 
-/// The tokens of a text, in order, up to the first place where none begins.
+/// The tokens of a text, in order. Where no token, blank or comment begins, the rest of the text is one stray token.
 pub fn tokens<'t>(alloc: Global, text: &'t [u8]) -> Result<Vec<Token<'t>>, AllocError>
-    ensures { IfOk result (λ v. map token_value v.items ≡ lexed text.now) }
+    ensures read { IfOk result (λ v. map token_value v.items ≡ lexed text.now) }
+    ensures spelled { IfOk result (λ v. IsReadAs text.now (map token_value v.items)) }
 {
     let mut tokens = Vec::new(alloc);
     let mut rest = text;

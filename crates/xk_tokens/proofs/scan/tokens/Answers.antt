@@ -1,7 +1,9 @@
-use Rattle.std.proofs.Common.{arith, map}
+use Rattle.std.proofs.Common.{arith, map, subst, sym}
 use Rattle.xk_tokens.specs.Tokens.{token_value}
+use Rattle.xk_tokens.specs.Pieces.{IsReadAs}
 use Rattle.xk_tokens.specs.Views.{piece_value}
-use Rattle.xk_tokens.proofs.Lengths.{front_room, goes_on}
+use Rattle.xk_tokens.proofs.Lengths.{front_room, goes_on, ends}
+use Rattle.xk_tokens.proofs.Texts.{lexed_reading}
 use Rattle.xk_tokens.proofs.scan.tokens.Goals as goal
 
 pub split_at-requires : goal.split_at-requires
@@ -16,3 +18,11 @@ pub loop-piece-preserved : goal.loop-piece-preserved
 loop-piece-preserved c =
     let g = goes_on c.args.text.now c.loop-piece.rest.now c.split_at.result.1.now (map token_value c.loop-piece.tokens.items) (map token_value c.put.new.tokens.items) (piece_value c.in-Some.piece) c.in-Some.ensures c.loop-piece.invariant.room c.loop-piece.invariant.so_far c.in_ok-put.ensures c.split_at.ensures.back in
     record { room = g.0; so_far = g.1 }
+
+pub returns-clause-read : goal.returns-clause-read
+returns-clause-read c = ends (map token_value c.loop-piece.tokens.items) c.args.text.now c.loop-piece.rest.now c.in_default.ensures c.loop-piece.invariant.so_far
+
+pub returns-clause-spelled : goal.returns-clause-spelled
+returns-clause-spelled c =
+    let read = ends (map token_value c.loop-piece.tokens.items) c.args.text.now c.loop-piece.rest.now c.in_default.ensures c.loop-piece.invariant.so_far in
+    subst (IsReadAs c.args.text.now) (sym read) (lexed_reading c.args.text.now)
