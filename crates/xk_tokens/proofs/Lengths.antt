@@ -1,5 +1,5 @@
 -- How long pieces are.
-use Rattle.std.proofs.Common.{◌≡◌, ℕ, zero, suc, ◌+◌, ◌-◌, ◌*◌, ◌^◌, leb, ◌<◌, ◌≤◌, ◌==◌, Bool, true, false, cond, List, [], ◌∷◌, length, drop, ◌++◌, append_assoc, length-drop, Option, Some, None, option_map, unwrap_or, refl, sym, ap, subst, ◌∙◌, arith}
+use Rattle.std.proofs.Common.{◌≡◌, ℕ, zero, suc, ◌+◌, ◌-◌, ◌*◌, ◌^◌, ◌/◌, leb, ◌<◌, ◌≤◌, ◌==◌, Bool, true, false, cond, List, [], ◌∷◌, length, drop, ◌++◌, append_assoc, length-drop, Option, Some, None, option_map, unwrap_or, refl, sym, ap, subst, ◌∙◌, arith}
 use Rattle.std.proofs.lemmas.Bool.{lt-leb}
 use Rattle.xk_tokens.specs.declared.token.Sign.{Sign}
 use Rattle.std.proofs.lemmas.List.{append-nil}
@@ -94,12 +94,12 @@ lexed_next at b bs = by (piece_at b (b ∷ bs)) (piece_room b bs)
         step zero h = absurd (omega arith)
         step (suc n) h = let e : suc n - 1 ≡ n = omega arith in rw e (lexed_skip n (suc at) bs ∙ ap (λ (m : ℕ). lexed_from 0 m (drop n bs)) (omega arith))
 
--- a number that is too great before its last digit
-pub too_great : (ds : List ℕ) (v : ℕ) (rest : List ℕ) → 1 ≤ length rest → 2 ^ 60 < v → decimal v rest ≡ decimal 0 ds → None ≡ value_of ds
+-- a number that is too great once its next digit is read
+pub too_great : (ds : List ℕ) (v : ℕ) (rest : List ℕ) → 1 ≤ length rest → 9223372036854775808 / 10 < v → decimal v rest ≡ decimal 0 ds → None ≡ value_of ds
 too_great ds v [] some big e = absurd (omega arith)
 too_great ds v (d ∷ rest) some big e =
     let h = decimal_least (v * 10 + (d - 48)) rest in
-    let t : leb (decimal 0 ds) 9223372036854775808 ≡ false = lt-leb _ _ (omega arith) in
+    let t : leb (decimal 0 ds) (2 ^ 63) ≡ false = lt-leb _ _ (omega arith) in
     rw t refl
 
 pub front_room : (text : List ℕ) (p : Option Lexeme × ℕ) → Some p ≡ front_at text → Within text p

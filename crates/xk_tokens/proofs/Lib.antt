@@ -5,3 +5,4 @@ pub mod Read
 pub mod Found
 pub mod Texts
 pub mod Offsets
+pub mod Rows

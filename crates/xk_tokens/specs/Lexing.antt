@@ -1,5 +1,5 @@
 -- A text read from left to right, a piece at a time.
-use Rattle.std.specs.Prelude.{ℕ, zero, suc, ◌+◌, ◌-◌, ◌==◌, nat_le, Bool, false, ◌&&◌, List, [], ◌∷◌, length, take, Option, Some, None, option_map, unwrap_or, if◌then◌else◌}
+use Rattle.std.specs.Prelude.{ℕ, zero, suc, ◌+◌, ◌-◌, ◌^◌, ◌==◌, nat_le, Bool, false, ◌&&◌, List, [], ◌∷◌, length, take, Option, Some, None, option_map, unwrap_or, if◌then◌else◌}
 use Rattle.std.specs.List.{prefix_len}
 use Rattle.xk_tokens.specs.declared.token.Sign.{Sign}
 use Rattle.xk_tokens.specs.declared.token.Sign.TheVariants as sign
@@ -20,7 +20,7 @@ closing (b ∷ bs) = if begins_close (b ∷ bs) then Some 0 else option_map suc 
 
 -- the value of digits, if it is at most 2 to the 63rd
 abbrev pub value_of : List ℕ → Option ℕ
-value_of ds = if nat_le (decimal 0 ds) 9223372036854775808 then Some (decimal 0 ds) else None
+value_of ds = if nat_le (decimal 0 ds) (2 ^ 63) then Some (decimal 0 ds) else None
 
 -- the sign of this one byte
 unfoldable pub sign_of_one : ℕ → Option Sign

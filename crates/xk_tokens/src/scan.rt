@@ -76,20 +76,23 @@ fn closing_at(text: &[u8]) -> Option<usize>
     None
 }
 
-/// The value of digits, if it is at most 2 to the 63rd.
+/// The greatest number that a digit run stands for.
+const GREATEST: u64 = 1 << 63;
+
+/// The value of digits, if it isn't above the greatest.
 fn value(digits: &[u8]) -> Option<u64>
     ensures { result ≡ value_of digits.now }
 {
     let mut value: u64 = 0;
     let mut rest = digits;
     while let [d, after @ ..] = rest {
-        if value > 1 << 60 {
+        if value > GREATEST / 10 {
             return None;
         }
         value = value * 10 + u64::from(d.saturating_sub(b'0'));
         rest = after;
     }
-    if value > 1 << 63 {
+    if value > GREATEST {
         return None;
     }
     Some(value)
@@ -115,6 +118,7 @@ fn text_is(text: &[u8], word: &[u8]) -> bool
     text == word
 }
 
+/// The reserved word of this spelling, if it is one.
 #[tactic(auto, unfolding(crate::specs::Tokens::keyword_of))]
 fn keyword(text: &[u8]) -> Option<Keyword>
     ensures { result ≡ keyword_of text.now }
@@ -154,6 +158,7 @@ fn keyword(text: &[u8]) -> Option<Keyword>
     }
 }
 
+/// What a word is.
 fn word(text: &[u8]) -> Kind<'_>
     ensures { lexeme result ≡ word_of text.now }
 {
@@ -163,6 +168,7 @@ fn word(text: &[u8]) -> Kind<'_>
     }
 }
 
+/// The sign of this one byte, if it is one.
 #[tactic(auto, unfolding(crate::specs::Lexing::sign_of_one))]
 fn sign_of_one(a: u8) -> Option<Sign>
     ensures { result ≡ sign_of_one a }
@@ -186,6 +192,7 @@ fn sign_of_one(a: u8) -> Option<Sign>
     }
 }
 
+/// The sign of these two bytes, if they are one.
 #[tactic(auto, unfolding(crate::specs::Lexing::sign_of_two))]
 fn sign_of_two(a: u8, b: u8) -> Option<Sign>
     ensures { result ≡ sign_of_two a b }
@@ -200,14 +207,14 @@ fn sign_of_two(a: u8, b: u8) -> Option<Sign>
     }
 }
 
-/// What stands at the front of a text: a token or a gap, and how many bytes it takes.
+/// What stands at the front of a text: a token, or a blank or a comment, and how many bytes it takes.
 #[derive(Clone, Copy)]
 struct Piece<'t> {
     kind: Option<Kind<'t>>,
     len: usize,
 }
 
-/// The sign at the front.
+/// The sign at the front; where none is, the whole text as a stray token.
 #[tactic(auto, unfolding(crate::specs::Lexing::sign_at))]
 fn sign<'t>(text: &'t [u8]) -> Piece<'t>
     ensures { piece_value result ≡ sign_at text.now }
@@ -234,7 +241,7 @@ fn sign<'t>(text: &'t [u8]) -> Piece<'t>
     }
 }
 
-/// The comment that begins at the front, if one does.
+/// The comment that begins at the front, if one does; one that isn't closed is a stray token.
 #[tactic(auto, unfolding(crate::specs::Lexing::comment_at))]
 fn comment<'t>(text: &'t [u8]) -> Option<Piece<'t>>
     ensures { option_map piece_value result ≡ comment_at text.now }
@@ -296,8 +303,12 @@ fn front<'t>(text: &'t [u8]) -> Option<Piece<'t>>
     }
 }
 
-/// Adds the token of this offset, if it is one.
-fn put<'t>(tokens: &mut Vec<Token<'t>>, at: usize, kind: Option<Kind<'t>>) -> Result<(), AllocError>
+/// Adds a token of this kind and offset, if there is a kind.
+fn push_token<'t>(
+    tokens: &mut Vec<Token<'t>>,
+    at: usize,
+    kind: Option<Kind<'t>>,
+) -> Result<(), AllocError>
     ensures { OnOk result (map token_value tokens.new.items ≡ map token_value tokens.old.items ++ told at (option_map lexeme kind.entry) []) }
 {
     match kind {
@@ -317,7 +328,7 @@ pub fn tokens<'t>(alloc: Global, text: &'t [u8]) -> Result<Vec<Token<'t>>, Alloc
     let mut tokens = Vec::new(alloc);
     let mut rest = text;
     while let Some(piece) = front(rest) {
-        put(&mut tokens, text.len() - rest.len(), piece.kind)?;
+        push_token(&mut tokens, text.len() - rest.len(), piece.kind)?;
         let (_, after) = rest.split_at(piece.len);
         rest = after;
     }
