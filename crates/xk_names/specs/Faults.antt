@@ -1,0 +1,99 @@
+-- The faults of names that a tree has.
+use Rattle.std.specs.Prelude.{◌≡◌, ◌≢◌, ◌⊎◌, ℕ, ◌<◌, ◌≤◌, Bool, true, false, List, [], ◌∷◌, ◌++◌, length, map, Option, Some, None, codes}
+use Rattle.xk_types.specs.declared.unit.ParamKind.TheVariants as param
+use Rattle.xk_tree.specs.declared.fault.FrontRule.{FrontRule}
+use Rattle.xk_tree.specs.declared.fault.FrontRule.TheVariants as rule
+use Rattle.xk_tree.specs.declared.fault.FrontFault.{FrontFault}
+use Rattle.xk_tree.specs.Fault.{front_number}
+use Rattle.xk_tree.specs.Tree.{Word, Expression, Statement, ParamValue, MethodValue, SharedValue, TreeValue}
+use Rattle.xk_names.specs.declared.known.Known.{Known}
+use Rattle.xk_names.specs.declared.known.Kind.{Kind}
+use Rattle.xk_names.specs.declared.known.Kind.TheVariants as kind
+use Rattle.xk_names.specs.Scope.{Table, find, has, texts, Has, Declaration, known, entries, Scope, sees, fits}
+use Rattle.xk_names.specs.Uses.{Use, Signatures, signatures, uses, declares, misfits, clocks_given, calls}
+use Rattle.xk_names.specs.Places.{Way, StandsAmong, declared_among, bodies_among}
+
+abbrev pub fault : FrontRule → ℕ → FrontFault
+fault r at = record { rule = r; at = at }
+
+-- a statement has the fault, apart from the statements that it holds
+pub data Breaks (ms : Signatures) (sc : Scope) (t : Statement) (f : FrontFault) : Type 0 where
+  -- a name is used that isn't visible
+  NotVisible : (u : Use) → Has (uses ms sc.names t) u → find sc.names u.name.text ≡ None → f ≡ fault rule.UnknownName u.name.at → Breaks ms sc t f
+  -- a name is used as what it isn't
+  OtherKind : (u : Use) (k : Known) → Has (uses ms sc.names t) u → find sc.names u.name.text ≡ Some k → fits u.want k.kind ≡ false → f ≡ fault rule.WrongKind u.name.at → Breaks ms sc t f
+  -- a body of `async` uses a `var` from outside, or a clock that it isn't given
+  NotSeen : (u : Use) (k : Known) → Has (uses ms sc.names t) u → find sc.names u.name.text ≡ Some k → sees sc u.name.text k ≡ false → f ≡ fault rule.NotCaptured u.name.at → Breaks ms sc t f
+  -- a name is declared that is visible already
+  DeclaredAgain : (d : Declaration) (k : Known) → Has (declares (length sc.bodies) t) d → find sc.names d.name.text ≡ Some k → f ≡ fault rule.DuplicateName d.name.at → Breaks ms sc t f
+  -- a type, a `Clock.make()`, an argument or the second name of an `atomic` is of the wrong kind
+  Misfit : (at : ℕ) → Has (misfits ms t) at → f ≡ fault rule.WrongKind at → Breaks ms sc t f
+  -- a method is called that doesn't exist
+  NoMethod : (g : Word) (es : List Expression) → calls t ≡ Some (g, es) → find ms g.text ≡ None → f ≡ fault rule.UnknownName g.at → Breaks ms sc t f
+  -- a call has more or fewer arguments than the method has parameters
+  OtherCount : (g : Word) (es : List Expression) (ps : List ParamValue) → calls t ≡ Some (g, es) → find ms g.text ≡ Some ps → length ps ≢ length es → f ≡ fault rule.Arity g.at → Breaks ms sc t f
+  -- a clock stands in a list, or among a call's arguments, a second time
+  ClockAgain : (before : List Word) (c : Word) (after : List Word) → clocks_given ms t ≡ before ++ c ∷ after → has (texts before) c.text ≡ true → f ≡ fault rule.SameClockTwice c.at → Breaks ms sc t f
+
+-- ---- programs
+
+abbrev pub shared_declaration : SharedValue → Declaration
+shared_declaration s = record { name = s.name; known = known kind.Shared 0 }
+
+abbrev pub param_declaration : ParamValue → Declaration
+param_declaration p = record { name = p.name; known = known (elim p.takes.kind as (λ _. Kind) [ param.Number ↦ kind.Val | param.Clock ↦ kind.Clock ]) 0 }
+
+-- what is declared before a method's body: the shared numbers and its parameters
+abbrev pub declared_before : TreeValue → MethodValue → List Declaration
+declared_before t m = map shared_declaration t.shared ++ map param_declaration m.params
+
+-- what the place at the end of the way into a method's body sees
+abbrev pub scope_in : TreeValue → MethodValue → Way → Scope
+scope_in t m w = record { names = entries (declared_before t m ++ declared_among 0 m.body w); bodies = bodies_among [] m.body w }
+
+-- a declaration of the list has the name of an earlier one
+pub record RepeatsName (ds : List Declaration) (f : FrontFault) : Type 0 where
+  pub before : List Declaration
+  pub declaration : Declaration
+  pub after : List Declaration
+  pub stands : ds ≡ before ++ declaration ∷ after
+  pub again : has (texts (map (λ d. d.name) before)) declaration.name.text ≡ true
+  pub is : f ≡ fault rule.DuplicateName declaration.name.at
+
+-- a method has the name of an earlier one
+pub record RepeatsMethod (ms : List MethodValue) (f : FrontFault) : Type 0 where
+  pub before : List MethodValue
+  pub method : MethodValue
+  pub after : List MethodValue
+  pub stands : ms ≡ before ++ method ∷ after
+  pub again : has (texts (map (λ m. m.name) before)) method.name.text ≡ true
+  pub is : f ≡ fault rule.DuplicateName method.name.at
+
+-- a statement of the method's body has the fault
+pub record BreaksInside (t : TreeValue) (m : MethodValue) (f : FrontFault) : Type 0 where
+  pub way : Way
+  pub statement : Statement
+  pub stands : StandsAmong m.body way statement
+  pub breaks : Breaks (signatures t.methods) (scope_in t m way) statement f
+
+-- the tree has the fault, one of F5, F6, F7, F8, F11 and F12
+pub data HasNameFault (t : TreeValue) (f : FrontFault) : Type 0 where
+  InShared : RepeatsName (map shared_declaration t.shared) f → HasNameFault t f
+  InMethods : RepeatsMethod t.methods f → HasNameFault t f
+  InParams : (m : MethodValue) → Has t.methods m → RepeatsName (declared_before t m) f → HasNameFault t f
+  InBody : (m : MethodValue) → Has t.methods m → BreaksInside t m f → HasNameFault t f
+
+-- there is a method `main`, without parameters
+abbrev pub HasMain : TreeValue → Type 0
+HasMain t = find (signatures t.methods) (codes "main") ≡ Some []
+
+abbrev pub no_main : FrontFault
+no_main = fault rule.NoMain 0
+
+-- the tree has the fault, one of those or F9
+abbrev pub HasFault : TreeValue → FrontFault → Type 0
+HasFault t f = HasNameFault t f ⊎ ((HasMain t → ⊥) × (f ≡ no_main))
+
+-- the first is reported rather than the second, or is the same: it stands earlier, or as early and has no greater number
+abbrev pub IsReportedBefore : FrontFault → FrontFault → Type 0
+IsReportedBefore f g = (f.at < g.at) ⊎ ((f.at ≡ g.at) × (front_number f.rule ≤ front_number g.rule))

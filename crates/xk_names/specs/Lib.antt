@@ -1,0 +1,5 @@
+pub mod Scope
+pub mod Uses
+pub mod Places
+pub mod Faults
+pub mod Collected

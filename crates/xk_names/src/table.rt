@@ -1,0 +1,97 @@
+//! Tables and sets of names.
+
+ghost use Rattle.std.specs.Prelude.{◌≡◌, ℕ, List, [], map, take, length, not, OnOk, IfOk};
+ghost use Rattle.xk_names.specs.Scope.{Table as Entries, find, has};
+ghost use Rattle.xk_names.specs.Collected.{put, put_text};
+
+use indexmap::{IndexMap, IndexSet};
+use std::alloc::{AllocError, Global};
+use std::marker::Model;
+
+// What names stand for, in the order in which they were put in.
+#[derive(Drop)]
+pub struct Table<'t, A: Copy> {
+    entries: IndexMap<&'t [u8], A>,
+}
+
+impl<'t, A: Copy> Model for Table<'t, A> {
+    ghost Value = { Entries A };
+
+    ghost view = { λ t. map (λ e. (e.0.now, e.1)) t.entries.entries };
+}
+
+impl<'t, A: Copy> Table<'t, A> {
+    pub fn new(alloc: Global) -> Self
+        ensures { result ≡ [] }
+    {
+        Table {
+            entries: IndexMap::new(alloc),
+        }
+    }
+
+    pub fn len(&self) -> usize
+        ensures { result ≡ length self.now }
+    {
+        self.entries.len()
+    }
+
+    pub fn find(&self, text: &'t [u8]) -> Option<A>
+        ensures { result ≡ find self.now text.now }
+    {
+        self.entries.get(&text).copied()
+    }
+
+    // Adds an entry, unless the text has one.
+    pub fn put(&mut self, text: &'t [u8], a: A) -> Result<(), AllocError>
+        ensures { OnOk result (self.new ≡ put self.old text.now a) }
+    {
+        if !self.entries.contains_key(&text) {
+            self.entries.insert(text, a)?;
+        }
+        Ok(())
+    }
+
+    #[tactic(auto, using(crate::proofs::Tables::take_shown))]
+    pub fn truncate(&mut self, len: usize)
+        ensures { self.new ≡ take len self.old }
+    {
+        self.entries.truncate(len);
+    }
+}
+
+// Names, each once.
+#[derive(Drop)]
+pub struct Texts<'t> {
+    keys: IndexSet<&'t [u8]>,
+}
+
+impl<'t> Model for Texts<'t> {
+    ghost Value = { List (List ℕ) };
+
+    ghost view = { λ t. map (λ k. k.now) t.keys.keys };
+}
+
+impl<'t> Texts<'t> {
+    pub fn new(alloc: Global) -> Self
+        ensures { result ≡ [] }
+    {
+        Texts {
+            keys: IndexSet::new(alloc),
+        }
+    }
+
+    pub fn contains(&self, text: &'t [u8]) -> bool
+        ensures { result ≡ has self.now text.now }
+    {
+        self.keys.contains(&text)
+    }
+
+    // Adds a name, and says whether it is new.
+    pub fn put(&mut self, text: &'t [u8]) -> Result<bool, AllocError>
+        ensures new { IfOk result (λ new. new ≡ not (has self.old text.now)) }
+        ensures texts { OnOk result (self.new ≡ put_text self.old text.now) }
+    {
+        let new = self.keys.insert(text)?;
+        Ok(new)
+    }
+}
