@@ -4,3 +4,5 @@ pub mod Parts
 pub mod Instrs
 pub mod Modules
 pub mod Texts
+pub mod Values
+pub mod Vectors

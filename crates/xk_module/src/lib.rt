@@ -6,6 +6,8 @@ mod json;
 pub mod laws;
 mod reading;
 mod text;
+mod writing;
 
 pub use fault::ModuleFault;
 pub use text::read_module;
+pub use writing::write_module;

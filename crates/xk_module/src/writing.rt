@@ -1,0 +1,203 @@
+//! Writes modules as text.
+
+ghost use Rattle.std.specs.Prelude.{◌≡◌, ◌∷◌, ◌++◌, [], codes, map, IfOk, OnOk, string_bytes};
+ghost use Rattle.std.specs.List.{AllByRecursion};
+ghost use Rattle.serde_json.specs.Data.{Data, string};
+ghost use Rattle.serde_json.specs.View.{view};
+ghost use Rattle.serde_json.specs.Written.{compact_text};
+ghost use Rattle.xk_module.specs.ModuleText.{word, array_of, named, comparison_name, kind_value, letter, module_value, IsWord, IsInRange, IsModuleText};
+
+use serde_json::{Value, json};
+use std::alloc::{AllocError, Global};
+use xk_types::{Comparison, Instr, Module, ParamKind, Unit, UnitKind};
+
+/// Writes the text of a module, in the format that `read_module` reads: with no white space, and with the keys of each object in
+/// alphabetic order. `read_module` reads the text as that module.
+pub fn write_module(alloc: Global, m: &Module) -> Result<String, AllocError>
+    ensures text { IfOk result (λ text. string_bytes text ≡ compact_text (module_value m.now)) }
+    ensures reads_back { IfOk result (λ text. IsModuleText (string_bytes text) m.now) }
+{
+    let value = module_json(alloc, m)?;
+    let text = value.to_string(alloc)?;
+    Ok(text)
+}
+
+/// The value of a module.
+fn module_json(alloc: Global, m: &Module) -> Result<Value, AllocError>
+    ensures value { IfOk result (λ v. view v ≡ module_value m.now) }
+    ensures range { OnOk result (IsInRange m.now) }
+{
+    let shared = array(alloc, m.shared())?;
+    let units = array(alloc, m.units())?;
+    json!(in alloc; {"shared": shared, "units": units, "version": 1u16})
+}
+
+/// What has a JSON value.
+trait Written {
+    /// The value.
+    ghost value: { Self → Data };
+
+    /// Its numbers are in their ranges.
+    ghost in_range: { Self → Type 0 };
+
+    /// Makes the value.
+    fn json(&self, alloc: Global) -> Result<Value, AllocError>
+        ensures value { IfOk result (λ v. view v ≡ value self.now) }
+        ensures range { OnOk result (in_range self.now) };
+}
+
+/// The array of the values of these.
+fn array<T: Written>(alloc: Global, items: &[T]) -> Result<Value, AllocError>
+    ensures value { IfOk result (λ v. view v ≡ array_of (map T.value items.now)) }
+    ensures range { OnOk result (AllByRecursion T.in_range items.now) }
+{
+    let mut values = Vec::new(alloc);
+    for item in items {
+        values.push(item.json(alloc)?)?;
+    }
+    Ok(Value::from(values))
+}
+
+impl Written for i64 {
+    ghost use Rattle.xk_module.specs.ModuleText.{long, IsLong};
+
+    ghost value = { long };
+
+    ghost in_range = { IsLong };
+
+    fn json(&self, _alloc: Global) -> Result<Value, AllocError> {
+        Ok(Value::from(*self))
+    }
+}
+
+impl Written for u16 {
+    ghost use Rattle.xk_module.specs.ModuleText.{word, IsWord};
+
+    ghost value = { word };
+
+    ghost in_range = { IsWord };
+
+    fn json(&self, _alloc: Global) -> Result<Value, AllocError> {
+        Ok(Value::from(*self))
+    }
+}
+
+impl Written for Instr {
+    ghost use Rattle.xk_module.specs.ModuleText.{instr_value, IsInstrInRange};
+
+    ghost value = { instr_value };
+
+    ghost in_range = { IsInstrInRange };
+
+    fn json(&self, alloc: Global) -> Result<Value, AllocError> {
+        match self {
+            Instr::Lit(d, n) => json!(in alloc; ["lit", *d, *n]),
+            Instr::Copy(d, a) => words(alloc, "copy", &[*d, *a]),
+            Instr::Add(d, a, b) => words(alloc, "add", &[*d, *a, *b]),
+            Instr::Sub(d, a, b) => words(alloc, "sub", &[*d, *a, *b]),
+            Instr::Mul(d, a, b) => words(alloc, "mul", &[*d, *a, *b]),
+            Instr::Unless(op, a, b, t) => {
+                json!(in alloc; ["unless", comparison(*op), *a, *b, *t])
+            }
+            Instr::Jump(t) => words(alloc, "jump", &[*t]),
+            Instr::For(k, lo, hi, e) => json!(in alloc; ["for", *k, *lo, *hi, *e]),
+            Instr::Next(b) => words(alloc, "next", &[*b]),
+            Instr::Finish(e) => words(alloc, "finish", &[*e]),
+            Instr::EndFinish(b) => words(alloc, "endfinish", &[*b]),
+            Instr::Get(d, s) => words(alloc, "get", &[*d, *s]),
+            Instr::Put(s, a) => words(alloc, "put", &[*s, *a]),
+            Instr::AddTo(s, a) => words(alloc, "addto", &[*s, *a]),
+            Instr::Print(a) => words(alloc, "print", &[*a]),
+            Instr::Make(k) => words(alloc, "make", &[*k]),
+            Instr::Resume(k) => words(alloc, "resume", &[*k]),
+            Instr::Drop(k) => words(alloc, "drop", &[*k]),
+            Instr::Advance => words(alloc, "advance", &[]),
+            Instr::Call(unit, args) => run(alloc, "call", *unit, args.slots()),
+            Instr::Spawn(unit, args) => run(alloc, "spawn", *unit, args.slots()),
+            Instr::Ret => words(alloc, "ret", &[]),
+        }
+    }
+}
+
+impl Written for Unit {
+    ghost use Rattle.xk_module.specs.ModuleText.{unit_value, IsUnitInRange};
+
+    ghost value = { unit_value };
+
+    ghost in_range = { IsUnitInRange };
+
+    fn json(&self, alloc: Global) -> Result<Value, AllocError> {
+        let code = array(alloc, &self.code)?;
+        let params = letters(alloc, &self.params)?;
+        let kind = kind(self.kind);
+        json!(in alloc; {"code": code, "kind": kind, "params": params, "slots": self.slots})
+    }
+}
+
+/// An instruction with these operands, each of them a slot or a place or the like.
+fn words(alloc: Global, name: &str, operands: &[u16]) -> Result<Value, AllocError>
+    ensures { IfOk result (λ v. view v ≡ named name.now (map word operands.now)) }
+{
+    let mut values = Vec::new(alloc);
+    values.push(Value::try_from_str(alloc, name)?)?;
+    for operand in operands {
+        values.push(Value::from(*operand))?;
+    }
+    Ok(Value::from(values))
+}
+
+/// An instruction that runs this unit, with the slots of these arguments.
+fn run(alloc: Global, name: &str, unit: u16, args: &[u16]) -> Result<Value, AllocError>
+    ensures value { IfOk result
+        (λ v. view v ≡ named name.now (word unit ∷ array_of (map word args.now) ∷ [])) }
+    ensures range { OnOk result (AllByRecursion IsWord args.now) }
+{
+    let args = array(alloc, args)?;
+    json!(in alloc; [name, unit, args])
+}
+
+/// The name of a comparison.
+fn comparison(op: Comparison) -> &'static str
+    ensures { result.now ≡ comparison_name op }
+{
+    match op {
+        Comparison::Eq => "eq",
+        Comparison::Ne => "ne",
+        Comparison::Lt => "lt",
+        Comparison::Le => "le",
+        Comparison::Gt => "gt",
+        Comparison::Ge => "ge",
+    }
+}
+
+/// The name of a kind of units.
+fn kind(kind: UnitKind) -> &'static str
+    ensures { string result.now ≡ kind_value kind }
+{
+    match kind {
+        UnitKind::Main => "main",
+        UnitKind::Method => "method",
+        UnitKind::Body => "body",
+    }
+}
+
+/// The letters of parameters, one after another.
+fn letters(alloc: Global, params: &[ParamKind]) -> Result<String, AllocError>
+    ensures { IfOk result (λ text. string_bytes text ≡ map letter params.now) }
+{
+    let mut text = String::new(alloc);
+    for param in params {
+        text.push_str(letter_of(*param))?;
+    }
+    Ok(text)
+}
+
+/// The letter of a parameter.
+fn letter_of(param: ParamKind) -> &'static str
+    ensures { result.now ≡ letter param ∷ [] }
+{
+    match param {
+        ParamKind::Number => "n",
+        ParamKind::Clock => "c",
+    }
+}
