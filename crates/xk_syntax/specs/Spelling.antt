@@ -1,0 +1,194 @@
+-- How statements, methods and programs are spelled, and which of them are within the limits.
+use Rattle.std.specs.Prelude.{◌≡◌, ◌≢◌, ℕ, zero, suc, ◌≤◌, Bool, true, false, List, [], ◌∷◌, ◌++◌, length, map, Option, Some, None, codes}
+use Rattle.std.specs.List.{AllByRecursion}
+use Rattle.xk_types.specs.declared.instr.Comparison.{Comparison}
+use Rattle.xk_types.specs.declared.instr.Comparison.TheVariants as comparison
+use Rattle.xk_types.specs.declared.unit.ParamKind.TheVariants as kind
+use Rattle.xk_tokens.specs.declared.token.Sign.{Sign}
+use Rattle.xk_tokens.specs.declared.token.Sign.TheVariants as sign
+use Rattle.xk_tokens.specs.declared.token.Keyword.{Keyword}
+use Rattle.xk_tokens.specs.declared.token.Keyword.TheVariants as keyword
+use Rattle.xk_tokens.specs.Tokens.{Lexeme, TokenValue}
+use Rattle.xk_tokens.specs.Tokens as lexeme
+use Rattle.xk_tokens.specs.Pieces.{SpellsTokens}
+use Rattle.xk_tree.specs.declared.tree.Operator.TheVariants as operator
+use Rattle.xk_tree.specs.declared.tree.Binding.{Binding}
+use Rattle.xk_tree.specs.declared.tree.Binding.TheVariants as binding
+use Rattle.xk_tree.specs.declared.tree.TypeName.{TypeName}
+use Rattle.xk_tree.specs.declared.tree.Number as tree
+use Rattle.xk_tree.specs.declared.tree.Verb.{Verb}
+use Rattle.xk_tree.specs.Tree.{Word, Expression, Source, Make, Value, Clocks, Statement, Statements, Done, More, Block, Empty, Declare, Assign, Atomic, If, IfElse, For, Async, Finish, Call, Resume, Drop, AdvanceAll, Print, ParamValue, MethodValue, SharedValue, TreeValue}
+use Rattle.xk_exprs.specs.Marks.{Mark, Name, Number, Operator, Open, Symbol, Reserved, AsyncAt, ClockAt, LongAt, Unfit, sign_mark, keyword_mark}
+use Rattle.xk_exprs.specs.Spelling.{spell, number_marks, IsNumber, Spells, SpellsTerm}
+
+-- ---- Spelling. A function gives the tokens of a thing, and then those that come after it.
+
+abbrev pub word : Word → List Mark → List Mark
+word w after = Name w.at w.text ∷ after
+
+abbrev pub number : tree.Number → List Mark → List Mark
+number n after = number_marks n ++ after
+
+abbrev pub expr : Expression → List Mark → List Mark
+expr e after = spell e ++ after
+
+abbrev pub comparison_sign : Comparison → Sign
+comparison_sign comparison.Eq = sign.Equal
+comparison_sign comparison.Ne = sign.NotEqual
+comparison_sign comparison.Lt = sign.Less
+comparison_sign comparison.Le = sign.LessEqual
+comparison_sign comparison.Gt = sign.Greater
+comparison_sign comparison.Ge = sign.GreaterEqual
+
+abbrev pub binding_word : Binding → Keyword
+binding_word binding.Val = keyword.Val
+binding_word binding.Var = keyword.Var
+
+abbrev pub type_name : TypeName → List Mark → List Mark
+type_name ty after = elim ty.kind [ kind.Clock ↦ ClockAt ty.at ∷ after | kind.Number ↦ LongAt ty.at ∷ after ]
+
+-- `: T`, if there is one
+abbrev pub type_part : Option TypeName → List Mark → List Mark
+type_part None after = after
+type_part (Some ty) after = Symbol sign.Colon ∷ type_name ty after
+
+-- such a word and the `(` behind it
+abbrev pub verb : List ℕ → Verb → List Mark → List Mark
+verb text v after = Name v.at text ∷ Open v.paren ∷ after
+
+abbrev pub source : Source → List Mark → List Mark
+source (Make at v) after = ClockAt at ∷ Symbol sign.Dot ∷ verb (codes "make") v (Symbol sign.RightParen ∷ after)
+source (Value e) after = expr e after
+
+-- each behind a comma
+abbrev pub behind_commas : {T : Type 0} → (T → List Mark → List Mark) → List T → List Mark → List Mark
+behind_commas f [] after = after
+behind_commas f (x ∷ xs) after = Symbol sign.Comma ∷ f x (behind_commas f xs after)
+
+-- with commas between them
+abbrev pub commas : {T : Type 0} → (T → List Mark → List Mark) → List T → List Mark → List Mark
+commas f [] after = after
+commas f (x ∷ xs) after = f x (behind_commas f xs after)
+
+abbrev pub clock_part : Option Clocks → List Mark → List Mark
+clock_part None after = after
+clock_part (Some cs) after = Reserved keyword.Clocked ∷ Open cs.paren ∷ commas word cs.names (Symbol sign.RightParen ∷ after)
+
+abbrev mutual
+  pub stmt : Statement → List Mark → List Mark
+  stmt (Block ss) after = Symbol sign.LeftBrace ∷ stmts ss (Symbol sign.RightBrace ∷ after)
+  stmt Empty after = Symbol sign.Semicolon ∷ after
+  stmt (Declare b w ty r) after = Reserved (binding_word b) ∷ word w (type_part ty (Symbol sign.Assign ∷ source r (Symbol sign.Semicolon ∷ after)))
+  stmt (Assign w e) after = word w (Symbol sign.Assign ∷ expr e (Symbol sign.Semicolon ∷ after))
+  stmt (Atomic w v at e) after = Reserved keyword.Atomic ∷ word w (Symbol sign.Assign ∷ word v (Operator at operator.Plus ∷ expr e (Symbol sign.Semicolon ∷ after)))
+  stmt (If at l c r s) after = Reserved keyword.If ∷ Open at ∷ expr l (Symbol (comparison_sign c) ∷ expr r (Symbol sign.RightParen ∷ stmt s after))
+  stmt (IfElse at l c r s t) after = Reserved keyword.If ∷ Open at ∷ expr l (Symbol (comparison_sign c) ∷ expr r (Symbol sign.RightParen ∷ stmt s (Reserved keyword.Else ∷ stmt t after)))
+  stmt (For at w lo hi s) after = Reserved keyword.For ∷ Open at ∷ word w (Reserved keyword.In ∷ number lo (Symbol sign.DotDot ∷ number hi (Symbol sign.RightParen ∷ stmt s after)))
+  stmt (Async at cs s) after = AsyncAt at ∷ clock_part cs (stmt s after)
+  stmt (Finish s) after = Reserved keyword.Finish ∷ stmt s after
+  stmt (Call w at es) after = word w (Open at ∷ commas expr es (Symbol sign.RightParen ∷ Symbol sign.Semicolon ∷ after))
+  stmt (Resume w v) after = word w (Symbol sign.Dot ∷ verb (codes "resume") v (Symbol sign.RightParen ∷ Symbol sign.Semicolon ∷ after))
+  stmt (Drop w v) after = word w (Symbol sign.Dot ∷ verb (codes "drop") v (Symbol sign.RightParen ∷ Symbol sign.Semicolon ∷ after))
+  stmt (AdvanceAll at v) after = ClockAt at ∷ Symbol sign.Dot ∷ verb (codes "advanceAll") v (Symbol sign.RightParen ∷ Symbol sign.Semicolon ∷ after)
+  stmt (Print at v e) after = Reserved keyword.Console ∷ Symbol sign.Dot ∷ Name at (codes "OUT") ∷ Symbol sign.Dot ∷ verb (codes "println") v (expr e (Symbol sign.RightParen ∷ Symbol sign.Semicolon ∷ after))
+
+  pub stmts : Statements → List Mark → List Mark
+  stmts Done after = after
+  stmts (More s ss) after = stmt s (stmts ss after)
+
+abbrev pub param : ParamValue → List Mark → List Mark
+param p after = word p.name (Symbol sign.Colon ∷ type_name p.takes after)
+
+abbrev pub method : MethodValue → List Mark → List Mark
+method m after = Reserved keyword.Def ∷ word m.name (Open m.paren ∷ commas param m.params (Symbol sign.RightParen ∷ Symbol sign.LeftBrace ∷ stmts m.body (Symbol sign.RightBrace ∷ after)))
+
+abbrev pub shared : SharedValue → List Mark → List Mark
+shared s after = Reserved keyword.Shared ∷ word s.name (Symbol sign.Assign ∷ number s.start (Symbol sign.Semicolon ∷ after))
+
+-- one after another
+abbrev pub row : {T : Type 0} → (T → List Mark → List Mark) → List T → List Mark → List Mark
+row f [] after = after
+row f (x ∷ xs) after = f x (row f xs after)
+
+-- the tokens of a program
+abbrev pub program : TreeValue → List Mark
+program t = row shared t.shared (row method t.methods [])
+
+-- ---- Limits
+
+-- an expression, and a term, within the limits where so many levels are left
+abbrev pub IsExpr : ℕ → Expression → Type 0
+IsExpr d e = Spells d (spell e) e
+
+abbrev pub IsTerm : ℕ → Expression → Type 0
+IsTerm d e = SpellsTerm d (spell e) e
+
+-- it ends in an `if` that has no `else`
+abbrev pub dangles : Statement → Bool
+dangles (If at l c r s) = true
+dangles (IfElse at l c r s t) = dangles t
+dangles (For at w lo hi s) = dangles s
+dangles (Async at cs s) = dangles s
+dangles (Finish s) = dangles s
+dangles _ = false
+
+abbrev pub SourceFits : ℕ → Source → Type 0
+SourceFits d (Make at v) = Unit {0}
+SourceFits d (Value e) = IsExpr d e
+
+abbrev pub ClocksFit : Option Clocks → Type 0
+ClocksFit None = Unit {0}
+ClocksFit (Some cs) = cs.names ≢ []
+
+abbrev mutual
+  -- A statement fits where so many statements, parentheses and negations may still be in one another: its expressions and numbers are
+  -- within their limits, a list of clocks isn't empty, what is added by an `atomic` is a term, and an `else` belongs to the nearest `if`.
+  pub Fits : ℕ → Statement → Type 0
+  Fits zero s = ⊥
+  Fits (suc d) (Block ss) = AllFit d ss
+  Fits (suc d) Empty = Unit {0}
+  Fits (suc d) (Declare b w ty r) = SourceFits d r
+  Fits (suc d) (Assign w e) = IsExpr d e
+  Fits (suc d) (Atomic w v at e) = IsTerm d e
+  Fits (suc d) (If at l c r s) = IsExpr d l × IsExpr d r × Fits d s
+  Fits (suc d) (IfElse at l c r s t) = IsExpr d l × IsExpr d r × Fits d s × Fits d t × (dangles s ≡ false)
+  Fits (suc d) (For at w lo hi s) = IsNumber lo × IsNumber hi × Fits d s
+  Fits (suc d) (Async at cs s) = ClocksFit cs × Fits d s
+  Fits (suc d) (Finish s) = Fits d s
+  Fits (suc d) (Call w at es) = AllByRecursion (IsExpr d) es
+  Fits (suc d) (Resume w v) = Unit {0}
+  Fits (suc d) (Drop w v) = Unit {0}
+  Fits (suc d) (AdvanceAll at v) = Unit {0}
+  Fits (suc d) (Print at v e) = IsExpr d e
+
+  pub AllFit : ℕ → Statements → Type 0
+  AllFit d Done = Unit {0}
+  AllFit d (More s ss) = Fits d s × AllFit d ss
+
+-- a method's own block isn't counted
+abbrev pub MethodFits : MethodValue → Type 0
+MethodFits m = AllFit 64 m.body
+
+abbrev pub SharedFits : SharedValue → Type 0
+SharedFits s = IsNumber s.start
+
+-- ---- Texts
+
+abbrev pub lexeme_mark : ℕ → Lexeme → Mark
+lexeme_mark at (lexeme.Name text) = Name at text
+lexeme_mark at (lexeme.Reserved k) = keyword_mark at k
+lexeme_mark at (lexeme.Number n) = Number at n
+lexeme_mark at (lexeme.Symbol s) = sign_mark at s
+lexeme_mark at lexeme.BadNumber = Unfit
+lexeme_mark at lexeme.Stray = Unfit
+
+-- a token as a tree keeps it
+abbrev pub token_mark : TokenValue → Mark
+token_mark t = lexeme_mark t.at t.what
+
+-- the text spells this tree
+pub record SpellsTree (text : List ℕ) (t : TreeValue) : Type 0 where
+  pub short : length text ≤ 1048576
+  pub spelled : (tokens : List TokenValue) × SpellsTokens text tokens × (map token_mark tokens ≡ program t)
+  pub shared_fit : AllByRecursion SharedFits t.shared
+  pub methods_fit : AllByRecursion MethodFits t.methods

@@ -1,0 +1,6 @@
+//! Source texts to trees.
+#![tactic(auto)]
+
+mod lists;
+mod parts;
+mod simple;
