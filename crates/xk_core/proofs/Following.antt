@@ -11,13 +11,9 @@ use Rattle.xk_types.specs.Step.{Stepped, step}
 use Rattle.xk_types.specs.Schedule.{Through, run, events, is_local, seen, number_printed, printed}
 use Rattle.xk_laws.proofs.Reached.{first_step}
 use Rattle.xk_core.proofs.Runs.{same_world, events_more}
-use Rattle.xk_core.specs.Choosing.{enabled_in, Follows, goes_on, state_after, state_on}
+use Rattle.xk_core.specs.Choosing.{enabled_in, Names, Follows, goes_on, state_after, state_on}
 
 -- ---- choosers
-
--- the chooser, in state s, names activity a in the world
-abbrev pub Names : {S : Type 0} → (S → List ℕ → ℕ) → ModuleValue → S → World → ℕ → Type 0
-Names answer m s w a = slice_get (enabled_in m w) (answer s (enabled_in m w) % length (enabled_in m w)) ≡ Some a
 
 -- a list that follows a chooser still does with the step that the chooser names next
 pub follows_more : {S : Type 0} (answer : S → List ℕ → ℕ) (after : S → List ℕ → S) (m : ModuleValue) (list : List ℕ) (s : S) (w v x : World) (a : ℕ) (e : Event)

@@ -1,5 +1,5 @@
 -- A run and its log, turn by turn.
-use Rattle.std.proofs.Common.{◌≡◌, ◌∙◌, ℕ, ℤ, ◌+◌, ◌-◌, ◌<◌, ◌≤◌, ◌%◌, Bool, true, false, List, [], ◌∷◌, ◌++◌, length, replicate, Some, refl, sym, ap, subst, ◌⊎◌, inl, inr, arith, slice_get}
+use Rattle.std.proofs.Common.{Vec, ◌≡◌, ◌∙◌, ℕ, ℤ, ◌+◌, ◌-◌, ◌<◌, ◌≤◌, ◌%◌, Bool, true, false, List, [], ◌∷◌, ◌++◌, length, replicate, Some, refl, sym, ap, subst, ◌⊎◌, inl, inr, arith, slice_get}
 use Rattle.std.specs.Option.{option_to_list}
 use Rattle.std.proofs.lemmas.List.Concat.{flat_map-append}
 use Rattle.std.proofs.lemmas.List.Elements.{All-nil, All-push}
@@ -10,26 +10,26 @@ use Rattle.xk_types.specs.World.{World, opening}
 use Rattle.xk_types.specs.Step.{Stepped, step}
 use Rattle.xk_types.specs.Schedule.{Through, run, printed, number_printed}
 use Rattle.xk_types.specs.Bound.{steps_bound}
-use Rattle.xk_types.specs.Logs.{schedule_of}
+use Rattle.xk_types.specs.Logs.{schedule_of, one_step_of}
 use Rattle.xk_laws.proofs.Counts.{step_counts}
 use Rattle.xk_laws.proofs.Reached.{run_more}
 use Rattle.xk_core.specs.Core.{CoreValue}
 use Rattle.xk_core.specs.Choosing.{enabled_in, Follows, state_after}
-use Rattle.xk_core.specs.Driving.{IsTurn, IsPutOff, IsRunOf, IsNoted, IsChosen, IsChosenSoFar, entry_of}
+use Rattle.xk_core.specs.Driving.{IsTurn, IsPutOff, IsShort, IsRunOf, IsNoted, IsChosen, IsChosenSoFar, state_so_far}
 use Rattle.xk_core.proofs.Following.{follows_more, state_more, printed_more}
 
 -- one entry more is one step more
-schedule_more : (log : List Entry) (a : ℕ) → schedule_of (log ++ entry_of a ∷ []) ≡ schedule_of log ++ a ∷ []
-schedule_more log a = flat_map-append (λ (e : Entry). replicate e.steps e.act) log (entry_of a ∷ [])
+schedule_more : (log : List Entry) (a : ℕ) → schedule_of (log ++ one_step_of a ∷ []) ≡ schedule_of log ++ a ∷ []
+schedule_more log a = flat_map-append (λ (e : Entry). replicate e.steps e.act) log (one_step_of a ∷ [])
 
 pub run_starts : (m : ModuleValue) (c : CoreValue) → c.module_run ≡ m → c.world ≡ opening c.module_run → IsRunOf m [] [] c
 run_starts m c is start = record { module_is = is; leads = ap (λ w. Through w) (sym (start ∙ ap opening is)); prints = refl }
 
 -- the log goes on by a turn
 pub run_goes_on : {S : Type 0} (answer : S → List ℕ → ℕ) (after : S → List ℕ → S) (m k : ModuleValue) (log : List Entry) (numbers : List ℤ) (c d : CoreValue) (s t : S) (a : ℕ) (e : Event)
-    → IsRunOf m log numbers c → IsTurn answer after c s a e d t → k ≡ m → IsRunOf k (log ++ entry_of a ∷ []) (numbers ++ option_to_list (number_printed e)) d
+    → IsRunOf m log numbers c → IsTurn answer after c s a e d t → k ≡ m → IsRunOf k (log ++ one_step_of a ∷ []) (numbers ++ option_to_list (number_printed e)) d
 run_goes_on answer after m k log numbers c d s t a e r turn is =
-    subst (λ j. IsRunOf j (log ++ entry_of a ∷ []) (numbers ++ option_to_list (number_printed e)) d) (sym is) (record {
+    subst (λ j. IsRunOf j (log ++ one_step_of a ∷ []) (numbers ++ option_to_list (number_printed e)) d) (sym is) (record {
       module_is = turn.same_module ∙ r.module_is;
       leads = ap (λ l. run m l (opening m)) (schedule_more log a) ∙ run_more m (schedule_of log) (opening m) c.world d.world a e r.leads stepped;
       prints = ap (λ l. l ++ option_to_list (number_printed e)) r.prints
@@ -41,13 +41,13 @@ run_goes_on answer after m k log numbers c d s t a e r turn is =
 
 -- and so does what the chooser chose
 pub chosen_goes_on : {S : Type 0} (answer : S → List ℕ → ℕ) (after : S → List ℕ → S) (m : ModuleValue) (log : List Entry) (numbers : List ℤ) (c d : CoreValue) (first s t : S) (a : ℕ) (e : Event)
-    → IsRunOf m log numbers c → IsChosen answer after m first log s → IsTurn answer after c s a e d t → IsChosen answer after m first (log ++ entry_of a ∷ []) t
+    → IsRunOf m log numbers c → IsChosen answer after m first log s → IsTurn answer after c s a e d t → IsChosen answer after m first (log ++ one_step_of a ∷ []) t
 chosen_goes_on answer after m log numbers c d first s t a e r chosen turn = record {
   follows = subst (λ l. Follows answer after m first (opening m) l) (sym (schedule_more log a))
       (follows_more answer after m (schedule_of log) first (opening m) c.world d.world a e r.leads chosen.follows named stepped);
   left = turn.goes_on ∙ ap (λ j. after s (enabled_in j c.world)) r.module_is ∙ ap (λ z. after z (enabled_in m c.world)) chosen.left
       ∙ sym (ap (state_after after m first (opening m)) (schedule_more log a) ∙ state_more after m (schedule_of log) first (opening m) c.world d.world a e r.leads stepped);
-  single = All-push (λ (x : Entry). x.steps ≡ 1) log (entry_of a) chosen.single refl;
+  single = All-push (λ (x : Entry). x.steps ≡ 1) log (one_step_of a) chosen.single refl;
 }
   where
     stepped : step m c.world a ≡ Stepped d.world e
@@ -68,7 +68,7 @@ record IsStepNoted {S : Type 0} (answer : S → List ℕ → ℕ) (after : S →
   act : ℕ
   event : Event
   turn : IsTurn answer after c s act event d t
-  log_is : more ≡ log ++ entry_of act ∷ []
+  log_is : more ≡ log ++ one_step_of act ∷ []
 
 noted_step : {S : Type 0} (answer : S → List ℕ → ℕ) (after : S → List ℕ → S) (c d : CoreValue) (s t : S) (log more : List Entry) (b : Bool) → b ≡ true → IsNoted answer after c s log d t more b
     → IsStepNoted answer after c s log d t more
@@ -123,3 +123,12 @@ chosen_so_far answer after m first s t log c d w g off is = record {
         → (t ≡ state_after after m first (opening m) (schedule_of log)) ⊎ (t ≡ after (state_after after m first (opening m) (schedule_of log)) (enabled_in m w))
     of (inl e) = inl (e ∙ g.chosen.left)
     of (inr e) = inr (e ∙ ap (λ k. after s (enabled_in k c.world)) g.same_module ∙ ap (λ z. after s (enabled_in m z)) now ∙ ap (λ z. after z (enabled_in m w)) g.chosen.left)
+
+-- what a run that was cut short was short of, the chooser being where the log leaves it
+pub short_so_far : {S X Z : Type 0} (answer : S → List ℕ → ℕ) (after : S → List ℕ → S) (m : ModuleValue) (first s t : S) (log : Vec Entry Z) (numbers : Vec X Z) (kept : List Entry) (c d : CoreValue)
+    → IsGoing answer after m first kept c s → IsPutOff after c s d t → log.items ≡ kept → IsShort answer log numbers c s → IsShort answer log numbers d (state_so_far after first log.items d)
+short_so_far answer after m first s t log numbers kept c d g off same short =
+    subst (λ v. IsShort answer log numbers v (state_so_far after first log.items v)) (sym off.same) (subst (IsShort answer log numbers c) left short)
+  where
+    left : s ≡ state_so_far after first log.items c
+    left = g.chosen.left ∙ ap (λ k. state_after after k first (opening k) (schedule_of kept)) (sym g.same_module) ∙ ap (λ l. state_so_far after first l c) (sym same)

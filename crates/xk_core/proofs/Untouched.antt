@@ -2,6 +2,7 @@
 -- where it ends its activity, the owner of the finish that governs that one.
 use Rattle.std.proofs.Common.{◌≡◌, ℕ, zero, suc, ◌+◌, ◌<◌, ◌&&◌, ◌||◌, ◌==◌, not, Bool, true, false, true≢false, cond, List, [], ◌∷◌, ◌++◌, map, length, Option, Some, None, refl, sym, ap, ap₂, ◌∙◌, subst, arith, slice_get, slice_set, option_and_then, length-set}
 use Rattle.std.specs.List.{list_all, list_any}
+use Rattle.std.specs.Option.{option_map_or}
 use Rattle.std.proofs.lemmas.Bool.{and_parts, eq-eqb}
 use Rattle.std.proofs.lemmas.List.{length_push}
 use Rattle.std.proofs.lemmas.Option.{none-some, same_Some, slice_get_within}
@@ -25,9 +26,10 @@ use Rattle.xk_laws.proofs.Scopes.Under.{AreOwned}
 use Rattle.xk_laws.proofs.Clocks.Advance.{settled_cases}
 use Rattle.xk_laws.proofs.Clocks.Standings.{stand_other, new_other, stand_joined_old}
 use Rattle.xk_core.specs.Able.{able_by, able_of, kept_by}
-use Rattle.xk_core.specs.Core.{IsCore, is_quiet, governor, instruction_of}
+use Rattle.xk_core.specs.Arm.{starts}
+use Rattle.xk_core.specs.Core.{IsCore, is_quiet, governor, instruction_by, instruction_of, next_instruction, is_about_to_start}
 use Rattle.xk_core.proofs.Cores.{core_able, core_stepped}
-use Rattle.xk_core.proofs.UntouchedForms.{GoesOn, is_start, step_kind}
+use Rattle.xk_core.proofs.UntouchedForms.{GoesOn, IsAt, is_start, step_kind}
 use Rattle.xk_core.proofs.UntouchedOwners.{core_owned, core_open}
 use Rattle.xk_core.proofs.UntouchedAwaits.{owned_set, awaits_on, awaits_end, awaits_push}
 
@@ -150,7 +152,7 @@ module _ (m : ModuleValue) (w : World) (a b : ℕ) (core : IsCore m w) (inside :
         (ap (waits_on b) (settled_quiet (w.steps + 1) (w.clocks ++ new_clock (length w.activities) a ∷ []) quiet) ∙ waits_made (length w.activities) a b w.clocks differs)
         (λ x there. on_awaits act next found alive on x);
     stored = λ s n e on start later quiet another. leaves_moved act (onward act) none _ refl refl refl later quiet (on_awaits act (onward act) found alive on);
-    spawned = λ t values on later quiet another. same_enabled m w _ b core later
+    spawned = λ t args values at on later quiet another. same_enabled m w _ b core later
         (get-push_other (slice_set w.activities a (onward act)) (child m a act t values) b (λ e. absurd (omega (arith, inside, length-set w.activities a (onward act)))) ∙ get-set_other w.activities a b (onward act) differs)
         (ap (waits_on b) (settled_quiet (w.steps + 1) (joined a (is_given values) w.clocks) quiet) ∙ waits_joined a b (is_given values) w.clocks wide)
         (λ x there. start_awaits act t values _ found alive refl later x);
@@ -210,7 +212,7 @@ step_takes m w a = step_kind (Takes w a) m w a tt (λ act found alive. record {
   done = λ next change e on start. taken_set w _ a act next e found refl on.governed start;
   made = λ next on. taken_set w _ a act next event.Made found refl on.governed refl;
   stored = λ s n e on start. taken_set w _ a act (onward act) e found refl refl start;
-  spawned = λ t values on. taken_push w _ a act (onward act) (child m a act t values) found refl refl;
+  spawned = λ t args values at on. taken_push w _ a act (onward act) (child m a act t values) found refl refl;
 })
 
 taken : (m : ModuleValue) (w v : World) (a : ℕ) (e : Event) → step m w a ≡ Stepped v e → IsTaken w v a e
@@ -222,11 +224,37 @@ grows_by_start m w v a h = (taken m w v a event.Spawned h).width
 
 -- and nothing else does
 pub keeps_width : (m : ModuleValue) (w v : World) (a : ℕ) (e : Event) → step m w a ≡ Stepped v e → (e ≡ event.Spawned → ⊥) → length v.activities ≡ length w.activities
-keeps_width m w v a e h other = (let nobody : started e ≡ 0 = ap (λ s. cond s 1 0) (starts e other) in omega (arith, nobody, (taken m w v a e h).width))
+keeps_width m w v a e h other = (let nobody : started e ≡ 0 = ap (λ s. cond s 1 0) (no_start e other) in omega (arith, nobody, (taken m w v a e h).width))
   where
-    starts : (x : Event) → (x ≡ event.Spawned → ⊥) → is_start x ≡ false
-    starts event.Spawned g = absurd (g refl)
-    starts _ g = refl
+    no_start : (x : Event) → (x ≡ event.Spawned → ⊥) → is_start x ≡ false
+    no_start event.Spawned g = absurd (g refl)
+    no_start _ g = refl
+
+-- only who is about to start an activity starts one
+abbrev Starts : ModuleValue → World → ℕ → Outcome → Type 0
+Starts m w a Blocked = Unit {0}
+Starts m w a (Wrong c) = Unit {0}
+Starts m w a (Stepped v e) = is_start e ≡ true → is_about_to_start m w a ≡ true
+
+step_starts : (m : ModuleValue) (w : World) (a : ℕ) → Starts m w a (step m w a)
+step_starts m w a = step_kind (Starts m w a) m w a tt (λ act found alive. record {
+  blocked = tt;
+  wrong = λ c. tt;
+  closed = λ n opened nobody h. absurd (true≢false (sym h));
+  over = λ here alone h. absurd (true≢false (sym h));
+  done = λ next change e on start h. absurd (true≢false (sym h ∙ start));
+  made = λ next on h. absurd (true≢false (sym h));
+  stored = λ s n e on start h. absurd (true≢false (sym h ∙ start));
+  spawned = λ t args values at on h. ap (λ o. option_map_or starts o false) (runs_next m w a act (instr.Spawn t args) found at);
+})
+  where
+    runs_next : (m : ModuleValue) (w : World) (a : ℕ) (act : Activity) (i : Instr) → slice_get w.activities a ≡ Some act → IsAt m act i → next_instruction m w a ≡ Some i
+    runs_next m w a act i found at = ap (instruction_of m) found ∙ ap (instruction_by m act) at.runs ∙ at.here
+
+-- where nobody is about to be started, there are as many as before
+pub width_kept : (m : ModuleValue) (w v : World) (a : ℕ) (e : Event) → step m w a ≡ Stepped v e → is_about_to_start m w a ≡ false
+    → length v.activities ≡ length w.activities
+width_kept m w v a e h still = keeps_width m w v a e h (λ is. true≢false (sym (subst (Starts m w a) h (step_starts m w a) (ap is_start is)) ∙ still))
 
 -- who takes a step is there
 pub steps_within : (m : ModuleValue) (w v : World) (a : ℕ) (e : Event) → step m w a ≡ Stepped v e → a < length w.activities

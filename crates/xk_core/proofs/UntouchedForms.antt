@@ -49,6 +49,11 @@ either_on : (act x y : Activity) (b : Bool) → GoesOn act x → GoesOn act y �
 either_on act x y true p q = p
 either_on act x y false p q = q
 
+-- the activity runs, and this is its next instruction
+pub record IsAt (m : ModuleValue) (act : Activity) (i : Instr) : Type 0 where
+  pub runs : act.status ≡ status.Running
+  pub here : instruction_at m act.frame ≡ Some i
+
 -- What holds of each outcome that a step can have: it is blocked or wrong; it closes a finish that awaits nobody; it ends activity a; it
 -- changes that one otherwise, and where it stands; it makes a clock; it writes a shared number; it starts an activity.
 pub record HoldsOfKinds (P : Outcome → Type 0) (m : ModuleValue) (w : World) (a : ℕ) (act : Activity) : Type 0 where
@@ -59,7 +64,7 @@ pub record HoldsOfKinds (P : Outcome → Type 0) (m : ModuleValue) (w : World) (
   pub done : (next : Activity) (change : ℕ → Standing → Standing) (e : Event) → GoesOn act next → is_start e ≡ false → P (done w a next change e)
   pub made : (next : Activity) → GoesOn act next → P (made w a next)
   pub stored : (s : ℕ) (n : ℤ) (e : Event) → GoesOn act (onward act) → is_start e ≡ false → P (stored w a act s n e)
-  pub spawned : (t : ℕ) (values : List Value) → GoesOn act (onward act) → P (spawned m w a act t values)
+  pub spawned : (t : ℕ) (args : List ℕ) (values : List Value) → IsAt m act (instr.Spawn t args) → GoesOn act (onward act) → P (spawned m w a act t values)
 
 module _ (P : Outcome → Type 0) (m : ModuleValue) (w : World) (a : ℕ) (act : Activity) (alive : is_ended act.status ≡ false) (f : HoldsOfKinds P m w a act) where
   -- the present frame changes
@@ -110,12 +115,12 @@ module _ (P : Outcome → Type 0) (m : ModuleValue) (w : World) (a : ℕ) (act :
       clock_kind (slot_at act x) _ (λ k. arguments_kind ps xs (λ values. go (value.Clock k ∷ values)) (λ values. h (value.Clock k ∷ values)))
 
   -- where a unit is started
-  spawning_kind : (t : ℕ) (args : List ℕ) (o : Option UnitValue) → P (spawning m w a act t args o)
-  spawning_kind t args None = f.wrong _
-  spawning_kind t args (Some u) = cases (is_body u.kind)
+  spawning_kind : (t : ℕ) (args : List ℕ) → IsAt m act (instr.Spawn t args) → (o : Option UnitValue) → P (spawning m w a act t args o)
+  spawning_kind t args at None = f.wrong _
+  spawning_kind t args at (Some u) = cases (is_body u.kind)
     where
       cases : (b : Bool) → P (cond b (arguments_in w a act u.params args (spawned m w a act t)) (Wrong OutOfRange))
-      cases true = arguments_kind u.params args (spawned m w a act t) (λ values. f.spawned t values (moves_on act _ act.callers alive))
+      cases true = arguments_kind u.params args (spawned m w a act t) (λ values. f.spawned t args values at (moves_on act _ act.callers alive))
       cases false = f.wrong _
 
   -- where a method is called
@@ -155,37 +160,37 @@ module _ (P : Outcome → Type 0) (m : ModuleValue) (w : World) (a : ℕ) (act :
       cases false h = f.closed n e h
 
   -- each instruction
-  instruction_kind : (i : Instr) → instruction_at m act.frame ≡ Some i → P (carried_out m w a act i)
-  instruction_kind (instr.Lit d n) here = put_kind (slot_at act d) d _ _ (λ x on. f.done x none event.Local on refl)
-  instruction_kind (instr.Copy d x) here = number_kind (slot_at act x) _ (λ p. put_kind (slot_at act d) d _ _ (λ z on. f.done z none event.Local on refl))
-  instruction_kind (instr.Add d x y) here = computing_kind (int_wrapping_add w64) d x y
-  instruction_kind (instr.Sub d x y) here = computing_kind (int_wrapping_sub w64) d x y
-  instruction_kind (instr.Mul d x y) here = computing_kind (int_wrapping_mul w64) d x y
-  instruction_kind (instr.Unless op x y t) here =
+  instruction_kind : (i : Instr) → act.status ≡ status.Running → instruction_at m act.frame ≡ Some i → P (carried_out m w a act i)
+  instruction_kind (instr.Lit d n) runs here = put_kind (slot_at act d) d _ _ (λ x on. f.done x none event.Local on refl)
+  instruction_kind (instr.Copy d x) runs here = number_kind (slot_at act x) _ (λ p. put_kind (slot_at act d) d _ _ (λ z on. f.done z none event.Local on refl))
+  instruction_kind (instr.Add d x y) runs here = computing_kind (int_wrapping_add w64) d x y
+  instruction_kind (instr.Sub d x y) runs here = computing_kind (int_wrapping_sub w64) d x y
+  instruction_kind (instr.Mul d x y) runs here = computing_kind (int_wrapping_mul w64) d x y
+  instruction_kind (instr.Unless op x y t) runs here =
       number_kind (slot_at act x) _ (λ p. number_kind (slot_at act y) _ (λ q. f.done (cond (compares op p q) (onward act) (going act t)) none event.Local
       (either_on act (onward act) (going act t) (compares op p q) (moves_on act _ act.callers alive) (moves_on act _ act.callers alive)) refl))
-  instruction_kind (instr.Jump t) here = frame_kind _ act.callers none event.Local refl
-  instruction_kind (instr.For k lo hi e) here = put_kind (slot_at act k) k _ _ (λ x on. f.done x none event.Local on refl)
-  instruction_kind (instr.Next b) here = turning_kind b (instruction_at m (record act.frame { place = b }))
-  instruction_kind (instr.Get d s) here = cell_kind (slice_get w.cells s) _ (λ n. put_kind (slot_at act d) d _ _ (λ x on. f.done x none event.Got on refl))
-  instruction_kind (instr.Put s x) here =
+  instruction_kind (instr.Jump t) runs here = frame_kind _ act.callers none event.Local refl
+  instruction_kind (instr.For k lo hi e) runs here = put_kind (slot_at act k) k _ _ (λ x on. f.done x none event.Local on refl)
+  instruction_kind (instr.Next b) runs here = turning_kind b (instruction_at m (record act.frame { place = b }))
+  instruction_kind (instr.Get d s) runs here = cell_kind (slice_get w.cells s) _ (λ n. put_kind (slot_at act d) d _ _ (λ x on. f.done x none event.Got on refl))
+  instruction_kind (instr.Put s x) runs here =
       number_kind (slot_at act x) _ (λ n. cell_kind (slice_get w.cells s) _ (λ old. f.stored s _ event.Put (moves_on act _ act.callers alive) refl))
-  instruction_kind (instr.AddTo s x) here =
+  instruction_kind (instr.AddTo s x) runs here =
       number_kind (slot_at act x) _ (λ n. cell_kind (slice_get w.cells s) _ (λ old. f.stored s _ event.Added (moves_on act _ act.callers alive) refl))
-  instruction_kind (instr.Finish e) here = f.done _ none event.Opened (record { governed = refl; alive = alive; opened = omega arith }) refl
-  instruction_kind (instr.EndFinish b) here = closing_kind act.opened refl
-  instruction_kind (instr.Print x) here = number_kind (slot_at act x) _ (λ n. frame_kind _ act.callers none (event.Printed n) refl)
-  instruction_kind (instr.Make k) here = put_kind (slot_at act k) k _ _ (λ x on. f.made x on)
-  instruction_kind (instr.Resume k) here = clock_kind (slot_at act k) _ (λ c. frame_kind _ act.callers _ event.Resumed refl)
-  instruction_kind (instr.Drop k) here = clock_kind (slot_at act k) _ (λ c. frame_kind _ act.callers _ event.Dropped refl)
-  instruction_kind instr.Advance here = f.done _ _ event.Arrived (record { governed = refl; alive = refl; opened = omega arith }) refl
-  instruction_kind (instr.Spawn t args) here = spawning_kind t args (slice_get m.units t)
-  instruction_kind (instr.Call t args) here = calling_kind t args (slice_get m.units t)
-  instruction_kind instr.Ret here = returning_kind here act.callers refl
+  instruction_kind (instr.Finish e) runs here = f.done _ none event.Opened (record { governed = refl; alive = alive; opened = omega arith }) refl
+  instruction_kind (instr.EndFinish b) runs here = closing_kind act.opened refl
+  instruction_kind (instr.Print x) runs here = number_kind (slot_at act x) _ (λ n. frame_kind _ act.callers none (event.Printed n) refl)
+  instruction_kind (instr.Make k) runs here = put_kind (slot_at act k) k _ _ (λ x on. f.made x on)
+  instruction_kind (instr.Resume k) runs here = clock_kind (slot_at act k) _ (λ c. frame_kind _ act.callers _ event.Resumed refl)
+  instruction_kind (instr.Drop k) runs here = clock_kind (slot_at act k) _ (λ c. frame_kind _ act.callers _ event.Dropped refl)
+  instruction_kind instr.Advance runs here = f.done _ _ event.Arrived (record { governed = refl; alive = refl; opened = omega arith }) refl
+  instruction_kind (instr.Spawn t args) runs here = spawning_kind t args (record { runs = runs; here = here }) (slice_get m.units t)
+  instruction_kind (instr.Call t args) runs here = calling_kind t args (slice_get m.units t)
+  instruction_kind instr.Ret runs here = returning_kind here act.callers refl
 
-  run_kind : (o : Option Instr) → instruction_at m act.frame ≡ o → P (run_at m w a act o)
-  run_kind None h = f.wrong _
-  run_kind (Some i) h = instruction_kind i h
+  run_kind : act.status ≡ status.Running → (o : Option Instr) → instruction_at m act.frame ≡ o → P (run_at m w a act o)
+  run_kind runs None h = f.wrong _
+  run_kind runs (Some i) h = instruction_kind i runs h
 
   passing_kind : P (passing w a act)
   passing_kind = cases (waits w a) (f.done (past act (w.steps + 1)) (all passed) event.Passed (record { governed = refl; alive = refl; opened = omega arith }) refl)
@@ -200,7 +205,7 @@ pub step_kind : (P : Outcome → Type 0) (m : ModuleValue) (w : World) (a : ℕ)
 step_kind P m w a blocked f = of (slice_get w.activities a) refl
   where
     by : (act : Activity) → slice_get w.activities a ≡ Some act → (st : Status) → act.status ≡ st → P (step_by m w a act st)
-    by act at status.Running e = (let alive = ap is_ended e in run_kind P m w a act alive (f act at alive) (instruction_at m act.frame) refl)
+    by act at status.Running e = (let alive = ap is_ended e in run_kind P m w a act alive (f act at alive) e (instruction_at m act.frame) refl)
     by act at status.Arrived e = (let alive = ap is_ended e in passing_kind P m w a act alive (f act at alive))
     by act at status.Ended e = blocked
 

@@ -155,7 +155,7 @@ module _ (m : ModuleValue) (w : World) (core : IsCore m w) (each : AreOpen w.act
     done = λ next change e on quiet. open_on w.activities a act next found alive on each;
     made = λ next on. open_on w.activities a act next found alive on each;
     stored = λ s n e on quiet. open_on w.activities a act (onward act) found alive on each;
-    spawned = λ t values on.
+    spawned = λ t args values at on.
         (let more = open_on w.activities a act (onward act) found alive on each in
         open_push (slice_set w.activities a (onward act)) (child m a act t values) more
         (λ going. child_open m (slice_set w.activities a (onward act)) a act (onward act) (get-set_same w.activities a act (onward act) found) alive refl refl more));

@@ -32,6 +32,11 @@ grows (instr.Call t args) = true
 grows (instr.Spawn t args) = true
 grows _ = false
 
+-- it starts an activity
+abbrev pub starts : Instr → Bool
+starts (instr.Spawn t args) = true
+starts _ = false
+
 -- it reads or writes a shared number
 abbrev pub concerns_cells : Instr → Bool
 concerns_cells (instr.Get d s) = true

@@ -23,17 +23,23 @@ enabled_in m w = filter (is_enabled m w) (numbers_from 0 (length w.activities))
 abbrev pub with_member : ℕ → Bool → List ℕ → List ℕ
 with_member b is_in xs = filter (λ x. nat_lt x b) xs ++ ((if is_in then b ∷ [] else []) ++ filter (λ x. nat_lt b x) xs)
 
+-- A chooser in state s, which answers a list of activities so, names activity a: of those that are enabled it is the one at the place that is
+-- answered, counted round the list.
+abbrev pub Names : {S : Type 0} → (S → List ℕ → ℕ) → ModuleValue → S → World → ℕ → Type 0
+Names answer m s w a =
+    slice_get (enabled_in m w) (answer s (enabled_in m w) % length (enabled_in m w)) ≡ Some a
+
 abbrev pub goes_on : Outcome → (World → Type 0) → Type 0
 goes_on Blocked go = ⊥
 goes_on (Wrong c) go = ⊥
 goes_on (Stepped v e) go = go v
 
 -- The list is legal from the world, and follows a chooser in this state, which answers a list of activities so, and then is in such a state:
--- each member is the enabled activity at the place that is answered, counted round the list.
+-- each member is the activity that the chooser names.
 abbrev pub Follows : {S : Type 0} → (S → List ℕ → ℕ) → (S → List ℕ → S) → ModuleValue → S → World → List ℕ → Type 0
 Follows answer after m s w [] = Unit {0}
 Follows answer after m s w (a ∷ list) =
-    (slice_get (enabled_in m w) (answer s (enabled_in m w) % length (enabled_in m w)) ≡ Some a)
+    Names answer m s w a
     × goes_on (step m w a) (λ v. Follows answer after m (after s (enabled_in m w)) v list)
 
 abbrev pub state_on : {S : Type 0} → Outcome → S → (World → S) → S

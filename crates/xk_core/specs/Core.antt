@@ -1,14 +1,17 @@
 -- A running core, as its clauses see it: a module, and a world that a legal schedule of it reaches.
-use Rattle.std.specs.Prelude.{◌≡◌, ℕ, ◌<◌, ◌==◌, Bool, true, false, not, Option, Some, None, slice_get, option_and_then}
+use Rattle.std.specs.Prelude.{◌≡◌, ℕ, ◌+◌, ◌<◌, ◌==◌, Bool, true, false, not, length, Option, Some, None, slice_get, option_and_then}
 use Rattle.std.specs.List.{list_all}
+use Rattle.std.specs.Option.{option_map_or}
 use Rattle.xk_types.specs.declared.instr.Instr.{Instr}
+use Rattle.xk_types.specs.declared.names.Event.{Event}
 use Rattle.xk_types.specs.declared.names.Status.{Status}
 use Rattle.xk_types.specs.declared.names.Status.TheVariants as status
 use Rattle.xk_types.specs.Code.{ModuleValue, IsWithinLimits}
 use Rattle.xk_types.specs.World.{Activity, World, instruction_at}
+use Rattle.xk_types.specs.Step.{Stepped, step}
 use Rattle.xk_types.specs.Schedule.{IsReached, is_enabled}
 use Rattle.xk_types.specs.Accepted.{IsAccepted}
-use Rattle.xk_core.specs.Arm.{grows}
+use Rattle.xk_core.specs.Arm.{grows, starts}
 
 pub record CoreValue : Type 0 where
   pub module_run : ModuleValue
@@ -36,6 +39,15 @@ next_instruction m w a = instruction_of m (slice_get w.activities a)
 -- activity a is about to make a clock, to call a method or to start an activity, for which memory is wanted
 abbrev pub IsAboutToGrow : ModuleValue → World → ℕ → Type 0
 IsAboutToGrow m w a = (i : Instr) × (next_instruction m w a ≡ Some i) × (grows i ≡ true)
+
+-- activity a is about to start another
+abbrev pub is_about_to_start : ModuleValue → World → ℕ → Bool
+is_about_to_start m w a = option_map_or starts (next_instruction m w a) false
+
+-- behind a step of activity a this room is for two more than there are activities
+abbrev pub HasRoomAfter : CoreValue → ℕ → ℕ → Type 0
+HasRoomAfter c a room =
+    (w : World) (e : Event) → step c.module_run c.world a ≡ Stepped w e → length w.activities + 1 < room
 
 -- a is enabled, and nobody of a smaller number is
 abbrev pub IsLeastEnabled : ModuleValue → World → ℕ → Type 0

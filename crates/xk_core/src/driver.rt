@@ -8,7 +8,7 @@ ghost use Rattle.xk_types.specs.Step.{Stepped, step};
 ghost use Rattle.xk_types.specs.Schedule.{is_enabled, all_ended};
 ghost use Rattle.xk_types.specs.Bound.{steps_bound};
 ghost use Rattle.xk_core.specs.Choosing.{IsRising, enabled_in, with_member};
-ghost use Rattle.xk_core.specs.Core.{IsCore};
+ghost use Rattle.xk_core.specs.Core.{IsCore, IsAboutToGrow, HasRoomAfter};
 ghost use Rattle.xk_core.specs.Touched.{touched};
 
 use crate::chooser::{Chooser, place_in};
@@ -100,6 +100,25 @@ fn touched(core: &Core<'_>, act: Act, event: Event) -> Option<Act>
     }
 }
 
+/// Makes room in the list for one activity more, where this one is about to start it.
+#[inline(always)]
+fn make_room(enabled: &mut Vec<u32>, core: &Core<'_>, act: Act) -> Result<(), AllocError>
+    requires roomy { length core.now.world.activities + 1 < vec_capacity enabled.old }
+    requires few { vec_len enabled.old ≤ length core.now.world.activities }
+    ensures items { enabled.new.items ≡ enabled.old.items }
+    ensures length { vec_len enabled.new ≡ vec_len enabled.old }
+    ensures kept { vec_capacity enabled.old ≤ vec_capacity enabled.new }
+    // There is room for two more than there are activities after the step.
+    ensures room { OnOk result (HasRoomAfter core.now act (vec_capacity enabled.new)) }
+    ensures only_where_it_grows { OnErr result (IsAboutToGrow core.now.module_run core.now.world act) }
+{
+    if core.is_about_to_start(act) {
+        let more = core.activities() as usize + 3 - enabled.len();
+        enabled.try_reserve(more)?;
+    }
+    Ok(())
+}
+
 /// Brings the list up to date after a step of the activity.
 #[inline(always)]
 fn list_after(enabled: &mut Vec<u32>, core: &Core<'_>, act: Act, event: Event)
@@ -122,7 +141,7 @@ fn list_after(enabled: &mut Vec<u32>, core: &Core<'_>, act: Act, event: Event)
 }
 
 impl<'m> Driver<'m> {
-    ghost use Rattle.xk_core.specs.Driving.{IsTaken, IsPutOff};
+    ghost use Rattle.xk_core.specs.Driving.{IsTaken, IsRefused};
 
     /// Takes a core over. Where memory is refused, the core is given back as it was.
     pub fn new(alloc: Global, start: Core<'m>) -> Result<Driver<'m>, Core<'m>>
@@ -162,31 +181,33 @@ impl<'m> Driver<'m> {
         self.enabled.is_empty()
     }
 
-    /// One step of the activity, and what it is seen to do. Err where memory was refused: then the core is as before.
+    /// One step of the activity, and what it is seen to do. Only the making of a clock, a call of a method and the start of an
+    /// activity want memory; where that is refused the core is as before.
     #[inline(always)]
     pub fn step(&mut self, act: Act) -> Result<Event, AllocError>
         requires { IsTrue (is_enabled self.old.module_run self.old.world act) }
         ensures stepped { IfOk result (λ e. step self.old.module_run self.old.world act ≡ Stepped self.new.world e) }
+        ensures counted { OnOk result (self.new.world.steps ≡ self.old.world.steps + 1) }
+        // The verified number of steps is never passed.
         ensures bound { OnOk result (self.new.world.steps ≤ steps_bound self.new.module_run) }
         ensures same_module { self.new.module_run ≡ self.old.module_run }
         ensures refused { OnErr result (self.new ≡ self.old) }
+        ensures only_where_it_grows { OnErr result (IsAboutToGrow self.old.module_run self.old.world act) }
     {
-        let more = self.core.activities() as usize + 3 - self.enabled.len();
-        self.enabled.try_reserve(more)?;
+        make_room(&mut self.enabled, &self.core, act)?;
         let event = self.core.step(act)?;
         list_after(&mut self.enabled, &self.core, act, event);
         Ok(event)
     }
 
-    /// The next turn: the step of the activity that the chooser names, and nothing where all have ended. Err where memory was refused:
-    /// then no step was taken, though the chooser was asked.
+    /// The next turn: the step of the activity that the chooser names, and nothing where all have ended. Err only where that step
+    /// wants memory, and was refused it: then it wasn't taken, though the chooser was asked.
     #[inline(always)]
     pub fn turn<C: Chooser>(&mut self, chooser: &mut C) -> Result<Option<Turn>, AllocError>
         ensures taken { IfOk result (IsTaken C.answer C.after self.old chooser.old self.new chooser.new) }
         // The verified number of steps is never passed.
         ensures bound { IfOk result (λ o. IfSome o (λ turn. self.new.world.steps ≤ steps_bound self.new.module_run)) }
-        ensures refused { OnErr result (IsPutOff C.after self.old chooser.old self.new chooser.new) }
-        ensures asked { OnErr result (chooser.new ≡ C.after chooser.old (enabled_in self.old.module_run self.old.world)) }
+        ensures refused { OnErr result (IsRefused C.answer C.after self.old chooser.old self.new chooser.new) }
     {
         if self.enabled.is_empty() {
             return Ok(None);

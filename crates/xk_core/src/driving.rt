@@ -6,8 +6,8 @@ ghost use Rattle.std.specs.Vec.{vec_len, vec_capacity};
 ghost use Rattle.xk_types.specs.World.{opening};
 ghost use Rattle.xk_types.specs.Schedule.{all_ended, number_printed};
 ghost use Rattle.xk_types.specs.Bound.{steps_bound};
-ghost use Rattle.xk_types.specs.Logs.{schedule_of};
-ghost use Rattle.xk_core.specs.Driving.{IsRunOf, IsNoted, IsPutOff, IsChosen, IsChosenSoFar, entry_of};
+ghost use Rattle.xk_types.specs.Logs.{schedule_of, one_step_of};
+ghost use Rattle.xk_core.specs.Driving.{IsRunOf, IsNoted, IsPutOff, IsFull, IsShort, IsChosen, IsChosenSoFar, state_so_far};
 
 use crate::chooser::Chooser;
 use crate::driver::{Driver, Turn};
@@ -60,7 +60,7 @@ struct Logged<'m> {
 fn note(log: &mut Vec<Entry>, printed: &mut Vec<i64>, turn: Turn)
     requires log { vec_len log.old < vec_capacity log.old }
     requires printed { vec_len printed.old < vec_capacity printed.old }
-    ensures log { log.new.items ≡ log.old.items ++ entry_of turn.act ∷ [] }
+    ensures log { log.new.items ≡ log.old.items ++ one_step_of turn.act ∷ [] }
     ensures printed { printed.new.items ≡ printed.old.items ++ option_to_list (number_printed turn.event) }
 {
     let entry = Entry {
@@ -94,10 +94,13 @@ impl<'m> Logged<'m> {
 
     /// One turn, and whether there was one: there is none where all have ended. Err where memory was refused: then no step was taken.
     fn turn<C: Chooser>(&mut self, chooser: &mut C) -> Result<bool, AllocError>
-        ensures noted { IfOk result (IsNoted C.answer C.after self.old.driver chooser.old self.old.log.items self.new.driver chooser.new self.new.log.items) }
+        ensures noted { IfOk result (
+            IsNoted C.answer C.after self.old.driver chooser.old self.old.log.items
+            self.new.driver chooser.new self.new.log.items) }
         ensures bound { result ≡ Ok true → self.new.driver.world.steps ≤ steps_bound self.new.driver.module_run }
         ensures refused { OnErr result (IsPutOff C.after self.old.driver chooser.old self.new.driver chooser.new) }
         ensures refused_log { OnErr result (self.new.log.items ≡ self.old.log.items) }
+        ensures only_where_it_grows { OnErr result (IsShort C.answer self.new.log self.new.printed self.old.driver chooser.old) }
     {
         if self.driver.over() {
             return Ok(false);
@@ -132,7 +135,8 @@ impl<'m> Logged<'m> {
     /// The answer where memory was refused.
     fn cut_short(self) -> Partial<'m>
         ensures module { result.module.now ≡ self.entry.driver.module_run }
-        ensures log { result.log.items ≡ self.entry.log.items }
+        ensures log { result.log ≡ self.entry.log }
+        ensures printed { result.printed ≡ self.entry.printed }
         ensures core { result.core ≡ self.entry.driver }
     {
         let core = self.driver.into_core();
@@ -150,6 +154,7 @@ fn unstarted<'m>(alloc: Global, core: Core<'m>) -> Partial<'m>
     requires { core.world.steps ≡ 0 }
     ensures module { result.module.now ≡ core.entry.module_run }
     ensures log { result.log.items ≡ [] }
+    ensures full { IsFull result.log }
     ensures core { result.core ≡ core.entry }
 {
     Partial {
@@ -169,13 +174,19 @@ pub fn drive<'m, C: Chooser>(
     chooser: &mut C,
 ) -> Result<Ended<'m>, Partial<'m>>
     requires { start.world.steps ≡ 0 }
-    ensures chosen { IfOk result (λ e. IsChosen C.answer C.after start.entry.module_run chooser.old e.log.items chooser.new) }
+    ensures chosen { IfOk result (λ e.
+        IsChosen C.answer C.after start.entry.module_run chooser.old e.log.items chooser.new) }
     ensures same_module { IfOk result (λ e. e.module.now ≡ start.entry.module_run) }
     ensures bound { IfOk result (λ e. e.core.world.steps ≤ steps_bound start.entry.module_run) }
-    ensures partial_chosen { IfErr result (λ p. IsChosenSoFar C.answer C.after start.entry.module_run chooser.old p.log.items p.core.world chooser.new) }
+    ensures partial_chosen { IfErr result (λ p.
+        IsChosenSoFar C.answer C.after start.entry.module_run chooser.old
+        p.log.items p.core.world chooser.new) }
     ensures partial_same_module { IfErr result (λ p. p.module.now ≡ start.entry.module_run) }
     // Somebody could still take a step.
     ensures partial_goes_on { IfErr result (λ p. all_ended p.core.world ≡ false) }
+    // The log has no room left, or the numbers have none, or the step of whom the chooser names next wants memory.
+    ensures partial_grows { IfErr result (λ p.
+        IsShort C.answer p.log p.printed p.core (state_so_far C.after chooser.old p.log.items p.core)) }
 {
     let mut run = match Logged::new(alloc, start) {
         Ok(run) => run,

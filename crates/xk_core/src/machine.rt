@@ -5,7 +5,7 @@ ghost use Rattle.xk_types.specs.World.{opening};
 ghost use Rattle.xk_types.specs.Step.{Stepped, step};
 ghost use Rattle.xk_types.specs.Schedule.{IsReached, is_enabled, all_ended};
 ghost use Rattle.xk_types.specs.Bound.{steps_bound};
-ghost use Rattle.xk_core.specs.Core.{next_instruction, governor, IsAboutToGrow, IsCore, IsLeastEnabled, is_quiet};
+ghost use Rattle.xk_core.specs.Core.{next_instruction, governor, IsAboutToGrow, IsCore, IsLeastEnabled, is_about_to_start, is_quiet};
 ghost use Rattle.xk_core.specs.Able.{is_kept};
 ghost use Rattle.xk_core.specs.Told.{is_end};
 ghost use Rattle.xk_core.specs.Arm.{grows, concerns_finishes};
@@ -169,6 +169,17 @@ impl<'m> Core<'m> {
         match self.state.clock(clock.0 as usize) {
             Some(c) => c.phase(),
             None => unreachable!(),
+        }
+    }
+
+    /// Whether the activity is about to start another.
+    #[inline(always)]
+    pub(crate) fn is_about_to_start(&self, act: Act) -> bool
+        ensures { result ≡ is_about_to_start self.now.module_run self.now.world act }
+    {
+        match self.next_instruction(act.0 as usize) {
+            Some(Instr::Spawn(..)) => true,
+            _ => false,
         }
     }
 

@@ -7,11 +7,11 @@ use Rattle.xk_types.specs.World.{World, opening}
 use Rattle.xk_types.specs.Step.{Outcome, Blocked, Wrong, Stepped, step}
 use Rattle.xk_types.specs.Schedule.{Leads, number_printed, printed}
 use Rattle.xk_core.specs.Core.{CoreValue}
-use Rattle.xk_core.specs.Choosing.{enabled_in, Follows, goes_on, state_after}
+use Rattle.xk_core.specs.Choosing.{enabled_in, Names, Follows, goes_on, state_after}
 use Rattle.xk_core.specs.Driving.{IsTurn}
 use Rattle.xk_serve.specs.OrderedRun.{IsRunThat}
 use Rattle.xk_laws.proofs.Reached.{run_more}
-use Rattle.xk_core.proofs.Following.{Names, follows_more, printed_more, state_more}
+use Rattle.xk_core.proofs.Following.{follows_more, printed_more, state_more}
 
 -- A list that follows a chooser, which began in state b, leads here, and printed these numbers; the chooser is in state s.
 pub record IsFront {S : Type 0} (answer : S → List ℕ → ℕ) (after : S → List ℕ → S) (m : ModuleValue) (b : S) (w : World) (s : S) (numbers : List ℤ) : Type 0 where

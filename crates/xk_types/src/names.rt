@@ -1,6 +1,6 @@
 //! Activities, clocks, and what a step may be seen to do.
 
-ghost use Rattle.std.specs.Prelude.{ℕ};
+ghost use Rattle.std.specs.Prelude.{ℕ, ◌<◌};
 
 use std::marker::Model;
 
@@ -28,13 +28,15 @@ impl Model for ClockId {
     ghost inverse = { λ n. record { 0 = n } };
 }
 
-/// One entry of a log: an activity, and how many steps it took one after another, at least 1.
+/// One entry of a log: an activity, and how many steps it took one after another.
 #[derive(Clone, Copy, Debug, PartialEq, Eq)]
 pub struct Entry {
     /// The activity, by its number.
     pub act: u32,
     /// How many steps it took.
     pub steps: u32,
+    /// At least one: so an entry names nobody who never took a step.
+    pub ghost at_least_one: { 0 < steps },
 }
 
 /// What a slot holds.

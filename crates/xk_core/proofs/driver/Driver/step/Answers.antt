@@ -7,36 +7,43 @@ use Rattle.xk_core.proofs.Untouched.{steps_within}
 use Rattle.xk_core.proofs.Listing.{listed_rises, listed_few, step_widens}
 use Rattle.xk_core.proofs.driver.Driver.step.Goals as goal
 
-pub overflow_sub-more : goal.overflow_sub-more
-overflow_sub-more c = omega (arith, c.len.ensures, c.activities.ensures.count, ap length c.self.invariant.list_is, listed_few c.self.inside.core.module_run c.self.inside.core.world)
+pub make_room-requires-clause-few : goal.make_room-requires-clause-few
+make_room-requires-clause-few c =
+    let core = c.self.inside.core in
+    omega (arith, c.self.inside.enabled.ok.0, ap length c.self.invariant.list_is, listed_few core.module_run core.world)
 
 pub list_after-requires-clause-there : goal.list_after-requires-clause-there
 list_after-requires-clause-there c =
+    let core = c.self.inside.core in
+    let v = c.step.new.self.world in
+    let stepped = c.in_ok-event.ensures.stepped in
     omega (
       arith,
-      steps_within c.self.inside.core.module_run c.self.inside.core.world c.step.new.self.world c.args.act c.in_ok-event.event c.in_ok-event.ensures.stepped,
-      (step_widens c.self.inside.core.module_run c.self.inside.core.world c.step.new.self.world c.args.act c.in_ok-event.event c.in_ok-event.ensures.stepped).0,
+      steps_within core.module_run core.world v c.args.act c.in_ok-event.event stepped,
+      (step_widens core.module_run core.world v c.args.act c.in_ok-event.event stepped).0,
     )
 
 pub list_after-requires-clause-rising : goal.list_after-requires-clause-rising
 list_after-requires-clause-rising c =
-    subst IsRising (sym (c.try_reserve.ensures.items ∙ c.self.invariant.list_is)) (listed_rises c.self.inside.core.module_run c.self.inside.core.world)
+    let core = c.self.inside.core in
+    subst IsRising (sym (c.make_room.ensures.items ∙ c.self.invariant.list_is)) (listed_rises core.module_run core.world)
 
 pub list_after-requires-clause-room : goal.list_after-requires-clause-room
 list_after-requires-clause-room c =
-    omega (
-      arith,
-      c.len.ensures,
-      c.activities.ensures.count,
-      ap length c.self.invariant.list_is,
-      listed_few c.self.inside.core.module_run c.self.inside.core.world,
-      c.in_ok-try_reserve.ensures.ok,
-      (step_widens c.self.inside.core.module_run c.self.inside.core.world c.step.new.self.world c.args.act c.in_ok-event.event c.in_ok-event.ensures.stepped).1,
-    )
+    omega (arith, c.in_ok-make_room.ensures.room c.step.new.self.world c.in_ok-event.event c.in_ok-event.ensures.stepped)
 
 pub list_after-requires-clause-room_for_two : goal.list_after-requires-clause-room_for_two
 list_after-requires-clause-room_for_two c =
-    omega (arith, c.len.ensures, c.activities.ensures.count, ap length c.self.invariant.list_is, listed_few c.self.inside.core.module_run c.self.inside.core.world, c.try_reserve.ensures.len, c.in_ok-try_reserve.ensures.ok)
+    let core = c.self.inside.core in
+    omega (
+      arith,
+      c.self.inside.enabled.ok.0,
+      ap length c.self.invariant.list_is,
+      listed_few core.module_run core.world,
+      c.self.invariant.roomy,
+      c.make_room.ensures.length,
+      c.make_room.ensures.kept,
+    )
 
 pub invariant_of-self-2 : goal.invariant_of-self-2
 invariant_of-self-2 c =
@@ -47,16 +54,8 @@ invariant_of-self-2 c =
     let stepped = c.in_ok-event.ensures.stepped in
     record {
       core = subst (λ k. IsCore k v) (sym same) (core_stepped m w v c.args.act c.in_ok-event.event c.self.invariant.core stepped);
-      list_is = c.list_after.ensures.list w (subst (λ k. IsCore k w) (sym same) c.self.invariant.core) (subst (λ k. step k w c.args.act ≡ Stepped v c.in_ok-event.event) (sym same) stepped)
-          (c.try_reserve.ensures.items ∙ c.self.invariant.list_is ∙ ap (λ k. enabled_in k w) (sym same));
-      roomy = omega (
-        arith,
-        c.len.ensures,
-        c.activities.ensures.count,
-        ap length c.self.invariant.list_is,
-        listed_few m w,
-        c.in_ok-try_reserve.ensures.ok,
-        c.list_after.ensures.room,
-        (step_widens m w v c.args.act c.in_ok-event.event stepped).1,
-      );
+      list_is = c.list_after.ensures.list w (subst (λ k. IsCore k w) (sym same) c.self.invariant.core)
+          (subst (λ k. step k w c.args.act ≡ Stepped v c.in_ok-event.event) (sym same) stepped)
+          (c.make_room.ensures.items ∙ c.self.invariant.list_is ∙ ap (λ k. enabled_in k w) (sym same));
+      roomy = omega (arith, c.in_ok-make_room.ensures.room v c.in_ok-event.event stepped, c.list_after.ensures.room);
     }
