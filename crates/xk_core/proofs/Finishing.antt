@@ -15,7 +15,7 @@ use Rattle.xk_types.specs.Bound.{steps_bound, room_of}
 use Rattle.xk_types.specs.World.{Activity, World, base_unit, is_ended, instruction_at}
 use Rattle.xk_types.specs.Step.{Outcome, Blocked, Wrong, Stepped, waits, step_by, step_of, step, carried_out, past, done, none, all, passed, onward, moved, settled, left, closing, awaits, innermost, child}
 use Rattle.xk_types.specs.Schedule.{is_step, is_enabled}
-use Rattle.xk_laws.proofs.Lists.{get_inside, get-set_same, get-set_other, get_push, get-push_other}
+use Rattle.xk_types.proofs.Lists.{get_inside, get-set_same, get-set_other, get_push, get-push_other}
 use Rattle.xk_laws.proofs.Counts.{step_counts}
 use Rattle.xk_laws.proofs.Invariant.{IsSound}
 use Rattle.xk_laws.proofs.Scopes.Invariant.{IsScoped, based}

@@ -2,7 +2,7 @@
 use Rattle.std.proofs.Common.{◌≡◌, ℕ, ◌<◌, List, length, ap, sym, ◌∙◌, arith}
 use Rattle.std.specs.Prelude.{option_and_then}
 use Rattle.std.proofs.lemmas.Option.{get_or_from_slice_get}
-use Rattle.xk_laws.proofs.Lists.{get_inside}
+use Rattle.xk_types.proofs.Lists.{get_inside}
 use Rattle.xk_types.specs.World.{Activity, World}
 use Rattle.xk_finishes.specs.Tree.{NodeValue, node_at}
 use Rattle.xk_core.specs.Core.{governor}

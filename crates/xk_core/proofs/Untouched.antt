@@ -19,7 +19,7 @@ use Rattle.xk_types.specs.World.{Finish, Activity, Clock, World, standing_of, is
 use Rattle.xk_types.specs.Step.{Outcome, Blocked, Wrong, Stepped, step, is_signalled, settled_clock, moved, joined, new_clock, is_given, onward, left, ended, child, innermost, awaits, waits, dropped, none, all}
 use Rattle.xk_types.specs.Schedule.{is_enabled}
 use Rattle.xk_laws.proofs.Invariant.{IsClockSound}
-use Rattle.xk_laws.proofs.Lists.{Each, get-set_same, get-set_other, get-push_other, get-append_left}
+use Rattle.xk_types.proofs.Lists.{Each, get-set_same, get-set_other, get-push_other, get-append_left}
 use Rattle.xk_laws.proofs.Reached.{reached_sound}
 use Rattle.xk_laws.proofs.Scopes.Invariant.{governing_at}
 use Rattle.xk_laws.proofs.Scopes.Under.{AreOwned}

@@ -3,7 +3,7 @@ use Rattle.std.proofs.Common.{◌≡◌, ℕ, zero, suc, ◌<◌, ◌≤◌, Boo
 use Rattle.std.proofs.lemmas.Option.{none-some, same_Some, slice_get_within}
 use Rattle.xk_types.specs.World.{Finish, Activity, is_ended}
 use Rattle.xk_types.specs.Step.{is_under, awaits}
-use Rattle.xk_laws.proofs.Lists.{each_set, get_inside, get-set_same, get-set_other, get_push, get-push_other, get-append_left}
+use Rattle.xk_types.proofs.Lists.{each_set, get_inside, get-set_same, get-set_other, get_push, get-push_other, get-append_left}
 use Rattle.xk_laws.proofs.Scopes.Invariant.{finish_at}
 use Rattle.xk_laws.proofs.Scopes.Under.{AreOwned, under_governed, under_owner, under_cases, IsAwaited, awaited}
 use Rattle.xk_core.proofs.UntouchedOwners.{same_or_not, awaits_given, AreOpen}

@@ -8,7 +8,7 @@ use Rattle.xk_types.specs.World.{Finish, Activity, World, instruction_at, is_end
 use Rattle.xk_types.specs.Step.{Outcome, Blocked, Wrong, Stepped, step, onward, left, ended, child, governing, innermost, is_under, awaits, awaits_from}
 use Rattle.xk_types.specs.Schedule.{Through, run}
 use Rattle.xk_laws.proofs.Invariant.{IsActivitySound, IsSound, looks}
-use Rattle.xk_laws.proofs.Lists.{Each, each_set, each_push, get-set_same, get-set_other, get_once, get-append_left}
+use Rattle.xk_types.proofs.Lists.{Each, each_set, each_push, get-set_same, get-set_other, get_once, get-append_left}
 use Rattle.xk_laws.proofs.Reached.{first_step, opening_reached, reached_sound, reached_scoped}
 use Rattle.xk_laws.proofs.NeverWrong.Steps.{closed_at_end}
 use Rattle.xk_laws.proofs.Scopes.Invariant.{IsScoped, finish_at, governing_at}

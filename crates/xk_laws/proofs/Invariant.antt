@@ -18,7 +18,7 @@ use Rattle.xk_types.specs.World.{Frame, Activity, Clock, World, standing_of, is_
 use Rattle.xk_types.specs.Step.{is_ready}
 use Rattle.xk_types.specs.Walk.{IsVisited, awake, is_lent}
 pub use Rattle.xk_types.specs.Kinds.{stands_on, kind_by, kind_of}
-pub use Rattle.xk_laws.proofs.Lists.{Each}
+pub use Rattle.xk_types.proofs.Lists.{Each}
 use Rattle.xk_laws.proofs.Bound.Turns.{due}
 use Rattle.xk_types.specs.Bound.{steps_weight, activities_weight, clocks_weight, total, steps_bound, activities_bound, clocks_bound, stack_of, stack_bound}
 

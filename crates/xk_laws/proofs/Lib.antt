@@ -1,4 +1,3 @@
-pub mod Lists
 pub mod Shape
 pub mod SlotKinds
 pub mod Bound

@@ -20,7 +20,7 @@ use Rattle.xk_types.specs.Walk.{entry_kinds, entry_of}
 use Rattle.xk_types.specs.Bound.{steps_weight, activities_weight, clocks_weight, total}
 use Rattle.xk_types.specs.Accepted.{IsAccepted}
 use Rattle.xk_laws.proofs.Invariant.{Each, Expects, IsActivitySound, IsSound, looks, kind_of, owed, owing}
-use Rattle.xk_laws.proofs.Lists.{get_inside, get-replicate}
+use Rattle.xk_types.proofs.Lists.{get_inside, get-replicate}
 use Rattle.xk_laws.proofs.Bound.Measure.{owed_first}
 use Rattle.xk_laws.proofs.Bound.Totals.{stack_within_bound}
 use Rattle.xk_types.proofs.Walks.{visited_entry}

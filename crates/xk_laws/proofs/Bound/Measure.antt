@@ -15,7 +15,7 @@ use Rattle.xk_types.specs.Bound.{steps_weight, activities_weight, clocks_weight,
 use Rattle.xk_laws.proofs.Bound.Turns.{due, Goes, due_start, due_step, due_end}
 use Rattle.xk_laws.proofs.Invariant.{with_run, owed_by, owed_behind, owed_now, owed, owing}
 use Rattle.xk_laws.proofs.Shape.Units.{IsFit}
-use Rattle.xk_laws.proofs.Lists.{sum_set}
+use Rattle.xk_types.proofs.Lists.{sum_set}
 use Rattle.xk_laws.proofs.Bound.Totals.{total_sum}
 
 -- an instruction that runs nothing

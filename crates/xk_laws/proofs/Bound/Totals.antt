@@ -11,7 +11,7 @@ use Rattle.xk_types.specs.declared.instr.Instr.TheVariants as instr
 use Rattle.xk_types.specs.Blocks.{depth_at}
 use Rattle.xk_types.specs.Bound.{total_within, total, visits, sum_from, chain_within, chain_of, stack_of, stack_bound, nesting, room_of, greatest, greatest_below}
 use Rattle.std.proofs.lemmas.Bool.{cases_eq}
-use Rattle.xk_laws.proofs.Lists.{max_each}
+use Rattle.xk_types.proofs.Lists.{max_each}
 use Rattle.xk_laws.proofs.Invariant.{with_run}
 use Rattle.xk_laws.proofs.Shape.Units.{run_later, called_later}
 

@@ -5,9 +5,10 @@ use Rattle.std.proofs.lemmas.Bool.{and_parts, and_from, cases_lt, lt-ltb, le-leb
 use Rattle.std.proofs.lemmas.Bool.Decides.{nat_tests}
 use Rattle.std.proofs.lemmas.Int.{ints}
 use Rattle.std.proofs.lemmas.Option.{none-some, same_Some}
-use Rattle.xk_laws.proofs.Lists.{fun_ext, get_inside, get_once, get-set_same, get-set_other}
+use Rattle.xk_types.proofs.Lists.{fun_ext, get_inside, get_once, get-set_same, get-set_other}
 use Rattle.xk_types.proofs.Shape.Begun.{Rising}
-use Rattle.xk_laws.proofs.Shape.Loops.{AreLoops, loop_of}
+use Rattle.xk_types.proofs.Shape.Loops.{loop_of}
+use Rattle.xk_laws.proofs.Shape.Loops.{AreLoops}
 use Rattle.xk_types.specs.declared.instr.Instr.{Instr}
 use Rattle.xk_types.specs.declared.instr.Instr.TheVariants as instr
 use Rattle.xk_types.specs.declared.names.Value.{Value}
@@ -297,19 +298,19 @@ not_behind l k h f g = grind (arith, nat_tests)
 module _ (u : UnitValue) (a : AreLoops u) where
   -- a `for` of a loop is no other instruction
   first_is : (l : Loop) → Has (loops u) l → (i : Instr) → slice_get u.code l.first ≡ Some i → instr.For l.slot l.lo l.hi l.last ≡ i
-  first_is l h i e = get_once u.code l.first (instr.For l.slot l.lo l.hi l.last) i (a.is l h).for e
+  first_is l h i e = get_once u.code l.first (instr.For l.slot l.lo l.hi l.last) i (a.is l h).begins e
 
   -- nor is its `next`
   last_is : (l : Loop) → Has (loops u) l → (i : Instr) → slice_get u.code l.last ≡ Some i → instr.Next l.first ≡ i
-  last_is l h i e = get_once u.code l.last (instr.Next l.first) i (a.is l h).next e
+  last_is l h i e = get_once u.code l.last (instr.Next l.first) i (a.is l h).ends e
 
   -- one `for` begins one loop
   same_last : (l k : Loop) → Has (loops u) l → Has (loops u) k → l.first ≡ k.first → l.last ≡ k.last
-  same_last l k h g e = (let q = first_is l h (instr.For k.slot k.lo k.hi k.last) (ap (slice_get u.code) e ∙ (a.is k g).for) in cc)
+  same_last l k h g e = (let q = first_is l h (instr.For k.slot k.lo k.hi k.last) (ap (slice_get u.code) e ∙ (a.is k g).begins) in cc)
 
   -- one `next` ends one
   same_first : (l k : Loop) → Has (loops u) l → Has (loops u) k → l.last ≡ k.last → l.first ≡ k.first
-  same_first l k h g e = (let q = last_is l h (instr.Next k.first) (ap (slice_get u.code) e ∙ (a.is k g).next) in cc)
+  same_first l k h g e = (let q = last_is l h (instr.Next k.first) (ap (slice_get u.code) e ∙ (a.is k g).ends) in cc)
 
   -- of two loops that begin apart and share a place, the later lies inside the earlier
   inside : (l k : Loop) → Has (loops u) l → Has (loops u) k → l.first < k.first → k.first < l.last → IsInside l k
@@ -374,25 +375,25 @@ module _ (u : UnitValue) (a : AreLoops u) where
   -- into the first turn of loop f
   falls_for : (slots : List Value) (at : ℕ) (f : Loop) → Has (loops u) f → f.slot < length slots → FallsAt f.first slots (f.first + 1) (slice_set slots f.slot (value.Number f.lo)) at
   falls_for slots at f has known =
-      falls_turn slots new f.first (f.first + 1) at f has (omega arith, (let x = (a.is f has).ahead in omega arith)) (λ e. record { reach = λ h. omega arith; past = λ h. omega arith }) aside
-      (falls_first slots new at f (a.is f has).ahead one)
+      falls_turn slots new f.first (f.first + 1) at f has (omega arith, (let x = (a.ahead f has) in omega arith)) (λ e. record { reach = λ h. omega arith; past = λ h. omega arith }) aside
+      (falls_first slots new at f (a.ahead f has) one)
     where
       new : List Value
       new = slice_set slots f.slot (value.Number f.lo)
 
       one : turns_left new f + 1 ≡ turns f
       one = (let x = get_inside slots f.slot known in
-          ap (λ o. turns_to f.hi o + 1) (get-set_same slots f.slot x.0 (value.Number f.lo) x.1) ∙ turns_first f.lo f.hi (a.is f has).order)
+          ap (λ o. turns_to f.hi o + 1) (get-set_same slots f.slot x.0 (value.Number f.lo) x.1) ∙ turns_first f.lo f.hi (a.order f has))
 
       aside : (l : Loop) → Has (loops u) l → (l.first ≡ f.first → ⊥) → Stays slots f.first new (f.first + 1) l
       aside l h differ = record {
         round = round_next f.first l (λ e. differ (sym e)) off;
         same = λ r. ap (turns_to l.hi) (get-set_other slots f.slot l.slot (value.Number f.lo)
-            (λ q. a.unwritten (instr.For f.slot f.lo f.hi f.last) f.first l (a.is f has).for h (within_same f.first l off ∙ r) (ap Some (sym q))));
+            (λ q. a.unwritten (instr.For f.slot f.lo f.hi f.last) f.first l (a.is f has).begins h (within_same f.first l off ∙ r) (ap Some (sym q))));
       }
         where
           off : f.first ≡ l.last → ⊥
-          off e = (let q = last_is l h (instr.For f.slot f.lo f.hi f.last) (ap (slice_get u.code) (sym e) ∙ (a.is f has).for) in cc)
+          off e = (let q = last_is l h (instr.For f.slot f.lo f.hi f.last) (ap (slice_get u.code) (sym e) ∙ (a.is f has).begins) in cc)
 
   -- ---- a `next`
 
@@ -404,9 +405,9 @@ module _ (u : UnitValue) (a : AreLoops u) where
   falls_next : (slots : List Value) (at : ℕ) (f : Loop) (n : ℤ) → Has (loops u) f → int_lt n f.hi ≡ true → slice_get slots f.slot ≡ Some (value.Number n)
       → FallsAt f.last slots (f.first + 1) (slice_set slots f.slot (value.Number (n +ℤ pos 1))) at
   falls_next slots at f n has less number =
-      falls_turn slots new f.last (f.first + 1) at f has ((let x = (a.is f has).ahead in omega arith), omega arith)
-      (λ e. (let x = not_round at f e in let y = (a.is f has).ahead in record { reach = λ h. omega arith; past = λ h. omega arith })) aside
-      (falls_again slots new at f (a.is f has).ahead one)
+      falls_turn slots new f.last (f.first + 1) at f has ((let x = (a.ahead f has) in omega arith), omega arith)
+      (λ e. (let x = not_round at f e in let y = (a.ahead f has) in record { reach = λ h. omega arith; past = λ h. omega arith })) aside
+      (falls_again slots new at f (a.ahead f has) one)
     where
       new : List Value
       new = slice_set slots f.slot (value.Number (n +ℤ pos 1))
@@ -425,23 +426,23 @@ module _ (u : UnitValue) (a : AreLoops u) where
       aside : (l : Loop) → Has (loops u) l → (l.first ≡ f.first → ⊥) → Stays slots f.last new (f.first + 1) l
       aside l h differ = record {
         round = same_test (is_round f.last l) (is_round (f.first + 1) l)
-            (λ r. (let x = round_parts f.last l r in let y = outer l h differ r in let z = (a.is f has).ahead in round_from (f.first + 1) l (omega arith) (omega arith)))
+            (λ r. (let x = round_parts f.last l r in let y = outer l h differ r in let z = (a.ahead f has) in round_from (f.first + 1) l (omega arith) (omega arith)))
             (λ r. (let x = round_parts (f.first + 1) l r in let z = inside l f h has (let d = differ in omega arith) (omega arith) in
-            let w = (a.is f has).ahead in let v = z.last in let s = z.first in round_from f.last l (omega arith) (omega arith)));
-        same = λ r. ap (turns_to l.hi) (get-set_other slots f.slot l.slot (value.Number (n +ℤ pos 1)) (λ q. (let x = round_parts f.last l r in let z = (a.is f has).ahead in
-            a.unwritten (instr.For f.slot f.lo f.hi f.last) f.first l (a.is f has).for h (within_from f.first l (outer l h differ r) (omega arith)) (ap Some (sym q)))));
+            let w = (a.ahead f has) in let v = z.last in let s = z.first in round_from f.last l (omega arith) (omega arith)));
+        same = λ r. ap (turns_to l.hi) (get-set_other slots f.slot l.slot (value.Number (n +ℤ pos 1)) (λ q. (let x = round_parts f.last l r in let z = (a.ahead f has) in
+            a.unwritten (instr.For f.slot f.lo f.hi f.last) f.first l (a.is f has).begins h (within_from f.first l (outer l h differ r) (omega arith)) (ap Some (sym q)))));
       }
 
   -- and out of the last
   falls_last : (slots : List Value) (at : ℕ) (f : Loop) → Has (loops u) f → FallsAt f.last slots (f.last + 1) slots at
   falls_last slots at f has =
-      falls_turn slots slots f.last (f.last + 1) at f has ((let x = (a.is f has).ahead in omega arith), omega arith) (λ e. record { reach = λ h. omega arith; past = λ h. omega arith })
+      falls_turn slots slots f.last (f.last + 1) at f has ((let x = (a.ahead f has) in omega arith), omega arith) (λ e. record { reach = λ h. omega arith; past = λ h. omega arith })
       (λ l h differ. record {
-        round = round_next f.last l (λ e. (let q = first_is l h (instr.Next f.first) (ap (slice_get u.code) (sym e) ∙ (a.is f has).next) in cc))
+        round = round_next f.last l (λ e. (let q = first_is l h (instr.Next f.first) (ap (slice_get u.code) (sym e) ∙ (a.is f has).ends) in cc))
             (λ e. differ (same_first l f h has (sym e)));
         same = λ r. refl;
       })
-      (falls_behind slots slots at f (a.is f has).ahead)
+      (falls_behind slots slots at f (a.ahead f has))
 
   -- a `next` at place p that names place b
   falls_turned : (b p : ℕ) (slots : List Value) (q : ℕ) (new : List Value) (at : ℕ) → slice_get u.code p ≡ Some (instr.Next b) → IsTurn u b p slots q new → FallsAt p slots q new at

@@ -9,7 +9,7 @@ use Rattle.xk_types.specs.World.{Activity, Clock, World, standing_of}
 use Rattle.xk_types.specs.Step.{is_signalled, is_pending, advanced, settled_clock, settled}
 use Rattle.xk_types.specs.Bound.{steps_weight, activities_weight, clocks_weight, steps_bound, activities_bound, clocks_bound}
 use Rattle.xk_laws.proofs.Invariant.{Each, Stands, IsClockSound, IsActivitySound, IsSound, looks, owing}
-use Rattle.xk_laws.proofs.Lists.{each_map, fun_ext}
+use Rattle.xk_types.proofs.Lists.{each_map, fun_ext}
 use Rattle.xk_laws.proofs.Clocks.Advance.{settled_cases, stand-advanced, looks-settled, unready-advanced, ready_pending}
 
 -- a clock before the end of step number `now`

@@ -10,7 +10,7 @@ use Rattle.xk_types.specs.declared.names.Standing.TheVariants as standing
 use Rattle.xk_types.specs.World.{Clock, standing_of}
 use Rattle.xk_types.specs.Step.{moved_on, moved, joined_on, joined, new_clock}
 use Rattle.xk_laws.proofs.Invariant.{Each, stands_on}
-use Rattle.xk_laws.proofs.Lists.{get-push_other, get_push}
+use Rattle.xk_types.proofs.Lists.{get-push_other, get_push}
 
 -- ---- one activity's standings change
 

@@ -18,7 +18,7 @@ use Rattle.xk_types.specs.Step.{is_signalled, moved, moved_on, joined, joined_on
 use Rattle.xk_types.specs.Bound.{steps_weight, activities_weight, clocks_weight, stack_of}
 use Rattle.xk_laws.proofs.NeverWrong.Callers.{frame_later, still_waiting}
 use Rattle.xk_laws.proofs.Invariant.{Each, Stands, Expects, NamedIn, AreWaiting, slots_in, IsFrameSound, IsClockSound, IsActivitySound, IsSound, stands_on, looks, kind_by, kind_of, is_held, owed, owing}
-use Rattle.xk_laws.proofs.Lists.{each_set, each_push, fun_ext}
+use Rattle.xk_types.proofs.Lists.{each_set, each_push, fun_ext}
 use Rattle.xk_laws.proofs.Clocks.Standings.{stand_same, stand_other, each_moved, length-moved, stands_on-moved_other, stands_on-moved_same, stands_on-push_other, new_same, new_other, new_width, stand_joined_old, stand_joined_new, length-joined, each_joined, stands_on-joined_old, stands_on-joined_new}
 use Rattle.xk_laws.proofs.Clocks.Settling.{IsClockNear, IsNear, world_settled}
 use Rattle.xk_laws.proofs.Bound.Measure.{IsPaid, IsShared, owing_set}

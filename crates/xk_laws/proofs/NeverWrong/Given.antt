@@ -23,7 +23,7 @@ use Rattle.xk_types.specs.Walk.{entry_of, IsVisited, MayBecome, across}
 use Rattle.xk_types.specs.declared.rules.Kind.TheVariants as kind
 use Rattle.xk_laws.proofs.Invariant.{Each, Names, Waits, IsFrameSound, IsActivitySound, kind_by, kind_of, is_held}
 use Rattle.xk_laws.proofs.Bound.Totals.{stack_within_bound}
-use Rattle.xk_laws.proofs.Lists.{get-append_left, each_filled, any_found, any_given}
+use Rattle.xk_types.proofs.Lists.{get-append_left, each_filled, any_found, any_given}
 use Rattle.xk_types.proofs.Walks.{visited_entry}
 use Rattle.xk_laws.proofs.SlotKinds.Table.{held_entry}
 use Rattle.xk_laws.proofs.Shape.Units.{unit_fits}

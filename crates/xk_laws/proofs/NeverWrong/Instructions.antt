@@ -28,7 +28,7 @@ use Rattle.xk_types.specs.Blocks.{takes_clock, block_at, homes, is_here}
 use Rattle.xk_types.specs.Walk.{after, reads, may_read, loop_slot, writes, gives, becomes, MayBecome, successors, across, is_lent, is_own, overwritten, let_go, IsVisited}
 use Rattle.xk_types.specs.Bound.{steps_weight, clocks_weight}
 use Rattle.xk_laws.proofs.Invariant.{Each, Stands, IsActivitySound, IsSound, stands_on, looks, kind_by, kind_of, is_held, NamesNone, NamedIn, once_past, Waits, IsWaiting, AreWaiting, Names, Expects}
-use Rattle.xk_laws.proofs.Lists.{get_inside, get-set_other}
+use Rattle.xk_types.proofs.Lists.{get_inside, get-set_other}
 use Rattle.xk_laws.proofs.Shape.Loops.{IsEnd}
 use Rattle.xk_laws.proofs.Bound.Turns.{IsTurn}
 use Rattle.xk_laws.proofs.SlotKinds.Walks.{Allowed}

@@ -18,7 +18,7 @@ use Rattle.xk_types.specs.Walk.{MayBecome, IsVisited, after, successors}
 use Rattle.xk_types.specs.Accepted.{IsAccepted}
 use Rattle.xk_laws.proofs.Invariant.{Each, Expects, Names, NamesNone, NamedIn, once_past, IsActivitySound, kind_by, kind_of, is_held}
 use Rattle.xk_laws.proofs.NeverWrong.Callers.{IsMild, names_known, still_waiting}
-use Rattle.xk_laws.proofs.Lists.{get_inside, get_once, get-set_same, get-set_other, each_set}
+use Rattle.xk_types.proofs.Lists.{get_inside, get_once, get-set_same, get-set_other, each_set}
 use Rattle.xk_laws.proofs.SlotKinds.Walks.{Allowed, visited_allowed, visited_next}
 use Rattle.xk_laws.proofs.Shape.Units.{IsFit}
 use Rattle.xk_laws.proofs.SlotKinds.Table.{only_here, only_other, only_held, IsWritten, IsUsed}

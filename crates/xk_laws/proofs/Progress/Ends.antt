@@ -16,7 +16,7 @@ use Rattle.xk_types.specs.Step.{innermost, is_under, step_by, step_of}
 use Rattle.xk_types.specs.Schedule.{is_step, is_enabled, all_ended}
 use Rattle.xk_types.specs.Accepted.{IsAccepted}
 use Rattle.xk_laws.proofs.Invariant.{NamedIn, IsActivitySound, IsSound, looks, is_held}
-use Rattle.xk_laws.proofs.Lists.{get_inside, all_given}
+use Rattle.xk_types.proofs.Lists.{get_inside, all_given}
 use Rattle.xk_laws.proofs.NeverWrong.Instructions.{standing_at, running_moves}
 use Rattle.xk_laws.proofs.Scopes.Invariant.{finish_at, opened_in, opened_by, IsRound, round_length, round_shorter, AreHome, IsScoped}
 use Rattle.xk_laws.proofs.Scopes.Steps.{closed_home}

@@ -12,7 +12,7 @@ use Rattle.xk_types.specs.World.{Activity, World, standing_of, is_ended}
 use Rattle.xk_types.specs.Step.{Blocked, is_signalled, is_pending, all, passed, past, done, waits, step_by, step_of}
 use Rattle.xk_types.specs.Schedule.{is_step, is_enabled}
 use Rattle.xk_laws.proofs.Invariant.{Stands, IsSound, looks, kind_by, is_held}
-use Rattle.xk_laws.proofs.Lists.{get_inside, any_found}
+use Rattle.xk_types.proofs.Lists.{get_inside, any_found}
 use Rattle.xk_laws.proofs.Clocks.Advance.{held_back}
 use Rattle.xk_laws.proofs.Clocks.Standings.{stands_on_at}
 

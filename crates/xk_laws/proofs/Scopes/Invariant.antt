@@ -13,7 +13,7 @@ use Rattle.xk_types.specs.World.{Frame, Finish, Activity, Clock, World, base_of,
 use Rattle.xk_types.specs.Step.{Outcome, Blocked, Wrong, Stepped, governing, settled, settled_clock}
 use Rattle.xk_types.specs.Order.{Has}
 use Rattle.xk_laws.proofs.Invariant.{Each, Names, NamedIn, looks, kind_by, is_held, stands_on}
-use Rattle.xk_laws.proofs.Lists.{each_set, fun_ext}
+use Rattle.xk_types.proofs.Lists.{each_set, fun_ext}
 use Rattle.xk_laws.proofs.Clocks.Advance.{looks-settled}
 use Rattle.xk_laws.proofs.NeverWrong.Changes.{left}
 

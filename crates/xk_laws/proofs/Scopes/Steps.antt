@@ -31,7 +31,7 @@ use Rattle.xk_types.specs.Shape.{instr_is, gives_away, target}
 use Rattle.xk_types.specs.Accepted.{IsAccepted}
 use Rattle.xk_types.specs.Walk.{let_go, becomes}
 use Rattle.xk_laws.proofs.Invariant.{Each, Names, NamedIn, IsWaiting, AreWaiting, IsActivitySound, IsSound, looks, kind_by, is_held, stands_on}
-use Rattle.xk_laws.proofs.Lists.{get_inside, each_set, each_push, get_push, get-push_other, fun_ext}
+use Rattle.xk_types.proofs.Lists.{get_inside, each_set, each_push, get_push, get-push_other, fun_ext}
 use Rattle.xk_laws.proofs.Clocks.Standings.{stands_on-moved_same, stands_on-moved_other, length-moved, stands_on-push_old, stands_on-push_other, stands_on-joined_old, stands_on-joined_new, length-joined}
 use Rattle.xk_laws.proofs.Shape.Units.{IsFit, IsRun, unit_fits, unbroken, start_fits, call_fits}
 use Rattle.xk_laws.proofs.Shape.Blocks.{is_border, block_next, block_jump, block_round, block_opened, block_closed, block_begun, block_end, block_start}

@@ -7,7 +7,7 @@ use Rattle.std.proofs.lemmas.Option.{slice_get_within}
 use Rattle.xk_types.specs.World.{Finish, Activity, is_ended}
 use Rattle.xk_types.specs.Step.{same_owner, same_finish, under_within, is_under, awaits_from, awaits}
 use Rattle.xk_laws.proofs.Invariant.{Each}
-use Rattle.xk_laws.proofs.Lists.{get_inside}
+use Rattle.xk_types.proofs.Lists.{get_inside}
 
 -- ---- finishes, one and the same
 

@@ -11,9 +11,11 @@ use Rattle.xk_types.specs.Blocks.{Span, finishes, is_inside, block_at}
 use Rattle.xk_types.specs.Order.{Has}
 use Rattle.xk_types.specs.Shape.{span_of, overlaps, target}
 use Rattle.xk_types.proofs.Shape.Begun.{Rising}
-use Rattle.xk_laws.proofs.Lists.{get_once}
-use Rattle.xk_laws.proofs.Shape.Loops.{AreLoops, loop_of}
-use Rattle.xk_laws.proofs.Shape.Finishes.{AreFinishes, IsFinish, finish_of}
+use Rattle.xk_types.proofs.Lists.{get_once}
+use Rattle.xk_types.proofs.Shape.Loops.{loop_of}
+use Rattle.xk_types.proofs.Shape.Finishes.{IsFinish, finish_of, inside_next}
+use Rattle.xk_laws.proofs.Shape.Loops.{AreLoops}
+use Rattle.xk_laws.proofs.Shape.Finishes.{AreFinishes}
 use Rattle.std.proofs.lemmas.List.{map_push}
 
 -- ---- lists
@@ -45,12 +47,6 @@ filter_one {X} t s (y ∷ ys) place x rise (inr h) off on before later = go (s y
     go false e r = rw e r
 
 -- ---- numbers
-
-inside_next : (p : ℕ) (f : Span) → (f.first ≡ p → ⊥) → (f.last ≡ p → ⊥) → is_inside (p + 1) f ≡ is_inside p f
-inside_next p f h g = go (nat_lt f.first p) refl
-  where
-    go : (b : Bool) → nat_lt f.first p ≡ b → is_inside (p + 1) f ≡ is_inside p f
-    go b e = grind (arith, nat_tests)
 
 inside_same : (p : ℕ) (f : Span) → (f.last ≡ p → ⊥) → is_inside p f ≡ (nat_lt f.first p && nat_lt p f.last)
 inside_same p f h = grind (arith, nat_tests)
@@ -84,10 +80,10 @@ is_border _ = false
 module _ (u : UnitValue) (a : AreFinishes u) where
   -- a place that is no border begins and ends no finish
   not_first : (p : ℕ) (i : Instr) → slice_get u.code p ≡ Some i → is_border i ≡ false → (f : Span) → Has (finishes u) f → f.first ≡ p → ⊥
-  not_first p i here plain f h e = false≢true (sym plain ∙ ap is_border (get_once u.code p i (instr.Finish f.last) here (ap (slice_get u.code) (sym e) ∙ (a.is f h).opens)))
+  not_first p i here plain f h e = false≢true (sym plain ∙ ap is_border (get_once u.code p i (instr.Finish f.last) here (ap (slice_get u.code) (sym e) ∙ (a.is f h).begins)))
 
   not_last : (p : ℕ) (i : Instr) → slice_get u.code p ≡ Some i → is_border i ≡ false → (f : Span) → Has (finishes u) f → f.last ≡ p → ⊥
-  not_last p i here plain f h e = false≢true (sym plain ∙ ap is_border (get_once u.code p i (instr.EndFinish f.first) here (ap (slice_get u.code) (sym e) ∙ (a.is f h).closes)))
+  not_last p i here plain f h e = false≢true (sym plain ∙ ap is_border (get_once u.code p i (instr.EndFinish f.first) here (ap (slice_get u.code) (sym e) ∙ (a.is f h).ends)))
 
   -- on to the next place
   pub block_next : (p : ℕ) (i : Instr) → slice_get u.code p ≡ Some i → is_border i ≡ false → block_at u (p + 1) ≡ block_at u p
@@ -105,7 +101,7 @@ module _ (u : UnitValue) (a : AreFinishes u) where
       let e = ls.ended b p here in
       let l = loop_of b e.k e.lo e.hi p in
       ap (map (λ f. f.first)) (filter_same (is_inside (b + 1)) (is_inside p) (finishes u)
-      (λ f h. inside_both (span_of l) f (a.loops l f (ls.begun b e.k p e.lo e.hi e.for).0 h) e.ahead (a.is f h).ahead
+      (λ f h. inside_both (span_of l) f (a.loops l f (ls.begun b e.k p e.lo e.hi e.for).0 h) e.ahead (a.ahead f h)
       (not_first b (instr.For e.k e.lo e.hi p) e.for refl f h) (not_last p (instr.Next b) here refl f h)
       (not_first p (instr.Next b) here refl f h) (not_last b (instr.For e.k e.lo e.hi p) e.for refl f h)))
 
@@ -115,13 +111,13 @@ module _ (u : UnitValue) (a : AreFinishes u) where
       let f = finish_of p e in
       let has = (a.opened p e here).0 in
       ap (map (λ x. x.first)) (filter_one (is_inside p) (is_inside (p + 1)) (finishes u) (λ x. x.first) f a.rising has
-      (not_inside p f (omega arith)) (is_between (p + 1) f (omega arith) (let h = (a.is f has).ahead in omega arith))
+      (not_inside p f (omega arith)) (is_between (p + 1) f (omega arith) (let h = a.ahead f has in omega arith))
       (λ g h before. sym (inside_next p g (λ q. absurd (omega arith)) (λ q. closes g h q)))
       (λ g h later. (not_inside p g (omega arith), not_inside (p + 1) g (omega arith))))
       ∙ map_push (λ x. x.first) (filter (is_inside p) (finishes u)) f
     where
       closes : (g : Span) → Has (finishes u) g → g.last ≡ p → ⊥
-      closes g h q = (let r = get_once u.code p (instr.Finish e) (instr.EndFinish g.first) here (ap (slice_get u.code) (sym q) ∙ (a.is g h).closes) in grind arith)
+      closes g h q = (let r = get_once u.code p (instr.Finish e) (instr.EndFinish g.first) here (ap (slice_get u.code) (sym q) ∙ (a.is g h).ends) in grind arith)
 
   -- out of a finish
   pub block_closed : (b p : ℕ) → slice_get u.code p ≡ Some (instr.EndFinish b) → block_at u p ≡ block_at u (p + 1) ++ b ∷ []
@@ -129,16 +125,16 @@ module _ (u : UnitValue) (a : AreFinishes u) where
       let f = finish_of b p in
       let has = a.closed b p here in
       ap (map (λ x. x.first)) (filter_one (is_inside (p + 1)) (is_inside p) (finishes u) (λ x. x.first) f a.rising has
-      (not_beyond (p + 1) f (omega arith)) (is_between p f (let h = (a.is f has).ahead in omega arith) (omega arith))
+      (not_beyond (p + 1) f (omega arith)) (is_between p f (let h = a.ahead f has in omega arith) (omega arith))
       (λ g h before. inside_next p g (opens g h) (λ q. absurd (let r = same g h q in omega arith)))
       (λ g h later. (off g h later, ends_before f g (a.apart f g has h) later (λ q. absurd (let r = same g h q in omega arith)))))
       ∙ map_push (λ x. x.first) (filter (is_inside (p + 1)) (finishes u)) f
     where
       opens : (g : Span) → Has (finishes u) g → g.first ≡ p → ⊥
-      opens g h q = (let r = get_once u.code p (instr.EndFinish b) (instr.Finish g.last) here (ap (slice_get u.code) (sym q) ∙ (a.is g h).opens) in grind arith)
+      opens g h q = (let r = get_once u.code p (instr.EndFinish b) (instr.Finish g.last) here (ap (slice_get u.code) (sym q) ∙ (a.is g h).begins) in grind arith)
 
       same : (g : Span) → Has (finishes u) g → g.last ≡ p → b ≡ g.first
-      same g h q = (let r = get_once u.code p (instr.EndFinish b) (instr.EndFinish g.first) here (ap (slice_get u.code) (sym q) ∙ (a.is g h).closes) in cc)
+      same g h q = (let r = get_once u.code p (instr.EndFinish b) (instr.EndFinish g.first) here (ap (slice_get u.code) (sym q) ∙ (a.is g h).ends) in cc)
 
       off : (g : Span) → Has (finishes u) g → b < g.first → is_inside (p + 1) g ≡ false
       off g h later =
@@ -153,20 +149,23 @@ module _ (u : UnitValue) (a : AreFinishes u) where
       f : IsFinish u (finish_of b p)
       f = a.is (finish_of b p) (a.closed b p here)
 
+      before : b < p
+      before = a.ahead (finish_of b p) (a.closed b p here)
+
       by : (g : Span) → Has (finishes u) g → (g.first ≡ b) ⊎ (g.first ≡ b → ⊥) → is_inside (b + 1) g ≡ is_inside p g
       by g h (inl e) =
-          let q = get_once u.code b (instr.Finish p) (instr.Finish g.last) f.opens (ap (slice_get u.code) (sym e) ∙ (a.is g h).opens) in
+          let q = get_once u.code b (instr.Finish p) (instr.Finish g.last) f.begins (ap (slice_get u.code) (sym e) ∙ (a.is g h).begins) in
           let last : p ≡ g.last = cc in
-          is_between (b + 1) g (omega arith) (let k = f.ahead in omega arith) ∙ sym (is_between p g (let k = f.ahead in omega arith) (omega arith))
-      by g h (inr differs) = inside_both (finish_of b p) g (a.apart (finish_of b p) g (a.closed b p here) h) f.ahead (a.is g h).ahead differs
-          (λ e. (let q = get_once u.code p (instr.EndFinish b) (instr.EndFinish g.first) here (ap (slice_get u.code) (sym e) ∙ (a.is g h).closes) in differs cc))
-          (λ e. (let q = get_once u.code p (instr.EndFinish b) (instr.Finish g.last) here (ap (slice_get u.code) (sym e) ∙ (a.is g h).opens) in grind arith))
-          (λ e. (let q = get_once u.code b (instr.Finish p) (instr.EndFinish g.first) f.opens (ap (slice_get u.code) (sym e) ∙ (a.is g h).closes) in grind arith))
+          is_between (b + 1) g (omega arith) (let k = before in omega arith) ∙ sym (is_between p g (let k = before in omega arith) (omega arith))
+      by g h (inr differs) = inside_both (finish_of b p) g (a.apart (finish_of b p) g (a.closed b p here) h) before (a.ahead g h) differs
+          (λ e. (let q = get_once u.code p (instr.EndFinish b) (instr.EndFinish g.first) here (ap (slice_get u.code) (sym e) ∙ (a.is g h).ends) in differs cc))
+          (λ e. (let q = get_once u.code p (instr.EndFinish b) (instr.Finish g.last) here (ap (slice_get u.code) (sym e) ∙ (a.is g h).begins) in grind arith))
+          (λ e. (let q = get_once u.code b (instr.Finish p) (instr.EndFinish g.first) f.begins (ap (slice_get u.code) (sym e) ∙ (a.is g h).ends) in grind arith))
 
   -- at the end of the code the block is the unit
   pub block_end : (p : ℕ) → length u.code ≤ p + 1 → (i : Instr) → slice_get u.code p ≡ Some i → is_border i ≡ false → block_at u p ≡ []
   block_end p end i here plain = ap (map (λ f. f.first)) (filter_none (is_inside p) (finishes u)
-      (λ f h. not_beyond p f (let inside = slice_get_within u.code f.last (instr.EndFinish f.first) (a.is f h).closes in let other = not_last p i here plain f h in below f.last p inside other end)))
+      (λ f h. not_beyond p f (let inside = slice_get_within u.code f.last (instr.EndFinish f.first) (a.is f h).ends in let other = not_last p i here plain f h in below f.last p inside other end)))
     where
       below : (l q : ℕ) → l < length u.code → (l ≡ q → ⊥) → length u.code ≤ q + 1 → l < q
       below l q h g e = omega arith

@@ -10,19 +10,11 @@ use Rattle.xk_types.specs.Blocks.{Span, is_end_of, finish_opened, finishes}
 use Rattle.xk_types.specs.Order.{Has}
 use Rattle.xk_types.specs.Shape.{breaks_target, breaks_block, breaks_loop, span_of, span_begun, spans, span_ended, overlaps}
 use Rattle.xk_types.proofs.Members.{none_has}
-use Rattle.xk_types.proofs.Shape.Begun.{Rising, begun_found, begun_had, begun_rise}
-use Rattle.xk_types.proofs.Shape.Spans.{end_is, not_amiss, finish_span, aims, uncrossing, ahead}
-use Rattle.xk_laws.proofs.Shape.Loops.{begins, loop_apart, EndsSpan}
-
--- the finish between these two places
-abbrev pub finish_of : ℕ → ℕ → Span
-finish_of b e = record { first = b; last = e }
-
--- a `finish` and an `endfinish` that name each other
-pub record IsFinish (u : UnitValue) (f : Span) : Type 0 where
-  pub opens : slice_get u.code f.first ≡ Some (instr.Finish f.last)
-  pub closes : slice_get u.code f.last ≡ Some (instr.EndFinish f.first)
-  pub ahead : f.first < f.last
+use Rattle.xk_types.proofs.Shape.Begun.{Rising, begun_had, begun_rise}
+use Rattle.xk_types.proofs.Shape.Spans.{not_amiss, finish_span, aims, uncrossing, ahead}
+use Rattle.xk_types.proofs.Shape.Loops.{begins}
+use Rattle.xk_types.proofs.Shape.Finishes.{IsFinish, finish_of, begins_at, is_finish}
+use Rattle.xk_laws.proofs.Shape.Loops.{loop_apart, EndsSpan}
 
 -- the finishes of a unit that breaks no rule on shape
 pub record AreFinishes (u : UnitValue) : Type 0 where
@@ -31,29 +23,11 @@ pub record AreFinishes (u : UnitValue) : Type 0 where
   -- each `endfinish` closes one
   pub closed : (b e : ℕ) → slice_get u.code e ≡ Some (instr.EndFinish b) → Has (finishes u) (finish_of b e)
   pub is : (f : Span) → Has (finishes u) f → IsFinish u f
+  pub ahead : (f : Span) → Has (finishes u) f → f.first < f.last
   -- they nest, or lie apart, and so they do with loops
   pub apart : (f g : Span) → Has (finishes u) f → Has (finishes u) g → overlaps f g ≡ false
   pub loops : (l : Loop) (f : Span) → Has (loops u) l → Has (finishes u) f → overlaps (span_of l) f ≡ false
   pub rising : Rising (λ f. f.first) (finishes u)
-
--- ---- what opens a finish
-
--- instruction i at place `at` is the `finish`, and its `endfinish` names it
-record Opens (u : UnitValue) (at : ℕ) (i : Instr) (f : Span) : Type 0 where
-  is : i ≡ instr.Finish f.last
-  first : f.first ≡ at
-  end : slice_get u.code f.last ≡ Some (instr.EndFinish at)
-
--- what `finish_opened` finds
-opens : (u : UnitValue) (at : ℕ) (i : Instr) (f : Span) → finish_opened u at i ≡ Some f → Opens u at i f
-opens u at (instr.Finish e) f h =
-    let p = cond_some (is_end_of at (slice_get u.code e)) (finish_of at e) f h in
-    subst (Opens u at (instr.Finish e)) p.1 (record { is = refl; first = refl; end = end_is at (slice_get u.code e) p.0 })
-opens u at _ f h = absurd (none-some f h)
-
--- where a finish opens
-opens_first : (u : UnitValue) (at : ℕ) (i : Instr) (f : Span) → finish_opened u at i ≡ Some f → f.first ≡ at
-opens_first u at i f h = (opens u at i f h).first
 
 module _ (u : UnitValue) (targets : (at : ℕ) → breaks_target u at ≡ false) (blocks : (at : ℕ) → breaks_block u at ≡ false) (kinds : (at : ℕ) → breaks_loop u at ≡ false) where
   -- each `finish` opens one
@@ -102,24 +76,14 @@ module _ (u : UnitValue) (targets : (at : ℕ) → breaks_target u at ≡ false)
       go None f g = absurd (none-some g.0 g.1)
       go (Some i) f g = finish_ends b e i g.0 here f g.1
 
-  -- what each finish is
-  is_finish : (f : Span) → Has (finishes u) f → IsFinish u f
-  is_finish f h =
-      let r = begun_found (finish_opened u) 0 u.code f h in
-      let g = opens u (0 + r.j) r.i f r.begins in
-      let place : r.j ≡ f.first = omega (arith, g.first) in
-      let same : 0 + r.j ≡ f.first = omega arith in
-      let here : slice_get u.code f.first ≡ Some (instr.Finish f.last) = ap (slice_get u.code) (sym place) ∙ r.found ∙ ap Some g.is in
-      record {
-        opens = here;
-        closes = subst (λ n. slice_get u.code f.last ≡ Some (instr.EndFinish n)) same g.end;
-        ahead = (ahead u f.first f.last (aims u targets f.first (instr.Finish f.last) here)).0;
-      }
+  -- each ends ahead
+  finish_ahead : (f : Span) → Has (finishes u) f → f.first < f.last
+  finish_ahead f h = (ahead u f.first f.last (aims u targets f.first (instr.Finish f.last) (is_finish u f h).begins)).0
 
   -- none overlaps another
   finish_apart : (f g : Span) → Has (finishes u) f → Has (finishes u) g → overlaps f g ≡ false
   finish_apart f g h k =
-      let here = (is_finish f h).opens in
+      let here = (is_finish u f h).begins in
       let b = opened_at f.first f.last here in
       let same : b.0 ≡ f = same_Some b.0 f (sym b.1 ∙ opened_is f.first f.last here) in
       subst (λ x. overlaps x g ≡ false) same (none_has (overlaps b.0) (spans u) g b.2 (finish_span u g k))
@@ -129,8 +93,9 @@ module _ (u : UnitValue) (targets : (at : ℕ) → breaks_target u at ≡ false)
   are_finishes = record {
     opened = λ b e here. (opened_has b e here, (ahead u b e (aims u targets b (instr.Finish e) here)).1);
     closed = closed_at;
-    is = is_finish;
+    is = is_finish u;
+    ahead = finish_ahead;
     apart = finish_apart;
     loops = λ l f h g. loop_apart u targets blocks kinds l f h (finish_span u f g);
-    rising = begun_rise (finish_opened u) (λ f. f.first) (opens_first u) 0 u.code;
+    rising = begun_rise (finish_opened u) (λ f. f.first) (begins_at u) 0 u.code;
   }

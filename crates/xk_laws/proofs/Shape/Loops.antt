@@ -13,22 +13,12 @@ use Rattle.xk_types.specs.Code.{UnitValue, Loop, is_next_of, loop_begun, loops, 
 use Rattle.xk_types.specs.Blocks.{Span, is_end_of, finishes, is_inside}
 use Rattle.xk_types.specs.Order.{Has}
 use Rattle.xk_types.specs.Shape.{instr_is, slot_written, target, lies_ahead, breaks_target, span_of, span_begun, spans, overlaps, span_ended, differ, crosses, breaks_block, is_backward, writes_slot, breaks_loop}
-use Rattle.xk_types.proofs.Shape.Begun.{Rising, begun_found, begun_had, begun_rise}
+use Rattle.xk_types.proofs.Shape.Begun.{Rising, begun_had, begun_rise}
 use Rattle.xk_types.proofs.Members.{none_has}
-use Rattle.xk_types.proofs.Shape.Spans.{next_is, not_amiss, of_loop, loop_span, finish_span, aims, uncrossing, ahead}
+use Rattle.xk_types.proofs.Shape.Spans.{not_amiss, of_loop, loop_span, finish_span, aims, uncrossing, ahead}
+use Rattle.xk_types.proofs.Shape.Loops.{IsLoop, loop_of, begins, begins_at, is_loop}
 
 -- ---- what holds of them
-
--- the loop whose `for` stands at place `first`
-abbrev pub loop_of : ℕ → ℕ → ℤ → ℤ → ℕ → Loop
-loop_of first k lo hi e = record { first = first; last = e; slot = k; lo = lo; hi = hi }
-
--- a `for` and a `next` that name each other, and bounds in order
-pub record IsLoop (u : UnitValue) (l : Loop) : Type 0 where
-  pub for : slice_get u.code l.first ≡ Some (instr.For l.slot l.lo l.hi l.last)
-  pub next : slice_get u.code l.last ≡ Some (instr.Next l.first)
-  pub ahead : l.first < l.last
-  pub order : int_le l.lo l.hi ≡ true
 
 -- the `next` at place e ends the loop that this `for` at place b begins
 pub record IsEnd (u : UnitValue) (b e : ℕ) : Type 0 where
@@ -52,6 +42,8 @@ pub record AreLoops (u : UnitValue) : Type 0 where
   -- each `next` ends one
   pub ended : (b e : ℕ) → slice_get u.code e ≡ Some (instr.Next b) → IsEnd u b e
   pub is : (l : Loop) → Has (loops u) l → IsLoop u l
+  pub ahead : (l : Loop) → Has (loops u) l → l.first < l.last
+  pub order : (l : Loop) → Has (loops u) l → int_le l.lo l.hi ≡ true
   -- they nest, or lie apart
   pub apart : (l k : Loop) → Has (loops u) l → Has (loops u) k → overlaps (span_of l) (span_of k) ≡ false
   pub rising : Rising (λ l. l.first) (loops u)
@@ -59,25 +51,6 @@ pub record AreLoops (u : UnitValue) : Type 0 where
   pub kept : (i : Instr) (p t : ℕ) → slice_get u.code p ≡ Some i → target i ≡ Some t → IsKept u p t
   -- no instruction in a loop writes its slot
   pub unwritten : (i : Instr) (at : ℕ) (l : Loop) → slice_get u.code at ≡ Some i → Has (loops u) l → is_within at l ≡ true → slot_written i ≡ Some l.slot → ⊥
-
--- ---- what begins a loop
-
--- instruction i at place `at` is the `for` of the loop, and its `next` names it
-pub record Begins (u : UnitValue) (at : ℕ) (i : Instr) (l : Loop) : Type 0 where
-  pub is : i ≡ instr.For l.slot l.lo l.hi l.last
-  pub first : l.first ≡ at
-  pub next : slice_get u.code l.last ≡ Some (instr.Next at)
-
--- what `loop_begun` finds
-pub begins : (u : UnitValue) (at : ℕ) (i : Instr) (l : Loop) → loop_begun u at i ≡ Some l → Begins u at i l
-begins u at (instr.For k lo hi e) l h =
-    let p = cond_some (is_next_of at (slice_get u.code e)) (loop_of at k lo hi e) l h in
-    subst (Begins u at (instr.For k lo hi e)) p.1 (record { is = refl; first = refl; next = next_is at (slice_get u.code e) p.0 })
-begins u at _ l h = absurd (none-some l h)
-
--- where a loop begins
-begins_first : (u : UnitValue) (at : ℕ) (i : Instr) (l : Loop) → loop_begun u at i ≡ Some l → l.first ≡ at
-begins_first u at i l h = (begins u at i l h).first
 
 -- ---- from the rules
 
@@ -158,25 +131,17 @@ module _ (u : UnitValue) (targets : (at : ℕ) → breaks_target u at ≡ false)
       go None f g = absurd (none-some g.0 g.1)
       go (Some i) f g = next_ends b e i g.0 here f g.1
 
-  -- what each loop is
-  pub is_loop : (l : Loop) → Has (loops u) l → IsLoop u l
-  is_loop l h =
-      let f = begun_found (loop_begun u) 0 u.code l h in
-      let g = begins u (0 + f.j) f.i l f.begins in
-      let place : f.j ≡ l.first = omega (arith, g.first) in
-      let same : 0 + f.j ≡ l.first = omega arith in
-      let for : slice_get u.code l.first ≡ Some (instr.For l.slot l.lo l.hi l.last) = ap (slice_get u.code) (sym place) ∙ f.found ∙ ap Some g.is in
-      record {
-        for = for;
-        next = subst (λ n. slice_get u.code l.last ≡ Some (instr.Next n)) same g.next;
-        ahead = (ahead u l.first l.last (aims u targets l.first (instr.For l.slot l.lo l.hi l.last) for)).0;
-        order = in_order l.lo l.hi (forward l.first (instr.For l.slot l.lo l.hi l.last) for);
-      }
+  -- each ends ahead, and its bounds are in order
+  loop_ahead : (l : Loop) → Has (loops u) l → l.first < l.last
+  loop_ahead l h = (ahead u l.first l.last (aims u targets l.first (instr.For l.slot l.lo l.hi l.last) (is_loop u l h).begins)).0
+
+  loop_order : (l : Loop) → Has (loops u) l → int_le l.lo l.hi ≡ true
+  loop_order l h = in_order l.lo l.hi (forward l.first (instr.For l.slot l.lo l.hi l.last) (is_loop u l h).begins)
 
   -- none overlaps a loop or a finish
   pub loop_apart : (l : Loop) (s : Span) → Has (loops u) l → Has (spans u) s → overlaps (span_of l) s ≡ false
   loop_apart l s h g =
-      let for = (is_loop l h).for in
+      let for = (is_loop u l h).begins in
       let b = begun_at l.first l.slot l.last l.lo l.hi for in
       let same : b.0 ≡ l = same_Some b.0 l (sym b.1 ∙ begun_is l.first l.slot l.last l.lo l.hi for) in
       subst (λ x. overlaps (span_of x) s ≡ false) same (none_has (overlaps (span_of b.0)) (spans u) s b.2 g)
@@ -209,9 +174,11 @@ module _ (u : UnitValue) (targets : (at : ℕ) → breaks_target u at ≡ false)
   are_loops = record {
     begun = λ b k e lo hi here. (begun_has b k e lo hi here, (ahead u b e (aims u targets b (instr.For k lo hi e) here)).1);
     ended = ended_at;
-    is = is_loop;
+    is = is_loop u;
+    ahead = loop_ahead;
+    order = loop_order;
     apart = λ l k h g. loop_apart l (span_of k) h (loop_span u k g);
-    rising = begun_rise (loop_begun u) (λ l. l.first) (begins_first u) 0 u.code;
+    rising = begun_rise (loop_begun u) (λ l. l.first) (begins_at u) 0 u.code;
     kept = kept_by;
     unwritten = none_writes;
   }

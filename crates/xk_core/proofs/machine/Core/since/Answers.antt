@@ -6,7 +6,7 @@ use Rattle.xk_core.specs.Core.{CoreValue}
 use Rattle.xk_core.proofs.Finishing.{since_told}
 use Rattle.xk_core.proofs.Told.{length_told}
 use Rattle.std.specs.Prelude.{option_map}
-use Rattle.xk_laws.proofs.Lists.{get_inside}
+use Rattle.xk_types.proofs.Lists.{get_inside}
 use Rattle.xk_core.proofs.machine.Core.since.Goals as goal
 
 pub unreachable-requires : goal.unreachable-requires

@@ -38,15 +38,20 @@ get-set_other (z ∷ xs) zero (suc j) y h = refl
 get-set_other (z ∷ xs) (suc i) zero y h = refl
 get-set_other (z ∷ xs) (suc i) (suc j) y h = get-set_other xs i j y (λ e. h (ap suc e))
 
+-- What holds of all others, and of the new element if there was an old one, holds of each after a write.
+pub each_put : {X : Type 0} (P : ℕ → X → Type 0) (xs : List X) (a : ℕ) (new : X) → ((old : X) → slice_get xs a ≡ Some old → P a new)
+    → ((i : ℕ) (x : X) → (i ≡ a → ⊥) → slice_get xs i ≡ Some x → P i x) → Each P (set xs a new)
+each_put P [] a new here rest i x h = absurd (none-some x h)
+each_put P (z ∷ xs) zero new here rest zero x h = subst (P zero) (same_Some new x h) (here z refl)
+each_put P (z ∷ xs) zero new here rest (suc i) x h = rest (suc i) x (λ e. absurd (omega arith)) h
+each_put P (z ∷ xs) (suc a) new here rest zero x h = rest zero x (λ e. absurd (omega arith)) h
+each_put P (z ∷ xs) (suc a) new here rest (suc i) x h =
+    each_put (λ j. P (suc j)) xs a new here (λ j y ne. rest (suc j) y (λ e. ne (omega arith))) i x h
+
 -- what holds of the new element and of all others holds of each after a write
 pub each_set : {X : Type 0} (P : ℕ → X → Type 0) (xs : List X) (a : ℕ) (old new : X) → slice_get xs a ≡ Some old
     → P a new → ((i : ℕ) (x : X) → (i ≡ a → ⊥) → slice_get xs i ≡ Some x → P i x) → Each P (set xs a new)
-each_set P [] a old new at here rest i x h = absurd (none-some x h)
-each_set P (z ∷ xs) zero old new at here rest zero x h = subst (P zero) (same_Some new x h) here
-each_set P (z ∷ xs) zero old new at here rest (suc i) x h = rest (suc i) x (λ e. absurd (omega arith)) h
-each_set P (z ∷ xs) (suc a) old new at here rest zero x h = rest zero x (λ e. absurd (omega arith)) h
-each_set P (z ∷ xs) (suc a) old new at here rest (suc i) x h =
-    each_set (λ j. P (suc j)) xs a old new at here (λ j y ne. rest (suc j) y (λ e. ne (omega arith))) i x h
+each_set P xs a old new at here rest = each_put P xs a new (λ z h. here) rest
 
 -- what holds of each and of the new element holds of each after a push
 pub each_push : {X : Type 0} (P : ℕ → X → Type 0) (xs : List X) (new : X) → Each P xs → P (length xs) new → Each P (xs ++ new ∷ [])
