@@ -12,10 +12,10 @@ use Rattle.xk_tree.specs.Tree.{Expression, Word, Literal, Named, Paren, Negation
 use Rattle.xk_exprs.specs.Spelling.{minus_marks, number_marks, spell, binds, level, depth, operators, IsNegatable, IsGrouped, Spells, SpellsTerm, Ends}
 use Rattle.xk_exprs.specs.Readers.{◌>>=◌, Turn, Fails, Stops, Goes, loop}
 use Rattle.xk_exprs.specs.Exprs.{Read, close_by, close_at, operator_by, operator_at, joined, operand, another, chain_at, terms, sums, in_parens, negated, digits_by, digits_at, number_of, valued, literal, minus_or, factor_at, without_count, whole_at, whole_term_at}
-use Rattle.xk_exprs.specs.Laws.{ExpressionAgain, TermAgain}
+use Rattle.xk_exprs.specs.Laws.{ExpressionAgain, ExpressionOnce, TermAgain}
 use Rattle.xk_exprs.proofs.Loops.{bind_some, loop_goes, loop_stops}
 use Rattle.xk_exprs.proofs.Numbers.{literal_again}
-use Rattle.xk_exprs.proofs.Takes.{Took, Sound, another_shrinks, terms_sound, sums_sound, factor_sound}
+use Rattle.xk_exprs.proofs.Takes.{some_is, Took, Sound, another_shrinks, terms_sound, sums_sound, factor_sound}
 
 -- each operator binds
 binds_some : (o : Op) → 0 < binds o
@@ -42,7 +42,8 @@ ends_0 (_ ∷ ts) = tt
 
 -- an expression of this level and depth is read from its tokens
 abbrev pub Complete : ℕ → ℕ → (ℕ → List Mark → Read) → Type 0
-Complete k d item = (e : Expression) (ops : ℕ) (rest : List Mark) → IsGrouped e → level e ≤ k → depth e ≤ d → Ends k rest → item (operators e + ops) (spell e ++ rest) ≡ Some ((e, ops), rest)
+Complete k d item =
+    (e : Expression) (ops : ℕ) (rest : List Mark) → IsGrouped e → level e ≤ k → depth e ≤ d → Ends k rest → item (operators e + ops) (spell e ++ rest) ≡ Some ((e, ops), rest)
 
 pub level_most : (e : Expression) → level e ≤ 2
 level_most (Binary operator.Plus l at r) = omega arith
@@ -54,7 +55,9 @@ level_most (Paren at e) = omega arith
 level_most (Negation at e) = omega arith
 
 -- an operator and its operand are taken
-pub another_goes : (k : ℕ) (item : ℕ → List Mark → Read) (l r : Expression) (at ops : ℕ) (o : Op) (after rest : List Mark) → binds o ≡ k → item (operators r + ops) after ≡ Some ((r, ops), rest) → another k item (l, suc (operators r + ops)) (Operator at o ∷ after) ≡ Goes (Binary o l at r, ops) rest
+pub another_goes : (k : ℕ) (item : ℕ → List Mark → Read) (l r : Expression) (at ops : ℕ) (o : Op) (after rest : List Mark) → binds o ≡ k
+    → item (operators r + ops) after ≡ Some ((r, ops), rest)
+    → another k item (l, suc (operators r + ops)) (Operator at o ∷ after) ≡ Goes (Binary o l at r, ops) rest
 unfolding another
 another_goes k item l r at ops o after rest b e =
     let h1 : (binds o == k) ≡ true = eq-eqb (binds o) k b in
@@ -63,12 +66,15 @@ another_goes k item l r at ops o after rest b e =
     rw (h1, h2, h3, e) refl
 
 -- reading comes to where the loop has the expression
-chain_base : (k d : ℕ) (item : ℕ → List Mark → Read) → Complete k d item → (e : Expression) (ops : ℕ) (rest : List Mark) → IsGrouped e → level e ≤ k → depth e ≤ d → Ends k rest → chain_at (suc k) item (operators e + ops) (spell e ++ rest) ≡ loop (another (suc k) item) (e, ops) rest
+chain_base : (k d : ℕ) (item : ℕ → List Mark → Read) → Complete k d item → (e : Expression) (ops : ℕ) (rest : List Mark) → IsGrouped e → level e ≤ k
+    → depth e ≤ d → Ends k rest → chain_at (suc k) item (operators e + ops) (spell e ++ rest) ≡ loop (another (suc k) item) (e, ops) rest
 unfolding chain_at
 chain_base k d item c e ops rest g l h ends = rw (c e ops rest g l h ends) refl
 
-chain_step : (k d : ℕ) (item : ℕ → List Mark → Read) → Sound k d item → Complete k d item → (o : Op) (l : Expression) (at : ℕ) (r : Expression) (ops : ℕ) (rest : List Mark)
-    → ((ops : ℕ) (rest : List Mark) → IsGrouped l → level l ≤ suc k → depth l ≤ d → Ends k rest → chain_at (suc k) item (operators l + ops) (spell l ++ rest) ≡ loop (another (suc k) item) (l, ops) rest)
+chain_step : (k d : ℕ) (item : ℕ → List Mark → Read) → Sound k d item → Complete k d item
+    → (o : Op) (l : Expression) (at : ℕ) (r : Expression) (ops : ℕ) (rest : List Mark)
+    → ((ops : ℕ) (rest : List Mark) → IsGrouped l → level l ≤ suc k → depth l ≤ d → Ends k rest
+      → chain_at (suc k) item (operators l + ops) (spell l ++ rest) ≡ loop (another (suc k) item) (l, ops) rest)
     → IsGrouped (Binary o l at r) → binds o ≡ suc k → depth (Binary o l at r) ≤ d → Ends k rest
     → chain_at (suc k) item (operators (Binary o l at r) + ops) (spell (Binary o l at r) ++ rest) ≡ loop (another (suc k) item) (Binary o l at r, ops) rest
 chain_step k d item s c o l at r ops rest ih g b h ends =
@@ -81,9 +87,11 @@ chain_step k d item s c o l at r ops rest ih g b h ends =
     ap (chain_at (suc k) item (operators (Binary o l at r) + ops)) regrouped
     ∙ ap (λ (n : ℕ). chain_at (suc k) item n (spell l ++ (Operator at o ∷ after))) counted
     ∙ ih (suc (operators r + ops)) (Operator at o ∷ after) g.0 (omega arith) (omega arith) (omega arith)
-    ∙ loop_goes (another (suc k) item) (another_shrinks k d item s) (l, suc (operators r + ops)) (Operator at o ∷ after) (Binary o l at r, ops) rest (another_goes (suc k) item l r at ops o after rest b right)
+    ∙ loop_goes (another (suc k) item) (another_shrinks k d item s) (l, suc (operators r + ops)) (Operator at o ∷ after) (Binary o l at r, ops) rest
+        (another_goes (suc k) item l r at ops o after rest b right)
 
-chain_reach : (k d : ℕ) (item : ℕ → List Mark → Read) → Sound k d item → Complete k d item → (e : Expression) (ops : ℕ) (rest : List Mark) → IsGrouped e → level e ≤ suc k → depth e ≤ d → Ends k rest → chain_at (suc k) item (operators e + ops) (spell e ++ rest) ≡ loop (another (suc k) item) (e, ops) rest
+chain_reach : (k d : ℕ) (item : ℕ → List Mark → Read) → Sound k d item → Complete k d item → (e : Expression) (ops : ℕ) (rest : List Mark) → IsGrouped e
+    → level e ≤ suc k → depth e ≤ d → Ends k rest → chain_at (suc k) item (operators e + ops) (spell e ++ rest) ≡ loop (another (suc k) item) (e, ops) rest
 chain_reach k d item s c (Binary o l at r) ops rest g lv h ends =
     elim (cases_lt k (binds o)) [
       | inl lt ↦ chain_step k d item s c o l at r ops rest (λ ops rest. chain_reach k d item s c l ops rest) g (omega arith) h ends
@@ -123,24 +131,31 @@ no_digits (Paren at e) rest l h = refl
 no_digits (Negation at e) rest l h = refl
 no_digits (Binary o a at b) rest l h = let p = binds_some o in absurd (omega arith)
 
-paren_again : (d at ops : ℕ) (e : Expression) (rest : List Mark) → sums (factor_at d) (operators e + ops) (spell e ++ (Symbol sign.RightParen ∷ rest)) ≡ Some ((e, ops), Symbol sign.RightParen ∷ rest) → factor_at (suc d) (operators e + ops) (spell (Paren at e) ++ rest) ≡ Some ((Paren at e, ops), rest)
+paren_again : (d at ops : ℕ) (e : Expression) (rest : List Mark)
+    → sums (factor_at d) (operators e + ops) (spell e ++ (Symbol sign.RightParen ∷ rest)) ≡ Some ((e, ops), Symbol sign.RightParen ∷ rest)
+    → factor_at (suc d) (operators e + ops) (spell (Paren at e) ++ rest) ≡ Some ((Paren at e, ops), rest)
 unfolding factor_at
 paren_again d at ops e rest h =
     ap (λ (z : List Mark). in_parens at (sums (factor_at d) (operators e + ops) z)) (append_assoc (spell e) (Symbol sign.RightParen ∷ []) rest) ∙ rw h refl
 
-negation_by : (d at n : ℕ) (ts : List Mark) (x : (Expression × ℕ) × List Mark) → digits_at ts ≡ None → (n ≡ 0 → ⊥) → factor_at d (n - 1) ts ≡ Some x → factor_at (suc d) n (Operator at operator.Minus ∷ ts) ≡ Some ((Negation at x.0.0, x.0.1), x.1)
+negation_by : (d at n : ℕ) (ts : List Mark) (x : (Expression × ℕ) × List Mark) → digits_at ts ≡ None → (n ≡ 0 → ⊥) → factor_at d (n - 1) ts ≡ Some x
+    → factor_at (suc d) n (Operator at operator.Minus ∷ ts) ≡ Some ((Negation at x.0.0, x.0.1), x.1)
 unfolding factor_at
 negation_by d at n ts x nd ne h =
     let t : (n == 0) ≡ false = ne_eqb n 0 ne in
     rw (nd, t) (ap (negated at) h)
 
-negation_again : (d at ops : ℕ) (e : Expression) (rest : List Mark) → level e ≡ 0 → IsNegatable e → factor_at d (operators e + ops) (spell e ++ rest) ≡ Some ((e, ops), rest) → factor_at (suc d) (operators (Negation at e) + ops) (spell (Negation at e) ++ rest) ≡ Some ((Negation at e, ops), rest)
+negation_again : (d at ops : ℕ) (e : Expression) (rest : List Mark) → level e ≡ 0 → IsNegatable e
+    → factor_at d (operators e + ops) (spell e ++ rest) ≡ Some ((e, ops), rest)
+    → factor_at (suc d) (operators (Negation at e) + ops) (spell (Negation at e) ++ rest) ≡ Some ((Negation at e, ops), rest)
 negation_again d at ops e rest l nd h =
     let less : (operators (Negation at e) + ops) - 1 ≡ operators e + ops = omega arith in
-    negation_by d at (operators (Negation at e) + ops) (spell e ++ rest) ((e, ops), rest) (no_digits e rest l nd) (λ z. omega arith) (ap (λ (n : ℕ). factor_at d n (spell e ++ rest)) less ∙ h)
+    negation_by d at (operators (Negation at e) + ops) (spell e ++ rest) ((e, ops), rest)
+      (no_digits e rest l nd) (λ z. omega arith) (ap (λ (n : ℕ). factor_at d n (spell e ++ rest)) less ∙ h)
 
 -- a number is read from its digits, and its `-`
-number_again : (d : ℕ) (m : Option ℕ) (at n ops : ℕ) (rest : List Mark) (r : number.Number) → literal m at n ≡ Some r → factor_at d ops ((minus_marks m ++ Number at n ∷ []) ++ rest) ≡ Some ((Literal r, ops), rest)
+number_again : (d : ℕ) (m : Option ℕ) (at n ops : ℕ) (rest : List Mark) (r : number.Number) → literal m at n ≡ Some r
+    → factor_at d ops ((minus_marks m ++ Number at n ∷ []) ++ rest) ≡ Some ((Literal r, ops), rest)
 unfolding factor_at
 number_again d None at n ops rest r e = rw e refl
 number_again zero (Some k) at n ops rest r e = rw e refl
@@ -170,6 +185,12 @@ expression_again d front e rest s ends =
     let h = sums_complete d (factor_at d) (factor_sound d) (factor_complete d) e (64 - operators e) rest s.grouped (level_most e) s.depth ends in
     let g : sums (factor_at d) 64 (spell e ++ rest) ≡ Some ((e, 64 - operators e), rest) = ap (λ (k : ℕ). sums (factor_at d) k (spell e ++ rest)) (sym all) ∙ h in
     ap (λ (z : List Mark). without_count (sums (factor_at d) 64 (z ++ rest))) s.spelled ∙ ap without_count g
+
+pub expression_once : ExpressionOnce
+expression_once left ts e f s t =
+    let a = expression_again left ts e [] s tt in
+    let b = expression_again left ts f [] t tt in
+    ap (λ (x : Expression × List Mark). x.0) (some_is (e, []) (f, []) (sym a ∙ b))
 
 pub term_again : TermAgain
 unfolding whole_term_at

@@ -3,3 +3,4 @@ pub mod Numbers
 pub mod Takes
 pub mod Chains
 pub mod Again
+mod Rows

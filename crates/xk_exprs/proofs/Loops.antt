@@ -13,18 +13,21 @@ abbrev pub Shrinks : {A : Type 0} → (A → List Mark → Turn A) → Type 0
 Shrinks {A = A} step = (x : A) (ts : List Mark) (y : A) (us : List Mark) → step x ts ≡ Goes y us → length us < length ts
 
 -- more turns than tokens make no difference
-turns_enough : {A : Type 0} (step : A → List Mark → Turn A) → Shrinks step → (n m : ℕ) (x : A) (ts : List Mark) → length ts < n → length ts < m → turns step n x ts ≡ turns step m x ts
+turns_enough : {A : Type 0} (step : A → List Mark → Turn A) → Shrinks step → (n m : ℕ) (x : A) (ts : List Mark) → length ts < n → length ts < m
+    → turns step n x ts ≡ turns step m x ts
 unfolding turns
 turns_enough step s zero m x ts h k = absurd (omega arith)
 turns_enough step s (suc n) zero x ts h k = absurd (omega arith)
 turns_enough {A = A} step s (suc n) (suc m) x ts h k = by (λ y us p q. turns_enough step s n m y us p q) (step x ts) refl
   where
-    by : ((y : A) (us : List Mark) → length us < n → length us < m → turns step n y us ≡ turns step m y us) → (t : Turn A) → step x ts ≡ t → turned t x ts (turns step n) ≡ turned t x ts (turns step m)
+    by : ((y : A) (us : List Mark) → length us < n → length us < m → turns step n y us ≡ turns step m y us) → (t : Turn A) → step x ts ≡ t
+        → turned t x ts (turns step n) ≡ turned t x ts (turns step m)
     by ih Fails e = refl
     by ih Stops e = refl
     by ih (Goes y us) e = let lt = s x ts y us e in ih y us (omega arith) (omega arith)
 
-pub loop_goes : {A : Type 0} (step : A → List Mark → Turn A) → Shrinks step → (x : A) (ts : List Mark) (y : A) (us : List Mark) → step x ts ≡ Goes y us → loop step x ts ≡ loop step y us
+pub loop_goes : {A : Type 0} (step : A → List Mark → Turn A) → Shrinks step → (x : A) (ts : List Mark) (y : A) (us : List Mark) → step x ts ≡ Goes y us
+    → loop step x ts ≡ loop step y us
 unfolding loop turns
 loop_goes step s x ts y us e =
     let lt = s x ts y us e in
@@ -39,7 +42,9 @@ unfolding loop turns
 loop_fails step x ts e = ap (λ (t : Turn _). turned t x ts (turns step (length ts))) e
 
 -- what each turn keeps holds at the end
-turns_keep : {A : Type 0} (step : A → List Mark → Turn A) (P : A → List Mark → Type 0) → ((x : A) (ts : List Mark) (y : A) (us : List Mark) → P x ts → step x ts ≡ Goes y us → P y us) → (n : ℕ) (x : A) (ts : List Mark) (r : A × List Mark) → P x ts → turns step n x ts ≡ Some r → P r.0 r.1
+turns_keep : {A : Type 0} (step : A → List Mark → Turn A) (P : A → List Mark → Type 0)
+    → ((x : A) (ts : List Mark) (y : A) (us : List Mark) → P x ts → step x ts ≡ Goes y us → P y us) → (n : ℕ) (x : A) (ts : List Mark) (r : A × List Mark)
+    → P x ts → turns step n x ts ≡ Some r → P r.0 r.1
 unfolding turns
 turns_keep step P each zero x ts r p e = absurd cc
 turns_keep {A = A} step P each (suc n) x ts r p e = by (λ y us. turns_keep step P each n y us r) (step x ts) refl e
@@ -49,6 +54,8 @@ turns_keep {A = A} step P each (suc n) x ts r p e = by (λ y us. turns_keep step
     by ih Stops h e = let q : (x, ts) ≡ r = cc in subst (λ (z : A × List Mark). P z.0 z.1) q p
     by ih (Goes y us) h e = ih y us (each x ts y us p h) e
 
-pub loop_keeps : {A : Type 0} (step : A → List Mark → Turn A) (P : A → List Mark → Type 0) → ((x : A) (ts : List Mark) (y : A) (us : List Mark) → P x ts → step x ts ≡ Goes y us → P y us) → (x : A) (ts : List Mark) (r : A × List Mark) → P x ts → loop step x ts ≡ Some r → P r.0 r.1
+pub loop_keeps : {A : Type 0} (step : A → List Mark → Turn A) (P : A → List Mark → Type 0)
+    → ((x : A) (ts : List Mark) (y : A) (us : List Mark) → P x ts → step x ts ≡ Goes y us → P y us) → (x : A) (ts : List Mark) (r : A × List Mark) → P x ts
+    → loop step x ts ≡ Some r → P r.0 r.1
 unfolding loop
 loop_keeps step P each x ts r p e = turns_keep step P each (suc (length ts)) x ts r p e

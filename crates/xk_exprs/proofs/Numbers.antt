@@ -74,10 +74,13 @@ digits_is (_ ∷ ts) x e = absurd cc
 
 minus_is : (ts : List Mark) (x : ℕ × List Mark) → minus_at ts ≡ Some x → ts ≡ Operator x.0 operator.Minus ∷ x.1
 minus_is [] x e = absurd cc
-minus_is (Operator at operator.Minus ∷ ts) x e = let q : (at, ts) ≡ x = cc in subst (λ (z : ℕ × List Mark). Operator at operator.Minus ∷ ts ≡ Operator z.0 operator.Minus ∷ z.1) q refl
+minus_is (Operator at operator.Minus ∷ ts) x e =
+    let q : (at, ts) ≡ x = cc in
+    subst (λ (z : ℕ × List Mark). Operator at operator.Minus ∷ ts ≡ Operator z.0 operator.Minus ∷ z.1) q refl
 minus_is (_ ∷ ts) x e = absurd cc
 
-number_behind : (m : Option ℕ) (ts us : List Mark) (n : number.Number) (rest : List Mark) → us ≡ minus_marks m ++ ts → number_from m ts ≡ Some (n, rest) → (us ≡ number_marks n ++ rest) × IsNumber n
+number_behind : (m : Option ℕ) (ts us : List Mark) (n : number.Number) (rest : List Mark) → us ≡ minus_marks m ++ ts → number_from m ts ≡ Some (n, rest)
+    → (us ≡ number_marks n ++ rest) × IsNumber n
 number_behind m ts us n rest p e =
     let a = bind_some (digits_at ts) (number_of m) (n, rest) e in
     let b = bind_some (literal m a.0.0.0 a.0.0.1) (λ r. Some (r, a.0.1)) (n, rest) a.2 in
@@ -96,7 +99,8 @@ number_found ts n rest e = by (minus_at ts) refl e
     by None h e = number_behind None ts ts n rest refl e
     by (Some x) h e = number_behind (Some x.0) x.1 ts n rest (minus_is ts x h) e
 
-read_behind : (m : Option ℕ) (at n : ℕ) (rest : List Mark) (r : number.Number) → literal m at n ≡ Some r → number_at ((minus_marks m ++ Number at n ∷ []) ++ rest) ≡ Some (r, rest)
+read_behind : (m : Option ℕ) (at n : ℕ) (rest : List Mark) (r : number.Number) → literal m at n ≡ Some r
+    → number_at ((minus_marks m ++ Number at n ∷ []) ++ rest) ≡ Some (r, rest)
 unfolding number_at
 read_behind None at n rest r e = rw e refl
 read_behind (Some k) at n rest r e = rw e refl

@@ -41,7 +41,8 @@ pub record Joins (k : ℕ) (item : ℕ → List Mark → Read) (x : Expression �
   pub made : y ≡ (Binary by x.0 at right.0.0, right.0.1)
   pub rest : vs ≡ right.1
 
-another_joins : (k : ℕ) (item : ℕ → List Mark → Read) (x : Expression × ℕ) (us : List Mark) (y : Expression × ℕ) (vs : List Mark) → another k item x us ≡ Goes y vs → Joins k item x us y vs
+another_joins : (k : ℕ) (item : ℕ → List Mark → Read) (x : Expression × ℕ) (us : List Mark) (y : Expression × ℕ) (vs : List Mark)
+    → another k item x us ≡ Goes y vs → Joins k item x us y vs
 unfolding another
 another_joins k item x [] y vs e = absurd cc
 another_joins k item x (Operator at o ∷ us) y vs e = first (binds o == k) refl e
@@ -59,7 +60,8 @@ another_joins k item x (Operator at o ∷ us) y vs e = first (binds o == k) refl
     first false h e = absurd cc
 another_joins k item x (_ ∷ us) y vs e = absurd cc
 
-shrinks_by : (k d : ℕ) (item : ℕ → List Mark → Read) → Sound k d item → (x : Expression × ℕ) (us : List Mark) (y : Expression × ℕ) (vs : List Mark) → Joins (suc k) item x us y vs → length vs < length us
+shrinks_by : (k d : ℕ) (item : ℕ → List Mark → Read) → Sound k d item → (x : Expression × ℕ) (us : List Mark) (y : Expression × ℕ) (vs : List Mark)
+    → Joins (suc k) item x us y vs → length vs < length us
 shrinks_by k d item s x us y vs j =
     let t = s (x.1 - 1) j.after j.right j.read in
     let a : length j.after ≡ length (spell j.right.0.0) + length j.right.1 = ap length t.parts ∙ length-append (spell j.right.0.0) j.right.1 in
@@ -70,7 +72,9 @@ shrinks_by k d item s x us y vs j =
 pub another_shrinks : (k d : ℕ) (item : ℕ → List Mark → Read) → Sound k d item → Shrinks (another (suc k) item)
 another_shrinks k d item s x us y vs e = shrinks_by k d item s x us y vs (another_joins (suc k) item x us y vs e)
 
-goes_on : (k d ops : ℕ) (item : ℕ → List Mark → Read) (ts : List Mark) → Sound k d item → (x : Expression × ℕ) (us : List Mark) (y : Expression × ℕ) (vs : List Mark) → Took (suc k) d ops ts (x, us) → Joins (suc k) item x us y vs → Took (suc k) d ops ts (y, vs)
+goes_on : (k d ops : ℕ) (item : ℕ → List Mark → Read) (ts : List Mark) → Sound k d item
+    → (x : Expression × ℕ) (us : List Mark) (y : Expression × ℕ) (vs : List Mark) → Took (suc k) d ops ts (x, us) → Joins (suc k) item x us y vs
+    → Took (suc k) d ops ts (y, vs)
 goes_on k d ops item ts s x us y vs t j =
     let r = s (x.1 - 1) j.after j.right j.read in
     let made : (Expression × ℕ) × List Mark = ((Binary j.by x.0 j.at j.right.0.0, j.right.0.1), j.right.1) in
@@ -135,12 +139,14 @@ is_negatable (Binary o l at r) rest h = tt
 pub some_is : {A : Type 0} (x y : A) → Some x ≡ Some y → x ≡ y
 some_is x y e = cc
 
-took_leaf : (d ops : ℕ) (ts rest : List Mark) (e : Expression) (x : (Expression × ℕ) × List Mark) → ts ≡ spell e ++ rest → IsGrouped e → level e ≡ 0 → depth e ≡ 0 → operators e ≡ 0 → ((e, ops), rest) ≡ x → Took 0 d ops ts x
+took_leaf : (d ops : ℕ) (ts rest : List Mark) (e : Expression) (x : (Expression × ℕ) × List Mark) → ts ≡ spell e ++ rest → IsGrouped e → level e ≡ 0
+    → depth e ≡ 0 → operators e ≡ 0 → ((e, ops), rest) ≡ x → Took 0 d ops ts x
 took_leaf d ops ts rest e x p g l h o q =
     subst (λ (z : (Expression × ℕ) × List Mark). Took 0 d ops ts z) q
     (record { parts = p; grouped = g; level_le = omega arith; depth_le = omega arith; counted = omega arith })
 
-number_took : (d ops : ℕ) (m : Option ℕ) (at n : ℕ) (ts rest : List Mark) (x : (Expression × ℕ) × List Mark) → ts ≡ (minus_marks m ++ Number at n ∷ []) ++ rest → valued ops (number_of m ((at, n), rest)) ≡ Some x → Took 0 d ops ts x
+number_took : (d ops : ℕ) (m : Option ℕ) (at n : ℕ) (ts rest : List Mark) (x : (Expression × ℕ) × List Mark) → ts ≡ (minus_marks m ++ Number at n ∷ []) ++ rest
+    → valued ops (number_of m ((at, n), rest)) ≡ Some x → Took 0 d ops ts x
 number_took d ops m at n ts rest x p e =
     let a = bind_some (number_of m ((at, n), rest)) (λ r. Some ((Literal r.0, ops), r.1)) x e in
     let b = bind_some (literal m at n) (λ r. Some (r, rest)) a.0 a.1 in
@@ -149,14 +155,19 @@ number_took d ops m at n ts rest x p e =
     let same : ((Literal b.0, ops), rest) ≡ x = ap (λ (z : number.Number × List Mark). ((Literal z.0, ops), z.1)) q ∙ some_is _ _ a.2 in
     took_leaf d ops ts rest (Literal b.0) x (p ∙ ap (λ (z : List Mark). z ++ rest) (sym f.marks)) f.is_number refl refl refl same
 
-minus_took : (d at ops : ℕ) (ts : List Mark) (n : (ℕ × ℕ) × List Mark) (x : (Expression × ℕ) × List Mark) → digits_at ts ≡ Some n → valued ops (number_of (Some at) n) ≡ Some x → Took 0 d ops (Operator at operator.Minus ∷ ts) x
-minus_took d at ops ts n x h e = number_took d ops (Some at) n.0.0 n.0.1 (Operator at operator.Minus ∷ ts) n.1 x (ap (λ (z : List Mark). Operator at operator.Minus ∷ z) (digits_is ts n h)) e
+minus_took : (d at ops : ℕ) (ts : List Mark) (n : (ℕ × ℕ) × List Mark) (x : (Expression × ℕ) × List Mark) → digits_at ts ≡ Some n
+    → valued ops (number_of (Some at) n) ≡ Some x → Took 0 d ops (Operator at operator.Minus ∷ ts) x
+minus_took d at ops ts n x h e =
+    number_took d ops (Some at) n.0.0 n.0.1 (Operator at operator.Minus ∷ ts) n.1 x
+      (ap (λ (z : List Mark). Operator at operator.Minus ∷ z) (digits_is ts n h)) e
 
 guard_none : {A : Type 0} (b : Bool) (o : Option A) (y : A) → cond b None o ≡ Some y → (b ≡ false) × (o ≡ Some y)
 guard_none true o y e = absurd cc
 guard_none false o y e = (refl, e)
 
-negation_took : (d at ops : ℕ) (ts : List Mark) (x : (Expression × ℕ) × List Mark) → ((y : (Expression × ℕ) × List Mark) → factor_at d (ops - 1) ts ≡ Some y → Took 0 d (ops - 1) ts y) → digits_at ts ≡ None → cond (ops == 0) None (negated at (factor_at d (ops - 1) ts)) ≡ Some x → Took 0 (suc d) ops (Operator at operator.Minus ∷ ts) x
+negation_took : (d at ops : ℕ) (ts : List Mark) (x : (Expression × ℕ) × List Mark)
+    → ((y : (Expression × ℕ) × List Mark) → factor_at d (ops - 1) ts ≡ Some y → Took 0 d (ops - 1) ts y) → digits_at ts ≡ None
+    → cond (ops == 0) None (negated at (factor_at d (ops - 1) ts)) ≡ Some x → Took 0 (suc d) ops (Operator at operator.Minus ∷ ts) x
 negation_took d at ops ts x ih h e =
     let g = guard_none (ops == 0) (negated at (factor_at d (ops - 1) ts)) x e in
     let a = bind_some (factor_at d (ops - 1) ts) (λ inner. Some ((Negation at inner.0.0, inner.0.1), inner.1)) x g.1 in
@@ -167,7 +178,13 @@ negation_took d at ops ts x ih h e =
     let h5 = t.counted in
     let ne = eqb-false ops 0 g.0 in
     let nd = is_negatable a.0.0.0 a.0.1 (sym (ap digits_at t.parts) ∙ h) in
-    let took : Took 0 (suc d) ops (Operator at operator.Minus ∷ ts) made = record { parts = ap (λ (z : List Mark). Operator at operator.Minus ∷ z) t.parts; grouped = (t.grouped, omega arith, nd); level_le = omega arith; depth_le = omega arith; counted = omega arith } in
+    let took : Took 0 (suc d) ops (Operator at operator.Minus ∷ ts) made = record {
+      parts = ap (λ (z : List Mark). Operator at operator.Minus ∷ z) t.parts;
+      grouped = (t.grouped, omega arith, nd);
+      level_le = omega arith;
+      depth_le = omega arith;
+      counted = omega arith;
+    } in
     subst (λ (z : (Expression × ℕ) × List Mark). Took 0 (suc d) ops (Operator at operator.Minus ∷ ts) z) (some_is made x a.2) took
 
 pub factor_sound : (d : ℕ) → Sound 0 d (factor_at d)
@@ -184,7 +201,8 @@ factor_sound (suc d) ops (Open at ∷ ts) x e =
     let t = sums_sound d (factor_at d) (factor_sound d) ops ts a.0 a.1 in
     let made : (Expression × ℕ) × List Mark = ((Paren at a.0.0.0, a.0.0.1), b.0) in
     let whole : Open at ∷ ts ≡ (Open at ∷ (spell a.0.0.0 ++ Symbol sign.RightParen ∷ [])) ++ b.0 =
-    ap (λ (z : List Mark). Open at ∷ z) (t.parts ∙ ap (λ (z : List Mark). spell a.0.0.0 ++ z) (close_is a.0.1 b.0 b.1) ∙ sym (append_assoc (spell a.0.0.0) (Symbol sign.RightParen ∷ []) b.0)) in
+    ap (λ (z : List Mark). Open at ∷ z)
+          (t.parts ∙ ap (λ (z : List Mark). spell a.0.0.0 ++ z) (close_is a.0.1 b.0 b.1) ∙ sym (append_assoc (spell a.0.0.0) (Symbol sign.RightParen ∷ []) b.0)) in
     let h3 = t.depth_le in
     let h5 = t.counted in
     let took : Took 0 (suc d) ops (Open at ∷ ts) made = record { parts = whole; grouped = t.grouped; level_le = omega arith; depth_le = omega arith; counted = omega arith } in
@@ -198,7 +216,9 @@ factor_sound zero ops (Operator at operator.Minus ∷ ts) x e = by (digits_at ts
     by (Some n) h e = minus_took zero at ops ts n x h e
 factor_sound (suc d) ops (Operator at operator.Minus ∷ ts) x e = by (factor_sound d (ops - 1) ts) (digits_at ts) refl e
   where
-    by : ((y : (Expression × ℕ) × List Mark) → factor_at d (ops - 1) ts ≡ Some y → Took 0 d (ops - 1) ts y) → (o : Option ((ℕ × ℕ) × List Mark)) → digits_at ts ≡ o → minus_or at ops o (cond (ops == 0) None (negated at (factor_at d (ops - 1) ts))) ≡ Some x → Took 0 (suc d) ops (Operator at operator.Minus ∷ ts) x
+    by : ((y : (Expression × ℕ) × List Mark) → factor_at d (ops - 1) ts ≡ Some y → Took 0 d (ops - 1) ts y) → (o : Option ((ℕ × ℕ) × List Mark))
+        → digits_at ts ≡ o → minus_or at ops o (cond (ops == 0) None (negated at (factor_at d (ops - 1) ts))) ≡ Some x
+        → Took 0 (suc d) ops (Operator at operator.Minus ∷ ts) x
     by ih None h e = negation_took d at ops ts x ih h e
     by ih (Some n) h e = minus_took (suc d) at ops ts n x h e
 factor_sound d ops (Symbol s ∷ ts) x e = absurd cc
@@ -207,6 +227,14 @@ factor_sound d ops (AsyncAt at ∷ ts) x e = absurd cc
 factor_sound d ops (ClockAt at ∷ ts) x e = absurd cc
 factor_sound d ops (LongAt at ∷ ts) x e = absurd cc
 factor_sound d ops (Unfit ∷ ts) x e = absurd cc
+
+-- ---- what the loops over factors and terms take
+
+pub term_shrinks : (d : ℕ) → Shrinks (another 1 (factor_at d))
+term_shrinks d = another_shrinks 0 d (factor_at d) (factor_sound d)
+
+pub sum_shrinks : (d : ℕ) → Shrinks (another 2 (terms (factor_at d)))
+sum_shrinks d = another_shrinks 1 d (terms (factor_at d)) (terms_sound d (factor_at d) (factor_sound d))
 
 -- ---- whole expressions and terms
 

@@ -16,7 +16,11 @@ abbrev pub ExpressionAgain : Type 0
 ExpressionAgain = (left : ℕ) (front : List Mark) (e : Expression) (rest : List Mark)
     → Spells left front e → Ends 2 rest → whole_at left (front ++ rest) ≡ Some (e, rest)
 
--- the same of terms, which no `*` may follow
+-- tokens spell one expression at most
+abbrev pub ExpressionOnce : Type 0
+ExpressionOnce = (left : ℕ) (ts : List Mark) (e f : Expression) → Spells left ts e → Spells left ts f → e ≡ f
+
+-- reading terms, which no `*` may follow
 abbrev pub TermFound : Type 0
 TermFound = (left : ℕ) (ts : List Mark) (e : Expression) (rest : List Mark)
     → whole_term_at left ts ≡ Some (e, rest) → (front : List Mark) × (ts ≡ front ++ rest) × SpellsTerm left front e
@@ -25,7 +29,7 @@ abbrev pub TermAgain : Type 0
 TermAgain = (left : ℕ) (front : List Mark) (e : Expression) (rest : List Mark)
     → SpellsTerm left front e → Ends 1 rest → whole_term_at left (front ++ rest) ≡ Some (e, rest)
 
--- the same of numbers, whatever follows
+-- reading numbers, whatever follows
 abbrev pub NumberFound : Type 0
 NumberFound = (ts : List Mark) (n : number.Number) (rest : List Mark)
     → number_at ts ≡ Some (n, rest) → (ts ≡ number_marks n ++ rest) × IsNumber n

@@ -1,5 +1,5 @@
 use Rattle.xk_exprs.proofs.Takes.{expression_found}
-use Rattle.xk_exprs.proofs.Again.{expression_again}
+use Rattle.xk_exprs.proofs.Again.{expression_again, expression_once}
 use Rattle.xk_exprs.proofs.laws.expressions.Goals as goal
 
 pub returns-clause-found : goal.returns-clause-found
@@ -7,3 +7,6 @@ returns-clause-found c = expression_found
 
 pub returns-clause-again : goal.returns-clause-again
 returns-clause-again c = expression_again
+
+pub returns-clause-once : goal.returns-clause-once
+returns-clause-once c = expression_once

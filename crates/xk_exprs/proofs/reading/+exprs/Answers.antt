@@ -4,7 +4,7 @@ use Rattle.xk_exprs.specs.Marks.{Mark, marks}
 use Rattle.xk_tree.specs.Tree.{Expression, expression}
 use Rattle.xk_exprs.specs.Readers.{Refuses}
 use Rattle.xk_exprs.specs.Exprs.{factor_at, terms, sums, chain_at}
-use Rattle.xk_exprs.proofs.Takes.{another_shrinks, factor_sound, terms_sound}
+use Rattle.xk_exprs.proofs.Takes.{term_shrinks, sum_shrinks}
 use Rattle.xk_exprs.proofs.Chains.{first_refused, first_read, spent, operand_refused, operand_kept, open_is, paren_refused, paren_read, operand_shrinks, no_more}
 use Rattle.xk_exprs.proofs.reading.+exprs.Goals as goal
 
@@ -16,25 +16,28 @@ term-returns-in_err-left t c =
 
 pub term-loop-at-init : goal.term-loop-at-init
 unfolding terms
-term-loop-at-init t c = first_read 1 (factor_at c.args.levels) c.args.operators (marks c.args.tokens.now) ((expression c.in_ok-left.left, c.in_ok-left.operators), marks c.in_ok-left.rest.now) c.in_ok-left.ensures
+term-loop-at-init t c = first_read 1 (factor_at c.args.levels) c.args.operators (marks c.args.tokens.now) _ c.in_ok-left.ensures
 
 pub term-returns-then-operators-eq0 : goal.term-returns-then-operators-eq0
-term-returns-then-operators-eq0 t c = sym c.loop-at.invariant ∙ spent 1 (factor_at c.args.levels) (expression c.loop-at.left, c.loop-at.operators) (marks c.loop-at.rest.now) ((c.in-Some.at, c.in-Some.times), marks c.in-Some.after.now) c.in-Some.ensures c.if-operators-eq0.true
+term-returns-then-operators-eq0 t c = sym c.loop-at.invariant ∙ spent _ _ _ _ _ c.in-Some.ensures c.if-operators-eq0.true
 
 pub term-returns-in_err-right : goal.term-returns-in_err-right
 term-returns-in_err-right t c =
     let p = err_from_is_err_and c.from_residual-in_err-right.result c.from_residual-in_err-right.ensures.1 in
-    rw (p.1, p.2) (subst (Refuses c.in_err-right.field-0.0) c.loop-at.invariant (operand_refused c.in_err-right.field-0.0 1 (factor_at c.args.levels) (expression c.loop-at.left, c.loop-at.operators) (marks c.loop-at.rest.now) ((c.in-Some.at, c.in-Some.times), marks c.in-Some.after.now) c.in-Some.ensures c.if-operators-eq0.false c.in_err-right.ensures))
+    rw (p.1, p.2) (subst (Refuses c.in_err-right.field-0.0) c.loop-at.invariant
+      (operand_refused c.in_err-right.field-0.0 _ _ _ _ _ c.in-Some.ensures c.if-operators-eq0.false c.in_err-right.ensures))
 
 pub term-loop-at-smaller : goal.term-loop-at-smaller
-term-loop-at-smaller t c = operand_shrinks 1 (factor_at c.args.levels) (another_shrinks 0 c.args.levels (factor_at c.args.levels) (factor_sound c.args.levels)) (expression c.loop-at.left, c.loop-at.operators) c.loop-at.rest.now c.in_ok-right.right_rest.now ((c.in-Some.at, c.in-Some.times), marks c.in-Some.after.now) (expression c.in_ok-right.right, c.in_ok-right.right_operators) c.in-Some.ensures c.if-operators-eq0.false c.in_ok-right.ensures
+term-loop-at-smaller t c =
+    operand_shrinks _ _ (term_shrinks c.args.levels) (expression c.loop-at.left, c.loop-at.operators) c.loop-at.rest.now c.in_ok-right.right_rest.now _ _
+      c.in-Some.ensures c.if-operators-eq0.false c.in_ok-right.ensures
 
 pub term-loop-at-preserved : goal.term-loop-at-preserved
 term-loop-at-preserved t c =
-    operand_kept 1 (factor_at c.args.levels) (another_shrinks 0 c.args.levels (factor_at c.args.levels) (factor_sound c.args.levels)) (expression c.loop-at.left, c.loop-at.operators) (marks c.loop-at.rest.now) ((c.in-Some.at, c.in-Some.times), marks c.in-Some.after.now) ((expression c.in_ok-right.right, c.in_ok-right.right_operators), marks c.in_ok-right.right_rest.now) (expression c.in_ok-left-2.left) _ c.in-Some.ensures c.if-operators-eq0.false c.in_ok-right.ensures c.in_ok-left-2.ensures c.loop-at.invariant
+    operand_kept _ _ (term_shrinks c.args.levels) _ _ _ _ _ _ c.in-Some.ensures c.if-operators-eq0.false c.in_ok-right.ensures c.in_ok-left-2.ensures c.loop-at.invariant
 
 pub term-returns : goal.term-returns
-term-returns t c = sym c.loop-at.invariant ∙ no_more 1 (factor_at c.args.levels) (expression c.loop-at.left, c.loop-at.operators) (marks c.loop-at.rest.now) c.in_default.ensures
+term-returns t c = sym c.loop-at.invariant ∙ no_more _ _ _ _ c.in_default.ensures
 
 pub sum-returns-in_err-left : goal.sum-returns-in_err-left
 unfolding sums
@@ -44,33 +47,38 @@ sum-returns-in_err-left t c =
 
 pub sum-loop-at-init : goal.sum-loop-at-init
 unfolding sums
-sum-loop-at-init t c = first_read 2 (terms (factor_at c.args.levels)) c.args.operators (marks c.args.tokens.now) ((expression c.in_ok-left.left, c.in_ok-left.operators), marks c.in_ok-left.rest.now) c.in_ok-left.ensures
+sum-loop-at-init t c = first_read 2 (terms (factor_at c.args.levels)) c.args.operators (marks c.args.tokens.now) _ c.in_ok-left.ensures
 
 pub sum-returns-then-operators-eq0 : goal.sum-returns-then-operators-eq0
-sum-returns-then-operators-eq0 t c = sym c.loop-at.invariant ∙ spent 2 (terms (factor_at c.args.levels)) (expression c.loop-at.left, c.loop-at.operators) (marks c.loop-at.rest.now) ((c.in-Some.at, c.in-Some.sign), marks c.in-Some.after.now) c.in-Some.ensures c.if-operators-eq0.true
+sum-returns-then-operators-eq0 t c = sym c.loop-at.invariant ∙ spent _ _ _ _ _ c.in-Some.ensures c.if-operators-eq0.true
 
 pub sum-returns-in_err-right : goal.sum-returns-in_err-right
 sum-returns-in_err-right t c =
     let p = err_from_is_err_and c.from_residual-in_err-right.result c.from_residual-in_err-right.ensures.1 in
-    rw (p.1, p.2) (subst (Refuses c.in_err-right.field-0.0) c.loop-at.invariant (operand_refused c.in_err-right.field-0.0 2 (terms (factor_at c.args.levels)) (expression c.loop-at.left, c.loop-at.operators) (marks c.loop-at.rest.now) ((c.in-Some.at, c.in-Some.sign), marks c.in-Some.after.now) c.in-Some.ensures c.if-operators-eq0.false c.in_err-right.ensures))
+    rw (p.1, p.2) (subst (Refuses c.in_err-right.field-0.0) c.loop-at.invariant
+      (operand_refused c.in_err-right.field-0.0 _ _ _ _ _ c.in-Some.ensures c.if-operators-eq0.false c.in_err-right.ensures))
 
 pub sum-loop-at-smaller : goal.sum-loop-at-smaller
-sum-loop-at-smaller t c = operand_shrinks 2 (terms (factor_at c.args.levels)) (another_shrinks 1 c.args.levels (terms (factor_at c.args.levels)) (terms_sound c.args.levels (factor_at c.args.levels) (factor_sound c.args.levels))) (expression c.loop-at.left, c.loop-at.operators) c.loop-at.rest.now c.in_ok-right.right_rest.now ((c.in-Some.at, c.in-Some.sign), marks c.in-Some.after.now) (expression c.in_ok-right.right, c.in_ok-right.right_operators) c.in-Some.ensures c.if-operators-eq0.false c.in_ok-right.ensures
+sum-loop-at-smaller t c =
+    operand_shrinks _ _ (sum_shrinks c.args.levels) (expression c.loop-at.left, c.loop-at.operators) c.loop-at.rest.now c.in_ok-right.right_rest.now _ _
+      c.in-Some.ensures c.if-operators-eq0.false c.in_ok-right.ensures
 
 pub sum-loop-at-preserved : goal.sum-loop-at-preserved
 sum-loop-at-preserved t c =
-    operand_kept 2 (terms (factor_at c.args.levels)) (another_shrinks 1 c.args.levels (terms (factor_at c.args.levels)) (terms_sound c.args.levels (factor_at c.args.levels) (factor_sound c.args.levels))) (expression c.loop-at.left, c.loop-at.operators) (marks c.loop-at.rest.now) ((c.in-Some.at, c.in-Some.sign), marks c.in-Some.after.now) ((expression c.in_ok-right.right, c.in_ok-right.right_operators), marks c.in_ok-right.right_rest.now) (expression c.in_ok-left-2.left) _ c.in-Some.ensures c.if-operators-eq0.false c.in_ok-right.ensures c.in_ok-left-2.ensures c.loop-at.invariant
+    operand_kept _ _ (sum_shrinks c.args.levels) _ _ _ _ _ _ c.in-Some.ensures c.if-operators-eq0.false c.in_ok-right.ensures c.in_ok-left-2.ensures c.loop-at.invariant
 
 pub sum-returns : goal.sum-returns
-sum-returns t c = sym c.loop-at.invariant ∙ no_more 2 (terms (factor_at c.args.levels)) (expression c.loop-at.left, c.loop-at.operators) (marks c.loop-at.rest.now) c.in_default.ensures
+sum-returns t c = sym c.loop-at.invariant ∙ no_more _ _ _ _ c.in_default.ensures
 
 pub factor-returns-in_err-rest-in-LeftParen : goal.factor-returns-in_err-rest-in-LeftParen
 factor-returns-in_err-rest-in-LeftParen t c =
     let p = err_from_is_err_and c.from_residual-in_err-rest-in-LeftParen.result c.from_residual-in_err-rest-in-LeftParen.ensures.1 in
-    let o = open_is (marks c.args.tokens.now) (marks c.in-Some.rest.now) c.in-Some.token.at c.in-Some.token.kind c.in-Sign.sign c.in-Some.ensures c.in-Sign.is c.in-LeftParen.is in
-    rw (p.1, p.2) (paren_refused c.in_err-rest-in-LeftParen.field-0.0 c.args.levels c.args.operators c.in-Some.token.at (marks c.args.tokens.now) (marks c.in-Some.rest.now) ((expression c.in_ok-inner-in-LeftParen.inner, c.in_ok-inner-in-LeftParen.operators), marks c.in_ok-inner-in-LeftParen.rest.now) o c.if-levels-eq0.false c.in_ok-inner-in-LeftParen.ensures c.in_err-rest-in-LeftParen.ensures)
+    let o = open_is (marks c.args.tokens.now) _ c.in-Some.token.at c.in-Some.token.kind _ c.in-Some.ensures c.in-Sign.is c.in-LeftParen.is in
+    rw (p.1, p.2) (paren_refused c.in_err-rest-in-LeftParen.field-0.0 c.args.levels c.args.operators _ _ _ _
+      o c.if-levels-eq0.false c.in_ok-inner-in-LeftParen.ensures c.in_err-rest-in-LeftParen.ensures)
 
 pub factor-returns-in_ok-new-in-LeftParen : goal.factor-returns-in_ok-new-in-LeftParen
 factor-returns-in_ok-new-in-LeftParen t c =
-    let o = open_is (marks c.args.tokens.now) (marks c.in-Some.rest.now) c.in-Some.token.at c.in-Some.token.kind c.in-Sign.sign c.in-Some.ensures c.in-Sign.is c.in-LeftParen.is in
-    paren_read c.args.levels c.args.operators c.in-Some.token.at (marks c.args.tokens.now) (marks c.in-Some.rest.now) ((expression c.in_ok-inner-in-LeftParen.inner, c.in_ok-inner-in-LeftParen.operators), marks c.in_ok-inner-in-LeftParen.rest.now) (marks c.in_ok-rest-in-LeftParen.rest.now) (expression c.in_ok-new-in-LeftParen.field-0.value) o c.if-levels-eq0.false c.in_ok-inner-in-LeftParen.ensures c.in_ok-rest-in-LeftParen.ensures (ap expression (sym c.in_ok-new-in-LeftParen.ensures.ok))
+    let o = open_is (marks c.args.tokens.now) _ c.in-Some.token.at c.in-Some.token.kind _ c.in-Some.ensures c.in-Sign.is c.in-LeftParen.is in
+    paren_read c.args.levels c.args.operators _ _ _ _ _ _
+      o c.if-levels-eq0.false c.in_ok-inner-in-LeftParen.ensures c.in_ok-rest-in-LeftParen.ensures (ap expression (sym c.in_ok-new-in-LeftParen.ensures.ok))

@@ -15,13 +15,17 @@ abbrev pub decreases-sum : goal.decreases-sum
 decreases-sum l = 3 * l.levels + 2
 
 abbrev pub invariant-term-loop-at : goal.invariant-term-loop-at
-invariant-term-loop-at l = loop (another 1 (factor_at l.levels)) (expression l.left, l.operators) (marks l.rest) ≡ terms (factor_at l.levels) l.fn.operators (marks l.tokens)
+invariant-term-loop-at l =
+    loop (another 1 (factor_at l.levels)) (expression l.left, l.operators) (marks l.rest)
+    ≡ terms (factor_at l.levels) l.fn.operators (marks l.tokens)
 
 abbrev pub decreases-term-loop-at : goal.decreases-term-loop-at
 decreases-term-loop-at l = length l.rest
 
 abbrev pub invariant-sum-loop-at : goal.invariant-sum-loop-at
-invariant-sum-loop-at l = loop (another 2 (terms (factor_at l.levels))) (expression l.left, l.operators) (marks l.rest) ≡ sums (factor_at l.levels) l.fn.operators (marks l.tokens)
+invariant-sum-loop-at l =
+    loop (another 2 (terms (factor_at l.levels))) (expression l.left, l.operators) (marks l.rest)
+    ≡ sums (factor_at l.levels) l.fn.operators (marks l.tokens)
 
 abbrev pub decreases-sum-loop-at : goal.decreases-sum-loop-at
 decreases-sum-loop-at l = length l.rest
