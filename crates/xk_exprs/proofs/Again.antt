@@ -1,21 +1,20 @@
 -- What is spelled is read again.
-use Rattle.std.proofs.Common.{◌≡◌, ℕ, zero, suc, ◌+◌, ◌-◌, ◌^◌, ◌<◌, ◌≤◌, ◌==◌, Bool, true, false, cond, eqb, ltb, leb, max, List, [], ◌∷◌, ◌++◌, length, Option, Some, None, refl, sym, ap, subst, ◌∙◌, append_assoc, length-append, arith, ◌⊎◌, inl, inr}
-use Rattle.std.proofs.lemmas.Bool.{eq-eqb, ne_eqb, lt-ltb, le-leb, cases_lt}
+use Rattle.std.proofs.Common.{◌≡◌, ℕ, zero, suc, ◌+◌, ◌-◌, ◌<◌, ◌≤◌, ◌==◌, true, false, List, [], ◌∷◌, ◌++◌, Option, Some, None, refl, sym, ap, ◌∙◌, append_assoc, arith, inl, inr}
+use Rattle.std.proofs.lemmas.Bool.{eq-eqb, ne_eqb, cases_lt}
 use Rattle.std.specs.Prelude.{unsigned_abs, IsSome}
-use Rattle.xk_tokens.specs.declared.token.Sign.{Sign}
 use Rattle.xk_tokens.specs.declared.token.Sign.TheVariants as sign
 use Rattle.xk_tree.specs.declared.tree.Operator.{Operator as Op}
 use Rattle.xk_tree.specs.declared.tree.Operator.TheVariants as operator
-use Rattle.xk_exprs.specs.Marks.{Mark, Name, Number, Operator, Open, Symbol, Reserved, Unfit}
+use Rattle.xk_exprs.specs.Marks.{Mark, Number, Operator, Symbol}
 use Rattle.xk_tree.specs.declared.tree.Number as number
-use Rattle.xk_tree.specs.Tree.{Expression, Word, Literal, Named, Paren, Negation, Binary}
-use Rattle.xk_exprs.specs.Spelling.{minus_marks, number_marks, spell, binds, level, depth, operators, IsNegatable, IsGrouped, Spells, SpellsTerm, Ends}
-use Rattle.xk_exprs.specs.Readers.{◌>>=◌, Turn, Fails, Stops, Goes, loop}
-use Rattle.xk_exprs.specs.Exprs.{Read, close_by, close_at, operator_by, operator_at, joined, operand, another, chain_at, terms, sums, in_parens, negated, digits_by, digits_at, number_of, valued, literal, minus_or, factor_at, without_count, whole_at, whole_term_at}
+use Rattle.xk_tree.specs.Tree.{Expression, Literal, Named, Paren, Negation, Binary}
+use Rattle.xk_exprs.specs.Spelling.{minus_marks, spell, binds, level, depth, operators, IsNegatable, IsGrouped, Ends}
+use Rattle.xk_exprs.specs.Readers.{Stops, Goes, loop}
+use Rattle.xk_exprs.specs.Exprs.{Read, operator_at, another, chain_at, terms, sums, in_parens, negated, digits_at, literal, factor_at, without_count, whole_at, whole_term_at}
 use Rattle.xk_exprs.specs.Laws.{ExpressionAgain, ExpressionOnce, TermAgain}
-use Rattle.xk_exprs.proofs.Loops.{bind_some, loop_goes, loop_stops}
+use Rattle.xk_exprs.proofs.Loops.{loop_goes, loop_stops}
 use Rattle.xk_exprs.proofs.Numbers.{literal_again}
-use Rattle.xk_exprs.proofs.Takes.{some_is, Took, Sound, another_shrinks, terms_sound, sums_sound, factor_sound}
+use Rattle.xk_exprs.proofs.Takes.{some_is, Sound, another_shrinks, terms_sound, factor_sound}
 
 -- each operator binds
 binds_some : (o : Op) → 0 < binds o
@@ -74,7 +73,7 @@ chain_base k d item c e ops rest g l h ends = rw (c e ops rest g l h ends) refl
 chain_step : (k d : ℕ) (item : ℕ → List Mark → Read) → Sound k d item → Complete k d item
     → (o : Op) (l : Expression) (at : ℕ) (r : Expression) (ops : ℕ) (rest : List Mark)
     → ((ops : ℕ) (rest : List Mark) → IsGrouped l → level l ≤ suc k → depth l ≤ d → Ends k rest
-      → chain_at (suc k) item (operators l + ops) (spell l ++ rest) ≡ loop (another (suc k) item) (l, ops) rest)
+    → chain_at (suc k) item (operators l + ops) (spell l ++ rest) ≡ loop (another (suc k) item) (l, ops) rest)
     → IsGrouped (Binary o l at r) → binds o ≡ suc k → depth (Binary o l at r) ≤ d → Ends k rest
     → chain_at (suc k) item (operators (Binary o l at r) + ops) (spell (Binary o l at r) ++ rest) ≡ loop (another (suc k) item) (Binary o l at r, ops) rest
 chain_step k d item s c o l at r ops rest ih g b h ends =
@@ -88,7 +87,7 @@ chain_step k d item s c o l at r ops rest ih g b h ends =
     ∙ ap (λ (n : ℕ). chain_at (suc k) item n (spell l ++ (Operator at o ∷ after))) counted
     ∙ ih (suc (operators r + ops)) (Operator at o ∷ after) g.0 (omega arith) (omega arith) (omega arith)
     ∙ loop_goes (another (suc k) item) (another_shrinks k d item s) (l, suc (operators r + ops)) (Operator at o ∷ after) (Binary o l at r, ops) rest
-        (another_goes (suc k) item l r at ops o after rest b right)
+    (another_goes (suc k) item l r at ops o after rest b right)
 
 chain_reach : (k d : ℕ) (item : ℕ → List Mark → Read) → Sound k d item → Complete k d item → (e : Expression) (ops : ℕ) (rest : List Mark) → IsGrouped e
     → level e ≤ suc k → depth e ≤ d → Ends k rest → chain_at (suc k) item (operators e + ops) (spell e ++ rest) ≡ loop (another (suc k) item) (e, ops) rest
@@ -151,7 +150,7 @@ negation_again : (d at ops : ℕ) (e : Expression) (rest : List Mark) → level 
 negation_again d at ops e rest l nd h =
     let less : (operators (Negation at e) + ops) - 1 ≡ operators e + ops = omega arith in
     negation_by d at (operators (Negation at e) + ops) (spell e ++ rest) ((e, ops), rest)
-      (no_digits e rest l nd) (λ z. omega arith) (ap (λ (n : ℕ). factor_at d n (spell e ++ rest)) less ∙ h)
+    (no_digits e rest l nd) (λ z. omega arith) (ap (λ (n : ℕ). factor_at d n (spell e ++ rest)) less ∙ h)
 
 -- a number is read from its digits, and its `-`
 number_again : (d : ℕ) (m : Option ℕ) (at n ops : ℕ) (rest : List Mark) (r : number.Number) → literal m at n ≡ Some r

@@ -1,10 +1,9 @@
 -- What a loop over operands has read so far.
-use Rattle.std.proofs.Common.{◌≡◌, ℕ, zero, suc, ◌-◌, ◌<◌, ◌==◌, Bool, true, false, cond, eqb, List, [], ◌∷◌, length, map, Option, Some, None, refl, sym, ap, subst, ◌∙◌, arith}
+use Rattle.std.proofs.Common.{◌≡◌, ℕ, zero, suc, ◌-◌, ◌<◌, ◌==◌, true, false, List, [], ◌∷◌, length, Some, None, refl, sym, ap, subst, ◌∙◌, arith}
 use Rattle.std.proofs.lemmas.Bool.{eq-eqb, ne_eqb}
 use Rattle.std.proofs.lemmas.List.{length-map}
 use Rattle.xk_tokens.specs.declared.token.Token.{Token}
 use Rattle.xk_tree.specs.declared.tree.Operator.{Operator as Op}
-use Rattle.xk_tree.specs.declared.fault.FrontFault.{FrontFault}
 use Rattle.xk_tree.specs.declared.fault.FrontError.{FrontError}
 use Rattle.xk_tree.specs.declared.fault.FrontError.TheVariants as error
 use Rattle.xk_tokens.specs.declared.token.Sign.{Sign}
@@ -13,8 +12,8 @@ use Rattle.xk_tokens.specs.declared.token.Kind.{Kind}
 use Rattle.xk_tokens.specs.declared.token.Kind.TheVariants as kind
 use Rattle.xk_exprs.specs.Marks.{Mark, Open, kind_mark, mark, marks}
 use Rattle.xk_tree.specs.Tree.{Expression, Paren, Binary}
-use Rattle.xk_exprs.specs.Readers.{◌>>=◌, Turn, Fails, Stops, Goes, Refuses, head_at, loop}
-use Rattle.xk_exprs.specs.Exprs.{Read, operator_at, joined, operand, another, chain_at, sums, close_at, in_parens, factor_at}
+use Rattle.xk_exprs.specs.Readers.{Refuses, head_at, loop}
+use Rattle.xk_exprs.specs.Exprs.{Read, operator_at, joined, operand, another, chain_at, sums, close_at, factor_at}
 use Rattle.xk_exprs.proofs.Loops.{loop_goes, loop_stops, loop_fails, Shrinks}
 
 abbrev pub Reader : Type 0

@@ -1,5 +1,5 @@
 -- What loops over tokens read.
-use Rattle.std.proofs.Common.{◌≡◌, ℕ, zero, suc, ◌<◌, ◌≤◌, Bool, true, false, cond, List, [], ◌∷◌, length, Option, Some, None, refl, sym, ap, subst, ◌∙◌, arith}
+use Rattle.std.proofs.Common.{◌≡◌, ℕ, zero, suc, ◌<◌, List, length, Option, Some, None, refl, ap, subst, ◌∙◌, arith}
 use Rattle.xk_exprs.specs.Marks.{Mark}
 use Rattle.xk_exprs.specs.Readers.{◌>>=◌, Turn, Fails, Stops, Goes, turned, turns, loop}
 

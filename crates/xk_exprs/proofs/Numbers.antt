@@ -1,6 +1,6 @@
 -- Numbers and their tokens.
-use Rattle.std.proofs.Common.{◌≡◌, ◌≢◌, ℕ, zero, suc, ◌^◌, ◌<◌, ◌≤◌, Bool, true, false, cond, ltb, leb, ℤ, pos, negsuc, neg_ℤ, List, [], ◌∷◌, ◌++◌, Option, Some, None, refl, sym, ap, subst, ◌∙◌, append_assoc, arith}
-use Rattle.std.specs.Prelude.{◌≤ℤ◌, ◌<ℤ◌, unsigned_abs, IsSome}
+use Rattle.std.proofs.Common.{◌≡◌, ℕ, zero, suc, ◌^◌, ◌<◌, ◌≤◌, true, ltb, leb, ℤ, pos, negsuc, neg_ℤ, List, [], ◌∷◌, ◌++◌, Option, Some, None, refl, sym, ap, subst, ◌∙◌, append_assoc, arith}
+use Rattle.std.specs.Prelude.{◌≤ℤ◌, unsigned_abs}
 use Rattle.std.proofs.lemmas.Bool.{lt-ltb, le-leb, ltb-true, leb-true}
 use Rattle.std.proofs.lemmas.Int.{ints}
 use Rattle.std.proofs.lemmas.Option.{cond_some}
@@ -8,8 +8,7 @@ use Rattle.xk_tree.specs.declared.tree.Operator.TheVariants as operator
 use Rattle.xk_tree.specs.declared.tree.Number as number
 use Rattle.xk_exprs.specs.Marks.{Mark, Number, Operator}
 use Rattle.xk_exprs.specs.Spelling.{minus_marks, number_marks, IsValue, IsNumber}
-use Rattle.xk_exprs.specs.Readers.{◌>>=◌}
-use Rattle.xk_exprs.specs.Exprs.{value_of, literal, number_of, number_from, number_or, number_at, digits_at, digits_by, minus_at}
+use Rattle.xk_exprs.specs.Exprs.{value_of, literal, number_of, number_from, number_or, number_at, digits_at, minus_at}
 use Rattle.xk_exprs.specs.Laws.{NumberFound, NumberAgain}
 use Rattle.xk_exprs.proofs.Loops.{bind_some}
 

@@ -1,18 +1,16 @@
 -- What was read is spelled by the tokens taken.
-use Rattle.std.proofs.Common.{◌≡◌, ℕ, zero, suc, ◌+◌, ◌-◌, ◌^◌, ◌<◌, ◌≤◌, ◌==◌, Bool, true, false, cond, eqb, ltb, leb, max, List, [], ◌∷◌, ◌++◌, length, Option, Some, None, refl, sym, ap, subst, ◌∙◌, append_assoc, length-append, arith, rules}
+use Rattle.std.proofs.Common.{◌≡◌, ℕ, zero, suc, ◌+◌, ◌-◌, ◌<◌, ◌≤◌, ◌==◌, Bool, true, false, cond, List, [], ◌∷◌, ◌++◌, length, Option, Some, None, refl, sym, ap, subst, ◌∙◌, append_assoc, length-append, arith, rules}
 use Rattle.std.proofs.lemmas.Bool.{eqb-true, eqb-false}
 use Rattle.std.specs.Prelude.{unsigned_abs, IsSome}
-use Rattle.xk_tokens.specs.declared.token.Sign.{Sign}
 use Rattle.xk_tokens.specs.declared.token.Sign.TheVariants as sign
-use Rattle.xk_tokens.specs.declared.token.Keyword.{Keyword}
 use Rattle.xk_tree.specs.declared.tree.Operator.{Operator as Op}
 use Rattle.xk_tree.specs.declared.tree.Operator.TheVariants as operator
 use Rattle.xk_tree.specs.declared.tree.Number as number
 use Rattle.xk_exprs.specs.Marks.{Mark, Name, Number, Operator, Open, Symbol, Reserved, AsyncAt, ClockAt, LongAt, Unfit}
 use Rattle.xk_tree.specs.Tree.{Expression, Word, Literal, Named, Paren, Negation, Binary}
-use Rattle.xk_exprs.specs.Spelling.{minus_marks, number_marks, spell, binds, level, depth, operators, IsNegatable, IsGrouped, Spells, SpellsTerm}
-use Rattle.xk_exprs.specs.Readers.{◌>>=◌, Turn, Fails, Stops, Goes, loop}
-use Rattle.xk_exprs.specs.Exprs.{Read, close_by, close_at, operator_by, operator_at, joined, operand, another, chain_at, terms, sums, in_parens, negated, digits_by, digits_at, literal, number_of, valued, minus_or, factor_at, whole_at, whole_term_at}
+use Rattle.xk_exprs.specs.Spelling.{minus_marks, spell, binds, level, depth, operators, IsNegatable, IsGrouped, Spells, SpellsTerm}
+use Rattle.xk_exprs.specs.Readers.{◌>>=◌, Fails, Goes, loop}
+use Rattle.xk_exprs.specs.Exprs.{Read, close_at, joined, operand, another, chain_at, terms, sums, negated, digits_at, literal, number_of, valued, minus_or, factor_at, whole_at, whole_term_at}
 use Rattle.xk_exprs.specs.Laws.{ExpressionFound, TermFound}
 use Rattle.xk_exprs.proofs.Loops.{bind_some, Shrinks, loop_keeps}
 use Rattle.xk_exprs.proofs.Numbers.{digits_is, literal_found}
@@ -159,7 +157,7 @@ minus_took : (d at ops : ℕ) (ts : List Mark) (n : (ℕ × ℕ) × List Mark) (
     → valued ops (number_of (Some at) n) ≡ Some x → Took 0 d ops (Operator at operator.Minus ∷ ts) x
 minus_took d at ops ts n x h e =
     number_took d ops (Some at) n.0.0 n.0.1 (Operator at operator.Minus ∷ ts) n.1 x
-      (ap (λ (z : List Mark). Operator at operator.Minus ∷ z) (digits_is ts n h)) e
+    (ap (λ (z : List Mark). Operator at operator.Minus ∷ z) (digits_is ts n h)) e
 
 guard_none : {A : Type 0} (b : Bool) (o : Option A) (y : A) → cond b None o ≡ Some y → (b ≡ false) × (o ≡ Some y)
 guard_none true o y e = absurd cc
@@ -202,7 +200,7 @@ factor_sound (suc d) ops (Open at ∷ ts) x e =
     let made : (Expression × ℕ) × List Mark = ((Paren at a.0.0.0, a.0.0.1), b.0) in
     let whole : Open at ∷ ts ≡ (Open at ∷ (spell a.0.0.0 ++ Symbol sign.RightParen ∷ [])) ++ b.0 =
     ap (λ (z : List Mark). Open at ∷ z)
-          (t.parts ∙ ap (λ (z : List Mark). spell a.0.0.0 ++ z) (close_is a.0.1 b.0 b.1) ∙ sym (append_assoc (spell a.0.0.0) (Symbol sign.RightParen ∷ []) b.0)) in
+    (t.parts ∙ ap (λ (z : List Mark). spell a.0.0.0 ++ z) (close_is a.0.1 b.0 b.1) ∙ sym (append_assoc (spell a.0.0.0) (Symbol sign.RightParen ∷ []) b.0)) in
     let h3 = t.depth_le in
     let h5 = t.counted in
     let took : Took 0 (suc d) ops (Open at ∷ ts) made = record { parts = whole; grouped = t.grouped; level_le = omega arith; depth_le = omega arith; counted = omega arith } in

@@ -1,5 +1,5 @@
 -- What the readers give is what is spelled.
-use Rattle.std.specs.Prelude.{◌≡◌, ℕ, List, ◌++◌, Option, Some}
+use Rattle.std.specs.Prelude.{◌≡◌, ℕ, List, ◌++◌, Some}
 use Rattle.xk_tree.specs.declared.tree.Number as number
 use Rattle.xk_tree.specs.Tree.{Expression}
 use Rattle.xk_exprs.specs.Marks.{Mark}
