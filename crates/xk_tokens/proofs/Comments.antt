@@ -41,7 +41,8 @@ closing_least (f ∷ fs) back = by (closing_least fs back)
         (λ h. let e = ih.1 in (suc ih.0, rw e refl, let le = ih.2 in omega arith))
 
 -- it stays the first, whatever follows
-closing_step : (b : ℕ) (bs after : List ℕ) (n : ℕ) → ((m : ℕ) → closing bs ≡ Some m → closing (bs ++ after) ≡ Some m) → closing (b ∷ bs) ≡ Some n → closing (b ∷ (bs ++ after)) ≡ Some n
+closing_step : (b : ℕ) (bs after : List ℕ) (n : ℕ) → ((m : ℕ) → closing bs ≡ Some m → closing (bs ++ after) ≡ Some m)
+    → closing (b ∷ bs) ≡ Some n → closing (b ∷ (bs ++ after)) ≡ Some n
 closing_step b [] after n ih e = absurd cc
 closing_step b (c ∷ bs) after n ih e = by (begins_close (b ∷ c ∷ bs)) e
   where
@@ -71,7 +72,8 @@ closing_comment body after first =
     ap closing (sym (append_assoc body (42 ∷ 47 ∷ []) after)) ∙ closing-append (body ++ 42 ∷ 47 ∷ []) after l.0 l.1 ∙ ap (λ (k : ℕ). Some k) n
 
 -- what is before the place that is found is a comment
-pub comment_closing : (text : List ℕ) (n : ℕ) → closing text ≡ Some n → (body : List ℕ) × (after : List ℕ) × (text ≡ body ++ 42 ∷ 47 ∷ after) × (length body ≡ n) × IsPiece (BlockComment body) after
+pub comment_closing : (text : List ℕ) (n : ℕ) → closing text ≡ Some n
+    → (body : List ℕ) × (after : List ℕ) × (text ≡ body ++ 42 ∷ 47 ∷ after) × (length body ≡ n) × IsPiece (BlockComment body) after
 comment_closing text n e =
     let c = closing_cut text n e in (
       c.0,

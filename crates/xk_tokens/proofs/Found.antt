@@ -124,8 +124,12 @@ comment_found b (c ∷ bs) =
 
     line : (b == slash) ≡ true → (c == slash) ≡ true → HasPiece (b ∷ c ∷ bs)
     line h k =
-        let n = prefix_len isnt_line_feed bs in
-        (LineComment (take n bs), drop n bs, front slash (take n bs ++ drop n bs) h k (sym (take-append-drop n bs)), (list_all-take isnt_line_feed bs, begins-drop isnt_line_feed bs))
+        let n = prefix_len isnt_line_feed bs in (
+          LineComment (take n bs),
+          drop n bs,
+          front slash (take n bs ++ drop n bs) h k (sym (take-append-drop n bs)),
+          (list_all-take isnt_line_feed bs, begins-drop isnt_line_feed bs),
+        )
 
     block : (b == slash) ≡ true → (c == star) ≡ true → (o : Option ℕ) → closing bs ≡ o → IsFound (b ∷ c ∷ bs) (closed (b ∷ c ∷ bs) o)
     block h k None e = inr refl
@@ -144,13 +148,21 @@ front_found b bs =
     word : IsTrue (is_letter b) → HasPiece (b ∷ bs)
     word h =
         let n = prefix_len is_word_byte (b ∷ bs) in
-        let first : IsTrue (is_word_byte b) = rw h refl in
-        (Word (take n (b ∷ bs)), drop n (b ∷ bs), sym (take-append-drop n (b ∷ bs)), (begins-take is_word_byte is_letter b bs first h, list_all-take is_word_byte (b ∷ bs), begins-drop is_word_byte (b ∷ bs)))
+        let first : IsTrue (is_word_byte b) = rw h refl in (
+          Word (take n (b ∷ bs)),
+          drop n (b ∷ bs),
+          sym (take-append-drop n (b ∷ bs)),
+          (begins-take is_word_byte is_letter b bs first h, list_all-take is_word_byte (b ∷ bs), begins-drop is_word_byte (b ∷ bs)),
+        )
 
     digits : IsTrue (is_digit b) → HasPiece (b ∷ bs)
     digits h =
-        let n = prefix_len is_digit (b ∷ bs) in
-        (Digits (take n (b ∷ bs)), drop n (b ∷ bs), sym (take-append-drop n (b ∷ bs)), (begins-take is_digit is_digit b bs h h, list_all-take is_digit (b ∷ bs), begins-drop is_digit (b ∷ bs)))
+        let n = prefix_len is_digit (b ∷ bs) in (
+          Digits (take n (b ∷ bs)),
+          drop n (b ∷ bs),
+          sym (take-append-drop n (b ∷ bs)),
+          (begins-take is_digit is_digit b bs h h, list_all-take is_digit (b ∷ bs), begins-drop is_digit (b ∷ bs)),
+        )
 
 -- ---- no piece is a stray token
 
@@ -163,7 +175,9 @@ word_isnt_stray text = by (keyword_of text)
 
 number_isnt_stray : (digits : List ℕ) → number_of digits ≢ Stray
 unfolding number_of
-number_isnt_stray digits = by_test P (has_leading_zero digits) _ _ (λ _ e. absurd cc) (λ _. by_test P (nat_le (decimal 0 digits) (2 ^ 63)) _ _ (λ _ e. absurd cc) (λ _ e. absurd cc))
+number_isnt_stray digits =
+    by_test P (has_leading_zero digits) _ _ (λ _ e. absurd cc) (λ _.
+    by_test P (nat_le (decimal 0 digits) (2 ^ 63)) _ _ (λ _ e. absurd cc) (λ _ e. absurd cc))
   where
     P : Lexeme → Type 0
     P l = l ≡ Stray → ⊥

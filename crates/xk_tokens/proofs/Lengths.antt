@@ -35,7 +35,9 @@ closing_room [] n e = absurd cc
 closing_room (b ∷ bs) n e = by (λ k. closing_room bs k) e
   where
     by : ((k : ℕ) → closing bs ≡ Some k → k + 2 ≤ length bs) → cond (begins_close (b ∷ bs)) (Some 0) (option_map suc (closing bs)) ≡ Some n → n + 2 ≤ suc (length bs)
-    by ih = by_test (λ (o : Option ℕ). o ≡ Some n → n + 2 ≤ suc (length bs)) (begins_close (b ∷ bs)) (Some 0) (option_map suc (closing bs)) (λ h e. let r = closing_first b bs h in let q : 0 ≡ n = cc in omega arith) (λ h e. closing_inner bs (closing bs) n ih e)
+    by ih = by_test (λ (o : Option ℕ). o ≡ Some n → n + 2 ≤ suc (length bs)) (begins_close (b ∷ bs)) (Some 0) (option_map suc (closing bs))
+        (λ h e. let r = closing_first b bs h in let q : 0 ≡ n = cc in omega arith)
+        (λ h e. closing_inner bs (closing bs) n ih e)
 
 sign_room : (b : ℕ) (bs : List ℕ) → Within (b ∷ bs) (sign_at (b ∷ bs))
 unfolding sign_at
@@ -118,7 +120,10 @@ told_front at None ts = refl
 told_front at (Some l) ts = refl
 
 -- the tokens so far, and those of the rest
-pub goes_on : (text rest after : List ℕ) (old new : List TokenValue) (p : Option Lexeme × ℕ) → Some p ≡ front_at rest → length rest ≤ length text → old ++ lexed_from 0 (length text - length rest) rest ≡ lexed text → new ≡ old ++ told (length text - length rest) p.0 [] → after ≡ drop p.1 rest → (length after ≤ length text) × (new ++ lexed_from 0 (length text - length after) after ≡ lexed text)
+pub goes_on : (text rest after : List ℕ) (old new : List TokenValue) (p : Option Lexeme × ℕ)
+    → Some p ≡ front_at rest → length rest ≤ length text → old ++ lexed_from 0 (length text - length rest) rest ≡ lexed text
+    → new ≡ old ++ told (length text - length rest) p.0 [] → after ≡ drop p.1 rest
+    → (length after ≤ length text) × (new ++ lexed_from 0 (length text - length after) after ≡ lexed text)
 goes_on text rest after old new p e room so_far made left =
     let w = front_room rest p e in
     let at = length text - length rest in

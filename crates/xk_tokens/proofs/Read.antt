@@ -92,7 +92,9 @@ no_two s a b bs e longest = by (sign_of_two a b) refl
         let le = longest t bs whole in
         absurd (omega (arith, ap length q, ap length e))
 
-one_read : (s : Sign) (a : ℕ) (after : List ℕ) → sign_text s ≡ a ∷ [] → IsFalse (is_blank a) → IsFalse (is_letter a) → IsFalse (is_digit a) → IsFalse (a == slash) → sign_of_one a ≡ Some s → IsPiece (Mark s) after → Some (Some (Symbol s), 1) ≡ front_at (a ∷ after)
+one_read : (s : Sign) (a : ℕ) (after : List ℕ)
+    → sign_text s ≡ a ∷ [] → IsFalse (is_blank a) → IsFalse (is_letter a) → IsFalse (is_digit a) → IsFalse (a == slash) → sign_of_one a ≡ Some s → IsPiece (Mark s) after
+    → Some (Some (Symbol s), 1) ≡ front_at (a ∷ after)
 unfolding piece_at comment_at sign_at
 one_read s a [] e blank letter digit comment one longest = rw (blank, letter, digit, one) refl
 one_read s a (b ∷ bs) e blank letter digit comment one longest =

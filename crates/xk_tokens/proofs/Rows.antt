@@ -41,12 +41,14 @@ no_bytes = spells [] [] refl refl
 reserved_words : SpellsTokens (codes "shared def val var if else for in async clocked finish atomic Clock Long Console")
     (token 0 (Reserved keyword.Shared) ∷ token 7 (Reserved keyword.Def) ∷ token 11 (Reserved keyword.Val) ∷ token 15 (Reserved keyword.Var) ∷ token 19 (Reserved keyword.If)
     ∷ token 22 (Reserved keyword.Else) ∷ token 27 (Reserved keyword.For) ∷ token 31 (Reserved keyword.In) ∷ token 34 (Reserved keyword.Async) ∷ token 40 (Reserved keyword.Clocked)
-    ∷ token 48 (Reserved keyword.Finish) ∷ token 55 (Reserved keyword.Atomic) ∷ token 62 (Reserved keyword.Clock) ∷ token 68 (Reserved keyword.Long) ∷ token 73 (Reserved keyword.Console) ∷ [])
+    ∷ token 48 (Reserved keyword.Finish) ∷ token 55 (Reserved keyword.Atomic)
+    ∷ token 62 (Reserved keyword.Clock) ∷ token 68 (Reserved keyword.Long) ∷ token 73 (Reserved keyword.Console) ∷ [])
 unfolding piece_at comment_at keyword_of
 reserved_words = spells _ _ refl refl
 
 -- a name may begin as a reserved word does; letters are great or small
-names_like_them : SpellsTokens (codes "sharedx iff In clock long_ Clock2") (name 0 (codes "sharedx") ∷ name 8 (codes "iff") ∷ name 12 (codes "In") ∷ name 15 (codes "clock") ∷ name 21 (codes "long_") ∷ name 27 (codes "Clock2") ∷ [])
+names_like_them : SpellsTokens (codes "sharedx iff In clock long_ Clock2")
+    (name 0 (codes "sharedx") ∷ name 8 (codes "iff") ∷ name 12 (codes "In") ∷ name 15 (codes "clock") ∷ name 21 (codes "long_") ∷ name 27 (codes "Clock2") ∷ [])
 unfolding piece_at comment_at keyword_of
 names_like_them = spells _ _ refl refl
 
@@ -78,12 +80,14 @@ signs_of_one_byte : SpellsTokens (codes "(){},;:=+-*.<>")
 unfolding piece_at comment_at sign_at sign_of_one sign_of_two
 signs_of_one_byte = spells _ _ refl refl
 
-signs_of_two_bytes : SpellsTokens (codes "==!=<=>=..") (symbol 0 sign.Equal ∷ symbol 2 sign.NotEqual ∷ symbol 4 sign.LessEqual ∷ symbol 6 sign.GreaterEqual ∷ symbol 8 sign.DotDot ∷ [])
+signs_of_two_bytes : SpellsTokens (codes "==!=<=>=..")
+    (symbol 0 sign.Equal ∷ symbol 2 sign.NotEqual ∷ symbol 4 sign.LessEqual ∷ symbol 6 sign.GreaterEqual ∷ symbol 8 sign.DotDot ∷ [])
 unfolding piece_at comment_at sign_at sign_of_one sign_of_two
 signs_of_two_bytes = spells _ _ refl refl
 
 -- the longest that fits, from the left
-three_each : SpellsTokens (codes "===...<==") (symbol 0 sign.Equal ∷ symbol 2 sign.Assign ∷ symbol 3 sign.DotDot ∷ symbol 5 sign.Dot ∷ symbol 6 sign.LessEqual ∷ symbol 8 sign.Assign ∷ [])
+three_each : SpellsTokens (codes "===...<==")
+    (symbol 0 sign.Equal ∷ symbol 2 sign.Assign ∷ symbol 3 sign.DotDot ∷ symbol 5 sign.Dot ∷ symbol 6 sign.LessEqual ∷ symbol 8 sign.Assign ∷ [])
 unfolding piece_at comment_at sign_at sign_of_one sign_of_two
 three_each = spells _ _ refl refl
 

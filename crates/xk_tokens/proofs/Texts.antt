@@ -21,7 +21,8 @@ rest_within (p ∷ ps) text rest h =
     omega (arith, ap length h.1, length-append (piece_text p) h.0)
 
 -- what is read of a text: the tokens of its pieces, then what is read of the rest
-pieces_read : (ps : List Piece) (at : ℕ) (text rest : List ℕ) → ArePieces ps text rest → lexed_from 0 at text ≡ tokens_at at ps ++ lexed_from 0 (at + (length text - length rest)) rest
+pieces_read : (ps : List Piece) (at : ℕ) (text rest : List ℕ) → ArePieces ps text rest
+    → lexed_from 0 at text ≡ tokens_at at ps ++ lexed_from 0 (at + (length text - length rest)) rest
 pieces_read [] at text rest e = ap (lexed_from 0 at) e ∙ ap (λ (n : ℕ). lexed_from 0 n rest) (omega (arith, ap length e))
 pieces_read (p ∷ ps) at text rest h =
     let after = h.0 in
@@ -31,7 +32,8 @@ pieces_read (p ∷ ps) at text rest h =
     let where_ : (at + len) + (length after - length rest) ≡ at + (length text - length rest) = omega (arith, within, ap length h.1, length-append (piece_text p) after) in
     ap (lexed_from 0 at) h.1
     ∙ front_next at (piece_text p ++ after) (token_of p, len) (piece_read p after h.2)
-    ∙ ap (told at (token_of p)) (ap (lexed_from 0 (at + len)) left ∙ pieces_read ps (at + len) after rest h.3 ∙ ap (λ (n : ℕ). tokens_at (at + len) ps ++ lexed_from 0 n rest) where_)
+    ∙ ap (told at (token_of p)) (ap (lexed_from 0 (at + len)) left ∙ pieces_read ps (at + len) after rest h.3
+    ∙ ap (λ (n : ℕ). tokens_at (at + len) ps ++ lexed_from 0 n rest) where_)
     ∙ sym (told-append at (token_of p) (tokens_at (at + len) ps) (lexed_from 0 (at + (length text - length rest)) rest))
 
 spelled_read : (ps : List Piece) (text : List ℕ) → ArePieces ps text [] → lexed text ≡ tokens_at 0 ps
@@ -49,8 +51,11 @@ rest_read at (b ∷ bs) some none = by (begins_or_not b bs)
         front_next at (b ∷ bs) (Some Stray, suc (length bs)) (ap (λ (x : Option Lexeme × ℕ). Some x) (sym h.0))
         ∙ ap (λ (t : List ℕ). stray_at at ∷ lexed_from 0 (at + suc (length bs)) t) nothing
 
-strayed_read : (ps : List Piece) (text rest : List ℕ) → ArePieces ps text rest → rest ≢ [] → HasNoPiece rest → lexed text ≡ tokens_at 0 ps ++ stray_at (length text - length rest) ∷ []
-strayed_read ps text rest h some none = pieces_read ps 0 text rest h ∙ ap (λ (ts : List TokenValue). tokens_at 0 ps ++ ts) (rest_read _ rest some none ∙ ap (λ (n : ℕ). stray_at n ∷ []) (omega arith))
+strayed_read : (ps : List Piece) (text rest : List ℕ) → ArePieces ps text rest → rest ≢ [] → HasNoPiece rest
+    → lexed text ≡ tokens_at 0 ps ++ stray_at (length text - length rest) ∷ []
+strayed_read ps text rest h some none =
+    pieces_read ps 0 text rest h
+    ∙ ap (λ (ts : List TokenValue). tokens_at 0 ps ++ ts) (rest_read _ rest some none ∙ ap (λ (n : ℕ). stray_at n ∷ []) (omega arith))
 
 -- ---- every text is read
 
@@ -108,7 +113,8 @@ pieces_have_none : (ps : List Piece) (at : ℕ) → IsFalse (has_stray (tokens_a
 pieces_have_none [] at = refl
 pieces_have_none (p ∷ ps) at = by (token_of p) refl (pieces_have_none ps (at + length (piece_text p)))
   where
-    by : (o : Option Lexeme) → token_of p ≡ o → IsFalse (has_stray (tokens_at (at + length (piece_text p)) ps)) → IsFalse (has_stray (told at o (tokens_at (at + length (piece_text p)) ps)))
+    by : (o : Option Lexeme) → token_of p ≡ o → IsFalse (has_stray (tokens_at (at + length (piece_text p)) ps))
+        → IsFalse (has_stray (told at o (tokens_at (at + length (piece_text p)) ps)))
     by None e ih = ih
     by (Some l) e ih = let first = isnt_stray l (λ q. token_isnt_stray p (e ∙ ap (λ (x : Lexeme). Some x) q)) in rw first ih
 

@@ -86,11 +86,15 @@ comment_at (a ∷ b ∷ bs) =
     else None)
     else None
 
+-- the bytes from the front on that pass, as a token
+abbrev pub token_of_run : (ℕ → Bool) → (List ℕ → Lexeme) → List ℕ → Option Lexeme × ℕ
+token_of_run p what text = (Some (what (take (prefix_len p text) text)), prefix_len p text)
+
 unfoldable pub piece_at : ℕ → List ℕ → Option Lexeme × ℕ
 piece_at b text =
     if is_blank b then (None, 1)
-    else if is_letter b then (Some (word_of (take (prefix_len is_word_byte text) text)), prefix_len is_word_byte text)
-    else if is_digit b then (Some (number_of (take (prefix_len is_digit text) text)), prefix_len is_digit text)
+    else if is_letter b then token_of_run is_word_byte word_of text
+    else if is_digit b then token_of_run is_digit number_of text
     else unwrap_or (comment_at text) (sign_at text)
 
 -- the same, where the text isn't at its end
@@ -104,7 +108,8 @@ front_at (b ∷ bs) = Some (piece_at b (b ∷ bs))
 abbrev pub lexed_from : ℕ → ℕ → List ℕ → List TokenValue
 lexed_from skip at [] = []
 lexed_from (suc k) at (b ∷ bs) = lexed_from k (suc at) bs
-lexed_from zero at (b ∷ bs) = let p = piece_at b (b ∷ bs) in told at p.0 (lexed_from (p.1 - 1) (suc at) bs)
+lexed_from zero at (b ∷ bs) =
+    let p = piece_at b (b ∷ bs) in told at p.0 (lexed_from (p.1 - 1) (suc at) bs)
 
 -- the tokens of a text; where at some place none begins, the rest from there on is a stray one
 abbrev pub lexed : List ℕ → List TokenValue

@@ -1,4 +1,4 @@
--- What a text spells: it is cut into pieces, each as long as can be, and some of these are tokens.
+-- What a text spells. It is cut into pieces, each as long as can be: blanks, comments, and those that are tokens.
 use Rattle.std.specs.Prelude.{◌≡◌, ◌≢◌, ℕ, ◌+◌, ◌-◌, ◌*◌, ◌^◌, ◌≤◌, ◌==◌, nat_le, ◌⊎◌, Bool, true, false, IsTrue, IsFalse, not, ◌&&◌, ◌||◌, List, [], ◌∷◌, ◌++◌, length, map, Option, Some, None, if◌then◌else◌}
 use Rattle.std.specs.List.{list_all, list_any}
 use Rattle.xk_tokens.specs.declared.token.Sign.{Sign}
@@ -81,20 +81,41 @@ piece_text (Word text) = text
 piece_text (Digits digits) = digits
 piece_text (Mark s) = sign_text s
 
--- It is of its form, and where `after` follows it is as long as can be: a comment up to the line's end or the text's end, one up to the
--- first `*/`, a word and a digit run up to the first other byte, and the longest sign.
+-- a run of bytes: the first is of one sort, all are of another, and none of these follows
+abbrev pub IsRun : (ℕ → Bool) → (ℕ → Bool) → List ℕ → List ℕ → Type 0
+IsRun first each text after =
+    IsTrue (begins first text) × IsTrue (list_all each text) × IsFalse (begins each after)
+
+-- up to the line's end or the text's end
+abbrev pub IsToLineEnd : List ℕ → List ℕ → Type 0
+IsToLineEnd body after = IsTrue (list_all isnt_line_feed body) × IsFalse (begins isnt_line_feed after)
+
+-- up to a `*/`, and there is none before
+abbrev pub IsToFirstClose : List ℕ → Type 0
+IsToFirstClose body =
+    (front back : List ℕ)
+    → body ++ star ∷ slash ∷ [] ≡ front ++ star ∷ slash ∷ back → length body ≤ length front
+
+-- no longer sign begins where it does
+abbrev pub IsLongest : Sign → List ℕ → Type 0
+IsLongest s after =
+    (t : Sign) (back : List ℕ)
+    → sign_text s ++ after ≡ sign_text t ++ back → length (sign_text t) ≤ length (sign_text s)
+
+-- a piece is of its form, and as long as can be where `after` follows
 abbrev pub IsPiece : Piece → List ℕ → Type 0
 IsPiece (Blank b) after = IsTrue (is_blank b)
-IsPiece (LineComment body) after = IsTrue (list_all isnt_line_feed body) × IsFalse (begins isnt_line_feed after)
-IsPiece (BlockComment body) after = (front back : List ℕ) → body ++ star ∷ slash ∷ [] ≡ front ++ star ∷ slash ∷ back → length body ≤ length front
-IsPiece (Word text) after = IsTrue (begins is_letter text) × IsTrue (list_all is_word_byte text) × IsFalse (begins is_word_byte after)
-IsPiece (Digits digits) after = IsTrue (begins is_digit digits) × IsTrue (list_all is_digit digits) × IsFalse (begins is_digit after)
-IsPiece (Mark s) after = (t : Sign) (back : List ℕ) → sign_text s ++ after ≡ sign_text t ++ back → length (sign_text t) ≤ length (sign_text s)
+IsPiece (LineComment body) after = IsToLineEnd body after
+IsPiece (BlockComment body) after = IsToFirstClose body
+IsPiece (Word text) after = IsRun is_letter is_word_byte text after
+IsPiece (Digits digits) after = IsRun is_digit is_digit digits after
+IsPiece (Mark s) after = IsLongest s after
 
 -- these pieces, one after another, are what stands before `rest`
 abbrev pub ArePieces : List Piece → List ℕ → List ℕ → Type 0
 ArePieces [] text rest = text ≡ rest
-ArePieces (p ∷ ps) text rest = (after : List ℕ) × (text ≡ piece_text p ++ after) × IsPiece p after × ArePieces ps after rest
+ArePieces (p ∷ ps) text rest =
+    (after : List ℕ) × (text ≡ piece_text p ++ after) × IsPiece p after × ArePieces ps after rest
 
 -- ---- their tokens
 
@@ -131,7 +152,8 @@ HasNoPiece text = (p : Piece) (after : List ℕ) → text ≡ piece_text p ++ af
 abbrev pub stray_at : ℕ → TokenValue
 stray_at at = record { at = at; what = Stray }
 
--- The text is pieces up to a rest, not empty, that no piece begins. The tokens are those of the pieces, and the rest as a stray one.
+-- The text is pieces up to a rest, not empty, that no piece begins. The tokens are those of the pieces, and the
+-- rest as a stray one.
 abbrev pub Strays : List ℕ → List TokenValue → Type 0
 Strays text tokens =
     (ps : List Piece) × (rest : List ℕ) × ArePieces ps text rest × (rest ≢ []) × HasNoPiece rest

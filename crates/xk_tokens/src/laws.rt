@@ -8,22 +8,29 @@ ghost use Rattle.xk_tokens.specs.Lexing.{lexed};
 
 /// Every text is read as tokens, in one way: as `lexed` gives them.
 pub fn readings()
-    ensures { (text : List ℕ) (tokens : List TokenValue) → IsReadAs text tokens ↔ (lexed text ≡ tokens) }
+    ensures { (text : List ℕ) (tokens : List TokenValue)
+        → IsReadAs text tokens ↔ (lexed text ≡ tokens) }
 {}
 
 /// A text that spells tokens is read as these, without a stray one. So it spells at most one list.
 pub fn spelled_tokens()
-    ensures again { (text : List ℕ) (tokens : List TokenValue) → SpellsTokens text tokens → lexed text ≡ tokens }
-    ensures none_stray { (text : List ℕ) (tokens : List TokenValue) → SpellsTokens text tokens → IsFalse (has_stray tokens) }
-    ensures one_list { (text : List ℕ) (a b : List TokenValue) → SpellsTokens text a → SpellsTokens text b → a ≡ b }
+    ensures again { (text : List ℕ) (tokens : List TokenValue)
+        → SpellsTokens text tokens → lexed text ≡ tokens }
+    ensures none_stray { (text : List ℕ) (tokens : List TokenValue)
+        → SpellsTokens text tokens → IsFalse (has_stray tokens) }
+    ensures one_list { (text : List ℕ) (a b : List TokenValue)
+        → SpellsTokens text a → SpellsTokens text b → a ≡ b }
 {}
 
-/// A text that is read without a stray token spells the tokens. One with a stray token spells none: the stray one is the last, and no piece
-/// begins at its offset.
+/// A text that is read without a stray token spells the tokens. One that is read with a stray token spells none: the
+/// stray one is the last, and no piece begins at its offset.
 pub fn stray_tokens()
-    ensures none { (text : List ℕ) → IsFalse (has_stray (lexed text)) → SpellsTokens text (lexed text) }
-    ensures one { (text : List ℕ) → IsTrue (has_stray (lexed text)) → Strays text (lexed text) }
-    ensures spells_none { (text : List ℕ) (tokens : List TokenValue) → IsTrue (has_stray (lexed text)) → ¬ SpellsTokens text tokens }
+    ensures none { (text : List ℕ)
+        → IsFalse (has_stray (lexed text)) → SpellsTokens text (lexed text) }
+    ensures one { (text : List ℕ)
+        → IsTrue (has_stray (lexed text)) → Strays text (lexed text) }
+    ensures spells_none { (text : List ℕ) (tokens : List TokenValue)
+        → IsTrue (has_stray (lexed text)) → ¬ SpellsTokens text tokens }
 {}
 
 /// Offsets of tokens rise, and lie in the text.

@@ -309,7 +309,8 @@ fn push_token<'t>(
     at: usize,
     kind: Option<Kind<'t>>,
 ) -> Result<(), AllocError>
-    ensures { OnOk result (map token_value tokens.new.items ≡ map token_value tokens.old.items ++ told at (option_map lexeme kind.entry) []) }
+    ensures { OnOk result (map token_value tokens.new.items
+        ≡ map token_value tokens.old.items ++ told at (option_map lexeme kind.entry) []) }
 {
     match kind {
         Some(kind) => {

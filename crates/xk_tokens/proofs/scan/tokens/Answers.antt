@@ -16,7 +16,11 @@ loop-piece-smaller c =
 
 pub loop-piece-preserved : goal.loop-piece-preserved
 loop-piece-preserved c =
-    let g = goes_on c.args.text.now c.loop-piece.rest.now c.split_at.result.1.now (map token_value c.loop-piece.tokens.items) (map token_value c.push_token.new.tokens.items) (piece_value c.in-Some.piece) c.in-Some.ensures c.loop-piece.invariant.room c.loop-piece.invariant.so_far c.in_ok-push_token.ensures c.split_at.ensures.back in
+    let old = map token_value c.loop-piece.tokens.items in
+    let new = map token_value c.push_token.new.tokens.items in
+    let was = c.loop-piece.invariant in
+    let g = goes_on c.args.text.now c.loop-piece.rest.now c.split_at.result.1.now old new (piece_value c.in-Some.piece)
+    c.in-Some.ensures was.room was.so_far c.in_ok-push_token.ensures c.split_at.ensures.back in
     record { room = g.0; so_far = g.1 }
 
 pub returns-clause-read : goal.returns-clause-read
