@@ -1,17 +1,16 @@
 -- Where a comment ends: at the first `*/`.
 use Rattle.std.proofs.Common.{◌≡◌, ℕ, suc, ◌≤◌, ◌==◌, Bool, true, false, cond, List, [], ◌∷◌, ◌++◌, length, append_assoc, Option, Some, None, option_map, refl, sym, ap, ◌∙◌, arith, eqb-true}
-use Rattle.std.proofs.lemmas.Bool.{and_parts}
-use Rattle.xk_tokens.specs.Pieces.{IsPiece, BlockComment}
+use Rattle.std.proofs.lemmas.Bool.{and_parts, cond_both}
+use Rattle.xk_tokens.specs.Pieces.{slash, star, IsPiece, BlockComment}
 use Rattle.xk_tokens.specs.Lexing.{begins_close, closing}
-use Rattle.xk_tokens.proofs.Lengths.{by_test}
 
 -- a text that is cut at a `*/`, with n bytes before
 abbrev pub IsCutAt : List ℕ → ℕ → Type 0
-IsCutAt text n = (front : List ℕ) × (back : List ℕ) × (text ≡ front ++ 42 ∷ 47 ∷ back) × (length front ≡ n)
+IsCutAt text n = (front : List ℕ) × (back : List ℕ) × (text ≡ front ++ star ∷ slash ∷ back) × (length front ≡ n)
 
-begins_close_text : (b : ℕ) (bs : List ℕ) → begins_close (b ∷ bs) ≡ true → (back : List ℕ) × (b ∷ bs ≡ 42 ∷ 47 ∷ back)
+begins_close_text : (b : ℕ) (bs : List ℕ) → begins_close (b ∷ bs) ≡ true → (back : List ℕ) × (b ∷ bs ≡ star ∷ slash ∷ back)
 begins_close_text b [] e = absurd cc
-begins_close_text b (c ∷ bs) e = let p = and_parts (b == 42) (c == 47) e in (bs, rw (eqb-true b 42 p.0, eqb-true c 47 p.1) refl)
+begins_close_text b (c ∷ bs) e = let p = and_parts (b == star) (c == slash) e in (bs, rw (eqb-true b star p.0, eqb-true c slash p.1) refl)
 
 -- the place that is found
 pub closing_cut : (text : List ℕ) (n : ℕ) → closing text ≡ Some n → IsCutAt text n
@@ -26,17 +25,17 @@ closing_cut (b ∷ bs) n e = by (λ m. closing_cut bs m) e
         (b ∷ c.0, c.1, ap (λ (t : List ℕ). b ∷ t) c.2, ap suc c.3 ∙ q)
 
     by : ((m : ℕ) → closing bs ≡ Some m → IsCutAt bs m) → cond (begins_close (b ∷ bs)) (Some 0) (option_map suc (closing bs)) ≡ Some n → IsCutAt (b ∷ bs) n
-    by ih = by_test (λ (o : Option ℕ). o ≡ Some n → IsCutAt (b ∷ bs) n) (begins_close (b ∷ bs)) (Some 0) (option_map suc (closing bs))
+    by ih = cond_both (begins_close (b ∷ bs)) (Some 0) (option_map suc (closing bs)) (λ (o : Option ℕ). o ≡ Some n → IsCutAt (b ∷ bs) n)
         (λ h e. let c = begins_close_text b bs h in let q : 0 ≡ n = cc in ([], c.0, c.1, q))
         (λ h e. behind ih (closing bs) refl e)
 
 -- it isn't behind any other
-pub closing_least : (front back : List ℕ) → (m : ℕ) × (closing (front ++ 42 ∷ 47 ∷ back) ≡ Some m) × (m ≤ length front)
+pub closing_least : (front back : List ℕ) → (m : ℕ) × (closing (front ++ star ∷ slash ∷ back) ≡ Some m) × (m ≤ length front)
 closing_least [] back = (0, refl, omega arith)
 closing_least (f ∷ fs) back = by (closing_least fs back)
   where
-    by : (m : ℕ) × (closing (fs ++ 42 ∷ 47 ∷ back) ≡ Some m) × (m ≤ length fs) → (m : ℕ) × (closing (f ∷ (fs ++ 42 ∷ 47 ∷ back)) ≡ Some m) × (m ≤ suc (length fs))
-    by ih = by_test (λ (o : Option ℕ). (m : ℕ) × (o ≡ Some m) × (m ≤ suc (length fs))) (begins_close (f ∷ (fs ++ 42 ∷ 47 ∷ back))) _ _
+    by : (m : ℕ) × (closing (fs ++ star ∷ slash ∷ back) ≡ Some m) × (m ≤ length fs) → (m : ℕ) × (closing (f ∷ (fs ++ star ∷ slash ∷ back)) ≡ Some m) × (m ≤ suc (length fs))
+    by ih = cond_both (begins_close (f ∷ (fs ++ star ∷ slash ∷ back))) _ _ (λ (o : Option ℕ). (m : ℕ) × (o ≡ Some m) × (m ≤ suc (length fs)))
         (λ h. (0, refl, omega arith))
         (λ h. let e = ih.1 in (suc ih.0, rw e refl, let le = ih.2 in omega arith))
 
@@ -59,21 +58,21 @@ closing-append [] after n e = absurd cc
 closing-append (b ∷ bs) after n e = closing_step b bs after n (λ m. closing-append bs after m) e
 
 -- a front of a text that is cut at a `*/`
-with_behind : (text other behind after : List ℕ) → text ≡ other ++ 42 ∷ 47 ∷ behind → text ++ after ≡ other ++ 42 ∷ 47 ∷ (behind ++ after)
-with_behind text other behind after e = ap (λ (t : List ℕ). t ++ after) e ∙ append_assoc other (42 ∷ 47 ∷ behind) after
+with_behind : (text other behind after : List ℕ) → text ≡ other ++ star ∷ slash ∷ behind → text ++ after ≡ other ++ star ∷ slash ∷ (behind ++ after)
+with_behind text other behind after e = ap (λ (t : List ℕ). t ++ after) e ∙ append_assoc other (star ∷ slash ∷ behind) after
 
 -- a comment's end is found, whatever follows
-pub closing_comment : (body after : List ℕ) → IsPiece (BlockComment body) after → closing (body ++ 42 ∷ 47 ∷ after) ≡ Some (length body)
+pub closing_comment : (body after : List ℕ) → IsPiece (BlockComment body) after → closing (body ++ star ∷ slash ∷ after) ≡ Some (length body)
 closing_comment body after first =
     let l = closing_least body [] in
-    let c = closing_cut (body ++ 42 ∷ 47 ∷ []) l.0 l.1 in
+    let c = closing_cut (body ++ star ∷ slash ∷ []) l.0 l.1 in
     let le = first c.0 c.1 c.2 in
     let n : l.0 ≡ length body = omega (arith, le, l.2, c.3) in
-    ap closing (sym (append_assoc body (42 ∷ 47 ∷ []) after)) ∙ closing-append (body ++ 42 ∷ 47 ∷ []) after l.0 l.1 ∙ ap (λ (k : ℕ). Some k) n
+    ap closing (sym (append_assoc body (star ∷ slash ∷ []) after)) ∙ closing-append (body ++ star ∷ slash ∷ []) after l.0 l.1 ∙ ap (λ (k : ℕ). Some k) n
 
 -- what is before the place that is found is a comment
 pub comment_closing : (text : List ℕ) (n : ℕ) → closing text ≡ Some n
-    → (body : List ℕ) × (after : List ℕ) × (text ≡ body ++ 42 ∷ 47 ∷ after) × (length body ≡ n) × IsPiece (BlockComment body) after
+    → (body : List ℕ) × (after : List ℕ) × (text ≡ body ++ star ∷ slash ∷ after) × (length body ≡ n) × IsPiece (BlockComment body) after
 comment_closing text n e =
     let c = closing_cut text n e in (
       c.0,
@@ -81,7 +80,7 @@ comment_closing text n e =
       c.2,
       c.3,
       λ other behind is.
-          let whole : text ≡ other ++ 42 ∷ 47 ∷ (behind ++ c.1) = c.2 ∙ sym (append_assoc c.0 (42 ∷ 47 ∷ []) c.1) ∙ with_behind (c.0 ++ 42 ∷ 47 ∷ []) other behind c.1 is in
+          let whole : text ≡ other ++ star ∷ slash ∷ (behind ++ c.1) = c.2 ∙ sym (append_assoc c.0 (star ∷ slash ∷ []) c.1) ∙ with_behind (c.0 ++ star ∷ slash ∷ []) other behind c.1 is in
           let l = closing_least other (behind ++ c.1) in
           let same : Some n ≡ Some l.0 = sym e ∙ ap closing whole ∙ l.1 in
           let m : n ≡ l.0 = cc in

@@ -1,5 +1,6 @@
 -- What is read at the front of a text stands there as a piece; else no piece does.
 use Rattle.std.proofs.Common.{◌≡◌, ◌≢◌, ℕ, suc, ◌≤◌, ◌==◌, true, ◌⊎◌, inl, inr, IsTrue, List, [], ◌∷◌, ◌++◌, length, nat_le, ◌^◌, take, drop, append_assoc, Option, Some, None, unwrap_or, refl, sym, ap, ◌∙◌, arith, eqb-true}
+use Rattle.std.proofs.lemmas.Bool.{cond_both}
 use Rattle.std.proofs.lemmas.List.{take-append-drop}
 use Rattle.std.specs.List.{prefix_len}
 use Rattle.xk_tokens.specs.declared.token.Keyword.{Keyword}
@@ -8,7 +9,6 @@ use Rattle.xk_tokens.specs.declared.token.Sign.TheVariants as sign
 use Rattle.xk_tokens.specs.Tokens.{Lexeme, Stray, keyword_of, sign_text}
 use Rattle.xk_tokens.specs.Pieces.{is_blank, is_letter, is_digit, is_word_byte, isnt_line_feed, slash, star, word_or_name, word_of, has_leading_zero, decimal, number_of, Piece, Blank, LineComment, BlockComment, Word, Digits, Mark, piece_text, IsPiece, token_of, HasNoPiece}
 use Rattle.xk_tokens.specs.Lexing.{closing, sign_of_one, sign_of_two, two_at, one_at, sign_or, sign_at, closed, comment_at, piece_at, front_at}
-use Rattle.xk_tokens.proofs.Lengths.{by_test}
 use Rattle.xk_tokens.proofs.Runs.{list_all-take, begins-drop, begins-take}
 use Rattle.xk_tokens.proofs.Comments.{comment_closing}
 use Rattle.xk_tokens.proofs.Read.{two_bytes, piece_read}
@@ -69,20 +69,20 @@ one_longest s a after e none t back same = by (sign_bytes t)
 one_byte : (a : ℕ) (s : Sign) → sign_of_one a ≡ Some s → sign_text s ≡ a ∷ []
 unfolding sign_of_one
 one_byte a s =
-    by_test P (a == 40) _ _ (is 40 sign.LeftParen refl) (λ _.
-    by_test P (a == 41) _ _ (is 41 sign.RightParen refl) (λ _.
-    by_test P (a == 123) _ _ (is 123 sign.LeftBrace refl) (λ _.
-    by_test P (a == 125) _ _ (is 125 sign.RightBrace refl) (λ _.
-    by_test P (a == 44) _ _ (is 44 sign.Comma refl) (λ _.
-    by_test P (a == 59) _ _ (is 59 sign.Semicolon refl) (λ _.
-    by_test P (a == 58) _ _ (is 58 sign.Colon refl) (λ _.
-    by_test P (a == 61) _ _ (is 61 sign.Assign refl) (λ _.
-    by_test P (a == 43) _ _ (is 43 sign.Plus refl) (λ _.
-    by_test P (a == 45) _ _ (is 45 sign.Minus refl) (λ _.
-    by_test P (a == 42) _ _ (is 42 sign.Star refl) (λ _.
-    by_test P (a == 46) _ _ (is 46 sign.Dot refl) (λ _.
-    by_test P (a == 60) _ _ (is 60 sign.Less refl) (λ _.
-    by_test P (a == 62) _ _ (is 62 sign.Greater refl) (λ _ e. absurd cc))))))))))))))
+    cond_both (a == 40) _ _ P (is 40 sign.LeftParen refl) (λ _.
+    cond_both (a == 41) _ _ P (is 41 sign.RightParen refl) (λ _.
+    cond_both (a == 123) _ _ P (is 123 sign.LeftBrace refl) (λ _.
+    cond_both (a == 125) _ _ P (is 125 sign.RightBrace refl) (λ _.
+    cond_both (a == 44) _ _ P (is 44 sign.Comma refl) (λ _.
+    cond_both (a == 59) _ _ P (is 59 sign.Semicolon refl) (λ _.
+    cond_both (a == 58) _ _ P (is 58 sign.Colon refl) (λ _.
+    cond_both (a == 61) _ _ P (is 61 sign.Assign refl) (λ _.
+    cond_both (a == 43) _ _ P (is 43 sign.Plus refl) (λ _.
+    cond_both (a == 45) _ _ P (is 45 sign.Minus refl) (λ _.
+    cond_both (a == 42) _ _ P (is 42 sign.Star refl) (λ _.
+    cond_both (a == 46) _ _ P (is 46 sign.Dot refl) (λ _.
+    cond_both (a == 60) _ _ P (is 60 sign.Less refl) (λ _.
+    cond_both (a == 62) _ _ P (is 62 sign.Greater refl) (λ _ e. absurd cc))))))))))))))
   where
     P : Option Sign → Type 0
     P o = o ≡ Some s → sign_text s ≡ a ∷ []
@@ -115,9 +115,9 @@ comment_found b [] = sign_found b []
 comment_found b (c ∷ bs) =
     let other = sign_found b (c ∷ bs) in
     let P = λ (o : Option (Option Lexeme × ℕ)). IsFound (b ∷ c ∷ bs) (unwrap_or o (sign_at (b ∷ c ∷ bs))) in
-    by_test P (b == slash) _ _ (λ h.
-    by_test P (c == slash) _ _ (λ k. inl (line h k)) (λ _.
-    by_test P (c == star) _ _ (λ k. block h k (closing bs) refl) (λ _. other))) (λ _. other)
+    cond_both (b == slash) _ _ P (λ h.
+    cond_both (c == slash) _ _ P (λ k. inl (line h k)) (λ _.
+    cond_both (c == star) _ _ P (λ k. block h k (closing bs) refl) (λ _. other))) (λ _. other)
   where
     front : (x : ℕ) (t : List ℕ) → (b == slash) ≡ true → (c == x) ≡ true → bs ≡ t → b ∷ c ∷ bs ≡ slash ∷ x ∷ t
     front x t h k e = rw (eqb-true b slash h, eqb-true c x k, e) refl
@@ -141,9 +141,9 @@ front_found : (b : ℕ) (bs : List ℕ) → IsFound (b ∷ bs) (piece_at b (b �
 unfolding piece_at
 front_found b bs =
     let P = IsFound (b ∷ bs) in
-    by_test P (is_blank b) _ _ (λ h. inl (Blank b, bs, refl, h)) (λ _.
-    by_test P (is_letter b) _ _ (λ h. inl (word h)) (λ _.
-    by_test P (is_digit b) _ _ (λ h. inl (digits h)) (λ _. comment_found b bs)))
+    cond_both (is_blank b) _ _ P (λ h. inl (Blank b, bs, refl, h)) (λ _.
+    cond_both (is_letter b) _ _ P (λ h. inl (word h)) (λ _.
+    cond_both (is_digit b) _ _ P (λ h. inl (digits h)) (λ _. comment_found b bs)))
   where
     word : IsTrue (is_letter b) → HasPiece (b ∷ bs)
     word h =
@@ -176,8 +176,8 @@ word_isnt_stray text = by (keyword_of text)
 number_isnt_stray : (digits : List ℕ) → number_of digits ≢ Stray
 unfolding number_of
 number_isnt_stray digits =
-    by_test P (has_leading_zero digits) _ _ (λ _ e. absurd cc) (λ _.
-    by_test P (nat_le (decimal 0 digits) (2 ^ 63)) _ _ (λ _ e. absurd cc) (λ _ e. absurd cc))
+    cond_both (has_leading_zero digits) _ _ P (λ _ e. absurd cc) (λ _.
+    cond_both (nat_le (decimal 0 digits) (2 ^ 63)) _ _ P (λ _ e. absurd cc) (λ _ e. absurd cc))
   where
     P : Lexeme → Type 0
     P l = l ≡ Stray → ⊥

@@ -1,17 +1,14 @@
 -- How long pieces are.
-use Rattle.std.proofs.Common.{◌≡◌, ℕ, zero, suc, ◌+◌, ◌-◌, ◌*◌, ◌^◌, ◌/◌, leb, ◌<◌, ◌≤◌, ◌==◌, Bool, true, false, cond, List, [], ◌∷◌, length, drop, ◌++◌, append_assoc, length-drop, Option, Some, None, option_map, unwrap_or, refl, sym, ap, subst, ◌∙◌, arith}
-use Rattle.std.proofs.lemmas.Bool.{lt-leb}
+use Rattle.std.proofs.Common.{◌≡◌, ℕ, zero, suc, ◌+◌, ◌-◌, ◌*◌, ◌^◌, ◌/◌, leb, ◌<◌, ◌≤◌, ◌==◌, Bool, true, false, List, [], ◌∷◌, length, drop, ◌++◌, append_assoc, length-append, length-drop, Option, Some, None, unwrap_or, refl, sym, ap, subst, ◌∙◌, arith}
+use Rattle.std.proofs.lemmas.Bool.{lt-leb, cond_both}
 use Rattle.xk_tokens.specs.declared.token.Sign.{Sign}
 use Rattle.std.proofs.lemmas.List.{append-nil}
 use Rattle.std.specs.List.{prefix_len}
 use Rattle.std.proofs.lemmas.List.Sums.{prefix_len-le-length}
 use Rattle.xk_tokens.specs.Tokens.{Lexeme, TokenValue}
-use Rattle.xk_tokens.specs.Pieces.{is_blank, is_letter, is_digit, is_word_byte, isnt_line_feed, decimal, told}
-use Rattle.xk_tokens.specs.Lexing.{begins_close, closing, two_at, one_at, sign_or, sign_at, value_of, closed, comment_at, piece_at, front_at, lexed_from, lexed}
-
-pub by_test : {A : Type 0} (P : A → Type 0) (b : Bool) (x y : A) → (b ≡ true → P x) → (b ≡ false → P y) → P (cond b x y)
-by_test P true x y f g = f refl
-by_test P false x y f g = g refl
+use Rattle.xk_tokens.specs.Pieces.{is_blank, is_letter, is_digit, is_word_byte, isnt_line_feed, slash, star, decimal, told}
+use Rattle.xk_tokens.specs.Lexing.{closing, two_at, one_at, sign_or, sign_at, value_of, closed, comment_at, piece_at, front_at, lexed_from, lexed}
+use Rattle.xk_tokens.proofs.Comments.{closing_cut}
 
 -- a greater front gives a greater number
 pub decimal_least : (v : ℕ) (ds : List ℕ) → v ≤ decimal v ds
@@ -21,23 +18,6 @@ decimal_least v (d ∷ ds) = let h = decimal_least (v * 10 + (d - 48)) ds in ome
 -- a length that leaves room
 abbrev pub Within : List ℕ → Option Lexeme × ℕ → Type 0
 Within text p = (0 < p.1) × (p.1 ≤ length text)
-
-closing_inner : (bs : List ℕ) (o : Option ℕ) (n : ℕ) → ((k : ℕ) → o ≡ Some k → k + 2 ≤ length bs) → option_map suc o ≡ Some n → n + 2 ≤ suc (length bs)
-closing_inner bs None n ih e = absurd cc
-closing_inner bs (Some k) n ih e = let r = ih k refl in let q : suc k ≡ n = cc in omega arith
-
-closing_first : (b : ℕ) (bs : List ℕ) → begins_close (b ∷ bs) ≡ true → 2 ≤ suc (length bs)
-closing_first b [] e = absurd cc
-closing_first b (a ∷ bs) e = omega arith
-
-closing_room : (bs : List ℕ) (n : ℕ) → closing bs ≡ Some n → n + 2 ≤ length bs
-closing_room [] n e = absurd cc
-closing_room (b ∷ bs) n e = by (λ k. closing_room bs k) e
-  where
-    by : ((k : ℕ) → closing bs ≡ Some k → k + 2 ≤ length bs) → cond (begins_close (b ∷ bs)) (Some 0) (option_map suc (closing bs)) ≡ Some n → n + 2 ≤ suc (length bs)
-    by ih = by_test (λ (o : Option ℕ). o ≡ Some n → n + 2 ≤ suc (length bs)) (begins_close (b ∷ bs)) (Some 0) (option_map suc (closing bs))
-        (λ h e. let r = closing_first b bs h in let q : 0 ≡ n = cc in omega arith)
-        (λ h e. closing_inner bs (closing bs) n ih e)
 
 sign_room : (b : ℕ) (bs : List ℕ) → Within (b ∷ bs) (sign_at (b ∷ bs))
 unfolding sign_at
@@ -59,22 +39,24 @@ comment_room b [] = sign_room b []
 comment_room b (c ∷ bs) =
     let other = sign_room b (c ∷ bs) in
     let P = λ (o : Option (Option Lexeme × ℕ)). Within (b ∷ c ∷ bs) (unwrap_or o (sign_at (b ∷ c ∷ bs))) in
-    by_test P (b == 47) _ _ (λ _.
-    by_test P (c == 47) _ _ (λ _. let h = prefix_len-le-length isnt_line_feed bs in (omega arith, omega arith)) (λ _.
-    by_test P (c == 42) _ _ (λ _. within (closing bs) refl) (λ _. other))) (λ _. other)
+    cond_both (b == slash) _ _ P (λ _.
+    cond_both (c == slash) _ _ P (λ _. let h = prefix_len-le-length isnt_line_feed bs in (omega arith, omega arith)) (λ _.
+    cond_both (c == star) _ _ P (λ _. within (closing bs) refl) (λ _. other))) (λ _. other)
   where
     within : (o : Option ℕ) → closing bs ≡ o → Within (b ∷ c ∷ bs) (closed (b ∷ c ∷ bs) o)
     within None h = (omega arith, omega arith)
-    within (Some n) h = let r = closing_room bs n h in (omega arith, omega arith)
+    within (Some n) h = let c = closing_cut bs n h in
+        let e : length bs ≡ n + suc (suc (length c.1)) = ap length c.2 ∙ length-append c.0 (star ∷ slash ∷ c.1) ∙ ap (λ (m : ℕ). m + suc (suc (length c.1))) c.3 in
+        (omega (arith, e), omega (arith, e))
 
 -- a piece has a byte at least, and ends in the text
 pub piece_room : (b : ℕ) (bs : List ℕ) → Within (b ∷ bs) (piece_at b (b ∷ bs))
 unfolding piece_at
 piece_room b bs =
     let P = Within (b ∷ bs) in
-    by_test P (is_blank b) _ _ (λ _. (omega arith, omega arith)) (λ _.
-    by_test P (is_letter b) _ _ (λ h. counted is_word_byte (rw h refl)) (λ _.
-    by_test P (is_digit b) _ _ (λ h. counted is_digit h) (λ _. comment_room b bs)))
+    cond_both (is_blank b) _ _ P (λ _. (omega arith, omega arith)) (λ _.
+    cond_both (is_letter b) _ _ P (λ h. counted is_word_byte (rw h refl)) (λ _.
+    cond_both (is_digit b) _ _ P (λ h. counted is_digit h) (λ _. comment_room b bs)))
   where
     counted : (p : ℕ → Bool) → p b ≡ true → (0 < prefix_len p (b ∷ bs)) × (prefix_len p (b ∷ bs) ≤ length (b ∷ bs))
     counted p h = (rw h (omega arith), prefix_len-le-length p (b ∷ bs))

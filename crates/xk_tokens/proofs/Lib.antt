@@ -1,5 +1,5 @@
-pub mod Lengths
 pub mod Comments
+pub mod Lengths
 pub mod Runs
 pub mod Read
 pub mod Found

@@ -1,6 +1,6 @@
 -- What a piece spells is read as it.
 use Rattle.std.proofs.Common.{◌≡◌, ℕ, suc, ◌+◌, ◌==◌, ◌&&◌, IsTrue, IsFalse, List, [], ◌∷◌, ◌++◌, length, take, append_assoc, length-append, Option, Some, None, refl, ap, arith, eqb-true}
-use Rattle.std.proofs.lemmas.Bool.{and_parts}
+use Rattle.std.proofs.lemmas.Bool.{and_parts, cond_both}
 use Rattle.std.proofs.lemmas.List.{take_at}
 use Rattle.std.specs.List.{prefix_len}
 use Rattle.xk_tokens.specs.declared.token.Sign.{Sign}
@@ -8,7 +8,6 @@ use Rattle.xk_tokens.specs.declared.token.Sign.TheVariants as sign
 use Rattle.xk_tokens.specs.Tokens.{Symbol, sign_text}
 use Rattle.xk_tokens.specs.Pieces.{is_blank, is_letter, is_digit, is_word_byte, isnt_line_feed, slash, star, Piece, Blank, LineComment, BlockComment, Word, Digits, Mark, piece_text, IsPiece, token_of}
 use Rattle.xk_tokens.specs.Lexing.{sign_of_one, sign_of_two, sign_at, comment_at, piece_at, front_at}
-use Rattle.xk_tokens.proofs.Lengths.{by_test}
 use Rattle.xk_tokens.proofs.Runs.{prefix_len-append}
 use Rattle.xk_tokens.proofs.Comments.{closing_comment}
 
@@ -67,13 +66,13 @@ block_comment_read body after h =
 
 pub two_bytes : (a b : ℕ) (t : Sign) → sign_of_two a b ≡ Some t → sign_text t ≡ a ∷ b ∷ []
 unfolding sign_of_two
-two_bytes a b t = by_test P (b == 61) _ _
-    (λ h. let b61 = eqb-true b 61 h in by_test P (a == 61) _ _ (λ k e. let q : sign.Equal ≡ t = cc in rw (eqb-true a 61 k, b61, ← q) refl)
-    (λ _. by_test P (a == 33) _ _ (λ k e. let q : sign.NotEqual ≡ t = cc in rw (eqb-true a 33 k, b61, ← q) refl)
-    (λ _. by_test P (a == 60) _ _ (λ k e. let q : sign.LessEqual ≡ t = cc in rw (eqb-true a 60 k, b61, ← q) refl)
-    (λ _. by_test P (a == 62) _ _ (λ k e. let q : sign.GreaterEqual ≡ t = cc in rw (eqb-true a 62 k, b61, ← q) refl)
+two_bytes a b t = cond_both (b == 61) _ _ P
+    (λ h. let b61 = eqb-true b 61 h in cond_both (a == 61) _ _ P (λ k e. let q : sign.Equal ≡ t = cc in rw (eqb-true a 61 k, b61, ← q) refl)
+    (λ _. cond_both (a == 33) _ _ P (λ k e. let q : sign.NotEqual ≡ t = cc in rw (eqb-true a 33 k, b61, ← q) refl)
+    (λ _. cond_both (a == 60) _ _ P (λ k e. let q : sign.LessEqual ≡ t = cc in rw (eqb-true a 60 k, b61, ← q) refl)
+    (λ _. cond_both (a == 62) _ _ P (λ k e. let q : sign.GreaterEqual ≡ t = cc in rw (eqb-true a 62 k, b61, ← q) refl)
     (λ _ e. absurd cc)))))
-    (λ _. by_test P (a == 46 && b == 46) _ _
+    (λ _. cond_both (a == 46 && b == 46) _ _ P
     (λ h e. let p = and_parts (a == 46) (b == 46) h in let q : sign.DotDot ≡ t = cc in rw (eqb-true a 46 p.0, eqb-true b 46 p.1, ← q) refl)
     (λ _ e. absurd cc))
   where
