@@ -8,7 +8,7 @@ use Rattle.xk_tokens.specs.declared.token.Sign.{Sign}
 use Rattle.xk_tokens.specs.declared.token.Sign.TheVariants as sign
 use Rattle.xk_tokens.specs.Tokens.{Lexeme, Stray, keyword_of, sign_text}
 use Rattle.xk_tokens.specs.Pieces.{is_blank, is_letter, is_digit, is_word_byte, isnt_line_feed, slash, star, word_or_name, word_of, has_leading_zero, decimal, number_of, Piece, Blank, LineComment, BlockComment, Word, Digits, Mark, piece_text, IsPiece, token_of, HasNoPiece}
-use Rattle.xk_tokens.specs.Lexing.{closing, sign_of_one, sign_of_two, two_at, one_at, sign_or, sign_at, closed, comment_at, piece_at, front_at}
+use Rattle.xk_tokens.specs.Lexing.{closing, sign_of_one, sign_of_two, two_at, one_at, sign_or, sign_at, block_comment, comment_at, piece_at, front_at}
 use Rattle.xk_tokens.proofs.Runs.{list_all-take, begins-drop, begins-take}
 use Rattle.xk_tokens.proofs.Comments.{comment_closing}
 use Rattle.xk_tokens.proofs.Read.{two_bytes, piece_read}
@@ -131,7 +131,7 @@ comment_found b (c ∷ bs) =
           (list_all-take isnt_line_feed bs, begins-drop isnt_line_feed bs),
         )
 
-    block : (b == slash) ≡ true → (c == star) ≡ true → (o : Option ℕ) → closing bs ≡ o → IsFound (b ∷ c ∷ bs) (closed (b ∷ c ∷ bs) o)
+    block : (b == slash) ≡ true → (c == star) ≡ true → (o : Option ℕ) → closing bs ≡ o → IsFound (b ∷ c ∷ bs) (block_comment (b ∷ c ∷ bs) o)
     block h k None e = inr refl
     block h k (Some n) e =
         let q = comment_closing bs n e in

@@ -6,8 +6,8 @@ use Rattle.std.proofs.lemmas.List.{append-nil}
 use Rattle.std.specs.List.{prefix_len}
 use Rattle.std.proofs.lemmas.List.Sums.{prefix_len-le-length}
 use Rattle.xk_tokens.specs.Tokens.{Lexeme, TokenValue}
-use Rattle.xk_tokens.specs.Pieces.{is_blank, is_letter, is_digit, is_word_byte, isnt_line_feed, slash, star, decimal, told}
-use Rattle.xk_tokens.specs.Lexing.{closing, two_at, one_at, sign_or, sign_at, value_of, closed, comment_at, piece_at, front_at, lexed_from, lexed}
+use Rattle.xk_tokens.specs.Pieces.{is_blank, is_letter, is_digit, is_word_byte, isnt_line_feed, slash, star, decimal, with_token}
+use Rattle.xk_tokens.specs.Lexing.{closing, two_at, one_at, sign_or, sign_at, value_of, block_comment, comment_at, piece_at, front_at, lexed_from, lexed}
 use Rattle.xk_tokens.proofs.Comments.{closing_cut}
 
 -- a greater front gives a greater number
@@ -43,7 +43,7 @@ comment_room b (c ∷ bs) =
     cond_both (c == slash) _ _ P (λ _. let h = prefix_len-le-length isnt_line_feed bs in (omega arith, omega arith)) (λ _.
     cond_both (c == star) _ _ P (λ _. within (closing bs) refl) (λ _. other))) (λ _. other)
   where
-    within : (o : Option ℕ) → closing bs ≡ o → Within (b ∷ c ∷ bs) (closed (b ∷ c ∷ bs) o)
+    within : (o : Option ℕ) → closing bs ≡ o → Within (b ∷ c ∷ bs) (block_comment (b ∷ c ∷ bs) o)
     within None h = (omega arith, omega arith)
     within (Some n) h = let c = closing_cut bs n h in
         let e : length bs ≡ n + suc (suc (length c.1)) = ap length c.2 ∙ length-append c.0 (star ∷ slash ∷ c.1) ∙ ap (λ (m : ℕ). m + suc (suc (length c.1))) c.3 in
@@ -68,11 +68,11 @@ lexed_skip (suc k) at [] = refl
 lexed_skip (suc k) at (b ∷ bs) = lexed_skip k (suc at) bs ∙ ap (λ (n : ℕ). lexed_from 0 n (drop k bs)) (omega arith)
 
 -- one piece, and the pieces behind it
-pub lexed_next : (at b : ℕ) (bs : List ℕ) → let p = piece_at b (b ∷ bs) in lexed_from 0 at (b ∷ bs) ≡ told at p.0 (lexed_from 0 (at + p.1) (drop p.1 (b ∷ bs)))
+pub lexed_next : (at b : ℕ) (bs : List ℕ) → let p = piece_at b (b ∷ bs) in lexed_from 0 at (b ∷ bs) ≡ with_token at p.0 (lexed_from 0 (at + p.1) (drop p.1 (b ∷ bs)))
 lexed_next at b bs = by (piece_at b (b ∷ bs)) (piece_room b bs)
   where
-    by : (p : Option Lexeme × ℕ) → Within (b ∷ bs) p → told at p.0 (lexed_from (p.1 - 1) (suc at) bs) ≡ told at p.0 (lexed_from 0 (at + p.1) (drop p.1 (b ∷ bs)))
-    by p h = ap (told at p.0) (step p.1 h.0)
+    by : (p : Option Lexeme × ℕ) → Within (b ∷ bs) p → with_token at p.0 (lexed_from (p.1 - 1) (suc at) bs) ≡ with_token at p.0 (lexed_from 0 (at + p.1) (drop p.1 (b ∷ bs)))
+    by p h = ap (with_token at p.0) (step p.1 h.0)
       where
         step : (n : ℕ) → 0 < n → lexed_from (n - 1) (suc at) bs ≡ lexed_from 0 (at + n) (drop n (b ∷ bs))
         step zero h = absurd (omega arith)
@@ -91,20 +91,20 @@ front_room [] p e = absurd cc
 front_room (b ∷ bs) p e = let q : piece_at b (b ∷ bs) ≡ p = cc in subst (Within (b ∷ bs)) q (piece_room b bs)
 
 -- one piece, at the text that it begins
-pub front_next : (at : ℕ) (text : List ℕ) (p : Option Lexeme × ℕ) → Some p ≡ front_at text → lexed_from 0 at text ≡ told at p.0 (lexed_from 0 (at + p.1) (drop p.1 text))
+pub front_next : (at : ℕ) (text : List ℕ) (p : Option Lexeme × ℕ) → Some p ≡ front_at text → lexed_from 0 at text ≡ with_token at p.0 (lexed_from 0 (at + p.1) (drop p.1 text))
 front_next at [] p e = absurd cc
 front_next at (b ∷ bs) p e =
     let q : piece_at b (b ∷ bs) ≡ p = cc in
-    subst (λ (x : Option Lexeme × ℕ). lexed_from 0 at (b ∷ bs) ≡ told at x.0 (lexed_from 0 (at + x.1) (drop x.1 (b ∷ bs)))) q (lexed_next at b bs)
+    subst (λ (x : Option Lexeme × ℕ). lexed_from 0 at (b ∷ bs) ≡ with_token at x.0 (lexed_from 0 (at + x.1) (drop x.1 (b ∷ bs)))) q (lexed_next at b bs)
 
-told_front : (at : ℕ) (o : Option Lexeme) (ts : List TokenValue) → told at o ts ≡ told at o [] ++ ts
-told_front at None ts = refl
-told_front at (Some l) ts = refl
+pub with_token-append : (at : ℕ) (o : Option Lexeme) (ts us : List TokenValue) → with_token at o ts ++ us ≡ with_token at o (ts ++ us)
+with_token-append at None ts us = refl
+with_token-append at (Some l) ts us = refl
 
 -- the tokens so far, and those of the rest
 pub goes_on : (text rest after : List ℕ) (old new : List TokenValue) (p : Option Lexeme × ℕ)
     → Some p ≡ front_at rest → length rest ≤ length text → old ++ lexed_from 0 (length text - length rest) rest ≡ lexed text
-    → new ≡ old ++ told (length text - length rest) p.0 [] → after ≡ drop p.1 rest
+    → new ≡ old ++ with_token (length text - length rest) p.0 [] → after ≡ drop p.1 rest
     → (length after ≤ length text) × (new ++ lexed_from 0 (length text - length after) after ≡ lexed text)
 goes_on text rest after old new p e room so_far made left =
     let w = front_room rest p e in
@@ -113,9 +113,9 @@ goes_on text rest after old new p e room so_far made left =
     let where_ : length text - length after ≡ at + p.1 = omega arith in (
       omega arith,
       ap (λ (ts : List TokenValue). ts ++ lexed_from 0 (length text - length after) after) made
-          ∙ append_assoc old (told at p.0 []) (lexed_from 0 (length text - length after) after)
-          ∙ ap (λ (ts : List TokenValue). old ++ ts) (sym (told_front at p.0 (lexed_from 0 (length text - length after) after))
-          ∙ ap (told at p.0) (ap (λ (n : ℕ). lexed_from 0 n after) where_ ∙ ap (lexed_from 0 (at + p.1)) left)
+          ∙ append_assoc old (with_token at p.0 []) (lexed_from 0 (length text - length after) after)
+          ∙ ap (λ (ts : List TokenValue). old ++ ts) (with_token-append at p.0 [] (lexed_from 0 (length text - length after) after)
+          ∙ ap (with_token at p.0) (ap (λ (n : ℕ). lexed_from 0 n after) where_ ∙ ap (lexed_from 0 (at + p.1)) left)
           ∙ sym (front_next at rest p e))
           ∙ so_far,
     )

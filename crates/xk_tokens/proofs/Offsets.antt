@@ -2,7 +2,7 @@
 use Rattle.std.proofs.Common.{◌≡◌, ℕ, zero, suc, ◌+◌, ◌-◌, ◌<◌, ◌≤◌, All, List, [], ◌∷◌, length, Option, Some, None, arith}
 use Rattle.std.specs.List.Sorted.{IsStrictlyIncreasing}
 use Rattle.xk_tokens.specs.Tokens.{Lexeme, TokenValue}
-use Rattle.xk_tokens.specs.Pieces.{told, offsets}
+use Rattle.xk_tokens.specs.Pieces.{with_token, offsets}
 use Rattle.xk_tokens.specs.Lexing.{piece_at, lexed_from, lexed}
 
 -- each is greater than those before it, and all are between these two
@@ -19,7 +19,7 @@ lexed_rising skip at high [] e = tt
 lexed_rising (suc k) at high (b ∷ bs) e = from_lower at high (lexed_from k (suc at) bs) (lexed_rising k (suc at) high bs (omega arith))
 lexed_rising zero at high (b ∷ bs) e = let p = piece_at b (b ∷ bs) in by p.0 (lexed_from (p.1 - 1) (suc at) bs) (lexed_rising (p.1 - 1) (suc at) high bs (omega arith))
   where
-    by : (o : Option Lexeme) (ts : List TokenValue) → AreRising (suc at) high ts → AreRising at high (told at o ts)
+    by : (o : Option Lexeme) (ts : List TokenValue) → AreRising (suc at) high ts → AreRising at high (with_token at o ts)
     by None ts h = from_lower at high ts h
     by (Some l) ts h = (omega arith, omega arith, h)
 

@@ -2,17 +2,13 @@
 use Rattle.std.proofs.Common.{◌≡◌, ◌≢◌, ℕ, zero, suc, ◌+◌, ◌-◌, ◌<◌, ◌≤◌, Bool, true, false, true≢false, ◌||◌, ◌⊎◌, inl, inr, IsTrue, IsFalse, List, [], ◌∷◌, ◌++◌, length, drop, length-append, Option, Some, None, refl, sym, ap, subst, ◌∙◌, arith}
 use Rattle.std.proofs.lemmas.List.{append-nil, drop_at}
 use Rattle.xk_tokens.specs.Tokens.{Lexeme, Name, Reserved, Number, BadNumber, Symbol, Stray, TokenValue}
-use Rattle.xk_tokens.specs.Pieces.{Piece, piece_text, IsPiece, ArePieces, token_of, told, tokens_at, SpellsTokens, HasNoPiece, Strays, IsReadAs, stray_at, is_stray, has_stray}
+use Rattle.xk_tokens.specs.Pieces.{Piece, piece_text, IsPiece, ArePieces, token_of, with_token, tokens_at, SpellsTokens, HasNoPiece, Strays, IsReadAs, stray_at, is_stray, has_stray}
 use Rattle.xk_tokens.specs.Lexing.{piece_at, lexed_from, lexed}
-use Rattle.xk_tokens.proofs.Lengths.{front_room, front_next}
+use Rattle.xk_tokens.proofs.Lengths.{front_room, front_next, with_token-append}
 use Rattle.xk_tokens.proofs.Read.{piece_read}
 use Rattle.xk_tokens.proofs.Found.{HasPiece, begins_or_not, token_isnt_stray}
 
 -- ---- pieces and what follows them
-
-told-append : (at : ℕ) (o : Option Lexeme) (ts us : List TokenValue) → told at o ts ++ us ≡ told at o (ts ++ us)
-told-append at None ts us = refl
-told-append at (Some l) ts us = refl
 
 rest_within : (ps : List Piece) (text rest : List ℕ) → ArePieces ps text rest → length rest ≤ length text
 rest_within [] text rest e = omega (arith, ap length e)
@@ -32,9 +28,9 @@ pieces_read (p ∷ ps) at text rest h =
     let where_ : (at + len) + (length after - length rest) ≡ at + (length text - length rest) = omega (arith, within, ap length h.1, length-append (piece_text p) after) in
     ap (lexed_from 0 at) h.1
     ∙ front_next at (piece_text p ++ after) (token_of p, len) (piece_read p after h.2)
-    ∙ ap (told at (token_of p)) (ap (lexed_from 0 (at + len)) left ∙ pieces_read ps (at + len) after rest h.3
+    ∙ ap (with_token at (token_of p)) (ap (lexed_from 0 (at + len)) left ∙ pieces_read ps (at + len) after rest h.3
     ∙ ap (λ (n : ℕ). tokens_at (at + len) ps ++ lexed_from 0 n rest) where_)
-    ∙ sym (told-append at (token_of p) (tokens_at (at + len) ps) (lexed_from 0 (at + (length text - length rest)) rest))
+    ∙ sym (with_token-append at (token_of p) (tokens_at (at + len) ps) (lexed_from 0 (at + (length text - length rest)) rest))
 
 spelled_read : (ps : List Piece) (text : List ℕ) → ArePieces ps text [] → lexed text ≡ tokens_at 0 ps
 spelled_read ps text h = pieces_read ps 0 text [] h ∙ append-nil (tokens_at 0 ps)
@@ -114,7 +110,7 @@ pieces_have_none [] at = refl
 pieces_have_none (p ∷ ps) at = by (token_of p) refl (pieces_have_none ps (at + length (piece_text p)))
   where
     by : (o : Option Lexeme) → token_of p ≡ o → IsFalse (has_stray (tokens_at (at + length (piece_text p)) ps))
-        → IsFalse (has_stray (told at o (tokens_at (at + length (piece_text p)) ps)))
+        → IsFalse (has_stray (with_token at o (tokens_at (at + length (piece_text p)) ps)))
     by None e ih = ih
     by (Some l) e ih = let first = isnt_stray l (λ q. token_isnt_stray p (e ∙ ap (λ (x : Lexeme). Some x) q)) in rw first ih
 

@@ -4,7 +4,7 @@ use Rattle.std.specs.List.{prefix_len}
 use Rattle.xk_tokens.specs.declared.token.Sign.{Sign}
 use Rattle.xk_tokens.specs.declared.token.Sign.TheVariants as sign
 use Rattle.xk_tokens.specs.Tokens.{Lexeme, Symbol, Stray, TokenValue}
-use Rattle.xk_tokens.specs.Pieces.{is_blank, is_letter, is_digit, is_word_byte, isnt_line_feed, decimal, slash, star, word_of, number_of, told}
+use Rattle.xk_tokens.specs.Pieces.{is_blank, is_letter, is_digit, is_word_byte, isnt_line_feed, decimal, slash, star, word_of, number_of, with_token}
 
 -- ---- parts
 
@@ -72,9 +72,9 @@ sign_or text None None = (Some Stray, length text)
 unfoldable pub sign_at : List ℕ → Option Lexeme × ℕ
 sign_at text = sign_or text (two_at text) (one_at text)
 
-abbrev pub closed : List ℕ → Option ℕ → Option Lexeme × ℕ
-closed text (Some n) = (None, n + 4)
-closed text None = (Some Stray, length text)
+abbrev pub block_comment : List ℕ → Option ℕ → Option Lexeme × ℕ
+block_comment text (Some n) = (None, n + 4)
+block_comment text None = (Some Stray, length text)
 
 unfoldable pub comment_at : List ℕ → Option (Option Lexeme × ℕ)
 comment_at [] = None
@@ -82,7 +82,7 @@ comment_at (a ∷ []) = None
 comment_at (a ∷ b ∷ bs) =
     if a == 47 then
     (if b == 47 then Some (None, prefix_len isnt_line_feed bs + 2)
-    else if b == star then Some (closed (a ∷ b ∷ bs) (closing bs))
+    else if b == star then Some (block_comment (a ∷ b ∷ bs) (closing bs))
     else None)
     else None
 
@@ -109,7 +109,7 @@ abbrev pub lexed_from : ℕ → ℕ → List ℕ → List TokenValue
 lexed_from skip at [] = []
 lexed_from (suc k) at (b ∷ bs) = lexed_from k (suc at) bs
 lexed_from zero at (b ∷ bs) =
-    let p = piece_at b (b ∷ bs) in told at p.0 (lexed_from (p.1 - 1) (suc at) bs)
+    let p = piece_at b (b ∷ bs) in with_token at p.0 (lexed_from (p.1 - 1) (suc at) bs)
 
 -- the tokens of a text; where at some place none begins, the rest from there on is a stray one
 abbrev pub lexed : List ℕ → List TokenValue

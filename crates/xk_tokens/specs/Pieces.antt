@@ -7,12 +7,15 @@ use Rattle.xk_tokens.specs.Tokens.{Lexeme, Name, Reserved, Number, BadNumber, Sy
 
 -- ---- bytes
 
+-- a space, tab, line feed or carriage return
 abbrev pub is_blank : ℕ → Bool
 is_blank b = b == 32 || b == 9 || b == 10 || b == 13
 
+-- an ASCII letter, or `_`
 abbrev pub is_letter : ℕ → Bool
 is_letter b = (nat_le 97 b && nat_le b 122) || (nat_le 65 b && nat_le b 90) || b == 95
 
+-- `0` to `9`
 abbrev pub is_digit : ℕ → Bool
 is_digit b = nat_le 48 b && nat_le b 57
 
@@ -54,7 +57,8 @@ has_leading_zero [] = false
 has_leading_zero (d ∷ []) = false
 has_leading_zero (d ∷ e ∷ ds) = d == 48
 
--- what a digit run is
+-- What a digit run is: with a needless 0 in front, or a value above 2 to the 63rd, it is a bad number. That is a token
+-- too, so that whoever reads tokens can say where it stands.
 unfoldable pub number_of : List ℕ → Lexeme
 number_of ds =
     if has_leading_zero ds then BadNumber
@@ -129,14 +133,14 @@ token_of (Digits digits) = Some (number_of digits)
 token_of (Mark s) = Some (Symbol s)
 
 -- a token at this offset, if there is one, before others
-abbrev pub told : ℕ → Option Lexeme → List TokenValue → List TokenValue
-told at None ts = ts
-told at (Some l) ts = record { at = at; what = l } ∷ ts
+abbrev pub with_token : ℕ → Option Lexeme → List TokenValue → List TokenValue
+with_token at None ts = ts
+with_token at (Some l) ts = record { at = at; what = l } ∷ ts
 
 -- the tokens among pieces of which the first begins at this offset
 abbrev pub tokens_at : ℕ → List Piece → List TokenValue
 tokens_at at [] = []
-tokens_at at (p ∷ ps) = told at (token_of p) (tokens_at (at + length (piece_text p)) ps)
+tokens_at at (p ∷ ps) = with_token at (token_of p) (tokens_at (at + length (piece_text p)) ps)
 
 -- the text is pieces, and these are their tokens
 abbrev pub SpellsTokens : List ℕ → List TokenValue → Type 0

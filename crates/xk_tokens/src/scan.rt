@@ -4,7 +4,7 @@ ghost use Rattle.std.specs.Prelude.{◌≡◌, ◌+◌, ◌<◌, ◌≤◌, [], 
 ghost use Rattle.std.specs.List.{prefix_len};
 ghost use Rattle.std.specs.Str.{bytes_eq};
 ghost use Rattle.xk_tokens.specs.Tokens.{keyword_of, lexeme, token_value};
-ghost use Rattle.xk_tokens.specs.Pieces.{IsReadAs, is_blank, is_letter, is_digit, is_word_byte, isnt_line_feed, word_of, number_of, told};
+ghost use Rattle.xk_tokens.specs.Pieces.{IsReadAs, is_blank, is_letter, is_digit, is_word_byte, isnt_line_feed, word_of, number_of, with_token};
 ghost use Rattle.xk_tokens.specs.Lexing.{closing, comment_at, front_at, lexed, piece_at, sign_at, sign_of_one, sign_of_two, value_of};
 ghost use Rattle.xk_tokens.specs.Views.{piece_value};
 
@@ -310,7 +310,7 @@ fn push_token<'t>(
     kind: Option<Kind<'t>>,
 ) -> Result<(), AllocError>
     ensures { OnOk result (map token_value tokens.new.items
-        ≡ map token_value tokens.old.items ++ told at (option_map lexeme kind.entry) []) }
+        ≡ map token_value tokens.old.items ++ with_token at (option_map lexeme kind.entry) []) }
 {
     match kind {
         Some(kind) => {
