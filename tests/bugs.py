@@ -239,10 +239,12 @@ def said(crate, bug, lines):
         stem = os.path.basename(file)[:-3]
         folder = "" if stem in ("lib", "main") else stem + "/"
         own_proof = re.compile(rf"proofs/{folder}{owner and owner + '/'}{name}(/|\.antt)", re.I)
+        cycle_proof = re.compile(rf"proofs/{folder}\+\w+/")
         own_path = ([] if stem in ("lib", "main") else [stem]) + ([owner.lower()] if owner else []) + [name]
         for line in lines:
             if m := SAID.match(line):
-                if m[1].startswith("proofs/") and (not name or own_proof.match(m[1])):
+                in_cycle = cycle_proof.match(m[1]) and f"`{name}-" in m[3]
+                if m[1].startswith("proofs/") and (not name or own_proof.match(m[1]) or in_cycle):
                     found.add_proof_line(m[1], m[3])
                 elif not name or m[1] == file and first <= int(m[2]) <= last:
                     found.add_source_line(m[3])
