@@ -104,6 +104,7 @@ fn negation_fault(at: usize, tokens: &[Token]) -> FrontFault {
     }
 }
 
+/// A factor, where so many levels and operators are left.
 #[cycle(exprs)]
 #[tactic(auto, unfolding(crate::specs::Exprs::factor_at))]
 fn factor<'s, 't>(
@@ -136,11 +137,8 @@ fn factor<'s, 't>(
                 }
                 let (inner, operators, rest) = sum(alloc, levels - 1, operators, rest, end)?;
                 let rest = close(rest, end)?;
-                Ok((
-                    Expr::Paren(token.at, Box::new(alloc, inner)?),
-                    operators,
-                    rest,
-                ))
+                let boxed = Box::new(alloc, inner)?;
+                Ok((Expr::Paren(token.at, boxed), operators, rest))
             }
             Sign::Minus => {
                 if let Some((at, digits, rest)) = digits(rest) {
@@ -151,11 +149,8 @@ fn factor<'s, 't>(
                     return Err(FrontError::Fault(negation_fault(token.at, rest)));
                 }
                 let (inner, operators, rest) = factor(alloc, levels - 1, operators - 1, rest, end)?;
-                Ok((
-                    Expr::Negation(token.at, Box::new(alloc, inner)?),
-                    operators,
-                    rest,
-                ))
+                let boxed = Box::new(alloc, inner)?;
+                Ok((Expr::Negation(token.at, boxed), operators, rest))
             }
             _ => Err(FrontError::Fault(unexpected(tokens, end))),
         },
@@ -163,6 +158,7 @@ fn factor<'s, 't>(
     }
 }
 
+/// A term, likewise.
 #[cycle(exprs)]
 fn term<'s, 't>(
     alloc: Global,
@@ -193,6 +189,7 @@ fn term<'s, 't>(
     Ok((left, operators, rest))
 }
 
+/// A sum or a difference of terms, or one term alone, likewise.
 #[cycle(exprs)]
 fn sum<'s, 't>(
     alloc: Global,

@@ -77,8 +77,8 @@ factor-returns-in_err-rest-in-LeftParen t c =
     rw (p.1, p.2) (paren_refused c.in_err-rest-in-LeftParen.field-0.0 c.args.levels c.args.operators _ _ _ _
     o c.if-levels-eq0.false c.in_ok-inner-in-LeftParen.ensures c.in_err-rest-in-LeftParen.ensures)
 
-pub factor-returns-in_ok-new-in-LeftParen : goal.factor-returns-in_ok-new-in-LeftParen
-factor-returns-in_ok-new-in-LeftParen t c =
+pub factor-returns-in_ok-boxed-in-LeftParen : goal.factor-returns-in_ok-boxed-in-LeftParen
+factor-returns-in_ok-boxed-in-LeftParen t c =
     let o = open_is (marks c.args.tokens.now) _ c.in-Some.token.at c.in-Some.token.kind _ c.in-Some.ensures c.in-Sign.is c.in-LeftParen.is in
     paren_read c.args.levels c.args.operators _ _ _ _ _ _
-    o c.if-levels-eq0.false c.in_ok-inner-in-LeftParen.ensures c.in_ok-rest-in-LeftParen.ensures (ap expression (sym c.in_ok-new-in-LeftParen.ensures.ok))
+    o c.if-levels-eq0.false c.in_ok-inner-in-LeftParen.ensures c.in_ok-rest-in-LeftParen.ensures (ap expression (sym c.in_ok-boxed-in-LeftParen.ensures.ok))
