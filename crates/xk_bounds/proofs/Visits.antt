@@ -18,7 +18,7 @@ use Rattle.xk_shape.specs.Blocks.{IsOrderly}
 use Rattle.xk_bounds.specs.Measure.{loop_between, visits_next}
 use Rattle.xk_bounds.proofs.Cuts.{cut_left}
 use Rattle.xk_types.proofs.Shape.Spans.{next_is, not_amiss, of_loop}
-use Rattle.xk_shape.proofs.Around.{no_rise}
+use Rattle.xk_shape.proofs.Nested.{no_rise}
 
 -- ---- products
 

@@ -1,8 +1,11 @@
 pub mod Arguments
 pub mod Units
-pub mod Finishes
+pub mod Breaches
+pub mod SpanEnds
+pub mod Nested
 pub mod Around
 pub mod OneBlock
-pub mod TablePlaces
+pub mod RoundPlaces
+pub mod LoopSlots
 pub mod TableLists
 pub mod TableHomes

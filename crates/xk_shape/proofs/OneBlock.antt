@@ -8,10 +8,12 @@ use Rattle.std.proofs.lemmas.Bool.{eqb-true, eq-eqb, both_ways, false≢true, ca
 use Rattle.xk_types.specs.Order.{Has}
 use Rattle.xk_types.specs.Code.{UnitValue}
 use Rattle.xk_types.specs.Blocks.{Span, finishes, is_inside, block_at, same_block}
-use Rattle.xk_shape.specs.Blocks.{IsOrderly, innermost}
-use Rattle.xk_shape.proofs.Finishes.{one_last, is_apart}
-use Rattle.xk_shape.proofs.Around.{around, Ascends, finishes_ascend, around_same, ends_inside, decides_inside}
-use Rattle.xk_types.proofs.Shape.Spans.{same_is, is_same}
+use Rattle.xk_shape.specs.Nests.{AreNested}
+use Rattle.xk_shape.specs.Places.{innermost}
+use Rattle.xk_shape.proofs.SpanEnds.{is_span, same_end}
+use Rattle.xk_shape.proofs.Nested.{ends_inside, decides_inside, nested_apart}
+use Rattle.xk_shape.proofs.Around.{around, Ascends, finishes_ascend, around_same}
+use Rattle.xk_types.proofs.Shape.Spans.{same_is, is_same, finish_span}
 use Rattle.xk_types.proofs.Members.{same_test}
 
 -- ---- the last of a list
@@ -84,20 +86,20 @@ last_chosen p (f ∷ fs) o m asc h = go (p f) refl (λ x. last_chosen p fs x m a
 
 -- ---- two places
 
-module _ (u : UnitValue) (orderly : IsOrderly u) where
+module _ (u : UnitValue) (nested : AreNested u) where
   -- Where the innermost finish around one place is around another, so are all around the one.
   around_both : (a b : ℕ) (f : Span) → Has (finishes u) f → f.first < a → is_inside b f ≡ true → ((g : Span) → Has (finishes u) g → is_inside a g ≡ true → g.first ≤ f.first)
       → (g : Span) → Has (finishes u) g → is_inside a g ≡ true → is_inside b g ≡ true
   around_both a b f has in_a in_b last g has_g in_g =
-      let is_f = is_apart u orderly f has in
-      let is_g = is_apart u orderly g has_g in
+      let span_f = finish_span u f has in
+      let span_g = finish_span u g has_g in
       let of_b = (decides_inside b f).0 in_b in
       let of_g = (decides_inside a g).0 in_g in
       let le = last g has_g in_g in
       (decides_inside b g).1 (elim (cases_order g.first f.first) [
-        | inl same ↦ let e = one_last u f g is_f.is is_g.is same in (omega arith, omega arith)
+        | inl same ↦ let e = same_end u f g (is_span u f span_f) (is_span u g span_g) same in (omega arith, omega arith)
         | inr other ↦ elim other [
-          | inl lt ↦ let e = ends_inside g f (is_g.apart f has) lt (omega arith) in (omega arith, omega arith)
+          | inl lt ↦ let e = ends_inside g f (nested_apart u nested g f span_g span_f) lt (omega arith) in (omega arith, omega arith)
           | inr gt ↦ absurd (omega arith)
         ]
       ])
@@ -118,9 +120,9 @@ module _ (u : UnitValue) (orderly : IsOrderly u) where
           let none_a = none_chosen (is_inside a) (finishes u) at_a in
           let none_b = none_chosen (is_inside b) (finishes u) (same ∙ at_a) in
           around_same (is_inside a) (is_inside b) (finishes u) (λ f has. none_a f has ∙ sym (none_b f has))
-      go (Some m) at_a same = elim (last_chosen (is_inside a) (finishes u) None m (finishes_ascend u 0 u.code) at_a) [
+      go (Some m) at_a same = elim (last_chosen (is_inside a) (finishes u) None m (finishes_ascend u) at_a) [
         | inl none ↦ absurd (none-some m none.0)
-        | inr of_a ↦ elim (last_chosen (is_inside b) (finishes u) None m (finishes_ascend u 0 u.code) (same ∙ at_a)) [
+        | inr of_a ↦ elim (last_chosen (is_inside b) (finishes u) None m (finishes_ascend u) (same ∙ at_a)) [
           | inl none ↦ absurd (none-some m none.0)
           | inr of_b ↦ around_same (is_inside a) (is_inside b) (finishes u)
               (λ f has. same_test (is_inside a f) (is_inside b f) (all_around a b m of_a of_b f has) (all_around b a m of_b of_a f has))
@@ -133,9 +135,9 @@ pub decides_block : (xs ys : List ℕ) → Decides (same_block xs ys) (xs ≡ ys
 decides_block xs ys = (same_is xs ys, λ e. subst (λ zs. same_block xs zs ≡ true) e (is_same xs))
 
 -- two places stand directly in one block where the innermost finishes around them are one
-pub decides_place : (u : UnitValue) → IsOrderly u → (a b : ℕ) → Decides (same_block (block_at u a) (block_at u b)) (innermost (block_at u a) ≡ innermost (block_at u b))
-decides_place u orderly a b =
-    (λ on. ap innermost (same_is (block_at u a) (block_at u b) on), λ e. (decides_block (block_at u a) (block_at u b)).1 (same_innermost u orderly a b e))
+pub decides_place : (u : UnitValue) → AreNested u → (a b : ℕ) → Decides (same_block (block_at u a) (block_at u b)) (innermost (block_at u a) ≡ innermost (block_at u b))
+decides_place u nested a b =
+    (λ on. ap innermost (same_is (block_at u a) (block_at u b) on), λ e. (decides_block (block_at u a) (block_at u b)).1 (same_innermost u nested a b e))
 
 pub decides_option : (a b : Option ℕ) → Decides (option_eq eqb a b) (a ≡ b)
 decides_option None None = (λ on. refl, λ e. refl)

@@ -11,7 +11,8 @@ use Rattle.xk_types.specs.declared.instr.Instr.TheVariants as instr
 use Rattle.xk_types.specs.Code.{UnitValue}
 use Rattle.xk_types.specs.Blocks.{block_at, same_block, takes_clock, makes, made_from, homes}
 use Rattle.xk_types.specs.Shape.{slots_named, instr_is, mishandles, moves_home, breaks_home}
-use Rattle.xk_shape.specs.Blocks.{IsOrderly, HasBlocks, home_place}
+use Rattle.xk_shape.specs.Blocks.{IsOrderly, HasBlocks}
+use Rattle.xk_shape.specs.Tables.{home_place}
 use Rattle.xk_shape.proofs.Around.{block_first}
 use Rattle.xk_types.proofs.Members.{same_test}
 use Rattle.xk_shape.proofs.OneBlock.{decides_block}

@@ -1,18 +1,23 @@
--- Lists that hold a value for each number from 0 on: one more at the end.
+-- Lists that are right as far as they go: one more at the end.
 use Rattle.std.proofs.Common.{◌≡◌, ℕ, zero, suc, ◌+◌, ◌<◌, List, [], ◌∷◌, ◌++◌, length, Some, slice_get, refl, sym, ap, ◌∙◌, subst, arith}
+use Rattle.std.proofs.lemmas.Option.{same_Some, none-some}
 
-abbrev pub AreKnown : {X : Type 0} → (ℕ → X) → List X → Type 0
-AreKnown value xs = (k : ℕ) → k < length xs → slice_get xs k ≡ Some (value k)
+-- each element is right for its place
+abbrev pub AreRight : {X : Type 0} → (ℕ → X → Type 0) → List X → Type 0
+AreRight {X} P xs = (k : ℕ) (x : X) → slice_get xs k ≡ Some x → P k x
 
-push_known : {X : Type 0} (value : ℕ → X) (xs : List X) (x : X) → AreKnown value xs → x ≡ value (length xs) → AreKnown value (xs ++ x ∷ [])
-push_known value [] x all here zero lt = ap Some here
-push_known value [] x all here (suc k) lt = absurd (omega arith)
-push_known value (y ∷ xs) x all here zero lt = all zero (omega arith)
-push_known value (y ∷ xs) x all here (suc k) lt = push_known (λ n. value (suc n)) xs x (λ n l. all (suc n) (omega arith)) here k (omega arith)
+pub none_right : {X : Type 0} (P : ℕ → X → Type 0) {xs : List X} → xs ≡ [] → AreRight P xs
+none_right P none k x h = absurd (none-some x (ap (λ ys. slice_get ys k) (sym none) ∙ h))
+
+push_right : {X : Type 0} (P : ℕ → X → Type 0) (xs : List X) (x : X) → AreRight P xs → P (length xs) x → AreRight P (xs ++ x ∷ [])
+push_right P [] x all here zero y h = subst (P 0) (same_Some x y h) here
+push_right P [] x all here (suc k) y h = absurd (none-some y h)
+push_right P (z ∷ xs) x all here zero y h = all zero y h
+push_right P (z ∷ xs) x all here (suc k) y h = push_right (λ n. P (suc n)) xs x (λ n w g. all (suc n) w g) here k y h
 
 -- one more at the end
-pub known_more : {X : Type 0} (value : ℕ → X) (n : ℕ) (xs ys : List X) (x : X) → ys ≡ xs ++ x ∷ [] → AreKnown value xs → length xs ≡ n → x ≡ value n → AreKnown value ys
-known_more value n xs ys x is all long here = subst (AreKnown value) (sym is) (push_known value xs x all (here ∙ ap value (sym long)))
+pub right_more : {X : Type 0} (P : ℕ → X → Type 0) (n : ℕ) (xs ys : List X) (x : X) → ys ≡ xs ++ x ∷ [] → AreRight P xs → length xs ≡ n → P n x → AreRight P ys
+right_more P n xs ys x is all long here = subst (AreRight P) (sym is) (push_right P xs x all (subst (λ k. P k x) (sym long) here))
 
 push_length : {X : Type 0} (xs : List X) (x : X) → length (xs ++ x ∷ []) ≡ suc (length xs)
 push_length [] x = refl

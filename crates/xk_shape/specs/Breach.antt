@@ -1,13 +1,11 @@
 -- Where one rule on the shape of code is broken.
 use Rattle.std.specs.Prelude.{◌≡◌, ℕ, ◌<◌, Bool, true, false, [], ◌∷◌, Option, Some, None}
 use Rattle.xk_types.specs.declared.rules.Rule.{Rule}
-use Rattle.xk_types.specs.declared.rules.Rule.TheVariants as rule
-use Rattle.xk_types.specs.Code.{ModuleValue}
+use Rattle.xk_types.specs.Code.{UnitValue, ModuleValue}
+use Rattle.xk_types.specs.Names.{rule_number}
 use Rattle.xk_types.specs.Order.{NotAfter}
-use Rattle.xk_types.specs.Shape.{breaks}
+use Rattle.xk_types.specs.Shape.{breaks, breaks_in}
 use Rattle.xk_shape.specs.declared.fault.ShapeFault.{ShapeFault}
-use Rattle.xk_shape.specs.declared.fault.ShapeError.{ShapeError}
-use Rattle.xk_shape.specs.declared.fault.ShapeError.TheVariants.{Fault, OutOfMemory}
 
 -- no place breaks the rule
 abbrev pub IsNowhereBroken : ModuleValue → Rule → Type 0
@@ -19,18 +17,19 @@ pub record IsLeastBreach (m : ModuleValue) (r : Rule) (f : ShapeFault) : Type 0 
   pub broken : breaks m r f.unit f.at ≡ true
   pub least : (unit at : ℕ) → breaks m r unit at ≡ true → NotAfter (f.unit ∷ f.at ∷ []) (unit ∷ at ∷ [])
 
--- what an error says of one rule
-abbrev pub FailsRule : ModuleValue → Rule → ShapeError → Type 0
-FailsRule m r (Fault f) = IsLeastBreach m r f
-FailsRule m r OutOfMemory = Unit {0}
+-- no place breaks a rule of smaller number
+abbrev pub KeepsEarlier : ModuleValue → Rule → Type 0
+KeepsEarlier m r = (q : Rule) → rule_number q < rule_number r → IsNowhereBroken m q
+
+-- no place of the unit does
+abbrev pub KeepsEarlierIn : ModuleValue → ℕ → UnitValue → Rule → Type 0
+KeepsEarlierIn m unit u r = (q : Rule) (at : ℕ) → rule_number q < rule_number r → breaks_in m q unit u at ≡ false
+
+-- the test finds no place before this one
+abbrev pub IsUnbrokenBefore : (ℕ → Bool) → ℕ → Type 0
+IsUnbrokenBefore test n = (at : ℕ) → at < n → test at ≡ false
 
 -- the first place that the test finds, if it finds one
 abbrev pub IsFirst : (ℕ → Bool) → Option ℕ → Type 0
 IsFirst test None = (at : ℕ) → test at ≡ false
-IsFirst test (Some first) = (test first ≡ true) × ((at : ℕ) → at < first → test at ≡ false)
-
--- it is tried place by place: so are all but the two on homes, which are tried where loops and finishes are known to nest
-abbrev pub IsTriedByPlace : Rule → Type 0
-IsTriedByPlace rule.Home = ⊥
-IsTriedByPlace rule.Registers = ⊥
-IsTriedByPlace _ = Unit {0}
+IsFirst test (Some first) = (test first ≡ true) × IsUnbrokenBefore test first

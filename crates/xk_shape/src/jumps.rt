@@ -1,11 +1,17 @@
 //! The rules on targets, loops and finishes.
 
-ghost use Rattle.std.specs.Prelude.{◌≡◌, ◌&&◌, true, MatchOption};
+ghost use Rattle.std.specs.Prelude.{◌≡◌, ℕ, ◌<◌, ◌&&◌, true, false, length, slice_get, Some, MatchOption};
 ghost use Rattle.std.specs.List.{list_any};
-ghost use Rattle.xk_types.specs.Code.{loops as loops_of, is_within};
-ghost use Rattle.xk_types.specs.Shape.{spans as spans_of, lies_ahead, aims_well, breaks_target, overlaps, is_crossing, breaks_block, slot_written, is_backward, writes_slot, breaks_loop};
+ghost use Rattle.xk_types.specs.Code.{loops, is_within};
+ghost use Rattle.xk_types.specs.Shape.{spans, lies_ahead, aims_well, breaks_target, overlaps, is_crossing, breaks_block, slot_written, is_backward, writes_slot, breaks_loop};
+ghost use Rattle.xk_shape.specs.Blocks.{IsOrderly};
+ghost use Rattle.xk_shape.specs.Layout.{IsLayout};
+ghost use Rattle.xk_shape.specs.Nests.{AreNested};
+ghost use Rattle.xk_shape.specs.Tables.{AreTables};
 
-use crate::nesting::{Loop, Span, crosses_any, overlaps_any, span_begun, span_ended};
+use crate::layout::Layout;
+use crate::nesting::{Span, crosses_any, overlaps_any, span_begun, span_ended};
+use crate::tables::Tables;
 use xk_types::{Instr, Unit};
 
 /// Whether a place that the instruction names lies where it may not.
@@ -42,19 +48,38 @@ fn lies_ahead(u: &Unit, at: u16, target: u16) -> bool
 }
 
 /// Whether the instruction has no partner, is one of a loop or finish that overlaps another, or jumps over the edge of one.
-pub(crate) fn crosses_edge(u: &Unit, among: &[Span], at: u16) -> bool
-    requires { among.now ≡ spans_of u.now }
+pub(crate) fn crosses_edge(u: &Unit, layout: &Layout, at: u16) -> bool
+    requires layout { IsLayout u.now layout.now }
+    requires targets { (k : ℕ) → breaks_target u.now k ≡ false }
     ensures { result ≡ breaks_block u.now at }
 {
     match u.code.get(at as usize) {
-        Some(instr) => is_crossing(u, among, at, instr),
+        Some(instr) => match layout {
+            Layout::Nested(tables) => jumps_across(u, tables, at, instr),
+            Layout::Amiss(among) => is_crossing(u, among, at, instr),
+        },
         None => false,
     }
 }
 
-/// The same of an instruction that may stand at this place.
+/// The same of an instruction of a unit whose loops and finishes nest: only a jump can be amiss.
+fn jumps_across(u: &Unit, tables: &Tables, at: u16, instr: &Instr) -> bool
+    requires nested { AreNested u.now }
+    requires tables { AreTables u.now tables.now }
+    requires here { slice_get u.now.code at ≡ Some instr.now }
+    requires aimed { aims_well u.now at instr.now ≡ true }
+    ensures { result ≡ is_crossing u.now at instr.now }
+{
+    match instr {
+        Instr::Unless(_, _, _, target) => tables.is_parted(at, *target),
+        Instr::Jump(target) => tables.is_parted(at, *target),
+        _ => false,
+    }
+}
+
+/// The same of an instruction of a unit that has these loops and finishes.
 fn is_crossing(u: &Unit, among: &[Span], at: u16, instr: &Instr) -> bool
-    requires { among.now ≡ spans_of u.now }
+    requires { among.now ≡ spans u.now }
     ensures { result ≡ is_crossing u.now at instr.now }
 {
     match instr {
@@ -79,12 +104,13 @@ fn is_amiss(among: &[Span], found: Option<Span>) -> bool
 }
 
 /// Whether the instruction begins a loop whose bounds are out of order, or writes the slot of a loop that it lies in.
-pub(crate) fn misuses_loop(u: &Unit, among: &[Loop], at: u16) -> bool
-    requires { among.now ≡ loops_of u.now }
+pub(crate) fn misuses_loop(u: &Unit, tables: &Tables, at: u16) -> bool
+    requires orderly { IsOrderly u.now }
+    requires tables { AreTables u.now tables.now }
     ensures { result ≡ breaks_loop u.now at }
 {
     match u.code.get(at as usize) {
-        Some(instr) => is_backward(instr) || writes_loop_slot(among, at, instr),
+        Some(instr) => is_backward(instr) || writes_counter(u, tables, at, instr),
         None => false,
     }
 }
@@ -99,12 +125,15 @@ fn is_backward(instr: &Instr) -> bool
     }
 }
 
-/// Whether the instruction writes the slot of a loop that the place lies in.
-fn writes_loop_slot(among: &[Loop], at: u16, instr: &Instr) -> bool
-    ensures { result ≡ list_any (λ l. is_within at l && writes_slot l.slot instr.now) among.now }
+/// Whether the instruction writes the slot of a loop that it lies in.
+fn writes_counter(u: &Unit, tables: &Tables, at: u16, instr: &Instr) -> bool
+    requires orderly { IsOrderly u.now }
+    requires tables { AreTables u.now tables.now }
+    requires here { slice_get u.now.code at ≡ Some instr.now }
+    ensures { result ≡ list_any (λ l. is_within at l && writes_slot l.slot instr.now) (loops u.now) }
 {
     match slot_written(instr) {
-        Some(slot) => among.iter().any(|l| l.is_within(at) && slot == l.slot),
+        Some(slot) => tables.is_counter(slot, at),
         None => false,
     }
 }

@@ -6,9 +6,12 @@ mod blocks;
 mod fault;
 mod homes;
 mod jumps;
+mod layout;
 mod nesting;
+mod places;
 mod rules;
 mod shaped;
+mod tables;
 
 pub use blocks::Blocks;
 pub use fault::{ShapeError, ShapeFault};

@@ -1,42 +1,17 @@
-//! The loops and finishes of a unit, and how they lie to places and to one another.
+//! The loops and finishes of a unit, and how they lie to one another.
 
-ghost use Rattle.std.specs.Prelude.{◌≡◌, IfOk, map, slice_get};
+ghost use Rattle.std.specs.Prelude.{◌≡◌, option_map, IfOk, map, slice_get};
 ghost use Rattle.std.specs.List.{list_any};
-ghost use Rattle.xk_types.specs.Code.{loop_begun, loops as loops_of, is_within};
-ghost use Rattle.xk_types.specs.Blocks.{finish_opened, finishes as finishes_of, is_inside};
-ghost use Rattle.xk_types.specs.Shape.{span_of, span_begun, span_ended, spans as spans_of, overlaps, crosses};
-ghost use Rattle.xk_shape.specs.Nests.{AreNests};
+ghost use Rattle.xk_types.specs.Code.{loop_begun, loops};
+ghost use Rattle.xk_types.specs.Blocks.{finish_opened, finishes, is_inside};
+ghost use Rattle.xk_types.specs.Shape.{span_of, span_begun, span_ended, spans, overlaps, crosses};
+ghost use Rattle.xk_shape.specs.Nests.{begins_behind, ends_behind};
 
 use std::alloc::{AllocError, Global};
 use std::marker::Model;
 use xk_types::{Instr, Unit};
 
-/// A loop: a `for` and a `next` that name each other.
-#[derive(Clone, Copy, Debug, PartialEq, Eq)]
-pub(crate) struct Loop {
-    /// The place of its `for`.
-    pub(crate) first: u16,
-    /// The place of its `next`.
-    pub(crate) last: u16,
-    /// The slot that counts its turns.
-    pub(crate) slot: u16,
-    /// The lower bound: what the slot holds in the first turn.
-    pub(crate) lo: i64,
-    /// The upper bound: what it holds in the last.
-    pub(crate) hi: i64,
-}
-
-impl Model for Loop {
-    ghost use Rattle.xk_types.specs.Code as code;
-
-    ghost Value = { code.Loop };
-
-    ghost view = { λ l. record { first = l.first; last = l.last; slot = l.slot; lo = l.lo; hi = l.hi } };
-
-    ghost inverse = { λ l. record { first = l.first; last = l.last; slot = l.slot; lo = l.lo; hi = l.hi } };
-}
-
-/// A stretch of code: the places of its first and of its last instruction, which name each other.
+/// A loop or a finish: the places of its first and of its last instruction, which name each other.
 #[derive(Clone, Copy, Debug, PartialEq, Eq)]
 pub(crate) struct Span {
     first: u16,
@@ -53,57 +28,18 @@ impl Model for Span {
     ghost inverse = { λ s. record { first = s.first; last = s.last } };
 }
 
-/// The loops of a unit, and all stretches that nest: its loops and its finishes.
-#[derive(Drop)]
-pub(crate) struct Nests {
-    pub(crate) loops: Vec<Loop>,
-    pub(crate) spans: Vec<Span>,
-}
-
-impl Nests {
-    /// Those of this unit. The error is that room for them was refused.
-    pub(crate) fn of(alloc: Global, u: &Unit) -> Result<Nests, AllocError>
-        ensures { IfOk result (AreNests u.now) }
-    {
-        let loops = loops(alloc, u)?;
-        let spans = spans(alloc, u, &loops)?;
-        Ok(Nests { loops, spans })
-    }
-}
-
-/// The loops and finishes of a unit, which has these loops.
-fn spans(alloc: Global, u: &Unit, loops: &[Loop]) -> Result<Vec<Span>, AllocError>
-    requires { loops.now ≡ loops_of u.now }
-    ensures { IfOk result (λ found. found.items ≡ spans_of u.now) }
+/// The loops and finishes of a unit. The error is that room for them was refused.
+pub(crate) fn spans(alloc: Global, u: &Unit) -> Result<Vec<Span>, AllocError>
+    ensures { IfOk result (λ found. found.items ≡ spans u.now) }
 {
-    let mut found = loop_spans(alloc, loops)?;
+    let mut found = loops(alloc, u)?;
     found.extend_from_slice(&finishes(alloc, u)?)?;
     Ok(found)
 }
 
-/// The loops, each from its `for` to its `next`.
-fn loop_spans(alloc: Global, loops: &[Loop]) -> Result<Vec<Span>, AllocError>
-    ensures { IfOk result (λ found. found.items ≡ map span_of loops.now) }
-{
-    loops.iter().map(|l| l.span()).collect(alloc)
-}
-
-/// The finishes of a unit, by the places of their `finish`.
-fn finishes(alloc: Global, u: &Unit) -> Result<Vec<Span>, AllocError>
-    ensures { IfOk result (λ found. found.items ≡ finishes_of u.now) }
-{
-    let mut found = Vec::new(alloc);
-    for (at, instr) in u.code.iter().enumerate() {
-        if let Some(f) = finish_opened(u, at, instr) {
-            found.push(f)?;
-        }
-    }
-    Ok(found)
-}
-
-/// The loops of a unit, by the places of their `for`. The error is that room for them was refused.
-pub(crate) fn loops(alloc: Global, u: &Unit) -> Result<Vec<Loop>, AllocError>
-    ensures { IfOk result (λ found. found.items ≡ loops_of u.now) }
+/// The loops of a unit, by the places of their `for`.
+fn loops(alloc: Global, u: &Unit) -> Result<Vec<Span>, AllocError>
+    ensures { IfOk result (λ found. found.items ≡ map span_of (loops u.now)) }
 {
     let mut found = Vec::new(alloc);
     for (at, instr) in u.code.iter().enumerate() {
@@ -114,18 +50,28 @@ pub(crate) fn loops(alloc: Global, u: &Unit) -> Result<Vec<Loop>, AllocError>
     Ok(found)
 }
 
+/// The finishes of a unit, by the places of their `finish`.
+fn finishes(alloc: Global, u: &Unit) -> Result<Vec<Span>, AllocError>
+    ensures { IfOk result (λ found. found.items ≡ finishes u.now) }
+{
+    let mut found = Vec::new(alloc);
+    for (at, instr) in u.code.iter().enumerate() {
+        if let Some(f) = finish_opened(u, at, instr) {
+            found.push(f)?;
+        }
+    }
+    Ok(found)
+}
+
 /// The loop that the instruction at this place begins.
-pub(crate) fn loop_begun(u: &Unit, at: usize, instr: &Instr) -> Option<Loop>
-    ensures { result ≡ loop_begun u.now at instr.now }
+fn loop_begun(u: &Unit, at: usize, instr: &Instr) -> Option<Span>
+    ensures { result ≡ option_map span_of (loop_begun u.now at instr.now) }
 {
     match instr {
-        Instr::For(slot, lo, hi, last) => match u.code.get(*last as usize) {
-            Some(Instr::Next(first)) if *first as usize == at => Some(Loop {
+        Instr::For(_, _, _, last) => match u.code.get(*last as usize) {
+            Some(Instr::Next(first)) if *first as usize == at => Some(Span {
                 first: *first,
                 last: *last,
-                slot: *slot,
-                lo: *lo,
-                hi: *hi,
             }),
             _ => None,
         },
@@ -154,7 +100,7 @@ pub(crate) fn span_begun(u: &Unit, at: usize, instr: &Instr) -> Option<Span>
     ensures { result ≡ span_begun u.now at instr.now }
 {
     match instr {
-        Instr::For(_, _, _, _) => Some(loop_begun(u, at, instr)?.span()),
+        Instr::For(_, _, _, _) => loop_begun(u, at, instr),
         Instr::Finish(_) => finish_opened(u, at, instr),
         _ => None,
     }
@@ -168,22 +114,23 @@ pub(crate) fn span_ended(u: &Unit, at: u16, first: u16) -> Option<Span>
     if s.last == at { Some(s) } else { None }
 }
 
-impl Loop {
-    /// The loop from its `for` to its `next`.
-    fn span(&self) -> Span
-        ensures { result ≡ span_of self.now }
-    {
-        Span {
-            first: self.first,
-            last: self.last,
-        }
+/// Whether the instruction at this place begins a loop or a finish that ends behind it.
+pub(crate) fn begins_span(u: &Unit, at: u16, instr: &Instr) -> bool
+    ensures { result ≡ begins_behind u.now at instr.now }
+{
+    match span_begun(u, at as usize, instr) {
+        Some(s) => at < s.last,
+        None => false,
     }
+}
 
-    /// Whether the place lies strictly between the `for` and the `next`.
-    pub(crate) fn is_within(&self, at: u16) -> bool
-        ensures { result ≡ is_within at self.now }
-    {
-        self.first < at && at < self.last
+/// Whether a loop or a finish begins at place `first` that ends at place `at`, behind it.
+pub(crate) fn ends_span(u: &Unit, at: u16, first: u16) -> bool
+    ensures { result ≡ ends_behind u.now at first }
+{
+    match span_ended(u, at, first) {
+        Some(_) => first < at,
+        None => false,
     }
 }
 

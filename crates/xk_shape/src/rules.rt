@@ -5,82 +5,94 @@ ghost use Rattle.std.specs.List.{list_all, list_any};
 ghost use Rattle.xk_types.specs.Code.{IsUnitWithinLimits, params_of, is_method, is_body, clock_arguments};
 ghost use Rattle.xk_types.specs.Shape.{breaks_in, breaks_slot, breaks_cell, is_in_place, runs_amiss, instr_is, is_fitting, breaks_end, has_twice, gives_twice, breaks_same_clock, slots_named, is_ret, HasShape};
 ghost use Rattle.xk_shape.specs.Fault.{Refuses};
-ghost use Rattle.xk_shape.specs.Nests.{AreNests};
-ghost use Rattle.xk_shape.specs.Breach.{IsTriedByPlace, IsNowhereBroken, FailsRule, IsFirst};
+ghost use Rattle.xk_shape.specs.Layout.{IsLayout, AreLayouts};
+ghost use Rattle.xk_shape.specs.Breach.{IsNowhereBroken, IsLeastBreach, KeepsEarlier, KeepsEarlierIn, IsUnbrokenBefore, IsFirst};
 
 use crate::fault::{ShapeError, ShapeFault};
-use crate::homes::{check_homes, check_registers};
+use crate::homes::{gives_away, strays};
 use crate::jumps::{aims_amiss, crosses_edge, misuses_loop};
-use crate::nesting::Nests;
+use crate::layout::{Layout, layouts};
 use std::alloc::Global;
 use xk_types::{Args, Instr, Module, ParamKind, Rule, Unit, UnitKind};
+
+/// The rules on shape, in the order of their numbers.
+const RULES: [Rule; 10] = [
+    Rule::Target,
+    Rule::Block,
+    Rule::Slot,
+    Rule::Unit,
+    Rule::Cell,
+    Rule::Loop,
+    Rule::End,
+    Rule::Home,
+    Rule::Registers,
+    Rule::SameClock,
+];
 
 /// Tries the rules on shape in the order of their numbers, each over the whole module by rising unit and instruction.
 pub(crate) fn check_shape(alloc: Global, m: &Module) -> Result<(), ShapeError>
     ensures { MatchResult result (λ _. HasShape m.now) (Refuses m.now) }
 {
-    check_rule(alloc, m, Rule::Target)?;
-    check_rule(alloc, m, Rule::Block)?;
-    check_rule(alloc, m, Rule::Slot)?;
-    check_rule(alloc, m, Rule::Unit)?;
-    check_rule(alloc, m, Rule::Cell)?;
-    check_rule(alloc, m, Rule::Loop)?;
-    check_rule(alloc, m, Rule::End)?;
-    check_homes(alloc, m)?;
-    check_registers(alloc, m)?;
-    check_rule(alloc, m, Rule::SameClock)
-}
-
-/// Looks for the least place that breaks the rule.
-fn check_rule(alloc: Global, m: &Module, rule: Rule) -> Result<(), ShapeError>
-    requires { IsTriedByPlace rule }
-    ensures { MatchResult result (λ _. IsNowhereBroken m.now rule) (FailsRule m.now rule) }
-{
-    let mut unit = 0;
-    for u in m.units() {
-        let nests = Nests::of(alloc, u)?;
-        if let Some(at) = first_place(m, rule, unit, u, &nests) {
-            return Err(ShapeError::Fault(ShapeFault { rule, unit, at }));
+    let layouts = layouts(alloc, m)?;
+    for rule in RULES {
+        if let Some(fault) = least_breach(m, &layouts, rule) {
+            return Err(ShapeError::Fault(fault));
         }
-        unit += 1;
     }
     Ok(())
 }
 
-/// The least instruction of a unit, whose loops and finishes these are, that breaks the rule.
-fn first_place(m: &Module, rule: Rule, unit: u16, u: &Unit, nests: &Nests) -> Option<u16>
-    requires rule { IsTriedByPlace rule }
+/// The least place of a module, whose units are laid out so, that breaks the rule.
+fn least_breach(m: &Module, layouts: &[Layout], rule: Rule) -> Option<ShapeFault>
+    requires layouts { AreLayouts m.now layouts.now }
+    requires earlier { KeepsEarlier m.now rule }
+    ensures { MatchOption result (IsNowhereBroken m.now rule) (IsLeastBreach m.now rule) }
+{
+    let mut unit = 0;
+    for u in m.units() {
+        if let Some(at) = first_place(m, rule, unit, u, &layouts[unit as usize]) {
+            return Some(ShapeFault { rule, unit, at });
+        }
+        unit += 1;
+    }
+    None
+}
+
+/// The least instruction of a unit that breaks the rule. A fault of the whole unit is one of instruction 0.
+fn first_place(m: &Module, rule: Rule, unit: u16, u: &Unit, layout: &Layout) -> Option<u16>
     requires limits { IsUnitWithinLimits u.now }
-    requires nests { AreNests u.now nests.now }
+    requires layout { IsLayout u.now layout.now }
+    requires earlier { KeepsEarlierIn m.now unit u.now rule }
     ensures { IsFirst (breaks_in m.now rule unit u.now) result }
 {
     let places = u.code.len().max(1) as u16;
     for at in 0..places {
-        if breaks_rule(m, rule, unit, u, nests, at) {
+        if breaks_rule(m, rule, unit, u, layout, at) {
             return Some(at);
         }
     }
     None
 }
 
-/// Whether an instruction of a unit, whose loops and finishes these are, breaks the rule. A fault of the whole unit is one of
-/// instruction 0.
-fn breaks_rule(m: &Module, rule: Rule, unit: u16, u: &Unit, nests: &Nests, at: u16) -> bool
-    requires rule { IsTriedByPlace rule }
+/// Whether an instruction of a unit breaks the rule, where none before it does, and none breaks an earlier rule.
+fn breaks_rule(m: &Module, rule: Rule, unit: u16, u: &Unit, layout: &Layout, at: u16) -> bool
     requires limits { IsUnitWithinLimits u.now }
-    requires nests { AreNests u.now nests.now }
+    requires layout { IsLayout u.now layout.now }
+    requires earlier { KeepsEarlierIn m.now unit u.now rule }
+    requires before { IsUnbrokenBefore (breaks_in m.now rule unit u.now) at }
     ensures { result ≡ breaks_in m.now rule unit u.now at }
 {
     match rule {
         Rule::Target => aims_amiss(u, at),
-        Rule::Block => crosses_edge(u, &nests.spans, at),
+        Rule::Block => crosses_edge(u, layout, at),
         Rule::Slot => names_missing_slot(u, at),
         Rule::Unit => (at == 0 && !is_in_place(unit, u)) || runs_wrongly(m, unit, u, at),
         Rule::Cell => names_missing_cell(m, u, at),
-        Rule::Loop => misuses_loop(u, &nests.loops, at),
+        Rule::Loop => misuses_loop(u, layout.tables(), at),
         Rule::End => ends_wrongly(u, at),
+        Rule::Home => strays(u, layout.tables(), at),
+        Rule::Registers => gives_away(m, u, layout.tables(), at),
         Rule::SameClock => gives_clock_twice(m, u, at),
-        Rule::Home | Rule::Registers => unreachable!(),
         Rule::Use
         | Rule::Held
         | Rule::Leak

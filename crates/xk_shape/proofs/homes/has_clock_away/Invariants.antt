@@ -7,5 +7,5 @@ use Rattle.xk_shape.proofs.homes.has_clock_away.Given as goal
 
 abbrev pub invariant-loop-i : goal.invariant-loop-i
 invariant-loop-i l =
-    list_any (λ x. is_elsewhere (block_at l.blocks l.at) (homes l.blocks x)) (clock_arguments l.params l.args)
-    ≡ list_any (λ x. is_elsewhere (block_at l.blocks l.at) (homes l.blocks x)) (clock_arguments (drop l.i l.params) (drop l.i l.args))
+    list_any (λ x. is_elsewhere (block_at l.u l.at) (homes l.u x)) (clock_arguments l.params l.args)
+    ≡ list_any (λ x. is_elsewhere (block_at l.u l.at) (homes l.u x)) (clock_arguments (drop l.i l.params) (drop l.i l.args))
