@@ -47,8 +47,29 @@ def great_unit(kind, next_unit):
     return unit(kind, 64, code)
 
 
-def great_module(count):
-    return module([great_unit("main" if i == 0 else "body", i + 1 if i + 1 < count else None) for i in range(count)])
+def jumping_unit(kind, next_unit):
+    """4,096 instructions, nearly all of them jumps inside of loops: each loop has one jump, to its end."""
+    code = []
+    while len(code) < 4092:
+        at = len(code)
+        code += [["for", 0, 1, 1, at + 2], ["jump", at + 2], ["next", at]]
+    code += [["jump", 4094]] * (4094 - len(code))
+    code.append(["spawn", next_unit, []] if next_unit else ["lit", 0, 1])
+    code.append(["ret"])
+    return unit(kind, 1, code)
+
+
+def adding_unit(kind, next_unit):
+    """4,096 instructions, nearly all of them additions."""
+    code = [["lit", 0, 1]] + [["add", 0, 0, 0]] * 4093
+    code.append(["spawn", next_unit, []] if next_unit else ["lit", 0, 1])
+    code.append(["ret"])
+    return unit(kind, 1, code)
+
+
+def chain(make_unit, count):
+    """Units of which each starts the next."""
+    return module([make_unit("main" if i == 0 else "body", i + 1 if i + 1 < count else None) for i in range(count)])
 
 
 def counting(turns):
@@ -118,4 +139,6 @@ for order in ORDERS if knows_orders() else ():
     timed(f"run of 100,000 activities, order {order}", "run", starting(99_999), ("--order", order))
     timed(f"run of 2,001 activities, a finish round them, order {order}", "run", starting_in_finish(2_000), ("--order", order))
 for count in (50, 100, 200):
-    timed(f"check of {count} units of 4,096 instructions over 64 slots", "check", great_module(count))
+    timed(f"check of {count} units of 4,096 instructions over 64 slots", "check", chain(great_unit, count))
+timed("check of 200 units of 4,096 instructions, jumps inside of loops", "check", chain(jumping_unit, 200))
+timed("check of 200 units of 4,096 instructions, additions", "check", chain(adding_unit, 200))

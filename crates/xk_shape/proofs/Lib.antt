@@ -1,4 +1,3 @@
-pub mod Arguments
 pub mod Units
 pub mod Breaches
 pub mod SpanEnds

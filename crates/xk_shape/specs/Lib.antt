@@ -6,3 +6,4 @@ pub mod Places
 pub mod Blocks
 pub mod Tables
 pub mod Layout
+pub mod Arguments

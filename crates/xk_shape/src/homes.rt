@@ -2,16 +2,16 @@
 
 ghost use Rattle.std.specs.Prelude.{◌≡◌, ℕ, ◌<◌, ◌≤◌, ◌||◌, false, length, slice_get, Some};
 ghost use Rattle.std.specs.List.{list_any};
-ghost use Rattle.xk_types.specs.Code.{clock_arguments};
-ghost use Rattle.xk_types.specs.Blocks.{block_at, homes, is_elsewhere};
 ghost use Rattle.xk_types.specs.Shape.{mishandles, moves_home, breaks_home, gives_away, breaks_registers};
 ghost use Rattle.xk_types.specs.declared.instr.Instr.TheVariants.{Make};
+ghost use Rattle.xk_shape.specs.Arguments.{clocks};
 ghost use Rattle.xk_shape.specs.Blocks.{IsOrderly, HasBlocks};
-ghost use Rattle.xk_shape.specs.Tables.{AreTables};
+ghost use Rattle.xk_shape.specs.Tables.{AreTables, is_at_home_elsewhere};
 
+use crate::arguments::Arguments;
 use crate::rules::params_of;
 use crate::tables::{Tables, takes_clock};
-use xk_types::{Instr, Module, ParamKind, Unit, UnitKind};
+use xk_types::{Instr, Module, Unit, UnitKind};
 
 /// Whether the instruction at this place breaks the rule on homes, where none before it does.
 pub(crate) fn strays(u: &Unit, tables: &Tables, at: u16) -> bool
@@ -61,26 +61,26 @@ pub(crate) fn gives_away(m: &Module, u: &Unit, tables: &Tables, at: u16) -> bool
 {
     match u.code.get(at as usize) {
         Some(Instr::Call(run, args) | Instr::Spawn(run, args)) => {
-            has_clock_away(u, tables, params_of(m, *run), args.slots(), at)
+            has_clock_away(
+                u,
+                tables,
+                Arguments::new(params_of(m, *run), args.slots()),
+                at,
+            )
         }
         _ => false,
     }
 }
 
 /// Whether a slot among the arguments for clocks is at home in another block than the place.
-fn has_clock_away(u: &Unit, tables: &Tables, params: &[ParamKind], args: &[u16], at: u16) -> bool
+fn has_clock_away(u: &Unit, tables: &Tables, mut arguments: Arguments, at: u16) -> bool
     requires blocks { HasBlocks u.now }
     requires tables { AreTables u.now tables.now }
-    ensures { result ≡ list_any (λ x. is_elsewhere (block_at u.now at) (homes u.now x)) (clock_arguments params.now args.now) }
+    ensures { result ≡ list_any (is_at_home_elsewhere u.now at) (clocks arguments.entry) }
 {
-    for i in 0..params.len().min(args.len()) {
-        match params[i] {
-            ParamKind::Number => {}
-            ParamKind::Clock => {
-                if tables.is_elsewhere(args[i], at as usize) {
-                    return true;
-                }
-            }
+    while let Some(slot) = arguments.take_clock() {
+        if tables.is_elsewhere(slot, at as usize) {
+            return true;
         }
     }
     false

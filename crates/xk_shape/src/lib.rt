@@ -2,6 +2,7 @@
 //! at home, which slots, shared numbers, units and parameters there are.
 #![tactic(auto)]
 
+mod arguments;
 mod blocks;
 mod fault;
 mod homes;
@@ -13,6 +14,7 @@ mod rules;
 mod shaped;
 mod tables;
 
+pub use arguments::Arguments;
 pub use blocks::Blocks;
 pub use fault::{ShapeError, ShapeFault};
 pub use rules::params_of;

@@ -1,13 +1,15 @@
 //! The rules on the shape of code, tried one after another.
 
 ghost use Rattle.std.specs.Prelude.{◌≡◌, ℕ, ◌+◌, ◌<◌, ◌≤◌, ◌||◌, ◌&&◌, not, ◌==◌, nat_lt, false, true, length, slice_get, MatchResult, MatchOption};
-ghost use Rattle.std.specs.List.{list_all, list_any};
-ghost use Rattle.xk_types.specs.Code.{IsUnitWithinLimits, params_of, is_method, is_body, clock_arguments};
+ghost use Rattle.std.specs.List.{list_all};
+ghost use Rattle.xk_types.specs.Code.{IsUnitWithinLimits, params_of, is_method, is_body};
 ghost use Rattle.xk_types.specs.Shape.{breaks_in, breaks_slot, breaks_cell, is_in_place, runs_amiss, instr_is, is_fitting, breaks_end, has_twice, gives_twice, breaks_same_clock, slots_named, is_ret, HasShape};
+ghost use Rattle.xk_shape.specs.Arguments.{clocks};
 ghost use Rattle.xk_shape.specs.Fault.{Refuses};
 ghost use Rattle.xk_shape.specs.Layout.{IsLayout, AreLayouts};
 ghost use Rattle.xk_shape.specs.Breach.{IsNowhereBroken, IsLeastBreach, KeepsEarlier, KeepsEarlierIn, IsUnbrokenBefore, IsFirst};
 
+use crate::arguments::Arguments;
 use crate::fault::{ShapeError, ShapeFault};
 use crate::homes::{gives_away, strays};
 use crate::jumps::{aims_amiss, crosses_edge, misuses_loop};
@@ -224,7 +226,7 @@ fn gives_clock_twice(m: &Module, u: &Unit, at: u16) -> bool
 {
     match u.code.get(at as usize) {
         Some(Instr::Call(run, args) | Instr::Spawn(run, args)) => {
-            has_clock_twice(params_of(m, *run), args.slots())
+            has_clock_twice(Arguments::new(params_of(m, *run), args.slots()))
         }
         _ => false,
     }
@@ -241,34 +243,12 @@ pub fn params_of(m: &Module, unit: u16) -> &[ParamKind]
 }
 
 /// Whether some slot stands twice among the arguments for clocks.
-fn has_clock_twice(params: &[ParamKind], args: &[u16]) -> bool
-    ensures { result ≡ has_twice (clock_arguments params.now args.now) }
+fn has_clock_twice(mut arguments: Arguments) -> bool
+    ensures { result ≡ has_twice (clocks arguments.entry) }
 {
-    for i in 0..params.len().min(args.len()) {
-        match params[i] {
-            ParamKind::Number => {}
-            ParamKind::Clock => {
-                if has_clock(&params[i + 1..], &args[i + 1..], args[i]) {
-                    return true;
-                }
-            }
-        }
-    }
-    false
-}
-
-/// Whether the slot stands among the arguments for clocks.
-fn has_clock(params: &[ParamKind], args: &[u16], slot: u16) -> bool
-    ensures { result ≡ list_any (λ s. s == slot) (clock_arguments params.now args.now) }
-{
-    for i in 0..params.len().min(args.len()) {
-        match params[i] {
-            ParamKind::Number => {}
-            ParamKind::Clock => {
-                if args[i] == slot {
-                    return true;
-                }
-            }
+    while let Some(slot) = arguments.take_clock() {
+        if arguments.has_clock(slot) {
+            return true;
         }
     }
     false

@@ -11,7 +11,7 @@ use Rattle.xk_types.specs.Walk.{To, Refused, row, row_of, IsVisited}
 use Rattle.xk_typestate.specs.declared.refused.Stop.{Stop}
 use Rattle.xk_typestate.specs.KindSet.{KindsValue, kinds_have}
 use Rattle.xk_typestate.specs.Place.{visit}
-use Rattle.xk_typestate.specs.Trail.{AreTrails, kinds_in}
+use Rattle.xk_typestate.specs.KindTable.{IsKindTable, kinds_in}
 use Rattle.xk_typestate.specs.Refused.{IsRefusedIn, IsNeverRefusedIn, IsFirstStop, IsNeverRefusedThere, IsFirstThere, AreAllowed, IsFirstKind, IsAllowed}
 use Rattle.xk_typestate.proofs.Searches.{five, kind_at}
 
@@ -64,7 +64,7 @@ moved : (m : ModuleValue) (u : UnitValue) (s n at : ℕ) (q : Visit) (r : Rule) 
 moved m u s n at q r same here h =
     subst (λ x. IsRefusedIn m u n (visit x q.kind) r) here (subst (λ x. IsRefusedIn m u x q r) (sym same) h)
 
-module _ (m : ModuleValue) (u : UnitValue) (trails : List (List KindsValue)) (exact : AreTrails m u trails) (at n : ℕ) (kinds : KindsValue) (is : kinds ≡ kinds_in trails n at) (inside : n < u.slots) where
+module _ (m : ModuleValue) (u : UnitValue) (table : List (List KindsValue)) (exact : IsKindTable m u table) (at n : ℕ) (kinds : KindsValue) (is : kinds ≡ kinds_in table n at) (inside : n < u.slots) where
   seen_visited_there : (k : Kind) → IsTrue (kinds_have kinds k) → IsVisited m u n (visit at k)
   seen_visited_there k has = ((exact.each n inside).exact (visit at k)).0 (sym (ap (λ x. kinds_have x k) is) ∙ has)
 

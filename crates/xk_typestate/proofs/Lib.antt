@@ -1,11 +1,11 @@
 pub mod KindBits
-pub mod Arguments
 pub mod KindSets
 pub mod Edges
 pub mod Searches
 pub mod TableRows
+pub mod CallRows
 pub mod Results
-pub mod WaysOn
+pub mod SuccessorsOf
 pub mod LeastStop
 pub mod Lists
 pub mod WalkBack

@@ -5,4 +5,4 @@ pub mod Rows
 pub mod Search
 pub mod Found
 pub mod Refused
-pub mod Trail
+pub mod KindTable

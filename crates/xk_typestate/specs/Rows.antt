@@ -5,8 +5,8 @@ use Rattle.xk_types.specs.declared.rules.Kind.{Kind}
 use Rattle.xk_types.specs.Order.{Has}
 use Rattle.xk_types.specs.Walk.{After, To, Refused}
 use Rattle.xk_typestate.specs.KindSet.{KindsValue, kinds_have}
-use Rattle.xk_typestate.specs.declared.rows.Ways.{Ways}
-use Rattle.xk_typestate.specs.declared.rows.Ways.TheVariants.{Nowhere, One, Two}
+use Rattle.xk_typestate.specs.declared.rows.Successors.{Successors}
+use Rattle.xk_typestate.specs.declared.rows.Successors.TheVariants.{Nowhere, One, Two}
 
 -- the set has the kinds of the list
 abbrev pub HasAll : KindsValue → List Kind → Type 0
@@ -17,14 +17,14 @@ abbrev pub IsRow : After → Result KindsValue Rule → Type 0
 IsRow a (Ok set) = (list : List Kind) × (a ≡ To list) × HasAll set list
 IsRow a (Err r) = a ≡ Refused r
 
--- the places that ways lead to
-abbrev pub places : Ways → List ℕ
+-- the places that are the successors
+abbrev pub places : Successors → List ℕ
 places Nowhere = []
 places (One to) = to ∷ []
 places (Two first second) = first ∷ second ∷ []
 
 -- the first of two is not the greater
-abbrev pub AreRising : Ways → Type 0
+abbrev pub AreRising : Successors → Type 0
 AreRising Nowhere = Unit {0}
 AreRising (One to) = Unit {0}
 AreRising (Two first second) = first ≤ second

@@ -2,11 +2,11 @@
 #![tactic(auto)]
 
 mod kind_set;
+mod kind_table;
 mod refusal;
 mod refused;
 mod rows;
 mod search;
-mod trail;
 mod typed;
 mod walk;
 

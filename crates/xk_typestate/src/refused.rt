@@ -6,11 +6,11 @@ ghost use Rattle.xk_types.specs.Walk.{Refused, row};
 ghost use Rattle.xk_typestate.specs.KindSet.{kinds_have};
 ghost use Rattle.xk_typestate.specs.Place.{visit};
 ghost use Rattle.xk_typestate.specs.Refused.{IsNeverRefusedIn, IsFirstStop, IsNeverRefusedThere, IsFirstThere, AreAllowed, IsFirstKind, IsAllowed};
-ghost use Rattle.xk_typestate.specs.Trail.{AreTrails};
+ghost use Rattle.xk_typestate.specs.KindTable.{IsKindTable};
 
 use crate::kind_set::{KINDS, KindSet};
+use crate::kind_table::KindTable;
 use crate::rows::kinds_after;
-use crate::trail::Trails;
 use xk_shape::Blocks;
 use xk_types::{Kind, Module, Rule, Unit};
 
@@ -24,14 +24,14 @@ pub(crate) struct Stop {
 }
 
 /// The least stop of a unit, by instruction, slot and kind. The blocks are those of the unit.
-pub(crate) fn first_stop(m: &Module, u: &Unit, blocks: &Blocks, trails: &Trails) -> Option<Stop>
+pub(crate) fn first_stop(m: &Module, u: &Unit, blocks: &Blocks, table: &KindTable) -> Option<Stop>
     requires blocks { blocks.now ≡ u.now }
     requires limits { IsUnitWithinLimits u.now }
-    requires trails { AreTrails m.now u.now trails.now }
+    requires table { IsKindTable m.now u.now table.now }
     ensures { MatchOption result (IsNeverRefusedIn m.now u.now) (IsFirstStop m.now u.now) }
 {
     for at in 0..u.code.len() {
-        if let Some(stop) = stop_at(m, u, blocks, trails, at as u16) {
+        if let Some(stop) = stop_at(m, u, blocks, table, at as u16) {
             return Some(stop);
         }
     }
@@ -39,14 +39,14 @@ pub(crate) fn first_stop(m: &Module, u: &Unit, blocks: &Blocks, trails: &Trails)
 }
 
 /// The least stop at one instruction, by slot and kind.
-fn stop_at(m: &Module, u: &Unit, blocks: &Blocks, trails: &Trails, at: u16) -> Option<Stop>
+fn stop_at(m: &Module, u: &Unit, blocks: &Blocks, table: &KindTable, at: u16) -> Option<Stop>
     requires blocks { blocks.now ≡ u.now }
-    requires trails { AreTrails m.now u.now trails.now }
+    requires table { IsKindTable m.now u.now table.now }
     requires inside { at < length u.now.code }
     ensures { MatchOption result (IsNeverRefusedThere m.now u.now at) (IsFirstThere m.now u.now at) }
 {
     for slot in 0..u.slots {
-        if let Some(stop) = stop_of(m, u, blocks, at, slot, trails.kinds(at, slot)) {
+        if let Some(stop) = stop_of(m, u, blocks, at, slot, table.kinds(at, slot)) {
             return Some(stop);
         }
     }

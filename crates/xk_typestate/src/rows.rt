@@ -4,17 +4,17 @@ ghost use Rattle.std.specs.Prelude.{◌≡◌, ℕ, ◌↔◌, ◌<◌, [], ◌�
 ghost use Rattle.xk_types.specs.declared.rules.Kind.{Kind};
 ghost use Rattle.xk_types.specs.declared.rules.Kind.TheVariants.{Number};
 ghost use Rattle.xk_types.specs.Order.{Has};
-ghost use Rattle.xk_types.specs.Walk.{After, Refused, after, becomes, awake, reads, may_read, loop_slot, overwritten, let_go, writes, uses, hands_on, gives, across, is_lent, is_own, successors, entry_kinds, MayBecome};
+ghost use Rattle.xk_types.specs.Walk.{After, Refused, after, becomes, awake, reads, may_read, loop_slot, overwritten, let_go, writes, uses, hands_on, gives, across, is_own, successors, entry_kinds, MayBecome};
 ghost use Rattle.xk_typestate.specs.KindSet.{kinds_have};
 ghost use Rattle.xk_typestate.specs.Rows.{IsRow, places, AreRising};
 
 use crate::kind_set::KindSet;
-use xk_shape::{Blocks, params_of};
+use xk_shape::{Arguments, Blocks, params_of};
 use xk_types::{Instr, Kind, Module, ParamKind, Rule, Unit, UnitKind};
 
 /// Where an instruction may lead, in rising order.
 #[derive(Clone, Copy)]
-pub(crate) enum Ways {
+pub(crate) enum Successors {
     /// The walk ends.
     Nowhere,
     /// To this place.
@@ -24,7 +24,7 @@ pub(crate) enum Ways {
 }
 
 /// Where an instruction at this place may lead.
-pub(crate) fn ways_from(instr: &Instr, at: u16) -> Ways
+pub(crate) fn successors_of(instr: &Instr, at: u16) -> Successors
     requires room { at < 65535 }
     requires inside { (to : ℕ) → Has (successors instr.now at) to → to < 65536 }
     ensures edges { (to : ℕ) → Has (places result) to ↔ Has (successors instr.now at) to }
@@ -32,22 +32,22 @@ pub(crate) fn ways_from(instr: &Instr, at: u16) -> Ways
 {
     match instr {
         Instr::Unless(_, _, _, t) => either(at + 1, *t),
-        Instr::Jump(t) => Ways::One(*t),
+        Instr::Jump(t) => Successors::One(*t),
         Instr::Next(b) => either(at + 1, *b + 1),
-        Instr::Ret => Ways::Nowhere,
-        _ => Ways::One(at + 1),
+        Instr::Ret => Successors::Nowhere,
+        _ => Successors::One(at + 1),
     }
 }
 
-/// The ways to both places.
-fn either(a: u16, b: u16) -> Ways
+/// Both places.
+fn either(a: u16, b: u16) -> Successors
     ensures both { (to : ℕ) → Has (places result) to ↔ Has (a ∷ b ∷ []) to }
     ensures rising { AreRising result }
 {
     if a < b {
-        Ways::Two(a, b)
+        Successors::Two(a, b)
     } else {
-        Ways::Two(b, a)
+        Successors::Two(b, a)
     }
 }
 
@@ -95,15 +95,15 @@ pub(crate) fn kinds_after(
 {
     match instr {
         Instr::Lit(d, _) | Instr::For(d, _, _, _) | Instr::Get(d, _) => {
-            written(*d, Kind::Number, slot, kind)
+            write(*d, Kind::Number, slot, kind)
         }
         Instr::Copy(d, x) => {
             read(*x, slot, kind)?;
-            written(*d, Kind::Number, slot, kind)
+            write(*d, Kind::Number, slot, kind)
         }
-        Instr::Add(d, x, y) => computed(*d, *x, *y, slot, kind),
-        Instr::Sub(d, x, y) => computed(*d, *x, *y, slot, kind),
-        Instr::Mul(d, x, y) => computed(*d, *x, *y, slot, kind),
+        Instr::Add(d, x, y) => compute(*d, *x, *y, slot, kind),
+        Instr::Sub(d, x, y) => compute(*d, *x, *y, slot, kind),
+        Instr::Mul(d, x, y) => compute(*d, *x, *y, slot, kind),
         Instr::Unless(_, x, y, _) => {
             read(*x, slot, kind)?;
             read(*y, slot, kind)?;
@@ -117,32 +117,37 @@ pub(crate) fn kinds_after(
             read(*x, slot, kind)?;
             Ok(KindSet::of(kind))
         }
-        Instr::Make(d) => written(*d, Kind::Live, slot, kind),
-        Instr::Resume(c) => used(*c, Kind::Resumed, slot, kind),
-        Instr::Drop(c) => used(*c, Kind::Out, slot, kind),
-        Instr::Advance => Ok(KindSet::of(woken(kind))),
+        Instr::Make(d) => write(*d, Kind::Live, slot, kind),
+        Instr::Resume(c) => use_clock(*c, Kind::Resumed, slot, kind),
+        Instr::Drop(c) => use_clock(*c, Kind::Out, slot, kind),
+        Instr::Advance => Ok(KindSet::of(awake(kind))),
         Instr::Call(called, args) => {
-            let params = params_of(m, *called);
-            given(params, args.slots(), slot, kind)?;
-            Ok(kinds_across(is_lent(params, args.slots(), slot), kind))
+            let arguments = Arguments::new(params_of(m, *called), args.slots());
+            let lent = arguments.has_clock(slot);
+            give(arguments, slot, kind)?;
+            Ok(kinds_across(lent, kind))
         }
         Instr::Spawn(started, args) => {
-            given(params_of(m, *started), args.slots(), slot, kind)?;
+            give(
+                Arguments::new(params_of(m, *started), args.slots()),
+                slot,
+                kind,
+            )?;
             Ok(KindSet::of(kind))
         }
-        Instr::EndFinish(first) => closed(blocks.is_home(slot, *first), kind),
+        Instr::EndFinish(first) => after_endfinish(blocks.is_home(slot, *first), kind),
         Instr::Jump(_) | Instr::Finish(_) => Ok(KindSet::of(kind)),
-        Instr::Ret => returned(u, slot, kind),
+        Instr::Ret => after_ret(u, slot, kind),
     }
 }
 
 /// Reads two slots as numbers, then writes a number.
-fn computed(d: u16, x: u16, y: u16, slot: u16, kind: Kind) -> Result<KindSet, Rule>
+fn compute(d: u16, x: u16, y: u16, slot: u16, kind: Kind) -> Result<KindSet, Rule>
     ensures { IsRow (reads x slot kind (reads y slot kind (writes d Number slot kind))) result }
 {
     read(x, slot, kind)?;
     read(y, slot, kind)?;
-    written(d, Kind::Number, slot, kind)
+    write(d, Kind::Number, slot, kind)
 }
 
 /// The slot of the loop that begins at this place; none where no loop does.
@@ -178,17 +183,17 @@ fn may_read(x: Option<u16>, slot: u16, kind: Kind) -> Result<(), Rule>
     }
 }
 
-/// Gives slots to parameters: a number is read, a clock handed on.
-fn given(params: &[ParamKind], args: &[u16], slot: u16, kind: Kind) -> Result<(), Rule>
+/// Gives arguments to parameters: a number is read, a clock handed on.
+fn give(mut arguments: Arguments, slot: u16, kind: Kind) -> Result<(), Rule>
     ensures { (go : After)
         → MatchResult result
-        (λ _. gives params.now args.now slot kind go ≡ go)
-        (λ r. gives params.now args.now slot kind go ≡ Refused r) }
+        (λ _. gives arguments.entry.params arguments.entry.slots slot kind go ≡ go)
+        (λ r. gives arguments.entry.params arguments.entry.slots slot kind go ≡ Refused r) }
 {
-    for i in 0..params.len().min(args.len()) {
-        match params[i] {
-            ParamKind::Number => read(args[i], slot, kind)?,
-            ParamKind::Clock => handed_on(args[i], slot, kind)?,
+    while let Some((param, x)) = arguments.take_next() {
+        match param {
+            ParamKind::Number => read(x, slot, kind)?,
+            ParamKind::Clock => hand_on(x, slot, kind)?,
         }
     }
     Ok(())
@@ -209,7 +214,7 @@ fn read(x: u16, slot: u16, kind: Kind) -> Result<(), Rule>
 }
 
 /// Hands a slot on as a clock, where the walk is on it.
-fn handed_on(c: u16, slot: u16, kind: Kind) -> Result<(), Rule>
+fn hand_on(c: u16, slot: u16, kind: Kind) -> Result<(), Rule>
     ensures { (go : After)
         → MatchResult result
         (λ _. hands_on c slot kind go ≡ go)
@@ -223,18 +228,18 @@ fn handed_on(c: u16, slot: u16, kind: Kind) -> Result<(), Rule>
 }
 
 /// Writes a slot, where the walk is on it.
-fn written(d: u16, new: Kind, slot: u16, kind: Kind) -> Result<KindSet, Rule>
+fn write(d: u16, new: Kind, slot: u16, kind: Kind) -> Result<KindSet, Rule>
     ensures { IsRow (writes d new slot kind) result }
 {
     if slot == d {
-        overwritten(kind, new)
+        overwrite(kind, new)
     } else {
         Ok(KindSet::of(kind))
     }
 }
 
 /// Overwrites a slot: a clock on which the activity is still registered would be lost.
-fn overwritten(kind: Kind, new: Kind) -> Result<KindSet, Rule>
+fn overwrite(kind: Kind, new: Kind) -> Result<KindSet, Rule>
     ensures { IsRow (overwritten kind (becomes new)) result }
 {
     match kind {
@@ -244,7 +249,7 @@ fn overwritten(kind: Kind, new: Kind) -> Result<KindSet, Rule>
 }
 
 /// Uses a slot as a clock, where the walk is on it.
-fn used(c: u16, new: Kind, slot: u16, kind: Kind) -> Result<KindSet, Rule>
+fn use_clock(c: u16, new: Kind, slot: u16, kind: Kind) -> Result<KindSet, Rule>
     ensures { IsRow (uses c new slot kind) result }
 {
     match kind {
@@ -255,7 +260,7 @@ fn used(c: u16, new: Kind, slot: u16, kind: Kind) -> Result<KindSet, Rule>
 }
 
 /// What `advance` leaves of a kind.
-fn woken(kind: Kind) -> Kind
+fn awake(kind: Kind) -> Kind
     ensures { result ≡ awake kind }
 {
     match kind {
@@ -275,25 +280,8 @@ fn kinds_across(lent: bool, kind: Kind) -> KindSet
     }
 }
 
-/// Whether a parameter takes the slot as a clock.
-fn is_lent(params: &[ParamKind], args: &[u16], slot: u16) -> bool
-    ensures { result ≡ is_lent params.now args.now slot }
-{
-    for i in 0..params.len().min(args.len()) {
-        match params[i] {
-            ParamKind::Number => {}
-            ParamKind::Clock => {
-                if args[i] == slot {
-                    return true;
-                }
-            }
-        }
-    }
-    false
-}
-
 /// What `endfinish` leaves of a kind, by whether it ends the block that is the slot's home.
-fn closed(home: bool, kind: Kind) -> Result<KindSet, Rule>
+fn after_endfinish(home: bool, kind: Kind) -> Result<KindSet, Rule>
     ensures { IsRow (if home then let_go kind (becomes kind) else becomes kind) result }
 {
     if home {
@@ -314,11 +302,11 @@ fn let_go(kind: Kind) -> Result<KindSet, Rule>
 }
 
 /// What `ret` leaves of a kind: where a method returns, its own slots are lost.
-fn returned(u: &Unit, slot: u16, kind: Kind) -> Result<KindSet, Rule>
+fn after_ret(u: &Unit, slot: u16, kind: Kind) -> Result<KindSet, Rule>
     ensures { IsRow (if is_own u.now slot then overwritten kind (becomes kind) else becomes kind) result }
 {
     if is_own(u, slot) {
-        overwritten(kind, kind)
+        overwrite(kind, kind)
     } else {
         Ok(KindSet::of(kind))
     }

@@ -8,7 +8,7 @@ ghost use Rattle.xk_typestate.specs.Rows.{places};
 ghost use Rattle.xk_typestate.specs.Search.{IsClosed, IsFound, IsSearched, IsComplete, IsPut, Extends, HasPut, CanCome};
 
 use crate::kind_set::{KINDS, KindSet};
-use crate::rows::{Ways, kinds_at_entry, kinds_left, ways_from};
+use crate::rows::{Successors, kinds_at_entry, kinds_left, successors_of};
 use std::alloc::{AllocError, Global};
 use xk_shape::Blocks;
 use xk_types::{Kind, Module, Unit, Visit};
@@ -82,28 +82,28 @@ impl Search {
         let stop = self.found[done].stop;
         let instr = &u.code[stop.at as usize];
         let kinds = kinds_left(m, u, blocks, instr, slot, stop.kind);
-        self.put_ways(ways_from(instr, stop.at), kinds, Some(done))
+        self.put_successors(successors_of(instr, stop.at), kinds, Some(done))
     }
 
-    /// Puts these kinds wherever the ways lead.
-    fn put_ways(
+    /// Puts these kinds at each of the successors.
+    fn put_successors(
         &mut self,
-        ways: Ways,
+        successors: Successors,
         kinds: KindSet,
         from: Option<usize>,
     ) -> Result<(), AllocError>
-        requires inside { (to : ℕ) → Has (places ways) to → to < length self.old.seen.items }
+        requires inside { (to : ℕ) → Has (places successors) to → to < length self.old.seen.items }
         ensures grown { IfOk result (λ _. Extends self.old self.new) }
-        ensures put { IfOk result (λ _. (to : ℕ) → Has (places ways) to → HasPut self.new to kinds) }
+        ensures put { IfOk result (λ _. (to : ℕ) → Has (places successors) to → HasPut self.new to kinds) }
         ensures searched { (m : ModuleValue) (u : UnitValue) (s done : ℕ)
             → IsSearched m u s self.old done
-            → ((to : ℕ) → Has (places ways) to → CanCome m u s self.old to kinds from)
+            → ((to : ℕ) → Has (places successors) to → CanCome m u s self.old to kinds from)
             → IfOk result (λ _. IsSearched m u s self.new done) }
     {
-        match ways {
-            Ways::Nowhere => Ok(()),
-            Ways::One(to) => self.put_all(to, kinds, from),
-            Ways::Two(first, second) => {
+        match successors {
+            Successors::Nowhere => Ok(()),
+            Successors::One(to) => self.put_all(to, kinds, from),
+            Successors::Two(first, second) => {
                 self.put_all(first, kinds, from)?;
                 self.put_all(second, kinds, from)
             }

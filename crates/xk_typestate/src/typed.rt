@@ -9,13 +9,13 @@ ghost use Rattle.xk_typestate.specs.KindSet.{kinds_have};
 ghost use Rattle.xk_typestate.specs.Place.{visit, HasPlace, IsVisitedIn};
 ghost use Rattle.xk_typestate.specs.Refused.{IsNeverRefused, IsNeverRefusedIn, FailsModule, FailsUnit};
 ghost use Rattle.xk_typestate.specs.Search.{IsClosed};
-ghost use Rattle.xk_typestate.specs.Trail.{AreTrails, IsTyped};
+ghost use Rattle.xk_typestate.specs.KindTable.{IsKindTable, IsTyped};
 ghost use Rattle.xk_typestate.specs.declared.refusal.KindError.TheVariants as kind_error;
 
 use crate::kind_set::KindSet;
+use crate::kind_table::KindTable;
 use crate::refusal::{KindError, KindFault};
 use crate::refused::first_stop;
-use crate::trail::Trails;
 use crate::walk::walk_to;
 use std::alloc::{AllocError, Global};
 use std::marker::Model;
@@ -26,18 +26,18 @@ use xk_types::{Module, Unit, Visit};
 #[derive(Drop)]
 pub struct Typed {
     shaped: Shaped,
-    trails: Vec<Trails>,
+    tables: Vec<KindTable>,
 }
 
 impl Model for Typed {
     ghost use Rattle.xk_types.specs.Code.{ModuleValue};
-    ghost use Rattle.xk_typestate.specs.Trail.{IsTyped};
+    ghost use Rattle.xk_typestate.specs.KindTable.{IsTyped};
 
     ghost Value = { ModuleValue };
 
     ghost view = { λ t. t.shaped };
 
-    ghost invariant = { λ t. IsTyped t.shaped t.trails.items };
+    ghost invariant = { λ t. IsTyped t.shaped t.tables.items };
 }
 
 /// Takes the module if no walk of a slot ends where the table of kinds refuses to go on, or gives it back with the least
@@ -50,38 +50,38 @@ pub fn check_kinds(alloc: Global, shaped: Shaped) -> Result<Typed, (Shaped, Kind
     ensures never_wrongly { IsNeverRefused shaped → IfErr result (λ e. e.1 ≡ KindError.OutOfMemory) }
 {
     match check_units(alloc, shaped.module()) {
-        Ok(trails) => Ok(Typed { shaped, trails }),
+        Ok(tables) => Ok(Typed { shaped, tables }),
         Err(error) => Err((shaped, error)),
     }
 }
 
 /// Follows every slot of every unit, and stops at the least place that is refused.
-fn check_units(alloc: Global, m: &Module) -> Result<Vec<Trails>, KindError>
+fn check_units(alloc: Global, m: &Module) -> Result<Vec<KindTable>, KindError>
     requires { HasShape m.now }
     ensures { MatchResult result (λ t. IsTyped m.now t.items) (FailsModule m.now) }
 {
-    let mut trails = Vec::new(alloc);
+    let mut tables = Vec::new(alloc);
     let mut unit = 0;
     for u in m.units() {
         let of_unit = check_unit(alloc, m, unit, u)?;
-        match trails.push(of_unit) {
+        match tables.push(of_unit) {
             Ok(()) => unit += 1,
             Err(e) => return Err(AllocError::from(e).into()),
         }
     }
-    Ok(trails)
+    Ok(tables)
 }
 
 /// Follows every slot of one unit, and stops at the least place that is refused.
-fn check_unit(alloc: Global, m: &Module, unit: u16, u: &Unit) -> Result<Trails, KindError>
+fn check_unit(alloc: Global, m: &Module, unit: u16, u: &Unit) -> Result<KindTable, KindError>
     requires blocks { HasBlocks u.now }
     requires closed { IsClosed u.now }
-    ensures { MatchResult result (λ t. IsNeverRefusedIn m.now u.now × AreTrails m.now u.now t) (FailsUnit m.now unit u.now) }
+    ensures { MatchResult result (λ t. IsNeverRefusedIn m.now u.now × IsKindTable m.now u.now t) (FailsUnit m.now unit u.now) }
 {
     let blocks = Blocks::of(alloc, u)?;
-    let trails = Trails::follow(alloc, m, u, &blocks)?;
-    let Some(stop) = first_stop(m, u, &blocks, &trails) else {
-        return Ok(trails);
+    let table = KindTable::follow(alloc, m, u, &blocks)?;
+    let Some(stop) = first_stop(m, u, &blocks, &table) else {
+        return Ok(table);
     };
     let end = Visit {
         at: stop.at,
@@ -124,6 +124,6 @@ impl Typed {
         requires { HasPlace self.now unit at slot }
         ensures { (k : Kind) → IsTrue (kinds_have result k) ↔ IsVisitedIn self.now unit slot (visit at k) }
     {
-        self.trails[unit as usize].kinds(at, slot)
+        self.tables[unit as usize].kinds(at, slot)
     }
 }

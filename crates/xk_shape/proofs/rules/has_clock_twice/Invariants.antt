@@ -1,8 +1,11 @@
--- the arguments that are left decide
-use Rattle.std.proofs.Common.{◌≡◌, drop}
-use Rattle.xk_types.specs.Code.{clock_arguments}
+-- the clocks that are left decide
+use Rattle.std.proofs.Common.{◌≡◌, length}
 use Rattle.xk_types.specs.Shape.{has_twice}
+use Rattle.xk_shape.specs.Arguments.{clocks}
 use Rattle.xk_shape.proofs.rules.has_clock_twice.Given as goal
 
-abbrev pub invariant-loop-i : goal.invariant-loop-i
-invariant-loop-i l = has_twice (clock_arguments l.params l.args) ≡ has_twice (clock_arguments (drop l.i l.params) (drop l.i l.args))
+abbrev pub invariant-loop-slot : goal.invariant-loop-slot
+invariant-loop-slot l = has_twice (clocks l.fn.arguments) ≡ has_twice (clocks l.arguments)
+
+abbrev pub decreases-loop-slot : goal.decreases-loop-slot
+decreases-loop-slot l = length (clocks l.arguments)

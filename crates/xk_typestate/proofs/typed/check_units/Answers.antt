@@ -6,7 +6,7 @@ use Rattle.std.proofs.lemmas.Result.{err_from_is_err_and}
 use Rattle.xk_types.specs.Code.{UnitValue, ModuleValue}
 use Rattle.xk_shape.proofs.Units.{blocks_of_shape}
 use Rattle.xk_typestate.specs.Refused.{IsNeverRefusedIn}
-use Rattle.xk_typestate.specs.Trail.{AreTrails}
+use Rattle.xk_typestate.specs.KindTable.{IsKindTable}
 use Rattle.xk_typestate.proofs.Lists.{each_more}
 use Rattle.xk_typestate.proofs.Units.{fails_module, never_refused}
 use Rattle.xk_typestate.proofs.InsideCode.{closed_from}
@@ -46,7 +46,7 @@ loop-u-preserved c =
     let u = c.u-item.result in
     let n = c.loop-u.u-index in
     let inv = c.loop-u.invariant in
-    let xs = c.loop-u.trails.items in
+    let xs = c.loop-u.tables.items in
     let y = c.in_ok-of_unit.of_unit in
     let pushed = c.in-Ok.ensures.items in
     let found = found_unit m c.units-u-items.result.now n u c.units-u-items.ensures.listed c.loop-u-test.true c.u-item.is in
@@ -60,8 +60,8 @@ loop-u-preserved c =
             let same : k ≡ n = omega arith in
             subst (λ x. IsNeverRefusedIn m x) (one v (ap (slice_get m.units) (sym same) ∙ at)) c.in_ok-of_unit.ensures.0
       ];
-      each = each_more (λ k t. (v : UnitValue) → slice_get m.units k ≡ Some v → AreTrails m v t) xs c.push.new.self.items y [] n inv.long pushed inv.each
-          (λ v at. subst (λ x. AreTrails m x y) (one v at) c.in_ok-of_unit.ensures.1);
+      each = each_more (λ k t. (v : UnitValue) → slice_get m.units k ≡ Some v → IsKindTable m v t) xs c.push.new.self.items y [] n inv.long pushed inv.each
+          (λ v at. subst (λ x. IsKindTable m x y) (one v at) c.in_ok-of_unit.ensures.1);
     }
 
 pub returns : goal.returns

@@ -19,14 +19,14 @@ returns-clause-searched c =
     let f = c.index.result.now in
     let i = c.index-instr.result.now in
     let old = c.args.self.now in
-    let now = c.put_ways.new.self in
+    let now = c.put_successors.new.self in
     let found = slice_get_read old.found.items (length old.found.items) n f refl c.requires.place c.index.ensures in
     let inside = came_inside m u s c.requires.closed old.found.items n f.stop f.from (c.requires.searched.came n f found) in
     let same = ap (λ (x : UnitValue). x.code) c.u.view_is in
     let as_long : length c.u.inside.code.items ≡ length u.code = ap length same in
     let here = found_read c.u.inside.code.items u.code f.stop.at i same (omega arith) c.index-instr.ensures in
     let lt = c.requires.place in
-    let come : (to : ℕ) → Has (places c.ways_from.result) to → CanCome m u s old to c.kinds_left-kinds.result (Some n) = λ to h k has. (lt, (f, found, edge_of m u s f.stop i to k here ((c.ways_from.ensures.edges to).0 h) ((c.kinds_left-kinds.ensures k).0 has))) in
-    ok_by_three _ _ _ _ _ c.put_ways.ensures.grown c.put_ways.ensures.put (c.put_ways.ensures.searched m u s n c.requires.searched come)
+    let come : (to : ℕ) → Has (places c.successors_of.result) to → CanCome m u s old to c.kinds_left-kinds.result (Some n) = λ to h k has. (lt, (f, found, edge_of m u s f.stop i to k here ((c.successors_of.ensures.edges to).0 h) ((c.kinds_left-kinds.ensures k).0 has))) in
+    ok_by_three _ _ _ _ _ c.put_successors.ensures.grown c.put_successors.ensures.put (c.put_successors.ensures.searched m u s n c.requires.searched come)
     (λ _ grown put so_far. searched_done m u s now n f so_far (grown.found n f found) (omega (arith, grown.more))
-    (λ q edge. put q.at ((c.ways_from.ensures.edges q.at).1 (edge_place m u s f.stop q i here edge)) q.kind ((c.kinds_left-kinds.ensures q.kind).1 (edge_kind m u s f.stop q i here edge))))
+    (λ q edge. put q.at ((c.successors_of.ensures.edges q.at).1 (edge_place m u s f.stop q i here edge)) q.kind ((c.kinds_left-kinds.ensures q.kind).1 (edge_kind m u s f.stop q i here edge))))
