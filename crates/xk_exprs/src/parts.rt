@@ -46,7 +46,7 @@ pub fn unexpected(tokens: &[Token], end: usize) -> FrontFault
 }
 
 /// More than 64 levels or operators, from the token at this offset on.
-pub fn depth_fault(at: usize) -> FrontFault
+pub(crate) fn depth_fault(at: usize) -> FrontFault
     ensures { result ≡ record { rule = rule.TooDeep; at = at } }
 {
     FrontFault {
@@ -66,7 +66,10 @@ pub(crate) fn literal_fault(at: usize) -> FrontFault
 }
 
 /// Past a `)`.
-pub fn close<'s, 't>(tokens: &'s [Token<'t>], end: usize) -> Result<&'s [Token<'t>], FrontError>
+pub(crate) fn close<'s, 't>(
+    tokens: &'s [Token<'t>],
+    end: usize,
+) -> Result<&'s [Token<'t>], FrontError>
     ensures { Gives (λ x. marks x.now) result (close_at (marks tokens.now)) }
 {
     let Some((token, rest)) = next(tokens) else {
