@@ -1,3 +1,9 @@
 pub mod Tokens
 pub mod Turns
+pub mod Lengths
 pub mod Found
+pub mod Rows
+pub mod Flat
+pub mod Statements
+pub mod Programs
+pub mod Texts

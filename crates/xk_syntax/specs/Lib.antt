@@ -1,2 +1,5 @@
 pub mod Spelling
 pub mod Readers
+pub mod Views
+pub mod Laws
+pub mod Texts

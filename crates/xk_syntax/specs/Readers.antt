@@ -305,6 +305,22 @@ named_or d w ts None = undotted d w ts (sign_at sign.Dot ts)
 unfoldable pub named_at : ℕ → Word → List Mark → Read
 named_at d w ts = named_or d w ts (open_at ts)
 
+abbrev pub flat_by : ℕ → Mark → List Mark → Read
+flat_by d (Symbol sign.Semicolon) ts = Some (Empty, ts)
+flat_by d (Name at text) ts = named_at d (record { at = at; text = text }) ts
+flat_by d (Reserved keyword.Val) ts = declare_at d binding.Val ts
+flat_by d (Reserved keyword.Var) ts = declare_at d binding.Var ts
+flat_by d (Reserved keyword.Atomic) ts = atomic_at d ts
+flat_by d (Reserved keyword.Console) ts = print_at d ts
+flat_by d (ClockAt at) ts = advance_at at ts
+flat_by d _ ts = None
+
+-- a statement that holds none, where so many levels are left behind it
+unfoldable pub flat_at : ℕ → List Mark → Read
+flat_at d ts = do
+  x ← head_at ts
+  flat_by d x.0 x.1
+
 -- ---- what stands before the statement or the statements that a statement holds
 
 pub data Head : Type 0 where
@@ -318,7 +334,6 @@ pub data Head : Type 0 where
 abbrev pub ReadHead : Type 0
 ReadHead = Option (Head × List Mark)
 
--- a statement that holds none
 abbrev pub whole : Read → ReadHead
 whole r = do
   s ← r
@@ -361,24 +376,19 @@ start_at at ts = do
   cs ← clocks_at ts
   Some (Start at cs.0, cs.1)
 
-abbrev pub head_by : ℕ → Mark → List Mark → ReadHead
-head_by d (Symbol sign.LeftBrace) ts = Some (Brace, ts)
-head_by d (Symbol sign.Semicolon) ts = Some (Whole Empty, ts)
-head_by d (Name at text) ts = whole (named_at d (record { at = at; text = text }) ts)
-head_by d (Reserved keyword.Val) ts = whole (declare_at d binding.Val ts)
-head_by d (Reserved keyword.Var) ts = whole (declare_at d binding.Var ts)
-head_by d (Reserved keyword.Atomic) ts = whole (atomic_at d ts)
-head_by d (Reserved keyword.Console) ts = whole (print_at d ts)
-head_by d (ClockAt at) ts = whole (advance_at at ts)
-head_by d (Reserved keyword.If) ts = condition_at d ts
-head_by d (Reserved keyword.For) ts = range_at ts
-head_by d (AsyncAt at) ts = start_at at ts
-head_by d (Reserved keyword.Finish) ts = Some (Wait, ts)
-head_by d _ ts = None
+abbrev pub head_by : ℕ → List Mark → Mark → List Mark → ReadHead
+head_by d all (Symbol sign.LeftBrace) ts = Some (Brace, ts)
+head_by d all (Reserved keyword.If) ts = condition_at d ts
+head_by d all (Reserved keyword.For) ts = range_at ts
+head_by d all (AsyncAt at) ts = start_at at ts
+head_by d all (Reserved keyword.Finish) ts = Some (Wait, ts)
+head_by d all _ ts = whole (flat_at d all)
 
 -- what a statement begins with, where so many levels are left behind it
 unfoldable pub stmt_head_at : ℕ → List Mark → ReadHead
-stmt_head_at d ts = head_at ts >>= λ x. head_by d x.0 x.1
+stmt_head_at d ts = do
+  x ← head_at ts
+  head_by d ts x.0 x.1
 
 -- ---- statements
 

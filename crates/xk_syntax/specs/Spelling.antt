@@ -3,6 +3,7 @@ use Rattle.std.specs.Prelude.{◌≡◌, ◌≢◌, ℕ, zero, suc, ◌≤◌, B
 use Rattle.std.specs.List.{AllByRecursion}
 use Rattle.xk_types.specs.declared.instr.Comparison.{Comparison}
 use Rattle.xk_types.specs.declared.instr.Comparison.TheVariants as comparison
+use Rattle.xk_types.specs.declared.unit.ParamKind.{ParamKind}
 use Rattle.xk_types.specs.declared.unit.ParamKind.TheVariants as kind
 use Rattle.xk_tokens.specs.declared.token.Sign.{Sign}
 use Rattle.xk_tokens.specs.declared.token.Sign.TheVariants as sign
@@ -44,8 +45,12 @@ abbrev pub binding_word : Binding → Keyword
 binding_word binding.Val = keyword.Val
 binding_word binding.Var = keyword.Var
 
+abbrev pub type_mark : ℕ → ParamKind → Mark
+type_mark at kind.Clock = ClockAt at
+type_mark at kind.Number = LongAt at
+
 abbrev pub type_name : TypeName → List Mark → List Mark
-type_name ty after = elim ty.kind [ kind.Clock ↦ ClockAt ty.at ∷ after | kind.Number ↦ LongAt ty.at ∷ after ]
+type_name ty after = type_mark ty.at ty.kind ∷ after
 
 -- `: T`, if there is one
 abbrev pub type_part : Option TypeName → List Mark → List Mark
@@ -60,15 +65,18 @@ abbrev pub source : Source → List Mark → List Mark
 source (Make at v) after = ClockAt at ∷ Symbol sign.Dot ∷ verb (codes "make") v (Symbol sign.RightParen ∷ after)
 source (Value e) after = expr e after
 
--- each behind a comma
-abbrev pub behind_commas : {T : Type 0} → (T → List Mark → List Mark) → List T → List Mark → List Mark
-behind_commas f [] after = after
-behind_commas f (x ∷ xs) after = Symbol sign.Comma ∷ f x (behind_commas f xs after)
+-- one after another
+abbrev pub row : {T : Type 0} → (T → List Mark → List Mark) → List T → List Mark → List Mark
+row f [] after = after
+row f (x ∷ xs) after = f x (row f xs after)
+
+abbrev pub behind_comma : {T : Type 0} → (T → List Mark → List Mark) → T → List Mark → List Mark
+behind_comma f x after = Symbol sign.Comma ∷ f x after
 
 -- with commas between them
 abbrev pub commas : {T : Type 0} → (T → List Mark → List Mark) → List T → List Mark → List Mark
 commas f [] after = after
-commas f (x ∷ xs) after = f x (behind_commas f xs after)
+commas f (x ∷ xs) after = f x (row (behind_comma f) xs after)
 
 abbrev pub clock_part : Option Clocks → List Mark → List Mark
 clock_part None after = after
@@ -104,11 +112,6 @@ method m after = Reserved keyword.Def ∷ word m.name (Open m.paren ∷ commas p
 
 abbrev pub shared : SharedValue → List Mark → List Mark
 shared s after = Reserved keyword.Shared ∷ word s.name (Symbol sign.Assign ∷ number s.start (Symbol sign.Semicolon ∷ after))
-
--- one after another
-abbrev pub row : {T : Type 0} → (T → List Mark → List Mark) → List T → List Mark → List Mark
-row f [] after = after
-row f (x ∷ xs) after = f x (row f xs after)
 
 -- the tokens of a program
 abbrev pub program : TreeValue → List Mark
@@ -172,6 +175,11 @@ MethodFits m = AllFit 64 m.body
 abbrev pub SharedFits : SharedValue → Type 0
 SharedFits s = IsNumber s.start
 
+-- within the limits
+pub record TreeFits (t : TreeValue) : Type 0 where
+  pub shared_fit : AllByRecursion SharedFits t.shared
+  pub methods_fit : AllByRecursion MethodFits t.methods
+
 -- ---- Texts
 
 abbrev pub lexeme_mark : ℕ → Lexeme → Mark
@@ -190,5 +198,4 @@ token_mark t = lexeme_mark t.at t.what
 pub record SpellsTree (text : List ℕ) (t : TreeValue) : Type 0 where
   pub short : length text ≤ 1048576
   pub spelled : (tokens : List TokenValue) × SpellsTokens text tokens × (map token_mark tokens ≡ program t)
-  pub shared_fit : AllByRecursion SharedFits t.shared
-  pub methods_fit : AllByRecursion MethodFits t.methods
+  pub fits : TreeFits t

@@ -1,0 +1,70 @@
+-- Whatever is spelled has tokens.
+use Rattle.std.proofs.Common.{◌≡◌, ℕ, suc, ◌<◌, ◌≤◌, List, [], ◌∷◌, ◌++◌, length, Option, Some, None, codes, refl, ap, arith, length-append}
+use Rattle.xk_tokens.specs.declared.token.Sign.TheVariants as sign
+use Rattle.xk_tokens.specs.declared.token.Keyword.TheVariants as keyword
+use Rattle.xk_tree.specs.declared.tree.TypeName.{TypeName}
+use Rattle.xk_tree.specs.Tree.{Word, Expression, Source, Make, Value, Clocks, Statement, Statements, Done, More, Block, Empty, Declare, Assign, Atomic, If, IfElse, For, Async, Finish, Call, Resume, Drop, AdvanceAll, Print}
+use Rattle.xk_exprs.specs.Marks.{Mark, Symbol, Reserved}
+use Rattle.xk_exprs.specs.Spelling.{spell, number_marks}
+use Rattle.xk_syntax.specs.Spelling.{word, number, expr, comparison_sign, type_name, type_part, source, row, behind_comma, commas, clock_part, stmt, stmts}
+
+abbrev pub Longer : {T : Type 0} → (T → List Mark → List Mark) → Type 0
+Longer {T = T} f = (x : T) (after : List Mark) → length after ≤ length (f x after)
+
+expr_longer : Longer expr
+expr_longer e after = omega (arith, length-append (spell e) after)
+
+pub word_longer : Longer word
+word_longer w after = omega arith
+
+pub type_longer : Longer type_name
+type_longer ty after = omega arith
+
+type_part_longer : Longer type_part
+type_part_longer None after = omega arith
+type_part_longer (Some ty) after = omega (arith, type_longer ty after)
+
+source_longer : Longer source
+source_longer (Make at v) after = omega arith
+source_longer (Value e) after = expr_longer e after
+
+row_longer : {T : Type 0} (f : T → List Mark → List Mark) → Longer f → Longer (row f)
+row_longer f l [] after = omega arith
+row_longer f l (x ∷ xs) after = omega (arith, l x (row f xs after), row_longer f l xs after)
+
+pub commas_longer : {T : Type 0} (f : T → List Mark → List Mark) → Longer f → Longer (commas f)
+commas_longer f l [] after = omega arith
+commas_longer f l (x ∷ xs) after = omega (arith, l x (row (behind_comma f) xs after), row_longer (behind_comma f) (λ y us. omega (arith, l y us)) xs after)
+
+clocks_longer : Longer clock_part
+clocks_longer None after = omega arith
+clocks_longer (Some cs) after = omega (arith, commas_longer word word_longer cs.names (Symbol sign.RightParen ∷ after))
+
+mutual
+  pub stmt_longer : (s : Statement) (after : List Mark) → length after < length (stmt s after)
+  stmt_longer (Block ss) after = omega (arith, stmts_longer ss (Symbol sign.RightBrace ∷ after))
+  stmt_longer Empty after = omega arith
+  stmt_longer (Declare b w ty r) after = omega (arith, type_part_longer ty (Symbol sign.Assign ∷ source r (Symbol sign.Semicolon ∷ after)), source_longer r (Symbol sign.Semicolon ∷ after))
+  stmt_longer (Assign w e) after = omega (arith, expr_longer e (Symbol sign.Semicolon ∷ after))
+  stmt_longer (Atomic w v at e) after = omega (arith, expr_longer e (Symbol sign.Semicolon ∷ after))
+  stmt_longer (If at l c r s) after =
+      let right = expr r (Symbol sign.RightParen ∷ stmt s after) in
+      omega (arith, expr_longer l (Symbol (comparison_sign c) ∷ right), expr_longer r (Symbol sign.RightParen ∷ stmt s after), stmt_longer s after)
+  stmt_longer (IfElse at l c r s t) after =
+      let rest = stmt s (Reserved keyword.Else ∷ stmt t after) in
+      let right = expr r (Symbol sign.RightParen ∷ rest) in
+      omega (arith, expr_longer l (Symbol (comparison_sign c) ∷ right), expr_longer r (Symbol sign.RightParen ∷ rest), stmt_longer s (Reserved keyword.Else ∷ stmt t after), stmt_longer t after)
+  stmt_longer (For at w lo hi s) after =
+      let upper = number hi (Symbol sign.RightParen ∷ stmt s after) in
+      omega (arith, length-append (number_marks lo) (Symbol sign.DotDot ∷ upper), length-append (number_marks hi) (Symbol sign.RightParen ∷ stmt s after), stmt_longer s after)
+  stmt_longer (Async at cs s) after = omega (arith, clocks_longer cs (stmt s after), stmt_longer s after)
+  stmt_longer (Finish s) after = omega (arith, stmt_longer s after)
+  stmt_longer (Call w at es) after = omega (arith, commas_longer expr expr_longer es (Symbol sign.RightParen ∷ Symbol sign.Semicolon ∷ after))
+  stmt_longer (Resume w v) after = omega arith
+  stmt_longer (Drop w v) after = omega arith
+  stmt_longer (AdvanceAll at v) after = omega arith
+  stmt_longer (Print at v e) after = omega (arith, expr_longer e (Symbol sign.RightParen ∷ Symbol sign.Semicolon ∷ after))
+
+  pub stmts_longer : (ss : Statements) (after : List Mark) → length after ≤ length (stmts ss after)
+  stmts_longer Done after = omega arith
+  stmts_longer (More s ss) after = omega (arith, stmt_longer s (stmts ss after), stmts_longer ss after)

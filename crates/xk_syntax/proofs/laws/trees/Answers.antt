@@ -1,0 +1,5 @@
+use Rattle.xk_syntax.proofs.Texts.{one_tree}
+use Rattle.xk_syntax.proofs.laws.trees.Goals as goal
+
+pub returns : goal.returns
+returns c = one_tree

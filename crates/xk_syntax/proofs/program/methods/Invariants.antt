@@ -1,0 +1,13 @@
+use Rattle.std.proofs.Common.{◌≡◌, [], length, map}
+use Rattle.xk_tokens.specs.declared.token.Keyword.TheVariants as keyword
+use Rattle.xk_tree.specs.Tree.{method_value}
+use Rattle.xk_exprs.specs.Marks.{marks}
+use Rattle.xk_syntax.specs.Readers.{keyword_at, more_at, method_at}
+use Rattle.xk_syntax.proofs.program.methods.Given as goal
+
+-- what is read from here on is what is read from the start
+abbrev pub invariant-loop-after : goal.invariant-loop-after
+invariant-loop-after l = more_at (keyword_at keyword.Def) method_at (map method_value l.methods.items) (marks l.rest) ≡ more_at (keyword_at keyword.Def) method_at [] (marks l.fn.tokens)
+
+abbrev pub decreases-loop-after : goal.decreases-loop-after
+decreases-loop-after l = length l.rest

@@ -1,0 +1,24 @@
+use Rattle.std.proofs.Common.{◌≡◌, ◌+◌, ◌*◌, length, map, []}
+use Rattle.xk_tree.specs.Tree.{statement}
+use Rattle.xk_exprs.specs.Marks.{marks}
+use Rattle.xk_syntax.specs.Readers.{ahead_at, more_at, stmt_at}
+use Rattle.xk_syntax.proofs.stmts.+stmts.Given as goal
+
+abbrev pub decreases-read_stmt : goal.decreases-read_stmt
+decreases-read_stmt l = 3 * l.levels
+
+abbrev pub decreases-read_stmts : goal.decreases-read_stmts
+decreases-read_stmts l = 3 * l.levels + 1
+
+abbrev pub decreases-else_part : goal.decreases-else_part
+decreases-else_part l = 3 * l.levels + 1
+
+abbrev pub decreases-rest_of : goal.decreases-rest_of
+decreases-rest_of l = 3 * l.levels + 2
+
+-- what is read from here on is what is read from the start
+abbrev pub invariant-read_stmts-loop-here : goal.invariant-read_stmts-loop-here
+invariant-read_stmts-loop-here l = more_at ahead_at (stmt_at l.levels) (map statement l.stmts.items) (marks l.rest) ≡ more_at ahead_at (stmt_at l.levels) [] (marks l.fn.tokens)
+
+abbrev pub decreases-read_stmts-loop-here : goal.decreases-read_stmts-loop-here
+decreases-read_stmts-loop-here l = length l.rest

@@ -1,0 +1,29 @@
+-- What the readers give is what is spelled.
+use Rattle.std.specs.Prelude.{◌≡◌, ℕ, true, List, Option, Some, None}
+use Rattle.xk_tokens.specs.declared.token.Keyword.TheVariants as keyword
+use Rattle.xk_tree.specs.Tree.{Statement, TreeValue}
+use Rattle.xk_exprs.specs.Marks.{Mark}
+use Rattle.xk_syntax.specs.Spelling.{stmt, program, dangles, Fits, TreeFits}
+use Rattle.xk_syntax.specs.Readers.{keyword_at, stmt_at, program_at}
+
+-- what follows isn't taken for an `else` of the statement
+abbrev pub Settles : Statement → List Mark → Type 0
+Settles s rest = dangles s ≡ true → keyword_at keyword.Else rest ≡ None
+
+-- a statement that is read is spelled by the tokens taken
+abbrev pub StatementFound : Type 0
+StatementFound = (left : ℕ) (ts : List Mark) (s : Statement) (rest : List Mark)
+    → stmt_at left ts ≡ Some (s, rest) → (ts ≡ stmt s rest) × Fits left s × Settles s rest
+
+-- a statement is read from its spelling, where no `else` follows that it would take
+abbrev pub StatementAgain : Type 0
+StatementAgain = (left : ℕ) (s : Statement) (rest : List Mark)
+    → Fits left s → Settles s rest → stmt_at left (stmt s rest) ≡ Some (s, rest)
+
+-- a program that is read is spelled by the tokens
+abbrev pub ProgramFound : Type 0
+ProgramFound = (ts : List Mark) (t : TreeValue) → program_at ts ≡ Some t → (ts ≡ program t) × TreeFits t
+
+-- a program is read from its spelling
+abbrev pub ProgramAgain : Type 0
+ProgramAgain = (t : TreeValue) → TreeFits t → program_at (program t) ≡ Some t

@@ -1,0 +1,12 @@
+-- A fault of a text means that it spells no tree.
+use Rattle.std.specs.Prelude.{ℕ, List, Result, Ok, Err}
+use Rattle.xk_tree.specs.declared.tree.Tree.{Tree}
+use Rattle.xk_tree.specs.declared.fault.FrontError.{FrontError}
+use Rattle.xk_tree.specs.declared.fault.FrontError.TheVariants as error
+use Rattle.xk_tree.specs.Tree.{TreeValue}
+use Rattle.xk_syntax.specs.Spelling.{SpellsTree}
+
+-- where there is a fault, and not only too little memory, no tree is spelled
+abbrev pub IsRefused : List ℕ → Result Tree FrontError → Type 0
+IsRefused text (Err (error.Fault fault)) = (tree : TreeValue) → ¬ SpellsTree text tree
+IsRefused text _ = Unit {0}

@@ -1,0 +1,185 @@
+//! What stands before the statement, or the statements, that a statement holds.
+
+ghost use Rattle.std.specs.Prelude.{◌≡◌};
+ghost use Rattle.xk_tree.specs.Tree.{statement};
+ghost use Rattle.xk_exprs.specs.Marks.{marks};
+ghost use Rattle.xk_exprs.specs.Readers.{Gives};
+ghost use Rattle.xk_syntax.specs.Readers.{whole, condition_at, range_at, clocks_at, start_at, flat_at, stmt_head_at};
+ghost use Rattle.xk_syntax.specs.Views.{head_value, clocks_value};
+
+use crate::lists::names;
+use crate::parts::{after_keyword, comparison, name, need_keyword, need_open, need_sign};
+use crate::simple::{advance_all, atomic, declaration, named, print};
+use std::alloc::Global;
+use xk_exprs::parts::{next, unexpected};
+use xk_exprs::{read_expr, read_number};
+use xk_tokens::{Keyword, Kind, Sign, Token};
+use xk_tree::{Binding, ClockList, Expr, FrontError, Name, Number, Stmt};
+use xk_types::Comparison;
+
+/// A statement up to the statement that it holds, or up to the statements.
+#[derive(Drop)]
+pub(crate) enum Head<'t> {
+    /// It holds none.
+    Whole(Stmt<'t>),
+    /// `{`
+    Brace,
+    /// `if (l op r)`, with the offset of its `(`.
+    Condition(usize, Expr<'t>, Comparison, Expr<'t>),
+    /// `for (i in a..b)`, with the offset of its `(`.
+    Range(usize, Name<'t>, Number, Number),
+    /// `async`, with its offset, and a list of clocks.
+    Start(usize, Option<ClockList<'t>>),
+    /// `finish`
+    Wait,
+}
+
+/// An `if`, behind that word, up to its statement.
+#[tactic(auto, unfolding(crate::specs::Readers::bind, crate::specs::Readers::condition_at))]
+fn condition<'s, 't>(
+    alloc: Global,
+    levels: u32,
+    tokens: &'s [Token<'t>],
+    end: usize,
+) -> Result<(Head<'t>, &'s [Token<'t>]), FrontError>
+    ensures { Gives (λ x. (head_value x.0, marks x.1.now)) result
+        (condition_at levels (marks tokens.now)) }
+{
+    let (paren, rest) = need_open(tokens, end)?;
+    let (left, rest) = read_expr(alloc, levels, rest, end)?;
+    let (comparison, rest) = comparison(rest, end)?;
+    let (right, rest) = read_expr(alloc, levels, rest, end)?;
+    let rest = need_sign(Sign::RightParen, rest, end)?;
+    Ok((Head::Condition(paren, left, comparison, right), rest))
+}
+
+/// A `for`, behind that word, up to its statement.
+#[tactic(auto, unfolding(crate::specs::Readers::bind, crate::specs::Readers::range_at))]
+fn range<'s, 't>(
+    tokens: &'s [Token<'t>],
+    end: usize,
+) -> Result<(Head<'t>, &'s [Token<'t>]), FrontError>
+    ensures { Gives (λ x. (head_value x.0, marks x.1.now)) result (range_at (marks tokens.now)) }
+{
+    let (paren, rest) = need_open(tokens, end)?;
+    let (name, rest) = name(rest, end)?;
+    let rest = need_keyword(Keyword::In, rest, end)?;
+    let (lo, rest) = read_number(rest, end)?;
+    let rest = need_sign(Sign::DotDot, rest, end)?;
+    let (hi, rest) = read_number(rest, end)?;
+    let rest = need_sign(Sign::RightParen, rest, end)?;
+    Ok((Head::Range(paren, name, lo, hi), rest))
+}
+
+/// A `clocked` list, if there is one.
+#[tactic(auto, unfolding(crate::specs::Readers::bind, crate::specs::Readers::clocks_at))]
+fn clocks<'s, 't>(
+    alloc: Global,
+    tokens: &'s [Token<'t>],
+    end: usize,
+) -> Result<(Option<ClockList<'t>>, &'s [Token<'t>]), FrontError>
+    ensures { Gives (λ x. (clocks_value x.0, marks x.1.now)) result
+        (clocks_at (marks tokens.now)) }
+{
+    match after_keyword(Keyword::Clocked, tokens) {
+        None => Ok((None, tokens)),
+        Some(rest) => {
+            let (paren, rest) = need_open(rest, end)?;
+            let (names, rest) = names(alloc, rest, end)?;
+            let rest = need_sign(Sign::RightParen, rest, end)?;
+            Ok((Some(ClockList { paren, names }), rest))
+        }
+    }
+}
+
+/// An `async`, behind that word, which stands at this offset, up to its statement.
+#[tactic(auto, unfolding(crate::specs::Readers::bind, crate::specs::Readers::start_at))]
+fn start<'s, 't>(
+    alloc: Global,
+    at: usize,
+    tokens: &'s [Token<'t>],
+    end: usize,
+) -> Result<(Head<'t>, &'s [Token<'t>]), FrontError>
+    ensures { Gives (λ x. (head_value x.0, marks x.1.now)) result
+        (start_at at (marks tokens.now)) }
+{
+    let (clocks, rest) = clocks(alloc, tokens, end)?;
+    Ok((Head::Start(at, clocks), rest))
+}
+
+/// A statement that holds none.
+#[tactic(auto, unfolding(crate::specs::Readers::bind, crate::specs::Readers::flat_at))]
+fn flat<'s, 't>(
+    alloc: Global,
+    levels: u32,
+    tokens: &'s [Token<'t>],
+    end: usize,
+) -> Result<(Stmt<'t>, &'s [Token<'t>]), FrontError>
+    ensures { Gives (λ x. (statement x.0, marks x.1.now)) result
+        (flat_at levels (marks tokens.now)) }
+{
+    let Some((token, rest)) = next(tokens) else {
+        return Err(FrontError::Fault(unexpected(tokens, end)));
+    };
+    match token.kind {
+        Kind::Name(text) => named(alloc, levels, Name { at: token.at, text }, rest, end),
+        Kind::Keyword(word) => match word {
+            Keyword::Val => declaration(alloc, levels, Binding::Val, rest, end),
+            Keyword::Var => declaration(alloc, levels, Binding::Var, rest, end),
+            Keyword::Atomic => atomic(alloc, levels, rest, end),
+            Keyword::Console => print(alloc, levels, rest, end),
+            Keyword::Clock => advance_all(token.at, rest, end),
+            _ => Err(FrontError::Fault(unexpected(tokens, end))),
+        },
+        Kind::Sign(sign) => match sign {
+            Sign::Semicolon => Ok((Stmt::Empty, rest)),
+            _ => Err(FrontError::Fault(unexpected(tokens, end))),
+        },
+        _ => Err(FrontError::Fault(unexpected(tokens, end))),
+    }
+}
+
+/// The same, as a head.
+#[tactic(auto, unfolding(crate::specs::Readers::bind))]
+fn whole<'s, 't>(
+    alloc: Global,
+    levels: u32,
+    tokens: &'s [Token<'t>],
+    end: usize,
+) -> Result<(Head<'t>, &'s [Token<'t>]), FrontError>
+    ensures { Gives (λ x. (head_value x.0, marks x.1.now)) result
+        (whole (flat_at levels (marks tokens.now))) }
+{
+    let (stmt, rest) = flat(alloc, levels, tokens, end)?;
+    Ok((Head::Whole(stmt), rest))
+}
+
+/// What a statement begins with, where so many levels are left behind it.
+#[tactic(auto, unfolding(crate::specs::Readers::bind, crate::specs::Readers::stmt_head_at))]
+pub(crate) fn stmt_head<'s, 't>(
+    alloc: Global,
+    levels: u32,
+    tokens: &'s [Token<'t>],
+    end: usize,
+) -> Result<(Head<'t>, &'s [Token<'t>]), FrontError>
+    ensures { Gives (λ x. (head_value x.0, marks x.1.now)) result
+        (stmt_head_at levels (marks tokens.now)) }
+{
+    let Some((token, rest)) = next(tokens) else {
+        return Err(FrontError::Fault(unexpected(tokens, end)));
+    };
+    match token.kind {
+        Kind::Sign(sign) => match sign {
+            Sign::LeftBrace => Ok((Head::Brace, rest)),
+            _ => whole(alloc, levels, tokens, end),
+        },
+        Kind::Keyword(word) => match word {
+            Keyword::If => condition(alloc, levels, rest, end),
+            Keyword::For => range(rest, end),
+            Keyword::Async => start(alloc, token.at, rest, end),
+            Keyword::Finish => Ok((Head::Wait, rest)),
+            _ => whole(alloc, levels, tokens, end),
+        },
+        _ => whole(alloc, levels, tokens, end),
+    }
+}

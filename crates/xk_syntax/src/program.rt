@@ -1,0 +1,158 @@
+//! Methods, shared numbers and programs.
+
+ghost use Rattle.std.specs.Prelude.{◌≡◌, ◌<◌, ℕ, [], length, map, IfOk};
+ghost use Rattle.xk_tokens.specs.declared.token.Keyword.TheVariants as words;
+ghost use Rattle.xk_tree.specs.declared.fault.FrontRule.TheVariants as rule;
+ghost use Rattle.xk_tree.specs.declared.fault.FrontError.TheVariants as error;
+ghost use Rattle.xk_tree.specs.Tree.{method_value, shared_value, tree_value};
+ghost use Rattle.xk_exprs.specs.Marks.{marks};
+ghost use Rattle.xk_exprs.specs.Readers.{Gives};
+ghost use Rattle.xk_syntax.specs.Spelling.{SpellsTree};
+ghost use Rattle.xk_syntax.specs.Texts.{IsRefused};
+ghost use Rattle.xk_syntax.specs.Readers.{keyword_at, more_at, method_at, shared_at, program_at};
+
+use crate::lists::params;
+use crate::parts::{after_keyword, name, need_open, need_sign};
+use crate::stmts::read_stmts;
+use std::alloc::Global;
+use xk_exprs::parts::unexpected;
+use xk_exprs::read_number;
+use xk_tokens::{Keyword, Sign, Token, tokens};
+use xk_tree::{FrontError, FrontFault, FrontRule, Method, Shared, Tree};
+
+/// The longest text, in bytes.
+const MAX_TEXT: usize = 1_048_576;
+
+/// How many statements, parentheses and negations may stand in one another.
+const MAX_LEVELS: u32 = 64;
+
+/// A shared number, behind that word.
+#[tactic(auto, unfolding(crate::specs::Readers::bind, crate::specs::Readers::shared_at))]
+fn shared_number<'s, 't>(
+    tokens: &'s [Token<'t>],
+    end: usize,
+) -> Result<(Shared<'t>, &'s [Token<'t>]), FrontError>
+    ensures { Gives (λ x. (shared_value x.0, marks x.1.now)) result
+        (shared_at (marks tokens.now)) }
+{
+    let (name, rest) = name(tokens, end)?;
+    let rest = need_sign(Sign::Assign, rest, end)?;
+    let (start, rest) = read_number(rest, end)?;
+    let rest = need_sign(Sign::Semicolon, rest, end)?;
+    Ok((Shared { name, start }, rest))
+}
+
+/// No shared numbers yet, and all tokens.
+fn no_shared<'s, 't>(alloc: Global, tokens: &'s [Token<'t>]) -> (Vec<Shared<'t>>, &'s [Token<'t>])
+    ensures none { result.0.items ≡ [] }
+    ensures all { result.1.now ≡ tokens.now }
+{
+    (Vec::new(alloc), tokens)
+}
+
+/// The shared numbers.
+fn shared_numbers<'s, 't>(
+    alloc: Global,
+    tokens: &'s [Token<'t>],
+    end: usize,
+) -> Result<(Vec<Shared<'t>>, &'s [Token<'t>]), FrontError>
+    ensures { Gives (λ x. (map shared_value x.0.items, marks x.1.now)) result
+        (more_at (keyword_at words.Shared) shared_at [] (marks tokens.now)) }
+{
+    let (mut numbers, mut rest) = no_shared(alloc, tokens);
+    while let Some(after) = after_keyword(Keyword::Shared, rest) {
+        let (number, left) = shared_number(after, end)?;
+        numbers.push(number)?;
+        rest = left;
+    }
+    Ok((numbers, rest))
+}
+
+/// A method, behind its `def`.
+#[tactic(auto, unfolding(crate::specs::Readers::bind, crate::specs::Readers::method_at))]
+fn method<'s, 't>(
+    alloc: Global,
+    tokens: &'s [Token<'t>],
+    end: usize,
+) -> Result<(Method<'t>, &'s [Token<'t>]), FrontError>
+    ensures { Gives (λ x. (method_value x.0, marks x.1.now)) result
+        (method_at (marks tokens.now)) }
+{
+    let (name, rest) = name(tokens, end)?;
+    let (paren, rest) = need_open(rest, end)?;
+    let (params, rest) = params(alloc, rest, end)?;
+    let rest = need_sign(Sign::LeftBrace, rest, end)?;
+    let (body, rest) = read_stmts(alloc, MAX_LEVELS, rest, end)?;
+    Ok((
+        Method {
+            name,
+            paren,
+            params,
+            body,
+        },
+        rest,
+    ))
+}
+
+/// No methods yet, and all tokens.
+fn no_methods<'s, 't>(alloc: Global, tokens: &'s [Token<'t>]) -> (Vec<Method<'t>>, &'s [Token<'t>])
+    ensures none { result.0.items ≡ [] }
+    ensures all { result.1.now ≡ tokens.now }
+{
+    (Vec::new(alloc), tokens)
+}
+
+/// The methods.
+fn methods<'s, 't>(
+    alloc: Global,
+    tokens: &'s [Token<'t>],
+    end: usize,
+) -> Result<(Vec<Method<'t>>, &'s [Token<'t>]), FrontError>
+    ensures { Gives (λ x. (map method_value x.0.items, marks x.1.now)) result
+        (more_at (keyword_at words.Def) method_at [] (marks tokens.now)) }
+{
+    let (mut methods, mut rest) = no_methods(alloc, tokens);
+    while let Some(after) = after_keyword(Keyword::Def, rest) {
+        let (method, left) = method(alloc, after, end)?;
+        methods.push(method)?;
+        rest = left;
+    }
+    Ok((methods, rest))
+}
+
+/// A program, which takes all the tokens.
+#[tactic(auto, unfolding(crate::specs::Readers::bind, crate::specs::Readers::program_at))]
+fn program<'t>(
+    alloc: Global,
+    tokens: &[Token<'t>],
+    end: usize,
+) -> Result<Tree<'t>, FrontError>
+    ensures { Gives tree_value result (program_at (marks tokens.now)) }
+{
+    let (shared, rest) = shared_numbers(alloc, tokens, end)?;
+    let (methods, rest) = methods(alloc, rest, end)?;
+    match rest {
+        [] => Ok(Tree { shared, methods }),
+        [..] => Err(FrontError::Fault(unexpected(rest, end))),
+    }
+}
+
+/// The tree that a text spells.
+///
+/// Of the rules F1, F2, F3 and F13 the error names the one that is broken first in the text.
+pub fn parse<'t>(alloc: Global, text: &'t str) -> Result<Tree<'t>, FrontError>
+    ensures spelled { IfOk result (λ tree. SpellsTree text.now (tree_value tree)) }
+    ensures none_spelled { IsRefused text.now result }
+    ensures too_long { 1048576 < length text.now
+        → result ≡ Err (error.Fault (record { rule = rule.TooLong; at = 0 })) }
+{
+    let bytes = text.as_bytes();
+    if bytes.len() > MAX_TEXT {
+        return Err(FrontError::Fault(FrontFault {
+            rule: FrontRule::TooLong,
+            at: 0,
+        }));
+    }
+    let tokens = tokens(alloc, bytes)?;
+    program(alloc, &tokens, bytes.len())
+}

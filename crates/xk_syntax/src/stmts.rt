@@ -1,0 +1,164 @@
+//! Statements, by recursive descent.
+
+ghost use Rattle.std.specs.Prelude.{◌≡◌, [], map};
+ghost use Rattle.xk_tree.specs.Tree.{expression, statement};
+ghost use Rattle.xk_exprs.specs.Marks.{marks};
+ghost use Rattle.xk_exprs.specs.Readers.{Gives};
+ghost use Rattle.xk_syntax.specs.Readers.{stmts_at, else_at, rest_at, stmt_at};
+ghost use Rattle.xk_syntax.specs.Views.{head_value};
+
+use crate::heads::{Head, stmt_head};
+use crate::parts::{after_keyword, ahead, need_sign};
+use std::alloc::Global;
+use xk_exprs::parts::{next, unexpected};
+use xk_tokens::{Keyword, Kind, Sign, Token};
+use xk_tree::{Expr, FrontError, FrontFault, FrontRule, Stmt};
+use xk_types::Comparison;
+
+/// Whether a statement can begin with a token of this kind.
+fn begins_statement(kind: Kind) -> bool {
+    match kind {
+        Kind::Name(_) => true,
+        Kind::Sign(sign) => matches!(sign, Sign::LeftBrace | Sign::Semicolon),
+        Kind::Keyword(word) => matches!(
+            word,
+            Keyword::Val
+                | Keyword::Var
+                | Keyword::Atomic
+                | Keyword::If
+                | Keyword::For
+                | Keyword::Async
+                | Keyword::Finish
+                | Keyword::Clock
+                | Keyword::Console
+        ),
+        _ => false,
+    }
+}
+
+/// The fault of a statement that would stand too deep. Where no statement can begin with its first token, that can't stand there at all.
+fn statement_too_deep(tokens: &[Token], end: usize) -> FrontFault {
+    match next(tokens) {
+        Some((token, _)) if begins_statement(token.kind) => FrontFault {
+            rule: FrontRule::TooDeep,
+            at: token.at,
+        },
+        _ => unexpected(tokens, end),
+    }
+}
+
+/// No statements yet, and all tokens.
+fn no_stmts<'s, 't>(alloc: Global, tokens: &'s [Token<'t>]) -> (Vec<Stmt<'t>>, &'s [Token<'t>])
+    ensures none { result.0.items ≡ [] }
+    ensures all { result.1.now ≡ tokens.now }
+{
+    (Vec::new(alloc), tokens)
+}
+
+/// Statements up to a `}`, and that.
+#[cycle(stmts)]
+#[tactic(auto, unfolding(crate::specs::Readers::bind, crate::specs::Readers::stmts_at))]
+pub(crate) fn read_stmts<'s, 't>(
+    alloc: Global,
+    levels: u32,
+    tokens: &'s [Token<'t>],
+    end: usize,
+) -> Result<(Vec<Stmt<'t>>, &'s [Token<'t>]), FrontError>
+    ensures { Gives (λ x. (map statement x.0.items, marks x.1.now)) result
+        (stmts_at (stmt_at levels) (marks tokens.now)) }
+{
+    let (mut stmts, mut rest) = no_stmts(alloc, tokens);
+    while let Some(here) = ahead(rest) {
+        let (stmt, left) = read_stmt(alloc, levels, here, end)?;
+        stmts.push(stmt)?;
+        rest = left;
+    }
+    let after = need_sign(Sign::RightBrace, rest, end)?;
+    Ok((stmts, after))
+}
+
+/// An `if`, behind its statement.
+#[cycle(stmts)]
+#[tactic(auto, unfolding(crate::specs::Readers::bind, crate::specs::Readers::else_at))]
+fn else_part<'s, 't>(
+    alloc: Global,
+    levels: u32,
+    paren: usize,
+    left: Expr<'t>,
+    comparison: Comparison,
+    right: Expr<'t>,
+    stmt: Stmt<'t>,
+    tokens: &'s [Token<'t>],
+    end: usize,
+) -> Result<(Stmt<'t>, &'s [Token<'t>]), FrontError>
+    ensures { Gives (λ x. (statement x.0, marks x.1.now)) result
+        (else_at (stmt_at levels) paren (expression left.entry) comparison (expression right.entry) (statement stmt.entry) (marks tokens.now)) }
+{
+    let stmt = Box::new(alloc, stmt)?;
+    match after_keyword(Keyword::Else, tokens) {
+        None => Ok((Stmt::If(paren, left, comparison, right, stmt), tokens)),
+        Some(rest) => {
+            let (other, rest) = read_stmt(alloc, levels, rest, end)?;
+            let other = Box::new(alloc, other)?;
+            Ok((Stmt::IfElse(paren, left, comparison, right, stmt, other), rest))
+        }
+    }
+}
+
+/// The rest of a statement that begins with this head.
+#[cycle(stmts)]
+#[tactic(auto, unfolding(crate::specs::Readers::bind, crate::specs::Readers::rest_at))]
+fn rest_of<'s, 't>(
+    alloc: Global,
+    levels: u32,
+    head: Head<'t>,
+    tokens: &'s [Token<'t>],
+    end: usize,
+) -> Result<(Stmt<'t>, &'s [Token<'t>]), FrontError>
+    ensures { Gives (λ x. (statement x.0, marks x.1.now)) result
+        (rest_at (stmt_at levels) (head_value head.entry) (marks tokens.now)) }
+{
+    match head {
+        Head::Whole(stmt) => Ok((stmt, tokens)),
+        Head::Brace => {
+            let (stmts, rest) = read_stmts(alloc, levels, tokens, end)?;
+            Ok((Stmt::Block(stmts), rest))
+        }
+        Head::Condition(paren, left, comparison, right) => {
+            let (stmt, rest) = read_stmt(alloc, levels, tokens, end)?;
+            else_part(alloc, levels, paren, left, comparison, right, stmt, rest, end)
+        }
+        Head::Range(paren, name, lo, hi) => {
+            let (stmt, rest) = read_stmt(alloc, levels, tokens, end)?;
+            Ok((Stmt::For(paren, name, lo, hi, Box::new(alloc, stmt)?), rest))
+        }
+        Head::Start(at, clocks) => {
+            let (stmt, rest) = read_stmt(alloc, levels, tokens, end)?;
+            Ok((Stmt::Async(at, clocks, Box::new(alloc, stmt)?), rest))
+        }
+        Head::Wait => {
+            let (stmt, rest) = read_stmt(alloc, levels, tokens, end)?;
+            Ok((Stmt::Finish(Box::new(alloc, stmt)?), rest))
+        }
+    }
+}
+
+/// A statement, where so many levels are left, itself among them, and the tokens after it.
+#[cycle(stmts)]
+#[tactic(auto, unfolding(crate::specs::Readers::bind, crate::specs::Readers::stmt_at))]
+pub(crate) fn read_stmt<'s, 't>(
+    alloc: Global,
+    levels: u32,
+    tokens: &'s [Token<'t>],
+    end: usize,
+) -> Result<(Stmt<'t>, &'s [Token<'t>]), FrontError>
+    ensures { Gives (λ x. (statement x.0, marks x.1.now)) result
+        (stmt_at levels (marks tokens.now)) }
+{
+    if levels == 0 {
+        return Err(FrontError::Fault(statement_too_deep(tokens, end)));
+    }
+    let levels = levels - 1;
+    let (head, rest) = stmt_head(alloc, levels, tokens, end)?;
+    rest_of(alloc, levels, head, rest, end)
+}
