@@ -1,27 +1,22 @@
 -- A statement that holds none is read again from its spelling.
-use Rattle.std.proofs.Common.{◌≡◌, ℕ, suc, List, [], ◌∷◌, ◌++◌, length, Option, Some, None, codes, true, false, refl, sym, ap, subst, ◌∙◌, append_assoc}
+use Rattle.std.proofs.Common.{◌≡◌, ℕ, suc, List, [], ◌∷◌, ◌++◌, Option, Some, None, codes, refl, ap, ◌∙◌}
 use Rattle.std.specs.List.{AllByRecursion}
-use Rattle.xk_types.specs.declared.instr.Comparison.{Comparison}
-use Rattle.xk_types.specs.declared.instr.Comparison.TheVariants as comparison
 use Rattle.xk_types.specs.declared.unit.ParamKind.{ParamKind}
 use Rattle.xk_types.specs.declared.unit.ParamKind.TheVariants as kind
-use Rattle.xk_tokens.specs.declared.token.Sign.{Sign}
 use Rattle.xk_tokens.specs.declared.token.Sign.TheVariants as sign
-use Rattle.xk_tokens.specs.declared.token.Keyword.TheVariants as keyword
 use Rattle.xk_tree.specs.declared.tree.Operator.TheVariants as operator
 use Rattle.xk_tree.specs.declared.tree.Binding.{Binding}
 use Rattle.xk_tree.specs.declared.tree.Binding.TheVariants as binding
-use Rattle.xk_tree.specs.declared.tree.Number as tree
 use Rattle.xk_tree.specs.declared.tree.TypeName.{TypeName}
 use Rattle.xk_tree.specs.declared.tree.Verb.{Verb}
-use Rattle.xk_tree.specs.Tree.{Word, Expression, Literal, Named, Paren, Negation, Binary, Source, Make, Value, Statement, Empty, Declare, Assign, Atomic, Call, Resume, Drop, AdvanceAll, Print, ParamValue}
+use Rattle.xk_tree.specs.Tree.{Word, Expression, Literal, Named, Paren, Negation, Binary, Source, Make, Value, Statement, Empty, Declare, Assign, Atomic, Call, Resume, Drop, AdvanceAll, Print}
 use Rattle.xk_exprs.specs.Marks.{Mark, Name, Number, Operator, Open, Symbol, Reserved, AsyncAt, ClockAt, LongAt, Unfit}
-use Rattle.xk_exprs.specs.Spelling.{spell, number_marks, minus_marks}
-use Rattle.xk_exprs.specs.Exprs.{whole_at, whole_term_at}
+use Rattle.xk_exprs.specs.Spelling.{spell, minus_marks}
+use Rattle.xk_exprs.specs.Exprs.{whole_at}
 use Rattle.xk_exprs.proofs.Again.{expression_again, term_again}
-use Rattle.xk_syntax.specs.Spelling.{word, expr, type_mark, type_name, type_part, verb, source, row, behind_comma, commas, stmt, param, IsExpr, IsTerm, SourceFits, Fits}
-use Rattle.xk_syntax.specs.Readers.{◌>>=◌, bind, sign_at, open_at, plus_at, clock_at, word_at, this_word_at, type_at, verb_at, bare_verb_at, act_at, type_part_at, source_or, source_at, declare_at, atomic_at, advance_at, print_head_at, print_at, call_at, dotted_at, assign_at, named_at, flat_at, listed_at, param_at}
-use Rattle.xk_syntax.proofs.Turns.{Takes, expr_takes}
+use Rattle.xk_syntax.specs.Spelling.{word, expr, type_mark, type_name, type_part, verb, source, commas, stmt, param, IsExpr, IsTerm, SourceFits, Fits}
+use Rattle.xk_syntax.specs.Readers.{bind, sign_at, open_at, plus_at, clock_at, word_at, this_word_at, type_at, verb_at, bare_verb_at, act_at, type_part_at, source_or, source_at, declare_at, atomic_at, advance_at, print_head_at, print_at, call_at, dotted_at, assign_at, named_at, flat_at, param_at}
+use Rattle.xk_syntax.proofs.Turns.{expr_takes}
 use Rattle.xk_syntax.proofs.Rows.{ItemAgain, NotClosing, listed_again}
 
 -- ---- how expressions begin

@@ -1,10 +1,8 @@
 -- What is read is spelled by the tokens that were taken.
-use Rattle.std.proofs.Common.{◌≡◌, ℕ, suc, ◌<◌, ◌≤◌, ◌+◌, List, [], ◌∷◌, ◌++◌, length, map, Option, Some, None, codes, Bool, cond, true, false, refl, sym, ap, subst, ◌∙◌, arith, length-append}
+use Rattle.std.proofs.Common.{◌≡◌, ℕ, suc, List, [], ◌∷◌, ◌++◌, length, Option, Some, None, codes, true, false, refl, sym, ap, subst, ◌∙◌, arith}
 use Rattle.std.specs.Str.{bytes_eq}
 use Rattle.std.proofs.lemmas.Slice.Eq.{bytes_eq-Decides}
 use Rattle.xk_types.specs.declared.instr.Comparison.{Comparison}
-use Rattle.xk_types.specs.declared.instr.Comparison.TheVariants as comparison
-use Rattle.xk_types.specs.declared.unit.ParamKind.TheVariants as kind
 use Rattle.xk_tokens.specs.declared.token.Sign.{Sign}
 use Rattle.xk_tokens.specs.declared.token.Sign.TheVariants as sign
 use Rattle.xk_tokens.specs.contracts.token.Sign as signs
@@ -16,13 +14,13 @@ use Rattle.xk_tree.specs.declared.tree.Operator.TheVariants as operator
 use Rattle.xk_tree.specs.declared.tree.TypeName.{TypeName}
 use Rattle.xk_tree.specs.declared.tree.Verb.{Verb}
 use Rattle.xk_tree.specs.declared.tree.Binding.{Binding}
-use Rattle.xk_tree.specs.Tree.{Word, Expression, Source, Make, Value, Statement, Declare, Assign, Atomic, Call, Resume, Drop, AdvanceAll, Print, ParamValue}
-use Rattle.xk_exprs.specs.Marks.{Mark, Name, Number, Operator, Open, Symbol, Reserved, AsyncAt, ClockAt, LongAt, Unfit, sign_mark, keyword_mark}
+use Rattle.xk_tree.specs.Tree.{Word, Expression, Source, Statement, ParamValue}
+use Rattle.xk_exprs.specs.Marks.{Mark, Name, Operator, Open, Symbol, Reserved, AsyncAt, ClockAt, LongAt, sign_mark, keyword_mark}
 use Rattle.xk_exprs.specs.Spelling.{Spells, SpellsTerm}
 use Rattle.xk_exprs.specs.Exprs.{whole_at, whole_term_at}
 use Rattle.xk_exprs.proofs.Takes.{expression_found, term_found}
 use Rattle.xk_syntax.specs.Spelling.{word, expr, comparison_sign, binding_word, type_name, type_part, verb, source, stmt, param, IsExpr, IsTerm, SourceFits, Fits, dangles}
-use Rattle.xk_syntax.specs.Readers.{◌>>=◌, bind, operator_sign, sign_of, sign_by, sign_at, keyword_of, keyword_by, keyword_at, open_at, plus_at, clock_at, word_at, this_word, this_word_at, comparison_of, comparison_by, comparison_at, type_at, verb_at, bare_verb_at, act_at, type_part_or, type_part_at, source_or, source_at, ended, declare_at, atomic_at, advance_at, print_head_at, print_at, dotted_or, dotted_at, assign_at, param_at}
+use Rattle.xk_syntax.specs.Readers.{bind, sign_at, keyword_at, open_at, plus_at, clock_at, word_at, this_word_at, comparison_at, type_at, verb_at, bare_verb_at, act_at, type_part_or, type_part_at, source_or, source_at, ended, declare_at, atomic_at, advance_at, print_head_at, print_at, dotted_or, dotted_at, assign_at, param_at}
 use Rattle.xk_syntax.proofs.Lengths.{type_longer}
 use Rattle.xk_syntax.proofs.Turns.{bind_some, some_is, guard_some, Takes}
 

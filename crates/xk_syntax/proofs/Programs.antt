@@ -1,22 +1,21 @@
 -- Methods, shared numbers and programs are read exactly where they are spelled.
-use Rattle.std.proofs.Common.{◌≡◌, ℕ, zero, suc, ◌<◌, ◌≤◌, List, [], ◌∷◌, ◌++◌, length, Option, Some, None, refl, sym, ap, subst, ◌∙◌, arith, length-append}
+use Rattle.std.proofs.Common.{◌≡◌, ◌<◌, List, [], ◌∷◌, length, Some, None, refl, sym, ap, subst, ◌∙◌, arith, length-append}
 use Rattle.std.specs.List.{AllByRecursion}
 use Rattle.xk_tokens.specs.declared.token.Sign.TheVariants as sign
 use Rattle.xk_tokens.specs.declared.token.Keyword.TheVariants as keyword
-use Rattle.xk_tree.specs.Tree.{Statement, Statements, listed, ParamValue, MethodValue, SharedValue, TreeValue}
+use Rattle.xk_tree.specs.Tree.{Statements, listed, ParamValue, MethodValue, SharedValue, TreeValue}
 use Rattle.xk_exprs.specs.Marks.{Mark, Open, Symbol, Reserved}
 use Rattle.xk_exprs.specs.Spelling.{number_marks}
-use Rattle.xk_exprs.specs.Exprs.{number_at}
 use Rattle.xk_exprs.proofs.Numbers.{number_found, number_again}
 use Rattle.xk_syntax.specs.Spelling.{word, number, row, commas, stmts, param, method, shared, program, SharedFits, MethodFits, TreeFits}
-use Rattle.xk_syntax.specs.Readers.{◌>>=◌, bind, sign_at, keyword_at, open_at, word_at, listed_at, more_at, stmts_at, stmt_at, param_at, method_at, shared_at, no_more, program_at}
+use Rattle.xk_syntax.specs.Readers.{bind, sign_at, keyword_at, open_at, word_at, stmt_at, param_at, method_at, shared_at, no_more, program_at}
 use Rattle.xk_syntax.specs.Laws.{ProgramFound, ProgramAgain}
 use Rattle.xk_syntax.proofs.Turns.{Shortens, bind_some, some_is}
 use Rattle.xk_syntax.proofs.Lengths.{Longer, commas_longer, stmts_longer}
 use Rattle.xk_syntax.proofs.Found.{sign_is, keyword_is, open_is, word_is, param_found, param_takes}
 use Rattle.xk_syntax.proofs.Rows.{EachFound, more_found, EachAgain, more_again, listed_found, listed_again}
 use Rattle.xk_syntax.proofs.Flat.{param_again, param_not_closing}
-use Rattle.xk_syntax.proofs.Statements.{stmt_found, stmts_found, stmt_shortens, stmt_again, stmts_again, unlisted, listed_unlisted}
+use Rattle.xk_syntax.proofs.Statements.{stmt_found, stmts_found, stmt_shortens, stmt_again, stmts_again, listed_unlisted}
 
 -- ---- shared numbers
 
@@ -35,7 +34,7 @@ shared_found ts us x h e =
     let first : ts ≡ Reserved keyword.Shared ∷ word w.0.0 (Symbol sign.Assign ∷ vs.0) = cc in
     let rest : vs.0 ≡ number n.0.0 (Symbol sign.Semicolon ∷ zs.0) = f.0 ∙ ap (number n.0.0) s in
     subst (λ (z : SharedValue × List Mark). (ts ≡ shared z.0 z.1) × SharedFits z.0) (some_is _ x zs.2)
-      (first ∙ ap (λ (z : List Mark). Reserved keyword.Shared ∷ word w.0.0 (Symbol sign.Assign ∷ z)) rest, f.1)
+    (first ∙ ap (λ (z : List Mark). Reserved keyword.Shared ∷ word w.0.0 (Symbol sign.Assign ∷ z)) rest, f.1)
 
 shared_longer : (s : SharedValue) (after : List Mark) → length after < length (shared s after)
 shared_longer s after = omega (arith, length-append (number_marks s.start) (Symbol sign.Semicolon ∷ after))
@@ -72,7 +71,7 @@ method_found ts us x h e =
     let body : ps.0.1 ≡ Symbol sign.LeftBrace ∷ stmts (listed ss.0.0) (Symbol sign.RightBrace ∷ ss.0.1) = s ∙ ap (λ (z : List Mark). Symbol sign.LeftBrace ∷ z) g.0 in
     let rest : at.0.1 ≡ commas param ps.0.0 (Symbol sign.RightParen ∷ Symbol sign.LeftBrace ∷ stmts (listed ss.0.0) (Symbol sign.RightBrace ∷ ss.0.1)) = f.0 ∙ ap (λ (z : List Mark). commas param ps.0.0 (Symbol sign.RightParen ∷ z)) body in
     subst (λ (z : MethodValue × List Mark). (ts ≡ method z.0 z.1) × MethodFits z.0) (some_is _ x ss.2)
-      (first ∙ ap (λ (z : List Mark). Reserved keyword.Def ∷ word w.0.0 (Open at.0.0 ∷ z)) rest, g.1)
+    (first ∙ ap (λ (z : List Mark). Reserved keyword.Def ∷ word w.0.0 (Open at.0.0 ∷ z)) rest, g.1)
 
 param_longer : Longer param
 param_longer p after = omega arith
@@ -123,7 +122,7 @@ program_found ts t e =
     let p : ts ≡ row shared ss.0.0 ss.0.1 = f.spelled ∙ ap (λ (l : List SharedValue). row shared l ss.0.1) (sym fs) in
     let q : ss.0.1 ≡ row method ms.0.0 [] = g.spelled ∙ ap (λ (l : List MethodValue). row method l ms.0.1) (sym gs) ∙ ap (row method ms.0.0) all.0 in
     subst (λ (z : TreeValue). (ts ≡ program z) × TreeFits z) all.1
-      (p ∙ ap (row shared ss.0.0) q, record { shared_fit = subst (AllByRecursion SharedFits) (sym fs) f.each; methods_fit = subst (AllByRecursion MethodFits) (sym gs) g.each })
+    (p ∙ ap (row shared ss.0.0) q, record { shared_fit = subst (AllByRecursion SharedFits) (sym fs) f.each; methods_fit = subst (AllByRecursion MethodFits) (sym gs) g.each })
 
 no_shared : (ms : List MethodValue) → keyword_at keyword.Shared (row method ms []) ≡ None
 unfolding keyword_at

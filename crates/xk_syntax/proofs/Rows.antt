@@ -1,14 +1,14 @@
 -- Loops read what is spelled one after another.
-use Rattle.std.proofs.Common.{◌≡◌, ◌≢◌, ℕ, suc, ◌<◌, List, [], ◌∷◌, ◌++◌, length, Option, Some, None, refl, sym, ap, subst, ◌∙◌, append_assoc}
+use Rattle.std.proofs.Common.{◌≡◌, ◌≢◌, List, [], ◌∷◌, ◌++◌, Option, Some, None, refl, sym, ap, subst, ◌∙◌, append_assoc}
 use Rattle.std.proofs.lemmas.List.{append-nil}
 use Rattle.std.specs.List.{AllByRecursion}
 use Rattle.xk_tokens.specs.declared.token.Sign.{Sign}
 use Rattle.xk_tokens.specs.declared.token.Sign.TheVariants as sign
 use Rattle.xk_exprs.specs.Marks.{Mark, Symbol}
-use Rattle.xk_exprs.specs.Readers.{Turn, Fails, Stops, Goes, loop}
+use Rattle.xk_exprs.specs.Readers.{Goes}
 use Rattle.xk_exprs.proofs.Loops.{loop_goes, loop_stops, loop_keeps}
 use Rattle.xk_syntax.specs.Spelling.{row, behind_comma, commas}
-use Rattle.xk_syntax.specs.Readers.{◌>>=◌, bind, sign_at, pushed, one_more, next_item, more_at, commas_at, listed_or, listed_at}
+use Rattle.xk_syntax.specs.Readers.{bind, sign_at, pushed, one_more, next_item, more_at, commas_at, listed_or, listed_at}
 use Rattle.xk_syntax.proofs.Turns.{Reader, Shortens, Takes, bind_some, some_is, turn_shrinks, comma_shortens}
 use Rattle.xk_syntax.proofs.Found.{sign_is}
 
@@ -28,6 +28,7 @@ turn_goes {T = T} goes_on item xs ts ys us e = by (goes_on ts) refl e
     inner : (after : List Mark) → goes_on ts ≡ Some after → (o : Option (T × List Mark)) → item after ≡ o → pushed xs o ≡ Goes ys us → (after : List Mark) × (x : T × List Mark) × (goes_on ts ≡ Some after) × (item after ≡ Some x) × (ys ≡ xs ++ x.0 ∷ []) × (us ≡ x.1)
     inner after h None k e = absurd cc
     inner after h (Some x) k e = (after, x, h, k, cc, cc)
+
     by : (o : Option (List Mark)) → goes_on ts ≡ o → one_more item xs o ≡ Goes ys us → (after : List Mark) × (x : T × List Mark) × (goes_on ts ≡ Some after) × (item after ≡ Some x) × (ys ≡ xs ++ x.0 ∷ []) × (us ≡ x.1)
     by None h e = absurd cc
     by (Some after) h e = inner after h (item after) refl e
@@ -48,18 +49,18 @@ one_found f P xs ts ys us x zs m e p z = record {
   others = m.others ++ x.0 ∷ [];
   all = z ∙ ap (λ (l : List _). l ++ x.0 ∷ []) m.all ∙ append_assoc xs m.others (x.0 ∷ []);
   spelled = m.spelled ∙ ap (row f m.others) e ∙ sym (row-snoc f m.others x.0 x.1);
-  each = all-snoc P m.others x.0 m.each p
+  each = all-snoc P m.others x.0 m.each p;
 }
 
 pub more_found : {T : Type 0} (goes_on : List Mark → Option (List Mark)) (item : Reader T) (f : T → List Mark → List Mark) (P : T → Type 0) → EachFound goes_on item f P → (xs : List T) (ts : List Mark) (r : List T × List Mark) → more_at goes_on item xs ts ≡ Some r → MoreFound T f P xs ts r.0 r.1
 unfolding more_at
 more_found {T = T} goes_on item f P each xs ts r e =
     loop_keeps (next_item goes_on item) (λ ys us. MoreFound T f P xs ts ys us)
-      (λ ys us zs vs m g.
-        let t = turn_goes goes_on item ys us zs vs g in
-        let h = each us t.0 t.1 t.2 t.3 in
-        subst (λ (l : List Mark). MoreFound T f P xs ts zs l) (sym t.5) (one_found f P xs ts ys us t.1 zs m h.0 h.1 t.4))
-      xs ts r (record { others = []; all = sym (append-nil xs); spelled = refl; each = tt }) e
+    (λ ys us zs vs m g.
+    let t = turn_goes goes_on item ys us zs vs g in
+    let h = each us t.0 t.1 t.2 t.3 in
+    subst (λ (l : List Mark). MoreFound T f P xs ts zs l) (sym t.5) (one_found f P xs ts ys us t.1 zs m h.0 h.1 t.4))
+    xs ts r (record { others = []; all = sym (append-nil xs); spelled = refl; each = tt }) e
 
 -- each of these things is read again where what follows stands behind it
 abbrev pub EachAgain : {T : Type 0} → (List Mark → Option (List Mark)) → Reader T → (T → List Mark → List Mark) → List T → List Mark → Type 0
@@ -101,7 +102,7 @@ commas_found {T = T} item f P each ts r e =
     record {
       spelled = first.0 ∙ ap (f a.0.0) m.spelled ∙ ap (λ (l : List T). commas f l r.1) (sym all);
       each = subst (AllByRecursion P) (sym all) (first.1, m.each);
-      some = not_empty a.0.0 m.others r.0 all
+      some = not_empty a.0.0 m.others r.0 all;
     }
 
 pub listed_found : {T : Type 0} (item : Reader T) (f : T → List Mark → List Mark) (P : T → Type 0) → ItemFound item f P → (ts : List Mark) (r : List T × List Mark) → listed_at item ts ≡ Some r → (ts ≡ commas f r.0 (Symbol sign.RightParen ∷ r.1)) × AllByRecursion P r.0
@@ -145,7 +146,7 @@ unfolding commas_at bind
 commas_again item f P takes again [] after h some = absurd (some refl)
 commas_again item f P takes again (x ∷ xs) after h some =
     rw (item_again item f P again x xs after h.0)
-      (more_again (sign_at sign.Comma) item (behind_comma f) (comma_shortens item takes) (x ∷ []) xs (Symbol sign.RightParen ∷ after) (each_again item f P again xs after h.1) (comma_stops after))
+    (more_again (sign_at sign.Comma) item (behind_comma f) (comma_shortens item takes) (x ∷ []) xs (Symbol sign.RightParen ∷ after) (each_again item f P again xs after h.1) (comma_stops after))
 
 -- no item begins with a `)`
 abbrev pub NotClosing : {T : Type 0} → (T → List Mark → List Mark) → Type 0

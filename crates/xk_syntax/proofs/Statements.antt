@@ -1,32 +1,27 @@
 -- Statements are read exactly where they are spelled.
-use Rattle.std.proofs.Common.{◌≡◌, ◌≢◌, ℕ, zero, suc, ◌<◌, ◌≤◌, List, [], ◌∷◌, ◌++◌, length, Option, Some, None, Bool, true, false, refl, sym, ap, subst, ◌∙◌, arith, length-append}
+use Rattle.std.proofs.Common.{◌≡◌, ℕ, zero, suc, List, [], ◌∷◌, length, Option, Some, None, Bool, true, false, refl, sym, ap, subst, ◌∙◌, arith}
 use Rattle.std.specs.List.{AllByRecursion}
 use Rattle.xk_types.specs.declared.instr.Comparison.{Comparison}
 use Rattle.xk_types.specs.declared.instr.Comparison.TheVariants as comparison
-use Rattle.xk_types.specs.declared.unit.ParamKind.TheVariants as kind
-use Rattle.xk_tokens.specs.declared.token.Sign.{Sign}
 use Rattle.xk_tokens.specs.declared.token.Sign.TheVariants as sign
-use Rattle.xk_tokens.specs.declared.token.Keyword.{Keyword}
 use Rattle.xk_tokens.specs.declared.token.Keyword.TheVariants as keyword
 use Rattle.xk_tree.specs.declared.tree.Binding.TheVariants as binding
 use Rattle.xk_tree.specs.declared.tree.Number as tree
-use Rattle.xk_tree.specs.declared.tree.TypeName.{TypeName}
-use Rattle.xk_tree.specs.declared.tree.Verb.{Verb}
-use Rattle.xk_tree.specs.Tree.{Word, Expression, Source, Make, Value, Clocks, Statement, Statements, Done, More, listed, Block, Empty, Declare, Assign, Atomic, If, IfElse, For, Async, Finish, Call, Resume, Drop, AdvanceAll, Print}
-use Rattle.xk_exprs.specs.Marks.{Mark, Name, Number, Operator, Open, Symbol, Reserved, AsyncAt, ClockAt, LongAt, Unfit}
+use Rattle.xk_tree.specs.Tree.{Word, Expression, Clocks, Statement, Statements, Done, More, listed, Block, Empty, Declare, Assign, Atomic, If, IfElse, For, Async, Finish, Call, Resume, Drop, AdvanceAll, Print}
+use Rattle.xk_exprs.specs.Marks.{Mark, Name, Open, Symbol, Reserved, AsyncAt, ClockAt}
 use Rattle.xk_tree.specs.declared.fault.FrontError.{FrontError}
 use Rattle.xk_tree.specs.declared.fault.FrontError.TheVariants as error
-use Rattle.xk_exprs.specs.Readers.{Refuses, head_at}
-use Rattle.xk_exprs.specs.Spelling.{spell, number_marks, IsNumber}
-use Rattle.xk_exprs.specs.Exprs.{number_at, whole_at}
+use Rattle.xk_exprs.specs.Readers.{Refuses}
+use Rattle.xk_exprs.specs.Spelling.{IsNumber}
+use Rattle.xk_exprs.specs.Exprs.{whole_at}
 use Rattle.xk_exprs.proofs.Numbers.{number_found, number_again}
-use Rattle.xk_syntax.specs.Spelling.{word, number, expr, comparison_sign, row, commas, clock_part, stmt, stmts, dangles, IsExpr, ClocksFit, Fits, AllFit}
+use Rattle.xk_syntax.specs.Spelling.{word, number, expr, comparison_sign, row, clock_part, stmt, stmts, dangles, IsExpr, ClocksFit, Fits, AllFit}
 use Rattle.xk_syntax.specs.Laws.{Settles, StatementFound, StatementAgain}
-use Rattle.xk_syntax.specs.Readers.{◌>>=◌, bind, sign_at, keyword_at, open_at, word_at, comparison_at, commas_at, more_at, Read, call_at, undotted, named_or, named_at, flat_by, flat_at, Head, Whole, Brace, Condition, Range, Start, Wait, ReadHead, whole, condition_at, range_at, clocks_or, clocks_at, start_at, head_by, stmt_head_at, ahead_or, ahead_at, stmts_at, else_or, else_at, rest_at, stmt_at}
-use Rattle.xk_syntax.proofs.Turns.{Reader, Shortens, Takes, bind_some, some_is, word_takes, more_refused, no_more}
+use Rattle.xk_syntax.specs.Readers.{bind, sign_at, keyword_at, open_at, word_at, comparison_at, more_at, Read, call_at, undotted, named_or, named_at, flat_by, flat_at, Head, Whole, Brace, Condition, Range, Start, Wait, whole, condition_at, range_at, clocks_or, clocks_at, start_at, head_by, stmt_head_at, ahead_or, ahead_at, stmts_at, else_or, else_at, rest_at, stmt_at}
+use Rattle.xk_syntax.proofs.Turns.{Shortens, bind_some, some_is, word_takes, more_refused, no_more}
 use Rattle.xk_syntax.proofs.Found.{sign_is, keyword_is, open_is, word_is, comparison_is, expr_is, IsFlat, flat_ended, declare_found, atomic_found, advance_found, print_found, dotted_found, assign_found}
 use Rattle.xk_syntax.proofs.Lengths.{stmt_longer}
-use Rattle.xk_syntax.proofs.Rows.{listed_found, EachFound, MoreFound, more_found, EachAgain, more_again, ItemAgain, commas_found, commas_again}
+use Rattle.xk_syntax.proofs.Rows.{listed_found, EachFound, more_found, EachAgain, more_again, ItemAgain, commas_found, commas_again}
 use Rattle.xk_syntax.proofs.Flat.{HoldsNone, expr_again, flat_again}
 
 -- ---- heads
@@ -68,6 +63,7 @@ named_found d w ts x e = by (open_at ts) refl e
     dotted : (o : Option (List Mark)) → sign_at sign.Dot ts ≡ o → undotted d w ts o ≡ Some x → IsFlat d (word w ts) x
     dotted None h e = assign_found d w ts x e
     dotted (Some us) h e = subst (λ (z : List Mark). IsFlat d (word w z) x) (sym (sign_is sign.Dot refl ts us h)) (dotted_found d w us x e)
+
     by : (o : Option (ℕ × List Mark)) → open_at ts ≡ o → named_or d w ts o ≡ Some x → IsFlat d (word w ts) x
     by None h e = dotted (sign_at sign.Dot ts) refl e
     by (Some at) h e = subst (λ (z : List Mark). IsFlat d (word w z) x) (sym (open_is ts at h)) (call_found d w at x e)
@@ -205,7 +201,7 @@ stmts_found d inner f ts x e =
     let all : ss.0.0 ≡ m.others = m.all in
     let q = sign_is sign.RightBrace refl ss.0.1 us.0 us.1 in
     let p : ts ≡ stmts (listed ss.0.0) (Symbol sign.RightBrace ∷ us.0) =
-        m.spelled ∙ ap (λ (l : List Statement). row stmt l ss.0.1) (sym all) ∙ stmts_row ss.0.0 ss.0.1 ∙ ap (stmts (listed ss.0.0)) q in
+    m.spelled ∙ ap (λ (l : List Statement). row stmt l ss.0.1) (sym all) ∙ stmts_row ss.0.0 ss.0.1 ∙ ap (stmts (listed ss.0.0)) q in
     subst (λ (z : List Statement × List Mark). (ts ≡ stmts (listed z.0) (Symbol sign.RightBrace ∷ z.1)) × AllFit d (listed z.0)) (some_is _ x us.2) (p, all_fit d ss.0.0 (subst (AllByRecursion (Fits d)) (sym all) m.each))
 
 apart : (b : Bool) → b ≡ false → b ≡ true → ⊥

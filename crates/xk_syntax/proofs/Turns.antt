@@ -1,21 +1,19 @@
 -- What loops over lists have read so far.
-use Rattle.std.proofs.Common.{◌≡◌, ℕ, suc, ◌<◌, ◌≤◌, ◌+◌, List, [], ◌∷◌, ◌++◌, length, map, Option, Some, None, Bool, cond, true, false, refl, sym, ap, subst, ◌∙◌, arith, length-append}
+use Rattle.std.proofs.Common.{◌≡◌, ℕ, suc, ◌<◌, ◌≤◌, List, [], ◌∷◌, ◌++◌, length, Option, Some, None, Bool, cond, true, false, refl, sym, ap, ◌∙◌, arith, length-append}
 use Rattle.std.proofs.lemmas.List.{length-map}
 use Rattle.xk_tokens.specs.declared.token.Token.{Token}
 use Rattle.xk_tokens.specs.declared.token.Sign.{Sign}
 use Rattle.xk_tokens.specs.declared.token.Sign.TheVariants as sign
-use Rattle.xk_tokens.specs.declared.token.Keyword.{Keyword}
 use Rattle.xk_tokens.specs.contracts.token.Sign as signs
 use denote.Enum.Bare.{sameb}
-use Rattle.xk_tree.specs.declared.tree.Verb.{Verb}
 use Rattle.xk_tree.specs.declared.fault.FrontError.{FrontError}
 use Rattle.xk_tree.specs.declared.fault.FrontError.TheVariants as error
 use Rattle.xk_tree.specs.Tree.{Word}
 use Rattle.xk_exprs.specs.Marks.{Mark, mark, marks, Name}
-use Rattle.xk_exprs.specs.Readers.{Turn, Fails, Stops, Goes, Refuses, loop}
+use Rattle.xk_exprs.specs.Readers.{Goes, Refuses, loop}
 use Rattle.xk_exprs.specs.Exprs.{whole_at}
-use Rattle.xk_exprs.proofs.Loops.{loop_goes, loop_stops, loop_fails, loop_keeps, Shrinks}
-use Rattle.xk_syntax.specs.Readers.{◌>>=◌, bind, sign_of, sign_by, sign_at, keyword_of, keyword_by, keyword_at, word_at, pushed, one_more, verb_at, next_item, more_at, commas_at}
+use Rattle.xk_exprs.proofs.Loops.{loop_goes, loop_stops, loop_fails, Shrinks}
+use Rattle.xk_syntax.specs.Readers.{bind, sign_of, sign_by, sign_at, word_at, pushed, one_more, next_item, more_at, commas_at}
 use Rattle.xk_exprs.proofs.Takes.{expression_found}
 
 pub some_is : {A : Type 0} (x y : A) → Some x ≡ Some y → x ≡ y

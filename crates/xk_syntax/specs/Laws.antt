@@ -1,5 +1,5 @@
 -- What the readers give is what is spelled.
-use Rattle.std.specs.Prelude.{◌≡◌, ℕ, true, List, Option, Some, None}
+use Rattle.std.specs.Prelude.{◌≡◌, ℕ, true, List, Some, None}
 use Rattle.xk_tokens.specs.declared.token.Keyword.TheVariants as keyword
 use Rattle.xk_tree.specs.Tree.{Statement, TreeValue}
 use Rattle.xk_exprs.specs.Marks.{Mark}

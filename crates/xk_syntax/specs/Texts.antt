@@ -1,5 +1,5 @@
 -- A fault of a text means that it spells no tree.
-use Rattle.std.specs.Prelude.{ℕ, List, Result, Ok, Err}
+use Rattle.std.specs.Prelude.{ℕ, List, Result, Err}
 use Rattle.xk_tree.specs.declared.tree.Tree.{Tree}
 use Rattle.xk_tree.specs.declared.fault.FrontError.{FrontError}
 use Rattle.xk_tree.specs.declared.fault.FrontError.TheVariants as error

@@ -122,11 +122,7 @@ fn methods<'s, 't>(
 
 /// A program, which takes all the tokens.
 #[tactic(auto, unfolding(crate::specs::Readers::bind, crate::specs::Readers::program_at))]
-fn program<'t>(
-    alloc: Global,
-    tokens: &[Token<'t>],
-    end: usize,
-) -> Result<Tree<'t>, FrontError>
+fn program<'t>(alloc: Global, tokens: &[Token<'t>], end: usize) -> Result<Tree<'t>, FrontError>
     ensures { Gives tree_value result (program_at (marks tokens.now)) }
 {
     let (shared, rest) = shared_numbers(alloc, tokens, end)?;

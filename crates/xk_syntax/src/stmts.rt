@@ -100,7 +100,10 @@ fn else_part<'s, 't>(
         Some(rest) => {
             let (other, rest) = read_stmt(alloc, levels, rest, end)?;
             let other = Box::new(alloc, other)?;
-            Ok((Stmt::IfElse(paren, left, comparison, right, stmt, other), rest))
+            Ok((
+                Stmt::IfElse(paren, left, comparison, right, stmt, other),
+                rest,
+            ))
         }
     }
 }
@@ -126,7 +129,9 @@ fn rest_of<'s, 't>(
         }
         Head::Condition(paren, left, comparison, right) => {
             let (stmt, rest) = read_stmt(alloc, levels, tokens, end)?;
-            else_part(alloc, levels, paren, left, comparison, right, stmt, rest, end)
+            else_part(
+                alloc, levels, paren, left, comparison, right, stmt, rest, end,
+            )
         }
         Head::Range(paren, name, lo, hi) => {
             let (stmt, rest) = read_stmt(alloc, levels, tokens, end)?;

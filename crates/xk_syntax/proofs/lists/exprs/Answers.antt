@@ -1,8 +1,8 @@
-use Rattle.std.proofs.Common.{◌≡◌, List, [], ◌∷◌, ◌++◌, map, sym, ap, subst, ◌∙◌}
+use Rattle.std.proofs.Common.{List, [], ◌∷◌, ◌++◌, map, sym, ap, subst, ◌∙◌}
 use Rattle.std.proofs.lemmas.Result.{err_from_is_err_and}
 use Rattle.std.proofs.lemmas.List.{map_push}
 use Rattle.xk_tokens.specs.declared.token.Sign.TheVariants as sign
-use Rattle.xk_tree.specs.Tree.{expression, expressions}
+use Rattle.xk_tree.specs.Tree.{expression}
 use Rattle.xk_tree.specs.declared.tree.Expr.{Expr}
 use Rattle.xk_exprs.specs.Exprs.{whole_at}
 use Rattle.xk_exprs.specs.Marks.{marks}

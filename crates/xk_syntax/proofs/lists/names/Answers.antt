@@ -1,8 +1,8 @@
-use Rattle.std.proofs.Common.{◌≡◌, List, [], ◌∷◌, ◌++◌, map, sym, ap, subst, ◌∙◌}
+use Rattle.std.proofs.Common.{List, [], ◌∷◌, ◌++◌, map, sym, ap, subst, ◌∙◌}
 use Rattle.std.proofs.lemmas.Result.{err_from_is_err_and}
 use Rattle.std.proofs.lemmas.List.{map_push}
 use Rattle.xk_tokens.specs.declared.token.Sign.TheVariants as sign
-use Rattle.xk_tree.specs.Tree.{word, words}
+use Rattle.xk_tree.specs.Tree.{word}
 use Rattle.xk_tree.specs.declared.tree.Name.{Name}
 use Rattle.xk_exprs.specs.Marks.{marks}
 use Rattle.xk_exprs.specs.Readers.{Refuses}

@@ -1,11 +1,6 @@
-use Rattle.std.proofs.Common.{◌≡◌, ℕ, ◌≤◌, List, length, map, sym, ap, subst, ◌∙◌}
-use Rattle.xk_tokens.specs.declared.token.Token.{Token}
+use Rattle.std.proofs.Common.{ℕ, ◌≤◌, List, length, map, ap, subst, ◌∙◌}
 use Rattle.xk_tokens.specs.Tokens.{token_value}
 use Rattle.xk_tokens.specs.Lexing.{lexed}
-use Rattle.xk_tree.specs.Tree.{tree_value}
-use Rattle.xk_exprs.specs.Marks.{marks}
-use Rattle.xk_exprs.specs.Readers.{Gives}
-use Rattle.xk_syntax.specs.Readers.{program_at}
 use Rattle.xk_syntax.proofs.Texts.{result_spelled, result_refused}
 use Rattle.xk_syntax.proofs.program.parse.Goals as goal
 
