@@ -11,7 +11,8 @@ use xk_types::Rule;
 use xk_typestate::{KindError, KindFault};
 
 /// A bound that is over its limit: the first of V14 to V17 that is.
-#[derive(Clone, Copy, Debug, PartialEq, Eq)]
+#[derive(Clone, Copy, Debug, Error, PartialEq, Eq)]
+#[error("a run may go over {limit}, by rule V{number} {name}", number = .rule.number(), name = .rule.name())]
 pub struct BoundFault {
     /// One of V14 to V17.
     pub rule: Rule,
@@ -22,11 +23,11 @@ pub struct BoundFault {
 /// Why a module isn't accepted.
 #[derive(Debug, Drop, Error)]
 pub enum Refusal {
-    #[error("the code breaks rule V{number} {name} in unit {unit} at {at}", number = .0.rule.number(), name = .0.rule.name(), unit = .0.unit, at = .0.at)]
+    #[error(transparent)]
     Shape(ShapeFault),
-    #[error("slot {slot} breaks rule V{number} {name} in unit {unit} at {at}, where it is {kind}", slot = .0.slot, number = .0.rule.number(), name = .0.rule.name(), unit = .0.unit, at = .0.at, kind = .0.kind.name())]
+    #[error(transparent)]
     Kind(KindFault),
-    #[error("a run may go over {limit}, by rule V{number} {name}", limit = .0.limit, number = .0.rule.number(), name = .0.rule.name())]
+    #[error(transparent)]
     Bound(BoundFault),
     /// The verifier couldn't grow what it works on.
     #[error("out of memory")]

@@ -6,7 +6,8 @@ use xk_types::Rule;
 
 /// A place that breaks a rule on the shape of code: the first rule that any place breaks, at its least place by unit
 /// and instruction.
-#[derive(Clone, Copy, Debug, PartialEq, Eq)]
+#[derive(Clone, Copy, Debug, Error, PartialEq, Eq)]
+#[error("the code breaks rule V{number} {name} in unit {unit} at {at}", number = .rule.number(), name = .rule.name())]
 pub struct ShapeFault {
     /// One of V1 to V10.
     pub rule: Rule,
@@ -19,7 +20,7 @@ pub struct ShapeFault {
 /// Why the shape of a module isn't known to be right.
 #[derive(Clone, Copy, Debug, Error, PartialEq, Eq)]
 pub enum ShapeError {
-    #[error("the code breaks rule V{number} {name} in unit {unit} at {at}", number = .0.rule.number(), name = .0.rule.name(), unit = .0.unit, at = .0.at)]
+    #[error(transparent)]
     Fault(ShapeFault),
     /// Room for the loops, finishes or homes of a unit was refused.
     #[error("out of memory")]

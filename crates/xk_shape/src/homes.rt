@@ -61,12 +61,8 @@ pub(crate) fn gives_away(m: &Module, u: &Unit, tables: &Tables, at: u16) -> bool
 {
     match u.code.get(at as usize) {
         Some(Instr::Call(run, args) | Instr::Spawn(run, args)) => {
-            has_clock_away(
-                u,
-                tables,
-                Arguments::new(params_of(m, *run), args.slots()),
-                at,
-            )
+            let arguments = Arguments::new(params_of(m, *run), args.slots());
+            has_clock_away(u, tables, arguments, at)
         }
         _ => false,
     }

@@ -8,7 +8,8 @@ use thiserror::Error;
 use xk_types::{Kind, Rule, Visit};
 
 /// A slot that may be used as what it isn't: the least by unit, instruction, slot and kind.
-#[derive(Debug, Drop)]
+#[derive(Debug, Drop, Error)]
+#[error("slot {slot} breaks rule V{number} {name} in unit {unit} at {at}, where it is {kind}", number = .rule.number(), name = .rule.name(), kind = .kind.name())]
 pub struct KindFault {
     /// One of V11 to V13.
     pub rule: Rule,
@@ -27,7 +28,7 @@ pub struct KindFault {
 /// Why the kinds of a module aren't in order, or aren't known.
 #[derive(Debug, Drop, Error)]
 pub enum KindError {
-    #[error("slot {slot} breaks rule V{number} {name} in unit {unit} at {at}, where it is {kind}", slot = .0.slot, number = .0.rule.number(), name = .0.rule.name(), unit = .0.unit, at = .0.at, kind = .0.kind.name())]
+    #[error(transparent)]
     Fault(KindFault),
     /// What the kinds are kept in couldn't be grown.
     #[error("out of memory")]
