@@ -70,3 +70,28 @@ put_shown ks q = go (list_any (λ k. pointwise nat_eq q.now k.now) ks) (sym (has
     go : (b : Bool) → has (map (λ k. k.now) ks) q.now ≡ b → map (λ k. k.now) (cond b ks (ks ++ q ∷ [])) ≡ put_text (map (λ k. k.now) ks) q.now
     go true e = sym (ap (λ c. cond c (map (λ k. k.now) ks) (map (λ k. k.now) ks ++ q.now ∷ [])) e)
     go false e = append_texts ks q ∙ sym (ap (λ c. cond c (map (λ k. k.now) ks) (map (λ k. k.now) ks ++ q.now ∷ [])) e)
+
+-- a table whose values are shown as others
+
+abbrev pub valued : {A B : Type 0} → (A → B) → Table A → Table B
+valued f table = map (λ e. (e.0, f e.1)) table
+
+find_values : {A B : Type 0} (f : A → B) (table : Table A) (x : List ℕ) → is_some (find (valued f table) x) ≡ is_some (find table x)
+find_values f [] x = refl
+find_values {A} {B} f (e ∷ es) x = go (pointwise nat_eq x e.0) (find_values f es x)
+  where
+    go : (b : Bool) → is_some (find (valued f es) x) ≡ is_some (find es x)
+        → is_some (cond b (Some (f e.1)) (find (valued f es) x)) ≡ is_some (cond b (Some e.1) (find es x))
+    go true h = refl
+    go false h = h
+
+append_values : {A B : Type 0} (f : A → B) (table : Table A) (x : List ℕ) (a : A) → valued f (table ++ (x, a) ∷ []) ≡ valued f table ++ (x, f a) ∷ []
+append_values f [] x a = refl
+append_values {A} {B} f (e ∷ es) x a = let first : List ℕ × B = (e.0, f e.1) in ap (λ r. first ∷ r) (append_values f es x a)
+
+pub put_values : {A B : Type 0} (f : A → B) (table : Table A) (x : List ℕ) (a : A) → map (λ e. (e.0, f e.1)) (put table x a) ≡ put (valued f table) x (f a)
+put_values {A} {B} f table x a = go (is_some (find table x)) (find_values f table x)
+  where
+    go : (b : Bool) → is_some (find (valued f table) x) ≡ b → valued f (cond b table (table ++ (x, a) ∷ [])) ≡ put (valued f table) x (f a)
+    go true h = sym (ap (λ c. cond c (valued f table) (valued f table ++ (x, f a) ∷ [])) h)
+    go false h = append_values f table x a ∙ sym (ap (λ c. cond c (valued f table) (valued f table ++ (x, f a) ∷ [])) h)

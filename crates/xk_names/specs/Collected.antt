@@ -1,5 +1,5 @@
 -- All faults of names of a tree in a list, and which of them is reported.
-use Rattle.std.specs.Prelude.{ℕ, suc, nat_eq, nat_lt, Bool, true, false, List, [], ◌∷◌, ◌++◌, length, map, Option, Some, None, is_some, if◌then◌else◌}
+use Rattle.std.specs.Prelude.{ℕ, suc, nat_eq, nat_lt, Bool, ◌||◌, ◌&&◌, List, [], ◌∷◌, ◌++◌, length, map, Option, Some, None, is_some, if◌then◌else◌}
 use Rattle.std.specs.List.{flat_map}
 use Rattle.xk_tree.specs.declared.fault.FrontRule.{FrontRule}
 use Rattle.xk_tree.specs.declared.fault.FrontRule.TheVariants as rule
@@ -7,8 +7,9 @@ use Rattle.xk_tree.specs.declared.fault.FrontFault.{FrontFault}
 use Rattle.xk_tree.specs.Fault.{front_number}
 use Rattle.xk_tree.specs.Tree.{Word, Expression, Statement, Statements, Done, More, Block, If, IfElse, For, Async, Finish, ParamValue, MethodValue, SharedValue, TreeValue}
 use Rattle.xk_names.specs.declared.known.Known.{Known}
+use Rattle.xk_names.specs.declared.known.Want.TheVariants as want
 use Rattle.xk_names.specs.Scope.{Table, find, has, Declaration, Scope, sees, fits}
-use Rattle.xk_names.specs.Uses.{Use, Signatures, uses, declares, misfits, clocks_given, clocks_listed, calls}
+use Rattle.xk_names.specs.Uses.{Use, use_as, Signatures, uses, declares, misfits, clocks_given, clocks_listed, calls}
 use Rattle.xk_names.specs.Places.{behind}
 use Rattle.xk_names.specs.Faults.{fault, shared_declaration, param_declaration}
 
@@ -35,6 +36,11 @@ put_methods ms (m ∷ more) = put_methods (put ms m.name.text m.params) more
 
 abbrev pub with_declared : Scope → List Declaration → Scope
 with_declared sc ds = record { names = put_all sc.names ds; bodies = sc.bodies }
+
+-- behind these statements
+abbrev pub after : Scope → Statements → Scope
+after sc Done = sc
+after sc (More s ss) = after (with_declared sc (behind (length sc.bodies) s)) ss
 
 -- in the body of an `async`
 abbrev pub body_of : Scope → List Word → Scope
@@ -70,6 +76,10 @@ call_faults ms (Some c) = known_call_faults c.0 c.1 (find ms c.0.text)
 abbrev pub repeats : List (List ℕ) → List Word → List FrontFault
 repeats before [] = []
 repeats before (c ∷ cs) = when (has before c.text) rule.SameClockTwice c.at ++ repeats (put_text before c.text) cs
+
+-- those of the clocks that an `async` is given
+abbrev pub list_faults : Scope → List Word → List FrontFault
+list_faults sc cs = flat_map (use_faults sc) (map (use_as want.Clock) cs) ++ repeats [] cs
 
 unfoldable pub own : Signatures → Scope → Statement → List FrontFault
 own ms sc t =
@@ -124,8 +134,7 @@ name_faults t =
 -- ---- which is reported
 
 abbrev pub is_reported_before : FrontFault → FrontFault → Bool
-is_reported_before f g =
-    if nat_lt f.at g.at then true else (if nat_eq f.at g.at then nat_lt (front_number f.rule) (front_number g.rule) else false)
+is_reported_before f g = nat_lt f.at g.at || (nat_eq f.at g.at && nat_lt (front_number f.rule) (front_number g.rule))
 
 -- the one at the lesser offset, of two at one offset the one of the smaller number
 abbrev pub lesser : Option FrontFault → FrontFault → Option FrontFault

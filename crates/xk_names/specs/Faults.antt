@@ -1,5 +1,6 @@
 -- The faults of names that a tree has.
 use Rattle.std.specs.Prelude.{◌≡◌, ◌≢◌, ◌⊎◌, ℕ, ◌<◌, ◌≤◌, Bool, true, false, List, [], ◌∷◌, ◌++◌, length, map, Option, Some, None, codes}
+use Rattle.xk_types.specs.declared.unit.ParamKind.{ParamKind}
 use Rattle.xk_types.specs.declared.unit.ParamKind.TheVariants as param
 use Rattle.xk_tree.specs.declared.fault.FrontRule.{FrontRule}
 use Rattle.xk_tree.specs.declared.fault.FrontRule.TheVariants as rule
@@ -40,8 +41,12 @@ pub data Breaks (ms : Signatures) (sc : Scope) (t : Statement) (f : FrontFault) 
 abbrev pub shared_declaration : SharedValue → Declaration
 shared_declaration s = record { name = s.name; known = known kind.Shared 0 }
 
+abbrev pub param_kind : ParamKind → Kind
+param_kind param.Number = kind.Val
+param_kind param.Clock = kind.Clock
+
 abbrev pub param_declaration : ParamValue → Declaration
-param_declaration p = record { name = p.name; known = known (elim p.takes.kind as (λ _. Kind) [ param.Number ↦ kind.Val | param.Clock ↦ kind.Clock ]) 0 }
+param_declaration p = record { name = p.name; known = known (param_kind p.takes.kind) 0 }
 
 -- what is declared before a method's body: the shared numbers and its parameters
 abbrev pub declared_before : TreeValue → MethodValue → List Declaration

@@ -3,3 +3,4 @@ pub mod Uses
 pub mod Places
 pub mod Faults
 pub mod Collected
+pub mod Given

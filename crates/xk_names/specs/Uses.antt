@@ -99,12 +99,16 @@ abbrev pub clocks_listed : Option Clocks → List Word
 clocks_listed None = []
 clocks_listed (Some l) = l.names
 
+abbrev pub source_uses : Source → List Use
+source_uses (Make at v) = []
+source_uses (Value e) = values e
+
 abbrev pub is_var : Option Known → Bool
 is_var k = option_map_or (λ j. elim j.kind as (λ _. Bool) [ kind.Var ↦ true | kind.Val ↦ false | kind.Shared ↦ false | kind.Clock ↦ false ]) k false
 
 -- the names that a statement uses, where a table says what names stand for
 abbrev pub uses : Signatures → Table Known → Statement → List Use
-uses ms names (Declare b x ty (Value e)) = values e
+uses ms names (Declare b x ty r) = source_uses r
 uses ms names (Assign x e) = use_as want.Assigned x ∷ (if is_var (find names x.text) then values e else numbers e)
 uses ms names (Atomic x y at e) = use_as want.Shared x ∷ use_as want.Shared y ∷ numbers e
 uses ms names (If at l c r s) = numbers l ++ numbers r

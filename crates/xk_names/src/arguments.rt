@@ -1,0 +1,185 @@
+//! Calls, and lists of clocks.
+
+ghost use Rattle.std.specs.Prelude.{◌≡◌, [], ◌++◌, map, nat_eq, OnOk, IfOk};
+ghost use Rattle.std.specs.List.{flat_map};
+ghost use Rattle.xk_tree.specs.Tree.{expression, expressions, param_value, word, words};
+ghost use Rattle.xk_names.specs.Faults.{fault};
+ghost use Rattle.xk_names.specs.Scope.{find, has};
+ghost use Rattle.xk_names.specs.Uses.{argument_clocks, argument_misfits, argument_uses, given, use_as};
+ghost use Rattle.xk_names.specs.Collected.{least, put_text, put_texts, repeats, unless, use_faults, when};
+ghost use Rattle.xk_names.specs.Given.{arguments, call_all};
+
+use crate::exprs::{check_numbers, check_use, start_of};
+use crate::known::Want;
+use crate::methods::Methods;
+use crate::scope::Scope;
+use crate::table::Texts;
+use crate::worst::{note, note_if};
+use std::alloc::{AllocError, Global};
+use xk_tree::{Expr, FrontFault, FrontRule, Name, Param};
+use xk_types::ParamKind;
+
+// An argument, and the kind of its parameter.
+#[derive(Clone, Copy)]
+pub struct Argument<'a, 't> {
+    pub takes: ParamKind,
+    pub value: &'a Expr<'t>,
+}
+
+// The arguments beside the kinds of their parameters, as far as both go.
+fn arguments<'a, 't>(alloc: Global, params: &[Param<'t>], values: &'a [Expr<'t>]) -> Result<Vec<Argument<'a, 't>>, AllocError>
+    ensures { IfOk result (λ v. arguments v.items ≡ given (map param_value params.now) (expressions values.now)) }
+{
+    let mut given = Vec::new(alloc);
+    let n = if params.len() < values.len() { params.len() } else { values.len() };
+    for i in 0..n {
+        given.push(Argument {
+            takes: params[i].takes.kind,
+            value: &values[i],
+        })?;
+    }
+    Ok(given)
+}
+
+// The names that an argument uses.
+fn check_argument<'t>(worst: &mut Option<FrontFault>, scope: &Scope<'t>, takes: ParamKind, value: &Expr<'t>)
+    ensures { worst.new ≡ least worst.old (flat_map (use_faults scope.now) (argument_uses takes (expression value.now))) }
+{
+    match takes {
+        ParamKind::Number => check_numbers(worst, scope, value),
+        ParamKind::Clock => match value {
+            Expr::Name(x) => check_use(worst, scope, *x, Want::Clock),
+            _ => check_numbers(worst, scope, value),
+        },
+    }
+}
+
+// An argument that had to be a clock's bare name.
+fn check_misfit(worst: &mut Option<FrontFault>, takes: ParamKind, value: &Expr<'_>)
+    ensures { worst.new ≡ least worst.old (map (fault FrontRule.WrongKind) (argument_misfits takes (expression value.now))) }
+{
+    match takes {
+        ParamKind::Number => {}
+        ParamKind::Clock => match value {
+            Expr::Name(_) => {}
+            _ => note(worst, FrontRule::WrongKind, start_of(value)),
+        },
+    }
+}
+
+// A clock that stands behind these.
+fn check_again<'t>(worst: &mut Option<FrontFault>, clocks: &mut Texts<'t>, c: Name<'t>) -> Result<(), AllocError>
+    ensures faults { OnOk result (worst.new ≡ least worst.old (when (has clocks.old c.entry.text.now) FrontRule.SameClockTwice c.entry.at)) }
+    ensures clocks { OnOk result (clocks.new ≡ put_text clocks.old c.entry.text.now) }
+{
+    let is_new = clocks.put(c.text)?;
+    note_if(!is_new, worst, FrontRule::SameClockTwice, c.at);
+    Ok(())
+}
+
+// The clock that an argument gives.
+fn check_clock<'t>(worst: &mut Option<FrontFault>, clocks: &mut Texts<'t>, takes: ParamKind, value: &Expr<'t>) -> Result<(), AllocError>
+    ensures faults { OnOk result (worst.new ≡ least worst.old (repeats clocks.old (argument_clocks takes (expression value.now)))) }
+    ensures clocks { OnOk result (clocks.new ≡ put_texts clocks.old (argument_clocks takes (expression value.now))) }
+{
+    match takes {
+        ParamKind::Number => Ok(()),
+        ParamKind::Clock => match value {
+            Expr::Name(x) => check_again(worst, clocks, *x),
+            _ => Ok(()),
+        },
+    }
+}
+
+fn check_uses<'t>(worst: &mut Option<FrontFault>, scope: &Scope<'t>, given: &[Argument<'_, 't>])
+    ensures { worst.new ≡ least worst.old (flat_map (use_faults scope.now) (flat_map (λ a. argument_uses a.0 a.1) (arguments given.now))) }
+{
+    for argument in given {
+        check_argument(worst, scope, argument.takes, argument.value);
+    }
+}
+
+fn check_misfits(worst: &mut Option<FrontFault>, given: &[Argument<'_, '_>])
+    ensures { worst.new ≡ least worst.old (map (fault FrontRule.WrongKind) (flat_map (λ a. argument_misfits a.0 a.1) (arguments given.now))) }
+{
+    for argument in given {
+        check_misfit(worst, argument.takes, argument.value);
+    }
+}
+
+fn check_clocks<'t>(alloc: Global, worst: &mut Option<FrontFault>, given: &[Argument<'_, 't>]) -> Result<(), AllocError>
+    ensures { OnOk result (worst.new ≡ least worst.old (repeats [] (flat_map (λ a. argument_clocks a.0 a.1) (arguments given.now)))) }
+{
+    let mut clocks = Texts::new(alloc);
+    for argument in given {
+        check_clock(worst, &mut clocks, argument.takes, argument.value)?;
+    }
+    Ok(())
+}
+
+// The clocks of a list, which have to be different.
+pub fn check_list<'t>(alloc: Global, worst: &mut Option<FrontFault>, names: &[Name<'t>]) -> Result<Texts<'t>, AllocError>
+    ensures faults { OnOk result (worst.new ≡ least worst.old (repeats [] (words names.now))) }
+    ensures clocks { IfOk result (λ clocks. clocks ≡ put_texts [] (words names.now)) }
+{
+    let mut clocks = Texts::new(alloc);
+    for name in names {
+        check_again(worst, &mut clocks, *name)?;
+    }
+    Ok(clocks)
+}
+
+// The names of a list, which have to be clocks'.
+pub fn check_listed<'t>(worst: &mut Option<FrontFault>, scope: &Scope<'t>, names: &[Name<'t>])
+    ensures { worst.new ≡ least worst.old (flat_map (use_faults scope.now) (map (use_as Want.Clock) (words names.now))) }
+{
+    for name in names {
+        check_use(worst, scope, *name, Want::Clock);
+    }
+}
+
+// As many arguments as parameters.
+fn check_count(worst: &mut Option<FrontFault>, at: usize, params: usize, values: usize)
+    ensures { worst.new ≡ least worst.old (unless (nat_eq params values) FrontRule.Arity at) }
+{
+    if params != values {
+        note(worst, FrontRule::Arity, at);
+    }
+}
+
+// A call's arguments, where the method takes these.
+fn check_arguments<'t>(alloc: Global, worst: &mut Option<FrontFault>, scope: &Scope<'t>, g: Name<'t>, params: &[Param<'t>], values: &[Expr<'t>]) -> Result<(), AllocError>
+    ensures { OnOk result (worst.new ≡ least worst.old (call_all scope.now (word g.entry) (Some (map param_value params.now)) (expressions values.now))) }
+{
+    let given = arguments(alloc, params, values)?;
+    let given = given.as_slice();
+    check_uses(worst, scope, given);
+    check_misfits(worst, given);
+    check_count(worst, g.at, params.len(), values.len());
+    check_clocks(alloc, worst, given)?;
+    Ok(())
+}
+
+// A call.
+pub fn check_call<'t>(alloc: Global, worst: &mut Option<FrontFault>, scope: &Scope<'t>, methods: &Methods<'_, 't>, g: Name<'t>, values: &[Expr<'t>]) -> Result<(), AllocError>
+    ensures { OnOk result (worst.new ≡ least worst.old (call_all scope.now (word g.entry) (find methods.now g.entry.text.now) (expressions values.now))) }
+{
+    match methods.find(g.text) {
+        None => {
+            note(worst, FrontRule::UnknownName, g.at);
+            Ok(())
+        }
+        Some(params) => check_arguments(alloc, worst, scope, g, params, values),
+    }
+}
+
+// The clocks that an `async` is given, each once.
+pub fn clocks_of<'t>(alloc: Global, names: &[Name<'t>]) -> Result<Texts<'t>, AllocError>
+    ensures { IfOk result (λ clocks. clocks ≡ put_texts [] (words names.now)) }
+{
+    let mut clocks = Texts::new(alloc);
+    for name in names {
+        let _is_new = clocks.put(name.text)?;
+    }
+    Ok(clocks)
+}

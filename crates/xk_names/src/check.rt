@@ -1,0 +1,140 @@
+//! Statements, and those that they hold.
+
+ghost use Rattle.std.specs.Prelude.{◌≡◌, ◌∷◌, [], ◌++◌, length, option_map, IfOk, OnOk};
+ghost use Rattle.xk_tree.specs.Tree.{clock_list, source, statement, statements, word};
+ghost use Rattle.xk_names.specs.Scope.{known};
+ghost use Rattle.xk_names.specs.Uses.{clocks_listed, kind_of};
+ghost use Rattle.xk_names.specs.Places.{behind};
+ghost use Rattle.xk_names.specs.Collected.{among, body_of, faults, least, put_texts, with_declared};
+
+use crate::arguments::clocks_of;
+use crate::known::Kind;
+use crate::methods::Methods;
+use crate::scope::Scope;
+use crate::statement::check_own;
+use crate::table::Texts;
+use std::alloc::{AllocError, Global};
+use xk_tree::{Binding, ClockList, FrontFault, Name, Right, Stmt};
+
+fn kind_of(b: Binding, r: &Right<'_>) -> Kind
+    ensures { result ≡ kind_of b (source r.now) }
+{
+    match r {
+        Right::Make(_, _) => Kind::Clock,
+        Right::Expr(_) => match b {
+            Binding::Val => Kind::Val,
+            Binding::Var => Kind::Var,
+        },
+    }
+}
+
+fn given<'t>(alloc: Global, clocks: &Option<ClockList<'t>>) -> Result<Texts<'t>, AllocError>
+    ensures { IfOk result (λ texts. texts ≡ put_texts [] (clocks_listed (option_map clock_list clocks.now))) }
+{
+    match clocks {
+        None => Ok(Texts::new(alloc)),
+        Some(list) => clocks_of(alloc, list.names.as_slice()),
+    }
+}
+
+// The faults of a statement; the scope is then that of what stands behind it.
+#[cycle(statements)]
+fn check<'t>(alloc: Global, worst: &mut Option<FrontFault>, scope: &mut Scope<'t>, methods: &Methods<'_, 't>, s: &Stmt<'t>) -> Result<(), AllocError>
+    ensures faults { OnOk result (worst.new ≡ least worst.old (faults methods.now scope.old (statement s.now))) }
+    ensures scope { OnOk result (scope.new ≡ with_declared scope.old (behind (length scope.old.bodies) (statement s.now))) }
+{
+    check_own(alloc, worst, scope, methods, s)?;
+    match s {
+        Stmt::Declare(b, x, _, r) => {
+            scope.declare(*x, kind_of(*b, r))?;
+            Ok(())
+        }
+        Stmt::Block(ss) => {
+            check_block(alloc, worst, scope, methods, ss.as_slice())?;
+            Ok(())
+        }
+        Stmt::If(_, _, _, _, s) => {
+            check_held(alloc, worst, scope, methods, s)?;
+            Ok(())
+        }
+        Stmt::IfElse(_, _, _, _, s, t) => {
+            check_held(alloc, worst, scope, methods, s)?;
+            check_held(alloc, worst, scope, methods, t)?;
+            Ok(())
+        }
+        Stmt::For(_, x, _, _, s) => {
+            check_loop(alloc, worst, scope, methods, *x, s)?;
+            Ok(())
+        }
+        Stmt::Async(_, clocks, s) => {
+            let clocks = given(alloc, clocks)?;
+            check_body(alloc, worst, scope, methods, clocks, s)?;
+            Ok(())
+        }
+        Stmt::Finish(s) => {
+            check_held(alloc, worst, scope, methods, s)?;
+            Ok(())
+        }
+        Stmt::Empty => Ok(()),
+        Stmt::Assign(_, _) => Ok(()),
+        Stmt::Atomic(_, _, _, _) => Ok(()),
+        Stmt::Call(_, _, _) => Ok(()),
+        Stmt::Resume(_, _) => Ok(()),
+        Stmt::Drop(_, _) => Ok(()),
+        Stmt::AdvanceAll(_, _) => Ok(()),
+        Stmt::Print(_, _, _) => Ok(()),
+    }
+}
+
+// Statements that are a scope.
+#[cycle(statements)]
+pub fn check_block<'t>(alloc: Global, worst: &mut Option<FrontFault>, scope: &mut Scope<'t>, methods: &Methods<'_, 't>, ss: &[Stmt<'t>]) -> Result<(), AllocError>
+    ensures faults { OnOk result (worst.new ≡ least worst.old (among methods.now scope.old (statements ss.now))) }
+    ensures scope { OnOk result (scope.new ≡ scope.old) }
+{
+    let outside = scope.len();
+    for s in ss {
+        check(alloc, worst, scope, methods, s)?;
+    }
+    scope.cut(outside);
+    Ok(())
+}
+
+// A statement that is a scope.
+#[cycle(statements)]
+fn check_held<'t>(alloc: Global, worst: &mut Option<FrontFault>, scope: &mut Scope<'t>, methods: &Methods<'_, 't>, s: &Stmt<'t>) -> Result<(), AllocError>
+    ensures faults { OnOk result (worst.new ≡ least worst.old (faults methods.now scope.old (statement s.now))) }
+    ensures scope { OnOk result (scope.new ≡ scope.old) }
+{
+    let outside = scope.len();
+    check(alloc, worst, scope, methods, s)?;
+    scope.cut(outside);
+    Ok(())
+}
+
+// The body of a loop whose name is x.
+#[cycle(statements)]
+fn check_loop<'t>(alloc: Global, worst: &mut Option<FrontFault>, scope: &mut Scope<'t>, methods: &Methods<'_, 't>, x: Name<'t>, s: &Stmt<'t>) -> Result<(), AllocError>
+    ensures faults { OnOk result (worst.new ≡ least worst.old
+        (faults methods.now (with_declared scope.old (record { name = word x.entry; known = known Kind.Val (length scope.old.bodies) } ∷ [])) (statement s.now))) }
+    ensures scope { OnOk result (scope.new ≡ scope.old) }
+{
+    let outside = scope.len();
+    scope.declare(x, Kind::Val)?;
+    check(alloc, worst, scope, methods, s)?;
+    scope.cut(outside);
+    Ok(())
+}
+
+// The body of an `async`.
+#[cycle(statements)]
+fn check_body<'t>(alloc: Global, worst: &mut Option<FrontFault>, scope: &mut Scope<'t>, methods: &Methods<'_, 't>, clocks: Texts<'t>, s: &Stmt<'t>) -> Result<(), AllocError>
+    ensures faults { OnOk result (worst.new ≡ least worst.old (faults methods.now (record { names = scope.old.names; bodies = clocks.entry ∷ scope.old.bodies }) (statement s.now))) }
+    ensures scope { OnOk result (scope.new ≡ scope.old) }
+{
+    let outside = scope.len();
+    scope.enter(clocks)?;
+    check(alloc, worst, scope, methods, s)?;
+    scope.leave(outside);
+    Ok(())
+}

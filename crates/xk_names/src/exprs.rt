@@ -1,0 +1,74 @@
+//! The names that expressions use.
+
+ghost use Rattle.std.specs.Prelude.{◌≡◌, if◌then◌else◌};
+ghost use Rattle.std.specs.List.{flat_map};
+ghost use Rattle.xk_tree.specs.Tree.{expression, word};
+ghost use Rattle.xk_names.specs.Uses.{number_start, numbers, start_of, use_as, values};
+ghost use Rattle.xk_names.specs.Collected.{least, use_faults};
+
+use crate::known::Want;
+use crate::scope::Scope;
+use crate::worst::note;
+use xk_tree::{Expr, FrontFault, FrontRule, Name, Number};
+
+// A name that is used.
+pub fn check_use<'t>(worst: &mut Option<FrontFault>, scope: &Scope<'t>, name: Name<'t>, want: Want)
+    ensures { worst.new ≡ least worst.old (use_faults scope.now (use_as want (word name.entry))) }
+{
+    match scope.find(name.text) {
+        None => note(worst, FrontRule::UnknownName, name.at),
+        Some(known) => {
+            if !known.kind.fits(want) {
+                note(worst, FrontRule::WrongKind, name.at);
+            }
+            if !scope.sees(name.text, known) {
+                note(worst, FrontRule::NotCaptured, name.at);
+            }
+        }
+    }
+}
+
+// The names of an expression, which have to be numbers'.
+pub fn check_numbers<'t>(worst: &mut Option<FrontFault>, scope: &Scope<'t>, e: &Expr<'t>)
+    ensures { worst.new ≡ least worst.old (flat_map (use_faults scope.now) (numbers (expression e.now))) }
+{
+    match e {
+        Expr::Number(_) => {}
+        Expr::Name(x) => check_use(worst, scope, *x, Want::Number),
+        Expr::Paren(_, e) => check_numbers(worst, scope, e),
+        Expr::Negation(_, e) => check_numbers(worst, scope, e),
+        Expr::Binary(_, l, _, r) => {
+            check_numbers(worst, scope, l);
+            check_numbers(worst, scope, r);
+        }
+    }
+}
+
+// The same where a shared number may stand alone.
+pub fn check_values<'t>(worst: &mut Option<FrontFault>, scope: &Scope<'t>, e: &Expr<'t>)
+    ensures { worst.new ≡ least worst.old (flat_map (use_faults scope.now) (values (expression e.now))) }
+{
+    match e {
+        Expr::Name(x) => check_use(worst, scope, *x, Want::Readable),
+        _ => check_numbers(worst, scope, e),
+    }
+}
+
+fn number_start(n: Number) -> usize
+    ensures { result ≡ number_start n }
+{
+    n.minus.unwrap_or(n.at)
+}
+
+// Where an expression begins.
+pub fn start_of(e: &Expr<'_>) -> usize
+    ensures { result ≡ start_of (expression e.now) }
+{
+    match e {
+        Expr::Number(n) => number_start(*n),
+        Expr::Name(x) => x.at,
+        Expr::Paren(at, _) => *at,
+        Expr::Negation(at, _) => *at,
+        Expr::Binary(_, l, _, _) => start_of(l),
+    }
+}

@@ -1,0 +1,112 @@
+//! Whole programs.
+
+ghost use Rattle.std.specs.Prelude.{◌≡◌, [], ◌∷◌, None, map, OnOk, IfOk};
+ghost use Rattle.xk_tree.specs.Tree.{method_value, param_value, shared_value, tree_value, word};
+ghost use Rattle.std.specs.List.{flat_map};
+ghost use Rattle.xk_names.specs.Scope.{known};
+ghost use Rattle.xk_names.specs.Faults.{param_declaration, param_kind, shared_declaration};
+ghost use Rattle.xk_names.specs.Collected.{again, declared_again, least, method_faults, methods_again, name_faults, put_methods, with_declared};
+
+use crate::check::check_block;
+use crate::known::Kind;
+use crate::methods::Methods;
+use crate::scope::Scope;
+use crate::statement::check_new;
+use crate::worst::note_if;
+use std::alloc::{AllocError, Global};
+use xk_tree::{FrontError, FrontFault, FrontRule, Method, Name, Param, Shared, Tree};
+use xk_types::ParamKind;
+
+// A name that is declared before a method's body.
+fn declare_outside<'t>(worst: &mut Option<FrontFault>, scope: &mut Scope<'t>, name: Name<'t>, kind: Kind) -> Result<(), AllocError>
+    requires { scope.old.bodies ≡ [] }
+    ensures faults { OnOk result (worst.new ≡ least worst.old (again scope.old.names (record { name = word name.entry; known = known kind 0 }))) }
+    ensures scope { OnOk result (scope.new ≡ with_declared scope.old (record { name = word name.entry; known = known kind 0 } ∷ [])) }
+{
+    check_new(worst, scope, name);
+    scope.declare(name, kind)
+}
+
+// The shared numbers.
+fn declare_shared<'t>(worst: &mut Option<FrontFault>, scope: &mut Scope<'t>, shared: &[Shared<'t>]) -> Result<(), AllocError>
+    requires { scope.old.bodies ≡ [] }
+    ensures faults { OnOk result (worst.new ≡ least worst.old (declared_again scope.old.names (map shared_declaration (map shared_value shared.now)))) }
+    ensures scope { OnOk result (scope.new ≡ with_declared scope.old (map shared_declaration (map shared_value shared.now))) }
+{
+    for number in shared {
+        declare_outside(worst, scope, number.name, Kind::Shared)?;
+    }
+    Ok(())
+}
+
+fn kind_of(takes: ParamKind) -> Kind
+    ensures { result ≡ param_kind takes }
+{
+    match takes {
+        ParamKind::Number => Kind::Val,
+        ParamKind::Clock => Kind::Clock,
+    }
+}
+
+// A method's parameters.
+fn declare_params<'t>(worst: &mut Option<FrontFault>, scope: &mut Scope<'t>, params: &[Param<'t>]) -> Result<(), AllocError>
+    requires { scope.old.bodies ≡ [] }
+    ensures faults { OnOk result (worst.new ≡ least worst.old (declared_again scope.old.names (map param_declaration (map param_value params.now)))) }
+    ensures scope { OnOk result (scope.new ≡ with_declared scope.old (map param_declaration (map param_value params.now))) }
+{
+    for param in params {
+        declare_outside(worst, scope, param.name, kind_of(param.takes.kind))?;
+    }
+    Ok(())
+}
+
+// The methods by their names.
+fn methods_of<'a, 't>(alloc: Global, worst: &mut Option<FrontFault>, methods: &'a [Method<'t>]) -> Result<Methods<'a, 't>, AllocError>
+    ensures faults { OnOk result (worst.new ≡ least worst.old (methods_again [] (map method_value methods.now))) }
+    ensures methods { IfOk result (λ ms. ms ≡ put_methods [] (map method_value methods.now)) }
+{
+    let mut found = Methods::new(alloc);
+    for method in methods {
+        let is_there = found.find(method.name.text).is_some();
+        note_if(is_there, worst, FrontRule::DuplicateName, method.name.at);
+        found.put(method.name.text, method.params.as_slice())?;
+    }
+    Ok(found)
+}
+
+// A method's parameters and body.
+fn check_method<'t>(alloc: Global, worst: &mut Option<FrontFault>, scope: &mut Scope<'t>, methods: &Methods<'_, 't>, method: &Method<'t>) -> Result<(), AllocError>
+    requires { scope.old.bodies ≡ [] }
+    ensures faults { OnOk result (worst.new ≡ least worst.old (method_faults methods.now scope.old.names (method_value method.now))) }
+    ensures scope { OnOk result (scope.new ≡ scope.old) }
+{
+    let outside = scope.len();
+    declare_params(worst, scope, method.params.as_slice())?;
+    check_block(alloc, worst, scope, methods, method.body.as_slice())?;
+    scope.cut(outside);
+    Ok(())
+}
+
+// The methods' parameters and bodies.
+fn check_methods<'t>(alloc: Global, worst: &mut Option<FrontFault>, scope: &mut Scope<'t>, methods: &Methods<'_, 't>, all: &[Method<'t>]) -> Result<(), AllocError>
+    requires { scope.old.bodies ≡ [] }
+    ensures faults { OnOk result (worst.new ≡ least worst.old (flat_map (method_faults methods.now scope.old.names) (map method_value all.now))) }
+{
+    for method in all {
+        check_method(alloc, worst, scope, methods, method)?;
+    }
+    Ok(())
+}
+
+// The least fault of names, F9 aside; and the methods by their names.
+fn least_fault<'a, 't>(alloc: Global, tree: &'a Tree<'t>) -> Result<(Option<FrontFault>, Methods<'a, 't>), AllocError>
+    ensures worst { IfOk result (λ r. r.0 ≡ least None (name_faults (tree_value tree.now))) }
+    ensures methods { IfOk result (λ r. r.1 ≡ put_methods [] (map method_value tree.now.methods.items)) }
+{
+    let mut worst = None;
+    let mut scope = Scope::new(alloc);
+    declare_shared(&mut worst, &mut scope, tree.shared.as_slice())?;
+    let methods = methods_of(alloc, &mut worst, tree.methods.as_slice())?;
+    check_methods(alloc, &mut worst, &mut scope, &methods, tree.methods.as_slice())?;
+    Ok((worst, methods))
+}

@@ -1,0 +1,119 @@
+//! What a place sees.
+
+ghost use Rattle.std.specs.Prelude.{◌≡◌, ℕ, List, [], ◌∷◌, length, OnOk};
+ghost use Rattle.xk_tree.specs.Tree.{Statements, word};
+ghost use Rattle.xk_names.specs.Scope.{Declaration, Scope as Seen, find, fits, known, sees, is_given};
+ghost use Rattle.xk_names.specs.Collected.{after, with_declared};
+
+use crate::known::{Kind, Known, Want};
+use crate::table::{Table, Texts};
+use std::alloc::{AllocError, Global};
+use std::collections::VecDeque;
+use std::marker::Model;
+use xk_tree::Name;
+
+impl Kind {
+    // Whether a name of this kind may stand where that is wanted.
+    pub fn fits(self, want: Want) -> bool
+        ensures { result ≡ fits want self }
+    {
+        match want {
+            Want::Number => matches!(self, Kind::Val | Kind::Var),
+            Want::Readable => !matches!(self, Kind::Clock),
+            Want::Clock => matches!(self, Kind::Clock),
+            Want::Assigned => matches!(self, Kind::Var | Kind::Shared),
+            Want::Shared => matches!(self, Kind::Shared),
+        }
+    }
+}
+
+// The names that are visible at a place, and the bodies of `async` that hold it, the innermost first, with the clocks that each was given.
+#[derive(Drop)]
+pub struct Scope<'t> {
+    names: Table<'t, Known>,
+    bodies: VecDeque<Texts<'t>>,
+}
+
+impl<'t> Model for Scope<'t> {
+    ghost Value = { Seen };
+
+    ghost view = { λ s. record { names = s.names; bodies = s.bodies.items } };
+}
+
+impl<'t> Scope<'t> {
+    pub fn new(alloc: Global) -> Self
+        ensures { result ≡ record { names = []; bodies = [] } }
+    {
+        Scope {
+            names: Table::new(alloc),
+            bodies: VecDeque::new(alloc),
+        }
+    }
+
+    pub fn find(&self, text: &'t [u8]) -> Option<Known>
+        ensures { result ≡ find self.now.names text.now }
+    {
+        self.names.find(text)
+    }
+
+    // How many names are visible.
+    pub fn len(&self) -> usize
+        ensures { result ≡ length self.now.names }
+    {
+        self.names.len()
+    }
+
+    fn is_given(&self, text: &'t [u8]) -> bool
+        ensures { result ≡ is_given self.now text.now }
+    {
+        match self.bodies.front() {
+            None => false,
+            Some(clocks) => clocks.contains(text),
+        }
+    }
+
+    // Whether what is known of a name is seen from here.
+    pub fn sees(&self, text: &'t [u8], known: Known) -> bool
+        ensures { result ≡ sees self.now text.now known }
+    {
+        match known.kind {
+            Kind::Shared => true,
+            Kind::Val => true,
+            Kind::Var => known.depth == self.bodies.len(),
+            Kind::Clock => known.depth == self.bodies.len() || self.is_given(text),
+        }
+    }
+
+    // Declares a name, unless one of the same text is visible.
+    pub fn declare(&mut self, name: Name<'t>, kind: Kind) -> Result<(), AllocError>
+        ensures { OnOk result (self.new ≡ with_declared self.old (record { name = word name.entry; known = known kind (length self.old.bodies) } ∷ [])) }
+    {
+        let depth = self.bodies.len();
+        self.names.put(name.text, Known { kind, depth })
+    }
+
+    // Forgets what was declared since so many names were visible.
+    pub fn cut(&mut self, len: usize)
+        ensures behind { (before : Seen) (ds : List Declaration) → self.old ≡ with_declared before ds → len ≡ length before.names → self.new ≡ before }
+        ensures after { (before : Seen) (ss : Statements) → self.old ≡ after before ss → len ≡ length before.names → self.new ≡ before }
+    {
+        self.names.truncate(len);
+    }
+
+    // Goes into the body of an `async` that is given these clocks.
+    pub fn enter(&mut self, clocks: Texts<'t>) -> Result<(), AllocError>
+        ensures { OnOk result (self.new ≡ record { names = self.old.names; bodies = clocks.entry ∷ self.old.bodies }) }
+    {
+        self.bodies.push_front(clocks)?;
+        Ok(())
+    }
+
+    // Leaves it, where so many names were visible outside.
+    pub fn leave(&mut self, len: usize)
+        ensures { (before : Seen) (clocks : List (List ℕ)) (ds : List Declaration)
+            → self.old ≡ with_declared (record { names = before.names; bodies = clocks ∷ before.bodies }) ds → len ≡ length before.names → self.new ≡ before }
+    {
+        self.names.truncate(len);
+        let _clocks = self.bodies.pop_front();
+    }
+}

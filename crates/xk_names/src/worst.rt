@@ -1,0 +1,39 @@
+//! Which of the faults is reported.
+
+ghost use Rattle.std.specs.Prelude.{◌≡◌};
+ghost use Rattle.xk_names.specs.Faults.{fault};
+ghost use Rattle.xk_names.specs.Collected.{is_reported_before, least, lesser, when};
+
+use xk_tree::{FrontFault, FrontRule};
+
+fn is_reported_before(f: FrontFault, g: FrontFault) -> bool
+    ensures { result ≡ is_reported_before f g }
+{
+    f.at < g.at || f.at == g.at && f.rule.number() < g.rule.number()
+}
+
+// One fault more.
+pub fn note(worst: &mut Option<FrontFault>, rule: FrontRule, at: usize)
+    ensures { worst.new ≡ lesser worst.old (fault rule at) }
+{
+    let found = FrontFault { rule, at };
+    match *worst {
+        None => {
+            *worst = Some(found);
+        }
+        Some(least) => {
+            if is_reported_before(found, least) {
+                *worst = Some(found);
+            }
+        }
+    }
+}
+
+// One fault more, if there is one.
+pub fn note_if(is_there: bool, worst: &mut Option<FrontFault>, rule: FrontRule, at: usize)
+    ensures { worst.new ≡ least worst.old (when is_there rule at) }
+{
+    if is_there {
+        note(worst, rule, at);
+    }
+}
