@@ -4,4 +4,10 @@ pub mod Turns
 pub mod Calls
 pub mod Cuts
 pub mod Steps
+pub mod Among
+pub mod Agreement
+pub mod Own
+pub mod OwnSame
+pub mod Walked
+pub mod Whole
 mod Rows
