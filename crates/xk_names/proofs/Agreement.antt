@@ -38,6 +38,7 @@ find_put {A} table y a x = go (find table y) refl
     there (Some i) j e f b g = refl
     there None j e f false g = refl
     there None j e f true g = absurd (none-some j (sym f ∙ ap (find table) ((bytes_decides x y).0 g) ∙ e))
+
     go : (o : Option A) → find table y ≡ o → find (cond (is_some o) table (table ++ (y, a) ∷ [])) x ≡ or_entry (find table x) (is_text x y) a
     go None e = find_behind table y a x
     go (Some j) e = there (find table x) j e refl (is_text x y) refl
@@ -89,6 +90,7 @@ has_put ts y x = go (has ts y) refl
     there true f e b g = refl
     there false f e false g = refl
     there false f e true g = sym f ∙ ap (has ts) ((bytes_decides x y).0 g) ∙ e
+
     go : (b : Bool) → has ts y ≡ b → has (cond b ts (ts ++ y ∷ [])) x ≡ (has ts x || is_text x y)
     go true e = there (has ts x) refl e (is_text x y) refl
     go false e = has_behind ts y x

@@ -21,8 +21,9 @@ has_either (y ∷ xs) ys x (inr h) = elim (has_either xs ys x h) [ inl a ↦ inl
 pub from_flat : {A B : Type 0} (f : A → List B) (xs : List A) (y : B) → Has (flat_map f xs) y → (x : A) × (Has xs x × Has (f x) y)
 from_flat f [] y h = absurd h
 from_flat f (x ∷ xs) y h = elim (has_either (f x) (flat_map f xs) y h) [
-    inl a ↦ (x, (inl refl, a))
-  | inr b ↦ let r = from_flat f xs y b in (r.0, (inr r.1.0, r.1.1)) ]
+  | inl a ↦ (x, (inl refl, a))
+  | inr b ↦ let r = from_flat f xs y b in (r.0, (inr r.1.0, r.1.1))
+]
 
 pub to_flat : {A B : Type 0} (f : A → List B) (xs : List A) (x : A) (y : B) → Has xs x → Has (f x) y → Has (flat_map f xs) y
 to_flat f [] x y h g = absurd h

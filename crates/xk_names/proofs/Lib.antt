@@ -10,4 +10,6 @@ pub mod Own
 pub mod OwnSame
 pub mod Walked
 pub mod Whole
+pub mod Reported
+pub mod Answered
 mod Rows

@@ -58,10 +58,11 @@ append_empty (x ∷ xs) = ap (λ r. x ∷ r) (append_empty xs)
 from_repeats : (kept seen : List (List ℕ)) (cs : List Word) (f : FrontFault) → HasSame kept seen → Has (repeats kept cs) f → Repeated seen cs f
 from_repeats kept seen [] f same h = absurd h
 from_repeats kept seen (c ∷ cs) f same h = elim (has_either (when (has kept c.text) rule.SameClockTwice c.at) (repeats (put_text kept c.text) cs) f h) [
-    inl a ↦ let r = from_when (has kept c.text) rule.SameClockTwice c.at f a in
-        ([], (c, (cs, refl, ap (λ t. has t c.text) (append_empty seen) ∙ sym (same c.text) ∙ r.0, r.1)))
+  | inl a ↦ let r = from_when (has kept c.text) rule.SameClockTwice c.at f a in
+      ([], (c, (cs, refl, ap (λ t. has t c.text) (append_empty seen) ∙ sym (same c.text) ∙ r.0, r.1)))
   | inr b ↦ let r = from_repeats (put_text kept c.text) (seen ++ c.text ∷ []) cs f (put_text_same kept seen c.text same) b in
-        (c ∷ r.0, (r.1.0, (r.1.1.0, ap (λ t. c ∷ t) r.1.1.1, ap (λ t. has t r.1.0.text) (append_step seen c.text (texts r.0)) ∙ r.1.1.2, r.1.1.3))) ]
+      (c ∷ r.0, (r.1.0, (r.1.1.0, ap (λ t. c ∷ t) r.1.1.1, ap (λ t. has t r.1.0.text) (append_step seen c.text (texts r.0)) ∙ r.1.1.2, r.1.1.3)))
+]
 
 to_repeats : (kept seen : List (List ℕ)) (before : List Word) (c : Word) (after : List Word) (f : FrontFault) → HasSame kept seen
     → has (seen ++ texts before) c.text ≡ true → f ≡ fault rule.SameClockTwice c.at → Has (repeats kept (before ++ c ∷ after)) f
@@ -93,25 +94,31 @@ pub own_breaks : (ms : Signatures) (sc : Scope) (t : Statement) (f : FrontFault)
 unfolding own
 own_breaks ms sc t f h =
     elim (has_either (flat_map (use_faults sc) (uses ms sc.names t)) _ f h) [
-      inl a ↦ let r = from_flat (use_faults sc) (uses ms sc.names t) f a in of_use r.0 (find sc.names r.0.name.text) refl r.1.0 r.1.1
-    | inr b ↦ elim (has_either (flat_map (again sc.names) (declares (length sc.bodies) t)) _ f b) [
-        inl a ↦ let r = from_flat (again sc.names) (declares (length sc.bodies) t) f a in
+      | inl a ↦ let r = from_flat (use_faults sc) (uses ms sc.names t) f a in of_use r.0 (find sc.names r.0.name.text) refl r.1.0 r.1.1
+      | inr b ↦ elim (has_either (flat_map (again sc.names) (declares (length sc.bodies) t)) _ f b) [
+        | inl a ↦ let r = from_flat (again sc.names) (declares (length sc.bodies) t) f a in
             let w = from_when (is_some (find sc.names r.0.name.text)) rule.DuplicateName r.0.name.at f r.1.1 in
             let k = some_of (find sc.names r.0.name.text) w.0 in DeclaredAgain r.0 k.0 r.1.0 k.1 w.1
-      | inr c ↦ elim (has_either (map (fault rule.WrongKind) (misfits ms t)) _ f c) [
-          inl a ↦ let r = from_map (fault rule.WrongKind) (misfits ms t) f a in Misfit r.0 r.1.0 r.1.1
-        | inr d ↦ elim (has_either (call_faults ms (calls t)) (repeats [] (clocks_given ms t)) f d) [
-            inl a ↦ let r = from_call ms (calls t) f a in elim r.1.1.1 [
-                inl n ↦ NoMethod r.0 r.1.0 r.1.1.0 n.0 n.1
-              | inr n ↦ OtherCount r.0 r.1.0 n.0 r.1.1.0 n.1.0 n.1.1 n.1.2 ]
-          | inr e ↦ let r = from_repeats [] [] (clocks_given ms t) f (λ x. refl) e in ClockAgain r.0 r.1.0 r.1.1.0 r.1.1.1 r.1.1.2 r.1.1.3 ] ] ] ]
+        | inr c ↦ elim (has_either (map (fault rule.WrongKind) (misfits ms t)) _ f c) [
+          | inl a ↦ let r = from_map (fault rule.WrongKind) (misfits ms t) f a in Misfit r.0 r.1.0 r.1.1
+          | inr d ↦ elim (has_either (call_faults ms (calls t)) (repeats [] (clocks_given ms t)) f d) [
+            | inl a ↦ let r = from_call ms (calls t) f a in elim r.1.1.1 [
+              | inl n ↦ NoMethod r.0 r.1.0 r.1.1.0 n.0 n.1
+              | inr n ↦ OtherCount r.0 r.1.0 n.0 r.1.1.0 n.1.0 n.1.1 n.1.2
+            ]
+            | inr e ↦ let r = from_repeats [] [] (clocks_given ms t) f (λ x. refl) e in ClockAgain r.0 r.1.0 r.1.1.0 r.1.1.1 r.1.1.2 r.1.1.3
+          ]
+        ]
+      ]
+    ]
   where
     of_use : (u : Use) (o : Option Known) → find sc.names u.name.text ≡ o → Has (uses ms sc.names t) u → Has (known_use_faults sc u o) f → Breaks ms sc t f
     of_use u None e among (inl g) = NotVisible u among e g
     of_use u None e among (inr g) = absurd g
     of_use u (Some k) e among g = elim (has_either (unless (fits u.want k.kind) rule.WrongKind u.name.at) (unless (sees sc u.name.text k) rule.NotCaptured u.name.at) f g) [
-        inl a ↦ let r = from_unless (fits u.want k.kind) rule.WrongKind u.name.at f a in OtherKind u k among e r.0 r.1
-      | inr b ↦ let r = from_unless (sees sc u.name.text k) rule.NotCaptured u.name.at f b in NotSeen u k among e r.0 r.1 ]
+      | inl a ↦ let r = from_unless (fits u.want k.kind) rule.WrongKind u.name.at f a in OtherKind u k among e r.0 r.1
+      | inr b ↦ let r = from_unless (sees sc u.name.text k) rule.NotCaptured u.name.at f b in NotSeen u k among e r.0 r.1
+    ]
 
 breaks_where : (ms : Signatures) (sc : Scope) (t : Statement) (f : FrontFault) → Breaks ms sc t f
     → Has (flat_map (use_faults sc) (uses ms sc.names t)) f ⊎ (Has (flat_map (again sc.names) (declares (length sc.bodies) t)) f
@@ -149,11 +156,15 @@ breaks_own ms sc t f b =
     let cs = call_faults ms (calls t) in
     let rs = repeats [] (clocks_given ms t) in
     elim (breaks_where ms sc t f b) [
-      inl a ↦ has_left us (ds ++ (ws ++ (cs ++ rs))) f a
-    | inr x ↦ has_right us (ds ++ (ws ++ (cs ++ rs))) f (elim x [
-        inl a ↦ has_left ds (ws ++ (cs ++ rs)) f a
-      | inr y ↦ has_right ds (ws ++ (cs ++ rs)) f (elim y [
-          inl a ↦ has_left ws (cs ++ rs) f a
-        | inr z ↦ has_right ws (cs ++ rs) f (elim z [
-            inl a ↦ has_left cs rs f a
-          | inr a ↦ has_right cs rs f a ]) ]) ]) ]
+      | inl a ↦ has_left us (ds ++ (ws ++ (cs ++ rs))) f a
+      | inr x ↦ has_right us (ds ++ (ws ++ (cs ++ rs))) f (elim x [
+        | inl a ↦ has_left ds (ws ++ (cs ++ rs)) f a
+        | inr y ↦ has_right ds (ws ++ (cs ++ rs)) f (elim y [
+          | inl a ↦ has_left ws (cs ++ rs) f a
+          | inr z ↦ has_right ws (cs ++ rs) f (elim z [
+            | inl a ↦ has_left cs rs f a
+            | inr a ↦ has_right cs rs f a
+          ])
+        ])
+      ])
+    ]

@@ -44,8 +44,9 @@ own_here ms ns a b s f one same h = own_breaks ns b s f (subst (λ k. Has k f) (
 
 or_here : (ms ns : Signatures) (a b : Scope) (s : Statement) (f : FrontFault) → FindsSame ms ns → Agrees a b → (Has (inside ms a s) f → Inward ns b s f) → Has (faults ms a s) f → Inward ns b s f
 or_here ms ns a b s f one same later h = elim (has_either (own ms a s) (inside ms a s) f h) [
-    inl x ↦ (Here, (s, (refl, own_here ms ns a b s f one same x)))
-  | inr y ↦ later y ]
+  | inl x ↦ (Here, (s, (refl, own_here ms ns a b s f one same x)))
+  | inr y ↦ later y
+]
 
 agrees_behind : (a b : Scope) (ds : ℕ → List Declaration) → Agrees a b → Agrees (with_declared a (ds (length a.bodies))) (with_all b (ds (length b.bodies)))
 agrees_behind a b ds same =
@@ -56,8 +57,9 @@ mutual
   held ms ns a b (Block ss) f one same h = let r = held_among ms ns a b ss f one same h in (Inside r.0, r.1)
   held ms ns a b (If at l c r s) f one same h = let q = or_here ms ns a b s f one same (λ z. held ms ns a b s f one same z) h in (Inside q.0, q.1)
   held ms ns a b (IfElse at l c r s u) f one same h = elim (has_either (faults ms a s) (faults ms a u) f h) [
-      inl x ↦ let q = or_here ms ns a b s f one same (λ z. held ms ns a b s f one same z) x in (Inside q.0, q.1)
-    | inr y ↦ let q = or_here ms ns a b u f one same (λ z. held ms ns a b u f one same z) y in (Else q.0, q.1) ]
+    | inl x ↦ let q = or_here ms ns a b s f one same (λ z. held ms ns a b s f one same z) x in (Inside q.0, q.1)
+    | inr y ↦ let q = or_here ms ns a b u f one same (λ z. held ms ns a b u f one same z) y in (Else q.0, q.1)
+  ]
   held ms ns a b (For at i lo hi s) f one same h =
       let more = agrees_behind a b (λ n. declares n (For at i lo hi s)) same in
       let c = with_declared a (declares (length a.bodies) (For at i lo hi s)) in
@@ -76,8 +78,9 @@ mutual
   held_among ms ns a b (More s ss) f one same h =
       let more = agrees_behind a b (λ n. behind n s) same in
       elim (has_either (faults ms a s) (among ms (with_declared a (behind (length a.bodies) s)) ss) f h) [
-        inl x ↦ let q = or_here ms ns a b s f one same (λ z. held ms ns a b s f one same z) x in (First q.0, q.1)
-      | inr y ↦ let q = held_among ms ns (with_declared a (behind (length a.bodies) s)) (with_all b (behind (length b.bodies) s)) ss f one more y in (Later q.0, q.1) ]
+        | inl x ↦ let q = or_here ms ns a b s f one same (λ z. held ms ns a b s f one same z) x in (First q.0, q.1)
+        | inr y ↦ let q = held_among ms ns (with_declared a (behind (length a.bodies) s)) (with_all b (behind (length b.bodies) s)) ss f one more y in (Later q.0, q.1)
+      ]
 
 -- ---- what stands somewhere is in the list
 

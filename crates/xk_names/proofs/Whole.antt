@@ -57,13 +57,14 @@ from_again : (kept : Table Known) (seen ds : List Declaration) (f : FrontFault) 
     → (before : List Declaration) × ((d : Declaration) × ((after : List Declaration) × (ds ≡ before ++ d ∷ after) × (has (texts (map (λ e. e.name) (seen ++ before))) d.name.text ≡ true) × (f ≡ fault rule.DuplicateName d.name.at)))
 from_again kept seen [] f same h = absurd h
 from_again kept seen (d ∷ ds) f same h = elim (has_either (again kept d) (declared_again (put kept d.name.text d.known) ds) f h) [
-    inl a ↦ let r = from_when (is_some (find kept d.name.text)) rule.DuplicateName d.name.at f a in
-        ([], (d, (ds, refl, ap (λ (k : List Declaration). has (texts (map (λ e. e.name) k)) d.name.text) (append_empty seen) ∙ sym (names_found seen d.name.text) ∙ sym (ap is_some (same d.name.text)) ∙ r.0, r.1)))
+  | inl a ↦ let r = from_when (is_some (find kept d.name.text)) rule.DuplicateName d.name.at f a in
+      ([], (d, (ds, refl, ap (λ (k : List Declaration). has (texts (map (λ e. e.name) k)) d.name.text) (append_empty seen) ∙ sym (names_found seen d.name.text) ∙ sym (ap is_some (same d.name.text)) ∙ r.0, r.1)))
   | inr b ↦
-        let more : FindsSame (put kept d.name.text d.known) (entries (seen ++ d ∷ [])) =
-            λ x. put_same kept (entries seen) d.name.text d.known same x ∙ ap (λ t. find t x) (sym (append_entries seen (d ∷ []))) in
-        let r = from_again (put kept d.name.text d.known) (seen ++ d ∷ []) ds f more b in
-        (d ∷ r.0, (r.1.0, (r.1.1.0, ap (λ t. d ∷ t) r.1.1.1, ap (λ (k : List Declaration). has (texts (map (λ e. e.name) k)) r.1.0.name.text) (append_step seen d r.0) ∙ r.1.1.2, r.1.1.3))) ]
+      let more : FindsSame (put kept d.name.text d.known) (entries (seen ++ d ∷ [])) =
+      λ x. put_same kept (entries seen) d.name.text d.known same x ∙ ap (λ t. find t x) (sym (append_entries seen (d ∷ []))) in
+      let r = from_again (put kept d.name.text d.known) (seen ++ d ∷ []) ds f more b in
+      (d ∷ r.0, (r.1.0, (r.1.1.0, ap (λ t. d ∷ t) r.1.1.1, ap (λ (k : List Declaration). has (texts (map (λ e. e.name) k)) r.1.0.name.text) (append_step seen d r.0) ∙ r.1.1.2, r.1.1.3)))
+]
 
 to_again : (kept : Table Known) (seen before : List Declaration) (d : Declaration) (after : List Declaration) (f : FrontFault) → FindsSame kept (entries seen)
     → has (texts (map (λ e. e.name) (seen ++ before))) d.name.text ≡ true → f ≡ fault rule.DuplicateName d.name.at → Has (declared_again kept (before ++ d ∷ after)) f
@@ -73,7 +74,7 @@ to_again kept seen [] d after f same h e =
     (ap is_some (same d.name.text) ∙ names_found seen d.name.text ∙ sym (ap (λ (k : List Declaration). has (texts (map (λ e. e.name) k)) d.name.text) (append_empty seen)) ∙ h) e)
 to_again kept seen (b ∷ before) d after f same h e =
     let more : FindsSame (put kept b.name.text b.known) (entries (seen ++ b ∷ [])) =
-        λ x. put_same kept (entries seen) b.name.text b.known same x ∙ ap (λ t. find t x) (sym (append_entries seen (b ∷ []))) in
+    λ x. put_same kept (entries seen) b.name.text b.known same x ∙ ap (λ t. find t x) (sym (append_entries seen (b ∷ []))) in
     has_right (again kept b) (declared_again (put kept b.name.text b.known) (before ++ d ∷ after)) f
     (to_again (put kept b.name.text b.known) (seen ++ b ∷ []) before d after f more
     (ap (λ (k : List Declaration). has (texts (map (λ e. e.name) k)) d.name.text) (sym (append_step seen b before)) ∙ h) e)
@@ -81,10 +82,12 @@ to_again kept seen (b ∷ before) d after f same h e =
 again_joined : (kept : Table Known) (ds es : List Declaration) (f : FrontFault) → Has (declared_again kept (ds ++ es)) f → Has (declared_again kept ds) f ⊎ Has (declared_again (put_all kept ds) es) f
 again_joined kept [] es f h = inr h
 again_joined kept (d ∷ ds) es f h = elim (has_either (again kept d) (declared_again (put kept d.name.text d.known) (ds ++ es)) f h) [
-    inl a ↦ inl (has_left (again kept d) (declared_again (put kept d.name.text d.known) ds) f a)
+  | inl a ↦ inl (has_left (again kept d) (declared_again (put kept d.name.text d.known) ds) f a)
   | inr b ↦ elim (again_joined (put kept d.name.text d.known) ds es f b) [
-      inl x ↦ inl (has_right (again kept d) (declared_again (put kept d.name.text d.known) ds) f x)
-    | inr y ↦ inr y ] ]
+    | inl x ↦ inl (has_right (again kept d) (declared_again (put kept d.name.text d.known) ds) f x)
+    | inr y ↦ inr y
+  ]
+]
 
 -- ---- lists of methods
 
@@ -92,13 +95,14 @@ from_methods : (kept : Signatures) (seen ms : List MethodValue) (f : FrontFault)
     → (before : List MethodValue) × ((m : MethodValue) × ((after : List MethodValue) × (ms ≡ before ++ m ∷ after) × (has (texts (map (λ n. n.name) (seen ++ before))) m.name.text ≡ true) × (f ≡ fault rule.DuplicateName m.name.at)))
 from_methods kept seen [] f same h = absurd h
 from_methods kept seen (m ∷ ms) f same h = elim (has_either (when (is_some (find kept m.name.text)) rule.DuplicateName m.name.at) (methods_again (put kept m.name.text m.params) ms) f h) [
-    inl a ↦ let r = from_when (is_some (find kept m.name.text)) rule.DuplicateName m.name.at f a in
-        ([], (m, (ms, refl, ap (λ (k : List MethodValue). has (texts (map (λ n. n.name) k)) m.name.text) (append_empty seen) ∙ sym (methods_found seen m.name.text) ∙ sym (ap is_some (same m.name.text)) ∙ r.0, r.1)))
+  | inl a ↦ let r = from_when (is_some (find kept m.name.text)) rule.DuplicateName m.name.at f a in
+      ([], (m, (ms, refl, ap (λ (k : List MethodValue). has (texts (map (λ n. n.name) k)) m.name.text) (append_empty seen) ∙ sym (methods_found seen m.name.text) ∙ sym (ap is_some (same m.name.text)) ∙ r.0, r.1)))
   | inr b ↦
-        let more : FindsSame (put kept m.name.text m.params) (signatures (seen ++ m ∷ [])) =
-            λ x. put_same kept (signatures seen) m.name.text m.params same x ∙ ap (λ t. find t x) (sym (append_signatures seen (m ∷ []))) in
-        let r = from_methods (put kept m.name.text m.params) (seen ++ m ∷ []) ms f more b in
-        (m ∷ r.0, (r.1.0, (r.1.1.0, ap (λ t. m ∷ t) r.1.1.1, ap (λ (k : List MethodValue). has (texts (map (λ n. n.name) k)) r.1.0.name.text) (append_step seen m r.0) ∙ r.1.1.2, r.1.1.3))) ]
+      let more : FindsSame (put kept m.name.text m.params) (signatures (seen ++ m ∷ [])) =
+      λ x. put_same kept (signatures seen) m.name.text m.params same x ∙ ap (λ t. find t x) (sym (append_signatures seen (m ∷ []))) in
+      let r = from_methods (put kept m.name.text m.params) (seen ++ m ∷ []) ms f more b in
+      (m ∷ r.0, (r.1.0, (r.1.1.0, ap (λ t. m ∷ t) r.1.1.1, ap (λ (k : List MethodValue). has (texts (map (λ n. n.name) k)) r.1.0.name.text) (append_step seen m r.0) ∙ r.1.1.2, r.1.1.3)))
+]
 
 to_methods : (kept : Signatures) (seen before : List MethodValue) (m : MethodValue) (after : List MethodValue) (f : FrontFault) → FindsSame kept (signatures seen)
     → has (texts (map (λ n. n.name) (seen ++ before))) m.name.text ≡ true → f ≡ fault rule.DuplicateName m.name.at → Has (methods_again kept (before ++ m ∷ after)) f
@@ -108,26 +112,26 @@ to_methods kept seen [] m after f same h e =
     (ap is_some (same m.name.text) ∙ methods_found seen m.name.text ∙ sym (ap (λ (k : List MethodValue). has (texts (map (λ n. n.name) k)) m.name.text) (append_empty seen)) ∙ h) e)
 to_methods kept seen (b ∷ before) m after f same h e =
     let more : FindsSame (put kept b.name.text b.params) (signatures (seen ++ b ∷ [])) =
-        λ x. put_same kept (signatures seen) b.name.text b.params same x ∙ ap (λ t. find t x) (sym (append_signatures seen (b ∷ []))) in
+    λ x. put_same kept (signatures seen) b.name.text b.params same x ∙ ap (λ t. find t x) (sym (append_signatures seen (b ∷ []))) in
     has_right (when (is_some (find kept b.name.text)) rule.DuplicateName b.name.at) (methods_again (put kept b.name.text b.params) (before ++ m ∷ after)) f
     (to_methods (put kept b.name.text b.params) (seen ++ b ∷ []) before m after f more
     (ap (λ (k : List MethodValue). has (texts (map (λ n. n.name) k)) m.name.text) (sym (append_step seen b before)) ∙ h) e)
 
 -- ---- methods
 
-abbrev outside : TreeValue → Table Known
+abbrev pub outside : TreeValue → Table Known
 outside t = put_all [] (map shared_declaration t.shared)
 
-abbrev called : TreeValue → Signatures
+abbrev pub called : TreeValue → Signatures
 called t = put_methods [] t.methods
 
-abbrev inside_kept : TreeValue → MethodValue → Scope
+abbrev pub inside_kept : TreeValue → MethodValue → Scope
 inside_kept t m = record { names = put_all (outside t) (map param_declaration m.params); bodies = [] }
 
-abbrev inside_seen : TreeValue → MethodValue → Scope
+abbrev pub inside_seen : TreeValue → MethodValue → Scope
 inside_seen t m = record { names = entries (declared_before t m); bodies = [] }
 
-called_same : (t : TreeValue) → FindsSame (called t) (signatures t.methods)
+pub called_same : (t : TreeValue) → FindsSame (called t) (signatures t.methods)
 called_same t x = put_methods_same [] [] t.methods (λ y. refl) x
 
 outside_same : (t : TreeValue) → FindsSame (outside t) (entries (map shared_declaration t.shared))
@@ -135,9 +139,11 @@ outside_same t x = put_all_same [] [] (map shared_declaration t.shared) (λ y. r
 
 inside_same : (t : TreeValue) (m : MethodValue) → Agrees (inside_kept t m) (inside_seen t m)
 inside_same t m = record {
-    names = λ x. put_all_same (outside t) (entries (map shared_declaration t.shared)) (map param_declaration m.params) (outside_same t) x
-        ∙ ap (λ k. find k x) (sym (append_entries (map shared_declaration t.shared) (map param_declaration m.params)));
-    depth = refl; given = λ x. refl }
+  names = λ x. put_all_same (outside t) (entries (map shared_declaration t.shared)) (map param_declaration m.params) (outside_same t) x
+      ∙ ap (λ k. find k x) (sym (append_entries (map shared_declaration t.shared) (map param_declaration m.params)));
+  depth = refl;
+  given = λ x. refl;
+}
 
 -- what a place sees, by its way
 seen_at : (t : TreeValue) (m : MethodValue) (w : Way)
@@ -146,22 +152,35 @@ seen_at t m w = ap (λ k. let r : Scope = record { names = k; bodies = bodies_am
 
 from_method : (t : TreeValue) (m : MethodValue) (f : FrontFault) → Has t.methods m → Has (method_faults (called t) (outside t) m) f → HasNameFault t f
 from_method t m f there h = elim (has_either (declared_again (outside t) (map param_declaration m.params)) (among (called t) (inside_kept t m) m.body) f h) [
-    inl a ↦ let r = from_again (outside t) (map shared_declaration t.shared) (map param_declaration m.params) f (outside_same t) a in
-        InParams m there (record { before = map shared_declaration t.shared ++ r.0; declaration = r.1.0; after = r.1.1.0;
-            stands = ap (λ k. map shared_declaration t.shared ++ k) r.1.1.1 ∙ sym (append_assoc (map shared_declaration t.shared) r.0 (r.1.0 ∷ r.1.1.0)); again = r.1.1.2; is = r.1.1.3 })
+  | inl a ↦ let r = from_again (outside t) (map shared_declaration t.shared) (map param_declaration m.params) f (outside_same t) a in
+      InParams m there (record {
+        before = map shared_declaration t.shared ++ r.0;
+        declaration = r.1.0;
+        after = r.1.1.0;
+        stands = ap (λ k. map shared_declaration t.shared ++ k) r.1.1.1 ∙ sym (append_assoc (map shared_declaration t.shared) r.0 (r.1.0 ∷ r.1.1.0));
+        again = r.1.1.2;
+        is = r.1.1.3;
+      })
   | inr b ↦ let r = held_among (called t) (signatures t.methods) (inside_kept t m) (inside_seen t m) m.body f (called_same t) (inside_same t m) b in
-        InBody m there (record { way = r.0; statement = r.1.0; stands = r.1.1.0;
-            breaks = subst (λ (k : Scope). Breaks (signatures t.methods) k r.1.0 f) (among_once (inside_seen t m) m.body r.0 ∙ seen_at t m r.0) r.1.1.1 }) ]
+      InBody m there (record {
+        way = r.0;
+        statement = r.1.0;
+        stands = r.1.1.0;
+        breaks = subst (λ (k : Scope). Breaks (signatures t.methods) k r.1.0 f) (among_once (inside_seen t m) m.body r.0 ∙ seen_at t m r.0) r.1.1.1;
+      })
+]
 
 pub fault_there : (t : TreeValue) (f : FrontFault) → Has (name_faults t) f → HasNameFault t f
 fault_there t f h =
     elim (has_either (declared_again [] (map shared_declaration t.shared)) (methods_again [] t.methods ++ flat_map (method_faults (called t) (outside t)) t.methods) f h) [
-      inl a ↦ let r = from_again [] [] (map shared_declaration t.shared) f (λ x. refl) a in
+      | inl a ↦ let r = from_again [] [] (map shared_declaration t.shared) f (λ x. refl) a in
           InShared (record { before = r.0; declaration = r.1.0; after = r.1.1.0; stands = r.1.1.1; again = r.1.1.2; is = r.1.1.3 })
-    | inr b ↦ elim (has_either (methods_again [] t.methods) (flat_map (method_faults (called t) (outside t)) t.methods) f b) [
-        inl a ↦ let r = from_methods [] [] t.methods f (λ x. refl) a in
+      | inr b ↦ elim (has_either (methods_again [] t.methods) (flat_map (method_faults (called t) (outside t)) t.methods) f b) [
+        | inl a ↦ let r = from_methods [] [] t.methods f (λ x. refl) a in
             InMethods (record { before = r.0; method = r.1.0; after = r.1.1.0; stands = r.1.1.1; again = r.1.1.2; is = r.1.1.3 })
-      | inr c ↦ let r = from_flat (method_faults (called t) (outside t)) t.methods f c in from_method t r.0 f r.1.0 r.1.1 ] ]
+        | inr c ↦ let r = from_flat (method_faults (called t) (outside t)) t.methods f c in from_method t r.0 f r.1.0 r.1.1
+      ]
+    ]
 
 -- ---- and the other way
 
@@ -183,8 +202,9 @@ fault_listed t f (InMethods r) =
     (has_left (methods_again [] t.methods) (flat_map (method_faults (called t) (outside t)) t.methods) f
     (subst (λ (k : List MethodValue). Has (methods_again [] k) f) (sym r.stands) (to_methods [] [] r.before r.method r.after f (λ x. refl) r.again r.is)))
 fault_listed t f (InParams m there r) = elim (again_joined [] (map shared_declaration t.shared) (map param_declaration m.params) f (again_of (declared_before t m) f r)) [
-    inl a ↦ of_shared t f a
-  | inr b ↦ of_method t m f there (has_left (declared_again (outside t) (map param_declaration m.params)) (among (called t) (inside_kept t m) m.body) f b) ]
+  | inl a ↦ of_shared t f a
+  | inr b ↦ of_method t m f there (has_left (declared_again (outside t) (map param_declaration m.params)) (among (called t) (inside_kept t m) m.body) f b)
+]
 fault_listed t f (InBody m there r) =
     of_method t m f there (has_right (declared_again (outside t) (map param_declaration m.params)) (among (called t) (inside_kept t m) m.body) f
     (listed_among (called t) (signatures t.methods) (inside_kept t m) (inside_seen t m) m.body r.way r.statement f (called_same t) (inside_same t m) r.stands

@@ -99,6 +99,11 @@ no_main = fault rule.NoMain 0
 abbrev pub HasFault : TreeValue → FrontFault → Type 0
 HasFault t f = HasNameFault t f ⊎ ((HasMain t → ⊥) × (f ≡ no_main))
 
--- the first is reported rather than the second, or is the same: it stands earlier, or as early and has no greater number
-abbrev pub IsReportedBefore : FrontFault → FrontFault → Type 0
-IsReportedBefore f g = (f.at < g.at) ⊎ ((f.at ≡ g.at) × (front_number f.rule ≤ front_number g.rule))
+-- the first stands earlier, or at the same offset with no greater number
+abbrev pub IsNoLater : FrontFault → FrontFault → Type 0
+IsNoLater f g = (f.at < g.at) ⊎ ((f.at ≡ g.at) × (front_number f.rule ≤ front_number g.rule))
+
+-- The fault is the one of the tree that is reported: the first of F5, F6, F7, F8, F11 and F12, and where there is none of them F9.
+pub record IsReported (t : TreeValue) (f : FrontFault) : Type 0 where
+  pub there : HasFault t f
+  pub first : (g : FrontFault) → HasNameFault t g → HasNameFault t f × IsNoLater f g

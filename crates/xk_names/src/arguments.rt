@@ -27,11 +27,19 @@ pub struct Argument<'a, 't> {
 }
 
 // The arguments beside the kinds of their parameters, as far as both go.
-fn arguments<'a, 't>(alloc: Global, params: &[Param<'t>], values: &'a [Expr<'t>]) -> Result<Vec<Argument<'a, 't>>, AllocError>
+fn arguments<'a, 't>(
+    alloc: Global,
+    params: &[Param<'t>],
+    values: &'a [Expr<'t>],
+) -> Result<Vec<Argument<'a, 't>>, AllocError>
     ensures { IfOk result (λ v. arguments v.items ≡ given (map param_value params.now) (expressions values.now)) }
 {
     let mut given = Vec::new(alloc);
-    let n = if params.len() < values.len() { params.len() } else { values.len() };
+    let n = if params.len() < values.len() {
+        params.len()
+    } else {
+        values.len()
+    };
     for i in 0..n {
         given.push(Argument {
             takes: params[i].takes.kind,
@@ -42,7 +50,12 @@ fn arguments<'a, 't>(alloc: Global, params: &[Param<'t>], values: &'a [Expr<'t>]
 }
 
 // The names that an argument uses.
-fn check_argument<'t>(worst: &mut Option<FrontFault>, scope: &Scope<'t>, takes: ParamKind, value: &Expr<'t>)
+fn check_argument<'t>(
+    worst: &mut Option<FrontFault>,
+    scope: &Scope<'t>,
+    takes: ParamKind,
+    value: &Expr<'t>,
+)
     ensures { worst.new ≡ least worst.old (flat_map (use_faults scope.now) (argument_uses takes (expression value.now))) }
 {
     match takes {
@@ -68,7 +81,11 @@ fn check_misfit(worst: &mut Option<FrontFault>, takes: ParamKind, value: &Expr<'
 }
 
 // A clock that stands behind these.
-fn check_again<'t>(worst: &mut Option<FrontFault>, clocks: &mut Texts<'t>, c: Name<'t>) -> Result<(), AllocError>
+fn check_again<'t>(
+    worst: &mut Option<FrontFault>,
+    clocks: &mut Texts<'t>,
+    c: Name<'t>,
+) -> Result<(), AllocError>
     ensures faults { OnOk result (worst.new ≡ least worst.old (when (has clocks.old c.entry.text.now) FrontRule.SameClockTwice c.entry.at)) }
     ensures clocks { OnOk result (clocks.new ≡ put_text clocks.old c.entry.text.now) }
 {
@@ -78,7 +95,12 @@ fn check_again<'t>(worst: &mut Option<FrontFault>, clocks: &mut Texts<'t>, c: Na
 }
 
 // The clock that an argument gives.
-fn check_clock<'t>(worst: &mut Option<FrontFault>, clocks: &mut Texts<'t>, takes: ParamKind, value: &Expr<'t>) -> Result<(), AllocError>
+fn check_clock<'t>(
+    worst: &mut Option<FrontFault>,
+    clocks: &mut Texts<'t>,
+    takes: ParamKind,
+    value: &Expr<'t>,
+) -> Result<(), AllocError>
     ensures faults { OnOk result (worst.new ≡ least worst.old (repeats clocks.old (argument_clocks takes (expression value.now)))) }
     ensures clocks { OnOk result (clocks.new ≡ put_texts clocks.old (argument_clocks takes (expression value.now))) }
 {
@@ -107,7 +129,11 @@ fn check_misfits(worst: &mut Option<FrontFault>, given: &[Argument<'_, '_>])
     }
 }
 
-fn check_clocks<'t>(alloc: Global, worst: &mut Option<FrontFault>, given: &[Argument<'_, 't>]) -> Result<(), AllocError>
+fn check_clocks<'t>(
+    alloc: Global,
+    worst: &mut Option<FrontFault>,
+    given: &[Argument<'_, 't>],
+) -> Result<(), AllocError>
     ensures { OnOk result (worst.new ≡ least worst.old (repeats [] (flat_map (λ a. argument_clocks a.0 a.1) (arguments given.now)))) }
 {
     let mut clocks = Texts::new(alloc);
@@ -118,7 +144,11 @@ fn check_clocks<'t>(alloc: Global, worst: &mut Option<FrontFault>, given: &[Argu
 }
 
 // The clocks of a list, which have to be different.
-pub fn check_list<'t>(alloc: Global, worst: &mut Option<FrontFault>, names: &[Name<'t>]) -> Result<Texts<'t>, AllocError>
+pub fn check_list<'t>(
+    alloc: Global,
+    worst: &mut Option<FrontFault>,
+    names: &[Name<'t>],
+) -> Result<Texts<'t>, AllocError>
     ensures faults { OnOk result (worst.new ≡ least worst.old (repeats [] (words names.now))) }
     ensures clocks { IfOk result (λ clocks. clocks ≡ put_texts [] (words names.now)) }
 {
@@ -148,7 +178,14 @@ fn check_count(worst: &mut Option<FrontFault>, at: usize, params: usize, values:
 }
 
 // A call's arguments, where the method takes these.
-fn check_arguments<'t>(alloc: Global, worst: &mut Option<FrontFault>, scope: &Scope<'t>, g: Name<'t>, params: &[Param<'t>], values: &[Expr<'t>]) -> Result<(), AllocError>
+fn check_arguments<'t>(
+    alloc: Global,
+    worst: &mut Option<FrontFault>,
+    scope: &Scope<'t>,
+    g: Name<'t>,
+    params: &[Param<'t>],
+    values: &[Expr<'t>],
+) -> Result<(), AllocError>
     ensures { OnOk result (worst.new ≡ least worst.old (call_all scope.now (word g.entry) (Some (map param_value params.now)) (expressions values.now))) }
 {
     let given = arguments(alloc, params, values)?;
@@ -161,7 +198,14 @@ fn check_arguments<'t>(alloc: Global, worst: &mut Option<FrontFault>, scope: &Sc
 }
 
 // A call.
-pub fn check_call<'t>(alloc: Global, worst: &mut Option<FrontFault>, scope: &Scope<'t>, methods: &Methods<'_, 't>, g: Name<'t>, values: &[Expr<'t>]) -> Result<(), AllocError>
+pub fn check_call<'t>(
+    alloc: Global,
+    worst: &mut Option<FrontFault>,
+    scope: &Scope<'t>,
+    methods: &Methods<'_, 't>,
+    g: Name<'t>,
+    values: &[Expr<'t>],
+) -> Result<(), AllocError>
     ensures { OnOk result (worst.new ≡ least worst.old (call_all scope.now (word g.entry) (find methods.now g.entry.text.now) (expressions values.now))) }
 {
     match methods.find(g.text) {

@@ -39,7 +39,13 @@ fn given<'t>(alloc: Global, clocks: &Option<ClockList<'t>>) -> Result<Texts<'t>,
 
 // The faults of a statement; the scope is then that of what stands behind it.
 #[cycle(statements)]
-fn check<'t>(alloc: Global, worst: &mut Option<FrontFault>, scope: &mut Scope<'t>, methods: &Methods<'_, 't>, s: &Stmt<'t>) -> Result<(), AllocError>
+fn check<'t>(
+    alloc: Global,
+    worst: &mut Option<FrontFault>,
+    scope: &mut Scope<'t>,
+    methods: &Methods<'_, 't>,
+    s: &Stmt<'t>,
+) -> Result<(), AllocError>
     ensures faults { OnOk result (worst.new ≡ least worst.old (faults methods.now scope.old (statement s.now))) }
     ensures scope { OnOk result (scope.new ≡ with_declared scope.old (behind (length scope.old.bodies) (statement s.now))) }
 {
@@ -88,7 +94,13 @@ fn check<'t>(alloc: Global, worst: &mut Option<FrontFault>, scope: &mut Scope<'t
 
 // Statements that are a scope.
 #[cycle(statements)]
-pub fn check_block<'t>(alloc: Global, worst: &mut Option<FrontFault>, scope: &mut Scope<'t>, methods: &Methods<'_, 't>, ss: &[Stmt<'t>]) -> Result<(), AllocError>
+pub fn check_block<'t>(
+    alloc: Global,
+    worst: &mut Option<FrontFault>,
+    scope: &mut Scope<'t>,
+    methods: &Methods<'_, 't>,
+    ss: &[Stmt<'t>],
+) -> Result<(), AllocError>
     ensures faults { OnOk result (worst.new ≡ least worst.old (among methods.now scope.old (statements ss.now))) }
     ensures scope { OnOk result (scope.new ≡ scope.old) }
 {
@@ -102,7 +114,13 @@ pub fn check_block<'t>(alloc: Global, worst: &mut Option<FrontFault>, scope: &mu
 
 // A statement that is a scope.
 #[cycle(statements)]
-fn check_held<'t>(alloc: Global, worst: &mut Option<FrontFault>, scope: &mut Scope<'t>, methods: &Methods<'_, 't>, s: &Stmt<'t>) -> Result<(), AllocError>
+fn check_held<'t>(
+    alloc: Global,
+    worst: &mut Option<FrontFault>,
+    scope: &mut Scope<'t>,
+    methods: &Methods<'_, 't>,
+    s: &Stmt<'t>,
+) -> Result<(), AllocError>
     ensures faults { OnOk result (worst.new ≡ least worst.old (faults methods.now scope.old (statement s.now))) }
     ensures scope { OnOk result (scope.new ≡ scope.old) }
 {
@@ -114,7 +132,14 @@ fn check_held<'t>(alloc: Global, worst: &mut Option<FrontFault>, scope: &mut Sco
 
 // The body of a loop whose name is x.
 #[cycle(statements)]
-fn check_loop<'t>(alloc: Global, worst: &mut Option<FrontFault>, scope: &mut Scope<'t>, methods: &Methods<'_, 't>, x: Name<'t>, s: &Stmt<'t>) -> Result<(), AllocError>
+fn check_loop<'t>(
+    alloc: Global,
+    worst: &mut Option<FrontFault>,
+    scope: &mut Scope<'t>,
+    methods: &Methods<'_, 't>,
+    x: Name<'t>,
+    s: &Stmt<'t>,
+) -> Result<(), AllocError>
     ensures faults { OnOk result (worst.new ≡ least worst.old
         (faults methods.now (with_declared scope.old (record { name = word x.entry; known = known Kind.Val (length scope.old.bodies) } ∷ [])) (statement s.now))) }
     ensures scope { OnOk result (scope.new ≡ scope.old) }
@@ -128,7 +153,14 @@ fn check_loop<'t>(alloc: Global, worst: &mut Option<FrontFault>, scope: &mut Sco
 
 // The body of an `async`.
 #[cycle(statements)]
-fn check_body<'t>(alloc: Global, worst: &mut Option<FrontFault>, scope: &mut Scope<'t>, methods: &Methods<'_, 't>, clocks: Texts<'t>, s: &Stmt<'t>) -> Result<(), AllocError>
+fn check_body<'t>(
+    alloc: Global,
+    worst: &mut Option<FrontFault>,
+    scope: &mut Scope<'t>,
+    methods: &Methods<'_, 't>,
+    clocks: Texts<'t>,
+    s: &Stmt<'t>,
+) -> Result<(), AllocError>
     ensures faults { OnOk result (worst.new ≡ least worst.old (faults methods.now (record { names = scope.old.names; bodies = clocks.entry ∷ scope.old.bodies }) (statement s.now))) }
     ensures scope { OnOk result (scope.new ≡ scope.old) }
 {

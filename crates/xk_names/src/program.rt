@@ -1,10 +1,10 @@
 //! Whole programs.
 
-ghost use Rattle.std.specs.Prelude.{◌≡◌, [], ◌∷◌, None, map, OnOk, IfOk};
+ghost use Rattle.std.specs.Prelude.{◌≡◌, ◌↔◌, [], ◌∷◌, Err, None, Some, codes, map, IsTrue, OnOk, IfOk};
 ghost use Rattle.xk_tree.specs.Tree.{method_value, param_value, shared_value, tree_value, word};
 ghost use Rattle.std.specs.List.{flat_map};
-ghost use Rattle.xk_names.specs.Scope.{known};
-ghost use Rattle.xk_names.specs.Faults.{param_declaration, param_kind, shared_declaration};
+ghost use Rattle.xk_names.specs.Scope.{find, known};
+ghost use Rattle.xk_names.specs.Faults.{HasFault, IsReported, param_declaration, param_kind, shared_declaration};
 ghost use Rattle.xk_names.specs.Collected.{again, declared_again, least, method_faults, methods_again, name_faults, put_methods, with_declared};
 
 use crate::check::check_block;
@@ -18,7 +18,12 @@ use xk_tree::{FrontError, FrontFault, FrontRule, Method, Name, Param, Shared, Tr
 use xk_types::ParamKind;
 
 // A name that is declared before a method's body.
-fn declare_outside<'t>(worst: &mut Option<FrontFault>, scope: &mut Scope<'t>, name: Name<'t>, kind: Kind) -> Result<(), AllocError>
+fn declare_outside<'t>(
+    worst: &mut Option<FrontFault>,
+    scope: &mut Scope<'t>,
+    name: Name<'t>,
+    kind: Kind,
+) -> Result<(), AllocError>
     requires { scope.old.bodies ≡ [] }
     ensures faults { OnOk result (worst.new ≡ least worst.old (again scope.old.names (record { name = word name.entry; known = known kind 0 }))) }
     ensures scope { OnOk result (scope.new ≡ with_declared scope.old (record { name = word name.entry; known = known kind 0 } ∷ [])) }
@@ -28,7 +33,11 @@ fn declare_outside<'t>(worst: &mut Option<FrontFault>, scope: &mut Scope<'t>, na
 }
 
 // The shared numbers.
-fn declare_shared<'t>(worst: &mut Option<FrontFault>, scope: &mut Scope<'t>, shared: &[Shared<'t>]) -> Result<(), AllocError>
+fn declare_shared<'t>(
+    worst: &mut Option<FrontFault>,
+    scope: &mut Scope<'t>,
+    shared: &[Shared<'t>],
+) -> Result<(), AllocError>
     requires { scope.old.bodies ≡ [] }
     ensures faults { OnOk result (worst.new ≡ least worst.old (declared_again scope.old.names (map shared_declaration (map shared_value shared.now)))) }
     ensures scope { OnOk result (scope.new ≡ with_declared scope.old (map shared_declaration (map shared_value shared.now))) }
@@ -49,7 +58,11 @@ fn kind_of(takes: ParamKind) -> Kind
 }
 
 // A method's parameters.
-fn declare_params<'t>(worst: &mut Option<FrontFault>, scope: &mut Scope<'t>, params: &[Param<'t>]) -> Result<(), AllocError>
+fn declare_params<'t>(
+    worst: &mut Option<FrontFault>,
+    scope: &mut Scope<'t>,
+    params: &[Param<'t>],
+) -> Result<(), AllocError>
     requires { scope.old.bodies ≡ [] }
     ensures faults { OnOk result (worst.new ≡ least worst.old (declared_again scope.old.names (map param_declaration (map param_value params.now)))) }
     ensures scope { OnOk result (scope.new ≡ with_declared scope.old (map param_declaration (map param_value params.now))) }
@@ -61,7 +74,11 @@ fn declare_params<'t>(worst: &mut Option<FrontFault>, scope: &mut Scope<'t>, par
 }
 
 // The methods by their names.
-fn methods_of<'a, 't>(alloc: Global, worst: &mut Option<FrontFault>, methods: &'a [Method<'t>]) -> Result<Methods<'a, 't>, AllocError>
+fn methods_of<'a, 't>(
+    alloc: Global,
+    worst: &mut Option<FrontFault>,
+    methods: &'a [Method<'t>],
+) -> Result<Methods<'a, 't>, AllocError>
     ensures faults { OnOk result (worst.new ≡ least worst.old (methods_again [] (map method_value methods.now))) }
     ensures methods { IfOk result (λ ms. ms ≡ put_methods [] (map method_value methods.now)) }
 {
@@ -75,7 +92,13 @@ fn methods_of<'a, 't>(alloc: Global, worst: &mut Option<FrontFault>, methods: &'
 }
 
 // A method's parameters and body.
-fn check_method<'t>(alloc: Global, worst: &mut Option<FrontFault>, scope: &mut Scope<'t>, methods: &Methods<'_, 't>, method: &Method<'t>) -> Result<(), AllocError>
+fn check_method<'t>(
+    alloc: Global,
+    worst: &mut Option<FrontFault>,
+    scope: &mut Scope<'t>,
+    methods: &Methods<'_, 't>,
+    method: &Method<'t>,
+) -> Result<(), AllocError>
     requires { scope.old.bodies ≡ [] }
     ensures faults { OnOk result (worst.new ≡ least worst.old (method_faults methods.now scope.old.names (method_value method.now))) }
     ensures scope { OnOk result (scope.new ≡ scope.old) }
@@ -88,7 +111,13 @@ fn check_method<'t>(alloc: Global, worst: &mut Option<FrontFault>, scope: &mut S
 }
 
 // The methods' parameters and bodies.
-fn check_methods<'t>(alloc: Global, worst: &mut Option<FrontFault>, scope: &mut Scope<'t>, methods: &Methods<'_, 't>, all: &[Method<'t>]) -> Result<(), AllocError>
+fn check_methods<'t>(
+    alloc: Global,
+    worst: &mut Option<FrontFault>,
+    scope: &mut Scope<'t>,
+    methods: &Methods<'_, 't>,
+    all: &[Method<'t>],
+) -> Result<(), AllocError>
     requires { scope.old.bodies ≡ [] }
     ensures faults { OnOk result (worst.new ≡ least worst.old (flat_map (method_faults methods.now scope.old.names) (map method_value all.now))) }
 {
@@ -99,7 +128,10 @@ fn check_methods<'t>(alloc: Global, worst: &mut Option<FrontFault>, scope: &mut 
 }
 
 // The least fault of names, F9 aside; and the methods by their names.
-fn least_fault<'a, 't>(alloc: Global, tree: &'a Tree<'t>) -> Result<(Option<FrontFault>, Methods<'a, 't>), AllocError>
+fn least_fault<'a, 't>(
+    alloc: Global,
+    tree: &'a Tree<'t>,
+) -> Result<(Option<FrontFault>, Methods<'a, 't>), AllocError>
     ensures worst { IfOk result (λ r. r.0 ≡ least None (name_faults (tree_value tree.now))) }
     ensures methods { IfOk result (λ r. r.1 ≡ put_methods [] (map method_value tree.now.methods.items)) }
 {
@@ -107,6 +139,43 @@ fn least_fault<'a, 't>(alloc: Global, tree: &'a Tree<'t>) -> Result<(Option<Fron
     let mut scope = Scope::new(alloc);
     declare_shared(&mut worst, &mut scope, tree.shared.as_slice())?;
     let methods = methods_of(alloc, &mut worst, tree.methods.as_slice())?;
-    check_methods(alloc, &mut worst, &mut scope, &methods, tree.methods.as_slice())?;
+    check_methods(
+        alloc,
+        &mut worst,
+        &mut scope,
+        &methods,
+        tree.methods.as_slice(),
+    )?;
     Ok((worst, methods))
+}
+
+// Whether there is a method `main` without parameters.
+fn has_main<'t>(methods: &Methods<'_, 't>) -> bool
+    ensures { IsTrue result ↔ (find methods.now (codes "main") ≡ Some []) }
+{
+    match methods.find(b"main") {
+        None => false,
+        Some(params) => params.is_empty(),
+    }
+}
+
+/// Looks for faults of names in a tree, F5 to F9, F11 and F12.
+pub fn check_names(alloc: Global, tree: &Tree<'_>) -> Result<(), FrontError>
+    ensures clean { OnOk result ((f : FrontFault) → HasFault (tree_value tree.now) f → ⊥) }
+    ensures fault { (f : FrontFault) → result ≡ Err (FrontError.Fault f) → IsReported (tree_value tree.now) f }
+{
+    let (worst, methods) = least_fault(alloc, tree)?;
+    match worst {
+        Some(fault) => Err(FrontError::Fault(fault)),
+        None => {
+            if has_main(&methods) {
+                Ok(())
+            } else {
+                Err(FrontError::Fault(FrontFault {
+                    rule: FrontRule::NoMain,
+                    at: 0,
+                }))
+            }
+        }
+    }
 }

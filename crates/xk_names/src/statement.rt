@@ -23,7 +23,12 @@ use xk_types::ParamKind;
 pub fn check_new<'t>(worst: &mut Option<FrontFault>, scope: &Scope<'t>, name: Name<'t>)
     ensures { worst.new ≡ least worst.old (when (is_some (find scope.now.names name.entry.text.now)) FrontRule.DuplicateName name.entry.at) }
 {
-    note_if(scope.find(name.text).is_some(), worst, FrontRule::DuplicateName, name.at);
+    note_if(
+        scope.find(name.text).is_some(),
+        worst,
+        FrontRule::DuplicateName,
+        name.at,
+    );
 }
 
 fn check_right<'t>(worst: &mut Option<FrontFault>, scope: &Scope<'t>, r: &Right<'t>)
@@ -73,7 +78,12 @@ fn is_var(known: Option<Known>) -> bool
 }
 
 // What is assigned to a name; a shared number may stand alone behind a `var`.
-fn check_assigned<'t>(worst: &mut Option<FrontFault>, scope: &Scope<'t>, name: Name<'t>, e: &Expr<'t>)
+fn check_assigned<'t>(
+    worst: &mut Option<FrontFault>,
+    scope: &Scope<'t>,
+    name: Name<'t>,
+    e: &Expr<'t>,
+)
     ensures { worst.new ≡ least worst.old (flat_map (use_faults scope.now)
         (if is_var (find scope.now.names name.entry.text.now) then values (expression e.now) else numbers (expression e.now))) }
 {
@@ -93,7 +103,13 @@ fn check_sides<'t>(worst: &mut Option<FrontFault>, scope: &Scope<'t>, l: &Expr<'
 }
 
 // `atomic x = y + e;`
-fn check_atomic<'t>(worst: &mut Option<FrontFault>, scope: &Scope<'t>, x: Name<'t>, y: Name<'t>, e: &Expr<'t>)
+fn check_atomic<'t>(
+    worst: &mut Option<FrontFault>,
+    scope: &Scope<'t>,
+    x: Name<'t>,
+    y: Name<'t>,
+    e: &Expr<'t>,
+)
     ensures { worst.new ≡ least worst.old (atomic_faults scope.now (word x.entry) (word y.entry) (expression e.now)) }
 {
     check_use(worst, scope, x, Want::Shared);
@@ -103,7 +119,14 @@ fn check_atomic<'t>(worst: &mut Option<FrontFault>, scope: &Scope<'t>, x: Name<'
 }
 
 // `val x: T = r;` or `var x: T = r;`
-fn check_declaration<'t>(worst: &mut Option<FrontFault>, scope: &Scope<'t>, b: Binding, x: Name<'t>, ty: Option<TypeName>, r: &Right<'t>)
+fn check_declaration<'t>(
+    worst: &mut Option<FrontFault>,
+    scope: &Scope<'t>,
+    b: Binding,
+    x: Name<'t>,
+    ty: Option<TypeName>,
+    r: &Right<'t>,
+)
     ensures { worst.new ≡ least worst.old (declaration_faults scope.now b (word x.entry) ty (source r.now)) }
 {
     check_right(worst, scope, r);
@@ -113,7 +136,12 @@ fn check_declaration<'t>(worst: &mut Option<FrontFault>, scope: &Scope<'t>, b: B
 }
 
 // The clocks of an `async`.
-fn check_given<'t>(alloc: Global, worst: &mut Option<FrontFault>, scope: &Scope<'t>, clocks: &Option<ClockList<'t>>) -> Result<(), AllocError>
+fn check_given<'t>(
+    alloc: Global,
+    worst: &mut Option<FrontFault>,
+    scope: &Scope<'t>,
+    clocks: &Option<ClockList<'t>>,
+) -> Result<(), AllocError>
     ensures { OnOk result (worst.new ≡ least worst.old (list_faults scope.now (clocks_listed (option_map clock_list clocks.now)))) }
 {
     match clocks {
@@ -128,7 +156,13 @@ fn check_given<'t>(alloc: Global, worst: &mut Option<FrontFault>, scope: &Scope<
 
 // What a statement itself does with names.
 #[tactic(auto, unfolding(crate::specs::Collected::own))]
-pub fn check_own<'t>(alloc: Global, worst: &mut Option<FrontFault>, scope: &Scope<'t>, methods: &Methods<'_, 't>, s: &Stmt<'t>) -> Result<(), AllocError>
+pub fn check_own<'t>(
+    alloc: Global,
+    worst: &mut Option<FrontFault>,
+    scope: &Scope<'t>,
+    methods: &Methods<'_, 't>,
+    s: &Stmt<'t>,
+) -> Result<(), AllocError>
     ensures { OnOk result (worst.new ≡ least worst.old (own methods.now scope.now (statement s.now))) }
 {
     match s {

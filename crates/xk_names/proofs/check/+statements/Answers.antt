@@ -42,7 +42,7 @@ check-returns-in_ok-check_body-in-Async-clause-faults t c =
     inside_found c.args.methods.now c.args.scope.now (statement c.args.s.now) (Async c.in-Async.field-0 (option_map clock_list c.in-Async.clocks) (statement c.in-Async.s.value)) c.args.worst.now c.check_own.new.worst c.check_body.new.worst (ap statement c.in-Async.is ∙ ap statement (sym (stmt.rolls-Async c.in-Async.field-0 c.in-Async.clocks c.in-Async.s)) ∙ fold-roll-Stmt Statement layer_statement (layer.Async c.in-Async.field-0 c.in-Async.clocks c.in-Async.s)) c.in_ok-check_own.ensures
     (c.in_ok-check_body-in-Async.ensures.faults
     ∙ ap (λ k. let there : Scope = record { names = c.args.scope.now.names; bodies = k ∷ c.args.scope.now.bodies } in
-        least c.check_own.new.worst (faults c.args.methods.now there (statement c.deref-in-Async.result.now))) c.in_ok-clocks-in-Async.ensures
+    least c.check_own.new.worst (faults c.args.methods.now there (statement c.deref-in-Async.result.now))) c.in_ok-clocks-in-Async.ensures
     ∙ ap (λ (q : Stmt). least c.check_own.new.worst (faults c.args.methods.now (body_of c.args.scope.now (clocks_listed (option_map clock_list c.in-Async.clocks))) (statement q))) c.deref-in-Async.ensures)
 
 pub check-returns-in_ok-check_held-in-Finish-clause-faults : goal.check-returns-in_ok-check_held-in-Finish-clause-faults
@@ -52,9 +52,10 @@ check-returns-in_ok-check_held-in-Finish-clause-faults t c =
 
 pub check_block-loop-s-preserved : goal.check_block-loop-s-preserved
 check_block-loop-s-preserved t c = record {
-    faults = block_turn c.args.methods.now c.loop-s.scope c.check.new.scope c.args.ss.now c.loop-s.s-index c.s-item.result c.loop-s.worst c.check.new.worst (omega arith) c.s-item.is
-        c.in_ok-check.ensures.faults c.in_ok-check.ensures.scope ∙ c.loop-s.invariant.faults;
-    scope = after_turn c.loop-s.scope c.check.new.scope c.args.ss.now c.loop-s.s-index c.s-item.result (omega arith) c.s-item.is c.in_ok-check.ensures.scope ∙ c.loop-s.invariant.scope }
+  faults = block_turn c.args.methods.now c.loop-s.scope c.check.new.scope c.args.ss.now c.loop-s.s-index c.s-item.result c.loop-s.worst c.check.new.worst (omega arith) c.s-item.is
+      c.in_ok-check.ensures.faults c.in_ok-check.ensures.scope ∙ c.loop-s.invariant.faults;
+  scope = after_turn c.loop-s.scope c.check.new.scope c.args.ss.now c.loop-s.s-index c.s-item.result (omega arith) c.s-item.is c.in_ok-check.ensures.scope ∙ c.loop-s.invariant.scope;
+}
 
 pub check_loop-returns-clause-scope : goal.check_loop-returns-clause-scope
 check_loop-returns-clause-scope t c =

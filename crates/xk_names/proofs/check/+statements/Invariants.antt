@@ -5,5 +5,6 @@ use Rattle.xk_names.proofs.check.+statements.Given as goal
 
 abbrev pub invariant-check_block-loop-s : goal.invariant-check_block-loop-s
 invariant-check_block-loop-s l = record {
-    faults : least l.worst (among l.methods l.scope (statements (drop l.s-index l.ss))) ≡ least l.fn.worst (among l.methods l.fn.scope (statements l.ss));
-    scope : after l.scope (statements (drop l.s-index l.ss)) ≡ after l.fn.scope (statements l.ss) }
+  faults : least l.worst (among l.methods l.scope (statements (drop l.s-index l.ss))) ≡ least l.fn.worst (among l.methods l.fn.scope (statements l.ss));
+  scope : after l.scope (statements (drop l.s-index l.ss)) ≡ after l.fn.scope (statements l.ss);
+}

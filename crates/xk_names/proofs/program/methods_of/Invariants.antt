@@ -5,5 +5,6 @@ use Rattle.xk_names.proofs.program.methods_of.Given as goal
 
 abbrev pub invariant-loop-method : goal.invariant-loop-method
 invariant-loop-method l = record {
-    faults : least l.worst (methods_again l.found (map method_value (drop l.method-index l.methods))) ≡ least l.fn.worst (methods_again [] (map method_value l.methods));
-    methods : put_methods l.found (map method_value (drop l.method-index l.methods)) ≡ put_methods [] (map method_value l.methods) }
+  faults : least l.worst (methods_again l.found (map method_value (drop l.method-index l.methods))) ≡ least l.fn.worst (methods_again [] (map method_value l.methods));
+  methods : put_methods l.found (map method_value (drop l.method-index l.methods)) ≡ put_methods [] (map method_value l.methods);
+}

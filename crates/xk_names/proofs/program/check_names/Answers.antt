@@ -1,0 +1,21 @@
+use Rattle.std.proofs.Common.{◌≡◌, true, false, rules, sym, ◌∙◌, subst}
+use Rattle.xk_tree.specs.Tree.{tree_value}
+use Rattle.xk_names.specs.Faults.{IsReported, no_main}
+use Rattle.xk_names.proofs.Answered.{one_reported, clean_tree, no_main_reported}
+use Rattle.xk_names.proofs.program.check_names.Goals as goal
+
+pub returns-in-Some-clause-fault : goal.returns-in-Some-clause-fault
+returns-in-Some-clause-fault c = λ f e.
+    let is : c.in-Some.fault ≡ f = cc in
+    subst (IsReported (tree_value c.args.tree.now)) is (one_reported (tree_value c.args.tree.now) c.in_ok-worst.worst c.in-Some.fault c.in_ok-worst.ensures.worst c.in-Some.is)
+
+pub returns-then-has_main-clause-clean : goal.returns-then-has_main-clause-clean
+returns-then-has_main-clause-clean c =
+    clean_tree (tree_value c.args.tree.now) c.in_ok-worst.worst c.in_ok-worst.methods c.in_ok-worst.ensures.worst c.in-None.is c.in_ok-worst.ensures.methods (c.has_main.ensures.0 c.if-has_main.true)
+
+pub returns-clause-fault : goal.returns-clause-fault
+returns-clause-fault c = λ f e.
+    let is : no_main ≡ f = cc in
+    subst (IsReported (tree_value c.args.tree.now)) is
+    (no_main_reported (tree_value c.args.tree.now) c.in_ok-worst.worst c.in_ok-worst.methods c.in_ok-worst.ensures.worst c.in-None.is c.in_ok-worst.ensures.methods
+    (λ main. let yes_no : true ≡ false = sym (c.has_main.ensures.1 main) ∙ c.if-has_main.false in cc))
