@@ -42,9 +42,12 @@ abbrev pub after : Scope → Statements → Scope
 after sc Done = sc
 after sc (More s ss) = after (with_declared sc (behind (length sc.bodies) s)) ss
 
--- in the body of an `async`
+-- in the body of an `async` that is given these clocks
+abbrev pub with_clocks : Scope → List (List ℕ) → Scope
+with_clocks sc clocks = record { names = sc.names; bodies = clocks ∷ sc.bodies }
+
 abbrev pub body_of : Scope → List Word → Scope
-body_of sc cs = record { names = sc.names; bodies = put_texts [] cs ∷ sc.bodies }
+body_of sc cs = with_clocks sc (put_texts [] cs)
 
 -- ---- the faults of a statement, apart from those that it holds
 

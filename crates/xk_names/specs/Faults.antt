@@ -10,7 +10,7 @@ use Rattle.xk_tree.specs.Tree.{Word, Expression, Statement, ParamValue, MethodVa
 use Rattle.xk_names.specs.declared.known.Known.{Known}
 use Rattle.xk_names.specs.declared.known.Kind.{Kind}
 use Rattle.xk_names.specs.declared.known.Kind.TheVariants as kind
-use Rattle.xk_names.specs.Scope.{Table, find, has, texts, Has, Declaration, known, entries, Scope, sees, fits}
+use Rattle.xk_names.specs.Scope.{Table, find, has, texts, Has, Declaration, declared, entries, Scope, sees, fits}
 use Rattle.xk_names.specs.Uses.{Use, Signatures, signatures, uses, declares, misfits, clocks_given, calls}
 use Rattle.xk_names.specs.Places.{Way, StandsAmong, declared_among, bodies_among}
 
@@ -39,14 +39,14 @@ pub data Breaks (ms : Signatures) (sc : Scope) (t : Statement) (f : FrontFault) 
 -- ---- programs
 
 abbrev pub shared_declaration : SharedValue → Declaration
-shared_declaration s = record { name = s.name; known = known kind.Shared 0 }
+shared_declaration s = declared s.name kind.Shared 0
 
 abbrev pub param_kind : ParamKind → Kind
 param_kind param.Number = kind.Val
 param_kind param.Clock = kind.Clock
 
 abbrev pub param_declaration : ParamValue → Declaration
-param_declaration p = record { name = p.name; known = known (param_kind p.takes.kind) 0 }
+param_declaration p = declared p.name (param_kind p.takes.kind) 0
 
 -- what is declared before a method's body: the shared numbers and its parameters
 abbrev pub declared_before : TreeValue → MethodValue → List Declaration

@@ -39,6 +39,9 @@ pub record Declaration : Type 0 where
 abbrev pub known : Kind → ℕ → Known
 known k n = record { kind = k; depth = n }
 
+abbrev pub declared : Word → Kind → ℕ → Declaration
+declared w k n = record { name = w; known = known k n }
+
 abbrev pub entry : Declaration → List ℕ × Known
 entry d = (d.name.text, d.known)
 

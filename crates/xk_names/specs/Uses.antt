@@ -14,7 +14,7 @@ use Rattle.xk_names.specs.declared.known.Kind.{Kind}
 use Rattle.xk_names.specs.declared.known.Kind.TheVariants as kind
 use Rattle.xk_names.specs.declared.known.Want.{Want}
 use Rattle.xk_names.specs.declared.known.Want.TheVariants as want
-use Rattle.xk_names.specs.Scope.{Table, find, is_text, Declaration, known}
+use Rattle.xk_names.specs.Scope.{Table, find, is_text, Declaration, declared}
 
 -- a name that is used, and what it is used as
 pub record Use : Type 0 where
@@ -106,10 +106,14 @@ source_uses (Value e) = values e
 abbrev pub is_var : Option Known → Bool
 is_var k = option_map_or (λ j. elim j.kind as (λ _. Bool) [ kind.Var ↦ true | kind.Val ↦ false | kind.Shared ↦ false | kind.Clock ↦ false ]) k false
 
+-- what is assigned to a name; a shared number may stand alone behind a `var`
+abbrev pub assigned_uses : Option Known → Expression → List Use
+assigned_uses k e = if is_var k then values e else numbers e
+
 -- the names that a statement uses, where a table says what names stand for
 abbrev pub uses : Signatures → Table Known → Statement → List Use
 uses ms names (Declare b x ty r) = source_uses r
-uses ms names (Assign x e) = use_as want.Assigned x ∷ (if is_var (find names x.text) then values e else numbers e)
+uses ms names (Assign x e) = use_as want.Assigned x ∷ assigned_uses (find names x.text) e
 uses ms names (Atomic x y at e) = use_as want.Shared x ∷ use_as want.Shared y ∷ numbers e
 uses ms names (If at l c r s) = numbers l ++ numbers r
 uses ms names (IfElse at l c r s t) = numbers l ++ numbers r
@@ -127,8 +131,8 @@ kind_of binding.Var (Value e) = kind.Var
 
 -- the name that a statement declares, within so many bodies of `async`
 abbrev pub declares : ℕ → Statement → List Declaration
-declares n (Declare b x ty r) = record { name = x; known = known (kind_of b r) n } ∷ []
-declares n (For at i lo hi s) = record { name = i; known = known kind.Val n } ∷ []
+declares n (Declare b x ty r) = declared x (kind_of b r) n ∷ []
+declares n (For at i lo hi s) = declared i kind.Val n ∷ []
 declares n _ = []
 
 -- the type of a declaration, where it isn't that of what stands behind the `=`

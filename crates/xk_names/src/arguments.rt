@@ -32,7 +32,8 @@ fn arguments<'a, 't>(
     params: &[Param<'t>],
     values: &'a [Expr<'t>],
 ) -> Result<Vec<Argument<'a, 't>>, AllocError>
-    ensures { IfOk result (λ v. arguments v.items ≡ given (map param_value params.now) (expressions values.now)) }
+    ensures { IfOk result (λ v. arguments v.items ≡
+        given (map param_value params.now) (expressions values.now)) }
 {
     let mut given = Vec::new(alloc);
     let n = if params.len() < values.len() {
@@ -56,7 +57,8 @@ fn check_argument<'t>(
     takes: ParamKind,
     value: &Expr<'t>,
 )
-    ensures { worst.new ≡ least worst.old (flat_map (use_faults scope.now) (argument_uses takes (expression value.now))) }
+    ensures { worst.new ≡ least worst.old
+        (flat_map (use_faults scope.now) (argument_uses takes (expression value.now))) }
 {
     match takes {
         ParamKind::Number => check_numbers(worst, scope, value),
@@ -69,7 +71,8 @@ fn check_argument<'t>(
 
 // An argument that had to be a clock's bare name.
 fn check_misfit(worst: &mut Option<FrontFault>, takes: ParamKind, value: &Expr<'_>)
-    ensures { worst.new ≡ least worst.old (map (fault FrontRule.WrongKind) (argument_misfits takes (expression value.now))) }
+    ensures { worst.new ≡ least worst.old
+        (map (fault FrontRule.WrongKind) (argument_misfits takes (expression value.now))) }
 {
     match takes {
         ParamKind::Number => {}
@@ -86,7 +89,8 @@ fn check_again<'t>(
     clocks: &mut Texts<'t>,
     c: Name<'t>,
 ) -> Result<(), AllocError>
-    ensures faults { OnOk result (worst.new ≡ least worst.old (when (has clocks.old c.entry.text.now) FrontRule.SameClockTwice c.entry.at)) }
+    ensures faults { OnOk result (worst.new ≡ least worst.old
+        (when (has clocks.old c.entry.text.now) FrontRule.SameClockTwice c.entry.at)) }
     ensures clocks { OnOk result (clocks.new ≡ put_text clocks.old c.entry.text.now) }
 {
     let is_new = clocks.put(c.text)?;
@@ -101,8 +105,10 @@ fn check_clock<'t>(
     takes: ParamKind,
     value: &Expr<'t>,
 ) -> Result<(), AllocError>
-    ensures faults { OnOk result (worst.new ≡ least worst.old (repeats clocks.old (argument_clocks takes (expression value.now)))) }
-    ensures clocks { OnOk result (clocks.new ≡ put_texts clocks.old (argument_clocks takes (expression value.now))) }
+    ensures faults { OnOk result (worst.new ≡ least worst.old
+        (repeats clocks.old (argument_clocks takes (expression value.now)))) }
+    ensures clocks { OnOk result (clocks.new ≡
+        put_texts clocks.old (argument_clocks takes (expression value.now))) }
 {
     match takes {
         ParamKind::Number => Ok(()),
@@ -114,7 +120,9 @@ fn check_clock<'t>(
 }
 
 fn check_uses<'t>(worst: &mut Option<FrontFault>, scope: &Scope<'t>, given: &[Argument<'_, 't>])
-    ensures { worst.new ≡ least worst.old (flat_map (use_faults scope.now) (flat_map (λ a. argument_uses a.0 a.1) (arguments given.now))) }
+    ensures { worst.new ≡ least worst.old
+        (flat_map (use_faults scope.now)
+        (flat_map (λ a. argument_uses a.0 a.1) (arguments given.now))) }
 {
     for argument in given {
         check_argument(worst, scope, argument.takes, argument.value);
@@ -122,7 +130,9 @@ fn check_uses<'t>(worst: &mut Option<FrontFault>, scope: &Scope<'t>, given: &[Ar
 }
 
 fn check_misfits(worst: &mut Option<FrontFault>, given: &[Argument<'_, '_>])
-    ensures { worst.new ≡ least worst.old (map (fault FrontRule.WrongKind) (flat_map (λ a. argument_misfits a.0 a.1) (arguments given.now))) }
+    ensures { worst.new ≡ least worst.old
+        (map (fault FrontRule.WrongKind)
+        (flat_map (λ a. argument_misfits a.0 a.1) (arguments given.now))) }
 {
     for argument in given {
         check_misfit(worst, argument.takes, argument.value);
@@ -134,7 +144,8 @@ fn check_clocks<'t>(
     worst: &mut Option<FrontFault>,
     given: &[Argument<'_, 't>],
 ) -> Result<(), AllocError>
-    ensures { OnOk result (worst.new ≡ least worst.old (repeats [] (flat_map (λ a. argument_clocks a.0 a.1) (arguments given.now)))) }
+    ensures { OnOk result (worst.new ≡ least worst.old
+        (repeats [] (flat_map (λ a. argument_clocks a.0 a.1) (arguments given.now)))) }
 {
     let mut clocks = Texts::new(alloc);
     for argument in given {
@@ -161,7 +172,8 @@ pub fn check_list<'t>(
 
 // The names of a list, which have to be clocks'.
 pub fn check_listed<'t>(worst: &mut Option<FrontFault>, scope: &Scope<'t>, names: &[Name<'t>])
-    ensures { worst.new ≡ least worst.old (flat_map (use_faults scope.now) (map (use_as Want.Clock) (words names.now))) }
+    ensures { worst.new ≡ least worst.old
+        (flat_map (use_faults scope.now) (map (use_as Want.Clock) (words names.now))) }
 {
     for name in names {
         check_use(worst, scope, *name, Want::Clock);
@@ -186,7 +198,9 @@ fn check_arguments<'t>(
     params: &[Param<'t>],
     values: &[Expr<'t>],
 ) -> Result<(), AllocError>
-    ensures { OnOk result (worst.new ≡ least worst.old (call_all scope.now (word g.entry) (Some (map param_value params.now)) (expressions values.now))) }
+    ensures { OnOk result (worst.new ≡ least worst.old
+        (call_all scope.now (word g.entry)
+        (Some (map param_value params.now)) (expressions values.now))) }
 {
     let given = arguments(alloc, params, values)?;
     let given = given.as_slice();
@@ -206,7 +220,9 @@ pub fn check_call<'t>(
     g: Name<'t>,
     values: &[Expr<'t>],
 ) -> Result<(), AllocError>
-    ensures { OnOk result (worst.new ≡ least worst.old (call_all scope.now (word g.entry) (find methods.now g.entry.text.now) (expressions values.now))) }
+    ensures { OnOk result (worst.new ≡ least worst.old
+        (call_all scope.now (word g.entry)
+        (find methods.now g.entry.text.now) (expressions values.now))) }
 {
     match methods.find(g.text) {
         None => {

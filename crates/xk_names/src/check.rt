@@ -2,10 +2,10 @@
 
 ghost use Rattle.std.specs.Prelude.{◌≡◌, ◌∷◌, [], ◌++◌, length, option_map, IfOk, OnOk};
 ghost use Rattle.xk_tree.specs.Tree.{clock_list, source, statement, statements, word};
-ghost use Rattle.xk_names.specs.Scope.{known};
+ghost use Rattle.xk_names.specs.Scope.{declared};
 ghost use Rattle.xk_names.specs.Uses.{clocks_listed, kind_of};
 ghost use Rattle.xk_names.specs.Places.{behind};
-ghost use Rattle.xk_names.specs.Collected.{among, body_of, faults, least, put_texts, with_declared};
+ghost use Rattle.xk_names.specs.Collected.{among, body_of, faults, least, put_texts, with_clocks, with_declared};
 
 use crate::arguments::clocks_of;
 use crate::known::Kind;
@@ -29,7 +29,8 @@ fn kind_of(b: Binding, r: &Right<'_>) -> Kind
 }
 
 fn given<'t>(alloc: Global, clocks: &Option<ClockList<'t>>) -> Result<Texts<'t>, AllocError>
-    ensures { IfOk result (λ texts. texts ≡ put_texts [] (clocks_listed (option_map clock_list clocks.now))) }
+    ensures { IfOk result (λ texts. texts ≡
+        put_texts [] (clocks_listed (option_map clock_list clocks.now))) }
 {
     match clocks {
         None => Ok(Texts::new(alloc)),
@@ -46,8 +47,10 @@ fn check<'t>(
     methods: &Methods<'_, 't>,
     s: &Stmt<'t>,
 ) -> Result<(), AllocError>
-    ensures faults { OnOk result (worst.new ≡ least worst.old (faults methods.now scope.old (statement s.now))) }
-    ensures scope { OnOk result (scope.new ≡ with_declared scope.old (behind (length scope.old.bodies) (statement s.now))) }
+    ensures faults { OnOk result (worst.new ≡ least worst.old
+        (faults methods.now scope.old (statement s.now))) }
+    ensures scope { OnOk result (scope.new ≡ with_declared scope.old
+        (behind (length scope.old.bodies) (statement s.now))) }
 {
     check_own(alloc, worst, scope, methods, s)?;
     match s {
@@ -101,7 +104,8 @@ pub fn check_block<'t>(
     methods: &Methods<'_, 't>,
     ss: &[Stmt<'t>],
 ) -> Result<(), AllocError>
-    ensures faults { OnOk result (worst.new ≡ least worst.old (among methods.now scope.old (statements ss.now))) }
+    ensures faults { OnOk result (worst.new ≡ least worst.old
+        (among methods.now scope.old (statements ss.now))) }
     ensures scope { OnOk result (scope.new ≡ scope.old) }
 {
     let outside = scope.len();
@@ -121,7 +125,8 @@ fn check_held<'t>(
     methods: &Methods<'_, 't>,
     s: &Stmt<'t>,
 ) -> Result<(), AllocError>
-    ensures faults { OnOk result (worst.new ≡ least worst.old (faults methods.now scope.old (statement s.now))) }
+    ensures faults { OnOk result (worst.new ≡ least worst.old
+        (faults methods.now scope.old (statement s.now))) }
     ensures scope { OnOk result (scope.new ≡ scope.old) }
 {
     let outside = scope.len();
@@ -141,7 +146,8 @@ fn check_loop<'t>(
     s: &Stmt<'t>,
 ) -> Result<(), AllocError>
     ensures faults { OnOk result (worst.new ≡ least worst.old
-        (faults methods.now (with_declared scope.old (record { name = word x.entry; known = known Kind.Val (length scope.old.bodies) } ∷ [])) (statement s.now))) }
+        (faults methods.now (with_declared scope.old
+        (declared (word x.entry) Kind.Val (length scope.old.bodies) ∷ [])) (statement s.now))) }
     ensures scope { OnOk result (scope.new ≡ scope.old) }
 {
     let outside = scope.len();
@@ -161,7 +167,8 @@ fn check_body<'t>(
     clocks: Texts<'t>,
     s: &Stmt<'t>,
 ) -> Result<(), AllocError>
-    ensures faults { OnOk result (worst.new ≡ least worst.old (faults methods.now (record { names = scope.old.names; bodies = clocks.entry ∷ scope.old.bodies }) (statement s.now))) }
+    ensures faults { OnOk result (worst.new ≡ least worst.old
+        (faults methods.now (with_clocks scope.old clocks.entry) (statement s.now))) }
     ensures scope { OnOk result (scope.new ≡ scope.old) }
 {
     let outside = scope.len();

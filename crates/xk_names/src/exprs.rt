@@ -30,7 +30,8 @@ pub fn check_use<'t>(worst: &mut Option<FrontFault>, scope: &Scope<'t>, name: Na
 
 // The names of an expression, which have to be numbers'.
 pub fn check_numbers<'t>(worst: &mut Option<FrontFault>, scope: &Scope<'t>, e: &Expr<'t>)
-    ensures { worst.new ≡ least worst.old (flat_map (use_faults scope.now) (numbers (expression e.now))) }
+    ensures { worst.new ≡ least worst.old
+        (flat_map (use_faults scope.now) (numbers (expression e.now))) }
 {
     match e {
         Expr::Number(_) => {}
@@ -46,7 +47,8 @@ pub fn check_numbers<'t>(worst: &mut Option<FrontFault>, scope: &Scope<'t>, e: &
 
 // The same where a shared number may stand alone.
 pub fn check_values<'t>(worst: &mut Option<FrontFault>, scope: &Scope<'t>, e: &Expr<'t>)
-    ensures { worst.new ≡ least worst.old (flat_map (use_faults scope.now) (values (expression e.now))) }
+    ensures { worst.new ≡ least worst.old
+        (flat_map (use_faults scope.now) (values (expression e.now))) }
 {
     match e {
         Expr::Name(x) => check_use(worst, scope, *x, Want::Readable),

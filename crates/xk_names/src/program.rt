@@ -3,7 +3,7 @@
 ghost use Rattle.std.specs.Prelude.{◌≡◌, ◌↔◌, [], ◌∷◌, Err, None, Some, codes, map, IsTrue, OnOk, IfOk};
 ghost use Rattle.xk_tree.specs.Tree.{method_value, param_value, shared_value, tree_value, word};
 ghost use Rattle.std.specs.List.{flat_map};
-ghost use Rattle.xk_names.specs.Scope.{find, known};
+ghost use Rattle.xk_names.specs.Scope.{declared, find};
 ghost use Rattle.xk_names.specs.Faults.{HasFault, IsReported, param_declaration, param_kind, shared_declaration};
 ghost use Rattle.xk_names.specs.Collected.{again, declared_again, least, method_faults, methods_again, name_faults, put_methods, with_declared};
 
@@ -25,8 +25,10 @@ fn declare_outside<'t>(
     kind: Kind,
 ) -> Result<(), AllocError>
     requires { scope.old.bodies ≡ [] }
-    ensures faults { OnOk result (worst.new ≡ least worst.old (again scope.old.names (record { name = word name.entry; known = known kind 0 }))) }
-    ensures scope { OnOk result (scope.new ≡ with_declared scope.old (record { name = word name.entry; known = known kind 0 } ∷ [])) }
+    ensures faults { OnOk result (worst.new ≡ least worst.old
+        (again scope.old.names (declared (word name.entry) kind 0))) }
+    ensures scope { OnOk result (scope.new ≡ with_declared scope.old
+        (declared (word name.entry) kind 0 ∷ [])) }
 {
     check_new(worst, scope, name);
     scope.declare(name, kind)
@@ -39,8 +41,10 @@ fn declare_shared<'t>(
     shared: &[Shared<'t>],
 ) -> Result<(), AllocError>
     requires { scope.old.bodies ≡ [] }
-    ensures faults { OnOk result (worst.new ≡ least worst.old (declared_again scope.old.names (map shared_declaration (map shared_value shared.now)))) }
-    ensures scope { OnOk result (scope.new ≡ with_declared scope.old (map shared_declaration (map shared_value shared.now))) }
+    ensures faults { OnOk result (worst.new ≡ least worst.old
+        (declared_again scope.old.names (map shared_declaration (map shared_value shared.now)))) }
+    ensures scope { OnOk result (scope.new ≡ with_declared scope.old
+        (map shared_declaration (map shared_value shared.now))) }
 {
     for number in shared {
         declare_outside(worst, scope, number.name, Kind::Shared)?;
@@ -64,8 +68,10 @@ fn declare_params<'t>(
     params: &[Param<'t>],
 ) -> Result<(), AllocError>
     requires { scope.old.bodies ≡ [] }
-    ensures faults { OnOk result (worst.new ≡ least worst.old (declared_again scope.old.names (map param_declaration (map param_value params.now)))) }
-    ensures scope { OnOk result (scope.new ≡ with_declared scope.old (map param_declaration (map param_value params.now))) }
+    ensures faults { OnOk result (worst.new ≡ least worst.old
+        (declared_again scope.old.names (map param_declaration (map param_value params.now)))) }
+    ensures scope { OnOk result (scope.new ≡ with_declared scope.old
+        (map param_declaration (map param_value params.now))) }
 {
     for param in params {
         declare_outside(worst, scope, param.name, kind_of(param.takes.kind))?;
@@ -79,7 +85,8 @@ fn methods_of<'a, 't>(
     worst: &mut Option<FrontFault>,
     methods: &'a [Method<'t>],
 ) -> Result<Methods<'a, 't>, AllocError>
-    ensures faults { OnOk result (worst.new ≡ least worst.old (methods_again [] (map method_value methods.now))) }
+    ensures faults { OnOk result (worst.new ≡ least worst.old
+        (methods_again [] (map method_value methods.now))) }
     ensures methods { IfOk result (λ ms. ms ≡ put_methods [] (map method_value methods.now)) }
 {
     let mut found = Methods::new(alloc);
@@ -100,7 +107,8 @@ fn check_method<'t>(
     method: &Method<'t>,
 ) -> Result<(), AllocError>
     requires { scope.old.bodies ≡ [] }
-    ensures faults { OnOk result (worst.new ≡ least worst.old (method_faults methods.now scope.old.names (method_value method.now))) }
+    ensures faults { OnOk result (worst.new ≡ least worst.old
+        (method_faults methods.now scope.old.names (method_value method.now))) }
     ensures scope { OnOk result (scope.new ≡ scope.old) }
 {
     let outside = scope.len();
@@ -119,7 +127,8 @@ fn check_methods<'t>(
     all: &[Method<'t>],
 ) -> Result<(), AllocError>
     requires { scope.old.bodies ≡ [] }
-    ensures faults { OnOk result (worst.new ≡ least worst.old (flat_map (method_faults methods.now scope.old.names) (map method_value all.now))) }
+    ensures faults { OnOk result (worst.new ≡ least worst.old
+        (flat_map (method_faults methods.now scope.old.names) (map method_value all.now))) }
 {
     for method in all {
         check_method(alloc, worst, scope, methods, method)?;
@@ -133,7 +142,8 @@ fn least_fault<'a, 't>(
     tree: &'a Tree<'t>,
 ) -> Result<(Option<FrontFault>, Methods<'a, 't>), AllocError>
     ensures worst { IfOk result (λ r. r.0 ≡ least None (name_faults (tree_value tree.now))) }
-    ensures methods { IfOk result (λ r. r.1 ≡ put_methods [] (map method_value tree.now.methods.items)) }
+    ensures methods { IfOk result (λ r. r.1 ≡
+        put_methods [] (map method_value tree.now.methods.items)) }
 {
     let mut worst = None;
     let mut scope = Scope::new(alloc);
@@ -162,7 +172,8 @@ fn has_main<'t>(methods: &Methods<'_, 't>) -> bool
 /// Looks for faults of names in a tree, F5 to F9, F11 and F12.
 pub fn check_names(alloc: Global, tree: &Tree<'_>) -> Result<(), FrontError>
     ensures clean { OnOk result ((f : FrontFault) → HasFault (tree_value tree.now) f → ⊥) }
-    ensures fault { (f : FrontFault) → result ≡ Err (FrontError.Fault f) → IsReported (tree_value tree.now) f }
+    ensures fault { (f : FrontFault) → result ≡ Err (FrontError.Fault f)
+        → IsReported (tree_value tree.now) f }
 {
     let (worst, methods) = least_fault(alloc, tree)?;
     match worst {

@@ -2,8 +2,8 @@
 
 ghost use Rattle.std.specs.Prelude.{◌≡◌, ℕ, List, [], ◌∷◌, length, OnOk};
 ghost use Rattle.xk_tree.specs.Tree.{Statements, word};
-ghost use Rattle.xk_names.specs.Scope.{Declaration, Scope as Seen, find, fits, known, sees, is_given};
-ghost use Rattle.xk_names.specs.Collected.{after, with_declared};
+ghost use Rattle.xk_names.specs.Scope.{Declaration, Scope as Seen, declared, find, fits, is_given, sees};
+ghost use Rattle.xk_names.specs.Collected.{after, with_clocks, with_declared};
 
 use crate::known::{Kind, Known, Want};
 use crate::table::{Table, Texts};
@@ -86,7 +86,8 @@ impl<'t> Scope<'t> {
 
     // Declares a name, unless one of the same text is visible.
     pub fn declare(&mut self, name: Name<'t>, kind: Kind) -> Result<(), AllocError>
-        ensures { OnOk result (self.new ≡ with_declared self.old (record { name = word name.entry; known = known kind (length self.old.bodies) } ∷ [])) }
+        ensures { OnOk result (self.new ≡ with_declared self.old
+            (declared (word name.entry) kind (length self.old.bodies) ∷ [])) }
     {
         let depth = self.bodies.len();
         self.names.put(name.text, Known { kind, depth })
@@ -94,15 +95,17 @@ impl<'t> Scope<'t> {
 
     // Forgets what was declared since so many names were visible.
     pub fn cut(&mut self, len: usize)
-        ensures behind { (before : Seen) (ds : List Declaration) → self.old ≡ with_declared before ds → len ≡ length before.names → self.new ≡ before }
-        ensures after { (before : Seen) (ss : Statements) → self.old ≡ after before ss → len ≡ length before.names → self.new ≡ before }
+        ensures behind { (before : Seen) (ds : List Declaration) → self.old ≡ with_declared before ds
+            → len ≡ length before.names → self.new ≡ before }
+        ensures after { (before : Seen) (ss : Statements) → self.old ≡ after before ss
+            → len ≡ length before.names → self.new ≡ before }
     {
         self.names.truncate(len);
     }
 
     // Goes into the body of an `async` that is given these clocks.
     pub fn enter(&mut self, clocks: Texts<'t>) -> Result<(), AllocError>
-        ensures { OnOk result (self.new ≡ record { names = self.old.names; bodies = clocks.entry ∷ self.old.bodies }) }
+        ensures { OnOk result (self.new ≡ with_clocks self.old clocks.entry) }
     {
         self.bodies.push_front(clocks)?;
         Ok(())
@@ -111,7 +114,8 @@ impl<'t> Scope<'t> {
     // Leaves it, where so many names were visible outside.
     pub fn leave(&mut self, len: usize)
         ensures { (before : Seen) (clocks : List (List ℕ)) (ds : List Declaration)
-            → self.old ≡ with_declared (record { names = before.names; bodies = clocks ∷ before.bodies }) ds → len ≡ length before.names → self.new ≡ before }
+            → self.old ≡ with_declared (with_clocks before clocks) ds
+            → len ≡ length before.names → self.new ≡ before }
     {
         self.names.truncate(len);
         let _clocks = self.bodies.pop_front();

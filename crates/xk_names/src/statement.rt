@@ -1,11 +1,11 @@
 //! What a statement does with names, apart from the statements that it holds.
 
-ghost use Rattle.std.specs.Prelude.{◌≡◌, map, is_some, option_map, if◌then◌else◌, ◌++◌, OnOk};
+ghost use Rattle.std.specs.Prelude.{◌≡◌, map, is_some, option_map, ◌++◌, OnOk};
 ghost use Rattle.std.specs.List.{flat_map};
 ghost use Rattle.xk_tree.specs.Tree.{clock_list, expression, source, statement, word};
 ghost use Rattle.xk_names.specs.Faults.{fault};
 ghost use Rattle.xk_names.specs.Scope.{find};
-ghost use Rattle.xk_names.specs.Uses.{clocks_listed, is_var, make_misfits, numbers, source_uses, type_misfits, values};
+ghost use Rattle.xk_names.specs.Uses.{assigned_uses, clocks_listed, is_var, make_misfits, numbers, source_uses, type_misfits};
 ghost use Rattle.xk_names.specs.Given.{atomic_faults, declaration_faults};
 ghost use Rattle.xk_names.specs.Collected.{least, list_faults, own, use_faults, when};
 
@@ -21,7 +21,9 @@ use xk_types::ParamKind;
 
 // A name that is declared.
 pub fn check_new<'t>(worst: &mut Option<FrontFault>, scope: &Scope<'t>, name: Name<'t>)
-    ensures { worst.new ≡ least worst.old (when (is_some (find scope.now.names name.entry.text.now)) FrontRule.DuplicateName name.entry.at) }
+    ensures { worst.new ≡ least worst.old
+        (when (is_some (find scope.now.names name.entry.text.now))
+        FrontRule.DuplicateName name.entry.at) }
 {
     note_if(
         scope.find(name.text).is_some(),
@@ -32,7 +34,8 @@ pub fn check_new<'t>(worst: &mut Option<FrontFault>, scope: &Scope<'t>, name: Na
 }
 
 fn check_right<'t>(worst: &mut Option<FrontFault>, scope: &Scope<'t>, r: &Right<'t>)
-    ensures { worst.new ≡ least worst.old (flat_map (use_faults scope.now) (source_uses (source r.now))) }
+    ensures { worst.new ≡ least worst.old
+        (flat_map (use_faults scope.now) (source_uses (source r.now))) }
 {
     match r {
         Right::Make(_, _) => {}
@@ -42,7 +45,8 @@ fn check_right<'t>(worst: &mut Option<FrontFault>, scope: &Scope<'t>, r: &Right<
 
 // The type of a declaration.
 fn check_type(worst: &mut Option<FrontFault>, ty: Option<TypeName>, r: &Right<'_>)
-    ensures { worst.new ≡ least worst.old (map (fault FrontRule.WrongKind) (type_misfits ty (source r.now))) }
+    ensures { worst.new ≡ least worst.old
+        (map (fault FrontRule.WrongKind) (type_misfits ty (source r.now))) }
 {
     if let Some(ty) = ty {
         let fits = match r {
@@ -57,7 +61,8 @@ fn check_type(worst: &mut Option<FrontFault>, ty: Option<TypeName>, r: &Right<'_
 
 // A clock that is made for a `var`.
 fn check_make(worst: &mut Option<FrontFault>, b: Binding, r: &Right<'_>)
-    ensures { worst.new ≡ least worst.old (map (fault FrontRule.WrongKind) (make_misfits b (source r.now))) }
+    ensures { worst.new ≡ least worst.old
+        (map (fault FrontRule.WrongKind) (make_misfits b (source r.now))) }
 {
     match b {
         Binding::Val => {}
@@ -85,7 +90,7 @@ fn check_assigned<'t>(
     e: &Expr<'t>,
 )
     ensures { worst.new ≡ least worst.old (flat_map (use_faults scope.now)
-        (if is_var (find scope.now.names name.entry.text.now) then values (expression e.now) else numbers (expression e.now))) }
+        (assigned_uses (find scope.now.names name.entry.text.now) (expression e.now))) }
 {
     if is_var(scope.find(name.text)) {
         check_values(worst, scope, e);
@@ -96,7 +101,9 @@ fn check_assigned<'t>(
 
 // The two sides of a comparison.
 fn check_sides<'t>(worst: &mut Option<FrontFault>, scope: &Scope<'t>, l: &Expr<'t>, r: &Expr<'t>)
-    ensures { worst.new ≡ least worst.old (flat_map (use_faults scope.now) (numbers (expression l.now) ++ numbers (expression r.now))) }
+    ensures { worst.new ≡ least worst.old
+        (flat_map (use_faults scope.now)
+        (numbers (expression l.now) ++ numbers (expression r.now))) }
 {
     check_numbers(worst, scope, l);
     check_numbers(worst, scope, r);
@@ -110,7 +117,8 @@ fn check_atomic<'t>(
     y: Name<'t>,
     e: &Expr<'t>,
 )
-    ensures { worst.new ≡ least worst.old (atomic_faults scope.now (word x.entry) (word y.entry) (expression e.now)) }
+    ensures { worst.new ≡ least worst.old
+        (atomic_faults scope.now (word x.entry) (word y.entry) (expression e.now)) }
 {
     check_use(worst, scope, x, Want::Shared);
     check_use(worst, scope, y, Want::Shared);
@@ -127,7 +135,8 @@ fn check_declaration<'t>(
     ty: Option<TypeName>,
     r: &Right<'t>,
 )
-    ensures { worst.new ≡ least worst.old (declaration_faults scope.now b (word x.entry) ty (source r.now)) }
+    ensures { worst.new ≡ least worst.old
+        (declaration_faults scope.now b (word x.entry) ty (source r.now)) }
 {
     check_right(worst, scope, r);
     check_new(worst, scope, x);
@@ -142,7 +151,8 @@ fn check_given<'t>(
     scope: &Scope<'t>,
     clocks: &Option<ClockList<'t>>,
 ) -> Result<(), AllocError>
-    ensures { OnOk result (worst.new ≡ least worst.old (list_faults scope.now (clocks_listed (option_map clock_list clocks.now)))) }
+    ensures { OnOk result (worst.new ≡ least worst.old
+        (list_faults scope.now (clocks_listed (option_map clock_list clocks.now)))) }
 {
     match clocks {
         None => Ok(()),
@@ -163,7 +173,8 @@ pub fn check_own<'t>(
     methods: &Methods<'_, 't>,
     s: &Stmt<'t>,
 ) -> Result<(), AllocError>
-    ensures { OnOk result (worst.new ≡ least worst.old (own methods.now scope.now (statement s.now))) }
+    ensures { OnOk result (worst.new ≡ least worst.old
+        (own methods.now scope.now (statement s.now))) }
 {
     match s {
         Stmt::Declare(b, x, ty, r) => {
