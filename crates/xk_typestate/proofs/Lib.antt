@@ -9,5 +9,6 @@ pub mod SuccessorsOf
 pub mod LeastStop
 pub mod Lists
 pub mod WalkBack
+pub mod Shortest
 pub mod InsideCode
 pub mod Units

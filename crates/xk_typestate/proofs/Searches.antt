@@ -4,7 +4,7 @@ use Rattle.std.proofs.Math.ListN.{set}
 use Rattle.std.proofs.lemmas.List.{get_or-set_same, get_or-set_other, length-set, length-replicate, get_or-replicate, get_or_past}
 use Rattle.std.proofs.lemmas.List.Sums.{sum_by-set}
 use Rattle.std.proofs.lemmas.List.Folds.{sum_by-replicate}
-use Rattle.std.proofs.lemmas.Option.{slice_get_within}
+use Rattle.std.proofs.lemmas.Option.{none-some, slice_get_within}
 use Rattle.std.proofs.lemmas.Bool.{cases_lt, cases_order, true≢false}
 use Rattle.xk_types.specs.declared.rules.Kind.{Kind}
 use Rattle.xk_types.specs.declared.rules.Kind.TheVariants as kind
@@ -15,7 +15,7 @@ use Rattle.xk_types.specs.Order.{Has}
 use Rattle.xk_types.specs.Walk.{IsEdge, IsVisited, entry_kinds}
 use Rattle.xk_typestate.specs.KindSet.{KindsValue, kinds_have, kinds_with, no_kinds}
 use Rattle.xk_typestate.specs.Place.{visit}
-use Rattle.xk_typestate.specs.Search.{IsClosed, IsFound, Came, AreSearched, IsSearched, IsComplete, IsPut, Extends, HasPut, CanCome, holds, kinds_absent}
+use Rattle.xk_typestate.specs.Search.{IsClosed, IsFound, Came, AreSearched, IsSearched, IsComplete, IsPut, Extends, HasEntries, HasBegun, HasPut, CanCome, NotBehind, IsLatest, IsPrompt, holds, kinds_absent}
 use Rattle.xk_typestate.specs.declared.search.Found.{Found}
 use Rattle.xk_typestate.specs.declared.search.Search.{Search}
 use Rattle.xk_typestate.proofs.KindSets.{have_added, have_kept, have_only, absent_with, none_have}
@@ -82,6 +82,25 @@ module _ (seen : List KindsValue) (q : Visit) (inside : q.at < length seen) wher
   absent_then fresh =
       omega (arith, sum_by-set kinds_absent seen q.at kinds_then no_kinds inside, absent_with (get_or seen q.at no_kinds) q.kind fresh)
 
+-- what was come to from a place on, or from one before it
+pub not_behind : (from : Option ℕ) → NotBehind from from
+not_behind None = tt
+not_behind (Some j) = omega arith
+
+pub later : (from : Option ℕ) (n k : ℕ) → n ≤ k → NotBehind from (Some n) → NotBehind from (Some k)
+later None n k le h = tt
+later (Some j) n k le h = omega arith
+
+pub latest_added : (found : List Found) (q : Visit) (from : Option ℕ) → IsLatest found from → IsLatest (found ++ record { stop = q; from = from } ∷ []) from
+latest_added found q from latest n f h =
+    elim (found_push found (record { stop = q; from = from }) n f h) [
+      | inl before ↦ latest n f before
+      | inr last ↦ subst (λ (x : Found). NotBehind x.from from) last.1 (not_behind from)
+    ]
+
+pub none_latest : (found : List Found) (from : Option ℕ) → found ≡ [] → IsLatest found from
+none_latest found from none n f h = absurd (none-some f (ap (λ fs. slice_get fs n) (sym none) ∙ h))
+
 -- ---- how stops were come to
 
 module _ (m : ModuleValue) (u : UnitValue) (s : ℕ) where
@@ -96,7 +115,7 @@ module _ (m : ModuleValue) (u : UnitValue) (s : ℕ) where
   came_inside closed found n q (Some j) c = edge_inside m u s closed c.1.0.stop q c.1.2
 
   -- one stop more
-  module _ (seen : List KindsValue) (found : List Found) (done : ℕ) (q : Visit) (from : Option ℕ) (inside : q.at < length seen) (fresh : holds seen q ≡ false) (so_far : AreSearched m u s seen found done) (leads : Came m u s found (length found) q from) where
+  module _ (seen : List KindsValue) (found : List Found) (done : ℕ) (q : Visit) (from : Option ℕ) (inside : q.at < length seen) (fresh : holds seen q ≡ false) (so_far : AreSearched m u s seen found done) (leads : Came m u s found (length found) q from) (latest : IsLatest found from) (now : NotBehind from (Some done)) where
     abbrev one : Found
     one = record { stop = q; from = from }
 
@@ -127,6 +146,32 @@ module _ (m : ModuleValue) (u : UnitValue) (s : ℕ) where
           | inr last ↦ absurd (let e = last.0 in let le = so_far.within in omega arith)
         ]
 
+    added_prompt : (n : ℕ) (f : Found) (p : Visit) → IsFound (found ++ one ∷ []) n f → n < done → IsEdge m u s f.stop p → IsPrompt (found ++ one ∷ []) n p
+    added_prompt n f p h lt edge =
+        elim (found_push found one n f h) [
+          | inl before ↦
+              let at = so_far.prompt n f p before lt edge in
+              record { place = at.place; f = at.f; found_there = kept at.place at.f at.found_there; stop = at.stop; from = at.from }
+          | inr last ↦ absurd (let e = last.0 in let le = so_far.within in omega arith)
+        ]
+
+    added_rising : (n k : ℕ) (f g : Found) → n ≤ k → IsFound (found ++ one ∷ []) n f → IsFound (found ++ one ∷ []) k g → NotBehind f.from g.from
+    added_rising n k f g le at_f at_g =
+        elim (found_push found one k g at_g) [
+          | inr last ↦ subst (λ (x : Found). NotBehind f.from x.from) last.1 (latest_added found q from latest n f at_f)
+          | inl here ↦ elim (found_push found one n f at_f) [
+            | inl before ↦ so_far.rising n k f g le before here
+            | inr last ↦ absurd (let e = last.0 in let lt = slice_get_within found k g here in omega arith)
+          ]
+        ]
+
+    added_recent : IsLatest (found ++ one ∷ []) (Some done)
+    added_recent n f h =
+        elim (found_push found one n f h) [
+          | inl before ↦ so_far.recent n f before
+          | inr last ↦ subst (λ (x : Found). NotBehind x.from (Some done)) last.1 now
+        ]
+
     pub searched_added : AreSearched m u s (seen_then seen q inside) (found ++ one ∷ []) done
     searched_added = record {
       long = length-set seen q.at _ ∙ so_far.long;
@@ -134,19 +179,23 @@ module _ (m : ModuleValue) (u : UnitValue) (s : ℕ) where
       came = added_came;
       listed = added_listed;
       closed = added_closed;
+      prompt = added_prompt;
+      rising = added_rising;
+      recent = added_recent;
       once = omega (arith, so_far.once, absent_then seen q inside fresh, length-append found (one ∷ []));
     }
 
   pub searched_put : (old new : Search) (done : ℕ) (q : Visit) (from : Option ℕ) → q.at < length old.seen.items → IsPut old new q from
-      → IsSearched m u s old done → Came m u s old.found.items (length old.found.items) q from → IsSearched m u s new done
-  searched_put old new done q from inside put so_far leads =
+      → IsSearched m u s old done → Came m u s old.found.items (length old.found.items) q from → IsLatest old.found.items from → NotBehind from (Some done)
+      → IsSearched m u s new done
+  searched_put old new done q from inside put so_far leads latest now =
       elim put [
         | inl same ↦
             let P : List KindsValue → Type 0 = λ x. AreSearched m u s x old.found.items done in
             let Q : List Found → Type 0 = λ x. AreSearched m u s new.seen.items x done in
             subst Q (sym same.2) (subst P (sym same.1) so_far)
         | inr added ↦
-            let more = searched_added old.seen.items old.found.items done q from inside added.fresh so_far leads in
+            let more = searched_added old.seen.items old.found.items done q from inside added.fresh so_far leads latest now in
             let P : List KindsValue → Type 0 = λ x. AreSearched m u s x (old.found.items ++ record { stop = q; from = from } ∷ []) done in
             let Q : List Found → Type 0 = λ x. AreSearched m u s new.seen.items x done in
             subst Q (sym added.found) (subst P (sym added.seen) more)
@@ -170,6 +219,19 @@ module _ (m : ModuleValue) (u : UnitValue) (s : ℕ) where
           let Q : Found → Type 0 = λ x. IsEdge m u s x.stop q in
           leads q (subst Q (sym is) edge)
     ];
+    prompt = λ n g q h below edge. elim (cases_lt n done) [
+      | inl before ↦ so_far.prompt n g q h before edge
+      | inr here ↦
+          let same : n ≡ done = omega arith in
+          let P : ℕ → Type 0 = λ x. IsFound r.found.items x g in
+          let both : Some f ≡ Some g = sym found ∙ subst P same h in
+          let is : f ≡ g = cc in
+          let Q : Found → Type 0 = λ x. IsEdge m u s x.stop q in
+          let at = so_far.listed q (leads q (subst Q (sym is) edge)) in
+          record { place = at.0; f = at.1; found_there = at.2; stop = at.3; from = later at.1.from done n (omega arith) (so_far.recent at.0 at.1 at.2) }
+    ];
+    rising = so_far.rising;
+    recent = λ n g h. later g.from done (done + 1) (omega arith) (so_far.recent n g h);
     once = so_far.once;
   }
 
@@ -191,6 +253,9 @@ module _ (m : ModuleValue) (u : UnitValue) (s : ℕ) where
     came = λ n f h. absurd (let no : ⊥ = cc in no);
     listed = λ q h. absurd (nothing (length u.code) q h);
     closed = λ n f q h lt edge. absurd (omega arith);
+    prompt = λ n f q h lt edge. absurd (omega arith);
+    rising = λ n k f g le h. absurd (let no : ⊥ = cc in no);
+    recent = λ n f h. absurd (let no : ⊥ = cc in no);
     once = omega (arith, sum_by-replicate kinds_absent (length u.code) no_kinds);
   }
 
@@ -199,6 +264,16 @@ module _ (m : ModuleValue) (u : UnitValue) (s : ℕ) where
       let P : List KindsValue → Type 0 = λ x. AreSearched m u s x [] 0 in
       let Q : List Found → Type 0 = λ x. AreSearched m u s r.seen.items x 0 in
       subst Q (sym found) (subst P (sym seen) at_first)
+
+  -- where nothing is come to from elsewhere, each entry begins a walk
+  pub begun_at_first : (r : Search) (done : ℕ) → IsSearched m u s r done → HasEntries u s r → IsLatest r.found.items None → HasBegun u s r
+  begun_at_first r done so_far entries latest k has =
+      let at = so_far.listed (visit 0 k) (entries k has) in
+      (at.0, at.1, at.2, at.3, first at.1.from (latest at.0 at.1 at.2))
+    where
+      first : (from : Option ℕ) → NotBehind from None → from ≡ None
+      first None h = refl
+      first (Some j) h = absurd h
 
   -- ---- a whole search
 
@@ -272,9 +347,21 @@ put_seen old new q from inside put =
     ]
 
 -- what leads to a place still does where more is found
-pub can_come_on : (m : ModuleValue) (u : UnitValue) (s : ℕ) (old new : Search) (to : ℕ) (kinds : KindsValue) (from : Option ℕ) → Extends old new → CanCome m u s old to kinds from → CanCome m u s new to kinds from
-can_come_on m u s old new to kinds from grown come k has =
-    came_still m u s old.found.items new.found.items (length old.found.items) (length new.found.items) (visit to k) from grown.found grown.more (come k has)
+pub can_come_on : (m : ModuleValue) (u : UnitValue) (s done : ℕ) (old new : Search) (to : ℕ) (kinds : KindsValue) (from : Option ℕ) → Extends old new
+    → IsLatest new.found.items from → CanCome m u s done old to kinds from → CanCome m u s done new to kinds from
+can_come_on m u s done old new to kinds from grown latest can = record {
+  come = λ k has. came_still m u s old.found.items new.found.items (length old.found.items) (length new.found.items) (visit to k) from grown.found grown.more (can.come k has);
+  latest = latest;
+  now = can.now;
+}
+
+-- nothing is come to from behind the place, where the last to be put isn't
+latest_put : (old new : Search) (q : Visit) (from : Option ℕ) → IsPut old new q from → IsLatest old.found.items from → IsLatest new.found.items from
+latest_put old new q from put latest =
+    elim put [
+      | inl same ↦ subst (λ fs. IsLatest fs from) (sym same.2) latest
+      | inr added ↦ subst (λ fs. IsLatest fs from) (sym added.found) (latest_added old.found.items q from latest)
+    ]
 
 pub has_put_on : (old new : Search) (to : ℕ) (kinds : KindsValue) → Extends old new → HasPut old to kinds → HasPut new to kinds
 has_put_on old new to kinds grown put k has = grown.kept (visit to k) (put k has)
@@ -305,7 +392,8 @@ kind_place-lt kind.Out = omega arith
 pub record ArePut (old now : Search) (to : ℕ) (kinds : KindsValue) (from : Option ℕ) (n : ℕ) : Type 0 where
   pub grown : Extends old now
   pub put : (k : Kind) → kind_place k < n → IsTrue (kinds_have kinds k) → IsTrue (holds now.seen.items (visit to k))
-  pub searched : (m : ModuleValue) (u : UnitValue) (s done : ℕ) → IsSearched m u s old done → CanCome m u s old to kinds from → IsSearched m u s now done
+  pub latest : IsLatest old.found.items from → IsLatest now.found.items from
+  pub searched : (m : ModuleValue) (u : UnitValue) (s done : ℕ) → IsSearched m u s old done → CanCome m u s done old to kinds from → IsSearched m u s now done
 
 module _ (old now : Search) (to : ℕ) (kinds : KindsValue) (from : Option ℕ) (n : ℕ) (d : Kind) (b : Bool) (is : b ≡ kinds_have kinds (get_or five n d)) (so_far : ArePut old now to kinds from n) where
   -- a kind that isn't in the set
@@ -318,6 +406,7 @@ module _ (old now : Search) (to : ℕ) (kinds : KindsValue) (from : Option ℕ) 
           let same : kind_place k ≡ n = omega arith in
           absurd (true≢false (sym has ∙ ap (kinds_have kinds) (sym (kind_at n k d same)) ∙ sym is ∙ out))
     ];
+    latest = so_far.latest;
     searched = so_far.searched;
   }
 
@@ -334,12 +423,16 @@ module _ (old now : Search) (to : ℕ) (kinds : KindsValue) (from : Option ℕ) 
               let same : kind_place k ≡ n = omega arith in
               subst (λ x. IsTrue (holds next.seen.items (visit to x))) (kind_at n k d same) (put_seen now next (visit to (get_or five n d)) from inside put)
         ];
-        searched = λ m u s done first come. searched_put m u s now next done (visit to (get_or five n d)) from inside put (so_far.searched m u s done first come) (can_come_on m u s old now to kinds from so_far.grown come (get_or five n d) (sym is ∙ has_it));
+        latest = λ h. latest_put now next (visit to (get_or five n d)) from put (so_far.latest h);
+        searched = λ m u s done first can.
+            let on = can_come_on m u s done old now to kinds from so_far.grown (so_far.latest can.latest) can in
+            searched_put m u s now next done (visit to (get_or five n d)) from inside put (so_far.searched m u s done first can) (on.come (get_or five n d) (sym is ∙ has_it)) on.latest on.now;
       }
 
 pub are_put_none : (r : Search) (to : ℕ) (kinds : KindsValue) (from : Option ℕ) → ArePut r r to kinds from 0
 are_put_none r to kinds from = record {
   grown = extends_self r;
   put = λ k lt has. absurd (omega arith);
+  latest = λ h. h;
   searched = λ m u s done first come. first;
 }

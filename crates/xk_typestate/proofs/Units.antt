@@ -39,7 +39,7 @@ fault_of_unit m unit u f found below h =
               absurd (below unit' refused.u lt refused.found s q r (refused_in m unit' refused.u s q r refused.found refused))
         ]
       ];
-      walk = record { u = u; found = at_unit; walked = h.walked; ends = h.ends };
+      walk = record { u = u; found = at_unit; walked = h.walked; ends = h.ends; shortest = h.shortest };
     }
 
 -- the same of an error

@@ -1,5 +1,5 @@
 -- Walks that end where the table refuses to go on, and the least of them.
-use Rattle.std.specs.Prelude.{◌≡◌, ℕ, ◌<◌, List, [], ◌∷◌, Some, slice_get, IsTrue}
+use Rattle.std.specs.Prelude.{◌≡◌, ℕ, ◌<◌, ◌≤◌, List, [], ◌∷◌, length, Some, slice_get, IsTrue}
 use Rattle.xk_types.specs.declared.rules.Rule.{Rule}
 use Rattle.xk_types.specs.declared.rules.Kind.{Kind}
 use Rattle.xk_types.specs.declared.rules.Visit.{Visit}
@@ -20,15 +20,20 @@ use Rattle.xk_typestate.specs.Place.{visit}
 abbrev pub IsNeverRefused : ModuleValue → Type 0
 IsNeverRefused m = (unit s : ℕ) (q : Visit) (r : Rule) → IsRefusedAt m unit s q r → ⊥
 
--- the list is a walk of that slot in that unit, and ends there
+-- no walk that ends there has fewer stops
+abbrev pub IsShortest : ModuleValue → UnitValue → ℕ → Visit → List Visit → Type 0
+IsShortest m u s q walk = (other : List Visit) → IsWalk m u s other → EndsAt other q → length walk ≤ length other
+
+-- the list is a walk of that slot in that unit, and ends there, and none that does is shorter
 pub record IsWalkTo (m : ModuleValue) (unit s : ℕ) (q : Visit) (walk : List Visit) : Type 0 where
   pub u : UnitValue
   pub found : slice_get m.units unit ≡ Some u
   pub walked : IsWalk m u s walk
   pub ends : EndsAt walk q
+  pub shortest : IsShortest m u s q walk
 
 -- the fault names the least slot and kind that are refused, by unit, instruction, slot and kind, and the rule of the
--- table, and has a walk that ends there
+-- table, and has a walk that ends there, of the shortest
 pub record IsKindFault (m : ModuleValue) (f : KindFault) : Type 0 where
   pub refused : IsRefusedAt m f.unit f.slot (visit f.at f.kind) f.rule
   pub least : (unit s : ℕ) (q : Visit) (r : Rule) → IsRefusedAt m unit s q r
@@ -60,6 +65,7 @@ pub record IsUnitFault (m : ModuleValue) (unit : ℕ) (u : UnitValue) (f : KindF
       → NotAfter (f.at ∷ f.slot ∷ kind_place f.kind ∷ []) (q.at ∷ s ∷ kind_place q.kind ∷ [])
   pub walked : IsWalk m u f.slot f.walk.items
   pub ends : EndsAt f.walk.items (visit f.at f.kind)
+  pub shortest : IsShortest m u f.slot (visit f.at f.kind) f.walk.items
 
 -- what an error says of one unit
 abbrev pub FailsUnit : ModuleValue → ℕ → UnitValue → KindError → Type 0

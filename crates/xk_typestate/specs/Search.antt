@@ -29,6 +29,25 @@ abbrev pub Came : ModuleValue → UnitValue → ℕ → List Found → ℕ → V
 Came m u s found n q None = (q.at ≡ 0) × Has (entry_kinds u s) q.kind
 Came m u s found n q (Some before) = (before < n) × ((f : Found) × IsFound found before f × IsEdge m u s f.stop q)
 
+-- Stops are come to from earlier ones first: the first of two places among those found isn't behind the second, where to begin a walk counts
+-- as before all.
+abbrev pub NotBehind : Option ℕ → Option ℕ → Type 0
+NotBehind None o = Unit {0}
+NotBehind (Some j) None = ⊥
+NotBehind (Some j) (Some k) = j ≤ k
+
+-- no stop found was come to from behind that place
+abbrev pub IsLatest : List Found → Option ℕ → Type 0
+IsLatest found from = (n : ℕ) (f : Found) → IsFound found n f → NotBehind f.from from
+
+-- the stop is found, and was come to from that place or from one before it
+pub record IsPrompt (found : List Found) (n : ℕ) (q : Visit) : Type 0 where
+  pub place : ℕ
+  pub f : Found
+  pub found_there : IsFound found place f
+  pub stop : f.stop ≡ q
+  pub from : NotBehind f.from (Some n)
+
 -- how many of the five kinds aren't in the set
 abbrev pub one_unless : Bool → ℕ
 one_unless b = if b then 0 else 1
@@ -36,13 +55,17 @@ one_unless b = if b then 0 else 1
 abbrev pub kinds_absent : KindsValue → ℕ
 kinds_absent s = one_unless s.unset + one_unless s.number + one_unless s.live + one_unless s.resumed + one_unless s.out
 
--- what is found was come to; what is seen is found; where the first `done` of those found lead is seen; each is found once
+-- What is found was come to; what is seen is found; where the first `done` of those found lead is seen, and was come to from there or from
+-- before; each is found once; they were come to from places that rise.
 pub record AreSearched (m : ModuleValue) (u : UnitValue) (s : ℕ) (seen : List KindsValue) (found : List Found) (done : ℕ) : Type 0 where
   pub long : length seen ≡ length u.code
   pub within : done ≤ length found
   pub came : (n : ℕ) (f : Found) → IsFound found n f → Came m u s found n f.stop f.from
   pub listed : (q : Visit) → IsTrue (holds seen q) → (n : ℕ) × (f : Found) × IsFound found n f × (f.stop ≡ q)
   pub closed : (n : ℕ) (f : Found) (q : Visit) → IsFound found n f → n < done → IsEdge m u s f.stop q → IsTrue (holds seen q)
+  pub prompt : (n : ℕ) (f : Found) (q : Visit) → IsFound found n f → n < done → IsEdge m u s f.stop q → IsPrompt found n q
+  pub rising : (n k : ℕ) (f g : Found) → n ≤ k → IsFound found n f → IsFound found k g → NotBehind f.from g.from
+  pub recent : IsLatest found (Some done)
   pub once : length found + sum_by kinds_absent seen ≡ 5 * length u.code
 
 -- the search has come so far, for what it has seen and found
@@ -53,10 +76,15 @@ IsSearched m u s r done = AreSearched m u s r.seen.items r.found.items done
 abbrev pub HasEntries : UnitValue → ℕ → Search → Type 0
 HasEntries u s r = (k : Kind) → Has (entry_kinds u s) k → IsTrue (holds r.seen.items (visit 0 k))
 
+-- and was found to begin a walk
+abbrev pub HasBegun : UnitValue → ℕ → Search → Type 0
+HasBegun u s r = (k : Kind) → Has (entry_kinds u s) k → (n : ℕ) × (f : Found) × IsFound r.found.items n f × (f.stop ≡ visit 0 k) × (f.from ≡ None)
+
 -- the whole search
 pub record IsComplete (m : ModuleValue) (u : UnitValue) (s : ℕ) (r : Search) : Type 0 where
   pub searched : IsSearched m u s r (length r.found.items)
   pub entries : HasEntries u s r
+  pub begun : HasBegun u s r
 
 -- a stop that wasn't seen is seen and found
 pub record IsAdded (old new : Search) (q : Visit) (from : Option ℕ) : Type 0 where
@@ -79,6 +107,8 @@ pub record Extends (old new : Search) : Type 0 where
 abbrev pub HasPut : Search → ℕ → KindsValue → Type 0
 HasPut r to kinds = (k : Kind) → IsTrue (kinds_have kinds k) → IsTrue (holds r.seen.items (visit to k))
 
--- what leads there with each of these kinds
-abbrev pub CanCome : ModuleValue → UnitValue → ℕ → Search → ℕ → KindsValue → Option ℕ → Type 0
-CanCome m u s r to kinds from = (k : Kind) → IsTrue (kinds_have kinds k) → Came m u s r.found.items (length r.found.items) (visit to k) from
+-- where the search is at place `done`, something leads there with each of these kinds, and nothing was come to from behind it
+pub record CanCome (m : ModuleValue) (u : UnitValue) (s done : ℕ) (r : Search) (to : ℕ) (kinds : KindsValue) (from : Option ℕ) : Type 0 where
+  pub come : (k : Kind) → IsTrue (kinds_have kinds k) → Came m u s r.found.items (length r.found.items) (visit to k) from
+  pub latest : IsLatest r.found.items from
+  pub now : NotBehind from (Some done)

@@ -21,7 +21,8 @@ pub struct KindFault {
     pub slot: u16,
     /// What the slot may hold before the instruction.
     pub kind: Kind,
-    /// A walk through the unit from its first instruction to this one, with the slot's kind at each stop.
+    /// A walk through the unit from its first instruction to this one, with the slot's kind at each stop. None that
+    /// comes here with that kind has fewer stops.
     pub walk: Vec<Visit>,
 }
 

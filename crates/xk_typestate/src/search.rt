@@ -5,7 +5,7 @@ ghost use Rattle.xk_types.specs.Code.{UnitValue, ModuleValue};
 ghost use Rattle.xk_types.specs.Order.{Has};
 ghost use Rattle.xk_typestate.specs.KindSet.{kinds_have, no_kinds};
 ghost use Rattle.xk_typestate.specs.Rows.{places};
-ghost use Rattle.xk_typestate.specs.Search.{IsClosed, IsFound, IsSearched, IsComplete, IsPut, Extends, HasPut, CanCome};
+ghost use Rattle.xk_typestate.specs.Search.{IsClosed, IsFound, IsSearched, IsComplete, IsPut, Extends, IsLatest, HasPut, CanCome};
 
 use crate::kind_set::{KINDS, KindSet};
 use crate::rows::{Successors, kinds_at_entry, kinds_left, successors_of};
@@ -97,7 +97,7 @@ impl Search {
         ensures put { IfOk result (λ _. (to : ℕ) → Has (places successors) to → HasPut self.new to kinds) }
         ensures searched { (m : ModuleValue) (u : UnitValue) (s done : ℕ)
             → IsSearched m u s self.old done
-            → ((to : ℕ) → Has (places successors) to → CanCome m u s self.old to kinds from)
+            → ((to : ℕ) → Has (places successors) to → CanCome m u s done self.old to kinds from)
             → IfOk result (λ _. IsSearched m u s self.new done) }
     {
         match successors {
@@ -115,9 +115,10 @@ impl Search {
         requires inside { to < length self.old.seen.items }
         ensures grown { IfOk result (λ _. Extends self.old self.new) }
         ensures put { IfOk result (λ _. HasPut self.new to kinds) }
+        ensures latest { IfOk result (λ _. IsLatest self.old.found.items from → IsLatest self.new.found.items from) }
         ensures searched { (m : ModuleValue) (u : UnitValue) (s done : ℕ)
             → IsSearched m u s self.old done
-            → CanCome m u s self.old to kinds from
+            → CanCome m u s done self.old to kinds from
             → IfOk result (λ _. IsSearched m u s self.new done) }
     {
         for kind in KINDS {

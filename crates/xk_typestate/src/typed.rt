@@ -41,8 +41,8 @@ impl Model for Typed {
 }
 
 /// Takes the module if no walk of a slot ends where the table of kinds refuses to go on, or gives it back with the least
-/// slot that is refused, by unit, instruction, slot and kind. `OutOfMemory` comes only where room for the blocks of a unit, for
-/// the kinds or for a walk was refused.
+/// slot that is refused, by unit, instruction, slot and kind, and with a shortest walk to it. `OutOfMemory` comes only where
+/// room for the blocks of a unit, for the kinds or for a walk was refused.
 pub fn check_kinds(alloc: Global, shaped: Shaped) -> Result<Typed, (Shaped, KindError)>
     ensures accepted { IfOk result (λ t. (t ≡ shaped) × IsNeverRefused shaped) }
     ensures refused { IfErr result (λ e. FailsModule shaped e.1) }

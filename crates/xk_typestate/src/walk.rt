@@ -1,18 +1,19 @@
 //! Walks to a stop.
 
-ghost use Rattle.std.specs.Prelude.{◌≡◌, ℕ, ◌<◌, ◌≤◌, length, IfOk, MatchOption};
+ghost use Rattle.std.specs.Prelude.{◌≡◌, ℕ, ◌<◌, ◌≤◌, length, IfOk, MatchOption, Some};
 ghost use Rattle.xk_types.specs.declared.rules.Visit.{Visit};
 ghost use Rattle.xk_types.specs.Code.{UnitValue, ModuleValue};
 ghost use Rattle.xk_types.specs.Walk.{IsWalk, EndsAt, IsVisited};
 ghost use Rattle.xk_typestate.specs.Search.{IsClosed};
-ghost use Rattle.xk_typestate.specs.Found.{IsPlaceOf, IsNowhere, ComesFromBefore, HasCome};
+ghost use Rattle.xk_typestate.specs.Refused.{IsShortest};
+ghost use Rattle.xk_typestate.specs.Found.{IsPlaceOf, IsFirstPlaceOf, IsNowhere, ComesFromBefore, HasCome, StopsBack};
 
 use crate::search::{Found, search_slot};
 use std::alloc::{AllocError, Global};
 use xk_shape::Blocks;
 use xk_types::{Module, Unit, Visit};
 
-/// A walk of the slot that ends at this stop: of the shortest, the first that a breadth-first search finds.
+/// A walk of the slot that ends at this stop, than which none is shorter.
 pub(crate) fn walk_to(
     alloc: Global,
     m: &Module,
@@ -25,7 +26,8 @@ pub(crate) fn walk_to(
     requires closed { IsClosed u.now }
     requires limits { length u.now.code ≤ 4096 }
     requires visited { IsVisited m.now u.now slot end }
-    ensures { IfOk result (λ w. IsWalk m.now u.now slot w.items × EndsAt w.items end) }
+    ensures walk { IfOk result (λ w. IsWalk m.now u.now slot w.items × EndsAt w.items end) }
+    ensures shortest { IfOk result (λ w. IsShortest m.now u.now slot end w.items) }
 {
     let search = search_slot(alloc, m, u, blocks, slot)?;
     match place_of(&search.found, end) {
@@ -34,9 +36,9 @@ pub(crate) fn walk_to(
     }
 }
 
-/// Where the stop stands among those found.
+/// Where the stop first stands among those found.
 fn place_of(found: &[Found], stop: Visit) -> Option<usize>
-    ensures { MatchOption result (IsNowhere found.now stop) (IsPlaceOf found.now stop) }
+    ensures { MatchOption result (IsNowhere found.now stop) (IsFirstPlaceOf found.now stop) }
 {
     for i in 0..found.len() {
         if found[i].stop == stop {
@@ -50,9 +52,10 @@ fn place_of(found: &[Found], stop: Visit) -> Option<usize>
 fn walk_back(alloc: Global, found: &[Found], place: usize) -> Result<Vec<Visit>, AllocError>
     requires order { ComesFromBefore found.now }
     requires inside { place < length found.now }
-    ensures { (m : ModuleValue) (u : UnitValue) (s : ℕ)
+    ensures walk { (m : ModuleValue) (u : UnitValue) (s : ℕ)
         → HasCome m u s found.now
         → IfOk result (λ w. IsWalk m u s w.items × ((q : Visit) → IsPlaceOf found.now q place → EndsAt w.items q)) }
+    ensures stops { IfOk result (λ w. StopsBack found.now (Some place) (length w.items)) }
 {
     let mut walk = Vec::new(alloc);
     let mut next = Some(place);

@@ -2,13 +2,14 @@
 use Rattle.std.proofs.Common.{◌≡◌, ℕ, ◌+◌, ◌<◌, length, Some}
 use Rattle.std.specs.Option.{option_map_or}
 use Rattle.xk_types.specs.Code.{UnitValue, ModuleValue}
-use Rattle.xk_typestate.specs.Found.{HasCome}
+use Rattle.xk_typestate.specs.Found.{HasCome, StopsBack}
 use Rattle.xk_typestate.proofs.WalkBack.{IsBack}
 use Rattle.xk_typestate.proofs.walk.walk_back.Given as goal
 
 abbrev pub invariant-loop-next : goal.invariant-loop-next
 invariant-loop-next l = record {
   inside : (n : ℕ) → l.next ≡ Some n → n < length l.found;
+  stops : (n : ℕ) → StopsBack l.found l.next n → StopsBack l.found (Some l.place) (n + length l.walk.items);
   back : (m : ModuleValue) (u : UnitValue) (s : ℕ) → HasCome m u s l.found → IsBack m u s l.found l.place l.walk.items l.next;
 }
 

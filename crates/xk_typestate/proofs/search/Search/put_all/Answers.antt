@@ -25,5 +25,6 @@ pub returns : goal.returns
 returns c = record {
   grown = c.loop-kind.invariant.grown;
   put = λ k. c.loop-kind.invariant.put k (omega (arith, kind_place-lt k));
+  latest = c.loop-kind.invariant.latest;
   searched = c.loop-kind.invariant.searched;
 }

@@ -32,7 +32,7 @@ returns-in_ok-put_all-in-Two-clause-searched c = λ m u s done so_far come.
     let to_second = come second (has_second c.args.successors first second c.in-Two.is) in
     c.put_all-in-Two-2.ensures.searched m u s done
     (before.searched m u s done so_far to_first)
-    (can_come_on m u s c.args.self.now c.put_all-in-Two.new.self second c.args.kinds c.args.from before.grown to_second)
+    (can_come_on m u s done c.args.self.now c.put_all-in-Two.new.self second c.args.kinds c.args.from before.grown (before.latest to_first.latest) to_second)
 
 pub returns-in_ok-put_all-in-Two-clause-put : goal.returns-in_ok-put_all-in-Two-clause-put
 returns-in_ok-put_all-in-Two-clause-put c =
