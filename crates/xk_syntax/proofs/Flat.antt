@@ -117,35 +117,44 @@ source_again d (Value e) after h =
 
 -- ---- statements
 
-declare_again : (d : ℕ) (b : Binding) (w : Word) (ty : Option TypeName) (r : Source) (after : List Mark) → SourceFits d r → declare_at d b (word w (type_part ty (Symbol sign.Assign ∷ source r (Symbol sign.Semicolon ∷ after)))) ≡ Some (Declare b w ty r, after)
+declare_again : (d : ℕ) (b : Binding) (w : Word) (ty : Option TypeName) (r : Source) (after : List Mark) → SourceFits d r
+    → declare_at d b (word w (type_part ty (Symbol sign.Assign ∷ source r (Symbol sign.Semicolon ∷ after)))) ≡ Some (Declare b w ty r, after)
 unfolding declare_at word_at sign_at bind
 declare_again d b w ty r after h = rw (type_part_again ty (source r (Symbol sign.Semicolon ∷ after)), source_again d r after h) refl
 
-atomic_again : (d : ℕ) (w v : Word) (at : ℕ) (e : Expression) (after : List Mark) → IsTerm d e → atomic_at d (word w (Symbol sign.Assign ∷ word v (Operator at operator.Plus ∷ expr e (Symbol sign.Semicolon ∷ after)))) ≡ Some (Atomic w v at e, after)
+atomic_again : (d : ℕ) (w v : Word) (at : ℕ) (e : Expression) (after : List Mark) → IsTerm d e
+    → atomic_at d (word w (Symbol sign.Assign ∷ word v (Operator at operator.Plus ∷ expr e (Symbol sign.Semicolon ∷ after)))) ≡ Some (Atomic w v at e, after)
 unfolding atomic_at word_at sign_at plus_at bind
 atomic_again d w v at e after h = rw (term_again d (spell e) e (Symbol sign.Semicolon ∷ after) h tt) refl
 
-advance_again : (at : ℕ) (v : Verb) (after : List Mark) → advance_at at (Symbol sign.Dot ∷ verb (codes "advanceAll") v (Symbol sign.RightParen ∷ Symbol sign.Semicolon ∷ after)) ≡ Some (AdvanceAll at v, after)
+advance_again : (at : ℕ) (v : Verb) (after : List Mark) → advance_at at (Symbol sign.Dot ∷ verb (codes "advanceAll") v
+    (Symbol sign.RightParen ∷ Symbol sign.Semicolon ∷ after)) ≡ Some (AdvanceAll at v, after)
 unfolding advance_at act_at bare_verb_at verb_at this_word_at word_at open_at sign_at bind
 advance_again at v after = refl
 
-print_again : (d at : ℕ) (v : Verb) (e : Expression) (after : List Mark) → IsExpr d e → print_at d (Symbol sign.Dot ∷ Name at (codes "OUT") ∷ Symbol sign.Dot ∷ verb (codes "println") v (expr e (Symbol sign.RightParen ∷ Symbol sign.Semicolon ∷ after))) ≡ Some (Print at v e, after)
+print_again : (d at : ℕ) (v : Verb) (e : Expression) (after : List Mark) → IsExpr d e
+    → print_at d (Symbol sign.Dot ∷ Name at (codes "OUT") ∷ Symbol sign.Dot ∷ verb (codes "println") v (expr e (Symbol sign.RightParen ∷ Symbol sign.Semicolon ∷ after)))
+    ≡ Some (Print at v e, after)
 unfolding print_at print_head_at verb_at this_word_at word_at open_at sign_at bind
 print_again d at v e after h = rw (expr_again d e sign.RightParen (Symbol sign.Semicolon ∷ after) h) refl
 
-assign_again : (d : ℕ) (w : Word) (e : Expression) (after : List Mark) → IsExpr d e → named_at d w (Symbol sign.Assign ∷ expr e (Symbol sign.Semicolon ∷ after)) ≡ Some (Assign w e, after)
+assign_again : (d : ℕ) (w : Word) (e : Expression) (after : List Mark) → IsExpr d e
+    → named_at d w (Symbol sign.Assign ∷ expr e (Symbol sign.Semicolon ∷ after)) ≡ Some (Assign w e, after)
 unfolding named_at assign_at open_at sign_at bind
 assign_again d w e after h = rw (expr_again d e sign.Semicolon after h) refl
 
-call_again : (d : ℕ) (w : Word) (at : ℕ) (es : List Expression) (after : List Mark) → AllByRecursion (IsExpr d) es → named_at d w (Open at ∷ commas expr es (Symbol sign.RightParen ∷ Symbol sign.Semicolon ∷ after)) ≡ Some (Call w at es, after)
+call_again : (d : ℕ) (w : Word) (at : ℕ) (es : List Expression) (after : List Mark) → AllByRecursion (IsExpr d) es
+    → named_at d w (Open at ∷ commas expr es (Symbol sign.RightParen ∷ Symbol sign.Semicolon ∷ after)) ≡ Some (Call w at es, after)
 unfolding named_at call_at open_at sign_at bind
 call_again d w at es after h = rw (listed_again (whole_at d) expr (IsExpr d) (expr_takes d) (expr_again d) expr_not_closing es (Symbol sign.Semicolon ∷ after) h) refl
 
-resume_again : (d : ℕ) (w : Word) (v : Verb) (after : List Mark) → named_at d w (Symbol sign.Dot ∷ verb (codes "resume") v (Symbol sign.RightParen ∷ Symbol sign.Semicolon ∷ after)) ≡ Some (Resume w v, after)
+resume_again : (d : ℕ) (w : Word) (v : Verb) (after : List Mark) → named_at d w (Symbol sign.Dot ∷ verb (codes "resume") v
+    (Symbol sign.RightParen ∷ Symbol sign.Semicolon ∷ after)) ≡ Some (Resume w v, after)
 unfolding named_at dotted_at bare_verb_at verb_at this_word_at word_at open_at sign_at bind
 resume_again d w v after = refl
 
-drop_again : (d : ℕ) (w : Word) (v : Verb) (after : List Mark) → named_at d w (Symbol sign.Dot ∷ verb (codes "drop") v (Symbol sign.RightParen ∷ Symbol sign.Semicolon ∷ after)) ≡ Some (Drop w v, after)
+drop_again : (d : ℕ) (w : Word) (v : Verb) (after : List Mark) → named_at d w (Symbol sign.Dot ∷ verb (codes "drop") v
+    (Symbol sign.RightParen ∷ Symbol sign.Semicolon ∷ after)) ≡ Some (Drop w v, after)
 unfolding named_at dotted_at bare_verb_at verb_at this_word_at word_at open_at sign_at bind
 drop_again d w v after = refl
 

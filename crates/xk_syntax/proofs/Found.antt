@@ -232,7 +232,8 @@ pub record IsFlat (d : ℕ) (all : List Mark) (x : Statement × List Mark) : Typ
   pub closed : dangles x.0 ≡ false
 
 -- with its `;`
-pub flat_ended : (d : ℕ) (all ts : List Mark) (s : Statement) (x : Statement × List Mark) → ended s ts ≡ Some x → ((us : List Mark) → ts ≡ Symbol sign.Semicolon ∷ us → IsFlat d all (s, us)) → IsFlat d all x
+pub flat_ended : (d : ℕ) (all ts : List Mark) (s : Statement) (x : Statement × List Mark) → ended s ts ≡ Some x → ((us : List Mark) → ts ≡ Symbol sign.Semicolon ∷ us
+    → IsFlat d all (s, us)) → IsFlat d all x
 flat_ended d all ts s x e f =
     let a = bind_some _ _ _ e in
     subst (IsFlat d all) (some_is _ x a.2) (f a.0 (sign_is sign.Semicolon refl ts a.0 a.1))
@@ -272,7 +273,8 @@ advance_found d at ts x e =
     let p = act_found (codes "advanceAll") ts v.0 v.1 in
     flat_ended d _ v.0.1 _ x v.2 (λ us h. record { spelled = cc; fits = tt; closed = refl })
 
-print_head_found : (ts : List Mark) (x : (ℕ × Verb) × List Mark) → print_head_at ts ≡ Some x → ts ≡ Symbol sign.Dot ∷ Name x.0.0 (codes "OUT") ∷ Symbol sign.Dot ∷ verb (codes "println") x.0.1 x.1
+print_head_found : (ts : List Mark) (x : (ℕ × Verb) × List Mark) → print_head_at ts ≡ Some x
+    → ts ≡ Symbol sign.Dot ∷ Name x.0.0 (codes "OUT") ∷ Symbol sign.Dot ∷ verb (codes "println") x.0.1 x.1
 unfolding print_head_at
 print_head_found ts x e =
     let us = bind_some _ _ _ e in

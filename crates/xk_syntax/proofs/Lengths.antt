@@ -43,7 +43,12 @@ mutual
   pub stmt_longer : (s : Statement) (after : List Mark) → length after < length (stmt s after)
   stmt_longer (Block ss) after = omega (arith, stmts_longer ss (Symbol sign.RightBrace ∷ after))
   stmt_longer Empty after = omega arith
-  stmt_longer (Declare b w ty r) after = omega (arith, type_part_longer ty (Symbol sign.Assign ∷ source r (Symbol sign.Semicolon ∷ after)), source_longer r (Symbol sign.Semicolon ∷ after))
+  stmt_longer (Declare b w ty r) after = omega (
+    arith,
+    type_part_longer ty (Symbol sign.Assign ∷ source r (Symbol sign.Semicolon ∷ after)),
+    source_longer r
+        (Symbol sign.Semicolon ∷ after),
+  )
   stmt_longer (Assign w e) after = omega (arith, expr_longer e (Symbol sign.Semicolon ∷ after))
   stmt_longer (Atomic w v at e) after = omega (arith, expr_longer e (Symbol sign.Semicolon ∷ after))
   stmt_longer (If at l c r s) after =
@@ -52,7 +57,14 @@ mutual
   stmt_longer (IfElse at l c r s t) after =
       let rest = stmt s (Reserved keyword.Else ∷ stmt t after) in
       let right = expr r (Symbol sign.RightParen ∷ rest) in
-      omega (arith, expr_longer l (Symbol (comparison_sign c) ∷ right), expr_longer r (Symbol sign.RightParen ∷ rest), stmt_longer s (Reserved keyword.Else ∷ stmt t after), stmt_longer t after)
+      omega (
+        arith,
+        expr_longer l (Symbol (comparison_sign c) ∷ right),
+        expr_longer r (Symbol sign.RightParen ∷ rest),
+        stmt_longer s
+            (Reserved keyword.Else ∷ stmt t after),
+        stmt_longer t after,
+      )
   stmt_longer (For at w lo hi s) after =
       let upper = number hi (Symbol sign.RightParen ∷ stmt s after) in
       omega (arith, length-append (number_marks lo) (Symbol sign.DotDot ∷ upper), length-append (number_marks hi) (Symbol sign.RightParen ∷ stmt s after), stmt_longer s after)

@@ -7,3 +7,4 @@ pub mod Flat
 pub mod Statements
 pub mod Programs
 pub mod Texts
+pub mod Examples

@@ -42,14 +42,23 @@ shared_longer s after = omega (arith, length-append (number_marks s.start) (Symb
 pub shared_shortens : Shortens (keyword_at keyword.Shared) shared_at
 shared_shortens ts us x h e = let f = shared_found ts us x h e in omega (arith, ap length f.0, shared_longer x.0 x.1)
 
-shared_again : (s : SharedValue) (after : List Mark) → SharedFits s → shared_at (word s.name (Symbol sign.Assign ∷ number s.start (Symbol sign.Semicolon ∷ after))) ≡ Some (s, after)
+shared_again : (s : SharedValue) (after : List Mark) → SharedFits s → shared_at (word s.name (Symbol sign.Assign ∷ number s.start (Symbol sign.Semicolon ∷ after)))
+    ≡ Some (s, after)
 unfolding shared_at word_at sign_at bind
 shared_again s after h = rw (number_again s.start (Symbol sign.Semicolon ∷ after) h) refl
 
 each_shared : (ss : List SharedValue) (after : List Mark) → AllByRecursion SharedFits ss → EachAgain (keyword_at keyword.Shared) shared_at shared ss after
 unfolding keyword_at
 each_shared [] after h = tt
-each_shared (s ∷ ss) after h = let rest = row shared ss after in ((word s.name (Symbol sign.Assign ∷ number s.start (Symbol sign.Semicolon ∷ rest)), refl, shared_again s rest h.0), each_shared ss after h.1)
+each_shared (s ∷ ss) after h = let rest = row shared ss after in (
+  (
+    word s.name (Symbol sign.Assign ∷ number s.start (Symbol sign.Semicolon ∷ rest)),
+    refl,
+    shared_again s rest
+        h.0,
+  ),
+  each_shared ss after h.1,
+)
 
 -- ---- methods
 
@@ -69,7 +78,8 @@ method_found ts us x h e =
     let g = stmts_found 64 (stmt_at 64) (stmt_found 64) vs.0 ss.0 ss.1 in
     let first : ts ≡ Reserved keyword.Def ∷ word w.0.0 (Open at.0.0 ∷ at.0.1) = cc in
     let body : ps.0.1 ≡ Symbol sign.LeftBrace ∷ stmts (listed ss.0.0) (Symbol sign.RightBrace ∷ ss.0.1) = s ∙ ap (λ (z : List Mark). Symbol sign.LeftBrace ∷ z) g.0 in
-    let rest : at.0.1 ≡ commas param ps.0.0 (Symbol sign.RightParen ∷ Symbol sign.LeftBrace ∷ stmts (listed ss.0.0) (Symbol sign.RightBrace ∷ ss.0.1)) = f.0 ∙ ap (λ (z : List Mark). commas param ps.0.0 (Symbol sign.RightParen ∷ z)) body in
+    let rest : at.0.1 ≡ commas param ps.0.0 (Symbol sign.RightParen ∷ Symbol sign.LeftBrace ∷ stmts (listed ss.0.0) (Symbol sign.RightBrace ∷ ss.0.1)) = f.0
+    ∙ ap (λ (z : List Mark). commas param ps.0.0 (Symbol sign.RightParen ∷ z)) body in
     subst (λ (z : MethodValue × List Mark). (ts ≡ method z.0 z.1) × MethodFits z.0) (some_is _ x ss.2)
     (first ∙ ap (λ (z : List Mark). Reserved keyword.Def ∷ word w.0.0 (Open at.0.0 ∷ z)) rest, g.1)
 
@@ -88,7 +98,8 @@ each_param : (ps : List ParamValue) → AllByRecursion (λ p. Unit {0}) ps
 each_param [] = tt
 each_param (p ∷ ps) = (tt, each_param ps)
 
-method_again : (m : MethodValue) (after : List Mark) → MethodFits m → method_at (word m.name (Open m.paren ∷ commas param m.params (Symbol sign.RightParen ∷ Symbol sign.LeftBrace ∷ stmts m.body (Symbol sign.RightBrace ∷ after)))) ≡ Some (m, after)
+method_again : (m : MethodValue) (after : List Mark) → MethodFits m → method_at (word m.name
+    (Open m.paren ∷ commas param m.params (Symbol sign.RightParen ∷ Symbol sign.LeftBrace ∷ stmts m.body (Symbol sign.RightBrace ∷ after)))) ≡ Some (m, after)
 unfolding method_at word_at open_at sign_at bind
 method_again m after h =
     let body = stmts m.body (Symbol sign.RightBrace ∷ after) in
@@ -100,8 +111,15 @@ each_method : (ms : List MethodValue) (after : List Mark) → AllByRecursion Met
 unfolding keyword_at
 each_method [] after h = tt
 each_method (m ∷ ms) after h =
-    let rest = row method ms after in
-    ((word m.name (Open m.paren ∷ commas param m.params (Symbol sign.RightParen ∷ Symbol sign.LeftBrace ∷ stmts m.body (Symbol sign.RightBrace ∷ rest))), refl, method_again m rest h.0), each_method ms after h.1)
+    let rest = row method ms after in (
+      (
+        word m.name (Open m.paren ∷ commas param m.params (Symbol sign.RightParen ∷ Symbol sign.LeftBrace ∷ stmts m.body (Symbol sign.RightBrace ∷ rest))),
+        refl,
+        method_again m
+            rest h.0,
+      ),
+      each_method ms after h.1,
+    )
 
 -- ---- programs
 
@@ -136,6 +154,7 @@ no_method = refl
 pub program_again : ProgramAgain
 unfolding program_at bind
 program_again t h =
-    let ss = more_again (keyword_at keyword.Shared) shared_at shared shared_shortens [] t.shared (row method t.methods []) (each_shared t.shared (row method t.methods []) h.shared_fit) (no_shared t.methods) in
+    let ss = more_again (keyword_at keyword.Shared) shared_at shared shared_shortens [] t.shared (row method t.methods [])
+    (each_shared t.shared (row method t.methods []) h.shared_fit) (no_shared t.methods) in
     let ms = more_again (keyword_at keyword.Def) method_at method method_shortens [] t.methods [] (each_method t.methods [] h.methods_fit) no_method in
     rw (ss, ms) refl

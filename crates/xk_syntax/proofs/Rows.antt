@@ -21,15 +21,19 @@ all-snoc P [] x h p = (p, tt)
 all-snoc P (y ∷ ys) x h p = (h.0, all-snoc P ys x h.1 p)
 
 -- what one more thing is
-turn_goes : {T : Type 0} (goes_on : List Mark → Option (List Mark)) (item : Reader T) (xs : List T) (ts : List Mark) (ys : List T) (us : List Mark) → next_item goes_on item xs ts ≡ Goes ys us → (after : List Mark) × (x : T × List Mark) × (goes_on ts ≡ Some after) × (item after ≡ Some x) × (ys ≡ xs ++ x.0 ∷ []) × (us ≡ x.1)
+turn_goes : {T : Type 0} (goes_on : List Mark → Option (List Mark)) (item : Reader T) (xs : List T) (ts : List Mark) (ys : List T) (us : List Mark)
+    → next_item goes_on item xs ts ≡ Goes ys us → (after : List Mark) × (x : T × List Mark) × (goes_on ts ≡ Some after) × (item after ≡ Some x) × (ys ≡ xs ++ x.0 ∷ [])
+    × (us ≡ x.1)
 unfolding next_item
 turn_goes {T = T} goes_on item xs ts ys us e = by (goes_on ts) refl e
   where
-    inner : (after : List Mark) → goes_on ts ≡ Some after → (o : Option (T × List Mark)) → item after ≡ o → pushed xs o ≡ Goes ys us → (after : List Mark) × (x : T × List Mark) × (goes_on ts ≡ Some after) × (item after ≡ Some x) × (ys ≡ xs ++ x.0 ∷ []) × (us ≡ x.1)
+    inner : (after : List Mark) → goes_on ts ≡ Some after → (o : Option (T × List Mark)) → item after ≡ o → pushed xs o ≡ Goes ys us
+        → (after : List Mark) × (x : T × List Mark) × (goes_on ts ≡ Some after) × (item after ≡ Some x) × (ys ≡ xs ++ x.0 ∷ []) × (us ≡ x.1)
     inner after h None k e = absurd cc
     inner after h (Some x) k e = (after, x, h, k, cc, cc)
 
-    by : (o : Option (List Mark)) → goes_on ts ≡ o → one_more item xs o ≡ Goes ys us → (after : List Mark) × (x : T × List Mark) × (goes_on ts ≡ Some after) × (item after ≡ Some x) × (ys ≡ xs ++ x.0 ∷ []) × (us ≡ x.1)
+    by : (o : Option (List Mark)) → goes_on ts ≡ o → one_more item xs o ≡ Goes ys us
+        → (after : List Mark) × (x : T × List Mark) × (goes_on ts ≡ Some after) × (item after ≡ Some x) × (ys ≡ xs ++ x.0 ∷ []) × (us ≡ x.1)
     by None h e = absurd cc
     by (Some after) h e = inner after h (item after) refl e
 
@@ -44,7 +48,8 @@ pub record MoreFound (T : Type 0) (f : T → List Mark → List Mark) (P : T →
   pub spelled : ts ≡ row f others rest
   pub each : AllByRecursion P others
 
-one_found : {T : Type 0} (f : T → List Mark → List Mark) (P : T → Type 0) (xs : List T) (ts : List Mark) (ys : List T) (us : List Mark) (x : T × List Mark) (zs : List T) → MoreFound T f P xs ts ys us → us ≡ f x.0 x.1 → P x.0 → zs ≡ ys ++ x.0 ∷ [] → MoreFound T f P xs ts zs x.1
+one_found : {T : Type 0} (f : T → List Mark → List Mark) (P : T → Type 0) (xs : List T) (ts : List Mark) (ys : List T) (us : List Mark) (x : T × List Mark) (zs : List T)
+    → MoreFound T f P xs ts ys us → us ≡ f x.0 x.1 → P x.0 → zs ≡ ys ++ x.0 ∷ [] → MoreFound T f P xs ts zs x.1
 one_found f P xs ts ys us x zs m e p z = record {
   others = m.others ++ x.0 ∷ [];
   all = z ∙ ap (λ (l : List _). l ++ x.0 ∷ []) m.all ∙ append_assoc xs m.others (x.0 ∷ []);
@@ -52,7 +57,8 @@ one_found f P xs ts ys us x zs m e p z = record {
   each = all-snoc P m.others x.0 m.each p;
 }
 
-pub more_found : {T : Type 0} (goes_on : List Mark → Option (List Mark)) (item : Reader T) (f : T → List Mark → List Mark) (P : T → Type 0) → EachFound goes_on item f P → (xs : List T) (ts : List Mark) (r : List T × List Mark) → more_at goes_on item xs ts ≡ Some r → MoreFound T f P xs ts r.0 r.1
+pub more_found : {T : Type 0} (goes_on : List Mark → Option (List Mark)) (item : Reader T) (f : T → List Mark → List Mark) (P : T → Type 0) → EachFound goes_on item f P
+    → (xs : List T) (ts : List Mark) (r : List T × List Mark) → more_at goes_on item xs ts ≡ Some r → MoreFound T f P xs ts r.0 r.1
 unfolding more_at
 more_found {T = T} goes_on item f P each xs ts r e =
     loop_keeps (next_item goes_on item) (λ ys us. MoreFound T f P xs ts ys us)
@@ -67,9 +73,12 @@ abbrev pub EachAgain : {T : Type 0} → (List Mark → Option (List Mark)) → R
 EachAgain goes_on item f [] after = Unit {0}
 EachAgain goes_on item f (x ∷ xs) after = ((us : List Mark) × (goes_on (f x (row f xs after)) ≡ Some us) × (item us ≡ Some (x, row f xs after))) × EachAgain goes_on item f xs after
 
-pub more_again : {T : Type 0} (goes_on : List Mark → Option (List Mark)) (item : Reader T) (f : T → List Mark → List Mark) → Shortens goes_on item → (xs others : List T) (after : List Mark) → EachAgain goes_on item f others after → goes_on after ≡ None → more_at goes_on item xs (row f others after) ≡ Some (xs ++ others, after)
+pub more_again : {T : Type 0} (goes_on : List Mark → Option (List Mark)) (item : Reader T) (f : T → List Mark → List Mark) → Shortens goes_on item
+    → (xs others : List T) (after : List Mark) → EachAgain goes_on item f others after → goes_on after ≡ None
+    → more_at goes_on item xs (row f others after) ≡ Some (xs ++ others, after)
 unfolding more_at next_item
-more_again goes_on item f s xs [] after each stop = loop_stops (next_item goes_on item) xs after (ap (one_more item xs) stop) ∙ ap (λ (l : List _). Some (l, after)) (sym (append-nil xs))
+more_again goes_on item f s xs [] after each stop = loop_stops (next_item goes_on item) xs after (ap (one_more item xs) stop)
+    ∙ ap (λ (l : List _). Some (l, after)) (sym (append-nil xs))
 more_again goes_on item f s xs (x ∷ others) after each stop =
     let here = each.0 in
     let turn : next_item goes_on item xs (f x (row f others after)) ≡ Goes (xs ++ x ∷ []) (row f others after) = ap (one_more item xs) here.1 ∙ ap (pushed xs) here.2 in
@@ -91,12 +100,17 @@ pub record CommasFound (T : Type 0) (f : T → List Mark → List Mark) (P : T �
 not_empty : {T : Type 0} (x : T) (xs ys : List T) → ys ≡ x ∷ xs → ys ≢ []
 not_empty x xs ys e h = absurd cc
 
-pub commas_found : {T : Type 0} (item : Reader T) (f : T → List Mark → List Mark) (P : T → Type 0) → ItemFound item f P → (ts : List Mark) (r : List T × List Mark) → commas_at item ts ≡ Some r → CommasFound T f P ts r
+pub commas_found : {T : Type 0} (item : Reader T) (f : T → List Mark → List Mark) (P : T → Type 0) → ItemFound item f P → (ts : List Mark) (r : List T × List Mark)
+    → commas_at item ts ≡ Some r → CommasFound T f P ts r
 unfolding commas_at
 commas_found {T = T} item f P each ts r e =
     let a = bind_some _ _ _ e in
     let first = each ts a.0 a.1 in
-    let one : EachFound (sign_at sign.Comma) item (behind_comma f) P = λ us vs x h k. let c = sign_is sign.Comma refl us vs h in let i = each vs x k in (c ∙ ap (λ (z : List Mark). Symbol sign.Comma ∷ z) i.0, i.1) in
+    let one : EachFound (sign_at sign.Comma) item (behind_comma f) P = λ us vs x h k. let c = sign_is sign.Comma refl us vs h in let i = each vs x k in (
+      c
+          ∙ ap (λ (z : List Mark). Symbol sign.Comma ∷ z) i.0,
+      i.1,
+    ) in
     let m = more_found (sign_at sign.Comma) item (behind_comma f) P one (a.0.0 ∷ []) a.0.1 r a.2 in
     let all : r.0 ≡ a.0.0 ∷ m.others = m.all in
     record {
@@ -105,12 +119,14 @@ commas_found {T = T} item f P each ts r e =
       some = not_empty a.0.0 m.others r.0 all;
     }
 
-pub listed_found : {T : Type 0} (item : Reader T) (f : T → List Mark → List Mark) (P : T → Type 0) → ItemFound item f P → (ts : List Mark) (r : List T × List Mark) → listed_at item ts ≡ Some r → (ts ≡ commas f r.0 (Symbol sign.RightParen ∷ r.1)) × AllByRecursion P r.0
+pub listed_found : {T : Type 0} (item : Reader T) (f : T → List Mark → List Mark) (P : T → Type 0) → ItemFound item f P → (ts : List Mark) (r : List T × List Mark)
+    → listed_at item ts ≡ Some r → (ts ≡ commas f r.0 (Symbol sign.RightParen ∷ r.1)) × AllByRecursion P r.0
 unfolding listed_at
 listed_found {T = T} item f P each ts r e = by (sign_at sign.RightParen ts) refl e
   where
     by : (o : Option (List Mark)) → sign_at sign.RightParen ts ≡ o → listed_or item ts o ≡ Some r → (ts ≡ commas f r.0 (Symbol sign.RightParen ∷ r.1)) × AllByRecursion P r.0
-    by (Some us) h e = subst (λ (z : List T × List Mark). (ts ≡ commas f z.0 (Symbol sign.RightParen ∷ z.1)) × AllByRecursion P z.0) (some_is _ r e) (sign_is sign.RightParen refl ts us h, tt)
+    by (Some us) h e = subst (λ (z : List T × List Mark). (ts ≡ commas f z.0 (Symbol sign.RightParen ∷ z.1))
+        × AllByRecursion P z.0) (some_is _ r e) (sign_is sign.RightParen refl ts us h, tt)
     by None h e =
         let a = bind_some _ _ _ e in
         let b = bind_some _ _ _ a.2 in
@@ -123,30 +139,39 @@ abbrev pub ItemAgain : {T : Type 0} → Reader T → (T → List Mark → List M
 ItemAgain {T = T} item f P = (x : T) (s : Sign) (after : List Mark) → P x → item (f x (Symbol s ∷ after)) ≡ Some (x, Symbol s ∷ after)
 
 -- what begins with other items, or with a `)`, begins with a sign
-row_begins : {T : Type 0} (f : T → List Mark → List Mark) (xs : List T) (after : List Mark) → (s : Sign) × (rest : List Mark) × (row (behind_comma f) xs (Symbol sign.RightParen ∷ after) ≡ Symbol s ∷ rest)
+row_begins : {T : Type 0} (f : T → List Mark → List Mark) (xs : List T) (after : List Mark)
+    → (s : Sign) × (rest : List Mark) × (row (behind_comma f) xs (Symbol sign.RightParen ∷ after) ≡ Symbol s ∷ rest)
 row_begins f [] after = (sign.RightParen, after, refl)
 row_begins f (x ∷ xs) after = (sign.Comma, f x (row (behind_comma f) xs (Symbol sign.RightParen ∷ after)), refl)
 
-item_again : {T : Type 0} (item : Reader T) (f : T → List Mark → List Mark) (P : T → Type 0) → ItemAgain item f P → (x : T) (xs : List T) (after : List Mark) → P x → item (f x (row (behind_comma f) xs (Symbol sign.RightParen ∷ after))) ≡ Some (x, row (behind_comma f) xs (Symbol sign.RightParen ∷ after))
+item_again : {T : Type 0} (item : Reader T) (f : T → List Mark → List Mark) (P : T → Type 0) → ItemAgain item f P → (x : T) (xs : List T) (after : List Mark) → P x
+    → item (f x (row (behind_comma f) xs (Symbol sign.RightParen ∷ after))) ≡ Some (x, row (behind_comma f) xs (Symbol sign.RightParen ∷ after))
 item_again item f P again x xs after p =
     let b = row_begins f xs after in
     subst (λ (z : List Mark). item (f x z) ≡ Some (x, z)) (sym b.2) (again x b.0 b.1 p)
 
-each_again : {T : Type 0} (item : Reader T) (f : T → List Mark → List Mark) (P : T → Type 0) → ItemAgain item f P → (xs : List T) (after : List Mark) → AllByRecursion P xs → EachAgain (sign_at sign.Comma) item (behind_comma f) xs (Symbol sign.RightParen ∷ after)
+each_again : {T : Type 0} (item : Reader T) (f : T → List Mark → List Mark) (P : T → Type 0) → ItemAgain item f P → (xs : List T) (after : List Mark) → AllByRecursion P xs
+    → EachAgain (sign_at sign.Comma) item (behind_comma f) xs (Symbol sign.RightParen ∷ after)
 unfolding sign_at
 each_again item f P again [] after h = tt
-each_again item f P again (x ∷ xs) after h = ((f x (row (behind_comma f) xs (Symbol sign.RightParen ∷ after)), refl, item_again item f P again x xs after h.0), each_again item f P again xs after h.1)
+each_again item f P again (x ∷ xs) after h = (
+  (f x (row (behind_comma f) xs (Symbol sign.RightParen ∷ after)), refl, item_again item f P again x xs after h.0),
+  each_again item
+      f P again xs after h.1,
+)
 
 comma_stops : (after : List Mark) → sign_at sign.Comma (Symbol sign.RightParen ∷ after) ≡ None
 unfolding sign_at
 comma_stops after = refl
 
-pub commas_again : {T : Type 0} (item : Reader T) (f : T → List Mark → List Mark) (P : T → Type 0) → Takes item → ItemAgain item f P → (xs : List T) (after : List Mark) → AllByRecursion P xs → xs ≢ [] → commas_at item (commas f xs (Symbol sign.RightParen ∷ after)) ≡ Some (xs, Symbol sign.RightParen ∷ after)
+pub commas_again : {T : Type 0} (item : Reader T) (f : T → List Mark → List Mark) (P : T → Type 0) → Takes item → ItemAgain item f P → (xs : List T) (after : List Mark)
+    → AllByRecursion P xs → xs ≢ [] → commas_at item (commas f xs (Symbol sign.RightParen ∷ after)) ≡ Some (xs, Symbol sign.RightParen ∷ after)
 unfolding commas_at bind
 commas_again item f P takes again [] after h some = absurd (some refl)
 commas_again item f P takes again (x ∷ xs) after h some =
     rw (item_again item f P again x xs after h.0)
-    (more_again (sign_at sign.Comma) item (behind_comma f) (comma_shortens item takes) (x ∷ []) xs (Symbol sign.RightParen ∷ after) (each_again item f P again xs after h.1) (comma_stops after))
+    (more_again (sign_at sign.Comma) item (behind_comma f) (comma_shortens item takes) (x ∷ []) xs (Symbol sign.RightParen ∷ after) (each_again item f P again xs after h.1)
+    (comma_stops after))
 
 -- no item begins with a `)`
 abbrev pub NotClosing : {T : Type 0} → (T → List Mark → List Mark) → Type 0
@@ -160,11 +185,13 @@ listed_nil : {T : Type 0} (item : Reader T) (after : List Mark) → listed_at it
 unfolding listed_at sign_at
 listed_nil item after = refl
 
-listed_close : {T : Type 0} (item : Reader T) (ts : List Mark) (xs : List T) (after : List Mark) → commas_at item ts ≡ Some (xs, Symbol sign.RightParen ∷ after) → listed_or item ts None ≡ Some (xs, after)
+listed_close : {T : Type 0} (item : Reader T) (ts : List Mark) (xs : List T) (after : List Mark) → commas_at item ts ≡ Some (xs, Symbol sign.RightParen ∷ after)
+    → listed_or item ts None ≡ Some (xs, after)
 unfolding sign_at bind
 listed_close item ts xs after h = rw h refl
 
-pub listed_again : {T : Type 0} (item : Reader T) (f : T → List Mark → List Mark) (P : T → Type 0) → Takes item → ItemAgain item f P → NotClosing f → (xs : List T) (after : List Mark) → AllByRecursion P xs → listed_at item (commas f xs (Symbol sign.RightParen ∷ after)) ≡ Some (xs, after)
+pub listed_again : {T : Type 0} (item : Reader T) (f : T → List Mark → List Mark) (P : T → Type 0) → Takes item → ItemAgain item f P → NotClosing f
+    → (xs : List T) (after : List Mark) → AllByRecursion P xs → listed_at item (commas f xs (Symbol sign.RightParen ∷ after)) ≡ Some (xs, after)
 listed_again item f P takes again closing [] after h = listed_nil item after
 listed_again item f P takes again closing (x ∷ xs) after h =
     let ts = commas f (x ∷ xs) (Symbol sign.RightParen ∷ after) in

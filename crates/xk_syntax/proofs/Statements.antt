@@ -117,7 +117,8 @@ range_found d ts x e =
     let t = sign_is sign.RightParen refl hi.0.1 zs.0 zs.1 in
     let first : ts ≡ Open at.0.0 ∷ word w.0.0 (Reserved keyword.In ∷ us.0) = cc in
     let upper : vs.0 ≡ number hi.0.0 (Symbol sign.RightParen ∷ zs.0) = b.0 ∙ ap (number hi.0.0) t in
-    let both : us.0 ≡ number lo.0.0 (Symbol sign.DotDot ∷ number hi.0.0 (Symbol sign.RightParen ∷ zs.0)) = a.0 ∙ ap (number lo.0.0) (s ∙ ap (λ (z : List Mark). Symbol sign.DotDot ∷ z) upper) in
+    let both : us.0 ≡ number lo.0.0 (Symbol sign.DotDot ∷ number hi.0.0 (Symbol sign.RightParen ∷ zs.0)) = a.0 ∙ ap (number lo.0.0) (s
+    ∙ ap (λ (z : List Mark). Symbol sign.DotDot ∷ z) upper) in
     let all = first ∙ ap (λ (z : List Mark). Open at.0.0 ∷ word w.0.0 (Reserved keyword.In ∷ z)) both in
     subst (IsHead d (Reserved keyword.For ∷ ts)) (some_is _ x zs.2) (record { spelled = ap (λ (z : List Mark). Reserved keyword.For ∷ z) all; fits = (a.1, b.1) })
 
@@ -191,7 +192,8 @@ ahead_is ts us e = by (sign_at sign.RightBrace ts) e
     by None e = some_is ts us e
     by (Some vs) e = absurd cc
 
-pub stmts_found : (d : ℕ) (inner : List Mark → Read) → Found d inner → (ts : List Mark) (x : List Statement × List Mark) → stmts_at inner ts ≡ Some x → (ts ≡ stmts (listed x.0) (Symbol sign.RightBrace ∷ x.1)) × AllFit d (listed x.0)
+pub stmts_found : (d : ℕ) (inner : List Mark → Read) → Found d inner → (ts : List Mark) (x : List Statement × List Mark) → stmts_at inner ts ≡ Some x
+    → (ts ≡ stmts (listed x.0) (Symbol sign.RightBrace ∷ x.1)) × AllFit d (listed x.0)
 unfolding stmts_at
 stmts_found d inner f ts x e =
     let ss = bind_some _ _ _ e in
@@ -202,7 +204,8 @@ stmts_found d inner f ts x e =
     let q = sign_is sign.RightBrace refl ss.0.1 us.0 us.1 in
     let p : ts ≡ stmts (listed ss.0.0) (Symbol sign.RightBrace ∷ us.0) =
     m.spelled ∙ ap (λ (l : List Statement). row stmt l ss.0.1) (sym all) ∙ stmts_row ss.0.0 ss.0.1 ∙ ap (stmts (listed ss.0.0)) q in
-    subst (λ (z : List Statement × List Mark). (ts ≡ stmts (listed z.0) (Symbol sign.RightBrace ∷ z.1)) × AllFit d (listed z.0)) (some_is _ x us.2) (p, all_fit d ss.0.0 (subst (AllByRecursion (Fits d)) (sym all) m.each))
+    subst (λ (z : List Statement × List Mark). (ts ≡ stmts (listed z.0) (Symbol sign.RightBrace ∷ z.1))
+    × AllFit d (listed z.0)) (some_is _ x us.2) (p, all_fit d ss.0.0 (subst (AllByRecursion (Fits d)) (sym all) m.each))
 
 apart : (b : Bool) → b ≡ false → b ≡ true → ⊥
 apart b f t = cc
@@ -214,7 +217,8 @@ not_dangling s ts us h e = by (dangles s) refl
     by false q = refl
     by true q = let n = h q in absurd cc
 
-else_found : (d : ℕ) (inner : List Mark → Read) → Found d inner → (at : ℕ) (l : Expression) (c : Comparison) (r : Expression) (s : Statement) (ts : List Mark) (x : Statement × List Mark) → IsExpr d l → IsExpr d r → Fits d s → Settles s ts → else_at inner at l c r s ts ≡ Some x → IsStmt (suc d) (head (Condition at l c r) (stmt s ts)) x
+else_found : (d : ℕ) (inner : List Mark → Read) → Found d inner → (at : ℕ) (l : Expression) (c : Comparison) (r : Expression) (s : Statement) (ts : List Mark) (x : Statement
+    × List Mark) → IsExpr d l → IsExpr d r → Fits d s → Settles s ts → else_at inner at l c r s ts ≡ Some x → IsStmt (suc d) (head (Condition at l c r) (stmt s ts)) x
 unfolding else_at
 else_found d inner f at l c r s ts x fl fr fs settles e = by (keyword_at keyword.Else ts) refl e
   where
@@ -225,15 +229,23 @@ else_found d inner f at l c r s ts x fl fr fs settles e = by (keyword_at keyword
         let i = f us t.0 t.1 in
         let p = keyword_is keyword.Else refl ts us h in
         let q : ts ≡ Reserved keyword.Else ∷ stmt t.0.0 t.0.1 = p ∙ ap (λ (z : List Mark). Reserved keyword.Else ∷ z) i.spelled in
-        subst (IsStmt (suc d) (head (Condition at l c r) (stmt s ts))) (some_is _ x t.2) (record { spelled = ap (λ (z : List Mark). head (Condition at l c r) (stmt s z)) q; fits = (fl, fr, fs, i.fits, not_dangling s ts us settles h); settles = i.settles })
+        subst (IsStmt (suc d) (head (Condition at l c r) (stmt s ts))) (some_is _ x t.2) (record
+        { spelled = ap (λ (z : List Mark). head (Condition at l c r) (stmt s z)) q; fits = (fl, fr, fs, i.fits, not_dangling s ts us settles h); settles = i.settles })
 
-rest_found : (d : ℕ) (inner : List Mark → Read) → Found d inner → (h : Head) (ts : List Mark) (x : Statement × List Mark) → HeadFits d h → rest_at inner h ts ≡ Some x → IsStmt (suc d) (head h ts) x
+rest_found : (d : ℕ) (inner : List Mark → Read) → Found d inner → (h : Head) (ts : List Mark) (x : Statement × List Mark) → HeadFits d h → rest_at inner h ts ≡ Some x
+    → IsStmt (suc d) (head h ts) x
 unfolding rest_at
-rest_found d inner f (Whole s) ts x k e = subst (IsStmt (suc d) (stmt s ts)) (some_is _ x e) (record { spelled = refl; fits = k.0; settles = λ t. absurd (apart (dangles s) k.1 t) })
+rest_found d inner f (Whole s) ts x k e = subst (IsStmt (suc d) (stmt s ts)) (some_is _ x e)
+    (record { spelled = refl; fits = k.0; settles = λ t. absurd (apart (dangles s) k.1 t) })
 rest_found d inner f Brace ts x k e =
     let ss = bind_some _ _ _ e in
     let i = stmts_found d inner f ts ss.0 ss.1 in
-    subst (IsStmt (suc d) (Symbol sign.LeftBrace ∷ ts)) (some_is _ x ss.2) (record { spelled = ap (λ (z : List Mark). Symbol sign.LeftBrace ∷ z) i.0; fits = i.1; settles = λ t. absurd cc })
+    subst (IsStmt (suc d) (Symbol sign.LeftBrace ∷ ts)) (some_is _ x ss.2) (record {
+      spelled = ap
+          (λ (z : List Mark). Symbol sign.LeftBrace ∷ z) i.0;
+      fits = i.1;
+      settles = λ t. absurd cc;
+    })
 rest_found d inner f (Condition at l c r) ts x k e =
     let s = bind_some _ _ _ e in
     let i = f ts s.0 s.1 in
@@ -242,7 +254,12 @@ rest_found d inner f (Condition at l c r) ts x k e =
 rest_found d inner f (Range at w lo hi) ts x k e =
     let s = bind_some _ _ _ e in
     let i = f ts s.0 s.1 in
-    subst (IsStmt (suc d) (head (Range at w lo hi) ts)) (some_is _ x s.2) (record { spelled = ap (head (Range at w lo hi)) i.spelled; fits = (k.0, k.1, i.fits); settles = i.settles })
+    subst (IsStmt (suc d) (head (Range at w lo hi) ts)) (some_is _ x s.2) (record {
+      spelled = ap (head (Range at w lo hi)) i.spelled;
+      fits =
+          (k.0, k.1, i.fits);
+      settles = i.settles;
+    })
 rest_found d inner f (Start at cs) ts x k e =
     let s = bind_some _ _ _ e in
     let i = f ts s.0 s.1 in
@@ -267,22 +284,26 @@ stmt_shortens d ts us x h e =
     let i = stmt_found d us x e in
     omega (arith, ap length (ahead_is ts us h), ap length i.spelled, stmt_longer x.0 x.1)
 
-pub stmts_refused : (e : FrontError) (inner : List Mark → Read) (ss : List Statement) (ts us all : List Mark) → more_at ahead_at inner ss ts ≡ more_at ahead_at inner [] all → Some us ≡ ahead_at ts → Refuses e (inner us) → Refuses e (stmts_at inner all)
+pub stmts_refused : (e : FrontError) (inner : List Mark → Read) (ss : List Statement) (ts us all : List Mark) → more_at ahead_at inner ss ts ≡ more_at ahead_at inner [] all
+    → Some us ≡ ahead_at ts → Refuses e (inner us) → Refuses e (stmts_at inner all)
 unfolding stmts_at bind
 stmts_refused (error.Fault f) inner ss ts us all so_far h r =
     let none : more_at ahead_at inner [] all ≡ None = sym so_far ∙ more_refused (error.Fault f) ahead_at inner ss ts us h r in
     rw none refl
 stmts_refused error.OutOfMemory inner ss ts us all so_far h r = tt
 
-stmts_end : (inner : List Mark → Read) (ss : List Statement) (ts all : List Mark) → more_at ahead_at inner ss ts ≡ more_at ahead_at inner [] all → None ≡ ahead_at ts → more_at ahead_at inner [] all ≡ Some (ss, ts)
+stmts_end : (inner : List Mark → Read) (ss : List Statement) (ts all : List Mark) → more_at ahead_at inner ss ts ≡ more_at ahead_at inner [] all → None ≡ ahead_at ts
+    → more_at ahead_at inner [] all ≡ Some (ss, ts)
 stmts_end inner ss ts all so_far h = sym so_far ∙ no_more ahead_at inner ss ts h
 
-pub stmts_unended : (e : FrontError) (inner : List Mark → Read) (ss : List Statement) (ts all : List Mark) → more_at ahead_at inner ss ts ≡ more_at ahead_at inner [] all → None ≡ ahead_at ts → Refuses e (sign_at sign.RightBrace ts) → Refuses e (stmts_at inner all)
+pub stmts_unended : (e : FrontError) (inner : List Mark → Read) (ss : List Statement) (ts all : List Mark) → more_at ahead_at inner ss ts ≡ more_at ahead_at inner [] all
+    → None ≡ ahead_at ts → Refuses e (sign_at sign.RightBrace ts) → Refuses e (stmts_at inner all)
 unfolding stmts_at bind
 stmts_unended (error.Fault f) inner ss ts all so_far h r = rw (stmts_end inner ss ts all so_far h, r) refl
 stmts_unended error.OutOfMemory inner ss ts all so_far h r = tt
 
-pub stmts_read : (inner : List Mark → Read) (ss : List Statement) (ts all rest : List Mark) → more_at ahead_at inner ss ts ≡ more_at ahead_at inner [] all → None ≡ ahead_at ts → sign_at sign.RightBrace ts ≡ Some rest → stmts_at inner all ≡ Some (ss, rest)
+pub stmts_read : (inner : List Mark → Read) (ss : List Statement) (ts all rest : List Mark) → more_at ahead_at inner ss ts ≡ more_at ahead_at inner [] all
+    → None ≡ ahead_at ts → sign_at sign.RightBrace ts ≡ Some rest → stmts_at inner all ≡ Some (ss, rest)
 unfolding stmts_at bind
 stmts_read inner ss ts all rest so_far h r = rw (stmts_end inner ss ts all so_far h, r) refl
 
@@ -303,13 +324,15 @@ comparison_again comparison.Le after = refl
 comparison_again comparison.Gt after = refl
 comparison_again comparison.Ge after = refl
 
-condition_again : (d at : ℕ) (l : Expression) (c : Comparison) (r : Expression) (after : List Mark) → IsExpr d l → IsExpr d r → condition_at d (Open at ∷ expr l (Symbol (comparison_sign c) ∷ expr r (Symbol sign.RightParen ∷ after))) ≡ Some (Condition at l c r, after)
+condition_again : (d at : ℕ) (l : Expression) (c : Comparison) (r : Expression) (after : List Mark) → IsExpr d l → IsExpr d r
+    → condition_at d (Open at ∷ expr l (Symbol (comparison_sign c) ∷ expr r (Symbol sign.RightParen ∷ after))) ≡ Some (Condition at l c r, after)
 unfolding condition_at open_at sign_at bind
 condition_again d at l c r after fl fr =
     let right = expr r (Symbol sign.RightParen ∷ after) in
     rw (expr_again d l (comparison_sign c) right fl, comparison_again c right, expr_again d r sign.RightParen after fr) refl
 
-range_again : (at : ℕ) (w : Word) (lo hi : tree.Number) (after : List Mark) → IsNumber lo → IsNumber hi → range_at (Open at ∷ word w (Reserved keyword.In ∷ number lo (Symbol sign.DotDot ∷ number hi (Symbol sign.RightParen ∷ after)))) ≡ Some (Range at w lo hi, after)
+range_again : (at : ℕ) (w : Word) (lo hi : tree.Number) (after : List Mark) → IsNumber lo → IsNumber hi
+    → range_at (Open at ∷ word w (Reserved keyword.In ∷ number lo (Symbol sign.DotDot ∷ number hi (Symbol sign.RightParen ∷ after)))) ≡ Some (Range at w lo hi, after)
 unfolding range_at open_at word_at keyword_at sign_at bind
 range_again at w lo hi after fl fh =
     rw (number_again lo (Symbol sign.DotDot ∷ number hi (Symbol sign.RightParen ∷ after)) fl, number_again hi (Symbol sign.RightParen ∷ after) fh) refl
@@ -410,7 +433,8 @@ ahead_of : (s : Statement) (after : List Mark) → ahead_at (stmt s after) ≡ S
 unfolding ahead_at
 ahead_of s after = ap (ahead_or (stmt s after)) (no_brace s after)
 
-each_stmt : (d : ℕ) (inner : List Mark → Read) → Again d inner → (ss : Statements) (after : List Mark) → AllFit d ss → EachAgain ahead_at inner stmt (unlisted ss) (Symbol sign.RightBrace ∷ after)
+each_stmt : (d : ℕ) (inner : List Mark → Read) → Again d inner → (ss : Statements) (after : List Mark) → AllFit d ss
+    → EachAgain ahead_at inner stmt (unlisted ss) (Symbol sign.RightBrace ∷ after)
 unfolding unlisted
 each_stmt d inner again Done after h = tt
 each_stmt d inner again (More s ss) after h =
@@ -421,7 +445,8 @@ ahead_stops : (after : List Mark) → ahead_at (Symbol sign.RightBrace ∷ after
 unfolding ahead_at sign_at
 ahead_stops after = refl
 
-pub stmts_again : (d : ℕ) (inner : List Mark → Read) → Again d inner → Shortens ahead_at inner → (ss : Statements) (after : List Mark) → AllFit d ss → stmts_at inner (stmts ss (Symbol sign.RightBrace ∷ after)) ≡ Some (unlisted ss, after)
+pub stmts_again : (d : ℕ) (inner : List Mark → Read) → Again d inner → Shortens ahead_at inner → (ss : Statements) (after : List Mark) → AllFit d ss
+    → stmts_at inner (stmts ss (Symbol sign.RightBrace ∷ after)) ≡ Some (unlisted ss, after)
 unfolding stmts_at sign_at bind
 stmts_again d inner again short ss after h =
     let end = Symbol sign.RightBrace ∷ after in
@@ -457,15 +482,18 @@ flat_stmt : (d : ℕ) (s : Statement) (after : List Mark) → HoldsNone s → Fi
 unfolding rest_at
 flat_stmt d s after f h = then_rest d (stmt s after) after (Whole s) (s, after) (whole_again d s after f h) refl
 
-condition_head : (d at : ℕ) (l : Expression) (c : Comparison) (r : Expression) (after : List Mark) → IsExpr d l → IsExpr d r → stmt_head_at d (head (Condition at l c r) after) ≡ Some (Condition at l c r, after)
+condition_head : (d at : ℕ) (l : Expression) (c : Comparison) (r : Expression) (after : List Mark) → IsExpr d l → IsExpr d r
+    → stmt_head_at d (head (Condition at l c r) after) ≡ Some (Condition at l c r, after)
 unfolding stmt_head_at bind
 condition_head d at l c r after fl fr = condition_again d at l c r after fl fr
 
-range_head : (d at : ℕ) (w : Word) (lo hi : tree.Number) (after : List Mark) → IsNumber lo → IsNumber hi → stmt_head_at d (head (Range at w lo hi) after) ≡ Some (Range at w lo hi, after)
+range_head : (d at : ℕ) (w : Word) (lo hi : tree.Number) (after : List Mark) → IsNumber lo → IsNumber hi
+    → stmt_head_at d (head (Range at w lo hi) after) ≡ Some (Range at w lo hi, after)
 unfolding stmt_head_at bind
 range_head d at w lo hi after fl fh = range_again at w lo hi after fl fh
 
-start_head : (d at : ℕ) (cs : Option Clocks) (after : List Mark) → ClocksFit cs → keyword_at keyword.Clocked after ≡ None → stmt_head_at d (head (Start at cs) after) ≡ Some (Start at cs, after)
+start_head : (d at : ℕ) (cs : Option Clocks) (after : List Mark) → ClocksFit cs → keyword_at keyword.Clocked after ≡ None
+    → stmt_head_at d (head (Start at cs) after) ≡ Some (Start at cs, after)
 unfolding stmt_head_at start_at bind
 start_head d at cs after h none = rw (clocks_again cs after h none) refl
 
@@ -477,28 +505,34 @@ brace_head : (d : ℕ) (after : List Mark) → stmt_head_at d (head Brace after)
 unfolding stmt_head_at bind
 brace_head d after = refl
 
-block_rest : (d : ℕ) (inner : List Mark → Read) → Again d inner → Shortens ahead_at inner → (ss : Statements) (after : List Mark) → AllFit d ss → rest_at inner Brace (stmts ss (Symbol sign.RightBrace ∷ after)) ≡ Some (Block ss, after)
+block_rest : (d : ℕ) (inner : List Mark → Read) → Again d inner → Shortens ahead_at inner → (ss : Statements) (after : List Mark) → AllFit d ss
+    → rest_at inner Brace (stmts ss (Symbol sign.RightBrace ∷ after)) ≡ Some (Block ss, after)
 unfolding rest_at bind
 block_rest d inner again short ss after h = rw (stmts_again d inner again short ss after h) (ap (λ (z : Statements). Some (Block z, after)) (listed_unlisted ss))
 
-if_rest : (d : ℕ) (inner : List Mark → Read) → Again d inner → (at : ℕ) (l : Expression) (c : Comparison) (r : Expression) (s : Statement) (after : List Mark) → Fits d s → keyword_at keyword.Else after ≡ None → rest_at inner (Condition at l c r) (stmt s after) ≡ Some (If at l c r s, after)
+if_rest : (d : ℕ) (inner : List Mark → Read) → Again d inner → (at : ℕ) (l : Expression) (c : Comparison) (r : Expression) (s : Statement) (after : List Mark) → Fits d s
+    → keyword_at keyword.Else after ≡ None → rest_at inner (Condition at l c r) (stmt s after) ≡ Some (If at l c r s, after)
 unfolding rest_at else_at bind
 if_rest d inner again at l c r s after h none = rw (again s after h (λ _. none), none) refl
 
-else_rest : (d : ℕ) (inner : List Mark → Read) → Again d inner → (at : ℕ) (l : Expression) (c : Comparison) (r : Expression) (s t : Statement) (after : List Mark) → Fits d s → Fits d t → dangles s ≡ false → Settles t after → rest_at inner (Condition at l c r) (stmt s (Reserved keyword.Else ∷ stmt t after)) ≡ Some (IfElse at l c r s t, after)
+else_rest : (d : ℕ) (inner : List Mark → Read) → Again d inner → (at : ℕ) (l : Expression) (c : Comparison) (r : Expression) (s t : Statement) (after : List Mark) → Fits d s
+    → Fits d t → dangles s ≡ false → Settles t after → rest_at inner (Condition at l c r) (stmt s (Reserved keyword.Else ∷ stmt t after)) ≡ Some (IfElse at l c r s t, after)
 unfolding rest_at else_at keyword_at bind
 else_rest d inner again at l c r s t after hs ht closed settles =
     rw (again s (Reserved keyword.Else ∷ stmt t after) hs (λ q. absurd (apart (dangles s) closed q)), again t after ht settles) refl
 
-for_rest : (d : ℕ) (inner : List Mark → Read) → Again d inner → (at : ℕ) (w : Word) (lo hi : tree.Number) (s : Statement) (after : List Mark) → Fits d s → Settles s after → rest_at inner (Range at w lo hi) (stmt s after) ≡ Some (For at w lo hi s, after)
+for_rest : (d : ℕ) (inner : List Mark → Read) → Again d inner → (at : ℕ) (w : Word) (lo hi : tree.Number) (s : Statement) (after : List Mark) → Fits d s → Settles s after
+    → rest_at inner (Range at w lo hi) (stmt s after) ≡ Some (For at w lo hi s, after)
 unfolding rest_at bind
 for_rest d inner again at w lo hi s after h settles = rw (again s after h settles) refl
 
-async_rest : (d : ℕ) (inner : List Mark → Read) → Again d inner → (at : ℕ) (cs : Option Clocks) (s : Statement) (after : List Mark) → Fits d s → Settles s after → rest_at inner (Start at cs) (stmt s after) ≡ Some (Async at cs s, after)
+async_rest : (d : ℕ) (inner : List Mark → Read) → Again d inner → (at : ℕ) (cs : Option Clocks) (s : Statement) (after : List Mark) → Fits d s → Settles s after
+    → rest_at inner (Start at cs) (stmt s after) ≡ Some (Async at cs s, after)
 unfolding rest_at bind
 async_rest d inner again at cs s after h settles = rw (again s after h settles) refl
 
-finish_rest : (d : ℕ) (inner : List Mark → Read) → Again d inner → (s : Statement) (after : List Mark) → Fits d s → Settles s after → rest_at inner Wait (stmt s after) ≡ Some (Finish s, after)
+finish_rest : (d : ℕ) (inner : List Mark → Read) → Again d inner → (s : Statement) (after : List Mark) → Fits d s → Settles s after
+    → rest_at inner Wait (stmt s after) ≡ Some (Finish s, after)
 unfolding rest_at bind
 finish_rest d inner again s after h settles = rw (again s after h settles) refl
 
@@ -513,16 +547,20 @@ stmt_again (suc d) (Assign w e) rest h settles = flat_stmt d (Assign w e) rest t
 stmt_again (suc d) (Atomic w v at e) rest h settles = flat_stmt d (Atomic w v at e) rest tt h
 stmt_again (suc d) (If at l c r s) rest h settles =
     let ts = stmt s rest in
-    then_rest d (head (Condition at l c r) ts) ts (Condition at l c r) (If at l c r s, rest) (condition_head d at l c r ts h.0 h.1) (if_rest d (stmt_at d) (stmt_again d) at l c r s rest h.2 (settles refl))
+    then_rest d (head (Condition at l c r) ts) ts (Condition at l c r) (If at l c r s, rest) (condition_head d at l c r ts h.0 h.1)
+    (if_rest d (stmt_at d) (stmt_again d) at l c r s rest h.2 (settles refl))
 stmt_again (suc d) (IfElse at l c r s t) rest h settles =
     let ts = stmt s (Reserved keyword.Else ∷ stmt t rest) in
-    then_rest d (head (Condition at l c r) ts) ts (Condition at l c r) (IfElse at l c r s t, rest) (condition_head d at l c r ts h.0 h.1) (else_rest d (stmt_at d) (stmt_again d) at l c r s t rest h.2 h.3 h.4 settles)
+    then_rest d (head (Condition at l c r) ts) ts (Condition at l c r) (IfElse at l c r s t, rest) (condition_head d at l c r ts h.0 h.1)
+    (else_rest d (stmt_at d) (stmt_again d) at l c r s t rest h.2 h.3 h.4 settles)
 stmt_again (suc d) (For at w lo hi s) rest h settles =
     let ts = stmt s rest in
-    then_rest d (head (Range at w lo hi) ts) ts (Range at w lo hi) (For at w lo hi s, rest) (range_head d at w lo hi ts h.0 h.1) (for_rest d (stmt_at d) (stmt_again d) at w lo hi s rest h.2 settles)
+    then_rest d (head (Range at w lo hi) ts) ts (Range at w lo hi) (For at w lo hi s, rest) (range_head d at w lo hi ts h.0 h.1)
+    (for_rest d (stmt_at d) (stmt_again d) at w lo hi s rest h.2 settles)
 stmt_again (suc d) (Async at cs s) rest h settles =
     let ts = stmt s rest in
-    then_rest d (head (Start at cs) ts) ts (Start at cs) (Async at cs s, rest) (start_head d at cs ts h.0 (no_clocked s rest)) (async_rest d (stmt_at d) (stmt_again d) at cs s rest h.1 settles)
+    then_rest d (head (Start at cs) ts) ts (Start at cs) (Async at cs s, rest) (start_head d at cs ts h.0 (no_clocked s rest))
+    (async_rest d (stmt_at d) (stmt_again d) at cs s rest h.1 settles)
 stmt_again (suc d) (Finish s) rest h settles =
     let ts = stmt s rest in
     then_rest d (head Wait ts) ts Wait (Finish s, rest) (wait_head d ts) (finish_rest d (stmt_at d) (stmt_again d) s rest h settles)

@@ -166,7 +166,8 @@ none_stray : (tokens : List TokenValue) → Clean (map token_mark tokens) → Is
 none_stray [] h = refl
 none_stray (t ∷ ts) h = by (none_stray ts) t.what h
   where
-    by : (Clean (map token_mark ts) → IsFalse (has_stray ts)) → (l : Lexeme) → Clean (lexeme_mark t.at l ∷ map token_mark ts) → IsFalse (has_stray (record { at = t.at; what = l } ∷ ts))
+    by : (Clean (map token_mark ts) → IsFalse (has_stray ts)) → (l : Lexeme) → Clean (lexeme_mark t.at l ∷ map token_mark ts)
+        → IsFalse (has_stray (record { at = t.at; what = l } ∷ ts))
     by ih (lexemes.Name text) k = ih k
     by ih (lexemes.Reserved w) k = ih (first_clean (lexeme_mark t.at (lexemes.Reserved w)) (map token_mark ts) k)
     by ih (lexemes.Number n) k = ih k
@@ -180,23 +181,26 @@ none_stray (t ∷ ts) h = by (none_stray ts) t.what h
 all_marks : (text : List ℕ) (ts : List Token) → map token_value ts ≡ lexed text → marks ts ≡ map token_mark (lexed text)
 all_marks text ts e = marks_kept ts ∙ ap (map token_mark) e
 
-pub tree_spelled : (text : List ℕ) (ts : List Token) (t : TreeValue) → length text ≤ 1048576 → map token_value ts ≡ lexed text → program_at (marks ts) ≡ Some t → SpellsTree text t
-tree_spelled text ts t short e r =
-    let f = program_found (marks ts) t r in
-    let m : map token_mark (lexed text) ≡ program t = sym (all_marks text ts e) ∙ f.0 in
-    let none = none_stray (lexed text) (subst Clean (sym m) (program_clean t)) in
-    record { short = short; spelled = (lexed text, spelled_from_none text none, m); fits = f.1 }
+pub spelled_from_read : (text : List ℕ) (t : TreeValue) → length text ≤ 1048576 → program_at (map token_mark (lexed text)) ≡ Some t → SpellsTree text t
+spelled_from_read text t short r =
+    let f = program_found (map token_mark (lexed text)) t r in
+    let none = none_stray (lexed text) (subst Clean (sym f.0) (program_clean t)) in
+    record { short = short; spelled = (lexed text, spelled_from_none text none, f.0); fits = f.1 }
+
+pub tree_spelled : (text : List ℕ) (ts : List Token) (t : TreeValue)
+    → length text ≤ 1048576 → map token_value ts ≡ lexed text → program_at (marks ts) ≡ Some t → SpellsTree text t
+tree_spelled text ts t short e r = spelled_from_read text t short (sym (ap program_at (all_marks text ts e)) ∙ r)
 
 tree_read : (text : List ℕ) (t : TreeValue) → SpellsTree text t → program_at (map token_mark (lexed text)) ≡ Some t
 tree_read text t s =
     let m : map token_mark (lexed text) ≡ program t = ap (map token_mark) (spelled_lexed text s.spelled.0 s.spelled.1) ∙ s.spelled.2 in
     ap program_at m ∙ program_again t s.fits
 
+pub none_from_read : (text : List ℕ) → program_at (map token_mark (lexed text)) ≡ None → (t : TreeValue) → ¬ SpellsTree text t
+none_from_read text r t s = let p = tree_read text t s in absurd cc
+
 pub none_spelled : (text : List ℕ) (ts : List Token) → map token_value ts ≡ lexed text → program_at (marks ts) ≡ None → (t : TreeValue) → ¬ SpellsTree text t
-none_spelled text ts e r t s =
-    let p = tree_read text t s in
-    let q = ap program_at (all_marks text ts e) in
-    absurd cc
+none_spelled text ts e r = none_from_read text (sym (ap program_at (all_marks text ts e)) ∙ r)
 
 pub one_tree : (text : List ℕ) (t u : TreeValue) → SpellsTree text t → SpellsTree text u → t ≡ u
 one_tree text t u s r =
@@ -206,11 +210,13 @@ one_tree text t u s r =
 
 -- ---- what `parse` answers
 
-pub result_spelled : (text : List ℕ) (ts : List Token) (r : Result Tree FrontError) → length text ≤ 1048576 → map token_value ts ≡ lexed text → Gives tree_value r (program_at (marks ts)) → IfOk r (λ t. SpellsTree text (tree_value t))
+pub result_spelled : (text : List ℕ) (ts : List Token) (r : Result Tree FrontError) → length text ≤ 1048576 → map token_value ts ≡ lexed text
+    → Gives tree_value r (program_at (marks ts)) → IfOk r (λ t. SpellsTree text (tree_value t))
 result_spelled text ts (Ok t) short e g = tree_spelled text ts (tree_value t) short e g
 result_spelled text ts (Err f) short e g = tt
 
-pub result_refused : (text : List ℕ) (ts : List Token) (r : Result Tree FrontError) → map token_value ts ≡ lexed text → Gives tree_value r (program_at (marks ts)) → IsRefused text r
+pub result_refused : (text : List ℕ) (ts : List Token) (r : Result Tree FrontError) → map token_value ts ≡ lexed text → Gives tree_value r (program_at (marks ts))
+    → IsRefused text r
 result_refused text ts (Ok t) e g = tt
 result_refused text ts (Err (error.Fault f)) e g = none_spelled text ts e g
 result_refused text ts (Err error.OutOfMemory) e g = tt

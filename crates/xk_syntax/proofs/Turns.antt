@@ -58,23 +58,28 @@ turn_shrinks {T = T} goes_on item s xs ts ys us e = by (goes_on ts) refl e
     by None h e = absurd cc
     by (Some after) h e = inner after h (item after) refl e
 
-pub more_refused : {T : Type 0} (e : FrontError) (goes_on : List Mark → Option (List Mark)) (item : Reader T) (xs : List T) (ts us : List Mark) → Some us ≡ goes_on ts → Refuses e (item us) → Refuses e (more_at goes_on item xs ts)
+pub more_refused : {T : Type 0} (e : FrontError) (goes_on : List Mark → Option (List Mark)) (item : Reader T) (xs : List T) (ts us : List Mark) → Some us ≡ goes_on ts
+    → Refuses e (item us) → Refuses e (more_at goes_on item xs ts)
 unfolding more_at next_item
 more_refused (error.Fault f) goes_on item xs ts us h r = loop_fails (next_item goes_on item) xs ts (ap (one_more item xs) (sym h) ∙ ap (pushed xs) r)
 more_refused error.OutOfMemory goes_on item xs ts us h r = tt
 
-pub more_read : {T : Type 0} (goes_on : List Mark → Option (List Mark)) (item : Reader T) → Shortens goes_on item → (xs : List T) (ts us : List Mark) (x : T × List Mark) (ys : List T) (z : Option (List T × List Mark)) → Some us ≡ goes_on ts → item us ≡ Some x → ys ≡ xs ++ x.0 ∷ [] → more_at goes_on item xs ts ≡ z → more_at goes_on item ys x.1 ≡ z
+pub more_read : {T : Type 0} (goes_on : List Mark → Option (List Mark)) (item : Reader T) → Shortens goes_on item
+    → (xs : List T) (ts us : List Mark) (x : T × List Mark) (ys : List T) (z : Option (List T × List Mark)) → Some us ≡ goes_on ts → item us ≡ Some x → ys ≡ xs ++ x.0 ∷ []
+    → more_at goes_on item xs ts ≡ z → more_at goes_on item ys x.1 ≡ z
 unfolding more_at next_item
 more_read goes_on item s xs ts us x ys z h r e so_far =
     ap (λ (l : List _). loop (next_item goes_on item) l x.1) e
     ∙ sym (loop_goes (next_item goes_on item) (turn_shrinks goes_on item s) xs ts (xs ++ x.0 ∷ []) x.1 (ap (one_more item xs) (sym h) ∙ ap (pushed xs) r))
     ∙ so_far
 
-pub no_more : {T : Type 0} (goes_on : List Mark → Option (List Mark)) (item : Reader T) (xs : List T) (ts : List Mark) → None ≡ goes_on ts → more_at goes_on item xs ts ≡ Some (xs, ts)
+pub no_more : {T : Type 0} (goes_on : List Mark → Option (List Mark)) (item : Reader T) (xs : List T) (ts : List Mark) → None ≡ goes_on ts
+    → more_at goes_on item xs ts ≡ Some (xs, ts)
 unfolding more_at next_item
 no_more goes_on item xs ts h = loop_stops (next_item goes_on item) xs ts (ap (one_more item xs) (sym h))
 
-pub shorter : {T : Type 0} (goes_on : List Mark → Option (List Mark)) (item : Reader T) → Shortens goes_on item → (ts us vs : List Token) (x : T) → Some (marks us) ≡ goes_on (marks ts) → item (marks us) ≡ Some (x, marks vs) → length vs < length ts
+pub shorter : {T : Type 0} (goes_on : List Mark → Option (List Mark)) (item : Reader T) → Shortens goes_on item → (ts us vs : List Token) (x : T)
+    → Some (marks us) ≡ goes_on (marks ts) → item (marks us) ≡ Some (x, marks vs) → length vs < length ts
 shorter goes_on item s ts us vs x h r = let lt = s (marks ts) (marks us) (x, marks vs) (sym h) r in omega (arith, length-map ts mark, length-map us mark, length-map vs mark)
 
 -- ---- commas
@@ -91,7 +96,8 @@ unfolding commas_at bind
 first_refused (error.Fault f) item ts h = rw h refl
 first_refused error.OutOfMemory item ts h = tt
 
-pub first_read : {T : Type 0} (item : Reader T) (ts : List Mark) (x : T × List Mark) (ys : List T) → item ts ≡ Some x → ys ≡ x.0 ∷ [] → more_at (sign_at sign.Comma) item ys x.1 ≡ commas_at item ts
+pub first_read : {T : Type 0} (item : Reader T) (ts : List Mark) (x : T × List Mark) (ys : List T) → item ts ≡ Some x → ys ≡ x.0 ∷ []
+    → more_at (sign_at sign.Comma) item ys x.1 ≡ commas_at item ts
 unfolding commas_at bind
 first_read item ts x ys h e = rw (h, e) refl
 

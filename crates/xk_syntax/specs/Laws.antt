@@ -3,7 +3,7 @@ use Rattle.std.specs.Prelude.{◌≡◌, ℕ, true, List, Some, None}
 use Rattle.xk_tokens.specs.declared.token.Keyword.TheVariants as keyword
 use Rattle.xk_tree.specs.Tree.{Statement, TreeValue}
 use Rattle.xk_exprs.specs.Marks.{Mark}
-use Rattle.xk_syntax.specs.Spelling.{stmt, program, dangles, Fits, TreeFits}
+use Rattle.xk_syntax.specs.Spelling.{stmt, program, dangles, Fits, TreeFits, SpellsTree}
 use Rattle.xk_syntax.specs.Readers.{keyword_at, stmt_at, program_at}
 
 -- what follows isn't taken for an `else` of the statement
@@ -27,3 +27,7 @@ ProgramFound = (ts : List Mark) (t : TreeValue) → program_at ts ≡ Some t →
 -- a program is read from its spelling
 abbrev pub ProgramAgain : Type 0
 ProgramAgain = (t : TreeValue) → TreeFits t → program_at (program t) ≡ Some t
+
+-- a text spells one tree at most
+abbrev pub OneTree : Type 0
+OneTree = (text : List ℕ) (t u : TreeValue) → SpellsTree text t → SpellsTree text u → t ≡ u

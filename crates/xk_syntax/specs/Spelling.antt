@@ -90,7 +90,8 @@ abbrev mutual
   stmt (Assign w e) after = word w (Symbol sign.Assign ∷ expr e (Symbol sign.Semicolon ∷ after))
   stmt (Atomic w v at e) after = Reserved keyword.Atomic ∷ word w (Symbol sign.Assign ∷ word v (Operator at operator.Plus ∷ expr e (Symbol sign.Semicolon ∷ after)))
   stmt (If at l c r s) after = Reserved keyword.If ∷ Open at ∷ expr l (Symbol (comparison_sign c) ∷ expr r (Symbol sign.RightParen ∷ stmt s after))
-  stmt (IfElse at l c r s t) after = Reserved keyword.If ∷ Open at ∷ expr l (Symbol (comparison_sign c) ∷ expr r (Symbol sign.RightParen ∷ stmt s (Reserved keyword.Else ∷ stmt t after)))
+  stmt (IfElse at l c r s t) after = Reserved keyword.If ∷ Open at ∷ expr l (Symbol (comparison_sign c) ∷ expr r
+      (Symbol sign.RightParen ∷ stmt s (Reserved keyword.Else ∷ stmt t after)))
   stmt (For at w lo hi s) after = Reserved keyword.For ∷ Open at ∷ word w (Reserved keyword.In ∷ number lo (Symbol sign.DotDot ∷ number hi (Symbol sign.RightParen ∷ stmt s after)))
   stmt (Async at cs s) after = AsyncAt at ∷ clock_part cs (stmt s after)
   stmt (Finish s) after = Reserved keyword.Finish ∷ stmt s after
@@ -98,7 +99,8 @@ abbrev mutual
   stmt (Resume w v) after = word w (Symbol sign.Dot ∷ verb (codes "resume") v (Symbol sign.RightParen ∷ Symbol sign.Semicolon ∷ after))
   stmt (Drop w v) after = word w (Symbol sign.Dot ∷ verb (codes "drop") v (Symbol sign.RightParen ∷ Symbol sign.Semicolon ∷ after))
   stmt (AdvanceAll at v) after = ClockAt at ∷ Symbol sign.Dot ∷ verb (codes "advanceAll") v (Symbol sign.RightParen ∷ Symbol sign.Semicolon ∷ after)
-  stmt (Print at v e) after = Reserved keyword.Console ∷ Symbol sign.Dot ∷ Name at (codes "OUT") ∷ Symbol sign.Dot ∷ verb (codes "println") v (expr e (Symbol sign.RightParen ∷ Symbol sign.Semicolon ∷ after))
+  stmt (Print at v e) after = Reserved keyword.Console ∷ Symbol sign.Dot ∷ Name at (codes "OUT") ∷ Symbol sign.Dot ∷ verb (codes "println") v
+      (expr e (Symbol sign.RightParen ∷ Symbol sign.Semicolon ∷ after))
 
   pub stmts : Statements → List Mark → List Mark
   stmts Done after = after
@@ -108,7 +110,8 @@ abbrev pub param : ParamValue → List Mark → List Mark
 param p after = word p.name (Symbol sign.Colon ∷ type_name p.takes after)
 
 abbrev pub method : MethodValue → List Mark → List Mark
-method m after = Reserved keyword.Def ∷ word m.name (Open m.paren ∷ commas param m.params (Symbol sign.RightParen ∷ Symbol sign.LeftBrace ∷ stmts m.body (Symbol sign.RightBrace ∷ after)))
+method m after = Reserved keyword.Def ∷ word m.name (Open m.paren ∷ commas param m.params
+    (Symbol sign.RightParen ∷ Symbol sign.LeftBrace ∷ stmts m.body (Symbol sign.RightBrace ∷ after)))
 
 abbrev pub shared : SharedValue → List Mark → List Mark
 shared s after = Reserved keyword.Shared ∷ word s.name (Symbol sign.Assign ∷ number s.start (Symbol sign.Semicolon ∷ after))

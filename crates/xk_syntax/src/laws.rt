@@ -1,9 +1,6 @@
 //! What the readers give is what is spelled, and a text spells one tree at most.
 
-ghost use Rattle.std.specs.Prelude.{◌≡◌, ℕ, List};
-ghost use Rattle.xk_tree.specs.Tree.{TreeValue};
-ghost use Rattle.xk_syntax.specs.Spelling.{SpellsTree};
-ghost use Rattle.xk_syntax.specs.Laws.{StatementFound, StatementAgain, ProgramFound, ProgramAgain};
+ghost use Rattle.xk_syntax.specs.Laws.{StatementFound, StatementAgain, ProgramFound, ProgramAgain, OneTree};
 
 /// A statement is read from tokens exactly where they begin with its spelling, and with no `else` that it would take.
 pub fn statements()
@@ -19,5 +16,5 @@ pub fn programs()
 
 /// A text spells one tree at most.
 pub fn trees()
-    ensures { (text : List ℕ) (t u : TreeValue) → SpellsTree text t → SpellsTree text u → t ≡ u }
+    ensures { OneTree }
 {}

@@ -92,7 +92,8 @@ fn else_part<'s, 't>(
     end: usize,
 ) -> Result<(Stmt<'t>, &'s [Token<'t>]), FrontError>
     ensures { Gives (λ x. (statement x.0, marks x.1.now)) result
-        (else_at (stmt_at levels) paren (expression left.entry) comparison (expression right.entry) (statement stmt.entry) (marks tokens.now)) }
+        (else_at (stmt_at levels) paren (expression left.entry) comparison
+        (expression right.entry) (statement stmt.entry) (marks tokens.now)) }
 {
     let stmt = Box::new(alloc, stmt)?;
     match after_keyword(Keyword::Else, tokens) {

@@ -1,0 +1,167 @@
+-- Small texts: trees that they spell, and texts that spell none.
+use Rattle.std.proofs.Common.{◌≡◌, ℕ, zero, suc, ◌≤◌, List, [], ◌∷◌, ◌++◌, length, map, Option, Some, None, codes, refl, lit≤}
+use Rattle.std.specs.Prelude.{pos, negsuc, replicate}
+use Rattle.xk_types.specs.declared.instr.Comparison.TheVariants as comparison
+use Rattle.xk_types.specs.declared.unit.ParamKind.TheVariants as kind
+use Rattle.xk_tokens.specs.Tokens.{keyword_of}
+use Rattle.xk_tokens.specs.Pieces.{number_of}
+use Rattle.xk_tokens.specs.Lexing.{lexed, sign_of_one, sign_of_two, comment_at, piece_at, sign_at as lexed_sign_at}
+use Rattle.xk_tree.specs.declared.tree.Operator.TheVariants as operator
+use Rattle.xk_tree.specs.declared.tree.Binding.TheVariants as binding
+use Rattle.xk_tree.specs.Tree.{Word, Expression, Literal, Named, Binary, Make, Value, Statement, Statements, Done, More, Block, Empty, Declare, Assign, Atomic, If, IfElse, For, Async, Finish, Call, Resume, Drop, AdvanceAll, Print, MethodValue, TreeValue}
+use Rattle.xk_exprs.specs.Readers.{turns, loop}
+use Rattle.xk_exprs.specs.Exprs.{value_of, number_at, another, chain_at, terms, sums, factor_at, whole_at, whole_term_at}
+use Rattle.xk_syntax.specs.Spelling.{token_mark, SpellsTree}
+use Rattle.xk_syntax.specs.Readers.{bind, sign_at, keyword_at, open_at, plus_at, word_at, this_word_at, comparison_at, type_at, clock_at, next_item, more_at, commas_at, listed_at, verb_at, bare_verb_at, act_at, type_part_at, source_at, declare_at, atomic_at, advance_at, print_head_at, print_at, call_at, dotted_at, assign_at, named_at, flat_at, condition_at, range_at, clocks_at, start_at, stmt_head_at, ahead_at, stmts_at, else_at, rest_at, stmt_at, param_at, method_at, shared_at, program_at}
+use Rattle.xk_syntax.proofs.Texts.{spelled_from_read, none_from_read}
+
+abbrev name : ℕ → List ℕ → Word
+name at text = record { at = at; text = text }
+
+abbrev variable : ℕ → List ℕ → Expression
+variable at text = Named (name at text)
+
+abbrev number : ℕ → ℕ → Expression
+number at n = Literal (record { minus = None; at = at; value = pos n })
+
+-- `def main(){..}`
+abbrev main : Statements → MethodValue
+main body = record { name = name 4 (codes "main"); paren = 8; params = []; body = body }
+
+abbrev only_main : Statements → TreeValue
+only_main body = record { shared = []; methods = main body ∷ [] }
+
+abbrev SpellsNone : List ℕ → Type 0
+SpellsNone text = (t : TreeValue) → ¬ SpellsTree text t
+
+-- ---- programs
+
+nothing : SpellsTree [] (record { shared = []; methods = [] })
+unfolding sign_of_one sign_of_two comment_at piece_at lexed_sign_at number_of keyword_of turns loop value_of number_at another chain_at terms sums factor_at whole_at
+    whole_term_at bind sign_at keyword_at open_at plus_at word_at this_word_at comparison_at type_at clock_at next_item more_at commas_at listed_at verb_at bare_verb_at act_at
+    type_part_at source_at declare_at atomic_at advance_at print_head_at print_at call_at dotted_at assign_at named_at flat_at condition_at range_at clocks_at start_at
+    stmt_head_at ahead_at stmts_at else_at rest_at stmt_at param_at method_at shared_at program_at
+nothing = spelled_from_read _ _ (lit≤ tt) refl
+
+empty_main : SpellsTree (codes "def main(){}") (only_main Done)
+unfolding sign_of_one sign_of_two comment_at piece_at lexed_sign_at number_of keyword_of turns loop value_of number_at another chain_at terms sums factor_at whole_at
+    whole_term_at bind sign_at keyword_at open_at plus_at word_at this_word_at comparison_at type_at clock_at next_item more_at commas_at listed_at verb_at bare_verb_at act_at
+    type_part_at source_at declare_at atomic_at advance_at print_head_at print_at call_at dotted_at assign_at named_at flat_at condition_at range_at clocks_at start_at
+    stmt_head_at ahead_at stmts_at else_at rest_at stmt_at param_at method_at shared_at program_at
+empty_main = spelled_from_read _ _ (lit≤ tt) refl
+
+one_brace_more : SpellsNone (codes "def main(){}}")
+unfolding sign_of_one sign_of_two comment_at piece_at lexed_sign_at number_of keyword_of turns loop value_of number_at another chain_at terms sums factor_at whole_at
+    whole_term_at bind sign_at keyword_at open_at plus_at word_at this_word_at comparison_at type_at clock_at next_item more_at commas_at listed_at verb_at bare_verb_at act_at
+    type_part_at source_at declare_at atomic_at advance_at print_head_at print_at call_at dotted_at assign_at named_at flat_at condition_at range_at clocks_at start_at
+    stmt_head_at ahead_at stmts_at else_at rest_at stmt_at param_at method_at shared_at program_at
+one_brace_more = none_from_read _ refl
+
+-- both shared numbers are kept
+two_shared : SpellsTree (codes "shared s=1;shared t=-2;") (record {
+  shared =
+      record { name = name 7 (codes "s"); start = record { minus = None; at = 9; value = pos 1 } }
+      ∷ record { name = name 18 (codes "t"); start = record { minus = Some 20; at = 21; value = negsuc 1 } } ∷ [];
+  methods = [];
+})
+unfolding sign_of_one sign_of_two comment_at piece_at lexed_sign_at number_of keyword_of turns loop value_of number_at another chain_at terms sums factor_at whole_at
+    whole_term_at bind sign_at keyword_at open_at plus_at word_at this_word_at comparison_at type_at clock_at next_item more_at commas_at listed_at verb_at bare_verb_at act_at
+    type_part_at source_at declare_at atomic_at advance_at print_head_at print_at call_at dotted_at assign_at named_at flat_at condition_at range_at clocks_at start_at
+    stmt_head_at ahead_at stmts_at else_at rest_at stmt_at param_at method_at shared_at program_at
+two_shared = spelled_from_read _ _ (lit≤ tt) refl
+
+-- ---- statements
+
+-- an `else` belongs to the nearest `if`
+nearest_if : SpellsTree (codes "def main(){if(a<b)if(c<d);else;}")
+    (only_main (More (If 13 (variable 14 (codes "a")) comparison.Lt (variable 16 (codes "b"))
+    (IfElse 20 (variable 21 (codes "c")) comparison.Lt (variable 23 (codes "d")) Empty Empty)) Done))
+unfolding sign_of_one sign_of_two comment_at piece_at lexed_sign_at number_of keyword_of turns loop value_of number_at another chain_at terms sums factor_at whole_at
+    whole_term_at bind sign_at keyword_at open_at plus_at word_at this_word_at comparison_at type_at clock_at next_item more_at commas_at listed_at verb_at bare_verb_at act_at
+    type_part_at source_at declare_at atomic_at advance_at print_head_at print_at call_at dotted_at assign_at named_at flat_at condition_at range_at clocks_at start_at
+    stmt_head_at ahead_at stmts_at else_at rest_at stmt_at param_at method_at shared_at program_at
+nearest_if = spelled_from_read _ _ (lit≤ tt) refl
+
+resume_and_drop : SpellsTree (codes "def main(){c.resume();c.drop();}")
+    (only_main (More (Resume (name 11 (codes "c")) (record { at = 13; paren = 19 })) (More (Drop (name 22 (codes "c")) (record { at = 24; paren = 28 })) Done)))
+unfolding sign_of_one sign_of_two comment_at piece_at lexed_sign_at number_of keyword_of turns loop value_of number_at another chain_at terms sums factor_at whole_at
+    whole_term_at bind sign_at keyword_at open_at plus_at word_at this_word_at comparison_at type_at clock_at next_item more_at commas_at listed_at verb_at bare_verb_at act_at
+    type_part_at source_at declare_at atomic_at advance_at print_head_at print_at call_at dotted_at assign_at named_at flat_at condition_at range_at clocks_at start_at
+    stmt_head_at ahead_at stmts_at else_at rest_at stmt_at param_at method_at shared_at program_at
+resume_and_drop = spelled_from_read _ _ (lit≤ tt) refl
+
+no_other_act : SpellsNone (codes "def main(){c.make();}")
+unfolding sign_of_one sign_of_two comment_at piece_at lexed_sign_at number_of keyword_of turns loop value_of number_at another chain_at terms sums factor_at whole_at
+    whole_term_at bind sign_at keyword_at open_at plus_at word_at this_word_at comparison_at type_at clock_at next_item more_at commas_at listed_at verb_at bare_verb_at act_at
+    type_part_at source_at declare_at atomic_at advance_at print_head_at print_at call_at dotted_at assign_at named_at flat_at condition_at range_at clocks_at start_at
+    stmt_head_at ahead_at stmts_at else_at rest_at stmt_at param_at method_at shared_at program_at
+no_other_act = none_from_read _ refl
+
+-- words that say what is done are names elsewhere
+drop_is_a_name : SpellsTree (codes "def main(){drop();}") (only_main (More (Call (name 11 (codes "drop")) 15 []) Done))
+unfolding sign_of_one sign_of_two comment_at piece_at lexed_sign_at number_of keyword_of turns loop value_of number_at another chain_at terms sums factor_at whole_at
+    whole_term_at bind sign_at keyword_at open_at plus_at word_at this_word_at comparison_at type_at clock_at next_item more_at commas_at listed_at verb_at bare_verb_at act_at
+    type_part_at source_at declare_at atomic_at advance_at print_head_at print_at call_at dotted_at assign_at named_at flat_at condition_at range_at clocks_at start_at
+    stmt_head_at ahead_at stmts_at else_at rest_at stmt_at param_at method_at shared_at program_at
+drop_is_a_name = spelled_from_read _ _ (lit≤ tt) refl
+
+one_clock : SpellsTree (codes "def main(){async clocked(c);}")
+    (only_main (More (Async 11 (Some (record { paren = 24; names = name 25 (codes "c") ∷ [] })) Empty) Done))
+unfolding sign_of_one sign_of_two comment_at piece_at lexed_sign_at number_of keyword_of turns loop value_of number_at another chain_at terms sums factor_at whole_at
+    whole_term_at bind sign_at keyword_at open_at plus_at word_at this_word_at comparison_at type_at clock_at next_item more_at commas_at listed_at verb_at bare_verb_at act_at
+    type_part_at source_at declare_at atomic_at advance_at print_head_at print_at call_at dotted_at assign_at named_at flat_at condition_at range_at clocks_at start_at
+    stmt_head_at ahead_at stmts_at else_at rest_at stmt_at param_at method_at shared_at program_at
+one_clock = spelled_from_read _ _ (lit≤ tt) refl
+
+no_clock : SpellsNone (codes "def main(){async clocked();}")
+unfolding sign_of_one sign_of_two comment_at piece_at lexed_sign_at number_of keyword_of turns loop value_of number_at another chain_at terms sums factor_at whole_at
+    whole_term_at bind sign_at keyword_at open_at plus_at word_at this_word_at comparison_at type_at clock_at next_item more_at commas_at listed_at verb_at bare_verb_at act_at
+    type_part_at source_at declare_at atomic_at advance_at print_head_at print_at call_at dotted_at assign_at named_at flat_at condition_at range_at clocks_at start_at
+    stmt_head_at ahead_at stmts_at else_at rest_at stmt_at param_at method_at shared_at program_at
+no_clock = none_from_read _ refl
+
+term_is_added : SpellsTree (codes "def main(){atomic x=x+2*y;}")
+    (only_main (More (Atomic (name 18 (codes "x")) (name 20 (codes "x")) 21 (Binary operator.Times (number 22 2) 23 (variable 24 (codes "y")))) Done))
+unfolding sign_of_one sign_of_two comment_at piece_at lexed_sign_at number_of keyword_of turns loop value_of number_at another chain_at terms sums factor_at whole_at
+    whole_term_at bind sign_at keyword_at open_at plus_at word_at this_word_at comparison_at type_at clock_at next_item more_at commas_at listed_at verb_at bare_verb_at act_at
+    type_part_at source_at declare_at atomic_at advance_at print_head_at print_at call_at dotted_at assign_at named_at flat_at condition_at range_at clocks_at start_at
+    stmt_head_at ahead_at stmts_at else_at rest_at stmt_at param_at method_at shared_at program_at
+term_is_added = spelled_from_read _ _ (lit≤ tt) refl
+
+no_sum_is_added : SpellsNone (codes "def main(){atomic x=x+2+y;}")
+unfolding sign_of_one sign_of_two comment_at piece_at lexed_sign_at number_of keyword_of turns loop value_of number_at another chain_at terms sums factor_at whole_at
+    whole_term_at bind sign_at keyword_at open_at plus_at word_at this_word_at comparison_at type_at clock_at next_item more_at commas_at listed_at verb_at bare_verb_at act_at
+    type_part_at source_at declare_at atomic_at advance_at print_head_at print_at call_at dotted_at assign_at named_at flat_at condition_at range_at clocks_at start_at
+    stmt_head_at ahead_at stmts_at else_at rest_at stmt_at param_at method_at shared_at program_at
+no_sum_is_added = none_from_read _ refl
+
+no_needless_zero : SpellsNone (codes "def main(){x=007;}")
+unfolding sign_of_one sign_of_two comment_at piece_at lexed_sign_at number_of keyword_of turns loop value_of number_at another chain_at terms sums factor_at whole_at
+    whole_term_at bind sign_at keyword_at open_at plus_at word_at this_word_at comparison_at type_at clock_at next_item more_at commas_at listed_at verb_at bare_verb_at act_at
+    type_part_at source_at declare_at atomic_at advance_at print_head_at print_at call_at dotted_at assign_at named_at flat_at condition_at range_at clocks_at start_at
+    stmt_head_at ahead_at stmts_at else_at rest_at stmt_at param_at method_at shared_at program_at
+no_needless_zero = none_from_read _ refl
+
+-- ---- depth
+
+-- so many blocks in one another
+abbrev blocks : ℕ → List ℕ
+blocks n = codes "def main(){" ++ replicate n 123 ++ replicate n 125 ++ codes "}"
+
+nested : ℕ → Statements
+nested zero = Done
+nested (suc n) = More (Block (nested n)) Done
+
+sixty_four : SpellsTree (blocks 64) (only_main (nested 64))
+unfolding sign_of_one sign_of_two comment_at piece_at lexed_sign_at number_of keyword_of turns loop value_of number_at another chain_at terms sums factor_at whole_at
+    whole_term_at bind sign_at keyword_at open_at plus_at word_at this_word_at comparison_at type_at clock_at next_item more_at commas_at listed_at verb_at bare_verb_at act_at
+    type_part_at source_at declare_at atomic_at advance_at print_head_at print_at call_at dotted_at assign_at named_at flat_at condition_at range_at clocks_at start_at
+    stmt_head_at ahead_at stmts_at else_at rest_at stmt_at param_at method_at shared_at program_at nested
+sixty_four = spelled_from_read _ _ (lit≤ tt) refl
+
+sixty_five : SpellsNone (blocks 65)
+unfolding sign_of_one sign_of_two comment_at piece_at lexed_sign_at number_of keyword_of turns loop value_of number_at another chain_at terms sums factor_at whole_at
+    whole_term_at bind sign_at keyword_at open_at plus_at word_at this_word_at comparison_at type_at clock_at next_item more_at commas_at listed_at verb_at bare_verb_at act_at
+    type_part_at source_at declare_at atomic_at advance_at print_head_at print_at call_at dotted_at assign_at named_at flat_at condition_at range_at clocks_at start_at
+    stmt_head_at ahead_at stmts_at else_at rest_at stmt_at param_at method_at shared_at program_at
+sixty_five = none_from_read _ refl
