@@ -62,19 +62,22 @@ module _ (own : UnitValue → ℕ) (m : ModuleValue) where
 
   module _ (shape : HasShape m) where
     -- a unit that an instruction calls is there, and has a greater number
-    called_is : (unit : ℕ) (u : UnitValue) (at : ℕ) (i : Instr) (t : ℕ) → slice_get m.units unit ≡ Some u → slice_get u.code at ≡ Some i → unit_called i ≡ Some t → (unit < t) × (t < length m.units)
+    called_is : (unit : ℕ) (u : UnitValue) (at : ℕ) (i : Instr) (t : ℕ) → slice_get m.units unit ≡ Some u → slice_get u.code at ≡ Some i → unit_called i ≡ Some t
+        → (unit < t) × (t < length m.units)
     called_is unit u at i t found here e = run_is m shape unit u at i t found here (called_run i t e)
 
     called_same : (below above : ℕ → ℕ) (i : Instr) (o : Option ℕ) → unit_called i ≡ o → ((t : ℕ) → o ≡ Some t → below t ≡ above t) → called_by below i ≡ called_by above i
     called_same below above i None e same = rw e refl
     called_same below above i (Some t) e same = rw (e, same t refl) refl
 
-    most_same : (below above : ℕ → ℕ) (unit : ℕ) (u : UnitValue) → slice_get m.units unit ≡ Some u → ((t : ℕ) → unit < t → t < length m.units → below t ≡ above t) → most_called below u.code ≡ most_called above u.code
+    most_same : (below above : ℕ → ℕ) (unit : ℕ) (u : UnitValue) → slice_get m.units unit ≡ Some u → ((t : ℕ) → unit < t → t < length m.units → below t ≡ above t)
+        → most_called below u.code ≡ most_called above u.code
     most_same below above unit u found same =
         fold_same (called_by below) (called_by above) 0 u.code
         (λ at i here. called_same below above i (unit_called i) refl (λ t e. let is = called_is unit u at i t found here e in same t is.0 is.1))
 
-    over_same : (below above : ℕ → ℕ) (unit : ℕ) (o : Option UnitValue) → slice_get m.units unit ≡ o → ((t : ℕ) → unit < t → below t ≡ above t) → over_unit below o ≡ over_unit above o
+    over_same : (below above : ℕ → ℕ) (unit : ℕ) (o : Option UnitValue) → slice_get m.units unit ≡ o → ((t : ℕ) → unit < t → below t ≡ above t)
+        → over_unit below o ≡ over_unit above o
     over_same below above unit None found same = refl
     over_same below above unit (Some u) found same = ap (λ n. own u + n) (most_same below above unit u found (λ t lt inside. same t lt))
 
@@ -99,7 +102,8 @@ module _ (own : UnitValue → ℕ) (m : ModuleValue) where
   called_small bound below i None e small = rw e (omega arith)
   called_small bound below i (Some t) e small = rw e (small t)
 
-  over_small : (bound rest : ℕ) (below : ℕ → ℕ) (o : Option UnitValue) → ((u : UnitValue) → o ≡ Some u → own u ≤ bound) → ((t : ℕ) → below t ≤ rest) → over_unit below o ≤ bound + rest
+  over_small : (bound rest : ℕ) (below : ℕ → ℕ) (o : Option UnitValue) → ((u : UnitValue) → o ≡ Some u → own u ≤ bound) → ((t : ℕ) → below t ≤ rest)
+      → over_unit below o ≤ bound + rest
   over_small bound rest below None first small = omega arith
   over_small bound rest below (Some u) first small =
       let here = first u refl in

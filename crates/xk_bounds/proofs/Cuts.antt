@@ -25,7 +25,8 @@ cut_same : (cut v x y : ℕ) → min x cut ≡ min y cut → min (v * x) cut ≡
 cut_same cut v x y e = sym (cut_right cut v x) ∙ ap (λ n. min (v * n) cut) e ∙ cut_right cut v y
 
 -- terms that are equal at each instruction have the same sum, however often each is taken
-pub sum_same : (v : ℕ → ℕ) (f g : Instr → ℕ) (n : ℕ) (xs : List Instr) → ((at : ℕ) (x : Instr) → slice_get xs at ≡ Some x → f x ≡ g x) → sum_from (λ at i. v at * f i) n xs ≡ sum_from (λ at i. v at * g i) n xs
+pub sum_same : (v : ℕ → ℕ) (f g : Instr → ℕ) (n : ℕ) (xs : List Instr) → ((at : ℕ) (x : Instr) → slice_get xs at ≡ Some x → f x ≡ g x)
+    → sum_from (λ at i. v at * f i) n xs ≡ sum_from (λ at i. v at * g i) n xs
 sum_same v f g n [] same = refl
 sum_same v f g n (x ∷ xs) same =
     let head = ap (λ y. v n * y) (same zero x refl) in

@@ -33,7 +33,8 @@ module _ (weight : Instr → ℕ) (table : ℕ → ℕ) (u : UnitValue) (cut : �
   }
 
   -- one instruction more
-  pub measured_next : (at : ℕ) (i : Instr) (before after : List ℕ) (here beyond most once product sum : ℕ) → IsOrderly u → slice_get u.code at ≡ Some i → after ≡ before ++ here ∷ [] → beyond ≡ visits_next cut after here i
+  pub measured_next : (at : ℕ) (i : Instr) (before after : List ℕ) (here beyond most once product sum : ℕ) → IsOrderly u → slice_get u.code at ≡ Some i
+      → after ≡ before ++ here ∷ [] → beyond ≡ visits_next cut after here i
       → once ≡ min (added weight table i) cut → product ≡ min (here * once) cut → sum ≡ min (most + product) cut
       → IsMeasured weight table u cut at before here most → IsMeasured weight table u cut (suc at) after beyond sum
   measured_next at i before after here beyond most once product sum blocks found pushed is_beyond is_once is_product is_sum so_far =

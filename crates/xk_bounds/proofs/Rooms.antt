@@ -13,7 +13,8 @@ use Rattle.xk_bounds.proofs.Chains.{below_same, chain_is, chain_small, nesting_s
 
 module _ (m : ModuleValue) where
   -- a room is reckoned from those of the units of greater number
-  pub room_by : HasShape m → (table : List Room) (unit : ℕ) (u : UnitValue) (r : Room) → slice_get m.units unit ≡ Some u → ((t : ℕ) → unit < t → t < length m.units → IsRoom m t (slice_index_or table t nothing))
+  pub room_by : HasShape m → (table : List Room) (unit : ℕ) (u : UnitValue) (r : Room) → slice_get m.units unit ≡ Some u
+      → ((t : ℕ) → unit < t → t < length m.units → IsRoom m t (slice_index_or table t nothing))
       → IsRoomBy table u r → IsRoom m unit r
   room_by shape table unit u r found greater by =
       let most = length m.units in
@@ -55,7 +56,8 @@ module _ (m : ModuleValue) where
 -- ---- one room more in a table
 
 -- what holds of each place still does when what is written there has it
-pub each_set : (P : ℕ → Room → Type 0) (table : List Room) (unit : ℕ) (r d : Room) → unit < length table → P unit r → (t : ℕ) → ((t ≡ unit → ⊥) → P t (get_or table t d)) → P t (get_or (set table unit r) t d)
+pub each_set : (P : ℕ → Room → Type 0) (table : List Room) (unit : ℕ) (r d : Room) → unit < length table → P unit r → (t : ℕ) → ((t ≡ unit → ⊥) → P t (get_or table t d))
+    → P t (get_or (set table unit r) t d)
 each_set P table unit r d inside here t other = elim (cases_order unit t) [
   | inl same ↦ subst (λ k. P k (get_or (set table unit r) k d)) same (subst (P unit) (sym (get_or-set_same table unit r d inside)) here)
   | inr apart ↦

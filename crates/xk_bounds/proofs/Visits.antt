@@ -72,7 +72,8 @@ module _ (u : UnitValue) where
   from_here : (n : ℕ) (i : Instr) (is : List Instr) → IsFrom u n (i ∷ is) → slice_get u.code n ≡ Some i
   from_here n i is from = let e : n ≡ n + 0 = omega arith in ap (slice_get u.code) e ∙ sym (from 0)
 
-  member_here : (n : ℕ) (i : Instr) (rest : List Loop) (l : Loop) (o : Option Loop) → slice_get u.code n ≡ Some i → loop_begun u n i ≡ o → (Has rest l → (suc n ≤ l.first) × IsLoop u l)
+  member_here : (n : ℕ) (i : Instr) (rest : List Loop) (l : Loop) (o : Option Loop) → slice_get u.code n ≡ Some i → loop_begun u n i ≡ o
+      → (Has rest l → (suc n ≤ l.first) × IsLoop u l)
       → Has (option_map_or (λ k. k ∷ rest) o rest) l → (n ≤ l.first) × IsLoop u l
   member_here n i rest l None here e later has = let is = later has in (omega arith, is.1)
   member_here n i rest l (Some k) here e later (inl same) =
@@ -93,7 +94,8 @@ module _ (u : UnitValue) where
   decides_round : (at : ℕ) (l : Loop) → Decides (is_round at l) ((l.first < at) × (at ≤ l.last))
   decides_round at l = Decides-and (nat_lt l.first at) (nat_le at l.last) (Decides-ltb l.first at) (leb-true at l.last, le-leb at l.last)
 
-  round_same : (a b : ℕ) (l : Loop) → ((l.first < a) × (a ≤ l.last) → (l.first < b) × (b ≤ l.last)) → ((l.first < b) × (b ≤ l.last) → (l.first < a) × (a ≤ l.last)) → is_round a l ≡ is_round b l
+  round_same : (a b : ℕ) (l : Loop) → ((l.first < a) × (a ≤ l.last) → (l.first < b) × (b ≤ l.last)) → ((l.first < b) × (b ≤ l.last) → (l.first < a) × (a ≤ l.last))
+      → is_round a l ≡ is_round b l
   round_same a b l to from = same_from_decides (is_round a l) (is_round b l) (Decides-like (is_round a l) to from (decides_round a l)) (decides_round b l)
 
   -- a loop that neither begins nor ends at a place lies round it and the next, or round none of the two
@@ -120,14 +122,16 @@ module _ (u : UnitValue) where
   -- behind any other instruction the count is the same
   stays : (at : ℕ) (i : Instr) → slice_get u.code at ≡ Some i → begins_none i ≡ true → ends_none i ≡ true → visits u (suc at) ≡ visits u at
   stays at i here no_for no_next =
-      product_same (is_round (suc at)) (is_round at) (loops u) (λ l has. let is = member_is l has in round_next at l (no_begin at i l here no_for is) (no_end at i l here no_next is))
+      product_same (is_round (suc at)) (is_round at) (loops u)
+      (λ l has. let is = member_is l has in round_next at l (no_begin at i l here no_for is) (no_end at i l here no_next is))
 
   pub starts : visits u 0 ≡ 1
   starts = product_none (is_round 0) (loops u) (λ l. rw (le-ltb l.first 0 (omega arith)) refl)
 
   -- ---- into a loop
 
-  entered_here : (n : ℕ) (rest : List Loop) (l : Loop) (p q : Loop → Bool) (o : Option Loop) → o ≡ Some l → p l ≡ true → q l ≡ false → product (filter p rest) ≡ product (filter q rest)
+  entered_here : (n : ℕ) (rest : List Loop) (l : Loop) (p q : Loop → Bool) (o : Option Loop) → o ≡ Some l → p l ≡ true → q l ≡ false
+      → product (filter p rest) ≡ product (filter q rest)
       → product (filter p (option_map_or (λ k. k ∷ rest) o rest)) ≡ turns l * product (filter q (option_map_or (λ k. k ∷ rest) o rest))
   entered_here n rest l p q o e passes fails same =
       ap (λ x. product (filter p (option_map_or (λ k. k ∷ rest) x rest))) e
@@ -185,7 +189,8 @@ module _ (u : UnitValue) where
     ends : l.last ≡ at
     is : IsLoop u l
 
-  begun_ended : (at first : ℕ) (i : Instr) (s : Span) → slice_get u.code at ≡ Some (instr.Next first) → slice_get u.code first ≡ Some i → span_begun u first i ≡ Some s → s.last ≡ at → IsEnded at first s
+  begun_ended : (at first : ℕ) (i : Instr) (s : Span) → slice_get u.code at ≡ Some (instr.Next first) → slice_get u.code first ≡ Some i → span_begun u first i ≡ Some s
+      → s.last ≡ at → IsEnded at first s
   begun_ended at first (instr.For k lo hi e) s next here begun ends =
       let of = of_loop (loop_begun u first (instr.For k lo hi e)) s begun in
       let is = begun_is u first (instr.For k lo hi e) of.0 here of.1 in
@@ -196,7 +201,8 @@ module _ (u : UnitValue) where
       absurd (both_ways true (sym both.0 ∙ ap (λ n. is_end_of first (slice_get u.code n)) same ∙ ap (is_end_of first) next) refl)
   begun_ended at first _ s next here begun ends = cc
 
-  ended_is : (at first : ℕ) (s : Span) (o : Option Instr) → slice_get u.code at ≡ Some (instr.Next first) → slice_get u.code first ≡ o → span_ended u at first o ≡ Some s → IsEnded at first s
+  ended_is : (at first : ℕ) (s : Span) (o : Option Instr) → slice_get u.code at ≡ Some (instr.Next first) → slice_get u.code first ≡ o → span_ended u at first o ≡ Some s
+      → IsEnded at first s
   ended_is at first s None next here h = cc
   ended_is at first s (Some i) next here h =
       option_and_then_some (λ k. cond (eqb k.last at) (Some k) None) (span_begun u first i) s h (λ k begun kept.
@@ -213,7 +219,8 @@ module _ (u : UnitValue) where
   -- a loop lies round the place behind a `next` where it lies round its `for`
   round_left : (l k : Loop) → l.first < l.last → IsLoop u l → IsLoop u k → overlaps (span_of l) (span_of k) ≡ false → is_round (suc l.last) k ≡ is_round l.first k
   round_left l k long is at_k apart =
-      let parts = or_parts (nat_lt l.first k.first && nat_lt k.first l.last && nat_lt l.last k.last) (nat_lt k.first l.first && nat_lt l.first k.last && nat_lt k.last l.last) apart in
+      let parts = or_parts (nat_lt l.first k.first && nat_lt k.first l.last && nat_lt l.last k.last)
+      (nat_lt k.first l.first && nat_lt l.first k.last && nat_lt k.last l.last) apart in
       let begins = no_begin l.last (instr.Next l.first) k is.ends refl at_k in
       let ends = no_end l.first (instr.For l.slot l.lo l.hi l.last) k is.begins refl at_k in
       let inside = no_rise l.first k.first l.last k.last parts.0 in
@@ -244,13 +251,15 @@ module _ (u : UnitValue) where
       let P : ℕ → ℕ → Type 0 = λ a b. visits u (suc a) ≡ visits u b in
       let long : l.first < l.last = omega (arith, ended.begins, ended.ends, behind) in
       let apart : list_any (overlaps (span_of l)) (spans u) ≡ false = ap (λ x. list_any (overlaps x) (spans u)) ended.span ∙ some.2 in
-      let same = product_same (is_round (suc l.last)) (is_round l.first) (loops u) (λ k has. round_left l k long ended.is (member_is k has) (none_any (overlaps (span_of l)) (loops u) (finishes u) apart k has)) in
+      let same = product_same (is_round (suc l.last)) (is_round l.first) (loops u)
+      (λ k has. round_left l k long ended.is (member_is k has) (none_any (overlaps (span_of l)) (loops u) (finishes u) apart k has)) in
       (behind, subst (λ b. P at b) ended.begins (subst (λ a. P a l.first) ended.ends same))
 
 -- ---- one place on
 
 -- the count behind an instruction, cut, is what is reckoned from the counts so far
-pub next_measured : (u : UnitValue) (cut at here : ℕ) (before : List ℕ) (i : Instr) → IsOrderly u → slice_get u.code at ≡ Some i → here ≡ min (visits u at) cut → ((k : ℕ) → k < at → slice_index before k ≡ min (visits u k) cut)
+pub next_measured : (u : UnitValue) (cut at here : ℕ) (before : List ℕ) (i : Instr) → IsOrderly u → slice_get u.code at ≡ Some i → here ≡ min (visits u at) cut
+    → ((k : ℕ) → k < at → slice_index before k ≡ min (visits u k) cut)
     → visits_next cut before here i ≡ min (visits u (suc at)) cut
 next_measured u cut at here before (instr.For k lo hi e) blocks found is counted =
     ap (λ n. min (n * turns (loop_between lo hi)) cut) is

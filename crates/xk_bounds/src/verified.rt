@@ -86,7 +86,8 @@ impl Verified {
     /// The kinds that the slot may have before the instruction: those that walks end with there.
     pub fn kinds(&self, unit: u16, at: u16, slot: u16) -> KindSet
         requires { HasPlace self.now unit at slot }
-        ensures { (k : Kind) → IsTrue (kinds_have result k) ↔ IsVisitedIn self.now unit slot (visit at k) }
+        ensures { (k : Kind)
+            → IsTrue (kinds_have result k) ↔ IsVisitedIn self.now unit slot (visit at k) }
     {
         self.typed.kinds(unit, at, slot)
     }

@@ -56,7 +56,8 @@ begun_few : {X : Type 0} (begun : ℕ → Instr → Option X) (at : ℕ) (is : L
 begun_few begun at [] = omega arith
 begun_few {X} begun at (i ∷ is) = go (begun at i) (begun_few begun (suc at) is)
   where
-    go : (o : Option X) → length (begun_from begun (suc at) is) ≤ length is → length (option_map_or (λ x. x ∷ begun_from begun (suc at) is) o (begun_from begun (suc at) is)) ≤ suc (length is)
+    go : (o : Option X) → length (begun_from begun (suc at) is) ≤ length is
+        → length (option_map_or (λ x. x ∷ begun_from begun (suc at) is) o (begun_from begun (suc at) is)) ≤ suc (length is)
     go None le = omega arith
     go (Some x) le = omega arith
 

@@ -48,18 +48,21 @@ ends_inside f g apart p q = elim (cases_order g.last f.last) [
     | inl lt ↦ omega arith
     | inr gt ↦
         absurd (no_rise f.first g.first f.last g.last
-        (or_parts (nat_lt f.first g.first && nat_lt g.first f.last && nat_lt f.last g.last) (nat_lt g.first f.first && nat_lt f.first g.last && nat_lt g.last f.last) apart).0 p q gt)
+        (or_parts (nat_lt f.first g.first && nat_lt g.first f.last && nat_lt f.last g.last)
+        (nat_lt g.first f.first && nat_lt f.first g.last && nat_lt g.last f.last) apart).0 p q gt)
   ]
 ]
 
 -- ---- at an instruction
 
-begin_test : (u : UnitValue) (at e : ℕ) (i : Instr) → end_named i ≡ Some e → (is_jump i ≡ false) × (is_crossing u at i ≡ is_amiss u (span_begun u at i)) × (aims_well u at i ≡ lies_ahead u at e)
+begin_test : (u : UnitValue) (at e : ℕ) (i : Instr) → end_named i ≡ Some e
+    → (is_jump i ≡ false) × (is_crossing u at i ≡ is_amiss u (span_begun u at i)) × (aims_well u at i ≡ lies_ahead u at e)
 begin_test u at e (instr.For k lo hi x) h = (refl, refl, ap (lies_ahead u at) (same_Some x e h))
 begin_test u at e (instr.Finish x) h = (refl, refl, ap (lies_ahead u at) (same_Some x e h))
 begin_test u at e _ h = absurd (none-some e h)
 
-end_test : (u : UnitValue) (at b : ℕ) (i : Instr) → begin_named i ≡ Some b → (is_jump i ≡ false) × (is_crossing u at i ≡ is_amiss u (span_ended u at b (slice_get u.code b))) × (aims_well u at i ≡ nat_lt b at)
+end_test : (u : UnitValue) (at b : ℕ) (i : Instr) → begin_named i ≡ Some b
+    → (is_jump i ≡ false) × (is_crossing u at i ≡ is_amiss u (span_ended u at b (slice_get u.code b))) × (aims_well u at i ≡ nat_lt b at)
 end_test u at b (instr.Next x) h = let e = same_Some x b h in (refl, ap (λ n. is_amiss u (span_ended u at n (slice_get u.code n))) e, ap (λ n. nat_lt n at) e)
 end_test u at b (instr.EndFinish x) h = let e = same_Some x b h in (refl, ap (λ n. is_amiss u (span_ended u at n (slice_get u.code n))) e, ap (λ n. nat_lt n at) e)
 end_test u at b _ h = absurd (none-some b h)
@@ -172,8 +175,11 @@ module _ (u : UnitValue) (below : AreNestedBelow u (length u.code)) where
   begins_well at e i here names =
       let b = below.begun at e i (slice_get_within u.code at i here) here names in
       let has = has_span u at i (span at e) here b.1 in
-      let is = is_span u (span at e) has in
-      (and_from (nat_lt at e) (nat_lt e (length u.code)) (lt-ltb at e b.0) (lt-ltb e (length u.code) (slice_get_within u.code e is.end is.ends)), ap (is_amiss u) b.1 ∙ alone (span at e) has)
+      let is = is_span u (span at e) has in (
+        and_from (nat_lt at e) (nat_lt e (length u.code)) (lt-ltb at e b.0) (lt-ltb e (length u.code) (slice_get_within u.code e is.end is.ends)),
+        ap (is_amiss u) b.1 ∙ alone
+            (span at e) has,
+      )
 
   -- and what ends there
   ends_well : (at b : ℕ) (i : Instr) → slice_get u.code at ≡ Some i → begin_named i ≡ Some b → (nat_lt b at ≡ true) × (is_amiss u (span_ended u at b (slice_get u.code b)) ≡ false)

@@ -47,7 +47,8 @@ none_chosen : (p : Span → Bool) (fs : List Span) → last_or None (around p fs
 none_chosen p [] h g has = absurd has
 none_chosen p (f ∷ fs) h g has = go (p f) refl (none_chosen p fs) h has
   where
-    go : (b : Bool) → p f ≡ b → (last_or None (around p fs) ≡ None → NoneChosen p fs) → last_or None (map (λ x. x.first) (cond b (f ∷ filter p fs) (filter p fs))) ≡ None → Has (f ∷ fs) g → p g ≡ false
+    go : (b : Bool) → p f ≡ b → (last_or None (around p fs) ≡ None → NoneChosen p fs) → last_or None (map (λ x. x.first) (cond b (f ∷ filter p fs) (filter p fs))) ≡ None
+        → Has (f ∷ fs) g → p g ≡ false
     go true e rest l x = absurd (last_some (around p fs) f.first l)
     go false e rest l (inl same) = ap p (sym same) ∙ e
     go false e rest l (inr x) = rest l g x
@@ -105,7 +106,8 @@ module _ (u : UnitValue) (nested : AreNested u) where
       ])
 
   -- of two places with one innermost finish
-  all_around : (a b m : ℕ) → LastChosen (is_inside a) (finishes u) m → LastChosen (is_inside b) (finishes u) m → (g : Span) → Has (finishes u) g → is_inside a g ≡ true → is_inside b g ≡ true
+  all_around : (a b m : ℕ) → LastChosen (is_inside a) (finishes u) m → LastChosen (is_inside b) (finishes u) m → (g : Span) → Has (finishes u) g → is_inside a g ≡ true
+      → is_inside b g ≡ true
   all_around a b m at_a at_b g has on =
       let f = at_b.f in
       let of_a = (decides_inside a at_a.f).0 at_a.on in

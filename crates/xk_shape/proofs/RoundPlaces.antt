@@ -134,7 +134,8 @@ module _ (u : UnitValue) where
             let slot = slot_is u own k e lo hi has_own (ap (slice_get u.code) first ∙ here) in
             let begin = same_Some _ _ (sym (is_loop u own has_own).here ∙ ap (slice_get u.code) first ∙ here) in
             let last : own.last ≡ e = same_Some own.last e (ap end_named begin) in
-            has_any (test (suc at)) (loops u) own has_own (and_from (is_round (suc at) own) (s == own.slot) ((decides_inside (suc at) (span_of own)).1 (omega arith, omega arith)) (ap (λ n. s == n) slot ∙ own_slot))
+            has_any (test (suc at)) (loops u) own has_own (and_from (is_round (suc at) own) (s == own.slot)
+            ((decides_inside (suc at) (span_of own)).1 (omega arith, omega arith)) (ap (λ n. s == n) slot ∙ own_slot))
         | inr counted ↦
             let r = any_found (test at) (loops u) counted in
             let parts = and_parts (is_round at r.0) (s == r.0.slot) r.2 in
@@ -154,11 +155,13 @@ module _ (u : UnitValue) where
   pub place_stays : (at : ℕ) (i : Instr) (p : Place) → slice_get u.code at ≡ Some i → end_named i ≡ None → begin_named i ≡ None → LiesSo u at p → LiesSo u (at + 1) p
   place_stays at i p here no_e no_b so = lies_next at p (lies_as (suc at) at p (stays at i here no_e no_b) so)
 
-  pub place_leaves : (at b : ℕ) (i : Instr) (p : Place) → slice_get u.code at ≡ Some i → begin_named i ≡ Some b → AreNestedBelow u at → b < at → Has (spans u) (span b at) → IsInNoneBehind u at b
+  pub place_leaves : (at b : ℕ) (i : Instr) (p : Place) → slice_get u.code at ≡ Some i → begin_named i ≡ Some b → AreNestedBelow u at → b < at → Has (spans u) (span b at)
+      → IsInNoneBehind u at b
       → LiesSo u b p → LiesSo u (at + 1) p
   place_leaves at b i p here names below before has none so = lies_next at p (lies_as (suc at) b p (leaves at b i here names below before has none) so)
 
-  pub place_loops : (at k e : ℕ) (lo hi : ℤ) (p q : Place) → slice_get u.code at ≡ Some (instr.For k lo hi e) → at < e → span_begun u at (instr.For k lo hi e) ≡ Some (span at e) → LiesSo u at p
+  pub place_loops : (at k e : ℕ) (lo hi : ℤ) (p q : Place) → slice_get u.code at ≡ Some (instr.For k lo hi e) → at < e
+      → span_begun u at (instr.For k lo hi e) ≡ Some (span at e) → LiesSo u at p
       → q.within ≡ Some at → q.finish ≡ p.finish → q.depth ≡ p.depth → ((s : ℕ) → s < 64 → has_slot q.counters s ≡ ((s == k) || has_slot p.counters s))
       → LiesSo u (at + 1) q
   place_loops at k e lo hi p q here ahead begun so within finish depth counters =
@@ -214,12 +217,14 @@ module _ (u : UnitValue) where
     ];
   }
 
-  pub below_begins : (at e : ℕ) (i : Instr) → slice_get u.code at ≡ Some i → end_named i ≡ Some e → AreNestedBelow u at → at < e → span_begun u at i ≡ Some (span at e) → AreNestedBelow u (at + 1)
+  pub below_begins : (at e : ℕ) (i : Instr) → slice_get u.code at ≡ Some i → end_named i ≡ Some e → AreNestedBelow u at → at < e → span_begun u at i ≡ Some (span at e)
+      → AreNestedBelow u (at + 1)
   below_begins at e i here names below ahead begun = below_more at i here below
       (λ x named. subst (λ n. (at < n) × (span_begun u at i ≡ Some (span at n))) (same_Some e x (sym names ∙ named)) (ahead, begun))
       (λ b named. absurd (none-some b (sym (ends_none i e names) ∙ named)))
 
-  pub below_ends : (at b : ℕ) (i : Instr) → slice_get u.code at ≡ Some i → begin_named i ≡ Some b → AreNestedBelow u at → b < at → Has (spans u) (span b at) → IsInNoneBehind u at b → AreNestedBelow u (at + 1)
+  pub below_ends : (at b : ℕ) (i : Instr) → slice_get u.code at ≡ Some i → begin_named i ≡ Some b → AreNestedBelow u at → b < at → Has (spans u) (span b at)
+      → IsInNoneBehind u at b → AreNestedBelow u (at + 1)
   below_ends at b i here names below before has none = below_more at i here below
       (λ e named. absurd (none-some e (sym (begins_none i b names) ∙ named)))
       (λ x named. subst (λ n. (n < at) × Has (spans u) (span n at) × IsInNoneBehind u at n) (same_Some b x (sym names ∙ named)) (before, has, none))

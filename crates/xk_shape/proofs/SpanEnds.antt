@@ -116,7 +116,8 @@ pub slot_is : (u : UnitValue) (l : Loop) (k e : ℕ) (lo hi : ℤ) → Has (loop
 slot_is u l k e lo hi h here = let is = is_loop u l h in let same = same_Some _ _ (sym is.here ∙ here) in cc
 
 finish_is : (u : UnitValue) (at : ℕ) (i : Instr) (f : Span) → slice_get u.code at ≡ Some i → finish_opened u at i ≡ Some f → slice_get u.code f.first ≡ Some (instr.Finish f.last)
-finish_is u at (instr.Finish e) f here h = subst (λ (s : Span). slice_get u.code s.first ≡ Some (instr.Finish s.last)) (cond_some (is_end_of at (slice_get u.code e)) (span at e) f h).1 here
+finish_is u at (instr.Finish e) f here h = subst (λ (s : Span). slice_get u.code s.first ≡ Some (instr.Finish s.last))
+    (cond_some (is_end_of at (slice_get u.code e)) (span at e) f h).1 here
 finish_is u at _ f here h = absurd (none-some f h)
 
 -- a finish begins with a `finish`

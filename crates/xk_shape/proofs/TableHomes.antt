@@ -55,7 +55,8 @@ never_made s code k h made =
 -- ---- the blocks that make a clock
 
 -- a block that makes it passes
-made_some : (u : UnitValue) (s : ℕ) (test : List ℕ → Bool) (at : ℕ) (is : List Instr) (k : ℕ) → Makes s is k → test (block_at u (at + k)) ≡ true → list_any test (made_from u s at is) ≡ true
+made_some : (u : UnitValue) (s : ℕ) (test : List ℕ → Bool) (at : ℕ) (is : List Instr) (k : ℕ) → Makes s is k → test (block_at u (at + k)) ≡ true
+    → list_any test (made_from u s at is) ≡ true
 made_some u s test at [] k made on = absurd (none-some _ made)
 made_some u s test at (i ∷ is) zero made on =
     let here : at + 0 ≡ at = omega arith in
@@ -122,7 +123,8 @@ module _ (u : UnitValue) where
       let none = (unhandled k (instr.Make s) at_k unbroken).1 in
       let same : 0 + p ≡ p = omega arith in
       (decides_block (block_at u k) (block_at u p)).0 (not-false _ (false_from_ne_true _ (λ on.
-      both_ways (list_any test (made_from u s 0 (take k u.code))) none (made_some u s test 0 (take k u.code) p (take_get k u.code p lt ∙ at_p) (ap (λ n. test (block_at u n)) same ∙ on)))))
+      both_ways (list_any test (made_from u s 0 (take k u.code))) none
+      (made_some u s test 0 (take k u.code) p (take_get k u.code p lt ∙ at_p) (ap (λ n. test (block_at u n)) same ∙ on)))))
 
   pub first_alike : (s p k : ℕ) → position (makes s) u.code ≡ Some p → Makes s u.code k → breaks_home u k ≡ false → block_at u k ≡ block_at u p
   first_alike s p k found made unbroken =
@@ -144,9 +146,11 @@ module _ (u : UnitValue) where
           let first = first_made s u.code p e in
           same_test (test (block_at u p)) (moves_home u at (instr.Make s))
           (λ on. elim (cases_order p at) [
-            | inl same ↦ absurd (both_ways (same_block (block_at u at) (block_at u p)) (not-true _ on) ((decides_block (block_at u at) (block_at u p)).1 (ap (block_at u) (sym same))))
+            | inl same ↦ absurd (both_ways (same_block (block_at u at) (block_at u p)) (not-true _ on)
+                ((decides_block (block_at u at) (block_at u p)).1 (ap (block_at u) (sym same))))
             | inr other ↦ elim other [
-              | inl lt ↦ let zeroth : 0 + p ≡ p = omega arith in made_some u s test 0 (take at u.code) p (take_get at u.code p lt ∙ first.0) (ap (λ n. test (block_at u n)) zeroth ∙ on)
+              | inl lt ↦ let zeroth : 0 + p ≡ p = omega arith in made_some u s test 0 (take at u.code) p (take_get at u.code p lt ∙ first.0)
+                  (ap (λ n. test (block_at u n)) zeroth ∙ on)
               | inr gt ↦ absurd (first.1 at gt here)
             ]
           ])

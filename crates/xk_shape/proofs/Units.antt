@@ -61,10 +61,14 @@ pub unit_at : (units : List UnitValue) (m : ModuleValue) (n : ℕ) (u : UnitValu
 unit_at units m n u listed inside is =
     ap (λ us. slice_get us n) (sym listed) ∙ slice_get-get_or units n u inside ∙ ap Some (sym is)
 
-pub blocks_of : (m : ModuleValue) (u : UnitValue) (unit : ℕ) → IsWithinLimits m → IsNowhereBroken m rule.Target → IsNowhereBroken m rule.Block → IsNowhereBroken m rule.Slot → IsNowhereBroken m rule.Home
+pub blocks_of : (m : ModuleValue) (u : UnitValue) (unit : ℕ) → IsWithinLimits m → IsNowhereBroken m rule.Target → IsNowhereBroken m rule.Block → IsNowhereBroken m rule.Slot
+    → IsNowhereBroken m rule.Home
     → slice_get m.units unit ≡ Some u
     → HasBlocks u
-blocks_of m u unit limits targets blocks slots homes found = record { orderly = orderly_of m u unit limits targets blocks slots found; homes = unbroken_in m u rule.Home unit homes found }
+blocks_of m u unit limits targets blocks slots homes found = record {
+  orderly = orderly_of m u unit limits targets blocks slots found;
+  homes = unbroken_in m u rule.Home unit homes found;
+}
 
 -- a unit of a module that has the shape has blocks, and its slots are at home in no more than one
 pub blocks_of_shape : (m : ModuleValue) (u : UnitValue) (unit : ℕ) → IsWithinLimits m → HasShape m → slice_get m.units unit ≡ Some u → HasBlocks u

@@ -1,5 +1,5 @@
 -- How the places of a unit lie to its loops and finishes.
-use Rattle.std.specs.Prelude.{◌≡◌, ℕ, ◌<◌, ◌≤◌, ◌&&◌, ◌==◌, Bool, true, false, List, Option, Some, None, slice_get}
+use Rattle.std.specs.Prelude.{◌≡◌, ℕ, ◌<◌, ◌≤◌, ◌&&◌, ◌==◌, Bool, true, false, List, length, Option, Some, None, slice_get}
 use Rattle.std.specs.Int.{bit_at}
 use Rattle.std.specs.List.{list_any, last_or}
 use Rattle.xk_types.specs.Order.{Has}
@@ -44,3 +44,7 @@ pub record LiesSo (u : UnitValue) (at : ℕ) (p : Place) : Type 0 where
 -- so lie the first places
 abbrev pub AreFirstPlaces : UnitValue → List Place → Type 0
 AreFirstPlaces u places = (at : ℕ) (p : Place) → slice_get places at ≡ Some p → LiesSo u at p
+
+-- so lie all of them
+abbrev pub ArePlaces : UnitValue → List Place → Type 0
+ArePlaces u places = (length places ≡ length u.code) × AreFirstPlaces u places

@@ -2,7 +2,7 @@
 use Rattle.std.specs.Prelude.{◌≡◌, ℕ, ◌<◌, Bool, List, length, slice_get, Option, Some, if◌then◌else◌}
 use Rattle.std.specs.List.{position}
 use Rattle.xk_types.specs.Code.{UnitValue}
-use Rattle.xk_types.specs.Blocks.{block_at, takes_clock, makes, homes, is_elsewhere}
+use Rattle.xk_types.specs.Blocks.{block_at, same_block, takes_clock, makes, homes, is_elsewhere}
 use Rattle.xk_shape.specs.Places.{AreFirstPlaces}
 use Rattle.xk_shape.specs.declared.tables.Tables.{Tables}
 
@@ -14,6 +14,10 @@ home_place u s = if takes_clock (slice_get u.params s) then Some 0 else position
 -- so the first slots have their homes
 abbrev pub AreFirstHomes : UnitValue → List (Option ℕ) → Type 0
 AreFirstHomes u hs = (s : ℕ) → s < length hs → slice_get hs s ≡ Some (home_place u s)
+
+-- the two places stand directly in the same block
+abbrev pub is_one_block : UnitValue → ℕ → ℕ → Bool
+is_one_block u a b = same_block (block_at u a) (block_at u b)
 
 -- the slot has a home, and it is another block than that of the place
 abbrev pub is_at_home_elsewhere : UnitValue → ℕ → ℕ → Bool

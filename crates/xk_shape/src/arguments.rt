@@ -44,7 +44,9 @@ impl<'a> Arguments<'a> {
 
     /// Takes the first for a clock, and what stands before it.
     pub fn take_clock(&mut self) -> Option<u16>
-        ensures { MatchOption result (clocks self.old ≡ []) (λ x. clocks self.old ≡ x ∷ clocks self.new) }
+        ensures { MatchOption result
+            (clocks self.old ≡ [])
+            (λ x. clocks self.old ≡ x ∷ clocks self.new) }
     {
         while let Some((param, slot)) = self.take_next() {
             match param {

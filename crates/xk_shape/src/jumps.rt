@@ -130,7 +130,8 @@ fn writes_counter(u: &Unit, tables: &Tables, at: u16, instr: &Instr) -> bool
     requires orderly { IsOrderly u.now }
     requires tables { AreTables u.now tables.now }
     requires here { slice_get u.now.code at ≡ Some instr.now }
-    ensures { result ≡ list_any (λ l. is_within at l && writes_slot l.slot instr.now) (loops u.now) }
+    ensures { result
+        ≡ list_any (λ l. is_within at l && writes_slot l.slot instr.now) (loops u.now) }
 {
     match slot_written(instr) {
         Some(slot) => tables.is_counter(slot, at),

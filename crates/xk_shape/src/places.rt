@@ -2,7 +2,7 @@
 
 ghost use Rattle.std.specs.Prelude.{◌≡◌, ℕ, ◌+◌, ◌<◌, ◌≤◌, ◌||◌, ◌==◌, length, IfOk, MatchOption};
 ghost use Rattle.xk_shape.specs.Nests.{AreNested, AreNestedBelow};
-ghost use Rattle.xk_shape.specs.Places.{has_slot, LiesSo, AreFirstPlaces};
+ghost use Rattle.xk_shape.specs.Places.{has_slot, LiesSo, AreFirstPlaces, ArePlaces};
 
 use crate::nesting::{begins_span, ends_span};
 use std::alloc::{AllocError, Global};
@@ -32,8 +32,9 @@ const OUTSIDE: Place = Place {
 /// How each place of a unit lies, or nothing where its loops and finishes don't nest. The error is that room was refused.
 pub(crate) fn places(alloc: Global, u: &Unit) -> Result<Option<Vec<Place>>, AllocError>
     requires { length u.now.code ≤ 4096 }
-    ensures { IfOk result (λ found. MatchOption found (¬ AreNested u.now)
-        (λ ps. AreNested u.now × (length ps.items ≡ length u.now.code) × AreFirstPlaces u.now ps.items)) }
+    ensures { IfOk result (λ found. MatchOption found
+        (¬ AreNested u.now)
+        (λ ps. AreNested u.now × ArePlaces u.now ps.items)) }
 {
     let mut found = Vec::new(alloc);
     let mut here = OUTSIDE;

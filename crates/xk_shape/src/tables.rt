@@ -4,13 +4,13 @@ ghost use Rattle.std.specs.Prelude.{◌≡◌, ℕ, ◌<◌, ◌≤◌, not, fal
 ghost use Rattle.std.specs.List.{list_any, position};
 ghost use Rattle.std.specs.Option.{option_map_or};
 ghost use Rattle.xk_types.specs.Code.{UnitValue};
-ghost use Rattle.xk_types.specs.Blocks.{block_at, same_block, takes_clock, makes, homes, is_here, is_elsewhere, is_inside, depth_at};
+ghost use Rattle.xk_types.specs.Blocks.{block_at, takes_clock, makes, homes, is_here, is_inside, depth_at};
 ghost use Rattle.xk_types.specs.Bound.{nesting};
 ghost use Rattle.xk_types.specs.Shape.{spans, differ};
 ghost use Rattle.xk_shape.specs.Nests.{AreNested};
 ghost use Rattle.xk_shape.specs.Places.{innermost, is_counter};
 ghost use Rattle.xk_shape.specs.Blocks.{IsOrderly, HasBlocks};
-ghost use Rattle.xk_shape.specs.Tables.{home_place, AreFirstHomes, AreTables};
+ghost use Rattle.xk_shape.specs.Tables.{home_place, AreFirstHomes, AreTables, is_at_home_elsewhere, is_one_block};
 
 use crate::places::{Place, has_slot, places};
 use std::alloc::{AllocError, Global};
@@ -27,7 +27,9 @@ impl Tables {
     /// Those of a unit, or nothing where its loops and finishes don't nest. The error is that room for them was refused.
     pub(crate) fn of(alloc: Global, u: &Unit) -> Result<Option<Tables>, AllocError>
         requires { length u.now.code ≤ 4096 }
-        ensures { IfOk result (λ found. MatchOption found (¬ AreNested u.now) (λ t. AreNested u.now × AreTables u.now t)) }
+        ensures { IfOk result (λ found. MatchOption found
+            (¬ AreNested u.now)
+            (λ t. AreNested u.now × AreTables u.now t)) }
     {
         match places(alloc, u)? {
             Some(places) => Ok(Some(Tables {
@@ -56,7 +58,10 @@ impl Tables {
     /// Whether a loop round the place counts its turns in the slot.
     pub(crate) fn is_counter(&self, slot: u16, at: u16) -> bool
         requires { slot < 64 }
-        ensures { (u : UnitValue) → AreTables u self.now → at < length u.code → result ≡ is_counter u at slot }
+        ensures { (u : UnitValue)
+            → AreTables u self.now
+            → at < length u.code
+            → result ≡ is_counter u at slot }
     {
         match self.places.get(at as usize) {
             Some(place) => has_slot(place.counters, slot),
@@ -87,7 +92,10 @@ impl Tables {
 
     /// Whether the slot has a home, and the place stands directly in it.
     pub(crate) fn is_in_home(&self, slot: u16, at: usize) -> bool
-        ensures { (u : UnitValue) → HasBlocks u → AreTables u self.now → result ≡ is_here (block_at u at) (homes u slot) }
+        ensures { (u : UnitValue)
+            → HasBlocks u
+            → AreTables u self.now
+            → result ≡ is_here (block_at u at) (homes u slot) }
     {
         match self.home(slot) {
             Some(home) => self.is_one_block(at, home),
@@ -100,7 +108,7 @@ impl Tables {
         ensures { (u : UnitValue)
             → IsOrderly u
             → AreTables u self.now
-            → result ≡ option_map_or (λ home. not (same_block (block_at u at) (block_at u home))) (home_place u slot) false }
+            → result ≡ option_map_or (λ home. not (is_one_block u at home)) (home_place u slot) false }
     {
         match self.home(slot) {
             Some(home) => !self.is_one_block(at, home),
@@ -110,7 +118,10 @@ impl Tables {
 
     /// Whether the slot has a home, and the place stands directly in another block.
     pub(crate) fn is_elsewhere(&self, slot: u16, at: usize) -> bool
-        ensures { (u : UnitValue) → HasBlocks u → AreTables u self.now → result ≡ is_elsewhere (block_at u at) (homes u slot) }
+        ensures { (u : UnitValue)
+            → HasBlocks u
+            → AreTables u self.now
+            → result ≡ is_at_home_elsewhere u at slot }
     {
         self.is_away(slot, at)
     }
@@ -133,7 +144,7 @@ impl Tables {
         ensures { (u : UnitValue)
             → AreNested u
             → AreTables u self.now
-            → result ≡ same_block (block_at u a) (block_at u b) }
+            → result ≡ is_one_block u a b }
     {
         self.finish_of(a) == self.finish_of(b)
     }

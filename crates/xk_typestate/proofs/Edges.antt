@@ -16,7 +16,8 @@ same_visit p q e f = ap (λ n. visit n p.kind) e ∙ ap (visit q.at) f
 
 module _ (m : ModuleValue) (u : UnitValue) (s : ℕ) where
   -- an edge, where the instruction is known
-  pub edge_of : (p : Visit) (i : Instr) (to : ℕ) (k : Kind) → slice_get u.code p.at ≡ Some i → Has (successors i p.at) to → MayBecome (after m u i s p.kind) k → IsEdge m u s p (visit to k)
+  pub edge_of : (p : Visit) (i : Instr) (to : ℕ) (k : Kind) → slice_get u.code p.at ≡ Some i → Has (successors i p.at) to → MayBecome (after m u i s p.kind) k
+      → IsEdge m u s p (visit to k)
   edge_of p i to k found place kind = record {
     place = let P : Option Instr → Type 0 = λ o. Has (places_after o p.at) to in subst P (sym found) place;
     kind = let P : Option Instr → Type 0 = λ o. MayBecome (row_of m u s p.kind o) k in subst P (sym found) kind;

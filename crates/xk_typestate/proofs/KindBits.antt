@@ -18,11 +18,41 @@ on_self : (n m : ℕ) → is_on (bit_or n m) m ≡ not (m == 0)
 on_self n m = ap (λ x. not (x == 0)) (and_or_self m n)
 
 of_with : (n : ℕ) (k : Kind) → kinds_of (bit_or n (kind_bit k)) ≡ kinds_with (kinds_of n) k
-of_with n kind.Unset i = record { unset = on_self n 1 i; number = on_apart n 1 2 refl i; live = on_apart n 1 4 refl i; resumed = on_apart n 1 8 refl i; out = on_apart n 1 16 refl i }
-of_with n kind.Number i = record { unset = on_apart n 2 1 refl i; number = on_self n 2 i; live = on_apart n 2 4 refl i; resumed = on_apart n 2 8 refl i; out = on_apart n 2 16 refl i }
-of_with n kind.Live i = record { unset = on_apart n 4 1 refl i; number = on_apart n 4 2 refl i; live = on_self n 4 i; resumed = on_apart n 4 8 refl i; out = on_apart n 4 16 refl i }
-of_with n kind.Resumed i = record { unset = on_apart n 8 1 refl i; number = on_apart n 8 2 refl i; live = on_apart n 8 4 refl i; resumed = on_self n 8 i; out = on_apart n 8 16 refl i }
-of_with n kind.Out i = record { unset = on_apart n 16 1 refl i; number = on_apart n 16 2 refl i; live = on_apart n 16 4 refl i; resumed = on_apart n 16 8 refl i; out = on_self n 16 i }
+of_with n kind.Unset i = record {
+  unset = on_self n 1 i;
+  number = on_apart n 1 2 refl i;
+  live = on_apart n 1 4 refl i;
+  resumed = on_apart n 1 8 refl i;
+  out = on_apart n 1 16 refl i;
+}
+of_with n kind.Number i = record {
+  unset = on_apart n 2 1 refl i;
+  number = on_self n 2 i;
+  live = on_apart n 2 4 refl i;
+  resumed = on_apart n 2 8 refl i;
+  out = on_apart n 2 16 refl i;
+}
+of_with n kind.Live i = record {
+  unset = on_apart n 4 1 refl i;
+  number = on_apart n 4 2 refl i;
+  live = on_self n 4 i;
+  resumed = on_apart n 4 8 refl i;
+  out = on_apart n 4 16 refl i;
+}
+of_with n kind.Resumed i = record {
+  unset = on_apart n 8 1 refl i;
+  number = on_apart n 8 2 refl i;
+  live = on_apart n 8 4 refl i;
+  resumed = on_self n 8 i;
+  out = on_apart n 8 16 refl i;
+}
+of_with n kind.Out i = record {
+  unset = on_apart n 16 1 refl i;
+  number = on_apart n 16 2 refl i;
+  live = on_apart n 16 4 refl i;
+  resumed = on_apart n 16 8 refl i;
+  out = on_self n 16 i;
+}
 
 no_bits : (s : KindsValue) → s.unset ≡ false → s.number ≡ false → s.live ≡ false → s.resumed ≡ false → s.out ≡ false → bits_of s ≡ 0
 no_bits s a b c d e = ap bits_of (λ i. record { unset = a i; number = b i; live = c i; resumed = d i; out = e i })
@@ -43,7 +73,8 @@ bit_small kind.Out = lit< tt
 pub with_bit : (n r : ℕ) (k : Kind) (s : KindsValue) → r ≡ kind_bit k → kinds_of n ≡ s → kinds_of (bit_or n r) ≡ kinds_with s k
 with_bit n r k s e is = ap (λ x. kinds_of (bit_or n x)) e ∙ of_with n k ∙ ap (λ x. kinds_with x k) is
 
-pub has_with : (n r : ℕ) (k : Kind) (s : KindsValue) → r ≡ kind_bit k → kinds_of n ≡ s → (x : Kind) → IsTrue (kinds_have (kinds_of (bit_or n r)) x) ↔ ((x ≡ k) ⊎ IsTrue (kinds_have s x))
+pub has_with : (n r : ℕ) (k : Kind) (s : KindsValue) → r ≡ kind_bit k → kinds_of n ≡ s → (x : Kind)
+    → IsTrue (kinds_have (kinds_of (bit_or n r)) x) ↔ ((x ≡ k) ⊎ IsTrue (kinds_have s x))
 has_with n r k s e is x =
     let same = ap (λ v. kinds_have v x) (with_bit n r k s e is) in (
       λ t. have_only s k x (sym same ∙ t),

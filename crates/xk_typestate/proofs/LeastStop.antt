@@ -64,7 +64,8 @@ moved : (m : ModuleValue) (u : UnitValue) (s n at : ℕ) (q : Visit) (r : Rule) 
 moved m u s n at q r same here h =
     subst (λ x. IsRefusedIn m u n (visit x q.kind) r) here (subst (λ x. IsRefusedIn m u x q r) (sym same) h)
 
-module _ (m : ModuleValue) (u : UnitValue) (table : List (List KindsValue)) (exact : IsKindTable m u table) (at n : ℕ) (kinds : KindsValue) (is : kinds ≡ kinds_in table n at) (inside : n < u.slots) where
+module _ (m : ModuleValue) (u : UnitValue) (table : List (List KindsValue)) (exact : IsKindTable m u table) (at n : ℕ) (kinds : KindsValue) (is : kinds ≡ kinds_in table n at)
+    (inside : n < u.slots) where
   seen_visited_there : (k : Kind) → IsTrue (kinds_have kinds k) → IsVisited m u n (visit at k)
   seen_visited_there k has = ((exact.each n inside).exact (visit at k)).0 (sym (ap (λ x. kinds_have x k) is) ∙ has)
 
@@ -90,7 +91,8 @@ module _ (m : ModuleValue) (u : UnitValue) (table : List (List KindsValue)) (exa
       let there : IsRefusedIn m u n (visit at stop.kind) stop.rule = record { slot = inside; visited = seen_visited_there stop.kind first.kind; refused = first.refused } in
       record {
         here = first.here;
-        refused = subst (λ x. IsRefusedIn m u x (visit stop.at stop.kind) stop.rule) (sym first.slot) (subst (λ x. IsRefusedIn m u n (visit x stop.kind) stop.rule) (sym first.here) there);
+        refused = subst (λ x. IsRefusedIn m u x (visit stop.at stop.kind) stop.rule) (sym first.slot)
+            (subst (λ x. IsRefusedIn m u n (visit x stop.kind) stop.rule) (sym first.here) there);
         least = λ s q r here h. elim (cases_order n s) [
           | inl same ↦
               let moved_here = moved m u s n at q r same here h in

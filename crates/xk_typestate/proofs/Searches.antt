@@ -115,7 +115,8 @@ module _ (m : ModuleValue) (u : UnitValue) (s : ℕ) where
   came_inside closed found n q (Some j) c = edge_inside m u s closed c.1.0.stop q c.1.2
 
   -- one stop more
-  module _ (seen : List KindsValue) (found : List Found) (done : ℕ) (q : Visit) (from : Option ℕ) (inside : q.at < length seen) (fresh : holds seen q ≡ false) (so_far : AreSearched m u s seen found done) (leads : Came m u s found (length found) q from) (latest : IsLatest found from) (now : NotBehind from (Some done)) where
+  module _ (seen : List KindsValue) (found : List Found) (done : ℕ) (q : Visit) (from : Option ℕ) (inside : q.at < length seen) (fresh : holds seen q ≡ false)
+      (so_far : AreSearched m u s seen found done) (leads : Came m u s found (length found) q from) (latest : IsLatest found from) (now : NotBehind from (Some done)) where
     abbrev one : Found
     one = record { stop = q; from = from }
 
@@ -395,7 +396,8 @@ pub record ArePut (old now : Search) (to : ℕ) (kinds : KindsValue) (from : Opt
   pub latest : IsLatest old.found.items from → IsLatest now.found.items from
   pub searched : (m : ModuleValue) (u : UnitValue) (s done : ℕ) → IsSearched m u s old done → CanCome m u s done old to kinds from → IsSearched m u s now done
 
-module _ (old now : Search) (to : ℕ) (kinds : KindsValue) (from : Option ℕ) (n : ℕ) (d : Kind) (b : Bool) (is : b ≡ kinds_have kinds (get_or five n d)) (so_far : ArePut old now to kinds from n) where
+module _ (old now : Search) (to : ℕ) (kinds : KindsValue) (from : Option ℕ) (n : ℕ) (d : Kind) (b : Bool) (is : b ≡ kinds_have kinds (get_or five n d))
+    (so_far : ArePut old now to kinds from n) where
   -- a kind that isn't in the set
   pub are_put_skip : b ≡ false → ArePut old now to kinds from (n + 1)
   are_put_skip out = record {
@@ -426,7 +428,8 @@ module _ (old now : Search) (to : ℕ) (kinds : KindsValue) (from : Option ℕ) 
         latest = λ h. latest_put now next (visit to (get_or five n d)) from put (so_far.latest h);
         searched = λ m u s done first can.
             let on = can_come_on m u s done old now to kinds from so_far.grown (so_far.latest can.latest) can in
-            searched_put m u s now next done (visit to (get_or five n d)) from inside put (so_far.searched m u s done first can) (on.come (get_or five n d) (sym is ∙ has_it)) on.latest on.now;
+            searched_put m u s now next done (visit to (get_or five n d)) from inside put (so_far.searched m u s done first can)
+            (on.come (get_or five n d) (sym is ∙ has_it)) on.latest on.now;
       }
 
 pub are_put_none : (r : Search) (to : ℕ) (kinds : KindsValue) (from : Option ℕ) → ArePut r r to kinds from 0

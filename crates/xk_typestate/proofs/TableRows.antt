@@ -10,7 +10,8 @@ one_row a k set e h =
     (k ∷ [], e, λ x. (λ t. inl (sym ((h x).0 t)), λ w. elim w [ inl f ↦ (h x).1 (sym f) | inr never ↦ absurd never ]))
 
 -- two kinds, the second of them added to the first
-pub two_row : (a : After) (j k : Kind) (one set : KindsValue) → a ≡ To (j ∷ k ∷ []) → ((x : Kind) → IsTrue (kinds_have one x) ↔ (x ≡ j)) → ((x : Kind) → IsTrue (kinds_have set x) ↔ ((x ≡ k) ⊎ IsTrue (kinds_have one x))) → IsRow a (Ok set)
+pub two_row : (a : After) (j k : Kind) (one set : KindsValue) → a ≡ To (j ∷ k ∷ []) → ((x : Kind) → IsTrue (kinds_have one x) ↔ (x ≡ j))
+    → ((x : Kind) → IsTrue (kinds_have set x) ↔ ((x ≡ k) ⊎ IsTrue (kinds_have one x))) → IsRow a (Ok set)
 two_row a j k one set e h more = (
   j ∷ k ∷ [],
   e,

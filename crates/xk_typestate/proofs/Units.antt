@@ -24,7 +24,8 @@ abbrev pub IsUnrefusedBelow : ModuleValue → ℕ → Type 0
 IsUnrefusedBelow m n = (unit : ℕ) (u : UnitValue) → unit < n → slice_get m.units unit ≡ Some u → IsNeverRefusedIn m u
 
 -- the least fault of the first unit that has one is the least of the module
-pub fault_of_unit : (m : ModuleValue) (unit : ℕ) (u : UnitValue) (f : KindFault) → slice_get m.units unit ≡ Some u → IsUnrefusedBelow m unit → IsUnitFault m unit u f → IsKindFault m f
+pub fault_of_unit : (m : ModuleValue) (unit : ℕ) (u : UnitValue) (f : KindFault) → slice_get m.units unit ≡ Some u → IsUnrefusedBelow m unit → IsUnitFault m unit u f
+    → IsKindFault m f
 fault_of_unit m unit u f found below h =
     let at_unit : slice_get m.units f.unit ≡ Some u = ap (slice_get m.units) h.unit_is ∙ found in
     record {

@@ -71,7 +71,8 @@ impl KindSet {
     /// The set with one kind more.
     pub fn with(self, kind: Kind) -> KindSet
         ensures made { result ≡ kinds_with self kind }
-        ensures has { (k : Kind) → IsTrue (kinds_have result k) ↔ ((k ≡ kind) ⊎ IsTrue (kinds_have self k)) }
+        ensures has { (k : Kind)
+            → IsTrue (kinds_have result k) ↔ ((k ≡ kind) ⊎ IsTrue (kinds_have self k)) }
     {
         KindSet {
             bits: self.bits | bit(kind),

@@ -43,7 +43,9 @@ fn stop_at(m: &Module, u: &Unit, blocks: &Blocks, table: &KindTable, at: u16) ->
     requires blocks { blocks.now ≡ u.now }
     requires table { IsKindTable m.now u.now table.now }
     requires inside { at < length u.now.code }
-    ensures { MatchOption result (IsNeverRefusedThere m.now u.now at) (IsFirstThere m.now u.now at) }
+    ensures { MatchOption result
+        (IsNeverRefusedThere m.now u.now at)
+        (IsFirstThere m.now u.now at) }
 {
     for slot in 0..u.slots {
         if let Some(stop) = stop_of(m, u, blocks, at, slot, table.kinds(at, slot)) {
@@ -64,7 +66,9 @@ fn stop_of(
 ) -> Option<Stop>
     requires blocks { blocks.now ≡ u.now }
     requires inside { at < length u.now.code }
-    ensures { MatchOption result (AreAllowed m.now u.now slot at kinds) (IsFirstKind m.now u.now slot at kinds) }
+    ensures { MatchOption result
+        (AreAllowed m.now u.now slot at kinds)
+        (IsFirstKind m.now u.now slot at kinds) }
 {
     for kind in KINDS {
         if let Some(rule) = refusal_of(m, u, blocks, at, slot, kinds, kind) {

@@ -303,7 +303,9 @@ fn let_go(kind: Kind) -> Result<KindSet, Rule>
 
 /// What `ret` leaves of a kind: where a method returns, its own slots are lost.
 fn after_ret(u: &Unit, slot: u16, kind: Kind) -> Result<KindSet, Rule>
-    ensures { IsRow (if is_own u.now slot then overwritten kind (becomes kind) else becomes kind) result }
+    ensures { IsRow
+        (if is_own u.now slot then overwritten kind (becomes kind) else becomes kind)
+        result }
 {
     if is_own(u, slot) {
         overwrite(kind, kind)

@@ -54,7 +54,8 @@ pub(crate) fn search_slot(
 impl Search {
     /// Nothing seen, in code of this length.
     fn new(alloc: Global, len: usize) -> Result<Search, AllocError>
-        ensures { IfOk result (λ r. (r.seen.items ≡ replicate len no_kinds) × (r.found.items ≡ [])) }
+        ensures { IfOk result
+            (λ r. (r.seen.items ≡ replicate len no_kinds) × (r.found.items ≡ [])) }
     {
         Ok(Search {
             seen: vec![in alloc; KindSet::empty(); len]?,
@@ -94,7 +95,8 @@ impl Search {
     ) -> Result<(), AllocError>
         requires inside { (to : ℕ) → Has (places successors) to → to < length self.old.seen.items }
         ensures grown { IfOk result (λ _. Extends self.old self.new) }
-        ensures put { IfOk result (λ _. (to : ℕ) → Has (places successors) to → HasPut self.new to kinds) }
+        ensures put { IfOk result
+            (λ _. (to : ℕ) → Has (places successors) to → HasPut self.new to kinds) }
         ensures searched { (m : ModuleValue) (u : UnitValue) (s done : ℕ)
             → IsSearched m u s self.old done
             → ((to : ℕ) → Has (places successors) to → CanCome m u s done self.old to kinds from)
@@ -115,7 +117,8 @@ impl Search {
         requires inside { to < length self.old.seen.items }
         ensures grown { IfOk result (λ _. Extends self.old self.new) }
         ensures put { IfOk result (λ _. HasPut self.new to kinds) }
-        ensures latest { IfOk result (λ _. IsLatest self.old.found.items from → IsLatest self.new.found.items from) }
+        ensures latest { IfOk result
+            (λ _. IsLatest self.old.found.items from → IsLatest self.new.found.items from) }
         ensures searched { (m : ModuleValue) (u : UnitValue) (s done : ℕ)
             → IsSearched m u s self.old done
             → CanCome m u s done self.old to kinds from

@@ -47,7 +47,8 @@ pub fn check_kinds(alloc: Global, shaped: Shaped) -> Result<Typed, (Shaped, Kind
     ensures accepted { IfOk result (λ t. (t ≡ shaped) × IsNeverRefused shaped) }
     ensures refused { IfErr result (λ e. FailsModule shaped e.1) }
     ensures handed_back { IfErr result (λ e. e.0 ≡ shaped) }
-    ensures never_wrongly { IsNeverRefused shaped → IfErr result (λ e. e.1 ≡ KindError.OutOfMemory) }
+    ensures never_wrongly { IsNeverRefused shaped
+        → IfErr result (λ e. e.1 ≡ KindError.OutOfMemory) }
 {
     match check_units(alloc, shaped.module()) {
         Ok(tables) => Ok(Typed { shaped, tables }),
@@ -76,7 +77,9 @@ fn check_units(alloc: Global, m: &Module) -> Result<Vec<KindTable>, KindError>
 fn check_unit(alloc: Global, m: &Module, unit: u16, u: &Unit) -> Result<KindTable, KindError>
     requires blocks { HasBlocks u.now }
     requires closed { IsClosed u.now }
-    ensures { MatchResult result (λ t. IsNeverRefusedIn m.now u.now × IsKindTable m.now u.now t) (FailsUnit m.now unit u.now) }
+    ensures { MatchResult result
+        (λ t. IsNeverRefusedIn m.now u.now × IsKindTable m.now u.now t)
+        (FailsUnit m.now unit u.now) }
 {
     let blocks = Blocks::of(alloc, u)?;
     let table = KindTable::follow(alloc, m, u, &blocks)?;
@@ -122,7 +125,8 @@ impl Typed {
     /// The kinds that the slot may have before the instruction: those that walks end with there.
     pub fn kinds(&self, unit: u16, at: u16, slot: u16) -> KindSet
         requires { HasPlace self.now unit at slot }
-        ensures { (k : Kind) → IsTrue (kinds_have result k) ↔ IsVisitedIn self.now unit slot (visit at k) }
+        ensures { (k : Kind)
+            → IsTrue (kinds_have result k) ↔ IsVisitedIn self.now unit slot (visit at k) }
     {
         self.tables[unit as usize].kinds(at, slot)
     }

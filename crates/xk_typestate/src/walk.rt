@@ -54,7 +54,8 @@ fn walk_back(alloc: Global, found: &[Found], place: usize) -> Result<Vec<Visit>,
     requires inside { place < length found.now }
     ensures walk { (m : ModuleValue) (u : UnitValue) (s : ℕ)
         → HasCome m u s found.now
-        → IfOk result (λ w. IsWalk m u s w.items × ((q : Visit) → IsPlaceOf found.now q place → EndsAt w.items q)) }
+        → IfOk result (λ w. IsWalk m u s w.items
+        × ((q : Visit) → IsPlaceOf found.now q place → EndsAt w.items q)) }
     ensures stops { IfOk result (λ w. StopsBack found.now (Some place) (length w.items)) }
 {
     let mut walk = Vec::new(alloc);

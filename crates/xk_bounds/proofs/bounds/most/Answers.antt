@@ -19,7 +19,8 @@ most_of-requires c =
     let inv = c.loop-unit.invariant in
     let as_long : length units ≡ length m.units = ap length c.units-units.ensures.listed in
     let lt : unit < length units = omega (arith, inv.0) in
-    (blocks_of_shape m u unit c.units-units.ensures.limits c.requires (ap (λ us. slice_get us unit) (sym c.units-units.ensures.listed) ∙ slice_get_read units (length units) unit u refl lt c.index-units-unit.is)).orderly
+    (blocks_of_shape m u unit c.units-units.ensures.limits c.requires
+    (ap (λ us. slice_get us unit) (sym c.units-units.ensures.listed) ∙ slice_get_read units (length units) unit u refl lt c.index-units-unit.is)).orderly
 
 pub loop-unit-preserved : goal.loop-unit-preserved
 loop-unit-preserved c =
@@ -33,7 +34,8 @@ loop-unit-preserved c =
     let u = c.index-units-unit.result in
     let as_long : length units ≡ length m.units = ap length c.units-units.ensures.listed in
     let lt : unit < length units = omega (arith, inv.0) in
-    let found : slice_get m.units unit ≡ Some u = ap (λ us. slice_get us unit) (sym c.units-units.ensures.listed) ∙ slice_get_read units (length units) unit u refl lt c.index-units-unit.is in
+    let found : slice_get m.units unit ≡ Some u = ap (λ us. slice_get us unit) (sym c.units-units.ensures.listed) ∙ slice_get_read units (length units) unit u refl lt
+    c.index-units-unit.is in
     let R : List ℕ → Type 0 = λ xs. most ≡ min (added_by weight (slice_index xs) u) CUT in
     let read : most ≡ min (added_by weight (slice_index table) u) CUT = subst R c.deref.ensures.value c.in_ok-most.ensures in
     let here = read ∙ total_cut weight m c.requires CUT table unit u found (λ t above inside. inv.1 t (omega arith) inside) in (

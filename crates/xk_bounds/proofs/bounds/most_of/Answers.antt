@@ -26,5 +26,6 @@ loop-instr-preserved c =
     let beyond = subst P c.deref.ensures.value c.visits_next-here.ensures in
     let next : suc at ≡ at + 1 = omega arith in
     subst (λ n. IsMeasured weight table u CUT n after c.visits_next-here.result c.cut_sum-most.result) next
-    (measured_next weight table u CUT at i before after c.loop-instr.here c.visits_next-here.result c.loop-instr.most c.once.result c.cut_product.result c.cut_sum-most.result c.requires found
+    (measured_next weight table u CUT at i before after c.loop-instr.here c.visits_next-here.result c.loop-instr.most c.once.result c.cut_product.result c.cut_sum-most.result
+    c.requires found
     c.in_ok-push.ensures.items beyond c.once.ensures c.cut_product.ensures c.cut_sum-most.ensures c.loop-instr.invariant)

@@ -32,7 +32,8 @@ loop-unit-preserved c =
     let as_long : length units ≡ length m.units = ap length c.units-units.ensures.listed in
     let lt : unit < length units = omega (arith, inv.long) in
     let inside : unit < length table = omega (arith, inv.long) in
-    let found : slice_get m.units unit ≡ Some u = ap (λ us. slice_get us unit) (sym c.units-units.ensures.listed) ∙ slice_get_read units (length units) unit u refl lt c.index-units-unit.is in
+    let found : slice_get m.units unit ≡ Some u = ap (λ us. slice_get us unit) (sym c.units-units.ensures.listed) ∙ slice_get_read units (length units) unit u refl lt
+    c.index-units-unit.is in
     let read : IsRoomBy table u room = subst (λ (rs : List Room). IsRoomBy rs u room) c.deref.ensures.value c.in_ok-room.ensures in
     let here : IsRoom m unit room = room_by m c.requires table unit u room found (λ t above within. inv.each t (omega arith) within) read in
     record {

@@ -37,7 +37,8 @@ returns-in_default c =
     let i = c.index-instr.result.now in
     let here = found_at c.args.u.now _ c.args.at i c.u.view_is (omega (arith, c.requires.last, c.requires.inside)) c.index-instr.ensures in
     let so = place_known c.args.u.now c.args.known.now c.args.at outside c.requires.known (omega (arith, c.requires.last)) in
-    behind_other c.args.u.now c.args.at i _ here so c.requires.nested (names_no_end i c.in_default.not-For c.in_default.not-Finish) (names_no_begin i c.in_default.not-Next c.in_default.not-EndFinish)
+    behind_other c.args.u.now c.args.at i _ here so c.requires.nested (names_no_end i c.in_default.not-For c.in_default.not-Finish)
+    (names_no_begin i c.in_default.not-Next c.in_default.not-EndFinish)
 
 pub returns-then-eq : goal.returns-then-eq
 returns-then-eq c =

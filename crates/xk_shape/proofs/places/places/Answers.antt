@@ -30,4 +30,4 @@ returns c =
     let u = c.args.u.now in
     let same = ap (λ (x : UnitValue). length x.code) c.u.view_is in
     let all : c.loop-at.at ≡ length u.code = omega arith in
-    (nested_all u (subst (AreNestedBelow u) all c.loop-at.invariant.3), c.loop-at.invariant.0 ∙ all, c.loop-at.invariant.1)
+    (nested_all u (subst (AreNestedBelow u) all c.loop-at.invariant.3), (c.loop-at.invariant.0 ∙ all, c.loop-at.invariant.1))

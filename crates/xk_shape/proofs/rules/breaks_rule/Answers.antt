@@ -36,5 +36,6 @@ gives_away-requires-clause-blocks c =
 
 pub tables-requires-in-Registers : goal.tables-requires-in-Registers
 tables-requires-in-Registers c =
-    let blocks = blocks_in c.args.m.now c.args.unit c.args.u.now c.args.rule c.requires.limits c.requires.earlier (subst (λ r. 8 < rule_number r) (sym c.in-Registers.is) (lit< tt)) in
+    let blocks = blocks_in c.args.m.now c.args.unit c.args.u.now c.args.rule c.requires.limits c.requires.earlier
+    (subst (λ r. 8 < rule_number r) (sym c.in-Registers.is) (lit< tt)) in
     is_nested c.args.u.now c.args.layout.now c.requires.layout (nested_of c.args.u.now blocks.orderly)

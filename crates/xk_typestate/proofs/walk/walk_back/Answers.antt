@@ -24,7 +24,8 @@ loop-next-preserved c =
           let longer : suc k + length back ≡ k + length c.push.new.self.items = omega (arith, ap length c.in_ok-push.ensures.items, length-append back (f.stop ∷ [])) in
           let so_far = c.loop-next.invariant.stops (suc k) (subst (λ o. StopsBack found o (suc k)) (sym c.in-Some.is) (f, here, more)) in
           subst (λ x. StopsBack found (Some c.args.place) x) longer so_far;
-      back = λ m u s come. back_more m u s found c.args.place back c.push.new.self.items n f come (subst (λ o. IsBack m u s found c.args.place back o) c.in-Some.is (c.loop-next.invariant.back m u s come)) here c.in_ok-push.ensures.items;
+      back = λ m u s come. back_more m u s found c.args.place back c.push.new.self.items n f come
+          (subst (λ o. IsBack m u s found c.args.place back o) c.in-Some.is (c.loop-next.invariant.back m u s come)) here c.in_ok-push.ensures.items;
     }
 
 pub returns-clause-stops : goal.returns-clause-stops

@@ -35,4 +35,5 @@ returns-clause-shortest c =
     let place = c.in-Some.place in
     let first = subst (λ x. IsFirstPlaceOf x end place) c.deref.ensures.value c.in-Some.ensures in
     ok_then c.walk_back.result _ (λ w. IsShortest m u s end w.items) c.walk_back.ensures.stops
-    (λ w h. shortest m u s c.in_ok-search.search c.in_ok-search.ensures end place w.items first (subst (λ x. StopsBack x (Some place) (length w.items)) c.deref-in-Some.ensures.value h))
+    (λ w h. shortest m u s c.in_ok-search.search c.in_ok-search.ensures end place w.items first
+    (subst (λ x. StopsBack x (Some place) (length w.items)) c.deref-in-Some.ensures.value h))

@@ -34,4 +34,5 @@ returns-clause-searched c =
     in
     ok_by_three _ _ _ _ _ c.put_successors.ensures.grown c.put_successors.ensures.put (c.put_successors.ensures.searched m u s n c.requires.searched come)
     (λ _ grown put so_far. searched_done m u s now n f so_far (grown.found n f found) (omega (arith, grown.more))
-    (λ q edge. put q.at ((c.successors_of.ensures.edges q.at).1 (edge_place m u s f.stop q i here edge)) q.kind ((c.kinds_left-kinds.ensures q.kind).1 (edge_kind m u s f.stop q i here edge))))
+    (λ q edge. put q.at ((c.successors_of.ensures.edges q.at).1 (edge_place m u s f.stop q i here edge)) q.kind
+    ((c.kinds_left-kinds.ensures q.kind).1 (edge_kind m u s f.stop q i here edge))))

@@ -14,8 +14,10 @@ loop-kind-preserved c =
     let n = c.loop-kind.kind-index in
     let P : Search → Type 0 = λ x. ArePut r x c.args.to c.args.kinds c.args.from (n + 1) in
     elim c.if-contains.branch [
-      | then-contains+in_ok-put w ↦ subst P (sym w.self-is) (are_put_more r c.loop-kind.self c.args.to c.args.kinds c.args.from n _ c.contains.result c.contains.ensures c.loop-kind.invariant _ c.requires.inside w.if-contains.true w.in_ok-put.ensures)
-      | else-contains w ↦ subst P (sym w.self-is) (are_put_skip r c.loop-kind.self c.args.to c.args.kinds c.args.from n _ c.contains.result c.contains.ensures c.loop-kind.invariant w.if-contains.false)
+      | then-contains+in_ok-put w ↦ subst P (sym w.self-is) (are_put_more r c.loop-kind.self c.args.to c.args.kinds c.args.from n _ c.contains.result c.contains.ensures
+          c.loop-kind.invariant _ c.requires.inside w.if-contains.true w.in_ok-put.ensures)
+      | else-contains w ↦ subst P (sym w.self-is) (are_put_skip r c.loop-kind.self c.args.to c.args.kinds c.args.from n _ c.contains.result c.contains.ensures
+          c.loop-kind.invariant w.if-contains.false)
     ]
 
 pub put-requires : goal.put-requires
