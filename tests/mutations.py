@@ -5,7 +5,7 @@ The modules are those of tests/rows and whole programs that are made up here, as
 operand and byte by byte (tests/generated.py). `check` and `run`, the latter in each order, have to answer what the telling answers,
 byte for byte; where there are several walks to what is refused, another shortest one is taken too, and counted. Of an accepted module with few worlds
 the telling goes through all schedules, and looks whether the promises hold.
-Needs the built program and python3. The gate doesn't run it.
+Needs the built program and python3. The gate runs it with 2,000 cases.
 
     python3 tests/mutations.py [CASES] [SEED] [--jobs N] [--program PATH] [--worlds N] [--only CASE]
 

@@ -67,11 +67,15 @@ fn on_program<P: Read + Drop, O: Sink, E: Sink>(
     err: &mut E,
 ) -> u8
     ensures answered { IfSome (P.remaining program) (λ bytes. result ≢ 4 → result ≢ 5
-        → Answered (task_of job.now) bytes result (O.contents out.old) (O.contents out.new) (E.contents err.old) (E.contents err.new)) }
-    ensures out_begins { IfSome (P.remaining program) (λ bytes. OutBegins (task_of job.now) bytes (O.contents out.old) (O.contents out.new)) }
-    ensures err_begins { IfSome (P.remaining program) (λ bytes. ErrBegins bytes (E.contents err.old) (E.contents err.new)) }
+        → Answered (task_of job.now) bytes result
+        (O.contents out.old) (O.contents out.new) (E.contents err.old) (E.contents err.new)) }
+    ensures out_begins { IfSome (P.remaining program) (λ bytes.
+        OutBegins (task_of job.now) bytes (O.contents out.old) (O.contents out.new)) }
+    ensures err_begins { IfSome (P.remaining program) (λ bytes.
+        ErrBegins bytes (E.contents err.old) (E.contents err.new)) }
     ensures memory_out { result ≡ 4 → Appends (O.contents out.old) (O.contents out.new) [] }
-    ensures memory_err { result ≡ 4 → Appends (E.contents err.old) (E.contents err.new) memory_line }
+    ensures memory_err { result ≡ 4
+        → Appends (E.contents err.old) (E.contents err.new) memory_line }
 {
     let mut source = Counted::new(program);
     let mut log_in = Counted::new(io::empty());

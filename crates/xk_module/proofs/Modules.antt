@@ -90,7 +90,8 @@ unit_takes d u e =
     then _ _ u _ e (λ params is_params e.
     then _ _ u _ e (λ slots is_slots e.
     then _ _ u _ e (λ end is_end e.
-    let listed = then_others _ members code _ is_code (then_others _ code.1 kind _ is_kind (then_others _ kind.1 params _ is_params (then_others _ params.1 slots _ is_slots (end_takes slots.1 end is_end)))) in
+    let listed = then_others _ members code _ is_code (then_others _ code.1 kind _ is_kind (then_others _ kind.1 params _ is_params
+    (then_others _ params.1 slots _ is_slots (end_takes slots.1 end is_end)))) in
     let whole : d ≡ unit_object code.0 kind.0 params.0 slots.0 = object_takes d members is_members ∙ ap object_of listed in
     then _ _ u _ e (λ code_value is_code e.
     then _ _ u _ e (λ kind_value is_kind e.

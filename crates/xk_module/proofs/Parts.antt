@@ -32,7 +32,8 @@ by_test true first others y P e here there = here refl e
 by_test false first others y P e here there = there e
 
 -- a choice by a name
-pub by_name : {A : Type 0} (name key : List ℕ) (first others : Option A) (y : A) (P : Type 0) → cond (bytes_eq name key) first others ≡ Some y → (name ≡ key → first ≡ Some y → P) → (others ≡ Some y → P) → P
+pub by_name : {A : Type 0} (name key : List ℕ) (first others : Option A) (y : A) (P : Type 0) → cond (bytes_eq name key) first others ≡ Some y
+    → (name ≡ key → first ≡ Some y → P) → (others ≡ Some y → P) → P
 by_name name key first others y P e here there = by_test (bytes_eq name key) first others y P e (λ t. here ((bytes_eq-Decides name key).0 t)) there
 
 pub number_takes : (d : Data) (n : Num) → as_number d ≡ Some n → d ≡ number n
@@ -132,7 +133,8 @@ field_takes key (m ∷ ms) x e =
     ap (λ (k : List ℕ). (k, m.1) ∷ ms) same ∙ ap (λ (y : Data × List (List ℕ × Data)). (key, y.0) ∷ y.1) g.1
 
 -- a member was read, and then the others
-pub then_others : (key : List ℕ) (ms : List (List ℕ × Data)) (x : Data × List (List ℕ × Data)) (others : List (List ℕ × Data)) → field_at key ms ≡ Some x → x.1 ≡ others → ms ≡ (key, x.0) ∷ others
+pub then_others : (key : List ℕ) (ms : List (List ℕ × Data)) (x : Data × List (List ℕ × Data)) (others : List (List ℕ × Data))
+    → field_at key ms ≡ Some x → x.1 ≡ others → ms ≡ (key, x.0) ∷ others
 then_others key ms x others e same = field_takes key ms x e ∙ ap (λ (rest : List (List ℕ × Data)). (key, x.0) ∷ rest) same
 
 pub end_takes : {A : Type 0} (xs : List A) (x : ⊤) → end_at xs ≡ Some x → xs ≡ []

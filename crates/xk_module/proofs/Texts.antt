@@ -38,7 +38,8 @@ not_empty [] d text = let e : None ≡ Some d = sym empty_read ∙ text.value in
 not_empty (b ∷ bytes) d text = omega arith
 
 -- the fault of a text whose value was refused
-pub refused : (r : Refusal) (bytes : List ℕ) (d : Data) → IsText bytes d → Refuses r (module_at d) → fault_of r ≡ fault.NotAModule → IsJson bytes × ((m : ModuleValue) → IsModuleText bytes m → ⊥)
+pub refused : (r : Refusal) (bytes : List ℕ) (d : Data) → IsText bytes d → Refuses r (module_at d)
+    → fault_of r ≡ fault.NotAModule → IsJson bytes × ((m : ModuleValue) → IsModuleText bytes m → ⊥)
 refused refusal.Unfit bytes d text none e = ((d, text), not_named bytes d text none)
 refused refusal.Memory bytes d text none e = absurd cc
 

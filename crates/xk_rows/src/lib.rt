@@ -1,5 +1,5 @@
-//! Tests of the libraries: what is read, verified and answered; schedules whose runs are known from outside, all schedules of small modules,
-//! and runs that choosers drive.
+//! Tests of the libraries, of what neither their contracts say nor the built program shows: schedules whose runs are known from outside, all
+//! schedules of small modules, runs that other choosers drive, kinds and rooms, devices that fail, and the texts of faults.
 #![tactic(auto)]
 
 #[cfg(test)]
@@ -11,10 +11,8 @@ mod every;
 #[cfg(test)]
 mod programs;
 #[cfg(test)]
-mod reader;
+mod runs;
 #[cfg(test)]
-mod schedules;
-#[cfg(test)]
-mod serving;
+mod told;
 #[cfg(test)]
 mod verifier;

@@ -1,5 +1,5 @@
 -- From a fault and how it was told to the clauses of the whole program.
-use Rattle.std.proofs.Common.{◌≡◌, ◌≢◌, ◌⊎◌, ℕ, List, [], length, Option, Some, None, inl, inr, refl, sym, ◌∙◌}
+use Rattle.std.proofs.Common.{◌≡◌, ◌≢◌, ◌⊎◌, ℕ, List, [], length, Option, Some, None, inl, inr, refl, sym, subst, ◌∙◌}
 use Rattle.std.proofs.Math.Seq.{take-length}
 use Rattle.std.proofs.lemmas.List.{append-nil}
 use Rattle.std.specs.Prelude.{IfSome}
@@ -68,16 +68,18 @@ pub printed_answers : (t : Task) (known : Option (List ℕ)) (text shown : List 
     → IfSome known (λ bytes. Prints t bytes text) → shown ≡ text → ((result ≡ 0) × Appends out_old out_new shown × Appends err_old err_new []) ⊎ ((result ≡ 5) × Failing)
     → IfSome known (λ bytes. result ≢ 4 → result ≢ 5 → Answered t bytes result out_old out_new err_old err_new)
 printed_answers t None text shown out_old out_new err_old err_new result Failing h e p = tt
-printed_answers t (Some bytes) text shown out_old out_new err_old err_new result Failing h e p = λ not4 not5. printed_answer t bytes text shown out_old out_new err_old err_new result Failing h e p not5
+printed_answers t (Some bytes) text shown out_old out_new err_old err_new result Failing h e p = λ not4 not5.
+    printed_answer t bytes text shown out_old out_new err_old err_new result Failing h e p not5
 
 -- a fault of the bytes that were read is one of those that are known
-pub against_known : (known : Option (List ℕ)) (bytes : List ℕ) (old new : ℕ) (f : Fault) → new ≡ old → IfSome known (λ k. bytes ≡ k) → FailsBy bytes f → StandsAgainst known old new f
+pub against_known : (known : Option (List ℕ)) (bytes : List ℕ) (old new : ℕ) (f : Fault) → new ≡ old
+    → IfSome known (λ k. bytes ≡ k) → FailsBy bytes f → StandsAgainst known old new f
 against_known None bytes old new (fault.Text f) s e h = (s, tt)
 against_known None bytes old new (fault.Refused r) s e h = (s, tt)
 against_known None bytes old new fault.OutOfMemory s e h = (s, tt)
 against_known None bytes old new fault.Device s e h = absurd h
 against_known (Some k) bytes old new (fault.Text f) s e h = (s, rw e at h)
-against_known (Some k) bytes old new (fault.Refused r) s e h = (s, rw e at h)
+against_known (Some k) bytes old new (fault.Refused r) s e h = (s, subst (λ b. FailsBy b (fault.Refused r)) e h)
 against_known (Some k) bytes old new fault.OutOfMemory s e h = (s, tt)
 against_known (Some k) bytes old new fault.Device s e h = absurd h
 

@@ -12,6 +12,7 @@ use Rattle.xk_module.specs.ModuleText.{IsJson, IsModuleText}
 use Rattle.xk_module.specs.declared.fault.ModuleFault.{ModuleFault}
 use Rattle.xk_module.specs.declared.fault.ModuleFault.TheVariants as text
 use Rattle.xk_bounds.specs.Refused.{Refuses}
+use Rattle.xk_bounds.specs.declared.refusal.Refusal.TheVariants as refusal
 use Rattle.xk_serve.specs.declared.done.Done.{Done}
 use Rattle.xk_serve.specs.declared.done.Done.TheVariants as done
 use Rattle.xk_serve.specs.declared.fault.Fault.{Fault}
@@ -42,16 +43,17 @@ pub record Succeeds (t : Task) (bytes : List ℕ) (d : Done) : Type 0 where
   pub accepted : IsAccepted of
   pub done : ComesTo t of d
 
--- why bytes are no module within the limits; nothing is claimed where memory was wanting
+-- why bytes are no module within the limits; want of memory is no reason
 abbrev pub IsNoModule : List ℕ → ModuleFault → Type 0
 IsNoModule bytes text.NotJson = ¬ IsJson bytes
 IsNoModule bytes text.NotAModule = IsJson bytes × ((m : ModuleValue) → ¬ IsModuleText bytes m)
 IsNoModule bytes text.Limit = (m : ModuleValue) × IsModuleText bytes m × ¬ IsWithinLimits m
-IsNoModule bytes text.OutOfMemory = ⊤
+IsNoModule bytes text.OutOfMemory = ⊥
 
--- the fault is one of the bytes, or want of memory
+-- the fault is one of the bytes, or want of memory, of which nothing is claimed
 abbrev pub FailsBy : List ℕ → Fault → Type 0
 FailsBy bytes (fault.Text f) = IsNoModule bytes f
+FailsBy bytes (fault.Refused refusal.OutOfMemory) = ⊥
 FailsBy bytes (fault.Refused r) = (m : ModuleValue) × IsModuleText bytes m × IsWithinLimits m × Refuses m r
 FailsBy bytes fault.OutOfMemory = ⊤
 FailsBy bytes fault.Device = ⊥

@@ -15,9 +15,11 @@ const PIECE: usize = 4096;
 /// All that the source has left. The only faults are `Device`, where a read failed, and `OutOfMemory`. The memory that it
 /// takes is in proportion to what was read.
 pub(crate) fn read_all<R: Source>(alloc: Global, source: &mut R) -> Result<Vec<u8>, Fault>
-    ensures all { IfOk result (λ bytes. IfSome (R.remaining source.old) (λ known. bytes.items ≡ known)) }
+    ensures all { IfOk result (λ bytes.
+        IfSome (R.remaining source.old) (λ known. bytes.items ≡ known)) }
     ensures no_fault { OnOk result (R.fault_count source.new ≡ R.fault_count source.old) }
-    ensures failed { IfErr result (FailsRead (R.fault_count source.old) (R.fault_count source.new)) }
+    ensures failed { IfErr result
+        (FailsRead (R.fault_count source.old) (R.fault_count source.new)) }
 {
     let mut found = Vec::new(alloc);
     let mut piece = [0u8; PIECE];

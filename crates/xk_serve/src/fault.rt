@@ -80,23 +80,31 @@ impl From<Failed> for Fault {
 }
 
 impl From<ModuleFault> for Fault {
-    ghost use Rattle.xk_serve.specs.declared.fault.Fault.TheVariants.{Text};
+    ghost use Rattle.xk_serve.specs.Faults.{of_text};
 
-    ghost from_gives = { λ fault given. given ≡ Text fault };
+    ghost from_gives = { λ found fault. fault ≡ of_text found };
 
-    fn from(fault: ModuleFault) -> Fault {
-        Fault::Text(fault)
+    fn from(found: ModuleFault) -> Fault {
+        match found {
+            ModuleFault::NotJson | ModuleFault::NotAModule | ModuleFault::Limit => {
+                Fault::Text(found)
+            }
+            ModuleFault::OutOfMemory => Fault::OutOfMemory,
+        }
     }
 }
 
 impl From<(Module, Refusal)> for Fault {
-    ghost use Rattle.xk_serve.specs.declared.fault.Fault.TheVariants.{Refused};
+    ghost use Rattle.xk_serve.specs.Faults.{of_refusal};
 
-    ghost from_gives = { λ refused given. given ≡ Refused refused.1 };
+    ghost from_gives = { λ refused fault. fault ≡ of_refusal refused.1 };
 
     fn from(refused: (Module, Refusal)) -> Fault {
         let (_module, refusal) = refused;
-        Fault::Refused(refusal)
+        match refusal {
+            Refusal::Shape(_) | Refusal::Kind(_) | Refusal::Bound(_) => Fault::Refused(refusal),
+            Refusal::OutOfMemory => Fault::OutOfMemory,
+        }
     }
 }
 

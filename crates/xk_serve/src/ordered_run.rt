@@ -34,7 +34,9 @@ fn run_by<C: Chooser>(
     verified: &Verified,
     chooser: &mut C,
 ) -> Result<(Vec<i64>, u64), AllocError>
-    ensures { IfOk result (λ run. IsRunThat (Follows C.answer C.after verified.now chooser.old (opening verified.now)) verified.now run.0.items run.1) }
+    ensures { IfOk result (λ run. IsRunThat
+        (Follows C.answer C.after verified.now chooser.old (opening verified.now))
+        verified.now run.0.items run.1) }
 {
     let mut driver = driven(alloc, Core::open(alloc, verified)?)?;
     let mut printed = Vec::new(alloc);
@@ -56,7 +58,8 @@ fn driven<'m>(alloc: Global, core: Core<'m>) -> Result<Driver<'m>, AllocError>
 
 /// Keeps the number that an event prints, if it does.
 fn keep(printed: &mut Vec<i64>, event: Event) -> Result<(), AllocError>
-    ensures { OnOk result (printed.new.items ≡ printed.old.items ++ option_to_list (number_printed event)) }
+    ensures { OnOk result
+        (printed.new.items ≡ printed.old.items ++ option_to_list (number_printed event)) }
 {
     match event {
         Event::Printed(number) => {

@@ -29,19 +29,26 @@ pub fn serve<P: Source, L: Source, O: Sink, E: Sink, K: Sink>(
     _log_out: &mut K,
 ) -> u8
     ensures answered { IfSome (P.remaining program.old) (λ bytes. result ≢ 4 → result ≢ 5
-        → Answered (task_of job.now) bytes result (O.contents out.old) (O.contents out.new) (E.contents err.old) (E.contents err.new)) }
+        → Answered (task_of job.now) bytes result
+        (O.contents out.old) (O.contents out.new) (E.contents err.old) (E.contents err.new)) }
 
     // Memory and devices.
-    ensures out_begins { IfSome (P.remaining program.old) (λ bytes. OutBegins (task_of job.now) bytes (O.contents out.old) (O.contents out.new)) }
-    ensures err_begins { IfSome (P.remaining program.old) (λ bytes. ErrBegins bytes (E.contents err.old) (E.contents err.new)) }
+    ensures out_begins { IfSome (P.remaining program.old) (λ bytes.
+        OutBegins (task_of job.now) bytes (O.contents out.old) (O.contents out.new)) }
+    ensures err_begins { IfSome (P.remaining program.old) (λ bytes.
+        ErrBegins bytes (E.contents err.old) (E.contents err.new)) }
     ensures memory_out { result ≡ 4 → Appends (O.contents out.old) (O.contents out.new) [] }
-    ensures memory_err { result ≡ 4 → Appends (E.contents err.old) (E.contents err.new) memory_line }
+    ensures memory_err { result ≡ 4
+        → Appends (E.contents err.old) (E.contents err.new) memory_line }
     ensures faults { result ≢ 5 → (P.fault_count program.new ≡ P.fault_count program.old)
-        × (O.fault_count out.new ≡ O.fault_count out.old) × (E.fault_count err.new ≡ E.fault_count err.old) }
+        × (O.fault_count out.new ≡ O.fault_count out.old)
+        × (E.fault_count err.new ≡ E.fault_count err.old) }
     ensures device { result ≡ 5 → Rose (P.fault_count program.old) (P.fault_count program.new)
-        ⊎ (Rose (O.fault_count out.old) (O.fault_count out.new) ⊎ Rose (E.fault_count err.old) (E.fault_count err.new)) }
-
-    ensures device_err { result ≡ 5 → Appends (E.contents err.old) (E.contents err.new) device_line ⊎ Rose (E.fault_count err.old) (E.fault_count err.new) }
+        ⊎ (Rose (O.fault_count out.old) (O.fault_count out.new)
+        ⊎ Rose (E.fault_count err.old) (E.fault_count err.new)) }
+    ensures device_err { result ≡ 5
+        → Appends (E.contents err.old) (E.contents err.new) device_line
+        ⊎ Rose (E.fault_count err.old) (E.fault_count err.new) }
 
     // The logs.
     ensures log_in { _log_in.new ≡ _log_in.old }
@@ -55,9 +62,11 @@ pub fn serve<P: Source, L: Source, O: Sink, E: Sink, K: Sink>(
 
 /// What the job's result is written as.
 fn result_text<P: Source>(alloc: Global, job: &Job<'_>, program: &mut P) -> Result<String, Fault>
-    ensures done { IfOk result (λ text. IfSome (P.remaining program.old) (λ bytes. Prints (task_of job.now) bytes (string_bytes text))) }
+    ensures done { IfOk result (λ text. IfSome (P.remaining program.old) (λ bytes.
+        Prints (task_of job.now) bytes (string_bytes text))) }
     ensures no_fault { OnOk result (P.fault_count program.new ≡ P.fault_count program.old) }
-    ensures fault { IfErr result (StandsAgainst (P.remaining program.old) (P.fault_count program.old) (P.fault_count program.new)) }
+    ensures fault { IfErr result (StandsAgainst (P.remaining program.old)
+        (P.fault_count program.old) (P.fault_count program.new)) }
 {
     let bytes = read_all(alloc, program)?;
     let done = answer(alloc, job, &bytes)?;
@@ -66,12 +75,16 @@ fn result_text<P: Source>(alloc: Global, job: &Job<'_>, program: &mut P) -> Resu
 
 /// Writes the result. Where that fails, says so.
 fn print<O: Sink, E: Sink>(alloc: Global, text: &str, out: &mut O, err: &mut E) -> u8
-    ensures printed { ((result ≡ 0) × Appends (O.contents out.old) (O.contents out.new) text.now × Appends (E.contents err.old) (E.contents err.new) [])
+    ensures printed { ((result ≡ 0) × Appends (O.contents out.old) (O.contents out.new) text.now
+        × Appends (E.contents err.old) (E.contents err.new) [])
         ⊎ ((result ≡ 5) × Rose (O.fault_count out.old) (O.fault_count out.new)) }
-    ensures told { result ≡ 5 → Appends (E.contents err.old) (E.contents err.new) device_line ⊎ Rose (E.fault_count err.old) (E.fault_count err.new) }
+    ensures told { result ≡ 5
+        → Appends (E.contents err.old) (E.contents err.new) device_line
+        ⊎ Rose (E.fault_count err.old) (E.fault_count err.new) }
     ensures beginning { AppendsBeginning (O.contents out.old) (O.contents out.new) text.now }
     ensures err_beginning { AppendsBeginning (E.contents err.old) (E.contents err.new) device_line }
-    ensures faults { result ≢ 5 → (O.fault_count out.new ≡ O.fault_count out.old) × (E.fault_count err.new ≡ E.fault_count err.old) }
+    ensures faults { result ≢ 5 → (O.fault_count out.new ≡ O.fault_count out.old)
+        × (E.fault_count err.new ≡ E.fault_count err.old) }
 {
     match write_all(out, text.as_bytes()) {
         Ok(()) => 0,
@@ -82,7 +95,8 @@ fn print<O: Sink, E: Sink>(alloc: Global, text: &str, out: &mut O, err: &mut E) 
 /// Writes the line of a fault, and gives the status: the fault's, or 4 where memory for the line ran out, or 5 where it can't
 /// be written. The lines of want of memory and of devices take no memory.
 pub fn report<E: Sink>(alloc: Global, fault: &Fault, err: &mut E) -> u8
-    ensures { Reports fault.now (E.contents err.old) (E.contents err.new) (E.fault_count err.old) (E.fault_count err.new) result }
+    ensures { Reports fault.now (E.contents err.old) (E.contents err.new)
+        (E.fault_count err.old) (E.fault_count err.new) result }
 {
     match fault {
         Fault::OutOfMemory => tell(MEMORY_LINE, 4, err),
@@ -96,7 +110,8 @@ pub fn report<E: Sink>(alloc: Global, fault: &Fault, err: &mut E) -> u8
 
 /// Writes a line, and gives the status, or 5 where it can't be written: then a beginning of it was.
 pub fn tell<E: Sink>(line: &str, status: u8, err: &mut E) -> u8
-    ensures { Tells line.now status (E.contents err.old) (E.contents err.new) (E.fault_count err.old) (E.fault_count err.new) result }
+    ensures { Tells line.now status (E.contents err.old) (E.contents err.new)
+        (E.fault_count err.old) (E.fault_count err.new) result }
 {
     match write_all(err, line.as_bytes()) {
         Ok(()) => status,
@@ -108,8 +123,12 @@ pub fn tell<E: Sink>(line: &str, status: u8, err: &mut E) -> u8
 /// status is 5 where the text can't be written.
 pub fn tell_words<O: Sink, E: Sink>(fault: &WordsFault, out: &mut O, err: &mut E) -> u8
     ensures { TellsWords fault.now
-        (λ text status. (err.new ≡ err.old) × Tells text status (O.contents out.old) (O.contents out.new) (O.fault_count out.old) (O.fault_count out.new) result)
-        (λ text status. (out.new ≡ out.old) × Tells text status (E.contents err.old) (E.contents err.new) (E.fault_count err.old) (E.fault_count err.new) result) }
+        (λ text status. (err.new ≡ err.old)
+        × Tells text status (O.contents out.old) (O.contents out.new)
+        (O.fault_count out.old) (O.fault_count out.new) result)
+        (λ text status. (out.new ≡ out.old)
+        × Tells text status (E.contents err.old) (E.contents err.new)
+        (E.fault_count err.old) (E.fault_count err.new) result) }
 {
     match fault {
         WordsFault::Help(text) => tell(text.as_str(), 0, out),

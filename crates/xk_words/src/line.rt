@@ -16,9 +16,12 @@ static ORDERS: [&str; 3] = ["first", "last", "round"];
 /// The job that the words ask for; the first word is the program's name. Where they ask for help or aren't understood,
 /// the fault has `clap`'s text.
 pub fn read_job<'a>(alloc: Global, words: &'a [&'a str]) -> Result<Job<'a>, WordsFault>
-    ensures job { IfOk result (λ job. WithOrders (λ names. job_of names (texts words.entry.now) ≡ Some (asked_value job))) }
-    ensures understood { OnOk result (WithOrders (λ names. faults_in names (texts words.entry.now) ≡ [])) }
-    ensures refused { IfErr result (λ fault. WithOrders (λ names. IsRefused (faults_in names (texts words.entry.now)) (job_of names (texts words.entry.now)) fault)) }
+    ensures job { IfOk result (λ job. WithOrders (λ names.
+        job_of names (texts words.entry.now) ≡ Some (asked_value job))) }
+    ensures understood { OnOk result (WithOrders (λ names.
+        faults_in names (texts words.entry.now) ≡ [])) }
+    ensures refused { IfErr result (λ fault. WithOrders (λ names. IsRefused
+        (faults_in names (texts words.entry.now)) (job_of names (texts words.entry.now)) fault)) }
 {
     let command_line = line(alloc)?;
     match command_line.try_get_matches_from(words) {

@@ -10,7 +10,8 @@ loop-printed-smaller g c =
     let same = c.loop-printed.invariant.same_module in
     let turn =
     subst (IsTaken g.C.Chooser.answer g.C.Chooser.after c.loop-printed.driver c.loop-printed.chooser c.turn.new.self c.turn.new.chooser) c.in-Some.is c.in_ok-turn.ensures.taken in
-    let bound : c.loop-printed.driver.world.steps ≤ steps_bound c.args.verified.now = rw (c.steps_done-steps.ensures.count, c.core.ensures, same) at c.steps_done-steps.ensures.bound in
+    let bound : c.loop-printed.driver.world.steps ≤ steps_bound c.args.verified.now =
+    rw (c.steps_done-steps.ensures.count, c.core.ensures, same) at c.steps_done-steps.ensures.bound in
     let more : c.turn.new.self.world.steps ≡ c.loop-printed.driver.world.steps + 1 =
     step_counts c.loop-printed.driver.module_run c.loop-printed.driver.world c.turn.new.self.world c.in-Some.turn.act c.in-Some.turn.event turn.stepped in
     omega arith
@@ -22,6 +23,7 @@ loop-printed-preserved g c =
     subst (IsTaken g.C.Chooser.answer g.C.Chooser.after c.loop-printed.driver c.loop-printed.chooser c.turn.new.self c.turn.new.chooser) c.in-Some.is c.in_ok-turn.ensures.taken in
     record {
       same_module = turn.same_module ∙ same;
-      run = rw c.in_ok-keep.ensures (front_more g.C.Chooser.answer g.C.Chooser.after c.args.verified.now c.args.chooser.now c.loop-printed.driver c.turn.new.self c.loop-printed.chooser
+      run = rw c.in_ok-keep.ensures (front_more g.C.Chooser.answer g.C.Chooser.after c.args.verified.now c.args.chooser.now
+          c.loop-printed.driver c.turn.new.self c.loop-printed.chooser
           c.turn.new.chooser c.in-Some.turn.act c.in-Some.turn.event c.loop-printed.printed.items same c.loop-printed.invariant.run turn);
     }

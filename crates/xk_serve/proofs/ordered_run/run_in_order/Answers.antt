@@ -9,4 +9,5 @@ returns-in-First c =
 
 pub returns-in-Last : goal.returns-in-Last
 returns-in-Last c =
-    IfOk-weaker c.run_by-in-Last.result _ _ (λ run h. rw c.in-Last.is (without_state (λ enabled. length enabled - 1) c.args.verified.now _ run.0.items run.1 h)) c.run_by-in-Last.ensures
+    IfOk-weaker c.run_by-in-Last.result _ _
+    (λ run h. rw c.in-Last.is (without_state (λ enabled. length enabled - 1) c.args.verified.now _ run.0.items run.1 h)) c.run_by-in-Last.ensures

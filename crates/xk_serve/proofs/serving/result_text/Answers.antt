@@ -5,4 +5,5 @@ use Rattle.xk_serve.proofs.serving.result_text.Goals as goal
 pub returns-in_err-done-clause-fault : goal.returns-in_err-done-clause-fault
 returns-in_err-done-clause-fault g c =
     let p = err_from_is_err_and c.from_residual-in_err-done.result c.from_residual-in_err-done.ensures.1 in
-    rw (p.1, p.2) (against_known (g.P.Source.remaining c.args.program.now) c.in_ok-bytes.bytes.items _ _ c.in_err-done.field-0.0 c.in_ok-bytes.ensures.no_fault c.in_ok-bytes.ensures.all (rw c.deref.ensures.value at c.in_err-done.ensures.fault))
+    rw (p.1, p.2) (against_known (g.P.Source.remaining c.args.program.now) c.in_ok-bytes.bytes.items _ _ c.in_err-done.field-0.0
+    c.in_ok-bytes.ensures.no_fault c.in_ok-bytes.ensures.all (rw c.deref.ensures.value at c.in_err-done.ensures.fault))

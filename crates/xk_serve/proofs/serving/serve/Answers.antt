@@ -6,7 +6,8 @@ use Rattle.xk_serve.proofs.serving.serve.Goals as goal
 
 pub returns-in-Ok-clause-answered : goal.returns-in-Ok-clause-answered
 returns-in-Ok-clause-answered g c =
-    printed_answers (task_of c.args.job.now) (g.P.Source.remaining c.args.program.now) _ c.as_str.result.now _ _ _ _ c.print.result _ c.in-Ok.ensures.done c.as_str.ensures.value c.print.ensures.printed
+    printed_answers (task_of c.args.job.now) (g.P.Source.remaining c.args.program.now) _ c.as_str.result.now _ _ _ _
+    c.print.result _ c.in-Ok.ensures.done c.as_str.ensures.value c.print.ensures.printed
 
 pub returns-in-Err-clause-answered : goal.returns-in-Err-clause-answered
 returns-in-Err-clause-answered g c =

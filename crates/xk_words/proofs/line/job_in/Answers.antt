@@ -12,7 +12,8 @@ abbrev name_found : {Z : Type 0} → Option (Box SubCommand Z) → Option Text
 name_found = option_map (λ b. (out-SubCommand (box_value b)).name.now)
 
 -- a name and rows that were found are those of the subcommand
-both_found : {Z : Type 0} (s : Option (Box SubCommand Z)) (name : Text) (rows : List Row) → Some name ≡ name_found s → Some rows ≡ option_map (λ p. p.1) (subcommand_rows s) → Some (name, rows) ≡ subcommand_rows s
+both_found : {Z : Type 0} (s : Option (Box SubCommand Z)) (name : Text) (rows : List Row)
+    → Some name ≡ name_found s → Some rows ≡ option_map (λ p. p.1) (subcommand_rows s) → Some (name, rows) ≡ subcommand_rows s
 both_found None name rows n r = cc
 both_found (Some b) name rows n r = cc
 
@@ -23,7 +24,8 @@ none_found (Some b) n = cc
 
 pub returns : goal.returns
 returns c =
-    c.job_by.ensures ∙ ap asked_in (both_found (out-ArgMatches c.args.matches.now).subcommand c.in_ok-name.name.now (rows_of (found_of c.in_ok-name.given.now)) c.in_ok-name.ensures.name c.in_ok-name.ensures.rows)
+    c.job_by.ensures ∙ ap asked_in (both_found (out-ArgMatches c.args.matches.now).subcommand
+    c.in_ok-name.name.now (rows_of (found_of c.in_ok-name.given.now)) c.in_ok-name.ensures.name c.in_ok-name.ensures.rows)
 
 pub returns-in_err-name : goal.returns-in_err-name
 returns-in_err-name c = rw c.from_residual.ensures (ap asked_in (none_found (out-ArgMatches c.args.matches.now).subcommand c.in_err-name.ensures.name))

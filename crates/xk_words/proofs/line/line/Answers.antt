@@ -20,6 +20,7 @@ returns c =
       orders.0,
       orders.1,
       h.shape c.in_ok-run.ensures.local
-          ∙ ap₂ with_subcommand (c.in_ok-subcommand.ensures.shape c.in_ok-check.ensures.local ∙ ap₂ with_subcommand top_is (ap (λ (a : App). a.top) check_is)) (ap (λ (a : App). a.top) run_is),
+          ∙ ap₂ with_subcommand (c.in_ok-subcommand.ensures.shape c.in_ok-check.ensures.local ∙ ap₂ with_subcommand top_is (ap (λ (a : App). a.top) check_is))
+          (ap (λ (a : App). a.top) run_is),
     ))
     c.subcommand-2.ensures

@@ -11,7 +11,8 @@ returns-clause-shape c =
     let flag_is : rule_of c.action-module_flag.result ≡ module_flag = search rules in
     let file_is : rule_of c.action-file.result ≡ file_place = search rules in
     let start_is : app_of c.about.result ≡ new_app c.args.name.now = ap app_of_fields c.about.ensures ∙ c.new-3.ensures.app in
-    IfOk-weaker c.arg-2.result _ _ (λ r h. h.shape (search rules) ∙ ap₂ with_rule (c.in_ok-arg.ensures.shape (search rules) ∙ ap₂ with_rule start_is flag_is) file_is) c.arg-2.ensures
+    IfOk-weaker c.arg-2.result _ _ (λ r h. h.shape (search rules) ∙ ap₂ with_rule (c.in_ok-arg.ensures.shape (search rules) ∙ ap₂ with_rule start_is flag_is) file_is)
+    c.arg-2.ensures
 
 pub returns-clause-local : goal.returns-clause-local
 returns-clause-local c =

@@ -25,7 +25,8 @@ free : (names : Names) → is_simple_and_free (command_line names) ≡ true
 free names = refl
 
 -- what a parse by the command line found, as a job
-job_is : (names : Names) (a : App) (words : List Text) (found : Option (Text × List _)) → a ≡ command_line names → found ≡ subcommand_of a words → asked_in found ≡ job_of names words
+job_is : (names : Names) (a : App) (words : List Text) (found : Option (Text × List _))
+    → a ≡ command_line names → found ≡ subcommand_of a words → asked_in found ≡ job_of names words
 unfolding job_of
 job_is names a words found e h = ap asked_in (h ∙ ap (λ b. subcommand_of b words) e)
 
@@ -43,20 +44,26 @@ returns-in-Some-clause-job c =
       line.0,
       line.1,
       sym (c.in-Some.ensures
-          ∙ job_is line.0 (app_of c.in_ok-command_line.command_line) (texts c.args.words.now) (subcommand_rows_of c.in-Ok.matches) line.2 (c.in-Ok.ensures.matches (ap is_simple line.2 ∙ simple line.0)).1),
+          ∙ job_is line.0 (app_of c.in_ok-command_line.command_line) (texts c.args.words.now) (subcommand_rows_of c.in-Ok.matches)
+          line.2 (c.in-Ok.ensures.matches (ap is_simple line.2 ∙ simple line.0)).1),
     )
 
 pub returns-in-Some-clause-understood : goal.returns-in-Some-clause-understood
 returns-in-Some-clause-understood c =
-    let line = c.in_ok-command_line.ensures in
-    (line.0, line.1, sym (faults_are line.0 (app_of c.in_ok-command_line.command_line) (texts c.args.words.now) line.2) ∙ c.in-Ok.ensures.kinds (ap is_simple_and_free line.2 ∙ free line.0))
+    let line = c.in_ok-command_line.ensures in (
+      line.0,
+      line.1,
+      sym (faults_are line.0 (app_of c.in_ok-command_line.command_line) (texts c.args.words.now) line.2)
+          ∙ c.in-Ok.ensures.kinds (ap is_simple_and_free line.2 ∙ free line.0),
+    )
 
 pub returns-in-Ok-clause-refused : goal.returns-in-Ok-clause-refused
 returns-in-Ok-clause-refused c =
     let line = c.in_ok-command_line.ensures in
     let none : job_of line.0 (texts c.args.words.now) ≡ None =
     sym (c.in-None.ensures
-    ∙ job_is line.0 (app_of c.in_ok-command_line.command_line) (texts c.args.words.now) (subcommand_rows_of c.in-Ok.matches) line.2 (c.in-Ok.ensures.matches (ap is_simple line.2 ∙ simple line.0)).1) in
+    ∙ job_is line.0 (app_of c.in_ok-command_line.command_line) (texts c.args.words.now) (subcommand_rows_of c.in-Ok.matches)
+    line.2 (c.in-Ok.ensures.matches (ap is_simple line.2 ∙ simple line.0)).1) in
     let no_fault : faults_in line.0 (texts c.args.words.now) ≡ [] =
     sym (faults_are line.0 (app_of c.in_ok-command_line.command_line) (texts c.args.words.now) line.2) ∙ c.in-Ok.ensures.kinds (ap is_simple_and_free line.2 ∙ free line.0) in
     (line.0, line.1, rw (no_fault, none) c.not_a_job.ensures)

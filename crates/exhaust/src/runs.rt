@@ -1,0 +1,130 @@
+//! Runs: by single steps, by a schedule, by choosers, and by turns; each call tried again where memory was refused.
+
+use crate::tries::{Wrong, holds};
+use std::alloc::Global;
+use xk_bounds::Verified;
+use xk_core::{Chooser, Core, Driver, First, Halt, Last, Round, drive, run_schedule};
+use xk_types::Act;
+
+/// A module is run in each way.
+pub fn on_verified(alloc: Global, verified: &Verified) -> Result<(), Wrong> {
+    let schedule = by_steps(alloc, verified)?;
+    by_schedule(alloc, verified, &schedule)?;
+    by_chooser(alloc, verified, First)?;
+    by_chooser(alloc, verified, Last)?;
+    by_chooser(alloc, verified, Round::new())?;
+    by_turns(alloc, verified)
+}
+
+/// A core, at the second try where memory was refused.
+fn opened<'m>(alloc: Global, verified: &'m Verified) -> Result<Core<'m>, Wrong> {
+    let made = match Core::open(alloc, verified) {
+        Err(_) => Core::open(alloc, verified),
+        answer => answer,
+    };
+    made.map_err(|_| Wrong("a core isn't opened at the second try"))
+}
+
+/// One step of an activity that can take it, at the second try where memory was refused.
+fn stepped(core: &mut Core, act: Act) -> Result<(), Wrong> {
+    holds(core.enabled(act), "a step isn't enabled")?;
+    if core.step(act).is_ok() || core.step(act).is_ok() {
+        Ok(())
+    } else {
+        Err(Wrong("a step is refused at the second try"))
+    }
+}
+
+/// Adds a number to a list, at the second try where memory was refused.
+fn note(list: &mut Vec<u32>, number: u32) -> Result<(), Wrong> {
+    if list.push(number).is_ok() || list.push(number).is_ok() {
+        Ok(())
+    } else {
+        Err(Wrong("a list doesn't grow at the second try"))
+    }
+}
+
+/// The run in which the least activity always steps; which activities those were.
+fn by_steps(alloc: Global, verified: &Verified) -> Result<Vec<u32>, Wrong> {
+    let mut core = opened(alloc, verified)?;
+    let mut schedule = Vec::new(alloc);
+    for _ in 0..=verified.steps() {
+        let Some(act) = core.pick() else {
+            return Ok(schedule);
+        };
+        stepped(&mut core, act)?;
+        note(&mut schedule, act.0)?;
+    }
+    Err(Wrong("a run is longer than its bound"))
+}
+
+/// The same run by its schedule.
+fn by_schedule(alloc: Global, verified: &Verified, schedule: &[u32]) -> Result<(), Wrong> {
+    let answer = match run_schedule(alloc, opened(alloc, verified)?, schedule) {
+        Err(Halt::OutOfMemory { .. }) => run_schedule(alloc, opened(alloc, verified)?, schedule),
+        answer => answer,
+    };
+    match answer {
+        Ok(ran) => holds(ran.core.ended(), "a schedule isn't carried out to the end"),
+        Err(_) => Err(Wrong("a schedule is halted at the second try")),
+    }
+}
+
+/// A run that a chooser drives.
+fn by_chooser<C: Chooser + Copy>(
+    alloc: Global,
+    verified: &Verified,
+    chooser: C,
+) -> Result<(), Wrong> {
+    let mut first = chooser;
+    let mut second = chooser;
+    let answer = match drive(alloc, opened(alloc, verified)?, &mut first) {
+        Err(_) => drive(alloc, opened(alloc, verified)?, &mut second),
+        answer => answer,
+    };
+    match answer {
+        Ok(ended) => holds(ended.core.ended(), "a driven run isn't over"),
+        Err(_) => Err(Wrong("a run is cut short at the second try")),
+    }
+}
+
+/// A core that a driver takes over, at the second try, with what came back, where memory was refused.
+fn taken_over<'m>(alloc: Global, verified: &'m Verified) -> Result<Driver<'m>, Wrong> {
+    let made = match Driver::new(alloc, opened(alloc, verified)?) {
+        Err(same) => Driver::new(alloc, same),
+        answer => answer,
+    };
+    made.map_err(|_| Wrong("a core isn't taken over at the second try"))
+}
+
+/// A run by turns of the greatest activity and by steps of the least one.
+fn by_turns(alloc: Global, verified: &Verified) -> Result<(), Wrong> {
+    let mut driver = taken_over(alloc, verified)?;
+    for _ in 0..=verified.steps() {
+        let Some(act) = driver.core().pick() else {
+            return holds(driver.over(), "a run by turns isn't over");
+        };
+        driver_stepped(&mut driver, act)?;
+        turned(&mut driver)?;
+    }
+    Err(Wrong("a run by turns is longer than its bound"))
+}
+
+/// One step of an activity that can take it, at the second try where memory was refused.
+fn driver_stepped(driver: &mut Driver, act: Act) -> Result<(), Wrong> {
+    holds(driver.core().enabled(act), "a step isn't enabled")?;
+    if driver.step(act).is_ok() || driver.step(act).is_ok() {
+        Ok(())
+    } else {
+        Err(Wrong("a driven step is refused at the second try"))
+    }
+}
+
+/// One turn of the greatest activity, if there is one, at the second try where memory was refused.
+fn turned(driver: &mut Driver) -> Result<(), Wrong> {
+    if driver.turn(&mut Last).is_ok() || driver.turn(&mut Last).is_ok() {
+        Ok(())
+    } else {
+        Err(Wrong("a turn is refused at the second try"))
+    }
+}

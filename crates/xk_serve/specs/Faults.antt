@@ -1,0 +1,15 @@
+-- What stands against a job, of what the reader or the verifier says. Want of memory is one fault, whoever met it.
+use Rattle.xk_module.specs.declared.fault.ModuleFault.{ModuleFault}
+use Rattle.xk_module.specs.declared.fault.ModuleFault.TheVariants as text
+use Rattle.xk_bounds.specs.declared.refusal.Refusal.{Refusal}
+use Rattle.xk_bounds.specs.declared.refusal.Refusal.TheVariants as refusal
+use Rattle.xk_serve.specs.declared.fault.Fault.{Fault}
+use Rattle.xk_serve.specs.declared.fault.Fault.TheVariants as fault
+
+abbrev pub of_text : ModuleFault → Fault
+of_text text.OutOfMemory = fault.OutOfMemory
+of_text f = fault.Text f
+
+abbrev pub of_refusal : Refusal → Fault
+of_refusal refusal.OutOfMemory = fault.OutOfMemory
+of_refusal r = fault.Refused r
