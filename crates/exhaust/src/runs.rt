@@ -1,5 +1,7 @@
 //! Runs: by single steps, by a schedule, by choosers, and by turns; each call tried again where memory was refused.
 
+ghost use Rattle.std.specs.Prelude.{◌≡◌, IfOk};
+
 use crate::tries::{Wrong, holds};
 use std::alloc::Global;
 use xk_bounds::Verified;
@@ -17,21 +19,29 @@ pub fn on_verified(alloc: Global, verified: &Verified) -> Result<(), Wrong> {
 }
 
 /// A core, at the second try where memory was refused.
-fn opened<'m>(alloc: Global, verified: &'m Verified) -> Result<Core<'m>, Wrong> {
-    let made = match Core::open(alloc, verified) {
-        Err(_) => Core::open(alloc, verified),
-        answer => answer,
-    };
-    made.map_err(|_| Wrong("a core isn't opened at the second try"))
+fn opened<'m>(alloc: Global, verified: &'m Verified) -> Result<Core<'m>, Wrong>
+    ensures unstarted { IfOk result (λ c. c.world.steps ≡ 0) }
+{
+    match Core::open(alloc, verified) {
+        Ok(core) => Ok(core),
+        Err(_) => match Core::open(alloc, verified) {
+            Ok(core) => Ok(core),
+            Err(_) => Err(Wrong("a core isn't opened at the second try")),
+        },
+    }
 }
 
 /// One step of an activity that can take it, at the second try where memory was refused.
 fn stepped(core: &mut Core, act: Act) -> Result<(), Wrong> {
-    holds(core.enabled(act), "a step isn't enabled")?;
-    if core.step(act).is_ok() || core.step(act).is_ok() {
-        Ok(())
-    } else {
-        Err(Wrong("a step is refused at the second try"))
+    if !core.enabled(act) {
+        return Err(Wrong("a step isn't enabled"));
+    }
+    if let Ok(_) = core.step(act) {
+        return Ok(());
+    }
+    match core.step(act) {
+        Ok(_) => Ok(()),
+        Err(_) => Err(Wrong("a step is refused at the second try")),
     }
 }
 
@@ -58,15 +68,40 @@ fn by_steps(alloc: Global, verified: &Verified) -> Result<Vec<u32>, Wrong> {
     Err(Wrong("a run is longer than its bound"))
 }
 
+/// Whether a schedule leads to the end; None where memory was refused.
+fn is_carried_out(
+    alloc: Global,
+    verified: &Verified,
+    schedule: &[u32],
+) -> Result<Option<bool>, Wrong> {
+    match run_schedule(alloc, opened(alloc, verified)?, schedule) {
+        Ok(ran) => Ok(Some(ran.core.ended())),
+        Err(Halt::NotEnabled { .. }) => Ok(Some(false)),
+        Err(Halt::OutOfMemory { .. }) => Ok(None),
+    }
+}
+
 /// The same run by its schedule.
 fn by_schedule(alloc: Global, verified: &Verified, schedule: &[u32]) -> Result<(), Wrong> {
-    let answer = match run_schedule(alloc, opened(alloc, verified)?, schedule) {
-        Err(Halt::OutOfMemory { .. }) => run_schedule(alloc, opened(alloc, verified)?, schedule),
+    let ends = match is_carried_out(alloc, verified, schedule)? {
+        None => is_carried_out(alloc, verified, schedule)?,
         answer => answer,
     };
-    match answer {
-        Ok(ran) => holds(ran.core.ended(), "a schedule isn't carried out to the end"),
-        Err(_) => Err(Wrong("a schedule is halted at the second try")),
+    holds(
+        ends == Some(true),
+        "a schedule isn't carried out to the end",
+    )
+}
+
+/// Whether a run that a chooser drives is over; None where memory was refused.
+fn is_driven<C: Chooser>(
+    alloc: Global,
+    verified: &Verified,
+    chooser: &mut C,
+) -> Result<Option<bool>, Wrong> {
+    match drive(alloc, opened(alloc, verified)?, chooser) {
+        Ok(ended) => Ok(Some(ended.core.ended())),
+        Err(_) => Ok(None),
     }
 }
 
@@ -78,14 +113,11 @@ fn by_chooser<C: Chooser + Copy>(
 ) -> Result<(), Wrong> {
     let mut first = chooser;
     let mut second = chooser;
-    let answer = match drive(alloc, opened(alloc, verified)?, &mut first) {
-        Err(_) => drive(alloc, opened(alloc, verified)?, &mut second),
+    let ends = match is_driven(alloc, verified, &mut first)? {
+        None => is_driven(alloc, verified, &mut second)?,
         answer => answer,
     };
-    match answer {
-        Ok(ended) => holds(ended.core.ended(), "a driven run isn't over"),
-        Err(_) => Err(Wrong("a run is cut short at the second try")),
-    }
+    holds(ends == Some(true), "a driven run isn't over")
 }
 
 /// A core that a driver takes over, at the second try, with what came back, where memory was refused.
@@ -112,11 +144,15 @@ fn by_turns(alloc: Global, verified: &Verified) -> Result<(), Wrong> {
 
 /// One step of an activity that can take it, at the second try where memory was refused.
 fn driver_stepped(driver: &mut Driver, act: Act) -> Result<(), Wrong> {
-    holds(driver.core().enabled(act), "a step isn't enabled")?;
-    if driver.step(act).is_ok() || driver.step(act).is_ok() {
-        Ok(())
-    } else {
-        Err(Wrong("a driven step is refused at the second try"))
+    if !driver.core().enabled(act) {
+        return Err(Wrong("a driven step isn't enabled"));
+    }
+    if driver.step(act).is_ok() {
+        return Ok(());
+    }
+    match driver.step(act) {
+        Ok(_) => Ok(()),
+        Err(_) => Err(Wrong("a driven step is refused at the second try")),
     }
 }
 

@@ -32,35 +32,38 @@ pub fn is_unread(alloc: Global, text: &str) -> Result<(), Wrong> {
     }
 }
 
-/// What the verifier says of the module that a text names, at the second try, with what came back, where memory was refused.
-fn checked(alloc: Global, text: &str) -> Result<Result<Verified, Refusal>, Wrong> {
-    let Ok(program) = read(alloc, text) else {
-        return Err(Wrong("a module isn't read at the second try"));
-    };
-    let answer = match verify(alloc, program) {
+/// The module that a text names.
+fn module(alloc: Global, text: &str) -> Result<Module, Wrong> {
+    match read(alloc, text) {
+        Ok(program) => Ok(program),
+        Err(_) => Err(Wrong("a module isn't read at the second try")),
+    }
+}
+
+/// Verifies a module, at the second try, with what came back, where memory was refused.
+fn checked(alloc: Global, program: Module) -> Result<Verified, (Module, Refusal)> {
+    match verify(alloc, program) {
         Err((same, Refusal::OutOfMemory)) => verify(alloc, same),
         answer => answer,
-    };
-    match answer {
-        Ok(verified) => Ok(Ok(verified)),
-        Err((_, Refusal::OutOfMemory)) => Err(Wrong("a module isn't verified at the second try")),
-        Err((_, refusal)) => Ok(Err(refusal)),
     }
 }
 
 /// A module that breaks a rule is refused for that.
 pub fn is_refused(alloc: Global, text: &str) -> Result<(), Wrong> {
-    match checked(alloc, text)? {
+    match checked(alloc, module(alloc, text)?) {
         Ok(_) => Err(Wrong("a module is accepted that breaks a rule")),
-        Err(_) => Ok(()),
+        Err((_, refusal)) => holds(
+            !matches!(refusal, Refusal::OutOfMemory),
+            "a module isn't refused at the second try",
+        ),
     }
 }
 
 /// A module that breaks no rule.
 pub fn accepted(alloc: Global, text: &str) -> Result<Verified, Wrong> {
-    match checked(alloc, text)? {
+    match checked(alloc, module(alloc, text)?) {
         Ok(verified) => Ok(verified),
-        Err(_) => Err(Wrong("a module is refused that breaks no rule")),
+        Err(_) => Err(Wrong("a module isn't accepted at the second try")),
     }
 }
 
