@@ -118,7 +118,8 @@ can_turn w a u act b None at h = cc
 can_turn w a u act b (Some _) at h = cc
 
 -- the instruction at a place of its unit
-pub instruction_there : (m : ModuleValue) (u : UnitValue) (act : Activity) (b : ℕ) → slice_get m.units act.frame.unit ≡ Some u → instruction_at m (record act.frame { place = b }) ≡ slice_get u.code b
+pub instruction_there : (m : ModuleValue) (u : UnitValue) (act : Activity) (b : ℕ) → slice_get m.units act.frame.unit ≡ Some u
+    → instruction_at m (record act.frame { place = b }) ≡ slice_get u.code b
 instruction_there m u act b found = ap (option_and_then (λ unit. slice_get unit.code b)) found
 
 -- an activity that takes a step at an instruction that adds nothing has what it works on
@@ -152,7 +153,8 @@ can_carry m w a u act instr.Advance found h one plain own = tt
 can_carry m w a u act instr.Ret found h one plain own = tt
 
 -- a slot that is there is written as the definition writes it
-pub slot_written : (act : Activity) (d : ℕ) (v : Value) (next : Activity) → d < length act.frame.slots → next ≡ onward (with_slots act (slice_set act.frame.slots d v)) → Writes act d v next
+pub slot_written : (act : Activity) (d : ℕ) (v : Value) (next : Activity) → d < length act.frame.slots
+    → next ≡ onward (with_slots act (slice_set act.frame.slots d v)) → Writes act d v next
 slot_written act d v next lt e go = ap (λ o. put_in o act d v go) (slice_get-get_or act.frame.slots d value.Unset lt) ∙ ap go (sym e)
 
 -- what is computed is what the definition computes
@@ -167,7 +169,8 @@ leaves_done w a act [] next ch e did = rw (did.0, did.1, did.2) refl
 leaves_done w a act (f ∷ fs) next ch e did = rw (did.0, did.1.0, did.1.1) refl
 
 -- what it leaves is what the definition gives
-pub carries_done : (m : ModuleValue) (w : World) (a : ℕ) (u : UnitValue) (act : Activity) (i : Instr) (next : Activity) (ch : StepChange) (e : Event) → slice_get m.units act.frame.unit ≡ Some u
+pub carries_done : (m : ModuleValue) (w : World) (a : ℕ) (u : UnitValue) (act : Activity) (i : Instr) (next : Activity) (ch : StepChange) (e : Event)
+    → slice_get m.units act.frame.unit ≡ Some u
     → is_step (carried_out m w a act i) ≡ true → Carries u act i next ch e → carried_out m w a act i ≡ done w a next (standing_after_step ch) e
 carries_done m w a u act (instr.Lit d n) next ch e found h did = rw (did.1.0, did.1.1) (did.0 (λ x. done w a x none event.Local))
 carries_done m w a u act (instr.Copy d x) next ch e found h did = rw (did.1, did.3.0, did.3.1) (did.2 (λ z. done w a z none event.Local))
@@ -231,16 +234,19 @@ unit_within m w a act units n runs there same which =
     omega (arith, which, ap length same)
 
 -- the activity that is read takes the step
-pub actor_there : (m : ModuleValue) (w : World) (a : ℕ) (i : Instr) (act : Activity) → is_step (carried m w a i) ≡ true → act ≡ get_or w.activities a act → slice_get w.activities a ≡ Some act
+pub actor_there : (m : ModuleValue) (w : World) (a : ℕ) (i : Instr) (act : Activity) → is_step (carried m w a i) ≡ true → act ≡ get_or w.activities a act
+    → slice_get w.activities a ≡ Some act
 actor_there m w a i act h is = read_at w a act (carried_within m w a i h) is
 
-pub operands_there : (m : ModuleValue) (w : World) (a : ℕ) (i : Instr) (act : Activity) (u : UnitValue) → is_step (carried m w a i) ≡ true → grows i ≡ false → concerns_finishes i ≡ false → concerns_cells i ≡ false → act ≡ get_or w.activities a act
+pub operands_there : (m : ModuleValue) (w : World) (a : ℕ) (i : Instr) (act : Activity) (u : UnitValue) → is_step (carried m w a i) ≡ true
+    → grows i ≡ false → concerns_finishes i ≡ false → concerns_cells i ≡ false → act ≡ get_or w.activities a act
     → slice_get m.units act.frame.unit ≡ Some u → CanCarry u act i
 operands_there m w a i act u h one plain own e found =
     can_carry m w a u act i found (ap is_step (sym (carried_there m w a i act (read_at w a act (carried_within m w a i h) e))) ∙ h) one plain own
 
 -- the step that the arm took
-pub arm_done : (m : ModuleValue) (w : World) (a : ℕ) (i : Instr) (act next : Activity) (u : UnitValue) (ch : StepChange) (e : Event) → is_step (carried m w a i) ≡ true → act ≡ get_or w.activities a act
+pub arm_done : (m : ModuleValue) (w : World) (a : ℕ) (i : Instr) (act next : Activity) (u : UnitValue) (ch : StepChange) (e : Event)
+    → is_step (carried m w a i) ≡ true → act ≡ get_or w.activities a act
     → slice_get m.units act.frame.unit ≡ Some u → Carries u act i next ch e → carried m w a i ≡ done w a next (standing_after_step ch) e
 arm_done m w a i act next u ch e h is found did =
     let there = carried_there m w a i act (read_at w a act (carried_within m w a i h) is) in
@@ -285,7 +291,8 @@ spawning_there m w a act unit args u found here h =
 pub spawn_by : (m : ModuleValue) (w : World) (a : ℕ) (act : Activity) (unit : ℕ) (args : List ℕ) (o : Option UnitValue) → slice_get m.units unit ≡ o
     → slice_get w.activities a ≡ Some act → is_step (carried m w a (instr.Spawn unit args)) ≡ true → (u : UnitValue) × (slice_get m.units unit ≡ Some u)
 spawn_by m w a act unit args None e here h =
-    let g : is_step (spawning m w a act unit args None) ≡ true = ap is_step (sym (carried_there m w a (instr.Spawn unit args) act here ∙ ap (spawning m w a act unit args) e)) ∙ h in
+    let g : is_step (spawning m w a act unit args None) ≡ true = ap is_step
+    (sym (carried_there m w a (instr.Spawn unit args) act here ∙ ap (spawning m w a act unit args) e)) ∙ h in
     cc
 spawn_by m w a act unit args (Some u) e here h = (u, e)
 
@@ -405,7 +412,8 @@ cell_there : (o : Option ℤ) (go : ℤ → Outcome) → is_step (cell_in o go) 
 cell_there None go h = absurd (false≢true h)
 cell_there (Some n) go h = (n, refl, refl, h)
 
-pub get_there : (m : ModuleValue) (w : World) (a : ℕ) (act : Activity) (d s : ℕ) → act ≡ get_or w.activities a act → is_step (carried m w a (instr.Get d s)) ≡ true → IsGet m w a act d s
+pub get_there : (m : ModuleValue) (w : World) (a : ℕ) (act : Activity) (d s : ℕ) → act ≡ get_or w.activities a act
+    → is_step (carried m w a (instr.Get d s)) ≡ true → IsGet m w a act d s
 get_there m w a act d s is h =
     let e = carried_there m w a (instr.Get d s) act (read_at w a act (carried_within m w a (instr.Get d s) h) is) in
     let c = cell_there (slice_get w.cells s) (λ n. writing act d (value.Number n) (λ next. done w a next none event.Got)) (ap is_step (sym e) ∙ h) in

@@ -9,14 +9,16 @@ use Rattle.xk_types.specs.Step.{moved, moved_on, joined, joined_on}
 use Rattle.xk_core.specs.Joining.{left_by_last, joined_first}
 
 -- one clock more of those that are changed in order
-pub moved_over_more : (a : ℕ) (f : ℕ → Standing → Standing) (xs ys : List Clock) (i : ℕ) (x : Clock) → i < length xs → ys ≡ moved a f (take i xs) ++ drop i xs → x ≡ get_or ys i x → set ys i (moved_on a (f i) x) ≡ moved a f (take (suc i) xs) ++ drop (suc i) xs
+pub moved_over_more : (a : ℕ) (f : ℕ → Standing → Standing) (xs ys : List Clock) (i : ℕ) (x : Clock) → i < length xs → ys ≡ moved a f (take i xs)
+    ++ drop i xs → x ≡ get_or ys i x → set ys i (moved_on a (f i) x) ≡ moved a f (take (suc i) xs) ++ drop (suc i) xs
 moved_over_more a f [] ys i x lt h is = absurd (omega arith)
 moved_over_more a f (z ∷ xs) ys zero x lt h is = rw h (let e : x ≡ z = rw h at is in rw e refl)
 moved_over_more a f (z ∷ xs) ys (suc i) x lt h is =
     rw h (ap (λ rest. moved_on a (f 0) z ∷ rest) (moved_over_more a (λ k. f (suc k)) xs (moved a (λ k. f (suc k)) (take i xs) ++ drop i xs) i x (omega arith) refl (rw h at is)))
 
 -- the same with the next number as a sum
-pub moved_over_next : (a : ℕ) (f : ℕ → Standing → Standing) (xs ys : List Clock) (i : ℕ) (x : Clock) → i < length xs → ys ≡ moved a f (take i xs) ++ drop i xs → x ≡ get_or ys i x → set ys i (moved_on a (f i) x) ≡ moved a f (take (i + 1) xs) ++ drop (i + 1) xs
+pub moved_over_next : (a : ℕ) (f : ℕ → Standing → Standing) (xs ys : List Clock) (i : ℕ) (x : Clock) → i < length xs → ys ≡ moved a f (take i xs)
+    ++ drop i xs → x ≡ get_or ys i x → set ys i (moved_on a (f i) x) ≡ moved a f (take (i + 1) xs) ++ drop (i + 1) xs
 moved_over_next a f xs ys i x lt h is = rw add-one (moved_over_more a f xs ys i x lt h is)
 
 -- a change of standings leaves the phases
@@ -36,14 +38,16 @@ phases-moved n a f cs h k d lt = rw (phase-moved a f cs k d) (h k d (rw (length-
 -- ---- taking in an activity, and putting it out again
 
 -- one clock more of those that take it in in order
-pub joined_over_more : (a : ℕ) (g : ℕ → Bool) (xs ys : List Clock) (i : ℕ) (x : Clock) → i < length xs → ys ≡ joined a g (take i xs) ++ drop i xs → x ≡ get_or ys i x → set ys i (joined_on a (g i) x) ≡ joined a g (take (suc i) xs) ++ drop (suc i) xs
+pub joined_over_more : (a : ℕ) (g : ℕ → Bool) (xs ys : List Clock) (i : ℕ) (x : Clock) → i < length xs → ys ≡ joined a g (take i xs) ++ drop i xs
+    → x ≡ get_or ys i x → set ys i (joined_on a (g i) x) ≡ joined a g (take (suc i) xs) ++ drop (suc i) xs
 joined_over_more a g [] ys i x lt h is = absurd (omega arith)
 joined_over_more a g (z ∷ xs) ys zero x lt h is = rw h (let e : x ≡ z = rw h at is in rw e refl)
 joined_over_more a g (z ∷ xs) ys (suc i) x lt h is =
     rw h (ap (λ rest. joined_on a (g 0) z ∷ rest) (joined_over_more a (λ k. g (suc k)) xs (joined a (λ k. g (suc k)) (take i xs) ++ drop i xs) i x (omega arith) refl (rw h at is)))
 
 -- the same with the next number as a sum
-pub joined_over_next : (a : ℕ) (g : ℕ → Bool) (xs ys : List Clock) (i : ℕ) (x : Clock) → i < length xs → ys ≡ joined_first i a g xs → x ≡ get_or ys i x → set ys i (joined_on a (g i) x) ≡ joined_first (i + 1) a g xs
+pub joined_over_next : (a : ℕ) (g : ℕ → Bool) (xs ys : List Clock) (i : ℕ) (x : Clock) → i < length xs → ys ≡ joined_first i a g xs
+    → x ≡ get_or ys i x → set ys i (joined_on a (g i) x) ≡ joined_first (i + 1) a g xs
 joined_over_next a g xs ys i x lt h is = rw add-one (joined_over_more a g xs ys i x lt h is)
 
 -- all of them have

@@ -81,7 +81,8 @@ core_names m w core = omega (arith, (reached_room m core.limits core.accepted w 
 
 -- ---- the two ways to step
 
-pass_of : (m : ModuleValue) (w : World) (a : ℕ) (act : Activity) (s : Status) → is_step (step_by m w a act s) ≡ true → instruction_by m act s ≡ None → step_by m w a act s ≡ passing w a act
+pass_of : (m : ModuleValue) (w : World) (a : ℕ) (act : Activity) (s : Status) → is_step (step_by m w a act s) ≡ true → instruction_by m act s ≡ None
+    → step_by m w a act s ≡ passing w a act
 pass_of m w a act status.Running h e = let bad : is_step (run_at m w a act None) ≡ true = rw e at h in cc
 pass_of m w a act status.Arrived h e = refl
 pass_of m w a act status.Ended h e = cc

@@ -28,7 +28,7 @@ use Rattle.xk_finishes.proofs.Activities.{awaits_same}
 use Rattle.xk_core.specs.Arm.{value_at, carried, carried_by, passed_on, passing_by, concerns_finishes, IsRoomy, IsRunningUnit}
 use Rattle.xk_core.specs.Able.{able_by, able_of, is_able, kept_by, is_kept}
 use Rattle.xk_core.specs.Core.{IsCore, instruction_by, instruction_of, next_instruction}
-use Rattle.xk_core.specs.Told.{with_node, with_nodes, told, is_end, IsToldOf, AreTold}
+use Rattle.xk_core.specs.Told.{with_node, with_nodes, with_finishes, is_end, IsToldOf, AreTold}
 use Rattle.xk_core.proofs.Cores.{core_roomy, core_runs, core_stepped, core_bound, core_able, pass_step, carry_step}
 use Rattle.xk_core.proofs.Told.{length_told, get_told, set_told, set_both, told_so, Leaves, Tells, IsTold, carried_told, spawn_told}
 use Rattle.xk_core.proofs.Arms.{spawning_there, spawn_by}
@@ -65,28 +65,29 @@ node_is ns a n h = get_or_from_slice_get ns a n _ h
 -- ---- what is read of a core
 
 -- statuses are the same
-pub ended_told : (ns : List NodeValue) (xs : List Activity) → length ns ≡ length xs → list_all (λ (act : Activity). is_ended act.status) (with_nodes ns xs) ≡ list_all (λ (act : Activity). is_ended act.status) xs
+pub ended_told : (ns : List NodeValue) (xs : List Activity) → length ns ≡ length xs
+    → list_all (λ (act : Activity). is_ended act.status) (with_nodes ns xs) ≡ list_all (λ (act : Activity). is_ended act.status) xs
 ended_told [] [] h = refl
 ended_told [] (x ∷ xs) h = absurd (omega arith)
 ended_told (n ∷ ns) [] h = refl
 ended_told (n ∷ ns) (x ∷ xs) h = ap (λ b. is_ended x.status && b) (ended_told ns xs (omega arith))
 
-pub able_told : (ns : List NodeValue) (w : World) → length ns ≡ length w.activities → (a : ℕ) → is_able (told ns w) a ≡ is_able w a
+pub able_told : (ns : List NodeValue) (w : World) → length ns ≡ length w.activities → (a : ℕ) → is_able (with_finishes ns w) a ≡ is_able w a
 able_told ns w width a = by (told_at ns w.activities width a)
   where
-    by : At ns w.activities a → is_able (told ns w) a ≡ is_able w a
-    by (Nobody e g) = ap (able_of (told ns w) a) g ∙ sym (ap (able_of w a) e)
-    by (Somebody n x h e g) = ap (able_of (told ns w) a) g ∙ same x.status ∙ sym (ap (able_of w a) e)
+    by : At ns w.activities a → is_able (with_finishes ns w) a ≡ is_able w a
+    by (Nobody e g) = ap (able_of (with_finishes ns w) a) g ∙ sym (ap (able_of w a) e)
+    by (Somebody n x h e g) = ap (able_of (with_finishes ns w) a) g ∙ same x.status ∙ sym (ap (able_of w a) e)
       where
-        same : (s : Status) → able_by (told ns w) a s ≡ able_by w a s
+        same : (s : Status) → able_by (with_finishes ns w) a s ≡ able_by w a s
         same status.Running = refl
         same status.Arrived = refl
         same status.Ended = refl
 
-pub next_told : (m : ModuleValue) (ns : List NodeValue) (w : World) → length ns ≡ length w.activities → (a : ℕ) → next_instruction m (told ns w) a ≡ next_instruction m w a
+pub next_told : (m : ModuleValue) (ns : List NodeValue) (w : World) → length ns ≡ length w.activities → (a : ℕ) → next_instruction m (with_finishes ns w) a ≡ next_instruction m w a
 next_told m ns w width a = by (told_at ns w.activities width a)
   where
-    by : At ns w.activities a → next_instruction m (told ns w) a ≡ next_instruction m w a
+    by : At ns w.activities a → next_instruction m (with_finishes ns w) a ≡ next_instruction m w a
     by (Nobody e g) = ap (instruction_of m) g ∙ sym (ap (instruction_of m) e)
     by (Somebody n x h e g) = ap (instruction_of m) g ∙ same x.status ∙ sym (ap (instruction_of m) e)
       where
@@ -95,10 +96,12 @@ next_told m ns w width a = by (told_at ns w.activities width a)
         same status.Arrived = refl
         same status.Ended = refl
 
-pub since_told : (ns : List NodeValue) (w : World) → length ns ≡ length w.activities → (a : ℕ) → option_map (λ (x : Activity). x.since) (slice_get (told ns w).activities a) ≡ option_map (λ (x : Activity). x.since) (slice_get w.activities a)
+pub since_told : (ns : List NodeValue) (w : World) → length ns ≡ length w.activities → (a : ℕ)
+    → option_map (λ (x : Activity). x.since) (slice_get (with_finishes ns w).activities a) ≡ option_map (λ (x : Activity). x.since) (slice_get w.activities a)
 since_told ns w width a = by (told_at ns w.activities width a)
   where
-    by : At ns w.activities a → option_map (λ (x : Activity). x.since) (slice_get (told ns w).activities a) ≡ option_map (λ (x : Activity). x.since) (slice_get w.activities a)
+    by : At ns w.activities a → option_map (λ (x : Activity). x.since) (slice_get (with_finishes ns w).activities a) ≡ option_map (λ (x : Activity). x.since)
+        (slice_get w.activities a)
     by (Nobody e g) = ap (option_map (λ (x : Activity). x.since)) (g ∙ sym e)
     by (Somebody n x h e g) = ap (option_map (λ (x : Activity). x.since)) g ∙ sym (ap (option_map (λ (x : Activity). x.since)) e)
 
@@ -106,30 +109,36 @@ since_told ns w width a = by (told_at ns w.activities width a)
 pub nodes_told : (m : ModuleValue) (ns : List NodeValue) (xs : List Activity) → AreTold m ns xs → AreNodesOf (with_nodes ns xs) ns
 nodes_told m ns xs t = from ns xs t.width (λ a n x h g. (t.each a n x h g).ended)
   where
-    from : (ks : List NodeValue) (ys : List Activity) → length ks ≡ length ys → ((a : ℕ) (n : NodeValue) (x : Activity) → slice_get ks a ≡ Some n → slice_get ys a ≡ Some x → n.ended ≡ is_ended x.status)
+    from : (ks : List NodeValue) (ys : List Activity) → length ks ≡ length ys
+        → ((a : ℕ) (n : NodeValue) (x : Activity) → slice_get ks a ≡ Some n → slice_get ys a ≡ Some x → n.ended ≡ is_ended x.status)
         → AreNodesOf (with_nodes ks ys) ks
     from [] [] h each = tt
     from [] (y ∷ ys) h each = tt
     from (k ∷ ks) [] h each = absurd (omega arith)
-    from (k ∷ ks) (y ∷ ys) h each = (ap (λ b. record { opened = k.opened; room = k.room; governed = k.governed; ended = b }) (each zero k y refl refl), from ks ys (omega arith) (λ a n x p q. each (suc a) n x p q))
+    from (k ∷ ks) (y ∷ ys) h each = (
+      ap (λ b. record { opened = k.opened; room = k.room; governed = k.governed; ended = b })
+          (each zero k y refl refl),
+      from ks ys (omega arith) (λ a n x p q. each (suc a) n x p q),
+    )
 
 -- ---- a core, by its parts
 
 -- the world is one that a legal schedule reaches, and the tree tells of it
 pub record IsHeld (m : ModuleValue) (ns : List NodeValue) (w : World) : Type 0 where
-  pub core : IsCore m (told ns w)
+  pub core : IsCore m (with_finishes ns w)
   pub are : AreTold m ns w.activities
 
-pub held : (m : ModuleValue) (ns : List NodeValue) (w : World) → IsCore m (told ns w) × AreTold m ns w.activities → IsHeld m ns w
+pub held : (m : ModuleValue) (ns : List NodeValue) (w : World) → IsCore m (with_finishes ns w) × AreTold m ns w.activities → IsHeld m ns w
 held m ns w h = record { core = h.0; are = h.1 }
 
-pub parts : (m : ModuleValue) (ns : List NodeValue) (w : World) → IsHeld m ns w → IsCore m (told ns w) × AreTold m ns w.activities
+pub parts : (m : ModuleValue) (ns : List NodeValue) (w : World) → IsHeld m ns w → IsCore m (with_finishes ns w) × AreTold m ns w.activities
 parts m ns w h = (h.core, h.are)
 
 -- it goes on by a step
-pub held_on : (m : ModuleValue) (ns ks : List NodeValue) (w v : World) (a : ℕ) (e : Event) → IsHeld m ns w → AreTold m ks v.activities → step m (told ns w) a ≡ Stepped (told ks v) e → IsHeld m ks v
+pub held_on : (m : ModuleValue) (ns ks : List NodeValue) (w v : World) (a : ℕ) (e : Event) → IsHeld m ns w → AreTold m ks v.activities
+    → step m (with_finishes ns w) a ≡ Stepped (with_finishes ks v) e → IsHeld m ks v
 held_on m ns ks w v a e h are goes = record {
-  core = core_stepped m (told ns w) (told ks v) a e h.core goes;
+  core = core_stepped m (with_finishes ns w) (with_finishes ks v) a e h.core goes;
   are = are;
 }
 
@@ -137,7 +146,7 @@ module _ (m : ModuleValue) (ns : List NodeValue) (w : World) (a : ℕ) (h : IsHe
   -- one more of each number fits its type
   pub parts_roomy : IsRoomy w a
   parts_roomy =
-      let r = core_roomy m (told ns w) a h.core in
+      let r = core_roomy m (with_finishes ns w) a h.core in
       record {
         steps = r.steps;
         phases = r.phases;
@@ -150,12 +159,12 @@ module _ (m : ModuleValue) (ns : List NodeValue) (w : World) (a : ℕ) (h : IsHe
       by : (act : Activity) → slice_get w.activities a ≡ Some act → At ns w.activities a → act.frame.place + 1 < 2 ^ 16
       by act there (Nobody e g) = absurd (none-some act (sym e ∙ there))
       by act there (Somebody n x k e g) = (let same : x ≡ act = same_Some x act (sym e ∙ there) in
-          subst (λ (y : Activity). y.frame.place + 1 < 2 ^ 16) same ((core_roomy m (told ns w) a h.core).place (with_node n x) g))
+          subst (λ (y : Activity). y.frame.place + 1 < 2 ^ 16) same ((core_roomy m (with_finishes ns w) a h.core).place (with_node n x) g))
 
       below : (act : Activity) → slice_get w.activities a ≡ Some act → At ns w.activities a → All (λ f. f.place + 1 < 2 ^ 16) act.callers
       below act there (Nobody e g) = absurd (none-some act (sym e ∙ there))
       below act there (Somebody n x k e g) = (let same : x ≡ act = same_Some x act (sym e ∙ there) in
-          subst (λ (y : Activity). All (λ f. f.place + 1 < 2 ^ 16) y.callers) same ((core_roomy m (told ns w) a h.core).callers (with_node n x) g))
+          subst (λ (y : Activity). All (λ f. f.place + 1 < 2 ^ 16) y.callers) same ((core_roomy m (with_finishes ns w) a h.core).callers (with_node n x) g))
 
   pub parts_runs : IsRunningUnit m w a
   parts_runs act there = by (told_at ns w.activities h.are.width a)
@@ -163,27 +172,29 @@ module _ (m : ModuleValue) (ns : List NodeValue) (w : World) (a : ℕ) (h : IsHe
       by : At ns w.activities a → Rattle.xk_core.specs.Arm.RunsUnit m act
       by (Nobody e g) = absurd (none-some act (sym e ∙ there))
       by (Somebody n x k e g) = (let same : x ≡ act = same_Some x act (sym e ∙ there) in
-          let r = core_runs m (told ns w) a h.core (with_node n x) g in
+          let r = core_runs m (with_finishes ns w) a h.core (with_node n x) g in
           subst (Rattle.xk_core.specs.Arm.RunsUnit m) same (record { u = r.u; found = r.found; short = r.short }))
 
   -- who is able and isn't kept is enabled
-  pub parts_able : (is_able w a && not (is_kept m (told ns w) a)) ≡ is_enabled m (told ns w) a
-  parts_able = ap (λ b. b && not (is_kept m (told ns w) a)) (sym (able_told ns w h.are.width a)) ∙ core_able m (told ns w) a h.core
+  pub parts_able : (is_able w a && not (is_kept m (with_finishes ns w) a)) ≡ is_enabled m (with_finishes ns w) a
+  parts_able = ap (λ b. b && not (is_kept m (with_finishes ns w) a)) (sym (able_told ns w h.are.width a)) ∙ core_able m (with_finishes ns w) a h.core
 
   -- ---- a pass
 
   -- an enabled activity that doesn't run passes, also without finishes
-  module _ (enabled : is_enabled m (told ns w) a ≡ true) (next : next_instruction m (told ns w) a ≡ None) where
-    pass_goes : step m (told ns w) a ≡ passed_on (told ns w) a
-    pass_goes = pass_step m (told ns w) a enabled next
+  module _ (enabled : is_enabled m (with_finishes ns w) a ≡ true) (next : next_instruction m (with_finishes ns w) a ≡ None) where
+    pass_goes : step m (with_finishes ns w) a ≡ passed_on (with_finishes ns w) a
+    pass_goes = pass_step m (with_finishes ns w) a enabled next
 
-    pass_same : (o : Outcome) → passed_on w a ≡ o → At ns w.activities a → passed_on (told ns w) a ≡ told_so ns o
-    pass_same o e (Nobody p g) = ap (passing_by (told ns w) a) g ∙ ap (told_so ns) (sym (ap (passing_by w a) p) ∙ e)
-    pass_same o e (Somebody n x k p g) = ap (passing_by (told ns w) a) g ∙ waits_same (waits w a) ∙ ap (told_so ns) (sym (ap (passing_by w a) p) ∙ e)
+    pass_same : (o : Outcome) → passed_on w a ≡ o → At ns w.activities a → passed_on (with_finishes ns w) a ≡ told_so ns o
+    pass_same o e (Nobody p g) = ap (passing_by (with_finishes ns w) a) g ∙ ap (told_so ns) (sym (ap (passing_by w a) p) ∙ e)
+    pass_same o e (Somebody n x k p g) = ap (passing_by (with_finishes ns w) a) g ∙ waits_same (waits w a) ∙ ap (told_so ns) (sym (ap (passing_by w a) p) ∙ e)
       where
-        waits_same : (b : Bool) → cond b Blocked (done (told ns w) a (past (with_node n x) (w.steps + 1)) (all passed) event.Passed) ≡ told_so ns (cond b Blocked (done w a (past x (w.steps + 1)) (all passed) event.Passed))
+        waits_same : (b : Bool) → cond b Blocked (done (with_finishes ns w) a (past (with_node n x) (w.steps + 1)) (all passed) event.Passed) ≡ told_so ns
+            (cond b Blocked (done w a (past x (w.steps + 1)) (all passed) event.Passed))
         waits_same true = refl
-        waits_same false = ap (λ l. Stepped (settled (record w { activities = l; clocks = moved a (all passed) w.clocks })) event.Passed) (sym (set_told ns w.activities a n (past x (w.steps + 1)) k))
+        waits_same false = ap (λ l. Stepped (settled (record w { activities = l; clocks = moved a (all passed) w.clocks })) event.Passed)
+            (sym (set_told ns w.activities a n (past x (w.steps + 1)) k))
 
     pub pass_enabled : is_step (passed_on w a) ≡ true
     pass_enabled = so (passed_on w a) refl
@@ -191,12 +202,12 @@ module _ (m : ModuleValue) (ns : List NodeValue) (w : World) (a : ℕ) (h : IsHe
         so : (o : Outcome) → passed_on w a ≡ o → is_step o ≡ true
         so o e = is o (sym (pass_same o e (told_at ns w.activities h.are.width a)) ∙ sym pass_goes)
           where
-            is : (q : Outcome) → told_so ns q ≡ step m (told ns w) a → is_step q ≡ true
+            is : (q : Outcome) → told_so ns q ≡ step m (with_finishes ns w) a → is_step q ≡ true
             is Blocked f = absurd (false≢true (ap is_step f ∙ enabled))
             is (Wrong c) f = absurd (false≢true (ap is_step f ∙ enabled))
             is (Stepped v x) f = refl
 
-    pub pass_stepped : (v : World) (e : Event) → passed_on w a ≡ Stepped v e → step m (told ns w) a ≡ Stepped (told ns v) e
+    pub pass_stepped : (v : World) (e : Event) → passed_on w a ≡ Stepped v e → step m (with_finishes ns w) a ≡ Stepped (with_finishes ns v) e
     pass_stepped v e p = pass_goes ∙ pass_same (Stepped v e) p (told_at ns w.activities h.are.width a)
 
 -- ---- what the tree tells after a step
@@ -216,15 +227,18 @@ told_set m ns xs a k x y t found now ks width here others = record {
     by b n z p q (inr differs) = t.each b n z (sym (others b differs) ∙ p) (sym (get-set_other xs a b y differs) ∙ q)
 
 -- the same tree
-told_stays : (m : ModuleValue) (ns : List NodeValue) (xs : List Activity) (a : ℕ) (n : NodeValue) (x y : Activity) → AreTold m ns xs → slice_get ns a ≡ Some n → slice_get xs a ≡ Some x
+told_stays : (m : ModuleValue) (ns : List NodeValue) (xs : List Activity) (a : ℕ) (n : NodeValue) (x y : Activity) → AreTold m ns xs → slice_get ns a ≡ Some n
+    → slice_get xs a ≡ Some x
     → is_ended y.status ≡ is_ended x.status → base_unit y ≡ base_unit x → AreTold m ns (slice_set xs a y)
 told_stays m ns xs a n x y t here found st base = told_set m ns xs a n x y t found
     (let s = t.each a n x here found in record { ended = s.ended ∙ sym st; room = s.room ∙ ap (room_of m) (sym base) }) ns refl here (λ b differs. refl)
 
 -- a node changed too
-told_changed : (m : ModuleValue) (ns : List NodeValue) (xs : List Activity) (a : ℕ) (n k : NodeValue) (x y : Activity) → AreTold m ns xs → slice_get ns a ≡ Some n → slice_get xs a ≡ Some x
+told_changed : (m : ModuleValue) (ns : List NodeValue) (xs : List Activity) (a : ℕ) (n k : NodeValue) (x y : Activity) → AreTold m ns xs
+    → slice_get ns a ≡ Some n → slice_get xs a ≡ Some x
     → IsToldOf m k y → AreTold m (slice_set ns a k) (slice_set xs a y)
-told_changed m ns xs a n k x y t here found now = told_set m ns xs a k x y t found now (slice_set ns a k) (length-set ns a k) (get-set_same ns a n k here) (λ b differs. get-set_other ns a b k differs)
+told_changed m ns xs a n k x y t here found now = told_set m ns xs a k x y t found now (slice_set ns a k) (length-set ns a k) (get-set_same ns a n k here)
+    (λ b differs. get-set_other ns a b k differs)
 
 -- a new activity
 told_push : (m : ModuleValue) (ns : List NodeValue) (xs : List Activity) (k : NodeValue) (y : Activity) → AreTold m ns xs → IsToldOf m k y → AreTold m (ns ++ k ∷ []) (xs ++ y ∷ [])
@@ -261,11 +275,11 @@ module _ (m : ModuleValue) (ns : List NodeValue) (w : World) (a : ℕ) (h : IsHe
     pub x : Activity
     pub here : slice_get ns a ≡ Some n
     pub found : slice_get w.activities a ≡ Some x
-    pub both : slice_get (told ns w).activities a ≡ Some (with_node n x)
+    pub both : slice_get (with_finishes ns w).activities a ≡ Some (with_node n x)
     pub running : x.status ≡ status.Running
     pub at : instruction_at m x.frame ≡ Some i
 
-  pub runs : (i : Instr) → next_instruction m (told ns w) a ≡ Some i → Runs i
+  pub runs : (i : Instr) → next_instruction m (with_finishes ns w) a ≡ Some i → Runs i
   runs i next = by (told_at ns w.activities h.are.width a)
     where
       by : At ns w.activities a → Runs i
@@ -277,17 +291,17 @@ module _ (m : ModuleValue) (ns : List NodeValue) (w : World) (a : ℕ) (h : IsHe
           go status.Arrived st f = absurd (none-some i f)
           go status.Ended st f = absurd (none-some i f)
 
-  sound : IsSound m (told ns w)
-  sound = reached_sound m h.core.limits h.core.accepted (told ns w) h.core.reached
+  sound : IsSound m (with_finishes ns w)
+  sound = reached_sound m h.core.limits h.core.accepted (with_finishes ns w) h.core.reached
 
-  scoped : IsScoped m (told ns w)
-  scoped = reached_scoped m h.core.limits h.core.accepted (told ns w) h.core.reached
+  scoped : IsScoped m (with_finishes ns w)
+  scoped = reached_scoped m h.core.limits h.core.accepted (with_finishes ns w) h.core.reached
 
   -- it stands at the instruction in the unit that it runs
   stands : (i : Instr) (r : Runs i) → slice_get (sound.activities a (with_node r.n r.x) r.both).u.code r.x.frame.place ≡ Some i
   stands i r =
-      let s = standing_at m h.core.accepted (told ns w) a (with_node r.n r.x) sound r.both r.running in
-      let same : s.0 ≡ i = same_Some s.0 i (sym (instruction_found m h.core.accepted (told ns w) a (with_node r.n r.x) sound r.both r.running s.0 s.1) ∙ r.at) in
+      let s = standing_at m h.core.accepted (with_finishes ns w) a (with_node r.n r.x) sound r.both r.running in
+      let same : s.0 ≡ i = same_Some s.0 i (sym (instruction_found m h.core.accepted (with_finishes ns w) a (with_node r.n r.x) sound r.both r.running s.0 s.1) ∙ r.at) in
       s.1 ∙ ap Some same
 
   pub exists : (i : Instr) → Runs i → (a < length ns) × (a < length w.activities)
@@ -297,25 +311,27 @@ module _ (m : ModuleValue) (ns : List NodeValue) (w : World) (a : ℕ) (h : IsHe
   alive i r = ap (λ (n : NodeValue). n.ended) (node_is ns a r.n r.here) ∙ (h.are.each a r.n r.x r.here r.found).ended ∙ ap is_ended r.running
 
   -- the step is what the activity does at the instruction
-  goes : (i : Instr) → next_instruction m (told ns w) a ≡ Some i → (r : Runs i) → step m (told ns w) a ≡ carried_out m (told ns w) a (with_node r.n r.x) i
-  goes i next r = carry_step m (told ns w) a i next ∙ ap (carried_by m (told ns w) a i) r.both
+  goes : (i : Instr) → next_instruction m (with_finishes ns w) a ≡ Some i → (r : Runs i)
+      → step m (with_finishes ns w) a ≡ carried_out m (with_finishes ns w) a (with_node r.n r.x) i
+  goes i next r = carry_step m (with_finishes ns w) a i next ∙ ap (carried_by m (with_finishes ns w) a i) r.both
 
   -- ---- `finish`
 
   pub open_room : (e : ℕ) → Runs (instr.Finish e) → (node_at ns a).opened < (node_at ns a).room
   open_room e r =
       let k = node_is ns a r.n r.here in
-      let q = room_at_finish m h.core.accepted (told ns w) sound scoped a (with_node r.n r.x) r.both e (stands (instr.Finish e) r) in
+      let q = room_at_finish m h.core.accepted (with_finishes ns w) sound scoped a (with_node r.n r.x) r.both e (stands (instr.Finish e) r) in
       let s = (h.are.each a r.n r.x r.here r.found).room in
       subst (λ (z : NodeValue). z.opened < z.room) (sym k) (omega (arith, q, s))
 
-  pub open_stepped : (e : ℕ) → next_instruction m (told ns w) a ≡ Some (instr.Finish e) → (r : Runs (instr.Finish e)) → (v : World)
+  pub open_stepped : (e : ℕ) → next_instruction m (with_finishes ns w) a ≡ Some (instr.Finish e) → (r : Runs (instr.Finish e)) → (v : World)
       → v ≡ settled (record w { activities = slice_set w.activities a (onward r.x); clocks = moved a none w.clocks })
-      → step m (told ns w) a ≡ Stepped (told (changed_at ns a node_entered) v) event.Opened
+      → step m (with_finishes ns w) a ≡ Stepped (with_finishes (changed_at ns a node_entered) v) event.Opened
   open_stepped e next r v is = goes (instr.Finish e) next r
       ∙ ap (λ l. Stepped (settled (record w { activities = l; clocks = moved a none w.clocks })) event.Opened)
-      (sym (set_both ns w.activities a (node_entered r.n) (onward r.x)) ∙ ap (λ z. with_nodes (slice_set ns a (node_entered z)) (slice_set w.activities a (onward r.x))) (sym (node_is ns a r.n r.here)))
-      ∙ ap (λ u. Stepped (told (changed_at ns a node_entered) u) event.Opened) (sym is)
+      (sym (set_both ns w.activities a (node_entered r.n) (onward r.x))
+      ∙ ap (λ z. with_nodes (slice_set ns a (node_entered z)) (slice_set w.activities a (onward r.x))) (sym (node_is ns a r.n r.here)))
+      ∙ ap (λ u. Stepped (with_finishes (changed_at ns a node_entered) u) event.Opened) (sym is)
 
   pub open_are : (e : ℕ) (r : Runs (instr.Finish e)) (v : World) → v ≡ settled (record w { activities = slice_set w.activities a (onward r.x); clocks = moved a none w.clocks })
       → AreTold m (changed_at ns a node_entered) v.activities
@@ -328,45 +344,51 @@ module _ (m : ModuleValue) (ns : List NodeValue) (w : World) (a : ℕ) (h : IsHe
 
   pub close_open : (b : ℕ) → Runs (instr.EndFinish b) → 0 < (node_at ns a).opened
   close_open b r =
-      let q = open_at_end m h.core.accepted (told ns w) sound scoped a (with_node r.n r.x) r.both b (stands (instr.EndFinish b) r) in
+      let q = open_at_end m h.core.accepted (with_finishes ns w) sound scoped a (with_node r.n r.x) r.both b (stands (instr.EndFinish b) r) in
       subst (λ (z : NodeValue). 0 < z.opened) (sym (node_is ns a r.n r.here)) (omega (arith, q))
 
   -- the tree awaits somebody where the definition does
-  pub awaits_told : (i : Instr) (r : Runs i) → awaits_innermost ns a ≡ awaits (told ns w).activities (innermost a (with_node r.n r.x))
+  pub awaits_told : (i : Instr) (r : Runs i) → awaits_innermost ns a ≡ awaits (with_finishes ns w).activities (innermost a (with_node r.n r.x))
   awaits_told i r = awaits_same (with_nodes ns w.activities) ns (nodes_told m ns w.activities h.are) (tree.innermost_of a (node_at ns a))
-      ∙ ap (λ (z : NodeValue). awaits (told ns w).activities (record { owner = Some a; depth = z.opened })) (node_is ns a r.n r.here)
+      ∙ ap (λ (z : NodeValue). awaits (with_finishes ns w).activities (record { owner = Some a; depth = z.opened })) (node_is ns a r.n r.here)
 
-  pub kept_told : (b : ℕ) → next_instruction m (told ns w) a ≡ Some (instr.EndFinish b) → (r : Runs (instr.EndFinish b)) → is_kept m (told ns w) a ≡ awaits_innermost ns a
-  kept_told b next r = ap (kept_by (told ns w) a (slice_get (told ns w).activities a)) next ∙ ap (λ o. kept_by (told ns w) a o (Some (instr.EndFinish b))) r.both ∙ sym (awaits_told (instr.EndFinish b) r)
+  pub kept_told : (b : ℕ) → next_instruction m (with_finishes ns w) a ≡ Some (instr.EndFinish b) → (r : Runs (instr.EndFinish b))
+      → is_kept m (with_finishes ns w) a ≡ awaits_innermost ns a
+  kept_told b next r = ap (kept_by (with_finishes ns w) a (slice_get (with_finishes ns w).activities a)) next
+      ∙ ap (λ o. kept_by (with_finishes ns w) a o (Some (instr.EndFinish b))) r.both ∙ sym (awaits_told (instr.EndFinish b) r)
 
   -- what the definition does there
-  close_by : (b : ℕ) → next_instruction m (told ns w) a ≡ Some (instr.EndFinish b) → (r : Runs (instr.EndFinish b)) → is_enabled m (told ns w) a ≡ true
-      → (awaits_innermost ns a ≡ false) × (step m (told ns w) a ≡ done (told ns w) a (left (with_node r.n r.x) (r.n.opened - 1)) none event.Closed)
-  close_by b next r enabled = by r.n.opened refl (awaits (told ns w).activities (innermost a (with_node r.n r.x))) refl
+  close_by : (b : ℕ) → next_instruction m (with_finishes ns w) a ≡ Some (instr.EndFinish b) → (r : Runs (instr.EndFinish b)) → is_enabled m (with_finishes ns w) a ≡ true
+      → (awaits_innermost ns a ≡ false) × (step m (with_finishes ns w) a ≡ done (with_finishes ns w) a (left (with_node r.n r.x) (r.n.opened - 1)) none event.Closed)
+  close_by b next r enabled = by r.n.opened refl (awaits (with_finishes ns w).activities (innermost a (with_node r.n r.x))) refl
     where
-      start : step m (told ns w) a ≡ closing (told ns w) a (with_node r.n r.x) r.n.opened
+      start : step m (with_finishes ns w) a ≡ closing (with_finishes ns w) a (with_node r.n r.x) r.n.opened
       start = goes (instr.EndFinish b) next r
 
-      by : (k : ℕ) → r.n.opened ≡ k → (x : Bool) → awaits (told ns w).activities (innermost a (with_node r.n r.x)) ≡ x
-          → (awaits_innermost ns a ≡ false) × (step m (told ns w) a ≡ done (told ns w) a (left (with_node r.n r.x) (r.n.opened - 1)) none event.Closed)
-      by zero e x q = absurd (false≢true (sym (ap is_step (start ∙ ap (closing (told ns w) a (with_node r.n r.x)) e)) ∙ enabled))
-      by (suc k) e true q = absurd (false≢true (sym (ap is_step (start ∙ ap (closing (told ns w) a (with_node r.n r.x)) e ∙ ap (λ c. cond c Blocked (done (told ns w) a (left (with_node r.n r.x) k) none event.Closed)) q)) ∙ enabled))
+      by : (k : ℕ) → r.n.opened ≡ k → (x : Bool) → awaits (with_finishes ns w).activities (innermost a (with_node r.n r.x)) ≡ x
+          → (awaits_innermost ns a ≡ false) × (step m (with_finishes ns w) a ≡ done (with_finishes ns w) a (left (with_node r.n r.x) (r.n.opened - 1)) none event.Closed)
+      by zero e x q = absurd (false≢true (sym (ap is_step (start ∙ ap (closing (with_finishes ns w) a (with_node r.n r.x)) e)) ∙ enabled))
+      by (suc k) e true q = absurd (false≢true
+          (sym (ap is_step (start ∙ ap (closing (with_finishes ns w) a (with_node r.n r.x)) e
+          ∙ ap (λ c. cond c Blocked (done (with_finishes ns w) a (left (with_node r.n r.x) k) none event.Closed)) q)) ∙ enabled))
       by (suc k) e false q = (
         awaits_told (instr.EndFinish b) r ∙ q,
-        start ∙ ap (closing (told ns w) a (with_node r.n r.x)) e ∙ ap (λ c. cond c Blocked (done (told ns w) a (left (with_node r.n r.x) k) none event.Closed)) q
-            ∙ ap (λ j. done (told ns w) a (left (with_node r.n r.x) j) none event.Closed) (omega arith),
+        start ∙ ap (closing (with_finishes ns w) a (with_node r.n r.x)) e ∙ ap (λ c. cond c Blocked (done (with_finishes ns w) a (left (with_node r.n r.x) k) none event.Closed)) q
+            ∙ ap (λ j. done (with_finishes ns w) a (left (with_node r.n r.x) j) none event.Closed) (omega arith),
       )
 
-  pub close_empty : (b : ℕ) → next_instruction m (told ns w) a ≡ Some (instr.EndFinish b) → is_enabled m (told ns w) a ≡ true → awaits_innermost ns a ≡ false
+  pub close_empty : (b : ℕ) → next_instruction m (with_finishes ns w) a ≡ Some (instr.EndFinish b) → is_enabled m (with_finishes ns w) a ≡ true → awaits_innermost ns a ≡ false
   close_empty b next enabled = (close_by b next (runs (instr.EndFinish b) next) enabled).0
 
-  pub close_stepped : (b : ℕ) → next_instruction m (told ns w) a ≡ Some (instr.EndFinish b) → is_enabled m (told ns w) a ≡ true → (r : Runs (instr.EndFinish b)) → (v : World)
+  pub close_stepped : (b : ℕ) → next_instruction m (with_finishes ns w) a ≡ Some (instr.EndFinish b) → is_enabled m (with_finishes ns w) a ≡ true
+      → (r : Runs (instr.EndFinish b)) → (v : World)
       → v ≡ settled (record w { activities = slice_set w.activities a (onward r.x); clocks = moved a none w.clocks })
-      → step m (told ns w) a ≡ Stepped (told (changed_at ns a node_left) v) event.Closed
+      → step m (with_finishes ns w) a ≡ Stepped (with_finishes (changed_at ns a node_left) v) event.Closed
   close_stepped b next enabled r v is = (close_by b next r enabled).1
       ∙ ap (λ l. Stepped (settled (record w { activities = l; clocks = moved a none w.clocks })) event.Closed)
-      (sym (set_both ns w.activities a (node_left r.n) (onward r.x)) ∙ ap (λ z. with_nodes (slice_set ns a (node_left z)) (slice_set w.activities a (onward r.x))) (sym (node_is ns a r.n r.here)))
-      ∙ ap (λ u. Stepped (told (changed_at ns a node_left) u) event.Closed) (sym is)
+      (sym (set_both ns w.activities a (node_left r.n) (onward r.x))
+      ∙ ap (λ z. with_nodes (slice_set ns a (node_left z)) (slice_set w.activities a (onward r.x))) (sym (node_is ns a r.n r.here)))
+      ∙ ap (λ u. Stepped (with_finishes (changed_at ns a node_left) u) event.Closed) (sym is)
 
   pub close_are : (b : ℕ) (r : Runs (instr.EndFinish b)) (v : World) → v ≡ settled (record w { activities = slice_set w.activities a (onward r.x); clocks = moved a none w.clocks })
       → AreTold m (changed_at ns a node_left) v.activities
@@ -377,20 +399,20 @@ module _ (m : ModuleValue) (ns : List NodeValue) (w : World) (a : ℕ) (h : IsHe
 
   -- ---- other instructions of one activity
 
-  module _ (i : Instr) (plain : concerns_finishes i ≡ false) (next : next_instruction m (told ns w) a ≡ Some i) where
+  module _ (i : Instr) (plain : concerns_finishes i ≡ false) (next : next_instruction m (with_finishes ns w) a ≡ Some i) where
     r : Runs i
     r = runs i next
 
-    both_told : IsTold i ns w a r.x (carried m (told ns w) a i) (carried m w a i)
+    both_told : IsTold i ns w a r.x (carried m (with_finishes ns w) a i) (carried m w a i)
     both_told = carried_told m ns w a r.n r.x h.are.width r.here r.found (ap is_ended r.running) i plain
 
-    carry_goes : step m (told ns w) a ≡ told_so ns (carried m w a i)
-    carry_goes = carry_step m (told ns w) a i next ∙ both_told.same
+    carry_goes : step m (with_finishes ns w) a ≡ told_so ns (carried m w a i)
+    carry_goes = carry_step m (with_finishes ns w) a i next ∙ both_told.same
 
-    pub carry_enabled : is_enabled m (told ns w) a ≡ true → is_step (carried m w a i) ≡ true
+    pub carry_enabled : is_enabled m (with_finishes ns w) a ≡ true → is_step (carried m w a i) ≡ true
     carry_enabled enabled = by (carried m w a i) (sym carry_goes)
       where
-        by : (o : Outcome) → told_so ns o ≡ step m (told ns w) a → is_step o ≡ true
+        by : (o : Outcome) → told_so ns o ≡ step m (with_finishes ns w) a → is_step o ≡ true
         by Blocked f = absurd (false≢true (ap is_step f ∙ enabled))
         by (Wrong c) f = absurd (false≢true (ap is_step f ∙ enabled))
         by (Stepped v x) f = refl
@@ -399,25 +421,30 @@ module _ (m : ModuleValue) (ns : List NodeValue) (w : World) (a : ℕ) (h : IsHe
     leaves v e is = subst (Tells i w a r.x) is both_told.tells
 
     -- where the activity goes on, the tree stays
-    pub carry_stepped : (v : World) (e : Event) → carried m w a i ≡ Stepped v e → is_end e ≡ false → (step m (told ns w) a ≡ Stepped (told ns v) e) × AreTold m ns v.activities
+    pub carry_stepped : (v : World) (e : Event) → carried m w a i ≡ Stepped v e → is_end e ≡ false
+        → (step m (with_finishes ns w) a ≡ Stepped (with_finishes ns v) e) × AreTold m ns v.activities
     carry_stepped v e is on =
-        let l = leaves v e is in
-        (carry_goes ∙ ap (told_so ns) is, subst (AreTold m ns) (sym l.activities) (told_stays m ns w.activities a r.n r.x l.y h.are r.here r.found (l.over ∙ on ∙ sym (ap is_ended r.running)) l.base))
+        let l = leaves v e is in (
+          carry_goes ∙ ap (told_so ns) is,
+          subst (AreTold m ns) (sym l.activities)
+              (told_stays m ns w.activities a r.n r.x l.y h.are r.here r.found (l.over ∙ on ∙ sym (ap is_ended r.running)) l.base),
+        )
 
     -- where it ends, it has closed what it opened
     pub carry_closed : (v : World) (e : Event) → carried m w a i ≡ Stepped v e → is_end e ≡ true → (node_at ns a).opened ≡ 0
     carry_closed v e is end =
         let q = (leaves v e is).last end in
         ap (λ (z : NodeValue). z.opened) (node_is ns a r.n r.here)
-        ∙ closed_at_end m h.core.accepted (told ns w) sound scoped a (with_node r.n r.x) r.both (stands i r ∙ ap Some q.0) q.1
+        ∙ closed_at_end m h.core.accepted (with_finishes ns w) sound scoped a (with_node r.n r.x) r.both (stands i r ∙ ap Some q.0) q.1
 
     -- and the tree is told
     pub carry_ended : (v : World) (e : Event) → carried m w a i ≡ Stepped v e → is_end e ≡ true
-        → (step m (told ns w) a ≡ Stepped (told (changed_at ns a node_ended) v) e) × AreTold m (changed_at ns a node_ended) v.activities
+        → (step m (with_finishes ns w) a ≡ Stepped (with_finishes (changed_at ns a node_ended) v) e) × AreTold m (changed_at ns a node_ended) v.activities
     carry_ended v e is end =
         let l = leaves v e is in
         let k = node_is ns a r.n r.here in (
-          carry_goes ∙ ap (told_so ns) is ∙ ap (λ xs. Stepped (record v { activities = xs }) e) (sym (ap (λ z. with_nodes (slice_set ns a (node_ended z)) v.activities) k ∙ ended_same ns v.activities a r.n r.here)),
+          carry_goes ∙ ap (told_so ns) is ∙ ap (λ xs. Stepped (record v { activities = xs }) e)
+              (sym (ap (λ z. with_nodes (slice_set ns a (node_ended z)) v.activities) k ∙ ended_same ns v.activities a r.n r.here)),
           subst (AreTold m (changed_at ns a node_ended)) (sym l.activities) (subst (λ z. AreTold m (slice_set ns a (node_ended z)) (slice_set w.activities a l.y)) (sym k)
               (told_changed m ns w.activities a r.n (node_ended r.n) r.x l.y h.are r.here r.found
               (let s = h.are.each a r.n r.x r.here r.found in record { ended = sym (l.over ∙ end); room = s.room ∙ ap (room_of m) (sym l.base) }))),
@@ -425,7 +452,7 @@ module _ (m : ModuleValue) (ns : List NodeValue) (w : World) (a : ℕ) (h : IsHe
 
   -- ---- `spawn`
 
-  module _ (t : ℕ) (args : List ℕ) (room : ℕ) (next : next_instruction m (told ns w) a ≡ Some (instr.Spawn t args)) where
+  module _ (t : ℕ) (args : List ℕ) (room : ℕ) (next : next_instruction m (with_finishes ns w) a ≡ Some (instr.Spawn t args)) where
     s : Runs (instr.Spawn t args)
     s = runs (instr.Spawn t args) next
 
@@ -433,30 +460,30 @@ module _ (m : ModuleValue) (ns : List NodeValue) (w : World) (a : ℕ) (h : IsHe
     abbrev new_node : NodeValue
     new_node = fresh_node (governing_of a s.n) room
 
-    spawn_goes : step m (told ns w) a ≡ told_so (ns ++ new_node ∷ []) (carried m w a (instr.Spawn t args))
-    spawn_goes = carry_step m (told ns w) a (instr.Spawn t args) next
+    spawn_goes : step m (with_finishes ns w) a ≡ told_so (ns ++ new_node ∷ []) (carried m w a (instr.Spawn t args))
+    spawn_goes = carry_step m (with_finishes ns w) a (instr.Spawn t args) next
         ∙ spawn_told m ns w a s.n s.x h.are.width s.here s.found (ap is_ended s.running) new_node refl refl t args
 
-    pub spawn_enabled : is_enabled m (told ns w) a ≡ true → is_step (carried m w a (instr.Spawn t args)) ≡ true
+    pub spawn_enabled : is_enabled m (with_finishes ns w) a ≡ true → is_step (carried m w a (instr.Spawn t args)) ≡ true
     spawn_enabled enabled = by (carried m w a (instr.Spawn t args)) (sym spawn_goes)
       where
-        by : (o : Outcome) → told_so (ns ++ new_node ∷ []) o ≡ step m (told ns w) a → is_step o ≡ true
+        by : (o : Outcome) → told_so (ns ++ new_node ∷ []) o ≡ step m (with_finishes ns w) a → is_step o ≡ true
         by Blocked f = absurd (false≢true (ap is_step f ∙ enabled))
         by (Wrong c) f = absurd (false≢true (ap is_step f ∙ enabled))
         by (Stepped v x) f = refl
 
     -- the unit that is started
-    pub spawn_within : is_enabled m (told ns w) a ≡ true → t < length m.units
+    pub spawn_within : is_enabled m (with_finishes ns w) a ≡ true → t < length m.units
     spawn_within enabled = (let u = spawn_by m w a s.x t args (slice_get m.units t) refl s.found (spawn_enabled enabled) in slice_get_within m.units t u.0 u.1)
 
     node_new : fresh_node (governing_of a (node_at ns a)) room ≡ new_node
     node_new = ap (λ z. fresh_node (governing_of a z) room) (node_is ns a s.n s.here)
 
     pub spawn_stepped : (v : World) (e : Event) → carried m w a (instr.Spawn t args) ≡ Stepped v e
-        → step m (told ns w) a ≡ Stepped (told (ns ++ fresh_node (governing_of a (node_at ns a)) room ∷ []) v) e
-    spawn_stepped v e is = spawn_goes ∙ ap (told_so (ns ++ new_node ∷ [])) is ∙ ap (λ z. Stepped (told (ns ++ z ∷ []) v) e) (sym node_new)
+        → step m (with_finishes ns w) a ≡ Stepped (with_finishes (ns ++ fresh_node (governing_of a (node_at ns a)) room ∷ []) v) e
+    spawn_stepped v e is = spawn_goes ∙ ap (told_so (ns ++ new_node ∷ [])) is ∙ ap (λ z. Stepped (with_finishes (ns ++ z ∷ []) v) e) (sym node_new)
 
-    pub spawn_are : (v : World) (e : Event) → is_enabled m (told ns w) a ≡ true → carried m w a (instr.Spawn t args) ≡ Stepped v e → room ≡ room_of m t
+    pub spawn_are : (v : World) (e : Event) → is_enabled m (with_finishes ns w) a ≡ true → carried m w a (instr.Spawn t args) ≡ Stepped v e → room ≡ room_of m t
         → AreTold m (ns ++ fresh_node (governing_of a (node_at ns a)) room ∷ []) v.activities
     spawn_are v e enabled is fits =
         let u = spawn_by m w a s.x t args (slice_get m.units t) refl s.found (spawn_enabled enabled) in
@@ -465,11 +492,12 @@ module _ (m : ModuleValue) (ns : List NodeValue) (w : World) (a : ℕ) (h : IsHe
         subst (λ (z : World). AreTold m (ns ++ fresh_node (governing_of a (node_at ns a)) room ∷ []) z.activities) world
         (subst (λ z. AreTold m (ns ++ z ∷ []) (slice_set w.activities a (onward s.x) ++ child m a s.x t (map (value_at s.x) args) ∷ [])) (sym node_new)
         (told_push m ns (slice_set w.activities a (onward s.x)) new_node (child m a s.x t (map (value_at s.x) args))
-        (told_stays m ns w.activities a s.n s.x (onward s.x) h.are s.here s.found refl (based s.x.frame (onward s.x).frame s.x.callers refl)) (record { ended = refl; room = fits })))
+        (told_stays m ns w.activities a s.n s.x (onward s.x) h.are s.here s.found refl (based s.x.frame (onward s.x).frame s.x.callers refl))
+        (record { ended = refl; room = fits })))
 
   -- ---- a pass
 
-  pub pass_are : (v : World) (e : Event) → is_enabled m (told ns w) a ≡ true → passed_on w a ≡ Stepped v e → AreTold m ns v.activities
+  pub pass_are : (v : World) (e : Event) → is_enabled m (with_finishes ns w) a ≡ true → passed_on w a ≡ Stepped v e → AreTold m ns v.activities
   pass_are v e enabled is = by (told_at ns w.activities h.are.width a)
     where
       by : At ns w.activities a → AreTold m ns v.activities
@@ -479,7 +507,8 @@ module _ (m : ModuleValue) (ns : List NodeValue) (w : World) (a : ℕ) (h : IsHe
           runs_on : (st : Status) → x.status ≡ st → is_ended st ≡ false
           runs_on status.Running f = refl
           runs_on status.Arrived f = refl
-          runs_on status.Ended f = absurd (false≢true (sym (ap (λ o. is_step (step_of m (told ns w) a o)) g ∙ ap (λ z. is_step (step_by m (told ns w) a (with_node n x) z)) f) ∙ enabled))
+          runs_on status.Ended f = absurd (false≢true
+              (sym (ap (λ o. is_step (step_of m (with_finishes ns w) a o)) g ∙ ap (λ z. is_step (step_by m (with_finishes ns w) a (with_node n x) z)) f) ∙ enabled))
 
           go : (b : Bool) → cond b Blocked (done w a (past x (w.steps + 1)) (all passed) event.Passed) ≡ Stepped v e → AreTold m ns v.activities
           go true q = absurd (grind arith)
@@ -490,9 +519,10 @@ module _ (m : ModuleValue) (ns : List NodeValue) (w : World) (a : ℕ) (h : IsHe
 
 -- where it was, the new activity is told of; else nothing changed
 pub started_held : {E : Type 0} (m : ModuleValue) (ns ks : List NodeValue) (w v : World) (a t : ℕ) (args : List ℕ) (room : ℕ) (r : Result Event E) → IsHeld m ns w
-    → next_instruction m (told ns w) a ≡ Some (instr.Spawn t args) → is_enabled m (told ns w) a ≡ true → room ≡ room_of m t
-    → IfOk r (λ e. carried m w a (instr.Spawn t args) ≡ Stepped v e) → OnOk r (ks ≡ ns ++ fresh_node (governing_of a (node_at ns a)) room ∷ []) → OnErr r (v ≡ w) → OnErr r (ks ≡ ns)
-    → IsHeld m ks v × IfOk r (λ e. step m (told ns w) a ≡ Stepped (told ks v) e)
+    → next_instruction m (with_finishes ns w) a ≡ Some (instr.Spawn t args) → is_enabled m (with_finishes ns w) a ≡ true → room ≡ room_of m t
+    → IfOk r (λ e. carried m w a (instr.Spawn t args) ≡ Stepped v e) → OnOk r (ks ≡ ns ++ fresh_node (governing_of a (node_at ns a)) room ∷ [])
+    → OnErr r (v ≡ w) → OnErr r (ks ≡ ns)
+    → IsHeld m ks v × IfOk r (λ e. step m (with_finishes ns w) a ≡ Stepped (with_finishes ks v) e)
 started_held m ns ks w v a t args room (Ok e) h next enabled fits is new same kept =
     let goes = spawn_stepped m ns w a h t args room next v e is in
     let are = spawn_are m ns w a h t args room next v e enabled is fits in

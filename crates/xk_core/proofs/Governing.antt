@@ -6,10 +6,11 @@ use Rattle.xk_types.proofs.Lists.{get_inside}
 use Rattle.xk_types.specs.World.{Activity, World}
 use Rattle.xk_finishes.specs.Tree.{NodeValue, node_at}
 use Rattle.xk_core.specs.Core.{governor}
-use Rattle.xk_core.specs.Told.{told}
+use Rattle.xk_core.specs.Told.{with_finishes}
 use Rattle.xk_core.proofs.Told.{get_told}
 
-pub governor_told : (ns : List NodeValue) (w : World) → length ns ≡ length w.activities → (a : ℕ) → a < length w.activities → (node_at ns a).governed.owner ≡ governor (told ns w) a
+pub governor_told : (ns : List NodeValue) (w : World) → length ns ≡ length w.activities → (a : ℕ) → a < length w.activities
+    → (node_at ns a).governed.owner ≡ governor (with_finishes ns w) a
 governor_told ns w width a lt =
     let n = get_inside ns a (omega (arith, lt, width)) in
     let x = get_inside w.activities a lt in

@@ -16,7 +16,7 @@ use Rattle.xk_types.specs.Step.{Stepped, step, step_by, step_of}
 use Rattle.xk_types.specs.Schedule.{is_step, is_enabled, all_ended}
 use Rattle.xk_core.specs.Core.{IsCore, is_quiet, governor}
 use Rattle.xk_core.specs.Choosing.{IsRising, numbers_from, enabled_in, with_member}
-use Rattle.xk_core.specs.Touched.{touched}
+use Rattle.xk_core.specs.Listing.{other_to_list}
 use Rattle.xk_core.proofs.Cores.{core_ends}
 use Rattle.xk_core.proofs.Membership.{filter_rises, member_added, member_changed, member_passes, members_few, members_none, numbers_more}
 use Rattle.xk_core.proofs.Untouched.{untouched, grows_by_start, keeps_width, steps_within, governor_same, governor_within}
@@ -77,7 +77,7 @@ listed_none (x ∷ xs) e = absurd (omega (arith, e))
 pub data Sort (w : World) (a : ℕ) (e : Event) : Type 0 where
   Start : e ≡ event.Spawned → Sort w a e
   End : e ≡ event.Ended → Sort w a e
-  Neither : (e ≡ event.Spawned → ⊥) → (e ≡ event.Ended → ⊥) → touched w a e ≡ None → Sort w a e
+  Neither : (e ≡ event.Spawned → ⊥) → (e ≡ event.Ended → ⊥) → other_to_list w a e ≡ None → Sort w a e
 
 sort_of : (w : World) (a : ℕ) (e : Event) → Sort w a e
 sort_of w a event.Spawned = Start refl
@@ -120,7 +120,8 @@ listed_own m w v a e h =
     ∙ sym (member_changed (is_enabled m w) (is_enabled m w) (length w.activities) a (steps_within m w v a e h) (λ k lt ne. refl))
 
 -- where nobody else is concerned
-pub listed_alone : (m : ModuleValue) (w v : World) (a : ℕ) (e : Event) → IsOneStep m w v a e → touched v a e ≡ None → with_member a (is_enabled m v a) (enabled_in m w) ≡ enabled_in m v
+pub listed_alone : (m : ModuleValue) (w v : World) (a : ℕ) (e : Event) → IsOneStep m w v a e → other_to_list v a e ≡ None
+    → with_member a (is_enabled m v a) (enabled_in m w) ≡ enabled_in m v
 listed_alone m w v a e s none = by (sort_of v a e)
   where
     same : (e ≡ event.Spawned → ⊥) → (e ≡ event.Ended → governor w a ≡ None) → with_member a (is_enabled m v a) (enabled_in m w) ≡ enabled_in m v
@@ -130,12 +131,12 @@ listed_alone m w v a e s none = by (sort_of v a e)
         (λ k lt ne. untouched m w v a e s.core s.stepped s.quiet k lt ne (λ h g. none-some k (sym (end h) ∙ g))))
 
     by : Sort v a e → with_member a (is_enabled m v a) (enabled_in m w) ≡ enabled_in m v
-    by (Start h) = let bad : touched v a event.Spawned ≡ None = subst (λ f. touched v a f ≡ None) h none in cc
-    by (End h) = same (λ g. end_no_start (sym h ∙ g)) (λ g. sym (governor_same m w v a e s.stepped) ∙ subst (λ f. touched v a f ≡ None) h none)
+    by (Start h) = let bad : other_to_list v a event.Spawned ≡ None = subst (λ f. other_to_list v a f ≡ None) h none in cc
+    by (End h) = same (λ g. end_no_start (sym h ∙ g)) (λ g. sym (governor_same m w v a e s.stepped) ∙ subst (λ f. other_to_list v a f ≡ None) h none)
     by (Neither start end none') = same start (λ h. absurd (end h))
 
 -- where somebody else is
-pub listed_two : (m : ModuleValue) (w v : World) (a b : ℕ) (e : Event) → IsOneStep m w v a e → touched v a e ≡ Some b
+pub listed_two : (m : ModuleValue) (w v : World) (a b : ℕ) (e : Event) → IsOneStep m w v a e → other_to_list v a e ≡ Some b
     → with_member b (is_enabled m v b) (with_member a (is_enabled m v a) (enabled_in m w)) ≡ enabled_in m v
 listed_two m w v a b e s is = by (sort_of v a e)
   where
@@ -145,7 +146,7 @@ listed_two m w v a b e s is = by (sort_of v a e)
     started : e ≡ event.Spawned → with_member b (is_enabled m v b) (with_member a (is_enabled m v a) (enabled_in m w)) ≡ enabled_in m v
     started h =
         let wide : length v.activities ≡ length w.activities + 1 = grows_by_start m w v a (subst (λ f. step m w a ≡ Stepped v f) h s.stepped) in
-        let child : b ≡ length w.activities = omega (arith, same_Some (length v.activities - 1) b (subst (λ f. touched v a f ≡ Some b) h is), wide) in
+        let child : b ≡ length w.activities = omega (arith, same_Some (length v.activities - 1) b (subst (λ f. other_to_list v a f ≡ Some b) h is), wide) in
         let old : with_member a (is_enabled m v a) (enabled_in m w) ≡ filter (is_enabled m v) (numbers_from 0 (length w.activities)) =
         sym (member_changed (is_enabled m w) (is_enabled m v) (length w.activities) a inside
         (λ k lt ne. untouched m w v a e s.core s.stepped s.quiet k lt ne (λ g owns. end_no_start (sym (sym h ∙ g))))) in
@@ -156,7 +157,7 @@ listed_two m w v a b e s is = by (sort_of v a e)
 
     over : e ≡ event.Ended → with_member b (is_enabled m v b) (with_member a (is_enabled m v a) (enabled_in m w)) ≡ enabled_in m v
     over h =
-        let governs : governor w a ≡ Some b = sym (governor_same m w v a e s.stepped) ∙ subst (λ f. touched v a f ≡ Some b) h is in
+        let governs : governor w a ≡ Some b = sym (governor_same m w v a e s.stepped) ∙ subst (λ f. other_to_list v a f ≡ Some b) h is in
         let less : b < a = governor_within m w s.core a b inside governs in
         let q : ℕ → Bool = is_enabled m v in
         let r : ℕ → Bool = but_at a q (is_enabled m w) in
@@ -172,7 +173,7 @@ listed_two m w v a b e s is = by (sort_of v a e)
         other k lt ne (inl at) = rw at (sym (at_itself a (is_enabled m v) (is_enabled m w)))
         other k lt ne (inr off) =
             untouched m w v a e s.core s.stepped s.quiet k lt off
-            (λ g owns. ne (same_Some k b (sym owns ∙ sym (governor_same m w v a e s.stepped) ∙ subst (λ f. touched v a f ≡ Some b) g is)))
+            (λ g owns. ne (same_Some k b (sym owns ∙ sym (governor_same m w v a e s.stepped) ∙ subst (λ f. other_to_list v a f ≡ Some b) g is)))
             ∙ sym (elsewhere a (is_enabled m v) (is_enabled m w) k off)
 
     by : Sort v a e → with_member b (is_enabled m v b) (with_member a (is_enabled m v a) (enabled_in m w)) ≡ enabled_in m v
@@ -193,7 +194,8 @@ pub named_at : (m : ModuleValue) (w : World) (list : List ℕ) (i x : ℕ) → l
 named_at m w list i x is lt named = ap (λ l. slice_get l i) (sym is) ∙ slice_get-get_or list i x lt ∙ ap (λ y. Some y) (sym named)
 
 -- whom a chooser names, by its answer to the list
-pub chosen_at : {S : Type 0} (answer : S → List ℕ → ℕ) (m : ModuleValue) (w : World) (s : S) (list shown : List ℕ) (n r k x : ℕ) → list ≡ enabled_in m w → shown ≡ list → n ≡ length list → (n == 0) ≡ false
+pub chosen_at : {S : Type 0} (answer : S → List ℕ → ℕ) (m : ModuleValue) (w : World) (s : S) (list shown : List ℕ) (n r k x : ℕ)
+    → list ≡ enabled_in m w → shown ≡ list → n ≡ length list → (n == 0) ≡ false
     → r ≡ answer s shown → k ≡ r % n → x ≡ get_or list k x → slice_get (enabled_in m w) (answer s (enabled_in m w) % length (enabled_in m w)) ≡ Some x
 chosen_at answer m w s list shown n r k x is same wide some answers place named =
     ap (slice_get (enabled_in m w)) (sym (ap (λ z. z % n) (answers ∙ ap (answer s) (same ∙ is)) ∙ ap (λ k. answer s (enabled_in m w) % k) (wide ∙ ap length is)))
@@ -206,14 +208,17 @@ chosen_at answer m w s list shown n r k x is same wide some answers place named 
 
 -- the next number passes
 pub one_more : (p : ℕ → Bool) (n : ℕ) (list : List ℕ) → list ≡ filter p (numbers_from 0 n) → p n ≡ true → list ++ n ∷ [] ≡ filter p (numbers_from 0 (n + 1))
-one_more p n list is h = ap (λ l. l ++ n ∷ []) is ∙ sym (ap (filter p) (numbers_more n) ∙ filter-append p (numbers_from 0 n) (n ∷ []) ∙ ap (λ b. filter p (numbers_from 0 n) ++ cond b (n ∷ []) []) h)
+one_more p n list is h = ap (λ l. l ++ n ∷ []) is
+    ∙ sym (ap (filter p) (numbers_more n) ∙ filter-append p (numbers_from 0 n) (n ∷ []) ∙ ap (λ b. filter p (numbers_from 0 n) ++ cond b (n ∷ []) []) h)
 
 -- it doesn't
 pub one_not : (p : ℕ → Bool) (n : ℕ) (list : List ℕ) → list ≡ filter p (numbers_from 0 n) → p n ≡ false → list ≡ filter p (numbers_from 0 (n + 1))
-one_not p n list is h = is ∙ sym (ap (filter p) (numbers_more n) ∙ filter-append p (numbers_from 0 n) (n ∷ []) ∙ ap (λ b. filter p (numbers_from 0 n) ++ cond b (n ∷ []) []) h ∙ append-nil (filter p (numbers_from 0 n)))
+one_not p n list is h = is ∙ sym (ap (filter p) (numbers_more n) ∙ filter-append p (numbers_from 0 n) (n ∷ [])
+    ∙ ap (λ b. filter p (numbers_from 0 n) ++ cond b (n ∷ []) []) h ∙ append-nil (filter p (numbers_from 0 n)))
 
 -- a step adds one activity at most, and takes none away
-pub step_widens : (m : ModuleValue) (w v : World) (a : ℕ) (e : Event) → step m w a ≡ Stepped v e → (length w.activities ≤ length v.activities) × (length v.activities ≤ length w.activities + 1)
+pub step_widens : (m : ModuleValue) (w v : World) (a : ℕ) (e : Event) → step m w a ≡ Stepped v e → (length w.activities ≤ length v.activities)
+    × (length v.activities ≤ length w.activities + 1)
 step_widens m w v a e h = by (sort_of v a e)
   where
     by : Sort v a e → (length w.activities ≤ length v.activities) × (length v.activities ≤ length w.activities + 1)

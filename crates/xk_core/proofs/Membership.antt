@@ -61,16 +61,19 @@ filter_all p [] passed = refl
 filter_all p (x ∷ xs) passed = rw (passed 0 x refl) (ap (λ l. x ∷ l) (filter_all p xs (λ k. passed (suc k))))
 
 -- a test that passes what stands before a place, and nothing from there on
-filter_front : (p : ℕ → Bool) (xs : List ℕ) (i : ℕ) → ((k : ℕ) → k < i → k < length xs → p (get_or xs k 0) ≡ true) → ((k : ℕ) → i ≤ k → k < length xs → p (get_or xs k 0) ≡ false) → filter p xs ≡ take i xs
+filter_front : (p : ℕ → Bool) (xs : List ℕ) (i : ℕ) → ((k : ℕ) → k < i → k < length xs → p (get_or xs k 0) ≡ true)
+    → ((k : ℕ) → i ≤ k → k < length xs → p (get_or xs k 0) ≡ false) → filter p xs ≡ take i xs
 filter_front p [] zero passed failed = refl
 filter_front p [] (suc i) passed failed = refl
 filter_front p (x ∷ xs) zero passed failed =
     rw (failed 0 (omega arith) (omega arith)) (filter_front p xs zero (λ k lt. absurd (omega arith)) (λ k le lt. failed (suc k) (omega arith) (omega arith)))
 filter_front p (x ∷ xs) (suc i) passed failed =
-    rw (passed 0 (omega arith) (omega arith)) (ap (λ l. x ∷ l) (filter_front p xs i (λ k a b. passed (suc k) (omega arith) (omega arith)) (λ k a b. failed (suc k) (omega arith) (omega arith))))
+    rw (passed 0 (omega arith) (omega arith))
+    (ap (λ l. x ∷ l) (filter_front p xs i (λ k a b. passed (suc k) (omega arith) (omega arith)) (λ k a b. failed (suc k) (omega arith) (omega arith))))
 
 -- one that passes nothing before a place, and all from there on
-filter_back : (p : ℕ → Bool) (xs : List ℕ) (i : ℕ) → ((k : ℕ) → k < i → k < length xs → p (get_or xs k 0) ≡ false) → ((k : ℕ) → i ≤ k → k < length xs → p (get_or xs k 0) ≡ true) → filter p xs ≡ drop i xs
+filter_back : (p : ℕ → Bool) (xs : List ℕ) (i : ℕ) → ((k : ℕ) → k < i → k < length xs → p (get_or xs k 0) ≡ false)
+    → ((k : ℕ) → i ≤ k → k < length xs → p (get_or xs k 0) ≡ true) → filter p xs ≡ drop i xs
 filter_back p [] zero failed passed = refl
 filter_back p [] (suc i) failed passed = refl
 filter_back p (x ∷ xs) zero failed passed =
@@ -137,7 +140,8 @@ member_taken_out b xs i up inside is = rw (less_at b xs i up inside is, more_at 
 -- where a search for the first number above this one ends
 pub place_above_is : (taken : ℕ) (xs : List ℕ) (i : ℕ) → i ≤ length xs → IsPartitionPoint (λ y. nat_le y taken ≡ true) (λ y. nat_le y taken ≡ false) xs i → i ≡ place_above taken xs
 place_above_is taken xs i le h =
-    let e : filter (λ a. nat_le a taken) xs ≡ take i xs = filter_front (λ a. nat_le a taken) xs i (λ k lt inside. h.0 k 0 (omega arith) lt) (λ k from inside. h.1 k 0 from inside) in
+    let e : filter (λ a. nat_le a taken) xs ≡ take i xs = filter_front (λ a. nat_le a taken) xs i (λ k lt inside. h.0 k 0 (omega arith) lt)
+    (λ k from inside. h.1 k 0 from inside) in
     rw e (sym (simp length-take (omega arith)))
 
 -- ---- those of a row of numbers that pass a test
@@ -263,15 +267,18 @@ changed_from p q a (suc n) b from below same =
     of : (a < b → filter q (numbers_from (suc a) n) ≡ with_member b (q b) (filter p (numbers_from (suc a) n))) → (a ≡ b) ⊎ (a ≡ b → ⊥)
         → filter q (numbers_from a (suc n)) ≡ with_member b (q b) (filter p (numbers_from a (suc n)))
     of later (inl s) =
-        let others : filter q (numbers_from (suc a) n) ≡ filter p (numbers_from (suc a) n) = same_members p q (suc a) n (λ k le k_below. same k (omega arith) (omega arith) (λ e. omega arith)) in
-        rw others (subst (λ (c : ℕ). cond (q a) (a ∷ filter p (numbers_from (suc a) n)) (filter p (numbers_from (suc a) n)) ≡ with_member c (q c) (filter p (numbers_from a (suc n)))) s
+        let others : filter q (numbers_from (suc a) n) ≡ filter p (numbers_from (suc a) n) = same_members p q (suc a) n
+        (λ k le k_below. same k (omega arith) (omega arith) (λ e. omega arith)) in
+        rw others (subst (λ (c : ℕ). cond (q a) (a ∷ filter p (numbers_from (suc a) n)) (filter p (numbers_from (suc a) n)) ≡ with_member c (q c)
+        (filter p (numbers_from a (suc n)))) s
         (changed_here a (q a) (p a) (filter p (numbers_from (suc a) n)) (λ k y e. let r : IsMember p (suc a) n y = member_of p (suc a) n k y e in omega arith)))
     of later (inr ne) =
         rw (same a (omega arith) (omega arith) ne)
         (changed_later a b (q b) (p a) (filter p (numbers_from (suc a) n)) (filter q (numbers_from (suc a) n)) (omega arith) (later (omega arith)))
 
 -- a test that differs at b alone
-pub member_changed : (p q : ℕ → Bool) (n b : ℕ) → b < n → ((k : ℕ) → k < n → (k ≡ b → ⊥) → q k ≡ p k) → filter q (numbers_from 0 n) ≡ with_member b (q b) (filter p (numbers_from 0 n))
+pub member_changed : (p q : ℕ → Bool) (n b : ℕ) → b < n → ((k : ℕ) → k < n → (k ≡ b → ⊥) → q k ≡ p k)
+    → filter q (numbers_from 0 n) ≡ with_member b (q b) (filter p (numbers_from 0 n))
 member_changed p q n b below same = changed_from p q 0 n b (omega arith) (omega arith) (λ k from lt. same k (omega arith))
 
 -- a number above all others
@@ -332,13 +339,15 @@ kept_rises : (p : ℕ → Bool) (xs : List ℕ) → IsRising xs → IsRising (fi
 kept_rises p [] up = up
 kept_rises p (x ∷ xs) up = rises_cond (p x) x (filter p xs) (kept_above p x xs (first_below x xs up)) (kept_rises p xs (rises_on x xs up))
 
-joined_above : (x : ℕ) (xs ys : List ℕ) → ((k y : ℕ) → slice_get xs k ≡ Some y → x < y) → ((k y : ℕ) → slice_get ys k ≡ Some y → x < y) → (k y : ℕ) → slice_get (xs ++ ys) k ≡ Some y → x < y
+joined_above : (x : ℕ) (xs ys : List ℕ) → ((k y : ℕ) → slice_get xs k ≡ Some y → x < y) → ((k y : ℕ) → slice_get ys k ≡ Some y → x < y) → (k y : ℕ)
+    → slice_get (xs ++ ys) k ≡ Some y → x < y
 joined_above x [] ys first other k y e = other k y e
 joined_above x (z ∷ xs) ys first other zero y e = first 0 y e
 joined_above x (z ∷ xs) ys first other (suc k) y e = joined_above x xs ys (λ j. first (suc j)) other k y e
 
 -- one list before another, with a number between them
-joined_rises : (b : ℕ) (xs ys : List ℕ) → ((k y : ℕ) → slice_get xs k ≡ Some y → y < b) → IsRising xs → ((k y : ℕ) → slice_get ys k ≡ Some y → b ≤ y) → IsRising ys → IsRising (xs ++ ys)
+joined_rises : (b : ℕ) (xs ys : List ℕ) → ((k y : ℕ) → slice_get xs k ≡ Some y → y < b) → IsRising xs → ((k y : ℕ) → slice_get ys k ≡ Some y → b ≤ y)
+    → IsRising ys → IsRising (xs ++ ys)
 joined_rises b [] ys less up from ys_up = ys_up
 joined_rises b (x ∷ xs) ys less up from ys_up =
     rises_from x (xs ++ ys)

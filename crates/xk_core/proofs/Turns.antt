@@ -26,7 +26,8 @@ pub run_starts : (m : ModuleValue) (c : CoreValue) → c.module_run ≡ m → c.
 run_starts m c is start = record { module_is = is; leads = ap (λ w. Through w) (sym (start ∙ ap opening is)); prints = refl }
 
 -- the log goes on by a turn
-pub run_goes_on : {S : Type 0} (answer : S → List ℕ → ℕ) (after : S → List ℕ → S) (m k : ModuleValue) (log : List Entry) (numbers : List ℤ) (c d : CoreValue) (s t : S) (a : ℕ) (e : Event)
+pub run_goes_on : {S : Type 0} (answer : S → List ℕ → ℕ) (after : S → List ℕ → S) (m k : ModuleValue) (log : List Entry) (numbers : List ℤ) (c d : CoreValue)
+    (s t : S) (a : ℕ) (e : Event)
     → IsRunOf m log numbers c → IsTurn answer after c s a e d t → k ≡ m → IsRunOf k (log ++ one_step_of a ∷ []) (numbers ++ option_to_list (number_printed e)) d
 run_goes_on answer after m k log numbers c d s t a e r turn is =
     subst (λ j. IsRunOf j (log ++ one_step_of a ∷ []) (numbers ++ option_to_list (number_printed e)) d) (sym is) (record {
@@ -40,7 +41,8 @@ run_goes_on answer after m k log numbers c d s t a e r turn is =
     stepped = subst (λ j. step j c.world a ≡ Stepped d.world e) r.module_is turn.stepped
 
 -- and so does what the chooser chose
-pub chosen_goes_on : {S : Type 0} (answer : S → List ℕ → ℕ) (after : S → List ℕ → S) (m : ModuleValue) (log : List Entry) (numbers : List ℤ) (c d : CoreValue) (first s t : S) (a : ℕ) (e : Event)
+pub chosen_goes_on : {S : Type 0} (answer : S → List ℕ → ℕ) (after : S → List ℕ → S) (m : ModuleValue) (log : List Entry) (numbers : List ℤ) (c d : CoreValue)
+    (first s t : S) (a : ℕ) (e : Event)
     → IsRunOf m log numbers c → IsChosen answer after m first log s → IsTurn answer after c s a e d t → IsChosen answer after m first (log ++ one_step_of a ∷ []) t
 chosen_goes_on answer after m log numbers c d first s t a e r chosen turn = record {
   follows = subst (λ l. Follows answer after m first (opening m) l) (sym (schedule_more log a))
@@ -64,22 +66,26 @@ pub record IsGoing {S : Type 0} (answer : S → List ℕ → ℕ) (after : S →
   pub chosen : IsChosen answer after m first log s
 
 -- a turn that was noted
-record IsStepNoted {S : Type 0} (answer : S → List ℕ → ℕ) (after : S → List ℕ → S) (c : CoreValue) (s : S) (log : List Entry) (d : CoreValue) (t : S) (more : List Entry) : Type 0 where
+record IsStepNoted {S : Type 0} (answer : S → List ℕ → ℕ) (after : S → List ℕ → S) (c : CoreValue) (s : S) (log : List Entry) (d : CoreValue) (t : S)
+    (more : List Entry) : Type 0 where
   act : ℕ
   event : Event
   turn : IsTurn answer after c s act event d t
   log_is : more ≡ log ++ one_step_of act ∷ []
 
-noted_step : {S : Type 0} (answer : S → List ℕ → ℕ) (after : S → List ℕ → S) (c d : CoreValue) (s t : S) (log more : List Entry) (b : Bool) → b ≡ true → IsNoted answer after c s log d t more b
+noted_step : {S : Type 0} (answer : S → List ℕ → ℕ) (after : S → List ℕ → S) (c d : CoreValue) (s t : S) (log more : List Entry) (b : Bool) → b ≡ true
+    → IsNoted answer after c s log d t more b
     → IsStepNoted answer after c s log d t more
 noted_step answer after c d s t log more true e n = record { act = n.0; event = n.1; turn = n.2; log_is = n.3 }
 noted_step answer after c d s t log more false e n = cc
 
-noted_counts : {S : Type 0} (answer : S → List ℕ → ℕ) (after : S → List ℕ → S) (c d : CoreValue) (s t : S) (log more : List Entry) → IsStepNoted answer after c s log d t more → d.world.steps ≡ c.world.steps + 1
+noted_counts : {S : Type 0} (answer : S → List ℕ → ℕ) (after : S → List ℕ → S) (c d : CoreValue) (s t : S) (log more : List Entry)
+    → IsStepNoted answer after c s log d t more → d.world.steps ≡ c.world.steps + 1
 noted_counts answer after c d s t log more n = step_counts c.module_run c.world d.world n.act n.event n.turn.stepped
 
 -- the run goes on by a turn that was noted
-pub going_on : {S : Type 0} (answer : S → List ℕ → ℕ) (after : S → List ℕ → S) (m : ModuleValue) (first s t : S) (log more : List Entry) (numbers : List ℤ) (c d : CoreValue) (b : Bool)
+pub going_on : {S : Type 0} (answer : S → List ℕ → ℕ) (after : S → List ℕ → S) (m : ModuleValue) (first s t : S) (log more : List Entry) (numbers : List ℤ)
+    (c d : CoreValue) (b : Bool)
     → IsGoing answer after m first log c s → IsRunOf c.module_run log numbers c → b ≡ true → IsNoted answer after c s log d t more b → d.world.steps ≤ steps_bound d.module_run
     → IsGoing answer after m first more d t
 going_on answer after m first s t log more numbers c d b g r e noted within =
@@ -94,13 +100,15 @@ going_on answer after m first s t log more numbers c d b g r e noted within =
 
 -- and has fewer steps left
 pub going_less : {S : Type 0} (answer : S → List ℕ → ℕ) (after : S → List ℕ → S) (s t : S) (log more : List Entry) (c d : CoreValue) (b : Bool)
-    → b ≡ true → IsNoted answer after c s log d t more b → d.world.steps ≤ steps_bound d.module_run → steps_bound d.module_run + 1 - d.world.steps < steps_bound c.module_run + 1 - c.world.steps
+    → b ≡ true → IsNoted answer after c s log d t more b → d.world.steps ≤ steps_bound d.module_run
+    → steps_bound d.module_run + 1 - d.world.steps < steps_bound c.module_run + 1 - c.world.steps
 going_less answer after s t log more c d b e noted within =
     let n = noted_step answer after c d s t log more b e noted in
     omega (arith, noted_counts answer after c d s t log more n, ap steps_bound n.turn.same_module, within)
 
 -- a run begins
-pub going_starts : {S : Type 0} (answer : S → List ℕ → ℕ) (after : S → List ℕ → S) (m : ModuleValue) (s : S) (c : CoreValue) → c.module_run ≡ m → c.world.steps ≡ 0 → IsGoing answer after m s [] c s
+pub going_starts : {S : Type 0} (answer : S → List ℕ → ℕ) (after : S → List ℕ → S) (m : ModuleValue) (s : S) (c : CoreValue) → c.module_run ≡ m
+    → c.world.steps ≡ 0 → IsGoing answer after m s [] c s
 going_starts answer after m s c is start = record {
   same_module = is;
   bound = omega (arith, start);
@@ -125,8 +133,10 @@ chosen_so_far answer after m first s t log c d w g off is = record {
     of (inr e) = inr (e ∙ ap (λ k. after s (enabled_in k c.world)) g.same_module ∙ ap (λ z. after s (enabled_in m z)) now ∙ ap (λ z. after z (enabled_in m w)) g.chosen.left)
 
 -- what a run that was cut short was short of, the chooser being where the log leaves it
-pub short_so_far : {S X Z : Type 0} (answer : S → List ℕ → ℕ) (after : S → List ℕ → S) (m : ModuleValue) (first s t : S) (log : Vec Entry Z) (numbers : Vec X Z) (kept : List Entry) (c d : CoreValue)
-    → IsGoing answer after m first kept c s → IsPutOff after c s d t → log.items ≡ kept → IsShort answer log numbers c s → IsShort answer log numbers d (state_so_far after first log.items d)
+pub short_so_far : {S X Z : Type 0} (answer : S → List ℕ → ℕ) (after : S → List ℕ → S) (m : ModuleValue) (first s t : S) (log : Vec Entry Z)
+    (numbers : Vec X Z) (kept : List Entry) (c d : CoreValue)
+    → IsGoing answer after m first kept c s → IsPutOff after c s d t → log.items ≡ kept → IsShort answer log numbers c s
+    → IsShort answer log numbers d (state_so_far after first log.items d)
 short_so_far answer after m first s t log numbers kept c d g off same short =
     subst (λ v. IsShort answer log numbers v (state_so_far after first log.items v)) (sym off.same) (subst (IsShort answer log numbers c) left short)
   where

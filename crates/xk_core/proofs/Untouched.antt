@@ -91,7 +91,8 @@ same_enabled m w v b core later same waiting awaiting =
     kept x found None = refl
     kept x found (Some _) = refl
 
-    of : (o : Option Activity) → slice_get w.activities b ≡ o → (able_of v b o && not (kept_by v b o (instruction_of m o))) ≡ (able_of w b o && not (kept_by w b o (instruction_of m o)))
+    of : (o : Option Activity) → slice_get w.activities b ≡ o
+        → (able_of v b o && not (kept_by v b o (instruction_of m o))) ≡ (able_of w b o && not (kept_by w b o (instruction_of m o)))
     of None found = refl
     of (Some x) found =
         ap (λ p. p && not (kept_by v b (Some x) (instruction_of m (Some x)))) (able x.status)
@@ -107,11 +108,14 @@ Leaves m w a b (Stepped v e) = IsCore m v → is_quiet v ≡ true → (e ≡ eve
 
 module _ (m : ModuleValue) (w : World) (a b : ℕ) (core : IsCore m w) (inside : b < length w.activities) (differs : b ≡ a → ⊥) where
   -- one activity changes, and where it stands
-  leaves_moved : (act next : Activity) (change : ℕ → Standing → Standing) (v : World) → v.activities ≡ slice_set w.activities a next → v.clocks ≡ map (settled_clock (w.steps + 1)) (moved a change w.clocks)
-      → v.steps ≡ w.steps + 1 → IsCore m v → is_quiet v ≡ true → ((x : Activity) → awaits (slice_set w.activities a next) (innermost b x) ≡ awaits w.activities (innermost b x)) → is_enabled m v b ≡ is_enabled m w b
+  leaves_moved : (act next : Activity) (change : ℕ → Standing → Standing) (v : World) → v.activities ≡ slice_set w.activities a next
+      → v.clocks ≡ map (settled_clock (w.steps + 1)) (moved a change w.clocks)
+      → v.steps ≡ w.steps + 1 → IsCore m v → is_quiet v ≡ true
+      → ((x : Activity) → awaits (slice_set w.activities a next) (innermost b x) ≡ awaits w.activities (innermost b x)) → is_enabled m v b ≡ is_enabled m w b
   leaves_moved act next change v acts clocks steps later quiet awaiting =
       same_enabled m w v b core later (ap (λ l. slice_get l b) acts ∙ get-set_other w.activities a b next differs)
-      (ap (waits_on b) (clocks ∙ settled_quiet (w.steps + 1) (moved a change w.clocks) (sym (ap₂ (λ n l. list_all (λ (c : Clock). not (c.last == n)) l) steps clocks) ∙ quiet)) ∙ waits_moved a b change w.clocks differs)
+      (ap (waits_on b) (clocks ∙ settled_quiet (w.steps + 1) (moved a change w.clocks)
+      (sym (ap₂ (λ n l. list_all (λ (c : Clock). not (c.last == n)) l) steps clocks) ∙ quiet)) ∙ waits_moved a b change w.clocks differs)
       (λ x found. ap (λ l. awaits l (innermost b x)) acts ∙ awaiting x)
 
   -- it goes on
@@ -153,7 +157,8 @@ module _ (m : ModuleValue) (w : World) (a b : ℕ) (core : IsCore m w) (inside :
         (λ x there. on_awaits act next found alive on x);
     stored = λ s n e on start later quiet another. leaves_moved act (onward act) none _ refl refl refl later quiet (on_awaits act (onward act) found alive on);
     spawned = λ t args values at on later quiet another. same_enabled m w _ b core later
-        (get-push_other (slice_set w.activities a (onward act)) (child m a act t values) b (λ e. absurd (omega (arith, inside, length-set w.activities a (onward act)))) ∙ get-set_other w.activities a b (onward act) differs)
+        (get-push_other (slice_set w.activities a (onward act)) (child m a act t values) b
+        (λ e. absurd (omega (arith, inside, length-set w.activities a (onward act)))) ∙ get-set_other w.activities a b (onward act) differs)
         (ap (waits_on b) (settled_quiet (w.steps + 1) (joined a (is_given values) w.clocks) quiet) ∙ waits_joined a b (is_given values) w.clocks wide)
         (λ x there. start_awaits act t values _ found alive refl later x);
   })
@@ -182,7 +187,8 @@ Takes w a (Wrong c) = Unit {0}
 Takes w a (Stepped v e) = IsTaken w v a e
 
 -- one activity changes
-taken_set : (w v : World) (a : ℕ) (act next : Activity) (e : Event) → slice_get w.activities a ≡ Some act → v.activities ≡ slice_set w.activities a next → next.governed ≡ act.governed → is_start e ≡ false
+taken_set : (w v : World) (a : ℕ) (act next : Activity) (e : Event) → slice_get w.activities a ≡ Some act
+    → v.activities ≡ slice_set w.activities a next → next.governed ≡ act.governed → is_start e ≡ false
     → IsTaken w v a e
 taken_set w v a act next e found acts governed start = record {
   within = slice_get_within w.activities a act found;
@@ -193,7 +199,8 @@ taken_set w v a act next e found acts governed start = record {
 }
 
 -- and one is started
-taken_push : (w v : World) (a : ℕ) (act next x : Activity) → slice_get w.activities a ≡ Some act → v.activities ≡ slice_set w.activities a next ++ x ∷ [] → next.governed ≡ act.governed
+taken_push : (w v : World) (a : ℕ) (act next x : Activity) → slice_get w.activities a ≡ Some act → v.activities ≡ slice_set w.activities a next ++ x ∷ []
+    → next.governed ≡ act.governed
     → IsTaken w v a event.Spawned
 taken_push w v a act next x found acts governed = record {
   within = slice_get_within w.activities a act found;

@@ -50,14 +50,16 @@ under_kept acts others owned theirs f (suc n) k alike b less within inside under
 
 -- ---- one activity changes
 
-module _ (acts : List Activity) (owned : AreOwned acts) (a : ℕ) (act next : Activity) (found : slice_get acts a ≡ Some act) (governed : next.governed ≡ act.governed) (f : Finish) where
+module _ (acts : List Activity) (owned : AreOwned acts) (a : ℕ) (act next : Activity) (found : slice_get acts a ≡ Some act)
+    (governed : next.governed ≡ act.governed) (f : Finish) where
   abbrev after : List Activity
   after = slice_set acts a next
 
   alike_set : (b : ℕ) → governs (slice_get after b) ≡ governs (slice_get acts b)
   alike_set b = elim (same_or_not b a) [
     | inl same ↦
-        ap (λ n. governs (slice_get after n)) same ∙ ap governs (get-set_same acts a act next found) ∙ ap (λ g. Some g) governed ∙ sym (ap (λ n. governs (slice_get acts n)) same ∙ ap governs found)
+        ap (λ n. governs (slice_get after n)) same ∙ ap governs (get-set_same acts a act next found) ∙ ap (λ g. Some g) governed
+        ∙ sym (ap (λ n. governs (slice_get acts n)) same ∙ ap governs found)
     | inr differs ↦ ap governs (get-set_other acts a b next differs)
   ]
 
@@ -70,12 +72,19 @@ module _ (acts : List Activity) (owned : AreOwned acts) (a : ℕ) (act next : Ac
   under_after b inside = under_kept acts after owned owned_set f (length acts) (length acts) (λ n less. alike_set n) b inside (omega arith) inside
 
   under_before : (b : ℕ) → b < length acts → is_under after f b ≡ true → is_under acts f b ≡ true
-  under_before b inside = under_kept after acts owned_set owned f (length acts) (length acts) (λ n less. sym (alike_set n)) b inside (omega arith) (omega (arith, length-set acts a next))
+  under_before b inside = under_kept after acts owned_set owned f (length acts) (length acts) (λ n less. sym (alike_set n)) b inside (omega arith)
+      (omega (arith, length-set acts a next))
 
   -- who is awaited after the change was so before it
   awaited_before : is_ended act.status ≡ false → IsAwaited after f → IsAwaited acts f
   awaited_before alive i = elim (same_or_not i.b a) [
-    | inl same ↦ record { b = a; act = act; found = found; under = under_before a (slice_get_within acts a act found) (subst (λ n. is_under after f n ≡ true) same i.under); alive = alive }
+    | inl same ↦ record {
+      b = a;
+      act = act;
+      found = found;
+      under = under_before a (slice_get_within acts a act found) (subst (λ n. is_under after f n ≡ true) same i.under);
+      alive = alive;
+    }
     | inr differs ↦
         (let at = sym (get-set_other acts a i.b next differs) ∙ i.found in
         record { b = i.b; act = i.act; found = at; under = under_before i.b (slice_get_within acts i.b i.act at) i.under; alive = i.alive })
@@ -86,7 +95,13 @@ module _ (acts : List Activity) (owned : AreOwned acts) (a : ℕ) (act next : Ac
   awaited_after here i = elim (same_or_not i.b a) [
     | inl same ↦ here (subst (λ n. is_under acts f n ≡ true) same i.under)
     | inr differs ↦
-        record { b = i.b; act = i.act; found = get-set_other acts a i.b next differs ∙ i.found; under = under_after i.b (slice_get_within acts i.b i.act i.found) i.under; alive = i.alive }
+        record {
+          b = i.b;
+          act = i.act;
+          found = get-set_other acts a i.b next differs ∙ i.found;
+          under = under_after i.b (slice_get_within acts i.b i.act i.found) i.under;
+          alive = i.alive;
+        }
   ]
 
   -- where it goes on, whoever was awaited is
@@ -94,7 +109,13 @@ module _ (acts : List Activity) (owned : AreOwned acts) (a : ℕ) (act next : Ac
   awaits_on alive going = both_yes (awaits after f) (awaits acts f)
       (λ h. awaits_given acts f (awaited_before alive (awaited after f h)))
       (λ h. awaits_given after f (awaited_after
-      (λ under. record { b = a; act = next; found = get-set_same acts a act next found; under = under_after a (slice_get_within acts a act found) under; alive = going }) (awaited acts f h)))
+      (λ under. record {
+        b = a;
+        act = next;
+        found = get-set_same acts a act next found;
+        under = under_after a (slice_get_within acts a act found) under;
+        alive = going;
+      }) (awaited acts f h)))
 
   -- Where it ends, the owner of what governs it is awaited in its place, if that isn't the finish itself.
   pub awaits_end : is_ended act.status ≡ false → AreOpen acts → (act.governed ≡ f → ⊥) → awaits after f ≡ awaits acts f
@@ -108,7 +129,13 @@ module _ (acts : List Activity) (owned : AreOwned acts) (a : ℕ) (act next : Ac
         | inr p ↦
             (let o = each a act found alive p.0 p.1 in
             let before = owned a act found p.0 p.1 in
-            record { b = p.0; act = o.x; found = get-set_other acts a p.0 next (λ e. absurd (omega arith)) ∙ o.found; under = under_after p.0 (slice_get_within acts p.0 o.x o.found) p.2; alive = o.alive })
+            record {
+              b = p.0;
+              act = o.x;
+              found = get-set_other acts a p.0 next (λ e. absurd (omega arith)) ∙ o.found;
+              under = under_after p.0 (slice_get_within acts p.0 o.x o.found) p.2;
+              alive = o.alive;
+            })
       ]
 
 -- ---- one activity more
@@ -122,7 +149,8 @@ module _ (acts : List Activity) (owned : AreOwned acts) (a : ℕ) (act : Activit
   under_more b inside = under_kept acts (acts ++ x ∷ []) owned theirs f (length acts) (length acts) alike_push b inside (omega arith) inside
 
   under_less : (b : ℕ) (y : Activity) → b < length acts → slice_get (acts ++ x ∷ []) b ≡ Some y → is_under (acts ++ x ∷ []) f b ≡ true → is_under acts f b ≡ true
-  under_less b y inside at = under_kept (acts ++ x ∷ []) acts theirs owned f (length acts) (length acts) (λ n less. sym (alike_push n less)) b inside (omega arith) (slice_get_within (acts ++ x ∷ []) b y at)
+  under_less b y inside at = under_kept (acts ++ x ∷ []) acts theirs owned f (length acts) (length acts) (λ n less. sym (alike_push n less)) b inside
+      (omega arith) (slice_get_within (acts ++ x ∷ []) b y at)
 
   -- where the new one is under the finish of another, its starter is
   starter_under : (f.owner ≡ Some a → ⊥) → is_under (acts ++ x ∷ []) f (length acts) ≡ true → is_under acts f a ≡ true
@@ -131,7 +159,8 @@ module _ (acts : List Activity) (owned : AreOwned acts) (a : ℕ) (act : Activit
       inside : a < length acts
       inside = slice_get_within acts a act found
 
-      by : (n : ℕ) → x.governed ≡ finish_at a act.governed n → (x.governed ≡ f) ⊎ ((o : ℕ) × (x.governed.owner ≡ Some o) × (is_under (acts ++ x ∷ []) f o ≡ true)) → is_under acts f a ≡ true
+      by : (n : ℕ) → x.governed ≡ finish_at a act.governed n → (x.governed ≡ f)
+          ⊎ ((o : ℕ) × (x.governed.owner ≡ Some o) × (is_under (acts ++ x ∷ []) f o ≡ true)) → is_under acts f a ≡ true
       by zero e (inl g) = under_governed acts owned f a act found (sym e ∙ g)
       by zero e (inr p) =
           let own : act.governed.owner ≡ Some p.0 = ap (λ (g : Finish). g.owner) (sym e) ∙ p.1 in
@@ -145,10 +174,17 @@ module _ (acts : List Activity) (owned : AreOwned acts) (a : ℕ) (act : Activit
 
   -- so whoever was awaited is, and nobody else
   pub awaits_push : (f.owner ≡ Some a → ⊥) → awaits (acts ++ x ∷ []) f ≡ awaits acts f
-  awaits_push another = both_yes (awaits (acts ++ x ∷ []) f) (awaits acts f) (λ h. awaits_given acts f (before (awaited (acts ++ x ∷ []) f h))) (λ h. awaits_given (acts ++ x ∷ []) f (after_push (awaited acts f h)))
+  awaits_push another = both_yes (awaits (acts ++ x ∷ []) f) (awaits acts f) (λ h. awaits_given acts f (before (awaited (acts ++ x ∷ []) f h)))
+      (λ h. awaits_given (acts ++ x ∷ []) f (after_push (awaited acts f h)))
     where
       after_push : IsAwaited acts f → IsAwaited (acts ++ x ∷ []) f
-      after_push i = record { b = i.b; act = i.act; found = get-append_left acts (x ∷ []) i.b i.act i.found; under = under_more i.b (slice_get_within acts i.b i.act i.found) i.under; alive = i.alive }
+      after_push i = record {
+        b = i.b;
+        act = i.act;
+        found = get-append_left acts (x ∷ []) i.b i.act i.found;
+        under = under_more i.b (slice_get_within acts i.b i.act i.found) i.under;
+        alive = i.alive;
+      }
 
       before : IsAwaited (acts ++ x ∷ []) f → IsAwaited acts f
       before i = elim (same_or_not i.b (length acts)) [

@@ -68,7 +68,8 @@ pub record HoldsOfKinds (P : Outcome → Type 0) (m : ModuleValue) (w : World) (
 
 module _ (P : Outcome → Type 0) (m : ModuleValue) (w : World) (a : ℕ) (act : Activity) (alive : is_ended act.status ≡ false) (f : HoldsOfKinds P m w a act) where
   -- the present frame changes
-  frame_kind : (frame : Frame) (callers : List Frame) (change : ℕ → Standing → Standing) (e : Event) → is_start e ≡ false → P (done w a (record act { frame = frame; callers = callers }) change e)
+  frame_kind : (frame : Frame) (callers : List Frame) (change : ℕ → Standing → Standing) (e : Event) → is_start e ≡ false
+      → P (done w a (record act { frame = frame; callers = callers }) change e)
   frame_kind frame callers change e h = f.done (record act { frame = frame; callers = callers }) change e (moves_on act frame callers alive) h
 
   -- where a number is wanted

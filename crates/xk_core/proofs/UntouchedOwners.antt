@@ -29,12 +29,14 @@ same_or_not x y = cases (x == y) refl
 pub awaits_given : (acts : List Activity) (f : Finish) → IsAwaited acts f → awaits acts f ≡ true
 awaits_given acts f i = (let same : i.b ≡ 0 + i.b = omega arith in from 0 acts i.b i.act i.found (subst (λ z. is_under acts f z ≡ true) same i.under) i.alive)
   where
-    from : (n : ℕ) (xs : List Activity) (k : ℕ) (x : Activity) → slice_get xs k ≡ Some x → is_under acts f (n + k) ≡ true → is_ended x.status ≡ false → awaits_from acts f n xs ≡ true
+    from : (n : ℕ) (xs : List Activity) (k : ℕ) (x : Activity) → slice_get xs k ≡ Some x → is_under acts f (n + k) ≡ true → is_ended x.status ≡ false
+        → awaits_from acts f n xs ≡ true
     from n [] k x found under alive = absurd (none-some x found)
     from n (y ∷ ys) zero x found under alive =
         let same : n + 0 ≡ n = omega arith in
         or_left (is_under acts f n && not (is_ended y.status)) (awaits_from acts f (suc n) ys)
-        (and_from (is_under acts f n) (not (is_ended y.status)) (subst (λ z. is_under acts f z ≡ true) same under) (ap (λ (z : Activity). not (is_ended z.status)) (same_Some y x found) ∙ ap not alive))
+        (and_from (is_under acts f n) (not (is_ended y.status)) (subst (λ z. is_under acts f z ≡ true) same under)
+        (ap (λ (z : Activity). not (is_ended z.status)) (same_Some y x found) ∙ ap not alive))
     from n (y ∷ ys) (suc k) x found under alive =
         let same : n + suc k ≡ suc n + k = omega arith in
         or_right (is_under acts f n && not (is_ended y.status)) (awaits_from acts f (suc n) ys)
@@ -65,7 +67,8 @@ Opens (Stepped v e) = AreOpen v.activities
 
 -- it still has each finish open that governs somebody who hasn't ended
 abbrev Keeps : List Activity → ℕ → Activity → Activity → Type 0
-Keeps acts a act next = (b : ℕ) (x : Activity) → slice_get acts b ≡ Some x → is_ended x.status ≡ false → x.governed.owner ≡ Some a → 0 < x.governed.depth → x.governed.depth ≤ act.opened
+Keeps acts a act next = (b : ℕ) (x : Activity) → slice_get acts b ≡ Some x → is_ended x.status ≡ false → x.governed.owner ≡ Some a → 0 < x.governed.depth
+    → x.governed.depth ≤ act.opened
     → (is_ended next.status ≡ false) × (x.governed.depth ≤ next.opened)
 
 module _ (acts : List Activity) (a : ℕ) (act next : Activity) (found : slice_get acts a ≡ Some act) where
@@ -109,7 +112,8 @@ child_open m acts a act next found alive governed opened each =
   where
     by : (n : ℕ) → act.opened ≡ n → (o : ℕ) → (finish_at a act.governed n).owner ≡ Some o → HasOpen acts o (finish_at a act.governed n).depth
     by zero e o own = subst (λ (g : Finish). (o : ℕ) → g.owner ≡ Some o → HasOpen acts o g.depth) governed (each a next found alive) o own
-    by (suc n) e o own = subst (λ z. HasOpen acts z (suc n)) (same_Some a o own) (record { x = next; found = found; alive = alive; some = omega arith; within = omega (arith, e, opened) })
+    by (suc n) e o own = subst (λ z. HasOpen acts z (suc n)) (same_Some a o own)
+        (record { x = next; found = found; alive = alive; some = omega arith; within = omega (arith, e, opened) })
 
 -- ---- a step
 
@@ -125,7 +129,8 @@ module _ (m : ModuleValue) (w : World) (core : IsCore m w) (each : AreOpen w.act
   scoped = reached_scoped m core.limits core.accepted w core.reached
 
   -- a finish that awaits nobody governs nobody who hasn't ended
-  left_keeps : (a : ℕ) (act : Activity) (n : ℕ) → act.opened ≡ suc n → awaits w.activities (innermost a act) ≡ false → is_ended act.status ≡ false → Keeps w.activities a act (left act n)
+  left_keeps : (a : ℕ) (act : Activity) (n : ℕ) → act.opened ≡ suc n → awaits w.activities (innermost a act) ≡ false → is_ended act.status ≡ false
+      → Keeps w.activities a act (left act n)
   left_keeps a act n opened nobody alive b x at going own some within = (
     alive,
     elim (same_or_not x.governed.depth act.opened) [
@@ -138,7 +143,8 @@ module _ (m : ModuleValue) (w : World) (core : IsCore m w) (each : AreOpen w.act
   )
 
   -- one that ends has no finish open
-  ended_keeps : (a : ℕ) (act : Activity) → slice_get w.activities a ≡ Some act → instruction_at m act.frame ≡ Some instr.Ret → act.callers ≡ [] → Keeps w.activities a act (ended act)
+  ended_keeps : (a : ℕ) (act : Activity) → slice_get w.activities a ≡ Some act → instruction_at m act.frame ≡ Some instr.Ret → act.callers ≡ []
+      → Keeps w.activities a act (ended act)
   ended_keeps a act found here alone b x at going own some within =
       let me : IsActivitySound m (looks w.clocks a) (length w.clocks) w.steps act = sound.activities a act found in
       let at_ret = sym (ap (option_and_then (λ unit. slice_get unit.code act.frame.place)) me.unit) ∙ here in
@@ -179,4 +185,5 @@ opening_open m (suc b) act found alive o own = absurd (none-some act found)
 
 -- the finish that governs an activity of a core that hasn't ended is open, and its owner hasn't ended
 pub core_open : (m : ModuleValue) (w : World) → IsCore m w → AreOpen w.activities
-core_open m w core = run_open m core.reached.0 (opening m) w (record { limits = core.limits; accepted = core.accepted; reached = opening_reached m }) (opening_open m) core.reached.1
+core_open m w core = run_open m core.reached.0 (opening m) w (record { limits = core.limits; accepted = core.accepted; reached = opening_reached m })
+    (opening_open m) core.reached.1

@@ -9,7 +9,7 @@ use Rattle.xk_types.specs.declared.names.Event.{Event}
 use Rattle.xk_types.specs.declared.names.Event.TheVariants as event
 use Rattle.xk_types.specs.Code.{UnitValue, ModuleValue, compares}
 use Rattle.xk_types.specs.World.{Frame, Activity, World}
-use Rattle.xk_types.specs.Step.{Outcome, Blocked, carried_out, passing, slot_at, writing, onward, going, again, back_in, arrived, ended}
+use Rattle.xk_types.specs.Step.{Outcome, Blocked, Stepped, carried_out, passing, slot_at, writing, onward, going, again, back_in, arrived, ended}
 use Rattle.xk_core.specs.declared.change.StandingChange.TheVariants as standing_change
 use Rattle.xk_core.specs.declared.change.StepChange.{StepChange}
 use Rattle.xk_core.specs.declared.change.StepChange.TheVariants as step_change
@@ -155,6 +155,10 @@ carried_by m w a i (Some act) = carried_out m w a act i
 -- what activity a does at an instruction
 abbrev pub carried : ModuleValue → World → ℕ → Instr → Outcome
 carried m w a i = carried_by m w a i (slice_get w.activities a)
+
+-- that leads to world v, and is seen so
+abbrev pub CarriesOut : ModuleValue → World → ℕ → Instr → World → Event → Type 0
+CarriesOut m w a i v e = carried m w a i ≡ Stepped v e
 
 abbrev pub passing_by : World → ℕ → Option Activity → Outcome
 passing_by w a None = Blocked

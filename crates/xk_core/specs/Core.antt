@@ -7,7 +7,7 @@ use Rattle.xk_types.specs.declared.names.Event.{Event}
 use Rattle.xk_types.specs.declared.names.Status.{Status}
 use Rattle.xk_types.specs.declared.names.Status.TheVariants as status
 use Rattle.xk_types.specs.Code.{ModuleValue, IsWithinLimits}
-use Rattle.xk_types.specs.World.{Activity, World, instruction_at}
+use Rattle.xk_types.specs.World.{Activity, World, instruction_at, opening}
 use Rattle.xk_types.specs.Step.{Stepped, step}
 use Rattle.xk_types.specs.Schedule.{IsReached, is_enabled}
 use Rattle.xk_types.specs.Accepted.{IsAccepted}
@@ -39,6 +39,22 @@ next_instruction m w a = instruction_of m (slice_get w.activities a)
 -- activity a is about to make a clock, to call a method or to start an activity, for which memory is wanted
 abbrev pub IsAboutToGrow : ModuleValue → World → ℕ → Type 0
 IsAboutToGrow m w a = (i : Instr) × (next_instruction m w a ≡ Some i) × (grows i ≡ true)
+
+-- the core of a module before its first step
+abbrev pub opening_core : ModuleValue → CoreValue
+opening_core m = record { module_run = m; world = opening m }
+
+-- the instruction that activity a of a core carries out next, if it runs
+abbrev pub next_of : CoreValue → ℕ → Option Instr
+next_of c a = next_instruction c.module_run c.world a
+
+-- the step of activity a leads from c to d, and is seen so
+abbrev pub StepsTo : CoreValue → ℕ → CoreValue → Event → Type 0
+StepsTo c a d e = step c.module_run c.world a ≡ Stepped d.world e
+
+-- memory is wanted for the step of activity a
+abbrev pub WantsMemory : CoreValue → ℕ → Type 0
+WantsMemory c a = IsAboutToGrow c.module_run c.world a
 
 -- activity a is about to start another
 abbrev pub is_about_to_start : ModuleValue → World → ℕ → Bool

@@ -7,5 +7,5 @@ pub mod Core
 pub mod Schedules
 pub mod Told
 pub mod Choosing
-pub mod Touched
+pub mod Listing
 pub mod Driving

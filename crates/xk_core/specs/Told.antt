@@ -18,8 +18,8 @@ with_nodes (n ∷ ns) [] = []
 with_nodes (n ∷ ns) (x ∷ xs) = with_node n x ∷ with_nodes ns xs
 
 -- a world with its finishes
-abbrev pub told : List NodeValue → World → World
-told ns w = record w { activities = with_nodes ns w.activities }
+abbrev pub with_finishes : List NodeValue → World → World
+with_finishes ns w = record w { activities = with_nodes ns w.activities }
 
 -- the tree tells of an activity of the module: whether it has ended, and the room that it was made with
 pub record IsToldOf (m : ModuleValue) (n : NodeValue) (act : Activity) : Type 0 where

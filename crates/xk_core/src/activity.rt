@@ -61,7 +61,14 @@ impl Model for Activity {
 
     ghost Value = { world.Activity };
 
-    ghost view = { λ a. record { frame = a.frame; callers = reverse a.callers.items; status = a.status; since = a.since; opened = 0; governed = world.root } };
+    ghost view = { λ a. record {
+      frame = a.frame;
+      callers = reverse a.callers.items;
+      status = a.status;
+      since = a.since;
+      opened = 0;
+      governed = world.root;
+    } };
 }
 
 impl Activity {
@@ -71,7 +78,14 @@ impl Activity {
 
     /// An activity before its first step.
     pub fn new(alloc: Global, frame: Frame, since: u64) -> Activity
-        ensures { result ≡ record { frame = frame; callers = []; status = status.Running; since = since; opened = 0; governed = root } }
+        ensures { result ≡ record {
+          frame = frame;
+          callers = [];
+          status = status.Running;
+          since = since;
+          opened = 0;
+          governed = root;
+        } }
     {
         Activity {
             frame,
@@ -160,7 +174,8 @@ impl Activity {
     ) -> Result<Activity, AllocError>
         requires slots { All (λ s. s < length self.now.frame.slots) args.now }
         requires fits { length args.now ≤ size }
-        ensures { (a : ℕ) → IfOk result (λ x. x ≡ started a self.now unit (given_slots self.now args.now size)) }
+        ensures { (a : ℕ) → IfOk result
+            (λ x. x ≡ started a self.now unit (given_slots self.now args.now size)) }
     {
         let mut slots = self.values(alloc, args)?;
         slots.resize(size as usize, Value::Unset)?;
@@ -178,7 +193,8 @@ impl Activity {
     ) -> Result<(), AllocError>
         requires slots { All (λ s. s < length self.old.frame.slots) args.now }
         requires fits { length args.now ≤ size }
-        ensures called { OnOk result (self.new ≡ called_with self.old unit (given_slots self.old args.now size)) }
+        ensures called { OnOk result
+            (self.new ≡ called_with self.old unit (given_slots self.old args.now size)) }
         ensures refused { OnErr result (self.new ≡ self.old) }
     {
         let mut slots = self.values(alloc, args)?;
@@ -313,7 +329,8 @@ impl Activity {
     fn branch(&mut self, op: Comparison, x: u16, y: u16, t: u16) -> (StepChange, Event)
         requires place { self.old.frame.place + 1 < 2 ^ 16 }
         requires operands { AreNumbersAt self.old x y }
-        ensures { (u : UnitValue) → Carries u self.old (instruction.Unless op x y t) self.new result.0 result.1 }
+        ensures { (u : UnitValue)
+            → Carries u self.old (instruction.Unless op x y t) self.new result.0 result.1 }
     {
         if op.holds(self.number(x), self.number(y)) {
             self.go_on();
@@ -327,7 +344,8 @@ impl Activity {
     fn begin_turn(&mut self, b: u16, k: u16, n: i64)
         requires place { b + 1 < 2 ^ 16 }
         requires slot { k < length self.old.frame.slots }
-        ensures { self.new ≡ going (with_slots self.old (slice_set self.old.frame.slots k (value.Number n))) (b + 1) }
+        ensures { self.new ≡ going (with_slots self.old
+            (slice_set self.old.frame.slots k (value.Number n))) (b + 1) }
     {
         self.frame.slots[k as usize] = Value::Number(n);
         self.frame.place = b + 1;
@@ -374,7 +392,8 @@ impl Activity {
         requires place { self.old.frame.place + 1 < 2 ^ 16 }
         requires clock { IsClockAt self.old k }
         ensures going { self.new ≡ onward self.old }
-        ensures change { (c : ℕ) × (slot_at self.old k ≡ Some (value.Clock c)) × (result ≡ step_change.Only c what) }
+        ensures change { (c : ℕ) × (slot_at self.old k ≡ Some (value.Clock c))
+            × (result ≡ step_change.Only c what) }
     {
         let c = self.clock(k);
         self.go_on();

@@ -8,8 +8,8 @@ ghost use Rattle.xk_types.specs.Step.{Stepped, step};
 ghost use Rattle.xk_types.specs.Schedule.{is_enabled, all_ended};
 ghost use Rattle.xk_types.specs.Bound.{steps_bound};
 ghost use Rattle.xk_core.specs.Choosing.{IsRising, enabled_in, with_member};
-ghost use Rattle.xk_core.specs.Core.{IsCore, IsAboutToGrow, HasRoomAfter};
-ghost use Rattle.xk_core.specs.Touched.{touched};
+ghost use Rattle.xk_core.specs.Core.{StepsTo, WantsMemory, HasRoomAfter};
+ghost use Rattle.xk_core.specs.Listing.{other_to_list, with_or_without, KeepsList};
 
 use crate::chooser::{Chooser, place_in};
 use crate::machine::Core;
@@ -64,7 +64,7 @@ fn list_all(enabled: &mut Vec<u32>, core: &Core<'_>)
 fn list_one(enabled: &mut Vec<u32>, core: &Core<'_>, act: Act)
     requires rising { IsRising enabled.old.items }
     requires room { vec_len enabled.old < vec_capacity enabled.old }
-    ensures list { enabled.new.items ≡ with_member act (is_enabled core.now.module_run core.now.world act) enabled.old.items }
+    ensures list { enabled.new.items ≡ with_or_without core.now act enabled.old.items }
     ensures length { vec_len enabled.new ≤ vec_len enabled.old + 1 }
     ensures room { vec_capacity enabled.old ≤ vec_capacity enabled.new }
 {
@@ -76,7 +76,7 @@ fn list_one(enabled: &mut Vec<u32>, core: &Core<'_>, act: Act)
 fn list_own(enabled: &mut Vec<u32>, core: &Core<'_>, act: Act)
     requires rising { IsRising enabled.old.items }
     ensures list { with_member act true enabled.old.items ≡ enabled.old.items
-        → enabled.new.items ≡ with_member act (is_enabled core.now.module_run core.now.world act) enabled.old.items }
+        → enabled.new.items ≡ with_or_without core.now act enabled.old.items }
     ensures rising { IsRising enabled.new.items }
     ensures length { vec_len enabled.new ≤ vec_len enabled.old + 1 }
     ensures room { vec_capacity enabled.old ≤ vec_capacity enabled.new }
@@ -89,9 +89,9 @@ fn list_own(enabled: &mut Vec<u32>, core: &Core<'_>, act: Act)
 /// Who but the activity that took it may be able to step after a step that no clock advanced in, and not before, or the other way round: one
 /// that it started, and where it ended its activity the one that opened the finish which governs it.
 #[inline(always)]
-fn touched(core: &Core<'_>, act: Act, event: Event) -> Option<Act>
+fn other_to_list(core: &Core<'_>, act: Act, event: Event) -> Option<Act>
     requires { act < length core.now.world.activities }
-    ensures { result ≡ touched core.now.world act event }
+    ensures { result ≡ other_to_list core.now.world act event }
 {
     match event {
         Event::Spawned => Some(Act(core.activities() - 1)),
@@ -110,7 +110,7 @@ fn make_room(enabled: &mut Vec<u32>, core: &Core<'_>, act: Act) -> Result<(), Al
     ensures kept { vec_capacity enabled.old ≤ vec_capacity enabled.new }
     // There is room for two more than there are activities after the step.
     ensures room { OnOk result (HasRoomAfter core.now act (vec_capacity enabled.new)) }
-    ensures only_where_it_grows { OnErr result (IsAboutToGrow core.now.module_run core.now.world act) }
+    ensures only_where_it_grows { OnErr result (WantsMemory core.now act) }
 {
     if core.is_about_to_start(act) {
         let more = core.activities() as usize + 3 - enabled.len();
@@ -126,8 +126,7 @@ fn list_after(enabled: &mut Vec<u32>, core: &Core<'_>, act: Act, event: Event)
     requires rising { IsRising enabled.old.items }
     requires room { length core.now.world.activities < vec_capacity enabled.old }
     requires room_for_two { vec_len enabled.old + 1 < vec_capacity enabled.old }
-    ensures list { (before : World) → IsCore core.now.module_run before → step core.now.module_run before act ≡ Stepped core.now.world event
-        → enabled.old.items ≡ enabled_in core.now.module_run before → enabled.new.items ≡ enabled_in core.now.module_run core.now.world }
+    ensures list { KeepsList core.now act event enabled.old.items enabled.new.items }
     ensures room { vec_capacity enabled.old ≤ vec_capacity enabled.new }
 {
     if !core.is_quiet() {
@@ -135,7 +134,7 @@ fn list_after(enabled: &mut Vec<u32>, core: &Core<'_>, act: Act, event: Event)
         return;
     }
     list_own(enabled, core, act);
-    if let Some(other) = touched(core, act, event) {
+    if let Some(other) = other_to_list(core, act, event) {
         list_one(enabled, core, other);
     }
 }
@@ -186,13 +185,13 @@ impl<'m> Driver<'m> {
     #[inline(always)]
     pub fn step(&mut self, act: Act) -> Result<Event, AllocError>
         requires { IsTrue (is_enabled self.old.module_run self.old.world act) }
-        ensures stepped { IfOk result (λ e. step self.old.module_run self.old.world act ≡ Stepped self.new.world e) }
+        ensures stepped { IfOk result (StepsTo self.old act self.new) }
         ensures counted { OnOk result (self.new.world.steps ≡ self.old.world.steps + 1) }
         // The verified number of steps is never passed.
         ensures bound { OnOk result (self.new.world.steps ≤ steps_bound self.new.module_run) }
         ensures same_module { self.new.module_run ≡ self.old.module_run }
         ensures refused { OnErr result (self.new ≡ self.old) }
-        ensures only_where_it_grows { OnErr result (IsAboutToGrow self.old.module_run self.old.world act) }
+        ensures only_where_it_grows { OnErr result (WantsMemory self.old act) }
     {
         make_room(&mut self.enabled, &self.core, act)?;
         let event = self.core.step(act)?;
@@ -204,10 +203,13 @@ impl<'m> Driver<'m> {
     /// wants memory, and was refused it: then it wasn't taken, though the chooser was asked.
     #[inline(always)]
     pub fn turn<C: Chooser>(&mut self, chooser: &mut C) -> Result<Option<Turn>, AllocError>
-        ensures taken { IfOk result (IsTaken C.answer C.after self.old chooser.old self.new chooser.new) }
+        ensures taken { IfOk result
+            (IsTaken C.answer C.after self.old chooser.old self.new chooser.new) }
         // The verified number of steps is never passed.
-        ensures bound { IfOk result (λ o. IfSome o (λ turn. self.new.world.steps ≤ steps_bound self.new.module_run)) }
-        ensures refused { OnErr result (IsRefused C.answer C.after self.old chooser.old self.new chooser.new) }
+        ensures bound { IfOk result (λ o. IfSome o
+            (λ turn. self.new.world.steps ≤ steps_bound self.new.module_run)) }
+        ensures refused { OnErr result
+            (IsRefused C.answer C.after self.old chooser.old self.new chooser.new) }
     {
         if self.enabled.is_empty() {
             return Ok(None);

@@ -61,7 +61,8 @@ fn note(log: &mut Vec<Entry>, printed: &mut Vec<i64>, turn: Turn)
     requires log { vec_len log.old < vec_capacity log.old }
     requires printed { vec_len printed.old < vec_capacity printed.old }
     ensures log { log.new.items ≡ log.old.items ++ one_step_of turn.act ∷ [] }
-    ensures printed { printed.new.items ≡ printed.old.items ++ option_to_list (number_printed turn.event) }
+    ensures printed { printed.new.items ≡ printed.old.items
+        ++ option_to_list (number_printed turn.event) }
 {
     let entry = Entry {
         act: turn.act.0,
@@ -97,10 +98,13 @@ impl<'m> Logged<'m> {
         ensures noted { IfOk result (
             IsNoted C.answer C.after self.old.driver chooser.old self.old.log.items
             self.new.driver chooser.new self.new.log.items) }
-        ensures bound { result ≡ Ok true → self.new.driver.world.steps ≤ steps_bound self.new.driver.module_run }
-        ensures refused { OnErr result (IsPutOff C.after self.old.driver chooser.old self.new.driver chooser.new) }
+        ensures bound { result ≡ Ok true
+            → self.new.driver.world.steps ≤ steps_bound self.new.driver.module_run }
+        ensures refused { OnErr result
+            (IsPutOff C.after self.old.driver chooser.old self.new.driver chooser.new) }
         ensures refused_log { OnErr result (self.new.log.items ≡ self.old.log.items) }
-        ensures only_where_it_grows { OnErr result (IsShort C.answer self.new.log self.new.printed self.old.driver chooser.old) }
+        ensures only_where_it_grows { OnErr result
+            (IsShort C.answer self.new.log self.new.printed self.old.driver chooser.old) }
     {
         if self.driver.over() {
             return Ok(false);
@@ -186,7 +190,8 @@ pub fn drive<'m, C: Chooser>(
     ensures partial_goes_on { IfErr result (λ p. all_ended p.core.world ≡ false) }
     // The log has no room left, or the numbers have none, or the step of whom the chooser names next wants memory.
     ensures partial_grows { IfErr result (λ p.
-        IsShort C.answer p.log p.printed p.core (state_so_far C.after chooser.old p.log.items p.core)) }
+        IsShort C.answer p.log p.printed p.core
+        (state_so_far C.after chooser.old p.log.items p.core)) }
 {
     let mut run = match Logged::new(alloc, start) {
         Ok(run) => run,

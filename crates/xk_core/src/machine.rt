@@ -5,7 +5,7 @@ ghost use Rattle.xk_types.specs.World.{opening};
 ghost use Rattle.xk_types.specs.Step.{Stepped, step};
 ghost use Rattle.xk_types.specs.Schedule.{IsReached, is_enabled, all_ended};
 ghost use Rattle.xk_types.specs.Bound.{steps_bound};
-ghost use Rattle.xk_core.specs.Core.{next_instruction, governor, IsAboutToGrow, IsCore, IsLeastEnabled, is_about_to_start, is_quiet};
+ghost use Rattle.xk_core.specs.Core.{next_instruction, next_of, governor, opening_core, StepsTo, WantsMemory, IsCore, IsLeastEnabled, is_about_to_start, is_quiet};
 ghost use Rattle.xk_core.specs.Able.{is_kept};
 ghost use Rattle.xk_core.specs.Told.{is_end};
 ghost use Rattle.xk_core.specs.Arm.{grows, concerns_finishes};
@@ -29,13 +29,14 @@ pub struct Core<'m> {
 
 impl<'m> Model for Core<'m> {
     ghost use Rattle.xk_core.specs.Core.{CoreValue, IsCore};
-    ghost use Rattle.xk_core.specs.Told.{told, AreTold};
+    ghost use Rattle.xk_core.specs.Told.{with_finishes, AreTold};
 
     ghost Value = { CoreValue };
 
-    ghost view = { λ c. record { module_run = c.verified.now; world = told c.finishes c.state } };
+    ghost view = { λ c. record { module_run = c.verified.now; world = with_finishes c.finishes c.state } };
 
-    ghost invariant = { λ c. IsCore c.verified.now (told c.finishes c.state) × AreTold c.verified.now c.finishes c.state.activities };
+    ghost invariant = { λ c. IsCore c.verified.now (with_finishes c.finishes c.state)
+        × AreTold c.verified.now c.finishes c.state.activities };
 }
 
 /// Whether what a step did was to end its activity.
@@ -48,7 +49,7 @@ fn is_end(event: Event) -> bool
 impl<'m> Core<'m> {
     /// The opening world of a module: main alone, before its first step. Err where memory was refused.
     pub fn open(alloc: Global, verified: &'m Verified) -> Result<Core<'m>, AllocError>
-        ensures { IfOk result (λ c. c ≡ record { module_run = verified.now; world = opening verified.now }) }
+        ensures { IfOk result (λ c. c ≡ opening_core verified.now) }
     {
         let program = verified.module();
         let main = &program.units()[0];
@@ -142,7 +143,8 @@ impl<'m> Core<'m> {
     /// what its starter's was at the start, and main's is 0.
     pub fn since(&self, act: Act) -> u64
         requires { act < length self.now.world.activities }
-        ensures { option_map (λ a. a.since) (slice_get self.now.world.activities act) ≡ Some result }
+        ensures { option_map (λ a. a.since) (slice_get self.now.world.activities act)
+            ≡ Some result }
     {
         match self.state.activity(act.0 as usize) {
             Some(a) => a.since(),
@@ -212,13 +214,13 @@ impl<'m> Core<'m> {
     #[inline(always)]
     pub fn step(&mut self, act: Act) -> Result<Event, AllocError>
         requires { IsTrue (is_enabled self.old.module_run self.old.world act) }
-        ensures stepped { IfOk result (λ e. step self.old.module_run self.old.world act ≡ Stepped self.new.world e) }
+        ensures stepped { IfOk result (StepsTo self.old act self.new) }
         ensures counted { OnOk result (self.new.world.steps ≡ self.old.world.steps + 1) }
         // The verified number of steps is never passed.
         ensures bound { OnOk result (self.new.world.steps ≤ steps_bound self.new.module_run) }
         ensures same_module { self.new.module_run ≡ self.old.module_run }
         ensures refused { OnErr result (self.new ≡ self.old) }
-        ensures only_where_it_grows { OnErr result (IsAboutToGrow self.old.module_run self.old.world act) }
+        ensures only_where_it_grows { OnErr result (WantsMemory self.old act) }
     {
         let program = self.verified.module();
         let next = self.state.next_instruction(program, act.0 as usize);
@@ -229,11 +231,11 @@ impl<'m> Core<'m> {
     #[inline(always)]
     fn take(&mut self, act: Act, next: Option<&Instr>) -> Result<Event, AllocError>
         requires enabled { IsTrue (is_enabled self.old.module_run self.old.world act) }
-        requires here { option_copied next ≡ next_instruction self.old.module_run self.old.world act }
-        ensures stepped { IfOk result (λ e. step self.old.module_run self.old.world act ≡ Stepped self.new.world e) }
+        requires here { option_copied next ≡ next_of self.old act }
+        ensures stepped { IfOk result (StepsTo self.old act self.new) }
         ensures same_module { self.new.module_run ≡ self.old.module_run }
         ensures refused { OnErr result (self.new ≡ self.old) }
-        ensures only_where_it_grows { OnErr result (IsAboutToGrow self.old.module_run self.old.world act) }
+        ensures only_where_it_grows { OnErr result (WantsMemory self.old act) }
     {
         match next {
             None => Ok(self.pass(act)),
@@ -247,8 +249,8 @@ impl<'m> Core<'m> {
     /// The activity passes the `advance` that it waits at.
     fn pass(&mut self, act: Act) -> Event
         requires enabled { is_enabled self.old.module_run self.old.world act ≡ true }
-        requires waits { next_instruction self.old.module_run self.old.world act ≡ None }
-        ensures stepped { step self.old.module_run self.old.world act ≡ Stepped self.new.world result }
+        requires waits { next_of self.old act ≡ None }
+        ensures stepped { StepsTo self.old act self.new result }
         ensures same_module { self.new.module_run ≡ self.old.module_run }
     {
         self.state.pass(act.0 as usize)
@@ -257,8 +259,8 @@ impl<'m> Core<'m> {
     /// The activity opens a finish.
     fn open_finish(&mut self, act: Act, e: u16) -> Event
         requires enabled { is_enabled self.old.module_run self.old.world act ≡ true }
-        requires here { next_instruction self.old.module_run self.old.world act ≡ Some (instruction.Finish e) }
-        ensures stepped { step self.old.module_run self.old.world act ≡ Stepped self.new.world result }
+        requires here { next_of self.old act ≡ Some (instruction.Finish e) }
+        ensures stepped { StepsTo self.old act self.new result }
         ensures same_module { self.new.module_run ≡ self.old.module_run }
     {
         self.finishes.enter(act);
@@ -269,8 +271,8 @@ impl<'m> Core<'m> {
     /// The activity closes its innermost open finish.
     fn close_finish(&mut self, act: Act, b: u16) -> Event
         requires enabled { is_enabled self.old.module_run self.old.world act ≡ true }
-        requires here { next_instruction self.old.module_run self.old.world act ≡ Some (instruction.EndFinish b) }
-        ensures stepped { step self.old.module_run self.old.world act ≡ Stepped self.new.world result }
+        requires here { next_of self.old act ≡ Some (instruction.EndFinish b) }
+        ensures stepped { StepsTo self.old act self.new result }
         ensures same_module { self.new.module_run ≡ self.old.module_run }
     {
         self.finishes.leave(act);
@@ -281,8 +283,8 @@ impl<'m> Core<'m> {
     /// The activity starts another, which runs this unit with these arguments.
     fn start(&mut self, act: Act, unit: u16, args: &Args) -> Result<Event, AllocError>
         requires enabled { is_enabled self.old.module_run self.old.world act ≡ true }
-        requires here { next_instruction self.old.module_run self.old.world act ≡ Some (instruction.Spawn unit args.now) }
-        ensures stepped { IfOk result (λ e. step self.old.module_run self.old.world act ≡ Stepped self.new.world e) }
+        requires here { next_of self.old act ≡ Some (instruction.Spawn unit args.now) }
+        ensures stepped { IfOk result (StepsTo self.old act self.new) }
         ensures same_module { self.new.module_run ≡ self.old.module_run }
         ensures refused { OnErr result (self.new ≡ self.old) }
     {
@@ -302,9 +304,9 @@ impl<'m> Core<'m> {
     #[inline(always)]
     fn carry_out(&mut self, act: Act, instr: &Instr) -> Result<Event, AllocError>
         requires enabled { is_enabled self.old.module_run self.old.world act ≡ true }
-        requires here { next_instruction self.old.module_run self.old.world act ≡ Some instr.now }
+        requires here { next_of self.old act ≡ Some instr.now }
         requires plain { concerns_finishes instr.now ≡ false }
-        ensures stepped { IfOk result (λ e. step self.old.module_run self.old.world act ≡ Stepped self.new.world e) }
+        ensures stepped { IfOk result (StepsTo self.old act self.new) }
         ensures same_module { self.new.module_run ≡ self.old.module_run }
         ensures refused { OnErr result (self.new ≡ self.old) }
         ensures only_where_it_grows { OnErr result (grows instr.now ≡ true) }

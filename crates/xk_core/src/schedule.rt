@@ -54,8 +54,10 @@ pub fn run_schedule<'m>(
     start: Core<'m>,
     schedule: &[u32],
 ) -> Result<Ran<'m>, Halt<'m>>
-    ensures ran { IfOk result (λ r. run start.entry.module_run schedule.now start.entry.world ≡ Through r.core.world) }
-    ensures seen { IfOk result (λ r. r.seen.items ≡ events_seen start.entry.module_run schedule.now start.entry.world) }
+    ensures ran { IfOk result (λ r.
+        run start.entry.module_run schedule.now start.entry.world ≡ Through r.core.world) }
+    ensures seen { IfOk result (λ r.
+        r.seen.items ≡ events_seen start.entry.module_run schedule.now start.entry.world) }
     ensures same_module { IfOk result (λ r. r.core.module_run ≡ start.entry.module_run) }
     ensures halted { IfErr result (IsHalt start.entry schedule.now) }
 {

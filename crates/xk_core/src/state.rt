@@ -10,7 +10,7 @@ ghost use Rattle.xk_core.specs.Able.{is_able};
 ghost use Rattle.xk_core.specs.Core.{is_quiet, next_instruction};
 ghost use Rattle.xk_core.specs.Opening.{opening_with};
 ghost use Rattle.xk_core.specs.Change.{standing_after_step};
-ghost use Rattle.xk_core.specs.Arm.{grows, concerns_finishes, concerns_cells, carried, passed_on, IsRoomy, IsRunningUnit};
+ghost use Rattle.xk_core.specs.Arm.{grows, concerns_finishes, concerns_cells, carried, CarriesOut, passed_on, IsRoomy, IsRunningUnit};
 ghost use Rattle.xk_core.specs.Joining.{joined_first};
 ghost use Rattle.xk_types.specs.World as world;
 
@@ -37,7 +37,12 @@ impl Model for State {
 
     ghost Value = { world.World };
 
-    ghost view = { λ s. record { activities = s.activities.items; clocks = s.clocks.items; cells = s.cells.items; steps = s.steps } };
+    ghost view = { λ s. record {
+      activities = s.activities.items;
+      clocks = s.clocks.items;
+      cells = s.cells.items;
+      steps = s.steps;
+    } };
 }
 
 /// Changes the standings of activity a.
@@ -82,8 +87,10 @@ fn is_given(values: &[Value], c: usize) -> bool
 /// The clocks take in the activity of the next number, which activity a starts with these values. Stops at the first clock
 /// that memory is refused to, and gives its number.
 fn join_each(clocks: &mut Vec<Clock>, a: usize, values: &[Value]) -> Result<(), usize>
-    ensures joined { OnOk result (clocks.new.items ≡ joined a (is_given values.now) clocks.old.items) }
-    ensures stopped { IfErr result (λ k. clocks.new.items ≡ joined_first k a (is_given values.now) clocks.old.items) }
+    ensures joined { OnOk result
+        (clocks.new.items ≡ joined a (is_given values.now) clocks.old.items) }
+    ensures stopped { IfErr result
+        (λ k. clocks.new.items ≡ joined_first k a (is_given values.now) clocks.old.items) }
     ensures within { IfErr result (λ k. k ≤ length clocks.new.items) }
 {
     for (k, clock) in clocks.iter_mut().enumerate() {
@@ -109,7 +116,8 @@ fn leave_first(clocks: &mut Vec<Clock>, n: usize)
 /// The clocks take in the activity of the next number, which activity a starts with these values. Where memory is refused
 /// nothing changes.
 fn join_all(clocks: &mut Vec<Clock>, a: usize, values: &[Value]) -> Result<(), AllocError>
-    ensures joined { OnOk result (clocks.new.items ≡ joined a (is_given values.now) clocks.old.items) }
+    ensures joined { OnOk result
+        (clocks.new.items ≡ joined a (is_given values.now) clocks.old.items) }
     ensures refused { OnErr result (clocks.new.items ≡ clocks.old.items) }
 {
     match join_each(clocks, a, values) {
@@ -155,7 +163,8 @@ impl State {
         requires steps { self.old.steps + 1 < 2 ^ 64 }
         requires phases { All (λ c. c.phase + 1 < 2 ^ 64) self.old.clocks }
         requires standings { All (λ c. a < length c.standings) self.old.clocks }
-        ensures { self.new ≡ settled (record self.old { clocks = moved a (standing_after_step change) self.old.clocks }) }
+        ensures { self.new ≡ settled (record self.old
+            { clocks = moved a (standing_after_step change) self.old.clocks }) }
     {
         change_all(&mut self.clocks, a, change);
         self.settle();
@@ -174,7 +183,7 @@ impl State {
         requires plain { concerns_finishes instr.now ≡ false }
         requires room { IsRoomy self.old a }
         requires unit { IsRunningUnit program.now self.old a }
-        ensures stepped { IfOk result (λ e. carried program.now self.old a instr.now ≡ Stepped self.new e) }
+        ensures stepped { IfOk result (CarriesOut program.now self.old a instr.now self.new) }
         ensures refused { OnErr result (self.new ≡ self.old) }
         ensures only_where_it_grows { OnErr result (grows instr.now ≡ true) }
     {
@@ -198,7 +207,7 @@ impl State {
         requires own { concerns_cells instr.now ≡ false }
         requires room { IsRoomy self.old a }
         requires unit { IsRunningUnit program.now self.old a }
-        ensures { carried program.now self.old a instr.now ≡ Stepped self.new result }
+        ensures { CarriesOut program.now self.old a instr.now self.new result }
     {
         let act = &mut self.activities[a];
         let unit = &program.units()[act.unit() as usize];
@@ -211,7 +220,7 @@ impl State {
     fn get(&mut self, program: &Module, a: usize, d: u16, s: u16) -> Event
         requires enabled { is_step (carried program.now self.old a (instruction.Get d s)) ≡ true }
         requires room { IsRoomy self.old a }
-        ensures { carried program.now self.old a (instruction.Get d s) ≡ Stepped self.new result }
+        ensures { CarriesOut program.now self.old a (instruction.Get d s) self.new result }
     {
         let n = cell(&self.cells, s);
         let act = &mut self.activities[a];
@@ -224,7 +233,7 @@ impl State {
     fn put(&mut self, program: &Module, a: usize, s: u16, x: u16) -> Event
         requires enabled { is_step (carried program.now self.old a (instruction.Put s x)) ≡ true }
         requires room { IsRoomy self.old a }
-        ensures { carried program.now self.old a (instruction.Put s x) ≡ Stepped self.new result }
+        ensures { CarriesOut program.now self.old a (instruction.Put s x) self.new result }
     {
         let act = &mut self.activities[a];
         let n = act.number(x);
@@ -238,7 +247,7 @@ impl State {
     fn add_to(&mut self, program: &Module, a: usize, s: u16, x: u16) -> Event
         requires enabled { is_step (carried program.now self.old a (instruction.AddTo s x)) ≡ true }
         requires room { IsRoomy self.old a }
-        ensures { carried program.now self.old a (instruction.AddTo s x) ≡ Stepped self.new result }
+        ensures { CarriesOut program.now self.old a (instruction.AddTo s x) self.new result }
     {
         let act = &mut self.activities[a];
         let n = act.number(x);
@@ -252,7 +261,8 @@ impl State {
     fn make(&mut self, program: &Module, a: usize, d: u16) -> Result<Event, AllocError>
         requires enabled { is_step (carried program.now self.old a (instruction.Make d)) ≡ true }
         requires room { IsRoomy self.old a }
-        ensures made { IfOk result (λ e. carried program.now self.old a (instruction.Make d) ≡ Stepped self.new e) }
+        ensures made { IfOk result
+            (CarriesOut program.now self.old a (instruction.Make d) self.new) }
         ensures refused { OnErr result (self.new ≡ self.old) }
     {
         let name = ClockId(self.clocks.len() as u32);
@@ -272,9 +282,11 @@ impl State {
         unit: u16,
         args: &[u16],
     ) -> Result<Event, AllocError>
-        requires enabled { is_step (carried program.now self.old a (instruction.Call unit args.now)) ≡ true }
+        requires enabled { is_step
+            (carried program.now self.old a (instruction.Call unit args.now)) ≡ true }
         requires room { IsRoomy self.old a }
-        ensures called { IfOk result (λ e. carried program.now self.old a (instruction.Call unit args.now) ≡ Stepped self.new e) }
+        ensures called { IfOk result
+            (CarriesOut program.now self.old a (instruction.Call unit args.now) self.new) }
         ensures refused { OnErr result (self.new ≡ self.old) }
     {
         let alloc = *self.activities.allocator();
@@ -291,7 +303,10 @@ impl State {
         requires there { a < length self.old.activities }
         requires room { IsRoomy self.old a }
         ensures { (act : world.Activity) → slice_get self.old.activities a ≡ Some act
-            → self.new ≡ settled (record self.old { activities = slice_set self.old.activities a (onward act); clocks = moved a none self.old.clocks }) }
+            → self.new ≡ settled (record self.old {
+              activities = slice_set self.old.activities a (onward act);
+              clocks = moved a none self.old.clocks;
+            }) }
     {
         let act = &mut self.activities[a];
         act.go_on();
@@ -309,13 +324,17 @@ impl State {
         args: &[u16],
         finish_room: u32,
     ) -> Result<Event, AllocError>
-        requires enabled { is_step (carried program.now self.old a (instruction.Spawn unit args.now)) ≡ true }
+        requires enabled { is_step
+            (carried program.now self.old a (instruction.Spawn unit args.now)) ≡ true }
         requires room { IsRoomy self.old a }
-        requires told { length finishes.old ≡ length self.old.activities }
+        requires with_finishes { length finishes.old ≡ length self.old.activities }
         requires runs { (node_at finishes.old a).ended ≡ false }
         requires numbers { length self.old.activities < 2 ^ 32 }
-        ensures started { IfOk result (λ e. carried program.now self.old a (instruction.Spawn unit args.now) ≡ Stepped self.new e) }
-        ensures finishes { OnOk result (finishes.new ≡ finishes.old ++ fresh_node (governing_of a (node_at finishes.old a)) finish_room ∷ []) }
+        ensures started { IfOk result
+            (CarriesOut program.now self.old a (instruction.Spawn unit args.now) self.new) }
+        ensures finishes { OnOk result
+            (finishes.new ≡ finishes.old
+            ++ fresh_node (governing_of a (node_at finishes.old a)) finish_room ∷ []) }
         ensures refused { OnErr result (self.new ≡ self.old) }
         ensures finishes_refused { OnErr result (finishes.new ≡ finishes.old) }
     {

@@ -24,7 +24,8 @@ reaches_alike f g b u v earlier alike = ap (λ (x : Bool). same_finish g f || x)
     at (Some a) smaller = alike a (smaller a refl)
 
 -- one owner up
-one_up : (nodes : List NodeValue) (f : Finish) (n b : ℕ) (node : NodeValue) → slice_get nodes b ≡ Some node → under_within nodes f (suc n) b ≡ reaches_by (under_within nodes f n) f node.governed
+one_up : (nodes : List NodeValue) (f : Finish) (n b : ℕ) (node : NodeValue) → slice_get nodes b ≡ Some node
+    → under_within nodes f (suc n) b ≡ reaches_by (under_within nodes f n) f node.governed
 unfolding under_within
 one_up nodes f n b node h = ap (λ o. option_map_or (λ (node : NodeValue). reaches_by (under_within nodes f n) f node.governed) o false) h
 
@@ -39,7 +40,8 @@ under_enough nodes f earlier zero k b below other = absurd (omega arith)
 under_enough nodes f earlier (suc n) zero b below other = absurd (omega arith)
 under_enough nodes f earlier (suc n) (suc k) b below other = at (slice_get nodes b) refl (λ a lt. under_enough nodes f earlier n k a (omega arith) (omega arith))
   where
-    at : (o : Option NodeValue) → slice_get nodes b ≡ o → ((a : ℕ) → a < b → under_within nodes f n a ≡ under_within nodes f k a) → under_within nodes f (suc n) b ≡ under_within nodes f (suc k) b
+    at : (o : Option NodeValue) → slice_get nodes b ≡ o → ((a : ℕ) → a < b → under_within nodes f n a ≡ under_within nodes f k a)
+        → under_within nodes f (suc n) b ≡ under_within nodes f (suc k) b
     at None h alike = none_there nodes f n b h ∙ sym (none_there nodes f k b h)
     at (Some node) h alike = one_up nodes f n b node h ∙ reaches_alike f node.governed b _ _ (earlier b node h) alike ∙ sym (one_up nodes f k b node h)
 
@@ -49,7 +51,8 @@ pub record Governs (nodes : List NodeValue) (f g : Finish) (b : ℕ) : Type 0 wh
   pub earlier : (a : ℕ) → g.owner ≡ Some a → a < b
 
 -- what is found to govern an activity does
-pub governs : (nodes : List NodeValue) (f g : Finish) (b : ℕ) (node : NodeValue) → AreOwnersEarlier nodes → b < length nodes → node ≡ get_or nodes b node → g ≡ node.governed → Governs nodes f g b
+pub governs : (nodes : List NodeValue) (f g : Finish) (b : ℕ) (node : NodeValue) → AreOwnersEarlier nodes → b < length nodes → node ≡ get_or nodes b node
+    → g ≡ node.governed → Governs nodes f g b
 governs nodes f g b node earlier inside is same =
     let there = slice_get_read nodes (length nodes) b node refl inside is in
     subst (λ (x : Finish). Governs nodes f x b) (sym same) (record {

@@ -13,7 +13,8 @@ ghost use Rattle.xk_finishes.specs.Tree.{NodeValue, fresh_node, node_at, node_en
 pub fn goes_with_steps()
     ensures awaited { (acts : List Activity) (nodes : List NodeValue) → AreNodesOf acts nodes
         → (f : Finish) → awaits nodes f ≡ step.awaits acts f }
-    ensures opened { (m : ModuleValue) (room : ℕ) → AreNodesOf (main_of m ∷ []) (fresh_node root room ∷ []) }
+    ensures opened { (m : ModuleValue) (room : ℕ)
+        → AreNodesOf (main_of m ∷ []) (fresh_node root room ∷ []) }
     ensures entered { (acts : List Activity) (nodes : List NodeValue) → AreNodesOf acts nodes
         → (a : ℕ) (act : Activity) → slice_get acts a ≡ Some act
         → AreNodesOf (slice_set acts a (step.entered act)) (changed_at nodes a node_entered) }
@@ -30,6 +31,7 @@ pub fn goes_with_steps()
         → AreNodesOf (slice_set acts a (step.ended act)) (changed_at nodes a node_ended) }
     ensures others { (acts : List Activity) (nodes : List NodeValue) → AreNodesOf acts nodes
         → (a : ℕ) (act next : Activity) → slice_get acts a ≡ Some act
-        → next.opened ≡ act.opened → next.governed ≡ act.governed → is_ended next.status ≡ is_ended act.status
+        → next.opened ≡ act.opened → next.governed ≡ act.governed
+        → is_ended next.status ≡ is_ended act.status
         → AreNodesOf (slice_set acts a next) nodes }
 {}

@@ -25,9 +25,19 @@ impl Model for Node {
 
     ghost Value = { NodeValue };
 
-    ghost view = { λ n. record { opened = n.opened; room = n.room; governed = n.governed; ended = n.ended } };
+    ghost view = { λ n. record {
+      opened = n.opened;
+      room = n.room;
+      governed = n.governed;
+      ended = n.ended;
+    } };
 
-    ghost inverse = { λ n. record { opened = n.opened; room = n.room; governed = n.governed; ended = n.ended } };
+    ghost inverse = { λ n. record {
+      opened = n.opened;
+      room = n.room;
+      governed = n.governed;
+      ended = n.ended;
+    } };
 }
 
 impl Node {

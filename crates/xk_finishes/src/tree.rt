@@ -83,7 +83,8 @@ impl FinishTree {
         requires numbers { length self.old < 2 ^ 32 }
         ensures number { IfOk result (λ act. act ≡ length self.old) }
         ensures started { OnOk result
-            (self.new ≡ self.old ++ fresh_node (governing_of starter (node_at self.old starter)) room ∷ []) }
+            (self.new ≡ self.old
+            ++ fresh_node (governing_of starter (node_at self.old starter)) room ∷ []) }
         ensures refused { OnErr result (self.new ≡ self.old) }
     {
         let number = Act(self.nodes.len() as u32);

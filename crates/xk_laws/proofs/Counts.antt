@@ -33,7 +33,8 @@ abbrev pub is_over : List Activity → ℕ → Bool
 is_over acts b = option_map_or (λ act. is_ended act.status) (slice_get acts b) false
 
 -- another activity changes
-over_set : (acts : List Activity) (a b : ℕ) (act next : Activity) → slice_get acts a ≡ Some act → is_ended act.status ≡ false → is_over acts b ≡ true → is_over (slice_set acts a next) b ≡ true
+over_set : (acts : List Activity) (a b : ℕ) (act next : Activity) → slice_get acts a ≡ Some act → is_ended act.status ≡ false → is_over acts b ≡ true
+    → is_over (slice_set acts a next) b ≡ true
 over_set [] a b act next at alive h = absurd (false≢true h)
 over_set (x ∷ xs) zero zero act next at alive h = absurd (false≢true (sym alive ∙ (ap (λ o. option_map_or (λ y. is_ended y.status) o false) (sym at) ∙ h)))
 over_set (x ∷ xs) zero (suc b) act next at alive h = h

@@ -78,20 +78,23 @@ spawning_form P wrong m w a act t args (Some u) h = cases (is_body u.kind)
     cases false = wrong _
 
 -- where a number is computed from two others
-computing_form : (P : Outcome → Type 0) (m : ModuleValue) (w : World) (a : ℕ) → HoldsOfForms P m w a → (act : Activity) (g : ℤ → ℤ → ℤ) (d x y : ℕ) → slice_get w.activities a ≡ Some act
+computing_form : (P : Outcome → Type 0) (m : ModuleValue) (w : World) (a : ℕ) → HoldsOfForms P m w a → (act : Activity) (g : ℤ → ℤ → ℤ) (d x y : ℕ)
+    → slice_get w.activities a ≡ Some act
     → is_ended act.status ≡ false → P (computing w a act g d x y)
 computing_form P m w a f act g d x y at alive =
     number_form P f.wrong (slot_at act x) _ (λ p. number_form P f.wrong (slot_at act y) _ (λ q. put_form P f.wrong (slot_at act d) act d _ _ (λ z. f.done act z _ _ at alive)))
 
 -- where a turn of a loop ends
-turning_form : (P : Outcome → Type 0) (m : ModuleValue) (w : World) (a : ℕ) → HoldsOfForms P m w a → (act : Activity) (b : ℕ) (o : Option Instr) → slice_get w.activities a ≡ Some act
+turning_form : (P : Outcome → Type 0) (m : ModuleValue) (w : World) (a : ℕ) → HoldsOfForms P m w a → (act : Activity) (b : ℕ) (o : Option Instr)
+    → slice_get w.activities a ≡ Some act
     → is_ended act.status ≡ false → P (turning w a act b o)
 turning_form P m w a f act b (Some (instr.For k lo hi e)) at alive = number_form P f.wrong (slot_at act k) _ (λ n. f.done act _ _ _ at alive)
 turning_form P m w a f act b None at alive = f.wrong _
 turning_form P m w a f act b (Some _) at alive = f.wrong _
 
 -- where a method is called
-calling_form : (P : Outcome → Type 0) (m : ModuleValue) (w : World) (a : ℕ) → HoldsOfForms P m w a → (act : Activity) (t : ℕ) (args : List ℕ) (o : Option UnitValue) → slice_get w.activities a ≡ Some act
+calling_form : (P : Outcome → Type 0) (m : ModuleValue) (w : World) (a : ℕ) → HoldsOfForms P m w a
+    → (act : Activity) (t : ℕ) (args : List ℕ) (o : Option UnitValue) → slice_get w.activities a ≡ Some act
     → is_ended act.status ≡ false → P (calling m w a act t args o)
 calling_form P m w a f act t args None at alive = f.wrong _
 calling_form P m w a f act t args (Some u) at alive = cases (is_method u.kind)
@@ -125,7 +128,8 @@ cell_form P wrong (Some n) go h = h n
 instruction_form : (P : Outcome → Type 0) (m : ModuleValue) (w : World) (a : ℕ) → HoldsOfForms P m w a → (act : Activity) (i : Instr) → slice_get w.activities a ≡ Some act
     → is_ended act.status ≡ false → P (carried_out m w a act i)
 instruction_form P m w a f act (instr.Lit d n) at alive = put_form P f.wrong (slot_at act d) act d _ _ (λ x. f.done act x _ _ at alive)
-instruction_form P m w a f act (instr.Copy d x) at alive = number_form P f.wrong (slot_at act x) _ (λ p. put_form P f.wrong (slot_at act d) act d _ _ (λ z. f.done act z _ _ at alive))
+instruction_form P m w a f act (instr.Copy d x) at alive = number_form P f.wrong (slot_at act x) _
+    (λ p. put_form P f.wrong (slot_at act d) act d _ _ (λ z. f.done act z _ _ at alive))
 instruction_form P m w a f act (instr.Add d x y) at alive = computing_form P m w a f act (int_wrapping_add w64) d x y at alive
 instruction_form P m w a f act (instr.Sub d x y) at alive = computing_form P m w a f act (int_wrapping_sub w64) d x y at alive
 instruction_form P m w a f act (instr.Mul d x y) at alive = computing_form P m w a f act (int_wrapping_mul w64) d x y at alive
@@ -134,9 +138,12 @@ instruction_form P m w a f act (instr.Unless op x y t) at alive =
 instruction_form P m w a f act (instr.Jump t) at alive = f.done act _ _ _ at alive
 instruction_form P m w a f act (instr.For k lo hi e) at alive = put_form P f.wrong (slot_at act k) act k _ _ (λ x. f.done act x _ _ at alive)
 instruction_form P m w a f act (instr.Next b) at alive = turning_form P m w a f act b (instruction_at m (record act.frame { place = b })) at alive
-instruction_form P m w a f act (instr.Get d s) at alive = cell_form P f.wrong (slice_get w.cells s) _ (λ n. put_form P f.wrong (slot_at act d) act d _ _ (λ x. f.done act x _ _ at alive))
-instruction_form P m w a f act (instr.Put s x) at alive = number_form P f.wrong (slot_at act x) _ (λ n. cell_form P f.wrong (slice_get w.cells s) _ (λ old. f.stored act s _ _ at alive))
-instruction_form P m w a f act (instr.AddTo s x) at alive = number_form P f.wrong (slot_at act x) _ (λ n. cell_form P f.wrong (slice_get w.cells s) _ (λ old. f.stored act s _ _ at alive))
+instruction_form P m w a f act (instr.Get d s) at alive = cell_form P f.wrong (slice_get w.cells s) _
+    (λ n. put_form P f.wrong (slot_at act d) act d _ _ (λ x. f.done act x _ _ at alive))
+instruction_form P m w a f act (instr.Put s x) at alive = number_form P f.wrong (slot_at act x) _
+    (λ n. cell_form P f.wrong (slice_get w.cells s) _ (λ old. f.stored act s _ _ at alive))
+instruction_form P m w a f act (instr.AddTo s x) at alive = number_form P f.wrong (slot_at act x) _
+    (λ n. cell_form P f.wrong (slice_get w.cells s) _ (λ old. f.stored act s _ _ at alive))
 instruction_form P m w a f act (instr.Finish e) at alive = f.done act _ _ _ at alive
 instruction_form P m w a f act (instr.EndFinish b) at alive = closing_form P m w a f act act.opened at alive
 instruction_form P m w a f act (instr.Print x) at alive = number_form P f.wrong (slot_at act x) _ (λ n. f.done act _ _ _ at alive)

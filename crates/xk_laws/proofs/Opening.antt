@@ -95,7 +95,8 @@ opening_scoped m limits ok = record {
   scopes = [];
   width = refl;
   activities = each_one (λ a act. IsScopedIn m [] (looks [] a) a act) (main_of m) (record {
-    opened = (let none' : opened_in m (main_of m).frame ≡ 0 = ap (λ x. option_map_or (λ u. depth_at u 0) x 0) first.1 ∙ ap length (block_start first.0 (unit_fits m ok.shape 0 first.0 first.1).finishes) in
+    opened = (let none' : opened_in m (main_of m).frame ≡ 0 = ap (λ x. option_map_or (λ u. depth_at u 0) x 0) first.1
+        ∙ ap length (block_start first.0 (unit_fits m ok.shape 0 first.0 first.1).finishes) in
         omega (arith, sum_by-cons (opened_in m) (main_of m).frame []));
     rooms = (omega arith, tt);
     owner = λ o e. absurd (none-some o e);

@@ -26,7 +26,12 @@ impl Model for Tape {
 
     ghost Value = { TapeValue };
 
-    ghost view = { λ t. record { rest = drop t.given t.input.items; written = t.written.items; faults = t.faults; before_failure = t.before_failure } };
+    ghost view = { λ t. record {
+      rest = drop t.given t.input.items;
+      written = t.written.items;
+      faults = t.faults;
+      before_failure = t.before_failure;
+    } };
 
     ghost invariant = { λ t. t.given ≤ vec_len t.input };
 }
@@ -99,7 +104,8 @@ impl Source for Tape {
         ensures failing { IsErr result ↔ (self.old.before_failure ≡ Some 0) }
         ensures count { IfOk result (λ n. n ≡ min (length self.old.rest) (length buf.old)) }
         ensures copied { IfOk result (λ n. buf.new ≡ take n self.old.rest ++ drop n buf.old) }
-        ensures ok { IfOk result (λ n. self.new ≡ record (one_call_later self.old) { rest = drop n self.old.rest }) }
+        ensures ok { IfOk result (λ n. self.new ≡ record (one_call_later self.old)
+            { rest = drop n self.old.rest }) }
         ensures err { OnErr result (self.new ≡ failed_tape self.old) }
     {
         if self.is_set_to_fail() {
@@ -125,11 +131,13 @@ impl Sink for Tape {
     fn write(&mut self, piece: &[u8]) -> Result<usize, Failed>
         ensures bound { WritesAtMost result piece.now }
         ensures takes { TakesSome result piece.now }
-        ensures bytes { WriteAppends (Some self.old.written) (Some self.new.written) result piece.now }
+        ensures bytes { WriteAppends
+            (Some self.old.written) (Some self.new.written) result piece.now }
         ensures faults { CountsFailure self.old.faults self.new.faults result }
         ensures failing { self.old.before_failure ≡ Some 0 → IsErr result }
         ensures count { IfOk result (λ n. n ≡ length piece.now) }
-        ensures ok { OnOk result (self.new ≡ record (one_call_later self.old) { written = self.old.written ++ piece.now }) }
+        ensures ok { OnOk result (self.new ≡ record (one_call_later self.old)
+            { written = self.old.written ++ piece.now }) }
         ensures err { OnErr result (self.new ≡ failed_tape self.old) }
     {
         if self.is_set_to_fail() || self.written.extend_from_slice(piece).is_err() {

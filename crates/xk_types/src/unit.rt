@@ -44,7 +44,12 @@ impl Model for Unit {
 
     ghost Value = { UnitValue };
 
-    ghost view = { λ u. record { kind = u.kind; params = u.params.items; slots = u.slots; code = u.code.items } };
+    ghost view = { λ u. record {
+      kind = u.kind;
+      params = u.params.items;
+      slots = u.slots;
+      code = u.code.items;
+    } };
 }
 
 /// A program: its shared numbers as they are at the start, and its units, of which unit 0 is main.
@@ -61,7 +66,8 @@ impl Model for Module {
 
     ghost view = { λ m. record { shared = m.shared.items; units = m.units.items } };
 
-    ghost invariant = { λ m. IsWithinLimits (record { shared = m.shared.items; units = m.units.items }) };
+    ghost invariant = { λ m. IsWithinLimits
+        (record { shared = m.shared.items; units = m.units.items }) };
 }
 
 /// A module goes beyond a limit.

@@ -28,7 +28,8 @@ owed_at : (weight : Instr → ℕ) (half : ℕ) (m : ModuleValue) (act : Activit
 owed_at weight half m act u found = ap (λ o. option_map_or (λ x. owed_by (with_run weight m) half x act.frame.place act.frame.slots act.status) o 0) found
 
 -- that of a frame that waits
-behind_at : (weight : Instr → ℕ) (m : ModuleValue) (f : Frame) (u : UnitValue) → slice_get m.units f.unit ≡ Some u → owed_behind weight m f ≡ due (with_run weight m) u (f.place + 1) f.slots
+behind_at : (weight : Instr → ℕ) (m : ModuleValue) (f : Frame) (u : UnitValue) → slice_get m.units f.unit ≡ Some u
+    → owed_behind weight m f ≡ due (with_run weight m) u (f.place + 1) f.slots
 behind_at weight m f u found = ap (λ o. option_map_or (λ x. due (with_run weight m) x (f.place + 1) f.slots) o 0) found
 
 -- what frames that wait owe
@@ -182,7 +183,8 @@ module _ (m : ModuleValue) (u : UnitValue) (i : Instr) (was act : Activity) (t :
           omega (arith, before weight half)
 
   -- a `ret` of a method: the last frame that waited goes on
-  pub paid_back : (f : Frame) (fs : List Frame) (v : UnitValue) → slice_get m.units f.unit ≡ Some v → was.callers ≡ f ∷ fs → act ≡ back_in was f fs → steps_weight i ≡ 1 → IsPaid m was act 0
+  pub paid_back : (f : Frame) (fs : List Frame) (v : UnitValue) → slice_get m.units f.unit ≡ Some v → was.callers ≡ f ∷ fs → act ≡ back_in was f fs
+      → steps_weight i ≡ 1 → IsPaid m was act 0
   paid_back f fs v found under is one = record {
     steps = (let h = due_end u (with_run steps_weight m) i was.frame.place was.frame.slots t.here in omega (arith, all steps_weight 1));
     started = omega (arith, all activities_weight 0);
@@ -199,7 +201,8 @@ module _ (m : ModuleValue) (u : UnitValue) (i : Instr) (was act : Activity) (t :
 
 -- the second half of an `advance`
 pub paid_pass : (m : ModuleValue) (was act : Activity) (u : UnitValue) → slice_get m.units was.frame.unit ≡ Some u → act.frame.unit ≡ was.frame.unit
-    → was.status ≡ status.Arrived → act.status ≡ status.Running → act.frame.place ≡ was.frame.place + 1 → act.frame.slots ≡ was.frame.slots → act.callers ≡ was.callers → IsPaid m was act 0
+    → was.status ≡ status.Arrived → act.status ≡ status.Running → act.frame.place ≡ was.frame.place + 1 → act.frame.slots ≡ was.frame.slots
+    → act.callers ≡ was.callers → IsPaid m was act 0
 paid_pass m was act u found same e f at slots callers = record {
   steps = omega (arith, before steps_weight 1, behind steps_weight 1);
   started = omega (arith, before activities_weight 0, behind activities_weight 0);

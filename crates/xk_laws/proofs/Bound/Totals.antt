@@ -102,7 +102,8 @@ unfolding chain_within
 chain_none own m unit = refl
 
 -- from as many calls on as there are units from this one on, one more changes nothing
-chain_more : (own : UnitValue → ℕ) (m : ModuleValue) → HasShape m → (depth unit : ℕ) → length m.units ≤ unit + depth → chain_within own m depth unit ≡ chain_within own m (suc depth) unit
+chain_more : (own : UnitValue → ℕ) (m : ModuleValue) → HasShape m → (depth unit : ℕ) → length m.units ≤ unit + depth
+    → chain_within own m depth unit ≡ chain_within own m (suc depth) unit
 chain_more own m shape zero unit h = chain_none own m unit ∙ past (slice_get m.units unit) refl ∙ sym (chain_next own m zero unit)
   where
     past : (o : Option UnitValue) → slice_get m.units unit ≡ o → 0 ≡ chain_with own m zero o

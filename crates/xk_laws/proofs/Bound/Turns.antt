@@ -164,7 +164,8 @@ abbrev Falls : List Value → ℕ → List Value → ℕ → ℕ → List Loop �
 Falls slots p new q at ls = left new q at ls + here p at ≤ left slots p at ls
 
 -- in a loop that it keeps to it falls as in those inside
-falls_in : (slots new : List Value) (p q at : ℕ) (l : Loop) (ls : List Loop) → is_round p l ≡ true → Stays slots p new q l → Falls slots p new q at ls → Falls slots p new q at (l ∷ ls)
+falls_in : (slots new : List Value) (p q at : ℕ) (l : Loop) (ls : List Loop) → is_round p l ≡ true → Stays slots p new q l → Falls slots p new q at ls
+    → Falls slots p new q at (l ∷ ls)
 falls_in slots new p q at l ls e s h =
     omega (arith, left_in new q at l ls (sym s.round ∙ e), left_in slots p at l ls e, ap (λ n. n * product ls) (s.same e))
 
@@ -181,7 +182,8 @@ not_here : (p at : ℕ) → (at ≡ p → ⊥) → here p at ≡ 0
 not_here p at h = rw (ne_eqb at p h)
 
 -- a loop that it keeps out of
-falls_out : (slots new : List Value) (p q at : ℕ) (l : Loop) (ls : List Loop) → IsAhead p q at → is_round at l ≡ true → is_round p l ≡ false → Stays slots p new q l → Falls slots p new q at (l ∷ ls)
+falls_out : (slots new : List Value) (p q at : ℕ) (l : Loop) (ls : List Loop) → IsAhead p q at → is_round at l ≡ true → is_round p l ≡ false
+    → Stays slots p new q l → Falls slots p new q at (l ∷ ls)
 falls_out slots new p q at l ls a r e s =
     omega (
       arith,
@@ -373,9 +375,11 @@ module _ (u : UnitValue) (a : AreLoops u) where
   -- ---- a `for`
 
   -- into the first turn of loop f
-  falls_for : (slots : List Value) (at : ℕ) (f : Loop) → Has (loops u) f → f.slot < length slots → FallsAt f.first slots (f.first + 1) (slice_set slots f.slot (value.Number f.lo)) at
+  falls_for : (slots : List Value) (at : ℕ) (f : Loop) → Has (loops u) f → f.slot < length slots
+      → FallsAt f.first slots (f.first + 1) (slice_set slots f.slot (value.Number f.lo)) at
   falls_for slots at f has known =
-      falls_turn slots new f.first (f.first + 1) at f has (omega arith, (let x = (a.ahead f has) in omega arith)) (λ e. record { reach = λ h. omega arith; past = λ h. omega arith }) aside
+      falls_turn slots new f.first (f.first + 1) at f has (omega arith, (let x = (a.ahead f has) in omega arith))
+      (λ e. record { reach = λ h. omega arith; past = λ h. omega arith }) aside
       (falls_first slots new at f (a.ahead f has) one)
     where
       new : List Value
@@ -436,7 +440,8 @@ module _ (u : UnitValue) (a : AreLoops u) where
   -- and out of the last
   falls_last : (slots : List Value) (at : ℕ) (f : Loop) → Has (loops u) f → FallsAt f.last slots (f.last + 1) slots at
   falls_last slots at f has =
-      falls_turn slots slots f.last (f.last + 1) at f has ((let x = (a.ahead f has) in omega arith), omega arith) (λ e. record { reach = λ h. omega arith; past = λ h. omega arith })
+      falls_turn slots slots f.last (f.last + 1) at f has ((let x = (a.ahead f has) in omega arith), omega arith)
+      (λ e. record { reach = λ h. omega arith; past = λ h. omega arith })
       (λ l h differ. record {
         round = round_next f.last l (λ e. (let q = first_is l h (instr.Next f.first) (ap (slice_get u.code) (sym e) ∙ (a.is f has).ends) in cc))
             (λ e. differ (same_first l f h has (sym e)));
@@ -505,7 +510,8 @@ module _ (u : UnitValue) (a : AreLoops u) where
 -- ---- sums
 
 -- a sum of less is less
-sum_le : (f g : ℕ → ℕ) (weight : Instr → ℕ) → ((at : ℕ) → f at ≤ g at) → (at : ℕ) (is : List Instr) → sum_from (λ n i. f n * weight i) at is ≤ sum_from (λ n i. g n * weight i) at is
+sum_le : (f g : ℕ → ℕ) (weight : Instr → ℕ) → ((at : ℕ) → f at ≤ g at) → (at : ℕ) (is : List Instr)
+    → sum_from (λ n i. f n * weight i) at is ≤ sum_from (λ n i. g n * weight i) at is
 sum_le f g weight h at [] = omega arith
 sum_le f g weight h at (i ∷ is) = omega (arith, times_le (f at) (g at) (weight i) (h at), sum_le f g weight h (suc at) is)
 
@@ -533,9 +539,11 @@ due_start u weight slots = ap (λ (f : ℕ → ℕ). sum_from (λ at i. f at * w
     (fun_ext (visits_left u 0 slots) (visits u) (λ at. left_ahead slots 0 at (filter (is_round at) (loops u)) (omega arith) (λ l h. omega arith)))
 
 -- a step takes off its instruction
-pub due_step : (u : UnitValue) → AreLoops u → (weight : Instr → ℕ) (i : Instr) (p : ℕ) (slots : List Value) (q : ℕ) (new : List Value) → slice_get u.code p ≡ Some i → Goes u i p slots q new
+pub due_step : (u : UnitValue) → AreLoops u → (weight : Instr → ℕ) (i : Instr) (p : ℕ) (slots : List Value) (q : ℕ) (new : List Value)
+    → slice_get u.code p ≡ Some i → Goes u i p slots q new
     → due weight u q new + weight i ≤ due weight u p slots
-due_step u a weight i p slots q new found m = sum_less (visits_left u q new) (visits_left u p slots) weight p (λ at. falls u a i p slots q new at found m) 0 p u.code i found (omega arith)
+due_step u a weight i p slots q new found m = sum_less (visits_left u q new) (visits_left u p slots) weight p
+    (λ at. falls u a i p slots q new at found m) 0 p u.code i found (omega arith)
 
 -- the instruction that stands next is due
 pub due_end : (u : UnitValue) (weight : Instr → ℕ) (i : Instr) (p : ℕ) (slots : List Value) → slice_get u.code p ≡ Some i → weight i ≤ due weight u p slots

@@ -55,7 +55,11 @@ clock_settled activities now c n = settled_cases now c (IsClockSound activities 
 pub world_settled : (m : ModuleValue) (w : World) → IsNear m w → IsSound m (settled w)
 world_settled m w n = record {
   limits = n.limits;
-  activities = λ a act at. rw (fun_ext (looks (map (settled_clock (w.steps + 1)) w.clocks) a) (looks w.clocks a) (looks-settled (w.steps + 1) w.clocks a), length-map w.clocks (settled_clock (w.steps + 1))) (n.activities a act at);
+  activities = λ a act at. rw (
+    fun_ext (looks (map (settled_clock (w.steps + 1)) w.clocks) a) (looks w.clocks a)
+        (looks-settled (w.steps + 1) w.clocks a),
+    length-map w.clocks (settled_clock (w.steps + 1)),
+  ) (n.activities a act at);
   clocks = each_map (settled_clock (w.steps + 1)) (λ k c. IsClockSound w.activities (w.steps + 1) c) w.clocks
       (λ k c at. clock_settled w.activities (w.steps + 1) c (n.clocks k c at));
   cells = n.cells;

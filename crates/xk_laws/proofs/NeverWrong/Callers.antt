@@ -76,7 +76,8 @@ waits_awake false kind.Out R w = w
 -- does; or make it another held one, where g names the clock; or anything, where none of them names it.
 abbrev pub IsMild : (ℕ → Kind) → Status → (ℕ → Kind) → Status → Frame → List Frame → ℕ → Type 0
 IsMild look st new nst g fs c =
-    (once_past nst (new c) ≡ once_past st (look c)) ⊎ (once_past nst (new c) ≡ awake (once_past st (look c))) ⊎ ((is_held (once_past nst (new c)) ≡ true) × (t : ℕ) × Names g.slots t c) ⊎ NamesNone fs c
+    (once_past nst (new c) ≡ once_past st (look c)) ⊎ (once_past nst (new c) ≡ awake (once_past st (look c)))
+    ⊎ ((is_held (once_past nst (new c)) ≡ true) × (t : ℕ) × Names g.slots t c) ⊎ NamesNone fs c
 
 -- the first frame that waits, after such a step of the one before it, which then is `h`
 module _ (m : ModuleValue) (look new : ℕ → Kind) (st nst : Status) (before clocks : ℕ) (more : before ≤ clocks) where
@@ -85,12 +86,15 @@ module _ (m : ModuleValue) (look new : ℕ → Kind) (st nst : Status) (before c
       → (s : ℕ) (x : Value) → slice_get f.slots s ≡ Some x
       → Waits (is_lent w.v.params w.args s) (once_past nst (kind_of new x)) (λ k. IsVisited m w.u s (record { at = f.place + 1; kind = k }))
   slot_waits g f below w mild s value.Unset at =
-      subst (λ k. Waits (is_lent w.v.params w.args s) k (λ j. IsVisited m w.u s (record { at = f.place + 1; kind = j }))) (past_unset st ∙ sym (past_unset nst)) (w.waits s value.Unset at)
+      subst (λ k. Waits (is_lent w.v.params w.args s) k (λ j. IsVisited m w.u s (record { at = f.place + 1; kind = j })))
+      (past_unset st ∙ sym (past_unset nst)) (w.waits s value.Unset at)
   slot_waits g f below w mild s (value.Number n) at =
-      subst (λ k. Waits (is_lent w.v.params w.args s) k (λ j. IsVisited m w.u s (record { at = f.place + 1; kind = j }))) (past_number st ∙ sym (past_number nst)) (w.waits s (value.Number n) at)
+      subst (λ k. Waits (is_lent w.v.params w.args s) k (λ j. IsVisited m w.u s (record { at = f.place + 1; kind = j })))
+      (past_number st ∙ sym (past_number nst)) (w.waits s (value.Number n) at)
   slot_waits g f below w mild s (value.Clock c) at = elim (mild c) [
     | inl same ↦ subst (λ k. Waits (is_lent w.v.params w.args s) k R) (sym same) (w.waits s (value.Clock c) at)
-    | inr (inl up) ↦ subst (λ k. Waits (is_lent w.v.params w.args s) k R) (sym up) (waits_awake (is_lent w.v.params w.args s) (once_past st (look c)) R (w.waits s (value.Clock c) at))
+    | inr (inl up) ↦ subst (λ k. Waits (is_lent w.v.params w.args s) k R) (sym up)
+        (waits_awake (is_lent w.v.params w.args s) (once_past st (look c)) R (w.waits s (value.Clock c) at))
     | inr (inr (inl p)) ↦ elim (w.shares p.1 c p.2) [
       | inl q ↦ lent_waits (is_lent w.v.params w.args s) (once_past st (look c)) (once_past nst (new c)) R
           (subst (λ y. is_lent w.v.params w.args y ≡ true) (w.frame.apart q.0 s c q.3 at) (handed_on w.v.params w.args p.1 q.0 q.1 q.2)) p.0 (w.waits s (value.Clock c) at)

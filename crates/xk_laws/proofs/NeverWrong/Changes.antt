@@ -50,7 +50,8 @@ next_sound m old look before clocks then' now was act s n = record {
   advance = n.advance;
   held = n.held;
   waiting = n.waiting;
-  room = (let h = s.room in let p : slots_in act.callers ≡ slots_in was.callers = ap slots_in n.callers in let q : stack_of m act.frame.unit ≡ stack_of m was.frame.unit = ap (stack_of m) n.unit in omega arith);
+  room = (let h = s.room in let p : slots_in act.callers ≡ slots_in was.callers = ap slots_in n.callers in
+      let q : stack_of m act.frame.unit ≡ stack_of m was.frame.unit = ap (stack_of m) n.unit in omega arith);
   alone = n.alone;
 }
 
@@ -302,7 +303,8 @@ module _ (m : ModuleValue) (w : World) (a : ℕ) (was act new : Activity) (given
       (let h = (sound.activities a was found).since in let e = d.new_since in omega arith))
 
   -- the debts after the step
-  debts : (weight : Instr → ℕ) (half : ℕ) → owing weight half m (before ++ new ∷ []) + owed weight half m was ≡ owing weight half m w.activities + owed weight half m act + owed weight half m new
+  debts : (weight : Instr → ℕ) (half : ℕ)
+      → owing weight half m (before ++ new ∷ []) + owed weight half m was ≡ owing weight half m w.activities + owed weight half m act + owed weight half m new
   debts weight half = omega (arith, sum_by_push (owed weight half m) before new, owing_set weight half m w.activities a was act found)
 
   -- the world is nearly sound
@@ -310,7 +312,8 @@ module _ (m : ModuleValue) (w : World) (a : ℕ) (was act new : Activity) (given
   begun_near = record {
     limits = sound.limits;
     activities = each_push (λ b x. IsActivitySound m (looks after_clocks b) (length after_clocks) (w.steps + 1) x) before new
-        (λ b x at. rw (length-joined a given w.clocks) (subst (λ look. IsActivitySound m look (length w.clocks) (w.steps + 1) x) (old_looks b (slice_get_within before b x at)) (old_sound b x at)))
+        (λ b x at. rw (length-joined a given w.clocks)
+        (subst (λ look. IsActivitySound m look (length w.clocks) (w.steps + 1) x) (old_looks b (slice_get_within before b x at)) (old_sound b x at)))
         (rw (length-joined a given w.clocks) (subst (λ look. IsActivitySound m look (length w.clocks) (w.steps + 1) new) new_looks d.begins));
     clocks = all_near;
     cells = sound.cells;

@@ -58,7 +58,8 @@ add_parts d x y s k h =
     (first.0, second.0, subst (λ row. IsWritten row d kind.Number s k) (sym (first.1 ∙ second.1)) (writes_row d kind.Number s k (λ r e. h r (first.1 ∙ (second.1 ∙ e)))))
 
 -- what the row of `copy` reads and writes
-copy_parts : (d x s : ℕ) (k : Kind) → Allowed (reads x s k (writes d kind.Number s k)) → (s ≡ x → k ≡ kind.Number) × IsWritten (reads x s k (writes d kind.Number s k)) d kind.Number s k
+copy_parts : (d x s : ℕ) (k : Kind) → Allowed (reads x s k (writes d kind.Number s k)) → (s ≡ x → k ≡ kind.Number)
+    × IsWritten (reads x s k (writes d kind.Number s k)) d kind.Number s k
 copy_parts d x s k h =
     let first = reads_row x s k (writes d kind.Number s k) h in
     (first.0, subst (λ row. IsWritten row d kind.Number s k) (sym first.1) (writes_row d kind.Number s k (λ r e. h r (first.1 ∙ e))))
@@ -169,7 +170,15 @@ module _ (m : ModuleValue) (ok : IsAccepted m) (w : World) (a : ℕ) (was : Acti
   number_written : (i : Instr) (d : ℕ) (n : ℤ) → ((s : ℕ) (k : Kind) → Allowed (after m me.u i s k) → IsWritten (after m me.u i s k) d kind.Number s k)
       → (c : IsAt m (stands_on w.clocks a) (length w.clocks) w.steps was me.u i)
       → IsWrite m (stands_on w.clocks a) (length w.clocks) w.steps was me.u i c d (value.Number n) kind.Number (looks w.clocks a) (length w.clocks)
-  number_written i d n rows c = record { rows = rows; becomes = refl; more = omega arith; same = λ k h. refl; fresh = λ k e. absurd (grind arith); holds = λ k h. inl h; own = λ k e. absurd (grind arith) }
+  number_written i d n rows c = record {
+    rows = rows;
+    becomes = refl;
+    more = omega arith;
+    same = λ k h. refl;
+    fresh = λ k e. absurd (grind arith);
+    holds = λ k h. inl h;
+    own = λ k e. absurd (grind arith);
+  }
 
   -- an instruction that writes a number to slot d, and goes on, and what is seen of it
   put_number : (e : Event) (i : Instr) → Here i → (d : ℕ) (n : ℤ) → Has (slots_named i) d → is_ret i ≡ false → Has (successors i was.frame.place) (was.frame.place + 1)
@@ -207,8 +216,10 @@ module _ (m : ModuleValue) (ok : IsAccepted m) (w : World) (a : ℕ) (was : Acti
       → ((n : ℤ) → GoesOn me.u i was (onward (with_slots was (set was.frame.slots d (value.Number n)))))
       → Moves m (computing w a was f d x y)
   computing_moves i here f d x y named written other on one zero' alone row goes =
-      is_number i here x (named_inside i here x (subst (λ list. Has list x) (sym named) (inr (inl refl)))) (λ k h. (add_parts d x y x k (subst Allowed (row x k) h)).0 refl) _ (λ p e.
-      is_number i here y (named_inside i here y (subst (λ list. Has list y) (sym named) (inr (inr (inl refl))))) (λ k h. (add_parts d x y y k (subst Allowed (row y k) h)).1 refl) _ (λ q g.
+      is_number i here x (named_inside i here x (subst (λ list. Has list x) (sym named) (inr (inl refl))))
+      (λ k h. (add_parts d x y x k (subst Allowed (row x k) h)).0 refl) _ (λ p e.
+      is_number i here y (named_inside i here y (subst (λ list. Has list y) (sym named) (inr (inr (inl refl)))))
+      (λ k h. (add_parts d x y y k (subst Allowed (row y k) h)).1 refl) _ (λ q g.
       put_number event.Local i here d (f p q) (subst (λ list. Has list d) (sym named) (inl refl)) other on one zero' alone
       (λ s k h. subst (λ r. IsWritten r d kind.Number s k) (sym (row s k)) (add_parts d x y s k (subst Allowed (row s k) h)).2) (goes (f p q))))
 
@@ -216,7 +227,8 @@ module _ (m : ModuleValue) (ok : IsAccepted m) (w : World) (a : ℕ) (was : Acti
 
   -- an instruction that changes nothing, and goes to this place
   only_going : (i : Instr) → Here i → (to : ℕ) → Has (successors i was.frame.place) to → to < length me.u.code → steps_weight i ≡ 1 → clocks_weight i ≡ 0 → unit_run i ≡ None
-      → ((s : ℕ) (k : Kind) → Allowed (after m me.u i s k) → MayBecome (after m me.u i s k) k) → GoesOn me.u i was (going was to) → Moves m (done w a (going was to) none event.Local)
+      → ((s : ℕ) (k : Kind) → Allowed (after m me.u i s k) → MayBecome (after m me.u i s k) k) → GoesOn me.u i was (going was to)
+      → Moves m (done w a (going was to) none event.Local)
   only_going i here to on inside one zero' alone rows goes = local_moves i here (going was to) one zero' alone refl refl goes
       (leaving_to m (stands_on w.clocks a) (length w.clocks) w.steps was me.u i (at_it i here) to on inside rows) event.Local
 
@@ -233,7 +245,8 @@ module _ (m : ModuleValue) (ok : IsAccepted m) (w : World) (a : ℕ) (was : Acti
       rows s k h = subst (λ r. MayBecome r k) (sym (read_parts x y s k h).2) (inl refl)
 
       cases : (b : Bool) → Moves m (done w a (cond b (onward was) (going was t)) none event.Local)
-      cases true = only_going i here (was.frame.place + 1) (inl refl) (next_inside m (stands_on w.clocks a) (length w.clocks) w.steps was me.u i (at_it i here) refl) refl refl refl rows (inl refl, refl)
+      cases true = only_going i here (was.frame.place + 1) (inl refl)
+          (next_inside m (stands_on w.clocks a) (length w.clocks) w.steps was me.u i (at_it i here) refl) refl refl refl rows (inl refl, refl)
       cases false = only_going i here t (inr (inl refl)) ((at_it i here).fit.loops.kept i was.frame.place t here refl).inside refl refl refl rows (inr refl, refl)
 
   -- `jump`
@@ -302,10 +315,12 @@ module _ (m : ModuleValue) (ok : IsAccepted m) (w : World) (a : ℕ) (was : Acti
           → Moves m (done w a (cond x (again was b k n) (onward was)) none event.Local)
       cases n holds true less = local_moves i here (again was b k n) refl refl refl refl refl
           (turn n (b + 1) (set was.frame.slots k (value.Number (n +ℤ pos 1))) holds (inl (less, refl, refl)))
-          (writing_to m (stands_on w.clocks a) (length w.clocks) w.steps was me.u i (at_it i here) k (value.Number n) (value.Number (n +ℤ pos 1)) kind.Number (looks w.clocks a) (length w.clocks) (b + 1) holds
+          (writing_to m (stands_on w.clocks a) (length w.clocks) w.steps was me.u i (at_it i here) k (value.Number n) (value.Number (n +ℤ pos 1))
+          kind.Number (looks w.clocks a) (length w.clocks) (b + 1) holds
           (inr (inl refl)) (let h = slice_get_within me.u.code at i here in let g = loop.ahead in omega arith) (number_written i k (n +ℤ pos 1) written (at_it i here)))
           event.Local
-      cases n holds false more = only_going i here (at + 1) (inl refl) (next_inside m (stands_on w.clocks a) (length w.clocks) w.steps was me.u i (at_it i here) refl) refl refl refl
+      cases n holds false more = only_going i here (at + 1) (inl refl)
+          (next_inside m (stands_on w.clocks a) (length w.clocks) w.steps was me.u i (at_it i here) refl) refl refl refl
           (λ s kd h. subst (λ r. MayBecome r kd) (sym (rows s kd h)) (inl refl)) (turn n (at + 1) was.frame.slots holds (inr (more, refl, refl)))
 
   -- a shared number that it names is there
@@ -320,7 +335,8 @@ module _ (m : ModuleValue) (ok : IsAccepted m) (w : World) (a : ℕ) (was : Acti
       (put_number event.Got (instr.Get d s) here d n.0 (inl refl) refl (inl refl) refl refl refl (writes_row d kind.Number) (refl, others_stay d (value.Number n.0)))
 
   -- an instruction that reads slot x, and goes on
-  reads_on : (i : Instr) → Here i → (x : ℕ) (e : Event) → Has (slots_named i) x → is_ret i ≡ false → Has (successors i was.frame.place) (was.frame.place + 1) → steps_weight i ≡ 1 → clocks_weight i ≡ 0 → unit_run i ≡ None
+  reads_on : (i : Instr) → Here i → (x : ℕ) (e : Event) → Has (slots_named i) x → is_ret i ≡ false
+      → Has (successors i was.frame.place) (was.frame.place + 1) → steps_weight i ≡ 1 → clocks_weight i ≡ 0 → unit_run i ≡ None
       → GoesOn me.u i was (onward was) → ((s : ℕ) (k : Kind) → after m me.u i s k ≡ reads x s k (becomes k)) → Moves m (done w a (onward was) none e)
   reads_on i here x e named other on one zero' alone goes row = local_moves i here (onward was) one zero' alone refl refl goes
       (leaving m (stands_on w.clocks a) (length w.clocks) w.steps was me.u i (at_it i here) other on
@@ -360,8 +376,10 @@ module _ (m : ModuleValue) (ok : IsAccepted m) (w : World) (a : ℕ) (was : Acti
   }
 
   -- an instruction that goes on, with so many finishes open
-  border_moves : (i : Instr) → Here i → (n : ℕ) (e : Event) → is_ret i ≡ false → Has (successors i was.frame.place) (was.frame.place + 1) → steps_weight i ≡ 1 → clocks_weight i ≡ 0 → unit_run i ≡ None
-      → GoesOn me.u i was (onward was) → ((s : ℕ) (k : Kind) → Allowed (after m me.u i s k) → MayBecome (after m me.u i s k) k) → Moves m (done w a (record (onward was) { opened = n }) none e)
+  border_moves : (i : Instr) → Here i → (n : ℕ) (e : Event) → is_ret i ≡ false → Has (successors i was.frame.place) (was.frame.place + 1) → steps_weight i ≡ 1
+      → clocks_weight i ≡ 0 → unit_run i ≡ None
+      → GoesOn me.u i was (onward was) → ((s : ℕ) (k : Kind) → Allowed (after m me.u i s k) → MayBecome (after m me.u i s k) k)
+      → Moves m (done w a (record (onward was) { opened = n }) none e)
   border_moves i here n e other on one zero' alone goes rows = local_moves i here (record (onward was) { opened = n }) one zero' alone refl refl goes
       (reopened (onward was) n (leaving m (stands_on w.clocks a) (length w.clocks) w.steps was me.u i (at_it i here) other on rows)) e
 
@@ -372,7 +390,8 @@ module _ (m : ModuleValue) (ok : IsAccepted m) (w : World) (a : ℕ) (was : Acti
   -- `endfinish`, where nobody is awaited
   close_moves : (b n : ℕ) → Here (instr.EndFinish b) → was.opened ≡ suc n → awaits w.activities (innermost a was) ≡ false → Moves m (carried_out m w a was (instr.EndFinish b))
   close_moves b n here some free = subst (λ k. Moves m (closing w a was k)) (sym some) (rw free
-      (border_moves (instr.EndFinish b) here n event.Closed refl (inl refl) refl refl refl (refl, λ s differs. refl) (λ s k h. row (is_here (block_at me.u (b + 1)) (homes me.u s)) k h)))
+      (border_moves (instr.EndFinish b) here n event.Closed refl (inl refl) refl refl refl (refl, λ s differs. refl)
+      (λ s k h. row (is_here (block_at me.u (b + 1)) (homes me.u s)) k h)))
     where
       row : (x : Bool) (k : Kind) → Allowed (cond x (let_go k (becomes k)) (becomes k)) → MayBecome (cond x (let_go k (becomes k)) (becomes k)) k
       row true k h = let_go_row k h
@@ -397,7 +416,8 @@ module _ (m : ModuleValue) (ok : IsAccepted m) (w : World) (a : ℕ) (was : Acti
       let clock = new_clock (length w.activities) a in
       let act = onward (with_slots was (set was.frame.slots d (value.Clock count))) in
       let old = slot_there m (stands_on w.clocks a) (length w.clocks) w.steps was me.u i c d (inl refl) in
-      let next = writing m (stands_on w.clocks a) count w.steps was me.u i c d old.0 (value.Clock count) kind.Live (looks (w.clocks ++ clock ∷ []) a) (count + 1) old.1 refl (inl refl)
+      let next = writing m (stands_on w.clocks a) count w.steps was me.u i c d old.0 (value.Clock count) kind.Live (looks (w.clocks ++ clock ∷ []) a)
+      (count + 1) old.1 refl (inl refl)
       (record {
         rows = writes_row d kind.Live;
         becomes = ap kind_by (stands_on-push_new w.clocks clock a ∙ new_same (length w.activities) a (slice_get_within w.activities a was found));
@@ -412,10 +432,17 @@ module _ (m : ModuleValue) (ok : IsAccepted m) (w : World) (a : ℕ) (was : Acti
       }) in
       put_moves m (slice_get was.frame.slots d) old.0 was d (value.Clock count) (λ x. made w a x) old.1
       (made_sound m w a was act sound found
-      (record { next = left_so (looks (w.clocks ++ clock ∷ []) a) (count + 1) act next; running = running; same_status = refl; same_since = refl; paid = paid_on m me.u i was act (taken i here act) (record { unit = refl; callers = refl }) running (refl, others_stay d (value.Clock count)) refl refl }))
+      (record {
+        next = left_so (looks (w.clocks ++ clock ∷ []) a) (count + 1) act next;
+        running = running;
+        same_status = refl;
+        same_since = refl;
+        paid = paid_on m me.u i was act (taken i here act) (record { unit = refl; callers = refl }) running (refl, others_stay d (value.Clock count)) refl refl;
+      }))
 
   -- an instruction that changes where the activity stands on the clock in slot x
-  use_moves : (i : Instr) → Here i → (x : ℕ) (kd : Kind) (f : Standing → Standing) (e : Event) → Has (slots_named i) x → is_ret i ≡ false → Has (successors i was.frame.place) (was.frame.place + 1)
+  use_moves : (i : Instr) → Here i → (x : ℕ) (kd : Kind) (f : Standing → Standing) (e : Event) → Has (slots_named i) x → is_ret i ≡ false
+      → Has (successors i was.frame.place) (was.frame.place + 1)
       → steps_weight i ≡ 1 → clocks_weight i ≡ 0 → unit_run i ≡ None → GoesOn me.u i was (onward was)
       → ((s : ℕ) (old : Kind) → Allowed (after m me.u i s old) → IsUsed (after m me.u i s old) x kd s old)
       → ((s : Standing) → is_held (kind_by s) ≡ true → kind_by (f s) ≡ kd)
@@ -445,11 +472,13 @@ module _ (m : ModuleValue) (ok : IsAccepted m) (w : World) (a : ℕ) (was : Acti
       (uses_row x kind.Resumed) resumed_kind resumed_held refl (λ st since last now s before e h. resumed_near st st since last now s before e h) (λ k named. inl refl)
 
   -- no frame that waits names a clock that a slot names which may be dropped
-  unnamed : (x : ℕ) → Here (instr.Drop x) → (k : ℕ) → Names was.frame.slots x k → (fs : List Frame) → AreWaiting m (looks w.clocks a) was.status (length w.clocks) was.frame fs → NamesNone fs k
+  unnamed : (x : ℕ) → Here (instr.Drop x) → (k : ℕ) → Names was.frame.slots x k → (fs : List Frame)
+      → AreWaiting m (looks w.clocks a) was.status (length w.clocks) was.frame fs → NamesNone fs k
   unnamed x here k named [] waiting = tt
   unnamed x here k named (f ∷ fs) waiting =
       let same : waiting.0.v ≡ me.u = same_Some waiting.0.v me.u (sym waiting.0.callee ∙ me.unit) in
-      let lent : takes_clock (slice_get me.u.params x) ≡ false = (at_it (instr.Drop x) here).fit.undropped x was.frame.place here (ap (λ v. is_method v.kind) (sym same) ∙ waiting.0.method) in
+      let lent : takes_clock (slice_get me.u.params x) ≡ false = (at_it (instr.Drop x) here).fit.undropped x was.frame.place here
+      (ap (λ v. is_method v.kind) (sym same) ∙ waiting.0.method) in
       elim (waiting.0.shares x k named) [
         | inl q ↦ absurd (false≢true (sym lent ∙ ap (λ v. takes_clock (slice_get v.params x)) (sym same) ∙ ap takes_clock q.1))
         | inr q ↦ q.1
@@ -464,9 +493,11 @@ module _ (m : ModuleValue) (ok : IsAccepted m) (w : World) (a : ℕ) (was : Acti
   -- the first half of `advance`
   advance_moves : Here instr.Advance → Moves m (carried_out m w a was instr.Advance)
   advance_moves here = done_sound m w a was (arrived was) (all resumed) sound found (record {
-    next = left_so (λ k. kind_by (resumed (stands_on w.clocks a k))) (length w.clocks) (arrived was) (arriving m (stands_on w.clocks a) (length w.clocks) w.steps was me.u (at_it instr.Advance here));
+    next = left_so (λ k. kind_by (resumed (stands_on w.clocks a k))) (length w.clocks) (arrived was)
+        (arriving m (stands_on w.clocks a) (length w.clocks) w.steps was me.u (at_it instr.Advance here));
     apart = λ k. refl;
-    stands = λ k c at. resumed_near was.status status.Arrived was.since c.last (w.steps + 1) (standing_of c a) (let h = me.since in omega arith) refl ((sound.clocks k c at).stands a was found);
+    stands = λ k c at. resumed_near was.status status.Arrived was.since c.last (w.steps + 1) (standing_of c a) (let h = me.since in omega arith) refl
+        ((sound.clocks k c at).stands a was found);
     paid = paid_arrive m me.u instr.Advance was (arrived was) (taken instr.Advance here (arrived was)) (record { unit = refl; callers = refl }) refl refl refl refl;
   })
 
@@ -492,11 +523,17 @@ module _ (m : ModuleValue) (ok : IsAccepted m) (w : World) (a : ℕ) (was : Acti
         since = (let h = me.since in omega arith);
         u = top.u;
         unit = top.found;
-        frame = record { slots = top.frame.slots; place = (unit_fits m ok.shape f.unit top.u top.found).next (instr.Call was.frame.unit top.args) f.place top.call refl; known = top.frame.known; apart = top.frame.apart };
+        frame = record {
+          slots = top.frame.slots;
+          place = (unit_fits m ok.shape f.unit top.u top.found).next (instr.Call was.frame.unit top.args) f.place top.call refl;
+          known = top.frame.known;
+          apart = top.frame.apart;
+        };
         kinds = λ s v at. subst (λ st. Expects m top.u st (f.place + 1) s (kind_of (looks w.clocks a) v)) (sym running) (visited s v at);
         advance = λ e. absurd (grind (arith, running));
         held = λ c h. holds c h (subst (λ list. NamedIn (was.frame ∷ list) c) under (me.held c h));
-        waiting = still_waiting m (looks w.clocks a) (looks w.clocks a) was.status was.status (length w.clocks) (length w.clocks) (omega arith) f (record f { place = f.place + 1 }) fs waiting.1 refl
+        waiting = still_waiting m (looks w.clocks a) (looks w.clocks a) was.status was.status (length w.clocks) (length w.clocks) (omega arith) f
+            (record f { place = f.place + 1 }) fs waiting.1 refl
             (λ v at t c named. inl named) (λ c. inl refl);
         room = top.room;
         alone = λ e. absurd (grind (arith, running));
@@ -511,7 +548,8 @@ module _ (m : ModuleValue) (ok : IsAccepted m) (w : World) (a : ℕ) (was : Acti
 
       visited : (s : ℕ) (v : Value) → slice_get f.slots s ≡ Some v → IsVisited m top.u s (record { at = f.place + 1; kind = kind_of (looks w.clocks a) v })
       visited s v at = subst (λ st. IsVisited m top.u s (record { at = f.place + 1; kind = once_past st (kind_of (looks w.clocks a) v) })) running
-          (waits_now (is_lent top.v.params top.args s) (once_past was.status (kind_of (looks w.clocks a) v)) (λ k. IsVisited m top.u s (record { at = f.place + 1; kind = k })) (top.waits s v at))
+          (waits_now (is_lent top.v.params top.args s) (once_past was.status (kind_of (looks w.clocks a) v))
+          (λ k. IsVisited m top.u s (record { at = f.place + 1; kind = k })) (top.waits s v at))
 
       -- a slot of the method's own is not held when it returns
       lost : (t c : ℕ) → Names was.frame.slots t c → length top.v.params ≤ t → is_held (looks w.clocks a c) ≡ false
@@ -556,13 +594,20 @@ module _ (m : ModuleValue) (ok : IsAccepted m) (w : World) (a : ℕ) (was : Acti
             method = r.fits;
             args = args;
             call = here;
-            waits = λ s x at. subst (λ st. Waits (is_lent r.v.params args s) (once_past st (kind_of (looks w.clocks a) x)) (λ k. IsVisited m me.u s (record { at = was.frame.place + 1; kind = k }))) (sym running) (waits s x at);
+            waits = λ s x at. subst (λ st. Waits (is_lent r.v.params args s) (once_past st (kind_of (looks w.clocks a) x))
+                (λ k. IsVisited m me.u s (record { at = was.frame.place + 1; kind = k }))) (sym running) (waits s x at);
             shares = λ z c named. inl (begins.names z c named);
             room = me.room;
           },
           me.waiting,
         );
-        room = omega (arith, sum_by-cons (λ f. length f.slots) was.frame was.callers, me.room, me.frame.slots, stack_called m ok.shape was.frame.unit me.u me.unit was.frame.place t args here);
+        room = omega (
+          arith,
+          sum_by-cons (λ f. length f.slots) was.frame was.callers,
+          me.room,
+          me.frame.slots,
+          stack_called m ok.shape was.frame.unit me.u me.unit was.frame.place t args here,
+        );
         alone = λ e. absurd (grind (arith, running));
       })
       (paid_call m me.u i was (called m was t values) (taken i here (called m was t values)) t ok.shape r.v r.found refl running refl refl refl refl refl (refl, λ s differs. refl))
@@ -571,7 +616,8 @@ module _ (m : ModuleValue) (ok : IsAccepted m) (w : World) (a : ℕ) (was : Acti
       i = instr.Call t args
 
       begins : Begun m (stands_on w.clocks a) (looks w.clocks a) (length w.clocks) was.frame.slots t r.v args (frame_with m t values)
-      begins = frame_begun m sound.limits ok.shape (stands_on w.clocks a) (looks w.clocks a) (length w.clocks) me.u was.frame me.frame t r.v r.found args r.once values given (λ s k h. refl)
+      begins = frame_begun m sound.limits ok.shape (stands_on w.clocks a) (looks w.clocks a) (length w.clocks) me.u was.frame me.frame t r.v r.found args
+          r.once values given (λ s k h. refl)
 
       params : params_of m t ≡ r.v.params
       params = ap (λ o. option_map_or (λ u. u.params) o []) r.found
@@ -601,7 +647,8 @@ module _ (m : ModuleValue) (ok : IsAccepted m) (w : World) (a : ℕ) (was : Acti
       let c = at_it i here in
       let r = call_fits m ok.shape was.frame.unit me.u me.unit t args was.frame.place here in
       let params : params_of m t ≡ r.v.params = ap (λ o. option_map_or (λ u. u.params) o []) r.found in
-      rw (r.found, r.fits) (arguments_move m w a was r.v.params args (λ z k. across (is_lent r.v.params args z) k) (λ values. done w a (called m was t values) none event.Local) r.count
+      rw (r.found, r.fits) (arguments_move m w a was r.v.params args (λ z k. across (is_lent r.v.params args z) k)
+      (λ values. done w a (called m was t values) none event.Local) r.count
       (λ x named. slot_there m (stands_on w.clocks a) (length w.clocks) w.steps was me.u i c x named)
       (λ z v at. subst (λ ps. Allowed (gives ps args z (kind_of (looks w.clocks a) v) (across (is_lent ps args z) (kind_of (looks w.clocks a) v)))) params
       (row_allowed m (stands_on w.clocks a) (length w.clocks) w.steps was me.u i c z v at))
@@ -647,9 +694,12 @@ module _ (m : ModuleValue) (ok : IsAccepted m) (w : World) (a : ℕ) (was : Acti
   instruction_moves : (i : Instr) → Here i → IsFree i → Moves m (carried_out m w a was i)
   instruction_moves (instr.Lit d n) here free = lit_moves d n here
   instruction_moves (instr.Copy d x) here free = copy_moves d x here
-  instruction_moves (instr.Add d x y) here free = computing_moves (instr.Add d x y) here (int_wrapping_add w64) d x y refl refl refl (inl refl) refl refl refl (λ s k. refl) (λ n. (refl, others_stay d (value.Number n)))
-  instruction_moves (instr.Sub d x y) here free = computing_moves (instr.Sub d x y) here (int_wrapping_sub w64) d x y refl refl refl (inl refl) refl refl refl (λ s k. refl) (λ n. (refl, others_stay d (value.Number n)))
-  instruction_moves (instr.Mul d x y) here free = computing_moves (instr.Mul d x y) here (int_wrapping_mul w64) d x y refl refl refl (inl refl) refl refl refl (λ s k. refl) (λ n. (refl, others_stay d (value.Number n)))
+  instruction_moves (instr.Add d x y) here free = computing_moves (instr.Add d x y) here (int_wrapping_add w64) d x y refl refl refl
+      (inl refl) refl refl refl (λ s k. refl) (λ n. (refl, others_stay d (value.Number n)))
+  instruction_moves (instr.Sub d x y) here free = computing_moves (instr.Sub d x y) here (int_wrapping_sub w64) d x y refl refl refl
+      (inl refl) refl refl refl (λ s k. refl) (λ n. (refl, others_stay d (value.Number n)))
+  instruction_moves (instr.Mul d x y) here free = computing_moves (instr.Mul d x y) here (int_wrapping_mul w64) d x y refl refl refl
+      (inl refl) refl refl refl (λ s k. refl) (λ n. (refl, others_stay d (value.Number n)))
   instruction_moves (instr.Unless op x y t) here free = unless_moves op x y t here
   instruction_moves (instr.Jump t) here free = jump_moves t here
   instruction_moves (instr.For k lo hi e) here free = for_moves k lo hi e here

@@ -84,7 +84,8 @@ clock_moves m w a o v go e is h = subst (λ x. Moves m (clock_in w a x go)) (sym
     cases (value.Clock k) g f = registered_moves m a (slice_get w.clocks k) (go k) g (f k refl)
 
 -- arguments of their parameters' kinds are given
-pub arguments_move : (m : ModuleValue) (w : World) (a : ℕ) (act : Activity) (ps : List ParamKind) (xs : List ℕ) (fin : ℕ → Kind → After) (go : List Value → Outcome) → length xs ≡ length ps
+pub arguments_move : (m : ModuleValue) (w : World) (a : ℕ) (act : Activity) (ps : List ParamKind) (xs : List ℕ) (fin : ℕ → Kind → After)
+    (go : List Value → Outcome) → length xs ≡ length ps
     → ((x : ℕ) → Has xs x → (v : Value) × (slice_get act.frame.slots x ≡ Some v))
     → ((s : ℕ) (v : Value) → slice_get act.frame.slots s ≡ Some v → Allowed (gives ps xs s (kind_of (looks w.clocks a) v) (fin s (kind_of (looks w.clocks a) v))))
     → ((values : List Value) → AreGiven (stands_on w.clocks a) act.frame.slots ps xs values → Moves m (go values))

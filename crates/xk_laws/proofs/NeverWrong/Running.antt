@@ -104,7 +104,8 @@ module _ (m : ModuleValue) (stands : ℕ → Standing) (clocks now : ℕ) (was :
     advance = λ e. absurd (grind (arith, c.running));
     held = names.held;
     waiting = still_waiting m look new was.status was.status clocks count names.more was.frame (record was.frame { place = to; slots = slots }) was.callers c.me.waiting refl
-        (λ v found t k named. subst (λ x. Names was.frame.slots t k ⊎ ((length x.params ≤ t) × (clocks ≤ k))) (same_Some u v (sym unit_found ∙ found)) (names.own t k named)) names.mild;
+        (λ v found t k named. subst (λ x. Names was.frame.slots t k ⊎ ((length x.params ≤ t) × (clocks ≤ k))) (same_Some u v (sym unit_found ∙ found))
+        (names.own t k named)) names.mild;
     alone = λ e. absurd (grind (arith, c.running));
   }
 
@@ -160,7 +161,8 @@ module _ (m : ModuleValue) (stands : ℕ → Standing) (clocks now : ℕ) (was :
   written_apart d v count s t k fresh (inr p) (inr q) = c.me.frame.apart s t k p.1 q.1
 
   -- an instruction that writes slot d, and goes to this place
-  pub writing_to : (d : ℕ) (old v : Value) (kd : Kind) (new : ℕ → Kind) (count : ℕ) (to : ℕ) → slice_get was.frame.slots d ≡ Some old → Has (successors i was.frame.place) to → to < length u.code
+  pub writing_to : (d : ℕ) (old v : Value) (kd : Kind) (new : ℕ → Kind) (count : ℕ) (to : ℕ) → slice_get was.frame.slots d ≡ Some old
+      → Has (successors i was.frame.place) to → to < length u.code
       → IsWrite d v kd new count → IsNext m u new count (now + 1) was (going (with_slots was (set was.frame.slots d v)) to)
   writing_to d old v kd new count to at on inside wr = straight new count (set was.frame.slots d v) to on inside
       (record {
@@ -213,7 +215,8 @@ module _ (m : ModuleValue) (stands : ℕ → Standing) (clocks now : ℕ) (was :
       )
 
   -- one that goes to the next
-  pub writing : (d : ℕ) (old v : Value) (kd : Kind) (new : ℕ → Kind) (count : ℕ) → slice_get was.frame.slots d ≡ Some old → is_ret i ≡ false → Has (successors i was.frame.place) (was.frame.place + 1)
+  pub writing : (d : ℕ) (old v : Value) (kd : Kind) (new : ℕ → Kind) (count : ℕ) → slice_get was.frame.slots d ≡ Some old → is_ret i ≡ false
+      → Has (successors i was.frame.place) (was.frame.place + 1)
       → IsWrite d v kd new count → IsNext m u new count (now + 1) was (onward (with_slots was (set was.frame.slots d v)))
   writing d old v kd new count at other on wr = writing_to d old v kd new count (was.frame.place + 1) at on (next_inside other) wr
 

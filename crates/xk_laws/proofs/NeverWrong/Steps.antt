@@ -87,22 +87,26 @@ moves_step m (Stepped v e) h = refl
 
 module _ (m : ModuleValue) (ok : IsAccepted m) (w : World) (sound : IsSound m w) (scoped : IsScoped m w) where
   -- an activity that runs and stands at an `endfinish` has a finish open, more than the frames below have
-  pub open_at_end : (a : ℕ) (act : Activity) (found : slice_get w.activities a ≡ Some act) (b : ℕ) → slice_get (sound.activities a act found).u.code act.frame.place ≡ Some (instr.EndFinish b)
+  pub open_at_end : (a : ℕ) (act : Activity) (found : slice_get w.activities a ≡ Some act) (b : ℕ)
+      → slice_get (sound.activities a act found).u.code act.frame.place ≡ Some (instr.EndFinish b)
       → opened_by m act.callers < act.opened
   open_at_end a act found b here =
       let me = sound.activities a act found in
       let depth : opened_in m act.frame ≡ length (block_at me.u (act.frame.place + 1) ++ b ∷ []) =
-      ap (λ o. option_map_or (λ u. depth_at u act.frame.place) o 0) me.unit ∙ ap length (block_closed me.u (unit_fits m ok.shape act.frame.unit me.u me.unit).finishes b act.frame.place here) in
+      ap (λ o. option_map_or (λ u. depth_at u act.frame.place) o 0) me.unit
+      ∙ ap length (block_closed me.u (unit_fits m ok.shape act.frame.unit me.u me.unit).finishes b act.frame.place here) in
       omega (arith, (scoped.activities a act found).opened, sum_by-cons (opened_in m) act.frame act.callers, length_push (block_at me.u (act.frame.place + 1)) b)
 
   -- one that stands at a `finish` has room for one more
-  pub room_at_finish : (a : ℕ) (act : Activity) (found : slice_get w.activities a ≡ Some act) (e : ℕ) → slice_get (sound.activities a act found).u.code act.frame.place ≡ Some (instr.Finish e)
+  pub room_at_finish : (a : ℕ) (act : Activity) (found : slice_get w.activities a ≡ Some act) (e : ℕ)
+      → slice_get (sound.activities a act found).u.code act.frame.place ≡ Some (instr.Finish e)
       → act.opened < room_of m (base_unit act)
   room_at_finish a act found e here =
       let me = sound.activities a act found in
       let fit = unit_fits m ok.shape act.frame.unit me.u me.unit in
       let depth : opened_in m act.frame ≡ depth_at me.u act.frame.place = ap (λ o. option_map_or (λ u. depth_at u act.frame.place) o 0) me.unit in
-      let more : depth_at me.u (act.frame.place + 1) ≡ length (block_at me.u act.frame.place ++ act.frame.place ∷ []) = ap length (block_opened me.u fit.finishes act.frame.place e here) in
+      let more : depth_at me.u (act.frame.place + 1) ≡ length (block_at me.u act.frame.place ++ act.frame.place ∷ []) = ap length
+      (block_opened me.u fit.finishes act.frame.place e here) in
       let s = scoped.activities a act found in
       omega (
         arith,
@@ -115,12 +119,14 @@ module _ (m : ModuleValue) (ok : IsAccepted m) (w : World) (sound : IsSound m w)
       )
 
   -- one that ends has closed all that it opened
-  pub closed_at_end : (a : ℕ) (act : Activity) (found : slice_get w.activities a ≡ Some act) → slice_get (sound.activities a act found).u.code act.frame.place ≡ Some instr.Ret → act.callers ≡ [] → act.opened ≡ 0
+  pub closed_at_end : (a : ℕ) (act : Activity) (found : slice_get w.activities a ≡ Some act)
+      → slice_get (sound.activities a act found).u.code act.frame.place ≡ Some instr.Ret → act.callers ≡ [] → act.opened ≡ 0
   closed_at_end a act found here alone =
       let me = sound.activities a act found in
       let fit = unit_fits m ok.shape act.frame.unit me.u me.unit in
       let depth : opened_in m act.frame ≡ 0 =
-      ap (λ o. option_map_or (λ u. depth_at u act.frame.place) o 0) me.unit ∙ ap length (block_end me.u fit.finishes act.frame.place (fit.last act.frame.place here) instr.Ret here refl) in
+      ap (λ o. option_map_or (λ u. depth_at u act.frame.place) o 0) me.unit
+      ∙ ap length (block_end me.u fit.finishes act.frame.place (fit.last act.frame.place here) instr.Ret here refl) in
       let below : opened_by m act.callers ≡ 0 = ap (opened_by m) alone in
       omega (arith, (scoped.activities a act found).opened, sum_by-cons (opened_in m) act.frame act.callers)
 
@@ -143,7 +149,8 @@ module _ (m : ModuleValue) (ok : IsAccepted m) (w : World) (sound : IsSound m w)
   free_or_end a act found running _ here = inl tt
 
   -- one that waits there is blocked
-  end_blocked : (a : ℕ) (act : Activity) (found : slice_get w.activities a ≡ Some act) (running : act.status ≡ status.Running) → IsAtEnd a act found → run_at m w a act (instruction_at m act.frame) ≡ Blocked
+  end_blocked : (a : ℕ) (act : Activity) (found : slice_get w.activities a ≡ Some act) (running : act.status ≡ status.Running) → IsAtEnd a act found
+      → run_at m w a act (instruction_at m act.frame) ≡ Blocked
   end_blocked a act found running e =
       ap (run_at m w a act) (instruction_found m ok w a act sound found running (instr.EndFinish e.b) e.here) ∙ by act.opened refl
     where
@@ -162,7 +169,8 @@ module _ (m : ModuleValue) (ok : IsAccepted m) (w : World) (sound : IsSound m w)
   running_enabled a act found running i at =
       ap (λ o. is_step (step_of m w a o)) found ∙ ap (λ st. is_step (step_by m w a act st)) running
       ∙ elim (free_or_end a act found running s.0 s.1) [
-        | inl free ↦ moves_step m (run_at m w a act (instruction_at m act.frame)) (running_moves m ok w a act sound found running s.0 s.1 free) ∙ ap not (unkept s.0 free ∙ ap (is_kept a act) same)
+        | inl free ↦ moves_step m (run_at m w a act (instruction_at m act.frame)) (running_moves m ok w a act sound found running s.0 s.1 free)
+            ∙ ap not (unkept s.0 free ∙ ap (is_kept a act) same)
         | inr e ↦ ap is_step (end_blocked a act found running e) ∙ ap not (sym e.awaited ∙ ap (is_kept a act) (same_Some (instr.EndFinish e.b) s.0 (sym e.here ∙ s.1) ∙ same))
       ]
     where

@@ -47,7 +47,8 @@ arriving m stands clocks now was u c = record {
       (next_visited m stands clocks now was u instr.Advance c s v (awake (kind_of (λ k. kind_by (stands k)) v)) (was.frame.place + 1) (inl refl) at (inl refl));
   advance = λ e. c.here;
   held = λ k h. c.me.held k (resumed_held (stands k) h);
-  waiting = still_waiting m (λ k. kind_by (stands k)) (λ k. kind_by (resumed (stands k))) was.status status.Arrived clocks clocks (omega arith) was.frame was.frame was.callers c.me.waiting refl
+  waiting = still_waiting m (λ k. kind_by (stands k)) (λ k. kind_by (resumed (stands k))) was.status status.Arrived clocks clocks (omega arith) was.frame
+      was.frame was.callers c.me.waiting refl
       (λ v found t k named. inl named)
       (λ k. inr (inl (resumed_awake (stands k) ∙ ap (λ st. awake (once_past st (kind_by (stands k)))) (sym c.running))));
   alone = λ e. absurd (grind arith);
@@ -71,7 +72,8 @@ going_on m stands clocks now was me fit waiting quiet = record {
       (subst (λ st. Expects m me.u st was.frame.place s (kind_of (λ k. kind_by (stands k)) v)) waiting (me.kinds s v at));
   advance = λ e. absurd (grind arith);
   held = λ k h. me.held k (passed_held (stands k) h);
-  waiting = still_waiting m (λ k. kind_by (stands k)) (λ k. kind_by (passed (stands k))) was.status status.Running clocks clocks (omega arith) was.frame (record was.frame { place = was.frame.place + 1 }) was.callers me.waiting refl
+  waiting = still_waiting m (λ k. kind_by (stands k)) (λ k. kind_by (passed (stands k))) was.status status.Running clocks clocks (omega arith)
+      was.frame (record was.frame { place = was.frame.place + 1 }) was.callers me.waiting refl
       (λ v found t k named. inl named)
       (λ k. inl (passed_awake (stands k) (quiet k) ∙ ap (λ st. once_past st (kind_by (stands k))) (sym waiting)));
   alone = λ e. absurd (grind arith);

@@ -34,7 +34,8 @@ module _ (m : ModuleValue) (ok : IsAccepted m) (w : World) (sound : IsSound m w)
     pub scope : slice_get scoped.scopes c ≡ Some (finish_at a act.governed depth)
 
   -- by a frame that names it
-  frames_depth : (a : ℕ) (act : Activity) (c : ℕ) → is_held (looks w.clocks a c) ≡ true → (fs : List Frame) → NamedIn fs c → AreHome m a act.governed scoped.scopes (looks w.clocks a) fs
+  frames_depth : (a : ℕ) (act : Activity) (c : ℕ) → is_held (looks w.clocks a c) ≡ true → (fs : List Frame) → NamedIn fs c
+      → AreHome m a act.governed scoped.scopes (looks w.clocks a) fs
       → HasDepth a act c (opened_by m fs)
   frames_depth a act c held [] named h = absurd named
   frames_depth a act c held (f ∷ fs) (inl p) h =
@@ -52,7 +53,8 @@ module _ (m : ModuleValue) (ok : IsAccepted m) (w : World) (sound : IsSound m w)
       record { depth = r.depth; within = omega (arith, r.within, s.opened); scope = r.scope }
 
   -- one who waits at an `endfinish` is registered on no clock of the finish that ends
-  end_depth : (a : ℕ) (act : Activity) (found : slice_get w.activities a ≡ Some act) → act.status ≡ status.Running → IsAtEnd m ok w sound scoped a act found → (c : ℕ) → is_held (looks w.clocks a c) ≡ true
+  end_depth : (a : ℕ) (act : Activity) (found : slice_get w.activities a ≡ Some act) → act.status ≡ status.Running
+      → IsAtEnd m ok w sound scoped a act found → (c : ℕ) → is_held (looks w.clocks a c) ≡ true
       → (d : ℕ) × (d < act.opened) × (slice_get scoped.scopes c ≡ Some (finish_at a act.governed d))
   end_depth a act found running e c held = by ((sound.activities a act found).held c held) (scoped.activities a act found).homes
     where
@@ -77,8 +79,10 @@ module _ (m : ModuleValue) (ok : IsAccepted m) (w : World) (sound : IsSound m w)
 
   -- Whoever shares a clock with one who is under the finish is under it too, where the owner waits at the end of the finish.
   shared_under : (e : ℕ) (waiter : Activity) (there : slice_get w.activities e ≡ Some waiter) → waiter.status ≡ status.Running → IsAtEnd m ok w sound scoped e waiter there
-      → (a b : ℕ) → ShareClock w a b → a < length w.activities → b < length w.activities → is_under w.activities (innermost e waiter) a ≡ true → is_under w.activities (innermost e waiter) b ≡ true
-  shared_under e waiter there running at a b share inside within under = by p.depth q.depth (same_Some (finish_at a x.0.governed p.depth) (finish_at b y.0.governed q.depth) (sym p.scope ∙ q.scope)) refl
+      → (a b : ℕ) → ShareClock w a b → a < length w.activities → b < length w.activities → is_under w.activities (innermost e waiter) a ≡ true
+      → is_under w.activities (innermost e waiter) b ≡ true
+  shared_under e waiter there running at a b share inside within under = by p.depth q.depth
+      (same_Some (finish_at a x.0.governed p.depth) (finish_at b y.0.governed q.depth) (sym p.scope ∙ q.scope)) refl
     where
       f : Finish
       f = innermost e waiter
@@ -112,7 +116,8 @@ module _ (m : ModuleValue) (ok : IsAccepted m) (w : World) (sound : IsSound m w)
         | inr o ↦ under_owner w.activities owned f b o.0 y.0 y.1 (ap (λ g. g.owner) (sym same) ∙ o.1) o.2
       ]
       by zero (suc k) same deep = elim (under_cases w.activities owned f a x.0 x.1 under) [
-        | inl g ↦ absurd (not_owner (same_Some b e (ap (λ z. z.owner) (sym same ∙ g))) (suc k) (sym same ∙ g) (subst (λ n. slice_get scoped.scopes share.clock ≡ Some (finish_at b y.0.governed n)) deep q.scope))
+        | inl g ↦ absurd (not_owner (same_Some b e (ap (λ z. z.owner) (sym same ∙ g))) (suc k) (sym same ∙ g)
+            (subst (λ n. slice_get scoped.scopes share.clock ≡ Some (finish_at b y.0.governed n)) deep q.scope))
         | inr o ↦ subst (λ n. is_under w.activities f n ≡ true) (same_Some o.0 b (sym o.1 ∙ ap (λ z. z.owner) same)) o.2
       ]
       by (suc d) zero same deep = under_owner w.activities owned f b a y.0 y.1 (ap (λ g. g.owner) (sym same)) under

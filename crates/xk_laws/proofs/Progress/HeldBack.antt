@@ -84,5 +84,6 @@ waits_for m w sound a act found h =
         first = subst (λ s. is_held (kind_by s) ≡ true) (sym (stands_on_at w.clocks a c.0 c.1 c.2)) (signalled_held (standing_of c.1 a) c.3);
         second = subst (λ s. is_held (kind_by s) ≡ true) (sym (stands_on_at w.clocks back.0 c.0 c.1 c.2)) (pending_held (standing_of c.1 back.0) back.2);
       };
-      earlier = elim (pending_cases x.0.status x.0.since c.1.last (standing_of c.1 back.0) back.2 (sc.stands back.0 x.0 x.1)) [ inl e ↦ inl e | inr p ↦ inr (p.0, omega (arith, p.1)) ];
+      earlier = elim (pending_cases x.0.status x.0.since c.1.last (standing_of c.1 back.0) back.2 (sc.stands back.0 x.0 x.1))
+          [ inl e ↦ inl e | inr p ↦ inr (p.0, omega (arith, p.1)) ];
     }

@@ -60,7 +60,8 @@ none_beyond m rule.Target unit u at h = rw (slice_get_past u.code at (omega arit
 none_beyond m rule.Block unit u at h = rw (slice_get_past u.code at (omega arith)) refl
 none_beyond m rule.Slot unit u at h = rw (slice_get_past u.code at (omega arith)) refl
 none_beyond m rule.Unit unit u at h =
-    rw (slice_get_past u.code at (omega arith)) (or_from ((at == 0) && not (is_in_place unit u)) false (and_left (at == 0) (not (is_in_place unit u)) (ne_eqb at 0 (λ e. omega arith))) refl)
+    rw (slice_get_past u.code at (omega arith))
+    (or_from ((at == 0) && not (is_in_place unit u)) false (and_left (at == 0) (not (is_in_place unit u)) (ne_eqb at 0 (λ e. omega arith))) refl)
 none_beyond m rule.Cell unit u at h = rw (slice_get_past u.code at (omega arith)) refl
 none_beyond m rule.Loop unit u at h = rw (slice_get_past u.code at (omega arith)) refl
 none_beyond m rule.End unit u at h =
@@ -187,7 +188,8 @@ module _ (m : ModuleValue) (u : UnitValue) (s : ℕ) (table : ℕ → List Kind)
   -- and isn't refused
   never_refused : (q : Visit) (r : Rule) → IsVisited m u s q → row m u s q ≡ Refused r → ⊥
   never_refused q r v h = elim (cases_lt q.at (length u.code)) [
-    | inl inside ↦ false≢true (sym (ap (leads (λ new. list_all (λ to. is_among (table to) new) (places_after (slice_get u.code q.at) q.at))) h) ∙ leads_on q inside (visited_among q v))
+    | inl inside ↦ false≢true (sym (ap (leads (λ new. list_all (λ to. is_among (table to) new) (places_after (slice_get u.code q.at) q.at))) h)
+        ∙ leads_on q inside (visited_among q v))
     | inr past ↦ to_refused (sym (ap (row_of m u s q.kind) (slice_get_past u.code q.at past)) ∙ h)
   ]
     where
@@ -199,7 +201,8 @@ kinds_from : (m : ModuleValue) (tables : ℕ → ℕ → ℕ → List Kind) → 
 kinds_from m tables h unit s q r b = never_refused m b.u s (tables unit s)
     (below_at (λ t. is_closed m b.u t (tables unit t)) b.u.slots s
     (sym (ap (λ o. option_map_or (λ u. each_below (λ t. is_closed m u t (tables unit t)) u.slots) o true) b.found)
-    ∙ below_at (λ n. option_map_or (λ u. each_below (λ t. is_closed m u t (tables n t)) u.slots) (slice_get m.units n) true) (length m.units) unit h (slice_get_within m.units unit b.u b.found))
+    ∙ below_at (λ n. option_map_or (λ u. each_below (λ t. is_closed m u t (tables n t)) u.slots) (slice_get m.units n) true) (length m.units) unit h
+    (slice_get_within m.units unit b.u b.found))
     b.slot) q r b.visited b.refused
 
 -- ---- limits

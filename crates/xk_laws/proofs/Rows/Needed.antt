@@ -33,7 +33,9 @@ drop_limits = record {
   some = omega arith;
   units = omega arith;
   shared = omega arith;
-  each = All-cons IsUnitWithinLimits drop_unit [] (record { slots = omega arith; params = omega arith; code = omega arith; arguments = All-from_recursion HasFewArguments drop_unit.code (omega arith) }) (All-nil IsUnitWithinLimits);
+  each = All-cons IsUnitWithinLimits drop_unit []
+      (record { slots = omega arith; params = omega arith; code = omega arith; arguments = All-from_recursion HasFewArguments drop_unit.code (omega arith) })
+      (All-nil IsUnitWithinLimits);
 }
 
 -- not every module within the limits keeps the law
@@ -73,7 +75,9 @@ leak_limits = record {
   some = omega arith;
   units = omega arith;
   shared = omega arith;
-  each = All-cons IsUnitWithinLimits leak_unit [] (record { slots = omega arith; params = omega arith; code = omega arith; arguments = All-from_recursion HasFewArguments leak_unit.code (omega arith) }) (All-nil IsUnitWithinLimits);
+  each = All-cons IsUnitWithinLimits leak_unit []
+      (record { slots = omega arith; params = omega arith; code = omega arith; arguments = All-from_recursion HasFewArguments leak_unit.code (omega arith) })
+      (All-nil IsUnitWithinLimits);
 }
 
 -- walks come to its second `make` with live, and no further
@@ -95,7 +99,8 @@ made_live kind.Out new (inr none) = absurd none
 
 -- where its walks come
 leak_comes : (q : Visit) → IsVisited leak_row leak_unit 0 q → Comes q.at q.kind
-leak_comes q v = visited_closed leak_row leak_unit 0 (λ p. Comes p.at p.kind) (λ p first entry. subst (λ at. Comes at p.kind) (sym first) tt) (λ p r h e. along p.at p.kind r.at r.kind h e.place e.kind) q v
+leak_comes q v = visited_closed leak_row leak_unit 0 (λ p. Comes p.at p.kind) (λ p first entry. subst (λ at. Comes at p.kind) (sym first) tt)
+    (λ p r h e. along p.at p.kind r.at r.kind h e.place e.kind) q v
   where
     along : (at : ℕ) (k : Kind) (to : ℕ) (new : Kind) → Comes at k → Has (places_after (slice_get leak_unit.code at) at) to
         → MayBecome (row leak_row leak_unit 0 (record { at = at; kind = k })) new → Comes to new

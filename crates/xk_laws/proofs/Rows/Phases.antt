@@ -55,7 +55,8 @@ phases_row_limits = record {
   units = omega arith;
   shared = omega arith;
   each = All-cons IsUnitWithinLimits phases_unit []
-      (record { slots = omega arith; params = omega arith; code = omega arith; arguments = All-from_recursion HasFewArguments phases_unit.code (omega arith) }) (All-nil IsUnitWithinLimits);
+      (record { slots = omega arith; params = omega arith; code = omega arith; arguments = All-from_recursion HasFewArguments phases_unit.code (omega arith) })
+      (All-nil IsUnitWithinLimits);
 }
 
 -- the law says something of it

@@ -49,7 +49,8 @@ sum_row_limits = record {
   units = omega arith;
   shared = omega arith;
   each = All-cons IsUnitWithinLimits sum_unit []
-      (record { slots = omega arith; params = omega arith; code = omega arith; arguments = All-from_recursion HasFewArguments sum_unit.code (omega arith) }) (All-nil IsUnitWithinLimits);
+      (record { slots = omega arith; params = omega arith; code = omega arith; arguments = All-from_recursion HasFewArguments sum_unit.code (omega arith) })
+      (All-nil IsUnitWithinLimits);
 }
 
 -- the law says something of it

@@ -113,7 +113,8 @@ based f g (x ∷ fs) same = refl
 
 -- and there is room
 pub rooms_same : (m : ModuleValue) (f g : Frame) (fs : List Frame) → g.unit ≡ f.unit → AreRoomy m (base_of f fs) (f ∷ fs) → AreRoomy m (base_of g fs) (g ∷ fs)
-rooms_same m f g fs same h = subst (λ b. AreRoomy m b (g ∷ fs)) (sym (based f g fs same)) ((let r = h.0 in let e : room_of m g.unit ≡ room_of m f.unit = ap (room_of m) same in omega arith), h.1)
+rooms_same m f g fs same h = subst (λ b. AreRoomy m b (g ∷ fs)) (sym (based f g fs same))
+    ((let r = h.0 in let e : room_of m g.unit ≡ room_of m f.unit = ap (room_of m) same in omega arith), h.1)
 
 -- an activity, by the kinds of clocks' names for it
 pub record IsScopedIn (m : ModuleValue) (scopes : List Finish) (look : ℕ → Kind) (a : ℕ) (act : Activity) : Type 0 where
@@ -143,7 +144,8 @@ Scopes m (Stepped v e) = IsScoped m v
 abbrev pub Keeps : List Finish → List Finish → Type 0
 Keeps scopes more = (c : ℕ) (g : Finish) → slice_get scopes c ≡ Some g → slice_get more c ≡ Some g
 
-pub home_kept : (m : ModuleValue) (a : ℕ) (g : Finish) (scopes more : List Finish) (f : Frame) (below s c : ℕ) → Keeps scopes more → IsHome m a g scopes f below s c → IsHome m a g more f below s c
+pub home_kept : (m : ModuleValue) (a : ℕ) (g : Finish) (scopes more : List Finish) (f : Frame) (below s c : ℕ) → Keeps scopes more
+    → IsHome m a g scopes f below s c → IsHome m a g more f below s c
 home_kept m a g scopes more f below s c keeps h =
     record { u = h.u; found = h.found; home = h.home; is = h.is; round = h.round; scope = keeps c (finish_at a g (length h.home + below)) h.scope }
 

@@ -54,7 +54,8 @@ module _ (m : ModuleValue) (w : World) (a : ℕ) where
   number_scopes (Some (value.Number n)) go h = h n refl
   number_scopes (Some (value.Clock c)) go h = tt
 
-  registered_scopes : (o : Option Clock) (go : Outcome) → (is_held (kind_by (option_map_or (λ c. standing_of c a) o standing.Apart)) ≡ true → Scopes m go) → Scopes m (registered_on o a go)
+  registered_scopes : (o : Option Clock) (go : Outcome) → (is_held (kind_by (option_map_or (λ c. standing_of c a) o standing.Apart)) ≡ true → Scopes m go)
+      → Scopes m (registered_on o a go)
   registered_scopes None go h = tt
   registered_scopes (Some c) go h = cases (standing_of c a) h
     where
@@ -78,7 +79,8 @@ module _ (m : ModuleValue) (w : World) (a : ℕ) where
   stored_scopes : (act : Activity) (s : ℕ) (n : ℤ) (e : Event) → Scopes m (done w a (onward act) none e) → Scopes m (stored w a act s n e)
   stored_scopes act s n e h = record { scopes = h.scopes; width = h.width; activities = h.activities }
 
-  put_scopes : (o : Option Value) (act : Activity) (d : ℕ) (v : Value) (go : Activity → Outcome) → ((old : Value) → o ≡ Some old → Scopes m (go (onward (with_slots act (set act.frame.slots d v))))) → Scopes m (put_in o act d v go)
+  put_scopes : (o : Option Value) (act : Activity) (d : ℕ) (v : Value) (go : Activity → Outcome)
+      → ((old : Value) → o ≡ Some old → Scopes m (go (onward (with_slots act (set act.frame.slots d v))))) → Scopes m (put_in o act d v go)
   put_scopes None act d v go h = tt
   put_scopes (Some old) act d v go h = h old refl
 
@@ -113,7 +115,8 @@ number_names slots d old n at s c named =
     each_set (λ z x. (k : ℕ) → x ≡ value.Clock k → Names slots z k) slots d old (value.Number n) at
     (λ k e. absurd (grind arith)) (λ z x differs g k e. g ∙ ap Some e) s (value.Clock c) named c refl
 
-module _ (m : ModuleValue) (ok : IsAccepted m) (w : World) (a : ℕ) (was : Activity) (sound : IsSound m w) (scoped : IsScoped m w) (found : slice_get w.activities a ≡ Some was) where
+module _ (m : ModuleValue) (ok : IsAccepted m) (w : World) (a : ℕ) (was : Activity) (sound : IsSound m w) (scoped : IsScoped m w)
+    (found : slice_get w.activities a ≡ Some was) where
   -- the invariants of the activity
   abbrev me : IsActivitySound m (looks w.clocks a) (length w.clocks) w.steps was
   me = sound.activities a was found
@@ -154,7 +157,8 @@ module _ (m : ModuleValue) (ok : IsAccepted m) (w : World) (a : ℕ) (was : Acti
         found = ap (slice_get m.units) same ∙ h.found;
         home = h.home;
         is = h.is;
-        round = subst (λ v. IsRound h.home (block_at v f.place)) (sym is) (subst (IsRound h.home) (sym block) (subst (λ v. IsRound h.home (block_at v was.frame.place)) is h.round));
+        round = subst (λ v. IsRound h.home (block_at v f.place)) (sym is)
+            (subst (IsRound h.home) (sym block) (subst (λ v. IsRound h.home (block_at v was.frame.place)) is h.round));
         scope = h.scope;
       }
 
@@ -171,14 +175,16 @@ module _ (m : ModuleValue) (ok : IsAccepted m) (w : World) (a : ℕ) (was : Acti
         ∙ ap (λ fs. opened_in m act.frame + opened_by m fs) (sym callers) ∙ sym (sum_by-cons (opened_in m) act.frame act.callers);
     rooms = subst (λ fs. AreRoomy m (base_of act.frame fs) (act.frame ∷ fs)) (sym callers) (rooms_same m was.frame act.frame was.callers unit mine.rooms);
     owner = λ o e. mine.owner o (ap (λ g. g.owner) (sym governed) ∙ e);
-    homes = subst (λ g. AreHome m a g scoped.scopes look (act.frame ∷ act.callers)) (sym governed) (subst (λ fs. AreHome m a was.governed scoped.scopes look (act.frame ∷ fs)) (sym callers) (
-      (λ s c named held. frame_home scoped.scopes look act.frame (opened_by m was.callers) unit block s c (mine.homes.0 s c (names s c named) (fewer c held))),
-      homes_kept m a was.governed scoped.scopes scoped.scopes (looks w.clocks a) look was.callers (λ c g h. h) (λ c named held. fewer c held) mine.homes.1,
-    ));
+    homes = subst (λ g. AreHome m a g scoped.scopes look (act.frame ∷ act.callers)) (sym governed)
+        (subst (λ fs. AreHome m a was.governed scoped.scopes look (act.frame ∷ fs)) (sym callers) (
+          (λ s c named held. frame_home scoped.scopes look act.frame (opened_by m was.callers) unit block s c (mine.homes.0 s c (names s c named) (fewer c held))),
+          homes_kept m a was.governed scoped.scopes scoped.scopes (looks w.clocks a) look was.callers (λ c g h. h) (λ c named held. fewer c held) mine.homes.1,
+        ));
   }
 
   -- a step that changes frame and standings alone
-  keeps_to : (act : Activity) (change : ℕ → Standing → Standing) (e : Event) → act.frame.unit ≡ was.frame.unit → act.callers ≡ was.callers → act.opened ≡ was.opened → act.governed ≡ was.governed
+  keeps_to : (act : Activity) (change : ℕ → Standing → Standing) (e : Event) → act.frame.unit ≡ was.frame.unit → act.callers ≡ was.callers
+      → act.opened ≡ was.opened → act.governed ≡ was.governed
       → block_at me.u act.frame.place ≡ block_at me.u was.frame.place → ((s c : ℕ) → Names act.frame.slots s c → Names was.frame.slots s c)
       → ((k : ℕ) → change k standing.Apart ≡ standing.Apart) → Registers change → Scopes m (done w a act change e)
   keeps_to act change e unit callers opened governed block names apart registers = done_scopes act change e apart
@@ -197,27 +203,32 @@ module _ (m : ModuleValue) (ok : IsAccepted m) (w : World) (a : ℕ) (was : Acti
     -- an instruction that goes on, and writes nothing
     goes_on : (i : Instr) → Here i → is_border i ≡ false → (change : ℕ → Standing → Standing) (e : Event) → ((k : ℕ) → change k standing.Apart ≡ standing.Apart) → Registers change
         → Scopes m (done w a (onward was) change e)
-    goes_on i here plain change e apart registers = keeps_to (onward was) change e refl refl refl refl (block_next me.u fit.finishes was.frame.place i here plain) (λ s c named. named) apart registers
+    goes_on i here plain change e apart registers = keeps_to (onward was) change e refl refl refl refl
+        (block_next me.u fit.finishes was.frame.place i here plain) (λ s c named. named) apart registers
 
     -- one that writes a number to slot d, and goes on
-    writes_number : (e : Event) (i : Instr) → Here i → is_border i ≡ false → (d : ℕ) (n : ℤ) → Scopes m (put_in (slot_at was d) was d (value.Number n) (λ next. done w a next none e))
+    writes_number : (e : Event) (i : Instr) → Here i → is_border i ≡ false → (d : ℕ) (n : ℤ)
+        → Scopes m (put_in (slot_at was d) was d (value.Number n) (λ next. done w a next none e))
     writes_number e i here plain d n = put_scopes m w a (slot_at was d) was d (value.Number n) (λ next. done w a next none e)
         (λ old at. keeps_to (onward (with_slots was (set was.frame.slots d (value.Number n)))) none e refl refl refl refl
         (block_next me.u fit.finishes was.frame.place i here plain) (number_names was.frame.slots d old n at) (λ k. refl) (λ k st h. h))
 
     computing_scopes : (i : Instr) → Here i → is_border i ≡ false → (f : ℤ → ℤ → ℤ) (d x y : ℕ) → Scopes m (computing w a was f d x y)
-    computing_scopes i here plain f d x y = number_scopes m w a (slot_at was x) _ (λ p e. number_scopes m w a (slot_at was y) _ (λ q g. writes_number event.Local i here plain d (f p q)))
+    computing_scopes i here plain f d x y = number_scopes m w a (slot_at was x) _
+        (λ p e. number_scopes m w a (slot_at was y) _ (λ q g. writes_number event.Local i here plain d (f p q)))
 
     -- one that goes to this place
     goes_to : (i : Instr) → Here i → is_border i ≡ false → (t : ℕ) → target i ≡ Some t → Scopes m (done w a (going was t) none event.Local)
-    goes_to i here plain t aim = keeps_to (going was t) none event.Local refl refl refl refl (block_jump me.u fit.finishes fit.loops was.frame.place t i here plain aim) (λ s c named. named) (λ k. refl) (λ k st h. h)
+    goes_to i here plain t aim = keeps_to (going was t) none event.Local refl refl refl refl
+        (block_jump me.u fit.finishes fit.loops was.frame.place t i here plain aim) (λ s c named. named) (λ k. refl) (λ k st h. h)
 
     unless_scopes : (i : Instr) → Here i → is_border i ≡ false → (t : ℕ) → target i ≡ Some t → (b : Bool) → Scopes m (done w a (cond b (onward was) (going was t)) none event.Local)
     unless_scopes i here plain t aim true = goes_on i here plain none event.Local (λ k. refl) (λ k st h. h)
     unless_scopes i here plain t aim false = goes_to i here plain t aim
 
     -- the end of a turn
-    turn_scopes : (b k : ℕ) (n : ℤ) → Here (instr.Next b) → slot_at was k ≡ Some (value.Number n) → (x : Bool) → Scopes m (done w a (cond x (again was b k n) (onward was)) none event.Local)
+    turn_scopes : (b k : ℕ) (n : ℤ) → Here (instr.Next b) → slot_at was k ≡ Some (value.Number n) → (x : Bool)
+        → Scopes m (done w a (cond x (again was b k n) (onward was)) none event.Local)
     turn_scopes b k n here at true = keeps_to (again was b k n) none event.Local refl refl refl refl (block_round me.u fit.finishes fit.loops b was.frame.place here)
         (number_names was.frame.slots k (value.Number n) (n +ℤ pos 1) at) (λ c. refl) (λ c st h. h)
     turn_scopes b k n here at false = goes_on (instr.Next b) here refl none event.Local (λ c. refl) (λ c st h. h)
@@ -234,7 +245,13 @@ module _ (m : ModuleValue) (ok : IsAccepted m) (w : World) (a : ℕ) (was : Acti
     finish_scopes e here = done_scopes (entered was) none event.Opened (λ k. refl) (record {
       opened = (let d = depth_here was.frame refl in
           let n : opened_in m (entered was).frame ≡ length (block_at me.u was.frame.place ++ was.frame.place ∷ []) = depth_here (entered was).frame refl ∙ ap length block in
-          omega (arith, mine.opened, sum_by-cons (opened_in m) was.frame was.callers, sum_by-cons (opened_in m) (entered was).frame was.callers, length_push (block_at me.u was.frame.place) was.frame.place));
+          omega (
+            arith,
+            mine.opened,
+            sum_by-cons (opened_in m) was.frame was.callers,
+            sum_by-cons (opened_in m) (entered was).frame was.callers,
+            length_push (block_at me.u was.frame.place) was.frame.place,
+          ));
       rooms = rooms_same m was.frame (entered was).frame was.callers refl mine.rooms;
       owner = mine.owner;
       homes = ((λ s c named held. inner s c (mine.homes.0 s c named held)), mine.homes.1);
@@ -243,7 +260,8 @@ module _ (m : ModuleValue) (ok : IsAccepted m) (w : World) (a : ℕ) (was : Acti
         block : block_at me.u (was.frame.place + 1) ≡ block_at me.u was.frame.place ++ was.frame.place ∷ []
         block = block_opened me.u fit.finishes was.frame.place e here
 
-        inner : (s c : ℕ) → IsHome m a was.governed scoped.scopes was.frame (opened_by m was.callers) s c → IsHome m a was.governed scoped.scopes (entered was).frame (opened_by m was.callers) s c
+        inner : (s c : ℕ) → IsHome m a was.governed scoped.scopes was.frame (opened_by m was.callers) s c
+            → IsHome m a was.governed scoped.scopes (entered was).frame (opened_by m was.callers) s c
         inner s c h =
             let is : h.u ≡ me.u = same_Some h.u me.u (sym h.found ∙ me.unit) in
             record {
@@ -272,7 +290,14 @@ module _ (m : ModuleValue) (ok : IsAccepted m) (w : World) (a : ℕ) (was : Acti
     close_scopes b n here some = done_scopes (left was n) none event.Closed (λ k. refl) (record {
       opened = (let d = depth_here was.frame refl ∙ ap length block in
           let k = depth_here (left was n).frame refl in
-          omega (arith, some, mine.opened, sum_by-cons (opened_in m) was.frame was.callers, sum_by-cons (opened_in m) (left was n).frame was.callers, length_push (block_at me.u (was.frame.place + 1)) b));
+          omega (
+            arith,
+            some,
+            mine.opened,
+            sum_by-cons (opened_in m) was.frame was.callers,
+            sum_by-cons (opened_in m) (left was n).frame was.callers,
+            length_push (block_at me.u (was.frame.place + 1)) b,
+          ));
       rooms = rooms_same m was.frame (left was n).frame was.callers refl mine.rooms;
       owner = mine.owner;
       homes = ((λ s c named held. outer s c named held (mine.homes.0 s c named held)), mine.homes.1);
@@ -291,7 +316,8 @@ module _ (m : ModuleValue) (ok : IsAccepted m) (w : World) (a : ℕ) (was : Acti
               home = h.home;
               is = h.is;
               round = subst (λ v. IsRound h.home (block_at v (was.frame.place + 1))) (sym is)
-                  (elim (round_less h.home (block_at me.u (was.frame.place + 1)) b (subst (IsRound h.home) block (subst (λ v. IsRound h.home (block_at v was.frame.place)) is h.round))) [
+                  (elim (round_less h.home (block_at me.u (was.frame.place + 1)) b
+                  (subst (IsRound h.home) block (subst (λ v. IsRound h.home (block_at v was.frame.place)) is h.round))) [
                     | inl r ↦ r
                     | inr e ↦ absurd (closed_home b here s c named held (subst (Has (homes me.u s)) (e ∙ sym block) (subst (λ v. Has (homes v s) h.home) is h.is)))
                   ]);
@@ -311,7 +337,8 @@ module _ (m : ModuleValue) (ok : IsAccepted m) (w : World) (a : ℕ) (was : Acti
     -- an instruction that changes where the activity stands on a clock
     using_scopes : (i : Instr) → Here i → is_border i ≡ false → (x : ℕ) (f : Standing → Standing) (e : Event) → f standing.Apart ≡ standing.Apart
         → ((st : Standing) → is_held (kind_by (f st)) ≡ true → is_held (kind_by st) ≡ true) → Scopes m (clock_in w a (slot_at was x) (λ c. done w a (onward was) (only c f) e))
-    using_scopes i here plain x f e apart registers = clock_scopes m w a (slot_at was x) _ (λ c is held. goes_on i here plain (only c f) e (λ k. stays_apart c k) (only_registers c f registers))
+    using_scopes i here plain x f e apart registers = clock_scopes m w a (slot_at was x) _
+        (λ c is held. goes_on i here plain (only c f) e (λ k. stays_apart c k) (only_registers c f registers))
       where
         stays_apart : (c k : ℕ) → only c f k standing.Apart ≡ standing.Apart
         stays_apart c k = cases (k == c)
@@ -328,13 +355,15 @@ module _ (m : ModuleValue) (ok : IsAccepted m) (w : World) (a : ℕ) (was : Acti
     more_keep c g h = get-push_other scoped.scopes (governing a was) c (λ e. absurd (let r = slice_get_within scoped.scopes c g h in omega arith)) ∙ h
 
     -- `make`
-    made_scopes : (d : ℕ) (old : Value) → Here (instr.Make d) → slot_at was d ≡ Some old → Scopes m (made w a (onward (with_slots was (set was.frame.slots d (value.Clock (length w.clocks))))))
+    made_scopes : (d : ℕ) (old : Value) → Here (instr.Make d) → slot_at was d ≡ Some old
+        → Scopes m (made w a (onward (with_slots was (set was.frame.slots d (value.Clock (length w.clocks))))))
     made_scopes d old here at = left_scoped m w a was act clocks scoped found (record {
       more = more_scopes;
       keeps = more_keep;
       width = omega (arith, length_push scoped.scopes (governing a was), length_push w.clocks (new_clock (length w.activities) a), scoped.width);
       next = record {
-        opened = mine.opened ∙ sum_by-cons (opened_in m) was.frame was.callers ∙ ap (λ n. n + opened_by m was.callers) (depth_here was.frame refl ∙ ap length (sym block) ∙ sym (depth_here act.frame refl))
+        opened = mine.opened ∙ sum_by-cons (opened_in m) was.frame was.callers
+            ∙ ap (λ n. n + opened_by m was.callers) (depth_here was.frame refl ∙ ap length (sym block) ∙ sym (depth_here act.frame refl))
             ∙ sym (sum_by-cons (opened_in m) act.frame was.callers);
         rooms = rooms_same m was.frame act.frame was.callers refl mine.rooms;
         owner = mine.owner;
@@ -369,7 +398,8 @@ module _ (m : ModuleValue) (ok : IsAccepted m) (w : World) (a : ℕ) (was : Acti
         below_known g (f ∷ fs) c (inl p) waiting = waiting.0.frame.known p.0 c p.1
         below_known g (f ∷ fs) c (inr p) waiting = below_known f fs c p waiting.1
 
-        slot : (s c : ℕ) → is_held (looks clocks a c) ≡ true → ((s ≡ d) × (c ≡ length w.clocks)) ⊎ Names was.frame.slots s c → IsHome m a was.governed more_scopes act.frame (opened_by m was.callers) s c
+        slot : (s c : ℕ) → is_held (looks clocks a c) ≡ true → ((s ≡ d) × (c ≡ length w.clocks)) ⊎ Names was.frame.slots s c
+            → IsHome m a was.governed more_scopes act.frame (opened_by m was.callers) s c
         slot s c held (inl p) = record {
           u = me.u;
           found = me.unit;
@@ -377,10 +407,12 @@ module _ (m : ModuleValue) (ok : IsAccepted m) (w : World) (a : ℕ) (was : Acti
           is = subst (λ z. Has (homes me.u z) (block_at me.u was.frame.place)) (sym p.0) (make_home me.u d was.frame.place here);
           round = subst (IsRound (block_at me.u was.frame.place)) (sym block) (round_same (block_at me.u was.frame.place));
           scope = ap (slice_get more_scopes) (p.1 ∙ sym scoped.width) ∙ get_push scoped.scopes (governing a was)
-              ∙ ap Some (governing_at a was ∙ ap (finish_at a was.governed) (mine.opened ∙ sum_by-cons (opened_in m) was.frame was.callers ∙ ap (λ n. n + opened_by m was.callers) (depth_here was.frame refl)));
+              ∙ ap Some (governing_at a was ∙ ap (finish_at a was.governed)
+              (mine.opened ∙ sum_by-cons (opened_in m) was.frame was.callers ∙ ap (λ n. n + opened_by m was.callers) (depth_here was.frame refl)));
         }
         slot s c held (inr named) = frame_home more_scopes (looks clocks a) act.frame (opened_by m was.callers) refl block s c
-            (home_kept m a was.governed scoped.scopes more_scopes was.frame (opened_by m was.callers) s c more_keep (mine.homes.0 s c named (old_held c (me.frame.known s c named) held)))
+            (home_kept m a was.governed scoped.scopes more_scopes was.frame (opened_by m was.callers) s c more_keep
+            (mine.homes.0 s c named (old_held c (me.frame.known s c named) held)))
 
     -- ---- units
 
@@ -394,27 +426,37 @@ module _ (m : ModuleValue) (ok : IsAccepted m) (w : World) (a : ℕ) (was : Acti
         let is : h.u ≡ me.u = same_Some h.u me.u (sym h.found ∙ me.unit) in
         let same : h.home ≡ block_at me.u was.frame.place = handed_home m me.u was.frame.place t args v at kept s x p o h.home (subst (λ y. Has (homes y x) h.home) is h.is) in
         let deep : length h.home + opened_by m was.callers ≡ was.opened =
-        ap (λ l. length l + opened_by m was.callers) same ∙ ap (λ n. n + opened_by m was.callers) (sym (depth_here was.frame refl)) ∙ sym (mine.opened ∙ sum_by-cons (opened_in m) was.frame was.callers) in
+        ap (λ l. length l + opened_by m was.callers) same ∙ ap (λ n. n + opened_by m was.callers) (sym (depth_here was.frame refl))
+        ∙ sym (mine.opened ∙ sum_by-cons (opened_in m) was.frame was.callers) in
         h.scope ∙ ap (λ n. Some (finish_at a was.governed n)) deep ∙ ap Some (sym (governing_at a was))
 
     -- nothing is handed on outside its home
-    none_away : (t : ℕ) (args : List ℕ) (i : Instr) → Here i → gives_away m me.u was.frame.place i ≡ list_any (λ x. is_elsewhere (block_at me.u was.frame.place) (homes me.u x)) (clock_arguments (params_of m t) args)
+    none_away : (t : ℕ) (args : List ℕ) (i : Instr) → Here i
+        → gives_away m me.u was.frame.place i ≡ list_any (λ x. is_elsewhere (block_at me.u was.frame.place) (homes me.u x)) (clock_arguments (params_of m t) args)
         → list_any (λ x. is_elsewhere (block_at me.u was.frame.place) (homes me.u x)) (clock_arguments (params_of m t) args) ≡ false
-    none_away t args i here is = sym is ∙ ap (instr_is (gives_away m me.u was.frame.place)) (sym here) ∙ unbroken m ok.shape rule.Registers was.frame.unit me.u me.unit was.frame.place
+    none_away t args i here is = sym is ∙ ap (instr_is (gives_away m me.u was.frame.place)) (sym here)
+        ∙ unbroken m ok.shape rule.Registers was.frame.unit me.u me.unit was.frame.place
 
     -- `call`, with values that are given
     called_scopes : (t : ℕ) (args : List ℕ) → Here (instr.Call t args) → (values : List Value)
-        → (r : IsRun is_method m was.frame.unit t args) → AreGiven (stands_on w.clocks a) was.frame.slots r.v.params args values → Scopes m (done w a (called m was t values) none event.Local)
+        → (r : IsRun is_method m was.frame.unit t args) → AreGiven (stands_on w.clocks a) was.frame.slots r.v.params args values
+        → Scopes m (done w a (called m was t values) none event.Local)
     called_scopes t args here values r given = done_scopes (called m was t values) none event.Local (λ k. refl) (record {
-      opened = (let none' : opened_in m (frame_with m t values) ≡ 0 = ap (λ o. option_map_or (λ u. depth_at u 0) o 0) r.found ∙ ap length (block_start r.v (unit_fits m ok.shape t r.v r.found).finishes) in
+      opened = (let none' : opened_in m (frame_with m t values) ≡ 0 = ap (λ o. option_map_or (λ u. depth_at u 0) o 0) r.found
+          ∙ ap length (block_start r.v (unit_fits m ok.shape t r.v r.found).finishes) in
           omega (arith, mine.opened, sum_by-cons (opened_in m) (frame_with m t values) (was.frame ∷ was.callers)));
-      rooms = ((let h = room_called m ok.shape was.frame.unit me.u me.unit was.frame.place t args here in let d = depth_here was.frame refl in omega (arith, mine.rooms.0, sum_by-cons (opened_in m) was.frame was.callers)), mine.rooms);
+      rooms = (
+        (let h = room_called m ok.shape was.frame.unit me.u me.unit was.frame.place t args here in let d = depth_here was.frame refl in
+            omega (arith, mine.rooms.0, sum_by-cons (opened_in m) was.frame was.callers)),
+        mine.rooms,
+      );
       owner = mine.owner;
       homes = ((λ s c named held. slot s c held (begins.names s c named)), mine.homes);
     })
       where
         begins : Begun m (stands_on w.clocks a) (looks w.clocks a) (length w.clocks) was.frame.slots t r.v args (frame_with m t values)
-        begins = frame_begun m sound.limits ok.shape (stands_on w.clocks a) (looks w.clocks a) (length w.clocks) me.u was.frame me.frame t r.v r.found args r.once values given (λ s k h. refl)
+        begins = frame_begun m sound.limits ok.shape (stands_on w.clocks a) (looks w.clocks a) (length w.clocks) me.u was.frame me.frame t r.v r.found args
+            r.once values given (λ s k h. refl)
 
         slot : (s c : ℕ) → is_held (looks w.clocks a c) ≡ true → (x : ℕ) × (slice_get r.v.params s ≡ Some param.Clock) × (slice_get args s ≡ Some x) × Names was.frame.slots x c
             → IsHome m a was.governed scoped.scopes (frame_with m t values) (opened_by m (was.frame ∷ was.callers)) s c
@@ -432,12 +474,14 @@ module _ (m : ModuleValue) (ok : IsAccepted m) (w : World) (a : ℕ) (was : Acti
     calling_scopes : (t : ℕ) (args : List ℕ) → Here (instr.Call t args) → Scopes m (carried_out m w a was (instr.Call t args))
     calling_scopes t args here =
         let r = call_fits m ok.shape was.frame.unit me.u me.unit t args was.frame.place here in
-        rw (r.found, r.fits) (arguments_scopes m w a was r.v.params args (λ values. done w a (called m was t values) none event.Local) (λ values given. called_scopes t args here values r given))
+        rw (r.found, r.fits) (arguments_scopes m w a was r.v.params args (λ values. done w a (called m was t values) none event.Local)
+        (λ values given. called_scopes t args here values r given))
 
     -- the end of a method
     back_scopes : Here instr.Ret → (f : Frame) (fs : List Frame) → was.callers ≡ f ∷ fs → Scopes m (done w a (back_in was f fs) none event.Local)
     back_scopes here f fs under = done_scopes (back_in was f fs) none event.Local (λ k. refl) (record {
-      opened = (let none' : opened_in m was.frame ≡ 0 = depth_here was.frame refl ∙ ap length (block_end me.u fit.finishes was.frame.place (fit.last was.frame.place here) instr.Ret here refl) in
+      opened = (let none' : opened_in m was.frame ≡ 0 = depth_here was.frame refl
+          ∙ ap length (block_end me.u fit.finishes was.frame.place (fit.last was.frame.place here) instr.Ret here refl) in
           let same : opened_in m f ≡ opened_in m (record f { place = f.place + 1 }) = depth f refl ∙ ap length (sym block) ∙ sym (depth (record f { place = f.place + 1 }) refl) in
           let below : opened_by m was.callers ≡ opened_in m f + opened_by m fs = ap (opened_by m) under ∙ sum_by-cons (opened_in m) f fs in
           omega (arith, mine.opened, sum_by-cons (opened_in m) was.frame was.callers, sum_by-cons (opened_in m) (record f { place = f.place + 1 }) fs));
@@ -458,7 +502,8 @@ module _ (m : ModuleValue) (ok : IsAccepted m) (w : World) (a : ℕ) (was : Acti
         lower : AreHome m a was.governed scoped.scopes (looks w.clocks a) (f ∷ fs)
         lower = subst (AreHome m a was.governed scoped.scopes (looks w.clocks a)) under mine.homes.1
 
-        slot : (s c : ℕ) → IsHome m a was.governed scoped.scopes f (opened_by m fs) s c → IsHome m a was.governed scoped.scopes (record f { place = f.place + 1 }) (opened_by m fs) s c
+        slot : (s c : ℕ) → IsHome m a was.governed scoped.scopes f (opened_by m fs) s c
+            → IsHome m a was.governed scoped.scopes (record f { place = f.place + 1 }) (opened_by m fs) s c
         slot s c h =
             let is : h.u ≡ top.u = same_Some h.u top.u (sym h.found ∙ top.found) in
             record {
@@ -466,7 +511,8 @@ module _ (m : ModuleValue) (ok : IsAccepted m) (w : World) (a : ℕ) (was : Acti
               found = h.found;
               home = h.home;
               is = h.is;
-              round = subst (λ v. IsRound h.home (block_at v (f.place + 1))) (sym is) (subst (IsRound h.home) (sym block) (subst (λ v. IsRound h.home (block_at v f.place)) is h.round));
+              round = subst (λ v. IsRound h.home (block_at v (f.place + 1))) (sym is)
+                  (subst (IsRound h.home) (sym block) (subst (λ v. IsRound h.home (block_at v f.place)) is h.round));
               scope = h.scope;
             }
 
@@ -513,9 +559,11 @@ module _ (m : ModuleValue) (ok : IsAccepted m) (w : World) (a : ℕ) (was : Acti
           (λ k. ap kind_by (sym (stands_on-joined_new a (length before) (is_given values) w.clocks k widths)))
 
       begins : Begun m (stands_on w.clocks a) (new_look (stands_on w.clocks a) values) (length w.clocks) was.frame.slots t r.v args (frame_with m t values)
-      begins = frame_begun m sound.limits ok.shape (stands_on w.clocks a) (new_look (stands_on w.clocks a) values) (length w.clocks) me.u was.frame me.frame t r.v r.found args r.once values given (look_given (stands_on w.clocks a) values)
+      begins = frame_begun m sound.limits ok.shape (stands_on w.clocks a) (new_look (stands_on w.clocks a) values) (length w.clocks) me.u was.frame
+          me.frame t r.v r.found args r.once values given (look_given (stands_on w.clocks a) values)
 
-      slot : (s c : ℕ) → is_held (new_look (stands_on w.clocks a) values c) ≡ true → (x : ℕ) × (slice_get r.v.params s ≡ Some param.Clock) × (slice_get args s ≡ Some x) × Names was.frame.slots x c
+      slot : (s c : ℕ) → is_held (new_look (stands_on w.clocks a) values c) ≡ true → (x : ℕ) × (slice_get r.v.params s ≡ Some param.Clock)
+          × (slice_get args s ≡ Some x) × Names was.frame.slots x c
           → IsHome m (length before) (governing a was) scoped.scopes (frame_with m t values) 0 s c
       slot s c held p = record {
         u = r.v;
@@ -528,7 +576,8 @@ module _ (m : ModuleValue) (ok : IsAccepted m) (w : World) (a : ℕ) (was : Acti
 
       new_scoped : IsScopedIn m scoped.scopes (new_look (stands_on w.clocks a) values) (length before) new
       new_scoped = record {
-        opened = (let none' : opened_in m (frame_with m t values) ≡ 0 = ap (λ o. option_map_or (λ u. depth_at u 0) o 0) r.found ∙ ap length (block_start r.v (unit_fits m ok.shape t r.v r.found).finishes) in
+        opened = (let none' : opened_in m (frame_with m t values) ≡ 0 = ap (λ o. option_map_or (λ u. depth_at u 0) o 0) r.found
+            ∙ ap length (block_start r.v (unit_fits m ok.shape t r.v r.found).finishes) in
             omega (arith, sum_by-cons (opened_in m) (frame_with m t values) []));
         rooms = (omega arith, tt);
         owner = λ o e. (let h = deep_owner was.opened o (ap (λ g. g.owner) (sym (governing_at a was)) ∙ e) in
@@ -541,13 +590,15 @@ module _ (m : ModuleValue) (ok : IsAccepted m) (w : World) (a : ℕ) (was : Acti
         scopes = scoped.scopes;
         width = scoped.width ∙ sym (length-joined a (is_given values) w.clocks) ∙ sym (length-map joined_clocks (settled_clock (w.steps + 1)));
         activities = each_push (λ b x. IsScopedIn m scoped.scopes (looks (map (settled_clock (w.steps + 1)) joined_clocks) b) b x) before new
-            (λ b x at. subst (λ look. IsScopedIn m scoped.scopes look b x) (old_looks b (slice_get_within before b x at) ∙ sym (settled_looks (w.steps + 1) joined_clocks b)) (old b x at))
+            (λ b x at. subst (λ look. IsScopedIn m scoped.scopes look b x)
+            (old_looks b (slice_get_within before b x at) ∙ sym (settled_looks (w.steps + 1) joined_clocks b)) (old b x at))
             (subst (λ look. IsScopedIn m scoped.scopes look (length before) new) (new_looks ∙ sym (settled_looks (w.steps + 1) joined_clocks (length before))) new_scoped);
       }
         where
           old : Each (λ b x. IsScopedIn m scoped.scopes (looks w.clocks b) b x) before
           old = each_set (λ b x. IsScopedIn m scoped.scopes (looks w.clocks b) b x) w.activities a was (onward was) found
-              (stays (onward was) (looks w.clocks a) refl refl refl refl (block_next me.u fit.finishes was.frame.place (instr.Spawn t args) here refl) (λ s c named. named) (λ c held. held))
+              (stays (onward was) (looks w.clocks a) refl refl refl refl (block_next me.u fit.finishes was.frame.place (instr.Spawn t args) here refl)
+              (λ s c named. named) (λ c held. held))
               (λ b x differs at. scoped.activities b x at)
 
     -- `spawn`
@@ -563,7 +614,8 @@ module _ (m : ModuleValue) (ok : IsAccepted m) (w : World) (a : ℕ) (was : Acti
     instruction_scopes (instr.Add d x y) here = computing_scopes (instr.Add d x y) here refl (int_wrapping_add w64) d x y
     instruction_scopes (instr.Sub d x y) here = computing_scopes (instr.Sub d x y) here refl (int_wrapping_sub w64) d x y
     instruction_scopes (instr.Mul d x y) here = computing_scopes (instr.Mul d x y) here refl (int_wrapping_mul w64) d x y
-    instruction_scopes (instr.Unless op x y t) here = number_scopes m w a (slot_at was x) _ (λ p e. number_scopes m w a (slot_at was y) _ (λ q g. unless_scopes (instr.Unless op x y t) here refl t refl (compares op p q)))
+    instruction_scopes (instr.Unless op x y t) here = number_scopes m w a (slot_at was x) _
+        (λ p e. number_scopes m w a (slot_at was y) _ (λ q g. unless_scopes (instr.Unless op x y t) here refl t refl (compares op p q)))
     instruction_scopes (instr.Jump t) here = goes_to (instr.Jump t) here refl t refl
     instruction_scopes (instr.For k lo hi e) here = writes_number event.Local (instr.For k lo hi e) here refl k lo
     instruction_scopes (instr.Next b) here = turning_scopes b here (instruction_at m (record was.frame { place = b }))
@@ -578,7 +630,8 @@ module _ (m : ModuleValue) (ok : IsAccepted m) (w : World) (a : ℕ) (was : Acti
     instruction_scopes (instr.Make d) here = put_scopes m w a (slot_at was d) was d (value.Clock (length w.clocks)) (λ next. made w a next) (λ old at. made_scopes d old here at)
     instruction_scopes (instr.Resume x) here = using_scopes (instr.Resume x) here refl x resumed event.Resumed refl resumed_held
     instruction_scopes (instr.Drop x) here = using_scopes (instr.Drop x) here refl x dropped event.Dropped refl (λ st h. absurd (false≢true h))
-    instruction_scopes instr.Advance here = keeps_to (arrived was) (all resumed) event.Arrived refl refl refl refl refl (λ s c named. named) (λ k. refl) (λ k st h. resumed_held st h)
+    instruction_scopes instr.Advance here = keeps_to (arrived was) (all resumed) event.Arrived refl refl refl refl refl (λ s c named. named) (λ k. refl)
+        (λ k st h. resumed_held st h)
     instruction_scopes (instr.Call t args) here = calling_scopes t args here
     instruction_scopes (instr.Spawn t args) here = spawning_scopes t args here
     instruction_scopes instr.Ret here = ret_scopes here was.callers refl
@@ -594,7 +647,8 @@ module _ (m : ModuleValue) (ok : IsAccepted m) (w : World) (a : ℕ) (was : Acti
     where
       cases : (b : Bool) → Scopes m (cond b Blocked (done w a (past was (w.steps + 1)) (all passed) event.Passed))
       cases true = tt
-      cases false = keeps_to (past was (w.steps + 1)) (all passed) event.Passed refl refl refl refl (block_next me.u fit.finishes was.frame.place instr.Advance (me.advance waiting) refl)
+      cases false = keeps_to (past was (w.steps + 1)) (all passed) event.Passed refl refl refl refl
+          (block_next me.u fit.finishes was.frame.place instr.Advance (me.advance waiting) refl)
           (λ s c named. named) (λ k. refl) (λ k st h. passed_held st h)
 
 -- every step of a sound world keeps its scopes

@@ -54,16 +54,19 @@ module _ (acts : List Activity) (owned : AreOwned acts) (f : Finish) where
   enough (suc n) zero b h g = absurd (omega arith)
   enough (suc n) (suc k) b h g = by (enough n k) (slice_get acts b) refl
     where
-      owner : ((c : ℕ) → c < n → c < k → under_within acts f n c ≡ under_within acts f k c) → (act : Activity) → slice_get acts b ≡ Some act → (o : Option ℕ) → act.governed.owner ≡ o → option_map_or (under_within acts f n) o false ≡ option_map_or (under_within acts f k) o false
+      owner : ((c : ℕ) → c < n → c < k → under_within acts f n c ≡ under_within acts f k c) → (act : Activity) → slice_get acts b ≡ Some act
+          → (o : Option ℕ) → act.governed.owner ≡ o → option_map_or (under_within acts f n) o false ≡ option_map_or (under_within acts f k) o false
       owner more act found None e = refl
       owner more act found (Some o) e = (let less = owned b act found o e in more o (omega arith) (omega arith))
 
-      by : ((c : ℕ) → c < n → c < k → under_within acts f n c ≡ under_within acts f k c) → (o : Option Activity) → slice_get acts b ≡ o → under_within acts f (suc n) b ≡ under_within acts f (suc k) b
+      by : ((c : ℕ) → c < n → c < k → under_within acts f n c ≡ under_within acts f k c) → (o : Option Activity) → slice_get acts b ≡ o
+          → under_within acts f (suc n) b ≡ under_within acts f (suc k) b
       by more None e = unfolded_none n b e ∙ sym (unfolded_none k b e)
       by more (Some act) e = unfolded n b act e ∙ ap (λ x. same_finish act.governed f || x) (owner more act e act.governed.owner refl) ∙ sym (unfolded k b act e)
 
   -- an activity is under the finish where that governs it, or where the owner of what governs it is
-  pub under_is : (b : ℕ) (act : Activity) → slice_get acts b ≡ Some act → is_under acts f b ≡ (same_finish act.governed f || option_map_or (is_under acts f) act.governed.owner false)
+  pub under_is : (b : ℕ) (act : Activity) → slice_get acts b ≡ Some act
+      → is_under acts f b ≡ (same_finish act.governed f || option_map_or (is_under acts f) act.governed.owner false)
   under_is b act found = enough (length acts) (suc b) b (slice_get_within acts b act found) (omega arith) ∙ unfolded b b act found
       ∙ ap (λ x. same_finish act.governed f || x) (owner act.governed.owner refl)
     where
@@ -72,17 +75,20 @@ module _ (acts : List Activity) (owned : AreOwned acts) (f : Finish) where
       owner (Some o) e = (let less = owned b act found o e in let inside = slice_get_within acts b act found in enough b (length acts) o less (omega arith))
 
   pub under_governed : (b : ℕ) (act : Activity) → slice_get acts b ≡ Some act → act.governed ≡ f → is_under acts f b ≡ true
-  under_governed b act found e = under_is b act found ∙ ap (λ x. x || option_map_or (is_under acts f) act.governed.owner false) (subst (λ g. same_finish g f ≡ true) (sym e) (finish_same f))
+  under_governed b act found e = under_is b act found
+      ∙ ap (λ x. x || option_map_or (is_under acts f) act.governed.owner false) (subst (λ g. same_finish g f ≡ true) (sym e) (finish_same f))
 
   pub under_owner : (b o : ℕ) (act : Activity) → slice_get acts b ≡ Some act → act.governed.owner ≡ Some o → is_under acts f o ≡ true → is_under acts f b ≡ true
-  under_owner b o act found e h = under_is b act found ∙ or_second (same_finish act.governed f) (option_map_or (is_under acts f) act.governed.owner false) (ap (λ x. option_map_or (is_under acts f) x false) e ∙ h)
+  under_owner b o act found e h = under_is b act found
+      ∙ or_second (same_finish act.governed f) (option_map_or (is_under acts f) act.governed.owner false) (ap (λ x. option_map_or (is_under acts f) x false) e ∙ h)
     where
       or_second : (p q : Bool) → q ≡ true → (p || q) ≡ true
       or_second true q h = refl
       or_second false q h = h
 
   -- where an activity is under the finish, one of the two is so
-  pub under_cases : (b : ℕ) (act : Activity) → slice_get acts b ≡ Some act → is_under acts f b ≡ true → (act.governed ≡ f) ⊎ ((o : ℕ) × (act.governed.owner ≡ Some o) × (is_under acts f o ≡ true))
+  pub under_cases : (b : ℕ) (act : Activity) → slice_get acts b ≡ Some act → is_under acts f b ≡ true → (act.governed ≡ f)
+      ⊎ ((o : ℕ) × (act.governed.owner ≡ Some o) × (is_under acts f o ≡ true))
   under_cases b act found h = elim (or_cases (same_finish act.governed f) (option_map_or (is_under acts f) act.governed.owner false) (sym (under_is b act found) ∙ h)) [
     | inl e ↦ inl (finish_is act.governed f e)
     | inr g ↦ inr (owner act.governed.owner refl g)

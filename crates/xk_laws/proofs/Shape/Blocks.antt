@@ -40,7 +40,8 @@ filter_one {X} t s (y ∷ ys) place x rise (inl e) off on before later = subst (
   where
     here : (z : X) → Has ys z → place x < place z
     here z h = subst (λ q. place q < place z) e (rise.0 z h)
-filter_one {X} t s (y ∷ ys) place x rise (inr h) off on before later = go (s y) (before y (inl refl) (rise.0 x h)) (filter_one t s ys place x rise.1 h off on (λ z g. before z (inr g)) (λ z g. later z (inr g)))
+filter_one {X} t s (y ∷ ys) place x rise (inr h) off on before later = go (s y) (before y (inl refl) (rise.0 x h))
+    (filter_one t s ys place x rise.1 h off on (λ z g. before z (inr g)) (λ z g. later z (inr g)))
   where
     go : (b : Bool) → t y ≡ b → filter s ys ≡ filter t ys ++ x ∷ [] → cond b (y ∷ filter s ys) (filter s ys) ≡ cond (t y) (y ∷ filter t ys) (filter t ys) ++ x ∷ []
     go true e r = rw e (ap (λ l. y ∷ l) r)
@@ -52,7 +53,8 @@ inside_same : (p : ℕ) (f : Span) → (f.last ≡ p → ⊥) → is_inside p f 
 inside_same p f h = grind (arith, nat_tests)
 
 -- of two spans that don't overlap and share no place, one has the beginning and the end of the other inside, or neither
-inside_both : (s f : Span) → overlaps s f ≡ false → s.first < s.last → f.first < f.last → (f.first ≡ s.first → ⊥) → (f.last ≡ s.last → ⊥) → (f.first ≡ s.last → ⊥) → (f.last ≡ s.first → ⊥)
+inside_both : (s f : Span) → overlaps s f ≡ false → s.first < s.last → f.first < f.last → (f.first ≡ s.first → ⊥) → (f.last ≡ s.last → ⊥)
+    → (f.first ≡ s.last → ⊥) → (f.last ≡ s.first → ⊥)
     → is_inside (s.first + 1) f ≡ is_inside s.last f
 inside_both s f h ahead order a b c d = grind (arith, nat_tests)
 
@@ -165,7 +167,8 @@ module _ (u : UnitValue) (a : AreFinishes u) where
   -- at the end of the code the block is the unit
   pub block_end : (p : ℕ) → length u.code ≤ p + 1 → (i : Instr) → slice_get u.code p ≡ Some i → is_border i ≡ false → block_at u p ≡ []
   block_end p end i here plain = ap (map (λ f. f.first)) (filter_none (is_inside p) (finishes u)
-      (λ f h. not_beyond p f (let inside = slice_get_within u.code f.last (instr.EndFinish f.first) (a.is f h).ends in let other = not_last p i here plain f h in below f.last p inside other end)))
+      (λ f h. not_beyond p f (let inside = slice_get_within u.code f.last (instr.EndFinish f.first) (a.is f h).ends in
+      let other = not_last p i here plain f h in below f.last p inside other end)))
     where
       below : (l q : ℕ) → l < length u.code → (l ≡ q → ⊥) → length u.code ≤ q + 1 → l < q
       below l q h g e = omega arith

@@ -46,7 +46,8 @@ module _ (u : UnitValue) (targets : (at : ℕ) → breaks_target u at ≡ false)
   opened_has b e here = begun_had (finish_opened u) 0 u.code b b (instr.Finish e) (finish_of b e) here (omega arith) (opened_is b e here)
 
   -- what an `endfinish` ends is a finish
-  finish_ends : (b e : ℕ) (i : Instr) (s : Span) → slice_get u.code e ≡ Some (instr.EndFinish b) → slice_get u.code b ≡ Some i → EndsSpan u targets blocks kinds b e i s → Has (finishes u) (finish_of b e)
+  finish_ends : (b e : ℕ) (i : Instr) (s : Span) → slice_get u.code e ≡ Some (instr.EndFinish b) → slice_get u.code b ≡ Some i
+      → EndsSpan u targets blocks kinds b e i s → Has (finishes u) (finish_of b e)
   finish_ends b e (instr.Finish x) s here f g = inner (is_end_of b (slice_get u.code x)) refl g
     where
       inner : (t : Bool) → is_end_of b (slice_get u.code x) ≡ t
@@ -60,7 +61,8 @@ module _ (u : UnitValue) (targets : (at : ℕ) → breaks_target u at ≡ false)
       other : Some (instr.EndFinish b) ≡ Some (instr.Next b) → ⊥
       other h = grind arith
 
-      inner : (o : Option Loop) → loop_begun u b (instr.For k lo hi x) ≡ o → option_and_then (λ l. if l.last == e then Some l else None) (option_map span_of o) ≡ Some s → Has (finishes u) (finish_of b e)
+      inner : (o : Option Loop) → loop_begun u b (instr.For k lo hi x) ≡ o
+          → option_and_then (λ l. if l.last == e then Some l else None) (option_map span_of o) ≡ Some s → Has (finishes u) (finish_of b e)
       inner None q r = absurd (none-some s r)
       inner (Some l) q r =
           let is = begins u b (instr.For k lo hi x) l q in

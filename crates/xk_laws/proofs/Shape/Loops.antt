@@ -68,11 +68,13 @@ in_order lo hi h = grind (arith, ints)
 module _ (u : UnitValue) (targets : (at : ℕ) → breaks_target u at ≡ false) (blocks : (at : ℕ) → breaks_block u at ≡ false) (kinds : (at : ℕ) → breaks_loop u at ≡ false) where
   forward : (at : ℕ) (i : Instr) → slice_get u.code at ≡ Some i → is_backward i ≡ false
   forward at i here = ap (instr_is is_backward) (sym here)
-      ∙ (or_parts (instr_is is_backward (slice_get u.code at)) (instr_is (λ x. list_any (λ l. is_within at l && writes_slot l.slot x) (loops u)) (slice_get u.code at)) (kinds at)).0
+      ∙ (or_parts (instr_is is_backward (slice_get u.code at))
+      (instr_is (λ x. list_any (λ l. is_within at l && writes_slot l.slot x) (loops u)) (slice_get u.code at)) (kinds at)).0
 
   unwriting : (at : ℕ) (i : Instr) → slice_get u.code at ≡ Some i → list_any (λ l. is_within at l && writes_slot l.slot i) (loops u) ≡ false
   unwriting at i here = ap (instr_is (λ x. list_any (λ l. is_within at l && writes_slot l.slot x) (loops u))) (sym here)
-      ∙ (or_parts (instr_is is_backward (slice_get u.code at)) (instr_is (λ x. list_any (λ l. is_within at l && writes_slot l.slot x) (loops u)) (slice_get u.code at)) (kinds at)).1
+      ∙ (or_parts (instr_is is_backward (slice_get u.code at))
+      (instr_is (λ x. list_any (λ l. is_within at l && writes_slot l.slot x) (loops u)) (slice_get u.code at)) (kinds at)).1
 
   -- each `for` begins a loop
   begun_at : (b k e : ℕ) (lo hi : ℤ) → slice_get u.code b ≡ Some (instr.For k lo hi e)
@@ -101,7 +103,8 @@ module _ (u : UnitValue) (targets : (at : ℕ) → breaks_target u at ≡ false)
   next_ends : (b e : ℕ) (i : Instr) (s : Span) → slice_get u.code e ≡ Some (instr.Next b) → slice_get u.code b ≡ Some i → EndsSpan b e i s → IsEnd u b e
   next_ends b e (instr.For k lo hi x) s here f g = inner (loop_begun u b (instr.For k lo hi x)) refl g
     where
-      inner : (o : Option Loop) → loop_begun u b (instr.For k lo hi x) ≡ o → option_and_then (λ l. if l.last == e then Some l else None) (option_map span_of o) ≡ Some s → IsEnd u b e
+      inner : (o : Option Loop) → loop_begun u b (instr.For k lo hi x) ≡ o
+          → option_and_then (λ l. if l.last == e then Some l else None) (option_map span_of o) ≡ Some s → IsEnd u b e
       inner None q r = absurd (none-some s r)
       inner (Some l) q r =
           let is = begins u b (instr.For k lo hi x) l q in

@@ -78,7 +78,8 @@ unit_fits m shape unit u found = record {
 }
   where
     handled : (i : Instr) (at : ℕ) → slice_get u.code at ≡ Some i → mishandles u i ≡ false
-    handled i at here = (or_parts (mishandles u i) (moves_home u at i) (ap (instr_is (λ j. mishandles u j || moves_home u at j)) (sym here) ∙ unbroken m shape rule.Home unit u found at)).0
+    handled i at here = (or_parts (mishandles u i) (moves_home u at i)
+        (ap (instr_is (λ j. mishandles u j || moves_home u at j)) (sym here) ∙ unbroken m shape rule.Home unit u found at)).0
 
     slots_ok : (at : ℕ) → breaks_in m rule.Slot unit u at ≡ false
     slots_ok at = unbroken m shape rule.Slot unit u found at

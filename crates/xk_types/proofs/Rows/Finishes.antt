@@ -67,7 +67,8 @@ through_waits = (refl, refl)
 
 -- ---- no finish is open
 
-closes_nothing : way (run (module_with (main_with 0 (instr.EndFinish 0 ∷ instr.Ret ∷ []) ∷ [])) (0 ∷ []) (opening (module_with (main_with 0 (instr.EndFinish 0 ∷ instr.Ret ∷ []) ∷ [])))) ≡ Fails 0
+closes_nothing : way (run (module_with (main_with 0 (instr.EndFinish 0 ∷ instr.Ret ∷ []) ∷ [])) (0 ∷ [])
+    (opening (module_with (main_with 0 (instr.EndFinish 0 ∷ instr.Ret ∷ []) ∷ [])))) ≡ Fails 0
 closes_nothing = refl
 
 -- ---- a clock that is made outside is handed on inside: the child would wait for main, and main for the child

@@ -27,7 +27,8 @@ ended_after (Wronged w c) = None
 -- n is 2; 1 is printed where n is 1, and else 0
 abbrev branch_row : ModuleValue
 branch_row = main_only 2
-    (instr.Lit 0 (pos 2) ∷ instr.Lit 1 (pos 1) ∷ instr.Unless comparison.Eq 0 1 6 ∷ instr.Lit 1 (pos 1) ∷ instr.Print 1 ∷ instr.Jump 8 ∷ instr.Lit 1 (pos 0) ∷ instr.Print 1 ∷ instr.Ret ∷ [])
+    (instr.Lit 0 (pos 2) ∷ instr.Lit 1 (pos 1) ∷ instr.Unless comparison.Eq 0 1 6 ∷ instr.Lit 1 (pos 1) ∷ instr.Print 1 ∷ instr.Jump 8 ∷ instr.Lit 1
+    (pos 0) ∷ instr.Print 1 ∷ instr.Ret ∷ [])
 
 branch_bound : steps_bound branch_row ≡ 9
 unfolding Rattle.xk_types.specs.Bound.total_within
@@ -60,7 +61,17 @@ dropped_refused = record {
   slot = omega arith;
   visited = (
     visit 0 kind.Unset ∷ visit 1 kind.Live ∷ visit 2 kind.Live ∷ visit 3 kind.Live ∷ visit 4 kind.Live ∷ visit 5 kind.Out ∷ [],
-    (refl, inl refl, (record { place = inl refl; kind = inl refl }, (record { place = inl refl; kind = inl refl }, (record { place = inl refl; kind = inl refl }, (record { place = inl refl; kind = inl refl }, (record { place = inl refl; kind = inl refl }, tt)))))),
+    (
+      refl,
+      inl refl,
+      (
+        record { place = inl refl; kind = inl refl },
+        (
+          record { place = inl refl; kind = inl refl },
+          (record { place = inl refl; kind = inl refl }, (record { place = inl refl; kind = inl refl }, (record { place = inl refl; kind = inl refl }, tt))),
+        ),
+      ),
+    ),
     refl,
   );
   refused = refl;
@@ -80,7 +91,14 @@ drops_refused = record {
   slot = omega arith;
   visited = (
     visit 0 kind.Unset ∷ visit 1 kind.Live ∷ visit 2 kind.Live ∷ visit 3 kind.Out ∷ visit 2 kind.Out ∷ [],
-    (refl, inl refl, (record { place = inl refl; kind = inl refl }, (record { place = inl refl; kind = inl refl }, (record { place = inl refl; kind = inl refl }, (record { place = inr (inl refl); kind = inl refl }, tt))))),
+    (
+      refl,
+      inl refl,
+      (
+        record { place = inl refl; kind = inl refl },
+        (record { place = inl refl; kind = inl refl }, (record { place = inl refl; kind = inl refl }, (record { place = inr (inl refl); kind = inl refl }, tt))),
+      ),
+    ),
     refl,
   );
   refused = refl;
@@ -116,12 +134,14 @@ unfolding Rattle.xk_types.specs.Bound.total_within
 widest_bound = refl
 
 -- clocks made in two loops, one in the other
-clocks_in_loops : clocks_bound (main_only 3 (instr.For 0 (pos 1) (pos 1000) 5 ∷ instr.For 1 (pos 1) (pos 100) 4 ∷ instr.Make 2 ∷ instr.Drop 2 ∷ instr.Next 1 ∷ instr.Next 0 ∷ instr.Ret ∷ [])) ≡ 100000
+clocks_in_loops : clocks_bound (main_only 3
+    (instr.For 0 (pos 1) (pos 1000) 5 ∷ instr.For 1 (pos 1) (pos 100) 4 ∷ instr.Make 2 ∷ instr.Drop 2 ∷ instr.Next 1 ∷ instr.Next 0 ∷ instr.Ret ∷ [])) ≡ 100000
 unfolding Rattle.xk_types.specs.Bound.total_within
 clocks_in_loops = refl
 
 -- what is wrong at a `next` outside of its loop, or without one
-next_of_nothing : cause_of (run (main_only 1 (instr.Lit 0 (pos 1) ∷ instr.Next 0 ∷ instr.Ret ∷ [])) (replicate 2 0) (opening (main_only 1 (instr.Lit 0 (pos 1) ∷ instr.Next 0 ∷ instr.Ret ∷ [])))) ≡ Some OutOfRange
+next_of_nothing : cause_of (run (main_only 1 (instr.Lit 0 (pos 1) ∷ instr.Next 0 ∷ instr.Ret ∷ [])) (replicate 2 0)
+    (opening (main_only 1 (instr.Lit 0 (pos 1) ∷ instr.Next 0 ∷ instr.Ret ∷ [])))) ≡ Some OutOfRange
 next_of_nothing = refl
 
 next_unset : cause_of (run (main_only 1 (instr.Jump 2 ∷ instr.For 0 (pos 1) (pos 2) 2 ∷ instr.Next 1 ∷ instr.Ret ∷ [])) (replicate 2 0)

@@ -95,7 +95,8 @@ calls_amiss : (breaks (module_with (main_with 0 (instr.Call 0 [] ∷ instr.Ret �
 calls_amiss = (refl, refl, refl, refl, refl, refl)
 
 -- a call of what is no method is wrong
-call_of_main : cause_of (run (module_with (main_with 0 (instr.Call 0 [] ∷ instr.Ret ∷ []) ∷ [])) (0 ∷ []) (opening (module_with (main_with 0 (instr.Call 0 [] ∷ instr.Ret ∷ []) ∷ [])))) ≡ Some OutOfRange
+call_of_main : cause_of (run (module_with (main_with 0 (instr.Call 0 [] ∷ instr.Ret ∷ []) ∷ [])) (0 ∷ [])
+    (opening (module_with (main_with 0 (instr.Call 0 [] ∷ instr.Ret ∷ []) ∷ [])))) ≡ Some OutOfRange
 call_of_main = refl
 
 -- ---- frames

@@ -57,7 +57,8 @@ drop_row = main_only 1 (instr.Drop 0 ∷ instr.Ret ∷ [])
 drop_wrong : run drop_row (0 ∷ []) (opening drop_row) ≡ Wronged (opening drop_row) Missing
 drop_wrong = refl
 
-drop_refused : row drop_row (record { kind = unit_kind.Main; params = []; slots = 1; code = instr.Drop 0 ∷ instr.Ret ∷ [] }) 0 (record { at = 0; kind = kind.Unset }) ≡ Refused rule.Use
+drop_refused : row drop_row (record { kind = unit_kind.Main; params = []; slots = 1; code = instr.Drop 0 ∷ instr.Ret ∷ [] }) 0
+    (record { at = 0; kind = kind.Unset }) ≡ Refused rule.Use
 drop_refused = refl
 
 -- a clock is dropped twice: ClockUseException
@@ -68,7 +69,8 @@ twice_wrong : cause_of (run twice_row (0 ∷ 0 ∷ 0 ∷ []) (opening twice_row)
 twice_wrong = refl
 
 -- a clock is overwritten while main is registered on it
-leak_refused : row drop_row (record { kind = unit_kind.Main; params = []; slots = 1; code = instr.Make 0 ∷ instr.Lit 0 (pos 1) ∷ instr.Ret ∷ [] }) 0 (record { at = 1; kind = kind.Live }) ≡ Refused rule.Leak
+leak_refused : row drop_row (record { kind = unit_kind.Main; params = []; slots = 1; code = instr.Make 0 ∷ instr.Lit 0 (pos 1) ∷ instr.Ret ∷ [] }) 0
+    (record { at = 1; kind = kind.Live }) ≡ Refused rule.Leak
 leak_refused = refl
 
 -- a slot that the unit doesn't have

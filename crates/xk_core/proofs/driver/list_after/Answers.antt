@@ -12,7 +12,7 @@ returns-in-Some-clause-list c before core stepped is =
     c.list_one.ensures.list
     ∙ ap (with_member c.in-Some.other (can c.in-Some.other)) (own ∙ ap (with_member c.args.act (can c.args.act)) is)
     ∙ listed_two c.args.core.now.module_run before w c.args.act c.in-Some.other c.args.event
-    (record { core = core; stepped = stepped; quiet = sym c.is_quiet.ensures ∙ c.if-not-is_quiet.false }) (sym c.touched.ensures ∙ c.in-Some.is)
+    (record { core = core; stepped = stepped; quiet = sym c.is_quiet.ensures ∙ c.if-not-is_quiet.false }) (sym c.other_to_list.ensures ∙ c.in-Some.is)
 
 pub returns-in_default-clause-list : goal.returns-in_default-clause-list
 returns-in_default-clause-list c before core stepped is =

@@ -11,11 +11,14 @@ pub loop-at-preserved : goal.loop-at-preserved
 loop-at-preserved c =
     let before = c.loop-at.invariant in
     let stepped : step c.args.start.module_run c.loop-at.core.world (get_or c.args.schedule.now c.loop-at.at 0) ≡ Stepped c.step.new.self.world c.in-Ok-step.event =
-    subst (λ m. step m c.loop-at.core.world (get_or c.args.schedule.now c.loop-at.at 0) ≡ Stepped c.step.new.self.world c.in-Ok-step.event) before.0 c.in-Ok-step.ensures.stepped in (
+    subst (λ m. step m c.loop-at.core.world (get_or c.args.schedule.now c.loop-at.at 0) ≡ Stepped c.step.new.self.world c.in-Ok-step.event) before.0
+    c.in-Ok-step.ensures.stepped in (
       c.in-Ok-step.ensures.same_module ∙ before.0,
-      leads_more c.args.start.module_run c.args.schedule.now c.args.start.world c.loop-at.core.world c.step.new.self.world c.loop-at.at 0 c.in-Ok-step.event (omega arith) before.1 stepped,
+      leads_more c.args.start.module_run c.args.schedule.now c.args.start.world c.loop-at.core.world c.step.new.self.world c.loop-at.at 0 c.in-Ok-step.event
+          (omega arith) before.1 stepped,
       c.note.ensures.items ∙ ap (λ l. l ++ shown c.in-Ok-step.event) before.2
-          ∙ sym (shows_more c.args.start.module_run c.args.schedule.now c.args.start.world c.loop-at.core.world c.step.new.self.world c.loop-at.at 0 c.in-Ok-step.event (omega arith) before.1 stepped),
+          ∙ sym (shows_more c.args.start.module_run c.args.schedule.now c.args.start.world c.loop-at.core.world c.step.new.self.world c.loop-at.at 0
+          c.in-Ok-step.event (omega arith) before.1 stepped),
       omega (arith, before.3, c.note.ensures.room),
       omega (arith, before.4, c.note.ensures.length),
     )

@@ -9,23 +9,32 @@ use Rattle.xk_core.proofs.driver.Driver.turn.Goals as goal
 pub returns-then-is_empty-clause-taken : goal.returns-then-is_empty-clause-taken
 returns-then-is_empty-clause-taken g c = (
   subst (λ (v : CoreValue). all_ended v.world ≡ true) c.self.view_is
-      (sym (over_is c.self.inside.core.module_run c.self.inside.core.world c.self.inside.enabled.items c.self.inside.enabled.len c.self.invariant.core c.self.invariant.list_is c.self.inside.enabled.ok.0) ∙ sym c.is_empty.ensures ∙ c.if-is_empty.true),
+      (sym (over_is c.self.inside.core.module_run c.self.inside.core.world c.self.inside.enabled.items c.self.inside.enabled.len
+      c.self.invariant.core c.self.invariant.list_is c.self.inside.enabled.ok.0) ∙ sym c.is_empty.ensures ∙ c.if-is_empty.true),
   refl,
   refl,
 )
 
 pub choose-answer-requires-clause-rising : goal.choose-answer-requires-clause-rising
-choose-answer-requires-clause-rising g c = subst IsRising (sym (c.deref.ensures.value ∙ c.self.invariant.list_is)) (listed_rises c.self.inside.core.module_run c.self.inside.core.world)
+choose-answer-requires-clause-rising g c = subst IsRising (sym (c.deref.ensures.value ∙ c.self.invariant.list_is))
+    (listed_rises c.self.inside.core.module_run c.self.inside.core.world)
 
 pub choose-answer-requires-clause-numbers : goal.choose-answer-requires-clause-numbers
 choose-answer-requires-clause-numbers g c =
-    omega (arith, ap length (c.deref.ensures.value ∙ c.self.invariant.list_is), listed_few c.self.inside.core.module_run c.self.inside.core.world, core_names c.self.inside.core.module_run c.self.inside.core.world c.self.invariant.core)
+    omega (
+      arith,
+      ap length (c.deref.ensures.value ∙ c.self.invariant.list_is),
+      listed_few c.self.inside.core.module_run c.self.inside.core.world,
+      core_names c.self.inside.core.module_run c.self.inside.core.world c.self.invariant.core,
+    )
 
 pub step-requires : goal.step-requires
 step-requires g c = subst (λ (v : CoreValue). IsTrue (is_enabled v.module_run v.world c.index.result.now)) c.self.view_is
     (listed_enabled c.self.inside.core.module_run c.self.inside.core.world _ c.index.result.now
-    (chosen_at g.C.Chooser.answer c.self.inside.core.module_run c.self.inside.core.world c.args.chooser.now c.self.inside.enabled.items c.deref.result.now c.len.result c.choose-answer.result c.place_in.result c.index.result.now
-    c.self.invariant.list_is c.deref.ensures.value (c.len.ensures ∙ c.self.inside.enabled.ok.0) (ap (λ n. n == 0) c.len.ensures ∙ sym c.is_empty.ensures ∙ c.if-is_empty.false) c.choose-answer.ensures.answers c.place_in.ensures.place c.index.ensures))
+    (chosen_at g.C.Chooser.answer c.self.inside.core.module_run c.self.inside.core.world c.args.chooser.now c.self.inside.enabled.items
+    c.deref.result.now c.len.result c.choose-answer.result c.place_in.result c.index.result.now
+    c.self.invariant.list_is c.deref.ensures.value (c.len.ensures ∙ c.self.inside.enabled.ok.0)
+    (ap (λ n. n == 0) c.len.ensures ∙ sym c.is_empty.ensures ∙ c.if-is_empty.false) c.choose-answer.ensures.answers c.place_in.ensures.place c.index.ensures))
 
 pub returns-in_err-event-clause-refused : goal.returns-in_err-event-clause-refused
 returns-in_err-event-clause-refused g c =

@@ -14,6 +14,7 @@ invariant_of-self-in-Some g c =
     let log = c.note.ensures.log ∙ ap (λ l. l ++ one_step_of c.in-Some.turn.act ∷ []) c.try_reserve.ensures.items in
     let numbers = c.note.ensures.printed ∙ ap (λ l. l ++ option_to_list (number_printed c.in-Some.turn.event)) c.try_reserve-2.ensures.items in
     rw (log, numbers) (record {
-      run = run_goes_on g.C.Chooser.answer g.C.Chooser.after old.driver.module_run c.turn.new.self.module_run old.log.items old.printed.items old.driver c.turn.new.self c.args.chooser.now c.turn.new.chooser
+      run = run_goes_on g.C.Chooser.answer g.C.Chooser.after old.driver.module_run c.turn.new.self.module_run old.log.items old.printed.items
+          old.driver c.turn.new.self c.args.chooser.now c.turn.new.chooser
           c.in-Some.turn.act c.in-Some.turn.event old.run turn turn.same_module;
     })

@@ -1,15 +1,21 @@
 use Rattle.std.proofs.Common.{◌≡◌, length, ◌∙◌, sym, subst, arith}
 use Rattle.xk_core.specs.Core.{CoreValue, IsCore}
-use Rattle.xk_core.specs.Told.{told}
+use Rattle.xk_core.specs.Told.{with_finishes}
 use Rattle.xk_core.proofs.Cores.{core_names}
 use Rattle.xk_core.proofs.Told.{length_told}
 use Rattle.xk_core.proofs.machine.Core.activities.Goals as goal
 
 pub overflow_cast-result : goal.overflow_cast-result
-overflow_cast-result c = omega (arith, core_names c.self.inside.verified.now (told c.self.inside.finishes c.self.inside.state) c.self.invariant.0, c.activity_count.ensures, length_told c.self.inside.finishes c.self.inside.state.activities c.self.invariant.1.width)
+overflow_cast-result c = omega (
+  arith,
+  core_names c.self.inside.verified.now (with_finishes c.self.inside.finishes c.self.inside.state) c.self.invariant.0,
+  c.activity_count.ensures,
+  length_told c.self.inside.finishes c.self.inside.state.activities c.self.invariant.1.width,
+)
 
 pub returns-clause-count : goal.returns-clause-count
-returns-clause-count c = subst (λ (v : CoreValue). c.activity_count.result ≡ length v.world.activities) c.self.view_is (c.activity_count.ensures ∙ sym (length_told c.self.inside.finishes c.self.inside.state.activities c.self.invariant.1.width))
+returns-clause-count c = subst (λ (v : CoreValue). c.activity_count.result ≡ length v.world.activities) c.self.view_is
+    (c.activity_count.ensures ∙ sym (length_told c.self.inside.finishes c.self.inside.state.activities c.self.invariant.1.width))
 
 pub returns-clause-core : goal.returns-clause-core
 returns-clause-core c = subst (λ (v : CoreValue). IsCore v.module_run v.world) c.self.view_is c.self.invariant.0

@@ -1,7 +1,7 @@
 use Rattle.std.proofs.Common.{arith}
-use Rattle.xk_core.specs.Told.{told}
+use Rattle.xk_core.specs.Told.{with_finishes}
 use Rattle.xk_core.proofs.Cores.{core_clocks}
 use Rattle.xk_core.proofs.machine.Core.clocks.Goals as goal
 
 pub overflow_cast-result : goal.overflow_cast-result
-overflow_cast-result c = omega (arith, core_clocks c.self.inside.verified.now (told c.self.inside.finishes c.self.inside.state) c.self.invariant.0, c.clock_count.ensures)
+overflow_cast-result c = omega (arith, core_clocks c.self.inside.verified.now (with_finishes c.self.inside.finishes c.self.inside.state) c.self.invariant.0, c.clock_count.ensures)

@@ -2,18 +2,27 @@ use Rattle.std.proofs.Common.{◌≡◌, true, false, not, ◌&&◌, ◌∙◌, 
 use Rattle.xk_types.specs.Schedule.{is_enabled}
 use Rattle.xk_core.specs.Able.{is_able, is_kept}
 use Rattle.xk_core.specs.Core.{CoreValue}
-use Rattle.xk_core.specs.Told.{told}
+use Rattle.xk_core.specs.Told.{with_finishes}
 use Rattle.xk_core.proofs.Finishing.{held, parts_able}
 use Rattle.xk_core.proofs.machine.Core.enabled.Goals as goal
 
 pub returns-then-is_able : goal.returns-then-is_able
 returns-then-is_able c =
-    let able : is_able c.self.inside.state c.args.act ≡ true = sym (c.is_able.ensures ∙ ap (λ n. is_able c.self.inside.state n) c.act.view_is) ∙ c.if-is_able.true in
+    let m = c.self.inside.verified.now in
+    let ns = c.self.inside.finishes in
+    let w = c.self.inside.state in
+    let h = held m ns w c.self.invariant in
+    let able : is_able w c.args.act ≡ true = sym (c.is_able.ensures ∙ ap (λ n. is_able w n) c.act.view_is) ∙ c.if-is_able.true in
     subst (λ (v : CoreValue). not c.is_kept.result ≡ is_enabled v.module_run v.world c.args.act) c.self.view_is
-    (ap not (c.is_kept.ensures ∙ ap (λ (v : CoreValue). is_kept v.module_run v.world c.args.act) (sym c.self.view_is)) ∙ ap (λ b. b && not (is_kept c.self.inside.verified.now (told c.self.inside.finishes c.self.inside.state) c.args.act)) (sym able) ∙ parts_able c.self.inside.verified.now c.self.inside.finishes c.self.inside.state c.args.act (held c.self.inside.verified.now c.self.inside.finishes c.self.inside.state c.self.invariant))
+    (ap not (c.is_kept.ensures ∙ ap (λ (v : CoreValue). is_kept v.module_run v.world c.args.act) (sym c.self.view_is))
+    ∙ ap (λ b. b && not (is_kept m (with_finishes ns w) c.args.act)) (sym able) ∙ parts_able m ns w c.args.act h)
 
 pub returns-else-is_able : goal.returns-else-is_able
 returns-else-is_able c =
-    let able : is_able c.self.inside.state c.args.act ≡ false = sym (c.is_able.ensures ∙ ap (λ n. is_able c.self.inside.state n) c.act.view_is) ∙ c.if-is_able.false in
+    let m = c.self.inside.verified.now in
+    let ns = c.self.inside.finishes in
+    let w = c.self.inside.state in
+    let h = held m ns w c.self.invariant in
+    let able : is_able w c.args.act ≡ false = sym (c.is_able.ensures ∙ ap (λ n. is_able w n) c.act.view_is) ∙ c.if-is_able.false in
     subst (λ (v : CoreValue). c.is_able.result ≡ is_enabled v.module_run v.world c.args.act) c.self.view_is
-    (c.if-is_able.false ∙ ap (λ b. b && not (is_kept c.self.inside.verified.now (told c.self.inside.finishes c.self.inside.state) c.args.act)) (sym able) ∙ parts_able c.self.inside.verified.now c.self.inside.finishes c.self.inside.state c.args.act (held c.self.inside.verified.now c.self.inside.finishes c.self.inside.state c.self.invariant))
+    (c.if-is_able.false ∙ ap (λ b. b && not (is_kept m (with_finishes ns w) c.args.act)) (sym able) ∙ parts_able m ns w c.args.act h)

@@ -4,28 +4,45 @@ use Rattle.xk_types.specs.declared.instr.Instr.TheVariants as instruction
 use Rattle.xk_finishes.specs.Tree.{awaits_innermost}
 use Rattle.xk_core.specs.Able.{is_kept}
 use Rattle.xk_core.specs.Core.{CoreValue, next_instruction}
-use Rattle.xk_core.specs.Told.{told}
+use Rattle.xk_core.specs.Told.{with_finishes}
 use Rattle.xk_core.proofs.Finishing.{held, runs, exists, close_open, kept_told}
 use Rattle.xk_core.proofs.Finishing.{twice}
 use Rattle.xk_core.proofs.machine.Core.is_kept.Goals as goal
 
 pub empty-requires-clause-exists : goal.empty-requires-clause-exists
 empty-requires-clause-exists c =
-    let next : next_instruction c.self.inside.verified.now (told c.self.inside.finishes c.self.inside.state) c.args.act ≡ Some (instruction.EndFinish c.in-Some-EndFinish.field-0-0) =
+    let m = c.self.inside.verified.now in
+    let ns = c.self.inside.finishes in
+    let w = c.self.inside.state in
+    let h = held m ns w c.self.invariant in
+    let next : next_instruction m (with_finishes ns w) c.args.act ≡ Some (instruction.EndFinish c.in-Some-EndFinish.field-0-0) =
     subst (λ (v : CoreValue). next_instruction v.module_run v.world c.args.act ≡ Some (instruction.EndFinish c.in-Some-EndFinish.field-0-0)) (sym c.self.view_is)
-    (ap (next_instruction c.args.self.now.module_run c.args.self.now.world) (sym c.act.view_is) ∙ sym c.next_instruction.ensures ∙ ap option_copied c.in-Some-EndFinish.is ∙ ap (λ i. Some i) c.in-Some-EndFinish.field-0-is) in
-    (exists c.self.inside.verified.now c.self.inside.finishes c.self.inside.state c.args.act (held c.self.inside.verified.now c.self.inside.finishes c.self.inside.state c.self.invariant) (instruction.EndFinish c.in-Some-EndFinish.field-0-0) (runs c.self.inside.verified.now c.self.inside.finishes c.self.inside.state c.args.act (held c.self.inside.verified.now c.self.inside.finishes c.self.inside.state c.self.invariant) (instruction.EndFinish c.in-Some-EndFinish.field-0-0) next)).0
+    (ap (next_instruction c.args.self.now.module_run c.args.self.now.world) (sym c.act.view_is) ∙ sym c.next_instruction.ensures
+    ∙ ap option_copied c.in-Some-EndFinish.is ∙ ap (λ i. Some i) c.in-Some-EndFinish.field-0-is) in
+    (exists m ns w c.args.act h (instruction.EndFinish c.in-Some-EndFinish.field-0-0) (runs m ns w c.args.act h (instruction.EndFinish c.in-Some-EndFinish.field-0-0) next)).0
 
 pub empty-requires-clause-opened : goal.empty-requires-clause-opened
 empty-requires-clause-opened c =
-    let next : next_instruction c.self.inside.verified.now (told c.self.inside.finishes c.self.inside.state) c.args.act ≡ Some (instruction.EndFinish c.in-Some-EndFinish.field-0-0) =
+    let m = c.self.inside.verified.now in
+    let ns = c.self.inside.finishes in
+    let w = c.self.inside.state in
+    let h = held m ns w c.self.invariant in
+    let next : next_instruction m (with_finishes ns w) c.args.act ≡ Some (instruction.EndFinish c.in-Some-EndFinish.field-0-0) =
     subst (λ (v : CoreValue). next_instruction v.module_run v.world c.args.act ≡ Some (instruction.EndFinish c.in-Some-EndFinish.field-0-0)) (sym c.self.view_is)
-    (ap (next_instruction c.args.self.now.module_run c.args.self.now.world) (sym c.act.view_is) ∙ sym c.next_instruction.ensures ∙ ap option_copied c.in-Some-EndFinish.is ∙ ap (λ i. Some i) c.in-Some-EndFinish.field-0-is) in
-    close_open c.self.inside.verified.now c.self.inside.finishes c.self.inside.state c.args.act (held c.self.inside.verified.now c.self.inside.finishes c.self.inside.state c.self.invariant) c.in-Some-EndFinish.field-0-0 (runs c.self.inside.verified.now c.self.inside.finishes c.self.inside.state c.args.act (held c.self.inside.verified.now c.self.inside.finishes c.self.inside.state c.self.invariant) (instruction.EndFinish c.in-Some-EndFinish.field-0-0) next)
+    (ap (next_instruction c.args.self.now.module_run c.args.self.now.world) (sym c.act.view_is) ∙ sym c.next_instruction.ensures
+    ∙ ap option_copied c.in-Some-EndFinish.is ∙ ap (λ i. Some i) c.in-Some-EndFinish.field-0-is) in
+    close_open m ns w c.args.act h c.in-Some-EndFinish.field-0-0 (runs m ns w c.args.act h (instruction.EndFinish c.in-Some-EndFinish.field-0-0) next)
 
 pub returns-in-Some-EndFinish : goal.returns-in-Some-EndFinish
 returns-in-Some-EndFinish c =
-    let next : next_instruction c.self.inside.verified.now (told c.self.inside.finishes c.self.inside.state) c.args.act ≡ Some (instruction.EndFinish c.in-Some-EndFinish.field-0-0) =
+    let m = c.self.inside.verified.now in
+    let ns = c.self.inside.finishes in
+    let w = c.self.inside.state in
+    let h = held m ns w c.self.invariant in
+    let next : next_instruction m (with_finishes ns w) c.args.act ≡ Some (instruction.EndFinish c.in-Some-EndFinish.field-0-0) =
     subst (λ (v : CoreValue). next_instruction v.module_run v.world c.args.act ≡ Some (instruction.EndFinish c.in-Some-EndFinish.field-0-0)) (sym c.self.view_is)
-    (ap (next_instruction c.args.self.now.module_run c.args.self.now.world) (sym c.act.view_is) ∙ sym c.next_instruction.ensures ∙ ap option_copied c.in-Some-EndFinish.is ∙ ap (λ i. Some i) c.in-Some-EndFinish.field-0-is) in
-    rw c.empty.ensures.waits (subst (λ (v : CoreValue). not (not (awaits_innermost c.self.inside.finishes c.args.act)) ≡ is_kept v.module_run v.world c.args.act) c.self.view_is (twice (awaits_innermost c.self.inside.finishes c.args.act) ∙ sym (kept_told c.self.inside.verified.now c.self.inside.finishes c.self.inside.state c.args.act (held c.self.inside.verified.now c.self.inside.finishes c.self.inside.state c.self.invariant) c.in-Some-EndFinish.field-0-0 next (runs c.self.inside.verified.now c.self.inside.finishes c.self.inside.state c.args.act (held c.self.inside.verified.now c.self.inside.finishes c.self.inside.state c.self.invariant) (instruction.EndFinish c.in-Some-EndFinish.field-0-0) next))))
+    (ap (next_instruction c.args.self.now.module_run c.args.self.now.world) (sym c.act.view_is) ∙ sym c.next_instruction.ensures
+    ∙ ap option_copied c.in-Some-EndFinish.is ∙ ap (λ i. Some i) c.in-Some-EndFinish.field-0-is) in
+    rw c.empty.ensures.waits (subst (λ (v : CoreValue). not (not (awaits_innermost ns c.args.act)) ≡ is_kept v.module_run v.world c.args.act)
+    c.self.view_is (twice (awaits_innermost ns c.args.act)
+    ∙ sym (kept_told m ns w c.args.act h c.in-Some-EndFinish.field-0-0 next (runs m ns w c.args.act h (instruction.EndFinish c.in-Some-EndFinish.field-0-0) next))))

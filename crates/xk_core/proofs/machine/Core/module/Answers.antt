@@ -1,10 +1,10 @@
 use Rattle.std.proofs.Common.{◌≡◌, subst}
 use Rattle.xk_types.specs.World.{opening}
 use Rattle.xk_core.specs.Core.{CoreValue}
-use Rattle.xk_core.specs.Told.{told}
+use Rattle.xk_core.specs.Told.{with_finishes}
 use Rattle.xk_core.proofs.Cores.{core_fresh}
 use Rattle.xk_core.proofs.machine.Core.module.Goals as goal
 
 pub returns-clause-opening : goal.returns-clause-opening
 returns-clause-opening c = subst (λ (v : CoreValue). v.world.steps ≡ 0 → v.world ≡ opening v.module_run) c.self.view_is
-    (core_fresh c.self.inside.verified.now (told c.self.inside.finishes c.self.inside.state) c.self.invariant.0)
+    (core_fresh c.self.inside.verified.now (with_finishes c.self.inside.finishes c.self.inside.state) c.self.invariant.0)

@@ -1,15 +1,28 @@
 use Rattle.std.proofs.Common.{◌≡◌, true, false, sym, subst, arith}
 use Rattle.xk_types.specs.Schedule.{is_enabled, all_ended}
 use Rattle.xk_core.specs.Core.{CoreValue}
-use Rattle.xk_core.specs.Told.{told}
+use Rattle.xk_core.specs.Told.{with_finishes}
 use Rattle.xk_core.proofs.Cores.{core_names, core_ends}
 use Rattle.xk_core.proofs.Told.{length_told}
 use Rattle.xk_core.proofs.machine.Core.pick.Goals as goal
 
 pub overflow_cast-act : goal.overflow_cast-act
-overflow_cast-act c = omega (arith, core_names c.self.inside.verified.now (told c.self.inside.finishes c.self.inside.state) c.self.invariant.0, c.activity_count-a-end.ensures, length_told c.self.inside.finishes c.self.inside.state.activities c.self.invariant.1.width, c.loop-a-test.true)
+overflow_cast-act c = omega (
+  arith,
+  core_names c.self.inside.verified.now (with_finishes c.self.inside.finishes c.self.inside.state) c.self.invariant.0,
+  c.activity_count-a-end.ensures,
+  length_told c.self.inside.finishes c.self.inside.state.activities c.self.invariant.1.width,
+  c.loop-a-test.true,
+)
 
 pub returns-clause-none : goal.returns-clause-none
-returns-clause-none c = subst (λ (v : CoreValue). all_ended v.world ≡ true) c.self.view_is (core_ends c.self.inside.verified.now (told c.self.inside.finishes c.self.inside.state) c.self.invariant.0
+returns-clause-none c = subst (λ (v : CoreValue). all_ended v.world ≡ true) c.self.view_is
+    (core_ends c.self.inside.verified.now (with_finishes c.self.inside.finishes c.self.inside.state) c.self.invariant.0
     (λ b lt. subst (λ (v : CoreValue). is_enabled v.module_run v.world b ≡ false) (sym c.self.view_is)
-    (c.loop-a.invariant b (omega (arith, lt, c.activity_count-a-end.ensures, length_told c.self.inside.finishes c.self.inside.state.activities c.self.invariant.1.width, c.loop-a-test.false)))))
+    (c.loop-a.invariant b (omega (
+      arith,
+      lt,
+      c.activity_count-a-end.ensures,
+      length_told c.self.inside.finishes c.self.inside.state.activities c.self.invariant.1.width,
+      c.loop-a-test.false,
+    )))))

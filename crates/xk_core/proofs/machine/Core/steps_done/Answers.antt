@@ -2,16 +2,16 @@ use Rattle.std.proofs.Common.{◌≡◌, ◌≤◌, subst, sym, ◌∙◌}
 use Rattle.xk_types.specs.World.{opening}
 use Rattle.xk_types.specs.Bound.{steps_bound}
 use Rattle.xk_core.specs.Core.{CoreValue}
-use Rattle.xk_core.specs.Told.{told}
+use Rattle.xk_core.specs.Told.{with_finishes}
 use Rattle.xk_core.proofs.Cores.{core_bound, core_fresh}
 use Rattle.xk_core.proofs.machine.Core.steps_done.Goals as goal
 
 pub returns-clause-bound : goal.returns-clause-bound
 returns-clause-bound c = rw c.steps.ensures
     (subst (λ (v : CoreValue). c.self.inside.state.steps ≤ steps_bound v.module_run) c.self.view_is
-    (core_bound c.self.inside.verified.now (told c.self.inside.finishes c.self.inside.state) c.self.invariant.0))
+    (core_bound c.self.inside.verified.now (with_finishes c.self.inside.finishes c.self.inside.state) c.self.invariant.0))
 
 pub returns-clause-opening : goal.returns-clause-opening
 returns-clause-opening c none =
     subst (λ (v : CoreValue). v.world ≡ opening v.module_run) c.self.view_is
-    (core_fresh c.self.inside.verified.now (told c.self.inside.finishes c.self.inside.state) c.self.invariant.0 (sym c.steps.ensures ∙ none))
+    (core_fresh c.self.inside.verified.now (with_finishes c.self.inside.finishes c.self.inside.state) c.self.invariant.0 (sym c.steps.ensures ∙ none))

@@ -27,7 +27,8 @@ call-requires-clause-fits c =
 pub end_step-requires-clause-standings : goal.end_step-requires-clause-standings
 end_step-requires-clause-standings c =
     subst (λ (w : World). All (λ k. c.args.a < length k.standings) w.clocks) (sym c.self.view_is)
-    (stands_there c.args.self.now c.args.a c.requires.room (carried_within c.args.program.now c.args.self.now c.args.a (instruction.Call c.args.unit c.args.args.now) c.requires.enabled))
+    (stands_there c.args.self.now c.args.a c.requires.room
+    (carried_within c.args.program.now c.args.self.now c.args.a (instruction.Call c.args.unit c.args.args.now) c.requires.enabled))
 
 pub returns-clause-called : goal.returns-clause-called
 returns-clause-called c =
@@ -37,5 +38,6 @@ returns-clause-called c =
     (subst (λ l. c.index-units-unit.result ≡ get_or l c.args.unit c.index-units-unit.result) c.units.ensures.listed c.index-units-unit.is) c.index_mut-act.ensures.value
     (subst (λ (v : World). is_step (carried c.args.program.now v c.args.a (instruction.Call c.args.unit c.args.args.now)) ≡ true) (sym c.self.view_is) c.requires.enabled)
     ∙ ap (λ next. done w c.args.a next none event.Local)
-    (sym (c.in_ok-call.ensures.called ∙ ap (λ u. called_with c.index_mut-act.result.now c.args.unit (given_slots c.index_mut-act.result.now c.args.args.now u.slots)) c.method.view_is))
+    (sym (c.in_ok-call.ensures.called ∙ ap (λ u. called_with c.index_mut-act.result.now c.args.unit
+    (given_slots c.index_mut-act.result.now c.args.args.now u.slots)) c.method.view_is))
     ∙ ap (λ v. Stepped v event.Local) (sym c.end_step.ensures))

@@ -26,7 +26,8 @@ carry_out-change-requires-clause-short c =
 
 pub carry_out-change-requires-clause-operands : goal.carry_out-change-requires-clause-operands
 carry_out-change-requires-clause-operands c =
-    operands_there c.args.program.now c.args.self.now c.args.a c.args.instr.now c.index_mut-act.result.now c.index-units-unit.result c.requires.enabled c.requires.single c.requires.plain c.requires.own
+    operands_there c.args.program.now c.args.self.now c.args.a c.args.instr.now c.index_mut-act.result.now c.index-units-unit.result
+    c.requires.enabled c.requires.single c.requires.plain c.requires.own
     (subst (λ (w : World). c.index_mut-act.result.now ≡ get_or w.activities c.args.a c.index_mut-act.result.now) c.self.view_is c.index_mut-act.ensures.value)
     (unit_read c.args.program.now c.args.self.now c.args.a c.index_mut-act.result.now c.index-units-unit.result c.units.result.now c.unit.result c.requires.unit
     (actor_there c.args.program.now c.args.self.now c.args.a c.args.instr.now c.index_mut-act.result.now c.requires.enabled
@@ -46,13 +47,15 @@ end_step-requires-clause-standings c =
 pub returns : goal.returns
 returns c =
     let w : World = record { activities = c.self.inside.activities.items; clocks = c.self.inside.clocks.items; cells = c.self.inside.cells.items; steps = c.self.inside.steps } in
-    let enabled : is_step (carried c.args.program.now w c.args.a c.args.instr.now) ≡ true = subst (λ (v : World). is_step (carried c.args.program.now v c.args.a c.args.instr.now) ≡ true) (sym c.self.view_is) c.requires.enabled in
+    let enabled : is_step (carried c.args.program.now w c.args.a c.args.instr.now) ≡ true = subst
+    (λ (v : World). is_step (carried c.args.program.now v c.args.a c.args.instr.now) ≡ true) (sym c.self.view_is) c.requires.enabled in
     let found =
     (unit_read c.args.program.now c.args.self.now c.args.a c.index_mut-act.result.now c.index-units-unit.result c.units.result.now c.unit.result c.requires.unit
     (actor_there c.args.program.now c.args.self.now c.args.a c.args.instr.now c.index_mut-act.result.now c.requires.enabled
     (subst (λ (w : World). c.index_mut-act.result.now ≡ get_or w.activities c.args.a c.index_mut-act.result.now) c.self.view_is c.index_mut-act.ensures.value))
     c.units.ensures.listed c.unit.ensures c.index-units-unit.is).0 in
     subst (λ (v : World). carried c.args.program.now v c.args.a c.args.instr.now ≡ Stepped c.end_step.new.self c.carry_out-change.result.1) c.self.view_is
-    (arm_done c.args.program.now w c.args.a c.args.instr.now c.index_mut-act.result.now c.carry_out-change.new.self c.index-units-unit.result c.carry_out-change.result.0 c.carry_out-change.result.1
+    (arm_done c.args.program.now w c.args.a c.args.instr.now c.index_mut-act.result.now c.carry_out-change.new.self c.index-units-unit.result
+    c.carry_out-change.result.0 c.carry_out-change.result.1
     enabled c.index_mut-act.ensures.value found c.carry_out-change.ensures
     ∙ ap (λ v. Stepped v c.carry_out-change.result.1) (sym c.end_step.ensures))

@@ -30,7 +30,8 @@ pub returns-then-is_err-clause-refused : goal.returns-then-is_err-clause-refused
 returns-then-is_err-clause-refused c =
     let given = is_given c.slots.result.now in
     let joins : c.join_all.new.clocks.items ≡ joined c.args.a given c.self.inside.clocks.items = c.in_ok-join_all.ensures.joined in
-    let size : length c.self.inside.clocks.items ≡ c.len-n.result = omega (arith, c.len-n.ensures, ap length joins, length-joined c.args.a given c.self.inside.clocks.items, c.join_all.new.clocks.ok) in
+    let size : length c.self.inside.clocks.items ≡ c.len-n.result = omega
+    (arith, c.len-n.ensures, ap length joins, length-joined c.args.a given c.self.inside.clocks.items, c.join_all.new.clocks.ok) in
     let clocks : c.leave_first.new.clocks.items ≡ c.self.inside.clocks.items = c.leave_first.ensures c.args.a given c.self.inside.clocks.items
     (joins ∙ sym (joined_whole c.args.a given c.self.inside.clocks.items) ∙ ap (λ n. joined_first n c.args.a given c.self.inside.clocks.items) size) in
     ap (λ acts. record { activities = acts; clocks = c.leave_first.new.clocks.items; cells = c.self.inside.cells.items; steps = c.self.inside.steps }) c.try_reserve.ensures.items
@@ -74,5 +75,6 @@ returns-clause-started c =
     (carried_within c.args.program.now c.args.self.now c.args.a (instruction.Spawn c.args.unit c.args.args.now) c.requires.enabled))
     (subst (λ l. c.index_mut-act.result.now ≡ get_or l c.args.a c.index_mut-act.result.now) c.try_reserve.ensures.items c.index_mut-act.ensures.value)
     c.index-starter.ensures))
-    (c.in_ok-child.ensures c.args.a ∙ ap (λ u. started c.args.a c.index-starter.result.now c.args.unit (given_slots c.index-starter.result.now c.args.args.now u.slots)) c.body.view_is)
+    (c.in_ok-child.ensures c.args.a ∙ ap (λ u. started c.args.a c.index-starter.result.now c.args.unit
+    (given_slots c.index-starter.result.now c.args.args.now u.slots)) c.body.view_is)
     (c.in_ok-join_all.ensures.joined ∙ ap (λ l. joined c.args.a (is_given l) c.self.inside.clocks.items) c.slots.ensures)))))

@@ -9,7 +9,8 @@ rest_of : (xs : List ℕ) (at : ℕ) → take (length xs - at) (drop at xs) ≡ 
 rest_of xs at = rw (← length-drop at xs) (take-length (drop at xs))
 
 -- the n bytes that were copied, and the rest behind them, are what was there
-taken_and_left : (xs : List ℕ) (at n : ℕ) (copied after : List ℕ) → copied ≡ take n (drop at xs) → n ≤ length (drop at xs) → drop at xs ≡ take n (copied ++ after) ++ drop (at + n) xs
+taken_and_left : (xs : List ℕ) (at n : ℕ) (copied after : List ℕ) → copied ≡ take n (drop at xs) → n ≤ length (drop at xs)
+    → drop at xs ≡ take n (copied ++ after) ++ drop (at + n) xs
 taken_and_left xs at n copied after e h =
     grind (arith, common_steps, take-append-le, length-take-le n (drop at xs), take-append-drop n (drop at xs), drop-drop n at xs)
 
