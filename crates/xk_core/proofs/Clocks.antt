@@ -6,6 +6,7 @@ use Rattle.xk_types.specs.declared.names.Standing.{Standing}
 use Rattle.xk_types.specs.declared.names.Standing.TheVariants as standing
 use Rattle.xk_types.specs.World.{Clock, standing_of}
 use Rattle.xk_types.specs.Step.{moved, moved_on, joined, joined_on}
+use Rattle.xk_laws.proofs.Clocks.Standings.{length-moved, length-joined}
 use Rattle.xk_core.specs.Joining.{left_by_last, joined_first}
 
 -- one clock more of those that are changed in order
@@ -26,10 +27,6 @@ pub phase-moved : (a : ℕ) (f : ℕ → Standing → Standing) (cs : List Clock
 phase-moved a f [] k d = refl
 phase-moved a f (c ∷ cs) zero d = refl
 phase-moved a f (c ∷ cs) (suc k) d = phase-moved a (λ j. f (suc j)) cs k d
-
-pub length-moved : (a : ℕ) (f : ℕ → Standing → Standing) (cs : List Clock) → length (moved a f cs) ≡ length cs
-length-moved a f [] = refl
-length-moved a f (c ∷ cs) = ap suc (length-moved a (λ j. f (suc j)) cs)
 
 -- phases that fit still do
 pub phases-moved : (n a : ℕ) (f : ℕ → Standing → Standing) (cs : List Clock) → All (λ c. c.phase + 1 < n) cs → All (λ c. c.phase + 1 < n) (moved a f cs)
@@ -54,10 +51,6 @@ joined_over_next a g xs ys i x lt h is = rw add-one (joined_over_more a g xs ys 
 pub joined_whole : (a : ℕ) (g : ℕ → Bool) (cs : List Clock) → joined_first (length cs) a g cs ≡ joined a g cs
 joined_whole a g [] = refl
 joined_whole a g (c ∷ cs) = ap (λ l. joined_on a (g 0) c ∷ l) (joined_whole a (λ k. g (suc k)) cs)
-
-pub length-joined : (a : ℕ) (g : ℕ → Bool) (cs : List Clock) → length (joined a g cs) ≡ length cs
-length-joined a g [] = refl
-length-joined a g (c ∷ cs) = ap suc (length-joined a (λ j. g (suc j)) cs)
 
 -- the first n clocks without the activity of the greatest number
 abbrev pub left_first : ℕ → List Clock → List Clock

@@ -9,8 +9,8 @@ use Rattle.xk_types.specs.Code.{ModuleValue}
 use Rattle.xk_types.specs.World.{World}
 use Rattle.xk_types.specs.Step.{Stepped, step}
 use Rattle.xk_types.specs.Schedule.{Through, run, events, is_local, seen, number_printed, printed}
-use Rattle.xk_laws.proofs.Reached.{first_step}
-use Rattle.xk_core.proofs.Runs.{same_world, events_more}
+use Rattle.xk_laws.proofs.Reached.{same_through, first_step}
+use Rattle.xk_core.proofs.Runs.{events_more}
 use Rattle.xk_core.specs.Choosing.{enabled_in, Names, Follows, goes_on, state_after, state_on}
 
 -- ---- choosers
@@ -20,7 +20,7 @@ pub follows_more : {S : Type 0} (answer : S → List ℕ → ℕ) (after : S →
     → run m list w ≡ Through v → Follows answer after m s w list → Names answer m (state_after after m s w list) v a → step m v a ≡ Stepped x e
     → Follows answer after m s w (list ++ a ∷ [])
 follows_more answer after m [] s w v x a e h f n g =
-    let same = sym (same_world w v h) in
+    let same = sym (same_through w v h) in
     (subst (λ z. Names answer m s z a) same n, subst (λ o. goes_on o (λ z. Unit {0})) (sym (ap (λ z. step m z a) (sym same) ∙ g)) tt)
 follows_more answer after m (b ∷ list) s w v x a e h f n g =
     let t = first_step w v (step m w b) (run m list) h in
@@ -34,7 +34,7 @@ pub state_more : {S : Type 0} (after : S → List ℕ → S) (m : ModuleValue) (
     → run m list w ≡ Through v → step m v a ≡ Stepped x e
     → state_after after m s w (list ++ a ∷ []) ≡ after (state_after after m s w list) (enabled_in m v)
 state_more after m [] s w v x a e h g =
-    let same = same_world w v h in
+    let same = same_through w v h in
     ap (λ o. state_on o s (λ z. after s (enabled_in m w))) (ap (λ z. step m z a) same ∙ g) ∙ ap (λ z. after s (enabled_in m z)) same
 state_more after m (b ∷ list) s w v x a e h g =
     let t = first_step w v (step m w b) (run m list) h in

@@ -8,15 +8,12 @@ use Rattle.xk_types.specs.Code.{ModuleValue}
 use Rattle.xk_types.specs.World.{World}
 use Rattle.xk_types.specs.Step.{Stepped, step}
 use Rattle.xk_types.specs.Schedule.{Through, run, is_local, events, events_on, seen}
-use Rattle.xk_laws.proofs.Reached.{first_step, run_more}
+use Rattle.xk_laws.proofs.Reached.{same_through, first_step, run_more}
 use Rattle.xk_core.specs.Schedules.{shown, events_seen, LeadsPart}
-
-pub same_world : (w v : World) → Through w ≡ Through v → w ≡ v
-same_world w v e = cc
 
 pub events_more : (m : ModuleValue) (list : List ℕ) (w v x : World) (a : ℕ) (e : Event) → run m list w ≡ Through v → step m v a ≡ Stepped x e
     → events m (list ++ a ∷ []) w ≡ events m list w ++ (a, e) ∷ []
-events_more m [] w v x a e h g = ap (λ o. events_on a o (events m [])) (ap (λ z. step m z a) (same_world w v h) ∙ g)
+events_more m [] w v x a e h g = ap (λ o. events_on a o (events m [])) (ap (λ z. step m z a) (same_through w v h) ∙ g)
 events_more m (b ∷ list) w v x a e h g =
     let f = first_step w v (step m w b) (run m list) h in
     ap (λ o. events_on b o (events m (list ++ a ∷ []))) f.2

@@ -9,7 +9,7 @@ use Rattle.xk_types.specs.Step.{Outcome, Blocked, Wrong, Stepped, step, onward, 
 use Rattle.xk_types.specs.Schedule.{Through, run}
 use Rattle.xk_laws.proofs.Invariant.{IsActivitySound, IsSound, looks}
 use Rattle.xk_types.proofs.Lists.{Each, each_set, each_push, get-set_same, get-set_other, get_once, get-append_left}
-use Rattle.xk_laws.proofs.Reached.{first_step, opening_reached, reached_sound, reached_scoped}
+use Rattle.xk_laws.proofs.Reached.{same_through, first_step, opening_reached, reached_sound, reached_scoped}
 use Rattle.xk_laws.proofs.NeverWrong.Steps.{closed_at_end}
 use Rattle.xk_laws.proofs.Scopes.Invariant.{IsScoped, finish_at, governing_at}
 use Rattle.xk_laws.proofs.Scopes.Under.{AreOwned, under_governed, IsAwaited}
@@ -166,10 +166,6 @@ module _ (m : ModuleValue) (w : World) (core : IsCore m w) (each : AreOpen w.act
         open_push (slice_set w.activities a (onward act)) (child m a act t values) more
         (λ going. child_open m (slice_set w.activities a (onward act)) a act (onward act) (get-set_same w.activities a act (onward act) found) alive refl refl more));
   })
-
--- two courses that come through come to one world
-same_through : (w v : World) → Through w ≡ Through v → w ≡ v
-same_through w v e = cc
 
 -- and each run
 run_open : (m : ModuleValue) (list : List ℕ) (w v : World) → IsCore m w → AreOpen w.activities → run m list w ≡ Through v → AreOpen v.activities

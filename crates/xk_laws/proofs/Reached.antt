@@ -19,7 +19,7 @@ use Rattle.xk_laws.proofs.Scopes.Steps.{step_scopes}
 -- ---- runs
 
 -- two courses that come through come to one world
-same_through : (w v : World) → Through w ≡ Through v → w ≡ v
+pub same_through : (w v : World) → Through w ≡ Through v → w ≡ v
 same_through w v e = cc
 
 -- a run that comes through took its first step

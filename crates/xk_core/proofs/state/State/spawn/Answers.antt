@@ -7,7 +7,8 @@ use Rattle.xk_types.specs.Schedule.{is_step}
 use Rattle.xk_core.specs.Arm.{carried}
 use Rattle.xk_core.specs.Joining.{given_slots, started}
 use Rattle.xk_core.specs.Joining.{joined_first}
-use Rattle.xk_core.proofs.Clocks.{phases-joined, joined_whole, length-joined}
+use Rattle.xk_laws.proofs.Clocks.Standings.{length-joined}
+use Rattle.xk_core.proofs.Clocks.{phases-joined, joined_whole}
 use Rattle.xk_core.proofs.Arms.{spawn_there, spawn_done, spawn_fits, carried_within, read_at, same_read, started_parts}
 use Rattle.xk_core.proofs.state.State.spawn.Goals as goal
 
