@@ -14,3 +14,4 @@ mod worst;
 
 pub use known::{Kind, Known, Want};
 pub use program::check_names;
+pub use table::Table;

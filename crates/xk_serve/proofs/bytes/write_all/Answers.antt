@@ -11,16 +11,12 @@ appends_then (Some s) None c xs ys h k = absurd h
 appends_then (Some s) (Some t) None xs ys h k = k
 appends_then (Some s) (Some t) (Some u) xs ys h k = k ∙ ap (λ z. z ++ ys) h ∙ append_assoc s xs ys
 
--- all that follows a place is the list without what is before it
-rest_of : (xs : List ℕ) (at : ℕ) → take (length xs - at) (drop at xs) ≡ drop at xs
-rest_of xs at = rw (← length-drop at xs) (take-length (drop at xs))
-
 pub loop-written-preserved : goal.loop-written-preserved
 loop-written-preserved g c =
     let text = c.args.text.now in
     let before = c.loop-written.written in
     let n = c.in_ok-written.field-0 in
-    let rest = rest_of text before in
+    let rest : take (length text - before) (drop before text) ≡ drop before text = rw (← length-drop before text) (take-length (drop before text)) in
     let bound : n ≤ length text - before = simp length-drop at (rw rest at c.in_ok-written.ensures.bound) in
     let new = rw rest at c.in_ok-written.ensures.bytes in
     record {

@@ -1,0 +1,4 @@
+pub mod Collecting
+pub mod Listed
+pub mod Graph
+mod Rows
