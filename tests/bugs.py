@@ -29,6 +29,7 @@ refused by its own function, or passes as said.
 import argparse
 import os
 import re
+import signal
 import subprocess
 import sys
 import time
@@ -169,12 +170,19 @@ class Crate:
 
     def check(self, bugs):
         texts = self.planted(bugs)
+        call = ["rt", "check", "--jobs", "1"]
         try:
             self.write(texts)
-            ran = subprocess.run(["rt", "check", "--jobs", "1"], cwd=self.path, capture_output=True, text=True, errors="replace", check=False)
+            with subprocess.Popen(
+                call, cwd=self.path, stdout=subprocess.PIPE, stderr=subprocess.STDOUT, text=True, errors="replace", start_new_session=True
+            ) as running:
+                try:
+                    return running.communicate()[0]
+                except BaseException:  # Whatever ends this run ends the check and what it started.
+                    os.killpg(running.pid, signal.SIGTERM)
+                    raise
         finally:
             self.write({file: self.text(file) for file in texts})
-        return ran.stdout + ran.stderr
 
 
 # What the prover says where a goal isn't proved, and where a name that a proof file cites is gone.
@@ -291,6 +299,7 @@ def main():
     p.add_argument("crate")
     p.add_argument("bugs", nargs="*")
     a = p.parse_args()
+    signal.signal(signal.SIGTERM, lambda *_: sys.exit(1))
     crate = Crate(a.top, a.crate)
     bugs = read_bugs(os.path.join(a.top, "tests", "bugs", a.crate + ".bugs"))
     bugs = [b for b in bugs if not a.bugs or b.name in a.bugs]
