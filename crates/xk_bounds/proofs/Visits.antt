@@ -1,12 +1,10 @@
 -- How often an instruction is carried out at most, from one place of a unit to the next: what is carried along the code is right.
 use Rattle.std.proofs.Common.{◌≡◌, ℕ, ℤ, zero, suc, ◌+◌, ◌*◌, ◌<◌, ◌≤◌, eqb, min, cond, nat_lt, nat_le, Bool, true, false, not, ◌&&◌, List, [], ◌∷◌, ◌++◌, length, map, filter, Option, Some, None, slice_get, slice_index, inl, inr, sym, refl, ap, ◌∙◌, subst, arith}
-use Rattle.std.specs.Bool.{Decides}
 use Rattle.std.specs.List.{list_any}
 use Rattle.std.specs.Option.{option_map_or}
 use Rattle.std.proofs.Math.Nat.{mul_comm, mul_left_comm}
 use Rattle.std.proofs.lemmas.Option.{same_Some, cond_some, option_and_then_some}
-use Rattle.std.proofs.lemmas.Bool.{and_parts, or_parts, not-false, ltb-true, leb-true, le-leb, le-ltb, eqb-true, both_ways, false_from_ne_true, cases_order}
-use Rattle.std.proofs.lemmas.Bool.Decides.{same_from_decides, Decides-and, Decides-like, Decides-ltb}
+use Rattle.std.proofs.lemmas.Bool.{and_parts, or_parts, not-false, ltb-true, le-ltb, eqb-true, both_ways, false_from_ne_true, cases_order}
 use Rattle.xk_types.specs.declared.instr.Instr.{Instr}
 use Rattle.xk_types.specs.declared.instr.Instr.TheVariants as instr
 use Rattle.xk_types.specs.Order.{Has}
@@ -17,8 +15,9 @@ use Rattle.xk_types.specs.Bound.{product, visits}
 use Rattle.xk_shape.specs.Blocks.{IsOrderly}
 use Rattle.xk_bounds.specs.Measure.{loop_between, visits_next}
 use Rattle.xk_bounds.proofs.Cuts.{cut_left}
-use Rattle.xk_types.proofs.Shape.Spans.{next_is, not_amiss, of_loop}
-use Rattle.xk_shape.proofs.Nested.{no_rise}
+use Rattle.xk_types.proofs.Shape.Loops.{IsLoop, begins, is_loop}
+use Rattle.xk_types.proofs.Shape.Spans.{not_amiss, of_loop}
+use Rattle.xk_shape.proofs.Nested.{no_rise, decides_inside, inside_same, inside_next}
 
 -- ---- products
 
@@ -50,16 +49,11 @@ none_any f (k ∷ ls) fs h l (inr has) = none_any f ls fs (or_parts (f (span_of 
 
 -- ---- the loops of a unit
 
--- its `for` and its `next` stand where it says
-record IsLoop (u : UnitValue) (l : Loop) : Type 0 where
-  begins : slice_get u.code l.first ≡ Some (instr.For l.slot l.lo l.hi l.last)
-  ends : slice_get u.code l.last ≡ Some (instr.Next l.first)
-
 begun_is : (u : UnitValue) (first : ℕ) (i : Instr) (l : Loop) → slice_get u.code first ≡ Some i → loop_begun u first i ≡ Some l → (l.first ≡ first) × IsLoop u l
-begun_is u first (instr.For k lo hi e) l here h =
-    let both = cond_some (is_next_of first (slice_get u.code e)) (record { first = first; last = e; slot = k; lo = lo; hi = hi }) l h in
-    subst (λ (x : Loop). (x.first ≡ first) × IsLoop u x) both.1 (refl, record { begins = here; ends = next_is first (slice_get u.code e) both.0 })
-begun_is u first _ l here h = cc
+begun_is u first i l here h =
+    let b = begins u first i l h in
+    let ends : slice_get u.code l.last ≡ Some (instr.Next l.first) = b.next ∙ ap (λ n. Some (instr.Next n)) (sym b.first) in
+    (b.first, record { begins = ap (slice_get u.code) b.first ∙ here ∙ ap Some b.is; ends = ends })
 
 -- the list is the unit's code from a place on
 abbrev IsFrom : UnitValue → ℕ → List Instr → Type 0
@@ -86,22 +80,6 @@ module _ (u : UnitValue) where
   member_from n (i ∷ is) from l has =
       member_here n i (begun_from (loop_begun u) (suc n) is) l (loop_begun u n i) (from_here n i is from) refl (member_from (suc n) is (from_next n i is from) l) has
 
-  member_is : (l : Loop) → Has (loops u) l → IsLoop u l
-  member_is l has = (member_from 0 u.code (λ j. let e : j ≡ 0 + j = omega arith in ap (slice_get u.code) e) l has).1
-
-  -- ---- places round which loops lie
-
-  decides_round : (at : ℕ) (l : Loop) → Decides (is_round at l) ((l.first < at) × (at ≤ l.last))
-  decides_round at l = Decides-and (nat_lt l.first at) (nat_le at l.last) (Decides-ltb l.first at) (leb-true at l.last, le-leb at l.last)
-
-  round_same : (a b : ℕ) (l : Loop) → ((l.first < a) × (a ≤ l.last) → (l.first < b) × (b ≤ l.last)) → ((l.first < b) × (b ≤ l.last) → (l.first < a) × (a ≤ l.last))
-      → is_round a l ≡ is_round b l
-  round_same a b l to from = same_from_decides (is_round a l) (is_round b l) (Decides-like (is_round a l) to from (decides_round a l)) (decides_round b l)
-
-  -- a loop that neither begins nor ends at a place lies round it and the next, or round none of the two
-  round_next : (at : ℕ) (l : Loop) → (l.first ≡ at → ⊥) → (l.last ≡ at → ⊥) → is_round (suc at) l ≡ is_round at l
-  round_next at l begins ends = round_same (suc at) at l (λ h. (omega arith, omega arith)) (λ h. (omega arith, omega arith))
-
   -- an instruction that is no `for`, and one that is no `next`
   abbrev begins_none : Instr → Bool
   begins_none (instr.For k lo hi e) = false
@@ -123,7 +101,7 @@ module _ (u : UnitValue) where
   stays : (at : ℕ) (i : Instr) → slice_get u.code at ≡ Some i → begins_none i ≡ true → ends_none i ≡ true → visits u (suc at) ≡ visits u at
   stays at i here no_for no_next =
       product_same (is_round (suc at)) (is_round at) (loops u)
-      (λ l has. let is = member_is l has in round_next at l (no_begin at i l here no_for is) (no_end at i l here no_next is))
+      (λ l has. let is = is_loop u l has in inside_next at (span_of l) (no_begin at i l here no_for is) (no_end at i l here no_next is))
 
   pub starts : visits u 0 ≡ 1
   starts = product_none (is_round 0) (loops u) (λ l. rw (le-ltb l.first 0 (omega arith)) refl)
@@ -154,16 +132,16 @@ module _ (u : UnitValue) where
         let same : n ≡ at = omega arith in
         entered_here n (begun_from (loop_begun u) (suc n) is) l (is_round (suc at)) (is_round at) (loop_begun u n x)
         (ap (λ k. loop_begun u k x) same ∙ ap (loop_begun u at) (same_Some x i found) ∙ begun)
-        ((decides_round (suc at) l).1 (omega arith, omega arith))
-        (false_from_ne_true (is_round at l) (λ round. let of = (decides_round at l).0 round in omega arith))
+        ((decides_inside (suc at) (span_of l)).1 (omega arith, omega arith))
+        (false_from_ne_true (is_round at l) (λ round. let of = (decides_inside at (span_of l)).0 round in omega arith))
         (product_same (is_round (suc at)) (is_round at) (begun_from (loop_begun u) (suc n) is) (λ k has.
         let at_k = member_from (suc n) is (from_next n x is from) k has in
-        round_next at k (λ eq. omega arith) (no_end at i k here is_for at_k.1)))
+        inside_next at (span_of k) (λ eq. omega arith) (no_end at i k here is_for at_k.1)))
     entered n (suc j) (x ∷ is) from found e =
         entered_later (begun_from (loop_begun u) (suc n) is) (turns l) (is_round (suc at)) (is_round at) (loop_begun u n x)
         (λ k eq.
         let at_k = begun_is u n x k (from_here n x is from) eq in
-        round_next at k (λ eq. omega arith) (no_end at i k here is_for at_k.1))
+        inside_next at (span_of k) (λ eq. omega arith) (no_end at i k here is_for at_k.1))
         (entered (suc n) j is (from_next n x is from) found (omega arith))
 
   -- behind a `for`, each turn of its loop
@@ -225,7 +203,7 @@ module _ (u : UnitValue) where
       let ends = no_end l.first (instr.For l.slot l.lo l.hi l.last) k is.begins refl at_k in
       let inside = no_rise l.first k.first l.last k.last parts.0 in
       let about = no_rise k.first l.first k.last l.last parts.1 in
-      round_same (suc l.last) l.first k
+      inside_same (suc l.last) l.first (span_of k)
       (λ h.
       let before : k.first < l.first = elim (cases_order k.first l.first) [
         | inl same ↦ let e = same_end l k is at_k same in absurd (omega arith)
@@ -252,7 +230,7 @@ module _ (u : UnitValue) where
       let long : l.first < l.last = omega (arith, ended.begins, ended.ends, behind) in
       let apart : list_any (overlaps (span_of l)) (spans u) ≡ false = ap (λ x. list_any (overlaps x) (spans u)) ended.span ∙ some.2 in
       let same = product_same (is_round (suc l.last)) (is_round l.first) (loops u)
-      (λ k has. round_left l k long ended.is (member_is k has) (none_any (overlaps (span_of l)) (loops u) (finishes u) apart k has)) in
+      (λ k has. round_left l k long ended.is (is_loop u k has) (none_any (overlaps (span_of l)) (loops u) (finishes u) apart k has)) in
       (behind, subst (λ b. P at b) ended.begins (subst (λ a. P a l.first) ended.ends same))
 
 -- ---- one place on

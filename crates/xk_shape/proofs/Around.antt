@@ -1,14 +1,15 @@
 -- The finishes around a place, from one place to the next.
 use Rattle.std.proofs.Common.{◌≡◌, ℕ, suc, ◌<◌, ◌≤◌, Bool, true, false, List, [], ◌∷◌, ◌++◌, length, map, filter, cond, Option, Some, None, slice_get, inl, inr, refl, sym, ap, ◌∙◌, arith}
 use Rattle.std.specs.Option.{option_map_or}
-use Rattle.std.proofs.lemmas.Option.{cond_some, none-some, slice_get_within}
+use Rattle.std.proofs.lemmas.Option.{slice_get_within}
 use Rattle.std.proofs.lemmas.Bool.{false_from_ne_true}
 use Rattle.xk_types.specs.declared.instr.Instr.{Instr}
 use Rattle.xk_types.specs.declared.instr.Instr.TheVariants as instr
 use Rattle.xk_types.specs.Order.{Has}
 use Rattle.xk_types.specs.Code.{UnitValue, begun_from}
-use Rattle.xk_types.specs.Blocks.{Span, is_end_of, finish_opened, finishes, is_inside, block_at, depth_at}
+use Rattle.xk_types.specs.Blocks.{Span, finish_opened, finishes, is_inside, block_at, depth_at}
 use Rattle.xk_types.proofs.Shape.Begun.{Rising, begun_rise}
+use Rattle.xk_types.proofs.Shape.Finishes.{begins_at}
 use Rattle.xk_types.proofs.Shape.Spans.{finish_span}
 use Rattle.xk_shape.specs.Nests.{span}
 use Rattle.xk_shape.proofs.SpanEnds.{is_span, no_end}
@@ -68,10 +69,6 @@ depth_few u at = omega (arith, chosen_few (is_inside at) (finishes u), begun_few
 
 abbrev pub Ascends : List Span → Type 0
 Ascends fs = Rising (λ f. f.first) fs
-
-begins_at : (u : UnitValue) (at : ℕ) (i : Instr) (f : Span) → finish_opened u at i ≡ Some f → f.first ≡ at
-begins_at u at (instr.Finish e) f h = sym (ap (λ (x : Span). x.first) (cond_some (is_end_of at (slice_get u.code e)) (span at e) f h).1)
-begins_at u at _ f h = absurd (none-some f h)
 
 pub finishes_ascend : (u : UnitValue) → Ascends (finishes u)
 finishes_ascend u = begun_rise (finish_opened u) (λ f. f.first) (begins_at u) 0 u.code

@@ -16,8 +16,10 @@ use Rattle.xk_shape.specs.Nests.{end_named, begin_named, span, begins_behind, en
 use Rattle.xk_shape.specs.Places.{innermost, IsInnermost, LiesWithin, is_counter, has_slot, LiesSo, AreFirstPlaces}
 use Rattle.xk_types.proofs.Members.{same_test, has_any, none_has}
 use Rattle.xk_types.proofs.Shape.Begun.{begun_had}
+use Rattle.xk_types.proofs.Shape.Finishes.{is_finish}
+use Rattle.xk_types.proofs.Shape.Loops.{is_loop}
 use Rattle.xk_types.proofs.Shape.Spans.{of_loop, loop_span, finish_span}
-use Rattle.xk_shape.proofs.SpanEnds.{is_span, is_loop, is_finish, slot_is, has_span, same_end, same_begin, no_begin, no_end, ends_none, begins_none, any_found, any_same}
+use Rattle.xk_shape.proofs.SpanEnds.{is_span, slot_is, has_span, same_end, same_begin, no_begin, no_end, ends_none, begins_none, any_found, any_same}
 use Rattle.xk_shape.proofs.Nested.{decides_inside, inside_same, inside_next, ends_inside, begun_ahead, ended_behind, nested_begun, nested_ended, nested_apart}
 use Rattle.xk_shape.proofs.Around.{around_same, block_first, block_begins}
 use Rattle.xk_shape.proofs.OneBlock.{innermost_push, decides_option}
@@ -27,10 +29,10 @@ next_length [] n = refl
 next_length (x ∷ xs) n = omega (arith, next_length xs n)
 
 no_finish : (u : UnitValue) (at k e : ℕ) (lo hi : ℤ) → slice_get u.code at ≡ Some (instr.For k lo hi e) → (f : Span) → Has (finishes u) f → f.first ≡ at → ⊥
-no_finish u at k e lo hi here f has first = let same = same_Some _ _ (sym here ∙ ap (slice_get u.code) (sym first) ∙ is_finish u f has) in cc
+no_finish u at k e lo hi here f has first = let same = same_Some _ _ (sym here ∙ ap (slice_get u.code) (sym first) ∙ (is_finish u f has).begins) in cc
 
 no_loop : (u : UnitValue) (at e : ℕ) → slice_get u.code at ≡ Some (instr.Finish e) → (l : Loop) → Has (loops u) l → l.first ≡ at → ⊥
-no_loop u at e here l has first = let same = same_Some _ _ (sym here ∙ ap (slice_get u.code) (sym first) ∙ (is_loop u l has).here) in cc
+no_loop u at e here l has first = let same = same_Some _ _ (sym here ∙ ap (slice_get u.code) (sym first) ∙ (is_loop u l has).begins) in cc
 
 -- ---- two places
 
@@ -132,7 +134,7 @@ module _ (u : UnitValue) where
       (λ on. elim (or_cases (s == k) (is_counter u at s) on) [
         | inl own_slot ↦
             let slot = slot_is u own k e lo hi has_own (ap (slice_get u.code) first ∙ here) in
-            let begin = same_Some _ _ (sym (is_loop u own has_own).here ∙ ap (slice_get u.code) first ∙ here) in
+            let begin = same_Some _ _ (sym (is_loop u own has_own).begins ∙ ap (slice_get u.code) first ∙ here) in
             let last : own.last ≡ e = same_Some own.last e (ap end_named begin) in
             has_any (test (suc at)) (loops u) own has_own (and_from (is_round (suc at) own) (s == own.slot)
             ((decides_inside (suc at) (span_of own)).1 (omega arith, omega arith)) (ap (λ n. s == n) slot ∙ own_slot))

@@ -1,8 +1,8 @@
 -- The loops and finishes of a unit: which instructions they begin and end with.
-use Rattle.std.proofs.Common.{◌≡◌, ℕ, ℤ, ◌+◌, ◌<◌, ◌⊎◌, Bool, true, false, ◌||◌, List, [], ◌∷◌, ◌++◌, length, map, Option, Some, None, slice_get, inl, inr, refl, sym, ap, ◌∙◌, subst, arith, option_map}
+use Rattle.std.proofs.Common.{◌≡◌, ◌==◌, if◌then◌else◌, ℕ, ℤ, ◌+◌, ◌<◌, ◌⊎◌, Bool, true, false, ◌||◌, List, [], ◌∷◌, ◌++◌, length, map, Option, Some, None, slice_get, inl, inr, refl, sym, ap, ◌∙◌, subst, arith, option_map}
 use Rattle.std.specs.List.{list_any}
 use Rattle.std.proofs.lemmas.Option.{same_Some, cond_some, none-some}
-use Rattle.std.proofs.lemmas.Bool.{or_parts, false≢true}
+use Rattle.std.proofs.lemmas.Bool.{or_parts, eq-eqb, false≢true}
 use Rattle.xk_types.specs.declared.instr.Instr.{Instr}
 use Rattle.xk_types.specs.declared.instr.Instr.TheVariants as instr
 use Rattle.xk_types.specs.Order.{Has}
@@ -11,6 +11,7 @@ use Rattle.xk_types.specs.Blocks.{Span, is_end_of, finish_opened, finishes}
 use Rattle.xk_types.specs.Shape.{span_of, span_begun, spans}
 use Rattle.xk_shape.specs.Nests.{end_named, begin_named, span}
 use Rattle.xk_types.proofs.Shape.Begun.{begun_found, begun_had}
+use Rattle.xk_types.proofs.Shape.Loops.{IsLoop, is_loop}
 use Rattle.xk_types.proofs.Shape.Spans.{next_is, end_is, of_loop, loop_span, finish_span}
 
 -- ---- lists
@@ -95,37 +96,15 @@ has_span u at (instr.For k lo hi e) s here h =
 has_span u at (instr.Finish e) s here h = finish_span u s (begun_had (finish_opened u) 0 u.code at at (instr.Finish e) s here (omega arith) h)
 has_span u at _ s here h = absurd (none-some s h)
 
--- a loop, and the instruction that begins it
-pub record BeginsLoop (u : UnitValue) (l : Loop) : Type 0 where
-  pub here : slice_get u.code l.first ≡ Some (instr.For l.slot l.lo l.hi l.last)
-  pub begun : span_begun u l.first (instr.For l.slot l.lo l.hi l.last) ≡ Some (span_of l)
-
-loop_is : (u : UnitValue) (at : ℕ) (i : Instr) (l : Loop) → slice_get u.code at ≡ Some i → loop_begun u at i ≡ Some l → BeginsLoop u l
-loop_is u at (instr.For k lo hi e) l here h =
-    let p = cond_some (is_next_of at (slice_get u.code e)) (record { first = at; last = e; slot = k; lo = lo; hi = hi }) l h in
-    subst (BeginsLoop u) p.1 (record { here = here; begun = ap (option_map span_of) (h ∙ ap Some (sym p.1)) })
-loop_is u at _ l here h = absurd (none-some l h)
-
-pub is_loop : (u : UnitValue) (l : Loop) → Has (loops u) l → BeginsLoop u l
-is_loop u l h = let r = begun_found (loop_begun u) 0 u.code l h in
-    let same : 0 + r.j ≡ r.j = omega arith in
-    loop_is u r.j r.i l r.found (ap (λ n. loop_begun u n r.i) (sym same) ∙ r.begins)
+-- what a loop's `for` begins is the loop
+loop_begins : (u : UnitValue) (l : Loop) → IsLoop u l → span_begun u l.first (instr.For l.slot l.lo l.hi l.last) ≡ Some (span_of l)
+loop_begins u l is =
+    ap (λ o. option_map span_of (if is_next_of l.first o then Some l else None)) is.ends
+    ∙ ap (λ b. option_map span_of (if b then Some l else None)) (eq-eqb l.first l.first refl)
 
 -- the loop that a `for` begins counts in its slot
 pub slot_is : (u : UnitValue) (l : Loop) (k e : ℕ) (lo hi : ℤ) → Has (loops u) l → slice_get u.code l.first ≡ Some (instr.For k lo hi e) → l.slot ≡ k
-slot_is u l k e lo hi h here = let is = is_loop u l h in let same = same_Some _ _ (sym is.here ∙ here) in cc
-
-finish_is : (u : UnitValue) (at : ℕ) (i : Instr) (f : Span) → slice_get u.code at ≡ Some i → finish_opened u at i ≡ Some f → slice_get u.code f.first ≡ Some (instr.Finish f.last)
-finish_is u at (instr.Finish e) f here h = subst (λ (s : Span). slice_get u.code s.first ≡ Some (instr.Finish s.last))
-    (cond_some (is_end_of at (slice_get u.code e)) (span at e) f h).1 here
-finish_is u at _ f here h = absurd (none-some f h)
-
--- a finish begins with a `finish`
-pub is_finish : (u : UnitValue) (f : Span) → Has (finishes u) f → slice_get u.code f.first ≡ Some (instr.Finish f.last)
-is_finish u f h =
-    let r = begun_found (finish_opened u) 0 u.code f h in
-    let same : 0 + r.j ≡ r.j = omega arith in
-    finish_is u r.j r.i f r.found (ap (λ n. finish_opened u n r.i) (sym same) ∙ r.begins)
+slot_is u l k e lo hi h here = let is = is_loop u l h in let same = same_Some _ _ (sym is.begins ∙ here) in cc
 
 finish_begins : (u : UnitValue) (at : ℕ) (i : Instr) (f : Span) → finish_opened u at i ≡ Some f → span_begun u at i ≡ Some f
 finish_begins u at (instr.Finish e) f h = h
@@ -137,7 +116,7 @@ is_span u s h = elim (had_append (map span_of (loops u)) (finishes u) s h) [
   | inl of_loops ↦
       let r = had_map span_of (loops u) s of_loops in
       let is = is_loop u r.0 r.1 in
-      subst (IsSpan u) r.2 (span_is u r.0.first (instr.For r.0.slot r.0.lo r.0.hi r.0.last) (span_of r.0) is.here is.begun).0
+      subst (IsSpan u) r.2 (span_is u r.0.first (instr.For r.0.slot r.0.lo r.0.hi r.0.last) (span_of r.0) is.begins (loop_begins u r.0 is)).0
   | inr of_finishes ↦
       let r = begun_found (finish_opened u) 0 u.code s of_finishes in
       let same : 0 + r.j ≡ r.j = omega arith in

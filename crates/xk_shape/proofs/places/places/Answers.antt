@@ -5,21 +5,21 @@ use Rattle.xk_shape.specs.Nests.{AreNestedBelow}
 use Rattle.xk_shape.specs.Places.{LiesSo}
 use Rattle.xk_shape.proofs.Nested.{nested_all}
 use Rattle.xk_shape.proofs.RoundPlaces.{place_first, below_none}
-use Rattle.xk_shape.proofs.TableLists.{none_right, right_more, long_more}
+use Rattle.xk_shape.proofs.TableLists.{each_of_none, each_more, long_more}
 use Rattle.xk_shape.proofs.places.places.Goals as goal
 
 pub loop-at-init : goal.loop-at-init
-loop-at-init c = (ap length c.new-found.ensures.items, none_right (LiesSo c.args.u.now) c.new-found.ensures.items, place_first c.args.u.now, below_none c.args.u.now)
+loop-at-init c = (ap length c.new-found.ensures.items, each_of_none (LiesSo c.args.u.now) c.new-found.ensures.items, place_first c.args.u.now, below_none c.args.u.now)
 
 pub behind-requires-clause-known : goal.behind-requires-clause-known
 behind-requires-clause-known c =
-    right_more (LiesSo c.args.u.now) c.loop-at.at c.loop-at.found.items c.deref.result.now c.loop-at.here (c.deref.ensures.value ∙ c.in_ok-push.ensures.items)
+    each_more (LiesSo c.args.u.now) c.loop-at.at c.loop-at.found.items c.deref.result.now c.loop-at.here (c.deref.ensures.value ∙ c.in_ok-push.ensures.items)
     c.loop-at.invariant.1 c.loop-at.invariant.0 c.loop-at.invariant.2
 
 pub loop-at-preserved : goal.loop-at-preserved
 loop-at-preserved c = (
   long_more c.loop-at.at c.loop-at.found.items c.push.new.self.items c.loop-at.here c.in_ok-push.ensures.items c.loop-at.invariant.0,
-  right_more (LiesSo c.args.u.now) c.loop-at.at c.loop-at.found.items c.push.new.self.items c.loop-at.here c.in_ok-push.ensures.items
+  each_more (LiesSo c.args.u.now) c.loop-at.at c.loop-at.found.items c.push.new.self.items c.loop-at.here c.in_ok-push.ensures.items
       c.loop-at.invariant.1 c.loop-at.invariant.0 c.loop-at.invariant.2,
   c.in-Some.ensures.0,
   c.in-Some.ensures.1,
