@@ -1,12 +1,11 @@
 -- The least place that breaks a rule, unit after unit; and the first rule that is broken.
-use Rattle.std.proofs.Common.{◌≡◌, ℕ, zero, suc, get_or, ◌+◌, ◌<◌, ◌≤◌, Bool, true, false, [], ◌∷◌, List, length, Option, Some, None, slice_get, inl, inr, refl, sym, ap, ◌∙◌, subst, arith}
+use Rattle.std.proofs.Common.{◌≡◌, ℕ, zero, suc, get_or, ◌+◌, ◌<◌, ◌≤◌, true, false, [], ◌∷◌, List, length, Some, slice_get, inl, inr, refl, sym, ap, ◌∙◌, subst, arith}
 use Rattle.std.proofs.lemmas.Option.{slice_get_past}
 use Rattle.std.proofs.lemmas.Bool.{both_ways, cases_lt, cases_order}
 use Rattle.xk_types.specs.declared.rules.Rule.{Rule}
 use Rattle.xk_types.specs.declared.rules.Rule.TheVariants as rule
 use Rattle.xk_types.specs.Code.{UnitValue, ModuleValue}
 use Rattle.xk_types.specs.Names.{rule_number}
-use Rattle.xk_types.specs.Order.{NotAfter}
 use Rattle.xk_types.specs.Shape.{breaks, breaks_in, breaks_unit_of}
 use Rattle.xk_shape.specs.declared.fault.ShapeFault.{ShapeFault}
 use Rattle.xk_shape.specs.Breach.{IsNowhereBroken, IsLeastBreach, IsUnbrokenBefore}

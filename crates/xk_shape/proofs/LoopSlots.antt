@@ -1,5 +1,5 @@
 -- Instructions that write the slot of a loop that they lie in, and jumps, which end none.
-use Rattle.std.proofs.Common.{◌≡◌, ℕ, ◌<◌, ◌≤◌, nat_lt, nat_le, false, true, ◌&&◌, ◌==◌, eqb, Bool, List, [], ◌∷◌, Option, Some, None, slice_get, refl, sym, ap, ◌∙◌, subst, arith}
+use Rattle.std.proofs.Common.{◌≡◌, ℕ, nat_lt, nat_le, false, ◌&&◌, ◌==◌, eqb, List, [], ◌∷◌, Option, Some, None, slice_get, refl, sym, ap, ◌∙◌, subst, arith}
 use Rattle.std.specs.List.{list_any}
 use Rattle.std.specs.Option.{option_map_or}
 use Rattle.std.proofs.Math.Bool.{and-false}
@@ -7,9 +7,8 @@ use Rattle.std.proofs.lemmas.Bool.{ltb-true, lt-ltb, leb-true, le-leb}
 use Rattle.std.proofs.lemmas.Option.{none-some}
 use Rattle.xk_types.specs.declared.instr.Instr.{Instr}
 use Rattle.xk_types.specs.declared.instr.Instr.TheVariants as instr
-use Rattle.xk_types.specs.Order.{Has}
 use Rattle.xk_types.specs.Code.{UnitValue, Loop, loops, is_round, is_within}
-use Rattle.xk_types.specs.Blocks.{Span, is_inside}
+use Rattle.xk_types.specs.Blocks.{is_inside}
 use Rattle.xk_types.specs.Shape.{span_of, spans, differ, crosses, slot_written, writes_slot}
 use Rattle.xk_shape.specs.Nests.{begin_named}
 use Rattle.xk_shape.specs.Places.{is_counter}

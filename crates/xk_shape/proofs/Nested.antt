@@ -1,5 +1,5 @@
 -- Loops and finishes that nest: what it says of each half, and of two of them; and that they nest where each is well ended.
-use Rattle.std.proofs.Common.{◌≡◌, ℕ, suc, ◌<◌, ◌≤◌, ◌==◌, nat_lt, nat_le, Bool, true, false, ◌&&◌, ◌||◌, if◌then◌else◌, List, length, Option, Some, None, slice_get, inl, inr, refl, sym, ap, ◌∙◌, subst, arith}
+use Rattle.std.proofs.Common.{◌≡◌, ℕ, suc, ◌<◌, ◌≤◌, ◌==◌, nat_lt, nat_le, true, false, ◌&&◌, if◌then◌else◌, length, Option, Some, None, slice_get, inl, inr, refl, sym, ap, ◌∙◌, subst, arith}
 use Rattle.std.specs.Bool.{Decides}
 use Rattle.std.specs.List.{list_any}
 use Rattle.std.specs.Option.{option_and_then, option_map_or}
@@ -12,10 +12,10 @@ use Rattle.xk_types.specs.Order.{Has}
 use Rattle.xk_types.specs.Code.{UnitValue}
 use Rattle.xk_types.specs.Blocks.{Span, is_inside}
 use Rattle.xk_types.specs.Shape.{span_begun, span_ended, spans, overlaps, lies_ahead, aims_well, is_amiss, is_crossing}
-use Rattle.xk_shape.specs.Nests.{is_jump, end_named, begin_named, span, begins_behind, ends_behind, AreNested, AreNestedBelow, IsInNoneBehind}
+use Rattle.xk_shape.specs.Nests.{is_jump, end_named, begin_named, span, begins_behind, ends_behind, AreNested, AreNestedBelow}
 use Rattle.xk_types.proofs.Members.{none_has}
 use Rattle.xk_types.proofs.Shape.Spans.{not_amiss}
-use Rattle.xk_shape.proofs.SpanEnds.{IsSpan, is_span, span_is, has_span, same_end, same_begin, any_found}
+use Rattle.xk_shape.proofs.SpanEnds.{is_span, span_is, has_span, any_found}
 
 -- ---- places and stretches
 

@@ -1,5 +1,5 @@
 -- How places lie to loops and finishes, from one place to the next.
-use Rattle.std.proofs.Common.{◌≡◌, ℕ, ℤ, suc, ◌+◌, ◌<◌, ◌≤◌, ◌⊎◌, eqb, Bool, true, false, not, ◌&&◌, ◌||◌, ◌==◌, List, [], ◌∷◌, ◌++◌, length, Option, Some, None, slice_get, get_or, inl, inr, refl, sym, ap, ◌∙◌, subst, arith}
+use Rattle.std.proofs.Common.{◌≡◌, ℕ, ℤ, suc, ◌+◌, ◌<◌, ◌⊎◌, eqb, Bool, true, false, not, ◌&&◌, ◌||◌, ◌==◌, List, [], ◌∷◌, ◌++◌, length, Option, Some, None, slice_get, get_or, inl, inr, refl, sym, ap, ◌∙◌, subst, arith}
 use Rattle.std.specs.List.{list_any}
 use Rattle.std.specs.Option.{option_eq}
 use Rattle.std.proofs.lemmas.Option.{same_Some, none-some, slice_get-get_or}
@@ -9,7 +9,7 @@ use Rattle.xk_types.specs.declared.instr.Instr.{Instr}
 use Rattle.xk_types.specs.declared.instr.Instr.TheVariants as instr
 use Rattle.xk_types.specs.Order.{Has}
 use Rattle.xk_types.specs.Code.{UnitValue, Loop, loop_begun, loops, is_round}
-use Rattle.xk_types.specs.Blocks.{Span, finish_opened, finishes, is_inside, block_at, depth_at}
+use Rattle.xk_types.specs.Blocks.{Span, finish_opened, finishes, is_inside, block_at}
 use Rattle.xk_types.specs.Shape.{span_of, span_begun, spans, differ}
 use Rattle.xk_shape.specs.declared.places.Place.{Place}
 use Rattle.xk_shape.specs.Nests.{end_named, begin_named, span, begins_behind, ends_behind, AreNested, AreNestedBelow, IsInNoneBehind}

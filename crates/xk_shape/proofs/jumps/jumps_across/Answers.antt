@@ -1,7 +1,6 @@
 -- a jump crosses an edge where the innermost round its two ends differ
-use Rattle.std.proofs.Common.{◌<◌, refl, sym, subst, ap, ◌∙◌, length, true, ◌≡◌, slice_get, Some}
+use Rattle.std.proofs.Common.{sym, ap, ◌∙◌}
 use Rattle.std.proofs.lemmas.Option.{slice_get_within}
-use Rattle.xk_types.specs.declared.instr.Instr.{Instr}
 use Rattle.xk_types.specs.Shape.{aims_well, is_crossing}
 use Rattle.xk_types.proofs.Shape.Spans.{ahead}
 use Rattle.xk_shape.specs.Nests.{begin_named}

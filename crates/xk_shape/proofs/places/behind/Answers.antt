@@ -1,8 +1,7 @@
 -- how the place behind lies, by what stands at this one
-use Rattle.std.proofs.Common.{◌+◌, ◌<◌, length, Some, None, sym, ap, ◌∙◌, arith}
-use Rattle.xk_types.specs.Blocks.{depth_at}
+use Rattle.std.proofs.Common.{None, sym, ap, ◌∙◌, arith}
 use Rattle.xk_shape.specs.declared.places.Place.{Place}
-use Rattle.xk_shape.specs.Nests.{end_named, begin_named}
+use Rattle.xk_shape.specs.Nests.{end_named}
 use Rattle.xk_shape.proofs.Around.{depth_few}
 use Rattle.xk_shape.proofs.Nested.{ended_behind}
 use Rattle.xk_shape.proofs.RoundPlaces.{found_at, place_known, names_begin, names_no_end, names_no_begin, behind_for, behind_finish, behind_end, behind_other, amiss_begin, amiss_end, amiss_within}
