@@ -8,7 +8,7 @@ use Rattle.xk_tree.specs.Tree.{Word, MethodValue, ParamValue}
 use Rattle.xk_names.specs.declared.known.Known.{Known}
 use Rattle.xk_names.specs.Scope.{Table, find, has, is_text, Declaration, entry, entries, texts, Scope, is_given, has_first}
 use Rattle.xk_names.specs.Uses.{Signatures, signature, signatures}
-use Rattle.xk_names.specs.Places.{Bodies}
+use Rattle.xk_names.specs.Scoped.{with_all, with_body}
 use Rattle.xk_names.specs.Collected.{put, put_all, put_text, put_texts, put_methods, with_declared, body_of}
 
 -- ---- tables
@@ -111,13 +111,6 @@ pub record Agrees (a b : Scope) : Type 0 where
   pub names : FindsSame a.names b.names
   pub depth : length a.bodies ≡ length b.bodies
   pub given : (x : List ℕ) → is_given a x ≡ is_given b x
-
--- all declarations, also those of a name that is there already
-abbrev pub with_all : Scope → List Declaration → Scope
-with_all sc ds = record { names = sc.names ++ entries ds; bodies = sc.bodies }
-
-abbrev pub with_body : Scope → List Word → Scope
-with_body sc cs = record { names = sc.names; bodies = texts cs ∷ sc.bodies }
 
 pub declared_agrees : (a b : Scope) (ds : List Declaration) → Agrees a b → Agrees (with_declared a ds) (with_all b ds)
 declared_agrees a b ds same = record { names = put_all_same a.names b.names ds same.names; depth = same.depth; given = same.given }

@@ -12,4 +12,5 @@ pub mod Walked
 pub mod Whole
 pub mod Reported
 pub mod Answered
+pub mod ScopedLaw
 mod Rows

@@ -7,9 +7,10 @@ use Rattle.xk_names.specs.Scope.{Table, Has, Declaration, entry, entries, texts,
 use Rattle.xk_names.specs.Uses.{Signatures, declares, clocks_listed}
 use Rattle.xk_names.specs.Places.{Way, Here, First, Later, Inside, Else, Stands, StandsAmong, behind, declared_at, declared_among, Bodies, bodies_at, bodies_among}
 use Rattle.xk_names.specs.Faults.{Breaks}
+use Rattle.xk_names.specs.Scoped.{with_all, with_body}
 use Rattle.xk_names.specs.Collected.{own, inside, among, faults, with_declared, body_of}
 use Rattle.xk_names.proofs.Among.{has_left, has_right, has_either}
-use Rattle.xk_names.proofs.Agreement.{FindsSame, Agrees, with_all, with_body, declared_agrees, body_agrees}
+use Rattle.xk_names.proofs.Agreement.{FindsSame, Agrees, declared_agrees, body_agrees}
 use Rattle.xk_names.proofs.Own.{own_breaks, breaks_own}
 use Rattle.xk_names.proofs.OwnSame.{own_same}
 

@@ -10,6 +10,7 @@ use Rattle.xk_names.specs.Scope.{Table, find, has, is_text, Has, Declaration, en
 use Rattle.xk_names.specs.Uses.{Signatures, signature, signatures}
 use Rattle.xk_names.specs.Places.{Way, StandsAmong, declared_among, bodies_among}
 use Rattle.xk_names.specs.Faults.{fault, Breaks, shared_declaration, param_declaration, declared_before, scope_in, RepeatsName, RepeatsMethod, BreaksInside, HasNameFault, InShared, InMethods, InParams, InBody}
+use Rattle.xk_names.specs.Scoped.{method_scope}
 use Rattle.xk_names.specs.Collected.{put, put_all, put_methods, when, again, among, declared_again, methods_again, method_faults, name_faults}
 use Rattle.xk_names.proofs.Among.{has_left, has_right, has_either, from_flat, to_flat}
 use Rattle.xk_names.proofs.Agreement.{FindsSame, Agrees, put_same, put_all_same, put_methods_same}
@@ -128,16 +129,13 @@ called t = put_methods [] t.methods
 abbrev pub inside_kept : TreeValue → MethodValue → Scope
 inside_kept t m = record { names = put_all (outside t) (map param_declaration m.params); bodies = [] }
 
-abbrev pub inside_seen : TreeValue → MethodValue → Scope
-inside_seen t m = record { names = entries (declared_before t m); bodies = [] }
-
 pub called_same : (t : TreeValue) → FindsSame (called t) (signatures t.methods)
 called_same t x = put_methods_same [] [] t.methods (λ y. refl) x
 
 outside_same : (t : TreeValue) → FindsSame (outside t) (entries (map shared_declaration t.shared))
 outside_same t x = put_all_same [] [] (map shared_declaration t.shared) (λ y. refl) x
 
-inside_same : (t : TreeValue) (m : MethodValue) → Agrees (inside_kept t m) (inside_seen t m)
+inside_same : (t : TreeValue) (m : MethodValue) → Agrees (inside_kept t m) (method_scope t m)
 inside_same t m = record {
   names = λ x. put_all_same (outside t) (entries (map shared_declaration t.shared)) (map param_declaration m.params) (outside_same t) x
       ∙ ap (λ k. find k x) (sym (append_entries (map shared_declaration t.shared) (map param_declaration m.params)));
@@ -146,8 +144,8 @@ inside_same t m = record {
 }
 
 -- what a place sees, by its way
-seen_at : (t : TreeValue) (m : MethodValue) (w : Way)
-    → (let r : Scope = record { names = (inside_seen t m).names ++ entries (declared_among 0 m.body w); bodies = bodies_among [] m.body w } in r) ≡ scope_in t m w
+pub seen_at : (t : TreeValue) (m : MethodValue) (w : Way)
+    → (let r : Scope = record { names = (method_scope t m).names ++ entries (declared_among 0 m.body w); bodies = bodies_among [] m.body w } in r) ≡ scope_in t m w
 seen_at t m w = ap (λ k. let r : Scope = record { names = k; bodies = bodies_among [] m.body w } in r) (sym (append_entries (declared_before t m) (declared_among 0 m.body w)))
 
 from_method : (t : TreeValue) (m : MethodValue) (f : FrontFault) → Has t.methods m → Has (method_faults (called t) (outside t) m) f → HasNameFault t f
@@ -161,12 +159,12 @@ from_method t m f there h = elim (has_either (declared_again (outside t) (map pa
         again = r.1.1.2;
         is = r.1.1.3;
       })
-  | inr b ↦ let r = held_among (called t) (signatures t.methods) (inside_kept t m) (inside_seen t m) m.body f (called_same t) (inside_same t m) b in
+  | inr b ↦ let r = held_among (called t) (signatures t.methods) (inside_kept t m) (method_scope t m) m.body f (called_same t) (inside_same t m) b in
       InBody m there (record {
         way = r.0;
         statement = r.1.0;
         stands = r.1.1.0;
-        breaks = subst (λ (k : Scope). Breaks (signatures t.methods) k r.1.0 f) (among_once (inside_seen t m) m.body r.0 ∙ seen_at t m r.0) r.1.1.1;
+        breaks = subst (λ (k : Scope). Breaks (signatures t.methods) k r.1.0 f) (among_once (method_scope t m) m.body r.0 ∙ seen_at t m r.0) r.1.1.1;
       })
 ]
 
@@ -207,5 +205,5 @@ fault_listed t f (InParams m there r) = elim (again_joined [] (map shared_declar
 ]
 fault_listed t f (InBody m there r) =
     of_method t m f there (has_right (declared_again (outside t) (map param_declaration m.params)) (among (called t) (inside_kept t m) m.body) f
-    (listed_among (called t) (signatures t.methods) (inside_kept t m) (inside_seen t m) m.body r.way r.statement f (called_same t) (inside_same t m) r.stands
-    (subst (λ (k : Scope). Breaks (signatures t.methods) k r.statement f) (sym (among_once (inside_seen t m) m.body r.way ∙ seen_at t m r.way)) r.breaks)))
+    (listed_among (called t) (signatures t.methods) (inside_kept t m) (method_scope t m) m.body r.way r.statement f (called_same t) (inside_same t m) r.stands
+    (subst (λ (k : Scope). Breaks (signatures t.methods) k r.statement f) (sym (among_once (method_scope t m) m.body r.way ∙ seen_at t m r.way)) r.breaks)))

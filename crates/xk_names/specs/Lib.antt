@@ -4,3 +4,4 @@ pub mod Places
 pub mod Faults
 pub mod Collected
 pub mod Given
+pub mod Scoped

@@ -5,6 +5,7 @@ ghost use Rattle.xk_tree.specs.Tree.{method_value, param_value, shared_value, tr
 ghost use Rattle.std.specs.List.{flat_map};
 ghost use Rattle.xk_names.specs.Scope.{declared, find};
 ghost use Rattle.xk_names.specs.Faults.{HasFault, IsReported, param_declaration, param_kind, shared_declaration};
+ghost use Rattle.xk_names.specs.Scoped.{IsScoped};
 ghost use Rattle.xk_names.specs.Collected.{again, declared_again, least, method_faults, methods_again, name_faults, put_methods, with_declared};
 
 use crate::check::check_block;
@@ -172,6 +173,7 @@ fn has_main<'t>(methods: &Methods<'_, 't>) -> bool
 /// Looks for faults of names in a tree, F5 to F9, F11 and F12.
 pub fn check_names(alloc: Global, tree: &Tree<'_>) -> Result<(), FrontError>
     ensures clean { OnOk result ((f : FrontFault) → HasFault (tree_value tree.now) f → ⊥) }
+    ensures scoped { OnOk result (IsScoped (tree_value tree.now)) }
     ensures fault { (f : FrontFault) → result ≡ Err (FrontError.Fault f)
         → IsReported (tree_value tree.now) f }
 {

@@ -2,6 +2,7 @@ use Rattle.std.proofs.Common.{◌≡◌, true, false, rules, sym, ◌∙◌, sub
 use Rattle.xk_tree.specs.Tree.{tree_value}
 use Rattle.xk_names.specs.Faults.{IsReported, no_main}
 use Rattle.xk_names.proofs.Answered.{one_reported, clean_tree, no_main_reported}
+use Rattle.xk_names.proofs.ScopedLaw.{scoped_tree}
 use Rattle.xk_names.proofs.program.check_names.Goals as goal
 
 pub returns-in-Some-clause-fault : goal.returns-in-Some-clause-fault
@@ -12,6 +13,11 @@ returns-in-Some-clause-fault c = λ f e.
 pub returns-then-has_main-clause-clean : goal.returns-then-has_main-clause-clean
 returns-then-has_main-clause-clean c =
     clean_tree (tree_value c.args.tree.now) c.in_ok-worst.worst c.in_ok-worst.methods c.in_ok-worst.ensures.worst c.in-None.is c.in_ok-worst.ensures.methods (c.has_main.ensures.0 c.if-has_main.true)
+
+pub returns-then-has_main-clause-scoped : goal.returns-then-has_main-clause-scoped
+returns-then-has_main-clause-scoped c =
+    scoped_tree (tree_value c.args.tree.now)
+    (clean_tree (tree_value c.args.tree.now) c.in_ok-worst.worst c.in_ok-worst.methods c.in_ok-worst.ensures.worst c.in-None.is c.in_ok-worst.ensures.methods (c.has_main.ensures.0 c.if-has_main.true))
 
 pub returns-clause-fault : goal.returns-clause-fault
 returns-clause-fault c = λ f e.

@@ -1,0 +1,131 @@
+-- A tree without faults of names is scoped.
+use Rattle.std.proofs.Common.{◌≡◌, ◌≢◌, ◌⊎◌, inl, inr, ℕ, suc, nat_eq, Bool, true, false, ◌||◌, List, [], ◌∷◌, ◌++◌, length, Option, Some, None, refl, sym, ap, ◌∙◌, subst, eqb-true, eq-eqb}
+use Rattle.std.specs.Prelude.{codes}
+use Rattle.xk_tree.specs.declared.fault.FrontRule.TheVariants as rule
+use Rattle.xk_tree.specs.declared.fault.FrontFault.{FrontFault}
+use Rattle.xk_tree.specs.Tree.{Word, Expression, Statement, Statements, Done, More, Block, Empty, Declare, Assign, Atomic, If, IfElse, For, Async, Finish, Call, Resume, Drop, AdvanceAll, Print, ParamValue, MethodValue, TreeValue}
+use Rattle.xk_names.specs.declared.known.Known.{Known}
+use Rattle.xk_names.specs.declared.known.Kind.{Kind}
+use Rattle.xk_names.specs.declared.known.Kind.TheVariants as kind
+use Rattle.xk_names.specs.Scope.{find, has, texts, Has, Declaration, Scope, sees, sees_as, fits, is_own, is_given}
+use Rattle.xk_names.specs.Uses.{Use, Signatures, signatures, uses, declares, misfits, clocks_given, clocks_listed, calls}
+use Rattle.xk_names.specs.Places.{Way, Here, First, Later, Inside, Else, Stands, StandsAmong, behind}
+use Rattle.xk_names.specs.Faults.{fault, Breaks, NotVisible, OtherKind, NotSeen, DeclaredAgain, Misfit, NoMethod, OtherCount, ClockAgain, HasNameFault, InShared, InMethods, InParams, InBody, HasFault, HasMain, no_main}
+use Rattle.xk_names.specs.Scoped.{IsRight, IsCallable, IsSound, IsSoundInside, AreSound, with_all, with_body, method_scope, IsScoped}
+use Rattle.xk_names.proofs.Walked.{scope_at, scope_among, among_once}
+use Rattle.xk_names.proofs.Whole.{seen_at}
+
+is_true : (b : Bool) → (b ≡ false → ⊥) → b ≡ true
+is_true true h = refl
+is_true false h = absurd (h refl)
+
+is_false : (b : Bool) → (b ≡ true → ⊥) → b ≡ false
+is_false false h = refl
+is_false true h = absurd (h refl)
+
+-- no fault breaks the statement itself
+abbrev Unbroken : Signatures → Scope → Statement → Type 0
+Unbroken ms sc t = (f : FrontFault) → Breaks ms sc t f → ⊥
+
+right_use : (ms : Signatures) (sc : Scope) (t : Statement) → Unbroken ms sc t → (u : Use) → Has (uses ms sc.names t) u → IsRight sc u
+right_use ms sc t none u among = go (find sc.names u.name.text) refl
+  where
+    go : (o : Option Known) → find sc.names u.name.text ≡ o → IsRight sc u
+    go None e = absurd (none (fault rule.UnknownName u.name.at) (NotVisible u among e refl))
+    go (Some k) e = record {
+        known = k; found = e;
+        right = is_true (fits u.want k.kind) (λ unfit. none (fault rule.WrongKind u.name.at) (OtherKind u k among e unfit refl));
+        seen = is_true (sees sc u.name.text k) (λ unseen. none (fault rule.NotCaptured u.name.at) (NotSeen u k among e unseen refl)) }
+
+new_name : (ms : Signatures) (sc : Scope) (t : Statement) → Unbroken ms sc t → (d : Declaration) → Has (declares (length sc.bodies) t) d → find sc.names d.name.text ≡ None
+new_name ms sc t none d among = go (find sc.names d.name.text) refl
+  where
+    go : (o : Option Known) → find sc.names d.name.text ≡ o → o ≡ None
+    go None e = refl
+    go (Some k) e = absurd (none (fault rule.DuplicateName d.name.at) (DeclaredAgain d k among e refl))
+
+callable_method : (ms : Signatures) (sc : Scope) (t : Statement) → Unbroken ms sc t → (g : Word) (es : List Expression) → calls t ≡ Some (g, es) → IsCallable ms g es
+callable_method ms sc t none g es made = go (find ms g.text) refl
+  where
+    same : (ps : List ParamValue) → find ms g.text ≡ Some ps → (b : Bool) → nat_eq (length ps) (length es) ≡ b → length ps ≡ length es
+    same ps e true is = eqb-true (length ps) (length es) is
+    same ps e false is = absurd (none (fault rule.Arity g.at) (OtherCount g es ps made e (λ equal. differ ps is equal) refl))
+      where
+        differ : (qs : List ParamValue) → nat_eq (length qs) (length es) ≡ false → length qs ≡ length es → ⊥
+        differ qs no_way equal = let never : true ≡ false = sym (eq-eqb (length qs) (length es) equal) ∙ no_way in cc
+    go : (o : Option (List ParamValue)) → find ms g.text ≡ o → IsCallable ms g es
+    go None e = absurd (none (fault rule.UnknownName g.at) (NoMethod g es made e refl))
+    go (Some ps) e = record { params = ps; found = e; count = same ps e (nat_eq (length ps) (length es)) refl }
+
+pub sound_alone : (ms : Signatures) (sc : Scope) (t : Statement) → Unbroken ms sc t → IsSound ms sc t
+sound_alone ms sc t none = record {
+    used = right_use ms sc t none;
+    new = new_name ms sc t none;
+    fitting = λ at among. none (fault rule.WrongKind at) (Misfit at among refl);
+    callable = callable_method ms sc t none;
+    apart = λ before c after stands. is_false (has (texts before) c.text) (λ again. none (fault rule.SameClockTwice c.at) (ClockAgain before c after stands again refl)) }
+
+-- nowhere in a statement
+abbrev Clean : Signatures → Scope → Statement → Type 0
+Clean ms sc s = (w : Way) (t : Statement) → Stands s w t → Unbroken ms (scope_at sc s w) t
+
+abbrev CleanAmong : Signatures → Scope → Statements → Type 0
+CleanAmong ms sc ss = (w : Way) (t : Statement) → StandsAmong ss w t → Unbroken ms (scope_among sc ss w) t
+
+both_sound : (ms : Signatures) (sc : Scope) (s : Statement) → Clean ms sc s → (Clean ms sc s → IsSoundInside ms sc s) → IsSound ms sc s × IsSoundInside ms sc s
+both_sound ms sc s clean inner = (sound_alone ms sc s (clean Here s refl), inner clean)
+
+mutual
+  sound_inside : (ms : Signatures) (sc : Scope) (s : Statement) → Clean ms sc s → IsSoundInside ms sc s
+  sound_inside ms sc (Block ss) clean = sound_among ms sc ss (λ w t st. clean (Inside w) t st)
+  sound_inside ms sc (If at l c r s) clean = both_sound ms sc s (λ w t st. clean (Inside w) t st) (λ k. sound_inside ms sc s k)
+  sound_inside ms sc (IfElse at l c r s u) clean =
+      (both_sound ms sc s (λ w t st. clean (Inside w) t st) (λ k. sound_inside ms sc s k), both_sound ms sc u (λ w t st. clean (Else w) t st) (λ k. sound_inside ms sc u k))
+  sound_inside ms sc (For at i lo hi s) clean =
+      let there = with_all sc (declares (length sc.bodies) (For at i lo hi s)) in
+      both_sound ms there s (λ w t st. clean (Inside w) t st) (λ k. sound_inside ms there s k)
+  sound_inside ms sc (Async at cs s) clean =
+      let there = with_body sc (clocks_listed cs) in
+      both_sound ms there s (λ w t st. clean (Inside w) t st) (λ k. sound_inside ms there s k)
+  sound_inside ms sc (Finish s) clean = both_sound ms sc s (λ w t st. clean (Inside w) t st) (λ k. sound_inside ms sc s k)
+  sound_inside ms sc _ clean = tt
+
+  sound_among : (ms : Signatures) (sc : Scope) (ss : Statements) → CleanAmong ms sc ss → AreSound ms sc ss
+  sound_among ms sc Done clean = tt
+  sound_among ms sc (More s ss) clean =
+      (both_sound ms sc s (λ w t st. clean (First w) t st) (λ k. sound_inside ms sc s k), sound_among ms (with_all sc (behind (length sc.bodies) s)) ss (λ w t st. clean (Later w) t st))
+
+main_there : (t : TreeValue) → ((HasMain t → ⊥) → ⊥) → HasMain t
+main_there t h = go (find (signatures t.methods) (codes "main")) refl
+  where
+    go : (o : Option (List ParamValue)) → find (signatures t.methods) (codes "main") ≡ o → HasMain t
+    go None e = absurd (h (λ m. let never : None ≡ Some [] = sym e ∙ m in cc))
+    go (Some []) e = e
+    go (Some (p ∷ ps)) e = absurd (h (λ m. let never : Some (p ∷ ps) ≡ Some [] = sym e ∙ m in cc))
+
+pub scoped_tree : (t : TreeValue) → ((f : FrontFault) → HasFault t f → ⊥) → IsScoped t
+scoped_tree t clean = record {
+    bodies = λ m there. sound_among (signatures t.methods) (method_scope t m) m.body (λ w s st f br.
+        clean f (inl (InBody m there (record { way = w; statement = s; stands = st;
+        breaks = subst (λ (k : Scope). Breaks (signatures t.methods) k s f) (among_once (method_scope t m) m.body w ∙ seen_at t m w) br }))));
+    apart = λ m there f r. clean f (inl (InParams m there r));
+    methods_apart = λ f r. clean f (inl (InMethods r));
+    main = main_there t (λ lacks. clean no_main (inr (lacks, refl))) }
+
+-- ---- what a body of `async` sees from outside: shared numbers and numbers that stay, and clocks that it is given
+
+pub seen_from : (sc : Scope) (x : List ℕ) (k : Known) → sees sc x k ≡ true
+    → (k.kind ≡ kind.Shared) ⊎ ((k.kind ≡ kind.Val) ⊎ ((k.depth ≡ length sc.bodies) ⊎ ((k.kind ≡ kind.Clock) × (is_given sc x ≡ true))))
+seen_from sc x k h = go k.kind refl h
+  where
+    own : (d : Kind) → nat_eq k.depth (length sc.bodies) ≡ true → (d ≡ kind.Shared) ⊎ ((d ≡ kind.Val) ⊎ ((k.depth ≡ length sc.bodies) ⊎ ((d ≡ kind.Clock) × (is_given sc x ≡ true))))
+    own d e = inr (inr (inl (eqb-true k.depth (length sc.bodies) e)))
+    clock : (b : Bool) → nat_eq k.depth (length sc.bodies) ≡ b → (b || is_given sc x) ≡ true
+        → (kind.Clock ≡ kind.Shared) ⊎ ((kind.Clock ≡ kind.Val) ⊎ ((k.depth ≡ length sc.bodies) ⊎ ((kind.Clock ≡ kind.Clock) × (is_given sc x ≡ true))))
+    clock true e g = own kind.Clock e
+    clock false e g = inr (inr (inr (refl, g)))
+    go : (d : Kind) → k.kind ≡ d → sees_as d sc x k ≡ true → (d ≡ kind.Shared) ⊎ ((d ≡ kind.Val) ⊎ ((k.depth ≡ length sc.bodies) ⊎ ((d ≡ kind.Clock) × (is_given sc x ≡ true))))
+    go kind.Shared e g = inl refl
+    go kind.Val e g = inr (inl refl)
+    go kind.Var e g = own kind.Var g
+    go kind.Clock e g = clock (nat_eq k.depth (length sc.bodies)) refl g
