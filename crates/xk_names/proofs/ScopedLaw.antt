@@ -33,9 +33,11 @@ right_use ms sc t none u among = go (find sc.names u.name.text) refl
     go : (o : Option Known) → find sc.names u.name.text ≡ o → IsRight sc u
     go None e = absurd (none (fault rule.UnknownName u.name.at) (NotVisible u among e refl))
     go (Some k) e = record {
-        known = k; found = e;
-        right = is_true (fits u.want k.kind) (λ unfit. none (fault rule.WrongKind u.name.at) (OtherKind u k among e unfit refl));
-        seen = is_true (sees sc u.name.text k) (λ unseen. none (fault rule.NotCaptured u.name.at) (NotSeen u k among e unseen refl)) }
+      known = k;
+      found = e;
+      right = is_true (fits u.want k.kind) (λ unfit. none (fault rule.WrongKind u.name.at) (OtherKind u k among e unfit refl));
+      seen = is_true (sees sc u.name.text k) (λ unseen. none (fault rule.NotCaptured u.name.at) (NotSeen u k among e unseen refl));
+    }
 
 new_name : (ms : Signatures) (sc : Scope) (t : Statement) → Unbroken ms sc t → (d : Declaration) → Has (declares (length sc.bodies) t) d → find sc.names d.name.text ≡ None
 new_name ms sc t none d among = go (find sc.names d.name.text) refl
@@ -53,17 +55,19 @@ callable_method ms sc t none g es made = go (find ms g.text) refl
       where
         differ : (qs : List ParamValue) → nat_eq (length qs) (length es) ≡ false → length qs ≡ length es → ⊥
         differ qs no_way equal = let never : true ≡ false = sym (eq-eqb (length qs) (length es) equal) ∙ no_way in cc
+
     go : (o : Option (List ParamValue)) → find ms g.text ≡ o → IsCallable ms g es
     go None e = absurd (none (fault rule.UnknownName g.at) (NoMethod g es made e refl))
     go (Some ps) e = record { params = ps; found = e; count = same ps e (nat_eq (length ps) (length es)) refl }
 
 pub sound_alone : (ms : Signatures) (sc : Scope) (t : Statement) → Unbroken ms sc t → IsSound ms sc t
 sound_alone ms sc t none = record {
-    used = right_use ms sc t none;
-    new = new_name ms sc t none;
-    fitting = λ at among. none (fault rule.WrongKind at) (Misfit at among refl);
-    callable = callable_method ms sc t none;
-    apart = λ before c after stands. is_false (has (texts before) c.text) (λ again. none (fault rule.SameClockTwice c.at) (ClockAgain before c after stands again refl)) }
+  used = right_use ms sc t none;
+  new = new_name ms sc t none;
+  fitting = λ at among. none (fault rule.WrongKind at) (Misfit at among refl);
+  callable = callable_method ms sc t none;
+  apart = λ before c after stands. is_false (has (texts before) c.text) (λ again. none (fault rule.SameClockTwice c.at) (ClockAgain before c after stands again refl));
+}
 
 -- nowhere in a statement
 abbrev Clean : Signatures → Scope → Statement → Type 0
@@ -105,12 +109,17 @@ main_there t h = go (find (signatures t.methods) (codes "main")) refl
 
 pub scoped_tree : (t : TreeValue) → ((f : FrontFault) → HasFault t f → ⊥) → IsScoped t
 scoped_tree t clean = record {
-    bodies = λ m there. sound_among (signatures t.methods) (method_scope t m) m.body (λ w s st f br.
-        clean f (inl (InBody m there (record { way = w; statement = s; stands = st;
-        breaks = subst (λ (k : Scope). Breaks (signatures t.methods) k s f) (among_once (method_scope t m) m.body w ∙ seen_at t m w) br }))));
-    apart = λ m there f r. clean f (inl (InParams m there r));
-    methods_apart = λ f r. clean f (inl (InMethods r));
-    main = main_there t (λ lacks. clean no_main (inr (lacks, refl))) }
+  bodies = λ m there. sound_among (signatures t.methods) (method_scope t m) m.body (λ w s st f br.
+      clean f (inl (InBody m there (record {
+        way = w;
+        statement = s;
+        stands = st;
+        breaks = subst (λ (k : Scope). Breaks (signatures t.methods) k s f) (among_once (method_scope t m) m.body w ∙ seen_at t m w) br;
+      }))));
+  apart = λ m there f r. clean f (inl (InParams m there r));
+  methods_apart = λ f r. clean f (inl (InMethods r));
+  main = main_there t (λ lacks. clean no_main (inr (lacks, refl)));
+}
 
 -- ---- what a body of `async` sees from outside: shared numbers and numbers that stay, and clocks that it is given
 
@@ -120,10 +129,12 @@ seen_from sc x k h = go k.kind refl h
   where
     own : (d : Kind) → nat_eq k.depth (length sc.bodies) ≡ true → (d ≡ kind.Shared) ⊎ ((d ≡ kind.Val) ⊎ ((k.depth ≡ length sc.bodies) ⊎ ((d ≡ kind.Clock) × (is_given sc x ≡ true))))
     own d e = inr (inr (inl (eqb-true k.depth (length sc.bodies) e)))
+
     clock : (b : Bool) → nat_eq k.depth (length sc.bodies) ≡ b → (b || is_given sc x) ≡ true
         → (kind.Clock ≡ kind.Shared) ⊎ ((kind.Clock ≡ kind.Val) ⊎ ((k.depth ≡ length sc.bodies) ⊎ ((kind.Clock ≡ kind.Clock) × (is_given sc x ≡ true))))
     clock true e g = own kind.Clock e
     clock false e g = inr (inr (inr (refl, g)))
+
     go : (d : Kind) → k.kind ≡ d → sees_as d sc x k ≡ true → (d ≡ kind.Shared) ⊎ ((d ≡ kind.Val) ⊎ ((k.depth ≡ length sc.bodies) ⊎ ((d ≡ kind.Clock) × (is_given sc x ≡ true))))
     go kind.Shared e g = inl refl
     go kind.Val e g = inr (inl refl)

@@ -25,12 +25,8 @@ pub fn check_new<'t>(worst: &mut Option<FrontFault>, scope: &Scope<'t>, name: Na
         (when (is_some (find scope.now.names name.entry.text.now))
         FrontRule.DuplicateName name.entry.at) }
 {
-    note_if(
-        scope.find(name.text).is_some(),
-        worst,
-        FrontRule::DuplicateName,
-        name.at,
-    );
+    let is_visible = scope.find(name.text).is_some();
+    note_if(is_visible, worst, FrontRule::DuplicateName, name.at);
 }
 
 fn check_right<'t>(worst: &mut Option<FrontFault>, scope: &Scope<'t>, r: &Right<'t>)
