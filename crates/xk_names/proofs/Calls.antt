@@ -41,5 +41,7 @@ call_found sc g ps es list w w1 w2 w3 w4 is a b c d =
     ∙ sym (least_append (least w (uses list)) (wrong list) (count m n ++ twice list))
     ∙ sym (least_append w (uses list) (wrong list ++ (count m n ++ twice list)))
     ∙ ap (λ k. least w (uses k ++ (wrong k ++ (count m n ++ twice k)))) is
-    ∙ ap (λ k. least w (uses (given (map param_value ps) (expressions es)) ++ (wrong (given (map param_value ps) (expressions es)) ++ (count k n ++ twice (given (map param_value ps) (expressions es)))))) (sym (length_params ps))
-    ∙ ap (λ k. least w (uses (given (map param_value ps) (expressions es)) ++ (wrong (given (map param_value ps) (expressions es)) ++ (count (length (map param_value ps)) k ++ twice (given (map param_value ps) (expressions es)))))) (sym (length_expressions es))
+    ∙ ap (λ k. least w (uses (given (map param_value ps) (expressions es)) ++ (wrong (given (map param_value ps) (expressions es)) ++ (count k n ++ twice
+    (given (map param_value ps) (expressions es)))))) (sym (length_params ps))
+    ∙ ap (λ k. least w (uses (given (map param_value ps) (expressions es)) ++ (wrong (given (map param_value ps) (expressions es)) ++ (count
+    (length (map param_value ps)) k ++ twice (given (map param_value ps) (expressions es)))))) (sym (length_expressions es))

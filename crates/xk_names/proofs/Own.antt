@@ -45,7 +45,8 @@ some_of (Some a) h = (a, refl)
 -- ---- clocks that stand a second time
 
 abbrev Repeated : List (List ℕ) → List Word → FrontFault → Type 0
-Repeated seen cs f = (before : List Word) × ((c : Word) × ((after : List Word) × (cs ≡ before ++ c ∷ after) × (has (seen ++ texts before) c.text ≡ true) × (f ≡ fault rule.SameClockTwice c.at)))
+Repeated seen cs f = (before : List Word) × ((c : Word) × ((after : List Word) × (cs ≡ before ++ c ∷ after) × (has (seen ++ texts before) c.text ≡ true)
+    × (f ≡ fault rule.SameClockTwice c.at)))
 
 append_step : (xs : List (List ℕ)) (y : List ℕ) (ys : List (List ℕ)) → xs ++ y ∷ ys ≡ (xs ++ y ∷ []) ++ ys
 append_step [] y ys = refl
@@ -71,7 +72,8 @@ to_repeats kept seen [] c after f same h e =
     (to_when (has kept c.text) rule.SameClockTwice c.at f (same c.text ∙ sym (ap (λ t. has t c.text) (append_empty seen)) ∙ h) e)
 to_repeats kept seen (b ∷ before) c after f same h e =
     has_right (when (has kept b.text) rule.SameClockTwice b.at) (repeats (put_text kept b.text) (before ++ c ∷ after)) f
-    (to_repeats (put_text kept b.text) (seen ++ b.text ∷ []) before c after f (put_text_same kept seen b.text same) (ap (λ t. has t c.text) (sym (append_step seen b.text (texts before))) ∙ h) e)
+    (to_repeats (put_text kept b.text) (seen ++ b.text ∷ []) before c after f (put_text_same kept seen b.text same)
+    (ap (λ t. has t c.text) (sym (append_step seen b.text (texts before))) ∙ h) e)
 
 -- ---- calls
 
@@ -127,10 +129,12 @@ breaks_where ms sc t f (NotVisible u among e is) =
     inl (to_flat (use_faults sc) (uses ms sc.names t) u f among (subst (λ o. Has (known_use_faults sc u o) f) (sym e) (inl is)))
 breaks_where ms sc t f (OtherKind u k among e unfit is) =
     inl (to_flat (use_faults sc) (uses ms sc.names t) u f among (subst (λ o. Has (known_use_faults sc u o) f) (sym e)
-    (has_left (unless (fits u.want k.kind) rule.WrongKind u.name.at) (unless (sees sc u.name.text k) rule.NotCaptured u.name.at) f (to_unless (fits u.want k.kind) rule.WrongKind u.name.at f unfit is))))
+    (has_left (unless (fits u.want k.kind) rule.WrongKind u.name.at) (unless (sees sc u.name.text k) rule.NotCaptured u.name.at) f
+    (to_unless (fits u.want k.kind) rule.WrongKind u.name.at f unfit is))))
 breaks_where ms sc t f (NotSeen u k among e unseen is) =
     inl (to_flat (use_faults sc) (uses ms sc.names t) u f among (subst (λ o. Has (known_use_faults sc u o) f) (sym e)
-    (has_right (unless (fits u.want k.kind) rule.WrongKind u.name.at) (unless (sees sc u.name.text k) rule.NotCaptured u.name.at) f (to_unless (sees sc u.name.text k) rule.NotCaptured u.name.at f unseen is))))
+    (has_right (unless (fits u.want k.kind) rule.WrongKind u.name.at) (unless (sees sc u.name.text k) rule.NotCaptured u.name.at) f
+    (to_unless (sees sc u.name.text k) rule.NotCaptured u.name.at f unseen is))))
 breaks_where ms sc t f (DeclaredAgain d k among e is) =
     inr (inl (to_flat (again sc.names) (declares (length sc.bodies) t) d f among
     (to_when (is_some (find sc.names d.name.text)) rule.DuplicateName d.name.at f (ap is_some e) is)))

@@ -56,8 +56,10 @@ own_same ms ns a b t one same =
     let ds : List FrontFault = flat_map (again b.names) (declares (length b.bodies) t) in
     let ws : List FrontFault = map (fault rule.WrongKind) (misfits ns t) in
     let cs : List FrontFault = call_faults ns (calls t) in
-    let rest : List FrontFault = flat_map (again a.names) (declares (length a.bodies) t) ++ (map (fault rule.WrongKind) (misfits ms t) ++ (call_faults ms (calls t) ++ repeats [] (clocks_given ms t))) in
-    ap (λ k. k ++ rest) (all_same (use_faults a) (use_faults b) (uses ms a.names t) (λ u. use_same a b u same) ∙ ap (flat_map (use_faults b)) (uses_same ms ns a.names b.names t one same.names))
+    let rest : List FrontFault = flat_map (again a.names) (declares (length a.bodies) t) ++ (map (fault rule.WrongKind)
+    (misfits ms t) ++ (call_faults ms (calls t) ++ repeats [] (clocks_given ms t))) in
+    ap (λ k. k ++ rest) (all_same (use_faults a) (use_faults b) (uses ms a.names t) (λ u. use_same a b u same)
+    ∙ ap (flat_map (use_faults b)) (uses_same ms ns a.names b.names t one same.names))
     ∙ ap (λ k. us ++ (k ++ (map (fault rule.WrongKind) (misfits ms t) ++ (call_faults ms (calls t) ++ repeats [] (clocks_given ms t)))))
     (all_same (again a.names) (again b.names) (declares (length a.bodies) t) (λ d. ap (λ o. when (is_some o) rule.DuplicateName d.name.at) (same.names d.name.text))
     ∙ ap (λ n. flat_map (again b.names) (declares n t)) same.depth)

@@ -20,7 +20,8 @@ no_later_step f g h (inr a) (inr b) = inr (a.0 ∙ b.0, omega (arith, a.1, b.1))
 before_true : (f g : FrontFault) → is_reported_before f g ≡ true → IsNoLater f g
 before_true f g h = go (nat_lt f.at g.at) refl (nat_eq f.at g.at) refl (nat_lt (front_number f.rule) (front_number g.rule)) refl h
   where
-    go : (a : Bool) → nat_lt f.at g.at ≡ a → (b : Bool) → nat_eq f.at g.at ≡ b → (c : Bool) → nat_lt (front_number f.rule) (front_number g.rule) ≡ c → (a || (b && c)) ≡ true → IsNoLater f g
+    go : (a : Bool) → nat_lt f.at g.at ≡ a → (b : Bool) → nat_eq f.at g.at ≡ b → (c : Bool) → nat_lt (front_number f.rule) (front_number g.rule) ≡ c
+        → (a || (b && c)) ≡ true → IsNoLater f g
     go true ea b eb c ec w = inl (ltb-true f.at g.at ea)
     go false ea true eb true ec w = let l = ltb-true (front_number f.rule) (front_number g.rule) ec in inr (eqb-true f.at g.at eb, omega (arith, l))
     go false ea true eb false ec w = cc
@@ -29,7 +30,8 @@ before_true f g h = go (nat_lt f.at g.at) refl (nat_eq f.at g.at) refl (nat_lt (
 before_false : (f g : FrontFault) → is_reported_before f g ≡ false → IsNoLater g f
 before_false f g h = go (nat_lt f.at g.at) refl (nat_eq f.at g.at) refl (nat_lt (front_number f.rule) (front_number g.rule)) refl h
   where
-    go : (a : Bool) → nat_lt f.at g.at ≡ a → (b : Bool) → nat_eq f.at g.at ≡ b → (c : Bool) → nat_lt (front_number f.rule) (front_number g.rule) ≡ c → (a || (b && c)) ≡ false → IsNoLater g f
+    go : (a : Bool) → nat_lt f.at g.at ≡ a → (b : Bool) → nat_eq f.at g.at ≡ b → (c : Bool) → nat_lt (front_number f.rule) (front_number g.rule) ≡ c
+        → (a || (b && c)) ≡ false → IsNoLater g f
     go true ea b eb c ec w = cc
     go false ea true eb true ec w = cc
     go false ea true eb false ec w = let l = ltb-false (front_number f.rule) (front_number g.rule) ec in inr (sym (eqb-true f.at g.at eb), l)
@@ -39,7 +41,8 @@ before_false f g h = go (nat_lt f.at g.at) refl (nat_eq f.at g.at) refl (nat_lt 
         apart l differ = elim (cases_lt g.at f.at) [ inl less ↦ less | inr more ↦ absurd (differ (omega arith)) ]
 
 -- what is kept of one more
-pub lesser_kept : (w : Option FrontFault) (f : FrontFault) → (r : FrontFault) × ((lesser w f ≡ Some r) × ((f ≡ r) ⊎ (w ≡ Some r)) × IsNoLater r f × ((g : FrontFault) → w ≡ Some g → IsNoLater r g))
+pub lesser_kept : (w : Option FrontFault) (f : FrontFault) → (r : FrontFault) × ((lesser w f ≡ Some r) × ((f ≡ r) ⊎ (w ≡ Some r)) × IsNoLater r f
+    × ((g : FrontFault) → w ≡ Some g → IsNoLater r g))
 lesser_kept None f = (f, (refl, inl refl, no_later_same f, λ g e. absurd (none-some g e)))
 lesser_kept (Some g) f = go (is_reported_before f g) refl
   where

@@ -72,7 +72,8 @@ not_seen = InBody (main not_seen_body) (inl refl) (record {
 })
 
 -- what that place sees: `x`, from outside of the one body that holds it
-not_seen_scope : scope_in (alone not_seen_body) (main not_seen_body) (Later (First (Inside (Inside (First Here))))) ≡ record { names = (codes "x", known kind.Var 0) ∷ []; bodies = [] ∷ [] }
+not_seen_scope : scope_in (alone not_seen_body) (main not_seen_body) (Later (First (Inside (Inside
+    (First Here))))) ≡ record { names = (codes "x", known kind.Var 0) ∷ []; bodies = [] ∷ [] }
 not_seen_scope = refl
 
 -- `val c = Clock.make(); async { c.resume(); }`: the body isn't given the clock
@@ -113,7 +114,10 @@ ended_scope = InBody (main ended_body) (inl refl) (record {
 
 -- `shared s = 0; shared t = 0; def main() { s = t; }`
 abbrev two_shared : TreeValue
-two_shared = program (record { name = named 7 (codes "s"); start = record { minus = None; at = 11; value = pos 0 } } ∷ record { name = named 21 (codes "t"); start = record { minus = None; at = 25; value = pos 0 } } ∷ [])
+two_shared = program (record { name = named 7 (codes "s"); start = record { minus = None; at = 11; value = pos 0 } } ∷ record {
+  name = named 21 (codes "t");
+  start = record { minus = None; at = 25; value = pos 0 };
+} ∷ [])
     (main (More (Assign (named 41 (codes "s")) (Named (named 45 (codes "t")))) Done) ∷ [])
 
 shared_to_shared : HasNameFault two_shared (fault rule.WrongKind 45)
@@ -147,7 +151,10 @@ make_misfit = InBody (main type_body) (inl refl) (record {
 
 -- `def f(c: Clock, x: Clock) { } def main() { val c = Clock.make(); f(BODY); }`
 abbrev taker : MethodValue
-taker = method (named 4 (codes "f")) (record { name = c 6; takes = record { at = 9; kind = param.Clock } } ∷ record { name = x 16; takes = record { at = 19; kind = param.Clock } } ∷ []) Done
+taker = method (named 4 (codes "f")) (record { name = c 6; takes = record { at = 9; kind = param.Clock } } ∷ record {
+  name = x 16;
+  takes = record { at = 19; kind = param.Clock };
+} ∷ []) Done
 
 abbrev call : List Expression → Statement
 call es = Call (named 64 (codes "f")) 65 es
@@ -198,7 +205,10 @@ method_again = InMethods (record { before = taker ∷ []; method = taker; after 
 
 -- `def f(c: Clock, c: Clock) { }`
 abbrev twice : MethodValue
-twice = method (named 4 (codes "f")) (record { name = c 6; takes = record { at = 9; kind = param.Clock } } ∷ record { name = c 16; takes = record { at = 19; kind = param.Clock } } ∷ []) Done
+twice = method (named 4 (codes "f")) (record { name = c 6; takes = record { at = 9; kind = param.Clock } } ∷ record {
+  name = c 16;
+  takes = record { at = 19; kind = param.Clock };
+} ∷ []) Done
 
 param_again : HasNameFault (program [] (twice ∷ main Done ∷ [])) (fault rule.DuplicateName 16)
 param_again = InParams twice (inl refl) (record {

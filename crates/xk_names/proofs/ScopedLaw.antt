@@ -96,8 +96,11 @@ mutual
 
   sound_among : (ms : Signatures) (sc : Scope) (ss : Statements) → CleanAmong ms sc ss → AreSound ms sc ss
   sound_among ms sc Done clean = tt
-  sound_among ms sc (More s ss) clean =
-      (both_sound ms sc s (λ w t st. clean (First w) t st) (λ k. sound_inside ms sc s k), sound_among ms (with_all sc (behind (length sc.bodies) s)) ss (λ w t st. clean (Later w) t st))
+  sound_among ms sc (More s ss) clean = (
+    both_sound ms sc s (λ w t st. clean (First w) t st) (λ k. sound_inside ms sc s k),
+    sound_among ms (with_all sc (behind (length sc.bodies) s)) ss
+        (λ w t st. clean (Later w) t st),
+  )
 
 main_there : (t : TreeValue) → ((HasMain t → ⊥) → ⊥) → HasMain t
 main_there t h = go (find (signatures t.methods) (codes "main")) refl
@@ -127,7 +130,8 @@ pub seen_from : (sc : Scope) (x : List ℕ) (k : Known) → sees sc x k ≡ true
     → (k.kind ≡ kind.Shared) ⊎ ((k.kind ≡ kind.Val) ⊎ ((k.depth ≡ length sc.bodies) ⊎ ((k.kind ≡ kind.Clock) × (is_given sc x ≡ true))))
 seen_from sc x k h = go k.kind refl h
   where
-    own : (d : Kind) → nat_eq k.depth (length sc.bodies) ≡ true → (d ≡ kind.Shared) ⊎ ((d ≡ kind.Val) ⊎ ((k.depth ≡ length sc.bodies) ⊎ ((d ≡ kind.Clock) × (is_given sc x ≡ true))))
+    own : (d : Kind) → nat_eq k.depth (length sc.bodies) ≡ true → (d ≡ kind.Shared) ⊎ ((d ≡ kind.Val)
+        ⊎ ((k.depth ≡ length sc.bodies) ⊎ ((d ≡ kind.Clock) × (is_given sc x ≡ true))))
     own d e = inr (inr (inl (eqb-true k.depth (length sc.bodies) e)))
 
     clock : (b : Bool) → nat_eq k.depth (length sc.bodies) ≡ b → (b || is_given sc x) ≡ true

@@ -50,7 +50,8 @@ after_turn sc there ss i s h is b =
     ∙ ap (λ (k : List Stmt). after sc (statements k)) (sym (drop-cons ss i s h))
 
 -- one method more
-pub methods_turn : (ms : Signatures) (names seen : Table Known) (all : List Method) (i : ℕ) (m : Method) (w v : Option FrontFault) → i < length all → m ≡ get_or all i m → seen ≡ names
+pub methods_turn : (ms : Signatures) (names seen : Table Known) (all : List Method) (i : ℕ) (m : Method) (w v : Option FrontFault) → i < length all → m ≡ get_or all i m
+    → seen ≡ names
     → v ≡ least w (method_faults ms seen (method_value m))
     → least v (flat_map (method_faults ms names) (map method_value (drop (i + 1) all))) ≡ least w (flat_map (method_faults ms names) (map method_value (drop i all)))
 methods_turn ms names seen all i m w v h is same a =

@@ -39,7 +39,8 @@ pub put_absent : {A : Type 0} (es : Kept A) (k : Bor (List ℕ)) (a : A) → is_
     → shown (insert_entry (λ x y. pointwise nat_eq x.now y.now) es k a) ≡ put (shown es) k.now a
 put_absent {A} es k a h = go (lookup (λ j. pointwise nat_eq k.now j.now) es) refl h
   where
-    go : (o : Option A) → lookup (λ j. pointwise nat_eq k.now j.now) es ≡ o → is_some o ≡ false → shown (insert_entry (λ x y. pointwise nat_eq x.now y.now) es k a) ≡ put (shown es) k.now a
+    go : (o : Option A) → lookup (λ j. pointwise nat_eq k.now j.now) es ≡ o → is_some o ≡ false
+        → shown (insert_entry (λ x y. pointwise nat_eq x.now y.now) es k a) ≡ put (shown es) k.now a
     go (Some b) e g = cc
     go None e g =
         ap shown (insert_absent es k a e) ∙ append_shown es k a

@@ -43,7 +43,8 @@ InwardAmong ms sc ss f = (w : Way) × ((t : Statement) × (StandsAmong ss w t ×
 own_here : (ms ns : Signatures) (a b : Scope) (s : Statement) (f : FrontFault) → FindsSame ms ns → Agrees a b → Has (own ms a s) f → Breaks ns b s f
 own_here ms ns a b s f one same h = own_breaks ns b s f (subst (λ k. Has k f) (own_same ms ns a b s one same) h)
 
-or_here : (ms ns : Signatures) (a b : Scope) (s : Statement) (f : FrontFault) → FindsSame ms ns → Agrees a b → (Has (inside ms a s) f → Inward ns b s f) → Has (faults ms a s) f → Inward ns b s f
+or_here : (ms ns : Signatures) (a b : Scope) (s : Statement) (f : FrontFault) → FindsSame ms ns → Agrees a b → (Has (inside ms a s) f → Inward ns b s f)
+    → Has (faults ms a s) f → Inward ns b s f
 or_here ms ns a b s f one same later h = elim (has_either (own ms a s) (inside ms a s) f h) [
   | inl x ↦ (Here, (s, (refl, own_here ms ns a b s f one same x)))
   | inr y ↦ later y
@@ -86,7 +87,8 @@ mutual
 -- ---- what stands somewhere is in the list
 
 mutual
-  pub listed : (ms ns : Signatures) (a b : Scope) (s : Statement) (w : Way) (t : Statement) (f : FrontFault) → FindsSame ms ns → Agrees a b → Stands s w t → Breaks ns (scope_at b s w) t f → Has (faults ms a s) f
+  pub listed : (ms ns : Signatures) (a b : Scope) (s : Statement) (w : Way) (t : Statement) (f : FrontFault) → FindsSame ms ns → Agrees a b → Stands s w t
+      → Breaks ns (scope_at b s w) t f → Has (faults ms a s) f
   listed ms ns a b s Here t f one same st br =
       has_left (own ms a s) (inside ms a s) f
       (subst (λ k. Has k f) (sym (own_same ms ns a b s one same)) (breaks_own ns b s f (subst (λ (r : Statement). Breaks ns b r f) (sym st) br)))
@@ -106,7 +108,8 @@ mutual
   listed ms ns a b (Finish s) (Inside w) t f one same st br = has_right (own ms a (Finish s)) (faults ms a s) f (listed ms ns a b s w t f one same st br)
   listed ms ns a b _ _ t f one same st br = absurd st
 
-  pub listed_among : (ms ns : Signatures) (a b : Scope) (ss : Statements) (w : Way) (t : Statement) (f : FrontFault) → FindsSame ms ns → Agrees a b → StandsAmong ss w t → Breaks ns (scope_among b ss w) t f → Has (among ms a ss) f
+  pub listed_among : (ms ns : Signatures) (a b : Scope) (ss : Statements) (w : Way) (t : Statement) (f : FrontFault) → FindsSame ms ns → Agrees a b → StandsAmong ss w t
+      → Breaks ns (scope_among b ss w) t f → Has (among ms a ss) f
   listed_among ms ns a b (More s ss) (First w) t f one same st br =
       has_left (faults ms a s) (among ms (with_declared a (behind (length a.bodies) s)) ss) f (listed ms ns a b s w t f one same st br)
   listed_among ms ns a b (More s ss) (Later w) t f one same st br =
@@ -137,11 +140,13 @@ stays_at : (sc : Scope) (s : Statement) → sc ≡ scope_of (sc.names ++ entries
 stays_at sc (Block ss) = stays sc
 stays_at sc _ = stays sc
 
-stays_first : (sc : Scope) (s : Statement) (w : Way) → scope_at sc s (First w) ≡ scope_of (sc.names ++ entries (declared_at (length sc.bodies) s (First w))) (bodies_at sc.bodies s (First w))
+stays_first : (sc : Scope) (s : Statement) (w : Way) → scope_at sc s (First w) ≡ scope_of (sc.names ++ entries (declared_at (length sc.bodies) s (First w)))
+    (bodies_at sc.bodies s (First w))
 stays_first sc (Block ss) w = stays sc
 stays_first sc _ w = stays sc
 
-stays_later : (sc : Scope) (s : Statement) (w : Way) → scope_at sc s (Later w) ≡ scope_of (sc.names ++ entries (declared_at (length sc.bodies) s (Later w))) (bodies_at sc.bodies s (Later w))
+stays_later : (sc : Scope) (s : Statement) (w : Way) → scope_at sc s (Later w) ≡ scope_of (sc.names ++ entries (declared_at (length sc.bodies) s (Later w)))
+    (bodies_at sc.bodies s (Later w))
 stays_later sc (Block ss) w = stays sc
 stays_later sc _ w = stays sc
 
@@ -161,7 +166,8 @@ mutual
   at_once sc (Finish s) (Inside w) = at_once sc s w
   at_once sc _ _ = stays sc
 
-  pub among_once : (sc : Scope) (ss : Statements) (w : Way) → scope_among sc ss w ≡ scope_of (sc.names ++ entries (declared_among (length sc.bodies) ss w)) (bodies_among sc.bodies ss w)
+  pub among_once : (sc : Scope) (ss : Statements) (w : Way) → scope_among sc ss w ≡ scope_of (sc.names ++ entries (declared_among (length sc.bodies) ss w))
+      (bodies_among sc.bodies ss w)
   among_once sc (More s ss) (First w) = at_once sc s w
   among_once sc (More s ss) (Later w) =
       let ds = behind (length sc.bodies) s in

@@ -55,16 +55,39 @@ methods_found (m ∷ ms) x = go (is_text x m.name.text) (methods_found ms x)
     go false h = h
 
 from_again : (kept : Table Known) (seen ds : List Declaration) (f : FrontFault) → FindsSame kept (entries seen) → Has (declared_again kept ds) f
-    → (before : List Declaration) × ((d : Declaration) × ((after : List Declaration) × (ds ≡ before ++ d ∷ after) × (has (texts (map (λ e. e.name) (seen ++ before))) d.name.text ≡ true) × (f ≡ fault rule.DuplicateName d.name.at)))
+    → (before : List Declaration) × ((d : Declaration) × ((after : List Declaration) × (ds ≡ before ++ d ∷ after)
+    × (has (texts (map (λ e. e.name) (seen ++ before))) d.name.text ≡ true) × (f ≡ fault rule.DuplicateName d.name.at)))
 from_again kept seen [] f same h = absurd h
 from_again kept seen (d ∷ ds) f same h = elim (has_either (again kept d) (declared_again (put kept d.name.text d.known) ds) f h) [
-  | inl a ↦ let r = from_when (is_some (find kept d.name.text)) rule.DuplicateName d.name.at f a in
-      ([], (d, (ds, refl, ap (λ (k : List Declaration). has (texts (map (λ e. e.name) k)) d.name.text) (append_empty seen) ∙ sym (names_found seen d.name.text) ∙ sym (ap is_some (same d.name.text)) ∙ r.0, r.1)))
+  | inl a ↦ let r = from_when (is_some (find kept d.name.text)) rule.DuplicateName d.name.at f a in (
+    [],
+    (
+      d,
+      (
+        ds,
+        refl,
+        ap (λ (k : List Declaration). has (texts (map (λ e. e.name) k)) d.name.text) (append_empty seen) ∙ sym (names_found seen d.name.text)
+            ∙ sym (ap is_some (same d.name.text)) ∙ r.0,
+        r.1,
+      ),
+    ),
+  )
   | inr b ↦
       let more : FindsSame (put kept d.name.text d.known) (entries (seen ++ d ∷ [])) =
       λ x. put_same kept (entries seen) d.name.text d.known same x ∙ ap (λ t. find t x) (sym (append_entries seen (d ∷ []))) in
-      let r = from_again (put kept d.name.text d.known) (seen ++ d ∷ []) ds f more b in
-      (d ∷ r.0, (r.1.0, (r.1.1.0, ap (λ t. d ∷ t) r.1.1.1, ap (λ (k : List Declaration). has (texts (map (λ e. e.name) k)) r.1.0.name.text) (append_step seen d r.0) ∙ r.1.1.2, r.1.1.3)))
+      let r = from_again (put kept d.name.text d.known) (seen ++ d ∷ []) ds f more b in (
+        d ∷ r.0,
+        (
+          r.1.0,
+          (
+            r.1.1.0,
+            ap (λ t. d ∷ t) r.1.1.1,
+            ap (λ (k : List Declaration). has (texts (map (λ e. e.name) k)) r.1.0.name.text) (append_step seen d r.0)
+                ∙ r.1.1.2,
+            r.1.1.3,
+          ),
+        ),
+      )
 ]
 
 to_again : (kept : Table Known) (seen before : List Declaration) (d : Declaration) (after : List Declaration) (f : FrontFault) → FindsSame kept (entries seen)
@@ -80,7 +103,8 @@ to_again kept seen (b ∷ before) d after f same h e =
     (to_again (put kept b.name.text b.known) (seen ++ b ∷ []) before d after f more
     (ap (λ (k : List Declaration). has (texts (map (λ e. e.name) k)) d.name.text) (sym (append_step seen b before)) ∙ h) e)
 
-again_joined : (kept : Table Known) (ds es : List Declaration) (f : FrontFault) → Has (declared_again kept (ds ++ es)) f → Has (declared_again kept ds) f ⊎ Has (declared_again (put_all kept ds) es) f
+again_joined : (kept : Table Known) (ds es : List Declaration) (f : FrontFault) → Has (declared_again kept (ds ++ es)) f → Has (declared_again kept ds) f
+    ⊎ Has (declared_again (put_all kept ds) es) f
 again_joined kept [] es f h = inr h
 again_joined kept (d ∷ ds) es f h = elim (has_either (again kept d) (declared_again (put kept d.name.text d.known) (ds ++ es)) f h) [
   | inl a ↦ inl (has_left (again kept d) (declared_again (put kept d.name.text d.known) ds) f a)
@@ -93,17 +117,41 @@ again_joined kept (d ∷ ds) es f h = elim (has_either (again kept d) (declared_
 -- ---- lists of methods
 
 from_methods : (kept : Signatures) (seen ms : List MethodValue) (f : FrontFault) → FindsSame kept (signatures seen) → Has (methods_again kept ms) f
-    → (before : List MethodValue) × ((m : MethodValue) × ((after : List MethodValue) × (ms ≡ before ++ m ∷ after) × (has (texts (map (λ n. n.name) (seen ++ before))) m.name.text ≡ true) × (f ≡ fault rule.DuplicateName m.name.at)))
+    → (before : List MethodValue) × ((m : MethodValue) × ((after : List MethodValue) × (ms ≡ before ++ m ∷ after)
+    × (has (texts (map (λ n. n.name) (seen ++ before))) m.name.text ≡ true) × (f ≡ fault rule.DuplicateName m.name.at)))
 from_methods kept seen [] f same h = absurd h
-from_methods kept seen (m ∷ ms) f same h = elim (has_either (when (is_some (find kept m.name.text)) rule.DuplicateName m.name.at) (methods_again (put kept m.name.text m.params) ms) f h) [
-  | inl a ↦ let r = from_when (is_some (find kept m.name.text)) rule.DuplicateName m.name.at f a in
-      ([], (m, (ms, refl, ap (λ (k : List MethodValue). has (texts (map (λ n. n.name) k)) m.name.text) (append_empty seen) ∙ sym (methods_found seen m.name.text) ∙ sym (ap is_some (same m.name.text)) ∙ r.0, r.1)))
-  | inr b ↦
-      let more : FindsSame (put kept m.name.text m.params) (signatures (seen ++ m ∷ [])) =
-      λ x. put_same kept (signatures seen) m.name.text m.params same x ∙ ap (λ t. find t x) (sym (append_signatures seen (m ∷ []))) in
-      let r = from_methods (put kept m.name.text m.params) (seen ++ m ∷ []) ms f more b in
-      (m ∷ r.0, (r.1.0, (r.1.1.0, ap (λ t. m ∷ t) r.1.1.1, ap (λ (k : List MethodValue). has (texts (map (λ n. n.name) k)) r.1.0.name.text) (append_step seen m r.0) ∙ r.1.1.2, r.1.1.3)))
-]
+from_methods kept seen (m ∷ ms) f same h = elim (has_either (when (is_some (find kept m.name.text)) rule.DuplicateName m.name.at)
+    (methods_again (put kept m.name.text m.params) ms) f h) [
+      | inl a ↦ let r = from_when (is_some (find kept m.name.text)) rule.DuplicateName m.name.at f a in (
+        [],
+        (
+          m,
+          (
+            ms,
+            refl,
+            ap (λ (k : List MethodValue). has (texts (map (λ n. n.name) k)) m.name.text) (append_empty seen) ∙ sym (methods_found seen m.name.text)
+                ∙ sym (ap is_some (same m.name.text)) ∙ r.0,
+            r.1,
+          ),
+        ),
+      )
+      | inr b ↦
+          let more : FindsSame (put kept m.name.text m.params) (signatures (seen ++ m ∷ [])) =
+          λ x. put_same kept (signatures seen) m.name.text m.params same x ∙ ap (λ t. find t x) (sym (append_signatures seen (m ∷ []))) in
+          let r = from_methods (put kept m.name.text m.params) (seen ++ m ∷ []) ms f more b in (
+            m ∷ r.0,
+            (
+              r.1.0,
+              (
+                r.1.1.0,
+                ap (λ t. m ∷ t) r.1.1.1,
+                ap (λ (k : List MethodValue). has (texts (map (λ n. n.name) k)) r.1.0.name.text) (append_step seen m r.0)
+                    ∙ r.1.1.2,
+                r.1.1.3,
+              ),
+            ),
+          )
+    ]
 
 to_methods : (kept : Signatures) (seen before : List MethodValue) (m : MethodValue) (after : List MethodValue) (f : FrontFault) → FindsSame kept (signatures seen)
     → has (texts (map (λ n. n.name) (seen ++ before))) m.name.text ≡ true → f ≡ fault rule.DuplicateName m.name.at → Has (methods_again kept (before ++ m ∷ after)) f

@@ -22,19 +22,24 @@ pub data Breaks (ms : Signatures) (sc : Scope) (t : Statement) (f : FrontFault) 
   -- a name is used that isn't visible
   NotVisible : (u : Use) → Has (uses ms sc.names t) u → find sc.names u.name.text ≡ None → f ≡ fault rule.UnknownName u.name.at → Breaks ms sc t f
   -- a name is used as what it isn't
-  OtherKind : (u : Use) (k : Known) → Has (uses ms sc.names t) u → find sc.names u.name.text ≡ Some k → fits u.want k.kind ≡ false → f ≡ fault rule.WrongKind u.name.at → Breaks ms sc t f
+  OtherKind : (u : Use) (k : Known) → Has (uses ms sc.names t) u → find sc.names u.name.text ≡ Some k → fits u.want k.kind ≡ false → f ≡ fault rule.WrongKind u.name.at
+      → Breaks ms sc t f
   -- a body of `async` uses a `var` from outside, or a clock that it isn't given
-  NotSeen : (u : Use) (k : Known) → Has (uses ms sc.names t) u → find sc.names u.name.text ≡ Some k → sees sc u.name.text k ≡ false → f ≡ fault rule.NotCaptured u.name.at → Breaks ms sc t f
+  NotSeen : (u : Use) (k : Known) → Has (uses ms sc.names t) u → find sc.names u.name.text ≡ Some k → sees sc u.name.text k ≡ false
+      → f ≡ fault rule.NotCaptured u.name.at → Breaks ms sc t f
   -- a name is declared that is visible already
-  DeclaredAgain : (d : Declaration) (k : Known) → Has (declares (length sc.bodies) t) d → find sc.names d.name.text ≡ Some k → f ≡ fault rule.DuplicateName d.name.at → Breaks ms sc t f
+  DeclaredAgain : (d : Declaration) (k : Known) → Has (declares (length sc.bodies) t) d → find sc.names d.name.text ≡ Some k → f ≡ fault rule.DuplicateName d.name.at
+      → Breaks ms sc t f
   -- a type, a `Clock.make()`, an argument or the second name of an `atomic` is of the wrong kind
   Misfit : (at : ℕ) → Has (misfits ms t) at → f ≡ fault rule.WrongKind at → Breaks ms sc t f
   -- a method is called that doesn't exist
   NoMethod : (g : Word) (es : List Expression) → calls t ≡ Some (g, es) → find ms g.text ≡ None → f ≡ fault rule.UnknownName g.at → Breaks ms sc t f
   -- a call has more or fewer arguments than the method has parameters
-  OtherCount : (g : Word) (es : List Expression) (ps : List ParamValue) → calls t ≡ Some (g, es) → find ms g.text ≡ Some ps → length ps ≢ length es → f ≡ fault rule.Arity g.at → Breaks ms sc t f
+  OtherCount : (g : Word) (es : List Expression) (ps : List ParamValue) → calls t ≡ Some (g, es) → find ms g.text ≡ Some ps → length ps ≢ length es
+      → f ≡ fault rule.Arity g.at → Breaks ms sc t f
   -- a clock stands in a list, or among a call's arguments, a second time
-  ClockAgain : (before : List Word) (c : Word) (after : List Word) → clocks_given ms t ≡ before ++ c ∷ after → has (texts before) c.text ≡ true → f ≡ fault rule.SameClockTwice c.at → Breaks ms sc t f
+  ClockAgain : (before : List Word) (c : Word) (after : List Word) → clocks_given ms t ≡ before ++ c ∷ after → has (texts before) c.text ≡ true
+      → f ≡ fault rule.SameClockTwice c.at → Breaks ms sc t f
 
 -- ---- programs
 

@@ -6,7 +6,8 @@ use Rattle.xk_names.proofs.arguments.arguments.Goals.{then-params-values, else-p
 
 pub returns : goal.returns
 returns c =
-    let past : min (length c.args.params.now) (length c.args.values.now) ≤ c.loop-i.i = elim c.if-params-values.branch [ then-params-values w ↦ omega arith | else-params-values w ↦ omega arith ] in
+    let past : min (length c.args.params.now)
+    (length c.args.values.now) ≤ c.loop-i.i = elim c.if-params-values.branch [ then-params-values w ↦ omega arith | else-params-values w ↦ omega arith ] in
     sym (append-nil (arguments c.loop-i.given.items))
     ∙ ap (λ r. arguments c.loop-i.given.items ++ r) (sym (given_end c.args.params.now c.args.values.now c.loop-i.i past))
     ∙ c.loop-i.invariant

@@ -12,12 +12,14 @@ returns-in-Some-clause-fault c = λ f e.
 
 pub returns-then-has_main-clause-clean : goal.returns-then-has_main-clause-clean
 returns-then-has_main-clause-clean c =
-    clean_tree (tree_value c.args.tree.now) c.in_ok-worst.worst c.in_ok-worst.methods c.in_ok-worst.ensures.worst c.in-None.is c.in_ok-worst.ensures.methods (c.has_main.ensures.0 c.if-has_main.true)
+    clean_tree (tree_value c.args.tree.now) c.in_ok-worst.worst c.in_ok-worst.methods c.in_ok-worst.ensures.worst c.in-None.is c.in_ok-worst.ensures.methods
+    (c.has_main.ensures.0 c.if-has_main.true)
 
 pub returns-then-has_main-clause-scoped : goal.returns-then-has_main-clause-scoped
 returns-then-has_main-clause-scoped c =
     scoped_tree (tree_value c.args.tree.now)
-    (clean_tree (tree_value c.args.tree.now) c.in_ok-worst.worst c.in_ok-worst.methods c.in_ok-worst.ensures.worst c.in-None.is c.in_ok-worst.ensures.methods (c.has_main.ensures.0 c.if-has_main.true))
+    (clean_tree (tree_value c.args.tree.now) c.in_ok-worst.worst c.in_ok-worst.methods c.in_ok-worst.ensures.worst c.in-None.is c.in_ok-worst.ensures.methods
+    (c.has_main.ensures.0 c.if-has_main.true))
 
 pub returns-clause-fault : goal.returns-clause-fault
 returns-clause-fault c = λ f e.

@@ -8,6 +8,7 @@ abbrev pub invariant-loop-param : goal.invariant-loop-param
 invariant-loop-param l = record {
   faults : least l.worst (declared_again l.scope.names (map param_declaration (map param_value (drop l.param-index l.params))))
       ≡ least l.fn.worst (declared_again l.fn.scope.names (map param_declaration (map param_value l.params)));
-  scope : with_declared l.scope (map param_declaration (map param_value (drop l.param-index l.params))) ≡ with_declared l.fn.scope (map param_declaration (map param_value l.params));
+  scope : with_declared l.scope (map param_declaration (map param_value (drop l.param-index l.params))) ≡ with_declared l.fn.scope
+      (map param_declaration (map param_value l.params));
   outside : l.scope.bodies ≡ [];
 }
