@@ -86,11 +86,13 @@ pub record AreWritten {A : Type 0} (value : A → Data) (InRange : A → Type 0)
 -- ---- texts
 
 -- what is written for a module's value is its compact text
-pub compact_of : (s : String Global) (d : Data) (m : ModuleValue) → d ≡ module_value m → (has_float d ≡ false → string_bytes s ≡ compact_text d) → string_bytes s ≡ compact_text (module_value m)
+pub compact_of : (s : String Global) (d : Data) (m : ModuleValue) → d ≡ module_value m → (has_float d ≡ false → string_bytes s ≡ compact_text d)
+    → string_bytes s ≡ compact_text (module_value m)
 compact_of s d m value text = text (ap has_float value ∙ module_no_float m) ∙ ap compact_text value
 
 -- and a text of the module
-pub written_text : (s : String Global) (d : Data) (m : ModuleValue) → d ≡ module_value m → IsInRange m → (depth d ≤ max_depth → read (string_bytes s) ≡ Some d) → IsModuleText (string_bytes s) m
+pub written_text : (s : String Global) (d : Data) (m : ModuleValue) → d ≡ module_value m → IsInRange m
+    → (depth d ≤ max_depth → read (string_bytes s) ≡ Some d) → IsModuleText (string_bytes s) m
 written_text s d m value range reads =
     let few : depth d ≤ max_depth = subst (λ (d : Data). depth d ≤ max_depth) (sym value) (let most = module_depth m in omega arith) in
     (d, record { utf8 = IsUtf8-string_bytes s; value = reads few }, record { value = value; range = range })
