@@ -1,5 +1,5 @@
 -- Names that are added to a list, and numbers of names.
-use Rattle.std.proofs.Common.{◌≡◌, ℕ, zero, suc, ◌+◌, Bool, true, false, cond, nat_eq, List, [], ◌∷◌, ◌++◌, map, Vec, Option, Some, None, refl, sym, ap, ◌∙◌, ◌<◌, length, get_or, drop, append_assoc, arith}
+use Rattle.std.proofs.Common.{◌≡◌, ℕ, zero, suc, ◌+◌, Bool, true, false, cond, List, [], ◌∷◌, ◌++◌, map, Vec, Option, Some, None, refl, sym, ap, ◌∙◌, ◌<◌, length, get_or, drop, append_assoc, arith}
 use Rattle.std.specs.Prelude.{is_some}
 use Rattle.std.specs.declared.alloc.Global.{Global}
 use Rattle.std.specs.Cmp.Lexicographic.{bytes_decides}
@@ -45,7 +45,8 @@ find_last (e ∷ table) k x i o = go (is_text x e.0) (find_last table k x i o)
     go false later = later
 
 -- a name that the table has already
-find_present : (table : Table ℕ) (k x : List ℕ) (i : ℕ) (o : Option ℕ) → is_some (find table k) ≡ true → first_of (find table x) o ≡ first_of (find table x) (cond (is_text x k) (Some i) o)
+find_present : (table : Table ℕ) (k x : List ℕ) (i : ℕ) (o : Option ℕ) → is_some (find table k) ≡ true
+    → first_of (find table x) o ≡ first_of (find table x) (cond (is_text x k) (Some i) o)
 find_present table k x i o h = go (is_text x k) refl
   where
     there : (p q : Option ℕ) → is_some p ≡ true → first_of p o ≡ first_of p q
@@ -80,7 +81,8 @@ left_names f (w ∷ vs) zero v h e = ap (λ (u : Vec Name Global). f (words u.it
 left_names f (w ∷ vs) (suc k) v h e = left_names f vs k v (omega arith) e
 
 -- one list more
-pub rows_step : (f : List Word → List ℕ) (rs : List (Vec ℕ Global)) (r : Vec ℕ Global) (vs : List (Vec Name Global)) (k : ℕ) (v : Vec Name Global) → k < length vs → v ≡ get_or vs k v
+pub rows_step : (f : List Word → List ℕ) (rs : List (Vec ℕ Global)) (r : Vec ℕ Global) (vs : List (Vec Name Global)) (k : ℕ) (v : Vec Name Global) → k < length vs
+    → v ≡ get_or vs k v
     → r.items ≡ f (words v.items)
     → rows (rs ++ r ∷ []) ++ map f (map (λ ns. words ns.items) (drop (suc k) vs)) ≡ rows rs ++ map f (map (λ ns. words ns.items) (drop k vs))
 rows_step f rs r vs k v h e is =

@@ -1,17 +1,17 @@
 -- Calls of a tree, and calls among methods that are numbers.
-use Rattle.std.proofs.Common.{◌≡◌, ◌⊎◌, inl, inr, ℕ, zero, suc, ◌+◌, ◌<◌, ◌≤◌, Bool, true, false, cond, List, [], ◌∷◌, ◌++◌, Vec, map, length, get_or, Option, Some, None, slice_get, refl, sym, ap, ◌∙◌, subst, arith, length-append}
+use Rattle.std.proofs.Common.{◌≡◌, inl, inr, ℕ, zero, suc, ◌+◌, ◌<◌, Bool, true, false, cond, List, [], ◌∷◌, ◌++◌, Vec, map, length, get_or, Option, Some, None, slice_get, refl, sym, ap, ◌∙◌, subst, arith, length-append}
 use Rattle.std.proofs.lemmas.List.{length-map}
 use Rattle.std.specs.Prelude.{unwrap_or, codes}
 use Rattle.std.specs.declared.alloc.Global.{Global}
 use Rattle.std.specs.Cmp.Lexicographic.{bytes_decides}
-use Rattle.xk_calls.specs.Calls.{called_by, IsCall, Path, Reaches, IsRecursive, AreWithin}
+use Rattle.xk_calls.specs.Calls.{IsCall, Path, IsRecursive, AreWithin}
 use Rattle.xk_tree.specs.declared.fault.FrontRule.TheVariants as rule
 use Rattle.xk_tree.specs.declared.fault.FrontFault.{FrontFault}
 use Rattle.xk_tree.specs.Tree.{Word, MethodValue, TreeValue, word, words}
 use Rattle.xk_tree.specs.declared.tree.Name.{Name}
 use Rattle.xk_names.specs.Scope.{Table, find, is_text, Has}
 use Rattle.xk_names.specs.Faults.{fault}
-use Rattle.xk_units.specs.Recursion.{number_among, method_number, HasCall, CallsBy, LeadTo, IsReached, IsMainCalled, ComesBack}
+use Rattle.xk_units.specs.Recursion.{number_among, HasCall, CallsBy, LeadTo, IsMainCalled, ComesBack}
 use Rattle.xk_units.specs.Callees.{callees_all, all_callees, first_of, main_among, main_in, number_or_last, numbers_called, graph}
 use Rattle.xk_units.proofs.Listed.{has_at, place_of, is_listed_among, stands_among}
 
@@ -94,7 +94,8 @@ known_number t x j m (Some n) is e = ap Some e
 known_number t x j m None is e = absurd (past_end t.methods m (subst (λ (n : ℕ). slice_get t.methods n ≡ Some m) (sym e) is))
 
 -- who stands at the beginning of a path to a method is one
-starts : (t : TreeValue) (ns : List ℕ) (i d : ℕ) (m : MethodValue) → slice_get t.methods d ≡ Some m → Path (graph t.methods) ns i d → (n : MethodValue) × (slice_get t.methods i ≡ Some n)
+starts : (t : TreeValue) (ns : List ℕ) (i d : ℕ) (m : MethodValue) → slice_get t.methods d ≡ Some m → Path (graph t.methods) ns i d
+    → (n : MethodValue) × (slice_get t.methods i ≡ Some n)
 starts t [] i d m is p = (m, subst (λ (n : ℕ). slice_get t.methods n ≡ Some m) (sym p) is)
 starts t (n ∷ ns) i d m is p = let q = meant t i p.0.0 n p.0.1 in (q.method, q.is)
 
@@ -147,12 +148,15 @@ is_recursive t f b =
 
 -- ---- calls of `main`
 
-main_has : (gs : List Word) (at : ℕ) → main_among gs ≡ Some at → (g : Word) × Has gs g × (g.text ≡ codes "main") × (g.at ≡ at)
+-- one of these calls is of `main`, there
+abbrev MainAmong : List Word → ℕ → Type 0
+MainAmong gs at = (g : Word) × Has gs g × (g.text ≡ codes "main") × (g.at ≡ at)
+
+main_has : (gs : List Word) (at : ℕ) → main_among gs ≡ Some at → MainAmong gs at
 main_has [] at e = absurd cc
 main_has (g ∷ gs) at e = go (is_text g.text (codes "main")) refl e (main_has gs at)
   where
-    go : (b : Bool) → is_text g.text (codes "main") ≡ b → cond b (Some g.at) (main_among gs) ≡ Some at
-        → (main_among gs ≡ Some at → (h : Word) × Has gs h × (h.text ≡ codes "main") × (h.at ≡ at)) → (h : Word) × Has (g ∷ gs) h × (h.text ≡ codes "main") × (h.at ≡ at)
+    go : (b : Bool) → is_text g.text (codes "main") ≡ b → cond b (Some g.at) (main_among gs) ≡ Some at → (main_among gs ≡ Some at → MainAmong gs at) → MainAmong (g ∷ gs) at
     go true same h later = (g, inl refl, (bytes_decides g.text (codes "main")).0 same, cc)
     go false same h later = let r = later h in (r.0, inr r.1, r.2, r.3)
 
@@ -160,20 +164,22 @@ main_none : (gs : List Word) (g : Word) → main_among gs ≡ None → Has gs g 
 main_none [] g e h is = h
 main_none (y ∷ gs) g e h is = go (is_text y.text (codes "main")) refl e h (main_none gs g)
   where
-    go : (b : Bool) → is_text y.text (codes "main") ≡ b → cond b (Some y.at) (main_among gs) ≡ None → Has (y ∷ gs) g → (main_among gs ≡ None → Has gs g → g.text ≡ codes "main" → ⊥) → ⊥
+    go : (b : Bool) → is_text y.text (codes "main") ≡ b → cond b (Some y.at) (main_among gs) ≡ None → Has (y ∷ gs) g
+        → (main_among gs ≡ None → Has gs g → g.text ≡ codes "main" → ⊥) → ⊥
     go true same e h later = cc
     go false same e (inl q) later = let yes = (bytes_decides y.text (codes "main")).1 (ap (λ (w : Word). w.text) (sym q) ∙ is) in cc
     go false same e (inr q) later = later e q is
 
--- one of some methods calls `main`
-pub main_called : (ms : List MethodValue) (at : ℕ) → main_in (all_callees ms) ≡ Some at
-    → (i : ℕ) × (m : MethodValue) × (g : Word) × (slice_get ms i ≡ Some m) × Has (callees_all m.body) g × (g.text ≡ codes "main") × (g.at ≡ at)
+-- one of some methods calls `main` there
+abbrev pub MainIn : List MethodValue → ℕ → Type 0
+MainIn ms at = (i : ℕ) × (m : MethodValue) × (g : Word) × (slice_get ms i ≡ Some m) × Has (callees_all m.body) g × (g.text ≡ codes "main") × (g.at ≡ at)
+
+pub main_called : (ms : List MethodValue) (at : ℕ) → main_in (all_callees ms) ≡ Some at → MainIn ms at
 main_called [] at e = absurd cc
 main_called (m ∷ ms) at e = go (main_among (callees_all m.body)) refl e (main_called ms at)
   where
     go : (o : Option ℕ) → main_among (callees_all m.body) ≡ o → first_of o (main_in (all_callees ms)) ≡ Some at
-        → (main_in (all_callees ms) ≡ Some at → (i : ℕ) × (n : MethodValue) × (g : Word) × (slice_get ms i ≡ Some n) × Has (callees_all n.body) g × (g.text ≡ codes "main") × (g.at ≡ at))
-        → (i : ℕ) × (n : MethodValue) × (g : Word) × (slice_get (m ∷ ms) i ≡ Some n) × Has (callees_all n.body) g × (g.text ≡ codes "main") × (g.at ≡ at)
+        → (main_in (all_callees ms) ≡ Some at → MainIn ms at) → MainIn (m ∷ ms) at
     go (Some a) here h later = let r = main_has (callees_all m.body) at (here ∙ h) in (zero, m, r.0, refl, r.1, r.2, r.3)
     go None here h later = let r = later h in (suc r.0, r.1, r.2, r.3, r.4, r.5, r.6)
 
@@ -181,11 +187,13 @@ first_none : (a b : Option ℕ) → first_of a b ≡ None → (a ≡ None) × (b
 first_none (Some x) b e = cc
 first_none None b e = (refl, e)
 
-pub main_uncalled : (ms : List MethodValue) (i : ℕ) (m : MethodValue) (g : Word) → main_in (all_callees ms) ≡ None → slice_get ms i ≡ Some m → Has (callees_all m.body) g → g.text ≡ codes "main" → ⊥
+pub main_uncalled : (ms : List MethodValue) (i : ℕ) (m : MethodValue) (g : Word) → main_in (all_callees ms) ≡ None → slice_get ms i ≡ Some m → Has (callees_all m.body) g
+    → g.text ≡ codes "main" → ⊥
 main_uncalled [] i m g e at h is = cc
 main_uncalled (n ∷ ms) zero m g e at h is =
     let same : n ≡ m = cc in
-    main_none (callees_all n.body) g (first_none (main_among (callees_all n.body)) (main_in (all_callees ms)) e).0 (subst (λ (k : MethodValue). Has (callees_all k.body) g) (sym same) h) is
+    let nothing = first_none (main_among (callees_all n.body)) (main_in (all_callees ms)) e in
+    main_none (callees_all n.body) g nothing.0 (subst (λ (k : MethodValue). Has (callees_all k.body) g) (sym same) h) is
 main_uncalled (n ∷ ms) (suc i) m g e at h is = main_uncalled ms i m g (first_none (main_among (callees_all n.body)) (main_in (all_callees ms)) e).1 at h is
 
 -- `main` is called where it is found to be, and nowhere if it isn't found
@@ -232,7 +240,8 @@ pub list_of : (t : TreeValue) (i k j : ℕ) (m : Meant t i k j) → slice_get (a
 list_of t i k j m = at_mapped (λ (n : MethodValue). callees_all n.body) t.methods i m.method m.is
 
 -- the graph, as it is made from a table of numbers
-pub graph_is : (lists : List (List Word)) (ms : List MethodValue) (table : Table ℕ) (n : ℕ) → lists ≡ all_callees ms → n ≡ length lists → ((x : List ℕ) → find table x ≡ number_among 0 ms x)
+pub graph_is : (lists : List (List Word)) (ms : List MethodValue) (table : Table ℕ) (n : ℕ) → lists ≡ all_callees ms → n ≡ length lists
+    → ((x : List ℕ) → find table x ≡ number_among 0 ms x)
     → map (λ gs. map (λ g. unwrap_or (find table g.text) n) gs) lists ++ [] ∷ [] ≡ graph ms
 graph_is lists ms table n is len finds =
     ap (λ (r : List (List ℕ)). r ++ [] ∷ []) (all_same lists ∙ ap (map (numbers_called ms)) is)
@@ -247,7 +256,8 @@ graph_is lists ms table n is len finds =
 
     all_same : (ls : List (List Word)) → map (λ gs. map (λ g. unwrap_or (find table g.text) n) gs) ls ≡ map (numbers_called ms) ls
     all_same [] = refl
-    all_same (gs ∷ ls) = ap (λ (r : List ℕ). r ∷ map (λ hs. map (λ g. unwrap_or (find table g.text) n) hs) ls) (same gs) ∙ ap (λ (r : List (List ℕ)). numbers_called ms gs ∷ r) (all_same ls)
+    all_same (gs ∷ ls) = ap (λ (r : List ℕ). r ∷ map (λ hs. map (λ g. unwrap_or (find table g.text) n) hs) ls) (same gs)
+        ∙ ap (λ (r : List (List ℕ)). numbers_called ms gs ∷ r) (all_same ls)
 
 -- a recursive call in the graph, where its name stands in these lists
 pub record Found (t : TreeValue) (lists : List (List Word)) (i k : ℕ) : Type 0 where

@@ -1,12 +1,12 @@
 -- Small programs with and without recursion.
-use Rattle.std.proofs.Common.{◌≡◌, inl, inr, ℕ, zero, suc, ◌+◌, pos, List, [], ◌∷◌, refl, sym, subst, Option, Some, None}
+use Rattle.std.proofs.Common.{◌≡◌, inl, inr, ℕ, zero, suc, ◌+◌, pos, List, [], ◌∷◌, refl, sym, subst, None}
 use Rattle.std.specs.Prelude.{codes}
-use Rattle.xk_calls.specs.Calls.{Path, IsCall, IsRecursive}
+use Rattle.xk_calls.specs.Calls.{Path, IsCall}
 use Rattle.xk_tree.specs.declared.fault.FrontRule.TheVariants as rule
 use Rattle.xk_tree.specs.declared.fault.FrontFault.{FrontFault}
 use Rattle.xk_tree.specs.declared.tree.Number.{Number}
-use Rattle.xk_tree.specs.Tree.{Word, MethodValue, TreeValue, Statement, Statements, Done, More, Block, For, Async, Call}
-use Rattle.xk_names.specs.Places.{Way, Here, First, Later, Inside}
+use Rattle.xk_tree.specs.Tree.{Word, MethodValue, TreeValue, Statement, Statements, Done, More, For, Async, Call}
+use Rattle.xk_names.specs.Places.{Here, First, Inside}
 use Rattle.xk_names.specs.Faults.{fault}
 use Rattle.xk_units.specs.Recursion.{HasCall, HasRecursion}
 use Rattle.xk_units.specs.Callees.{graph}

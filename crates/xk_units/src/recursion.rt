@@ -5,7 +5,7 @@ ghost use Rattle.xk_tree.specs.declared.fault.FrontFault.{FrontFault as Fault};
 ghost use Rattle.xk_calls.specs.Calls.{rows};
 ghost use Rattle.xk_tree.specs.Tree.{Word, method_value, tree_value, words};
 ghost use Rattle.xk_names.specs.Faults.{fault};
-ghost use Rattle.xk_units.specs.Recursion.{ComesBack, HasRecursion, IsMainCalled};
+ghost use Rattle.xk_units.specs.Recursion.{ComesBack, HasRecursion};
 ghost use Rattle.xk_units.specs.Callees.{all_callees, graph, main_among, main_in};
 
 use crate::callees::{called_numbers, callees, numbers_by_name};

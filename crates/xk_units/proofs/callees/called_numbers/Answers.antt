@@ -1,4 +1,4 @@
-use Rattle.std.proofs.Common.{◌≡◌, ◌++◌, [], ◌∷◌, ℕ, suc, List, map, drop, length, sym, ap, ◌∙◌, add-one}
+use Rattle.std.proofs.Common.{◌++◌, ℕ, suc, List, map, drop, length, ap, ◌∙◌, add-one}
 use Rattle.std.specs.Prelude.{unwrap_or}
 use Rattle.xk_calls.specs.Calls.{rows}
 use Rattle.xk_tree.specs.Tree.{Word, words}

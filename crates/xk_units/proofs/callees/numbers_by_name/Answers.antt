@@ -1,4 +1,4 @@
-use Rattle.std.proofs.Common.{◌≡◌, ℕ, suc, ◌+◌, Option, Some, cond, map, drop, sym, ap, ◌∙◌, add-one}
+use Rattle.std.proofs.Common.{ℕ, ◌+◌, Option, Some, cond, map, drop, sym, ap, ◌∙◌, add-one}
 use Rattle.xk_tree.specs.Tree.{method_value}
 use Rattle.xk_names.specs.Scope.{find, is_text}
 use Rattle.xk_units.specs.Recursion.{number_among}

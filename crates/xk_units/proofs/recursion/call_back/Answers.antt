@@ -1,4 +1,4 @@
-use Rattle.std.proofs.Common.{◌≡◌, ◌<◌, ◌∙◌, ap, sym, subst, length, map, List, ℕ, arith}
+use Rattle.std.proofs.Common.{◌∙◌, ap, sym, subst, map, List, ℕ, arith}
 use Rattle.std.proofs.lemmas.List.{length-map}
 use Rattle.xk_calls.specs.Calls.{rows, AreWithin, IsRecursive}
 use Rattle.xk_tree.specs.declared.fault.FrontRule.TheVariants as rule

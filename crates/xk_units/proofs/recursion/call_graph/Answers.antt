@@ -1,4 +1,4 @@
-use Rattle.std.proofs.Common.{◌≡◌, ◌∙◌, ap, sym, length, map, List, ℕ}
+use Rattle.std.proofs.Common.{◌∙◌, ap, sym, length, map, List}
 use Rattle.std.proofs.lemmas.List.{length-map}
 use Rattle.xk_tree.specs.Tree.{method_value, words}
 use Rattle.xk_tree.specs.declared.tree.Method.{Method}
