@@ -1,0 +1,149 @@
+-- Small programs, and the units that they have, by evaluation.
+use Rattle.std.proofs.Common.{◌≡◌, ℕ, ℤ, pos, List, [], ◌∷◌, codes, Option, Some, None, refl}
+use Rattle.xk_types.specs.declared.instr.Comparison.TheVariants as comparison
+use Rattle.xk_types.specs.declared.instr.Instr.TheVariants as instr
+use Rattle.xk_types.specs.declared.unit.UnitKind.TheVariants as unit_kind
+use Rattle.xk_types.specs.declared.unit.ParamKind.TheVariants as param
+use Rattle.xk_types.specs.Code.{UnitValue}
+use Rattle.xk_tree.specs.declared.tree.Binding.TheVariants as binding
+use Rattle.xk_tree.specs.declared.tree.Operator.TheVariants as operator
+use Rattle.xk_tree.specs.declared.tree.Number.{Number}
+use Rattle.xk_tree.specs.declared.tree.Verb.{Verb}
+use Rattle.xk_tree.specs.Tree.{Word, Clocks, Expression, Literal, Named, Paren, Negation, Binary, Make, Value, Statement, Statements, Done, More, Block, Empty, Declare, Assign, Atomic, If, IfElse, For, Async, Finish, Call, Resume, Drop, AdvanceAll, Print}
+use Rattle.xk_codegen.specs.CodeOf.{Setting, code_of}
+use Rattle.xk_codegen.specs.Unit.{unit_of}
+
+-- ---- trees, where offsets don't matter
+
+abbrev w : List ℕ → Word
+w text = record { at = 0; text = text }
+
+abbrev number : ℤ → Number
+number n = record { minus = None; at = 0; value = n }
+
+abbrev verb : Verb
+verb = record { at = 0; paren = 0 }
+
+abbrev lit : ℤ → Expression
+lit n = Literal (number n)
+
+abbrev var : List ℕ → Expression
+var x = Named (w x)
+
+abbrev val_is : List ℕ → Expression → Statement
+val_is x e = Declare binding.Val (w x) None (Value e)
+
+abbrev val_makes : List ℕ → Statement
+val_makes c = Declare binding.Val (w c) None (Make 0 verb)
+
+abbrev print : Expression → Statement
+print e = Print 0 verb e
+
+abbrev clocked : List ℕ → Option Clocks
+clocked c = Some (record { paren = 0; names = w c ∷ [] })
+
+abbrev main_unit : Setting → Statements → UnitValue
+main_unit cx ss = unit_of cx unit_kind.Main [] [] (Block ss)
+
+-- ---- an activity that is handed a clock
+
+abbrev with_body : Setting
+with_body = record { shared = []; methods = []; bodies = (7, record { unit = 1; captures = [] }) ∷ [] }
+
+abbrev hands : Statement
+hands = Block (More (AdvanceAll 0 verb) (More (print (lit (pos 2))) Done))
+
+main_hands : main_unit with_body (More (val_makes (codes "c")) (More (Async 7 (clocked (codes "c")) hands) (More (AdvanceAll 0 verb) (More (print (lit (pos 1))) Done))))
+    ≡ record {
+      kind = unit_kind.Main;
+      params = [];
+      slots = 2;
+      code =
+          instr.Make 0 ∷ instr.Spawn 1 (0 ∷ []) ∷ instr.Advance ∷ instr.Lit 1 (pos 1) ∷ instr.Print 1 ∷ instr.Ret ∷ [];
+    }
+main_hands = refl
+
+body_handed : unit_of with_body unit_kind.Body (codes "c" ∷ []) (param.Clock ∷ []) hands
+    ≡ record { kind = unit_kind.Body; params = param.Clock ∷ []; slots = 2; code = instr.Advance ∷ instr.Lit 1 (pos 2) ∷ instr.Print 1 ∷ instr.Ret ∷ [] }
+body_handed = refl
+
+-- ---- a comparison
+
+abbrev bare : Setting
+bare = record { shared = []; methods = []; bodies = [] }
+
+main_compares : main_unit bare (More (val_makes (codes "c")) (More (val_is (codes "n") (lit (pos 1)))
+    (More (If 0 (var (codes "n")) comparison.Eq (lit (pos 1)) (Block (More (Drop (w (codes "c")) verb) Done))) (More (Resume (w (codes "c")) verb) Done))))
+    ≡ record {
+      kind = unit_kind.Main;
+      params = [];
+      slots = 3;
+      code =
+          instr.Make 0 ∷ instr.Lit 1 (pos 1) ∷ instr.Lit 2 (pos 1) ∷ instr.Unless comparison.Eq 1 2 5 ∷ instr.Drop 0 ∷ instr.Resume 0 ∷ instr.Ret ∷ [];
+    }
+main_compares = refl
+
+-- the same with an `else`
+main_chooses : main_unit bare (More (val_is (codes "n") (lit (pos 2)))
+    (More (IfElse 0 (var (codes "n")) comparison.Eq (lit (pos 1)) (Block (More (print (lit (pos 1))) Done)) (Block (More (print (lit (pos 0))) Done))) Done))
+    ≡ record {
+      kind = unit_kind.Main;
+      params = [];
+      slots = 2;
+      code =
+          instr.Lit 0 (pos 2) ∷ instr.Lit 1 (pos 1) ∷ instr.Unless comparison.Eq 0 1 6 ∷ instr.Lit 1 (pos 1) ∷ instr.Print 1 ∷ instr.Jump 8
+          ∷ instr.Lit 1 (pos 0) ∷ instr.Print 1 ∷ instr.Ret ∷ [];
+    }
+main_chooses = refl
+
+-- ---- a loop in a finish, and a shared number
+
+abbrev adding : Setting
+adding = record { shared = (codes "s", 0) ∷ []; methods = []; bodies = (9, record { unit = 1; captures = codes "i" ∷ [] }) ∷ [] }
+
+abbrev adds : Statement
+adds = Block (More (Atomic (w (codes "s")) (w (codes "s")) 0 (var (codes "i"))) Done)
+
+main_adds : main_unit adding (More (Finish (Block (More (For 0 (w (codes "i")) (number (pos 1)) (number (pos 3)) (Async 9 None adds)) Done)))
+    (More (val_is (codes "r") (var (codes "s"))) (More (print (var (codes "r"))) Done)))
+    ≡ record {
+      kind = unit_kind.Main;
+      params = [];
+      slots = 2;
+      code =
+          instr.Finish 4 ∷ instr.For 0 (pos 1) (pos 3) 3 ∷ instr.Spawn 1 (0 ∷ []) ∷ instr.Next 1 ∷ instr.EndFinish 0 ∷ instr.Get 1 0 ∷ instr.Print 1 ∷ instr.Ret ∷ [];
+    }
+main_adds = refl
+
+body_adds : unit_of adding unit_kind.Body (codes "i" ∷ []) (param.Number ∷ []) adds
+    ≡ record { kind = unit_kind.Body; params = param.Number ∷ []; slots = 1; code = instr.AddTo 0 0 ∷ instr.Ret ∷ [] }
+body_adds = refl
+
+-- ---- temporaries, and shared numbers that are written
+
+abbrev calling : Setting
+calling = record { shared = (codes "s", 0) ∷ []; methods = (codes "f", 1) ∷ []; bodies = [] }
+
+-- each argument has the next free temporary; the last instruction of an assignment writes the name's own slot
+main_calls : main_unit calling (More (Declare binding.Var (w (codes "x")) None (Value (lit (pos 1))))
+    (More (Call (w (codes "f")) 0 (lit (pos 5) ∷ var (codes "x") ∷ Binary operator.Plus (var (codes "x")) 0 (lit (pos 2)) ∷ []))
+    (More (Assign (w (codes "x")) (Binary operator.Times (Paren 0 (Binary operator.Minus (var (codes "x")) 0 (lit (pos 3)))) 0 (Negation 0 (var (codes "x")))))
+    (More (Assign (w (codes "s")) (Paren 0 (var (codes "x")))) (More (Assign (w (codes "x")) (var (codes "s"))) Done)))))
+    ≡ record {
+      kind = unit_kind.Main;
+      params = [];
+      slots = 3;
+      code =
+          instr.Lit 0 (pos 1)
+          ∷ instr.Lit 1 (pos 5) ∷ instr.Lit 2 (pos 2) ∷ instr.Add 2 0 2 ∷ instr.Call 1 (1 ∷ 0 ∷ 2 ∷ [])
+          ∷ instr.Lit 1 (pos 3) ∷ instr.Sub 1 0 1 ∷ instr.Lit 2 (pos 0) ∷ instr.Sub 2 2 0 ∷ instr.Mul 0 1 2
+          ∷ instr.Put 0 0 ∷ instr.Get 0 0 ∷ instr.Ret ∷ [];
+    }
+main_calls = refl
+
+-- ---- no turn
+
+-- a loop with no turn has no code, and its names have their slots
+main_skips : main_unit bare (More (For 0 (w (codes "i")) (number (pos 1)) (number (pos 0)) (val_is (codes "x") (lit (pos 1)))) (More Empty (More (val_is (codes "y") (Paren 0 (lit (pos 3)))) Done)))
+    ≡ record { kind = unit_kind.Main; params = []; slots = 3; code = instr.Lit 2 (pos 3) ∷ instr.Ret ∷ [] }
+main_skips = refl

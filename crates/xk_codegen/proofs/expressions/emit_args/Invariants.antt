@@ -1,0 +1,10 @@
+use Rattle.std.proofs.Common.{◌≡◌, ◌++◌, drop}
+use Rattle.xk_tree.specs.Tree.{expressions}
+use Rattle.xk_codegen.specs.CodeOf.{argument_slots, eval_all}
+use Rattle.xk_codegen.proofs.expressions.emit_args.Given as goal
+
+-- what was emitted so far, and what the arguments that are left need, are that of all
+abbrev pub invariant-loop-arg : goal.invariant-loop-arg
+invariant-loop-arg l =
+    (l.code.items ++ eval_all l.scope l.next (expressions (drop l.arg-index l.args)) ≡ l.initial.code.items ++ eval_all l.scope l.t (expressions l.args))
+    × (l.slots.items ++ argument_slots l.scope l.next (expressions (drop l.arg-index l.args)) ≡ argument_slots l.scope l.t (expressions l.args))

@@ -1,0 +1,10 @@
+use Rattle.std.proofs.Common.{◌≡◌, ◌+◌, ◌++◌, drop, length}
+use Rattle.xk_tree.specs.Tree.{statements}
+use Rattle.xk_codegen.specs.CodeOf.{count_all, code_of_all, declared_by_all}
+use Rattle.xk_codegen.proofs.Patched.{AreEmitted}
+use Rattle.xk_codegen.proofs.statements.Emitter.+emit.Given as goal
+
+-- what was emitted so far, and what the statements that are left need, are that of all
+abbrev pub invariant-emit_all-loop-s : goal.invariant-emit_all-loop-s
+invariant-emit_all-loop-s l =
+    AreEmitted l.self.setting.now l.self.free (statements l.ss) l.initial.code.items l.initial.scope l.n (statements (drop l.s-index l.ss)) l.code.items l.scope l.next

@@ -1,0 +1,559 @@
+//! The code of statements.
+
+ghost use Rattle.std.specs.Prelude.{◌≡◌, ℕ, ◌+◌, List, [], ◌∷◌, ◌++◌, length, map, option_map, OnOk, IfOk};
+ghost use Rattle.xk_types.specs.declared.instr.Instr.{Instr as Instruction};
+ghost use Rattle.xk_types.specs.declared.instr.Instr.TheVariants as instr;
+ghost use Rattle.xk_tree.specs.Tree.{Statement, Statements, clock_list, word, words, expression, expressions, source, statement, statements};
+ghost use Rattle.xk_names.specs.Scope.{Table as Names, find, texts};
+ghost use Rattle.xk_names.specs.Uses.{clocks_listed};
+ghost use Rattle.xk_codegen.specs.CodeOf.{argument_slots, before_assigned, before_into, body_params, body_unit, both, code_of, code_of_all, code_of_source, count, count_all, declared, declared_by_all, eval, eval_all, last_assigned, last_value, number_of, second, shared_alone, slot_for, slots_of};
+
+use crate::error::CodeError;
+use crate::expressions::{Scope, after, emit_args, emit_both, emit_expr, emit_into, number, push};
+use crate::setting::Setting;
+use std::alloc::Global;
+use xk_tree::{ClockList, Expr, Name, Number, Right, Stmt};
+use xk_types::{Args, Comparison, Instr, MAX_ARGS, MAX_CODE};
+
+/// Makes the code of one unit.
+#[derive(Drop)]
+pub(crate) struct Emitter<'a, 't> {
+    pub(crate) alloc: Global,
+    pub(crate) setting: &'a Setting<'t>,
+    /// The first temporary.
+    pub(crate) free: u16,
+}
+
+/// The place of the next instruction.
+fn place(code: &Vec<Instr>) -> Result<u16, CodeError>
+    ensures { IfOk result (λ p. p ≡ length code.now.items) }
+{
+    let n = code.len();
+    if n < MAX_CODE {
+        Ok(n as u16)
+    } else {
+        Err(CodeError::Table)
+    }
+}
+
+/// Puts an instruction where a gap was left for it.
+fn patch(code: &mut Vec<Instr>, at: usize, instr: Instr)
+    ensures { (front rest : List Instruction) (gap : Instruction)
+        → code.old.items ≡ front ++ gap ∷ rest → at ≡ length front
+        → code.new.items ≡ front ++ instr ∷ rest }
+{
+    if at < code.len() {
+        code[at] = instr;
+    }
+}
+
+/// Leaves a gap for an instruction, and says where.
+fn gap(code: &mut Vec<Instr>) -> Result<u16, CodeError>
+    ensures place { IfOk result (λ at. at ≡ length code.old.items) }
+    ensures code { OnOk result (code.new.items ≡ code.old.items ++ instr.Jump 0 ∷ []) }
+{
+    let at = place(code)?;
+    push(code, Instr::Jump(0))?;
+    Ok(at)
+}
+
+/// A comparison for which a gap was left, and the slots of what it compares.
+#[derive(Clone, Copy, Debug)]
+struct Test {
+    at: u16,
+    op: Comparison,
+    x: u16,
+    y: u16,
+}
+
+/// Fills the gap of a comparison that goes behind the code that followed the gap.
+fn close_test(code: &mut Vec<Instr>, test: Test) -> Result<(), CodeError>
+    ensures { OnOk result ((front body : List Instruction) (old : Instruction)
+        → code.old.items ≡ front ++ old ∷ body → test.at ≡ length front
+        → code.new.items
+        ≡ front ++ instr.Unless test.op test.x test.y (length front + 1 + length body) ∷ body) }
+{
+    let end = place(code)?;
+    patch(
+        code,
+        test.at as usize,
+        Instr::Unless(test.op, test.x, test.y, end),
+    );
+    Ok(())
+}
+
+/// The same where an `else` follows: leaves a gap for the jump over it, and says where.
+fn begin_else(code: &mut Vec<Instr>, test: Test) -> Result<u16, CodeError>
+    ensures place { IfOk result (λ at. at ≡ length code.old.items) }
+    ensures code { OnOk result ((front body : List Instruction) (old : Instruction)
+        → code.old.items ≡ front ++ old ∷ body → test.at ≡ length front
+        → code.new.items
+        ≡ front ++ instr.Unless test.op test.x test.y (length front + 1 + length body + 1)
+        ∷ (body ++ instr.Jump 0 ∷ [])) }
+{
+    let at = gap(code)?;
+    close_test(code, test)?;
+    Ok(at)
+}
+
+/// Fills the gap of a jump that goes behind the code that followed the gap.
+fn close_else(code: &mut Vec<Instr>, at: u16) -> Result<(), CodeError>
+    ensures { OnOk result ((front body : List Instruction) (old : Instruction)
+        → code.old.items ≡ front ++ old ∷ body → at ≡ length front
+        → code.new.items ≡ front ++ instr.Jump (length front + 1 + length body) ∷ body) }
+{
+    let end = place(code)?;
+    patch(code, at as usize, Instr::Jump(end));
+    Ok(())
+}
+
+/// Begins a loop over slot n, which its name has inside: leaves a gap and says where, and which is the next slot.
+fn open_loop<'t>(
+    code: &mut Vec<Instr>,
+    scope: &mut Scope<'t>,
+    i: Name<'t>,
+    n: u16,
+) -> Result<(u16, u16), CodeError>
+    ensures place { IfOk result (λ begun. begun.0 ≡ length code.old.items) }
+    ensures next { IfOk result (λ begun. begun.1 ≡ n + 1) }
+    ensures code { OnOk result (code.new.items ≡ code.old.items ++ instr.Jump 0 ∷ []) }
+    ensures scope { OnOk result (scope.new ≡ scope.old ++ (i.entry.text.now, n) ∷ []) }
+{
+    let first = gap(code)?;
+    declare(scope, i, n)?;
+    Ok((first, after(n)?))
+}
+
+/// Ends a loop over slot n, for which a gap was left.
+fn close_loop(
+    code: &mut Vec<Instr>,
+    at: u16,
+    n: u16,
+    lo: Number,
+    hi: Number,
+) -> Result<(), CodeError>
+    ensures { OnOk result ((front body : List Instruction) (old : Instruction)
+        → code.old.items ≡ front ++ old ∷ body → at ≡ length front
+        → code.new.items ≡ front ++ instr.For n lo.value hi.value (length front + 1 + length body)
+        ∷ (body ++ instr.Next (length front) ∷ [])) }
+{
+    let end = place(code)?;
+    push(code, Instr::Next(at))?;
+    patch(code, at as usize, Instr::For(n, lo.value, hi.value, end));
+    Ok(())
+}
+
+/// Ends a finish, for which a gap was left.
+fn close_finish(code: &mut Vec<Instr>, at: u16) -> Result<(), CodeError>
+    ensures { OnOk result ((front body : List Instruction) (old : Instruction)
+        → code.old.items ≡ front ++ old ∷ body → at ≡ length front
+        → code.new.items ≡ front ++ instr.Finish (length front + 1 + length body)
+        ∷ (body ++ instr.EndFinish (length front) ∷ [])) }
+{
+    let end = place(code)?;
+    push(code, Instr::EndFinish(at))?;
+    patch(code, at as usize, Instr::Finish(end));
+    Ok(())
+}
+
+/// A name that is declared has the next slot.
+fn declare<'t>(scope: &mut Scope<'t>, x: Name<'t>, n: u16) -> Result<(), CodeError>
+    ensures { OnOk result (scope.new ≡ scope.old ++ (x.entry.text.now, n) ∷ []) }
+{
+    if scope.find(x.text).is_some() {
+        return Err(CodeError::Name);
+    }
+    scope.put(x.text, n)?;
+    Ok(())
+}
+
+/// The names of a scope that ends are no longer visible: `len` of them were before it.
+#[tactic(auto, using(crate::proofs::Scopes::cut_back, crate::proofs::Scopes::cut_all_back, crate::proofs::Scopes::cut_loop_back))]
+fn cut(scope: &mut Scope<'_>, len: usize)
+    ensures statement { (names : Names ℕ) (n : ℕ) (s : Statement)
+        → scope.old ≡ declared names n s → len ≡ length names → scope.new ≡ names }
+    ensures statements { (names : Names ℕ) (n : ℕ) (ss : Statements)
+        → scope.old ≡ declared_by_all names n ss → len ≡ length names → scope.new ≡ names }
+    ensures turn { (names : Names ℕ) (x : List ℕ) (n m : ℕ) (s : Statement)
+        → scope.old ≡ declared (names ++ (x, n) ∷ []) m s → len ≡ length names
+        → scope.new ≡ names }
+{
+    scope.truncate(len);
+}
+
+/// The slots of names, behind others.
+fn push_names<'t>(
+    slots: &mut Vec<u16>,
+    scope: &Scope<'t>,
+    names: &[Name<'t>],
+) -> Result<(), CodeError>
+    ensures { OnOk result (slots.new.items
+        ≡ slots.old.items ++ slots_of scope.now (texts (words names.now))) }
+{
+    for name in names {
+        slots.push(number(scope, *name)?)?;
+    }
+    Ok(())
+}
+
+/// The same for the names of captured numbers.
+fn push_texts<'t>(
+    slots: &mut Vec<u16>,
+    scope: &Scope<'t>,
+    names: &[&'t [u8]],
+) -> Result<(), CodeError>
+    ensures { OnOk result (slots.new.items
+        ≡ slots.old.items ++ slots_of scope.now (map (λ x. x.now) names.now)) }
+{
+    for name in names {
+        slots.push(scope.find(*name).ok_or(CodeError::Name)?)?;
+    }
+    Ok(())
+}
+
+/// The slots of the clocks that an `async` lists.
+fn clock_slots<'t>(
+    alloc: Global,
+    scope: &Scope<'t>,
+    clocks: &Option<ClockList<'t>>,
+) -> Result<Vec<u16>, CodeError>
+    ensures { IfOk result (λ slots. slots.items
+        ≡ slots_of scope.now (texts (clocks_listed (option_map clock_list clocks.now)))) }
+{
+    let mut slots = Vec::new(alloc);
+    if let Some(list) = clocks {
+        push_names(&mut slots, scope, &list.names)?;
+    }
+    Ok(slots)
+}
+
+/// What is handed to a unit.
+fn args(slots: Vec<u16>) -> Result<Args, CodeError>
+    ensures { IfOk result (λ args. args ≡ slots.items) }
+{
+    if slots.len() > MAX_ARGS {
+        return Err(CodeError::Table);
+    }
+    Ok(Args::new(slots))
+}
+
+impl<'a, 't> Emitter<'a, 't> {
+    /// The shared number that an expression is, where it is one's name alone.
+    fn shared_alone(&self, e: &Expr<'t>) -> Option<u16>
+        ensures { result ≡ shared_alone self.now.setting.now (expression e.now) }
+    {
+        match e {
+            Expr::Name(x) => self.setting.shared(*x),
+            Expr::Number(_) | Expr::Paren(..) | Expr::Negation(..) | Expr::Binary(..) => None,
+        }
+    }
+
+    /// The code that puts an expression's number, or a shared number, into slot d.
+    #[tactic(auto, using(crate::proofs::Scopes::alone_before))]
+    fn emit_value(
+        &self,
+        code: &mut Vec<Instr>,
+        scope: &Scope<'t>,
+        e: &Expr<'t>,
+        d: u16,
+    ) -> Result<(), CodeError>
+        ensures { OnOk result (code.new.items ≡ code.old.items
+            ++ (before_into scope.now self.now.free (expression e.now)
+            ++ last_value self.now.setting.now scope.now self.now.free (expression e.now) d ∷ [])) }
+    {
+        match self.shared_alone(e) {
+            Some(s) => push(code, Instr::Get(d, s)),
+            None => emit_into(code, scope, self.free, e, d),
+        }
+    }
+
+    /// The code of what stands behind the `=` of a declaration, for slot d.
+    fn emit_source(
+        &self,
+        code: &mut Vec<Instr>,
+        scope: &Scope<'t>,
+        right: &Right<'t>,
+        d: u16,
+    ) -> Result<(), CodeError>
+        ensures { OnOk result (code.new.items ≡ code.old.items
+            ++ code_of_source self.now.setting.now self.now.free scope.now d (source right.now)) }
+    {
+        match right {
+            Right::Make(..) => push(code, Instr::Make(d)),
+            Right::Expr(e) => self.emit_value(code, scope, e, d),
+        }
+    }
+
+    /// The code of an assignment.
+    fn emit_assigned(
+        &self,
+        code: &mut Vec<Instr>,
+        scope: &Scope<'t>,
+        x: Name<'t>,
+        e: &Expr<'t>,
+    ) -> Result<(), CodeError>
+        ensures { OnOk result (code.new.items ≡ code.old.items
+            ++ (before_assigned scope.now self.now.free (expression e.now)
+            (find self.now.setting.now.shared x.entry.text.now)
+            ++ last_assigned self.now.setting.now scope.now self.now.free (word x.entry)
+            (expression e.now) (find self.now.setting.now.shared x.entry.text.now) ∷ [])) }
+    {
+        match self.setting.shared(x) {
+            Some(s) => {
+                let y = emit_expr(code, scope, self.free, e)?;
+                push(code, Instr::Put(s, y))
+            }
+            None => self.emit_value(code, scope, e, number(scope, x)?),
+        }
+    }
+
+    /// The code of an `atomic`.
+    fn emit_atomic(
+        &self,
+        code: &mut Vec<Instr>,
+        scope: &Scope<'t>,
+        x: Name<'t>,
+        e: &Expr<'t>,
+    ) -> Result<(), CodeError>
+        ensures { OnOk result (code.new.items ≡ code.old.items
+            ++ (eval scope.now self.now.free (expression e.now)
+            ++ instr.AddTo (number_of self.now.setting.now.shared (word x.entry))
+            (slot_for scope.now self.now.free (expression e.now)) ∷ [])) }
+    {
+        let y = emit_expr(code, scope, self.free, e)?;
+        push(code, Instr::AddTo(self.setting.place(x)?, y))
+    }
+
+    /// The code of a call.
+    fn emit_call(
+        &self,
+        code: &mut Vec<Instr>,
+        scope: &Scope<'t>,
+        f: Name<'t>,
+        es: &[Expr<'t>],
+    ) -> Result<(), CodeError>
+        ensures { OnOk result (code.new.items ≡ code.old.items
+            ++ (eval_all scope.now self.now.free (expressions es.now)
+            ++ instr.Call (number_of self.now.setting.now.methods (word f.entry))
+            (argument_slots scope.now self.now.free (expressions es.now)) ∷ [])) }
+    {
+        let slots = emit_args(self.alloc, code, scope, self.free, es)?;
+        push(code, Instr::Call(self.setting.method(f)?, args(slots)?))
+    }
+
+    /// The code of a line that is printed.
+    fn emit_print(
+        &self,
+        code: &mut Vec<Instr>,
+        scope: &Scope<'t>,
+        e: &Expr<'t>,
+    ) -> Result<(), CodeError>
+        ensures { OnOk result (code.new.items ≡ code.old.items
+            ++ (eval scope.now self.now.free (expression e.now)
+            ++ instr.Print (slot_for scope.now self.now.free (expression e.now)) ∷ [])) }
+    {
+        let x = emit_expr(code, scope, self.free, e)?;
+        push(code, Instr::Print(x))
+    }
+
+    /// The code of an `async`: the slots of its clocks, and then those of the numbers that it takes, are handed to its body.
+    fn emit_async(
+        &self,
+        code: &mut Vec<Instr>,
+        scope: &Scope<'t>,
+        at: usize,
+        clocks: &Option<ClockList<'t>>,
+    ) -> Result<(), CodeError>
+        ensures { OnOk result (code.new.items ≡ code.old.items
+            ++ instr.Spawn (body_unit self.now.setting.now at)
+            (slots_of scope.now (body_params self.now.setting.now at (option_map clock_list clocks.now)))
+            ∷ []) }
+    {
+        let body = self.setting.body(at)?;
+        let mut slots = clock_slots(self.alloc, scope, clocks)?;
+        push_texts(&mut slots, scope, &body.captures)?;
+        push(code, Instr::Spawn(body.unit, args(slots)?))
+    }
+
+    /// The code of what a comparison compares, and a gap for it.
+    fn open_test(
+        &self,
+        code: &mut Vec<Instr>,
+        scope: &Scope<'t>,
+        l: &Expr<'t>,
+        op: Comparison,
+        r: &Expr<'t>,
+    ) -> Result<Test, CodeError>
+        ensures code { OnOk result (code.new.items ≡ code.old.items
+            ++ (both scope.now self.now.free (expression l.now) (expression r.now) ++ instr.Jump 0 ∷ [])) }
+        ensures place { IfOk result (λ test. test.at ≡ length code.old.items
+            + length (both scope.now self.now.free (expression l.now) (expression r.now))) }
+        ensures comparison { IfOk result (λ test. test.op ≡ op) }
+        ensures first { IfOk result (λ test. test.x ≡ slot_for scope.now self.now.free (expression l.now)) }
+        ensures second { IfOk result
+            (λ test. test.y ≡ second scope.now self.now.free (expression l.now) (expression r.now)) }
+    {
+        let (x, y) = emit_both(code, scope, self.free, l, r)?;
+        let at = gap(code)?;
+        Ok(Test { at, op, x, y })
+    }
+
+    /// The code of a statement, and the slot behind those of its names. Its names are visible behind it.
+    #[cycle(emit)]
+    pub(crate) fn emit(
+        &self,
+        code: &mut Vec<Instr>,
+        scope: &mut Scope<'t>,
+        n: u16,
+        s: &Stmt<'t>,
+    ) -> Result<u16, CodeError>
+        ensures code { OnOk result (code.new.items ≡ code.old.items
+            ++ code_of self.now.setting.now self.now.free scope.old n (length code.old.items)
+            (statement s.now)) }
+        ensures scope { OnOk result (scope.new ≡ declared scope.old n (statement s.now)) }
+        ensures slots { IfOk result (λ m. m ≡ n + count (statement s.now)) }
+    {
+        match s {
+            Stmt::Block(ss) => {
+                let visible = scope.len();
+                let m = self.emit_all(code, scope, n, ss)?;
+                cut(scope, visible);
+                Ok(m)
+            }
+            Stmt::Empty => Ok(n),
+            Stmt::Declare(_, x, _, right) => {
+                self.emit_source(code, scope, right, n)?;
+                declare(scope, *x, n)?;
+                after(n)
+            }
+            Stmt::Assign(x, e) => {
+                self.emit_assigned(code, scope, *x, e)?;
+                Ok(n)
+            }
+            Stmt::Atomic(x, _, _, e) => {
+                self.emit_atomic(code, scope, *x, e)?;
+                Ok(n)
+            }
+            Stmt::If(_, l, op, r, s) => {
+                let visible = scope.len();
+                let test = self.open_test(code, scope, l, *op, r)?;
+                let m = self.emit(code, scope, n, s)?;
+                cut(scope, visible);
+                close_test(code, test)?;
+                Ok(m)
+            }
+            Stmt::IfElse(_, l, op, r, s, u) => {
+                let visible = scope.len();
+                let test = self.open_test(code, scope, l, *op, r)?;
+                let m = self.emit(code, scope, n, s)?;
+                cut(scope, visible);
+                let jump = begin_else(code, test)?;
+                let k = self.emit(code, scope, m, u)?;
+                cut(scope, visible);
+                close_else(code, jump)?;
+                Ok(k)
+            }
+            Stmt::For(_, i, lo, hi, s) => {
+                if lo.value > hi.value {
+                    return slots_behind(after(n)?, s);
+                }
+                let visible = scope.len();
+                let (first, inner) = open_loop(code, scope, *i, n)?;
+                let m = self.emit(code, scope, inner, s)?;
+                cut(scope, visible);
+                close_loop(code, first, n, *lo, *hi)?;
+                Ok(m)
+            }
+            Stmt::Async(at, clocks, _) => {
+                self.emit_async(code, scope, *at, clocks)?;
+                Ok(n)
+            }
+            Stmt::Finish(s) => {
+                let visible = scope.len();
+                let first = gap(code)?;
+                let m = self.emit(code, scope, n, s)?;
+                cut(scope, visible);
+                close_finish(code, first)?;
+                Ok(m)
+            }
+            Stmt::Call(f, _, es) => {
+                self.emit_call(code, scope, *f, es)?;
+                Ok(n)
+            }
+            Stmt::Resume(c, _) => {
+                push(code, Instr::Resume(number(scope, *c)?))?;
+                Ok(n)
+            }
+            Stmt::Drop(c, _) => {
+                push(code, Instr::Drop(number(scope, *c)?))?;
+                Ok(n)
+            }
+            Stmt::AdvanceAll(..) => {
+                push(code, Instr::Advance)?;
+                Ok(n)
+            }
+            Stmt::Print(_, _, e) => {
+                self.emit_print(code, scope, e)?;
+                Ok(n)
+            }
+        }
+    }
+
+    /// The code of statements, one after another.
+    #[cycle(emit)]
+    pub(crate) fn emit_all(
+        &self,
+        code: &mut Vec<Instr>,
+        scope: &mut Scope<'t>,
+        n: u16,
+        ss: &[Stmt<'t>],
+    ) -> Result<u16, CodeError>
+        ensures code { OnOk result (code.new.items ≡ code.old.items
+            ++ code_of_all self.now.setting.now self.now.free scope.old n (length code.old.items)
+            (statements ss.now)) }
+        ensures scope { OnOk result (scope.new ≡ declared_by_all scope.old n (statements ss.now)) }
+        ensures slots { IfOk result (λ m. m ≡ n + count_all (statements ss.now)) }
+    {
+        let mut next = n;
+        for s in ss {
+            next = self.emit(code, scope, next, s)?;
+        }
+        Ok(next)
+    }
+}
+
+/// The slot behind those of a statement's names, where n is the next.
+#[cycle(slots)]
+pub(crate) fn slots_behind(n: u16, s: &Stmt<'_>) -> Result<u16, CodeError>
+    ensures { IfOk result (λ m. m ≡ n + count (statement s.now)) }
+{
+    match s {
+        Stmt::Block(ss) => slots_behind_all(n, ss),
+        Stmt::Declare(..) => after(n),
+        Stmt::If(_, _, _, _, s) => slots_behind(n, s),
+        Stmt::IfElse(_, _, _, _, s, u) => slots_behind(slots_behind(n, s)?, u),
+        Stmt::For(_, _, _, _, s) => slots_behind(after(n)?, s),
+        Stmt::Finish(s) => slots_behind(n, s),
+        Stmt::Empty => Ok(n),
+        Stmt::Assign(..) => Ok(n),
+        Stmt::Atomic(..) => Ok(n),
+        Stmt::Async(..) => Ok(n),
+        Stmt::Call(..) => Ok(n),
+        Stmt::Resume(..) => Ok(n),
+        Stmt::Drop(..) => Ok(n),
+        Stmt::AdvanceAll(..) => Ok(n),
+        Stmt::Print(..) => Ok(n),
+    }
+}
+
+/// The same for statements, one after another.
+#[cycle(slots)]
+pub(crate) fn slots_behind_all(n: u16, ss: &[Stmt<'_>]) -> Result<u16, CodeError>
+    ensures { IfOk result (λ m. m ≡ n + count_all (statements ss.now)) }
+{
+    let mut next = n;
+    for s in ss {
+        next = slots_behind(next, s)?;
+    }
+    Ok(next)
+}
