@@ -2,7 +2,7 @@
 
 ghost use Rattle.std.specs.Prelude.{◌≡◌, ◌+◌, [], ◌∷◌, ◌++◌, OnOk, IfOk};
 ghost use Rattle.xk_tree.specs.Tree.{word, expression, expressions};
-ghost use Rattle.xk_codegen.specs.CodeOf.{argument_slots, before_into, behind, both, eval, eval_all, instr_of, last_into, number_of, second, slot_for};
+ghost use Rattle.xk_code.specs.CodeOf.{argument_slots, before_into, behind, both, eval, eval_all, instr_of, last_into, number_of, second, slot_for};
 
 use crate::error::CodeError;
 use std::alloc::Global;

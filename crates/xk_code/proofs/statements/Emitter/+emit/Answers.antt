@@ -1,10 +1,10 @@
 use Rattle.std.proofs.Common.{◌≡◌, ◌++◌, length, sym, ap, ◌∙◌, int_le, true, rules}
 use Rattle.xk_tree.specs.declared.tree.Stmt.{the_lemmas}
 use Rattle.xk_tree.specs.Tree.{If, IfElse, For, Finish, word, expression, statement}
-use Rattle.xk_codegen.specs.CodeOf.{declared, code_of}
-use Rattle.xk_codegen.proofs.Patched.{test_filled, choice_filled, loop_filled, finish_filled}
-use Rattle.xk_codegen.proofs.Scopes.{cut_back}
-use Rattle.xk_codegen.proofs.statements.Emitter.+emit.Goals as goal
+use Rattle.xk_code.specs.CodeOf.{declared, code_of}
+use Rattle.xk_code.proofs.Patched.{test_filled, choice_filled, loop_filled, finish_filled}
+use Rattle.xk_code.proofs.Scopes.{cut_back}
+use Rattle.xk_code.proofs.statements.Emitter.+emit.Goals as goal
 
 pub emit-returns-in_ok-close_test-in-If-clause-code : goal.emit-returns-in_ok-close_test-in-If-clause-code
 emit-returns-in_ok-close_test-in-If-clause-code t c =

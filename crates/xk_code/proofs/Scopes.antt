@@ -1,7 +1,7 @@
 -- Scopes that are cut back, and shared numbers that stand alone.
 use Rattle.std.proofs.Common.{◌≡◌, ℕ, ◌+◌, List, [], ◌∷◌, ◌++◌, take, length, Some, refl, sym, ap, ◌∙◌, append_assoc, append-nil}
 use Rattle.xk_tree.specs.Tree.{Expression, Literal, Named, Paren, Negation, Binary, Statement, Declare, Statements, Done, More}
-use Rattle.xk_codegen.specs.CodeOf.{Scope, Setting, before_into, count, declared, declared_by_all, shared_alone}
+use Rattle.xk_code.specs.CodeOf.{Scope, Setting, before_into, count, declared, declared_by_all, shared_alone}
 
 take_front : (xs ys : Scope) → take (length xs) (xs ++ ys) ≡ xs
 take_front [] ys = refl

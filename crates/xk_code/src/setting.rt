@@ -19,7 +19,7 @@ pub struct Body<'t> {
 
 impl<'t> Model for Body<'t> {
     ghost use Rattle.std.specs.Prelude.{map};
-    ghost use Rattle.xk_codegen.specs.CodeOf.{Body as BodyValue};
+    ghost use Rattle.xk_code.specs.CodeOf.{Body as BodyValue};
 
     ghost Value = { BodyValue };
 
@@ -38,7 +38,7 @@ pub struct Setting<'t> {
 }
 
 impl<'t> Model for Setting<'t> {
-    ghost use Rattle.xk_codegen.specs.CodeOf.{Setting as SettingValue};
+    ghost use Rattle.xk_code.specs.CodeOf.{Setting as SettingValue};
 
     ghost Value = { SettingValue };
 
@@ -49,7 +49,7 @@ impl<'t> Setting<'t> {
     ghost use Rattle.std.specs.Prelude.{◌≡◌, [], Some, IfOk};
     ghost use Rattle.xk_tree.specs.Tree.{word};
     ghost use Rattle.xk_names.specs.Scope.{find};
-    ghost use Rattle.xk_codegen.specs.CodeOf.{body_at, number_of};
+    ghost use Rattle.xk_code.specs.CodeOf.{body_at, number_of};
 
     /// A setting with no shared numbers, no methods and no bodies.
     pub fn new(alloc: Global) -> Self

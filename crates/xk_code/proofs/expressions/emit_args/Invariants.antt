@@ -1,7 +1,7 @@
 use Rattle.std.proofs.Common.{◌≡◌, ◌++◌, drop}
 use Rattle.xk_tree.specs.Tree.{expressions}
-use Rattle.xk_codegen.specs.CodeOf.{argument_slots, eval_all}
-use Rattle.xk_codegen.proofs.expressions.emit_args.Given as goal
+use Rattle.xk_code.specs.CodeOf.{argument_slots, eval_all}
+use Rattle.xk_code.proofs.expressions.emit_args.Given as goal
 
 -- what was emitted so far, and what the arguments that are left need, are that of all
 abbrev pub invariant-loop-arg : goal.invariant-loop-arg

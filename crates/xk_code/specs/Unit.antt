@@ -6,7 +6,7 @@ use Rattle.xk_types.specs.declared.unit.ParamKind.{ParamKind}
 use Rattle.xk_types.specs.declared.unit.UnitKind.{UnitKind}
 use Rattle.xk_types.specs.Code.{UnitValue}
 use Rattle.xk_tree.specs.Tree.{Statement}
-use Rattle.xk_codegen.specs.CodeOf.{Setting, Scope, count, code_of}
+use Rattle.xk_code.specs.CodeOf.{Setting, Scope, count, code_of}
 
 -- one more than the slot that an instruction of an expression writes, which may be a temporary; the others write slots of names alone
 abbrev pub written_slots : Instr → ℕ

@@ -1,8 +1,8 @@
 use Rattle.std.proofs.Common.{◌≡◌, ◌+◌, ◌++◌, drop, length}
 use Rattle.xk_tree.specs.Tree.{statements}
-use Rattle.xk_codegen.specs.CodeOf.{count_all, code_of_all, declared_by_all}
-use Rattle.xk_codegen.proofs.Patched.{AreEmitted}
-use Rattle.xk_codegen.proofs.statements.Emitter.+emit.Given as goal
+use Rattle.xk_code.specs.CodeOf.{count_all, code_of_all, declared_by_all}
+use Rattle.xk_code.proofs.Patched.{AreEmitted}
+use Rattle.xk_code.proofs.statements.Emitter.+emit.Given as goal
 
 -- what was emitted so far, and what the statements that are left need, are that of all
 abbrev pub invariant-emit_all-loop-s : goal.invariant-emit_all-loop-s

@@ -7,7 +7,7 @@ use Rattle.xk_types.specs.declared.instr.Instr.TheVariants as instr
 use Rattle.xk_types.specs.declared.instr.Comparison.{Comparison}
 use Rattle.xk_tree.specs.declared.tree.Number.{Number}
 use Rattle.xk_tree.specs.Tree.{Word, Expression, Statement, If, IfElse, For, Finish, Statements, Done, More}
-use Rattle.xk_codegen.specs.CodeOf.{Scope, Setting, both, second, slot_for, count, count_all, declared, declared_by_all, code_of, code_of_all}
+use Rattle.xk_code.specs.CodeOf.{Scope, Setting, both, second, slot_for, count, count_all, declared, declared_by_all, code_of, code_of_all}
 
 -- an instruction in the place of another
 pub patched : (code : List Instr) (at : ℕ) (i : Instr) (front rest : List Instr) (gap : Instr) → code ≡ front ++ gap ∷ rest → at ≡ length front → slice_set code at i ≡ front ++ i ∷ rest

@@ -10,8 +10,8 @@ use Rattle.xk_tree.specs.declared.tree.Operator.TheVariants as operator
 use Rattle.xk_tree.specs.declared.tree.Number.{Number}
 use Rattle.xk_tree.specs.declared.tree.Verb.{Verb}
 use Rattle.xk_tree.specs.Tree.{Word, Clocks, Expression, Literal, Named, Paren, Negation, Binary, Make, Value, Statement, Statements, Done, More, Block, Empty, Declare, Assign, Atomic, If, IfElse, For, Async, Finish, Call, Resume, Drop, AdvanceAll, Print}
-use Rattle.xk_codegen.specs.CodeOf.{Setting, code_of}
-use Rattle.xk_codegen.specs.Unit.{unit_of}
+use Rattle.xk_code.specs.CodeOf.{Setting, code_of}
+use Rattle.xk_code.specs.Unit.{unit_of}
 
 -- ---- trees, where offsets don't matter
 

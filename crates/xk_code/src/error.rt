@@ -1,7 +1,7 @@
 //! Why a statement has no code.
 
 ghost use Rattle.std.specs.Prelude.{◌≡◌};
-ghost use Rattle.xk_codegen.specs.declared.error.CodeError.TheVariants as error;
+ghost use Rattle.xk_code.specs.declared.error.CodeError.TheVariants as error;
 
 use std::alloc::{AllocError, AllocFailed};
 use thiserror::Error;

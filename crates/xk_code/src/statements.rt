@@ -6,7 +6,7 @@ ghost use Rattle.xk_types.specs.declared.instr.Instr.TheVariants as instr;
 ghost use Rattle.xk_tree.specs.Tree.{Statement, Statements, clock_list, word, words, expression, expressions, source, statement, statements};
 ghost use Rattle.xk_names.specs.Scope.{Table as Names, find, texts};
 ghost use Rattle.xk_names.specs.Uses.{clocks_listed};
-ghost use Rattle.xk_codegen.specs.CodeOf.{argument_slots, before_assigned, before_into, body_params, body_unit, both, code_of, code_of_all, code_of_source, count, count_all, declared, declared_by_all, eval, eval_all, last_assigned, last_value, number_of, second, shared_alone, slot_for, slots_of};
+ghost use Rattle.xk_code.specs.CodeOf.{argument_slots, before_assigned, before_into, body_params, body_unit, both, code_of, code_of_all, code_of_source, count, count_all, declared, declared_by_all, eval, eval_all, last_assigned, last_value, number_of, second, shared_alone, slot_for, slots_of};
 
 use crate::error::CodeError;
 use crate::expressions::{Scope, after, emit_args, emit_both, emit_expr, emit_into, number, push};
