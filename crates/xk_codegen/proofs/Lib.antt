@@ -1,1 +1,4 @@
 pub mod Lists
+pub mod Among
+pub mod Nested
+pub mod Ordered
