@@ -9,7 +9,7 @@ use Rattle.xk_names.specs.Uses.{Signatures, signatures, clocks_listed, declares}
 use Rattle.xk_names.specs.Scoped.{IsSound, IsSoundInside, AreSound, with_all, with_body, method_scope, IsScoped}
 use Rattle.xk_names.specs.Places.{behind}
 use Rattle.xk_units.proofs.Listed.{has_left, has_right, has_either}
-use Rattle.xk_codegen.specs.Parts.{Part, OfMethod, OfBody, Run, Calls, Starts, bodies, bodies_all, method_parts, parts, runs, runs_all, part_runs, place_of}
+use Rattle.xk_codegen.specs.Parts.{Part, OfMethod, OfBody, Run, Calls, Starts, bodies, bodies_all, method_parts, opening, parts, runs, runs_all, part_runs, place_of}
 use Rattle.xk_codegen.proofs.Among.{Fits, found}
 
 -- the bodies in a part
@@ -191,10 +191,6 @@ pub has_place : (t : TreeValue) → IsScoped t → (p : Part) → Has (parts t) 
 has_place t scoped p among (Calls g) h = called t g (part_known t t.methods scoped.bodies p among g h)
 has_place t scoped p among (Starts at) h =
     let q = part_started p at h in found (parts t) (Starts at) q.part (in_methods t.methods p q.part among q.among) q.fits
-
--- the call of `main` with which a run begins
-abbrev pub opening : Run
-opening = Calls (record { at = 0; text = codes "main" })
 
 pub main_place : (t : TreeValue) → IsScoped t → (k : ℕ) × (place_of (parts t) opening ≡ Some k)
 main_place t scoped = called t (record { at = 0; text = codes "main" }) ([], scoped.main)

@@ -3,18 +3,17 @@ use Rattle.std.proofs.Common.{◌≡◌, ◌⊎◌, inl, inr, ℕ, zero, suc, �
 use Rattle.std.specs.Prelude.{unwrap_or, codes}
 use Rattle.std.proofs.lemmas.Option.{slice_get_within}
 use Rattle.xk_calls.specs.Calls.{IsCall, Path, Reaches, AreReached, AreWithin}
-use Rattle.xk_calls.specs.Order.{IsInOrder, IsOnce}
 use Rattle.xk_tree.specs.Tree.{TreeValue, MethodValue}
 use Rattle.xk_names.specs.Scope.{Has, is_text}
 use Rattle.xk_names.specs.Scoped.{IsScoped}
 use Rattle.xk_units.proofs.Collecting.{same_text}
 use Rattle.xk_units.proofs.Listed.{has_at, place_of as place_among}
 use Rattle.xk_units.proofs.Graph.{mapped_at, at_mapped, row_of, of_row}
-use Rattle.xk_codegen.specs.Parts.{Part, OfMethod, OfBody, Run, Calls, Starts, parts, part_runs, place_of}
-use Rattle.xk_codegen.specs.Graph.{graph, graph_by, place_or_last}
+use Rattle.xk_codegen.specs.Parts.{Part, OfMethod, OfBody, Run, Calls, Starts, opening, parts, part_runs, place_of}
+use Rattle.xk_codegen.specs.Graph.{graph, graph_by, place_or_last, IsOrder}
 use Rattle.xk_codegen.specs.Compiled.{AreUnits, HasLater, IsRun}
 use Rattle.xk_codegen.proofs.Among.{Fits, FitsAt, found, fits_there, same_place}
-use Rattle.xk_codegen.proofs.Nested.{has_place, opening}
+use Rattle.xk_codegen.proofs.Nested.{has_place}
 
 -- ---- calls in the graph
 
@@ -41,7 +40,7 @@ no_further : (ps : List Part) (r : Run) (o : Option ℕ) → place_of ps r ≡ o
 no_further ps r None e = omega arith
 no_further ps r (Some k) e = let f = fits_there ps r k e in let h = slice_get_within ps k f.part f.stands in omega arith
 
-graph_length : (place : Run → ℕ) (ps : List Part) → length (graph_by place ps) ≡ suc (length ps)
+pub graph_length : (place : Run → ℕ) (ps : List Part) → length (graph_by place ps) ≡ suc (length ps)
 graph_length place [] = refl
 graph_length place (p ∷ ps) = ap suc (graph_length place ps)
 
@@ -103,14 +102,9 @@ unpicked ps us order same k i e =
     (p.0, p.1, sym p.2)
 
 -- what is known of the order
-record IsOrder (t : TreeValue) (order : List ℕ) (us : List Part) : Type 0 where
+record IsPicked (t : TreeValue) (order : List ℕ) (us : List Part) : Type 0 where
   scoped : IsScoped t
-  start : ℕ
-  begins : place_of (parts t) opening ≡ Some start
-  first : slice_get order 0 ≡ Some start
-  reached : AreReached (graph (parts t)) start order
-  later : IsInOrder (graph (parts t)) order
-  once : IsOnce order
+  is_order : IsOrder t order
   same : map Some us ≡ map (slice_get (parts t)) order
 
 same_part : (o : Option Part) (p q : Part) → o ≡ Some p → o ≡ Some q → p ≡ q
@@ -120,18 +114,18 @@ some_number : (i j : ℕ) → Some i ≡ Some j → i ≡ j
 some_number i j e = cc
 
 -- the unit of what is run
-same_unit : (t : TreeValue) (order : List ℕ) (us : List Part) → IsOrder t order us → (r : Run) (j b n : ℕ) → place_of (parts t) r ≡ Some j → slice_get order b ≡ Some j
+same_unit : (t : TreeValue) (order : List ℕ) (us : List Part) → IsPicked t order us → (r : Run) (j b n : ℕ) → place_of (parts t) r ≡ Some j → slice_get order b ≡ Some j
     → FitsAt us r n → n ≡ b
 same_unit t order us h r j b n place at fits =
     let q = picked (parts t) us order h.same n fits.part fits.stands in
-    let f = is_first t h.scoped h.start q.number h.begins (h.reached n q.number q.at) in
+    let f = is_first t h.scoped h.is_order.start q.number h.is_order.begins (h.is_order.reached n q.number q.at) in
     let g = fits_there (parts t) f.run q.number f.place in
     let same : g.part ≡ fits.part = same_part (slice_get (parts t) q.number) g.part fits.part g.stands q.is in
     let i : q.number ≡ j = some_number q.number j
         (sym f.place ∙ same_place (parts t) fits.part f.run r (subst (λ (p : Part). Fits p f.run) same g.fits) fits.fits ∙ place) in
-    h.once n b q.number q.at (at ∙ ap Some (sym i))
+    h.is_order.once n b q.number q.at (at ∙ ap Some (sym i))
 
-has_later : (t : TreeValue) (order : List ℕ) (us : List Part) → IsOrder t order us → (k : ℕ) (p : Part) (r : Run) → slice_get us k ≡ Some p → Has (part_runs p) r
+has_later : (t : TreeValue) (order : List ℕ) (us : List Part) → IsPicked t order us → (k : ℕ) (p : Part) (r : Run) → slice_get us k ≡ Some p → Has (part_runs p) r
     → HasLater t us k r
 has_later t order us h k p r is runs =
     let ps = parts t in
@@ -140,7 +134,7 @@ has_later t order us h k p r is runs =
     let j = has_place t h.scoped p (has_at ps i.number p i.is) r runs in
     let call : IsCall (graph ps) i.number c.0 j.0 = subst (λ (n : ℕ). IsCall (graph ps) i.number c.0 n) (ap (λ (o : Option ℕ). unwrap_or o (length ps)) j.1)
         (is_call ps i.number c.0 p r i.is c.1) in
-    let b = h.later k i.number c.0 j.0 i.at call in
+    let b = h.is_order.later k i.number c.0 j.0 i.at call in
     let q = unpicked ps us order h.same b.0 j.0 b.2 in
     let f = fits_there ps r j.0 j.1 in
     let same : f.part ≡ q.0 = same_part (slice_get ps j.0) f.part q.0 f.stands q.2 in
@@ -158,13 +152,12 @@ is_main : (us : List Part) (p : Part) → slice_get us 0 ≡ Some p → Fits p o
 is_main us (OfMethod m) e f = record { main = m; named = sym (same_text (codes "main") m.name.text f); first = e }
 is_main us (OfBody a cs s) e f = absurd f
 
-pub are_units : (t : TreeValue) (order : List ℕ) (us : List Part) (start : ℕ) → IsScoped t → place_of (parts t) opening ≡ Some start → slice_get order 0 ≡ Some start
-    → AreReached (graph (parts t)) start order → IsInOrder (graph (parts t)) order → IsOnce order → map Some us ≡ map (slice_get (parts t)) order → AreUnits t us
-are_units t order us start scoped begins first reached later once same =
-    let h : IsOrder t order us = record { scoped = scoped; start = start; begins = begins; first = first; reached = reached; later = later; once = once; same = same } in
-    let f = fits_there (parts t) opening start begins in
-    let p = unpicked (parts t) us order same 0 start first in
-    let is : f.part ≡ p.0 = same_part (slice_get (parts t) start) f.part p.0 f.stands p.2 in
+pub are_units : (t : TreeValue) (order : List ℕ) (us : List Part) → IsScoped t → IsOrder t order → map Some us ≡ map (slice_get (parts t)) order → AreUnits t us
+are_units t order us scoped o same =
+    let h : IsPicked t order us = record { scoped = scoped; is_order = o; same = same } in
+    let f = fits_there (parts t) opening o.start o.begins in
+    let p = unpicked (parts t) us order same 0 o.start o.first in
+    let is : f.part ≡ p.0 = same_part (slice_get (parts t) o.start) f.part p.0 f.stands p.2 in
     let m = is_main us p.0 p.1 (subst (λ (p : Part). Fits p opening) is f.fits) in
     record {
       main = m.main;

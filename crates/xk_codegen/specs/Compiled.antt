@@ -1,7 +1,7 @@
 -- Which modules are the code of a program, and which faults a program has.
 --
 -- Which parts of a program have units, and how units are numbered, is this project's own choice.
-use Rattle.std.specs.Prelude.{◌≡◌, ◌⊎◌, ℕ, suc, ◌<◌, ◌≢◌, nat_eq, min, List, [], ◌∷◌, map, Option, Some, None, option_map, slice_get, codes, if◌then◌else◌}
+use Rattle.std.specs.Prelude.{◌≡◌, ℕ, suc, ◌<◌, ◌≢◌, nat_eq, min, List, [], ◌∷◌, map, Option, Some, None, option_map, slice_get, codes, if◌then◌else◌}
 use Rattle.xk_types.specs.declared.unit.UnitKind.{UnitKind}
 use Rattle.xk_types.specs.declared.unit.UnitKind.TheVariants as unit_kind
 use Rattle.xk_types.specs.Code.{UnitValue, ModuleValue, IsUnitWithinLimits}
@@ -11,10 +11,12 @@ use Rattle.xk_tree.specs.Tree.{Word, Clocks, Statement, MethodValue, SharedValue
 use Rattle.xk_names.specs.Scope.{Table, find, is_text, Has, texts}
 use Rattle.xk_names.specs.Uses.{signatures}
 use Rattle.xk_names.specs.Faults.{HasFault, fault}
-use Rattle.xk_names.specs.Captures.{captures}
+use Rattle.xk_names.specs.Captures.{captures, shared_texts}
 use Rattle.xk_units.specs.Recursion.{HasRecursion}
 use Rattle.xk_code.specs.CodeOf.{Body, Setting, body_at}
 use Rattle.xk_code.specs.Unit.{unit_of_method, unit_of_body}
+use Rattle.xk_calls.specs.Calls.{IsRecursive}
+use Rattle.xk_codegen.specs.Graph.{graph}
 use Rattle.xk_codegen.specs.Parts.{Part, OfMethod, OfBody, Run, parts, part_runs, place_of, method_among}
 
 -- ---- the parts that have units
@@ -55,7 +57,7 @@ shared_among i (s ∷ ss) x = if is_text x s.name.text then Some i else shared_a
 
 -- the names of the numbers that a body takes from outside
 abbrev pub taken : TreeValue → Statement → List (List ℕ)
-taken t s = captures (signatures t.methods) (map (λ n. n.name.text) t.shared) s
+taken t s = captures (signatures t.methods) (shared_texts t.shared) s
 
 -- the first body whose `async` stands there, with its unit, where the first of these has number i
 abbrev pub settled_body : TreeValue → ℕ → List Part → ℕ → Option Body
@@ -102,6 +104,17 @@ pub data HasTableFault (t : TreeValue) (f : FrontFault) : Type 0 where
   LargeUnit : (units : List Part) (cx : Setting) (k : ℕ) (p : Part) → AreUnits t units → IsSetting t units cx → slice_get units k ≡ Some p
       → (IsUnitWithinLimits (unit_of_part cx p) → ⊥) → f ≡ fault rule.Table (offset p) → HasTableFault t f
 
+-- A part is run again from what it runs. Where each `async` stands at an offset of its own, as in each tree that a text spells, calls lead back to
+-- the method that makes them.
+pub record RunsItself (t : TreeValue) (f : FrontFault) : Type 0 where
+  pub place : ℕ
+  pub call : ℕ
+  pub again : IsRecursive (graph (parts t)) place call
+  pub is : f.rule ≡ rule.Recursive
+
 -- the program has the fault, one of F5 to F12 and F14
-abbrev pub IsFaultOf : TreeValue → FrontFault → Type 0
-IsFaultOf t f = HasFault t f ⊎ (HasRecursion t f ⊎ HasTableFault t f)
+pub data IsFaultOf (t : TreeValue) (f : FrontFault) : Type 0 where
+  InNames : HasFault t f → IsFaultOf t f
+  InCalls : HasRecursion t f → IsFaultOf t f
+  InRuns : RunsItself t f → IsFaultOf t f
+  InTables : f.rule ≡ rule.Table → IsFaultOf t f

@@ -1,8 +1,11 @@
 -- What the parts of a program run, by numbers.
-use Rattle.std.specs.Prelude.{◌≡◌, ℕ, nat_eq, List, [], ◌∷◌, ◌++◌, map, length, unwrap_or}
+use Rattle.std.specs.Prelude.{◌≡◌, ℕ, nat_eq, List, [], ◌∷◌, ◌++◌, map, length, Some, slice_get, unwrap_or}
 use Rattle.std.specs.Map.{lookup}
 use Rattle.xk_names.specs.Scope.{Table, find}
-use Rattle.xk_codegen.specs.Parts.{Part, Run, Calls, Starts, part_runs, place_of, method_among, body_among}
+use Rattle.xk_calls.specs.Calls.{AreReached}
+use Rattle.xk_calls.specs.Order.{IsInOrder, IsOnce}
+use Rattle.xk_tree.specs.Tree.{TreeValue}
+use Rattle.xk_codegen.specs.Parts.{Part, Run, Calls, Starts, opening, parts, part_runs, place_of, method_among, body_among}
 
 -- the places of methods by their names, and of bodies by the offsets of their `async`; and one that stands for all that aren't there
 pub record Places : Type 0 where
@@ -29,3 +32,12 @@ place_or_last ps r = unwrap_or (place_of ps r) (length ps)
 
 abbrev pub graph : List Part → List (List ℕ)
 graph ps = graph_by (place_or_last ps) ps
+
+-- the places of the parts that have units, in the order of these
+pub record IsOrder (t : TreeValue) (order : List ℕ) : Type 0 where
+  pub start : ℕ
+  pub begins : place_of (parts t) opening ≡ Some start
+  pub first : slice_get order 0 ≡ Some start
+  pub reached : AreReached (graph (parts t)) start order
+  pub later : IsInOrder (graph (parts t)) order
+  pub once : IsOnce order

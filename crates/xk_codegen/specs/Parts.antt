@@ -1,5 +1,5 @@
 -- The parts of a program that have code of their own: methods, and the bodies of `async`.
-use Rattle.std.specs.Prelude.{◌≡◌, ℕ, suc, nat_eq, int_le, List, [], ◌∷◌, ◌++◌, map, length, Option, Some, None, unwrap_or, if◌then◌else◌}
+use Rattle.std.specs.Prelude.{◌≡◌, ℕ, suc, nat_eq, int_le, List, [], ◌∷◌, ◌++◌, map, length, Option, Some, None, unwrap_or, codes, if◌then◌else◌}
 use Rattle.std.specs.List.{flat_map}
 use Rattle.std.specs.Map.{lookup}
 use Rattle.xk_tree.specs.Tree.{Word, Clocks, Statement, Statements, Done, More, Block, If, IfElse, For, Async, Finish, Call, MethodValue, TreeValue, method_value, clock_list, statement}
@@ -78,3 +78,7 @@ body_among i (OfBody a cs s ∷ ps) at = if nat_eq at a then Some i else body_am
 abbrev pub place_of : List Part → Run → Option ℕ
 place_of ps (Calls g) = method_among 0 ps g.text
 place_of ps (Starts at) = body_among 0 ps at
+
+-- the call of `main` with which a run begins
+abbrev pub opening : Run
+opening = Calls (record { at = 0; text = codes "main" })

@@ -10,11 +10,27 @@ use xk_tree::{ClockList, Method, Stmt, Tree};
 
 /// What has code of its own.
 #[derive(Clone, Copy)]
-pub enum Part<'a, 't> {
+pub(crate) enum Part<'a, 't> {
     /// A method.
     Method(&'a Method<'t>),
     /// The body of an `async`, by the offset of that word, with the clocks that it lists.
     Body(usize, &'a Option<ClockList<'t>>, &'a Stmt<'t>),
+}
+
+impl<'a, 't> Part<'a, 't> {
+    ghost use Rattle.std.specs.Prelude.{◌≡◌};
+    ghost use Rattle.xk_codegen.specs.Views.{part};
+    ghost use Rattle.xk_codegen.specs.Compiled.{offset};
+
+    /// Where it stands: a method's name, or the `async` of a body.
+    pub(crate) fn offset(&self) -> usize
+        ensures { result ≡ offset (part self.now) }
+    {
+        match self {
+            Part::Method(method) => method.name.at,
+            Part::Body(at, _, _) => *at,
+        }
+    }
 }
 
 /// Adds the bodies of `async` in a statement.

@@ -1,6 +1,6 @@
 //! What the parts of a program run.
 
-ghost use Rattle.std.specs.Prelude.{◌≡◌, ℕ, List, [], ◌∷◌, ◌++◌, length, map, nat_eq, OnOk, IfOk};
+ghost use Rattle.std.specs.Prelude.{◌≡◌, ℕ, List, [], ◌∷◌, ◌++◌, length, map, nat_eq, unwrap_or, OnOk, IfOk};
 ghost use Rattle.std.specs.Map.{lookup};
 ghost use Rattle.xk_calls.specs.Calls.{rows};
 ghost use Rattle.xk_tree.specs.Tree.{statement, statements, word};
@@ -88,11 +88,18 @@ impl<'t> Places<'t> {
         })
     }
 
+    /// The place of the method of a name.
+    pub(crate) fn method(&self, text: &'t [u8]) -> usize
+        ensures { result ≡ unwrap_or (find self.now.methods text.now) self.now.other }
+    {
+        self.methods.find(text).unwrap_or(self.other)
+    }
+
     /// The place of the method that a call names.
     fn called(&self, g: Name<'t>) -> usize
         ensures { result ≡ place_in self.now (Calls (word g.entry)) }
     {
-        self.methods.find(g.text).unwrap_or(self.other)
+        self.method(g.text)
     }
 
     /// The place of the body of an `async`.
