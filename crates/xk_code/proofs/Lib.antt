@@ -3,3 +3,5 @@ pub mod Scopes
 pub mod Patched
 pub mod Slots
 pub mod Made
+pub mod Rooms
+pub mod Denials
