@@ -5,3 +5,4 @@ pub mod Slots
 pub mod Made
 pub mod Rooms
 pub mod Denials
+pub mod Shape
