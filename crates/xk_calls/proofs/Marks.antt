@@ -1,10 +1,9 @@
 -- A search for those that are reached from one, by marks and a list; and what is needed of lists for that.
-use Rattle.std.proofs.Common.{◌≡◌, ◌≢◌, ℕ, zero, suc, ◌+◌, ◌<◌, ◌≤◌, ◌⊎◌, inl, inr, List, [], ◌∷◌, ◌++◌, length, set, get_or, slice_get, slice_index, Some, refl, sym, ap, ◌∙◌, subst, arith, get_or-set_other, get_or-set_same}
-use Rattle.std.proofs.lemmas.Bool.{cases_eq, cases_lt}
-use Rattle.std.proofs.lemmas.Option.{slice_get_within, get_or_from_slice_get}
-use Rattle.xk_calls.specs.Calls.{called_by, IsCall, Path, Reaches}
+use Rattle.std.proofs.Common.{◌≡◌, ◌≢◌, ℕ, zero, suc, ◌+◌, ◌<◌, ◌≤◌, ◌⊎◌, inl, inr, List, [], ◌∷◌, ◌++◌, length, set, slice_get, slice_index, Some, refl, sym, ap, subst, arith, get_or-set_other, get_or-set_same}
+use Rattle.std.proofs.lemmas.Bool.{cases_eq}
+use Rattle.std.proofs.lemmas.Option.{slice_get_within}
+use Rattle.xk_calls.specs.Calls.{IsCall, Path, Reaches}
 use Rattle.xk_calls.specs.Order.{IsSearch, MarksReached}
-use Rattle.xk_calls.proofs.Falling.{reaches_on}
 
 -- ---- lists
 
@@ -81,8 +80,10 @@ search_more calls start seen reached done j h old le new = record {
   where
     full : 0 < slice_index (set seen j 1) j
     full = let e = set_here seen j 1 h in omega arith
+
     back : (i : ℕ) → i ≢ j → 0 < slice_index (set seen j 1) i → 0 < slice_index seen i
     back i ne m = let e = set_other seen j 1 i ne in omega arith
+
     keep : (i : ℕ) → 0 < slice_index seen i → 0 < slice_index (set seen j 1) i
     keep i m = elim (cases_eq i j) [
       | inl same ↦ subst (λ x. 0 < slice_index (set seen j 1) x) (sym same) full

@@ -1,8 +1,8 @@
 -- Places that are given one after another, each to one that is left and waits for no call.
-use Rattle.std.proofs.Common.{◌≡◌, ◌≢◌, ℕ, zero, suc, ◌+◌, ◌-◌, ◌<◌, ◌≤◌, ◌⊎◌, inl, inr, Bool, true, false, cond, nat_eq, List, [], ◌∷◌, ◌++◌, length, set, slice_get, slice_index, Some, IsTrue, refl, sym, ap, ◌∙◌, subst, arith, ne_eqb, eq-eqb}
+use Rattle.std.proofs.Common.{◌≡◌, ℕ, zero, suc, ◌+◌, ◌<◌, ◌≤◌, inl, inr, Bool, true, false, cond, nat_eq, List, [], ◌∷◌, ◌++◌, length, set, slice_get, slice_index, Some, sym, ap, ◌∙◌, subst, arith, ne_eqb}
 use Rattle.std.proofs.lemmas.Bool.{cases_eq, cases_lt}
 use Rattle.std.proofs.lemmas.Option.{slice_get_within}
-use Rattle.xk_calls.specs.Calls.{called_by, IsCall, Reaches, AreReached, Falls, AtMost, IsRecursive, zeros}
+use Rattle.xk_calls.specs.Calls.{IsCall, AreReached, Falls, AtMost, IsRecursive, zeros}
 use Rattle.xk_calls.specs.Order.{pending, MarksReached, CanFall, HasPlace, IsReady, IsOnce, IsInOrder, AreLeast}
 use Rattle.xk_calls.proofs.Falling.{reaches_on, none_recursive, caller_within}
 use Rattle.xk_calls.proofs.Marks.{set_here, set_other, within_full, get_front, get_last, get_pushed, last_call}
@@ -34,7 +34,6 @@ begun_none calls start seen = record {
 
 module _ (calls : List (List ℕ)) (start : ℕ) (seen left order : List ℕ) (i : ℕ) (all : length left ≡ length calls) (marks : MarksReached calls start seen)
     (old : IsBegun calls start seen left order) (there : 0 < slice_index left i) (none : pending (length calls) calls left i ≡ 0) where
-
   still_gone : (j : ℕ) → slice_index left j ≡ 0 → slice_index (set left i 0) j ≡ 0
   still_gone j z = elim (cases_eq j i) [
     | inl same ↦ ap (slice_index (set left i 0)) same ∙ set_here left i 0 (within_full left i there)
@@ -124,7 +123,8 @@ module _ (calls : List (List ℕ)) (start : ℕ) (seen left order : List ℕ) (i
     callers = λ m c reach call. was_placed k m le (r.callers m c reach call);
   }
 
-  pub begun_more : ((j : ℕ) → 0 < slice_index left j → pending (length calls) calls left j ≡ 0 → i ≤ j) → IsBegun calls start seen (set left i 0) (order ++ i ∷ [])
+  pub begun_more : ((j : ℕ) → 0 < slice_index left j → pending (length calls) calls left j ≡ 0 → i ≤ j)
+      → IsBegun calls start seen (set left i 0) (order ++ i ∷ [])
   begun_more first = record {
     placed = λ j m z. elim (cases_eq j i) [
       | inl same ↦ (length order, subst (λ x. slice_get (order ++ i ∷ []) (length order) ≡ Some x) (sym same) (get_last order i))
@@ -156,8 +156,8 @@ module _ (calls : List (List ℕ)) (start : ℕ) (seen left order : List ℕ) (i
   }
 
 -- whom one calls that is left is left
-pub calls_left : (calls : List (List ℕ)) (start : ℕ) (seen left order : List ℕ) (i : ℕ) → MarksReached calls start seen → IsBegun calls start seen left order → 0 < slice_index left i
-    → (k j : ℕ) → IsCall calls i k j → 0 < slice_index left j
+pub calls_left : (calls : List (List ℕ)) (start : ℕ) (seen left order : List ℕ) (i : ℕ) → MarksReached calls start seen
+    → IsBegun calls start seen left order → 0 < slice_index left i → (k j : ℕ) → IsCall calls i k j → 0 < slice_index left j
 calls_left calls start seen left order i marks begun there k j call =
     elim (cases_lt 0 (slice_index left j)) [
       | inl m ↦ m
@@ -181,7 +181,8 @@ start_free calls start seen falls marks =
       | inr z ↦ omega arith
     ]
 
-pub only_start : (calls : List (List ℕ)) (start : ℕ) (seen : List ℕ) → MarksReached calls start seen → (j : ℕ) → 0 < slice_index seen j → pending (length calls) calls seen j ≡ 0 → start ≡ j
+pub only_start : (calls : List (List ℕ)) (start : ℕ) (seen : List ℕ) → MarksReached calls start seen
+    → (j : ℕ) → 0 < slice_index seen j → pending (length calls) calls seen j ≡ 0 → start ≡ j
 only_start calls start seen marks j m z =
     let r = marks.sound j m in
     elim (last_call calls r.0 start j r.1) [
@@ -203,7 +204,8 @@ below_top [] i = omega arith
 below_top (x ∷ xs) zero = omega arith
 below_top (x ∷ xs) (suc i) = let h = below_top xs i in omega arith
 
-climb : (calls : List (List ℕ)) (numbers left : List ℕ) (top : ℕ) → Falls calls numbers → AtMost numbers top → ((j : ℕ) → 0 < slice_index left j → 0 < pending (length calls) calls left j)
+climb : (calls : List (List ℕ)) (numbers left : List ℕ) (top : ℕ) → Falls calls numbers → AtMost numbers top
+    → ((j : ℕ) → 0 < slice_index left j → 0 < pending (length calls) calls left j)
     → (fuel j : ℕ) → top < slice_index numbers j + fuel → 0 < slice_index left j → ⊥
 climb calls numbers left top falls most waits zero j h m = let b = most j in absurd (omega arith)
 climb calls numbers left top falls most waits (suc fuel) j h m =
@@ -220,7 +222,8 @@ none_left calls left falls waits j =
       | inr z ↦ omega arith
     ]
 
-pub all_reached : (calls : List (List ℕ)) (start : ℕ) (seen left order : List ℕ) → MarksReached calls start seen → IsBegun calls start seen left order → AreReached calls start order
+pub all_reached : (calls : List (List ℕ)) (start : ℕ) (seen left order : List ℕ) → MarksReached calls start seen
+    → IsBegun calls start seen left order → AreReached calls start order
 all_reached calls start seen left order marks begun n m e = marks.sound m (begun.reached n m e)
 
 pub all_later : (calls : List (List ℕ)) (start : ℕ) (seen left order : List ℕ) → MarksReached calls start seen → IsBegun calls start seen left order

@@ -1,15 +1,14 @@
 -- How many calls of a method those make that are left, and the set of those that wait for none.
-use Rattle.std.proofs.Common.{◌≡◌, ◌≢◌, ℕ, zero, suc, ◌+◌, ◌-◌, ◌<◌, ◌≤◌, ◌⊎◌, inl, inr, Bool, true, false, cond, nat_eq, nat_lt, List, [], ◌∷◌, length, set, slice_get, slice_index, Some, IsTrue, refl, sym, ap, ◌∙◌, subst, arith, ne_eqb, eq-eqb, add-one}
+use Rattle.std.proofs.Common.{◌≡◌, ◌≢◌, ℕ, zero, suc, ◌+◌, ◌-◌, ◌<◌, ◌≤◌, inl, inr, Bool, true, false, cond, nat_eq, nat_lt, List, [], ◌∷◌, length, set, slice_get, slice_index, Some, IsTrue, refl, sym, ap, ◌∙◌, subst, arith, ne_eqb, eq-eqb, add-one}
 use Rattle.std.proofs.lemmas.Bool.{cases_eq, cases_lt}
 use Rattle.std.proofs.lemmas.Option.{slice_get_within}
 use Rattle.std.specs.BTreeSet.{BTreeSet, contains, Updates}
 use Rattle.std.specs.BTreeMap.{is_at}
 use Rattle.std.specs.List.{list_any}
 use Rattle.std.specs.Ordering.{nat_cmp, is_eq}
-use Rattle.std.specs.declared.cmp.Ordering.{Ordering}
 use Rattle.std.specs.declared.cmp.Ordering.TheVariants.{Less, Equal, Greater}
 use Rattle.xk_calls.specs.Calls.{called_by, IsCall}
-use Rattle.xk_calls.specs.Order.{times, pending, AreCounts, AreReady}
+use Rattle.xk_calls.specs.Order.{times, pending, AreReady}
 use Rattle.xk_calls.proofs.Falling.{here_is, waits_at}
 use Rattle.xk_calls.proofs.Marks.{set_here, set_other, within_full}
 
@@ -124,6 +123,7 @@ pending_who (suc n) calls left j h =
     empty : (b : Bool) → b ≡ true → pending n calls left j ≤ 0 → 0 < cond b 0 (times (length (called_by calls n)) (called_by calls n) j) + pending n calls left j → ⊥
     empty true e z p = omega arith
     empty false e z p = absurd cc
+
     here : (b : Bool) → b ≡ false → pending n calls left j ≤ 0 → 0 < cond b 0 (times (length (called_by calls n)) (called_by calls n) j) + pending n calls left j
         → 0 < times (length (called_by calls n)) (called_by calls n) j
     here true e z p = absurd cc
@@ -185,6 +185,7 @@ pending_less (suc n) calls left i j h full =
     here true false t u p q d e f g = omega arith
     here false b t u p q d e f g = absurd cc
     here true true t u p q d e f g = absurd cc
+
     there : (a b : Bool) (t u p q : ℕ) → a ≡ b → p + u ≡ q → cond a 0 t + p + u ≡ cond b 0 t + q
     there true true t u p q d e = omega arith
     there false false t u p q d e = omega arith

@@ -1,8 +1,8 @@
 //! The order of the methods that are reached from one.
 
-ghost use Rattle.std.specs.Prelude.{◌≡◌, List, ◌<◌, ◌≤◌, ◌+◌, ◌++◌, ◌∷◌, [], ℕ, length, set, slice_get, slice_index, vec_len, IfErr, IfOk, IsTrue, OnOk, Ok, Some};
-ghost use Rattle.xk_calls.specs.Calls.{AreReached, AreWithin, called_by, IsCall, IsRecursive, Reaches, rows, zeros};
-ghost use Rattle.xk_calls.specs.Order.{AreCounts, AreLeast, AreReady, CanFall, IsInOrder, IsOnce, IsSearch, MarksReached, pending, times};
+ghost use Rattle.std.specs.Prelude.{◌≡◌, List, ◌<◌, ◌≤◌, ◌+◌, ℕ, length, set, slice_get, slice_index, vec_len, IfErr, IfOk, OnOk, Some};
+ghost use Rattle.xk_calls.specs.Calls.{AreReached, AreWithin, IsCall, IsRecursive, Reaches, rows, zeros};
+ghost use Rattle.xk_calls.specs.Order.{AreCounts, AreLeast, AreReady, CanFall, IsInOrder, IsOnce, IsSearch, MarksReached, times};
 
 use crate::numbers::{CallPlace, called_by, numbers_by_calls};
 use std::alloc::{AllocError, Global};
@@ -85,11 +85,7 @@ fn mark_all(
 }
 
 /// The methods that are reached from one, as those that have a mark.
-fn mark_reached(
-    alloc: Global,
-    calls: &[Vec<usize>],
-    start: usize,
-) -> Result<Vec<usize>, AllocError>
+fn mark_reached(alloc: Global, calls: &[Vec<usize>], start: usize) -> Result<Vec<usize>, AllocError>
     requires within { AreWithin (rows calls.now) }
     requires start { start < length calls.now }
     ensures marks { IfOk result (λ seen. MarksReached (rows calls.now) start seen.items) }
@@ -114,7 +110,11 @@ fn count_called(called: &[usize], waits: &mut [usize]) -> Result<(), AllocError>
 }
 
 /// Counts for each method the calls of it that those make that are left.
-fn count_callers(calls: &[Vec<usize>], left: &[usize], waits: &mut [usize]) -> Result<(), AllocError>
+fn count_callers(
+    calls: &[Vec<usize>],
+    left: &[usize],
+    waits: &mut [usize],
+) -> Result<(), AllocError>
     requires within { AreWithin (rows calls.now) }
     requires all { length left.now ≡ length calls.now }
     requires counted { length waits.old ≡ length calls.now }

@@ -13,6 +13,7 @@ pub mod OwnSame
 pub mod Walked
 pub mod Whole
 pub mod Called
+pub mod Outside
 pub mod Reported
 pub mod Answered
 pub mod ScopedLaw

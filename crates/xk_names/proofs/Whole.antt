@@ -27,7 +27,7 @@ pub append_empty : {A : Type 0} (xs : List A) → xs ++ [] ≡ xs
 append_empty [] = refl
 append_empty (x ∷ xs) = ap (λ r. x ∷ r) (append_empty xs)
 
-append_entries : (ds es : List Declaration) → entries (ds ++ es) ≡ entries ds ++ entries es
+pub append_entries : (ds es : List Declaration) → entries (ds ++ es) ≡ entries ds ++ entries es
 append_entries [] es = refl
 append_entries (d ∷ ds) es = ap (λ r. entry d ∷ r) (append_entries ds es)
 
@@ -36,7 +36,7 @@ append_signatures [] es = refl
 append_signatures (d ∷ ds) es = ap (λ r. signature d ∷ r) (append_signatures ds es)
 
 -- a name is found where it is among the names
-names_found : (ds : List Declaration) (x : List ℕ) → is_some (find (entries ds) x) ≡ has (texts (map (λ d. d.name) ds)) x
+pub names_found : (ds : List Declaration) (x : List ℕ) → is_some (find (entries ds) x) ≡ has (texts (map (λ d. d.name) ds)) x
 names_found [] x = refl
 names_found (d ∷ ds) x = go (is_text x d.name.text) (names_found ds x)
   where

@@ -1,5 +1,4 @@
-use Rattle.std.proofs.Common.{◌≡◌, ◌≤◌, ◌+◌, ◌++◌, ◌∷◌, [], List, ℕ, length, set, slice_index, subst, sym, arith}
-use Rattle.xk_calls.specs.Calls.{Reaches, zeros}
+use Rattle.std.proofs.Common.{◌≤◌, List, ℕ, length, set, subst, sym, arith}
 use Rattle.xk_calls.specs.Order.{IsSearch}
 use Rattle.xk_calls.proofs.Falling.{zeros_set}
 use Rattle.xk_calls.proofs.Marks.{search_more}

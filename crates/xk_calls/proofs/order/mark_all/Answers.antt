@@ -1,5 +1,5 @@
-use Rattle.std.proofs.Common.{◌≡◌, ◌<◌, ◌≤◌, ◌+◌, ℕ, List, [], length, vec_len, slice_get, slice_index, Some, refl, subst, sym, arith}
-use Rattle.xk_calls.specs.Calls.{rows, IsCall, Reaches}
+use Rattle.std.proofs.Common.{◌≡◌, ◌<◌, ℕ, List, [], length, slice_get, Some, refl, subst, sym, arith}
+use Rattle.xk_calls.specs.Calls.{rows, Reaches}
 use Rattle.xk_calls.specs.Order.{IsSearch}
 use Rattle.xk_calls.proofs.Falling.{read_is}
 use Rattle.xk_calls.proofs.Marks.{search_none, search_done, search_all, within_full}

@@ -1,4 +1,4 @@
-use Rattle.std.proofs.Common.{◌≡◌, ◌<◌, ◌≤◌, ◌+◌, ◌-◌, vec_len, slice_index}
+use Rattle.std.proofs.Common.{◌<◌, ◌≤◌, ◌+◌, ◌-◌, vec_len, slice_index}
 use Rattle.xk_calls.specs.Calls.{rows, zeros}
 use Rattle.xk_calls.specs.Order.{IsSearch}
 use Rattle.xk_calls.proofs.order.mark_all.Given as goal

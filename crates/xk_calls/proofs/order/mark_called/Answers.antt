@@ -1,7 +1,7 @@
-use Rattle.std.proofs.Common.{◌≡◌, ◌<◌, ◌≤◌, ◌+◌, ℕ, List, vec_len, length, slice_get, slice_index, Some, inl, inr, subst, sym, ap, ◌∙◌, arith}
+use Rattle.std.proofs.Common.{◌≡◌, ◌<◌, ℕ, List, slice_get, slice_index, Some, inl, inr, subst, sym, ap, ◌∙◌, arith}
 use Rattle.std.proofs.lemmas.Bool.{cases_eq}
 use Rattle.std.proofs.lemmas.Option.{slice_get_within}
-use Rattle.xk_calls.specs.Calls.{rows, called_by}
+use Rattle.xk_calls.specs.Calls.{rows}
 use Rattle.xk_calls.proofs.Falling.{call_at, reaches_on, waits_at}
 use Rattle.xk_calls.proofs.order.mark_called.Goals as goal
 

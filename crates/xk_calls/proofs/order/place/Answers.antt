@@ -1,6 +1,6 @@
-use Rattle.std.proofs.Common.{◌≡◌, ◌≢◌, ◌<◌, ◌≤◌, ◌+◌, ℕ, List, length, set, slice_index, slice_get, Some, subst, sym, ap, ◌∙◌, arith}
-use Rattle.xk_calls.specs.Calls.{rows, called_by, IsCall}
-use Rattle.xk_calls.specs.Order.{AreReady, times, pending}
+use Rattle.std.proofs.Common.{◌≡◌, ◌≢◌, ◌<◌, ℕ, List, length, set, slice_get, Some, subst, ap, arith}
+use Rattle.xk_calls.specs.Calls.{rows, IsCall}
+use Rattle.xk_calls.specs.Order.{times, pending}
 use Rattle.xk_calls.proofs.Falling.{length-rows}
 use Rattle.xk_calls.proofs.Marks.{set_other, within_full}
 use Rattle.xk_calls.proofs.Waiting.{pending_less, pending_some}

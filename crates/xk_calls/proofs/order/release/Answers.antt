@@ -1,8 +1,8 @@
-use Rattle.std.proofs.Common.{rules, ◌≡◌, ◌≢◌, ◌<◌, ◌+◌, ◌-◌, ℕ, List, length, set, slice_index, slice_get, refl, subst, sym, ap, ◌∙◌, arith}
+use Rattle.std.proofs.Common.{rules, ◌<◌, ◌-◌, ℕ, length, set, slice_index, refl, subst, sym, arith}
 use Rattle.std.specs.BTreeSet.{BTreeSet}
-use Rattle.xk_calls.specs.Order.{AreReady, times}
+use Rattle.xk_calls.specs.Order.{AreReady}
 use Rattle.xk_calls.proofs.Falling.{here_is}
-use Rattle.xk_calls.proofs.Marks.{set_here, set_other, within_full}
+use Rattle.xk_calls.proofs.Marks.{set_other}
 use Rattle.xk_calls.proofs.Waiting.{times_below, taken_off, ready_more, ready_same}
 use Rattle.xk_calls.proofs.order.release.Goals as goal
 use Rattle.xk_calls.proofs.order.release.Goals.{then-waits-j-eq0+in_ok-insert, else-waits-j-eq0}
