@@ -143,6 +143,35 @@ fn clean_names(alloc: Global, tree: &Tree<'_>) -> Result<(), FrontError>
     check_names(alloc, tree)
 }
 
+/// Neither a fault of names nor a recursive call nor too many shared numbers, or the fault that is reported.
+fn check(alloc: Global, tree: &Tree<'_>) -> Result<(), FrontError>
+    ensures clean { OnOk result ((f : Fault) → HasFault (tree_value tree.now) f → ⊥) }
+    ensures scoped { OnOk result (IsScoped (tree_value tree.now)) }
+    ensures falls { OnOk result ((f : Fault) → HasRecursion (tree_value tree.now) f → ⊥) }
+    ensures fault { (f : Fault) → result ≡ Err (FrontError.Fault f)
+        → IsFaultOf (tree_value tree.now) f }
+{
+    match clean_names(alloc, tree) {
+        Ok(()) => check_recursion(alloc, tree),
+        Err(e) => Err(e),
+    }
+}
+
+/// The module that is the code of a tree without faults of names; or F14 at the least offset.
+fn code(alloc: Global, tree: &Tree<'_>) -> Result<Module, FrontError>
+    requires scoped { IsScoped (tree_value tree.now) }
+    ensures compiled { IfOk result (λ m. IsCompiled (tree_value tree.now) m) }
+    ensures fault { (f : Fault) → result ≡ Err (FrontError.Fault f)
+        → IsFaultOf (tree_value tree.now) f }
+{
+    check_shared(tree)?;
+    let parts = units_in_order(alloc, tree)?;
+    let setting = settle(alloc, tree, &parts)?;
+    let units = units_of(alloc, &setting, &parts)?;
+    let module = module(alloc, tree, units)?;
+    Ok(module)
+}
+
 /// The module that is the code of a tree. Else a fault of the tree: F5 to F8, F11 and F12 first, at the least offset, of two there the one of the
 /// lesser number; then F9; then F10; then F14, the last two at the least offset.
 pub fn compile(alloc: Global, tree: &Tree<'_>) -> Result<Module, FrontError>
@@ -152,12 +181,8 @@ pub fn compile(alloc: Global, tree: &Tree<'_>) -> Result<Module, FrontError>
     ensures fault { (f : Fault) → result ≡ Err (FrontError.Fault f)
         → IsFaultOf (tree_value tree.now) f }
 {
-    clean_names(alloc, tree)?;
-    check_recursion(alloc, tree)?;
-    check_shared(tree)?;
-    let parts = units_in_order(alloc, tree)?;
-    let setting = settle(alloc, tree, &parts)?;
-    let units = units_of(alloc, &setting, &parts)?;
-    let module = module(alloc, tree, units)?;
-    Ok(module)
+    match check(alloc, tree) {
+        Ok(()) => code(alloc, tree),
+        Err(e) => Err(e),
+    }
 }
