@@ -224,7 +224,8 @@ fn param_names<'t>(alloc: Global, params: &[Param<'t>]) -> Result<Vec<&'t [u8]>,
 
 /// What a method's parameters take.
 fn param_kinds(alloc: Global, params: &[Param<'_>]) -> Result<Vec<ParamKind>, CodeError>
-    ensures made { IfOk result (λ kinds. kinds.items ≡ kinds_of_params (map param_value params.now)) }
+    ensures made { IfOk result
+        (λ kinds. kinds.items ≡ kinds_of_params (map param_value params.now)) }
     ensures refused { IfErr result (λ e. e ≡ error.OutOfMemory) }
 {
     let mut kinds = Vec::new(alloc);
