@@ -94,7 +94,8 @@ def called(where: str, block: str, sources: bool, played: Played) -> str:
             parts.append(call)
             continue
         script = f'x10clock() {{ "$PROGRAM" "$@"; }}\n{line[2:]}\n'
-        ran = subprocess.run(["sh", "-c", script], cwd=TOP, env={**os.environ, "PROGRAM": str(PROGRAM)}, capture_output=True, timeout=SECONDS, check=False)
+        environ = {**os.environ, "PROGRAM": str(PROGRAM)}
+        ran = subprocess.run(["sh", "-c", script], cwd=TOP, env=environ, capture_output=True, timeout=SECONDS, check=False)
         got = ran.stdout.decode() + ran.stderr.decode()
         played.said(f"{where}: {line[2:]}", wanted, got)
         parts.append(f"{line}\n{got}")
