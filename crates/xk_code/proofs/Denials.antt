@@ -55,7 +55,8 @@ into_negated err scope size inner t u at d e h next is = denies err h (λ k. k) 
     subst (λ k. HasRoom scope inner (eval scope k e)) (sym next)
     (room_first scope inner _ _ (room_behind scope size (instr.Lit t (pos 0) ∷ []) (eval scope (t + 1) e ++ last_into scope t (Negation at e) d ∷ []) inner is m)))
 
-pub into_both : (err : CodeError) (scope : Scope) (size t at d : ℕ) (o : Operator) (l r : Expression) → DeniesBoth err scope size t l r → DeniesInto err scope size t (Binary o l at r) d
+pub into_both : (err : CodeError) (scope : Scope) (size t at d : ℕ) (o : Operator) (l r : Expression)
+    → DeniesBoth err scope size t l r → DeniesInto err scope size t (Binary o l at r) d
 into_both err scope size t at d o l r h = denies err h (λ k. k) (λ m. room_first scope size _ _ m)
 
 -- ---- statements
@@ -80,7 +81,8 @@ room_gap scope size a b i m =
     }
 
 -- the same names, and the same code
-pub moved : (cx : Setting) (t n inner p : ℕ) (scope : Scope) (s : Statement) → inner ≡ p → HasRoom scope p (code_of cx t scope n p s) → HasRoom scope inner (code_of cx t scope n inner s)
+pub moved : (cx : Setting) (t n inner p : ℕ) (scope : Scope) (s : Statement)
+    → inner ≡ p → HasRoom scope p (code_of cx t scope n p s) → HasRoom scope inner (code_of cx t scope n inner s)
 moved cx t n inner p scope s is m = subst (λ k. HasRoom scope k (code_of cx t scope n k s)) (sym is) m
 
 pub if_tested : (err : CodeError) (cx : Setting) (t : ℕ) (scope : Scope) (n size at : ℕ) (l : Expression) (op : Comparison) (r : Expression) (s : Statement)
@@ -97,7 +99,8 @@ if_inner err cx t scope n size inner at l op r s h is =
     (moved cx t n inner (q + 1) scope s is (room_behind scope q (test ∷ []) body (q + 1) refl (room_behind scope size (both scope t l r) (test ∷ body) q refl m.0)), m.1))
 
 pub if_end : (err : CodeError) (cx : Setting) (t : ℕ) (scope : Scope) (n size inner long at : ℕ) (l : Expression) (op : Comparison) (r : Expression) (s : Statement)
-    → Denies err ⊤ (long ≤ 4096) → inner ≡ size + length (both scope t l r) + 1 → long ≡ inner + length (code_of cx t scope n inner s) → DeniesCode err cx t scope n size (If at l op r s)
+    → Denies err ⊤ (long ≤ 4096) → inner ≡ size + length (both scope t l r) + 1 → long ≡ inner + length (code_of cx t scope n inner s)
+    → DeniesCode err cx t scope n size (If at l op r s)
 if_end err cx t scope n size inner long at l op r s h is is_long =
     let q = size + length (both scope t l r) in
     let body = code_of cx t scope n (q + 1) s in
@@ -154,7 +157,8 @@ else_other err cx t scope again n k size inner from at l op r s u h same_scope n
     let ahead = room_behind scope (q + 1) body (jump ∷ other) (q + 1 + length body) refl inside in
     (moved cx t (n + count s) from p scope u (omega arith) (room_behind scope (q + 1 + length body) (jump ∷ []) other p refl ahead), omega arith))
 
-pub else_end : (err : CodeError) (cx : Setting) (t : ℕ) (scope again : Scope) (n k size inner from long at : ℕ) (l : Expression) (op : Comparison) (r : Expression) (s u : Statement)
+pub else_end : (err : CodeError) (cx : Setting) (t : ℕ) (scope again : Scope) (n k size inner from long at : ℕ)
+    (l : Expression) (op : Comparison) (r : Expression) (s u : Statement)
     → Denies err ⊤ (long ≤ 4096) → again ≡ scope → k ≡ n + count s
     → inner ≡ size + length (both scope t l r) + 1 → from ≡ inner + length (code_of cx t scope n inner s) + 1
     → long ≡ from + length (code_of cx t again k from u) → DeniesCode err cx t scope n size (IfElse at l op r s u)

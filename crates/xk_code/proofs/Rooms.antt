@@ -86,7 +86,8 @@ temporary_written scope t (Binary operator.Times l at r) low is = last_written s
 abbrev pub DeniesEval : CodeError → Scope → ℕ → ℕ → Expression → Type 0
 DeniesEval err scope size t e = Denies err (IsKnown scope e) (HasRoom scope size (eval scope t e))
 
-pub negated : (err : CodeError) (scope : Scope) (size inner t u at : ℕ) (e : Expression) → DeniesEval err scope inner u e → u ≡ t + 1 → inner ≡ size + 1 → DeniesEval err scope size t (Negation at e)
+pub negated : (err : CodeError) (scope : Scope) (size inner t u at : ℕ) (e : Expression)
+    → DeniesEval err scope inner u e → u ≡ t + 1 → inner ≡ size + 1 → DeniesEval err scope size t (Negation at e)
 negated error.Name scope size inner t u at e h next is = h
 negated error.Table scope size inner t u at e h next is = λ r.
     h (subst (λ k. HasRoom scope inner (eval scope k e)) (sym next) (room_first scope inner _ _ (room_behind scope size (instr.Lit t (pos 0) ∷ []) _ inner is r)))
@@ -97,7 +98,8 @@ left error.Name scope size t at o l r h = λ k. h k.0
 left error.Table scope size t at o l r h = λ m. h (room_first scope size _ _ m)
 left error.OutOfMemory scope size t at o l r h = tt
 
-pub between : (err : CodeError) (scope : Scope) (size t x at : ℕ) (o : Operator) (l r : Expression) → Denies err ⊤ (x ≡ t → t < 64) → x ≡ slot_for scope t l → DeniesEval err scope size t (Binary o l at r)
+pub between : (err : CodeError) (scope : Scope) (size t x at : ℕ) (o : Operator) (l r : Expression)
+    → Denies err ⊤ (x ≡ t → t < 64) → x ≡ slot_for scope t l → DeniesEval err scope size t (Binary o l at r)
 between error.Name scope size t x at o l r h is = λ k. h tt
 between error.Table scope size t x at o l r h is = λ m.
     let first = room_first scope size (eval scope t l) _ m in

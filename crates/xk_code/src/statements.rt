@@ -293,8 +293,8 @@ impl<'a, 't> Emitter<'a, 't> {
         ensures refused { IfErr result (λ err. Denies err
             (IsValueKnown self.now.setting.now scope.now (expression e.now))
             (HasRoom scope.now (length code.old.items)
-            (before_into scope.now self.now.free (expression e.now)
-            ++ last_value self.now.setting.now scope.now self.now.free (expression e.now) d ∷ []))) }
+            (before_into scope.now self.now.free (expression e.now) ++ last_value
+            self.now.setting.now scope.now self.now.free (expression e.now) d ∷ []))) }
     {
         match self.shared_alone(e) {
             Some(s) => push(code, Instr::Get(d, s)),

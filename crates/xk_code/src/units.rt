@@ -21,7 +21,8 @@ use xk_names::Table;
 use xk_tree::{ClockList, Method, Name, Param, Stmt};
 use xk_types::{Instr, MAX_SLOTS, ParamKind, Unit, UnitKind};
 
-/// The unit of a method, or of `main`.
+/// The unit of a method, or of `main`. It has none where a name that its code needs is unknown, or one that it declares is known
+/// already; nor where its unit would go beyond a limit.
 #[tactic(auto, using(crate::proofs::Made::unit_made))]
 pub fn method_unit<'t>(
     alloc: Global,
@@ -52,7 +53,8 @@ pub fn method_unit<'t>(
     Ok(unit)
 }
 
-/// The unit of the body of an `async`: its word stands at offset `at`, and it is given these clocks.
+/// The unit of the body of an `async`, whose word stands at offset `at`, and which is given these clocks; or why it has none, as of
+/// a method.
 #[tactic(auto, using(crate::proofs::Made::unit_made))]
 pub fn body_unit<'t>(
     alloc: Global,
@@ -224,7 +226,8 @@ fn param_names<'t>(alloc: Global, params: &[Param<'t>]) -> Result<Vec<&'t [u8]>,
 
 /// What a method's parameters take.
 fn param_kinds(alloc: Global, params: &[Param<'_>]) -> Result<Vec<ParamKind>, CodeError>
-    ensures made { IfOk result (λ kinds. kinds.items ≡ kinds_of_params (map param_value params.now)) }
+    ensures made { IfOk result
+        (λ kinds. kinds.items ≡ kinds_of_params (map param_value params.now)) }
     ensures refused { IfErr result (λ e. e ≡ error.OutOfMemory) }
 {
     let mut kinds = Vec::new(alloc);

@@ -8,7 +8,8 @@ use Rattle.xk_code.proofs.expressions.emit_both.Goals as goal
 pub returns-in_err-x-clause-refused : goal.returns-in_err-x-clause-refused
 returns-in_err-x-clause-refused c =
     let p = err_from_is_err_and c.from_residual.result c.from_residual.ensures.1 in
-    rw (p.1, p.2) (both_first c.in_err-x.field-0.0 c.args.scope.now (length c.args.code.now.items) c.args.t (expression c.args.l.now) (expression c.args.r.now) c.in_err-x.ensures.refused)
+    rw (p.1, p.2) (both_first c.in_err-x.field-0.0 c.args.scope.now (length c.args.code.now.items) c.args.t (expression c.args.l.now) (expression c.args.r.now)
+    c.in_err-x.ensures.refused)
 
 pub returns-in_err-free-clause-refused : goal.returns-in_err-free-clause-refused
 returns-in_err-free-clause-refused c =

@@ -22,6 +22,7 @@ returns-in_err-emit-clause-table c =
     let cx = c.args.setting.now in
     let cs = option_map clock_list c.args.clocks.now in
     let xs = ap (map (λ x. x.now)) c.deref.ensures.value ∙ c.in_ok-names.ensures.made in
-    rw (p.1, p.2) (code_over cx unit_kind.Body (body_params cx c.args.at cs) (body_kinds cx c.args.at cs) (statement c.args.s.now) c.in_ok-scope.scope c.in_ok-scope.n c.in_ok-free.free
+    rw (p.1, p.2) (code_over cx unit_kind.Body (body_params cx c.args.at cs) (body_kinds cx c.args.at cs) (statement c.args.s.now)
+    c.in_ok-scope.scope c.in_ok-scope.n c.in_ok-free.free
     c.new-code.result.items c.in_err-emit.field-0.0 c.in_err-emit.ensures.refused c.new-code.ensures.items (c.in_ok-scope.ensures.scope ∙ ap (scope_from 0) xs)
     (c.in_ok-scope.ensures.count ∙ ap length xs) c.in_ok-free.ensures.next)

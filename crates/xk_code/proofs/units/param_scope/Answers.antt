@@ -19,5 +19,6 @@ pub returns-in_err-declare-clause-refused : goal.returns-in_err-declare-clause-r
 returns-in_err-declare-clause-refused c =
     let p = err_from_is_err_and c.from_residual.result c.from_residual.ensures.1 in
     rw (p.1, p.2) (denies c.in_err-declare.field-0.0 c.in_err-declare.ensures.refused
-    (λ k. (subst (AreNew c.loop-name.scope c.loop-name.n) (at_drop_more (map (λ x. x.now)) c.args.names.now c.loop-name.name-index _ (omega arith)) (c.loop-name.invariant.new k)).0)
+    (λ k. (subst (AreNew c.loop-name.scope c.loop-name.n)
+    (at_drop_more (map (λ x. x.now)) c.args.names.now c.loop-name.name-index _ (omega arith)) (c.loop-name.invariant.new k)).0)
     (λ m. tt))

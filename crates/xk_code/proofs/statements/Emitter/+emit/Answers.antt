@@ -335,7 +335,8 @@ emit_all-loop-s-preserved t c =
     at_drop_more statements ss at item (omega arith) ∙ ap (λ x. More (statement x) (statements (drop (at + 1) ss))) (sym c.s-item.is) in
     let made = c.loop-s.code.items in
     one_more cx free (statements ss) c.args.code.now.items c.args.scope.now c.args.n (statement item) (statements (drop (at + 1) ss)) made _ c.loop-s.scope _ c.loop-s.next _
-    (subst (λ (rest : Statements). AreEmitted cx free (statements ss) c.args.code.now.items c.args.scope.now c.args.n rest made c.loop-s.scope c.loop-s.next) split c.loop-s.invariant)
+    (subst (λ (rest : Statements). AreEmitted cx free (statements ss) c.args.code.now.items c.args.scope.now c.args.n rest made c.loop-s.scope c.loop-s.next)
+    split c.loop-s.invariant)
     c.in_ok-next.ensures.code c.in_ok-next.ensures.scope c.in_ok-next.ensures.slots
 
 pub emit_all-returns-in_err-next-clause-refused : goal.emit_all-returns-in_err-next-clause-refused

@@ -19,5 +19,6 @@ returns-in_err-y-in-Some-clause-refused c =
     let x = word c.args.x in
     let e = expression c.args.e.now in
     let found = sym c.in-Some.is ∙ c.shared.ensures in
-    rw (p.1, p.2) (subst (λ (o : Option ℕ). Denies err (IsAssignable cx scope x e o) (HasRoom scope size (before_assigned scope t e o ++ last_assigned cx scope t x e o ∷ []))) found
+    rw (p.1, p.2) (subst (λ (o : Option ℕ). Denies err (IsAssignable cx scope x e o)
+    (HasRoom scope size (before_assigned scope t e o ++ last_assigned cx scope t x e o ∷ []))) found
     (denies err c.in_err-y-in-Some.ensures.refused (λ k. k) (λ m. room_first scope size _ _ m)))
