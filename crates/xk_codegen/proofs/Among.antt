@@ -1,6 +1,6 @@
 -- Where a part stands among others.
-use Rattle.std.proofs.Common.{◌≡◌, inl, inr, ℕ, zero, suc, ◌+◌, Bool, true, false, cond, List, [], ◌∷◌, Option, Some, None, slice_get, nat_eq, refl, sym, ap, ◌∙◌, subst, arith, eqb-true}
-use Rattle.xk_tree.specs.Tree.{Word, Clocks, Statement, MethodValue}
+use Rattle.std.proofs.Common.{◌≡◌, inl, inr, ℕ, suc, ◌+◌, Bool, true, false, cond, List, [], ◌∷◌, Option, Some, slice_get, nat_eq, refl, sym, ap, ◌∙◌, subst, arith, eqb-true}
+use Rattle.xk_tree.specs.Tree.{Word}
 use Rattle.xk_names.specs.Scope.{Has, is_text}
 use Rattle.xk_units.proofs.Collecting.{same_text}
 use Rattle.xk_codegen.specs.Parts.{Part, OfMethod, OfBody, Run, Calls, Starts, method_among, body_among, place_of}
@@ -29,24 +29,24 @@ found_step false i o later = later refl
 method_found : (i : ℕ) (ps : List Part) (g : Word) (p : Part) → Has ps p → Fits p (Calls g) → (k : ℕ) × (method_among i ps g.text ≡ Some k)
 method_found i [] g p h f = absurd h
 method_found i (OfMethod n ∷ ps) g p h f = found_step (is_text g.text n.name.text) i (method_among (suc i) ps g.text) (λ no. elim h [
-    | inl e ↦ absurd (not_true no (subst (λ (q : Part). Fits q (Calls g)) e f))
-    | inr later ↦ method_found (suc i) ps g p later f
-  ])
+  | inl e ↦ absurd (not_true no (subst (λ (q : Part). Fits q (Calls g)) e f))
+  | inr later ↦ method_found (suc i) ps g p later f
+])
 method_found i (OfBody a cs s ∷ ps) g p h f = elim h [
-    | inl e ↦ absurd (subst (λ (q : Part). Fits q (Calls g)) e f)
-    | inr later ↦ method_found (suc i) ps g p later f
-  ]
+  | inl e ↦ absurd (subst (λ (q : Part). Fits q (Calls g)) e f)
+  | inr later ↦ method_found (suc i) ps g p later f
+]
 
 body_found : (i : ℕ) (ps : List Part) (at : ℕ) (p : Part) → Has ps p → Fits p (Starts at) → (k : ℕ) × (body_among i ps at ≡ Some k)
 body_found i [] at p h f = absurd h
 body_found i (OfBody a cs s ∷ ps) at p h f = found_step (nat_eq at a) i (body_among (suc i) ps at) (λ no. elim h [
-    | inl e ↦ absurd (not_true no (subst (λ (q : Part). Fits q (Starts at)) e f))
-    | inr later ↦ body_found (suc i) ps at p later f
-  ])
+  | inl e ↦ absurd (not_true no (subst (λ (q : Part). Fits q (Starts at)) e f))
+  | inr later ↦ body_found (suc i) ps at p later f
+])
 body_found i (OfMethod n ∷ ps) at p h f = elim h [
-    | inl e ↦ absurd (subst (λ (q : Part). Fits q (Starts at)) e f)
-    | inr later ↦ body_found (suc i) ps at p later f
-  ]
+  | inl e ↦ absurd (subst (λ (q : Part). Fits q (Starts at)) e f)
+  | inr later ↦ body_found (suc i) ps at p later f
+]
 
 pub found : (ps : List Part) (r : Run) (p : Part) → Has ps p → Fits p r → (k : ℕ) × (place_of ps r ≡ Some k)
 found ps (Calls g) p h f = method_found 0 ps g p h f

@@ -74,4 +74,3 @@ shared_step d before after ss i x h e =
     ∙ ap (λ k. first_of (find before x) (cond (is_text x text) (Some i) (shared_among (i + 1) (map shared_value (drop k ss)) x))) (add-one i)
     ∙ ap (λ k. first_of (find before x) (cond (is_text x text) (Some i) (left k))) (add-one i)
     ∙ ap (λ l. first_of (find before x) (shared_among i (map shared_value l) x)) (sym (drop-cons ss i d h))
-

@@ -1,9 +1,8 @@
 -- What a part of a tree without faults of names runs is a part of the tree.
-use Rattle.std.proofs.Common.{◌≡◌, inl, inr, ℕ, Bool, true, false, cond, List, [], ◌∷◌, ◌++◌, map, length, Option, Some, None, refl, sym, ap, ◌∙◌, subst, eq-eqb, nat_eq}
+use Rattle.std.proofs.Common.{◌≡◌, inl, inr, ℕ, Bool, true, false, cond, List, [], ◌∷◌, ◌++◌, length, Some, refl, sym, ap, ◌∙◌, subst, eq-eqb}
 use Rattle.std.specs.Prelude.{int_le, codes}
 use Rattle.std.specs.List.{flat_map}
-use Rattle.std.specs.Cmp.Lexicographic.{bytes_decides}
-use Rattle.xk_tree.specs.Tree.{Word, Clocks, Expression, Statement, Statements, Done, More, Block, If, IfElse, For, Async, Finish, Call, ParamValue, MethodValue, TreeValue}
+use Rattle.xk_tree.specs.Tree.{Word, Statement, Statements, Done, More, Block, If, IfElse, For, Async, Finish, Call, ParamValue, MethodValue, TreeValue}
 use Rattle.xk_names.specs.Scope.{Has, find, is_text, Scope}
 use Rattle.xk_names.specs.Uses.{Signatures, signatures, clocks_listed, declares}
 use Rattle.xk_names.specs.Scoped.{IsSound, IsSoundInside, AreSound, with_all, with_body, method_scope, IsScoped}
@@ -91,9 +90,9 @@ in_method m p q (inr h) d = inr (deeper_all m.body p q h d)
 in_methods : (ms : List MethodValue) (p q : Part) → Has (flat_map method_parts ms) p → Has (inner p) q → Has (flat_map method_parts ms) q
 in_methods [] p q h d = absurd h
 in_methods (m ∷ ms) p q h d = elim (has_either (method_parts m) (flat_map method_parts ms) p h) [
-    | inl x ↦ has_left (method_parts m) (flat_map method_parts ms) q (in_method m p q x d)
-    | inr y ↦ has_right (method_parts m) (flat_map method_parts ms) q (in_methods ms p q y d)
-  ]
+  | inl x ↦ has_left (method_parts m) (flat_map method_parts ms) q (in_method m p q x d)
+  | inr y ↦ has_right (method_parts m) (flat_map method_parts ms) q (in_methods ms p q y d)
+]
 
 -- ---- methods that are called
 
@@ -163,9 +162,9 @@ part_known : (t : TreeValue) (ms : List MethodValue) → ((m : MethodValue) → 
     → (p : Part) → Has (flat_map method_parts ms) p → known_inside (signatures t.methods) p
 part_known t [] sound p h = absurd h
 part_known t (m ∷ ms) sound p h = elim (has_either (method_parts m) (flat_map method_parts ms) p h) [
-    | inl x ↦ method_known (signatures t.methods) (method_scope t m) m (sound m (inl refl)) p x
-    | inr y ↦ part_known t ms (λ n among. sound n (inr among)) p y
-  ]
+  | inl x ↦ method_known (signatures t.methods) (method_scope t m) m (sound m (inl refl)) p x
+  | inr y ↦ part_known t ms (λ n among. sound n (inr among)) p y
+]
 
 -- a method that is known is a part
 signed : (ms : List MethodValue) (x : List ℕ) (ps : List ParamValue) → find (signatures ms) x ≡ Some ps → (m : MethodValue) × Has ms m × (is_text x m.name.text ≡ true)

@@ -1,17 +1,17 @@
 -- Parts that are put in the order of what they run have units in this order.
-use Rattle.std.proofs.Common.{◌≡◌, ◌⊎◌, inl, inr, ℕ, zero, suc, ◌+◌, ◌<◌, Bool, true, false, List, [], ◌∷◌, ◌++◌, map, length, Option, Some, None, slice_get, refl, sym, ap, ◌∙◌, subst, arith}
+use Rattle.std.proofs.Common.{◌≡◌, ◌⊎◌, inl, inr, ℕ, suc, ◌<◌, List, [], ◌∷◌, map, length, Option, Some, None, slice_get, refl, sym, ap, ◌∙◌, subst, arith}
 use Rattle.std.specs.Prelude.{unwrap_or, codes}
 use Rattle.std.proofs.lemmas.Option.{slice_get_within}
-use Rattle.xk_calls.specs.Calls.{IsCall, Path, Reaches, AreReached, AreWithin}
+use Rattle.xk_calls.specs.Calls.{IsCall, Path, Reaches, AreWithin}
 use Rattle.xk_tree.specs.Tree.{TreeValue, MethodValue}
-use Rattle.xk_names.specs.Scope.{Has, is_text}
+use Rattle.xk_names.specs.Scope.{Has}
 use Rattle.xk_names.specs.Scoped.{IsScoped}
 use Rattle.xk_units.proofs.Collecting.{same_text}
 use Rattle.xk_units.proofs.Listed.{has_at, place_of as place_among}
 use Rattle.xk_units.proofs.Graph.{mapped_at, at_mapped, row_of, of_row}
-use Rattle.xk_codegen.specs.Parts.{Part, OfMethod, OfBody, Run, Calls, Starts, opening, parts, part_runs, place_of}
+use Rattle.xk_codegen.specs.Parts.{Part, OfMethod, OfBody, Run, opening, parts, part_runs, place_of}
 use Rattle.xk_codegen.specs.Graph.{graph, graph_by, place_or_last, IsOrder}
-use Rattle.xk_codegen.specs.Compiled.{AreUnits, HasLater, IsRun}
+use Rattle.xk_codegen.specs.Compiled.{AreUnits, HasLater}
 use Rattle.xk_codegen.proofs.Among.{Fits, FitsAt, found, fits_there, same_place}
 use Rattle.xk_codegen.proofs.Nested.{has_place}
 
@@ -61,9 +61,9 @@ pub record IsFirst (ps : List Part) (i : ℕ) : Type 0 where
 last_call : (calls : List (List ℕ)) (ns : List ℕ) (a j : ℕ) → Path calls ns a j → (a ≡ j) ⊎ ((x : ℕ) × (k : ℕ) × IsCall calls x k j)
 last_call calls [] a j p = inl p
 last_call calls (n ∷ ns) a j p = elim (last_call calls ns n j p.1) [
-    | inl e ↦ inr (a, p.0.0, subst (λ (m : ℕ). IsCall calls a p.0.0 m) e p.0.1)
-    | inr h ↦ inr h
-  ]
+  | inl e ↦ inr (a, p.0.0, subst (λ (m : ℕ). IsCall calls a p.0.0 m) e p.0.1)
+  | inr h ↦ inr h
+]
 
 known_place : (o : Option ℕ) (d j : ℕ) → ((k : ℕ) × (o ≡ Some k)) → unwrap_or o d ≡ j → o ≡ Some j
 known_place (Some k) d j h e = ap Some e
@@ -71,12 +71,15 @@ known_place None d j h e = absurd cc
 
 pub is_first : (t : TreeValue) → IsScoped t → (start i : ℕ) → place_of (parts t) opening ≡ Some start → Reaches (graph (parts t)) start i → IsFirst (parts t) i
 is_first t scoped start i begins path = elim (last_call (graph (parts t)) path.0 start i path.1) [
-    | inl e ↦ record { run = opening; place = begins ∙ ap Some e }
-    | inr h ↦
+  | inl e ↦ record { run = opening; place = begins ∙ ap Some e }
+  | inr h ↦
       let r = is_run_at (parts t) h.0 h.1 i h.2 in
-      record { run = r.run; place = known_place (place_of (parts t) r.run) (length (parts t)) i
-        (has_place t scoped r.part (has_at (parts t) h.0 r.part r.stands) r.run (has_at (part_runs r.part) h.1 r.run r.among)) r.place }
-  ]
+      record {
+        run = r.run;
+        place = known_place (place_of (parts t) r.run) (length (parts t)) i
+            (has_place t scoped r.part (has_at (parts t) h.0 r.part r.stands) r.run (has_at (part_runs r.part) h.1 r.run r.among)) r.place;
+      }
+]
 
 pub is_there : (ps : List Part) (i : ℕ) → IsFirst ps i → i < length ps
 is_there ps i h = let f = fits_there ps h.run i h.place in slice_get_within ps i f.part f.stands
@@ -122,7 +125,7 @@ same_unit t order us h r j b n place at fits =
     let g = fits_there (parts t) f.run q.number f.place in
     let same : g.part ≡ fits.part = same_part (slice_get (parts t) q.number) g.part fits.part g.stands q.is in
     let i : q.number ≡ j = some_number q.number j
-        (sym f.place ∙ same_place (parts t) fits.part f.run r (subst (λ (p : Part). Fits p f.run) same g.fits) fits.fits ∙ place) in
+    (sym f.place ∙ same_place (parts t) fits.part f.run r (subst (λ (p : Part). Fits p f.run) same g.fits) fits.fits ∙ place) in
     h.is_order.once n b q.number q.at (at ∙ ap Some (sym i))
 
 has_later : (t : TreeValue) (order : List ℕ) (us : List Part) → IsPicked t order us → (k : ℕ) (p : Part) (r : Run) → slice_get us k ≡ Some p → Has (part_runs p) r
@@ -133,7 +136,7 @@ has_later t order us h k p r is runs =
     let c = place_among (part_runs p) r runs in
     let j = has_place t h.scoped p (has_at ps i.number p i.is) r runs in
     let call : IsCall (graph ps) i.number c.0 j.0 = subst (λ (n : ℕ). IsCall (graph ps) i.number c.0 n) (ap (λ (o : Option ℕ). unwrap_or o (length ps)) j.1)
-        (is_call ps i.number c.0 p r i.is c.1) in
+    (is_call ps i.number c.0 p r i.is c.1) in
     let b = h.is_order.later k i.number c.0 j.0 i.at call in
     let q = unpicked ps us order h.same b.0 j.0 b.2 in
     let f = fits_there ps r j.0 j.1 in

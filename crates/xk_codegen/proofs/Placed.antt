@@ -1,9 +1,8 @@
 -- The graph of parts that is made of tables of their places.
-use Rattle.std.proofs.Common.{◌≡◌, ℕ, suc, ◌<◌, List, [], ◌∷◌, ◌++◌, map, length, Option, Some, None, slice_get, refl, sym, ap, ◌∙◌, subst, arith}
+use Rattle.std.proofs.Common.{◌≡◌, ℕ, suc, ◌<◌, List, [], ◌∷◌, ◌++◌, map, length, Some, slice_get, refl, sym, ap, ◌∙◌, arith}
 use Rattle.std.specs.Prelude.{unwrap_or, codes}
 use Rattle.std.proofs.lemmas.List.{length-map}
 use Rattle.std.proofs.lemmas.Option.{slice_get_within}
-use Rattle.xk_calls.specs.Calls.{AreWithin}
 use Rattle.xk_tree.specs.Tree.{TreeValue}
 use Rattle.xk_names.specs.Scope.{find}
 use Rattle.xk_names.specs.Scoped.{IsScoped}

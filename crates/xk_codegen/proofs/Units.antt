@@ -21,11 +21,12 @@ AreMade cx ps k units =
 pub one_more_unit : (cx : Setting) (ps : List declared.Part) (k : ℕ) (before after : List UnitValue) (p : declared.Part) (u : UnitValue) → AreMade cx ps k before → k < length ps
     → p ≡ get_or ps k p → u ≡ unit_of_part cx (part p) → IsUnitWithinLimits u → after ≡ before ++ u ∷ [] → AreMade cx ps (k + 1) after
 one_more_unit cx ps k before after p u made within is code limits e =
-    let left : ℕ → List UnitValue = λ n. map (unit_of_part cx) (map part (drop n ps)) in
-    (made.0,
+    let left : ℕ → List UnitValue = λ n. map (unit_of_part cx) (map part (drop n ps)) in (
+      made.0,
       subst (λ (l : List UnitValue). All IsUnitWithinLimits l) (sym e) (All-append IsUnitWithinLimits before (u ∷ []) made.1 (one IsUnitWithinLimits u limits)),
       ap (λ (l : List UnitValue). l ++ left (k + 1)) e ∙ append_assoc before (u ∷ []) (left (k + 1)) ∙ ap (λ (v : UnitValue). before ++ v ∷ left (k + 1)) code
-      ∙ ap (λ l. before ++ map (unit_of_part cx) l) (sym (parts_left ps k p (part p) within is refl)) ∙ made.2)
+          ∙ ap (λ l. before ++ map (unit_of_part cx) l) (sym (parts_left ps k p (part p) within is refl)) ∙ made.2,
+    )
 
 append_nil : (xs : List UnitValue) → xs ++ [] ≡ xs
 append_nil [] = refl

@@ -1,14 +1,14 @@
 -- Which modules are the code of a program, and which faults a program has.
 --
 -- Which parts of a program have units, and how units are numbered, is this project's own choice.
-use Rattle.std.specs.Prelude.{◌≡◌, ℕ, suc, ◌<◌, ◌≢◌, nat_eq, min, List, [], ◌∷◌, map, Option, Some, None, option_map, slice_get, codes, if◌then◌else◌}
+use Rattle.std.specs.Prelude.{◌≡◌, ℕ, suc, ◌<◌, nat_eq, min, List, [], ◌∷◌, map, Option, Some, None, option_map, slice_get, codes, if◌then◌else◌}
 use Rattle.xk_types.specs.declared.unit.UnitKind.{UnitKind}
 use Rattle.xk_types.specs.declared.unit.UnitKind.TheVariants as unit_kind
 use Rattle.xk_types.specs.Code.{UnitValue, ModuleValue, IsUnitWithinLimits}
 use Rattle.xk_tree.specs.declared.fault.FrontRule.TheVariants as rule
 use Rattle.xk_tree.specs.declared.fault.FrontFault.{FrontFault}
-use Rattle.xk_tree.specs.Tree.{Word, Clocks, Statement, MethodValue, SharedValue, TreeValue}
-use Rattle.xk_names.specs.Scope.{Table, find, is_text, Has, texts}
+use Rattle.xk_tree.specs.Tree.{Statement, MethodValue, SharedValue, TreeValue}
+use Rattle.xk_names.specs.Scope.{find, is_text, Has}
 use Rattle.xk_names.specs.Uses.{signatures}
 use Rattle.xk_names.specs.Faults.{HasFault, fault}
 use Rattle.xk_names.specs.Captures.{captures, shared_texts}

@@ -1,9 +1,8 @@
 -- The parts of a program that have code of their own: methods, and the bodies of `async`.
-use Rattle.std.specs.Prelude.{◌≡◌, ℕ, suc, nat_eq, int_le, List, [], ◌∷◌, ◌++◌, map, length, Option, Some, None, unwrap_or, codes, if◌then◌else◌}
+use Rattle.std.specs.Prelude.{ℕ, suc, nat_eq, int_le, List, [], ◌∷◌, ◌++◌, Option, Some, None, codes, if◌then◌else◌}
 use Rattle.std.specs.List.{flat_map}
-use Rattle.std.specs.Map.{lookup}
-use Rattle.xk_tree.specs.Tree.{Word, Clocks, Statement, Statements, Done, More, Block, If, IfElse, For, Async, Finish, Call, MethodValue, TreeValue, method_value, clock_list, statement}
-use Rattle.xk_names.specs.Scope.{Table, find, is_text}
+use Rattle.xk_tree.specs.Tree.{Word, Clocks, Statement, Statements, Done, More, Block, If, IfElse, For, Async, Finish, Call, MethodValue, TreeValue}
+use Rattle.xk_names.specs.Scope.{is_text}
 
 -- a method; or the body of an `async`, by the offset of that word, with the clocks that it lists
 pub data Part : Type 0 where

@@ -44,11 +44,7 @@ fn kind_of(method: &Method<'_>) -> UnitKind
 }
 
 /// The unit of a part.
-fn unit_of<'t>(
-    alloc: Global,
-    setting: &Setting<'t>,
-    p: &Part<'_, 't>,
-) -> Result<Unit, CodeError>
+fn unit_of<'t>(alloc: Global, setting: &Setting<'t>, p: &Part<'_, 't>) -> Result<Unit, CodeError>
     ensures made { IfOk result (λ unit. unit ≡ unit_of_part setting.now (part p.now)) }
     ensures limits { IfOk result IsUnitWithinLimits }
 {

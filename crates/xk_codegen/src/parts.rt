@@ -35,10 +35,7 @@ impl<'a, 't> Part<'a, 't> {
 
 /// Adds the bodies of `async` in a statement.
 #[cycle(bodies)]
-fn add_bodies<'a, 't>(
-    found: &mut Vec<Part<'a, 't>>,
-    s: &'a Stmt<'t>,
-) -> Result<(), AllocError>
+fn add_bodies<'a, 't>(found: &mut Vec<Part<'a, 't>>, s: &'a Stmt<'t>) -> Result<(), AllocError>
     ensures { OnOk result (map part found.new.items
         ≡ map part found.old.items ++ bodies (statement s.now)) }
 {

@@ -40,10 +40,7 @@ impl<'t> Model for Places<'t> {
 }
 
 /// The places of methods by their names; a name means the first method that has it.
-fn method_places<'t>(
-    alloc: Global,
-    parts: &[Part<'_, 't>],
-) -> Result<Table<'t, usize>, AllocError>
+fn method_places<'t>(alloc: Global, parts: &[Part<'_, 't>]) -> Result<Table<'t, usize>, AllocError>
     ensures { IfOk result (λ table. (x : List ℕ)
         → find table x ≡ method_among 0 (map part parts.now) x) }
 {
@@ -58,10 +55,7 @@ fn method_places<'t>(
 }
 
 /// The places of bodies by the offsets of their `async`.
-fn body_places(
-    alloc: Global,
-    parts: &[Part<'_, '_>],
-) -> Result<IndexMap<usize, usize>, AllocError>
+fn body_places(alloc: Global, parts: &[Part<'_, '_>]) -> Result<IndexMap<usize, usize>, AllocError>
     ensures { IfOk result (λ table. (at : ℕ)
         → lookup (nat_eq at) table.entries ≡ body_among 0 (map part parts.now) at) }
 {

@@ -30,10 +30,7 @@ fn unit_number(k: usize) -> u16
 }
 
 /// The places of shared numbers by their names.
-fn shared_places<'t>(
-    alloc: Global,
-    shared: &[Shared<'t>],
-) -> Result<Table<'t, u16>, AllocError>
+fn shared_places<'t>(alloc: Global, shared: &[Shared<'t>]) -> Result<Table<'t, u16>, AllocError>
     requires { length shared.now ≤ 256 }
     ensures { IfOk result (λ table. (x : List ℕ)
         → find table x ≡ shared_among 0 (map shared_value shared.now) x) }
@@ -46,10 +43,7 @@ fn shared_places<'t>(
 }
 
 /// The units of methods by their names.
-fn method_units<'t>(
-    alloc: Global,
-    units: &[Part<'_, 't>],
-) -> Result<Table<'t, u16>, AllocError>
+fn method_units<'t>(alloc: Global, units: &[Part<'_, 't>]) -> Result<Table<'t, u16>, AllocError>
     ensures { IfOk result (λ table. (x : List ℕ)
         → find table x ≡ option_map unit_number (method_among 0 (map part units.now) x)) }
 {

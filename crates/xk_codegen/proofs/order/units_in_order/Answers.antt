@@ -1,6 +1,5 @@
-use Rattle.std.proofs.Common.{ℕ, ◌<◌, List, Some, length, slice_get, ap, sym, ◌∙◌, subst}
+use Rattle.std.proofs.Common.{ℕ, ◌<◌, List, length, slice_get, ap, sym, ◌∙◌, subst}
 use Rattle.xk_tree.specs.Tree.{tree_value}
-use Rattle.xk_codegen.specs.declared.parts.Part as declared
 use Rattle.xk_codegen.proofs.Placed.{order_within}
 use Rattle.xk_codegen.proofs.order.units_in_order.Goals as goal
 

@@ -19,18 +19,18 @@ loop-i-preserved c = λ x.
     let first : List Part → Option ℕ = λ ps. first_of (find c.loop-i.table x) (option_map unit_number (method_among i ps x)) in
     elim c.match-p.branch [
       | in-Method+in_ok-put-in-Method w ↦
-        let text = w.in-Method.method.now.name.text.now in
-        ap (λ t. first_of (find t x) (option_map unit_number (left (i + 1)))) (w.table-is ∙ w.in_ok-put-in-Method.ensures)
-        ∙ ap (λ n. first_of (find (put c.loop-i.table text n) x) (option_map unit_number (left (i + 1)))) w.unit_number.ensures
-        ∙ put_number c.loop-i.table text x (unit_number i) (option_map unit_number (left (i + 1)))
-        ∙ ap (first_of (find c.loop-i.table x)) (numbered_or (is_text x text) unit_number i (left (i + 1)))
-        ∙ ap (λ j. first_of (find c.loop-i.table x) (option_map unit_number (cond (is_text x text) (Some i) (left j)))) (add-one i)
-        ∙ ap first (sym (parts_left c.args.units.now i c.index-units-i.result (OfMethod (method_value w.in-Method.method.now)) c.loop-i-test.true c.index-units-i.is (ap part w.in-Method.is)))
-        ∙ c.loop-i.invariant x
+          let text = w.in-Method.method.now.name.text.now in
+          ap (λ t. first_of (find t x) (option_map unit_number (left (i + 1)))) (w.table-is ∙ w.in_ok-put-in-Method.ensures)
+          ∙ ap (λ n. first_of (find (put c.loop-i.table text n) x) (option_map unit_number (left (i + 1)))) w.unit_number.ensures
+          ∙ put_number c.loop-i.table text x (unit_number i) (option_map unit_number (left (i + 1)))
+          ∙ ap (first_of (find c.loop-i.table x)) (numbered_or (is_text x text) unit_number i (left (i + 1)))
+          ∙ ap (λ j. first_of (find c.loop-i.table x) (option_map unit_number (cond (is_text x text) (Some i) (left j)))) (add-one i)
+          ∙ ap first (sym (parts_left c.args.units.now i c.index-units-i.result (OfMethod (method_value w.in-Method.method.now)) c.loop-i-test.true c.index-units-i.is (ap part w.in-Method.is)))
+          ∙ c.loop-i.invariant x
       | in-Body w ↦
-        ap (λ t. first_of (find t x) (option_map unit_number (left (i + 1)))) w.table-is
-        ∙ ap (λ j. first_of (find c.loop-i.table x) (option_map unit_number (left j))) (add-one i)
-        ∙ ap first (sym (parts_left c.args.units.now i c.index-units-i.result
-            (OfBody w.in-Body.field-0 (option_map clock_list w.in-Body.field-1.now) (statement w.in-Body.field-2.now)) c.loop-i-test.true c.index-units-i.is (ap part w.in-Body.is)))
-        ∙ c.loop-i.invariant x
+          ap (λ t. first_of (find t x) (option_map unit_number (left (i + 1)))) w.table-is
+          ∙ ap (λ j. first_of (find c.loop-i.table x) (option_map unit_number (left j))) (add-one i)
+          ∙ ap first (sym (parts_left c.args.units.now i c.index-units-i.result
+          (OfBody w.in-Body.field-0 (option_map clock_list w.in-Body.field-1.now) (statement w.in-Body.field-2.now)) c.loop-i-test.true c.index-units-i.is (ap part w.in-Body.is)))
+          ∙ c.loop-i.invariant x
     ]

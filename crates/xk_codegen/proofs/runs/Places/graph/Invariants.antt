@@ -1,4 +1,4 @@
-use Rattle.std.proofs.Common.{◌≡◌, [], ◌∷◌, ◌++◌, drop, map}
+use Rattle.std.proofs.Common.{◌≡◌, ◌++◌, drop, map}
 use Rattle.xk_calls.specs.Calls.{rows}
 use Rattle.xk_codegen.specs.Graph.{graph_by, place_in}
 use Rattle.xk_codegen.specs.Views.{part}
