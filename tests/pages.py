@@ -51,7 +51,9 @@ class Played:
 
 
 def takes_sources() -> bool:
-    return subprocess.run([PROGRAM, "compile", "--help"], capture_output=True, check=False).returncode == 0
+    """Whether the program compiles a small text."""
+    ran = subprocess.run([PROGRAM, "compile", "-"], input=b"def main() { Clock.advanceAll(); }", capture_output=True, check=False)
+    return b"advance" in ran.stdout
 
 
 def answer(words: list[str], program: str) -> str:
