@@ -1,12 +1,16 @@
 #!/bin/sh
-# Asks the built program what it says of the modules in `tests/answers/*.rows`, and of those that `tests/answers/made.sh` makes, and
-# compares, line for line.
+# Asks the built program what it says of the modules in `tests/answers/*.rows`, of those that `tests/answers/made.sh` makes, of the source
+# texts in `tests/answers/sources*.rows`, and of those that `tests/answers/made-sources.sh` makes, and compares, line for line. Where files
+# of rows are named, it asks about these alone.
 #
 # A row is a line with a module's text and, right below it, the line that `x10clock check` answers to it: on standard output with status 0
 # where it begins with `accepted`, else on standard error with status 1, and then `x10clock run` answers the same. Below an accepted module
 # there may be lines of what a run prints, with a comma where a line ends: `run: ` without an order and in the order `first`, `last: ` and
 # `round: ` in these orders. In the text, `\n`, `\t`, `\\` and `\0OOO` (a byte in octal) stand for themselves as with printf's %b, and `\c`
 # alone for an empty text. Lines that begin with `#`, and empty ones, are between rows.
+#
+# In a file whose name begins with `sources` the texts are programs in the language, not modules. `x10clock compile` answers the same as
+# `check` where that is a fault of the text (F1 to F14); below a row there may be `compile: ` and the module that it is compiled to.
 set -eu
 cd "$(dirname "$0")/.."
 program=${X10CLOCK:-crates/x10clock/out/x10clock}
@@ -19,7 +23,7 @@ fail() {
     exit 1
 }
 
-# answers STATUS WORDS..: the program ends with this status on these words and the module, and says what is wanted, on standard output where
+# answers STATUS WORDS..: the program ends with this status on these words and the text, and says what is wanted, on standard output where
 # the status is 0, else on standard error, and nothing else.
 answers() {
     wanted=$1
@@ -29,43 +33,54 @@ answers() {
         *) told=err silent=out ;;
     esac
     status=0
-    "$program" "$@" - < "$work/module" > "$work/out" 2> "$work/err" || status=$?
+    "$program" "$@" - < "$work/text" > "$work/out" 2> "$work/err" || status=$?
     if [ "$status" != "$wanted" ] || ! cmp -s "$work/wanted" "$work/$told" || [ -s "$work/$silent" ]; then
-        fail "$*: status $status: $(cat "$work/out" "$work/err"), not $(cat "$work/wanted")"
+        fail "$*: status $status: $(cat "$work/out" "$work/err" | head -c 500), not $(head -c 500 "$work/wanted")"
     fi
 }
 
-# row TEXT ANSWER: the program answers so to the module with this text, which is the one that is asked about from now on.
+# row TEXT ANSWER: the program answers so to the program with this text, which is the one that is asked about from now on.
 row() {
-    printf '%b' "$1" > "$work/module"
+    printf '%b' "$1" > "$work/text"
     printf '%s\n' "$2" > "$work/wanted"
     case $2 in
-        accepted*) answers 0 check --module ;;
+        accepted*) answers 0 check $form ;;
         *)
-            answers 1 check --module
-            answers 1 run --module
+            answers 1 check $form
+            answers 1 run $form
+            case $2 in 'x10clock: F'*) answers 1 compile ;; esac
             ;;
     esac
     rows=$((rows + 1))
+}
+
+# compiles MODULE: the text is compiled to this module.
+compiles() {
+    printf '%s\n' "$1" > "$work/wanted"
+    answers 0 compile
 }
 
 # prints PRINTED WORDS..: a run with these words prints this.
 prints() {
     printf '%s\n' "$1" | tr , '\n' > "$work/wanted"
     shift
-    answers 0 run --module "$@"
+    answers 0 run $form "$@"
     runs=$((runs + 1))
 }
 
-sh tests/answers/made.sh > "$work/made.rows"
 rows=0
 runs=0
-for file in tests/answers/*.rows "$work/made.rows"; do
+
+# asked FILE: all rows of a file are answered so.
+asked() {
+    file=$1
+    case ${file##*/} in sources*) form= ;; *) form=--module ;; esac
     line=0
     while IFS= read -r text; do
         line=$((line + 1))
         case $text in
             '' | '#'*) ;;
+            'compile: '*) compiles "${text#compile: }" ;;
             'run: '*)
                 prints "${text#run: }"
                 prints "${text#run: }" --order first
@@ -79,6 +94,19 @@ for file in tests/answers/*.rows "$work/made.rows"; do
                 ;;
         esac
     done < "$file"
-done
+}
+
+if [ $# -gt 0 ]; then
+    for file; do asked "$file"; done
+else
+    sh tests/answers/made.sh > "$work/made.rows"
+    sh tests/answers/made-sources.sh > "$work/sources-made.rows"
+    # A program that can't compile yet isn't asked about source texts.
+    "$program" compile --help > /dev/null 2>&1 && takes_sources=yes || takes_sources=no
+    for file in tests/answers/*.rows "$work/made.rows" "$work/sources-made.rows"; do
+        case $takes_sources:${file##*/} in no:sources*) ;; *) asked "$file" ;; esac
+    done
+    [ "$takes_sources" = yes ] || echo "answers: this program takes no source texts, so nothing was asked about them"
+fi
 [ "$rows" -gt 0 ] || { echo "answers: no rows" >&2; exit 1; }
-echo "answers: $rows modules and $runs runs of them, all answered so"
+echo "answers: $rows programs and $runs runs of them, all answered so"

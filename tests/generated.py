@@ -856,8 +856,11 @@ def changed_value(rng: random.Random, value: Value) -> Value:
     return value
 
 
-def changed_bytes(rng: random.Random, text: bytes) -> bytes:
-    """The bytes with a few of them replaced, dropped, doubled or cut off."""
+SPOILS = [b"0", b"9", b"-", b".", b"e", b",", b"[", b"]", b"{", b"}", b'"', b"\\", b" ", b"\t", b"\r", b"\x0b", b"\xff", b"\x00", b"\xc3\xa9", b"\xef\xbb\xbf"]
+
+
+def changed_bytes(rng: random.Random, text: bytes, spoils: list[bytes] = SPOILS) -> bytes:
+    """The bytes with a few of them replaced, dropped, doubled or cut off, or with some of those given put in."""
     changed = bytearray(text)
     for _ in range(rng.choice([1, 1, 1, 2, 5])):
         at = rng.randrange(len(changed) + 1)
@@ -869,8 +872,7 @@ def changed_bytes(rng: random.Random, text: bytes) -> bytes:
         elif way == 2:
             changed[at:at] = changed[at : at + rng.randrange(1, 20)]
         elif way == 3:
-            signs = [b"0", b"9", b"-", b".", b"e", b",", b"[", b"]", b"{", b"}", b'"', b"\\", b" ", b"\t", b"\r", b"\x0b", b"\xff", b"\x00", b"\xc3\xa9", b"\xef\xbb\xbf"]
-            changed[at:at] = rng.choice(signs)
+            changed[at:at] = rng.choice(spoils)
         elif len(changed) > 1 and rng.random() < 0.3:
             del changed[at:]
         if not changed:

@@ -5,9 +5,11 @@ The modules are those of tests/rows and whole programs that are made up here, as
 operand and byte by byte (tests/generated.py). `check` and `run`, the latter in each order, have to answer what the telling answers,
 byte for byte; where there are several walks to what is refused, another shortest one is taken too, and counted. Of an accepted module with few worlds
 the telling goes through all schedules, and looks whether the promises hold.
+With `--source` the texts are programs in the language (tests/generated_source.py) and those of tests/answers/sources*.rows and of examples,
+and `compile` is compared too, with what tests/telling_source.py makes of them.
 Needs the built program and python3. The gate runs it with 2,000 cases.
 
-    python3 tests/mutations.py [CASES] [SEED] [--jobs N] [--program PATH] [--worlds N] [--only CASE]
+    python3 tests/mutations.py [CASES] [SEED] [--source] [--jobs N] [--program PATH] [--worlds N] [--only CASE]
 
 20,000 cases, seed 1, 2 jobs, crates/x10clock/out/x10clock and 1,000 worlds where nothing else is said. `--only` prints one case alone.
 """
@@ -17,6 +19,7 @@ from __future__ import annotations
 import argparse
 import collections
 import concurrent.futures
+import itertools
 import json
 import pathlib
 import random
@@ -24,10 +27,13 @@ import re
 import subprocess
 import sys
 import zlib
+from collections.abc import Iterable, Iterator
 from dataclasses import dataclass, field
 
 import generated
+import generated_source
 import telling
+import telling_source
 from telling import Accepted, Order, Refused
 
 TOP = pathlib.Path(__file__).resolve().parent.parent
@@ -71,7 +77,26 @@ def sharing(numbers: list[int], *units: tuple) -> bytes:
     return json.dumps(generated.module_form(*forms, shared=tuple(numbers)), separators=(",", ":")).encode()
 
 
-def seed_texts() -> list[bytes]:
+def row_text(row: str) -> bytes:
+    """What a row's text stands for, with its escapes."""
+    if row == "\\c":
+        return b""
+    byte = lambda found: bytes([int(found[1], 8)]) if found[1] else {b"n": b"\n", b"t": b"\t", b"r": b"\r", b"\\": b"\\"}[found[2]]
+    return re.sub(rb"\\(?:0([0-7]{3})|([ntr\\]))", byte, row.encode())
+
+
+def source_texts() -> list[bytes]:
+    """The texts of the rows of sources, and of the examples."""
+    found = []
+    for path in sorted((TOP / "tests/answers").glob("sources*.rows")):
+        rows = [line for line in path.read_text().split("\n") if line and not re.match("#|(run|last|round|compile): ", line)]
+        found += map(row_text, rows[::2])
+    return found + [path.read_bytes() for path in sorted((TOP / "examples").glob("*.x10"))]
+
+
+def seed_texts(source: bool) -> list[bytes]:
+    if source:
+        return source_texts()
     return [path.read_bytes() for path in sorted((TOP / "tests/rows").glob("*.json"))] + [sharing(*form) for form in SHARING]
 
 
@@ -115,9 +140,11 @@ class Comparer:
 
     program: pathlib.Path
     worlds: int
+    source: bool
 
     def ask(self, text: bytes, command: str, *more: str) -> Answer:
-        words = [self.program, command, *more, "--module", "-"]
+        form = [] if self.source else ["--module"]
+        words = [self.program, command, *more, *form, "-"]
         try:
             ran = subprocess.run(words, input=text, capture_output=True, timeout=SECONDS, check=False)
         except subprocess.TimeoutExpired:
@@ -125,9 +152,23 @@ class Comparer:
         return Answer(ran.returncode, ran.stdout.decode("utf-8", "replace"), ran.stderr.decode("utf-8", "replace"))
 
     def outcome(self, text: bytes) -> Outcome:
-        judged = telling.judge(text)
-        if isinstance(judged, Refused):
-            return self.of_refused(text, judged)
+        judged = telling_source.judge(text) if self.source else telling.judge(text)
+        outcome = self.of_refused(text, judged) if isinstance(judged, Refused) else self.of_accepted(text, judged)
+        if self.source:
+            self.compiles(text, outcome)
+        return outcome
+
+    def compiles(self, text: bytes, outcome: Outcome) -> None:
+        try:
+            told = done(telling_source.module_text(text) + "\n")
+            outcome.counts["texts that are compiled"] += 1
+        except telling_source.Fault as fault:
+            told = refused(str(fault))
+        answer = self.ask(text, "compile")
+        if answer != told:
+            outcome.differ("compile", told, answer)
+
+    def of_accepted(self, text: bytes, judged: Accepted) -> Outcome:
         outcome = Outcome("accepted")
         told = done(judged.bounds.line() + "\n")
         answer = self.ask(text, "check")
@@ -211,8 +252,19 @@ class Comparer:
 # Smaller texts with the same fault.
 
 
-def smaller(text: bytes) -> list[bytes]:
+def shorter(text: bytes) -> Iterator[bytes]:
+    """A source text without a piece of it, large ones first."""
+    size = len(text) // 2
+    while size:
+        for at in range(0, len(text), size):
+            yield text[:at] + text[at + size :]
+        size //= 2
+
+
+def smaller(text: bytes, source: bool) -> Iterable[bytes]:
     """Texts that have a little less than this one."""
+    if source:
+        return itertools.islice(shorter(text), 400)
     try:
         value = json.loads(text)
         units = [unit["code"] for unit in value["units"]]
@@ -232,7 +284,7 @@ def smaller(text: bytes) -> list[bytes]:
 def shrunk(comparer: Comparer, text: bytes) -> bytes:
     """A smaller text that is answered differently too, if one is found soon."""
     for _ in range(100):
-        better = next((one for one in smaller(text) if comparer.outcome(one).differences), None)
+        better = next((one for one in smaller(text, comparer.source) if comparer.outcome(one).differences), None)
         if better is None:
             return text
         text = better
@@ -263,15 +315,16 @@ class Summary:
         self.differing += other.differing
 
 
-def text_of_case(seed: int, case: int, seeds: list[bytes]) -> bytes:
+def text_of_case(seed: int, case: int, seeds: list[bytes], source: bool) -> bytes:
     """The first cases are the seeds themselves; each other one is made by its number alone."""
-    return seeds[case] if case < len(seeds) else generated.case(random.Random(f"{seed} {case}"), seeds)
+    made = generated_source.case if source else generated.case
+    return seeds[case] if case < len(seeds) else made(random.Random(f"{seed} {case}"), seeds)
 
 
 def compared(comparer: Comparer, seed: int, cases: range) -> Summary:
-    seeds, summary = seed_texts(), Summary()
+    seeds, summary = seed_texts(comparer.source), Summary()
     for case in cases:
-        text = text_of_case(seed, case, seeds)
+        text = text_of_case(seed, case, seeds, comparer.source)
         try:
             outcome = comparer.outcome(text)
         except Exception as fault:  # A fault of the telling is a difference like any other.
@@ -288,6 +341,7 @@ def words() -> argparse.Namespace:
     parser = argparse.ArgumentParser(description="Compares what x10clock answers with a second telling.")
     parser.add_argument("cases", nargs="?", type=int, default=20_000)
     parser.add_argument("seed", nargs="?", type=int, default=1)
+    parser.add_argument("--source", action="store_true")
     parser.add_argument("--jobs", type=int, default=2)
     parser.add_argument("--program", type=pathlib.Path, default=TOP / "crates/x10clock/out/x10clock")
     parser.add_argument("--worlds", type=int, default=1_000)
@@ -297,9 +351,9 @@ def words() -> argparse.Namespace:
 
 def main() -> int:
     given = words()
-    comparer = Comparer(given.program.resolve(), given.worlds)
+    comparer = Comparer(given.program.resolve(), given.worlds, given.source)
     if given.only is not None:
-        text = text_of_case(given.seed, given.only, seed_texts())
+        text = text_of_case(given.seed, given.only, seed_texts(given.source), given.source)
         sys.stdout.buffer.write(text + b"\n")
         return 0
     summary = Summary()

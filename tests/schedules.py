@@ -33,9 +33,10 @@ def modules() -> dict[str, telling.Module]:
 
 
 def rows(file: str) -> list[tuple]:
-    """The table in this file: each row's name of a module, and what stands beside it."""
+    """The tables in this file: each row's name of a module, and what stands beside it."""
     text = (SOURCES / file).read_text(encoding="utf-8")
-    table = re.sub(r"//[^\n]*", "", re.search(r"fn rows\(\).*?\{\n    \[(.*?)\n    \]\n", text, re.S)[1])
+    tables = re.findall(r"\[Row[^\]]*\] \{\n    &?\[(.*?)\n    \]\n", text, re.S)
+    table = re.sub(r"//[^\n]*", "", "".join(tables))
     return list(ast.literal_eval("[" + re.sub(r"\(\s*([A-Z_]+),", r'("\1",', table).replace("&[", "[") + "]"))
 
 

@@ -1289,9 +1289,8 @@ class Schedules:
 # The command line.
 
 
-def main(words: list[str]) -> int:
-    command, path, *more = words
-    judged = judge(pathlib.Path(path).read_bytes())
+def answer(command: str, judged: Accepted | Refused, more: list[str]) -> int:
+    """Prints what there is to say of a program."""
     if isinstance(judged, Refused):
         print(f"x10clock: {judged.line}", file=sys.stderr)
         return 1
@@ -1310,6 +1309,11 @@ def main(words: list[str]) -> int:
         for numbers, count in sorted(printed.items()):
             print(f"{count} times:", *numbers)
     return 0
+
+
+def main(words: list[str]) -> int:
+    command, path, *more = words
+    return answer(command, judge(pathlib.Path(path).read_bytes()), more)
 
 
 if __name__ == "__main__":

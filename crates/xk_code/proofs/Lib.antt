@@ -1,3 +1,5 @@
 pub mod Rows
 pub mod Scopes
 pub mod Patched
+pub mod Slots
+pub mod Made

@@ -1,28 +1,31 @@
 -- Code with gaps that are filled after the instructions that stand behind them.
-use Rattle.std.proofs.Common.{◌≡◌, ℕ, int_le, true, cond, ◌+◌, List, [], ◌∷◌, ◌++◌, length, refl, sym, ap, ◌∙◌, arith, append_assoc, length-append}
+use Rattle.std.proofs.Common.{◌≡◌, ℕ, int_le, true, cond, ◌+◌, List, [], ◌∷◌, ◌++◌, length, sym, ap, ◌∙◌, arith, append_assoc, length-append}
 use Rattle.std.specs.Prelude.{slice_set}
 use Rattle.std.proofs.Math.Seq.{set-append_seam}
 use Rattle.xk_types.specs.declared.instr.Instr.{Instr}
 use Rattle.xk_types.specs.declared.instr.Instr.TheVariants as instr
 use Rattle.xk_types.specs.declared.instr.Comparison.{Comparison}
 use Rattle.xk_tree.specs.declared.tree.Number.{Number}
-use Rattle.xk_tree.specs.Tree.{Word, Expression, Statement, If, IfElse, For, Finish, Statements, Done, More}
+use Rattle.xk_tree.specs.Tree.{Word, Expression, Statement, If, IfElse, For, Finish, Statements, More}
 use Rattle.xk_code.specs.CodeOf.{Scope, Setting, both, second, slot_for, count, count_all, declared, declared_by_all, code_of, code_of_all}
 
 -- an instruction in the place of another
-pub patched : (code : List Instr) (at : ℕ) (i : Instr) (front rest : List Instr) (gap : Instr) → code ≡ front ++ gap ∷ rest → at ≡ length front → slice_set code at i ≡ front ++ i ∷ rest
+pub patched : (code : List Instr) (at : ℕ) (i : Instr) (front rest : List Instr) (gap : Instr)
+    → code ≡ front ++ gap ∷ rest → at ≡ length front → slice_set code at i ≡ front ++ i ∷ rest
 patched code at i front rest gap is place = ap (λ l. slice_set l at i) is ∙ ap (λ k. slice_set (front ++ gap ∷ rest) k i) place ∙ set-append_seam front gap rest i
 
 -- ---- statements, one after another
 
 -- what is emitted so far, and what the statements that are left need, are that of all
-pub record AreEmitted (cx : Setting) (t : ℕ) (all : Statements) (code : List Instr) (scope : Scope) (n : ℕ) (rest : Statements) (made : List Instr) (seen : Scope) (next : ℕ) : Type 0 where
+pub record AreEmitted (cx : Setting) (t : ℕ) (all : Statements) (code : List Instr) (scope : Scope) (n : ℕ)
+    (rest : Statements) (made : List Instr) (seen : Scope) (next : ℕ) : Type 0 where
   pub instrs : made ++ code_of_all cx t seen next (length made) rest ≡ code ++ code_of_all cx t scope n (length code) all
   pub names : declared_by_all seen next rest ≡ declared_by_all scope n all
   pub slots : next + count_all rest ≡ n + count_all all
 
 -- one statement more
-pub one_more : (cx : Setting) (t : ℕ) (all : Statements) (code : List Instr) (scope : Scope) (n : ℕ) (s : Statement) (rest : Statements) (made grown : List Instr) (seen wider : Scope) (next m : ℕ)
+pub one_more : (cx : Setting) (t : ℕ) (all : Statements) (code : List Instr) (scope : Scope) (n : ℕ)
+    (s : Statement) (rest : Statements) (made grown : List Instr) (seen wider : Scope) (next m : ℕ)
     → AreEmitted cx t all code scope n (More s rest) made seen next
     → grown ≡ made ++ code_of cx t seen next (length made) s → wider ≡ declared seen next s → m ≡ next + count s
     → AreEmitted cx t all code scope n rest grown wider m
@@ -59,7 +62,8 @@ pub finish_filled : (cx : Setting) (t n at : ℕ) (scope : Scope) (s : Statement
     → c3 ≡ base ++ code_of cx t scope n (length base) (Finish s)
 finish_filled cx t n at scope s base c1 c2 c3 gap place e1 e2 fills =
     let long : length c1 ≡ length base + 1 = ap length e1 ∙ length-append base (gap ∷ []) in
-    filled base c1 c2 c3 (code_of cx t scope n (length base + 1) s) at gap (λ p k. instr.Finish (p + 1 + k)) (λ p. instr.EndFinish p ∷ []) place e1 (e2 ∙ ap (λ p. c1 ++ code_of cx t scope n p s) long) fills
+    filled base c1 c2 c3 (code_of cx t scope n (length base + 1) s) at gap (λ p k. instr.Finish (p + 1 + k)) (λ p. instr.EndFinish p ∷ []) place e1
+    (e2 ∙ ap (λ p. c1 ++ code_of cx t scope n p s) long) fills
 
 pub loop_filled : (cx : Setting) (t n m at off : ℕ) (scope inner : Scope) (i : Word) (lo hi : Number) (s : Statement) (base c1 c2 c3 : List Instr) (gap : Instr)
     → int_le lo.value hi.value ≡ true → at ≡ length base → c1 ≡ base ++ gap ∷ [] → inner ≡ scope ++ (i.text, n) ∷ [] → m ≡ n + 1 → c2 ≡ c1 ++ code_of cx t inner m (length c1) s
@@ -70,7 +74,8 @@ loop_filled cx t n m at off scope inner i lo hi s base c1 c2 c3 gap turns place 
     let there = scope ++ (i.text, n) ∷ [] in
     let body = code_of cx t there (n + 1) (length base + 1) s in
     let is_body : c2 ≡ c1 ++ body =
-    e2 ∙ ap (λ (w : Scope). c1 ++ code_of cx t w m (length c1) s) is_inner ∙ ap (λ k. c1 ++ code_of cx t there k (length c1) s) next ∙ ap (λ p. c1 ++ code_of cx t there (n + 1) p s) long in
+    e2 ∙ ap (λ (w : Scope). c1 ++ code_of cx t w m (length c1) s) is_inner ∙ ap (λ k. c1 ++ code_of cx t there k (length c1) s) next
+    ∙ ap (λ p. c1 ++ code_of cx t there (n + 1) p s) long in
     filled base c1 c2 c3 body at gap (λ p k. instr.For n lo.value hi.value (p + 1 + k)) (λ p. instr.Next p ∷ []) place e1 is_body fills
     ∙ ap (λ b. base ++ cond b (instr.For n lo.value hi.value (length base + 1 + length body) ∷ (body ++ instr.Next (length base) ∷ [])) []) (sym turns)
 
@@ -97,11 +102,13 @@ test_filled cx t n at off scope op o l r x y s base c1 c2 c3 gap e1 place is_op 
     ∙ ap (λ k. front ++ instr.Unless op (slot_for scope t l) k (q + 1 + length body) ∷ body) is_y
     ∙ append_assoc base first (instr.Unless op (slot_for scope t l) (second scope t l r) (q + 1 + length body) ∷ body)
 
-pub choice_filled : (cx : Setting) (t n m at off jump : ℕ) (scope again : Scope) (op o : Comparison) (l r : Expression) (x y : ℕ) (s u : Statement) (base c1 c2 c3 c4 c5 : List Instr) (gap : Instr)
+pub choice_filled : (cx : Setting) (t n m at off jump : ℕ) (scope again : Scope) (op o : Comparison) (l r : Expression) (x y : ℕ)
+    (s u : Statement) (base c1 c2 c3 c4 c5 : List Instr) (gap : Instr)
     → c1 ≡ base ++ (both scope t l r ++ gap ∷ []) → at ≡ length base + length (both scope t l r) → o ≡ op → x ≡ slot_for scope t l → y ≡ second scope t l r
     → c2 ≡ c1 ++ code_of cx t scope n (length c1) s
     → jump ≡ length c2
-    → ((front body : List Instr) (old : Instr) → c2 ≡ front ++ old ∷ body → at ≡ length front → c3 ≡ front ++ instr.Unless o x y (length front + 1 + length body + 1) ∷ (body ++ instr.Jump 0 ∷ []))
+    → ((front body : List Instr) (old : Instr) → c2 ≡ front ++ old ∷ body → at ≡ length front
+    → c3 ≡ front ++ instr.Unless o x y (length front + 1 + length body + 1) ∷ (body ++ instr.Jump 0 ∷ []))
     → again ≡ scope → m ≡ n + count s → c4 ≡ c3 ++ code_of cx t again m (length c3) u
     → ((front body : List Instr) (old : Instr) → c4 ≡ front ++ old ∷ body → jump ≡ length front → c5 ≡ front ++ instr.Jump (length front + 1 + length body) ∷ body)
     → c5 ≡ base ++ code_of cx t scope n (length base) (IfElse off l op r s u)

@@ -10,7 +10,7 @@ use Rattle.xk_tree.specs.declared.tree.Operator.TheVariants as operator
 use Rattle.xk_tree.specs.declared.tree.Number.{Number}
 use Rattle.xk_tree.specs.declared.tree.Verb.{Verb}
 use Rattle.xk_tree.specs.Tree.{Word, Clocks, Expression, Literal, Named, Paren, Negation, Binary, Make, Value, Statement, Statements, Done, More, Block, Empty, Declare, Assign, Atomic, If, IfElse, For, Async, Finish, Call, Resume, Drop, AdvanceAll, Print}
-use Rattle.xk_code.specs.CodeOf.{Setting, code_of}
+use Rattle.xk_code.specs.CodeOf.{Setting}
 use Rattle.xk_code.specs.Unit.{unit_of}
 
 -- ---- trees, where offsets don't matter
@@ -144,6 +144,7 @@ main_calls = refl
 -- ---- no turn
 
 -- a loop with no turn has no code, and its names have their slots
-main_skips : main_unit bare (More (For 0 (w (codes "i")) (number (pos 1)) (number (pos 0)) (val_is (codes "x") (lit (pos 1)))) (More Empty (More (val_is (codes "y") (Paren 0 (lit (pos 3)))) Done)))
+main_skips : main_unit bare (More (For 0 (w (codes "i")) (number (pos 1)) (number (pos 0)) (val_is (codes "x") (lit (pos 1))))
+    (More Empty (More (val_is (codes "y") (Paren 0 (lit (pos 3)))) Done)))
     ≡ record { kind = unit_kind.Main; params = []; slots = 3; code = instr.Lit 2 (pos 3) ∷ instr.Ret ∷ [] }
 main_skips = refl

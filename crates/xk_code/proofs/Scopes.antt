@@ -29,7 +29,8 @@ pub cut_all_back : (new old names : Scope) (n len : ℕ) (ss : Statements) → n
 cut_all_back new old names n len ss is made count = let g = all_grown names n ss in cut_to new old names g.0 len is (made ∙ g.1) count
 
 -- and the name of a loop goes too
-pub cut_loop_back : (new old names : Scope) (x : List ℕ) (n m len : ℕ) (s : Statement) → new ≡ take len old → old ≡ declared (names ++ (x, n) ∷ []) m s → len ≡ length names → new ≡ names
+pub cut_loop_back : (new old names : Scope) (x : List ℕ) (n m len : ℕ) (s : Statement)
+    → new ≡ take len old → old ≡ declared (names ++ (x, n) ∷ []) m s → len ≡ length names → new ≡ names
 cut_loop_back new old names x n m len s is made count =
     let g = grown (names ++ (x, n) ∷ []) m s in
     cut_to new old names ((x, n) ∷ g.0) len is (made ∙ g.1 ∙ append_assoc names ((x, n) ∷ []) g.0) count

@@ -2,7 +2,7 @@
 --
 -- How statements become instructions is this project's own choice. What the statements mean is told in the X10 Language Specification 2.4,
 -- chapters Statements, Activities and Clocks. A name that isn't visible, or a method that doesn't exist, has no code; it gets a 0 here.
-use Rattle.std.specs.Prelude.{ℕ, suc, pos, int_le, nat_eq, ◌+◌, ◌==◌, List, [], ◌∷◌, ◌++◌, map, length, Option, Some, None, unwrap_or, if◌then◌else◌}
+use Rattle.std.specs.Prelude.{ℕ, pos, int_le, nat_eq, ◌+◌, ◌==◌, List, [], ◌∷◌, ◌++◌, map, length, Option, Some, None, unwrap_or, if◌then◌else◌}
 use Rattle.std.specs.Option.{option_map_or}
 use Rattle.std.specs.Map.{lookup}
 use Rattle.xk_types.specs.declared.instr.Instr.{Instr}

@@ -1,2 +1,3 @@
 pub mod CodeOf
 pub mod Unit
+pub mod Covered

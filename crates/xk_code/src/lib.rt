@@ -5,6 +5,8 @@ mod error;
 mod expressions;
 mod setting;
 mod statements;
+mod units;
 
 pub use error::CodeError;
 pub use setting::{Body, Setting};
+pub use units::{body_unit, method_unit};

@@ -42,7 +42,11 @@ impl<'t> Model for Setting<'t> {
 
     ghost Value = { SettingValue };
 
-    ghost view = { λ s. record { shared = s.shared; methods = s.methods; bodies = s.bodies.entries } };
+    ghost view = { λ s. record {
+      shared = s.shared;
+      methods = s.methods;
+      bodies = s.bodies.entries;
+    } };
 }
 
 impl<'t> Setting<'t> {

@@ -120,7 +120,7 @@ fn open_loop<'t>(
     ensures scope { OnOk result (scope.new ≡ scope.old ++ (i.entry.text.now, n) ∷ []) }
 {
     let first = gap(code)?;
-    declare(scope, i, n)?;
+    declare(scope, i.text, n)?;
     Ok((first, after(n)?))
 }
 
@@ -157,13 +157,13 @@ fn close_finish(code: &mut Vec<Instr>, at: u16) -> Result<(), CodeError>
 }
 
 /// A name that is declared has the next slot.
-fn declare<'t>(scope: &mut Scope<'t>, x: Name<'t>, n: u16) -> Result<(), CodeError>
-    ensures { OnOk result (scope.new ≡ scope.old ++ (x.entry.text.now, n) ∷ []) }
+pub(crate) fn declare<'t>(scope: &mut Scope<'t>, text: &'t [u8], n: u16) -> Result<(), CodeError>
+    ensures { OnOk result (scope.new ≡ scope.old ++ (text.now, n) ∷ []) }
 {
-    if scope.find(x.text).is_some() {
+    if scope.find(text).is_some() {
         return Err(CodeError::Name);
     }
-    scope.put(x.text, n)?;
+    scope.put(text, n)?;
     Ok(())
 }
 
@@ -366,8 +366,8 @@ impl<'a, 't> Emitter<'a, 't> {
     ) -> Result<(), CodeError>
         ensures { OnOk result (code.new.items ≡ code.old.items
             ++ instr.Spawn (body_unit self.now.setting.now at)
-            (slots_of scope.now (body_params self.now.setting.now at (option_map clock_list clocks.now)))
-            ∷ []) }
+            (slots_of scope.now
+            (body_params self.now.setting.now at (option_map clock_list clocks.now))) ∷ []) }
     {
         let body = self.setting.body(at)?;
         let mut slots = clock_slots(self.alloc, scope, clocks)?;
@@ -385,13 +385,15 @@ impl<'a, 't> Emitter<'a, 't> {
         r: &Expr<'t>,
     ) -> Result<Test, CodeError>
         ensures code { OnOk result (code.new.items ≡ code.old.items
-            ++ (both scope.now self.now.free (expression l.now) (expression r.now) ++ instr.Jump 0 ∷ [])) }
+            ++ (both scope.now self.now.free (expression l.now) (expression r.now)
+            ++ instr.Jump 0 ∷ [])) }
         ensures place { IfOk result (λ test. test.at ≡ length code.old.items
             + length (both scope.now self.now.free (expression l.now) (expression r.now))) }
         ensures comparison { IfOk result (λ test. test.op ≡ op) }
-        ensures first { IfOk result (λ test. test.x ≡ slot_for scope.now self.now.free (expression l.now)) }
-        ensures second { IfOk result
-            (λ test. test.y ≡ second scope.now self.now.free (expression l.now) (expression r.now)) }
+        ensures first { IfOk result
+            (λ test. test.x ≡ slot_for scope.now self.now.free (expression l.now)) }
+        ensures second { IfOk result (λ test. test.y
+            ≡ second scope.now self.now.free (expression l.now) (expression r.now)) }
     {
         let (x, y) = emit_both(code, scope, self.free, l, r)?;
         let at = gap(code)?;
@@ -423,7 +425,7 @@ impl<'a, 't> Emitter<'a, 't> {
             Stmt::Empty => Ok(n),
             Stmt::Declare(_, x, _, right) => {
                 self.emit_source(code, scope, right, n)?;
-                declare(scope, *x, n)?;
+                declare(scope, x.text, n)?;
                 after(n)
             }
             Stmt::Assign(x, e) => {

@@ -4,8 +4,8 @@ use Rattle.std.proofs.lemmas.Bool.{eq-eqb, ne_eqb}
 use Rattle.std.proofs.lemmas.List.{length-map}
 use Rattle.xk_tokens.specs.declared.token.Token.{Token}
 use Rattle.xk_tree.specs.declared.tree.Operator.{Operator as Op}
-use Rattle.xk_tree.specs.declared.fault.FrontError.{FrontError}
-use Rattle.xk_tree.specs.declared.fault.FrontError.TheVariants as error
+use Rattle.xk_exprs.specs.declared.fault.SyntaxError.{SyntaxError}
+use Rattle.xk_exprs.specs.declared.fault.SyntaxError.TheVariants as error
 use Rattle.xk_tokens.specs.declared.token.Sign.{Sign}
 use Rattle.xk_tokens.specs.declared.token.Sign.TheVariants as sign
 use Rattle.xk_tokens.specs.declared.token.Kind.{Kind}
@@ -19,7 +19,7 @@ use Rattle.xk_exprs.proofs.Loops.{loop_goes, loop_stops, loop_fails, Shrinks}
 abbrev pub Reader : Type 0
 Reader = ℕ → List Mark → Read
 
-pub first_refused : (e : FrontError) (k : ℕ) (item : Reader) (ops : ℕ) (ts : List Mark) → Refuses e (item ops ts) → Refuses e (chain_at k item ops ts)
+pub first_refused : (e : SyntaxError) (k : ℕ) (item : Reader) (ops : ℕ) (ts : List Mark) → Refuses e (item ops ts) → Refuses e (chain_at k item ops ts)
 unfolding chain_at
 first_refused (error.Fault f) k item ops ts h = rw h refl
 first_refused error.OutOfMemory k item ops ts h = tt
@@ -44,7 +44,7 @@ turned_to k item x us o h ne =
     let t : (x.1 == 0) ≡ false = ne_eqb x.1 0 ne in
     ap (operand item x) (sym h) ∙ rw t refl
 
-pub operand_refused : (e : FrontError) (k : ℕ) (item : Reader) (x : Expression × ℕ) (us : List Mark) (o : (ℕ × Op) × List Mark) → Some o ≡ operator_at k us
+pub operand_refused : (e : SyntaxError) (k : ℕ) (item : Reader) (x : Expression × ℕ) (us : List Mark) (o : (ℕ × Op) × List Mark) → Some o ≡ operator_at k us
     → (x.1 ≡ 0 → ⊥) → Refuses e (item (x.1 - 1) o.1) → Refuses e (loop (another k item) x us)
 operand_refused (error.Fault f) k item x us o h ne r = loop_fails (another k item) x us (turned_to k item x us o h ne ∙ ap (joined x.0 o.0) r)
 operand_refused error.OutOfMemory k item x us o h ne r = tt
@@ -82,7 +82,7 @@ open_is (m ∷ ts) us at k s h e f =
     let c : kind_mark at k ≡ Open at = ap (kind_mark at) (e ∙ ap kind.Sign f) in
     ap (λ (z : Mark × List Mark). z.0 ∷ z.1) (sym q) ∙ ap (λ (z : Mark). z ∷ us) c
 
-pub paren_refused : (e : FrontError) (d ops at : ℕ) (ts us : List Mark) (x : (Expression × ℕ) × List Mark) → ts ≡ Open at ∷ us → (d ≡ 0 → ⊥)
+pub paren_refused : (e : SyntaxError) (d ops at : ℕ) (ts us : List Mark) (x : (Expression × ℕ) × List Mark) → ts ≡ Open at ∷ us → (d ≡ 0 → ⊥)
     → sums (factor_at (d - 1)) ops us ≡ Some x → Refuses e (close_at x.1) → Refuses e (factor_at d ops ts)
 unfolding factor_at
 paren_refused e zero ops at ts us x p ne h r = absurd (ne refl)

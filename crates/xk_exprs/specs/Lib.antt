@@ -1,4 +1,5 @@
 pub mod Marks
+pub mod Faults
 pub mod Readers
 pub mod Spelling
 pub mod Exprs

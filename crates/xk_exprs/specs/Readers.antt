@@ -3,11 +3,11 @@ use Rattle.std.specs.Prelude.{◌≡◌, ℕ, zero, suc, List, [], ◌∷◌, le
 use Rattle.xk_tokens.specs.declared.token.Kind.{Kind}
 use Rattle.xk_tokens.specs.declared.token.Kind.TheVariants as kind
 use Rattle.xk_tokens.specs.declared.token.Token.{Token}
-use Rattle.xk_tree.specs.declared.fault.FrontRule.{FrontRule}
-use Rattle.xk_tree.specs.declared.fault.FrontRule.TheVariants as rule
-use Rattle.xk_tree.specs.declared.fault.FrontFault.{FrontFault}
-use Rattle.xk_tree.specs.declared.fault.FrontError.{FrontError}
-use Rattle.xk_tree.specs.declared.fault.FrontError.TheVariants as error
+use Rattle.xk_exprs.specs.declared.fault.SyntaxRule.{SyntaxRule}
+use Rattle.xk_exprs.specs.declared.fault.SyntaxRule.TheVariants as rule
+use Rattle.xk_exprs.specs.declared.fault.SyntaxFault.{SyntaxFault}
+use Rattle.xk_exprs.specs.declared.fault.SyntaxError.{SyntaxError}
+use Rattle.xk_exprs.specs.declared.fault.SyntaxError.TheVariants as error
 use Rattle.xk_exprs.specs.Marks.{Mark}
 
 -- first the one, then the other with what the one gave
@@ -17,12 +17,12 @@ None >>= f = None
 (Some x) >>= f = f x
 
 -- Why a call failed goes with what is read: a fault of the text means that nothing is. Where memory was refused, nothing is said.
-abbrev pub Refuses : {Y : Type 0} → FrontError → Option Y → Type 0
+abbrev pub Refuses : {Y : Type 0} → SyntaxError → Option Y → Type 0
 Refuses (error.Fault fault) read = read ≡ None
 Refuses error.OutOfMemory read = Unit {0}
 
 -- What a call returned, seen by `seen`, is what is read.
-abbrev pub Gives : {X Y : Type 0} → (X → Y) → Result X FrontError → Option Y → Type 0
+abbrev pub Gives : {X Y : Type 0} → (X → Y) → Result X SyntaxError → Option Y → Type 0
 Gives seen (Ok x) read = read ≡ Some (seen x)
 Gives seen (Err e) read = Refuses e read
 
@@ -52,11 +52,11 @@ unfoldable pub loop : {A : Type 0} → (A → List Mark → Turn A) → A → Li
 loop step x ts = turns step (suc (length ts)) x ts
 
 -- the rule that a token breaks where none of its kind can stand
-abbrev pub unexpected_rule : Kind → FrontRule
+abbrev pub unexpected_rule : Kind → SyntaxRule
 unexpected_rule kind.Stray = rule.Token
 unexpected_rule _ = rule.Syntax
 
 -- the fault where the first token can't stand; the text ends at `end`
-abbrev pub unexpected_fault : List Token → ℕ → FrontFault
+abbrev pub unexpected_fault : List Token → ℕ → SyntaxFault
 unexpected_fault [] end = record { rule = rule.Syntax; at = end }
 unexpected_fault (t ∷ ts) end = record { rule = unexpected_rule t.kind; at = t.at }

@@ -1,14 +1,15 @@
 //! Tokens one by one.
 
 ghost use Rattle.std.specs.Prelude.{◌≡◌, option_map};
-ghost use Rattle.xk_tree.specs.declared.fault.FrontRule.TheVariants as rule;
+ghost use Rattle.xk_exprs.specs.declared.fault.SyntaxRule.TheVariants as rule;
 ghost use Rattle.xk_exprs.specs.Marks.{mark, marks, operator_of};
 ghost use Rattle.xk_exprs.specs.Spelling.{binds};
 ghost use Rattle.xk_exprs.specs.Readers.{Gives, head_at, unexpected_rule, unexpected_fault};
 ghost use Rattle.xk_exprs.specs.Exprs.{close_at, operator_at, digits_at, minus_at};
 
+use crate::fault::{SyntaxError, SyntaxFault, SyntaxRule};
 use xk_tokens::{Kind, Sign, Token};
-use xk_tree::{FrontError, FrontFault, FrontRule, Operator};
+use xk_tree::Operator;
 
 /// The next token, and those behind it.
 pub fn next<'s, 't>(tokens: &'s [Token<'t>]) -> Option<(Token<'t>, &'s [Token<'t>])>
@@ -20,25 +21,25 @@ pub fn next<'s, 't>(tokens: &'s [Token<'t>]) -> Option<(Token<'t>, &'s [Token<'t
     }
 }
 
-fn unexpected_rule(kind: Kind) -> FrontRule
+fn unexpected_rule(kind: Kind) -> SyntaxRule
     ensures { result ≡ unexpected_rule kind.entry }
 {
     match kind {
-        Kind::Stray => FrontRule::Token,
-        _ => FrontRule::Syntax,
+        Kind::Stray => SyntaxRule::Token,
+        _ => SyntaxRule::Syntax,
     }
 }
 
 /// The fault where the first token can't stand. The text ends at `end`.
-pub fn unexpected(tokens: &[Token], end: usize) -> FrontFault
+pub fn unexpected(tokens: &[Token], end: usize) -> SyntaxFault
     ensures { result ≡ unexpected_fault tokens.now end }
 {
     match tokens {
-        [] => FrontFault {
-            rule: FrontRule::Syntax,
+        [] => SyntaxFault {
+            rule: SyntaxRule::Syntax,
             at: end,
         },
-        [token, ..] => FrontFault {
+        [token, ..] => SyntaxFault {
             rule: unexpected_rule(token.kind),
             at: token.at,
         },
@@ -46,21 +47,21 @@ pub fn unexpected(tokens: &[Token], end: usize) -> FrontFault
 }
 
 /// More than 64 levels or operators, from the token at this offset on.
-pub(crate) fn depth_fault(at: usize) -> FrontFault
+pub(crate) fn depth_fault(at: usize) -> SyntaxFault
     ensures { result ≡ record { rule = rule.TooDeep; at = at } }
 {
-    FrontFault {
-        rule: FrontRule::TooDeep,
+    SyntaxFault {
+        rule: SyntaxRule::TooDeep,
         at,
     }
 }
 
 /// Digits at this offset that are no number.
-pub(crate) fn literal_fault(at: usize) -> FrontFault
+pub(crate) fn literal_fault(at: usize) -> SyntaxFault
     ensures { result ≡ record { rule = rule.Literal; at = at } }
 {
-    FrontFault {
-        rule: FrontRule::Literal,
+    SyntaxFault {
+        rule: SyntaxRule::Literal,
         at,
     }
 }
@@ -69,18 +70,18 @@ pub(crate) fn literal_fault(at: usize) -> FrontFault
 pub(crate) fn close<'s, 't>(
     tokens: &'s [Token<'t>],
     end: usize,
-) -> Result<&'s [Token<'t>], FrontError>
+) -> Result<&'s [Token<'t>], SyntaxError>
     ensures { Gives (λ x. marks x.now) result (close_at (marks tokens.now)) }
 {
     let Some((token, rest)) = next(tokens) else {
-        return Err(FrontError::Fault(unexpected(tokens, end)));
+        return Err(SyntaxError::Fault(unexpected(tokens, end)));
     };
     match token.kind {
         Kind::Sign(sign) => match sign {
             Sign::RightParen => Ok(rest),
-            _ => Err(FrontError::Fault(unexpected(tokens, end))),
+            _ => Err(SyntaxError::Fault(unexpected(tokens, end))),
         },
-        _ => Err(FrontError::Fault(unexpected(tokens, end))),
+        _ => Err(SyntaxError::Fault(unexpected(tokens, end))),
     }
 }
 

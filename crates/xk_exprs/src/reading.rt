@@ -6,10 +6,11 @@ ghost use Rattle.xk_exprs.specs.Marks.{marks};
 ghost use Rattle.xk_exprs.specs.Readers.{Gives};
 ghost use Rattle.xk_exprs.specs.Exprs.{value_of, literal, number_from, number_at, factor_at, terms, sums, whole_at, whole_term_at};
 
+use crate::fault::{SyntaxError, SyntaxFault};
 use crate::parts::{close, depth_fault, digits, literal_fault, minus, next, operator, unexpected};
 use std::alloc::Global;
 use xk_tokens::{Kind, Sign, Token};
-use xk_tree::{Expr, FrontError, FrontFault, Name, Number, Operator};
+use xk_tree::{Expr, Name, Number, Operator};
 
 /// How many operators an expression may have.
 const MAX_OPERATORS: u32 = 64;
@@ -31,12 +32,12 @@ fn value_of(minus: Option<usize>, digits: u64) -> Option<i64>
 }
 
 /// The number of digits at an offset, behind the offset of a `-` if there is one.
-fn literal(minus: Option<usize>, at: usize, digits: u64) -> Result<Number, FrontError>
+fn literal(minus: Option<usize>, at: usize, digits: u64) -> Result<Number, SyntaxError>
     ensures { Gives (λ n. n) result (literal minus at digits) }
 {
     match value_of(minus, digits) {
         Some(value) => Ok(Number { minus, at, value }),
-        None => Err(FrontError::Fault(literal_fault(at))),
+        None => Err(SyntaxError::Fault(literal_fault(at))),
     }
 }
 
@@ -45,19 +46,19 @@ fn number_from<'s, 't>(
     minus: Option<usize>,
     tokens: &'s [Token<'t>],
     end: usize,
-) -> Result<(Number, &'s [Token<'t>]), FrontError>
+) -> Result<(Number, &'s [Token<'t>]), SyntaxError>
     ensures { Gives (λ x. (x.0, marks x.1.now)) result (number_from minus (marks tokens.now)) }
 {
     let Some((token, rest)) = next(tokens) else {
-        return Err(FrontError::Fault(unexpected(tokens, end)));
+        return Err(SyntaxError::Fault(unexpected(tokens, end)));
     };
     match token.kind {
         Kind::Number(digits) => {
             let number = literal(minus, token.at, digits)?;
             Ok((number, rest))
         }
-        Kind::BadNumber => Err(FrontError::Fault(literal_fault(token.at))),
-        _ => Err(FrontError::Fault(unexpected(tokens, end))),
+        Kind::BadNumber => Err(SyntaxError::Fault(literal_fault(token.at))),
+        _ => Err(SyntaxError::Fault(unexpected(tokens, end))),
     }
 }
 
@@ -66,7 +67,7 @@ fn number_from<'s, 't>(
 pub fn read_number<'s, 't>(
     tokens: &'s [Token<'t>],
     end: usize,
-) -> Result<(Number, &'s [Token<'t>]), FrontError>
+) -> Result<(Number, &'s [Token<'t>]), SyntaxError>
     ensures { Gives (λ x. (x.0, marks x.1.now)) result (number_at (marks tokens.now)) }
 {
     match minus(tokens) {
@@ -81,7 +82,7 @@ fn binary<'t>(
     left: Expr<'t>,
     at: usize,
     right: Expr<'t>,
-) -> Result<Expr<'t>, FrontError>
+) -> Result<Expr<'t>, SyntaxError>
     ensures { Gives expression result
         (Some (Binary operator (expression left.entry) at (expression right.entry))) }
 {
@@ -94,7 +95,7 @@ fn binary<'t>(
 }
 
 /// The fault of a `-` that may be no negation any more: the limit, or that of the digits behind it.
-fn negation_fault(at: usize, tokens: &[Token]) -> FrontFault {
+fn negation_fault(at: usize, tokens: &[Token]) -> SyntaxFault {
     match tokens {
         [token, ..] => match token.kind {
             Kind::BadNumber => literal_fault(token.at),
@@ -113,12 +114,12 @@ fn factor<'s, 't>(
     operators: u32,
     tokens: &'s [Token<'t>],
     end: usize,
-) -> Result<Found<'s, 't>, FrontError>
+) -> Result<Found<'s, 't>, SyntaxError>
     ensures { Gives (λ f. ((expression f.0, f.1), marks f.2.now)) result
         (factor_at levels operators (marks tokens.now)) }
 {
     let Some((token, rest)) = next(tokens) else {
-        return Err(FrontError::Fault(unexpected(tokens, end)));
+        return Err(SyntaxError::Fault(unexpected(tokens, end)));
     };
     match token.kind {
         Kind::Name(text) => {
@@ -129,11 +130,11 @@ fn factor<'s, 't>(
             let number = literal(None, token.at, digits)?;
             Ok((Expr::Number(number), operators, rest))
         }
-        Kind::BadNumber => Err(FrontError::Fault(literal_fault(token.at))),
+        Kind::BadNumber => Err(SyntaxError::Fault(literal_fault(token.at))),
         Kind::Sign(sign) => match sign {
             Sign::LeftParen => {
                 if levels == 0 {
-                    return Err(FrontError::Fault(depth_fault(token.at)));
+                    return Err(SyntaxError::Fault(depth_fault(token.at)));
                 }
                 let (inner, operators, rest) = sum(alloc, levels - 1, operators, rest, end)?;
                 let rest = close(rest, end)?;
@@ -146,15 +147,15 @@ fn factor<'s, 't>(
                     return Ok((Expr::Number(number), operators, rest));
                 }
                 if levels == 0 || operators == 0 {
-                    return Err(FrontError::Fault(negation_fault(token.at, rest)));
+                    return Err(SyntaxError::Fault(negation_fault(token.at, rest)));
                 }
                 let (inner, operators, rest) = factor(alloc, levels - 1, operators - 1, rest, end)?;
                 let boxed = Box::new(alloc, inner)?;
                 Ok((Expr::Negation(token.at, boxed), operators, rest))
             }
-            _ => Err(FrontError::Fault(unexpected(tokens, end))),
+            _ => Err(SyntaxError::Fault(unexpected(tokens, end))),
         },
-        _ => Err(FrontError::Fault(unexpected(tokens, end))),
+        _ => Err(SyntaxError::Fault(unexpected(tokens, end))),
     }
 }
 
@@ -166,14 +167,14 @@ fn term<'s, 't>(
     operators: u32,
     tokens: &'s [Token<'t>],
     end: usize,
-) -> Result<Found<'s, 't>, FrontError>
+) -> Result<Found<'s, 't>, SyntaxError>
     ensures { Gives (λ f. ((expression f.0, f.1), marks f.2.now)) result
         (terms (factor_at levels) operators (marks tokens.now)) }
 {
     let (mut left, mut operators, mut rest) = factor(alloc, levels, operators, tokens, end)?;
     while let Some((at, times, after)) = operator(1, rest) {
         if operators == 0 {
-            return Err(FrontError::Fault(depth_fault(at)));
+            return Err(SyntaxError::Fault(depth_fault(at)));
         }
         let (right, right_operators, right_rest) = factor(
             alloc,
@@ -197,14 +198,14 @@ fn sum<'s, 't>(
     operators: u32,
     tokens: &'s [Token<'t>],
     end: usize,
-) -> Result<Found<'s, 't>, FrontError>
+) -> Result<Found<'s, 't>, SyntaxError>
     ensures { Gives (λ f. ((expression f.0, f.1), marks f.2.now)) result
         (sums (factor_at levels) operators (marks tokens.now)) }
 {
     let (mut left, mut operators, mut rest) = term(alloc, levels, operators, tokens, end)?;
     while let Some((at, sign, after)) = operator(2, rest) {
         if operators == 0 {
-            return Err(FrontError::Fault(depth_fault(at)));
+            return Err(SyntaxError::Fault(depth_fault(at)));
         }
         let (right, right_operators, right_rest) = term(alloc, levels, operators - 1, after, end)?;
         left = binary(alloc, sign, left, at, right)?;
@@ -221,7 +222,7 @@ pub fn read_expr<'s, 't>(
     levels: u32,
     tokens: &'s [Token<'t>],
     end: usize,
-) -> Result<(Expr<'t>, &'s [Token<'t>]), FrontError>
+) -> Result<(Expr<'t>, &'s [Token<'t>]), SyntaxError>
     ensures { Gives (λ x. (expression x.0, marks x.1.now)) result
         (whole_at levels (marks tokens.now)) }
 {
@@ -236,7 +237,7 @@ pub fn read_term<'s, 't>(
     levels: u32,
     tokens: &'s [Token<'t>],
     end: usize,
-) -> Result<(Expr<'t>, &'s [Token<'t>]), FrontError>
+) -> Result<(Expr<'t>, &'s [Token<'t>]), SyntaxError>
     ensures { Gives (λ x. (expression x.0, marks x.1.now)) result
         (whole_term_at levels (marks tokens.now)) }
 {

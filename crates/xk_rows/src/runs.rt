@@ -15,8 +15,9 @@ use xk_types::{Act, ClockId, Event};
 /// of each clock, with the step of its last advance; the step of each activity's last pass; and who can step, or that all have ended.
 type Row = (&'static str, &'static [u32], &'static str);
 
-fn rows() -> [Row; 26] {
-    [
+/// One activity alone.
+fn one_activity() -> &'static [Row] {
+    &[
         (
             SUM_AND_PHASE,
             &[0, 0, 0, 0, 0, 0, 0, 0],
@@ -28,7 +29,13 @@ fn rows() -> [Row; 26] {
             &[0, 0, 0, 0, 0, 0, 0],
             "Made Resumed Resumed Arrived Passed Dropped Ended clocks 1@2 since 5 over",
         ),
-        // Two in step; nothing happens over no schedule; main waits for the child; an activity that isn't there.
+    ]
+}
+
+/// Two activities in step.
+fn two_in_step() -> &'static [Row] {
+    &[
+        // Both go on; nothing happens over no schedule; main waits for the child; an activity that isn't there.
         (
             IN_STEP,
             &[0, 0, 0, 1, 0, 0, 0, 0, 1, 1, 1, 1],
@@ -41,6 +48,12 @@ fn rows() -> [Row; 26] {
             "halted at 3: clocks 0@0 since 0 0 able 1",
         ),
         (IN_STEP, &[1], "halted at 0: clocks since 0 able 0"),
+    ]
+}
+
+/// Children that begin with the last pass of their starter, ahead of it, or signalled.
+fn begun_children() -> &'static [Row] {
+    &[
         // A child begins with the last pass of its starter.
         (
             LATE_CHILD,
@@ -63,6 +76,12 @@ fn rows() -> [Row; 26] {
             &[0, 0, 0, 0, 0, 1, 0, 0, 1, 1, 2, 2, 2, 2, 2],
             "Made Spawned Resumed Spawned Arrived Arrived Passed Ended Passed Ended Arrived Passed Printed(3) Ended clocks 1@6 since 7 9 12 over",
         ),
+    ]
+}
+
+/// A clock that its maker drops.
+fn dropped_clocks() -> &'static [Row] {
+    &[
         // The child arrives behind the drop; it arrives before, and the drop lets the clock advance.
         (
             LEFT_ALONE,
@@ -74,6 +93,12 @@ fn rows() -> [Row; 26] {
             &[0, 0, 1, 0, 1, 1, 1, 1, 0],
             "Made Spawned Arrived Dropped Passed Printed(4) Ended Ended clocks 1@4 since 0 5 over",
         ),
+    ]
+}
+
+/// Clocks that advance more than once.
+fn later_phases() -> &'static [Row] {
+    &[
         // Nobody is two phases on.
         (
             TWO_PHASES,
@@ -93,6 +118,12 @@ fn rows() -> [Row; 26] {
             ],
             "Made Made Made Spawned Spawned Spawned Ended Arrived Arrived Arrived Passed Arrived Passed Arrived Passed Arrived Passed Ended Passed Ended Passed Ended clocks 2@16 2@14 2@16 since 0 17 19 21 over",
         ),
+    ]
+}
+
+/// Methods that wait, and methods that call others.
+fn called_methods() -> &'static [Row] {
+    &[
         // The clock that a method is lent advances as it arrives, the other one at each resume of main.
         (
             METHOD_WAITS,
@@ -108,6 +139,12 @@ fn rows() -> [Row; 26] {
             ],
             "Spawned Printed(8) Printed(4) Printed(8) Printed(4) Printed(2) Ended Printed(8) Printed(4) Printed(2) Ended clocks since 0 0 over",
         ),
+    ]
+}
+
+/// Finishes that wait for activities.
+fn ended_finishes() -> &'static [Row] {
+    &[
         // Main waits at the end of its finish for the child, and, once that has ended, for the child of the child.
         (FINISHED, &[0, 0, 0], "halted at 2: clocks since 0 0 able 1"),
         (
@@ -131,6 +168,12 @@ fn rows() -> [Row; 26] {
             &[0, 0, 0, 1, 0, 1, 1, 0, 0],
             "Opened Made Spawned Arrived Dropped Passed Ended Closed Ended clocks 1@5 since 0 6 over",
         ),
+    ]
+}
+
+/// Activities that read and write shared numbers.
+fn shared_numbers() -> &'static [Row] {
+    &[
         // Three activities add to a shared number.
         (
             SHARED_SUM,
@@ -241,9 +284,20 @@ fn row_text(alloc: Global, text: &str, schedule: &[u32]) -> Result<String, Fail>
 #[test]
 fn schedules_are_carried_out(rt: HostRuntime) -> Result<(), Fail> {
     let alloc = rt.alloc();
-    for (text, schedule, wanted) in rows() {
-        let known = row_text(alloc, text, schedule)?;
-        assert_eq!(rt; known.as_str(), wanted, "{text}");
+    for rows in [
+        one_activity(),
+        two_in_step(),
+        begun_children(),
+        dropped_clocks(),
+        later_phases(),
+        called_methods(),
+        ended_finishes(),
+        shared_numbers(),
+    ] {
+        for (text, schedule, wanted) in rows {
+            let known = row_text(alloc, text, schedule)?;
+            assert_eq!(rt; known.as_str(), *wanted, "{text}");
+        }
     }
     Ok(())
 }

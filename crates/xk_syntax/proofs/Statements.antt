@@ -9,8 +9,8 @@ use Rattle.xk_tree.specs.declared.tree.Binding.TheVariants as binding
 use Rattle.xk_tree.specs.declared.tree.Number as tree
 use Rattle.xk_tree.specs.Tree.{Word, Expression, Clocks, Statement, Statements, Done, More, listed, Block, Empty, Declare, Assign, Atomic, If, IfElse, For, Async, Finish, Call, Resume, Drop, AdvanceAll, Print}
 use Rattle.xk_exprs.specs.Marks.{Mark, Name, Open, Symbol, Reserved, AsyncAt, ClockAt}
-use Rattle.xk_tree.specs.declared.fault.FrontError.{FrontError}
-use Rattle.xk_tree.specs.declared.fault.FrontError.TheVariants as error
+use Rattle.xk_exprs.specs.declared.fault.SyntaxError.{SyntaxError}
+use Rattle.xk_exprs.specs.declared.fault.SyntaxError.TheVariants as error
 use Rattle.xk_exprs.specs.Readers.{Refuses}
 use Rattle.xk_exprs.specs.Spelling.{IsNumber}
 use Rattle.xk_exprs.specs.Exprs.{whole_at}
@@ -284,7 +284,7 @@ stmt_shortens d ts us x h e =
     let i = stmt_found d us x e in
     omega (arith, ap length (ahead_is ts us h), ap length i.spelled, stmt_longer x.0 x.1)
 
-pub stmts_refused : (e : FrontError) (inner : List Mark → Read) (ss : List Statement) (ts us all : List Mark) → more_at ahead_at inner ss ts ≡ more_at ahead_at inner [] all
+pub stmts_refused : (e : SyntaxError) (inner : List Mark → Read) (ss : List Statement) (ts us all : List Mark) → more_at ahead_at inner ss ts ≡ more_at ahead_at inner [] all
     → Some us ≡ ahead_at ts → Refuses e (inner us) → Refuses e (stmts_at inner all)
 unfolding stmts_at bind
 stmts_refused (error.Fault f) inner ss ts us all so_far h r =
@@ -296,7 +296,7 @@ stmts_end : (inner : List Mark → Read) (ss : List Statement) (ts all : List Ma
     → more_at ahead_at inner [] all ≡ Some (ss, ts)
 stmts_end inner ss ts all so_far h = sym so_far ∙ no_more ahead_at inner ss ts h
 
-pub stmts_unended : (e : FrontError) (inner : List Mark → Read) (ss : List Statement) (ts all : List Mark) → more_at ahead_at inner ss ts ≡ more_at ahead_at inner [] all
+pub stmts_unended : (e : SyntaxError) (inner : List Mark → Read) (ss : List Statement) (ts all : List Mark) → more_at ahead_at inner ss ts ≡ more_at ahead_at inner [] all
     → None ≡ ahead_at ts → Refuses e (sign_at sign.RightBrace ts) → Refuses e (stmts_at inner all)
 unfolding stmts_at bind
 stmts_unended (error.Fault f) inner ss ts all so_far h r = rw (stmts_end inner ss ts all so_far h, r) refl

@@ -1,6 +1,6 @@
 -- A text spells a tree exactly where its tokens are read as that tree.
 use Rattle.std.proofs.Common.{◌≡◌, ℕ, ◌≤◌, List, [], ◌∷◌, ◌++◌, length, map, Option, Some, None, refl, sym, ap, subst, ◌∙◌}
-use Rattle.std.specs.Prelude.{IsFalse, IfOk, Result, Ok, Err}
+use Rattle.std.specs.Prelude.{IsFalse, Err}
 use Rattle.xk_types.specs.declared.unit.ParamKind.{ParamKind}
 use Rattle.xk_types.specs.declared.unit.ParamKind.TheVariants as kind
 use Rattle.xk_tokens.specs.declared.token.Sign.TheVariants as sign
@@ -14,12 +14,12 @@ use Rattle.xk_tokens.specs.Pieces.{has_stray}
 use Rattle.xk_tokens.specs.Lexing.{lexed}
 use Rattle.xk_tokens.proofs.Texts.{spelled_lexed, spelled_from_none}
 use Rattle.xk_tree.specs.declared.tree.Number as tree
-use Rattle.xk_tree.specs.declared.tree.Tree.{Tree}
-use Rattle.xk_tree.specs.declared.fault.FrontError.{FrontError}
-use Rattle.xk_tree.specs.declared.fault.FrontError.TheVariants as error
-use Rattle.xk_tree.specs.Tree.{Expression, Literal, Named, Paren, Negation, Binary, Make, Value, Statement, Statements, Done, More, Block, Empty, Declare, Assign, Atomic, If, IfElse, For, Async, Finish, Call, Resume, Drop, AdvanceAll, Print, TreeValue, tree_value}
+use Rattle.xk_tree.specs.Tree.{Expression, Literal, Named, Paren, Negation, Binary, Make, Value, Statement, Statements, Done, More, Block, Empty, Declare, Assign, Atomic, If, IfElse, For, Async, Finish, Call, Resume, Drop, AdvanceAll, Print, TreeValue}
 use Rattle.xk_exprs.specs.Marks.{Mark, Name, Number, Operator, Open, Symbol, Reserved, AsyncAt, ClockAt, LongAt, Unfit, kind_mark, marks}
-use Rattle.xk_exprs.specs.Readers.{Gives}
+use Rattle.xk_exprs.specs.declared.fault.SyntaxError.{SyntaxError}
+use Rattle.xk_exprs.specs.declared.fault.SyntaxError.TheVariants as error
+use Rattle.xk_exprs.specs.Faults.{front_error}
+use Rattle.xk_exprs.specs.Readers.{Refuses}
 use Rattle.xk_exprs.specs.Spelling.{spell, minus_marks, number_marks}
 use Rattle.xk_syntax.specs.Spelling.{word, number, expr, comparison_sign, type_mark, type_name, type_part, source, row, behind_comma, commas, clock_part, stmt, stmts, param, method, shared, program, lexeme_mark, token_mark, SpellsTree}
 use Rattle.xk_syntax.specs.Texts.{IsRefused}
@@ -210,13 +210,7 @@ one_tree text t u s r =
 
 -- ---- what `parse` answers
 
-pub result_spelled : (text : List ℕ) (ts : List Token) (r : Result Tree FrontError) → length text ≤ 1048576 → map token_value ts ≡ lexed text
-    → Gives tree_value r (program_at (marks ts)) → IfOk r (λ t. SpellsTree text (tree_value t))
-result_spelled text ts (Ok t) short e g = tree_spelled text ts (tree_value t) short e g
-result_spelled text ts (Err f) short e g = tt
-
-pub result_refused : (text : List ℕ) (ts : List Token) (r : Result Tree FrontError) → map token_value ts ≡ lexed text → Gives tree_value r (program_at (marks ts))
-    → IsRefused text r
-result_refused text ts (Ok t) e g = tt
-result_refused text ts (Err (error.Fault f)) e g = none_spelled text ts e g
-result_refused text ts (Err error.OutOfMemory) e g = tt
+pub error_refused : (text : List ℕ) (ts : List Token) (e : SyntaxError) → map token_value ts ≡ lexed text → Refuses e (program_at (marks ts))
+    → IsRefused text (Err (front_error e))
+error_refused text ts (error.Fault f) r g = none_spelled text ts r g
+error_refused text ts error.OutOfMemory r g = tt

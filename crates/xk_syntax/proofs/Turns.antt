@@ -6,8 +6,8 @@ use Rattle.xk_tokens.specs.declared.token.Sign.{Sign}
 use Rattle.xk_tokens.specs.declared.token.Sign.TheVariants as sign
 use Rattle.xk_tokens.specs.contracts.token.Sign as signs
 use denote.Enum.Bare.{sameb}
-use Rattle.xk_tree.specs.declared.fault.FrontError.{FrontError}
-use Rattle.xk_tree.specs.declared.fault.FrontError.TheVariants as error
+use Rattle.xk_exprs.specs.declared.fault.SyntaxError.{SyntaxError}
+use Rattle.xk_exprs.specs.declared.fault.SyntaxError.TheVariants as error
 use Rattle.xk_tree.specs.Tree.{Word}
 use Rattle.xk_exprs.specs.Marks.{Mark, mark, marks, Name}
 use Rattle.xk_exprs.specs.Readers.{Goes, Refuses, loop}
@@ -58,7 +58,7 @@ turn_shrinks {T = T} goes_on item s xs ts ys us e = by (goes_on ts) refl e
     by None h e = absurd cc
     by (Some after) h e = inner after h (item after) refl e
 
-pub more_refused : {T : Type 0} (e : FrontError) (goes_on : List Mark → Option (List Mark)) (item : Reader T) (xs : List T) (ts us : List Mark) → Some us ≡ goes_on ts
+pub more_refused : {T : Type 0} (e : SyntaxError) (goes_on : List Mark → Option (List Mark)) (item : Reader T) (xs : List T) (ts us : List Mark) → Some us ≡ goes_on ts
     → Refuses e (item us) → Refuses e (more_at goes_on item xs ts)
 unfolding more_at next_item
 more_refused (error.Fault f) goes_on item xs ts us h r = loop_fails (next_item goes_on item) xs ts (ap (one_more item xs) (sym h) ∙ ap (pushed xs) r)
@@ -91,7 +91,7 @@ Takes {T = T} item = (ts : List Mark) (x : T × List Mark) → item ts ≡ Some 
 pub comma_shortens : {T : Type 0} (item : Reader T) → Takes item → Shortens (sign_at sign.Comma) item
 comma_shortens item t ts us x h r = let p = sign_takes sign.Comma ts us h in let q = t us x r in omega arith
 
-pub first_refused : {T : Type 0} (e : FrontError) (item : Reader T) (ts : List Mark) → Refuses e (item ts) → Refuses e (commas_at item ts)
+pub first_refused : {T : Type 0} (e : SyntaxError) (item : Reader T) (ts : List Mark) → Refuses e (item ts) → Refuses e (commas_at item ts)
 unfolding commas_at bind
 first_refused (error.Fault f) item ts h = rw h refl
 first_refused error.OutOfMemory item ts h = tt

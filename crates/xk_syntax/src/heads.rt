@@ -12,9 +12,9 @@ use crate::parts::{after_keyword, comparison, name, need_keyword, need_open, nee
 use crate::simple::{advance_all, atomic, declaration, named, print};
 use std::alloc::Global;
 use xk_exprs::parts::{next, unexpected};
-use xk_exprs::{read_expr, read_number};
+use xk_exprs::{SyntaxError, read_expr, read_number};
 use xk_tokens::{Keyword, Kind, Sign, Token};
-use xk_tree::{Binding, ClockList, Expr, FrontError, Name, Number, Stmt};
+use xk_tree::{Binding, ClockList, Expr, Name, Number, Stmt};
 use xk_types::Comparison;
 
 /// A statement up to the statement that it holds, or up to the statements.
@@ -41,7 +41,7 @@ fn condition<'s, 't>(
     levels: u32,
     tokens: &'s [Token<'t>],
     end: usize,
-) -> Result<(Head<'t>, &'s [Token<'t>]), FrontError>
+) -> Result<(Head<'t>, &'s [Token<'t>]), SyntaxError>
     ensures { Gives (λ x. (head_value x.0, marks x.1.now)) result
         (condition_at levels (marks tokens.now)) }
 {
@@ -58,7 +58,7 @@ fn condition<'s, 't>(
 fn range<'s, 't>(
     tokens: &'s [Token<'t>],
     end: usize,
-) -> Result<(Head<'t>, &'s [Token<'t>]), FrontError>
+) -> Result<(Head<'t>, &'s [Token<'t>]), SyntaxError>
     ensures { Gives (λ x. (head_value x.0, marks x.1.now)) result (range_at (marks tokens.now)) }
 {
     let (paren, rest) = need_open(tokens, end)?;
@@ -77,7 +77,7 @@ fn clocks<'s, 't>(
     alloc: Global,
     tokens: &'s [Token<'t>],
     end: usize,
-) -> Result<(Option<ClockList<'t>>, &'s [Token<'t>]), FrontError>
+) -> Result<(Option<ClockList<'t>>, &'s [Token<'t>]), SyntaxError>
     ensures { Gives (λ x. (clocks_value x.0, marks x.1.now)) result
         (clocks_at (marks tokens.now)) }
 {
@@ -99,7 +99,7 @@ fn start<'s, 't>(
     at: usize,
     tokens: &'s [Token<'t>],
     end: usize,
-) -> Result<(Head<'t>, &'s [Token<'t>]), FrontError>
+) -> Result<(Head<'t>, &'s [Token<'t>]), SyntaxError>
     ensures { Gives (λ x. (head_value x.0, marks x.1.now)) result
         (start_at at (marks tokens.now)) }
 {
@@ -114,12 +114,12 @@ fn flat<'s, 't>(
     levels: u32,
     tokens: &'s [Token<'t>],
     end: usize,
-) -> Result<(Stmt<'t>, &'s [Token<'t>]), FrontError>
+) -> Result<(Stmt<'t>, &'s [Token<'t>]), SyntaxError>
     ensures { Gives (λ x. (statement x.0, marks x.1.now)) result
         (flat_at levels (marks tokens.now)) }
 {
     let Some((token, rest)) = next(tokens) else {
-        return Err(FrontError::Fault(unexpected(tokens, end)));
+        return Err(SyntaxError::Fault(unexpected(tokens, end)));
     };
     match token.kind {
         Kind::Name(text) => named(alloc, levels, Name { at: token.at, text }, rest, end),
@@ -129,13 +129,13 @@ fn flat<'s, 't>(
             Keyword::Atomic => atomic(alloc, levels, rest, end),
             Keyword::Console => print(alloc, levels, rest, end),
             Keyword::Clock => advance_all(token.at, rest, end),
-            _ => Err(FrontError::Fault(unexpected(tokens, end))),
+            _ => Err(SyntaxError::Fault(unexpected(tokens, end))),
         },
         Kind::Sign(sign) => match sign {
             Sign::Semicolon => Ok((Stmt::Empty, rest)),
-            _ => Err(FrontError::Fault(unexpected(tokens, end))),
+            _ => Err(SyntaxError::Fault(unexpected(tokens, end))),
         },
-        _ => Err(FrontError::Fault(unexpected(tokens, end))),
+        _ => Err(SyntaxError::Fault(unexpected(tokens, end))),
     }
 }
 
@@ -146,7 +146,7 @@ fn whole<'s, 't>(
     levels: u32,
     tokens: &'s [Token<'t>],
     end: usize,
-) -> Result<(Head<'t>, &'s [Token<'t>]), FrontError>
+) -> Result<(Head<'t>, &'s [Token<'t>]), SyntaxError>
     ensures { Gives (λ x. (head_value x.0, marks x.1.now)) result
         (whole (flat_at levels (marks tokens.now))) }
 {
@@ -161,12 +161,12 @@ pub(crate) fn stmt_head<'s, 't>(
     levels: u32,
     tokens: &'s [Token<'t>],
     end: usize,
-) -> Result<(Head<'t>, &'s [Token<'t>]), FrontError>
+) -> Result<(Head<'t>, &'s [Token<'t>]), SyntaxError>
     ensures { Gives (λ x. (head_value x.0, marks x.1.now)) result
         (stmt_head_at levels (marks tokens.now)) }
 {
     let Some((token, rest)) = next(tokens) else {
-        return Err(FrontError::Fault(unexpected(tokens, end)));
+        return Err(SyntaxError::Fault(unexpected(tokens, end)));
     };
     match token.kind {
         Kind::Sign(sign) => match sign {

@@ -9,16 +9,16 @@ ghost use Rattle.xk_syntax.specs.Readers.{bind, commas_at, listed_at, word_at, p
 
 use crate::parts::{after_sign, name, need_sign, type_name};
 use std::alloc::Global;
-use xk_exprs::read_expr;
+use xk_exprs::{SyntaxError, read_expr};
 use xk_tokens::{Sign, Token};
-use xk_tree::{Expr, FrontError, Name, Param};
+use xk_tree::{Expr, Name, Param};
 
 /// Names.
 pub(crate) fn names<'s, 't>(
     alloc: Global,
     tokens: &'s [Token<'t>],
     end: usize,
-) -> Result<(Vec<Name<'t>>, &'s [Token<'t>]), FrontError>
+) -> Result<(Vec<Name<'t>>, &'s [Token<'t>]), SyntaxError>
     ensures { Gives (λ x. (words x.0.items, marks x.1.now)) result
         (commas_at word_at (marks tokens.now)) }
 {
@@ -39,7 +39,7 @@ fn exprs<'s, 't>(
     levels: u32,
     tokens: &'s [Token<'t>],
     end: usize,
-) -> Result<(Vec<Expr<'t>>, &'s [Token<'t>]), FrontError>
+) -> Result<(Vec<Expr<'t>>, &'s [Token<'t>]), SyntaxError>
     ensures { Gives (λ x. (expressions x.0.items, marks x.1.now)) result
         (commas_at (whole_at levels) (marks tokens.now)) }
 {
@@ -61,7 +61,7 @@ pub(crate) fn args<'s, 't>(
     levels: u32,
     tokens: &'s [Token<'t>],
     end: usize,
-) -> Result<(Vec<Expr<'t>>, &'s [Token<'t>]), FrontError>
+) -> Result<(Vec<Expr<'t>>, &'s [Token<'t>]), SyntaxError>
     ensures { Gives (λ x. (expressions x.0.items, marks x.1.now)) result
         (listed_at (whole_at levels) (marks tokens.now)) }
 {
@@ -80,7 +80,7 @@ pub(crate) fn args<'s, 't>(
 fn param<'s, 't>(
     tokens: &'s [Token<'t>],
     end: usize,
-) -> Result<(Param<'t>, &'s [Token<'t>]), FrontError>
+) -> Result<(Param<'t>, &'s [Token<'t>]), SyntaxError>
     ensures { Gives (λ x. (param_value x.0, marks x.1.now)) result (param_at (marks tokens.now)) }
 {
     let (name, rest) = name(tokens, end)?;
@@ -94,7 +94,7 @@ fn some_params<'s, 't>(
     alloc: Global,
     tokens: &'s [Token<'t>],
     end: usize,
-) -> Result<(Vec<Param<'t>>, &'s [Token<'t>]), FrontError>
+) -> Result<(Vec<Param<'t>>, &'s [Token<'t>]), SyntaxError>
     ensures { Gives (λ x. (map param_value x.0.items, marks x.1.now)) result
         (commas_at param_at (marks tokens.now)) }
 {
@@ -115,7 +115,7 @@ pub(crate) fn params<'s, 't>(
     alloc: Global,
     tokens: &'s [Token<'t>],
     end: usize,
-) -> Result<(Vec<Param<'t>>, &'s [Token<'t>]), FrontError>
+) -> Result<(Vec<Param<'t>>, &'s [Token<'t>]), SyntaxError>
     ensures { Gives (λ x. (map param_value x.0.items, marks x.1.now)) result
         (listed_at param_at (marks tokens.now)) }
 {

@@ -7,9 +7,10 @@ ghost use Rattle.xk_exprs.specs.Marks.{mark, marks};
 ghost use Rattle.xk_exprs.specs.Readers.{Gives, head_at};
 ghost use Rattle.xk_syntax.specs.Readers.{sign_at, keyword_at, open_at, plus_at, clock_at, word_at, this_word_at, comparison_of, comparison_at, type_at, ahead_at};
 
+use xk_exprs::SyntaxError;
 use xk_exprs::parts::{next, unexpected};
 use xk_tokens::{Keyword, Kind, Sign, Token};
-use xk_tree::{FrontError, Name, TypeName};
+use xk_tree::{Name, TypeName};
 use xk_types::{Comparison, ParamKind};
 
 /// Past this sign, if it comes.
@@ -29,12 +30,12 @@ pub(crate) fn need_sign<'s, 't>(
     sign: Sign,
     tokens: &'s [Token<'t>],
     end: usize,
-) -> Result<&'s [Token<'t>], FrontError>
+) -> Result<&'s [Token<'t>], SyntaxError>
     ensures { Gives (λ x. marks x.now) result (sign_at sign (marks tokens.now)) }
 {
     match after_sign(sign, tokens) {
         Some(rest) => Ok(rest),
-        None => Err(FrontError::Fault(unexpected(tokens, end))),
+        None => Err(SyntaxError::Fault(unexpected(tokens, end))),
     }
 }
 
@@ -58,12 +59,12 @@ pub(crate) fn need_keyword<'s, 't>(
     keyword: Keyword,
     tokens: &'s [Token<'t>],
     end: usize,
-) -> Result<&'s [Token<'t>], FrontError>
+) -> Result<&'s [Token<'t>], SyntaxError>
     ensures { Gives (λ x. marks x.now) result (keyword_at keyword (marks tokens.now)) }
 {
     match after_keyword(keyword, tokens) {
         Some(rest) => Ok(rest),
-        None => Err(FrontError::Fault(unexpected(tokens, end))),
+        None => Err(SyntaxError::Fault(unexpected(tokens, end))),
     }
 }
 
@@ -86,12 +87,12 @@ pub(crate) fn open_paren<'s, 't>(tokens: &'s [Token<'t>]) -> Option<(usize, &'s 
 pub(crate) fn need_open<'s, 't>(
     tokens: &'s [Token<'t>],
     end: usize,
-) -> Result<(usize, &'s [Token<'t>]), FrontError>
+) -> Result<(usize, &'s [Token<'t>]), SyntaxError>
     ensures { Gives (λ x. (x.0, marks x.1.now)) result (open_at (marks tokens.now)) }
 {
     match open_paren(tokens) {
         Some(open) => Ok(open),
-        None => Err(FrontError::Fault(unexpected(tokens, end))),
+        None => Err(SyntaxError::Fault(unexpected(tokens, end))),
     }
 }
 
@@ -100,18 +101,18 @@ pub(crate) fn need_open<'s, 't>(
 pub(crate) fn need_plus<'s, 't>(
     tokens: &'s [Token<'t>],
     end: usize,
-) -> Result<(usize, &'s [Token<'t>]), FrontError>
+) -> Result<(usize, &'s [Token<'t>]), SyntaxError>
     ensures { Gives (λ x. (x.0, marks x.1.now)) result (plus_at (marks tokens.now)) }
 {
     let Some((token, rest)) = next(tokens) else {
-        return Err(FrontError::Fault(unexpected(tokens, end)));
+        return Err(SyntaxError::Fault(unexpected(tokens, end)));
     };
     match token.kind {
         Kind::Sign(sign) => match sign {
             Sign::Plus => Ok((token.at, rest)),
-            _ => Err(FrontError::Fault(unexpected(tokens, end))),
+            _ => Err(SyntaxError::Fault(unexpected(tokens, end))),
         },
-        _ => Err(FrontError::Fault(unexpected(tokens, end))),
+        _ => Err(SyntaxError::Fault(unexpected(tokens, end))),
     }
 }
 
@@ -146,15 +147,15 @@ pub(crate) fn ahead<'s, 't>(tokens: &'s [Token<'t>]) -> Option<&'s [Token<'t>]>
 pub(crate) fn name<'s, 't>(
     tokens: &'s [Token<'t>],
     end: usize,
-) -> Result<(Name<'t>, &'s [Token<'t>]), FrontError>
+) -> Result<(Name<'t>, &'s [Token<'t>]), SyntaxError>
     ensures { Gives (λ x. (word x.0, marks x.1.now)) result (word_at (marks tokens.now)) }
 {
     let Some((token, rest)) = next(tokens) else {
-        return Err(FrontError::Fault(unexpected(tokens, end)));
+        return Err(SyntaxError::Fault(unexpected(tokens, end)));
     };
     match token.kind {
         Kind::Name(text) => Ok((Name { at: token.at, text }, rest)),
-        _ => Err(FrontError::Fault(unexpected(tokens, end))),
+        _ => Err(SyntaxError::Fault(unexpected(tokens, end))),
     }
 }
 
@@ -191,12 +192,12 @@ pub(crate) fn need_word<'s, 't>(
     text: &[u8],
     tokens: &'s [Token<'t>],
     end: usize,
-) -> Result<(usize, &'s [Token<'t>]), FrontError>
+) -> Result<(usize, &'s [Token<'t>]), SyntaxError>
     ensures { Gives (λ x. (x.0, marks x.1.now)) result (this_word_at text.now (marks tokens.now)) }
 {
     match this_word(text, tokens) {
         Some(word) => Ok(word),
-        None => Err(FrontError::Fault(unexpected(tokens, end))),
+        None => Err(SyntaxError::Fault(unexpected(tokens, end))),
     }
 }
 
@@ -219,18 +220,18 @@ fn comparison_of(sign: Sign) -> Option<Comparison>
 pub(crate) fn comparison<'s, 't>(
     tokens: &'s [Token<'t>],
     end: usize,
-) -> Result<(Comparison, &'s [Token<'t>]), FrontError>
+) -> Result<(Comparison, &'s [Token<'t>]), SyntaxError>
     ensures { Gives (λ x. (x.0, marks x.1.now)) result (comparison_at (marks tokens.now)) }
 {
     let Some((token, rest)) = next(tokens) else {
-        return Err(FrontError::Fault(unexpected(tokens, end)));
+        return Err(SyntaxError::Fault(unexpected(tokens, end)));
     };
     match token.kind {
         Kind::Sign(sign) => match comparison_of(sign) {
             Some(comparison) => Ok((comparison, rest)),
-            None => Err(FrontError::Fault(unexpected(tokens, end))),
+            None => Err(SyntaxError::Fault(unexpected(tokens, end))),
         },
-        _ => Err(FrontError::Fault(unexpected(tokens, end))),
+        _ => Err(SyntaxError::Fault(unexpected(tokens, end))),
     }
 }
 
@@ -239,11 +240,11 @@ pub(crate) fn comparison<'s, 't>(
 pub(crate) fn type_name<'s, 't>(
     tokens: &'s [Token<'t>],
     end: usize,
-) -> Result<(TypeName, &'s [Token<'t>]), FrontError>
+) -> Result<(TypeName, &'s [Token<'t>]), SyntaxError>
     ensures { Gives (λ x. (x.0, marks x.1.now)) result (type_at (marks tokens.now)) }
 {
     let Some((token, rest)) = next(tokens) else {
-        return Err(FrontError::Fault(unexpected(tokens, end)));
+        return Err(SyntaxError::Fault(unexpected(tokens, end)));
     };
     let at = token.at;
     match token.kind {
@@ -262,8 +263,8 @@ pub(crate) fn type_name<'s, 't>(
                 },
                 rest,
             )),
-            _ => Err(FrontError::Fault(unexpected(tokens, end))),
+            _ => Err(SyntaxError::Fault(unexpected(tokens, end))),
         },
-        _ => Err(FrontError::Fault(unexpected(tokens, end))),
+        _ => Err(SyntaxError::Fault(unexpected(tokens, end))),
     }
 }

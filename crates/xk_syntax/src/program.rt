@@ -3,6 +3,7 @@
 ghost use Rattle.std.specs.Prelude.{◌≡◌, ◌<◌, ℕ, [], length, map, IfOk};
 ghost use Rattle.xk_tokens.specs.declared.token.Keyword.TheVariants as words;
 ghost use Rattle.xk_tree.specs.declared.fault.FrontRule.TheVariants as rule;
+ghost use Rattle.xk_tree.specs.declared.fault.FrontFault.{FrontFault as Fault};
 ghost use Rattle.xk_tree.specs.declared.fault.FrontError.TheVariants as error;
 ghost use Rattle.xk_tree.specs.Tree.{method_value, shared_value, tree_value};
 ghost use Rattle.xk_exprs.specs.Marks.{marks};
@@ -16,7 +17,7 @@ use crate::parts::{after_keyword, name, need_open, need_sign};
 use crate::stmts::read_stmts;
 use std::alloc::Global;
 use xk_exprs::parts::unexpected;
-use xk_exprs::read_number;
+use xk_exprs::{SyntaxError, read_number};
 use xk_tokens::{Keyword, Sign, Token, tokens};
 use xk_tree::{FrontError, FrontFault, FrontRule, Method, Shared, Tree};
 
@@ -31,7 +32,7 @@ const MAX_LEVELS: u32 = 64;
 fn shared_number<'s, 't>(
     tokens: &'s [Token<'t>],
     end: usize,
-) -> Result<(Shared<'t>, &'s [Token<'t>]), FrontError>
+) -> Result<(Shared<'t>, &'s [Token<'t>]), SyntaxError>
     ensures { Gives (λ x. (shared_value x.0, marks x.1.now)) result
         (shared_at (marks tokens.now)) }
 {
@@ -55,7 +56,7 @@ fn shared_numbers<'s, 't>(
     alloc: Global,
     tokens: &'s [Token<'t>],
     end: usize,
-) -> Result<(Vec<Shared<'t>>, &'s [Token<'t>]), FrontError>
+) -> Result<(Vec<Shared<'t>>, &'s [Token<'t>]), SyntaxError>
     ensures { Gives (λ x. (map shared_value x.0.items, marks x.1.now)) result
         (more_at (keyword_at words.Shared) shared_at [] (marks tokens.now)) }
 {
@@ -74,7 +75,7 @@ fn method<'s, 't>(
     alloc: Global,
     tokens: &'s [Token<'t>],
     end: usize,
-) -> Result<(Method<'t>, &'s [Token<'t>]), FrontError>
+) -> Result<(Method<'t>, &'s [Token<'t>]), SyntaxError>
     ensures { Gives (λ x. (method_value x.0, marks x.1.now)) result
         (method_at (marks tokens.now)) }
 {
@@ -107,7 +108,7 @@ fn methods<'s, 't>(
     alloc: Global,
     tokens: &'s [Token<'t>],
     end: usize,
-) -> Result<(Vec<Method<'t>>, &'s [Token<'t>]), FrontError>
+) -> Result<(Vec<Method<'t>>, &'s [Token<'t>]), SyntaxError>
     ensures { Gives (λ x. (map method_value x.0.items, marks x.1.now)) result
         (more_at (keyword_at words.Def) method_at [] (marks tokens.now)) }
 {
@@ -122,14 +123,14 @@ fn methods<'s, 't>(
 
 /// A program, which takes all the tokens.
 #[tactic(auto, unfolding(crate::specs::Readers::bind, crate::specs::Readers::program_at))]
-fn program<'t>(alloc: Global, tokens: &[Token<'t>], end: usize) -> Result<Tree<'t>, FrontError>
+fn program<'t>(alloc: Global, tokens: &[Token<'t>], end: usize) -> Result<Tree<'t>, SyntaxError>
     ensures { Gives tree_value result (program_at (marks tokens.now)) }
 {
     let (shared, rest) = shared_numbers(alloc, tokens, end)?;
     let (methods, rest) = methods(alloc, rest, end)?;
     match rest {
         [] => Ok(Tree { shared, methods }),
-        [..] => Err(FrontError::Fault(unexpected(rest, end))),
+        [..] => Err(SyntaxError::Fault(unexpected(rest, end))),
     }
 }
 
@@ -141,6 +142,8 @@ pub fn parse<'t>(alloc: Global, text: &'t str) -> Result<Tree<'t>, FrontError>
     ensures none_spelled { IsRefused text.now result }
     ensures too_long { 1048576 < length text.now
         → result ≡ Err (error.Fault (record { rule = rule.TooLong; at = 0 })) }
+    ensures only_too_long { (f : Fault) → result ≡ Err (error.Fault f)
+        → f.rule ≡ rule.TooLong → 1048576 < length text.now }
 {
     let bytes = text.as_bytes();
     if bytes.len() > MAX_TEXT {
@@ -150,5 +153,6 @@ pub fn parse<'t>(alloc: Global, text: &'t str) -> Result<Tree<'t>, FrontError>
         }));
     }
     let tokens = tokens(alloc, bytes)?;
-    program(alloc, &tokens, bytes.len())
+    let tree = program(alloc, &tokens, bytes.len())?;
+    Ok(tree)
 }

@@ -12,9 +12,9 @@ use crate::parts::{
     this_word, type_name,
 };
 use std::alloc::Global;
-use xk_exprs::{read_expr, read_term};
+use xk_exprs::{SyntaxError, read_expr, read_term};
 use xk_tokens::{Sign, Token};
-use xk_tree::{Binding, FrontError, Name, Right, Stmt, TypeName, Verb};
+use xk_tree::{Binding, Name, Right, Stmt, TypeName, Verb};
 
 /// `word (`.
 #[tactic(auto, unfolding(crate::specs::Readers::bind, crate::specs::Readers::verb_at))]
@@ -22,7 +22,7 @@ fn verb<'s, 't>(
     text: &[u8],
     tokens: &'s [Token<'t>],
     end: usize,
-) -> Result<(Verb, &'s [Token<'t>]), FrontError>
+) -> Result<(Verb, &'s [Token<'t>]), SyntaxError>
     ensures { Gives (λ x. (x.0, marks x.1.now)) result (verb_at text.now (marks tokens.now)) }
 {
     let (at, rest) = need_word(text, tokens, end)?;
@@ -36,7 +36,7 @@ fn bare_verb<'s, 't>(
     text: &[u8],
     tokens: &'s [Token<'t>],
     end: usize,
-) -> Result<(Verb, &'s [Token<'t>]), FrontError>
+) -> Result<(Verb, &'s [Token<'t>]), SyntaxError>
     ensures { Gives (λ x. (x.0, marks x.1.now)) result (bare_verb_at text.now (marks tokens.now)) }
 {
     let (verb, rest) = verb(text, tokens, end)?;
@@ -50,7 +50,7 @@ fn act<'s, 't>(
     text: &[u8],
     tokens: &'s [Token<'t>],
     end: usize,
-) -> Result<(Verb, &'s [Token<'t>]), FrontError>
+) -> Result<(Verb, &'s [Token<'t>]), SyntaxError>
     ensures { Gives (λ x. (x.0, marks x.1.now)) result (act_at text.now (marks tokens.now)) }
 {
     let rest = need_sign(Sign::Dot, tokens, end)?;
@@ -62,7 +62,7 @@ fn act<'s, 't>(
 fn type_part<'s, 't>(
     tokens: &'s [Token<'t>],
     end: usize,
-) -> Result<(Option<TypeName>, &'s [Token<'t>]), FrontError>
+) -> Result<(Option<TypeName>, &'s [Token<'t>]), SyntaxError>
     ensures { Gives (λ x. (x.0, marks x.1.now)) result (type_part_at (marks tokens.now)) }
 {
     match after_sign(Sign::Colon, tokens) {
@@ -81,7 +81,7 @@ fn right<'s, 't>(
     levels: u32,
     tokens: &'s [Token<'t>],
     end: usize,
-) -> Result<(Right<'t>, &'s [Token<'t>]), FrontError>
+) -> Result<(Right<'t>, &'s [Token<'t>]), SyntaxError>
     ensures { Gives (λ x. (source x.0, marks x.1.now)) result
         (source_at levels (marks tokens.now)) }
 {
@@ -105,7 +105,7 @@ pub(crate) fn declaration<'s, 't>(
     binding: Binding,
     tokens: &'s [Token<'t>],
     end: usize,
-) -> Result<(Stmt<'t>, &'s [Token<'t>]), FrontError>
+) -> Result<(Stmt<'t>, &'s [Token<'t>]), SyntaxError>
     ensures { Gives (λ x. (statement x.0, marks x.1.now)) result
         (declare_at levels binding (marks tokens.now)) }
 {
@@ -124,7 +124,7 @@ pub(crate) fn atomic<'s, 't>(
     levels: u32,
     tokens: &'s [Token<'t>],
     end: usize,
-) -> Result<(Stmt<'t>, &'s [Token<'t>]), FrontError>
+) -> Result<(Stmt<'t>, &'s [Token<'t>]), SyntaxError>
     ensures { Gives (λ x. (statement x.0, marks x.1.now)) result
         (atomic_at levels (marks tokens.now)) }
 {
@@ -143,7 +143,7 @@ pub(crate) fn advance_all<'s, 't>(
     at: usize,
     tokens: &'s [Token<'t>],
     end: usize,
-) -> Result<(Stmt<'t>, &'s [Token<'t>]), FrontError>
+) -> Result<(Stmt<'t>, &'s [Token<'t>]), SyntaxError>
     ensures { Gives (λ x. (statement x.0, marks x.1.now)) result
         (advance_at at (marks tokens.now)) }
 {
@@ -157,7 +157,7 @@ pub(crate) fn advance_all<'s, 't>(
 fn print_head<'s, 't>(
     tokens: &'s [Token<'t>],
     end: usize,
-) -> Result<((usize, Verb), &'s [Token<'t>]), FrontError>
+) -> Result<((usize, Verb), &'s [Token<'t>]), SyntaxError>
     ensures { Gives (λ x. (x.0, marks x.1.now)) result (print_head_at (marks tokens.now)) }
 {
     let rest = need_sign(Sign::Dot, tokens, end)?;
@@ -174,7 +174,7 @@ pub(crate) fn print<'s, 't>(
     levels: u32,
     tokens: &'s [Token<'t>],
     end: usize,
-) -> Result<(Stmt<'t>, &'s [Token<'t>]), FrontError>
+) -> Result<(Stmt<'t>, &'s [Token<'t>]), SyntaxError>
     ensures { Gives (λ x. (statement x.0, marks x.1.now)) result
         (print_at levels (marks tokens.now)) }
 {
@@ -191,7 +191,7 @@ fn dotted<'s, 't>(
     clock: Name<'t>,
     tokens: &'s [Token<'t>],
     end: usize,
-) -> Result<(Stmt<'t>, &'s [Token<'t>]), FrontError>
+) -> Result<(Stmt<'t>, &'s [Token<'t>]), SyntaxError>
     ensures { Gives (λ x. (statement x.0, marks x.1.now)) result
         (dotted_at (word clock.entry) (marks tokens.now)) }
 {
@@ -217,7 +217,7 @@ fn assignment<'s, 't>(
     target: Name<'t>,
     tokens: &'s [Token<'t>],
     end: usize,
-) -> Result<(Stmt<'t>, &'s [Token<'t>]), FrontError>
+) -> Result<(Stmt<'t>, &'s [Token<'t>]), SyntaxError>
     ensures { Gives (λ x. (statement x.0, marks x.1.now)) result
         (assign_at levels (word target.entry) (marks tokens.now)) }
 {
@@ -236,7 +236,7 @@ fn call<'s, 't>(
     paren: usize,
     tokens: &'s [Token<'t>],
     end: usize,
-) -> Result<(Stmt<'t>, &'s [Token<'t>]), FrontError>
+) -> Result<(Stmt<'t>, &'s [Token<'t>]), SyntaxError>
     ensures { Gives (λ x. (statement x.0, marks x.1.now)) result
         (call_at levels (word method.entry) (paren, marks tokens.now)) }
 {
@@ -253,7 +253,7 @@ pub(crate) fn named<'s, 't>(
     name: Name<'t>,
     tokens: &'s [Token<'t>],
     end: usize,
-) -> Result<(Stmt<'t>, &'s [Token<'t>]), FrontError>
+) -> Result<(Stmt<'t>, &'s [Token<'t>]), SyntaxError>
     ensures { Gives (λ x. (statement x.0, marks x.1.now)) result
         (named_at levels (word name.entry) (marks tokens.now)) }
 {

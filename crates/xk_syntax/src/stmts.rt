@@ -11,8 +11,9 @@ use crate::heads::{Head, stmt_head};
 use crate::parts::{after_keyword, ahead, need_sign};
 use std::alloc::Global;
 use xk_exprs::parts::{next, unexpected};
+use xk_exprs::{SyntaxError, SyntaxFault, SyntaxRule};
 use xk_tokens::{Keyword, Kind, Sign, Token};
-use xk_tree::{Expr, FrontError, FrontFault, FrontRule, Stmt};
+use xk_tree::{Expr, Stmt};
 use xk_types::Comparison;
 
 /// Whether a statement can begin with a token of this kind.
@@ -37,10 +38,10 @@ fn begins_statement(kind: Kind) -> bool {
 }
 
 /// The fault of a statement that would stand too deep. Where no statement can begin with its first token, that can't stand there at all.
-fn statement_too_deep(tokens: &[Token], end: usize) -> FrontFault {
+fn statement_too_deep(tokens: &[Token], end: usize) -> SyntaxFault {
     match next(tokens) {
-        Some((token, _)) if begins_statement(token.kind) => FrontFault {
-            rule: FrontRule::TooDeep,
+        Some((token, _)) if begins_statement(token.kind) => SyntaxFault {
+            rule: SyntaxRule::TooDeep,
             at: token.at,
         },
         _ => unexpected(tokens, end),
@@ -63,7 +64,7 @@ pub(crate) fn read_stmts<'s, 't>(
     levels: u32,
     tokens: &'s [Token<'t>],
     end: usize,
-) -> Result<(Vec<Stmt<'t>>, &'s [Token<'t>]), FrontError>
+) -> Result<(Vec<Stmt<'t>>, &'s [Token<'t>]), SyntaxError>
     ensures { Gives (λ x. (map statement x.0.items, marks x.1.now)) result
         (stmts_at (stmt_at levels) (marks tokens.now)) }
 {
@@ -90,7 +91,7 @@ fn else_part<'s, 't>(
     stmt: Stmt<'t>,
     tokens: &'s [Token<'t>],
     end: usize,
-) -> Result<(Stmt<'t>, &'s [Token<'t>]), FrontError>
+) -> Result<(Stmt<'t>, &'s [Token<'t>]), SyntaxError>
     ensures { Gives (λ x. (statement x.0, marks x.1.now)) result
         (else_at (stmt_at levels) paren (expression left.entry) comparison
         (expression right.entry) (statement stmt.entry) (marks tokens.now)) }
@@ -118,7 +119,7 @@ fn rest_of<'s, 't>(
     head: Head<'t>,
     tokens: &'s [Token<'t>],
     end: usize,
-) -> Result<(Stmt<'t>, &'s [Token<'t>]), FrontError>
+) -> Result<(Stmt<'t>, &'s [Token<'t>]), SyntaxError>
     ensures { Gives (λ x. (statement x.0, marks x.1.now)) result
         (rest_at (stmt_at levels) (head_value head.entry) (marks tokens.now)) }
 {
@@ -157,12 +158,12 @@ pub(crate) fn read_stmt<'s, 't>(
     levels: u32,
     tokens: &'s [Token<'t>],
     end: usize,
-) -> Result<(Stmt<'t>, &'s [Token<'t>]), FrontError>
+) -> Result<(Stmt<'t>, &'s [Token<'t>]), SyntaxError>
     ensures { Gives (λ x. (statement x.0, marks x.1.now)) result
         (stmt_at levels (marks tokens.now)) }
 {
     if levels == 0 {
-        return Err(FrontError::Fault(statement_too_deep(tokens, end)));
+        return Err(SyntaxError::Fault(statement_too_deep(tokens, end)));
     }
     let levels = levels - 1;
     let (head, rest) = stmt_head(alloc, levels, tokens, end)?;

@@ -1,9 +1,8 @@
-use Rattle.std.proofs.Common.{◌≡◌, ◌++◌, length, sym, ap, ◌∙◌, int_le, true, rules}
+use Rattle.std.proofs.Common.{◌≡◌, ◌++◌, length, ap, ◌∙◌, int_le, true, rules}
 use Rattle.xk_tree.specs.declared.tree.Stmt.{the_lemmas}
 use Rattle.xk_tree.specs.Tree.{If, IfElse, For, Finish, word, expression, statement}
-use Rattle.xk_code.specs.CodeOf.{declared, code_of}
+use Rattle.xk_code.specs.CodeOf.{code_of}
 use Rattle.xk_code.proofs.Patched.{test_filled, choice_filled, loop_filled, finish_filled}
-use Rattle.xk_code.proofs.Scopes.{cut_back}
 use Rattle.xk_code.proofs.statements.Emitter.+emit.Goals as goal
 
 pub emit-returns-in_ok-close_test-in-If-clause-code : goal.emit-returns-in_ok-close_test-in-If-clause-code
@@ -27,7 +26,8 @@ emit-returns-in_ok-close_else-in-IfElse-clause-code t c =
     let r = expression c.in-IfElse.r in
     let seen : IfElse c.in-IfElse.field-0 l c.in-IfElse.op r (statement s) (statement u) ≡ statement c.args.s.now =
     ap (λ x. IfElse c.in-IfElse.field-0 l c.in-IfElse.op r (statement x) (statement u)) c.deref-in-IfElse.ensures
-    ∙ ap (λ x. IfElse c.in-IfElse.field-0 l c.in-IfElse.op r (statement c.in-IfElse.s.value) (statement x)) c.deref-in-IfElse-2.ensures ∙ rw c.in-IfElse.is (search (rules, the_lemmas)) in
+    ∙ ap (λ x. IfElse c.in-IfElse.field-0 l c.in-IfElse.op r (statement c.in-IfElse.s.value) (statement x)) c.deref-in-IfElse-2.ensures
+    ∙ rw c.in-IfElse.is (search (rules, the_lemmas)) in
     let again = c.cut-in-IfElse.ensures.statement c.args.scope.now c.args.n (statement s) c.in_ok-m-in-IfElse.ensures.scope c.len-visible-in-IfElse.ensures in
     choice_filled _ _ _ _ _ c.in-IfElse.field-0 _ _ _ c.in-IfElse.op _ l r _ _ (statement s) (statement u) base _ _ _ _ _ _
     e.code e.place e.comparison e.first e.second c.in_ok-m-in-IfElse.ensures.code c.in_ok-jump-in-IfElse.ensures.place c.in_ok-jump-in-IfElse.ensures.code

@@ -1,6 +1,5 @@
-use Rattle.std.proofs.Common.{◌≡◌, ◌+◌, ◌++◌, drop, length}
+use Rattle.std.proofs.Common.{drop}
 use Rattle.xk_tree.specs.Tree.{statements}
-use Rattle.xk_code.specs.CodeOf.{count_all, code_of_all, declared_by_all}
 use Rattle.xk_code.proofs.Patched.{AreEmitted}
 use Rattle.xk_code.proofs.statements.Emitter.+emit.Given as goal
 

@@ -1,0 +1,228 @@
+//! The units of methods and of the bodies of `async`.
+
+ghost use Rattle.std.specs.Prelude.{◌≡◌, ◌++◌, [], ◌∷◌, length, map, max, option_map, OnOk, IfOk};
+ghost use Rattle.xk_types.specs.declared.instr.Instr.TheVariants as instr;
+ghost use Rattle.xk_types.specs.Code.{IsUnitWithinLimits};
+ghost use Rattle.xk_tree.specs.Tree.{clock_list, method_value, param_value, statement, words};
+ghost use Rattle.xk_names.specs.Scope.{texts};
+ghost use Rattle.xk_names.specs.Uses.{clocks_listed};
+ghost use Rattle.xk_code.specs.Unit.{kinds_of_params, names_of_params, scope_from, slots_used, unit_of_body, unit_of_method, written_slots};
+
+use crate::error::CodeError;
+use crate::expressions::{Scope, after, push};
+use crate::setting::Setting;
+use crate::statements::{Emitter, declare, slots_behind, slots_behind_all};
+use std::alloc::Global;
+use xk_names::Table;
+use xk_tree::{ClockList, Method, Name, Param, Stmt};
+use xk_types::{Instr, MAX_SLOTS, ParamKind, Unit, UnitKind};
+
+/// The unit of a method, or of `main`.
+#[tactic(auto, using(crate::proofs::Made::unit_made))]
+pub fn method_unit<'t>(
+    alloc: Global,
+    setting: &Setting<'t>,
+    kind: UnitKind,
+    method: &Method<'t>,
+) -> Result<Unit, CodeError>
+    ensures made { IfOk result
+        (λ unit. unit ≡ unit_of_method setting.now kind (method_value method.now)) }
+    ensures limits { IfOk result IsUnitWithinLimits }
+{
+    let names = param_names(alloc, &method.params)?;
+    let (mut scope, n) = param_scope(alloc, &names)?;
+    let free = slots_behind_all(n, &method.body)?;
+    let emitter = Emitter {
+        alloc,
+        setting,
+        free,
+    };
+    let mut code = Vec::new(alloc);
+    emitter.emit_all(&mut code, &mut scope, n, &method.body)?;
+    let unit = unit(kind, param_kinds(alloc, &method.params)?, free, code)?;
+    Ok(unit)
+}
+
+/// The unit of the body of an `async`: its word stands at offset `at`, and it is given these clocks.
+#[tactic(auto, using(crate::proofs::Made::unit_made))]
+pub fn body_unit<'t>(
+    alloc: Global,
+    setting: &Setting<'t>,
+    at: usize,
+    clocks: &Option<ClockList<'t>>,
+    s: &Stmt<'t>,
+) -> Result<Unit, CodeError>
+    ensures made { IfOk result (λ unit. unit
+        ≡ unit_of_body setting.now at (option_map clock_list clocks.now) (statement s.now)) }
+    ensures limits { IfOk result IsUnitWithinLimits }
+{
+    let captures = &setting.body(at)?.captures;
+    let mut names = clock_names(alloc, clocks)?;
+    let mut kinds = Vec::new(alloc);
+    push_kinds(&mut kinds, ParamKind::Clock, &names)?;
+    push_kinds(&mut kinds, ParamKind::Number, captures)?;
+    push_all(&mut names, captures)?;
+    let (mut scope, n) = param_scope(alloc, &names)?;
+    let free = slots_behind(n, s)?;
+    let emitter = Emitter {
+        alloc,
+        setting,
+        free,
+    };
+    let mut code = Vec::new(alloc);
+    emitter.emit(&mut code, &mut scope, n, s)?;
+    let unit = unit(UnitKind::Body, kinds, free, code)?;
+    Ok(unit)
+}
+
+/// Ends a unit, of which `free` slots are those of parameters and names.
+fn unit(
+    kind: UnitKind,
+    params: Vec<ParamKind>,
+    free: u16,
+    mut code: Vec<Instr>,
+) -> Result<Unit, CodeError>
+    ensures made { IfOk result (λ unit. unit ≡ record {
+      kind = kind;
+      params = params.items;
+      slots = slots_used free (code.items ++ instr.Ret ∷ []);
+      code = code.items ++ instr.Ret ∷ [];
+    }) }
+    ensures limits { IfOk result IsUnitWithinLimits }
+{
+    push(&mut code, Instr::Ret)?;
+    let slots = slots_of_code(free, &code)?;
+    let unit = Unit {
+        kind,
+        params,
+        slots,
+        code,
+    };
+    if unit.is_within_limits() {
+        Ok(unit)
+    } else {
+        Err(CodeError::Table)
+    }
+}
+
+/// The slots of a unit: `free` of them are those of parameters and names.
+#[tactic(auto, using(crate::proofs::Slots::used_first))]
+fn slots_of_code(free: u16, code: &[Instr]) -> Result<u16, CodeError>
+    ensures { IfOk result (λ n. n ≡ slots_used free code.now) }
+{
+    let mut most = free as usize;
+    for instr in code {
+        most = larger(most, written(instr));
+    }
+    if most <= MAX_SLOTS as usize {
+        Ok(most as u16)
+    } else {
+        Err(CodeError::Table)
+    }
+}
+
+/// The greater of two numbers.
+
+fn larger(a: usize, b: usize) -> usize
+    ensures { result ≡ max a b }
+{
+    if a < b { b } else { a }
+}
+
+/// One more than the slot that an instruction of an expression writes.
+fn written(instr: &Instr) -> usize
+    ensures { result ≡ written_slots instr.now }
+{
+    match instr {
+        Instr::Lit(d, _) => *d as usize + 1,
+        Instr::Copy(d, _) => *d as usize + 1,
+        Instr::Add(d, _, _) => *d as usize + 1,
+        Instr::Sub(d, _, _) => *d as usize + 1,
+        Instr::Mul(d, _, _) => *d as usize + 1,
+        _ => 0,
+    }
+}
+
+/// The scope of parameters, whose slots are the first, and how many they are.
+fn param_scope<'t>(alloc: Global, names: &[&'t [u8]]) -> Result<(Scope<'t>, u16), CodeError>
+    ensures scope { IfOk result (λ made. made.0 ≡ scope_from 0 (map (λ x. x.now) names.now)) }
+    ensures count { IfOk result (λ made. made.1 ≡ length (map (λ x. x.now) names.now)) }
+{
+    let mut scope = Table::new(alloc);
+    let mut n = 0;
+    for name in names {
+        declare(&mut scope, *name, n)?;
+        n = after(n)?;
+    }
+    Ok((scope, n))
+}
+
+/// The names of a method's parameters.
+fn param_names<'t>(alloc: Global, params: &[Param<'t>]) -> Result<Vec<&'t [u8]>, CodeError>
+    ensures { IfOk result (λ names. map (λ x. x.now) names.items
+        ≡ names_of_params (map param_value params.now)) }
+{
+    let mut names = Vec::new(alloc);
+    for param in params {
+        names.push(param.name.text)?;
+    }
+    Ok(names)
+}
+
+/// What a method's parameters take.
+fn param_kinds(alloc: Global, params: &[Param<'_>]) -> Result<Vec<ParamKind>, CodeError>
+    ensures { IfOk result (λ kinds. kinds.items ≡ kinds_of_params (map param_value params.now)) }
+{
+    let mut kinds = Vec::new(alloc);
+    for param in params {
+        kinds.push(param.takes.kind)?;
+    }
+    Ok(kinds)
+}
+
+/// The names of the clocks that a body is given.
+fn clock_names<'t>(
+    alloc: Global,
+    clocks: &Option<ClockList<'t>>,
+) -> Result<Vec<&'t [u8]>, CodeError>
+    ensures { IfOk result (λ names. map (λ x. x.now) names.items
+        ≡ texts (clocks_listed (option_map clock_list clocks.now))) }
+{
+    match clocks {
+        None => Ok(Vec::new(alloc)),
+        Some(list) => texts(alloc, &list.names),
+    }
+}
+
+/// The texts of names.
+fn texts<'t>(alloc: Global, names: &[Name<'t>]) -> Result<Vec<&'t [u8]>, CodeError>
+    ensures { IfOk result (λ found. map (λ x. x.now) found.items ≡ texts (words names.now)) }
+{
+    let mut found = Vec::new(alloc);
+    for name in names {
+        found.push(name.text)?;
+    }
+    Ok(found)
+}
+
+/// Further names.
+fn push_all<'t>(names: &mut Vec<&'t [u8]>, more: &[&'t [u8]]) -> Result<(), CodeError>
+    ensures { OnOk result (map (λ x. x.now) names.new.items
+        ≡ map (λ x. x.now) names.old.items ++ map (λ x. x.now) more.now) }
+{
+    for name in more {
+        names.push(*name)?;
+    }
+    Ok(())
+}
+
+/// A kind for each of these names.
+fn push_kinds(kinds: &mut Vec<ParamKind>, kind: ParamKind, names: &[&[u8]]) -> Result<(), CodeError>
+    ensures { OnOk result (kinds.new.items
+        ≡ kinds.old.items ++ map (λ _. kind) (map (λ x. x.now) names.now)) }
+{
+    for _name in names {
+        kinds.push(kind)?;
+    }
+    Ok(())
+}

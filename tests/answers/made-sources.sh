@@ -1,0 +1,60 @@
+#!/bin/sh
+# Writes rows of source texts, as `sources.rows` has them, that are too long to be written out.
+set -eu
+
+# repeated COUNT TEXT: the text so many times, with its turn for each NUMBER.
+repeated() {
+    awk -v count="$1" -v text="$2" 'BEGIN { for (i = 1; i <= count; i++) { one = text; gsub("NUMBER", i, one); printf "%s", one } }'
+}
+
+# row TEXT ANSWER
+row() {
+    printf '%s\n%s\n' "$1" "$2"
+}
+
+# The longest text, and one byte more; what is too long isn't looked at.
+spaces=$(printf '%1048560s' '')
+row "$spaces" 'x10clock: F9 NoMain at 0'
+row "$spaces def main() { }" 'accepted steps 1 activities 1 clocks 0'
+row "$spaces  def main() { }" 'accepted steps 1 activities 1 clocks 0'
+row "$spaces   def main() { }" 'x10clock: F4 TooLong at 0'
+row "$(printf '%1048577s' '')" 'x10clock: F4 TooLong at 0'
+row "\\0043 \\0377$spaces                " 'x10clock: F4 TooLong at 0'
+row "$spaces               #" 'x10clock: F1 Token at 1048575'
+
+# 256 shared numbers, and one more; of two tables that are too long the one that stands first is told.
+row "$(repeated 256 'shared sNUMBER = 0; ')def main() { }" 'accepted steps 1 activities 1 clocks 0'
+row "$(repeated 99 'shared sNUMBER = 0; ')$(repeated 158 'shared tNUMBER = 0; ')def main() { }" 'x10clock: F14 Table at 4143'
+row "$(repeated 99 'shared sNUMBER = 0; ')$(repeated 158 'shared tNUMBER = 0; ')def main() { $(repeated 65 'val xNUMBER = 0; ')}" \
+    'x10clock: F14 Table at 4143'
+
+# 1,024 units, and one more: bodies of `async`, methods, and methods that main doesn't reach.
+row "def main() { $(repeated 1023 'async ; ')}" 'accepted steps 2047 activities 1024 clocks 0'
+row "def main() { $(repeated 1024 'async ; ')}" 'x10clock: F14 Table at 8197'
+row "def main() { for (i in 1..0) { $(repeated 2000 'async ; ')} async ; }" 'accepted steps 3 activities 2 clocks 0'
+row "$(repeated 1023 'def mNUMBER() { } ')def main() { $(repeated 1023 'mNUMBER(); ')}" 'accepted steps 2047 activities 1 clocks 0'
+row "$(repeated 2000 'def mNUMBER() { } ')def main() { $(repeated 1023 'mNUMBER(); ')}" 'accepted steps 2047 activities 1 clocks 0'
+row "$(repeated 1024 'def mNUMBER() { } ')def main() { $(repeated 1024 'mNUMBER(); ')}" 'x10clock: F14 Table at 15265'
+
+# 4,096 instructions, the last of them its `ret`, and one more; also in the body of an `async`.
+row "def main() { val x = 1; $(repeated 4094 'Console.OUT.println(x); ')}" 'accepted steps 4096 activities 1 clocks 0'
+row "def main() { val x = 1; $(repeated 4095 'Console.OUT.println(x); ')}" 'x10clock: F14 Table at 4'
+row "def main() { val x = 1; async { $(repeated 4096 'Console.OUT.println(x); ')} }" 'x10clock: F14 Table at 24'
+
+# 64 slots, parameters and temporaries among them, and one more. A method that main doesn't reach may want more.
+row "def main() { $(repeated 63 'val xNUMBER = 0; ') Console.OUT.println(1); }" 'accepted steps 66 activities 1 clocks 0'
+row "def main() { $(repeated 63 'val xNUMBER = 0; ') Console.OUT.println(1 + 2); }" 'x10clock: F14 Table at 4'
+row "def main() { $(repeated 63 'val xNUMBER = 0; ') Console.OUT.println(x1 + 2); }" 'accepted steps 67 activities 1 clocks 0'
+row "def f() { $(repeated 65 'val xNUMBER = 0; ') } def main() { }" 'accepted steps 1 activities 1 clocks 0'
+row "def f() { $(repeated 65 'val xNUMBER = 0; ') } def main() { f(); }" 'x10clock: F14 Table at 4'
+row "def main() { $(repeated 33 'val xNUMBER = 0; ') async { Console.OUT.println(x1); $(repeated 64 'val yNUMBER = 0; ')} }" \
+    'x10clock: F14 Table at 434'
+
+# 64 arguments, and one more: then the method called has too many slots too, and the lesser offset is told.
+row "def f($(repeated 63 'aNUMBER: Long, ')a: Long) { } def main() { f($(repeated 63 'NUMBER, ')64); }" 'accepted steps 67 activities 1 clocks 0'
+row "def f($(repeated 64 'aNUMBER: Long, ')a: Long) { } def main() { f($(repeated 64 '7, ')64); }" 'x10clock: F14 Table at 4'
+row "def main() { val x = 1; f($(repeated 64 'x, ')x); } def f($(repeated 64 'aNUMBER: Long, ')a: Long) { }" 'x10clock: F14 Table at 4'
+
+# A chain of methods, each of which calls the next one, and the last one the first.
+awk 'BEGIN { for (i = 1; i < 1000; i++) printf "def m%d() { m%d(); } ", i, i + 1; print "def m1000() { m1(); } def main() { }" }'
+echo 'x10clock: F10 Recursive at 11'

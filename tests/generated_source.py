@@ -1,0 +1,722 @@
+"""Source texts that nobody wrote: whole programs that are mostly accepted, programs in which a name or a token is wrong, programs at the
+limits, tokens without order, and texts that were changed byte by byte.
+
+A generator knows which names are visible, and of each clock in which ways the activity may stand on it, so that it can keep to the rules;
+how often it doesn't look is left to chance.
+"""
+
+from __future__ import annotations
+
+import random
+from collections.abc import Callable, Iterator
+from contextlib import contextmanager
+from dataclasses import dataclass, field
+
+import generated
+from generated import EDGES
+
+Tokens = list[str]
+
+NAMES = "a b c d e f g h i j k n s t x y z _ x1 y2 clock make resume drop OUT println advanceAll main Long2".split()
+COMPARISONS = ("==", "!=", "<", "<=", ">", ">=")
+RESERVED = "shared def val var if else for in async clocked finish atomic Clock Long Console".split()
+SIGNS = "( ) { } , ; : = + - * . .. == != < <= > >=".split()
+LITERALS = ["0", "1", "2", "3", "7", "00", "007", "9223372036854775807", "9223372036854775808", "9223372036854775809", "1" * 40]
+HELD = frozenset("lr")
+
+# Whole programs.
+
+
+@dataclass(eq=False)
+class Known:
+    """A visible name. A clock has a home: the finish in which it was made, counted in its unit, or 0."""
+
+    name: str
+    kind: str
+    unit: Unit | None
+    home: int = 0
+    lent: bool = False
+
+
+@dataclass(eq=False)
+class Unit:
+    """The unit that is being written: for each clock that it sees, the ways in which the activity may stand on it (live, resumed, out)."""
+
+    kind: str
+    clocks: dict[Known, frozenset[str]] = field(default_factory=dict)
+    block: int = 0
+    blocks: int = 0
+
+
+@dataclass(frozen=True)
+class Signature:
+    """What others need to know of a method."""
+
+    name: str
+    params: str
+    steps: int
+    activities: int
+
+
+class Writer:
+    """Writes the methods of one program."""
+
+    def __init__(self, rng: random.Random) -> None:
+        self.rng = rng
+        self.most_steps = rng.choice([20, 35, 50, 70, 120, 1500])
+        self.most_activities = rng.choice([1, 2, 3, 3, 4, 4, 5, 20])
+        self.length = rng.choice([2, 3, 5, 8])
+        self.slip = rng.choice([0, 0, 0, 0, 0.02, 0.08])
+        # How often a name isn't looked at, how often not in which way the activity stands on a clock, and how often a clock isn't dropped.
+        self.risk = rng.choice([0, 0, 0, 0, 0.1, 0.4])
+        self.forget = rng.choice([0, 0, 0, 0.05, 0.3])
+        self.visible: list[Known] = []
+        self.methods: list[Signature] = []
+        self.tokens: Tokens = []
+        self.unit = Unit("main")
+        self.times = self.steps = self.activities = 1
+        self.depth = 0
+
+    def program(self) -> Tokens:
+        """All of a program: methods know those that were written before them, and stand in any order."""
+        rng = self.rng
+        head: Tokens = []
+        for _ in range(rng.choice([0, 0, 1, 1, 2])):
+            known = self.declared("shared", None)
+            head += ["shared", known.name, "=", *self.literal(), ";"]
+        parts = []
+        count = rng.choice([0, 0, 1, 1, 2, 3])
+        for number in range(count + 1):
+            is_main = number == count
+            part = 1 if is_main else 3
+            self.tokens = []
+            self.method(is_main, self.most_steps // part, self.most_activities // part + 1)
+            parts.append(self.tokens)
+        if rng.random() < 0.5:
+            rng.shuffle(parts)
+        return head + [token for part in parts for token in part]
+
+    def method(self, is_main: bool, steps: int, activities: int) -> None:
+        rng = self.rng
+        self.unit, self.times, self.steps, self.activities = Unit("main" if is_main else "method"), 1, 1, 0
+        self.budget, self.places = steps, activities
+        taken = {known.name for known in self.methods}
+        name = "main" if is_main else self.chance(self.some([one for one in [*NAMES, "m", "step"] if one not in taken and one != "main"]), NAMES)
+        letters = "" if is_main and not self.slips() else "".join(rng.choice("ccn") for _ in range(rng.choice([0, 1, 1, 2, 3])))
+        with self.scope():
+            params: list[Tokens] = []
+            for letter in letters:
+                known = self.declared("clock" if letter == "c" else "fixed", self.unit, lent=True)
+                if letter == "c":
+                    self.unit.clocks[known] = HELD
+                params.append([known.name, ":", "Clock" if letter == "c" else "Long"])
+            self.emit("def", name, "(", *self.listed(params), ")")
+            self.block(rng.randint(self.length // 2, self.length) + (3 if is_main else 0))
+        self.methods.append(Signature(name, letters, self.steps, self.activities))
+
+    # Chances.
+
+    def slips(self) -> bool:
+        return self.rng.random() < self.slip
+
+    def risks(self) -> bool:
+        return self.rng.random() < self.risk
+
+    def chance(self, fitting: object, any_of: list) -> object:
+        """What fits; now and then anything."""
+        return self.rng.choice(any_of) if any_of and self.slips() else fitting
+
+    def some(self, choices: list) -> object:
+        return self.rng.choice(choices)
+
+    # Tokens.
+
+    def emit(self, *tokens: str) -> None:
+        self.tokens += tokens
+
+    def spend(self, steps: int) -> None:
+        self.steps += self.times * steps
+
+    def listed(self, parts: list[Tokens]) -> Tokens:
+        return [token for number, part in enumerate(parts) for token in ([","] if number else []) + part]
+
+    def literal(self) -> Tokens:
+        number = self.rng.choice(EDGES) if self.rng.random() < 0.1 else self.rng.randrange(-3, 8)
+        return ["-", str(-number)] if number < 0 else [str(number)]
+
+    # Names.
+
+    @contextmanager
+    def scope(self) -> Iterator[None]:
+        count = len(self.visible)
+        yield
+        for known in self.visible[count:]:
+            self.unit.clocks.pop(known, None)
+        del self.visible[count:]
+
+    def declared(self, kind: str, unit: Unit | None, lent: bool = False) -> Known:
+        """A new name, which mostly isn't visible yet; `main` and the like are names like any other."""
+        taken = {known.name for known in self.visible}
+        fresh = [name for name in NAMES if name not in taken] or [f"v{len(self.visible)}"]
+        name = self.chance(self.some(fresh), [known.name for known in self.visible])
+        known = Known(name, kind, unit, unit.block if unit else 0, lent)
+        self.visible.append(known)
+        return known
+
+    def any_name(self) -> str:
+        return self.rng.choice([known.name for known in self.visible] + [known.name for known in self.methods] + NAMES)
+
+    def name_of(self, known: Known) -> str:
+        return self.any_name() if self.slips() else known.name
+
+    def numbers(self) -> list[Known]:
+        return [known for known in self.visible if known.kind in ("fixed", "val") or known.kind == "var" and (known.unit is self.unit or self.slips())]
+
+    def of_kind(self, kind: str) -> list[Known]:
+        return [known for known in self.visible if known.kind == kind and (known.unit in (None, self.unit) or self.slips())]
+
+    def held(self) -> list[Known]:
+        """The clocks that the activity is registered on, whatever way it came."""
+        seen = [known for known, ways in self.unit.clocks.items() if ways <= HELD or self.risks()]
+        return seen + [known for known in self.visible if known.kind == "clock" and known not in self.unit.clocks and self.slips()]
+
+    # Expressions.
+
+    def expr(self, depth: int = 0) -> Tokens:
+        rng, numbers = self.rng, self.numbers()
+        way = rng.random()
+        if depth > 3 or way < 0.35 or not numbers and way < 0.5:
+            self.spend(1)
+            return self.literal()
+        if way < 0.65 and numbers:
+            return [self.name_of(rng.choice(numbers))]
+        if way < 0.72:
+            return ["(", *self.expr(depth + 1), ")"]
+        if way < 0.79:
+            self.spend(2)
+            inner = self.expr(depth + 1)
+            return ["-", *(inner if len(inner) == 1 else ["(", *inner, ")"])]
+        self.spend(1)
+        return [*self.expr(depth + 1), rng.choice("+-*"), *self.expr(depth + 1)]
+
+    # Statements.
+
+    def block(self, count: int) -> None:
+        """Statements in braces; the clocks that are made among them are dropped where that has to be."""
+        self.emit("{")
+        with self.scope():
+            begin = len(self.visible)
+            for _ in range(count):
+                self.statement()
+            self.drop_made(self.visible[begin:])
+        self.emit("}")
+
+    def drop_made(self, made: list[Known]) -> None:
+        needs = self.unit.kind == "method" or self.times > 1 or self.unit.block or self.rng.random() < 0.1
+        for known in made:
+            if needs and self.unit.clocks.get(known, frozenset("o")) <= HELD and self.rng.random() >= self.forget:
+                self.use(known, "drop")
+
+    def use(self, known: Known, word: str) -> None:
+        self.emit(self.name_of(known), ".", word, "(", ")", ";")
+        if known in self.unit.clocks:
+            self.unit.clocks[known] = frozenset("r" if word == "resume" else "o")
+        self.spend(1)
+
+    def inner(self, count: int) -> None:
+        """The single statement of another one: mostly a block."""
+        if self.rng.random() < 0.75 or self.depth > 4:
+            self.block(count)
+        else:
+            with self.scope():
+                begin = len(self.tokens)
+                self.statement(alone=True)
+                if len(self.tokens) == begin:
+                    self.emit(";")
+
+    def statement(self, alone: bool = False) -> None:
+        if self.steps >= self.budget:
+            return
+        ways: list[Callable[[], bool]] = [self.number] * 3 + [self.assign, self.share, self.show, self.advance, self.advance, self.resume, self.drop, self.call, self.call]
+        ways += [] if alone else [self.make] * 3
+        if self.depth < 5:
+            ways += [self.start] * 5 + [self.loop, self.branch, self.finish] * 2 + [self.nested]
+        for _ in range(4):
+            self.depth += 1
+            done = self.rng.choice(ways)()
+            self.depth -= 1
+            if done:
+                return
+
+    def number(self) -> bool:
+        word = self.rng.choice(["val", "val", "var"])
+        shared = self.of_kind("shared")
+        right = [self.name_of(self.rng.choice(shared))] if shared and self.rng.random() < 0.3 else self.expr()
+        known = self.declared(word, self.unit)
+        type = self.rng.choice([[], [], [":", self.chance("Long", ["Clock"])]])
+        self.emit(word, known.name, *type, "=", *right, ";")
+        self.spend(1)
+        return True
+
+    def make(self) -> bool:
+        known = self.declared("clock", self.unit)
+        self.unit.clocks[known] = frozenset("l")
+        type = self.rng.choice([[], [], [":", self.chance("Clock", ["Long"])]])
+        self.emit(self.chance("val", ["var"]), known.name, *type, "=", "Clock", ".", "make", "(", ")", ";")
+        self.spend(1)
+        if self.rng.random() < 0.4 and self.depth < 5:
+            self.start()
+        return True
+
+    def assign(self) -> bool:
+        variables, shared = self.of_kind("var"), self.of_kind("shared")
+        if not variables:
+            return False
+        right = [self.name_of(self.rng.choice(shared))] if shared and self.rng.random() < 0.3 else self.expr()
+        self.emit(self.name_of(self.rng.choice(variables)), "=", *right, ";")
+        self.spend(1)
+        return True
+
+    def share(self) -> bool:
+        shared = self.of_kind("shared")
+        if not shared:
+            return False
+        name = self.name_of(self.rng.choice(shared))
+        if self.rng.random() < 0.5:
+            self.emit(name, "=", *self.expr(), ";")
+        else:
+            term = self.expr(2)
+            self.emit("atomic", name, "=", self.chance(name, [self.any_name()]), "+", *(term if len(term) < 3 else ["(", *term, ")"]), ";")
+        self.spend(1)
+        return True
+
+    def show(self) -> bool:
+        self.emit("Console", ".", "OUT", ".", "println", "(", *self.expr(), ")", ";")
+        self.spend(1)
+        return True
+
+    def advance(self) -> bool:
+        self.emit("Clock", ".", "advanceAll", "(", ")", ";")
+        self.unit.clocks = {known: frozenset("l" if way == "r" else way for way in ways) for known, ways in self.unit.clocks.items()}
+        self.spend(2)
+        return True
+
+    def resume(self) -> bool:
+        held = self.held()
+        if held:
+            self.use(self.rng.choice(held), "resume")
+        return bool(held)
+
+    def drop(self) -> bool:
+        held = [known for known in self.held() if self.unit.kind != "method" or not known.lent or self.risks()]
+        if held and self.rng.random() < 0.5:
+            self.use(self.rng.choice(held), "drop")
+            return True
+        return False
+
+    def at_home(self) -> list[Known]:
+        return [known for known in self.held() if known.home == self.unit.block or self.risks()]
+
+    def call(self) -> bool:
+        at_home = self.at_home()
+        fits = [
+            method
+            for method in self.methods
+            if method.params.count("c") <= len(at_home)
+            and self.steps + self.times * method.steps <= self.budget
+            and self.activities + self.times * method.activities <= self.places
+        ]
+        if not fits:
+            return False
+        method = self.rng.choice(fits)
+        clocks = self.rng.sample(at_home, method.params.count("c"))
+        lent, arguments = list(clocks), []
+        for letter in self.chance(method.params, ["", "n", "c", "cc"]):
+            arguments.append([self.name_of(clocks.pop())] if letter == "c" and clocks else self.expr(1))
+        self.emit(self.name_of(method), "(", *self.listed(arguments), ")", ";")
+        self.steps += self.times * (1 + method.steps)
+        self.activities += self.times * method.activities
+        for known, ways in self.unit.clocks.items():
+            if known in lent or "r" in ways and ways <= HELD:
+                self.unit.clocks[known] = HELD
+        return True
+
+    def start(self) -> bool:
+        if self.activities + self.times > self.places:
+            return False
+        at_home = self.at_home()
+        clocks = self.rng.sample(at_home, self.rng.randint(1, len(at_home))) if at_home and self.rng.random() < 0.85 else []
+        self.emit("async")
+        if clocks:
+            names = [[self.name_of(known)] for known in clocks]
+            self.emit("clocked", "(", *self.listed(names + ([self.rng.choice(names)] if self.slips() else [])), ")")
+        outer, self.unit = self.unit, Unit("body", {known: HELD for known in clocks})
+        # At home in the whole unit, whatever finish they were made in further out.
+        homes = {known: known.home for known in clocks}
+        for known in clocks:
+            known.home = 0
+        self.activities += self.times
+        self.spend(2)
+        self.inner(self.rng.randint(0, self.length))
+        self.unit = outer
+        for known, home in homes.items():
+            known.home = home
+        return True
+
+    def loop(self) -> bool:
+        """A loop whose body is written anew, with more ways to stand on a clock at its beginning, as long as it ends with others than it began with."""
+        turns = self.rng.choice([0, 1, 1, 2, 2, 3])
+        if self.times * max(1, turns) > 12:
+            return False
+        low = self.rng.choice([0, 1, 1, -2, -(2**63), 2**63 - 3])
+        bounds = [*self.written(low), "..", *self.written(low + turns - 1 if low + turns - 1 >= -(2**63) else low)]
+        begin, spent, count = len(self.tokens), (self.steps, self.activities), self.rng.randint(0, 3)
+        entry = dict(self.unit.clocks)
+        for attempt in range(5):
+            del self.tokens[begin:]
+            (self.steps, self.activities), self.unit.clocks = spent, dict(entry)
+            times, self.times = self.times, self.times * max(1, turns)
+            with self.scope():
+                known = self.declared("fixed", self.unit)
+                self.emit("for", "(", known.name, "in", *bounds, ")")
+                self.inner(count) if attempt < 4 else self.emit(";")
+                self.spend(2)
+            self.times = times
+            if all(self.unit.clocks[known] <= ways for known, ways in entry.items()):
+                break
+            entry = {known: ways | self.unit.clocks[known] for known, ways in entry.items()}
+        return True
+
+    def written(self, number: int) -> Tokens:
+        return ["-", str(-number)] if number < 0 else [str(number)]
+
+    def branch(self) -> bool:
+        self.emit("if", "(", *self.expr(2), self.rng.choice(COMPARISONS), *self.expr(2), ")")
+        self.spend(2)
+        before = dict(self.unit.clocks)
+        self.inner(self.rng.randint(0, 2))
+        if self.rng.random() < 0.5:
+            after, self.unit.clocks = self.unit.clocks, dict(before)
+            self.emit("else")
+            self.inner(self.rng.randint(0, 2))
+            before = after
+        self.unit.clocks = {known: ways | before[known] for known, ways in self.unit.clocks.items()}
+        return True
+
+    def finish(self) -> bool:
+        outer = self.unit.block
+        self.unit.blocks += 1
+        self.unit.block = self.unit.blocks
+        self.emit("finish")
+        self.spend(2)
+        self.block(self.rng.randint(0, 4))
+        self.unit.block = outer
+        return True
+
+    def nested(self) -> bool:
+        if self.rng.random() < 0.2:
+            self.emit(";")
+        else:
+            self.block(self.rng.randint(0, 3))
+        return True
+
+
+def program(rng: random.Random) -> Tokens:
+    return Writer(rng).program()
+
+
+# Programs with something wrong in them.
+
+
+def is_name(token: str) -> bool:
+    return (token[:1].isalpha() or token[:1] == "_") and token not in RESERVED
+
+
+def misnamed(rng: random.Random, tokens: Tokens) -> Tokens:
+    """Another name at one place, or one name for another everywhere behind a place."""
+    tokens = list(tokens)
+    places = [at for at, token in enumerate(tokens) if is_name(token)]
+    if places:
+        at = rng.choice(places)
+        name = tokens[rng.choice(places)] if rng.random() < 0.8 else rng.choice(NAMES)
+        if rng.random() < 0.7:
+            tokens[at] = name
+        else:
+            old = tokens[at]
+            tokens = tokens[:at] + [name if token == old else token for token in tokens[at:]]
+    return tokens
+
+
+def statements(tokens: Tokens) -> list[tuple[int, int]]:
+    """Where the statements without others in them begin and end."""
+    found, begin = [], 0
+    for at, token in enumerate(tokens):
+        if token in ("{", "}"):
+            begin = at + 1
+        elif token == ";":
+            found.append((begin, at + 1))
+            begin = at + 1
+    return [(begin, end) for begin, end in found if tokens[begin] not in ("shared", "else")]
+
+
+def starts(tokens: Tokens) -> list[int]:
+    """Where statements begin."""
+    return [at for at in range(1, len(tokens)) if tokens[at - 1] in (";", "{", "}") and tokens[at] not in ("}", "def", "else", "shared")]
+
+
+def restated(rng: random.Random, tokens: Tokens) -> Tokens:
+    """A statement more, or one less, or one at another place, or in another one."""
+    for _ in range(rng.choice([1, 1, 1, 2])):
+        places = statements(tokens)
+        if not places:
+            return tokens
+        begin, end = rng.choice(places)
+        to = rng.choice(rng.choice(places))
+        piece = tokens[begin:end]
+        way = rng.randrange(5)
+        if way == 0:
+            tokens = tokens[:begin] + tokens[end:]
+        elif way == 1:
+            tokens = tokens[:to] + piece + tokens[to:]
+        elif way == 2 and not begin < to < end:
+            rest = tokens[:begin] + tokens[end:]
+            to -= len(piece) if to >= end else 0
+            tokens = rest[:to] + piece + rest[to:]
+        else:
+            begin = rng.choice(starts(tokens))
+            forms = [["async"], ["async"], ["finish"], ["finish"], ["if", "(", "1", "<", "2", ")"], ["for", "(", "i9", "in", "1", "..", "2", ")"], ["for", "(", "i9", "in", "1", "..", "0", ")"]]
+            tokens = tokens[:begin] + rng.choice(forms) + tokens[begin:]
+    return tokens
+
+
+def recursive(rng: random.Random, tokens: Tokens) -> Tokens:
+    """A call of some method at some place, with what it takes as often as not."""
+    heads = [at for at, token in enumerate(tokens) if token == "def" and at + 1 < len(tokens)]
+    places = statements(tokens)
+    if not heads or not places:
+        return tokens
+    head = rng.choice(heads)
+    letters = []
+    for token in tokens[head : tokens.index("{", head)]:
+        letters += [token] if token in ("Clock", "Long") else []
+    clocks = [tokens[at - 2] for at, token in enumerate(tokens) if token == "Clock" and at > 1 and tokens[at - 1] in (":", "=")]
+    arguments = [rng.choice(clocks) if letter == "Clock" and clocks else "1" for letter in letters]
+    if rng.random() < 0.1:
+        arguments = arguments[1:] if arguments and rng.random() < 0.5 else [*arguments, "1"]
+    at = rng.choice(rng.choice(places))
+    listed = [token for number, argument in enumerate(arguments) for token in ([","] if number else []) + [argument]]
+    return tokens[:at] + [tokens[head + 1], "(", *listed, ")", ";"] + tokens[at:]
+
+
+def some_token(rng: random.Random, tokens: Tokens) -> str:
+    way = rng.random()
+    if way < 0.5 and tokens:
+        return rng.choice(tokens)
+    return rng.choice(rng.choice([RESERVED, SIGNS, LITERALS, NAMES, ["#", "!", "&", "\u00e9", "/*", "//", "/**/", "'"]]))
+
+
+def jumbled(rng: random.Random, tokens: Tokens) -> Tokens:
+    """A few tokens replaced, put in, dropped, doubled or moved."""
+    tokens = list(tokens)
+    for _ in range(rng.choice([1, 1, 1, 2, 3])):
+        at = rng.randrange(len(tokens) + 1)
+        far = min(len(tokens), at + rng.choice([1, 1, 1, 2, 3, 6, 20]))
+        way = rng.randrange(6)
+        if way == 0:
+            tokens[at : at + 1] = [some_token(rng, tokens)]
+        elif way == 1:
+            tokens.insert(at, some_token(rng, tokens))
+        elif way == 2:
+            del tokens[at:far]
+        elif way == 3:
+            tokens[at:at] = tokens[at:far]
+        elif way == 4:
+            piece, rest = tokens[at:far], tokens[:at] + tokens[far:]
+            to = rng.randrange(len(rest) + 1)
+            tokens = rest[:to] + piece + rest[to:]
+        elif rng.random() < 0.3:
+            del tokens[at:]
+    return tokens
+
+
+def digits_changed(rng: random.Random, tokens: Tokens) -> Tokens:
+    """A number that is another one, perhaps none at all."""
+    places = [at for at, token in enumerate(tokens) if token[:1].isdigit()]
+    if not places:
+        return tokens
+    at = rng.choice(places)
+    return tokens[:at] + [rng.choice(LITERALS)] + tokens[at + 1 :]
+
+
+def soup(rng: random.Random) -> Tokens:
+    """Tokens in any order, in a method or alone."""
+    tokens = [some_token(rng, []) for _ in range(rng.randint(0, 12))]
+    return ["def", "main", "(", ")", "{", *tokens, "}"] if rng.random() < 0.8 else tokens
+
+
+# Programs at the limits.
+
+
+def main_of(*tokens: str) -> Tokens:
+    return ["def", "main", "(", ")", "{", *tokens, "}"]
+
+
+def near(rng: random.Random, limit: int) -> int:
+    return limit + rng.choice([-1, 0, 0, 1, 1, 2])
+
+
+def deep(rng: random.Random) -> Tokens:
+    """Statements, parentheses and negations in one another, about as many as there may be."""
+    left, opened, closed = near(rng, 64), [], []
+    outer = rng.choice([0, 10, left - 2, left - 1, left])
+    for _ in range(max(0, min(outer, left))):
+        way = rng.randrange(6)
+        forms = [["{"], ["finish"], ["async"], ["if", "(", "1", "<", "2", ")"], ["for", "(", f"i{len(closed)}", "in", "1", "..", "1", ")"], ["if", "(", "1", "==", "2", ")", ";", "else"]]
+        opened += forms[way]
+        closed.append("}" if way == 0 else "")
+    left -= len(closed)
+    inner: Tokens = [";"] if rng.random() < 0.5 else ["Console", ".", "OUT", ".", "println", "("]
+    if inner != [";"]:
+        ends: Tokens = []
+        for _ in range(max(0, left - 1)):
+            if rng.random() < 0.5:
+                inner.append("(")
+                ends.insert(0, ")")
+            else:
+                inner.append("-")
+        inner += ["v" if inner[-1] == "-" and rng.random() < 0.5 else "1", *ends, ")", ";"]
+    declared = ["val", "v", "=", "1", ";"] if rng.random() < 0.7 else []
+    return main_of(*declared, *opened, *inner, *(token for token in reversed(closed) if token))
+
+
+def long_expr(rng: random.Random) -> Tokens:
+    """About as many operators as there may be, with parentheses here and there."""
+    expr: Tokens = ["1"]
+    for _ in range(near(rng, 64)):
+        way = rng.random()
+        operator, one = rng.choice("+-*"), rng.choice(["2", "x", "7"])
+        if way < 0.6:
+            expr += [operator, one]
+        elif way < 0.8:
+            expr = ["(", *expr, ")", operator, one] if rng.random() < 0.3 else [one, operator, *expr]
+        else:
+            expr = [*expr, operator, "(", "-", "x", ")"] if rng.random() < 0.5 else [*expr, operator, "-", "3"]
+    way = rng.randrange(4)
+    if way == 0:
+        return ["def", "f", "(", "a", ":", "Long", ",", "b", ":", "Long", ")", "{", "}", *main_of("val", "x", "=", "1", ";", "f", "(", *expr, ",", *expr, ")", ";")]
+    if way == 1:
+        return main_of("val", "x", "=", "1", ";", "if", "(", *expr, rng.choice(COMPARISONS), *expr, ")", ";")
+    if way == 2:
+        term = [token for token in expr if token not in "+-()"]
+        return ["shared", "s", "=", "0", ";", *main_of("val", "x", "=", "1", ";", "atomic", "s", "=", "s", "+", *[one for token in term for one in ([token] if token != "*" else [])][:1], *["*", "x"] * near(rng, 64), ";")]
+    return main_of("val", "x", "=", "1", ";", "Console", ".", "OUT", ".", "println", "(", *expr, ")", ";")
+
+
+def many(rng: random.Random) -> Tokens:
+    """As many units, slots, instructions, shared numbers, arguments, steps or activities as there may be, or about."""
+    way = rng.randrange(9)
+    if way == 0:
+        count = near(rng, 1023)
+        return main_of(*(token for _ in range(count) for token in rng.choice([["async", ";"], ["async", "{", "}"]])))
+    if way == 1:
+        count = near(rng, 1023)
+        defined = [["def", f"m{number}", "(", ")", "{", "}"] for number in range(count)]
+        calls = [[f"m{number}", "(", ")", ";"] for number in range(count)]
+        rng.shuffle(calls)
+        parts = [*defined, main_of(*(token for one in calls for token in one))]
+        if rng.random() < 0.5:
+            rng.shuffle(parts)
+        return [token for part in parts for token in part]
+    if way == 2:
+        names = [f"x{number}" for number in range(near(rng, 64) - rng.choice([0, 0, 1, 2]))]
+        body = [token for name in names for token in ("val", name, "=", "1", ";")]
+        return main_of(*body, *rng.choice([[], ["Console", ".", "OUT", ".", "println", "(", "1", ")", ";"], ["if", "(", "1", "<", "2", ")", ";"]]))
+    if way == 3:
+        body = ["val", "x", "=", "1", ";", *["Console", ".", "OUT", ".", "println", "(", "x", ")", ";"] * near(rng, 4094)]
+        return main_of(*body) if rng.random() < 0.5 else main_of("async", "{", *body, "}")
+    if way == 4:
+        count = near(rng, 256)
+        return [token for number in range(count) for token in ("shared", f"s{number}", "=", "1", ";")] + main_of()
+    if way == 5:
+        count = near(rng, 64)
+        params = [[f"a{number}", ":", "Long"] for number in range(count)]
+        method = ["def", "f", "(", *[token for number, part in enumerate(params) for token in ([","] if number else []) + part], ")", "{", "}"]
+        call = ["f", "(", *[token for number in range(count) for token in ([","] if number else []) + ["x"]], ")", ";"]
+        parts = [method, main_of("val", "x", "=", "1", ";", *call)]
+        rng.shuffle(parts)
+        return parts[0] + parts[1]
+    if way == 6:
+        bounds = rng.choice([["1", "..", "999999998"], ["1", "..", "999999999"], ["-", "9223372036854775808", "..", "9223372036854775807"], ["5", "..", "4"]])
+        return main_of("for", "(", "i", "in", *bounds, ")", ";")
+    if way == 7:
+        return main_of("for", "(", "i", "in", "1", "..", str(rng.choice([99_998, 99_999, 100_000])), ")", *rng.choice([["async", ";"], ["{", "val", "c", "=", "Clock", ".", "make", "(", ")", ";", "c", ".", "drop", "(", ")", ";", "}"]]))
+    count = rng.choice([10, 300, 1100])
+    chain = [token for number in range(count) for token in ("def", f"m{number}", "(", ")", "{", f"m{number + 1}", "(", ")", ";", "}")]
+    last = ["def", f"m{count}", "(", ")", "{", *rng.choice([[], [], [f"m{rng.randrange(count)}", "(", ")", ";"]]), "}"]
+    return chain + last + main_of(f"m{rng.randrange(count)}", "(", ")", ";")
+
+
+# Texts.
+
+COMMENTS = ["/* */", "/**/", "/*/*/", "// c\n", "//\n", "/* \u00e9\n */", "// \u2192 */ /*\n"]
+
+
+def laid_out(rng: random.Random, tokens: Tokens) -> str:
+    """The tokens with blanks between them: as few as may be, one each, or of all sorts."""
+    style = rng.choice(["plain", "plain", "tight", "odd"])
+    parts: list[str] = []
+    for before, token in zip(["", *tokens], tokens):
+        needs = before and (before[-1].isalnum() or before[-1] == "_") and (token[0].isalnum() or token[0] == "_")
+        if style == "plain":
+            gap = "\n" if before in (";", "{", "}") else "" if token in ";,()." or before in (".", "(") and not needs else " "
+        elif style == "tight":
+            gap = ""
+        else:
+            gap = rng.choice(["", "", " ", " ", "\n", "\t", "\r\n", "  ", *COMMENTS])
+        parts += [gap or (" " if needs else ""), token]
+    return "".join(parts) + rng.choice(["", "", "\n", " // end", " /* end */"])
+
+
+def text_of(rng: random.Random, tokens: Tokens) -> bytes:
+    return laid_out(rng, tokens).encode()
+
+
+SPOILS = [bytes([sign]) for sign in b"09-./*=<>!(){},;:+# \t\r\x0b\x00\xff"] + [b"/*", b"*/", b"//", b"..", b"==", b"\xc3\xa9", b"\xe2\x82", b"\xef\xbb\xbf", b"\n"]
+
+
+def very_long(rng: random.Random) -> bytes:
+    """A text about as long as a text may be."""
+    text = text_of(rng, program(rng))
+    blanks = rng.choice([b" ", b"\n", b"/", b"/* */ "])
+    if blanks == b"/":
+        text += b"\n/"
+    fill = (blanks * 1_048_576)[: 1_048_576 - len(text) + rng.choice([-1, 0, 0, 1, 5])]
+    return text + fill if rng.random() < 0.6 or blanks == b"/" else fill + text
+
+
+# Cases.
+
+
+def case(rng: random.Random, seeds: list[bytes]) -> bytes:
+    """One text, of whatever sort."""
+    way = rng.random()
+    if way < 0.42:
+        return text_of(rng, program(rng))
+    if way < 0.53:
+        return text_of(rng, misnamed(rng, program(rng)))
+    if way < 0.64:
+        return text_of(rng, restated(rng, program(rng)))
+    if way < 0.67:
+        return text_of(rng, recursive(rng, program(rng)))
+    if way < 0.75:
+        return text_of(rng, jumbled(rng, program(rng)))
+    if way < 0.77:
+        return text_of(rng, soup(rng))
+    if way < 0.83:
+        return text_of(rng, rng.choice([deep, deep, long_expr, long_expr, many])(rng))
+    if way < 0.831:
+        return very_long(rng)
+    seed = rng.choice(seeds) if rng.random() < 0.5 else text_of(rng, program(rng))
+    if way < 0.89:
+        return text_of(rng, digits_changed(rng, program(rng)))
+    return generated.changed_bytes(rng, seed, SPOILS) if seed else b" "

@@ -1,0 +1,52 @@
+#!/usr/bin/env python3
+"""Answers as x10clock does, by the second telling: so that scripts, pages and transcripts can be tried without the built program.
+
+    X10CLOCK=tests/told.py sh tests/answers.sh tests/answers/sources.rows
+
+It knows `check`, `compile` and `run`, and none of clap's texts.
+"""
+
+from __future__ import annotations
+
+import argparse
+import pathlib
+import sys
+
+import telling
+import telling_source
+from telling import Order, Refused
+
+TOO_LONG = 100_000
+
+
+def words() -> argparse.Namespace:
+    parser = argparse.ArgumentParser(prog="x10clock", allow_abbrev=False)
+    commands = parser.add_subparsers(dest="command", required=True)
+    for name in ("check", "compile", "run"):
+        command = commands.add_parser(name, allow_abbrev=False)
+        command.add_argument("file")
+        if name != "compile":
+            command.add_argument("--module", action="store_true")
+        if name == "run":
+            command.add_argument("--order", choices=[order.value for order in Order], default="first")
+    return parser.parse_args()
+
+
+def main() -> int:
+    given = words()
+    try:
+        data = sys.stdin.buffer.read() if given.file == "-" else pathlib.Path(given.file).read_bytes()
+    except OSError:
+        print("x10clock: device", file=sys.stderr)
+        return 5
+    if given.command == "compile":
+        return telling_source.answer_compile(data)
+    judged = telling.judge(data) if given.module else telling_source.judge(data)
+    if given.command == "run" and not isinstance(judged, Refused) and judged.bounds.steps > TOO_LONG:
+        print("told: too many steps for a run in Python", file=sys.stderr)
+        return 9
+    return telling.answer(given.command, judged, [given.order] if given.command == "run" else [])
+
+
+if __name__ == "__main__":
+    sys.exit(main())
