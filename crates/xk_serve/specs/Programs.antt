@@ -1,5 +1,5 @@
 -- What program the bytes of FILE give: a module, or why there is none.
-use Rattle.std.specs.Prelude.{◌≡◌, ◌<◌, ◌≤◌, ◌⊎◌, ℕ, ⊤, List, length, IsUtf8}
+use Rattle.std.specs.Prelude.{◌≡◌, ◌≢◌, ◌<◌, ◌≤◌, ◌⊎◌, ℕ, ⊤, List, length, IsUtf8}
 use Rattle.std.specs.Str.{IsValidUpTo}
 use Rattle.xk_types.specs.Code.{ModuleValue, IsWithinLimits}
 use Rattle.xk_module.specs.ModuleText.{IsJson, IsModuleText}
@@ -42,9 +42,9 @@ IsTooLong bytes f = (longest_source < length bytes) × (f.rule ≡ rule.TooLong)
 abbrev pub IsNotUtf8 : List ℕ → FrontFault → Type 0
 IsNotUtf8 bytes f = (length bytes ≤ longest_source) × (f.rule ≡ rule.Token) × IsValidUpTo bytes f.at
 
--- some fault of the parser's: the bytes are UTF-8, not too many, and spell no tree
+-- a fault of the parser's: the bytes are UTF-8, not too many, and spell no tree
 abbrev pub SpellsNone : List ℕ → FrontFault → Type 0
-SpellsNone bytes f = (length bytes ≤ longest_source) × IsUtf8 bytes × ((tree : TreeValue) → ¬ SpellsTree bytes tree)
+SpellsNone bytes f = (length bytes ≤ longest_source) × IsUtf8 bytes × ((tree : TreeValue) → ¬ SpellsTree bytes tree) × (f.rule ≢ rule.TooLong)
 
 -- a fault of the tree that they spell
 abbrev pub SpellsFaulty : List ℕ → FrontFault → Type 0

@@ -48,11 +48,11 @@ pub(crate) fn read_front<R: Source>(
     let mut piece = [0u8; PIECE];
     while found.len() < most {
         let wanted = PIECE.min(most - found.len());
-        let count = source.read(&mut piece[..wanted])?;
-        if count == 0 {
+        let read = source.read(&mut piece[..wanted])?;
+        if read == 0 {
             return Ok(found);
         }
-        found.extend_from_slice(&piece[..count])?;
+        found.extend_from_slice(&piece[..read])?;
     }
     Ok(found)
 }
