@@ -1,1 +1,4 @@
 pub mod Falling
+pub mod Marks
+pub mod Places
+pub mod Waiting

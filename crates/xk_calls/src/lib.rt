@@ -1,7 +1,9 @@
-//! Calls among methods: whether one is recursive, and numbers in the order of calls.
+//! Calls among methods: whether one is recursive, and numbers and places in the order of calls.
 #![tactic(auto)]
 
 mod numbers;
+mod order;
 mod search;
 
 pub use numbers::{CallPlace, numbers_by_calls, numbers_in_order};
+pub use order::order_from;

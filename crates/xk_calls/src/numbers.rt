@@ -16,7 +16,7 @@ pub struct CallPlace {
 }
 
 /// Whom a method calls.
-fn called_by(calls: &[Vec<usize>], i: usize) -> &[usize]
+pub(crate) fn called_by(calls: &[Vec<usize>], i: usize) -> &[usize]
     requires { i < length calls.now }
     ensures { result.now ≡ called_by (rows calls.now) i }
 {

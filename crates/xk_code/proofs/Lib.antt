@@ -3,3 +3,4 @@ pub mod Scopes
 pub mod Patched
 pub mod Slots
 pub mod Made
+pub mod Shape

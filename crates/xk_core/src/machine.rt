@@ -33,7 +33,10 @@ impl<'m> Model for Core<'m> {
 
     ghost Value = { CoreValue };
 
-    ghost view = { λ c. record { module_run = c.verified.now; world = with_finishes c.finishes c.state } };
+    ghost view = { λ c. record {
+      module_run = c.verified.now;
+      world = with_finishes c.finishes c.state;
+    } };
 
     ghost invariant = { λ c. IsCore c.verified.now (with_finishes c.finishes c.state)
         × AreTold c.verified.now c.finishes c.state.activities };

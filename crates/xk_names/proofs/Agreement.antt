@@ -16,12 +16,12 @@ use Rattle.xk_names.specs.Collected.{put, put_all, put_text, put_texts, put_meth
 abbrev pub FindsSame : {A : Type 0} → Table A → Table A → Type 0
 FindsSame a b = (x : List ℕ) → find a x ≡ find b x
 
-abbrev or_entry : {A : Type 0} → Option A → Bool → A → Option A
+abbrev pub or_entry : {A : Type 0} → Option A → Bool → A → Option A
 or_entry None b a = cond b (Some a) None
 or_entry (Some j) b a = Some j
 
 -- behind one entry more
-find_behind : {A : Type 0} (table : Table A) (y : List ℕ) (a : A) (x : List ℕ) → find (table ++ (y, a) ∷ []) x ≡ or_entry (find table x) (is_text x y) a
+pub find_behind : {A : Type 0} (table : Table A) (y : List ℕ) (a : A) (x : List ℕ) → find (table ++ (y, a) ∷ []) x ≡ or_entry (find table x) (is_text x y) a
 find_behind [] y a x = refl
 find_behind {A} (e ∷ es) y a x = go (is_text x e.0) (find_behind es y a x)
   where
@@ -75,7 +75,7 @@ or_false : (b : Bool) → (b || false) ≡ b
 or_false true = refl
 or_false false = refl
 
-has_behind : (ts : List (List ℕ)) (y x : List ℕ) → has (ts ++ y ∷ []) x ≡ (has ts x || is_text x y)
+pub has_behind : (ts : List (List ℕ)) (y x : List ℕ) → has (ts ++ y ∷ []) x ≡ (has ts x || is_text x y)
 has_behind [] y x = or_false (is_text x y)
 has_behind (t ∷ ts) y x = go (is_text x t) (has_behind ts y x)
   where
@@ -83,7 +83,7 @@ has_behind (t ∷ ts) y x = go (is_text x t) (has_behind ts y x)
     go true h = refl
     go false h = h
 
-has_put : (ts : List (List ℕ)) (y x : List ℕ) → has (put_text ts y) x ≡ (has ts x || is_text x y)
+pub has_put : (ts : List (List ℕ)) (y x : List ℕ) → has (put_text ts y) x ≡ (has ts x || is_text x y)
 has_put ts y x = go (has ts y) refl
   where
     there : (c : Bool) → has ts x ≡ c → has ts y ≡ true → (b : Bool) → is_text x y ≡ b → c ≡ (c || b)

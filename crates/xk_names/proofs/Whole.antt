@@ -19,24 +19,24 @@ use Rattle.xk_names.proofs.Walked.{held_among, listed_among, among_once}
 
 -- ---- lists of declarations
 
-append_step : {A : Type 0} (xs : List A) (y : A) (ys : List A) → xs ++ y ∷ ys ≡ (xs ++ y ∷ []) ++ ys
+pub append_step : {A : Type 0} (xs : List A) (y : A) (ys : List A) → xs ++ y ∷ ys ≡ (xs ++ y ∷ []) ++ ys
 append_step [] y ys = refl
 append_step (x ∷ xs) y ys = ap (λ r. x ∷ r) (append_step xs y ys)
 
-append_empty : {A : Type 0} (xs : List A) → xs ++ [] ≡ xs
+pub append_empty : {A : Type 0} (xs : List A) → xs ++ [] ≡ xs
 append_empty [] = refl
 append_empty (x ∷ xs) = ap (λ r. x ∷ r) (append_empty xs)
 
-append_entries : (ds es : List Declaration) → entries (ds ++ es) ≡ entries ds ++ entries es
+pub append_entries : (ds es : List Declaration) → entries (ds ++ es) ≡ entries ds ++ entries es
 append_entries [] es = refl
 append_entries (d ∷ ds) es = ap (λ r. entry d ∷ r) (append_entries ds es)
 
-append_signatures : (ds es : List MethodValue) → signatures (ds ++ es) ≡ signatures ds ++ signatures es
+pub append_signatures : (ds es : List MethodValue) → signatures (ds ++ es) ≡ signatures ds ++ signatures es
 append_signatures [] es = refl
 append_signatures (d ∷ ds) es = ap (λ r. signature d ∷ r) (append_signatures ds es)
 
 -- a name is found where it is among the names
-names_found : (ds : List Declaration) (x : List ℕ) → is_some (find (entries ds) x) ≡ has (texts (map (λ d. d.name) ds)) x
+pub names_found : (ds : List Declaration) (x : List ℕ) → is_some (find (entries ds) x) ≡ has (texts (map (λ d. d.name) ds)) x
 names_found [] x = refl
 names_found (d ∷ ds) x = go (is_text x d.name.text) (names_found ds x)
   where
@@ -45,7 +45,7 @@ names_found (d ∷ ds) x = go (is_text x d.name.text) (names_found ds x)
     go true h = refl
     go false h = h
 
-methods_found : (ms : List MethodValue) (x : List ℕ) → is_some (find (signatures ms) x) ≡ has (texts (map (λ m. m.name) ms)) x
+pub methods_found : (ms : List MethodValue) (x : List ℕ) → is_some (find (signatures ms) x) ≡ has (texts (map (λ m. m.name) ms)) x
 methods_found [] x = refl
 methods_found (m ∷ ms) x = go (is_text x m.name.text) (methods_found ms x)
   where

@@ -5,3 +5,4 @@ pub mod Faults
 pub mod Collected
 pub mod Given
 pub mod Scoped
+pub mod Captures

@@ -27,7 +27,7 @@ pub struct Argument<'a, 't> {
 }
 
 // The arguments beside the kinds of their parameters, as far as both go.
-fn arguments<'a, 't>(
+pub fn arguments<'a, 't>(
     alloc: Global,
     params: &[Param<'t>],
     values: &'a [Expr<'t>],

@@ -6,6 +6,7 @@ mod check;
 mod exprs;
 mod known;
 mod methods;
+mod outer;
 mod program;
 mod scope;
 mod statement;
@@ -13,5 +14,7 @@ mod table;
 mod worst;
 
 pub use known::{Kind, Known, Want};
-pub use program::check_names;
+pub use methods::Methods;
+pub use outer::captures;
+pub use program::{check_names, methods_of};
 pub use table::Table;

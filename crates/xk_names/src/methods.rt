@@ -11,7 +11,7 @@ use std::alloc::{AllocError, Global};
 use std::marker::Model;
 use xk_tree::Param;
 
-// The parameters of methods, by the methods' names.
+/// The parameters of methods, by the methods' names.
 #[derive(Drop)]
 pub struct Methods<'a, 't> {
     params: Table<'t, &'a [Param<'t>]>,
@@ -24,7 +24,7 @@ impl<'a, 't> Model for Methods<'a, 't> {
 }
 
 impl<'a, 't> Methods<'a, 't> {
-    pub fn new(alloc: Global) -> Self
+    pub(crate) fn new(alloc: Global) -> Self
         ensures { result ≡ [] }
     {
         Methods {
@@ -32,7 +32,7 @@ impl<'a, 't> Methods<'a, 't> {
         }
     }
 
-    // The parameters of the first method of the name.
+    /// The parameters of the first method of the name.
     pub fn find(&self, name: &'t [u8]) -> Option<&'a [Param<'t>]>
         ensures { option_map (λ ps. map param_value ps.now) result ≡ find self.now name.now }
     {
@@ -40,7 +40,7 @@ impl<'a, 't> Methods<'a, 't> {
     }
 
     // Adds a method, unless one of its name is there.
-    pub fn put(&mut self, name: &'t [u8], params: &'a [Param<'t>]) -> Result<(), AllocError>
+    pub(crate) fn put(&mut self, name: &'t [u8], params: &'a [Param<'t>]) -> Result<(), AllocError>
         ensures { OnOk result (self.new ≡ put self.old name.now (map param_value params.now)) }
     {
         self.params.put(name, params)?;

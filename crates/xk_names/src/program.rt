@@ -6,6 +6,7 @@ ghost use Rattle.std.specs.List.{flat_map};
 ghost use Rattle.xk_names.specs.Scope.{declared, find};
 ghost use Rattle.xk_names.specs.Faults.{HasFault, IsReported, param_declaration, param_kind, shared_declaration};
 ghost use Rattle.xk_names.specs.Scoped.{IsScoped};
+ghost use Rattle.xk_names.specs.Uses.{signatures};
 ghost use Rattle.xk_names.specs.Collected.{again, declared_again, least, method_faults, methods_again, name_faults, put_methods, with_declared};
 
 use crate::check::check_block;
@@ -81,7 +82,7 @@ fn declare_params<'t>(
 }
 
 // The methods by their names.
-fn methods_of<'a, 't>(
+fn first_methods<'a, 't>(
     alloc: Global,
     worst: &mut Option<FrontFault>,
     methods: &'a [Method<'t>],
@@ -97,6 +98,17 @@ fn methods_of<'a, 't>(
         found.put(method.name.text, method.params.as_slice())?;
     }
     Ok(found)
+}
+
+/// The methods of a tree by their names, the first where two have one name.
+pub fn methods_of<'a, 't>(alloc: Global, tree: &'a Tree<'t>) -> Result<Methods<'a, 't>, AllocError>
+    ensures methods { IfOk result (λ ms. ms ≡ put_methods [] (tree_value tree.now).methods) }
+    ensures scoped { IsScoped (tree_value tree.now)
+        → IfOk result (λ ms. ms ≡ signatures (tree_value tree.now).methods) }
+{
+    let mut worst = None;
+    let methods = first_methods(alloc, &mut worst, tree.methods.as_slice())?;
+    Ok(methods)
 }
 
 // A method's parameters and body.
@@ -149,7 +161,7 @@ fn least_fault<'a, 't>(
     let mut worst = None;
     let mut scope = Scope::new(alloc);
     declare_shared(&mut worst, &mut scope, tree.shared.as_slice())?;
-    let methods = methods_of(alloc, &mut worst, tree.methods.as_slice())?;
+    let methods = first_methods(alloc, &mut worst, tree.methods.as_slice())?;
     check_methods(
         alloc,
         &mut worst,

@@ -2,7 +2,9 @@
 
 ghost use Rattle.std.specs.Prelude.{◌≡◌, ℕ, List, [], map, take, length, not, OnOk, IfOk};
 ghost use Rattle.xk_names.specs.Scope.{Table as Entries, find, has};
-ghost use Rattle.xk_names.specs.Collected.{put, put_text};
+ghost use Rattle.xk_tree.specs.Tree.{Statements, Word};
+ghost use Rattle.xk_names.specs.Captures.{own_after};
+ghost use Rattle.xk_names.specs.Collected.{put, put_text, put_texts};
 
 use indexmap::{IndexMap, IndexSet};
 use std::alloc::{AllocError, Global};
@@ -93,5 +95,30 @@ impl<'t> Texts<'t> {
     {
         let new = self.keys.insert(text)?;
         Ok(new)
+    }
+
+    // How many names there are.
+    pub fn len(&self) -> usize
+        ensures { result ≡ length self.now }
+    {
+        self.keys.len()
+    }
+
+    // Forgets what was added since there were so many.
+    pub fn cut(&mut self, len: usize)
+        ensures behind { (before : List (List ℕ)) (ws : List Word) → self.old ≡ put_texts before ws
+            → len ≡ length before → self.new ≡ before }
+        ensures after { (before : List (List ℕ)) (ss : Statements) → self.old ≡ own_after before ss
+            → len ≡ length before → self.new ≡ before }
+    {
+        self.keys.truncate(len);
+    }
+
+    // The names, in the order in which they were added.
+    pub fn to_vec(&self, alloc: Global) -> Result<Vec<&'t [u8]>, AllocError>
+        ensures { IfOk result (λ names. map (λ x. x.now) names.items ≡ self.now) }
+    {
+        let names = Vec::from_slice(alloc, self.keys.as_slice())?;
+        Ok(names)
     }
 }

@@ -1,5 +1,5 @@
 -- Small texts: trees that they spell, and texts that spell none.
-use Rattle.std.proofs.Common.{ℕ, zero, suc, List, [], ◌∷◌, ◌++◌, Some, None, codes, refl, lit≤}
+use Rattle.std.proofs.Common.{◌≡◌, ℕ, zero, suc, List, [], ◌∷◌, ◌++◌, Some, None, codes, refl, lit≤}
 use Rattle.std.specs.Prelude.{pos, negsuc, replicate}
 use Rattle.xk_types.specs.declared.instr.Comparison.TheVariants as comparison
 use Rattle.xk_tokens.specs.Tokens.{keyword_of}
@@ -7,6 +7,7 @@ use Rattle.xk_tokens.specs.Pieces.{number_of}
 use Rattle.xk_tokens.specs.Lexing.{sign_of_one, sign_of_two, comment_at, piece_at, sign_at as lexed_sign_at}
 use Rattle.xk_tree.specs.declared.tree.Operator.TheVariants as operator
 use Rattle.xk_tree.specs.Tree.{Word, Expression, Literal, Named, Binary, Statements, Done, More, Block, Empty, Atomic, If, IfElse, Async, Call, Resume, Drop, MethodValue, TreeValue}
+use Rattle.xk_tree.specs.Bodies.{asyncs_of_methods}
 use Rattle.xk_exprs.specs.Readers.{turns, loop}
 use Rattle.xk_exprs.specs.Exprs.{value_of, number_at, another, chain_at, terms, sums, factor_at, whole_at, whole_term_at}
 use Rattle.xk_syntax.specs.Spelling.{SpellsTree}
@@ -110,6 +111,10 @@ unfolding sign_of_one sign_of_two comment_at piece_at lexed_sign_at number_of ke
     type_part_at source_at declare_at atomic_at advance_at print_head_at print_at call_at dotted_at assign_at named_at flat_at condition_at range_at clocks_at start_at
     stmt_head_at ahead_at stmts_at else_at rest_at stmt_at param_at method_at shared_at program_at
 one_clock = spelled_from_read _ _ (lit≤ tt) refl
+
+-- where the words `async` of `def main(){async async;async;}` stand
+three_asyncs : asyncs_of_methods (main (More (Async 11 None (Async 17 None Empty)) (More (Async 23 None Empty) Done)) ∷ []) ≡ 11 ∷ 17 ∷ 23 ∷ []
+three_asyncs = refl
 
 no_clock : SpellsNone (codes "def main(){async clocked();}")
 unfolding sign_of_one sign_of_two comment_at piece_at lexed_sign_at number_of keyword_of turns loop value_of number_at another chain_at terms sums factor_at whole_at

@@ -8,3 +8,4 @@ pub mod Statements
 pub mod Programs
 pub mod Texts
 pub mod Examples
+pub mod Bodies

@@ -6,6 +6,7 @@ ghost use Rattle.xk_tree.specs.declared.fault.FrontRule.TheVariants as rule;
 ghost use Rattle.xk_tree.specs.declared.fault.FrontFault.{FrontFault as Fault};
 ghost use Rattle.xk_tree.specs.declared.fault.FrontError.TheVariants as error;
 ghost use Rattle.xk_tree.specs.Tree.{method_value, shared_value, tree_value};
+ghost use Rattle.xk_tree.specs.Bodies.{HasBodiesApart};
 ghost use Rattle.xk_exprs.specs.Marks.{marks};
 ghost use Rattle.xk_exprs.specs.Readers.{Gives};
 ghost use Rattle.xk_syntax.specs.Spelling.{SpellsTree};
@@ -144,6 +145,7 @@ pub fn parse<'t>(alloc: Global, text: &'t str) -> Result<Tree<'t>, FrontError>
         → result ≡ Err (error.Fault (record { rule = rule.TooLong; at = 0 })) }
     ensures only_too_long { (f : Fault) → result ≡ Err (error.Fault f)
         → f.rule ≡ rule.TooLong → 1048576 < length text.now }
+    ensures apart { IfOk result (λ tree. HasBodiesApart (tree_value tree)) }
 {
     let bytes = text.as_bytes();
     if bytes.len() > MAX_TEXT {

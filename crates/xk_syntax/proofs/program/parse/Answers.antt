@@ -4,6 +4,7 @@ use Rattle.xk_tokens.specs.Tokens.{token_value}
 use Rattle.xk_tokens.specs.Lexing.{lexed}
 use Rattle.xk_tree.specs.Tree.{tree_value}
 use Rattle.xk_syntax.proofs.Texts.{tree_spelled, error_refused}
+use Rattle.xk_syntax.proofs.Bodies.{bodies_apart}
 use Rattle.xk_syntax.proofs.program.parse.Goals as goal
 
 pub returns-in_err-tree-clause-none_spelled : goal.returns-in_err-tree-clause-none_spelled
@@ -18,3 +19,6 @@ returns-clause-spelled c =
     let short = subst (λ (l : List ℕ). length l ≤ 1048576) bytes c.if-bytes-gt-MAX_TEXT.false in
     let read = ap (map token_value) c.deref.ensures.value ∙ c.in_ok-tokens.ensures.read ∙ ap lexed bytes in
     tree_spelled c.args.text.now c.deref.result.now (tree_value c.in_ok-tree.tree) short read c.in_ok-tree.ensures
+
+pub returns-clause-apart : goal.returns-clause-apart
+returns-clause-apart c = bodies_apart c.args.text.now (tree_value c.in_ok-tree.tree) (returns-clause-spelled c)

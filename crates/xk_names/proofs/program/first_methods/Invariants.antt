@@ -1,7 +1,7 @@
 use Rattle.std.proofs.Common.{◌≡◌, [], drop, map}
 use Rattle.xk_tree.specs.Tree.{method_value}
 use Rattle.xk_names.specs.Collected.{least, methods_again, put_methods}
-use Rattle.xk_names.proofs.program.methods_of.Given as goal
+use Rattle.xk_names.proofs.program.first_methods.Given as goal
 
 abbrev pub invariant-loop-method : goal.invariant-loop-method
 invariant-loop-method l = record {

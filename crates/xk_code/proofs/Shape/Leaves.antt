@@ -1,0 +1,143 @@
+-- What holds of each instruction in the rows of a statement's code.
+use Rattle.std.proofs.Common.{◌≡◌, ℕ, ℤ, pos, int_le, Bool, true, false, cond, ◌+◌, List, [], ◌∷◌, ◌++◌, Option, Some, None, refl}
+use Rattle.std.specs.Option.{option_map_or}
+use Rattle.xk_types.specs.declared.instr.Instr.{Instr}
+use Rattle.xk_types.specs.declared.instr.Instr.TheVariants as instr
+use Rattle.xk_tree.specs.declared.tree.Operator.{Operator}
+use Rattle.xk_tree.specs.declared.tree.Operator.TheVariants as operator
+use Rattle.xk_tree.specs.Tree.{Word, Expression, Literal, Named, Paren, Negation, Binary, Source, Make, Value, Statement, Block, Empty, Declare, Assign, Atomic, If, IfElse, For, Async, Finish, Call, Resume, Drop, AdvanceAll, Print, Statements, Done, More}
+use Rattle.xk_names.specs.Scope.{find}
+use Rattle.xk_code.specs.CodeOf.{Scope, Setting, number_of, instr_of, slot_for, behind, eval, both, second, before_into, last_into, eval_all, last_value, code_of_source, before_assigned, last_assigned, count, declared}
+use Rattle.xk_code.proofs.Shape.Stands.{Holds, holds_both}
+use Rattle.xk_code.proofs.Shape.Nest.{Nest, Row, Loop, EachRow, nest_of, nest_of_all}
+
+-- a property of each statement that holds no other, in a unit's statements; the bodies of `async` are units of their own
+abbrev mutual
+  pub EachInside : (Statement → Type 0) → Statement → Type 0
+  EachInside Q (Block ss) = EachOf Q ss
+  EachInside Q (If at l op r s) = EachInside Q s
+  EachInside Q (IfElse at l op r s u) = EachInside Q s × EachInside Q u
+  EachInside Q (For at i lo hi s) = EachInside Q s
+  EachInside Q (Finish s) = EachInside Q s
+  EachInside Q s = Q s
+
+  pub EachOf : (Statement → Type 0) → Statements → Type 0
+  EachOf Q Done = Unit {0}
+  EachOf Q (More s ss) = EachInside Q s × EachOf Q ss
+
+-- what has a property, whatever its slots are; Q is known of each statement
+pub record Leaves (cx : Setting) (Q : Statement → Type 0) (P : Instr → Type 0) : Type 0 where
+  pub lit : (d : ℕ) (n : ℤ) → P (instr.Lit d n)
+  pub copy : (d x : ℕ) → P (instr.Copy d x)
+  pub add : (d x y : ℕ) → P (instr.Add d x y)
+  pub sub : (d x y : ℕ) → P (instr.Sub d x y)
+  pub mul : (d x y : ℕ) → P (instr.Mul d x y)
+  -- of a shared number that is found
+  pub get : (x : List ℕ) (d s : ℕ) → find cx.shared x ≡ Some s → P (instr.Get d s)
+  pub put : (x : List ℕ) (s a : ℕ) → find cx.shared x ≡ Some s → P (instr.Put s a)
+  pub add_to : (x y : Word) (at : ℕ) (e : Expression) → Q (Atomic x y at e) → (a : ℕ) → P (instr.AddTo (number_of cx.shared x) a)
+  pub print : (x : ℕ) → P (instr.Print x)
+  pub make : (d : ℕ) → P (instr.Make d)
+  pub resume : (c : ℕ) → P (instr.Resume c)
+  pub drop : (c : ℕ) → P (instr.Drop c)
+  pub advance : P instr.Advance
+  pub call : (u : ℕ) (args : List ℕ) → P (instr.Call u args)
+  pub spawn : (u : ℕ) (args : List ℕ) → P (instr.Spawn u args)
+
+module _ (cx : Setting) (Q : Statement → Type 0) (P : Instr → Type 0) (l : Leaves cx Q P) where
+  -- ---- expressions
+
+  operation : (o : Operator) (d x y : ℕ) → P (instr_of o d x y)
+  operation operator.Plus d x y = l.add d x y
+  operation operator.Minus d x y = l.sub d x y
+  operation operator.Times d x y = l.mul d x y
+
+  then_one : (xs : List Instr) (i : Instr) → Holds P xs → P i → Holds P (xs ++ i ∷ [])
+  then_one xs i h g = holds_both P xs (i ∷ []) h (g, tt)
+
+  each_eval : (scope : Scope) (t : ℕ) (e : Expression) → Holds P (eval scope t e)
+  each_eval scope t (Literal n) = (l.lit t n.value, tt)
+  each_eval scope t (Named x) = tt
+  each_eval scope t (Paren at e) = each_eval scope t e
+  each_eval scope t (Negation at e) =
+      let x = slot_for scope (t + 1) e in
+      (l.lit t (pos 0), then_one (eval scope (t + 1) e) (instr.Sub t t x) (each_eval scope (t + 1) e) (l.sub t t x))
+  each_eval scope t (Binary o a at b) =
+      let u = behind t (slot_for scope t a) in
+      let i = instr_of o t (slot_for scope t a) (slot_for scope u b) in
+      holds_both P (eval scope t a) (eval scope u b ++ i ∷ []) (each_eval scope t a)
+      (then_one (eval scope u b) i (each_eval scope u b) (operation o t (slot_for scope t a) (slot_for scope u b)))
+
+  each_both : (scope : Scope) (t : ℕ) (a b : Expression) → Holds P (both scope t a b)
+  each_both scope t a b = holds_both P (eval scope t a) (eval scope (behind t (slot_for scope t a)) b) (each_eval scope t a) (each_eval scope (behind t (slot_for scope t a)) b)
+
+  each_before : (scope : Scope) (t : ℕ) (e : Expression) → Holds P (before_into scope t e)
+  each_before scope t (Literal n) = tt
+  each_before scope t (Named x) = tt
+  each_before scope t (Paren at e) = each_before scope t e
+  each_before scope t (Negation at e) = (l.lit t (pos 0), each_eval scope (t + 1) e)
+  each_before scope t (Binary o a at b) = each_both scope t a b
+
+  its_last : (scope : Scope) (t : ℕ) (e : Expression) (d : ℕ) → P (last_into scope t e d)
+  its_last scope t (Literal n) d = l.lit d n.value
+  its_last scope t (Named x) d = l.copy d (number_of scope x)
+  its_last scope t (Paren at e) d = its_last scope t e d
+  its_last scope t (Negation at e) d = l.sub d t (slot_for scope (t + 1) e)
+  its_last scope t (Binary o a at b) d = operation o d (slot_for scope t a) (second scope t a b)
+
+  each_of_all : (scope : Scope) (t : ℕ) (es : List Expression) → Holds P (eval_all scope t es)
+  each_of_all scope t [] = tt
+  each_of_all scope t (e ∷ es) =
+      let u = behind t (slot_for scope t e) in holds_both P (eval scope t e) (eval_all scope u es) (each_eval scope t e) (each_of_all scope u es)
+
+  -- ---- values
+
+  its_value : (scope : Scope) (t : ℕ) (e : Expression) (d : ℕ) → P (last_value cx scope t e d)
+  its_value scope t (Named x) d = go (find cx.shared x.text) refl
+    where
+      go : (o : Option ℕ) → find cx.shared x.text ≡ o → P (option_map_or (λ s. instr.Get d s) o (last_into scope t (Named x) d))
+      go None h = its_last scope t (Named x) d
+      go (Some s) h = l.get x.text d s h
+  its_value scope t (Literal n) d = its_last scope t (Literal n) d
+  its_value scope t (Paren at e) d = its_last scope t (Paren at e) d
+  its_value scope t (Negation at e) d = its_last scope t (Negation at e) d
+  its_value scope t (Binary o a at b) d = its_last scope t (Binary o a at b) d
+
+  each_source : (t : ℕ) (scope : Scope) (d : ℕ) (r : Source) → Holds P (code_of_source cx t scope d r)
+  each_source t scope d (Make at v) = (l.make d, tt)
+  each_source t scope d (Value e) = then_one (before_into scope t e) (last_value cx scope t e d) (each_before scope t e) (its_value scope t e d)
+
+  each_assigned : (scope : Scope) (t : ℕ) (x : Word) (e : Expression) (o : Option ℕ) → find cx.shared x.text ≡ o
+      → Holds P (before_assigned scope t e o ++ last_assigned cx scope t x e o ∷ [])
+  each_assigned scope t x e None h =
+      then_one (before_into scope t e) (last_value cx scope t e (number_of scope x)) (each_before scope t e) (its_value scope t e (number_of scope x))
+  each_assigned scope t x e (Some s) h = then_one (eval scope t e) (instr.Put s (slot_for scope t e)) (each_eval scope t e) (l.put x.text s (slot_for scope t e) h)
+
+  -- ---- statements
+
+  mutual
+    pub rows_of : (t : ℕ) (scope : Scope) (n : ℕ) (s : Statement) → EachInside Q s → EachRow P (nest_of cx t scope n s)
+    rows_of t scope n (Block ss) h = rows_of_all t scope n ss h
+    rows_of t scope n Empty h = tt
+    rows_of t scope n (Declare b x ty r) h = each_source t scope n r
+    rows_of t scope n (Assign x e) h = each_assigned scope t x e (find cx.shared x.text) refl
+    rows_of t scope n (Atomic x y at e) h =
+        then_one (eval scope t e) (instr.AddTo (number_of cx.shared x) (slot_for scope t e)) (each_eval scope t e) (l.add_to x y at e h (slot_for scope t e))
+    rows_of t scope n (If at a op b s) h = (each_both scope t a b, rows_of t scope n s h)
+    rows_of t scope n (IfElse at a op b s u) h = (each_both scope t a b, (rows_of t scope n s h.0, rows_of t scope (n + count s) u h.1))
+    rows_of t scope n (For at i lo hi s) h = go (int_le lo.value hi.value) (nest_of cx t (scope ++ (i.text, n) ∷ []) (n + 1) s) (rows_of t (scope ++ (i.text, n) ∷ []) (n + 1) s h)
+      where
+        go : (b : Bool) (x : Nest) → EachRow P x → EachRow P (cond b (Loop n lo.value hi.value x) (Row []))
+        go true x r = r
+        go false x r = tt
+    rows_of t scope n (Async at cs s) h = (l.spawn _ _, tt)
+    rows_of t scope n (Finish s) h = rows_of t scope n s h
+    rows_of t scope n (Call f at es) h = then_one (eval_all scope t es) _ (each_of_all scope t es) (l.call _ _)
+    rows_of t scope n (Resume c v) h = (l.resume (number_of scope c), tt)
+    rows_of t scope n (Drop c v) h = (l.drop (number_of scope c), tt)
+    rows_of t scope n (AdvanceAll at v) h = (l.advance, tt)
+    rows_of t scope n (Print at v e) h = then_one (eval scope t e) (instr.Print (slot_for scope t e)) (each_eval scope t e) (l.print (slot_for scope t e))
+
+    pub rows_of_all : (t : ℕ) (scope : Scope) (n : ℕ) (ss : Statements) → EachOf Q ss → EachRow P (nest_of_all cx t scope n ss)
+    rows_of_all t scope n Done h = tt
+    rows_of_all t scope n (More s ss) h = (rows_of t scope n s h.0, rows_of_all t (declared scope n s) (n + count s) ss h.1)

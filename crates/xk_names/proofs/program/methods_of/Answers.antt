@@ -1,0 +1,11 @@
+use Rattle.std.proofs.Common.{List, [], map, ap, ◌∙◌}
+use Rattle.xk_tree.specs.declared.tree.Method.{Method}
+use Rattle.xk_tree.specs.Tree.{method_value, tree_value}
+use Rattle.xk_names.specs.Collected.{put_methods}
+use Rattle.xk_names.proofs.Called.{scoped_signatures}
+use Rattle.xk_names.proofs.program.methods_of.Goals as goal
+
+pub returns-clause-scoped : goal.returns-clause-scoped
+returns-clause-scoped c = λ scoped.
+    c.in_ok-methods.ensures.methods ∙ ap (λ (k : List Method). put_methods [] (map method_value k)) c.as_slice.ensures.value
+    ∙ scoped_signatures (tree_value c.args.tree.now) scoped

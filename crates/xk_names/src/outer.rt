@@ -1,0 +1,296 @@
+//! What the body of an `async` takes from outside.
+#![tactic(auto, using(crate::proofs::Taken::put_besides, crate::proofs::Least::put_texts_append))]
+
+ghost use Rattle.std.specs.Prelude.{◌≡◌, [], ◌∷◌, ◌++◌, map, OnOk, IfOk};
+ghost use Rattle.std.specs.List.{flat_map};
+ghost use Rattle.xk_tree.specs.Tree.{expression, expressions, shared_value, source, statement, statements, word};
+ghost use Rattle.xk_names.specs.Scope.{find};
+ghost use Rattle.xk_names.specs.Uses.{given_to};
+ghost use Rattle.xk_names.specs.Given.{arguments as given_words};
+ghost use Rattle.xk_names.specs.Captures.{argument_words, captures, number_words, outer_among, shared_texts};
+ghost use Rattle.xk_names.specs.Captures.{outer_words, own_behind, source_words, words_besides};
+ghost use Rattle.xk_names.specs.Captures.{words_used, outer_inside};
+ghost use Rattle.xk_names.specs.Collected.{put_text, put_texts};
+
+use crate::arguments::{Argument, arguments};
+use crate::methods::Methods;
+use crate::table::Texts;
+use std::alloc::{AllocError, Global};
+use xk_tree::{Expr, Name, Right, Shared, Stmt};
+use xk_types::ParamKind;
+
+// A number that is used.
+fn take<'t>(own: &Texts<'t>, out: &mut Texts<'t>, x: Name<'t>) -> Result<(), AllocError>
+    ensures { OnOk result (out.new ≡ put_texts out.old (words_besides own.now (word x.entry ∷ []))) }
+{
+    if !own.contains(x.text) {
+        let _is_new = out.put(x.text)?;
+    }
+    Ok(())
+}
+
+// The numbers of an expression.
+fn take_numbers<'t>(own: &Texts<'t>, out: &mut Texts<'t>, e: &Expr<'t>) -> Result<(), AllocError>
+    ensures { OnOk result (out.new ≡ put_texts out.old
+        (words_besides own.now (number_words (expression e.now)))) }
+{
+    match e {
+        Expr::Number(_) => Ok(()),
+        Expr::Name(x) => take(own, out, *x),
+        Expr::Paren(_, e) => take_numbers(own, out, e),
+        Expr::Negation(_, e) => take_numbers(own, out, e),
+        Expr::Binary(_, l, _, r) => {
+            take_numbers(own, out, l)?;
+            take_numbers(own, out, r)
+        }
+    }
+}
+
+// The two sides of a comparison.
+fn take_both<'t>(
+    own: &Texts<'t>,
+    out: &mut Texts<'t>,
+    l: &Expr<'t>,
+    r: &Expr<'t>,
+) -> Result<(), AllocError>
+    ensures { OnOk result (out.new ≡ put_texts out.old
+        (words_besides own.now (number_words (expression l.now) ++ number_words (expression r.now)))) }
+{
+    take_numbers(own, out, l)?;
+    take_numbers(own, out, r)?;
+    Ok(())
+}
+
+fn take_right<'t>(own: &Texts<'t>, out: &mut Texts<'t>, r: &Right<'t>) -> Result<(), AllocError>
+    ensures { OnOk result (out.new ≡ put_texts out.old
+        (words_besides own.now (source_words (source r.now)))) }
+{
+    match r {
+        Right::Make(_, _) => Ok(()),
+        Right::Expr(e) => take_numbers(own, out, e),
+    }
+}
+
+fn take_argument<'t>(
+    own: &Texts<'t>,
+    out: &mut Texts<'t>,
+    takes: ParamKind,
+    value: &Expr<'t>,
+) -> Result<(), AllocError>
+    ensures { OnOk result (out.new ≡ put_texts out.old
+        (words_besides own.now (argument_words takes (expression value.now)))) }
+{
+    match takes {
+        ParamKind::Number => take_numbers(own, out, value),
+        ParamKind::Clock => Ok(()),
+    }
+}
+
+fn take_arguments<'t>(
+    own: &Texts<'t>,
+    out: &mut Texts<'t>,
+    given: &[Argument<'_, 't>],
+) -> Result<(), AllocError>
+    ensures { OnOk result (out.new ≡ put_texts out.old
+        (words_besides own.now (flat_map (λ a. argument_words a.0 a.1) (given_words given.now)))) }
+{
+    for argument in given {
+        take_argument(own, out, argument.takes, argument.value)?;
+    }
+    Ok(())
+}
+
+fn take_call<'t>(
+    alloc: Global,
+    own: &Texts<'t>,
+    out: &mut Texts<'t>,
+    methods: &Methods<'_, 't>,
+    g: Name<'t>,
+    values: &[Expr<'t>],
+) -> Result<(), AllocError>
+    ensures { OnOk result (out.new ≡ put_texts out.old (words_besides own.now
+        (flat_map (λ a. argument_words a.0 a.1) (given_to (find methods.now g.entry.text.now) (expressions values.now))))) }
+{
+    match methods.find(g.text) {
+        None => Ok(()),
+        Some(params) => {
+            let given = arguments(alloc, params, values)?;
+            take_arguments(own, out, given.as_slice())?;
+            Ok(())
+        }
+    }
+}
+
+// The numbers that a statement itself uses.
+fn take_own<'t>(
+    alloc: Global,
+    own: &Texts<'t>,
+    out: &mut Texts<'t>,
+    methods: &Methods<'_, 't>,
+    s: &Stmt<'t>,
+) -> Result<(), AllocError>
+    ensures { OnOk result (out.new ≡ put_texts out.old
+        (words_besides own.now (words_used methods.now (statement s.now)))) }
+{
+    match s {
+        Stmt::Declare(_, _, _, r) => take_right(own, out, r),
+        Stmt::Assign(x, e) => {
+            take(own, out, *x)?;
+            take_numbers(own, out, e)
+        }
+        Stmt::Atomic(_, _, _, e) => take_numbers(own, out, e),
+        Stmt::If(_, l, _, r, _) => take_both(own, out, l, r),
+        Stmt::IfElse(_, l, _, r, _, _) => take_both(own, out, l, r),
+        Stmt::Call(g, _, values) => take_call(alloc, own, out, methods, *g, values.as_slice()),
+        Stmt::Print(_, _, e) => take_numbers(own, out, e),
+        Stmt::Block(_) => Ok(()),
+        Stmt::Empty => Ok(()),
+        Stmt::For(_, _, _, _, _) => Ok(()),
+        Stmt::Async(_, _, _) => Ok(()),
+        Stmt::Finish(_) => Ok(()),
+        Stmt::Resume(_, _) => Ok(()),
+        Stmt::Drop(_, _) => Ok(()),
+        Stmt::AdvanceAll(_, _) => Ok(()),
+    }
+}
+
+// The numbers from outside that a statement uses, and those that the statements use which it holds. Then `own` has also what it declares.
+#[cycle(taken)]
+fn take_all<'t>(
+    alloc: Global,
+    own: &mut Texts<'t>,
+    out: &mut Texts<'t>,
+    methods: &Methods<'_, 't>,
+    s: &Stmt<'t>,
+) -> Result<(), AllocError>
+    ensures out { OnOk result (out.new ≡ put_texts out.old
+        (outer_words methods.now own.old (statement s.now))) }
+    ensures own { OnOk result (own.new ≡ own_behind own.old (statement s.now)) }
+{
+    take_own(alloc, own, out, methods, s)?;
+    match s {
+        Stmt::Declare(_, x, _, _) => {
+            let _is_new = own.put(x.text)?;
+            Ok(())
+        }
+        Stmt::Block(ss) => {
+            take_block(alloc, own, out, methods, ss.as_slice())?;
+            Ok(())
+        }
+        Stmt::If(_, _, _, _, s) => {
+            take_held(alloc, own, out, methods, s)?;
+            Ok(())
+        }
+        Stmt::IfElse(_, _, _, _, s, t) => {
+            take_held(alloc, own, out, methods, s)?;
+            take_held(alloc, own, out, methods, t)?;
+            Ok(())
+        }
+        Stmt::For(_, x, _, _, s) => {
+            take_loop(alloc, own, out, methods, *x, s)?;
+            Ok(())
+        }
+        Stmt::Async(_, _, body) => {
+            take_held(alloc, own, out, methods, body)?;
+            Ok(())
+        }
+        Stmt::Finish(s) => {
+            take_held(alloc, own, out, methods, s)?;
+            Ok(())
+        }
+        Stmt::Empty => Ok(()),
+        Stmt::Assign(_, _) => Ok(()),
+        Stmt::Atomic(_, _, _, _) => Ok(()),
+        Stmt::Call(_, _, _) => Ok(()),
+        Stmt::Resume(_, _) => Ok(()),
+        Stmt::Drop(_, _) => Ok(()),
+        Stmt::AdvanceAll(_, _) => Ok(()),
+        Stmt::Print(_, _, _) => Ok(()),
+    }
+}
+
+#[cycle(taken)]
+fn take_block<'t>(
+    alloc: Global,
+    own: &mut Texts<'t>,
+    out: &mut Texts<'t>,
+    methods: &Methods<'_, 't>,
+    ss: &[Stmt<'t>],
+) -> Result<(), AllocError>
+    ensures out { OnOk result (out.new ≡ put_texts out.old
+        (outer_among methods.now own.old (statements ss.now))) }
+    ensures own { OnOk result (own.new ≡ own.old) }
+{
+    let outside = own.len();
+    for s in ss {
+        take_all(alloc, own, out, methods, s)?;
+    }
+    own.cut(outside);
+    Ok(())
+}
+
+#[cycle(taken)]
+fn take_held<'t>(
+    alloc: Global,
+    own: &mut Texts<'t>,
+    out: &mut Texts<'t>,
+    methods: &Methods<'_, 't>,
+    s: &Stmt<'t>,
+) -> Result<(), AllocError>
+    ensures out { OnOk result (out.new ≡ put_texts out.old
+        (outer_words methods.now own.old (statement s.now))) }
+    ensures own { OnOk result (own.new ≡ own.old) }
+{
+    let outside = own.len();
+    take_all(alloc, own, out, methods, s)?;
+    own.cut(outside);
+    Ok(())
+}
+
+#[cycle(taken)]
+fn take_loop<'t>(
+    alloc: Global,
+    own: &mut Texts<'t>,
+    out: &mut Texts<'t>,
+    methods: &Methods<'_, 't>,
+    x: Name<'t>,
+    s: &Stmt<'t>,
+) -> Result<(), AllocError>
+    ensures out { OnOk result (out.new ≡ put_texts out.old
+        (outer_words methods.now (put_text own.old x.entry.text.now) (statement s.now))) }
+    ensures own { OnOk result (own.new ≡ own.old) }
+{
+    let outside = own.len();
+    let _is_new = own.put(x.text)?;
+    take_all(alloc, own, out, methods, s)?;
+    own.cut(outside);
+    Ok(())
+}
+
+// The names of the shared numbers, each once.
+fn shared_names<'t>(alloc: Global, shared: &[Shared<'t>]) -> Result<Texts<'t>, AllocError>
+    ensures { IfOk result (λ names. names ≡ put_texts [] (map (λ s. word s.name) shared.now)) }
+{
+    let mut names = Texts::new(alloc);
+    for number in shared {
+        let _is_new = names.put(number.name.text)?;
+    }
+    Ok(names)
+}
+
+/// The numbers that the body of an `async` takes from outside, by their names, in the order of their first use.
+pub fn captures<'t>(
+    alloc: Global,
+    methods: &Methods<'_, 't>,
+    shared: &[Shared<'t>],
+    body: &Stmt<'t>,
+) -> Result<Vec<&'t [u8]>, AllocError>
+    ensures { IfOk result (λ taken. map (λ x. x.now) taken.items ≡
+        captures methods.now (shared_texts (map shared_value shared.now)) (statement body.now)) }
+{
+    let mut own = shared_names(alloc, shared)?;
+    let mut out = Texts::new(alloc);
+    take_all(alloc, &mut own, &mut out, methods, body)?;
+    let taken = out.to_vec(alloc)?;
+    Ok(taken)
+}

@@ -1,0 +1,146 @@
+#!/usr/bin/env python3
+"""Plays the pages: asks the built program what the fenced blocks of the documents say of it, and compares, line for line.
+
+A block that begins with a question has below it the program that the question is about, which is handed in as standard input:
+
+    check: accepted steps 12 activities 2 clocks 1
+    run --order last: 2,1,ended steps 12
+    def main() { .. }
+
+A question is a command with its words, a colon, and the answer: on standard error with status 1 where it begins with `x10clock: `, else on
+standard output with status 0; of `run`, a comma stands where a line ends. With `--module` the program is a module. A block that begins with
+`$ ` has calls, each with all that it says below it; `x10clock` in a call is the built program, and the folder is the top of the repository.
+All other blocks are for the eye. A program that can't compile yet isn't asked about source texts. With `--write` the answers are written
+anew. docs/REFUSALS.md has to have an answer with each rule.
+
+    python3 tests/pages.py [--write] [PAGE ..]
+"""
+
+from __future__ import annotations
+
+import os
+import pathlib
+import re
+import subprocess
+import sys
+from dataclasses import dataclass, field
+
+TOP = pathlib.Path(__file__).resolve().parent.parent
+PROGRAM = pathlib.Path(os.environ.get("X10CLOCK", TOP / "crates/x10clock/out/x10clock")).resolve()
+PAGES = [TOP / "README.md", TOP / "examples/README.md", *sorted((TOP / "docs").glob("*.md"))]
+REFUSALS = TOP / "docs/REFUSALS.md"
+RULES = {*(f"F{number}" for number in range(1, 15)), *(f"M{number}" for number in range(1, 4)), *(f"V{number}" for number in range(1, 18))}
+
+BLOCK = re.compile(r"^```\w*\n(.*?)^```$", re.MULTILINE | re.DOTALL)
+QUESTION = re.compile(r"((?:check|compile|run)(?: --\w+(?: (?!--)\w+)?)*): (.*)\n")
+SECONDS = 60
+
+
+@dataclass
+class Played:
+    asked: int = 0
+    left_out: int = 0
+    labels: set[str] = field(default_factory=set)
+    differing: list[str] = field(default_factory=list)
+
+    def said(self, where: str, wanted: str, got: str) -> None:
+        self.asked += 1
+        self.labels.update(re.findall(r"x10clock: ([FMV]\d+) ", wanted))
+        if wanted != got:
+            self.differing.append(f"{where}\n    page:    {wanted!r}\n    program: {got!r}")
+
+
+def takes_sources() -> bool:
+    return subprocess.run([PROGRAM, "compile", "--help"], capture_output=True, check=False).returncode == 0
+
+
+def answer(words: list[str], program: str) -> str:
+    """What the program says in the form of a question's answer."""
+    ran = subprocess.run([PROGRAM, *words, "-"], input=program.encode(), capture_output=True, timeout=SECONDS, check=False)
+    out, err = ran.stdout.decode(), ran.stderr.decode()
+    if ran.returncode == 0 and not err:
+        lines = out.removesuffix("\n")
+        return lines.replace("\n", ",") if words[0] == "run" else lines
+    if ran.returncode == 1 and not out and err.startswith("x10clock: "):
+        return err.removesuffix("\n")
+    return f"status {ran.returncode}: {out}{err}"
+
+
+def asked(where: str, block: str, sources: bool, played: Played) -> str:
+    """A block of questions and a program, with the answers that were given."""
+    questions = []
+    while found := QUESTION.match(block):
+        questions.append((found[1], found[2]))
+        block = block[found.end() :]
+    given = []
+    for words, wanted in questions:
+        if not sources and "--module" not in words:
+            played.left_out += 1
+            given.append((words, wanted))
+            continue
+        got = answer(words.split(), block)
+        played.said(f"{where}: {words}", wanted, got)
+        given.append((words, got))
+    return "".join(f"{words}: {got}\n" for words, got in given) + block
+
+
+def called(where: str, block: str, sources: bool, played: Played) -> str:
+    """A block of calls, with what they said."""
+    parts = []
+    for call in re.split(r"^(?=\$ )", block, flags=re.MULTILINE)[1:]:
+        line, wanted = call.split("\n", 1)
+        if not sources and "--module" not in line:
+            played.left_out += 1
+            parts.append(call)
+            continue
+        script = f'x10clock() {{ "$PROGRAM" "$@"; }}\n{line[2:]}\n'
+        ran = subprocess.run(["sh", "-c", script], cwd=TOP, env={**os.environ, "PROGRAM": str(PROGRAM)}, capture_output=True, timeout=SECONDS, check=False)
+        got = ran.stdout.decode() + ran.stderr.decode()
+        played.said(f"{where}: {line[2:]}", wanted, got)
+        parts.append(f"{line}\n{got}")
+    return "".join(parts)
+
+
+def play(page: pathlib.Path, sources: bool, played: Played) -> str:
+    """The page, with the answers that were given."""
+    text = page.read_text()
+
+    def block(found: re.Match[str]) -> str:
+        where = f"{page.relative_to(TOP) if page.is_relative_to(TOP) else page}, line {text.count(chr(10), 0, found.start()) + 1}"
+        inside = found[1]
+        if QUESTION.match(inside):
+            inside = asked(where, inside, sources, played)
+        elif inside.startswith("$ "):
+            inside = called(where, inside, sources, played)
+        return found[0].replace(found[1], inside, 1) if found[1] else found[0]
+
+    return BLOCK.sub(block, text)
+
+
+def main(words: list[str]) -> int:
+    write = "--write" in words
+    pages = [pathlib.Path(word).resolve() for word in words if word != "--write"] or PAGES
+    sources = takes_sources()
+    differing, count, left_out = [], 0, 0
+    for page in pages:
+        played = Played()
+        text = play(page, sources, played)
+        if write:
+            page.write_text(text)
+        missing = RULES - played.labels if page == REFUSALS and sources else set()
+        if missing:
+            differing.append(f"{page.name}: no answer with {' '.join(sorted(missing))}")
+        differing += [] if write else played.differing
+        count, left_out = count + played.asked, left_out + played.left_out
+    print(*differing, sep="\n", end="\n" if differing else "", file=sys.stderr)
+    if left_out:
+        print(f"pages: this program takes no source texts, so {left_out} questions about them were left out")
+    if not count:
+        print("pages: no questions", file=sys.stderr)
+        return 1
+    print(f"pages: {count} questions, {len(differing)} answered otherwise")
+    return 1 if differing else 0
+
+
+if __name__ == "__main__":
+    sys.exit(main(sys.argv[1:]))
