@@ -32,7 +32,7 @@ pub(crate) fn read_all<R: Source>(alloc: Global, source: &mut R) -> Result<Vec<u
     }
 }
 
-/// The first bytes that the source has left, so many at most. The faults are those of `read_all`. No more than these bytes are read.
+/// The first bytes that the source has left, so many at most, and no others are read. The faults are those of `read_all`.
 pub(crate) fn read_front<R: Source>(
     alloc: Global,
     source: &mut R,

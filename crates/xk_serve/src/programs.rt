@@ -1,6 +1,6 @@
 //! From the bytes of FILE to a module.
 
-ghost use Rattle.std.specs.Prelude.{◌≡◌, ◌≤◌, length, IfOk, IfErr, IsUtf8};
+ghost use Rattle.std.specs.Prelude.{◌≡◌, ◌≤◌, length, IfOk, OnOk, IfErr, IsUtf8};
 ghost use Rattle.xk_serve.specs.Answer.{FailsBy, task_of};
 ghost use Rattle.xk_serve.specs.Programs.{Gives, IsUnfit, IsNoSource, longest_source};
 ghost use Rattle.xk_words.specs.declared.job.Form.TheVariants as form;
@@ -17,7 +17,7 @@ use xk_words::{Form, Job};
 /// The most bytes that a source text has.
 pub(crate) const LONGEST_SOURCE: usize = 1_048_576;
 
-/// The module that these bytes give.
+/// The module that these bytes give, as a source text or as a module text.
 pub(crate) fn module_in(alloc: Global, job: &Job<'_>, bytes: &[u8]) -> Result<Module, Fault>
     ensures module { IfOk result (Gives job.now.form bytes.now) }
     ensures fault { IfErr result (FailsBy (task_of job.now) bytes.now) }
@@ -41,8 +41,8 @@ fn compiled(alloc: Global, bytes: &[u8]) -> Result<Module, FrontError>
 /// The bytes as text: they are UTF-8, and not too many.
 fn text_of(bytes: &[u8]) -> Result<&str, FrontFault>
     ensures text { IfOk result (λ text. text.now ≡ bytes.now) }
-    ensures short { IfOk result (λ text. length bytes.now ≤ longest_source) }
-    ensures utf8 { IfOk result (λ text. IsUtf8 bytes.now) }
+    ensures short { OnOk result (length bytes.now ≤ longest_source) }
+    ensures utf8 { OnOk result (IsUtf8 bytes.now) }
     ensures fault { IfErr result (IsNoSource bytes.now) }
 {
     if bytes.len() > LONGEST_SOURCE {
