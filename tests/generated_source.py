@@ -102,7 +102,7 @@ class Writer:
         self.budget, self.places = steps, activities
         taken = {known.name for known in self.methods}
         name = "main" if is_main else self.chance(self.some([one for one in [*NAMES, "m", "step"] if one not in taken and one != "main"]), NAMES)
-        letters = "" if is_main and not self.slips() else "".join(rng.choice("ccn") for _ in range(rng.choice([0, 1, 1, 2, 3])))
+        letters = "" if is_main and not self.slips() else rng.choice(["", "c", "c", "n", "nn", "cn", "nc", "nnn", "cc", "ncn"])
         with self.scope():
             params: list[Tokens] = []
             for letter in letters:
@@ -473,9 +473,13 @@ def restated(rng: random.Random, tokens: Tokens) -> Tokens:
         begin, end = rng.choice(places)
         to = rng.choice(rng.choice(places))
         piece = tokens[begin:end]
-        way = rng.randrange(5)
+        way = rng.randrange(6)
+        clocks = [tokens[at - 2] for at, token in enumerate(tokens) if token == "Clock" and at > 1 and tokens[at - 1] in (":", "=")]
         if way == 0:
             tokens = tokens[:begin] + tokens[end:]
+        elif way == 5 and clocks:
+            at = rng.choice(starts(tokens))
+            tokens = tokens[:at] + [rng.choice(clocks), ".", rng.choice(["drop", "drop", "resume"]), "(", ")", ";"] + tokens[at:]
         elif way == 1:
             tokens = tokens[:to] + piece + tokens[to:]
         elif way == 2 and not begin < to < end:

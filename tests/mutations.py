@@ -6,7 +6,8 @@ operand and byte by byte (tests/generated.py). `check` and `run`, the latter in 
 byte for byte; where there are several walks to what is refused, another shortest one is taken too, and counted. Of an accepted module with few worlds
 the telling goes through all schedules, and looks whether the promises hold.
 With `--source` the texts are programs in the language (tests/generated_source.py) and those of tests/answers/sources*.rows and of examples,
-and `compile` is compared too, with what tests/telling_source.py makes of them.
+and `compile` is compared too, with what tests/telling_source.py makes of them. Some runs of the module are compared with what the text means
+(tests/meaning.py).
 Needs the built program and python3. The gate runs it with 2,000 cases.
 
     python3 tests/mutations.py [CASES] [SEED] [--source] [--jobs N] [--program PATH] [--worlds N] [--only CASE]
@@ -32,6 +33,7 @@ from dataclasses import dataclass, field
 
 import generated
 import generated_source
+import meaning
 import telling
 import telling_source
 from telling import Accepted, Order, Refused
@@ -43,6 +45,8 @@ SECONDS = 60
 LONGEST_RUN, LONGEST_COMPARED, MOST_WORK, MOST_ACTIVITIES = 2_000_000, 20_000, 2_000_000, 64
 # The program looks at all clocks in each step: where there are more clocks times steps than this it isn't run.
 MOST_CLOCK_STEPS = 300_000_000
+# Runs of no more steps than this are compared with what a text means, so many of each.
+LONGEST_MEANT, RUNS_MEANT = 500, 3
 CHUNK = 100
 SHOWN = 5
 
@@ -156,7 +160,21 @@ class Comparer:
         outcome = self.of_refused(text, judged) if isinstance(judged, Refused) else self.of_accepted(text, judged)
         if self.source:
             self.compiles(text, outcome)
+            if isinstance(judged, Accepted):
+                self.means(text, judged, outcome)
         return outcome
+
+    def means(self, text: bytes, judged: Accepted, outcome: Outcome) -> None:
+        """Whether some runs of the module are runs of the text."""
+        if judged.bounds.steps > LONGEST_MEANT:
+            return
+        rng, tree = random.Random(zlib.crc32(text)), telling_source.parse(text)
+        try:
+            for _ in range(RUNS_MEANT):
+                meaning.compare(tree, judged.module, rng, judged.bounds.steps + 1)
+                outcome.counts["runs compared with what the text means"] += 1
+        except meaning.Differs as differs:
+            outcome.differences.append(f"the module isn't the text's: {differs}")
 
     def compiles(self, text: bytes, outcome: Outcome) -> None:
         try:

@@ -1,4 +1,5 @@
 pub mod Falling
 pub mod Marks
 pub mod Places
+pub mod Rows
 pub mod Waiting

@@ -8,6 +8,8 @@ use Rattle.xk_types.specs.declared.instr.Comparison.{Comparison}
 use Rattle.xk_tree.specs.declared.tree.Number.{Number}
 use Rattle.xk_tree.specs.Tree.{Word, Expression, Statement, If, IfElse, For, Finish, Statements, More}
 use Rattle.xk_code.specs.CodeOf.{Scope, Setting, both, second, slot_for, count, count_all, declared, declared_by_all, code_of, code_of_all}
+use Rattle.xk_code.specs.Covered.{AreCovered}
+use Rattle.xk_code.proofs.Denials.{RoomOfAll, covered_turn, room_turn}
 
 -- an instruction in the place of another
 pub patched : (code : List Instr) (at : ℕ) (i : Instr) (front rest : List Instr) (gap : Instr)
@@ -22,6 +24,9 @@ pub record AreEmitted (cx : Setting) (t : ℕ) (all : Statements) (code : List I
   pub instrs : made ++ code_of_all cx t seen next (length made) rest ≡ code ++ code_of_all cx t scope n (length code) all
   pub names : declared_by_all seen next rest ≡ declared_by_all scope n all
   pub slots : next + count_all rest ≡ n + count_all all
+  -- so are the names and the room that the latter need
+  pub covered : AreCovered cx scope n all → AreCovered cx seen next rest
+  pub room : RoomOfAll cx t scope n (length code) all → RoomOfAll cx t seen next (length made) rest
 
 -- one statement more
 pub one_more : (cx : Setting) (t : ℕ) (all : Statements) (code : List Instr) (scope : Scope) (n : ℕ)
@@ -42,6 +47,8 @@ one_more cx t all code scope n s rest made grown seen wider next m so_far is_gro
           ∙ so_far.instrs;
       names = ap (λ (w : Scope). declared_by_all w m rest) is_wider ∙ ap (λ k. declared_by_all (declared seen next s) k rest) is_more ∙ so_far.names;
       slots = let e = so_far.slots in omega (arith, e);
+      covered = λ k. covered_turn cx seen wider next m s rest is_wider is_more (so_far.covered k);
+      room = λ r. room_turn cx t seen wider next m (length made) (length grown) s rest long is_wider is_more (so_far.room r);
     }
 
 -- ---- gaps

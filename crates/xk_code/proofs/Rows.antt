@@ -1,5 +1,6 @@
 -- Small programs, and the units that they have, by evaluation.
 use Rattle.std.proofs.Common.{◌≡◌, ℕ, ℤ, pos, List, [], ◌∷◌, codes, Option, Some, None, refl}
+use Rattle.std.proofs.lemmas.List.Elements.{All-from_recursion}
 use Rattle.xk_types.specs.declared.instr.Comparison.TheVariants as comparison
 use Rattle.xk_types.specs.declared.instr.Instr.TheVariants as instr
 use Rattle.xk_types.specs.declared.unit.UnitKind.TheVariants as unit_kind
@@ -11,7 +12,8 @@ use Rattle.xk_tree.specs.declared.tree.Number.{Number}
 use Rattle.xk_tree.specs.declared.tree.Verb.{Verb}
 use Rattle.xk_tree.specs.Tree.{Word, Clocks, Expression, Literal, Named, Paren, Negation, Binary, Make, Value, Statement, Statements, Done, More, Block, Empty, Declare, Assign, Atomic, If, IfElse, For, Async, Finish, Call, Resume, Drop, AdvanceAll, Print}
 use Rattle.xk_code.specs.CodeOf.{Setting}
-use Rattle.xk_code.specs.Unit.{unit_of}
+use Rattle.xk_code.specs.Unit.{unit_of_body, unit_of_method}
+use Rattle.xk_code.specs.Covered.{IsFound, IsUnitCovered}
 
 -- ---- trees, where offsets don't matter
 
@@ -43,7 +45,7 @@ abbrev clocked : List ℕ → Option Clocks
 clocked c = Some (record { paren = 0; names = w c ∷ [] })
 
 abbrev main_unit : Setting → Statements → UnitValue
-main_unit cx ss = unit_of cx unit_kind.Main [] [] (Block ss)
+main_unit cx ss = unit_of_method cx unit_kind.Main (record { name = w (codes "main"); paren = 0; params = []; body = ss })
 
 -- ---- an activity that is handed a clock
 
@@ -63,7 +65,7 @@ main_hands : main_unit with_body (More (val_makes (codes "c")) (More (Async 7 (c
     }
 main_hands = refl
 
-body_handed : unit_of with_body unit_kind.Body (codes "c" ∷ []) (param.Clock ∷ []) hands
+body_handed : unit_of_body with_body 7 (clocked (codes "c")) hands
     ≡ record { kind = unit_kind.Body; params = param.Clock ∷ []; slots = 2; code = instr.Advance ∷ instr.Lit 1 (pos 2) ∷ instr.Print 1 ∷ instr.Ret ∷ [] }
 body_handed = refl
 
@@ -104,8 +106,11 @@ adding = record { shared = (codes "s", 0) ∷ []; methods = []; bodies = (9, rec
 abbrev adds : Statement
 adds = Block (More (Atomic (w (codes "s")) (w (codes "s")) 0 (var (codes "i"))) Done)
 
-main_adds : main_unit adding (More (Finish (Block (More (For 0 (w (codes "i")) (number (pos 1)) (number (pos 3)) (Async 9 None adds)) Done)))
-    (More (val_is (codes "r") (var (codes "s"))) (More (print (var (codes "r"))) Done)))
+abbrev adding_main : Statements
+adding_main = More (Finish (Block (More (For 0 (w (codes "i")) (number (pos 1)) (number (pos 3)) (Async 9 None adds)) Done)))
+    (More (val_is (codes "r") (var (codes "s"))) (More (print (var (codes "r"))) Done))
+
+main_adds : main_unit adding adding_main
     ≡ record {
       kind = unit_kind.Main;
       params = [];
@@ -115,7 +120,14 @@ main_adds : main_unit adding (More (Finish (Block (More (For 0 (w (codes "i")) (
     }
 main_adds = refl
 
-body_adds : unit_of adding unit_kind.Body (codes "i" ∷ []) (param.Number ∷ []) adds
+-- every name that it needs is found, and every name that it declares is new
+main_is_covered : IsUnitCovered adding [] (Block adding_main)
+main_is_covered = record {
+  params = tt;
+  body = ((λ _. (refl, (refl, All-from_recursion (IsFound ((codes "i", 0) ∷ [])) (codes "i" ∷ []) (refl, tt))), tt), ((tt, refl), (refl, tt)));
+}
+
+body_adds : unit_of_body adding 9 None adds
     ≡ record { kind = unit_kind.Body; params = param.Number ∷ []; slots = 1; code = instr.AddTo 0 0 ∷ instr.Ret ∷ [] }
 body_adds = refl
 

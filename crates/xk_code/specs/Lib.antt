@@ -1,3 +1,4 @@
 pub mod CodeOf
 pub mod Unit
 pub mod Covered
+pub mod Room

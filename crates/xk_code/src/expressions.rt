@@ -1,8 +1,10 @@
 //! The code of expressions.
 
-ghost use Rattle.std.specs.Prelude.{◌≡◌, ◌+◌, [], ◌∷◌, ◌++◌, OnOk, IfOk};
+ghost use Rattle.std.specs.Prelude.{◌≡◌, ◌+◌, ◌<◌, [], ◌∷◌, ◌++◌, length, All, OnOk, IfOk, IfErr, ⊤};
 ghost use Rattle.xk_tree.specs.Tree.{word, expression, expressions};
 ghost use Rattle.xk_code.specs.CodeOf.{argument_slots, before_into, behind, both, eval, eval_all, instr_of, last_into, number_of, second, slot_for};
+ghost use Rattle.xk_code.specs.Covered.{IsFound, IsKnown};
+ghost use Rattle.xk_code.specs.Room.{Denies, HasRoom};
 
 use crate::error::CodeError;
 use std::alloc::Global;
@@ -15,7 +17,8 @@ pub(crate) type Scope<'t> = Table<'t, u16>;
 
 /// One more instruction.
 pub(crate) fn push(code: &mut Vec<Instr>, instr: Instr) -> Result<(), CodeError>
-    ensures { OnOk result (code.new.items ≡ code.old.items ++ instr ∷ []) }
+    ensures code { OnOk result (code.new.items ≡ code.old.items ++ instr ∷ []) }
+    ensures refused { IfErr result (λ e. Denies e ⊤ (length code.old.items < 4096)) }
 {
     if code.len() >= MAX_CODE {
         return Err(CodeError::Table);
@@ -26,14 +29,16 @@ pub(crate) fn push(code: &mut Vec<Instr>, instr: Instr) -> Result<(), CodeError>
 
 /// The number that a table has for a name.
 pub(crate) fn number<'t>(table: &Table<'t, u16>, x: Name<'t>) -> Result<u16, CodeError>
-    ensures { IfOk result (λ n. n ≡ number_of table.now (word x.entry)) }
+    ensures number { IfOk result (λ n. n ≡ number_of table.now (word x.entry)) }
+    ensures refused { IfErr result (λ e. Denies e (IsFound table.now x.entry.text.now) ⊤) }
 {
     table.find(x.text).ok_or(CodeError::Name)
 }
 
 /// The slot behind one.
 pub(crate) fn after(n: u16) -> Result<u16, CodeError>
-    ensures { IfOk result (λ m. m ≡ n + 1) }
+    ensures next { IfOk result (λ m. m ≡ n + 1) }
+    ensures refused { IfErr result (λ e. Denies e ⊤ (n < 64)) }
 {
     if n < MAX_SLOTS {
         Ok(n + 1)
@@ -44,7 +49,8 @@ pub(crate) fn after(n: u16) -> Result<u16, CodeError>
 
 /// The first free temporary behind an expression whose number is in slot x.
 fn free(t: u16, x: u16) -> Result<u16, CodeError>
-    ensures { IfOk result (λ u. u ≡ behind t x) }
+    ensures next { IfOk result (λ u. u ≡ behind t x) }
+    ensures refused { IfErr result (λ e. Denies e ⊤ (x ≡ t → t < 64)) }
 {
     if x == t { after(t) } else { Ok(t) }
 }
@@ -70,6 +76,8 @@ pub(crate) fn emit_expr<'t>(
     ensures code { OnOk result
         (code.new.items ≡ code.old.items ++ eval scope.now t (expression e.now)) }
     ensures slot { IfOk result (λ x. x ≡ slot_for scope.now t (expression e.now)) }
+    ensures refused { IfErr result (λ err. Denies err (IsKnown scope.now (expression e.now))
+        (HasRoom scope.now (length code.old.items) (eval scope.now t (expression e.now)))) }
 {
     match e {
         Expr::Number(n) => {
@@ -106,6 +114,10 @@ pub(crate) fn emit_both<'t>(
     ensures first { IfOk result (λ x. x.0 ≡ slot_for scope.now t (expression l.now)) }
     ensures second { IfOk result
         (λ x. x.1 ≡ second scope.now t (expression l.now) (expression r.now)) }
+    ensures refused { IfErr result (λ err. Denies err
+        (IsKnown scope.now (expression l.now) × IsKnown scope.now (expression r.now))
+        (HasRoom scope.now (length code.old.items)
+        (both scope.now t (expression l.now) (expression r.now)))) }
 {
     let x = emit_expr(code, scope, t, l)?;
     let y = emit_expr(code, scope, free(t, x)?, r)?;
@@ -120,9 +132,13 @@ pub(crate) fn emit_into<'t>(
     e: &Expr<'t>,
     d: u16,
 ) -> Result<(), CodeError>
-    ensures { OnOk result (code.new.items ≡ code.old.items
+    ensures code { OnOk result (code.new.items ≡ code.old.items
         ++ (before_into scope.now t (expression e.now)
         ++ last_into scope.now t (expression e.now) d ∷ [])) }
+    ensures refused { IfErr result (λ err. Denies err (IsKnown scope.now (expression e.now))
+        (HasRoom scope.now (length code.old.items)
+        (before_into scope.now t (expression e.now)
+        ++ last_into scope.now t (expression e.now) d ∷ []))) }
 {
     match e {
         Expr::Number(n) => push(code, Instr::Lit(d, n.value)),
@@ -152,6 +168,10 @@ pub(crate) fn emit_args<'t>(
         ≡ code.old.items ++ eval_all scope.now t (expressions args.now)) }
     ensures slots { IfOk result
         (λ slots. slots.items ≡ argument_slots scope.now t (expressions args.now)) }
+    ensures refused { IfErr result (λ err. Denies err
+        (All (IsKnown scope.now) (expressions args.now))
+        (HasRoom scope.now (length code.old.items)
+        (eval_all scope.now t (expressions args.now)))) }
 {
     let mut slots = Vec::new(alloc);
     let mut next = t;

@@ -50,10 +50,12 @@ impl<'t> Model for Setting<'t> {
 }
 
 impl<'t> Setting<'t> {
-    ghost use Rattle.std.specs.Prelude.{◌≡◌, [], Some, IfOk};
+    ghost use Rattle.std.specs.Prelude.{◌≡◌, [], Some, IsSome, IfOk, IfErr, ⊤};
     ghost use Rattle.xk_tree.specs.Tree.{word};
     ghost use Rattle.xk_names.specs.Scope.{find};
     ghost use Rattle.xk_code.specs.CodeOf.{body_at, number_of};
+    ghost use Rattle.xk_code.specs.Covered.{IsFound};
+    ghost use Rattle.xk_code.specs.Room.{Denies};
 
     /// A setting with no shared numbers, no methods and no bodies.
     pub fn new(alloc: Global) -> Self
@@ -75,21 +77,26 @@ impl<'t> Setting<'t> {
 
     /// The same of a name that has to be a shared number's.
     pub(crate) fn place(&self, x: Name<'t>) -> Result<u16, CodeError>
-        ensures { IfOk result (λ n. n ≡ number_of self.now.shared (word x.entry)) }
+        ensures number { IfOk result (λ n. n ≡ number_of self.now.shared (word x.entry)) }
+        ensures refused { IfErr result
+            (λ e. Denies e (IsFound self.now.shared x.entry.text.now) ⊤) }
     {
         number(&self.shared, x)
     }
 
     /// The unit of a method.
     pub(crate) fn method(&self, f: Name<'t>) -> Result<u16, CodeError>
-        ensures { IfOk result (λ n. n ≡ number_of self.now.methods (word f.entry)) }
+        ensures number { IfOk result (λ n. n ≡ number_of self.now.methods (word f.entry)) }
+        ensures refused { IfErr result
+            (λ e. Denies e (IsFound self.now.methods f.entry.text.now) ⊤) }
     {
         number(&self.methods, f)
     }
 
     /// The body of an `async`, by the offset of that word.
     pub(crate) fn body(&self, at: usize) -> Result<&Body<'t>, CodeError>
-        ensures { IfOk result (λ b. body_at self.now at ≡ Some b.now) }
+        ensures body { IfOk result (λ b. body_at self.now at ≡ Some b.now) }
+        ensures refused { IfErr result (λ e. Denies e (IsSome (body_at self.now at)) ⊤) }
     {
         self.bodies.get(&at).ok_or(CodeError::Name)
     }

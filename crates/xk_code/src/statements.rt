@@ -1,12 +1,14 @@
 //! The code of statements.
 
-ghost use Rattle.std.specs.Prelude.{◌≡◌, ℕ, ◌+◌, List, [], ◌∷◌, ◌++◌, length, map, option_map, OnOk, IfOk};
+ghost use Rattle.std.specs.Prelude.{◌≡◌, ℕ, ◌+◌, ◌<◌, ◌≤◌, List, [], ◌∷◌, ◌++◌, length, map, option_map, All, unwrap_or, IsSome, OnOk, IfOk, IfErr, ⊤};
 ghost use Rattle.xk_types.specs.declared.instr.Instr.{Instr as Instruction};
 ghost use Rattle.xk_types.specs.declared.instr.Instr.TheVariants as instr;
 ghost use Rattle.xk_tree.specs.Tree.{Statement, Statements, clock_list, word, words, expression, expressions, source, statement, statements};
 ghost use Rattle.xk_names.specs.Scope.{Table as Names, find, texts};
 ghost use Rattle.xk_names.specs.Uses.{clocks_listed};
-ghost use Rattle.xk_code.specs.CodeOf.{argument_slots, before_assigned, before_into, body_params, body_unit, both, code_of, code_of_all, code_of_source, count, count_all, declared, declared_by_all, eval, eval_all, last_assigned, last_value, number_of, second, shared_alone, slot_for, slots_of};
+ghost use Rattle.xk_code.specs.CodeOf.{argument_slots, before_assigned, before_into, body_at, body_params, body_unit, both, code_of, code_of_all, code_of_source, count, count_all, declared, declared_by_all, eval, eval_all, last_assigned, last_value, number_of, second, shared_alone, slot_for, slots_of};
+ghost use Rattle.xk_code.specs.Covered.{AreCovered, IsAssignable, IsCovered, IsFound, IsKnown, IsNew, IsSourceKnown, IsValueKnown};
+ghost use Rattle.xk_code.specs.Room.{Denies, HasRoom};
 
 use crate::error::CodeError;
 use crate::expressions::{Scope, after, emit_args, emit_both, emit_expr, emit_into, number, push};
@@ -26,10 +28,11 @@ pub(crate) struct Emitter<'a, 't> {
 
 /// The place of the next instruction.
 fn place(code: &Vec<Instr>) -> Result<u16, CodeError>
-    ensures { IfOk result (λ p. p ≡ length code.now.items) }
+    ensures place { IfOk result (λ p. p ≡ length code.now.items) }
+    ensures refused { IfErr result (λ e. Denies e ⊤ (length code.now.items ≤ 4096)) }
 {
     let n = code.len();
-    if n < MAX_CODE {
+    if n <= MAX_CODE {
         Ok(n as u16)
     } else {
         Err(CodeError::Table)
@@ -38,9 +41,10 @@ fn place(code: &Vec<Instr>) -> Result<u16, CodeError>
 
 /// Puts an instruction where a gap was left for it.
 fn patch(code: &mut Vec<Instr>, at: usize, instr: Instr)
-    ensures { (front rest : List Instruction) (gap : Instruction)
+    ensures code { (front rest : List Instruction) (gap : Instruction)
         → code.old.items ≡ front ++ gap ∷ rest → at ≡ length front
         → code.new.items ≡ front ++ instr ∷ rest }
+    ensures size { length code.new.items ≡ length code.old.items }
 {
     if at < code.len() {
         code[at] = instr;
@@ -51,6 +55,7 @@ fn patch(code: &mut Vec<Instr>, at: usize, instr: Instr)
 fn gap(code: &mut Vec<Instr>) -> Result<u16, CodeError>
     ensures place { IfOk result (λ at. at ≡ length code.old.items) }
     ensures code { OnOk result (code.new.items ≡ code.old.items ++ instr.Jump 0 ∷ []) }
+    ensures refused { IfErr result (λ e. Denies e ⊤ (length code.old.items < 4096)) }
 {
     let at = place(code)?;
     push(code, Instr::Jump(0))?;
@@ -68,10 +73,12 @@ struct Test {
 
 /// Fills the gap of a comparison that goes behind the code that followed the gap.
 fn close_test(code: &mut Vec<Instr>, test: Test) -> Result<(), CodeError>
-    ensures { OnOk result ((front body : List Instruction) (old : Instruction)
+    ensures code { OnOk result ((front body : List Instruction) (old : Instruction)
         → code.old.items ≡ front ++ old ∷ body → test.at ≡ length front
         → code.new.items
         ≡ front ++ instr.Unless test.op test.x test.y (length front + 1 + length body) ∷ body) }
+    ensures size { OnOk result (length code.new.items ≡ length code.old.items) }
+    ensures refused { IfErr result (λ e. Denies e ⊤ (length code.old.items ≤ 4096)) }
 {
     let end = place(code)?;
     patch(
@@ -90,6 +97,8 @@ fn begin_else(code: &mut Vec<Instr>, test: Test) -> Result<u16, CodeError>
         → code.new.items
         ≡ front ++ instr.Unless test.op test.x test.y (length front + 1 + length body + 1)
         ∷ (body ++ instr.Jump 0 ∷ [])) }
+    ensures size { OnOk result (length code.new.items ≡ length code.old.items + 1) }
+    ensures refused { IfErr result (λ e. Denies e ⊤ (length code.old.items < 4096)) }
 {
     let at = gap(code)?;
     close_test(code, test)?;
@@ -98,9 +107,10 @@ fn begin_else(code: &mut Vec<Instr>, test: Test) -> Result<u16, CodeError>
 
 /// Fills the gap of a jump that goes behind the code that followed the gap.
 fn close_else(code: &mut Vec<Instr>, at: u16) -> Result<(), CodeError>
-    ensures { OnOk result ((front body : List Instruction) (old : Instruction)
+    ensures code { OnOk result ((front body : List Instruction) (old : Instruction)
         → code.old.items ≡ front ++ old ∷ body → at ≡ length front
         → code.new.items ≡ front ++ instr.Jump (length front + 1 + length body) ∷ body) }
+    ensures refused { IfErr result (λ e. Denies e ⊤ (length code.old.items ≤ 4096)) }
 {
     let end = place(code)?;
     patch(code, at as usize, Instr::Jump(end));
@@ -118,6 +128,8 @@ fn open_loop<'t>(
     ensures next { IfOk result (λ begun. begun.1 ≡ n + 1) }
     ensures code { OnOk result (code.new.items ≡ code.old.items ++ instr.Jump 0 ∷ []) }
     ensures scope { OnOk result (scope.new ≡ scope.old ++ (i.entry.text.now, n) ∷ []) }
+    ensures refused { IfErr result (λ e. Denies e (IsNew scope.old i.entry.text.now)
+        ((length code.old.items < 4096) × (n < 64))) }
 {
     let first = gap(code)?;
     declare(scope, i.text, n)?;
@@ -132,10 +144,11 @@ fn close_loop(
     lo: Number,
     hi: Number,
 ) -> Result<(), CodeError>
-    ensures { OnOk result ((front body : List Instruction) (old : Instruction)
+    ensures code { OnOk result ((front body : List Instruction) (old : Instruction)
         → code.old.items ≡ front ++ old ∷ body → at ≡ length front
         → code.new.items ≡ front ++ instr.For n lo.value hi.value (length front + 1 + length body)
         ∷ (body ++ instr.Next (length front) ∷ [])) }
+    ensures refused { IfErr result (λ e. Denies e ⊤ (length code.old.items < 4096)) }
 {
     let end = place(code)?;
     push(code, Instr::Next(at))?;
@@ -145,10 +158,11 @@ fn close_loop(
 
 /// Ends a finish, for which a gap was left.
 fn close_finish(code: &mut Vec<Instr>, at: u16) -> Result<(), CodeError>
-    ensures { OnOk result ((front body : List Instruction) (old : Instruction)
+    ensures code { OnOk result ((front body : List Instruction) (old : Instruction)
         → code.old.items ≡ front ++ old ∷ body → at ≡ length front
         → code.new.items ≡ front ++ instr.Finish (length front + 1 + length body)
         ∷ (body ++ instr.EndFinish (length front) ∷ [])) }
+    ensures refused { IfErr result (λ e. Denies e ⊤ (length code.old.items < 4096)) }
 {
     let end = place(code)?;
     push(code, Instr::EndFinish(at))?;
@@ -158,7 +172,8 @@ fn close_finish(code: &mut Vec<Instr>, at: u16) -> Result<(), CodeError>
 
 /// A name that is declared has the next slot.
 pub(crate) fn declare<'t>(scope: &mut Scope<'t>, text: &'t [u8], n: u16) -> Result<(), CodeError>
-    ensures { OnOk result (scope.new ≡ scope.old ++ (text.now, n) ∷ []) }
+    ensures scope { OnOk result (scope.new ≡ scope.old ++ (text.now, n) ∷ []) }
+    ensures refused { IfErr result (λ e. Denies e (IsNew scope.old text.now) ⊤) }
 {
     if scope.find(text).is_some() {
         return Err(CodeError::Name);
@@ -187,8 +202,10 @@ fn push_names<'t>(
     scope: &Scope<'t>,
     names: &[Name<'t>],
 ) -> Result<(), CodeError>
-    ensures { OnOk result (slots.new.items
+    ensures slots { OnOk result (slots.new.items
         ≡ slots.old.items ++ slots_of scope.now (texts (words names.now))) }
+    ensures refused { IfErr result
+        (λ e. Denies e (All (IsFound scope.now) (texts (words names.now))) ⊤) }
 {
     for name in names {
         slots.push(number(scope, *name)?)?;
@@ -196,17 +213,27 @@ fn push_names<'t>(
     Ok(())
 }
 
-/// The same for the names of captured numbers.
+/// The slot of a name, by its text.
+fn slot<'t>(scope: &Scope<'t>, text: &'t [u8]) -> Result<u16, CodeError>
+    ensures slot { IfOk result (λ n. n ≡ unwrap_or (find scope.now text.now) 0) }
+    ensures refused { IfErr result (λ e. Denies e (IsFound scope.now text.now) ⊤) }
+{
+    scope.find(text).ok_or(CodeError::Name)
+}
+
+/// The slots of captured numbers, behind others.
 fn push_texts<'t>(
     slots: &mut Vec<u16>,
     scope: &Scope<'t>,
     names: &[&'t [u8]],
 ) -> Result<(), CodeError>
-    ensures { OnOk result (slots.new.items
+    ensures slots { OnOk result (slots.new.items
         ≡ slots.old.items ++ slots_of scope.now (map (λ x. x.now) names.now)) }
+    ensures refused { IfErr result
+        (λ e. Denies e (All (IsFound scope.now) (map (λ x. x.now) names.now)) ⊤) }
 {
     for name in names {
-        slots.push(scope.find(*name).ok_or(CodeError::Name)?)?;
+        slots.push(slot(scope, *name)?)?;
     }
     Ok(())
 }
@@ -217,8 +244,10 @@ fn clock_slots<'t>(
     scope: &Scope<'t>,
     clocks: &Option<ClockList<'t>>,
 ) -> Result<Vec<u16>, CodeError>
-    ensures { IfOk result (λ slots. slots.items
+    ensures slots { IfOk result (λ slots. slots.items
         ≡ slots_of scope.now (texts (clocks_listed (option_map clock_list clocks.now)))) }
+    ensures refused { IfErr result (λ e. Denies e
+        (All (IsFound scope.now) (texts (clocks_listed (option_map clock_list clocks.now)))) ⊤) }
 {
     let mut slots = Vec::new(alloc);
     if let Some(list) = clocks {
@@ -229,7 +258,8 @@ fn clock_slots<'t>(
 
 /// What is handed to a unit.
 fn args(slots: Vec<u16>) -> Result<Args, CodeError>
-    ensures { IfOk result (λ args. args ≡ slots.items) }
+    ensures args { IfOk result (λ args. args ≡ slots.items) }
+    ensures refused { IfErr result (λ e. Denies e ⊤ (length slots.items ≤ 64)) }
 {
     if slots.len() > MAX_ARGS {
         return Err(CodeError::Table);
@@ -257,9 +287,14 @@ impl<'a, 't> Emitter<'a, 't> {
         e: &Expr<'t>,
         d: u16,
     ) -> Result<(), CodeError>
-        ensures { OnOk result (code.new.items ≡ code.old.items
+        ensures code { OnOk result (code.new.items ≡ code.old.items
             ++ (before_into scope.now self.now.free (expression e.now)
             ++ last_value self.now.setting.now scope.now self.now.free (expression e.now) d ∷ [])) }
+        ensures refused { IfErr result (λ err. Denies err
+            (IsValueKnown self.now.setting.now scope.now (expression e.now))
+            (HasRoom scope.now (length code.old.items)
+            (before_into scope.now self.now.free (expression e.now) ++ last_value
+            self.now.setting.now scope.now self.now.free (expression e.now) d ∷ []))) }
     {
         match self.shared_alone(e) {
             Some(s) => push(code, Instr::Get(d, s)),
@@ -275,8 +310,12 @@ impl<'a, 't> Emitter<'a, 't> {
         right: &Right<'t>,
         d: u16,
     ) -> Result<(), CodeError>
-        ensures { OnOk result (code.new.items ≡ code.old.items
+        ensures code { OnOk result (code.new.items ≡ code.old.items
             ++ code_of_source self.now.setting.now self.now.free scope.now d (source right.now)) }
+        ensures refused { IfErr result (λ err. Denies err
+            (IsSourceKnown self.now.setting.now scope.now (source right.now))
+            (HasRoom scope.now (length code.old.items)
+            (code_of_source self.now.setting.now self.now.free scope.now d (source right.now)))) }
     {
         match right {
             Right::Make(..) => push(code, Instr::Make(d)),
@@ -292,11 +331,19 @@ impl<'a, 't> Emitter<'a, 't> {
         x: Name<'t>,
         e: &Expr<'t>,
     ) -> Result<(), CodeError>
-        ensures { OnOk result (code.new.items ≡ code.old.items
+        ensures code { OnOk result (code.new.items ≡ code.old.items
             ++ (before_assigned scope.now self.now.free (expression e.now)
             (find self.now.setting.now.shared x.entry.text.now)
             ++ last_assigned self.now.setting.now scope.now self.now.free (word x.entry)
             (expression e.now) (find self.now.setting.now.shared x.entry.text.now) ∷ [])) }
+        ensures refused { IfErr result (λ err. Denies err
+            (IsAssignable self.now.setting.now scope.now (word x.entry) (expression e.now)
+            (find self.now.setting.now.shared x.entry.text.now))
+            (HasRoom scope.now (length code.old.items)
+            (before_assigned scope.now self.now.free (expression e.now)
+            (find self.now.setting.now.shared x.entry.text.now)
+            ++ last_assigned self.now.setting.now scope.now self.now.free (word x.entry)
+            (expression e.now) (find self.now.setting.now.shared x.entry.text.now) ∷ []))) }
     {
         match self.setting.shared(x) {
             Some(s) => {
@@ -315,10 +362,17 @@ impl<'a, 't> Emitter<'a, 't> {
         x: Name<'t>,
         e: &Expr<'t>,
     ) -> Result<(), CodeError>
-        ensures { OnOk result (code.new.items ≡ code.old.items
+        ensures code { OnOk result (code.new.items ≡ code.old.items
             ++ (eval scope.now self.now.free (expression e.now)
             ++ instr.AddTo (number_of self.now.setting.now.shared (word x.entry))
             (slot_for scope.now self.now.free (expression e.now)) ∷ [])) }
+        ensures refused { IfErr result (λ err. Denies err
+            (IsFound self.now.setting.now.shared x.entry.text.now
+            × IsKnown scope.now (expression e.now))
+            (HasRoom scope.now (length code.old.items)
+            (eval scope.now self.now.free (expression e.now)
+            ++ instr.AddTo (number_of self.now.setting.now.shared (word x.entry))
+            (slot_for scope.now self.now.free (expression e.now)) ∷ []))) }
     {
         let y = emit_expr(code, scope, self.free, e)?;
         push(code, Instr::AddTo(self.setting.place(x)?, y))
@@ -332,10 +386,17 @@ impl<'a, 't> Emitter<'a, 't> {
         f: Name<'t>,
         es: &[Expr<'t>],
     ) -> Result<(), CodeError>
-        ensures { OnOk result (code.new.items ≡ code.old.items
+        ensures code { OnOk result (code.new.items ≡ code.old.items
             ++ (eval_all scope.now self.now.free (expressions es.now)
             ++ instr.Call (number_of self.now.setting.now.methods (word f.entry))
             (argument_slots scope.now self.now.free (expressions es.now)) ∷ [])) }
+        ensures refused { IfErr result (λ err. Denies err
+            (IsFound self.now.setting.now.methods f.entry.text.now
+            × All (IsKnown scope.now) (expressions es.now))
+            (HasRoom scope.now (length code.old.items)
+            (eval_all scope.now self.now.free (expressions es.now)
+            ++ instr.Call (number_of self.now.setting.now.methods (word f.entry))
+            (argument_slots scope.now self.now.free (expressions es.now)) ∷ []))) }
     {
         let slots = emit_args(self.alloc, code, scope, self.free, es)?;
         push(code, Instr::Call(self.setting.method(f)?, args(slots)?))
@@ -348,9 +409,14 @@ impl<'a, 't> Emitter<'a, 't> {
         scope: &Scope<'t>,
         e: &Expr<'t>,
     ) -> Result<(), CodeError>
-        ensures { OnOk result (code.new.items ≡ code.old.items
+        ensures code { OnOk result (code.new.items ≡ code.old.items
             ++ (eval scope.now self.now.free (expression e.now)
             ++ instr.Print (slot_for scope.now self.now.free (expression e.now)) ∷ [])) }
+        ensures refused { IfErr result (λ err. Denies err
+            (IsKnown scope.now (expression e.now))
+            (HasRoom scope.now (length code.old.items)
+            (eval scope.now self.now.free (expression e.now)
+            ++ instr.Print (slot_for scope.now self.now.free (expression e.now)) ∷ []))) }
     {
         let x = emit_expr(code, scope, self.free, e)?;
         push(code, Instr::Print(x))
@@ -364,10 +430,17 @@ impl<'a, 't> Emitter<'a, 't> {
         at: usize,
         clocks: &Option<ClockList<'t>>,
     ) -> Result<(), CodeError>
-        ensures { OnOk result (code.new.items ≡ code.old.items
+        ensures code { OnOk result (code.new.items ≡ code.old.items
             ++ instr.Spawn (body_unit self.now.setting.now at)
             (slots_of scope.now
             (body_params self.now.setting.now at (option_map clock_list clocks.now))) ∷ []) }
+        ensures refused { IfErr result (λ err. Denies err
+            (IsSome (body_at self.now.setting.now at) × All (IsFound scope.now)
+            (body_params self.now.setting.now at (option_map clock_list clocks.now)))
+            (HasRoom scope.now (length code.old.items)
+            (instr.Spawn (body_unit self.now.setting.now at)
+            (slots_of scope.now
+            (body_params self.now.setting.now at (option_map clock_list clocks.now))) ∷ []))) }
     {
         let body = self.setting.body(at)?;
         let mut slots = clock_slots(self.alloc, scope, clocks)?;
@@ -394,6 +467,11 @@ impl<'a, 't> Emitter<'a, 't> {
             (λ test. test.x ≡ slot_for scope.now self.now.free (expression l.now)) }
         ensures second { IfOk result (λ test. test.y
             ≡ second scope.now self.now.free (expression l.now) (expression r.now)) }
+        ensures refused { IfErr result (λ err. Denies err
+            (IsKnown scope.now (expression l.now) × IsKnown scope.now (expression r.now))
+            (HasRoom scope.now (length code.old.items)
+            (both scope.now self.now.free (expression l.now) (expression r.now)
+            ++ instr.Jump 0 ∷ []))) }
     {
         let (x, y) = emit_both(code, scope, self.free, l, r)?;
         let at = gap(code)?;
@@ -414,6 +492,11 @@ impl<'a, 't> Emitter<'a, 't> {
             (statement s.now)) }
         ensures scope { OnOk result (scope.new ≡ declared scope.old n (statement s.now)) }
         ensures slots { IfOk result (λ m. m ≡ n + count (statement s.now)) }
+        ensures refused { IfErr result (λ err. Denies err
+            (IsCovered self.now.setting.now scope.old n (statement s.now))
+            (HasRoom scope.old (length code.old.items)
+            (code_of self.now.setting.now self.now.free scope.old n (length code.old.items)
+            (statement s.now)) × (n + count (statement s.now) ≤ 64))) }
     {
         match s {
             Stmt::Block(ss) => {
@@ -515,6 +598,11 @@ impl<'a, 't> Emitter<'a, 't> {
             (statements ss.now)) }
         ensures scope { OnOk result (scope.new ≡ declared_by_all scope.old n (statements ss.now)) }
         ensures slots { IfOk result (λ m. m ≡ n + count_all (statements ss.now)) }
+        ensures refused { IfErr result (λ err. Denies err
+            (AreCovered self.now.setting.now scope.old n (statements ss.now))
+            (HasRoom scope.old (length code.old.items)
+            (code_of_all self.now.setting.now self.now.free scope.old n (length code.old.items)
+            (statements ss.now)) × (n + count_all (statements ss.now) ≤ 64))) }
     {
         let mut next = n;
         for s in ss {
@@ -527,7 +615,8 @@ impl<'a, 't> Emitter<'a, 't> {
 /// The slot behind those of a statement's names, where n is the next.
 #[cycle(slots)]
 pub(crate) fn slots_behind(n: u16, s: &Stmt<'_>) -> Result<u16, CodeError>
-    ensures { IfOk result (λ m. m ≡ n + count (statement s.now)) }
+    ensures next { IfOk result (λ m. m ≡ n + count (statement s.now)) }
+    ensures refused { IfErr result (λ e. Denies e ⊤ (n + count (statement s.now) ≤ 64)) }
 {
     match s {
         Stmt::Block(ss) => slots_behind_all(n, ss),
@@ -551,7 +640,8 @@ pub(crate) fn slots_behind(n: u16, s: &Stmt<'_>) -> Result<u16, CodeError>
 /// The same for statements, one after another.
 #[cycle(slots)]
 pub(crate) fn slots_behind_all(n: u16, ss: &[Stmt<'_>]) -> Result<u16, CodeError>
-    ensures { IfOk result (λ m. m ≡ n + count_all (statements ss.now)) }
+    ensures next { IfOk result (λ m. m ≡ n + count_all (statements ss.now)) }
+    ensures refused { IfErr result (λ e. Denies e ⊤ (n + count_all (statements ss.now) ≤ 64)) }
 {
     let mut next = n;
     for s in ss {

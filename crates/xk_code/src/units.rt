@@ -1,12 +1,16 @@
 //! The units of methods and of the bodies of `async`.
 
-ghost use Rattle.std.specs.Prelude.{◌≡◌, ◌++◌, [], ◌∷◌, length, map, max, option_map, OnOk, IfOk};
+ghost use Rattle.std.specs.Prelude.{◌≡◌, ◌++◌, [], ◌∷◌, length, map, max, option_map, ◌≤◌, IsSome, OnOk, IfOk, IfErr, ⊤};
 ghost use Rattle.xk_types.specs.declared.instr.Instr.TheVariants as instr;
 ghost use Rattle.xk_types.specs.Code.{IsUnitWithinLimits};
-ghost use Rattle.xk_tree.specs.Tree.{clock_list, method_value, param_value, statement, words};
+ghost use Rattle.xk_tree.specs.Tree.{Block, clock_list, method_value, param_value, statement, words};
 ghost use Rattle.xk_names.specs.Scope.{texts};
 ghost use Rattle.xk_names.specs.Uses.{clocks_listed};
-ghost use Rattle.xk_code.specs.Unit.{kinds_of_params, names_of_params, scope_from, slots_used, unit_of_body, unit_of_method, written_slots};
+ghost use Rattle.xk_code.specs.Unit.{body_kinds, kinds_of_params, names_of_params, scope_from, slots_used, unit_of_body, unit_of_method, written_slots};
+ghost use Rattle.xk_code.specs.CodeOf.{body_at, body_params};
+ghost use Rattle.xk_code.specs.Covered.{AreNew, IsUnitCovered};
+ghost use Rattle.xk_code.specs.Room.{Denies};
+ghost use Rattle.xk_code.specs.declared.error.CodeError.TheVariants as error;
 
 use crate::error::CodeError;
 use crate::expressions::{Scope, after, push};
@@ -17,7 +21,8 @@ use xk_names::Table;
 use xk_tree::{ClockList, Method, Name, Param, Stmt};
 use xk_types::{Instr, MAX_SLOTS, ParamKind, Unit, UnitKind};
 
-/// The unit of a method, or of `main`.
+/// The unit of a method, or of `main`. It has none where a name that its code needs is unknown, or one that it declares is known
+/// already; nor where its unit would go beyond a limit.
 #[tactic(auto, using(crate::proofs::Made::unit_made))]
 pub fn method_unit<'t>(
     alloc: Global,
@@ -28,6 +33,11 @@ pub fn method_unit<'t>(
     ensures made { IfOk result
         (λ unit. unit ≡ unit_of_method setting.now kind (method_value method.now)) }
     ensures limits { IfOk result IsUnitWithinLimits }
+    ensures name { IfErr result (λ e. e ≡ error.Name → IsUnitCovered setting.now
+        (names_of_params (method_value method.now).params)
+        (Block (method_value method.now).body) → ⊥) }
+    ensures table { IfErr result (λ e. e ≡ error.Table
+        → IsUnitWithinLimits (unit_of_method setting.now kind (method_value method.now)) → ⊥) }
 {
     let names = param_names(alloc, &method.params)?;
     let (mut scope, n) = param_scope(alloc, &names)?;
@@ -43,7 +53,8 @@ pub fn method_unit<'t>(
     Ok(unit)
 }
 
-/// The unit of the body of an `async`: its word stands at offset `at`, and it is given these clocks.
+/// The unit of the body of an `async`, whose word stands at offset `at`, and which is given these clocks; or why it has none, as of
+/// a method.
 #[tactic(auto, using(crate::proofs::Made::unit_made))]
 pub fn body_unit<'t>(
     alloc: Global,
@@ -55,13 +66,13 @@ pub fn body_unit<'t>(
     ensures made { IfOk result (λ unit. unit
         ≡ unit_of_body setting.now at (option_map clock_list clocks.now) (statement s.now)) }
     ensures limits { IfOk result IsUnitWithinLimits }
+    ensures name { IfErr result (λ e. e ≡ error.Name → IsSome (body_at setting.now at)
+        → IsUnitCovered setting.now
+        (body_params setting.now at (option_map clock_list clocks.now)) (statement s.now) → ⊥) }
+    ensures table { IfErr result (λ e. e ≡ error.Table → IsUnitWithinLimits
+        (unit_of_body setting.now at (option_map clock_list clocks.now) (statement s.now)) → ⊥) }
 {
-    let captures = &setting.body(at)?.captures;
-    let mut names = clock_names(alloc, clocks)?;
-    let mut kinds = Vec::new(alloc);
-    push_kinds(&mut kinds, ParamKind::Clock, &names)?;
-    push_kinds(&mut kinds, ParamKind::Number, captures)?;
-    push_all(&mut names, captures)?;
+    let names = body_names(alloc, setting, at, clocks)?;
     let (mut scope, n) = param_scope(alloc, &names)?;
     let free = slots_behind(n, s)?;
     let emitter = Emitter {
@@ -71,8 +82,42 @@ pub fn body_unit<'t>(
     };
     let mut code = Vec::new(alloc);
     emitter.emit(&mut code, &mut scope, n, s)?;
+    let kinds = body_kinds(alloc, setting, at, clocks)?;
     let unit = unit(UnitKind::Body, kinds, free, code)?;
     Ok(unit)
+}
+
+/// The names of a body's parameters: its clocks, and then the numbers that it takes from outside.
+fn body_names<'t>(
+    alloc: Global,
+    setting: &Setting<'t>,
+    at: usize,
+    clocks: &Option<ClockList<'t>>,
+) -> Result<Vec<&'t [u8]>, CodeError>
+    ensures made { IfOk result (λ names. map (λ x. x.now) names.items
+        ≡ body_params setting.now at (option_map clock_list clocks.now)) }
+    ensures refused { IfErr result (λ e. Denies e (IsSome (body_at setting.now at)) ⊤) }
+{
+    let mut names = clock_names(alloc, clocks)?;
+    push_all(&mut names, &setting.body(at)?.captures)?;
+    Ok(names)
+}
+
+/// What they take.
+fn body_kinds<'t>(
+    alloc: Global,
+    setting: &Setting<'t>,
+    at: usize,
+    clocks: &Option<ClockList<'t>>,
+) -> Result<Vec<ParamKind>, CodeError>
+    ensures made { IfOk result (λ kinds. kinds.items
+        ≡ body_kinds setting.now at (option_map clock_list clocks.now)) }
+    ensures refused { IfErr result (λ e. Denies e (IsSome (body_at setting.now at)) ⊤) }
+{
+    let mut kinds = Vec::new(alloc);
+    push_kinds(&mut kinds, ParamKind::Clock, &clock_names(alloc, clocks)?)?;
+    push_kinds(&mut kinds, ParamKind::Number, &setting.body(at)?.captures)?;
+    Ok(kinds)
 }
 
 /// Ends a unit, of which `free` slots are those of parameters and names.
@@ -89,6 +134,12 @@ fn unit(
       code = code.items ++ instr.Ret ∷ [];
     }) }
     ensures limits { IfOk result IsUnitWithinLimits }
+    ensures refused { IfErr result (λ e. Denies e ⊤ (IsUnitWithinLimits (record {
+      kind = kind;
+      params = params.items;
+      slots = slots_used free (code.items ++ instr.Ret ∷ []);
+      code = code.items ++ instr.Ret ∷ [];
+    }))) }
 {
     push(&mut code, Instr::Ret)?;
     let slots = slots_of_code(free, &code)?;
@@ -108,7 +159,8 @@ fn unit(
 /// The slots of a unit: `free` of them are those of parameters and names.
 #[tactic(auto, using(crate::proofs::Slots::used_first))]
 fn slots_of_code(free: u16, code: &[Instr]) -> Result<u16, CodeError>
-    ensures { IfOk result (λ n. n ≡ slots_used free code.now) }
+    ensures slots { IfOk result (λ n. n ≡ slots_used free code.now) }
+    ensures refused { IfErr result (λ e. Denies e ⊤ (slots_used free code.now ≤ 64)) }
 {
     let mut most = free as usize;
     for instr in code {
@@ -147,6 +199,8 @@ fn written(instr: &Instr) -> usize
 fn param_scope<'t>(alloc: Global, names: &[&'t [u8]]) -> Result<(Scope<'t>, u16), CodeError>
     ensures scope { IfOk result (λ made. made.0 ≡ scope_from 0 (map (λ x. x.now) names.now)) }
     ensures count { IfOk result (λ made. made.1 ≡ length (map (λ x. x.now) names.now)) }
+    ensures refused { IfErr result (λ e. Denies e (AreNew [] 0 (map (λ x. x.now) names.now))
+        (length names.now ≤ 64)) }
 {
     let mut scope = Table::new(alloc);
     let mut n = 0;
@@ -159,8 +213,9 @@ fn param_scope<'t>(alloc: Global, names: &[&'t [u8]]) -> Result<(Scope<'t>, u16)
 
 /// The names of a method's parameters.
 fn param_names<'t>(alloc: Global, params: &[Param<'t>]) -> Result<Vec<&'t [u8]>, CodeError>
-    ensures { IfOk result (λ names. map (λ x. x.now) names.items
+    ensures made { IfOk result (λ names. map (λ x. x.now) names.items
         ≡ names_of_params (map param_value params.now)) }
+    ensures refused { IfErr result (λ e. e ≡ error.OutOfMemory) }
 {
     let mut names = Vec::new(alloc);
     for param in params {
@@ -171,7 +226,9 @@ fn param_names<'t>(alloc: Global, params: &[Param<'t>]) -> Result<Vec<&'t [u8]>,
 
 /// What a method's parameters take.
 fn param_kinds(alloc: Global, params: &[Param<'_>]) -> Result<Vec<ParamKind>, CodeError>
-    ensures { IfOk result (λ kinds. kinds.items ≡ kinds_of_params (map param_value params.now)) }
+    ensures made { IfOk result
+        (λ kinds. kinds.items ≡ kinds_of_params (map param_value params.now)) }
+    ensures refused { IfErr result (λ e. e ≡ error.OutOfMemory) }
 {
     let mut kinds = Vec::new(alloc);
     for param in params {
@@ -185,8 +242,9 @@ fn clock_names<'t>(
     alloc: Global,
     clocks: &Option<ClockList<'t>>,
 ) -> Result<Vec<&'t [u8]>, CodeError>
-    ensures { IfOk result (λ names. map (λ x. x.now) names.items
+    ensures made { IfOk result (λ names. map (λ x. x.now) names.items
         ≡ texts (clocks_listed (option_map clock_list clocks.now))) }
+    ensures refused { IfErr result (λ e. e ≡ error.OutOfMemory) }
 {
     match clocks {
         None => Ok(Vec::new(alloc)),
@@ -196,7 +254,8 @@ fn clock_names<'t>(
 
 /// The texts of names.
 fn texts<'t>(alloc: Global, names: &[Name<'t>]) -> Result<Vec<&'t [u8]>, CodeError>
-    ensures { IfOk result (λ found. map (λ x. x.now) found.items ≡ texts (words names.now)) }
+    ensures made { IfOk result (λ found. map (λ x. x.now) found.items ≡ texts (words names.now)) }
+    ensures refused { IfErr result (λ e. e ≡ error.OutOfMemory) }
 {
     let mut found = Vec::new(alloc);
     for name in names {
@@ -207,8 +266,9 @@ fn texts<'t>(alloc: Global, names: &[Name<'t>]) -> Result<Vec<&'t [u8]>, CodeErr
 
 /// Further names.
 fn push_all<'t>(names: &mut Vec<&'t [u8]>, more: &[&'t [u8]]) -> Result<(), CodeError>
-    ensures { OnOk result (map (λ x. x.now) names.new.items
+    ensures made { OnOk result (map (λ x. x.now) names.new.items
         ≡ map (λ x. x.now) names.old.items ++ map (λ x. x.now) more.now) }
+    ensures refused { IfErr result (λ e. e ≡ error.OutOfMemory) }
 {
     for name in more {
         names.push(*name)?;
@@ -218,8 +278,9 @@ fn push_all<'t>(names: &mut Vec<&'t [u8]>, more: &[&'t [u8]]) -> Result<(), Code
 
 /// A kind for each of these names.
 fn push_kinds(kinds: &mut Vec<ParamKind>, kind: ParamKind, names: &[&[u8]]) -> Result<(), CodeError>
-    ensures { OnOk result (kinds.new.items
+    ensures made { OnOk result (kinds.new.items
         ≡ kinds.old.items ++ map (λ _. kind) (map (λ x. x.now) names.now)) }
+    ensures refused { IfErr result (λ e. e ≡ error.OutOfMemory) }
 {
     for _name in names {
         kinds.push(kind)?;

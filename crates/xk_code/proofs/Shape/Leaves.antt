@@ -1,23 +1,25 @@
 -- What holds of each instruction in the rows of a statement's code.
-use Rattle.std.proofs.Common.{◌≡◌, ℕ, ℤ, pos, int_le, Bool, true, false, cond, ◌+◌, List, [], ◌∷◌, ◌++◌, Option, Some, None, refl}
+use Rattle.std.proofs.Common.{◌≡◌, ℕ, ℤ, suc, pos, int_le, Bool, true, false, cond, ◌+◌, List, [], ◌∷◌, ◌++◌, length, Option, Some, None, unwrap_or, refl, ap}
 use Rattle.std.specs.Option.{option_map_or}
+use Rattle.std.proofs.lemmas.List.{length-map}
 use Rattle.xk_types.specs.declared.instr.Instr.{Instr}
 use Rattle.xk_types.specs.declared.instr.Instr.TheVariants as instr
 use Rattle.xk_tree.specs.declared.tree.Operator.{Operator}
 use Rattle.xk_tree.specs.declared.tree.Operator.TheVariants as operator
-use Rattle.xk_tree.specs.Tree.{Word, Expression, Literal, Named, Paren, Negation, Binary, Source, Make, Value, Statement, Block, Empty, Declare, Assign, Atomic, If, IfElse, For, Async, Finish, Call, Resume, Drop, AdvanceAll, Print, Statements, Done, More}
+use Rattle.xk_tree.specs.Tree.{Word, Clocks, Expression, Literal, Named, Paren, Negation, Binary, Source, Make, Value, Statement, Block, Empty, Declare, Assign, Atomic, If, IfElse, For, Async, Finish, Call, Resume, Drop, AdvanceAll, Print, Statements, Done, More}
 use Rattle.xk_names.specs.Scope.{find}
-use Rattle.xk_code.specs.CodeOf.{Scope, Setting, number_of, instr_of, slot_for, behind, eval, both, second, before_into, last_into, eval_all, last_value, code_of_source, before_assigned, last_assigned, count, declared}
+use Rattle.xk_code.specs.CodeOf.{Scope, Setting, number_of, slots_of, body_unit, body_params, argument_slots, instr_of, slot_for, behind, eval, both, second, before_into, last_into, eval_all, last_value, code_of_source, before_assigned, last_assigned, count, declared}
 use Rattle.xk_code.proofs.Shape.Stands.{Holds, holds_both}
 use Rattle.xk_code.proofs.Shape.Nest.{Nest, Row, Loop, EachRow, nest_of, nest_of_all}
 
--- a property of each statement that holds no other, in a unit's statements; the bodies of `async` are units of their own
+-- A property of each statement that holds no other, in a unit's statements: the bodies of `async` are units of their own, and loops that take
+-- no turn have no code.
 abbrev mutual
   pub EachInside : (Statement → Type 0) → Statement → Type 0
   EachInside Q (Block ss) = EachOf Q ss
   EachInside Q (If at l op r s) = EachInside Q s
   EachInside Q (IfElse at l op r s u) = EachInside Q s × EachInside Q u
-  EachInside Q (For at i lo hi s) = EachInside Q s
+  EachInside Q (For at i lo hi s) = int_le lo.value hi.value ≡ true → EachInside Q s
   EachInside Q (Finish s) = EachInside Q s
   EachInside Q s = Q s
 
@@ -41,8 +43,14 @@ pub record Leaves (cx : Setting) (Q : Statement → Type 0) (P : Instr → Type 
   pub resume : (c : ℕ) → P (instr.Resume c)
   pub drop : (c : ℕ) → P (instr.Drop c)
   pub advance : P instr.Advance
-  pub call : (u : ℕ) (args : List ℕ) → P (instr.Call u args)
-  pub spawn : (u : ℕ) (args : List ℕ) → P (instr.Spawn u args)
+  -- with as many arguments as there are, of a method and of the body of an `async`
+  pub call : (f : Word) (at : ℕ) (es : List Expression) (args : List ℕ) → Q (Call f at es) → length args ≡ length es → P (instr.Call (number_of cx.methods f) args)
+  pub spawn : (at : ℕ) (cs : Option Clocks) (s : Statement) (args : List ℕ) → Q (Async at cs s) → length args ≡ length (body_params cx at cs)
+      → P (instr.Spawn (body_unit cx at) args)
+
+slots_count : (scope : Scope) (t : ℕ) (es : List Expression) → length (argument_slots scope t es) ≡ length es
+slots_count scope t [] = refl
+slots_count scope t (e ∷ es) = ap suc (slots_count scope (behind t (slot_for scope t e)) es)
 
 module _ (cx : Setting) (Q : Statement → Type 0) (P : Instr → Type 0) (l : Leaves cx Q P) where
   -- ---- expressions
@@ -125,14 +133,18 @@ module _ (cx : Setting) (Q : Statement → Type 0) (P : Instr → Type 0) (l : L
         then_one (eval scope t e) (instr.AddTo (number_of cx.shared x) (slot_for scope t e)) (each_eval scope t e) (l.add_to x y at e h (slot_for scope t e))
     rows_of t scope n (If at a op b s) h = (each_both scope t a b, rows_of t scope n s h)
     rows_of t scope n (IfElse at a op b s u) h = (each_both scope t a b, (rows_of t scope n s h.0, rows_of t scope (n + count s) u h.1))
-    rows_of t scope n (For at i lo hi s) h = go (int_le lo.value hi.value) (nest_of cx t (scope ++ (i.text, n) ∷ []) (n + 1) s) (rows_of t (scope ++ (i.text, n) ∷ []) (n + 1) s h)
+    rows_of t scope n (For at i lo hi s) h =
+        go (int_le lo.value hi.value) h (nest_of cx t (scope ++ (i.text, n) ∷ []) (n + 1) s) (rows_of t (scope ++ (i.text, n) ∷ []) (n + 1) s)
       where
-        go : (b : Bool) (x : Nest) → EachRow P x → EachRow P (cond b (Loop n lo.value hi.value x) (Row []))
-        go true x r = r
-        go false x r = tt
-    rows_of t scope n (Async at cs s) h = (l.spawn _ _, tt)
+        go : (b : Bool) → (b ≡ true → EachInside Q s) → (x : Nest) → (EachInside Q s → EachRow P x) → EachRow P (cond b (Loop n lo.value hi.value x) (Row []))
+        go true g x r = r (g refl)
+        go false g x r = tt
+    rows_of t scope n (Async at cs s) h =
+        (l.spawn at cs s (slots_of scope (body_params cx at cs)) h (length-map (body_params cx at cs) (λ x. unwrap_or (find scope x) 0)), tt)
     rows_of t scope n (Finish s) h = rows_of t scope n s h
-    rows_of t scope n (Call f at es) h = then_one (eval_all scope t es) _ (each_of_all scope t es) (l.call _ _)
+    rows_of t scope n (Call f at es) h =
+        let args = argument_slots scope t es in
+        then_one (eval_all scope t es) (instr.Call (number_of cx.methods f) args) (each_of_all scope t es) (l.call f at es args h (slots_count scope t es))
     rows_of t scope n (Resume c v) h = (l.resume (number_of scope c), tt)
     rows_of t scope n (Drop c v) h = (l.drop (number_of scope c), tt)
     rows_of t scope n (AdvanceAll at v) h = (l.advance, tt)
@@ -141,3 +153,26 @@ module _ (cx : Setting) (Q : Statement → Type 0) (P : Instr → Type 0) (l : L
     pub rows_of_all : (t : ℕ) (scope : Scope) (n : ℕ) (ss : Statements) → EachOf Q ss → EachRow P (nest_of_all cx t scope n ss)
     rows_of_all t scope n Done h = tt
     rows_of_all t scope n (More s ss) h = (rows_of t scope n s h.0, rows_of_all t (declared scope n s) (n + count s) ss h.1)
+
+-- a property of all statements
+mutual
+  pub each_inside : (Q : Statement → Type 0) → ((s : Statement) → Q s) → (s : Statement) → EachInside Q s
+  each_inside Q h (Block ss) = each_of Q h ss
+  each_inside Q h (If at l op r s) = each_inside Q h s
+  each_inside Q h (IfElse at l op r s u) = (each_inside Q h s, each_inside Q h u)
+  each_inside Q h (For at i lo hi s) = λ turns. each_inside Q h s
+  each_inside Q h (Finish s) = each_inside Q h s
+  each_inside Q h Empty = h Empty
+  each_inside Q h (Declare b x ty r) = h (Declare b x ty r)
+  each_inside Q h (Assign x e) = h (Assign x e)
+  each_inside Q h (Atomic x y at e) = h (Atomic x y at e)
+  each_inside Q h (Async at cs s) = h (Async at cs s)
+  each_inside Q h (Call f at es) = h (Call f at es)
+  each_inside Q h (Resume c v) = h (Resume c v)
+  each_inside Q h (Drop c v) = h (Drop c v)
+  each_inside Q h (AdvanceAll at v) = h (AdvanceAll at v)
+  each_inside Q h (Print at v e) = h (Print at v e)
+
+  pub each_of : (Q : Statement → Type 0) → ((s : Statement) → Q s) → (ss : Statements) → EachOf Q ss
+  each_of Q h Done = tt
+  each_of Q h (More s ss) = (each_inside Q h s, each_of Q h ss)

@@ -1,39 +1,28 @@
--- The units that the compiler makes break none of the rules on targets, blocks and ends.
-use Rattle.std.proofs.Common.{◌≡◌, ℕ, false, List, [], ◌∷◌, ◌++◌, length, refl, ap}
+-- A unit that the compiler makes: it breaks none of the rules V1 to V7.
+use Rattle.std.proofs.Common.{◌≡◌, ℕ, suc, ◌+◌, ◌==◌, Bool, true, false, not, ◌&&◌, ◌||◌, List, [], ◌∷◌, ◌++◌, length, refl, sym, ap, subst, arith}
+use Rattle.std.specs.Prelude.{nat_lt, slice_get}
+use Rattle.std.specs.List.{list_all}
+use Rattle.std.specs.Option.{option_map_or}
+use Rattle.xk_types.specs.declared.instr.Instr.{Instr}
 use Rattle.xk_types.specs.declared.instr.Instr.TheVariants as instr
 use Rattle.xk_types.specs.declared.unit.ParamKind.{ParamKind}
 use Rattle.xk_types.specs.declared.unit.UnitKind.{UnitKind}
-use Rattle.xk_types.specs.Shape.{breaks_target, breaks_block, breaks_end}
-use Rattle.xk_tree.specs.Tree.{Statement, Block, Empty, Declare, Assign, Atomic, If, IfElse, For, Async, Finish, Call, Resume, Drop, AdvanceAll, Print, Statements, Done, More}
-use Rattle.xk_code.specs.CodeOf.{Setting}
-use Rattle.xk_code.specs.Unit.{scope_from, first_temporary, unit_code, unit_of}
-use Rattle.xk_code.proofs.Shape.Nest.{Nest, lay, EachRow, nest_of, laid}
+use Rattle.xk_types.specs.Code.{ModuleValue}
+use Rattle.xk_types.specs.Shape.{instr_is, slots_named, cell_named, is_in_place, runs_amiss, breaks_target, breaks_block, breaks_slot, breaks_cell, breaks_unit, breaks_loop, breaks_end}
+use Rattle.xk_tree.specs.Tree.{Statement}
+use Rattle.xk_code.specs.CodeOf.{Setting, code_of}
+use Rattle.xk_code.specs.Unit.{scope_from, first_temporary, slots_used, unit_code, unit_of}
+use Rattle.xk_code.specs.Covered.{IsUnitCovered}
+use Rattle.xk_code.proofs.Shape.Stands.{Holds, holds_both, holds_left, holds_got}
+use Rattle.xk_code.proofs.Shape.Nest.{Nest, lay, EachRow, Frames, each_laid, nest_of, laid}
 use Rattle.xk_code.proofs.Shape.Targets.{Plain}
-use Rattle.xk_code.proofs.Shape.Leaves.{EachInside, EachOf, Leaves, rows_of}
+use Rattle.xk_code.proofs.Shape.Leaves.{EachInside, each_inside, Leaves, rows_of}
+use Rattle.xk_code.proofs.Shape.Slots.{NamesBelow, WritesBelow, all_below, ScopeBelow, scope_wider, code_below, used_below, used_least}
+use Rattle.xk_code.proofs.Shape.Counters.{KeepsNames, loops_kept}
+use Rattle.xk_code.proofs.Shape.Whole.{is_none}
 use Rattle.xk_code.proofs.Shape.Whole as whole
-
--- a property of all statements
-mutual
-  pub each_inside : (Q : Statement → Type 0) → ((s : Statement) → Q s) → (s : Statement) → EachInside Q s
-  each_inside Q h (Block ss) = each_of Q h ss
-  each_inside Q h (If at l op r s) = each_inside Q h s
-  each_inside Q h (IfElse at l op r s u) = (each_inside Q h s, each_inside Q h u)
-  each_inside Q h (For at i lo hi s) = each_inside Q h s
-  each_inside Q h (Finish s) = each_inside Q h s
-  each_inside Q h Empty = h Empty
-  each_inside Q h (Declare b x ty r) = h (Declare b x ty r)
-  each_inside Q h (Assign x e) = h (Assign x e)
-  each_inside Q h (Atomic x y at e) = h (Atomic x y at e)
-  each_inside Q h (Async at cs s) = h (Async at cs s)
-  each_inside Q h (Call f at es) = h (Call f at es)
-  each_inside Q h (Resume c v) = h (Resume c v)
-  each_inside Q h (Drop c v) = h (Drop c v)
-  each_inside Q h (AdvanceAll at v) = h (AdvanceAll at v)
-  each_inside Q h (Print at v e) = h (Print at v e)
-
-  pub each_of : (Q : Statement → Type 0) → ((s : Statement) → Q s) → (ss : Statements) → EachOf Q ss
-  each_of Q h Done = tt
-  each_of Q h (More s ss) = (each_inside Q h s, each_of Q h ss)
+use Rattle.xk_code.proofs.Shape.Cells.{SharedBelow, CellBelow, AddsToShared, adds_to_shared, cell_leaves}
+use Rattle.xk_code.proofs.Shape.Runs.{RunsFitting, RunsWell, unit_leaves}
 
 -- rows name no places
 plain_leaves : (cx : Setting) → Leaves cx (λ s. Unit {0}) Plain
@@ -51,11 +40,39 @@ plain_leaves cx = record {
   resume = λ c. refl;
   drop = λ c. refl;
   advance = refl;
-  call = λ u args. refl;
-  spawn = λ u args. refl;
+  call = λ f at es args h e. refl;
+  spawn = λ at cs q args h e. refl;
 }
 
+-- a test that no instruction of the code passes
+no_place : (P : Instr → Type 0) (test : Instr → Bool) → ((i : Instr) → P i → test i ≡ false) → (code : List Instr) → Holds P code → (at : ℕ)
+    → instr_is test (slice_get code at) ≡ false
+no_place P test none code h at = is_none test (slice_get code at) (λ i e. none i (holds_got P code at i h e))
+
+parameters_below : (n : ℕ) (xs : List (List ℕ)) → ScopeBelow (n + length xs) (scope_from n xs)
+parameters_below n [] = tt
+parameters_below n (x ∷ xs) = (omega arith, scope_wider (n + 1 + length xs) (n + suc (length xs)) (scope_from (n + 1) xs) (omega arith) (parameters_below (n + 1) xs))
+
+slot_named : (m : ℕ) (i : Instr) → NamesBelow m i → not (list_all (λ s. nat_lt s m) (slots_named i)) ≡ false
+slot_named m i h = ap not (all_below m (slots_named i) h)
+
+either : (a b c : Bool) → b ≡ true → c ≡ false → ((a && not b) || c) ≡ false
+either true b c h g = rw (h, g) refl
+either false b c h g = g
+
 module _ (cx : Setting) (kind : UnitKind) (xs : List (List ℕ)) (kinds : List ParamKind) (s : Statement) where
+  abbrev t : ℕ
+  t = first_temporary xs s
+
+  abbrev code : List Instr
+  code = code_of cx t (scope_from 0 xs) (length xs) 0 s
+
+  abbrev most : ℕ
+  most = slots_used t (unit_code cx xs s)
+
+  within : ScopeBelow (length xs) (scope_from 0 xs)
+  within = scope_wider (0 + length xs) (length xs) (scope_from 0 xs) (omega arith) (parameters_below 0 xs)
+
   -- the structure of the unit's code
   abbrev pub nest : Nest
   nest = nest_of cx (first_temporary xs s) (scope_from 0 xs) (length xs) s
@@ -65,6 +82,11 @@ module _ (cx : Setting) (kind : UnitKind) (xs : List (List ℕ)) (kinds : List P
 
   pub is_code : unit_code cx xs s ≡ lay 0 nest ++ instr.Ret ∷ []
   is_code = ap (λ c. c ++ instr.Ret ∷ []) (laid cx (first_temporary xs s) (scope_from 0 xs) (length xs) 0 s)
+
+  -- its instructions, those of its rows and those that make the structure
+  laid_with : (Q : Statement → Type 0) (P : Instr → Type 0) → Leaves cx Q P → Frames P → P instr.Ret → EachInside Q s → Holds P (unit_code cx xs s)
+  laid_with Q P l f end h = subst (Holds P) (sym is_code)
+      (holds_both P (lay 0 nest) (instr.Ret ∷ []) (each_laid P f 0 nest (rows_of cx Q P l t (scope_from 0 xs) (length xs) s h)) (end, tt))
 
   -- V1
   pub keeps_target : (at : ℕ) → breaks_target (unit_of cx kind xs kinds s) at ≡ false
@@ -77,3 +99,30 @@ module _ (cx : Setting) (kind : UnitKind) (xs : List (List ℕ)) (kinds : List P
   -- V7
   pub keeps_end : (at : ℕ) → breaks_end (unit_of cx kind xs kinds s) at ≡ false
   keeps_end = whole.ends (unit_of cx kind xs kinds s) nest plain is_code
+
+  -- V3, where each name that the unit uses is found
+  pub keeps_slot : IsUnitCovered cx xs s → (at : ℕ) → breaks_slot (unit_of cx kind xs kinds s) at ≡ false
+  keeps_slot c = no_place (NamesBelow most) (λ i. not (list_all (λ q. nat_lt q most) (slots_named i))) (slot_named most) (unit_code cx xs s)
+      (holds_both (NamesBelow most) code (instr.Ret ∷ []) (code_below most cx t (scope_from 0 xs) (length xs) 0 s
+      (scope_wider (length xs) most (scope_from 0 xs) (omega (arith, used_least t (unit_code cx xs s))) within)
+      (used_least t (unit_code cx xs s)) c.body (holds_left (WritesBelow most) code (instr.Ret ∷ []) (used_below t (unit_code cx xs s)))) (tt, tt))
+
+  -- V5, where the shared numbers that the setting knows are the module's
+  pub keeps_cell : (m : ModuleValue) → SharedBelow cx (length m.shared) → IsUnitCovered cx xs s → (at : ℕ) → breaks_cell m (unit_of cx kind xs kinds s) at ≡ false
+  keeps_cell m below c = no_place (CellBelow (length m.shared)) (λ i. option_map_or (λ q. not (nat_lt q (length m.shared))) (cell_named i) false) (λ i h. h) (unit_code cx xs s)
+      (laid_with (AddsToShared cx) (CellBelow (length m.shared)) (cell_leaves cx (length m.shared) below)
+      (record { unless = λ op a b q. refl; jump = λ q. refl; begins = λ k lo hi e. refl; next = λ b. refl; finish = λ e. refl; ends = λ b. refl }) refl
+      (adds_to_shared cx (scope_from 0 xs) (length xs) s c.body))
+
+  -- V4, where it stands in its place, and what it calls or starts fits
+  pub keeps_unit : (m : ModuleValue) (unit : ℕ) → is_in_place unit (unit_of cx kind xs kinds s) ≡ true → EachInside (RunsFitting m cx unit) s
+      → (at : ℕ) → breaks_unit m unit (unit_of cx kind xs kinds s) at ≡ false
+  keeps_unit m unit place runs at =
+      let rest = no_place (RunsWell m unit) (runs_amiss m unit) (λ i h. h) (unit_code cx xs s)
+      (laid_with (RunsFitting m cx unit) (RunsWell m unit) (unit_leaves m cx unit)
+      (record { unless = λ op a b q. refl; jump = λ q. refl; begins = λ k lo hi e. refl; next = λ b. refl; finish = λ e. refl; ends = λ b. refl }) refl runs) at in
+      either (at == 0) (is_in_place unit (unit_of cx kind xs kinds s)) (instr_is (runs_amiss m unit) (slice_get (unit_code cx xs s) at)) place rest
+
+  -- V6, where no loop's name is assigned to in its body
+  pub keeps_loop : IsUnitCovered cx xs s → KeepsNames s → (at : ℕ) → breaks_loop (unit_of cx kind xs kinds s) at ≡ false
+  keeps_loop c names = whole.loops_right (unit_of cx kind xs kinds s) nest plain is_code (loops_kept cx t (scope_from 0 xs) (length xs) s within (omega arith) c.body names)

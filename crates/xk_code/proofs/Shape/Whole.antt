@@ -1,21 +1,22 @@
 -- A whole unit, whose code is a structure's and a `ret` behind it, breaks none of the rules on targets, blocks and ends.
-use Rattle.std.proofs.Common.{◌≡◌, ℕ, ℤ, ◌+◌, ◌<◌, ◌==◌, Bool, true, false, cond, not, ◌&&◌, List, [], ◌∷◌, ◌++◌, map, length, Option, Some, None, option_map, option_and_then, inl, inr, ◌⊎◌, refl, sym, ap, ◌∙◌, subst, arith, length-append}
+use Rattle.std.proofs.Common.{◌≡◌, ℕ, ℤ, ◌+◌, ◌<◌, ◌==◌, Bool, true, false, cond, not, ◌&&◌, List, [], ◌∷◌, ◌++◌, map, length, Option, Some, None, option_map, option_and_then, inl, inr, ◌⊎◌, refl, sym, ap, ◌∙◌, subst, arith, length-append, ltb-true}
 use Rattle.std.specs.Prelude.{slice_get, nat_lt, if◌then◌else◌}
 use Rattle.std.specs.List.{list_any}
-use Rattle.std.proofs.lemmas.Bool.{false≢true, eq-eqb}
+use Rattle.std.proofs.lemmas.Bool.{false≢true, eq-eqb, and_parts}
 use Rattle.std.proofs.lemmas.Bool.Decides.{nat_tests}
 use Rattle.xk_types.specs.declared.instr.Instr.{Instr}
 use Rattle.xk_types.specs.declared.instr.Instr.TheVariants as instr
-use Rattle.xk_types.specs.Code.{UnitValue, Loop, is_next_of, loops}
+use Rattle.xk_types.specs.Code.{UnitValue, is_within, Loop, is_next_of, loops}
 use Rattle.xk_types.specs.Blocks.{Span, is_end_of, finishes}
 use Rattle.xk_types.specs.Order.{Has}
-use Rattle.xk_types.specs.Shape.{instr_is, is_ret, lies_ahead, aims_well, breaks_target, span_of, span_begun, spans, overlaps, crosses, span_ended, is_amiss, is_crossing, breaks_block, breaks_end}
+use Rattle.xk_types.specs.Shape.{instr_is, is_ret, lies_ahead, aims_well, breaks_target, span_of, span_begun, spans, overlaps, crosses, span_ended, is_amiss, is_crossing, breaks_block, is_backward, writes_slot, breaks_loop, breaks_end}
 use Rattle.xk_types.proofs.Shape.Loops.{loop_of, is_loop}
 use Rattle.xk_types.proofs.Shape.Finishes.{is_finish}
 use Rattle.xk_code.proofs.Shape.Stands.{Stands, stands_in, stands_left, stands_at, stands_got, stands_to, Holds, holds_at}
 use Rattle.xk_code.proofs.Shape.Nest.{Nest, lay, EachRow, each_row, each_laid}
 use Rattle.xk_code.proofs.Shape.Targets.{Plain, plain_no_ret, until, Aims, aims_wider, aims_inside}
 use Rattle.xk_code.proofs.Shape.Halves.{Paired, paired_inside}
+use Rattle.xk_code.proofs.Shape.Counters.{LoopsKept, Forward, forward, spare_inside}
 use Rattle.xk_code.proofs.Shape.Spans.{span, Opens, Respects, respects_inside}
 
 -- ---- lists
@@ -43,6 +44,10 @@ has_mapped f (x ∷ xs) y (inr h) = let r = has_mapped f xs y h in (r.0, inr r.1
 pub is_none : (test : Instr → Bool) (o : Option Instr) → ((i : Instr) → o ≡ Some i → test i ≡ false) → instr_is test o ≡ false
 is_none test None h = refl
 is_none test (Some i) h = h i refl
+
+and_false : (b : Bool) → (b && false) ≡ false
+and_false true = refl
+and_false false = refl
 
 -- ---- the unit
 
@@ -196,3 +201,28 @@ module _ (u : UnitValue) (x : Nest) (plain : EachRow Plain x) (is : u.code ≡ l
     is_none (λ i. is_ret i && nat_lt (at + 1) (length u.code)) (slice_get u.code at) (λ i h. ends_late at i (found at i h)),
     is_none (λ i. not (is_ret i) && (at + 1 == length u.code)) (slice_get u.code at) (λ i h. ends_there_alone at i (found at i h)),
   ) (some at)
+
+  -- ---- loops
+
+  module _ (kept : LoopsKept x) where
+    forward_all : (at : ℕ) (i : Instr) → Stands 0 (lay 0 x) at i ⊎ ((at ≡ length (lay 0 x)) × (instr.Ret ≡ i)) → is_backward i ≡ false
+    forward_all at i (inl h) = holds_at Forward 0 (lay 0 x) at i (forward 0 x plain kept) h
+    forward_all at i (inr h) = subst (λ j. is_backward j ≡ false) h.1 refl
+
+    spared_by : (l : Loop) → Has (loops u) l → (at : ℕ) (i : Instr) → Stands 0 (lay 0 x) at i ⊎ ((at ≡ length (lay 0 x)) × (instr.Ret ≡ i))
+        → (is_within at l && writes_slot l.slot i) ≡ false
+    spared_by l h at i (inl g) = go (is_within at l) refl
+      where
+        go : (b : Bool) → is_within at l ≡ b → (b && writes_slot l.slot i) ≡ false
+        go false e = refl
+        go true e =
+            let p = and_parts (nat_lt l.first at) (nat_lt at l.last) e in
+            spare_inside 0 x plain kept l.first l.slot l.last l.lo l.hi (found_inside l.first (instr.For l.slot l.lo l.hi l.last) (is_loop u l h).begins refl)
+            at i g (ltb-true l.first at p.0) (ltb-true at l.last p.1)
+    spared_by l h at i (inr g) = subst (λ j. (is_within at l && writes_slot l.slot j) ≡ false) g.1 (and_false (is_within at l))
+
+    -- V6
+    pub loops_right : (at : ℕ) → breaks_loop u at ≡ false
+    loops_right at = rw (is_none is_backward (slice_get u.code at) (λ i h. forward_all at i (found at i h)))
+        (is_none (λ i. list_any (λ l. is_within at l && writes_slot l.slot i) (loops u)) (slice_get u.code at)
+        (λ i h. none_any (λ l. is_within at l && writes_slot l.slot i) (loops u) (λ l g. spared_by l g at i (found at i h))))
