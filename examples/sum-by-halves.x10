@@ -1,5 +1,5 @@
 // Four numbers are summed in two phases: two activities add a neighbour's number to their own, then one of them adds the other's sum.
-// Who adds prints 1000 * phase + 100 * who + its sum; main prints the whole one.
+// Who adds prints 1000 * round + 100 * the place of its number + the sum; main prints the whole one.
 shared a = 1;
 shared b = 2;
 shared c = 3;

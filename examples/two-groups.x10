@@ -1,5 +1,5 @@
 // Two groups with a clock each: 1 and 2 are in step, and 3 and 4, but no group waits for the other.
-// They print 10 * phase + who. In the order last the second group is done before the first one begins.
+// They print 10 * phase + who. In the order first the first group is done before the second one begins.
 def main() {
     val a = Clock.make();
     val b = Clock.make();

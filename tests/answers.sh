@@ -102,7 +102,10 @@ else
     sh tests/answers/made.sh > "$work/made.rows"
     sh tests/answers/made-sources.sh > "$work/sources-made.rows"
     # A program that can't compile yet isn't asked about source texts.
-    "$program" compile --help > /dev/null 2>&1 && takes_sources=yes || takes_sources=no
+    case $(echo 'def main() { Clock.advanceAll(); }' | "$program" compile - 2> /dev/null) in
+        *advance*) takes_sources=yes ;;
+        *) takes_sources=no ;;
+    esac
     for file in tests/answers/*.rows "$work/made.rows" "$work/sources-made.rows"; do
         case $takes_sources:${file##*/} in no:sources*) ;; *) asked "$file" ;; esac
     done

@@ -21,7 +21,7 @@ says for itself whether it is refused; one that calls a function which is refuse
                         another form would be met so too; take another bug, which leaves calls and names as they are
     no program          it doesn't compile
     passes              it is proved
-    not tried           a function that its own one calls is refused in each check
+    not tried           a function that its own one calls, or another of its cycle, is refused in each check
 
 It changes the files of the crate while it runs and puts them back: run it on a copy of the repository. The status is 0 where each bug is
 refused by its own function, or passes as said.
@@ -235,7 +235,7 @@ class Said:
         if self.names:
             return "only names", self.names[0]
         for reason in self.without_proof:
-            if OPEN.search(reason):
+            if OPEN.search(reason) and not reason.startswith("it calls "):
                 return "refused", reason
         return ("not tried", self.without_proof[0]) if self.without_proof else ("passes", "")
 
@@ -256,9 +256,9 @@ def said(crate, bug, lines):
                     found.add_proof_line(m[1], m[3])
                 elif not name or m[1] == file and first <= int(m[2]) <= last:
                     found.add_source_line(m[3])
-            elif m := re.match(r"fn \w+::(\S+): no proof: (.*)", line):
+            elif m := re.match(r"fn \w+::(\S+): (?:no proof: |not proved(?:; |$))(.*)", line):
                 if name and [word.lower() for word in m[1].split("::")] == own_path:
-                    found.without_proof.append(m[2])
+                    found.without_proof.append(m[2] or "another function of its cycle is refused")
     return found
 
 

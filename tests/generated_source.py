@@ -24,6 +24,12 @@ SIGNS = "( ) { } , ; : = + - * . .. == != < <= > >=".split()
 LITERALS = ["0", "1", "2", "3", "7", "00", "007", "9223372036854775807", "9223372036854775808", "9223372036854775809", "1" * 40]
 HELD = frozenset("lr")
 
+
+def listed(parts: list[Tokens]) -> Tokens:
+    """The parts with commas between them."""
+    return [token for number, part in enumerate(parts) for token in ([","] if number else []) + part]
+
+
 # Whole programs.
 
 
@@ -101,7 +107,8 @@ class Writer:
         self.unit, self.times, self.steps, self.activities = Unit("main" if is_main else "method"), 1, 1, 0
         self.budget, self.places = steps, activities
         taken = {known.name for known in self.methods}
-        name = "main" if is_main else self.chance(self.some([one for one in [*NAMES, "m", "step"] if one not in taken and one != "main"]), NAMES)
+        fresh = [one for one in [*NAMES, "m", "step"] if one not in taken and one != "main"]
+        name = "main" if is_main else self.chance(self.rng.choice(fresh), NAMES)
         letters = "" if is_main and not self.slips() else rng.choice(["", "c", "c", "n", "nn", "cn", "nc", "nnn", "cc", "ncn"])
         with self.scope():
             params: list[Tokens] = []
@@ -110,7 +117,7 @@ class Writer:
                 if letter == "c":
                     self.unit.clocks[known] = HELD
                 params.append([known.name, ":", "Clock" if letter == "c" else "Long"])
-            self.emit("def", name, "(", *self.listed(params), ")")
+            self.emit("def", name, "(", *listed(params), ")")
             self.block(rng.randint(self.length // 2, self.length) + (3 if is_main else 0))
         self.methods.append(Signature(name, letters, self.steps, self.activities))
 
@@ -126,9 +133,6 @@ class Writer:
         """What fits; now and then anything."""
         return self.rng.choice(any_of) if any_of and self.slips() else fitting
 
-    def some(self, choices: list) -> object:
-        return self.rng.choice(choices)
-
     # Tokens.
 
     def emit(self, *tokens: str) -> None:
@@ -136,9 +140,6 @@ class Writer:
 
     def spend(self, steps: int) -> None:
         self.steps += self.times * steps
-
-    def listed(self, parts: list[Tokens]) -> Tokens:
-        return [token for number, part in enumerate(parts) for token in ([","] if number else []) + part]
 
     def literal(self) -> Tokens:
         number = self.rng.choice(EDGES) if self.rng.random() < 0.1 else self.rng.randrange(-3, 8)
@@ -158,7 +159,7 @@ class Writer:
         """A new name, which mostly isn't visible yet; `main` and the like are names like any other."""
         taken = {known.name for known in self.visible}
         fresh = [name for name in NAMES if name not in taken] or [f"v{len(self.visible)}"]
-        name = self.chance(self.some(fresh), [known.name for known in self.visible])
+        name = self.chance(self.rng.choice(fresh), [known.name for known in self.visible])
         known = Known(name, kind, unit, unit.block if unit else 0, lent)
         self.visible.append(known)
         return known
@@ -170,7 +171,8 @@ class Writer:
         return self.any_name() if self.slips() else known.name
 
     def numbers(self) -> list[Known]:
-        return [known for known in self.visible if known.kind in ("fixed", "val") or known.kind == "var" and (known.unit is self.unit or self.slips())]
+        seen = lambda known: known.kind in ("fixed", "val") or known.kind == "var" and (known.unit is self.unit or self.slips())
+        return [known for known in self.visible if seen(known)]
 
     def of_kind(self, kind: str) -> list[Known]:
         return [known for known in self.visible if known.kind == kind and (known.unit in (None, self.unit) or self.slips())]
@@ -237,7 +239,8 @@ class Writer:
     def statement(self, alone: bool = False) -> None:
         if self.steps >= self.budget:
             return
-        ways: list[Callable[[], bool]] = [self.number] * 3 + [self.assign, self.share, self.show, self.advance, self.advance, self.resume, self.drop, self.call, self.call]
+        ways: list[Callable[[], bool]] = [self.number] * 3 + [self.advance, self.call] * 2
+        ways += [self.assign, self.share, self.show, self.resume, self.drop]
         ways += [] if alone else [self.make] * 3
         if self.depth < 5:
             ways += [self.start] * 5 + [self.loop, self.branch, self.finish] * 2 + [self.nested]
@@ -333,7 +336,7 @@ class Writer:
         lent, arguments = list(clocks), []
         for letter in self.chance(method.params, ["", "n", "c", "cc"]):
             arguments.append([self.name_of(clocks.pop())] if letter == "c" and clocks else self.expr(1))
-        self.emit(self.name_of(method), "(", *self.listed(arguments), ")", ";")
+        self.emit(self.name_of(method), "(", *listed(arguments), ")", ";")
         self.steps += self.times * (1 + method.steps)
         self.activities += self.times * method.activities
         for known, ways in self.unit.clocks.items():
@@ -349,7 +352,7 @@ class Writer:
         self.emit("async")
         if clocks:
             names = [[self.name_of(known)] for known in clocks]
-            self.emit("clocked", "(", *self.listed(names + ([self.rng.choice(names)] if self.slips() else [])), ")")
+            self.emit("clocked", "(", *listed(names + ([self.rng.choice(names)] if self.slips() else [])), ")")
         outer, self.unit = self.unit, Unit("body", {known: HELD for known in clocks})
         # At home in the whole unit, whatever finish they were made in further out.
         homes = {known: known.home for known in clocks}
@@ -364,7 +367,7 @@ class Writer:
         return True
 
     def loop(self) -> bool:
-        """A loop whose body is written anew, with more ways to stand on a clock at its beginning, as long as it ends with others than it began with."""
+        """A loop whose body is written anew, with more ways to stand on a clock at its beginning, as long as it ends with other ways."""
         turns = self.rng.choice([0, 1, 1, 2, 2, 3])
         if self.times * max(1, turns) > 12:
             return False
@@ -488,8 +491,8 @@ def restated(rng: random.Random, tokens: Tokens) -> Tokens:
             tokens = rest[:to] + piece + rest[to:]
         else:
             begin = rng.choice(starts(tokens))
-            forms = [["async"], ["async"], ["finish"], ["finish"], ["if", "(", "1", "<", "2", ")"], ["for", "(", "i9", "in", "1", "..", "2", ")"], ["for", "(", "i9", "in", "1", "..", "0", ")"]]
-            tokens = tokens[:begin] + rng.choice(forms) + tokens[begin:]
+            form = rng.choice(["async", "async", "finish", "finish", "if ( 1 < 2 )", "for ( i9 in 1 .. 2 )", "for ( i9 in 1 .. 0 )"])
+            tokens = tokens[:begin] + form.split() + tokens[begin:]
     return tokens
 
 
@@ -508,8 +511,7 @@ def recursive(rng: random.Random, tokens: Tokens) -> Tokens:
     if rng.random() < 0.1:
         arguments = arguments[1:] if arguments and rng.random() < 0.5 else [*arguments, "1"]
     at = rng.choice(rng.choice(places))
-    listed = [token for number, argument in enumerate(arguments) for token in ([","] if number else []) + [argument]]
-    return tokens[:at] + [tokens[head + 1], "(", *listed, ")", ";"] + tokens[at:]
+    return tokens[:at] + [tokens[head + 1], "(", *listed([[argument] for argument in arguments]), ")", ";"] + tokens[at:]
 
 
 def some_token(rng: random.Random, tokens: Tokens) -> str:
@@ -560,6 +562,9 @@ def soup(rng: random.Random) -> Tokens:
 
 # Programs at the limits.
 
+ONE = "val x = 1 ;".split()
+PRINT = "Console . OUT . println".split()
+
 
 def main_of(*tokens: str) -> Tokens:
     return ["def", "main", "(", ")", "{", *tokens, "}"]
@@ -571,30 +576,23 @@ def near(rng: random.Random, limit: int) -> int:
 
 def deep(rng: random.Random) -> Tokens:
     """Statements, parentheses and negations in one another, about as many as there may be."""
-    left, opened, closed = near(rng, 64), [], []
-    outer = rng.choice([0, 10, left - 2, left - 1, left])
-    for _ in range(max(0, min(outer, left))):
-        way = rng.randrange(6)
-        forms = [["{"], ["finish"], ["async"], ["if", "(", "1", "<", "2", ")"], ["for", "(", f"i{len(closed)}", "in", "1", "..", "1", ")"], ["if", "(", "1", "==", "2", ")", ";", "else"]]
-        opened += forms[way]
-        closed.append("}" if way == 0 else "")
-    left -= len(closed)
-    inner: Tokens = [";"] if rng.random() < 0.5 else ["Console", ".", "OUT", ".", "println", "("]
-    if inner != [";"]:
-        ends: Tokens = []
-        for _ in range(max(0, left - 1)):
-            if rng.random() < 0.5:
-                inner.append("(")
-                ends.insert(0, ")")
-            else:
-                inner.append("-")
-        inner += ["v" if inner[-1] == "-" and rng.random() < 0.5 else "1", *ends, ")", ";"]
-    declared = ["val", "v", "=", "1", ";"] if rng.random() < 0.7 else []
-    return main_of(*declared, *opened, *inner, *(token for token in reversed(closed) if token))
+    levels, opened = near(rng, 64), []
+    statements = max(0, rng.choice([0, 10, levels - 2, levels - 1, levels]))
+    closed: Tokens = []
+    for number in range(statements):
+        form = rng.choice(["{", "finish", "async", "if ( 1 < 2 )", f"for ( i{number} in 1 .. 1 )", "if ( 1 == 2 ) ; else"])
+        opened += form.split()
+        closed += ["}"] if form == "{" else []
+    declared = ONE if rng.random() < 0.7 else []
+    if rng.random() < 0.5:
+        return main_of(*declared, *opened, ";", *closed)
+    signs = [rng.choice("(-") for _ in range(levels - statements - 1)]
+    inner = "x" if "-" in signs[-1:] and rng.random() < 0.5 else "1"
+    return main_of(*declared, *opened, *PRINT, "(", *signs, inner, *(")" for sign in signs if sign == "("), ")", ";", *closed)
 
 
 def long_expr(rng: random.Random) -> Tokens:
-    """About as many operators as there may be, with parentheses here and there."""
+    """About as many operators as there may be, with parentheses here and there, in each place where an expression may stand."""
     expr: Tokens = ["1"]
     for _ in range(near(rng, 64)):
         way = rng.random()
@@ -604,60 +602,77 @@ def long_expr(rng: random.Random) -> Tokens:
         elif way < 0.8:
             expr = ["(", *expr, ")", operator, one] if rng.random() < 0.3 else [one, operator, *expr]
         else:
-            expr = [*expr, operator, "(", "-", "x", ")"] if rng.random() < 0.5 else [*expr, operator, "-", "3"]
+            expr += [operator, "(", "-", "x", ")"] if rng.random() < 0.5 else [operator, "-", "3"]
     way = rng.randrange(4)
     if way == 0:
-        return ["def", "f", "(", "a", ":", "Long", ",", "b", ":", "Long", ")", "{", "}", *main_of("val", "x", "=", "1", ";", "f", "(", *expr, ",", *expr, ")", ";")]
+        return [*"def f ( a : Long , b : Long ) { }".split(), *main_of(*ONE, "f", "(", *expr, ",", *expr, ")", ";")]
     if way == 1:
-        return main_of("val", "x", "=", "1", ";", "if", "(", *expr, rng.choice(COMPARISONS), *expr, ")", ";")
+        return main_of(*ONE, "if", "(", *expr, rng.choice(COMPARISONS), *expr, ")", ";")
     if way == 2:
-        term = [token for token in expr if token not in "+-()"]
-        return ["shared", "s", "=", "0", ";", *main_of("val", "x", "=", "1", ";", "atomic", "s", "=", "s", "+", *[one for token in term for one in ([token] if token != "*" else [])][:1], *["*", "x"] * near(rng, 64), ";")]
-    return main_of("val", "x", "=", "1", ";", "Console", ".", "OUT", ".", "println", "(", *expr, ")", ";")
+        return [*"shared s = 0 ;".split(), *main_of(*ONE, *"atomic s = s + x".split(), *["*", "x"] * near(rng, 64), ";")]
+    return main_of(*ONE, *PRINT, "(", *expr, ")", ";")
 
 
-def many(rng: random.Random) -> Tokens:
-    """As many units, slots, instructions, shared numbers, arguments, steps or activities as there may be, or about."""
-    way = rng.randrange(9)
-    if way == 0:
-        count = near(rng, 1023)
-        return main_of(*(token for _ in range(count) for token in rng.choice([["async", ";"], ["async", "{", "}"]])))
-    if way == 1:
-        count = near(rng, 1023)
-        defined = [["def", f"m{number}", "(", ")", "{", "}"] for number in range(count)]
-        calls = [[f"m{number}", "(", ")", ";"] for number in range(count)]
-        rng.shuffle(calls)
-        parts = [*defined, main_of(*(token for one in calls for token in one))]
-        if rng.random() < 0.5:
-            rng.shuffle(parts)
-        return [token for part in parts for token in part]
-    if way == 2:
-        names = [f"x{number}" for number in range(near(rng, 64) - rng.choice([0, 0, 1, 2]))]
-        body = [token for name in names for token in ("val", name, "=", "1", ";")]
-        return main_of(*body, *rng.choice([[], ["Console", ".", "OUT", ".", "println", "(", "1", ")", ";"], ["if", "(", "1", "<", "2", ")", ";"]]))
-    if way == 3:
-        body = ["val", "x", "=", "1", ";", *["Console", ".", "OUT", ".", "println", "(", "x", ")", ";"] * near(rng, 4094)]
-        return main_of(*body) if rng.random() < 0.5 else main_of("async", "{", *body, "}")
-    if way == 4:
-        count = near(rng, 256)
-        return [token for number in range(count) for token in ("shared", f"s{number}", "=", "1", ";")] + main_of()
-    if way == 5:
-        count = near(rng, 64)
-        params = [[f"a{number}", ":", "Long"] for number in range(count)]
-        method = ["def", "f", "(", *[token for number, part in enumerate(params) for token in ([","] if number else []) + part], ")", "{", "}"]
-        call = ["f", "(", *[token for number in range(count) for token in ([","] if number else []) + ["x"]], ")", ";"]
-        parts = [method, main_of("val", "x", "=", "1", ";", *call)]
+def many_bodies(rng: random.Random) -> Tokens:
+    return main_of(*(token for _ in range(near(rng, 1023)) for token in rng.choice([["async", ";"], ["async", "{", "}"]])))
+
+
+def many_methods(rng: random.Random) -> Tokens:
+    numbers = list(range(near(rng, 1023)))
+    methods = [f"def m{number} ( ) {{ }}".split() for number in numbers]
+    rng.shuffle(numbers)
+    parts = [*methods, main_of(*(token for number in numbers for token in f"m{number} ( ) ;".split()))]
+    if rng.random() < 0.5:
         rng.shuffle(parts)
-        return parts[0] + parts[1]
-    if way == 6:
-        bounds = rng.choice([["1", "..", "999999998"], ["1", "..", "999999999"], ["-", "9223372036854775808", "..", "9223372036854775807"], ["5", "..", "4"]])
-        return main_of("for", "(", "i", "in", *bounds, ")", ";")
-    if way == 7:
-        return main_of("for", "(", "i", "in", "1", "..", str(rng.choice([99_998, 99_999, 100_000])), ")", *rng.choice([["async", ";"], ["{", "val", "c", "=", "Clock", ".", "make", "(", ")", ";", "c", ".", "drop", "(", ")", ";", "}"]]))
+    return [token for part in parts for token in part]
+
+
+def many_slots(rng: random.Random) -> Tokens:
+    count = near(rng, 64) - rng.choice([0, 0, 1, 2])
+    declared = [token for number in range(count) for token in f"val x{number} = 1 ;".split()]
+    return main_of(*declared, *rng.choice([[], [*PRINT, "(", "1", ")", ";"], "if ( 1 < 2 ) ;".split()]))
+
+
+def many_instructions(rng: random.Random) -> Tokens:
+    body = [*ONE, *[*PRINT, "(", "x", ")", ";"] * near(rng, 4094)]
+    return main_of(*body) if rng.random() < 0.5 else main_of("async", "{", *body, "}")
+
+
+def many_shared(rng: random.Random) -> Tokens:
+    return [token for number in range(near(rng, 256)) for token in f"shared s{number} = 1 ;".split()] + main_of()
+
+
+def many_arguments(rng: random.Random) -> Tokens:
+    count = near(rng, 64)
+    method = ["def", "f", "(", *listed([[f"a{number}", ":", "Long"] for number in range(count)]), ")", "{", "}"]
+    parts = [method, main_of(*ONE, "f", "(", *listed([["x"]] * count), ")", ";")]
+    rng.shuffle(parts)
+    return parts[0] + parts[1]
+
+
+def many_steps(rng: random.Random) -> Tokens:
+    bounds = rng.choice(["1 .. 999999998", "1 .. 999999999", "- 9223372036854775808 .. 9223372036854775807", "5 .. 4"])
+    return main_of(*f"for ( i in {bounds} ) ;".split())
+
+
+def many_activities(rng: random.Random) -> Tokens:
+    turns = rng.choice([99_998, 99_999, 100_000, 100_001])
+    body = rng.choice(["async ;", "{ val c = Clock . make ( ) ; c . drop ( ) ; }"])
+    return main_of(*f"for ( i in 1 .. {turns} ) {body}".split())
+
+
+def long_chain(rng: random.Random) -> Tokens:
+    """Methods each of which calls the next one, and perhaps comes back at the end."""
     count = rng.choice([10, 300, 1100])
-    chain = [token for number in range(count) for token in ("def", f"m{number}", "(", ")", "{", f"m{number + 1}", "(", ")", ";", "}")]
-    last = ["def", f"m{count}", "(", ")", "{", *rng.choice([[], [], [f"m{rng.randrange(count)}", "(", ")", ";"]]), "}"]
-    return chain + last + main_of(f"m{rng.randrange(count)}", "(", ")", ";")
+    chain = "".join(f"def m{number} ( ) {{ m{number + 1} ( ) ; }} " for number in range(count))
+    back = f"m{rng.randrange(count)} ( ) ;" if rng.random() < 0.3 else ""
+    return f"{chain} def m{count} ( ) {{ {back} }} def main ( ) {{ m{rng.randrange(count)} ( ) ; }}".split()
+
+
+LIMITS = [
+    deep, deep, deep, deep, deep, deep, long_expr, long_expr, long_expr, long_expr, long_expr, long_expr,
+    many_bodies, many_methods, many_slots, many_slots, many_instructions, many_shared, many_arguments, many_steps, many_activities, long_chain,
+]  # fmt: skip
 
 
 # Texts.
@@ -717,7 +732,7 @@ def case(rng: random.Random, seeds: list[bytes]) -> bytes:
     if way < 0.77:
         return text_of(rng, soup(rng))
     if way < 0.83:
-        return text_of(rng, rng.choice([deep, deep, long_expr, long_expr, many])(rng))
+        return text_of(rng, rng.choice(LIMITS)(rng))
     if way < 0.831:
         return very_long(rng)
     seed = rng.choice(seeds) if rng.random() < 0.5 else text_of(rng, program(rng))

@@ -51,7 +51,9 @@ class Played:
 
 
 def takes_sources() -> bool:
-    return subprocess.run([PROGRAM, "compile", "--help"], capture_output=True, check=False).returncode == 0
+    """Whether the program compiles a small text."""
+    ran = subprocess.run([PROGRAM, "compile", "-"], input=b"def main() { Clock.advanceAll(); }", capture_output=True, check=False)
+    return b"advance" in ran.stdout
 
 
 def answer(words: list[str], program: str) -> str:
@@ -94,7 +96,8 @@ def called(where: str, block: str, sources: bool, played: Played) -> str:
             parts.append(call)
             continue
         script = f'x10clock() {{ "$PROGRAM" "$@"; }}\n{line[2:]}\n'
-        ran = subprocess.run(["sh", "-c", script], cwd=TOP, env={**os.environ, "PROGRAM": str(PROGRAM)}, capture_output=True, timeout=SECONDS, check=False)
+        environ = {**os.environ, "PROGRAM": str(PROGRAM)}
+        ran = subprocess.run(["sh", "-c", script], cwd=TOP, env=environ, capture_output=True, timeout=SECONDS, check=False)
         got = ran.stdout.decode() + ran.stderr.decode()
         played.said(f"{where}: {line[2:]}", wanted, got)
         parts.append(f"{line}\n{got}")

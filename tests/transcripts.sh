@@ -31,7 +31,10 @@ played() {
 }
 
 # A program that can't compile yet isn't called with source texts: transcripts beside a `.x10` are left out.
-"$program" compile --help > /dev/null 2>&1 && takes_sources=yes || takes_sources=no
+case $(echo 'def main() { Clock.advanceAll(); }' | "$program" compile - 2> /dev/null) in
+    *advance*) takes_sources=yes ;;
+    *) takes_sources=no ;;
+esac
 
 write=no
 if [ "${1:-}" = --write ]; then

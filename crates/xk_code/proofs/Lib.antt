@@ -6,3 +6,5 @@ pub mod Made
 pub mod Rooms
 pub mod Denials
 pub mod Shape
+pub mod Covered
+pub mod CoveredLaw

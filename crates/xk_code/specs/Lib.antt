@@ -1,4 +1,5 @@
 pub mod CodeOf
 pub mod Unit
 pub mod Covered
+pub mod Reached
 pub mod Room
