@@ -1,7 +1,7 @@
 #!/bin/sh
 # Refuses each growth in turn, the first, the second and so on, until a run ends without a refusal: in `exhaust`, which
-# makes each library call again where it was refused memory, and in `x10clock` itself on small programs and on words that
-# are no job, which has to answer as it does with ample memory, or with status 4, an empty standard output and its line.
+# makes each library call again where it was refused memory, and in `x10clock` itself on small programs, modules and source texts, and on
+# words that are no job, which has to answer as it does with ample memory, or with status 4, an empty standard output and its line.
 set -eu
 cd "$(dirname "$0")/.."
 top=$PWD
@@ -76,22 +76,27 @@ each_growth() {
     total=$((total + k - 1))
 }
 
-for row in tests/rows/*.json; do
-    base=${row%.json}
+for row in tests/rows/*.json tests/rows/*.x10; do
+    base=${row%.*}
+    case $row in *.json) form=--module ;; *) form= ;; esac
     cp "$row" "$work/in"
     for command in check run; do
-        ample "$command" --module -
+        ample "$command" $form -
         [ "$command" = check ] || cmp -s "$work/out" "$base.stdout" || fail "$row: $(cat "$work/out")"
         [ "$command" = check ] || cmp -s "$work/err" "$base.stderr" || fail "$row: $(cat "$work/err")"
-        each_growth "$row" "$command" --module -
+        each_growth "$row" "$command" $form -
     done
     for order in first last round; do
         [ -e "$base.$order.stdout" ] || continue
-        ample run --module --order "$order" -
+        ample run $form --order "$order" -
         cmp -s "$work/out" "$base.$order.stdout" || fail "$row, order $order: $(cat "$work/out")"
         [ ! -s "$work/err" ] || fail "$row, order $order: $(cat "$work/err")"
-        each_growth "$row, order $order" run --module --order "$order" -
+        each_growth "$row, order $order" run $form --order "$order" -
     done
+    if [ -z "$form" ]; then
+        ample compile -
+        each_growth "$row, compiled" compile -
+    fi
 done
 
 # begins FILE LINE: the text in FILE begins with this line; an empty line stands for an empty text.

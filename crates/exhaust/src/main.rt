@@ -5,6 +5,7 @@
 
 mod rows;
 mod runs;
+mod sources;
 mod tries;
 
 use std::alloc::Global;
@@ -21,6 +22,12 @@ fn every_call(alloc: Global) -> Result<(), Wrong> {
     }
     for text in rows::unread() {
         tries::is_unread(alloc, text)?;
+    }
+    for text in rows::compiled() {
+        sources::is_compiled(alloc, text)?;
+    }
+    for text in rows::faulty() {
+        sources::is_faulty(alloc, text)?;
     }
     tries::on_tape(alloc)
 }

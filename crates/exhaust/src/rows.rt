@@ -1,4 +1,4 @@
-//! Small programs as module text.
+//! Small programs as module text, and as source text.
 
 /// Programs that the verifier accepts: of one activity, of several, and with shared numbers; fifty activities that a loop starts, and a run
 /// of some thousand steps.
@@ -52,5 +52,29 @@ pub fn unread() -> [&'static str; 3] {
         r#"{"version":1,"shared":[],"units":[{"kind":"main","params":"","slots":65,"code":[["ret"]]}]}"#,
         r#"{"version":2,"shared":[],"units":[]}"#,
         "",
+    ]
+}
+
+/// Source texts that have a module: of no statement; of all sorts of statements; of bodies that take numbers and clocks; of methods that call
+/// each other in a chain.
+pub fn compiled() -> [&'static str; 5] {
+    [
+        "def main() { }",
+        "shared s = 0; def main() { finish { for (i in 1..3) async { atomic s = s + i; } } val r = s; Console.OUT.println(r); }",
+        "def main() { val c = Clock.make(); var x: Long = -(1 + 2) * 3; if (x < 4) x = 5; else { c.resume(); } async clocked(c) { Clock.advanceAll(); } c.drop(); }",
+        "def main() { val a = 1; val b = 2; async { Console.OUT.println(b); async { val d = a + b; Console.OUT.println(d); } } }",
+        "def h(n: Long) { Console.OUT.println(n); } def g(c: Clock, n: Long) { h(n * 2); h(n); } def main() { val c = Clock.make(); g(c, 7); for (i in 2..1) h(i); }",
+    ]
+}
+
+/// Source texts that break a rule: on tokens, on syntax, on names, on `main`, on recursion, on tables.
+pub fn faulty() -> [&'static str; 6] {
+    [
+        "def main() { # }",
+        "def main() { val x = ; }",
+        "def main() { val x = 1; async { val y = x; z = y; } }",
+        "def f() { }",
+        "def f() { g(); } def g() { async { f(); } } def main() { f(); }",
+        "def main() { val a = 0; f(a, a, a, a, a, a, a, a, a, a, a, a, a, a, a, a, a, a, a, a, a, a, a, a, a, a, a, a, a, a, a, a, a, a, a, a, a, a, a, a, a, a, a, a, a, a, a, a, a, a, a, a, a, a, a, a, a, a, a, a, a, a, a, a, a); } def f(n0: Long, n1: Long, n2: Long, n3: Long, n4: Long, n5: Long, n6: Long, n7: Long, n8: Long, n9: Long, n10: Long, n11: Long, n12: Long, n13: Long, n14: Long, n15: Long, n16: Long, n17: Long, n18: Long, n19: Long, n20: Long, n21: Long, n22: Long, n23: Long, n24: Long, n25: Long, n26: Long, n27: Long, n28: Long, n29: Long, n30: Long, n31: Long, n32: Long, n33: Long, n34: Long, n35: Long, n36: Long, n37: Long, n38: Long, n39: Long, n40: Long, n41: Long, n42: Long, n43: Long, n44: Long, n45: Long, n46: Long, n47: Long, n48: Long, n49: Long, n50: Long, n51: Long, n52: Long, n53: Long, n54: Long, n55: Long, n56: Long, n57: Long, n58: Long, n59: Long, n60: Long, n61: Long, n62: Long, n63: Long, n64: Long) { }",
     ]
 }

@@ -72,7 +72,7 @@ fn on_program<P: Read + Drop, O: Sink, E: Sink>(
     ensures out_begins { IfSome (P.remaining program) (λ bytes.
         OutBegins (task_of job.now) bytes (O.contents out.old) (O.contents out.new)) }
     ensures err_begins { IfSome (P.remaining program) (λ bytes.
-        ErrBegins bytes (E.contents err.old) (E.contents err.new)) }
+        ErrBegins (task_of job.now) bytes (E.contents err.old) (E.contents err.new)) }
     ensures memory_out { result ≡ 4 → Appends (O.contents out.old) (O.contents out.new) [] }
     ensures memory_err { result ≡ 4
         → Appends (E.contents err.old) (E.contents err.new) memory_line }

@@ -6,6 +6,7 @@ use xk_bounds::{BoundFault, KindFault, Refusal, ShapeFault};
 use xk_module::ModuleFault;
 use xk_serve::Fault;
 use xk_shape::ShapeError;
+use xk_tree::{FrontError, FrontFault, FrontRule};
 use xk_types::{Kind, Rule};
 use xk_typestate::KindError;
 
@@ -29,6 +30,8 @@ fn kind_fault(alloc: Global) -> KindFault {
 }
 
 const KIND_TEXT: &str = "slot 5 breaks rule V13 Leak in unit 2 at 90, where it is resumed";
+
+const FRONT_TEXT: &str = "the text breaks rule F10 Recursive at 10";
 
 #[test]
 fn refusals_are_told(rt: HostRuntime) -> Result<(), Fail> {
@@ -78,6 +81,13 @@ fn faults_are_told(rt: HostRuntime) -> Result<(), Fail> {
         let twice = format!(in alloc; "{wanted};{wanted}")?;
         assert_eq!(rt; text.as_str(), twice.as_str());
     }
+    let front = FrontFault {
+        rule: FrontRule::Recursive,
+        at: 10,
+    };
+    let text = format!(in alloc; "{};{}", FrontError::Fault(front), Fault::Front(front))?;
+    let twice = format!(in alloc; "{FRONT_TEXT};{FRONT_TEXT}")?;
+    assert_eq!(rt; text.as_str(), twice.as_str());
     let text = format!(in alloc; "{};{}", Fault::OutOfMemory, Fault::Device)?;
     assert_eq!(rt; text.as_str(), "out of memory;a device failed");
     Ok(())

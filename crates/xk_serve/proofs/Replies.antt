@@ -1,5 +1,5 @@
 -- From a fault and how it was told to the clauses of the whole program.
-use Rattle.std.proofs.Common.{◌≡◌, ◌≢◌, ◌⊎◌, ℕ, List, [], length, Option, Some, None, inl, inr, refl, sym, subst, ◌∙◌}
+use Rattle.std.proofs.Common.{◌≡◌, ◌≢◌, ◌⊎◌, ℕ, List, [], length, Option, Some, None, inl, inr, refl, sym, ◌∙◌}
 use Rattle.std.proofs.Math.Seq.{take-length}
 use Rattle.std.proofs.lemmas.List.{append-nil}
 use Rattle.std.specs.Prelude.{IfSome}
@@ -17,19 +17,20 @@ appends_none None = tt
 appends_none (Some xs) = sym (append-nil xs)
 
 -- a fault that isn't a device's is one of the bytes
-against_bytes : (bytes : List ℕ) (old new : ℕ) (f : Fault) → StandsAgainst (Some bytes) old new f → status_of f ≢ 5 → FailsBy bytes f
-against_bytes bytes old new (fault.Text f) h n = h.1
-against_bytes bytes old new (fault.Refused r) h n = h.1
-against_bytes bytes old new fault.OutOfMemory h n = h.1
-against_bytes bytes old new fault.Device h n = absurd (n refl)
+against_bytes : (t : Task) (bytes : List ℕ) (old new : ℕ) (f : Fault) → StandsAgainst t (Some bytes) old new f → status_of f ≢ 5 → FailsBy t bytes f
+against_bytes t bytes old new (fault.Text f) h n = h.1
+against_bytes t bytes old new (fault.Front f) h n = h.1
+against_bytes t bytes old new (fault.Refused r) h n = h.1
+against_bytes t bytes old new fault.OutOfMemory h n = h.1
+against_bytes t bytes old new fault.Device h n = absurd (n refl)
 
 -- a fault that was told is an answer
 pub told_answer : (t : Task) (bytes : List ℕ) (old new : ℕ) (f : Fault) (out err_old err_new : Option (List ℕ)) (faults_old faults_new result : ℕ)
-    → StandsAgainst (Some bytes) old new f → Reports f err_old err_new faults_old faults_new result → result ≢ 4 → result ≢ 5
+    → StandsAgainst t (Some bytes) old new f → Reports f err_old err_new faults_old faults_new result → result ≢ 4 → result ≢ 5
     → Answered t bytes result out out err_old err_new
 told_answer t bytes old new f out err_old err_new faults_old faults_new result h (inl (inl p)) not4 not5 = record {
   reply = fault_reply f;
-  answers = inr (f, against_bytes bytes old new f h (λ e. not5 (p.0 ∙ e)), refl);
+  answers = inr (f, against_bytes t bytes old new f h (λ e. not5 (p.0 ∙ e)), refl);
   status_is = p.0;
   out_is = appends_none out;
   err_is = p.1;
@@ -40,7 +41,7 @@ told_answer t bytes old new f out err_old err_new faults_old faults_new result h
 
 -- the same, whether the bytes are known or not
 pub told_answers : (t : Task) (known : Option (List ℕ)) (old new : ℕ) (f : Fault) (out err_old err_new : Option (List ℕ)) (faults_old faults_new result : ℕ)
-    → StandsAgainst known old new f → Reports f err_old err_new faults_old faults_new result
+    → StandsAgainst t known old new f → Reports f err_old err_new faults_old faults_new result
     → IfSome known (λ bytes. result ≢ 4 → result ≢ 5 → Answered t bytes result out out err_old err_new)
 told_answers t None old new f out err_old err_new faults_old faults_new result h r = tt
 told_answers t (Some bytes) old new f out err_old err_new faults_old faults_new result h r = told_answer t bytes old new f out err_old err_new faults_old faults_new result h r
@@ -71,18 +72,6 @@ printed_answers t None text shown out_old out_new err_old err_new result Failing
 printed_answers t (Some bytes) text shown out_old out_new err_old err_new result Failing h e p = λ not4 not5.
     printed_answer t bytes text shown out_old out_new err_old err_new result Failing h e p not5
 
--- a fault of the bytes that were read is one of those that are known
-pub against_known : (known : Option (List ℕ)) (bytes : List ℕ) (old new : ℕ) (f : Fault) → new ≡ old
-    → IfSome known (λ k. bytes ≡ k) → FailsBy bytes f → StandsAgainst known old new f
-against_known None bytes old new (fault.Text f) s e h = (s, tt)
-against_known None bytes old new (fault.Refused r) s e h = (s, tt)
-against_known None bytes old new fault.OutOfMemory s e h = (s, tt)
-against_known None bytes old new fault.Device s e h = absurd h
-against_known (Some k) bytes old new (fault.Text f) s e h = (s, rw e at h)
-against_known (Some k) bytes old new (fault.Refused r) s e h = (s, subst (λ b. FailsBy b (fault.Refused r)) e h)
-against_known (Some k) bytes old new fault.OutOfMemory s e h = (s, tt)
-against_known (Some k) bytes old new fault.Device s e h = absurd h
-
 -- ---- devices
 
 -- nothing is a beginning of any text
@@ -96,41 +85,44 @@ tells_begins line status old new faults_old faults_new result (inl p) = (length 
 tells_begins line status old new faults_old faults_new result (inr p) = p.1
 
 -- a fault that stands against known bytes may be told
-told_of : (bytes : List ℕ) (old new : ℕ) (f : Fault) → StandsAgainst (Some bytes) old new f → IsTold bytes f
-told_of bytes old new (fault.Text f) h = inr h.1
-told_of bytes old new (fault.Refused r) h = inr h.1
-told_of bytes old new fault.OutOfMemory h = inr tt
-told_of bytes old new fault.Device h = inl refl
+told_of : (t : Task) (bytes : List ℕ) (old new : ℕ) (f : Fault) → StandsAgainst t (Some bytes) old new f → IsTold t bytes f
+told_of t bytes old new (fault.Text f) h = inr h.1
+told_of t bytes old new (fault.Front f) h = inr h.1
+told_of t bytes old new (fault.Refused r) h = inr h.1
+told_of t bytes old new fault.OutOfMemory h = inr tt
+told_of t bytes old new fault.Device h = inl refl
 
 -- a fault that was reported was told by a beginning of a line
-pub report_begins : (known : Option (List ℕ)) (old new : ℕ) (f : Fault) (err_old err_new : Option (List ℕ)) (faults_old faults_new result : ℕ)
-    → StandsAgainst known old new f → Reports f err_old err_new faults_old faults_new result → IfSome known (λ bytes. ErrBegins bytes err_old err_new)
-report_begins None old new f err_old err_new faults_old faults_new result h r = tt
-report_begins (Some bytes) old new f err_old err_new faults_old faults_new result h (inl p) =
-    (f, told_of bytes old new f h, tells_begins (fault_line f) _ err_old err_new _ _ _ p)
-report_begins (Some bytes) old new f err_old err_new faults_old faults_new result h (inr p) =
+pub report_begins : (t : Task) (known : Option (List ℕ)) (old new : ℕ) (f : Fault) (err_old err_new : Option (List ℕ)) (faults_old faults_new result : ℕ)
+    → StandsAgainst t known old new f → Reports f err_old err_new faults_old faults_new result → IfSome known (λ bytes. ErrBegins t bytes err_old err_new)
+report_begins t None old new f err_old err_new faults_old faults_new result h r = tt
+report_begins t (Some bytes) old new f err_old err_new faults_old faults_new result h (inl p) =
+    (f, told_of t bytes old new f h, tells_begins (fault_line f) _ err_old err_new _ _ _ p)
+report_begins t (Some bytes) old new f err_old err_new faults_old faults_new result h (inr p) =
     (fault.OutOfMemory, inr tt, tells_begins memory_line _ err_old err_new _ _ _ p.1)
 
 -- a source that failed is told of with status 5
-source_stands : (known : Option (List ℕ)) (old new : ℕ) (f : Fault) → StandsAgainst known old new f → status_of f ≢ 5 → new ≡ old
-source_stands known old new (fault.Text f) h n = h.0
-source_stands known old new (fault.Refused r) h n = h.0
-source_stands known old new fault.OutOfMemory h n = h.0
-source_stands known old new fault.Device h n = absurd (n refl)
+source_stands : (t : Task) (known : Option (List ℕ)) (old new : ℕ) (f : Fault) → StandsAgainst t known old new f → status_of f ≢ 5 → new ≡ old
+source_stands t known old new (fault.Text f) h n = h.0
+source_stands t known old new (fault.Front f) h n = h.0
+source_stands t known old new (fault.Refused r) h n = h.0
+source_stands t known old new fault.OutOfMemory h n = h.0
+source_stands t known old new fault.Device h n = absurd (n refl)
 
-source_stands_else : (known : Option (List ℕ)) (old new : ℕ) (f : Fault) → StandsAgainst known old new f → f ≢ fault.Device → new ≡ old
-source_stands_else known old new (fault.Text f) h n = h.0
-source_stands_else known old new (fault.Refused r) h n = h.0
-source_stands_else known old new fault.OutOfMemory h n = h.0
-source_stands_else known old new fault.Device h n = absurd (n refl)
+source_stands_else : (t : Task) (known : Option (List ℕ)) (old new : ℕ) (f : Fault) → StandsAgainst t known old new f → f ≢ fault.Device → new ≡ old
+source_stands_else t known old new (fault.Text f) h n = h.0
+source_stands_else t known old new (fault.Front f) h n = h.0
+source_stands_else t known old new (fault.Refused r) h n = h.0
+source_stands_else t known old new fault.OutOfMemory h n = h.0
+source_stands_else t known old new fault.Device h n = absurd (n refl)
 
 -- a fault was reported, and not by 5: neither the source failed nor the sink
-pub report_faults : (known : Option (List ℕ)) (old new : ℕ) (f : Fault) (err_old err_new : Option (List ℕ)) (faults_old faults_new result : ℕ)
-    → StandsAgainst known old new f → Reports f err_old err_new faults_old faults_new result → result ≢ 5 → (new ≡ old) × (faults_new ≡ faults_old)
-report_faults known old new f err_old err_new faults_old faults_new result h (inl (inl p)) n = (source_stands known old new f h (λ e. n (p.0 ∙ e)), p.2)
-report_faults known old new f err_old err_new faults_old faults_new result h (inl (inr p)) n = absurd (n p.0)
-report_faults known old new f err_old err_new faults_old faults_new result h (inr (d, inl p)) n = (source_stands_else known old new f h d, p.2)
-report_faults known old new f err_old err_new faults_old faults_new result h (inr (d, inr p)) n = absurd (n p.0)
+pub report_faults : (t : Task) (known : Option (List ℕ)) (old new : ℕ) (f : Fault) (err_old err_new : Option (List ℕ)) (faults_old faults_new result : ℕ)
+    → StandsAgainst t known old new f → Reports f err_old err_new faults_old faults_new result → result ≢ 5 → (new ≡ old) × (faults_new ≡ faults_old)
+report_faults t known old new f err_old err_new faults_old faults_new result h (inl (inl p)) n = (source_stands t known old new f h (λ e. n (p.0 ∙ e)), p.2)
+report_faults t known old new f err_old err_new faults_old faults_new result h (inl (inr p)) n = absurd (n p.0)
+report_faults t known old new f err_old err_new faults_old faults_new result h (inr (d, inl p)) n = (source_stands_else t known old new f h d, p.2)
+report_faults t known old new f err_old err_new faults_old faults_new result h (inr (d, inr p)) n = absurd (n p.0)
 
 -- a device's fault was told
 pub device_reports : (f : Fault) (line : List ℕ) (err_old err_new : Option (List ℕ)) (faults_old faults_new result : ℕ)

@@ -1,9 +1,12 @@
 -- What reading to the end and writing a text do to devices.
-use Rattle.std.specs.Prelude.{◌≡◌, ℕ, List, Option, take}
+use Rattle.std.specs.Prelude.{◌≡◌, ℕ, ◌+◌, List, Option, take}
 use Rattle.std.specs.Io.KnownBytes.{Appends}
 use Rattle.xk_types.specs.Device.{Rose}
+use Rattle.xk_words.specs.declared.job.Form.{Form}
+use Rattle.xk_words.specs.declared.job.Form.TheVariants as form
 use Rattle.xk_serve.specs.declared.fault.Fault.{Fault}
 use Rattle.xk_serve.specs.declared.fault.Fault.TheVariants as fault
+use Rattle.xk_serve.specs.Programs.{longest_source}
 
 -- reading failed for want of memory, and then no read failed, or because the device did
 abbrev pub FailsRead : ℕ → ℕ → Fault → Type 0
@@ -14,3 +17,8 @@ FailsRead old new _ = ⊥
 -- known bytes grow by a beginning of the text
 abbrev pub AppendsBeginning : Option (List ℕ) → Option (List ℕ) → List ℕ → Type 0
 AppendsBeginning old new text = (n : ℕ) × Appends old new (take n text)
+
+-- the bytes that are kept of a file: of a source text one more than it may have, at most
+abbrev pub kept : Form → List ℕ → List ℕ
+kept form.Module bytes = bytes
+kept form.Source bytes = take (longest_source + 1) bytes

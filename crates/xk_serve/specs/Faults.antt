@@ -1,6 +1,8 @@
--- What stands against a job, of what the reader or the verifier says. Want of memory is one fault, whoever met it.
+-- What stands against a job, of what the readers, the compiler or the verifier say. Want of memory is one fault, whoever met it.
 use Rattle.xk_module.specs.declared.fault.ModuleFault.{ModuleFault}
 use Rattle.xk_module.specs.declared.fault.ModuleFault.TheVariants as text
+use Rattle.xk_tree.specs.declared.fault.FrontError.{FrontError}
+use Rattle.xk_tree.specs.declared.fault.FrontError.TheVariants as error
 use Rattle.xk_bounds.specs.declared.refusal.Refusal.{Refusal}
 use Rattle.xk_bounds.specs.declared.refusal.Refusal.TheVariants as refusal
 use Rattle.xk_serve.specs.declared.fault.Fault.{Fault}
@@ -9,6 +11,10 @@ use Rattle.xk_serve.specs.declared.fault.Fault.TheVariants as fault
 abbrev pub of_text : ModuleFault → Fault
 of_text text.OutOfMemory = fault.OutOfMemory
 of_text f = fault.Text f
+
+abbrev pub of_front : FrontError → Fault
+of_front (error.Fault f) = fault.Front f
+of_front error.OutOfMemory = fault.OutOfMemory
 
 abbrev pub of_refusal : Refusal → Fault
 of_refusal refusal.OutOfMemory = fault.OutOfMemory

@@ -1,10 +1,12 @@
 -- The lines that the program prints. Each ends in a line feed.
-use Rattle.std.specs.Prelude.{ℕ, ℤ, List, ◌++◌, flat_map, codes, decimal, Option, Some, None}
+use Rattle.std.specs.Prelude.{ℕ, ℤ, List, ◌++◌, flat_map, codes, decimal, Option, Some, None, string_bytes}
 use Rattle.std.specs.Fmt.{signed_decimal}
 use Rattle.xk_types.specs.declared.rules.Rule.{Rule}
 use Rattle.xk_types.specs.declared.rules.Visit.{Visit}
 use Rattle.xk_types.specs.Names.{rule_number, rule_name, kind_name}
 use Rattle.xk_module.specs.Faults.{fault_label}
+use Rattle.xk_tree.specs.declared.fault.FrontFault.{FrontFault}
+use Rattle.xk_tree.specs.Fault.{front_number, front_name}
 use Rattle.xk_typestate.specs.declared.refusal.KindFault.{KindFault}
 use Rattle.xk_bounds.specs.declared.refusal.BoundFault.{BoundFault}
 use Rattle.xk_bounds.specs.declared.refusal.Refusal.{Refusal}
@@ -30,6 +32,7 @@ abbrev pub ended_line : ℕ → List ℕ
 ended_line steps = codes "ended steps " ++ (decimal steps ++ codes "\n")
 
 abbrev pub done_text : Done → List ℕ
+done_text (done.Compiled text) = string_bytes text ++ codes "\n"
 done_text (done.Accepted steps activities clocks) = accepted_line steps activities clocks
 done_text (done.Ended printed steps) = number_lines printed.items ++ ended_line steps
 
@@ -38,6 +41,10 @@ done_text (done.Ended printed steps) = number_lines printed.items ++ ended_line 
 -- a line of the program's own
 abbrev pub line : List ℕ → List ℕ
 line text = codes "x10clock: " ++ (text ++ codes "\n")
+
+-- a rule on source texts that is broken: `F10 Recursive at 10`
+abbrev pub front_text : FrontFault → List ℕ
+front_text f = codes "F" ++ (decimal (front_number f.rule) ++ (codes " " ++ (front_name f.rule ++ (codes " at " ++ decimal f.at))))
 
 -- a rule with its number: `V9 Registers`
 abbrev pub rule_text : Rule → List ℕ
@@ -78,11 +85,12 @@ refusal_line refusal.OutOfMemory = memory_line
 
 abbrev pub fault_line : Fault → List ℕ
 fault_line (fault.Text f) = label_line (fault_label f)
+fault_line (fault.Front f) = line (front_text f)
 fault_line (fault.Refused r) = refusal_line r
 fault_line fault.OutOfMemory = memory_line
 fault_line fault.Device = device_line
 
--- ---- statuses: 1 for a module that is refused, 4 for want of memory, 5 for a device
+-- ---- statuses: 1 for a program that is refused, 4 for want of memory, 5 for a device
 
 abbrev pub label_status : Option (List ℕ) → ℕ
 label_status (Some label) = 1
@@ -96,6 +104,7 @@ refusal_status refusal.OutOfMemory = 4
 
 abbrev pub status_of : Fault → ℕ
 status_of (fault.Text f) = label_status (fault_label f)
+status_of (fault.Front f) = 1
 status_of (fault.Refused r) = refusal_status r
 status_of fault.OutOfMemory = 4
 status_of fault.Device = 5

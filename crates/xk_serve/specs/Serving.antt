@@ -15,11 +15,11 @@ use Rattle.xk_serve.specs.Lines.{done_text, fault_line, memory_line, status_of}
 abbrev pub Prints : Task → List ℕ → List ℕ → Type 0
 Prints t bytes text = (d : Done) × Succeeds t bytes d × (text ≡ done_text d)
 
--- The fault is one of the known bytes, or want of memory, and then the source didn't fail; or the source failed. The
+-- The fault is one of the task on the known bytes, or want of memory, and then the source didn't fail; or the source failed. The
 -- numbers are its failures before and after.
-abbrev pub StandsAgainst : Option (List ℕ) → ℕ → ℕ → Fault → Type 0
-StandsAgainst known old new fault.Device = Rose old new
-StandsAgainst known old new f = (new ≡ old) × IfSome known (λ bytes. FailsBy bytes f)
+abbrev pub StandsAgainst : Task → Option (List ℕ) → ℕ → ℕ → Fault → Type 0
+StandsAgainst t known old new fault.Device = Rose old new
+StandsAgainst t known old new f = (new ≡ old) × IfSome known (λ bytes. FailsBy t bytes f)
 
 -- The line was written, the sink didn't fail and the status is this one; or a beginning of the line was written, the sink
 -- failed and the status is 5.
@@ -47,12 +47,12 @@ abbrev pub OutBegins : Task → List ℕ → Option (List ℕ) → Option (List 
 OutBegins t bytes old new = Appends old new [] ⊎ ((d : Done) × Succeeds t bytes d × AppendsBeginning old new (done_text d))
 
 -- the line of this fault may be told: a device failed, or the fault is one of the bytes
-abbrev pub IsTold : List ℕ → Fault → Type 0
-IsTold bytes f = (f ≡ fault.Device) ⊎ FailsBy bytes f
+abbrev pub IsTold : Task → List ℕ → Fault → Type 0
+IsTold t bytes f = (f ≡ fault.Device) ⊎ FailsBy t bytes f
 
 -- standard error got a beginning of one such line
-abbrev pub ErrBegins : List ℕ → Option (List ℕ) → Option (List ℕ) → Type 0
-ErrBegins bytes old new = (f : Fault) × IsTold bytes f × AppendsBeginning old new (fault_line f)
+abbrev pub ErrBegins : Task → List ℕ → Option (List ℕ) → Option (List ℕ) → Type 0
+ErrBegins t bytes old new = (f : Fault) × IsTold t bytes f × AppendsBeginning old new (fault_line f)
 
 -- How words that are no job are told, where the first predicate says what standard output got and with which status,
 -- and the second one the same of standard error: help goes to the one, all else to the other.

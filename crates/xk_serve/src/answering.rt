@@ -1,41 +1,38 @@
 //! The answer to a job, over values.
 
 ghost use Rattle.std.specs.Prelude.{IfOk, IfErr};
-ghost use Rattle.xk_types.specs.Accepted.{IsAccepted};
-ghost use Rattle.xk_serve.specs.Answer.{ComesTo, FailsBy, Succeeds, task_of};
+ghost use Rattle.xk_serve.specs.Answer.{FailsBy, Succeeds, task_of};
 
 use crate::done::Done;
 use crate::fault::Fault;
 use crate::ordered_run::run_in_order;
-use std::alloc::{AllocError, Global};
-use xk_bounds::{Verified, verify};
-use xk_module::read_module;
+use crate::programs::module_in;
+use std::alloc::Global;
+use xk_bounds::verify;
+use xk_module::write_module;
 use xk_words::{Command, Job, Order};
 
-/// What the job on the module with this text comes to, or what stands against it. A fault is of the text (M1 to M3),
-/// of the module (V1 to V17), or want of memory; it is never `Device`.
+/// What the job on a file of these bytes comes to, or what stands against it. A fault is of the text (F1 to F14, M1 to M3), of
+/// its module (V1 to V17), or want of memory; it is never `Device`.
 pub(crate) fn answer(alloc: Global, job: &Job<'_>, bytes: &[u8]) -> Result<Done, Fault>
     ensures done { IfOk result (Succeeds (task_of job.now) bytes.now) }
-    ensures fault { IfErr result (FailsBy bytes.now) }
+    ensures fault { IfErr result (FailsBy (task_of job.now) bytes.now) }
 {
-    let program = read_module(alloc, bytes)?;
-    let verified = verify(alloc, program)?;
-    Ok(carry_out(alloc, job, &verified)?)
-}
-
-/// The job on an accepted module.
-fn carry_out(alloc: Global, job: &Job<'_>, verified: &Verified) -> Result<Done, AllocError>
-    ensures { IfOk result (ComesTo (task_of job.now) verified.now) }
-{
+    let module = module_in(alloc, job, bytes)?;
     match job.command {
-        Command::Check => Ok(Done::Accepted {
-            steps: verified.steps(),
-            activities: verified.activities(),
-            clocks: verified.clocks(),
-        }),
+        Command::Compile => Ok(Done::Compiled(write_module(alloc, &module)?)),
+        Command::Check => {
+            let verified = verify(alloc, module)?;
+            Ok(Done::Accepted {
+                steps: verified.steps(),
+                activities: verified.activities(),
+                clocks: verified.clocks(),
+            })
+        }
         Command::Run => {
+            let verified = verify(alloc, module)?;
             let order = job.order.unwrap_or(Order::First);
-            let (printed, steps) = run_in_order(alloc, order, verified)?;
+            let (printed, steps) = run_in_order(alloc, order, &verified)?;
             Ok(Done::Ended { printed, steps })
         }
     }

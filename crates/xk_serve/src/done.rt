@@ -8,6 +8,8 @@ use std::alloc::{AllocError, Global};
 /// What a job comes to where nothing stands against it.
 #[derive(Debug, Drop)]
 pub(crate) enum Done {
+    /// `compile`: the module has this text.
+    Compiled(String),
     /// `check`: the module is accepted, with these bounds on its runs.
     Accepted {
         steps: u64,
@@ -27,6 +29,7 @@ impl Done {
         ensures { IfOk result (λ text. string_bytes text ≡ done_text self.now) }
     {
         match self {
+            Done::Compiled(text) => format!(in alloc; "{text}\n"),
             Done::Accepted {
                 steps,
                 activities,

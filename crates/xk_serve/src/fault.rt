@@ -2,12 +2,13 @@
 
 ghost use Rattle.std.specs.Prelude.{◌≡◌, IfOk, string_bytes};
 ghost use Rattle.xk_module.specs.Faults.{fault_label};
-ghost use Rattle.xk_serve.specs.Lines.{bound_text, fault_line, kind_text, label_line, label_status, line, place_text, refusal_line, refusal_status, rule_text, status_of, walk_text};
+ghost use Rattle.xk_serve.specs.Lines.{bound_text, fault_line, front_text, kind_text, label_line, label_status, line, place_text, refusal_line, refusal_status, rule_text, status_of, walk_text};
 
 use std::alloc::{AllocError, Global};
 use thiserror::Error;
 use xk_bounds::{BoundFault, KindFault, Refusal};
 use xk_module::ModuleFault;
+use xk_tree::{FrontError, FrontFault};
 use xk_types::{Failed, Module, Rule, Visit};
 
 /// What stands against a job.
@@ -16,6 +17,9 @@ pub enum Fault {
     /// FILE holds no module.
     #[error("{0}")]
     Text(ModuleFault),
+    /// The source text in FILE has no module.
+    #[error("the text breaks rule F{number} {name} at {at}", number = .0.rule.number(), name = .0.rule.name(), at = .0.at)]
+    Front(FrontFault),
     /// The verifier refuses the module.
     #[error("{0}")]
     Refused(Refusal),
@@ -34,12 +38,13 @@ pub(crate) const MEMORY_LINE: &str = "x10clock: out of memory\n";
 pub(crate) const DEVICE_LINE: &str = "x10clock: device\n";
 
 impl Fault {
-    /// The status that the program ends with: 1 for a module that is refused, 4 for want of memory, 5 for a device.
+    /// The status that the program ends with: 1 for a program that is refused, 4 for want of memory, 5 for a device.
     pub(crate) fn status(&self) -> u8
         ensures { result ≡ status_of self.now }
     {
         match self {
             Fault::Text(fault) => label_status(*fault),
+            Fault::Front(_) => 1,
             Fault::Refused(refusal) => refusal_status(refusal),
             Fault::OutOfMemory => 4,
             Fault::Device => 5,
@@ -52,6 +57,7 @@ impl Fault {
     {
         match self {
             Fault::Text(fault) => label_line(alloc, *fault),
+            Fault::Front(fault) => line(alloc, front_text(alloc, *fault)?.as_str()),
             Fault::Refused(refusal) => refusal_line(alloc, refusal),
             Fault::OutOfMemory => String::from_str(alloc, MEMORY_LINE),
             Fault::Device => String::from_str(alloc, DEVICE_LINE),
@@ -90,6 +96,19 @@ impl From<ModuleFault> for Fault {
                 Fault::Text(found)
             }
             ModuleFault::OutOfMemory => Fault::OutOfMemory,
+        }
+    }
+}
+
+impl From<FrontError> for Fault {
+    ghost use Rattle.xk_serve.specs.Faults.{of_front};
+
+    ghost from_gives = { λ found fault. fault ≡ of_front found };
+
+    fn from(found: FrontError) -> Fault {
+        match found {
+            FrontError::Fault(fault) => Fault::Front(fault),
+            FrontError::OutOfMemory => Fault::OutOfMemory,
         }
     }
 }
@@ -158,6 +177,16 @@ fn line(alloc: Global, text: &str) -> Result<String, AllocError>
     ensures { IfOk result (λ whole. string_bytes whole ≡ line text.now) }
 {
     format!(in alloc; "x10clock: {text}\n")
+}
+
+/// `F10 Recursive at 10`.
+fn front_text(alloc: Global, fault: FrontFault) -> Result<String, AllocError>
+    ensures { IfOk result (λ text. string_bytes text ≡ front_text fault) }
+{
+    let number = fault.rule.number();
+    let name = fault.rule.name();
+    let at = fault.at;
+    format!(in alloc; "F{number} {name} at {at}")
 }
 
 /// `V9 Registers`.

@@ -6,6 +6,7 @@ mod bytes;
 mod done;
 mod fault;
 mod ordered_run;
+mod programs;
 mod serving;
 
 pub use fault::Fault;

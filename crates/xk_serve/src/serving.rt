@@ -4,16 +4,17 @@ ghost use Rattle.std.specs.Prelude.{◌≡◌, ◌≢◌, ◌⊎◌, [], IfOk, I
 ghost use Rattle.std.specs.Io.KnownBytes.{Appends};
 ghost use Rattle.xk_types.specs.Device.{Rose};
 ghost use Rattle.xk_serve.specs.Answer.{task_of};
-ghost use Rattle.xk_serve.specs.Bytes.{AppendsBeginning};
+ghost use Rattle.xk_serve.specs.Bytes.{AppendsBeginning, FailsRead, kept};
 ghost use Rattle.xk_serve.specs.Lines.{device_line, memory_line};
 ghost use Rattle.xk_serve.specs.Serving.{Answered, ErrBegins, OutBegins, Prints, Reports, StandsAgainst, Tells, TellsWords};
 
 use crate::answering::answer;
-use crate::bytes::{read_all, write_all};
+use crate::bytes::{read_all, read_front, write_all};
 use crate::fault::{DEVICE_LINE, Fault, MEMORY_LINE};
+use crate::programs::LONGEST_SOURCE;
 use std::alloc::Global;
 use xk_types::{Sink, Source};
-use xk_words::{Job, WordsFault};
+use xk_words::{Form, Job, WordsFault};
 
 /// Reads the program, does the job, and writes what comes of it: its result to `out`, or one line to `err`. The answer is
 /// the exit status: 0 where the job is done, 1 where the program is refused, 4 where memory ran out, 5 where a device
@@ -36,7 +37,7 @@ pub fn serve<P: Source, L: Source, O: Sink, E: Sink, K: Sink>(
     ensures out_begins { IfSome (P.remaining program.old) (λ bytes.
         OutBegins (task_of job.now) bytes (O.contents out.old) (O.contents out.new)) }
     ensures err_begins { IfSome (P.remaining program.old) (λ bytes.
-        ErrBegins bytes (E.contents err.old) (E.contents err.new)) }
+        ErrBegins (task_of job.now) bytes (E.contents err.old) (E.contents err.new)) }
     ensures memory_out { result ≡ 4 → Appends (O.contents out.old) (O.contents out.new) [] }
     ensures memory_err { result ≡ 4
         → Appends (E.contents err.old) (E.contents err.new) memory_line }
@@ -65,12 +66,26 @@ fn result_text<P: Source>(alloc: Global, job: &Job<'_>, program: &mut P) -> Resu
     ensures done { IfOk result (λ text. IfSome (P.remaining program.old) (λ bytes.
         Prints (task_of job.now) bytes (string_bytes text))) }
     ensures no_fault { OnOk result (P.fault_count program.new ≡ P.fault_count program.old) }
-    ensures fault { IfErr result (StandsAgainst (P.remaining program.old)
+    ensures fault { IfErr result (StandsAgainst (task_of job.now) (P.remaining program.old)
         (P.fault_count program.old) (P.fault_count program.new)) }
 {
-    let bytes = read_all(alloc, program)?;
+    let bytes = read_program(alloc, job.form, program)?;
     let done = answer(alloc, job, &bytes)?;
     Ok(done.text(alloc)?)
+}
+
+/// All that counts of the bytes in FILE: of a source text one byte more than it may have, at most.
+fn read_program<P: Source>(alloc: Global, form: Form, program: &mut P) -> Result<Vec<u8>, Fault>
+    ensures kept { IfOk result (λ bytes.
+        IfSome (P.remaining program.old) (λ known. bytes.items ≡ kept form known)) }
+    ensures no_fault { OnOk result (P.fault_count program.new ≡ P.fault_count program.old) }
+    ensures failed { IfErr result
+        (FailsRead (P.fault_count program.old) (P.fault_count program.new)) }
+{
+    match form {
+        Form::Module => read_all(alloc, program),
+        Form::Source => read_front(alloc, program, LONGEST_SOURCE + 1),
+    }
 }
 
 /// Writes the result. Where that fails, says so.
@@ -101,7 +116,7 @@ pub fn report<E: Sink>(alloc: Global, fault: &Fault, err: &mut E) -> u8
     match fault {
         Fault::OutOfMemory => tell(MEMORY_LINE, 4, err),
         Fault::Device => tell(DEVICE_LINE, 5, err),
-        Fault::Text(_) | Fault::Refused(_) => match fault.line(alloc) {
+        Fault::Text(_) | Fault::Front(_) | Fault::Refused(_) => match fault.line(alloc) {
             Ok(line) => tell(line.as_str(), fault.status(), err),
             Err(_) => tell(MEMORY_LINE, 4, err),
         },

@@ -1,5 +1,6 @@
 -- The program's command line in the terms of `clap`, and what its words ask for.
 use Rattle.std.specs.Prelude.{ℕ, ◌≡◌, ◌≢◌, ◌⊎◌, ⊤, true, false, List, [], ◌∷◌, map, Option, Some, None, option_and_then, option_map, codes, if◌then◌else◌}
+use Rattle.std.specs.Option.{option_map_or}
 use Rattle.std.specs.Borrow.{Bor}
 use Rattle.std.specs.Str.{bytes_eq}
 use Rattle.clap.specs.Words.{App, IsAmong, Kinds, Row, Rule, Text, fault_of, first_of, new_app, new_rule, subcommand_of, with_rule, with_subcommand}
@@ -21,17 +22,21 @@ use Rattle.xk_words.specs.declared.words_fault.WordsFault.TheVariants as fault
 
 -- ---- the command line
 
--- `--module`, which has to be there
-abbrev pub module_flag : Rule
-module_flag = record (new_rule (codes "module")) { long = Some (codes "module"); required = true; action = Some action.SetTrue }
-
 -- FILE, which has to be there
 abbrev pub file_place : Rule
 file_place = record (new_rule (codes "FILE")) { required = true; action = Some action.Set }
 
--- a command on a module in FILE
+-- `--module`
+abbrev pub module_flag : Rule
+module_flag = record (new_rule (codes "module")) { long = Some (codes "module"); action = Some action.SetTrue }
+
+-- a command on FILE
 abbrev pub on_file : Text → App
-on_file name = with_rule (with_rule (new_app name) module_flag) file_place
+on_file name = with_rule (new_app name) file_place
+
+-- a command on FILE that may be a module text
+abbrev pub on_either : Text → App
+on_either name = with_rule (on_file name) module_flag
 
 -- texts that stand somewhere in memory
 abbrev pub Names : Type 0
@@ -41,16 +46,17 @@ Names = Bor (List (Bor Text))
 abbrev pub order_option : Names → Rule
 order_option names = record (new_rule (codes "ORDER")) { long = Some (codes "order"); action = Some action.Set; parser = Some (parser.Names names) }
 
--- the command on a module in FILE whose steps are taken in an order
+-- the command on FILE whose steps are taken in an order
 abbrev pub run_line : Names → App
-run_line names = with_rule (on_file (codes "run")) (order_option names)
+run_line names = with_rule (on_either (codes "run")) (order_option names)
 
 -- the program with a command that has to be there
 abbrev pub program : App
 program = record (new_app (codes "x10clock")) { top = record (new_app (codes "x10clock")).top { subcommand_required = true } }
 
 abbrev pub command_line : Names → App
-command_line names = with_subcommand (with_subcommand program (on_file (codes "check")).top) (run_line names).top
+command_line names =
+    with_subcommand (with_subcommand (with_subcommand program (on_either (codes "check")).top) (on_file (codes "compile")).top) (run_line names).top
 
 -- no argument of the command is one of its subcommands too
 abbrev pub HasNoGlobals : clap_Command → Type 0
@@ -86,7 +92,17 @@ abbrev pub asked_value : Job → Asked
 asked_value job = record { command = job.command; form = job.form; order = job.order; file = job.file.now }
 
 abbrev pub command_named : Text → Option Command
-command_named name = if bytes_eq name (codes "check") then Some command.Check else (if bytes_eq name (codes "run") then Some command.Run else None)
+command_named name =
+    if bytes_eq name (codes "check") then Some command.Check
+    else (if bytes_eq name (codes "compile") then Some command.Compile else (if bytes_eq name (codes "run") then Some command.Run else None))
+
+-- the value of `--module` is `true` where it was given
+abbrev pub form_named : Text → Form
+form_named value = if bytes_eq value (codes "true") then form.Module else form.Source
+
+-- what stands in FILE
+abbrev pub form_in : List Row → Form
+form_in given = option_map_or form_named (first_of (codes "module") given) form.Source
 
 abbrev pub order_named : Text → Option Order
 order_named name =
@@ -100,7 +116,7 @@ order_in given = option_and_then order_named (first_of (codes "ORDER") given)
 -- the job of a command's name and what was given with it
 abbrev pub asked_by : Text → List Row → Option Asked
 asked_by name given =
-    option_and_then (λ c. option_map (λ file. record { command = c; form = form.Module; order = order_in given; file = file }) (first_of (codes "FILE") given))
+    option_and_then (λ c. option_map (λ file. record { command = c; form = form_in given; order = order_in given; file = file }) (first_of (codes "FILE") given))
     (command_named name)
 
 abbrev pub asked_in : Option (Text × List Row) → Option Asked

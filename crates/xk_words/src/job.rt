@@ -5,6 +5,8 @@
 pub enum Command {
     /// `check`: say whether FILE is accepted, and with which bounds.
     Check,
+    /// `compile`: print the text of the module that FILE gives, accepted or not.
+    Compile,
     /// `run`: run FILE, and print what it prints.
     Run,
 }
@@ -12,6 +14,8 @@ pub enum Command {
 /// What stands in FILE.
 #[derive(Clone, Copy, Debug, PartialEq, Eq)]
 pub enum Form {
+    /// A source text.
+    Source,
     /// `--module`: a module text.
     Module,
 }

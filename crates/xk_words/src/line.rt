@@ -2,7 +2,7 @@
 
 ghost use Rattle.std.specs.Prelude.{◌≡◌, [], Some, None, IfOk, OnOk, IfErr, option_map};
 ghost use Rattle.clap.specs.Words.{app_of, found_of, kind_of, rows_of, subcommand_rows_of};
-ghost use Rattle.xk_words.specs.Line.{FitsKind, HasNoGlobals, IsRefused, WithOrders, asked_by, asked_in, asked_value, command_line, command_named, faults_in, job_of, on_file, order_in, order_named, run_line, texts};
+ghost use Rattle.xk_words.specs.Line.{FitsKind, HasNoGlobals, IsRefused, WithOrders, asked_by, asked_in, asked_value, command_line, command_named, faults_in, form_in, form_named, job_of, on_either, on_file, order_in, order_named, run_line, texts};
 
 use crate::job::{Command, Form, Job, Order};
 use crate::words_fault::WordsFault;
@@ -37,12 +37,14 @@ pub fn read_job<'a>(alloc: Global, words: &'a [&'a str]) -> Result<Job<'a>, Word
 fn line<'a>(alloc: Global) -> Result<clap::Command<'a>, AllocError>
     ensures { IfOk result (λ c. WithOrders (λ names. app_of c ≡ command_line names)) }
 {
-    let check = on_file(alloc, "check", "Says whether a program is accepted.")?;
+    let check = on_either(alloc, "check", "Says whether a program is accepted.")?;
+    let compile = on_file(alloc, "compile", "Compiles a program and prints its module.")?;
     let run = run_line(alloc)?;
     clap::Command::new(alloc, "x10clock")
         .about("Verifies and runs clocked programs.")
         .subcommand_required(true)
         .subcommand(check)?
+        .subcommand(compile)?
         .subcommand(run)
 }
 
@@ -58,10 +60,26 @@ fn run_line<'a>(alloc: Global) -> Result<clap::Command<'a>, AllocError>
         )
         .action(ArgAction::Set)
         .value_parser(ORDERS.as_slice());
-    on_file(alloc, "run", "Runs a program and prints what it prints.")?.arg(order)
+    on_either(alloc, "run", "Runs a program and prints what it prints.")?.arg(order)
 }
 
-/// A command on a module in FILE.
+/// A command on FILE, which is a source text, or a module where the words say so.
+fn on_either<'a>(
+    alloc: Global,
+    name: &'a str,
+    about: &'a str,
+) -> Result<clap::Command<'a>, AllocError>
+    ensures shape { IfOk result (λ c. app_of c ≡ on_either name.entry.now) }
+    ensures local { IfOk result HasNoGlobals }
+{
+    let module_flag = Arg::new(alloc, "module")
+        .long("module")
+        .help("FILE is a module text")
+        .action(ArgAction::SetTrue);
+    on_file(alloc, name, about)?.arg(module_flag)
+}
+
+/// A command on FILE.
 fn on_file<'a>(
     alloc: Global,
     name: &'a str,
@@ -70,19 +88,11 @@ fn on_file<'a>(
     ensures shape { IfOk result (λ c. app_of c ≡ on_file name.entry.now) }
     ensures local { IfOk result HasNoGlobals }
 {
-    let module_flag = Arg::new(alloc, "module")
-        .long("module")
-        .help("FILE is a module text")
-        .required(true)
-        .action(ArgAction::SetTrue);
     let file = Arg::new(alloc, "FILE")
         .help("The program; - is standard input")
         .required(true)
         .action(ArgAction::Set);
-    clap::Command::new(alloc, name)
-        .about(about)
-        .arg(module_flag)?
-        .arg(file)
+    clap::Command::new(alloc, name).about(about).arg(file)
 }
 
 /// The job in what `clap` found.
@@ -101,10 +111,30 @@ fn job_by<'a>(name: &str, given: &ArgMatches<'a>) -> Option<Job<'a>>
     let file = given.get_str("FILE")?;
     Some(Job {
         command,
-        form: Form::Module,
+        form: form_in(given),
         order: order_in(given),
         file,
     })
+}
+
+/// What stands in FILE.
+fn form_in(given: &ArgMatches<'_>) -> Form
+    ensures { result ≡ form_in (rows_of (found_of given.now)) }
+{
+    match given.get_str("module") {
+        Some(value) => form_named(value),
+        None => Form::Source,
+    }
+}
+
+/// What stands in FILE, by the value of `--module`.
+fn form_named(value: &str) -> Form
+    ensures { result ≡ form_named value.now }
+{
+    match value {
+        "true" => Form::Module,
+        _ => Form::Source,
+    }
 }
 
 /// The order that was given.
@@ -133,6 +163,7 @@ fn command_named(name: &str) -> Option<Command>
 {
     match name {
         "check" => Some(Command::Check),
+        "compile" => Some(Command::Compile),
         "run" => Some(Command::Run),
         _ => None,
     }

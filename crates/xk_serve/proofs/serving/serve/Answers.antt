@@ -20,4 +20,4 @@ returns-in-Err-clause-out_begins g c =
 
 pub returns-in-Err-clause-err_begins : goal.returns-in-Err-clause-err_begins
 returns-in-Err-clause-err_begins g c =
-    report_begins (g.P.Source.remaining c.args.program.now) _ _ c.in-Err.fault _ _ _ _ _ c.in-Err.ensures.fault c.report.ensures
+    report_begins (task_of c.args.job.now) (g.P.Source.remaining c.args.program.now) _ _ c.in-Err.fault _ _ _ _ _ c.in-Err.ensures.fault c.report.ensures

@@ -9,7 +9,7 @@ returns c =
     let named : Some c.in_ok-command.command ≡ command_named c.args.name.now = c.in_ok-command.ensures in
     let given : Some c.in_ok-file.file.now ≡ first_of (codes "FILE") (rows_of (found_of c.args.given.now)) =
     c.in_ok-file.ensures ∙ first_value-rows (found_of c.args.given.now) (codes "FILE") in
-    rw (← named, ← given, c.order_in.ensures)
+    rw (← named, ← given, c.form_in.ensures, c.order_in.ensures)
 
 pub returns-in_err-file : goal.returns-in_err-file
 returns-in_err-file c =

@@ -4,7 +4,7 @@ use Rattle.clap.specs.Words.{App, app_of, with_subcommand}
 use Rattle.clap.specs.Simple.{app_of_fields, on_top}
 use Rattle.clap.specs.declared.builder.command.Command.{Command}
 use Rattle.clap.specs.declared.builder.command.Command.TheOpen.{Command-F}
-use Rattle.xk_words.specs.Line.{on_file, program, run_line}
+use Rattle.xk_words.specs.Line.{on_either, on_file, program, run_line}
 use Rattle.xk_words.proofs.line.line.Goals as goal
 
 pub returns : goal.returns
@@ -12,15 +12,17 @@ returns c =
     let top_is : app_of c.subcommand_required.result ≡ program =
     ap app_of_fields (c.subcommand_required.ensures ∙ ap (λ (f : Command-F Command). record f { subcommand_required = true }) c.about.ensures)
     ∙ ap (λ (a : App). on_top (λ s. record s { subcommand_required = true }) a) c.new.ensures.app in
-    let check_is : app_of c.in_ok-check.check ≡ on_file (codes "check") = c.in_ok-check.ensures.shape in
+    let check_is : app_of c.in_ok-check.check ≡ on_either (codes "check") = c.in_ok-check.ensures.shape in
+    let compile_is : app_of c.in_ok-compile.compile ≡ on_file (codes "compile") = c.in_ok-compile.ensures.shape in
     let orders = c.in_ok-run.ensures.shape in
     let run_is : app_of c.in_ok-run.run' ≡ run_line orders.0 = orders.2 in
-    IfOk-weaker c.subcommand-2.result _ _
+    let with_check = c.in_ok-subcommand.ensures.shape c.in_ok-check.ensures.local ∙ ap₂ with_subcommand top_is (ap (λ (a : App). a.top) check_is) in
+    let with_compile =
+    c.in_ok-subcommand-2.ensures.shape c.in_ok-compile.ensures.local ∙ ap₂ with_subcommand with_check (ap (λ (a : App). a.top) compile_is) in
+    IfOk-weaker c.subcommand-3.result _ _
     (λ r h. (
       orders.0,
       orders.1,
-      h.shape c.in_ok-run.ensures.local
-          ∙ ap₂ with_subcommand (c.in_ok-subcommand.ensures.shape c.in_ok-check.ensures.local ∙ ap₂ with_subcommand top_is (ap (λ (a : App). a.top) check_is))
-          (ap (λ (a : App). a.top) run_is),
+      h.shape c.in_ok-run.ensures.local ∙ ap₂ with_subcommand with_compile (ap (λ (a : App). a.top) run_is),
     ))
-    c.subcommand-2.ensures
+    c.subcommand-3.ensures

@@ -3,21 +3,17 @@ use Rattle.std.proofs.lemmas.Result.{IfOk-weaker}
 use Rattle.clap.specs.Words.{app_of, new_app, rule_of, with_rule}
 use Rattle.clap.specs.Simple.{app_of_fields}
 use Rattle.clap.specs.declared.builder.command.Command.TheViews.{out-Command}
-use Rattle.xk_words.specs.Line.{module_flag, file_place}
+use Rattle.xk_words.specs.Line.{file_place}
 use Rattle.xk_words.proofs.line.on_file.Goals as goal
 
 pub returns-clause-shape : goal.returns-clause-shape
 returns-clause-shape c =
-    let flag_is : rule_of c.action-module_flag.result ≡ module_flag = search rules in
     let file_is : rule_of c.action-file.result ≡ file_place = search rules in
-    let start_is : app_of c.about.result ≡ new_app c.args.name.now = ap app_of_fields c.about.ensures ∙ c.new-3.ensures.app in
-    IfOk-weaker c.arg-2.result _ _ (λ r h. h.shape (search rules) ∙ ap₂ with_rule (c.in_ok-arg.ensures.shape (search rules) ∙ ap₂ with_rule start_is flag_is) file_is)
-    c.arg-2.ensures
+    let start_is : app_of c.about.result ≡ new_app c.args.name.now = ap app_of_fields c.about.ensures ∙ c.new-2.ensures.app in
+    IfOk-weaker c.arg.result _ _ (λ r h. h.shape (search rules) ∙ ap₂ with_rule start_is file_is) c.arg.ensures
 
 pub returns-clause-local : goal.returns-clause-local
 returns-clause-local c =
-    let flag_local : c.action-module_flag.result.global ≡ false = search rules in
     let file_local : c.action-file.result.global ≡ false = search rules in
-    let start_local : (out-Command c.about.result).has_globals ≡ false = ap (λ f. f.has_globals) c.about.ensures ∙ c.new-3.ensures.local in
-    let first_local : (out-Command c.in_ok-arg.field-0).has_globals ≡ false = c.in_ok-arg.ensures.globals ∙ ap₂ ◌||◌ start_local flag_local in
-    IfOk-weaker c.arg-2.result _ _ (λ r h. h.globals ∙ ap₂ ◌||◌ first_local file_local) c.arg-2.ensures
+    let start_local : (out-Command c.about.result).has_globals ≡ false = ap (λ f. f.has_globals) c.about.ensures ∙ c.new-2.ensures.local in
+    IfOk-weaker c.arg.result _ _ (λ r h. h.globals ∙ ap₂ ◌||◌ start_local file_local) c.arg.ensures

@@ -1,0 +1,67 @@
+-- What program the bytes of FILE give: a module, or why there is none.
+use Rattle.std.specs.Prelude.{◌≡◌, ◌≢◌, ◌<◌, ◌≤◌, ◌⊎◌, ℕ, ⊤, List, length, IsUtf8}
+use Rattle.std.specs.Str.{IsValidUpTo}
+use Rattle.xk_types.specs.Code.{ModuleValue, IsWithinLimits}
+use Rattle.xk_module.specs.ModuleText.{IsJson, IsModuleText}
+use Rattle.xk_module.specs.declared.fault.ModuleFault.{ModuleFault}
+use Rattle.xk_module.specs.declared.fault.ModuleFault.TheVariants as text
+use Rattle.xk_tree.specs.Tree.{TreeValue}
+use Rattle.xk_tree.specs.declared.fault.FrontError.{FrontError}
+use Rattle.xk_tree.specs.declared.fault.FrontError.TheVariants as error
+use Rattle.xk_tree.specs.declared.fault.FrontFault.{FrontFault}
+use Rattle.xk_tree.specs.declared.fault.FrontRule.TheVariants as rule
+use Rattle.xk_syntax.specs.Spelling.{SpellsTree}
+use Rattle.xk_codegen.specs.Compiled.{IsCompiled, IsFaultOf}
+use Rattle.xk_words.specs.declared.job.Form.{Form}
+use Rattle.xk_words.specs.declared.job.Form.TheVariants as form
+
+-- ---- module texts
+
+-- why bytes are no module within the limits; want of memory is no reason
+abbrev pub IsNoModule : List ℕ → ModuleFault → Type 0
+IsNoModule bytes text.NotJson = ¬ IsJson bytes
+IsNoModule bytes text.NotAModule = IsJson bytes × ((m : ModuleValue) → ¬ IsModuleText bytes m)
+IsNoModule bytes text.Limit = (m : ModuleValue) × IsModuleText bytes m × ¬ IsWithinLimits m
+IsNoModule bytes text.OutOfMemory = ⊥
+
+-- ---- source texts
+
+-- the most bytes that a source text has
+abbrev pub longest_source : ℕ
+longest_source = 1048576
+
+-- the bytes are a source text of this tree
+abbrev pub IsSource : List ℕ → TreeValue → Type 0
+IsSource bytes tree = IsUtf8 bytes × SpellsTree bytes tree
+
+-- F4 at 0: the bytes are too many
+abbrev pub IsTooLong : List ℕ → FrontFault → Type 0
+IsTooLong bytes f = (longest_source < length bytes) × (f.rule ≡ rule.TooLong) × (f.at ≡ 0)
+
+-- F1 behind the longest front that is UTF-8: the bytes aren't too many, and no UTF-8
+abbrev pub IsNotUtf8 : List ℕ → FrontFault → Type 0
+IsNotUtf8 bytes f = (length bytes ≤ longest_source) × (f.rule ≡ rule.Token) × IsValidUpTo bytes f.at
+
+-- a fault of the parser's: the bytes are UTF-8, not too many, and spell no tree
+abbrev pub SpellsNone : List ℕ → FrontFault → Type 0
+SpellsNone bytes f = (length bytes ≤ longest_source) × IsUtf8 bytes × ((tree : TreeValue) → ¬ SpellsTree bytes tree) × (f.rule ≢ rule.TooLong)
+
+-- a fault of the tree that they spell
+abbrev pub SpellsFaulty : List ℕ → FrontFault → Type 0
+SpellsFaulty bytes f = (tree : TreeValue) × IsSource bytes tree × IsFaultOf tree f
+
+-- why the bytes of a source text give no module
+abbrev pub IsNoSource : List ℕ → FrontFault → Type 0
+IsNoSource bytes f = IsTooLong bytes f ⊎ (IsNotUtf8 bytes f ⊎ (SpellsNone bytes f ⊎ SpellsFaulty bytes f))
+
+-- a source text gives no module, but for want of memory
+abbrev pub IsUnfit : List ℕ → FrontError → Type 0
+IsUnfit bytes (error.Fault f) = IsNoSource bytes f
+IsUnfit bytes error.OutOfMemory = ⊤
+
+-- ---- both
+
+-- the bytes give this module: they are a text of it, or a source text with whose tree it goes
+abbrev pub Gives : Form → List ℕ → ModuleValue → Type 0
+Gives form.Module bytes m = IsModuleText bytes m × IsWithinLimits m
+Gives form.Source bytes m = (tree : TreeValue) × IsSource bytes tree × IsCompiled tree m

@@ -1,0 +1,1 @@
+def main() { val x = 007; }

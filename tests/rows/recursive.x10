@@ -1,0 +1,1 @@
+def f() { g(); } def g() { f(); } def main() { f(); }
