@@ -4,3 +4,4 @@ pub mod Nested
 pub mod Ordered
 pub mod Placed
 pub mod Units
+pub mod Keeps

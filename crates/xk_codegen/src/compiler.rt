@@ -3,12 +3,13 @@
 ghost use Rattle.std.specs.Prelude.{◌≡◌, ◌≤◌, All, Err, map, length, IfOk, OnOk};
 ghost use Rattle.xk_types.specs.Code.{IsUnitWithinLimits, module_of};
 ghost use Rattle.xk_tree.specs.declared.fault.FrontFault.{FrontFault as Fault};
+ghost use Rattle.xk_tree.specs.Bodies.{HasBodiesApart};
 ghost use Rattle.xk_tree.specs.Tree.{method_value, shared_value, tree_value};
 ghost use Rattle.xk_names.specs.Faults.{HasFault};
 ghost use Rattle.xk_names.specs.Scoped.{IsScoped};
 ghost use Rattle.xk_units.specs.Recursion.{HasRecursion};
 ghost use Rattle.xk_codegen.specs.Views.{part};
-ghost use Rattle.xk_codegen.specs.Compiled.{IsCompiled, IsFaultOf, method_kind, unit_of_part};
+ghost use Rattle.xk_codegen.specs.Compiled.{IsCompiled, IsFaultOf, KeepsShape, method_kind, unit_of_part};
 
 use crate::order::units_in_order;
 use crate::parts::Part;
@@ -157,6 +158,7 @@ fn check(alloc: Global, tree: &Tree<'_>) -> Result<(), FrontError>
 fn code(alloc: Global, tree: &Tree<'_>) -> Result<Module, FrontError>
     requires scoped { IsScoped (tree_value tree.now) }
     ensures compiled { IfOk result (λ m. IsCompiled (tree_value tree.now) m) }
+    ensures keeps { IfOk result (λ m. HasBodiesApart (tree_value tree.now) → KeepsShape m) }
     ensures fault { (f : Fault) → result ≡ Err (FrontError.Fault f)
         → IsFaultOf (tree_value tree.now) f }
 {
@@ -174,6 +176,7 @@ pub fn compile(alloc: Global, tree: &Tree<'_>) -> Result<Module, FrontError>
     ensures clean { OnOk result ((f : Fault) → HasFault (tree_value tree.now) f → ⊥) }
     ensures falls { OnOk result ((f : Fault) → HasRecursion (tree_value tree.now) f → ⊥) }
     ensures compiled { IfOk result (λ m. IsCompiled (tree_value tree.now) m) }
+    ensures keeps { IfOk result (λ m. HasBodiesApart (tree_value tree.now) → KeepsShape m) }
     ensures fault { (f : Fault) → result ≡ Err (FrontError.Fault f)
         → IsFaultOf (tree_value tree.now) f }
 {
