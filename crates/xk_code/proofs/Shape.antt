@@ -1,4 +1,4 @@
--- The units that the compiler makes break none of the rules V1 to V7.
+-- The units that the compiler makes break none of the rules V1 to V7 and V10, nor V8 where a method drops no clock that it is lent.
 pub mod Stands
 pub mod Nest
 pub mod Targets
@@ -10,6 +10,10 @@ pub mod Counters
 pub mod Whole
 pub mod Cells
 pub mod Runs
+pub mod Homes
+pub mod Given
 pub mod Units
-pub mod Modules
 pub mod Names
+pub mod Modules
+pub mod Trees
+pub mod Rows

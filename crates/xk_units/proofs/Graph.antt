@@ -17,24 +17,24 @@ use Rattle.xk_units.proofs.Listed.{has_at, place_of, is_listed_among, stands_amo
 
 -- ---- rows
 
-mapped_at : {A B : Type 0} (f : A → B) (xs : List A) (k : ℕ) (y : B) → slice_get (map f xs) k ≡ Some y → (x : A) × (slice_get xs k ≡ Some x) × (f x ≡ y)
+pub mapped_at : {A B : Type 0} (f : A → B) (xs : List A) (k : ℕ) (y : B) → slice_get (map f xs) k ≡ Some y → (x : A) × (slice_get xs k ≡ Some x) × (f x ≡ y)
 mapped_at f [] k y e = absurd cc
 mapped_at f (x ∷ xs) zero y e = (x, refl, cc)
 mapped_at f (x ∷ xs) (suc k) y e = mapped_at f xs k y e
 
-at_mapped : {A B : Type 0} (f : A → B) (xs : List A) (k : ℕ) (x : A) → slice_get xs k ≡ Some x → slice_get (map f xs) k ≡ Some (f x)
+pub at_mapped : {A B : Type 0} (f : A → B) (xs : List A) (k : ℕ) (x : A) → slice_get xs k ≡ Some x → slice_get (map f xs) k ≡ Some (f x)
 at_mapped f [] k x e = absurd cc
 at_mapped f (y ∷ xs) zero x e = let same : y ≡ x = cc in ap (λ z. Some (f z)) same
 at_mapped f (y ∷ xs) (suc k) x e = at_mapped f xs k x e
 
 -- a row that calls is not the last, which is empty
-row_of : (rs : List (List ℕ)) (i k j : ℕ) → IsCall (rs ++ [] ∷ []) i k j → (row : List ℕ) × (slice_get rs i ≡ Some row) × (slice_get row k ≡ Some j)
+pub row_of : (rs : List (List ℕ)) (i k j : ℕ) → IsCall (rs ++ [] ∷ []) i k j → (row : List ℕ) × (slice_get rs i ≡ Some row) × (slice_get row k ≡ Some j)
 row_of [] zero k j e = absurd cc
 row_of [] (suc i) k j e = absurd cc
 row_of (r ∷ rs) zero k j e = (r, refl, e)
 row_of (r ∷ rs) (suc i) k j e = row_of rs i k j e
 
-of_row : (rs : List (List ℕ)) (i k j : ℕ) (row : List ℕ) → slice_get rs i ≡ Some row → slice_get row k ≡ Some j → IsCall (rs ++ [] ∷ []) i k j
+pub of_row : (rs : List (List ℕ)) (i k j : ℕ) (row : List ℕ) → slice_get rs i ≡ Some row → slice_get row k ≡ Some j → IsCall (rs ++ [] ∷ []) i k j
 of_row [] i k j row e f = absurd cc
 of_row (r ∷ rs) zero k j row e f = let same : r ≡ row = cc in subst (λ (q : List ℕ). slice_get q k ≡ Some j) (sym same) f
 of_row (r ∷ rs) (suc i) k j row e f = of_row rs i k j row e f
@@ -49,7 +49,7 @@ number_bound n (m ∷ ms) x j e = go (is_text x m.name.text) e (number_bound (su
     go true h later = let same : n ≡ j = cc in omega arith
     go false h later = let r = later h in omega arith
 
-past_end : {A : Type 0} (xs : List A) (x : A) → slice_get xs (length xs) ≡ Some x → ⊥
+pub past_end : {A : Type 0} (xs : List A) (x : A) → slice_get xs (length xs) ≡ Some x → ⊥
 past_end [] x e = cc
 past_end (y ∷ xs) x e = past_end xs x e
 

@@ -153,7 +153,7 @@ differs : (k d : ℕ) → k < d → (d == k) ≡ false
 differs k d h = grind (arith, nat_tests)
 
 -- what is found in a scope with one name more
-find_more : (scope : Scope) (x : List ℕ) (n : ℕ) (y : List ℕ) (j : ℕ) → find (scope ++ (x, n) ∷ []) y ≡ Some j → (find scope y ≡ Some j) ⊎ ((y ≡ x) × (n ≡ j))
+pub find_more : (scope : Scope) (x : List ℕ) (n : ℕ) (y : List ℕ) (j : ℕ) → find (scope ++ (x, n) ∷ []) y ≡ Some j → (find scope y ≡ Some j) ⊎ ((y ≡ x) × (n ≡ j))
 find_more [] x n y j h = go (is_text y x) refl h
   where
     go : (b : Bool) → is_text y x ≡ b → cond b (Some n) None ≡ Some j → (None ≡ Some j) ⊎ ((y ≡ x) × (n ≡ j))

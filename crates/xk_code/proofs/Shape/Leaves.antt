@@ -4,6 +4,9 @@ use Rattle.std.specs.Option.{option_map_or}
 use Rattle.std.proofs.lemmas.List.{length-map}
 use Rattle.xk_types.specs.declared.instr.Instr.{Instr}
 use Rattle.xk_types.specs.declared.instr.Instr.TheVariants as instr
+use Rattle.xk_tree.specs.declared.tree.Binding.{Binding}
+use Rattle.xk_tree.specs.declared.tree.TypeName.{TypeName}
+use Rattle.xk_tree.specs.declared.tree.Verb.{Verb}
 use Rattle.xk_tree.specs.declared.tree.Operator.{Operator}
 use Rattle.xk_tree.specs.declared.tree.Operator.TheVariants as operator
 use Rattle.xk_tree.specs.Tree.{Word, Clocks, Expression, Literal, Named, Paren, Negation, Binary, Source, Make, Value, Statement, Block, Empty, Declare, Assign, Atomic, If, IfElse, For, Async, Finish, Call, Resume, Drop, AdvanceAll, Print, Statements, Done, More}
@@ -39,9 +42,9 @@ pub record Leaves (cx : Setting) (Q : Statement → Type 0) (P : Instr → Type 
   pub put : (x : List ℕ) (s a : ℕ) → find cx.shared x ≡ Some s → P (instr.Put s a)
   pub add_to : (x y : Word) (at : ℕ) (e : Expression) → Q (Atomic x y at e) → (a : ℕ) → P (instr.AddTo (number_of cx.shared x) a)
   pub print : (x : ℕ) → P (instr.Print x)
-  pub make : (d : ℕ) → P (instr.Make d)
+  pub make : (b : Binding) (x : Word) (ty : Option TypeName) (at : ℕ) (v : Verb) → Q (Declare b x ty (Make at v)) → (d : ℕ) → P (instr.Make d)
   pub resume : (c : ℕ) → P (instr.Resume c)
-  pub drop : (c : ℕ) → P (instr.Drop c)
+  pub drop : (c : Word) (v : Verb) → Q (Drop c v) → (k : ℕ) → P (instr.Drop k)
   pub advance : P instr.Advance
   -- with as many arguments as there are, of a method and of the body of an `async`
   pub call : (f : Word) (at : ℕ) (es : List Expression) (args : List ℕ) → Q (Call f at es) → length args ≡ length es → P (instr.Call (number_of cx.methods f) args)
@@ -76,7 +79,7 @@ module _ (cx : Setting) (Q : Statement → Type 0) (P : Instr → Type 0) (l : L
       holds_both P (eval scope t a) (eval scope u b ++ i ∷ []) (each_eval scope t a)
       (then_one (eval scope u b) i (each_eval scope u b) (operation o t (slot_for scope t a) (slot_for scope u b)))
 
-  each_both : (scope : Scope) (t : ℕ) (a b : Expression) → Holds P (both scope t a b)
+  pub each_both : (scope : Scope) (t : ℕ) (a b : Expression) → Holds P (both scope t a b)
   each_both scope t a b = holds_both P (eval scope t a) (eval scope (behind t (slot_for scope t a)) b) (each_eval scope t a) (each_eval scope (behind t (slot_for scope t a)) b)
 
   each_before : (scope : Scope) (t : ℕ) (e : Expression) → Holds P (before_into scope t e)
@@ -93,7 +96,7 @@ module _ (cx : Setting) (Q : Statement → Type 0) (P : Instr → Type 0) (l : L
   its_last scope t (Negation at e) d = l.sub d t (slot_for scope (t + 1) e)
   its_last scope t (Binary o a at b) d = operation o d (slot_for scope t a) (second scope t a b)
 
-  each_of_all : (scope : Scope) (t : ℕ) (es : List Expression) → Holds P (eval_all scope t es)
+  pub each_of_all : (scope : Scope) (t : ℕ) (es : List Expression) → Holds P (eval_all scope t es)
   each_of_all scope t [] = tt
   each_of_all scope t (e ∷ es) =
       let u = behind t (slot_for scope t e) in holds_both P (eval scope t e) (eval_all scope u es) (each_eval scope t e) (each_of_all scope u es)
@@ -111,9 +114,9 @@ module _ (cx : Setting) (Q : Statement → Type 0) (P : Instr → Type 0) (l : L
   its_value scope t (Negation at e) d = its_last scope t (Negation at e) d
   its_value scope t (Binary o a at b) d = its_last scope t (Binary o a at b) d
 
-  each_source : (t : ℕ) (scope : Scope) (d : ℕ) (r : Source) → Holds P (code_of_source cx t scope d r)
-  each_source t scope d (Make at v) = (l.make d, tt)
-  each_source t scope d (Value e) = then_one (before_into scope t e) (last_value cx scope t e d) (each_before scope t e) (its_value scope t e d)
+  each_source : (t : ℕ) (scope : Scope) (d : ℕ) (b : Binding) (x : Word) (ty : Option TypeName) (r : Source) → Q (Declare b x ty r) → Holds P (code_of_source cx t scope d r)
+  each_source t scope d b x ty (Make at v) h = (l.make b x ty at v h d, tt)
+  each_source t scope d b x ty (Value e) h = then_one (before_into scope t e) (last_value cx scope t e d) (each_before scope t e) (its_value scope t e d)
 
   each_assigned : (scope : Scope) (t : ℕ) (x : Word) (e : Expression) (o : Option ℕ) → find cx.shared x.text ≡ o
       → Holds P (before_assigned scope t e o ++ last_assigned cx scope t x e o ∷ [])
@@ -127,7 +130,7 @@ module _ (cx : Setting) (Q : Statement → Type 0) (P : Instr → Type 0) (l : L
     pub rows_of : (t : ℕ) (scope : Scope) (n : ℕ) (s : Statement) → EachInside Q s → EachRow P (nest_of cx t scope n s)
     rows_of t scope n (Block ss) h = rows_of_all t scope n ss h
     rows_of t scope n Empty h = tt
-    rows_of t scope n (Declare b x ty r) h = each_source t scope n r
+    rows_of t scope n (Declare b x ty r) h = each_source t scope n b x ty r h
     rows_of t scope n (Assign x e) h = each_assigned scope t x e (find cx.shared x.text) refl
     rows_of t scope n (Atomic x y at e) h =
         then_one (eval scope t e) (instr.AddTo (number_of cx.shared x) (slot_for scope t e)) (each_eval scope t e) (l.add_to x y at e h (slot_for scope t e))
@@ -146,7 +149,7 @@ module _ (cx : Setting) (Q : Statement → Type 0) (P : Instr → Type 0) (l : L
         let args = argument_slots scope t es in
         then_one (eval_all scope t es) (instr.Call (number_of cx.methods f) args) (each_of_all scope t es) (l.call f at es args h (slots_count scope t es))
     rows_of t scope n (Resume c v) h = (l.resume (number_of scope c), tt)
-    rows_of t scope n (Drop c v) h = (l.drop (number_of scope c), tt)
+    rows_of t scope n (Drop c v) h = (l.drop c v h (number_of scope c), tt)
     rows_of t scope n (AdvanceAll at v) h = (l.advance, tt)
     rows_of t scope n (Print at v e) h = then_one (eval scope t e) (instr.Print (slot_for scope t e)) (each_eval scope t e) (l.print (slot_for scope t e))
 

@@ -1,13 +1,18 @@
--- A module of units that the compiler makes: it breaks none of the rules V1 to V7.
-use Rattle.std.proofs.Common.{◌≡◌, ℕ, Bool, true, false, List, length, Option, Some, None, refl, sym, subst}
+-- A module of units that the compiler makes: it breaks none of the rules V1 to V7 and V10, and of V8 only that no method drops a clock that it is
+-- lent. V9 is left: whether a clock is handed on in its home is the program's matter.
+use Rattle.std.proofs.Common.{◌≡◌, ℕ, Bool, true, false, List, [], ◌∷◌, ◌++◌, length, Option, Some, None, refl, sym, subst}
 use Rattle.std.specs.Prelude.{slice_get}
+use Rattle.std.proofs.lemmas.Option.{none-some}
 use Rattle.xk_types.specs.declared.rules.Rule.{Rule}
 use Rattle.xk_types.specs.declared.rules.Rule.TheVariants as rule
 use Rattle.xk_types.specs.declared.unit.ParamKind.{ParamKind}
 use Rattle.xk_types.specs.declared.unit.UnitKind.{UnitKind}
-use Rattle.xk_types.specs.Code.{UnitValue, ModuleValue}
+use Rattle.xk_types.specs.Code.{UnitValue, ModuleValue, is_method}
 use Rattle.xk_types.specs.Shape.{is_in_place, breaks_in, breaks_unit_of, breaks, HasShape}
-use Rattle.xk_tree.specs.Tree.{Statement}
+use Rattle.xk_tree.specs.Tree.{Word, Statement, Statements, Block}
+use Rattle.xk_names.specs.Scope.{Scope}
+use Rattle.xk_names.specs.Uses.{Signatures}
+use Rattle.xk_names.specs.Scoped.{IsSound, IsSoundInside}
 use Rattle.xk_code.specs.CodeOf.{Setting}
 use Rattle.xk_code.specs.Unit.{unit_of}
 use Rattle.xk_code.specs.Covered.{IsUnitCovered}
@@ -15,7 +20,10 @@ use Rattle.xk_code.proofs.Shape.Leaves.{EachInside}
 use Rattle.xk_code.proofs.Shape.Counters.{KeepsNames}
 use Rattle.xk_code.proofs.Shape.Cells.{SharedBelow}
 use Rattle.xk_code.proofs.Shape.Runs.{RunsFitting}
-use Rattle.xk_code.proofs.Shape.Units.{keeps_target, keeps_block, keeps_slot, keeps_unit, keeps_cell, keeps_loop, keeps_end}
+use Rattle.xk_code.proofs.Shape.Homes.{SparesClocks, keeps_home}
+use Rattle.xk_code.proofs.Shape.Given.{GivesOnce}
+use Rattle.xk_code.proofs.Shape.Names.{keeps_names, FindsUnits, runs_right}
+use Rattle.xk_code.proofs.Shape.Units.{keeps_target, keeps_block, keeps_slot, keeps_unit, keeps_cell, keeps_loop, keeps_end, keeps_same_clock}
 
 -- unit number `unit` of the module is the compiler's
 pub record IsCompiled (m : ModuleValue) (unit : ℕ) (u : UnitValue) : Type 0 where
@@ -35,16 +43,59 @@ pub record IsCompiled (m : ModuleValue) (unit : ℕ) (u : UnitValue) : Type 0 wh
   pub place : is_in_place unit u ≡ true
   -- what it calls and starts are units of greater number, of the right kind, with as many parameters
   pub runs : EachInside (RunsFitting m cx unit) s
+  -- it has as many parameters as names for them
+  pub params : length kinds ≡ length xs
+  -- it gives no clock twice
+  pub given : EachInside (GivesOnce m cx) s
 
--- the rules on homes and on clocks that are handed on: whether they hold is the program's matter
-abbrev pub is_on_clocks : Rule → Bool
-is_on_clocks rule.Home = true
-is_on_clocks rule.Registers = true
-is_on_clocks rule.SameClock = true
-is_on_clocks _ = false
+-- a method drops no clock of its parameters
+abbrev pub SparesLent : (m : ModuleValue) (unit : ℕ) (u : UnitValue) → IsCompiled m unit u → Type 0
+SparesLent m unit u c = is_method c.kind ≡ true → EachInside (SparesClocks c.xs) c.s
+
+-- a block itself does nothing with names
+pub block_sound : (ms : Signatures) (sc : Scope) (ss : Statements) → IsSound ms sc (Block ss)
+block_sound ms sc ss = record {
+  used = λ u h. absurd h;
+  new = λ d h. absurd h;
+  fitting = λ at h. absurd h;
+  callable = λ g es h. absurd (none-some (g, es) h);
+  apart = λ before c after h. absurd (nothing before c after h);
+}
+  where
+    nothing : (before : List Word) (c : Word) (after : List Word) → [] ≡ before ++ c ∷ after → ⊥
+    nothing [] c after h = cc
+    nothing (w ∷ before) c after h = cc
+
+-- the unit of a statement whose names are without faults, where ms are the methods, and sc is what is visible
+pub compiled_soundly : (m : ModuleValue) (unit : ℕ) (cx : Setting) (kind : UnitKind) (xs : List (List ℕ)) (kinds : List ParamKind) (s : Statement) (ms : Signatures) (sc : Scope)
+    → SharedBelow cx (length m.shared) → IsUnitCovered cx xs s → length kinds ≡ length xs → is_in_place unit (unit_of cx kind xs kinds s) ≡ true
+    → IsSound ms sc s → IsSoundInside ms sc s → EachInside (FindsUnits m cx ms unit) s → IsCompiled m unit (unit_of cx kind xs kinds s)
+compiled_soundly m unit cx kind xs kinds s ms sc shared covered params place sound inside units =
+    let runs = runs_right m cx ms unit sc s sound inside units in
+    record {
+      cx = cx;
+      kind = kind;
+      xs = xs;
+      kinds = kinds;
+      s = s;
+      is = refl;
+      shared = shared;
+      covered = covered;
+      names = keeps_names ms sc s sound inside;
+      place = place;
+      runs = runs.0;
+      params = params;
+      given = runs.1;
+    }
+
+-- a rule that the compiler alone can't keep
+abbrev pub is_left : Rule → Bool
+is_left rule.Home = true
+is_left rule.Registers = true
+is_left _ = false
 
 module _ (m : ModuleValue) where
-  unit_keeps : (unit : ℕ) (u : UnitValue) → IsCompiled m unit u → (r : Rule) → is_on_clocks r ≡ false → (at : ℕ) → breaks_in m r unit u at ≡ false
+  unit_keeps : (unit : ℕ) (u : UnitValue) → IsCompiled m unit u → (r : Rule) → is_left r ≡ false → (at : ℕ) → breaks_in m r unit u at ≡ false
   unit_keeps unit u c rule.Target h at = subst (λ v. breaks_in m rule.Target unit v at ≡ false) c.is (keeps_target c.cx c.kind c.xs c.kinds c.s at)
   unit_keeps unit u c rule.Block h at = subst (λ v. breaks_in m rule.Block unit v at ≡ false) c.is (keeps_block c.cx c.kind c.xs c.kinds c.s at)
   unit_keeps unit u c rule.Slot h at = subst (λ v. breaks_in m rule.Slot unit v at ≡ false) c.is (keeps_slot c.cx c.kind c.xs c.kinds c.s c.covered at)
@@ -55,22 +106,45 @@ module _ (m : ModuleValue) where
   unit_keeps unit u c rule.End h at = subst (λ v. breaks_in m rule.End unit v at ≡ false) c.is (keeps_end c.cx c.kind c.xs c.kinds c.s at)
   unit_keeps unit u c rule.Home h at = absurd cc
   unit_keeps unit u c rule.Registers h at = absurd cc
-  unit_keeps unit u c rule.SameClock h at = absurd cc
+  unit_keeps unit u c rule.SameClock h at = subst (λ v. breaks_in m rule.SameClock unit v at ≡ false) c.is (keeps_same_clock c.cx c.kind c.xs c.kinds c.s m c.covered c.given at)
   unit_keeps unit u c _ h at = refl
 
   module _ (compiled : (unit : ℕ) (u : UnitValue) → slice_get m.units unit ≡ Some u → IsCompiled m unit u) where
-    -- no place breaks one of V1 to V7
-    pub module_keeps : (r : Rule) → is_on_clocks r ≡ false → (unit at : ℕ) → breaks m r unit at ≡ false
+    -- no place breaks one of V1 to V7, or V10
+    pub module_keeps : (r : Rule) → is_left r ≡ false → (unit at : ℕ) → breaks m r unit at ≡ false
     module_keeps r h unit at = go (slice_get m.units unit) refl
       where
         go : (o : Option UnitValue) → slice_get m.units unit ≡ o → breaks_unit_of m r unit o at ≡ false
         go None e = refl
         go (Some u) e = unit_keeps unit u (compiled unit u e) r h at
 
-    -- so the module has the shape, where no place breaks V8, V9 or V10
-    pub has_shape : ((r : Rule) → is_on_clocks r ≡ true → (unit at : ℕ) → breaks m r unit at ≡ false) → HasShape m
-    has_shape clocks r unit at = go (is_on_clocks r) refl
-      where
-        go : (b : Bool) → is_on_clocks r ≡ b → breaks m r unit at ≡ false
-        go true e = clocks r e unit at
-        go false e = module_keeps r e unit at
+    module _ (lent : (unit : ℕ) (u : UnitValue) (e : slice_get m.units unit ≡ Some u) → SparesLent m unit u (compiled unit u e)) where
+      -- nor V8
+      pub home_kept : (unit at : ℕ) → breaks m rule.Home unit at ≡ false
+      home_kept unit at = go (slice_get m.units unit) refl
+        where
+          go : (o : Option UnitValue) → slice_get m.units unit ≡ o → breaks_unit_of m rule.Home unit o at ≡ false
+          go None e = refl
+          go (Some u) e =
+              let c = compiled unit u e in
+              subst (λ v. breaks_in m rule.Home unit v at ≡ false) c.is (keeps_home c.cx c.kind c.xs c.kinds c.s c.params c.covered (lent unit u e) at)
+
+      -- so the module has the shape, where none breaks V9
+      pub has_shape : ((unit at : ℕ) → breaks m rule.Registers unit at ≡ false) → HasShape m
+      has_shape registers rule.Home unit at = home_kept unit at
+      has_shape registers rule.Registers unit at = registers unit at
+      has_shape registers rule.Target unit at = module_keeps rule.Target refl unit at
+      has_shape registers rule.Block unit at = module_keeps rule.Block refl unit at
+      has_shape registers rule.Slot unit at = module_keeps rule.Slot refl unit at
+      has_shape registers rule.Unit unit at = module_keeps rule.Unit refl unit at
+      has_shape registers rule.Cell unit at = module_keeps rule.Cell refl unit at
+      has_shape registers rule.Loop unit at = module_keeps rule.Loop refl unit at
+      has_shape registers rule.End unit at = module_keeps rule.End refl unit at
+      has_shape registers rule.SameClock unit at = module_keeps rule.SameClock refl unit at
+      has_shape registers rule.Use unit at = module_keeps rule.Use refl unit at
+      has_shape registers rule.Held unit at = module_keeps rule.Held refl unit at
+      has_shape registers rule.Leak unit at = module_keeps rule.Leak refl unit at
+      has_shape registers rule.Steps unit at = module_keeps rule.Steps refl unit at
+      has_shape registers rule.Activities unit at = module_keeps rule.Activities refl unit at
+      has_shape registers rule.Clocks unit at = module_keeps rule.Clocks refl unit at
+      has_shape registers rule.Stack unit at = module_keeps rule.Stack refl unit at

@@ -1,18 +1,30 @@
--- Where names are without faults, no loop's name is assigned to in its body.
-use Rattle.std.proofs.Common.{◌≡◌, ℕ, Bool, true, false, cond, List, [], ◌∷◌, ◌++◌, length, Some, None, inl, refl, sym, ap, ◌∙◌}
+-- What follows where names are without faults: no loop's name is assigned to in its body, what is called fits, and no clock is given twice.
+use Rattle.std.proofs.Common.{◌≡◌, ℕ, suc, Bool, true, false, cond, ◌<◌, List, [], ◌∷◌, ◌++◌, map, length, Option, Some, None, inl, refl, sym, ap, ◌∙◌, subst}
+use Rattle.std.specs.Prelude.{slice_get}
+use Rattle.std.specs.List.{flat_map}
+use Rattle.std.specs.Option.{option_map_or}
 use Rattle.std.specs.Cmp.Lexicographic.{bytes_decides}
 use Rattle.std.proofs.lemmas.Bool.{false≢true}
+use Rattle.std.proofs.lemmas.List.{length-map}
 use Rattle.std.proofs.lemmas.Option.{none-some, same_Some}
-use Rattle.xk_tree.specs.Tree.{Statement, Block, Assign, If, IfElse, For, Finish, Statements, Done, More}
+use Rattle.xk_types.specs.declared.unit.ParamKind.{ParamKind}
+use Rattle.xk_types.specs.declared.unit.ParamKind.TheVariants as param
+use Rattle.xk_types.specs.declared.unit.UnitKind.{UnitKind}
+use Rattle.xk_types.specs.Code.{UnitValue, ModuleValue, params_of, is_method, is_body}
+use Rattle.xk_tree.specs.Tree.{Word, Clocks, Expression, ParamValue, Statement, Block, Assign, If, IfElse, For, Async, Finish, Call, Statements, Done, More}
 use Rattle.xk_names.specs.declared.known.Known.{Known}
 use Rattle.xk_names.specs.declared.known.Kind.TheVariants as kind
 use Rattle.xk_names.specs.declared.known.Want.TheVariants as want
-use Rattle.xk_names.specs.Scope.{Table, find, is_text, is_assigned, declared, entries, Scope}
-use Rattle.xk_names.specs.Uses.{Signatures, use_as, declares}
+use Rattle.xk_names.specs.Scope.{Table, find, is_text, is_assigned, declared, entries, texts, Has, Scope}
+use Rattle.xk_names.specs.Uses.{Signatures, use_as, declares, given_to, argument_misfits, argument_clocks, clocks_listed}
 use Rattle.xk_names.specs.Places.{behind}
 use Rattle.xk_names.specs.Scoped.{IsSound, IsSoundInside, AreSound, with_all}
+use Rattle.xk_code.specs.CodeOf.{Setting, number_of, body_unit, body_params, captures_at}
+use Rattle.xk_code.specs.Unit.{kinds_of_params, body_kinds}
 use Rattle.xk_code.proofs.Shape.Leaves.{EachInside, EachOf}
 use Rattle.xk_code.proofs.Shape.Counters.{SparesName, KeepsNames, AllKeepNames}
+use Rattle.xk_code.proofs.Shape.Runs.{Fits, RunsFitting}
+use Rattle.xk_code.proofs.Shape.Given.{GivesOnce}
 
 -- what is found stays so behind more names
 found_before : (table more : Table Known) (x : List ℕ) (k : Known) → find table x ≡ Some k → find (table ++ more) x ≡ Some k
@@ -71,3 +83,81 @@ mutual
   pub keep_names : (ms : Signatures) (sc : Scope) (ss : Statements) → AreSound ms sc ss → AllKeepNames ss
   keep_names ms sc Done g = tt
   keep_names ms sc (More s ss) g = (keeps_names ms sc s g.0.0 g.0.1, keep_names ms (with_all sc (behind (length sc.bodies) s)) ss g.1)
+
+-- ---- what is called and started
+
+-- the unit that is called or started is of such a kind and comes behind this one
+pub record Stands (kind : UnitKind → Bool) (m : ModuleValue) (unit t : ℕ) (params : List ParamKind) : Type 0 where
+  pub v : UnitValue
+  pub found : slice_get m.units t ≡ Some v
+  pub is : kind v.kind ≡ true
+  pub behind : unit < t
+  pub takes : v.params ≡ params
+
+-- of a method that the statement itself calls, or a body that it starts, the unit stands where the setting says
+abbrev pub FindsUnits : ModuleValue → Setting → Signatures → ℕ → Statement → Type 0
+FindsUnits m cx ms unit (Call f at es) = (ps : List ParamValue) → find ms f.text ≡ Some ps → Stands is_method m unit (number_of cx.methods f) (kinds_of_params ps)
+FindsUnits m cx ms unit (Async at cs s) = Stands is_body m unit (body_unit cx at) (body_kinds cx at cs)
+FindsUnits m cx ms unit _ = Unit {0}
+
+-- a body's parameters are as many as their names
+pub body_count : (cs ns : List (List ℕ)) → length (map (λ _. param.Clock) cs ++ map (λ _. param.Number) ns) ≡ length (cs ++ ns)
+body_count [] ns = length-map ns (λ _. param.Number)
+body_count (c ∷ cs) ns = ap suc (body_count cs ns)
+
+module _ (m : ModuleValue) (cx : Setting) (ms : Signatures) (unit : ℕ) where
+  -- the parameters of a unit that is there
+  takes : (kind : UnitKind → Bool) (t : ℕ) (params : List ParamKind) → Stands kind m unit t params → params_of m t ≡ params
+  takes kind t params h = ap (λ o. option_map_or (λ u. u.params) o []) h.found ∙ h.takes
+
+  fits : (kind : UnitKind → Bool) (t n : ℕ) (params : List ParamKind) → Stands kind m unit t params → length params ≡ n → Fits kind m unit t n
+  fits kind t n params h e = record { v = h.v; found = h.found; is = h.is; behind = h.behind; count = ap length h.takes ∙ e }
+
+  call_fits : (sc : Scope) (f : Word) (at : ℕ) (es : List Expression) → IsSound ms sc (Call f at es) → FindsUnits m cx ms unit (Call f at es)
+      → RunsFitting m cx unit (Call f at es)
+  call_fits sc f at es h g =
+      let c = h.callable f es refl in
+      fits is_method (number_of cx.methods f) (length es) (kinds_of_params c.params) (g c.params c.found) (length-map c.params (λ p. p.takes.kind) ∙ c.count)
+
+  body_fits : (at : ℕ) (cs : Option Clocks) (s : Statement) → FindsUnits m cx ms unit (Async at cs s) → RunsFitting m cx unit (Async at cs s)
+  body_fits at cs s g = fits is_body (body_unit cx at) (length (body_params cx at cs)) (body_kinds cx at cs) g (body_count (texts (clocks_listed cs)) (captures_at cx at))
+
+  call_once : (sc : Scope) (f : Word) (at : ℕ) (es : List Expression) → IsSound ms sc (Call f at es) → FindsUnits m cx ms unit (Call f at es) → GivesOnce m cx (Call f at es)
+  call_once sc f at es h g =
+      let c = h.callable f es refl in
+      record {
+        ps = c.params;
+        kinds = takes is_method (number_of cx.methods f) (kinds_of_params c.params) (g c.params c.found);
+        fitting = λ k q. h.fitting k (subst (λ o. Has (flat_map (λ a. argument_misfits a.0 a.1) (given_to o es)) k) (sym c.found) q);
+        apart = λ before w after e. h.apart before w after (ap (λ o. flat_map (λ a. argument_clocks a.0 a.1) (given_to o es)) c.found ∙ e);
+      }
+
+  body_once : (sc : Scope) (at : ℕ) (cs : Option Clocks) (s : Statement) → IsSound ms sc (Async at cs s) → FindsUnits m cx ms unit (Async at cs s)
+      → GivesOnce m cx (Async at cs s)
+  body_once sc at cs s h g = record { kinds = takes is_body (body_unit cx at) (body_kinds cx at cs) g; apart = h.apart }
+
+  mutual
+    -- what a statement that is sound calls and starts
+    pub runs_right : (sc : Scope) (s : Statement) → IsSound ms sc s → IsSoundInside ms sc s → EachInside (FindsUnits m cx ms unit) s
+        → EachInside (RunsFitting m cx unit) s × EachInside (GivesOnce m cx) s
+    runs_right sc (Block ss) h g f = all_run_right sc ss g f
+    runs_right sc (If at l op r s) h g f = runs_right sc s g.0 g.1 f
+    runs_right sc (IfElse at l op r s u) h g f =
+        let a = runs_right sc s g.0.0 g.0.1 f.0 in
+        let b = runs_right sc u g.1.0 g.1.1 f.1 in
+        ((a.0, b.0), (a.1, b.1))
+    runs_right sc (For at i lo hi s) h g f =
+        let there = with_all sc (declares (length sc.bodies) (For at i lo hi s)) in
+        ((λ turns. (runs_right there s g.0 g.1 (f turns)).0), (λ turns. (runs_right there s g.0 g.1 (f turns)).1))
+    runs_right sc (Finish s) h g f = runs_right sc s g.0 g.1 f
+    runs_right sc (Call w at es) h g f = (call_fits sc w at es h f, call_once sc w at es h f)
+    runs_right sc (Async at cs s) h g f = (body_fits at cs s f, body_once sc at cs s h f)
+    runs_right sc _ h g f = (tt, tt)
+
+    pub all_run_right : (sc : Scope) (ss : Statements) → AreSound ms sc ss → EachOf (FindsUnits m cx ms unit) ss
+        → EachOf (RunsFitting m cx unit) ss × EachOf (GivesOnce m cx) ss
+    all_run_right sc Done g f = (tt, tt)
+    all_run_right sc (More s ss) g f =
+        let a = runs_right sc s g.0.0 g.0.1 f.0 in
+        let b = all_run_right (with_all sc (behind (length sc.bodies) s)) ss g.1 f.1 in
+        ((a.0, b.0), (a.1, b.1))

@@ -1,4 +1,4 @@
--- A unit that the compiler makes: it breaks none of the rules V1 to V7.
+-- A unit that the compiler makes: it breaks none of the rules V1 to V7, and not V10; for V8 see `Homes.antt`.
 use Rattle.std.proofs.Common.{◌≡◌, ℕ, suc, ◌+◌, ◌==◌, Bool, true, false, not, ◌&&◌, ◌||◌, List, [], ◌∷◌, ◌++◌, length, refl, sym, ap, subst, arith}
 use Rattle.std.specs.Prelude.{nat_lt, slice_get}
 use Rattle.std.specs.List.{list_all}
@@ -8,7 +8,7 @@ use Rattle.xk_types.specs.declared.instr.Instr.TheVariants as instr
 use Rattle.xk_types.specs.declared.unit.ParamKind.{ParamKind}
 use Rattle.xk_types.specs.declared.unit.UnitKind.{UnitKind}
 use Rattle.xk_types.specs.Code.{ModuleValue}
-use Rattle.xk_types.specs.Shape.{instr_is, slots_named, cell_named, is_in_place, runs_amiss, breaks_target, breaks_block, breaks_slot, breaks_cell, breaks_unit, breaks_loop, breaks_end}
+use Rattle.xk_types.specs.Shape.{instr_is, slots_named, cell_named, is_in_place, runs_amiss, breaks_target, breaks_block, breaks_slot, breaks_cell, breaks_unit, breaks_loop, breaks_end, gives_twice, breaks_same_clock}
 use Rattle.xk_tree.specs.Tree.{Statement}
 use Rattle.xk_code.specs.CodeOf.{Setting, code_of}
 use Rattle.xk_code.specs.Unit.{scope_from, first_temporary, slots_used, unit_code, unit_of}
@@ -19,6 +19,7 @@ use Rattle.xk_code.proofs.Shape.Targets.{Plain}
 use Rattle.xk_code.proofs.Shape.Leaves.{EachInside, each_inside, Leaves, rows_of}
 use Rattle.xk_code.proofs.Shape.Slots.{NamesBelow, WritesBelow, all_below, ScopeBelow, scope_wider, code_below, used_below, used_least}
 use Rattle.xk_code.proofs.Shape.Counters.{KeepsNames, loops_kept}
+use Rattle.xk_code.proofs.Shape.Given.{GivesOnce, HandsOnce, hands_once, apart_first}
 use Rattle.xk_code.proofs.Shape.Whole.{is_none}
 use Rattle.xk_code.proofs.Shape.Whole as whole
 use Rattle.xk_code.proofs.Shape.Cells.{SharedBelow, CellBelow, AddsToShared, adds_to_shared, cell_leaves}
@@ -36,9 +37,9 @@ plain_leaves cx = record {
   put = λ x s a h. refl;
   add_to = λ x y at e h a. refl;
   print = λ x. refl;
-  make = λ d. refl;
+  make = λ b x ty at v h d. refl;
   resume = λ c. refl;
-  drop = λ c. refl;
+  drop = λ c v h k. refl;
   advance = refl;
   call = λ f at es args h e. refl;
   spawn = λ at cs q args h e. refl;
@@ -126,3 +127,10 @@ module _ (cx : Setting) (kind : UnitKind) (xs : List (List ℕ)) (kinds : List P
   -- V6, where no loop's name is assigned to in its body
   pub keeps_loop : IsUnitCovered cx xs s → KeepsNames s → (at : ℕ) → breaks_loop (unit_of cx kind xs kinds s) at ≡ false
   keeps_loop c names = whole.loops_right (unit_of cx kind xs kinds s) nest plain is_code (loops_kept cx t (scope_from 0 xs) (length xs) s within (omega arith) c.body names)
+
+  -- V10, where no clock is given twice
+  pub keeps_same_clock : (m : ModuleValue) → IsUnitCovered cx xs s → EachInside (GivesOnce m cx) s → (at : ℕ) → breaks_same_clock m (unit_of cx kind xs kinds s) at ≡ false
+  keeps_same_clock m c once = no_place (HandsOnce m) (gives_twice m) (λ i h. h) (unit_code cx xs s)
+      (subst (Holds (HandsOnce m)) (sym is_code) (holds_both (HandsOnce m) (lay 0 nest) (instr.Ret ∷ [])
+      (each_laid (HandsOnce m) (record { unless = λ op a b q. refl; jump = λ q. refl; begins = λ k lo hi e. refl; next = λ b. refl; finish = λ e. refl; ends = λ b. refl }) 0 nest
+      (hands_once m cx t (scope_from 0 xs) (length xs) s within (apart_first 0 xs) c.body once)) (refl, tt)))

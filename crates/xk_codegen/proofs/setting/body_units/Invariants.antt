@@ -1,0 +1,13 @@
+use Rattle.std.proofs.Common.{◌≡◌, ℕ, drop, map, nat_eq}
+use Rattle.std.specs.Map.{lookup}
+use Rattle.xk_tree.specs.Tree.{tree_value}
+use Rattle.xk_codegen.specs.Views.{part}
+use Rattle.xk_codegen.specs.Compiled.{settled_body}
+use Rattle.xk_codegen.proofs.Lists.{first_body}
+use Rattle.xk_codegen.proofs.setting.body_units.Given as goal
+
+-- what the table has for an offset, or the units that are left
+abbrev pub invariant-loop-i : goal.invariant-loop-i
+invariant-loop-i l =
+    (at : ℕ) → first_body (lookup (nat_eq at) l.table.entries) (settled_body (tree_value l.tree) l.i (map part (drop l.i l.units)) at)
+    ≡ settled_body (tree_value l.tree) 0 (map part l.units) at

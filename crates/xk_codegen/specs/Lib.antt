@@ -1,0 +1,4 @@
+pub mod Parts
+pub mod Views
+pub mod Graph
+pub mod Compiled

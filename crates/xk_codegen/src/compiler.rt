@@ -1,0 +1,184 @@
+//! From a source tree to a module.
+
+ghost use Rattle.std.specs.Prelude.{◌≡◌, ◌≤◌, All, Err, map, length, IfOk, OnOk};
+ghost use Rattle.xk_types.specs.Code.{IsUnitWithinLimits, module_of};
+ghost use Rattle.xk_tree.specs.declared.fault.FrontFault.{FrontFault as Fault};
+ghost use Rattle.xk_tree.specs.Tree.{method_value, shared_value, tree_value};
+ghost use Rattle.xk_names.specs.Faults.{HasFault};
+ghost use Rattle.xk_names.specs.Scoped.{IsScoped};
+ghost use Rattle.xk_units.specs.Recursion.{HasRecursion};
+ghost use Rattle.xk_codegen.specs.Views.{part};
+ghost use Rattle.xk_codegen.specs.Compiled.{IsCompiled, IsFaultOf, method_kind, unit_of_part};
+
+use crate::order::units_in_order;
+use crate::parts::Part;
+use crate::setting::settle;
+use std::alloc::{AllocError, Global};
+use xk_code::{CodeError, Setting, body_unit, method_unit};
+use xk_names::check_names;
+use xk_tree::{FrontError, FrontFault, FrontRule, Method, Shared, Tree};
+use xk_types::{MAX_SHARED, MAX_UNITS, Module, Unit, UnitKind};
+use xk_units::check_recursion;
+
+const MAIN: &[u8] = b"main";
+
+/// F14 there.
+fn table_fault(at: usize) -> FrontError
+    ensures { result ≡ FrontError.Fault (record { rule = FrontRule.Table; at = at }) }
+{
+    FrontError::Fault(FrontFault {
+        rule: FrontRule::Table,
+        at,
+    })
+}
+
+/// What a method's unit is for.
+fn kind_of(method: &Method<'_>) -> UnitKind
+    ensures { result ≡ method_kind (method_value method.now) }
+{
+    if method.name.text == MAIN {
+        UnitKind::Main
+    } else {
+        UnitKind::Method
+    }
+}
+
+/// The unit of a part.
+fn unit_of<'t>(alloc: Global, setting: &Setting<'t>, p: &Part<'_, 't>) -> Result<Unit, CodeError>
+    ensures made { IfOk result (λ unit. unit ≡ unit_of_part setting.now (part p.now)) }
+    ensures limits { IfOk result IsUnitWithinLimits }
+{
+    match p {
+        Part::Method(method) => method_unit(alloc, setting, kind_of(method), method),
+        Part::Body(at, clocks, s) => body_unit(alloc, setting, *at, clocks, s),
+    }
+}
+
+/// The lesser of two offsets, if there is one.
+fn lesser(worst: Option<usize>, at: usize) -> usize {
+    match worst {
+        None => at,
+        Some(other) => at.min(other),
+    }
+}
+
+/// The units of parts, or the least offset of a part whose unit goes beyond a limit.
+fn units_of<'t>(
+    alloc: Global,
+    setting: &Setting<'t>,
+    parts: &[Part<'_, 't>],
+) -> Result<Vec<Unit>, FrontError>
+    ensures made { IfOk result (λ units. units.items
+        ≡ map (unit_of_part setting.now) (map part parts.now)) }
+    ensures count { OnOk result (length parts.now ≤ 1024) }
+    ensures limits { IfOk result (λ units. All IsUnitWithinLimits units.items) }
+    ensures fault { (f : Fault) → result ≡ Err (FrontError.Fault f) → f.rule ≡ FrontRule.Table }
+{
+    let mut worst = parts.get(MAX_UNITS).map(|p| p.offset());
+    let mut units = Vec::new(alloc);
+    for p in parts {
+        match unit_of(alloc, setting, p) {
+            Ok(unit) => units.push(unit)?,
+            Err(CodeError::OutOfMemory) => return Err(FrontError::OutOfMemory),
+            Err(_) => worst = Some(lesser(worst, p.offset())),
+        }
+    }
+    match worst {
+        None => Ok(units),
+        Some(at) => Err(table_fault(at)),
+    }
+}
+
+/// The shared numbers as they are at the start.
+fn starts(alloc: Global, shared: &[Shared<'_>]) -> Result<Vec<i64>, AllocError>
+    ensures { IfOk result (λ numbers. numbers.items
+        ≡ map (λ s. s.start.value) (map shared_value shared.now)) }
+{
+    let mut numbers = Vec::new(alloc);
+    for number in shared {
+        numbers.push(number.start.value)?;
+    }
+    Ok(numbers)
+}
+
+/// The module of these units and a tree's shared numbers.
+fn module(alloc: Global, tree: &Tree<'_>, units: Vec<Unit>) -> Result<Module, FrontError>
+    requires some { 1 ≤ length units.items }
+    requires most { length units.items ≤ 1024 }
+    requires shared { length (tree_value tree.now).shared ≤ 256 }
+    requires each { All IsUnitWithinLimits units.items }
+    ensures made { IfOk result (λ m. m ≡ module_of
+        (map (λ s. s.start.value) (tree_value tree.now).shared) units.items) }
+    ensures fault { (f : Fault) → result ≡ Err (FrontError.Fault f) → ⊥ }
+{
+    let shared = starts(alloc, &tree.shared)?;
+    match Module::new(shared, units) {
+        Ok(module) => Ok(module),
+        Err(_) => unreachable!(),
+    }
+}
+
+/// At most 256 shared numbers, or F14 at the 257th.
+fn check_shared(tree: &Tree<'_>) -> Result<(), FrontError>
+    ensures fits { OnOk result (length (tree_value tree.now).shared ≤ 256) }
+    ensures fault { (f : Fault) → result ≡ Err (FrontError.Fault f) → f.rule ≡ FrontRule.Table }
+{
+    match tree.shared.get(MAX_SHARED) {
+        None => Ok(()),
+        Some(number) => Err(table_fault(number.name.at)),
+    }
+}
+
+/// No fault of names, or the one that is reported.
+fn clean_names(alloc: Global, tree: &Tree<'_>) -> Result<(), FrontError>
+    ensures clean { OnOk result ((f : Fault) → HasFault (tree_value tree.now) f → ⊥) }
+    ensures scoped { OnOk result (IsScoped (tree_value tree.now)) }
+    ensures fault { (f : Fault) → result ≡ Err (FrontError.Fault f)
+        → IsFaultOf (tree_value tree.now) f }
+{
+    check_names(alloc, tree)
+}
+
+/// Neither a fault of names nor a recursive call nor too many shared numbers, or the fault that is reported.
+fn check(alloc: Global, tree: &Tree<'_>) -> Result<(), FrontError>
+    ensures clean { OnOk result ((f : Fault) → HasFault (tree_value tree.now) f → ⊥) }
+    ensures scoped { OnOk result (IsScoped (tree_value tree.now)) }
+    ensures falls { OnOk result ((f : Fault) → HasRecursion (tree_value tree.now) f → ⊥) }
+    ensures fault { (f : Fault) → result ≡ Err (FrontError.Fault f)
+        → IsFaultOf (tree_value tree.now) f }
+{
+    match clean_names(alloc, tree) {
+        Ok(()) => check_recursion(alloc, tree),
+        Err(e) => Err(e),
+    }
+}
+
+/// The module that is the code of a tree without faults of names; or F14 at the least offset.
+fn code(alloc: Global, tree: &Tree<'_>) -> Result<Module, FrontError>
+    requires scoped { IsScoped (tree_value tree.now) }
+    ensures compiled { IfOk result (λ m. IsCompiled (tree_value tree.now) m) }
+    ensures fault { (f : Fault) → result ≡ Err (FrontError.Fault f)
+        → IsFaultOf (tree_value tree.now) f }
+{
+    check_shared(tree)?;
+    let parts = units_in_order(alloc, tree)?;
+    let setting = settle(alloc, tree, &parts)?;
+    let units = units_of(alloc, &setting, &parts)?;
+    let module = module(alloc, tree, units)?;
+    Ok(module)
+}
+
+/// The module that is the code of a tree. Else a fault of the tree: F5 to F8, F11 and F12 first, at the least offset, of two there the one of the
+/// lesser number; then F9; then F10; then F14, the last two at the least offset.
+pub fn compile(alloc: Global, tree: &Tree<'_>) -> Result<Module, FrontError>
+    ensures clean { OnOk result ((f : Fault) → HasFault (tree_value tree.now) f → ⊥) }
+    ensures falls { OnOk result ((f : Fault) → HasRecursion (tree_value tree.now) f → ⊥) }
+    ensures compiled { IfOk result (λ m. IsCompiled (tree_value tree.now) m) }
+    ensures fault { (f : Fault) → result ≡ Err (FrontError.Fault f)
+        → IsFaultOf (tree_value tree.now) f }
+{
+    match check(alloc, tree) {
+        Ok(()) => code(alloc, tree),
+        Err(e) => Err(e),
+    }
+}

@@ -1,0 +1,76 @@
+//! Which parts of a program have units, and in which order.
+
+ghost use Rattle.std.specs.Prelude.{◌≡◌, ◌<◌, ℕ, Err, Some, length, map, slice_get, IfOk};
+ghost use Rattle.xk_tree.specs.declared.fault.FrontFault.{FrontFault as Fault};
+ghost use Rattle.xk_tree.specs.Tree.{tree_value};
+ghost use Rattle.xk_names.specs.Scoped.{IsScoped};
+ghost use Rattle.xk_codegen.specs.Views.{part};
+ghost use Rattle.xk_codegen.specs.Parts.{parts};
+ghost use Rattle.xk_codegen.specs.Graph.{IsOrder};
+ghost use Rattle.xk_codegen.specs.Compiled.{AreUnits, RunsItself};
+
+use crate::parts::{Part, parts};
+use crate::runs::Places;
+use std::alloc::{AllocError, Global};
+use xk_calls::order_from;
+use xk_tree::{FrontError, FrontFault, FrontRule, Tree};
+
+/// The parts at these places.
+fn parts_at<'a, 't>(
+    alloc: Global,
+    parts: &[Part<'a, 't>],
+    order: &[usize],
+) -> Result<Vec<Part<'a, 't>>, AllocError>
+    requires { (k i : ℕ) → slice_get order.now k ≡ Some i → i < length parts.now }
+    ensures { IfOk result (λ units. map Some (map part units.items)
+        ≡ map (slice_get (map part parts.now)) order.now) }
+{
+    let mut units = Vec::new(alloc);
+    for i in order {
+        units.push(parts[*i])?;
+    }
+    Ok(units)
+}
+
+/// The places of the parts that have units, in the order of these.
+fn order_of<'t>(
+    alloc: Global,
+    tree: &Tree<'t>,
+    found: &[Part<'_, 't>],
+) -> Result<Vec<usize>, FrontError>
+    requires scoped { IsScoped (tree_value tree.now) }
+    requires parts { map part found.now ≡ parts (tree_value tree.now) }
+    ensures order { IfOk result (λ order. IsOrder (tree_value tree.now) order.items) }
+    ensures fault { (f : Fault) → result ≡ Err (FrontError.Fault f)
+        → RunsItself (tree_value tree.now) f }
+{
+    let _tree = tree;
+    let places = Places::new(alloc, found)?;
+    let graph = places.graph(alloc, found)?;
+    let order = order_from(alloc, &graph, places.method(b"main"))?;
+    match order {
+        Ok(order) => Ok(order),
+        Err(place) => Err(FrontError::Fault(FrontFault {
+            rule: FrontRule::Recursive,
+            at: found.get(place.caller).map_or(0, |p| p.offset()),
+        })),
+    }
+}
+
+/// The parts of a program that have units, in the order of these: as long as one that is run has no number, the next number is given to that
+/// one, of those run only by parts with numbers, which is the first in the text.
+#[tactic(auto, using(crate::proofs::Ordered::are_units, crate::proofs::Placed::order_within))]
+pub(crate) fn units_in_order<'a, 't>(
+    alloc: Global,
+    tree: &'a Tree<'t>,
+) -> Result<Vec<Part<'a, 't>>, FrontError>
+    requires scoped { IsScoped (tree_value tree.now) }
+    ensures units { IfOk result (λ units. AreUnits (tree_value tree.now) (map part units.items)) }
+    ensures fault { (f : Fault) → result ≡ Err (FrontError.Fault f)
+        → RunsItself (tree_value tree.now) f }
+{
+    let parts = parts(alloc, tree)?;
+    let order = order_of(alloc, tree, &parts)?;
+    let units = parts_at(alloc, &parts, &order)?;
+    Ok(units)
+}

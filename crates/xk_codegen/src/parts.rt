@@ -1,0 +1,95 @@
+//! The parts of a program that have code of their own.
+
+ghost use Rattle.std.specs.Prelude.{◌≡◌, ◌++◌, map, OnOk, IfOk};
+ghost use Rattle.xk_tree.specs.Tree.{statement, statements, tree_value};
+ghost use Rattle.xk_codegen.specs.Parts.{bodies, bodies_all, parts};
+ghost use Rattle.xk_codegen.specs.Views.{part};
+
+use std::alloc::{AllocError, Global};
+use xk_tree::{ClockList, Method, Stmt, Tree};
+
+/// What has code of its own.
+#[derive(Clone, Copy)]
+pub(crate) enum Part<'a, 't> {
+    /// A method.
+    Method(&'a Method<'t>),
+    /// The body of an `async`, by the offset of that word, with the clocks that it lists.
+    Body(usize, &'a Option<ClockList<'t>>, &'a Stmt<'t>),
+}
+
+impl<'a, 't> Part<'a, 't> {
+    ghost use Rattle.std.specs.Prelude.{◌≡◌};
+    ghost use Rattle.xk_codegen.specs.Views.{part};
+    ghost use Rattle.xk_codegen.specs.Compiled.{offset};
+
+    /// Where it stands: a method's name, or the `async` of a body.
+    pub(crate) fn offset(&self) -> usize
+        ensures { result ≡ offset (part self.now) }
+    {
+        match self {
+            Part::Method(method) => method.name.at,
+            Part::Body(at, _, _) => *at,
+        }
+    }
+}
+
+/// Adds the bodies of `async` in a statement.
+#[cycle(bodies)]
+fn add_bodies<'a, 't>(found: &mut Vec<Part<'a, 't>>, s: &'a Stmt<'t>) -> Result<(), AllocError>
+    ensures { OnOk result (map part found.new.items
+        ≡ map part found.old.items ++ bodies (statement s.now)) }
+{
+    match s {
+        Stmt::Block(ss) => add_bodies_all(found, ss),
+        Stmt::If(_, _, _, _, s) => add_bodies(found, s),
+        Stmt::IfElse(_, _, _, _, s, u) => {
+            add_bodies(found, s)?;
+            add_bodies(found, u)
+        }
+        Stmt::For(_, _, _, _, s) => add_bodies(found, s),
+        Stmt::Async(at, clocks, s) => {
+            found.push(Part::Body(*at, clocks, s))?;
+            add_bodies(found, s)
+        }
+        Stmt::Finish(s) => add_bodies(found, s),
+        Stmt::Empty => Ok(()),
+        Stmt::Declare(..) => Ok(()),
+        Stmt::Assign(..) => Ok(()),
+        Stmt::Atomic(..) => Ok(()),
+        Stmt::Call(..) => Ok(()),
+        Stmt::Resume(..) => Ok(()),
+        Stmt::Drop(..) => Ok(()),
+        Stmt::AdvanceAll(..) => Ok(()),
+        Stmt::Print(..) => Ok(()),
+    }
+}
+
+/// The same for statements, one after another.
+#[cycle(bodies)]
+fn add_bodies_all<'a, 't>(
+    found: &mut Vec<Part<'a, 't>>,
+    ss: &'a [Stmt<'t>],
+) -> Result<(), AllocError>
+    ensures { OnOk result (map part found.new.items
+        ≡ map part found.old.items ++ bodies_all (statements ss.now)) }
+{
+    for s in ss {
+        add_bodies(found, s)?;
+    }
+    Ok(())
+}
+
+/// The parts of a program, in the order of the text.
+pub(crate) fn parts<'a, 't>(
+    alloc: Global,
+    tree: &'a Tree<'t>,
+) -> Result<Vec<Part<'a, 't>>, AllocError>
+    ensures { IfOk result (λ found. map part found.items ≡ parts (tree_value tree.now)) }
+{
+    let mut found = Vec::new(alloc);
+    for method in &tree.methods {
+        found.push(Part::Method(method))?;
+        add_bodies_all(&mut found, &method.body)?;
+    }
+    Ok(found)
+}
