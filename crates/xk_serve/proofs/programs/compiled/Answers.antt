@@ -1,12 +1,15 @@
-use Rattle.std.proofs.Common.{◌≡◌, ℕ, ◌<◌, ◌≤◌, List, length, Err, inl, inr, refl, ap, subst, arith}
+use Rattle.std.proofs.Common.{◌≡◌, ℕ, ◌<◌, ◌≤◌, List, length, Result, Ok, Err, IfErr, inl, inr, refl, ap, subst, arith}
 use Rattle.std.proofs.lemmas.Result.{err_from_is_err_and}
 use Rattle.std.specs.Prelude.{IsUtf8}
 use Rattle.xk_tree.specs.declared.fault.FrontFault.{FrontFault}
 use Rattle.xk_tree.specs.declared.fault.FrontRule.TheVariants as rule
 use Rattle.xk_tree.specs.declared.fault.FrontError.{FrontError}
 use Rattle.xk_tree.specs.declared.fault.FrontError.TheVariants as error
+use Rattle.xk_tree.specs.Tree.{TreeValue, tree_value}
+use Rattle.xk_syntax.specs.Spelling.{SpellsTree}
 use Rattle.xk_syntax.specs.Texts.{IsRefused}
-use Rattle.xk_serve.specs.Programs.{IsUnfit, longest_source}
+use Rattle.xk_codegen.specs.Compiled.{IsFaultOf}
+use Rattle.xk_serve.specs.Programs.{IsSource, IsUnfit, longest_source}
 use Rattle.xk_serve.proofs.programs.compiled.Goals as goal
 
 -- what the parser refuses spells no tree
@@ -15,6 +18,19 @@ refused : (bytes : List ℕ) (e : FrontError) → length bytes ≤ longest_sourc
 refused bytes (error.Fault f) short utf8 none only = inr (inr (inl (short, utf8, none, λ too_long.
     let long : longest_source < length bytes = only f refl too_long in absurd (omega arith))))
 refused bytes error.OutOfMemory short utf8 none only = tt
+
+-- what the compiler refuses is a faulty tree
+faulty : {T : Type 0} (bytes : List ℕ) (tree : TreeValue) (r : Result T FrontError) → IsSource bytes tree
+    → ((f : FrontFault) → r ≡ Err (error.Fault f) → IsFaultOf tree f) → IfErr r (IsUnfit bytes)
+faulty bytes tree (Ok m) source fault = tt
+faulty bytes tree (Err (error.Fault f)) source fault = inr (inr (inr (tree, source, fault f refl)))
+faulty bytes tree (Err error.OutOfMemory) source fault = tt
+
+pub returns-clause-fault : goal.returns-clause-fault
+returns-clause-fault c =
+    let tree = tree_value c.in_ok-tree.tree in
+    faulty c.args.bytes.now tree c.compile.result
+    (c.in_ok-text.ensures.utf8, subst (λ b. SpellsTree b tree) c.in_ok-text.ensures.text c.in_ok-tree.ensures.spelled) c.compile.ensures.fault
 
 pub returns-in_err-tree-clause-fault : goal.returns-in_err-tree-clause-fault
 returns-in_err-tree-clause-fault c =
