@@ -101,15 +101,9 @@ if [ $# -gt 0 ]; then
 else
     sh tests/answers/made.sh > "$work/made.rows"
     sh tests/answers/made-sources.sh > "$work/sources-made.rows"
-    # A program that can't compile yet isn't asked about source texts.
-    case $(echo 'def main() { Clock.advanceAll(); }' | "$program" compile - 2> /dev/null) in
-        *advance*) takes_sources=yes ;;
-        *) takes_sources=no ;;
-    esac
     for file in tests/answers/*.rows "$work/made.rows" "$work/sources-made.rows"; do
-        case $takes_sources:${file##*/} in no:sources*) ;; *) asked "$file" ;; esac
+        asked "$file"
     done
-    [ "$takes_sources" = yes ] || echo "answers: this program takes no source texts, so nothing was asked about them"
 fi
 [ "$rows" -gt 0 ] || { echo "answers: no rows" >&2; exit 1; }
 echo "answers: $rows programs and $runs runs of them, all answered so"

@@ -10,8 +10,7 @@ A block that begins with a question has below it the program that the question i
 A question is a command with its words, a colon, and the answer: on standard error with status 1 where it begins with `x10clock: `, else on
 standard output with status 0; of `run`, a comma stands where a line ends. With `--module` the program is a module. A block that begins with
 `$ ` has calls, each with all that it says below it; `x10clock` in a call is the built program, and the folder is the top of the repository.
-All other blocks are for the eye. A program that can't compile yet isn't asked about source texts. With `--write` the answers are written
-anew. docs/REFUSALS.md has to have an answer with each rule.
+All other blocks are for the eye. With `--write` the answers are written anew. docs/REFUSALS.md has to have an answer with each rule.
 
     python3 tests/pages.py [--write] [PAGE ..]
 """
@@ -39,7 +38,6 @@ SECONDS = 60
 @dataclass
 class Played:
     asked: int = 0
-    left_out: int = 0
     labels: set[str] = field(default_factory=set)
     differing: list[str] = field(default_factory=list)
 
@@ -48,12 +46,6 @@ class Played:
         self.labels.update(re.findall(r"x10clock: ([FMV]\d+) ", wanted))
         if wanted != got:
             self.differing.append(f"{where}\n    page:    {wanted!r}\n    program: {got!r}")
-
-
-def takes_sources() -> bool:
-    """Whether the program compiles a small text."""
-    ran = subprocess.run([PROGRAM, "compile", "-"], input=b"def main() { Clock.advanceAll(); }", capture_output=True, check=False)
-    return b"advance" in ran.stdout
 
 
 def answer(words: list[str], program: str) -> str:
@@ -68,7 +60,7 @@ def answer(words: list[str], program: str) -> str:
     return f"status {ran.returncode}: {out}{err}"
 
 
-def asked(where: str, block: str, sources: bool, played: Played) -> str:
+def asked(where: str, block: str, played: Played) -> str:
     """A block of questions and a program, with the answers that were given."""
     questions = []
     while found := QUESTION.match(block):
@@ -76,25 +68,17 @@ def asked(where: str, block: str, sources: bool, played: Played) -> str:
         block = block[found.end() :]
     given = []
     for words, wanted in questions:
-        if not sources and "--module" not in words:
-            played.left_out += 1
-            given.append((words, wanted))
-            continue
         got = answer(words.split(), block)
         played.said(f"{where}: {words}", wanted, got)
         given.append((words, got))
     return "".join(f"{words}: {got}\n" for words, got in given) + block
 
 
-def called(where: str, block: str, sources: bool, played: Played) -> str:
+def called(where: str, block: str, played: Played) -> str:
     """A block of calls, with what they said."""
     parts = []
     for call in re.split(r"^(?=\$ )", block, flags=re.MULTILINE)[1:]:
         line, wanted = call.split("\n", 1)
-        if not sources and "--module" not in line:
-            played.left_out += 1
-            parts.append(call)
-            continue
         script = f'x10clock() {{ "$PROGRAM" "$@"; }}\n{line[2:]}\n'
         environ = {**os.environ, "PROGRAM": str(PROGRAM)}
         ran = subprocess.run(["sh", "-c", script], cwd=TOP, env=environ, capture_output=True, timeout=SECONDS, check=False)
@@ -104,7 +88,7 @@ def called(where: str, block: str, sources: bool, played: Played) -> str:
     return "".join(parts)
 
 
-def play(page: pathlib.Path, sources: bool, played: Played) -> str:
+def play(page: pathlib.Path, played: Played) -> str:
     """The page, with the answers that were given."""
     text = page.read_text()
 
@@ -112,9 +96,9 @@ def play(page: pathlib.Path, sources: bool, played: Played) -> str:
         where = f"{page.relative_to(TOP) if page.is_relative_to(TOP) else page}, line {text.count(chr(10), 0, found.start()) + 1}"
         inside = found[1]
         if QUESTION.match(inside):
-            inside = asked(where, inside, sources, played)
+            inside = asked(where, inside, played)
         elif inside.startswith("$ "):
-            inside = called(where, inside, sources, played)
+            inside = called(where, inside, played)
         return found[0].replace(found[1], inside, 1) if found[1] else found[0]
 
     return BLOCK.sub(block, text)
@@ -123,21 +107,18 @@ def play(page: pathlib.Path, sources: bool, played: Played) -> str:
 def main(words: list[str]) -> int:
     write = "--write" in words
     pages = [pathlib.Path(word).resolve() for word in words if word != "--write"] or PAGES
-    sources = takes_sources()
-    differing, count, left_out = [], 0, 0
+    differing, count = [], 0
     for page in pages:
         played = Played()
-        text = play(page, sources, played)
+        text = play(page, played)
         if write:
             page.write_text(text)
-        missing = RULES - played.labels if page == REFUSALS and sources else set()
+        missing = RULES - played.labels if page == REFUSALS else set()
         if missing:
             differing.append(f"{page.name}: no answer with {' '.join(sorted(missing))}")
         differing += [] if write else played.differing
-        count, left_out = count + played.asked, left_out + played.left_out
+        count += played.asked
     print(*differing, sep="\n", end="\n" if differing else "", file=sys.stderr)
-    if left_out:
-        print(f"pages: this program takes no source texts, so {left_out} questions about them were left out")
     if not count:
         print("pages: no questions", file=sys.stderr)
         return 1

@@ -30,12 +30,6 @@ played() {
     done
 }
 
-# A program that can't compile yet isn't called with source texts: transcripts beside a `.x10` are left out.
-case $(echo 'def main() { Clock.advanceAll(); }' | "$program" compile - 2> /dev/null) in
-    *advance*) takes_sources=yes ;;
-    *) takes_sources=no ;;
-esac
-
 write=no
 if [ "${1:-}" = --write ]; then
     write=yes
@@ -44,7 +38,6 @@ fi
 [ $# -gt 0 ] || set -- tests/words.txt examples/*.txt
 count=0
 for file; do
-    [ "$takes_sources" = yes ] || [ ! -e "${file%.txt}.x10" ] || continue
     played "$file" > "$work/played"
     if [ "$write" = yes ]; then
         cp "$work/played" "$file"

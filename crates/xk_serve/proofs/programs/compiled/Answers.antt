@@ -1,13 +1,14 @@
 use Rattle.std.proofs.Common.{◌≡◌, ℕ, ◌<◌, ◌≤◌, List, length, Result, Ok, Err, IfErr, inl, inr, refl, ap, subst, arith}
 use Rattle.std.proofs.lemmas.Result.{err_from_is_err_and}
 use Rattle.std.specs.Prelude.{IsUtf8}
+use Rattle.xk_types.specs.declared.unit.Module.{Module}
+use Rattle.xk_tree.specs.Tree.{TreeValue, tree_value}
 use Rattle.xk_tree.specs.declared.fault.FrontFault.{FrontFault}
 use Rattle.xk_tree.specs.declared.fault.FrontRule.TheVariants as rule
 use Rattle.xk_tree.specs.declared.fault.FrontError.{FrontError}
 use Rattle.xk_tree.specs.declared.fault.FrontError.TheVariants as error
-use Rattle.xk_tree.specs.Tree.{TreeValue, tree_value}
-use Rattle.xk_syntax.specs.Spelling.{SpellsTree}
 use Rattle.xk_syntax.specs.Texts.{IsRefused}
+use Rattle.xk_syntax.specs.Spelling.{SpellsTree}
 use Rattle.xk_codegen.specs.Compiled.{IsFaultOf}
 use Rattle.xk_serve.specs.Programs.{IsSource, IsUnfit, longest_source}
 use Rattle.xk_serve.proofs.programs.compiled.Goals as goal
@@ -19,19 +20,6 @@ refused bytes (error.Fault f) short utf8 none only = inr (inr (inl (short, utf8,
     let long : longest_source < length bytes = only f refl too_long in absurd (omega arith))))
 refused bytes error.OutOfMemory short utf8 none only = tt
 
--- what the compiler refuses is a faulty tree
-faulty : {T : Type 0} (bytes : List ℕ) (tree : TreeValue) (r : Result T FrontError) → IsSource bytes tree
-    → ((f : FrontFault) → r ≡ Err (error.Fault f) → IsFaultOf tree f) → IfErr r (IsUnfit bytes)
-faulty bytes tree (Ok m) source fault = tt
-faulty bytes tree (Err (error.Fault f)) source fault = inr (inr (inr (tree, source, fault f refl)))
-faulty bytes tree (Err error.OutOfMemory) source fault = tt
-
-pub returns-clause-fault : goal.returns-clause-fault
-returns-clause-fault c =
-    let tree = tree_value c.in_ok-tree.tree in
-    faulty c.args.bytes.now tree c.compile.result
-    (c.in_ok-text.ensures.utf8, subst (λ b. SpellsTree b tree) c.in_ok-text.ensures.text c.in_ok-tree.ensures.spelled) c.compile.ensures.fault
-
 pub returns-in_err-tree-clause-fault : goal.returns-in_err-tree-clause-fault
 returns-in_err-tree-clause-fault c =
     let p = err_from_is_err_and c.from_residual-in_err-tree.result c.from_residual-in_err-tree.ensures.1 in
@@ -39,3 +27,16 @@ returns-in_err-tree-clause-fault c =
     λ f e too_long. subst (λ b. longest_source < length b) c.in_ok-text.ensures.text (c.in_err-tree.ensures.only_too_long f (ap Err e) too_long) in
     let none = subst (λ b. IsRefused b (Err c.in_err-tree.field-0.0)) c.in_ok-text.ensures.text c.in_err-tree.ensures.none_spelled in
     rw (p.1, p.2) (refused c.args.bytes.now c.in_err-tree.field-0.0 c.in_ok-text.ensures.short c.in_ok-text.ensures.utf8 none only)
+
+-- what the compiler refuses has a fault
+unfit : (bytes : List ℕ) (tree : TreeValue) (r : Result Module FrontError) → IsSource bytes tree
+    → ((f : FrontFault) → r ≡ Err (error.Fault f) → IsFaultOf tree f) → IfErr r (IsUnfit bytes)
+unfit bytes tree (Ok m) is faults = tt
+unfit bytes tree (Err (error.Fault f)) is faults = inr (inr (inr (tree, is, faults f refl)))
+unfit bytes tree (Err error.OutOfMemory) is faults = tt
+
+pub returns-clause-fault : goal.returns-clause-fault
+returns-clause-fault c =
+    let tree = tree_value c.in_ok-tree.tree in
+    let spelled = subst (λ b. SpellsTree b tree) c.in_ok-text.ensures.text c.in_ok-tree.ensures.spelled in
+    unfit c.args.bytes.now tree c.compile.result (c.in_ok-text.ensures.utf8, spelled) c.compile.ensures.fault
