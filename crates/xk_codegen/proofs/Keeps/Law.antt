@@ -4,7 +4,7 @@ use Rattle.std.proofs.lemmas.List.{length-map}
 use Rattle.xk_types.specs.declared.rules.Rule.{Rule}
 use Rattle.xk_types.specs.declared.rules.Rule.TheVariants as rule
 use Rattle.xk_types.specs.declared.unit.UnitKind.TheVariants as unit_kind
-use Rattle.xk_types.specs.Code.{UnitValue, ModuleValue}
+use Rattle.xk_types.specs.Code.{UnitValue, ModuleValue, module_of}
 use Rattle.xk_types.specs.Shape.{breaks}
 use Rattle.xk_tree.specs.Bodies.{HasBodiesApart}
 use Rattle.xk_tree.specs.Tree.{Word, Clocks, Statement, Statements, MethodValue, TreeValue}
@@ -23,6 +23,8 @@ use Rattle.xk_code.proofs.Shape.Names.{body_count}
 use Rattle.xk_code.proofs.Shape.Modules.{IsCompiled as IsUnitCompiled, is_left, compiled_soundly, module_keeps}
 use Rattle.xk_code.proofs.Shape.Trees.{compiled_method}
 use Rattle.xk_codegen.specs.Parts.{Part, OfMethod, OfBody, Run, Calls, Starts, bodies, bodies_all, parts, runs, part_runs, place_of}
+use Rattle.xk_codegen.specs.declared.parts.Part as declared
+use Rattle.xk_codegen.specs.Views.{part}
 use Rattle.xk_codegen.specs.Compiled.{AreUnits, IsSetting, IsCompiled, method_kind, unit_of_part, is_kept, KeepsShape}
 use Rattle.xk_codegen.proofs.Among.{Fits, found, fits_there}
 use Rattle.xk_codegen.proofs.Nested.{inner, in_methods}
@@ -97,3 +99,21 @@ keeps_shape t m scoped apart few c r kept =
     let long : length m.units ≡ length c.units = ap length c.code ∙ length-map c.units (unit_of_part c.setting) in
     let h : AreSettled t c.units c.setting = record { apart = apart; are_units = c.are_units; is_setting = c.is_setting } in
     module_keeps m (compiled_unit t scoped c.units c.setting h m c.code (omega arith) (below t c.units c.setting m.shared c.is_setting c.shared)) r (not_left r kept)
+
+-- of these parts, in this setting
+pub code_keeps : (t : TreeValue) (ps qs us : List declared.Part) (cx : Setting) (m : ModuleValue) (made : List UnitValue) → IsScoped t → AreUnits t (map part ps)
+    → qs ≡ ps → us ≡ ps → IsSetting t (map part qs) cx → length us ≤ 1024 → made ≡ map (unit_of_part cx) (map part us)
+    → m ≡ module_of (map (λ s. s.start.value) t.shared) made → HasBodiesApart t → KeepsShape m
+code_keeps t ps qs us cx m made scoped units one two setting few code is apart =
+    let numbers : map (unit_of_part cx) (map part us) ≡ map (unit_of_part cx) (map part ps) = ap (λ (l : List declared.Part). map (unit_of_part cx) (map part l)) two in
+    let in_module : m.units ≡ map (unit_of_part cx) (map part ps) = ap (λ (v : ModuleValue). v.units) is ∙ code ∙ numbers in
+    let long : length (map (unit_of_part cx) (map part ps)) ≡ length ps = length-map (map part ps) (unit_of_part cx) ∙ length-map ps part in
+    let count : length m.units ≡ length us = ap length in_module ∙ long ∙ ap length (sym two) in
+    keeps_shape t m scoped apart (omega arith) (record {
+      units = map part ps;
+      setting = cx;
+      are_units = units;
+      is_setting = subst (λ (l : List declared.Part). IsSetting t (map part l) cx) one setting;
+      shared = ap (λ (v : ModuleValue). v.shared) is;
+      code = in_module;
+    })
