@@ -1,14 +1,13 @@
 -- The module that is the code of a tree without faults of names keeps the rules on shape.
-use Rattle.std.proofs.Common.{◌≡◌, inl, inr, ℕ, ℤ, zero, suc, ◌<◌, ◌≤◌, Bool, true, false, List, [], ◌∷◌, ◌++◌, map, length, Option, Some, slice_get, refl, sym, ap, ◌∙◌, subst, arith, eq-eqb}
+use Rattle.std.proofs.Common.{◌≡◌, inl, inr, ℕ, ℤ, ◌≤◌, true, false, List, [], ◌∷◌, map, length, Option, Some, slice_get, refl, sym, ap, ◌∙◌, subst, arith, eq-eqb}
 use Rattle.std.proofs.lemmas.List.{length-map}
 use Rattle.xk_types.specs.declared.rules.Rule.{Rule}
 use Rattle.xk_types.specs.declared.rules.Rule.TheVariants as rule
 use Rattle.xk_types.specs.declared.unit.UnitKind.TheVariants as unit_kind
 use Rattle.xk_types.specs.Code.{UnitValue, ModuleValue, module_of}
-use Rattle.xk_types.specs.Shape.{breaks}
 use Rattle.xk_tree.specs.Bodies.{HasBodiesApart}
-use Rattle.xk_tree.specs.Tree.{Word, Clocks, Statement, Statements, MethodValue, TreeValue}
-use Rattle.xk_names.specs.Scope.{Has, find, texts}
+use Rattle.xk_tree.specs.Tree.{Clocks, Statement, MethodValue, TreeValue}
+use Rattle.xk_names.specs.Scope.{Has, texts}
 use Rattle.xk_names.specs.Uses.{signatures, clocks_listed}
 use Rattle.xk_names.specs.Scoped.{IsScoped, with_body}
 use Rattle.xk_names.specs.Captures.{shared_texts}
@@ -16,17 +15,17 @@ use Rattle.xk_units.proofs.Graph.{mapped_at}
 use Rattle.xk_units.proofs.Listed.{has_at, has_either}
 use Rattle.xk_code.specs.CodeOf.{Setting, body_params, captures_at}
 use Rattle.xk_code.specs.Unit.{body_kinds}
-use Rattle.xk_code.specs.Reached.{AsyncBody, bodies_in_all, calls_in_all, IsSettingFor}
+use Rattle.xk_code.specs.Reached.{bodies_in_all, calls_in_all, IsSettingFor}
 use Rattle.xk_code.proofs.Covered.Statements.{Settled}
 use Rattle.xk_code.proofs.Shape.Cells.{SharedBelow}
 use Rattle.xk_code.proofs.Shape.Names.{body_count}
 use Rattle.xk_code.proofs.Shape.Modules.{IsCompiled as IsUnitCompiled, is_left, compiled_soundly, module_keeps}
 use Rattle.xk_code.proofs.Shape.Trees.{compiled_method}
-use Rattle.xk_codegen.specs.Parts.{Part, OfMethod, OfBody, Run, Calls, Starts, bodies, bodies_all, parts, runs, part_runs, place_of}
+use Rattle.xk_codegen.specs.Parts.{Part, OfMethod, OfBody, Run, Starts, bodies, bodies_all, parts, place_of}
 use Rattle.xk_codegen.specs.declared.parts.Part as declared
 use Rattle.xk_codegen.specs.Views.{part}
 use Rattle.xk_codegen.specs.Compiled.{AreUnits, IsSetting, IsCompiled, method_kind, unit_of_part, is_kept, KeepsShape}
-use Rattle.xk_codegen.proofs.Among.{Fits, found, fits_there}
+use Rattle.xk_codegen.proofs.Among.{found}
 use Rattle.xk_codegen.proofs.Nested.{inner, in_methods}
 use Rattle.xk_codegen.proofs.Keeps.Stands.{alone, body_covered, part_of}
 use Rattle.xk_codegen.proofs.Keeps.Settled.{AreSettled, AreParts, HavePlaces, shared_below, shared_placed, run_places, settled_all}

@@ -1,20 +1,19 @@
 -- The setting of a program's units has what the code of each of them leads to.
-use Rattle.std.proofs.Common.{◌≡◌, inl, inr, ℕ, suc, ◌+◌, ◌<◌, Bool, true, false, cond, ◌||◌, List, [], ◌∷◌, ◌++◌, length, Option, Some, None, slice_get, nat_eq, refl, sym, ap, ◌∙◌, subst, arith, eqb-true, eq-eqb}
+use Rattle.std.proofs.Common.{◌≡◌, inl, inr, ℕ, suc, ◌+◌, ◌<◌, Bool, true, false, cond, ◌||◌, List, [], ◌∷◌, ◌++◌, length, Option, Some, slice_get, nat_eq, refl, sym, ap, ◌∙◌, subst, arith, eqb-true}
 use Rattle.std.specs.Prelude.{is_some, int_le, option_map}
 use Rattle.std.proofs.lemmas.Option.{none-some}
-use Rattle.xk_tree.specs.Tree.{Word, Clocks, Statement, Statements, Done, More, Block, Empty, Declare, Assign, Atomic, If, IfElse, For, Async, Finish, Call, Resume, Drop, AdvanceAll, Print, MethodValue, SharedValue, TreeValue}
+use Rattle.xk_tree.specs.Tree.{Word, Clocks, Statement, Statements, Done, More, Block, Empty, Declare, Assign, Atomic, If, IfElse, For, Async, Finish, Call, Resume, Drop, AdvanceAll, Print, SharedValue, TreeValue}
 use Rattle.xk_tree.specs.Bodies.{HasBodiesApart}
 use Rattle.xk_names.specs.Scope.{Has, has, find, is_text}
 use Rattle.xk_names.specs.Uses.{signatures}
 use Rattle.xk_names.specs.Captures.{shared_texts}
-use Rattle.xk_units.proofs.Listed.{has_left, has_right, has_either, has_at}
-use Rattle.xk_code.specs.CodeOf.{Setting, Body, body_at}
+use Rattle.xk_units.proofs.Listed.{has_left, has_right, has_either}
+use Rattle.xk_code.specs.CodeOf.{Setting, body_at}
 use Rattle.xk_code.specs.Covered.{IsFound}
 use Rattle.xk_code.specs.Reached.{AsyncBody, bodies_in, bodies_in_all, calls_in, calls_in_all, IsSettled}
 use Rattle.xk_code.proofs.Covered.Statements.{Settled}
 use Rattle.xk_codegen.specs.Parts.{Part, OfMethod, OfBody, Run, Calls, Starts, bodies, bodies_all, parts, runs, runs_all, part_runs, place_of, body_among}
 use Rattle.xk_codegen.specs.Compiled.{AreUnits, IsSetting, shared_among, settled_body, taken, unit_number}
-use Rattle.xk_codegen.proofs.Among.{Fits, FitsAt, fits_there}
 use Rattle.xk_codegen.proofs.Keeps.Apart.{same_body}
 
 -- ---- shared numbers

@@ -1,7 +1,7 @@
 -- In a tree without faults of names each body of `async` stands at a place that sees what its code needs.
-use Rattle.std.proofs.Common.{◌≡◌, inl, inr, ℕ, Bool, true, false, cond, List, [], ◌∷◌, ◌++◌, length, Option, Some, None, refl, sym, ap, ◌∙◌, subst}
+use Rattle.std.proofs.Common.{◌≡◌, inl, inr, ℕ, Bool, true, false, cond, List, [], ◌∷◌, ◌++◌, length, Option, Some, refl, sym, ap, ◌∙◌, subst}
 use Rattle.std.specs.Prelude.{is_some, option_map}
-use Rattle.xk_tree.specs.Tree.{Clocks, Statement, Statements, Done, More, Block, If, IfElse, For, Async, Finish, MethodValue, TreeValue}
+use Rattle.xk_tree.specs.Tree.{Clocks, Statement, Statements, Done, More, Block, If, IfElse, For, Async, Finish, TreeValue}
 use Rattle.xk_names.specs.declared.known.Known.{Known}
 use Rattle.xk_names.specs.declared.known.Kind.TheVariants as kind
 use Rattle.xk_names.specs.declared.known.Want.TheVariants as want
@@ -16,7 +16,7 @@ use Rattle.xk_names.proofs.Outside.{outer_found}
 use Rattle.xk_units.proofs.Listed.{has_either}
 use Rattle.xk_code.specs.CodeOf.{Setting, Scope, body_params, declared}
 use Rattle.xk_code.specs.Unit.{scope_from}
-use Rattle.xk_code.specs.Covered.{IsFound, IsUnitCovered}
+use Rattle.xk_code.specs.Covered.{IsUnitCovered}
 use Rattle.xk_code.specs.Reached.{AsyncBody, bodies_in_all, calls_in_all}
 use Rattle.xk_code.proofs.Covered.Fitting.{Texts, Fits, with_name, fits_behind, fits_loop, fits_body, body_names}
 use Rattle.xk_code.proofs.Covered.Known.{HasPlaces}
@@ -127,6 +127,6 @@ body_covered cx ms shared at cs s placed h settled =
     let held : AsyncBody = record { at = at; clocks = cs; body = s } in
     (all_covered cx ms shared placed h.sc (slots_for h.sc.names) shared 0 (alone at cs s) (with_slots shared h.sc h.scope h.own h.fits) ((h.itself, h.inside), tt)
     (λ w g.
-        let o = outer_found ms h.sc shared (Async at cs s) h.itself h.inside w (subst (λ ws. Has ws w) (append_nil _) g) in
-        ap is_some (slot_there h.sc.names w.text ∙ ap (option_map (λ k. 0)) o.there.found))
+    let o = outer_found ms h.sc shared (Async at cs s) h.itself h.inside w (subst (λ ws. Has ws w) (append_nil _) g) in
+    ap is_some (slot_there h.sc.names w.text ∙ ap (option_map (λ k. 0)) o.there.found))
     settled).1 held (inl refl)

@@ -1,28 +1,26 @@
 -- What the code of a unit calls and starts stands where the setting says; and the first unit alone is main.
-use Rattle.std.proofs.Common.{◌≡◌, ◌⊎◌, inl, inr, ℕ, zero, suc, ◌<◌, ◌≤◌, ◌==◌, Bool, true, false, cond, min, List, [], ◌∷◌, ◌++◌, map, length, Option, Some, None, slice_get, refl, sym, ap, ◌∙◌, subst, arith}
-use Rattle.std.specs.Prelude.{int_le, codes, option_map, unwrap_or}
+use Rattle.std.proofs.Common.{◌≡◌, inl, ℕ, zero, suc, ◌<◌, ◌≤◌, ◌==◌, Bool, true, false, cond, List, [], ◌∷◌, map, length, Option, Some, slice_get, refl, sym, ap, ◌∙◌, subst, arith}
+use Rattle.std.specs.Prelude.{codes, option_map, unwrap_or}
 use Rattle.std.specs.Option.{option_map_or}
 use Rattle.std.proofs.lemmas.Bool.Decides.{nat_tests}
 use Rattle.std.proofs.lemmas.Option.{slice_get_within}
-use Rattle.xk_types.specs.declared.unit.UnitKind.{UnitKind}
 use Rattle.xk_types.specs.declared.unit.UnitKind.TheVariants as unit_kind
 use Rattle.xk_types.specs.Code.{UnitValue, ModuleValue, is_method, is_body}
 use Rattle.xk_types.specs.Shape.{is_in_place}
-use Rattle.xk_tree.specs.Tree.{Word, Clocks, Expression, Statement, Statements, Done, More, Block, Empty, Declare, Assign, Atomic, If, IfElse, For, Async, Finish, Call, Resume, Drop, AdvanceAll, Print, ParamValue, MethodValue, TreeValue}
+use Rattle.xk_tree.specs.Tree.{Word, Clocks, Statement, Statements, Done, More, Block, Empty, Declare, Assign, Atomic, If, IfElse, For, Async, Finish, Call, Resume, Drop, AdvanceAll, Print, ParamValue, MethodValue, TreeValue}
 use Rattle.xk_names.specs.Scope.{Has, find, is_text}
 use Rattle.xk_names.specs.Uses.{signatures}
 use Rattle.xk_names.specs.Scoped.{IsScoped}
-use Rattle.xk_names.specs.Captures.{shared_texts}
 use Rattle.xk_units.proofs.Collecting.{same_text}
-use Rattle.xk_units.proofs.Listed.{has_left, has_right, has_at}
+use Rattle.xk_units.proofs.Listed.{has_left, has_right}
 use Rattle.xk_units.proofs.Graph.{at_mapped}
-use Rattle.xk_code.specs.CodeOf.{Setting, Body, number_of, body_at, body_unit}
+use Rattle.xk_code.specs.CodeOf.{Setting, Body, number_of, body_unit}
 use Rattle.xk_code.specs.Unit.{kinds_of_params, body_kinds}
 use Rattle.xk_code.proofs.Shape.Leaves.{EachInside, EachOf}
 use Rattle.xk_code.proofs.Shape.Names.{FindsUnits, Stands as StandsUnit}
-use Rattle.xk_codegen.specs.Parts.{Part, OfMethod, OfBody, Run, Calls, Starts, opening, bodies, bodies_all, parts, runs, runs_all, part_runs, place_of, method_among}
+use Rattle.xk_codegen.specs.Parts.{Part, OfMethod, OfBody, Run, Calls, Starts, bodies, bodies_all, parts, runs, runs_all, place_of, method_among}
 use Rattle.xk_codegen.specs.Compiled.{AreUnits, HasLater, method_kind, unit_of_part, unit_number}
-use Rattle.xk_codegen.proofs.Among.{Fits, FitsAt, fits_there}
+use Rattle.xk_codegen.proofs.Among.{Fits, fits_there}
 use Rattle.xk_codegen.proofs.Keeps.Apart.{one_method, signed}
 use Rattle.xk_codegen.proofs.Keeps.Stands.{part_of}
 use Rattle.xk_codegen.proofs.Keeps.Settled.{AreSettled, AreParts, body_unit_of}
