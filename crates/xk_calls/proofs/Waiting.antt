@@ -90,6 +90,14 @@ times_below (suc n) js k j h e =
 
 -- ---- how many calls of a method those make that are left
 
+pub times_at_most : (n : ℕ) (js : List ℕ) (j : ℕ) → times n js j ≤ n
+times_at_most zero js j = omega arith
+times_at_most (suc n) js j = go (nat_eq (slice_index js n) j) (times_at_most n js j)
+  where
+    go : (b : Bool) → times n js j ≤ n → cond b 1 0 + times n js j ≤ suc n
+    go true h = omega arith
+    go false h = omega arith
+
 pub pending_some : (n : ℕ) (calls : List (List ℕ)) (left : List ℕ) (i k j : ℕ) → i < n → 0 < slice_index left i → IsCall calls i k j → 0 < pending n calls left j
 pending_some zero calls left i k j h full call = absurd (omega arith)
 pending_some (suc n) calls left i k j h full call =

@@ -1,6 +1,6 @@
 //! The order of the methods that are reached from one.
 
-ghost use Rattle.std.specs.Prelude.{◌≡◌, List, ◌<◌, ◌≤◌, ◌+◌, ℕ, length, set, slice_get, slice_index, vec_len, IfErr, IfOk, OnOk, Some};
+ghost use Rattle.std.specs.Prelude.{◌≡◌, List, ◌<◌, ◌≤◌, ◌+◌, ◌^◌, ℕ, length, set, slice_get, slice_index, vec_len, IfErr, IfOk, OnOk, Some};
 ghost use Rattle.xk_calls.specs.Calls.{AreReached, AreWithin, IsCall, IsRecursive, Reaches, rows, zeros};
 ghost use Rattle.xk_calls.specs.Order.{AreCounts, AreLeast, AreReady, CanFall, IsInOrder, IsOnce, IsSearch, MarksReached, times};
 
@@ -96,43 +96,38 @@ fn mark_reached(alloc: Global, calls: &[Vec<usize>], start: usize) -> Result<Vec
     Ok(seen)
 }
 
-/// Counts the calls of each method that a list has. Memory that holds them holds fewer than 2^64.
-fn count_called(called: &[usize], waits: &mut [usize]) -> Result<(), AllocError>
+/// Counts the calls of each method that a list has.
+#[tactic(auto, using(crate::proofs::Waiting::times_at_most))]
+fn count_called(called: &[usize], waits: &mut [u128])
     requires within { (k j : ℕ) → slice_get called.now k ≡ Some j → j < length waits.old }
-    ensures { OnOk result ((j : ℕ) → slice_index waits.new j
-        ≡ slice_index waits.old j + times (length called.now) called.now j) }
+    requires room { (j : ℕ) → slice_index waits.old j + length called.now < 2 ^ 128 }
+    ensures { (j : ℕ) → slice_index waits.new j
+        ≡ slice_index waits.old j + times (length called.now) called.now j }
 {
     for k in 0..called.len() {
-        let count = waits[called[k]].checked_add(1).ok_or(AllocError)?;
-        waits[called[k]] = count;
+        waits[called[k]] += 1;
     }
-    Ok(())
 }
 
-/// Counts for each method the calls of it that those make that are left.
-fn count_callers(
-    calls: &[Vec<usize>],
-    left: &[usize],
-    waits: &mut [usize],
-) -> Result<(), AllocError>
+/// Counts for each method the calls of it that those make that are left. Fewer than 2^64 lists of fewer than 2^64 calls fit in 128 bits.
+fn count_callers(calls: &[Vec<usize>], left: &[usize], waits: &mut [u128])
     requires within { AreWithin (rows calls.now) }
     requires all { length left.now ≡ length calls.now }
     requires counted { length waits.old ≡ length calls.now }
     requires fresh { (j : ℕ) → slice_index waits.old j ≡ 0 }
-    ensures { OnOk result (AreCounts (rows calls.now) left.now waits.new) }
+    ensures { AreCounts (rows calls.now) left.now waits.new }
 {
     for i in 0..calls.len() {
         if left[i] != 0 {
-            count_called(called_by(calls, i), waits)?;
+            count_called(called_by(calls, i), waits);
         }
     }
-    Ok(())
 }
 
 /// Takes calls off the counts. Who waits for no call any more becomes ready.
 fn release(
     called: &[usize],
-    waits: &mut [usize],
+    waits: &mut [u128],
     ready: &mut BTreeSet<usize>,
 ) -> Result<(), AllocError>
     requires within { (k j : ℕ) → slice_get called.now k ≡ Some j → j < length waits.old }
@@ -157,7 +152,7 @@ fn release(
 fn place(
     calls: &[Vec<usize>],
     left: &mut [usize],
-    waits: &mut [usize],
+    waits: &mut [u128],
     ready: &mut BTreeSet<usize>,
     i: usize,
 ) -> Result<(), AllocError>
@@ -183,7 +178,7 @@ fn place_all(
     alloc: Global,
     calls: &[Vec<usize>],
     left: &mut [usize],
-    waits: &mut [usize],
+    waits: &mut [u128],
     start: usize,
 ) -> Result<Vec<usize>, AllocError>
     requires within { AreWithin (rows calls.now) }
@@ -234,8 +229,8 @@ pub fn order_from(
     match r {
         Ok(_) => {
             let mut left = mark_reached(alloc, calls, start)?;
-            let mut waits = vec![in alloc; 0usize; calls.len()]?;
-            count_callers(calls, &left, &mut waits)?;
+            let mut waits = vec![in alloc; 0u128; calls.len()]?;
+            count_callers(calls, &left, &mut waits);
             let order = place_all(alloc, calls, &mut left, &mut waits, start)?;
             Ok(Ok(order))
         }

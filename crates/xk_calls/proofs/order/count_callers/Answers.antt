@@ -1,25 +1,27 @@
-use Rattle.std.proofs.Common.{◌≡◌, ℕ, List, slice_index, length, ap, sym, ◌∙◌, arith}
+use Rattle.std.proofs.Common.{◌≡◌, ◌≤◌, ◌<◌, ◌+◌, ◌*◌, ℕ, List, slice_index, length, ap, sym, ◌∙◌, arith}
 use Rattle.xk_calls.specs.Calls.{rows}
 use Rattle.xk_calls.specs.Order.{pending, times}
 use Rattle.xk_calls.proofs.Falling.{length-rows}
-use Rattle.xk_calls.proofs.Waiting.{pending_on, pending_off}
+use Rattle.xk_calls.proofs.Waiting.{pending_on, pending_off, times_at_most}
 use Rattle.xk_calls.proofs.order.count_callers.Goals as goal
-use Rattle.xk_calls.proofs.order.count_callers.Goals.{then-left-i-ne0+in_ok-count_called, else-left-i-ne0}
+use Rattle.xk_calls.proofs.order.count_callers.Goals.{then-left-i-ne0, else-left-i-ne0}
 
 pub loop-i-preserved : goal.loop-i-preserved
 loop-i-preserved c = λ j. elim c.if-left-i-ne0.branch [
-  | then-left-i-ne0+in_ok-count_called w ↦
+  | then-left-i-ne0 w ↦
       let new = ap (λ (xs : List ℕ). slice_index xs j) w.waits-is in
       let row = ap (λ (xs : List ℕ). times (length xs) xs j) w.called_by.ensures in
       let more = pending_on c.loop-i.i (rows c.args.calls.now) c.args.left.now j w.if-left-i-ne0.true in
-      omega (arith, new, row, more, w.in_ok-count_called.ensures j, c.loop-i.invariant j)
+      let most = times_at_most (length w.called_by.result.now) w.called_by.result.now j in
+      let short = w.called_by.type_inv.0 in
+      (omega (arith, new, row, more, w.count_called.ensures j, (c.loop-i.invariant j).0), omega (arith, new, w.count_called.ensures j, (c.loop-i.invariant j).1, most, short))
   | else-left-i-ne0 w ↦
       let new = ap (λ (xs : List ℕ). slice_index xs j) w.waits-is in
       let more = pending_off c.loop-i.i (rows c.args.calls.now) c.args.left.now j w.if-left-i-ne0.false in
-      omega (arith, new, more, c.loop-i.invariant j)
+      (omega (arith, new, more, (c.loop-i.invariant j).0), omega (arith, new, (c.loop-i.invariant j).1))
 ]
 
 pub returns : goal.returns
 returns c = λ j.
     let n : length (rows c.args.calls.now) ≡ c.loop-i.i = omega (arith, length-rows c.args.calls.now) in
-    c.loop-i.invariant j ∙ ap (λ m. pending m (rows c.args.calls.now) c.args.left.now j) (sym n)
+    (c.loop-i.invariant j).0 ∙ ap (λ m. pending m (rows c.args.calls.now) c.args.left.now j) (sym n)
