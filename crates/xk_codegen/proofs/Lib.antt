@@ -4,3 +4,6 @@ pub mod Nested
 pub mod Ordered
 pub mod Placed
 pub mod Units
+pub mod Apart
+pub mod Again
+pub mod Faults

@@ -1,22 +1,21 @@
 -- Which modules are the code of a program, and which faults a program has.
 --
 -- Which parts of a program have units, and how units are numbered, is this project's own choice.
-use Rattle.std.specs.Prelude.{◌≡◌, ℕ, suc, ◌<◌, nat_eq, min, List, [], ◌∷◌, map, Option, Some, None, option_map, slice_get, codes, if◌then◌else◌}
+use Rattle.std.specs.Prelude.{◌≡◌, ℕ, suc, ◌<◌, nat_eq, min, List, [], ◌∷◌, map, Option, Some, None, IsSome, option_map, slice_get, codes, if◌then◌else◌}
 use Rattle.xk_types.specs.declared.unit.UnitKind.{UnitKind}
 use Rattle.xk_types.specs.declared.unit.UnitKind.TheVariants as unit_kind
 use Rattle.xk_types.specs.Code.{UnitValue, ModuleValue, IsUnitWithinLimits}
 use Rattle.xk_tree.specs.declared.fault.FrontRule.TheVariants as rule
 use Rattle.xk_tree.specs.declared.fault.FrontFault.{FrontFault}
-use Rattle.xk_tree.specs.Tree.{Statement, MethodValue, SharedValue, TreeValue}
+use Rattle.xk_tree.specs.Tree.{Statement, Block, MethodValue, SharedValue, TreeValue}
 use Rattle.xk_names.specs.Scope.{find, is_text, Has}
 use Rattle.xk_names.specs.Uses.{signatures}
 use Rattle.xk_names.specs.Faults.{HasFault, fault}
 use Rattle.xk_names.specs.Captures.{captures, shared_texts}
 use Rattle.xk_units.specs.Recursion.{HasRecursion}
-use Rattle.xk_code.specs.CodeOf.{Body, Setting, body_at}
-use Rattle.xk_code.specs.Unit.{unit_of_method, unit_of_body}
-use Rattle.xk_calls.specs.Calls.{IsRecursive}
-use Rattle.xk_codegen.specs.Graph.{graph}
+use Rattle.xk_code.specs.CodeOf.{Body, Setting, body_at, body_params}
+use Rattle.xk_code.specs.Unit.{names_of_params, unit_of_method, unit_of_body}
+use Rattle.xk_code.specs.Covered.{IsUnitCovered}
 use Rattle.xk_codegen.specs.Parts.{Part, OfMethod, OfBody, Run, parts, part_runs, place_of, method_among}
 
 -- ---- the parts that have units
@@ -94,27 +93,23 @@ abbrev pub offset : Part → ℕ
 offset (OfMethod m) = m.name.at
 offset (OfBody at cs s) = at
 
+-- the code of a part needs no more names than there are
+abbrev pub IsPartCovered : Setting → Part → Type 0
+IsPartCovered cx (OfMethod m) = IsUnitCovered cx (names_of_params m.params) (Block m.body)
+IsPartCovered cx (OfBody at cs s) = IsSome (body_at cx at) × IsUnitCovered cx (body_params cx at cs) s
+
 -- a table goes over its limit
 pub data HasTableFault (t : TreeValue) (f : FrontFault) : Type 0 where
   -- more than 256 shared numbers
   ManyShared : (s : SharedValue) → slice_get t.shared 256 ≡ Some s → f ≡ fault rule.Table s.name.at → HasTableFault t f
   -- more than 1,024 units
   ManyUnits : (units : List Part) (p : Part) → AreUnits t units → slice_get units 1024 ≡ Some p → f ≡ fault rule.Table (offset p) → HasTableFault t f
-  -- a unit with too many slots or instructions, or an instruction of it with too many arguments
+  -- a unit with too many slots or instructions, or an instruction of it with too many arguments; or its code needs a name that isn't there
   LargeUnit : (units : List Part) (cx : Setting) (k : ℕ) (p : Part) → AreUnits t units → IsSetting t units cx → slice_get units k ≡ Some p
-      → (IsUnitWithinLimits (unit_of_part cx p) → ⊥) → f ≡ fault rule.Table (offset p) → HasTableFault t f
-
--- A part is run again from what it runs. Where each `async` stands at an offset of its own, as in each tree that a text spells, calls lead back to
--- the method that makes them.
-pub record RunsItself (t : TreeValue) (f : FrontFault) : Type 0 where
-  pub place : ℕ
-  pub call : ℕ
-  pub again : IsRecursive (graph (parts t)) place call
-  pub is : f.rule ≡ rule.Recursive
+      → (IsPartCovered cx p → IsUnitWithinLimits (unit_of_part cx p) → ⊥) → f ≡ fault rule.Table (offset p) → HasTableFault t f
 
 -- the program has the fault, one of F5 to F12 and F14
 pub data IsFaultOf (t : TreeValue) (f : FrontFault) : Type 0 where
   InNames : HasFault t f → IsFaultOf t f
   InCalls : HasRecursion t f → IsFaultOf t f
-  InRuns : RunsItself t f → IsFaultOf t f
-  InTables : f.rule ≡ rule.Table → IsFaultOf t f
+  InTables : HasTableFault t f → IsFaultOf t f
