@@ -38,7 +38,11 @@ fn line<'a>(alloc: Global) -> Result<clap::Command<'a>, AllocError>
     ensures { IfOk result (λ c. WithOrders (λ names. app_of c ≡ command_line names)) }
 {
     let check = on_either(alloc, "check", "Says whether a program is accepted.")?;
-    let compile = on_file(alloc, "compile", "Compiles a program and prints its module.")?;
+    let compile = on_file(
+        alloc,
+        "compile",
+        "Compiles a program and prints its module.",
+    )?;
     let run = run_line(alloc)?;
     clap::Command::new(alloc, "x10clock")
         .about("Verifies and runs clocked programs.")

@@ -16,8 +16,13 @@ use Rattle.xk_serve.proofs.programs.compiled.Goals as goal
 -- what the parser refuses spells no tree
 refused : (bytes : List ℕ) (e : FrontError) → length bytes ≤ longest_source → IsUtf8 bytes → IsRefused bytes (Err e)
     → ((f : FrontFault) → e ≡ error.Fault f → f.rule ≡ rule.TooLong → longest_source < length bytes) → IsUnfit bytes e
-refused bytes (error.Fault f) short utf8 none only = inr (inr (inl (short, utf8, none, λ too_long.
-    let long : longest_source < length bytes = only f refl too_long in absurd (omega arith))))
+refused bytes (error.Fault f) short utf8 none only = inr (inr (inl (
+  short,
+  utf8,
+  none,
+  λ too_long.
+      let long : longest_source < length bytes = only f refl too_long in absurd (omega arith),
+)))
 refused bytes error.OutOfMemory short utf8 none only = tt
 
 pub returns-in_err-tree-clause-fault : goal.returns-in_err-tree-clause-fault
