@@ -85,7 +85,7 @@ outermost (s ∷ ss) ps x k e = go (is_text x s.name.text) (outermost ss ps x k)
 
 -- ---- where a method's body begins
 
-fits_method : (t : TreeValue) (m : MethodValue)
+pub fits_method : (t : TreeValue) (m : MethodValue)
     → Fits (shared_texts t.shared) (method_scope t m) (scope_from 0 (names_of_params m.params)) (names_before t.shared m.params)
 fits_method t m = record {
   kinds = kinds_before t.shared m.params;

@@ -7,3 +7,4 @@ pub mod Units
 pub mod Apart
 pub mod Again
 pub mod Faults
+pub mod Keeps

@@ -12,7 +12,7 @@ use Rattle.xk_codegen.specs.Parts.{Part, OfMethod, OfBody, Run, Calls, Starts, b
 use Rattle.xk_codegen.proofs.Among.{Fits, found}
 
 -- the bodies in a part
-abbrev inner : Part → List Part
+abbrev pub inner : Part → List Part
 inner (OfMethod m) = bodies_all m.body
 inner (OfBody at cs s) = bodies s
 
@@ -87,7 +87,7 @@ in_method : (m : MethodValue) (p q : Part) → Has (method_parts m) p → Has (i
 in_method m p q (inl e) d = inr (subst (λ (o : Part). Has (inner o) q) e d)
 in_method m p q (inr h) d = inr (deeper_all m.body p q h d)
 
-in_methods : (ms : List MethodValue) (p q : Part) → Has (flat_map method_parts ms) p → Has (inner p) q → Has (flat_map method_parts ms) q
+pub in_methods : (ms : List MethodValue) (p q : Part) → Has (flat_map method_parts ms) p → Has (inner p) q → Has (flat_map method_parts ms) q
 in_methods [] p q h d = absurd h
 in_methods (m ∷ ms) p q h d = elim (has_either (method_parts m) (flat_map method_parts ms) p h) [
   | inl x ↦ has_left (method_parts m) (flat_map method_parts ms) q (in_method m p q x d)

@@ -145,6 +145,21 @@ has_later t order us h k p r is runs =
     let e = same_unit t order us h r j.0 b.0 n.0 j.1 b.2 (fits_there us r n.0 n.1) in
     record { number = b.0; later = b.1; place = n.1 ∙ ap Some e; part = q.0; stands = q.1; run = record { place = j.0; first = j.1; part = q.2 } }
 
+-- none stands twice
+stands_once : (t : TreeValue) (order : List ℕ) (us : List Part) → IsPicked t order us → (a b : ℕ) (p : Part) → slice_get us a ≡ Some p → slice_get us b ≡ Some p → a ≡ b
+stands_once t order us h a b p e d =
+    let ps = parts t in
+    let q = picked ps us order h.same a p e in
+    let r = picked ps us order h.same b p d in
+    let f = is_first t h.scoped h.is_order.start q.number h.is_order.begins (h.is_order.reached a q.number q.at) in
+    let g = is_first t h.scoped h.is_order.start r.number h.is_order.begins (h.is_order.reached b r.number r.at) in
+    let u = fits_there ps f.run q.number f.place in
+    let v = fits_there ps g.run r.number g.place in
+    let fits = subst (λ (o : Part). Fits o f.run) (same_part (slice_get ps q.number) u.part p u.stands q.is) u.fits in
+    let also = subst (λ (o : Part). Fits o g.run) (same_part (slice_get ps r.number) v.part p v.stands r.is) v.fits in
+    let i : q.number ≡ r.number = some_number q.number r.number (sym f.place ∙ same_place ps p f.run g.run fits also ∙ g.place) in
+    h.is_order.once a b q.number q.at (r.at ∙ ap Some (sym i))
+
 -- the first is `main`
 record IsMain (us : List Part) : Type 0 where
   main : MethodValue
@@ -167,5 +182,6 @@ are_units t order us scoped o same =
       named = m.named;
       first = m.first;
       within = λ k p e. let q = picked (parts t) us order same k p e in has_at (parts t) q.number p q.is;
+      once = stands_once t order us h;
       closed = has_later t order us h;
     }

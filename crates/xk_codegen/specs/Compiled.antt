@@ -1,10 +1,13 @@
 -- Which modules are the code of a program, and which faults a program has.
 --
 -- Which parts of a program have units, and how units are numbered, is this project's own choice.
-use Rattle.std.specs.Prelude.{◌≡◌, ℕ, suc, ◌<◌, nat_eq, min, List, [], ◌∷◌, map, Option, Some, None, IsSome, option_map, slice_get, codes, if◌then◌else◌}
+use Rattle.std.specs.Prelude.{◌≡◌, ℕ, suc, ◌<◌, nat_eq, min, Bool, true, false, List, [], ◌∷◌, map, Option, Some, None, IsSome, option_map, slice_get, codes, if◌then◌else◌}
 use Rattle.xk_types.specs.declared.unit.UnitKind.{UnitKind}
 use Rattle.xk_types.specs.declared.unit.UnitKind.TheVariants as unit_kind
+use Rattle.xk_types.specs.declared.rules.Rule.{Rule}
+use Rattle.xk_types.specs.declared.rules.Rule.TheVariants as shape
 use Rattle.xk_types.specs.Code.{UnitValue, ModuleValue, IsUnitWithinLimits}
+use Rattle.xk_types.specs.Shape.{breaks}
 use Rattle.xk_tree.specs.declared.fault.FrontRule.TheVariants as rule
 use Rattle.xk_tree.specs.declared.fault.FrontFault.{FrontFault}
 use Rattle.xk_tree.specs.Tree.{Statement, Block, MethodValue, SharedValue, TreeValue}
@@ -35,12 +38,13 @@ pub record HasLater (t : TreeValue) (units : List Part) (k : ℕ) (r : Run) : Ty
   pub stands : slice_get units number ≡ Some part
   pub run : IsRun t r part
 
--- The parts of the program that have units, in the order of these: `main` is the first, and what the code of one runs is further on.
+-- The parts of the program that have units, each once, in the order of these: `main` is the first, and what the code of one runs is further on.
 pub record AreUnits (t : TreeValue) (units : List Part) : Type 0 where
   pub main : MethodValue
   pub named : main.name.text ≡ codes "main"
   pub first : slice_get units 0 ≡ Some (OfMethod main)
   pub within : (k : ℕ) (p : Part) → slice_get units k ≡ Some p → Has (parts t) p
+  pub once : (j k : ℕ) (p : Part) → slice_get units j ≡ Some p → slice_get units k ≡ Some p → j ≡ k
   pub closed : (k : ℕ) (p : Part) (r : Run) → slice_get units k ≡ Some p → Has (part_runs p) r → HasLater t units k r
 
 -- ---- their code
@@ -85,6 +89,24 @@ pub record IsCompiled (t : TreeValue) (m : ModuleValue) : Type 0 where
   pub is_setting : IsSetting t units setting
   pub shared : m.shared ≡ map (λ s. s.start.value) t.shared
   pub code : m.units ≡ map (unit_of_part setting) units
+
+-- ---- the rules that it keeps
+
+-- V1 to V7, and V10. The others say which clocks a program may use where, or how far it may go.
+abbrev pub is_kept : Rule → Bool
+is_kept shape.Target = true
+is_kept shape.Block = true
+is_kept shape.Slot = true
+is_kept shape.Unit = true
+is_kept shape.Cell = true
+is_kept shape.Loop = true
+is_kept shape.End = true
+is_kept shape.SameClock = true
+is_kept _ = false
+
+-- no place of the module breaks one of them
+abbrev pub KeepsShape : ModuleValue → Type 0
+KeepsShape m = (r : Rule) → is_kept r ≡ true → (unit at : ℕ) → breaks m r unit at ≡ false
 
 -- ---- faults
 

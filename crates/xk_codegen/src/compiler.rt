@@ -11,7 +11,7 @@ ghost use Rattle.xk_names.specs.Faults.{HasFault};
 ghost use Rattle.xk_names.specs.Scoped.{IsScoped};
 ghost use Rattle.xk_units.specs.Recursion.{HasRecursion};
 ghost use Rattle.xk_codegen.specs.Views.{part};
-ghost use Rattle.xk_codegen.specs.Compiled.{AreUnits, HasTableFault, IsCompiled, IsFaultOf, IsPartCovered, IsSetting, method_kind, offset, unit_of_part};
+ghost use Rattle.xk_codegen.specs.Compiled.{AreUnits, HasTableFault, IsCompiled, IsFaultOf, IsPartCovered, IsSetting, KeepsShape, method_kind, offset, unit_of_part};
 
 use crate::order::units_in_order;
 use crate::parts::Part;
@@ -197,6 +197,7 @@ fn code(alloc: Global, tree: &Tree<'_>) -> Result<Module, FrontError>
     requires scoped { IsScoped (tree_value tree.now) }
     requires falls { (f : Fault) → HasRecursion (tree_value tree.now) f → ⊥ }
     ensures compiled { IfOk result (λ m. IsCompiled (tree_value tree.now) m) }
+    ensures keeps { IfOk result (λ m. HasBodiesApart (tree_value tree.now) → KeepsShape m) }
     ensures fault { (f : Fault) → result ≡ Err (FrontError.Fault f)
         → HasBodiesApart (tree_value tree.now) → HasTableFault (tree_value tree.now) f }
 {
@@ -214,6 +215,7 @@ pub fn compile(alloc: Global, tree: &Tree<'_>) -> Result<Module, FrontError>
     ensures clean { OnOk result ((f : Fault) → HasFault (tree_value tree.now) f → ⊥) }
     ensures falls { OnOk result ((f : Fault) → HasRecursion (tree_value tree.now) f → ⊥) }
     ensures compiled { IfOk result (λ m. IsCompiled (tree_value tree.now) m) }
+    ensures keeps { IfOk result (λ m. HasBodiesApart (tree_value tree.now) → KeepsShape m) }
     ensures fault { (f : Fault) → result ≡ Err (FrontError.Fault f)
         → HasBodiesApart (tree_value tree.now) → IsFaultOf (tree_value tree.now) f }
 {

@@ -5,6 +5,7 @@ use Rattle.xk_codegen.specs.declared.parts.Part.{Part}
 use Rattle.xk_codegen.specs.Views.{part}
 use Rattle.xk_codegen.specs.Compiled.{AreUnits, IsSetting}
 use Rattle.xk_codegen.proofs.Faults.{none_again, passed_on}
+use Rattle.xk_codegen.proofs.Keeps.Law.{code_keeps}
 use Rattle.xk_codegen.proofs.compiler.code.Goals as goal
 
 pub returns-in_err-check_shared-clause-fault : goal.returns-in_err-check_shared-clause-fault
@@ -28,3 +29,9 @@ returns-in_err-units-clause-fault c = λ f e apart.
     let same = c.deref.ensures.value ∙ sym c.deref-2.ensures.value in
     let setting = subst (λ (ps : List Part). IsSetting t (map part ps) c.in_ok-setting.setting) same c.in_ok-setting.ensures in
     c.in_err-units.ensures.fault f t (ap Err (passed_on r.result p.0 c.in_err-units.field-0.0 f p.1 p.2 e)) are setting
+
+pub returns-clause-keeps : goal.returns-clause-keeps
+returns-clause-keeps c =
+    code_keeps (tree_value c.args.tree.now) c.in_ok-parts.parts.items c.deref.result.now c.deref-2.result.now c.in_ok-setting.setting c.in_ok-module.module
+    c.in_ok-units.units.items c.requires.scoped c.in_ok-parts.ensures.units c.deref.ensures.value c.deref-2.ensures.value c.in_ok-setting.ensures
+    c.in_ok-units.ensures.count c.in_ok-units.ensures.made c.in_ok-module.ensures.made
