@@ -2,5 +2,6 @@
 pub mod Apart
 pub mod Stands
 pub mod Settled
+pub mod Covered
 pub mod Units
 pub mod Law

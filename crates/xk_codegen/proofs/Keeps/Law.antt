@@ -1,73 +1,46 @@
 -- The module that is the code of a tree without faults of names keeps the rules on shape.
-use Rattle.std.proofs.Common.{◌≡◌, inl, inr, ℕ, ℤ, ◌≤◌, true, false, List, [], ◌∷◌, map, length, Option, Some, slice_get, refl, sym, ap, ◌∙◌, subst, arith, eq-eqb}
+use Rattle.std.proofs.Common.{◌≡◌, ℕ, ℤ, ◌≤◌, true, false, List, map, length, Option, Some, slice_get, refl, sym, ap, ◌∙◌, subst, arith}
 use Rattle.std.proofs.lemmas.List.{length-map}
 use Rattle.xk_types.specs.declared.rules.Rule.{Rule}
 use Rattle.xk_types.specs.declared.rules.Rule.TheVariants as rule
 use Rattle.xk_types.specs.declared.unit.UnitKind.TheVariants as unit_kind
 use Rattle.xk_types.specs.Code.{UnitValue, ModuleValue, module_of}
 use Rattle.xk_tree.specs.Bodies.{HasBodiesApart}
-use Rattle.xk_tree.specs.Tree.{Clocks, Statement, MethodValue, TreeValue}
-use Rattle.xk_names.specs.Scope.{Has, texts}
+use Rattle.xk_tree.specs.Tree.{Clocks, Statement, TreeValue}
+use Rattle.xk_names.specs.Scope.{texts}
 use Rattle.xk_names.specs.Uses.{signatures, clocks_listed}
 use Rattle.xk_names.specs.Scoped.{IsScoped, with_body}
-use Rattle.xk_names.specs.Captures.{shared_texts}
 use Rattle.xk_units.proofs.Graph.{mapped_at}
-use Rattle.xk_units.proofs.Listed.{has_at, has_either}
 use Rattle.xk_code.specs.CodeOf.{Setting, body_params, captures_at}
 use Rattle.xk_code.specs.Unit.{body_kinds}
-use Rattle.xk_code.specs.Reached.{bodies_in_all, calls_in_all, IsSettingFor}
-use Rattle.xk_code.proofs.Covered.Statements.{Settled}
 use Rattle.xk_code.proofs.Shape.Cells.{SharedBelow}
 use Rattle.xk_code.proofs.Shape.Names.{body_count}
 use Rattle.xk_code.proofs.Shape.Modules.{IsCompiled as IsUnitCompiled, is_left, compiled_soundly, module_keeps}
 use Rattle.xk_code.proofs.Shape.Trees.{compiled_method}
-use Rattle.xk_codegen.specs.Parts.{Part, OfMethod, OfBody, Run, Starts, bodies, bodies_all, parts, place_of}
+use Rattle.xk_codegen.specs.Parts.{Part, OfMethod, OfBody}
 use Rattle.xk_codegen.specs.declared.parts.Part as declared
 use Rattle.xk_codegen.specs.Views.{part}
 use Rattle.xk_codegen.specs.Compiled.{AreUnits, IsSetting, IsCompiled, method_kind, unit_of_part, is_kept, KeepsShape}
-use Rattle.xk_codegen.proofs.Among.{found}
-use Rattle.xk_codegen.proofs.Nested.{inner, in_methods}
-use Rattle.xk_codegen.proofs.Keeps.Stands.{alone, body_covered, part_of}
-use Rattle.xk_codegen.proofs.Keeps.Settled.{AreSettled, AreParts, HavePlaces, shared_below, shared_placed, run_places, settled_all}
+use Rattle.xk_codegen.proofs.Keeps.Stands.{part_of}
+use Rattle.xk_codegen.proofs.Keeps.Settled.{AreSettled, shared_below}
+use Rattle.xk_codegen.proofs.Keeps.Covered.{unit_parts, setting_for, body_there}
 use Rattle.xk_codegen.proofs.Keeps.Units.{in_place, finds_units, find_units}
 
 module _ (t : TreeValue) (scoped : IsScoped t) (units : List Part) (cx : Setting) (h : AreSettled t units cx) (made : ModuleValue)
     (code : made.units ≡ map (unit_of_part cx) units) (few : length units ≤ 1024) (shared : SharedBelow cx (length made.shared)) where
-  -- what the code of a unit leads to
-  unit_parts : (k : ℕ) (p : Part) → slice_get units k ≡ Some p → AreParts t (inner p)
-  unit_parts k p e q i = in_methods t.methods p q (h.are_units.within k p e) i
-
-  setting_for : (k : ℕ) (m : MethodValue) → slice_get units k ≡ Some (OfMethod m) → IsSettingFor cx t m
-  setting_for k m e =
-      let s = settled_all t units cx h m.body (unit_parts k (OfMethod m) e) (run_places t units cx h k (OfMethod m) e) in
-      record { shared = shared_placed t units cx h.is_setting; methods = s.methods; bodies = s.entries }
-
-  -- a body is started by its `async`
-  body_parts : (k at : ℕ) (cs : Option Clocks) (s : Statement) → slice_get units k ≡ Some (OfBody at cs s) → AreParts t (bodies_all (alone at cs s))
-  body_parts k at cs s e p (inl is) = subst (Has (parts t)) (sym is) (h.are_units.within k (OfBody at cs s) e)
-  body_parts k at cs s e p (inr i) = unit_parts k (OfBody at cs s) e p (elim (has_either (bodies s) [] p i) [ inl x ↦ x | inr y ↦ absurd y ])
-
-  has_unit : (k at : ℕ) (cs : Option Clocks) (s : Statement) → slice_get units k ≡ Some (OfBody at cs s) → HavePlaces units (Starts at ∷ [])
-  has_unit k at cs s e r (inl is) = subst (λ (q : Run). (n : ℕ) × (place_of units q ≡ Some n)) (sym is) (found units (Starts at) (OfBody at cs s) (has_at units k (OfBody at cs s) e) (eq-eqb at at refl))
-  has_unit k at cs s e r (inr none) = absurd none
-
-  settled_body_there : (k at : ℕ) (cs : Option Clocks) (s : Statement) → slice_get units k ≡ Some (OfBody at cs s)
-      → Settled cx (signatures t.methods) (shared_texts t.shared) (calls_in_all (alone at cs s)) (bodies_in_all (alone at cs s))
-  settled_body_there k at cs s e = settled_all t units cx h (alone at cs s) (body_parts k at cs s e) (has_unit k at cs s e)
-
   compiled_body : (k at : ℕ) (cs : Option Clocks) (s : Statement) → slice_get units k ≡ Some (OfBody at cs s) → IsUnitCompiled made k (unit_of_part cx (OfBody at cs s))
   compiled_body k at cs s e =
       let p = part_of t scoped (OfBody at cs s) (h.are_units.within k (OfBody at cs s) e) in
       compiled_soundly made k cx unit_kind.Body (body_params cx at cs) (body_kinds cx at cs) s (signatures t.methods) (with_body p.sc (clocks_listed cs))
-      shared (body_covered cx (signatures t.methods) (shared_texts t.shared) at cs s (shared_placed t units cx h.is_setting) p (settled_body_there k at cs s e))
+      shared (body_there t units cx h scoped k at cs s e)
       (body_count (texts (clocks_listed cs)) (captures_at cx at)) (in_place t scoped units cx h made code few k (OfBody at cs s) e) p.inside.0 p.inside.1
-      (finds_units t scoped units cx h made code few k s (unit_parts k (OfBody at cs s) e) (λ r. h.are_units.closed k (OfBody at cs s) r e))
+      (finds_units t scoped units cx h made code few k s (unit_parts t units cx h k (OfBody at cs s) e) (λ r. h.are_units.closed k (OfBody at cs s) r e))
 
   compiled_part : (k : ℕ) (p : Part) → slice_get units k ≡ Some p → IsUnitCompiled made k (unit_of_part cx p)
   compiled_part k (OfMethod m) e =
-      compiled_method t scoped m (part_of t scoped (OfMethod m) (h.are_units.within k (OfMethod m) e)) cx (setting_for k m e) made shared k (method_kind m)
+      compiled_method t scoped m (part_of t scoped (OfMethod m) (h.are_units.within k (OfMethod m) e)) cx (setting_for t units cx h k m e) made shared k (method_kind m)
       (in_place t scoped units cx h made code few k (OfMethod m) e)
-      (find_units t scoped units cx h made code few k m.body (unit_parts k (OfMethod m) e) (λ r. h.are_units.closed k (OfMethod m) r e))
+      (find_units t scoped units cx h made code few k m.body (unit_parts t units cx h k (OfMethod m) e) (λ r. h.are_units.closed k (OfMethod m) r e))
   compiled_part k (OfBody at cs s) e = compiled_body k at cs s e
 
   compiled_unit : (k : ℕ) (u : UnitValue) → slice_get made.units k ≡ Some u → IsUnitCompiled made k u
