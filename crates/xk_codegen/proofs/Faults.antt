@@ -18,11 +18,14 @@ use Rattle.xk_units.specs.Recursion.{HasRecursion}
 use Rattle.xk_types.specs.Code.{IsUnitWithinLimits}
 use Rattle.xk_code.specs.CodeOf.{Setting}
 use Rattle.xk_codegen.specs.declared.parts.Part as declared
-use Rattle.xk_codegen.specs.Parts.{Part}
+use Rattle.xk_codegen.specs.Parts.{Part, OfMethod, OfBody}
+use Rattle.xk_codegen.specs.Named.{IsPartCovered}
 use Rattle.xk_codegen.specs.Views.{part}
 use Rattle.xk_codegen.specs.Graph.{RunsItself}
-use Rattle.xk_codegen.specs.Compiled.{AreUnits, HasTableFault, ManyShared, ManyUnits, LargeUnit, IsPartCovered, IsSetting, offset, unit_of_part}
+use Rattle.xk_codegen.specs.Compiled.{AreUnits, HasTableFault, ManyShared, ManyUnits, LargeUnit, IsSetting, offset, unit_of_part}
 use Rattle.xk_codegen.proofs.Again.{never_again}
+use Rattle.xk_codegen.proofs.Keeps.Settled.{AreSettled}
+use Rattle.xk_codegen.proofs.Keeps.Covered.{entry_there, method_there, body_there}
 
 pub fault_of : {A : Type 0} (f g : FrontFault) → ◌≡◌ {A = Result A FrontError} (Err (error.Fault f)) (Err (error.Fault g)) → f ≡ g
 fault_of f g e = cc
@@ -45,10 +48,11 @@ many_shared t ss s f are at is =
 
 -- the fault F14 there is one of each program that has these units
 abbrev pub IsBeyond : Setting → List declared.Part → ℕ → Type 0
-IsBeyond cx ps at = (t : TreeValue) → AreUnits t (map part ps) → IsSetting t (map part ps) cx → HasTableFault t (fault rule.Table at)
+IsBeyond cx ps at =
+    (t : TreeValue) → IsScoped t → HasBodiesApart t → AreUnits t (map part ps) → IsSetting t (map part ps) cx → HasTableFault t (fault rule.Table at)
 
 pub many_units : (cx : Setting) (ps : List declared.Part) (at : ℕ) → option_map offset (slice_get (map part ps) 1024) ≡ Some at → IsBeyond cx ps at
-many_units cx ps at e t are setting = go (slice_get (map part ps) 1024) refl e
+many_units cx ps at e t scoped apart are setting = go (slice_get (map part ps) 1024) refl e
   where
     go : (o : Option Part) → slice_get (map part ps) 1024 ≡ o → option_map offset o ≡ Some at → HasTableFault t (fault rule.Table at)
     go None is h = absurd cc
@@ -78,10 +82,17 @@ pub beyond_none : (ps : List declared.Part) → length ps ≤ 1024 → None ≡ 
 beyond_none ps few =
     let same = length-map ps part in ap (option_map offset) (sym (slice_get_past (map part ps) 1024 (omega arith)))
 
+-- the code of each unit needs no more names than there are
+covered : (t : TreeValue) (us : List Part) (cx : Setting) → IsScoped t → AreSettled t us cx → (k : ℕ) (p : Part) → slice_get us k ≡ Some p → IsPartCovered cx p
+covered t us cx scoped h k (OfMethod m) e = method_there t us cx h scoped k m e
+covered t us cx scoped h k (OfBody at cs s) e = (entry_there t us cx h k at cs s e, body_there t us cx h scoped k at cs s e)
+
 pub large_unit : (cx : Setting) (ps : List declared.Part) (k : ℕ) (p : declared.Part) (at : ℕ) → slice_get ps k ≡ Some p
     → (IsPartCovered cx (part p) → IsUnitWithinLimits (unit_of_part cx (part p)) → ⊥) → at ≡ offset (part p) → IsBeyond cx ps at
-large_unit cx ps k p at stands none is t are setting =
-    LargeUnit (map part ps) cx k (part p) are setting (slice_get-map part ps k ∙ ap (option_map part) stands) none (ap (fault rule.Table) is)
+large_unit cx ps k p at stands none is t scoped apart are setting =
+    let there : slice_get (map part ps) k ≡ Some (part p) = slice_get-map part ps k ∙ ap (option_map part) stands in
+    let names = covered t (map part ps) cx scoped (record { apart = apart; are_units = are; is_setting = setting }) k (part p) there in
+    LargeUnit (map part ps) cx k (part p) are setting there (none names) (ap (fault rule.Table) is)
 
 -- the lesser of two is one of them
 pub either : (P : ℕ → Type 0) (worst : Option ℕ) (at : ℕ) → ((other : ℕ) → worst ≡ Some other → P other) → P at → P (option_map_or (min at) worst at)

@@ -6,5 +6,5 @@ pub mod Placed
 pub mod Units
 pub mod Apart
 pub mod Again
-pub mod Faults
 pub mod Keeps
+pub mod Faults

@@ -1,7 +1,7 @@
 -- Which modules are the code of a program, and which faults a program has.
 --
 -- Which parts of a program have units, and how units are numbered, is this project's own choice.
-use Rattle.std.specs.Prelude.{◌≡◌, ℕ, suc, ◌<◌, nat_eq, min, Bool, true, false, List, [], ◌∷◌, map, Option, Some, None, IsSome, option_map, slice_get, codes, if◌then◌else◌}
+use Rattle.std.specs.Prelude.{◌≡◌, ℕ, suc, ◌<◌, nat_eq, min, Bool, true, false, List, [], ◌∷◌, map, Option, Some, None, option_map, slice_get, codes, if◌then◌else◌}
 use Rattle.xk_types.specs.declared.unit.UnitKind.{UnitKind}
 use Rattle.xk_types.specs.declared.unit.UnitKind.TheVariants as unit_kind
 use Rattle.xk_types.specs.declared.rules.Rule.{Rule}
@@ -10,15 +10,14 @@ use Rattle.xk_types.specs.Code.{UnitValue, ModuleValue, IsUnitWithinLimits}
 use Rattle.xk_types.specs.Shape.{breaks}
 use Rattle.xk_tree.specs.declared.fault.FrontRule.TheVariants as rule
 use Rattle.xk_tree.specs.declared.fault.FrontFault.{FrontFault}
-use Rattle.xk_tree.specs.Tree.{Statement, Block, MethodValue, SharedValue, TreeValue}
+use Rattle.xk_tree.specs.Tree.{Statement, MethodValue, SharedValue, TreeValue}
 use Rattle.xk_names.specs.Scope.{find, is_text, Has}
 use Rattle.xk_names.specs.Uses.{signatures}
 use Rattle.xk_names.specs.Faults.{HasFault, fault}
 use Rattle.xk_names.specs.Captures.{captures, shared_texts}
 use Rattle.xk_units.specs.Recursion.{HasRecursion}
-use Rattle.xk_code.specs.CodeOf.{Body, Setting, body_at, body_params}
-use Rattle.xk_code.specs.Unit.{names_of_params, unit_of_method, unit_of_body}
-use Rattle.xk_code.specs.Covered.{IsUnitCovered}
+use Rattle.xk_code.specs.CodeOf.{Body, Setting, body_at}
+use Rattle.xk_code.specs.Unit.{unit_of_method, unit_of_body}
 use Rattle.xk_codegen.specs.Parts.{Part, OfMethod, OfBody, Run, parts, part_runs, place_of, method_among}
 
 -- ---- the parts that have units
@@ -115,20 +114,15 @@ abbrev pub offset : Part → ℕ
 offset (OfMethod m) = m.name.at
 offset (OfBody at cs s) = at
 
--- the code of a part needs no more names than there are
-abbrev pub IsPartCovered : Setting → Part → Type 0
-IsPartCovered cx (OfMethod m) = IsUnitCovered cx (names_of_params m.params) (Block m.body)
-IsPartCovered cx (OfBody at cs s) = IsSome (body_at cx at) × IsUnitCovered cx (body_params cx at cs) s
-
 -- a table goes over its limit
 pub data HasTableFault (t : TreeValue) (f : FrontFault) : Type 0 where
   -- more than 256 shared numbers
   ManyShared : (s : SharedValue) → slice_get t.shared 256 ≡ Some s → f ≡ fault rule.Table s.name.at → HasTableFault t f
   -- more than 1,024 units
   ManyUnits : (units : List Part) (p : Part) → AreUnits t units → slice_get units 1024 ≡ Some p → f ≡ fault rule.Table (offset p) → HasTableFault t f
-  -- a unit with too many slots or instructions, or an instruction of it with too many arguments; or its code needs a name that isn't there
+  -- a unit with too many slots or instructions, or an instruction of it with too many arguments
   LargeUnit : (units : List Part) (cx : Setting) (k : ℕ) (p : Part) → AreUnits t units → IsSetting t units cx → slice_get units k ≡ Some p
-      → (IsPartCovered cx p → IsUnitWithinLimits (unit_of_part cx p) → ⊥) → f ≡ fault rule.Table (offset p) → HasTableFault t f
+      → (IsUnitWithinLimits (unit_of_part cx p) → ⊥) → f ≡ fault rule.Table (offset p) → HasTableFault t f
 
 -- the program has the fault, one of F5 to F12 and F14
 pub data IsFaultOf (t : TreeValue) (f : FrontFault) : Type 0 where

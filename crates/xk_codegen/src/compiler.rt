@@ -11,7 +11,8 @@ ghost use Rattle.xk_names.specs.Faults.{HasFault};
 ghost use Rattle.xk_names.specs.Scoped.{IsScoped};
 ghost use Rattle.xk_units.specs.Recursion.{HasRecursion};
 ghost use Rattle.xk_codegen.specs.Views.{part};
-ghost use Rattle.xk_codegen.specs.Compiled.{AreUnits, HasTableFault, IsCompiled, IsFaultOf, IsPartCovered, IsSetting, KeepsShape, method_kind, offset, unit_of_part};
+ghost use Rattle.xk_codegen.specs.Named.{IsPartCovered};
+ghost use Rattle.xk_codegen.specs.Compiled.{AreUnits, HasTableFault, IsCompiled, IsFaultOf, IsSetting, KeepsShape, method_kind, offset, unit_of_part};
 
 use crate::order::units_in_order;
 use crate::parts::Part;
@@ -110,8 +111,8 @@ fn units_of<'t>(
     ensures count { OnOk result (length parts.now ≤ 1024) }
     ensures limits { IfOk result (λ units. All IsUnitWithinLimits units.items) }
     ensures fault { (f : Fault) (t : TreeValue) → result ≡ Err (FrontError.Fault f)
-        → AreUnits t (map part parts.now) → IsSetting t (map part parts.now) setting.now
-        → HasTableFault t f }
+        → IsScoped t → HasBodiesApart t → AreUnits t (map part parts.now)
+        → IsSetting t (map part parts.now) setting.now → HasTableFault t f }
 {
     let mut worst = beyond(parts);
     let mut units = Vec::new(alloc);

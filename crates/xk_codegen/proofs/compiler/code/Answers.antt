@@ -28,7 +28,7 @@ returns-in_err-units-clause-fault c = λ f e apart.
     let are = subst (λ (ps : List Part). AreUnits t (map part ps)) (sym c.deref-2.ensures.value) c.in_ok-parts.ensures.units in
     let same = c.deref.ensures.value ∙ sym c.deref-2.ensures.value in
     let setting = subst (λ (ps : List Part). IsSetting t (map part ps) c.in_ok-setting.setting) same c.in_ok-setting.ensures in
-    c.in_err-units.ensures.fault f t (ap Err (passed_on r.result p.0 c.in_err-units.field-0.0 f p.1 p.2 e)) are setting
+    c.in_err-units.ensures.fault f t (ap Err (passed_on r.result p.0 c.in_err-units.field-0.0 f p.1 p.2 e)) c.requires.scoped apart are setting
 
 pub returns-clause-keeps : goal.returns-clause-keeps
 returns-clause-keeps c =

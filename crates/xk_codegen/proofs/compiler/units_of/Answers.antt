@@ -48,6 +48,6 @@ returns-in-None-worst-clause-made c =
     all_made c.args.setting.now c.args.parts.now c.loop-p.p-index c.loop-p.units.items (let e = c.loop-p-test.false in omega arith) (c.loop-p.invariant.0 c.in-None-worst.is)
 
 pub returns-in-Some-worst-clause-fault : goal.returns-in-Some-worst-clause-fault
-returns-in-Some-worst-clause-fault c = λ f t e are setting.
+returns-in-Some-worst-clause-fault c = λ f t e scoped apart are setting.
     subst (HasTableFault t) (told (fault rule.Table c.in-Some-worst.at) f c.table_fault.result c.table_fault.ensures e)
-    (c.loop-p.invariant.1 c.in-Some-worst.at c.in-Some-worst.is t are setting)
+    (c.loop-p.invariant.1 c.in-Some-worst.at c.in-Some-worst.is t scoped apart are setting)
