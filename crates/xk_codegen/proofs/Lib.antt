@@ -4,4 +4,7 @@ pub mod Nested
 pub mod Ordered
 pub mod Placed
 pub mod Units
+pub mod Apart
+pub mod Again
 pub mod Keeps
+pub mod Faults

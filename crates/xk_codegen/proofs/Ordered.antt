@@ -65,7 +65,7 @@ last_call calls (n ∷ ns) a j p = elim (last_call calls ns n j p.1) [
   | inr h ↦ inr h
 ]
 
-known_place : (o : Option ℕ) (d j : ℕ) → ((k : ℕ) × (o ≡ Some k)) → unwrap_or o d ≡ j → o ≡ Some j
+pub known_place : (o : Option ℕ) (d j : ℕ) → ((k : ℕ) × (o ≡ Some k)) → unwrap_or o d ≡ j → o ≡ Some j
 known_place (Some k) d j h e = ap Some e
 known_place None d j h e = absurd cc
 

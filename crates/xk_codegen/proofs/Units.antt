@@ -18,6 +18,9 @@ abbrev pub AreMade : Setting → List declared.Part → ℕ → List UnitValue �
 AreMade cx ps k units =
     (length ps ≤ 1024) × All IsUnitWithinLimits units × (units ++ map (unit_of_part cx) (map part (drop k ps)) ≡ map (unit_of_part cx) (map part ps))
 
+pub none_made : (cx : Setting) (ps : List declared.Part) (units : List UnitValue) → length ps ≤ 1024 → units ≡ [] → AreMade cx ps 0 units
+none_made cx ps units few e = subst (λ (l : List UnitValue). AreMade cx ps 0 l) (sym e) (few, (λ k d less. absurd (omega arith)), refl)
+
 pub one_more_unit : (cx : Setting) (ps : List declared.Part) (k : ℕ) (before after : List UnitValue) (p : declared.Part) (u : UnitValue) → AreMade cx ps k before → k < length ps
     → p ≡ get_or ps k p → u ≡ unit_of_part cx (part p) → IsUnitWithinLimits u → after ≡ before ++ u ∷ [] → AreMade cx ps (k + 1) after
 one_more_unit cx ps k before after p u made within is code limits e =

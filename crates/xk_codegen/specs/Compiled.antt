@@ -18,8 +18,6 @@ use Rattle.xk_names.specs.Captures.{captures, shared_texts}
 use Rattle.xk_units.specs.Recursion.{HasRecursion}
 use Rattle.xk_code.specs.CodeOf.{Body, Setting, body_at}
 use Rattle.xk_code.specs.Unit.{unit_of_method, unit_of_body}
-use Rattle.xk_calls.specs.Calls.{IsRecursive}
-use Rattle.xk_codegen.specs.Graph.{graph}
 use Rattle.xk_codegen.specs.Parts.{Part, OfMethod, OfBody, Run, parts, part_runs, place_of, method_among}
 
 -- ---- the parts that have units
@@ -126,17 +124,8 @@ pub data HasTableFault (t : TreeValue) (f : FrontFault) : Type 0 where
   LargeUnit : (units : List Part) (cx : Setting) (k : ℕ) (p : Part) → AreUnits t units → IsSetting t units cx → slice_get units k ≡ Some p
       → (IsUnitWithinLimits (unit_of_part cx p) → ⊥) → f ≡ fault rule.Table (offset p) → HasTableFault t f
 
--- A part is run again from what it runs. Where each `async` stands at an offset of its own, as in each tree that a text spells, calls lead back to
--- the method that makes them.
-pub record RunsItself (t : TreeValue) (f : FrontFault) : Type 0 where
-  pub place : ℕ
-  pub call : ℕ
-  pub again : IsRecursive (graph (parts t)) place call
-  pub is : f.rule ≡ rule.Recursive
-
 -- the program has the fault, one of F5 to F12 and F14
 pub data IsFaultOf (t : TreeValue) (f : FrontFault) : Type 0 where
   InNames : HasFault t f → IsFaultOf t f
   InCalls : HasRecursion t f → IsFaultOf t f
-  InRuns : RunsItself t f → IsFaultOf t f
-  InTables : f.rule ≡ rule.Table → IsFaultOf t f
+  InTables : HasTableFault t f → IsFaultOf t f

@@ -2,8 +2,10 @@
 use Rattle.std.specs.Prelude.{◌≡◌, ℕ, nat_eq, List, [], ◌∷◌, ◌++◌, map, length, Some, slice_get, unwrap_or}
 use Rattle.std.specs.Map.{lookup}
 use Rattle.xk_names.specs.Scope.{Table, find}
-use Rattle.xk_calls.specs.Calls.{AreReached}
+use Rattle.xk_calls.specs.Calls.{AreReached, IsRecursive}
 use Rattle.xk_calls.specs.Order.{IsInOrder, IsOnce}
+use Rattle.xk_tree.specs.declared.fault.FrontRule.TheVariants as rule
+use Rattle.xk_tree.specs.declared.fault.FrontFault.{FrontFault}
 use Rattle.xk_tree.specs.Tree.{TreeValue}
 use Rattle.xk_codegen.specs.Parts.{Part, Run, Calls, Starts, opening, parts, part_runs, place_of, method_among, body_among}
 
@@ -41,3 +43,10 @@ pub record IsOrder (t : TreeValue) (order : List ℕ) : Type 0 where
   pub reached : AreReached (graph (parts t)) start order
   pub later : IsInOrder (graph (parts t)) order
   pub once : IsOnce order
+
+-- a part is run again from what it runs, and the fault is F10
+pub record RunsItself (t : TreeValue) (f : FrontFault) : Type 0 where
+  pub place : ℕ
+  pub call : ℕ
+  pub again : IsRecursive (graph (parts t)) place call
+  pub is : f.rule ≡ rule.Recursive

@@ -1,15 +1,18 @@
 //! From a source tree to a module.
 
-ghost use Rattle.std.specs.Prelude.{◌≡◌, ◌≤◌, All, Err, map, length, IfOk, OnOk};
+ghost use Rattle.std.specs.Prelude.{◌≡◌, ◌≤◌, All, Ok, Err, Some, None, option_map, slice_get, map, min, length, IfOk, IfErr, OnOk};
+ghost use Rattle.std.specs.Option.{option_map_or};
 ghost use Rattle.xk_types.specs.Code.{IsUnitWithinLimits, module_of};
 ghost use Rattle.xk_tree.specs.declared.fault.FrontFault.{FrontFault as Fault};
 ghost use Rattle.xk_tree.specs.Bodies.{HasBodiesApart};
-ghost use Rattle.xk_tree.specs.Tree.{method_value, shared_value, tree_value};
+ghost use Rattle.xk_tree.specs.Tree.{TreeValue, method_value, shared_value, tree_value};
+ghost use Rattle.xk_code.specs.Room.{Denies};
 ghost use Rattle.xk_names.specs.Faults.{HasFault};
 ghost use Rattle.xk_names.specs.Scoped.{IsScoped};
 ghost use Rattle.xk_units.specs.Recursion.{HasRecursion};
 ghost use Rattle.xk_codegen.specs.Views.{part};
-ghost use Rattle.xk_codegen.specs.Compiled.{IsCompiled, IsFaultOf, KeepsShape, method_kind, unit_of_part};
+ghost use Rattle.xk_codegen.specs.Named.{IsPartCovered};
+ghost use Rattle.xk_codegen.specs.Compiled.{AreUnits, HasTableFault, IsCompiled, IsFaultOf, IsSetting, KeepsShape, method_kind, offset, unit_of_part};
 
 use crate::order::units_in_order;
 use crate::parts::Part;
@@ -44,10 +47,12 @@ fn kind_of(method: &Method<'_>) -> UnitKind
     }
 }
 
-/// The unit of a part.
+/// The unit of a part, or why it has none.
 fn unit_of<'t>(alloc: Global, setting: &Setting<'t>, p: &Part<'_, 't>) -> Result<Unit, CodeError>
     ensures made { IfOk result (λ unit. unit ≡ unit_of_part setting.now (part p.now)) }
     ensures limits { IfOk result IsUnitWithinLimits }
+    ensures denies { IfErr result (λ e. Denies e (IsPartCovered setting.now (part p.now))
+        (IsUnitWithinLimits (unit_of_part setting.now (part p.now)))) }
 {
     match p {
         Part::Method(method) => method_unit(alloc, setting, kind_of(method), method),
@@ -55,8 +60,40 @@ fn unit_of<'t>(alloc: Global, setting: &Setting<'t>, p: &Part<'_, 't>) -> Result
     }
 }
 
+/// The unit of a part, or none where its code needs a name that isn't there or where it goes beyond a limit.
+fn unit_if_any<'t>(
+    alloc: Global,
+    setting: &Setting<'t>,
+    p: &Part<'_, 't>,
+) -> Result<Option<Unit>, AllocError>
+    ensures made { (unit : Unit) → result ≡ Ok (Some unit)
+        → unit ≡ unit_of_part setting.now (part p.now) }
+    ensures limits { (unit : Unit) → result ≡ Ok (Some unit) → IsUnitWithinLimits unit }
+    ensures none { result ≡ Ok None → IsPartCovered setting.now (part p.now)
+        → IsUnitWithinLimits (unit_of_part setting.now (part p.now)) → ⊥ }
+{
+    match unit_of(alloc, setting, p) {
+        Ok(unit) => Ok(Some(unit)),
+        Err(CodeError::Name) => Ok(None),
+        Err(CodeError::Table) => Ok(None),
+        Err(CodeError::OutOfMemory) => Err(AllocError),
+    }
+}
+
+/// Where the first part stands that has no number left, if there is one.
+fn beyond(parts: &[Part<'_, '_>]) -> Option<usize>
+    ensures { result ≡ option_map offset (slice_get (map part parts.now) 1024) }
+{
+    match parts.get(MAX_UNITS) {
+        None => None,
+        Some(p) => Some(p.offset()),
+    }
+}
+
 /// The lesser of two offsets, if there is one.
-fn lesser(worst: Option<usize>, at: usize) -> usize {
+fn lesser(worst: Option<usize>, at: usize) -> usize
+    ensures { result ≡ option_map_or (min at) worst at }
+{
     match worst {
         None => at,
         Some(other) => at.min(other),
@@ -73,15 +110,16 @@ fn units_of<'t>(
         ≡ map (unit_of_part setting.now) (map part parts.now)) }
     ensures count { OnOk result (length parts.now ≤ 1024) }
     ensures limits { IfOk result (λ units. All IsUnitWithinLimits units.items) }
-    ensures fault { (f : Fault) → result ≡ Err (FrontError.Fault f) → f.rule ≡ FrontRule.Table }
+    ensures fault { (f : Fault) (t : TreeValue) → result ≡ Err (FrontError.Fault f)
+        → IsScoped t → HasBodiesApart t → AreUnits t (map part parts.now)
+        → IsSetting t (map part parts.now) setting.now → HasTableFault t f }
 {
-    let mut worst = parts.get(MAX_UNITS).map(|p| p.offset());
+    let mut worst = beyond(parts);
     let mut units = Vec::new(alloc);
     for p in parts {
-        match unit_of(alloc, setting, p) {
-            Ok(unit) => units.push(unit)?,
-            Err(CodeError::OutOfMemory) => return Err(FrontError::OutOfMemory),
-            Err(_) => worst = Some(lesser(worst, p.offset())),
+        match unit_if_any(alloc, setting, p)? {
+            Some(unit) => units.push(unit)?,
+            None => worst = Some(lesser(worst, p.offset())),
         }
     }
     match worst {
@@ -122,7 +160,8 @@ fn module(alloc: Global, tree: &Tree<'_>, units: Vec<Unit>) -> Result<Module, Fr
 /// At most 256 shared numbers, or F14 at the 257th.
 fn check_shared(tree: &Tree<'_>) -> Result<(), FrontError>
     ensures fits { OnOk result (length (tree_value tree.now).shared ≤ 256) }
-    ensures fault { (f : Fault) → result ≡ Err (FrontError.Fault f) → f.rule ≡ FrontRule.Table }
+    ensures fault { (f : Fault) → result ≡ Err (FrontError.Fault f)
+        → HasTableFault (tree_value tree.now) f }
 {
     match tree.shared.get(MAX_SHARED) {
         None => Ok(()),
@@ -157,10 +196,11 @@ fn check(alloc: Global, tree: &Tree<'_>) -> Result<(), FrontError>
 /// The module that is the code of a tree without faults of names; or F14 at the least offset.
 fn code(alloc: Global, tree: &Tree<'_>) -> Result<Module, FrontError>
     requires scoped { IsScoped (tree_value tree.now) }
+    requires falls { (f : Fault) → HasRecursion (tree_value tree.now) f → ⊥ }
     ensures compiled { IfOk result (λ m. IsCompiled (tree_value tree.now) m) }
     ensures keeps { IfOk result (λ m. HasBodiesApart (tree_value tree.now) → KeepsShape m) }
     ensures fault { (f : Fault) → result ≡ Err (FrontError.Fault f)
-        → IsFaultOf (tree_value tree.now) f }
+        → HasBodiesApart (tree_value tree.now) → HasTableFault (tree_value tree.now) f }
 {
     check_shared(tree)?;
     let parts = units_in_order(alloc, tree)?;
@@ -178,7 +218,7 @@ pub fn compile(alloc: Global, tree: &Tree<'_>) -> Result<Module, FrontError>
     ensures compiled { IfOk result (λ m. IsCompiled (tree_value tree.now) m) }
     ensures keeps { IfOk result (λ m. HasBodiesApart (tree_value tree.now) → KeepsShape m) }
     ensures fault { (f : Fault) → result ≡ Err (FrontError.Fault f)
-        → IsFaultOf (tree_value tree.now) f }
+        → HasBodiesApart (tree_value tree.now) → IsFaultOf (tree_value tree.now) f }
 {
     match check(alloc, tree) {
         Ok(()) => code(alloc, tree),

@@ -6,8 +6,8 @@ ghost use Rattle.xk_tree.specs.Tree.{tree_value};
 ghost use Rattle.xk_names.specs.Scoped.{IsScoped};
 ghost use Rattle.xk_codegen.specs.Views.{part};
 ghost use Rattle.xk_codegen.specs.Parts.{parts};
-ghost use Rattle.xk_codegen.specs.Graph.{IsOrder};
-ghost use Rattle.xk_codegen.specs.Compiled.{AreUnits, RunsItself};
+ghost use Rattle.xk_codegen.specs.Graph.{IsOrder, RunsItself};
+ghost use Rattle.xk_codegen.specs.Compiled.{AreUnits};
 
 use crate::parts::{Part, parts};
 use crate::runs::Places;

@@ -1,20 +1,53 @@
-use Rattle.std.proofs.Common.{◌≡◌, ◌∙◌, None, Some, ap, sym, arith, ℕ}
-use Rattle.xk_codegen.proofs.Units.{one_more_unit, all_made}
+use Rattle.std.proofs.Common.{◌≡◌, ◌∙◌, None, Some, Ok, length, ap, sym, subst, refl, arith, ℕ}
+use Rattle.std.proofs.lemmas.Option.{slice_get_read}
+use Rattle.xk_tree.specs.declared.fault.FrontRule.TheVariants as rule
+use Rattle.xk_names.specs.Faults.{fault}
+use Rattle.xk_codegen.specs.Compiled.{HasTableFault}
+use Rattle.xk_codegen.proofs.Units.{none_made, one_more_unit, all_made}
+use Rattle.xk_codegen.proofs.Faults.{IsBeyond, either, few_units, large_unit, many_units, told}
 use Rattle.xk_codegen.proofs.compiler.units_of.Goals as goal
-use Rattle.xk_codegen.proofs.compiler.units_of.Goals.{in-Ok+in_ok-push-in-Ok, in-Err}
+use Rattle.xk_codegen.proofs.compiler.units_of.Goals.{in-Some+in_ok-push-in-Some, in-None}
 
 some_is_none : (n : ℕ) → Some n ≡ None → ⊥
 some_is_none n e = cc
 
-pub loop-p-preserved : goal.loop-p-preserved
-loop-p-preserved c = λ none. elim c.match-unit_of.branch [
-  | in-Ok+in_ok-push-in-Ok w ↦
-      one_more_unit c.args.setting.now c.args.parts.now c.loop-p.p-index c.loop-p.units.items c.match-unit_of.units.items c.p-item.result w.in-Ok.unit
-      (c.loop-p.invariant (sym w.worst-is ∙ none)) c.loop-p-test.true c.p-item.is w.in-Ok.ensures.made w.in-Ok.ensures.limits
-      (ap (λ v. v.items) w.units-is ∙ w.in_ok-push-in-Ok.ensures.items)
-  | in-Err w ↦ absurd (some_is_none w.lesser.result (sym w.worst-is ∙ none))
-]
+some_is : (n k : ℕ) → Some n ≡ Some k → n ≡ k
+some_is n k e = cc
 
-pub returns-in-None-clause-made : goal.returns-in-None-clause-made
-returns-in-None-clause-made c =
-    all_made c.args.setting.now c.args.parts.now c.loop-p.p-index c.loop-p.units.items (let e = c.loop-p-test.false in omega arith) (c.loop-p.invariant c.in-None.is)
+pub loop-p-init : goal.loop-p-init
+loop-p-init c = (
+  λ none. none_made c.args.setting.now c.args.parts.now c.new-units.result.items (few_units c.args.parts.now (sym c.beyond-worst.ensures ∙ none)) c.new-units.ensures.items,
+  λ at e. many_units c.args.setting.now c.args.parts.now at (sym c.beyond-worst.ensures ∙ e),
+)
+
+pub loop-p-preserved : goal.loop-p-preserved
+loop-p-preserved c =
+    let cx = c.args.setting.now in
+    let ps = c.args.parts.now in
+    let i = c.loop-p.p-index in
+    elim c.match-branch-2.branch [
+      | in-Some+in_ok-push-in-Some w ↦ (
+        λ none. one_more_unit cx ps i c.loop-p.units.items c.match-branch-2.units.items c.p-item.result w.in-Some.unit
+            (c.loop-p.invariant.0 (sym w.worst-is ∙ none)) c.loop-p-test.true c.p-item.is
+            (c.in_ok-unit.ensures.made w.in-Some.unit (ap Ok w.in-Some.is)) (c.in_ok-unit.ensures.limits w.in-Some.unit (ap Ok w.in-Some.is))
+            (ap (λ v. v.items) w.units-is ∙ w.in_ok-push-in-Some.ensures.items),
+        λ at e. c.loop-p.invariant.1 at (sym w.worst-is ∙ e),
+      )
+      | in-None w ↦ (
+        λ none. absurd (some_is_none w.lesser.result (sym w.worst-is ∙ none)),
+        λ at e.
+            let there = slice_get_read ps (length ps) i c.p-item.result refl c.loop-p-test.true c.p-item.is in
+            let here = large_unit cx ps i c.p-item.result w.offset.result there (c.in_ok-unit.ensures.none (ap Ok w.in-None.is)) w.offset.ensures in
+            subst (IsBeyond cx ps) (sym w.lesser.ensures ∙ some_is w.lesser.result at (sym w.worst-is ∙ e))
+            (either (IsBeyond cx ps) c.loop-p.worst w.offset.result c.loop-p.invariant.1 here),
+      )
+    ]
+
+pub returns-in-None-worst-clause-made : goal.returns-in-None-worst-clause-made
+returns-in-None-worst-clause-made c =
+    all_made c.args.setting.now c.args.parts.now c.loop-p.p-index c.loop-p.units.items (let e = c.loop-p-test.false in omega arith) (c.loop-p.invariant.0 c.in-None-worst.is)
+
+pub returns-in-Some-worst-clause-fault : goal.returns-in-Some-worst-clause-fault
+returns-in-Some-worst-clause-fault c = λ f t e scoped apart are setting.
+    subst (HasTableFault t) (told (fault rule.Table c.in-Some-worst.at) f c.table_fault.result c.table_fault.ensures e)
+    (c.loop-p.invariant.1 c.in-Some-worst.at c.in-Some-worst.is t scoped apart are setting)

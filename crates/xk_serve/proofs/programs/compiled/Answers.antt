@@ -44,4 +44,4 @@ pub returns-clause-fault : goal.returns-clause-fault
 returns-clause-fault c =
     let tree = tree_value c.in_ok-tree.tree in
     let spelled = subst (λ b. SpellsTree b tree) c.in_ok-text.ensures.text c.in_ok-tree.ensures.spelled in
-    unfit c.args.bytes.now tree c.compile.result (c.in_ok-text.ensures.utf8, spelled) c.compile.ensures.fault
+    unfit c.args.bytes.now tree c.compile.result (c.in_ok-text.ensures.utf8, spelled) (λ f e. c.compile.ensures.fault f e c.in_ok-tree.ensures.apart)

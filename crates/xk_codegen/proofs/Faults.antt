@@ -1,0 +1,109 @@
+-- Which fault a tree has.
+use Rattle.std.proofs.Common.{◌≡◌, ℕ, zero, suc, ◌<◌, ◌≤◌, min, Bool, true, false, List, [], ◌∷◌, map, length, get_or, Option, Some, None, Err, Result, slice_get, option_map, refl, sym, ap, ◌∙◌, subst, arith}
+use Rattle.std.specs.Option.{option_map_or}
+use Rattle.std.proofs.Math.Dec.{ltb}
+use Rattle.std.proofs.lemmas.Bool.{ltb-true, ltb-false}
+use Rattle.std.proofs.lemmas.List.{length-map}
+use Rattle.std.proofs.lemmas.Option.{slice_get-map, slice_get_past, slice_get_read}
+use Rattle.xk_tree.specs.declared.fault.FrontRule.TheVariants as rule
+use Rattle.xk_tree.specs.declared.fault.FrontFault.{FrontFault}
+use Rattle.xk_tree.specs.declared.fault.FrontError.{FrontError}
+use Rattle.xk_tree.specs.declared.fault.FrontError.TheVariants as error
+use Rattle.xk_tree.specs.declared.tree.Shared.{Shared}
+use Rattle.xk_tree.specs.Tree.{TreeValue, shared_value}
+use Rattle.xk_tree.specs.Bodies.{HasBodiesApart}
+use Rattle.xk_names.specs.Faults.{fault}
+use Rattle.xk_names.specs.Scoped.{IsScoped}
+use Rattle.xk_units.specs.Recursion.{HasRecursion}
+use Rattle.xk_types.specs.Code.{IsUnitWithinLimits}
+use Rattle.xk_code.specs.CodeOf.{Setting}
+use Rattle.xk_codegen.specs.declared.parts.Part as declared
+use Rattle.xk_codegen.specs.Parts.{Part, OfMethod, OfBody}
+use Rattle.xk_codegen.specs.Named.{IsPartCovered}
+use Rattle.xk_codegen.specs.Views.{part}
+use Rattle.xk_codegen.specs.Graph.{RunsItself}
+use Rattle.xk_codegen.specs.Compiled.{AreUnits, HasTableFault, ManyShared, ManyUnits, LargeUnit, IsSetting, offset, unit_of_part}
+use Rattle.xk_codegen.proofs.Again.{never_again}
+use Rattle.xk_codegen.proofs.Keeps.Settled.{AreSettled}
+use Rattle.xk_codegen.proofs.Keeps.Covered.{entry_there, method_there, body_there}
+
+pub fault_of : {A : Type 0} (f g : FrontFault) → ◌≡◌ {A = Result A FrontError} (Err (error.Fault f)) (Err (error.Fault g)) → f ≡ g
+fault_of f g e = cc
+
+pub told : {A : Type 0} (g f : FrontFault) (r : FrontError) → r ≡ error.Fault g → ◌≡◌ {A = Result A FrontError} (Err r) (Err (error.Fault f)) → g ≡ f
+told g f r is e = let same : r ≡ error.Fault f = cc in let both : error.Fault g ≡ error.Fault f = sym is ∙ same in cc
+
+-- an error that is handed on
+pub passed_on : {A : Type 0} (r : Result A FrontError) (x y : FrontError) (f : FrontFault) → r ≡ Err x → x ≡ y → r ≡ Err (error.Fault f) → y ≡ error.Fault f
+passed_on r x y f a b e = let both : ◌≡◌ {A = Result _ FrontError} (Err x) (Err (error.Fault f)) = sym a ∙ e in let same : x ≡ error.Fault f = cc in sym b ∙ same
+
+-- ---- shared numbers
+
+pub many_shared : (t : TreeValue) (ss : List Shared) (s : Shared) (f : FrontFault) → t.shared ≡ map shared_value ss → slice_get ss 256 ≡ Some s
+    → f ≡ fault rule.Table s.name.at → HasTableFault t f
+many_shared t ss s f are at is =
+    ManyShared (shared_value s) (ap (λ l. slice_get l 256) are ∙ slice_get-map shared_value ss 256 ∙ ap (option_map shared_value) at) is
+
+-- ---- units
+
+-- the fault F14 there is one of each program that has these units
+abbrev pub IsBeyond : Setting → List declared.Part → ℕ → Type 0
+IsBeyond cx ps at =
+    (t : TreeValue) → IsScoped t → HasBodiesApart t → AreUnits t (map part ps) → IsSetting t (map part ps) cx → HasTableFault t (fault rule.Table at)
+
+pub many_units : (cx : Setting) (ps : List declared.Part) (at : ℕ) → option_map offset (slice_get (map part ps) 1024) ≡ Some at → IsBeyond cx ps at
+many_units cx ps at e t scoped apart are setting = go (slice_get (map part ps) 1024) refl e
+  where
+    go : (o : Option Part) → slice_get (map part ps) 1024 ≡ o → option_map offset o ≡ Some at → HasTableFault t (fault rule.Table at)
+    go None is h = absurd cc
+    go (Some p) is h = let same : offset p ≡ at = cc in ManyUnits (map part ps) p are is (ap (fault rule.Table) (sym same))
+
+there_is : {A : Type 0} (xs : List A) (k : ℕ) → k < length xs → (x : A) × (slice_get xs k ≡ Some x)
+there_is [] k h = absurd (omega arith)
+there_is (x ∷ xs) zero h = (x, refl)
+there_is (x ∷ xs) (suc k) h = there_is xs k (omega arith)
+
+pub few_units : (ps : List declared.Part) → option_map offset (slice_get (map part ps) 1024) ≡ None → length ps ≤ 1024
+few_units ps e = go (ltb 1024 (length (map part ps))) refl
+  where
+    go : (b : Bool) → ltb 1024 (length (map part ps)) ≡ b → length ps ≤ 1024
+    go false h = let few = ltb-false 1024 (length (map part ps)) h in let same = length-map ps part in omega arith
+    go true h =
+        let p = there_is (map part ps) 1024 (ltb-true 1024 (length (map part ps)) h) in
+        let never : Some (offset p.0) ≡ None = ap (option_map offset) (sym p.1) ∙ e in
+        absurd cc
+
+pub beyond_there : (ps : List declared.Part) (p : declared.Part) (at : ℕ) → 1024 < length ps → p ≡ get_or ps 1024 p → at ≡ offset (part p)
+    → Some at ≡ option_map offset (slice_get (map part ps) 1024)
+beyond_there ps p at within is e =
+    ap Some e ∙ ap (option_map offset) (sym (slice_get-map part ps 1024 ∙ ap (option_map part) (slice_get_read ps (length ps) 1024 p refl within is)))
+
+pub beyond_none : (ps : List declared.Part) → length ps ≤ 1024 → None ≡ option_map offset (slice_get (map part ps) 1024)
+beyond_none ps few =
+    let same = length-map ps part in ap (option_map offset) (sym (slice_get_past (map part ps) 1024 (omega arith)))
+
+-- the code of each unit needs no more names than there are
+covered : (t : TreeValue) (us : List Part) (cx : Setting) → IsScoped t → AreSettled t us cx → (k : ℕ) (p : Part) → slice_get us k ≡ Some p → IsPartCovered cx p
+covered t us cx scoped h k (OfMethod m) e = method_there t us cx h scoped k m e
+covered t us cx scoped h k (OfBody at cs s) e = (entry_there t us cx h k at cs s e, body_there t us cx h scoped k at cs s e)
+
+pub large_unit : (cx : Setting) (ps : List declared.Part) (k : ℕ) (p : declared.Part) (at : ℕ) → slice_get ps k ≡ Some p
+    → (IsPartCovered cx (part p) → IsUnitWithinLimits (unit_of_part cx (part p)) → ⊥) → at ≡ offset (part p) → IsBeyond cx ps at
+large_unit cx ps k p at stands none is t scoped apart are setting =
+    let there : slice_get (map part ps) k ≡ Some (part p) = slice_get-map part ps k ∙ ap (option_map part) stands in
+    let names = covered t (map part ps) cx scoped (record { apart = apart; are_units = are; is_setting = setting }) k (part p) there in
+    LargeUnit (map part ps) cx k (part p) are setting there (none names) (ap (fault rule.Table) is)
+
+-- the lesser of two is one of them
+pub either : (P : ℕ → Type 0) (worst : Option ℕ) (at : ℕ) → ((other : ℕ) → worst ≡ Some other → P other) → P at → P (option_map_or (min at) worst at)
+either P None at old new = new
+either P (Some other) at old new = go (ltb at other) refl
+  where
+    go : (b : Bool) → ltb at other ≡ b → P (min at other)
+    go true e = let less = ltb-true at other e in let same : at ≡ min at other = omega arith in subst P same new
+    go false e = let more = ltb-false at other e in let same : other ≡ min at other = omega arith in subst P same (old other refl)
+
+-- ---- parts that are run again
+
+pub none_again : (t : TreeValue) (f : FrontFault) → IsScoped t → ((g : FrontFault) → HasRecursion t g → ⊥) → HasBodiesApart t → RunsItself t f → ⊥
+none_again t f scoped none apart r = never_again t apart scoped none r.place r.call r.again

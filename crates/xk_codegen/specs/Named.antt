@@ -1,0 +1,12 @@
+-- Names that the code of a part needs.
+use Rattle.std.specs.Prelude.{IsSome}
+use Rattle.xk_tree.specs.Tree.{Block}
+use Rattle.xk_code.specs.CodeOf.{Setting, body_at, body_params}
+use Rattle.xk_code.specs.Unit.{names_of_params}
+use Rattle.xk_code.specs.Covered.{IsUnitCovered}
+use Rattle.xk_codegen.specs.Parts.{Part, OfMethod, OfBody}
+
+-- the code of a part needs no more names than there are
+abbrev pub IsPartCovered : Setting → Part → Type 0
+IsPartCovered cx (OfMethod m) = IsUnitCovered cx (names_of_params m.params) (Block m.body)
+IsPartCovered cx (OfBody at cs s) = IsSome (body_at cx at) × IsUnitCovered cx (body_params cx at cs) s
