@@ -178,6 +178,9 @@ are_units t order us scoped o same =
     let is : f.part ≡ p.0 = same_part (slice_get (parts t) o.start) f.part p.0 f.stands p.2 in
     let m = is_main us p.0 p.1 (subst (λ (p : Part). Fits p opening) is f.fits) in
     record {
+      order = order;
+      is_order = o;
+      are = same;
       main = m.main;
       named = m.named;
       first = m.first;

@@ -18,6 +18,7 @@ use Rattle.xk_names.specs.Captures.{captures, shared_texts}
 use Rattle.xk_units.specs.Recursion.{HasRecursion}
 use Rattle.xk_code.specs.CodeOf.{Body, Setting, body_at}
 use Rattle.xk_code.specs.Unit.{unit_of_method, unit_of_body}
+use Rattle.xk_codegen.specs.Graph.{IsOrder}
 use Rattle.xk_codegen.specs.Parts.{Part, OfMethod, OfBody, Run, parts, part_runs, place_of, method_among}
 
 -- ---- the parts that have units
@@ -37,8 +38,12 @@ pub record HasLater (t : TreeValue) (units : List Part) (k : ℕ) (r : Run) : Ty
   pub stands : slice_get units number ≡ Some part
   pub run : IsRun t r part
 
--- The parts of the program that have units, each once, in the order of these: `main` is the first, and what the code of one runs is further on.
+-- The parts of the program that have units, each once, in the order of these: `main` is the first, what the code of one runs is further on, and
+-- there are no others.
 pub record AreUnits (t : TreeValue) (units : List Part) : Type 0 where
+  pub order : List ℕ
+  pub is_order : IsOrder t order
+  pub are : map Some units ≡ map (slice_get (parts t)) order
   pub main : MethodValue
   pub named : main.name.text ≡ codes "main"
   pub first : slice_get units 0 ≡ Some (OfMethod main)

@@ -3,7 +3,7 @@ use Rattle.std.specs.Prelude.{◌≡◌, ℕ, nat_eq, List, [], ◌∷◌, ◌++
 use Rattle.std.specs.Map.{lookup}
 use Rattle.xk_names.specs.Scope.{Table, find}
 use Rattle.xk_calls.specs.Calls.{AreReached, IsRecursive}
-use Rattle.xk_calls.specs.Order.{IsInOrder, IsOnce}
+use Rattle.xk_calls.specs.Order.{AreLeast, IsInOrder, IsOnce}
 use Rattle.xk_tree.specs.declared.fault.FrontRule.TheVariants as rule
 use Rattle.xk_tree.specs.declared.fault.FrontFault.{FrontFault}
 use Rattle.xk_tree.specs.Tree.{TreeValue}
@@ -35,7 +35,8 @@ place_or_last ps r = unwrap_or (place_of ps r) (length ps)
 abbrev pub graph : List Part → List (List ℕ)
 graph ps = graph_by (place_or_last ps) ps
 
--- the places of the parts that have units, in the order of these
+-- The places of the parts that have units, in the order of these: `main`, and all that are run from it, each once and behind those that run it.
+-- Of those that may be next the first in the text is.
 pub record IsOrder (t : TreeValue) (order : List ℕ) : Type 0 where
   pub start : ℕ
   pub begins : place_of (parts t) opening ≡ Some start
@@ -43,6 +44,7 @@ pub record IsOrder (t : TreeValue) (order : List ℕ) : Type 0 where
   pub reached : AreReached (graph (parts t)) start order
   pub later : IsInOrder (graph (parts t)) order
   pub once : IsOnce order
+  pub least : AreLeast (graph (parts t)) start order
 
 -- a part is run again from what it runs, and the fault is F10
 pub record RunsItself (t : TreeValue) (f : FrontFault) : Type 0 where

@@ -2,7 +2,7 @@ use Rattle.std.proofs.Common.{◌≡◌, ◌∙◌, ℕ, List, Err, Result, Vec,
 use Rattle.std.proofs.lemmas.List.{length-map}
 use Rattle.std.specs.declared.alloc.Global.{Global}
 use Rattle.xk_calls.specs.Calls.{AreWithin, AreReached, IsRecursive, rows}
-use Rattle.xk_calls.specs.Order.{IsInOrder}
+use Rattle.xk_calls.specs.Order.{AreLeast, IsInOrder}
 use Rattle.xk_tree.specs.declared.fault.FrontFault.{FrontFault}
 use Rattle.xk_tree.specs.declared.fault.FrontError.{FrontError}
 use Rattle.xk_tree.specs.declared.fault.FrontError.TheVariants as error
@@ -44,6 +44,7 @@ returns-in-Ok-clause-order c =
       reached = subst (λ (r : List (List ℕ)). AreReached r c.method.result c.in-Ok.order.items) made (rw c.in-Ok.is at c.in_ok-order.ensures.reached);
       later = subst (λ (r : List (List ℕ)). IsInOrder r c.in-Ok.order.items) made (rw c.in-Ok.is at c.in_ok-order.ensures.later);
       once = rw c.in-Ok.is at c.in_ok-order.ensures.once;
+      least = subst (λ (r : List (List ℕ)). AreLeast r c.method.result c.in-Ok.order.items) made (rw c.in-Ok.is at c.in_ok-order.ensures.least);
     }
 
 fault_of : (f g : FrontFault) → ◌≡◌ {A = Result (Vec ℕ Global) FrontError} (Err (error.Fault f)) (Err (error.Fault g)) → f ≡ g
