@@ -35,7 +35,7 @@ use Rattle.xk_types.specs.declared.names.Event.TheVariants as event
 use Rattle.xk_types.specs.declared.unit.ParamKind.{ParamKind}
 use Rattle.xk_types.specs.declared.unit.ParamKind.TheVariants as param
 use Rattle.xk_types.specs.Code.{UnitValue, ModuleValue, is_method, is_body, compares}
-use Rattle.xk_types.specs.World.{Frame, Finish, Activity, Clock, World, is_ended, standing_of, frame_with, instruction_at}
+use Rattle.xk_types.specs.World.{Frame, Finish, ActivityOf, Activity, Clock, WorldOf, World, is_ended, standing_of, frame_with, instruction_at}
 
 -- Why a step is wrong: a clock operation by an activity that isn't registered on the clock; an unset slot is read; a
 -- number is wanted and a clock stands there, or the reverse; there is no such instruction, unit, slot, clock or shared
@@ -48,10 +48,14 @@ pub data Cause : Type 0 where
   OutOfRange : Cause
 
 -- what a step comes to
-pub data Outcome : Type 0 where
-  Blocked : Outcome
-  Wrong : Cause → Outcome
-  Stepped : World → Event → Outcome
+pub data OutcomeOf (F : Type 0) : Type 0 where
+  Blocked : OutcomeOf F
+  Wrong : Cause → OutcomeOf F
+  Stepped : WorldOf F → Event → OutcomeOf F
+
+-- what a step of a module comes to
+abbrev pub Outcome : Type 0
+Outcome = OutcomeOf Frame
 
 -- ---- standings
 
@@ -105,7 +109,7 @@ abbrev pub settled_clock : ℕ → Clock → Clock
 settled_clock now c = if is_ready c then record { phase = c.phase + 1; last = now; standings = map advanced c.standings } else c
 
 -- the world at the end of a step, which is counted
-abbrev pub settled : World → World
+abbrev pub settled : {F : Type 0} → WorldOf F → WorldOf F
 settled w = record w { clocks = map (settled_clock (w.steps + 1)) w.clocks; steps = w.steps + 1 }
 
 -- ---- a step that changes one activity, and where it stands on clocks
@@ -132,7 +136,7 @@ abbrev pub all : (Standing → Standing) → ℕ → Standing → Standing
 all change k s = change s
 
 -- activity a becomes act, its standings change, and the step ends
-abbrev pub done : World → ℕ → Activity → (ℕ → Standing → Standing) → Event → Outcome
+abbrev pub done : {F : Type 0} → WorldOf F → ℕ → ActivityOf F → (ℕ → Standing → Standing) → Event → OutcomeOf F
 done w a act change e =
     Stepped (settled (record w { activities = slice_set w.activities a act; clocks = moved a change w.clocks })) e
 
@@ -141,7 +145,7 @@ abbrev pub new_clock : ℕ → ℕ → Clock
 new_clock n a = record { phase = 0; last = 0; standings = slice_set (replicate n standing.Apart) a standing.Open }
 
 -- activity a becomes act and has made a clock, and the step ends
-abbrev pub made : World → ℕ → Activity → Outcome
+abbrev pub made : {F : Type 0} → WorldOf F → ℕ → ActivityOf F → OutcomeOf F
 made w a act =
     Stepped (settled (record w {
       activities = slice_set w.activities a act;
@@ -151,11 +155,11 @@ made w a act =
 -- ---- starting an activity
 
 -- the finish that activity a opened last
-abbrev pub innermost : ℕ → Activity → Finish
+abbrev pub innermost : {F : Type 0} → ℕ → ActivityOf F → Finish
 innermost a act = record { owner = Some a; depth = act.opened }
 
 -- the finish that governs what activity a starts: the innermost that it has open, else the one that governs it
-abbrev pub governing : ℕ → Activity → Finish
+abbrev pub governing : {F : Type 0} → ℕ → ActivityOf F → Finish
 governing a act = if act.opened == 0 then act.governed else innermost a act
 
 -- what activity a starts with these values: it begins with the `since` of its starter
@@ -203,11 +207,11 @@ abbrev pub with_slots : Activity → List Value → Activity
 with_slots act slots = record act { frame = record act.frame { slots = slots } }
 
 -- at the first half of an `advance`
-abbrev pub arrived : Activity → Activity
+abbrev pub arrived : {F : Type 0} → ActivityOf F → ActivityOf F
 arrived act = record act { status = status.Arrived }
 
 -- over; its frames stay as they are
-abbrev pub ended : Activity → Activity
+abbrev pub ended : {F : Type 0} → ActivityOf F → ActivityOf F
 ended act = record act { status = status.Ended }
 
 -- past an `advance`, in the step of this number
@@ -221,7 +225,7 @@ abbrev pub slot_at : Activity → ℕ → Option Value
 slot_at act s = slice_get act.frame.slots s
 
 -- a slot that has to hold a number
-abbrev pub number_in : Option Value → (ℤ → Outcome) → Outcome
+abbrev pub number_in : {F : Type 0} → Option Value → (ℤ → OutcomeOf F) → OutcomeOf F
 number_in None go = Wrong OutOfRange
 number_in (Some value.Unset) go = Wrong Missing
 number_in (Some (value.Number n)) go = go n
@@ -235,12 +239,12 @@ is_registered standing.Signalled = true
 is_registered standing.Ahead = true
 
 -- a clock on which the activity has to be registered
-abbrev pub registered_on : Option Clock → ℕ → Outcome → Outcome
+abbrev pub registered_on : {F : Type 0} → Option Clock → ℕ → OutcomeOf F → OutcomeOf F
 registered_on None a go = Wrong OutOfRange
 registered_on (Some c) a go = if is_registered (standing_of c a) then go else Wrong ClockUse
 
 -- a slot that has to name a clock on which the activity is registered
-abbrev pub clock_in : World → ℕ → Option Value → (ℕ → Outcome) → Outcome
+abbrev pub clock_in : {F : Type 0} → WorldOf F → ℕ → Option Value → (ℕ → OutcomeOf F) → OutcomeOf F
 clock_in w a None go = Wrong OutOfRange
 clock_in w a (Some value.Unset) go = Wrong Missing
 clock_in w a (Some (value.Number n)) go = Wrong WrongKind
@@ -315,22 +319,22 @@ same_finish f g = same_owner f.owner g.owner && (f.depth == g.depth)
 
 -- Activity b is under the finish: the finish governs it, or what governs it has an owner that is under the finish. No more
 -- activities are looked at than this, b among them.
-unfoldable pub under_within : List Activity → Finish → ℕ → ℕ → Bool
+unfoldable pub under_within : {F : Type 0} → List (ActivityOf F) → Finish → ℕ → ℕ → Bool
 under_within acts f zero b = false
 under_within acts f (suc n) b =
     option_map_or (λ act. same_finish act.governed f || option_map_or (under_within acts f n) act.governed.owner false) (slice_get acts b) false
 
 -- The owner of a finish has a smaller number than those whom it governs, so that looking at as many as there are is enough.
-abbrev pub is_under : List Activity → Finish → ℕ → Bool
+abbrev pub is_under : {F : Type 0} → List (ActivityOf F) → Finish → ℕ → Bool
 is_under acts f b = under_within acts f (length acts) b
 
 -- one of these activities, the first of them number b, is under the finish and hasn't ended
-abbrev pub awaits_from : List Activity → Finish → ℕ → List Activity → Bool
+abbrev pub awaits_from : {F : Type 0} → List (ActivityOf F) → Finish → ℕ → List (ActivityOf F) → Bool
 awaits_from acts f b [] = false
 awaits_from acts f b (x ∷ xs) = (is_under acts f b && not (is_ended x.status)) || awaits_from acts f (suc b) xs
 
 -- an activity under the finish hasn't ended
-abbrev pub awaits : List Activity → Finish → Bool
+abbrev pub awaits : {F : Type 0} → List (ActivityOf F) → Finish → Bool
 awaits acts f = awaits_from acts f 0 acts
 
 -- a `finish`: one more is open
@@ -373,7 +377,7 @@ turning w a act b _ = Wrong OutOfRange
 -- ---- shared numbers
 
 -- a shared number that has to be there
-abbrev pub cell_in : Option ℤ → (ℤ → Outcome) → Outcome
+abbrev pub cell_in : {F : Type 0} → Option ℤ → (ℤ → OutcomeOf F) → OutcomeOf F
 cell_in None go = Wrong OutOfRange
 cell_in (Some n) go = go n
 
@@ -415,7 +419,7 @@ run_at m w a act None = Wrong OutOfRange
 run_at m w a act (Some i) = carried_out m w a act i
 
 -- an activity waits at an `advance` as long as it is signalled on a clock
-abbrev pub waits : World → ℕ → Bool
+abbrev pub waits : {F : Type 0} → WorldOf F → ℕ → Bool
 waits w a = list_any (λ c. is_signalled (standing_of c a)) w.clocks
 
 -- the second half of an `advance`

@@ -26,16 +26,21 @@ pub record Finish : Type 0 where
   pub owner : Option ℕ
   pub depth : ℕ
 
--- An activity: its present frame, the frames that wait for it to return, its status, the number of the step of its last pass
--- (until then, what its starter's was at the start), how many finishes it has open, and the finish that governs it. Whether a step is
--- possible, and what else it changes, depends neither on when an activity passed nor on when a clock advanced.
-pub record Activity : Type 0 where
-  pub frame : Frame
-  pub callers : List Frame
+-- An activity, where an F is a unit or a call in progress: the present one, those that wait for it to return, its status, the number
+-- of the step of its last pass (until then, what its starter's was at the start), how many finishes it has open, and the finish that
+-- governs it. Whether a step is possible, and what else it changes, depends neither on when an activity passed nor on when a clock
+-- advanced.
+pub record ActivityOf (F : Type 0) : Type 0 where
+  pub frame : F
+  pub callers : List F
   pub status : Status
   pub since : ℕ
   pub opened : ℕ
   pub governed : Finish
+
+-- an activity of a module
+abbrev pub Activity : Type 0
+Activity = ActivityOf Frame
 
 -- the activity is over
 abbrev pub is_ended : Status → Bool
@@ -50,11 +55,15 @@ pub record Clock : Type 0 where
   pub standings : List Standing
 
 -- all there is: activities, clocks, shared numbers, the number of steps taken
-pub record World : Type 0 where
-  pub activities : List Activity
+pub record WorldOf (F : Type 0) : Type 0 where
+  pub activities : List (ActivityOf F)
   pub clocks : List Clock
   pub cells : List ℤ
   pub steps : ℕ
+
+-- the world of a module
+abbrev pub World : Type 0
+World = WorldOf Frame
 
 -- the unit of the lowest of an activity's frames, the first of which is its present one
 abbrev pub base_of : Frame → List Frame → ℕ

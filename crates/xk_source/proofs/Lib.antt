@@ -1,0 +1,10 @@
+pub mod Exec
+pub mod Pairs
+pub mod Worlds
+pub mod Runs
+pub mod Relation
+pub mod Begins
+pub mod Steps
+pub mod Law
+pub mod Compiled
+pub mod Rows

@@ -1,0 +1,237 @@
+-- Small programs, and what their runs show, by evaluation. Where a module stands beside a program, its run has the same moments.
+use Rattle.std.proofs.Common.{◌≡◌, ℕ, ℤ, true, false, pos, List, [], ◌∷◌, codes, Option, Some, None, map, refl}
+use Rattle.xk_types.specs.declared.instr.Comparison.TheVariants as comparison
+use Rattle.xk_types.specs.declared.instr.Instr.TheVariants as instr
+use Rattle.xk_types.specs.declared.unit.UnitKind.TheVariants as unit_kind
+use Rattle.xk_types.specs.declared.unit.ParamKind.TheVariants as param
+use Rattle.xk_types.specs.declared.names.Event.{Event}
+use Rattle.xk_types.specs.declared.names.Event.TheVariants as event
+use Rattle.xk_types.specs.declared.names.Standing.TheVariants as standing
+use Rattle.xk_types.specs.Code.{ModuleValue, module_of}
+use Rattle.xk_types.specs.World.{opening}
+use Rattle.xk_types.specs.Step.{Blocked, Wrong, Stepped, ClockUse, step, under_within}
+use Rattle.xk_tree.specs.declared.tree.Binding.TheVariants as binding
+use Rattle.xk_tree.specs.declared.tree.Operator.TheVariants as operator
+use Rattle.xk_tree.specs.declared.tree.Number.{Number}
+use Rattle.xk_tree.specs.declared.tree.Verb.{Verb}
+use Rattle.xk_tree.specs.Tree.{Word, Clocks, Expression, Literal, Named, Paren, Negation, Binary, Make, Value, Statement, Statements, Done, More, Block, Empty, Declare, Assign, Atomic, If, IfElse, For, Async, Finish, Call, Resume, Drop, AdvanceAll, Print, ParamValue, MethodValue, SharedValue, TreeValue}
+use Rattle.xk_source.specs.Source.{SourceWorld, SourceOutcome, source_step, source_opening}
+use Rattle.xk_source.specs.Meaning.{Moment, moments, have_ended}
+
+-- ---- trees, where offsets don't matter
+
+abbrev w : List ℕ → Word
+w text = record { at = 0; text = text }
+
+abbrev number : ℤ → Number
+number n = record { minus = None; at = 0; value = n }
+
+abbrev verb : Verb
+verb = record { at = 0; paren = 0 }
+
+abbrev lit : ℕ → Expression
+lit n = Literal (number (pos n))
+
+abbrev var : List ℕ → Expression
+var x = Named (w x)
+
+abbrev plus : Expression → Expression → Expression
+plus l r = Binary operator.Plus l 0 r
+
+abbrev times : Expression → Expression → Expression
+times l r = Binary operator.Times l 0 r
+
+abbrev val_is : List ℕ → Expression → Statement
+val_is x e = Declare binding.Val (w x) None (Value e)
+
+abbrev var_is : List ℕ → Expression → Statement
+var_is x e = Declare binding.Var (w x) None (Value e)
+
+abbrev val_makes : List ℕ → Statement
+val_makes c = Declare binding.Val (w c) None (Make 0 verb)
+
+abbrev print : Expression → Statement
+print e = Print 0 verb e
+
+abbrev advance : Statement
+advance = AdvanceAll 0 verb
+
+abbrev clocked : List ℕ → Option Clocks
+clocked c = Some (record { paren = 0; names = w c ∷ [] })
+
+abbrev row_of : List Statement → Statements
+row_of [] = Done
+row_of (s ∷ ss) = More s (row_of ss)
+
+abbrev block : List Statement → Statement
+block ss = Block (row_of ss)
+
+abbrev method : List ℕ → List ParamValue → List Statement → MethodValue
+method f ps ss = record { name = w f; paren = 0; params = ps; body = row_of ss }
+
+abbrev shared : List ℕ → ℕ → SharedValue
+shared s n = record { name = w s; start = number (pos n) }
+
+abbrev program : List SharedValue → List MethodValue → TreeValue
+program ss ms = record { shared = ss; methods = ms }
+
+abbrev main : List Statement → MethodValue
+main ss = method (codes "main") [] ss
+
+abbrev run_of : TreeValue → List ℕ → List Moment
+run_of t list = moments (source_step t) list (source_opening t)
+
+abbrev events_of : List Moment → List Event
+events_of ms = map (λ x. x.event) ms
+
+-- the world that a list of activity numbers leads to, or the one before a step that isn't taken
+abbrev on_from : SourceWorld → SourceOutcome → (SourceWorld → SourceWorld) → SourceWorld
+on_from v Blocked go = v
+on_from v (Wrong c) go = v
+on_from v (Stepped next e) go = go next
+
+abbrev world_after : TreeValue → List ℕ → SourceWorld → SourceWorld
+world_after t [] v = v
+world_after t (a ∷ list) v = on_from v (source_step t v a) (world_after t list)
+
+abbrev after : TreeValue → List ℕ → SourceWorld
+after t list = world_after t list (source_opening t)
+
+-- ---- one activity
+
+-- `var x = 2; ; if (x < 3) { x = x * 2 + 1; println(x + (1)); } else println(0); for (i in 1..2) println(i); for (j in 2..1) println(j);`
+abbrev alone : TreeValue
+alone = program [] (main (
+    var_is (codes "x") (lit 2)
+    ∷ Empty
+    ∷ IfElse 0 (var (codes "x")) comparison.Lt (lit 3)
+    (block (Assign (w (codes "x")) (plus (times (var (codes "x")) (lit 2)) (lit 1)) ∷ print (plus (var (codes "x")) (Paren 0 (lit 1))) ∷ []))
+    (print (lit 0))
+    ∷ For 0 (w (codes "i")) (number (pos 1)) (number (pos 2)) (print (var (codes "i")))
+    ∷ For 0 (w (codes "j")) (number (pos 2)) (number (pos 1)) (print (var (codes "j")))
+    ∷ []) ∷ [])
+
+-- declaration, branch, assignment, print, the loop's beginning, a turn and its end twice, the end of main
+alone_run : events_of (run_of alone (0 ∷ 0 ∷ 0 ∷ 0 ∷ 0 ∷ 0 ∷ 0 ∷ 0 ∷ 0 ∷ 0 ∷ []))
+    ≡ event.Printed (pos 6) ∷ event.Printed (pos 1) ∷ event.Printed (pos 2) ∷ event.Ended ∷ []
+alone_run = refl
+
+-- ---- two activities on a clock
+
+-- `val c = Clock.make(); async clocked (c) { Clock.advanceAll(); println(2); } Clock.advanceAll(); println(1);`
+abbrev together : TreeValue
+together = program [] (main (
+    val_makes (codes "c")
+    ∷ Async 0 (clocked (codes "c")) (block (advance ∷ print (lit 2) ∷ []))
+    ∷ advance
+    ∷ print (lit 1)
+    ∷ []) ∷ [])
+
+abbrev together_code : ModuleValue
+together_code = module_of [] (
+    record {
+      kind = unit_kind.Main;
+      params = [];
+      slots = 2;
+      code = instr.Make 0 ∷ instr.Spawn 1 (0 ∷ []) ∷ instr.Advance ∷ instr.Lit 1 (pos 1) ∷ instr.Print 1 ∷ instr.Ret ∷ [];
+    }
+    ∷ record {
+      kind = unit_kind.Body;
+      params = param.Clock ∷ [];
+      slots = 2;
+      code = instr.Advance ∷ instr.Lit 1 (pos 2) ∷ instr.Print 1 ∷ instr.Ret ∷ [];
+    }
+    ∷ [])
+
+together_run : run_of together (0 ∷ 0 ∷ 1 ∷ 0 ∷ 0 ∷ 0 ∷ 1 ∷ 0 ∷ 1 ∷ 1 ∷ [])
+    ≡ record { activity = 0; event = event.Made; after = record { clocks = record { phase = 0; standings = standing.Open ∷ [] } ∷ []; cells = [] } }
+    ∷ record { activity = 0; event = event.Spawned; after = record { clocks = record { phase = 0; standings = standing.Open ∷ standing.Open ∷ [] } ∷ []; cells = [] } }
+    ∷ record { activity = 1; event = event.Arrived; after = record { clocks = record { phase = 0; standings = standing.Open ∷ standing.Signalled ∷ [] } ∷ []; cells = [] } }
+    ∷ record { activity = 0; event = event.Arrived; after = record { clocks = record { phase = 1; standings = standing.Ahead ∷ standing.Ahead ∷ [] } ∷ []; cells = [] } }
+    ∷ record { activity = 0; event = event.Passed; after = record { clocks = record { phase = 1; standings = standing.Open ∷ standing.Ahead ∷ [] } ∷ []; cells = [] } }
+    ∷ record { activity = 0; event = event.Printed (pos 1); after = record { clocks = record { phase = 1; standings = standing.Open ∷ standing.Ahead ∷ [] } ∷ []; cells = [] } }
+    ∷ record { activity = 1; event = event.Passed; after = record { clocks = record { phase = 1; standings = standing.Open ∷ standing.Open ∷ [] } ∷ []; cells = [] } }
+    ∷ record { activity = 0; event = event.Ended; after = record { clocks = record { phase = 1; standings = standing.Apart ∷ standing.Open ∷ [] } ∷ []; cells = [] } }
+    ∷ record { activity = 1; event = event.Printed (pos 2); after = record { clocks = record { phase = 1; standings = standing.Apart ∷ standing.Open ∷ [] } ∷ []; cells = [] } }
+    ∷ record { activity = 1; event = event.Ended; after = record { clocks = record { phase = 1; standings = standing.Apart ∷ standing.Apart ∷ [] } ∷ []; cells = [] } }
+    ∷ []
+together_run = refl
+
+-- the module's run; it has a step more for each number that is printed
+together_same : moments (step together_code) (0 ∷ 0 ∷ 1 ∷ 0 ∷ 0 ∷ 0 ∷ 0 ∷ 1 ∷ 0 ∷ 1 ∷ 1 ∷ 1 ∷ []) (opening together_code)
+    ≡ run_of together (0 ∷ 0 ∷ 1 ∷ 0 ∷ 0 ∷ 0 ∷ 1 ∷ 0 ∷ 1 ∷ 1 ∷ [])
+together_same = refl
+
+-- the one that has arrived waits for the other
+together_waits : source_step together (after together (0 ∷ 0 ∷ 1 ∷ [])) 1 ≡ Blocked
+together_waits = refl
+
+-- ---- a shared number
+
+-- `finish { async s = 5; } val x = s; atomic s = s + x; println(x);`, behind `shared r = 7; shared s = 0;`
+abbrev sharing : TreeValue
+sharing = program (shared (codes "r") 7 ∷ shared (codes "s") 0 ∷ []) (main (
+    Finish (block (Async 0 None (Assign (w (codes "s")) (lit 5)) ∷ []))
+    ∷ val_is (codes "x") (var (codes "s"))
+    ∷ Atomic (w (codes "s")) (w (codes "s")) 0 (var (codes "x"))
+    ∷ print (var (codes "x"))
+    ∷ []) ∷ [])
+
+abbrev sharing_code : ModuleValue
+sharing_code = module_of (pos 7 ∷ pos 0 ∷ []) (
+    record {
+      kind = unit_kind.Main;
+      params = [];
+      slots = 1;
+      code = instr.Finish 2 ∷ instr.Spawn 1 [] ∷ instr.EndFinish 0 ∷ instr.Get 0 1 ∷ instr.AddTo 1 0 ∷ instr.Print 0 ∷ instr.Ret ∷ [];
+    }
+    ∷ record { kind = unit_kind.Body; params = []; slots = 1; code = instr.Lit 0 (pos 5) ∷ instr.Put 1 0 ∷ instr.Ret ∷ [] }
+    ∷ [])
+
+sharing_run : run_of sharing (0 ∷ 0 ∷ 1 ∷ 1 ∷ 0 ∷ 0 ∷ 0 ∷ 0 ∷ 0 ∷ [])
+    ≡ record { activity = 0; event = event.Opened; after = record { clocks = []; cells = pos 7 ∷ pos 0 ∷ [] } }
+    ∷ record { activity = 0; event = event.Spawned; after = record { clocks = []; cells = pos 7 ∷ pos 0 ∷ [] } }
+    ∷ record { activity = 1; event = event.Put; after = record { clocks = []; cells = pos 7 ∷ pos 5 ∷ [] } }
+    ∷ record { activity = 1; event = event.Ended; after = record { clocks = []; cells = pos 7 ∷ pos 5 ∷ [] } }
+    ∷ record { activity = 0; event = event.Closed; after = record { clocks = []; cells = pos 7 ∷ pos 5 ∷ [] } }
+    ∷ record { activity = 0; event = event.Got; after = record { clocks = []; cells = pos 7 ∷ pos 5 ∷ [] } }
+    ∷ record { activity = 0; event = event.Added; after = record { clocks = []; cells = pos 7 ∷ pos 10 ∷ [] } }
+    ∷ record { activity = 0; event = event.Printed (pos 5); after = record { clocks = []; cells = pos 7 ∷ pos 10 ∷ [] } }
+    ∷ record { activity = 0; event = event.Ended; after = record { clocks = []; cells = pos 7 ∷ pos 10 ∷ [] } }
+    ∷ []
+unfolding under_within
+sharing_run = refl
+
+sharing_same : moments (step sharing_code) (0 ∷ 0 ∷ 1 ∷ 1 ∷ 1 ∷ 0 ∷ 0 ∷ 0 ∷ 0 ∷ 0 ∷ []) (opening sharing_code)
+    ≡ run_of sharing (0 ∷ 0 ∷ 1 ∷ 1 ∷ 0 ∷ 0 ∷ 0 ∷ 0 ∷ 0 ∷ [])
+unfolding under_within
+sharing_same = refl
+
+-- the finish waits for what was started in it
+sharing_waits : source_step sharing (after sharing (0 ∷ 0 ∷ 1 ∷ [])) 0 ≡ Blocked
+unfolding under_within
+sharing_waits = refl
+
+-- ---- a call, and a clock that was let go
+
+-- `def twice(k: Clock, n: Long) { k.drop(); println(n + n); }`, and in main `val c = Clock.make(); twice(c, 4); c.resume();`
+abbrev letting_go : TreeValue
+letting_go = program [] (
+    method (codes "twice")
+    (record { name = w (codes "k"); takes = record { at = 0; kind = param.Clock } } ∷ record { name = w (codes "n"); takes = record { at = 0; kind = param.Number } } ∷ [])
+    (Drop (w (codes "k")) verb ∷ print (plus (var (codes "n")) (var (codes "n"))) ∷ [])
+    ∷ main (val_makes (codes "c") ∷ Call (w (codes "twice")) 0 (var (codes "c") ∷ lit 4 ∷ []) ∷ Resume (w (codes "c")) verb ∷ [])
+    ∷ [])
+
+letting_go_run : events_of (run_of letting_go (0 ∷ 0 ∷ 0 ∷ 0 ∷ 0 ∷ [])) ≡ event.Made ∷ event.Dropped ∷ event.Printed (pos 8) ∷ []
+letting_go_run = refl
+
+letting_go_wrong : source_step letting_go (after letting_go (0 ∷ 0 ∷ 0 ∷ 0 ∷ 0 ∷ [])) 0 ≡ Wrong ClockUse
+letting_go_wrong = refl
+
+-- nobody has ended yet; of `alone` everybody has
+letting_go_stands : have_ended (after letting_go (0 ∷ 0 ∷ 0 ∷ 0 ∷ 0 ∷ [])) ≡ false
+letting_go_stands = refl
+
+alone_ends : have_ended (after alone (0 ∷ 0 ∷ 0 ∷ 0 ∷ 0 ∷ 0 ∷ 0 ∷ 0 ∷ 0 ∷ 0 ∷ [])) ≡ true
+alone_ends = refl
