@@ -13,12 +13,13 @@ use Rattle.xk_names.specs.Scoped.{IsScoped}
 use Rattle.xk_units.specs.Recursion.{number_among, HasCall, CallsBy, LeadTo, IsReached, ComesBack, HasRecursion}
 use Rattle.xk_units.specs.Callees.{callees_all}
 use Rattle.xk_units.proofs.Listed.{has_at, stands_among}
-use Rattle.xk_codegen.specs.Parts.{Part, OfMethod, OfBody, Run, Calls, Starts, bodies_all, method_parts, parts, part_runs, place_of, method_among}
-use Rattle.xk_codegen.specs.Graph.{graph}
-use Rattle.xk_codegen.proofs.Among.{Fits, fits_there}
-use Rattle.xk_codegen.proofs.Nested.{has_place}
+use Rattle.xk_source.specs.Parts.{Part, OfMethod, OfBody, Run, Calls, Starts, bodies_all, method_parts, parts, part_runs, place_of, method_among}
+use Rattle.xk_source.specs.Graph.{graph}
+use Rattle.xk_source.proofs.Units.Among.{Fits, fits_there}
+use Rattle.xk_source.proofs.Units.Nested.{has_place}
 use Rattle.xk_codegen.proofs.Ordered.{is_run_at, known_place}
-use Rattle.xk_codegen.proofs.Apart.{is_rising, rising_in, same_method, IsInside, body_inside, part_held, depth, part_deeper}
+use Rattle.xk_source.proofs.Units.Rising.{is_rising}
+use Rattle.xk_codegen.proofs.Inside.{rising_in, same_method, IsInside, body_inside, part_held, depth, part_deeper}
 
 -- ---- the method that a part stands in
 

@@ -18,14 +18,15 @@ use Rattle.xk_units.specs.Recursion.{HasRecursion}
 use Rattle.xk_types.specs.Code.{IsUnitWithinLimits}
 use Rattle.xk_code.specs.CodeOf.{Setting}
 use Rattle.xk_codegen.specs.declared.parts.Part as declared
-use Rattle.xk_codegen.specs.Parts.{Part, OfMethod, OfBody}
+use Rattle.xk_source.specs.Parts.{Part, OfMethod, OfBody}
 use Rattle.xk_codegen.specs.Named.{IsPartCovered}
 use Rattle.xk_codegen.specs.Views.{part}
-use Rattle.xk_codegen.specs.Graph.{RunsItself}
-use Rattle.xk_codegen.specs.Compiled.{AreUnits, HasTableFault, ManyShared, ManyUnits, LargeUnit, IsSetting, offset, unit_of_part}
+use Rattle.xk_codegen.specs.Places.{RunsItself}
+use Rattle.xk_source.specs.Compiled.{AreUnits, IsSetting, unit_of_part}
+use Rattle.xk_codegen.specs.Faults.{HasTableFault, ManyShared, ManyUnits, LargeUnit, offset}
 use Rattle.xk_codegen.proofs.Again.{never_again}
-use Rattle.xk_codegen.proofs.Keeps.Settled.{AreSettled}
-use Rattle.xk_codegen.proofs.Keeps.Covered.{entry_there, method_there, body_there}
+use Rattle.xk_source.proofs.Units.Settled.{AreSettled}
+use Rattle.xk_source.proofs.Units.Covered.{entry_there, method_there, body_there}
 
 pub fault_of : {A : Type 0} (f g : FrontFault) → ◌≡◌ {A = Result A FrontError} (Err (error.Fault f)) (Err (error.Fault g)) → f ≡ g
 fault_of f g e = cc

@@ -7,14 +7,14 @@ use Rattle.xk_names.specs.Scope.{Table, find, is_text}
 use Rattle.xk_names.specs.Collected.{put}
 use Rattle.xk_units.specs.Callees.{first_of}
 use Rattle.xk_units.proofs.Collecting.{put_number}
-use Rattle.xk_codegen.specs.Compiled.{shared_among}
+use Rattle.xk_source.specs.Compiled.{shared_among}
 use Rattle.std.specs.declared.alloc.Global.{Global}
 use Rattle.std.specs.Prelude.{Option, Some, None}
 use Rattle.xk_code.specs.CodeOf.{Body}
 use Rattle.xk_calls.specs.Calls.{rows}
 use Rattle.xk_codegen.specs.declared.parts.Part.{Part}
 use Rattle.xk_codegen.specs.Views.{part}
-use Rattle.xk_codegen.specs.Parts.{Part as Value}
+use Rattle.xk_source.specs.Parts.{Part as Value}
 
 pub part_push : (ps : List Part) (p : Part) → map part (ps ++ p ∷ []) ≡ map part ps ++ part p ∷ []
 part_push [] p = refl

@@ -9,11 +9,11 @@ use Rattle.xk_names.specs.Scoped.{IsScoped}
 use Rattle.xk_units.proofs.Collecting.{same_text}
 use Rattle.xk_units.proofs.Listed.{has_at, place_of as place_among}
 use Rattle.xk_units.proofs.Graph.{mapped_at, at_mapped, row_of, of_row}
-use Rattle.xk_codegen.specs.Parts.{Part, OfMethod, OfBody, Run, opening, parts, part_runs, place_of}
-use Rattle.xk_codegen.specs.Graph.{graph, graph_by, place_or_last, IsOrder}
-use Rattle.xk_codegen.specs.Compiled.{AreUnits, HasLater}
-use Rattle.xk_codegen.proofs.Among.{Fits, FitsAt, found, fits_there, same_place}
-use Rattle.xk_codegen.proofs.Nested.{has_place}
+use Rattle.xk_source.specs.Parts.{Part, OfMethod, OfBody, Run, opening, parts, part_runs, place_of}
+use Rattle.xk_source.specs.Graph.{graph, graph_by, place_or_last, IsOrder}
+use Rattle.xk_source.specs.Compiled.{AreUnits, HasLater}
+use Rattle.xk_source.proofs.Units.Among.{Fits, FitsAt, found, fits_there, same_place}
+use Rattle.xk_source.proofs.Units.Nested.{has_place}
 
 -- ---- calls in the graph
 

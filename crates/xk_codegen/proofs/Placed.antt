@@ -7,11 +7,12 @@ use Rattle.xk_tree.specs.Tree.{TreeValue}
 use Rattle.xk_names.specs.Scope.{find}
 use Rattle.xk_names.specs.Scoped.{IsScoped}
 use Rattle.xk_codegen.specs.declared.parts.Part as declared
-use Rattle.xk_codegen.specs.Parts.{Part, Run, Calls, Starts, opening, parts, part_runs, place_of}
+use Rattle.xk_source.specs.Parts.{Part, Run, Calls, Starts, opening, parts, part_runs, place_of}
 use Rattle.xk_codegen.specs.Views.{part}
-use Rattle.xk_codegen.specs.Graph.{Places, ArePlaces, place_in, place_or_last, graph, graph_by, IsOrder}
-use Rattle.xk_codegen.proofs.Among.{fits_there}
-use Rattle.xk_codegen.proofs.Nested.{main_place}
+use Rattle.xk_codegen.specs.Places.{Places, ArePlaces, place_in}
+use Rattle.xk_source.specs.Graph.{place_or_last, graph, graph_by, IsOrder}
+use Rattle.xk_source.proofs.Units.Among.{fits_there}
+use Rattle.xk_source.proofs.Units.Nested.{main_place}
 use Rattle.xk_codegen.proofs.Ordered.{graph_length, is_first, is_there}
 
 same_place : (ps : List Part) (q : Places) → ArePlaces ps q → (r : Run) → place_in q r ≡ place_or_last ps r

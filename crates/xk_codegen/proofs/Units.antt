@@ -5,7 +5,7 @@ use Rattle.std.proofs.Math.ListN.{drop_of_length-le}
 use Rattle.xk_types.specs.Code.{UnitValue, IsUnitWithinLimits}
 use Rattle.xk_code.specs.CodeOf.{Setting}
 use Rattle.xk_codegen.specs.declared.parts.Part as declared
-use Rattle.xk_codegen.specs.Compiled.{unit_of_part}
+use Rattle.xk_source.specs.Compiled.{unit_of_part}
 use Rattle.xk_codegen.specs.Views.{part}
 use Rattle.xk_codegen.proofs.Lists.{parts_left}
 

@@ -14,7 +14,7 @@ use Rattle.xk_code.specs.CodeOf.{Scope, count, declared, code_of}
 use Rattle.xk_code.specs.Unit.{scope_from, first_temporary, unit_code, unit_of_method, names_of_params}
 use Rattle.xk_code.specs.Covered.{IsFound, AreNew, IsUnitCovered}
 use Rattle.xk_code.proofs.Covered.Tables.{same_text, is_same, still_found, now_found}
-use Rattle.xk_codegen.specs.Parts.{OfMethod}
+use Rattle.xk_source.specs.Parts.{OfMethod}
 use Rattle.xk_source.specs.Source.{Todo, Names, unfolded, shared_from, method_of}
 use Rattle.xk_source.proofs.Exec.{IsMatched}
 use Rattle.xk_source.proofs.Relation.{holds_front, holds_back, holds_all, IsProper, Whole, IsLinked, AreLinked, Rest, Stands, rest_here, rest_unfolded}

@@ -14,13 +14,13 @@ use Rattle.xk_units.proofs.Graph.{at_mapped}
 use Rattle.xk_code.specs.CodeOf.{Setting, Body, number_of, body_unit}
 use Rattle.xk_code.specs.Unit.{names_of_params}
 use Rattle.xk_code.proofs.Covered.Tables.{is_same}
-use Rattle.xk_codegen.specs.Parts.{Part, OfMethod, OfBody, Run, Calls, Starts, bodies, bodies_all, parts, runs, runs_all, place_of}
-use Rattle.xk_codegen.specs.Compiled.{HasLater, IsCompiled, method_kind, shared_among, unit_of_part, unit_number}
-use Rattle.xk_codegen.proofs.Among.{Fits, fits_there}
-use Rattle.xk_codegen.proofs.Keeps.Apart.{one_method, signed}
-use Rattle.xk_codegen.proofs.Keeps.Stands.{part_of}
-use Rattle.xk_codegen.proofs.Keeps.Settled.{AreSettled, AreParts, body_unit_of}
-use Rattle.xk_codegen.proofs.Keeps.Covered.{unit_parts, method_there, body_there}
+use Rattle.xk_source.specs.Parts.{Part, OfMethod, OfBody, Run, Calls, Starts, bodies, bodies_all, parts, runs, runs_all, place_of}
+use Rattle.xk_source.specs.Compiled.{HasLater, IsCompiled, method_kind, shared_among, unit_of_part, unit_number}
+use Rattle.xk_source.proofs.Units.Among.{Fits, fits_there}
+use Rattle.xk_source.proofs.Units.Apart.{one_method, signed}
+use Rattle.xk_source.proofs.Units.Stands.{part_of}
+use Rattle.xk_source.proofs.Units.Settled.{AreSettled, AreParts, body_unit_of}
+use Rattle.xk_source.proofs.Units.Covered.{unit_parts, method_there, body_there}
 use Rattle.xk_source.specs.Source.{shared_from, method_of}
 use Rattle.xk_source.specs.Meaning.{Means}
 use Rattle.xk_source.proofs.Relation.{Whole, IsLinked, AreLinked}

@@ -16,7 +16,7 @@ use Rattle.xk_code.specs.Unit.{unit_of_body}
 use Rattle.xk_code.specs.Covered.{IsNew, IsCovered, AreCovered, IsUnitCovered}
 use Rattle.xk_code.proofs.Covered.Tables.{same_text, is_same, none_new, found_behind}
 use Rattle.xk_names.proofs.Agreement.{find_behind, or_entry}
-use Rattle.xk_codegen.specs.Parts.{Part, OfMethod}
+use Rattle.xk_source.specs.Parts.{Part, OfMethod}
 use Rattle.xk_source.specs.Source.{Todo, Do, Turn, Close, Names, unfolded, unfolded_all, method_of}
 use Rattle.xk_source.proofs.Exec.{IsBelow, IsMatched, below_more, AreStraight, eval_straight, both_straight, args_straight, into_straight}
 

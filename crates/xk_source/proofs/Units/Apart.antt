@@ -1,9 +1,6 @@
 -- Bodies at one offset are one, where the offsets of the words `async` rise; methods of one name are one, where no name is a method's twice.
 use Rattle.std.proofs.Common.{◌≡◌, inl, inr, ℕ, suc, ◌<◌, Bool, true, false, cond, ◌||◌, List, [], ◌∷◌, ◌++◌, map, Option, Some, refl, sym, ap, ◌∙◌, subst, arith}
-use Rattle.std.specs.Prelude.{⊤}
-use Rattle.std.specs.List.{AllPairs, flat_map}
-use Rattle.std.proofs.lemmas.List.Kept.{AllPairs-from_increasing}
-use Rattle.std.proofs.lemmas.Option.{slice_get_within, get_or_from_slice_get}
+use Rattle.std.specs.List.{flat_map}
 use Rattle.xk_tree.specs.declared.fault.FrontFault.{FrontFault}
 use Rattle.xk_tree.specs.declared.fault.FrontRule.TheVariants as rule
 use Rattle.xk_tree.specs.Tree.{Clocks, Statement, Statements, Done, More, Block, Empty, Declare, Assign, Atomic, If, IfElse, For, Async, Finish, Call, Resume, Drop, AdvanceAll, Print, ParamValue, MethodValue, TreeValue}
@@ -11,28 +8,9 @@ use Rattle.xk_tree.specs.Bodies.{asyncs, asyncs_in, asyncs_of_methods, HasBodies
 use Rattle.xk_names.specs.Scope.{Has, has, find, is_text, texts}
 use Rattle.xk_names.specs.Uses.{signatures}
 use Rattle.xk_names.specs.Faults.{fault, RepeatsMethod}
-use Rattle.xk_units.proofs.Listed.{place_of}
 use Rattle.xk_units.proofs.Collecting.{same_text}
-use Rattle.xk_codegen.specs.Parts.{Part, OfMethod, OfBody, bodies, bodies_all, method_parts, parts}
-
--- ---- numbers that rise
-
-abbrev Rising : List ℕ → Type 0
-Rising [] = ⊤
-Rising (x ∷ xs) = ((y : ℕ) → Has xs y → x < y) × Rising xs
-
-rises_on : (x : ℕ) (xs : List ℕ) → AllPairs (λ a b. a < b) (x ∷ xs) → AllPairs (λ a b. a < b) xs
-rises_on x xs h i j d less within = h (suc i) (suc j) d (omega arith) (omega arith)
-
-all_rising : (xs : List ℕ) → AllPairs (λ a b. a < b) xs → Rising xs
-all_rising [] h = tt
-all_rising (x ∷ xs) h = (above, all_rising xs (rises_on x xs h))
-  where
-    above : (y : ℕ) → Has xs y → x < y
-    above y there =
-        let k = place_of xs y there in
-        let within = slice_get_within xs k.0 y k.1 in
-        subst (λ n. x < n) (get_or_from_slice_get xs k.0 y 0 k.1) (h 0 (suc k.0) 0 (omega arith) (omega arith))
+use Rattle.xk_source.specs.Parts.{Part, OfMethod, OfBody, bodies, bodies_all, method_parts, parts}
+use Rattle.xk_source.proofs.Units.Rising.{Rising, is_rising}
 
 -- ---- the offsets of bodies among parts
 
@@ -104,7 +82,7 @@ pub same_body : (t : TreeValue) → HasBodiesApart t → (at : ℕ) (cs ds : Opt
     → OfBody at cs s ≡ OfBody at ds u
 same_body t apart at cs ds s u =
     one_body (parts t) at cs ds s u
-    (subst Rising (sym (offsets_of_parts t.methods)) (all_rising (asyncs_of_methods t.methods) (AllPairs-from_increasing (asyncs_of_methods t.methods) apart)))
+    (subst Rising (sym (offsets_of_parts t.methods)) (is_rising (asyncs_of_methods t.methods) apart))
 
 -- ---- methods of one name
 

@@ -22,7 +22,7 @@ use Rattle.xk_code.proofs.Covered.Fitting.{Texts, Fits, with_name, fits_behind, 
 use Rattle.xk_code.proofs.Covered.Known.{HasPlaces}
 use Rattle.xk_code.proofs.Covered.Statements.{Settled, all_covered}
 use Rattle.xk_code.proofs.CoveredLaw.{fits_method}
-use Rattle.xk_codegen.specs.Parts.{Part, OfMethod, OfBody, bodies, bodies_all, method_parts, parts}
+use Rattle.xk_source.specs.Parts.{Part, OfMethod, OfBody, bodies, bodies_all, method_parts, parts}
 
 -- ---- where a body stands
 

@@ -12,9 +12,9 @@ use Rattle.xk_code.specs.CodeOf.{Setting, body_at}
 use Rattle.xk_code.specs.Covered.{IsFound}
 use Rattle.xk_code.specs.Reached.{AsyncBody, bodies_in, bodies_in_all, calls_in, calls_in_all, IsSettled}
 use Rattle.xk_code.proofs.Covered.Statements.{Settled}
-use Rattle.xk_codegen.specs.Parts.{Part, OfMethod, OfBody, Run, Calls, Starts, bodies, bodies_all, parts, runs, runs_all, part_runs, place_of, body_among}
-use Rattle.xk_codegen.specs.Compiled.{AreUnits, IsSetting, shared_among, settled_body, taken, unit_number}
-use Rattle.xk_codegen.proofs.Keeps.Apart.{same_body}
+use Rattle.xk_source.specs.Parts.{Part, OfMethod, OfBody, Run, Calls, Starts, bodies, bodies_all, parts, runs, runs_all, part_runs, place_of, body_among}
+use Rattle.xk_source.specs.Compiled.{AreUnits, IsSetting, shared_among, settled_body, taken, unit_number}
+use Rattle.xk_source.proofs.Units.Apart.{same_body}
 
 -- ---- shared numbers
 

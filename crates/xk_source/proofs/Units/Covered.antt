@@ -13,11 +13,11 @@ use Rattle.xk_code.specs.Covered.{IsUnitCovered}
 use Rattle.xk_code.specs.Reached.{bodies_in_all, calls_in_all, IsSettingFor}
 use Rattle.xk_code.proofs.Covered.Statements.{Settled}
 use Rattle.xk_code.proofs.CoveredLaw.{method_covered}
-use Rattle.xk_codegen.specs.Parts.{Part, OfMethod, OfBody, Run, Starts, bodies, bodies_all, parts, place_of}
-use Rattle.xk_codegen.proofs.Among.{found}
-use Rattle.xk_codegen.proofs.Nested.{inner, in_methods}
-use Rattle.xk_codegen.proofs.Keeps.Stands.{alone, body_covered, part_of}
-use Rattle.xk_codegen.proofs.Keeps.Settled.{AreSettled, AreParts, HavePlaces, body_unit_of, shared_placed, run_places, settled_all}
+use Rattle.xk_source.specs.Parts.{Part, OfMethod, OfBody, Run, Starts, bodies, bodies_all, parts, place_of}
+use Rattle.xk_source.proofs.Units.Among.{found}
+use Rattle.xk_source.proofs.Units.Nested.{inner, in_methods}
+use Rattle.xk_source.proofs.Units.Stands.{alone, body_covered, part_of}
+use Rattle.xk_source.proofs.Units.Settled.{AreSettled, AreParts, HavePlaces, body_unit_of, shared_placed, run_places, settled_all}
 
 module _ (t : TreeValue) (units : List Part) (cx : Setting) (h : AreSettled t units cx) where
   -- what the code of a unit leads to

@@ -8,15 +8,15 @@ use Rattle.xk_names.specs.Uses.{Signatures, signatures, clocks_listed, declares}
 use Rattle.xk_names.specs.Scoped.{IsSound, IsSoundInside, AreSound, with_all, with_body, method_scope, IsScoped}
 use Rattle.xk_names.specs.Places.{behind}
 use Rattle.xk_units.proofs.Listed.{has_left, has_right, has_either}
-use Rattle.xk_codegen.specs.Parts.{Part, OfMethod, OfBody, Run, Calls, Starts, bodies, bodies_all, method_parts, opening, parts, runs, runs_all, part_runs, place_of}
-use Rattle.xk_codegen.proofs.Among.{Fits, found}
+use Rattle.xk_source.specs.Parts.{Part, OfMethod, OfBody, Run, Calls, Starts, bodies, bodies_all, method_parts, opening, parts, runs, runs_all, part_runs, place_of}
+use Rattle.xk_source.proofs.Units.Among.{Fits, found}
 
 -- the bodies in a part
 abbrev pub inner : Part → List Part
 inner (OfMethod m) = bodies_all m.body
 inner (OfBody at cs s) = bodies s
 
-of_some : (b : Bool) (xs : List Run) (r : Run) → Has (cond b xs []) r → Has xs r
+pub of_some : (b : Bool) (xs : List Run) (r : Run) → Has (cond b xs []) r → Has xs r
 of_some true xs r h = h
 of_some false xs r h = absurd h
 
