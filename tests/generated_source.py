@@ -739,3 +739,10 @@ def case(rng: random.Random, seeds: list[bytes]) -> bytes:
     if way < 0.89:
         return text_of(rng, digits_changed(rng, program(rng)))
     return generated.changed_bytes(rng, seed, SPOILS) if seed else b" "
+
+
+def mostly_compiled(rng: random.Random) -> bytes:
+    """A text that is mostly compiled, and whose module may be one that the verifier refuses."""
+    tokens = program(rng)
+    change = rng.choice([None, None, None, restated, restated, misnamed, digits_changed])
+    return text_of(rng, change(rng, tokens) if change else tokens)

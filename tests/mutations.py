@@ -45,8 +45,8 @@ SECONDS = 60
 LONGEST_RUN, LONGEST_COMPARED, MOST_WORK, MOST_ACTIVITIES = 2_000_000, 20_000, 2_000_000, 64
 # The program looks at all clocks in each step: where there are more clocks times steps than this it isn't run.
 MOST_CLOCK_STEPS = 300_000_000
-# Runs of no more steps than this are compared with what a text means, so many of each.
-LONGEST_MEANT, RUNS_MEANT = 500, 3
+# So many runs of each text are compared with what it means.
+RUNS_MEANT = 3
 CHUNK = 100
 SHOWN = 5
 
@@ -160,31 +160,27 @@ class Comparer:
         outcome = self.of_refused(text, judged) if isinstance(judged, Refused) else self.of_accepted(text, judged)
         if self.source:
             self.compiles(text, outcome)
-            if isinstance(judged, Accepted):
-                self.means(text, judged, outcome)
         return outcome
-
-    def means(self, text: bytes, judged: Accepted, outcome: Outcome) -> None:
-        """Whether some runs of the module are runs of the text."""
-        if judged.bounds.steps > LONGEST_MEANT:
-            return
-        rng, tree = random.Random(zlib.crc32(text)), telling_source.parse(text)
-        try:
-            for _ in range(RUNS_MEANT):
-                meaning.compare(tree, judged.module, rng, judged.bounds.steps + 1)
-                outcome.counts["runs compared with what the text means"] += 1
-        except meaning.Differs as differs:
-            outcome.differences.append(f"the module isn't the text's: {differs}")
 
     def compiles(self, text: bytes, outcome: Outcome) -> None:
         try:
-            told = done(telling_source.module_text(text) + "\n")
+            module = telling_source.module_text(text)
+            self.means(text, module, outcome)
+            told = done(module + "\n")
             outcome.counts["texts that are compiled"] += 1
         except telling_source.Fault as fault:
             told = refused(str(fault))
         answer = self.ask(text, "compile")
         if answer != told:
             outcome.differ("compile", told, answer)
+
+    def means(self, text: bytes, module: str, outcome: Outcome) -> None:
+        """Whether some runs of the module are runs of the text, and the reverse."""
+        try:
+            counts = meaning.compare_runs(text, telling.read_module(module.encode()), RUNS_MEANT)
+            outcome.counts["runs compared with what the text means"] += counts["runs"]
+        except meaning.Differs as differs:
+            outcome.differences.append(f"the module isn't the text's: {differs}")
 
     def of_accepted(self, text: bytes, judged: Accepted) -> Outcome:
         outcome = Outcome("accepted")
