@@ -1,5 +1,5 @@
 -- What a part holds, where the offsets of the words `async` rise.
-use Rattle.std.proofs.Common.{◌≡◌, inl, inr, ℕ, zero, suc, ◌<◌, Bool, true, false, cond, List, [], ◌∷◌, ◌++◌, Some, slice_get, refl, sym, ap, subst, arith}
+use Rattle.std.proofs.Common.{◌≡◌, inl, inr, ℕ, zero, suc, ◌<◌, List, [], ◌∷◌, ◌++◌, Some, slice_get, refl, sym, ap, subst, arith}
 use Rattle.std.specs.Prelude.{int_le}
 use Rattle.xk_tree.specs.Tree.{Word, Statement, Statements, Done, More, Block, If, IfElse, For, Async, Finish, Call, MethodValue}
 use Rattle.xk_tree.specs.Bodies.{asyncs, asyncs_in, asyncs_of_methods}
@@ -12,20 +12,23 @@ use Rattle.xk_source.proofs.Units.Nested.{of_some}
 
 -- ---- methods
 
-pub rising_in : (ms : List MethodValue) (d : ℕ) (m : MethodValue) → Rising (asyncs_of_methods ms) → slice_get ms d ≡ Some m → Rising (asyncs_in m.body)
+pub rising_in : (ms : List MethodValue) (d : ℕ) (m : MethodValue) → Rising (asyncs_of_methods ms) → slice_get ms d ≡ Some m
+    → Rising (asyncs_in m.body)
 rising_in [] d m h e = absurd cc
 rising_in (n ∷ ms) zero m h e =
     let same : n ≡ m = cc in subst (λ (k : MethodValue). Rising (asyncs_in k.body)) same (rising_left (asyncs_in n.body) (asyncs_of_methods ms) h)
 rising_in (n ∷ ms) (suc d) m h e = rising_in ms d m (rising_right (asyncs_in n.body) (asyncs_of_methods ms) h) e
 
-there_in : (ms : List MethodValue) (d : ℕ) (m : MethodValue) (at : ℕ) → slice_get ms d ≡ Some m → Has (asyncs_in m.body) at → Has (asyncs_of_methods ms) at
+there_in : (ms : List MethodValue) (d : ℕ) (m : MethodValue) (at : ℕ) → slice_get ms d ≡ Some m → Has (asyncs_in m.body) at
+    → Has (asyncs_of_methods ms) at
 there_in [] d m at e h = absurd cc
 there_in (n ∷ ms) zero m at e h =
     let same : n ≡ m = cc in has_left (asyncs_in n.body) (asyncs_of_methods ms) at (subst (λ (k : MethodValue). Has (asyncs_in k.body) at) (sym same) h)
 there_in (n ∷ ms) (suc d) m at e h = has_right (asyncs_in n.body) (asyncs_of_methods ms) at (there_in ms d m at e h)
 
 -- an offset is in one method alone
-pub same_method : (ms : List MethodValue) (d e : ℕ) (m n : MethodValue) (at : ℕ) → Rising (asyncs_of_methods ms) → slice_get ms d ≡ Some m → slice_get ms e ≡ Some n
+pub same_method : (ms : List MethodValue) (d e : ℕ) (m n : MethodValue) (at : ℕ) → Rising (asyncs_of_methods ms) → slice_get ms d ≡ Some m
+    → slice_get ms e ≡ Some n
     → Has (asyncs_in m.body) at → Has (asyncs_in n.body) at → d ≡ e
 same_method [] d e m n at r is that a b = absurd cc
 same_method (k ∷ ms) zero zero m n at r is that a b = refl
@@ -122,7 +125,8 @@ mutual
 pub body_inside : (m : MethodValue) (p : Part) → Has (bodies_all m.body) p → IsInside (callees_all m.body) (asyncs_in m.body) p
 body_inside m p h = inside_all m.body p h
 
-body_runs : (m : MethodValue) (p : Part) (r : Run) → IsInside (callees_all m.body) (asyncs_in m.body) p → Has (part_runs p) r → Held (callees_all m.body) (asyncs_in m.body) r
+body_runs : (m : MethodValue) (p : Part) (r : Run) → IsInside (callees_all m.body) (asyncs_in m.body) p → Has (part_runs p) r
+    → Held (callees_all m.body) (asyncs_in m.body) r
 body_runs m (OfMethod n) r h runs = absurd h
 body_runs m (OfBody at cs s) r h runs = h.1 r (run_held s r runs)
 
@@ -135,12 +139,14 @@ abbrev pub depth : Part → ℕ
 depth (OfMethod m) = 0
 depth (OfBody at cs s) = suc at
 
-body_deeper : (m : MethodValue) (p : Part) (at : ℕ) → Rising (asyncs_in m.body) → IsInside (callees_all m.body) (asyncs_in m.body) p → Has (part_runs p) (Starts at)
+body_deeper : (m : MethodValue) (p : Part) (at : ℕ) → Rising (asyncs_in m.body) → IsInside (callees_all m.body) (asyncs_in m.body) p
+    → Has (part_runs p) (Starts at)
     → depth p < suc at
 body_deeper m (OfMethod n) at rising h runs = absurd h
 body_deeper m (OfBody a cs s) at rising h runs = let less = h.2 rising at (run_held s (Starts at) runs) in omega arith
 
 -- a body that is started stands further in
-pub part_deeper : (m : MethodValue) (p : Part) (at : ℕ) → Rising (asyncs_in m.body) → Has (method_parts m) p → Has (part_runs p) (Starts at) → depth p < suc at
+pub part_deeper : (m : MethodValue) (p : Part) (at : ℕ) → Rising (asyncs_in m.body) → Has (method_parts m) p → Has (part_runs p) (Starts at)
+    → depth p < suc at
 part_deeper m p at rising (inl e) runs = let none = ap depth e in omega arith
 part_deeper m p at rising (inr h) runs = body_deeper m p at rising (inside_all m.body p h) runs

@@ -31,7 +31,8 @@ use Rattle.xk_codegen.proofs.Keeps.Units.{in_place, finds_units, find_units}
 
 module _ (t : TreeValue) (scoped : IsScoped t) (units : List Part) (cx : Setting) (h : AreSettled t units cx) (made : ModuleValue)
     (code : made.units ≡ map (unit_of_part cx) units) (few : length units ≤ 1024) (shared : SharedBelow cx (length made.shared)) where
-  compiled_body : (k at : ℕ) (cs : Option Clocks) (s : Statement) → slice_get units k ≡ Some (OfBody at cs s) → IsUnitCompiled made k (unit_of_part cx (OfBody at cs s))
+  compiled_body : (k at : ℕ) (cs : Option Clocks) (s : Statement) → slice_get units k ≡ Some (OfBody at cs s)
+      → IsUnitCompiled made k (unit_of_part cx (OfBody at cs s))
   compiled_body k at cs s e =
       let p = part_of t scoped (OfBody at cs s) (h.are_units.within k (OfBody at cs s) e) in
       compiled_soundly made k cx unit_kind.Body (body_params cx at cs) (body_kinds cx at cs) s (signatures t.methods) (with_body p.sc (clocks_listed cs))
@@ -51,7 +52,8 @@ module _ (t : TreeValue) (scoped : IsScoped t) (units : List Part) (cx : Setting
       let p = mapped_at (unit_of_part cx) units k u (ap (λ (l : List UnitValue). slice_get l k) (sym code) ∙ e) in
       subst (λ (v : UnitValue). IsUnitCompiled made k v) p.2 (compiled_part k p.0 p.1)
 
-below : (t : TreeValue) (units : List Part) (cx : Setting) (shared : List ℤ) → IsSetting t units cx → shared ≡ map (λ s. s.start.value) t.shared → SharedBelow cx (length shared)
+below : (t : TreeValue) (units : List Part) (cx : Setting) (shared : List ℤ) → IsSetting t units cx → shared ≡ map (λ s. s.start.value) t.shared
+    → SharedBelow cx (length shared)
 below t units cx shared setting is x k e =
     let less = shared_below 0 t.shared x k (sym (setting.shared x) ∙ e) in
     let long : length shared ≡ length t.shared = ap length is ∙ length-map t.shared (λ s. s.start.value) in

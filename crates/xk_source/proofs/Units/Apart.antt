@@ -1,5 +1,5 @@
 -- Bodies at one offset are one, where the offsets of the words `async` rise; methods of one name are one, where no name is a method's twice.
-use Rattle.std.proofs.Common.{◌≡◌, inl, inr, ℕ, suc, ◌<◌, Bool, true, false, cond, ◌||◌, List, [], ◌∷◌, ◌++◌, map, Option, Some, refl, sym, ap, ◌∙◌, subst, arith}
+use Rattle.std.proofs.Common.{◌≡◌, inl, inr, ℕ, ◌<◌, Bool, true, false, cond, ◌||◌, List, [], ◌∷◌, ◌++◌, map, Option, Some, refl, sym, ap, ◌∙◌, subst, arith}
 use Rattle.std.specs.List.{flat_map}
 use Rattle.xk_tree.specs.declared.fault.FrontFault.{FrontFault}
 use Rattle.xk_tree.specs.declared.fault.FrontRule.TheVariants as rule
@@ -62,11 +62,13 @@ listed (OfBody a ds u ∷ ps) at cs s (inl e) = inl cc
 listed (OfBody a ds u ∷ ps) at cs s (inr h) = inr (listed ps at cs s h)
 
 -- what is behind it has another offset
-other_offset : (ps : List Part) (a at : ℕ) (cs ds es : Option Clocks) (s u v : Statement) → ((y : ℕ) → Has (offsets ps) y → a < y) → OfBody at cs s ≡ OfBody a es v
+other_offset : (ps : List Part) (a at : ℕ) (cs ds es : Option Clocks) (s u v : Statement) → ((y : ℕ) → Has (offsets ps) y → a < y)
+    → OfBody at cs s ≡ OfBody a es v
     → Has ps (OfBody at ds u) → ⊥
 other_offset ps a at cs ds es s u v above e h = let less = above at (listed ps at ds u h) in let same : at ≡ a = cc in omega arith
 
-one_body : (ps : List Part) (at : ℕ) (cs ds : Option Clocks) (s u : Statement) → Rising (offsets ps) → Has ps (OfBody at cs s) → Has ps (OfBody at ds u)
+one_body : (ps : List Part) (at : ℕ) (cs ds : Option Clocks) (s u : Statement) → Rising (offsets ps) → Has ps (OfBody at cs s)
+    → Has ps (OfBody at ds u)
     → OfBody at cs s ≡ OfBody at ds u
 one_body [] at cs ds s u r h g = absurd h
 one_body (OfMethod m ∷ ps) at cs ds s u r (inl e) g = absurd cc
@@ -78,7 +80,8 @@ one_body (OfBody a es v ∷ ps) at cs ds s u r (inr h) (inl f) = absurd (other_o
 one_body (OfBody a es v ∷ ps) at cs ds s u r (inr h) (inr g) = one_body ps at cs ds s u r.1 h g
 
 -- of a program's bodies at one offset there is one
-pub same_body : (t : TreeValue) → HasBodiesApart t → (at : ℕ) (cs ds : Option Clocks) (s u : Statement) → Has (parts t) (OfBody at cs s) → Has (parts t) (OfBody at ds u)
+pub same_body : (t : TreeValue) → HasBodiesApart t → (at : ℕ) (cs ds : Option Clocks) (s u : Statement) → Has (parts t) (OfBody at cs s)
+    → Has (parts t) (OfBody at ds u)
     → OfBody at cs s ≡ OfBody at ds u
 same_body t apart at cs ds s u =
     one_body (parts t) at cs ds s u

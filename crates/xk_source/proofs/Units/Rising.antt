@@ -1,5 +1,5 @@
 -- Numbers that rise along a list: each is less than all that are further on.
-use Rattle.std.proofs.Common.{◌≡◌, inl, inr, ℕ, suc, ◌<◌, List, [], ◌∷◌, ◌++◌, subst, arith}
+use Rattle.std.proofs.Common.{inl, inr, ℕ, suc, ◌<◌, List, [], ◌∷◌, ◌++◌, subst, arith}
 use Rattle.std.specs.Prelude.{⊤}
 use Rattle.std.specs.List.{AllPairs}
 use Rattle.std.specs.List.Sorted.{IsStrictlyIncreasing}
