@@ -11,6 +11,7 @@ use Rattle.xk_tree.specs.declared.fault.FrontError.TheVariants as error
 use Rattle.xk_tree.specs.declared.fault.FrontFault.{FrontFault}
 use Rattle.xk_tree.specs.declared.fault.FrontRule.TheVariants as rule
 use Rattle.xk_syntax.specs.Spelling.{SpellsTree}
+use Rattle.xk_syntax.specs.Texts.{IsTextRule}
 use Rattle.xk_names.specs.Scoped.{IsScoped}
 use Rattle.xk_source.specs.Compiled.{IsCompiled}
 use Rattle.xk_codegen.specs.Faults.{IsFaultOf}
@@ -44,9 +45,10 @@ IsTooLong bytes f = (longest_source < length bytes) × (f.rule ≡ rule.TooLong)
 abbrev pub IsNotUtf8 : List ℕ → FrontFault → Type 0
 IsNotUtf8 bytes f = (length bytes ≤ longest_source) × (f.rule ≡ rule.Token) × IsValidUpTo bytes f.at
 
--- a fault of the parser's: the bytes are UTF-8, not too many, and spell no tree
+-- a fault of the parser's: the bytes are UTF-8, not too many, and spell no tree; the rule is one on texts, and not the one on their length
 abbrev pub SpellsNone : List ℕ → FrontFault → Type 0
-SpellsNone bytes f = (length bytes ≤ longest_source) × IsUtf8 bytes × ((tree : TreeValue) → ¬ SpellsTree bytes tree) × (f.rule ≢ rule.TooLong)
+SpellsNone bytes f =
+    (length bytes ≤ longest_source) × IsUtf8 bytes × ((tree : TreeValue) → ¬ SpellsTree bytes tree) × IsTextRule f.rule × (f.rule ≢ rule.TooLong)
 
 -- a fault of the tree that they spell
 abbrev pub SpellsFaulty : List ℕ → FrontFault → Type 0
