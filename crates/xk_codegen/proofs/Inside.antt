@@ -1,68 +1,34 @@
 -- What a part holds, where the offsets of the words `async` rise.
-use Rattle.std.proofs.Common.{◌≡◌, inl, inr, ℕ, zero, suc, ◌<◌, Bool, true, false, cond, List, [], ◌∷◌, ◌++◌, Some, slice_get, refl, sym, ap, subst, arith}
-use Rattle.std.specs.Prelude.{int_le, ⊤}
-use Rattle.std.specs.List.{AllPairs}
-use Rattle.std.specs.List.Sorted.{IsStrictlyIncreasing}
-use Rattle.std.proofs.lemmas.List.Kept.{AllPairs-from_increasing}
-use Rattle.std.proofs.lemmas.Option.{slice_get_within, get_or_from_slice_get}
+use Rattle.std.proofs.Common.{◌≡◌, inl, inr, ℕ, zero, suc, ◌<◌, List, [], ◌∷◌, ◌++◌, Some, slice_get, refl, sym, ap, subst, arith}
+use Rattle.std.specs.Prelude.{int_le}
 use Rattle.xk_tree.specs.Tree.{Word, Statement, Statements, Done, More, Block, If, IfElse, For, Async, Finish, Call, MethodValue}
 use Rattle.xk_tree.specs.Bodies.{asyncs, asyncs_in, asyncs_of_methods}
 use Rattle.xk_names.specs.Scope.{Has}
 use Rattle.xk_units.specs.Callees.{callees, callees_all}
-use Rattle.xk_units.proofs.Listed.{has_left, has_right, has_either, place_of}
-use Rattle.xk_codegen.specs.Parts.{Part, OfMethod, OfBody, Run, Calls, Starts, bodies, bodies_all, method_parts, runs, runs_all, part_runs}
-
--- ---- numbers that rise
-
-abbrev pub Rising : List ℕ → Type 0
-Rising [] = ⊤
-Rising (x ∷ xs) = ((y : ℕ) → Has xs y → x < y) × Rising xs
-
-rises_on : (x : ℕ) (xs : List ℕ) → AllPairs (λ a b. a < b) (x ∷ xs) → AllPairs (λ a b. a < b) xs
-rises_on x xs h i j d less within = h (suc i) (suc j) d (omega arith) (omega arith)
-
-all_rising : (xs : List ℕ) → AllPairs (λ a b. a < b) xs → Rising xs
-all_rising [] h = tt
-all_rising (x ∷ xs) h = (above, all_rising xs (rises_on x xs h))
-  where
-    above : (y : ℕ) → Has xs y → x < y
-    above y there =
-        let k = place_of xs y there in
-        let within = slice_get_within xs k.0 y k.1 in
-        subst (λ n. x < n) (get_or_from_slice_get xs k.0 y 0 k.1) (h 0 (suc k.0) 0 (omega arith) (omega arith))
-
-pub is_rising : (xs : List ℕ) → IsStrictlyIncreasing xs → Rising xs
-is_rising xs h = all_rising xs (AllPairs-from_increasing xs h)
-
-pub rising_left : (xs ys : List ℕ) → Rising (xs ++ ys) → Rising xs
-rising_left [] ys h = tt
-rising_left (x ∷ xs) ys h = (λ y there. h.0 y (has_left xs ys y there), rising_left xs ys h.1)
-
-pub rising_right : (xs ys : List ℕ) → Rising (xs ++ ys) → Rising ys
-rising_right [] ys h = h
-rising_right (x ∷ xs) ys h = rising_right xs ys h.1
-
-pub rising_apart : (xs ys : List ℕ) → Rising (xs ++ ys) → (a b : ℕ) → Has xs a → Has ys b → a < b
-rising_apart [] ys h a b left right = absurd left
-rising_apart (x ∷ xs) ys h a b (inl e) right = let less = h.0 b (has_right xs ys b right) in omega arith
-rising_apart (x ∷ xs) ys h a b (inr left) right = rising_apart xs ys h.1 a b left right
+use Rattle.xk_units.proofs.Listed.{has_left, has_right, has_either}
+use Rattle.xk_source.specs.Parts.{Part, OfMethod, OfBody, Run, Calls, Starts, bodies, bodies_all, method_parts, runs, runs_all, part_runs}
+use Rattle.xk_source.proofs.Units.Rising.{Rising, rising_left, rising_right, rising_apart}
+use Rattle.xk_source.proofs.Units.Nested.{of_some}
 
 -- ---- methods
 
-pub rising_in : (ms : List MethodValue) (d : ℕ) (m : MethodValue) → Rising (asyncs_of_methods ms) → slice_get ms d ≡ Some m → Rising (asyncs_in m.body)
+pub rising_in : (ms : List MethodValue) (d : ℕ) (m : MethodValue) → Rising (asyncs_of_methods ms) → slice_get ms d ≡ Some m
+    → Rising (asyncs_in m.body)
 rising_in [] d m h e = absurd cc
 rising_in (n ∷ ms) zero m h e =
     let same : n ≡ m = cc in subst (λ (k : MethodValue). Rising (asyncs_in k.body)) same (rising_left (asyncs_in n.body) (asyncs_of_methods ms) h)
 rising_in (n ∷ ms) (suc d) m h e = rising_in ms d m (rising_right (asyncs_in n.body) (asyncs_of_methods ms) h) e
 
-there_in : (ms : List MethodValue) (d : ℕ) (m : MethodValue) (at : ℕ) → slice_get ms d ≡ Some m → Has (asyncs_in m.body) at → Has (asyncs_of_methods ms) at
+there_in : (ms : List MethodValue) (d : ℕ) (m : MethodValue) (at : ℕ) → slice_get ms d ≡ Some m → Has (asyncs_in m.body) at
+    → Has (asyncs_of_methods ms) at
 there_in [] d m at e h = absurd cc
 there_in (n ∷ ms) zero m at e h =
     let same : n ≡ m = cc in has_left (asyncs_in n.body) (asyncs_of_methods ms) at (subst (λ (k : MethodValue). Has (asyncs_in k.body) at) (sym same) h)
 there_in (n ∷ ms) (suc d) m at e h = has_right (asyncs_in n.body) (asyncs_of_methods ms) at (there_in ms d m at e h)
 
 -- an offset is in one method alone
-pub same_method : (ms : List MethodValue) (d e : ℕ) (m n : MethodValue) (at : ℕ) → Rising (asyncs_of_methods ms) → slice_get ms d ≡ Some m → slice_get ms e ≡ Some n
+pub same_method : (ms : List MethodValue) (d e : ℕ) (m n : MethodValue) (at : ℕ) → Rising (asyncs_of_methods ms) → slice_get ms d ≡ Some m
+    → slice_get ms e ≡ Some n
     → Has (asyncs_in m.body) at → Has (asyncs_in n.body) at → d ≡ e
 same_method [] d e m n at r is that a b = absurd cc
 same_method (k ∷ ms) zero zero m n at r is that a b = refl
@@ -91,10 +57,6 @@ held_left gs hs xs ys (Starts at) h = has_left xs ys at h
 held_right : (gs hs : List Word) (xs ys : List ℕ) (r : Run) → Held hs ys r → Held (gs ++ hs) (xs ++ ys) r
 held_right gs hs xs ys (Calls g) h = has_right gs hs g h
 held_right gs hs xs ys (Starts at) h = has_right xs ys at h
-
-of_some : (b : Bool) (xs : List Run) (r : Run) → Has (cond b xs []) r → Has xs r
-of_some true xs r h = h
-of_some false xs r h = absurd h
 
 mutual
   run_held : (s : Statement) (r : Run) → Has (runs s) r → Held (callees s) (asyncs s) r
@@ -163,7 +125,8 @@ mutual
 pub body_inside : (m : MethodValue) (p : Part) → Has (bodies_all m.body) p → IsInside (callees_all m.body) (asyncs_in m.body) p
 body_inside m p h = inside_all m.body p h
 
-body_runs : (m : MethodValue) (p : Part) (r : Run) → IsInside (callees_all m.body) (asyncs_in m.body) p → Has (part_runs p) r → Held (callees_all m.body) (asyncs_in m.body) r
+body_runs : (m : MethodValue) (p : Part) (r : Run) → IsInside (callees_all m.body) (asyncs_in m.body) p → Has (part_runs p) r
+    → Held (callees_all m.body) (asyncs_in m.body) r
 body_runs m (OfMethod n) r h runs = absurd h
 body_runs m (OfBody at cs s) r h runs = h.1 r (run_held s r runs)
 
@@ -176,12 +139,14 @@ abbrev pub depth : Part → ℕ
 depth (OfMethod m) = 0
 depth (OfBody at cs s) = suc at
 
-body_deeper : (m : MethodValue) (p : Part) (at : ℕ) → Rising (asyncs_in m.body) → IsInside (callees_all m.body) (asyncs_in m.body) p → Has (part_runs p) (Starts at)
+body_deeper : (m : MethodValue) (p : Part) (at : ℕ) → Rising (asyncs_in m.body) → IsInside (callees_all m.body) (asyncs_in m.body) p
+    → Has (part_runs p) (Starts at)
     → depth p < suc at
 body_deeper m (OfMethod n) at rising h runs = absurd h
 body_deeper m (OfBody a cs s) at rising h runs = let less = h.2 rising at (run_held s (Starts at) runs) in omega arith
 
 -- a body that is started stands further in
-pub part_deeper : (m : MethodValue) (p : Part) (at : ℕ) → Rising (asyncs_in m.body) → Has (method_parts m) p → Has (part_runs p) (Starts at) → depth p < suc at
+pub part_deeper : (m : MethodValue) (p : Part) (at : ℕ) → Rising (asyncs_in m.body) → Has (method_parts m) p → Has (part_runs p) (Starts at)
+    → depth p < suc at
 part_deeper m p at rising (inl e) runs = let none = ap depth e in omega arith
 part_deeper m p at rising (inr h) runs = body_deeper m p at rising (inside_all m.body p h) runs

@@ -8,15 +8,15 @@ use Rattle.xk_names.specs.Uses.{Signatures, signatures, clocks_listed, declares}
 use Rattle.xk_names.specs.Scoped.{IsSound, IsSoundInside, AreSound, with_all, with_body, method_scope, IsScoped}
 use Rattle.xk_names.specs.Places.{behind}
 use Rattle.xk_units.proofs.Listed.{has_left, has_right, has_either}
-use Rattle.xk_codegen.specs.Parts.{Part, OfMethod, OfBody, Run, Calls, Starts, bodies, bodies_all, method_parts, opening, parts, runs, runs_all, part_runs, place_of}
-use Rattle.xk_codegen.proofs.Among.{Fits, found}
+use Rattle.xk_source.specs.Parts.{Part, OfMethod, OfBody, Run, Calls, Starts, bodies, bodies_all, method_parts, opening, parts, runs, runs_all, part_runs, place_of}
+use Rattle.xk_source.proofs.Units.Among.{Fits, found}
 
 -- the bodies in a part
 abbrev pub inner : Part → List Part
 inner (OfMethod m) = bodies_all m.body
 inner (OfBody at cs s) = bodies s
 
-of_some : (b : Bool) (xs : List Run) (r : Run) → Has (cond b xs []) r → Has xs r
+pub of_some : (b : Bool) (xs : List Run) (r : Run) → Has (cond b xs []) r → Has xs r
 of_some true xs r h = h
 of_some false xs r h = absurd h
 
@@ -167,12 +167,14 @@ part_known t (m ∷ ms) sound p h = elim (has_either (method_parts m) (flat_map 
 ]
 
 -- a method that is known is a part
-signed : (ms : List MethodValue) (x : List ℕ) (ps : List ParamValue) → find (signatures ms) x ≡ Some ps → (m : MethodValue) × Has ms m × (is_text x m.name.text ≡ true)
+signed : (ms : List MethodValue) (x : List ℕ) (ps : List ParamValue) → find (signatures ms) x ≡ Some ps
+    → (m : MethodValue) × Has ms m × (is_text x m.name.text ≡ true)
 signed [] x ps e = absurd cc
 signed (m ∷ ms) x ps e = go (is_text x m.name.text) refl e (signed ms x ps)
   where
     go : (b : Bool) → is_text x m.name.text ≡ b → cond b (Some m.params) (find (signatures ms) x) ≡ Some ps
-        → (find (signatures ms) x ≡ Some ps → (n : MethodValue) × Has ms n × (is_text x n.name.text ≡ true)) → (n : MethodValue) × Has (m ∷ ms) n × (is_text x n.name.text ≡ true)
+        → (find (signatures ms) x ≡ Some ps → (n : MethodValue) × Has ms n × (is_text x n.name.text ≡ true))
+        → (n : MethodValue) × Has (m ∷ ms) n × (is_text x n.name.text ≡ true)
     go true is h later = (m, inl refl, is)
     go false is h later = let r = later h in (r.0, inr r.1, r.2)
 
@@ -186,7 +188,8 @@ called t g h = let m = signed t.methods g.text h.0 h.1 in found (parts t) (Calls
 
 -- ---- together
 
-pub has_place : (t : TreeValue) → IsScoped t → (p : Part) → Has (parts t) p → (r : Run) → Has (part_runs p) r → (k : ℕ) × (place_of (parts t) r ≡ Some k)
+pub has_place : (t : TreeValue) → IsScoped t → (p : Part) → Has (parts t) p → (r : Run) → Has (part_runs p) r
+    → (k : ℕ) × (place_of (parts t) r ≡ Some k)
 has_place t scoped p among (Calls g) h = called t g (part_known t t.methods scoped.bodies p among g h)
 has_place t scoped p among (Starts at) h =
     let q = part_started p at h in found (parts t) (Starts at) q.part (in_methods t.methods p q.part among q.among) q.fits

@@ -13,11 +13,11 @@ use Rattle.xk_code.specs.Covered.{IsUnitCovered}
 use Rattle.xk_code.specs.Reached.{bodies_in_all, calls_in_all, IsSettingFor}
 use Rattle.xk_code.proofs.Covered.Statements.{Settled}
 use Rattle.xk_code.proofs.CoveredLaw.{method_covered}
-use Rattle.xk_codegen.specs.Parts.{Part, OfMethod, OfBody, Run, Starts, bodies, bodies_all, parts, place_of}
-use Rattle.xk_codegen.proofs.Among.{found}
-use Rattle.xk_codegen.proofs.Nested.{inner, in_methods}
-use Rattle.xk_codegen.proofs.Keeps.Stands.{alone, body_covered, part_of}
-use Rattle.xk_codegen.proofs.Keeps.Settled.{AreSettled, AreParts, HavePlaces, body_unit_of, shared_placed, run_places, settled_all}
+use Rattle.xk_source.specs.Parts.{Part, OfMethod, OfBody, Run, Starts, bodies, bodies_all, parts, place_of}
+use Rattle.xk_source.proofs.Units.Among.{found}
+use Rattle.xk_source.proofs.Units.Nested.{inner, in_methods}
+use Rattle.xk_source.proofs.Units.Stands.{alone, body_covered, part_of}
+use Rattle.xk_source.proofs.Units.Settled.{AreSettled, AreParts, HavePlaces, body_unit_of, shared_placed, run_places, settled_all}
 
 module _ (t : TreeValue) (units : List Part) (cx : Setting) (h : AreSettled t units cx) where
   -- what the code of a unit leads to
@@ -34,7 +34,8 @@ module _ (t : TreeValue) (units : List Part) (cx : Setting) (h : AreSettled t un
   body_parts k at cs s e p (inl is) = subst (Has (parts t)) (sym is) (h.are_units.within k (OfBody at cs s) e)
   body_parts k at cs s e p (inr i) = unit_parts k (OfBody at cs s) e p (elim (has_either (bodies s) [] p i) [ inl x ↦ x | inr y ↦ absurd y ])
 
-  body_place : (k at : ℕ) (cs : Option Clocks) (s : Statement) → slice_get units k ≡ Some (OfBody at cs s) → (n : ℕ) × (place_of units (Starts at) ≡ Some n)
+  body_place : (k at : ℕ) (cs : Option Clocks) (s : Statement) → slice_get units k ≡ Some (OfBody at cs s)
+      → (n : ℕ) × (place_of units (Starts at) ≡ Some n)
   body_place k at cs s e = found units (Starts at) (OfBody at cs s) (has_at units k (OfBody at cs s) e) (eq-eqb at at refl)
 
   has_unit : (k at : ℕ) (cs : Option Clocks) (s : Statement) → slice_get units k ≡ Some (OfBody at cs s) → HavePlaces units (Starts at ∷ [])
@@ -54,7 +55,8 @@ module _ (t : TreeValue) (units : List Part) (cx : Setting) (h : AreSettled t un
     pub method_there : (k : ℕ) (m : MethodValue) → slice_get units k ≡ Some (OfMethod m) → IsUnitCovered cx (names_of_params m.params) (Block m.body)
     method_there k m e = method_covered cx t m scoped (part_of t scoped (OfMethod m) (h.are_units.within k (OfMethod m) e)) (setting_for k m e)
 
-    pub body_there : (k at : ℕ) (cs : Option Clocks) (s : Statement) → slice_get units k ≡ Some (OfBody at cs s) → IsUnitCovered cx (body_params cx at cs) s
+    pub body_there : (k at : ℕ) (cs : Option Clocks) (s : Statement) → slice_get units k ≡ Some (OfBody at cs s)
+        → IsUnitCovered cx (body_params cx at cs) s
     body_there k at cs s e =
         body_covered cx (signatures t.methods) (shared_texts t.shared) at cs s (shared_placed t units cx h.is_setting)
         (part_of t scoped (OfBody at cs s) (h.are_units.within k (OfBody at cs s) e)) (settled_alone k at cs s e)

@@ -22,7 +22,7 @@ use Rattle.xk_code.proofs.Covered.Fitting.{Texts, Fits, with_name, fits_behind, 
 use Rattle.xk_code.proofs.Covered.Known.{HasPlaces}
 use Rattle.xk_code.proofs.Covered.Statements.{Settled, all_covered}
 use Rattle.xk_code.proofs.CoveredLaw.{fits_method}
-use Rattle.xk_codegen.specs.Parts.{Part, OfMethod, OfBody, bodies, bodies_all, method_parts, parts}
+use Rattle.xk_source.specs.Parts.{Part, OfMethod, OfBody, bodies, bodies_all, method_parts, parts}
 
 -- ---- where a body stands
 
@@ -99,7 +99,8 @@ slot_there : (table : Table Known) (x : List ℕ) → find (slots_for table) x �
 slot_there [] x = refl
 slot_there (e ∷ es) x = go (is_text x e.0) (slot_there es x)
   where
-    go : (b : Bool) → find (slots_for es) x ≡ option_map (λ k. 0) (find es x) → cond b (Some 0) (find (slots_for es) x) ≡ option_map (λ k. 0) (cond b (Some e.1) (find es x))
+    go : (b : Bool) → find (slots_for es) x ≡ option_map (λ k. 0) (find es x)
+        → cond b (Some 0) (find (slots_for es) x) ≡ option_map (λ k. 0) (cond b (Some e.1) (find es x))
     go true h = refl
     go false h = h
 
@@ -121,7 +122,8 @@ append_nil (x ∷ xs) = ap (λ r. x ∷ r) (append_nil xs)
 abbrev pub alone : ℕ → Option Clocks → Statement → Statements
 alone at cs s = More (Async at cs s) Done
 
-pub body_covered : (cx : Setting) (ms : Signatures) (shared : Texts) (at : ℕ) (cs : Option Clocks) (s : Statement) → HasPlaces cx shared → Stands ms shared at cs s
+pub body_covered : (cx : Setting) (ms : Signatures) (shared : Texts) (at : ℕ) (cs : Option Clocks) (s : Statement) → HasPlaces cx shared
+    → Stands ms shared at cs s
     → Settled cx ms shared (calls_in_all (alone at cs s)) (bodies_in_all (alone at cs s)) → IsUnitCovered cx (body_params cx at cs) s
 body_covered cx ms shared at cs s placed h settled =
     let held : AsyncBody = record { at = at; clocks = cs; body = s } in

@@ -3,7 +3,7 @@ use Rattle.std.proofs.Common.{◌≡◌, inl, inr, ℕ, suc, ◌+◌, Bool, true
 use Rattle.xk_tree.specs.Tree.{Word}
 use Rattle.xk_names.specs.Scope.{Has, is_text}
 use Rattle.xk_units.proofs.Collecting.{same_text}
-use Rattle.xk_codegen.specs.Parts.{Part, OfMethod, OfBody, Run, Calls, Starts, method_among, body_among, place_of}
+use Rattle.xk_source.specs.Parts.{Part, OfMethod, OfBody, Run, Calls, Starts, method_among, body_among, place_of}
 
 -- the part is what is run, by its name or its offset
 abbrev pub Fits : Part → Run → Type 0

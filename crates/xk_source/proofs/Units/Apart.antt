@@ -1,9 +1,6 @@
 -- Bodies at one offset are one, where the offsets of the words `async` rise; methods of one name are one, where no name is a method's twice.
-use Rattle.std.proofs.Common.{◌≡◌, inl, inr, ℕ, suc, ◌<◌, Bool, true, false, cond, ◌||◌, List, [], ◌∷◌, ◌++◌, map, Option, Some, refl, sym, ap, ◌∙◌, subst, arith}
-use Rattle.std.specs.Prelude.{⊤}
-use Rattle.std.specs.List.{AllPairs, flat_map}
-use Rattle.std.proofs.lemmas.List.Kept.{AllPairs-from_increasing}
-use Rattle.std.proofs.lemmas.Option.{slice_get_within, get_or_from_slice_get}
+use Rattle.std.proofs.Common.{◌≡◌, inl, inr, ℕ, ◌<◌, Bool, true, false, cond, ◌||◌, List, [], ◌∷◌, ◌++◌, map, Option, Some, refl, sym, ap, ◌∙◌, subst, arith}
+use Rattle.std.specs.List.{flat_map}
 use Rattle.xk_tree.specs.declared.fault.FrontFault.{FrontFault}
 use Rattle.xk_tree.specs.declared.fault.FrontRule.TheVariants as rule
 use Rattle.xk_tree.specs.Tree.{Clocks, Statement, Statements, Done, More, Block, Empty, Declare, Assign, Atomic, If, IfElse, For, Async, Finish, Call, Resume, Drop, AdvanceAll, Print, ParamValue, MethodValue, TreeValue}
@@ -11,28 +8,9 @@ use Rattle.xk_tree.specs.Bodies.{asyncs, asyncs_in, asyncs_of_methods, HasBodies
 use Rattle.xk_names.specs.Scope.{Has, has, find, is_text, texts}
 use Rattle.xk_names.specs.Uses.{signatures}
 use Rattle.xk_names.specs.Faults.{fault, RepeatsMethod}
-use Rattle.xk_units.proofs.Listed.{place_of}
 use Rattle.xk_units.proofs.Collecting.{same_text}
-use Rattle.xk_codegen.specs.Parts.{Part, OfMethod, OfBody, bodies, bodies_all, method_parts, parts}
-
--- ---- numbers that rise
-
-abbrev Rising : List ℕ → Type 0
-Rising [] = ⊤
-Rising (x ∷ xs) = ((y : ℕ) → Has xs y → x < y) × Rising xs
-
-rises_on : (x : ℕ) (xs : List ℕ) → AllPairs (λ a b. a < b) (x ∷ xs) → AllPairs (λ a b. a < b) xs
-rises_on x xs h i j d less within = h (suc i) (suc j) d (omega arith) (omega arith)
-
-all_rising : (xs : List ℕ) → AllPairs (λ a b. a < b) xs → Rising xs
-all_rising [] h = tt
-all_rising (x ∷ xs) h = (above, all_rising xs (rises_on x xs h))
-  where
-    above : (y : ℕ) → Has xs y → x < y
-    above y there =
-        let k = place_of xs y there in
-        let within = slice_get_within xs k.0 y k.1 in
-        subst (λ n. x < n) (get_or_from_slice_get xs k.0 y 0 k.1) (h 0 (suc k.0) 0 (omega arith) (omega arith))
+use Rattle.xk_source.specs.Parts.{Part, OfMethod, OfBody, bodies, bodies_all, method_parts, parts}
+use Rattle.xk_source.proofs.Units.Rising.{Rising, is_rising}
 
 -- ---- the offsets of bodies among parts
 
@@ -84,11 +62,13 @@ listed (OfBody a ds u ∷ ps) at cs s (inl e) = inl cc
 listed (OfBody a ds u ∷ ps) at cs s (inr h) = inr (listed ps at cs s h)
 
 -- what is behind it has another offset
-other_offset : (ps : List Part) (a at : ℕ) (cs ds es : Option Clocks) (s u v : Statement) → ((y : ℕ) → Has (offsets ps) y → a < y) → OfBody at cs s ≡ OfBody a es v
+other_offset : (ps : List Part) (a at : ℕ) (cs ds es : Option Clocks) (s u v : Statement) → ((y : ℕ) → Has (offsets ps) y → a < y)
+    → OfBody at cs s ≡ OfBody a es v
     → Has ps (OfBody at ds u) → ⊥
 other_offset ps a at cs ds es s u v above e h = let less = above at (listed ps at ds u h) in let same : at ≡ a = cc in omega arith
 
-one_body : (ps : List Part) (at : ℕ) (cs ds : Option Clocks) (s u : Statement) → Rising (offsets ps) → Has ps (OfBody at cs s) → Has ps (OfBody at ds u)
+one_body : (ps : List Part) (at : ℕ) (cs ds : Option Clocks) (s u : Statement) → Rising (offsets ps) → Has ps (OfBody at cs s)
+    → Has ps (OfBody at ds u)
     → OfBody at cs s ≡ OfBody at ds u
 one_body [] at cs ds s u r h g = absurd h
 one_body (OfMethod m ∷ ps) at cs ds s u r (inl e) g = absurd cc
@@ -100,11 +80,12 @@ one_body (OfBody a es v ∷ ps) at cs ds s u r (inr h) (inl f) = absurd (other_o
 one_body (OfBody a es v ∷ ps) at cs ds s u r (inr h) (inr g) = one_body ps at cs ds s u r.1 h g
 
 -- of a program's bodies at one offset there is one
-pub same_body : (t : TreeValue) → HasBodiesApart t → (at : ℕ) (cs ds : Option Clocks) (s u : Statement) → Has (parts t) (OfBody at cs s) → Has (parts t) (OfBody at ds u)
+pub same_body : (t : TreeValue) → HasBodiesApart t → (at : ℕ) (cs ds : Option Clocks) (s u : Statement) → Has (parts t) (OfBody at cs s)
+    → Has (parts t) (OfBody at ds u)
     → OfBody at cs s ≡ OfBody at ds u
 same_body t apart at cs ds s u =
     one_body (parts t) at cs ds s u
-    (subst Rising (sym (offsets_of_parts t.methods)) (all_rising (asyncs_of_methods t.methods) (AllPairs-from_increasing (asyncs_of_methods t.methods) apart)))
+    (subst Rising (sym (offsets_of_parts t.methods)) (is_rising (asyncs_of_methods t.methods) apart))
 
 -- ---- methods of one name
 

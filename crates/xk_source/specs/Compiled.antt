@@ -1,25 +1,18 @@
--- Which modules are the code of a program, and which faults a program has.
+-- Which modules are the code of a program.
 --
 -- Which parts of a program have units, and how units are numbered, is this project's own choice.
-use Rattle.std.specs.Prelude.{◌≡◌, ℕ, suc, ◌<◌, nat_eq, min, Bool, true, false, List, [], ◌∷◌, map, Option, Some, None, option_map, slice_get, codes, if◌then◌else◌}
+use Rattle.std.specs.Prelude.{◌≡◌, ℕ, suc, ◌<◌, nat_eq, min, List, [], ◌∷◌, map, Option, Some, None, option_map, slice_get, codes, if◌then◌else◌}
 use Rattle.xk_types.specs.declared.unit.UnitKind.{UnitKind}
 use Rattle.xk_types.specs.declared.unit.UnitKind.TheVariants as unit_kind
-use Rattle.xk_types.specs.declared.rules.Rule.{Rule}
-use Rattle.xk_types.specs.declared.rules.Rule.TheVariants as shape
-use Rattle.xk_types.specs.Code.{UnitValue, ModuleValue, IsUnitWithinLimits}
-use Rattle.xk_types.specs.Shape.{breaks}
-use Rattle.xk_tree.specs.declared.fault.FrontRule.TheVariants as rule
-use Rattle.xk_tree.specs.declared.fault.FrontFault.{FrontFault}
+use Rattle.xk_types.specs.Code.{UnitValue, ModuleValue}
 use Rattle.xk_tree.specs.Tree.{Statement, MethodValue, SharedValue, TreeValue}
 use Rattle.xk_names.specs.Scope.{find, is_text, Has}
 use Rattle.xk_names.specs.Uses.{signatures}
-use Rattle.xk_names.specs.Faults.{HasFault, fault}
 use Rattle.xk_names.specs.Captures.{captures, shared_texts}
-use Rattle.xk_units.specs.Recursion.{HasRecursion}
 use Rattle.xk_code.specs.CodeOf.{Body, Setting, body_at}
 use Rattle.xk_code.specs.Unit.{unit_of_method, unit_of_body}
-use Rattle.xk_codegen.specs.Graph.{IsOrder}
-use Rattle.xk_codegen.specs.Parts.{Part, OfMethod, OfBody, Run, parts, part_runs, place_of, method_among}
+use Rattle.xk_source.specs.Graph.{IsOrder}
+use Rattle.xk_source.specs.Parts.{Part, OfMethod, OfBody, Run, parts, part_runs, place_of, method_among}
 
 -- ---- the parts that have units
 
@@ -93,44 +86,3 @@ pub record IsCompiled (t : TreeValue) (m : ModuleValue) : Type 0 where
   pub is_setting : IsSetting t units setting
   pub shared : m.shared ≡ map (λ s. s.start.value) t.shared
   pub code : m.units ≡ map (unit_of_part setting) units
-
--- ---- the rules that it keeps
-
--- V1 to V7, and V10. The others say which clocks a program may use where, or how far it may go.
-abbrev pub is_kept : Rule → Bool
-is_kept shape.Target = true
-is_kept shape.Block = true
-is_kept shape.Slot = true
-is_kept shape.Unit = true
-is_kept shape.Cell = true
-is_kept shape.Loop = true
-is_kept shape.End = true
-is_kept shape.SameClock = true
-is_kept _ = false
-
--- no place of the module breaks one of them
-abbrev pub KeepsShape : ModuleValue → Type 0
-KeepsShape m = (r : Rule) → is_kept r ≡ true → (unit at : ℕ) → breaks m r unit at ≡ false
-
--- ---- faults
-
--- where a part stands: the name of a method, or the `async` of a body
-abbrev pub offset : Part → ℕ
-offset (OfMethod m) = m.name.at
-offset (OfBody at cs s) = at
-
--- a table goes over its limit
-pub data HasTableFault (t : TreeValue) (f : FrontFault) : Type 0 where
-  -- more than 256 shared numbers
-  ManyShared : (s : SharedValue) → slice_get t.shared 256 ≡ Some s → f ≡ fault rule.Table s.name.at → HasTableFault t f
-  -- more than 1,024 units
-  ManyUnits : (units : List Part) (p : Part) → AreUnits t units → slice_get units 1024 ≡ Some p → f ≡ fault rule.Table (offset p) → HasTableFault t f
-  -- a unit with too many slots or instructions, or an instruction of it with too many arguments
-  LargeUnit : (units : List Part) (cx : Setting) (k : ℕ) (p : Part) → AreUnits t units → IsSetting t units cx → slice_get units k ≡ Some p
-      → (IsUnitWithinLimits (unit_of_part cx p) → ⊥) → f ≡ fault rule.Table (offset p) → HasTableFault t f
-
--- the program has the fault, one of F5 to F12 and F14
-pub data IsFaultOf (t : TreeValue) (f : FrontFault) : Type 0 where
-  InNames : HasFault t f → IsFaultOf t f
-  InCalls : HasRecursion t f → IsFaultOf t f
-  InTables : HasTableFault t f → IsFaultOf t f

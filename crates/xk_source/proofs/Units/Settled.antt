@@ -12,9 +12,9 @@ use Rattle.xk_code.specs.CodeOf.{Setting, body_at}
 use Rattle.xk_code.specs.Covered.{IsFound}
 use Rattle.xk_code.specs.Reached.{AsyncBody, bodies_in, bodies_in_all, calls_in, calls_in_all, IsSettled}
 use Rattle.xk_code.proofs.Covered.Statements.{Settled}
-use Rattle.xk_codegen.specs.Parts.{Part, OfMethod, OfBody, Run, Calls, Starts, bodies, bodies_all, parts, runs, runs_all, part_runs, place_of, body_among}
-use Rattle.xk_codegen.specs.Compiled.{AreUnits, IsSetting, shared_among, settled_body, taken, unit_number}
-use Rattle.xk_codegen.proofs.Keeps.Apart.{same_body}
+use Rattle.xk_source.specs.Parts.{Part, OfMethod, OfBody, Run, Calls, Starts, bodies, bodies_all, parts, runs, runs_all, part_runs, place_of, body_among}
+use Rattle.xk_source.specs.Compiled.{AreUnits, IsSetting, shared_among, settled_body, taken, unit_number}
+use Rattle.xk_source.proofs.Units.Apart.{same_body}
 
 -- ---- shared numbers
 
@@ -22,7 +22,8 @@ shared_named : (i : ℕ) (ss : List SharedValue) (x : List ℕ) → is_some (sha
 shared_named i [] x = refl
 shared_named i (s ∷ ss) x = go (is_text x s.name.text) (shared_named (suc i) ss x)
   where
-    go : (b : Bool) → is_some (shared_among (suc i) ss x) ≡ has (shared_texts ss) x → is_some (cond b (Some i) (shared_among (suc i) ss x)) ≡ (b || has (shared_texts ss) x)
+    go : (b : Bool) → is_some (shared_among (suc i) ss x) ≡ has (shared_texts ss) x
+        → is_some (cond b (Some i) (shared_among (suc i) ss x)) ≡ (b || has (shared_texts ss) x)
     go true h = refl
     go false h = h
 
@@ -30,11 +31,13 @@ pub shared_below : (i : ℕ) (ss : List SharedValue) (x : List ℕ) (k : ℕ) �
 shared_below i [] x k e = absurd (none-some k e)
 shared_below i (s ∷ ss) x k e = go (is_text x s.name.text) e (shared_below (suc i) ss x k)
   where
-    go : (b : Bool) → cond b (Some i) (shared_among (suc i) ss x) ≡ Some k → (shared_among (suc i) ss x ≡ Some k → k < suc i + length ss) → k < i + suc (length ss)
+    go : (b : Bool) → cond b (Some i) (shared_among (suc i) ss x) ≡ Some k → (shared_among (suc i) ss x ≡ Some k → k < suc i + length ss)
+        → k < i + suc (length ss)
     go true h later = let same : i ≡ k = cc in omega arith
     go false h later = let less = later h in omega arith
 
-pub shared_placed : (t : TreeValue) (units : List Part) (cx : Setting) → IsSetting t units cx → (x : List ℕ) → is_some (find cx.shared x) ≡ has (shared_texts t.shared) x
+pub shared_placed : (t : TreeValue) (units : List Part) (cx : Setting) → IsSetting t units cx → (x : List ℕ)
+    → is_some (find cx.shared x) ≡ has (shared_texts t.shared) x
 shared_placed t units cx setting x = ap is_some (setting.shared x) ∙ shared_named 0 t.shared x
 
 -- ---- bodies
@@ -48,7 +51,8 @@ record Entry (t : TreeValue) (i : ℕ) (ps : List Part) (at n : ℕ) : Type 0 wh
   stands : slice_get ps steps ≡ Some (OfBody at clocks body)
   is : settled_body t i ps at ≡ Some (record { unit = unit_number n; captures = taken t body })
 
-entry_on : (t : TreeValue) (i : ℕ) (q : Part) (ps : List Part) (at n : ℕ) (h : Entry t (suc i) ps at n) → settled_body t i (q ∷ ps) at ≡ settled_body t (suc i) ps at
+entry_on : (t : TreeValue) (i : ℕ) (q : Part) (ps : List Part) (at n : ℕ) (h : Entry t (suc i) ps at n)
+    → settled_body t i (q ∷ ps) at ≡ settled_body t (suc i) ps at
     → Entry t i (q ∷ ps) at n
 entry_on t i q ps at n h e = record { clocks = h.clocks; body = h.body; steps = suc h.steps; far = (let f = h.far in omega arith); stands = h.stands; is = e ∙ h.is }
 
@@ -57,7 +61,8 @@ entry t i [] at n e = absurd (none-some n e)
 entry t i (OfMethod m ∷ ps) at n e = entry_on t i (OfMethod m) ps at n (entry t (suc i) ps at n e) refl
 entry t i (OfBody a cs s ∷ ps) at n e = go (nat_eq at a) refl e (entry t (suc i) ps at n)
   where
-    go : (b : Bool) → nat_eq at a ≡ b → cond b (Some i) (body_among (suc i) ps at) ≡ Some n → (body_among (suc i) ps at ≡ Some n → Entry t (suc i) ps at n)
+    go : (b : Bool) → nat_eq at a ≡ b → cond b (Some i) (body_among (suc i) ps at) ≡ Some n
+        → (body_among (suc i) ps at ≡ Some n → Entry t (suc i) ps at n)
         → Entry t i (OfBody a cs s ∷ ps) at n
     go true d h later =
         let same : i ≡ n = cc in
@@ -95,8 +100,10 @@ pub record BodyUnit (t : TreeValue) (units : List Part) (cx : Setting) (at : ℕ
   pub stands : slice_get units n ≡ Some (OfBody at cs s)
   pub entry : body_at cx at ≡ Some (record { unit = unit_number n; captures = taken t s })
 
-of_part : (t : TreeValue) (units : List Part) (cx : Setting) (at : ℕ) (cs ds : Option Clocks) (s u : Statement) (n : ℕ) → OfBody at ds u ≡ OfBody at cs s
-    → slice_get units n ≡ Some (OfBody at ds u) → body_at cx at ≡ Some (record { unit = unit_number n; captures = taken t u }) → BodyUnit t units cx at cs s n
+of_part : (t : TreeValue) (units : List Part) (cx : Setting) (at : ℕ) (cs ds : Option Clocks) (s u : Statement) (n : ℕ)
+    → OfBody at ds u ≡ OfBody at cs s
+    → slice_get units n ≡ Some (OfBody at ds u) → body_at cx at ≡ Some (record { unit = unit_number n; captures = taken t u })
+    → BodyUnit t units cx at cs s n
 of_part t units cx at cs ds s u n e stands entry =
     let same : u ≡ s = cc in
     record {
@@ -119,14 +126,17 @@ body_unit_of t units cx h at cs s n there place =
 none_settled : (t : TreeValue) (cx : Setting) → Settled cx (signatures t.methods) (shared_texts t.shared) [] []
 none_settled t cx = record { methods = λ f h. absurd h; entries = λ b h. absurd h }
 
-both_settled : (t : TreeValue) (cx : Setting) (fs gs : List Word) (bs ds : List AsyncBody) → Settled cx (signatures t.methods) (shared_texts t.shared) fs bs
-    → Settled cx (signatures t.methods) (shared_texts t.shared) gs ds → Settled cx (signatures t.methods) (shared_texts t.shared) (fs ++ gs) (bs ++ ds)
+both_settled : (t : TreeValue) (cx : Setting) (fs gs : List Word) (bs ds : List AsyncBody)
+    → Settled cx (signatures t.methods) (shared_texts t.shared) fs bs
+    → Settled cx (signatures t.methods) (shared_texts t.shared) gs ds
+    → Settled cx (signatures t.methods) (shared_texts t.shared) (fs ++ gs) (bs ++ ds)
 both_settled t cx fs gs bs ds a b = record {
   methods = λ f h. elim (has_either fs gs f h) [ inl x ↦ a.methods f x | inr y ↦ b.methods f y ];
   entries = λ e h. elim (has_either bs ds e h) [ inl x ↦ a.entries e x | inr y ↦ b.entries e y ];
 }
 
-one_entry : (t : TreeValue) (cx : Setting) (b : AsyncBody) (fs : List Word) (bs : List AsyncBody) → IsSettled cx (signatures t.methods) (shared_texts t.shared) b
+one_entry : (t : TreeValue) (cx : Setting) (b : AsyncBody) (fs : List Word) (bs : List AsyncBody)
+    → IsSettled cx (signatures t.methods) (shared_texts t.shared) b
     → Settled cx (signatures t.methods) (shared_texts t.shared) fs bs → Settled cx (signatures t.methods) (shared_texts t.shared) fs (b ∷ bs)
 one_entry t cx b fs bs one more = record {
   methods = more.methods;
@@ -148,7 +158,8 @@ module _ (t : TreeValue) (units : List Part) (cx : Setting) (h : AreSettled t un
   run_places k p e r there = let l = h.are_units.closed k p r e there in (l.number, l.place)
 
   mutual
-    settled : (s : Statement) → AreParts t (bodies s) → HavePlaces units (runs s) → Settled cx (signatures t.methods) (shared_texts t.shared) (calls_in s) (bodies_in s)
+    settled : (s : Statement) → AreParts t (bodies s) → HavePlaces units (runs s)
+        → Settled cx (signatures t.methods) (shared_texts t.shared) (calls_in s) (bodies_in s)
     settled (Block ss) among places = settled_all ss among places
     settled (If at l op r s) among places = settled s among places
     settled (IfElse at l op r s u) among places =
