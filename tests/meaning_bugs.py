@@ -1,7 +1,7 @@
 #!/usr/bin/env python3
 """Looks whether tests/meaning.py would notice a wrong compiler: each of these coders, put in the place of the right one, has to be told otherwise.
 
-    python3 tests/wrong_coders.py [CASES]
+    python3 tests/meaning_bugs.py [CASES]
 
 So many programs are tried at most for each, 500 where nothing else is said.
 """
