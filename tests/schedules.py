@@ -4,7 +4,7 @@
     python3 tests/schedules.py
 
 The rows are those of crates/xk_rows/src/runs.rt and every.rt, over the modules of programs.rt. The telling knows no phases and no numbers of
-steps: they are counted here.
+steps: they are counted here. Those of tests/texts.rows are of programs as texts, which are carried out by tests/meaning.py and by their modules.
 """
 from __future__ import annotations
 
@@ -15,15 +15,13 @@ import re
 import sys
 from dataclasses import dataclass, field
 
+import meaning
 import telling
-from telling import Status, World
+import telling_source
+from telling import World, Wrong
 
-SOURCES = pathlib.Path(__file__).resolve().parent.parent / "crates/xk_rows/src"
-# What the steps of these instructions are seen to do.
-SEEN = {
-    "make": "Made", "spawn": "Spawned", "resume": "Resumed", "drop": "Dropped", "finish": "Opened", "endfinish": "Closed", "get": "Got",
-    "put": "Put", "addto": "Added",
-}  # fmt: skip
+TESTS = pathlib.Path(__file__).resolve().parent
+SOURCES = TESTS.parent / "crates/xk_rows/src"
 
 
 def modules() -> dict[str, telling.Module]:
@@ -56,39 +54,21 @@ class Known:
         taken = telling.step(self.module, self.world, who)
         if taken is None:
             return False
-        activity = self.world.activities[who]
-        frame = activity.frames[-1]
-        instr = self.module.units[frame.unit].code[frame.place]
-        self.seen += self.event(instr.name, activity, taken.printed)
-        if instr.name == "advance" and activity.status is Status.ARRIVED:
-            self.since[who] = number
-        if instr.name == "spawn":
-            self.since.append(self.since[who])
-        if instr.name == "make":
-            self.phases.append(0)
-            self.last.append(0)
-        self.count_phases(who, number, instr)
+        if taken.event:
+            self.seen.append(taken.event)
+        match taken.event:
+            case "Passed":
+                self.since[who] = number
+            case "Spawned":
+                self.since.append(self.since[who])
+            case "Made":
+                self.phases.append(0)
+                self.last.append(0)
+        for clock in taken.advanced:
+            self.phases[clock] += 1
+            self.last[clock] = number
         self.world = taken.world
         return True
-
-    @staticmethod
-    def event(name: str, activity: telling.Activity, printed: int | None) -> list[str]:
-        if name == "advance":
-            return ["Arrived" if activity.status is Status.RUNNING else "Passed"]
-        if name == "print":
-            return [f"Printed({printed})"]
-        if name == "ret":
-            return ["Ended"] if len(activity.frames) == 1 else []
-        return [SEEN[name]] if name in SEEN else []
-
-    def count_phases(self, who: int, number: int, instr: telling.Instr) -> None:
-        """Which clocks advance at the end of the step."""
-        turn = telling.Turn(self.module, who, list(self.world.activities), list(self.world.clocks), list(self.world.shared))
-        telling.CARRY_OUT[instr.name](turn, *instr.operands)
-        for k, clock in enumerate(turn.clocks):
-            if clock.advanced() != clock:
-                self.phases[k] += 1
-                self.last[k] = number
 
     def text(self, begin: str) -> str:
         able = [who for who in range(len(self.world.activities)) if telling.step(self.module, self.world, who)]
@@ -122,8 +102,37 @@ def all_printed(module: telling.Module) -> dict[str, int]:
     return dict(from_here(telling.opening(module)))
 
 
+def seen_of(world: meaning.World, schedule: str) -> str:
+    """What others see of a schedule, as a row of a text has it."""
+    seen, places = [], [int(place) for place in schedule.split()]
+    for at, who in enumerate(places):
+        try:
+            event = world.take(who) if who < world.count() else None
+        except Wrong:
+            event = "wrong"
+        if event:
+            seen.append(event)
+        if event in (None, "wrong"):
+            seen += ["halted"] if event is None else []
+            return " ".join(seen) + ("" if at == len(places) - 1 else f" at {at}")
+    return " ".join(seen + ["over"] if world.shown()[2] else seen)
+
+
+def texts() -> list[tuple[str, str, str, str]]:
+    """The rows of texts: the text, its schedule, its module's schedule, what is seen."""
+    return re.findall(r"^(.+)\ntext: (.*)\nmodule: (.*)\nseen: (.*)$", (TESTS / "texts.rows").read_text(), re.MULTILINE)
+
+
 def main() -> int:
     known, count, wrong = modules(), 0, 0
+    for text, own, compiled, wanted in texts():
+        tree = telling_source.parse(text.encode())
+        module = telling.read_module(telling_source.module_text(text.encode()).encode())
+        for told_by, seen in (("text", seen_of(meaning.Program(tree), own)), ("module", seen_of(meaning.Machine(module), compiled))):
+            count += 1
+            if seen != wanted:
+                wrong += 1
+                print(f"texts.rows, {text}:\n    row:     {wanted}\n    {told_by}: {seen}", file=sys.stderr)
     for name, schedule, wanted in rows("runs.rt"):
         count, text = count + 1, told(known[name], schedule)
         if text != wanted:

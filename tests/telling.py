@@ -843,6 +843,18 @@ class Activity(NamedTuple):
     finishes: tuple[frozenset[int], ...] = ()
 
 
+class Standing(enum.Enum):
+    """Where an activity stands on a clock."""
+
+    APART = "isn't registered"
+    OPEN = "is registered, and hasn't resumed since it last went on"
+    SIGNALLED = "has resumed"
+    AHEAD = "has resumed, and the clock has advanced since"
+
+    def __repr__(self) -> str:
+        return self.name.lower()
+
+
 class Clock(NamedTuple):
     """Who is registered; who of them has resumed in this phase; and who had resumed in the last one, and hasn't gone on since.
 
@@ -852,6 +864,13 @@ class Clock(NamedTuple):
     registered: frozenset[int]
     resumed: frozenset[int] = frozenset()
     let_on: frozenset[int] = frozenset()
+
+    def standing(self, who: int) -> Standing:
+        if who not in self.registered:
+            return Standing.APART
+        if who in self.resumed:
+            return Standing.SIGNALLED
+        return Standing.AHEAD if who in self.let_on else Standing.OPEN
 
     def with_resumed(self, who: int) -> Clock:
         """Resumed once; a second time, or before going on from the last phase, changes nothing."""
@@ -891,8 +910,12 @@ class World(NamedTuple):
 
 
 class Step(NamedTuple):
+    """A step that was taken: what others see of it (nothing where it is local), what it printed, and the clocks that advanced with it."""
+
     world: World
+    event: str
     printed: int | None
+    advanced: tuple[int, ...]
 
 
 def opening(module: Module) -> World:
@@ -1121,7 +1144,30 @@ class Turn:
                 self.activities[owner] = activity._replace(finishes=waits)
 
 
+    def event(self, name: str) -> str:
+        """What others have seen of an instruction of this name that was carried out."""
+        match name:
+            case "advance":
+                return "Arrived" if self.me.status is Status.ARRIVED else "Passed"
+            case "print":
+                return f"Printed({self.printed})"
+            case "ret":
+                return "Ended" if self.me.status is Status.ENDED else ""
+        return SEEN.get(name, "")
+
+
 CARRY_OUT: dict[str, Callable[..., bool | None]] = {name: getattr(Turn, "for_" if name == "for" else name) for name in ROLES}
+SEEN = {
+    "make": "Made",
+    "resume": "Resumed",
+    "drop": "Dropped",
+    "finish": "Opened",
+    "endfinish": "Closed",
+    "spawn": "Spawned",
+    "get": "Got",
+    "put": "Put",
+    "addto": "Added",
+}
 
 
 def step(module: Module, world: World, who: int) -> Step | None:
@@ -1133,7 +1179,8 @@ def step(module: Module, world: World, who: int) -> Step | None:
     if CARRY_OUT[instr.name](turn, *instr.operands) is False:
         return None
     clocks = tuple(clock.advanced() for clock in turn.clocks)
-    return Step(World(tuple(turn.activities), clocks, tuple(turn.shared)), turn.printed)
+    advanced = tuple(number for number, clock in enumerate(clocks) if clock is not turn.clocks[number])
+    return Step(World(tuple(turn.activities), clocks, tuple(turn.shared)), turn.event(instr.name), turn.printed, advanced)
 
 
 # Runs.
@@ -1186,16 +1233,16 @@ class Broken(Exception):
     """A promise that doesn't hold; the message says which, and the schedule that shows it."""
 
 
+KIND_OF = {Standing.APART: Kind.OUT, Standing.OPEN: Kind.LIVE, Standing.SIGNALLED: Kind.RESUMED, Standing.AHEAD: Kind.RESUMED}
+
+
 def kind_in(world: World, who: int, value: Value) -> Kind:
     """The kind of what a slot of a running activity holds."""
     if value is None:
         return Kind.UNSET
     if not isinstance(value, ClockName):
         return Kind.NUMBER
-    clock = world.clocks[value.number]
-    if who not in clock.registered:
-        return Kind.OUT
-    return Kind.RESUMED if who in clock.resumed or who in clock.let_on else Kind.LIVE
+    return KIND_OF[world.clocks[value.number].standing(who)]
 
 
 class Schedules:

@@ -1,3 +1,4 @@
+pub mod Units
 pub mod Exec
 pub mod Pairs
 pub mod Worlds

@@ -10,7 +10,7 @@ ghost use Rattle.xk_tree.specs.Bodies.{HasBodiesApart};
 ghost use Rattle.xk_exprs.specs.Marks.{marks};
 ghost use Rattle.xk_exprs.specs.Readers.{Gives};
 ghost use Rattle.xk_syntax.specs.Spelling.{SpellsTree};
-ghost use Rattle.xk_syntax.specs.Texts.{IsRefused};
+ghost use Rattle.xk_syntax.specs.Texts.{IsRefused, IsTextRule};
 ghost use Rattle.xk_syntax.specs.Readers.{keyword_at, more_at, method_at, shared_at, program_at};
 
 use crate::lists::params;
@@ -141,6 +141,7 @@ fn program<'t>(alloc: Global, tokens: &[Token<'t>], end: usize) -> Result<Tree<'
 pub fn parse<'t>(alloc: Global, text: &'t str) -> Result<Tree<'t>, FrontError>
     ensures spelled { IfOk result (λ tree. SpellsTree text.now (tree_value tree)) }
     ensures none_spelled { IsRefused text.now result }
+    ensures of_texts { (f : Fault) → result ≡ Err (error.Fault f) → IsTextRule f.rule }
     ensures too_long { 1048576 < length text.now
         → result ≡ Err (error.Fault (record { rule = rule.TooLong; at = 0 })) }
     ensures only_too_long { (f : Fault) → result ≡ Err (error.Fault f)

@@ -7,23 +7,25 @@ use Rattle.xk_tree.specs.declared.fault.FrontFault.{FrontFault}
 use Rattle.xk_tree.specs.declared.fault.FrontRule.TheVariants as rule
 use Rattle.xk_tree.specs.declared.fault.FrontError.{FrontError}
 use Rattle.xk_tree.specs.declared.fault.FrontError.TheVariants as error
-use Rattle.xk_syntax.specs.Texts.{IsRefused}
+use Rattle.xk_syntax.specs.Texts.{IsRefused, IsTextRule}
 use Rattle.xk_syntax.specs.Spelling.{SpellsTree}
-use Rattle.xk_codegen.specs.Compiled.{IsFaultOf}
+use Rattle.xk_codegen.specs.Faults.{IsFaultOf}
 use Rattle.xk_serve.specs.Programs.{IsSource, IsUnfit, longest_source}
 use Rattle.xk_serve.proofs.programs.compiled.Goals as goal
 
 -- what the parser refuses spells no tree
 refused : (bytes : List ℕ) (e : FrontError) → length bytes ≤ longest_source → IsUtf8 bytes → IsRefused bytes (Err e)
+    → ((f : FrontFault) → e ≡ error.Fault f → IsTextRule f.rule)
     → ((f : FrontFault) → e ≡ error.Fault f → f.rule ≡ rule.TooLong → longest_source < length bytes) → IsUnfit bytes e
-refused bytes (error.Fault f) short utf8 none only = inr (inr (inl (
+refused bytes (error.Fault f) short utf8 none of only = inr (inr (inl (
   short,
   utf8,
   none,
+  of f refl,
   λ too_long.
       let long : longest_source < length bytes = only f refl too_long in absurd (omega arith),
 )))
-refused bytes error.OutOfMemory short utf8 none only = tt
+refused bytes error.OutOfMemory short utf8 none of only = tt
 
 pub returns-in_err-tree-clause-fault : goal.returns-in_err-tree-clause-fault
 returns-in_err-tree-clause-fault c =
@@ -31,7 +33,8 @@ returns-in_err-tree-clause-fault c =
     let only : (f : FrontFault) → c.in_err-tree.field-0.0 ≡ error.Fault f → f.rule ≡ rule.TooLong → longest_source < length c.args.bytes.now =
     λ f e too_long. subst (λ b. longest_source < length b) c.in_ok-text.ensures.text (c.in_err-tree.ensures.only_too_long f (ap Err e) too_long) in
     let none = subst (λ b. IsRefused b (Err c.in_err-tree.field-0.0)) c.in_ok-text.ensures.text c.in_err-tree.ensures.none_spelled in
-    rw (p.1, p.2) (refused c.args.bytes.now c.in_err-tree.field-0.0 c.in_ok-text.ensures.short c.in_ok-text.ensures.utf8 none only)
+    let of : (f : FrontFault) → c.in_err-tree.field-0.0 ≡ error.Fault f → IsTextRule f.rule = λ f e. c.in_err-tree.ensures.of_texts f (ap Err e) in
+    rw (p.1, p.2) (refused c.args.bytes.now c.in_err-tree.field-0.0 c.in_ok-text.ensures.short c.in_ok-text.ensures.utf8 none of only)
 
 -- what the compiler refuses has a fault
 unfit : (bytes : List ℕ) (tree : TreeValue) (r : Result Module FrontError) → IsSource bytes tree
