@@ -91,7 +91,7 @@ def finishing(turns):
 
 
 def gathering(turns):
-    """A loop that waits in each turn for an activity that it starts. The end of a finish looks at all activities that there were."""
+    """A loop that waits in each turn for an activity that it starts, in a finish of its own."""
     code = [["for", 0, 1, turns, 4], ["finish", 3], ["spawn", 1, []], ["endfinish", 1], ["next", 0], ["ret"]]
     return module([unit("main", 1, code), unit("body", 0, [["ret"]])])
 
@@ -133,11 +133,11 @@ seconds = timed("run of 24,995,000 calls", "run", calling(4999))
 print(f"calls a second: {24_995_000 / seconds:,.0f}")
 seconds = timed("run of 24,995,000 finishes", "run", finishing(4999))
 print(f"finishes a second: {24_995_000 / seconds:,.0f}")
-for count in (1_000, 2_000, 4_000):
+for count in (4_000, 16_000, 64_000):
     timed(f"run of {count} activities, each in a finish", "run", gathering(count))
 for order in ORDERS if knows_orders() else ():
     timed(f"run of 100,000 activities, order {order}", "run", starting(99_999), ("--order", order))
-    timed(f"run of 2,001 activities, a finish round them, order {order}", "run", starting_in_finish(2_000), ("--order", order))
+    timed(f"run of 100,000 activities, a finish round them, order {order}", "run", starting_in_finish(99_999), ("--order", order))
 for count in (50, 100, 200):
     timed(f"check of {count} units of 4,096 instructions over 64 slots", "check", chain(great_unit, count))
 timed("check of 200 units of 4,096 instructions, jumps inside of loops", "check", chain(jumping_unit, 200))

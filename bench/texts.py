@@ -4,8 +4,8 @@
     python3 bench/texts.py [PROGRAM] [--count]
 
 PROGRAM is crates/x10clock/out/x10clock unless another is named. Prints for each text its bytes, the least processor time of five calls, which
-what else the machine does changes little, the most memory, and how the answer begins. With `--count` it prints the instructions of one
-call as callgrind counts them (valgrind is needed), and how many of these are spent on memory: taking, giving back, copying.
+what else the machine does changes little, and how the answer begins. With `--count` it prints the instructions of one call as callgrind
+counts them (valgrind is needed), and how many of these are spent on memory: taking, giving back, copying.
 """
 import os
 import pathlib
@@ -60,12 +60,12 @@ TEXTS = {
 
 
 def called(path):
-    """Processor time, the most memory in MB, and the answer."""
+    """Processor time, and the answer."""
     with subprocess.Popen([PROGRAM, "compile", path], stdout=subprocess.PIPE, stderr=subprocess.STDOUT) as ran:
         out = ran.stdout.read()
         _, _, usage = os.wait4(ran.pid, 0)
         ran.returncode = 0
-    return usage.ru_utime + usage.ru_stime, usage.ru_maxrss // 1024, out
+    return usage.ru_utime + usage.ru_stime, out
 
 
 def counted(path):
@@ -94,5 +94,5 @@ for name, text in TEXTS.items():
             print(f"{name}: {len(text)} bytes, {total:,} instructions, {total / len(text):.0f} a byte, {memory:,} of them for memory", flush=True)
             continue
         times = [called(path) for _ in range(5)]
-    seconds, memory, out = min(times)
-    print(f"{name}: {len(text)} bytes, {seconds:.3f} s, {memory} MB: {out[:60]!r}", flush=True)
+    seconds, out = min(times)
+    print(f"{name}: {len(text)} bytes, {seconds:.3f} s: {out[:60]!r}", flush=True)

@@ -735,9 +735,14 @@ def case(rng: random.Random, seeds: list[bytes]) -> bytes:
         return text_of(rng, rng.choice(LIMITS)(rng))
     if way < 0.831:
         return very_long(rng)
-    seed = rng.choice(seeds) if rng.random() < 0.5 else text_of(rng, program(rng))
     if way < 0.89:
         return text_of(rng, digits_changed(rng, program(rng)))
+    return changed(rng, seeds)
+
+
+def changed(rng: random.Random, seeds: list[bytes]) -> bytes:
+    """A text that somebody wrote, or a generated one, changed byte by byte."""
+    seed = rng.choice(seeds) if rng.random() < 0.5 else text_of(rng, program(rng))
     return generated.changed_bytes(rng, seed, SPOILS) if seed else b" "
 
 

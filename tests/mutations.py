@@ -10,9 +10,10 @@ and `compile` is compared too, with what tests/telling_source.py makes of them. 
 (tests/meaning.py).
 Needs the built program and python3. The gate runs it with 2,000 cases.
 
-    python3 tests/mutations.py [CASES] [SEED] [--source] [--jobs N] [--program PATH] [--worlds N] [--only CASE]
+    python3 tests/mutations.py [CASES] [SEED] [--source [--changed]] [--jobs N] [--program PATH] [--worlds N] [--only CASE]
 
-20,000 cases, seed 1, 2 jobs, crates/x10clock/out/x10clock and 1,000 worlds where nothing else is said. `--only` prints one case alone.
+20,000 cases, seed 1, 2 jobs, crates/x10clock/out/x10clock and 1,000 worlds where nothing else is said. With `--changed` all texts but the first
+ones are changed byte by byte. `--only` prints one case alone.
 """
 
 from __future__ import annotations
@@ -30,6 +31,7 @@ import sys
 import zlib
 from collections.abc import Iterable, Iterator
 from dataclasses import dataclass, field
+from functools import cached_property
 
 import generated
 import generated_source
@@ -329,16 +331,27 @@ class Summary:
         self.differing += other.differing
 
 
-def text_of_case(seed: int, case: int, seeds: list[bytes], source: bool) -> bytes:
-    """The first cases are the seeds themselves; each other one is made by its number alone."""
-    made = generated_source.case if source else generated.case
-    return seeds[case] if case < len(seeds) else made(random.Random(f"{seed} {case}"), seeds)
+@dataclass(frozen=True)
+class Maker:
+    """Makes cases by their numbers alone; the first ones are texts that somebody wrote."""
+
+    seed: int
+    source: bool
+    changed: bool
+
+    @cached_property
+    def seeds(self) -> list[bytes]:
+        return seed_texts(self.source)
+
+    def text_of(self, case: int) -> bytes:
+        made = generated_source.changed if self.changed else generated_source.case if self.source else generated.case
+        return self.seeds[case] if case < len(self.seeds) else made(random.Random(f"{self.seed} {case}"), self.seeds)
 
 
-def compared(comparer: Comparer, seed: int, cases: range) -> Summary:
-    seeds, summary = seed_texts(comparer.source), Summary()
+def compared(comparer: Comparer, maker: Maker, cases: range) -> Summary:
+    summary = Summary()
     for case in cases:
-        text = text_of_case(seed, case, seeds, comparer.source)
+        text = maker.text_of(case)
         try:
             outcome = comparer.outcome(text)
         except Exception as fault:  # A fault of the telling is a difference like any other.
@@ -356,24 +369,28 @@ def words() -> argparse.Namespace:
     parser.add_argument("cases", nargs="?", type=int, default=20_000)
     parser.add_argument("seed", nargs="?", type=int, default=1)
     parser.add_argument("--source", action="store_true")
+    parser.add_argument("--changed", action="store_true")
     parser.add_argument("--jobs", type=int, default=2)
     parser.add_argument("--program", type=pathlib.Path, default=TOP / "crates/x10clock/out/x10clock")
     parser.add_argument("--worlds", type=int, default=1_000)
     parser.add_argument("--only", type=int)
-    return parser.parse_args()
+    given = parser.parse_args()
+    if given.changed and not given.source:
+        parser.error("--changed is for --source")
+    return given
 
 
 def main() -> int:
     given = words()
     comparer = Comparer(given.program.resolve(), given.worlds, given.source)
+    maker = Maker(given.seed, given.source, given.changed)
     if given.only is not None:
-        text = text_of_case(given.seed, given.only, seed_texts(given.source), given.source)
-        sys.stdout.buffer.write(text + b"\n")
+        sys.stdout.buffer.write(maker.text_of(given.only) + b"\n")
         return 0
     summary = Summary()
     chunks = [range(start, min(start + CHUNK, given.cases)) for start in range(0, given.cases, CHUNK)]
     with concurrent.futures.ProcessPoolExecutor(given.jobs) as pool:
-        for part in concurrent.futures.as_completed([pool.submit(compared, comparer, given.seed, chunk) for chunk in chunks]):
+        for part in concurrent.futures.as_completed([pool.submit(compared, comparer, maker, chunk) for chunk in chunks]):
             summary.join(part.result())
     for label in sorted(summary.labels, key=in_order):
         print(f"{summary.labels[label]:8} {label}")

@@ -55,13 +55,8 @@ def ran(judged: Accepted, order: Order, log: pathlib.Path | None) -> int:
     return status
 
 
-def main() -> int:
-    given = words()
-    try:
-        data = sys.stdin.buffer.read() if given.file == "-" else pathlib.Path(given.file).read_bytes()
-    except OSError:
-        print("x10clock: device", file=sys.stderr)
-        return 5
+def said(given: argparse.Namespace) -> int:
+    data = sys.stdin.buffer.read() if given.file == "-" else pathlib.Path(given.file).read_bytes()
     if given.command == "compile":
         return telling_source.answer_compile(data)
     judged = telling.judge(data) if given.module else telling_source.judge(data)
@@ -70,6 +65,14 @@ def main() -> int:
     if given.command == "run" and isinstance(judged, Accepted):
         return ran(judged, Order(given.order), given.log)
     return telling.answer(given.command, judged, [])
+
+
+def main() -> int:
+    try:
+        return said(words())
+    except OSError:
+        print("x10clock: device", file=sys.stderr)
+        return 5
 
 
 if __name__ == "__main__":

@@ -13,12 +13,13 @@ use Rattle.xk_names.specs.Scoped.{IsScoped}
 use Rattle.xk_units.specs.Recursion.{number_among, HasCall, CallsBy, LeadTo, IsReached, ComesBack, HasRecursion}
 use Rattle.xk_units.specs.Callees.{callees_all}
 use Rattle.xk_units.proofs.Listed.{has_at, stands_among}
-use Rattle.xk_codegen.specs.Parts.{Part, OfMethod, OfBody, Run, Calls, Starts, bodies_all, method_parts, parts, part_runs, place_of, method_among}
-use Rattle.xk_codegen.specs.Graph.{graph}
-use Rattle.xk_codegen.proofs.Among.{Fits, fits_there}
-use Rattle.xk_codegen.proofs.Nested.{has_place}
+use Rattle.xk_source.specs.Parts.{Part, OfMethod, OfBody, Run, Calls, Starts, bodies_all, method_parts, parts, part_runs, place_of, method_among}
+use Rattle.xk_source.specs.Graph.{graph}
+use Rattle.xk_source.proofs.Units.Among.{Fits, fits_there}
+use Rattle.xk_source.proofs.Units.Nested.{has_place}
 use Rattle.xk_codegen.proofs.Ordered.{is_run_at, known_place}
-use Rattle.xk_codegen.proofs.Apart.{is_rising, rising_in, same_method, IsInside, body_inside, part_held, depth, part_deeper}
+use Rattle.xk_source.proofs.Units.Rising.{is_rising}
+use Rattle.xk_codegen.proofs.Inside.{rising_in, same_method, IsInside, body_inside, part_held, depth, part_deeper}
 
 -- ---- the method that a part stands in
 
@@ -128,7 +129,8 @@ Step t i j =
     ((owner t.methods i ≡ owner t.methods j) × (depth_at (parts t) i < depth_at (parts t) j))
     ⊎ ((g : Word) × CallsBy t (owner t.methods i) g (owner t.methods j))
 
-call_step : (t : TreeValue) (i j : ℕ) (p : Part) (g : Word) → slice_get (parts t) i ≡ Some p → Has (part_runs p) (Calls g) → place_of (parts t) (Calls g) ≡ Some j → Step t i j
+call_step : (t : TreeValue) (i j : ℕ) (p : Part) (g : Word) → slice_get (parts t) i ≡ Some p → Has (part_runs p) (Calls g)
+    → place_of (parts t) (Calls g) ≡ Some j → Step t i j
 call_step t i j p g is runs place =
     let o = owned t.methods i p is in
     let s = stands_among o.method.body g (part_held o.method p (Calls g) o.has runs) in
@@ -159,7 +161,8 @@ start_step t i j p (OfBody b cs s) at apart is runs that fits =
     stands_in m (inl e) = absurd cc
     stands_in m (inr h) = (body_inside m (OfBody b cs s) h).0
 
-run_step : (t : TreeValue) (i j : ℕ) (p : Part) (r : Run) → HasBodiesApart t → slice_get (parts t) i ≡ Some p → Has (part_runs p) r → place_of (parts t) r ≡ Some j → Step t i j
+run_step : (t : TreeValue) (i j : ℕ) (p : Part) (r : Run) → HasBodiesApart t → slice_get (parts t) i ≡ Some p → Has (part_runs p) r
+    → place_of (parts t) r ≡ Some j → Step t i j
 run_step t i j p (Calls g) apart is runs place = call_step t i j p g is runs place
 run_step t i j p (Starts at) apart is runs place = let q = fits_there (parts t) (Starts at) j place in start_step t i j p q.part at apart is runs q.stands q.fits
 
@@ -189,7 +192,8 @@ record Moves (t : TreeValue) (i j : ℕ) : Type 0 where
   reached : IsReached t (owner t.methods i) (owner t.methods j)
   how : (depth_at (parts t) i ≤ depth_at (parts t) j) ⊎ Leaves t (owner t.methods i) (owner t.methods j)
 
-stays_first : (t : TreeValue) (i n j : ℕ) → owner t.methods i ≡ owner t.methods n → depth_at (parts t) i < depth_at (parts t) n → Moves t n j → Moves t i j
+stays_first : (t : TreeValue) (i n j : ℕ) → owner t.methods i ≡ owner t.methods n → depth_at (parts t) i < depth_at (parts t) n → Moves t n j
+    → Moves t i j
 stays_first t i n j same less m = record {
   reached = subst (λ d. IsReached t d (owner t.methods j)) (sym same) m.reached;
   how = elim m.how [
@@ -223,7 +227,8 @@ round t d e same l =
     let home : LeadTo t l.after.0 l.called e = subst (LeadTo t l.after.0 l.called) same l.after.1 in
     back t l.caller l.called l.name l.calls (l.after.0 ++ l.before.0, lead_on t l.after.0 l.before.0 l.called e l.caller home l.before.1)
 
-pub never_again : (t : TreeValue) → HasBodiesApart t → IsScoped t → ((f : FrontFault) → HasRecursion t f → ⊥) → (i k : ℕ) → IsRecursive (graph (parts t)) i k → ⊥
+pub never_again : (t : TreeValue) → HasBodiesApart t → IsScoped t → ((f : FrontFault) → HasRecursion t f → ⊥) → (i k : ℕ)
+    → IsRecursive (graph (parts t)) i k → ⊥
 never_again t apart scoped none i k r =
     let m = moves t apart scoped r.comes_back.0 r.called i r.comes_back.1 in
     elim (step t apart scoped i k r.called r.is_call) [

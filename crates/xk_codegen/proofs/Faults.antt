@@ -18,14 +18,15 @@ use Rattle.xk_units.specs.Recursion.{HasRecursion}
 use Rattle.xk_types.specs.Code.{IsUnitWithinLimits}
 use Rattle.xk_code.specs.CodeOf.{Setting}
 use Rattle.xk_codegen.specs.declared.parts.Part as declared
-use Rattle.xk_codegen.specs.Parts.{Part, OfMethod, OfBody}
+use Rattle.xk_source.specs.Parts.{Part, OfMethod, OfBody}
 use Rattle.xk_codegen.specs.Named.{IsPartCovered}
 use Rattle.xk_codegen.specs.Views.{part}
-use Rattle.xk_codegen.specs.Graph.{RunsItself}
-use Rattle.xk_codegen.specs.Compiled.{AreUnits, HasTableFault, ManyShared, ManyUnits, LargeUnit, IsSetting, offset, unit_of_part}
+use Rattle.xk_codegen.specs.Places.{RunsItself}
+use Rattle.xk_source.specs.Compiled.{AreUnits, IsSetting, unit_of_part}
+use Rattle.xk_codegen.specs.Faults.{HasTableFault, ManyShared, ManyUnits, LargeUnit, offset}
 use Rattle.xk_codegen.proofs.Again.{never_again}
-use Rattle.xk_codegen.proofs.Keeps.Settled.{AreSettled}
-use Rattle.xk_codegen.proofs.Keeps.Covered.{entry_there, method_there, body_there}
+use Rattle.xk_source.proofs.Units.Settled.{AreSettled}
+use Rattle.xk_source.proofs.Units.Covered.{entry_there, method_there, body_there}
 
 pub fault_of : {A : Type 0} (f g : FrontFault) → ◌≡◌ {A = Result A FrontError} (Err (error.Fault f)) (Err (error.Fault g)) → f ≡ g
 fault_of f g e = cc
@@ -34,7 +35,8 @@ pub told : {A : Type 0} (g f : FrontFault) (r : FrontError) → r ≡ error.Faul
 told g f r is e = let same : r ≡ error.Fault f = cc in let both : error.Fault g ≡ error.Fault f = sym is ∙ same in cc
 
 -- an error that is handed on
-pub passed_on : {A : Type 0} (r : Result A FrontError) (x y : FrontError) (f : FrontFault) → r ≡ Err x → x ≡ y → r ≡ Err (error.Fault f) → y ≡ error.Fault f
+pub passed_on : {A : Type 0} (r : Result A FrontError) (x y : FrontError) (f : FrontFault) → r ≡ Err x → x ≡ y → r ≡ Err (error.Fault f)
+    → y ≡ error.Fault f
 passed_on r x y f a b e = let both : ◌≡◌ {A = Result _ FrontError} (Err x) (Err (error.Fault f)) = sym a ∙ e in let same : x ≡ error.Fault f = cc in sym b ∙ same
 
 -- ---- shared numbers
@@ -83,7 +85,8 @@ beyond_none ps few =
     let same = length-map ps part in ap (option_map offset) (sym (slice_get_past (map part ps) 1024 (omega arith)))
 
 -- the code of each unit needs no more names than there are
-covered : (t : TreeValue) (us : List Part) (cx : Setting) → IsScoped t → AreSettled t us cx → (k : ℕ) (p : Part) → slice_get us k ≡ Some p → IsPartCovered cx p
+covered : (t : TreeValue) (us : List Part) (cx : Setting) → IsScoped t → AreSettled t us cx → (k : ℕ) (p : Part) → slice_get us k ≡ Some p
+    → IsPartCovered cx p
 covered t us cx scoped h k (OfMethod m) e = method_there t us cx h scoped k m e
 covered t us cx scoped h k (OfBody at cs s) e = (entry_there t us cx h k at cs s e, body_there t us cx h scoped k at cs s e)
 

@@ -1,7 +1,3 @@
 -- The module that is the code of a tree without faults breaks none of the rules V1 to V7 and V10.
-pub mod Apart
-pub mod Stands
-pub mod Settled
-pub mod Covered
 pub mod Units
 pub mod Law

@@ -1,10 +1,8 @@
 pub mod Lists
-pub mod Among
-pub mod Nested
 pub mod Ordered
 pub mod Placed
 pub mod Units
-pub mod Apart
+pub mod Inside
 pub mod Again
 pub mod Keeps
 pub mod Faults

@@ -7,14 +7,14 @@ use Rattle.xk_names.specs.Scope.{Table, find, is_text}
 use Rattle.xk_names.specs.Collected.{put}
 use Rattle.xk_units.specs.Callees.{first_of}
 use Rattle.xk_units.proofs.Collecting.{put_number}
-use Rattle.xk_codegen.specs.Compiled.{shared_among}
+use Rattle.xk_source.specs.Compiled.{shared_among}
 use Rattle.std.specs.declared.alloc.Global.{Global}
 use Rattle.std.specs.Prelude.{Option, Some, None}
 use Rattle.xk_code.specs.CodeOf.{Body}
 use Rattle.xk_calls.specs.Calls.{rows}
 use Rattle.xk_codegen.specs.declared.parts.Part.{Part}
 use Rattle.xk_codegen.specs.Views.{part}
-use Rattle.xk_codegen.specs.Parts.{Part as Value}
+use Rattle.xk_source.specs.Parts.{Part as Value}
 
 pub part_push : (ps : List Part) (p : Part) → map part (ps ++ p ∷ []) ≡ map part ps ++ part p ∷ []
 part_push [] p = refl
@@ -25,7 +25,8 @@ rows_push [] v = refl
 rows_push (w ∷ vs) v = ap (λ r. w.items ∷ r) (rows_push vs v)
 
 -- the parts that are left begin with this one
-pub parts_left : (ps : List Part) (i : ℕ) (p : Part) (q : Value) → i < length ps → p ≡ get_or ps i p → part p ≡ q → map part (drop i ps) ≡ q ∷ map part (drop (i + 1) ps)
+pub parts_left : (ps : List Part) (i : ℕ) (p : Part) (q : Value) → i < length ps → p ≡ get_or ps i p → part p ≡ q
+    → map part (drop i ps) ≡ q ∷ map part (drop (i + 1) ps)
 parts_left ps i p q h is e =
     ap (map part) (drop-cons ps i p h) ∙ ap (λ k. part k ∷ map part (drop (suc i) ps)) (sym is) ∙ ap (λ k. k ∷ map part (drop (suc i) ps)) e
     ∙ ap (λ n. q ∷ map part (drop n ps)) (sym (add-one i))
@@ -42,7 +43,8 @@ some_push : (ps : List Part) (p : Part) → map Some (map part (ps ++ p ∷ []))
 some_push [] p = refl
 some_push (q ∷ ps) p = ap (λ r. Some (part q) ∷ r) (some_push ps p)
 
-pub one_more_part : (ps us vs : List Part) (order : List ℕ) (i : ℕ) (p : Part) → i < length order → get_or order i 0 < length ps → p ≡ get_or ps (get_or order i 0) p
+pub one_more_part : (ps us vs : List Part) (order : List ℕ) (i : ℕ) (p : Part) → i < length order → get_or order i 0 < length ps
+    → p ≡ get_or ps (get_or order i 0) p
     → vs ≡ us ++ p ∷ []
     → map Some (map part vs) ++ map (slice_get (map part ps)) (drop (i + 1) order) ≡ map Some (map part us) ++ map (slice_get (map part ps)) (drop i order)
 one_more_part ps us vs order i p within inside at e =
@@ -64,7 +66,8 @@ numbered_or false f i o = refl
 
 -- ---- shared numbers that are left
 
-pub shared_step : (d : Shared) (before after : Table ℕ) (ss : List Shared) (i : ℕ) (x : List ℕ) → i < length ss → after ≡ put before (get_or ss i d).name.text.now i
+pub shared_step : (d : Shared) (before after : Table ℕ) (ss : List Shared) (i : ℕ) (x : List ℕ) → i < length ss
+    → after ≡ put before (get_or ss i d).name.text.now i
     → first_of (find after x) (shared_among (i + 1) (map shared_value (drop (i + 1) ss)) x) ≡ first_of (find before x) (shared_among i (map shared_value (drop i ss)) x)
 shared_step d before after ss i x h e =
     let text : List ℕ = (get_or ss i d).name.text.now in

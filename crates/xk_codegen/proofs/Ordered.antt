@@ -9,11 +9,11 @@ use Rattle.xk_names.specs.Scoped.{IsScoped}
 use Rattle.xk_units.proofs.Collecting.{same_text}
 use Rattle.xk_units.proofs.Listed.{has_at, place_of as place_among}
 use Rattle.xk_units.proofs.Graph.{mapped_at, at_mapped, row_of, of_row}
-use Rattle.xk_codegen.specs.Parts.{Part, OfMethod, OfBody, Run, opening, parts, part_runs, place_of}
-use Rattle.xk_codegen.specs.Graph.{graph, graph_by, place_or_last, IsOrder}
-use Rattle.xk_codegen.specs.Compiled.{AreUnits, HasLater}
-use Rattle.xk_codegen.proofs.Among.{Fits, FitsAt, found, fits_there, same_place}
-use Rattle.xk_codegen.proofs.Nested.{has_place}
+use Rattle.xk_source.specs.Parts.{Part, OfMethod, OfBody, Run, opening, parts, part_runs, place_of}
+use Rattle.xk_source.specs.Graph.{graph, graph_by, place_or_last, IsOrder}
+use Rattle.xk_source.specs.Compiled.{AreUnits, HasLater}
+use Rattle.xk_source.proofs.Units.Among.{Fits, FitsAt, found, fits_there, same_place}
+use Rattle.xk_source.proofs.Units.Nested.{has_place}
 
 -- ---- calls in the graph
 
@@ -31,7 +31,8 @@ is_run_at ps i k j h =
     let r = mapped_at (place_or_last ps) (part_runs p.0) k j (subst (λ (q : List ℕ). slice_get q k ≡ Some j) (sym p.2) row.2) in
     record { part = p.0; stands = p.1; run = r.0; among = r.1; place = r.2 }
 
-is_call : (ps : List Part) (i k : ℕ) (p : Part) (r : Run) → slice_get ps i ≡ Some p → slice_get (part_runs p) k ≡ Some r → IsCall (graph ps) i k (place_or_last ps r)
+is_call : (ps : List Part) (i k : ℕ) (p : Part) (r : Run) → slice_get ps i ≡ Some p → slice_get (part_runs p) k ≡ Some r
+    → IsCall (graph ps) i k (place_or_last ps r)
 is_call ps i k p r is among =
     of_row (map (λ p. map (place_or_last ps) (part_runs p)) ps) i k (place_or_last ps r) (map (place_or_last ps) (part_runs p))
     (at_mapped (λ p. map (place_or_last ps) (part_runs p)) ps i p is) (at_mapped (place_or_last ps) (part_runs p) k r among)
@@ -69,7 +70,8 @@ pub known_place : (o : Option ℕ) (d j : ℕ) → ((k : ℕ) × (o ≡ Some k))
 known_place (Some k) d j h e = ap Some e
 known_place None d j h e = absurd cc
 
-pub is_first : (t : TreeValue) → IsScoped t → (start i : ℕ) → place_of (parts t) opening ≡ Some start → Reaches (graph (parts t)) start i → IsFirst (parts t) i
+pub is_first : (t : TreeValue) → IsScoped t → (start i : ℕ) → place_of (parts t) opening ≡ Some start → Reaches (graph (parts t)) start i
+    → IsFirst (parts t) i
 is_first t scoped start i begins path = elim (last_call (graph (parts t)) path.0 start i path.1) [
   | inl e ↦ record { run = opening; place = begins ∙ ap Some e }
   | inr h ↦
@@ -91,7 +93,8 @@ record Picked (ps : List Part) (order : List ℕ) (k : ℕ) (p : Part) : Type 0 
   at : slice_get order k ≡ Some number
   is : slice_get ps number ≡ Some p
 
-picked : (ps us : List Part) (order : List ℕ) → map Some us ≡ map (slice_get ps) order → (k : ℕ) (p : Part) → slice_get us k ≡ Some p → Picked ps order k p
+picked : (ps us : List Part) (order : List ℕ) → map Some us ≡ map (slice_get ps) order → (k : ℕ) (p : Part) → slice_get us k ≡ Some p
+    → Picked ps order k p
 picked ps us order same k p e =
     let there : slice_get (map (slice_get ps) order) k ≡ Some (Some p) = ap (λ (l : List (Option Part)). slice_get l k) (sym same) ∙ at_mapped Some us k p e in
     let i = mapped_at (slice_get ps) order k (Some p) there in
@@ -117,7 +120,8 @@ some_number : (i j : ℕ) → Some i ≡ Some j → i ≡ j
 some_number i j e = cc
 
 -- the unit of what is run
-same_unit : (t : TreeValue) (order : List ℕ) (us : List Part) → IsPicked t order us → (r : Run) (j b n : ℕ) → place_of (parts t) r ≡ Some j → slice_get order b ≡ Some j
+same_unit : (t : TreeValue) (order : List ℕ) (us : List Part) → IsPicked t order us → (r : Run) (j b n : ℕ) → place_of (parts t) r ≡ Some j
+    → slice_get order b ≡ Some j
     → FitsAt us r n → n ≡ b
 same_unit t order us h r j b n place at fits =
     let q = picked (parts t) us order h.same n fits.part fits.stands in
@@ -128,7 +132,8 @@ same_unit t order us h r j b n place at fits =
     (sym f.place ∙ same_place (parts t) fits.part f.run r (subst (λ (p : Part). Fits p f.run) same g.fits) fits.fits ∙ place) in
     h.is_order.once n b q.number q.at (at ∙ ap Some (sym i))
 
-has_later : (t : TreeValue) (order : List ℕ) (us : List Part) → IsPicked t order us → (k : ℕ) (p : Part) (r : Run) → slice_get us k ≡ Some p → Has (part_runs p) r
+has_later : (t : TreeValue) (order : List ℕ) (us : List Part) → IsPicked t order us → (k : ℕ) (p : Part) (r : Run) → slice_get us k ≡ Some p
+    → Has (part_runs p) r
     → HasLater t us k r
 has_later t order us h k p r is runs =
     let ps = parts t in
@@ -146,7 +151,8 @@ has_later t order us h k p r is runs =
     record { number = b.0; later = b.1; place = n.1 ∙ ap Some e; part = q.0; stands = q.1; run = record { place = j.0; first = j.1; part = q.2 } }
 
 -- none stands twice
-stands_once : (t : TreeValue) (order : List ℕ) (us : List Part) → IsPicked t order us → (a b : ℕ) (p : Part) → slice_get us a ≡ Some p → slice_get us b ≡ Some p → a ≡ b
+stands_once : (t : TreeValue) (order : List ℕ) (us : List Part) → IsPicked t order us → (a b : ℕ) (p : Part) → slice_get us a ≡ Some p
+    → slice_get us b ≡ Some p → a ≡ b
 stands_once t order us h a b p e d =
     let ps = parts t in
     let q = picked ps us order h.same a p e in
@@ -170,7 +176,8 @@ is_main : (us : List Part) (p : Part) → slice_get us 0 ≡ Some p → Fits p o
 is_main us (OfMethod m) e f = record { main = m; named = sym (same_text (codes "main") m.name.text f); first = e }
 is_main us (OfBody a cs s) e f = absurd f
 
-pub are_units : (t : TreeValue) (order : List ℕ) (us : List Part) → IsScoped t → IsOrder t order → map Some us ≡ map (slice_get (parts t)) order → AreUnits t us
+pub are_units : (t : TreeValue) (order : List ℕ) (us : List Part) → IsScoped t → IsOrder t order → map Some us ≡ map (slice_get (parts t)) order
+    → AreUnits t us
 are_units t order us scoped o same =
     let h : IsPicked t order us = record { scoped = scoped; is_order = o; same = same } in
     let f = fits_there (parts t) opening o.start o.begins in

@@ -7,11 +7,12 @@ use Rattle.xk_tree.specs.Tree.{TreeValue}
 use Rattle.xk_names.specs.Scope.{find}
 use Rattle.xk_names.specs.Scoped.{IsScoped}
 use Rattle.xk_codegen.specs.declared.parts.Part as declared
-use Rattle.xk_codegen.specs.Parts.{Part, Run, Calls, Starts, opening, parts, part_runs, place_of}
+use Rattle.xk_source.specs.Parts.{Part, Run, Calls, Starts, opening, parts, part_runs, place_of}
 use Rattle.xk_codegen.specs.Views.{part}
-use Rattle.xk_codegen.specs.Graph.{Places, ArePlaces, place_in, place_or_last, graph, graph_by, IsOrder}
-use Rattle.xk_codegen.proofs.Among.{fits_there}
-use Rattle.xk_codegen.proofs.Nested.{main_place}
+use Rattle.xk_codegen.specs.Places.{Places, ArePlaces, place_in}
+use Rattle.xk_source.specs.Graph.{place_or_last, graph, graph_by, IsOrder}
+use Rattle.xk_source.proofs.Units.Among.{fits_there}
+use Rattle.xk_source.proofs.Units.Nested.{main_place}
 use Rattle.xk_codegen.proofs.Ordered.{graph_length, is_first, is_there}
 
 same_place : (ps : List Part) (q : Places) → ArePlaces ps q → (r : Run) → place_in q r ≡ place_or_last ps r
@@ -25,12 +26,14 @@ same_map f g h (x ∷ xs) = ap (λ y. y ∷ map f xs) (h x) ∙ ap (λ ys. g x �
 same_graph : (f g : Run → ℕ) → ((r : Run) → f r ≡ g r) → (ps : List Part) → graph_by f ps ≡ graph_by g ps
 same_graph f g h ps = ap (λ (rows : List (List ℕ)). rows ++ [] ∷ []) (same_map (λ p. map f (part_runs p)) (λ p. map g (part_runs p)) (λ p. same_map f g h (part_runs p)) ps)
 
-pub is_graph : (t : TreeValue) (ps : List Part) (q : Places) (rows : List (List ℕ)) → ps ≡ parts t → ArePlaces ps q → rows ≡ graph_by (place_in q) ps → rows ≡ graph (parts t)
+pub is_graph : (t : TreeValue) (ps : List Part) (q : Places) (rows : List (List ℕ)) → ps ≡ parts t → ArePlaces ps q → rows ≡ graph_by (place_in q) ps
+    → rows ≡ graph (parts t)
 is_graph t ps q rows are places is =
     is ∙ same_graph (place_in q) (place_or_last ps) (same_place ps q places) ps ∙ ap graph are
 
 -- the place that the table has for `main`
-pub main_there : (t : TreeValue) (ps : List Part) (q : Places) (n : ℕ) → IsScoped t → ps ≡ parts t → ArePlaces ps q → n ≡ unwrap_or (find q.methods (codes "main")) q.other
+pub main_there : (t : TreeValue) (ps : List Part) (q : Places) (n : ℕ) → IsScoped t → ps ≡ parts t → ArePlaces ps q
+    → n ≡ unwrap_or (find q.methods (codes "main")) q.other
     → place_of (parts t) opening ≡ Some n
 main_there t ps q n scoped are places is =
     let m = main_place t scoped in
@@ -45,7 +48,8 @@ main_within t n rows e is =
     let long : length rows ≡ suc (length (parts t)) = ap length is ∙ graph_length (place_or_last (parts t)) (parts t) in
     omega arith
 
-pub order_within : (t : TreeValue) (found : List declared.Part) (order : List ℕ) → IsScoped t → map part found ≡ parts t → IsOrder t order → (k i : ℕ) → slice_get order k ≡ Some i
+pub order_within : (t : TreeValue) (found : List declared.Part) (order : List ℕ) → IsScoped t → map part found ≡ parts t → IsOrder t order → (k i : ℕ)
+    → slice_get order k ≡ Some i
     → i < length found
 order_within t found order scoped are o k i e =
     let h = is_there (parts t) i (is_first t scoped o.start i o.begins (o.reached k i e)) in

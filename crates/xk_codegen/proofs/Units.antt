@@ -5,7 +5,7 @@ use Rattle.std.proofs.Math.ListN.{drop_of_length-le}
 use Rattle.xk_types.specs.Code.{UnitValue, IsUnitWithinLimits}
 use Rattle.xk_code.specs.CodeOf.{Setting}
 use Rattle.xk_codegen.specs.declared.parts.Part as declared
-use Rattle.xk_codegen.specs.Compiled.{unit_of_part}
+use Rattle.xk_source.specs.Compiled.{unit_of_part}
 use Rattle.xk_codegen.specs.Views.{part}
 use Rattle.xk_codegen.proofs.Lists.{parts_left}
 
@@ -21,7 +21,8 @@ AreMade cx ps k units =
 pub none_made : (cx : Setting) (ps : List declared.Part) (units : List UnitValue) → length ps ≤ 1024 → units ≡ [] → AreMade cx ps 0 units
 none_made cx ps units few e = subst (λ (l : List UnitValue). AreMade cx ps 0 l) (sym e) (few, (λ k d less. absurd (omega arith)), refl)
 
-pub one_more_unit : (cx : Setting) (ps : List declared.Part) (k : ℕ) (before after : List UnitValue) (p : declared.Part) (u : UnitValue) → AreMade cx ps k before → k < length ps
+pub one_more_unit : (cx : Setting) (ps : List declared.Part) (k : ℕ) (before after : List UnitValue) (p : declared.Part) (u : UnitValue)
+    → AreMade cx ps k before → k < length ps
     → p ≡ get_or ps k p → u ≡ unit_of_part cx (part p) → IsUnitWithinLimits u → after ≡ before ++ u ∷ [] → AreMade cx ps (k + 1) after
 one_more_unit cx ps k before after p u made within is code limits e =
     let left : ℕ → List UnitValue = λ n. map (unit_of_part cx) (map part (drop n ps)) in (
@@ -35,6 +36,7 @@ append_nil : (xs : List UnitValue) → xs ++ [] ≡ xs
 append_nil [] = refl
 append_nil (x ∷ xs) = ap (λ r. x ∷ r) (append_nil xs)
 
-pub all_made : (cx : Setting) (ps : List declared.Part) (k : ℕ) (units : List UnitValue) → length ps ≤ k → AreMade cx ps k units → units ≡ map (unit_of_part cx) (map part ps)
+pub all_made : (cx : Setting) (ps : List declared.Part) (k : ℕ) (units : List UnitValue) → length ps ≤ k → AreMade cx ps k units
+    → units ≡ map (unit_of_part cx) (map part ps)
 all_made cx ps k units end made =
     sym (append_nil units) ∙ ap (λ l. units ++ map (unit_of_part cx) (map part l)) (sym (drop_of_length-le ps {i = k} end)) ∙ made.2

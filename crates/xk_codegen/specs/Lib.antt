@@ -1,5 +1,5 @@
-pub mod Parts
 pub mod Views
-pub mod Graph
-pub mod Compiled
 pub mod Named
+pub mod Places
+pub mod Keeps
+pub mod Faults

@@ -2,7 +2,7 @@
 
 ghost use Rattle.std.specs.Prelude.{◌≡◌, ◌≤◌, All, Ok, Err, Some, None, option_map, slice_get, map, min, length, IfOk, IfErr, OnOk};
 ghost use Rattle.std.specs.Option.{option_map_or};
-ghost use Rattle.xk_types.specs.Code.{IsUnitWithinLimits, module_of};
+ghost use Rattle.xk_types.specs.Code.{IsUnitWithinLimits, IsWithinLimits, module_of};
 ghost use Rattle.xk_tree.specs.declared.fault.FrontFault.{FrontFault as Fault};
 ghost use Rattle.xk_tree.specs.Bodies.{HasBodiesApart};
 ghost use Rattle.xk_tree.specs.Tree.{TreeValue, method_value, shared_value, tree_value};
@@ -12,7 +12,10 @@ ghost use Rattle.xk_names.specs.Scoped.{IsScoped};
 ghost use Rattle.xk_units.specs.Recursion.{HasRecursion};
 ghost use Rattle.xk_codegen.specs.Views.{part};
 ghost use Rattle.xk_codegen.specs.Named.{IsPartCovered};
-ghost use Rattle.xk_codegen.specs.Compiled.{AreUnits, HasTableFault, IsCompiled, IsFaultOf, IsSetting, KeepsShape, method_kind, offset, unit_of_part};
+ghost use Rattle.xk_source.specs.Meaning.{Means};
+ghost use Rattle.xk_source.specs.Compiled.{AreUnits, IsCompiled, IsSetting, method_kind, unit_of_part};
+ghost use Rattle.xk_codegen.specs.Faults.{HasTableFault, IsFaultOf, offset};
+ghost use Rattle.xk_codegen.specs.Keeps.{KeepsShape};
 
 use crate::order::units_in_order;
 use crate::parts::Part;
@@ -148,6 +151,7 @@ fn module(alloc: Global, tree: &Tree<'_>, units: Vec<Unit>) -> Result<Module, Fr
     requires each { All IsUnitWithinLimits units.items }
     ensures made { IfOk result (λ m. m ≡ module_of
         (map (λ s. s.start.value) (tree_value tree.now).shared) units.items) }
+    ensures limits { IfOk result IsWithinLimits }
     ensures fault { (f : Fault) → result ≡ Err (FrontError.Fault f) → ⊥ }
 {
     let shared = starts(alloc, &tree.shared)?;
@@ -198,7 +202,10 @@ fn code(alloc: Global, tree: &Tree<'_>) -> Result<Module, FrontError>
     requires scoped { IsScoped (tree_value tree.now) }
     requires falls { (f : Fault) → HasRecursion (tree_value tree.now) f → ⊥ }
     ensures compiled { IfOk result (λ m. IsCompiled (tree_value tree.now) m) }
+    ensures limits { IfOk result IsWithinLimits }
     ensures keeps { IfOk result (λ m. HasBodiesApart (tree_value tree.now) → KeepsShape m) }
+    ensures means { IfOk result (λ m. HasBodiesApart (tree_value tree.now)
+        → Means (tree_value tree.now) m) }
     ensures fault { (f : Fault) → result ≡ Err (FrontError.Fault f)
         → HasBodiesApart (tree_value tree.now) → HasTableFault (tree_value tree.now) f }
 {
@@ -214,9 +221,13 @@ fn code(alloc: Global, tree: &Tree<'_>) -> Result<Module, FrontError>
 /// lesser number; then F9; then F10; then F14, the last two at the least offset.
 pub fn compile(alloc: Global, tree: &Tree<'_>) -> Result<Module, FrontError>
     ensures clean { OnOk result ((f : Fault) → HasFault (tree_value tree.now) f → ⊥) }
+    ensures scoped { OnOk result (IsScoped (tree_value tree.now)) }
     ensures falls { OnOk result ((f : Fault) → HasRecursion (tree_value tree.now) f → ⊥) }
     ensures compiled { IfOk result (λ m. IsCompiled (tree_value tree.now) m) }
+    ensures limits { IfOk result IsWithinLimits }
     ensures keeps { IfOk result (λ m. HasBodiesApart (tree_value tree.now) → KeepsShape m) }
+    ensures means { IfOk result (λ m. HasBodiesApart (tree_value tree.now)
+        → Means (tree_value tree.now) m) }
     ensures fault { (f : Fault) → result ≡ Err (FrontError.Fault f)
         → HasBodiesApart (tree_value tree.now) → IsFaultOf (tree_value tree.now) f }
 {

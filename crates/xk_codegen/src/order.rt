@@ -5,9 +5,10 @@ ghost use Rattle.xk_tree.specs.declared.fault.FrontFault.{FrontFault as Fault};
 ghost use Rattle.xk_tree.specs.Tree.{tree_value};
 ghost use Rattle.xk_names.specs.Scoped.{IsScoped};
 ghost use Rattle.xk_codegen.specs.Views.{part};
-ghost use Rattle.xk_codegen.specs.Parts.{parts};
-ghost use Rattle.xk_codegen.specs.Graph.{IsOrder, RunsItself};
-ghost use Rattle.xk_codegen.specs.Compiled.{AreUnits};
+ghost use Rattle.xk_source.specs.Parts.{parts};
+ghost use Rattle.xk_source.specs.Graph.{IsOrder};
+ghost use Rattle.xk_codegen.specs.Places.{RunsItself};
+ghost use Rattle.xk_source.specs.Compiled.{AreUnits};
 
 use crate::parts::{Part, parts};
 use crate::runs::Places;
@@ -50,6 +51,7 @@ fn order_of<'t>(
     let order = order_from(alloc, &graph, places.method(b"main"))?;
     match order {
         Ok(order) => Ok(order),
+        // never so for a tree that was parsed and has no recursive call: a body stands within what starts it
         Err(place) => Err(FrontError::Fault(FrontFault {
             rule: FrontRule::Recursive,
             at: found.get(place.caller).map_or(0, |p| p.offset()),

@@ -2,7 +2,7 @@
 
 ghost use Rattle.std.specs.Prelude.{◌≡◌, ◌++◌, map, OnOk, IfOk};
 ghost use Rattle.xk_tree.specs.Tree.{statement, statements, tree_value};
-ghost use Rattle.xk_codegen.specs.Parts.{bodies, bodies_all, parts};
+ghost use Rattle.xk_source.specs.Parts.{bodies, bodies_all, parts};
 ghost use Rattle.xk_codegen.specs.Views.{part};
 
 use std::alloc::{AllocError, Global};
@@ -20,7 +20,7 @@ pub(crate) enum Part<'a, 't> {
 impl<'a, 't> Part<'a, 't> {
     ghost use Rattle.std.specs.Prelude.{◌≡◌};
     ghost use Rattle.xk_codegen.specs.Views.{part};
-    ghost use Rattle.xk_codegen.specs.Compiled.{offset};
+    ghost use Rattle.xk_codegen.specs.Faults.{offset};
 
     /// Where it stands: a method's name, or the `async` of a body.
     pub(crate) fn offset(&self) -> usize

@@ -5,9 +5,10 @@ ghost use Rattle.std.specs.Map.{lookup};
 ghost use Rattle.xk_calls.specs.Calls.{rows};
 ghost use Rattle.xk_tree.specs.Tree.{statement, statements, word};
 ghost use Rattle.xk_names.specs.Scope.{find};
-ghost use Rattle.xk_codegen.specs.Parts.{Calls, Starts, body_among, method_among, part_runs, runs, runs_all};
+ghost use Rattle.xk_source.specs.Parts.{Calls, Starts, body_among, method_among, part_runs, runs, runs_all};
 ghost use Rattle.xk_codegen.specs.Views.{part};
-ghost use Rattle.xk_codegen.specs.Graph.{ArePlaces, graph_by, place_in};
+ghost use Rattle.xk_codegen.specs.Places.{ArePlaces, place_in};
+ghost use Rattle.xk_source.specs.Graph.{graph_by};
 
 use crate::parts::Part;
 use indexmap::IndexMap;
@@ -28,7 +29,7 @@ pub(crate) struct Places<'t> {
 }
 
 impl<'t> Model for Places<'t> {
-    ghost use Rattle.xk_codegen.specs.Graph.{Places as PlacesValue};
+    ghost use Rattle.xk_codegen.specs.Places.{Places as PlacesValue};
 
     ghost Value = { PlacesValue };
 

@@ -6,9 +6,9 @@ ghost use Rattle.xk_tree.specs.Tree.{shared_value, tree_value};
 ghost use Rattle.xk_names.specs.Scope.{find};
 ghost use Rattle.xk_names.specs.Uses.{signatures};
 ghost use Rattle.xk_names.specs.Scoped.{IsScoped};
-ghost use Rattle.xk_codegen.specs.Parts.{method_among};
+ghost use Rattle.xk_source.specs.Parts.{method_among};
 ghost use Rattle.xk_codegen.specs.Views.{part};
-ghost use Rattle.xk_codegen.specs.Compiled.{IsSetting, settled_body, shared_among, unit_number};
+ghost use Rattle.xk_source.specs.Compiled.{IsSetting, settled_body, shared_among, unit_number};
 
 use crate::parts::Part;
 use indexmap::IndexMap;

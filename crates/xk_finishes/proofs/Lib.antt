@@ -1,3 +1,6 @@
 pub mod Activities
+pub mod Counting
+pub mod Kept
+pub mod Open
 pub mod Owners
-pub mod Under
+pub mod Places

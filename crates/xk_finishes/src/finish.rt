@@ -2,7 +2,6 @@
 
 ghost use Rattle.std.specs.Prelude.{◌≡◌, Some};
 ghost use Rattle.xk_types.specs.World.{root};
-ghost use Rattle.xk_types.specs.Step.{same_finish};
 
 use std::marker::Model;
 use xk_types::Act;
@@ -53,15 +52,10 @@ impl Finish {
         self.owner
     }
 
-    /// Whether it is this one.
-    pub fn is(self, other: Finish) -> bool
-        ensures { result ≡ same_finish self other }
+    /// How many its owner then had open, this one among them.
+    pub fn depth(self) -> u32
+        ensures { result ≡ self.depth }
     {
-        let same_owner = match (self.owner, other.owner) {
-            (None, None) => true,
-            (Some(a), Some(b)) => a.0 == b.0,
-            _ => false,
-        };
-        same_owner && self.depth == other.depth
+        self.depth
     }
 }

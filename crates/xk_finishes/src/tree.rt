@@ -3,8 +3,9 @@
 ghost use Rattle.std.specs.Prelude.{◌≡◌, ◌<◌, ◌^◌, false, not, List, [], ◌∷◌, ◌++◌, length, Some, slice_get, IfOk, OnOk, OnErr};
 ghost use Rattle.xk_types.specs.World.{Activity, root};
 ghost use Rattle.xk_types.specs.Step as step;
-ghost use Rattle.xk_finishes.specs.Tree.{fresh_node, node_at, node_entered, node_left, node_ended, changed_at, governing_of, is_under, awaits, awaits_innermost, AreOwnersEarlier, AreNodesOf};
+ghost use Rattle.xk_finishes.specs.Tree.{fresh_node, node_at, node_entered, node_left, node_ended, changed_at, governing_of, awaits_innermost, AreNodesOf};
 
+use crate::counters::Counters;
 use crate::finish::Finish;
 use crate::node::Node;
 use std::alloc::{AllocError, Global};
@@ -22,46 +23,20 @@ use xk_types::Act;
 #[derive(Drop)]
 pub struct FinishTree {
     nodes: Vec<Node>,
+    /// For each finish how many whom it governs itself haven't ended.
+    counters: Counters,
 }
 
 impl Model for FinishTree {
     ghost use Rattle.std.specs.Prelude.{List};
-    ghost use Rattle.xk_finishes.specs.Tree.{NodeValue, AreOwnersEarlier};
+    ghost use Rattle.xk_finishes.specs.Tree.{NodeValue};
+    ghost use Rattle.xk_finishes.specs.Counters.{IsCounting};
 
     ghost Value = { List NodeValue };
 
     ghost view = { λ t. t.nodes.items };
 
-    ghost invariant = { λ t. AreOwnersEarlier t.nodes.items };
-}
-
-/// Whether activity b is under the finish.
-fn is_under(nodes: &[Node], finish: Finish, b: usize) -> bool
-    requires exists { b < length nodes.now }
-    requires owners { AreOwnersEarlier nodes.now }
-    ensures { result ≡ is_under nodes.now finish b }
-{
-    let mut governed = nodes[b].governed();
-    while !governed.is(finish) {
-        match governed.owner() {
-            None => return false,
-            Some(owner) => governed = nodes[owner.0 as usize].governed(),
-        }
-    }
-    true
-}
-
-/// Whether somebody under the finish hasn't ended.
-fn awaits(nodes: &[Node], finish: Finish) -> bool
-    requires { AreOwnersEarlier nodes.now }
-    ensures { result ≡ awaits nodes.now finish }
-{
-    for (b, node) in nodes.iter().enumerate() {
-        if !node.ended() && is_under(nodes, finish, b) {
-            return true;
-        }
-    }
-    false
+    ghost invariant = { λ t. IsCounting t.nodes.items t.counters };
 }
 
 impl FinishTree {
@@ -71,7 +46,10 @@ impl FinishTree {
     {
         let mut nodes = Vec::new(alloc);
         nodes.push(Node::new(Finish::root(), room))?;
-        Ok(FinishTree { nodes })
+        Ok(FinishTree {
+            nodes,
+            counters: Counters::new(alloc),
+        })
     }
 
     /// An activity starts another, which has room for this many finishes open at once, and takes the next number. It is
@@ -89,7 +67,9 @@ impl FinishTree {
     {
         let number = Act(self.nodes.len() as u32);
         let governed = self.nodes[starter.0 as usize].governing(starter);
+        self.counters.make_place(governed)?;
         self.nodes.push(Node::new(governed, room))?;
+        self.counters.add(governed);
         Ok(number)
     }
 
@@ -110,7 +90,9 @@ impl FinishTree {
         requires closed { (node_at self.old act).opened ≡ 0 }
         ensures ended { self.new ≡ changed_at self.old act node_ended }
     {
+        let governed = self.nodes[act.0 as usize].governed();
         self.nodes[act.0 as usize].end();
+        self.counters.take(governed);
     }
 
     /// The activity closes its innermost open finish. Everybody under it has ended.
@@ -124,7 +106,7 @@ impl FinishTree {
     }
 
     /// Whether everybody under the innermost open finish of the activity has ended, so that its `endfinish` waits for nobody.
-    /// Looks at all activities, and goes up from owner to owner for each that hasn't ended.
+    /// Looks at that finish's counter alone.
     pub fn empty(&self, act: Act) -> bool
         requires exists { act < length self.now }
         requires opened { 0 < (node_at self.now act).opened }
@@ -133,7 +115,8 @@ impl FinishTree {
         ensures step { (acts : List Activity) (a : Activity) → AreNodesOf acts self.now
             → slice_get acts act ≡ Some a → result ≡ not (step.awaits acts (step.innermost act a)) }
     {
-        !self.waits(act)
+        let depth = self.nodes[act.0 as usize].opened();
+        self.counters.of(act, depth) == 0
     }
 
     /// The activity that opened the finish which governs this one; None where nobody did, as for main.
@@ -142,14 +125,5 @@ impl FinishTree {
         ensures { result ≡ (node_at self.now act).governed.owner }
     {
         self.nodes[act.0 as usize].governed().owner()
-    }
-
-    /// Whether somebody under the innermost open finish of the activity hasn't ended.
-    fn waits(&self, act: Act) -> bool
-        requires { act < length self.now }
-        ensures { result ≡ awaits_innermost self.now act }
-    {
-        let opened = self.nodes[act.0 as usize].opened();
-        awaits(&self.nodes, Finish::opened_by(act, opened))
     }
 }

@@ -31,7 +31,7 @@ longer n bytes known e long =
 
 kept_gives : (what : Form) (bytes known : List ℕ) (m : ModuleValue) → bytes ≡ kept what known → Gives what bytes m → Gives what known m
 kept_gives form.Module bytes known m e h = subst (λ b. Gives form.Module b m) e h
-kept_gives form.Source bytes known m e h = subst (λ b. Gives form.Source b m) (whole longest_source bytes known e h.1.1.short) h
+kept_gives form.Source bytes known m e h = subst (λ b. Gives form.Source b m) (whole longest_source bytes known e h.spelled.1.short) h
 
 kept_source : (bytes known : List ℕ) (f : FrontFault) → bytes ≡ kept form.Source known → IsNoSource bytes f → IsNoSource known f
 kept_source bytes known f e (inl h) = inl (longer longest_source bytes known e h.0, h.1, h.2)

@@ -5,3 +5,4 @@ pub mod Bytes
 pub mod OrderedRun
 pub mod Answer
 pub mod Serving
+pub mod EveryRun

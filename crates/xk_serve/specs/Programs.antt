@@ -12,7 +12,9 @@ use Rattle.xk_tree.specs.declared.fault.FrontFault.{FrontFault}
 use Rattle.xk_tree.specs.declared.fault.FrontRule.TheVariants as rule
 use Rattle.xk_syntax.specs.Spelling.{SpellsTree}
 use Rattle.xk_syntax.specs.Texts.{IsTextRule}
-use Rattle.xk_codegen.specs.Compiled.{IsCompiled, IsFaultOf}
+use Rattle.xk_names.specs.Scoped.{IsScoped}
+use Rattle.xk_source.specs.Compiled.{IsCompiled}
+use Rattle.xk_codegen.specs.Faults.{IsFaultOf}
 use Rattle.xk_words.specs.declared.job.Form.{Form}
 use Rattle.xk_words.specs.declared.job.Form.TheVariants as form
 
@@ -61,9 +63,18 @@ abbrev pub IsUnfit : List ℕ → FrontError → Type 0
 IsUnfit bytes (error.Fault f) = IsNoSource bytes f
 IsUnfit bytes error.OutOfMemory = ⊤
 
+-- The bytes are compiled to the module: they are a source text of a tree without faults of names, and the module is its code, within the
+-- limits.
+pub record IsCompiledTo (bytes : List ℕ) (m : ModuleValue) : Type 0 where
+  pub tree : TreeValue
+  pub spelled : IsSource bytes tree
+  pub scoped : IsScoped tree
+  pub code : IsCompiled tree m
+  pub limits : IsWithinLimits m
+
 -- ---- both
 
--- the bytes give this module: they are a text of it, or a source text with whose tree it goes
+-- the bytes give this module: they are a text of it, or a source text that is compiled to it
 abbrev pub Gives : Form → List ℕ → ModuleValue → Type 0
 Gives form.Module bytes m = IsModuleText bytes m × IsWithinLimits m
-Gives form.Source bytes m = (tree : TreeValue) × IsSource bytes tree × IsCompiled tree m
+Gives form.Source bytes m = IsCompiledTo bytes m

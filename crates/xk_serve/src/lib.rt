@@ -5,6 +5,7 @@ mod answering;
 mod bytes;
 mod done;
 mod fault;
+pub mod laws;
 mod ordered_run;
 mod programs;
 mod serving;

@@ -1,21 +1,20 @@
 -- How a unit begins: its parameters stand for what was handed to it.
-use Rattle.std.proofs.Common.{◌≡◌, ℕ, zero, suc, ◌+◌, ◌<◌, ◌≤◌, Bool, true, false, cond, List, [], ◌∷◌, ◌++◌, length, Some, None, Option, refl, sym, ap, ◌∙◌, subst, arith, append-nil}
+use Rattle.std.proofs.Common.{◌≡◌, ℕ, suc, ◌+◌, ◌<◌, ◌≤◌, Bool, true, false, cond, List, [], ◌∷◌, ◌++◌, length, Some, refl, sym, ap, ◌∙◌, subst, arith, append-nil}
 use Rattle.std.specs.Prelude.{slice_get, is_some, ⊤}
 use Rattle.std.proofs.lemmas.Bool.{false≢true}
 use Rattle.std.proofs.lemmas.Option.{none-some, same_Some}
-use Rattle.xk_types.specs.declared.instr.Instr.{Instr}
 use Rattle.xk_types.specs.declared.instr.Instr.TheVariants as instr
 use Rattle.xk_types.specs.declared.names.Value.{Value as Held}
 use Rattle.xk_types.specs.declared.unit.UnitKind.{UnitKind}
 use Rattle.xk_types.proofs.Lists.{get-append_left}
 use Rattle.xk_tree.specs.Tree.{Statement, Block, ParamValue, MethodValue}
 use Rattle.xk_names.specs.Scope.{find, is_text}
-use Rattle.xk_code.specs.CodeOf.{Scope, count, declared, code_of}
+use Rattle.xk_code.specs.CodeOf.{Scope, declared, code_of}
 use Rattle.xk_code.specs.Unit.{scope_from, first_temporary, unit_code, unit_of_method, names_of_params}
 use Rattle.xk_code.specs.Covered.{IsFound, AreNew, IsUnitCovered}
 use Rattle.xk_code.proofs.Covered.Tables.{same_text, is_same, still_found, now_found}
-use Rattle.xk_codegen.specs.Parts.{OfMethod}
-use Rattle.xk_source.specs.Source.{Todo, Names, unfolded, shared_from, method_of}
+use Rattle.xk_source.specs.Parts.{OfMethod}
+use Rattle.xk_source.specs.Source.{Names, unfolded, shared_from}
 use Rattle.xk_source.proofs.Exec.{IsMatched}
 use Rattle.xk_source.proofs.Relation.{holds_front, holds_back, holds_all, IsProper, Whole, IsLinked, AreLinked, Rest, Stands, rest_here, rest_unfolded}
 
@@ -63,7 +62,8 @@ new_others scope n x (y ∷ ys) found new = (by (is_text y x) refl, new_others (
     by false e = refl
 
 -- a further name that isn't among them
-known_more : (x : List ℕ) (v : Held) (ys : List (List ℕ)) (vs : List Held) (names : Names) → AreOthers x ys → AreKnown names ys vs → AreKnown ((x, v) ∷ names) ys vs
+known_more : (x : List ℕ) (v : Held) (ys : List (List ℕ)) (vs : List Held) (names : Names) → AreOthers x ys → AreKnown names ys vs
+    → AreKnown ((x, v) ∷ names) ys vs
 known_more x v [] [] names other h = tt
 known_more x v [] (u ∷ us) names other h = absurd h
 known_more x v (y ∷ ys) [] names other h = absurd h
@@ -92,7 +92,8 @@ pub record IsHeld (names : Names) (vs : List Held) (n : ℕ) (x : List ℕ) (s :
   pub name : find names x ≡ Some v
   pub held : slice_get vs k ≡ Some v
 
-held_from : (n : ℕ) (xs : List (List ℕ)) (vs : List Held) (names : Names) → AreKnown names xs vs → (x : List ℕ) (s : ℕ) → find (scope_from n xs) x ≡ Some s
+held_from : (n : ℕ) (xs : List (List ℕ)) (vs : List Held) (names : Names) → AreKnown names xs vs → (x : List ℕ) (s : ℕ)
+    → find (scope_from n xs) x ≡ Some s
     → IsHeld names vs n x s
 held_from n [] vs names h x s f = absurd (none-some s f)
 held_from n (y ∷ ys) [] names h x s f = absurd h

@@ -1,12 +1,12 @@
 -- The module that is the code of a program without faults of names does what the program says.
-use Rattle.std.proofs.Common.{◌≡◌, inl, inr, ℕ, suc, ◌≤◌, Bool, true, false, cond, List, [], ◌∷◌, map, length, codes, Option, Some, slice_get, refl, sym, ap, ◌∙◌, subst, arith}
-use Rattle.std.specs.Prelude.{option_map, unwrap_or, int_le}
+use Rattle.std.proofs.Common.{◌≡◌, inl, inr, ℕ, suc, ◌≤◌, Bool, true, false, cond, List, [], ◌∷◌, map, length, codes, Some, slice_get, refl, sym, ap, ◌∙◌, subst, arith}
+use Rattle.std.specs.Prelude.{option_map, unwrap_or}
 use Rattle.std.specs.Option.{option_map_or}
 use Rattle.std.proofs.lemmas.List.{length-map}
 use Rattle.std.proofs.lemmas.Option.{slice_get_within}
 use Rattle.xk_types.specs.Code.{UnitValue, ModuleValue}
 use Rattle.xk_tree.specs.Bodies.{HasBodiesApart}
-use Rattle.xk_tree.specs.Tree.{Word, Expression, Clocks, Statement, Statements, Done, More, Block, Empty, Declare, Assign, Atomic, If, IfElse, For, Async, Finish, Call, Resume, Drop, AdvanceAll, Print, MethodValue, SharedValue, TreeValue}
+use Rattle.xk_tree.specs.Tree.{Word, Expression, Statement, Statements, Done, More, Block, Empty, Declare, Assign, Atomic, If, IfElse, For, Async, Finish, Call, Resume, Drop, AdvanceAll, Print, MethodValue, SharedValue, TreeValue}
 use Rattle.xk_names.specs.Scope.{Has, find, is_text}
 use Rattle.xk_names.specs.Scoped.{IsScoped}
 use Rattle.xk_units.proofs.Listed.{has_left, has_right}
@@ -14,17 +14,17 @@ use Rattle.xk_units.proofs.Graph.{at_mapped}
 use Rattle.xk_code.specs.CodeOf.{Setting, Body, number_of, body_unit}
 use Rattle.xk_code.specs.Unit.{names_of_params}
 use Rattle.xk_code.proofs.Covered.Tables.{is_same}
-use Rattle.xk_codegen.specs.Parts.{Part, OfMethod, OfBody, Run, Calls, Starts, bodies, bodies_all, parts, runs, runs_all, place_of}
-use Rattle.xk_codegen.specs.Compiled.{HasLater, IsCompiled, method_kind, shared_among, unit_of_part, unit_number}
-use Rattle.xk_codegen.proofs.Among.{Fits, fits_there}
-use Rattle.xk_codegen.proofs.Keeps.Apart.{one_method, signed}
-use Rattle.xk_codegen.proofs.Keeps.Stands.{part_of}
-use Rattle.xk_codegen.proofs.Keeps.Settled.{AreSettled, AreParts, body_unit_of}
-use Rattle.xk_codegen.proofs.Keeps.Covered.{unit_parts, method_there, body_there}
+use Rattle.xk_source.specs.Parts.{Part, OfMethod, OfBody, Run, Calls, Starts, bodies, bodies_all, runs, runs_all}
+use Rattle.xk_source.specs.Compiled.{HasLater, IsCompiled, method_kind, shared_among, unit_of_part, unit_number}
+use Rattle.xk_source.proofs.Units.Among.{Fits, fits_there}
+use Rattle.xk_source.proofs.Units.Apart.{one_method, signed}
+use Rattle.xk_source.proofs.Units.Stands.{part_of}
+use Rattle.xk_source.proofs.Units.Settled.{AreSettled, AreParts, body_unit_of}
+use Rattle.xk_source.proofs.Units.Covered.{unit_parts, method_there, body_there}
 use Rattle.xk_source.specs.Source.{shared_from, method_of}
 use Rattle.xk_source.specs.Meaning.{Means}
 use Rattle.xk_source.proofs.Relation.{Whole, IsLinked, AreLinked}
-use Rattle.xk_source.proofs.Begins.{IsBuilt, AreBuilt}
+use Rattle.xk_source.proofs.Begins.{IsBuilt}
 use Rattle.xk_source.proofs.Law.{IsMade, made_means}
 
 -- ---- names
@@ -79,7 +79,8 @@ module _ (t : TreeValue) (scoped : IsScoped t) (units : List Part) (cx : Setting
   in_tree : (n : ℕ) (m : MethodValue) → slice_get units n ≡ Some (OfMethod m) → Has t.methods m
   in_tree n m e = part_of t scoped (OfMethod m) (h.are_units.within n (OfMethod m) e)
 
-  call_linked : (f : Word) (at : ℕ) (es : List Expression) (n : ℕ) (p : Part) → slice_get units n ≡ Some p → Fits p (Calls f) → number_of cx.methods f ≡ n
+  call_linked : (f : Word) (at : ℕ) (es : List Expression) (n : ℕ) (p : Part) → slice_get units n ≡ Some p → Fits p (Calls f)
+      → number_of cx.methods f ≡ n
       → IsLinked whole (Call f at es)
   call_linked f at es n (OfBody a cs s) stands fits number = absurd fits
   call_linked f at es n (OfMethod m) stands fits number =
@@ -118,7 +119,8 @@ module _ (t : TreeValue) (scoped : IsScoped t) (units : List Part) (cx : Setting
     linked k (AdvanceAll at v) among later = tt
     linked k (Print at v e) among later = tt
 
-    all_linked : (k : ℕ) (ss : Statements) → AreParts t (bodies_all ss) → ((r : Run) → Has (runs_all ss) r → HasLater t units k r) → AreLinked whole ss
+    all_linked : (k : ℕ) (ss : Statements) → AreParts t (bodies_all ss) → ((r : Run) → Has (runs_all ss) r → HasLater t units k r)
+        → AreLinked whole ss
     all_linked k Done among later = tt
     all_linked k (More s ss) among later = (
       linked k s (λ p i. among p (has_left (bodies s) (bodies_all ss) p i)) (λ r i. later r (has_left (runs s) (runs_all ss) r i)),

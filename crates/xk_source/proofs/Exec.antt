@@ -1,6 +1,6 @@
 -- What the instructions of an expression do to slots, and that it is what the expression comes to.
-use Rattle.std.proofs.Common.{◌≡◌, ℕ, zero, suc, ◌+◌, ◌<◌, ◌≤◌, ◌==◌, Bool, true, false, cond, List, [], ◌∷◌, ◌++◌, length, set, ℤ, pos, Some, None, Option, refl, sym, ap, ◌∙◌, subst, arith, eqb-true, eq-eqb, ne_eqb}
-use Rattle.std.specs.Prelude.{slice_get, slice_set, unwrap_or, IsSome, All, ⊤}
+use Rattle.std.proofs.Common.{◌≡◌, ℕ, ◌+◌, ◌<◌, ◌≤◌, ◌==◌, Bool, true, false, cond, List, [], ◌∷◌, ◌++◌, ℤ, pos, Some, None, Option, refl, sym, ap, ◌∙◌, arith, eq-eqb}
+use Rattle.std.specs.Prelude.{slice_get, slice_set, unwrap_or, IsSome}
 use Rattle.std.specs.Int.{w64, int_wrapping_add, int_wrapping_sub, int_wrapping_mul}
 use Rattle.std.proofs.lemmas.Bool.{false≢true}
 use Rattle.std.proofs.lemmas.Option.{none-some, same_Some}
@@ -13,8 +13,8 @@ use Rattle.xk_types.proofs.Lists.{get-set_same, get-set_other}
 use Rattle.xk_tree.specs.declared.tree.Operator.{Operator}
 use Rattle.xk_tree.specs.declared.tree.Operator.TheVariants as operator
 use Rattle.xk_tree.specs.Tree.{Word, Expression, Literal, Named, Paren, Negation, Binary}
-use Rattle.xk_names.specs.Scope.{Table, find}
-use Rattle.xk_code.specs.CodeOf.{Scope, number_of, instr_of, slot_for, behind, eval, both, second, before_into, last_into, eval_all, argument_slots}
+use Rattle.xk_names.specs.Scope.{find}
+use Rattle.xk_code.specs.CodeOf.{Scope, number_of, instr_of, slot_for, behind, eval, both, second, before_into, last_into, eval_all}
 use Rattle.xk_code.specs.Covered.{IsFound, IsKnown}
 use Rattle.xk_source.specs.Source.{Names, SourceOutcome, value_of, result_of, taken}
 
@@ -64,14 +64,16 @@ pub then_parts : {A B : Type 0} (o : Option A) (go : A → Option B) (y : B) →
 then_parts None go y h = absurd (none-some y h)
 then_parts (Some x) go y h = (x, refl, h)
 
-pub exec_parts : (is js : List Instr) (slots out : List Held) → exec (is ++ js) slots ≡ Some out → (mid : List Held) × (exec is slots ≡ Some mid) × (exec js mid ≡ Some out)
+pub exec_parts : (is js : List Instr) (slots out : List Held) → exec (is ++ js) slots ≡ Some out
+    → (mid : List Held) × (exec is slots ≡ Some mid) × (exec js mid ≡ Some out)
 exec_parts [] js slots out h = (slots, refl, h)
 exec_parts (i ∷ is) js slots out h =
     let a = then_parts (exec1 i slots) (exec (is ++ js)) out h in
     let b = exec_parts is js a.0 out a.2 in
     (b.0, ap (λ o. then_on o (exec is)) a.1 ∙ b.1, b.2)
 
-pub exec_join : (is js : List Instr) (slots mid out : List Held) → exec is slots ≡ Some mid → exec js mid ≡ Some out → exec (is ++ js) slots ≡ Some out
+pub exec_join : (is js : List Instr) (slots mid out : List Held) → exec is slots ≡ Some mid → exec js mid ≡ Some out
+    → exec (is ++ js) slots ≡ Some out
 exec_join [] js slots mid out h g = ap (exec js) (same_Some slots mid h) ∙ g
 exec_join (i ∷ is) js slots mid out h g =
     let a = then_parts (exec1 i slots) (exec is) mid h in
@@ -81,10 +83,12 @@ pub exec_one : (i : Instr) (slots out : List Held) → exec (i ∷ []) slots ≡
 exec_one i slots out h = let a = then_parts (exec1 i slots) (exec []) out h in a.1 ∙ a.2
 
 -- a slot was there, and was written
-pub put_parts : (slots out : List Held) (d : ℕ) (n : ℤ) → put_at slots d n ≡ Some out → (old : Held) × (slice_get slots d ≡ Some old) × (out ≡ slice_set slots d (value.Number n))
+pub put_parts : (slots out : List Held) (d : ℕ) (n : ℤ) → put_at slots d n ≡ Some out
+    → (old : Held) × (slice_get slots d ≡ Some old) × (out ≡ slice_set slots d (value.Number n))
 put_parts slots out d n h = go (slice_get slots d) refl h
   where
-    go : (o : Option Held) → slice_get slots d ≡ o → put_by o slots d n ≡ Some out → (old : Held) × (slice_get slots d ≡ Some old) × (out ≡ slice_set slots d (value.Number n))
+    go : (o : Option Held) → slice_get slots d ≡ o → put_by o slots d n ≡ Some out
+        → (old : Held) × (slice_get slots d ≡ Some old) × (out ≡ slice_set slots d (value.Number n))
     go None e g = absurd (none-some out g)
     go (Some old) e g = (old, e, sym (same_Some (slice_set slots d (value.Number n)) out g))
 
@@ -112,14 +116,16 @@ computed_parts f d x y slots out h =
     let c = put_parts slots out d (f a.0 b.0) b.2 in
     record { p = a.0; q = b.0; old = c.0; first = a.1; second = b.1; there = c.1; made = c.2 }
 
-pub op_parts : (op : Operator) (d x y : ℕ) (slots out : List Held) → exec1 (instr_of op d x y) slots ≡ Some out → IsComputed (result_of op) d x y slots out
+pub op_parts : (op : Operator) (d x y : ℕ) (slots out : List Held) → exec1 (instr_of op d x y) slots ≡ Some out
+    → IsComputed (result_of op) d x y slots out
 op_parts op d x y slots out h = computed_parts (result_of op) d x y slots out (sym (op_exec op d x y slots) ∙ h)
 
 pub sub_parts : (d x y : ℕ) (slots out : List Held) → exec1 (instr.Sub d x y) slots ≡ Some out → IsComputed (int_wrapping_sub w64) d x y slots out
 sub_parts d x y slots out h = computed_parts (int_wrapping_sub w64) d x y slots out h
 
 -- the number that was written is there
-pub number_written : (slots out : List Held) (d : ℕ) (n : ℤ) (old : Held) → slice_get slots d ≡ Some old → out ≡ slice_set slots d (value.Number n) → number_at out d ≡ Some n
+pub number_written : (slots out : List Held) (d : ℕ) (n : ℤ) (old : Held) → slice_get slots d ≡ Some old → out ≡ slice_set slots d (value.Number n)
+    → number_at out d ≡ Some n
 number_written slots out d n old h e = ap (λ s. number_at s d) e ∙ ap number_held (get-set_same slots d old (value.Number n) h)
 
 -- and other slots stay
@@ -177,7 +183,8 @@ slot_behind t x le = go (x == t) refl
 -- ---- what stays
 
 -- an expression's instructions leave slots below the first temporary
-pub eval_keeps : (scope : Scope) (t : ℕ) (e : Expression) (slots out : List Held) → exec (eval scope t e) slots ≡ Some out → (s : ℕ) → s < t → slice_get out s ≡ slice_get slots s
+pub eval_keeps : (scope : Scope) (t : ℕ) (e : Expression) (slots out : List Held) → exec (eval scope t e) slots ≡ Some out → (s : ℕ) → s < t
+    → slice_get out s ≡ slice_get slots s
 eval_keeps scope t (Literal n) slots out h s lt =
     let p = put_parts slots out t n.value (exec_one (instr.Lit t n.value) slots out h) in other_written slots out t s _ p.2 (λ e. omega arith)
 eval_keeps scope t (Named x) slots out h s lt = ap (λ o. slice_get o s) (sym (same_Some slots out h))
@@ -199,7 +206,8 @@ eval_keeps scope t (Negation at e) slots out h s lt =
     other_written b.0 out t s _ c.made (λ g. omega arith) ∙ (eval_keeps scope (t + 1) e z.0 b.0 b.1 s (omega arith) ∙ other_written slots z.0 t s _ p.2 (λ g. omega arith))
 
 -- so names still stand for what their slots hold
-pub still_matched : (scope : Scope) (t : ℕ) (names : Names) (slots out : List Held) → IsBelow scope t → ((s : ℕ) → s < t → slice_get out s ≡ slice_get slots s) → IsMatched scope names slots
+pub still_matched : (scope : Scope) (t : ℕ) (names : Names) (slots out : List Held) → IsBelow scope t
+    → ((s : ℕ) → s < t → slice_get out s ≡ slice_get slots s) → IsMatched scope names slots
     → IsMatched scope names out
 still_matched scope t names slots out below keeps m x s f = m x s f ∙ sym (keeps s (below x s f))
 
@@ -222,7 +230,8 @@ name_held scope names x slots sc mt =
     let v = some_there (find scope x.text) sc in mt x.text v.0 v.1 ∙ ap (slice_get slots) (sym (slot_found scope x v.0 v.1))
 
 -- an expression's instructions leave its number in its slot
-pub eval_gives : (scope : Scope) (names : Names) (t : ℕ) (e : Expression) (slots out : List Held) (n : ℤ) → IsBelow scope t → IsKnown scope e → IsMatched scope names slots
+pub eval_gives : (scope : Scope) (names : Names) (t : ℕ) (e : Expression) (slots out : List Held) (n : ℤ) → IsBelow scope t → IsKnown scope e
+    → IsMatched scope names slots
     → exec (eval scope t e) slots ≡ Some out → number_at out (slot_for scope t e) ≡ Some n → ComesTo names e n
 eval_gives scope names t (Literal m) slots out n below sc mt h g go =
     let p = put_parts slots out t m.value (exec_one (instr.Lit t m.value) slots out h) in
@@ -249,7 +258,8 @@ eval_gives scope names t (Negation at e) slots out n below sc mt h g go =
     let w = put_parts slots z.0 t (pos 0) z.1 in
     let b = exec_parts (eval scope (t + 1) e) (last ∷ []) z.0 out z.2 in
     let c = sub_parts t t (slot_for scope (t + 1) e) b.0 out (exec_one last b.0 out b.2) in
-    let same : int_wrapping_sub w64 c.p c.q ≡ n = same_Some (int_wrapping_sub w64 c.p c.q) n (sym (number_written b.0 out t (int_wrapping_sub w64 c.p c.q) c.old c.there c.made) ∙ g) in
+    let same : int_wrapping_sub w64 c.p c.q ≡ n =
+    same_Some (int_wrapping_sub w64 c.p c.q) n (sym (number_written b.0 out t (int_wrapping_sub w64 c.p c.q) c.old c.there c.made) ∙ g) in
     let nought : pos 0 ≡ c.p =
     same_Some (pos 0) c.p (sym (number_written slots z.0 t (pos 0) w.0 w.1 w.2) ∙ (ap number_held (sym (eval_keeps scope (t + 1) e z.0 b.0 b.1 t (omega arith))) ∙ c.first)) in
     let mid = still_matched scope t names slots z.0 below (λ s lt. other_written slots z.0 t s _ w.2 (λ k. omega arith)) mt in
@@ -262,15 +272,18 @@ pub record AreTaken (names : Names) (l r : Expression) (p q : ℤ) : Type 0 wher
   pub first : ComesTo names l p
   pub second : ComesTo names r q
 
-pub both_keeps : (scope : Scope) (t : ℕ) (l r : Expression) (slots out : List Held) → exec (both scope t l r) slots ≡ Some out → (s : ℕ) → s < t → slice_get out s ≡ slice_get slots s
+pub both_keeps : (scope : Scope) (t : ℕ) (l r : Expression) (slots out : List Held) → exec (both scope t l r) slots ≡ Some out → (s : ℕ) → s < t
+    → slice_get out s ≡ slice_get slots s
 both_keeps scope t l r slots out h s lt =
     let u = behind t (slot_for scope t l) in
     let a = exec_parts (eval scope t l) (eval scope u r) slots out h in
     let more = behind_least t (slot_for scope t l) in
     eval_keeps scope u r a.0 out a.2 s (omega arith) ∙ eval_keeps scope t l slots a.0 a.1 s lt
 
-pub both_gives : (scope : Scope) (names : Names) (t : ℕ) (l r : Expression) (slots out : List Held) (p q : ℤ) → IsBelow scope t → IsKnown scope l → IsKnown scope r → IsMatched scope names slots
-    → exec (both scope t l r) slots ≡ Some out → number_at out (slot_for scope t l) ≡ Some p → number_at out (second scope t l r) ≡ Some q → AreTaken names l r p q
+pub both_gives : (scope : Scope) (names : Names) (t : ℕ) (l r : Expression) (slots out : List Held) (p q : ℤ) → IsBelow scope t → IsKnown scope l
+    → IsKnown scope r → IsMatched scope names slots
+    → exec (both scope t l r) slots ≡ Some out → number_at out (slot_for scope t l) ≡ Some p → number_at out (second scope t l r) ≡ Some q
+    → AreTaken names l r p q
 both_gives scope names t l r slots out p q below scl scr mt h hp hq =
     let u = behind t (slot_for scope t l) in
     let a = exec_parts (eval scope t l) (eval scope u r) slots out h in
@@ -292,7 +305,8 @@ pub record IsPutInto (names : Names) (e : Expression) (d : ℕ) (mid out : List 
   pub there : slice_get mid d ≡ Some old
   pub made : out ≡ slice_set mid d (value.Number n)
 
-pub into_keeps : (scope : Scope) (t : ℕ) (e : Expression) (slots out : List Held) → exec (before_into scope t e) slots ≡ Some out → (s : ℕ) → s < t → slice_get out s ≡ slice_get slots s
+pub into_keeps : (scope : Scope) (t : ℕ) (e : Expression) (slots out : List Held) → exec (before_into scope t e) slots ≡ Some out → (s : ℕ) → s < t
+    → slice_get out s ≡ slice_get slots s
 into_keeps scope t (Literal n) slots out h s lt = ap (λ o. slice_get o s) (sym (same_Some slots out h))
 into_keeps scope t (Named x) slots out h s lt = ap (λ o. slice_get o s) (sym (same_Some slots out h))
 into_keeps scope t (Paren at e) slots out h s lt = into_keeps scope t e slots out h s lt
@@ -302,7 +316,8 @@ into_keeps scope t (Negation at e) slots out h s lt =
     let w = put_parts slots z.0 t (pos 0) z.1 in
     eval_keeps scope (t + 1) e z.0 out z.2 s (omega arith) ∙ other_written slots z.0 t s _ w.2 (λ k. omega arith)
 
-pub into_gives : (scope : Scope) (names : Names) (t : ℕ) (e : Expression) (d : ℕ) (slots mid out : List Held) → IsBelow scope t → IsKnown scope e → IsMatched scope names slots
+pub into_gives : (scope : Scope) (names : Names) (t : ℕ) (e : Expression) (d : ℕ) (slots mid out : List Held) → IsBelow scope t → IsKnown scope e
+    → IsMatched scope names slots
     → exec (before_into scope t e) slots ≡ Some mid → exec1 (last_into scope t e d) mid ≡ Some out → IsPutInto names e d mid out
 into_gives scope names t (Literal n) d slots mid out below sc mt h g =
     let p = put_parts mid out d n.value g in record { n = n.value; old = p.0; gives = λ go. refl; there = p.1; made = p.2 }
@@ -370,7 +385,8 @@ eval_straight scope t (Named x) = tt
 eval_straight scope t (Paren at e) = eval_straight scope t e
 eval_straight scope t (Binary op l at r) =
     let u = behind t (slot_for scope t l) in
-    straight_join (eval scope t l) _ (eval_straight scope t l) (straight_join (eval scope u r) _ (eval_straight scope u r) (op_straight op t (slot_for scope t l) (slot_for scope u r), tt))
+    straight_join (eval scope t l) _ (eval_straight scope t l)
+    (straight_join (eval scope u r) _ (eval_straight scope u r) (op_straight op t (slot_for scope t l) (slot_for scope u r), tt))
 eval_straight scope t (Negation at e) = (tt, straight_join (eval scope (t + 1) e) _ (eval_straight scope (t + 1) e) (tt, tt))
 
 pub both_straight : (scope : Scope) (t : ℕ) (l r : Expression) → AreStraight (both scope t l r)
@@ -406,7 +422,8 @@ pub args_straight : (scope : Scope) (t : ℕ) (es : List Expression) → AreStra
 args_straight scope t [] = tt
 args_straight scope t (e ∷ es) = straight_join (eval scope t e) _ (eval_straight scope t e) (args_straight scope (behind t (slot_for scope t e)) es)
 
-pub args_keep : (scope : Scope) (t : ℕ) (es : List Expression) (slots out : List Held) → exec (eval_all scope t es) slots ≡ Some out → (s : ℕ) → s < t → slice_get out s ≡ slice_get slots s
+pub args_keep : (scope : Scope) (t : ℕ) (es : List Expression) (slots out : List Held) → exec (eval_all scope t es) slots ≡ Some out → (s : ℕ) → s < t
+    → slice_get out s ≡ slice_get slots s
 args_keep scope t [] slots out h s lt = ap (λ o. slice_get o s) (sym (same_Some slots out h))
 args_keep scope t (e ∷ es) slots out h s lt =
     let u = behind t (slot_for scope t e) in

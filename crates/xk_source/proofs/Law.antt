@@ -1,12 +1,9 @@
 -- A module that has the code of a program's methods and bodies does what the program says.
-use Rattle.std.proofs.Common.{◌≡◌, ℕ, List, [], ◌∷◌, map, ℤ, Some, refl, sym, ap, ◌∙◌, subst, inl, codes}
-use Rattle.std.specs.Prelude.{slice_get}
+use Rattle.std.proofs.Common.{◌≡◌, [], map, Some, refl, sym, subst, inl, codes}
 use Rattle.std.specs.Option.{option_map_or}
 use Rattle.std.proofs.lemmas.Option.{none-some}
-use Rattle.xk_types.specs.Code.{ModuleValue}
-use Rattle.xk_types.specs.World.{World, opening, main_of, slots_of}
-use Rattle.xk_types.specs.Schedule.{Leads}
-use Rattle.xk_tree.specs.Tree.{Block, MethodValue, TreeValue}
+use Rattle.xk_types.specs.World.{opening}
+use Rattle.xk_tree.specs.Tree.{Block, MethodValue}
 use Rattle.xk_names.specs.Scope.{find}
 use Rattle.xk_code.specs.Unit.{scope_from, first_temporary, unit_code, unit_of_method, names_of_params}
 use Rattle.xk_source.specs.Source.{source_opening, method_of, unfolded_all}

@@ -1,3 +1,4 @@
+pub mod Units
 pub mod Exec
 pub mod Pairs
 pub mod Worlds
@@ -8,3 +9,4 @@ pub mod Steps
 pub mod Law
 pub mod Compiled
 pub mod Rows
+pub mod Premise

@@ -1,22 +1,21 @@
 -- What is left of an activity's code, and what is left of its statements.
-use Rattle.std.proofs.Common.{◌≡◌, ℕ, zero, suc, ◌+◌, ◌<◌, ◌≤◌, Bool, true, false, cond, List, [], ◌∷◌, ◌++◌, length, ℤ, int_le, Some, None, Option, refl, sym, ap, ◌∙◌, subst, arith, ◌⊎◌, inl, inr, append_assoc, length-append}
-use Rattle.std.specs.Prelude.{slice_get, slice_set, is_some, ⊤}
+use Rattle.std.proofs.Common.{◌≡◌, ℕ, ◌+◌, ◌<◌, ◌≤◌, Bool, true, false, cond, List, [], ◌∷◌, ◌++◌, length, ℤ, int_le, Some, None, Option, refl, sym, ap, ◌∙◌, subst, arith, ◌⊎◌, inl, inr, append_assoc, length-append}
+use Rattle.std.specs.Prelude.{slice_get, slice_set, ⊤}
 use Rattle.std.proofs.lemmas.Bool.{false≢true}
 use Rattle.std.proofs.lemmas.Option.{none-some, same_Some}
 use Rattle.xk_types.specs.declared.instr.Instr.{Instr}
 use Rattle.xk_types.specs.declared.instr.Instr.TheVariants as instr
-use Rattle.xk_types.specs.declared.unit.UnitKind.TheVariants as unit_kind
 use Rattle.xk_types.specs.declared.names.Value.{Value as Held}
 use Rattle.xk_types.specs.Code.{ModuleValue}
 use Rattle.xk_types.proofs.Lists.{get-set_same, get-set_other}
-use Rattle.xk_tree.specs.Tree.{Word, Expression, Make, Value, Statement, Block, Empty, Declare, Assign, Atomic, If, IfElse, For, Async, Finish, Call, Resume, Drop, AdvanceAll, Print, Statements, Done, More, MethodValue, TreeValue}
-use Rattle.xk_names.specs.Scope.{Table, find, is_text}
-use Rattle.xk_code.specs.CodeOf.{Setting, Scope, number_of, body_unit, body_params, both, second, slot_for, before, before_assigned, last_assigned, code_of_source, count, count_all, declared, declared_by_all, code_of, code_of_all}
+use Rattle.xk_tree.specs.Tree.{Word, Expression, Make, Value, Statement, Block, Empty, Declare, Assign, Atomic, If, IfElse, For, Async, Finish, Call, Print, Statements, Done, More, MethodValue, TreeValue}
+use Rattle.xk_names.specs.Scope.{find, is_text}
+use Rattle.xk_code.specs.CodeOf.{Setting, Scope, number_of, body_unit, body_params, before, before_assigned, count, count_all, declared, declared_by_all, code_of, code_of_all}
 use Rattle.xk_code.specs.Unit.{unit_of_body}
 use Rattle.xk_code.specs.Covered.{IsNew, IsCovered, AreCovered, IsUnitCovered}
 use Rattle.xk_code.proofs.Covered.Tables.{same_text, is_same, none_new, found_behind}
 use Rattle.xk_names.proofs.Agreement.{find_behind, or_entry}
-use Rattle.xk_codegen.specs.Parts.{Part, OfMethod}
+use Rattle.xk_source.specs.Parts.{Part, OfMethod}
 use Rattle.xk_source.specs.Source.{Todo, Do, Turn, Close, Names, unfolded, unfolded_all, method_of}
 use Rattle.xk_source.proofs.Exec.{IsBelow, IsMatched, below_more, AreStraight, eval_straight, both_straight, args_straight, into_straight}
 
@@ -187,7 +186,8 @@ Here w t code (Close ∷ rest) scope q = (b : ℕ) × (slice_get code q ≡ Some
 abbrev pub Rest : Whole → ℕ → List Instr → Scope → ℕ → List Todo → Type 0
 Rest w t code scope p todo = Ahead code scope p (Here w t code todo)
 
-pub rest_wider : (w : Whole) (t : ℕ) (code : List Instr) (scope more : Scope) (p : ℕ) (todo : List Todo) → IsWithin scope more → Rest w t code scope p todo
+pub rest_wider : (w : Whole) (t : ℕ) (code : List Instr) (scope more : Scope) (p : ℕ) (todo : List Todo) → IsWithin scope more
+    → Rest w t code scope p todo
     → Rest w t code more p todo
 rest_wider w t code scope more p todo within r = record {
   jumps = r.jumps;
@@ -202,12 +202,14 @@ pub rest_jump : (w : Whole) (t : ℕ) (code : List Instr) (scope : Scope) (p q :
     → Rest w t code scope q todo → Rest w t code scope p todo
 rest_jump w t code scope p q todo j r = record { jumps = q ∷ r.jumps; place = r.place; inner = r.inner; along = (j, r.along); within = r.within; here = r.here }
 
-pub rest_here : (w : Whole) (t : ℕ) (code : List Instr) (scope : Scope) (p : ℕ) (todo : List Todo) → Here w t code todo scope p → Rest w t code scope p todo
+pub rest_here : (w : Whole) (t : ℕ) (code : List Instr) (scope : Scope) (p : ℕ) (todo : List Todo) → Here w t code todo scope p
+    → Rest w t code scope p todo
 rest_here w t code scope p todo h = record { jumps = []; place = p; inner = scope; along = refl; within = λ x s f. f; here = h }
 
 mutual
   -- what a statement unfolds into is done by its code
-  pub rest_unfolded : (w : Whole) (t : ℕ) (code : List Instr) (scope : Scope) (n p : ℕ) (s : Statement) (rest : List Todo) → Stands w t code scope n p s
+  pub rest_unfolded : (w : Whole) (t : ℕ) (code : List Instr) (scope : Scope) (n p : ℕ) (s : Statement) (rest : List Todo)
+      → Stands w t code scope n p s
       → Rest w t code (declared scope n s) (p + length (code_of w.setting t scope n p s)) rest → Rest w t code scope p (unfolded s ++ rest)
   rest_unfolded w t code scope n p Empty rest st r = let e : p + 0 ≡ p = omega arith in subst (λ q. Rest w t code scope q rest) e r
   rest_unfolded w t code scope n p (Block ss) rest st r =
@@ -225,8 +227,10 @@ mutual
           subst (λ q. Rest w t code scope q rest) same r
   rest_unfolded w t code scope n p s rest st r = rest_here w t code scope p (Do s ∷ rest) (n, tt, st, r)
 
-  pub rest_all : (w : Whole) (t : ℕ) (code : List Instr) (scope : Scope) (n p : ℕ) (ss : Statements) (rest : List Todo) → StandAll w t code scope n p ss
-      → Rest w t code (declared_by_all scope n ss) (p + length (code_of_all w.setting t scope n p ss)) rest → Rest w t code scope p (unfolded_all ss ++ rest)
+  pub rest_all : (w : Whole) (t : ℕ) (code : List Instr) (scope : Scope) (n p : ℕ) (ss : Statements) (rest : List Todo)
+      → StandAll w t code scope n p ss
+      → Rest w t code (declared_by_all scope n ss) (p + length (code_of_all w.setting t scope n p ss)) rest
+      → Rest w t code scope p (unfolded_all ss ++ rest)
   rest_all w t code scope n p Done rest st r = let e : p + 0 ≡ p = omega arith in subst (λ q. Rest w t code scope q rest) e r
   rest_all w t code scope n p (More s ss) rest st r =
       let first = code_of w.setting t scope n p s in
@@ -270,7 +274,8 @@ before_straight cx scope t (Call f at es) = args_straight scope t es
 before_straight cx scope t (Print at v e) = eval_straight scope t e
 before_straight cx scope t s = tt
 
-pub code_split : (cx : Setting) (t : ℕ) (scope : Scope) (n q : ℕ) (s : Statement) → (tail : List Instr) × (code_of cx t scope n q s ≡ before cx scope t s ++ tail)
+pub code_split : (cx : Setting) (t : ℕ) (scope : Scope) (n q : ℕ) (s : Statement)
+    → (tail : List Instr) × (code_of cx t scope n q s ≡ before cx scope t s ++ tail)
 code_split cx t scope n q (Declare b x ty (Make at v)) = (_, refl)
 code_split cx t scope n q (Declare b x ty (Value e)) = (_, refl)
 code_split cx t scope n q (Assign x e) = (_, refl)
@@ -305,7 +310,8 @@ matched_write scope more names slots x d old v m there own other y s f = go (is_
 pub matched_push : (scope : Scope) (names : Names) (slots : List Held) (x : List ℕ) (n : ℕ) (old v : Held) → IsProper scope n → IsNew scope x
     → IsMatched scope names slots → slice_get slots n ≡ Some old → IsMatched (scope ++ (x, n) ∷ []) ((x, v) ∷ names) (slice_set slots n v)
 matched_push scope names slots x n old v p new m there =
-    matched_write scope (scope ++ (x, n) ∷ []) names slots x n old v m there (λ y s f e. own y s e (found_behind scope x n y s f)) (λ y s f e. other y s e (found_behind scope x n y s f))
+    matched_write scope (scope ++ (x, n) ∷ []) names slots x n old v m there
+    (λ y s f e. own y s e (found_behind scope x n y s f)) (λ y s f e. other y s e (found_behind scope x n y s f))
   where
     New : List ℕ → ℕ → Type 0
     New y s = (find scope y ≡ Some s) ⊎ ((find scope y ≡ None) × (is_text y x ≡ true) × (n ≡ s))
@@ -319,7 +325,8 @@ matched_push scope names slots x n old v p new m there =
     other y s e (inr h) = absurd (false≢true (sym e ∙ h.1))
 
 -- one that was there
-pub matched_set : (scope : Scope) (names : Names) (slots : List Held) (x : List ℕ) (d n : ℕ) (old v : Held) → IsProper scope n → IsMatched scope names slots
+pub matched_set : (scope : Scope) (names : Names) (slots : List Held) (x : List ℕ) (d n : ℕ) (old v : Held) → IsProper scope n
+    → IsMatched scope names slots
     → slice_get slots d ≡ Some old → find scope x ≡ Some d → IsMatched scope ((x, v) ∷ names) (slice_set slots d v)
 matched_set scope names slots x d n old v p m there at = matched_write scope scope names slots x d old v m there own other
   where

@@ -14,13 +14,16 @@ use Rattle.xk_tree.specs.declared.tree.Binding.TheVariants as binding
 use Rattle.xk_tree.specs.declared.tree.Operator.TheVariants as operator
 use Rattle.xk_tree.specs.declared.tree.Number.{Number}
 use Rattle.xk_tree.specs.declared.tree.Verb.{Verb}
-use Rattle.xk_tree.specs.Tree.{Word, Clocks, Expression, Literal, Named, Paren, Negation, Binary, Make, Value, Statement, Statements, Done, More, Block, Empty, Declare, Assign, Atomic, If, IfElse, For, Async, Finish, Call, Resume, Drop, AdvanceAll, Print, ParamValue, MethodValue, SharedValue, TreeValue}
+use Rattle.xk_tree.specs.Tree.{Word, Clocks, Expression, Literal, Named, Paren, Binary, Make, Value, Statement, Statements, Done, More, Block, Empty, Declare, Assign, Atomic, IfElse, For, Async, Finish, Call, Resume, Drop, AdvanceAll, Print, ParamValue, MethodValue, SharedValue, TreeValue}
+use Rattle.xk_code.specs.CodeOf.{Setting}
+use Rattle.xk_source.specs.Parts.{parts}
+use Rattle.xk_source.specs.Compiled.{taken, unit_of_part}
 use Rattle.xk_source.specs.Source.{SourceWorld, SourceOutcome, source_step, source_opening}
 use Rattle.xk_source.specs.Meaning.{Moment, moments, have_ended}
 
 -- ---- trees, where offsets don't matter
 
-abbrev w : List ℕ → Word
+abbrev pub w : List ℕ → Word
 w text = record { at = 0; text = text }
 
 abbrev number : ℤ → Number
@@ -29,10 +32,10 @@ number n = record { minus = None; at = 0; value = n }
 abbrev verb : Verb
 verb = record { at = 0; paren = 0 }
 
-abbrev lit : ℕ → Expression
+abbrev pub lit : ℕ → Expression
 lit n = Literal (number (pos n))
 
-abbrev var : List ℕ → Expression
+abbrev pub var : List ℕ → Expression
 var x = Named (w x)
 
 abbrev plus : Expression → Expression → Expression
@@ -41,7 +44,7 @@ plus l r = Binary operator.Plus l 0 r
 abbrev times : Expression → Expression → Expression
 times l r = Binary operator.Times l 0 r
 
-abbrev val_is : List ℕ → Expression → Statement
+abbrev pub val_is : List ℕ → Expression → Statement
 val_is x e = Declare binding.Val (w x) None (Value e)
 
 abbrev var_is : List ℕ → Expression → Statement
@@ -50,7 +53,7 @@ var_is x e = Declare binding.Var (w x) None (Value e)
 abbrev val_makes : List ℕ → Statement
 val_makes c = Declare binding.Val (w c) None (Make 0 verb)
 
-abbrev print : Expression → Statement
+abbrev pub print : Expression → Statement
 print e = Print 0 verb e
 
 abbrev advance : Statement
@@ -63,7 +66,7 @@ abbrev row_of : List Statement → Statements
 row_of [] = Done
 row_of (s ∷ ss) = More s (row_of ss)
 
-abbrev block : List Statement → Statement
+abbrev pub block : List Statement → Statement
 block ss = Block (row_of ss)
 
 abbrev method : List ℕ → List ParamValue → List Statement → MethodValue
@@ -235,3 +238,62 @@ letting_go_stands = refl
 
 alone_ends : have_ended (after alone (0 ∷ 0 ∷ 0 ∷ 0 ∷ 0 ∷ 0 ∷ 0 ∷ 0 ∷ 0 ∷ 0 ∷ [])) ≡ true
 alone_ends = refl
+
+-- ---- a shared number that is written between two reads
+
+-- `async { s = 5; } val r = s; val q = s; println(r); println(q);`, behind `shared s = 0;`
+abbrev pub reading_main : MethodValue
+reading_main = main (
+    Async 0 None (block (Assign (w (codes "s")) (lit 5) ∷ []))
+    ∷ val_is (codes "r") (var (codes "s"))
+    ∷ val_is (codes "q") (var (codes "s"))
+    ∷ print (var (codes "r"))
+    ∷ print (var (codes "q"))
+    ∷ [])
+
+abbrev pub reading : TreeValue
+reading = program (shared (codes "s") 0 ∷ []) (reading_main ∷ [])
+
+abbrev pub reading_code : ModuleValue
+reading_code = module_of (pos 0 ∷ []) (
+    record {
+      kind = unit_kind.Main;
+      params = [];
+      slots = 2;
+      code = instr.Spawn 1 [] ∷ instr.Get 0 0 ∷ instr.Get 1 0 ∷ instr.Print 0 ∷ instr.Print 1 ∷ instr.Ret ∷ [];
+    }
+    ∷ record { kind = unit_kind.Body; params = []; slots = 1; code = instr.Lit 0 (pos 5) ∷ instr.Put 0 0 ∷ instr.Ret ∷ [] }
+    ∷ [])
+
+-- what its code refers to: the shared number, main, and the body of the `async`, which takes nothing from outside
+abbrev pub reading_setting : Setting
+reading_setting = record {
+  shared = (codes "s", 0) ∷ [];
+  methods = (codes "main", 0) ∷ [];
+  bodies = (0, record { unit = 1; captures = taken reading (block (Assign (w (codes "s")) (lit 5) ∷ [])) }) ∷ [];
+}
+
+-- the definition of the code gives these units: main, and behind it the body that it starts
+pub reading_is : map (unit_of_part reading_setting) (parts reading) ≡ reading_code.units
+reading_is = refl
+
+-- the second activity writes between the two reads of the first
+reading_run : run_of reading (0 ∷ 0 ∷ 1 ∷ 0 ∷ 0 ∷ 0 ∷ 0 ∷ 1 ∷ [])
+    ≡ record { activity = 0; event = event.Spawned; after = record { clocks = []; cells = pos 0 ∷ [] } }
+    ∷ record { activity = 0; event = event.Got; after = record { clocks = []; cells = pos 0 ∷ [] } }
+    ∷ record { activity = 1; event = event.Put; after = record { clocks = []; cells = pos 5 ∷ [] } }
+    ∷ record { activity = 0; event = event.Got; after = record { clocks = []; cells = pos 5 ∷ [] } }
+    ∷ record { activity = 0; event = event.Printed (pos 0); after = record { clocks = []; cells = pos 5 ∷ [] } }
+    ∷ record { activity = 0; event = event.Printed (pos 5); after = record { clocks = []; cells = pos 5 ∷ [] } }
+    ∷ record { activity = 0; event = event.Ended; after = record { clocks = []; cells = pos 5 ∷ [] } }
+    ∷ record { activity = 1; event = event.Ended; after = record { clocks = []; cells = pos 5 ∷ [] } }
+    ∷ []
+reading_run = refl
+
+-- the module's run has a step more, which brings the 5 into a slot, and nobody sees it
+reading_same : moments (step reading_code) (0 ∷ 0 ∷ 1 ∷ 1 ∷ 0 ∷ 0 ∷ 0 ∷ 0 ∷ 1 ∷ []) (opening reading_code)
+    ≡ run_of reading (0 ∷ 0 ∷ 1 ∷ 0 ∷ 0 ∷ 0 ∷ 0 ∷ 1 ∷ [])
+reading_same = refl
+
+reading_ends : have_ended (after reading (0 ∷ 0 ∷ 1 ∷ 0 ∷ 0 ∷ 0 ∷ 0 ∷ 1 ∷ [])) ≡ true
+reading_ends = refl

@@ -1,25 +1,20 @@
 -- A run of the module is followed by one of the source.
-use Rattle.std.proofs.Common.{◌≡◌, ℕ, zero, suc, ◌+◌, ◌≤◌, Bool, true, false, cond, ◌&&◌, List, [], ◌∷◌, ◌++◌, map, length, set, ℤ, Some, None, Option, refl, sym, ap, ◌∙◌, subst, arith, ◌⊎◌, inl, inr, append-nil}
-use Rattle.std.specs.Prelude.{slice_get, slice_set}
+use Rattle.std.proofs.Common.{◌≡◌, ℕ, Bool, cond, ◌&&◌, List, [], ◌∷◌, map, refl, sym, ap, ◌∙◌, subst, arith, inl, inr}
 use Rattle.std.specs.List.{list_all}
-use Rattle.std.proofs.lemmas.Bool.{false≢true}
-use Rattle.std.proofs.lemmas.Option.{none-some, same_Some}
-use Rattle.xk_types.specs.declared.instr.Instr.{Instr}
-use Rattle.xk_types.specs.declared.instr.Instr.TheVariants as instr
-use Rattle.xk_types.specs.declared.names.Status.{Status}
 use Rattle.xk_types.specs.declared.names.Event.{Event}
-use Rattle.xk_types.specs.Code.{UnitValue, ModuleValue}
-use Rattle.xk_types.specs.World.{Activity, Clock, WorldOf, World, opening, is_ended}
+use Rattle.xk_types.specs.Code.{ModuleValue}
+use Rattle.xk_types.specs.World.{Activity, Clock, World, is_ended}
 use Rattle.xk_types.specs.Step.{Outcome, Blocked, Wrong, Stepped, step}
 use Rattle.xk_types.specs.Schedule.{Course, Through, run, run_on, is_local}
 use Rattle.xk_tree.specs.Tree.{TreeValue}
 use Rattle.xk_source.specs.Source.{SourceActivity, SourceWorld, source_step}
-use Rattle.xk_source.specs.Meaning.{Stand, Shown, shown, Moment, moments_on, moments, Goes, have_ended}
+use Rattle.xk_source.specs.Meaning.{Stand, shown, Moment, moments_on, moments, Goes, have_ended}
 use Rattle.xk_source.proofs.Pairs.{Pairs}
 use Rattle.xk_source.proofs.Worlds.{IsAlike, AreRelated, Follows}
 
 -- what all share is the same
-clocks_shown : (cs ds : List Clock) → Pairs IsAlike cs ds → ◌≡◌ {A = List Stand} (map (λ c. record { phase = c.phase; standings = c.standings }) cs) (map (λ c. record { phase = c.phase; standings = c.standings }) ds)
+clocks_shown : (cs ds : List Clock) → Pairs IsAlike cs ds
+    → ◌≡◌ {A = List Stand} (map (λ c. record { phase = c.phase; standings = c.standings }) cs) (map (λ c. record { phase = c.phase; standings = c.standings }) ds)
 clocks_shown [] [] h = refl
 clocks_shown [] (d ∷ ds) h = absurd h
 clocks_shown (c ∷ cs) [] h = absurd h
@@ -30,7 +25,8 @@ clocks_shown (c ∷ cs) (d ∷ ds) h =
 shown_same : (R : Activity → SourceActivity → Type 0) (w : World) (v : SourceWorld) → AreRelated R w v → shown w ≡ shown v
 shown_same R w v rel = let cs = clocks_shown w.clocks v.clocks rel.clocks in let ns = rel.cells in λ i. record { clocks = cs i; cells = ns i }
 
-ended_same : (R : Activity → SourceActivity → Type 0) → ((x : Activity) (y : SourceActivity) → R x y → x.status ≡ y.status) → (xs : List Activity) (ys : List SourceActivity) → Pairs R xs ys
+ended_same : (R : Activity → SourceActivity → Type 0) → ((x : Activity) (y : SourceActivity) → R x y → x.status ≡ y.status)
+    → (xs : List Activity) (ys : List SourceActivity) → Pairs R xs ys
     → list_all (λ act. is_ended act.status) xs ≡ list_all (λ act. is_ended act.status) ys
 ended_same R k [] [] h = refl
 ended_same R k [] (y ∷ ys) h = absurd h
@@ -42,7 +38,8 @@ same_through : (w v : World) → Through w ≡ Through v → w ≡ v
 same_through w v e = cc
 
 -- a run that comes through took its first step
-first_step : (w v : World) (o : Outcome) (go : World → Course) → run_on w o go ≡ Through v → (x : World) × (e : Event) × (o ≡ Stepped x e) × (go x ≡ Through v)
+first_step : (w v : World) (o : Outcome) (go : World → Course) → run_on w o go ≡ Through v
+    → (x : World) × (e : Event) × (o ≡ Stepped x e) × (go x ≡ Through v)
 first_step w v Blocked go h = absurd (grind arith)
 first_step w v (Wrong c) go h = absurd (grind arith)
 first_step w v (Stepped x e) go h = (x, e, refl, h)

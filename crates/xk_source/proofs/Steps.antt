@@ -1,15 +1,13 @@
 -- Each step of a module's world is followed by the source's.
-use Rattle.std.proofs.Common.{◌≡◌, ℕ, zero, suc, ◌+◌, ◌<◌, ◌≤◌, ◌==◌, Bool, true, false, cond, not, List, [], ◌∷◌, ◌++◌, map, length, set, ℤ, pos, ◌+ℤ◌, int_le, int_lt, Some, None, Option, refl, sym, ap, ◌∙◌, subst, arith, ◌⊎◌, inl, inr, append_assoc, append-nil, length-append}
-use Rattle.std.specs.Prelude.{slice_get, slice_set, slice_index_or, replicate, unwrap_or, ◌-◌, ◌||◌, All, ⊤}
+use Rattle.std.proofs.Common.{◌≡◌, ℕ, zero, suc, ◌+◌, ◌<◌, ◌==◌, Bool, true, false, cond, List, [], ◌∷◌, ◌++◌, map, length, ℤ, pos, ◌+ℤ◌, int_lt, Some, None, Option, refl, sym, ap, ◌∙◌, subst, arith, ◌⊎◌, inl, inr, append_assoc, append-nil, length-append}
+use Rattle.std.specs.Prelude.{slice_get, slice_set, slice_index_or, replicate, unwrap_or, ◌-◌, ◌||◌, ⊤}
 use Rattle.std.specs.Int.{w64, int_wrapping_add, int_wrapping_sub, int_wrapping_mul}
 use Rattle.std.specs.Option.{option_and_then, option_map_or}
-use Rattle.std.specs.List.{list_any, AllByRecursion}
-use Rattle.std.proofs.lemmas.Bool.{false≢true}
+use Rattle.std.specs.List.{AllByRecursion}
 use Rattle.std.proofs.lemmas.Option.{none-some, same_Some}
 use Rattle.std.proofs.lemmas.List.Elements.{recursion_from_All}
 use Rattle.xk_types.specs.declared.instr.Instr.{Instr}
 use Rattle.xk_types.specs.declared.instr.Instr.TheVariants as instr
-use Rattle.xk_types.specs.declared.instr.Comparison.{Comparison}
 use Rattle.xk_types.specs.declared.names.Value.{Value as Held}
 use Rattle.xk_types.specs.declared.names.Value.TheVariants as value
 use Rattle.xk_types.specs.declared.names.Status.{Status}
@@ -20,25 +18,25 @@ use Rattle.xk_types.specs.declared.names.Event.{Event}
 use Rattle.xk_types.specs.declared.names.Event.TheVariants as event
 use Rattle.xk_types.specs.declared.unit.ParamKind.{ParamKind}
 use Rattle.xk_types.specs.declared.unit.ParamKind.TheVariants as param
-use Rattle.xk_types.specs.Code.{UnitValue, ModuleValue, compares, is_method, is_body}
-use Rattle.xk_types.specs.World.{Frame, Finish as Governor, ActivityOf, Activity, Clock, WorldOf, World, standing_of, instruction_at, frame_with, slots_of}
-use Rattle.xk_types.specs.Step.{Outcome, Blocked, Wrong, Stepped, OutOfRange, ClockUse, done, made, none, only, all, resumed, dropped, passed, onward, going, with_slots, arrived, ended, past, slot_at, number_in, clock_in, registered_on, is_registered, put_in, writing, cell_in, stored, computing, branching, turning, again, entered, left, closing, returning, back_in, awaits, innermost, waits, passing, called, calling, child, spawned, spawning, arguments_in, is_given, names_clock, settled, joined, governing, carried_out, run_at, step_by, step_of, step}
+use Rattle.xk_types.specs.Code.{UnitValue, compares, is_method, is_body}
+use Rattle.xk_types.specs.World.{Frame, Finish as Governor, Activity, Clock, World, standing_of, instruction_at, frame_with, slots_of}
+use Rattle.xk_types.specs.Step.{Outcome, Blocked, Wrong, Stepped, OutOfRange, ClockUse, done, none, only, all, resumed, dropped, passed, onward, going, with_slots, arrived, ended, past, slot_at, number_in, clock_in, registered_on, is_registered, put_in, writing, cell_in, stored, computing, turning, again, entered, left, closing, returning, back_in, awaits, innermost, waits, passing, called, calling, child, spawning, arguments_in, is_given, names_clock, settled, joined, carried_out, run_at, step_by, step_of, step}
 use Rattle.xk_types.proofs.Lists.{fun_ext}
-use Rattle.xk_tree.specs.Tree.{Word, Clocks, Expression, Literal, Named, Paren, Negation, Binary, Make, Value, Statement, Block, Empty, Declare, Assign, Atomic, If, IfElse, For, Async, Finish, Call, Resume, Drop, AdvanceAll, Print, Statements, Done, More, ParamValue, MethodValue, TreeValue}
+use Rattle.xk_tree.specs.Tree.{Word, Expression, Literal, Named, Paren, Negation, Binary, Make, Value, Statement, Block, Empty, Declare, Assign, Atomic, If, IfElse, For, Async, Finish, Call, Resume, Drop, AdvanceAll, Print, ParamValue}
 use Rattle.xk_names.specs.Scope.{find, is_text, texts}
 use Rattle.xk_names.specs.Uses.{clocks_listed}
-use Rattle.xk_code.specs.CodeOf.{Setting, Scope, number_of, slots_of as slots_among, body_unit, captures_at, body_params, instr_of, slot_for, behind, eval, both, second, before_into, last_into, eval_all, argument_slots, shared_alone, last_value, before_assigned, last_assigned, count, declared, before, code_of}
+use Rattle.xk_code.specs.CodeOf.{Scope, number_of, slots_of as slots_among, body_unit, captures_at, body_params, instr_of, slot_for, behind, eval, both, second, before_into, last_into, eval_all, argument_slots, shared_alone, before_assigned, last_assigned, count, declared, before, code_of}
 use Rattle.xk_code.specs.Unit.{scope_from, first_temporary, unit_code, unit_of_method, unit_of_body, names_of_params, kinds_of_params, body_kinds}
-use Rattle.xk_code.specs.Covered.{IsFound, IsNew, IsKnown, IsKnownUnless, IsAssignable, IsCovered}
+use Rattle.xk_code.specs.Covered.{IsFound, IsNew, IsKnown, IsKnownUnless, IsAssignable}
 use Rattle.xk_code.proofs.Covered.Tables.{is_same, none_new}
 use Rattle.xk_code.proofs.Scopes.{alone_before}
 use Rattle.xk_names.proofs.Agreement.{find_behind, or_entry}
-use Rattle.xk_source.specs.Source.{Todo, Do, Turn, Close, Names, Doing, SourceActivity, SourceWorld, SourceOutcome, shared_at, alone, method_of, value_of, result_of, taken, unfolded, unfolded_all, left_with, knowing, declaring, storing, assigning, adding, given_one, given, invoked, invoking, handed, begun, starting, performed, turned, closed, over, continued, let_past, source_by, source_of, source_step}
-use Rattle.xk_source.proofs.Exec.{IsStraight, AreStraight, straight_back, last_straight, number_there, number_is, number_held, number_at, then_on, put_by, put_at, exec1, exec, exec_join, exec_parts, exec_one, then_parts, put_parts, op_parts, sub_parts, number_written, some_there, name_held, IsBelow, IsMatched, below_more, still_matched, ComesTo, eval_keeps, eval_gives, AreTaken, both_keeps, both_gives, args_keep, behind_least, slot_most, slot_behind, IsPutInto, into_keeps, into_gives, slot_found}
+use Rattle.xk_source.specs.Source.{Todo, Do, Turn, Close, Names, Doing, SourceActivity, SourceWorld, SourceOutcome, alone, value_of, result_of, taken, unfolded, unfolded_all, left_with, knowing, declaring, storing, assigning, adding, given_one, given, invoked, invoking, handed, begun, starting, closed, over, continued, source_by, source_of, source_step}
+use Rattle.xk_source.proofs.Exec.{IsStraight, AreStraight, straight_back, last_straight, number_there, number_is, number_held, number_at, then_on, put_by, put_at, exec1, exec, exec_join, exec_parts, exec_one, then_parts, put_parts, op_parts, sub_parts, number_written, some_there, name_held, IsBelow, IsMatched, below_more, still_matched, eval_keeps, eval_gives, both_keeps, both_gives, args_keep, behind_least, slot_most, slot_behind, into_keeps, into_gives, slot_found}
 use Rattle.xk_source.proofs.Pairs.{Pairs, pair_at, pairs_length}
-use Rattle.xk_source.proofs.Worlds.{IsAlike, AreQuiet, AreRelated, Follows, both_move, both_write, both_make, both_start, one_moves, waits_alike, Together, together_at, IsKin, AreKin, awaits_kin, pairs_weaker}
-use Rattle.xk_source.proofs.Relation.{HoldsAt, Along, holds_front, holds_back, IsProper, IsWithin, push_proper, more_proper, grows, still_proper, Whole, IsLinked, AreLinked, Ahead, Stands, StandsTurn, Here, Rest, rest_wider, rest_jump, rest_here, IsSimple, push_within, rest_unfolded, rest_scope, before_straight, code_split, matched_push, matched_set}
-use Rattle.xk_source.proofs.Begins.{IsBuilt, AreBuilt, AreKnown, named, known_named, matched_known, unit_rest}
+use Rattle.xk_source.proofs.Worlds.{IsAlike, AreRelated, Follows, both_move, both_write, both_make, both_start, one_moves, waits_alike, Together, together_at, IsKin, AreKin, awaits_kin, pairs_weaker}
+use Rattle.xk_source.proofs.Relation.{HoldsAt, Along, holds_front, holds_back, IsWithin, push_proper, more_proper, Whole, Stands, StandsTurn, Here, Rest, rest_wider, rest_jump, rest_here, IsSimple, push_within, rest_scope, before_straight, code_split, matched_push, matched_set}
+use Rattle.xk_source.proofs.Begins.{AreBuilt, AreKnown, named, known_named, matched_known, unit_rest}
 
 -- ---- the relation
 
@@ -110,12 +108,14 @@ module _ (cx : Whole) (built : AreBuilt cx) (w : World) (v : SourceWorld) (a : �
   source_runs : (todo : List Todo) → call.frame.todo ≡ todo → source_step cx.tree v a ≡ continued cx.tree v a call todo
   source_runs todo e = ap (source_of cx.tree v a) there ∙ (ap (source_by cx.tree v a call) source_running ∙ ap (continued cx.tree v a call) e)
 
-  stage_of : (code : List Instr) (st : Status) (f : Frame) (c : Doing) → st ≡ status.Running → RunsAs cx code f.place f.slots c.todo c.names → Stage cx code st f c
+  stage_of : (code : List Instr) (st : Status) (f : Frame) (c : Doing) → st ≡ status.Running → RunsAs cx code f.place f.slots c.todo c.names
+      → Stage cx code st f c
   stage_of code st f c e r = subst (λ s. Stage cx code s f c) (sym e) r
 
   -- the same but for its frame's place and slots, for what is left and known, and for how many finishes are open
   goes_open : (place : ℕ) (slots : List Held) (todo : List Todo) (names : Names) (k l : ℕ) → k ≡ l → RunsAs cx like.unit.code place slots todo names
-      → IsAs cx (record act { frame = record { unit = act.frame.unit; place = place; slots = slots }; opened = k }) (record call { frame = record { todo = todo; names = names }; opened = l })
+      → IsAs cx (record act { frame = record { unit = act.frame.unit; place = place; slots = slots }; opened = k })
+      (record call { frame = record { todo = todo; names = names }; opened = l })
   goes_open place slots todo names k l e r = record {
     status = like.status;
     opened = e;
@@ -148,7 +148,8 @@ module _ (cx : Whole) (built : AreBuilt cx) (w : World) (v : SourceWorld) (a : �
   cell_follows (Some n) go h = h n refl
 
   -- a number that is written
-  straight_put : (d : ℕ) (n : ℤ) (o : Option (List Held)) → put_at act.frame.slots d n ≡ o → ((out : List Held) → o ≡ Some out → Good (done w a (onward (with_slots act out)) none event.Local))
+  straight_put : (d : ℕ) (n : ℤ) (o : Option (List Held)) → put_at act.frame.slots d n ≡ o
+      → ((out : List Held) → o ≡ Some out → Good (done w a (onward (with_slots act out)) none event.Local))
       → Good (writing act d (value.Number n) (λ next. done w a next none event.Local))
   straight_put d n o e h = go (slot_at act d) refl
     where
@@ -165,7 +166,9 @@ module _ (cx : Whole) (built : AreBuilt cx) (w : World) (v : SourceWorld) (a : �
       (ap (λ o. then_on o (λ p1. then_on (number_at act.frame.slots y) (λ q1. put_at act.frame.slots d (f p1 q1)))) e
       ∙ (ap (λ o. then_on o (λ q1. put_at act.frame.slots d (f p q1))) g ∙ k)))))
 
-  straight_follows : (i : Instr) → IsStraight i → ((out : List Held) → exec1 i act.frame.slots ≡ Some out → Good (done w a (onward (with_slots act out)) none event.Local)) → Good (carried_out cx.m w a act i)
+  straight_follows : (i : Instr) → IsStraight i
+      → ((out : List Held) → exec1 i act.frame.slots ≡ Some out → Good (done w a (onward (with_slots act out)) none event.Local))
+      → Good (carried_out cx.m w a act i)
   straight_follows (instr.Lit d n) s h = straight_put d n (put_at act.frame.slots d n) refl h
   straight_follows (instr.Copy d x) s h =
       number_follows (slot_at act x) _ (λ n e. straight_put d n (put_at act.frame.slots d n) refl (λ out k. h out (ap (λ o. then_on o (put_at act.frame.slots d)) e ∙ k)))
@@ -176,25 +179,30 @@ module _ (cx : Whole) (built : AreBuilt cx) (w : World) (v : SourceWorld) (a : �
 
   -- ---- the instruction that it stands at
 
-  at_place : (i : Instr) → slice_get like.unit.code act.frame.place ≡ Some i → Good (carried_out cx.m w a act i) → Good (run_at cx.m w a act (instruction_at cx.m act.frame))
+  at_place : (i : Instr) → slice_get like.unit.code act.frame.place ≡ Some i → Good (carried_out cx.m w a act i)
+      → Good (run_at cx.m w a act (instruction_at cx.m act.frame))
   at_place i e h =
       subst (λ o. Good (run_at cx.m w a act o)) (sym (ap (option_and_then (λ u. slice_get u.code act.frame.place)) like.found ∙ e)) h
 
   -- the source stays
-  waits_here : (todo : List Todo) → call.frame.todo ≡ todo → (place : ℕ) (slots : List Held) → RunsAs cx like.unit.code place slots todo call.frame.names
+  waits_here : (todo : List Todo) → call.frame.todo ≡ todo → (place : ℕ) (slots : List Held)
+      → RunsAs cx like.unit.code place slots todo call.frame.names
       → Good (done w a (record act { frame = record { unit = act.frame.unit; place = place; slots = slots } }) none event.Local)
   waits_here todo e place slots r =
-      one_moves cx.tree (IsAs cx) w v a rel _ call there (goes place slots call.frame.todo call.frame.names (subst (λ x. RunsAs cx like.unit.code place slots x call.frame.names) (sym e) r))
+      one_moves cx.tree (IsAs cx) w v a rel _ call there
+      (goes place slots call.frame.todo call.frame.names (subst (λ x. RunsAs cx like.unit.code place slots x call.frame.names) (sym e) r))
 
   -- both move on
   moves : (place : ℕ) (slots : List Held) (todo : List Todo) (names : Names) (change : ℕ → Standing → Standing) (e : Event)
-      → source_step cx.tree v a ≡ done v a (record call { frame = record { todo = todo; names = names } }) change e → Between cx like.unit.code place slots todo names
+      → source_step cx.tree v a ≡ done v a (record call { frame = record { todo = todo; names = names } }) change e
+      → Between cx like.unit.code place slots todo names
       → Good (done w a (record act { frame = record { unit = act.frame.unit; place = place; slots = slots } }) change e)
   moves place slots todo names change e st b = both_move cx.tree (IsAs cx) w v a rel _ _ change e st (goes place slots todo names (inl b))
 
   -- ---- a clock
 
-  registered_follows : (go : Outcome) (o p : Option Clock) → Together IsAlike o p → (((sgo : SourceOutcome) → registered_on p a sgo ≡ sgo) → Good go) → Good (registered_on o a go)
+  registered_follows : (go : Outcome) (o p : Option Clock) → Together IsAlike o p → (((sgo : SourceOutcome) → registered_on p a sgo ≡ sgo) → Good go)
+      → Good (registered_on o a go)
   registered_follows go None p t h = tt
   registered_follows go (Some c) None t h = absurd t
   registered_follows go (Some c) (Some d) t h = by (is_registered (standing_of c a)) refl
@@ -214,7 +222,8 @@ module _ (cx : Whole) (built : AreBuilt cx) (w : World) (v : SourceWorld) (a : �
   clock_used (Some (value.Clock k)) go h =
       registered_follows (go k) (slice_get w.clocks k) (slice_get v.clocks k) (together_at IsAlike w.clocks v.clocks k rel.clocks) (λ u. h k refl (λ sgo. u (sgo k)))
 
-  clock_follows : (o : Option Held) (go : ℕ → Outcome) (sgo : ℕ → SourceOutcome) → ((k : ℕ) → clock_in v a o sgo ≡ sgo k → Good (go k)) → Good (clock_in w a o go)
+  clock_follows : (o : Option Held) (go : ℕ → Outcome) (sgo : ℕ → SourceOutcome) → ((k : ℕ) → clock_in v a o sgo ≡ sgo k → Good (go k))
+      → Good (clock_in w a o go)
   clock_follows o go sgo h = clock_used o go (λ k e u. h k (ap (λ x. clock_in v a x sgo) e ∙ u sgo))
 
   -- ---- arguments
@@ -228,7 +237,8 @@ module _ (cx : Whole) (built : AreBuilt cx) (w : World) (v : SourceWorld) (a : �
   ArgsAre (k ∷ ks) (x ∷ xs) (val ∷ vals) = ArgIs k x val × ArgsAre ks xs vals
   ArgsAre _ _ _ = ⊥
 
-  arguments_follow : (ps : List ParamKind) (xs : List ℕ) (go : List Held → Outcome) → ((vals : List Held) → ArgsAre ps xs vals → Good (go vals)) → Good (arguments_in w a act ps xs go)
+  arguments_follow : (ps : List ParamKind) (xs : List ℕ) (go : List Held → Outcome) → ((vals : List Held) → ArgsAre ps xs vals → Good (go vals))
+      → Good (arguments_in w a act ps xs go)
   arguments_follow [] [] go h = h [] tt
   arguments_follow [] (x ∷ xs) go h = tt
   arguments_follow (p ∷ ps) [] go h = tt
@@ -275,9 +285,12 @@ module _ (cx : Whole) (built : AreBuilt cx) (w : World) (v : SourceWorld) (a : �
       (sym (keeps t (slot_behind t t (omega arith))) ∙ is.2))
 
   -- all of them
-  given_all : (ps : List ParamValue) (es : List Expression) (scope : Scope) (t : ℕ) (start : List Held) (vals : List Held) → IsBelow scope t → AllByRecursion (IsKnown scope) es
-      → IsMatched scope call.frame.names start → IsMatched scope call.frame.names act.frame.slots → exec (eval_all scope t es) start ≡ Some act.frame.slots
-      → ArgsAre (kinds_of_params ps) (argument_slots scope t es) vals → (go : Names → SourceOutcome) → given v a call.frame.names ps es go ≡ go (named ps vals)
+  given_all : (ps : List ParamValue) (es : List Expression) (scope : Scope) (t : ℕ) (start : List Held) (vals : List Held) → IsBelow scope t
+      → AllByRecursion (IsKnown scope) es
+      → IsMatched scope call.frame.names start → IsMatched scope call.frame.names act.frame.slots
+      → exec (eval_all scope t es) start ≡ Some act.frame.slots
+      → ArgsAre (kinds_of_params ps) (argument_slots scope t es) vals → (go : Names → SourceOutcome)
+      → given v a call.frame.names ps es go ≡ go (named ps vals)
   given_all [] [] scope t start vals below ok mt held ran are go = refl
   given_all [] (e ∷ es) scope t start [] below ok mt held ran are go = absurd are
   given_all [] (e ∷ es) scope t start (val ∷ vals) below ok mt held ran are go = absurd are
@@ -315,7 +328,8 @@ module _ (cx : Whole) (built : AreBuilt cx) (w : World) (v : SourceWorld) (a : �
       → find call.frame.names x ≡ slot_at act (unwrap_or (find scope x) 0)
   held_there scope x known held = name_held scope call.frame.names (record { at = 0; text = x }) act.frame.slots known held
 
-  numbers_handed : (scope : Scope) (xs : List (List ℕ)) (vals : List Held) → AllByRecursion (IsFound scope) xs → IsMatched scope call.frame.names act.frame.slots
+  numbers_handed : (scope : Scope) (xs : List (List ℕ)) (vals : List Held) → AllByRecursion (IsFound scope) xs
+      → IsMatched scope call.frame.names act.frame.slots
       → ArgsAre (map (λ _. param.Number) xs) (slots_among scope xs) vals → IsHanded [] xs vals
   numbers_handed scope [] [] vis held are = record { clocks = []; source = λ go. refl; known = tt; same = λ c. refl }
   numbers_handed scope [] (y ∷ ys) vis held are = absurd are
@@ -329,7 +343,8 @@ module _ (cx : Whole) (built : AreBuilt cx) (w : World) (v : SourceWorld) (a : �
         same = λ c. ap (λ u. names_clock c u || is_given ys c) are.0.1 ∙ r.same c;
       }
 
-  all_handed : (scope : Scope) (cs : List Word) (xs : List (List ℕ)) (vals : List Held) → AllByRecursion (IsFound scope) (texts cs ++ xs) → IsMatched scope call.frame.names act.frame.slots
+  all_handed : (scope : Scope) (cs : List Word) (xs : List (List ℕ)) (vals : List Held) → AllByRecursion (IsFound scope) (texts cs ++ xs)
+      → IsMatched scope call.frame.names act.frame.slots
       → ArgsAre (map (λ _. param.Clock) (texts cs) ++ map (λ _. param.Number) xs) (slots_among scope (texts cs ++ xs)) vals → IsHanded cs xs vals
   all_handed scope [] xs vals vis held are = numbers_handed scope xs vals vis held are
   all_handed scope (c ∷ cs) xs [] vis held are = absurd are
@@ -365,7 +380,8 @@ module _ (cx : Whole) (built : AreBuilt cx) (w : World) (v : SourceWorld) (a : �
     at : act.frame.place ≡ first + length (before cx.setting scope t s)
 
   -- the instruction behind it
-  ready_at : (s : Statement) (rest : List Todo) (r : Ready s rest) (i : Instr) (tail : List Instr) → code_of cx.setting r.t r.scope r.n r.first s ≡ before cx.setting r.scope r.t s ++ i ∷ tail
+  ready_at : (s : Statement) (rest : List Todo) (r : Ready s rest) (i : Instr) (tail : List Instr)
+      → code_of cx.setting r.t r.scope r.n r.first s ≡ before cx.setting r.scope r.t s ++ i ∷ tail
       → slice_get like.unit.code act.frame.place ≡ Some i
   ready_at s rest r i tail e =
       let h = holds_back like.unit.code r.first (before cx.setting r.scope r.t s) (i ∷ tail) (subst (HoldsAt like.unit.code r.first) e r.stands.holds) in
@@ -375,14 +391,17 @@ module _ (cx : Whole) (built : AreBuilt cx) (w : World) (v : SourceWorld) (a : �
   ready_below s rest r = below_more r.scope r.n r.t (let room = r.stands.room in omega arith) r.stands.proper.below
 
   -- where that is the last one
-  after_one : (s : Statement) (rest : List Todo) (r : Ready s rest) (i : Instr) → code_of cx.setting r.t r.scope r.n r.first s ≡ before cx.setting r.scope r.t s ++ i ∷ []
+  after_one : (s : Statement) (rest : List Todo) (r : Ready s rest) (i : Instr)
+      → code_of cx.setting r.t r.scope r.n r.first s ≡ before cx.setting r.scope r.t s ++ i ∷ []
       → Rest cx r.t like.unit.code (declared r.scope r.n s) (act.frame.place + 1) rest
   after_one s rest r i e =
       let long = ap length e in
-      let same : r.first + length (code_of cx.setting r.t r.scope r.n r.first s) ≡ act.frame.place + 1 = omega (arith, long, length-append (before cx.setting r.scope r.t s) (i ∷ []), r.at) in
+      let same : r.first + length (code_of cx.setting r.t r.scope r.n r.first s) ≡ act.frame.place + 1 =
+      omega (arith, long, length-append (before cx.setting r.scope r.t s) (i ∷ []), r.at) in
       subst (λ p. Rest cx r.t like.unit.code (declared r.scope r.n s) p rest) same r.after
 
-  ready_matched : (s : Statement) (rest : List Todo) (r : Ready s rest) → ((k : ℕ) → k < r.t → slice_get act.frame.slots k ≡ slice_get r.start k) → IsMatched r.scope call.frame.names act.frame.slots
+  ready_matched : (s : Statement) (rest : List Todo) (r : Ready s rest) → ((k : ℕ) → k < r.t → slice_get act.frame.slots k ≡ slice_get r.start k)
+      → IsMatched r.scope call.frame.names act.frame.slots
   ready_matched s rest r keeps = still_matched r.scope r.t call.frame.names r.start act.frame.slots (ready_below s rest r) keeps r.matched
 
   nothing_ran : (start : List Held) → exec [] start ≡ Some act.frame.slots → (t k : ℕ) → k < t → slice_get act.frame.slots k ≡ slice_get start k
@@ -420,8 +439,10 @@ module _ (cx : Whole) (built : AreBuilt cx) (w : World) (v : SourceWorld) (a : �
   alone_same (Binary op l at r) = refl
 
   -- what a value in a slot does that isn't written
-  between_after : (s : Statement) (rest : List Todo) (r : Ready s rest) (i : Instr) → code_of cx.setting r.t r.scope r.n r.first s ≡ before cx.setting r.scope r.t s ++ i ∷ [] → declared r.scope r.n s ≡ r.scope
-      → ((k : ℕ) → k < r.t → slice_get act.frame.slots k ≡ slice_get r.start k) → Between cx like.unit.code (act.frame.place + 1) act.frame.slots rest call.frame.names
+  between_after : (s : Statement) (rest : List Todo) (r : Ready s rest) (i : Instr)
+      → code_of cx.setting r.t r.scope r.n r.first s ≡ before cx.setting r.scope r.t s ++ i ∷ [] → declared r.scope r.n s ≡ r.scope
+      → ((k : ℕ) → k < r.t → slice_get act.frame.slots k ≡ slice_get r.start k)
+      → Between cx like.unit.code (act.frame.place + 1) act.frame.slots rest call.frame.names
   between_after s rest r i e same keeps = record {
     t = r.t;
     scope = r.scope;
@@ -430,7 +451,8 @@ module _ (cx : Whole) (built : AreBuilt cx) (w : World) (v : SourceWorld) (a : �
   }
 
   -- a slot is written with a value that both know
-  between_known : (s : Statement) (rest : List Todo) (r : Ready s rest) (i : Instr) (x : List ℕ) (d : ℕ) (known old : Held) → code_of cx.setting r.t r.scope r.n r.first s ≡ before cx.setting r.scope r.t s ++ i ∷ []
+  between_known : (s : Statement) (rest : List Todo) (r : Ready s rest) (i : Instr) (x : List ℕ) (d : ℕ) (known old : Held)
+      → code_of cx.setting r.t r.scope r.n r.first s ≡ before cx.setting r.scope r.t s ++ i ∷ []
       → IsMatched (declared r.scope r.n s) ((x, known) ∷ call.frame.names) (slice_set act.frame.slots d known)
       → Between cx like.unit.code (act.frame.place + 1) (slice_set act.frame.slots d known) rest ((x, known) ∷ call.frame.names)
   between_known s rest r i x d known old e match = record { t = r.t; scope = declared r.scope r.n s; matched = match; rest = after_one s rest r i e }
@@ -441,19 +463,22 @@ module _ (cx : Whole) (built : AreBuilt cx) (w : World) (v : SourceWorld) (a : �
 
   -- two numbers are compared
   chosen : (b : Bool) (t : ℕ) (then other : List Todo) → source_step cx.tree v a ≡ done v a (left_with call (cond b then other)) none event.Local
-      → Between cx like.unit.code (act.frame.place + 1) act.frame.slots then call.frame.names → Between cx like.unit.code t act.frame.slots other call.frame.names
+      → Between cx like.unit.code (act.frame.place + 1) act.frame.slots then call.frame.names
+      → Between cx like.unit.code t act.frame.slots other call.frame.names
       → Good (done w a (cond b (onward act) (going act t)) none event.Local)
   chosen true t then other src y n = moves (act.frame.place + 1) act.frame.slots then call.frame.names none event.Local src y
   chosen false t then other src y n = moves t act.frame.slots other call.frame.names none event.Local src n
 
   -- a unit is of the right kind, and takes its arguments
-  by_kind : (u : UnitValue) (right : Bool) (xs : List ℕ) (kinds : List ParamKind) → u.params ≡ kinds → (go : List Held → Outcome) → ((vals : List Held) → ArgsAre kinds xs vals → Good (go vals))
+  by_kind : (u : UnitValue) (right : Bool) (xs : List ℕ) (kinds : List ParamKind) → u.params ≡ kinds → (go : List Held → Outcome)
+      → ((vals : List Held) → ArgsAre kinds xs vals → Good (go vals))
       → Good (cond right (arguments_in w a act u.params xs go) (Wrong OutOfRange))
   by_kind u true xs kinds same go h = subst (λ ks. Good (arguments_in w a act ks xs go)) (sym same) (arguments_follow kinds xs go h)
   by_kind u false xs kinds same go h = tt
 
   -- a name is given the number of an expression, or a shared number that stands alone
-  value_follows : (s : Statement) (rest : List Todo) (r : Ready s rest) (x : Word) (e : Expression) (d : ℕ) (o : Option ℕ) → shared_alone cx.setting e ≡ o
+  value_follows : (s : Statement) (rest : List Todo) (r : Ready s rest) (x : Word) (e : Expression) (d : ℕ) (o : Option ℕ)
+      → shared_alone cx.setting e ≡ o
       → IsKnownUnless o r.scope e → before cx.setting r.scope r.t s ≡ before_into r.scope r.t e
       → code_of cx.setting r.t r.scope r.n r.first s ≡ before cx.setting r.scope r.t s ++ option_map_or (λ k. instr.Get d k) o (last_into r.scope r.t e d) ∷ []
       → source_step cx.tree v a ≡ declaring v a call rest x e o
@@ -470,8 +495,10 @@ module _ (cx : Whole) (built : AreBuilt cx) (w : World) (v : SourceWorld) (a : �
       (between_known s rest r (instr.Get d k) x.text d (value.Number n) old code (match n old held at)))))
 
   -- a shared number is written or added to
-  store_follows : (s : Statement) (rest : List Todo) (r : Ready s rest) (i : Instr) (k : ℕ) (e : Expression) (new : ℤ → ℤ → ℤ) (ev : Event) → IsKnown r.scope e
-      → before cx.setting r.scope r.t s ≡ eval r.scope r.t e → code_of cx.setting r.t r.scope r.n r.first s ≡ before cx.setting r.scope r.t s ++ i ∷ []
+  store_follows : (s : Statement) (rest : List Todo) (r : Ready s rest) (i : Instr) (k : ℕ) (e : Expression) (new : ℤ → ℤ → ℤ) (ev : Event)
+      → IsKnown r.scope e
+      → before cx.setting r.scope r.t s ≡ eval r.scope r.t e
+      → code_of cx.setting r.t r.scope r.n r.first s ≡ before cx.setting r.scope r.t s ++ i ∷ []
       → declared r.scope r.n s ≡ r.scope
       → carried_out cx.m w a act i ≡ number_in (slot_at act (slot_for r.scope r.t e)) (λ n. cell_in (slice_get w.cells k) (λ old. stored w a act k (new old n) ev))
       → source_step cx.tree v a ≡ storing v a call rest k e new ev → Good (run_at cx.m w a act (instruction_at cx.m act.frame))
@@ -485,7 +512,8 @@ module _ (cx : Whole) (built : AreBuilt cx) (w : World) (v : SourceWorld) (a : �
       (goes (act.frame.place + 1) act.frame.slots rest call.frame.names
       (inl (between_after s rest r i code stays (eval_keeps r.scope r.t e r.start act.frame.slots ran))))))))
 
-  assign_follows : (x : Word) (e : Expression) (rest : List Todo) → call.frame.todo ≡ Do (Assign x e) ∷ rest → (r : Ready (Assign x e) rest) (o : Option ℕ)
+  assign_follows : (x : Word) (e : Expression) (rest : List Todo) → call.frame.todo ≡ Do (Assign x e) ∷ rest
+      → (r : Ready (Assign x e) rest) (o : Option ℕ)
       → find cx.setting.shared x.text ≡ o → IsAssignable cx.setting r.scope x e o → Good (run_at cx.m w a act (instruction_at cx.m act.frame))
   assign_follows x e rest todo r (Some k) is known =
       store_follows (Assign x e) rest r (instr.Put k (slot_for r.scope r.t e)) k e (λ old n. n) event.Put known
@@ -508,7 +536,8 @@ module _ (cx : Whole) (built : AreBuilt cx) (w : World) (v : SourceWorld) (a : �
   pushed_there scope x n new =
       find_behind scope x n x ∙ (ap (λ o. or_entry o (is_text x x) n) (none_new (find scope x) new) ∙ ap (λ b. or_entry None b n) (is_same x))
 
-  decide : (s : Statement) (rest : List Todo) → call.frame.todo ≡ Do s ∷ rest → Ready s rest → Good (run_at cx.m w a act (instruction_at cx.m act.frame))
+  decide : (s : Statement) (rest : List Todo) → call.frame.todo ≡ Do s ∷ rest → Ready s rest
+      → Good (run_at cx.m w a act (instruction_at cx.m act.frame))
   decide (Block ss) rest e r = absurd r.simple
   decide Empty rest e r = absurd r.simple
   decide (Declare b x ty (Make at vb)) rest e r =
@@ -530,7 +559,8 @@ module _ (cx : Whole) (built : AreBuilt cx) (w : World) (v : SourceWorld) (a : �
   decide (Atomic x y at ex) rest e r =
       let k = some_there (find cx.setting.shared x.text) r.stands.covered.0 in
       let there : find cx.setting.shared x.text ≡ Some (number_of cx.setting.shared x) = k.1 ∙ ap (λ j. Some j) (sym (slot_found cx.setting.shared x k.0 k.1)) in
-      store_follows (Atomic x y at ex) rest r (instr.AddTo (number_of cx.setting.shared x) (slot_for r.scope r.t ex)) (number_of cx.setting.shared x) ex (int_wrapping_add w64) event.Added
+      store_follows (Atomic x y at ex) rest r (instr.AddTo (number_of cx.setting.shared x) (slot_for r.scope r.t ex))
+      (number_of cx.setting.shared x) ex (int_wrapping_add w64) event.Added
       r.stands.covered.1 refl refl refl refl
       (source_runs (Do (Atomic x y at ex) ∷ rest) e ∙ ap (adding v a call rest ex) (sym (built.shared x.text) ∙ there))
   decide (If at l op r' s) rest e r =
@@ -792,8 +822,10 @@ module _ (cx : Whole) (built : AreBuilt cx) (w : World) (v : SourceWorld) (a : �
 
   -- ---- the end of a turn, of a finish, of a call
 
-  turn_follows : (rest : List Todo) (i : Word) (hi : ℤ) (s : Statement) → call.frame.todo ≡ Turn i hi s ∷ rest → (t : ℕ) (scope : Scope) → IsMatched scope call.frame.names act.frame.slots
-      → StandsTurn cx t like.unit.code scope act.frame.place i hi s → Rest cx t like.unit.code scope (act.frame.place + 1) rest → Good (run_at cx.m w a act (instruction_at cx.m act.frame))
+  turn_follows : (rest : List Todo) (i : Word) (hi : ℤ) (s : Statement) → call.frame.todo ≡ Turn i hi s ∷ rest → (t : ℕ) (scope : Scope)
+      → IsMatched scope call.frame.names act.frame.slots
+      → StandsTurn cx t like.unit.code scope act.frame.place i hi s → Rest cx t like.unit.code scope (act.frame.place + 1) rest
+      → Good (run_at cx.m w a act (instruction_at cx.m act.frame))
   turn_follows rest i hi s e t scope held st last =
       at_place (instr.Next st.first) st.next
       (subst (λ o. Good (turning w a act st.first o)) (sym (ap (option_and_then (λ u. slice_get u.code st.first)) like.found ∙ st.head))
@@ -807,7 +839,8 @@ module _ (cx : Whole) (built : AreBuilt cx) (w : World) (v : SourceWorld) (a : �
           → Good (done w a (cond b (again act st.first st.slot n) (onward act)) none event.Local)
       by n g true src =
           let was = number_there (slot_at act st.slot) n g in
-          moves (st.first + 1) (slice_set act.frame.slots st.slot (value.Number (n +ℤ pos 1))) (unfolded s ++ Turn i hi s ∷ rest) ((i.text, value.Number (n +ℤ pos 1)) ∷ call.frame.names) none event.Local src
+          moves (st.first + 1) (slice_set act.frame.slots st.slot (value.Number (n +ℤ pos 1))) (unfolded s ++ Turn i hi s ∷ rest)
+          ((i.text, value.Number (n +ℤ pos 1)) ∷ call.frame.names) none event.Local src
           (record {
             t = t;
             scope = scope;
@@ -821,7 +854,8 @@ module _ (cx : Whole) (built : AreBuilt cx) (w : World) (v : SourceWorld) (a : �
   kin = pairs_weaker (IsAs cx) IsKin (λ x y h. record { status = h.status; governed = h.governed }) w.activities v.activities rel.activities
 
   close_follows : (rest : List Todo) → call.frame.todo ≡ Close ∷ rest → (b : ℕ) → slice_get like.unit.code act.frame.place ≡ Some (instr.EndFinish b)
-      → Between cx like.unit.code (act.frame.place + 1) act.frame.slots rest call.frame.names → Good (run_at cx.m w a act (instruction_at cx.m act.frame))
+      → Between cx like.unit.code (act.frame.place + 1) act.frame.slots rest call.frame.names
+      → Good (run_at cx.m w a act (instruction_at cx.m act.frame))
   close_follows rest e b i next = at_place (instr.EndFinish b) i (by act.opened refl)
     where
       same : awaits w.activities (innermost a act) ≡ awaits v.activities (innermost a call)
@@ -842,7 +876,8 @@ module _ (cx : Whole) (built : AreBuilt cx) (w : World) (v : SourceWorld) (a : �
       by zero o = tt
       by (suc n) o = test n o (awaits w.activities (innermost a act)) refl
 
-  over_follows : call.frame.todo ≡ [] → slice_get like.unit.code act.frame.place ≡ Some instr.Ret → Good (run_at cx.m w a act (instruction_at cx.m act.frame))
+  over_follows : call.frame.todo ≡ [] → slice_get like.unit.code act.frame.place ≡ Some instr.Ret
+      → Good (run_at cx.m w a act (instruction_at cx.m act.frame))
   over_follows e i = at_place instr.Ret i (by act.callers call.callers refl refl like.callers)
     where
       by : (fs : List Frame) (cs : List Doing) → act.callers ≡ fs → call.callers ≡ cs → Pairs (Waits cx) fs cs → Good (returning w a act fs)
@@ -864,7 +899,8 @@ module _ (cx : Whole) (built : AreBuilt cx) (w : World) (v : SourceWorld) (a : �
 
   -- ---- a step
 
-  within_follows : (s : Statement) (rest : List Todo) → call.frame.todo ≡ Do s ∷ rest → Within cx like.unit.code act.frame.place act.frame.slots s rest call.frame.names → Good (run_at cx.m w a act (instruction_at cx.m act.frame))
+  within_follows : (s : Statement) (rest : List Todo) → call.frame.todo ≡ Do s ∷ rest
+      → Within cx like.unit.code act.frame.place act.frame.slots s rest call.frame.names → Good (run_at cx.m w a act (instruction_at cx.m act.frame))
   within_follows s rest e h = by h.ahead h.split
     where
       by : (ahead : List Instr) → before cx.setting h.scope h.t s ≡ h.past ++ ahead → Good (run_at cx.m w a act (instruction_at cx.m act.frame))
@@ -906,7 +942,8 @@ module _ (cx : Whole) (built : AreBuilt cx) (w : World) (v : SourceWorld) (a : �
             at = (let at = h.at in omega (arith, length-append h.past (i ∷ [])));
           }))))
 
-  here_follows : (todo : List Todo) → call.frame.todo ≡ todo → (t : ℕ) (scope inner : Scope) → IsMatched scope call.frame.names act.frame.slots → IsWithin inner scope
+  here_follows : (todo : List Todo) → call.frame.todo ≡ todo → (t : ℕ) (scope inner : Scope) → IsMatched scope call.frame.names act.frame.slots
+      → IsWithin inner scope
       → Here cx t like.unit.code todo inner act.frame.place → Good (run_at cx.m w a act (instruction_at cx.m act.frame))
   here_follows [] e t scope inner held within h = over_follows e h
   here_follows (Do s ∷ rest) e t scope inner held within h = within_follows s rest e (record {
@@ -929,7 +966,8 @@ module _ (cx : Whole) (built : AreBuilt cx) (w : World) (v : SourceWorld) (a : �
   here_follows (Close ∷ rest) e t scope inner held within h =
       close_follows rest e h.0 h.1 (record { t = t; scope = inner; matched = λ x k f. held x k (within x k f); rest = h.2 })
 
-  between_follows : (todo : List Todo) → call.frame.todo ≡ todo → Between cx like.unit.code act.frame.place act.frame.slots todo call.frame.names → Good (run_at cx.m w a act (instruction_at cx.m act.frame))
+  between_follows : (todo : List Todo) → call.frame.todo ≡ todo → Between cx like.unit.code act.frame.place act.frame.slots todo call.frame.names
+      → Good (run_at cx.m w a act (instruction_at cx.m act.frame))
   between_follows todo e b = by b.rest.jumps b.rest.along
     where
       by : (jumps : List ℕ) → Along like.unit.code act.frame.place jumps b.rest.place → Good (run_at cx.m w a act (instruction_at cx.m act.frame))
@@ -942,7 +980,8 @@ module _ (cx : Whole) (built : AreBuilt cx) (w : World) (v : SourceWorld) (a : �
             rest = record { jumps = jumps; place = b.rest.place; inner = b.rest.inner; along = along.1; within = b.rest.within; here = b.rest.here };
           })))
 
-  runs_follow : (todo : List Todo) → call.frame.todo ≡ todo → RunsAs cx like.unit.code act.frame.place act.frame.slots todo call.frame.names → Good (run_at cx.m w a act (instruction_at cx.m act.frame))
+  runs_follow : (todo : List Todo) → call.frame.todo ≡ todo → RunsAs cx like.unit.code act.frame.place act.frame.slots todo call.frame.names
+      → Good (run_at cx.m w a act (instruction_at cx.m act.frame))
   runs_follow todo e (inl b) = between_follows todo e b
   runs_follow [] e (inr h) = absurd h
   runs_follow (Do s ∷ rest) e (inr h) = within_follows s rest e h
@@ -951,7 +990,8 @@ module _ (cx : Whole) (built : AreBuilt cx) (w : World) (v : SourceWorld) (a : �
 
 -- ---- the second half of an `advanceAll`
 
-pass_follows : (cx : Whole) (w : World) (v : SourceWorld) (a : ℕ) → AreRelated (IsAs cx) w v → (act : Activity) (call : SourceActivity) → slice_get v.activities a ≡ Some call → IsAs cx act call
+pass_follows : (cx : Whole) (w : World) (v : SourceWorld) (a : ℕ) → AreRelated (IsAs cx) w v → (act : Activity) (call : SourceActivity)
+    → slice_get v.activities a ≡ Some call → IsAs cx act call
     → act.status ≡ status.Arrived → Follows cx.tree (IsAs cx) v a (passing w a act)
 pass_follows cx w v a rel act call there like arrived = by (waits w a) refl
   where
@@ -960,7 +1000,8 @@ pass_follows cx w v a rel act call there like arrived = by (waits w a) refl
     by false e =
         both_move cx.tree (IsAs cx) w v a rel (past act (w.steps + 1)) _ (all passed) event.Passed
         (ap (source_of cx.tree v a) there ∙ (ap (source_by cx.tree v a call) (sym like.status ∙ arrived)
-        ∙ ap (λ b. cond b Blocked (done v a (record call { status = status.Running; since = v.steps + 1 }) (all passed) event.Passed)) (sym (waits_alike a w.clocks v.clocks rel.clocks) ∙ e)))
+        ∙ ap (λ b. cond b Blocked (done v a (record call { status = status.Running; since = v.steps + 1 }) (all passed) event.Passed))
+        (sym (waits_alike a w.clocks v.clocks rel.clocks) ∙ e)))
         (record {
           status = refl;
           opened = like.opened;
@@ -972,10 +1013,12 @@ pass_follows cx w v a rel act call there like arrived = by (waits w a) refl
         })
 
 -- each step is followed
-pub step_follows : (cx : Whole) → AreBuilt cx → (w : World) (v : SourceWorld) (a : ℕ) → AreRelated (IsAs cx) w v → Follows cx.tree (IsAs cx) v a (step cx.m w a)
+pub step_follows : (cx : Whole) → AreBuilt cx → (w : World) (v : SourceWorld) (a : ℕ) → AreRelated (IsAs cx) w v
+    → Follows cx.tree (IsAs cx) v a (step cx.m w a)
 step_follows cx built w v a rel = of (slice_get w.activities a) refl
   where
-    by : (act : Activity) (call : SourceActivity) → slice_get w.activities a ≡ Some act → slice_get v.activities a ≡ Some call → IsAs cx act call → (st : Status) → act.status ≡ st
+    by : (act : Activity) (call : SourceActivity) → slice_get w.activities a ≡ Some act → slice_get v.activities a ≡ Some call → IsAs cx act call
+        → (st : Status) → act.status ≡ st
         → Follows cx.tree (IsAs cx) v a (step_by cx.m w a act st)
     by act call here there like status.Running e =
         runs_follow cx built w v a rel act call here there like e call.frame.todo refl (subst (λ s. Stage cx like.unit.code s act.frame call.frame) e like.stage)

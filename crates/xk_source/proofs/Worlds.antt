@@ -1,24 +1,19 @@
 -- Two worlds that differ in what their activities carry out and in the numbers of steps alone.
-use Rattle.std.proofs.Common.{◌≡◌, ℕ, zero, suc, ◌+◌, Bool, true, false, cond, not, ◌&&◌, ◌||◌, List, [], ◌∷◌, ◌++◌, map, length, set, ℤ, Some, None, Option, refl, sym, ap, ◌∙◌, subst, ◌⊎◌, inl, inr, replicate}
+use Rattle.std.proofs.Common.{◌≡◌, ℕ, zero, suc, ◌+◌, Bool, true, false, cond, not, ◌&&◌, ◌||◌, List, [], ◌∷◌, ◌++◌, map, length, ℤ, Some, None, Option, refl, sym, ap, ◌∙◌, subst, ◌⊎◌, inl, inr, replicate}
 use Rattle.std.specs.Prelude.{slice_get, slice_set, slice_index_or}
 use Rattle.std.specs.List.{list_any}
 use Rattle.std.specs.Option.{option_map_or}
-use Rattle.std.proofs.lemmas.Bool.{false≢true}
-use Rattle.std.proofs.lemmas.Option.{none-some, same_Some}
-use Rattle.xk_types.specs.declared.names.Value.{Value}
-use Rattle.xk_types.specs.declared.names.Value.TheVariants as value
-use Rattle.xk_types.specs.declared.names.Status.{Status}
 use Rattle.xk_types.specs.declared.names.Standing.{Standing}
 use Rattle.xk_types.specs.declared.names.Standing.TheVariants as standing
 use Rattle.xk_types.specs.declared.names.Event.{Event}
 use Rattle.xk_types.specs.declared.names.Event.TheVariants as event
-use Rattle.xk_types.specs.World.{Finish, ActivityOf, Activity, Clock, WorldOf, World, standing_of, is_ended}
-use Rattle.xk_types.specs.Step.{OutcomeOf, Outcome, Blocked, Wrong, Stepped, Cause, is_signalled, is_pending, advanced, is_ready, settled_clock, settled, moved_on, moved, none, done, made, new_clock, same_finish, under_within, is_under, awaits_from, awaits, waits, is_registered, registered_on, clock_in, joined, joined_on}
+use Rattle.xk_types.specs.World.{Finish, ActivityOf, Activity, Clock, World, standing_of, is_ended}
+use Rattle.xk_types.specs.Step.{Outcome, Blocked, Wrong, Stepped, is_signalled, is_pending, advanced, is_ready, settled_clock, settled, moved_on, moved, none, done, made, new_clock, same_finish, under_within, is_under, awaits_from, joined}
 use Rattle.xk_types.specs.Schedule.{is_local}
 use Rattle.xk_types.proofs.Lists.{fun_ext}
 use Rattle.xk_tree.specs.Tree.{TreeValue}
-use Rattle.xk_source.specs.Source.{SourceActivity, SourceWorld, SourceOutcome, source_step}
-use Rattle.xk_source.proofs.Pairs.{Pairs, pair_at, pairs_set, pairs_set_left, pairs_push, pairs_length, pairs_map}
+use Rattle.xk_source.specs.Source.{SourceActivity, SourceWorld, source_step}
+use Rattle.xk_source.proofs.Pairs.{Pairs, pairs_set, pairs_set_left, pairs_push, pairs_length, pairs_map}
 
 -- ---- clocks
 
@@ -26,7 +21,8 @@ pub record IsAlike (c d : Clock) : Type 0 where
   pub phase : c.phase ≡ d.phase
   pub standings : c.standings ≡ d.standings
 
-pub alike_moved : (a : ℕ) (change : ℕ → Standing → Standing) (cs ds : List Clock) → Pairs IsAlike cs ds → Pairs IsAlike (moved a change cs) (moved a change ds)
+pub alike_moved : (a : ℕ) (change : ℕ → Standing → Standing) (cs ds : List Clock) → Pairs IsAlike cs ds
+    → Pairs IsAlike (moved a change cs) (moved a change ds)
 alike_moved a change [] [] h = tt
 alike_moved a change [] (d ∷ ds) h = absurd h
 alike_moved a change (c ∷ cs) [] h = absurd h
@@ -40,7 +36,9 @@ alike_settled : (m n : ℕ) (c d : Clock) → IsAlike c d → IsAlike (settled_c
 alike_settled m n c d h =
     subst (λ b. IsAlike (settled_clock m c) (cond b (record { phase = d.phase + 1; last = n; standings = map advanced d.standings }) d)) (ready_alike c d h) (by (is_ready c))
   where
-    by : (b : Bool) → IsAlike (cond b (record { phase = c.phase + 1; last = m; standings = map advanced c.standings }) c) (cond b (record { phase = d.phase + 1; last = n; standings = map advanced d.standings }) d)
+    by : (b : Bool)
+        → IsAlike (cond b (record { phase = c.phase + 1; last = m; standings = map advanced c.standings }) c)
+        (cond b (record { phase = d.phase + 1; last = n; standings = map advanced d.standings }) d)
     by true = record { phase = ap (λ p. p + 1) h.phase; standings = ap (map advanced) h.standings }
     by false = h
 
@@ -86,7 +84,8 @@ set_own (x ∷ s) zero = refl
 set_own (x ∷ s) (suc a) = ap (λ r. x ∷ r) (set_own s a)
 
 -- where no standing changes, the clocks stay
-pub clocks_stay : (n a : ℕ) (change : ℕ → Standing → Standing) → ((k : ℕ) (s : Standing) → change k s ≡ s) → (cs ds : List Clock) → AreQuiet cs → Pairs IsAlike cs ds
+pub clocks_stay : (n a : ℕ) (change : ℕ → Standing → Standing) → ((k : ℕ) (s : Standing) → change k s ≡ s) → (cs ds : List Clock) → AreQuiet cs
+    → Pairs IsAlike cs ds
     → Pairs IsAlike (map (settled_clock n) (moved a change cs)) ds
 clocks_stay n a change same [] [] q h = tt
 clocks_stay n a change same [] (d ∷ ds) q h = absurd h
@@ -95,7 +94,8 @@ clocks_stay n a change same (c ∷ cs) (d ∷ ds) q h =
     let own : slice_set c.standings a (change 0 (standing_of c a)) ≡ c.standings = ap (slice_set c.standings a) (same 0 (standing_of c a)) ∙ set_own c.standings a in
     let quiet : is_ready (moved_on a (change 0) c) ≡ false = ap (λ s. list_any is_signalled s && not (list_any is_pending s)) own ∙ q.0 in
     let one : IsAlike (moved_on a (change 0) c) d = record { phase = h.0.phase; standings = own ∙ h.0.standings } in (
-      subst (λ b. IsAlike (cond b (record { phase = c.phase + 1; last = n; standings = map advanced (moved_on a (change 0) c).standings }) (moved_on a (change 0) c)) d) (sym quiet) one,
+      subst (λ b. IsAlike (cond b (record { phase = c.phase + 1; last = n; standings = map advanced (moved_on a (change 0) c).standings }) (moved_on a (change 0) c)) d)
+          (sym quiet) one,
       clocks_stay n a (λ k. change (suc k)) (λ k. same (suc k)) cs ds q.1 h.1,
     )
 
@@ -116,7 +116,8 @@ Follows t R v a (Stepped next e) = ((is_local e ≡ true) × AreRelated R next v
 
 module _ (t : TreeValue) (R : Activity → SourceActivity → Type 0) (w : World) (v : SourceWorld) (a : ℕ) (rel : AreRelated R w v) where
   -- both change one activity, and its standings
-  pub both_move : (next : Activity) (after : SourceActivity) (change : ℕ → Standing → Standing) (e : Event) → source_step t v a ≡ done v a after change e → R next after → Follows t R v a (done w a next change e)
+  pub both_move : (next : Activity) (after : SourceActivity) (change : ℕ → Standing → Standing) (e : Event)
+      → source_step t v a ≡ done v a after change e → R next after → Follows t R v a (done w a next change e)
   both_move next after change e s r = inr (
     _,
     s,
@@ -129,7 +130,8 @@ module _ (t : TreeValue) (R : Activity → SourceActivity → Type 0) (w : World
   )
 
   -- both write a shared number, too
-  pub both_write : (next : Activity) (after : SourceActivity) (s : ℕ) (n : ℤ) (e : Event) → source_step t v a ≡ done (record v { cells = slice_set v.cells s n }) a after none e → R next after
+  pub both_write : (next : Activity) (after : SourceActivity) (s : ℕ) (n : ℤ) (e : Event)
+      → source_step t v a ≡ done (record v { cells = slice_set v.cells s n }) a after none e → R next after
       → Follows t R v a (done (record w { cells = slice_set w.cells s n }) a next none e)
   both_write next after s n e st r = inr (
     _,
@@ -159,13 +161,15 @@ module _ (t : TreeValue) (R : Activity → SourceActivity → Type 0) (w : World
 
   -- both start an activity
   pub both_start : (next : Activity) (after : SourceActivity) (child : Activity) (begun : SourceActivity) (given : ℕ → Bool)
-      → source_step t v a ≡ Stepped (settled (record v { activities = slice_set v.activities a after ++ begun ∷ []; clocks = joined a given v.clocks })) event.Spawned → R next after → R child begun
+      → source_step t v a ≡ Stepped (settled (record v { activities = slice_set v.activities a after ++ begun ∷ []; clocks = joined a given v.clocks })) event.Spawned
+      → R next after → R child begun
       → Follows t R v a (Stepped (settled (record w { activities = slice_set w.activities a next ++ child ∷ []; clocks = joined a given w.clocks })) event.Spawned)
   both_start next after child begun given st r n = inr (
     _,
     st,
     record {
-      activities = pairs_push R (slice_set w.activities a next) (slice_set v.activities a after) child begun (pairs_set R w.activities v.activities a next after rel.activities r) n;
+      activities = pairs_push R (slice_set w.activities a next) (slice_set v.activities a after) child begun
+          (pairs_set R w.activities v.activities a next after rel.activities r) n;
       clocks = alike_all (w.steps + 1) (v.steps + 1) (joined a given w.clocks) (joined a given v.clocks) (alike_joined a given w.clocks v.clocks rel.clocks);
       cells = rel.cells;
       quiet = all_quiet (w.steps + 1) (joined a given w.clocks);
@@ -173,7 +177,8 @@ module _ (t : TreeValue) (R : Activity → SourceActivity → Type 0) (w : World
   )
 
   -- the source waits
-  pub one_moves : (next : Activity) (call : SourceActivity) → slice_get v.activities a ≡ Some call → R next call → Follows t R v a (done w a next none event.Local)
+  pub one_moves : (next : Activity) (call : SourceActivity) → slice_get v.activities a ≡ Some call → R next call
+      → Follows t R v a (done w a next none event.Local)
   one_moves next call there r = inl (
     refl,
     record {
@@ -186,7 +191,8 @@ module _ (t : TreeValue) (R : Activity → SourceActivity → Type 0) (w : World
 
 -- ---- who waits, and for whom
 
-pub waits_alike : (a : ℕ) (cs ds : List Clock) → Pairs IsAlike cs ds → list_any (λ c. is_signalled (standing_of c a)) cs ≡ list_any (λ c. is_signalled (standing_of c a)) ds
+pub waits_alike : (a : ℕ) (cs ds : List Clock) → Pairs IsAlike cs ds
+    → list_any (λ c. is_signalled (standing_of c a)) cs ≡ list_any (λ c. is_signalled (standing_of c a)) ds
 waits_alike a [] [] h = refl
 waits_alike a [] (d ∷ ds) h = absurd h
 waits_alike a (c ∷ cs) [] h = absurd h
@@ -208,14 +214,16 @@ Together R None (Some y) = ⊥
 Together R (Some x) None = ⊥
 Together R (Some x) (Some y) = R x y
 
-pub together_at : {A B : Type 0} (R : A → B → Type 0) (xs : List A) (ys : List B) (b : ℕ) → Pairs R xs ys → Together R (slice_get xs b) (slice_get ys b)
+pub together_at : {A B : Type 0} (R : A → B → Type 0) (xs : List A) (ys : List B) (b : ℕ) → Pairs R xs ys
+    → Together R (slice_get xs b) (slice_get ys b)
 together_at R [] [] b h = tt
 together_at R [] (y ∷ ys) b h = absurd h
 together_at R (x ∷ xs) [] b h = absurd h
 together_at R (x ∷ xs) (y ∷ ys) zero h = h.0
 together_at R (x ∷ xs) (y ∷ ys) (suc b) h = together_at R xs ys b h.1
 
-pub under_kin : {F G : Type 0} (xs : List (ActivityOf F)) (ys : List (ActivityOf G)) (f : Finish) (n b : ℕ) → AreKin xs ys → under_within xs f n b ≡ under_within ys f n b
+pub under_kin : {F G : Type 0} (xs : List (ActivityOf F)) (ys : List (ActivityOf G)) (f : Finish) (n b : ℕ) → AreKin xs ys
+    → under_within xs f n b ≡ under_within ys f n b
 unfolding under_within
 under_kin xs ys f zero b kin = refl
 under_kin {F} {G} xs ys f (suc n) b kin =
@@ -231,7 +239,8 @@ under_kin {F} {G} xs ys f (suc n) b kin =
         ap (λ g. same_finish g f || option_map_or (under_within xs f n) g.owner false) h.governed
         ∙ ap (λ u. same_finish y.governed f || option_map_or u y.governed.owner false) all
 
-pub awaits_kin : {F G : Type 0} (xs : List (ActivityOf F)) (ys : List (ActivityOf G)) (f : Finish) (b : ℕ) (us : List (ActivityOf F)) (vs : List (ActivityOf G)) → AreKin xs ys → AreKin us vs
+pub awaits_kin : {F G : Type 0} (xs : List (ActivityOf F)) (ys : List (ActivityOf G)) (f : Finish) (b : ℕ) (us : List (ActivityOf F))
+    (vs : List (ActivityOf G)) → AreKin xs ys → AreKin us vs
     → awaits_from xs f b us ≡ awaits_from ys f b vs
 awaits_kin xs ys f b [] [] kin h = refl
 awaits_kin xs ys f b [] (v ∷ vs) kin h = absurd h
@@ -242,7 +251,8 @@ awaits_kin xs ys f b (u ∷ us) (v ∷ vs) kin h =
     ∙ ap (λ u. (u && not (is_ended v.status)) || awaits_from ys f (suc b) vs)
     (under_kin xs ys f (length xs) b kin ∙ ap (λ n. under_within ys f n b) (pairs_length IsKin xs ys kin))
 
-pub pairs_weaker : {A B : Type 0} (R S : A → B → Type 0) → ((x : A) (y : B) → R x y → S x y) → (xs : List A) (ys : List B) → Pairs R xs ys → Pairs S xs ys
+pub pairs_weaker : {A B : Type 0} (R S : A → B → Type 0) → ((x : A) (y : B) → R x y → S x y) → (xs : List A) (ys : List B) → Pairs R xs ys
+    → Pairs S xs ys
 pairs_weaker R S k [] [] h = tt
 pairs_weaker R S k [] (w ∷ ys) h = absurd h
 pairs_weaker R S k (z ∷ xs) [] h = absurd h

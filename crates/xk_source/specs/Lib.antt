@@ -1,2 +1,5 @@
+pub mod Parts
+pub mod Graph
+pub mod Compiled
 pub mod Source
 pub mod Meaning

@@ -1,19 +1,4 @@
 //! What source texts mean, and that compiled programs mean their source.
 #![tactic(auto)]
 
-ghost use Rattle.std.specs.Prelude.{length, ◌≤◌};
-ghost use Rattle.xk_codegen.specs.Compiled.{IsCompiled};
-ghost use Rattle.xk_names.specs.Scoped.{IsScoped};
-ghost use Rattle.xk_source.specs.Meaning.{Means};
-ghost use Rattle.xk_tree.specs.Bodies.{HasBodiesApart};
-ghost use Rattle.xk_tree.specs.Tree.{TreeValue};
-ghost use Rattle.xk_types.specs.Code.{ModuleValue};
-
-/// A compiled program means its source. Let a module be the code of a tree without faults of names, in which each `async` stands at an
-/// offset of its own. For each legal run of the module there is a run of the tree in which the same is seen: the same activities do
-/// the same things in the same order, and after each of these all clocks and shared numbers are the same. It is never wrong, and all
-/// of its activities have ended just where the module's have.
-pub fn compiled_meaning()
-    ensures { (t : TreeValue) (m : ModuleValue) → IsScoped t → HasBodiesApart t → length m.units ≤ 1024 → IsCompiled t m
-        → Means t m }
-{}
+pub mod laws;

@@ -62,7 +62,7 @@ called_at f (r ∷ rs) distinct cs k c at = go (r.clock == k) refl (called_at f 
   where
     go : (b : Bool) → (r.clock == k) ≡ b
         → ((d : CountValue) → slice_get (set cs r.clock (count_settled (f r (count_at cs r.clock)))) k ≡ Some d
-           → slice_get (called f rs (set cs r.clock (count_settled (f r (count_at cs r.clock))))) k ≡ Some (option_map_or (λ r. count_settled (f r d)) (reg_on rs k) d))
+        → slice_get (called f rs (set cs r.clock (count_settled (f r (count_at cs r.clock))))) k ≡ Some (option_map_or (λ r. count_settled (f r d)) (reg_on rs k) d))
         → slice_get (called f rs (set cs r.clock (count_settled (f r (count_at cs r.clock))))) k ≡ Some (option_map_or (λ r. count_settled (f r c)) (cond b (Some r) (reg_on rs k)) c)
     go true e again =
         let same : r.clock ≡ k = eqb-true r.clock k e in
@@ -89,8 +89,8 @@ noted_at now f (r ∷ rs) distinct cs ls k c at inside =
 
     go : (b : Bool) → (r.clock == k) ≡ b → (a : Bool) → is_ready_count (f r (count_at cs r.clock)) ≡ a
         → ((ms : List ℕ) (d : CountValue) → slice_get (set cs r.clock (count_settled (f r (count_at cs r.clock)))) k ≡ Some d → k < length ms
-           → get_or (noted now f rs (set cs r.clock (count_settled (f r (count_at cs r.clock)))) ms) k 0
-           ≡ option_map_or (λ r. last_settled now (f r d) (get_or ms k 0)) (reg_on rs k) (get_or ms k 0))
+        → get_or (noted now f rs (set cs r.clock (count_settled (f r (count_at cs r.clock)))) ms) k 0
+        ≡ option_map_or (λ r. last_settled now (f r d) (get_or ms k 0)) (reg_on rs k) (get_or ms k 0))
         → get_or (noted now f rs (set cs r.clock (count_settled (f r (count_at cs r.clock)))) (cond a (set ls r.clock now) ls)) k 0
         ≡ option_map_or (λ r. last_settled now (f r c) (get_or ls k 0)) (cond b (Some r) (reg_on rs k)) (get_or ls k 0)
     go true e a is again =

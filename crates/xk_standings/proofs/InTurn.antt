@@ -84,9 +84,9 @@ resumed_in_turn test [] cs distinct = refl
 resumed_in_turn test (r ∷ rs) cs distinct =
     ap (λ (x : Registration). x ∷ regs_resumed_in_turn test rs (called call_resume (regs_open test (r ∷ [])) cs)) (resumed_one test r cs)
     ∙ ap (λ (l : List Registration). record { clock = r.clock; resumed = cond (test r.clock) (mark_resumed (phase_at cs r.clock) r.resumed) r.resumed } ∷ l)
-      (resumed_in_turn test rs (called call_resume (regs_open test (r ∷ [])) cs) distinct.1
-       ∙ resumed_same r.clock test (phase_at (called call_resume (regs_open test (r ∷ [])) cs)) (phase_at cs) rs distinct.0
-         (λ k other. go (test r.clock && is_open r) k other))
+    (resumed_in_turn test rs (called call_resume (regs_open test (r ∷ [])) cs) distinct.1
+    ∙ resumed_same r.clock test (phase_at (called call_resume (regs_open test (r ∷ [])) cs)) (phase_at cs) rs distinct.0
+    (λ k other. go (test r.clock && is_open r) k other))
   where
     go : (b : Bool) (k : ℕ) → (k ≡ r.clock → ⊥) → phase_at (called call_resume (cond b (r ∷ []) []) cs) k ≡ phase_at cs k
     go true k other = ap (λ (c : CountValue). c.phase) (count_other call_resume r cs k other)
@@ -119,7 +119,7 @@ take-set xs i y rest h = rw add-one (go xs i h)
 pub more_registrations : (test : ℕ → Bool) (i : ℕ) (xs out : List Registration) (cs : List CountValue) (x : Registration) → i < length xs → x ≡ get_or xs i x
     → take i xs ++ regs_resumed_in_turn test (drop i xs) cs ≡ out
     → take (i + 1) (set xs i (reg_resumed test x cs))
-      ++ regs_resumed_in_turn test (drop (i + 1) (set xs i (reg_resumed test x cs))) (called call_resume (regs_open test (x ∷ [])) cs) ≡ out
+    ++ regs_resumed_in_turn test (drop (i + 1) (set xs i (reg_resumed test x cs))) (called call_resume (regs_open test (x ∷ [])) cs) ≡ out
 more_registrations test i xs out cs x h is so =
     take-set xs i (reg_resumed test x cs) (regs_resumed_in_turn test (drop (i + 1) (set xs i (reg_resumed test x cs))) (called call_resume (regs_open test (x ∷ [])) cs)) h
     ∙ ap (λ (l : List Registration). take i xs ++ reg_resumed test x cs ∷ regs_resumed_in_turn test l (called call_resume (regs_open test (x ∷ [])) cs)) (drop-set xs i (reg_resumed test x cs))

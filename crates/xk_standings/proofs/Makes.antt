@@ -148,7 +148,7 @@ moved_made : (a : ℕ) (ls : List ℕ) (acts : List (List Registration)) (cs : L
 moved_made a ls acts cs kept =
     ap (moved a (made_on (length cs))) (told_more ls acts cs kept)
     ∙ moved_push a (made_on (length cs)) (told ls acts cs) (record { phase = 0; last = 0; standings = replicate (length acts) standing.Apart })
-      (λ k lt s. older k (omega (arith, length-told_by (told_clock (λ j. slice_index_or ls j 0) acts) cs)) s)
+    (λ k lt s. older k (omega (arith, length-told_by (told_clock (λ j. slice_index_or ls j 0) acts) cs)) s)
     ∙ ap (λ (l : List Standing). told ls acts cs ++ record { phase = 0; last = 0; standings = l } ∷ []) here
   where
     older : (k : ℕ) → k < length cs → (s : Standing) → cond (length cs == k) standing.Open s ≡ s
@@ -167,23 +167,24 @@ moved_made a ls acts cs kept =
 -- A step that makes a clock: the table's `make`, and a registration more for its maker.
 pub made_told : (now a : ℕ) (ls : List ℕ) (acts : List (List Registration)) (cs : List CountValue) → IsKept ls acts cs → a < length acts
     → (told (ls ++ 0 ∷ []) (set acts a (held acts a ++ record { clock = length cs; resumed = None } ∷ [])) (cs ++ new_count ∷ [])
-       ≡ map (settled_clock now) (told ls acts cs ++ new_clock (length acts) a ∷ []))
+    ≡ map (settled_clock now) (told ls acts cs ++ new_clock (length acts) a ∷ []))
     × IsKept (ls ++ 0 ∷ []) (set acts a (held acts a ++ record { clock = length cs; resumed = None } ∷ [])) (cs ++ new_count ∷ [])
 made_told now a ls acts cs kept inside =
     let more = kept_more ls acts cs kept in
     let n : length (cs ++ no_count ∷ []) ≡ length cs + 1 = omega (arith, length-append cs (no_count ∷ [])) in
     let step = step_told now a (made_on (length cs)) call_register (record { clock = length cs; resumed = None } ∷ [])
-            (held acts a ++ record { clock = length cs; resumed = None } ∷ []) (ls ++ 0 ∷ []) acts (cs ++ no_count ∷ []) more inside (refl, tt)
-            (rw n (sound_push (length cs) (held acts a) (kept.sound a)))
-            (λ k c at. works k c ((more.fit k c at).ahead a)) in
+    (held acts a ++ record { clock = length cs; resumed = None } ∷ []) (ls ++ 0 ∷ []) acts (cs ++ no_count ∷ []) more inside (refl, tt)
+    (rw n (sound_push (length cs) (held acts a) (kept.sound a)))
+    (λ k c at. works k c ((more.fit k c at).ahead a)) in
     let here : count_at (cs ++ no_count ∷ []) (length cs) ≡ no_count = get_or-append_seam cs no_count [] no_count in
     let counts : called call_register (record { clock = length cs; resumed = None } ∷ []) (cs ++ no_count ∷ []) ≡ cs ++ new_count ∷ [] =
-            ap (λ (c : CountValue). set (cs ++ no_count ∷ []) (length cs) (count_settled (count_registered true c))) here ∙ set-append_seam cs no_count [] new_count in
+    ap (λ (c : CountValue). set (cs ++ no_count ∷ []) (length cs) (count_settled (count_registered true c))) here ∙ set-append_seam cs no_count [] new_count in
     let lasts : noted now call_register (record { clock = length cs; resumed = None } ∷ []) (cs ++ no_count ∷ []) (ls ++ 0 ∷ []) ≡ ls ++ 0 ∷ [] =
-            ap (λ (c : CountValue). cond (is_ready_count (count_registered true c)) (set (ls ++ 0 ∷ []) (length cs) now) (ls ++ 0 ∷ [])) here in
-    (subst2 (λ ms ds. told ms (set acts a (held acts a ++ record { clock = length cs; resumed = None } ∷ [])) ds ≡ map (settled_clock now) (told ls acts cs ++ new_clock (length acts) a ∷ []))
-         lasts counts (step.0 ∙ ap (map (settled_clock now)) (moved_made a ls acts cs kept)),
-     subst2 (λ ms ds. IsKept ms (set acts a (held acts a ++ record { clock = length cs; resumed = None } ∷ [])) ds) lasts counts step.1)
+    ap (λ (c : CountValue). cond (is_ready_count (count_registered true c)) (set (ls ++ 0 ∷ []) (length cs) now) (ls ++ 0 ∷ [])) here in (
+      subst2 (λ ms ds. told ms (set acts a (held acts a ++ record { clock = length cs; resumed = None } ∷ [])) ds ≡ map (settled_clock now) (told ls acts cs ++ new_clock (length acts) a ∷ []))
+          lasts counts (step.0 ∙ ap (map (settled_clock now)) (moved_made a ls acts cs kept)),
+      subst2 (λ ms ds. IsKept ms (set acts a (held acts a ++ record { clock = length cs; resumed = None } ∷ [])) ds) lasts counts step.1,
+    )
   where
     subst2 : (P : List ℕ → List CountValue → Type 0) {l m : List ℕ} {c d : List CountValue} → l ≡ m → c ≡ d → P l c → P m d
     subst2 P {l} {m} {c} {d} e f h = subst (λ (x : List CountValue). P m x) f (subst (λ (y : List ℕ). P y c) e h)

@@ -53,16 +53,18 @@ told_settled acts k c now last after near step = go (is_ready_count c) refl
 
     go : (b : Bool) → is_ready_count c ≡ b → (told_clock after acts k (count_settled c) ≡ settled_clock now (told_clock last acts k c)) × IsFit acts k (count_settled c)
     go true e =
-        let later = row_advanced acts k c.phase (c.phase + 1) (omega arith) near.ahead in
-        (rw (same, step, e, later) refl,
-         rw e (record {
-           counts = rw later (counts_advanced (row acts k c.phase) c near.counts);
-           ahead = λ a. will_still (held acts a) k c.phase (c.phase + 1) (omega arith) (near.ahead a);
-           kept = unready_after c.registered;
-         }))
-    go false e =
-        (rw (same, step, e) refl,
-         rw e (record { counts = near.counts; ahead = near.ahead; kept = e }))
+        let later = row_advanced acts k c.phase (c.phase + 1) (omega arith) near.ahead in (
+          rw (same, step, e, later) refl,
+          rw e (record {
+            counts = rw later (counts_advanced (row acts k c.phase) c near.counts);
+            ahead = λ a. will_still (held acts a) k c.phase (c.phase + 1) (omega arith) (near.ahead a);
+            kept = unready_after c.registered;
+          }),
+        )
+    go false e = (
+      rw (same, step, e) refl,
+      rw e (record { counts = near.counts; ahead = near.ahead; kept = e }),
+    )
 
 -- ---- one activity's registrations become others
 
@@ -139,10 +141,11 @@ pub moved_told : (now a : ℕ) (h : ℕ → Standing → Standing) (last after :
     → ((k : ℕ) (c : CountValue) → slice_get cs k ≡ Some c → Becomes now h last after (held acts a) new k c)
     → (told_by (told_clock after (set acts a new)) (counts_after (held acts a) new cs) ≡ map (settled_clock now) (moved a h (told_by (told_clock last acts) cs)))
     × AreFit (set acts a new) (counts_after (held acts a) new cs)
-moved_told now a h last after acts cs new inside fit becomes =
-    (told_by_moved now a h (told_clock last acts) (told_clock after (set acts a new)) (count_after (held acts a) new) cs
-         (λ k c at. (here k c at).0 ∙ ap (settled_clock now) (told_moved last acts a k new c (h k) (becomes k c at).reads)),
-     each_changed (IsFit (set acts a new)) (count_after (held acts a) new) cs (λ k c at. (here k c at).1))
+moved_told now a h last after acts cs new inside fit becomes = (
+  told_by_moved now a h (told_clock last acts) (told_clock after (set acts a new)) (count_after (held acts a) new) cs
+      (λ k c at. (here k c at).0 ∙ ap (settled_clock now) (told_moved last acts a k new c (h k) (becomes k c at).reads)),
+  each_changed (IsFit (set acts a new)) (count_after (held acts a) new) cs (λ k c at. (here k c at).1),
+)
   where
     here : (k : ℕ) (c : CountValue) → slice_get cs k ≡ Some c
         → (told_clock after (set acts a new) k (count_after (held acts a) new k c) ≡ settled_clock now (told_clock last (set acts a new) k (count_between (held acts a) new k c)))
@@ -197,10 +200,11 @@ pub joined_told : (now a : ℕ) (given : ℕ → Bool) (last after : ℕ → ℕ
     → ((k : ℕ) (c : CountValue) → slice_get cs k ≡ Some c → Begins now given last after (held acts a) new k c)
     → (told_by (told_clock after (acts ++ new ∷ [])) (counts_after [] new cs) ≡ map (settled_clock now) (joined a given (told_by (told_clock last acts) cs)))
     × AreFit (acts ++ new ∷ []) (counts_after [] new cs)
-joined_told now a given last after acts cs new fit begins =
-    (told_by_joined now a given (told_clock last acts) (told_clock after (acts ++ new ∷ [])) (count_after [] new) cs
-         (λ k c at. (here k c at).0 ∙ ap (settled_clock now) (told_joined last acts a k new c (given k) (begins k c at).reads)),
-     each_changed (IsFit (acts ++ new ∷ [])) (count_after [] new) cs (λ k c at. (here k c at).1))
+joined_told now a given last after acts cs new fit begins = (
+  told_by_joined now a given (told_clock last acts) (told_clock after (acts ++ new ∷ [])) (count_after [] new) cs
+      (λ k c at. (here k c at).0 ∙ ap (settled_clock now) (told_joined last acts a k new c (given k) (begins k c at).reads)),
+  each_changed (IsFit (acts ++ new ∷ [])) (count_after [] new) cs (λ k c at. (here k c at).1),
+)
   where
     here : (k : ℕ) (c : CountValue) → slice_get cs k ≡ Some c
         → (told_clock after (acts ++ new ∷ []) k (count_after [] new k c) ≡ settled_clock now (told_clock last (acts ++ new ∷ []) k (count_between [] new k c)))

@@ -66,12 +66,13 @@ pub may_resume : (ls : List ℕ) (acts : List (List Registration)) (cs : List Co
     → (test : ℕ → Bool) → AreAllowed OwesResume cs (regs_open test (held acts a))
 may_resume ls acts cs a kept inside left test k r is =
     let found_by = passes (λ r. test r.clock && is_open r) (reg_on (held acts a) k) r
-            (sym (reg_where (λ r. test r.clock && is_open r) (held acts a) k (kept.sound a).distinct) ∙ is) in
+    (sym (reg_where (λ r. test r.clock && is_open r) (held acts a) k (kept.sound a).distinct) ∙ is) in
     let there : k < length cs = found (length cs) (held acts a) k r (kept.sound a) found_by.0 in
     let at : slice_get cs k ≡ Some (count_at cs k) = get_there cs k there in
-    allows OwesResume cs k r (reg_clock (held acts a) k r found_by.0) there
-    (pending (count_at cs k) found_by.0 (open_pending (count_at cs k).phase r.resumed (second (test r.clock) (is_open r) found_by.1)) (kept.fit k (count_at cs k) at),
-     left k (count_at cs k) at)
+    allows OwesResume cs k r (reg_clock (held acts a) k r found_by.0) there (
+      pending (count_at cs k) found_by.0 (open_pending (count_at cs k).phase r.resumed (second (test r.clock) (is_open r) found_by.1)) (kept.fit k (count_at cs k) at),
+      left k (count_at cs k) at,
+    )
   where
     pending : (c : CountValue) → reg_on (held acts a) k ≡ Some r → is_pending (standing_at c.phase r.resumed) ≡ true → IsFit acts k c → 0 < c.pending
     pending c held_by e fit =
@@ -83,7 +84,7 @@ pub may_drop : (ls : List ℕ) (acts : List (List Registration)) (cs : List Coun
     → (test : ℕ → Bool) → AreAllowed OwesDrop cs (regs_on test (held acts a))
 may_drop ls acts cs a kept inside left test k r is =
     let found_by = passes (λ r. test r.clock) (reg_on (held acts a) k) r
-            (sym (reg_where (λ r. test r.clock) (held acts a) k (kept.sound a).distinct) ∙ is) in
+    (sym (reg_where (λ r. test r.clock) (held acts a) k (kept.sound a).distinct) ∙ is) in
     let there : k < length cs = found (length cs) (held acts a) k r (kept.sound a) found_by.0 in
     let at : slice_get cs k ≡ Some (count_at cs k) = get_there cs k there in
     allows OwesDrop cs k r (reg_clock (held acts a) k r found_by.0) there
@@ -91,9 +92,17 @@ may_drop ls acts cs a kept inside left test k r is =
   where
     owed : (c : CountValue) → stands (held acts a) k c.phase ≡ standing_at c.phase r.resumed → IsFit acts k c → c.phase + 1 < 2 ^ 64 → OwesDrop r c
     owed c stood fit phase =
-        let registered : is_registered (standing_at c.phase r.resumed) ≡ true = registered_mark c.phase r.resumed in
-        (omega (arith, counted_at is_pending acts a k c.phase c.pending inside refl fit.counts.pending, ap (λ s. one_if (is_pending s)) stood),
-         (λ quiet. omega (arith, tally_one is_signalled (row acts k c.phase) a refl, tally_parts (row acts k c.phase), fit.counts.pending, fit.counts.registered,
-             ap (λ s. one_if (is_signalled s)) (row_at acts k c.phase a ∙ stood), ap one_if (signalled (standing_at c.phase r.resumed) registered quiet))),
-         omega (arith, counted_at is_registered acts a k c.phase c.registered inside refl fit.counts.registered, ap (λ s. one_if (is_registered s)) stood, ap one_if registered),
-         phase)
+        let registered : is_registered (standing_at c.phase r.resumed) ≡ true = registered_mark c.phase r.resumed in (
+          omega (arith, counted_at is_pending acts a k c.phase c.pending inside refl fit.counts.pending, ap (λ s. one_if (is_pending s)) stood),
+          (λ quiet. omega (
+            arith,
+            tally_one is_signalled (row acts k c.phase) a refl,
+            tally_parts (row acts k c.phase),
+            fit.counts.pending,
+            fit.counts.registered,
+            ap (λ s. one_if (is_signalled s)) (row_at acts k c.phase a ∙ stood),
+            ap one_if (signalled (standing_at c.phase r.resumed) registered quiet),
+          )),
+          omega (arith, counted_at is_registered acts a k c.phase c.registered inside refl fit.counts.registered, ap (λ s. one_if (is_registered s)) stood, ap one_if registered),
+          phase,
+        )

@@ -62,12 +62,14 @@ pub spawned_told : (now a : ℕ) (given : ℕ → Bool) (new : List Registration
     → IsKept ls acts cs → AreSound (length cs) new → IsGiven given (held acts a) new
     → (told (noted now call_register new cs ls) (acts ++ new ∷ []) (called call_register new cs) ≡ map (settled_clock now) (joined a given (told ls acts cs)))
     × IsKept (noted now call_register new cs ls) (acts ++ new ∷ []) (called call_register new cs)
-spawned_told now a given new ls acts cs kept sound is =
-    (rw counts begun.0, record {
-      fit = rw counts begun.1;
-      lasts = length-noted now call_register new cs ls ∙ kept.lasts ∙ sym (length-called call_register new cs);
-      sound = λ b. rw (length-called call_register new cs) (held_push (AreSound (length cs)) acts b new sound kept.sound);
-    })
+spawned_told now a given new ls acts cs kept sound is = (
+  rw counts begun.0,
+  record {
+    fit = rw counts begun.1;
+    lasts = length-noted now call_register new cs ls ∙ kept.lasts ∙ sym (length-called call_register new cs);
+    sound = λ b. rw (length-called call_register new cs) (held_push (AreSound (length cs)) acts b new sound kept.sound);
+  },
+)
   where
     between : (k : ℕ) (c : CountValue) → option_map_or (λ r. call_register r c) (reg_on new k) c ≡ count_between [] new k c
     between k c = rw (stands_reg new k c.phase) (register_by c (reg_on new k))
@@ -75,7 +77,7 @@ spawned_told now a given new ls acts cs kept sound is =
     counts : called call_register new cs ≡ counts_after [] new cs
     counts = changed_is (count_after [] new) cs (called call_register new cs) (length-called call_register new cs)
         (λ k c at. called_at call_register new sound.distinct cs k c at
-            ∙ ap Some (settled_calls call_register (reg_on new k) c (kept.fit k c at).kept ∙ ap count_settled (between k c)))
+        ∙ ap Some (settled_calls call_register (reg_on new k) c (kept.fit k c at).kept ∙ ap count_settled (between k c)))
 
     begins : (k : ℕ) (c : CountValue) → slice_get cs k ≡ Some c
         → Begins now given (λ j. slice_index_or ls j 0) (λ j. slice_index_or (noted now call_register new cs ls) j 0) (held acts a) new k c

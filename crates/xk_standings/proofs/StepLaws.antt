@@ -28,14 +28,14 @@ opened_law v none nor = rw (none, nor) (refl, kept_nothing)
 
 pub resumed_law : (now a k : ℕ) (v : ClocksValue) (acts : List (List Registration)) → IsKept v.lasts acts v.table.clocks → a < length acts
     → AreToldAs (map (settled_clock now) (moved a (only k resumed) (told v.lasts acts v.table.clocks)))
-      (calls now call_resume (regs_open (concerns (which.Only k)) (held acts a)) v)
-      (set acts a (regs_resumed (concerns (which.Only k)) (phase_at v.table.clocks) (held acts a)))
+    (calls now call_resume (regs_open (concerns (which.Only k)) (held acts a)) v)
+    (set acts a (regs_resumed (concerns (which.Only k)) (phase_at v.table.clocks) (held acts a)))
 resumed_law now a k v acts kept inside = resumed_told now a (λ j. j == k) v.lasts acts v.table.clocks kept inside
 
 pub arrived_law : (now a : ℕ) (v : ClocksValue) (acts : List (List Registration)) → IsKept v.lasts acts v.table.clocks → a < length acts
     → AreToldAs (map (settled_clock now) (moved a (all resumed) (told v.lasts acts v.table.clocks)))
-      (calls now call_resume (regs_open (concerns which.All) (held acts a)) v)
-      (set acts a (regs_resumed (concerns which.All) (phase_at v.table.clocks) (held acts a)))
+    (calls now call_resume (regs_open (concerns which.All) (held acts a)) v)
+    (set acts a (regs_resumed (concerns which.All) (phase_at v.table.clocks) (held acts a)))
 arrived_law now a v acts kept inside = resumed_told now a (λ j. true) v.lasts acts v.table.clocks kept inside
 
 pub passed_law : (now a : ℕ) (v : ClocksValue) (acts : List (List Registration)) → IsKept v.lasts acts v.table.clocks → a < length acts
@@ -45,12 +45,12 @@ passed_law now a v acts kept inside quiet = passed_told now a v.lasts acts v.tab
 
 pub dropped_law : (now a k : ℕ) (v : ClocksValue) (acts : List (List Registration)) → IsKept v.lasts acts v.table.clocks → a < length acts
     → AreToldAs (map (settled_clock now) (moved a (only k dropped) (told v.lasts acts v.table.clocks)))
-      (calls now call_drop (regs_on (concerns (which.Only k)) (held acts a)) v) (set acts a (others (which.Only k) (held acts a)))
+    (calls now call_drop (regs_on (concerns (which.Only k)) (held acts a)) v) (set acts a (others (which.Only k) (held acts a)))
 dropped_law now a k v acts kept inside = left_told now a (λ j. j == k) v.lasts acts v.table.clocks kept inside
 
 pub left_law : (now a : ℕ) (v : ClocksValue) (acts : List (List Registration)) → IsKept v.lasts acts v.table.clocks → a < length acts
     → AreToldAs (map (settled_clock now) (moved a (all dropped) (told v.lasts acts v.table.clocks)))
-      (calls now call_drop (regs_on (concerns which.All) (held acts a)) v) (set acts a (others which.All (held acts a)))
+    (calls now call_drop (regs_on (concerns which.All) (held acts a)) v) (set acts a (others which.All (held acts a)))
 left_law now a v acts kept inside = left_told now a (λ j. true) v.lasts acts v.table.clocks kept inside
 
 pub started_law : (now a : ℕ) (v : ClocksValue) (acts : List (List Registration)) → IsKept v.lasts acts v.table.clocks
@@ -60,5 +60,5 @@ started_law now a v acts kept given new sound is = spawned_told now a given new 
 
 pub made_law : (now a : ℕ) (v : ClocksValue) (acts : List (List Registration)) → IsKept v.lasts acts v.table.clocks → a < length acts
     → AreToldAs (map (settled_clock now) (told v.lasts acts v.table.clocks ++ new_clock (length acts) a ∷ []))
-      (made_clocks v) (set acts a (held acts a ++ record { clock = length v.table.clocks; resumed = None } ∷ []))
+    (made_clocks v) (set acts a (held acts a ++ record { clock = length v.table.clocks; resumed = None } ∷ []))
 made_law now a v acts kept inside = made_told now a v.lasts acts v.table.clocks kept inside

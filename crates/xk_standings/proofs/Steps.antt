@@ -50,17 +50,19 @@ pub step_told : (now a : ℕ) (h : ℕ → Standing → Standing) (f : Registrat
     → ((k : ℕ) (c : CountValue) → slice_get cs k ≡ Some c → Works h f calls (held acts a) new k c)
     → (told (noted now f calls cs ls) (set acts a new) (called f calls cs) ≡ map (settled_clock now) (moved a h (told ls acts cs)))
     × IsKept (noted now f calls cs ls) (set acts a new) (called f calls cs)
-step_told now a h f calls new ls acts cs kept inside distinct sound works =
-    (rw counts moves.0, record {
-      fit = rw counts moves.1;
-      lasts = length-noted now f calls cs ls ∙ kept.lasts ∙ sym (length-called f calls cs);
-      sound = λ b. rw (length-called f calls cs) (held_set (AreSound (length cs)) acts a b new sound kept.sound);
-    })
+step_told now a h f calls new ls acts cs kept inside distinct sound works = (
+  rw counts moves.0,
+  record {
+    fit = rw counts moves.1;
+    lasts = length-noted now f calls cs ls ∙ kept.lasts ∙ sym (length-called f calls cs);
+    sound = λ b. rw (length-called f calls cs) (held_set (AreSound (length cs)) acts a b new sound kept.sound);
+  },
+)
   where
     counts : called f calls cs ≡ counts_after (held acts a) new cs
     counts = changed_is (count_after (held acts a) new) cs (called f calls cs) (length-called f calls cs)
         (λ k c at. called_at f calls distinct cs k c at
-            ∙ ap Some (settled_calls f (reg_on calls k) c (kept.fit k c at).kept ∙ ap count_settled (works k c at).between))
+        ∙ ap Some (settled_calls f (reg_on calls k) c (kept.fit k c at).kept ∙ ap count_settled (works k c at).between))
 
     becomes : (k : ℕ) (c : CountValue) → slice_get cs k ≡ Some c
         → Becomes now h (λ j. slice_index_or ls j 0) (λ j. slice_index_or (noted now f calls cs ls) j 0) (held acts a) new k c
@@ -90,7 +92,7 @@ sound_where n test rs s = record {
 
 pub resumed_told : (now a : ℕ) (test : ℕ → Bool) (ls : List ℕ) (acts : List (List Registration)) (cs : List CountValue) → IsKept ls acts cs → a < length acts
     → (told (noted now call_resume (regs_open test (held acts a)) cs ls) (set acts a (regs_resumed test (phase_at cs) (held acts a))) (called call_resume (regs_open test (held acts a)) cs)
-       ≡ map (settled_clock now) (moved a (resumed_on test) (told ls acts cs)))
+    ≡ map (settled_clock now) (moved a (resumed_on test) (told ls acts cs)))
     × IsKept (noted now call_resume (regs_open test (held acts a)) cs ls) (set acts a (regs_resumed test (phase_at cs) (held acts a))) (called call_resume (regs_open test (held acts a)) cs)
 resumed_told now a test ls acts cs kept inside =
     step_told now a (resumed_on test) call_resume (regs_open test (held acts a)) (regs_resumed test (phase_at cs) (held acts a)) ls acts cs kept inside
@@ -102,8 +104,8 @@ resumed_told now a test ls acts cs kept inside =
         → Works (resumed_on test) call_resume (regs_open test (held acts a)) (held acts a) (regs_resumed test (phase_at cs) (held acts a)) k c
     here k c at phase =
         let reads : stands (regs_resumed test (phase_at cs) (held acts a)) k c.phase ≡ resumed_on test k (stands (held acts a) k c.phase) =
-            subst (λ (p : ℕ). stands (regs_resumed test (phase_at cs) (held acts a)) k p ≡ resumed_on test k (stands (held acts a) k p)) phase
-            (stands_resumed test (phase_at cs) (held acts a) k) in
+        subst (λ (p : ℕ). stands (regs_resumed test (phase_at cs) (held acts a)) k p ≡ resumed_on test k (stands (held acts a) k p)) phase
+        (stands_resumed test (phase_at cs) (held acts a) k) in
         record {
           reads = reads;
           ahead = subst (λ (p : ℕ). WillAdvance (held acts a) k p → WillAdvance (regs_resumed test (phase_at cs) (held acts a)) k p) phase
@@ -119,20 +121,20 @@ left_reads false s = refl
 
 pub left_told : (now a : ℕ) (test : ℕ → Bool) (ls : List ℕ) (acts : List (List Registration)) (cs : List CountValue) → IsKept ls acts cs → a < length acts
     → (told (noted now call_drop (regs_on test (held acts a)) cs ls) (set acts a (regs_on (λ k. not (test k)) (held acts a))) (called call_drop (regs_on test (held acts a)) cs)
-       ≡ map (settled_clock now) (moved a (left_on test) (told ls acts cs)))
+    ≡ map (settled_clock now) (moved a (left_on test) (told ls acts cs)))
     × IsKept (noted now call_drop (regs_on test (held acts a)) cs ls) (set acts a (regs_on (λ k. not (test k)) (held acts a))) (called call_drop (regs_on test (held acts a)) cs)
 left_told now a test ls acts cs kept inside =
     step_told now a (left_on test) call_drop (regs_on test (held acts a)) (regs_on (λ k. not (test k)) (held acts a)) ls acts cs kept inside
     (distinct_where (λ r. test r.clock) (held acts a) (kept.sound a).distinct)
     (sound_where (length cs) (λ r. not (test r.clock)) (held acts a) (kept.sound a))
     (λ k c at.
-        let reads : stands (regs_on (λ k. not (test k)) (held acts a)) k c.phase ≡ left_on test k (stands (held acts a) k c.phase) =
-            stands_left (λ k. not (test k)) (held acts a) k c.phase ∙ left_reads (test k) (stands (held acts a) k c.phase) in
-        record {
-          reads = reads;
-          ahead = ahead_left (λ k. not (test k)) (held acts a) k c.phase ((kept.fit k c at).ahead a);
-          between = leave_between test (held acts a) k c (kept.sound a).distinct ∙ ap (λ s. count_moved (stands (held acts a) k c.phase) s c) (sym reads);
-        })
+    let reads : stands (regs_on (λ k. not (test k)) (held acts a)) k c.phase ≡ left_on test k (stands (held acts a) k c.phase) =
+    stands_left (λ k. not (test k)) (held acts a) k c.phase ∙ left_reads (test k) (stands (held acts a) k c.phase) in
+    record {
+      reads = reads;
+      ahead = ahead_left (λ k. not (test k)) (held acts a) k c.phase ((kept.fit k c at).ahead a);
+      between = leave_between test (held acts a) k c (kept.sound a).distinct ∙ ap (λ s. count_moved (stands (held acts a) k c.phase) s c) (sym reads);
+    })
 
 -- ---- a pass
 
@@ -161,15 +163,15 @@ passed_told now a ls acts cs kept inside quiet =
     step_told now a (all passed) call_resume [] (regs_passed (held acts a)) ls acts cs kept inside tt
     (sound_marked (length cs) (λ k m. None) (held acts a) (kept.sound a))
     (λ k c at.
-        let still : is_signalled (stands (held acts a) k c.phase) ≡ false =
-            subst (λ (s : Standing). is_signalled s ≡ false) (row_at acts k c.phase a)
-            (unsignalled_at (told_clock (λ j. slice_index_or ls j 0) acts) a cs quiet k c at) in
-        let reads : stands (regs_passed (held acts a)) k c.phase ≡ passed (stands (held acts a) k c.phase) = stands_passed (held acts a) k c.phase still in
-        record {
-          reads = reads;
-          ahead = ahead_passed (held acts a) k c.phase ((kept.fit k c at).ahead a);
-          between = count_passed (stands (held acts a) k c.phase) c still ∙ ap (λ s. count_moved (stands (held acts a) k c.phase) s c) (sym reads);
-        })
+    let still : is_signalled (stands (held acts a) k c.phase) ≡ false =
+    subst (λ (s : Standing). is_signalled s ≡ false) (row_at acts k c.phase a)
+    (unsignalled_at (told_clock (λ j. slice_index_or ls j 0) acts) a cs quiet k c at) in
+    let reads : stands (regs_passed (held acts a)) k c.phase ≡ passed (stands (held acts a) k c.phase) = stands_passed (held acts a) k c.phase still in
+    record {
+      reads = reads;
+      ahead = ahead_passed (held acts a) k c.phase ((kept.fit k c at).ahead a);
+      between = count_passed (stands (held acts a) k c.phase) c still ∙ ap (λ s. count_moved (stands (held acts a) k c.phase) s c) (sym reads);
+    })
 
 -- ---- in the words of the definitions
 

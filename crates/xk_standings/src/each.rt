@@ -9,7 +9,12 @@ use crate::registration::Registration;
 use crate::which::Which;
 
 /// Resumes one registration in the step of this number, if it is open and on a clock that the step concerns.
-fn resume_one(registration: Registration, which: &Which, clocks: &mut Clocks, now: u64) -> Registration
+fn resume_one(
+    registration: Registration,
+    which: &Which,
+    clocks: &mut Clocks,
+    now: u64,
+) -> Registration
     requires { AreAllowedInTurn OwesResume call_resume
         (regs_open (concerns which.now) (registration ∷ [])) clocks.old.table.clocks }
     ensures registration { result

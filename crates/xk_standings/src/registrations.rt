@@ -47,7 +47,7 @@ impl Registrations {
         requires { AreAllowed OwesResume clocks.old.table.clocks
             (regs_open (concerns which) self.old.list) }
         ensures registrations { self.new ≡ record self.old {
-            list = regs_resumed (concerns which) (phase_at clocks.old.table.clocks) self.old.list;
+          list = regs_resumed (concerns which) (phase_at clocks.old.table.clocks) self.old.list;
         } }
         ensures clocks { clocks.new
             ≡ calls now call_resume (regs_open (concerns which) self.old.list) clocks.old }
@@ -64,7 +64,8 @@ impl Registrations {
             ≡ calls now call_drop (regs_on (concerns which) self.old.list) clocks.old }
     {
         drop_each(self.list.as_slice(), &which, clocks, now);
-        self.list.retain(|registration| !which.concerns(registration.clock()));
+        self.list
+            .retain(|registration| !which.concerns(registration.clock()));
     }
 
     /// The activity passes: it is open on all its clocks. It is signalled on none of them, so that this concerns no clock.

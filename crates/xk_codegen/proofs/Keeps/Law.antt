@@ -17,18 +17,22 @@ use Rattle.xk_code.proofs.Shape.Cells.{SharedBelow}
 use Rattle.xk_code.proofs.Shape.Names.{body_count}
 use Rattle.xk_code.proofs.Shape.Modules.{IsCompiled as IsUnitCompiled, is_left, compiled_soundly, module_keeps}
 use Rattle.xk_code.proofs.Shape.Trees.{compiled_method}
-use Rattle.xk_codegen.specs.Parts.{Part, OfMethod, OfBody}
+use Rattle.xk_source.specs.Parts.{Part, OfMethod, OfBody}
 use Rattle.xk_codegen.specs.declared.parts.Part as declared
 use Rattle.xk_codegen.specs.Views.{part}
-use Rattle.xk_codegen.specs.Compiled.{AreUnits, IsSetting, IsCompiled, method_kind, unit_of_part, is_kept, KeepsShape}
-use Rattle.xk_codegen.proofs.Keeps.Stands.{part_of}
-use Rattle.xk_codegen.proofs.Keeps.Settled.{AreSettled, shared_below}
-use Rattle.xk_codegen.proofs.Keeps.Covered.{unit_parts, setting_for, body_there}
+use Rattle.xk_source.specs.Meaning.{Means}
+use Rattle.xk_source.proofs.Compiled.{compiled_means}
+use Rattle.xk_source.specs.Compiled.{AreUnits, IsSetting, IsCompiled, method_kind, unit_of_part}
+use Rattle.xk_codegen.specs.Keeps.{is_kept, KeepsShape}
+use Rattle.xk_source.proofs.Units.Stands.{part_of}
+use Rattle.xk_source.proofs.Units.Settled.{AreSettled, shared_below}
+use Rattle.xk_source.proofs.Units.Covered.{unit_parts, setting_for, body_there}
 use Rattle.xk_codegen.proofs.Keeps.Units.{in_place, finds_units, find_units}
 
 module _ (t : TreeValue) (scoped : IsScoped t) (units : List Part) (cx : Setting) (h : AreSettled t units cx) (made : ModuleValue)
     (code : made.units ≡ map (unit_of_part cx) units) (few : length units ≤ 1024) (shared : SharedBelow cx (length made.shared)) where
-  compiled_body : (k at : ℕ) (cs : Option Clocks) (s : Statement) → slice_get units k ≡ Some (OfBody at cs s) → IsUnitCompiled made k (unit_of_part cx (OfBody at cs s))
+  compiled_body : (k at : ℕ) (cs : Option Clocks) (s : Statement) → slice_get units k ≡ Some (OfBody at cs s)
+      → IsUnitCompiled made k (unit_of_part cx (OfBody at cs s))
   compiled_body k at cs s e =
       let p = part_of t scoped (OfBody at cs s) (h.are_units.within k (OfBody at cs s) e) in
       compiled_soundly made k cx unit_kind.Body (body_params cx at cs) (body_kinds cx at cs) s (signatures t.methods) (with_body p.sc (clocks_listed cs))
@@ -48,7 +52,8 @@ module _ (t : TreeValue) (scoped : IsScoped t) (units : List Part) (cx : Setting
       let p = mapped_at (unit_of_part cx) units k u (ap (λ (l : List UnitValue). slice_get l k) (sym code) ∙ e) in
       subst (λ (v : UnitValue). IsUnitCompiled made k v) p.2 (compiled_part k p.0 p.1)
 
-below : (t : TreeValue) (units : List Part) (cx : Setting) (shared : List ℤ) → IsSetting t units cx → shared ≡ map (λ s. s.start.value) t.shared → SharedBelow cx (length shared)
+below : (t : TreeValue) (units : List Part) (cx : Setting) (shared : List ℤ) → IsSetting t units cx → shared ≡ map (λ s. s.start.value) t.shared
+    → SharedBelow cx (length shared)
 below t units cx shared setting is x k e =
     let less = shared_below 0 t.shared x k (sym (setting.shared x) ∙ e) in
     let long : length shared ≡ length t.shared = ap length is ∙ length-map t.shared (λ s. s.start.value) in
@@ -72,20 +77,38 @@ keeps_shape t m scoped apart few c r kept =
     let h : AreSettled t c.units c.setting = record { apart = apart; are_units = c.are_units; is_setting = c.is_setting } in
     module_keeps m (compiled_unit t scoped c.units c.setting h m c.code (omega arith) (below t c.units c.setting m.shared c.is_setting c.shared)) r (not_left r kept)
 
--- of these parts, in this setting
-pub code_keeps : (t : TreeValue) (ps qs us : List declared.Part) (cx : Setting) (m : ModuleValue) (made : List UnitValue) → IsScoped t → AreUnits t (map part ps)
-    → qs ≡ ps → us ≡ ps → IsSetting t (map part qs) cx → length us ≤ 1024 → made ≡ map (unit_of_part cx) (map part us)
-    → m ≡ module_of (map (λ s. s.start.value) t.shared) made → HasBodiesApart t → KeepsShape m
-code_keeps t ps qs us cx m made scoped units one two setting few code is apart =
-    let numbers : map (unit_of_part cx) (map part us) ≡ map (unit_of_part cx) (map part ps) = ap (λ (l : List declared.Part). map (unit_of_part cx) (map part l)) two in
-    let in_module : m.units ≡ map (unit_of_part cx) (map part ps) = ap (λ (v : ModuleValue). v.units) is ∙ code ∙ numbers in
-    let long : length (map (unit_of_part cx) (map part ps)) ≡ length ps = length-map (map part ps) (unit_of_part cx) ∙ length-map ps part in
-    let count : length m.units ≡ length us = ap length in_module ∙ long ∙ ap length (sym two) in
-    keeps_shape t m scoped apart (omega arith) (record {
-      units = map part ps;
-      setting = cx;
-      are_units = units;
-      is_setting = subst (λ (l : List declared.Part). IsSetting t (map part l) cx) one setting;
-      shared = ap (λ (v : ModuleValue). v.shared) is;
-      code = in_module;
-    })
+-- ---- the module of these parts, in this setting
+
+record OfParts (t : TreeValue) (m : ModuleValue) : Type 0 where
+  compiled : IsCompiled t m
+  few : length m.units ≤ 1024
+
+module _ (t : TreeValue) (ps qs us : List declared.Part) (cx : Setting) (m : ModuleValue) (made : List UnitValue) (scoped : IsScoped t)
+    (units : AreUnits t (map part ps)) (one : qs ≡ ps) (two : us ≡ ps) (setting : IsSetting t (map part qs) cx) (few : length us ≤ 1024)
+    (code : made ≡ map (unit_of_part cx) (map part us)) (is : m ≡ module_of (map (λ s. s.start.value) t.shared) made) where
+  of_parts : OfParts t m
+  of_parts =
+      let numbers : map (unit_of_part cx) (map part us) ≡ map (unit_of_part cx) (map part ps) =
+      ap (λ (l : List declared.Part). map (unit_of_part cx) (map part l)) two in
+      let in_module : m.units ≡ map (unit_of_part cx) (map part ps) = ap (λ (v : ModuleValue). v.units) is ∙ code ∙ numbers in
+      let long : length (map (unit_of_part cx) (map part ps)) ≡ length ps = length-map (map part ps) (unit_of_part cx) ∙ length-map ps part in
+      let count : length m.units ≡ length us = ap length in_module ∙ long ∙ ap length (sym two) in
+      record {
+        compiled = record {
+          units = map part ps;
+          setting = cx;
+          are_units = units;
+          is_setting = subst (λ (l : List declared.Part). IsSetting t (map part l) cx) one setting;
+          shared = ap (λ (v : ModuleValue). v.shared) is;
+          code = in_module;
+        };
+        few = omega arith;
+      }
+
+  -- it keeps the rules on shape
+  pub code_keeps : HasBodiesApart t → KeepsShape m
+  code_keeps apart = let p = of_parts in keeps_shape t m scoped apart p.few p.compiled
+
+  -- it means its source
+  pub code_means : HasBodiesApart t → Means t m
+  code_means apart = let p = of_parts in compiled_means t m scoped apart p.few p.compiled

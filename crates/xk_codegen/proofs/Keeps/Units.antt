@@ -18,12 +18,12 @@ use Rattle.xk_code.specs.CodeOf.{Setting, Body, number_of, body_unit}
 use Rattle.xk_code.specs.Unit.{kinds_of_params, body_kinds}
 use Rattle.xk_code.proofs.Shape.Leaves.{EachInside, EachOf}
 use Rattle.xk_code.proofs.Shape.Names.{FindsUnits, Stands as StandsUnit}
-use Rattle.xk_codegen.specs.Parts.{Part, OfMethod, OfBody, Run, Calls, Starts, bodies, bodies_all, parts, runs, runs_all, place_of, method_among}
-use Rattle.xk_codegen.specs.Compiled.{AreUnits, HasLater, method_kind, unit_of_part, unit_number}
-use Rattle.xk_codegen.proofs.Among.{Fits, fits_there}
-use Rattle.xk_codegen.proofs.Keeps.Apart.{one_method, signed}
-use Rattle.xk_codegen.proofs.Keeps.Stands.{part_of}
-use Rattle.xk_codegen.proofs.Keeps.Settled.{AreSettled, AreParts, body_unit_of}
+use Rattle.xk_source.specs.Parts.{Part, OfMethod, OfBody, Run, Calls, Starts, bodies, bodies_all, parts, runs, runs_all, place_of, method_among}
+use Rattle.xk_source.specs.Compiled.{AreUnits, HasLater, method_kind, unit_of_part, unit_number}
+use Rattle.xk_source.proofs.Units.Among.{Fits, fits_there}
+use Rattle.xk_source.proofs.Units.Apart.{one_method, signed}
+use Rattle.xk_source.proofs.Units.Stands.{part_of}
+use Rattle.xk_source.proofs.Units.Settled.{AreSettled, AreParts, body_unit_of}
 
 -- ---- main
 

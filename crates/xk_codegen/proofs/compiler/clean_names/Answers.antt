@@ -1,4 +1,4 @@
-use Rattle.xk_codegen.specs.Compiled.{InNames}
+use Rattle.xk_codegen.specs.Faults.{InNames}
 use Rattle.xk_codegen.proofs.compiler.clean_names.Goals as goal
 
 pub returns-clause-fault : goal.returns-clause-fault

@@ -3,9 +3,9 @@ use Rattle.std.proofs.lemmas.Result.{err_from_is_err_and}
 use Rattle.xk_tree.specs.Tree.{tree_value}
 use Rattle.xk_codegen.specs.declared.parts.Part.{Part}
 use Rattle.xk_codegen.specs.Views.{part}
-use Rattle.xk_codegen.specs.Compiled.{AreUnits, IsSetting}
+use Rattle.xk_source.specs.Compiled.{AreUnits, IsSetting}
 use Rattle.xk_codegen.proofs.Faults.{none_again, passed_on}
-use Rattle.xk_codegen.proofs.Keeps.Law.{code_keeps}
+use Rattle.xk_codegen.proofs.Keeps.Law.{code_keeps, code_means}
 use Rattle.xk_codegen.proofs.compiler.code.Goals as goal
 
 pub returns-in_err-check_shared-clause-fault : goal.returns-in_err-check_shared-clause-fault
@@ -33,5 +33,11 @@ returns-in_err-units-clause-fault c = λ f e apart.
 pub returns-clause-keeps : goal.returns-clause-keeps
 returns-clause-keeps c =
     code_keeps (tree_value c.args.tree.now) c.in_ok-parts.parts.items c.deref.result.now c.deref-2.result.now c.in_ok-setting.setting c.in_ok-module.module
+    c.in_ok-units.units.items c.requires.scoped c.in_ok-parts.ensures.units c.deref.ensures.value c.deref-2.ensures.value c.in_ok-setting.ensures
+    c.in_ok-units.ensures.count c.in_ok-units.ensures.made c.in_ok-module.ensures.made
+
+pub returns-clause-means : goal.returns-clause-means
+returns-clause-means c =
+    code_means (tree_value c.args.tree.now) c.in_ok-parts.parts.items c.deref.result.now c.deref-2.result.now c.in_ok-setting.setting c.in_ok-module.module
     c.in_ok-units.units.items c.requires.scoped c.in_ok-parts.ensures.units c.deref.ensures.value c.deref-2.ensures.value c.in_ok-setting.ensures
     c.in_ok-units.ensures.count c.in_ok-units.ensures.made c.in_ok-module.ensures.made

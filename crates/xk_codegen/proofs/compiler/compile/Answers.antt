@@ -2,7 +2,7 @@ use Rattle.std.proofs.Common.{◌≡◌, Err, Result, ap}
 use Rattle.xk_types.specs.declared.unit.Module.{Module}
 use Rattle.xk_tree.specs.declared.fault.FrontError.{FrontError}
 use Rattle.xk_tree.specs.declared.fault.FrontError.TheVariants as error
-use Rattle.xk_codegen.specs.Compiled.{InTables}
+use Rattle.xk_codegen.specs.Faults.{InTables}
 use Rattle.xk_codegen.proofs.compiler.compile.Goals as goal
 
 error_of : (d e : FrontError) → ◌≡◌ {A = Result Module FrontError} (Err d) (Err e) → d ≡ e

@@ -2,7 +2,7 @@ use Rattle.std.proofs.Common.{◌≡◌, ◌∙◌, None, Some, Ok, length, ap, 
 use Rattle.std.proofs.lemmas.Option.{slice_get_read}
 use Rattle.xk_tree.specs.declared.fault.FrontRule.TheVariants as rule
 use Rattle.xk_names.specs.Faults.{fault}
-use Rattle.xk_codegen.specs.Compiled.{HasTableFault}
+use Rattle.xk_codegen.specs.Faults.{HasTableFault}
 use Rattle.xk_codegen.proofs.Units.{none_made, one_more_unit, all_made}
 use Rattle.xk_codegen.proofs.Faults.{IsBeyond, either, few_units, large_unit, many_units, told}
 use Rattle.xk_codegen.proofs.compiler.units_of.Goals as goal

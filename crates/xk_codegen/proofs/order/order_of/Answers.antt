@@ -9,7 +9,7 @@ use Rattle.xk_tree.specs.declared.fault.FrontError.TheVariants as error
 use Rattle.xk_tree.specs.declared.fault.FrontRule.TheVariants as rule
 use Rattle.xk_tree.specs.Tree.{tree_value}
 use Rattle.xk_names.specs.Faults.{fault}
-use Rattle.xk_codegen.specs.Parts.{parts}
+use Rattle.xk_source.specs.Parts.{parts}
 use Rattle.xk_codegen.specs.Views.{part}
 use Rattle.xk_codegen.proofs.Ordered.{within}
 use Rattle.xk_codegen.proofs.Placed.{is_graph, main_there, main_within}

@@ -1,7 +1,7 @@
 use Rattle.std.proofs.Common.{◌≡◌, ℕ, drop, map, nat_eq}
 use Rattle.std.specs.Map.{lookup}
 use Rattle.xk_units.specs.Callees.{first_of}
-use Rattle.xk_codegen.specs.Parts.{body_among}
+use Rattle.xk_source.specs.Parts.{body_among}
 use Rattle.xk_codegen.specs.Views.{part}
 use Rattle.xk_codegen.proofs.runs.body_places.Given as goal
 

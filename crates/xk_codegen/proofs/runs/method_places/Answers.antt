@@ -4,7 +4,7 @@ use Rattle.std.specs.Prelude.{option_map}
 use Rattle.xk_names.specs.Scope.{find, is_text}
 use Rattle.xk_units.specs.Callees.{first_of}
 use Rattle.xk_units.proofs.Collecting.{put_number}
-use Rattle.xk_codegen.specs.Parts.{Part, OfMethod, OfBody, method_among}
+use Rattle.xk_source.specs.Parts.{Part, OfMethod, OfBody, method_among}
 use Rattle.xk_codegen.specs.Views.{part}
 use Rattle.xk_codegen.proofs.Lists.{parts_left}
 use Rattle.xk_codegen.proofs.runs.method_places.Goals as goal

@@ -1,7 +1,7 @@
 use Rattle.std.proofs.Common.{◌≡◌, ℕ, List, drop, map}
 use Rattle.xk_names.specs.Scope.{find}
 use Rattle.xk_units.specs.Callees.{first_of}
-use Rattle.xk_codegen.specs.Parts.{method_among}
+use Rattle.xk_source.specs.Parts.{method_among}
 use Rattle.xk_codegen.specs.Views.{part}
 use Rattle.xk_codegen.proofs.runs.method_places.Given as goal
 

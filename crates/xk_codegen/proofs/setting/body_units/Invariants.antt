@@ -2,7 +2,7 @@ use Rattle.std.proofs.Common.{◌≡◌, ℕ, drop, map, nat_eq}
 use Rattle.std.specs.Map.{lookup}
 use Rattle.xk_tree.specs.Tree.{tree_value}
 use Rattle.xk_codegen.specs.Views.{part}
-use Rattle.xk_codegen.specs.Compiled.{settled_body}
+use Rattle.xk_source.specs.Compiled.{settled_body}
 use Rattle.xk_codegen.proofs.Lists.{first_body}
 use Rattle.xk_codegen.proofs.setting.body_units.Given as goal
 

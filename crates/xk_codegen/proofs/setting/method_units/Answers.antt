@@ -4,8 +4,8 @@ use Rattle.xk_names.specs.Scope.{find, is_text}
 use Rattle.xk_names.specs.Collected.{put}
 use Rattle.xk_units.specs.Callees.{first_of}
 use Rattle.xk_units.proofs.Collecting.{put_number}
-use Rattle.xk_codegen.specs.Parts.{Part, OfMethod, OfBody, method_among}
-use Rattle.xk_codegen.specs.Compiled.{unit_number}
+use Rattle.xk_source.specs.Parts.{Part, OfMethod, OfBody, method_among}
+use Rattle.xk_source.specs.Compiled.{unit_number}
 use Rattle.xk_codegen.specs.Views.{part}
 use Rattle.xk_codegen.proofs.Lists.{parts_left, numbered_or}
 use Rattle.xk_codegen.proofs.setting.method_units.Goals as goal

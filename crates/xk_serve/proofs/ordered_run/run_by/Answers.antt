@@ -1,9 +1,18 @@
-use Rattle.std.proofs.Common.{◌≡◌, ◌+◌, ◌≤◌, arith, subst, ◌∙◌}
+use Rattle.std.proofs.Common.{◌≡◌, ◌+◌, ◌≤◌, arith, ap, subst, ◌∙◌}
 use Rattle.xk_types.specs.Bound.{steps_bound}
 use Rattle.xk_laws.proofs.Counts.{step_counts}
+use Rattle.xk_core.specs.Core.{CoreValue}
 use Rattle.xk_core.specs.Driving.{IsTaken}
-use Rattle.xk_serve.proofs.OrderedRuns.{front_more}
+use Rattle.xk_serve.proofs.OrderedRuns.{front_opens, front_more}
 use Rattle.xk_serve.proofs.ordered_run.run_by.Goals as goal
+
+pub loop-printed-init : goal.loop-printed-init
+loop-printed-init g c =
+    let opened = c.in_ok-driver.ensures ∙ c.in_ok-open.ensures in
+    record {
+      same_module = ap (λ (core : CoreValue). core.module_run) opened;
+      run = rw (opened, c.new-printed.ensures.items) (front_opens g.C.Chooser.answer g.C.Chooser.after c.args.verified.now c.args.chooser.now);
+    }
 
 pub loop-printed-smaller : goal.loop-printed-smaller
 loop-printed-smaller g c =

@@ -9,7 +9,7 @@ use Rattle.xk_tree.specs.declared.fault.FrontError.{FrontError}
 use Rattle.xk_tree.specs.declared.fault.FrontError.TheVariants as error
 use Rattle.xk_syntax.specs.Texts.{IsRefused, IsTextRule}
 use Rattle.xk_syntax.specs.Spelling.{SpellsTree}
-use Rattle.xk_codegen.specs.Compiled.{IsFaultOf}
+use Rattle.xk_codegen.specs.Faults.{IsFaultOf}
 use Rattle.xk_serve.specs.Programs.{IsSource, IsUnfit, longest_source}
 use Rattle.xk_serve.proofs.programs.compiled.Goals as goal
 

@@ -16,7 +16,7 @@ loop-i-init c = record {
 pub drop_one-requires : goal.drop_one-requires
 drop_one-requires c =
     (more_allowed OwesDrop call_drop (λ r. concerns c.args.which.now r.clock) c.loop-i.i c.args.registrations.now c.loop-i.clocks.table.clocks
-     c.index-registrations-i.result c.loop-i-test.true c.index-registrations-i.is c.loop-i.invariant.allowed).0
+    c.index-registrations-i.result c.loop-i-test.true c.index-registrations-i.is c.loop-i.invariant.allowed).0
 
 pub loop-i-preserved : goal.loop-i-preserved
 loop-i-preserved c =
@@ -30,5 +30,5 @@ loop-i-preserved c =
 pub returns : goal.returns
 returns c =
     let none : drop c.loop-i.i c.args.registrations.now ≡ [] =
-        at_drop_all (λ (l : List Registration). l) c.args.registrations.now c.loop-i.i c.loop-i-test.false in
+    at_drop_all (λ (l : List Registration). l) c.args.registrations.now c.loop-i.i c.loop-i-test.false in
     rw none at c.loop-i.invariant.clocks

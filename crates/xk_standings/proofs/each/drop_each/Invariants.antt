@@ -7,5 +7,5 @@ abbrev pub invariant-loop-i : goal.invariant-loop-i
 invariant-loop-i l = record {
   clocks : calls l.now call_drop (regs_on (concerns l.which) (drop l.i l.registrations)) l.clocks
       ≡ calls l.now call_drop (regs_on (concerns l.which) l.initial.registrations) l.initial.clocks;
-  allowed : AreAllowedInTurn OwesDrop call_drop (regs_on (concerns l.which) (drop l.i l.registrations)) l.clocks.table.clocks
+  allowed : AreAllowedInTurn OwesDrop call_drop (regs_on (concerns l.which) (drop l.i l.registrations)) l.clocks.table.clocks;
 }

@@ -10,5 +10,5 @@ invariant-loop-i l = record {
   rest : drop l.i l.registrations ≡ drop l.i l.initial.registrations;
   clocks : calls l.now call_resume (regs_open (concerns l.which) (drop l.i l.registrations)) l.clocks
       ≡ calls l.now call_resume (regs_open (concerns l.which) l.initial.registrations) l.initial.clocks;
-  allowed : AreAllowedInTurn OwesResume call_resume (regs_open (concerns l.which) (drop l.i l.registrations)) l.clocks.table.clocks
+  allowed : AreAllowedInTurn OwesResume call_resume (regs_open (concerns l.which) (drop l.i l.registrations)) l.clocks.table.clocks;
 }

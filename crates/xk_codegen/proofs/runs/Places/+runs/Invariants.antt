@@ -1,7 +1,7 @@
 use Rattle.std.proofs.Common.{◌≡◌, ◌++◌, drop, map}
 use Rattle.xk_tree.specs.Tree.{statements}
-use Rattle.xk_codegen.specs.Parts.{runs_all}
-use Rattle.xk_codegen.specs.Graph.{place_in}
+use Rattle.xk_source.specs.Parts.{runs_all}
+use Rattle.xk_codegen.specs.Places.{place_in}
 use Rattle.xk_codegen.proofs.runs.Places.+runs.Given as goal
 
 -- the places found so far and those of the statements that are left are those of all

@@ -1,6 +1,7 @@
 use Rattle.std.proofs.Common.{◌≡◌, ◌++◌, drop, map}
 use Rattle.xk_calls.specs.Calls.{rows}
-use Rattle.xk_codegen.specs.Graph.{graph_by, place_in}
+use Rattle.xk_source.specs.Graph.{graph_by}
+use Rattle.xk_codegen.specs.Places.{place_in}
 use Rattle.xk_codegen.specs.Views.{part}
 use Rattle.xk_codegen.proofs.runs.Places.graph.Given as goal
 

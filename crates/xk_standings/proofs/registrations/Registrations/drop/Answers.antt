@@ -13,11 +13,11 @@ drop_each-requires-clause-allowed c =
 pub invariant_of-self : goal.invariant_of-self
 invariant_of-self c =
     let left : c.retain.new.self.items ≡ others c.args.which c.self.inside.list.items =
-        where-from_retain _ (λ (r : Registration). not (concerns c.args.which r.clock)) _ (λ x b f' y called. search rules) _ _ c.retain.ensures.filtered in
+    where-from_retain _ (λ (r : Registration). not (concerns c.args.which r.clock)) _ (λ x b f' y called. search rules) _ _ c.retain.ensures.filtered in
     subst AreDistinct (sym left) (distinct_where (λ r. not (concerns c.args.which r.clock)) c.self.inside.list.items c.self.invariant)
 
 pub returns-clause-registrations : goal.returns-clause-registrations
 returns-clause-registrations c =
     let left : c.retain.new.self.items ≡ others c.args.which c.self.inside.list.items =
-        where-from_retain _ (λ (r : Registration). not (concerns c.args.which r.clock)) _ (λ x b f' y called. search rules) _ _ c.retain.ensures.filtered in
+    where-from_retain _ (λ (r : Registration). not (concerns c.args.which r.clock)) _ (λ x b f' y called. search rules) _ _ c.retain.ensures.filtered in
     search (rules, left)

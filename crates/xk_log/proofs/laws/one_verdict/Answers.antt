@@ -1,0 +1,5 @@
+use Rattle.xk_log.proofs.Verdicts.{one_verdict}
+use Rattle.xk_log.proofs.laws.one_verdict.Goals as goal
+
+pub returns : goal.returns
+returns c = one_verdict

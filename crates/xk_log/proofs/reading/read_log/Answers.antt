@@ -1,0 +1,5 @@
+use Rattle.xk_log.proofs.Reader.{answers_told}
+use Rattle.xk_log.proofs.reading.read_log.Goals as goal
+
+pub returns-clause-exactly : goal.returns-clause-exactly
+returns-clause-exactly g c = answers_told _ _ c.read_lines.ensures.told

@@ -1,0 +1,5 @@
+pub mod LogText
+pub mod Places
+pub mod Writing
+pub mod Numbers
+pub mod Reading

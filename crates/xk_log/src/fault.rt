@@ -1,0 +1,68 @@
+//! Why a log couldn't be read or written.
+
+use std::alloc::{AllocError, AllocFailed};
+use thiserror::Error;
+use xk_types::Failed;
+
+/// A device failed.
+#[derive(Clone, Copy, Debug, PartialEq, Eq, Error)]
+#[error("a device failed")]
+pub struct Device;
+
+impl From<Failed> for Device {
+    ghost from_gives = { λ _ _. Unit {0} };
+
+    fn from(_e: Failed) -> Device {
+        Device
+    }
+}
+
+/// Why a log couldn't be read.
+#[derive(Clone, Copy, Debug, PartialEq, Eq, Error)]
+pub enum LogFault {
+    /// L1: the line with this number, from 1 on, is the first that doesn't fit its place.
+    #[error("line {0} doesn't fit its place")]
+    Grammar(u64),
+    /// L2: the text ends before its last line does, and no line is wrong.
+    #[error("the text ends before its last line does")]
+    Truncated,
+    /// L3: a read failed.
+    #[error("a device failed")]
+    Device,
+    /// Memory was refused.
+    #[error("out of memory")]
+    OutOfMemory,
+}
+
+impl From<Failed> for LogFault {
+    ghost use Rattle.std.specs.Prelude.{◌≡◌};
+    ghost use Rattle.xk_log.specs.declared.fault.LogFault.TheVariants as fault;
+
+    ghost from_gives = { λ _ e. e ≡ fault.Device };
+
+    fn from(_e: Failed) -> LogFault {
+        LogFault::Device
+    }
+}
+
+impl From<AllocError> for LogFault {
+    ghost use Rattle.std.specs.Prelude.{◌≡◌};
+    ghost use Rattle.xk_log.specs.declared.fault.LogFault.TheVariants as fault;
+
+    ghost from_gives = { λ _ e. e ≡ fault.OutOfMemory };
+
+    fn from(_e: AllocError) -> LogFault {
+        LogFault::OutOfMemory
+    }
+}
+
+impl<T: Drop> From<AllocFailed<T>> for LogFault {
+    ghost use Rattle.std.specs.Prelude.{◌≡◌};
+    ghost use Rattle.xk_log.specs.declared.fault.LogFault.TheVariants as fault;
+
+    ghost from_gives = { λ _ e. e ≡ fault.OutOfMemory };
+
+    fn from(_e: AllocFailed<T>) -> LogFault {
+        LogFault::OutOfMemory
+    }
+}

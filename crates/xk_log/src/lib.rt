@@ -1,0 +1,16 @@
+//! The text of a log: writing it, and reading it.
+#![tactic(auto)]
+
+mod fault;
+pub mod laws;
+mod listing;
+mod number;
+mod page;
+mod progress;
+mod reading;
+mod writing;
+
+pub use fault::{Device, LogFault};
+pub use listing::Log;
+pub use reading::read_log;
+pub use writing::write_entries;

@@ -1,0 +1,13 @@
+-- The law over every schedule, and that a compiled program means its source.
+use Rattle.xk_syntax.proofs.Bodies.{bodies_apart}
+use Rattle.xk_serve.proofs.laws.every_accepted_text.Goals as goal
+
+pub returns : goal.returns
+returns c = λ bytes m p accepted.
+    let every = c.every_accepted_module.ensures m p.limits accepted in
+    record {
+      never_wrong = every.never_wrong;
+      bounded = every.steps;
+      ended = every.ends;
+      of_the_text = c.means_its_source.ensures p.tree m p.scoped (bodies_apart bytes p.tree p.spelled.1) p.limits.units p.code;
+    }
