@@ -87,7 +87,7 @@ def main():
             for old, new in bug.pairs:
                 if text.count(old) != 1:
                     sys.exit(f"{bug.name}: not once in {bug.file}: {old}")
-                text = text.replace(old, new.replace("\\n", "\n"))
+                text = text.replace(old, new)
             with open(path, "w", encoding="utf-8") as f:
                 f.write(text)
             word, line = says(folder)

@@ -9,3 +9,4 @@ pub mod Steps
 pub mod Law
 pub mod Compiled
 pub mod Rows
+pub mod Premise

@@ -23,7 +23,7 @@ use Rattle.xk_source.specs.Meaning.{Moment, moments, have_ended}
 
 -- ---- trees, where offsets don't matter
 
-abbrev w : List ℕ → Word
+abbrev pub w : List ℕ → Word
 w text = record { at = 0; text = text }
 
 abbrev number : ℤ → Number
@@ -32,10 +32,10 @@ number n = record { minus = None; at = 0; value = n }
 abbrev verb : Verb
 verb = record { at = 0; paren = 0 }
 
-abbrev lit : ℕ → Expression
+abbrev pub lit : ℕ → Expression
 lit n = Literal (number (pos n))
 
-abbrev var : List ℕ → Expression
+abbrev pub var : List ℕ → Expression
 var x = Named (w x)
 
 abbrev plus : Expression → Expression → Expression
@@ -44,7 +44,7 @@ plus l r = Binary operator.Plus l 0 r
 abbrev times : Expression → Expression → Expression
 times l r = Binary operator.Times l 0 r
 
-abbrev val_is : List ℕ → Expression → Statement
+abbrev pub val_is : List ℕ → Expression → Statement
 val_is x e = Declare binding.Val (w x) None (Value e)
 
 abbrev var_is : List ℕ → Expression → Statement
@@ -53,7 +53,7 @@ var_is x e = Declare binding.Var (w x) None (Value e)
 abbrev val_makes : List ℕ → Statement
 val_makes c = Declare binding.Val (w c) None (Make 0 verb)
 
-abbrev print : Expression → Statement
+abbrev pub print : Expression → Statement
 print e = Print 0 verb e
 
 abbrev advance : Statement
@@ -66,7 +66,7 @@ abbrev row_of : List Statement → Statements
 row_of [] = Done
 row_of (s ∷ ss) = More s (row_of ss)
 
-abbrev block : List Statement → Statement
+abbrev pub block : List Statement → Statement
 block ss = Block (row_of ss)
 
 abbrev method : List ℕ → List ParamValue → List Statement → MethodValue
@@ -242,16 +242,19 @@ alone_ends = refl
 -- ---- a shared number that is written between two reads
 
 -- `async { s = 5; } val r = s; val q = s; println(r); println(q);`, behind `shared s = 0;`
-abbrev reading : TreeValue
-reading = program (shared (codes "s") 0 ∷ []) (main (
+abbrev pub reading_main : MethodValue
+reading_main = main (
     Async 0 None (block (Assign (w (codes "s")) (lit 5) ∷ []))
     ∷ val_is (codes "r") (var (codes "s"))
     ∷ val_is (codes "q") (var (codes "s"))
     ∷ print (var (codes "r"))
     ∷ print (var (codes "q"))
-    ∷ []) ∷ [])
+    ∷ [])
 
-abbrev reading_code : ModuleValue
+abbrev pub reading : TreeValue
+reading = program (shared (codes "s") 0 ∷ []) (reading_main ∷ [])
+
+abbrev pub reading_code : ModuleValue
 reading_code = module_of (pos 0 ∷ []) (
     record {
       kind = unit_kind.Main;
@@ -263,7 +266,7 @@ reading_code = module_of (pos 0 ∷ []) (
     ∷ [])
 
 -- what its code refers to: the shared number, main, and the body of the `async`, which takes nothing from outside
-abbrev reading_setting : Setting
+abbrev pub reading_setting : Setting
 reading_setting = record {
   shared = (codes "s", 0) ∷ [];
   methods = (codes "main", 0) ∷ [];
@@ -271,7 +274,7 @@ reading_setting = record {
 }
 
 -- the definition of the code gives these units: main, and behind it the body that it starts
-reading_is : map (unit_of_part reading_setting) (parts reading) ≡ reading_code.units
+pub reading_is : map (unit_of_part reading_setting) (parts reading) ≡ reading_code.units
 reading_is = refl
 
 -- the second activity writes between the two reads of the first

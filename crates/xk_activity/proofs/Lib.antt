@@ -1,0 +1,5 @@
+pub mod Cells
+pub mod Safe
+pub mod Stacking
+pub mod Locals
+pub mod Joined

@@ -1,0 +1,6 @@
+use Rattle.std.proofs.Common.{◌≡◌}
+use Rattle.xk_activity.specs.Local.{Stepped, ran, local}
+use Rattle.xk_activity.proofs.frames.Frames.run.Given as goal
+
+abbrev pub invariant-loop-n : goal.invariant-loop-n
+invariant-loop-n l = ran local l.initial.self l.n ≡ Stepped l.self

@@ -1,0 +1,22 @@
+use Rattle.std.proofs.Common.{arith, ◌++◌, length, replicate, ap, ◌∙◌, rules}
+use Rattle.std.specs.Prelude.{reverse}
+use Rattle.std.proofs.lemmas.List.{length-replicate}
+use Rattle.xk_types.specs.declared.names.Value.TheVariants as value
+use Rattle.xk_activity.proofs.Stacking.{own_room, start_stacked}
+use Rattle.xk_activity.proofs.frames.Frames.start.Goals as goal
+
+pub fill-requires : goal.fill-requires
+fill-requires c = let o = own_room c.args.verified.now c.args.unit c.size_of-size.ensures.shape c.requires in search (rules, o.0)
+
+pub overflow_sub-room : goal.overflow_sub-room
+overflow_sub-room c = let o = own_room c.args.verified.now c.args.unit c.size_of-size.ensures.shape c.requires in search (rules, o.1)
+
+pub invariant_of-result : goal.invariant_of-result
+invariant_of-result c =
+    let o = own_room c.args.verified.now c.args.unit c.size_of-size.ensures.shape c.requires in
+    start_stacked c.args.verified.now c.args.unit (length c.fill.new.stack.items) _ _ _ c.size_of-size.ensures.limits c.size_of-size.ensures.shape c.requires
+    (ap reverse c.in_ok-callers.ensures.items)
+    (ap length c.fill.ensures.items ∙ ap (λ xs. length (xs ++ replicate c.size_of-size.result value.Unset)) c.in_ok-stack.ensures.items
+    ∙ length-replicate c.size_of-size.result value.Unset ∙ c.size_of-size.ensures.size)
+    (c.fill.ensures.capacity ∙ c.in_ok-stack.ensures.exact ∙ c.room-room.ensures.slots)
+    (let e = c.in_ok-callers.ensures.exact in let f = c.room-room.ensures.frames in omega (arith, o.1))

@@ -1,0 +1,129 @@
+//! Instructions that concern one frame alone.
+
+ghost use Rattle.std.specs.Prelude.{◌≡◌, ℕ, ℤ, ◌+◌, ◌<◌, ◌^◌, length, not, Some, slice_get, slice_set};
+ghost use Rattle.xk_types.specs.declared.names.Value.TheVariants as value;
+ghost use Rattle.xk_activity.specs.Local.{turn, spot_at, IsRight};
+ghost use Rattle.xk_activity.specs.Arm.{CanCarry, Carries, Answers, is_beyond};
+
+use crate::cell::Cell;
+use xk_types::Instr;
+
+/// The number in a slot that holds one.
+#[inline(always)]
+fn number(slots: &[Cell], s: u16) -> i64
+    requires { (n : ℤ) × (slice_get slots.now s ≡ Some (value.Number n)) }
+    ensures { slice_get slots.now s ≡ Some (value.Number result) }
+{
+    slots[s as usize].number()
+}
+
+/// Writes a number to a slot.
+#[inline(always)]
+fn write(slots: &mut [Cell], d: u16, n: i64)
+    requires { d < length slots.old }
+    ensures { slots.new ≡ slice_set slots.old d (value.Number n) }
+{
+    let slot = &mut slots[d as usize];
+    slot.set_number(n);
+}
+
+/// Carries out an instruction, and gives the next place; nothing where it concerns more than the frame.
+#[inline(always)]
+fn carry(code: &[Instr], place: usize, slots: &mut [Cell], instr: &Instr) -> Option<usize>
+    requires short { length code.now < 2 ^ 16 }
+    requires place { place + 1 < 2 ^ 16 }
+    requires operands { CanCarry code.now (spot_at place slots.old) instr.now }
+    ensures { Carries code.now (spot_at place slots.old) instr.now result slots.new }
+{
+    match instr {
+        Instr::Lit(d, x) => {
+            write(slots, *d, *x);
+            Some(place + 1)
+        }
+        Instr::Copy(d, x) => {
+            let n = number(slots, *x);
+            write(slots, *d, n);
+            Some(place + 1)
+        }
+        Instr::Add(d, x, y) => {
+            let n = number(slots, *x).wrapping_add(number(slots, *y));
+            write(slots, *d, n);
+            Some(place + 1)
+        }
+        Instr::Sub(d, x, y) => {
+            let n = number(slots, *x).wrapping_sub(number(slots, *y));
+            write(slots, *d, n);
+            Some(place + 1)
+        }
+        Instr::Mul(d, x, y) => {
+            let n = number(slots, *x).wrapping_mul(number(slots, *y));
+            write(slots, *d, n);
+            Some(place + 1)
+        }
+        Instr::Unless(op, x, y, t) => {
+            if op.holds(number(slots, *x), number(slots, *y)) {
+                Some(place + 1)
+            } else {
+                Some(*t as usize)
+            }
+        }
+        Instr::Jump(t) => Some(*t as usize),
+        Instr::For(k, lo, _, _) => {
+            write(slots, *k, *lo);
+            Some(place + 1)
+        }
+        Instr::Next(b) => match &code[*b as usize] {
+            Instr::For(k, _, hi, _) => {
+                let x = number(slots, *k);
+                if x < *hi {
+                    write(slots, *k, x + 1);
+                    Some(*b as usize + 1)
+                } else {
+                    Some(place + 1)
+                }
+            }
+            _ => unreachable!(),
+        },
+        Instr::Finish(_) => None,
+        Instr::EndFinish(_) => None,
+        Instr::Get(_, _) => None,
+        Instr::Put(_, _) => None,
+        Instr::AddTo(_, _) => None,
+        Instr::Print(_) => None,
+        Instr::Make(_) => None,
+        Instr::Resume(_) => None,
+        Instr::Drop(_) => None,
+        Instr::Advance => None,
+        Instr::Call(_, _) => None,
+        Instr::Spawn(_, _) => None,
+        Instr::Ret => None,
+    }
+}
+
+/// Whether an instruction concerns one frame alone.
+pub(crate) fn is_flat(instr: &Instr) -> bool
+    ensures { result ≡ not (is_beyond instr.now) }
+{
+    match instr {
+        Instr::Lit(_, _)
+        | Instr::Copy(_, _)
+        | Instr::Add(_, _, _)
+        | Instr::Sub(_, _, _)
+        | Instr::Mul(_, _, _)
+        | Instr::Unless(_, _, _, _)
+        | Instr::Jump(_)
+        | Instr::For(_, _, _, _)
+        | Instr::Next(_) => true,
+        _ => false,
+    }
+}
+
+/// The next instruction, if it concerns the frame alone, and the next place.
+#[inline(always)]
+pub(crate) fn one(code: &[Instr], place: usize, slots: &mut [Cell]) -> Option<usize>
+    requires short { length code.now < 2 ^ 16 }
+    requires right { IsRight (turn code.now (spot_at place slots.old)) }
+    ensures { Answers code.now (spot_at place slots.old) result slots.new }
+{
+    carry(code, place, slots, &code[place])
+}

@@ -1,0 +1,274 @@
+//! The frames of one activity.
+
+ghost use Rattle.std.specs.Prelude.{◌≡◌, ◌⊎◌, ◌+◌, ◌<◌, ◌≤◌, ◌^◌, length, take, drop, Some, IfOk, slice_get};
+ghost use Rattle.std.specs.Vec.{vec_capacity};
+ghost use Rattle.xk_types.specs.declared.instr.Instr.{Instr};
+ghost use Rattle.xk_types.specs.Code.{IsWithinLimits};
+ghost use Rattle.xk_types.specs.Shape.{HasShape};
+ghost use Rattle.xk_types.specs.World.{instruction_at, slots_of};
+ghost use Rattle.xk_activity.specs.Local.{Beyond, Stepped, IsRight, IsSafe, local, ran, turn, code_of, spot_of, spot_at, started, called, returning, is_stepped};
+ghost use Rattle.xk_activity.specs.Arm.{Answers};
+ghost use Rattle.xk_activity.specs.Stacked.{CanCall, Does, values_at, placed, with_slot};
+
+use crate::caller::Caller;
+use crate::cell::Cell;
+use crate::fill::{copy_callers, copy_cells, fill, hand};
+use crate::flat::{is_flat, one};
+use std::alloc::{AllocError, Global};
+use std::marker::Model;
+use xk_bounds::Verified;
+use xk_types::{Instr, Value};
+
+/// What a call for one local step did.
+#[derive(Clone, Copy, Debug, PartialEq, Eq)]
+pub enum Next {
+    /// The step was taken.
+    Stepped,
+    /// Others can see the next step, and nothing changed.
+    Visible,
+}
+
+/// The frames of one activity, the present one and those that wait at a `call` for it to return, with room for all that they may
+/// call.
+#[derive(Drop)]
+pub struct Frames<'m> {
+    verified: &'m Verified,
+    unit: u16,
+    place: usize,
+    /// Where the slots of the present frame begin.
+    base: usize,
+    /// The slots of all frames, those of the present one last.
+    stack: Vec<Cell>,
+    /// The frames that wait, the nearest last.
+    callers: Vec<Caller>,
+}
+
+impl<'m> Model for Frames<'m> {
+    ghost use Rattle.std.specs.Prelude.{length, reverse};
+    ghost use Rattle.std.specs.Vec.{vec_capacity};
+    ghost use Rattle.xk_activity.specs.Local.{FramesValue};
+    ghost use Rattle.xk_activity.specs.Stacked.{frames_on, IsStacked};
+
+    ghost Value = { FramesValue };
+
+    ghost view = { λ f. frames_on f.verified.now f.unit f.place f.base f.stack.items
+        (reverse f.callers.items) };
+
+    ghost invariant = { λ f. IsStacked f.verified.now f.unit f.base (reverse f.callers.items)
+        (length f.stack.items) (vec_capacity f.stack) (vec_capacity f.callers) };
+}
+
+/// The next instruction of the frame that lies on a stack from base on, if it concerns that frame alone, and the next place.
+#[inline(always)]
+fn step_top(code: &[Instr], place: usize, stack: &mut Vec<Cell>, base: usize) -> Option<usize>
+    requires short { length code.now < 2 ^ 16 }
+    requires base { base ≤ length stack.old.items }
+    requires right { IsRight (turn code.now (spot_at place (drop base stack.old.items))) }
+    ensures stepped { Answers code.now (spot_at place (drop base stack.old.items)) result
+        (drop base stack.new.items) }
+    ensures below { take base stack.new.items ≡ take base stack.old.items }
+    ensures length { length stack.new.items ≡ length stack.old.items }
+    ensures capacity { vec_capacity stack.new ≡ vec_capacity stack.old }
+{
+    let slots = &mut stack[base..];
+    one(code, place, slots)
+}
+
+/// How many slots the unit has.
+fn size_of(verified: &Verified, unit: u16) -> u16
+    requires { unit < length verified.now.units }
+    ensures size { result ≡ slots_of verified.now unit }
+    ensures limits { IsWithinLimits verified.now }
+    ensures shape { HasShape verified.now }
+{
+    let unit = &verified.module().units()[unit as usize];
+    unit.slots
+}
+
+impl<'m> Frames<'m> {
+    /// One frame of the unit, before its first instruction, with unset slots.
+    pub fn start(alloc: Global, verified: &'m Verified, unit: u16) -> Result<Frames<'m>, AllocError>
+        requires { unit < length verified.now.units }
+        ensures { IfOk result (λ f. f ≡ started verified.now unit) }
+    {
+        let size = size_of(verified, unit);
+        let room = verified.room(unit);
+        let mut stack = Vec::with_capacity(alloc, room.slots as usize)?;
+        fill(&mut stack, size as usize);
+        let callers = Vec::with_capacity(alloc, room.frames as usize - 1)?;
+        Ok(Frames {
+            verified,
+            unit,
+            place: 0,
+            base: 0,
+            stack,
+            callers,
+        })
+    }
+
+    /// The same frames, with room of their own.
+    pub fn copy(&self, alloc: Global) -> Result<Frames<'m>, AllocError>
+        ensures { IfOk result (λ f. f ≡ self.now) }
+    {
+        let stack = copy_cells(alloc, &self.stack)?;
+        let callers = copy_callers(alloc, &self.callers)?;
+        Ok(Frames {
+            verified: self.verified,
+            unit: self.unit,
+            place: self.place,
+            base: self.base,
+            stack,
+            callers,
+        })
+    }
+
+    /// The code of the present frame's unit.
+    fn code(&self) -> &'m [Instr]
+        requires { self.now.frame.unit < length self.now.module_run.units }
+        ensures code { result.now ≡ code_of self.now.module_run self.now.frame.unit }
+        ensures short { length result.now < 2 ^ 16 }
+    {
+        let verified = self.verified;
+        let units = verified.module().units();
+        let unit = &units[self.unit as usize];
+        &unit.code
+    }
+
+    /// The instruction that the present frame stands at.
+    pub fn next(&self) -> &Instr
+        requires { (i : Instr)
+            × (instruction_at self.now.module_run self.now.frame ≡ Some i) }
+        ensures { instruction_at self.now.module_run self.now.frame ≡ Some result.now }
+    {
+        &self.code()[self.place]
+    }
+
+    /// What a slot of the present frame holds.
+    pub fn slot(&self, s: u16) -> Value
+        requires { s < length self.now.frame.slots }
+        ensures { slice_get self.now.frame.slots s ≡ Some result }
+    {
+        self.stack[self.base + s as usize].value()
+    }
+
+    /// Writes a slot of the present frame.
+    pub fn set(&mut self, s: u16, v: Value)
+        requires { s < length self.old.frame.slots }
+        ensures { self.new ≡ with_slot self.old s v }
+    {
+        self.stack[self.base + s as usize] = Cell::of(v);
+    }
+
+    /// The present frame goes on to the next instruction.
+    pub fn go(&mut self)
+        requires { (i : Instr)
+            × (instruction_at self.old.module_run self.old.frame ≡ Some i) }
+        ensures { self.new ≡ placed self.old (self.old.frame.place + 1) }
+    {
+        self.place += 1;
+    }
+
+    /// Runs this unit, a method, with the values of these slots; the present frame waits for it.
+    fn call(&mut self, unit: u16, args: &[u16])
+        requires { CanCall self.old unit args.now }
+        ensures { self.new ≡ called self.old unit (values_at self.old.frame.slots args.now) }
+    {
+        let size = size_of(self.verified, unit);
+        let top = self.stack.len();
+        hand(&mut self.stack, self.base, args);
+        fill(&mut self.stack, size as usize - args.len());
+        self.callers.push_reserved(Caller {
+            unit: self.unit,
+            place: self.place as u16,
+            base: self.base,
+        });
+        self.unit = unit;
+        self.place = 0;
+        self.base = top;
+    }
+
+    /// Goes back into the nearest frame that waits, behind its `call`, if one does.
+    fn leave(&mut self) -> Next
+        ensures { Does (returning self.old self.old.callers) self.old result self.new }
+    {
+        match self.callers.pop() {
+            Some(c) => {
+                self.stack.truncate(self.base);
+                self.unit = c.unit;
+                self.place = c.place as usize + 1;
+                self.base = c.base;
+                Next::Stepped
+            }
+            None => Next::Visible,
+        }
+    }
+
+    /// The next step, where it concerns more than the present frame.
+    fn across(&mut self) -> Next
+        requires right { IsRight (local self.old) }
+        requires beyond { turn (code_of self.old.module_run self.old.frame.unit)
+            (spot_of self.old.frame) ≡ Beyond }
+        ensures { Does (local self.old) self.old result self.new }
+    {
+        let code = self.code();
+        match &code[self.place] {
+            Instr::Call(unit, args) => {
+                self.call(*unit, args.slots());
+                Next::Stepped
+            }
+            Instr::Ret => self.leave(),
+            _ => Next::Visible,
+        }
+    }
+
+    /// One step, if nobody else can see it. Takes no memory.
+    pub fn local(&mut self) -> Next
+        requires { IsRight (local self.old) }
+        ensures { Does (local self.old) self.old result self.new }
+    {
+        let code = self.code();
+        match step_top(code, self.place, &mut self.stack, self.base) {
+            Some(place) => {
+                self.place = place;
+                Next::Stepped
+            }
+            None => self.across(),
+        }
+    }
+
+    /// Up to max steps that nobody else can see, and how many they were: max, or as many as there are before one that others can
+    /// see. Takes no memory.
+    pub fn run(&mut self, max: u32) -> u32
+        requires { IsSafe local self.old }
+        ensures ran { ran local self.old result ≡ Stepped self.new }
+        ensures most { result ≤ max }
+        ensures stops { (result ≡ max) ⊎ (local self.new ≡ Beyond) }
+    {
+        for n in 0..max {
+            match self.local() {
+                Next::Stepped => {}
+                Next::Visible => return n,
+            }
+        }
+        max
+    }
+
+    /// Whether nobody else can see the next step.
+    pub fn is_local(&self) -> bool
+        requires { IsRight (local self.now) }
+        ensures { result ≡ is_stepped (local self.now) }
+    {
+        match self.next() {
+            Instr::Call(_, _) => true,
+            Instr::Ret => self.waits(),
+            instr => is_flat(instr),
+        }
+    }
+
+    /// Whether a frame waits for the present one to return.
+    fn waits(&self) -> bool
+        ensures { result ≡ is_stepped (returning self.now self.now.callers) }
+    {
+        !self.callers.is_empty()
+    }
+}

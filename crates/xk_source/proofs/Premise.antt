@@ -1,0 +1,245 @@
+-- The premise of the law is met: a small program, and the module that is its code.
+use Rattle.std.proofs.Common.{◌≡◌, inl, inr, ℕ, zero, suc, ◌+◌, ◌≤◌, Bool, true, false, cond, List, [], ◌∷◌, ◌++◌, ◌<◌, length, map, codes, Option, Some, None, slice_get, refl, sym, ap, ◌∙◌, subst, arith}
+use Rattle.std.specs.Prelude.{option_map}
+use Rattle.xk_calls.specs.Calls.{IsCall, Reaches}
+use Rattle.xk_calls.specs.Order.{IsReady}
+use Rattle.xk_tree.specs.declared.fault.FrontFault.{FrontFault}
+use Rattle.xk_tree.specs.Tree.{Word, Expression, Statement, Assign, Async, MethodValue}
+use Rattle.xk_tree.specs.Bodies.{HasBodiesApart}
+use Rattle.xk_names.specs.declared.known.Known.{Known}
+use Rattle.xk_names.specs.declared.known.Kind.TheVariants as kind
+use Rattle.xk_names.specs.Scope.{Has, has, find, is_text, texts, Declaration, known, Scope, sees, fits}
+use Rattle.xk_names.specs.Uses.{Use, Signatures, signatures, uses, declares, misfits, clocks_given, calls as names_calls}
+use Rattle.xk_names.specs.Faults.{RepeatsName, RepeatsMethod, declared_before}
+use Rattle.xk_names.specs.Scoped.{IsRight, IsSound, AreSound, method_scope, IsScoped}
+use Rattle.xk_units.proofs.Listed.{has_at}
+use Rattle.xk_source.specs.Parts.{Part, Run, Starts, parts, part_runs}
+use Rattle.xk_source.specs.Graph.{graph}
+use Rattle.xk_source.specs.Compiled.{AreUnits, HasLater, IsCompiled, unit_number}
+use Rattle.xk_source.specs.Meaning.{Means}
+use Rattle.xk_source.proofs.Compiled.{compiled_means}
+use Rattle.xk_source.proofs.Rows.{w, lit, var, val_is, print, block, reading, reading_main, reading_code, reading_setting, reading_is}
+
+abbrev order : List ℕ
+order = 0 ∷ 1 ∷ []
+
+abbrev calls : List (List ℕ)
+calls = graph (parts reading)
+
+reached : (n m : ℕ) → slice_get order n ≡ Some m → Reaches calls 0 m
+reached zero m e = let same : 0 ≡ m = cc in subst (Reaches calls 0) same ([], refl)
+reached (suc zero) m e = let same : 1 ≡ m = cc in subst (Reaches calls 0) same (1 ∷ [], ((0, refl), refl))
+reached (suc (suc n)) m e = absurd cc
+
+-- main starts the body, which is further on; the body starts and calls nothing
+first_call : (k j : ℕ) → IsCall calls 0 k j → 1 ≡ j
+first_call zero j e = cc
+first_call (suc k) j e = absurd cc
+
+later : (a i k j : ℕ) → slice_get order a ≡ Some i → IsCall calls i k j → (b : ℕ) × (a < b) × (slice_get order b ≡ Some j)
+later zero i k j e c =
+    let same : 0 ≡ i = cc in
+    let called = first_call k j (subst (λ n. IsCall calls n k j) (sym same) c) in
+    (1, omega arith, ap Some called)
+later (suc zero) i k j e c = let same : 1 ≡ i = cc in absurd (none k j (subst (λ n. IsCall calls n k j) (sym same) c))
+  where
+    none : (k j : ℕ) → IsCall calls 1 k j → ⊥
+    none k j e = cc
+later (suc (suc a)) i k j e c = absurd cc
+
+once : (a b i : ℕ) → slice_get order a ≡ Some i → slice_get order b ≡ Some i → a ≡ b
+once zero zero i e f = refl
+once zero (suc zero) i e f = absurd cc
+once (suc zero) zero i e f = absurd cc
+once (suc zero) (suc zero) i e f = refl
+once zero (suc (suc b)) i e f = absurd cc
+once (suc zero) (suc (suc b)) i e f = absurd cc
+once (suc (suc a)) b i e f = absurd cc
+
+least : (k i j : ℕ) → slice_get order k ≡ Some i → IsReady calls 0 order k j → i ≤ j
+least zero i j e r = let same : 0 ≡ i = cc in omega (arith, same)
+least (suc zero) i zero e r = absurd (r.placeless (0, omega arith, refl))
+least (suc zero) i (suc j) e r = let same : 1 ≡ i = cc in omega (arith, same)
+least (suc (suc k)) i j e r = absurd cc
+
+apart : (j k : ℕ) (p : Part) → slice_get (parts reading) j ≡ Some p → slice_get (parts reading) k ≡ Some p → j ≡ k
+apart zero zero p e f = refl
+apart zero (suc zero) p e f = absurd cc
+apart (suc zero) zero p e f = absurd cc
+apart (suc zero) (suc zero) p e f = refl
+apart zero (suc (suc k)) p e f = absurd cc
+apart (suc zero) (suc (suc k)) p e f = absurd cc
+apart (suc (suc j)) k p e f = absurd cc
+
+body_later : HasLater reading (parts reading) 0 (Starts 0)
+body_later = record {
+  number = 1;
+  later = omega arith;
+  place = refl;
+  part = _;
+  stands = refl;
+  run = record { place = 1; first = refl; part = refl };
+}
+
+closed : (k : ℕ) (p : Part) (r : Run) → slice_get (parts reading) k ≡ Some p → Has (part_runs p) r → HasLater reading (parts reading) k r
+closed zero p r e h = started (subst (λ o. Has (runs_of o) r) (sym e) h)
+  where
+    runs_of : Option Part → List Run
+    runs_of (Some q) = part_runs q
+    runs_of None = []
+
+    started : Has (runs_of (slice_get (parts reading) 0)) r → HasLater reading (parts reading) 0 r
+    started (inl is) = subst (HasLater reading (parts reading) 0) (sym is) body_later
+    started (inr none) = absurd none
+closed (suc zero) p r e h = absurd (nothing (subst (λ o. Has (runs_of o) r) (sym e) h))
+  where
+    runs_of : Option Part → List Run
+    runs_of (Some q) = part_runs q
+    runs_of None = []
+
+    nothing : Has (runs_of (slice_get (parts reading) 1)) r → ⊥
+    nothing none = none
+closed (suc (suc k)) p r e h = absurd cc
+
+are_units : AreUnits reading (parts reading)
+are_units = record {
+  order = order;
+  is_order = record { start = 0; begins = refl; first = refl; reached = reached; later = later; once = once; least = least };
+  are = refl;
+  main = _;
+  named = refl;
+  first = refl;
+  within = λ k p e. has_at (parts reading) k p e;
+  once = apart;
+  closed = closed;
+}
+
+numbered : (b : Bool) → ◌≡◌ {A = Option ℕ} (option_map unit_number (cond b (Some 0) None)) (cond b (Some 0) None)
+numbered true = refl
+numbered false = refl
+
+reading_compiled : IsCompiled reading reading_code
+reading_compiled = record {
+  units = parts reading;
+  setting = reading_setting;
+  are_units = are_units;
+  is_setting = record { shared = λ x. refl; methods = λ x. sym (numbered (is_text x (codes "main"))); bodies = λ at. refl };
+  shared = refl;
+  code = sym reading_is;
+}
+
+-- ---- it has no fault of names
+
+nothing : {A : Type 0} (before : List A) (x : A) (after : List A) → [] ≡ before ++ x ∷ after → ⊥
+nothing [] x after e = cc
+nothing (b ∷ bs) x after e = cc
+
+-- a statement that is neither a call nor given a clock, and has no misfit
+sound : (ms : Signatures) (sc : Scope) (t : Statement) → ((u : Use) → Has (uses ms sc.names t) u → IsRight sc u)
+    → ((d : Declaration) → Has (declares (length sc.bodies) t) d → find sc.names d.name.text ≡ None) → misfits ms t ≡ [] → names_calls t ≡ None
+    → clocks_given ms t ≡ [] → IsSound ms sc t
+sound ms sc t used new fitting called clocks = record {
+  used = used;
+  new = new;
+  fitting = λ at h. subst (λ l. Has l at) fitting h;
+  callable = λ g es e. absurd (none_some g es (sym called ∙ e));
+  apart = λ before c after e. absurd (nothing before c after (sym clocks ∙ e));
+}
+  where
+    none_some : (g : Word) (es : List Expression) → ◌≡◌ {A = Option (Word × List Expression)} None (Some (g, es)) → ⊥
+    none_some g es e = cc
+
+one_right : (sc : Scope) (u v : Use) (k : Known) → find sc.names u.name.text ≡ Some k → fits u.want k.kind ≡ true → sees sc u.name.text k ≡ true
+    → Has (u ∷ []) v → IsRight sc v
+one_right sc u v k found right seen (inl e) = subst (IsRight sc) (sym e) (record { known = k; found = found; right = right; seen = seen })
+one_right sc u v k found right seen (inr none) = absurd none
+
+one_new : (sc : Scope) (d e : Declaration) → find sc.names d.name.text ≡ None → Has (d ∷ []) e → find sc.names e.name.text ≡ None
+one_new sc d e new (inl is) = subst (λ (x : Declaration). find sc.names x.name.text ≡ None) (sym is) new
+one_new sc d e new (inr none) = absurd none
+
+abbrev ms : Signatures
+ms = signatures reading.methods
+
+-- what main sees, with so many of its names declared
+abbrev seen : List (List ℕ × Known) → Scope
+seen names = record { names = (codes "s", known kind.Shared 0) ∷ names; bodies = [] }
+
+abbrev seen_inside : Scope
+seen_inside = record { names = (codes "s", known kind.Shared 0) ∷ []; bodies = [] ∷ [] }
+
+abbrev r : List ℕ × Known
+r = (codes "r", known kind.Val 0)
+
+abbrev q : List ℕ × Known
+q = (codes "q", known kind.Val 0)
+
+assigns : IsSound ms seen_inside (Assign (w (codes "s")) (lit 5))
+assigns = sound ms seen_inside (Assign (w (codes "s")) (lit 5)) (λ u h. one_right seen_inside _ u _ refl refl refl h) (λ d h. absurd h) refl refl refl
+
+reads : (x : List ℕ) (names : List (List ℕ × Known)) → find (seen names).names x ≡ None → IsSound ms (seen names) (val_is x (var (codes "s")))
+reads x names new =
+    sound ms (seen names) (val_is x (var (codes "s"))) (λ u h. one_right (seen names) _ u _ refl refl refl h)
+    (λ d h. one_new (seen names) _ d new h) refl refl refl
+
+prints : (x : List ℕ) (names : List (List ℕ × Known)) → find (seen names).names x ≡ Some (known kind.Val 0) → IsSound ms (seen names) (print (var x))
+prints x names there =
+    sound ms (seen names) (print (var x)) (λ u h. one_right (seen names) _ u (known kind.Val 0) there refl refl h) (λ d h. absurd h) refl refl refl
+
+starts : IsSound ms (seen []) (Async 0 None (block (Assign (w (codes "s")) (lit 5) ∷ [])))
+starts = sound ms (seen []) (Async 0 None (block (Assign (w (codes "s")) (lit 5) ∷ []))) (λ u h. absurd h) (λ d h. absurd h) refl refl refl
+
+inside : IsSound ms seen_inside (block (Assign (w (codes "s")) (lit 5) ∷ []))
+inside = sound ms seen_inside (block (Assign (w (codes "s")) (lit 5) ∷ [])) (λ u h. absurd h) (λ d h. absurd h) refl refl refl
+
+body_sound : (m : MethodValue) → Has reading.methods m → AreSound ms (method_scope reading m) m.body
+body_sound m (inl is) = subst (λ (k : MethodValue). AreSound ms (method_scope reading k) k.body) (sym is) (
+  (starts, (inside, ((assigns, tt), tt))),
+  (
+    (reads (codes "r") [] refl, tt),
+    (
+      (reads (codes "q") (r ∷ []) refl, tt),
+      ((prints (codes "r") (r ∷ q ∷ []) refl, tt), ((prints (codes "q") (r ∷ q ∷ []) refl, tt), tt)),
+    ),
+  ),
+)
+body_sound m (inr none) = absurd none
+
+names_apart : (m : MethodValue) → Has reading.methods m → (f : FrontFault) → RepeatsName (declared_before reading m) f → ⊥
+names_apart m (inl is) f h = one_name (shared_names is) h.before h.stands h.again
+  where
+    shared_names : m ≡ reading_main → declared_before reading m ≡ declared_before reading reading_main
+    shared_names e = ap (declared_before reading) e
+
+    one_name : declared_before reading m ≡ declared_before reading reading_main → (before : List Declaration)
+        → declared_before reading m ≡ before ++ h.declaration ∷ h.after
+        → has (texts (map (λ (d : Declaration). d.name) before)) h.declaration.name.text ≡ true → ⊥
+    one_name e [] stands again = cc
+    one_name e (b ∷ bs) stands again =
+        nothing bs h.declaration h.after (let rest : ◌≡◌ {A = List Declaration} [] (bs ++ h.declaration ∷ h.after) = rest_of (sym e ∙ stands) in rest)
+      where
+        rest_of : declared_before reading reading_main ≡ (b ∷ bs) ++ h.declaration ∷ h.after → [] ≡ bs ++ h.declaration ∷ h.after
+        rest_of e = cc
+names_apart m (inr none) f h = absurd none
+
+methods_apart : (f : FrontFault) → RepeatsMethod reading.methods f → ⊥
+methods_apart f r = at r.before r.stands r.again
+  where
+    at : (before : List MethodValue) → reading.methods ≡ before ++ r.method ∷ r.after
+        → has (texts (map (λ m. m.name) before)) r.method.name.text ≡ true → ⊥
+    at [] e again = cc
+    at (b ∷ bs) e again = nothing bs r.method r.after (let rest : ◌≡◌ {A = List MethodValue} [] (bs ++ r.method ∷ r.after) = cc in rest)
+
+reading_scoped : IsScoped reading
+reading_scoped = record { bodies = body_sound; apart = names_apart; methods_apart = methods_apart; main = refl }
+
+-- ---- so the law holds of it
+
+one_body : HasBodiesApart reading
+one_body k less = let short : k + 1 < 1 = less in absurd (omega arith)
+
+few : length reading_code.units ≤ 1024
+few = let two : 2 ≤ 1024 = omega arith in two
+
+reading_means : Means reading reading_code
+reading_means = compiled_means reading reading_code reading_scoped one_body few reading_compiled
