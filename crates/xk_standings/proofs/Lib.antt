@@ -1,0 +1,10 @@
+pub mod Moves
+pub mod Marks
+pub mod Calls
+pub mod Steps
+pub mod Starts
+pub mod Makes
+pub mod InTurn
+pub mod StepLaws
+pub mod Owed
+pub mod Lists

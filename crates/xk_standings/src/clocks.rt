@@ -1,0 +1,92 @@
+//! All clocks.
+
+ghost use Rattle.std.specs.Prelude.{◌≡◌, ◌<◌, ◌≤◌, [], ◌∷◌, ◌++◌, length, slice_index_or, IfOk};
+ghost use Rattle.xk_types.specs.Step.{is_pending};
+ghost use Rattle.xk_clocks.specs.Table.{new_count, count_at, changed_at, count_registered, is_ready_count};
+ghost use Rattle.xk_standings.specs.View.{standing_at};
+ghost use Rattle.xk_standings.specs.Calls.{calls, call_resume, call_drop, call_register, OwesResume, OwesDrop, OwesRegister, Allows};
+
+use crate::registration::Registration;
+use std::alloc::{AllocError, Global};
+use std::marker::Model;
+use xk_clocks::ClockTable;
+use xk_types::ClockId;
+
+/// The clocks of a running program in numbers, and the number of the step in which each advanced last.
+#[derive(Drop)]
+pub struct Clocks {
+    table: ClockTable,
+    lasts: Vec<u64>,
+}
+
+impl Model for Clocks {
+    ghost use Rattle.std.specs.Prelude.{◌≡◌, ◌≤◌, length, vec_capacity};
+    ghost use Rattle.xk_standings.specs.Calls.{ClocksValue};
+
+    ghost Value = { ClocksValue };
+
+    ghost view = { λ c. record { table = c.table; lasts = c.lasts.items } };
+
+    ghost invariant = { λ c. (length c.lasts.items ≡ length c.table.clocks) × (c.table.room ≤ vec_capacity c.lasts) };
+}
+
+impl Clocks {
+    /// No clock, and room for this many.
+    pub fn open(alloc: Global, clocks: u32) -> Result<Clocks, AllocError>
+        ensures { IfOk result
+            (λ c. c ≡ record { table = record { room = clocks; clocks = [] }; lasts = [] }) }
+    {
+        let table = ClockTable::open(alloc, clocks)?;
+        Ok(Clocks {
+            table,
+            lasts: Vec::with_capacity(alloc, clocks as usize)?,
+        })
+    }
+
+    /// How often the clock has advanced.
+    pub fn phase(&self, clock: ClockId) -> u64
+        requires { clock < length self.now.table.clocks }
+        ensures { result ≡ (count_at self.now.table.clocks clock).phase }
+    {
+        self.table.phase(clock)
+    }
+
+    /// The number of the step in which the clock advanced last, 0 before.
+    pub fn last(&self, clock: ClockId) -> u64
+        requires { clock < length self.now.table.clocks }
+        ensures { result ≡ slice_index_or self.now.lasts clock 0 }
+    {
+        self.lasts[clock.0 as usize]
+    }
+
+    /// The registration, which is open, is resumed in the step of this number. Whether its clock advanced.
+    pub fn resume(&mut self, registration: Registration, now: u64) -> bool
+        requires { Allows OwesResume self.old.table.clocks registration }
+        ensures clocks { self.new ≡ calls now call_resume (registration ∷ []) self.old }
+        ensures advanced { result ≡ is_ready_count
+            (call_resume registration (count_at self.old.table.clocks registration.clock)) }
+    {
+        let clock = registration.clock();
+        let advanced = self.table.resume(clock);
+        if advanced {
+            self.lasts[clock.0 as usize] = now;
+        }
+        advanced
+    }
+
+    /// The registration ends in the step of this number. Whether its clock advanced.
+    pub fn drop(&mut self, registration: Registration, now: u64) -> bool
+        requires { Allows OwesDrop self.old.table.clocks registration }
+        ensures clocks { self.new ≡ calls now call_drop (registration ∷ []) self.old }
+        ensures advanced { result ≡ is_ready_count
+            (call_drop registration (count_at self.old.table.clocks registration.clock)) }
+    {
+        let clock = registration.clock();
+        let pending = registration.is_pending(self.table.phase(clock));
+        let advanced = self.table.drop(clock, pending);
+        if advanced {
+            self.lasts[clock.0 as usize] = now;
+        }
+        advanced
+    }
+}

@@ -1,0 +1,81 @@
+//! One registration after the other.
+
+ghost use Rattle.std.specs.Prelude.{◌≡◌, [], ◌∷◌};
+ghost use Rattle.xk_standings.specs.View.{AreDistinct};
+ghost use Rattle.xk_standings.specs.Calls.{concerns, calls, call_resume, call_drop, regs_open, regs_on, regs_resumed, regs_passed, reg_resumed, phase_at, OwesResume, OwesDrop, AreAllowed, AreAllowedInTurn};
+
+use crate::clocks::Clocks;
+use crate::registration::Registration;
+use crate::which::Which;
+
+/// Resumes one registration in the step of this number, if it is open and on a clock that the step concerns.
+fn resume_one(
+    registration: Registration,
+    which: &Which,
+    clocks: &mut Clocks,
+    now: u64,
+) -> Registration
+    requires { AreAllowedInTurn OwesResume call_resume
+        (regs_open (concerns which.now) (registration ∷ [])) clocks.old.table.clocks }
+    ensures registration { result
+        ≡ reg_resumed (concerns which.now) registration clocks.old.table.clocks }
+    ensures clocks { clocks.new
+        ≡ calls now call_resume (regs_open (concerns which.now) (registration ∷ [])) clocks.old }
+{
+    let clock = registration.clock();
+    if !(which.concerns(clock) && registration.is_open()) {
+        return registration;
+    }
+    let phase = clocks.phase(clock);
+    clocks.resume(registration, now);
+    registration.resumed_in(phase)
+}
+
+/// Resumes those on clocks that the step concerns, each that is open in the present phase of its clock.
+pub fn resume_each(registrations: &mut [Registration], which: &Which, clocks: &mut Clocks, now: u64)
+    requires distinct { AreDistinct registrations.old }
+    requires allowed { AreAllowed OwesResume clocks.old.table.clocks
+        (regs_open (concerns which.now) registrations.old) }
+    ensures registrations { registrations.new
+        ≡ regs_resumed (concerns which.now) (phase_at clocks.old.table.clocks) registrations.old }
+    ensures clocks { clocks.new
+        ≡ calls now call_resume (regs_open (concerns which.now) registrations.old) clocks.old }
+{
+    for i in 0..registrations.len() {
+        registrations[i] = resume_one(registrations[i], which, clocks, now);
+    }
+}
+
+/// The registrations after a pass of their activity: all open.
+pub fn pass_each(registrations: &mut [Registration])
+    ensures { registrations.new ≡ regs_passed registrations.old }
+{
+    for i in 0..registrations.len() {
+        registrations[i] = registrations[i].passed();
+    }
+}
+
+/// Drops one registration in the step of this number, if it is on a clock that the step concerns.
+fn drop_one(registration: Registration, which: &Which, clocks: &mut Clocks, now: u64)
+    requires { AreAllowedInTurn OwesDrop call_drop
+        (regs_on (concerns which.now) (registration ∷ [])) clocks.old.table.clocks }
+    ensures { clocks.new
+        ≡ calls now call_drop (regs_on (concerns which.now) (registration ∷ [])) clocks.old }
+{
+    if which.concerns(registration.clock()) {
+        clocks.drop(registration, now);
+    }
+}
+
+/// Drops those on clocks that the step concerns.
+pub fn drop_each(registrations: &[Registration], which: &Which, clocks: &mut Clocks, now: u64)
+    requires distinct { AreDistinct registrations.now }
+    requires allowed { AreAllowed OwesDrop clocks.old.table.clocks
+        (regs_on (concerns which.now) registrations.now) }
+    ensures { clocks.new
+        ≡ calls now call_drop (regs_on (concerns which.now) registrations.now) clocks.old }
+{
+    for i in 0..registrations.len() {
+        drop_one(registrations[i], which, clocks, now);
+    }
+}

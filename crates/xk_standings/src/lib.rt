@@ -1,0 +1,14 @@
+//! Where activities stand on clocks, by the registrations that each keeps.
+#![tactic(auto)]
+
+mod clocks;
+mod each;
+pub mod laws;
+mod registration;
+mod registrations;
+mod which;
+
+pub use clocks::Clocks;
+pub use registration::Registration;
+pub use registrations::Registrations;
+pub use which::Which;
