@@ -3,3 +3,4 @@ pub mod Safe
 pub mod Stacking
 pub mod Locals
 pub mod Joined
+pub mod Reached
