@@ -5,7 +5,8 @@ ghost use Rattle.std.specs.Prelude.{◌≡◌, IfOk};
 use crate::tries::{Wrong, holds};
 use std::alloc::Global;
 use xk_bounds::Verified;
-use xk_core::{Chooser, Core, Driver, First, Halt, Last, Round, drive, run_schedule};
+use xk_core::Core;
+use xk_drive::{Chooser, Driver, First, Halt, Last, Round, drive, run_schedule};
 use xk_types::Act;
 
 /// A module is run in each way.

@@ -5,14 +5,14 @@ ghost use Rattle.std.specs.Prelude.{◌≡◌, ◌≢◌, [], IfSome};
 ghost use Rattle.std.specs.Io.KnownBytes.{Appends};
 ghost use Rattle.xk_serve.specs.Answer.{task_of};
 ghost use Rattle.xk_serve.specs.Lines.{memory_line};
-ghost use Rattle.xk_serve.specs.Serving.{Answered, ErrBegins, OutBegins};
+ghost use Rattle.xk_serve.specs.Serving.{Answered, ErrBegins, IfKnown, OutBegins};
 
 use std::io::{ErrorKind, Read};
 use std::process::ExitCode;
 use std::{env, fs, io};
 use xk_serve::{Fault, report, serve, tell, tell_words};
-use xk_types::{Counted, Sink};
-use xk_words::{Job, read_job};
+use xk_types::{Counted, Sink, Source};
+use xk_words::{Command, Job, read_job};
 
 fn main(rt: HostRuntime) -> ExitCode {
     let mut out = Counted::new(rt.stdout());
@@ -51,42 +51,85 @@ fn on_job<O: Sink, E: Sink>(rt: &HostRuntime, job: &Job<'_>, out: &mut O, err: &
     }
     match fs::open(rt, job.file) {
         Ok(file) => on_program(rt, job, file, out, err),
-        Err(e) if e.kind() == ErrorKind::OutOfMemory => {
-            report(rt.alloc(), &Fault::OutOfMemory, err)
-        }
-        Err(_) => report(rt.alloc(), &Fault::Device, err),
+        Err(e) => not_opened(rt, &e, err),
     }
 }
 
-/// Does the job on an open program. There are no logs yet.
+/// Opens the log that is read, where there is one, and does the job on an open program.
 fn on_program<P: Read + Drop, O: Sink, E: Sink>(
     rt: &HostRuntime,
     job: &Job<'_>,
     program: P,
     out: &mut O,
     err: &mut E,
+) -> u8 {
+    let (Command::Replay { log: path } | Command::Chart { log: path }) = job.command else {
+        return on_log(rt, job, program, &mut Counted::new(io::empty()), out, err);
+    };
+    match fs::open(rt, path) {
+        Ok(file) => on_log(rt, job, program, &mut Counted::new(file), out, err),
+        Err(e) => not_opened(rt, &e, err),
+    }
+}
+
+/// Makes the file of the run's log, or empties it, where there is to be one, and does the job on an open program.
+fn on_log<P: Read + Drop, L: Source, O: Sink, E: Sink>(
+    rt: &HostRuntime,
+    job: &Job<'_>,
+    program: P,
+    log_in: &mut L,
+    out: &mut O,
+    err: &mut E,
+) -> u8 {
+    let Command::Run {
+        log: Some(path),
+        ..
+    } = job.command
+    else {
+        let mut log_out = Counted::new(io::sink());
+        return on_devices(rt, job, program, log_in, out, err, &mut log_out);
+    };
+    match fs::create(rt, path) {
+        Ok(file) => on_devices(rt, job, program, log_in, out, err, &mut Counted::new(file)),
+        Err(e) => not_opened(rt, &e, err),
+    }
+}
+
+/// Says that a file can't be opened, or that memory was wanting for that.
+fn not_opened<E: Sink>(rt: &HostRuntime, e: &io::Error, err: &mut E) -> u8 {
+    if e.kind() == ErrorKind::OutOfMemory {
+        return report(rt.alloc(), &Fault::OutOfMemory, err);
+    }
+    report(rt.alloc(), &Fault::Device, err)
+}
+
+/// Does the job on an open program and open logs.
+fn on_devices<P: Read + Drop, L: Source, O: Sink, E: Sink, K: Sink>(
+    rt: &HostRuntime,
+    job: &Job<'_>,
+    program: P,
+    log_in: &mut L,
+    out: &mut O,
+    err: &mut E,
+    log_out: &mut K,
 ) -> u8
-    ensures answered { IfSome (P.remaining program) (λ bytes. result ≢ 4 → result ≢ 5
-        → Answered (task_of job.now) bytes result
-        (O.contents out.old) (O.contents out.new) (E.contents err.old) (E.contents err.new)) }
-    ensures out_begins { IfSome (P.remaining program) (λ bytes.
-        OutBegins (task_of job.now) bytes (O.contents out.old) (O.contents out.new)) }
-    ensures err_begins { IfSome (P.remaining program) (λ bytes.
-        ErrBegins (task_of job.now) bytes (E.contents err.old) (E.contents err.new)) }
+    ensures answered { IfKnown (task_of job.now) (P.remaining program) (L.remaining log_in.old)
+        (λ bytes logged. result ≢ 4 → result ≢ 5
+        → Answered (task_of job.now) bytes logged result
+        (O.contents out.old) (O.contents out.new) (E.contents err.old) (E.contents err.new)
+        (K.contents log_out.old) (K.contents log_out.new)) }
+    ensures out_begins { IfKnown (task_of job.now) (P.remaining program) (L.remaining log_in.old)
+        (λ bytes logged. OutBegins (task_of job.now) bytes logged
+        (O.contents out.old) (O.contents out.new)
+        (K.contents log_out.old) (K.contents log_out.new)) }
+    ensures err_begins { IfKnown (task_of job.now) (P.remaining program) (L.remaining log_in.old)
+        (λ bytes logged. ErrBegins (task_of job.now) bytes logged (E.contents err.old) (E.contents err.new)) }
     ensures memory_out { result ≡ 4 → Appends (O.contents out.old) (O.contents out.new) [] }
+    ensures memory_log { result ≡ 4
+        → Appends (K.contents log_out.old) (K.contents log_out.new) [] }
     ensures memory_err { result ≡ 4
         → Appends (E.contents err.old) (E.contents err.new) memory_line }
 {
     let mut source = Counted::new(program);
-    let mut log_in = Counted::new(io::empty());
-    let mut log_out = Counted::new(io::sink());
-    serve(
-        rt.alloc(),
-        job,
-        &mut source,
-        &mut log_in,
-        out,
-        err,
-        &mut log_out,
-    )
+    serve(rt.alloc(), job, &mut source, log_in, out, err, log_out)
 }

@@ -237,8 +237,10 @@ pub fn numbers_by_calls(
 
 /// Adds a method to those that are reached, if it is new.
 fn add(reached: &mut Vec<usize>, seen: &mut [usize], n: usize) -> Result<(), AllocError>
-    ensures { OnOk result ((calls : List (List ℕ)) (start : ℕ) → AreReached calls start reached.old.items
-        → Reaches calls start n → AreReached calls start reached.new.items) }
+    ensures { OnOk result ((calls : List (List ℕ)) (start : ℕ)
+        → AreReached calls start reached.old.items
+        → Reaches calls start n
+        → AreReached calls start reached.new.items) }
 {
     if n >= seen.len() || seen[n] != 0 {
         return Ok(());
@@ -257,8 +259,10 @@ fn add_called(
     wanted: usize,
 ) -> Result<bool, AllocError>
     requires method { from < length calls.now }
-    ensures within { OnOk result ((start : ℕ) → AreReached (rows calls.now) start reached.old.items
-        → Reaches (rows calls.now) start from → AreReached (rows calls.now) start reached.new.items) }
+    ensures within { OnOk result ((start : ℕ)
+        → AreReached (rows calls.now) start reached.old.items
+        → Reaches (rows calls.now) start from
+        → AreReached (rows calls.now) start reached.new.items) }
     ensures found { result ≡ Ok true → (start : ℕ) → Reaches (rows calls.now) start from
         → Reaches (rows calls.now) start wanted }
 {

@@ -2,16 +2,6 @@ pub mod Clocks
 pub mod Arms
 pub mod Ableness
 pub mod Cores
-pub mod Runs
 pub mod Told
 pub mod Governing
-pub mod Membership
-pub mod UntouchedForms
-pub mod UntouchedOwners
-pub mod UntouchedAwaits
-pub mod Untouched
-pub mod Listing
-pub mod Turns
-pub mod Following
 pub mod Finishing
-pub mod ChoiceRows

@@ -7,8 +7,8 @@ use Rattle.xk_types.specs.declared.names.Event.{Event}
 use Rattle.xk_types.specs.declared.names.Status.{Status}
 use Rattle.xk_types.specs.declared.names.Status.TheVariants as status
 use Rattle.xk_types.specs.Code.{ModuleValue, IsWithinLimits}
-use Rattle.xk_types.specs.World.{Activity, World, instruction_at, opening}
-use Rattle.xk_types.specs.Step.{Stepped, step}
+use Rattle.xk_types.specs.World.{Activity, World, instruction_at, opening, standing_of}
+use Rattle.xk_types.specs.Step.{Stepped, step, is_registered}
 use Rattle.xk_types.specs.Schedule.{IsReached, is_enabled}
 use Rattle.xk_types.specs.Accepted.{IsAccepted}
 use Rattle.xk_core.specs.Arm.{grows, starts}
@@ -72,6 +72,10 @@ IsLeastEnabled m w a = (is_enabled m w a ≡ true) × ((b : ℕ) → b < a → i
 -- who opened the finish that governs activity a
 abbrev pub governor : World → ℕ → Option ℕ
 governor w a = option_and_then (λ act. act.governed.owner) (slice_get w.activities a)
+
+-- activity a is registered on clock c
+abbrev pub is_registered_on : World → ℕ → ℕ → Bool
+is_registered_on w a c = option_map_or (λ k. is_registered (standing_of k a)) (slice_get w.clocks c) false
 
 -- no clock advanced in the step that led to this world
 abbrev pub is_quiet : World → Bool

@@ -4,8 +4,4 @@ pub mod Joining
 pub mod Able
 pub mod Opening
 pub mod Core
-pub mod Schedules
 pub mod Told
-pub mod Choosing
-pub mod Listing
-pub mod Driving

@@ -1,7 +1,7 @@
 //! What a step does to the standings of its activity.
 
 ghost use Rattle.std.specs.Prelude.{◌≡◌};
-ghost use Rattle.xk_types.specs.Step.{is_signalled, is_pending, advanced};
+ghost use Rattle.xk_types.specs.Step.{is_registered, is_signalled, is_pending, advanced};
 ghost use Rattle.xk_core.specs.Change.{standing_after, standing_after_step};
 
 use xk_types::Standing;
@@ -53,6 +53,13 @@ impl StepChange {
             StepChange::All(one) => one.of(s),
         }
     }
+}
+
+/// Whether it is a registration.
+pub fn is_registered(s: Standing) -> bool
+    ensures { result ≡ is_registered s }
+{
+    !matches!(s, Standing::Apart)
 }
 
 /// Whether it is a registration that has resumed the clock, which hasn't advanced since.

@@ -5,12 +5,13 @@ ghost use Rattle.xk_types.specs.World.{opening};
 ghost use Rattle.xk_types.specs.Step.{Stepped, step};
 ghost use Rattle.xk_types.specs.Schedule.{IsReached, is_enabled, all_ended};
 ghost use Rattle.xk_types.specs.Bound.{steps_bound};
-ghost use Rattle.xk_core.specs.Core.{next_instruction, next_of, governor, opening_core, StepsTo, WantsMemory, IsCore, IsLeastEnabled, is_about_to_start, is_quiet};
+ghost use Rattle.xk_core.specs.Core.{next_instruction, next_of, governor, opening_core, StepsTo, WantsMemory, IsCore, IsLeastEnabled, is_about_to_start, is_quiet, is_registered_on};
 ghost use Rattle.xk_core.specs.Able.{is_kept};
 ghost use Rattle.xk_core.specs.Told.{is_end};
 ghost use Rattle.xk_core.specs.Arm.{grows, concerns_finishes};
 ghost use Rattle.xk_types.specs.declared.instr.Instr.TheVariants as instruction;
 
+use crate::change::is_registered;
 use crate::state::State;
 use std::alloc::{AllocError, Global};
 use std::marker::Model;
@@ -177,9 +178,21 @@ impl<'m> Core<'m> {
         }
     }
 
+    /// Whether the activity is registered on the clock: it made the clock or was given it, and has neither dropped it nor ended.
+    pub fn registered(&self, act: Act, clock: ClockId) -> bool
+        requires activity { act < length self.now.world.activities }
+        requires clock { clock < length self.now.world.clocks }
+        ensures { result ≡ is_registered_on self.now.world act clock }
+    {
+        match self.state.clock(clock.0 as usize) {
+            Some(c) => is_registered(c.standing(act.0 as usize)),
+            None => false,
+        }
+    }
+
     /// Whether the activity is about to start another.
     #[inline(always)]
-    pub(crate) fn is_about_to_start(&self, act: Act) -> bool
+    pub fn is_about_to_start(&self, act: Act) -> bool
         ensures { result ≡ is_about_to_start self.now.module_run self.now.world act }
     {
         match self.next_instruction(act.0 as usize) {
@@ -190,14 +203,14 @@ impl<'m> Core<'m> {
 
     /// Whether no clock advanced in the last step.
     #[inline(always)]
-    pub(crate) fn is_quiet(&self) -> bool
+    pub fn is_quiet(&self) -> bool
         ensures { result ≡ is_quiet self.now.world }
     {
         self.state.is_quiet()
     }
 
     /// The activity that opened the finish which governs this one, if one did.
-    pub(crate) fn governor(&self, act: Act) -> Option<Act>
+    pub fn governor(&self, act: Act) -> Option<Act>
         requires { act < length self.now.world.activities }
         ensures { result ≡ governor self.now.world act }
     {

@@ -34,4 +34,11 @@ impl Log {
     {
         &self.entries
     }
+
+    /// Its entries, taken out.
+    pub fn into_entries(self) -> Vec<Entry>
+        ensures { result.items ≡ self }
+    {
+        self.entries
+    }
 }

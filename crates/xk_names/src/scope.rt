@@ -95,7 +95,8 @@ impl<'t> Scope<'t> {
 
     // Forgets what was declared since so many names were visible.
     pub fn cut(&mut self, len: usize)
-        ensures behind { (before : Seen) (ds : List Declaration) → self.old ≡ with_declared before ds
+        ensures behind { (before : Seen) (ds : List Declaration)
+            → self.old ≡ with_declared before ds
             → len ≡ length before.names → self.new ≡ before }
         ensures after { (before : Seen) (ss : Statements) → self.old ≡ after before ss
             → len ≡ length before.names → self.new ≡ before }

@@ -6,7 +6,8 @@ use crate::programs::{IN_STEP, accepted};
 use std::alloc::Global;
 use std::test::Fail;
 use xk_bounds::Verified;
-use xk_core::{Chooser, Core, Ended, drive};
+use xk_core::Core;
+use xk_drive::{Chooser, Ended, drive};
 use xk_types::Entry;
 
 /// Answers a place beyond the end of each list.

@@ -8,7 +8,8 @@ use crate::programs::{
 use std::alloc::{AllocError, Global};
 use std::test::Fail;
 use xk_bounds::Verified;
-use xk_core::{Core, Halt, Ran, laws, run_schedule};
+use xk_core::{Core, laws};
+use xk_drive::{Halt, Ran, run_schedule};
 use xk_types::{Act, ClockId, Event};
 
 /// A program, a schedule of it, and what is known of that run: where the schedule is halted, else what is seen on the way; then the phase

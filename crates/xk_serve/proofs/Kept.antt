@@ -1,5 +1,5 @@
 -- Of a source text that is too long no more than one byte too many is kept: what stands against that stands against the whole text.
-use Rattle.std.proofs.Common.{◌≡◌, ◌+◌, ◌<◌, ◌≤◌, ℕ, List, length, take, min, Option, Some, None, inl, inr, arith, ap, ◌∙◌, subst}
+use Rattle.std.proofs.Common.{◌≡◌, ◌+◌, ◌<◌, ◌≤◌, ℕ, List, [], length, take, min, refl, Option, Some, None, inl, inr, arith, ap, ◌∙◌, subst}
 use Rattle.std.proofs.lemmas.List.{length-take, take_all}
 use Rattle.std.specs.Prelude.{IfSome}
 use Rattle.xk_types.specs.Code.{ModuleValue}
@@ -12,9 +12,8 @@ use Rattle.xk_serve.specs.declared.fault.Fault.{Fault}
 use Rattle.xk_serve.specs.declared.fault.Fault.TheVariants as fault
 use Rattle.xk_serve.specs.Programs.{Gives, IsNoModule, IsNoSource, longest_source}
 use Rattle.xk_serve.specs.Bytes.{kept}
-use Rattle.xk_serve.specs.Answer.{FailsBy, Succeeds, Task}
-use Rattle.xk_serve.specs.Lines.{done_text}
-use Rattle.xk_serve.specs.Serving.{Prints, StandsAgainst}
+use Rattle.xk_serve.specs.Answer.{FailsBy, GivesAccepted, Succeeds, Task}
+use Rattle.xk_serve.specs.Serving.{AgainstLog, IfKnown, IsRead, Reads, StandsAgainst, read_of}
 
 -- a front that is shorter than it may be is the whole
 whole : (n : ℕ) (bytes known : List ℕ) → bytes ≡ take (n + 1) known → length bytes ≤ n → bytes ≡ known
@@ -39,36 +38,72 @@ kept_source bytes known f e (inr (inl h)) = subst (λ b. IsNoSource b f) (whole 
 kept_source bytes known f e (inr (inr (inl h))) = subst (λ b. IsNoSource b f) (whole longest_source bytes known e h.0) (inr (inr (inl h)))
 kept_source bytes known f e (inr (inr (inr h))) = subst (λ b. IsNoSource b f) (whole longest_source bytes known e h.1.1.short) (inr (inr (inr h)))
 
-kept_fails : (t : Task) (bytes known : List ℕ) (f : Fault) → bytes ≡ kept t.form known → FailsBy t bytes f → FailsBy t known f
-kept_fails t bytes known (fault.Text f) e h =
-    (h.0, subst (λ b. IsNoModule b f) (subst (λ what. bytes ≡ kept what known) h.0 e) h.1)
-kept_fails t bytes known (fault.Front f) e h = (h.0, kept_source bytes known f (subst (λ what. bytes ≡ kept what known) h.0 e) h.1)
-kept_fails t bytes known (fault.Refused (refusal.Shape r)) e h = (h.0, (h.1.0, kept_gives t.form bytes known h.1.0 e h.1.1, h.1.2))
-kept_fails t bytes known (fault.Refused (refusal.Kind r)) e h = (h.0, (h.1.0, kept_gives t.form bytes known h.1.0 e h.1.1, h.1.2))
-kept_fails t bytes known (fault.Refused (refusal.Bound r)) e h = (h.0, (h.1.0, kept_gives t.form bytes known h.1.0 e h.1.1, h.1.2))
-kept_fails t bytes known (fault.Refused refusal.OutOfMemory) e h = absurd h
-kept_fails t bytes known fault.OutOfMemory e h = tt
-kept_fails t bytes known fault.Device e h = absurd h
+kept_accepted : (t : Task) (bytes known : List ℕ) (P : ModuleValue → Type 0) → bytes ≡ kept t.form known → GivesAccepted t bytes P → GivesAccepted t known P
+kept_accepted t bytes known P e h = (h.0, kept_gives t.form bytes known h.0 e h.1, h.2, h.3)
 
-kept_succeeds : (t : Task) (bytes known : List ℕ) (d : Done) → bytes ≡ kept t.form known → Succeeds t bytes d → Succeeds t known d
-kept_succeeds t bytes known d e h = record { of = h.of; given = kept_gives t.form bytes known h.of e h.given; done = h.done }
+kept_fails : (t : Task) (bytes known logged : List ℕ) (f : Fault) → bytes ≡ kept t.form known → FailsBy t bytes logged f → FailsBy t known logged f
+kept_fails t bytes known logged (fault.Text f) e h =
+    (h.0, subst (λ b. IsNoModule b f) (subst (λ what. bytes ≡ kept what known) h.0 e) h.1)
+kept_fails t bytes known logged (fault.Front f) e h = (h.0, kept_source bytes known f (subst (λ what. bytes ≡ kept what known) h.0 e) h.1)
+kept_fails t bytes known logged (fault.Refused (refusal.Shape r)) e h = (h.0, (h.1.0, kept_gives t.form bytes known h.1.0 e h.1.1, h.1.2))
+kept_fails t bytes known logged (fault.Refused (refusal.Kind r)) e h = (h.0, (h.1.0, kept_gives t.form bytes known h.1.0 e h.1.1, h.1.2))
+kept_fails t bytes known logged (fault.Refused (refusal.Bound r)) e h = (h.0, (h.1.0, kept_gives t.form bytes known h.1.0 e h.1.1, h.1.2))
+kept_fails t bytes known logged (fault.Refused refusal.OutOfMemory) e h = absurd h
+kept_fails t bytes known logged (fault.Grammar line) e h = (h.0, kept_accepted t bytes known _ e h.1)
+kept_fails t bytes known logged fault.Truncated e h = (h.0, kept_accepted t bytes known _ e h.1)
+kept_fails t bytes known logged (fault.NotEnabled i) e h = (h.0, kept_accepted t bytes known _ e h.1)
+kept_fails t bytes known logged fault.NotEnded e h = (h.0, kept_accepted t bytes known _ e h.1)
+kept_fails t bytes known logged fault.OutOfMemory e h = tt
+kept_fails t bytes known logged fault.Device e h = absurd h
+
+kept_succeeds : (t : Task) (bytes known logged : List ℕ) (d : Done) → bytes ≡ kept t.form known → Succeeds t bytes logged d → Succeeds t known logged d
+kept_succeeds t bytes known logged d e h = record { of = h.of; given = kept_gives t.form bytes known h.of e h.given; done = h.done }
+
+-- what follows for each list follows for one that is known
+of_each : (P Q : List ℕ → Type 0) (known : Option (List ℕ)) → ((xs : List ℕ) → P xs → Q xs) → IfSome known P → IfSome known Q
+of_each P Q None f h = tt
+of_each P Q (Some xs) f h = f xs h
 
 -- a success with the bytes kept is one with those that are known
-pub kept_prints : (t : Task) (known : Option (List ℕ)) (bytes text : List ℕ) (d : Done) → IfSome known (λ k. bytes ≡ kept t.form k)
-    → Succeeds t bytes d → text ≡ done_text d → IfSome known (λ k. Prints t k text)
-kept_prints t None bytes text d e h is = tt
-kept_prints t (Some k) bytes text d e h is = (d, kept_succeeds t bytes k d e h, is)
+pub kept_done : (t : Task) (known logged : Option (List ℕ)) (bytes : List ℕ) (d : Done) → IfSome known (λ k. bytes ≡ kept t.form k)
+    → IfSome (read_of t logged) (λ log. Succeeds t bytes log d) → IfKnown t known logged (λ k log. Succeeds t k log d)
+kept_done t None logged bytes d e h = tt
+kept_done t (Some k) logged bytes d e h = of_each _ _ (read_of t logged) (λ log s. kept_succeeds t bytes k log d e s) h
+
+-- the same of the faults that are no device's
+stands : (t : Task) (known logged : Option (List ℕ)) (bytes : List ℕ) (n : Reads) (f : Fault) → n.program_new ≡ n.program_old → n.log_new ≡ n.log_old
+    → IfSome known (λ k. bytes ≡ kept t.form k) → IfSome (read_of t logged) (λ log. FailsBy t bytes log f)
+    → IsRead n × IfKnown t known logged (λ k log. FailsBy t k log f)
+stands t None logged bytes n f s l e h = ((s, l), tt)
+stands t (Some k) logged bytes n f s l e h = ((s, l), of_each _ _ (read_of t logged) (λ log p. kept_fails t bytes k log f e p) h)
 
 -- a fault with the bytes kept is one with those that are known
-pub kept_stands : (t : Task) (known : Option (List ℕ)) (bytes : List ℕ) (old new : ℕ) (f : Fault) → new ≡ old
-    → IfSome known (λ k. bytes ≡ kept t.form k) → FailsBy t bytes f → StandsAgainst t known old new f
-kept_stands t None bytes old new (fault.Text f) s e h = (s, tt)
-kept_stands t None bytes old new (fault.Front f) s e h = (s, tt)
-kept_stands t None bytes old new (fault.Refused r) s e h = (s, tt)
-kept_stands t None bytes old new fault.OutOfMemory s e h = (s, tt)
-kept_stands t None bytes old new fault.Device s e h = absurd h
-kept_stands t (Some k) bytes old new (fault.Text f) s e h = (s, kept_fails t bytes k (fault.Text f) e h)
-kept_stands t (Some k) bytes old new (fault.Front f) s e h = (s, kept_fails t bytes k (fault.Front f) e h)
-kept_stands t (Some k) bytes old new (fault.Refused r) s e h = (s, kept_fails t bytes k (fault.Refused r) e h)
-kept_stands t (Some k) bytes old new fault.OutOfMemory s e h = (s, tt)
-kept_stands t (Some k) bytes old new fault.Device s e h = absurd h
+pub kept_stands : (t : Task) (known logged : Option (List ℕ)) (bytes : List ℕ) (n : Reads) (f : Fault) → n.program_new ≡ n.program_old
+    → IfSome known (λ k. bytes ≡ kept t.form k) → AgainstLog t bytes logged n.log_old n.log_new f → StandsAgainst t known logged n f
+kept_stands t known logged bytes n (fault.Text f) s e h = stands t known logged bytes n (fault.Text f) s h.0 e h.1
+kept_stands t known logged bytes n (fault.Front f) s e h = stands t known logged bytes n (fault.Front f) s h.0 e h.1
+kept_stands t known logged bytes n (fault.Refused r) s e h = stands t known logged bytes n (fault.Refused r) s h.0 e h.1
+kept_stands t known logged bytes n (fault.Grammar line) s e h = stands t known logged bytes n (fault.Grammar line) s h.0 e h.1
+kept_stands t known logged bytes n fault.Truncated s e h = stands t known logged bytes n fault.Truncated s h.0 e h.1
+kept_stands t known logged bytes n (fault.NotEnabled i) s e h = stands t known logged bytes n (fault.NotEnabled i) s h.0 e h.1
+kept_stands t known logged bytes n fault.NotEnded s e h = stands t known logged bytes n fault.NotEnded s h.0 e h.1
+kept_stands t known logged bytes n fault.OutOfMemory s e h = stands t known logged bytes n fault.OutOfMemory s h.0 e h.1
+kept_stands t known logged bytes n fault.Device s e h = inr h
+
+-- what holds of each list holds of the one that is known, if any is
+of_any : (P : List ℕ → Type 0) (known : Option (List ℕ)) → ((xs : List ℕ) → P xs) → IfSome known P
+of_any P None h = tt
+of_any P (Some xs) h = h xs
+
+-- what stands against the task whatever log there is stands against it where no log was read
+pub against_any : (t : Task) (bytes : List ℕ) (known : Option (List ℕ)) (n : ℕ) (f : Fault) → ((logged : List ℕ) → FailsBy t bytes logged f)
+    → AgainstLog t bytes known n n f
+against_any t bytes known n (fault.Text f) h = (refl, of_any _ (read_of t known) h)
+against_any t bytes known n (fault.Front f) h = (refl, of_any _ (read_of t known) h)
+against_any t bytes known n (fault.Refused r) h = (refl, of_any _ (read_of t known) h)
+against_any t bytes known n (fault.Grammar line) h = (refl, of_any _ (read_of t known) h)
+against_any t bytes known n fault.Truncated h = (refl, of_any _ (read_of t known) h)
+against_any t bytes known n (fault.NotEnabled i) h = (refl, of_any _ (read_of t known) h)
+against_any t bytes known n fault.NotEnded h = (refl, of_any _ (read_of t known) h)
+against_any t bytes known n fault.OutOfMemory h = (refl, of_any _ (read_of t known) h)
+against_any t bytes known n fault.Device h = absurd (h [])

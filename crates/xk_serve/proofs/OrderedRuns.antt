@@ -1,17 +1,19 @@
 -- How a run in an order goes on by a step, and comes to its end.
-use Rattle.std.proofs.Common.{◌≡◌, ℕ, ℤ, List, [], ◌∷◌, ◌++◌, refl, sym, ap, subst, ◌∙◌}
+use Rattle.std.proofs.Common.{◌≡◌, ℕ, ℤ, List, [], ◌∷◌, ◌++◌, true, refl, sym, ap, subst, ◌∙◌}
 use Rattle.std.specs.Option.{option_to_list}
+use Rattle.xk_types.specs.declared.names.Entry.{Entry}
 use Rattle.xk_types.specs.declared.names.Event.{Event}
 use Rattle.xk_types.specs.Code.{ModuleValue}
 use Rattle.xk_types.specs.World.{World, opening}
 use Rattle.xk_types.specs.Step.{Outcome, Blocked, Wrong, Stepped, step}
-use Rattle.xk_types.specs.Schedule.{Leads, number_printed, printed}
+use Rattle.xk_types.specs.Schedule.{Leads, all_ended, number_printed, printed}
+use Rattle.xk_types.specs.Logs.{schedule_of}
 use Rattle.xk_core.specs.Core.{CoreValue}
-use Rattle.xk_core.specs.Choosing.{enabled_in, Names, Follows, goes_on, state_after}
-use Rattle.xk_core.specs.Driving.{IsTurn}
-use Rattle.xk_serve.specs.OrderedRun.{IsRunThat}
+use Rattle.xk_drive.specs.Choosing.{enabled_in, Names, Follows, goes_on, state_after}
+use Rattle.xk_drive.specs.Driving.{IsChosen, IsRunOf, IsTurn}
+use Rattle.xk_serve.specs.OrderedRun.{IsLogThat, IsRunThat}
 use Rattle.xk_laws.proofs.Reached.{run_more}
-use Rattle.xk_core.proofs.Following.{follows_more, printed_more, state_more}
+use Rattle.xk_drive.proofs.Following.{follows_more, printed_more, state_more}
 
 -- A list that follows a chooser, which began in state b, leads here, and printed these numbers; the chooser is in state s.
 pub record IsFront {S : Type 0} (answer : S → List ℕ → ℕ) (after : S → List ℕ → S) (m : ModuleValue) (b : S) (w : World) (s : S) (numbers : List ℤ) : Type 0 where
@@ -60,15 +62,44 @@ follows_any : {S : Type 0} (place : List ℕ → ℕ) (m : ModuleValue) (s : S) 
 follows_any place m s [] w h = tt
 follows_any place m s (a ∷ list) w h = (h.0, goes_on_weaker (step m w a) _ _ (λ v k. follows_any place m s list v k) h.1)
 
-pub without_state : {S : Type 0} (place : List ℕ → ℕ) (m : ModuleValue) (s : S) (numbers : List ℤ) (steps : ℕ)
-    → IsRunThat (Follows {S = S} (λ z enabled. place enabled) (λ z enabled. z) m s (opening m)) m numbers steps
-    → IsRunThat (Follows {S = Unit {0}} (λ z enabled. place enabled) (λ z enabled. z) m tt (opening m)) m numbers steps
-without_state place m s numbers steps r = record {
+-- a run that follows what follows from something else
+run_weaker : (P Q : List ℕ → Type 0) (m : ModuleValue) (numbers : List ℤ) (steps : ℕ) → ((list : List ℕ) → P list → Q list)
+    → IsRunThat P m numbers steps → IsRunThat Q m numbers steps
+run_weaker P Q m numbers steps f r = record {
   list = r.list;
   last = r.last;
-  follows = follows_any place m s r.list (opening m) r.follows;
+  follows = f r.list r.follows;
   leads = r.leads;
   over = r.over;
   numbers_are = r.numbers_are;
   steps_are = r.steps_are;
 }
+
+pub without_state : {S : Type 0} (place : List ℕ → ℕ) (m : ModuleValue) (s : S) (numbers : List ℤ) (steps : ℕ)
+    → IsRunThat (Follows {S = S} (λ z enabled. place enabled) (λ z enabled. z) m s (opening m)) m numbers steps
+    → IsRunThat (Follows {S = Unit {0}} (λ z enabled. place enabled) (λ z enabled. z) m tt (opening m)) m numbers steps
+without_state place m s numbers steps r = run_weaker _ _ m numbers steps (λ list h. follows_any place m s list (opening m) h) r
+
+-- ---- logs
+
+pub log_without_state : {S : Type 0} (place : List ℕ → ℕ) (m : ModuleValue) (s : S) (log : List Entry) (numbers : List ℤ) (steps : ℕ)
+    → IsRunThat (IsLogThat (Follows {S = S} (λ z enabled. place enabled) (λ z enabled. z) m s (opening m)) log) m numbers steps
+    → IsRunThat (IsLogThat (Follows {S = Unit {0}} (λ z enabled. place enabled) (λ z enabled. z) m tt (opening m)) log) m numbers steps
+log_without_state place m s log numbers steps r = run_weaker _ _ m numbers steps
+    (λ list h. record { follows = follows_any place m s list (opening m) h.follows; stands_for = h.stands_for; single = h.single }) r
+
+-- a run that was driven to its end
+pub logged_run : {S : Type 0} (answer : S → List ℕ → ℕ) (after : S → List ℕ → S) (m n : ModuleValue) (s t : S) (log : List Entry) (numbers : List ℤ)
+    (c : CoreValue) (steps : ℕ) → n ≡ m → IsChosen answer after m s log t → IsRunOf n log numbers c → all_ended c.world ≡ true → steps ≡ c.world.steps
+    → IsRunThat (IsLogThat (Follows answer after m s (opening m)) log) m numbers steps
+logged_run answer after m n s t log numbers c steps same chosen run over counted =
+    let run_of = subst (λ k. IsRunOf k log numbers c) same run in
+    record {
+      list = schedule_of log;
+      last = c.world;
+      follows = record { follows = chosen.follows; stands_for = refl; single = chosen.single };
+      leads = run_of.leads;
+      over = over;
+      numbers_are = run_of.prints;
+      steps_are = counted;
+    }

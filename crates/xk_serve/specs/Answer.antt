@@ -1,5 +1,5 @@
 -- What the program answers: which status and texts a job and the bytes of its file may have.
-use Rattle.std.specs.Prelude.{◌≡◌, ◌≢◌, ℕ, ⊤, ◌⊎◌, List, [], unwrap_or, string_bytes}
+use Rattle.std.specs.Prelude.{◌≡◌, ◌≢◌, ℕ, ⊤, ◌⊎◌, ℤ, Bool, true, false, List, [], Option, Some, None, is_some, unwrap_or, string_bytes}
 use Rattle.serde_json.specs.Written.{compact_text}
 use Rattle.xk_types.specs.Code.{ModuleValue}
 use Rattle.xk_types.specs.Bound.{steps_bound, activities_bound, clocks_bound}
@@ -18,55 +18,115 @@ use Rattle.xk_serve.specs.declared.done.Done.{Done}
 use Rattle.xk_serve.specs.declared.done.Done.TheVariants as done
 use Rattle.xk_serve.specs.declared.fault.Fault.{Fault}
 use Rattle.xk_serve.specs.declared.fault.Fault.TheVariants as fault
-use Rattle.xk_serve.specs.OrderedRun.{IsOrderedRun}
-use Rattle.xk_serve.specs.Lines.{done_text, fault_line, status_of}
+use Rattle.xk_types.specs.declared.names.Entry.{Entry}
+use Rattle.xk_log.specs.Places.{IsTruncated, IsWrongAt, Says, Whole}
+use Rattle.xk_replay.specs.Chart.{chart_text}
+use Rattle.xk_replay.specs.Replay.{IsStoppedAt, IsUnfinished}
+use Rattle.xk_serve.specs.OrderedRun.{IsLoggedRun, IsOrderedRun, IsReplay, IsWholeRun}
+use Rattle.xk_serve.specs.Lines.{done_log, done_text, fault_line, status_of}
 use Rattle.xk_serve.specs.Programs.{Gives, IsNoModule, IsNoSource}
 
--- what is to be done with a file: a command, what stands in the file, and the order of a run's steps
+-- what is to be done with a module; a run is in an order, and has its log kept or not
+pub data Doing : Type 0 where
+  Check : Doing
+  Compile : Doing
+  Run : Order → Bool → Doing
+  Replay : Doing
+  Chart : Doing
+
+-- whether a log is read
+abbrev pub reads_log : Doing → Bool
+reads_log Replay = true
+reads_log Chart = true
+reads_log _ = false
+
+-- a run's order is `first` where none was given, and its log is kept where there is a path for it
+abbrev pub doing_of : Command → Doing
+doing_of command.Check = Check
+doing_of command.Compile = Compile
+doing_of (command.Run given path) = Run (unwrap_or given order.First) (is_some path)
+doing_of (command.Replay log) = Replay
+doing_of (command.Chart log) = Chart
+
+-- what is to be done with a file, and what stands in it
 pub record Task : Type 0 where
-  pub command : Command
+  pub doing : Doing
   pub form : Form
-  pub order : Order
 
--- a run's order is `first` where none was given
 abbrev pub task_of : Job → Task
-task_of job = record { command = job.command; form = job.form; order = unwrap_or job.order order.First }
+task_of job = record { doing = doing_of job.command; form = job.form }
 
--- what a task on a module comes to: for `compile` the text of the module; for `check` its bounds and for `run` its run in the order, where
--- the module is accepted
-abbrev pub ComesTo : Task → ModuleValue → Done → Type 0
-ComesTo t m (done.Compiled text) = (t.command ≡ command.Compile) × (string_bytes text ≡ compact_text (module_value m))
-ComesTo t m (done.Accepted steps activities clocks) =
-    (t.command ≡ command.Check) × IsAccepted m × (steps ≡ steps_bound m) × (activities ≡ activities_bound m) × (clocks ≡ clocks_bound m)
-ComesTo t m (done.Ended numbers steps) = (t.command ≡ command.Run) × IsAccepted m × IsOrderedRun t.order m numbers.items steps
+-- these bytes are the text of a log of these entries
+abbrev pub IsLogText : List ℕ → List Entry → Type 0
+IsLogText bytes es = Says (Whole es) bytes
 
--- the bytes give a module, and the task on it comes to that
-pub record Succeeds (t : Task) (bytes : List ℕ) (d : Done) : Type 0 where
+-- a whole run again, by the log in these bytes
+abbrev pub Replays : ModuleValue → List ℕ → List ℤ → ℕ → Type 0
+Replays m logged numbers steps = (es : List Entry) × IsLogText logged es × IsReplay m es numbers steps
+
+-- the chart of a whole run, by the log in these bytes
+abbrev pub Charts : ModuleValue → List ℕ → List ℕ → Type 0
+Charts m logged text = (es : List Entry) × IsLogText logged es × IsWholeRun m es × (text ≡ chart_text m es)
+
+-- What is to be done with a module, and with the bytes of a log where one is read, comes to this: for `compile` the text of the module; where
+-- the module is accepted, for `check` its bounds, for `run` its run in the order, for `replay` and `chart` the run that the log has.
+abbrev pub ComesTo : Doing → ModuleValue → List ℕ → Done → Type 0
+ComesTo Compile m logged (done.Compiled text) = string_bytes text ≡ compact_text (module_value m)
+ComesTo Check m logged (done.Accepted steps activities clocks) =
+    IsAccepted m × (steps ≡ steps_bound m) × (activities ≡ activities_bound m) × (clocks ≡ clocks_bound m)
+ComesTo (Run o false) m logged (done.Ended numbers steps None) = IsAccepted m × IsOrderedRun o m numbers.items steps
+ComesTo (Run o true) m logged (done.Ended numbers steps (Some log)) = IsAccepted m × IsLoggedRun o m numbers.items steps log.items
+ComesTo Replay m logged (done.Ended numbers steps None) = IsAccepted m × Replays m logged numbers.items steps
+ComesTo Chart m logged (done.Charted text) = IsAccepted m × Charts m logged (string_bytes text)
+ComesTo _ m logged _ = ⊥
+
+-- the bytes give a module, and the task on it, and on the log, comes to that
+pub record Succeeds (t : Task) (bytes logged : List ℕ) (d : Done) : Type 0 where
   pub of : ModuleValue
   pub given : Gives t.form bytes of
-  pub done : ComesTo t of d
+  pub done : ComesTo t.doing of logged d
 
--- The fault is one of the bytes, or want of memory, of which nothing is claimed. `compile` asks nothing of the verifier.
-abbrev pub FailsBy : Task → List ℕ → Fault → Type 0
-FailsBy t bytes (fault.Text f) = (t.form ≡ form.Module) × IsNoModule bytes f
-FailsBy t bytes (fault.Front f) = (t.form ≡ form.Source) × IsNoSource bytes f
-FailsBy t bytes (fault.Refused refusal.OutOfMemory) = ⊥
-FailsBy t bytes (fault.Refused r) = (t.command ≢ command.Compile) × ((m : ModuleValue) × Gives t.form bytes m × Refuses m r)
-FailsBy t bytes fault.OutOfMemory = ⊤
-FailsBy t bytes fault.Device = ⊥
+-- What stands against a log of a run of the module. Of want of memory nothing is claimed.
+abbrev pub IsNoRun : ModuleValue → List ℕ → Fault → Type 0
+IsNoRun m logged (fault.Grammar line) = IsWrongAt logged line
+IsNoRun m logged fault.Truncated = IsTruncated logged
+IsNoRun m logged (fault.NotEnabled i) = (es : List Entry) × IsLogText logged es × IsStoppedAt m es i
+IsNoRun m logged fault.NotEnded = (es : List Entry) × IsLogText logged es × IsUnfinished m es
+IsNoRun m logged fault.OutOfMemory = ⊤
+IsNoRun m logged _ = ⊥
 
--- a status, and what goes to standard output and to standard error
+-- a module that is accepted is given, and this holds of it
+abbrev pub GivesAccepted : Task → List ℕ → (ModuleValue → Type 0) → Type 0
+GivesAccepted t bytes P = (m : ModuleValue) × Gives t.form bytes m × IsAccepted m × P m
+
+-- The fault is one of the bytes, or of the log's where one is read, or want of memory, of which nothing is claimed. `compile` asks nothing of
+-- the verifier. A log is looked at only where the module is accepted.
+abbrev pub FailsBy : Task → List ℕ → List ℕ → Fault → Type 0
+FailsBy t bytes logged (fault.Text f) = (t.form ≡ form.Module) × IsNoModule bytes f
+FailsBy t bytes logged (fault.Front f) = (t.form ≡ form.Source) × IsNoSource bytes f
+FailsBy t bytes logged (fault.Refused refusal.OutOfMemory) = ⊥
+FailsBy t bytes logged (fault.Refused r) = (t.doing ≢ Compile) × ((m : ModuleValue) × Gives t.form bytes m × Refuses m r)
+FailsBy t bytes logged (fault.Grammar line) = (reads_log t.doing ≡ true) × GivesAccepted t bytes (λ m. IsNoRun m logged (fault.Grammar line))
+FailsBy t bytes logged fault.Truncated = (reads_log t.doing ≡ true) × GivesAccepted t bytes (λ m. IsNoRun m logged fault.Truncated)
+FailsBy t bytes logged (fault.NotEnabled i) = (reads_log t.doing ≡ true) × GivesAccepted t bytes (λ m. IsNoRun m logged (fault.NotEnabled i))
+FailsBy t bytes logged fault.NotEnded = (reads_log t.doing ≡ true) × GivesAccepted t bytes (λ m. IsNoRun m logged fault.NotEnded)
+FailsBy t bytes logged fault.OutOfMemory = ⊤
+FailsBy t bytes logged fault.Device = ⊥
+
+-- a status, and what goes to standard output, to standard error and to the log
 pub record Reply : Type 0 where
   pub status : ℕ
   pub out : List ℕ
   pub err : List ℕ
+  pub log : List ℕ
 
 abbrev pub done_reply : Done → Reply
-done_reply d = record { status = 0; out = done_text d; err = [] }
+done_reply d = record { status = 0; out = done_text d; err = []; log = done_log d }
 
 abbrev pub fault_reply : Fault → Reply
-fault_reply f = record { status = status_of f; out = []; err = fault_line f }
+fault_reply f = record { status = status_of f; out = []; err = fault_line f; log = [] }
 
 -- the program may answer so
-abbrev pub Answers : Task → List ℕ → Reply → Type 0
-Answers t bytes r = ((d : Done) × Succeeds t bytes d × (r ≡ done_reply d)) ⊎ ((f : Fault) × FailsBy t bytes f × (r ≡ fault_reply f))
+abbrev pub Answers : Task → List ℕ → List ℕ → Reply → Type 0
+Answers t bytes logged r =
+    ((d : Done) × Succeeds t bytes logged d × (r ≡ done_reply d)) ⊎ ((f : Fault) × FailsBy t bytes logged f × (r ≡ fault_reply f))

@@ -3,6 +3,10 @@ use Rattle.xk_module.specs.declared.fault.ModuleFault.{ModuleFault}
 use Rattle.xk_module.specs.declared.fault.ModuleFault.TheVariants as text
 use Rattle.xk_tree.specs.declared.fault.FrontError.{FrontError}
 use Rattle.xk_tree.specs.declared.fault.FrontError.TheVariants as error
+use Rattle.xk_log.specs.declared.fault.LogFault.{LogFault}
+use Rattle.xk_log.specs.declared.fault.LogFault.TheVariants as log
+use Rattle.xk_replay.specs.declared.fault.ReplayFault.{ReplayFault}
+use Rattle.xk_replay.specs.declared.fault.ReplayFault.TheVariants as replay
 use Rattle.xk_bounds.specs.declared.refusal.Refusal.{Refusal}
 use Rattle.xk_bounds.specs.declared.refusal.Refusal.TheVariants as refusal
 use Rattle.xk_serve.specs.declared.fault.Fault.{Fault}
@@ -19,3 +23,14 @@ of_front error.OutOfMemory = fault.OutOfMemory
 abbrev pub of_refusal : Refusal → Fault
 of_refusal refusal.OutOfMemory = fault.OutOfMemory
 of_refusal r = fault.Refused r
+
+abbrev pub of_log : LogFault → Fault
+of_log log.Device = fault.Device
+of_log log.OutOfMemory = fault.OutOfMemory
+of_log (log.Grammar line) = fault.Grammar line
+of_log log.Truncated = fault.Truncated
+
+abbrev pub of_replay : ReplayFault → Fault
+of_replay replay.OutOfMemory = fault.OutOfMemory
+of_replay (replay.NotEnabled entry) = fault.NotEnabled entry
+of_replay replay.NotEnded = fault.NotEnded

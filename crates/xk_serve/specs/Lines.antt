@@ -1,9 +1,10 @@
 -- The lines that the program prints. Each ends in a line feed.
-use Rattle.std.specs.Prelude.{ℕ, ℤ, List, ◌++◌, flat_map, codes, decimal, Option, Some, None, string_bytes}
+use Rattle.std.specs.Prelude.{ℕ, ℤ, List, [], ◌++◌, flat_map, codes, decimal, Option, Some, None, string_bytes}
 use Rattle.std.specs.Fmt.{signed_decimal}
 use Rattle.xk_types.specs.declared.rules.Rule.{Rule}
 use Rattle.xk_types.specs.declared.rules.Visit.{Visit}
 use Rattle.xk_types.specs.Names.{rule_number, rule_name, kind_name}
+use Rattle.xk_log.specs.LogText.{log_text}
 use Rattle.xk_module.specs.Faults.{fault_label}
 use Rattle.xk_tree.specs.declared.fault.FrontFault.{FrontFault}
 use Rattle.xk_tree.specs.Fault.{front_number, front_name}
@@ -34,7 +35,15 @@ ended_line steps = codes "ended steps " ++ (decimal steps ++ codes "\n")
 abbrev pub done_text : Done → List ℕ
 done_text (done.Compiled text) = string_bytes text ++ codes "\n"
 done_text (done.Accepted steps activities clocks) = accepted_line steps activities clocks
-done_text (done.Ended printed steps) = number_lines printed.items ++ ended_line steps
+done_text (done.Charted text) = string_bytes text
+done_text (done.Ended printed steps log) = number_lines printed.items ++ ended_line steps
+
+-- ---- the log
+
+-- of a run whose log was kept
+abbrev pub done_log : Done → List ℕ
+done_log (done.Ended printed steps (Some log)) = log_text log.items
+done_log _ = []
 
 -- ---- standard error
 
@@ -83,14 +92,25 @@ refusal_line (refusal.Kind f) = line (kind_text f)
 refusal_line (refusal.Bound f) = line (bound_text f)
 refusal_line refusal.OutOfMemory = memory_line
 
+-- a fault of the log: `L1 Grammar line 2`, `L4 NotEnabled entry 3`
+abbrev pub grammar_line : ℕ → List ℕ
+grammar_line n = line (codes "L1 Grammar line " ++ decimal n)
+
+abbrev pub not_enabled_line : ℕ → List ℕ
+not_enabled_line n = line (codes "L4 NotEnabled entry " ++ decimal n)
+
 abbrev pub fault_line : Fault → List ℕ
 fault_line (fault.Text f) = label_line (fault_label f)
 fault_line (fault.Front f) = line (front_text f)
 fault_line (fault.Refused r) = refusal_line r
+fault_line (fault.Grammar n) = grammar_line n
+fault_line fault.Truncated = line (codes "L2 Truncated")
+fault_line (fault.NotEnabled n) = not_enabled_line n
+fault_line fault.NotEnded = line (codes "L5 NotEnded")
 fault_line fault.OutOfMemory = memory_line
 fault_line fault.Device = device_line
 
--- ---- statuses: 1 for a program that is refused, 4 for want of memory, 5 for a device
+-- ---- statuses: 1 for a program that is refused, 3 for a log, 4 for want of memory, 5 for a device
 
 abbrev pub label_status : Option (List ℕ) → ℕ
 label_status (Some label) = 1
@@ -106,5 +126,9 @@ abbrev pub status_of : Fault → ℕ
 status_of (fault.Text f) = label_status (fault_label f)
 status_of (fault.Front f) = 1
 status_of (fault.Refused r) = refusal_status r
+status_of (fault.Grammar n) = 3
+status_of fault.Truncated = 3
+status_of (fault.NotEnabled n) = 3
+status_of fault.NotEnded = 3
 status_of fault.OutOfMemory = 4
 status_of fault.Device = 5

@@ -1,11 +1,13 @@
 -- Runs of a module to its end, each step taken in an order.
-use Rattle.std.specs.Prelude.{◌≡◌, ℕ, ℤ, ◌-◌, true, List, length, None}
+use Rattle.std.specs.Prelude.{◌≡◌, ℕ, ℤ, ◌-◌, true, All, List, length, None}
+use Rattle.xk_types.specs.declared.names.Entry.{Entry}
 use Rattle.xk_types.specs.Code.{ModuleValue}
 use Rattle.xk_types.specs.World.{World, opening}
 use Rattle.xk_types.specs.Schedule.{Leads, all_ended, printed}
+use Rattle.xk_types.specs.Logs.{schedule_of}
 use Rattle.xk_words.specs.declared.job.Order.{Order}
 use Rattle.xk_words.specs.declared.job.Order.TheVariants as order
-use Rattle.xk_core.specs.Choosing.{Follows, turn_of, turn_after}
+use Rattle.xk_drive.specs.Choosing.{Follows, turn_of, turn_after}
 
 -- Each step of the list, from the opening world on, is one of the enabled activity that has its turn: the least; the greatest; the least
 -- of greater number than the one taken before, else the least.
@@ -27,3 +29,23 @@ pub record IsRunThat (Has : List ℕ → Type 0) (m : ModuleValue) (numbers : Li
 -- the run in this order prints these numbers, and takes so many steps
 abbrev pub IsOrderedRun : Order → ModuleValue → List ℤ → ℕ → Type 0
 IsOrderedRun o m = IsRunThat (FollowsOrder o m) m
+
+-- a run again by a log: it prints these numbers, and takes so many steps
+abbrev pub IsReplay : ModuleValue → List Entry → List ℤ → ℕ → Type 0
+IsReplay m log = IsRunThat (λ list. list ≡ schedule_of log) m
+
+-- the log is that of a whole run: it is legal, and behind it all have ended
+pub record IsWholeRun (m : ModuleValue) (log : List Entry) : Type 0 where
+  pub last : World
+  pub leads : Leads m (schedule_of log) last
+  pub over : all_ended last ≡ true
+
+-- A log of a run that follows this: an entry for each step.
+pub record IsLogThat (Has : List ℕ → Type 0) (log : List Entry) (list : List ℕ) : Type 0 where
+  pub follows : Has list
+  pub stands_for : list ≡ schedule_of log
+  pub single : All (λ e. e.steps ≡ 1) log
+
+-- the run in this order prints these numbers, takes so many steps, and has this log
+abbrev pub IsLoggedRun : Order → ModuleValue → List ℤ → ℕ → List Entry → Type 0
+IsLoggedRun o m numbers steps log = IsRunThat (IsLogThat (FollowsOrder o m) log) m numbers steps

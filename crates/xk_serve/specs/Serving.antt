@@ -1,6 +1,7 @@
 -- What the program does with its devices.
-use Rattle.std.specs.Prelude.{◌≡◌, ◌≢◌, ℕ, ◌⊎◌, List, [], Option, IfSome, string_bytes}
+use Rattle.std.specs.Prelude.{◌≡◌, ◌≢◌, ℕ, ◌⊎◌, List, [], Option, Some, IfSome, string_bytes, if◌then◌else◌}
 use Rattle.std.specs.Io.KnownBytes.{Appends}
+use Rattle.xk_types.specs.Code.{ModuleValue}
 use Rattle.xk_types.specs.Device.{Rose}
 use Rattle.xk_words.specs.declared.words_fault.WordsFault.{WordsFault}
 use Rattle.xk_words.specs.declared.words_fault.WordsFault.TheVariants as words
@@ -8,18 +9,55 @@ use Rattle.xk_serve.specs.declared.done.Done.{Done}
 use Rattle.xk_serve.specs.declared.fault.Fault.{Fault}
 use Rattle.xk_serve.specs.declared.fault.Fault.TheVariants as fault
 use Rattle.xk_serve.specs.Bytes.{AppendsBeginning}
-use Rattle.xk_serve.specs.Answer.{Answers, FailsBy, Reply, Succeeds, Task}
-use Rattle.xk_serve.specs.Lines.{done_text, fault_line, memory_line, status_of}
+use Rattle.xk_serve.specs.Answer.{Answers, FailsBy, IsNoRun, Reply, Succeeds, Task, reads_log}
+use Rattle.xk_serve.specs.Lines.{done_log, done_text, fault_line, memory_line, status_of}
 
--- the text is what a success of the task on these bytes prints
-abbrev pub Prints : Task → List ℕ → List ℕ → Type 0
-Prints t bytes text = (d : Done) × Succeeds t bytes d × (text ≡ done_text d)
+-- all that is printed of it went to standard output, and its log to the log's device
+abbrev pub IsWritten : Done → Option (List ℕ) → Option (List ℕ) → Option (List ℕ) → Option (List ℕ) → Type 0
+IsWritten d out_old out_new log_old log_new = Appends out_old out_new (done_text d) × Appends log_old log_new (done_log d)
 
--- The fault is one of the task on the known bytes, or want of memory, and then the source didn't fail; or the source failed. The
--- numbers are its failures before and after.
-abbrev pub StandsAgainst : Task → Option (List ℕ) → ℕ → ℕ → Fault → Type 0
-StandsAgainst t known old new fault.Device = Rose old new
-StandsAgainst t known old new f = (new ≡ old) × IfSome known (λ bytes. FailsBy t bytes f)
+-- standard output got a beginning of what is printed of it, and the log's device nothing; or the one got all, and the other a beginning
+abbrev pub IsBegun : Done → Option (List ℕ) → Option (List ℕ) → Option (List ℕ) → Option (List ℕ) → Type 0
+IsBegun d out_old out_new log_old log_new = (AppendsBeginning out_old out_new (done_text d) × Appends log_old log_new [])
+    ⊎ (Appends out_old out_new (done_text d) × AppendsBeginning log_old log_new (done_log d))
+
+-- the bytes of the log that a task reads, where they are known; none where it reads no log
+abbrev pub read_of : Task → Option (List ℕ) → Option (List ℕ)
+read_of t known = if reads_log t.doing then known else Some []
+
+-- the bytes of FILE and those of the log that is read are known, and this holds of them
+abbrev pub IfKnown : Task → Option (List ℕ) → Option (List ℕ) → (List ℕ → List ℕ → Type 0) → Type 0
+IfKnown t program logged P = IfSome program (λ bytes. IfSome (read_of t logged) (λ log. P bytes log))
+
+-- how often the two sources failed, before and after
+pub record Reads : Type 0 where
+  pub program_old : ℕ
+  pub program_new : ℕ
+  pub log_old : ℕ
+  pub log_new : ℕ
+
+-- neither failed
+abbrev pub IsRead : Reads → Type 0
+IsRead n = (n.program_new ≡ n.program_old) × (n.log_new ≡ n.log_old)
+
+-- one of them failed
+abbrev pub FailsToRead : Reads → Type 0
+FailsToRead n = Rose n.program_old n.program_new ⊎ Rose n.log_old n.log_new
+
+-- The fault is one of the task on the known bytes, or want of memory, and then no source failed; or one failed.
+abbrev pub StandsAgainst : Task → Option (List ℕ) → Option (List ℕ) → Reads → Fault → Type 0
+StandsAgainst t known logged n fault.Device = FailsToRead n
+StandsAgainst t known logged n f = IsRead n × IfKnown t known logged (λ bytes log. FailsBy t bytes log f)
+
+-- What stands against a task on these bytes, of which the log may still have been read: the numbers are the failures of the log's source.
+abbrev pub AgainstLog : Task → List ℕ → Option (List ℕ) → ℕ → ℕ → Fault → Type 0
+AgainstLog t bytes known old new fault.Device = Rose old new
+AgainstLog t bytes known old new f = (new ≡ old) × IfSome (read_of t known) (λ logged. FailsBy t bytes logged f)
+
+-- the same of a log of a run of the module
+abbrev pub AgainstRun : ModuleValue → Option (List ℕ) → ℕ → ℕ → Fault → Type 0
+AgainstRun m known old new fault.Device = Rose old new
+AgainstRun m known old new f = (new ≡ old) × IfSome known (λ logged. IsNoRun m logged f)
 
 -- The line was written, the sink didn't fail and the status is this one; or a beginning of the line was written, the sink
 -- failed and the status is 5.
@@ -35,24 +73,26 @@ Reports f old new faults_old faults_new result =
     ⊎ ((f ≢ fault.Device) × Tells memory_line 4 old new faults_old faults_new result)
 
 -- status and texts are an answer to the task on these bytes
-pub record Answered (t : Task) (bytes : List ℕ) (status : ℕ) (out_old out_new err_old err_new : Option (List ℕ)) : Type 0 where
+pub record Answered (t : Task) (bytes logged : List ℕ) (status : ℕ) (out_old out_new err_old err_new log_old log_new : Option (List ℕ)) : Type 0 where
   pub reply : Reply
-  pub answers : Answers t bytes reply
+  pub answers : Answers t bytes logged reply
   pub status_is : status ≡ reply.status
   pub out_is : Appends out_old out_new reply.out
   pub err_is : Appends err_old err_new reply.err
+  pub log_is : Appends log_old log_new reply.log
 
--- standard output got nothing, or a beginning of what a success of the task prints
-abbrev pub OutBegins : Task → List ℕ → Option (List ℕ) → Option (List ℕ) → Type 0
-OutBegins t bytes old new = Appends old new [] ⊎ ((d : Done) × Succeeds t bytes d × AppendsBeginning old new (done_text d))
+-- nothing was written to standard output and to the log, or a beginning of what a success of the task gives
+abbrev pub OutBegins : Task → List ℕ → List ℕ → Option (List ℕ) → Option (List ℕ) → Option (List ℕ) → Option (List ℕ) → Type 0
+OutBegins t bytes logged out_old out_new log_old log_new = (Appends out_old out_new [] × Appends log_old log_new [])
+    ⊎ ((d : Done) × Succeeds t bytes logged d × IsBegun d out_old out_new log_old log_new)
 
 -- the line of this fault may be told: a device failed, or the fault is one of the bytes
-abbrev pub IsTold : Task → List ℕ → Fault → Type 0
-IsTold t bytes f = (f ≡ fault.Device) ⊎ FailsBy t bytes f
+abbrev pub IsTold : Task → List ℕ → List ℕ → Fault → Type 0
+IsTold t bytes logged f = (f ≡ fault.Device) ⊎ FailsBy t bytes logged f
 
 -- standard error got a beginning of one such line
-abbrev pub ErrBegins : Task → List ℕ → Option (List ℕ) → Option (List ℕ) → Type 0
-ErrBegins t bytes old new = (f : Fault) × IsTold t bytes f × AppendsBeginning old new (fault_line f)
+abbrev pub ErrBegins : Task → List ℕ → List ℕ → Option (List ℕ) → Option (List ℕ) → Type 0
+ErrBegins t bytes logged old new = (f : Fault) × IsTold t bytes logged f × AppendsBeginning old new (fault_line f)
 
 -- How words that are no job are told, where the first predicate says what standard output got and with which status,
 -- and the second one the same of standard error: help goes to the one, all else to the other.

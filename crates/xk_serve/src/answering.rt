@@ -1,22 +1,38 @@
 //! The answer to a job, over values.
 
-ghost use Rattle.std.specs.Prelude.{IfOk, IfErr};
-ghost use Rattle.xk_serve.specs.Answer.{FailsBy, Succeeds, task_of};
+ghost use Rattle.std.specs.Prelude.{◌≡◌, ℕ, List, false, IfOk, IfErr, IfSome, OnOk};
+ghost use Rattle.xk_types.specs.Accepted.{IsAccepted};
+ghost use Rattle.xk_serve.specs.Answer.{ComesTo, IsLogText, Succeeds, Run, reads_log, task_of};
+ghost use Rattle.xk_serve.specs.Serving.{AgainstLog, AgainstRun, read_of};
 
 use crate::done::Done;
 use crate::fault::Fault;
+use crate::logged_run::run_with_log;
 use crate::ordered_run::run_in_order;
 use crate::programs::module_in;
-use std::alloc::Global;
-use xk_bounds::verify;
+use std::alloc::{AllocError, Global};
+use xk_bounds::{Verified, verify};
+use xk_drive::Ended;
+use xk_log::read_log;
 use xk_module::write_module;
+use xk_replay::{chart, replay};
+use xk_types::{Module, Source};
 use xk_words::{Command, Job, Order};
 
 /// What the job on a file of these bytes comes to, or what stands against it. A fault is of the text (F1 to F14, M1 to M3), of
 /// its module (V1 to V17), or want of memory; it is never `Device`.
-pub(crate) fn answer(alloc: Global, job: &Job<'_>, bytes: &[u8]) -> Result<Done, Fault>
-    ensures done { IfOk result (Succeeds (task_of job.now) bytes.now) }
-    ensures fault { IfErr result (FailsBy (task_of job.now) bytes.now) }
+pub(crate) fn answer<L: Source>(
+    alloc: Global,
+    job: &Job<'_>,
+    bytes: &[u8],
+    log_in: &mut L,
+) -> Result<Done, Fault>
+    ensures done { IfOk result (λ d. IfSome (read_of (task_of job.now) (L.remaining log_in.old))
+        (λ logged. Succeeds (task_of job.now) bytes.now logged d)) }
+    ensures no_fault { OnOk result (L.fault_count log_in.new ≡ L.fault_count log_in.old) }
+    ensures fault { IfErr result (λ f. AgainstLog (task_of job.now) bytes.now
+        (L.remaining log_in.old) (L.fault_count log_in.old) (L.fault_count log_in.new) f) }
+    ensures unread { reads_log (task_of job.now).doing ≡ false → log_in.new ≡ log_in.old }
 {
     let module = module_in(alloc, job, bytes)?;
     match job.command {
@@ -29,11 +45,69 @@ pub(crate) fn answer(alloc: Global, job: &Job<'_>, bytes: &[u8]) -> Result<Done,
                 clocks: verified.clocks(),
             })
         }
-        Command::Run => {
+        Command::Run { order, log } => {
             let verified = verify(alloc, module)?;
-            let order = job.order.unwrap_or(Order::First);
-            let (printed, steps) = run_in_order(alloc, order, &verified)?;
-            Ok(Done::Ended { printed, steps })
+            let order = order.unwrap_or(Order::First);
+            Ok(ran(alloc, order, log.is_some(), &verified)?)
+        }
+        Command::Replay { .. } => {
+            let verified = verify(alloc, module)?;
+            let ended = run_again(alloc, &verified, log_in)?;
+            let steps = ended.core.steps_done();
+            Ok(Done::Ended {
+                printed: ended.printed,
+                steps,
+                log: None,
+            })
+        }
+        Command::Chart { .. } => {
+            let verified = verify(alloc, module)?;
+            let ended = run_again(alloc, &verified, log_in)?;
+            Ok(Done::Charted(chart(alloc, &ended)?))
         }
     }
+}
+
+/// The whole run again that the log has.
+fn run_again<'m, L: Source>(
+    alloc: Global,
+    verified: &'m Verified,
+    log_in: &mut L,
+) -> Result<Ended<'m>, Fault>
+    ensures same_module { IfOk result (λ e. e.module.now ≡ verified.now) }
+    ensures log { IfOk result (λ e. IfSome (L.remaining log_in.old)
+        (λ logged. IsLogText logged e.log.items)) }
+    ensures no_fault { OnOk result (L.fault_count log_in.new ≡ L.fault_count log_in.old) }
+    ensures fault { IfErr result (AgainstRun verified.now (L.remaining log_in.old)
+        (L.fault_count log_in.old) (L.fault_count log_in.new)) }
+{
+    let log = read_log(alloc, log_in)?;
+    Ok(replay(alloc, verified, log)?)
+}
+
+/// The run of a module in this order, with its log where that is to be kept.
+fn ran(
+    alloc: Global,
+    order: Order,
+    keeps_log: bool,
+    verified: &Verified,
+) -> Result<Done, AllocError>
+    requires { IsAccepted verified.now }
+    ensures { IfOk result (λ d. (logged : List ℕ)
+        → ComesTo (Run order keeps_log) verified.now logged d) }
+{
+    if keeps_log {
+        let run = run_with_log(alloc, order, verified)?;
+        return Ok(Done::Ended {
+            printed: run.printed,
+            steps: run.steps,
+            log: Some(run.log),
+        });
+    }
+    let (printed, steps) = run_in_order(alloc, order, verified)?;
+    Ok(Done::Ended {
+        printed,
+        steps,
+        log: None,
+    })
 }

@@ -1,9 +1,12 @@
 //! What a job comes to.
 
-ghost use Rattle.std.specs.Prelude.{◌≡◌, IfOk, string_bytes};
-ghost use Rattle.xk_serve.specs.Lines.{accepted_line, done_text, ended_line, number_lines};
+ghost use Rattle.std.specs.Prelude.{◌≡◌, [], IfOk, string_bytes};
+ghost use Rattle.std.specs.Option.{option_map_or};
+ghost use Rattle.xk_log.specs.LogText.{log_text};
+ghost use Rattle.xk_serve.specs.Lines.{accepted_line, done_log, done_text, ended_line, number_lines};
 
 use std::alloc::{AllocError, Global};
+use xk_types::Entry;
 
 /// What a job comes to where nothing stands against it.
 #[derive(Debug, Drop)]
@@ -16,14 +19,31 @@ pub(crate) enum Done {
         activities: u32,
         clocks: u32,
     },
-    /// `run`: the module ran to its end, and printed these numbers.
+    /// `run`, `replay`: the module ran to its end, and printed these numbers.
     Ended {
         printed: Vec<i64>,
         steps: u64,
+        /// Who took a step after whom, where that is to be kept.
+        log: Option<Vec<Entry>>,
     },
+    /// `chart`: the run that the log has has this chart.
+    Charted(String),
 }
 
 impl Done {
+    /// The log of a run that is to have one.
+    pub(crate) fn log(&self) -> Option<&[Entry]>
+        ensures { option_map_or (λ log. log_text log.now) result [] ≡ done_log self.now }
+    {
+        match self {
+            Done::Ended { log: Some(log), .. } => Some(log),
+            Done::Ended { log: None, .. }
+            | Done::Compiled(_)
+            | Done::Accepted { .. }
+            | Done::Charted(_) => None,
+        }
+    }
+
     /// What goes to standard output.
     pub(crate) fn text(&self, alloc: Global) -> Result<String, AllocError>
         ensures { IfOk result (λ text. string_bytes text ≡ done_text self.now) }
@@ -35,7 +55,8 @@ impl Done {
                 activities,
                 clocks,
             } => accepted_line(alloc, *steps, *activities, *clocks),
-            Done::Ended { printed, steps } => {
+            Done::Charted(text) => String::from_str(alloc, text.as_str()),
+            Done::Ended { printed, steps, .. } => {
                 let mut text = number_lines(alloc, printed)?;
                 text.push_str(ended_line(alloc, *steps)?.as_str())?;
                 Ok(text)

@@ -2,12 +2,14 @@
 
 ghost use Rattle.std.specs.Prelude.{◌≡◌, IfOk, string_bytes};
 ghost use Rattle.xk_module.specs.Faults.{fault_label};
-ghost use Rattle.xk_serve.specs.Lines.{bound_text, fault_line, front_text, kind_text, label_line, label_status, line, place_text, refusal_line, refusal_status, rule_text, status_of, walk_text};
+ghost use Rattle.xk_serve.specs.Lines.{bound_text, fault_line, front_text, kind_text, label_line, label_status, grammar_line, line, not_enabled_line, place_text, refusal_line, refusal_status, rule_text, status_of, walk_text};
 
 use std::alloc::{AllocError, Global};
 use thiserror::Error;
 use xk_bounds::{BoundFault, KindFault, Refusal};
+use xk_log::{Log, LogFault};
 use xk_module::ModuleFault;
+use xk_replay::ReplayFault;
 use xk_tree::{FrontError, FrontFault};
 use xk_types::{Failed, Module, Rule, Visit};
 
@@ -23,6 +25,18 @@ pub enum Fault {
     /// The verifier refuses the module.
     #[error("{0}")]
     Refused(Refusal),
+    /// This line of LOG, from 1 on, is the first that doesn't fit its place.
+    #[error("line {0} of the log doesn't fit its place")]
+    Grammar(u64),
+    /// LOG ends before its last line does.
+    #[error("the log ends before its last line does")]
+    Truncated,
+    /// This entry of the log, from 0 on, is the first that has a step which isn't enabled.
+    #[error("entry {0} of the log has a step that isn't enabled")]
+    NotEnabled(u64),
+    /// The log stops before its run does.
+    #[error("the log stops before its run does")]
+    NotEnded,
     /// Memory ran out.
     #[error("out of memory")]
     OutOfMemory,
@@ -38,7 +52,7 @@ pub(crate) const MEMORY_LINE: &str = "x10clock: out of memory\n";
 pub(crate) const DEVICE_LINE: &str = "x10clock: device\n";
 
 impl Fault {
-    /// The status that the program ends with: 1 for a program that is refused, 4 for want of memory, 5 for a device.
+    /// The status that the program ends with: 1 for a program that is refused, 3 for a log, 4 for want of memory, 5 for a device.
     pub(crate) fn status(&self) -> u8
         ensures { result ≡ status_of self.now }
     {
@@ -46,6 +60,7 @@ impl Fault {
             Fault::Text(fault) => label_status(*fault),
             Fault::Front(_) => 1,
             Fault::Refused(refusal) => refusal_status(refusal),
+            Fault::Grammar(_) | Fault::Truncated | Fault::NotEnabled(_) | Fault::NotEnded => 3,
             Fault::OutOfMemory => 4,
             Fault::Device => 5,
         }
@@ -59,6 +74,10 @@ impl Fault {
             Fault::Text(fault) => label_line(alloc, *fault),
             Fault::Front(fault) => line(alloc, front_text(alloc, *fault)?.as_str()),
             Fault::Refused(refusal) => refusal_line(alloc, refusal),
+            Fault::Grammar(number) => grammar_line(alloc, *number),
+            Fault::Truncated => line(alloc, "L2 Truncated"),
+            Fault::NotEnabled(entry) => not_enabled_line(alloc, *entry),
+            Fault::NotEnded => line(alloc, "L5 NotEnded"),
             Fault::OutOfMemory => String::from_str(alloc, MEMORY_LINE),
             Fault::Device => String::from_str(alloc, DEVICE_LINE),
         }
@@ -125,6 +144,56 @@ impl From<(Module, Refusal)> for Fault {
             Refusal::OutOfMemory => Fault::OutOfMemory,
         }
     }
+}
+
+impl From<LogFault> for Fault {
+    ghost use Rattle.xk_serve.specs.Faults.{of_log};
+
+    ghost from_gives = { λ found fault. fault ≡ of_log found };
+
+    fn from(found: LogFault) -> Fault {
+        match found {
+            LogFault::Grammar(line) => Fault::Grammar(line),
+            LogFault::Truncated => Fault::Truncated,
+            LogFault::Device => Fault::Device,
+            LogFault::OutOfMemory => Fault::OutOfMemory,
+        }
+    }
+}
+
+impl From<(Log, ReplayFault)> for Fault {
+    ghost use Rattle.xk_serve.specs.Faults.{of_replay};
+
+    ghost from_gives = { λ refused fault. fault ≡ of_replay refused.1 };
+
+    fn from(refused: (Log, ReplayFault)) -> Fault {
+        let (_log, found) = refused;
+        match found {
+            ReplayFault::NotEnabled(entry) => Fault::NotEnabled(entry),
+            ReplayFault::NotEnded => Fault::NotEnded,
+            ReplayFault::OutOfMemory => Fault::OutOfMemory,
+        }
+    }
+}
+
+/// `L1 Grammar line 2`.
+fn grammar_line(alloc: Global, number: u64) -> Result<String, AllocError>
+    ensures { IfOk result (λ text. string_bytes text ≡ grammar_line number) }
+{
+    line(
+        alloc,
+        format!(in alloc; "L1 Grammar line {number}")?.as_str(),
+    )
+}
+
+/// `L4 NotEnabled entry 3`.
+fn not_enabled_line(alloc: Global, entry: u64) -> Result<String, AllocError>
+    ensures { IfOk result (λ text. string_bytes text ≡ not_enabled_line entry) }
+{
+    line(
+        alloc,
+        format!(in alloc; "L4 NotEnabled entry {entry}")?.as_str(),
+    )
 }
 
 /// The status of a fault of the module text.

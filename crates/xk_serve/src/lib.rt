@@ -6,6 +6,7 @@ mod bytes;
 mod done;
 mod fault;
 pub mod laws;
+mod logged_run;
 mod ordered_run;
 mod programs;
 mod serving;

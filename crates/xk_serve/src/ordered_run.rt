@@ -4,12 +4,13 @@ ghost use Rattle.std.specs.Prelude.{◌≡◌, ◌++◌, IfOk, OnOk};
 ghost use Rattle.std.specs.Option.{option_to_list};
 ghost use Rattle.xk_types.specs.World.{opening};
 ghost use Rattle.xk_types.specs.Schedule.{number_printed};
-ghost use Rattle.xk_core.specs.Choosing.{Follows};
+ghost use Rattle.xk_drive.specs.Choosing.{Follows};
 ghost use Rattle.xk_serve.specs.OrderedRun.{IsOrderedRun, IsRunThat};
 
 use std::alloc::{AllocError, Global};
 use xk_bounds::Verified;
-use xk_core::{Chooser, Core, Driver, First, Last, Round};
+use xk_core::Core;
+use xk_drive::{Chooser, Driver, First, Last, Round};
 use xk_types::Event;
 use xk_words::Order;
 

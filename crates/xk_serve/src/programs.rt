@@ -1,6 +1,6 @@
 //! From the bytes of FILE to a module.
 
-ghost use Rattle.std.specs.Prelude.{◌≡◌, ◌≤◌, length, IfOk, OnOk, IfErr, IsUtf8};
+ghost use Rattle.std.specs.Prelude.{◌≡◌, ◌≤◌, ℕ, List, length, IfOk, OnOk, IfErr, IsUtf8};
 ghost use Rattle.xk_serve.specs.Answer.{FailsBy, task_of};
 ghost use Rattle.xk_serve.specs.Programs.{Gives, IsUnfit, IsNoSource, longest_source};
 ghost use Rattle.xk_words.specs.declared.job.Form.TheVariants as form;
@@ -20,7 +20,8 @@ pub(crate) const LONGEST_SOURCE: usize = 1_048_576;
 /// The module that these bytes give, as a source text or as a module text.
 pub(crate) fn module_in(alloc: Global, job: &Job<'_>, bytes: &[u8]) -> Result<Module, Fault>
     ensures module { IfOk result (Gives job.now.form bytes.now) }
-    ensures fault { IfErr result (FailsBy (task_of job.now) bytes.now) }
+    ensures fault { IfErr result (λ f. (logged : List ℕ)
+        → FailsBy (task_of job.now) bytes.now logged f) }
 {
     match job.form {
         Form::Module => Ok(read_module(alloc, bytes)?),

@@ -1,77 +1,104 @@
 //! The program between its devices.
 
-ghost use Rattle.std.specs.Prelude.{◌≡◌, ◌≢◌, ◌⊎◌, [], IfOk, IfErr, IfSome, OnOk, string_bytes};
+ghost use Rattle.std.specs.Prelude.{◌≡◌, ◌≢◌, ◌⊎◌, false, [], IfOk, IfErr, IfSome, OnOk, OnErr, string_bytes};
 ghost use Rattle.std.specs.Io.KnownBytes.{Appends};
 ghost use Rattle.xk_types.specs.Device.{Rose};
-ghost use Rattle.xk_serve.specs.Answer.{task_of};
+ghost use Rattle.xk_serve.specs.Answer.{Succeeds, reads_log, task_of};
 ghost use Rattle.xk_serve.specs.Bytes.{AppendsBeginning, FailsRead, kept};
-ghost use Rattle.xk_serve.specs.Lines.{device_line, memory_line};
-ghost use Rattle.xk_serve.specs.Serving.{Answered, ErrBegins, OutBegins, Prints, Reports, StandsAgainst, Tells, TellsWords};
+ghost use Rattle.xk_serve.specs.Lines.{device_line, done_log, done_text, memory_line};
+ghost use Rattle.xk_serve.specs.Serving.{Answered, ErrBegins, IfKnown, IsBegun, IsWritten, OutBegins, Reports, StandsAgainst, Tells, TellsWords};
 
 use crate::answering::answer;
 use crate::bytes::{read_all, read_front, write_all};
+use crate::done::Done;
 use crate::fault::{DEVICE_LINE, Fault, MEMORY_LINE};
 use crate::programs::LONGEST_SOURCE;
 use std::alloc::Global;
-use xk_types::{Sink, Source};
+use xk_log::write_entries;
+use xk_types::{Failed, Sink, Source};
 use xk_words::{Form, Job, WordsFault};
 
-/// Reads the program, does the job, and writes what comes of it: its result to `out`, or one line to `err`. The answer is
-/// the exit status: 0 where the job is done, 1 where the program is refused, 4 where memory ran out, 5 where a device
-/// failed. Whatever the answer but 5, no read or write failed. The result is written once it is whole, so `out` stays empty
-/// but at 0 and 5, and `err` never gets more than one line. No log is read or written yet.
+/// Reads the program, does the job, and writes what comes of it: its result to `out` and then the log of a run that is to have one
+/// to `log_out`, or one line to `err`. The answer is the exit status: 0 where the job is done, 1 where the program is refused, 3 where the log is, 4
+/// where memory ran out, 5 where a device failed. Whatever the answer but 5, no read or write failed. The result is written once it
+/// is whole, so `out` and `log_out` stay empty but at 0 and 5, and `err` never gets more than one line.
 pub fn serve<P: Source, L: Source, O: Sink, E: Sink, K: Sink>(
     alloc: Global,
     job: &Job<'_>,
     program: &mut P,
-    _log_in: &mut L,
+    log_in: &mut L,
     out: &mut O,
     err: &mut E,
-    _log_out: &mut K,
+    log_out: &mut K,
 ) -> u8
-    ensures answered { IfSome (P.remaining program.old) (λ bytes. result ≢ 4 → result ≢ 5
-        → Answered (task_of job.now) bytes result
-        (O.contents out.old) (O.contents out.new) (E.contents err.old) (E.contents err.new)) }
+    ensures answered { IfKnown (task_of job.now) (P.remaining program.old) (L.remaining log_in.old)
+        (λ bytes logged. result ≢ 4 → result ≢ 5
+        → Answered (task_of job.now) bytes logged result
+        (O.contents out.old) (O.contents out.new) (E.contents err.old) (E.contents err.new)
+        (K.contents log_out.old) (K.contents log_out.new)) }
 
     // Memory and devices.
-    ensures out_begins { IfSome (P.remaining program.old) (λ bytes.
-        OutBegins (task_of job.now) bytes (O.contents out.old) (O.contents out.new)) }
-    ensures err_begins { IfSome (P.remaining program.old) (λ bytes.
-        ErrBegins (task_of job.now) bytes (E.contents err.old) (E.contents err.new)) }
+    ensures out_begins { IfKnown (task_of job.now) (P.remaining program.old) (L.remaining log_in.old)
+        (λ bytes logged. OutBegins (task_of job.now) bytes logged
+        (O.contents out.old) (O.contents out.new)
+        (K.contents log_out.old) (K.contents log_out.new)) }
+    ensures err_begins { IfKnown (task_of job.now) (P.remaining program.old) (L.remaining log_in.old)
+        (λ bytes logged. ErrBegins (task_of job.now) bytes logged (E.contents err.old) (E.contents err.new)) }
     ensures memory_out { result ≡ 4 → Appends (O.contents out.old) (O.contents out.new) [] }
+    ensures memory_log { result ≡ 4
+        → Appends (K.contents log_out.old) (K.contents log_out.new) [] }
     ensures memory_err { result ≡ 4
         → Appends (E.contents err.old) (E.contents err.new) memory_line }
     ensures faults { result ≢ 5 → (P.fault_count program.new ≡ P.fault_count program.old)
+        × (L.fault_count log_in.new ≡ L.fault_count log_in.old)
         × (O.fault_count out.new ≡ O.fault_count out.old)
-        × (E.fault_count err.new ≡ E.fault_count err.old) }
+        × (E.fault_count err.new ≡ E.fault_count err.old)
+        × (K.fault_count log_out.new ≡ K.fault_count log_out.old) }
     ensures device { result ≡ 5 → Rose (P.fault_count program.old) (P.fault_count program.new)
+        ⊎ (Rose (L.fault_count log_in.old) (L.fault_count log_in.new)
         ⊎ (Rose (O.fault_count out.old) (O.fault_count out.new)
-        ⊎ Rose (E.fault_count err.old) (E.fault_count err.new)) }
+        ⊎ (Rose (E.fault_count err.old) (E.fault_count err.new)
+        ⊎ Rose (K.fault_count log_out.old) (K.fault_count log_out.new)))) }
     ensures device_err { result ≡ 5
         → Appends (E.contents err.old) (E.contents err.new) device_line
         ⊎ Rose (E.fault_count err.old) (E.fault_count err.new) }
 
-    // The logs.
-    ensures log_in { _log_in.new ≡ _log_in.old }
-    ensures log_out { _log_out.new ≡ _log_out.old }
+    // No log is read where the job is on none.
+    ensures log_in { reads_log (task_of job.now).doing ≡ false → log_in.new ≡ log_in.old }
 {
-    match result_text(alloc, job, program) {
-        Ok(text) => print(alloc, text.as_str(), out, err),
+    match outcome(alloc, job, program, log_in) {
+        Ok((done, text)) => print(alloc, &done, text.as_str(), out, err, log_out),
         Err(fault) => report(alloc, &fault, err),
     }
 }
 
-/// What the job's result is written as.
-fn result_text<P: Source>(alloc: Global, job: &Job<'_>, program: &mut P) -> Result<String, Fault>
-    ensures done { IfOk result (λ text. IfSome (P.remaining program.old) (λ bytes.
-        Prints (task_of job.now) bytes (string_bytes text))) }
-    ensures no_fault { OnOk result (P.fault_count program.new ≡ P.fault_count program.old) }
-    ensures fault { IfErr result (StandsAgainst (task_of job.now) (P.remaining program.old)
-        (P.fault_count program.old) (P.fault_count program.new)) }
+/// What the job comes to, and what is printed of it.
+fn outcome<P: Source, L: Source>(
+    alloc: Global,
+    job: &Job<'_>,
+    program: &mut P,
+    log_in: &mut L,
+) -> Result<(Done, String), Fault>
+    ensures done { IfOk result (λ r.
+        IfKnown (task_of job.now) (P.remaining program.old) (L.remaining log_in.old)
+        (λ bytes logged. Succeeds (task_of job.now) bytes logged r.0)) }
+    ensures text { IfOk result (λ r. string_bytes r.1 ≡ done_text r.0) }
+    ensures no_fault { OnOk result ((P.fault_count program.new ≡ P.fault_count program.old)
+        × (L.fault_count log_in.new ≡ L.fault_count log_in.old)) }
+    ensures fault { IfErr result (λ f.
+        StandsAgainst (task_of job.now) (P.remaining program.old) (L.remaining log_in.old)
+        (record {
+          program_old = P.fault_count program.old;
+          program_new = P.fault_count program.new;
+          log_old = L.fault_count log_in.old;
+          log_new = L.fault_count log_in.new;
+        }) f) }
+    ensures unread { reads_log (task_of job.now).doing ≡ false → log_in.new ≡ log_in.old }
 {
     let bytes = read_program(alloc, job.form, program)?;
-    let done = answer(alloc, job, &bytes)?;
-    Ok(done.text(alloc)?)
+    let done = answer(alloc, job, &bytes, log_in)?;
+    let text = done.text(alloc)?;
+    Ok((done, text))
 }
 
 /// All that counts of the bytes in FILE: of a source text one byte more than it may have, at most.
@@ -88,22 +115,73 @@ fn read_program<P: Source>(alloc: Global, form: Form, program: &mut P) -> Result
     }
 }
 
-/// Writes the result. Where that fails, says so.
-fn print<O: Sink, E: Sink>(alloc: Global, text: &str, out: &mut O, err: &mut E) -> u8
-    ensures printed { ((result ≡ 0) × Appends (O.contents out.old) (O.contents out.new) text.now
+/// Writes the result, and then the log of a run that is to have one. Where that fails, says so.
+fn print<O: Sink, E: Sink, K: Sink>(
+    alloc: Global,
+    done: &Done,
+    text: &str,
+    out: &mut O,
+    err: &mut E,
+    log_out: &mut K,
+) -> u8
+    requires { text.now ≡ done_text done.now }
+    ensures printed { ((result ≡ 0) × IsWritten done.now (O.contents out.old) (O.contents out.new)
+        (K.contents log_out.old) (K.contents log_out.new)
         × Appends (E.contents err.old) (E.contents err.new) [])
-        ⊎ ((result ≡ 5) × Rose (O.fault_count out.old) (O.fault_count out.new)) }
+        ⊎ ((result ≡ 5) × (Rose (O.fault_count out.old) (O.fault_count out.new)
+        ⊎ Rose (K.fault_count log_out.old) (K.fault_count log_out.new))) }
     ensures told { result ≡ 5
         → Appends (E.contents err.old) (E.contents err.new) device_line
         ⊎ Rose (E.fault_count err.old) (E.fault_count err.new) }
-    ensures beginning { AppendsBeginning (O.contents out.old) (O.contents out.new) text.now }
+    ensures begun { IsBegun done.now (O.contents out.old) (O.contents out.new)
+        (K.contents log_out.old) (K.contents log_out.new) }
     ensures err_beginning { AppendsBeginning (E.contents err.old) (E.contents err.new) device_line }
     ensures faults { result ≢ 5 → (O.fault_count out.new ≡ O.fault_count out.old)
-        × (E.fault_count err.new ≡ E.fault_count err.old) }
+        × (E.fault_count err.new ≡ E.fault_count err.old)
+        × (K.fault_count log_out.new ≡ K.fault_count log_out.old) }
 {
-    match write_all(out, text.as_bytes()) {
+    match write_result(done, text, out, log_out) {
         Ok(()) => 0,
         Err(_) => report(alloc, &Fault::Device, err),
+    }
+}
+
+/// Writes the result to `out`, and then the log of a run that is to have one.
+fn write_result<O: Sink, K: Sink>(
+    done: &Done,
+    text: &str,
+    out: &mut O,
+    log_out: &mut K,
+) -> Result<(), Failed>
+    requires { text.now ≡ done_text done.now }
+    ensures all { OnOk result (IsWritten done.now (O.contents out.old) (O.contents out.new)
+        (K.contents log_out.old) (K.contents log_out.new)) }
+    ensures begun { IsBegun done.now (O.contents out.old) (O.contents out.new)
+        (K.contents log_out.old) (K.contents log_out.new) }
+    ensures no_fault { OnOk result ((O.fault_count out.new ≡ O.fault_count out.old)
+        × (K.fault_count log_out.new ≡ K.fault_count log_out.old)) }
+    ensures failed { OnErr result (Rose (O.fault_count out.old) (O.fault_count out.new)
+        ⊎ Rose (K.fault_count log_out.old) (K.fault_count log_out.new)) }
+{
+    write_all(out, text.as_bytes())?;
+    write_log(done, log_out)
+}
+
+/// Writes the log of a run that is to have one, and nothing else.
+fn write_log<K: Sink>(done: &Done, log_out: &mut K) -> Result<(), Failed>
+    ensures all { OnOk result
+        (Appends (K.contents log_out.old) (K.contents log_out.new) (done_log done.now)) }
+    ensures beginning { AppendsBeginning (K.contents log_out.old) (K.contents log_out.new) (done_log done.now) }
+    ensures no_fault { OnOk result (K.fault_count log_out.new ≡ K.fault_count log_out.old) }
+    ensures failed { OnErr result
+        (Rose (K.fault_count log_out.old) (K.fault_count log_out.new)) }
+{
+    let Some(log) = done.log() else {
+        return Ok(());
+    };
+    match write_entries(log, log_out) {
+        Ok(()) => Ok(()),
+        Err(_) => Err(Failed),
     }
 }
 
@@ -116,7 +194,13 @@ pub fn report<E: Sink>(alloc: Global, fault: &Fault, err: &mut E) -> u8
     match fault {
         Fault::OutOfMemory => tell(MEMORY_LINE, 4, err),
         Fault::Device => tell(DEVICE_LINE, 5, err),
-        Fault::Text(_) | Fault::Front(_) | Fault::Refused(_) => match fault.line(alloc) {
+        Fault::Text(_)
+        | Fault::Front(_)
+        | Fault::Refused(_)
+        | Fault::Grammar(_)
+        | Fault::Truncated
+        | Fault::NotEnabled(_)
+        | Fault::NotEnded => match fault.line(alloc) {
             Ok(line) => tell(line.as_str(), fault.status(), err),
             Err(_) => tell(MEMORY_LINE, 4, err),
         },

@@ -108,7 +108,8 @@ impl Tables {
         ensures { (u : UnitValue)
             → IsOrderly u
             → AreTables u self.now
-            → result ≡ option_map_or (λ home. not (is_one_block u at home)) (home_place u slot) false }
+            → result
+            ≡ option_map_or (λ home. not (is_one_block u at home)) (home_place u slot) false }
     {
         match self.home(slot) {
             Some(home) => !self.is_one_block(at, home),

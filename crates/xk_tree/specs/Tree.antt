@@ -1,7 +1,6 @@
 -- Trees, apart from where they lie in memory. Numbers called `at`, `paren` or `minus` are offsets in the text.
 use Rattle.std.specs.Prelude.{ℕ, List, [], ◌∷◌, map, Option, option_map}
 use Rattle.xk_types.specs.declared.instr.Comparison.{Comparison}
-use Rattle.xk_types.specs.declared.unit.ParamKind.{ParamKind}
 use Rattle.xk_tree.specs.declared.tree.Operator.{Operator}
 use Rattle.xk_tree.specs.declared.tree.Number.{Number}
 use Rattle.xk_tree.specs.declared.tree.Binding.{Binding}

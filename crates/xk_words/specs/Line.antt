@@ -38,6 +38,18 @@ on_file name = with_rule (new_app name) file_place
 abbrev pub on_either : Text → App
 on_either name = with_rule (on_file name) module_flag
 
+-- LOG, which has to be there
+abbrev pub log_place : Rule
+log_place = record (new_rule (codes "LOG")) { required = true; action = Some action.Set }
+
+-- a command on FILE and LOG
+abbrev pub on_log : Text → App
+on_log name = with_rule (on_either name) log_place
+
+-- `--log PATH`
+abbrev pub log_option : Rule
+log_option = record (new_rule (codes "PATH")) { long = Some (codes "log"); action = Some action.Set }
+
 -- texts that stand somewhere in memory
 abbrev pub Names : Type 0
 Names = Bor (List (Bor Text))
@@ -47,8 +59,12 @@ abbrev pub order_option : Names → Rule
 order_option names = record (new_rule (codes "ORDER")) { long = Some (codes "order"); action = Some action.Set; parser = Some (parser.Names names) }
 
 -- the command on FILE whose steps are taken in an order
+abbrev pub by_order : Names → App
+by_order names = with_rule (on_either (codes "run")) (order_option names)
+
+-- the same, whose log may be written
 abbrev pub run_line : Names → App
-run_line names = with_rule (on_either (codes "run")) (order_option names)
+run_line names = with_rule (by_order names) log_option
 
 -- the program with a command that has to be there
 abbrev pub program : App
@@ -56,7 +72,8 @@ program = record (new_app (codes "x10clock")) { top = record (new_app (codes "x1
 
 abbrev pub command_line : Names → App
 command_line names =
-    with_subcommand (with_subcommand (with_subcommand program (on_either (codes "check")).top) (on_file (codes "compile")).top) (run_line names).top
+    with_subcommand (with_subcommand (with_subcommand (with_subcommand (with_subcommand program
+    (on_either (codes "check")).top) (on_file (codes "compile")).top) (run_line names).top) (on_log (codes "replay")).top) (on_log (codes "chart")).top
 
 -- no argument of the command is one of its subcommands too
 abbrev pub HasNoGlobals : clap_Command → Type 0
@@ -81,20 +98,29 @@ faults_in names words = fault_of (command_line names) words
 
 -- ---- what the words ask for
 
--- a job without where its text lies in memory
+-- a command without where its texts lie in memory: a run has the order and the log's path that were given, the others on a log its path
+pub data Task : Type 0 where
+  Check : Task
+  Compile : Task
+  Run : Option Order → Option Text → Task
+  Replay : Text → Task
+  Chart : Text → Task
+
+abbrev pub task_value : Command → Task
+task_value command.Check = Check
+task_value command.Compile = Compile
+task_value (command.Run order log) = Run order (option_map (λ s. s.now) log)
+task_value (command.Replay log) = Replay log.now
+task_value (command.Chart log) = Chart log.now
+
+-- a job without where its texts lie in memory
 pub record Asked : Type 0 where
-  pub command : Command
+  pub task : Task
   pub form : Form
-  pub order : Option Order
   pub file : Text
 
 abbrev pub asked_value : Job → Asked
-asked_value job = record { command = job.command; form = job.form; order = job.order; file = job.file.now }
-
-abbrev pub command_named : Text → Option Command
-command_named name =
-    if bytes_eq name (codes "check") then Some command.Check
-    else (if bytes_eq name (codes "compile") then Some command.Compile else (if bytes_eq name (codes "run") then Some command.Run else None))
+asked_value job = record { task = task_value job.command; form = job.form; file = job.file.now }
 
 -- the value of `--module` is `true` where it was given
 abbrev pub form_named : Text → Form
@@ -113,11 +139,19 @@ order_named name =
 abbrev pub order_in : List Row → Option Order
 order_in given = option_and_then order_named (first_of (codes "ORDER") given)
 
+-- the command of a name, with what else was given to it
+abbrev pub command_by : Text → List Row → Option Task
+command_by name given =
+    if bytes_eq name (codes "check") then Some Check
+    else (if bytes_eq name (codes "compile") then Some Compile
+    else (if bytes_eq name (codes "run") then Some (Run (order_in given) (first_of (codes "PATH") given))
+    else (if bytes_eq name (codes "replay") then option_map Replay (first_of (codes "LOG") given)
+    else (if bytes_eq name (codes "chart") then option_map Chart (first_of (codes "LOG") given) else None))))
+
 -- the job of a command's name and what was given with it
 abbrev pub asked_by : Text → List Row → Option Asked
 asked_by name given =
-    option_and_then (λ c. option_map (λ file. record { command = c; form = form_in given; order = order_in given; file = file }) (first_of (codes "FILE") given))
-    (command_named name)
+    option_and_then (λ t. option_map (λ file. record { task = t; form = form_in given; file = file }) (first_of (codes "FILE") given)) (command_by name given)
 
 abbrev pub asked_in : Option (Text × List Row) → Option Asked
 asked_in found = option_and_then (λ p. asked_by p.0 p.1) found

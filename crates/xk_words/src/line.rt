@@ -1,8 +1,8 @@
 //! The command line, as `clap` reads it.
 
 ghost use Rattle.std.specs.Prelude.{◌≡◌, [], Some, None, IfOk, OnOk, IfErr, option_map};
-ghost use Rattle.clap.specs.Words.{app_of, found_of, kind_of, rows_of, subcommand_rows_of};
-ghost use Rattle.xk_words.specs.Line.{FitsKind, HasNoGlobals, IsRefused, WithOrders, asked_by, asked_in, asked_value, command_line, command_named, faults_in, form_in, form_named, job_of, on_either, on_file, order_in, order_named, run_line, texts};
+ghost use Rattle.clap.specs.Words.{app_of, first_of, found_of, kind_of, rows_of, subcommand_rows_of};
+ghost use Rattle.xk_words.specs.Line.{FitsKind, HasNoGlobals, IsRefused, WithOrders, asked_by, asked_in, asked_value, by_order, command_by, command_line, faults_in, form_in, form_named, job_of, on_either, on_file, on_log, order_in, order_named, run_line, task_value, texts};
 
 use crate::job::{Command, Form, Job, Order};
 use crate::words_fault::WordsFault;
@@ -44,17 +44,41 @@ fn line<'a>(alloc: Global) -> Result<clap::Command<'a>, AllocError>
         "Compiles a program and prints its module.",
     )?;
     let run = run_line(alloc)?;
+    let replay = on_log(
+        alloc,
+        "replay",
+        "Runs a program again as a log has it, and prints what it prints.",
+    )?;
+    let chart = on_log(
+        alloc,
+        "chart",
+        "Prints when the clocks advanced in the run that a log has.",
+    )?;
     clap::Command::new(alloc, "x10clock")
         .about("Verifies and runs clocked programs.")
         .subcommand_required(true)
         .subcommand(check)?
         .subcommand(compile)?
-        .subcommand(run)
+        .subcommand(run)?
+        .subcommand(replay)?
+        .subcommand(chart)
 }
 
 /// The command `run`.
 fn run_line<'a>(alloc: Global) -> Result<clap::Command<'a>, AllocError>
     ensures shape { IfOk result (λ c. WithOrders (λ names. app_of c ≡ run_line names)) }
+    ensures local { IfOk result HasNoGlobals }
+{
+    let log = Arg::new(alloc, "PATH")
+        .long("log")
+        .help("The file that the log of the run goes to")
+        .action(ArgAction::Set);
+    by_order(alloc)?.arg(log)
+}
+
+/// The command `run` without `--log`.
+fn by_order<'a>(alloc: Global) -> Result<clap::Command<'a>, AllocError>
+    ensures shape { IfOk result (λ c. WithOrders (λ names. app_of c ≡ by_order names)) }
     ensures local { IfOk result HasNoGlobals }
 {
     let order = Arg::new(alloc, "ORDER")
@@ -65,6 +89,18 @@ fn run_line<'a>(alloc: Global) -> Result<clap::Command<'a>, AllocError>
         .action(ArgAction::Set)
         .value_parser(ORDERS.as_slice());
     on_either(alloc, "run", "Runs a program and prints what it prints.")?.arg(order)
+}
+
+/// A command on FILE and on LOG, which is the log of a run of it.
+fn on_log<'a>(alloc: Global, name: &'a str, about: &'a str) -> Result<clap::Command<'a>, AllocError>
+    ensures shape { IfOk result (λ c. app_of c ≡ on_log name.entry.now) }
+    ensures local { IfOk result HasNoGlobals }
+{
+    let log = Arg::new(alloc, "LOG")
+        .help("The log of a run of FILE")
+        .required(true)
+        .action(ArgAction::Set);
+    on_either(alloc, name, about)?.arg(log)
 }
 
 /// A command on FILE, which is a source text, or a module where the words say so.
@@ -111,21 +147,48 @@ fn job_in<'a>(matches: &ArgMatches<'a>) -> Option<Job<'a>>
 fn job_by<'a>(name: &str, given: &ArgMatches<'a>) -> Option<Job<'a>>
     ensures { option_map asked_value result ≡ asked_by name.now (rows_of (found_of given.now)) }
 {
-    let command = command_named(name)?;
-    let file = given.get_str("FILE")?;
+    let command = command_by(name, given)?;
+    let file = given_in(given, "FILE")?;
     Some(Job {
         command,
         form: form_in(given),
-        order: order_in(given),
         file,
     })
+}
+
+/// The command of this name, with what else was given to it.
+fn command_by<'a>(name: &str, given: &ArgMatches<'a>) -> Option<Command<'a>>
+    ensures { option_map task_value result ≡ command_by name.now (rows_of (found_of given.now)) }
+{
+    match name {
+        "check" => Some(Command::Check),
+        "compile" => Some(Command::Compile),
+        "run" => Some(Command::Run {
+            order: order_in(given),
+            log: given_in(given, "PATH"),
+        }),
+        "replay" => Some(Command::Replay {
+            log: given_in(given, "LOG")?,
+        }),
+        "chart" => Some(Command::Chart {
+            log: given_in(given, "LOG")?,
+        }),
+        _ => None,
+    }
+}
+
+/// What was given under this name.
+fn given_in<'a>(given: &ArgMatches<'a>, name: &str) -> Option<&'a str>
+    ensures { option_map (λ s. s.now) result ≡ first_of name.now (rows_of (found_of given.now)) }
+{
+    given.get_str(name)
 }
 
 /// What stands in FILE.
 fn form_in(given: &ArgMatches<'_>) -> Form
     ensures { result ≡ form_in (rows_of (found_of given.now)) }
 {
-    match given.get_str("module") {
+    match given_in(given, "module") {
         Some(value) => form_named(value),
         None => Form::Source,
     }
@@ -145,7 +208,7 @@ fn form_named(value: &str) -> Form
 fn order_in(given: &ArgMatches<'_>) -> Option<Order>
     ensures { result ≡ order_in (rows_of (found_of given.now)) }
 {
-    let name = given.get_str("ORDER")?;
+    let name = given_in(given, "ORDER")?;
     order_named(name)
 }
 
@@ -157,18 +220,6 @@ fn order_named(name: &str) -> Option<Order>
         "first" => Some(Order::First),
         "last" => Some(Order::Last),
         "round" => Some(Order::Round),
-        _ => None,
-    }
-}
-
-/// The command of a name.
-fn command_named(name: &str) -> Option<Command>
-    ensures { result ≡ command_named name.now }
-{
-    match name {
-        "check" => Some(Command::Check),
-        "compile" => Some(Command::Compile),
-        "run" => Some(Command::Run),
         _ => None,
     }
 }

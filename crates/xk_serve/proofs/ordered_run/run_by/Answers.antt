@@ -2,7 +2,7 @@ use Rattle.std.proofs.Common.{◌≡◌, ◌+◌, ◌≤◌, arith, ap, subst, �
 use Rattle.xk_types.specs.Bound.{steps_bound}
 use Rattle.xk_laws.proofs.Counts.{step_counts}
 use Rattle.xk_core.specs.Core.{CoreValue}
-use Rattle.xk_core.specs.Driving.{IsTaken}
+use Rattle.xk_drive.specs.Driving.{IsTaken}
 use Rattle.xk_serve.proofs.OrderedRuns.{front_opens, front_more}
 use Rattle.xk_serve.proofs.ordered_run.run_by.Goals as goal
 

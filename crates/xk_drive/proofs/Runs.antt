@@ -1,0 +1,55 @@
+-- A schedule goes on by a step.
+use Rattle.std.proofs.Common.{◌≡◌, ℕ, ◌+◌, ◌<◌, Bool, true, false, not, List, [], ◌∷◌, ◌++◌, length, map, take, filter, get_or, Some, refl, sym, ap, ◌∙◌, add-one, slice_get}
+use Rattle.std.proofs.Math.Seq.{take-suc}
+use Rattle.std.proofs.lemmas.List.{map-append}
+use Rattle.std.proofs.lemmas.List.Elements.{filter-append}
+use Rattle.xk_types.specs.declared.names.Event.{Event}
+use Rattle.xk_types.specs.Code.{ModuleValue}
+use Rattle.xk_types.specs.World.{World}
+use Rattle.xk_types.specs.Step.{Stepped, step}
+use Rattle.xk_types.specs.Schedule.{Through, run, is_local, events, events_on, seen}
+use Rattle.xk_laws.proofs.Reached.{same_through, first_step, run_more}
+use Rattle.xk_drive.specs.Schedules.{shown, events_seen, LeadsPart}
+
+pub events_more : (m : ModuleValue) (list : List ℕ) (w v x : World) (a : ℕ) (e : Event) → run m list w ≡ Through v → step m v a ≡ Stepped x e
+    → events m (list ++ a ∷ []) w ≡ events m list w ++ (a, e) ∷ []
+events_more m [] w v x a e h g = ap (λ o. events_on a o (events m [])) (ap (λ z. step m z a) (same_through w v h) ∙ g)
+events_more m (b ∷ list) w v x a e h g =
+    let f = first_step w v (step m w b) (run m list) h in
+    ap (λ o. events_on b o (events m (list ++ a ∷ []))) f.2
+    ∙ ap (λ l. (b, f.1) ∷ l) (events_more m list f.0 v x a e f.3 g)
+    ∙ sym (ap (λ o. events_on b o (events m list) ++ (a, e) ∷ []) f.2)
+
+-- what is seen of one step more
+shown_one : (a : ℕ) (e : Event) → map (λ (p : ℕ × Event). p.1) (filter (λ (p : ℕ × Event). not (is_local p.1)) ((a, e) ∷ [])) ≡ shown e
+shown_one a e = tested (is_local e) refl
+  where
+    tested : (b : Bool) → is_local e ≡ b → map (λ (p : ℕ × Event). p.1) (filter (λ (p : ℕ × Event). not (is_local p.1)) ((a, e) ∷ [])) ≡ shown e
+    tested true h = rw h refl
+    tested false h = rw h refl
+
+seen_more : (m : ModuleValue) (list : List ℕ) (w v x : World) (a : ℕ) (e : Event) → run m list w ≡ Through v → step m v a ≡ Stepped x e
+    → events_seen m (list ++ a ∷ []) w ≡ events_seen m list w ++ shown e
+seen_more m list w v x a e h g =
+    ap (λ l. map (λ (p : ℕ × Event). p.1) (filter (λ (p : ℕ × Event). not (is_local p.1)) l)) (events_more m list w v x a e h g)
+    ∙ ap (map (λ (p : ℕ × Event). p.1)) (filter-append (λ (p : ℕ × Event). not (is_local p.1)) (events m list w) ((a, e) ∷ []))
+    ∙ map-append (λ (p : ℕ × Event). p.1) (seen m list w) (filter (λ (p : ℕ × Event). not (is_local p.1)) ((a, e) ∷ []))
+    ∙ ap (λ l. events_seen m list w ++ l) (shown_one a e)
+
+-- one place further in a list
+take_more : (list : List ℕ) (i : ℕ) (d : ℕ) → i < length list → take (i + 1) list ≡ take i list ++ get_or list i d ∷ []
+take_more list i d lt = rw add-one (take-suc list i d lt)
+
+pub leads_more : (m : ModuleValue) (list : List ℕ) (w v x : World) (i d : ℕ) (e : Event) → i < length list → LeadsPart m list w i v
+    → step m v (get_or list i d) ≡ Stepped x e → LeadsPart m list w (i + 1) x
+leads_more m list w v x i d e lt h g = ap (λ l. run m l w) (take_more list i d lt) ∙ run_more m (take i list) w v x (get_or list i d) e h g
+
+pub shows_more : (m : ModuleValue) (list : List ℕ) (w v x : World) (i d : ℕ) (e : Event) → i < length list → LeadsPart m list w i v
+    → step m v (get_or list i d) ≡ Stepped x e → events_seen m (take (i + 1) list) w ≡ events_seen m (take i list) w ++ shown e
+shows_more m list w v x i d e lt h g =
+    ap (λ l. events_seen m l w) (take_more list i d lt) ∙ seen_more m (take i list) w v x (get_or list i d) e h g
+
+-- a list that isn't empty has a first
+pub first_there : (list : List ℕ) → (length list ≡ 0 → ⊥) → (a : ℕ) × (slice_get list 0 ≡ Some a)
+first_there [] h = absurd (h refl)
+first_there (a ∷ list) h = (a, refl)

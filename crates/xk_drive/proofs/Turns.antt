@@ -1,0 +1,150 @@
+-- A run and its log, turn by turn.
+use Rattle.std.proofs.Common.{Vec, ◌≡◌, ◌∙◌, ℕ, ℤ, ◌+◌, ◌-◌, ◌<◌, ◌≤◌, ◌%◌, Bool, true, false, List, [], ◌∷◌, ◌++◌, length, replicate, Some, refl, sym, ap, subst, ◌⊎◌, inl, inr, arith, slice_get}
+use Rattle.std.specs.Option.{option_to_list}
+use Rattle.std.proofs.lemmas.List.Concat.{flat_map-append}
+use Rattle.std.proofs.lemmas.List.Elements.{All-nil, All-push}
+use Rattle.xk_types.specs.declared.names.Entry.{Entry}
+use Rattle.xk_types.specs.declared.names.Event.{Event}
+use Rattle.xk_types.specs.Code.{ModuleValue}
+use Rattle.xk_types.specs.World.{World, opening}
+use Rattle.xk_types.specs.Step.{Stepped, step}
+use Rattle.xk_types.specs.Schedule.{Through, run, printed, number_printed}
+use Rattle.xk_types.specs.Bound.{steps_bound}
+use Rattle.xk_types.specs.Logs.{schedule_of, one_step_of}
+use Rattle.xk_laws.proofs.Counts.{step_counts}
+use Rattle.xk_laws.proofs.Reached.{run_more}
+use Rattle.xk_core.specs.Core.{CoreValue}
+use Rattle.xk_drive.specs.Choosing.{enabled_in, Follows, state_after}
+use Rattle.xk_drive.specs.Driving.{IsTurn, IsPutOff, IsShort, IsRunOf, IsNoted, IsChosen, IsChosenSoFar, state_so_far}
+use Rattle.xk_drive.proofs.Following.{follows_more, state_more, printed_more}
+
+-- one entry more is one step more
+schedule_more : (log : List Entry) (a : ℕ) → schedule_of (log ++ one_step_of a ∷ []) ≡ schedule_of log ++ a ∷ []
+schedule_more log a = flat_map-append (λ (e : Entry). replicate e.steps e.act) log (one_step_of a ∷ [])
+
+pub run_starts : (m : ModuleValue) (c : CoreValue) → c.module_run ≡ m → c.world ≡ opening c.module_run → IsRunOf m [] [] c
+run_starts m c is start = record { module_is = is; leads = ap (λ w. Through w) (sym (start ∙ ap opening is)); prints = refl }
+
+-- the log goes on by a step
+pub run_steps : (m k : ModuleValue) (log : List Entry) (numbers : List ℤ) (c d : CoreValue) (a : ℕ) (e : Event)
+    → IsRunOf m log numbers c → step c.module_run c.world a ≡ Stepped d.world e → d.module_run ≡ c.module_run → k ≡ m
+    → IsRunOf k (log ++ one_step_of a ∷ []) (numbers ++ option_to_list (number_printed e)) d
+run_steps m k log numbers c d a e r taken same is =
+    subst (λ j. IsRunOf j (log ++ one_step_of a ∷ []) (numbers ++ option_to_list (number_printed e)) d) (sym is) (record {
+      module_is = same ∙ r.module_is;
+      leads = ap (λ l. run m l (opening m)) (schedule_more log a) ∙ run_more m (schedule_of log) (opening m) c.world d.world a e r.leads stepped;
+      prints = ap (λ l. l ++ option_to_list (number_printed e)) r.prints
+          ∙ sym (ap (λ l. printed m l (opening m)) (schedule_more log a) ∙ printed_more m (schedule_of log) (opening m) c.world d.world a e r.leads stepped);
+    })
+  where
+    stepped : step m c.world a ≡ Stepped d.world e
+    stepped = subst (λ j. step j c.world a ≡ Stepped d.world e) r.module_is taken
+
+-- and by a turn
+pub run_goes_on : {S : Type 0} (answer : S → List ℕ → ℕ) (after : S → List ℕ → S) (m k : ModuleValue) (log : List Entry) (numbers : List ℤ) (c d : CoreValue)
+    (s t : S) (a : ℕ) (e : Event)
+    → IsRunOf m log numbers c → IsTurn answer after c s a e d t → k ≡ m → IsRunOf k (log ++ one_step_of a ∷ []) (numbers ++ option_to_list (number_printed e)) d
+run_goes_on answer after m k log numbers c d s t a e r turn is = run_steps m k log numbers c d a e r turn.stepped turn.same_module is
+
+-- and so does what the chooser chose
+pub chosen_goes_on : {S : Type 0} (answer : S → List ℕ → ℕ) (after : S → List ℕ → S) (m : ModuleValue) (log : List Entry) (numbers : List ℤ) (c d : CoreValue)
+    (first s t : S) (a : ℕ) (e : Event)
+    → IsRunOf m log numbers c → IsChosen answer after m first log s → IsTurn answer after c s a e d t → IsChosen answer after m first (log ++ one_step_of a ∷ []) t
+chosen_goes_on answer after m log numbers c d first s t a e r chosen turn = record {
+  follows = subst (λ l. Follows answer after m first (opening m) l) (sym (schedule_more log a))
+      (follows_more answer after m (schedule_of log) first (opening m) c.world d.world a e r.leads chosen.follows named stepped);
+  left = turn.goes_on ∙ ap (λ j. after s (enabled_in j c.world)) r.module_is ∙ ap (λ z. after z (enabled_in m c.world)) chosen.left
+      ∙ sym (ap (state_after after m first (opening m)) (schedule_more log a) ∙ state_more after m (schedule_of log) first (opening m) c.world d.world a e r.leads stepped);
+  single = All-push (λ (x : Entry). x.steps ≡ 1) log (one_step_of a) chosen.single refl;
+}
+  where
+    stepped : step m c.world a ≡ Stepped d.world e
+    stepped = subst (λ j. step j c.world a ≡ Stepped d.world e) r.module_is turn.stepped
+
+    named : slice_get (enabled_in m c.world) (answer (state_after after m first (opening m) (schedule_of log)) (enabled_in m c.world) % length (enabled_in m c.world)) ≡ Some a
+    named = subst (λ z. slice_get (enabled_in m c.world) (answer z (enabled_in m c.world) % length (enabled_in m c.world)) ≡ Some a) chosen.left
+        (subst (λ j. slice_get (enabled_in j c.world) (answer s (enabled_in j c.world) % length (enabled_in j c.world)) ≡ Some a) r.module_is turn.chosen)
+
+-- a run that a chooser chose, within the bound
+pub record IsGoing {S : Type 0} (answer : S → List ℕ → ℕ) (after : S → List ℕ → S) (m : ModuleValue) (first : S) (log : List Entry) (c : CoreValue) (s : S) : Type 0 where
+  pub same_module : c.module_run ≡ m
+  pub bound : c.world.steps ≤ steps_bound m
+  pub chosen : IsChosen answer after m first log s
+
+-- a turn that was noted
+record IsStepNoted {S : Type 0} (answer : S → List ℕ → ℕ) (after : S → List ℕ → S) (c : CoreValue) (s : S) (log : List Entry) (d : CoreValue) (t : S)
+    (more : List Entry) : Type 0 where
+  act : ℕ
+  event : Event
+  turn : IsTurn answer after c s act event d t
+  log_is : more ≡ log ++ one_step_of act ∷ []
+
+noted_step : {S : Type 0} (answer : S → List ℕ → ℕ) (after : S → List ℕ → S) (c d : CoreValue) (s t : S) (log more : List Entry) (b : Bool) → b ≡ true
+    → IsNoted answer after c s log d t more b
+    → IsStepNoted answer after c s log d t more
+noted_step answer after c d s t log more true e n = record { act = n.0; event = n.1; turn = n.2; log_is = n.3 }
+noted_step answer after c d s t log more false e n = cc
+
+noted_counts : {S : Type 0} (answer : S → List ℕ → ℕ) (after : S → List ℕ → S) (c d : CoreValue) (s t : S) (log more : List Entry)
+    → IsStepNoted answer after c s log d t more → d.world.steps ≡ c.world.steps + 1
+noted_counts answer after c d s t log more n = step_counts c.module_run c.world d.world n.act n.event n.turn.stepped
+
+-- the run goes on by a turn that was noted
+pub going_on : {S : Type 0} (answer : S → List ℕ → ℕ) (after : S → List ℕ → S) (m : ModuleValue) (first s t : S) (log more : List Entry) (numbers : List ℤ)
+    (c d : CoreValue) (b : Bool)
+    → IsGoing answer after m first log c s → IsRunOf c.module_run log numbers c → b ≡ true → IsNoted answer after c s log d t more b → d.world.steps ≤ steps_bound d.module_run
+    → IsGoing answer after m first more d t
+going_on answer after m first s t log more numbers c d b g r e noted within =
+    let n = noted_step answer after c d s t log more b e noted in
+    let same : d.module_run ≡ m = n.turn.same_module ∙ g.same_module in
+    record {
+      same_module = same;
+      bound = subst (λ k. d.world.steps ≤ steps_bound k) same within;
+      chosen = subst (λ l. IsChosen answer after m first l t) (sym n.log_is)
+          (chosen_goes_on answer after m log numbers c d first s t n.act n.event (subst (λ k. IsRunOf k log numbers c) g.same_module r) g.chosen n.turn);
+    }
+
+-- and has fewer steps left
+pub going_less : {S : Type 0} (answer : S → List ℕ → ℕ) (after : S → List ℕ → S) (s t : S) (log more : List Entry) (c d : CoreValue) (b : Bool)
+    → b ≡ true → IsNoted answer after c s log d t more b → d.world.steps ≤ steps_bound d.module_run
+    → steps_bound d.module_run + 1 - d.world.steps < steps_bound c.module_run + 1 - c.world.steps
+going_less answer after s t log more c d b e noted within =
+    let n = noted_step answer after c d s t log more b e noted in
+    omega (arith, noted_counts answer after c d s t log more n, ap steps_bound n.turn.same_module, within)
+
+-- a run begins
+pub going_starts : {S : Type 0} (answer : S → List ℕ → ℕ) (after : S → List ℕ → S) (m : ModuleValue) (s : S) (c : CoreValue) → c.module_run ≡ m
+    → c.world.steps ≡ 0 → IsGoing answer after m s [] c s
+going_starts answer after m s c is start = record {
+  same_module = is;
+  bound = omega (arith, start);
+  chosen = record { follows = tt; left = refl; single = All-nil (λ (e : Entry). e.steps ≡ 1) };
+}
+
+-- cut short, the chooser may have been asked once more
+pub chosen_so_far : {S : Type 0} (answer : S → List ℕ → ℕ) (after : S → List ℕ → S) (m : ModuleValue) (first s t : S) (log : List Entry) (c d : CoreValue) (w : World)
+    → IsGoing answer after m first log c s → IsPutOff after c s d t → w ≡ d.world → IsChosenSoFar answer after m first log w t
+chosen_so_far answer after m first s t log c d w g off is = record {
+  follows = g.chosen.follows;
+  left = of off.asked;
+  single = g.chosen.single;
+}
+  where
+    now : c.world ≡ w
+    now = sym (is ∙ ap (λ (v : CoreValue). v.world) off.same)
+
+    of : (t ≡ s) ⊎ (t ≡ after s (enabled_in c.module_run c.world))
+        → (t ≡ state_after after m first (opening m) (schedule_of log)) ⊎ (t ≡ after (state_after after m first (opening m) (schedule_of log)) (enabled_in m w))
+    of (inl e) = inl (e ∙ g.chosen.left)
+    of (inr e) = inr (e ∙ ap (λ k. after s (enabled_in k c.world)) g.same_module ∙ ap (λ z. after s (enabled_in m z)) now ∙ ap (λ z. after z (enabled_in m w)) g.chosen.left)
+
+-- what a run that was cut short was short of, the chooser being where the log leaves it
+pub short_so_far : {S X Z : Type 0} (answer : S → List ℕ → ℕ) (after : S → List ℕ → S) (m : ModuleValue) (first s t : S) (log : Vec Entry Z)
+    (numbers : Vec X Z) (kept : List Entry) (c d : CoreValue)
+    → IsGoing answer after m first kept c s → IsPutOff after c s d t → log.items ≡ kept → IsShort answer log numbers c s
+    → IsShort answer log numbers d (state_so_far after first log.items d)
+short_so_far answer after m first s t log numbers kept c d g off same short =
+    subst (λ v. IsShort answer log numbers v (state_so_far after first log.items v)) (sym off.same) (subst (IsShort answer log numbers c) left short)
+  where
+    left : s ≡ state_so_far after first log.items c
+    left = g.chosen.left ∙ ap (λ k. state_after after k first (opening k) (schedule_of kept)) (sym g.same_module) ∙ ap (λ l. state_so_far after first l c) (sym same)

@@ -1,0 +1,280 @@
+-- A step of one activity leaves each other as able to step as it was, but for the one that it starts, those on a clock that advances, and,
+-- where it ends its activity, the owner of the finish that governs that one.
+use Rattle.std.proofs.Common.{◌≡◌, ℕ, zero, suc, ◌+◌, ◌<◌, ◌&&◌, ◌||◌, ◌==◌, not, Bool, true, false, true≢false, cond, List, [], ◌∷◌, ◌++◌, map, length, Option, Some, None, refl, sym, ap, ap₂, ◌∙◌, subst, arith, slice_get, slice_set, option_and_then, length-set}
+use Rattle.std.specs.List.{list_all, list_any}
+use Rattle.std.specs.Option.{option_map_or}
+use Rattle.std.proofs.lemmas.Bool.{and_parts, eq-eqb}
+use Rattle.std.proofs.lemmas.List.{length_push}
+use Rattle.std.proofs.lemmas.Option.{none-some, same_Some, slice_get_within}
+use Rattle.xk_types.specs.declared.instr.Instr.{Instr}
+use Rattle.xk_types.specs.declared.instr.Instr.TheVariants as instr
+use Rattle.xk_types.specs.declared.names.Status.{Status}
+use Rattle.xk_types.specs.declared.names.Status.TheVariants as status
+use Rattle.xk_types.specs.declared.names.Standing.{Standing}
+use Rattle.xk_types.specs.declared.names.Value.{Value}
+use Rattle.xk_types.specs.declared.names.Event.{Event}
+use Rattle.xk_types.specs.declared.names.Event.TheVariants as event
+use Rattle.xk_types.specs.Code.{ModuleValue}
+use Rattle.xk_types.specs.World.{Finish, Activity, Clock, World, standing_of, is_ended}
+use Rattle.xk_types.specs.Step.{Outcome, Blocked, Wrong, Stepped, step, is_signalled, settled_clock, moved, joined, new_clock, is_given, onward, left, ended, child, innermost, awaits, waits, dropped, none, all}
+use Rattle.xk_types.specs.Schedule.{is_enabled}
+use Rattle.xk_laws.proofs.Invariant.{IsClockSound}
+use Rattle.xk_types.proofs.Lists.{Each, get-set_same, get-set_other, get-push_other, get-append_left}
+use Rattle.xk_laws.proofs.Reached.{reached_sound}
+use Rattle.xk_laws.proofs.Scopes.Invariant.{governing_at}
+use Rattle.xk_laws.proofs.Scopes.Under.{AreOwned}
+use Rattle.xk_laws.proofs.Clocks.Advance.{settled_cases}
+use Rattle.xk_laws.proofs.Clocks.Standings.{stand_other, new_other, stand_joined_old}
+use Rattle.xk_core.specs.Able.{able_by, able_of, kept_by}
+use Rattle.xk_core.specs.Arm.{starts}
+use Rattle.xk_core.specs.Core.{IsCore, is_quiet, governor, instruction_by, instruction_of, next_instruction, is_about_to_start}
+use Rattle.xk_core.proofs.Cores.{core_able, core_stepped}
+use Rattle.xk_drive.proofs.UntouchedForms.{GoesOn, IsAt, is_start, step_kind}
+use Rattle.xk_drive.proofs.UntouchedOwners.{core_owned, core_open}
+use Rattle.xk_drive.proofs.UntouchedAwaits.{owned_set, awaits_on, awaits_end, awaits_push}
+
+-- ---- clocks
+
+-- what differs by a test
+apart : (x now : ℕ) → not (x == now) ≡ true → x ≡ now → ⊥
+apart x now h e = true≢false (sym h ∙ ap not (eq-eqb x now e))
+
+-- where no clock advances, the end of a step changes none
+settled_quiet : (now : ℕ) (clocks : List Clock) → list_all (λ c. not (c.last == now)) (map (settled_clock now) clocks) ≡ true → map (settled_clock now) clocks ≡ clocks
+settled_quiet now [] quiet = refl
+settled_quiet now (c ∷ cs) quiet =
+    let parts = and_parts (not ((settled_clock now c).last == now)) (list_all (λ d. not (d.last == now)) (map (settled_clock now) cs)) quiet in
+    ap (λ l. settled_clock now c ∷ l) (settled_quiet now cs parts.1) ∙ ap (λ d. d ∷ cs) (same (apart (settled_clock now c).last now parts.0))
+  where
+    same : ((settled_clock now c).last ≡ now → ⊥) → settled_clock now c ≡ c
+    same = settled_cases now c (λ d. (d.last ≡ now → ⊥) → d ≡ c) (λ ready never. absurd (never refl)) (λ unready never. refl)
+
+-- activity b is signalled on one of these clocks
+abbrev waits_on : ℕ → List Clock → Bool
+waits_on b clocks = list_any (λ c. is_signalled (standing_of c b)) clocks
+
+-- where another's standings change
+waits_moved : (a b : ℕ) (change : ℕ → Standing → Standing) (clocks : List Clock) → (b ≡ a → ⊥) → waits_on b (moved a change clocks) ≡ waits_on b clocks
+waits_moved a b change [] differs = refl
+waits_moved a b change (c ∷ cs) differs =
+    ap (λ s. is_signalled s || waits_on b (moved a (λ k. change (suc k)) cs)) (stand_other a b (change 0) c differs)
+    ∙ ap (λ x. is_signalled (standing_of c b) || x) (waits_moved a b (λ k. change (suc k)) cs differs)
+
+-- where another makes a clock
+waits_made : (n a b : ℕ) (clocks : List Clock) → (b ≡ a → ⊥) → waits_on b (clocks ++ new_clock n a ∷ []) ≡ waits_on b clocks
+waits_made n a b [] differs = ap (λ s. is_signalled s || false) (new_other n a b differs)
+waits_made n a b (c ∷ cs) differs = ap (λ x. is_signalled (standing_of c b) || x) (waits_made n a b cs differs)
+
+-- where another starts an activity
+waits_joined : (a b : ℕ) (given : ℕ → Bool) (clocks : List Clock) → Each (λ k c. b < length c.standings) clocks → waits_on b (joined a given clocks) ≡ waits_on b clocks
+waits_joined a b given [] wide = refl
+waits_joined a b given (c ∷ cs) wide =
+    ap (λ s. is_signalled s || waits_on b (joined a (λ k. given (suc k)) cs)) (stand_joined_old a b (given 0) c (wide zero c refl))
+    ∙ ap (λ x. is_signalled (standing_of c b) || x) (waits_joined a b (λ k. given (suc k)) cs (λ k. wide (suc k)))
+
+-- ---- who is enabled
+
+-- One that is the same in two worlds, and waits in both or in neither for clocks and for those under its finish, is enabled in both or in
+-- neither.
+same_enabled : (m : ModuleValue) (w v : World) (b : ℕ) → IsCore m w → IsCore m v → slice_get v.activities b ≡ slice_get w.activities b → waits v b ≡ waits w b
+    → ((x : Activity) → slice_get w.activities b ≡ Some x → awaits v.activities (innermost b x) ≡ awaits w.activities (innermost b x)) → is_enabled m v b ≡ is_enabled m w b
+same_enabled m w v b core later same waiting awaiting =
+    sym (core_able m v b later) ∙ ap (λ o. able_of v b o && not (kept_by v b o (instruction_of m o))) same ∙ of (slice_get w.activities b) refl ∙ core_able m w b core
+  where
+    able : (s : Status) → able_by v b s ≡ able_by w b s
+    able status.Running = refl
+    able status.Arrived = ap not waiting
+    able status.Ended = refl
+
+    kept : (x : Activity) → slice_get w.activities b ≡ Some x → (i : Option Instr) → kept_by v b (Some x) i ≡ kept_by w b (Some x) i
+    kept x found (Some (instr.EndFinish e)) = awaiting x found
+    kept x found None = refl
+    kept x found (Some _) = refl
+
+    of : (o : Option Activity) → slice_get w.activities b ≡ o
+        → (able_of v b o && not (kept_by v b o (instruction_of m o))) ≡ (able_of w b o && not (kept_by w b o (instruction_of m o)))
+    of None found = refl
+    of (Some x) found =
+        ap (λ p. p && not (kept_by v b (Some x) (instruction_of m (Some x)))) (able x.status)
+        ∙ ap (λ p. able_by w b x.status && not p) (kept x found (instruction_of m (Some x)))
+
+-- ---- a step
+
+-- what a step comes to, seen by another activity
+abbrev Leaves : ModuleValue → World → ℕ → ℕ → Outcome → Type 0
+Leaves m w a b Blocked = Unit {0}
+Leaves m w a b (Wrong c) = Unit {0}
+Leaves m w a b (Stepped v e) = IsCore m v → is_quiet v ≡ true → (e ≡ event.Ended → governor w a ≡ Some b → ⊥) → is_enabled m v b ≡ is_enabled m w b
+
+module _ (m : ModuleValue) (w : World) (a b : ℕ) (core : IsCore m w) (inside : b < length w.activities) (differs : b ≡ a → ⊥) where
+  -- one activity changes, and where it stands
+  leaves_moved : (act next : Activity) (change : ℕ → Standing → Standing) (v : World) → v.activities ≡ slice_set w.activities a next
+      → v.clocks ≡ map (settled_clock (w.steps + 1)) (moved a change w.clocks)
+      → v.steps ≡ w.steps + 1 → IsCore m v → is_quiet v ≡ true
+      → ((x : Activity) → awaits (slice_set w.activities a next) (innermost b x) ≡ awaits w.activities (innermost b x)) → is_enabled m v b ≡ is_enabled m w b
+  leaves_moved act next change v acts clocks steps later quiet awaiting =
+      same_enabled m w v b core later (ap (λ l. slice_get l b) acts ∙ get-set_other w.activities a b next differs)
+      (ap (waits_on b) (clocks ∙ settled_quiet (w.steps + 1) (moved a change w.clocks)
+      (sym (ap₂ (λ n l. list_all (λ (c : Clock). not (c.last == n)) l) steps clocks) ∙ quiet)) ∙ waits_moved a b change w.clocks differs)
+      (λ x found. ap (λ l. awaits l (innermost b x)) acts ∙ awaiting x)
+
+  -- it goes on
+  on_awaits : (act next : Activity) → slice_get w.activities a ≡ Some act → is_ended act.status ≡ false → GoesOn act next → (x : Activity)
+      → awaits (slice_set w.activities a next) (innermost b x) ≡ awaits w.activities (innermost b x)
+  on_awaits act next found alive on x = awaits_on w.activities (core_owned m w core) a act next found on.governed (innermost b x) alive on.alive
+
+  -- it ends
+  end_awaits : (act : Activity) → slice_get w.activities a ≡ Some act → is_ended act.status ≡ false → (governor w a ≡ Some b → ⊥) → (x : Activity)
+      → awaits (slice_set w.activities a (ended act)) (innermost b x) ≡ awaits w.activities (innermost b x)
+  end_awaits act found alive another x = awaits_end w.activities (core_owned m w core) a act (ended act) found refl (innermost b x) alive (core_open m w core)
+      (λ same. another (ap (option_and_then (λ (z : Activity). z.governed.owner)) found ∙ ap (λ (g : Finish). g.owner) same))
+
+  -- it starts another
+  start_awaits : (act : Activity) (t : ℕ) (values : List Value) (v : World) → slice_get w.activities a ≡ Some act → is_ended act.status ≡ false
+      → v.activities ≡ slice_set w.activities a (onward act) ++ child m a act t values ∷ [] → IsCore m v → (x : Activity)
+      → awaits v.activities (innermost b x) ≡ awaits w.activities (innermost b x)
+  start_awaits act t values v found alive acts later x =
+      ap (λ l. awaits l (innermost b x)) acts
+      ∙ awaits_push (slice_set w.activities a (onward act)) (owned_set w.activities (core_owned m w core) a act (onward act) found refl (innermost b x)) a (onward act)
+      (get-set_same w.activities a act (onward act) found) alive (child m a act t values) (governing_at a act) (subst (λ l. AreOwned l) acts (core_owned m v later)) (innermost b x)
+      (λ e. differs (same_Some b a e))
+      ∙ awaits_on w.activities (core_owned m w core) a act (onward act) found refl (innermost b x) alive alive
+
+  -- each clock has a standing for it
+  wide : Each (λ k c. b < length c.standings) w.clocks
+  wide k c at = (let s : IsClockSound w.activities w.steps c = (reached_sound m core.limits core.accepted w core.reached).clocks k c at in omega (arith, s.width, inside))
+
+  step_leaves : Leaves m w a b (step m w a)
+  step_leaves = step_kind (Leaves m w a b) m w a tt (λ act found alive. record {
+    blocked = tt;
+    wrong = λ c. tt;
+    closed = λ n opened nobody later quiet another. leaves_moved act (left act n) none _ refl refl refl later quiet
+        (λ x. awaits_on w.activities (core_owned m w core) a act (left act n) found refl (innermost b x) alive alive);
+    over = λ here alone later quiet another. leaves_moved act (ended act) (all dropped) _ refl refl refl later quiet (end_awaits act found alive (another refl));
+    done = λ next change e on start later quiet another. leaves_moved act next change _ refl refl refl later quiet (on_awaits act next found alive on);
+    made = λ next on later quiet another. same_enabled m w _ b core later (get-set_other w.activities a b next differs)
+        (ap (waits_on b) (settled_quiet (w.steps + 1) (w.clocks ++ new_clock (length w.activities) a ∷ []) quiet) ∙ waits_made (length w.activities) a b w.clocks differs)
+        (λ x there. on_awaits act next found alive on x);
+    stored = λ s n e on start later quiet another. leaves_moved act (onward act) none _ refl refl refl later quiet (on_awaits act (onward act) found alive on);
+    spawned = λ t args values at on later quiet another. same_enabled m w _ b core later
+        (get-push_other (slice_set w.activities a (onward act)) (child m a act t values) b
+        (λ e. absurd (omega (arith, inside, length-set w.activities a (onward act)))) ∙ get-set_other w.activities a b (onward act) differs)
+        (ap (waits_on b) (settled_quiet (w.steps + 1) (joined a (is_given values) w.clocks) quiet) ∙ waits_joined a b (is_given values) w.clocks wide)
+        (λ x there. start_awaits act t values _ found alive refl later x);
+  })
+
+-- a step leaves others as able to step as they were
+pub untouched : (m : ModuleValue) (w v : World) (a : ℕ) (e : Event) → IsCore m w → step m w a ≡ Stepped v e → is_quiet v ≡ true → (b : ℕ) → b < length w.activities → (b ≡ a → ⊥)
+    → (e ≡ event.Ended → governor w a ≡ Some b → ⊥) → is_enabled m v b ≡ is_enabled m w b
+untouched m w v a e core h quiet b inside differs another = subst (Leaves m w a b) h (step_leaves m w a b core inside differs) (core_stepped m w v a e core h) quiet another
+
+-- ---- who is there
+
+-- how many activities a step of this event starts
+abbrev started : Event → ℕ
+started e = cond (is_start e) 1 0
+
+-- What a step says of who takes it, and of how many there are: that one is there, is governed as before, and there is one more if it was
+-- started.
+record IsTaken (w v : World) (a : ℕ) (e : Event) : Type 0 where
+  within : a < length w.activities
+  width : length v.activities ≡ length w.activities + started e
+  governor : governor v a ≡ governor w a
+
+abbrev Takes : World → ℕ → Outcome → Type 0
+Takes w a Blocked = Unit {0}
+Takes w a (Wrong c) = Unit {0}
+Takes w a (Stepped v e) = IsTaken w v a e
+
+-- one activity changes
+taken_set : (w v : World) (a : ℕ) (act next : Activity) (e : Event) → slice_get w.activities a ≡ Some act
+    → v.activities ≡ slice_set w.activities a next → next.governed ≡ act.governed → is_start e ≡ false
+    → IsTaken w v a e
+taken_set w v a act next e found acts governed start = record {
+  within = slice_get_within w.activities a act found;
+  width = (let nobody : started e ≡ 0 = ap (λ s. cond s 1 0) start in omega (arith, nobody, ap length acts, length-set w.activities a next));
+  governor = ap (λ l. option_and_then (λ (x : Activity). x.governed.owner) (slice_get l a)) acts
+      ∙ ap (option_and_then (λ (x : Activity). x.governed.owner)) (get-set_same w.activities a act next found)
+      ∙ ap (λ (g : Finish). g.owner) governed ∙ sym (ap (option_and_then (λ (x : Activity). x.governed.owner)) found);
+}
+
+-- and one is started
+taken_push : (w v : World) (a : ℕ) (act next x : Activity) → slice_get w.activities a ≡ Some act → v.activities ≡ slice_set w.activities a next ++ x ∷ []
+    → next.governed ≡ act.governed
+    → IsTaken w v a event.Spawned
+taken_push w v a act next x found acts governed = record {
+  within = slice_get_within w.activities a act found;
+  width = omega (arith, ap length acts, length_push (slice_set w.activities a next) x, length-set w.activities a next);
+  governor = ap (λ l. option_and_then (λ (y : Activity). y.governed.owner) (slice_get l a)) acts
+      ∙ ap (option_and_then (λ (y : Activity). y.governed.owner)) (get-append_left (slice_set w.activities a next) (x ∷ []) a next (get-set_same w.activities a act next found))
+      ∙ ap (λ (g : Finish). g.owner) governed ∙ sym (ap (option_and_then (λ (y : Activity). y.governed.owner)) found);
+}
+
+step_takes : (m : ModuleValue) (w : World) (a : ℕ) → Takes w a (step m w a)
+step_takes m w a = step_kind (Takes w a) m w a tt (λ act found alive. record {
+  blocked = tt;
+  wrong = λ c. tt;
+  closed = λ n opened nobody. taken_set w _ a act (left act n) event.Closed found refl refl refl;
+  over = λ here alone. taken_set w _ a act (ended act) event.Ended found refl refl refl;
+  done = λ next change e on start. taken_set w _ a act next e found refl on.governed start;
+  made = λ next on. taken_set w _ a act next event.Made found refl on.governed refl;
+  stored = λ s n e on start. taken_set w _ a act (onward act) e found refl refl start;
+  spawned = λ t args values at on. taken_push w _ a act (onward act) (child m a act t values) found refl refl;
+})
+
+taken : (m : ModuleValue) (w v : World) (a : ℕ) (e : Event) → step m w a ≡ Stepped v e → IsTaken w v a e
+taken m w v a e h = subst (Takes w a) h (step_takes m w a)
+
+-- a start adds one activity
+pub grows_by_start : (m : ModuleValue) (w v : World) (a : ℕ) → step m w a ≡ Stepped v event.Spawned → length v.activities ≡ length w.activities + 1
+grows_by_start m w v a h = (taken m w v a event.Spawned h).width
+
+-- and nothing else does
+pub keeps_width : (m : ModuleValue) (w v : World) (a : ℕ) (e : Event) → step m w a ≡ Stepped v e → (e ≡ event.Spawned → ⊥) → length v.activities ≡ length w.activities
+keeps_width m w v a e h other = (let nobody : started e ≡ 0 = ap (λ s. cond s 1 0) (no_start e other) in omega (arith, nobody, (taken m w v a e h).width))
+  where
+    no_start : (x : Event) → (x ≡ event.Spawned → ⊥) → is_start x ≡ false
+    no_start event.Spawned g = absurd (g refl)
+    no_start _ g = refl
+
+-- only who is about to start an activity starts one
+abbrev Starts : ModuleValue → World → ℕ → Outcome → Type 0
+Starts m w a Blocked = Unit {0}
+Starts m w a (Wrong c) = Unit {0}
+Starts m w a (Stepped v e) = is_start e ≡ true → is_about_to_start m w a ≡ true
+
+step_starts : (m : ModuleValue) (w : World) (a : ℕ) → Starts m w a (step m w a)
+step_starts m w a = step_kind (Starts m w a) m w a tt (λ act found alive. record {
+  blocked = tt;
+  wrong = λ c. tt;
+  closed = λ n opened nobody h. absurd (true≢false (sym h));
+  over = λ here alone h. absurd (true≢false (sym h));
+  done = λ next change e on start h. absurd (true≢false (sym h ∙ start));
+  made = λ next on h. absurd (true≢false (sym h));
+  stored = λ s n e on start h. absurd (true≢false (sym h ∙ start));
+  spawned = λ t args values at on h. ap (λ o. option_map_or starts o false) (runs_next m w a act (instr.Spawn t args) found at);
+})
+  where
+    runs_next : (m : ModuleValue) (w : World) (a : ℕ) (act : Activity) (i : Instr) → slice_get w.activities a ≡ Some act → IsAt m act i → next_instruction m w a ≡ Some i
+    runs_next m w a act i found at = ap (instruction_of m) found ∙ ap (instruction_by m act) at.runs ∙ at.here
+
+-- where nobody is about to be started, there are as many as before
+pub width_kept : (m : ModuleValue) (w v : World) (a : ℕ) (e : Event) → step m w a ≡ Stepped v e → is_about_to_start m w a ≡ false
+    → length v.activities ≡ length w.activities
+width_kept m w v a e h still = keeps_width m w v a e h (λ is. true≢false (sym (subst (Starts m w a) h (step_starts m w a) (ap is_start is)) ∙ still))
+
+-- who takes a step is there
+pub steps_within : (m : ModuleValue) (w v : World) (a : ℕ) (e : Event) → step m w a ≡ Stepped v e → a < length w.activities
+steps_within m w v a e h = (taken m w v a e h).within
+
+-- and is governed as before
+pub governor_same : (m : ModuleValue) (w v : World) (a : ℕ) (e : Event) → step m w a ≡ Stepped v e → governor v a ≡ governor w a
+governor_same m w v a e h = (taken m w v a e h).governor
+
+-- who opened the finish that governs an activity has a smaller number
+pub governor_within : (m : ModuleValue) (w : World) → IsCore m w → (a b : ℕ) → a < length w.activities → governor w a ≡ Some b → b < a
+governor_within m w core a b inside h = of (slice_get w.activities a) refl h
+  where
+    of : (o : Option Activity) → slice_get w.activities a ≡ o → option_and_then (λ (act : Activity). act.governed.owner) o ≡ Some b → b < a
+    of None found g = absurd (none-some b g)
+    of (Some act) found g = core_owned m w core a act found b g

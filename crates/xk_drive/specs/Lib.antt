@@ -1,0 +1,4 @@
+pub mod Schedules
+pub mod Choosing
+pub mod Listing
+pub mod Driving

@@ -1,0 +1,128 @@
+//! Who takes the next step.
+
+ghost use Rattle.std.specs.Prelude.{◌≡◌, ◌<◌, ◌≤◌, ◌-◌, ◌%◌, ◌^◌, length};
+ghost use Rattle.xk_drive.specs.Choosing.{IsRising, place_above, turn_of};
+
+use std::marker::Model;
+
+/// Chooses, step by step, who goes on.
+pub trait Chooser {
+    ghost use Rattle.std.specs.Prelude.{ℕ, List};
+
+    /// What it answers to a list, in its state.
+    ghost answer: { Self → List ℕ → ℕ };
+
+    /// Its state after that.
+    ghost after: { Self → List ℕ → Self };
+
+    /// Names one of the activities that are enabled, which are told rising: by its place in the list, counted from 0. A place beyond
+    /// the end is counted round the list.
+    fn choose(&mut self, enabled: &[u32]) -> u32
+        requires some { 0 < length enabled.now }
+        requires rising { IsRising enabled.now }
+        requires numbers { length enabled.now < 2 ^ 32 }
+        ensures answers { result ≡ answer self.old enabled.now }
+        ensures goes_on { self.new ≡ after self.old enabled.now };
+}
+
+/// A place in a list of n, counted round it. A division takes longer than all else that a turn does besides its step, and most answers need
+/// none.
+pub(crate) fn place_in(answer: usize, n: usize) -> usize
+    requires { 0 < n }
+    ensures place { result ≡ answer % n }
+    ensures within { result < n }
+{
+    if answer < n { answer } else { answer % n }
+}
+
+/// The least enabled activity, at each step.
+#[derive(Clone, Copy)]
+pub struct First;
+
+impl Chooser for First {
+    ghost answer = { λ s list. 0 };
+
+    ghost after = { λ s list. s };
+
+    fn choose(&mut self, _enabled: &[u32]) -> u32 {
+        0
+    }
+}
+
+/// The greatest enabled activity, at each step.
+#[derive(Clone, Copy)]
+pub struct Last;
+
+impl Chooser for Last {
+    ghost use Rattle.std.specs.Prelude.{◌-◌, length};
+
+    ghost answer = { λ s list. length list - 1 };
+
+    ghost after = { λ s list. s };
+
+    fn choose(&mut self, enabled: &[u32]) -> u32 {
+        (enabled.len() - 1) as u32
+    }
+}
+
+/// Each in turn: the least enabled activity of greater number than the one taken before, else the least of all.
+#[derive(Clone, Copy)]
+pub struct Round {
+    taken: Option<u32>,
+}
+
+impl Model for Round {
+    ghost use Rattle.std.specs.Prelude.{ℕ, Option};
+
+    ghost Value = { Option ℕ };
+
+    ghost view = { λ r. r.taken };
+
+    ghost inverse = { λ o. record { taken = o } };
+}
+
+impl Round {
+    ghost use Rattle.std.specs.Prelude.{None};
+
+    /// Before anybody was taken.
+    pub fn new() -> Round
+        ensures { result ≡ None }
+    {
+        Round { taken: None }
+    }
+
+    /// The place of the one whose turn it is; beyond the end where the turn begins again.
+    fn place(&self, enabled: &[u32]) -> usize
+        requires rising { IsRising enabled.now }
+        ensures place { result ≡ turn_of self.now enabled.now }
+        ensures within { result ≤ length enabled.now }
+    {
+        match self.taken {
+            None => 0,
+            Some(taken) => up_to(taken, enabled),
+        }
+    }
+}
+
+/// How many of the numbers aren't above this one.
+fn up_to(taken: u32, enabled: &[u32]) -> usize
+    requires rising { IsRising enabled.now }
+    ensures place { result ≡ place_above taken enabled.now }
+    ensures within { result ≤ length enabled.now }
+{
+    enabled.partition_point(|a| *a <= taken)
+}
+
+impl Chooser for Round {
+    ghost use Rattle.xk_drive.specs.Choosing.{turn_of, turn_after};
+
+    ghost answer = { turn_of };
+
+    ghost after = { turn_after };
+
+    fn choose(&mut self, enabled: &[u32]) -> u32 {
+        let place = self.place(enabled);
+        self.taken = Some(enabled[place_in(place, enabled.len())]);
+        place as u32
+    }
+}

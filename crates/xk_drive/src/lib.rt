@@ -1,0 +1,15 @@
+//! Runs of a core: by single steps, by a chooser, by a given schedule; and what is written down of them.
+#![tactic(auto)]
+
+mod chooser;
+mod driver;
+mod driving;
+mod logged;
+mod members;
+mod schedule;
+
+pub use chooser::{Chooser, First, Last, Round};
+pub use driver::{Driver, Turn};
+pub use driving::drive;
+pub use logged::{Ended, Logged, Partial};
+pub use schedule::{Halt, Ran, run_schedule};

@@ -1,0 +1,18 @@
+use Rattle.std.proofs.Common.{◌*◌, length, Some, None}
+use Rattle.xk_members.specs.Words.{has}
+use Rattle.xk_members.proofs.Rising.{filter_rises}
+use Rattle.xk_members.proofs.Members.{first_in}
+use Rattle.xk_members.proofs.set.NumberSet.first.Goals as goal
+
+pub returns-in-Some-clause-first : goal.returns-in-Some-clause-first
+returns-in-Some-clause-first c =
+    rw (← c.self.view_is) (first_in (has c.self.inside.low.items) (length c.self.inside.low.items * 64) (Some c.in-Some.i) (rw c.deref.ensures.value at c.in-Some.ensures))
+
+pub returns-in-None-clause-first : goal.returns-in-None-clause-first
+returns-in-None-clause-first c = rw (← c.self.view_is) (first_in (has c.self.inside.low.items) (length c.self.inside.low.items * 64) None (rw c.deref.ensures.value at c.in-None.ensures))
+
+pub returns-in-Some-clause-rising : goal.returns-in-Some-clause-rising
+returns-in-Some-clause-rising c = rw (← c.self.view_is) (filter_rises (has c.self.inside.low.items) (length c.self.inside.low.items * 64))
+
+pub returns-in-None-clause-rising : goal.returns-in-None-clause-rising
+returns-in-None-clause-rising c = rw (← c.self.view_is) (filter_rises (has c.self.inside.low.items) (length c.self.inside.low.items * 64))

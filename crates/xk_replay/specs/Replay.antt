@@ -1,0 +1,60 @@
+-- Logs that are played again. That a run is written down, and played again from what was written, is this project's own.
+use Rattle.std.specs.Prelude.{◌≡◌, ℕ, ℤ, ◌<◌, Bool, true, false, List, ◌++◌, replicate, take, Some, slice_get}
+use Rattle.xk_types.specs.declared.names.Entry.{Entry}
+use Rattle.xk_types.specs.Code.{ModuleValue}
+use Rattle.xk_types.specs.World.{World, opening}
+use Rattle.xk_types.specs.Schedule.{Leads, is_enabled, all_ended, printed}
+use Rattle.xk_types.specs.Logs.{schedule_of}
+use Rattle.xk_core.specs.Core.{CoreValue}
+use Rattle.xk_replay.specs.declared.fault.ReplayFault.{ReplayFault}
+use Rattle.xk_replay.specs.declared.fault.ReplayFault.TheVariants as fault
+
+-- Entry number i of the log is the first that holds a step which isn't enabled: those before it are legal, and so are this many of its own
+-- steps, fewer than it stands for; then its activity can't take another.
+pub record IsStoppedAt (m : ModuleValue) (log : List Entry) (i : ℕ) : Type 0 where
+  pub entry : Entry
+  pub there : slice_get log i ≡ Some entry
+  pub done : ℕ
+  pub left : done < entry.steps
+  pub last : World
+  pub leads : Leads m (schedule_of (take i log) ++ replicate done entry.act) last
+  pub blocked : is_enabled m last entry.act ≡ false
+
+-- the log is legal, and behind its last step somebody hasn't ended
+pub record IsUnfinished (m : ModuleValue) (log : List Entry) : Type 0 where
+  pub last : World
+  pub leads : Leads m (schedule_of log) last
+  pub goes_on : all_ended last ≡ false
+
+-- what is told of a log that isn't that of a whole run; of want of memory nothing is said
+abbrev pub IsFaultOf : ModuleValue → List Entry → ReplayFault → Type 0
+IsFaultOf m log (fault.NotEnabled i) = IsStoppedAt m log i
+IsFaultOf m log fault.NotEnded = IsUnfinished m log
+IsFaultOf m log fault.OutOfMemory = Unit {0}
+
+-- what is told before the end of a log is looked at
+abbrev pub IsStop : ModuleValue → List Entry → ReplayFault → Type 0
+IsStop m log (fault.NotEnabled i) = IsStoppedAt m log i
+IsStop m log fault.NotEnded = ⊥
+IsStop m log fault.OutOfMemory = Unit {0}
+
+-- the list leads from the opening world to the core, and prints these numbers
+pub record IsSoFar (list : List ℕ) (numbers : List ℤ) (c : CoreValue) : Type 0 where
+  pub leads : Leads c.module_run list c.world
+  pub prints : numbers ≡ printed c.module_run list (opening c.module_run)
+
+-- this many steps more of activity a lead from one core to another
+abbrev pub GoesOn : CoreValue → List ℤ → ℕ → ℕ → CoreValue → List ℤ → Type 0
+GoesOn c numbers a n d more = (list : List ℕ) → IsSoFar list numbers c → IsSoFar (list ++ replicate n a) more d
+
+-- some steps of the entry were taken, fewer than it stands for, and then its activity can't take another
+pub record IsHeld (c : CoreValue) (numbers : List ℤ) (e : Entry) (d : CoreValue) (more : List ℤ) : Type 0 where
+  pub done : ℕ
+  pub left : done < e.steps
+  pub goes : GoesOn c numbers e.act done d more
+  pub blocked : is_enabled d.module_run d.world e.act ≡ false
+
+-- what became of an entry: all its steps were taken, or it was held up
+abbrev pub IsRepeated : CoreValue → List ℤ → Entry → CoreValue → List ℤ → Bool → Type 0
+IsRepeated c numbers e d more true = GoesOn c numbers e.act e.steps d more
+IsRepeated c numbers e d more false = IsHeld c numbers e d more

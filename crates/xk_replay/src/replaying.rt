@@ -1,0 +1,131 @@
+//! A log is played again.
+
+ghost use Rattle.std.specs.Prelude.{◌≡◌, ◌++◌, IfOk, IfErr, OnOk};
+ghost use Rattle.std.specs.Option.{option_to_list};
+ghost use Rattle.xk_types.specs.Schedule.{number_printed};
+ghost use Rattle.xk_drive.specs.Driving.{IsRunOf};
+ghost use Rattle.xk_replay.specs.Replay.{IsFaultOf, IsStop, IsRepeated};
+
+use crate::fault::ReplayFault;
+use std::alloc::{AllocError, Global};
+use xk_bounds::Verified;
+use xk_core::Core;
+use xk_drive::Ended;
+use xk_log::Log;
+use xk_types::{Act, Entry, Event};
+
+/// Where a log leads, and what it prints on the way.
+#[derive(Drop)]
+struct Led<'m> {
+    core: Core<'m>,
+    printed: Vec<i64>,
+}
+
+/// Plays a log again: carries out the steps that its entries stand for, one after the other, and stops before the first that isn't
+/// enabled, which comes behind at most the verified number of steps. Ok exactly where each is enabled and behind the last all have ended,
+/// want of memory aside; the answer has the log as it was given. Where there is none, the log comes back with the reason.
+pub fn replay<'m>(
+    alloc: Global,
+    verified: &'m Verified,
+    log: Log,
+) -> Result<Ended<'m>, (Log, ReplayFault)>
+    ensures same_module { IfOk result (λ e. e.module.now ≡ verified.now) }
+    ensures same_log { IfOk result (λ e. e.log.items ≡ log) }
+    ensures log_back { IfErr result (λ f. f.0 ≡ log) }
+    // A log of which a fault is told is none of a whole run.
+    ensures fault { IfErr result (λ f. IsFaultOf verified.now log f.1) }
+{
+    let entries = log.into_entries();
+    match carry_out(alloc, verified, &entries) {
+        Err(fault) => Err((Log::new(entries), fault)),
+        Ok(led) => close(verified, entries, led),
+    }
+}
+
+/// The answer to a log that leads so far.
+fn close<'m>(
+    verified: &'m Verified,
+    entries: Vec<Entry>,
+    led: Led<'m>,
+) -> Result<Ended<'m>, (Log, ReplayFault)>
+    requires { IsRunOf verified.now entries.items led.printed.items led.core }
+    ensures same_module { IfOk result (λ e. e.module.now ≡ verified.now) }
+    ensures same_log { IfOk result (λ e. e.log.items ≡ entries.items) }
+    ensures log_back { IfErr result (λ f. f.0 ≡ entries.items) }
+    ensures fault { IfErr result (λ f. IsFaultOf verified.now entries.items f.1) }
+{
+    let over = led.core.ended();
+    if over {
+        Ok(Ended {
+            module: verified,
+            log: entries,
+            printed: led.printed,
+            core: led.core,
+        })
+    } else {
+        Err((Log::new(entries), ReplayFault::NotEnded))
+    }
+}
+
+/// Carries out all entries of a log.
+fn carry_out<'m>(
+    alloc: Global,
+    verified: &'m Verified,
+    log: &[Entry],
+) -> Result<Led<'m>, ReplayFault>
+    ensures led { IfOk result (λ led.
+        IsRunOf verified.now log.now led.printed.items led.core) }
+    ensures stopped { IfErr result (IsStop verified.now log.now) }
+{
+    let mut core = Core::open(alloc, verified)?;
+    let mut printed = Vec::new(alloc);
+    for (i, entry) in log.iter().enumerate() {
+        if !repeat(&mut core, &mut printed, *entry)? {
+            return Err(ReplayFault::NotEnabled(i as u64));
+        }
+    }
+    Ok(Led { core, printed })
+}
+
+/// Carries out the steps of an entry, and tells whether all of them were enabled. It stops before the first that isn't.
+fn repeat(core: &mut Core<'_>, printed: &mut Vec<i64>, entry: Entry) -> Result<bool, AllocError>
+    ensures repeated { IfOk result
+        (IsRepeated core.old printed.old.items entry core.new printed.new.items) }
+    ensures same_module { core.new.module_run ≡ core.old.module_run }
+{
+    let act = Act(entry.act);
+    for _done in 0..entry.steps {
+        if !core.enabled(act) {
+            return Ok(false);
+        }
+        let event = core.step(act)?;
+        keep(printed, event)?;
+    }
+    Ok(true)
+}
+
+/// Keeps the number that an event prints, if it does.
+fn keep(printed: &mut Vec<i64>, event: Event) -> Result<(), AllocError>
+    ensures { OnOk result
+        (printed.new.items ≡ printed.old.items ++ option_to_list (number_printed event)) }
+{
+    match event {
+        Event::Printed(number) => {
+            printed.push(number)?;
+            Ok(())
+        }
+        Event::Local
+        | Event::Made
+        | Event::Got
+        | Event::Put
+        | Event::Added
+        | Event::Opened
+        | Event::Closed
+        | Event::Spawned
+        | Event::Resumed
+        | Event::Dropped
+        | Event::Arrived
+        | Event::Passed
+        | Event::Ended => Ok(()),
+    }
+}

@@ -1,0 +1,23 @@
+//! The log of a run, written.
+
+ghost use Rattle.std.specs.Prelude.{◌≡◌, OnOk, OnErr};
+ghost use Rattle.std.specs.Io.KnownBytes.{Appends};
+ghost use Rattle.xk_types.specs.Device.{Rose};
+ghost use Rattle.xk_log.specs.LogText.{log_text};
+ghost use Rattle.xk_log.specs.Writing.{AppendsBeginning};
+
+use xk_drive::Ended;
+use xk_log::{Device, write_entries};
+use xk_types::Sink;
+
+/// Writes the text of a run's log. Where a write fails, a beginning of it was written. It takes no memory.
+pub fn write_log<W: Sink>(ended: &Ended<'_>, sink: &mut W) -> Result<(), Device>
+    ensures all { OnOk result
+        (Appends (W.contents sink.old) (W.contents sink.new) (log_text ended.now.log.items)) }
+    ensures beginning { AppendsBeginning
+        (W.contents sink.old) (W.contents sink.new) (log_text ended.now.log.items) }
+    ensures no_fault { OnOk result (W.fault_count sink.new ≡ W.fault_count sink.old) }
+    ensures failed { OnErr result (Rose (W.fault_count sink.old) (W.fault_count sink.new)) }
+{
+    write_entries(&ended.log, sink)
+}

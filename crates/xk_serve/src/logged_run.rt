@@ -1,0 +1,71 @@
+//! The run of a module in an order, with its log.
+
+ghost use Rattle.std.specs.Prelude.{◌≡◌, IfOk};
+ghost use Rattle.xk_types.specs.World.{opening};
+ghost use Rattle.xk_drive.specs.Choosing.{Follows};
+ghost use Rattle.xk_serve.specs.OrderedRun.{IsLogThat, IsLoggedRun, IsRunThat};
+
+use std::alloc::{AllocError, Global};
+use xk_bounds::Verified;
+use xk_core::Core;
+use xk_drive::{Chooser, Ended, First, Last, Round, drive};
+use xk_types::Entry;
+use xk_words::Order;
+
+/// A run that came to its end.
+#[derive(Debug, Drop)]
+pub(crate) struct LoggedRun {
+    /// The numbers that it printed, in order.
+    pub(crate) printed: Vec<i64>,
+    /// How many steps it took.
+    pub(crate) steps: u64,
+    /// Who took each step.
+    pub(crate) log: Vec<Entry>,
+}
+
+/// Runs the module to its end, in this order, and keeps the log.
+pub(crate) fn run_with_log(
+    alloc: Global,
+    order: Order,
+    verified: &Verified,
+) -> Result<LoggedRun, AllocError>
+    ensures { IfOk result (λ run.
+        IsLoggedRun order verified.now run.printed.items run.steps run.log.items) }
+{
+    match order {
+        Order::First => log_by(alloc, verified, &mut First),
+        Order::Last => log_by(alloc, verified, &mut Last),
+        Order::Round => log_by(alloc, verified, &mut Round::new()),
+    }
+}
+
+/// The run in which each step is taken by whom the chooser names.
+fn log_by<C: Chooser>(
+    alloc: Global,
+    verified: &Verified,
+    chooser: &mut C,
+) -> Result<LoggedRun, AllocError>
+    ensures { IfOk result (λ run. IsRunThat
+        (IsLogThat (Follows C.answer C.after verified.now chooser.old (opening verified.now))
+        run.log.items)
+        verified.now run.printed.items run.steps) }
+{
+    match drive(alloc, Core::open(alloc, verified)?, chooser) {
+        Ok(ended) => Ok(logged(ended)),
+        Err(_) => Err(AllocError),
+    }
+}
+
+/// What is kept of a run.
+fn logged(ended: Ended<'_>) -> LoggedRun
+    ensures printed { result.printed ≡ ended.entry.printed }
+    ensures steps { result.steps ≡ ended.entry.core.world.steps }
+    ensures log { result.log ≡ ended.entry.log }
+{
+    let steps = ended.core.steps_done();
+    LoggedRun {
+        printed: ended.printed,
+        steps,
+        log: ended.log,
+    }
+}
