@@ -2,6 +2,7 @@
 """Plants bugs in the crates and asks the prover whether the contracts refuse them.
 
     tests/bugs.py [--top FOLDER] [--plan] [--keep FOLDER] CRATE [BUG ..]
+    tests/bugs.py [--top FOLDER] --applies [CRATE]
 
 Bugs stand in tests/bugs/CRATE.bugs, each as
 
@@ -22,6 +23,8 @@ says for itself whether it is refused; one that calls a function which is refuse
     no program          it doesn't compile
     passes              it is proved
     not tried           a function that its own one calls, or another of its cycle, is refused in each check
+
+`--applies` asks no prover: it says which bugs, of one crate or of all, name a file that isn't there or a text that doesn't stand once in it.
 
 It changes the files of the crate while it runs and puts them back: run it on a copy of the repository. The status is 0 where each bug is
 refused by its own function, or passes as said.
@@ -291,17 +294,38 @@ def try_all(crate, bugs, keep):
     return answers
 
 
+def bugs_of(top, name):
+    return read_bugs(os.path.join(top, "tests", "bugs", name + ".bugs"))
+
+
+def apply_all(top, names):
+    """Says which bugs of these crates, or of all, can't be planted; whether all can."""
+    files = sorted(os.listdir(os.path.join(top, "tests", "bugs")))
+    count, wrong = 0, []
+    for name in names or [file.removesuffix(".bugs") for file in files if file.endswith(".bugs")]:
+        crate, bugs = Crate(top, name), bugs_of(top, name)
+        count += len(bugs)
+        wrong += [f"look at {name} {b.name}: {why}" for b in bugs if (why := crate.stale(b))]
+    print(*wrong, f"{count} bugs, {count - len(wrong)} can be planted", sep="\n")
+    return not wrong
+
+
 def main():
     p = argparse.ArgumentParser()
     p.add_argument("--top", default=os.path.join(os.path.dirname(__file__), ".."))
     p.add_argument("--plan", action="store_true", help="say what would be tried together")
     p.add_argument("--keep", help="a folder for what the prover says")
-    p.add_argument("crate")
+    p.add_argument("--applies", action="store_true", help="say which bugs can't be planted")
+    p.add_argument("crate", nargs="?")
     p.add_argument("bugs", nargs="*")
     a = p.parse_args()
+    if a.applies:
+        sys.exit(0 if apply_all(a.top, [a.crate] if a.crate else []) else 1)
+    if not a.crate:
+        p.error("which crate?")
     signal.signal(signal.SIGTERM, lambda *_: sys.exit(1))
     crate = Crate(a.top, a.crate)
-    bugs = read_bugs(os.path.join(a.top, "tests", "bugs", a.crate + ".bugs"))
+    bugs = bugs_of(a.top, a.crate)
     bugs = [b for b in bugs if not a.bugs or b.name in a.bugs]
     stale = {b.name: crate.stale(b) for b in bugs if crate.stale(b)}
     fresh = [b for b in bugs if b.name not in stale]

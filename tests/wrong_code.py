@@ -4,7 +4,7 @@
     tests/wrong_code.py [BUG ..]
 
 They stand in tests/bugs/xk_source.bugs, in the form that tests/bugs.py tells; each changes the definition of the code of statements
-(crates/xk_code/specs), which the law is about. The functions of `xk_code` would be refused first, by the contract that names the
+(crates/xk_code/specs) or of what a text means (crates/xk_source/specs), which the law is about. The functions of `xk_code` would be refused first, by the contract that names the
 definition; so in a copy of the crates below that one is left with its definitions and what the law's proof cites of its lemmas, and
 `xk_source` is checked over it: as it is, where it has to be proved, and with each change, where it must not be.
 """
@@ -42,7 +42,7 @@ def with_definitions_alone(folder):
 
 
 def copied(folder):
-    """A copy of the crates that the law needs; the path of xk_code in it."""
+    """Makes a copy of the crates that the law needs."""
     crates = os.path.join(folder, "crates")
     for name in BELOW + ["xk_code", "xk_source"]:
         shutil.copytree(os.path.join(TOP, "crates", name), os.path.join(crates, name))
@@ -52,7 +52,6 @@ def copied(folder):
     with open(os.path.join(folder, "crates.txt"), "w", encoding="utf-8") as f:
         f.write("".join(line + "\n" for line in wanted))
     with_definitions_alone(os.path.join(crates, "xk_code"))
-    return os.path.join(crates, "xk_code")
 
 
 def says(folder):
@@ -75,13 +74,13 @@ def main():
     bugs = [b for b in bugs if not sys.argv[1:] or b.name in sys.argv[1:]]
     wrong = []
     with tempfile.TemporaryDirectory() as folder:
-        code = copied(folder)
+        copied(folder)
         first, line = says(folder)
         print(f"as it is: {first} {line}", flush=True)
         if first != "proved":
             sys.exit(1)
         for bug in bugs:
-            path = os.path.join(code, "specs", bug.file)
+            path = os.path.join(folder, "crates", "xk_source", bug.file)
             right = open(path, encoding="utf-8").read()
             text = right
             for old, new in bug.pairs:
