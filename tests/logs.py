@@ -4,9 +4,10 @@
 
     python3 tests/logs.py [CASES] [SEED] [--program PATH] [--jobs N]
 
-2,000 cases, seed 1 and 2 jobs where nothing else is said. A case is a program, and the log of a run by an order or by chance, which may be
-changed line by line or byte by byte. Without `--program` the telling is held against itself: what is written is read back, no beginning of a
-text is a text, and entries that are joined or parted give the same run.
+2,000 cases, seed 1 and 2 jobs where nothing else is said. A case is a program, as a source text or a module, and the log of a run by an order
+or by chance, which may be changed: an entry, a line, or a byte. The program runs it with `--log` in that order, replays the log and charts
+it. The telling is held against itself, too: what is written is read back, no beginning of a text is a text, and entries that are joined give
+the same run. The rows are asked of the program twice: as they are, and of the modules that their programs are compiled to.
 """
 
 from __future__ import annotations
@@ -27,10 +28,13 @@ import generated_source
 import telling
 import telling_log
 import telling_source
-from telling import Accepted, Order
+from telling import Accepted, Order, Refused
 from telling_log import Answer, Entry, Fault, Log
 
-ROWS = pathlib.Path(__file__).resolve().parent / "logs.rows"
+TESTS = pathlib.Path(__file__).resolve().parent
+ROWS = TESTS / "logs.rows"
+IN_STEP = TESTS / "rows/in-step.x10"
+NEW_LINE = b"\n"
 MOST_STEPS = 600
 CHUNK = 100
 SHOWN = 5
@@ -40,17 +44,39 @@ ASKED = re.compile(r"(log|chart)(?: (last|round))?:(?: (.*))?|(replay|chart) (.*
 ORDERS = {None: Order.FIRST, "last": Order.LAST, "round": Order.ROUND}
 
 
+# Programs.
+
+
+@dataclass(frozen=True)
+class Text:
+    """The text of a program."""
+
+    data: bytes
+    is_module: bool = False
+
+    def judged(self) -> Accepted | Refused:
+        return telling.judge(self.data) if self.is_module else telling_source.judge(self.data)
+
+    def words(self) -> list[str]:
+        return ["--module"] if self.is_module else []
+
+    def compiled(self) -> Text:
+        return Text(telling_source.module_text(self.data).encode(), is_module=True)
+
+
 # Who answers.
 
 
 class Told:
     """The telling."""
 
-    def log(self, text: bytes, order: Order) -> bytes:
-        return telling_log.text_of(telling_log.log_of(telling_source.judge(text).module, order))
+    def run(self, text: Text, order: Order) -> tuple[Answer, bytes]:
+        """What a run prints, and its log."""
+        module = text.judged().module
+        return (0, telling.run(module, order).text(), ""), telling_log.text_of(telling_log.log_of(module, order))
 
-    def answer(self, text: bytes, log: bytes, command: str) -> Answer:
-        return telling_log.answer(telling_source.judge(text), log, command)
+    def answer(self, text: Text, log: bytes, command: str) -> Answer:
+        return telling_log.answer(text.judged(), log, command)
 
 
 class Program:
@@ -66,18 +92,28 @@ class Program:
             return -1, "", "no answer in time"
         return ran.returncode, ran.stdout.decode("utf-8", "replace"), ran.stderr.decode("utf-8", "replace")
 
-    def log(self, text: bytes, order: Order) -> bytes:
+    def run(self, text: Text, order: Order) -> tuple[Answer, bytes]:
         file, log = self.folder / "text", self.folder / "made"
-        file.write_bytes(text)
+        file.write_bytes(text.data)
         log.write_bytes(b"something that was there before")
-        status, _, err = self.call("run", "--order", order.value, "--log", log, file)
-        return log.read_bytes() if status == 0 else f"status {status}: {err}".encode()
+        answer = self.call("run", *text.words(), "--order", order.value, "--log", log, file)
+        return answer, log.read_bytes()
 
-    def answer(self, text: bytes, log: bytes, command: str) -> Answer:
+    def answer(self, text: Text, log: bytes, command: str) -> Answer:
         file, given = self.folder / "text", self.folder / "log"
-        file.write_bytes(text)
+        file.write_bytes(text.data)
         given.write_bytes(log)
-        return self.call(command, file, given)
+        return self.call(command, *text.words(), file, given)
+
+
+class ProgramOnModules(Program):
+    """The same, asked about the module that a source text is compiled to."""
+
+    def run(self, text: Text, order: Order) -> tuple[Answer, bytes]:
+        return super().run(text.compiled(), order)
+
+    def answer(self, text: Text, log: bytes, command: str) -> Answer:
+        return super().answer(text.compiled(), log, command)
 
 
 # Rows.
@@ -92,40 +128,62 @@ def wanted(line: str, command: str) -> Answer:
 
 def row_differences(who: Told | Program) -> tuple[int, list[str]]:
     """How many questions the rows have, and which are answered otherwise."""
-    count, differing, text = 0, [], b""
+    count, differing, text = 0, [], Text(b"")
 
     def said(question: str, row: object, got: object) -> None:
         nonlocal count
         count += 1
         if row != got:
-            differing.append(f"{text.decode()}\n    {question}\n    row: {row}\n    {type(who).__name__.lower()}: {got}")
+            differing.append(f"{text.data.decode()}\n    {question}\n    row: {row}\n    {type(who).__name__}: {got}")
 
     for line in ROWS.read_text().split("\n"):
         if not line or line.startswith("#"):
             continue
         asked = ASKED.fullmatch(line)
         if not asked:
-            text = line.encode()
+            text = Text(line.encode())
             continue
         made, order, line_wanted, command, log, answer = asked.groups()
         if made == "log":
             entries = [Entry(int(activity), 1) for activity in line_wanted.split()]
-            said(line, telling_log.text_of(entries), who.log(text, ORDERS[order]))
+            said(line, telling_log.text_of(entries), who.run(text, ORDERS[order])[1])
         elif made:
-            said(line, wanted(line_wanted or "", "chart"), who.answer(text, who.log(text, ORDERS[order]), "chart"))
+            said(line, wanted(line_wanted or "", "chart"), who.answer(text, who.run(text, ORDERS[order])[1], "chart"))
         else:
             said(line, wanted(answer, command), who.answer(text, log.replace("|", "\n").encode(), command))
     return count, differing
 
 
+def edge_differences(who: Told | Program) -> tuple[int, list[str]]:
+    """The same of each beginning of a log, and of a log with one byte more, whichever it is."""
+    text = Text(IN_STEP.read_bytes())
+    log = who.run(text, Order.FIRST)[1]
+    asked = [(log[:end], "replay", "x10clock: L2 Truncated") for end in range(len(log))]
+    behind = f"x10clock: L1 Grammar line {log.count(NEW_LINE) + 1}"
+    asked += [(log + bytes([more]), "chart", behind) for more in range(256)]
+    differing = []
+    for given, command, line in asked:
+        got = who.answer(text, given, command)
+        if got != wanted(line, command):
+            differing.append(f"{command} {given!r}\n    wanted: {line}\n    {type(who).__name__}: {got}")
+    return len(asked), differing
+
+
 # Logs that nobody wrote.
 
 
-def accepted_text(rng: random.Random) -> tuple[bytes, Accepted]:
+def any_text(rng: random.Random) -> Text:
+    """A program, as a source text or as a module."""
+    if rng.random() < 0.3:
+        return Text(generated.text_of(rng, generated.program(rng)), is_module=True)
+    return Text(generated_source.text_of(rng, generated_source.program(rng)))
+
+
+def accepted_text(rng: random.Random) -> tuple[Text, Accepted]:
     """A program that is accepted, and isn't long."""
     while True:
-        text = generated_source.text_of(rng, generated_source.program(rng))
-        judged = telling_source.judge(text)
+        text = any_text(rng)
+        judged = text.judged()
         if isinstance(judged, Accepted) and judged.bounds.steps <= MOST_STEPS:
             return text, judged
 
@@ -157,21 +215,26 @@ EDGES = (0, 1, 2, 3, telling_log.GREATEST - 1, telling_log.GREATEST, telling_log
 
 
 def changed_entries(rng: random.Random, log: Log) -> Log:
-    """An entry more, one less, another one, or two in another order."""
+    """An entry dropped, doubled, put in, of more steps or another one; two in another order; or the rest gone."""
     log, at = list(log), rng.randrange(len(log))
-    other = Entry(rng.choice([log[at].activity, rng.randrange(4), rng.choice(EDGES)]), rng.choice([1, log[at].steps + 1, rng.choice(EDGES)]))
-    match rng.randrange(5):
+    entry = log[at]
+    other = Entry(rng.choice([entry.activity, rng.randrange(4), rng.choice(EDGES)]), rng.choice([1, entry.steps + 1, rng.choice(EDGES)]))
+    match rng.randrange(7):
         case 0:
-            log.insert(at, other)
-        case 1:
             del log[at]
+        case 1:
+            log.insert(at, entry)
         case 2:
-            log[at] = other
+            log.insert(at, other)
         case 3:
+            log[at] = Entry(entry.activity, entry.steps + rng.choice([1, 1, 2, 100, telling_log.GREATEST - entry.steps]))
+        case 4:
+            log[at] = other
+        case 5:
             to = rng.randrange(len(log))
             log[at], log[to] = log[to], log[at]
         case _:
-            del log[rng.randrange(len(log)) :]
+            del log[at:]
     return log
 
 
@@ -194,6 +257,12 @@ def changed_lines(rng: random.Random, text: bytes) -> bytes:
     return b"".join(lines)
 
 
+def changed_byte(rng: random.Random, text: bytes) -> bytes:
+    """Another byte in one place: mostly one that logs have."""
+    at = rng.randrange(len(text))
+    return text[:at] + bytes([rng.choice(b"0123456789 \n") if rng.random() < 0.8 else rng.randrange(256)]) + text[at + 1 :]
+
+
 SPOILS = [bytes([sign]) for sign in b"0123456789 endx\n\r\t+-.\x00\xff"] + [b"end ", b"00", b"\n\n"]
 
 
@@ -205,26 +274,29 @@ def log_of_case(rng: random.Random, module: telling.Module) -> bytes:
     if way < 0.3:
         log = changed_entries(rng, log)
     text = telling_log.text_of(log)
-    changes: list[Callable[[], bytes]] = [lambda: changed_lines(rng, text), lambda: generated.changed_bytes(rng, text, SPOILS)]
+    changes: list[Callable[[], bytes]] = [
+        lambda: changed_lines(rng, text),
+        lambda: changed_byte(rng, text),
+        lambda: generated.changed_bytes(rng, text, SPOILS),
+    ]
     return text if way < 0.6 else rng.choice(changes)()
 
 
 def differences(rng: random.Random, program: Program | None) -> Iterator[str]:
     """What differs in a case."""
     text, judged = accepted_text(rng)
-    order = rng.choice(list(Order))
-    log = telling_log.text_of(telling_log.log_of(judged.module, order))
-    given = log_of_case(rng, judged.module)
-    if program is None:
-        yield from against_itself(rng, judged.module, log, order)
-        return
+    order, given = rng.choice(list(Order)), log_of_case(rng, judged.module)
     told = Told()
-    if rng.random() < 0.5 and (made := program.log(text, order)) != log:
-        yield f"{text!r}\n    run --order {order.value} --log\n    telling: {log!r}\n    program: {made!r}"
-    command = rng.choice(["replay", "replay", "chart"])
-    right, got = told.answer(text, given, command), program.answer(text, given, command)
-    if right != got:
-        yield f"{text!r}\n    {command} {given!r}\n    telling: {right}\n    program: {got}"
+    right = told.run(text, order)
+    yield from against_itself(rng, judged.module, right[1], order)
+    if program is None:
+        return
+    asked = [(f"run --order {order.value} --log", right, program.run(text, order))]
+    for command in ("replay", "chart"):
+        asked.append((f"{command} {given!r}", told.answer(text, given, command), program.answer(text, given, command)))
+    for question, wanted_answer, got in asked:
+        if wanted_answer != got:
+            yield f"{text}\n    {question}\n    telling: {wanted_answer}\n    program: {got}"
 
 
 def against_itself(rng: random.Random, module: telling.Module, text: bytes, order: Order) -> Iterator[str]:
@@ -270,13 +342,19 @@ def words() -> argparse.Namespace:
     return parser.parse_args()
 
 
+def asked_of(who: Told | Program) -> tuple[int, list[str]]:
+    count, differing = row_differences(who)
+    more, others = edge_differences(who)
+    return count + more, differing + others
+
+
 def main() -> int:
     given = words()
     program = given.program and given.program.resolve()
-    count, differing = row_differences(Told())
-    if program:
+    count, differing = asked_of(Told())
+    for form in (Program, ProgramOnModules) if program else ():
         with tempfile.TemporaryDirectory() as folder:
-            more, others = row_differences(Program(program, folder))
+            more, others = asked_of(form(program, folder))
         count, differing = count + more, differing + others
     chunks = [range(start, min(start + CHUNK, given.cases)) for start in range(0, given.cases, CHUNK)]
     with concurrent.futures.ProcessPoolExecutor(given.jobs) as pool:

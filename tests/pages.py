@@ -9,8 +9,9 @@ A block that begins with a question has below it the program that the question i
 
 A question is a command with its words, a colon, and the answer: on standard error with status 1 where it begins with `x10clock: `, else on
 standard output with status 0; of `run`, a comma stands where a line ends. With `--module` the program is a module. A block that begins with
-`$ ` has calls, each with all that it says below it; `x10clock` in a call is the built program, and the folder is the top of the repository.
-All other blocks are for the eye. With `--write` the answers are written anew. docs/REFUSALS.md has to have an answer with each rule.
+`$ ` has calls, each with all that it says below it; `x10clock` in a call is the built program. The calls of a page are made one after another
+in a folder of the page's own, which has a copy of `examples` and what calls before have left. All other blocks are for the eye. With `--write`
+the answers are written anew. docs/REFUSALS.md has to have an answer with each rule.
 
     python3 tests/pages.py [--write] [PAGE ..]
 """
@@ -20,15 +21,19 @@ from __future__ import annotations
 import os
 import pathlib
 import re
+import shutil
 import subprocess
 import sys
+import tempfile
 from dataclasses import dataclass, field
 
 TOP = pathlib.Path(__file__).resolve().parent.parent
 PROGRAM = pathlib.Path(os.environ.get("X10CLOCK", TOP / "crates/x10clock/out/x10clock")).resolve()
 PAGES = [TOP / "README.md", TOP / "examples/README.md", *sorted((TOP / "docs").glob("*.md"))]
 REFUSALS = TOP / "docs/REFUSALS.md"
-RULES = {*(f"F{number}" for number in range(1, 15)), *(f"M{number}" for number in range(1, 4)), *(f"V{number}" for number in range(1, 18))}
+# (L3, a read that failed, is told as `x10clock: device`.)
+NUMBERS = {"F": range(1, 15), "M": range(1, 4), "V": range(1, 18), "L": (1, 2, 4, 5)}
+RULES = {f"{letter}{number}" for letter, numbers in NUMBERS.items() for number in numbers}
 
 BLOCK = re.compile(r"^```\w*\n(.*?)^```$", re.MULTILINE | re.DOTALL)
 QUESTION = re.compile(r"((?:check|compile|run)(?: --\w+(?: (?!--)\w+)?)*): (.*)\n")
@@ -43,7 +48,7 @@ class Played:
 
     def said(self, where: str, wanted: str, got: str) -> None:
         self.asked += 1
-        self.labels.update(re.findall(r"x10clock: ([FMV]\d+) ", wanted))
+        self.labels.update(re.findall(r"x10clock: ([FMVL]\d+) ", wanted))
         if wanted != got:
             self.differing.append(f"{where}\n    page:    {wanted!r}\n    program: {got!r}")
 
@@ -74,22 +79,22 @@ def asked(where: str, block: str, played: Played) -> str:
     return "".join(f"{words}: {got}\n" for words, got in given) + block
 
 
-def called(where: str, block: str, played: Played) -> str:
-    """A block of calls, with what they said."""
+def called(where: str, block: str, folder: str, played: Played) -> str:
+    """A block of calls in this folder, with what they said."""
     parts = []
     for call in re.split(r"^(?=\$ )", block, flags=re.MULTILINE)[1:]:
         line, wanted = call.split("\n", 1)
         script = f'x10clock() {{ "$PROGRAM" "$@"; }}\n{line[2:]}\n'
         environ = {**os.environ, "PROGRAM": str(PROGRAM)}
-        ran = subprocess.run(["sh", "-c", script], cwd=TOP, env=environ, capture_output=True, timeout=SECONDS, check=False)
+        ran = subprocess.run(["sh", "-c", script], cwd=folder, env=environ, capture_output=True, timeout=SECONDS, check=False)
         got = ran.stdout.decode() + ran.stderr.decode()
         played.said(f"{where}: {line[2:]}", wanted, got)
         parts.append(f"{line}\n{got}")
     return "".join(parts)
 
 
-def play(page: pathlib.Path, played: Played) -> str:
-    """The page, with the answers that were given."""
+def play(page: pathlib.Path, folder: str, played: Played) -> str:
+    """The page, with the answers that were given; calls are made in this folder."""
     text = page.read_text()
 
     def block(found: re.Match[str]) -> str:
@@ -98,7 +103,7 @@ def play(page: pathlib.Path, played: Played) -> str:
         if QUESTION.match(inside):
             inside = asked(where, inside, played)
         elif inside.startswith("$ "):
-            inside = called(where, inside, played)
+            inside = called(where, inside, folder, played)
         return found[0].replace(found[1], inside, 1) if found[1] else found[0]
 
     return BLOCK.sub(block, text)
@@ -110,7 +115,9 @@ def main(words: list[str]) -> int:
     differing, count = [], 0
     for page in pages:
         played = Played()
-        text = play(page, played)
+        with tempfile.TemporaryDirectory() as folder:
+            shutil.copytree(TOP / "examples", f"{folder}/examples")
+            text = play(page, folder, played)
         if write:
             page.write_text(text)
         missing = RULES - played.labels if page == REFUSALS else set()

@@ -1,7 +1,8 @@
 #!/bin/sh
 # Refuses each growth in turn, the first, the second and so on, until a run ends without a refusal: in `exhaust`, which
 # makes each library call again where it was refused memory, and in `x10clock` itself on small programs, modules and source texts, and on
-# words that are no job, which has to answer as it does with ample memory, or with status 4, an empty standard output and its line.
+# words that are no job, which has to answer as it does with ample memory, or with status 4, an empty standard output, nothing in the log
+# that it was to write, and its line.
 set -eu
 cd "$(dirname "$0")/.."
 top=$PWD
@@ -15,11 +16,11 @@ for name in exhaust x10clock; do
     fi
 done
 
-# refusing K PROGRAM WORDS..: runs the program with growth K refused, its output in $work.
+# refusing K PROGRAM WORDS..: runs the program with growth K refused, its output in $work, and the log that it makes, if any, in $work/log.
 refusing() {
     at=$1
     shift
-    rm -f "$work/mark"
+    rm -f "$work/mark" "$work/log"
     status=0
     timeout 60 env REFUSE_AT="$at" REFUSE_MARK="$work/mark" LD_PRELOAD="$work/refuse.so" "$@" \
         < "$work/in" > "$work/out" 2> "$work/err" || status=$?
@@ -50,6 +51,12 @@ ample() {
     wanted=$status
     cp "$work/out" "$work/wanted-out"
     cp "$work/err" "$work/wanted-err"
+    if [ -e "$work/log" ]; then cp "$work/log" "$work/wanted-log"; else rm -f "$work/wanted-log"; fi
+}
+
+# same_log: the log is the one that was made with ample memory, or none is, as none was.
+same_log() {
+    if [ -e "$work/wanted-log" ]; then cmp -s "$work/log" "$work/wanted-log"; else [ ! -e "$work/log" ]; fi
 }
 
 # each_growth NAME WORDS..: x10clock answers so, or that memory ran out, whichever of its growths is refused.
@@ -63,11 +70,13 @@ each_growth() {
         if [ "$status" = 4 ]; then
             [ ! -s "$work/out" ] || fail "$what, growth $k: output with status 4"
             cmp -s "$work/err" "$work/memory" || fail "$what, growth $k: $(cat "$work/err")"
+            [ ! -s "$work/log" ] || fail "$what, growth $k: a log with status 4"
             [ -e "$work/mark" ] || fail "$what: out of memory without a refused growth"
         else
             [ "$status" = "$wanted" ] || fail "$what, growth $k: status $status"
             cmp -s "$work/out" "$work/wanted-out" || fail "$what, growth $k: $(cat "$work/out")"
             cmp -s "$work/err" "$work/wanted-err" || fail "$what, growth $k: $(cat "$work/err")"
+            same_log || fail "$what, growth $k: another log"
         fi
         [ -e "$work/mark" ] || break
         k=$((k + 1))
@@ -98,6 +107,47 @@ for row in tests/rows/*.json tests/rows/*.x10; do
         each_growth "$row, compiled" compile -
     fi
 done
+
+# answered STATUS: x10clock answered with this status and the text in $work/told, where it belongs, and nothing else.
+answered() {
+    case $1 in 0) said=out silent=err ;; *) said=err silent=out ;; esac
+    [ "$wanted" = "$1" ] && cmp -s "$work/$said" "$work/told" && [ ! -s "$work/$silent" ]
+}
+
+# A run with its log; the log's replay and chart; and logs that are refused.
+for row in in-step.x10 ring.json method-waits.x10 shared-sum.x10; do
+    case $row in *.json) form=--module ;; *) form= ;; esac
+    cp "tests/rows/$row" "$work/in"
+    ample run $form --log "$work/log" -
+    [ "$(tail -n 1 "$work/log")" = "$(sed -n 's/^ended steps /end /p' "$work/out")" ] || fail "$row, the log: $(cat "$work/log")"
+    each_growth "$row, with a log" run $form --log "$work/log" -
+    cp "$work/wanted-log" "$work/given"
+    cp "$work/wanted-out" "$work/told"
+    ample replay $form - "$work/given"
+    answered 0 || fail "$row, replay: $(cat "$work/out" "$work/err")"
+    each_growth "$row, replay" replay $form - "$work/given"
+    ample chart $form - "$work/given"
+    [ "$wanted" = 0 ] || fail "$row, chart: $(cat "$work/err")"
+    each_growth "$row, chart" chart $form - "$work/given"
+done
+printf 'def main() { for (i in 1..50) async { } }\n' > "$work/in"
+ample run --log "$work/log" -
+each_growth "fifty activities, with a log" run --log "$work/log" -
+
+cp tests/rows/in-step.x10 "$work/in"
+while read -r log line; do
+    echo "x10clock: $line" > "$work/told"
+    for command in replay chart; do
+        ample "$command" - "tests/logs/$log"
+        answered 3 || fail "$command, $log: $(cat "$work/out" "$work/err")"
+    done
+    each_growth "chart, $log" chart - "tests/logs/$log"
+done << 'END'
+zero-steps.log L1 Grammar line 2
+no-end.log L2 Truncated
+waits.log L4 NotEnabled entry 3
+stops.log L5 NotEnded
+END
 
 # begins FILE LINE: the text in FILE begins with this line; an empty line stands for an empty text.
 begins() {

@@ -18,6 +18,8 @@ import telling_source
 from telling import Accepted, Order, Refused
 
 TOO_LONG = 100_000
+# What is behind these bytes of a file isn't looked at: some files have no end.
+MOST_BYTES = 1 << 25
 
 
 def words() -> argparse.Namespace:
@@ -36,9 +38,14 @@ def words() -> argparse.Namespace:
     return parser.parse_args()
 
 
+def read(path: pathlib.Path) -> bytes:
+    with path.open("rb") as file:
+        return file.read(MOST_BYTES)
+
+
 def logged(command: str, judged: Accepted | Refused, log: pathlib.Path) -> int:
     """What is said of a log."""
-    status, out, err = telling_log.answer(judged, log.read_bytes(), command)
+    status, out, err = telling_log.answer(judged, read(log), command)
     sys.stdout.write(out)
     sys.stderr.write(err)
     return status
@@ -56,7 +63,7 @@ def ran(judged: Accepted, order: Order, log: pathlib.Path | None) -> int:
 
 
 def said(given: argparse.Namespace) -> int:
-    data = sys.stdin.buffer.read() if given.file == "-" else pathlib.Path(given.file).read_bytes()
+    data = sys.stdin.buffer.read() if given.file == "-" else read(pathlib.Path(given.file))
     if given.command == "compile":
         return telling_source.answer_compile(data)
     judged = telling.judge(data) if given.module else telling_source.judge(data)

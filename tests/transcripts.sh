@@ -3,8 +3,9 @@
 # what `tests/words.txt` tells of the command line.
 #
 # A transcript has, for each call, a line `$ x10clock WORDS`, as a shell takes it, then what goes to standard output, then what goes to
-# standard error, each line of which begins with `! `, and, where it isn't 0, the status. Standard input is empty. A call is made in the
-# folder of its transcript. With `--write` the transcripts are written anew. Where files are named, only these are played.
+# standard error, each line of which begins with `! `, and, where it isn't 0, the status. Standard input is empty. The calls of a transcript
+# are made one after another in a copy of its folder, where they may leave files. With `--write` the transcripts are written anew. Where files
+# are named, only these are played.
 set -eu
 cd "$(dirname "$0")/.."
 program=${X10CLOCK:-$PWD/crates/x10clock/out/x10clock}
@@ -25,8 +26,10 @@ said() {
 
 # played FILE: the transcript again.
 played() {
+    rm -rf "$work/here"
+    cp -R "$(dirname "$1")" "$work/here"
     grep '^\$ x10clock' "$1" | while IFS= read -r line; do
-        (cd "$(dirname "$1")" && said "$line")
+        (cd "$work/here" && said "$line")
     done
 }
 
@@ -35,7 +38,7 @@ if [ "${1:-}" = --write ]; then
     write=yes
     shift
 fi
-[ $# -gt 0 ] || set -- tests/words.txt examples/*.txt
+[ $# -gt 0 ] || set -- tests/words.txt tests/logs.txt examples/*.txt
 count=0
 for file; do
     played "$file" > "$work/played"
