@@ -1,8 +1,8 @@
 //! Instructions that concern one frame alone.
 
-ghost use Rattle.std.specs.Prelude.{◌≡◌, ℕ, ℤ, ◌+◌, ◌<◌, ◌^◌, length, not, Some, slice_get, slice_set};
+ghost use Rattle.std.specs.Prelude.{◌≡◌, ◌⊎◌, ℕ, ℤ, ◌+◌, ◌<◌, ◌≤◌, ◌^◌, length, not, Some, slice_get, slice_set};
 ghost use Rattle.xk_types.specs.declared.names.Value.TheVariants as value;
-ghost use Rattle.xk_activity.specs.Local.{turn, spot_at, IsRight};
+ghost use Rattle.xk_activity.specs.Local.{Beyond, Stepped, turn, ran, spot_at, IsSafe, IsRight};
 ghost use Rattle.xk_activity.specs.Arm.{CanCarry, Carries, Answers, is_beyond};
 
 use crate::cell::Cell;
@@ -126,4 +126,24 @@ pub(crate) fn one(code: &[Instr], place: usize, slots: &mut [Cell]) -> Option<us
     ensures { Answers code.now (spot_at place slots.old) result slots.new }
 {
     carry(code, place, slots, &code[place])
+}
+
+/// Up to max instructions that concern the frame alone: the place then, and how many they were.
+#[inline(never)]
+pub(crate) fn run_flat(code: &[Instr], start: usize, slots: &mut [Cell], max: u32) -> (usize, u32)
+    requires short { length code.now < 2 ^ 16 }
+    requires safe { IsSafe (turn code.now) (spot_at start slots.old) }
+    ensures ran { ran (turn code.now) (spot_at start slots.old) result.1
+        ≡ Stepped (spot_at result.0 slots.new) }
+    ensures most { result.1 ≤ max }
+    ensures stops { (result.1 ≡ max) ⊎ (turn code.now (spot_at result.0 slots.new) ≡ Beyond) }
+{
+    let mut place = start;
+    for n in 0..max {
+        match one(code, place, slots) {
+            Some(next) => place = next,
+            None => return (place, n),
+        }
+    }
+    (place, max)
 }

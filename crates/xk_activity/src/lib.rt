@@ -6,5 +6,6 @@ mod cell;
 mod fill;
 mod flat;
 mod frames;
+pub mod laws;
 
 pub use frames::{Frames, Next};

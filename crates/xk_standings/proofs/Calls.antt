@@ -1,9 +1,9 @@
 -- Calls of the table, one after the other, and what they make of each clock.
-use Rattle.std.proofs.Common.{◌≡◌, ℕ, zero, suc, ◌+◌, ◌-◌, ◌<◌, ◌==◌, Bool, true, false, not, cond, List, [], ◌∷◌, length, get_or, set, Option, Some, None, refl, sym, ap, ◌∙◌, subst, arith, slice_get, slice_index_or, slice_set, length-set, get_or-set_same, get_or-set_other}
+use Rattle.std.proofs.Common.{◌≡◌, ℕ, zero, suc, ◌<◌, ◌==◌, Bool, true, false, cond, List, [], ◌∷◌, length, get_or, set, Some, None, refl, sym, ap, ◌∙◌, subst, arith, slice_get, length-set, get_or-set_same, get_or-set_other}
 use Rattle.std.specs.Option.{option_map_or}
 use Rattle.std.proofs.lemmas.Bool.{eqb-true, eqb-false}
 use Rattle.std.proofs.lemmas.Option.{none-some, same_Some}
-use Rattle.xk_clocks.specs.Table.{CountValue, is_ready_count, count_settled, one_if, count_at}
+use Rattle.xk_clocks.specs.Table.{CountValue, is_ready_count, count_settled, count_at}
 use Rattle.xk_standings.specs.View.{Registration, reg_on, AreDistinct, changed_by, last_settled}
 use Rattle.xk_standings.specs.Calls.{called, noted}
 

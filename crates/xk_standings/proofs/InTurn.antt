@@ -1,12 +1,12 @@
 -- Calls of the clocks, one registration after the other.
-use Rattle.std.proofs.Common.{◌≡◌, ℕ, zero, suc, ◌+◌, ◌<◌, ◌≤◌, ◌==◌, ◌&&◌, Bool, true, false, cond, List, [], ◌∷◌, ◌++◌, length, get_or, set, take, drop, is_none, Option, Some, None, refl, sym, ap, ◌∙◌, subst, arith, add-one, drop-cons, length-set, length-drop, get_or-set_other}
+use Rattle.std.proofs.Common.{◌≡◌, ℕ, zero, suc, ◌+◌, ◌<◌, ◌==◌, ◌&&◌, Bool, true, false, cond, List, [], ◌∷◌, ◌++◌, length, get_or, set, take, drop, is_none, Option, Some, None, refl, sym, ap, ◌∙◌, subst, arith, add-one, drop-cons, length-set, length-drop, get_or-set_other}
 use Rattle.std.proofs.lemmas.Bool.{eqb-true, eqb-false}
 use Rattle.std.proofs.lemmas.Bool.Decides.{nat_tests}
 use Rattle.std.proofs.lemmas.List.{append-nil, take_all, drop-drop}
 use Rattle.std.proofs.lemmas.Option.{none-some}
 use Rattle.xk_clocks.specs.Table.{CountValue, count_at, count_settled}
 use Rattle.xk_standings.specs.View.{Registration, reg_on, AreDistinct}
-use Rattle.xk_standings.specs.Calls.{ClocksValue, is_open, regs_where, regs_on, regs_open, called, noted, calls, call_resume, mark_resumed, regs_resumed, regs_passed, phase_at, reg_resumed, regs_resumed_in_turn, Allows, AreAllowed, AreAllowedInTurn}
+use Rattle.xk_standings.specs.Calls.{ClocksValue, is_open, regs_where, regs_open, called, calls, call_resume, mark_resumed, regs_resumed, regs_passed, phase_at, reg_resumed, regs_resumed_in_turn, Allows, AreAllowed, AreAllowedInTurn}
 
 -- ---- the first one, then the others
 

@@ -8,3 +8,8 @@ pub mod InTurn
 pub mod StepLaws
 pub mod Owed
 pub mod Lists
+pub mod Handing
+pub mod Rows
+pub mod Keeping
+pub mod Waiting
+pub mod Inside

@@ -1,5 +1,5 @@
 -- A new clock: first one that nobody is registered on, then its maker is.
-use Rattle.std.proofs.Common.{◌≡◌, ℕ, zero, suc, ◌+◌, ◌-◌, ◌<◌, ◌≤◌, ◌==◌, ◌&&◌, Bool, true, false, not, cond, List, [], ◌∷◌, ◌++◌, map, length, get_or, set, replicate, Option, Some, None, refl, sym, ap, ◌∙◌, subst, arith, slice_get, slice_index_or}
+use Rattle.std.proofs.Common.{◌≡◌, ℕ, zero, suc, ◌+◌, ◌-◌, ◌<◌, ◌≤◌, ◌==◌, Bool, true, false, cond, List, [], ◌∷◌, ◌++◌, map, length, get_or, set, replicate, Some, None, refl, sym, ap, ◌∙◌, subst, arith, slice_get, slice_index_or}
 use Rattle.std.specs.Option.{option_map_or}
 use Rattle.std.proofs.lemmas.Bool.{eqb-true, ne_eqb}
 use Rattle.std.proofs.lemmas.Bool.Decides.{nat_tests}
@@ -11,7 +11,7 @@ use Rattle.xk_types.specs.declared.names.Standing.TheVariants as standing
 use Rattle.xk_types.specs.World.{Clock, standing_of}
 use Rattle.xk_types.specs.Step.{is_pending, is_registered, advanced, settled_clock, moved, moved_on, new_clock}
 use Rattle.xk_clocks.specs.Table.{CountValue, is_ready_count, count_settled, count_at, count_registered, new_count}
-use Rattle.xk_standings.specs.View.{Registration, standing_at, stands, row, told, told_clock, told_by, held, WillAdvance, IsFit, AreFit, IsKept, AreSound, AreDistinct, reg_on, count_moved}
+use Rattle.xk_standings.specs.View.{Registration, standing_at, stands, row, told, told_clock, told_by, held, WillAdvance, IsFit, IsKept, AreSound, AreDistinct, reg_on, count_moved}
 use Rattle.xk_standings.specs.Calls.{called, noted, call_register}
 use Rattle.xk_clocks.specs.Standings.{tally}
 use Rattle.xk_standings.proofs.Marks.{stands_reg, count_same, same_numbers}
@@ -114,7 +114,7 @@ reg_push (s ∷ rs) r k none e = go (s.clock == k) none (λ h. reg_push rs r k h
     go true h later = absurd (none-some s (sym h))
     go false h later = later h
 
-distinct_push : (rs : List Registration) (r : Registration) → AreDistinct rs → reg_on rs r.clock ≡ None → AreDistinct (rs ++ r ∷ [])
+pub distinct_push : (rs : List Registration) (r : Registration) → AreDistinct rs → reg_on rs r.clock ≡ None → AreDistinct (rs ++ r ∷ [])
 distinct_push [] r distinct none = (refl, tt)
 distinct_push (s ∷ rs) r distinct none = go (s.clock == r.clock) refl none (distinct_push rs r distinct.1)
   where
@@ -139,7 +139,7 @@ moved_push a h [] y same = refl
 moved_push a h (x ∷ xs) y same =
     rw (same 0 (omega arith) (standing_of x a), set-get_or x.standings a standing.Apart, moved_push a (λ k. h (suc k)) xs y (λ k lt. same (suc k) (omega arith))) refl
 
-length-told_by : (f : ℕ → CountValue → Clock) (cs : List CountValue) → length (told_by f cs) ≡ length cs
+pub length-told_by : (f : ℕ → CountValue → Clock) (cs : List CountValue) → length (told_by f cs) ≡ length cs
 length-told_by f [] = refl
 length-told_by f (c ∷ cs) = ap suc (length-told_by (λ k. f (suc k)) cs)
 

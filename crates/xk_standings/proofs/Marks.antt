@@ -1,15 +1,15 @@
 -- What changes of an activity's registrations make of where it stands.
-use Rattle.std.proofs.Common.{◌≡◌, ℕ, zero, suc, ◌+◌, ◌-◌, ◌<◌, ◌==◌, ◌&&◌, Bool, true, false, not, cond, List, [], ◌∷◌, map, is_none, Option, Some, None, refl, sym, ap, ◌∙◌, subst, arith}
+use Rattle.std.proofs.Common.{◌≡◌, ℕ, ◌+◌, ◌-◌, ◌<◌, ◌==◌, ◌&&◌, Bool, true, false, cond, List, [], ◌∷◌, is_none, Option, Some, None, refl, sym, ap, ◌∙◌, subst, arith}
 use Rattle.std.proofs.lemmas.Bool.{eqb-true}
 use Rattle.std.proofs.lemmas.Bool.Decides.{nat_tests}
 use Rattle.xk_types.specs.declared.names.Standing.{Standing}
 use Rattle.xk_types.specs.declared.names.Standing.TheVariants as standing
-use Rattle.xk_types.specs.Step.{is_pending, is_registered, is_signalled, advanced, resumed, passed, dropped, only, all}
+use Rattle.xk_types.specs.Step.{is_pending, is_registered, is_signalled, advanced, resumed, passed}
 use Rattle.std.specs.Option.{option_map_or}
 use Rattle.std.proofs.lemmas.Option.{none-some, same_Some}
-use Rattle.xk_clocks.specs.Table.{CountValue, one_if, count_resumed, count_dropped, count_registered}
+use Rattle.xk_clocks.specs.Table.{CountValue, one_if, count_dropped}
 use Rattle.xk_standings.specs.View.{Registration, standing_at, stands, WillAdvance, reg_on, AreDistinct, count_moved}
-use Rattle.xk_standings.specs.Calls.{marked, mark_resumed, regs_resumed, regs_passed, regs_on, regs_where, regs_open, is_open, call_resume, call_drop, call_register}
+use Rattle.xk_standings.specs.Calls.{marked, mark_resumed, regs_resumed, regs_passed, regs_on, regs_where, regs_open, is_open, call_resume, call_drop}
 
 -- where an activity stands that marks its registrations anew
 pub stands_marked : (f : ℕ → Option ℕ → Option ℕ) (h : Standing → Standing) (rs : List Registration) (k p : ℕ) → h standing.Apart ≡ standing.Apart

@@ -1,16 +1,14 @@
 -- One change of one activity's standings: the counters, and the view.
-use Rattle.std.proofs.Common.{◌≡◌, ℕ, zero, suc, ◌+◌, ◌-◌, ◌<◌, ◌==◌, Bool, true, false, not, cond, ◌&&◌, ◌||◌, List, [], ◌∷◌, ◌++◌, map, length, get_or, set, Some, None, refl, sym, ap, ◌∙◌, subst, arith, slice_get, slice_index_or, length-set}
-use Rattle.std.specs.List.{list_any}
-use Rattle.std.proofs.lemmas.Bool.{cond_both}
+use Rattle.std.proofs.Common.{◌≡◌, ℕ, zero, suc, ◌+◌, ◌-◌, ◌<◌, ◌==◌, Bool, true, false, not, cond, ◌&&◌, List, [], ◌∷◌, ◌++◌, map, length, get_or, set, Some, refl, sym, ap, ◌∙◌, subst, arith, slice_get}
 use Rattle.std.proofs.lemmas.List.{map-set, map_push, length-map}
 use Rattle.std.proofs.lemmas.Option.{none-some, same_Some}
 use Rattle.xk_types.specs.declared.names.Standing.{Standing}
 use Rattle.xk_types.specs.declared.names.Standing.TheVariants as standing
-use Rattle.xk_types.specs.World.{Clock, standing_of}
-use Rattle.xk_types.specs.Step.{is_pending, is_registered, is_signalled, is_ready, advanced, settled_clock, moved_on, moved, joined_on, joined, new_clock}
+use Rattle.xk_types.specs.World.{Clock}
+use Rattle.xk_types.specs.Step.{is_pending, is_registered, is_ready, advanced, settled_clock, moved_on, moved, joined_on, joined}
 use Rattle.xk_clocks.specs.Table.{CountValue, is_ready_count, count_settled, one_if}
-use Rattle.xk_standings.specs.View.{Registration, stands, row, told_clock, told_by, told, held, WillAdvance, IsNear, IsFit, AreFit, count_moved, last_settled, changed_by, count_between, count_after, counts_after}
-use Rattle.xk_clocks.specs.Standings.{tally, AreCounts}
+use Rattle.xk_standings.specs.View.{Registration, stands, row, told_clock, told_by, held, WillAdvance, IsNear, IsFit, AreFit, last_settled, changed_by, count_between, count_after, counts_after}
+use Rattle.xk_clocks.specs.Standings.{tally}
 use Rattle.xk_clocks.proofs.Tallies.{tally-set, tally-push, ready_same, counts_advanced, suc_zero}
 
 -- ---- rows

@@ -1,5 +1,6 @@
 -- What calls of the clocks owe holds between two steps.
-use Rattle.std.proofs.Common.{◌≡◌, ℕ, zero, suc, ◌+◌, ◌<◌, ◌≤◌, ◌^◌, ◌==◌, ◌&&◌, Bool, true, false, cond, List, [], ◌∷◌, length, get_or, is_none, Option, Some, None, refl, sym, ap, ◌∙◌, subst, arith, slice_get}
+use Rattle.std.proofs.Common.{◌≡◌, ℕ, zero, suc, ◌+◌, ◌<◌, ◌≤◌, ◌^◌, ◌&&◌, Bool, true, false, cond, List, [], ◌∷◌, length, is_none, Option, Some, None, refl, sym, ap, ◌∙◌, subst, arith, slice_get}
+use Rattle.std.proofs.lemmas.List.{length-map}
 use Rattle.std.proofs.lemmas.Option.{none-some, same_Some}
 use Rattle.xk_types.specs.declared.names.Standing.{Standing}
 use Rattle.xk_types.specs.declared.names.Standing.TheVariants as standing
@@ -7,8 +8,9 @@ use Rattle.xk_types.specs.Step.{is_pending, is_registered, is_signalled}
 use Rattle.xk_clocks.specs.Table.{CountValue, count_at, one_if}
 use Rattle.xk_clocks.specs.Standings.{tally}
 use Rattle.xk_clocks.proofs.Tallies.{tally_one, tally_parts}
-use Rattle.xk_standings.specs.View.{Registration, standing_at, stands, row, reg_on, held, IsFit, IsKept, AreSound}
-use Rattle.xk_standings.specs.Calls.{is_open, regs_where, regs_on, regs_open, Allows, AreAllowed, OwesResume, OwesDrop, HavePhasesLeft}
+use Rattle.xk_clocks.proofs.Kept.{owed_by_rest_is}
+use Rattle.xk_standings.specs.View.{Registration, standing_at, stands, row, reg_on, held, IsFit, IsKept, AreSound, AreDistinct}
+use Rattle.xk_standings.specs.Calls.{is_open, regs_on, regs_open, Allows, AreAllowed, OwesResume, OwesDrop, OwesRegister, HavePhasesLeft, IsGiven}
 use Rattle.xk_standings.proofs.Moves.{row_at}
 use Rattle.xk_standings.proofs.Marks.{stands_reg, reg_clock, reg_where, if_passes, registered_mark}
 use Rattle.xk_standings.proofs.Starts.{counted_at}
@@ -21,10 +23,10 @@ below zero (suc n) refuted = omega arith
 below (suc k) (suc n) refuted = omega (arith, below k n (λ h. refuted (omega arith)))
 
 -- is on a clock that exists
-found : (n : ℕ) (rs : List Registration) (k : ℕ) (r : Registration) → AreSound n rs → reg_on rs k ≡ Some r → k < n
+pub found : (n : ℕ) (rs : List Registration) (k : ℕ) (r : Registration) → AreSound n rs → reg_on rs k ≡ Some r → k < n
 found n rs k r sound is = below k n (λ h. none-some r (sym (sound.exist k h) ∙ is))
 
-get_there : (cs : List CountValue) (k : ℕ) → k < length cs → slice_get cs k ≡ Some (count_at cs k)
+pub get_there : (cs : List CountValue) (k : ℕ) → k < length cs → slice_get cs k ≡ Some (count_at cs k)
 get_there [] k h = absurd (omega arith)
 get_there (c ∷ cs) zero h = refl
 get_there (c ∷ cs) (suc k) h = get_there cs k (omega arith)
@@ -106,3 +108,51 @@ may_drop ls acts cs a kept inside left test k r is =
           omega (arith, counted_at is_registered acts a k c.phase c.registered inside refl fit.counts.registered, ap (λ s. one_if (is_registered s)) stood, ap one_if registered),
           phase,
         )
+
+-- ---- a start
+
+-- no more pass the test than there are
+tally_most : (test : Standing → Bool) (ss : List Standing) → tally test ss ≤ length ss
+tally_most test [] = omega arith
+tally_most test (s ∷ ss) = go (test s) (tally_most test ss)
+  where
+    go : (b : Bool) → tally test ss ≤ length ss → cond b (suc (tally test ss)) (tally test ss) ≤ suc (length ss)
+    go true h = omega (arith, h)
+    go false h = omega (arith, h)
+
+pub given_from : (given : ℕ → Bool) (old new : List Registration) (k : ℕ) (r : Registration) → IsGiven given old new → reg_on new k ≡ Some r → reg_on old k ≡ Some r
+given_from given old new k r is at = go (given k) (sym (is k) ∙ at)
+  where
+    go : (b : Bool) → cond b (reg_on old k) None ≡ Some r → reg_on old k ≡ Some r
+    go true h = h
+    go false h = absurd (none-some r h)
+
+pub may_register : (ls : List ℕ) (acts : List (List Registration)) (cs : List CountValue) (a : ℕ) → IsKept ls acts cs → a < length acts → length acts + 1 < 2 ^ 32
+    → (given : ℕ → Bool) (new : List Registration) → IsGiven given (held acts a) new → AreAllowed OwesRegister cs new
+may_register ls acts cs a kept inside few given new gives k r is =
+    let held_by : reg_on (held acts a) k ≡ Some r = given_from given (held acts a) new k r gives is in
+    let there : k < length cs = found (length cs) (held acts a) k r (kept.sound a) held_by in
+    let at : slice_get cs k ≡ Some (count_at cs k) = get_there cs k there in
+    allows OwesRegister cs k r (reg_clock (held acts a) k r held_by) there
+    (owed (count_at cs k) (stands_reg (held acts a) k (count_at cs k).phase ∙ rw held_by refl) (kept.fit k (count_at cs k) at))
+  where
+    owed : (c : CountValue) → stands (held acts a) k c.phase ≡ standing_at c.phase r.resumed → IsFit acts k c → OwesRegister r c
+    owed c stood fit =
+        let registered : 0 < c.registered = omega (
+          arith,
+          counted_at is_registered acts a k c.phase c.registered inside refl fit.counts.registered,
+          ap (λ s. one_if (is_registered s)) stood,
+          ap one_if (registered_mark c.phase r.resumed),
+        ) in (
+          owed_by_rest_is c fit.kept registered,
+          registered,
+          omega (arith, tally_most is_registered (row acts k c.phase), length-map acts (λ (rs : List Registration). stands rs k c.phase), fit.counts.registered),
+        )
+
+-- what is given is sound
+pub sound_start : (n : ℕ) (given : ℕ → Bool) (old new : List Registration) → AreSound n old → AreDistinct new → IsGiven given old new → AreSound n new
+sound_start n given old new sound distinct is = record { distinct = distinct; exist = λ k h. is k ∙ go (given k) (sound.exist k h) }
+  where
+    go : (b : Bool) {o : Option Registration} → o ≡ None → cond b o None ≡ None
+    go true e = e
+    go false e = refl

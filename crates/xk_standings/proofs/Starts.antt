@@ -1,17 +1,15 @@
 -- What calls of the table owe; a new activity, and a new clock.
-use Rattle.std.proofs.Common.{◌≡◌, ℕ, zero, suc, ◌+◌, ◌-◌, ◌<◌, ◌≤◌, ◌==◌, ◌&&◌, Bool, true, false, not, cond, List, [], ◌∷◌, ◌++◌, map, length, get_or, set, replicate, Option, Some, None, refl, sym, ap, ◌∙◌, subst, arith, slice_get, slice_index_or}
+use Rattle.std.proofs.Common.{◌≡◌, ℕ, ◌+◌, ◌-◌, ◌<◌, ◌≤◌, Bool, true, false, cond, List, [], ◌∷◌, ◌++◌, map, length, get_or, Option, Some, None, refl, sym, ap, ◌∙◌, subst, arith, slice_get, slice_index_or}
 use Rattle.std.specs.Option.{option_map_or}
-use Rattle.std.proofs.lemmas.Option.{none-some, same_Some}
-use Rattle.std.proofs.lemmas.List.{length-map, set-get_or}
+use Rattle.std.proofs.lemmas.List.{length-map}
 use Rattle.xk_types.specs.declared.names.Standing.{Standing}
 use Rattle.xk_types.specs.declared.names.Standing.TheVariants as standing
-use Rattle.xk_types.specs.World.{Clock, standing_of}
-use Rattle.xk_types.specs.Step.{is_pending, is_registered, advanced, settled_clock, moved, moved_on, joined, new_clock}
-use Rattle.xk_clocks.specs.Table.{CountValue, is_ready_count, count_settled, count_at, count_registered, new_count, one_if}
-use Rattle.xk_standings.specs.View.{Registration, standing_at, stands, row, told, told_clock, told_by, held, WillAdvance, IsFit, AreFit, IsKept, AreSound, AreDistinct, reg_on, changed_by, count_moved, count_between, count_after, counts_after, last_settled}
+use Rattle.xk_types.specs.Step.{is_pending, is_registered, advanced, settled_clock, joined}
+use Rattle.xk_clocks.specs.Table.{CountValue, count_settled, count_registered, one_if}
+use Rattle.xk_standings.specs.View.{Registration, standing_at, stands, row, told, held, WillAdvance, AreFit, IsKept, AreSound, reg_on, count_moved, count_between, count_after, counts_after, last_settled}
 use Rattle.xk_standings.specs.Calls.{called, noted, call_register, IsGiven}
-use Rattle.xk_clocks.specs.Standings.{tally, AreCounts}
-use Rattle.xk_clocks.proofs.Tallies.{tally-set, suc_zero}
+use Rattle.xk_clocks.specs.Standings.{tally}
+use Rattle.xk_clocks.proofs.Tallies.{tally-set}
 use Rattle.xk_standings.proofs.Moves.{row_at, held_push, Begins, joined_told}
 use Rattle.xk_standings.proofs.Calls.{called_at, noted_at, changed_is, length-called, length-noted}
 use Rattle.xk_standings.proofs.Marks.{stands_reg, count_same, same_numbers, registered_mark}

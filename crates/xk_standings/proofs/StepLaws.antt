@@ -1,12 +1,11 @@
 -- Each part of a step, over the numbers and the registrations, is the definitions'.
-use Rattle.std.proofs.Common.{◌≡◌, ℕ, zero, suc, ◌+◌, ◌<◌, ◌==◌, Bool, true, false, not, List, [], ◌∷◌, ◌++◌, map, length, set, Some, None, refl, subst, sym, slice_get}
+use Rattle.std.proofs.Common.{◌≡◌, ℕ, zero, suc, ◌<◌, ◌==◌, Bool, true, false, List, [], ◌∷◌, ◌++◌, map, length, set, None, refl}
 use Rattle.std.specs.List.{list_any}
 use Rattle.std.proofs.lemmas.Option.{none-some}
-use Rattle.xk_types.specs.World.{Clock, standing_of}
+use Rattle.xk_types.specs.World.{standing_of}
 use Rattle.xk_types.specs.Step.{is_signalled, resumed, passed, dropped, only, all, settled_clock, moved, joined, new_clock}
-use Rattle.xk_clocks.specs.Table.{CountValue, new_count}
 use Rattle.xk_standings.specs.declared.which.Which.TheVariants as which
-use Rattle.xk_standings.specs.View.{Registration, told, held, IsKept, IsFit, AreSound}
+use Rattle.xk_standings.specs.View.{Registration, told, held, IsKept, AreSound}
 use Rattle.xk_standings.specs.Calls.{ClocksValue, concerns, calls, call_resume, call_drop, call_register, regs_open, regs_on, regs_resumed, regs_passed, phase_at, IsGiven, AreToldAs, others, made_clocks}
 use Rattle.xk_standings.proofs.Steps.{resumed_told, left_told, passed_told}
 use Rattle.xk_standings.proofs.Starts.{spawned_told}

@@ -1,7 +1,10 @@
 -- What a step makes of an activity's registrations, and which calls of the clocks it takes.
-use Rattle.std.specs.Prelude.{◌≡◌, ℕ, ◌+◌, ◌<◌, ◌≤◌, ◌^◌, ◌==◌, ◌&&◌, is_none, Bool, true, false, not, List, [], ◌∷◌, ◌++◌, map, length, Option, Some, None, slice_get, slice_set, if◌then◌else◌}
+use Rattle.std.specs.Prelude.{◌≡◌, ℕ, ◌+◌, ◌<◌, ◌≤◌, ◌^◌, ◌==◌, ◌&&◌, is_none, max, Bool, true, false, not, List, [], ◌∷◌, ◌++◌, map, length, Option, Some, None, slice_get, slice_set, if◌then◌else◌}
+use Rattle.std.specs.Option.{option_to_list}
+use Rattle.xk_types.specs.declared.names.Value.{Value}
+use Rattle.xk_types.specs.declared.names.Value.TheVariants as value
 use Rattle.xk_types.specs.World.{Clock}
-use Rattle.xk_types.specs.Step.{is_pending}
+use Rattle.xk_types.specs.Step.{is_pending, is_signalled}
 use Rattle.xk_clocks.specs.Table.{CountValue, TableValue, new_count, is_ready_count, count_settled, one_if, count_at, count_resumed, count_dropped, count_registered}
 use Rattle.xk_standings.specs.declared.which.Which.{Which}
 use Rattle.xk_standings.specs.declared.which.Which.TheVariants as which
@@ -52,6 +55,10 @@ regs_passed rs = marked (λ k m. None) rs
 abbrev pub phase_at : List CountValue → ℕ → ℕ
 phase_at cs k = (count_at cs k).phase
 
+-- it reads as signalled in the present phase of its clock
+abbrev pub is_signalled_in : List CountValue → Registration → Bool
+is_signalled_in cs r = is_signalled (standing_at (phase_at cs r.clock) r.resumed)
+
 -- those that a drop leaves, which are on other clocks
 abbrev pub others : Which → List Registration → List Registration
 others w rs = regs_on (λ k. not (concerns w k)) rs
@@ -60,12 +67,22 @@ others w rs = regs_on (λ k. not (concerns w k)) rs
 abbrev pub IsGiven : (ℕ → Bool) → List Registration → List Registration → Type 0
 IsGiven given old new = (k : ℕ) → reg_on new k ≡ (if given k then reg_on old k else None)
 
+-- what is held once the registration has been taken on that stands among these on the clock of the value, if it is new there
+abbrev pub with_taken : List Registration → Value → List Registration → List Registration
+with_taken from value.Unset rs = rs
+with_taken from (value.Number n) rs = rs
+with_taken from (value.Clock c) rs = if is_none (reg_on rs c) then rs ++ option_to_list (reg_on from c) else rs
+
 -- ---- calls of the clocks, one for each of some registrations
 
 -- the clocks in numbers, and in which step each advanced last
 pub record ClocksValue : Type 0 where
   pub table : TableValue
   pub lasts : List ℕ
+
+-- with room for one clock more than there are
+abbrev pub with_room_for_one : ClocksValue → ClocksValue
+with_room_for_one v = record v { table = record v.table { room = max v.table.room (length v.table.clocks + 1) } }
 
 -- with one more clock, which its maker is registered on
 abbrev pub made_clocks : ClocksValue → ClocksValue

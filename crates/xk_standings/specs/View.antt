@@ -2,7 +2,7 @@
 --
 -- A registration keeps the phase in which it was resumed, if it was since its activity's last pass. While the clock is still in that phase the
 -- activity is signalled on it; once the clock has advanced, it is ahead. So an advance changes no registration.
-use Rattle.std.specs.Prelude.{◌≡◌, ℕ, suc, ◌+◌, ◌-◌, ◌<◌, ◌≤◌, ◌==◌, Bool, false, List, [], ◌∷◌, map, length, Option, Some, None, slice_get, slice_index_or, if◌then◌else◌}
+use Rattle.std.specs.Prelude.{◌≡◌, ℕ, suc, ◌+◌, ◌-◌, ◌<◌, ◌≤◌, ◌==◌, false, List, [], ◌∷◌, map, length, Option, Some, None, slice_get, slice_index_or, if◌then◌else◌}
 use Rattle.xk_types.specs.declared.names.Standing.{Standing}
 use Rattle.xk_types.specs.declared.names.Standing.TheVariants as standing
 use Rattle.xk_types.specs.World.{Clock}

@@ -1,10 +1,9 @@
 //! All clocks.
 
-ghost use Rattle.std.specs.Prelude.{◌≡◌, ◌<◌, ◌≤◌, [], ◌∷◌, ◌++◌, length, slice_index_or, IfOk};
-ghost use Rattle.xk_types.specs.Step.{is_pending};
-ghost use Rattle.xk_clocks.specs.Table.{new_count, count_at, changed_at, count_registered, is_ready_count};
-ghost use Rattle.xk_standings.specs.View.{standing_at};
-ghost use Rattle.xk_standings.specs.Calls.{calls, call_resume, call_drop, call_register, OwesResume, OwesDrop, OwesRegister, Allows};
+ghost use Rattle.std.specs.Prelude.{◌≡◌, ℕ, ◌+◌, ◌<◌, ◌≤◌, ◌==◌, ◌^◌, not, [], ◌∷◌, length, slice_index_or, IfOk, OnOk, OnErr};
+ghost use Rattle.std.specs.List.{list_all};
+ghost use Rattle.xk_clocks.specs.Table.{count_at, is_ready_count};
+ghost use Rattle.xk_standings.specs.Calls.{calls, made_clocks, with_room_for_one, call_resume, call_drop, call_register, OwesResume, OwesDrop, OwesRegister, Allows};
 
 use crate::registration::Registration;
 use std::alloc::{AllocError, Global};
@@ -27,7 +26,8 @@ impl Model for Clocks {
 
     ghost view = { λ c. record { table = c.table; lasts = c.lasts.items } };
 
-    ghost invariant = { λ c. (length c.lasts.items ≡ length c.table.clocks) × (c.table.room ≤ vec_capacity c.lasts) };
+    ghost invariant = { λ c. (length c.lasts.items ≡ length c.table.clocks)
+        × (c.table.room ≤ vec_capacity c.lasts) };
 }
 
 impl Clocks {
@@ -41,6 +41,44 @@ impl Clocks {
             table,
             lasts: Vec::with_capacity(alloc, clocks as usize)?,
         })
+    }
+
+    /// How many clocks there are.
+    pub fn len(&self) -> usize
+        ensures { result ≡ length self.now.table.clocks }
+    {
+        self.lasts.len()
+    }
+
+    /// Room for one clock more than there are, at least. Nothing changes where memory is refused.
+    pub fn reserve(&mut self) -> Result<(), AllocError>
+        requires { length self.old.table.clocks + 1 < 2 ^ 32 }
+        ensures reserved { OnOk result (self.new ≡ with_room_for_one self.old) }
+        ensures refused { OnErr result (self.new ≡ self.old) }
+    {
+        self.lasts.try_reserve(1)?;
+        self.table.reserve()
+    }
+
+    /// A new clock, which takes the next number. Its maker is registered on it, and open.
+    pub fn make(&mut self) -> ClockId
+        requires { length self.old.table.clocks < self.old.table.room }
+        ensures number { result ≡ length self.old.table.clocks }
+        ensures made { self.new ≡ made_clocks self.old }
+    {
+        self.lasts.push_reserved(0);
+        self.table.make()
+    }
+
+    /// An activity begins with the registration, which its starter has handed on. No clock advances.
+    pub fn register(&mut self, registration: Registration)
+        requires { Allows OwesRegister self.old.table.clocks registration }
+        ensures { (now : ℕ)
+            → self.new ≡ calls now call_register (registration ∷ []) self.old }
+    {
+        let clock = registration.clock();
+        let pending = registration.is_pending(self.table.phase(clock));
+        self.table.register(clock, pending);
     }
 
     /// How often the clock has advanced.
@@ -57,6 +95,13 @@ impl Clocks {
         ensures { result ≡ slice_index_or self.now.lasts clock 0 }
     {
         self.lasts[clock.0 as usize]
+    }
+
+    /// Whether no clock advanced in the step of this number.
+    pub fn is_quiet(&self, step: u64) -> bool
+        ensures { result ≡ list_all (λ last. not (last == step)) self.now.lasts }
+    {
+        self.lasts.iter().all(|last| *last != step)
     }
 
     /// The registration, which is open, is resumed in the step of this number. Whether its clock advanced.

@@ -1,12 +1,14 @@
 //! One registration after the other.
 
-ghost use Rattle.std.specs.Prelude.{◌≡◌, [], ◌∷◌};
-ghost use Rattle.xk_standings.specs.View.{AreDistinct};
-ghost use Rattle.xk_standings.specs.Calls.{concerns, calls, call_resume, call_drop, regs_open, regs_on, regs_resumed, regs_passed, reg_resumed, phase_at, OwesResume, OwesDrop, AreAllowed, AreAllowedInTurn};
+ghost use Rattle.std.specs.Prelude.{◌≡◌, ℕ, ◌<◌, [], ◌∷◌, length, All};
+ghost use Rattle.std.specs.List.{list_any};
+ghost use Rattle.xk_standings.specs.View.{AreDistinct, reg_on};
+ghost use Rattle.xk_standings.specs.Calls.{concerns, calls, call_resume, call_drop, call_register, regs_open, regs_on, regs_resumed, regs_passed, reg_resumed, phase_at, is_signalled_in, OwesResume, OwesDrop, OwesRegister, AreAllowed, AreAllowedInTurn};
 
 use crate::clocks::Clocks;
 use crate::registration::Registration;
 use crate::which::Which;
+use xk_types::{ClockId, Standing};
 
 /// Resumes one registration in the step of this number, if it is open and on a clock that the step concerns.
 fn resume_one(
@@ -55,6 +57,29 @@ pub fn pass_each(registrations: &mut [Registration])
     }
 }
 
+/// The registration on this clock, if there is one.
+pub fn find_on(registrations: &[Registration], clock: ClockId) -> Option<Registration>
+    ensures { result ≡ reg_on registrations.now clock }
+{
+    for registration in registrations {
+        if registration.clock().0 == clock.0 {
+            return Some(*registration);
+        }
+    }
+    None
+}
+
+/// The clocks take in an activity that begins with these.
+pub fn register_each(registrations: &[Registration], clocks: &mut Clocks)
+    requires distinct { AreDistinct registrations.now }
+    requires allowed { AreAllowed OwesRegister clocks.old.table.clocks registrations.now }
+    ensures { (now : ℕ) → clocks.new ≡ calls now call_register registrations.now clocks.old }
+{
+    for i in 0..registrations.len() {
+        clocks.register(registrations[i]);
+    }
+}
+
 /// Drops one registration in the step of this number, if it is on a clock that the step concerns.
 fn drop_one(registration: Registration, which: &Which, clocks: &mut Clocks, now: u64)
     requires { AreAllowedInTurn OwesDrop call_drop
@@ -78,4 +103,27 @@ pub fn drop_each(registrations: &[Registration], which: &Which, clocks: &mut Clo
     for i in 0..registrations.len() {
         drop_one(registrations[i], which, clocks, now);
     }
+}
+
+/// Whether it reads as signalled in the present phase of its clock.
+fn is_signalled_now(registration: Registration, clocks: &Clocks) -> bool
+    requires { registration.clock < length clocks.now.table.clocks }
+    ensures { result ≡ is_signalled_in clocks.now.table.clocks registration }
+{
+    let phase = clocks.phase(registration.clock());
+    matches!(registration.standing(phase), Standing::Signalled)
+}
+
+/// Whether one of them reads as signalled, each in the present phase of its clock.
+pub fn signalled_on_some(registrations: &[Registration], clocks: &Clocks) -> bool
+    requires { All (λ r. r.clock < length clocks.now.table.clocks) registrations.now }
+    ensures { result
+        ≡ list_any (is_signalled_in clocks.now.table.clocks) registrations.now }
+{
+    for i in 0..registrations.len() {
+        if is_signalled_now(registrations[i], clocks) {
+            return true;
+        }
+    }
+    false
 }

@@ -6,9 +6,11 @@ mod each;
 pub mod laws;
 mod registration;
 mod registrations;
+mod standings;
 mod which;
 
 pub use clocks::Clocks;
 pub use registration::Registration;
 pub use registrations::Registrations;
+pub use standings::Standings;
 pub use which::Which;

@@ -1,4 +1,4 @@
-use Rattle.std.proofs.Common.{◌≡◌, ◌<◌, List, [], length, drop, refl}
+use Rattle.std.proofs.Common.{◌≡◌, List, [], drop, refl}
 use Rattle.std.proofs.lemmas.List.{at_drop_all}
 use Rattle.xk_standings.specs.View.{Registration}
 use Rattle.xk_standings.specs.Calls.{concerns, call_drop, regs_on, OwesDrop}

@@ -1,5 +1,5 @@
 use Rattle.xk_standings.proofs.StepLaws.{opened_law, resumed_law, arrived_law, passed_law, dropped_law, left_law, started_law, made_law}
-use Rattle.xk_standings.proofs.Owed.{may_resume, may_drop}
+use Rattle.xk_standings.proofs.Owed.{may_resume, may_drop, may_register, sound_start}
 use Rattle.xk_standings.proofs.laws.goes_with_steps.Goals as goal
 
 pub returns-clause-opened : goal.returns-clause-opened
@@ -31,3 +31,9 @@ returns-clause-may_resume c = may_resume
 
 pub returns-clause-may_drop : goal.returns-clause-may_drop
 returns-clause-may_drop c = may_drop
+
+pub returns-clause-may_register : goal.returns-clause-may_register
+returns-clause-may_register c = may_register
+
+pub returns-clause-sound_start : goal.returns-clause-sound_start
+returns-clause-sound_start c = sound_start

@@ -1,0 +1,5 @@
+use Rattle.xk_activity.proofs.Joined.{joined}
+use Rattle.xk_activity.proofs.laws.goes_with_steps.Goals as goal
+
+pub returns : goal.returns
+returns c = joined

@@ -1,0 +1,18 @@
+use Rattle.std.proofs.Common.{◌≡◌, map, sym, ap, ◌∙◌, subst}
+use Rattle.xk_types.specs.Step.{settled_clock, joined}
+use Rattle.xk_standings.specs.Told.{StandingsValue, AreHandedOn}
+use Rattle.xk_standings.proofs.Inside.{may_begin_of, started_of}
+use Rattle.xk_standings.proofs.standings.Standings.admit.Goals as goal
+
+pub begin-requires : goal.begin-requires
+begin-requires c = may_begin_of _ _ c.args.child.list c.self.view_is c.self.invariant c.requires.few c.requires.handed_on
+
+pub invariant_of-self : goal.invariant_of-self
+invariant_of-self c =
+    (started_of 0 c.requires.handed_on.by c.requires.handed_on.given c.self.inside.clocks c.begin.new.clocks c.self.inside.held.items c.push_reserved.new.self.items _ _
+    c.args.child c.self.view_is c.self.invariant c.requires.handed_on.is c.begin.ensures.distinct (c.begin.ensures.clocks 0) c.push_reserved.ensures.items).1
+
+pub returns-clause-told : goal.returns-clause-told
+returns-clause-told c = λ a given now there is.
+    (started_of now a given c.self.inside.clocks c.begin.new.clocks c.self.inside.held.items c.push_reserved.new.self.items _ _
+    c.args.child c.self.view_is c.self.invariant is c.begin.ensures.distinct (c.begin.ensures.clocks now) c.push_reserved.ensures.items).0

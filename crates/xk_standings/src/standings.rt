@@ -1,0 +1,207 @@
+//! Where all activities stand on all clocks.
+
+ghost use Rattle.std.specs.Prelude.{◌≡◌, ℕ, ◌+◌, ◌<◌, ◌==◌, ◌^◌, Bool, false, not, Some, [], ◌∷◌, ◌++◌, length, map, option_map, slice_get, All, IfOk, OnOk, OnErr};
+ghost use Rattle.std.specs.List.{list_any, list_all};
+ghost use Rattle.xk_types.specs.World.{standing_of};
+ghost use Rattle.xk_types.specs.Step.{is_signalled, is_given, resumed, passed, dropped, none, all, settled_clock, moved, joined, new_clock};
+ghost use Rattle.xk_standings.specs.View.{held};
+ghost use Rattle.xk_standings.specs.Calls.{IsGiven};
+ghost use Rattle.xk_standings.specs.Told.{told_of, change_on, AreHandedOn};
+
+use crate::clocks::Clocks;
+use crate::each::{find_on, signalled_on_some};
+use crate::registrations::Registrations;
+use crate::which::Which;
+use std::alloc::{AllocError, Global};
+use std::marker::Model;
+use xk_types::{ClockId, Standing, Value};
+
+/// Where the activities of a running program stand on its clocks: each clock in numbers, and with each activity what it is
+/// registered on. It tells of the clocks of a world, with a standing for each activity. What a call costs goes by what the activity
+/// is registered on that it concerns, not by how many clocks and activities there are.
+#[derive(Drop)]
+pub struct Standings {
+    clocks: Clocks,
+    held: Vec<Registrations>,
+}
+
+impl Model for Standings {
+    ghost use Rattle.std.specs.Prelude.{vec_capacity};
+    ghost use Rattle.xk_standings.specs.View.{IsKept};
+    ghost use Rattle.xk_standings.specs.Told.{StandingsValue, lists};
+
+    ghost Value = { StandingsValue };
+
+    ghost view = { λ s. record {
+      numbers = s.clocks;
+      held = lists s.held.items;
+      room = vec_capacity s.held;
+    } };
+
+    ghost invariant = { λ s. IsKept s.clocks.lasts (lists s.held.items) s.clocks.table.clocks };
+}
+
+impl Standings {
+    /// One activity, and no clock.
+    pub fn open(alloc: Global) -> Result<Standings, AllocError>
+        ensures clocks { IfOk result (λ s. told_of s ≡ []) }
+        ensures activities { IfOk result (λ s. length s.held ≡ 1) }
+    {
+        let clocks = Clocks::open(alloc, 0)?;
+        let mut held = Vec::new(alloc);
+        held.push(Registrations::open(alloc, 0)?)?;
+        Ok(Standings { clocks, held })
+    }
+
+    /// How many clocks there are.
+    pub fn clock_count(&self) -> usize
+        ensures { result ≡ length (told_of self.now) }
+    {
+        self.clocks.len()
+    }
+
+    /// How often the clock has advanced.
+    pub fn phase(&self, clock: ClockId) -> u64
+        requires { clock < length (told_of self.now) }
+        ensures { option_map (λ c. c.phase) (slice_get (told_of self.now) clock) ≡ Some result }
+    {
+        self.clocks.phase(clock)
+    }
+
+    /// The number of the step in which the clock advanced last, 0 before.
+    pub fn last(&self, clock: ClockId) -> u64
+        requires { clock < length (told_of self.now) }
+        ensures { option_map (λ c. c.last) (slice_get (told_of self.now) clock) ≡ Some result }
+    {
+        self.clocks.last(clock)
+    }
+
+    /// Where activity a stands on the clock.
+    pub fn standing(&self, a: usize, clock: ClockId) -> Standing
+        requires activity { a < length self.now.held }
+        requires clock { clock < length (told_of self.now) }
+        ensures { option_map (λ c. standing_of c a) (slice_get (told_of self.now) clock)
+            ≡ Some result }
+    {
+        let registrations = &self.held[a];
+        let phase = self.clocks.phase(clock);
+        match find_on(registrations.as_slice(), clock) {
+            Some(registration) => registration.standing(phase),
+            None => Standing::Apart,
+        }
+    }
+
+    /// Whether activity a is signalled on some clock.
+    pub fn waits(&self, a: usize) -> bool
+        requires { a < length self.now.held }
+        ensures { result ≡ list_any (λ c. is_signalled (standing_of c a)) (told_of self.now) }
+    {
+        let registrations = &self.held[a];
+        signalled_on_some(registrations.as_slice(), &self.clocks)
+    }
+
+    /// Whether no clock advanced in the step of this number.
+    pub fn is_quiet(&self, step: u64) -> bool
+        ensures { result ≡ list_all (λ c. not (c.last == step)) (told_of self.now) }
+    {
+        self.clocks.is_quiet(step)
+    }
+
+    /// A step that concerns no clock leaves all as they are: none is ready. The call does nothing; its contract is the law.
+    pub fn rest(&self)
+        ensures { (now a : ℕ)
+            → map (settled_clock now) (moved a none (told_of self.now)) ≡ told_of self.now }
+    {
+        let _clocks = &self.clocks;
+    }
+
+    /// In the step of this number, activity a resumes the clocks that the step concerns.
+    pub fn resume(&mut self, a: usize, which: Which, now: u64)
+        requires there { a < length self.old.held }
+        requires phases { All (λ c. c.phase + 1 < 2 ^ 64) (told_of self.old) }
+        ensures told { told_of self.new
+            ≡ map (settled_clock now) (moved a (change_on which resumed) (told_of self.old)) }
+        ensures activities { length self.new.held ≡ length self.old.held }
+    {
+        let registrations = &mut self.held[a];
+        registrations.resume(which, &mut self.clocks, now);
+    }
+
+    /// In the step of this number, activity a drops the clocks that the step concerns.
+    pub fn drop(&mut self, a: usize, which: Which, now: u64)
+        requires there { a < length self.old.held }
+        requires phases { All (λ c. c.phase + 1 < 2 ^ 64) (told_of self.old) }
+        ensures told { told_of self.new
+            ≡ map (settled_clock now) (moved a (change_on which dropped) (told_of self.old)) }
+        ensures activities { length self.new.held ≡ length self.old.held }
+    {
+        let registrations = &mut self.held[a];
+        registrations.drop(which, &mut self.clocks, now);
+    }
+
+    /// Activity a passes an `advance`.
+    pub fn pass(&mut self, a: usize)
+        requires there { a < length self.old.held }
+        requires free { list_any (λ c. is_signalled (standing_of c a)) (told_of self.old) ≡ false }
+        ensures told { (now : ℕ) → told_of self.new
+            ≡ map (settled_clock now) (moved a (all passed) (told_of self.old)) }
+        ensures activities { length self.new.held ≡ length self.old.held }
+    {
+        let registrations = &mut self.held[a];
+        registrations.pass();
+    }
+
+    /// Activity a makes a clock. Where memory is refused the same clocks are told.
+    pub fn make(&mut self, a: usize) -> Result<ClockId, AllocError>
+        requires there { a < length self.old.held }
+        requires fits { length (told_of self.old) + 1 < 2 ^ 32 }
+        ensures number { IfOk result (λ k. k ≡ length (told_of self.old)) }
+        ensures told { OnOk result ((now : ℕ) → told_of self.new ≡ map (settled_clock now)
+            (told_of self.old ++ new_clock (length self.old.held) a ∷ [])) }
+        ensures refused { OnErr result (told_of self.new ≡ told_of self.old) }
+        ensures activities { length self.new.held ≡ length self.old.held }
+    {
+        self.clocks.reserve()?;
+        let registrations = &mut self.held[a];
+        registrations.reserve()?;
+        Ok(registrations.make(&mut self.clocks))
+    }
+
+    /// What an activity begins with that activity a starts with these values.
+    pub fn child(
+        &self,
+        alloc: Global,
+        a: usize,
+        values: &[Value],
+    ) -> Result<Registrations, AllocError>
+        requires { a < length self.now.held }
+        ensures { IfOk result
+            (λ r. IsGiven (is_given values.now) (held self.now.held a) r.list) }
+    {
+        let registrations = &self.held[a];
+        registrations.inherit(alloc, 0, values)
+    }
+
+    /// Room for one activity more than there are, at least.
+    pub fn reserve(&mut self) -> Result<(), AllocError>
+        ensures numbers { self.new.numbers ≡ self.old.numbers }
+        ensures held { self.new.held ≡ self.old.held }
+        ensures reserved { OnOk result (length self.new.held < self.new.room) }
+    {
+        self.held.try_reserve(1)
+    }
+
+    /// An activity begins with these registrations, which its starter has handed on.
+    pub fn admit(&mut self, child: Registrations)
+        requires room { length self.old.held < self.old.room }
+        requires few { length self.old.held + 1 < 2 ^ 32 }
+        requires handed_on { AreHandedOn self.old child.list }
+        ensures told { (a : ℕ) (given : ℕ → Bool) (now : ℕ) → a < length self.old.held
+            → IsGiven given (held self.old.held a) child.list
+            → told_of self.new ≡ map (settled_clock now) (joined a given (told_of self.old)) }
+        ensures activities { length self.new.held ≡ length self.old.held + 1 }
+    {
+        child.begin(&mut self.clocks);
+        self.held.push_reserved(child);
+    }
+}
