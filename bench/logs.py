@@ -7,6 +7,7 @@ and logs that claim much.
 PROGRAM is crates/x10clock/out/x10clock unless another is named. Prints for each call its seconds of processor time, the seconds that passed, the
 most memory that it took, and its status.
 """
+import itertools
 import json
 import os
 import pathlib
@@ -101,20 +102,21 @@ def hostile(folder):
     file.write_text(counting(100))
     print("-- logs that claim much, of a program of 200,000 steps")
 
-    def replayed(name, text):
-        log.write_bytes(text)
+    def replayed(name, *parts):
+        with log.open("wb") as write:
+            for part, times in parts:
+                write.writelines(itertools.repeat(part, times))
         timed(f"{name}, {size(log)}", [PROGRAM, "replay", "--module", str(file), str(log)])
 
-    replayed("end 1000000000 and no entry", b"x10log 1\nend 1000000000\n")
-    replayed("one entry of 4294967295 steps", b"x10log 1\n0 4294967295\nend 1\n")
-    many = 10_000_000
-    replayed("10,000,000 entries that nobody can take", b"x10log 1\n" + b"4294967295 4294967295\n" * many + b"end %d\n" % many)
-    replayed("10,000,000 entries, and no last line", b"x10log 1\n" + b"0 1\n" * many)
+    head, many = (b"x10log 1\n", 1), 10_000_000
+    replayed("end 1000000000 and no entry", head, (b"end 1000000000\n", 1))
+    replayed("one entry of 4294967295 steps", head, (b"0 4294967295\nend 1\n", 1))
+    replayed("10,000,000 entries that nobody can take", head, (b"4294967295 4294967295\n", many), (b"end %d\n" % many, 1))
+    replayed("10,000,000 entries, and no last line", head, (b"0 1\n", many))
     timed("/dev/zero", [PROGRAM, "replay", "--module", str(file), "/dev/zero"])
     file.write_text(counting(499_000))
-    log.write_bytes(b"x10log 1\n0 4294967295\nend 1\n")
     print("-- of a program of 999,000,000 steps")
-    timed("one entry of 4294967295 steps", [PROGRAM, "replay", "--module", str(file), str(log)])
+    replayed("one entry of 4294967295 steps", head, (b"0 4294967295\nend 1\n", 1))
 
 
 def main():
