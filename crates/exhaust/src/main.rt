@@ -3,6 +3,7 @@
 //! contracts say. Run it with growths refused, one at a time: `tests/refused-growths.sh` does.
 #![tactic(auto)]
 
+mod logs;
 mod rows;
 mod runs;
 mod sources;
@@ -28,6 +29,9 @@ fn every_call(alloc: Global) -> Result<(), Wrong> {
     }
     for text in rows::faulty() {
         sources::is_faulty(alloc, text)?;
+    }
+    for (program, log, is_whole) in rows::logs() {
+        logs::is_answered(alloc, program, log, is_whole)?;
     }
     tries::on_tape(alloc)
 }

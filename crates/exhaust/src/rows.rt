@@ -1,4 +1,16 @@
-//! Small programs as module text, and as source text.
+//! Small programs as module text, and as source text, and logs.
+
+/// Two activities on a clock.
+const PAIR: &str =
+    r#"{"version":1,"shared":[],"units":[{"kind":"main","params":"","slots":2,"code":[["make",0],["spawn",1,[0]],["advance"],["lit",1,1],["print",1],["ret"]]},{"kind":"body","params":"c","slots":2,"code":[["advance"],["lit",1,2],["print",1],["ret"]]}]}"#;
+
+/// Three activities, each on two of three clocks.
+const RING: &str =
+    r#"{"version":1,"shared":[],"units":[{"kind":"main","params":"","slots":3,"code":[["make",0],["make",1],["make",2],["spawn",1,[0,1]],["spawn",2,[1,2]],["spawn",3,[2,0]],["ret"]]},{"kind":"body","params":"cc","slots":2,"code":[["advance"],["advance"],["ret"]]},{"kind":"body","params":"cc","slots":2,"code":[["advance"],["advance"],["ret"]]},{"kind":"body","params":"cc","slots":2,"code":[["advance"],["advance"],["ret"]]}]}"#;
+
+/// The numbers from 1 to 9.
+const NINE: &str =
+    r#"{"version":1,"shared":[],"units":[{"kind":"main","params":"","slots":1,"code":[["for",0,1,9,2],["print",0],["next",0],["ret"]]}]}"#;
 
 /// Programs that the verifier accepts: of one activity, of several, and with shared numbers; fifty activities that a loop starts, and a run
 /// of some thousand steps.
@@ -11,9 +23,9 @@ pub fn accepted() -> [&'static str; 19] {
         r#"{"version":1,"shared":[],"units":[{"kind":"main","params":"","slots":1,"code":[["lit",0,2],["call",1,[0]],["call",1,[0]],["print",0],["ret"]]},{"kind":"method","params":"n","slots":2,"code":[["add",0,0,0],["call",2,[0]],["print",0],["ret"]]},{"kind":"method","params":"n","slots":60,"code":[["add",59,0,0],["print",59],["ret"]]}]}"#,
         r#"{"version":1,"shared":[],"units":[{"kind":"main","params":"","slots":1,"code":[["for",0,-1,1,2],["call",1,[0]],["next",0],["ret"]]},{"kind":"method","params":"n","slots":2,"code":[["make",1],["print",0],["drop",1],["ret"]]}]}"#,
         r#"{"version":1,"shared":[],"units":[{"kind":"main","params":"","slots":1,"code":[["for",0,1,2,5],["finish",4],["finish",3],["endfinish",2],["endfinish",1],["next",0],["call",1,[]],["print",0],["ret"]]},{"kind":"method","params":"","slots":1,"code":[["finish",3],["make",0],["drop",0],["endfinish",0],["ret"]]}]}"#,
-        r#"{"version":1,"shared":[],"units":[{"kind":"main","params":"","slots":2,"code":[["make",0],["spawn",1,[0]],["advance"],["lit",1,1],["print",1],["ret"]]},{"kind":"body","params":"c","slots":2,"code":[["advance"],["lit",1,2],["print",1],["ret"]]}]}"#,
+        PAIR,
         r#"{"version":1,"shared":[],"units":[{"kind":"main","params":"","slots":1,"code":[["make",0],["spawn",1,[0]],["resume",0],["spawn",2,[0]],["advance"],["ret"]]},{"kind":"body","params":"c","slots":1,"code":[["advance"],["ret"]]},{"kind":"body","params":"c","slots":2,"code":[["advance"],["lit",1,3],["print",1],["ret"]]}]}"#,
-        r#"{"version":1,"shared":[],"units":[{"kind":"main","params":"","slots":3,"code":[["make",0],["make",1],["make",2],["spawn",1,[0,1]],["spawn",2,[1,2]],["spawn",3,[2,0]],["ret"]]},{"kind":"body","params":"cc","slots":2,"code":[["advance"],["advance"],["ret"]]},{"kind":"body","params":"cc","slots":2,"code":[["advance"],["advance"],["ret"]]},{"kind":"body","params":"cc","slots":2,"code":[["advance"],["advance"],["ret"]]}]}"#,
+        RING,
         r#"{"version":1,"shared":[],"units":[{"kind":"main","params":"","slots":2,"code":[["lit",0,5],["make",1],["spawn",1,[0,1,0]],["lit",0,7],["print",0],["ret"]]},{"kind":"body","params":"ncn","slots":4,"code":[["add",3,0,2],["drop",1],["print",3],["ret"]]}]}"#,
         r#"{"version":1,"shared":[],"units":[{"kind":"main","params":"","slots":2,"code":[["make",0],["spawn",1,[0]],["for",1,1,2,4],["call",2,[0,1]],["next",2],["call",3,[0]],["advance"],["ret"]]},{"kind":"body","params":"c","slots":2,"code":[["for",1,1,2,2],["call",2,[0,1]],["next",0],["drop",0],["ret"]]},{"kind":"method","params":"cn","slots":2,"code":[["resume",0],["print",1],["advance"],["ret"]]},{"kind":"method","params":"c","slots":1,"code":[["resume",0],["ret"]]}]}"#,
         r#"{"version":1,"shared":[],"units":[{"kind":"main","params":"","slots":1,"code":[["make",0],["call",1,[0]],["call",1,[0]],["advance"],["ret"]]},{"kind":"method","params":"c","slots":3,"code":[["make",1],["spawn",2,[1,0]],["resume",0],["advance"],["lit",2,3],["print",2],["drop",1],["ret"]]},{"kind":"body","params":"cc","slots":2,"code":[["resume",0],["advance"],["drop",1],["advance"],["ret"]]}]}"#,
@@ -76,5 +88,23 @@ pub fn faulty() -> [&'static str; 6] {
         "def f() { }",
         "def f() { g(); } def g() { async { f(); } } def main() { f(); }",
         "def main() { val a = 0; f(a, a, a, a, a, a, a, a, a, a, a, a, a, a, a, a, a, a, a, a, a, a, a, a, a, a, a, a, a, a, a, a, a, a, a, a, a, a, a, a, a, a, a, a, a, a, a, a, a, a, a, a, a, a, a, a, a, a, a, a, a, a, a, a, a); } def f(n0: Long, n1: Long, n2: Long, n3: Long, n4: Long, n5: Long, n6: Long, n7: Long, n8: Long, n9: Long, n10: Long, n11: Long, n12: Long, n13: Long, n14: Long, n15: Long, n16: Long, n17: Long, n18: Long, n19: Long, n20: Long, n21: Long, n22: Long, n23: Long, n24: Long, n25: Long, n26: Long, n27: Long, n28: Long, n29: Long, n30: Long, n31: Long, n32: Long, n33: Long, n34: Long, n35: Long, n36: Long, n37: Long, n38: Long, n39: Long, n40: Long, n41: Long, n42: Long, n43: Long, n44: Long, n45: Long, n46: Long, n47: Long, n48: Long, n49: Long, n50: Long, n51: Long, n52: Long, n53: Long, n54: Long, n55: Long, n56: Long, n57: Long, n58: Long, n59: Long, n60: Long, n61: Long, n62: Long, n63: Long, n64: Long) { }",
+    ]
+}
+
+/// Programs, each with a log, and whether that is of a whole run. The others break a rule on logs: on lines, on where the text ends, on who
+/// can step, on where a run ends.
+pub fn logs() -> [(&'static str, &'static str, bool); 7] {
+    [
+        (PAIR, "x10log 1\n0 3\n1 1\n0 4\n1 4\nend 4\n", true),
+        (
+            RING,
+            "x10log 1\n0 7\n1 1\n2 1\n3 1\n1 2\n2 2\n3 2\n1 2\n2 2\n3 2\nend 10\n",
+            true,
+        ),
+        (NINE, "x10log 1\n0 20\nend 1\n", true),
+        (PAIR, "x10log 1\n0 3\n0 0\nend 2\n", false),
+        (PAIR, "x10log 1\n0 3\n1 1\n", false),
+        (PAIR, "x10log 1\n0 3\n0 1\nend 2\n", false),
+        (PAIR, "x10log 1\n0 3\nend 1\n", false),
     ]
 }

@@ -1,5 +1,6 @@
 //! Tests of the libraries, of what neither their contracts say nor the built program shows: schedules whose runs are known from outside, all
-//! schedules of small modules, runs that other choosers drive, kinds and rooms, devices that fail, and the texts of faults.
+//! schedules of small modules, runs that other choosers drive, kinds and rooms, devices that fail, logs that end elsewhere, and the texts
+//! of faults.
 #![tactic(auto)]
 
 #[cfg(test)]
@@ -12,6 +13,8 @@ mod every;
 mod programs;
 #[cfg(test)]
 mod runs;
+#[cfg(test)]
+mod serving;
 #[cfg(test)]
 mod told;
 #[cfg(test)]

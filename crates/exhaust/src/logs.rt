@@ -1,0 +1,64 @@
+//! Logs are read and played again, and their runs charted and written; each call tried again where memory was refused.
+
+use crate::tries::{Wrong, accepted, holds};
+use std::alloc::Global;
+use std::io;
+use xk_bounds::Verified;
+use xk_drive::Ended;
+use xk_log::{Log, LogFault, read_log};
+use xk_replay::{ReplayFault, chart, replay, write_log};
+use xk_types::Counted;
+
+/// The log that a text is, at the second try where memory was refused.
+fn read(alloc: Global, text: &str) -> Result<Log, LogFault> {
+    match read_log(alloc, &mut Counted::new(text.as_bytes())) {
+        Err(LogFault::OutOfMemory) => read_log(alloc, &mut Counted::new(text.as_bytes())),
+        answer => answer,
+    }
+}
+
+/// The run that a log is of, at the second try, with what came back, where memory was refused.
+fn replayed<'m>(
+    alloc: Global,
+    verified: &'m Verified,
+    log: Log,
+) -> Result<Ended<'m>, (Log, ReplayFault)> {
+    match replay(alloc, verified, log) {
+        Err((same, ReplayFault::OutOfMemory)) => replay(alloc, verified, same),
+        answer => answer,
+    }
+}
+
+/// A run has a chart. Its log is written at the first try, since that takes no memory.
+fn is_charted(alloc: Global, ended: &Ended<'_>) -> Result<(), Wrong> {
+    let is_charted = chart(alloc, ended).is_ok() || chart(alloc, ended).is_ok();
+    holds(is_charted, "a chart isn't made at the second try")?;
+    let is_written = write_log(ended, &mut Counted::new(io::sink())).is_ok();
+    holds(is_written, "a log isn't written at the first try")
+}
+
+/// A log is of a whole run, which is charted, or is refused for not being one.
+fn is_replayed(alloc: Global, verified: &Verified, log: Log, is_whole: bool) -> Result<(), Wrong> {
+    match replayed(alloc, verified, log) {
+        Ok(ended) => {
+            holds(is_whole, "a log is played again that isn't of a whole run")?;
+            is_charted(alloc, &ended)
+        }
+        Err((_, fault)) => holds(
+            !is_whole && fault != ReplayFault::OutOfMemory,
+            "a log isn't played again at the second try",
+        ),
+    }
+}
+
+/// A text is the log of a whole run of a program, or is refused for not being one.
+pub fn is_answered(alloc: Global, program: &str, text: &str, is_whole: bool) -> Result<(), Wrong> {
+    let verified = accepted(alloc, program)?;
+    match read(alloc, text) {
+        Ok(log) => is_replayed(alloc, &verified, log, is_whole),
+        Err(fault) => holds(
+            !is_whole && fault != LogFault::OutOfMemory,
+            "a log isn't read at the second try",
+        ),
+    }
+}
