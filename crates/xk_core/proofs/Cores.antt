@@ -75,8 +75,8 @@ core_able m w a core = able_enabled m core.accepted w (reached_sound m core.limi
 pub core_ends : (m : ModuleValue) (w : World) → IsCore m w → ((a : ℕ) → a < length w.activities → is_enabled m w a ≡ false) → all_ended w ≡ true
 core_ends m w core h = reached_ends m core.limits core.accepted w core.reached h
 
--- there are no more activities than a number of 32 bits names
-pub core_names : (m : ModuleValue) (w : World) → IsCore m w → length w.activities < 2 ^ 32
+-- there are no more activities than a number of 32 bits names, and one more could be named
+pub core_names : (m : ModuleValue) (w : World) → IsCore m w → length w.activities + 1 < 2 ^ 32
 core_names m w core = omega (arith, (reached_room m core.limits core.accepted w core.reached).activities, core.accepted.bounds.activities)
 
 -- ---- the two ways to step

@@ -1,4 +1,4 @@
-pub mod Clocks
+pub mod Changing
 pub mod Arms
 pub mod Ableness
 pub mod Cores

@@ -1,10 +1,10 @@
--- How an activity is started, or calls a method, and how the clocks take it in, one after the other, and put it out again.
-use Rattle.std.specs.Prelude.{ℕ, ◌-◌, Bool, List, [], ◌∷◌, ◌++◌, length, map, replicate, take, drop}
+-- How an activity is started, or calls a method.
+use Rattle.std.specs.Prelude.{ℕ, ◌-◌, List, [], ◌∷◌, ◌++◌, length, map, replicate}
 use Rattle.xk_types.specs.declared.names.Value.{Value}
 use Rattle.xk_types.specs.declared.names.Value.TheVariants as value
 use Rattle.xk_types.specs.declared.names.Status.TheVariants as status
-use Rattle.xk_types.specs.World.{Activity, Clock}
-use Rattle.xk_types.specs.Step.{governing, joined}
+use Rattle.xk_types.specs.World.{Activity}
+use Rattle.xk_types.specs.Step.{governing}
 use Rattle.xk_core.specs.Arm.{value_at}
 
 -- the slots of a unit that has this many, of which the first are given these of the activity
@@ -25,11 +25,3 @@ started a act unit slots = record {
 -- the activity after it has called a unit with these slots
 abbrev pub called_with : Activity → ℕ → List Value → Activity
 called_with act unit slots = record act { frame = record { unit = unit; place = 0; slots = slots }; callers = act.frame ∷ act.callers }
-
--- without the activity of the greatest number
-abbrev pub left_by_last : Clock → Clock
-left_by_last c = record c { standings = take (length c.standings - 1) c.standings }
-
--- the clocks when the first n of them have taken in what activity a starts
-abbrev pub joined_first : ℕ → ℕ → (ℕ → Bool) → List Clock → List Clock
-joined_first n a given cs = joined a given (take n cs) ++ drop n cs

@@ -397,6 +397,6 @@ impl Activity {
     {
         let c = self.clock(k);
         self.go_on();
-        StepChange::Only(c.0 as usize, what)
+        StepChange::Only(c, what)
     }
 }

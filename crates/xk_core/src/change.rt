@@ -1,10 +1,12 @@
 //! What a step does to the standings of its activity.
 
-ghost use Rattle.std.specs.Prelude.{◌≡◌};
-ghost use Rattle.xk_types.specs.Step.{is_registered, is_signalled, is_pending, advanced};
-ghost use Rattle.xk_core.specs.Change.{standing_after, standing_after_step};
+ghost use Rattle.std.specs.Prelude.{◌≡◌, ◌+◌, ◌<◌, ◌^◌, length, map, All};
+ghost use Rattle.xk_types.specs.Step.{is_registered, settled_clock, moved};
+ghost use Rattle.xk_standings.specs.Told.{told_of, change_on};
+ghost use Rattle.xk_core.specs.Change.{standing_after, standing_after_step, AllowsChangeOn, AllowsChange};
 
-use xk_types::Standing;
+use xk_standings::{Standings, Which};
+use xk_types::{ClockId, Standing};
 
 /// A change of where an activity stands on one clock.
 #[derive(Clone, Copy, Debug, PartialEq, Eq)]
@@ -18,15 +20,21 @@ pub enum StandingChange {
 }
 
 impl StandingChange {
-    /// The standing afterwards.
-    pub fn of(self, s: Standing) -> Standing
-        ensures { result ≡ standing_after self s }
+    /// Makes this change of where activity a stands on the clocks that the step of this number concerns, at the end of which each
+    /// clock that is ready advances. Only those clocks are looked at.
+    #[inline(always)]
+    fn make(self, standings: &mut Standings, a: usize, which: Which, now: u64)
+        requires there { a < length standings.old.held }
+        requires phases { All (λ c. c.phase + 1 < 2 ^ 64) (told_of standings.old) }
+        requires allowed { AllowsChangeOn (told_of standings.old) a which self }
+        ensures told { told_of standings.new ≡ map (settled_clock now)
+            (moved a (change_on which (standing_after self)) (told_of standings.old)) }
+        ensures activities { length standings.new.held ≡ length standings.old.held }
     {
-        match (self, s) {
-            (StandingChange::Resume, Standing::Open) => Standing::Signalled,
-            (StandingChange::Pass, Standing::Ahead) => Standing::Open,
-            (StandingChange::Drop, _) => Standing::Apart,
-            (_, same) => same,
+        match self {
+            StandingChange::Resume => standings.resume(a, which, now),
+            StandingChange::Pass => standings.pass(a),
+            StandingChange::Drop => standings.drop(a, which, now),
         }
     }
 }
@@ -36,21 +44,28 @@ impl StandingChange {
 pub enum StepChange {
     /// On no clock.
     Nothing,
-    /// On the clock of this number.
-    Only(usize, StandingChange),
+    /// On this clock.
+    Only(ClockId, StandingChange),
     /// On every clock.
     All(StandingChange),
 }
 
 impl StepChange {
-    /// The standing on clock k afterwards.
-    pub fn of(self, k: usize, s: Standing) -> Standing
-        ensures { result ≡ standing_after_step self k s }
+    /// Makes this change of where activity a stands, in the step of this number, at the end of which each clock that is ready
+    /// advances.
+    #[inline(always)]
+    pub fn make(&self, standings: &mut Standings, a: usize, now: u64)
+        requires there { a < length standings.old.held }
+        requires phases { All (λ c. c.phase + 1 < 2 ^ 64) (told_of standings.old) }
+        requires allowed { AllowsChange (told_of standings.old) a self.now }
+        ensures told { told_of standings.new ≡ map (settled_clock now)
+            (moved a (standing_after_step self.now) (told_of standings.old)) }
+        ensures activities { length standings.new.held ≡ length standings.old.held }
     {
         match self {
-            StepChange::Nothing => s,
-            StepChange::Only(c, one) => if k == c { one.of(s) } else { s },
-            StepChange::All(one) => one.of(s),
+            StepChange::Nothing => standings.rest(),
+            StepChange::Only(c, one) => one.make(standings, a, Which::Only(*c), now),
+            StepChange::All(one) => one.make(standings, a, Which::All, now),
         }
     }
 }
@@ -60,25 +75,4 @@ pub fn is_registered(s: Standing) -> bool
     ensures { result ≡ is_registered s }
 {
     !matches!(s, Standing::Apart)
-}
-
-/// Whether it is a registration that has resumed the clock, which hasn't advanced since.
-pub fn is_signalled(s: Standing) -> bool
-    ensures { result ≡ is_signalled s }
-{
-    matches!(s, Standing::Signalled)
-}
-
-/// Whether it is a registration that keeps the clock back.
-pub fn is_pending(s: Standing) -> bool
-    ensures { result ≡ is_pending s }
-{
-    matches!(s, Standing::Open | Standing::Ahead)
-}
-
-/// The standing once the clock has advanced.
-pub fn advance(s: Standing) -> Standing
-    ensures { result ≡ advanced s }
-{
-    if is_signalled(s) { Standing::Ahead } else { s }
 }

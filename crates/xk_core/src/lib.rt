@@ -3,7 +3,6 @@
 
 mod activity;
 mod change;
-mod clock;
 pub mod laws;
 mod machine;
 mod state;

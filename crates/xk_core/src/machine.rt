@@ -161,10 +161,7 @@ impl<'m> Core<'m> {
         requires { clock < length self.now.world.clocks }
         ensures { option_map (λ c. c.last) (slice_get self.now.world.clocks clock) ≡ Some result }
     {
-        match self.state.clock(clock.0 as usize) {
-            Some(c) => c.last(),
-            None => unreachable!(),
-        }
+        self.state.last(clock)
     }
 
     /// How often the clock has advanced.
@@ -172,10 +169,7 @@ impl<'m> Core<'m> {
         requires { clock < length self.now.world.clocks }
         ensures { option_map (λ c. c.phase) (slice_get self.now.world.clocks clock) ≡ Some result }
     {
-        match self.state.clock(clock.0 as usize) {
-            Some(c) => c.phase(),
-            None => unreachable!(),
-        }
+        self.state.phase(clock)
     }
 
     /// Whether the activity is registered on the clock: it made the clock or was given it, and has neither dropped it nor ended.
@@ -184,10 +178,7 @@ impl<'m> Core<'m> {
         requires clock { clock < length self.now.world.clocks }
         ensures { result ≡ is_registered_on self.now.world act clock }
     {
-        match self.state.clock(clock.0 as usize) {
-            Some(c) => is_registered(c.standing(act.0 as usize)),
-            None => false,
-        }
+        is_registered(self.state.standing(act.0 as usize, clock))
     }
 
     /// Whether the activity is about to start another.

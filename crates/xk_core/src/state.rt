@@ -1,132 +1,52 @@
 //! The world of a running program, but for its finishes, and the arms of its steps.
 
-ghost use Rattle.std.specs.Prelude.{◌≡◌, ℕ, ℤ, ◌+◌, ◌<◌, ◌≤◌, ◌^◌, Bool, true, false, List, [], ◌∷◌, ◌++◌, Some, length, map, slice_get, slice_set, option_copied, IfOk, IfErr, IfSome, IfNone, OnOk, OnErr, All};
+ghost use Rattle.std.specs.Prelude.{◌≡◌, ℤ, ◌+◌, ◌<◌, ◌^◌, true, false, ◌∷◌, [], ◌++◌, Some, length, slice_get, slice_set, option_copied, option_map, IfOk, OnOk, OnErr, All};
 ghost use Rattle.xk_types.specs.declared.names.Value.TheVariants as value;
 ghost use Rattle.xk_types.specs.declared.instr.Instr.TheVariants as instruction;
-ghost use Rattle.xk_types.specs.Step.{Stepped, settled, settled_clock, moved, joined, names_clock, is_given, waits, onward, none};
+ghost use Rattle.xk_types.specs.Step.{Stepped, settled, moved, waits, onward, none};
 ghost use Rattle.xk_finishes.specs.Tree.{node_at, fresh_node, governing_of};
 ghost use Rattle.xk_types.specs.Schedule.{is_step, all_ended};
 ghost use Rattle.xk_core.specs.Able.{is_able};
 ghost use Rattle.xk_core.specs.Core.{is_quiet, next_instruction};
 ghost use Rattle.xk_core.specs.Opening.{opening_with};
-ghost use Rattle.xk_core.specs.Change.{standing_after_step};
+ghost use Rattle.xk_core.specs.Change.{standing_after_step, AllowsChange};
 ghost use Rattle.xk_core.specs.Arm.{grows, concerns_finishes, concerns_cells, carried, CarriesOut, passed_on, IsRoomy, IsRunningUnit};
-ghost use Rattle.xk_core.specs.Joining.{joined_first};
+ghost use Rattle.xk_types.specs.World.{standing_of};
 ghost use Rattle.xk_types.specs.World as world;
 
 use crate::activity::{Activity, Frame};
-use crate::change::{StandingChange, StepChange, is_signalled};
-use crate::clock::Clock;
+use crate::change::{StandingChange, StepChange};
 use std::alloc::{AllocError, Global};
 use std::marker::Model;
 use xk_finishes::FinishTree;
-use xk_types::{Act, ClockId, Event, Instr, Module, Status, Value};
+use xk_standings::Standings;
+use xk_types::{Act, ClockId, Event, Instr, Module, Standing, Status, Value};
 
-/// The world, but for its finishes: activities and clocks by their numbers, the shared numbers, and how many steps were taken. It
-/// stands for the world in which no activity has a finish open, and main's finish governs all.
+/// The world, but for its finishes: activities by their numbers, where they stand on clocks, the shared numbers, and how many
+/// steps were taken. It stands for the world in which no activity has a finish open, and main's finish governs all.
 #[derive(Drop)]
 pub struct State {
     activities: Vec<Activity>,
-    clocks: Vec<Clock>,
+    standings: Standings,
     cells: Vec<i64>,
     steps: u64,
 }
 
 impl Model for State {
+    ghost use Rattle.std.specs.Prelude.{◌≡◌, length};
     ghost use Rattle.xk_types.specs.World as world;
+    ghost use Rattle.xk_standings.specs.Told.{told_of};
 
     ghost Value = { world.World };
 
     ghost view = { λ s. record {
       activities = s.activities.items;
-      clocks = s.clocks.items;
+      clocks = told_of s.standings;
       cells = s.cells.items;
       steps = s.steps;
     } };
-}
 
-/// Changes the standings of activity a.
-#[inline(always)]
-fn change_all(clocks: &mut Vec<Clock>, a: usize, change: StepChange)
-    requires { All (λ c. a < length c.standings) clocks.old.items }
-    ensures { clocks.new.items ≡ moved a (standing_after_step change) clocks.old.items }
-{
-    for (k, clock) in clocks.iter_mut().enumerate() {
-        clock.change(a, k, change);
-    }
-}
-
-/// Advances each clock that is ready, in the step of this number.
-#[inline(always)]
-fn settle_all(clocks: &mut Vec<Clock>, now: u64)
-    requires { All (λ c. c.phase + 1 < 2 ^ 64) clocks.old.items }
-    ensures { clocks.new.items ≡ map (settled_clock now) clocks.old.items }
-{
-    for clock in clocks.iter_mut() {
-        clock.settle(now);
-    }
-}
-
-/// Whether the value names clock c.
-fn names_clock(v: &Value, c: usize) -> bool
-    ensures { result ≡ names_clock c v.now }
-{
-    match v {
-        Value::Clock(k) => k.0 as usize == c,
-        Value::Unset | Value::Number(_) => false,
-    }
-}
-
-/// Whether one of the values names clock c.
-fn is_given(values: &[Value], c: usize) -> bool
-    ensures { result ≡ is_given values.now c }
-{
-    values.iter().any(|v| names_clock(v, c))
-}
-
-/// The clocks take in the activity of the next number, which activity a starts with these values. Stops at the first clock
-/// that memory is refused to, and gives its number.
-fn join_each(clocks: &mut Vec<Clock>, a: usize, values: &[Value]) -> Result<(), usize>
-    ensures joined { OnOk result
-        (clocks.new.items ≡ joined a (is_given values.now) clocks.old.items) }
-    ensures stopped { IfErr result
-        (λ k. clocks.new.items ≡ joined_first k a (is_given values.now) clocks.old.items) }
-    ensures within { IfErr result (λ k. k ≤ length clocks.new.items) }
-{
-    for (k, clock) in clocks.iter_mut().enumerate() {
-        if clock.join(a, is_given(values, k)).is_err() {
-            return Err(k);
-        }
-    }
-    Ok(())
-}
-
-/// The first n clocks put out the activity of the greatest number again.
-fn leave_first(clocks: &mut Vec<Clock>, n: usize)
-    requires { n ≤ length clocks.old.items }
-    ensures { (a : ℕ) (given : ℕ → Bool) (before : List world.Clock)
-        → clocks.old.items ≡ joined_first n a given before → clocks.new.items ≡ before }
-{
-    for k in 0..n {
-        let clock = &mut clocks[k];
-        clock.leave();
-    }
-}
-
-/// The clocks take in the activity of the next number, which activity a starts with these values. Where memory is refused
-/// nothing changes.
-fn join_all(clocks: &mut Vec<Clock>, a: usize, values: &[Value]) -> Result<(), AllocError>
-    ensures joined { OnOk result
-        (clocks.new.items ≡ joined a (is_given values.now) clocks.old.items) }
-    ensures refused { OnErr result (clocks.new.items ≡ clocks.old.items) }
-{
-    match join_each(clocks, a, values) {
-        Ok(()) => Ok(()),
-        Err(n) => {
-            leave_first(clocks, n);
-            Err(AllocError)
-        }
-    }
+    ghost invariant = { λ s. length s.standings.held ≡ length s.activities.items };
 }
 
 /// A shared number, as a slot holds it.
@@ -146,28 +66,18 @@ fn set_cell(cells: &mut Vec<i64>, s: u16, n: i64)
 }
 
 impl State {
-    /// The end of a step: it is counted, and each clock that is ready advances.
-    #[inline(always)]
-    fn settle(&mut self)
-        requires steps { self.old.steps + 1 < 2 ^ 64 }
-        requires phases { All (λ c. c.phase + 1 < 2 ^ 64) self.old.clocks }
-        ensures { self.new ≡ settled self.old }
-    {
-        self.steps += 1;
-        settle_all(&mut self.clocks, self.steps);
-    }
-
-    /// The end of a step of activity a, whose standings change.
+    /// The end of a step of activity a, whose standings change: it is counted, and each clock that is ready advances.
     #[inline(always)]
     fn end_step(&mut self, a: usize, change: StepChange)
         requires steps { self.old.steps + 1 < 2 ^ 64 }
         requires phases { All (λ c. c.phase + 1 < 2 ^ 64) self.old.clocks }
-        requires standings { All (λ c. a < length c.standings) self.old.clocks }
+        requires there { a < length self.old.activities }
+        requires allowed { AllowsChange self.old.clocks a change }
         ensures { self.new ≡ settled (record self.old
             { clocks = moved a (standing_after_step change) self.old.clocks }) }
     {
-        change_all(&mut self.clocks, a, change);
-        self.settle();
+        self.steps += 1;
+        change.make(&mut self.standings, a, self.steps);
     }
 
     /// Activity a carries out an instruction of this module that opens or closes no finish, and starts no activity. Only the making
@@ -265,12 +175,10 @@ impl State {
             (CarriesOut program.now self.old a (instruction.Make d) self.new) }
         ensures refused { OnErr result (self.new ≡ self.old) }
     {
-        let name = ClockId(self.clocks.len() as u32);
-        let clock = Clock::made(*self.clocks.allocator(), self.activities.len(), a)?;
-        self.clocks.push(clock)?;
+        let name = self.standings.make(a)?;
         let act = &mut self.activities[a];
         act.put(d, Value::Clock(name));
-        self.settle();
+        self.steps += 1;
         Ok(Event::Made)
     }
 
@@ -329,7 +237,7 @@ impl State {
         requires room { IsRoomy self.old a }
         requires with_finishes { length finishes.old ≡ length self.old.activities }
         requires runs { (node_at finishes.old a).ended ≡ false }
-        requires numbers { length self.old.activities < 2 ^ 32 }
+        requires numbers { length self.old.activities + 1 < 2 ^ 32 }
         ensures started { IfOk result
             (CarriesOut program.now self.old a (instruction.Spawn unit args.now) self.new) }
         ensures finishes { OnOk result
@@ -343,17 +251,15 @@ impl State {
         let size = body.slots;
         let starter = &self.activities[a];
         let child = starter.start(alloc, unit, args, size)?;
+        let registrations = self.standings.child(alloc, a, child.slots())?;
         self.activities.try_reserve(1)?;
-        join_all(&mut self.clocks, a, child.slots())?;
-        if finishes.spawned(Act(a as u32), finish_room).is_err() {
-            let n = self.clocks.len();
-            leave_first(&mut self.clocks, n);
-            return Err(AllocError);
-        }
+        self.standings.reserve()?;
+        finishes.spawned(Act(a as u32), finish_room)?;
+        self.standings.admit(registrations);
         let act = &mut self.activities[a];
         act.go_on();
-        self.activities.push(child)?;
-        self.settle();
+        self.activities.push_reserved(child);
+        self.steps += 1;
         Ok(Event::Spawned)
     }
 
@@ -379,7 +285,7 @@ impl State {
         activities.push(Activity::new(alloc, Frame::new(0, slots), 0))?;
         Ok(State {
             activities,
-            clocks: Vec::new(alloc),
+            standings: Standings::open(alloc)?,
             cells: shared.to_vec(alloc)?,
             steps: 0,
         })
@@ -403,7 +309,7 @@ impl State {
     pub fn clock_count(&self) -> usize
         ensures { result ≡ length self.now.clocks }
     {
-        self.clocks.len()
+        self.standings.clock_count()
     }
 
     /// The activity of this number, if there is one.
@@ -413,11 +319,30 @@ impl State {
         self.activities.get(a)
     }
 
-    /// The clock of this number, if there is one.
-    pub fn clock(&self, c: usize) -> Option<&Clock>
-        ensures { option_copied result ≡ slice_get self.now.clocks c }
+    /// How often the clock has advanced.
+    pub fn phase(&self, clock: ClockId) -> u64
+        requires { clock < length self.now.clocks }
+        ensures { option_map (λ c. c.phase) (slice_get self.now.clocks clock) ≡ Some result }
     {
-        self.clocks.get(c)
+        self.standings.phase(clock)
+    }
+
+    /// The number of the step in which the clock last advanced, 0 before.
+    pub fn last(&self, clock: ClockId) -> u64
+        requires { clock < length self.now.clocks }
+        ensures { option_map (λ c. c.last) (slice_get self.now.clocks clock) ≡ Some result }
+    {
+        self.standings.last(clock)
+    }
+
+    /// Where activity a stands on the clock.
+    pub fn standing(&self, a: usize, clock: ClockId) -> Standing
+        requires activity { a < length self.now.activities }
+        requires clock { clock < length self.now.clocks }
+        ensures { option_map (λ c. standing_of c a) (slice_get self.now.clocks clock)
+            ≡ Some result }
+    {
+        self.standings.standing(a, clock)
     }
 
     /// Whether no clock advanced in the last step.
@@ -425,7 +350,7 @@ impl State {
     pub fn is_quiet(&self) -> bool
         ensures { result ≡ is_quiet self.now }
     {
-        self.clocks.iter().all(|c| c.last() != self.steps)
+        self.standings.is_quiet(self.steps)
     }
 
     /// The instruction of this module that activity a carries out next, if it runs.
@@ -452,9 +377,10 @@ impl State {
 
     /// Whether a clock holds activity a back that waits at an `advance`.
     fn waits(&self, a: usize) -> bool
+        requires { a < length self.now.activities }
         ensures { result ≡ waits self.now a }
     {
-        self.clocks.iter().any(|c| is_signalled(c.standing(a)))
+        self.standings.waits(a)
     }
 
     /// Whether activity a exists, doesn't wait at an `advance`, and isn't over.

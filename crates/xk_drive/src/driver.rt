@@ -173,6 +173,13 @@ impl<'m> Driver<'m> {
         self.core
     }
 
+    /// Those who can take a step, rising.
+    pub fn enabled(&self) -> &[u32]
+        ensures { result.now ≡ enabled_in self.now.module_run self.now.world }
+    {
+        &self.enabled
+    }
+
     /// Whether all have ended.
     pub fn over(&self) -> bool
         ensures { result ≡ all_ended self.now.world }

@@ -11,7 +11,7 @@ use std::alloc::Global;
 use xk_core::Core;
 
 /// The answer where memory was refused before the first step.
-fn unstarted<'m>(alloc: Global, core: Core<'m>) -> Partial<'m>
+pub fn unstarted<'m>(alloc: Global, core: Core<'m>) -> Partial<'m>
     requires { core.world.steps ≡ 0 }
     ensures module { result.module.now ≡ core.entry.module_run }
     ensures log { result.log.items ≡ [] }

@@ -10,6 +10,6 @@ mod schedule;
 
 pub use chooser::{Chooser, First, Last, Round};
 pub use driver::{Driver, Turn};
-pub use driving::drive;
+pub use driving::{drive, unstarted};
 pub use logged::{Ended, Logged, Partial};
 pub use schedule::{Halt, Ran, run_schedule};

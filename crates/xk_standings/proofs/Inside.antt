@@ -1,12 +1,12 @@
 -- What holds of standings as callers see them, of their parts as the code keeps them.
-use Rattle.std.proofs.Common.{◌≡◌, ℕ, ◌+◌, ◌<◌, ◌^◌, Bool, List, [], ◌∷◌, ◌++◌, map, length, get_or, Option, Some, None, Result, Ok, Err, OnErr, refl, sym, ap, ◌∙◌, subst, arith, slice_get, slice_index_or, All}
+use Rattle.std.proofs.Common.{◌≡◌, ℕ, ◌+◌, ◌<◌, ◌^◌, Bool, List, [], ◌∷◌, ◌++◌, map, length, get_or, Option, Some, Result, Ok, Err, OnErr, sym, ap, ◌∙◌, subst, slice_get, slice_index_or}
 use Rattle.std.specs.List.{list_any}
 use Rattle.std.specs.Option.{option_map_or, option_map}
 use Rattle.xk_types.specs.declared.names.Standing.{Standing}
 use Rattle.xk_types.specs.declared.names.Standing.TheVariants as standing
 use Rattle.xk_types.specs.World.{Clock, standing_of}
 use Rattle.xk_types.specs.Step.{is_signalled, settled_clock, joined}
-use Rattle.xk_clocks.specs.Table.{CountValue, count_at}
+use Rattle.xk_clocks.specs.Table.{count_at}
 use Rattle.xk_standings.specs.View.{Registration, standing_at, reg_on, AreDistinct, held, IsKept}
 use Rattle.xk_standings.specs.Calls.{ClocksValue, RegistrationsValue, is_signalled_in, calls, call_register, IsGiven, AreToldAs, AreAllowed, OwesRegister}
 use Rattle.xk_standings.specs.Told.{StandingsValue, told_of, lists, AreKept, AreHandedOn}

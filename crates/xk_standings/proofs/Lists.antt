@@ -1,5 +1,7 @@
 -- The list in which an activity's registrations stand.
-use Rattle.std.proofs.Common.{◌≡◌, ℕ, Bool, List, [], ◌∷◌, length, cond, Option, sym, ap, ◌∙◌, subst}
+use Rattle.std.proofs.Common.{◌≡◌, ℕ, suc, ◌<◌, ◌≤◌, ◌==◌, Bool, true, false, not, List, [], ◌∷◌, length, cond, Option, refl, sym, ap, ◌∙◌, subst, arith, All}
+use Rattle.std.specs.List.{list_all}
+use Rattle.std.proofs.lemmas.Bool.Decides.{nat_tests}
 use Rattle.std.proofs.lemmas.List.{length-map}
 use Rattle.std.specs.List.Retain.{RetainsInTurn}
 use Rattle.smallvec.specs.SmallVec.{SmallVec, with_items}
@@ -25,3 +27,15 @@ where-from_retain R test f says (x ∷ xs) ys h =
     let later = subst (λ g. RetainsInTurn R g xs h.4) said.1 h.5 in
     let rest = where-from_retain R test f says xs h.4 later in
     h.6 ∙ (λ i. cond (said.0 i) (said.2 i ∷ rest i) (rest i))
+
+-- ---- steps of last advances
+
+other_number : (m n : ℕ) → m < n → (m == n) ≡ false
+other_number m n h = grind (arith, nat_tests)
+
+-- none is a step behind all of them
+pub quiet_behind : (ls : List ℕ) (newest step : ℕ) → All (λ l. l ≤ newest) ls → newest < step → true ≡ list_all (λ l. not (l == step)) ls
+quiet_behind [] newest step all h = refl
+quiet_behind (l ∷ ls) newest step all h =
+    let first : l ≤ newest = all 0 l (omega arith) in
+    rw (other_number l step (omega arith)) (quiet_behind ls newest step (λ k d lt. all (suc k) d (omega arith)) h)

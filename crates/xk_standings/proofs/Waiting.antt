@@ -1,16 +1,15 @@
 -- Whether an activity is signalled on some clock, by its own registrations.
-use Rattle.std.proofs.Common.{◌≡◌, ℕ, zero, suc, ◌+◌, ◌<◌, ◌≤◌, ◌==◌, ◌||◌, Bool, true, false, cond, List, [], ◌∷◌, length, get_or, Option, Some, None, refl, sym, ap, ◌∙◌, subst, arith, slice_get, slice_index_or, All}
+use Rattle.std.proofs.Common.{◌≡◌, ℕ, zero, suc, ◌<◌, ◌≤◌, ◌==◌, ◌||◌, Bool, true, false, cond, List, [], ◌∷◌, length, get_or, Option, Some, None, refl, sym, ap, ◌∙◌, subst, arith, slice_get, slice_index_or, All}
 use Rattle.std.specs.List.{list_any}
 use Rattle.std.specs.Option.{option_map_or}
 use Rattle.std.proofs.lemmas.Bool.{eqb-true}
 use Rattle.std.proofs.lemmas.Bool.Decides.{nat_tests}
 use Rattle.std.proofs.lemmas.Option.{none-some, same_Some}
-use Rattle.xk_types.specs.declared.names.Standing.{Standing}
 use Rattle.xk_types.specs.declared.names.Standing.TheVariants as standing
 use Rattle.xk_types.specs.World.{Clock, standing_of}
 use Rattle.xk_types.specs.Step.{is_signalled}
 use Rattle.xk_clocks.specs.Table.{CountValue, count_at}
-use Rattle.xk_standings.specs.View.{Registration, standing_at, stands, reg_on, AreDistinct, AreSound, told, told_by, told_clock, held, IsKept}
+use Rattle.xk_standings.specs.View.{Registration, standing_at, reg_on, AreDistinct, AreSound, told, told_by, told_clock, held, IsKept}
 use Rattle.xk_standings.specs.Calls.{RegistrationsValue, phase_at, is_signalled_in}
 use Rattle.xk_standings.specs.Told.{lists}
 use Rattle.xk_standings.proofs.Moves.{row_at}

@@ -1,5 +1,5 @@
 -- Where all activities stand on all clocks, as the code keeps it, and what it tells of.
-use Rattle.std.specs.Prelude.{◌≡◌, ℕ, ◌<◌, Bool, List, map, length}
+use Rattle.std.specs.Prelude.{ℕ, ◌<◌, Bool, List, map, length}
 use Rattle.xk_types.specs.declared.names.Standing.{Standing}
 use Rattle.xk_types.specs.World.{Clock}
 use Rattle.xk_types.specs.Step.{only, all}

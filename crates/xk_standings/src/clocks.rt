@@ -1,6 +1,6 @@
 //! All clocks.
 
-ghost use Rattle.std.specs.Prelude.{◌≡◌, ℕ, ◌+◌, ◌<◌, ◌≤◌, ◌==◌, ◌^◌, not, [], ◌∷◌, length, slice_index_or, IfOk, OnOk, OnErr};
+ghost use Rattle.std.specs.Prelude.{◌≡◌, ℕ, ◌+◌, ◌<◌, ◌≤◌, ◌==◌, ◌^◌, not, [], ◌∷◌, length, slice_index_or, slice_set, IfOk, OnOk, OnErr};
 ghost use Rattle.std.specs.List.{list_all};
 ghost use Rattle.xk_clocks.specs.Table.{count_at, is_ready_count};
 ghost use Rattle.xk_standings.specs.Calls.{calls, made_clocks, with_room_for_one, call_resume, call_drop, call_register, OwesResume, OwesDrop, OwesRegister, Allows};
@@ -16,10 +16,13 @@ use xk_types::ClockId;
 pub struct Clocks {
     table: ClockTable,
     lasts: Vec<u64>,
+    /// The clock that advanced last, and a number of a step behind which none has: so that it needn't be searched for.
+    latest: usize,
+    newest: u64,
 }
 
 impl Model for Clocks {
-    ghost use Rattle.std.specs.Prelude.{◌≡◌, ◌≤◌, length, vec_capacity};
+    ghost use Rattle.std.specs.Prelude.{◌≡◌, ◌≤◌, All, length, vec_capacity};
     ghost use Rattle.xk_standings.specs.Calls.{ClocksValue};
 
     ghost Value = { ClocksValue };
@@ -27,7 +30,7 @@ impl Model for Clocks {
     ghost view = { λ c. record { table = c.table; lasts = c.lasts.items } };
 
     ghost invariant = { λ c. (length c.lasts.items ≡ length c.table.clocks)
-        × (c.table.room ≤ vec_capacity c.lasts) };
+        × (c.table.room ≤ vec_capacity c.lasts) × All (λ last. last ≤ c.newest) c.lasts.items };
 }
 
 impl Clocks {
@@ -40,6 +43,8 @@ impl Clocks {
         Ok(Clocks {
             table,
             lasts: Vec::with_capacity(alloc, clocks as usize)?,
+            latest: 0,
+            newest: 0,
         })
     }
 
@@ -101,7 +106,23 @@ impl Clocks {
     pub fn is_quiet(&self, step: u64) -> bool
         ensures { result ≡ list_all (λ last. not (last == step)) self.now.lasts }
     {
+        if step > self.newest {
+            return true;
+        }
+        if self.lasts.get(self.latest).copied() == Some(step) {
+            return false;
+        }
         self.lasts.iter().all(|last| *last != step)
+    }
+
+    /// The clock has advanced in the step of this number.
+    fn note(&mut self, clock: ClockId, now: u64)
+        requires { clock < length self.old.lasts }
+        ensures { self.new ≡ record self.old { lasts = slice_set self.old.lasts clock now } }
+    {
+        self.lasts[clock.0 as usize] = now;
+        self.latest = clock.0 as usize;
+        self.newest = self.newest.max(now);
     }
 
     /// The registration, which is open, is resumed in the step of this number. Whether its clock advanced.
@@ -114,7 +135,7 @@ impl Clocks {
         let clock = registration.clock();
         let advanced = self.table.resume(clock);
         if advanced {
-            self.lasts[clock.0 as usize] = now;
+            self.note(clock, now);
         }
         advanced
     }
@@ -130,7 +151,7 @@ impl Clocks {
         let pending = registration.is_pending(self.table.phase(clock));
         let advanced = self.table.drop(clock, pending);
         if advanced {
-            self.lasts[clock.0 as usize] = now;
+            self.note(clock, now);
         }
         advanced
     }

@@ -1,9 +1,10 @@
-use Rattle.std.proofs.Common.{◌≡◌, ◌<◌, true, subst, sym, ◌∙◌, ap, get_or, length, All}
+use Rattle.std.proofs.Common.{◌≡◌, true, subst, sym, ◌∙◌, ap, get_or}
 use Rattle.xk_types.specs.World.{World}
 use Rattle.xk_types.specs.Step.{Stepped}
 use Rattle.xk_types.specs.Schedule.{is_step}
 use Rattle.xk_core.specs.Arm.{carried}
-use Rattle.xk_core.proofs.Arms.{operands_there, arm_done, stands_there, carried_within, actor_there, unit_read, unit_within}
+use Rattle.xk_core.proofs.Arms.{operands_there, arm_done, actor_there, unit_read, unit_within}
+use Rattle.xk_standings.specs.Told.{told_of}
 use Rattle.xk_core.proofs.state.State.carry_alone.Goals as goal
 
 pub bounds-units-unit : goal.bounds-units-unit
@@ -39,14 +40,9 @@ carry_out-change-requires-clause-callers c = c.requires.room.callers c.index_mut
     (actor_there c.args.program.now c.args.self.now c.args.a c.args.instr.now c.index_mut-act.result.now c.requires.enabled
     (subst (λ (w : World). c.index_mut-act.result.now ≡ get_or w.activities c.args.a c.index_mut-act.result.now) c.self.view_is c.index_mut-act.ensures.value))
 
-pub end_step-requires-clause-standings : goal.end_step-requires-clause-standings
-end_step-requires-clause-standings c =
-    subst (λ (w : World). All (λ k. c.args.a < length k.standings) w.clocks) (sym c.self.view_is)
-    (stands_there c.args.self.now c.args.a c.requires.room (carried_within c.args.program.now c.args.self.now c.args.a c.args.instr.now c.requires.enabled))
-
 pub returns : goal.returns
 returns c =
-    let w : World = record { activities = c.self.inside.activities.items; clocks = c.self.inside.clocks.items; cells = c.self.inside.cells.items; steps = c.self.inside.steps } in
+    let w : World = record { activities = c.self.inside.activities.items; clocks = told_of c.self.inside.standings; cells = c.self.inside.cells.items; steps = c.self.inside.steps } in
     let enabled : is_step (carried c.args.program.now w c.args.a c.args.instr.now) ≡ true = subst
     (λ (v : World). is_step (carried c.args.program.now v c.args.a c.args.instr.now) ≡ true) (sym c.self.view_is) c.requires.enabled in
     let found =

@@ -1,4 +1,4 @@
-use Rattle.std.proofs.Common.{◌≡◌, ◌<◌, refl, true, subst, sym, ◌∙◌, ap, get_or, length, slice_set, All, arith}
+use Rattle.std.proofs.Common.{◌≡◌, refl, true, subst, sym, ◌∙◌, ap, get_or, slice_set, arith}
 use Rattle.std.specs.Int.{w64}
 use Rattle.std.proofs.lemmas.Int.{to_z-of_z}
 use Rattle.std.proofs.lemmas.Option.{slice_get_within, same_Some}
@@ -8,12 +8,13 @@ use Rattle.xk_types.specs.World.{World}
 use Rattle.xk_types.specs.Step.{Stepped, none, stored, moved, settled}
 use Rattle.xk_types.specs.Schedule.{is_step}
 use Rattle.xk_core.specs.Arm.{carried}
-use Rattle.xk_core.proofs.Arms.{store_there, same_number, carried_within, stands_there, actor_there}
+use Rattle.xk_core.proofs.Arms.{store_there, same_number, actor_there}
+use Rattle.xk_standings.specs.Told.{told_of}
 use Rattle.xk_core.proofs.state.State.put.Goals as goal
 
 pub number-n-requires : goal.number-n-requires
 number-n-requires c =
-    let w : World = record { activities = c.self.inside.activities.items; clocks = c.self.inside.clocks.items; cells = c.self.inside.cells.items; steps = c.self.inside.steps } in (
+    let w : World = record { activities = c.self.inside.activities.items; clocks = told_of c.self.inside.standings; cells = c.self.inside.cells.items; steps = c.self.inside.steps } in (
       (store_there c.args.program.now w c.args.a c.index_mut-act.result.now (instruction.Put c.args.s c.args.x) c.args.s c.args.x (λ old n. n)
           event.Put refl c.index_mut-act.ensures.value
           (subst (λ (v : World). is_step (carried c.args.program.now v c.args.a (instruction.Put c.args.s c.args.x)) ≡ true) (sym c.self.view_is)
@@ -31,7 +32,7 @@ go_on-requires c =
 
 pub set_cell-requires : goal.set_cell-requires
 set_cell-requires c =
-    let w : World = record { activities = c.self.inside.activities.items; clocks = c.self.inside.clocks.items; cells = c.self.inside.cells.items; steps = c.self.inside.steps } in
+    let w : World = record { activities = c.self.inside.activities.items; clocks = told_of c.self.inside.standings; cells = c.self.inside.cells.items; steps = c.self.inside.steps } in
     let h = slice_get_within w.cells c.args.s
     (store_there c.args.program.now w c.args.a c.index_mut-act.result.now (instruction.Put c.args.s c.args.x) c.args.s c.args.x (λ old n. n)
     event.Put refl c.index_mut-act.ensures.value
@@ -41,14 +42,9 @@ set_cell-requires c =
     (subst (λ (v : World). is_step (carried c.args.program.now v c.args.a (instruction.Put c.args.s c.args.x)) ≡ true) (sym c.self.view_is)
     c.requires.enabled)).cell in omega (arith, c.self.inside.cells.ok)
 
-pub end_step-requires-clause-standings : goal.end_step-requires-clause-standings
-end_step-requires-clause-standings c =
-    subst (λ (v : World). All (λ k. c.args.a < length k.standings) v.clocks) (sym c.self.view_is)
-    (stands_there c.args.self.now c.args.a c.requires.room (carried_within c.args.program.now c.args.self.now c.args.a (instruction.Put c.args.s c.args.x) c.requires.enabled))
-
 pub returns : goal.returns
 returns c =
-    let w : World = record { activities = c.self.inside.activities.items; clocks = c.self.inside.clocks.items; cells = c.self.inside.cells.items; steps = c.self.inside.steps } in
+    let w : World = record { activities = c.self.inside.activities.items; clocks = told_of c.self.inside.standings; cells = c.self.inside.cells.items; steps = c.self.inside.steps } in
     subst (λ (v : World). carried c.args.program.now v c.args.a (instruction.Put c.args.s c.args.x) ≡ Stepped c.end_step.new.self event.Put) c.self.view_is
     ((store_there c.args.program.now w c.args.a c.index_mut-act.result.now (instruction.Put c.args.s c.args.x) c.args.s c.args.x (λ old n. n)
     event.Put refl c.index_mut-act.ensures.value

@@ -1,6 +1,3 @@
-use Rattle.std.proofs.Common.{◌≡◌, map, sym, ap, ◌∙◌, subst}
-use Rattle.xk_types.specs.Step.{settled_clock, joined}
-use Rattle.xk_standings.specs.Told.{StandingsValue, AreHandedOn}
 use Rattle.xk_standings.proofs.Inside.{may_begin_of, started_of}
 use Rattle.xk_standings.proofs.standings.Standings.admit.Goals as goal
 

@@ -1,4 +1,4 @@
-use Rattle.std.proofs.Common.{◌≡◌, sym, ap, ◌∙◌, length}
+use Rattle.std.proofs.Common.{sym, ap, ◌∙◌, length}
 use Rattle.xk_standings.specs.Told.{told_of}
 use Rattle.xk_standings.proofs.Keeping.{length-told}
 use Rattle.xk_standings.proofs.standings.Standings.clock_count.Goals as goal

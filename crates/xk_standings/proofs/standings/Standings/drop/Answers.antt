@@ -1,4 +1,4 @@
-use Rattle.std.proofs.Common.{◌≡◌, ◌+◌, ◌<◌, ◌^◌, map, refl, sym, ap, ◌∙◌, subst, All}
+use Rattle.std.proofs.Common.{◌+◌, ◌<◌, ◌^◌, map, refl, sym, ap, ◌∙◌, subst, All}
 use Rattle.xk_types.specs.Step.{dropped, settled_clock, moved}
 use Rattle.xk_standings.specs.Told.{StandingsValue, told_of, change_on}
 use Rattle.xk_standings.proofs.Keeping.{may_drop_in, dropped_in}

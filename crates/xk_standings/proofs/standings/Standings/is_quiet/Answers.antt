@@ -1,4 +1,4 @@
-use Rattle.std.proofs.Common.{◌≡◌, ◌==◌, not, ap, ◌∙◌}
+use Rattle.std.proofs.Common.{◌==◌, not, ap, ◌∙◌}
 use Rattle.std.specs.List.{list_all}
 use Rattle.xk_types.specs.World.{Clock}
 use Rattle.xk_standings.specs.Told.{StandingsValue, told_of, lists}

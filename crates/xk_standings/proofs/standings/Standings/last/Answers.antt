@@ -1,4 +1,3 @@
-use Rattle.std.proofs.Common.{◌≡◌}
 use Rattle.xk_standings.proofs.Inside.{inside_clocks, last_of}
 use Rattle.xk_standings.proofs.standings.Standings.last.Goals as goal
 

@@ -1,5 +1,4 @@
-use Rattle.std.proofs.Common.{◌≡◌, ◌<◌, [], ◌∷◌, ◌++◌, map, length, refl, ap, ◌∙◌}
-use Rattle.xk_clocks.specs.Table.{CountValue}
+use Rattle.std.proofs.Common.{[], ◌∷◌, ◌++◌, map, length, refl, ap, ◌∙◌}
 use Rattle.xk_types.specs.Step.{settled_clock, new_clock}
 use Rattle.xk_standings.specs.Calls.{ClocksValue, RegistrationsValue}
 use Rattle.xk_standings.specs.Told.{StandingsValue, told_of}

@@ -1,0 +1,97 @@
+-- Which changes of standings steps make.
+use Rattle.std.proofs.Common.{◌≡◌, ℕ, ◌+◌, ◌<◌, length, map, true, false, Bool, refl, List, [], ◌∷◌, cond, Option, Some, None, sym, ◌∙◌, subst, slice_get}
+use Rattle.std.specs.List.{list_any}
+use Rattle.std.proofs.lemmas.Bool.{false≢true}
+use Rattle.xk_types.specs.declared.instr.Instr.{Instr}
+use Rattle.xk_types.specs.declared.instr.Instr.TheVariants as instr
+use Rattle.xk_types.specs.declared.names.Event.{Event}
+use Rattle.xk_types.specs.Code.{UnitValue}
+use Rattle.xk_types.specs.World.{Frame, Activity, Clock, World, standing_of}
+use Rattle.xk_types.specs.Step.{Outcome, Blocked, is_signalled, waits, done, past, all, passed, settled_clock, moved, joined}
+use Rattle.xk_types.specs.declared.names.Event.TheVariants as event
+use Rattle.xk_types.specs.Schedule.{is_step}
+use Rattle.xk_core.specs.declared.change.StandingChange.{StandingChange}
+use Rattle.xk_core.specs.declared.change.StandingChange.TheVariants as standing_change
+use Rattle.xk_core.specs.declared.change.StepChange.{StepChange}
+use Rattle.xk_core.specs.declared.change.StepChange.TheVariants as step_change
+use Rattle.xk_core.specs.Change.{standing_after, AllowsChangeOn, AllowsChange}
+use Rattle.xk_standings.specs.declared.which.Which.{Which}
+use Rattle.xk_standings.specs.declared.which.Which.TheVariants as which
+use Rattle.xk_standings.specs.View.{Registration, held}
+use Rattle.xk_standings.specs.Calls.{IsGiven}
+use Rattle.xk_standings.specs.Told.{StandingsValue, told_of, change_on, AreHandedOn}
+use Rattle.xk_core.specs.Arm.{Carries, Leaves, passed_on, passing_by}
+
+-- where the change is known
+allows : (cs : List Clock) (a : ℕ) (ch known : StepChange) → ch ≡ known → AllowsChange cs a known → AllowsChange cs a ch
+allows cs a ch known e h = subst (AllowsChange cs a) (sym e) h
+
+-- an instruction makes no pass
+pub carried_allows : (cs : List Clock) (a : ℕ) (u : UnitValue) (act : Activity) (i : Instr) (next : Activity) (ch : StepChange) (e : Event)
+    → Carries u act i next ch e → AllowsChange cs a ch
+carried_allows cs a u act (instr.Lit d n) next ch e h = allows cs a ch step_change.Nothing h.1.0 tt
+carried_allows cs a u act (instr.Copy d x) next ch e h = allows cs a ch step_change.Nothing h.3.0 tt
+carried_allows cs a u act (instr.Add d x y) next ch e h = allows cs a ch step_change.Nothing h.1.0 tt
+carried_allows cs a u act (instr.Sub d x y) next ch e h = allows cs a ch step_change.Nothing h.1.0 tt
+carried_allows cs a u act (instr.Mul d x y) next ch e h = allows cs a ch step_change.Nothing h.1.0 tt
+carried_allows cs a u act (instr.Unless op x y t) next ch e h = allows cs a ch step_change.Nothing h.5.0 tt
+carried_allows cs a u act (instr.Jump t) next ch e h = allows cs a ch step_change.Nothing h.1.0 tt
+carried_allows cs a u act (instr.For k lo hi end) next ch e h = allows cs a ch step_change.Nothing h.1.0 tt
+carried_allows cs a u act (instr.Next b) next ch e h = allows cs a ch step_change.Nothing h.1.0 tt
+carried_allows cs a u act (instr.Print x) next ch e h = allows cs a ch step_change.Nothing h.3 tt
+carried_allows cs a u act (instr.Get d s) next ch e h = absurd h
+carried_allows cs a u act (instr.Put s x) next ch e h = absurd h
+carried_allows cs a u act (instr.AddTo s x) next ch e h = absurd h
+carried_allows cs a u act (instr.Finish x) next ch e h = absurd h
+carried_allows cs a u act (instr.EndFinish b) next ch e h = absurd h
+carried_allows cs a u act (instr.Make d) next ch e h = absurd h
+carried_allows cs a u act (instr.Resume k) next ch e h = allows cs a ch (step_change.Only h.0 standing_change.Resume) h.3 tt
+carried_allows cs a u act (instr.Drop k) next ch e h = allows cs a ch (step_change.Only h.0 standing_change.Drop) h.3 tt
+carried_allows cs a u act (instr.Call t args) next ch e h = absurd h
+carried_allows cs a u act (instr.Spawn t args) next ch e h = absurd h
+carried_allows cs a u act instr.Advance next ch e h = allows cs a ch (step_change.All standing_change.Resume) h.1 tt
+carried_allows cs a u act instr.Ret next ch e h = by act.callers h
+  where
+    by : (fs : List Frame) → Leaves act fs next ch e → AllowsChange cs a ch
+    by [] g = allows cs a ch (step_change.All standing_change.Drop) g.1 tt
+    by (f ∷ fs) g = allows cs a ch step_change.Nothing g.1.0 tt
+
+-- who passes is signalled on no clock
+pub pass_allows : (w : World) (a : ℕ) → is_step (passed_on w a) ≡ true → list_any (λ c. is_signalled (standing_of c a)) w.clocks ≡ false
+pass_allows w a h = by (slice_get w.activities a) h
+  where
+    at : (b : Bool) (o : Outcome) → is_step (cond b Blocked o) ≡ true → b ≡ false
+    at true o g = absurd (false≢true g)
+    at false o g = refl
+
+    by : (o : Option Activity) → is_step (passing_by w a o) ≡ true → waits w a ≡ false
+    by None g = absurd (false≢true g)
+    by (Some act) g = at (waits w a) (done w a (past act (w.steps + 1)) (all passed) event.Passed) g
+
+-- ---- a start, where room was made meanwhile
+
+pub handed : (s t : StandingsValue) (a : ℕ) (given : ℕ → Bool) (new : List Registration) → t.held ≡ s.held → a < length s.held → IsGiven given (held s.held a) new
+    → AreHandedOn t new
+handed s t a given new same there is = record {
+  by = a;
+  there = subst (λ (acts : List (List Registration)). a < length acts) (sym same) there;
+  given = given;
+  is = subst (λ (acts : List (List Registration)). IsGiven given (held acts a) new) (sym same) is;
+}
+
+pub joins : (now : ℕ) (s t u : StandingsValue) (a : ℕ) (given : ℕ → Bool) (new : List Registration) → t.numbers ≡ s.numbers → t.held ≡ s.held
+    → ((b : ℕ) (given : ℕ → Bool) (now : ℕ) → b < length t.held → IsGiven given (held t.held b) new → told_of u ≡ map (settled_clock now) (joined b given (told_of t)))
+    → a < length s.held → IsGiven given (held s.held a) new → told_of u ≡ map (settled_clock now) (joined a given (told_of s))
+joins now s t u a given new numbers same admits there is =
+    admits a given now (subst (λ (acts : List (List Registration)). a < length acts) (sym same) there)
+    (subst (λ (acts : List (List Registration)). IsGiven given (held acts a) new) (sym same) is)
+    ∙ rw (numbers, same) refl
+
+-- ---- a pass, and a step that changes nothing
+
+pub pass_told : (now a : ℕ) (w : Which) (ch : StandingChange) (old new : List Clock) → ch ≡ standing_change.Pass → AllowsChangeOn old a w ch
+    → ((now : ℕ) → new ≡ map (settled_clock now) (moved a (all passed) old)) → new ≡ map (settled_clock now) (moved a (change_on w (standing_after ch)) old)
+pass_told now a w ch old new is allowed each =
+    let h : AllowsChangeOn old a w standing_change.Pass = subst (AllowsChangeOn old a w) is allowed in
+    subst (λ x. new ≡ map (settled_clock now) (moved a (change_on x (standing_after ch)) old)) (sym h.0)
+    (subst (λ x. new ≡ map (settled_clock now) (moved a (change_on which.All (standing_after x)) old)) (sym is) (each now))

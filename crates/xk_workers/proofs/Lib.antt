@@ -1,0 +1,4 @@
+pub mod Runs
+pub mod Local
+pub mod Takes
+pub mod Parts

@@ -1,0 +1,50 @@
+-- Runs, as their stages keep them.
+use Rattle.std.proofs.Common.{◌≡◌, ℕ, true, false, cond, List, [], ◌∷◌, refl, sym, ap, subst, ◌∙◌}
+use Rattle.xk_types.specs.declared.names.Event.{Event}
+use Rattle.xk_types.specs.World.{World, opening}
+use Rattle.xk_types.specs.Step.{Stepped, step}
+use Rattle.xk_core.specs.Core.{CoreValue, IsCore}
+use Rattle.xk_core.proofs.Cores.{core_fresh, core_stepped}
+use Rattle.xk_types.specs.Schedule.{is_enabled, all_ended}
+use Rattle.xk_drive.specs.Choosing.{enabled_in}
+use Rattle.xk_drive.proofs.Turns.{run_starts}
+use Rattle.xk_drive.proofs.Listing.{listed_over}
+use Rattle.xk_drive.specs.declared.logged.Logged.{Logged}
+use Rattle.xk_workers.specs.declared.run.Stage.{Stage}
+use Rattle.xk_workers.specs.declared.run.Stage.TheVariants as stage
+use Rattle.xk_workers.specs.Run.{RunValue, fresh_run, run_at, IsStage, IsRun, IsLegalRun}
+
+-- a core that has taken no step is a run
+pub fresh_is : (c : CoreValue) → IsCore c.module_run c.world → c.world.steps ≡ 0 → IsRun (fresh_run c)
+fresh_is c core none = record { core = core; legal = run_starts c.module_run c refl (core_fresh c.module_run c.world core none) }
+
+-- a run stays one by a step, if it stays legal
+pub stepped_is : (r s : RunValue) (a : ℕ) (e : Event) → IsRun r → step r.core.module_run r.core.world a ≡ Stepped s.core.world e
+    → s.core.module_run ≡ r.core.module_run → IsLegalRun s → IsRun s
+stepped_is r s a e is taken same legal = record {
+  core = subst (λ m. IsCore m s.core.world) (sym same) (core_stepped r.core.module_run r.core.world s.core.world a e is.core taken);
+  legal = legal;
+}
+
+-- a run in which nobody can take a step is over
+pub run_over : (r : RunValue) → IsRun r → enabled_in r.core.module_run r.core.world ≡ [] → all_ended r.core.world ≡ true
+run_over r is none = listed_over r.core.module_run r.core.world is.core none
+
+-- before the first step main alone is there
+fresh_nobody : (c : CoreValue) → c.world ≡ opening c.module_run → is_enabled c.module_run c.world 0 ≡ false → enabled_in c.module_run c.world ≡ []
+fresh_nobody c start =
+    subst (λ (w : World). is_enabled c.module_run w 0 ≡ false → enabled_in c.module_run w ≡ []) (sym start) (λ h. ap (λ b. cond b (0 ∷ []) []) h)
+
+pub over_fresh : (s : Stage) (c : CoreValue) → s ≡ stage.Fresh c → IsStage s → IsRun (run_at s) → is_enabled c.module_run c.world 0 ≡ false
+    → all_ended (run_at s).core.world ≡ true
+over_fresh s c e = subst (λ (t : Stage). IsStage t → IsRun (run_at t) → is_enabled c.module_run c.world 0 ≡ false → all_ended (run_at t).core.world ≡ true) (sym e)
+    (λ start is h. run_over (fresh_run c) is (fresh_nobody c start h))
+
+pub over_going : (s : Stage) (r : Logged) (list : List ℕ) → s ≡ stage.Going r → IsRun (run_at s) → list ≡ enabled_in r.driver.module_run r.driver.world → list ≡ []
+    → all_ended (run_at s).core.world ≡ true
+over_going s r list e = subst (λ (t : Stage). IsRun (run_at t) → list ≡ enabled_in r.driver.module_run r.driver.world → list ≡ [] → all_ended (run_at t).core.world ≡ true) (sym e)
+    (λ is listed none. run_over (run_at (stage.Going r)) is (sym listed ∙ none))
+
+-- before its first step main hasn't ended
+pub fresh_goes_on : (s : Stage) (c : CoreValue) → s ≡ stage.Fresh c → IsStage s → all_ended c.world ≡ false
+fresh_goes_on s c e = subst (λ (t : Stage). IsStage t → all_ended c.world ≡ false) (sym e) (λ start. ap all_ended start)

@@ -1,0 +1,36 @@
+-- Claims: whose local steps somebody computes, so that nobody else takes a step of it.
+use Rattle.std.specs.Prelude.{◌≡◌, ℕ, Bool, true, false, List, [], ◌∷◌, ◌++◌, length, slice_index_or}
+use Rattle.xk_types.specs.declared.names.Event.{Event}
+use Rattle.xk_types.specs.declared.names.Event.TheVariants as event
+use Rattle.xk_types.specs.Step.{Outcome, Blocked, Wrong, Stepped, step}
+use Rattle.xk_types.specs.Schedule.{is_local}
+use Rattle.xk_core.specs.Core.{CoreValue}
+use Rattle.xk_workers.specs.declared.claims.Claims.{Claims}
+
+-- a step that nobody else can see
+abbrev pub is_taken_locally : Outcome → Bool
+is_taken_locally Blocked = false
+is_taken_locally (Wrong c) = false
+is_taken_locally (Stepped w e) = is_local e
+
+-- the next step of activity a is local; so it is enabled
+abbrev pub is_next_local : CoreValue → ℕ → Bool
+is_next_local c a = is_taken_locally (step c.module_run c.world a)
+
+-- who is claimed, by number
+abbrev pub claims_in : Claims → List Bool
+claims_in c = c.main ∷ c.children.items
+
+-- activity a is claimed
+abbrev pub is_claimed : List Bool → ℕ → Bool
+is_claimed claims a = slice_index_or claims a false
+
+-- the claims after a step that is seen so: nobody has claimed an activity that it started
+abbrev pub claims_after : Event → List Bool → List Bool
+claims_after event.Spawned claims = claims ++ false ∷ []
+claims_after _ claims = claims
+
+-- Each activity has a place among the claims, and can so be claimed once at a time; the next step of each that is claimed is local.
+pub record AreClaims (c : CoreValue) (claims : List Bool) : Type 0 where
+  pub wide : length claims ≡ length c.world.activities
+  pub local : (a : ℕ) → is_claimed claims a ≡ true → is_next_local c a ≡ true

@@ -1,0 +1,11 @@
+//! The machine under one lock, driven by worker threads: each of its answers is a legal schedule, with its log.
+#![tactic(auto)]
+
+mod claims;
+mod run;
+mod same;
+mod shared;
+mod workers;
+
+pub use shared::{Shared, Take};
+pub use workers::run_workers;

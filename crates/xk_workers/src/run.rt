@@ -1,0 +1,163 @@
+//! A run with its log, which takes no memory before its first step.
+
+ghost use Rattle.std.specs.Prelude.{◌≡◌, ◌∷◌, ◌++◌, [], true, false, IfOk, IfErr, OnOk, OnErr, IsTrue};
+ghost use Rattle.xk_types.specs.Schedule.{is_enabled, all_ended};
+ghost use Rattle.xk_types.specs.Bound.{steps_bound};
+ghost use Rattle.xk_types.specs.Logs.{one_step_of};
+ghost use Rattle.xk_core.specs.Core.{StepsTo, IsCore};
+ghost use Rattle.xk_drive.specs.Choosing.{enabled_in};
+ghost use Rattle.xk_drive.specs.Driving.{IsRunOf};
+ghost use Rattle.xk_workers.specs.Run.{fresh_run, run_at, IsStage, IsGoing, IsLegalRun};
+
+use std::alloc::{AllocError, Global};
+use std::marker::Model;
+use std::mem;
+use xk_core::Core;
+use xk_drive::{Ended, Logged, Partial, unstarted};
+use xk_types::{Act, Entry, Event};
+
+/// How far a run is.
+#[derive(Drop)]
+pub enum Stage<'m> {
+    /// Before its first step: main alone can take one.
+    Fresh(Core<'m>),
+    /// It has a log.
+    Going(Logged<'m>),
+    /// Taken out, while its log is begun.
+    Between,
+}
+
+/// A run with its log.
+#[derive(Drop)]
+pub struct Run<'m> {
+    alloc: Global,
+    stage: Stage<'m>,
+}
+
+impl<'m> Model for Run<'m> {
+    ghost use Rattle.xk_workers.specs.Run.{RunValue, run_at, IsStage, IsRun};
+
+    ghost Value = { RunValue };
+
+    ghost view = { λ r. run_at r.stage };
+
+    ghost invariant = { λ r. IsStage r.stage × IsRun (run_at r.stage) };
+}
+
+/// The run with its log begun, or as it was where memory was refused for the list of those who can take a step.
+fn begun<'m>(alloc: Global, stage: Stage<'m>) -> (Stage<'m>, Result<(), AllocError>)
+    requires { IsStage stage }
+    ensures same { run_at result.0 ≡ run_at stage.entry }
+    ensures there { IsStage result.0 }
+    ensures going { OnOk result.1 (IsGoing result.0) }
+{
+    match stage {
+        Stage::Fresh(core) => match Logged::open(alloc, core) {
+            Ok(logged) => (Stage::Going(logged), Ok(())),
+            Err(core) => (Stage::Fresh(core), Err(AllocError)),
+        },
+        Stage::Going(logged) => (Stage::Going(logged), Ok(())),
+        Stage::Between => unreachable!(),
+    }
+}
+
+/// Begins the log, if it isn't begun. Where memory is refused nothing changes.
+fn begin(stage: &mut Stage<'_>, alloc: Global) -> Result<(), AllocError>
+    requires { IsStage stage.old }
+    ensures same { run_at stage.new ≡ run_at stage.old }
+    ensures there { IsStage stage.new }
+    ensures going { OnOk result (IsGoing stage.new) }
+{
+    if let Stage::Going(_) = stage {
+        return Ok(());
+    }
+    let fresh = mem::replace(stage, Stage::Between);
+    let (next, answer) = begun(alloc, fresh);
+    *stage = next;
+    answer
+}
+
+impl<'m> Run<'m> {
+    /// A run before its first step. Takes no memory.
+    pub fn open(alloc: Global, start: Core<'m>) -> Run<'m>
+        requires { start.world.steps ≡ 0 }
+        ensures { result ≡ fresh_run start.entry }
+    {
+        let _everybody = start.activities();
+        Run {
+            alloc,
+            stage: Stage::Fresh(start),
+        }
+    }
+
+    /// Where it has come to.
+    pub fn core(&self) -> &Core<'m>
+        ensures { result.now ≡ self.now.core }
+    {
+        match &self.stage {
+            Stage::Fresh(core) => core,
+            Stage::Going(logged) => logged.driver.core(),
+            Stage::Between => unreachable!(),
+        }
+    }
+
+    /// Its log.
+    pub fn log(&self) -> &[Entry]
+        ensures same { result.now ≡ self.now.log }
+        ensures legal { IsLegalRun self.now }
+    {
+        match &self.stage {
+            Stage::Fresh(_) => &[],
+            Stage::Going(logged) => &logged.log,
+            Stage::Between => unreachable!(),
+        }
+    }
+
+    /// Those who can take a step, rising. There is somebody unless all have ended.
+    pub fn enabled(&self) -> &[u32]
+        ensures list { result.now ≡ enabled_in self.now.core.module_run self.now.core.world }
+        ensures over { result.now ≡ [] → all_ended self.now.core.world ≡ true }
+    {
+        match &self.stage {
+            Stage::Fresh(core) => { if core.enabled(Act(0)) { &[0] } else { &[] } }
+            Stage::Going(logged) => logged.driver.enabled(),
+            Stage::Between => unreachable!(),
+        }
+    }
+
+    /// One step of the activity, with its entry. Where memory is refused no step is taken, and nothing has changed.
+    pub fn step(&mut self, act: Act) -> Result<Event, AllocError>
+        requires { IsTrue (is_enabled self.old.core.module_run self.old.core.world act) }
+        ensures stepped { IfOk result (StepsTo self.old.core act self.new.core) }
+        ensures logged { OnOk result (self.new.log ≡ self.old.log ++ one_step_of act ∷ []) }
+        ensures same_module { self.new.core.module_run ≡ self.old.core.module_run }
+        ensures refused { OnErr result (self.new ≡ self.old) }
+        // The module is accepted, and every core is where a legal schedule of it leads.
+        ensures core { IsCore self.old.core.module_run self.old.core.world }
+    {
+        begin(&mut self.stage, self.alloc)?;
+        match &mut self.stage {
+            Stage::Going(logged) => logged.step(act),
+            _ => unreachable!(),
+        }
+    }
+
+    /// The answer: Ok where all have ended, and Err where somebody can still take a step.
+    pub fn close(self) -> Result<Ended<'m>, Partial<'m>>
+        ensures log { IfOk result (λ e. e.log.items ≡ self.entry.log) }
+        ensures core { IfOk result (λ e. e.core ≡ self.entry.core) }
+        ensures module { IfOk result (λ e. e.module.now ≡ self.entry.core.module_run) }
+        ensures partial_log { IfErr result (λ p. p.log.items ≡ self.entry.log) }
+        ensures partial_core { IfErr result (λ p. p.core ≡ self.entry.core) }
+        ensures partial_module { IfErr result (λ p. p.module.now ≡ self.entry.core.module_run) }
+        // Somebody could still take a step.
+        ensures goes_on { IfErr result (λ p. all_ended p.core.world ≡ false) }
+    {
+        let Run { alloc, stage } = self;
+        match stage {
+            Stage::Fresh(core) => Err(unstarted(alloc, core)),
+            Stage::Going(logged) => logged.close(),
+            Stage::Between => unreachable!(),
+        }
+    }
+}

@@ -1,0 +1,165 @@
+//! What workers share: a run with its log, who is claimed, and whether to stop.
+
+ghost use Rattle.std.specs.Prelude.{◌≡◌, ◌+◌, ◌≤◌, ◌∷◌, ◌++◌, [], true, false, IfOk, IfErr, IfSome, IfNone, OnOk, OnErr, IsTrue, All, Contains};
+ghost use Rattle.xk_types.specs.Schedule.{is_enabled, all_ended};
+ghost use Rattle.xk_types.specs.Logs.{one_step_of};
+ghost use Rattle.xk_core.specs.Core.{StepsTo};
+ghost use Rattle.xk_workers.specs.Claims.{claims_in, is_claimed, claims_after};
+ghost use Rattle.xk_workers.specs.Run.{fresh_run, IsLegalRun};
+ghost use Rattle.xk_workers.specs.Shared.{IsFree, Tells, is_work};
+
+use crate::claims::Claims;
+use crate::run::Run;
+use std::alloc::{AllocError, Global};
+use std::marker::Model;
+use xk_core::Core;
+use xk_drive::{Ended, Partial};
+use xk_types::{Act, Entry, Event};
+
+/// What a worker is to do.
+#[derive(Clone, Copy, Debug)]
+pub enum Take {
+    /// Local steps of the activity, which is claimed for it: they can be computed while others have the lock.
+    Work(Act),
+    /// One step of the activity, under the lock.
+    Act(Act),
+    /// Wait: others have claimed whoever can take a step.
+    Idle,
+    /// Nothing: all have ended.
+    Done,
+    /// Nothing: the workers were told to stop.
+    Stopped,
+}
+
+/// A running program that workers share under a lock, with its log: whoever has the lock finds a core to which the log leads.
+#[derive(Drop)]
+pub struct Shared<'m> {
+    run: Run<'m>,
+    claims: Claims,
+    stopped: bool,
+}
+
+impl<'m> Model for Shared<'m> {
+    ghost use Rattle.xk_workers.specs.Claims.{claims_in, AreClaims};
+    ghost use Rattle.xk_workers.specs.Shared.{SharedValue};
+
+    ghost Value = { SharedValue };
+
+    ghost view = { λ s. record {
+      run = s.run;
+      claims = claims_in s.claims;
+      stopped = s.stopped;
+    } };
+
+    ghost invariant = { λ s. AreClaims s.run.core (claims_in s.claims) };
+}
+
+/// The first of these who isn't claimed.
+fn first_unclaimed(enabled: &[u32], claims: &Claims) -> Option<u32>
+    ensures some { IfSome result (λ a. Contains enabled.now a
+        × (is_claimed (claims_in claims.now) a ≡ false)) }
+    ensures none { IfNone result
+        (All (λ a. is_claimed (claims_in claims.now) a ≡ true) enabled.now) }
+{
+    enabled.iter().copied().find(|a| !claims.has(Act(*a)))
+}
+
+impl<'m> Shared<'m> {
+    /// A core that has taken no step, to be shared. Takes no memory: the log is begun with the first step.
+    pub fn open(alloc: Global, start: Core<'m>) -> Shared<'m>
+        requires { start.world.steps ≡ 0 }
+        ensures run { result.run ≡ fresh_run start.entry }
+        ensures unclaimed { result.claims ≡ false ∷ [] }
+        ensures goes_on { result.stopped ≡ false }
+    {
+        Shared {
+            run: Run::open(alloc, start),
+            claims: Claims::none(alloc),
+            stopped: false,
+        }
+    }
+
+    /// The core: where the log leads.
+    pub fn core(&self) -> &Core<'m>
+        ensures { result.now ≡ self.now.run.core }
+    {
+        self.run.core()
+    }
+
+    /// The log, which stands for a legal schedule that leads to the core.
+    pub fn log(&self) -> &[Entry]
+        ensures same { result.now ≡ self.now.run.log }
+        ensures legal { IsLegalRun self.now.run }
+    {
+        self.run.log()
+    }
+
+    /// What a worker is to do next. It is the least activity that can take a step and isn't claimed, so that who can't costs nothing.
+    /// Takes no memory.
+    pub fn take(&mut self) -> Take
+        ensures told { Tells self.old result self.new }
+        // Local steps are taken under the lock, too, as yet.
+        ensures no_work { is_work result ≡ false }
+    {
+        if self.stopped {
+            return Take::Stopped;
+        }
+        let enabled = self.run.enabled();
+        if enabled.is_empty() {
+            return Take::Done;
+        }
+        match first_unclaimed(enabled, &self.claims) {
+            Some(act) => Take::Act(Act(act)),
+            None => Take::Idle,
+        }
+    }
+
+    /// One step of the activity, with its entry in the log. The room for the entry, for a number that it may print and for the claim of
+    /// an activity that it may start is made first: where memory is refused no step is taken, and nothing has changed.
+    pub fn act(&mut self, act: Act) -> Result<Event, AllocError>
+        requires { IsFree self.old act }
+        ensures stepped { IfOk result (StepsTo self.old.run.core act self.new.run.core) }
+        ensures logged { OnOk result
+            (self.new.run.log ≡ self.old.run.log ++ one_step_of act ∷ []) }
+        ensures claims { IfOk result (λ e. self.new.claims ≡ claims_after e self.old.claims) }
+        ensures same_module { self.new.run.core.module_run ≡ self.old.run.core.module_run }
+        ensures goes_on { self.new.stopped ≡ self.old.stopped }
+        ensures refused { OnErr result (self.new ≡ self.old) }
+    {
+        self.claims.children.try_reserve(1)?;
+        let event = self.run.step(act)?;
+        self.claims.note(event);
+        Ok(event)
+    }
+
+    /// Tells the workers to stop.
+    pub fn stop(&mut self)
+        ensures run { self.new.run ≡ self.old.run }
+        ensures claims { self.new.claims ≡ self.old.claims }
+        ensures stopped { self.new.stopped ≡ true }
+    {
+        self.stopped = true;
+    }
+
+    /// Whether the workers were told to stop.
+    pub(crate) fn is_stopped(&self) -> bool
+        ensures { result ≡ self.now.stopped }
+    {
+        self.stopped
+    }
+
+    /// The answer: Ok where all have ended, and Err where somebody can still take a step.
+    pub(crate) fn close(self) -> Result<Ended<'m>, Partial<'m>>
+        ensures log { IfOk result (λ e. e.log.items ≡ self.entry.run.log) }
+        ensures core { IfOk result (λ e. e.core ≡ self.entry.run.core) }
+        ensures module { IfOk result (λ e. e.module.now ≡ self.entry.run.core.module_run) }
+        ensures partial_log { IfErr result (λ p. p.log.items ≡ self.entry.run.log) }
+        ensures partial_core { IfErr result (λ p. p.core ≡ self.entry.run.core) }
+        ensures partial_module { IfErr result
+            (λ p. p.module.now ≡ self.entry.run.core.module_run) }
+        // Somebody could still take a step.
+        ensures goes_on { IfErr result (λ p. all_ended p.core.world ≡ false) }
+    {
+        self.run.close()
+    }
+}
