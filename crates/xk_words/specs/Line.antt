@@ -1,8 +1,11 @@
 -- The program's command line in the terms of `clap`, and what its words ask for.
-use Rattle.std.specs.Prelude.{ℕ, ◌≡◌, ◌≢◌, ◌⊎◌, ⊤, true, false, List, [], ◌∷◌, map, Option, Some, None, option_and_then, option_map, codes, if◌then◌else◌}
+use Rattle.std.specs.Prelude.{ℕ, ◌≡◌, ◌≢◌, ◌⊎◌, ⊤, ◌&&◌, nat_lt, Bool, true, false, List, [], ◌∷◌, length, map, Option, Some, None, is_some, option_and_then, option_map, codes, if◌then◌else◌}
+use Rattle.std.specs.Char.{is_digit}
+use Rattle.std.specs.List.{list_all}
 use Rattle.std.specs.Option.{option_map_or}
 use Rattle.std.specs.Borrow.{Bor}
 use Rattle.std.specs.Str.{bytes_eq}
+use Rattle.std.specs.Str.Parse.{digits_value, without_leading_plus}
 use Rattle.clap.specs.Words.{App, IsAmong, Kinds, Row, Rule, Text, fault_of, first_of, new_app, new_rule, subcommand_of, with_rule, with_subcommand}
 use Rattle.clap.specs.declared.builder.command.Command.{Command as clap_Command}
 use Rattle.clap.specs.declared.builder.command.Command.TheViews.{out-Command}
@@ -10,8 +13,11 @@ use Rattle.clap.specs.declared.builder.action.ArgAction.TheVariants as action
 use Rattle.clap.specs.declared.builder.value_parser.ValueParser.TheVariants as parser
 use Rattle.clap.specs.declared.error.kind.ErrorKind.{ErrorKind}
 use Rattle.clap.specs.declared.error.kind.ErrorKind.TheVariants as kind
+use Rattle.xk_words.specs.Counts.{count_within}
 use Rattle.xk_words.specs.declared.job.Command.{Command}
 use Rattle.xk_words.specs.declared.job.Command.TheVariants as command
+use Rattle.xk_words.specs.declared.job.Drive.{Drive}
+use Rattle.xk_words.specs.declared.job.Drive.TheVariants as drive
 use Rattle.xk_words.specs.declared.job.Form.{Form}
 use Rattle.xk_words.specs.declared.job.Form.TheVariants as form
 use Rattle.xk_words.specs.declared.job.Job.{Job}
@@ -62,9 +68,17 @@ order_option names = record (new_rule (codes "ORDER")) { long = Some (codes "ord
 abbrev pub by_order : Names → App
 by_order names = with_rule (on_either (codes "run")) (order_option names)
 
+-- `--workers N`, which takes a whole number from 1 to 64
+abbrev pub workers_option : Rule
+workers_option = record (new_rule (codes "N")) { long = Some (codes "workers"); action = Some action.Set; parser = Some (parser.Unsigned 1 64) }
+
+-- the same, whose steps may be taken by workers
+abbrev pub by_workers : Names → App
+by_workers names = with_rule (by_order names) workers_option
+
 -- the same, whose log may be written
 abbrev pub run_line : Names → App
-run_line names = with_rule (by_order names) log_option
+run_line names = with_rule (by_workers names) log_option
 
 -- the program with a command that has to be there
 abbrev pub program : App
@@ -98,18 +112,28 @@ faults_in names words = fault_of (command_line names) words
 
 -- ---- what the words ask for
 
--- a command without where its texts lie in memory: a run has the order and the log's path that were given, the others on a log its path
+-- who takes the steps of a run: whom an order names, or so many workers
+pub data Way : Type 0 where
+  In : Order → Way
+  By : ℕ → Way
+
+abbrev pub way_value : Drive → Way
+way_value (drive.Order o) = In o
+way_value (drive.Workers w) = By w.count
+
+-- A command without where its texts lie in memory. A run has who takes its steps, and the log's path, where they were given; the others on
+-- a log have its path.
 pub data Task : Type 0 where
   Check : Task
   Compile : Task
-  Run : Option Order → Option Text → Task
+  Run : Option Way → Option Text → Task
   Replay : Text → Task
   Chart : Text → Task
 
 abbrev pub task_value : Command → Task
 task_value command.Check = Check
 task_value command.Compile = Compile
-task_value (command.Run order log) = Run order (option_map (λ s. s.now) log)
+task_value (command.Run given log) = Run (option_map way_value given) (option_map (λ s. s.now) log)
 task_value (command.Replay log) = Replay log.now
 task_value (command.Chart log) = Chart log.now
 
@@ -139,12 +163,41 @@ order_named name =
 abbrev pub order_in : List Row → Option Order
 order_in given = option_and_then order_named (first_of (codes "ORDER") given)
 
+-- a digit or more, and nothing else
+abbrev pub is_numeral : List ℕ → Bool
+is_numeral ds = nat_lt 0 (length ds) && list_all (λ c. is_digit c 10) ds
+
+-- so many workers as a numeral says, before which a plus may stand
+abbrev pub workers_named : Text → Option ℕ
+workers_named text = let ds = without_leading_plus text in if is_numeral ds then count_within (digits_value 10 ds) else None
+
+-- the workers that were given
+abbrev pub workers_in : List Row → Option ℕ
+workers_in given = option_and_then workers_named (first_of (codes "N") given)
+
+-- both an order and workers were given
+abbrev pub is_both : List Row → Bool
+is_both given = is_some (first_of (codes "ORDER") given) && is_some (first_of (codes "N") given)
+
+-- the way of an order, or else that of workers
+abbrev pub way_of : Option Order → Option ℕ → Option Way
+way_of (Some o) n = Some (In o)
+way_of None n = option_map By n
+
+-- who takes the steps, where that was given
+abbrev pub drive_in : List Row → Option Way
+drive_in given = way_of (order_in given) (workers_in given)
+
+-- `run` with what was given to it; an order and workers exclude each other
+abbrev pub run_by : List Row → Option Task
+run_by given = if is_both given then None else Some (Run (drive_in given) (first_of (codes "PATH") given))
+
 -- the command of a name, with what else was given to it
 abbrev pub command_by : Text → List Row → Option Task
 command_by name given =
     if bytes_eq name (codes "check") then Some Check
     else (if bytes_eq name (codes "compile") then Some Compile
-    else (if bytes_eq name (codes "run") then Some (Run (order_in given) (first_of (codes "PATH") given))
+    else (if bytes_eq name (codes "run") then run_by given
     else (if bytes_eq name (codes "replay") then option_map Replay (first_of (codes "LOG") given)
     else (if bytes_eq name (codes "chart") then option_map Chart (first_of (codes "LOG") given) else None))))
 
@@ -160,27 +213,38 @@ asked_in found = option_and_then (λ p. asked_by p.0 p.1) found
 unfoldable pub job_of : Names → List Text → Option Asked
 job_of names words = asked_in (subcommand_of (command_line names) words)
 
+-- both an order and workers were given to the command that was found
+abbrev pub excludes_by : Option (Text × List Row) → Bool
+excludes_by found = option_map_or (λ p. is_both p.1) found false
+
+-- the words have an order beside workers, as `clap` takes them apart
+unfoldable pub excludes_in : Names → List Text → Bool
+excludes_in names words = excludes_by (subcommand_of (command_line names) words)
+
 -- ---- why words are refused
 
 -- the fault fits the kind of `clap`'s error
 abbrev pub FitsKind : ErrorKind → WordsFault → Type 0
 FitsKind k (fault.Help text) = (k ≡ kind.DisplayHelp) ⊎ (k ≡ kind.DisplayVersion)
 FitsKind k (fault.NotUnderstood text) = (k ≢ kind.DisplayHelp) × (k ≢ kind.DisplayVersion) × (k ≢ kind.OutOfMemory)
+FitsKind k fault.OrderAndWorkers = ⊥
 FitsKind k fault.OutOfMemory = ⊤
 
 -- a mistake is among the kinds: one that is no request for help or for the version
 abbrev pub HasMistake : Kinds → Type 0
 HasMistake kinds = (k : ErrorKind) × IsAmong k kinds × (k ≢ kind.DisplayHelp) × (k ≢ kind.DisplayVersion)
 
--- Help is told only where it was asked for, and words are called not understood only where `clap` finds a mistake in
--- them, or where it finds nothing wrong and no job.
-abbrev pub IsRefused : Kinds → Option Asked → WordsFault → Type 0
-IsRefused kinds asked (fault.Help text) = IsAmong kind.DisplayHelp kinds ⊎ IsAmong kind.DisplayVersion kinds
-IsRefused kinds asked (fault.NotUnderstood text) = HasMistake kinds ⊎ ((kinds ≡ []) × (asked ≡ None))
-IsRefused kinds asked fault.OutOfMemory = ⊤
+-- Help is told only where it was asked for, words are called not understood only where `clap` finds a mistake in them, or where it finds
+-- nothing wrong and no job, and the order and the workers are called to exclude each other only where both were given and nothing is wrong else.
+abbrev pub IsRefused : Kinds → Option Asked → Bool → WordsFault → Type 0
+IsRefused kinds asked both (fault.Help text) = IsAmong kind.DisplayHelp kinds ⊎ IsAmong kind.DisplayVersion kinds
+IsRefused kinds asked both (fault.NotUnderstood text) = HasMistake kinds ⊎ ((kinds ≡ []) × (asked ≡ None) × (both ≡ false))
+IsRefused kinds asked both fault.OrderAndWorkers = (kinds ≡ []) × (both ≡ true)
+IsRefused kinds asked both fault.OutOfMemory = ⊤
 
 -- the status that the program ends with
 abbrev pub status_of : WordsFault → ℕ
 status_of (fault.Help text) = 0
 status_of (fault.NotUnderstood text) = 2
+status_of fault.OrderAndWorkers = 2
 status_of fault.OutOfMemory = 4

@@ -1,5 +1,8 @@
 //! What the words ask for.
 
+ghost use Rattle.std.specs.Prelude.{◌≡◌, ◌≤◌, option_map};
+ghost use Rattle.xk_words.specs.Counts.{count_within};
+
 /// What is to be done with FILE.
 #[derive(Clone, Copy, Debug, PartialEq, Eq)]
 pub enum Command<'a> {
@@ -9,8 +12,8 @@ pub enum Command<'a> {
     Compile,
     /// `run`: run FILE, and print what it prints.
     Run {
-        /// The order of the run's steps, where one was given.
-        order: Option<Order>,
+        /// Who takes the run's steps, where that was given.
+        drive: Option<Drive>,
         /// Where the run's log goes, if anywhere: a file's path.
         log: Option<&'a str>,
     },
@@ -35,6 +38,15 @@ pub enum Form {
     Module,
 }
 
+/// Who takes the steps of a run.
+#[derive(Clone, Copy, Debug, PartialEq, Eq)]
+pub enum Drive {
+    /// `--order`: whom the order names.
+    Order(Order),
+    /// `--workers`: worker threads, whoever comes first.
+    Workers(Workers),
+}
+
 /// Who takes the next step of a run.
 #[derive(Clone, Copy, Debug, PartialEq, Eq)]
 pub enum Order {
@@ -44,6 +56,35 @@ pub enum Order {
     Last,
     /// `round`: the least of greater number than the one taken before, else the least of all.
     Round,
+}
+
+/// A number of worker threads, from 1 to 64.
+#[derive(Clone, Copy, Debug, PartialEq, Eq)]
+pub struct Workers {
+    count: u32,
+    ghost some: { 1 ≤ count },
+    ghost few: { count ≤ 64 },
+}
+
+impl Workers {
+    /// So many workers. None where that isn't from 1 to 64.
+    pub fn new(count: u32) -> Option<Workers>
+        ensures { option_map (λ w. w.count) result ≡ count_within count }
+    {
+        if count < 1 || 64 < count {
+            return None;
+        }
+        Some(Workers { count })
+    }
+
+    /// How many they are.
+    pub fn count(self) -> u32
+        ensures same { result ≡ self.count }
+        ensures some { 1 ≤ result }
+        ensures few { result ≤ 64 }
+    {
+        self.count
+    }
 }
 
 /// One command on one file.

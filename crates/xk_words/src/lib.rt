@@ -5,6 +5,6 @@ mod job;
 mod line;
 mod words_fault;
 
-pub use job::{Command, Form, Job, Order};
+pub use job::{Command, Drive, Form, Job, Order, Workers};
 pub use line::read_job;
 pub use words_fault::WordsFault;

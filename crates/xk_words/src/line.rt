@@ -1,11 +1,12 @@
 //! The command line, as `clap` reads it.
 
-ghost use Rattle.std.specs.Prelude.{◌≡◌, [], Some, None, IfOk, OnOk, IfErr, option_map};
+ghost use Rattle.std.specs.Prelude.{◌≡◌, [], false, Some, None, IfOk, OnOk, IfErr, option_map};
 ghost use Rattle.clap.specs.Words.{app_of, first_of, found_of, kind_of, rows_of, subcommand_rows_of};
-ghost use Rattle.xk_words.specs.Line.{FitsKind, HasNoGlobals, IsRefused, WithOrders, asked_by, asked_in, asked_value, by_order, command_by, command_line, faults_in, form_in, form_named, job_of, on_either, on_file, on_log, order_in, order_named, run_line, task_value, texts};
+ghost use Rattle.xk_words.specs.Line.{FitsKind, HasNoGlobals, IsRefused, WithOrders, asked_by, asked_in, asked_value, by_order, by_workers, command_by, command_line, drive_in, excludes_by, excludes_in, faults_in, form_in, form_named, is_both, job_of, on_either, on_file, on_log, order_in, order_named, run_by, run_line, task_value, texts, way_value, workers_in, workers_named};
 
-use crate::job::{Command, Form, Job, Order};
+use crate::job::{Command, Drive, Form, Job, Order, Workers};
 use crate::words_fault::WordsFault;
+use clap::builder::ValueParser;
 use clap::error::ErrorKind;
 use clap::{Arg, ArgAction, ArgMatches};
 use std::alloc::{AllocError, Global};
@@ -21,13 +22,14 @@ pub fn read_job<'a>(alloc: Global, words: &'a [&'a str]) -> Result<Job<'a>, Word
     ensures understood { OnOk result (WithOrders (λ names.
         faults_in names (texts words.entry.now) ≡ [])) }
     ensures refused { IfErr result (λ fault. WithOrders (λ names. IsRefused
-        (faults_in names (texts words.entry.now)) (job_of names (texts words.entry.now)) fault)) }
+        (faults_in names (texts words.entry.now)) (job_of names (texts words.entry.now))
+        (excludes_in names (texts words.entry.now)) fault)) }
 {
     let command_line = line(alloc)?;
     match command_line.try_get_matches_from(words) {
         Ok(matches) => match job_in(&matches) {
             Some(job) => Ok(job),
-            None => Err(not_a_job(alloc)),
+            None => Err(no_job(alloc, &matches)),
         },
         Err(error) => Err(words_fault(alloc, &error)),
     }
@@ -73,10 +75,23 @@ fn run_line<'a>(alloc: Global) -> Result<clap::Command<'a>, AllocError>
         .long("log")
         .help("The file that the log of the run goes to")
         .action(ArgAction::Set);
-    by_order(alloc)?.arg(log)
+    by_workers(alloc)?.arg(log)
 }
 
 /// The command `run` without `--log`.
+fn by_workers<'a>(alloc: Global) -> Result<clap::Command<'a>, AllocError>
+    ensures shape { IfOk result (λ c. WithOrders (λ names. app_of c ≡ by_workers names)) }
+    ensures local { IfOk result HasNoGlobals }
+{
+    let workers = Arg::new(alloc, "N")
+        .long("workers")
+        .help("Run by so many worker threads, 1 to 64: whoever comes first takes the next step")
+        .action(ArgAction::Set)
+        .value_parser(ValueParser::unsigned(1, 64));
+    by_order(alloc)?.arg(workers)
+}
+
+/// The command `run` without `--workers` and `--log`.
 fn by_order<'a>(alloc: Global) -> Result<clap::Command<'a>, AllocError>
     ensures shape { IfOk result (λ c. WithOrders (λ names. app_of c ≡ by_order names)) }
     ensures local { IfOk result HasNoGlobals }
@@ -163,10 +178,7 @@ fn command_by<'a>(name: &str, given: &ArgMatches<'a>) -> Option<Command<'a>>
     match name {
         "check" => Some(Command::Check),
         "compile" => Some(Command::Compile),
-        "run" => Some(Command::Run {
-            order: order_in(given),
-            log: given_in(given, "PATH"),
-        }),
+        "run" => run_by(given),
         "replay" => Some(Command::Replay {
             log: given_in(given, "LOG")?,
         }),
@@ -174,6 +186,54 @@ fn command_by<'a>(name: &str, given: &ArgMatches<'a>) -> Option<Command<'a>>
             log: given_in(given, "LOG")?,
         }),
         _ => None,
+    }
+}
+
+/// The command `run` with what was given to it. None where both an order and workers were.
+fn run_by<'a>(given: &ArgMatches<'a>) -> Option<Command<'a>>
+    ensures { option_map task_value result ≡ run_by (rows_of (found_of given.now)) }
+{
+    if is_both(given) {
+        return None;
+    }
+    Some(Command::Run {
+        drive: drive_in(given),
+        log: given_in(given, "PATH"),
+    })
+}
+
+/// Whether both an order and workers were given.
+fn is_both(given: &ArgMatches<'_>) -> bool
+    ensures { result ≡ is_both (rows_of (found_of given.now)) }
+{
+    given_in(given, "ORDER").is_some() && given_in(given, "N").is_some()
+}
+
+/// Who takes the steps, where that was given.
+fn drive_in(given: &ArgMatches<'_>) -> Option<Drive>
+    ensures { option_map way_value result ≡ drive_in (rows_of (found_of given.now)) }
+{
+    match order_in(given) {
+        Some(order) => Some(Drive::Order(order)),
+        None => Some(Drive::Workers(workers_in(given)?)),
+    }
+}
+
+/// The workers that were given.
+fn workers_in(given: &ArgMatches<'_>) -> Option<Workers>
+    ensures { option_map (λ w. w.count) result ≡ workers_in (rows_of (found_of given.now)) }
+{
+    let text = given_in(given, "N")?;
+    workers_named(text)
+}
+
+/// So many workers as a numeral says.
+fn workers_named(text: &str) -> Option<Workers>
+    ensures { option_map (λ w. w.count) result ≡ workers_named text.now }
+{
+    match text.parse::<u32>() {
+        Ok(count) => Workers::new(count),
+        Err(_) => None,
     }
 }
 
@@ -224,9 +284,29 @@ fn order_named(name: &str) -> Option<Order>
     }
 }
 
-/// What is said where `clap` took the words and named no job. It doesn't come to that.
+/// What is said where `clap` took the words and they name no job: they have both an order and workers.
+fn no_job(alloc: Global, matches: &ArgMatches<'_>) -> WordsFault
+    ensures { IsRefused [] None (excludes_by (subcommand_rows_of matches.now)) result }
+{
+    if excludes(matches) {
+        return WordsFault::OrderAndWorkers;
+    }
+    not_a_job(alloc)
+}
+
+/// Whether both an order and workers were given to the command.
+fn excludes(matches: &ArgMatches<'_>) -> bool
+    ensures { result ≡ excludes_by (subcommand_rows_of matches.now) }
+{
+    match matches.subcommand() {
+        Some((_, given)) => is_both(given),
+        None => false,
+    }
+}
+
+/// What is said where `clap` took the words, they name no job, and that isn't for an order beside workers. It doesn't come to that.
 fn not_a_job(alloc: Global) -> WordsFault
-    ensures { IsRefused [] None result }
+    ensures { IsRefused [] None false result }
 {
     match String::from_str(alloc, "error: no command on a file was given\n") {
         Ok(text) => WordsFault::NotUnderstood(text),

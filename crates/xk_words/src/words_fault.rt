@@ -14,6 +14,9 @@ pub enum WordsFault {
     /// They aren't understood, and this text says why, for standard error.
     #[error("{0}")]
     NotUnderstood(String),
+    /// `--workers` stands beside `--order`.
+    #[error("x10clock: --workers and --order exclude each other\n")]
+    OrderAndWorkers,
     /// Memory ran out.
     #[error("out of memory")]
     OutOfMemory,
@@ -22,13 +25,13 @@ pub enum WordsFault {
 impl WordsFault {
     ghost use Rattle.xk_words.specs.Line.{status_of};
 
-    /// The status that the program ends with: 0 for help, 2 for words that aren't understood, 4 for want of memory.
+    /// The status that the program ends with: 0 for help, 2 for words that aren't understood or exclude each other, 4 for want of memory.
     pub fn status(&self) -> u8
         ensures { result ≡ status_of self.now }
     {
         match self {
             WordsFault::Help(_) => 0,
-            WordsFault::NotUnderstood(_) => 2,
+            WordsFault::NotUnderstood(_) | WordsFault::OrderAndWorkers => 2,
             WordsFault::OutOfMemory => 4,
         }
     }

@@ -2,10 +2,12 @@
 #![tactic(auto)]
 
 mod claims;
+mod gate;
 mod run;
 mod same;
 mod shared;
 mod workers;
 
+pub use gate::{Direct, Gate};
 pub use shared::{Shared, Take};
 pub use workers::run_workers;

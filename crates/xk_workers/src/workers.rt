@@ -4,6 +4,7 @@ ghost use Rattle.std.specs.Prelude.{◌≡◌, ◌≤◌, IfOk, IfErr};
 ghost use Rattle.std.specs.Bool.{Decides};
 ghost use Rattle.xk_workers.specs.Shared.{IsSettled};
 
+use crate::gate::Gate;
 use crate::same::is_same_module;
 use crate::shared::{Shared, Take};
 use std::alloc::Global;
@@ -97,11 +98,13 @@ fn settle<'m>(alloc: Global, shared: Shared<'m>, aside: Core<'m>) -> Result<Ende
 /// Runs a core, from before its first step, by this many worker threads under one lock, the calling thread among them; where a thread
 /// can't be started there are fewer. Ok where all activities have ended, and Err where memory was refused. Whatever the workers do, the
 /// log in the answer stands for a legal schedule of the module that leads to the core in the answer, as the types of the answers keep.
-pub fn run_workers<'m, R: Threads + Wait + Sync>(
+/// The gate isn't asked yet: all steps are taken under the lock.
+pub fn run_workers<'m, R: Threads + Wait + Sync, G: Gate + Sync>(
     rt: &R,
     alloc: Global,
     start: Core<'m>,
     workers: u32,
+    _gate: &G,
 ) -> Result<Ended<'m>, Partial<'m>>
     requires some { 1 ≤ workers }
     requires few { workers ≤ 64 }
