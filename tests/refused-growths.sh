@@ -134,6 +134,21 @@ printf 'def main() { for (i in 1..50) async { } }\n' > "$work/in"
 ample run --log "$work/log" -
 each_growth "fifty activities, with a log" run --log "$work/log" -
 
+# Runs by one worker, which takes the steps as in the order `first`.
+for row in in-step.x10 ring.json shared-sum.x10; do
+    case $row in *.json) form=--module ;; *) form= ;; esac
+    cp "tests/rows/$row" "$work/in"
+    ample run $form --workers 1 -
+    cmp -s "$work/out" "tests/rows/${row%.*}.stdout" || fail "$row, by a worker: $(cat "$work/out" "$work/err")"
+    each_growth "$row, by a worker" run $form --workers 1 -
+    ample run $form --workers 1 --log "$work/log" -
+    cmp -s "$work/out" "tests/rows/${row%.*}.stdout" || fail "$row, by a worker with a log: $(cat "$work/out" "$work/err")"
+    each_growth "$row, by a worker with a log" run $form --workers 1 --log "$work/log" -
+done
+printf 'def main() { for (i in 1..50) async { } }\n' > "$work/in"
+ample run --workers 1 -
+each_growth "fifty activities, by a worker" run --workers 1 -
+
 cp tests/rows/in-step.x10 "$work/in"
 while read -r log line; do
     echo "x10clock: $line" > "$work/told"
@@ -173,6 +188,8 @@ no_job "no words" 2 "" "error: 'x10clock' requires a subcommand but one was not 
 no_job walk 2 "" "error: unrecognized subcommand 'walk'" walk
 no_job "an unknown order" 2 "" "error: invalid value 'least' for '--order <ORDER>'" run --module --order least -
 no_job "an order for check" 2 "" "error: unexpected argument '--order' found" check --module --order first -
+no_job "no workers" 2 "" "error: invalid value '0' for '--workers <N>': 0 is not in 1..=64" run --module --workers 0 -
+no_job "workers beside an order" 2 "" "x10clock: --workers and --order exclude each other" run --module --workers 2 --order first -
 no_job --help 0 "Verifies and runs clocked programs." "" --help
 no_job "a word not in UTF-8" 2 "" "x10clock: a word is not in UTF-8" run --module "$(printf '\377')"
 [ "$(wc -l < "$work/wanted-err")" = 1 ] || fail "a word not in UTF-8: $(cat "$work/wanted-err")"

@@ -1,6 +1,7 @@
 #!/bin/sh
 # Plays transcripts of the built program again, and compares them line for line: what `examples/*.txt` tell of the programs beside them, and
-# what `tests/words.txt` tells of the command line.
+# what `tests/words.txt` tells of the command line, `tests/logs.txt` of logs, and `tests/workers.txt` of runs by workers that print the same
+# whoever comes first.
 #
 # A transcript has, for each call, a line `$ x10clock WORDS`, as a shell takes it, then what goes to standard output, then what goes to
 # standard error, each line of which begins with `! `, and, where it isn't 0, the status. Standard input is empty. The calls of a transcript
@@ -38,7 +39,7 @@ if [ "${1:-}" = --write ]; then
     write=yes
     shift
 fi
-[ $# -gt 0 ] || set -- tests/words.txt tests/logs.txt examples/*.txt
+[ $# -gt 0 ] || set -- tests/words.txt tests/logs.txt tests/workers.txt examples/*.txt
 count=0
 for file; do
     played "$file" > "$work/played"

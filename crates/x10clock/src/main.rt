@@ -7,12 +7,21 @@ ghost use Rattle.xk_serve.specs.Answer.{task_of};
 ghost use Rattle.xk_serve.specs.Lines.{memory_line};
 ghost use Rattle.xk_serve.specs.Serving.{Answered, ErrBegins, IfKnown, OutBegins};
 
-use std::io::{ErrorKind, Read};
+use std::alloc::AllocGlobal;
+use std::fs::Files;
+use std::io::{ErrorKind, Input, Read};
 use std::process::ExitCode;
+use std::sync::Wait;
+use std::thread::Threads;
 use std::{env, fs, io};
 use xk_serve::{Fault, report, serve, tell, tell_words};
 use xk_types::{Counted, Sink, Source};
 use xk_words::{Command, Job, read_job};
+
+/// What a job may want of the runtime: memory, files, standard input, and threads that wait for one another.
+trait Runtime: AllocGlobal + Files + Input + Threads + Wait + Sync {}
+
+impl<R: AllocGlobal + Files + Input + Threads + Wait + Sync> Runtime for R {}
 
 fn main(rt: HostRuntime) -> ExitCode {
     let mut out = Counted::new(rt.stdout());
@@ -33,7 +42,12 @@ fn words(rt: &HostRuntime) -> io::Result<Vec<String>> {
 }
 
 /// Does what the words ask for.
-fn on_words<O: Sink, E: Sink>(rt: &HostRuntime, words: &[String], out: &mut O, err: &mut E) -> u8 {
+fn on_words<R: Runtime, O: Sink, E: Sink>(
+    rt: &R,
+    words: &[String],
+    out: &mut O,
+    err: &mut E,
+) -> u8 {
     let texts: Vec<&str> = match words.iter().map(|word| word.as_str()).collect(rt.alloc()) {
         Ok(texts) => texts,
         Err(_) => return report(rt.alloc(), &Fault::OutOfMemory, err),
@@ -45,9 +59,9 @@ fn on_words<O: Sink, E: Sink>(rt: &HostRuntime, words: &[String], out: &mut O, e
 }
 
 /// Opens FILE, and does the job.
-fn on_job<O: Sink, E: Sink>(rt: &HostRuntime, job: &Job<'_>, out: &mut O, err: &mut E) -> u8 {
+fn on_job<R: Runtime, O: Sink, E: Sink>(rt: &R, job: &Job<'_>, out: &mut O, err: &mut E) -> u8 {
     if job.file == "-" {
-        return on_program(rt, job, rt.stdin(), out, err);
+        return on_program(rt, job, rt.reader(), out, err);
     }
     match fs::open(rt, job.file) {
         Ok(file) => on_program(rt, job, file, out, err),
@@ -56,8 +70,8 @@ fn on_job<O: Sink, E: Sink>(rt: &HostRuntime, job: &Job<'_>, out: &mut O, err: &
 }
 
 /// Opens the log that is read, where there is one, and does the job on an open program.
-fn on_program<P: Read + Drop, O: Sink, E: Sink>(
-    rt: &HostRuntime,
+fn on_program<R: Runtime, P: Read + Drop, O: Sink, E: Sink>(
+    rt: &R,
     job: &Job<'_>,
     program: P,
     out: &mut O,
@@ -73,8 +87,8 @@ fn on_program<P: Read + Drop, O: Sink, E: Sink>(
 }
 
 /// Makes the file of the run's log, or empties it, where there is to be one, and does the job on an open program.
-fn on_log<P: Read + Drop, L: Source, O: Sink, E: Sink>(
-    rt: &HostRuntime,
+fn on_log<R: Runtime, P: Read + Drop, L: Source, O: Sink, E: Sink>(
+    rt: &R,
     job: &Job<'_>,
     program: P,
     log_in: &mut L,
@@ -96,7 +110,7 @@ fn on_log<P: Read + Drop, L: Source, O: Sink, E: Sink>(
 }
 
 /// Says that a file can't be opened, or that memory was wanting for that.
-fn not_opened<E: Sink>(rt: &HostRuntime, e: &io::Error, err: &mut E) -> u8 {
+fn not_opened<R: AllocGlobal, E: Sink>(rt: &R, e: &io::Error, err: &mut E) -> u8 {
     if e.kind() == ErrorKind::OutOfMemory {
         return report(rt.alloc(), &Fault::OutOfMemory, err);
     }
@@ -104,8 +118,15 @@ fn not_opened<E: Sink>(rt: &HostRuntime, e: &io::Error, err: &mut E) -> u8 {
 }
 
 /// Does the job on an open program and open logs.
-fn on_devices<P: Read + Drop, L: Source, O: Sink, E: Sink, K: Sink>(
-    rt: &HostRuntime,
+fn on_devices<
+    R: AllocGlobal + Threads + Wait + Sync,
+    P: Read + Drop,
+    L: Source,
+    O: Sink,
+    E: Sink,
+    K: Sink,
+>(
+    rt: &R,
     job: &Job<'_>,
     program: P,
     log_in: &mut L,
@@ -131,5 +152,5 @@ fn on_devices<P: Read + Drop, L: Source, O: Sink, E: Sink, K: Sink>(
         → Appends (E.contents err.old) (E.contents err.new) memory_line }
 {
     let mut source = Counted::new(program);
-    serve(rt.alloc(), job, &mut source, log_in, out, err, log_out)
+    serve(rt, rt.alloc(), job, &mut source, log_in, out, err, log_out)
 }

@@ -4,13 +4,15 @@ use crate::programs::SUM_AND_PHASE;
 use std::alloc::{AllocError, Global};
 use std::io;
 use std::io::Read;
+use std::sync::Wait;
+use std::thread::Threads;
 use xk_log::{LogFault, read_log};
 use xk_serve::serve;
 use xk_types::{Counted, Tape};
 use xk_words::{Command, Form, Job};
 
 const RUN: Command<'static> = Command::Run {
-    order: None,
+    drive: None,
     log: Some("log"),
 };
 
@@ -89,13 +91,19 @@ impl Tapes {
     }
 
     /// The status of this command.
-    fn answer(&mut self, alloc: Global, command: Command<'_>) -> u8 {
+    fn answer<R: Threads + Wait + Sync>(
+        &mut self,
+        rt: &R,
+        alloc: Global,
+        command: Command<'_>,
+    ) -> u8 {
         let job = Job {
             command,
             form: Form::Module,
             file: "-",
         };
         serve(
+            rt,
             alloc,
             &job,
             &mut self.program,
@@ -115,7 +123,8 @@ impl Tapes {
 }
 
 /// The status of a command on a log, and whether this is what it writes.
-fn served(
+fn served<R: Threads + Wait + Sync>(
+    rt: &R,
     alloc: Global,
     command: Command<'_>,
     log: &[u8],
@@ -123,7 +132,7 @@ fn served(
     written: Written,
 ) -> Result<(u8, bool), AllocError> {
     let mut tapes = Tapes::new(alloc, log, failing)?;
-    let status = tapes.answer(alloc, command);
+    let status = tapes.answer(rt, alloc, command);
     Ok((status, tapes.have(written)))
 }
 
@@ -165,15 +174,30 @@ fn devices_fail(rt: HostRuntime) -> Result<(), AllocError> {
         (REPLAY, PRINTED, ""),
         (CHART, CHARTED, ""),
     ] {
-        let told = served(alloc, command, given, NONE, Written { out, err: "", log })?;
+        let told = served(
+            &rt,
+            alloc,
+            command,
+            given,
+            NONE,
+            Written { out, err: "", log },
+        )?;
         assert_eq!(rt; told, (0, true), "{command:?}");
     }
     for (command, failing, out, log) in failing_calls() {
         let err = DEVICE;
-        let told = served(alloc, command, given, failing, Written { out, err, log })?;
+        let told = served(
+            &rt,
+            alloc,
+            command,
+            given,
+            failing,
+            Written { out, err, log },
+        )?;
         assert_eq!(rt; told, (5, true), "{command:?} {failing:?}");
         let failing = Failing { err: 1, ..failing };
         let told = served(
+            &rt,
             alloc,
             command,
             given,
@@ -202,12 +226,12 @@ fn logs_end_elsewhere(rt: HostRuntime) -> Result<(), AllocError> {
     for command in [REPLAY, CHART] {
         for length in 0..LOG.len() {
             let log = &LOG.as_bytes()[..length];
-            let told = served(alloc, command, log, NONE, truncated)?;
+            let told = served(&rt, alloc, command, log, NONE, truncated)?;
             assert_eq!(rt; told, (3, true), "{command:?} {length}");
-            let told = served(alloc, command, log, silent, NOTHING)?;
+            let told = served(&rt, alloc, command, log, silent, NOTHING)?;
             assert_eq!(rt; told, (5, true), "{command:?} {length}");
         }
-        let told = served(alloc, command, LONGER.as_bytes(), NONE, grammar)?;
+        let told = served(&rt, alloc, command, LONGER.as_bytes(), NONE, grammar)?;
         assert_eq!(rt; told, (3, true), "{command:?}");
     }
     Ok(())

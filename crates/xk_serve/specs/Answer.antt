@@ -1,11 +1,13 @@
 -- What the program answers: which status and texts a job and the bytes of its file may have.
-use Rattle.std.specs.Prelude.{◌≡◌, ◌≢◌, ℕ, ⊤, ◌⊎◌, ℤ, Bool, true, false, List, [], Option, Some, None, is_some, unwrap_or, string_bytes}
+use Rattle.std.specs.Prelude.{◌≡◌, ◌≢◌, ℕ, ⊤, ◌⊎◌, ℤ, Bool, true, false, List, [], Option, Some, None, is_some, string_bytes}
 use Rattle.serde_json.specs.Written.{compact_text}
 use Rattle.xk_types.specs.Code.{ModuleValue}
 use Rattle.xk_types.specs.Bound.{steps_bound, activities_bound, clocks_bound}
 use Rattle.xk_types.specs.Accepted.{IsAccepted}
 use Rattle.xk_words.specs.declared.job.Command.{Command}
 use Rattle.xk_words.specs.declared.job.Command.TheVariants as command
+use Rattle.xk_words.specs.declared.job.Drive.{Drive}
+use Rattle.xk_words.specs.declared.job.Drive.TheVariants as drive
 use Rattle.xk_words.specs.declared.job.Form.{Form}
 use Rattle.xk_words.specs.declared.job.Form.TheVariants as form
 use Rattle.xk_words.specs.declared.job.Job.{Job}
@@ -22,15 +24,16 @@ use Rattle.xk_types.specs.declared.names.Entry.{Entry}
 use Rattle.xk_log.specs.Places.{IsTruncated, IsWrongAt, Says, Whole}
 use Rattle.xk_replay.specs.Chart.{chart_text}
 use Rattle.xk_replay.specs.Replay.{IsStoppedAt, IsUnfinished}
-use Rattle.xk_serve.specs.OrderedRun.{IsLoggedRun, IsOrderedRun, IsReplay, IsWholeRun}
+use Rattle.xk_serve.specs.OrderedRun.{IsLoggedRun, IsOrderedRun, IsReplay, IsSomeRun, IsWholeRun}
 use Rattle.xk_serve.specs.Lines.{done_log, done_text, fault_line, status_of}
 use Rattle.xk_serve.specs.Programs.{Gives, IsNoModule, IsNoSource}
 
--- what is to be done with a module; a run is in an order, and has its log kept or not
+-- what is to be done with a module; a run is in an order, or by workers, and has its log kept or not
 pub data Doing : Type 0 where
   Check : Doing
   Compile : Doing
   Run : Order → Bool → Doing
+  Work : Bool → Doing
   Replay : Doing
   Chart : Doing
 
@@ -40,11 +43,17 @@ reads_log Replay = true
 reads_log Chart = true
 reads_log _ = false
 
--- a run's order is `first` where none was given, and its log is kept where there is a path for it
+-- a run is in the order `first` where neither an order nor workers were given
+abbrev pub run_by : Option Drive → Bool → Doing
+run_by None keeps_log = Run order.First keeps_log
+run_by (Some (drive.Order o)) keeps_log = Run o keeps_log
+run_by (Some (drive.Workers w)) keeps_log = Work keeps_log
+
+-- a run's log is kept where there is a path for it
 abbrev pub doing_of : Command → Doing
 doing_of command.Check = Check
 doing_of command.Compile = Compile
-doing_of (command.Run given path) = Run (unwrap_or given order.First) (is_some path)
+doing_of (command.Run given path) = run_by given (is_some path)
 doing_of (command.Replay log) = Replay
 doing_of (command.Chart log) = Chart
 
@@ -69,13 +78,16 @@ abbrev pub Charts : ModuleValue → List ℕ → List ℕ → Type 0
 Charts m logged text = (es : List Entry) × IsLogText logged es × IsWholeRun m es × (text ≡ chart_text m es)
 
 -- What is to be done with a module, and with the bytes of a log where one is read, comes to this: for `compile` the text of the module; where
--- the module is accepted, for `check` its bounds, for `run` its run in the order, for `replay` and `chart` the run that the log has.
+-- the module is accepted, for `check` its bounds, for `run` its run in the order, or, by workers, some run of it, for `replay` and `chart` the run
+-- that the log has.
 abbrev pub ComesTo : Doing → ModuleValue → List ℕ → Done → Type 0
 ComesTo Compile m logged (done.Compiled text) = string_bytes text ≡ compact_text (module_value m)
 ComesTo Check m logged (done.Accepted steps activities clocks) =
     IsAccepted m × (steps ≡ steps_bound m) × (activities ≡ activities_bound m) × (clocks ≡ clocks_bound m)
 ComesTo (Run o false) m logged (done.Ended numbers steps None) = IsAccepted m × IsOrderedRun o m numbers.items steps
 ComesTo (Run o true) m logged (done.Ended numbers steps (Some log)) = IsAccepted m × IsLoggedRun o m numbers.items steps log.items
+ComesTo (Work false) m logged (done.Ended numbers steps None) = IsAccepted m × IsSomeRun m numbers.items steps
+ComesTo (Work true) m logged (done.Ended numbers steps (Some log)) = IsAccepted m × IsReplay m log.items numbers.items steps
 ComesTo Replay m logged (done.Ended numbers steps None) = IsAccepted m × Replays m logged numbers.items steps
 ComesTo Chart m logged (done.Charted text) = IsAccepted m × Charts m logged (string_bytes text)
 ComesTo _ m logged _ = ⊥

@@ -81,6 +81,10 @@ memory_line = codes "x10clock: out of memory\n"
 abbrev pub device_line : List ℕ
 device_line = codes "x10clock: device\n"
 
+-- the words have an order beside workers
+abbrev pub excluded_line : List ℕ
+excluded_line = codes "x10clock: --workers and --order exclude each other\n"
+
 -- a fault of the module text, and want of memory where it is none
 abbrev pub label_line : Option (List ℕ) → List ℕ
 label_line (Some label) = line label

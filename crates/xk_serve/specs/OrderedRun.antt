@@ -1,5 +1,5 @@
--- Runs of a module to its end, each step taken in an order.
-use Rattle.std.specs.Prelude.{◌≡◌, ℕ, ℤ, ◌-◌, true, All, List, length, None}
+-- Runs of a module to its end, each step taken in an order, or by whom it may be.
+use Rattle.std.specs.Prelude.{◌≡◌, ℕ, ℤ, ◌-◌, ⊤, true, All, List, length, None}
 use Rattle.xk_types.specs.declared.names.Entry.{Entry}
 use Rattle.xk_types.specs.Code.{ModuleValue}
 use Rattle.xk_types.specs.World.{World, opening}
@@ -33,6 +33,10 @@ IsOrderedRun o m = IsRunThat (FollowsOrder o m) m
 -- a run again by a log: it prints these numbers, and takes so many steps
 abbrev pub IsReplay : ModuleValue → List Entry → List ℤ → ℕ → Type 0
 IsReplay m log = IsRunThat (λ list. list ≡ schedule_of log) m
+
+-- a whole run, whoever takes its steps: it prints these numbers, and takes so many steps
+abbrev pub IsSomeRun : ModuleValue → List ℤ → ℕ → Type 0
+IsSomeRun = IsRunThat (λ list. ⊤)
 
 -- the log is that of a whole run: it is legal, and behind it all have ended
 pub record IsWholeRun (m : ModuleValue) (log : List Entry) : Type 0 where

@@ -10,7 +10,7 @@ use Rattle.xk_serve.specs.declared.fault.Fault.{Fault}
 use Rattle.xk_serve.specs.declared.fault.Fault.TheVariants as fault
 use Rattle.xk_serve.specs.Bytes.{AppendsBeginning}
 use Rattle.xk_serve.specs.Answer.{Answers, FailsBy, IsNoRun, Reply, Succeeds, Task, reads_log}
-use Rattle.xk_serve.specs.Lines.{done_log, done_text, fault_line, memory_line, status_of}
+use Rattle.xk_serve.specs.Lines.{done_log, done_text, excluded_line, fault_line, memory_line, status_of}
 
 -- all that is printed of it went to standard output, and its log to the log's device
 abbrev pub IsWritten : Done → Option (List ℕ) → Option (List ℕ) → Option (List ℕ) → Option (List ℕ) → Type 0
@@ -99,4 +99,5 @@ ErrBegins t bytes logged old new = (f : Fault) × IsTold t bytes logged f × App
 abbrev pub TellsWords : WordsFault → (List ℕ → ℕ → Type 0) → (List ℕ → ℕ → Type 0) → Type 0
 TellsWords (words.Help text) On_out On_err = On_out (string_bytes text) 0
 TellsWords (words.NotUnderstood text) On_out On_err = On_err (string_bytes text) 2
+TellsWords words.OrderAndWorkers On_out On_err = On_err excluded_line 2
 TellsWords words.OutOfMemory On_out On_err = On_err memory_line 4

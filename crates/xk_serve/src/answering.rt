@@ -2,26 +2,29 @@
 
 ghost use Rattle.std.specs.Prelude.{◌≡◌, ℕ, List, false, IfOk, IfErr, IfSome, OnOk};
 ghost use Rattle.xk_types.specs.Accepted.{IsAccepted};
-ghost use Rattle.xk_serve.specs.Answer.{ComesTo, IsLogText, Succeeds, Run, reads_log, task_of};
+ghost use Rattle.xk_serve.specs.Answer.{ComesTo, IsLogText, Run, Succeeds, Work, reads_log, run_by, task_of};
 ghost use Rattle.xk_serve.specs.Serving.{AgainstLog, AgainstRun, read_of};
 
 use crate::done::Done;
 use crate::fault::Fault;
-use crate::logged_run::run_with_log;
+use crate::logged_run::{run_by_workers, run_with_log};
 use crate::ordered_run::run_in_order;
 use crate::programs::module_in;
 use std::alloc::{AllocError, Global};
+use std::sync::Wait;
+use std::thread::Threads;
 use xk_bounds::{Verified, verify};
 use xk_drive::Ended;
 use xk_log::read_log;
 use xk_module::write_module;
 use xk_replay::{chart, replay};
 use xk_types::{Module, Source};
-use xk_words::{Command, Job, Order};
+use xk_words::{Command, Drive, Job, Order, Workers};
 
 /// What the job on a file of these bytes comes to, or what stands against it. A fault is of the text (F1 to F14, M1 to M3), of
 /// its module (V1 to V17), or want of memory; it is never `Device`.
-pub(crate) fn answer<L: Source>(
+pub(crate) fn answer<R: Threads + Wait + Sync, L: Source>(
+    rt: &R,
     alloc: Global,
     job: &Job<'_>,
     bytes: &[u8],
@@ -45,10 +48,9 @@ pub(crate) fn answer<L: Source>(
                 clocks: verified.clocks(),
             })
         }
-        Command::Run { order, log } => {
+        Command::Run { drive, log } => {
             let verified = verify(alloc, module)?;
-            let order = order.unwrap_or(Order::First);
-            Ok(ran(alloc, order, log.is_some(), &verified)?)
+            Ok(ran(rt, alloc, drive, log.is_some(), &verified)?)
         }
         Command::Replay { .. } => {
             let verified = verify(alloc, module)?;
@@ -85,8 +87,54 @@ fn run_again<'m, L: Source>(
     Ok(replay(alloc, verified, log)?)
 }
 
+/// The run of a module as it is to be driven, with its log where that is to be kept.
+fn ran<R: Threads + Wait + Sync>(
+    rt: &R,
+    alloc: Global,
+    drive: Option<Drive>,
+    keeps_log: bool,
+    verified: &Verified,
+) -> Result<Done, AllocError>
+    requires { IsAccepted verified.now }
+    ensures { IfOk result (λ d. (logged : List ℕ)
+        → ComesTo (run_by drive keeps_log) verified.now logged d) }
+{
+    match drive {
+        None => ran_in_order(alloc, Order::First, keeps_log, verified),
+        Some(Drive::Order(order)) => ran_in_order(alloc, order, keeps_log, verified),
+        Some(Drive::Workers(workers)) => ran_by(rt, alloc, workers, keeps_log, verified),
+    }
+}
+
+/// A run of a module by workers, with its log where that is to be kept.
+fn ran_by<R: Threads + Wait + Sync>(
+    rt: &R,
+    alloc: Global,
+    workers: Workers,
+    keeps_log: bool,
+    verified: &Verified,
+) -> Result<Done, AllocError>
+    requires { IsAccepted verified.now }
+    ensures { IfOk result (λ d. (logged : List ℕ)
+        → ComesTo (Work keeps_log) verified.now logged d) }
+{
+    let run = run_by_workers(rt, alloc, workers, verified)?;
+    if keeps_log {
+        return Ok(Done::Ended {
+            printed: run.printed,
+            steps: run.steps,
+            log: Some(run.log),
+        });
+    }
+    Ok(Done::Ended {
+        printed: run.printed,
+        steps: run.steps,
+        log: None,
+    })
+}
+
 /// The run of a module in this order, with its log where that is to be kept.
-fn ran(
+fn ran_in_order(
     alloc: Global,
     order: Order,
     keeps_log: bool,

@@ -51,6 +51,9 @@ pub(crate) const MEMORY_LINE: &str = "x10clock: out of memory\n";
 /// The line of a device that failed.
 pub(crate) const DEVICE_LINE: &str = "x10clock: device\n";
 
+/// The line where the words have an order beside workers.
+pub(crate) const EXCLUDED_LINE: &str = "x10clock: --workers and --order exclude each other\n";
+
 impl Fault {
     /// The status that the program ends with: 1 for a program that is refused, 3 for a log, 4 for want of memory, 5 for a device.
     pub(crate) fn status(&self) -> u8

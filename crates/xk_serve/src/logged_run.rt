@@ -1,16 +1,19 @@
-//! The run of a module in an order, with its log.
+//! The run of a module in an order, or by workers, with its log.
 
 ghost use Rattle.std.specs.Prelude.{◌≡◌, IfOk};
 ghost use Rattle.xk_types.specs.World.{opening};
 ghost use Rattle.xk_drive.specs.Choosing.{Follows};
-ghost use Rattle.xk_serve.specs.OrderedRun.{IsLogThat, IsLoggedRun, IsRunThat};
+ghost use Rattle.xk_serve.specs.OrderedRun.{IsLogThat, IsLoggedRun, IsReplay, IsRunThat};
 
 use std::alloc::{AllocError, Global};
+use std::sync::Wait;
+use std::thread::Threads;
 use xk_bounds::Verified;
 use xk_core::Core;
 use xk_drive::{Chooser, Ended, First, Last, Round, drive};
 use xk_types::Entry;
-use xk_words::Order;
+use xk_words::{Order, Workers};
+use xk_workers::{Direct, run_workers};
 
 /// A run that came to its end.
 #[derive(Debug, Drop)]
@@ -51,6 +54,23 @@ fn log_by<C: Chooser>(
         verified.now run.printed.items run.steps) }
 {
     match drive(alloc, Core::open(alloc, verified)?, chooser) {
+        Ok(ended) => Ok(logged(ended)),
+        Err(_) => Err(AllocError),
+    }
+}
+
+/// Runs the module to its end by so many workers, and keeps the log.
+pub(crate) fn run_by_workers<R: Threads + Wait + Sync>(
+    rt: &R,
+    alloc: Global,
+    workers: Workers,
+    verified: &Verified,
+) -> Result<LoggedRun, AllocError>
+    ensures { IfOk result (λ run.
+        IsReplay verified.now run.log.items run.printed.items run.steps) }
+{
+    let start = Core::open(alloc, verified)?;
+    match run_workers(rt, alloc, start, workers.count(), &Direct) {
         Ok(ended) => Ok(logged(ended)),
         Err(_) => Err(AllocError),
     }

@@ -11,18 +11,22 @@ ghost use Rattle.xk_serve.specs.Serving.{Answered, ErrBegins, IfKnown, IsBegun, 
 use crate::answering::answer;
 use crate::bytes::{read_all, read_front, write_all};
 use crate::done::Done;
-use crate::fault::{DEVICE_LINE, Fault, MEMORY_LINE};
+use crate::fault::{DEVICE_LINE, EXCLUDED_LINE, Fault, MEMORY_LINE};
 use crate::programs::LONGEST_SOURCE;
 use std::alloc::Global;
+use std::sync::Wait;
+use std::thread::Threads;
 use xk_log::write_entries;
 use xk_types::{Failed, Sink, Source};
 use xk_words::{Form, Job, WordsFault};
 
 /// Reads the program, does the job, and writes what comes of it: its result to `out` and then the log of a run that is to have one
 /// to `log_out`, or one line to `err`. The answer is the exit status: 0 where the job is done, 1 where the program is refused, 3 where the log is, 4
-/// where memory ran out, 5 where a device failed. Whatever the answer but 5, no read or write failed. The result is written once it
+/// where memory ran out, 5 where a device failed. A run by workers is some run of the program: a call with such a job may wait for them, and
+/// what is said here holds where it returns. Whatever the answer but 5, no read or write failed. The result is written once it
 /// is whole, so `out` and `log_out` stay empty but at 0 and 5, and `err` never gets more than one line.
-pub fn serve<P: Source, L: Source, O: Sink, E: Sink, K: Sink>(
+pub fn serve<R: Threads + Wait + Sync, P: Source, L: Source, O: Sink, E: Sink, K: Sink>(
+    rt: &R,
     alloc: Global,
     job: &Job<'_>,
     program: &mut P,
@@ -66,14 +70,15 @@ pub fn serve<P: Source, L: Source, O: Sink, E: Sink, K: Sink>(
     // No log is read where the job is on none.
     ensures log_in { reads_log (task_of job.now).doing ≡ false → log_in.new ≡ log_in.old }
 {
-    match outcome(alloc, job, program, log_in) {
+    match outcome(rt, alloc, job, program, log_in) {
         Ok((done, text)) => print(alloc, &done, text.as_str(), out, err, log_out),
         Err(fault) => report(alloc, &fault, err),
     }
 }
 
 /// What the job comes to, and what is printed of it.
-fn outcome<P: Source, L: Source>(
+fn outcome<R: Threads + Wait + Sync, P: Source, L: Source>(
+    rt: &R,
     alloc: Global,
     job: &Job<'_>,
     program: &mut P,
@@ -96,7 +101,7 @@ fn outcome<P: Source, L: Source>(
     ensures unread { reads_log (task_of job.now).doing ≡ false → log_in.new ≡ log_in.old }
 {
     let bytes = read_program(alloc, job.form, program)?;
-    let done = answer(alloc, job, &bytes, log_in)?;
+    let done = answer(rt, alloc, job, &bytes, log_in)?;
     let text = done.text(alloc)?;
     Ok((done, text))
 }
@@ -232,6 +237,7 @@ pub fn tell_words<O: Sink, E: Sink>(fault: &WordsFault, out: &mut O, err: &mut E
     match fault {
         WordsFault::Help(text) => tell(text.as_str(), 0, out),
         WordsFault::NotUnderstood(text) => tell(text.as_str(), 2, err),
+        WordsFault::OrderAndWorkers => tell(EXCLUDED_LINE, 2, err),
         WordsFault::OutOfMemory => tell(MEMORY_LINE, 4, err),
     }
 }

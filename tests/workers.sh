@@ -1,0 +1,78 @@
+#!/bin/sh
+# Runs small programs by 1, 2 and 64 worker threads: two activities in step, a ring of three clocks, and three activities that add to a shared
+# number. Each run has to end in as many steps as every run of the program, and to print the same numbers, in whatever order; its log has to be
+# that of a run that prints just what it printed, and that can be charted. Five times each, also where no thread or few can be started. With
+# the word `stress` two hundred times each, and then the ring a thousand times by 64 workers on two processors, within five minutes; how long
+# that takes is told beside the same in the order `first`.
+set -eu
+cd "$(dirname "$0")/.."
+program=${X10CLOCK:-crates/x10clock/out/x10clock}
+[ -x "$program" ] || (cd crates/x10clock && rt run -- run --module - < stdin > /dev/null)
+work=$(mktemp -d)
+trap 'rm -rf "$work"' EXIT
+runs=0
+
+fail() {
+    echo "workers: $*" >&2
+    exit 1
+}
+
+# limited KILOBYTES COMMAND..: the command, within a minute, with so much address space, or as much as there is where the word is `unlimited`;
+# where that is little it can't start another process or thread either, unless it is the superuser's.
+limited() {
+    timeout 60 sh -c 'ulimit -v "$1"; [ "$1" = unlimited ] || ulimit -u 1; shift; exec "$@"' sh "$@"
+}
+
+# by_workers N SPACE ROW FORM: one run of the program by so many workers in so much address space, its log, and the log's chart.
+by_workers() {
+    what="$3 by $1 workers in space $2"
+    limited "$2" "$program" run $4 --workers "$1" --log "$work/log" "tests/rows/$3" > "$work/out" 2> "$work/err" || fail "$what: $(cat "$work/err")"
+    [ ! -s "$work/err" ] || fail "$what: $(cat "$work/err")"
+    [ "$(tail -n 1 "$work/out")" = "$(tail -n 1 "$work/wanted")" ] || fail "$what: $(cat "$work/out")"
+    sort "$work/out" > "$work/sorted"
+    cmp -s "$work/sorted" "$work/wanted-sorted" || fail "$what: $(cat "$work/out")"
+    "$program" replay $4 "tests/rows/$3" "$work/log" > "$work/again" || fail "$what: its log isn't replayed"
+    cmp -s "$work/again" "$work/out" || fail "$what: its log prints $(cat "$work/again")"
+    "$program" chart $4 "tests/rows/$3" "$work/log" > "$work/chart" || fail "$what: its log isn't charted"
+    runs=$((runs + 1))
+}
+
+# often TIMES SPACE: each program so often by 1, 2 and 64 workers.
+often() {
+    for row in in-step.x10 ring.json shared-sum.x10; do
+        case $row in *.json) form=--module ;; *) form= ;; esac
+        cp "tests/rows/${row%.*}.stdout" "$work/wanted"
+        sort "$work/wanted" > "$work/wanted-sorted"
+        for workers in 1 2 64; do
+            at=0
+            while [ "$at" -lt "$1" ]; do
+                by_workers "$workers" "$2" "$row" "$form"
+                at=$((at + 1))
+            done
+        done
+    done
+}
+
+# seconds WORDS..: how long a thousand runs of the ring with these words take on two processors.
+seconds() {
+    begun=$(date +%s.%N)
+    timeout 300 taskset -c "$two" sh -c '
+        program=$1
+        shift
+        at=0
+        while [ "$at" -lt 1000 ]; do
+            [ "$("$program" run --module "$@" tests/rows/ring.json)" = "ended steps 22" ] || exit 1
+            at=$((at + 1))
+        done' sh "$program" "$@" || fail "a thousand rings with $*: status $?"
+    echo "$begun $(date +%s.%N)" | awk '{ printf "%.1f", $2 - $1 }'
+}
+
+times=5
+[ "${1:-}" != stress ] || times=200
+often "$times" unlimited
+often 5 60000
+if [ "${1:-}" = stress ]; then
+    two=$(python3 -c 'import os; print(*sorted(os.sched_getaffinity(0))[:2], sep=",")')
+    echo "workers: a thousand rings on two processors: $(seconds --workers 64) s by 64 workers, $(seconds --order first) s in the order first"
+fi
+echo "workers: $runs runs, all as they must be"
