@@ -17,10 +17,12 @@ fail() {
     exit 1
 }
 
-# limited KILOBYTES COMMAND..: the command, within a minute, with so much address space, or as much as there is where the word is `unlimited`;
-# where that is little it can't start another process or thread either, unless it is the superuser's.
+# limited BYTES COMMAND..: the command, within a minute, with so much address space, or as much as there is where the word is `unlimited`; where
+# that is little it can't start another process or thread either, unless it is the superuser's.
 limited() {
-    timeout 60 sh -c 'ulimit -v "$1"; [ "$1" = unlimited ] || ulimit -u 1; shift; exec "$@"' sh "$@"
+    space=$1
+    shift
+    if [ "$space" = unlimited ]; then timeout 60 "$@"; else timeout 60 prlimit --as="$space" --nproc=1 "$@"; fi
 }
 
 # by_workers N SPACE ROW FORM: one run of the program by so many workers in so much address space, its log, and the log's chart.
@@ -70,7 +72,7 @@ seconds() {
 times=5
 [ "${1:-}" != stress ] || times=200
 often "$times" unlimited
-often 5 60000
+often 5 60000000
 if [ "${1:-}" = stress ]; then
     two=$(python3 -c 'import os; print(*sorted(os.sched_getaffinity(0))[:2], sep=",")')
     echo "workers: a thousand rings on two processors: $(seconds --workers 64) s by 64 workers, $(seconds --order first) s in the order first"

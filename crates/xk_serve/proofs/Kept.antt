@@ -107,3 +107,7 @@ against_any t bytes known n (fault.NotEnabled i) h = (refl, of_any _ (read_of t 
 against_any t bytes known n fault.NotEnded h = (refl, of_any _ (read_of t known) h)
 against_any t bytes known n fault.OutOfMemory h = (refl, of_any _ (read_of t known) h)
 against_any t bytes known n fault.Device h = absurd (h [])
+
+-- want of memory stands against any task, where no read failed
+pub against_memory : (t : Task) (bytes : List ℕ) (known : Option (List ℕ)) (old new : ℕ) → new ≡ old → AgainstLog t bytes known old new fault.OutOfMemory
+against_memory t bytes known old new e = (e, of_any _ (read_of t known) (λ logged. tt))

@@ -11,7 +11,7 @@ use Rattle.xk_types.specs.Logs.{schedule_of}
 use Rattle.xk_core.specs.Core.{CoreValue}
 use Rattle.xk_drive.specs.Choosing.{enabled_in, Names, Follows, goes_on, state_after}
 use Rattle.xk_drive.specs.Driving.{IsChosen, IsRunOf, IsTurn}
-use Rattle.xk_serve.specs.OrderedRun.{IsLogThat, IsRunThat}
+use Rattle.xk_serve.specs.OrderedRun.{IsLogThat, IsReplay, IsRunThat, IsSomeRun}
 use Rattle.xk_laws.proofs.Reached.{run_more}
 use Rattle.xk_drive.proofs.Following.{follows_more, printed_more, state_more}
 
@@ -103,3 +103,16 @@ logged_run answer after m n s t log numbers c steps same chosen run over counted
       numbers_are = run_of.prints;
       steps_are = counted;
     }
+
+-- ---- runs by workers
+
+-- a run by workers that came to its end
+pub worked_run : (m n : ModuleValue) (log : List Entry) (numbers : List ℤ) (c : CoreValue) (steps : ℕ) → n ≡ m → IsRunOf n log numbers c
+    → all_ended c.world ≡ true → steps ≡ c.world.steps → IsReplay m log numbers steps
+worked_run m n log numbers c steps same run over counted =
+    let run_of = subst (λ k. IsRunOf k log numbers c) same run in
+    record { list = schedule_of log; last = c.world; follows = refl; leads = run_of.leads; over = over; numbers_are = run_of.prints; steps_are = counted }
+
+-- a run by a log is some run
+pub some_run : (m : ModuleValue) (log : List Entry) (numbers : List ℤ) (steps : ℕ) → IsReplay m log numbers steps → IsSomeRun m numbers steps
+some_run m log numbers steps r = run_weaker _ _ m numbers steps (λ list h. tt) r

@@ -1,5 +1,5 @@
 -- What the program answers: which status and texts a job and the bytes of its file may have.
-use Rattle.std.specs.Prelude.{◌≡◌, ◌≢◌, ℕ, ⊤, ◌⊎◌, ℤ, Bool, true, false, List, [], Option, Some, None, is_some, string_bytes}
+use Rattle.std.specs.Prelude.{◌≡◌, ◌≢◌, ℕ, ⊤, ◌⊎◌, ℤ, Bool, true, false, List, [], Option, Some, None, is_some, option_map, unwrap_or, string_bytes}
 use Rattle.serde_json.specs.Written.{compact_text}
 use Rattle.xk_types.specs.Code.{ModuleValue}
 use Rattle.xk_types.specs.Bound.{steps_bound, activities_bound, clocks_bound}
@@ -7,12 +7,12 @@ use Rattle.xk_types.specs.Accepted.{IsAccepted}
 use Rattle.xk_words.specs.declared.job.Command.{Command}
 use Rattle.xk_words.specs.declared.job.Command.TheVariants as command
 use Rattle.xk_words.specs.declared.job.Drive.{Drive}
-use Rattle.xk_words.specs.declared.job.Drive.TheVariants as drive
 use Rattle.xk_words.specs.declared.job.Form.{Form}
 use Rattle.xk_words.specs.declared.job.Form.TheVariants as form
 use Rattle.xk_words.specs.declared.job.Job.{Job}
 use Rattle.xk_words.specs.declared.job.Order.{Order}
 use Rattle.xk_words.specs.declared.job.Order.TheVariants as order
+use Rattle.xk_words.specs.Line.{By, In, Way, way_value}
 use Rattle.xk_module.specs.ModuleText.{module_value}
 use Rattle.xk_bounds.specs.Refused.{Refuses}
 use Rattle.xk_bounds.specs.declared.refusal.Refusal.TheVariants as refusal
@@ -32,8 +32,7 @@ use Rattle.xk_serve.specs.Programs.{Gives, IsNoModule, IsNoSource}
 pub data Doing : Type 0 where
   Check : Doing
   Compile : Doing
-  Run : Order → Bool → Doing
-  Work : Bool → Doing
+  Run : Way → Bool → Doing
   Replay : Doing
   Chart : Doing
 
@@ -44,16 +43,14 @@ reads_log Chart = true
 reads_log _ = false
 
 -- a run is in the order `first` where neither an order nor workers were given
-abbrev pub run_by : Option Drive → Bool → Doing
-run_by None keeps_log = Run order.First keeps_log
-run_by (Some (drive.Order o)) keeps_log = Run o keeps_log
-run_by (Some (drive.Workers w)) keeps_log = Work keeps_log
+abbrev pub way_given : Option Drive → Way
+way_given given = unwrap_or (option_map way_value given) (In order.First)
 
 -- a run's log is kept where there is a path for it
 abbrev pub doing_of : Command → Doing
 doing_of command.Check = Check
 doing_of command.Compile = Compile
-doing_of (command.Run given path) = run_by given (is_some path)
+doing_of (command.Run given path) = Run (way_given given) (is_some path)
 doing_of (command.Replay log) = Replay
 doing_of (command.Chart log) = Chart
 
@@ -84,10 +81,10 @@ abbrev pub ComesTo : Doing → ModuleValue → List ℕ → Done → Type 0
 ComesTo Compile m logged (done.Compiled text) = string_bytes text ≡ compact_text (module_value m)
 ComesTo Check m logged (done.Accepted steps activities clocks) =
     IsAccepted m × (steps ≡ steps_bound m) × (activities ≡ activities_bound m) × (clocks ≡ clocks_bound m)
-ComesTo (Run o false) m logged (done.Ended numbers steps None) = IsAccepted m × IsOrderedRun o m numbers.items steps
-ComesTo (Run o true) m logged (done.Ended numbers steps (Some log)) = IsAccepted m × IsLoggedRun o m numbers.items steps log.items
-ComesTo (Work false) m logged (done.Ended numbers steps None) = IsAccepted m × IsSomeRun m numbers.items steps
-ComesTo (Work true) m logged (done.Ended numbers steps (Some log)) = IsAccepted m × IsReplay m log.items numbers.items steps
+ComesTo (Run (In o) false) m logged (done.Ended numbers steps None) = IsAccepted m × IsOrderedRun o m numbers.items steps
+ComesTo (Run (In o) true) m logged (done.Ended numbers steps (Some log)) = IsAccepted m × IsLoggedRun o m numbers.items steps log.items
+ComesTo (Run (By n) false) m logged (done.Ended numbers steps None) = IsAccepted m × IsSomeRun m numbers.items steps
+ComesTo (Run (By n) true) m logged (done.Ended numbers steps (Some log)) = IsAccepted m × IsReplay m log.items numbers.items steps
 ComesTo Replay m logged (done.Ended numbers steps None) = IsAccepted m × Replays m logged numbers.items steps
 ComesTo Chart m logged (done.Charted text) = IsAccepted m × Charts m logged (string_bytes text)
 ComesTo _ m logged _ = ⊥

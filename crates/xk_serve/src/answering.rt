@@ -2,7 +2,8 @@
 
 ghost use Rattle.std.specs.Prelude.{◌≡◌, ℕ, List, false, IfOk, IfErr, IfSome, OnOk};
 ghost use Rattle.xk_types.specs.Accepted.{IsAccepted};
-ghost use Rattle.xk_serve.specs.Answer.{ComesTo, IsLogText, Run, Succeeds, Work, reads_log, run_by, task_of};
+ghost use Rattle.xk_serve.specs.Answer.{ComesTo, IsLogText, Run, Succeeds, reads_log, task_of, way_given};
+ghost use Rattle.xk_words.specs.Line.{By, In};
 ghost use Rattle.xk_serve.specs.Serving.{AgainstLog, AgainstRun, read_of};
 
 use crate::done::Done;
@@ -97,7 +98,7 @@ fn ran<R: Threads + Wait + Sync>(
 ) -> Result<Done, AllocError>
     requires { IsAccepted verified.now }
     ensures { IfOk result (λ d. (logged : List ℕ)
-        → ComesTo (run_by drive keeps_log) verified.now logged d) }
+        → ComesTo (Run (way_given drive) keeps_log) verified.now logged d) }
 {
     match drive {
         None => ran_in_order(alloc, Order::First, keeps_log, verified),
@@ -116,7 +117,7 @@ fn ran_by<R: Threads + Wait + Sync>(
 ) -> Result<Done, AllocError>
     requires { IsAccepted verified.now }
     ensures { IfOk result (λ d. (logged : List ℕ)
-        → ComesTo (Work keeps_log) verified.now logged d) }
+        → ComesTo (Run (By workers.count) keeps_log) verified.now logged d) }
 {
     let run = run_by_workers(rt, alloc, workers, verified)?;
     if keeps_log {
@@ -142,7 +143,7 @@ fn ran_in_order(
 ) -> Result<Done, AllocError>
     requires { IsAccepted verified.now }
     ensures { IfOk result (λ d. (logged : List ℕ)
-        → ComesTo (Run order keeps_log) verified.now logged d) }
+        → ComesTo (Run (In order) keeps_log) verified.now logged d) }
 {
     if keeps_log {
         let run = run_with_log(alloc, order, verified)?;

@@ -2,7 +2,7 @@ use Rattle.std.proofs.Common.{ap}
 use Rattle.std.proofs.lemmas.Result.{err_from_is_err_and}
 use Rattle.xk_serve.specs.Answer.{doing_of, task_of}
 use Rattle.xk_serve.proofs.Again.{chart_done, charted, replay_done, replayed, whole}
-use Rattle.xk_serve.proofs.Kept.{against_any}
+use Rattle.xk_serve.proofs.Kept.{against_any, against_memory}
 use Rattle.xk_serve.proofs.answering.answer.Goals as goal
 
 pub returns-in_err-module-clause-fault : goal.returns-in_err-module-clause-fault
@@ -41,3 +41,9 @@ returns-in_ok-chart-in-Chart-clause-done g c =
         charted _ _ _ ended.log.items _ is.same_module accepted.0 c.in_ok-chart-in-Chart.ensures,
       ),
     ))
+
+pub returns-in_err-chart-in-Chart-clause-fault : goal.returns-in_err-chart-in-Chart-clause-fault
+returns-in_err-chart-in-Chart-clause-fault g c =
+    let p = err_from_is_err_and c.from_residual-in_err-chart-in-Chart.result c.from_residual-in_err-chart-in-Chart.ensures.1 in
+    rw (p.1, p.2) (against_memory (task_of c.args.job.now) c.args.bytes.now (g.L.Source.remaining c.args.log_in.now) _ _
+    c.in_ok-ended-in-Chart.ensures.no_fault)
