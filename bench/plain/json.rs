@@ -1,7 +1,9 @@
-//! A reader of JSON, as far as modules need it: objects, arrays, plain strings and whole numbers.
+//! A reader of JSON, as far as modules need it: objects, arrays, plain strings and whole numbers of 64 bits.
 
 pub enum Value {
     Number(i64),
+    /// A constant, or any other number.
+    Other,
     Text(String),
     List(Vec<Value>),
     Object(Vec<(String, Value)>),
@@ -78,7 +80,7 @@ impl Reader<'_> {
             Some(b'{') => Value::Object(self.items(b'{', b'}', Reader::member)),
             Some(b'[') => Value::List(self.items(b'[', b']', Reader::value)),
             Some(b'"') => Value::Text(self.word()),
-            _ => Value::Number(self.whole_number()),
+            _ => self.bare(),
         }
     }
 
@@ -114,12 +116,14 @@ impl Reader<'_> {
         String::from_utf8(self.text[start..self.at - 1].to_vec()).expect("UTF-8")
     }
 
-    fn whole_number(&mut self) -> i64 {
+    /// What stands up to the next sign or space.
+    fn bare(&mut self) -> Value {
         let rest = &self.text[self.at..];
-        let is_part = |byte: &u8| byte.is_ascii_digit() || *byte == b'-';
-        let length = rest.iter().take_while(|byte| is_part(byte)).count();
+        let ends = |byte: &u8| b",]} \t\r\n".contains(byte);
+        let length = rest.iter().position(ends).unwrap_or(rest.len());
+        assert!(length > 0, "no value at {}", self.at);
         self.at += length;
-        let digits = std::str::from_utf8(&rest[..length]).expect("digits");
-        digits.parse().unwrap_or_else(|_| panic!("no whole number at {}", self.at))
+        let word = std::str::from_utf8(&rest[..length]).expect("UTF-8");
+        word.parse().map_or(Value::Other, Value::Number)
     }
 }
