@@ -208,8 +208,7 @@ impl<'m> Machine<'m> {
     pub fn run(&mut self, order: Order) {
         let mut before = None;
         while let Some(who) = self.chosen(order, before) {
-            let most = if self.is_alone(order, who) { u64::MAX } else { 1 };
-            self.turn(who, most);
+            self.turn(who, self.is_alone(order, who));
             before = Some(who);
         }
     }
@@ -234,19 +233,27 @@ impl<'m> Machine<'m> {
         }
     }
 
-    /// Local steps of an activity, so many at most, or else its next step, which others see.
-    fn turn(&mut self, who: usize, most: u64) {
-        if self.activities[who].status == Status::Arrived {
-            self.pass(who);
-        } else {
-            let count = self.activities[who].run(&self.module.units, most);
-            self.steps += count;
-            if count == 0 {
-                self.visible(who);
+    /// One step of an activity, or local steps as far as there are any; where it would be chosen again, also those that change nobody else.
+    fn turn(&mut self, who: usize, is_alone: bool) {
+        let most = if is_alone { u64::MAX } else { 1 };
+        loop {
+            let mut goes_on = is_alone;
+            if self.activities[who].status == Status::Arrived {
+                self.pass(who);
+            } else {
+                let count = self.activities[who].run(&self.module.units, most);
+                self.steps += count;
+                if count == 0 {
+                    goes_on &= self.visible(who);
+                }
             }
-        }
-        if self.is_kept(who) {
-            self.enabled.remove(who);
+            if self.is_kept(who) {
+                self.enabled.remove(who);
+                return;
+            }
+            if !goes_on {
+                return;
+            }
         }
     }
 
@@ -277,8 +284,8 @@ impl<'m> Machine<'m> {
         });
     }
 
-    /// A step that others see, of a running activity.
-    fn visible(&mut self, who: usize) {
+    /// A step that others see, of a running activity; whether the same activity can still step, and who else can hasn't changed.
+    fn visible(&mut self, who: usize) -> bool {
         self.steps += 1;
         let op = self.op(who);
         let activity = &mut self.activities[who];
@@ -290,7 +297,12 @@ impl<'m> Machine<'m> {
                 activity.put(slot, self.clocks.len() as i64);
                 let clock = self.clocks.len() as u32;
                 activity.registrations.push(Registration { clock, resumed: OPEN });
-                self.clocks.push(Clock { phase: 0, registered: 1, pending: 1, waiting: Vec::new() });
+                self.clocks.push(Clock {
+                    phase: 0,
+                    registered: 1,
+                    pending: 1,
+                    waiting: Vec::new(),
+                });
             }
             Op::Resume { slot } => {
                 let clock = activity.slot(slot) as u32;
@@ -323,6 +335,10 @@ impl<'m> Machine<'m> {
             Op::Ret => self.end(who),
             _ => unreachable!("a local step"),
         }
+        !matches!(
+            op,
+            Op::Resume { .. } | Op::Drop { .. } | Op::Advance | Op::Spawn { .. } | Op::Ret
+        )
     }
 
     /// A new finish, by the number of one that was closed, if there is any.

@@ -15,29 +15,92 @@ pub struct Args {
 #[derive(Clone, Copy)]
 pub enum Op {
     /// `lit`, and the `for` of a loop.
-    Lit { to: Slot, number: i64 },
-    Copy { to: Slot, from: Slot },
-    Add { to: Slot, left: Slot, right: Slot },
-    Sub { to: Slot, left: Slot, right: Slot },
-    Mul { to: Slot, left: Slot, right: Slot },
-    UnlessEq { left: Slot, right: Slot, target: Place },
-    UnlessNe { left: Slot, right: Slot, target: Place },
-    UnlessLt { left: Slot, right: Slot, target: Place },
-    UnlessLe { left: Slot, right: Slot, target: Place },
-    Jump { target: Place },
-    Next { slot: Slot, begin: Place, high: i64 },
-    Call { unit: u16, args: Args },
-    Make { slot: Slot },
-    Resume { slot: Slot },
-    Drop { slot: Slot },
+    Lit {
+        to: Slot,
+        number: i64,
+    },
+    Copy {
+        to: Slot,
+        from: Slot,
+    },
+    Add {
+        to: Slot,
+        left: Slot,
+        right: Slot,
+    },
+    Sub {
+        to: Slot,
+        left: Slot,
+        right: Slot,
+    },
+    Mul {
+        to: Slot,
+        left: Slot,
+        right: Slot,
+    },
+    UnlessEq {
+        left: Slot,
+        right: Slot,
+        target: Place,
+    },
+    UnlessNe {
+        left: Slot,
+        right: Slot,
+        target: Place,
+    },
+    UnlessLt {
+        left: Slot,
+        right: Slot,
+        target: Place,
+    },
+    UnlessLe {
+        left: Slot,
+        right: Slot,
+        target: Place,
+    },
+    Jump {
+        target: Place,
+    },
+    Next {
+        slot: Slot,
+        begin: Place,
+        high: i64,
+    },
+    Call {
+        unit: u16,
+        args: Args,
+    },
+    Make {
+        slot: Slot,
+    },
+    Resume {
+        slot: Slot,
+    },
+    Drop {
+        slot: Slot,
+    },
     Advance,
     Finish,
     EndFinish,
-    Spawn { unit: u16, args: Args },
-    Print { slot: Slot },
-    Get { to: Slot, shared: u16 },
-    Put { shared: u16, from: Slot },
-    AddTo { shared: u16, from: Slot },
+    Spawn {
+        unit: u16,
+        args: Args,
+    },
+    Print {
+        slot: Slot,
+    },
+    Get {
+        to: Slot,
+        shared: u16,
+    },
+    Put {
+        shared: u16,
+        from: Slot,
+    },
+    AddTo {
+        shared: u16,
+        from: Slot,
+    },
     Ret,
 }
 
@@ -92,7 +155,11 @@ fn decode(instr: &[Value], code: &[Value], args: &mut Vec<Slot>) -> Op {
         "jump" => Op::Jump { target: n(1) },
         "next" => {
             let opening = code[n(1) as usize].list();
-            Op::Next { slot: opening[1].number() as u16, begin: n(1) + 1, high: opening[3].number() }
+            Op::Next {
+                slot: opening[1].number() as u16,
+                begin: n(1) + 1,
+                high: opening[3].number(),
+            }
         }
         "make" => Op::Make { slot: n(1) },
         "resume" => Op::Resume { slot: n(1) },
