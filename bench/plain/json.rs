@@ -1,4 +1,5 @@
-//! A reader of JSON, as far as modules need it: objects, arrays, plain strings and whole numbers of 64 bits.
+//! A reader of JSON, as far as modules need it: objects, arrays, plain strings and whole numbers of
+//! 64 bits.
 
 pub enum Value {
     Number(i64),

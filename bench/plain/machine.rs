@@ -1,7 +1,8 @@
 //! A machine of activities, clocks and finishes. A step is that of docs/DEFINITIONS.md.
 //!
-//! Local steps, which nobody else can see, are carried out many at once. A clock is a phase and two counters. Each activity has its
-//! registrations, and waits on the list of one clock at most. A finish is a counter of those whom it governs.
+//! Local steps, which nobody else can see, are carried out many at once. A clock is a phase and
+//! two counters. Each activity has its registrations, and waits on the list of one clock at most.
+//! A finish is a counter of those whom it governs.
 
 use crate::module::{Args, Module, Op, Unit};
 use crate::set::Set;
@@ -233,7 +234,8 @@ impl<'m> Machine<'m> {
         }
     }
 
-    /// One step of an activity, or local steps as far as there are any; where it would be chosen again, also those that change nobody else.
+    /// One step of an activity. Where it would be chosen again, the steps behind it too, up to one
+    /// that may change who else can step.
     fn turn(&mut self, who: usize, is_alone: bool) {
         let most = if is_alone { u64::MAX } else { 1 };
         loop {
@@ -284,7 +286,8 @@ impl<'m> Machine<'m> {
         });
     }
 
-    /// A step that others see, of a running activity; whether the same activity can still step, and who else can hasn't changed.
+    /// A step that others see, of a running activity. The answer is false where it may have changed
+    /// who else can step.
     fn visible(&mut self, who: usize) -> bool {
         self.steps += 1;
         let op = self.op(who);
@@ -423,7 +426,8 @@ impl<'m> Machine<'m> {
         }
     }
 
-    /// Has an arrived activity wait for a clock that it has resumed and that hasn't advanced since, or go on where there is none.
+    /// Has an arrived activity wait for a clock that it has resumed and that hasn't advanced since,
+    /// or go on where there is none.
     fn rest(&mut self, who: usize) {
         let mut on = self.activities[who].registrations.iter();
         match on.find(|on| on.resumed == self.clocks[on.clock as usize].phase) {

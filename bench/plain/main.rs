@@ -1,4 +1,5 @@
-//! A machine written by hand, for comparison: runs an accepted module and prints what `x10clock run --module` prints.
+//! A machine written by hand, for comparison: runs an accepted module and prints what
+//! `x10clock run --module` prints.
 //!
 //!     rustc -C opt-level=3 --edition 2024 -o plain main.rs
 //!     plain FILE [first|last|round]

@@ -1,4 +1,5 @@
-//! Modules, decoded to instructions of 16 bytes. Only modules that `x10clock check` accepts are read: nothing is checked again.
+//! Modules, decoded to instructions of 16 bytes. Only modules that `x10clock check` accepts are
+//! read: nothing is checked again.
 
 use crate::json::{self, Value};
 

@@ -3,7 +3,8 @@
 const LEVELS: usize = 3;
 
 pub struct Set {
-    /// The lowest level has a bit for each number, each other one a bit for each word below that isn't 0.
+    /// The lowest level has a bit for each number, each other one a bit for each word below that
+    /// isn't 0.
     levels: [Vec<u64>; LEVELS],
 }
 
