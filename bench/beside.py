@@ -4,7 +4,7 @@
     python3 bench/beside.py [PROGRAM] [--only WORD] [--rounds N]
 
 PROGRAM is crates/x10clock/out/x10clock unless another is named. Both have to print the same bytes. Each row has the seconds of processor time
-of each, their ratio, and the most memory of each: the least of three runs, which are made in turn. A run of less than a hundredth of a second
+of each, their ratio, and the most memory of each: the least of three runs, which are made in turn. A run of less than a twentieth of a second
 is marked as short: its ratio says little. Memory counts from what the measuring process held, some 15 MB.
 """
 import argparse
@@ -16,7 +16,7 @@ import tempfile
 from by_hand import TOP, built
 from modules import ROWS
 
-SHORT = 0.01
+SHORT = 0.05
 SECONDS = 600
 
 
