@@ -1,0 +1,111 @@
+"""The modules that the machine written by hand and the program are measured on, each made when it is asked for."""
+import json
+
+
+def module(units, shared=()):
+    return json.dumps({"version": 1, "shared": list(shared), "units": units}, separators=(",", ":"))
+
+
+def unit(kind, slots, code, params=""):
+    return {"kind": kind, "params": params, "slots": slots, "code": code}
+
+
+def counting(turns):
+    """A loop in a loop of 5,000 turns: a sum, and the end of a turn."""
+    code = [["lit", 2, 0], ["for", 0, 1, turns, 5], ["for", 1, 1, 5000, 4], ["add", 2, 2, 1], ["next", 2], ["next", 1], ["print", 2], ["ret"]]
+    return module([unit("main", 3, code)])
+
+
+def calling(turns):
+    """A loop in a loop of 5,000 turns: a method is called with a number."""
+    code = [["for", 0, 1, turns, 4], ["for", 1, 1, 5000, 3], ["call", 1, [1]], ["next", 1], ["next", 0], ["ret"]]
+    return module([unit("main", 2, code), unit("method", 2, [["add", 1, 0, 0], ["ret"]], "n")])
+
+
+def finishing(turns):
+    """A loop in a loop of 5,000 turns: a finish is opened and closed."""
+    code = [["for", 0, 1, turns, 5], ["for", 1, 1, 5000, 4], ["finish", 3], ["endfinish", 2], ["next", 1], ["next", 0], ["ret"]]
+    return module([unit("main", 2, code)])
+
+
+def gathering(count):
+    """Activities one after the other, each in a finish of its own."""
+    code = [["for", 0, 1, count, 4], ["finish", 3], ["spawn", 1, []], ["endfinish", 1], ["next", 0], ["ret"]]
+    return module([unit("main", 1, code), unit("body", 0, [["ret"]])])
+
+
+def starting(count):
+    """Activities that do nothing."""
+    return module([unit("main", 1, [["for", 0, 1, count, 2], ["spawn", 1, []], ["next", 0], ["ret"]]), unit("body", 0, [["ret"]])])
+
+
+def starting_in_finish(count):
+    """Activities that add to a shared number, and one finish round them."""
+    main = [["finish", 4], ["for", 0, 1, count, 3], ["spawn", 1, []], ["next", 1], ["endfinish", 0], ["get", 0, 0], ["print", 0], ["ret"]]
+    return module([unit("main", 1, main), unit("body", 1, [["lit", 0, 1], ["addto", 0, 0], ["ret"]])], [0])
+
+
+def in_step(activities, phases):
+    """Activities on one clock, main among them, and how often each of them advances."""
+    body = [["for", 1, 1, phases, 2], ["advance"], ["next", 0], ["ret"]]
+    main = [["make", 0], ["for", 1, 2, activities, 3], ["spawn", 1, [0]], ["next", 1]]
+    main += [["for", 2, 1, phases, 6], ["advance"], ["next", 4], ["ret"]]
+    return module([unit("main", 3, main), unit("body", 2, body, "c")])
+
+
+def ring(activities, phases):
+    """A ring: each activity is registered on two clocks, of which each neighbour has one. A method makes a clock, starts an activity on
+    the clock before and this one, and calls the next method; the last one closes the ring."""
+    body, chain = activities - 1, activities - 3
+    units = [unit("main", 2, [["make", 0], ["make", 1], ["spawn", body, [0, 1]], ["call", 1, [0, 1]], ["ret"]])]
+    for number in range(1, chain + 1):
+        code = [["make", 2], ["spawn", body, [1, 2]], ["call", number + 1, [0, 2]], ["drop", 2], ["ret"]]
+        units.append(unit("method", 3, code, "cc"))
+    units.append(unit("method", 3, [["make", 2], ["spawn", body, [1, 2]], ["spawn", body, [2, 0]], ["drop", 2], ["ret"]], "cc"))
+    units.append(unit("body", 3, [["for", 2, 1, phases, 2], ["advance"], ["next", 0], ["ret"]], "cc"))
+    return module(units)
+
+
+def clocks_in_turn(count):
+    """A clock in each turn, which advances once and is dropped."""
+    return module([unit("main", 2, [["for", 0, 1, count, 4], ["make", 1], ["advance"], ["drop", 1], ["next", 0], ["ret"]])])
+
+
+def clocks_then_activities(clocks, activities):
+    """Clocks that are made and dropped at once, and then activities."""
+    code = [["for", 0, 1, clocks, 3], ["make", 1], ["drop", 1], ["next", 0], ["for", 0, 1, activities, 6], ["spawn", 1, []], ["next", 4], ["ret"]]
+    return module([unit("main", 2, code), unit("body", 0, [["ret"]])])
+
+
+def clocks_beside_activities(count, phases):
+    """Activities, each with a clock of its own that advances."""
+    body = [["make", 0], ["for", 1, 1, phases, 3], ["advance"], ["next", 1], ["drop", 0], ["ret"]]
+    return module([unit("main", 1, [["for", 0, 1, count, 2], ["spawn", 1, []], ["next", 0], ["ret"]]), unit("body", 2, body)])
+
+
+def waiting(count, phases):
+    """Activities that wait for main on one clock, while two others advance on another one."""
+    slow = [["advance"], ["ret"]]
+    fast = [["for", 1, 1, phases, 2], ["advance"], ["next", 0], ["ret"]]
+    main = [["make", 0], ["make", 1], ["for", 2, 1, count, 4], ["spawn", 1, [0]], ["next", 2]]
+    main += [["spawn", 2, [1]], ["spawn", 2, [1]], ["drop", 1], ["advance"], ["ret"]]
+    return module([unit("main", 3, main), unit("body", 1, slow, "c"), unit("body", 2, fast, "c")])
+
+
+ALL, FIRST, LAST, ROUND = ("first", "last", "round"), ("first",), ("last",), ("round",)
+
+# What is in a row, its module, and the orders in which it is run.
+ROWS = [
+    ("100 million local steps, two loops", lambda: counting(9999), FIRST),
+    ("10 million calls of a method", lambda: calling(2000), FIRST),
+    ("10 million finishes opened and closed", lambda: finishing(2000), FIRST),
+    ("64,000 activities, each in a finish of its own", lambda: gathering(64_000), ALL),
+    ("99,999 starts under one finish", lambda: starting_in_finish(99_999), ALL),
+    ("99,999 starts", lambda: starting(99_999), ALL),
+    ("100 activities on a clock, 10,000 phases", lambda: in_step(100, 10_000), ALL),
+    ("a ring of 90 activities, 2,000 phases", lambda: ring(90, 2_000), ALL),
+    ("100,000 clocks, one after the other", lambda: clocks_in_turn(100_000), FIRST),
+    ("10,000 clocks made and dropped, then 5,000 activities", lambda: clocks_then_activities(10_000, 5_000), ALL),
+    ("10,000 activities, each with a clock of 10 phases", lambda: clocks_beside_activities(10_000, 10), ALL),
+    ("50,000 wait on a clock, another one has 2,000 phases", lambda: waiting(50_000, 2_000), LAST),
+]

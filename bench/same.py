@@ -1,0 +1,86 @@
+#!/usr/bin/env python3
+"""Whether the machine in bench/plain prints what the program prints: on the modules of tests/rows, the accepted rows of tests/answers, and
+modules that nobody wrote (tests/generated.py), in each order, byte for byte.
+
+    python3 bench/same.py [CASES] [SEED] [--program PATH]
+
+400 cases and seed 1 where nothing else is said. The built program is asked where PATH is given; else the second telling of the rules is
+(tests/telling.py).
+"""
+import argparse
+import collections
+import pathlib
+import random
+import subprocess
+import sys
+import tempfile
+
+from by_hand import ORDERS, TOP, built
+
+sys.path.insert(0, str(TOP / "tests"))
+import generated
+import mutations
+import telling
+
+MOST_STEPS, MOST_WORK = 20_000, 2_000_000
+
+
+def row_texts():
+    """The texts of the rows of modules."""
+    for path in sorted((TOP / "tests/answers").glob("*.rows")):
+        if path.name.startswith("sources"):
+            continue
+        rows = [line for line in path.read_text().split("\n") if line and not line.startswith(("#", "run: ", "last: ", "round: "))]
+        yield from map(mutations.row_text, rows[::2])
+
+
+def texts(cases, seed):
+    seeds = mutations.seed_texts(False)
+    yield from seeds
+    yield from row_texts()
+    for case in range(cases):
+        yield generated.case(random.Random(f"{seed} {case}"), seeds)
+
+
+def told(program, judged, path, order):
+    if program is None:
+        return telling.run(judged.module, telling.Order(order)).text()
+    words = [program, "run", "--order", order, "--module", path]
+    return subprocess.run(words, capture_output=True, text=True, check=False).stdout
+
+
+def is_small(bounds):
+    return bounds.steps <= MOST_STEPS and bounds.steps * (bounds.activities + bounds.clocks) <= MOST_WORK
+
+
+def main():
+    parser = argparse.ArgumentParser()
+    parser.add_argument("cases", nargs="?", type=int, default=400)
+    parser.add_argument("seed", nargs="?", type=int, default=1)
+    parser.add_argument("--program")
+    given = parser.parse_args()
+    machine, counts = built(), collections.Counter()
+    with tempfile.NamedTemporaryFile(suffix=".json") as file:
+        for text in texts(given.cases, given.seed):
+            judged = telling.judge(text)
+            # The plain reader knows no escapes: those rows are about the text alone.
+            if not isinstance(judged, telling.Accepted) or b"\\" in text or not is_small(judged.bounds):
+                counts["left out"] += 1
+                continue
+            pathlib.Path(file.name).write_bytes(text)
+            counts["modules"] += 1
+            counts["of them with several activities"] += judged.bounds.activities > 1
+            counts["of them with clocks"] += judged.bounds.clocks > 0
+            for order in ORDERS:
+                wanted = told(given.program, judged, file.name, order)
+                got = subprocess.run([machine, file.name, order], capture_output=True, text=True, check=False)
+                counts["runs"] += 1
+                if got.stdout != wanted:
+                    counts["runs that differ"] += 1
+                    print(f"{order}: {text!r}\n  wanted {wanted!r}\n  got {got}")
+    print(", ".join(f"{count} {name}" for name, count in counts.items()))
+    return 1 if counts["runs that differ"] else 0
+
+
+if __name__ == "__main__":
+    sys.exit(main())
