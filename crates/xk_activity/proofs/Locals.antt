@@ -1,6 +1,7 @@
 -- A local step, by the instruction that the present frame stands at.
 use Rattle.std.specs.Prelude.{slice_index_or}
-use Rattle.std.proofs.Common.{◌≡◌, ℕ, zero, suc, ℤ, ◌<◌, Bool, true, false, cond, List, [], ◌∷◌, length, refl, sym, ap, subst, ◌∙◌, arith, Option, Some, None, slice_get, All}
+use Rattle.std.proofs.lemmas.List.{map_more}
+use Rattle.std.proofs.Common.{get_or, take, ◌+◌, ◌++◌, ◌≡◌, ℕ, zero, suc, ℤ, ◌<◌, Bool, true, false, cond, List, [], ◌∷◌, length, refl, sym, ap, subst, ◌∙◌, arith, Option, Some, None, slice_get, All}
 use Rattle.std.proofs.lemmas.Option.{slice_get_within, get_or_from_slice_get}
 use Rattle.xk_types.specs.declared.names.Value.{Value}
 use Rattle.xk_types.specs.declared.names.Value.TheVariants as value
@@ -83,6 +84,12 @@ clock_there (Some (value.Clock c)) go h = (c, refl, h)
 
 value_there : (slots : List Value) (s : ℕ) (v : Value) → slice_get slots s ≡ Some v → value_at slots s ≡ v
 value_there slots s v e = get_or_from_slice_get slots s v value.Unset e
+
+-- one value more
+pub values_more : (slots : List Value) (args : List ℕ) (i d : ℕ) (v : Value) → i < length args → slice_get slots (get_or args i d) ≡ Some v
+    → values_at slots (take (i + 1) args) ≡ values_at slots (take i args) ++ v ∷ []
+values_more slots args i d v lt there = map_more (value_at slots) args i d lt
+    ∙ ap (λ (x : Value). values_at slots (take i args) ++ x ∷ []) (value_there slots (get_or args i d) v there)
 
 -- arguments that aren't wrong are there: as many as parameters, each in a slot, and the step goes on with their values
 pub arguments_there : {X : Type 0} (slots : List Value) (ps : List ParamKind) (xs : List ℕ) (go : List Value → OutcomeOf X) → IsRight (arguments_in slots ps xs go)

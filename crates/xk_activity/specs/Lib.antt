@@ -4,3 +4,4 @@ pub mod CellLaw
 pub mod Arm
 pub mod Stacked
 pub mod Joined
+pub mod Activities

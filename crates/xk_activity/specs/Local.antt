@@ -204,6 +204,10 @@ local fs = local_at fs (instruction_at fs.module_run fs.frame)
 abbrev pub started : ModuleValue → ℕ → FramesValue
 started m unit = record { module_run = m; frame = start_of m unit; callers = [] }
 
+-- and those where its first slots are given these values
+abbrev pub begun : ModuleValue → ℕ → List Value → FramesValue
+begun m unit values = record { module_run = m; frame = frame_with m unit values; callers = [] }
+
 -- the step was taken
 abbrev pub is_stepped : {X : Type 0} → OutcomeOf X → Bool
 is_stepped Beyond = false

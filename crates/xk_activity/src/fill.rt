@@ -8,6 +8,7 @@ ghost use Rattle.xk_activity.specs.Stacked.{values_at};
 use crate::caller::Caller;
 use crate::cell::Cell;
 use std::alloc::{AllocError, Global};
+use xk_types::Value;
 
 /// This many cells more, to which nothing was written yet.
 pub(crate) fn fill(stack: &mut Vec<Cell>, size: usize)
@@ -31,6 +32,17 @@ pub(crate) fn hand(stack: &mut Vec<Cell>, base: usize, args: &[u16])
     for s in args {
         let cell = stack[base + *s as usize];
         stack.push_reserved(cell);
+    }
+}
+
+/// These values.
+pub(crate) fn put(stack: &mut Vec<Cell>, values: &[Value])
+    requires { vec_len stack.old + length values.now ≤ vec_capacity stack.old }
+    ensures items { stack.new.items ≡ stack.old.items ++ values.now }
+    ensures capacity { vec_capacity stack.new ≡ vec_capacity stack.old }
+{
+    for v in values {
+        stack.push_reserved(Cell::of(*v));
     }
 }
 

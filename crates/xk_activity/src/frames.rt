@@ -1,18 +1,18 @@
 //! The frames of one activity.
 
-ghost use Rattle.std.specs.Prelude.{◌≡◌, ◌⊎◌, ◌+◌, ◌<◌, ◌≤◌, ◌^◌, length, take, drop, Some, IfOk, slice_get};
+ghost use Rattle.std.specs.Prelude.{◌≡◌, ◌⊎◌, ◌+◌, ◌<◌, ◌≤◌, ◌^◌, length, take, drop, Some, IfOk, slice_get, All};
 ghost use Rattle.std.specs.Vec.{vec_capacity};
 ghost use Rattle.xk_types.specs.declared.instr.Instr.{Instr};
 ghost use Rattle.xk_types.specs.Code.{IsWithinLimits};
 ghost use Rattle.xk_types.specs.Shape.{HasShape};
 ghost use Rattle.xk_types.specs.World.{instruction_at, slots_of};
-ghost use Rattle.xk_activity.specs.Local.{Beyond, Stepped, IsRight, IsSafe, local, ran, turn, code_of, spot_of, spot_at, started, called, returning, is_stepped};
+ghost use Rattle.xk_activity.specs.Local.{Beyond, Stepped, IsRight, IsSafe, local, ran, turn, code_of, spot_of, spot_at, started, begun, called, returning, is_stepped};
 ghost use Rattle.xk_activity.specs.Arm.{Answers};
 ghost use Rattle.xk_activity.specs.Stacked.{CanCall, Does, values_at, placed, with_slot};
 
 use crate::caller::Caller;
 use crate::cell::Cell;
-use crate::fill::{copy_callers, copy_cells, fill, hand};
+use crate::fill::{copy_callers, copy_cells, fill, hand, put};
 use crate::flat::{is_flat, one};
 use std::alloc::{AllocError, Global};
 use std::marker::Model;
@@ -106,6 +106,33 @@ impl<'m> Frames<'m> {
         })
     }
 
+    /// One frame of the unit, before its first instruction, its first slots given these values.
+    pub fn begin(
+        alloc: Global,
+        verified: &'m Verified,
+        unit: u16,
+        values: &[Value],
+    ) -> Result<Frames<'m>, AllocError>
+        requires unit { unit < length verified.now.units }
+        requires fits { length values.now ≤ slots_of verified.now unit }
+        ensures { IfOk result (λ f. f ≡ begun verified.now unit values.now) }
+    {
+        let size = size_of(verified, unit);
+        let room = verified.room(unit);
+        let mut stack = Vec::with_capacity(alloc, room.slots as usize)?;
+        put(&mut stack, values);
+        fill(&mut stack, size as usize - values.len());
+        let callers = Vec::with_capacity(alloc, room.frames as usize - 1)?;
+        Ok(Frames {
+            verified,
+            unit,
+            place: 0,
+            base: 0,
+            stack,
+            callers,
+        })
+    }
+
     /// The same frames, with room of their own.
     pub fn copy(&self, alloc: Global) -> Result<Frames<'m>, AllocError>
         ensures { IfOk result (λ f. f ≡ self.now) }
@@ -135,7 +162,7 @@ impl<'m> Frames<'m> {
     }
 
     /// The instruction that the present frame stands at.
-    pub fn next(&self) -> &Instr
+    pub fn next(&self) -> &'m Instr
         requires { (i : Instr)
             × (instruction_at self.now.module_run self.now.frame ≡ Some i) }
         ensures { instruction_at self.now.module_run self.now.frame ≡ Some result.now }
@@ -149,6 +176,19 @@ impl<'m> Frames<'m> {
         ensures { slice_get self.now.frame.slots s ≡ Some result }
     {
         self.stack[self.base + s as usize].value()
+    }
+
+    /// What these slots of the present frame hold.
+    pub fn values(&self, alloc: Global, args: &[u16]) -> Result<Vec<Value>, AllocError>
+        requires { All (λ s. s < length self.now.frame.slots) args.now }
+        ensures { IfOk result (λ v. v.items ≡ values_at self.now.frame.slots args.now) }
+    {
+        let mut values = Vec::with_capacity(alloc, args.len())?;
+        for s in args {
+            let value = self.slot(*s);
+            values.push(value)?;
+        }
+        Ok(values)
     }
 
     /// Writes a slot of the present frame.
@@ -189,7 +229,8 @@ impl<'m> Frames<'m> {
 
     /// Goes back into the nearest frame that waits, behind its `call`, if one does.
     fn leave(&mut self) -> Next
-        ensures { Does (returning self.old self.old.callers) self.old result self.new }
+        ensures does { Does (returning self.old self.old.callers) self.old result self.new }
+        ensures same { self.new.module_run ≡ self.old.module_run }
     {
         match self.callers.pop() {
             Some(c) => {
@@ -208,7 +249,8 @@ impl<'m> Frames<'m> {
         requires right { IsRight (local self.old) }
         requires beyond { turn (code_of self.old.module_run self.old.frame.unit)
             (spot_of self.old.frame) ≡ Beyond }
-        ensures { Does (local self.old) self.old result self.new }
+        ensures does { Does (local self.old) self.old result self.new }
+        ensures same { self.new.module_run ≡ self.old.module_run }
     {
         let code = self.code();
         match &code[self.place] {
@@ -224,7 +266,8 @@ impl<'m> Frames<'m> {
     /// One step, if nobody else can see it. Takes no memory.
     pub fn local(&mut self) -> Next
         requires { IsRight (local self.old) }
-        ensures { Does (local self.old) self.old result self.new }
+        ensures does { Does (local self.old) self.old result self.new }
+        ensures same { self.new.module_run ≡ self.old.module_run }
     {
         let code = self.code();
         match step_top(code, self.place, &mut self.stack, self.base) {
@@ -243,6 +286,7 @@ impl<'m> Frames<'m> {
         ensures ran { ran local self.old result ≡ Stepped self.new }
         ensures most { result ≤ max }
         ensures stops { (result ≡ max) ⊎ (local self.new ≡ Beyond) }
+        ensures same { self.new.module_run ≡ self.old.module_run }
     {
         for n in 0..max {
             match self.local() {

@@ -1,6 +1,8 @@
 //! The frames of one activity, in one stack, and the steps of an activity that nobody else can see.
 #![tactic(auto)]
 
+mod activities;
+mod activity;
 mod caller;
 mod cell;
 mod fill;
@@ -8,4 +10,6 @@ mod flat;
 mod frames;
 pub mod laws;
 
+pub use activities::Activities;
+pub use activity::Activity;
 pub use frames::{Frames, Next};

@@ -3,4 +3,4 @@ use Rattle.xk_activity.specs.Local.{Stepped, ran, local}
 use Rattle.xk_activity.proofs.frames.Frames.run.Given as goal
 
 abbrev pub invariant-loop-n : goal.invariant-loop-n
-invariant-loop-n l = ran local l.initial.self l.n ≡ Stepped l.self
+invariant-loop-n l = (ran local l.initial.self l.n ≡ Stepped l.self) × (l.self.module_run ≡ l.initial.self.module_run)

@@ -1,0 +1,22 @@
+use Rattle.std.proofs.Common.{arith, ◌≡◌, ◌+◌, ◌++◌, length, replicate, ap, ◌∙◌, rules, sym}
+use Rattle.std.specs.Prelude.{reverse}
+use Rattle.std.proofs.lemmas.List.{length-replicate, length-append}
+use Rattle.xk_types.specs.declared.names.Value.TheVariants as value
+use Rattle.xk_activity.proofs.Stacking.{own_room, start_stacked}
+use Rattle.xk_activity.proofs.frames.Frames.begin.Goals as goal
+
+pub put-requires : goal.put-requires
+put-requires c =
+    let o = own_room c.args.verified.now c.args.unit c.size_of-size.ensures.shape c.requires.unit in
+    let e = c.in_ok-stack.ensures.exact in
+    let f = c.room-room.ensures.slots in
+    let l = ap length c.in_ok-stack.ensures.items in
+    search (rules, o.0)
+
+pub fill-requires : goal.fill-requires
+fill-requires c =
+    let o = own_room c.args.verified.now c.args.unit c.size_of-size.ensures.shape c.requires.unit in
+    search (rules, o.0)
+
+pub overflow_sub-room : goal.overflow_sub-room
+overflow_sub-room c = let o = own_room c.args.verified.now c.args.unit c.size_of-size.ensures.shape c.requires.unit in search (rules, o.1)

@@ -1,0 +1,279 @@
+//! All activities of a running program, but for their finishes.
+
+ghost use Rattle.std.specs.Prelude.{◌≡◌, ℤ, ℕ, ◌+◌, ◌<◌, ◌≤◌, [], ◌∷◌, ◌++◌, length, map, Some, slice_get, slice_set, option_map, All, IfOk, OnOk};
+ghost use Rattle.std.specs.List.{list_all};
+ghost use Rattle.std.specs.Vec.{vec_capacity};
+ghost use Rattle.xk_types.specs.declared.names.Value.TheVariants as value;
+ghost use Rattle.xk_types.specs.World.{instruction_at, slots_of, main_of, is_ended};
+ghost use Rattle.xk_types.specs.Step.{slot_at, onward, with_slots, arrived, ended, past};
+ghost use Rattle.xk_activity.specs.Local.{IsRight, IsSafe, local, is_stepped, begun};
+ghost use Rattle.xk_activity.specs.Joined.{frames_in};
+ghost use Rattle.xk_activity.specs.Stacked.{values_at};
+ghost use Rattle.xk_activity.specs.Activities.{fresh, act_at, with_act_at, Stands, Takes, Runs};
+
+use crate::activity::Activity;
+use crate::frames::{Frames, Next};
+use std::alloc::{AllocError, Global};
+use std::marker::Model;
+use xk_bounds::Verified;
+use xk_types::{ClockId, Instr, Status, Value};
+
+/// The activities of one module by their numbers, but for their finishes.
+#[derive(Drop)]
+pub struct Activities<'m> {
+    verified: &'m Verified,
+    list: Vec<Activity<'m>>,
+}
+
+impl<'m> Model for Activities<'m> {
+    ghost use Rattle.std.specs.Prelude.{All};
+    ghost use Rattle.std.specs.Vec.{vec_capacity};
+    ghost use Rattle.xk_activity.specs.Activities.{ActivitiesValue, acts, RunsModule};
+
+    ghost Value = { ActivitiesValue };
+
+    ghost view = { λ s. record {
+      module_run = s.verified.now;
+      list = acts s.list.items;
+      room = vec_capacity s.list;
+    } };
+
+    ghost invariant = { λ s. All (RunsModule s.verified.now) s.list.items };
+}
+
+impl<'m> Activities<'m> {
+    /// Main alone, before its first step.
+    pub fn open(alloc: Global, verified: &'m Verified) -> Result<Activities<'m>, AllocError>
+        ensures module { IfOk result (λ s. s.module_run ≡ verified.now) }
+        ensures main { IfOk result (λ s. s.list ≡ main_of verified.now ∷ []) }
+    {
+        let main = Frames::start(alloc, verified, 0)?;
+        let mut list = Vec::with_capacity(alloc, 1)?;
+        list.push_reserved(Activity::new(main, 0));
+        Ok(Activities { verified, list })
+    }
+
+    /// The module that they run.
+    pub fn verified(&self) -> &'m Verified
+        ensures { result.now ≡ self.now.module_run }
+    {
+        self.verified
+    }
+
+    /// How many there are.
+    pub fn len(&self) -> usize
+        ensures { result ≡ length self.now.list }
+    {
+        self.list.len()
+    }
+
+    /// Whether activity a runs, waits at an `advance`, or is over.
+    pub fn status(&self, a: usize) -> Status
+        requires { a < length self.now.list }
+        ensures { result ≡ (act_at self.now.list a).status }
+    {
+        let act = &self.list[a];
+        act.status()
+    }
+
+    /// The number of the step of its last pass; before the first, what it began with.
+    pub fn since(&self, a: usize) -> u64
+        requires { a < length self.now.list }
+        ensures { result ≡ (act_at self.now.list a).since }
+    {
+        let act = &self.list[a];
+        act.since()
+    }
+
+    /// Its frames.
+    pub fn frames(&self, a: usize) -> &Frames<'m>
+        requires { a < length self.now.list }
+        ensures { result.now ≡ frames_in self.now.module_run (act_at self.now.list a) }
+    {
+        let act = &self.list[a];
+        act.frames()
+    }
+
+    /// The instruction that it stands at.
+    pub fn next(&self, a: usize) -> &'m Instr
+        requires there { a < length self.now.list }
+        requires stands { Stands self.now.module_run (act_at self.now.list a) }
+        ensures { instruction_at self.now.module_run (act_at self.now.list a).frame
+            ≡ Some result.now }
+    {
+        let act = &self.list[a];
+        act.next()
+    }
+
+    /// The number in a slot of it that holds one.
+    pub fn number(&self, a: usize, s: u16) -> i64
+        requires there { a < length self.now.list }
+        requires number { (n : ℤ) × (slot_at (act_at self.now.list a) s ≡ Some (value.Number n)) }
+        ensures { slot_at (act_at self.now.list a) s ≡ Some (value.Number result) }
+    {
+        let act = &self.list[a];
+        act.number(s)
+    }
+
+    /// The clock that a slot of it names which names one.
+    pub fn clock(&self, a: usize, s: u16) -> ClockId
+        requires there { a < length self.now.list }
+        requires clock { (c : ℕ) × (slot_at (act_at self.now.list a) s ≡ Some (value.Clock c)) }
+        ensures { slot_at (act_at self.now.list a) s ≡ Some (value.Clock result) }
+    {
+        let act = &self.list[a];
+        act.clock(s)
+    }
+
+    /// What these slots of it hold.
+    pub fn values(
+        &self,
+        alloc: Global,
+        a: usize,
+        args: &[u16],
+    ) -> Result<Vec<Value>, AllocError>
+        requires there { a < length self.now.list }
+        requires slots { All (λ s. s < length (act_at self.now.list a).frame.slots) args.now }
+        ensures { IfOk result
+            (λ v. v.items ≡ values_at (act_at self.now.list a).frame.slots args.now) }
+    {
+        let act = &self.list[a];
+        act.values(alloc, args)
+    }
+
+    /// It goes on to the next instruction.
+    pub fn go_on(&mut self, a: usize)
+        requires there { a < length self.old.list }
+        requires stands { Stands self.old.module_run (act_at self.old.list a) }
+        ensures { self.new ≡ with_act_at self.old a (onward (act_at self.old.list a)) }
+    {
+        let act = &mut self.list[a];
+        act.go_on();
+    }
+
+    /// It writes a slot, and goes on to the next instruction.
+    pub fn write(&mut self, a: usize, d: u16, v: Value)
+        requires there { a < length self.old.list }
+        requires stands { Stands self.old.module_run (act_at self.old.list a) }
+        requires slot { d < length (act_at self.old.list a).frame.slots }
+        ensures { self.new ≡ with_act_at self.old a (onward (with_slots (act_at self.old.list a)
+            (slice_set (act_at self.old.list a).frame.slots d v))) }
+    {
+        let act = &mut self.list[a];
+        act.write(d, v);
+    }
+
+    /// It comes to wait at an `advance`.
+    pub fn arrive(&mut self, a: usize)
+        requires { a < length self.old.list }
+        ensures { self.new ≡ with_act_at self.old a (arrived (act_at self.old.list a)) }
+    {
+        let act = &mut self.list[a];
+        act.arrive();
+    }
+
+    /// It is over.
+    pub fn end(&mut self, a: usize)
+        requires { a < length self.old.list }
+        ensures { self.new ≡ with_act_at self.old a (ended (act_at self.old.list a)) }
+    {
+        let act = &mut self.list[a];
+        act.end();
+    }
+
+    /// It goes on behind an `advance`, in the step of this number.
+    pub fn pass(&mut self, a: usize, now: u64)
+        requires there { a < length self.old.list }
+        requires stands { Stands self.old.module_run (act_at self.old.list a) }
+        ensures { self.new ≡ with_act_at self.old a (past (act_at self.old.list a) now) }
+    {
+        let act = &mut self.list[a];
+        act.pass(now);
+    }
+
+    /// One step of it, if nobody else can see it. Takes no memory.
+    #[inline(always)]
+    pub fn local(&mut self, a: usize) -> Next
+        requires there { a < length self.old.list }
+        requires right { IsRight (local (frames_in self.old.module_run
+            (act_at self.old.list a))) }
+        ensures takes { Takes self.old.module_run (act_at self.old.list a) result
+            (act_at self.new.list a) }
+        ensures others { self.new ≡ with_act_at self.old a (act_at self.new.list a) }
+    {
+        let act = &mut self.list[a];
+        act.local()
+    }
+
+    /// Up to max steps of it that nobody else can see, and how many they were: max, or as many as there are before one that others
+    /// can see. Takes no memory.
+    pub fn run(&mut self, a: usize, max: u32) -> u32
+        requires there { a < length self.old.list }
+        requires safe { IsSafe local (frames_in self.old.module_run (act_at self.old.list a)) }
+        ensures runs { Runs self.old.module_run (act_at self.old.list a) max result
+            (act_at self.new.list a) }
+        ensures others { self.new ≡ with_act_at self.old a (act_at self.new.list a) }
+        ensures most { result ≤ max }
+    {
+        let act = &mut self.list[a];
+        act.run(max)
+    }
+
+    /// Whether nobody else can see the next step of it.
+    pub fn is_local(&self, a: usize) -> bool
+        requires there { a < length self.now.list }
+        requires right { IsRight (local (frames_in self.now.module_run
+            (act_at self.now.list a))) }
+        ensures { result ≡ is_stepped (local (frames_in self.now.module_run
+            (act_at self.now.list a))) }
+    {
+        let act = &self.list[a];
+        act.is_local()
+    }
+
+    /// What activity a starts that runs this unit with these values.
+    pub fn child(
+        &self,
+        alloc: Global,
+        a: usize,
+        unit: u16,
+        values: &[Value],
+    ) -> Result<Activity<'m>, AllocError>
+        requires there { a < length self.now.list }
+        requires unit { unit < length self.now.module_run.units }
+        requires fits { length values.now ≤ slots_of self.now.module_run unit }
+        ensures module { IfOk result (λ x. x.module_run ≡ self.now.module_run) }
+        ensures activity { IfOk result (λ x. x.act ≡ fresh
+            (begun self.now.module_run unit values.now) (act_at self.now.list a).since) }
+    {
+        let frames = Frames::begin(alloc, self.verified, unit, values)?;
+        Ok(Activity::new(frames, self.since(a)))
+    }
+
+    /// Room for one activity more than there are, at least.
+    pub fn reserve(&mut self) -> Result<(), AllocError>
+        ensures module { self.new.module_run ≡ self.old.module_run }
+        ensures list { self.new.list ≡ self.old.list }
+        ensures reserved { OnOk result (length self.new.list < self.new.room) }
+    {
+        self.list.try_reserve(1)
+    }
+
+    /// One more, which was made by `child`.
+    pub fn admit(&mut self, child: Activity<'m>)
+        requires room { length self.old.list < self.old.room }
+        requires same { start.child.module_run ≡ self.old.module_run }
+        ensures { self.new ≡ record self.old { list = self.old.list ++ child.entry.act ∷ [] } }
+    {
+        self.list.push_reserved(child);
+    }
+
+    /// Whether all are over.
+    pub fn all_ended(&self) -> bool
+        ensures { result ≡ list_all (λ act. is_ended act.status) self.now.list }
+    {
+        self.list
+            .iter()
+            .all(|act| matches!(act.status(), Status::Ended))
+    }
+}

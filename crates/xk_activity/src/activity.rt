@@ -1,0 +1,187 @@
+//! One activity, but for its finishes.
+
+ghost use Rattle.std.specs.Prelude.{◌≡◌, ℤ, ℕ, ◌+◌, ◌<◌, ◌≤◌, length, map, Some, slice_set, All, IfOk};
+ghost use Rattle.xk_types.specs.declared.names.Value.TheVariants as value;
+ghost use Rattle.xk_types.specs.World.{instruction_at};
+ghost use Rattle.xk_types.specs.Step.{slot_at, onward, with_slots, arrived, ended, past};
+ghost use Rattle.xk_activity.specs.Local.{IsRight, IsSafe, local, is_stepped};
+ghost use Rattle.xk_activity.specs.Joined.{frames_in};
+ghost use Rattle.xk_activity.specs.Stacked.{values_at};
+ghost use Rattle.xk_activity.specs.Activities.{fresh, with_act, Stands, Takes, Runs};
+
+use crate::frames::{Frames, Next};
+use std::alloc::{AllocError, Global};
+use std::marker::Model;
+use xk_types::{ClockId, Instr, Status, Value};
+
+/// An activity: its frames, and how it stands. What it has to do with finishes is kept elsewhere; it stands for an activity that
+/// has none open, and is governed by main's.
+#[derive(Drop)]
+pub struct Activity<'m> {
+    frames: Frames<'m>,
+    status: Status,
+    since: u64,
+}
+
+impl<'m> Model for Activity<'m> {
+    ghost use Rattle.xk_types.specs.World.{root};
+    ghost use Rattle.xk_activity.specs.Activities.{ActivityValue};
+
+    ghost Value = { ActivityValue };
+
+    ghost view = { λ a. record {
+      module_run = a.frames.module_run;
+      act = record {
+        frame = a.frames.frame;
+        callers = a.frames.callers;
+        status = a.status;
+        since = a.since;
+        opened = 0;
+        governed = root;
+      };
+    } };
+}
+
+impl<'m> Activity<'m> {
+    /// One with these frames, before its first step. `since` is the number of its starter's last pass.
+    pub(crate) fn new(frames: Frames<'m>, since: u64) -> Activity<'m>
+        ensures module { result.module_run ≡ frames.entry.module_run }
+        ensures activity { result.act ≡ fresh frames.entry since }
+    {
+        Activity {
+            frames,
+            status: Status::Running,
+            since,
+        }
+    }
+
+    /// Whether it runs, waits at an `advance`, or is over.
+    pub(crate) fn status(&self) -> Status
+        ensures { result ≡ self.now.act.status }
+    {
+        self.status
+    }
+
+    /// The number of the step of its last pass; before the first, what it began with.
+    pub(crate) fn since(&self) -> u64
+        ensures { result ≡ self.now.act.since }
+    {
+        self.since
+    }
+
+    /// Its frames.
+    pub(crate) fn frames(&self) -> &Frames<'m>
+        ensures { result.now ≡ frames_in self.now.module_run self.now.act }
+    {
+        &self.frames
+    }
+
+    /// The instruction that it stands at.
+    pub(crate) fn next(&self) -> &'m Instr
+        requires { Stands self.now.module_run self.now.act }
+        ensures { instruction_at self.now.module_run self.now.act.frame ≡ Some result.now }
+    {
+        self.frames.next()
+    }
+
+    /// The number in a slot that holds one.
+    pub(crate) fn number(&self, s: u16) -> i64
+        requires { (n : ℤ) × (slot_at self.now.act s ≡ Some (value.Number n)) }
+        ensures { slot_at self.now.act s ≡ Some (value.Number result) }
+    {
+        match self.frames.slot(s) {
+            Value::Number(n) => n,
+            _ => unreachable!(),
+        }
+    }
+
+    /// The clock that a slot names which names one.
+    pub(crate) fn clock(&self, s: u16) -> ClockId
+        requires { (c : ℕ) × (slot_at self.now.act s ≡ Some (value.Clock c)) }
+        ensures { slot_at self.now.act s ≡ Some (value.Clock result) }
+    {
+        match self.frames.slot(s) {
+            Value::Clock(c) => c,
+            _ => unreachable!(),
+        }
+    }
+
+    /// What these slots hold.
+    pub(crate) fn values(&self, alloc: Global, args: &[u16]) -> Result<Vec<Value>, AllocError>
+        requires { All (λ s. s < length self.now.act.frame.slots) args.now }
+        ensures { IfOk result (λ v. v.items ≡ values_at self.now.act.frame.slots args.now) }
+    {
+        self.frames.values(alloc, args)
+    }
+
+    /// On to the next instruction.
+    pub(crate) fn go_on(&mut self)
+        requires { Stands self.old.module_run self.old.act }
+        ensures { self.new ≡ with_act self.old (onward self.old.act) }
+    {
+        self.frames.go();
+    }
+
+    /// Writes a slot, and goes on to the next instruction.
+    pub(crate) fn write(&mut self, d: u16, v: Value)
+        requires stands { Stands self.old.module_run self.old.act }
+        requires slot { d < length self.old.act.frame.slots }
+        ensures { self.new ≡ with_act self.old
+            (onward (with_slots self.old.act (slice_set self.old.act.frame.slots d v))) }
+    {
+        self.frames.go();
+        self.frames.set(d, v);
+    }
+
+    /// Comes to wait at an `advance`.
+    pub(crate) fn arrive(&mut self)
+        ensures { self.new ≡ with_act self.old (arrived self.old.act) }
+    {
+        self.status = Status::Arrived;
+    }
+
+    /// Is over.
+    pub(crate) fn end(&mut self)
+        ensures { self.new ≡ with_act self.old (ended self.old.act) }
+    {
+        self.status = Status::Ended;
+    }
+
+    /// Goes on behind an `advance`, in the step of this number.
+    pub(crate) fn pass(&mut self, now: u64)
+        requires { Stands self.old.module_run self.old.act }
+        ensures { self.new ≡ with_act self.old (past self.old.act now) }
+    {
+        self.frames.go();
+        self.status = Status::Running;
+        self.since = now;
+    }
+
+    /// One step, if nobody else can see it.
+    #[inline(always)]
+    pub(crate) fn local(&mut self) -> Next
+        requires { IsRight (local (frames_in self.old.module_run self.old.act)) }
+        ensures takes { Takes self.old.module_run self.old.act result self.new.act }
+        ensures same { self.new.module_run ≡ self.old.module_run }
+    {
+        self.frames.local()
+    }
+
+    /// Up to max steps that nobody else can see, and how many they were.
+    pub(crate) fn run(&mut self, max: u32) -> u32
+        requires { IsSafe local (frames_in self.old.module_run self.old.act) }
+        ensures runs { Runs self.old.module_run self.old.act max result self.new.act }
+        ensures most { result ≤ max }
+        ensures same { self.new.module_run ≡ self.old.module_run }
+    {
+        self.frames.run(max)
+    }
+
+    /// Whether nobody else can see the next step.
+    pub(crate) fn is_local(&self) -> bool
+        requires { IsRight (local (frames_in self.now.module_run self.now.act)) }
+        ensures { result ≡ is_stepped (local (frames_in self.now.module_run self.now.act)) }
+    {
+        self.frames.is_local()
+    }
+}
