@@ -4,3 +4,4 @@ pub mod Stacking
 pub mod Locals
 pub mod Joined
 pub mod Reached
+pub mod Acts

@@ -4,12 +4,12 @@ ghost use Rattle.std.specs.Prelude.{◌≡◌, ℤ, ℕ, ◌+◌, ◌<◌, ◌�
 ghost use Rattle.std.specs.List.{list_all};
 ghost use Rattle.std.specs.Vec.{vec_capacity};
 ghost use Rattle.xk_types.specs.declared.names.Value.TheVariants as value;
-ghost use Rattle.xk_types.specs.World.{instruction_at, slots_of, main_of, is_ended};
-ghost use Rattle.xk_types.specs.Step.{slot_at, onward, with_slots, arrived, ended, past};
-ghost use Rattle.xk_activity.specs.Local.{IsRight, IsSafe, local, is_stepped, begun};
+ghost use Rattle.xk_types.specs.World.{instruction_at, slots_of, main_of, is_ended, root};
+ghost use Rattle.xk_types.specs.Step.{governing, child, slot_at, onward, with_slots, arrived, ended, past};
+ghost use Rattle.xk_activity.specs.Local.{IsRight, IsSafe, local, is_stepped};
 ghost use Rattle.xk_activity.specs.Joined.{frames_in};
 ghost use Rattle.xk_activity.specs.Stacked.{values_at};
-ghost use Rattle.xk_activity.specs.Activities.{fresh, act_at, with_act_at, Stands, Takes, Runs};
+ghost use Rattle.xk_activity.specs.Activities.{act_at, with_act_at, Stands, Takes, Runs};
 
 use crate::activity::Activity;
 use crate::frames::{Frames, Next};
@@ -41,12 +41,21 @@ impl<'m> Model for Activities<'m> {
     ghost invariant = { λ s. All (RunsModule s.verified.now) s.list.items };
 }
 
+/// Whether all of these are over.
+fn all_over<'m>(list: &[Activity<'m>]) -> bool
+    ensures { result ≡ list_all (λ x. is_ended x.act.status) list.now }
+{
+    list.iter().all(|act| act.is_ended())
+}
+
 impl<'m> Activities<'m> {
     /// Main alone, before its first step.
     pub fn open(alloc: Global, verified: &'m Verified) -> Result<Activities<'m>, AllocError>
         ensures module { IfOk result (λ s. s.module_run ≡ verified.now) }
         ensures main { IfOk result (λ s. s.list ≡ main_of verified.now ∷ []) }
     {
+        let program = verified.module();
+        let _main = &program.units()[0];
         let main = Frames::start(alloc, verified, 0)?;
         let mut list = Vec::with_capacity(alloc, 1)?;
         list.push_reserved(Activity::new(main, 0));
@@ -79,7 +88,9 @@ impl<'m> Activities<'m> {
     /// The number of the step of its last pass; before the first, what it began with.
     pub fn since(&self, a: usize) -> u64
         requires { a < length self.now.list }
-        ensures { result ≡ (act_at self.now.list a).since }
+        ensures since { result ≡ (act_at self.now.list a).since }
+        // It has opened no finish, and main's governs it.
+        ensures governs { (b : ℕ) → governing b (act_at self.now.list a) ≡ root }
     {
         let act = &self.list[a];
         act.since()
@@ -126,12 +137,7 @@ impl<'m> Activities<'m> {
     }
 
     /// What these slots of it hold.
-    pub fn values(
-        &self,
-        alloc: Global,
-        a: usize,
-        args: &[u16],
-    ) -> Result<Vec<Value>, AllocError>
+    pub fn values(&self, alloc: Global, a: usize, args: &[u16]) -> Result<Vec<Value>, AllocError>
         requires there { a < length self.now.list }
         requires slots { All (λ s. s < length (act_at self.now.list a).frame.slots) args.now }
         ensures { IfOk result
@@ -232,7 +238,7 @@ impl<'m> Activities<'m> {
     }
 
     /// What activity a starts that runs this unit with these values.
-    pub fn child(
+    pub fn begin(
         &self,
         alloc: Global,
         a: usize,
@@ -243,8 +249,8 @@ impl<'m> Activities<'m> {
         requires unit { unit < length self.now.module_run.units }
         requires fits { length values.now ≤ slots_of self.now.module_run unit }
         ensures module { IfOk result (λ x. x.module_run ≡ self.now.module_run) }
-        ensures activity { IfOk result (λ x. x.act ≡ fresh
-            (begun self.now.module_run unit values.now) (act_at self.now.list a).since) }
+        ensures activity { (b : ℕ) → IfOk result (λ x. x.act
+            ≡ child self.now.module_run b (act_at self.now.list a) unit values.now) }
     {
         let frames = Frames::begin(alloc, self.verified, unit, values)?;
         Ok(Activity::new(frames, self.since(a)))
@@ -259,21 +265,19 @@ impl<'m> Activities<'m> {
         self.list.try_reserve(1)
     }
 
-    /// One more, which was made by `child`.
-    pub fn admit(&mut self, child: Activity<'m>)
+    /// One more, which `begin` made.
+    pub fn admit(&mut self, new: Activity<'m>)
         requires room { length self.old.list < self.old.room }
-        requires same { start.child.module_run ≡ self.old.module_run }
-        ensures { self.new ≡ record self.old { list = self.old.list ++ child.entry.act ∷ [] } }
+        requires same { new.module_run ≡ self.old.module_run }
+        ensures { self.new ≡ record self.old { list = self.old.list ++ new.entry.act ∷ [] } }
     {
-        self.list.push_reserved(child);
+        self.list.push_reserved(new);
     }
 
     /// Whether all are over.
     pub fn all_ended(&self) -> bool
         ensures { result ≡ list_all (λ act. is_ended act.status) self.now.list }
     {
-        self.list
-            .iter()
-            .all(|act| matches!(act.status(), Status::Ended))
+        all_over(&self.list)
     }
 }

@@ -2,8 +2,8 @@
 
 ghost use Rattle.std.specs.Prelude.{◌≡◌, ℤ, ℕ, ◌+◌, ◌<◌, ◌≤◌, length, map, Some, slice_set, All, IfOk};
 ghost use Rattle.xk_types.specs.declared.names.Value.TheVariants as value;
-ghost use Rattle.xk_types.specs.World.{instruction_at};
-ghost use Rattle.xk_types.specs.Step.{slot_at, onward, with_slots, arrived, ended, past};
+ghost use Rattle.xk_types.specs.World.{instruction_at, is_ended, root};
+ghost use Rattle.xk_types.specs.Step.{governing, slot_at, onward, with_slots, arrived, ended, past};
 ghost use Rattle.xk_activity.specs.Local.{IsRight, IsSafe, local, is_stepped};
 ghost use Rattle.xk_activity.specs.Joined.{frames_in};
 ghost use Rattle.xk_activity.specs.Stacked.{values_at};
@@ -62,9 +62,18 @@ impl<'m> Activity<'m> {
         self.status
     }
 
+    /// Whether it is over.
+    pub(crate) fn is_ended(&self) -> bool
+        ensures { result ≡ is_ended self.now.act.status }
+    {
+        matches!(self.status, Status::Ended)
+    }
+
     /// The number of the step of its last pass; before the first, what it began with.
     pub(crate) fn since(&self) -> u64
-        ensures { result ≡ self.now.act.since }
+        ensures since { result ≡ self.now.act.since }
+        // It has opened no finish, and main's governs it.
+        ensures governs { (a : ℕ) → governing a self.now.act ≡ root }
     {
         self.since
     }

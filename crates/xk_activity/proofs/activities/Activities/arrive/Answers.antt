@@ -1,0 +1,8 @@
+use Rattle.std.specs.Vec.{vec_capacity}
+use Rattle.xk_types.specs.Step.{arrived}
+use Rattle.xk_activity.proofs.Acts.{changed_by}
+use Rattle.xk_activity.proofs.activities.Activities.arrive.Goals as goal
+
+pub returns : goal.returns
+returns c = changed_by c.self.inside.verified.now c.self.inside.list.items (vec_capacity c.self.inside.list) c.args.a c.index_mut-act.result.now c.args.self.now c.self.view_is
+    c.requires c.index_mut-act.ensures.value c.arrive.new.self arrived c.arrive.ensures
