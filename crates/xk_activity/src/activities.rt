@@ -69,6 +69,11 @@ impl<'m> Activities<'m> {
         self.verified
     }
 
+    /// What their memory is taken from.
+    pub fn allocator(&self) -> Global {
+        *self.list.allocator()
+    }
+
     /// How many there are.
     pub fn len(&self) -> usize
         ensures { result ≡ length self.now.list }
