@@ -11,36 +11,37 @@ def unit(kind, slots, code, params=""):
 
 
 def counting(turns):
-    """A loop in a loop of 5,000 turns: a sum, and the end of a turn."""
+    """A loop in a loop: a sum, and the end of a turn; two steps for each turn of the inner one."""
     code = [["lit", 2, 0], ["for", 0, 1, turns, 5], ["for", 1, 1, 5000, 4], ["add", 2, 2, 1], ["next", 2], ["next", 1], ["print", 2], ["ret"]]
     return module([unit("main", 3, code)])
 
 
 def calling(turns):
-    """A loop in a loop of 5,000 turns: a method is called with a number."""
+    """A loop in a loop that calls a method with a number: the call, a sum, the `ret` and the end of a turn are four steps."""
     code = [["for", 0, 1, turns, 4], ["for", 1, 1, 5000, 3], ["call", 1, [1]], ["next", 1], ["next", 0], ["ret"]]
     return module([unit("main", 2, code), unit("method", 2, [["add", 1, 0, 0], ["ret"]], "n")])
 
 
 def finishing(turns):
-    """A loop in a loop of 5,000 turns: a finish is opened and closed."""
+    """A loop in a loop that opens a finish and closes it: with the end of a turn three steps."""
     code = [["for", 0, 1, turns, 5], ["for", 1, 1, 5000, 4], ["finish", 3], ["endfinish", 2], ["next", 1], ["next", 0], ["ret"]]
     return module([unit("main", 2, code)])
 
 
 def gathering(count):
-    """Activities one after the other, each in a finish of its own."""
+    """A loop that waits in each turn for an activity that it starts, in a finish of its own."""
     code = [["for", 0, 1, count, 4], ["finish", 3], ["spawn", 1, []], ["endfinish", 1], ["next", 0], ["ret"]]
     return module([unit("main", 1, code), unit("body", 0, [["ret"]])])
 
 
 def starting(count):
-    """Activities that do nothing."""
+    """A loop that starts an activity in each turn: `for (i in 1..count) async { }`. Its steps are two for each turn, one for each
+    activity, and two."""
     return module([unit("main", 1, [["for", 0, 1, count, 2], ["spawn", 1, []], ["next", 0], ["ret"]]), unit("body", 0, [["ret"]])])
 
 
 def starting_in_finish(count):
-    """Activities that add to a shared number, and one finish round them."""
+    """The same with a finish round the loop, and a shared number to which each activity adds one."""
     main = [["finish", 4], ["for", 0, 1, count, 3], ["spawn", 1, []], ["next", 1], ["endfinish", 0], ["get", 0, 0], ["print", 0], ["ret"]]
     return module([unit("main", 1, main), unit("body", 1, [["lit", 0, 1], ["addto", 0, 0], ["ret"]])], [0])
 
