@@ -5,3 +5,5 @@ pub mod Cores
 pub mod Told
 pub mod Governing
 pub mod Finishing
+pub mod Visible
+pub mod Locally

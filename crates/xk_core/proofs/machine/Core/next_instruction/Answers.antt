@@ -7,4 +7,4 @@ use Rattle.xk_core.proofs.machine.Core.next_instruction.Goals as goal
 pub returns : goal.returns
 returns c = subst (λ (v : CoreValue). option_copied c.next_instruction.result ≡ next_instruction v.module_run v.world c.args.a) c.self.view_is
     (rw (← c.module.ensures.same) c.next_instruction.ensures
-    ∙ sym (next_told c.self.inside.verified.now c.self.inside.finishes c.self.inside.state c.self.invariant.1.width c.args.a))
+    ∙ sym (next_told c.self.inside.state.module_run c.self.inside.finishes c.self.inside.state.world c.self.invariant.1.width c.args.a))
