@@ -3,3 +3,4 @@ pub mod Arm
 pub mod Able
 pub mod Core
 pub mod Told
+pub mod Reserved

@@ -8,7 +8,7 @@ ghost use Rattle.xk_types.specs.Bound.{steps_bound};
 ghost use Rattle.xk_core.specs.Core.{is_running, Locally, IsBeyond, next_instruction, next_of, governor, opening_core, StepsTo, WantsMemory, IsCore, IsLeastEnabled, is_about_to_start, is_quiet, is_registered_on};
 ghost use Rattle.xk_core.specs.Able.{is_kept};
 ghost use Rattle.xk_core.specs.Told.{is_end};
-ghost use Rattle.xk_core.specs.Arm.{grows, concerns_finishes, is_visible, IsLast};
+ghost use Rattle.xk_core.specs.Arm.{concerns_finishes, is_visible, IsLast};
 ghost use Rattle.xk_types.specs.declared.instr.Instr.TheVariants as instruction;
 
 use crate::change::is_registered;
@@ -209,8 +209,8 @@ impl<'m> Core<'m> {
         self.state.next_instruction(a)
     }
 
-    /// One step of the activity, and what it is seen to do. Only the making of a clock and the start of an activity want memory;
-    /// where that is refused the core is as before.
+    /// One step of the activity, and what it is seen to do. Only the start of an activity wants memory; where that is refused the
+    /// core is as before.
     #[inline(always)]
     pub fn step(&mut self, act: Act) -> Result<Event, AllocError>
         requires { IsTrue (is_enabled self.old.module_run self.old.world act) }
@@ -222,6 +222,7 @@ impl<'m> Core<'m> {
         ensures refused { OnErr result (self.new ≡ self.old) }
         ensures only_where_it_grows { OnErr result (WantsMemory self.old act) }
     {
+        let _state = &self.state;
         self.take(act)
     }
 
@@ -268,7 +269,7 @@ impl<'m> Core<'m> {
             Instr::Finish(e) => Ok(self.open_finish(act, *e)),
             Instr::EndFinish(b) => Ok(self.close_finish(act, *b)),
             Instr::Spawn(unit, args) => self.start(act, *unit, args),
-            instr => self.carry_out(act, instr),
+            instr => Ok(self.carry_out(act, instr)),
         }
     }
 
@@ -314,33 +315,31 @@ impl<'m> Core<'m> {
         ensures same_module { self.new.module_run ≡ self.old.module_run }
         ensures refused { OnErr result (self.new ≡ self.old) }
     {
-        let room = self.state.verified().room(unit).finishes;
+        let most = self.state.verified().room(unit);
         self.state.spawn(
             &mut self.finishes,
             act.0 as usize,
             unit,
             args.slots(),
-            room,
+            most,
         )
     }
 
     /// The activity carries out an instruction that opens or closes no finish, and starts no activity.
     #[inline(always)]
-    fn carry_out(&mut self, act: Act, instr: &Instr) -> Result<Event, AllocError>
+    fn carry_out(&mut self, act: Act, instr: &Instr) -> Event
         requires enabled { is_enabled self.old.module_run self.old.world act ≡ true }
         requires here { next_of self.old act ≡ Some instr.now }
         requires visible { is_visible instr.now ≡ true }
         requires plain { concerns_finishes instr.now ≡ false }
         requires last { instr.now ≡ instruction.Ret → IsLast self.old.world act }
-        ensures stepped { IfOk result (StepsTo self.old act self.new) }
+        ensures stepped { StepsTo self.old act self.new result }
         ensures same_module { self.new.module_run ≡ self.old.module_run }
-        ensures refused { OnErr result (self.new ≡ self.old) }
-        ensures only_where_it_grows { OnErr result (grows instr.now ≡ true) }
     {
-        let event = self.state.carry_out(act.0 as usize, instr)?;
+        let event = self.state.carry_out(act.0 as usize, instr);
         if is_end(event) {
             self.finishes.ended(act);
         }
-        Ok(event)
+        event
     }
 }
