@@ -316,13 +316,7 @@ impl<'m> Core<'m> {
         ensures refused { OnErr result (self.new ≡ self.old) }
     {
         let most = self.state.verified().room(unit);
-        self.state.spawn(
-            &mut self.finishes,
-            act.0 as usize,
-            unit,
-            args.slots(),
-            most,
-        )
+        self.state.spawn(&mut self.finishes, act.0 as usize, unit, args.slots(), most)
     }
 
     /// The activity carries out an instruction that opens or closes no finish, and starts no activity.

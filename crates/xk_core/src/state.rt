@@ -236,9 +236,11 @@ impl<'m> State<'m> {
 
     /// Activity a reads a shared number into slot d.
     fn get(&mut self, a: usize, d: u16, s: u16) -> Event
-        requires enabled { is_step (carried self.old.module_run self.old.world a (instruction.Get d s)) ≡ true }
+        requires enabled { is_step
+            (carried self.old.module_run self.old.world a (instruction.Get d s)) ≡ true }
         requires room { IsRoomy self.old.module_run self.old.world a }
-        ensures stepped { CarriesOut self.old.module_run self.old.world a (instruction.Get d s) self.new.world result }
+        ensures stepped { CarriesOut self.old.module_run self.old.world a (instruction.Get d s)
+            self.new.world result }
         ensures same { self.new.module_run ≡ self.old.module_run }
     {
         let n = cell(&self.cells, s);
@@ -249,9 +251,11 @@ impl<'m> State<'m> {
 
     /// Activity a writes the number in slot x to a shared number.
     fn put(&mut self, a: usize, s: u16, x: u16) -> Event
-        requires enabled { is_step (carried self.old.module_run self.old.world a (instruction.Put s x)) ≡ true }
+        requires enabled { is_step
+            (carried self.old.module_run self.old.world a (instruction.Put s x)) ≡ true }
         requires room { IsRoomy self.old.module_run self.old.world a }
-        ensures stepped { CarriesOut self.old.module_run self.old.world a (instruction.Put s x) self.new.world result }
+        ensures stepped { CarriesOut self.old.module_run self.old.world a (instruction.Put s x)
+            self.new.world result }
         ensures same { self.new.module_run ≡ self.old.module_run }
     {
         let n = self.activities.number(a, x);
@@ -263,9 +267,11 @@ impl<'m> State<'m> {
 
     /// Activity a adds the number in slot x to a shared number, in one step.
     fn add_to(&mut self, a: usize, s: u16, x: u16) -> Event
-        requires enabled { is_step (carried self.old.module_run self.old.world a (instruction.AddTo s x)) ≡ true }
+        requires enabled { is_step
+            (carried self.old.module_run self.old.world a (instruction.AddTo s x)) ≡ true }
         requires room { IsRoomy self.old.module_run self.old.world a }
-        ensures stepped { CarriesOut self.old.module_run self.old.world a (instruction.AddTo s x) self.new.world result }
+        ensures stepped { CarriesOut self.old.module_run self.old.world a (instruction.AddTo s x)
+            self.new.world result }
         ensures same { self.new.module_run ≡ self.old.module_run }
     {
         let n = self.activities.number(a, x);
@@ -277,10 +283,12 @@ impl<'m> State<'m> {
 
     /// Activity a makes a clock, for which there is room, and puts its name into slot d.
     fn make(&mut self, a: usize, d: u16) -> Event
-        requires enabled { is_step (carried self.old.module_run self.old.world a (instruction.Make d)) ≡ true }
+        requires enabled { is_step
+            (carried self.old.module_run self.old.world a (instruction.Make d)) ≡ true }
         requires room { IsRoomy self.old.module_run self.old.world a }
         requires left { HasRoomLeft self.old.module_run self.old.world a }
-        ensures stepped { CarriesOut self.old.module_run self.old.world a (instruction.Make d) self.new.world result }
+        ensures stepped { CarriesOut self.old.module_run self.old.world a (instruction.Make d)
+            self.new.world result }
         ensures same { self.new.module_run ≡ self.old.module_run }
     {
         let name = self.standings.make(a);
@@ -294,9 +302,9 @@ impl<'m> State<'m> {
         requires there { a < length self.old.world.activities }
         requires room { IsRoomy self.old.module_run self.old.world a }
         ensures { self.new ≡ with_world self.old (settled (record self.old.world {
-            activities = slice_set self.old.world.activities a
-                (onward (act_at self.old.world.activities a));
-            clocks = moved a none self.old.world.clocks;
+          activities = slice_set self.old.world.activities a
+              (onward (act_at self.old.world.activities a));
+          clocks = moved a none self.old.world.clocks;
         })) }
     {
         self.activities.go_on(a);
@@ -314,7 +322,8 @@ impl<'m> State<'m> {
         most: Room,
     ) -> Result<Event, AllocError>
         requires enabled { is_step
-            (carried self.old.module_run self.old.world a (instruction.Spawn unit args.now)) ≡ true }
+            (carried self.old.module_run self.old.world a (instruction.Spawn unit args.now))
+            ≡ true }
         requires room { IsRoomy self.old.module_run self.old.world a }
         requires with_finishes { length finishes.old ≡ length self.old.world.activities }
         requires runs { (node_at finishes.old a).ended ≡ false }
@@ -322,7 +331,8 @@ impl<'m> State<'m> {
         requires limits { IsWithinLimits self.old.module_run }
         requires places { stack_of self.old.module_run unit ≤ most.slots }
         ensures started { IfOk result
-            (CarriesOut self.old.module_run self.old.world a (instruction.Spawn unit args.now) self.new.world) }
+            (CarriesOut self.old.module_run self.old.world a
+            (instruction.Spawn unit args.now) self.new.world) }
         ensures same { self.new.module_run ≡ self.old.module_run }
         ensures finishes { OnOk result
             (finishes.new ≡ finishes.old

@@ -79,10 +79,16 @@ invariant_of-self-2 c =
     let places : (rooms_of c.admit.new.self).places ≡ (rooms_of c.self.inside.standings).places ++ room ∷ [] =
     c.admit.ensures.places ∙ ap (λ (l : List ℕ). l ++ room ∷ []) c.reserve-2.ensures.places in
     let most : stack_of m c.args.unit ≤ c.args.most.slots = subst (λ (v : CoreValue). stack_of v.module_run c.args.unit ≤ c.args.most.slots) (sym c.self.view_is) c.requires.places in
-    let fits : stack_of m (base_unit new) ≤ room = omega (arith, most, c.in_ok-registrations.ensures.places) in
-    (
-      omega (arith, c.admit.ensures.activities, ap (λ (l : List (List Registration)). length l) c.reserve-2.ensures.held, c.self.invariant.0,
-          ap (λ (l : List Activity). length l) acts, length_push (slice_set w.activities c.args.a (onward act)) new, length-set w.activities c.args.a (onward act)),
+    let fits : stack_of m (base_unit new) ≤ room = omega (arith, most, c.in_ok-registrations.ensures.places) in (
+      omega (
+        arith,
+        c.admit.ensures.activities,
+        ap (λ (l : List (List Registration)). length l) c.reserve-2.ensures.held,
+        c.self.invariant.0,
+        ap (λ (l : List Activity). length l) acts,
+        length_push (slice_set w.activities c.args.a (onward act)) new,
+        length-set w.activities c.args.a (onward act),
+      ),
       subst (λ k. AreReserved k c.admit-2.new.self.list (rooms_of c.admit.new.self)) (sym same)
           (reserved_more m w.activities c.admit-2.new.self.list (rooms_of c.self.inside.standings) (rooms_of c.admit.new.self) c.args.a room (onward act) new c.self.invariant.1
           (onward_base act (onward act) refl refl) acts clocks places fits),
