@@ -22,7 +22,7 @@ use Rattle.xk_activity.specs.declared.frames.Next.{Next}
 use Rattle.xk_activity.specs.declared.frames.Next.TheVariants as next
 use Rattle.xk_activity.specs.Local as frames
 use Rattle.xk_activity.specs.Joined.{frames_in}
-use Rattle.xk_activity.specs.Activities.{ActivitiesValue, act_at, with_act_at, nobody, Takes}
+use Rattle.xk_activity.specs.Activities.{ActivitiesValue, act_at, with_act_at, nobody, Takes, Runs}
 use Rattle.xk_core.specs.Core.{next_instruction}
 use Rattle.xk_core.specs.Reserved.{AreReserved}
 use Rattle.xk_core.specs.Told.{with_node, with_finishes}
@@ -162,6 +162,19 @@ module _ (fs : frames.FramesValue) where
   local_keeps : (o : Option Instr) → Keeps base (frames.local_at fs o)
   local_keeps None = tt
   local_keeps (Some i) = carried_keeps i
+
+-- nor do any number of them
+ran_keeps : (fs : frames.FramesValue) (n : ℕ) → Keeps (base fs) (frames.ran frames.local fs n)
+ran_keeps fs zero = refl
+ran_keeps fs (suc n) = by (frames.ran frames.local fs n) (ran_keeps fs n)
+  where
+    by : (o : frames.Outcome) → Keeps (base fs) o → Keeps (base fs) (frames.then_step frames.local o)
+    by frames.Beyond h = tt
+    by frames.Wrong h = tt
+    by (frames.Stepped gs) h = subst (λ b. Keeps b (frames.local gs)) h (local_keeps gs (instruction_at gs.module_run gs.frame))
+
+pub runs_base : (m : ModuleValue) (x y : Activity) (max n : ℕ) → Runs m x max n y → base_unit y ≡ base_unit x
+runs_base m x y max n r = ap base_unit r.is ∙ subst (Keeps (base_unit x)) r.ran (ran_keeps (frames_in m x) n)
 
 pub takes_base : (m : ModuleValue) (x y : Activity) (n : Next) → Takes m x n y → base_unit y ≡ base_unit x
 takes_base m x y next.Stepped t = ap base_unit t.2 ∙ subst (Keeps (base_unit x)) t.1 (local_keeps (frames_in m x) (instruction_at m x.frame))
