@@ -7,3 +7,5 @@ pub mod Governing
 pub mod Finishing
 pub mod Visible
 pub mod Locally
+pub mod Stretch
+pub mod Ahead

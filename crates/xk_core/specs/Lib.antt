@@ -2,4 +2,5 @@ pub mod Change
 pub mod Arm
 pub mod Able
 pub mod Core
+pub mod Stretch
 pub mod Told

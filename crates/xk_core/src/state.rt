@@ -1,6 +1,6 @@
 //! The world of a running program, but for its finishes, and the arms of its steps.
 
-ghost use Rattle.std.specs.Prelude.{◌≡◌, ℤ, ◌+◌, ◌<◌, ◌^◌, true, false, ◌∷◌, [], ◌++◌, Some, length, slice_get, slice_set, option_copied, option_map, IfOk, OnOk, OnErr, All};
+ghost use Rattle.std.specs.Prelude.{◌≡◌, ℤ, ◌+◌, ◌<◌, ◌≤◌, ◌^◌, true, false, ◌∷◌, [], ◌++◌, Some, length, slice_get, slice_set, option_copied, option_map, IfOk, OnOk, OnErr, All};
 ghost use Rattle.xk_types.specs.declared.names.Value.TheVariants as value;
 ghost use Rattle.xk_types.specs.declared.instr.Instr.TheVariants as instruction;
 ghost use Rattle.xk_types.specs.Code.{IsWithinLimits};
@@ -11,6 +11,8 @@ ghost use Rattle.xk_finishes.specs.Tree.{node_at, fresh_node, governing_of};
 ghost use Rattle.xk_activity.specs.Activities.{act_at, Stands, Takes};
 ghost use Rattle.xk_activity.specs.Local.{IsRight, local};
 ghost use Rattle.xk_activity.specs.Joined.{frames_in};
+ghost use Rattle.xk_activity.specs.Local.{IsSafe, is_stepped};
+ghost use Rattle.xk_core.specs.Stretch.{HasRoomForSteps, TakesSteps};
 ghost use Rattle.xk_core.specs.Able.{is_able};
 ghost use Rattle.xk_core.specs.Core.{is_quiet, is_running, next_instruction, with_world, TakesStep};
 ghost use Rattle.xk_core.specs.Change.{standing_after_step, AllowsChange};
@@ -20,7 +22,7 @@ ghost use Rattle.xk_types.specs.World as world;
 use crate::change::{StandingChange, StepChange};
 use std::alloc::{AllocError, Global};
 use std::marker::Model;
-use xk_activity::{Activities, Next};
+use xk_activity::{Activities, Frames, Next};
 use xk_bounds::Verified;
 use xk_finishes::FinishTree;
 use xk_standings::Standings;
@@ -289,9 +291,9 @@ impl<'m> State<'m> {
         requires there { a < length self.old.world.activities }
         requires room { IsRoomy self.old.module_run self.old.world a }
         ensures { self.new ≡ with_world self.old (settled (record self.old.world {
-            activities = slice_set self.old.world.activities a
-                (onward (act_at self.old.world.activities a));
-            clocks = moved a none self.old.world.clocks;
+          activities = slice_set self.old.world.activities a
+              (onward (act_at self.old.world.activities a));
+          clocks = moved a none self.old.world.clocks;
         })) }
     {
         self.activities.go_on(a);
@@ -436,7 +438,8 @@ impl<'m> State<'m> {
     /// The instruction that activity a carries out next, if it runs.
     #[inline(always)]
     pub fn next_instruction(&self, a: usize) -> Option<&'m Instr>
-        requires { Stands self.now.module_run (act_at self.now.world.activities a) }
+        requires { a < length self.now.world.activities
+            → Stands self.now.module_run (act_at self.now.world.activities a) }
         ensures { option_copied result ≡ next_instruction self.now.module_run self.now.world a }
     {
         match self.runs(a) {
@@ -473,5 +476,41 @@ impl<'m> State<'m> {
                 Status::Ended => false,
             },
         }
+    }
+
+    /// Whether nobody else can see the next step of running activity a.
+    #[inline(always)]
+    pub fn is_local(&self, a: usize) -> bool
+        requires there { a < length self.now.world.activities }
+        requires right { IsRight (local (frames_in self.now.module_run
+            (act_at self.now.world.activities a))) }
+        ensures { result ≡ is_stepped (local (frames_in self.now.module_run
+            (act_at self.now.world.activities a))) }
+    {
+        self.activities.is_local(a)
+    }
+
+    /// The frames of activity a.
+    pub fn frames(&self, a: usize) -> &Frames<'m>
+        requires { a < length self.now.world.activities }
+        ensures { result.now ≡ frames_in self.now.module_run
+            (act_at self.now.world.activities a) }
+    {
+        self.activities.frames(a)
+    }
+
+    /// Up to max steps of running activity a that nobody else can see, and how many they were. No clock is ready to advance, and none
+    /// becomes so. Takes no memory.
+    pub fn run(&mut self, a: usize, max: u32) -> u32
+        requires there { a < length self.old.world.activities }
+        requires safe { IsSafe local (frames_in self.old.module_run
+            (act_at self.old.world.activities a)) }
+        requires steps { HasRoomForSteps self.old a }
+        ensures runs { TakesSteps self.old a max result self.new }
+        ensures most { result ≤ max }
+    {
+        let n = self.activities.run(a, max);
+        self.steps += n as u64;
+        n
     }
 }
