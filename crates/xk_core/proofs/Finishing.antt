@@ -248,7 +248,7 @@ told_set m ns xs a k x y t found now ks width here others = record {
     by b n z p q (inr differs) = t.each b n z (sym (others b differs) ∙ p) (sym (get-set_other xs a b y differs) ∙ q)
 
 -- the same tree
-told_stays : (m : ModuleValue) (ns : List NodeValue) (xs : List Activity) (a : ℕ) (n : NodeValue) (x y : Activity) → AreTold m ns xs → slice_get ns a ≡ Some n
+pub told_stays : (m : ModuleValue) (ns : List NodeValue) (xs : List Activity) (a : ℕ) (n : NodeValue) (x y : Activity) → AreTold m ns xs → slice_get ns a ≡ Some n
     → slice_get xs a ≡ Some x
     → is_ended y.status ≡ is_ended x.status → base_unit y ≡ base_unit x → AreTold m ns (slice_set xs a y)
 told_stays m ns xs a n x y t here found st base = told_set m ns xs a n x y t found

@@ -9,3 +9,5 @@ pub mod Visible
 pub mod Locally
 pub mod Beyond
 pub mod Reserving
+pub mod Stretch
+pub mod Ahead

@@ -1,11 +1,14 @@
 //! The core: a module that the verifier accepted, and a world that a legal schedule of it reaches.
 
-ghost use Rattle.std.specs.Prelude.{◌≡◌, true, false, ◌+◌, ◌<◌, ◌≤◌, Some, None, length, option_map, option_copied, slice_get, IsTrue, IfOk, IfSome, IfNone, OnOk, OnErr};
+ghost use Rattle.std.specs.Prelude.{◌≡◌, ◌⊎◌, true, false, ◌+◌, ◌<◌, ◌≤◌, Some, None, length, option_map, option_copied, slice_get, IsTrue, IfOk, IfSome, IfNone, OnOk, OnErr};
 ghost use Rattle.xk_types.specs.World.{opening};
 ghost use Rattle.xk_types.specs.Step.{Stepped, step};
 ghost use Rattle.xk_types.specs.Schedule.{IsReached, is_enabled, all_ended};
 ghost use Rattle.xk_types.specs.Bound.{steps_bound};
-ghost use Rattle.xk_core.specs.Core.{is_running, Locally, IsBeyond, next_instruction, next_of, governor, opening_core, StepsTo, WantsMemory, IsCore, IsLeastEnabled, is_about_to_start, is_quiet, is_registered_on};
+ghost use Rattle.xk_core.specs.Core.{is_running, Locally, IsBeyond, next_instruction, next_of, governor, opening_core, StepsTo, WantsMemory, IsCore, IsLeastEnabled, is_about_to_start, is_quiet, is_registered_on, is_next_local};
+ghost use Rattle.xk_core.specs.Stretch.{RunsTo, AreLocal, IsUnseen};
+ghost use Rattle.xk_activity.specs.Activities.{act_at};
+ghost use Rattle.xk_activity.specs.Joined.{frames_in};
 ghost use Rattle.xk_core.specs.Able.{is_kept};
 ghost use Rattle.xk_core.specs.Told.{is_end};
 ghost use Rattle.xk_core.specs.Arm.{concerns_finishes, is_visible, IsLast};
@@ -15,7 +18,7 @@ use crate::change::is_registered;
 use crate::state::State;
 use std::alloc::{AllocError, Global};
 use std::marker::Model;
-use xk_activity::Next;
+use xk_activity::{Frames, Next};
 use xk_bounds::Verified;
 use xk_finishes::FinishTree;
 use xk_types::{Act, Args, ClockId, Event, Instr};
@@ -199,6 +202,43 @@ impl<'m> Core<'m> {
         ensures { result ≡ governor self.now.world act }
     {
         self.finishes.governor(act)
+    }
+
+    /// Whether nobody else can see the next step of the activity. It can take that step then.
+    #[inline(always)]
+    pub fn next_local(&self, act: Act) -> bool
+        ensures { result ≡ is_next_local self.now act }
+    {
+        match self.state.runs(act.0 as usize) {
+            true => self.state.is_local(act.0 as usize),
+            false => false,
+        }
+    }
+
+    /// The frames of the activity.
+    pub fn frames(&self, act: Act) -> &Frames<'m>
+        requires { act < length self.now.world.activities }
+        ensures { result.now ≡ frames_in self.now.module_run
+            (act_at self.now.world.activities act) }
+    {
+        self.state.frames(act.0 as usize)
+    }
+
+    /// Up to max steps of the activity that nobody else can see, and how many they were: max, or as many as there are before one that
+    /// others can see, or that it can't take. Takes no memory.
+    pub fn run(&mut self, act: Act, max: u32) -> u32
+        ensures ran { RunsTo self.old act result self.new }
+        ensures local { AreLocal self.old act result }
+        ensures unseen { IsUnseen self.old act result }
+        ensures counted { self.new.world.steps ≡ self.old.world.steps + result }
+        ensures most { result ≤ max }
+        ensures stops { (result ≡ max) ⊎ (is_next_local self.new act ≡ false) }
+        ensures same_module { self.new.module_run ≡ self.old.module_run }
+    {
+        match self.state.runs(act.0 as usize) {
+            true => self.state.run(act.0 as usize, max),
+            false => 0,
+        }
     }
 
     /// The instruction that activity a carries out next, if it runs.

@@ -10,9 +10,10 @@ ghost use Rattle.xk_types.specs.Schedule.{is_step, all_ended};
 ghost use Rattle.xk_types.specs.Bound.{stack_of};
 ghost use Rattle.xk_finishes.specs.Tree.{node_at, fresh_node, governing_of};
 ghost use Rattle.xk_activity.specs.Activities.{act_at, Stands, Takes};
-ghost use Rattle.xk_activity.specs.Local.{IsRight, local};
+ghost use Rattle.xk_activity.specs.Local.{IsRight, IsSafe, local, is_stepped};
 ghost use Rattle.xk_activity.specs.Joined.{frames_in};
 ghost use Rattle.xk_rooms.specs.Rooms.{HasRoomLeft};
+ghost use Rattle.xk_core.specs.Stretch.{HasRoomForSteps, TakesSteps};
 ghost use Rattle.xk_core.specs.Able.{is_able};
 ghost use Rattle.xk_core.specs.Core.{is_quiet, is_running, next_instruction, with_world, TakesStep};
 ghost use Rattle.xk_core.specs.Change.{standing_after_step, AllowsChange};
@@ -22,7 +23,7 @@ ghost use Rattle.xk_types.specs.World as world;
 use crate::change::{StandingChange, StepChange};
 use std::alloc::{AllocError, Global};
 use std::marker::Model;
-use xk_activity::{Activities, Next};
+use xk_activity::{Activities, Frames, Next};
 use xk_bounds::{Room, Verified};
 use xk_finishes::FinishTree;
 use xk_standings::Standings;
@@ -453,7 +454,8 @@ impl<'m> State<'m> {
     /// The instruction that activity a carries out next, if it runs.
     #[inline(always)]
     pub fn next_instruction(&self, a: usize) -> Option<&'m Instr>
-        requires { Stands self.now.module_run (act_at self.now.world.activities a) }
+        requires { a < length self.now.world.activities
+            → Stands self.now.module_run (act_at self.now.world.activities a) }
         ensures { option_copied result ≡ next_instruction self.now.module_run self.now.world a }
     {
         match self.runs(a) {
@@ -490,5 +492,41 @@ impl<'m> State<'m> {
                 Status::Ended => false,
             },
         }
+    }
+
+    /// Whether nobody else can see the next step of running activity a.
+    #[inline(always)]
+    pub fn is_local(&self, a: usize) -> bool
+        requires there { a < length self.now.world.activities }
+        requires right { IsRight (local (frames_in self.now.module_run
+            (act_at self.now.world.activities a))) }
+        ensures { result ≡ is_stepped (local (frames_in self.now.module_run
+            (act_at self.now.world.activities a))) }
+    {
+        self.activities.is_local(a)
+    }
+
+    /// The frames of activity a.
+    pub fn frames(&self, a: usize) -> &Frames<'m>
+        requires { a < length self.now.world.activities }
+        ensures { result.now ≡ frames_in self.now.module_run
+            (act_at self.now.world.activities a) }
+    {
+        self.activities.frames(a)
+    }
+
+    /// Up to max steps of running activity a that nobody else can see, and how many they were. No clock is ready to advance, and none
+    /// becomes so. Takes no memory.
+    pub fn run(&mut self, a: usize, max: u32) -> u32
+        requires there { a < length self.old.world.activities }
+        requires safe { IsSafe local (frames_in self.old.module_run
+            (act_at self.old.world.activities a)) }
+        requires steps { HasRoomForSteps self.old a }
+        ensures runs { TakesSteps self.old a max result self.new }
+        ensures most { result ≤ max }
+    {
+        let n = self.activities.run(a, max);
+        self.steps += n as u64;
+        n
     }
 }
