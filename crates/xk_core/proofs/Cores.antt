@@ -1,5 +1,5 @@
 -- What holds of a core, by the law.
-use Rattle.std.proofs.Common.{◌≡◌, ℕ, ◌+◌, ◌<◌, ◌≤◌, ◌^◌, true, false, not, ◌&&◌, List, [], ◌∷◌, length, Option, Some, None, Result, Ok, Err, OnOk, slice_get, slice_index_or, All, arith, refl, ap, ◌∙◌}
+use Rattle.std.proofs.Common.{◌≡◌, ℕ, ◌+◌, ◌<◌, ◌≤◌, ◌^◌, true, false, not, ◌&&◌, List, [], ◌∷◌, length, Option, Some, None, Result, Ok, Err, OnOk, OnErr, slice_get, slice_index_or, All, arith, refl, ap, ◌∙◌}
 use Rattle.std.proofs.lemmas.Option.{slice_get-get_or, get_or_from_slice_get, slice_get_within}
 use Rattle.xk_types.specs.declared.names.Event.{Event}
 use Rattle.xk_types.specs.declared.names.Status.{Status}
@@ -107,3 +107,13 @@ core_clocks m w core = omega (arith, (reached_room m core.limits core.accepted w
 pub at_ok : {A E : Type 0} (P : Type 0) (r : Result A E) → P → OnOk r P
 at_ok P (Ok x) p = p
 at_ok P (Err e) p = tt
+
+-- and at Err
+pub at_err : {A E : Type 0} (P : Type 0) (r : Result A E) → P → OnErr r P
+at_err P (Ok x) p = tt
+at_err P (Err e) p = p
+
+-- what follows from what holds at Err
+pub err_on : {A E : Type 0} (P Q : Type 0) (r : Result A E) → (P → Q) → OnErr r P → OnErr r Q
+err_on P Q (Ok x) f h = tt
+err_on P Q (Err e) f h = f h

@@ -7,5 +7,7 @@ pub mod Governing
 pub mod Finishing
 pub mod Visible
 pub mod Locally
+pub mod Beyond
+pub mod Reserving
 pub mod Stretch
 pub mod Ahead

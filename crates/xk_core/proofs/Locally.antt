@@ -2,7 +2,7 @@
 use Rattle.std.proofs.Common.{◌≡◌, ℕ, ◌<◌, Bool, true, false, List, length, Option, Some, None, refl, sym, ap, ◌∙◌, subst, slice_get, slice_set}
 use Rattle.std.specs.Option.{option_map_or}
 use Rattle.std.proofs.lemmas.Bool.{false≢true}
-use Rattle.std.proofs.lemmas.Option.{slice_get_within, get_or_from_slice_get}
+use Rattle.std.proofs.lemmas.Option.{same_Some, slice_get_within, get_or_from_slice_get}
 use Rattle.xk_types.specs.declared.instr.Instr.{Instr}
 use Rattle.xk_types.specs.declared.instr.Instr.TheVariants as instr
 use Rattle.xk_types.specs.declared.names.Status.{Status}
@@ -20,9 +20,10 @@ use Rattle.xk_activity.specs.Joined.{frames_in, with_frames, IsLocally, Agrees}
 use Rattle.xk_activity.specs.Activities.{Stands, act_at, nobody}
 use Rattle.xk_activity.proofs.Joined.{joined}
 use Rattle.xk_activity.proofs.Reached.{reached_safe}
-use Rattle.xk_core.specs.Arm.{concerns_finishes, carried}
-use Rattle.xk_core.specs.Core.{CoreValue, IsCore, TakesStep, Locally, is_running, runs_now, next_instruction, instruction_of, instruction_by}
+use Rattle.xk_core.specs.Arm.{concerns_finishes, is_visible, carried, IsLast}
+use Rattle.xk_core.specs.Core.{CoreValue, IsCore, TakesStep, Locally, IsBeyond, is_running, runs_now, next_instruction, instruction_of, instruction_by}
 use Rattle.xk_core.specs.Told.{with_node, with_nodes, with_finishes, AreTold}
+use Rattle.xk_core.proofs.Beyond.{visible_there, nobody_waits}
 use Rattle.xk_core.proofs.Cores.{carry_step}
 use Rattle.xk_core.proofs.Finishing.{At, Nobody, Somebody, told_at, IsHeld, held_on, parts_roomy, carry_enabled, carry_stepped}
 
@@ -82,6 +83,23 @@ module _ (m : ModuleValue) (ns : List NodeValue) (w : World) (a : ℕ) (h : IsHe
     at_next : next_instruction m (with_finishes ns w) a ≡ Some at.0
     at_next = ap (instruction_of m) r.both ∙ ap (instruction_by m (with_node r.n r.x)) r.running ∙ at.1
 
+    pub here_next : (i : Instr) → instruction_at m (act_at w.activities a).frame ≡ Some i → next_instruction m (with_finishes ns w) a ≡ Some i
+    here_next i e = ap (instruction_of m) r.both ∙ ap (instruction_by m (with_node r.n r.x)) r.running ∙ subst (λ (x : Activity). instruction_at m x.frame ≡ Some i) act_is e
+
+    -- where others can see its next step
+    module _ (beyond : IsBeyond (record { module_run = m; world = with_finishes ns w }) a) (i : Instr)
+        (here : instruction_at m (act_at w.activities a).frame ≡ Some i) where
+      seen : frames.carried_on (frames_in m r.x) i ≡ frames.Beyond
+      seen = sym (ap (frames.local_at (frames_in m r.x)) (subst (λ (x : Activity). instruction_at m x.frame ≡ Some i) act_is here))
+          ∙ subst (λ x. frames.local (frames_in m x) ≡ frames.Beyond) (get_or_from_slice_get (with_nodes ns w.activities) a (with_node r.n r.x) nobody r.both) beyond
+
+      pub beyond_visible : is_visible i ≡ true
+      beyond_visible = visible_there (frames_in m r.x) i seen
+
+      pub beyond_last : i ≡ instr.Ret → IsLast (with_finishes ns w) a
+      beyond_last ret act there = ap (λ (x : Activity). x.callers) (same_Some act (with_node r.n r.x) (sym there ∙ r.both))
+          ∙ nobody_waits (frames_in m r.x) r.x.callers (subst (λ j. frames.carried_on (frames_in m r.x) j ≡ frames.Beyond) ret seen)
+
     module _ (enabled : is_enabled m (with_finishes ns w) a ≡ true) where
       local_goes : (fs : frames.FramesValue) → frames.local (frames_in m (act_at w.activities a)) ≡ frames.Stepped fs → (v : World)
           → v ≡ settled (record w { activities = slice_set w.activities a (with_frames (act_at w.activities a) fs); clocks = moved a none w.clocks })
@@ -115,3 +133,27 @@ module _ (m : ModuleValue) (ns : List NodeValue) (w : World) (a : ℕ) (h : IsHe
           ap (λ (c : CoreValue). record { module_run = c.module_run; world = with_finishes ns c.world }) t.1,
         ),
       )
+
+-- ---- whether it runs
+
+-- also without finishes
+pub running_told : (ns : List NodeValue) (w : World) → length ns ≡ length w.activities → (a : ℕ) → is_running (with_finishes ns w) a ≡ is_running w a
+running_told ns w width a = by (told_at ns w.activities width a)
+  where
+    by : At ns w.activities a → is_running (with_finishes ns w) a ≡ is_running w a
+    by (Nobody e g) = ap (λ o. option_map_or (λ (act : Activity). runs_now act.status) o false) (g ∙ sym e)
+    by (Somebody n x k e g) = ap (λ o. option_map_or (λ (act : Activity). runs_now act.status) o false) g
+        ∙ sym (ap (λ o. option_map_or (λ (act : Activity). runs_now act.status) o false) e)
+
+-- who doesn't has no next instruction
+pub none_next : (m : ModuleValue) (w : World) (a : ℕ) → is_running w a ≡ false → next_instruction m w a ≡ None
+none_next m w a h = by (slice_get w.activities a) h
+  where
+    go : (act : Activity) (s : Status) → runs_now s ≡ false → instruction_by m act s ≡ None
+    go act status.Running q = absurd (false≢true (sym q))
+    go act status.Arrived q = refl
+    go act status.Ended q = refl
+
+    by : (o : Option Activity) → option_map_or (λ (act : Activity). runs_now act.status) o false ≡ false → instruction_of m o ≡ None
+    by None q = refl
+    by (Some act) q = go act act.status q

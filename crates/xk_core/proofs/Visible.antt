@@ -1,5 +1,5 @@
 -- From a step of the definition to what the arms of the state owe, and back.
-use Rattle.std.proofs.Common.{◌≡◌, ℕ, ℤ, ◌<◌, ◌≤◌, Bool, List, subst, arith, true, false, cond, length, Option, Some, None, slice_get, refl, sym, ap, ◌∙◌}
+use Rattle.std.proofs.Common.{◌≡◌, ℕ, ℤ, ◌<◌, ◌≤◌, Bool, List, subst, arith, true, false, cond, length, Option, Some, None, slice_get, slice_set, refl, sym, ap, ◌∙◌}
 use Rattle.std.proofs.lemmas.Option.{slice_get-get_or, slice_get_within, get_or_from_slice_get}
 use Rattle.std.proofs.lemmas.Bool.{false≢true}
 use Rattle.xk_types.specs.declared.instr.Instr.{Instr}
@@ -11,7 +11,7 @@ use Rattle.xk_types.specs.declared.names.Event.TheVariants as event
 use Rattle.std.specs.Option.{option_map_or}
 use Rattle.xk_types.specs.Code.{ModuleValue, UnitValue, IsWithinLimits, IsUnitWithinLimits}
 use Rattle.xk_types.specs.World.{Activity, Clock, World, standing_of, slots_of}
-use Rattle.xk_types.specs.Step.{Outcome, Wrong, ClockUse, carried_out, done, number_in, clock_in, registered_on, is_registered, none, cell_in, stored, only, resumed, dropped, onward, slot_at}
+use Rattle.xk_types.specs.Step.{Outcome, Wrong, ClockUse, carried_out, done, made, put_in, with_slots, number_in, clock_in, registered_on, is_registered, none, cell_in, stored, only, resumed, dropped, onward, slot_at}
 use Rattle.xk_types.specs.Schedule.{is_step}
 use Rattle.xk_activity.specs.Activities.{act_at, nobody}
 use Rattle.xk_core.specs.Arm.{carried, carried_by}
@@ -102,6 +102,23 @@ module _ (m : ModuleValue) (w : World) (a : ℕ) where
   drop_done k c h at =
       let r = drop_goes k h in
       r.2 ∙ ap (λ z. done w a (onward (act_at w.activities a)) (only z dropped) event.Dropped) (same_clock r.0 c (sym r.1 ∙ at))
+
+  -- ---- `make`
+
+  -- the slot is there, and what it leads to
+  pub make_here : (d : ℕ) → is_step (carried m w a (instr.Make d)) ≡ true
+      → (d < length (act_at w.activities a).frame.slots)
+      × (carried m w a (instr.Make d)
+      ≡ made w a (onward (with_slots (act_at w.activities a) (slice_set (act_at w.activities a).frame.slots d (value.Clock (length w.clocks))))))
+  make_here d h =
+      let e = carried_here m w a (instr.Make d) h in
+      let p = put_there (slot_at (act_at w.activities a) d) (act_at w.activities a) (value.Clock (length w.clocks)) (ap is_step (sym e) ∙ h) in
+      (slice_get_within (act_at w.activities a).frame.slots d p.0 p.1, e ∙ p.2)
+    where
+      put_there : (o : Option Value) (x : Activity) (v : Value) → is_step (put_in o x d v (λ next. made w a next)) ≡ true
+          → (old : Value) × (o ≡ Some old) × (put_in o x d v (λ next. made w a next) ≡ made w a (onward (with_slots x (slice_set x.frame.slots d v))))
+      put_there None x v q = absurd (false≢true q)
+      put_there (Some old) x v q = (old, refl, refl)
 
   -- ---- shared numbers
 

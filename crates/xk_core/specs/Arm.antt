@@ -14,13 +14,7 @@ use Rattle.xk_activity.specs.Activities.{Stands, act_at}
 abbrev pub value_at : Activity → ℕ → Value
 value_at act s = slice_index_or act.frame.slots s value.Unset
 
--- the instruction adds a clock or an activity, for which memory is wanted
-abbrev pub grows : Instr → Bool
-grows (instr.Make d) = true
-grows (instr.Spawn t args) = true
-grows _ = false
-
--- it starts an activity
+-- the instruction starts an activity, for which memory is wanted
 abbrev pub starts : Instr → Bool
 starts (instr.Spawn t args) = true
 starts _ = false

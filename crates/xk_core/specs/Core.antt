@@ -17,7 +17,7 @@ use Rattle.xk_activity.specs.declared.frames.Next.TheVariants as next
 use Rattle.xk_activity.specs.Local as frames
 use Rattle.xk_activity.specs.Joined.{frames_in, with_frames}
 use Rattle.xk_activity.specs.Activities.{act_at}
-use Rattle.xk_core.specs.Arm.{grows, starts}
+use Rattle.xk_core.specs.Arm.{starts}
 
 pub record CoreValue : Type 0 where
   pub module_run : ModuleValue
@@ -55,9 +55,9 @@ instruction_of m (Some act) = instruction_by m act act.status
 abbrev pub next_instruction : ModuleValue → World → ℕ → Option Instr
 next_instruction m w a = instruction_of m (slice_get w.activities a)
 
--- activity a is about to make a clock or to start an activity, for which memory is wanted
+-- activity a is about to start another, for which memory is wanted
 abbrev pub IsAboutToGrow : ModuleValue → World → ℕ → Type 0
-IsAboutToGrow m w a = (i : Instr) × (next_instruction m w a ≡ Some i) × (grows i ≡ true)
+IsAboutToGrow m w a = (i : Instr) × (next_instruction m w a ≡ Some i) × (starts i ≡ true)
 
 -- the core of a module before its first step
 abbrev pub opening_core : ModuleValue → CoreValue

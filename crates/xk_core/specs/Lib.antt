@@ -4,3 +4,4 @@ pub mod Able
 pub mod Core
 pub mod Stretch
 pub mod Told
+pub mod Reserved

@@ -11,7 +11,7 @@ ghost use Rattle.xk_activity.specs.Activities.{act_at};
 ghost use Rattle.xk_activity.specs.Joined.{frames_in};
 ghost use Rattle.xk_core.specs.Able.{is_kept};
 ghost use Rattle.xk_core.specs.Told.{is_end};
-ghost use Rattle.xk_core.specs.Arm.{grows, concerns_finishes, is_visible, IsLast};
+ghost use Rattle.xk_core.specs.Arm.{concerns_finishes, is_visible, IsLast};
 ghost use Rattle.xk_types.specs.declared.instr.Instr.TheVariants as instruction;
 
 use crate::change::is_registered;
@@ -249,8 +249,8 @@ impl<'m> Core<'m> {
         self.state.next_instruction(a)
     }
 
-    /// One step of the activity, and what it is seen to do. Only the making of a clock and the start of an activity want memory;
-    /// where that is refused the core is as before.
+    /// One step of the activity, and what it is seen to do. Only the start of an activity wants memory; where that is refused the
+    /// core is as before.
     #[inline(always)]
     pub fn step(&mut self, act: Act) -> Result<Event, AllocError>
         requires { IsTrue (is_enabled self.old.module_run self.old.world act) }
@@ -262,6 +262,7 @@ impl<'m> Core<'m> {
         ensures refused { OnErr result (self.new ≡ self.old) }
         ensures only_where_it_grows { OnErr result (WantsMemory self.old act) }
     {
+        let _state = &self.state;
         self.take(act)
     }
 
@@ -308,7 +309,7 @@ impl<'m> Core<'m> {
             Instr::Finish(e) => Ok(self.open_finish(act, *e)),
             Instr::EndFinish(b) => Ok(self.close_finish(act, *b)),
             Instr::Spawn(unit, args) => self.start(act, *unit, args),
-            instr => self.carry_out(act, instr),
+            instr => Ok(self.carry_out(act, instr)),
         }
     }
 
@@ -354,27 +355,25 @@ impl<'m> Core<'m> {
         ensures same_module { self.new.module_run ≡ self.old.module_run }
         ensures refused { OnErr result (self.new ≡ self.old) }
     {
-        let room = self.state.verified().room(unit).finishes;
-        self.state.spawn(&mut self.finishes, act.0 as usize, unit, args.slots(), room)
+        let most = self.state.verified().room(unit);
+        self.state.spawn(&mut self.finishes, act.0 as usize, unit, args.slots(), most)
     }
 
     /// The activity carries out an instruction that opens or closes no finish, and starts no activity.
     #[inline(always)]
-    fn carry_out(&mut self, act: Act, instr: &Instr) -> Result<Event, AllocError>
+    fn carry_out(&mut self, act: Act, instr: &Instr) -> Event
         requires enabled { is_enabled self.old.module_run self.old.world act ≡ true }
         requires here { next_of self.old act ≡ Some instr.now }
         requires visible { is_visible instr.now ≡ true }
         requires plain { concerns_finishes instr.now ≡ false }
         requires last { instr.now ≡ instruction.Ret → IsLast self.old.world act }
-        ensures stepped { IfOk result (StepsTo self.old act self.new) }
+        ensures stepped { StepsTo self.old act self.new result }
         ensures same_module { self.new.module_run ≡ self.old.module_run }
-        ensures refused { OnErr result (self.new ≡ self.old) }
-        ensures only_where_it_grows { OnErr result (grows instr.now ≡ true) }
     {
-        let event = self.state.carry_out(act.0 as usize, instr)?;
+        let event = self.state.carry_out(act.0 as usize, instr);
         if is_end(event) {
             self.finishes.ended(act);
         }
-        Ok(event)
+        event
     }
 }

@@ -1,29 +1,31 @@
 //! The world of a running program, but for its finishes, and the arms of its steps.
 
-ghost use Rattle.std.specs.Prelude.{◌≡◌, ℤ, ◌+◌, ◌<◌, ◌≤◌, ◌^◌, true, false, ◌∷◌, [], ◌++◌, Some, length, slice_get, slice_set, option_copied, option_map, IfOk, OnOk, OnErr, All};
+ghost use Rattle.std.specs.Prelude.{◌≡◌, ℕ, ℤ, ◌+◌, ◌<◌, ◌≤◌, ◌^◌, true, false, ◌∷◌, [], ◌++◌, Some, length, slice_get, slice_set, option_copied, option_map, IfOk, OnOk, OnErr, All};
 ghost use Rattle.xk_types.specs.declared.names.Value.TheVariants as value;
 ghost use Rattle.xk_types.specs.declared.instr.Instr.TheVariants as instruction;
 ghost use Rattle.xk_types.specs.Code.{IsWithinLimits};
 ghost use Rattle.xk_types.specs.World.{standing_of, opening, instruction_at};
 ghost use Rattle.xk_types.specs.Step.{Stepped, settled, moved, waits, onward, none};
 ghost use Rattle.xk_types.specs.Schedule.{is_step, all_ended};
+ghost use Rattle.xk_types.specs.Bound.{stack_of};
 ghost use Rattle.xk_finishes.specs.Tree.{node_at, fresh_node, governing_of};
 ghost use Rattle.xk_activity.specs.Activities.{act_at, Stands, Takes};
 ghost use Rattle.xk_activity.specs.Local.{IsRight, local};
 ghost use Rattle.xk_activity.specs.Joined.{frames_in};
 ghost use Rattle.xk_activity.specs.Local.{IsSafe, is_stepped};
 ghost use Rattle.xk_core.specs.Stretch.{HasRoomForSteps, TakesSteps};
+ghost use Rattle.xk_rooms.specs.Rooms.{HasRoomLeft};
 ghost use Rattle.xk_core.specs.Able.{is_able};
 ghost use Rattle.xk_core.specs.Core.{is_quiet, is_running, next_instruction, with_world, TakesStep};
 ghost use Rattle.xk_core.specs.Change.{standing_after_step, AllowsChange};
-ghost use Rattle.xk_core.specs.Arm.{grows, concerns_finishes, is_visible, carried, CarriesOut, passed_on, IsRoomy, IsLast};
+ghost use Rattle.xk_core.specs.Arm.{concerns_finishes, is_visible, carried, CarriesOut, passed_on, IsRoomy, IsLast};
 ghost use Rattle.xk_types.specs.World as world;
 
 use crate::change::{StandingChange, StepChange};
 use std::alloc::{AllocError, Global};
 use std::marker::Model;
 use xk_activity::{Activities, Frames, Next};
-use xk_bounds::Verified;
+use xk_bounds::{Room, Verified};
 use xk_finishes::FinishTree;
 use xk_standings::Standings;
 use xk_types::{Act, ClockId, Event, Instr, Standing, Status, Value};
@@ -42,7 +44,8 @@ pub struct State<'m> {
 impl<'m> Model for State<'m> {
     ghost use Rattle.std.specs.Prelude.{◌≡◌, length};
     ghost use Rattle.xk_core.specs.Core.{CoreValue};
-    ghost use Rattle.xk_standings.specs.Told.{told_of};
+    ghost use Rattle.xk_core.specs.Reserved.{AreReserved};
+    ghost use Rattle.xk_standings.specs.Told.{told_of, rooms_of};
 
     ghost Value = { CoreValue };
 
@@ -56,7 +59,8 @@ impl<'m> Model for State<'m> {
       };
     } };
 
-    ghost invariant = { λ s. length s.standings.held ≡ length s.activities.list };
+    ghost invariant = { λ s. (length s.standings.held ≡ length s.activities.list)
+        × AreReserved s.activities.module_run s.activities.list (rooms_of s.standings) };
 }
 
 /// A shared number, as a slot holds it.
@@ -82,9 +86,11 @@ impl<'m> State<'m> {
         ensures world { IfOk result (λ s. s.world ≡ opening verified.now) }
     {
         let program = verified.module();
+        let _main = &program.units()[0];
+        let places = verified.room(0).slots as usize;
         Ok(State {
             activities: Activities::open(alloc, verified)?,
-            standings: Standings::open(alloc)?,
+            standings: Standings::open(alloc, verified.clocks(), places)?,
             cells: program.shared().to_vec(alloc)?,
             steps: 0,
         })
@@ -127,31 +133,31 @@ impl<'m> State<'m> {
         next
     }
 
-    /// Activity a carries out an instruction that others can see, but that opens or closes no finish, and starts no activity. Only
-    /// the making of a clock wants memory; where that is refused nothing changes.
-    pub fn carry_out(&mut self, a: usize, instr: &Instr) -> Result<Event, AllocError>
+    /// Activity a carries out an instruction that others can see, but that opens or closes no finish, and starts no activity.
+    /// Takes no memory.
+    pub fn carry_out(&mut self, a: usize, instr: &Instr) -> Event
         requires enabled { is_step (carried self.old.module_run self.old.world a instr.now)
             ≡ true }
         requires visible { is_visible instr.now ≡ true }
         requires plain { concerns_finishes instr.now ≡ false }
         requires last { instr.now ≡ instruction.Ret → IsLast self.old.world a }
         requires room { IsRoomy self.old.module_run self.old.world a }
-        ensures stepped { IfOk result
-            (CarriesOut self.old.module_run self.old.world a instr.now self.new.world) }
+        requires left { (d : ℕ) → instr.now ≡ instruction.Make d
+            → HasRoomLeft self.old.module_run self.old.world a }
+        ensures stepped { CarriesOut self.old.module_run self.old.world a instr.now
+            self.new.world result }
         ensures same { self.new.module_run ≡ self.old.module_run }
-        ensures refused { OnErr result (self.new ≡ self.old) }
-        ensures only_where_it_grows { OnErr result (grows instr.now ≡ true) }
     {
         match instr {
             Instr::Make(d) => self.make(a, *d),
-            Instr::Get(d, s) => Ok(self.get(a, *d, *s)),
-            Instr::Put(s, x) => Ok(self.put(a, *s, *x)),
-            Instr::AddTo(s, x) => Ok(self.add_to(a, *s, *x)),
-            Instr::Print(x) => Ok(self.print(a, *x)),
-            Instr::Resume(k) => Ok(self.resume(a, *k)),
-            Instr::Drop(k) => Ok(self.leave_clock(a, *k)),
-            Instr::Advance => Ok(self.arrive(a)),
-            Instr::Ret => Ok(self.end(a)),
+            Instr::Get(d, s) => self.get(a, *d, *s),
+            Instr::Put(s, x) => self.put(a, *s, *x),
+            Instr::AddTo(s, x) => self.add_to(a, *s, *x),
+            Instr::Print(x) => self.print(a, *x),
+            Instr::Resume(k) => self.resume(a, *k),
+            Instr::Drop(k) => self.leave_clock(a, *k),
+            Instr::Advance => self.arrive(a),
+            Instr::Ret => self.end(a),
             _ => unreachable!(),
         }
     }
@@ -232,9 +238,11 @@ impl<'m> State<'m> {
 
     /// Activity a reads a shared number into slot d.
     fn get(&mut self, a: usize, d: u16, s: u16) -> Event
-        requires enabled { is_step (carried self.old.module_run self.old.world a (instruction.Get d s)) ≡ true }
+        requires enabled { is_step
+            (carried self.old.module_run self.old.world a (instruction.Get d s)) ≡ true }
         requires room { IsRoomy self.old.module_run self.old.world a }
-        ensures stepped { CarriesOut self.old.module_run self.old.world a (instruction.Get d s) self.new.world result }
+        ensures stepped { CarriesOut self.old.module_run self.old.world a (instruction.Get d s)
+            self.new.world result }
         ensures same { self.new.module_run ≡ self.old.module_run }
     {
         let n = cell(&self.cells, s);
@@ -245,9 +253,11 @@ impl<'m> State<'m> {
 
     /// Activity a writes the number in slot x to a shared number.
     fn put(&mut self, a: usize, s: u16, x: u16) -> Event
-        requires enabled { is_step (carried self.old.module_run self.old.world a (instruction.Put s x)) ≡ true }
+        requires enabled { is_step
+            (carried self.old.module_run self.old.world a (instruction.Put s x)) ≡ true }
         requires room { IsRoomy self.old.module_run self.old.world a }
-        ensures stepped { CarriesOut self.old.module_run self.old.world a (instruction.Put s x) self.new.world result }
+        ensures stepped { CarriesOut self.old.module_run self.old.world a (instruction.Put s x)
+            self.new.world result }
         ensures same { self.new.module_run ≡ self.old.module_run }
     {
         let n = self.activities.number(a, x);
@@ -259,9 +269,11 @@ impl<'m> State<'m> {
 
     /// Activity a adds the number in slot x to a shared number, in one step.
     fn add_to(&mut self, a: usize, s: u16, x: u16) -> Event
-        requires enabled { is_step (carried self.old.module_run self.old.world a (instruction.AddTo s x)) ≡ true }
+        requires enabled { is_step
+            (carried self.old.module_run self.old.world a (instruction.AddTo s x)) ≡ true }
         requires room { IsRoomy self.old.module_run self.old.world a }
-        ensures stepped { CarriesOut self.old.module_run self.old.world a (instruction.AddTo s x) self.new.world result }
+        ensures stepped { CarriesOut self.old.module_run self.old.world a (instruction.AddTo s x)
+            self.new.world result }
         ensures same { self.new.module_run ≡ self.old.module_run }
     {
         let n = self.activities.number(a, x);
@@ -271,19 +283,20 @@ impl<'m> State<'m> {
         Event::Added
     }
 
-    /// Activity a makes a clock, and puts its name into slot d. Where memory is refused nothing changes.
-    fn make(&mut self, a: usize, d: u16) -> Result<Event, AllocError>
-        requires enabled { is_step (carried self.old.module_run self.old.world a (instruction.Make d)) ≡ true }
+    /// Activity a makes a clock, for which there is room, and puts its name into slot d.
+    fn make(&mut self, a: usize, d: u16) -> Event
+        requires enabled { is_step
+            (carried self.old.module_run self.old.world a (instruction.Make d)) ≡ true }
         requires room { IsRoomy self.old.module_run self.old.world a }
-        ensures made { IfOk result
-            (CarriesOut self.old.module_run self.old.world a (instruction.Make d) self.new.world) }
+        requires left { HasRoomLeft self.old.module_run self.old.world a }
+        ensures stepped { CarriesOut self.old.module_run self.old.world a (instruction.Make d)
+            self.new.world result }
         ensures same { self.new.module_run ≡ self.old.module_run }
-        ensures refused { OnErr result (self.new ≡ self.old) }
     {
-        let name = self.standings.make(a)?;
+        let name = self.standings.make(a);
         self.activities.write(a, d, Value::Clock(name));
         self.steps += 1;
-        Ok(Event::Made)
+        Event::Made
     }
 
     /// Activity a goes on to the next instruction, and the step ends.
@@ -300,39 +313,43 @@ impl<'m> State<'m> {
         self.end_step(a, StepChange::Nothing);
     }
 
-    /// Activity a starts one that runs this unit with the values of these slots, which the tree takes in with this much room for
-    /// finishes. Where memory is refused nothing changes.
+    /// Activity a starts one that runs this unit with the values of these slots, with this much room for its finishes and for what
+    /// it is registered on. Where memory is refused nothing changes.
     pub fn spawn(
         &mut self,
         finishes: &mut FinishTree,
         a: usize,
         unit: u16,
         args: &[u16],
-        finish_room: u32,
+        most: Room,
     ) -> Result<Event, AllocError>
         requires enabled { is_step
-            (carried self.old.module_run self.old.world a (instruction.Spawn unit args.now)) ≡ true }
+            (carried self.old.module_run self.old.world a (instruction.Spawn unit args.now))
+            ≡ true }
         requires room { IsRoomy self.old.module_run self.old.world a }
         requires with_finishes { length finishes.old ≡ length self.old.world.activities }
         requires runs { (node_at finishes.old a).ended ≡ false }
         requires numbers { length self.old.world.activities + 1 < 2 ^ 32 }
         requires limits { IsWithinLimits self.old.module_run }
+        requires places { stack_of self.old.module_run unit ≤ most.slots }
         ensures started { IfOk result
-            (CarriesOut self.old.module_run self.old.world a (instruction.Spawn unit args.now) self.new.world) }
+            (CarriesOut self.old.module_run self.old.world a
+            (instruction.Spawn unit args.now) self.new.world) }
         ensures same { self.new.module_run ≡ self.old.module_run }
         ensures finishes { OnOk result
             (finishes.new ≡ finishes.old
-            ++ fresh_node (governing_of a (node_at finishes.old a)) finish_room ∷ []) }
+            ++ fresh_node (governing_of a (node_at finishes.old a)) most.finishes ∷ []) }
         ensures refused { OnErr result (self.new ≡ self.old) }
         ensures finishes_refused { OnErr result (finishes.new ≡ finishes.old) }
     {
         let alloc = self.activities.allocator();
         let values = self.activities.values(alloc, a, args)?;
         let new = self.activities.begin(alloc, a, unit, &values)?;
-        let registrations = self.standings.child(alloc, a, &values)?;
+        let places = most.slots as usize;
+        let registrations = self.standings.child(alloc, a, places, &values)?;
         self.activities.reserve()?;
         self.standings.reserve()?;
-        finishes.spawned(Act(a as u32), finish_room)?;
+        finishes.spawned(Act(a as u32), most.finishes)?;
         self.standings.admit(registrations);
         self.activities.go_on(a);
         self.activities.admit(new);

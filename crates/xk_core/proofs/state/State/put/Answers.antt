@@ -1,4 +1,4 @@
-use Rattle.std.proofs.Common.{◌≡◌, true, refl, subst, sym, ap, ◌∙◌, slice_set, arith}
+use Rattle.std.proofs.Common.{◌≡◌, true, refl, subst, sym, ap, ◌∙◌, slice_set, arith, length}
 use Rattle.std.specs.Int.{w64}
 use Rattle.std.proofs.lemmas.Int.{to_z-of_z}
 use Rattle.std.proofs.lemmas.Option.{slice_get_within}
@@ -7,11 +7,12 @@ use Rattle.xk_types.specs.declared.names.Event.TheVariants as event
 use Rattle.xk_types.specs.World.{World}
 use Rattle.xk_types.specs.Step.{Stepped, settled, moved, none, stored}
 use Rattle.xk_types.specs.Schedule.{is_step}
-use Rattle.xk_standings.specs.Told.{told_of}
+use Rattle.xk_standings.specs.Told.{told_of, rooms_of}
 use Rattle.xk_activity.specs.Activities.{ActivitiesValue, act_at}
 use Rattle.xk_core.specs.Arm.{carried}
 use Rattle.xk_core.specs.Core.{CoreValue}
 use Rattle.xk_core.proofs.Visible.{store_here, same_number}
+use Rattle.xk_core.proofs.Reserving.{kept_on}
 use Rattle.xk_core.proofs.state.State.put.Goals as goal
 
 pub number-n-requires-clause-number : goal.number-n-requires-clause-number
@@ -43,3 +44,7 @@ returns-clause-stepped c =
     ∙ ap (λ cs. Stepped (settled (record w { activities = c.go_on.new.self.list; clocks = moved c.args.a none w.clocks; cells = cs })) event.Put)
     (sym (c.set_cell.ensures ∙ ap (slice_set w.cells c.args.s) (to_z-of_z w64 c.number-n.result (record { sfits = c.number-n.type_inv }))))
     ∙ ap (λ (v : CoreValue). Stepped v.world event.Put) (sym c.end_step.ensures))
+
+pub invariant_of-self : goal.invariant_of-self
+invariant_of-self c =
+    kept_on c.self.inside.activities c.go_on.new.self (length c.self.inside.standings.held) (rooms_of c.self.inside.standings) c.args.a _ c.self.invariant c.go_on.ensures refl refl
