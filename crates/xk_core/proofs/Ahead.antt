@@ -77,17 +77,6 @@ frames_told m ns w width a lt = by (told_at ns w.activities width a)
     by (Somebody n x k e g) = ap (frames_in m) (get_or_from_slice_get w.activities a x nobody e)
         ∙ sym (ap (frames_in m) (get_or_from_slice_get (with_nodes ns w.activities) a (with_node n x) nobody g))
 
--- and so is its status
-pub running_told : (ns : List NodeValue) (w : World) → length ns ≡ length w.activities → (a : ℕ) → is_running (with_finishes ns w) a ≡ is_running w a
-running_told ns w width a = by (told_at ns w.activities width a)
-  where
-    status_in : Option Activity → Bool
-    status_in o = option_map_or (λ (act : Activity). runs_now act.status) o false
-
-    by : At ns w.activities a → is_running (with_finishes ns w) a ≡ is_running w a
-    by (Nobody e g) = ap status_in g ∙ sym (ap status_in e)
-    by (Somebody n x k e g) = ap status_in g ∙ sym (ap status_in e)
-
 -- what a stretch of local steps of activity a makes of a core
 pub record Ran (m : ModuleValue) (ns : List NodeValue) (w : World) (a max n : ℕ) (d : CoreValue) : Type 0 where
   pub same : d.module_run ≡ m

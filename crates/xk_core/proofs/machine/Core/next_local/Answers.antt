@@ -5,7 +5,8 @@ use Rattle.xk_activity.specs.Activities.{act_at}
 use Rattle.xk_core.specs.Core.{CoreValue, is_running, is_next_local}
 use Rattle.xk_core.specs.Told.{with_finishes}
 use Rattle.xk_core.proofs.Finishing.{held}
-use Rattle.xk_core.proofs.Ahead.{running_told, unless_running, runner_safe, runner_next}
+use Rattle.xk_core.proofs.Locally.{running_told}
+use Rattle.xk_core.proofs.Ahead.{unless_running, runner_safe, runner_next}
 use Rattle.xk_core.proofs.machine.Core.next_local.Goals as goal
 
 pub is_local-requires-clause-right : goal.is_local-requires-clause-right

@@ -3,7 +3,8 @@ use Rattle.xk_core.specs.Core.{CoreValue, is_running, is_next_local}
 use Rattle.xk_core.specs.Stretch.{HasRoomForSteps, TakesSteps, RunsTo, AreLocal, IsUnseen}
 use Rattle.xk_core.specs.Told.{with_finishes}
 use Rattle.xk_core.proofs.Finishing.{held, parts}
-use Rattle.xk_core.proofs.Ahead.{running_told, unless_running, runner_safe, runner_room, runner_ran}
+use Rattle.xk_core.proofs.Locally.{running_told}
+use Rattle.xk_core.proofs.Ahead.{unless_running, runner_safe, runner_room, runner_ran}
 use Rattle.xk_core.proofs.machine.Core.run.Goals as goal
 
 pub run-requires-clause-safe : goal.run-requires-clause-safe
