@@ -1,6 +1,6 @@
 //! All clocks.
 
-ghost use Rattle.std.specs.Prelude.{◌≡◌, ◌+◌, ◌<◌, ◌≤◌, ◌^◌, false, [], ◌∷◌, ◌++◌, length, max, IfOk, OnOk, OnErr};
+ghost use Rattle.std.specs.Prelude.{◌≡◌, ◌+◌, ◌<◌, ◌≤◌, ◌^◌, false, [], ◌∷◌, ◌++◌, length, IfOk};
 ghost use Rattle.xk_clocks.specs.Table.{new_count, is_ready_count, count_settled, count_registered, count_resumed, count_dropped, one_if, count_at, changed_at};
 
 use crate::count::Count;
@@ -16,7 +16,7 @@ use xk_types::ClockId;
 /// so within the call after which that holds, and then all who are registered on it are ahead: pending again. So the pass of an
 /// activity, from ahead to open, is no call.
 ///
-/// Room for clocks is taken when the table is opened, and by [`ClockTable::reserve`]. Nothing else takes memory.
+/// Room for clocks is taken when the table is opened. Nothing else takes memory.
 #[derive(Drop)]
 pub struct ClockTable {
     room: u32,
@@ -44,21 +44,6 @@ impl ClockTable {
             room: clocks,
             clocks: Vec::with_capacity(alloc, clocks as usize)?,
         })
-    }
-
-    /// Room for one clock more than there are, at least. Nothing changes where memory is refused.
-    pub fn reserve(&mut self) -> Result<(), AllocError>
-        requires { length self.old.clocks + 1 < 2 ^ 32 }
-        ensures reserved { OnOk result (self.new ≡ record self.old {
-          room = max self.old.room (length self.old.clocks + 1);
-        }) }
-        ensures refused { OnErr result (self.new ≡ self.old) }
-    {
-        if self.clocks.len() == self.room as usize {
-            self.clocks.try_reserve(1)?;
-            self.room += 1;
-        }
-        Ok(())
     }
 
     /// A new clock, which takes the next number. Its maker is registered on it, and open.

@@ -1,21 +1,22 @@
 -- What holds of a core, by the law.
-use Rattle.std.proofs.Common.{◌≡◌, ℕ, ◌+◌, ◌<◌, ◌≤◌, ◌^◌, true, false, not, ◌&&◌, List, [], ◌∷◌, length, Option, Some, None, Result, Ok, Err, OnOk, slice_get, slice_index_or, All, arith, refl}
+use Rattle.std.proofs.Common.{◌≡◌, ℕ, ◌+◌, ◌<◌, ◌≤◌, ◌^◌, true, false, not, ◌&&◌, List, length, Option, Some, None, Result, Ok, Err, OnOk, OnErr, slice_get, slice_index_or, All, arith, refl, ap, ◌∙◌}
 use Rattle.std.proofs.lemmas.Option.{slice_get-get_or, get_or_from_slice_get, slice_get_within}
 use Rattle.xk_types.specs.declared.names.Event.{Event}
 use Rattle.xk_types.specs.declared.names.Status.{Status}
 use Rattle.xk_types.specs.declared.names.Status.TheVariants as status
 use Rattle.xk_types.specs.declared.instr.Instr.{Instr}
-use Rattle.xk_types.specs.Code.{ModuleValue, IsUnitWithinLimits, IsWithinLimits}
-use Rattle.xk_types.specs.World.{Frame, Activity, World, opening}
+use Rattle.xk_types.specs.Code.{ModuleValue, IsWithinLimits}
+use Rattle.xk_types.specs.World.{Activity, World, opening}
 use Rattle.xk_types.specs.Step.{Stepped, carried_out, run_at, passing, step_by, step_of, step}
 use Rattle.xk_types.specs.Schedule.{is_step, is_enabled, all_ended}
 use Rattle.xk_types.specs.Bound.{steps_bound}
 use Rattle.xk_types.specs.Accepted.{IsAccepted}
-use Rattle.std.proofs.lemmas.List.Elements.{All-cons, All-nil}
-use Rattle.xk_types.specs.declared.rules.Kind.{Kind}
-use Rattle.xk_laws.proofs.Invariant.{IsSound, IsClockSound, AreWaiting, looks}
+use Rattle.std.specs.Prelude.{option_and_then}
+use Rattle.xk_types.proofs.Lists.{get_inside}
+use Rattle.xk_activity.specs.Activities.{act_at, nobody}
+use Rattle.xk_laws.proofs.Invariant.{IsSound, IsClockSound}
 use Rattle.xk_laws.proofs.Reached.{HasRoom, opening_only, reached_step, reached_sound, reached_scoped, reached_room, reached_ends}
-use Rattle.xk_core.specs.Arm.{IsRoomy, IsRunningUnit, carried_by, carried, passing_by, passed_on}
+use Rattle.xk_core.specs.Arm.{IsRoomy, carried_by, carried, passing_by, passed_on}
 use Rattle.xk_core.specs.Able.{is_able, is_kept}
 use Rattle.xk_core.specs.Core.{IsCore, instruction_by, instruction_of, next_instruction}
 use Rattle.xk_core.proofs.Ableness.{able_enabled}
@@ -24,40 +25,24 @@ use Rattle.xk_core.proofs.Ableness.{able_enabled}
 all_at : {X : Type 0} (P : X → Type 0) (xs : List X) (i : ℕ) (x : X) → All P xs → slice_get xs i ≡ Some x → P x
 all_at P xs i x h e = rw (get_or_from_slice_get xs i x x e) at (h i x (slice_get_within xs i x e))
 
--- each frame that waits stands at a place of its unit
-waiting_places : (m : ModuleValue) (look : ℕ → Kind) (st : Status) (clocks : ℕ) (g : Frame) (fs : List Frame) → IsWithinLimits m → AreWaiting m look st clocks g fs
-    → All (λ f. f.place + 1 < 2 ^ 16) fs
-waiting_places m look st clocks g [] limits w = All-nil (λ f. f.place + 1 < 2 ^ 16)
-waiting_places m look st clocks g (f ∷ fs) limits w =
-    let u = all_at IsUnitWithinLimits m.units f.unit w.0.u limits.each w.0.found in
-    All-cons (λ x. x.place + 1 < 2 ^ 16) f fs (omega (arith, w.0.frame.place, u.code)) (waiting_places m look st clocks f fs limits w.1)
-
 -- one more of each number fits its type
-roomy : (m : ModuleValue) (w : World) (a : ℕ) → IsWithinLimits m → IsAccepted m → IsSound m w → HasRoom m w → IsRoomy w a
-roomy m w a limits accepted sound room = record {
+roomy : (m : ModuleValue) (w : World) (a : ℕ) → IsWithinLimits m → IsAccepted m → IsSound m w → HasRoom m w → a < length w.activities → IsRoomy m w a
+roomy m w a limits accepted sound room lt = record {
   steps = omega (arith, room.steps, accepted.bounds.steps);
   phases = λ k d lt.
       let c : IsClockSound w.activities w.steps (slice_index_or w.clocks k d) = sound.clocks k _ (slice_get-get_or w.clocks k d lt) in
       omega (arith, c.phase, c.last, room.steps, accepted.bounds.steps);
   clocks = omega (arith, room.clocks, accepted.bounds.clocks);
-  place = λ act there.
-      let s = sound.activities a act there in
-      let u = all_at IsUnitWithinLimits m.units act.frame.unit s.u limits.each s.unit in
-      omega (arith, s.frame.place, u.code);
-  callers = λ act there. (let s = sound.activities a act there in waiting_places m (looks w.clocks a) act.status (length w.clocks) act.frame act.callers limits s.waiting);
+  stands =
+      let s = sound.activities a (act_at w.activities a) (slice_get-get_or w.activities a nobody lt) in
+      let i = get_inside s.u.code (act_at w.activities a).frame.place s.frame.place in
+      (i.0, ap (option_and_then (λ unit. slice_get unit.code (act_at w.activities a).frame.place)) s.unit ∙ i.1);
   standings = λ k d lt. (sound.clocks k _ (slice_get-get_or w.clocks k d lt)).width;
 }
 
-pub core_roomy : (m : ModuleValue) (w : World) (a : ℕ) → IsCore m w → IsRoomy w a
-core_roomy m w a core =
-    roomy m w a core.limits core.accepted (reached_sound m core.limits core.accepted w core.reached) (reached_room m core.limits core.accepted w core.reached)
-
--- an activity of a core runs a unit of its module
-pub core_runs : (m : ModuleValue) (w : World) (a : ℕ) → IsCore m w → IsRunningUnit m w a
-core_runs m w a core act there =
-    let s = (reached_sound m core.limits core.accepted w core.reached).activities a act there in
-    let u = all_at IsUnitWithinLimits m.units act.frame.unit s.u core.limits.each s.unit in
-    record { u = s.u; found = s.unit; short = omega (arith, u.code) }
+pub core_roomy : (m : ModuleValue) (w : World) (a : ℕ) → IsCore m w → a < length w.activities → IsRoomy m w a
+core_roomy m w a core lt =
+    roomy m w a core.limits core.accepted (reached_sound m core.limits core.accepted w core.reached) (reached_room m core.limits core.accepted w core.reached) lt
 
 -- a core goes on by a step
 pub core_stepped : (m : ModuleValue) (w v : World) (a : ℕ) (e : Event) → IsCore m w → step m w a ≡ Stepped v e → IsCore m v
@@ -120,3 +105,13 @@ core_clocks m w core = omega (arith, (reached_room m core.limits core.accepted w
 pub at_ok : {A E : Type 0} (P : Type 0) (r : Result A E) → P → OnOk r P
 at_ok P (Ok x) p = p
 at_ok P (Err e) p = tt
+
+-- and at Err
+pub at_err : {A E : Type 0} (P : Type 0) (r : Result A E) → P → OnErr r P
+at_err P (Ok x) p = tt
+at_err P (Err e) p = p
+
+-- what follows from what holds at Err
+pub err_on : {A E : Type 0} (P Q : Type 0) (r : Result A E) → (P → Q) → OnErr r P → OnErr r Q
+err_on P Q (Ok x) f h = tt
+err_on P Q (Err e) f h = f h

@@ -1,5 +1,5 @@
 -- What holds of a core by its parts: a world without finishes, and the tree that tells of them.
-use Rattle.std.proofs.Common.{◌≡◌, ℕ, zero, suc, ◌+◌, ◌-◌, ◌<◌, ◌≤◌, ◌^◌, Bool, true, false, not, ◌&&◌, cond, List, [], ◌∷◌, ◌++◌, length, map, Option, Some, None, Result, Ok, Err, IfOk, OnOk, OnErr, inl, inr, ◌⊎◌, refl, sym, ap, ◌∙◌, subst, arith, slice_get, slice_set, All, option_map, length-set}
+use Rattle.std.proofs.Common.{◌≡◌, ℕ, zero, suc, ◌+◌, ◌-◌, ◌<◌, ◌≤◌, Bool, true, false, not, ◌&&◌, cond, List, [], ◌∷◌, ◌++◌, length, map, Option, Some, None, Result, Ok, Err, IfOk, OnOk, OnErr, inl, inr, ◌⊎◌, refl, sym, ap, ◌∙◌, subst, arith, slice_get, slice_set, option_map, length-set}
 use Rattle.std.specs.List.{list_all}
 use Rattle.std.proofs.lemmas.Bool.{false≢true, cases_eq}
 use Rattle.std.proofs.lemmas.Option.{none-some, same_Some, slice_get_within, get_or_from_slice_get}
@@ -10,26 +10,28 @@ use Rattle.xk_types.specs.declared.names.Status.{Status}
 use Rattle.xk_types.specs.declared.names.Status.TheVariants as status
 use Rattle.xk_types.specs.declared.names.Event.{Event}
 use Rattle.xk_types.specs.declared.names.Event.TheVariants as event
-use Rattle.xk_types.specs.Code.{ModuleValue}
+use Rattle.xk_types.specs.Code.{ModuleValue, IsWithinLimits}
+use Rattle.xk_types.specs.Accepted.{IsAccepted}
 use Rattle.xk_types.specs.Bound.{steps_bound, room_of}
-use Rattle.xk_types.specs.World.{Activity, World, base_unit, is_ended, instruction_at}
+use Rattle.xk_types.specs.World.{Activity, World, base_unit, is_ended, instruction_at, root, main_of, opening}
 use Rattle.xk_types.specs.Step.{Outcome, Blocked, Wrong, Stepped, waits, step_by, step_of, step, carried_out, past, done, none, all, passed, onward, moved, settled, left, closing, awaits, innermost, child}
 use Rattle.xk_types.specs.Schedule.{is_step, is_enabled}
 use Rattle.xk_types.proofs.Lists.{get_inside, get-set_same, get-set_other, get_push, get-push_other}
 use Rattle.xk_laws.proofs.Counts.{step_counts}
 use Rattle.xk_laws.proofs.Invariant.{IsSound}
 use Rattle.xk_laws.proofs.Scopes.Invariant.{IsScoped, based}
-use Rattle.xk_laws.proofs.Reached.{reached_sound, reached_scoped}
+use Rattle.xk_laws.proofs.Reached.{reached_sound, reached_scoped, opening_reached}
 use Rattle.xk_laws.proofs.NeverWrong.Instructions.{standing_at, instruction_found}
 use Rattle.xk_laws.proofs.NeverWrong.Steps.{room_at_finish, open_at_end, closed_at_end}
 use Rattle.xk_finishes.specs.Tree.{NodeValue, node_at, fresh_node, node_entered, node_left, node_ended, changed_at, governing_of, awaits_innermost, IsNodeOf, AreNodesOf}
 use Rattle.xk_finishes.specs.Tree as tree
 use Rattle.xk_finishes.proofs.Activities.{awaits_same}
-use Rattle.xk_core.specs.Arm.{value_at, carried, carried_by, passed_on, passing_by, concerns_finishes, IsRoomy, IsRunningUnit}
+use Rattle.xk_core.specs.Arm.{value_at, carried, carried_by, passed_on, passing_by, concerns_finishes, IsRoomy, IsLast}
+use Rattle.xk_activity.specs.Activities.{Stands, act_at, nobody}
 use Rattle.xk_core.specs.Able.{able_by, able_of, is_able, kept_by, is_kept}
 use Rattle.xk_core.specs.Core.{IsCore, instruction_by, instruction_of, next_instruction}
 use Rattle.xk_core.specs.Told.{with_node, with_nodes, with_finishes, is_end, IsToldOf, AreTold}
-use Rattle.xk_core.proofs.Cores.{core_roomy, core_runs, core_stepped, core_bound, core_able, pass_step, carry_step}
+use Rattle.xk_core.proofs.Cores.{core_roomy, core_stepped, core_bound, core_able, pass_step, carry_step}
 use Rattle.xk_core.proofs.Told.{length_told, get_told, set_told, set_both, told_so, Leaves, Tells, IsTold, carried_told, spawn_told}
 use Rattle.xk_core.proofs.Arms.{spawning_there, spawn_by}
 
@@ -134,6 +136,10 @@ held m ns w h = record { core = h.0; are = h.1 }
 pub parts : (m : ModuleValue) (ns : List NodeValue) (w : World) → IsHeld m ns w → IsCore m (with_finishes ns w) × AreTold m ns w.activities
 parts m ns w h = (h.core, h.are)
 
+-- the same, where the module has another name
+pub parts_in : (m k : ModuleValue) (ns : List NodeValue) (w : World) → k ≡ m → IsHeld m ns w → IsCore k (with_finishes ns w) × AreTold k ns w.activities
+parts_in m k ns w same h = parts k ns w (subst (λ p. IsHeld p ns w) (sym same) h)
+
 -- it goes on by a step
 pub held_on : (m : ModuleValue) (ns ks : List NodeValue) (w v : World) (a : ℕ) (e : Event) → IsHeld m ns w → AreTold m ks v.activities
     → step m (with_finishes ns w) a ≡ Stepped (with_finishes ks v) e → IsHeld m ks v
@@ -144,36 +150,31 @@ held_on m ns ks w v a e h are goes = record {
 
 module _ (m : ModuleValue) (ns : List NodeValue) (w : World) (a : ℕ) (h : IsHeld m ns w) where
   -- one more of each number fits its type
-  pub parts_roomy : IsRoomy w a
-  parts_roomy =
-      let r = core_roomy m (with_finishes ns w) a h.core in
+  pub parts_roomy : a < length w.activities → IsRoomy m w a
+  parts_roomy lt =
+      let long = length_told ns w.activities h.are.width in
+      let r = core_roomy m (with_finishes ns w) a h.core (omega (arith, lt, long)) in
       record {
         steps = r.steps;
         phases = r.phases;
         clocks = r.clocks;
-        place = λ act there. by act there (told_at ns w.activities h.are.width a);
-        callers = λ act there. below act there (told_at ns w.activities h.are.width a);
-        standings = λ k d lt. r.standings k d lt ∙ length_told ns w.activities h.are.width;
+        stands = by (told_at ns w.activities h.are.width a) r.stands;
+        standings = λ k d inside. r.standings k d inside ∙ long;
       }
     where
-      by : (act : Activity) → slice_get w.activities a ≡ Some act → At ns w.activities a → act.frame.place + 1 < 2 ^ 16
-      by act there (Nobody e g) = absurd (none-some act (sym e ∙ there))
-      by act there (Somebody n x k e g) = (let same : x ≡ act = same_Some x act (sym e ∙ there) in
-          subst (λ (y : Activity). y.frame.place + 1 < 2 ^ 16) same ((core_roomy m (with_finishes ns w) a h.core).place (with_node n x) g))
+      by : At ns w.activities a → Stands m (act_at (with_nodes ns w.activities) a) → Stands m (act_at w.activities a)
+      by (Nobody e g) s = (let y = get_inside w.activities a lt in absurd (none-some y.0 (sym e ∙ y.1)))
+      by (Somebody n x k e g) s =
+          (let t : Stands m (with_node n x) = subst (Stands m) (get_or_from_slice_get (with_nodes ns w.activities) a (with_node n x) nobody g) s in
+          subst (Stands m) (sym (get_or_from_slice_get w.activities a x nobody e)) t)
 
-      below : (act : Activity) → slice_get w.activities a ≡ Some act → At ns w.activities a → All (λ f. f.place + 1 < 2 ^ 16) act.callers
-      below act there (Nobody e g) = absurd (none-some act (sym e ∙ there))
-      below act there (Somebody n x k e g) = (let same : x ≡ act = same_Some x act (sym e ∙ there) in
-          subst (λ (y : Activity). All (λ f. f.place + 1 < 2 ^ 16) y.callers) same ((core_roomy m (with_finishes ns w) a h.core).callers (with_node n x) g))
-
-  pub parts_runs : IsRunningUnit m w a
-  parts_runs act there = by (told_at ns w.activities h.are.width a)
+  -- nobody waits for its present frame, also without finishes
+  pub last_told : IsLast (with_finishes ns w) a → IsLast w a
+  last_told l act there = by (told_at ns w.activities h.are.width a)
     where
-      by : At ns w.activities a → Rattle.xk_core.specs.Arm.RunsUnit m act
+      by : At ns w.activities a → act.callers ≡ []
       by (Nobody e g) = absurd (none-some act (sym e ∙ there))
-      by (Somebody n x k e g) = (let same : x ≡ act = same_Some x act (sym e ∙ there) in
-          let r = core_runs m (with_finishes ns w) a h.core (with_node n x) g in
-          subst (Rattle.xk_core.specs.Arm.RunsUnit m) same (record { u = r.u; found = r.found; short = r.short }))
+      by (Somebody n x k e g) = ap (λ (y : Activity). y.callers) (same_Some act x (sym there ∙ e)) ∙ l (with_node n x) g
 
   -- who is able and isn't kept is enabled
   pub parts_able : (is_able w a && not (is_kept m (with_finishes ns w) a)) ≡ is_enabled m (with_finishes ns w) a
@@ -210,6 +211,26 @@ module _ (m : ModuleValue) (ns : List NodeValue) (w : World) (a : ℕ) (h : IsHe
     pub pass_stepped : (v : World) (e : Event) → passed_on w a ≡ Stepped v e → step m (with_finishes ns w) a ≡ Stepped (with_finishes ns v) e
     pass_stepped v e p = pass_goes ∙ pass_same (Stepped v e) p (told_at ns w.activities h.are.width a)
 
+-- who passes exists
+pub pass_within : (w : World) (a : ℕ) → is_step (passed_on w a) ≡ true → a < length w.activities
+pass_within w a h = by (slice_get w.activities a) refl h
+  where
+    by : (o : Option Activity) → slice_get w.activities a ≡ o → is_step (passing_by w a o) ≡ true → a < length w.activities
+    by None e k = absurd (false≢true k)
+    by (Some x) e k = slice_get_within w.activities a x e
+
+-- the opening world, and the tree of it
+pub opened : (m k : ModuleValue) (ns : List NodeValue) (w : World) → IsWithinLimits m → IsAccepted m → k ≡ m → w ≡ opening m → ns ≡ fresh_node root (room_of m 0) ∷ []
+    → IsCore k (with_finishes ns w) × AreTold k ns w.activities
+opened m k ns w limits accepted same world nodes = rw (same, world, nodes) (
+  record { limits = limits; accepted = accepted; reached = opening_reached m },
+  record { width = refl; each = told },
+)
+  where
+    told : (a : ℕ) (n : NodeValue) (x : Activity) → slice_get (fresh_node root (room_of m 0) ∷ []) a ≡ Some n → slice_get (main_of m ∷ []) a ≡ Some x → IsToldOf m n x
+    told zero n x p q = subst (λ z. IsToldOf m z x) (same_Some _ n p) (subst (λ z. IsToldOf m (fresh_node root (room_of m 0)) z) (same_Some _ x q) (record { ended = refl; room = refl }))
+    told (suc a) n x p q = absurd (none-some n p)
+
 -- ---- what the tree tells after a step
 
 told_set : (m : ModuleValue) (ns : List NodeValue) (xs : List Activity) (a : ℕ) (k : NodeValue) (x y : Activity) → AreTold m ns xs → slice_get xs a ≡ Some x → IsToldOf m k y
@@ -227,7 +248,7 @@ told_set m ns xs a k x y t found now ks width here others = record {
     by b n z p q (inr differs) = t.each b n z (sym (others b differs) ∙ p) (sym (get-set_other xs a b y differs) ∙ q)
 
 -- the same tree
-told_stays : (m : ModuleValue) (ns : List NodeValue) (xs : List Activity) (a : ℕ) (n : NodeValue) (x y : Activity) → AreTold m ns xs → slice_get ns a ≡ Some n
+pub told_stays : (m : ModuleValue) (ns : List NodeValue) (xs : List Activity) (a : ℕ) (n : NodeValue) (x y : Activity) → AreTold m ns xs → slice_get ns a ≡ Some n
     → slice_get xs a ≡ Some x
     → is_ended y.status ≡ is_ended x.status → base_unit y ≡ base_unit x → AreTold m ns (slice_set xs a y)
 told_stays m ns xs a n x y t here found st base = told_set m ns xs a n x y t found

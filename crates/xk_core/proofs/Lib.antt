@@ -5,3 +5,9 @@ pub mod Cores
 pub mod Told
 pub mod Governing
 pub mod Finishing
+pub mod Visible
+pub mod Locally
+pub mod Beyond
+pub mod Reserving
+pub mod Stretch
+pub mod Ahead

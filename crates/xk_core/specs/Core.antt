@@ -1,17 +1,23 @@
 -- A running core, as its clauses see it: a module, and a world that a legal schedule of it reaches.
-use Rattle.std.specs.Prelude.{◌≡◌, ℕ, ◌+◌, ◌<◌, ◌==◌, Bool, true, false, not, length, Option, Some, None, slice_get, option_and_then}
+use Rattle.std.specs.Prelude.{◌≡◌, ℕ, ◌+◌, ◌<◌, ◌==◌, Bool, true, false, not, length, Option, Some, None, slice_get, slice_set, option_and_then}
 use Rattle.std.specs.List.{list_all}
 use Rattle.std.specs.Option.{option_map_or}
 use Rattle.xk_types.specs.declared.instr.Instr.{Instr}
 use Rattle.xk_types.specs.declared.names.Event.{Event}
+use Rattle.xk_types.specs.declared.names.Event.TheVariants as event
 use Rattle.xk_types.specs.declared.names.Status.{Status}
 use Rattle.xk_types.specs.declared.names.Status.TheVariants as status
 use Rattle.xk_types.specs.Code.{ModuleValue, IsWithinLimits}
 use Rattle.xk_types.specs.World.{Activity, World, instruction_at, opening, standing_of}
-use Rattle.xk_types.specs.Step.{Stepped, step, is_registered}
-use Rattle.xk_types.specs.Schedule.{IsReached, is_enabled}
+use Rattle.xk_types.specs.Step.{Outcome, Blocked, Wrong, Stepped, step, is_registered, settled, moved, none}
+use Rattle.xk_types.specs.Schedule.{IsReached, is_enabled, is_local}
 use Rattle.xk_types.specs.Accepted.{IsAccepted}
-use Rattle.xk_core.specs.Arm.{grows, starts}
+use Rattle.xk_activity.specs.declared.frames.Next.{Next}
+use Rattle.xk_activity.specs.declared.frames.Next.TheVariants as next
+use Rattle.xk_activity.specs.Local as frames
+use Rattle.xk_activity.specs.Joined.{frames_in, with_frames}
+use Rattle.xk_activity.specs.Activities.{act_at}
+use Rattle.xk_core.specs.Arm.{starts}
 
 pub record CoreValue : Type 0 where
   pub module_run : ModuleValue
@@ -22,6 +28,19 @@ pub record IsCore (m : ModuleValue) (w : World) : Type 0 where
   pub limits : IsWithinLimits m
   pub accepted : IsAccepted m
   pub reached : IsReached m w
+
+-- the same module in another world
+abbrev pub with_world : CoreValue → World → CoreValue
+with_world c w = record c { world = w }
+
+abbrev pub runs_now : Status → Bool
+runs_now status.Running = true
+runs_now status.Arrived = false
+runs_now status.Ended = false
+
+-- activity a exists and runs
+abbrev pub is_running : World → ℕ → Bool
+is_running w a = option_map_or (λ act. runs_now act.status) (slice_get w.activities a) false
 
 abbrev pub instruction_by : ModuleValue → Activity → Status → Option Instr
 instruction_by m act status.Running = instruction_at m act.frame
@@ -36,9 +55,9 @@ instruction_of m (Some act) = instruction_by m act act.status
 abbrev pub next_instruction : ModuleValue → World → ℕ → Option Instr
 next_instruction m w a = instruction_of m (slice_get w.activities a)
 
--- activity a is about to make a clock, to call a method or to start an activity, for which memory is wanted
+-- activity a is about to start another, for which memory is wanted
 abbrev pub IsAboutToGrow : ModuleValue → World → ℕ → Type 0
-IsAboutToGrow m w a = (i : Instr) × (next_instruction m w a ≡ Some i) × (grows i ≡ true)
+IsAboutToGrow m w a = (i : Instr) × (next_instruction m w a ≡ Some i) × (starts i ≡ true)
 
 -- the core of a module before its first step
 abbrev pub opening_core : ModuleValue → CoreValue
@@ -80,3 +99,31 @@ is_registered_on w a c = option_map_or (λ k. is_registered (standing_of k a)) (
 -- no clock advanced in the step that led to this world
 abbrev pub is_quiet : World → Bool
 is_quiet w = list_all (λ c. not (c.last == w.steps)) w.clocks
+
+-- a step that nobody else can see
+abbrev pub is_taken_locally : Outcome → Bool
+is_taken_locally Blocked = false
+is_taken_locally (Wrong c) = false
+is_taken_locally (Stepped w e) = is_local e
+
+-- the next step of activity a is one; so it is enabled
+abbrev pub is_next_local : CoreValue → ℕ → Bool
+is_next_local c a = is_taken_locally (step c.module_run c.world a)
+
+-- what an attempt at a local step of activity a makes of a core
+abbrev pub TakesStep : CoreValue → ℕ → Next → CoreValue → Type 0
+TakesStep c a next.Stepped d = (fs : frames.FramesValue) × (frames.local (frames_in c.module_run (act_at c.world.activities a)) ≡ frames.Stepped fs)
+    × (d ≡ with_world c (settled (record c.world {
+      activities = slice_set c.world.activities a (with_frames (act_at c.world.activities a) fs);
+      clocks = moved a none c.world.clocks;
+    })))
+TakesStep c a next.Visible d = (frames.local (frames_in c.module_run (act_at c.world.activities a)) ≡ frames.Beyond) × (d ≡ c)
+
+-- others can see the next step of running activity a
+abbrev pub IsBeyond : CoreValue → ℕ → Type 0
+IsBeyond c a = frames.local (frames_in c.module_run (act_at c.world.activities a)) ≡ frames.Beyond
+
+-- the activity took a local step, or others can see its next one
+abbrev pub Locally : CoreValue → ℕ → Next → CoreValue → Type 0
+Locally c a next.Stepped d = StepsTo c a d event.Local
+Locally c a next.Visible d = IsBeyond c a × (d ≡ c)

@@ -1,7 +1,7 @@
 pub mod Change
 pub mod Arm
-pub mod Joining
 pub mod Able
-pub mod Opening
 pub mod Core
+pub mod Stretch
 pub mod Told
+pub mod Reserved

@@ -2,7 +2,7 @@
 
 ghost use Rattle.std.specs.Prelude.{◌≡◌, ◌+◌, ◌<◌, ◌^◌, length, map, All};
 ghost use Rattle.xk_types.specs.Step.{is_registered, settled_clock, moved};
-ghost use Rattle.xk_standings.specs.Told.{told_of, change_on};
+ghost use Rattle.xk_standings.specs.Told.{told_of, rooms_of, change_on};
 ghost use Rattle.xk_core.specs.Change.{standing_after, standing_after_step, AllowsChangeOn, AllowsChange};
 
 use xk_standings::{Standings, Which};
@@ -30,6 +30,7 @@ impl StandingChange {
         ensures told { told_of standings.new ≡ map (settled_clock now)
             (moved a (change_on which (standing_after self)) (told_of standings.old)) }
         ensures activities { length standings.new.held ≡ length standings.old.held }
+        ensures rooms { rooms_of standings.new ≡ rooms_of standings.old }
     {
         match self {
             StandingChange::Resume => standings.resume(a, which, now),
@@ -61,6 +62,7 @@ impl StepChange {
         ensures told { told_of standings.new ≡ map (settled_clock now)
             (moved a (standing_after_step self.now) (told_of standings.old)) }
         ensures activities { length standings.new.held ≡ length standings.old.held }
+        ensures rooms { rooms_of standings.new ≡ rooms_of standings.old }
     {
         match self {
             StepChange::Nothing => standings.rest(),

@@ -1,7 +1,6 @@
 //! The running machine: one world, stepped by activity numbers.
 #![tactic(auto)]
 
-mod activity;
 mod change;
 pub mod laws;
 mod machine;

@@ -1,20 +1,24 @@
 //! The core: a module that the verifier accepted, and a world that a legal schedule of it reaches.
 
-ghost use Rattle.std.specs.Prelude.{◌≡◌, true, false, ◌+◌, ◌<◌, ◌≤◌, Some, None, length, option_map, option_copied, slice_get, IsTrue, IfOk, IfSome, IfNone, OnOk, OnErr};
+ghost use Rattle.std.specs.Prelude.{◌≡◌, ◌⊎◌, true, false, ◌+◌, ◌<◌, ◌≤◌, Some, None, length, option_map, option_copied, slice_get, IsTrue, IfOk, IfSome, IfNone, OnOk, OnErr};
 ghost use Rattle.xk_types.specs.World.{opening};
 ghost use Rattle.xk_types.specs.Step.{Stepped, step};
 ghost use Rattle.xk_types.specs.Schedule.{IsReached, is_enabled, all_ended};
 ghost use Rattle.xk_types.specs.Bound.{steps_bound};
-ghost use Rattle.xk_core.specs.Core.{next_instruction, next_of, governor, opening_core, StepsTo, WantsMemory, IsCore, IsLeastEnabled, is_about_to_start, is_quiet, is_registered_on};
+ghost use Rattle.xk_core.specs.Core.{is_running, Locally, IsBeyond, next_instruction, next_of, governor, opening_core, StepsTo, WantsMemory, IsCore, IsLeastEnabled, is_about_to_start, is_quiet, is_registered_on, is_next_local};
+ghost use Rattle.xk_core.specs.Stretch.{RunsTo, AreLocal, IsUnseen};
+ghost use Rattle.xk_activity.specs.Activities.{act_at};
+ghost use Rattle.xk_activity.specs.Joined.{frames_in};
 ghost use Rattle.xk_core.specs.Able.{is_kept};
 ghost use Rattle.xk_core.specs.Told.{is_end};
-ghost use Rattle.xk_core.specs.Arm.{grows, concerns_finishes};
+ghost use Rattle.xk_core.specs.Arm.{concerns_finishes, is_visible, IsLast};
 ghost use Rattle.xk_types.specs.declared.instr.Instr.TheVariants as instruction;
 
 use crate::change::is_registered;
 use crate::state::State;
 use std::alloc::{AllocError, Global};
 use std::marker::Model;
+use xk_activity::{Frames, Next};
 use xk_bounds::Verified;
 use xk_finishes::FinishTree;
 use xk_types::{Act, Args, ClockId, Event, Instr};
@@ -23,8 +27,7 @@ use xk_types::{Act, Args, ClockId, Event, Instr};
 /// no step of it raises ClockUseException or meets a missing or wrong operand.
 #[derive(Drop)]
 pub struct Core<'m> {
-    verified: &'m Verified,
-    state: State,
+    state: State<'m>,
     finishes: FinishTree,
 }
 
@@ -35,12 +38,12 @@ impl<'m> Model for Core<'m> {
     ghost Value = { CoreValue };
 
     ghost view = { λ c. record {
-      module_run = c.verified.now;
-      world = with_finishes c.finishes c.state;
+      module_run = c.state.module_run;
+      world = with_finishes c.finishes c.state.world;
     } };
 
-    ghost invariant = { λ c. IsCore c.verified.now (with_finishes c.finishes c.state)
-        × AreTold c.verified.now c.finishes c.state.activities };
+    ghost invariant = { λ c. IsCore c.state.module_run (with_finishes c.finishes c.state.world)
+        × AreTold c.state.module_run c.finishes c.state.world.activities };
 }
 
 /// Whether what a step did was to end its activity.
@@ -56,14 +59,10 @@ impl<'m> Core<'m> {
         ensures { IfOk result (λ c. c ≡ opening_core verified.now) }
     {
         let program = verified.module();
-        let main = &program.units()[0];
-        let state = State::opening(alloc, main.slots, program.shared())?;
+        let _main = &program.units()[0];
+        let state = State::open(alloc, verified)?;
         let finishes = FinishTree::open(alloc, verified.room(0).finishes)?;
-        Ok(Core {
-            verified,
-            state,
-            finishes,
-        })
+        Ok(Core { state, finishes })
     }
 
     /// The module that it runs, as `open` was given it.
@@ -72,7 +71,7 @@ impl<'m> Core<'m> {
         // A core that has taken no step is in the opening world.
         ensures opening { self.now.world.steps ≡ 0 → self.now.world ≡ opening self.now.module_run }
     {
-        self.verified
+        self.state.verified()
     }
 
     /// Whether the activity exists and can take a step: it runs, and doesn't wait at an `endfinish` for somebody who hasn't ended; or
@@ -150,10 +149,7 @@ impl<'m> Core<'m> {
         ensures { option_map (λ a. a.since) (slice_get self.now.world.activities act)
             ≡ Some result }
     {
-        match self.state.activity(act.0 as usize) {
-            Some(a) => a.since(),
-            None => unreachable!(),
-        }
+        self.state.since(act.0 as usize)
     }
 
     /// The number of the step in which the clock last advanced, counted from 1; 0 before the first.
@@ -208,16 +204,53 @@ impl<'m> Core<'m> {
         self.finishes.governor(act)
     }
 
+    /// Whether nobody else can see the next step of the activity. It can take that step then.
+    #[inline(always)]
+    pub fn next_local(&self, act: Act) -> bool
+        ensures { result ≡ is_next_local self.now act }
+    {
+        match self.state.runs(act.0 as usize) {
+            true => self.state.is_local(act.0 as usize),
+            false => false,
+        }
+    }
+
+    /// The frames of the activity.
+    pub fn frames(&self, act: Act) -> &Frames<'m>
+        requires { act < length self.now.world.activities }
+        ensures { result.now ≡ frames_in self.now.module_run
+            (act_at self.now.world.activities act) }
+    {
+        self.state.frames(act.0 as usize)
+    }
+
+    /// Up to max steps of the activity that nobody else can see, and how many they were: max, or as many as there are before one that
+    /// others can see, or that it can't take. Takes no memory.
+    pub fn run(&mut self, act: Act, max: u32) -> u32
+        ensures ran { RunsTo self.old act result self.new }
+        ensures local { AreLocal self.old act result }
+        ensures unseen { IsUnseen self.old act result }
+        ensures counted { self.new.world.steps ≡ self.old.world.steps + result }
+        ensures most { result ≤ max }
+        ensures stops { (result ≡ max) ⊎ (is_next_local self.new act ≡ false) }
+        ensures same_module { self.new.module_run ≡ self.old.module_run }
+    {
+        match self.state.runs(act.0 as usize) {
+            true => self.state.run(act.0 as usize, max),
+            false => 0,
+        }
+    }
+
     /// The instruction that activity a carries out next, if it runs.
     #[inline(always)]
     fn next_instruction(&self, a: usize) -> Option<&'m Instr>
         ensures { option_copied result ≡ next_instruction self.now.module_run self.now.world a }
     {
-        self.state.next_instruction(self.verified.module(), a)
+        self.state.next_instruction(a)
     }
 
-    /// One step of the activity, and what it is seen to do. Only the making of a clock, a call of a method and the start of an
-    /// activity want memory; where that is refused the core is as before.
+    /// One step of the activity, and what it is seen to do. Only the start of an activity wants memory; where that is refused the
+    /// core is as before.
     #[inline(always)]
     pub fn step(&mut self, act: Act) -> Result<Event, AllocError>
         requires { IsTrue (is_enabled self.old.module_run self.old.world act) }
@@ -229,27 +262,54 @@ impl<'m> Core<'m> {
         ensures refused { OnErr result (self.new ≡ self.old) }
         ensures only_where_it_grows { OnErr result (WantsMemory self.old act) }
     {
-        let program = self.verified.module();
-        let next = self.state.next_instruction(program, act.0 as usize);
-        self.take(act, next)
+        let _state = &self.state;
+        self.take(act)
     }
 
-    /// The activity carries out this instruction, which is its next one, or passes the `advance` that it waits at.
+    /// The activity takes its next step.
     #[inline(always)]
-    fn take(&mut self, act: Act, next: Option<&Instr>) -> Result<Event, AllocError>
-        requires enabled { IsTrue (is_enabled self.old.module_run self.old.world act) }
-        requires here { option_copied next ≡ next_of self.old act }
+    fn take(&mut self, act: Act) -> Result<Event, AllocError>
+        requires { IsTrue (is_enabled self.old.module_run self.old.world act) }
         ensures stepped { IfOk result (StepsTo self.old act self.new) }
         ensures same_module { self.new.module_run ≡ self.old.module_run }
         ensures refused { OnErr result (self.new ≡ self.old) }
         ensures only_where_it_grows { OnErr result (WantsMemory self.old act) }
     {
-        match next {
-            None => Ok(self.pass(act)),
-            Some(Instr::Finish(e)) => Ok(self.open_finish(act, *e)),
-            Some(Instr::EndFinish(b)) => Ok(self.close_finish(act, *b)),
-            Some(Instr::Spawn(unit, args)) => self.start(act, *unit, args),
-            Some(instr) => self.carry_out(act, instr),
+        match self.state.runs(act.0 as usize) {
+            false => Ok(self.pass(act)),
+            true => match self.local(act) {
+                Next::Stepped => Ok(Event::Local),
+                Next::Visible => self.visible(act),
+            },
+        }
+    }
+
+    /// One step of a running activity, if nobody else can see it.
+    #[inline(always)]
+    fn local(&mut self, act: Act) -> Next
+        requires enabled { IsTrue (is_enabled self.old.module_run self.old.world act) }
+        requires runs { is_running self.old.world act ≡ true }
+        ensures stepped { Locally self.old act result self.new }
+        ensures same_module { self.new.module_run ≡ self.old.module_run }
+    {
+        self.state.local(act.0 as usize)
+    }
+
+    /// A running activity carries out its next instruction, which others can see.
+    fn visible(&mut self, act: Act) -> Result<Event, AllocError>
+        requires enabled { IsTrue (is_enabled self.old.module_run self.old.world act) }
+        requires runs { is_running self.old.world act ≡ true }
+        requires beyond { IsBeyond self.old act }
+        ensures stepped { IfOk result (StepsTo self.old act self.new) }
+        ensures same_module { self.new.module_run ≡ self.old.module_run }
+        ensures refused { OnErr result (self.new ≡ self.old) }
+        ensures only_where_it_grows { OnErr result (WantsMemory self.old act) }
+    {
+        match self.state.next(act.0 as usize) {
+            Instr::Finish(e) => Ok(self.open_finish(act, *e)),
+            Instr::EndFinish(b) => Ok(self.close_finish(act, *b)),
+            Instr::Spawn(unit, args) => self.start(act, *unit, args),
+            instr => Ok(self.carry_out(act, instr)),
         }
     }
 
@@ -295,35 +355,25 @@ impl<'m> Core<'m> {
         ensures same_module { self.new.module_run ≡ self.old.module_run }
         ensures refused { OnErr result (self.new ≡ self.old) }
     {
-        let program = self.verified.module();
-        let room = self.verified.room(unit).finishes;
-        self.state.spawn(
-            &mut self.finishes,
-            program,
-            act.0 as usize,
-            unit,
-            args.slots(),
-            room,
-        )
+        let most = self.state.verified().room(unit);
+        self.state.spawn(&mut self.finishes, act.0 as usize, unit, args.slots(), most)
     }
 
     /// The activity carries out an instruction that opens or closes no finish, and starts no activity.
     #[inline(always)]
-    fn carry_out(&mut self, act: Act, instr: &Instr) -> Result<Event, AllocError>
+    fn carry_out(&mut self, act: Act, instr: &Instr) -> Event
         requires enabled { is_enabled self.old.module_run self.old.world act ≡ true }
         requires here { next_of self.old act ≡ Some instr.now }
+        requires visible { is_visible instr.now ≡ true }
         requires plain { concerns_finishes instr.now ≡ false }
-        ensures stepped { IfOk result (StepsTo self.old act self.new) }
+        requires last { instr.now ≡ instruction.Ret → IsLast self.old.world act }
+        ensures stepped { StepsTo self.old act self.new result }
         ensures same_module { self.new.module_run ≡ self.old.module_run }
-        ensures refused { OnErr result (self.new ≡ self.old) }
-        ensures only_where_it_grows { OnErr result (grows instr.now ≡ true) }
     {
-        let event = self
-            .state
-            .carry_out(self.verified.module(), act.0 as usize, instr)?;
+        let event = self.state.carry_out(act.0 as usize, instr);
         if is_end(event) {
             self.finishes.ended(act);
         }
-        Ok(event)
+        event
     }
 }

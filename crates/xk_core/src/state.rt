@@ -1,52 +1,65 @@
 //! The world of a running program, but for its finishes, and the arms of its steps.
 
-ghost use Rattle.std.specs.Prelude.{◌≡◌, ℤ, ◌+◌, ◌<◌, ◌^◌, true, false, ◌∷◌, [], ◌++◌, Some, length, slice_get, slice_set, option_copied, option_map, IfOk, OnOk, OnErr, All};
+ghost use Rattle.std.specs.Prelude.{◌≡◌, ℕ, ℤ, ◌+◌, ◌<◌, ◌≤◌, ◌^◌, true, false, ◌∷◌, [], ◌++◌, Some, length, slice_get, slice_set, option_copied, option_map, IfOk, OnOk, OnErr, All};
 ghost use Rattle.xk_types.specs.declared.names.Value.TheVariants as value;
 ghost use Rattle.xk_types.specs.declared.instr.Instr.TheVariants as instruction;
+ghost use Rattle.xk_types.specs.Code.{IsWithinLimits};
+ghost use Rattle.xk_types.specs.World.{standing_of, opening, instruction_at};
 ghost use Rattle.xk_types.specs.Step.{Stepped, settled, moved, waits, onward, none};
-ghost use Rattle.xk_finishes.specs.Tree.{node_at, fresh_node, governing_of};
 ghost use Rattle.xk_types.specs.Schedule.{is_step, all_ended};
+ghost use Rattle.xk_types.specs.Bound.{stack_of};
+ghost use Rattle.xk_finishes.specs.Tree.{node_at, fresh_node, governing_of};
+ghost use Rattle.xk_activity.specs.Activities.{act_at, Stands, Takes};
+ghost use Rattle.xk_activity.specs.Local.{IsRight, IsSafe, local, is_stepped};
+ghost use Rattle.xk_activity.specs.Joined.{frames_in};
+ghost use Rattle.xk_rooms.specs.Rooms.{HasRoomLeft};
+ghost use Rattle.xk_core.specs.Stretch.{HasRoomForSteps, TakesSteps};
 ghost use Rattle.xk_core.specs.Able.{is_able};
-ghost use Rattle.xk_core.specs.Core.{is_quiet, next_instruction};
-ghost use Rattle.xk_core.specs.Opening.{opening_with};
+ghost use Rattle.xk_core.specs.Core.{is_quiet, is_running, next_instruction, with_world, TakesStep};
 ghost use Rattle.xk_core.specs.Change.{standing_after_step, AllowsChange};
-ghost use Rattle.xk_core.specs.Arm.{grows, concerns_finishes, concerns_cells, carried, CarriesOut, passed_on, IsRoomy, IsRunningUnit};
-ghost use Rattle.xk_types.specs.World.{standing_of};
+ghost use Rattle.xk_core.specs.Arm.{concerns_finishes, is_visible, carried, CarriesOut, passed_on, IsRoomy, IsLast};
 ghost use Rattle.xk_types.specs.World as world;
 
-use crate::activity::{Activity, Frame};
 use crate::change::{StandingChange, StepChange};
 use std::alloc::{AllocError, Global};
 use std::marker::Model;
+use xk_activity::{Activities, Frames, Next};
+use xk_bounds::{Room, Verified};
 use xk_finishes::FinishTree;
 use xk_standings::Standings;
-use xk_types::{Act, ClockId, Event, Instr, Module, Standing, Status, Value};
+use xk_types::{Act, ClockId, Event, Instr, Standing, Status, Value};
 
-/// The world, but for its finishes: activities by their numbers, where they stand on clocks, the shared numbers, and how many
-/// steps were taken. It stands for the world in which no activity has a finish open, and main's finish governs all.
+/// The module that is run, and the world but for its finishes: activities by their numbers, where they stand on clocks, the shared
+/// numbers, and how many steps were taken. It stands for the world in which no activity has a finish open, and main's finish
+/// governs all.
 #[derive(Drop)]
-pub struct State {
-    activities: Vec<Activity>,
+pub struct State<'m> {
+    activities: Activities<'m>,
     standings: Standings,
     cells: Vec<i64>,
     steps: u64,
 }
 
-impl Model for State {
+impl<'m> Model for State<'m> {
     ghost use Rattle.std.specs.Prelude.{◌≡◌, length};
-    ghost use Rattle.xk_types.specs.World as world;
-    ghost use Rattle.xk_standings.specs.Told.{told_of};
+    ghost use Rattle.xk_core.specs.Core.{CoreValue};
+    ghost use Rattle.xk_core.specs.Reserved.{AreReserved};
+    ghost use Rattle.xk_standings.specs.Told.{told_of, rooms_of};
 
-    ghost Value = { world.World };
+    ghost Value = { CoreValue };
 
     ghost view = { λ s. record {
-      activities = s.activities.items;
-      clocks = told_of s.standings;
-      cells = s.cells.items;
-      steps = s.steps;
+      module_run = s.activities.module_run;
+      world = record {
+        activities = s.activities.list;
+        clocks = told_of s.standings;
+        cells = s.cells.items;
+        steps = s.steps;
+      };
     } };
 
-    ghost invariant = { λ s. length s.standings.held ≡ length s.activities.items };
+    ghost invariant = { λ s. (length s.standings.held ≡ length s.activities.list)
+        × AreReserved s.activities.module_run s.activities.list (rooms_of s.standings) };
 }
 
 /// A shared number, as a slot holds it.
@@ -65,281 +78,347 @@ fn set_cell(cells: &mut Vec<i64>, s: u16, n: i64)
     cells[s as usize] = n;
 }
 
-impl State {
+impl<'m> State<'m> {
+    /// A world with main alone, before its first step.
+    pub fn open(alloc: Global, verified: &'m Verified) -> Result<State<'m>, AllocError>
+        ensures module { IfOk result (λ s. s.module_run ≡ verified.now) }
+        ensures world { IfOk result (λ s. s.world ≡ opening verified.now) }
+    {
+        let program = verified.module();
+        let _main = &program.units()[0];
+        let places = verified.room(0).slots as usize;
+        Ok(State {
+            activities: Activities::open(alloc, verified)?,
+            standings: Standings::open(alloc, verified.clocks(), places)?,
+            cells: program.shared().to_vec(alloc)?,
+            steps: 0,
+        })
+    }
+
+    /// The module.
+    pub fn verified(&self) -> &'m Verified
+        ensures { result.now ≡ self.now.module_run }
+    {
+        self.activities.verified()
+    }
+
     /// The end of a step of activity a, whose standings change: it is counted, and each clock that is ready advances.
     #[inline(always)]
     fn end_step(&mut self, a: usize, change: StepChange)
-        requires steps { self.old.steps + 1 < 2 ^ 64 }
-        requires phases { All (λ c. c.phase + 1 < 2 ^ 64) self.old.clocks }
-        requires there { a < length self.old.activities }
-        requires allowed { AllowsChange self.old.clocks a change }
-        ensures { self.new ≡ settled (record self.old
-            { clocks = moved a (standing_after_step change) self.old.clocks }) }
+        requires steps { self.old.world.steps + 1 < 2 ^ 64 }
+        requires phases { All (λ c. c.phase + 1 < 2 ^ 64) self.old.world.clocks }
+        requires there { a < length self.old.world.activities }
+        requires allowed { AllowsChange self.old.world.clocks a change }
+        ensures { self.new ≡ with_world self.old (settled (record self.old.world
+            { clocks = moved a (standing_after_step change) self.old.world.clocks })) }
     {
         self.steps += 1;
         change.make(&mut self.standings, a, self.steps);
     }
 
-    /// Activity a carries out an instruction of this module that opens or closes no finish, and starts no activity. Only the making
-    /// of a clock and a call want memory; where that is refused nothing changes.
+    /// One step of running activity a, if nobody else can see it. Takes no memory.
     #[inline(always)]
-    pub fn carry_out(
-        &mut self,
-        program: &Module,
-        a: usize,
-        instr: &Instr,
-    ) -> Result<Event, AllocError>
-        requires enabled { is_step (carried program.now self.old a instr.now) ≡ true }
+    pub fn local(&mut self, a: usize) -> Next
+        requires there { a < length self.old.world.activities }
+        requires right { IsRight (local (frames_in self.old.module_run
+            (act_at self.old.world.activities a))) }
+        requires room { IsRoomy self.old.module_run self.old.world a }
+        ensures { TakesStep self.old a result self.new }
+    {
+        let next = self.activities.local(a);
+        if matches!(next, Next::Stepped) {
+            self.end_step(a, StepChange::Nothing);
+        }
+        next
+    }
+
+    /// Activity a carries out an instruction that others can see, but that opens or closes no finish, and starts no activity.
+    /// Takes no memory.
+    pub fn carry_out(&mut self, a: usize, instr: &Instr) -> Event
+        requires enabled { is_step (carried self.old.module_run self.old.world a instr.now)
+            ≡ true }
+        requires visible { is_visible instr.now ≡ true }
         requires plain { concerns_finishes instr.now ≡ false }
-        requires room { IsRoomy self.old a }
-        requires unit { IsRunningUnit program.now self.old a }
-        ensures stepped { IfOk result (CarriesOut program.now self.old a instr.now self.new) }
-        ensures refused { OnErr result (self.new ≡ self.old) }
-        ensures only_where_it_grows { OnErr result (grows instr.now ≡ true) }
+        requires last { instr.now ≡ instruction.Ret → IsLast self.old.world a }
+        requires room { IsRoomy self.old.module_run self.old.world a }
+        requires left { (d : ℕ) → instr.now ≡ instruction.Make d
+            → HasRoomLeft self.old.module_run self.old.world a }
+        ensures stepped { CarriesOut self.old.module_run self.old.world a instr.now
+            self.new.world result }
+        ensures same { self.new.module_run ≡ self.old.module_run }
     {
         match instr {
-            Instr::Make(d) => self.make(program, a, *d),
-            Instr::Call(unit, args) => self.call(program, a, *unit, args.slots()),
-            Instr::Get(d, s) => Ok(self.get(program, a, *d, *s)),
-            Instr::Put(s, x) => Ok(self.put(program, a, *s, *x)),
-            Instr::AddTo(s, x) => Ok(self.add_to(program, a, *s, *x)),
-            _ => Ok(self.carry_alone(program, a, instr)),
+            Instr::Make(d) => self.make(a, *d),
+            Instr::Get(d, s) => self.get(a, *d, *s),
+            Instr::Put(s, x) => self.put(a, *s, *x),
+            Instr::AddTo(s, x) => self.add_to(a, *s, *x),
+            Instr::Print(x) => self.print(a, *x),
+            Instr::Resume(k) => self.resume(a, *k),
+            Instr::Drop(k) => self.leave_clock(a, *k),
+            Instr::Advance => self.arrive(a),
+            Instr::Ret => self.end(a),
+            _ => unreachable!(),
         }
     }
 
-    /// Activity a carries out an instruction that adds no clock, no frame and no activity, and concerns no finish and no shared
-    /// number.
-    #[inline(always)]
-    fn carry_alone(&mut self, program: &Module, a: usize, instr: &Instr) -> Event
-        requires enabled { is_step (carried program.now self.old a instr.now) ≡ true }
-        requires single { grows instr.now ≡ false }
-        requires plain { concerns_finishes instr.now ≡ false }
-        requires own { concerns_cells instr.now ≡ false }
-        requires room { IsRoomy self.old a }
-        requires unit { IsRunningUnit program.now self.old a }
-        ensures { CarriesOut program.now self.old a instr.now self.new result }
+    /// Activity a prints the number in slot x.
+    fn print(&mut self, a: usize, x: u16) -> Event
+        requires enabled { is_step
+            (carried self.old.module_run self.old.world a (instruction.Print x)) ≡ true }
+        requires room { IsRoomy self.old.module_run self.old.world a }
+        ensures stepped { CarriesOut self.old.module_run self.old.world a (instruction.Print x)
+            self.new.world result }
+        ensures same { self.new.module_run ≡ self.old.module_run }
     {
-        let act = &mut self.activities[a];
-        let unit = &program.units()[act.unit() as usize];
-        let (change, event) = act.carry_out(unit, instr);
-        self.end_step(a, change);
-        event
+        let n = self.activities.number(a, x);
+        self.activities.go_on(a);
+        self.end_step(a, StepChange::Nothing);
+        Event::Printed(n)
+    }
+
+    /// Activity a resumes the clock that slot k names.
+    fn resume(&mut self, a: usize, k: u16) -> Event
+        requires enabled { is_step
+            (carried self.old.module_run self.old.world a (instruction.Resume k)) ≡ true }
+        requires room { IsRoomy self.old.module_run self.old.world a }
+        ensures stepped { CarriesOut self.old.module_run self.old.world a (instruction.Resume k)
+            self.new.world result }
+        ensures same { self.new.module_run ≡ self.old.module_run }
+    {
+        let c = self.activities.clock(a, k);
+        self.activities.go_on(a);
+        self.end_step(a, StepChange::Only(c, StandingChange::Resume));
+        Event::Resumed
+    }
+
+    /// Activity a drops the clock that slot k names.
+    fn leave_clock(&mut self, a: usize, k: u16) -> Event
+        requires enabled { is_step
+            (carried self.old.module_run self.old.world a (instruction.Drop k)) ≡ true }
+        requires room { IsRoomy self.old.module_run self.old.world a }
+        ensures stepped { CarriesOut self.old.module_run self.old.world a (instruction.Drop k)
+            self.new.world result }
+        ensures same { self.new.module_run ≡ self.old.module_run }
+    {
+        let c = self.activities.clock(a, k);
+        self.activities.go_on(a);
+        self.end_step(a, StepChange::Only(c, StandingChange::Drop));
+        Event::Dropped
+    }
+
+    /// Activity a comes to wait at an `advance`.
+    fn arrive(&mut self, a: usize) -> Event
+        requires enabled { is_step
+            (carried self.old.module_run self.old.world a instruction.Advance) ≡ true }
+        requires room { IsRoomy self.old.module_run self.old.world a }
+        ensures stepped { CarriesOut self.old.module_run self.old.world a instruction.Advance
+            self.new.world result }
+        ensures same { self.new.module_run ≡ self.old.module_run }
+    {
+        self.activities.arrive(a);
+        self.end_step(a, StepChange::All(StandingChange::Resume));
+        Event::Arrived
+    }
+
+    /// Activity a is over, and leaves its clocks.
+    fn end(&mut self, a: usize) -> Event
+        requires enabled { is_step
+            (carried self.old.module_run self.old.world a instruction.Ret) ≡ true }
+        requires last { IsLast self.old.world a }
+        requires room { IsRoomy self.old.module_run self.old.world a }
+        ensures stepped { CarriesOut self.old.module_run self.old.world a instruction.Ret
+            self.new.world result }
+        ensures same { self.new.module_run ≡ self.old.module_run }
+    {
+        self.activities.end(a);
+        self.end_step(a, StepChange::All(StandingChange::Drop));
+        Event::Ended
     }
 
     /// Activity a reads a shared number into slot d.
-    fn get(&mut self, program: &Module, a: usize, d: u16, s: u16) -> Event
-        requires enabled { is_step (carried program.now self.old a (instruction.Get d s)) ≡ true }
-        requires room { IsRoomy self.old a }
-        ensures { CarriesOut program.now self.old a (instruction.Get d s) self.new result }
+    fn get(&mut self, a: usize, d: u16, s: u16) -> Event
+        requires enabled { is_step
+            (carried self.old.module_run self.old.world a (instruction.Get d s)) ≡ true }
+        requires room { IsRoomy self.old.module_run self.old.world a }
+        ensures stepped { CarriesOut self.old.module_run self.old.world a (instruction.Get d s)
+            self.new.world result }
+        ensures same { self.new.module_run ≡ self.old.module_run }
     {
         let n = cell(&self.cells, s);
-        let act = &mut self.activities[a];
-        act.put(d, n);
+        self.activities.write(a, d, n);
         self.end_step(a, StepChange::Nothing);
         Event::Got
     }
 
     /// Activity a writes the number in slot x to a shared number.
-    fn put(&mut self, program: &Module, a: usize, s: u16, x: u16) -> Event
-        requires enabled { is_step (carried program.now self.old a (instruction.Put s x)) ≡ true }
-        requires room { IsRoomy self.old a }
-        ensures { CarriesOut program.now self.old a (instruction.Put s x) self.new result }
+    fn put(&mut self, a: usize, s: u16, x: u16) -> Event
+        requires enabled { is_step
+            (carried self.old.module_run self.old.world a (instruction.Put s x)) ≡ true }
+        requires room { IsRoomy self.old.module_run self.old.world a }
+        ensures stepped { CarriesOut self.old.module_run self.old.world a (instruction.Put s x)
+            self.new.world result }
+        ensures same { self.new.module_run ≡ self.old.module_run }
     {
-        let act = &mut self.activities[a];
-        let n = act.number(x);
-        act.go_on();
+        let n = self.activities.number(a, x);
+        self.activities.go_on(a);
         set_cell(&mut self.cells, s, n);
         self.end_step(a, StepChange::Nothing);
         Event::Put
     }
 
     /// Activity a adds the number in slot x to a shared number, in one step.
-    fn add_to(&mut self, program: &Module, a: usize, s: u16, x: u16) -> Event
-        requires enabled { is_step (carried program.now self.old a (instruction.AddTo s x)) ≡ true }
-        requires room { IsRoomy self.old a }
-        ensures { CarriesOut program.now self.old a (instruction.AddTo s x) self.new result }
+    fn add_to(&mut self, a: usize, s: u16, x: u16) -> Event
+        requires enabled { is_step
+            (carried self.old.module_run self.old.world a (instruction.AddTo s x)) ≡ true }
+        requires room { IsRoomy self.old.module_run self.old.world a }
+        ensures stepped { CarriesOut self.old.module_run self.old.world a (instruction.AddTo s x)
+            self.new.world result }
+        ensures same { self.new.module_run ≡ self.old.module_run }
     {
-        let act = &mut self.activities[a];
-        let n = act.number(x);
-        act.go_on();
+        let n = self.activities.number(a, x);
+        self.activities.go_on(a);
         self.cells[s as usize] = self.cells[s as usize].wrapping_add(n);
         self.end_step(a, StepChange::Nothing);
         Event::Added
     }
 
-    /// Activity a makes a clock, and puts its name into slot d. Where memory is refused nothing changes.
-    fn make(&mut self, program: &Module, a: usize, d: u16) -> Result<Event, AllocError>
-        requires enabled { is_step (carried program.now self.old a (instruction.Make d)) ≡ true }
-        requires room { IsRoomy self.old a }
-        ensures made { IfOk result
-            (CarriesOut program.now self.old a (instruction.Make d) self.new) }
-        ensures refused { OnErr result (self.new ≡ self.old) }
-    {
-        let name = self.standings.make(a)?;
-        let act = &mut self.activities[a];
-        act.put(d, Value::Clock(name));
-        self.steps += 1;
-        Ok(Event::Made)
-    }
-
-    /// Activity a calls this unit with the values of these slots. Where memory is refused nothing changes.
-    fn call(
-        &mut self,
-        program: &Module,
-        a: usize,
-        unit: u16,
-        args: &[u16],
-    ) -> Result<Event, AllocError>
+    /// Activity a makes a clock, for which there is room, and puts its name into slot d.
+    fn make(&mut self, a: usize, d: u16) -> Event
         requires enabled { is_step
-            (carried program.now self.old a (instruction.Call unit args.now)) ≡ true }
-        requires room { IsRoomy self.old a }
-        ensures called { IfOk result
-            (CarriesOut program.now self.old a (instruction.Call unit args.now) self.new) }
-        ensures refused { OnErr result (self.new ≡ self.old) }
+            (carried self.old.module_run self.old.world a (instruction.Make d)) ≡ true }
+        requires room { IsRoomy self.old.module_run self.old.world a }
+        requires left { HasRoomLeft self.old.module_run self.old.world a }
+        ensures stepped { CarriesOut self.old.module_run self.old.world a (instruction.Make d)
+            self.new.world result }
+        ensures same { self.new.module_run ≡ self.old.module_run }
     {
-        let alloc = *self.activities.allocator();
-        let method = &program.units()[unit as usize];
-        let size = method.slots;
-        let act = &mut self.activities[a];
-        act.call(alloc, unit, args, size)?;
-        self.end_step(a, StepChange::Nothing);
-        Ok(Event::Local)
+        let name = self.standings.make(a);
+        self.activities.write(a, d, Value::Clock(name));
+        self.steps += 1;
+        Event::Made
     }
 
     /// Activity a goes on to the next instruction, and the step ends.
     pub fn go_on(&mut self, a: usize)
-        requires there { a < length self.old.activities }
-        requires room { IsRoomy self.old a }
-        ensures { (act : world.Activity) → slice_get self.old.activities a ≡ Some act
-            → self.new ≡ settled (record self.old {
-              activities = slice_set self.old.activities a (onward act);
-              clocks = moved a none self.old.clocks;
-            }) }
+        requires there { a < length self.old.world.activities }
+        requires room { IsRoomy self.old.module_run self.old.world a }
+        ensures { self.new ≡ with_world self.old (settled (record self.old.world {
+          activities = slice_set self.old.world.activities a
+              (onward (act_at self.old.world.activities a));
+          clocks = moved a none self.old.world.clocks;
+        })) }
     {
-        let act = &mut self.activities[a];
-        act.go_on();
+        self.activities.go_on(a);
         self.end_step(a, StepChange::Nothing);
     }
 
-    /// Activity a starts one that runs this unit with the values of these slots, which the tree takes in with this much room for
-    /// finishes. Where memory is refused nothing changes.
+    /// Activity a starts one that runs this unit with the values of these slots, with this much room for its finishes and for what
+    /// it is registered on. Where memory is refused nothing changes.
     pub fn spawn(
         &mut self,
         finishes: &mut FinishTree,
-        program: &Module,
         a: usize,
         unit: u16,
         args: &[u16],
-        finish_room: u32,
+        most: Room,
     ) -> Result<Event, AllocError>
         requires enabled { is_step
-            (carried program.now self.old a (instruction.Spawn unit args.now)) ≡ true }
-        requires room { IsRoomy self.old a }
-        requires with_finishes { length finishes.old ≡ length self.old.activities }
+            (carried self.old.module_run self.old.world a (instruction.Spawn unit args.now))
+            ≡ true }
+        requires room { IsRoomy self.old.module_run self.old.world a }
+        requires with_finishes { length finishes.old ≡ length self.old.world.activities }
         requires runs { (node_at finishes.old a).ended ≡ false }
-        requires numbers { length self.old.activities + 1 < 2 ^ 32 }
+        requires numbers { length self.old.world.activities + 1 < 2 ^ 32 }
+        requires limits { IsWithinLimits self.old.module_run }
+        requires places { stack_of self.old.module_run unit ≤ most.slots }
         ensures started { IfOk result
-            (CarriesOut program.now self.old a (instruction.Spawn unit args.now) self.new) }
+            (CarriesOut self.old.module_run self.old.world a
+            (instruction.Spawn unit args.now) self.new.world) }
+        ensures same { self.new.module_run ≡ self.old.module_run }
         ensures finishes { OnOk result
             (finishes.new ≡ finishes.old
-            ++ fresh_node (governing_of a (node_at finishes.old a)) finish_room ∷ []) }
+            ++ fresh_node (governing_of a (node_at finishes.old a)) most.finishes ∷ []) }
         ensures refused { OnErr result (self.new ≡ self.old) }
         ensures finishes_refused { OnErr result (finishes.new ≡ finishes.old) }
     {
-        let alloc = *self.activities.allocator();
-        let body = &program.units()[unit as usize];
-        let size = body.slots;
-        let starter = &self.activities[a];
-        let child = starter.start(alloc, unit, args, size)?;
-        let registrations = self.standings.child(alloc, a, child.slots())?;
-        self.activities.try_reserve(1)?;
+        let alloc = self.activities.allocator();
+        let values = self.activities.values(alloc, a, args)?;
+        let new = self.activities.begin(alloc, a, unit, &values)?;
+        let places = most.slots as usize;
+        let registrations = self.standings.child(alloc, a, places, &values)?;
+        self.activities.reserve()?;
         self.standings.reserve()?;
-        finishes.spawned(Act(a as u32), finish_room)?;
+        finishes.spawned(Act(a as u32), most.finishes)?;
         self.standings.admit(registrations);
-        let act = &mut self.activities[a];
-        act.go_on();
-        self.activities.push_reserved(child);
+        self.activities.go_on(a);
+        self.activities.admit(new);
         self.steps += 1;
         Ok(Event::Spawned)
     }
 
     /// Activity a passes the `advance` that it waits at.
     pub fn pass(&mut self, a: usize) -> Event
-        requires enabled { is_step (passed_on self.old a) ≡ true }
-        requires room { IsRoomy self.old a }
-        ensures { passed_on self.old a ≡ Stepped self.new result }
+        requires enabled { is_step (passed_on self.old.world a) ≡ true }
+        requires room { IsRoomy self.old.module_run self.old.world a }
+        ensures stepped { passed_on self.old.world a ≡ Stepped self.new.world result }
+        ensures same { self.new.module_run ≡ self.old.module_run }
     {
         let now = self.steps + 1;
-        let act = &mut self.activities[a];
-        act.pass(now);
+        self.activities.pass(a, now);
         self.end_step(a, StepChange::All(StandingChange::Pass));
         Event::Passed
     }
 
-    /// A world with main alone, before its first step.
-    pub fn opening(alloc: Global, slots: u16, shared: &[i64]) -> Result<State, AllocError>
-        ensures { IfOk result (λ s. s ≡ opening_with slots shared.now) }
-    {
-        let slots = vec![in alloc; Value::Unset; slots as usize]?;
-        let mut activities = Vec::new(alloc);
-        activities.push(Activity::new(alloc, Frame::new(0, slots), 0))?;
-        Ok(State {
-            activities,
-            standings: Standings::open(alloc)?,
-            cells: shared.to_vec(alloc)?,
-            steps: 0,
-        })
-    }
-
     /// How many steps were taken.
     pub fn steps(&self) -> u64
-        ensures { result ≡ self.now.steps }
+        ensures { result ≡ self.now.world.steps }
     {
         self.steps
     }
 
     /// How many activities there are.
     pub fn activity_count(&self) -> usize
-        ensures { result ≡ length self.now.activities }
+        ensures { result ≡ length self.now.world.activities }
     {
         self.activities.len()
     }
 
     /// How many clocks there are.
     pub fn clock_count(&self) -> usize
-        ensures { result ≡ length self.now.clocks }
+        ensures { result ≡ length self.now.world.clocks }
     {
         self.standings.clock_count()
     }
 
-    /// The activity of this number, if there is one.
-    pub fn activity(&self, a: usize) -> Option<&Activity>
-        ensures { option_copied result ≡ slice_get self.now.activities a }
+    /// The number of the step of activity a's last pass; before the first, what it began with.
+    pub fn since(&self, a: usize) -> u64
+        requires { a < length self.now.world.activities }
+        ensures { result ≡ (act_at self.now.world.activities a).since }
     {
-        self.activities.get(a)
+        self.activities.since(a)
     }
 
     /// How often the clock has advanced.
     pub fn phase(&self, clock: ClockId) -> u64
-        requires { clock < length self.now.clocks }
-        ensures { option_map (λ c. c.phase) (slice_get self.now.clocks clock) ≡ Some result }
+        requires { clock < length self.now.world.clocks }
+        ensures { option_map (λ c. c.phase) (slice_get self.now.world.clocks clock) ≡ Some result }
     {
         self.standings.phase(clock)
     }
 
     /// The number of the step in which the clock last advanced, 0 before.
     pub fn last(&self, clock: ClockId) -> u64
-        requires { clock < length self.now.clocks }
-        ensures { option_map (λ c. c.last) (slice_get self.now.clocks clock) ≡ Some result }
+        requires { clock < length self.now.world.clocks }
+        ensures { option_map (λ c. c.last) (slice_get self.now.world.clocks clock) ≡ Some result }
     {
         self.standings.last(clock)
     }
 
     /// Where activity a stands on the clock.
     pub fn standing(&self, a: usize, clock: ClockId) -> Standing
-        requires activity { a < length self.now.activities }
-        requires clock { clock < length self.now.clocks }
-        ensures { option_map (λ c. standing_of c a) (slice_get self.now.clocks clock)
+        requires activity { a < length self.now.world.activities }
+        requires clock { clock < length self.now.world.clocks }
+        ensures { option_map (λ c. standing_of c a) (slice_get self.now.world.clocks clock)
             ≡ Some result }
     {
         self.standings.standing(a, clock)
@@ -348,37 +427,54 @@ impl State {
     /// Whether no clock advanced in the last step.
     #[inline(always)]
     pub fn is_quiet(&self) -> bool
-        ensures { result ≡ is_quiet self.now }
+        ensures { result ≡ is_quiet self.now.world }
     {
         self.standings.is_quiet(self.steps)
     }
 
-    /// The instruction of this module that activity a carries out next, if it runs.
+    /// Whether activity a exists and runs.
     #[inline(always)]
-    pub fn next_instruction<'m>(&self, program: &'m Module, a: usize) -> Option<&'m Instr>
-        ensures { option_copied result ≡ next_instruction program.now self.now a }
+    pub fn runs(&self, a: usize) -> bool
+        ensures { result ≡ is_running self.now.world a }
     {
-        let act = self.activities.get(a)?;
-        match act.status() {
-            Status::Running => {
-                let unit = program.units().get(act.unit() as usize)?;
-                unit.code.get(act.place() as usize)
-            }
-            Status::Arrived | Status::Ended => None,
+        a < self.activities.len() && matches!(self.activities.status(a), Status::Running)
+    }
+
+    /// The instruction that activity a stands at.
+    #[inline(always)]
+    pub fn next(&self, a: usize) -> &'m Instr
+        requires there { a < length self.now.world.activities }
+        requires stands { Stands self.now.module_run (act_at self.now.world.activities a) }
+        ensures { instruction_at self.now.module_run (act_at self.now.world.activities a).frame
+            ≡ Some result.now }
+    {
+        self.activities.next(a)
+    }
+
+    /// The instruction that activity a carries out next, if it runs.
+    #[inline(always)]
+    pub fn next_instruction(&self, a: usize) -> Option<&'m Instr>
+        requires { a < length self.now.world.activities
+            → Stands self.now.module_run (act_at self.now.world.activities a) }
+        ensures { option_copied result ≡ next_instruction self.now.module_run self.now.world a }
+    {
+        match self.runs(a) {
+            true => Some(self.activities.next(a)),
+            false => None,
         }
     }
 
     /// Whether every activity has ended.
     pub fn all_ended(&self) -> bool
-        ensures { result ≡ all_ended self.now }
+        ensures { result ≡ all_ended self.now.world }
     {
-        self.activities.iter().all(|act| act.is_ended())
+        self.activities.all_ended()
     }
 
     /// Whether a clock holds activity a back that waits at an `advance`.
     fn waits(&self, a: usize) -> bool
-        requires { a < length self.now.activities }
-        ensures { result ≡ waits self.now a }
+        requires { a < length self.now.world.activities }
+        ensures { result ≡ waits self.now.world a }
     {
         self.standings.waits(a)
     }
@@ -386,15 +482,51 @@ impl State {
     /// Whether activity a exists, doesn't wait at an `advance`, and isn't over.
     #[inline(always)]
     pub fn is_able(&self, a: usize) -> bool
-        ensures { result ≡ is_able self.now a }
+        ensures { result ≡ is_able self.now.world a }
     {
-        match self.activities.get(a) {
-            None => false,
-            Some(act) => match act.status() {
+        match a < self.activities.len() {
+            false => false,
+            true => match self.activities.status(a) {
                 Status::Running => true,
                 Status::Arrived => !self.waits(a),
                 Status::Ended => false,
             },
         }
+    }
+
+    /// Whether nobody else can see the next step of running activity a.
+    #[inline(always)]
+    pub fn is_local(&self, a: usize) -> bool
+        requires there { a < length self.now.world.activities }
+        requires right { IsRight (local (frames_in self.now.module_run
+            (act_at self.now.world.activities a))) }
+        ensures { result ≡ is_stepped (local (frames_in self.now.module_run
+            (act_at self.now.world.activities a))) }
+    {
+        self.activities.is_local(a)
+    }
+
+    /// The frames of activity a.
+    pub fn frames(&self, a: usize) -> &Frames<'m>
+        requires { a < length self.now.world.activities }
+        ensures { result.now ≡ frames_in self.now.module_run
+            (act_at self.now.world.activities a) }
+    {
+        self.activities.frames(a)
+    }
+
+    /// Up to max steps of running activity a that nobody else can see, and how many they were. No clock is ready to advance, and none
+    /// becomes so. Takes no memory.
+    pub fn run(&mut self, a: usize, max: u32) -> u32
+        requires there { a < length self.old.world.activities }
+        requires safe { IsSafe local (frames_in self.old.module_run
+            (act_at self.old.world.activities a)) }
+        requires steps { HasRoomForSteps self.old a }
+        ensures runs { TakesSteps self.old a max result self.new }
+        ensures most { result ≤ max }
+    {
+        let n = self.activities.run(a, max);
+        self.steps += n as u64;
+        n
     }
 }

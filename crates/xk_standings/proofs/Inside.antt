@@ -1,5 +1,5 @@
 -- What holds of standings as callers see them, of their parts as the code keeps them.
-use Rattle.std.proofs.Common.{◌≡◌, ℕ, ◌+◌, ◌<◌, ◌^◌, Bool, List, [], ◌∷◌, ◌++◌, map, length, get_or, Option, Some, Result, Ok, Err, OnErr, sym, ap, ◌∙◌, subst, slice_get, slice_index_or}
+use Rattle.std.proofs.Common.{◌≡◌, ℕ, zero, suc, ◌+◌, ◌<◌, ◌^◌, Bool, List, [], ◌∷◌, ◌++◌, map, length, get_or, set, Option, Some, refl, sym, ap, ◌∙◌, subst, arith, slice_get, slice_index_or}
 use Rattle.std.specs.List.{list_any}
 use Rattle.std.specs.Option.{option_map_or, option_map}
 use Rattle.xk_types.specs.declared.names.Standing.{Standing}
@@ -9,23 +9,15 @@ use Rattle.xk_types.specs.Step.{is_signalled, settled_clock, joined}
 use Rattle.xk_clocks.specs.Table.{count_at}
 use Rattle.xk_standings.specs.View.{Registration, standing_at, reg_on, AreDistinct, held, IsKept}
 use Rattle.xk_standings.specs.Calls.{ClocksValue, RegistrationsValue, is_signalled_in, calls, call_register, IsGiven, AreToldAs, AreAllowed, OwesRegister}
-use Rattle.xk_standings.specs.Told.{StandingsValue, told_of, lists, AreKept, AreHandedOn}
+use Rattle.xk_standings.specs.Told.{StandingsValue, Rooms, told_of, lists, rooms, rooms_of, registrations, AreKept, AreHandedOn, HasRoomToMake}
 use Rattle.xk_standings.proofs.Keeping.{held_item, length-lists, length-told, phase_in, last_in, standing_in, started_in}
+use Rattle.xk_standings.proofs.Counted.{registered_many}
 use Rattle.xk_standings.proofs.Owed.{may_register}
 use Rattle.xk_standings.proofs.Waiting.{waits_in}
-
--- what holds anyway holds at Err
-pub on_err : {A E : Type 0} (P : Type 0) (r : Result A E) → P → OnErr r P
-on_err P (Ok x) p = tt
-on_err P (Err e) p = p
 
 pub inside_clocks : (s t : StandingsValue) (k : ℕ) → s ≡ t → k < length (told_of t) → k < length s.numbers.table.clocks
 inside_clocks s t k same h =
     subst (λ n. k < n) (length-told s.numbers.lasts s.held s.numbers.table.clocks) (subst (λ (v : StandingsValue). k < length (told_of v)) (sym same) h)
-
-pub few_clocks : (s t : StandingsValue) → s ≡ t → length (told_of t) + 1 < 2 ^ 32 → length s.numbers.table.clocks + 1 < 2 ^ 32
-few_clocks s t same h =
-    subst (λ n. n + 1 < 2 ^ 32) (length-told s.numbers.lasts s.held s.numbers.table.clocks) (subst (λ (v : StandingsValue). length (told_of v) + 1 < 2 ^ 32) (sym same) h)
 
 pub how_many : (s t : StandingsValue) (n : ℕ) → s ≡ t → n ≡ length s.numbers.table.clocks → n ≡ length (told_of t)
 how_many s t n same is =
@@ -90,11 +82,51 @@ may_begin_of s t new same kept few handed =
     may_register s.numbers.lasts s.held s.numbers.table.clocks inside.by kept inside.there
     (subst (λ (v : StandingsValue). length v.held + 1 < 2 ^ 32) (sym same) few) inside.given new inside.is
 
-pub started_of : (now a : ℕ) (given : ℕ → Bool) (v v' : ClocksValue) (items items' : List RegistrationsValue) (room : ℕ) (t : StandingsValue) (x : RegistrationsValue)
-    → record { numbers = v; held = lists items; room = room } ≡ t → IsKept v.lasts (lists items) v.table.clocks → IsGiven given (held t.held a) x.list
+pub started_of : (now a : ℕ) (given : ℕ → Bool) (v v' : ClocksValue) (items items' : List RegistrationsValue) (places : List ℕ) (room : ℕ) (t : StandingsValue) (x : RegistrationsValue)
+    → record { numbers = v; held = lists items; places = places; room = room } ≡ t → IsKept v.lasts (lists items) v.table.clocks → IsGiven given (held t.held a) x.list
     → AreDistinct x.list → v' ≡ calls now call_register x.list v → items' ≡ items ++ x ∷ []
     → AreToldAs (map (settled_clock now) (joined a given (told_of t))) v' (lists items')
-started_of now a given v v' items items' room t x same kept is distinct called longer =
+started_of now a given v v' items items' places room t x same kept is distinct called longer =
     subst (λ l. AreToldAs (map (settled_clock now) (joined a given (told_of t))) v' (lists l)) (sym longer)
     (subst (λ (s : StandingsValue). AreToldAs (map (settled_clock now) (joined a given (told_of s))) v' (lists (items ++ x ∷ []))) same
     (started_in now a given v v' items x kept (subst (λ (s : StandingsValue). IsGiven given (held s.held a) x.list) (sym same) is) distinct called))
+
+-- ---- room
+
+pub rooms_set : (items : List RegistrationsValue) (a : ℕ) (x y : RegistrationsValue) → x ≡ get_or items a x → y.room ≡ x.room → a < length items → rooms (set items a y) ≡ rooms items
+rooms_set [] a x y is same h = refl
+rooms_set (r ∷ items) zero x y is same h = ap (λ n. n ∷ rooms items) (same ∙ ap (λ (z : RegistrationsValue). z.room) is)
+rooms_set (r ∷ items) (suc a) x y is same h = ap (λ l. r.room ∷ l) (rooms_set items a x y is same (omega arith))
+
+-- a call that changes neither the room of the clocks nor that of the activity's registrations leaves all rooms as they were
+pub rooms_kept : (s t : StandingsValue) (v : ClocksValue) (items : List RegistrationsValue) (a : ℕ) (x y : RegistrationsValue) → s ≡ t → s.held ≡ lists items
+    → s.places ≡ rooms items → a < length t.held → x ≡ get_or items a x → y.room ≡ x.room → v.table.room ≡ s.numbers.table.room
+    → (let r : Rooms = record { clocks = v.table.room; places = rooms (set items a y) } in r) ≡ rooms_of t
+rooms_kept s t v items a x y same is places there at kept clocks =
+    ap (λ n. record { clocks = n; places = rooms (set items a y) }) clocks
+    ∙ ap (λ l. record { clocks = s.numbers.table.room; places = l })
+    (rooms_set items a x y at kept (inside_held s t items a same is there) ∙ sym places)
+    ∙ ap (λ (z : StandingsValue). rooms_of z) same
+
+-- an activity that has a place left has room for one more registration
+pub place_left : (s t : StandingsValue) (items : List RegistrationsValue) (a : ℕ) (x : RegistrationsValue) → s ≡ t → s.held ≡ lists items → s.places ≡ rooms items → AreKept s
+    → a < length t.held → x ≡ get_or items a x → HasRoomToMake (rooms_of t) (told_of t) a → length x.list < x.room
+place_left s t items a x same is places kept there at has =
+    let inside = inside_held s t items a same is there in
+    let left : registrations (told_of s) a < slice_index_or s.places a 0 =
+    subst (λ (z : StandingsValue). registrations (told_of z) a < slice_index_or z.places a 0) (sym same) has.place in
+    let many = registered_many s.numbers.lasts s.held s.numbers.table.clocks a kept in
+    let list : length (held s.held a) ≡ length x.list = ap length (ap (λ (acts : List (List Registration)). held acts a) is ∙ held_item items a x inside at) in
+    let room : slice_index_or s.places a 0 ≡ x.room = ap (λ l. slice_index_or l a 0) places ∙ place_item items a x inside at in
+    omega (arith, left, many, list, room)
+  where
+    place_item : (rs : List RegistrationsValue) (k : ℕ) (y : RegistrationsValue) → k < length rs → y ≡ get_or rs k y → slice_index_or (rooms rs) k 0 ≡ y.room
+    place_item [] k y h e = absurd (omega arith)
+    place_item (r ∷ rs) zero y h e = ap (λ (z : RegistrationsValue). z.room) (sym e)
+    place_item (r ∷ rs) (suc k) y h e = place_item rs k y (omega arith) e
+
+-- there is room for one more clock
+pub clock_left : (s t : StandingsValue) (a : ℕ) → s ≡ t → HasRoomToMake (rooms_of t) (told_of t) a → length s.numbers.table.clocks < s.numbers.table.room
+clock_left s t a same has =
+    subst (λ n. n < s.numbers.table.room) (length-told s.numbers.lasts s.held s.numbers.table.clocks)
+    (subst (λ (z : StandingsValue). length (told_of z) < z.numbers.table.room) (sym same) has.clock)

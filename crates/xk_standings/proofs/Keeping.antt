@@ -12,7 +12,7 @@ use Rattle.xk_clocks.proofs.Tallies.{ready_same}
 use Rattle.xk_standings.specs.declared.which.Which.{Which}
 use Rattle.xk_standings.specs.declared.which.Which.TheVariants as which
 use Rattle.xk_standings.specs.View.{Registration, standing_at, row, reg_on, AreDistinct, told, told_by, told_clock, held, IsKept}
-use Rattle.xk_standings.specs.Calls.{ClocksValue, RegistrationsValue, concerns, calls, call_resume, call_drop, call_register, regs_open, regs_on, regs_resumed, regs_passed, phase_at, others, made_clocks, with_room_for_one, IsGiven, AreToldAs, AreAllowed, OwesResume, OwesDrop, HavePhasesLeft}
+use Rattle.xk_standings.specs.Calls.{ClocksValue, RegistrationsValue, concerns, calls, call_resume, call_drop, call_register, regs_open, regs_on, regs_resumed, regs_passed, phase_at, others, made_clocks, IsGiven, AreToldAs, AreAllowed, OwesResume, OwesDrop, HavePhasesLeft}
 use Rattle.xk_standings.specs.Told.{lists, change_on}
 use Rattle.xk_standings.proofs.Moves.{row_at}
 use Rattle.xk_standings.proofs.Marks.{stands_reg}
@@ -130,36 +130,21 @@ passed_in now a v rs x y kept there is became quiet =
 
 -- ---- a clock is made
 
-same_lists : (rs : List RegistrationsValue) (a : ℕ) (x y : RegistrationsValue) → x ≡ get_or rs a x → y.list ≡ x.list → a < length rs → lists (set rs a y) ≡ lists rs
-same_lists [] a x y is same h = refl
-same_lists (r ∷ rs) zero x y is same h = ap (λ l. l ∷ lists rs) (same ∙ ap (λ (z : RegistrationsValue). z.list) is)
-same_lists (r ∷ rs) (suc a) x y is same h = ap (λ l. r.list ∷ l) (same_lists rs a x y is same (omega arith))
+pub unnamed_in : (v : ClocksValue) (rs : List RegistrationsValue) (a : ℕ) (x : RegistrationsValue) → IsKept v.lasts (lists rs) v.table.clocks
+    → a < length rs → x ≡ get_or rs a x → reg_on x.list (length v.table.clocks) ≡ None
+unnamed_in v rs a x kept there is =
+    ap (λ l. reg_on l (length v.table.clocks)) (sym (held_item rs a x there is)) ∙ (kept.sound a).exist (length v.table.clocks) (omega arith)
 
--- more room changes nothing that is told
-pub roomy_in : (v v' : ClocksValue) (rs : List RegistrationsValue) (a : ℕ) (x y : RegistrationsValue) → IsKept v.lasts (lists rs) v.table.clocks
-    → a < length rs → x ≡ get_or rs a x → v' ≡ with_room_for_one v → y.list ≡ x.list
-    → AreToldAs (told v.lasts (lists rs) v.table.clocks) v' (lists (set rs a y))
-roomy_in v v' rs a x y kept there is e same =
-    kept_as (told v.lasts (lists rs) v.table.clocks) v' (with_room_for_one v) (lists rs) (set rs a y) e (same_lists rs a x y is same there) (refl, kept)
-
-pub unnamed_in : (v v' : ClocksValue) (rs : List RegistrationsValue) (a : ℕ) (x y : RegistrationsValue) → IsKept v.lasts (lists rs) v.table.clocks
-    → a < length rs → x ≡ get_or rs a x → v' ≡ with_room_for_one v → y.list ≡ x.list → reg_on y.list (length v'.table.clocks) ≡ None
-unnamed_in v v' rs a x y kept there is e same =
-    ap (λ (w : ClocksValue). reg_on y.list (length w.table.clocks)) e ∙ ap (λ l. reg_on l (length v.table.clocks)) (same ∙ sym (held_item rs a x there is))
-    ∙ (kept.sound a).exist (length v.table.clocks) (omega arith)
-
-pub made_in : (now a : ℕ) (v v' v'' : ClocksValue) (rs : List RegistrationsValue) (x y z : RegistrationsValue) → IsKept v.lasts (lists rs) v.table.clocks
-    → a < length rs → x ≡ get_or rs a x → v' ≡ with_room_for_one v → y.list ≡ x.list
-    → z.list ≡ y.list ++ record { clock = length v'.table.clocks; resumed = None } ∷ [] → v'' ≡ made_clocks v'
-    → AreToldAs (map (settled_clock now) (told v.lasts (lists rs) v.table.clocks ++ new_clock (length (lists rs)) a ∷ [])) v'' (lists (set rs a z))
-made_in now a v v' v'' rs x y z kept there is e same longer made =
+pub made_in : (now a : ℕ) (v v' : ClocksValue) (rs : List RegistrationsValue) (x y : RegistrationsValue) → IsKept v.lasts (lists rs) v.table.clocks
+    → a < length rs → x ≡ get_or rs a x
+    → y ≡ record x { list = x.list ++ record { clock = length v.table.clocks; resumed = None } ∷ [] } → v' ≡ made_clocks v
+    → AreToldAs (map (settled_clock now) (told v.lasts (lists rs) v.table.clocks ++ new_clock (length (lists rs)) a ∷ [])) v' (lists (set rs a y))
+made_in now a v v' rs x y kept there is became made =
     let here = held_item rs a x there is in
-    kept_as (map (settled_clock now) (told v.lasts (lists rs) v.table.clocks ++ new_clock (length (lists rs)) a ∷ [])) v'' (made_clocks (with_room_for_one v))
-    (set (lists rs) a (held (lists rs) a ++ record { clock = length v.table.clocks; resumed = None } ∷ [])) (set rs a z)
-    (made ∙ ap made_clocks e)
-    (lists_set rs a z ∙ ap (λ l. set (lists rs) a l)
-    (longer ∙ ap (λ (w : ClocksValue). y.list ++ record { clock = length w.table.clocks; resumed = None } ∷ []) e
-    ∙ ap (λ l. l ++ record { clock = length v.table.clocks; resumed = None } ∷ []) (same ∙ sym here)))
+    kept_as (map (settled_clock now) (told v.lasts (lists rs) v.table.clocks ++ new_clock (length (lists rs)) a ∷ [])) v' (made_clocks v)
+    (set (lists rs) a (held (lists rs) a ++ record { clock = length v.table.clocks; resumed = None } ∷ [])) (set rs a y) made
+    (lists_set rs a y ∙ ap (λ l. set (lists rs) a l)
+    (ap (λ (r : RegistrationsValue). r.list) became ∙ ap (λ l. l ++ record { clock = length v.table.clocks; resumed = None } ∷ []) (sym here)))
     (made_law now a v (lists rs) kept (omega (arith, length-lists rs)))
 
 -- ---- an activity is started

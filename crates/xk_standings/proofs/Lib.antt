@@ -12,4 +12,5 @@ pub mod Handing
 pub mod Rows
 pub mod Keeping
 pub mod Waiting
+pub mod Counted
 pub mod Inside

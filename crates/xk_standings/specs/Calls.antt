@@ -1,5 +1,5 @@
 -- What a step makes of an activity's registrations, and which calls of the clocks it takes.
-use Rattle.std.specs.Prelude.{◌≡◌, ℕ, ◌+◌, ◌<◌, ◌≤◌, ◌^◌, ◌==◌, ◌&&◌, is_none, max, Bool, true, false, not, List, [], ◌∷◌, ◌++◌, map, length, Option, Some, None, slice_get, slice_set, if◌then◌else◌}
+use Rattle.std.specs.Prelude.{◌≡◌, ℕ, ◌+◌, ◌<◌, ◌≤◌, ◌^◌, ◌==◌, ◌&&◌, is_none, Bool, true, false, not, List, [], ◌∷◌, ◌++◌, map, length, Option, Some, None, slice_get, slice_set, if◌then◌else◌}
 use Rattle.std.specs.Option.{option_to_list}
 use Rattle.xk_types.specs.declared.names.Value.{Value}
 use Rattle.xk_types.specs.declared.names.Value.TheVariants as value
@@ -79,10 +79,6 @@ with_taken from (value.Clock c) rs = if is_none (reg_on rs c) then rs ++ option_
 pub record ClocksValue : Type 0 where
   pub table : TableValue
   pub lasts : List ℕ
-
--- with room for one clock more than there are
-abbrev pub with_room_for_one : ClocksValue → ClocksValue
-with_room_for_one v = record v { table = record v.table { room = max v.table.room (length v.table.clocks + 1) } }
 
 -- with one more clock, which its maker is registered on
 abbrev pub made_clocks : ClocksValue → ClocksValue

@@ -1,17 +1,19 @@
 -- Where all activities stand on all clocks, as the code keeps it, and what it tells of.
-use Rattle.std.specs.Prelude.{ℕ, ◌<◌, Bool, List, map, length}
+use Rattle.std.specs.Prelude.{ℕ, ◌<◌, Bool, List, map, length, slice_index_or}
+use Rattle.std.specs.List.{count_by}
 use Rattle.xk_types.specs.declared.names.Standing.{Standing}
-use Rattle.xk_types.specs.World.{Clock}
-use Rattle.xk_types.specs.Step.{only, all}
+use Rattle.xk_types.specs.World.{Clock, standing_of}
+use Rattle.xk_types.specs.Step.{is_registered, only, all}
 use Rattle.xk_standings.specs.declared.which.Which.{Which}
 use Rattle.xk_standings.specs.declared.which.Which.TheVariants as which
 use Rattle.xk_standings.specs.View.{Registration, held, told, IsKept}
 use Rattle.xk_standings.specs.Calls.{ClocksValue, RegistrationsValue, IsGiven}
 
--- the clocks in numbers, what each activity is registered on, and how many activities there is room for
+-- the clocks in numbers, what each activity is registered on, on how many clocks it may be, and how many activities there is room for
 pub record StandingsValue : Type 0 where
   pub numbers : ClocksValue
   pub held : List (List Registration)
+  pub places : List ℕ
   pub room : ℕ
 
 -- the clocks of the definitions
@@ -25,6 +27,28 @@ AreKept s = IsKept s.numbers.lasts s.held s.numbers.table.clocks
 -- what each is registered on
 abbrev pub lists : List RegistrationsValue → List (List Registration)
 lists rs = map (λ r. r.list) rs
+
+-- on how many each may be
+abbrev pub rooms : List RegistrationsValue → List ℕ
+rooms rs = map (λ r. r.room) rs
+
+-- how many clocks there is room for, and on how many of them each activity may be registered
+pub record Rooms : Type 0 where
+  pub clocks : ℕ
+  pub places : List ℕ
+
+-- those that were reserved
+abbrev pub rooms_of : StandingsValue → Rooms
+rooms_of s = record { clocks = s.numbers.table.room; places = s.places }
+
+-- on how many of these clocks activity a is registered
+abbrev pub registrations : List Clock → ℕ → ℕ
+registrations clocks a = count_by (λ c. is_registered (standing_of c a)) clocks
+
+-- among these clocks, activity a can make one more
+pub record HasRoomToMake (r : Rooms) (clocks : List Clock) (a : ℕ) : Type 0 where
+  pub clock : length clocks < r.clocks
+  pub place : registrations clocks a < slice_index_or r.places a 0
 
 -- a change of standings on the clocks that a step concerns
 abbrev pub change_on : Which → (Standing → Standing) → ℕ → Standing → Standing

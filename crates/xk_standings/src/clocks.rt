@@ -1,9 +1,9 @@
 //! All clocks.
 
-ghost use Rattle.std.specs.Prelude.{◌≡◌, ℕ, ◌+◌, ◌<◌, ◌≤◌, ◌==◌, ◌^◌, not, [], ◌∷◌, length, slice_index_or, slice_set, IfOk, OnOk, OnErr};
+ghost use Rattle.std.specs.Prelude.{◌≡◌, ℕ, ◌+◌, ◌<◌, ◌≤◌, ◌==◌, ◌^◌, not, [], ◌∷◌, length, slice_index_or, slice_set, IfOk};
 ghost use Rattle.std.specs.List.{list_all};
 ghost use Rattle.xk_clocks.specs.Table.{count_at, is_ready_count};
-ghost use Rattle.xk_standings.specs.Calls.{calls, made_clocks, with_room_for_one, call_resume, call_drop, call_register, OwesResume, OwesDrop, OwesRegister, Allows};
+ghost use Rattle.xk_standings.specs.Calls.{calls, made_clocks, call_resume, call_drop, call_register, OwesResume, OwesDrop, OwesRegister, Allows};
 
 use crate::registration::Registration;
 use std::alloc::{AllocError, Global};
@@ -53,16 +53,6 @@ impl Clocks {
         ensures { result ≡ length self.now.table.clocks }
     {
         self.lasts.len()
-    }
-
-    /// Room for one clock more than there are, at least. Nothing changes where memory is refused.
-    pub fn reserve(&mut self) -> Result<(), AllocError>
-        requires { length self.old.table.clocks + 1 < 2 ^ 32 }
-        ensures reserved { OnOk result (self.new ≡ with_room_for_one self.old) }
-        ensures refused { OnErr result (self.new ≡ self.old) }
-    {
-        self.lasts.try_reserve(1)?;
-        self.table.reserve()
     }
 
     /// A new clock, which takes the next number. Its maker is registered on it, and open.

@@ -14,8 +14,8 @@ use std::alloc::{AllocError, Global};
 use std::marker::Model;
 use xk_types::{ClockId, Value};
 
-/// The registrations of one activity, no two on one clock. Room for them is taken when they are opened, inherited or reserved;
-/// nothing else takes memory. `laws::goes_with_steps` says what the calls make of the clocks of a world.
+/// The registrations of one activity, no two on one clock. Room for them is taken when they are opened or inherited; nothing
+/// else takes memory. `laws::goes_with_steps` says what the calls make of the clocks of a world.
 #[derive(Drop)]
 pub struct Registrations {
     list: SmallVec<Registration, 2>,
@@ -41,14 +41,6 @@ impl Registrations {
         let mut list = SmallVec::new(alloc);
         list.reserve(room)?;
         Ok(Registrations { list })
-    }
-
-    /// Room for one more, at least. Nothing that is registered changes.
-    pub fn reserve(&mut self) -> Result<(), AllocError>
-        ensures list { self.new.list ≡ self.old.list }
-        ensures reserved { OnOk result (length self.new.list < self.new.room) }
-    {
-        self.list.reserve(1)
     }
 
     /// What is registered.

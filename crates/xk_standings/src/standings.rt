@@ -1,12 +1,12 @@
 //! Where all activities stand on all clocks.
 
-ghost use Rattle.std.specs.Prelude.{◌≡◌, ℕ, ◌+◌, ◌<◌, ◌==◌, ◌^◌, Bool, false, not, Some, [], ◌∷◌, ◌++◌, length, map, option_map, slice_get, All, IfOk, OnOk, OnErr};
+ghost use Rattle.std.specs.Prelude.{◌≡◌, ℕ, ◌+◌, ◌<◌, ◌≤◌, ◌==◌, ◌^◌, Bool, false, not, Some, [], ◌∷◌, ◌++◌, length, map, option_map, slice_get, slice_index_or, All, IfOk, OnOk};
 ghost use Rattle.std.specs.List.{list_any, list_all};
 ghost use Rattle.xk_types.specs.World.{standing_of};
 ghost use Rattle.xk_types.specs.Step.{is_signalled, is_given, resumed, passed, dropped, none, all, settled_clock, moved, joined, new_clock};
 ghost use Rattle.xk_standings.specs.View.{held};
 ghost use Rattle.xk_standings.specs.Calls.{IsGiven};
-ghost use Rattle.xk_standings.specs.Told.{told_of, change_on, AreHandedOn};
+ghost use Rattle.xk_standings.specs.Told.{told_of, rooms_of, change_on, AreHandedOn, HasRoomToMake};
 
 use crate::clocks::Clocks;
 use crate::each::{find_on, signalled_on_some};
@@ -19,6 +19,9 @@ use xk_types::{ClockId, Standing, Value};
 /// Where the activities of a running program stand on its clocks: each clock in numbers, and with each activity what it is
 /// registered on. It tells of the clocks of a world, with a standing for each activity. What a call costs goes by what the activity
 /// is registered on that it concerns, not by how many clocks and activities there are.
+///
+/// Room for clocks and for what activities are registered on is taken when the standings are opened and when an activity is
+/// started. Nothing else takes memory.
 #[derive(Drop)]
 pub struct Standings {
     clocks: Clocks,
@@ -28,13 +31,14 @@ pub struct Standings {
 impl Model for Standings {
     ghost use Rattle.std.specs.Prelude.{vec_capacity};
     ghost use Rattle.xk_standings.specs.View.{IsKept};
-    ghost use Rattle.xk_standings.specs.Told.{StandingsValue, lists};
+    ghost use Rattle.xk_standings.specs.Told.{StandingsValue, lists, rooms};
 
     ghost Value = { StandingsValue };
 
     ghost view = { λ s. record {
       numbers = s.clocks;
       held = lists s.held.items;
+      places = rooms s.held.items;
       room = vec_capacity s.held;
     } };
 
@@ -42,14 +46,19 @@ impl Model for Standings {
 }
 
 impl Standings {
-    /// One activity, and no clock.
-    pub fn open(alloc: Global) -> Result<Standings, AllocError>
+    /// One activity, and no clock. Room for this many clocks, and at least this many places for what the activity is
+    /// registered on.
+    pub fn open(alloc: Global, clocks: u32, places: usize) -> Result<Standings, AllocError>
         ensures clocks { IfOk result (λ s. told_of s ≡ []) }
         ensures activities { IfOk result (λ s. length s.held ≡ 1) }
+        ensures clock_room { IfOk result (λ s. (rooms_of s).clocks ≡ clocks) }
+        ensures places { IfOk result
+            (λ s. places ≤ slice_index_or (rooms_of s).places 0 0) }
+        ensures all_places { IfOk result (λ s. length (rooms_of s).places ≡ 1) }
     {
-        let clocks = Clocks::open(alloc, 0)?;
+        let clocks = Clocks::open(alloc, clocks)?;
         let mut held = Vec::new(alloc);
-        held.push(Registrations::open(alloc, 0)?)?;
+        held.push(Registrations::open(alloc, places)?)?;
         Ok(Standings { clocks, held })
     }
 
@@ -122,6 +131,7 @@ impl Standings {
         ensures told { told_of self.new
             ≡ map (settled_clock now) (moved a (change_on which resumed) (told_of self.old)) }
         ensures activities { length self.new.held ≡ length self.old.held }
+        ensures rooms { rooms_of self.new ≡ rooms_of self.old }
     {
         let registrations = &mut self.held[a];
         registrations.resume(which, &mut self.clocks, now);
@@ -134,6 +144,7 @@ impl Standings {
         ensures told { told_of self.new
             ≡ map (settled_clock now) (moved a (change_on which dropped) (told_of self.old)) }
         ensures activities { length self.new.held ≡ length self.old.held }
+        ensures rooms { rooms_of self.new ≡ rooms_of self.old }
     {
         let registrations = &mut self.held[a];
         registrations.drop(which, &mut self.clocks, now);
@@ -146,46 +157,49 @@ impl Standings {
         ensures told { (now : ℕ) → told_of self.new
             ≡ map (settled_clock now) (moved a (all passed) (told_of self.old)) }
         ensures activities { length self.new.held ≡ length self.old.held }
+        ensures rooms { rooms_of self.new ≡ rooms_of self.old }
     {
         let registrations = &mut self.held[a];
         registrations.pass();
     }
 
-    /// Activity a makes a clock. Where memory is refused the same clocks are told.
-    pub fn make(&mut self, a: usize) -> Result<ClockId, AllocError>
+    /// Activity a makes a clock, for which there is room.
+    pub fn make(&mut self, a: usize) -> ClockId
         requires there { a < length self.old.held }
-        requires fits { length (told_of self.old) + 1 < 2 ^ 32 }
-        ensures number { IfOk result (λ k. k ≡ length (told_of self.old)) }
-        ensures told { OnOk result ((now : ℕ) → told_of self.new ≡ map (settled_clock now)
-            (told_of self.old ++ new_clock (length self.old.held) a ∷ [])) }
-        ensures refused { OnErr result (told_of self.new ≡ told_of self.old) }
+        requires room { HasRoomToMake (rooms_of self.old) (told_of self.old) a }
+        ensures number { result ≡ length (told_of self.old) }
+        ensures told { (now : ℕ) → told_of self.new ≡ map (settled_clock now)
+            (told_of self.old ++ new_clock (length self.old.held) a ∷ []) }
         ensures activities { length self.new.held ≡ length self.old.held }
+        ensures rooms { rooms_of self.new ≡ rooms_of self.old }
     {
-        self.clocks.reserve()?;
         let registrations = &mut self.held[a];
-        registrations.reserve()?;
-        Ok(registrations.make(&mut self.clocks))
+        registrations.make(&mut self.clocks)
     }
 
-    /// What an activity begins with that activity a starts with these values.
+    /// What an activity begins with that activity a starts with these values, and at least this many places for what it is
+    /// registered on.
     pub fn child(
         &self,
         alloc: Global,
         a: usize,
+        places: usize,
         values: &[Value],
     ) -> Result<Registrations, AllocError>
         requires { a < length self.now.held }
-        ensures { IfOk result
+        ensures given { IfOk result
             (λ r. IsGiven (is_given values.now) (held self.now.held a) r.list) }
+        ensures places { IfOk result (λ r. places ≤ r.room) }
     {
         let registrations = &self.held[a];
-        registrations.inherit(alloc, 0, values)
+        registrations.inherit(alloc, places, values)
     }
 
     /// Room for one activity more than there are, at least.
     pub fn reserve(&mut self) -> Result<(), AllocError>
         ensures numbers { self.new.numbers ≡ self.old.numbers }
         ensures held { self.new.held ≡ self.old.held }
+        ensures places { self.new.places ≡ self.old.places }
         ensures reserved { OnOk result (length self.new.held < self.new.room) }
     {
         self.held.try_reserve(1)
@@ -200,6 +214,9 @@ impl Standings {
             → IsGiven given (held self.old.held a) child.list
             → told_of self.new ≡ map (settled_clock now) (joined a given (told_of self.old)) }
         ensures activities { length self.new.held ≡ length self.old.held + 1 }
+        ensures clock_room { (rooms_of self.new).clocks ≡ (rooms_of self.old).clocks }
+        ensures places { (rooms_of self.new).places
+            ≡ (rooms_of self.old).places ++ child.room ∷ [] }
     {
         child.begin(&mut self.clocks);
         self.held.push_reserved(child);

@@ -8,14 +8,14 @@ use Rattle.xk_core.proofs.machine.Core.activities.Goals as goal
 pub overflow_cast-result : goal.overflow_cast-result
 overflow_cast-result c = omega (
   arith,
-  core_names c.self.inside.verified.now (with_finishes c.self.inside.finishes c.self.inside.state) c.self.invariant.0,
+  core_names c.self.inside.state.module_run (with_finishes c.self.inside.finishes c.self.inside.state.world) c.self.invariant.0,
   c.activity_count.ensures,
-  length_told c.self.inside.finishes c.self.inside.state.activities c.self.invariant.1.width,
+  length_told c.self.inside.finishes c.self.inside.state.world.activities c.self.invariant.1.width,
 )
 
 pub returns-clause-count : goal.returns-clause-count
 returns-clause-count c = subst (λ (v : CoreValue). c.activity_count.result ≡ length v.world.activities) c.self.view_is
-    (c.activity_count.ensures ∙ sym (length_told c.self.inside.finishes c.self.inside.state.activities c.self.invariant.1.width))
+    (c.activity_count.ensures ∙ sym (length_told c.self.inside.finishes c.self.inside.state.world.activities c.self.invariant.1.width))
 
 pub returns-clause-core : goal.returns-clause-core
 returns-clause-core c = subst (λ (v : CoreValue). IsCore v.module_run v.world) c.self.view_is c.self.invariant.0

@@ -1,38 +1,40 @@
-use Rattle.std.proofs.Common.{◌≡◌, true, Some, slice_get, slice_set, sym, subst}
+use Rattle.std.proofs.Common.{◌≡◌, ap, true, Some, slice_set, sym, subst}
 use Rattle.xk_types.specs.declared.instr.Instr.TheVariants as instruction
 use Rattle.xk_types.specs.World.{Activity}
+use Rattle.std.proofs.lemmas.Option.{get_or_from_slice_get}
+use Rattle.xk_activity.specs.Activities.{act_at, nobody}
 use Rattle.xk_types.specs.Step.{Stepped, step, settled, onward, moved, none}
 use Rattle.xk_types.specs.Schedule.{is_enabled}
 use Rattle.xk_finishes.specs.Tree.{node_left, changed_at}
 use Rattle.xk_core.specs.Core.{CoreValue, next_instruction}
 use Rattle.xk_core.specs.Told.{with_finishes}
-use Rattle.xk_core.proofs.Finishing.{held, held_on, parts, parts_roomy, runs, exists, close_open, close_empty, close_stepped, close_are}
+use Rattle.xk_core.proofs.Finishing.{held, held_on, parts_in, parts_roomy, runs, exists, close_open, close_empty, close_stepped, close_are}
 use Rattle.xk_types.specs.declared.names.Event.TheVariants as event
 use Rattle.xk_core.proofs.machine.Core.close_finish.Goals as goal
 
 pub leave-requires-clause-exists : goal.leave-requires-clause-exists
 leave-requires-clause-exists c =
-    let m = c.self.inside.verified.now in
+    let m = c.self.inside.state.module_run in
     let ns = c.self.inside.finishes in
-    let w = c.self.inside.state in
+    let w = c.self.inside.state.world in
     let h = held m ns w c.self.invariant in
     let next = subst (λ (v : CoreValue). next_instruction v.module_run v.world c.args.act ≡ Some (instruction.EndFinish c.args.b)) (sym c.self.view_is) c.requires.here in
     (exists m ns w c.args.act h (instruction.EndFinish c.args.b) (runs m ns w c.args.act h (instruction.EndFinish c.args.b) next)).0
 
 pub leave-requires-clause-opened : goal.leave-requires-clause-opened
 leave-requires-clause-opened c =
-    let m = c.self.inside.verified.now in
+    let m = c.self.inside.state.module_run in
     let ns = c.self.inside.finishes in
-    let w = c.self.inside.state in
+    let w = c.self.inside.state.world in
     let h = held m ns w c.self.invariant in
     let next = subst (λ (v : CoreValue). next_instruction v.module_run v.world c.args.act ≡ Some (instruction.EndFinish c.args.b)) (sym c.self.view_is) c.requires.here in
     close_open m ns w c.args.act h c.args.b (runs m ns w c.args.act h (instruction.EndFinish c.args.b) next)
 
 pub leave-requires-clause-empty : goal.leave-requires-clause-empty
 leave-requires-clause-empty c =
-    let m = c.self.inside.verified.now in
+    let m = c.self.inside.state.module_run in
     let ns = c.self.inside.finishes in
-    let w = c.self.inside.state in
+    let w = c.self.inside.state.world in
     let h = held m ns w c.self.invariant in
     let can = subst (λ (v : CoreValue). is_enabled v.module_run v.world c.args.act ≡ true) (sym c.self.view_is) c.requires.enabled in
     let next = subst (λ (v : CoreValue). next_instruction v.module_run v.world c.args.act ≡ Some (instruction.EndFinish c.args.b)) (sym c.self.view_is) c.requires.here in
@@ -40,49 +42,54 @@ leave-requires-clause-empty c =
 
 pub go_on-requires-clause-there : goal.go_on-requires-clause-there
 go_on-requires-clause-there c =
-    let m = c.self.inside.verified.now in
+    let m = c.self.inside.state.module_run in
     let ns = c.self.inside.finishes in
-    let w = c.self.inside.state in
+    let w = c.self.inside.state.world in
     let h = held m ns w c.self.invariant in
     let next = subst (λ (v : CoreValue). next_instruction v.module_run v.world c.args.act ≡ Some (instruction.EndFinish c.args.b)) (sym c.self.view_is) c.requires.here in
     rw c.act.view_is (exists m ns w c.args.act h (instruction.EndFinish c.args.b) (runs m ns w c.args.act h (instruction.EndFinish c.args.b) next)).1
 
 pub go_on-requires-clause-room : goal.go_on-requires-clause-room
 go_on-requires-clause-room c =
-    let m = c.self.inside.verified.now in
+    let m = c.self.inside.state.module_run in
     let ns = c.self.inside.finishes in
-    let w = c.self.inside.state in
+    let w = c.self.inside.state.world in
     let h = held m ns w c.self.invariant in
-    rw c.act.view_is (parts_roomy m ns w c.args.act h)
+    let next = subst (λ (v : CoreValue). next_instruction v.module_run v.world c.args.act ≡ Some (instruction.EndFinish c.args.b)) (sym c.self.view_is) c.requires.here in
+    rw c.act.view_is (parts_roomy m ns w c.args.act h (exists m ns w c.args.act h (instruction.EndFinish c.args.b) (runs m ns w c.args.act h (instruction.EndFinish c.args.b) next)).1)
 
 pub invariant_of-self : goal.invariant_of-self
 invariant_of-self c =
-    let m = c.self.inside.verified.now in
+    let m = c.self.inside.state.module_run in
     let ns = c.self.inside.finishes in
-    let w = c.self.inside.state in
+    let w = c.self.inside.state.world in
     let h = held m ns w c.self.invariant in
     let can = subst (λ (v : CoreValue). is_enabled v.module_run v.world c.args.act ≡ true) (sym c.self.view_is) c.requires.enabled in
     let next = subst (λ (v : CoreValue). next_instruction v.module_run v.world c.args.act ≡ Some (instruction.EndFinish c.args.b)) (sym c.self.view_is) c.requires.here in
     let r = (runs m ns w c.args.act h (instruction.EndFinish c.args.b) next) in
-    let is : c.go_on.new.self ≡ settled (record w { activities = slice_set w.activities c.args.act (onward r.x); clocks = moved c.args.act none w.clocks }) =
-    subst (λ n. (act : Activity) → slice_get w.activities n ≡ Some act
-    → c.go_on.new.self ≡ settled (record w { activities = slice_set w.activities n (onward act); clocks = moved n none w.clocks })) c.act.view_is c.go_on.ensures r.x r.found in
-    rw c.leave.ensures.closed (parts m (changed_at ns c.args.act node_left) c.go_on.new.self
-    (held_on m ns (changed_at ns c.args.act node_left) w c.go_on.new.self c.args.act event.Closed h
-    (close_are m ns w c.args.act h c.args.b r c.go_on.new.self is)
-    (close_stepped m ns w c.args.act h c.args.b next can r c.go_on.new.self is)))
+    let is : c.go_on.new.self.world ≡ settled (record w { activities = slice_set w.activities c.args.act (onward r.x); clocks = moved c.args.act none w.clocks }) =
+    subst (λ (act : Activity). c.go_on.new.self.world ≡ settled (record w { activities = slice_set w.activities c.args.act (onward act); clocks = moved c.args.act none w.clocks }))
+    (get_or_from_slice_get w.activities c.args.act r.x nobody r.found)
+    (subst (λ n. c.go_on.new.self.world ≡ settled (record w { activities = slice_set w.activities n (onward (act_at w.activities n)); clocks = moved n none w.clocks }))
+    c.act.view_is (ap (λ (v : CoreValue). v.world) c.go_on.ensures)) in
+    rw c.leave.ensures.closed (parts_in m c.go_on.new.self.module_run (changed_at ns c.args.act node_left) c.go_on.new.self.world (ap (λ (v : CoreValue). v.module_run) c.go_on.ensures)
+    (held_on m ns (changed_at ns c.args.act node_left) w c.go_on.new.self.world c.args.act event.Closed h
+    (close_are m ns w c.args.act h c.args.b r c.go_on.new.self.world is)
+    (close_stepped m ns w c.args.act h c.args.b next can r c.go_on.new.self.world is)))
 
 pub returns-clause-stepped : goal.returns-clause-stepped
 returns-clause-stepped c =
-    let m = c.self.inside.verified.now in
+    let m = c.self.inside.state.module_run in
     let ns = c.self.inside.finishes in
-    let w = c.self.inside.state in
+    let w = c.self.inside.state.world in
     let h = held m ns w c.self.invariant in
     let can = subst (λ (v : CoreValue). is_enabled v.module_run v.world c.args.act ≡ true) (sym c.self.view_is) c.requires.enabled in
     let next = subst (λ (v : CoreValue). next_instruction v.module_run v.world c.args.act ≡ Some (instruction.EndFinish c.args.b)) (sym c.self.view_is) c.requires.here in
     let r = (runs m ns w c.args.act h (instruction.EndFinish c.args.b) next) in
-    let is : c.go_on.new.self ≡ settled (record w { activities = slice_set w.activities c.args.act (onward r.x); clocks = moved c.args.act none w.clocks }) =
-    subst (λ n. (act : Activity) → slice_get w.activities n ≡ Some act
-    → c.go_on.new.self ≡ settled (record w { activities = slice_set w.activities n (onward act); clocks = moved n none w.clocks })) c.act.view_is c.go_on.ensures r.x r.found in
+    let is : c.go_on.new.self.world ≡ settled (record w { activities = slice_set w.activities c.args.act (onward r.x); clocks = moved c.args.act none w.clocks }) =
+    subst (λ (act : Activity). c.go_on.new.self.world ≡ settled (record w { activities = slice_set w.activities c.args.act (onward act); clocks = moved c.args.act none w.clocks }))
+    (get_or_from_slice_get w.activities c.args.act r.x nobody r.found)
+    (subst (λ n. c.go_on.new.self.world ≡ settled (record w { activities = slice_set w.activities n (onward (act_at w.activities n)); clocks = moved n none w.clocks }))
+    c.act.view_is (ap (λ (v : CoreValue). v.world) c.go_on.ensures)) in
     rw c.leave.ensures.closed (subst (λ (v : CoreValue). step v.module_run v.world c.args.act ≡ Stepped
-    (with_finishes (changed_at ns c.args.act node_left) c.go_on.new.self) event.Closed) c.self.view_is (close_stepped m ns w c.args.act h c.args.b next can r c.go_on.new.self is))
+    (with_finishes (changed_at ns c.args.act node_left) c.go_on.new.self.world) event.Closed) c.self.view_is (close_stepped m ns w c.args.act h c.args.b next can r c.go_on.new.self.world is))

@@ -8,9 +8,9 @@ use Rattle.xk_core.proofs.machine.Core.enabled.Goals as goal
 
 pub returns-then-is_able : goal.returns-then-is_able
 returns-then-is_able c =
-    let m = c.self.inside.verified.now in
+    let m = c.self.inside.state.module_run in
     let ns = c.self.inside.finishes in
-    let w = c.self.inside.state in
+    let w = c.self.inside.state.world in
     let h = held m ns w c.self.invariant in
     let able : is_able w c.args.act ≡ true = sym (c.is_able.ensures ∙ ap (λ n. is_able w n) c.act.view_is) ∙ c.if-is_able.true in
     subst (λ (v : CoreValue). not c.is_kept.result ≡ is_enabled v.module_run v.world c.args.act) c.self.view_is
@@ -19,9 +19,9 @@ returns-then-is_able c =
 
 pub returns-else-is_able : goal.returns-else-is_able
 returns-else-is_able c =
-    let m = c.self.inside.verified.now in
+    let m = c.self.inside.state.module_run in
     let ns = c.self.inside.finishes in
-    let w = c.self.inside.state in
+    let w = c.self.inside.state.world in
     let h = held m ns w c.self.invariant in
     let able : is_able w c.args.act ≡ false = sym (c.is_able.ensures ∙ ap (λ n. is_able w n) c.act.view_is) ∙ c.if-is_able.false in
     subst (λ (v : CoreValue). c.is_able.result ≡ is_enabled v.module_run v.world c.args.act) c.self.view_is

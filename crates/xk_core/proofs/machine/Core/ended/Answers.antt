@@ -6,4 +6,4 @@ use Rattle.xk_core.proofs.machine.Core.ended.Goals as goal
 
 pub returns : goal.returns
 returns c = subst (λ (v : CoreValue). c.all_ended.result ≡ all_ended v.world) c.self.view_is
-    (c.all_ended.ensures ∙ sym (ended_told c.self.inside.finishes c.self.inside.state.activities c.self.invariant.1.width))
+    (c.all_ended.ensures ∙ sym (ended_told c.self.inside.finishes c.self.inside.state.world.activities c.self.invariant.1.width))

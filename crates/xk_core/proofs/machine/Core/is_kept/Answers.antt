@@ -11,9 +11,9 @@ use Rattle.xk_core.proofs.machine.Core.is_kept.Goals as goal
 
 pub empty-requires-clause-exists : goal.empty-requires-clause-exists
 empty-requires-clause-exists c =
-    let m = c.self.inside.verified.now in
+    let m = c.self.inside.state.module_run in
     let ns = c.self.inside.finishes in
-    let w = c.self.inside.state in
+    let w = c.self.inside.state.world in
     let h = held m ns w c.self.invariant in
     let next : next_instruction m (with_finishes ns w) c.args.act ≡ Some (instruction.EndFinish c.in-Some-EndFinish.field-0-0) =
     subst (λ (v : CoreValue). next_instruction v.module_run v.world c.args.act ≡ Some (instruction.EndFinish c.in-Some-EndFinish.field-0-0)) (sym c.self.view_is)
@@ -23,9 +23,9 @@ empty-requires-clause-exists c =
 
 pub empty-requires-clause-opened : goal.empty-requires-clause-opened
 empty-requires-clause-opened c =
-    let m = c.self.inside.verified.now in
+    let m = c.self.inside.state.module_run in
     let ns = c.self.inside.finishes in
-    let w = c.self.inside.state in
+    let w = c.self.inside.state.world in
     let h = held m ns w c.self.invariant in
     let next : next_instruction m (with_finishes ns w) c.args.act ≡ Some (instruction.EndFinish c.in-Some-EndFinish.field-0-0) =
     subst (λ (v : CoreValue). next_instruction v.module_run v.world c.args.act ≡ Some (instruction.EndFinish c.in-Some-EndFinish.field-0-0)) (sym c.self.view_is)
@@ -35,9 +35,9 @@ empty-requires-clause-opened c =
 
 pub returns-in-Some-EndFinish : goal.returns-in-Some-EndFinish
 returns-in-Some-EndFinish c =
-    let m = c.self.inside.verified.now in
+    let m = c.self.inside.state.module_run in
     let ns = c.self.inside.finishes in
-    let w = c.self.inside.state in
+    let w = c.self.inside.state.world in
     let h = held m ns w c.self.invariant in
     let next : next_instruction m (with_finishes ns w) c.args.act ≡ Some (instruction.EndFinish c.in-Some-EndFinish.field-0-0) =
     subst (λ (v : CoreValue). next_instruction v.module_run v.world c.args.act ≡ Some (instruction.EndFinish c.in-Some-EndFinish.field-0-0)) (sym c.self.view_is)

@@ -7,4 +7,4 @@ use Rattle.xk_core.proofs.machine.Core.module.Goals as goal
 
 pub returns-clause-opening : goal.returns-clause-opening
 returns-clause-opening c = subst (λ (v : CoreValue). v.world.steps ≡ 0 → v.world ≡ opening v.module_run) c.self.view_is
-    (core_fresh c.self.inside.verified.now (with_finishes c.self.inside.finishes c.self.inside.state) c.self.invariant.0)
+    (core_fresh c.self.inside.state.module_run (with_finishes c.self.inside.finishes c.self.inside.state.world) c.self.invariant.0)

@@ -9,20 +9,20 @@ use Rattle.xk_core.proofs.machine.Core.pick.Goals as goal
 pub overflow_cast-act : goal.overflow_cast-act
 overflow_cast-act c = omega (
   arith,
-  core_names c.self.inside.verified.now (with_finishes c.self.inside.finishes c.self.inside.state) c.self.invariant.0,
+  core_names c.self.inside.state.module_run (with_finishes c.self.inside.finishes c.self.inside.state.world) c.self.invariant.0,
   c.activity_count-a-end.ensures,
-  length_told c.self.inside.finishes c.self.inside.state.activities c.self.invariant.1.width,
+  length_told c.self.inside.finishes c.self.inside.state.world.activities c.self.invariant.1.width,
   c.loop-a-test.true,
 )
 
 pub returns-clause-none : goal.returns-clause-none
 returns-clause-none c = subst (λ (v : CoreValue). all_ended v.world ≡ true) c.self.view_is
-    (core_ends c.self.inside.verified.now (with_finishes c.self.inside.finishes c.self.inside.state) c.self.invariant.0
+    (core_ends c.self.inside.state.module_run (with_finishes c.self.inside.finishes c.self.inside.state.world) c.self.invariant.0
     (λ b lt. subst (λ (v : CoreValue). is_enabled v.module_run v.world b ≡ false) (sym c.self.view_is)
     (c.loop-a.invariant b (omega (
       arith,
       lt,
       c.activity_count-a-end.ensures,
-      length_told c.self.inside.finishes c.self.inside.state.activities c.self.invariant.1.width,
+      length_told c.self.inside.finishes c.self.inside.state.world.activities c.self.invariant.1.width,
       c.loop-a-test.false,
     )))))

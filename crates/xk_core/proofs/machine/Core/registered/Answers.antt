@@ -7,6 +7,6 @@ pub standing-requires-clause-activity : goal.standing-requires-clause-activity
 standing-requires-clause-activity c = omega (
   arith,
   subst (λ (v : CoreValue). c.args.act < length v.world.activities) (sym c.self.view_is) c.requires.activity,
-  length_told c.self.inside.finishes c.self.inside.state.activities c.self.invariant.1.width,
+  length_told c.self.inside.finishes c.self.inside.state.world.activities c.self.invariant.1.width,
   c.act.view_is,
 )

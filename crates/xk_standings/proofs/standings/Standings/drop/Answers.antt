@@ -1,8 +1,9 @@
 use Rattle.std.proofs.Common.{◌+◌, ◌<◌, ◌^◌, map, refl, sym, ap, ◌∙◌, subst, All}
 use Rattle.xk_types.specs.Step.{dropped, settled_clock, moved}
+use Rattle.xk_standings.specs.Calls.{ClocksValue, RegistrationsValue}
 use Rattle.xk_standings.specs.Told.{StandingsValue, told_of, change_on}
 use Rattle.xk_standings.proofs.Keeping.{may_drop_in, dropped_in}
-use Rattle.xk_standings.proofs.Inside.{inside_held}
+use Rattle.xk_standings.proofs.Inside.{inside_held, rooms_kept}
 use Rattle.xk_standings.proofs.standings.Standings.drop.Goals as goal
 
 pub drop-requires : goal.drop-requires
@@ -23,3 +24,8 @@ returns-clause-told c =
     (inside_held _ _ c.self.inside.held.items c.args.a c.self.view_is refl c.requires.there) c.index_mut-registrations.ensures.value
     c.drop.ensures.registrations c.drop.ensures.clocks).0
     ∙ ap (λ (s : StandingsValue). map (settled_clock c.args.now) (moved c.args.a (change_on c.args.which dropped) (told_of s))) c.self.view_is
+
+pub returns-clause-rooms : goal.returns-clause-rooms
+returns-clause-rooms c =
+    rooms_kept _ _ c.drop.new.clocks c.self.inside.held.items c.args.a c.index_mut-registrations.result.now c.drop.new.self c.self.view_is refl refl c.requires.there
+    c.index_mut-registrations.ensures.value (ap (λ (r : RegistrationsValue). r.room) c.drop.ensures.registrations) (ap (λ (v : ClocksValue). v.table.room) c.drop.ensures.clocks)

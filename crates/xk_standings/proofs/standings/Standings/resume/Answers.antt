@@ -1,8 +1,9 @@
 use Rattle.std.proofs.Common.{◌+◌, ◌<◌, ◌^◌, map, refl, sym, ap, ◌∙◌, subst, All}
 use Rattle.xk_types.specs.Step.{resumed, settled_clock, moved}
+use Rattle.xk_standings.specs.Calls.{ClocksValue, RegistrationsValue}
 use Rattle.xk_standings.specs.Told.{StandingsValue, told_of, change_on}
 use Rattle.xk_standings.proofs.Keeping.{may_resume_in, resumed_in}
-use Rattle.xk_standings.proofs.Inside.{inside_held}
+use Rattle.xk_standings.proofs.Inside.{inside_held, rooms_kept}
 use Rattle.xk_standings.proofs.standings.Standings.resume.Goals as goal
 
 pub resume-requires : goal.resume-requires
@@ -23,3 +24,8 @@ returns-clause-told c =
     (inside_held _ _ c.self.inside.held.items c.args.a c.self.view_is refl c.requires.there) c.index_mut-registrations.ensures.value
     c.resume.ensures.registrations c.resume.ensures.clocks).0
     ∙ ap (λ (s : StandingsValue). map (settled_clock c.args.now) (moved c.args.a (change_on c.args.which resumed) (told_of s))) c.self.view_is
+
+pub returns-clause-rooms : goal.returns-clause-rooms
+returns-clause-rooms c =
+    rooms_kept _ _ c.resume.new.clocks c.self.inside.held.items c.args.a c.index_mut-registrations.result.now c.resume.new.self c.self.view_is refl refl c.requires.there
+    c.index_mut-registrations.ensures.value (ap (λ (r : RegistrationsValue). r.room) c.resume.ensures.registrations) (ap (λ (v : ClocksValue). v.table.room) c.resume.ensures.clocks)

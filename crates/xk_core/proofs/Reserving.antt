@@ -1,0 +1,205 @@
+-- The room that a state has reserved stays enough, and there is some left where a clock is made.
+use Rattle.std.proofs.Common.{◌≡◌, ℕ, zero, suc, ℤ, ◌+◌, ◌<◌, ◌≤◌, Bool, true, false, cond, List, [], ◌∷◌, ◌++◌, length, Option, Some, None, inl, inr, ◌⊎◌, refl, sym, ap, ◌∙◌, subst, arith, slice_get, slice_set, slice_index_or, length-set}
+use Rattle.std.proofs.lemmas.Bool.{cases_eq}
+use Rattle.std.proofs.lemmas.Option.{none-some, same_Some, slice_get_within, get_or_from_slice_get}
+use Rattle.std.proofs.lemmas.List.{length_push}
+use Rattle.xk_types.specs.declared.instr.Instr.{Instr}
+use Rattle.xk_types.specs.declared.instr.Instr.TheVariants as instr
+use Rattle.xk_types.specs.declared.names.Value.{Value}
+use Rattle.xk_types.specs.declared.names.Value.TheVariants as value
+use Rattle.xk_types.specs.declared.unit.ParamKind.{ParamKind}
+use Rattle.xk_types.specs.declared.unit.ParamKind.TheVariants as param
+use Rattle.xk_types.specs.Code.{ModuleValue, UnitValue, is_method}
+use Rattle.xk_types.specs.World.{Frame, Activity, World, base_of, base_unit, instruction_at, main_of}
+use Rattle.xk_types.specs.Bound.{clocks_bound, stack_of}
+use Rattle.xk_types.proofs.Lists.{get_inside, get-set_same, get-set_other, get_push, get-push_other}
+use Rattle.xk_laws.proofs.Scopes.Invariant.{based}
+use Rattle.xk_rooms.specs.Rooms.{HasRoomLeft, registrations, places_of}
+use Rattle.xk_rooms.proofs.Law.{made_has_room}
+use Rattle.xk_finishes.specs.Tree.{NodeValue}
+use Rattle.xk_standings.specs.Told.{Rooms, HasRoomToMake}
+use Rattle.xk_activity.specs.declared.frames.Next.{Next}
+use Rattle.xk_activity.specs.declared.frames.Next.TheVariants as next
+use Rattle.xk_activity.specs.Local as frames
+use Rattle.xk_activity.specs.Joined.{frames_in}
+use Rattle.xk_activity.specs.Activities.{ActivitiesValue, act_at, with_act_at, nobody, Takes, Runs}
+use Rattle.xk_core.specs.Core.{next_instruction}
+use Rattle.xk_core.specs.Reserved.{AreReserved}
+use Rattle.xk_core.specs.Told.{with_node, with_finishes}
+use Rattle.xk_core.proofs.Finishing.{IsHeld, runs}
+
+-- ---- what is reserved
+
+-- an activity that began with the same unit has the same places
+pub reserved_set : (m : ModuleValue) (acts : List Activity) (r q : Rooms) (a : ℕ) (y : Activity) → AreReserved m acts r → q ≡ r
+    → base_unit y ≡ base_unit (act_at acts a) → AreReserved m (slice_set acts a y) q
+reserved_set m acts r q a y h same base = rw same (record {
+  clocks = h.clocks;
+  width = h.width ∙ sym (length-set acts a y);
+  places = λ b z there. by b z there (cases_eq b a);
+})
+  where
+    by : (b : ℕ) (z : Activity) → slice_get (slice_set acts a y) b ≡ Some z → (b ≡ a) ⊎ (b ≡ a → ⊥) → stack_of m (base_unit z) ≤ slice_index_or r.places b 0
+    by b z there (inl e) =
+        let inside = slice_get_within (slice_set acts a y) b z there in
+        let x = get_inside acts a (omega (arith, inside, length-set acts a y, e)) in
+        let yz : y ≡ z = same_Some y z (sym (get-set_same acts a x.0 y x.1) ∙ ap (slice_get (slice_set acts a y)) (sym e) ∙ there) in
+        let units : base_unit z ≡ base_unit x.0 = ap base_unit (sym yz) ∙ base ∙ ap base_unit (get_or_from_slice_get acts a x.0 nobody x.1) in
+        subst (λ k. stack_of m (base_unit z) ≤ slice_index_or r.places k 0) (sym e)
+        (subst (λ k. stack_of m k ≤ slice_index_or r.places a 0) (sym units) (h.places a x.0 x.1))
+    by b z there (inr differs) = h.places b z (sym (get-set_other acts a b y differs) ∙ there)
+
+-- one more, with places of its own
+pub reserved_push : (m : ModuleValue) (acts : List Activity) (r q : Rooms) (n : ℕ) (y : Activity) → AreReserved m acts r → q.clocks ≡ r.clocks
+    → q.places ≡ r.places ++ n ∷ [] → stack_of m (base_unit y) ≤ n → AreReserved m (acts ++ y ∷ []) q
+reserved_push m acts r q n y h clocks places fits = record {
+  clocks = omega (arith, h.clocks, clocks);
+  width = ap length places ∙ omega (arith, length_push r.places n, length_push acts y, h.width);
+  places = λ b z there. subst (λ (l : List ℕ). stack_of m (base_unit z) ≤ slice_index_or l b 0) (sym places) (by b z there (cases_eq b (length acts)));
+}
+  where
+    by : (b : ℕ) (z : Activity) → slice_get (acts ++ y ∷ []) b ≡ Some z → (b ≡ length acts) ⊎ (b ≡ length acts → ⊥)
+        → stack_of m (base_unit z) ≤ slice_index_or (r.places ++ n ∷ []) b 0
+    by b z there (inl e) =
+        let yz : y ≡ z = same_Some y z (sym (get_push acts y) ∙ ap (slice_get (acts ++ y ∷ [])) (sym e) ∙ there) in
+        let at : slice_get (r.places ++ n ∷ []) b ≡ Some n = ap (slice_get (r.places ++ n ∷ [])) (e ∙ sym h.width) ∙ get_push r.places n in
+        let is : slice_index_or (r.places ++ n ∷ []) b 0 ≡ n = get_or_from_slice_get (r.places ++ n ∷ []) b n 0 at in
+        subst (λ (x : Activity). stack_of m (base_unit x) ≤ slice_index_or (r.places ++ n ∷ []) b 0) yz (omega (arith, fits, is))
+    by b z there (inr differs) =
+        let old = sym (get-push_other acts y b differs) ∙ there in
+        let p = get_inside r.places b (omega (arith, slice_get_within acts b z old, h.width)) in
+        let now = get_or_from_slice_get (r.places ++ n ∷ []) b p.0 0 (get-push_other r.places n b (λ e. differs (e ∙ h.width)) ∙ p.1) in
+        let before = get_or_from_slice_get r.places b p.0 0 p.1 in
+        omega (arith, now, before, h.places b z old)
+
+-- where activity a goes on meanwhile
+pub reserved_more : (m : ModuleValue) (acts news : List Activity) (r q : Rooms) (a n : ℕ) (x y : Activity) → AreReserved m acts r → base_unit x ≡ base_unit (act_at acts a)
+    → news ≡ slice_set acts a x ++ y ∷ [] → q.clocks ≡ r.clocks → q.places ≡ r.places ++ n ∷ [] → stack_of m (base_unit y) ≤ n → AreReserved m news q
+reserved_more m acts news r q a n x y h base is clocks places fits =
+    subst (λ l. AreReserved m l q) (sym is) (reserved_push m (slice_set acts a x) r q n y (reserved_set m acts r r a x h refl base) clocks places fits)
+
+-- at the beginning
+pub reserved_open : (m : ModuleValue) (acts : List Activity) (q : Rooms) → acts ≡ main_of m ∷ [] → q.clocks ≡ clocks_bound m → length q.places ≡ 1
+    → stack_of m 0 ≤ slice_index_or q.places 0 0 → AreReserved m acts q
+reserved_open m acts q is clocks width fits = rw is (record { clocks = omega (arith, clocks); width = width; places = by })
+  where
+    by : (a : ℕ) (x : Activity) → slice_get (main_of m ∷ []) a ≡ Some x → stack_of m (base_unit x) ≤ slice_index_or q.places a 0
+    by zero x e = subst (λ (z : Activity). stack_of m (base_unit z) ≤ slice_index_or q.places 0 0) (same_Some (main_of m) x e) fits
+    by (suc a) x e = absurd (none-some x e)
+
+-- ---- the unit that an activity began with
+
+pub onward_base : (x y : Activity) → y.frame.unit ≡ x.frame.unit → y.callers ≡ x.callers → base_unit y ≡ base_unit x
+onward_base x y unit callers = ap (base_of y.frame) callers ∙ based x.frame y.frame x.callers unit
+
+-- an activity of a state changed, which began with the same unit
+pub kept_by : (v new : ActivitiesValue) (n k : ℕ) (r q : Rooms) (a : ℕ) (y : Activity) → (n ≡ length v.list) × AreReserved v.module_run v.list r → new ≡ with_act_at v a y → k ≡ n
+    → q ≡ r → base_unit y ≡ base_unit (act_at v.list a) → (k ≡ length new.list) × AreReserved new.module_run new.list q
+kept_by v new n k r q a y h is width same base = rw is (
+  width ∙ h.0 ∙ sym (length-set v.list a y),
+  reserved_set v.module_run v.list r q a y h.1 same base,
+)
+
+-- and whose frame is of the same unit
+pub kept_on : (v new : ActivitiesValue) (n : ℕ) (r : Rooms) (a : ℕ) (y : Activity) → (n ≡ length v.list) × AreReserved v.module_run v.list r → new ≡ with_act_at v a y
+    → y.frame.unit ≡ (act_at v.list a).frame.unit → y.callers ≡ (act_at v.list a).callers → (n ≡ length new.list) × AreReserved new.module_run new.list r
+kept_on v new n r a y h is unit callers = kept_by v new n n r r a y h is refl refl (onward_base (act_at v.list a) y unit callers)
+
+-- what a local step leaves began with the same unit
+abbrev Keeps : ℕ → frames.Outcome → Type 0
+Keeps b frames.Beyond = Unit {0}
+Keeps b frames.Wrong = Unit {0}
+Keeps b (frames.Stepped fs) = base_of fs.frame fs.callers ≡ b
+
+number_keeps : (b : ℕ) (o : Option Value) (go : ℤ → frames.Outcome) → ((n : ℤ) → Keeps b (go n)) → Keeps b (frames.number_in o go)
+number_keeps b None go h = tt
+number_keeps b (Some value.Unset) go h = tt
+number_keeps b (Some (value.Number n)) go h = h n
+number_keeps b (Some (value.Clock c)) go h = tt
+
+clock_keeps : (b : ℕ) (o : Option Value) (go : ℕ → frames.Outcome) → ((c : ℕ) → Keeps b (go c)) → Keeps b (frames.clock_in o go)
+clock_keeps b None go h = tt
+clock_keeps b (Some value.Unset) go h = tt
+clock_keeps b (Some (value.Number n)) go h = tt
+clock_keeps b (Some (value.Clock c)) go h = h c
+
+arguments_keep : (b : ℕ) (slots : List Value) (ps : List ParamKind) (xs : List ℕ) (go : List Value → frames.Outcome) → ((vs : List Value) → Keeps b (go vs))
+    → Keeps b (frames.arguments_in slots ps xs go)
+arguments_keep b slots [] [] go h = h []
+arguments_keep b slots [] (x ∷ xs) go h = tt
+arguments_keep b slots (p ∷ ps) [] go h = tt
+arguments_keep b slots (param.Number ∷ ps) (x ∷ xs) go h = number_keeps b (slice_get slots x) _
+    (λ n. arguments_keep b slots ps xs (λ values. go (value.Number n ∷ values)) (λ vs. h (value.Number n ∷ vs)))
+arguments_keep b slots (param.Clock ∷ ps) (x ∷ xs) go h = clock_keeps b (slice_get slots x) _
+    (λ c. arguments_keep b slots ps xs (λ values. go (value.Clock c ∷ values)) (λ vs. h (value.Clock c ∷ vs)))
+
+module _ (fs : frames.FramesValue) where
+  abbrev base : ℕ
+  base = base_of fs.frame fs.callers
+
+  call_keeps : (t : ℕ) (args : List ℕ) (o : Option UnitValue) → Keeps base (frames.calling fs t args o)
+  call_keeps t args None = tt
+  call_keeps t args (Some u) = by (is_method u.kind)
+    where
+      by : (c : Bool) → Keeps base (cond c (frames.arguments_in fs.frame.slots u.params args (λ values. frames.Stepped (frames.called fs t values))) frames.Wrong)
+      by true = arguments_keep base fs.frame.slots u.params args (λ values. frames.Stepped (frames.called fs t values)) (λ vs. refl)
+      by false = tt
+
+  return_keeps : (gs : List Frame) → Keeps (base_of fs.frame gs) (frames.returning fs gs)
+  return_keeps [] = tt
+  return_keeps (g ∷ gs) = based g (record g { place = g.place + 1 }) gs refl
+
+  frame_keeps : (t : frames.Turn) → Keeps base (frames.in_frame fs t)
+  frame_keeps frames.Beyond = tt
+  frame_keeps frames.Wrong = tt
+  frame_keeps (frames.Stepped s) = based fs.frame (frames.frame_on fs.frame.unit s) fs.callers refl
+
+  carried_keeps : (i : Instr) → Keeps base (frames.carried_on fs i)
+  carried_keeps (instr.Call t args) = call_keeps t args (slice_get fs.module_run.units t)
+  carried_keeps instr.Ret = return_keeps fs.callers
+  carried_keeps i = frame_keeps (frames.carried (frames.code_of fs.module_run fs.frame.unit) (frames.spot_of fs.frame) i)
+
+  local_keeps : (o : Option Instr) → Keeps base (frames.local_at fs o)
+  local_keeps None = tt
+  local_keeps (Some i) = carried_keeps i
+
+-- nor do any number of them
+ran_keeps : (fs : frames.FramesValue) (n : ℕ) → Keeps (base fs) (frames.ran frames.local fs n)
+ran_keeps fs zero = refl
+ran_keeps fs (suc n) = by (frames.ran frames.local fs n) (ran_keeps fs n)
+  where
+    by : (o : frames.Outcome) → Keeps (base fs) o → Keeps (base fs) (frames.then_step frames.local o)
+    by frames.Beyond h = tt
+    by frames.Wrong h = tt
+    by (frames.Stepped gs) h = subst (λ b. Keeps b (frames.local gs)) h (local_keeps gs (instruction_at gs.module_run gs.frame))
+
+pub runs_base : (m : ModuleValue) (x y : Activity) (max n : ℕ) → Runs m x max n y → base_unit y ≡ base_unit x
+runs_base m x y max n r = ap base_unit r.is ∙ subst (Keeps (base_unit x)) r.ran (ran_keeps (frames_in m x) n)
+
+pub takes_base : (m : ModuleValue) (x y : Activity) (n : Next) → Takes m x n y → base_unit y ≡ base_unit x
+takes_base m x y next.Stepped t = ap base_unit t.2 ∙ subst (Keeps (base_unit x)) t.1 (local_keeps (frames_in m x) (instruction_at m x.frame))
+takes_base m x y next.Visible t = ap base_unit t.1
+
+-- ---- where a clock is made
+
+-- room is left, also without finishes
+pub make_left : (m : ModuleValue) (ns : List NodeValue) (w : World) (a : ℕ) (h : IsHeld m ns w) (d : ℕ) → next_instruction m (with_finishes ns w) a ≡ Some (instr.Make d)
+    → HasRoomLeft m w a
+make_left m ns w a h d next =
+    let r = runs m ns w a h (instr.Make d) next in
+    let left = made_has_room m (with_finishes ns w) h.core.limits h.core.accepted h.core.reached a
+    (record { act = with_node r.n r.x; there = r.both; running = r.running; slot = d; makes = r.at }) in
+    record {
+      clocks = left.clocks;
+      places = λ act there.
+          subst (λ (x : Activity). registrations w.clocks a < places_of m x) (same_Some r.x act (sym r.found ∙ there)) (left.places (with_node r.n r.x) r.both);
+    }
+
+-- and what is reserved has it
+pub room_to_make : (m : ModuleValue) (w : World) (a : ℕ) (r : Rooms) → a < length w.activities → AreReserved m w.activities r → HasRoomLeft m w a → HasRoomToMake r w.clocks a
+room_to_make m w a r lt h left =
+    let x = get_inside w.activities a lt in
+    record {
+      clock = omega (arith, left.clocks, h.clocks);
+      place = omega (arith, left.places x.0 x.1, h.places a x.0 x.1);
+    }

@@ -1,0 +1,8 @@
+use Rattle.std.proofs.Common.{length, refl}
+use Rattle.xk_standings.specs.Told.{rooms_of}
+use Rattle.xk_core.proofs.Reserving.{kept_on}
+use Rattle.xk_core.proofs.state.State.arrive.Goals as goal
+
+pub invariant_of-self : goal.invariant_of-self
+invariant_of-self c =
+    kept_on c.self.inside.activities c.arrive.new.self (length c.self.inside.standings.held) (rooms_of c.self.inside.standings) c.args.a _ c.self.invariant c.arrive.ensures refl refl

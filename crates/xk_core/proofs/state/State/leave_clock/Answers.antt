@@ -1,0 +1,38 @@
+use Rattle.std.proofs.Common.{◌≡◌, true, subst, sym, ap, ◌∙◌, length, refl}
+use Rattle.xk_types.specs.declared.instr.Instr.TheVariants as instruction
+use Rattle.xk_types.specs.declared.names.Event.TheVariants as event
+use Rattle.xk_types.specs.World.{World}
+use Rattle.xk_types.specs.Step.{Stepped, settled, moved, only, dropped}
+use Rattle.xk_types.specs.Schedule.{is_step}
+use Rattle.xk_standings.specs.Told.{told_of, rooms_of}
+use Rattle.xk_activity.specs.Activities.{ActivitiesValue, Stands, act_at}
+use Rattle.xk_core.specs.Arm.{carried}
+use Rattle.xk_core.specs.Core.{CoreValue}
+use Rattle.xk_core.proofs.Visible.{drop_clock, drop_done}
+use Rattle.xk_core.proofs.Reserving.{kept_on}
+use Rattle.xk_core.proofs.state.State.leave_clock.Goals as goal
+
+pub clock-c-requires-clause-clock : goal.clock-c-requires-clause-clock
+clock-c-requires-clause-clock c =
+    let m = c.self.inside.activities.module_run in
+    let w : World = record { activities = c.self.inside.activities.list; clocks = told_of c.self.inside.standings; cells = c.self.inside.cells.items; steps = c.self.inside.steps } in
+    drop_clock m w c.args.a c.args.k
+    (subst (λ (v : CoreValue). is_step (carried v.module_run v.world c.args.a (instruction.Drop c.args.k)) ≡ true) (sym c.self.view_is) c.requires.enabled)
+
+pub go_on-requires-clause-stands : goal.go_on-requires-clause-stands
+go_on-requires-clause-stands c =
+    subst (λ (v : CoreValue). Stands v.module_run (act_at v.world.activities c.args.a)) (sym c.self.view_is) c.requires.room.stands
+
+pub returns-clause-stepped : goal.returns-clause-stepped
+returns-clause-stepped c =
+    let m = c.self.inside.activities.module_run in
+    let w : World = record { activities = c.self.inside.activities.list; clocks = told_of c.self.inside.standings; cells = c.self.inside.cells.items; steps = c.self.inside.steps } in
+    let can = subst (λ (v : CoreValue). is_step (carried v.module_run v.world c.args.a (instruction.Drop c.args.k)) ≡ true) (sym c.self.view_is) c.requires.enabled in
+    subst (λ (v : CoreValue). carried v.module_run v.world c.args.a (instruction.Drop c.args.k) ≡ Stepped c.end_step.new.self.world event.Dropped) c.self.view_is
+    (drop_done m w c.args.a c.args.k c.clock-c.result can c.clock-c.ensures
+    ∙ ap (λ (v : ActivitiesValue). Stepped (settled (record w { activities = v.list; clocks = moved c.args.a (only c.clock-c.result dropped) w.clocks })) event.Dropped) (sym c.go_on.ensures)
+    ∙ ap (λ (v : CoreValue). Stepped v.world event.Dropped) (sym c.end_step.ensures))
+
+pub invariant_of-self : goal.invariant_of-self
+invariant_of-self c =
+    kept_on c.self.inside.activities c.go_on.new.self (length c.self.inside.standings.held) (rooms_of c.self.inside.standings) c.args.a _ c.self.invariant c.go_on.ensures refl refl
