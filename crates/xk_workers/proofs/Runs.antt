@@ -1,5 +1,6 @@
 -- Runs, as their stages keep them.
-use Rattle.std.proofs.Common.{◌≡◌, ℕ, Bool, true, false, cond, List, [], ◌∷◌, Option, Some, None, slice_get, refl, sym, ap, subst, ◌∙◌}
+use Rattle.std.proofs.Common.{◌≡◌, ℕ, ◌≤◌, Bool, true, false, cond, List, [], ◌∷◌, length, Option, Some, None, slice_get, refl, sym, ap, subst, ◌∙◌, arith}
+use Rattle.std.proofs.lemmas.Bool.{le-leb}
 use Rattle.std.proofs.lemmas.Option.{none-some}
 use Rattle.xk_types.specs.declared.names.Event.{Event}
 use Rattle.xk_types.specs.World.{World, opening}
@@ -55,7 +56,7 @@ over_going s r first e =
 
 -- nobody is above main
 nobody_above : (b : Bool) (a : ℕ) → let list : List ℕ = cond b (0 ∷ []) [] in None ≡ slice_get list (place_above a list)
-nobody_above true a = refl
+nobody_above true a = let main : List ℕ = 0 ∷ [] in ap (λ (b : Bool). slice_get main (length {A = ℕ} (cond b main []))) (sym (le-leb 0 a (omega arith)))
 nobody_above false a = refl
 
 alone : (c : CoreValue) (a : ℕ) → c.world ≡ opening c.module_run
@@ -68,7 +69,7 @@ pub alone_fresh : (s : Stage) (c : CoreValue) (a : ℕ) → s ≡ stage.Fresh c 
     → None ≡ slice_get (enabled_in (run_at s).core.module_run (run_at s).core.world) (place_above a (enabled_in (run_at s).core.module_run (run_at s).core.world))
 alone_fresh s c a e =
     subst (λ (t : Stage). IsStage t
-        → None ≡ slice_get (enabled_in (run_at t).core.module_run (run_at t).core.world) (place_above a (enabled_in (run_at t).core.module_run (run_at t).core.world)))
+    → None ≡ slice_get (enabled_in (run_at t).core.module_run (run_at t).core.world) (place_above a (enabled_in (run_at t).core.module_run (run_at t).core.world)))
     (sym e) (alone c a)
 
 -- before its first step main hasn't ended

@@ -13,5 +13,5 @@ returns-clause-told c =
       | in-Some-first_unclaimed w ↦ subst (λ t. Tells s t s) (sym w.result-is)
           (tells_act s w.in-Some-first_unclaimed.act c.if-self.false w.in-Some-first_unclaimed.ensures.some)
       | in-None w ↦ subst (λ t. Tells s t s) (sym w.result-is)
-          (tells_idle s c.in-Some.first c.if-self.false c.first_unclaimed.requires w.in-None.ensures.none)
+          (tells_idle s c.in-Some.first c.if-self.false (sym c.in-Some.is ∙ c.first.ensures.first) w.in-None.ensures.none)
     ])
