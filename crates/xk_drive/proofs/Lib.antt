@@ -1,10 +1,10 @@
 pub mod Runs
-pub mod Membership
 pub mod UntouchedForms
 pub mod UntouchedOwners
 pub mod UntouchedAwaits
 pub mod Untouched
 pub mod Listing
+pub mod Answered
 pub mod Turns
 pub mod Following
 pub mod ChoiceRows

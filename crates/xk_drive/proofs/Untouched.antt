@@ -1,6 +1,6 @@
 -- A step of one activity leaves each other as able to step as it was, but for the one that it starts, those on a clock that advances, and,
 -- where it ends its activity, the owner of the finish that governs that one.
-use Rattle.std.proofs.Common.{◌≡◌, ℕ, zero, suc, ◌+◌, ◌<◌, ◌&&◌, ◌||◌, ◌==◌, not, Bool, true, false, true≢false, cond, List, [], ◌∷◌, ◌++◌, map, length, Option, Some, None, refl, sym, ap, ap₂, ◌∙◌, subst, arith, slice_get, slice_set, option_and_then, length-set}
+use Rattle.std.proofs.Common.{◌≡◌, ℕ, zero, suc, ◌+◌, ◌<◌, ◌≤◌, ◌&&◌, ◌||◌, ◌==◌, not, Bool, true, false, true≢false, cond, List, [], ◌∷◌, ◌++◌, map, length, Option, Some, None, refl, sym, ap, ap₂, ◌∙◌, subst, arith, slice_get, slice_set, option_and_then, length-set}
 use Rattle.std.specs.List.{list_all, list_any}
 use Rattle.std.specs.Option.{option_map_or}
 use Rattle.std.proofs.lemmas.Bool.{and_parts, eq-eqb}
@@ -16,7 +16,7 @@ use Rattle.xk_types.specs.declared.names.Event.{Event}
 use Rattle.xk_types.specs.declared.names.Event.TheVariants as event
 use Rattle.xk_types.specs.Code.{ModuleValue}
 use Rattle.xk_types.specs.World.{Finish, Activity, Clock, World, standing_of, is_ended}
-use Rattle.xk_types.specs.Step.{Outcome, Blocked, Wrong, Stepped, step, is_signalled, settled_clock, moved, joined, new_clock, is_given, onward, left, ended, child, innermost, awaits, waits, dropped, none, all}
+use Rattle.xk_types.specs.Step.{Outcome, Blocked, Wrong, Stepped, step, is_signalled, settled_clock, moved, joined, new_clock, is_given, onward, left, ended, arrived, child, innermost, awaits, waits, dropped, resumed, none, all}
 use Rattle.xk_types.specs.Schedule.{is_enabled}
 use Rattle.xk_laws.proofs.Invariant.{IsClockSound}
 use Rattle.xk_types.proofs.Lists.{Each, get-set_same, get-set_other, get-push_other, get-append_left}
@@ -26,10 +26,10 @@ use Rattle.xk_laws.proofs.Scopes.Under.{AreOwned}
 use Rattle.xk_laws.proofs.Clocks.Advance.{settled_cases}
 use Rattle.xk_laws.proofs.Clocks.Standings.{stand_other, new_other, stand_joined_old}
 use Rattle.xk_core.specs.Able.{able_by, able_of, kept_by}
-use Rattle.xk_core.specs.Arm.{starts}
-use Rattle.xk_core.specs.Core.{IsCore, is_quiet, governor, instruction_by, instruction_of, next_instruction, is_about_to_start}
+use Rattle.xk_core.specs.Core.{IsCore, is_quiet, governor, instruction_of}
 use Rattle.xk_core.proofs.Cores.{core_able, core_stepped}
-use Rattle.xk_drive.proofs.UntouchedForms.{GoesOn, IsAt, is_start, step_kind}
+use Rattle.xk_drive.specs.Listing.{is_arrived, is_waiting}
+use Rattle.xk_drive.proofs.UntouchedForms.{GoesOn, is_start, step_kind}
 use Rattle.xk_drive.proofs.UntouchedOwners.{core_owned, core_open}
 use Rattle.xk_drive.proofs.UntouchedAwaits.{owned_set, awaits_on, awaits_end, awaits_push}
 
@@ -74,17 +74,18 @@ waits_joined a b given (c ∷ cs) wide =
 
 -- ---- who is enabled
 
--- One that is the same in two worlds, and waits in both or in neither for clocks and for those under its finish, is enabled in both or in
--- neither.
-same_enabled : (m : ModuleValue) (w v : World) (b : ℕ) → IsCore m w → IsCore m v → slice_get v.activities b ≡ slice_get w.activities b → waits v b ≡ waits w b
+-- One that is the same in two worlds, and waits in both or in neither for clocks, if it does at all, and for those under its finish, is enabled
+-- in both or in neither.
+same_enabled : (m : ModuleValue) (w v : World) (b : ℕ) → IsCore m w → IsCore m v → slice_get v.activities b ≡ slice_get w.activities b
+    → (is_waiting w b ≡ true → waits v b ≡ waits w b)
     → ((x : Activity) → slice_get w.activities b ≡ Some x → awaits v.activities (innermost b x) ≡ awaits w.activities (innermost b x)) → is_enabled m v b ≡ is_enabled m w b
 same_enabled m w v b core later same waiting awaiting =
     sym (core_able m v b later) ∙ ap (λ o. able_of v b o && not (kept_by v b o (instruction_of m o))) same ∙ of (slice_get w.activities b) refl ∙ core_able m w b core
   where
-    able : (s : Status) → able_by v b s ≡ able_by w b s
-    able status.Running = refl
-    able status.Arrived = ap not waiting
-    able status.Ended = refl
+    able : (s : Status) → (is_arrived s ≡ true → waits v b ≡ waits w b) → able_by v b s ≡ able_by w b s
+    able status.Running h = refl
+    able status.Arrived h = ap not (h refl)
+    able status.Ended h = refl
 
     kept : (x : Activity) → slice_get w.activities b ≡ Some x → (i : Option Instr) → kept_by v b (Some x) i ≡ kept_by w b (Some x) i
     kept x found (Some (instr.EndFinish e)) = awaiting x found
@@ -95,7 +96,7 @@ same_enabled m w v b core later same waiting awaiting =
         → (able_of v b o && not (kept_by v b o (instruction_of m o))) ≡ (able_of w b o && not (kept_by w b o (instruction_of m o)))
     of None found = refl
     of (Some x) found =
-        ap (λ p. p && not (kept_by v b (Some x) (instruction_of m (Some x)))) (able x.status)
+        ap (λ p. p && not (kept_by v b (Some x) (instruction_of m (Some x)))) (able x.status (λ h. waiting (ap (λ (o : Option Activity). option_map_or (λ (y : Activity). is_arrived y.status) o false) found ∙ h)))
         ∙ ap (λ p. able_by w b x.status && not p) (kept x found (instruction_of m (Some x)))
 
 -- ---- a step
@@ -104,18 +105,18 @@ same_enabled m w v b core later same waiting awaiting =
 abbrev Leaves : ModuleValue → World → ℕ → ℕ → Outcome → Type 0
 Leaves m w a b Blocked = Unit {0}
 Leaves m w a b (Wrong c) = Unit {0}
-Leaves m w a b (Stepped v e) = IsCore m v → is_quiet v ≡ true → (e ≡ event.Ended → governor w a ≡ Some b → ⊥) → is_enabled m v b ≡ is_enabled m w b
+Leaves m w a b (Stepped v e) = IsCore m v → (is_waiting w b ≡ true → is_quiet v ≡ true) → (e ≡ event.Ended → governor w a ≡ Some b → ⊥) → is_enabled m v b ≡ is_enabled m w b
 
 module _ (m : ModuleValue) (w : World) (a b : ℕ) (core : IsCore m w) (inside : b < length w.activities) (differs : b ≡ a → ⊥) where
   -- one activity changes, and where it stands
   leaves_moved : (act next : Activity) (change : ℕ → Standing → Standing) (v : World) → v.activities ≡ slice_set w.activities a next
       → v.clocks ≡ map (settled_clock (w.steps + 1)) (moved a change w.clocks)
-      → v.steps ≡ w.steps + 1 → IsCore m v → is_quiet v ≡ true
+      → v.steps ≡ w.steps + 1 → IsCore m v → (is_waiting w b ≡ true → is_quiet v ≡ true)
       → ((x : Activity) → awaits (slice_set w.activities a next) (innermost b x) ≡ awaits w.activities (innermost b x)) → is_enabled m v b ≡ is_enabled m w b
   leaves_moved act next change v acts clocks steps later quiet awaiting =
       same_enabled m w v b core later (ap (λ l. slice_get l b) acts ∙ get-set_other w.activities a b next differs)
-      (ap (waits_on b) (clocks ∙ settled_quiet (w.steps + 1) (moved a change w.clocks)
-      (sym (ap₂ (λ n l. list_all (λ (c : Clock). not (c.last == n)) l) steps clocks) ∙ quiet)) ∙ waits_moved a b change w.clocks differs)
+      (λ waiting. ap (waits_on b) (clocks ∙ settled_quiet (w.steps + 1) (moved a change w.clocks)
+      (sym (ap₂ (λ n l. list_all (λ (c : Clock). not (c.last == n)) l) steps clocks) ∙ quiet waiting)) ∙ waits_moved a b change w.clocks differs)
       (λ x found. ap (λ l. awaits l (innermost b x)) acts ∙ awaiting x)
 
   -- it goes on
@@ -148,25 +149,27 @@ module _ (m : ModuleValue) (w : World) (a b : ℕ) (core : IsCore m w) (inside :
   step_leaves = step_kind (Leaves m w a b) m w a tt (λ act found alive. record {
     blocked = tt;
     wrong = λ c. tt;
-    closed = λ n opened nobody later quiet another. leaves_moved act (left act n) none _ refl refl refl later quiet
+    closed = λ n opened nobody awake later quiet another. leaves_moved act (left act n) none _ refl refl refl later quiet
         (λ x. awaits_on w.activities (core_owned m w core) a act (left act n) found refl (innermost b x) alive alive);
     over = λ here alone later quiet another. leaves_moved act (ended act) (all dropped) _ refl refl refl later quiet (end_awaits act found alive (another refl));
+    arrives = λ later quiet another. leaves_moved act (arrived act) (all resumed) _ refl refl refl later quiet
+        (λ x. awaits_on w.activities (core_owned m w core) a act (arrived act) found refl (innermost b x) alive refl);
     done = λ next change e on start later quiet another. leaves_moved act next change _ refl refl refl later quiet (on_awaits act next found alive on);
     made = λ next on later quiet another. same_enabled m w _ b core later (get-set_other w.activities a b next differs)
-        (ap (waits_on b) (settled_quiet (w.steps + 1) (w.clocks ++ new_clock (length w.activities) a ∷ []) quiet) ∙ waits_made (length w.activities) a b w.clocks differs)
+        (λ waiting. ap (waits_on b) (settled_quiet (w.steps + 1) (w.clocks ++ new_clock (length w.activities) a ∷ []) (quiet waiting)) ∙ waits_made (length w.activities) a b w.clocks differs)
         (λ x there. on_awaits act next found alive on x);
     stored = λ s n e on start later quiet another. leaves_moved act (onward act) none _ refl refl refl later quiet (on_awaits act (onward act) found alive on);
     spawned = λ t args values at on later quiet another. same_enabled m w _ b core later
         (get-push_other (slice_set w.activities a (onward act)) (child m a act t values) b
         (λ e. absurd (omega (arith, inside, length-set w.activities a (onward act)))) ∙ get-set_other w.activities a b (onward act) differs)
-        (ap (waits_on b) (settled_quiet (w.steps + 1) (joined a (is_given values) w.clocks) quiet) ∙ waits_joined a b (is_given values) w.clocks wide)
+        (λ waiting. ap (waits_on b) (settled_quiet (w.steps + 1) (joined a (is_given values) w.clocks) (quiet waiting)) ∙ waits_joined a b (is_given values) w.clocks wide)
         (λ x there. start_awaits act t values _ found alive refl later x);
   })
 
--- a step leaves others as able to step as they were
-pub untouched : (m : ModuleValue) (w v : World) (a : ℕ) (e : Event) → IsCore m w → step m w a ≡ Stepped v e → is_quiet v ≡ true → (b : ℕ) → b < length w.activities → (b ≡ a → ⊥)
+-- a step leaves others as able to step as they were, where no clock advances, and else those who don't wait at an `advance`
+pub untouched : (m : ModuleValue) (w v : World) (a : ℕ) (e : Event) → IsCore m w → step m w a ≡ Stepped v e → (b : ℕ) → (is_waiting w b ≡ true → is_quiet v ≡ true) → b < length w.activities → (b ≡ a → ⊥)
     → (e ≡ event.Ended → governor w a ≡ Some b → ⊥) → is_enabled m v b ≡ is_enabled m w b
-untouched m w v a e core h quiet b inside differs another = subst (Leaves m w a b) h (step_leaves m w a b core inside differs) (core_stepped m w v a e core h) quiet another
+untouched m w v a e core h b quiet inside differs another = subst (Leaves m w a b) h (step_leaves m w a b core inside differs) (core_stepped m w v a e core h) quiet another
 
 -- ---- who is there
 
@@ -174,52 +177,82 @@ untouched m w v a e core h quiet b inside differs another = subst (Leaves m w a 
 abbrev started : Event → ℕ
 started e = cond (is_start e) 1 0
 
--- What a step says of who takes it, and of how many there are: that one is there, is governed as before, and there is one more if it was
--- started.
+-- What a step says of who takes it, and of how many there are: that one is there, is governed as before, waits at an `advance` only if it has
+-- just arrived, and there is one more if it was started, which doesn't wait; others are as they were.
 record IsTaken (w v : World) (a : ℕ) (e : Event) : Type 0 where
   within : a < length w.activities
   width : length v.activities ≡ length w.activities + started e
   governor : governor v a ≡ governor w a
+  awake : (e ≡ event.Arrived → ⊥) → is_waiting v a ≡ false
+  fresh : is_waiting v (length w.activities) ≡ false
+  others : (b : ℕ) → (b ≡ a → ⊥) → b < length w.activities → is_waiting v b ≡ is_waiting w b
 
 abbrev Takes : World → ℕ → Outcome → Type 0
 Takes w a Blocked = Unit {0}
 Takes w a (Wrong c) = Unit {0}
 Takes w a (Stepped v e) = IsTaken w v a e
 
+abbrev waits_as : Option Activity → Bool
+waits_as o = option_map_or (λ (y : Activity). is_arrived y.status) o false
+
+slice_get-beyond : (xs : List Activity) (k : ℕ) → length xs ≤ k → slice_get xs k ≡ None
+slice_get-beyond [] k le = refl
+slice_get-beyond (x ∷ xs) zero le = absurd (omega arith)
+slice_get-beyond (x ∷ xs) (suc k) le = slice_get-beyond xs k (omega arith)
+
+get-push_last : (xs : List Activity) (x : Activity) (k : ℕ) → k ≡ length xs → slice_get (xs ++ x ∷ []) k ≡ Some x
+get-push_last [] x zero e = refl
+get-push_last [] x (suc k) e = absurd (omega arith)
+get-push_last (y ∷ xs) x zero e = absurd (omega arith)
+get-push_last (y ∷ xs) x (suc k) e = get-push_last xs x k (omega arith)
+
 -- one activity changes
 taken_set : (w v : World) (a : ℕ) (act next : Activity) (e : Event) → slice_get w.activities a ≡ Some act
     → v.activities ≡ slice_set w.activities a next → next.governed ≡ act.governed → is_start e ≡ false
+    → ((e ≡ event.Arrived → ⊥) → is_arrived next.status ≡ false)
     → IsTaken w v a e
-taken_set w v a act next e found acts governed start = record {
+taken_set w v a act next e found acts governed start awake = record {
   within = slice_get_within w.activities a act found;
   width = (let nobody : started e ≡ 0 = ap (λ s. cond s 1 0) start in omega (arith, nobody, ap length acts, length-set w.activities a next));
   governor = ap (λ l. option_and_then (λ (x : Activity). x.governed.owner) (slice_get l a)) acts
       ∙ ap (option_and_then (λ (x : Activity). x.governed.owner)) (get-set_same w.activities a act next found)
       ∙ ap (λ (g : Finish). g.owner) governed ∙ sym (ap (option_and_then (λ (x : Activity). x.governed.owner)) found);
+  awake = λ h. ap waits_as (ap (λ l. slice_get l a) acts ∙ get-set_same w.activities a act next found) ∙ awake h;
+  fresh = ap (λ l. waits_as (slice_get l (length w.activities))) acts
+      ∙ ap waits_as (slice_get-beyond (slice_set w.activities a next) (length w.activities) (omega (arith, length-set w.activities a next)));
+  others = λ b differs inside. ap (λ l. waits_as (slice_get l b)) acts ∙ ap waits_as (get-set_other w.activities a b next differs);
 }
 
 -- and one is started
 taken_push : (w v : World) (a : ℕ) (act next x : Activity) → slice_get w.activities a ≡ Some act → v.activities ≡ slice_set w.activities a next ++ x ∷ []
-    → next.governed ≡ act.governed
+    → next.governed ≡ act.governed → is_arrived next.status ≡ false → is_arrived x.status ≡ false
     → IsTaken w v a event.Spawned
-taken_push w v a act next x found acts governed = record {
+taken_push w v a act next x found acts governed awake awake_child = record {
   within = slice_get_within w.activities a act found;
   width = omega (arith, ap length acts, length_push (slice_set w.activities a next) x, length-set w.activities a next);
   governor = ap (λ l. option_and_then (λ (y : Activity). y.governed.owner) (slice_get l a)) acts
       ∙ ap (option_and_then (λ (y : Activity). y.governed.owner)) (get-append_left (slice_set w.activities a next) (x ∷ []) a next (get-set_same w.activities a act next found))
       ∙ ap (λ (g : Finish). g.owner) governed ∙ sym (ap (option_and_then (λ (y : Activity). y.governed.owner)) found);
+  awake = λ h. ap waits_as (ap (λ l. slice_get l a) acts
+      ∙ get-append_left (slice_set w.activities a next) (x ∷ []) a next (get-set_same w.activities a act next found)) ∙ awake;
+  fresh = ap waits_as (ap (λ l. slice_get l (length w.activities)) acts
+      ∙ get-push_last (slice_set w.activities a next) x (length w.activities) (sym (length-set w.activities a next))) ∙ awake_child;
+  others = λ b differs inside. ap waits_as (ap (λ l. slice_get l b) acts
+      ∙ get-push_other (slice_set w.activities a next) x b (λ e. absurd (omega (arith, inside, e, length-set w.activities a next)))
+      ∙ get-set_other w.activities a b next differs);
 }
 
 step_takes : (m : ModuleValue) (w : World) (a : ℕ) → Takes w a (step m w a)
 step_takes m w a = step_kind (Takes w a) m w a tt (λ act found alive. record {
   blocked = tt;
   wrong = λ c. tt;
-  closed = λ n opened nobody. taken_set w _ a act (left act n) event.Closed found refl refl refl;
-  over = λ here alone. taken_set w _ a act (ended act) event.Ended found refl refl refl;
-  done = λ next change e on start. taken_set w _ a act next e found refl on.governed start;
-  made = λ next on. taken_set w _ a act next event.Made found refl on.governed refl;
-  stored = λ s n e on start. taken_set w _ a act (onward act) e found refl refl start;
-  spawned = λ t args values at on. taken_push w _ a act (onward act) (child m a act t values) found refl refl;
+  closed = λ n opened nobody awake. taken_set w _ a act (left act n) event.Closed found refl refl refl (λ h. awake);
+  over = λ here alone. taken_set w _ a act (ended act) event.Ended found refl refl refl (λ h. refl);
+  arrives = taken_set w _ a act (arrived act) event.Arrived found refl refl refl (λ h. absurd (h refl));
+  done = λ next change e on start. taken_set w _ a act next e found refl on.governed start (λ h. on.awake);
+  made = λ next on. taken_set w _ a act next event.Made found refl on.governed refl (λ h. on.awake);
+  stored = λ s n e on start. taken_set w _ a act (onward act) e found refl refl start (λ h. on.awake);
+  spawned = λ t args values at on. taken_push w _ a act (onward act) (child m a act t values) found refl refl on.awake refl;
 })
 
 taken : (m : ModuleValue) (w v : World) (a : ℕ) (e : Event) → step m w a ≡ Stepped v e → IsTaken w v a e
@@ -237,32 +270,6 @@ keeps_width m w v a e h other = (let nobody : started e ≡ 0 = ap (λ s. cond s
     no_start event.Spawned g = absurd (g refl)
     no_start _ g = refl
 
--- only who is about to start an activity starts one
-abbrev Starts : ModuleValue → World → ℕ → Outcome → Type 0
-Starts m w a Blocked = Unit {0}
-Starts m w a (Wrong c) = Unit {0}
-Starts m w a (Stepped v e) = is_start e ≡ true → is_about_to_start m w a ≡ true
-
-step_starts : (m : ModuleValue) (w : World) (a : ℕ) → Starts m w a (step m w a)
-step_starts m w a = step_kind (Starts m w a) m w a tt (λ act found alive. record {
-  blocked = tt;
-  wrong = λ c. tt;
-  closed = λ n opened nobody h. absurd (true≢false (sym h));
-  over = λ here alone h. absurd (true≢false (sym h));
-  done = λ next change e on start h. absurd (true≢false (sym h ∙ start));
-  made = λ next on h. absurd (true≢false (sym h));
-  stored = λ s n e on start h. absurd (true≢false (sym h ∙ start));
-  spawned = λ t args values at on h. ap (λ o. option_map_or starts o false) (runs_next m w a act (instr.Spawn t args) found at);
-})
-  where
-    runs_next : (m : ModuleValue) (w : World) (a : ℕ) (act : Activity) (i : Instr) → slice_get w.activities a ≡ Some act → IsAt m act i → next_instruction m w a ≡ Some i
-    runs_next m w a act i found at = ap (instruction_of m) found ∙ ap (instruction_by m act) at.runs ∙ at.here
-
--- where nobody is about to be started, there are as many as before
-pub width_kept : (m : ModuleValue) (w v : World) (a : ℕ) (e : Event) → step m w a ≡ Stepped v e → is_about_to_start m w a ≡ false
-    → length v.activities ≡ length w.activities
-width_kept m w v a e h still = keeps_width m w v a e h (λ is. true≢false (sym (subst (Starts m w a) h (step_starts m w a) (ap is_start is)) ∙ still))
-
 -- who takes a step is there
 pub steps_within : (m : ModuleValue) (w v : World) (a : ℕ) (e : Event) → step m w a ≡ Stepped v e → a < length w.activities
 steps_within m w v a e h = (taken m w v a e h).within
@@ -278,3 +285,26 @@ governor_within m w core a b inside h = of (slice_get w.activities a) refl h
     of : (o : Option Activity) → slice_get w.activities a ≡ o → option_and_then (λ (act : Activity). act.governed.owner) o ≡ Some b → b < a
     of None found g = absurd (none-some b g)
     of (Some act) found g = core_owned m w core a act found b g
+
+-- ---- who waits at an `advance`
+
+-- who takes a step does only if it has just arrived
+pub awake_after : (m : ModuleValue) (w v : World) (a : ℕ) (e : Event) → step m w a ≡ Stepped v e → (e ≡ event.Arrived → ⊥) → is_waiting v a ≡ false
+awake_after m w v a e h = (taken m w v a e h).awake
+
+-- one that it starts doesn't
+pub awake_fresh : (m : ModuleValue) (w v : World) (a : ℕ) (e : Event) → step m w a ≡ Stepped v e → is_waiting v (length w.activities) ≡ false
+awake_fresh m w v a e h = (taken m w v a e h).fresh
+
+-- and others do as before
+pub waiting_same : (m : ModuleValue) (w v : World) (a : ℕ) (e : Event) → step m w a ≡ Stepped v e → (b : ℕ) → (b ≡ a → ⊥) → b < length w.activities
+    → is_waiting v b ≡ is_waiting w b
+waiting_same m w v a e h = (taken m w v a e h).others
+
+-- nobody does who isn't there
+pub waiting_within : (w : World) (b : ℕ) → is_waiting w b ≡ true → b < length w.activities
+waiting_within w b h = of (slice_get w.activities b) refl h
+  where
+    of : (o : Option Activity) → slice_get w.activities b ≡ o → waits_as o ≡ true → b < length w.activities
+    of None e h = absurd (true≢false (sym h))
+    of (Some x) e h = slice_get_within w.activities b x e

@@ -15,12 +15,14 @@ use Rattle.xk_types.specs.declared.unit.ParamKind.{ParamKind}
 use Rattle.xk_types.specs.declared.unit.ParamKind.TheVariants as param
 use Rattle.xk_types.specs.Code.{UnitValue, ModuleValue, compares, is_method, is_body}
 use Rattle.xk_types.specs.World.{Frame, Activity, Clock, World, standing_of, instruction_at, is_ended}
-use Rattle.xk_types.specs.Step.{Cause, Outcome, Blocked, Wrong, ClockUse, OutOfRange, is_registered, number_in, clock_in, registered_on, put_in, slot_at, arguments_in, computing, turning, again, spawned, spawning, carried_out, run_at, done, made, waits, passing, past, passed, step_by, step_of, step, called, calling, returning, none, awaits, innermost, onward, going, left, ended, all, dropped, closing, cell_in, stored}
+use Rattle.xk_types.specs.Step.{Cause, Outcome, Blocked, Wrong, ClockUse, OutOfRange, is_registered, number_in, clock_in, registered_on, put_in, slot_at, arguments_in, computing, turning, again, spawned, spawning, carried_out, run_at, done, made, waits, passing, past, passed, step_by, step_of, step, called, calling, returning, none, awaits, innermost, onward, going, left, ended, arrived, all, dropped, resumed, closing, cell_in, stored}
+use Rattle.xk_drive.specs.Listing.{is_arrived}
 
--- an activity that goes on: the same finish governs it, it hasn't ended, and it has closed no finish
+-- an activity that goes on: the same finish governs it, it hasn't ended, it doesn't wait at an `advance`, and it has closed no finish
 pub record GoesOn (act next : Activity) : Type 0 where
   pub governed : next.governed ≡ act.governed
   pub alive : is_ended next.status ≡ false
+  pub awake : is_arrived next.status ≡ false
   pub opened : act.opened ≤ next.opened
 
 -- an activity is started
@@ -41,8 +43,9 @@ is_start event.Passed = false
 is_start event.Ended = false
 
 -- another frame runs
-moves_on : (act : Activity) (frame : Frame) (callers : List Frame) → is_ended act.status ≡ false → GoesOn act (record act { frame = frame; callers = callers })
-moves_on act frame callers alive = record { governed = refl; alive = alive; opened = omega arith }
+moves_on : (act : Activity) (frame : Frame) (callers : List Frame) → is_ended act.status ≡ false → is_arrived act.status ≡ false
+    → GoesOn act (record act { frame = frame; callers = callers })
+moves_on act frame callers alive awake = record { governed = refl; alive = alive; awake = awake; opened = omega arith }
 
 -- whichever of two
 either_on : (act x y : Activity) (b : Bool) → GoesOn act x → GoesOn act y → GoesOn act (cond b x y)
@@ -54,23 +57,26 @@ pub record IsAt (m : ModuleValue) (act : Activity) (i : Instr) : Type 0 where
   pub runs : act.status ≡ status.Running
   pub here : instruction_at m act.frame ≡ Some i
 
--- What holds of each outcome that a step can have: it is blocked or wrong; it closes a finish that awaits nobody; it ends activity a; it
+-- What holds of each outcome that a step can have: it is blocked or wrong; it closes a finish that awaits nobody; it ends activity a, or has
+-- it wait at an `advance`; it
 -- changes that one otherwise, and where it stands; it makes a clock; it writes a shared number; it starts an activity.
 pub record HoldsOfKinds (P : Outcome → Type 0) (m : ModuleValue) (w : World) (a : ℕ) (act : Activity) : Type 0 where
   pub blocked : P Blocked
   pub wrong : (c : Cause) → P (Wrong c)
-  pub closed : (n : ℕ) → act.opened ≡ suc n → awaits w.activities (innermost a act) ≡ false → P (done w a (left act n) none event.Closed)
+  pub closed : (n : ℕ) → act.opened ≡ suc n → awaits w.activities (innermost a act) ≡ false → is_arrived act.status ≡ false → P (done w a (left act n) none event.Closed)
   pub over : instruction_at m act.frame ≡ Some instr.Ret → act.callers ≡ [] → P (done w a (ended act) (all dropped) event.Ended)
+  pub arrives : P (done w a (arrived act) (all resumed) event.Arrived)
   pub done : (next : Activity) (change : ℕ → Standing → Standing) (e : Event) → GoesOn act next → is_start e ≡ false → P (done w a next change e)
   pub made : (next : Activity) → GoesOn act next → P (made w a next)
   pub stored : (s : ℕ) (n : ℤ) (e : Event) → GoesOn act (onward act) → is_start e ≡ false → P (stored w a act s n e)
   pub spawned : (t : ℕ) (args : List ℕ) (values : List Value) → IsAt m act (instr.Spawn t args) → GoesOn act (onward act) → P (spawned m w a act t values)
 
-module _ (P : Outcome → Type 0) (m : ModuleValue) (w : World) (a : ℕ) (act : Activity) (alive : is_ended act.status ≡ false) (f : HoldsOfKinds P m w a act) where
+module _ (P : Outcome → Type 0) (m : ModuleValue) (w : World) (a : ℕ) (act : Activity) (alive : is_ended act.status ≡ false)
+    (awake : is_arrived act.status ≡ false) (f : HoldsOfKinds P m w a act) where
   -- the present frame changes
   frame_kind : (frame : Frame) (callers : List Frame) (change : ℕ → Standing → Standing) (e : Event) → is_start e ≡ false
       → P (done w a (record act { frame = frame; callers = callers }) change e)
-  frame_kind frame callers change e h = f.done (record act { frame = frame; callers = callers }) change e (moves_on act frame callers alive) h
+  frame_kind frame callers change e h = f.done (record act { frame = frame; callers = callers }) change e (moves_on act frame callers alive awake) h
 
   -- where a number is wanted
   number_kind : (o : Option Value) (go : ℤ → Outcome) → ((z : ℤ) → P (go z)) → P (number_in o go)
@@ -98,7 +104,7 @@ module _ (P : Outcome → Type 0) (m : ModuleValue) (w : World) (a : ℕ) (act :
   -- where a slot is written
   put_kind : (o : Option Value) (d : ℕ) (v : Value) (go : Activity → Outcome) → ((x : Activity) → GoesOn act x → P (go x)) → P (put_in o act d v go)
   put_kind None d v go h = f.wrong _
-  put_kind (Some old) d v go h = h _ (moves_on act _ act.callers alive)
+  put_kind (Some old) d v go h = h _ (moves_on act _ act.callers alive awake)
 
   -- where a shared number is wanted
   cell_kind : (o : Option ℤ) (go : ℤ → Outcome) → ((n : ℤ) → P (go n)) → P (cell_in o go)
@@ -121,7 +127,7 @@ module _ (P : Outcome → Type 0) (m : ModuleValue) (w : World) (a : ℕ) (act :
   spawning_kind t args at (Some u) = cases (is_body u.kind)
     where
       cases : (b : Bool) → P (cond b (arguments_in w a act u.params args (spawned m w a act t)) (Wrong OutOfRange))
-      cases true = arguments_kind u.params args (spawned m w a act t) (λ values. f.spawned t args values at (moves_on act _ act.callers alive))
+      cases true = arguments_kind u.params args (spawned m w a act t) (λ values. f.spawned t args values at (moves_on act _ act.callers alive awake))
       cases false = f.wrong _
 
   -- where a method is called
@@ -142,7 +148,7 @@ module _ (P : Outcome → Type 0) (m : ModuleValue) (w : World) (a : ℕ) (act :
   turning_kind : (b : ℕ) (o : Option Instr) → P (turning w a act b o)
   turning_kind b (Some (instr.For k lo hi e)) =
       number_kind (slot_at act k) _ (λ n. f.done (cond (int_lt n hi) (again act b k n) (onward act)) none event.Local
-      (either_on act (again act b k n) (onward act) (int_lt n hi) (moves_on act _ act.callers alive) (moves_on act _ act.callers alive)) refl)
+      (either_on act (again act b k n) (onward act) (int_lt n hi) (moves_on act _ act.callers alive awake) (moves_on act _ act.callers alive awake)) refl)
   turning_kind b None = f.wrong _
   turning_kind b (Some _) = f.wrong _
 
@@ -158,7 +164,7 @@ module _ (P : Outcome → Type 0) (m : ModuleValue) (w : World) (a : ℕ) (act :
     where
       cases : (b : Bool) → awaits w.activities (innermost a act) ≡ b → P (cond b Blocked (done w a (left act n) none event.Closed))
       cases true h = f.blocked
-      cases false h = f.closed n e h
+      cases false h = f.closed n e h awake
 
   -- each instruction
   instruction_kind : (i : Instr) → act.status ≡ status.Running → instruction_at m act.frame ≡ Some i → P (carried_out m w a act i)
@@ -169,22 +175,22 @@ module _ (P : Outcome → Type 0) (m : ModuleValue) (w : World) (a : ℕ) (act :
   instruction_kind (instr.Mul d x y) runs here = computing_kind (int_wrapping_mul w64) d x y
   instruction_kind (instr.Unless op x y t) runs here =
       number_kind (slot_at act x) _ (λ p. number_kind (slot_at act y) _ (λ q. f.done (cond (compares op p q) (onward act) (going act t)) none event.Local
-      (either_on act (onward act) (going act t) (compares op p q) (moves_on act _ act.callers alive) (moves_on act _ act.callers alive)) refl))
+      (either_on act (onward act) (going act t) (compares op p q) (moves_on act _ act.callers alive awake) (moves_on act _ act.callers alive awake)) refl))
   instruction_kind (instr.Jump t) runs here = frame_kind _ act.callers none event.Local refl
   instruction_kind (instr.For k lo hi e) runs here = put_kind (slot_at act k) k _ _ (λ x on. f.done x none event.Local on refl)
   instruction_kind (instr.Next b) runs here = turning_kind b (instruction_at m (record act.frame { place = b }))
   instruction_kind (instr.Get d s) runs here = cell_kind (slice_get w.cells s) _ (λ n. put_kind (slot_at act d) d _ _ (λ x on. f.done x none event.Got on refl))
   instruction_kind (instr.Put s x) runs here =
-      number_kind (slot_at act x) _ (λ n. cell_kind (slice_get w.cells s) _ (λ old. f.stored s _ event.Put (moves_on act _ act.callers alive) refl))
+      number_kind (slot_at act x) _ (λ n. cell_kind (slice_get w.cells s) _ (λ old. f.stored s _ event.Put (moves_on act _ act.callers alive awake) refl))
   instruction_kind (instr.AddTo s x) runs here =
-      number_kind (slot_at act x) _ (λ n. cell_kind (slice_get w.cells s) _ (λ old. f.stored s _ event.Added (moves_on act _ act.callers alive) refl))
-  instruction_kind (instr.Finish e) runs here = f.done _ none event.Opened (record { governed = refl; alive = alive; opened = omega arith }) refl
+      number_kind (slot_at act x) _ (λ n. cell_kind (slice_get w.cells s) _ (λ old. f.stored s _ event.Added (moves_on act _ act.callers alive awake) refl))
+  instruction_kind (instr.Finish e) runs here = f.done _ none event.Opened (record { governed = refl; alive = alive; awake = awake; opened = omega arith }) refl
   instruction_kind (instr.EndFinish b) runs here = closing_kind act.opened refl
   instruction_kind (instr.Print x) runs here = number_kind (slot_at act x) _ (λ n. frame_kind _ act.callers none (event.Printed n) refl)
   instruction_kind (instr.Make k) runs here = put_kind (slot_at act k) k _ _ (λ x on. f.made x on)
   instruction_kind (instr.Resume k) runs here = clock_kind (slot_at act k) _ (λ c. frame_kind _ act.callers _ event.Resumed refl)
   instruction_kind (instr.Drop k) runs here = clock_kind (slot_at act k) _ (λ c. frame_kind _ act.callers _ event.Dropped refl)
-  instruction_kind instr.Advance runs here = f.done _ _ event.Arrived (record { governed = refl; alive = refl; opened = omega arith }) refl
+  instruction_kind instr.Advance runs here = f.arrives
   instruction_kind (instr.Spawn t args) runs here = spawning_kind t args (record { runs = runs; here = here }) (slice_get m.units t)
   instruction_kind (instr.Call t args) runs here = calling_kind t args (slice_get m.units t)
   instruction_kind instr.Ret runs here = returning_kind here act.callers refl
@@ -193,8 +199,9 @@ module _ (P : Outcome → Type 0) (m : ModuleValue) (w : World) (a : ℕ) (act :
   run_kind runs None h = f.wrong _
   run_kind runs (Some i) h = instruction_kind i runs h
 
+module _ (P : Outcome → Type 0) (m : ModuleValue) (w : World) (a : ℕ) (act : Activity) (f : HoldsOfKinds P m w a act) where
   passing_kind : P (passing w a act)
-  passing_kind = cases (waits w a) (f.done (past act (w.steps + 1)) (all passed) event.Passed (record { governed = refl; alive = refl; opened = omega arith }) refl)
+  passing_kind = cases (waits w a) (f.done (past act (w.steps + 1)) (all passed) event.Passed (record { governed = refl; alive = refl; awake = refl; opened = omega arith }) refl)
     where
       cases : (b : Bool) {o : Outcome} → P o → P (cond b Blocked o)
       cases true h = f.blocked
@@ -206,8 +213,8 @@ pub step_kind : (P : Outcome → Type 0) (m : ModuleValue) (w : World) (a : ℕ)
 step_kind P m w a blocked f = of (slice_get w.activities a) refl
   where
     by : (act : Activity) → slice_get w.activities a ≡ Some act → (st : Status) → act.status ≡ st → P (step_by m w a act st)
-    by act at status.Running e = (let alive = ap is_ended e in run_kind P m w a act alive (f act at alive) e (instruction_at m act.frame) refl)
-    by act at status.Arrived e = (let alive = ap is_ended e in passing_kind P m w a act alive (f act at alive))
+    by act at status.Running e = (let alive = ap is_ended e in run_kind P m w a act alive (ap is_arrived e) (f act at alive) e (instruction_at m act.frame) refl)
+    by act at status.Arrived e = (let alive = ap is_ended e in passing_kind P m w a act (f act at alive))
     by act at status.Ended e = blocked
 
     of : (o : Option Activity) → slice_get w.activities a ≡ o → P (step_of m w a o)

@@ -5,7 +5,7 @@ use Rattle.std.proofs.lemmas.Option.{none-some, same_Some}
 use Rattle.xk_types.specs.declared.instr.Instr.TheVariants as instr
 use Rattle.xk_types.specs.Code.{ModuleValue}
 use Rattle.xk_types.specs.World.{Finish, Activity, World, instruction_at, is_ended, opening}
-use Rattle.xk_types.specs.Step.{Outcome, Blocked, Wrong, Stepped, step, onward, left, ended, child, governing, innermost, is_under, awaits, awaits_from}
+use Rattle.xk_types.specs.Step.{Outcome, Blocked, Wrong, Stepped, step, onward, left, ended, arrived, child, governing, innermost, is_under, awaits, awaits_from}
 use Rattle.xk_types.specs.Schedule.{Through, run}
 use Rattle.xk_laws.proofs.Invariant.{IsActivitySound, IsSound, looks}
 use Rattle.xk_types.proofs.Lists.{Each, each_set, each_push, get-set_same, get-set_other, get_once, get-append_left}
@@ -156,8 +156,9 @@ module _ (m : ModuleValue) (w : World) (core : IsCore m w) (each : AreOpen w.act
   step_open a = step_kind Opens m w a tt (λ act found alive. record {
     blocked = tt;
     wrong = λ c. tt;
-    closed = λ n opened nobody. open_set w.activities a act (left act n) found alive refl (left_keeps a act n opened nobody alive) each;
+    closed = λ n opened nobody awake. open_set w.activities a act (left act n) found alive refl (left_keeps a act n opened nobody alive) each;
     over = λ here alone. open_set w.activities a act (ended act) found alive refl (ended_keeps a act found here alone) each;
+    arrives = open_set w.activities a act (arrived act) found alive refl (λ b x at going own some within. (refl, within)) each;
     done = λ next change e on quiet. open_on w.activities a act next found alive on each;
     made = λ next on. open_on w.activities a act next found alive on each;
     stored = λ s n e on quiet. open_on w.activities a act (onward act) found alive on each;

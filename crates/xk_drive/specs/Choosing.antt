@@ -1,27 +1,19 @@
 -- Choosers: who takes the next step, and schedules that follow one. X10 Language Specification 2.4, chapter Activities, Spawning an activity, leaves the order of
 -- steps open; that somebody chooses it, and how, is this project's own.
-use Rattle.std.specs.Prelude.{◌≡◌, ℕ, zero, suc, ◌%◌, nat_le, nat_lt, ◌<◌, Bool, if◌then◌else◌, ◌++◌, List, [], ◌∷◌, length, filter, Option, Some, None, slice_get, slice_index_or}
+use Rattle.std.specs.Prelude.{◌≡◌, ℕ, ◌%◌, List, [], ◌∷◌, length, filter, Option, Some, None, slice_get, slice_index_or}
 use Rattle.xk_types.specs.Code.{ModuleValue}
 use Rattle.xk_types.specs.World.{World}
 use Rattle.xk_types.specs.Step.{Outcome, Blocked, Wrong, Stepped, step}
 use Rattle.xk_types.specs.Schedule.{is_enabled}
-
--- each is smaller than the next
-abbrev pub IsRising : List ℕ → Type 0
-IsRising xs = (i x y : ℕ) → slice_get xs i ≡ Some x → slice_get xs (suc i) ≡ Some y → x < y
-
--- so many numbers, from a on
-abbrev pub numbers_from : ℕ → ℕ → List ℕ
-numbers_from a zero = []
-numbers_from a (suc n) = a ∷ numbers_from (suc a) n
+use Rattle.xk_members.specs.Members.{numbers_from, place_above}
 
 -- the enabled activities, rising
 abbrev pub enabled_in : ModuleValue → World → List ℕ
 enabled_in m w = filter (is_enabled m w) (numbers_from 0 (length w.activities))
 
--- a rising list, with number b in it or not
-abbrev pub with_member : ℕ → Bool → List ℕ → List ℕ
-with_member b is_in xs = filter (λ x. nat_lt x b) xs ++ ((if is_in then b ∷ [] else []) ++ filter (λ x. nat_lt b x) xs)
+-- of a list that is answered so, this is the member at the place that is answered, counted round the list
+abbrev pub IsAnswered : (List ℕ → ℕ) → List ℕ → ℕ → Type 0
+IsAnswered answer xs x = slice_get xs (answer xs % length xs) ≡ Some x
 
 -- A chooser in state s, which answers a list of activities so, names activity a: of those that are enabled it is the one at the place that is
 -- answered, counted round the list.
@@ -53,10 +45,6 @@ state_after after m s w [] = s
 state_after after m s w (a ∷ list) = state_on (step m w a) s (λ v. state_after after m (after s (enabled_in m w)) v list)
 
 -- ---- the choosers that stand ready
-
--- the place of the first in a rising list that is greater than the one taken before; beyond the end where none is
-abbrev pub place_above : ℕ → List ℕ → ℕ
-place_above taken list = length (filter (λ a. nat_le a taken) list)
 
 -- the place that each in turn has, after the one taken before
 abbrev pub turn_of : Option ℕ → List ℕ → ℕ

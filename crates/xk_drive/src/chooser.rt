@@ -1,9 +1,12 @@
 //! Who takes the next step.
 
-ghost use Rattle.std.specs.Prelude.{◌≡◌, ◌<◌, ◌≤◌, ◌-◌, ◌%◌, ◌^◌, length};
-ghost use Rattle.xk_drive.specs.Choosing.{IsRising, place_above, turn_of};
+ghost use Rattle.std.specs.Prelude.{◌≡◌, ◌<◌, ◌≤◌, ◌-◌, ◌%◌, ◌^◌, Some, length, slice_get};
+ghost use Rattle.std.specs.Vec.{vec_capacity};
+ghost use Rattle.xk_members.specs.Members.{IsRising, place_above};
+ghost use Rattle.xk_drive.specs.Choosing.{IsAnswered, turn_of};
 
 use std::marker::Model;
+use xk_members::NumberSet;
 
 /// Chooses, step by step, who goes on.
 pub trait Chooser {
@@ -23,6 +26,20 @@ pub trait Chooser {
         requires numbers { length enabled.now < 2 ^ 32 }
         ensures answers { result ≡ answer self.old enabled.now }
         ensures goes_on { self.new ≡ after self.old enabled.now };
+
+    /// Names the member of a set that `choose` names of their list, which is made in `shown` to ask it. The orders that stand ready
+    /// override this, and take who it is from the set.
+    fn pick(&mut self, enabled: &NumberSet, shown: &mut Vec<u32>) -> u32
+        requires some { 0 < length enabled.now.members }
+        requires room { length enabled.now.members ≤ vec_capacity shown.old }
+        ensures picked { IsAnswered (answer self.old) enabled.now.members result }
+        ensures goes_on { self.new ≡ after self.old enabled.now.members }
+        ensures room { vec_capacity shown.old ≤ vec_capacity shown.new }
+    {
+        enabled.list(shown);
+        let answer = self.choose(shown) as usize;
+        shown[place_in(answer, shown.len())]
+    }
 }
 
 /// A place in a list of n, counted round it. A division takes longer than all else that a turn does besides its step, and most answers need
@@ -33,6 +50,30 @@ pub(crate) fn place_in(answer: usize, n: usize) -> usize
     ensures within { result < n }
 {
     if answer < n { answer } else { answer % n }
+}
+
+/// The least member.
+#[inline(always)]
+fn least(enabled: &NumberSet) -> u32
+    requires { 0 < length enabled.now.members }
+    ensures { Some result ≡ slice_get enabled.now.members 0 }
+{
+    match enabled.first() {
+        Some(number) => number,
+        None => unreachable!(),
+    }
+}
+
+/// The greatest member.
+#[inline(always)]
+fn greatest(enabled: &NumberSet) -> u32
+    requires { 0 < length enabled.now.members }
+    ensures { Some result ≡ slice_get enabled.now.members (length enabled.now.members - 1) }
+{
+    match enabled.last() {
+        Some(number) => number,
+        None => unreachable!(),
+    }
 }
 
 /// The least enabled activity, at each step.
@@ -46,6 +87,11 @@ impl Chooser for First {
 
     fn choose(&mut self, _enabled: &[u32]) -> u32 {
         0
+    }
+
+    #[inline(always)]
+    fn pick(&mut self, enabled: &NumberSet, _shown: &mut Vec<u32>) -> u32 {
+        least(enabled)
     }
 }
 
@@ -62,6 +108,11 @@ impl Chooser for Last {
 
     fn choose(&mut self, enabled: &[u32]) -> u32 {
         (enabled.len() - 1) as u32
+    }
+
+    #[inline(always)]
+    fn pick(&mut self, enabled: &NumberSet, _shown: &mut Vec<u32>) -> u32 {
+        greatest(enabled)
     }
 }
 
@@ -102,6 +153,29 @@ impl Round {
             Some(taken) => up_to(taken, enabled),
         }
     }
+
+    /// Who stands at that place.
+    #[inline(always)]
+    fn next(&self, enabled: &NumberSet) -> Option<u32>
+        ensures { result ≡ slice_get enabled.now.members (turn_of self.now enabled.now.members) }
+    {
+        match self.taken {
+            None => enabled.first(),
+            Some(taken) => enabled.above(taken),
+        }
+    }
+
+    /// Whose turn it is.
+    #[inline(always)]
+    fn turn(&self, enabled: &NumberSet) -> u32
+        requires { 0 < length enabled.now.members }
+        ensures { IsAnswered (turn_of self.now) enabled.now.members result }
+    {
+        match self.next(enabled) {
+            Some(next) => next,
+            None => least(enabled),
+        }
+    }
 }
 
 /// How many of the numbers aren't above this one.
@@ -124,5 +198,12 @@ impl Chooser for Round {
         let place = self.place(enabled);
         self.taken = Some(enabled[place_in(place, enabled.len())]);
         place as u32
+    }
+
+    #[inline(always)]
+    fn pick(&mut self, enabled: &NumberSet, _shown: &mut Vec<u32>) -> u32 {
+        let act = self.turn(enabled);
+        self.taken = Some(act);
+        act
     }
 }

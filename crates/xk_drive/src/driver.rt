@@ -1,21 +1,22 @@
 //! A core that a chooser drives, step by step.
 
-ghost use Rattle.std.specs.Prelude.{◌≡◌, ◌⊎◌, ◌+◌, ◌<◌, ◌≤◌, true, false, Bool, Some, None, length, IfOk, IfErr, IfSome, OnOk, OnErr, IsTrue};
-ghost use Rattle.std.specs.Vec.{vec_len, vec_capacity};
+ghost use Rattle.std.specs.Prelude.{◌≡◌, ◌⊎◌, ◌+◌, ◌<◌, ◌≤◌, true, false, [], Bool, Some, None, All, length, slice_get, IfOk, IfErr, IfSome, OnOk, OnErr, IsTrue};
+ghost use Rattle.std.specs.Vec.{vec_capacity};
 ghost use Rattle.xk_types.specs.declared.names.Event.TheVariants as event;
 ghost use Rattle.xk_types.specs.World.{World, opening};
 ghost use Rattle.xk_types.specs.Step.{Stepped, step};
 ghost use Rattle.xk_types.specs.Schedule.{is_enabled, all_ended};
-ghost use Rattle.xk_types.specs.Bound.{steps_bound};
-ghost use Rattle.xk_drive.specs.Choosing.{IsRising, enabled_in, with_member};
-ghost use Rattle.xk_core.specs.Core.{StepsTo, WantsMemory, HasRoomAfter};
-ghost use Rattle.xk_drive.specs.Listing.{other_to_list, with_or_without, KeepsList};
+ghost use Rattle.xk_types.specs.Bound.{steps_bound, activities_bound};
+ghost use Rattle.xk_members.specs.Members.{with_member, place_above};
+ghost use Rattle.xk_core.specs.Core.{IsCore, StepsTo, WantsMemory};
+ghost use Rattle.xk_drive.specs.Choosing.{enabled_in};
+ghost use Rattle.xk_drive.specs.Listing.{other_to_list, with_or_without, each_tested, woken, waiting_after, everybody_in, KeepsList};
 
-use crate::chooser::{Chooser, place_in};
-use crate::members::set_member;
+use crate::chooser::Chooser;
 use std::alloc::{AllocError, Global};
 use std::marker::Model;
 use xk_core::Core;
+use xk_members::NumberSet;
 use xk_types::{Act, Event};
 
 /// Whose step it was, and what it was seen to do.
@@ -25,13 +26,17 @@ pub struct Turn {
     pub event: Event,
 }
 
-/// A core, and the list of its activities that can take a step. The list is kept from step to step: a step looks at its own activity, at
-/// one that it starts, and at one that may wait for its end; at all of them where a clock advances.
+/// A core, and the set of its activities that can take a step. The set is kept from step to step: a step looks at its own activity, at
+/// one that it starts, and at one that may wait for its end; and where a clock advances, at those who wait at an `advance`.
 #[derive(Drop)]
 pub struct Driver<'m> {
     core: Core<'m>,
-    /// Those who can take a step, rising.
-    enabled: Vec<u32>,
+    /// Those who can take a step.
+    enabled: NumberSet,
+    /// Among others those who wait at an `advance`.
+    waiting: NumberSet,
+    /// Where numbers of activities are listed, with room for all that there can be.
+    shown: Vec<u32>,
 }
 
 impl<'m> Model for Driver<'m> {
@@ -43,50 +48,49 @@ impl<'m> Model for Driver<'m> {
 
     ghost view = { λ d. d.core };
 
-    ghost invariant = { λ d. IsListed d.core d.enabled.items (vec_capacity d.enabled) };
+    ghost invariant = { λ d. IsListed d.core d.enabled d.waiting (vec_capacity d.shown) };
 }
 
-/// Lists those who can take a step.
-fn list_all(enabled: &mut Vec<u32>, core: &Core<'_>)
-    requires room { length core.now.world.activities < vec_capacity enabled.old }
-    ensures list { enabled.new.items ≡ enabled_in core.now.module_run core.now.world }
-    ensures room { vec_capacity enabled.old ≤ vec_capacity enabled.new }
+/// Puts an activity into the set if it can take a step, and else takes it out.
+#[inline(always)]
+fn list_one(enabled: &mut NumberSet, core: &Core<'_>, act: Act)
+    requires { act < enabled.old.room }
+    ensures members { enabled.new.members ≡ with_or_without core.now act enabled.old.members }
+    ensures room { enabled.new.room ≡ enabled.old.room }
 {
-    enabled.clear();
-    for a in 0..core.activities() {
-        if core.enabled(Act(a)) && enabled.push(a).is_err() {
-            unreachable!()
-        }
+    if core.enabled(act) {
+        enabled.insert(act.0);
+    } else {
+        enabled.remove(act.0);
     }
 }
 
-/// Puts an activity into the list if it can take a step, and else takes it out.
-fn list_one(enabled: &mut Vec<u32>, core: &Core<'_>, act: Act)
-    requires rising { IsRising enabled.old.items }
-    requires room { vec_len enabled.old < vec_capacity enabled.old }
-    ensures list { enabled.new.items ≡ with_or_without core.now act enabled.old.items }
-    ensures length { vec_len enabled.new ≤ vec_len enabled.old + 1 }
-    ensures room { vec_capacity enabled.old ≤ vec_capacity enabled.new }
+/// The same for each of these.
+fn list_each(enabled: &mut NumberSet, core: &Core<'_>, acts: &[u32])
+    requires { All (λ a. a < enabled.old.room) acts.now }
+    ensures members { enabled.new.members ≡ each_tested core.now acts.now enabled.old.members }
+    ensures room { enabled.new.room ≡ enabled.old.room }
 {
-    set_member(enabled, act.0, core.enabled(act));
+    for act in acts {
+        list_one(enabled, core, Act(*act));
+    }
 }
 
-/// Takes an activity that is in the list out of it, if it can't take another step.
+/// Takes an activity that is in the set out of it, if it can't take another step.
 #[inline(always)]
-fn list_own(enabled: &mut Vec<u32>, core: &Core<'_>, act: Act)
-    requires rising { IsRising enabled.old.items }
-    ensures list { with_member act true enabled.old.items ≡ enabled.old.items
-        → enabled.new.items ≡ with_or_without core.now act enabled.old.items }
-    ensures rising { IsRising enabled.new.items }
-    ensures length { vec_len enabled.new ≤ vec_len enabled.old + 1 }
-    ensures room { vec_capacity enabled.old ≤ vec_capacity enabled.new }
+fn list_own(enabled: &mut NumberSet, core: &Core<'_>, act: Act)
+    requires { act < enabled.old.room }
+    ensures members { (is_enabled core.now.module_run core.now.world act ≡ true
+        → with_member act true enabled.old.members ≡ enabled.old.members)
+        → enabled.new.members ≡ with_or_without core.now act enabled.old.members }
+    ensures room { enabled.new.room ≡ enabled.old.room }
 {
     if !core.enabled(act) {
-        set_member(enabled, act.0, false);
+        enabled.remove(act.0);
     }
 }
 
-/// Who but the activity that took it may be able to step after a step that no clock advanced in, and not before, or the other way round: one
+/// Who but the activity that took it may be able to step after a step, and not before, or the other way round, whatever clocks do: one
 /// that it started, and where it ended its activity the one that opened the finish which governs it.
 #[inline(always)]
 fn other_to_list(core: &Core<'_>, act: Act, event: Event) -> Option<Act>
@@ -100,43 +104,103 @@ fn other_to_list(core: &Core<'_>, act: Act, event: Event) -> Option<Act>
     }
 }
 
-/// Makes room in the list for one activity more, where this one is about to start it.
+/// Brings the set of those who may wait at an `advance` up to date after a step of the activity.
 #[inline(always)]
-fn make_room(enabled: &mut Vec<u32>, core: &Core<'_>, act: Act) -> Result<(), AllocError>
-    requires roomy { length core.now.world.activities + 1 < vec_capacity enabled.old }
-    requires few { vec_len enabled.old ≤ length core.now.world.activities }
-    ensures items { enabled.new.items ≡ enabled.old.items }
-    ensures length { vec_len enabled.new ≡ vec_len enabled.old }
-    ensures kept { vec_capacity enabled.old ≤ vec_capacity enabled.new }
-    // There is room for two more than there are activities after the step.
-    ensures room { OnOk result (HasRoomAfter core.now act (vec_capacity enabled.new)) }
-    ensures only_where_it_grows { OnErr result (WantsMemory core.now act) }
+fn note_waiting(waiting: &mut NumberSet, act: Act, event: Event)
+    requires { act < waiting.old.room }
+    ensures members { waiting.new.members ≡ waiting_after act event waiting.old.members }
+    ensures room { waiting.new.room ≡ waiting.old.room }
 {
-    if core.is_about_to_start(act) {
-        let more = core.activities() as usize + 3 - enabled.len();
-        enabled.try_reserve(more)?;
+    match event {
+        Event::Arrived => waiting.insert(act.0),
+        Event::Passed => waiting.remove(act.0),
+        _ => {}
     }
-    Ok(())
 }
 
-/// Brings the list up to date after a step of the activity.
+/// Lists, in sets with nobody in them, those who can take a step, and all that there are, as any may wait at an `advance`.
+fn list_all(enabled: &mut NumberSet, waiting: &mut NumberSet, core: &Core<'_>)
+    requires nobody { enabled.old.members ≡ [] }
+    requires nobody_waits { waiting.old.members ≡ [] }
+    requires room { length core.now.world.activities ≤ enabled.old.room }
+    requires room_to_wait { length core.now.world.activities ≤ waiting.old.room }
+    ensures list { enabled.new.members ≡ enabled_in core.now.module_run core.now.world }
+    ensures all { waiting.new.members ≡ everybody_in core.now.world }
+    ensures room { enabled.new.room ≡ enabled.old.room }
+    ensures room_to_wait { waiting.new.room ≡ waiting.old.room }
+{
+    for a in 0..core.activities() {
+        list_one(enabled, core, Act(a));
+        waiting.insert(a);
+    }
+}
+
+/// Where a clock advanced in the step that led to this core, looks at those who may have waited for it.
 #[inline(always)]
-fn list_after(enabled: &mut Vec<u32>, core: &Core<'_>, act: Act, event: Event)
-    requires there { act < length core.now.world.activities }
-    requires rising { IsRising enabled.old.items }
-    requires room { length core.now.world.activities < vec_capacity enabled.old }
-    requires room_for_two { vec_len enabled.old + 1 < vec_capacity enabled.old }
-    ensures list { KeepsList core.now act event enabled.old.items enabled.new.items }
-    ensures room { vec_capacity enabled.old ≤ vec_capacity enabled.new }
+fn list_woken(enabled: &mut NumberSet, waiting: &NumberSet, shown: &mut Vec<u32>, core: &Core<'_>)
+    requires there { All (λ a. a < enabled.old.room) waiting.now.members }
+    requires room { length waiting.now.members ≤ vec_capacity shown.old }
+    ensures members { enabled.new.members ≡ woken core.now waiting.now.members enabled.old.members }
+    ensures kept { enabled.new.room ≡ enabled.old.room }
+    ensures room { vec_capacity shown.old ≤ vec_capacity shown.new }
 {
     if !core.is_quiet() {
-        list_all(enabled, core);
-        return;
+        waiting.list(shown);
+        list_each(enabled, core, shown);
     }
+}
+
+/// Brings the set of those who can take a step up to date after a step of the activity. Who may have waited for a clock is told as it
+/// was before.
+#[inline(always)]
+fn list_after(
+    enabled: &mut NumberSet,
+    waiting: &NumberSet,
+    shown: &mut Vec<u32>,
+    core: &Core<'_>,
+    act: Act,
+    event: Event,
+)
+    requires core { IsCore core.now.module_run core.now.world }
+    requires act { act < length core.now.world.activities }
+    requires set { length core.now.world.activities ≤ enabled.old.room }
+    requires there { All (λ a. a < enabled.old.room) waiting.now.members }
+    requires room { length waiting.now.members ≤ vec_capacity shown.old }
+    ensures list { KeepsList core.now act event waiting.now.members
+        enabled.old.members enabled.new.members }
+    ensures kept { enabled.new.room ≡ enabled.old.room }
+    ensures room { vec_capacity shown.old ≤ vec_capacity shown.new }
+{
+    list_woken(enabled, waiting, shown, core);
     list_own(enabled, core, act);
     if let Some(other) = other_to_list(core, act, event) {
         list_one(enabled, core, other);
     }
+}
+
+/// Sets with nobody in them, and a list, with room for so many activities.
+fn lists_for(alloc: Global, most: u32) -> Result<(NumberSet, NumberSet, Vec<u32>), AllocError>
+    requires { most ≤ 100000 }
+    ensures nobody { IfOk result (λ r. (r.0.members ≡ []) × (r.1.members ≡ [])) }
+    ensures room { IfOk result
+        (λ r. (most ≤ r.0.room) × (most ≤ r.1.room) × (most ≤ vec_capacity r.2)) }
+{
+    let enabled = NumberSet::with_room(alloc, most)?;
+    let waiting = NumberSet::with_room(alloc, most)?;
+    Ok((enabled, waiting, Vec::with_capacity(alloc, most as usize)?))
+}
+
+/// The most activities that a run of its module has.
+fn most_of(core: &Core<'_>) -> u32
+    ensures most { result ≡ activities_bound core.now.module_run }
+    ensures limit { result ≤ 100000 }
+    // The module is accepted, and every core is where a legal schedule of it leads.
+    ensures core { IsCore core.now.module_run core.now.world }
+    ensures there { length core.now.world.activities ≤ result }
+{
+    let most = core.module().activities();
+    let _there = core.activities();
+    most
 }
 
 impl<'m> Driver<'m> {
@@ -149,13 +213,15 @@ impl<'m> Driver<'m> {
         ensures opening { IfOk result (λ d. d.world.steps ≡ 0 → d.world ≡ opening d.module_run) }
         ensures back { IfErr result (λ c. c ≡ start.entry) }
     {
-        let Ok(mut enabled) = Vec::with_capacity(alloc, start.activities() as usize + 2) else {
+        let Ok((mut enabled, mut waiting, shown)) = lists_for(alloc, most_of(&start)) else {
             return Err(start);
         };
-        list_all(&mut enabled, &start);
+        list_all(&mut enabled, &mut waiting, &start);
         Ok(Driver {
             core: start,
             enabled,
+            waiting,
+            shown,
         })
     }
 
@@ -173,11 +239,36 @@ impl<'m> Driver<'m> {
         self.core
     }
 
-    /// Those who can take a step, rising.
-    pub fn enabled(&self) -> &[u32]
-        ensures { result.now ≡ enabled_in self.now.module_run self.now.world }
+    /// The least activity that can take a step.
+    #[inline(always)]
+    pub fn first(&self) -> Option<Act>
+        ensures { result ≡ slice_get (enabled_in self.now.module_run self.now.world) 0 }
     {
-        &self.enabled
+        match self.enabled.first() {
+            Some(number) => Some(Act(number)),
+            None => None,
+        }
+    }
+
+    /// The least above this one that can take a step.
+    #[inline(always)]
+    pub fn above(&self, act: Act) -> Option<Act>
+        ensures { let list = enabled_in self.now.module_run self.now.world in
+            result ≡ slice_get list (place_above act list) }
+    {
+        match self.enabled.above(act.0) {
+            Some(number) => Some(Act(number)),
+            None => None,
+        }
+    }
+
+    /// Lists those who can take a step, rising, in place of what the list held.
+    pub fn list(&self, list: &mut Vec<u32>)
+        requires { length (enabled_in self.now.module_run self.now.world) ≤ vec_capacity list.old }
+        ensures items { list.new.items ≡ enabled_in self.now.module_run self.now.world }
+        ensures room { vec_capacity list.old ≤ vec_capacity list.new }
+    {
+        self.enabled.list(list);
     }
 
     /// Whether all have ended.
@@ -200,9 +291,16 @@ impl<'m> Driver<'m> {
         ensures refused { OnErr result (self.new ≡ self.old) }
         ensures only_where_it_grows { OnErr result (WantsMemory self.old act) }
     {
-        make_room(&mut self.enabled, &self.core, act)?;
         let event = self.core.step(act)?;
-        list_after(&mut self.enabled, &self.core, act, event);
+        list_after(
+            &mut self.enabled,
+            &self.waiting,
+            &mut self.shown,
+            &self.core,
+            act,
+            event,
+        );
+        note_waiting(&mut self.waiting, act, event);
         Ok(event)
     }
 
@@ -221,8 +319,8 @@ impl<'m> Driver<'m> {
         if self.enabled.is_empty() {
             return Ok(None);
         }
-        let answer = chooser.choose(&self.enabled) as usize;
-        let act = Act(self.enabled[place_in(answer, self.enabled.len())]);
+        let number = chooser.pick(&self.enabled, &mut self.shown);
+        let act = Act(number);
         let event = self.step(act)?;
         Ok(Some(Turn { act, event }))
     }

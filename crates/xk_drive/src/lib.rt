@@ -5,7 +5,6 @@ mod chooser;
 mod driver;
 mod driving;
 mod logged;
-mod members;
 mod schedule;
 
 pub use chooser::{Chooser, First, Last, Round};

@@ -3,4 +3,5 @@ mod Sums
 pub mod Rising
 mod Members
 mod Changes
-mod Listing
+pub mod Listing
+mod Empty

@@ -28,7 +28,7 @@ at : (xs : List ℕ) (i k : ℕ) → slice_get xs i ≡ Some k → get_or xs i 0
 at xs i k e = same_Some (get_or xs i 0) k (sym (slice_get-get_or xs i 0 (there xs i k e)) ∙ e)
 
 -- behind a member stands the least one above it
-place_behind : (xs : List ℕ) (i k : ℕ) → IsRising xs → slice_get xs i ≡ Some k → place_above k xs ≡ suc i
+pub place_behind : (xs : List ℕ) (i k : ℕ) → IsRising xs → slice_get xs i ≡ Some k → place_above k xs ≡ suc i
 place_behind xs i k up e =
     let inside : i < length xs = there xs i k e in
     let here : get_or xs i 0 ≡ k = at xs i k e in

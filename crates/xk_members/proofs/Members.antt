@@ -55,7 +55,7 @@ above_of p k n r h =
     let f : k + 1 ≡ suc k = omega arith in
     above_from p k 0 n r (omega arith) (subst (λ (x : ℕ). IsNext p (suc k) x r) e (subst (λ (x : ℕ). IsNext p x n r) f h))
 
-none_of : (p : ℕ → Bool) (a n : ℕ) → ((j : ℕ) → a ≤ j → j < a + n → p j ≡ false) → filter p (numbers_from a n) ≡ []
+pub none_of : (p : ℕ → Bool) (a n : ℕ) → ((j : ℕ) → a ≤ j → j < a + n → p j ≡ false) → filter p (numbers_from a n) ≡ []
 none_of p a zero h = refl
 none_of p a (suc n) h = rw (h a (omega arith) (omega arith)) (none_of p (suc a) n (λ j from to. h j (omega arith) (omega arith)))
 

@@ -1,12 +1,12 @@
 //! The set.
 
-ghost use Rattle.std.specs.Prelude.{◌≡◌, ◌+◌, ◌-◌, ◌*◌, ◌/◌, ◌<◌, ◌≤◌, [], length, true, false, slice_get, IfOk, OnOk, OnErr};
+ghost use Rattle.std.specs.Prelude.{◌≡◌, ◌+◌, ◌-◌, ◌*◌, ◌/◌, ◌<◌, ◌≤◌, ◌==◌, [], length, true, false, slice_get, IfOk, OnOk, OnErr};
 ghost use Rattle.std.specs.List.{list_any};
 ghost use Rattle.std.specs.Vec.{vec_len, vec_capacity};
 ghost use Rattle.xk_members.specs.Members.{IsRising, with_member, place_above};
 
 use crate::search::{last_member, next_member};
-use crate::words::{clear, fill, make_room, put};
+use crate::words::{clear, fill, make_room, next_in_word, put};
 use std::alloc::{AllocError, Global};
 use std::marker::Model;
 
@@ -103,12 +103,21 @@ impl NumberSet {
         clear(&mut self.top, i / 64 / 64);
     }
 
+    /// Whether nobody is in it.
+    #[inline(always)]
+    pub fn is_empty(&self) -> bool
+        ensures { result ≡ (length self.now.members == 0) }
+    {
+        next_in_word(&self.top, 0).is_none()
+    }
+
     /// The least member.
     #[inline(always)]
     pub fn first(&self) -> Option<u32>
         ensures first { result ≡ slice_get self.now.members 0 }
         // Members are told rising.
         ensures rising { IsRising self.now.members }
+        ensures few { length self.now.members ≤ 262144 }
     {
         match next_member(&self.low, &self.mid, &self.top, 0) {
             Some(i) => Some(i as u32),
@@ -142,6 +151,8 @@ impl NumberSet {
     pub fn list(&self, list: &mut Vec<u32>)
         requires { length self.now.members ≤ vec_capacity list.old }
         ensures items { list.new.items ≡ self.now.members }
+        ensures rising { IsRising list.new.items }
+        ensures few { length list.new.items ≤ 262144 }
         ensures room { vec_capacity list.old ≤ vec_capacity list.new }
     {
         list.clear();

@@ -9,7 +9,7 @@ use Rattle.xk_types.specs.Step.{Outcome, Blocked, Wrong, Stepped, step}
 use Rattle.xk_types.specs.Schedule.{Through, run}
 use Rattle.xk_types.specs.Logs.{schedule_of}
 use Rattle.xk_core.specs.Core.{CoreValue, is_registered_on}
-use Rattle.xk_drive.specs.Choosing.{numbers_from}
+use Rattle.xk_members.specs.Members.{numbers_from}
 
 -- an advance of a clock: the step in which it came, counted from 1, the clock, its phase from then on, and who is registered on it behind
 -- that step, rising

@@ -1,4 +1,5 @@
 pub mod Runs
 pub mod Local
+pub mod Seeking
 pub mod Takes
 pub mod Parts

@@ -1,11 +1,14 @@
 -- Runs, as their stages keep them.
-use Rattle.std.proofs.Common.{◌≡◌, ℕ, true, false, cond, List, [], ◌∷◌, refl, sym, ap, subst, ◌∙◌}
+use Rattle.std.proofs.Common.{◌≡◌, ℕ, Bool, true, false, cond, List, [], ◌∷◌, length, Option, None, slice_get, refl, sym, ap, subst, ◌∙◌, arith}
+use Rattle.std.proofs.lemmas.Bool.{le-leb}
+use Rattle.std.proofs.lemmas.Option.{none-some}
 use Rattle.xk_types.specs.declared.names.Event.{Event}
 use Rattle.xk_types.specs.World.{World, opening}
 use Rattle.xk_types.specs.Step.{Stepped, step}
 use Rattle.xk_core.specs.Core.{CoreValue, IsCore}
 use Rattle.xk_core.proofs.Cores.{core_fresh, core_stepped}
 use Rattle.xk_types.specs.Schedule.{is_enabled, all_ended}
+use Rattle.xk_members.specs.Members.{place_above}
 use Rattle.xk_drive.specs.Choosing.{enabled_in}
 use Rattle.xk_drive.proofs.Turns.{run_starts}
 use Rattle.xk_drive.proofs.Listing.{listed_over}
@@ -40,10 +43,34 @@ pub over_fresh : (s : Stage) (c : CoreValue) → s ≡ stage.Fresh c → IsStage
 over_fresh s c e = subst (λ (t : Stage). IsStage t → IsRun (run_at t) → is_enabled c.module_run c.world 0 ≡ false → all_ended (run_at t).core.world ≡ true) (sym e)
     (λ start is h. run_over (fresh_run c) is (fresh_nobody c start h))
 
-pub over_going : (s : Stage) (r : Logged) (list : List ℕ) → s ≡ stage.Going r → IsRun (run_at s) → list ≡ enabled_in r.driver.module_run r.driver.world → list ≡ []
-    → all_ended (run_at s).core.world ≡ true
-over_going s r list e = subst (λ (t : Stage). IsRun (run_at t) → list ≡ enabled_in r.driver.module_run r.driver.world → list ≡ [] → all_ended (run_at t).core.world ≡ true) (sym e)
-    (λ is listed none. run_over (run_at (stage.Going r)) is (sym listed ∙ none))
+nobody : (xs : List ℕ) → slice_get xs 0 ≡ None → xs ≡ []
+nobody [] e = refl
+nobody (x ∷ xs) e = absurd (none-some x (sym e))
+
+pub over_going : (s : Stage) (r : Logged) (first : Option ℕ) → s ≡ stage.Going r → IsRun (run_at s)
+    → first ≡ slice_get (enabled_in r.driver.module_run r.driver.world) 0 → first ≡ None → all_ended (run_at s).core.world ≡ true
+over_going s r first e =
+    let list = enabled_in r.driver.module_run r.driver.world in
+    subst (λ (t : Stage). IsRun (run_at t) → first ≡ slice_get list 0 → first ≡ None → all_ended (run_at t).core.world ≡ true) (sym e)
+    (λ is listed none. run_over (run_at (stage.Going r)) is (nobody list (sym listed ∙ none)))
+
+-- nobody is above main
+nobody_above : (b : Bool) (a : ℕ) → let list : List ℕ = cond b (0 ∷ []) [] in None ≡ slice_get list (place_above a list)
+nobody_above true a = let main : List ℕ = 0 ∷ [] in ap (λ (b : Bool). slice_get main (length {A = ℕ} (cond b main []))) (sym (le-leb 0 a (omega arith)))
+nobody_above false a = refl
+
+alone : (c : CoreValue) (a : ℕ) → c.world ≡ opening c.module_run
+    → None ≡ slice_get (enabled_in c.module_run c.world) (place_above a (enabled_in c.module_run c.world))
+alone c a start =
+    subst (λ (w : World). None ≡ slice_get (enabled_in c.module_run w) (place_above a (enabled_in c.module_run w))) (sym start)
+    (nobody_above (is_enabled c.module_run (opening c.module_run) 0) a)
+
+pub alone_fresh : (s : Stage) (c : CoreValue) (a : ℕ) → s ≡ stage.Fresh c → IsStage s
+    → None ≡ slice_get (enabled_in (run_at s).core.module_run (run_at s).core.world) (place_above a (enabled_in (run_at s).core.module_run (run_at s).core.world))
+alone_fresh s c a e =
+    subst (λ (t : Stage). IsStage t
+    → None ≡ slice_get (enabled_in (run_at t).core.module_run (run_at t).core.world) (place_above a (enabled_in (run_at t).core.module_run (run_at t).core.world)))
+    (sym e) (alone c a)
 
 -- before its first step main hasn't ended
 pub fresh_goes_on : (s : Stage) (c : CoreValue) → s ≡ stage.Fresh c → IsStage s → all_ended c.world ≡ false

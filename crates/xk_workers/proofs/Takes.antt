@@ -1,10 +1,10 @@
 -- What is taken, and what is claimed then.
-use Rattle.std.proofs.Common.{◌≡◌, ◌<◌, ◌≤◌, ◌+◌, ◌==◌, ℕ, zero, suc, Bool, true, false, true≢false, cond, List, [], ◌∷◌, ◌++◌, length, filter, Option, Some, None, refl, sym, subst, ap, ◌∙◌, arith, slice_get, ◌⊎◌, inl, inr}
-use Rattle.std.specs.List.{All, Contains}
-use Rattle.std.proofs.lemmas.Bool.{cases_eq, eqb-false}
+use Rattle.std.proofs.Common.{◌≡◌, ◌<◌, ◌≤◌, ◌+◌, ℕ, zero, suc, Bool, true, false, true≢false, cond, List, [], ◌∷◌, ◌++◌, length, filter, Option, Some, None, refl, sym, subst, ap, ◌∙◌, arith, slice_get, ◌⊎◌, inl, inr}
+use Rattle.std.specs.List.{All}
+use Rattle.std.proofs.lemmas.Bool.{cases_eq}
 use Rattle.std.proofs.lemmas.List.{length_push}
 use Rattle.std.proofs.lemmas.List.Elements.{All-head, All-tail}
-use Rattle.std.proofs.lemmas.Option.{slice_get_within}
+use Rattle.std.proofs.lemmas.Option.{none-some, slice_get_within}
 use Rattle.xk_types.specs.declared.names.Event.{Event}
 use Rattle.xk_types.specs.declared.names.Event.TheVariants as event
 use Rattle.xk_types.specs.Code.{ModuleValue}
@@ -13,8 +13,8 @@ use Rattle.xk_types.specs.Step.{Stepped, step, step_of}
 use Rattle.xk_types.specs.Schedule.{is_step, is_enabled}
 use Rattle.xk_core.specs.Core.{CoreValue, IsCore}
 use Rattle.xk_core.proofs.Cores.{core_stepped}
-use Rattle.xk_drive.specs.Choosing.{numbers_from, enabled_in}
-use Rattle.xk_drive.proofs.Listing.{listed_enabled, named_at}
+use Rattle.xk_members.specs.Members.{numbers_from}
+use Rattle.xk_drive.specs.Choosing.{enabled_in}
 use Rattle.xk_drive.proofs.Untouched.{grows_by_start, keeps_width}
 use Rattle.xk_workers.specs.declared.shared.Take.TheVariants as take
 use Rattle.xk_workers.specs.Claims.{is_claimed, claims_after, AreClaims}
@@ -78,10 +78,6 @@ claims_keep c d a e claims core same taken free kept = record {
 
 -- ---- who is free
 
--- who is in the list can take a step
-pub listed_free : (m : ModuleValue) (w : World) (list : List ℕ) (a : ℕ) → list ≡ enabled_in m w → Contains list a → is_enabled m w a ≡ true
-listed_free m w list a is c = listed_enabled m w c.0 a (named_at m w list c.0 a is c.1 (sym c.2))
-
 -- what holds of all that pass a test
 all_from : (P : ℕ → Type 0) (p : ℕ → Bool) (a n : ℕ) → All P (filter p (numbers_from a n)) → (b : ℕ) → a ≤ b → b < a + n → p b ≡ true → P b
 all_from P p a zero all b from below h = absurd (omega arith)
@@ -104,26 +100,25 @@ enabled_within m w a h = of (slice_get w.activities a) refl h
     of None e g = absurd (true≢false (sym g))
     of (Some act) e g = slice_get_within w.activities a act e
 
-some_first : (P : ℕ → Type 0) (xs : List ℕ) → All P xs → (length xs ≡ 0 → ⊥) → (a : ℕ) × P a
-some_first P [] all some = absurd (some refl)
-some_first P (x ∷ xs) all some = (x, All-head P x xs all)
+some_first : (P : ℕ → Type 0) (xs : List ℕ) (x : ℕ) → Some x ≡ slice_get xs 0 → All P xs → (a : ℕ) × P a
+some_first P [] x e all = absurd (none-some x (sym e))
+some_first P (y ∷ ys) x e all = (y, All-head P y ys all)
 
 -- where somebody can take a step, and all who can are claimed
-pub all_claimed : (s : SharedValue) (list : List ℕ) → list ≡ enabled_in s.run.core.module_run s.run.core.world → (length list ≡ 0 → ⊥)
-    → All (λ a. is_claimed s.claims a ≡ true) list → AreAllClaimed s
-all_claimed s list is some all = record {
-  somebody = some_first (λ a. is_claimed s.claims a ≡ true) list all some;
+pub all_claimed : (s : SharedValue) (first : ℕ) → Some first ≡ slice_get (enabled_in s.run.core.module_run s.run.core.world) 0
+    → All (λ a. is_claimed s.claims a ≡ true) (enabled_in s.run.core.module_run s.run.core.world) → AreAllClaimed s
+all_claimed s first is all = record {
+  somebody = some_first (λ a. is_claimed s.claims a ≡ true) (enabled_in s.run.core.module_run s.run.core.world) first is all;
   everybody = λ a h. all_from (λ b. is_claimed s.claims b ≡ true) (is_enabled s.run.core.module_run s.run.core.world) 0 (length s.run.core.world.activities)
-      (subst (All (λ b. is_claimed s.claims b ≡ true)) is all) a (omega arith)
-      (omega (arith, enabled_within s.run.core.module_run s.run.core.world a h)) h;
+      all a (omega arith) (omega (arith, enabled_within s.run.core.module_run s.run.core.world a h)) h;
 }
 
 -- ---- what a worker is told
 
-pub tells_act : (s : SharedValue) (list : List ℕ) (a : ℕ) → s.stopped ≡ false → list ≡ enabled_in s.run.core.module_run s.run.core.world
-    → Contains list a × (is_claimed s.claims a ≡ false) → Tells s (take.Act a) s
-tells_act s list a on is free = (on, record { enabled = listed_free s.run.core.module_run s.run.core.world list a is free.0; unclaimed = free.1 }, refl)
+pub tells_act : (s : SharedValue) (a : ℕ) → s.stopped ≡ false → (is_enabled s.run.core.module_run s.run.core.world a ≡ true) × (is_claimed s.claims a ≡ false)
+    → Tells s (take.Act a) s
+tells_act s a on free = (on, record { enabled = free.0; unclaimed = free.1 }, refl)
 
-pub tells_idle : (s : SharedValue) (list : List ℕ) → s.stopped ≡ false → list ≡ enabled_in s.run.core.module_run s.run.core.world → (length list == 0) ≡ false
-    → All (λ a. is_claimed s.claims a ≡ true) list → Tells s take.Idle s
-tells_idle s list on is some all = (on, all_claimed s list is (eqb-false (length list) 0 some) all, refl)
+pub tells_idle : (s : SharedValue) (first : ℕ) → s.stopped ≡ false → Some first ≡ slice_get (enabled_in s.run.core.module_run s.run.core.world) 0
+    → All (λ a. is_claimed s.claims a ≡ true) (enabled_in s.run.core.module_run s.run.core.world) → Tells s take.Idle s
+tells_idle s first on is all = (on, all_claimed s first is all, refl)

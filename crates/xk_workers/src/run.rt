@@ -1,9 +1,10 @@
 //! A run with its log, which takes no memory before its first step.
 
-ghost use Rattle.std.specs.Prelude.{◌≡◌, ◌∷◌, ◌++◌, [], true, false, IfOk, IfErr, OnOk, OnErr, IsTrue};
+ghost use Rattle.std.specs.Prelude.{◌≡◌, ◌∷◌, ◌++◌, [], true, false, None, slice_get, IfOk, IfErr, OnOk, OnErr, IsTrue};
 ghost use Rattle.xk_types.specs.Schedule.{is_enabled, all_ended};
 ghost use Rattle.xk_types.specs.Bound.{steps_bound};
 ghost use Rattle.xk_types.specs.Logs.{one_step_of};
+ghost use Rattle.xk_members.specs.Members.{place_above};
 ghost use Rattle.xk_core.specs.Core.{StepsTo, IsCore};
 ghost use Rattle.xk_drive.specs.Choosing.{enabled_in};
 ghost use Rattle.xk_drive.specs.Driving.{IsRunOf};
@@ -113,14 +114,33 @@ impl<'m> Run<'m> {
         }
     }
 
-    /// Those who can take a step, rising. There is somebody unless all have ended.
-    pub fn enabled(&self) -> &[u32]
-        ensures list { result.now ≡ enabled_in self.now.core.module_run self.now.core.world }
-        ensures over { result.now ≡ [] → all_ended self.now.core.world ≡ true }
+    /// The least activity that can take a step. There is one unless all have ended.
+    pub fn first(&self) -> Option<Act>
+        ensures first { let list = enabled_in self.now.core.module_run self.now.core.world in
+            result ≡ slice_get list 0 }
+        ensures over { result ≡ None → all_ended self.now.core.world ≡ true }
     {
         match &self.stage {
-            Stage::Fresh(core) => { if core.enabled(Act(0)) { &[0] } else { &[] } }
-            Stage::Going(logged) => logged.driver.enabled(),
+            Stage::Fresh(core) => {
+                if core.enabled(Act(0)) {
+                    Some(Act(0))
+                } else {
+                    None
+                }
+            }
+            Stage::Going(logged) => logged.driver.first(),
+            Stage::Between => unreachable!(),
+        }
+    }
+
+    /// The least above this one that can take a step.
+    pub fn above(&self, act: Act) -> Option<Act>
+        ensures { let list = enabled_in self.now.core.module_run self.now.core.world in
+            result ≡ slice_get list (place_above act list) }
+    {
+        match &self.stage {
+            Stage::Fresh(_) => None,
+            Stage::Going(logged) => logged.driver.above(act),
             Stage::Between => unreachable!(),
         }
     }

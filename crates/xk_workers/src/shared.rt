@@ -1,9 +1,10 @@
 //! What workers share: a run with its log, who is claimed, and whether to stop.
 
-ghost use Rattle.std.specs.Prelude.{◌≡◌, ◌+◌, ◌≤◌, ◌∷◌, ◌++◌, [], true, false, IfOk, IfErr, IfSome, IfNone, OnOk, OnErr, IsTrue, All, Contains};
+ghost use Rattle.std.specs.Prelude.{◌≡◌, ◌+◌, ◌≤◌, ◌∷◌, ◌++◌, [], true, false, IfOk, IfErr, IfSome, IfNone, OnOk, OnErr, IsTrue, All, Some, slice_get};
 ghost use Rattle.xk_types.specs.Schedule.{is_enabled, all_ended};
 ghost use Rattle.xk_types.specs.Logs.{one_step_of};
 ghost use Rattle.xk_core.specs.Core.{StepsTo};
+ghost use Rattle.xk_drive.specs.Choosing.{enabled_in};
 ghost use Rattle.xk_workers.specs.Claims.{claims_in, is_claimed, claims_after};
 ghost use Rattle.xk_workers.specs.Run.{fresh_run, IsLegalRun};
 ghost use Rattle.xk_workers.specs.Shared.{IsFree, Tells, is_work};
@@ -54,14 +55,24 @@ impl<'m> Model for Shared<'m> {
     ghost invariant = { λ s. AreClaims s.run.core (claims_in s.claims) };
 }
 
-/// The first of these who isn't claimed.
-fn first_unclaimed(enabled: &[u32], claims: &Claims) -> Option<u32>
-    ensures some { IfSome result (λ a. Contains enabled.now a
+/// The least activity that can take a step and isn't claimed. The least that can take one, claimed or not, is told.
+fn first_unclaimed(run: &Run<'_>, claims: &Claims, first: Act) -> Option<Act>
+    requires first { let list = enabled_in run.now.core.module_run run.now.core.world in
+        Some first ≡ slice_get list 0 }
+    ensures some { IfSome result (λ a.
+        (is_enabled run.now.core.module_run run.now.core.world a ≡ true)
         × (is_claimed (claims_in claims.now) a ≡ false)) }
-    ensures none { IfNone result
-        (All (λ a. is_claimed (claims_in claims.now) a ≡ true) enabled.now) }
+    ensures none { IfNone result (All (λ a. is_claimed (claims_in claims.now) a ≡ true)
+        (enabled_in run.now.core.module_run run.now.core.world)) }
 {
-    enabled.iter().copied().find(|a| !claims.has(Act(*a)))
+    let mut next = Some(first);
+    while let Some(act) = next {
+        if !claims.has(act) {
+            return Some(act);
+        }
+        next = run.above(act);
+    }
+    None
 }
 
 impl<'m> Shared<'m> {
@@ -104,12 +115,11 @@ impl<'m> Shared<'m> {
         if self.stopped {
             return Take::Stopped;
         }
-        let enabled = self.run.enabled();
-        if enabled.is_empty() {
+        let Some(first) = self.run.first() else {
             return Take::Done;
-        }
-        match first_unclaimed(enabled, &self.claims) {
-            Some(act) => Take::Act(Act(act)),
+        };
+        match first_unclaimed(&self.run, &self.claims, first) {
+            Some(act) => Take::Act(act),
             None => Take::Idle,
         }
     }

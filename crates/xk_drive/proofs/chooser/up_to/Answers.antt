@@ -1,6 +1,6 @@
 use Rattle.std.proofs.Common.{rules, nat_le}
 use Rattle.std.proofs.lemmas.List.Sorted.{IsPartitionPoint-from_clause, IsPartitionedBy-leb}
-use Rattle.xk_drive.proofs.Membership.{place_above_is, rising_non_decreasing}
+use Rattle.xk_members.proofs.Rising.{place_above_is, rising_non_decreasing}
 use Rattle.xk_drive.proofs.chooser.up_to.Goals as goal
 
 pub returns-clause-place : goal.returns-clause-place

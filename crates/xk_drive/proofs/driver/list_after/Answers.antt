@@ -1,24 +1,40 @@
-use Rattle.std.proofs.Common.{true, ◌∙◌, ap, sym}
+use Rattle.std.proofs.Common.{◌∙◌, ap, sym, true, arith}
 use Rattle.xk_types.specs.Schedule.{is_enabled}
-use Rattle.xk_drive.specs.Choosing.{with_member}
-use Rattle.xk_drive.proofs.Listing.{listed_own, listed_alone, listed_two}
+use Rattle.xk_members.specs.Members.{with_member}
+use Rattle.xk_drive.specs.Listing.{woken}
+use Rattle.xk_drive.proofs.Listing.{woken_is, listed_own, listed_alone, listed_two, other_within}
 use Rattle.xk_drive.proofs.driver.list_after.Goals as goal
 
+pub list_one-requires : goal.list_one-requires
+list_one-requires c =
+    let core = c.args.core.now in
+    omega (
+      arith,
+      other_within core.module_run core.world c.args.act c.in-Some.other c.args.event c.requires.core c.requires.act (sym c.other_to_list.ensures ∙ c.in-Some.is),
+      c.requires.set,
+      c.list_own.ensures.room,
+      c.list_woken.ensures.kept,
+    )
+
 pub returns-in-Some-clause-list : goal.returns-in-Some-clause-list
-returns-in-Some-clause-list c before core stepped is =
-    let w = c.args.core.now.world in
-    let can = is_enabled c.args.core.now.module_run w in
-    let own = c.list_own.ensures.list (ap (with_member c.args.act true) is ∙ listed_own c.args.core.now.module_run before w c.args.act c.args.event stepped ∙ sym is) in
-    c.list_one.ensures.list
-    ∙ ap (with_member c.in-Some.other (can c.in-Some.other)) (own ∙ ap (with_member c.args.act (can c.args.act)) is)
-    ∙ listed_two c.args.core.now.module_run before w c.args.act c.in-Some.other c.args.event
-    (record { core = core; stepped = stepped; quiet = sym c.is_quiet.ensures ∙ c.if-not-is_quiet.false }) (sym c.other_to_list.ensures ∙ c.in-Some.is)
+returns-in-Some-clause-list c before core stepped is among =
+    let now = c.args.core.now in
+    let act = c.args.act in
+    let can = is_enabled now.module_run now.world in
+    let r = woken_is now before act c.args.event c.args.waiting.now.members core stepped among in
+    let there = c.list_woken.ensures.members ∙ ap (woken now c.args.waiting.now.members) is ∙ r.list_is in
+    let own = c.list_own.ensures.members (λ h. ap (with_member act true) there ∙ listed_own now.module_run before now.world act c.args.event r.test r.step h ∙ sym there) in
+    c.list_one.ensures.members
+    ∙ ap (with_member c.in-Some.other (can c.in-Some.other)) (own ∙ ap (with_member act (can act)) there)
+    ∙ listed_two now.module_run before now.world act c.in-Some.other c.args.event r.test r.step (sym c.other_to_list.ensures ∙ c.in-Some.is)
 
 pub returns-in_default-clause-list : goal.returns-in_default-clause-list
-returns-in_default-clause-list c before core stepped is =
-    let w = c.args.core.now.world in
-    let can = is_enabled c.args.core.now.module_run w in
-    let own = c.list_own.ensures.list (ap (with_member c.args.act true) is ∙ listed_own c.args.core.now.module_run before w c.args.act c.args.event stepped ∙ sym is) in
-    own ∙ ap (with_member c.args.act (can c.args.act)) is
-    ∙ listed_alone c.args.core.now.module_run before w c.args.act c.args.event
-    (record { core = core; stepped = stepped; quiet = sym c.is_quiet.ensures ∙ c.if-not-is_quiet.false }) (sym c.in_default.ensures)
+returns-in_default-clause-list c before core stepped is among =
+    let now = c.args.core.now in
+    let act = c.args.act in
+    let can = is_enabled now.module_run now.world in
+    let r = woken_is now before act c.args.event c.args.waiting.now.members core stepped among in
+    let there = c.list_woken.ensures.members ∙ ap (woken now c.args.waiting.now.members) is ∙ r.list_is in
+    let own = c.list_own.ensures.members (λ h. ap (with_member act true) there ∙ listed_own now.module_run before now.world act c.args.event r.test r.step h ∙ sym there) in
+    own ∙ ap (with_member act (can act)) there
+    ∙ listed_alone now.module_run before now.world act c.args.event r.test r.step (sym c.in_default.ensures)

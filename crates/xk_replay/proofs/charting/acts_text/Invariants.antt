@@ -1,6 +1,6 @@
 use Rattle.std.proofs.Common.{◌≡◌, filter, string_bytes}
 use Rattle.xk_core.specs.Core.{is_registered_on}
-use Rattle.xk_drive.specs.Choosing.{numbers_from}
+use Rattle.xk_members.specs.Members.{numbers_from}
 use Rattle.xk_replay.specs.Chart.{acts_text}
 use Rattle.xk_replay.proofs.charting.acts_text.Given as goal
 

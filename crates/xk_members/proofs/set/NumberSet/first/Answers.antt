@@ -1,6 +1,7 @@
 use Rattle.std.proofs.Common.{◌*◌, length, Some, None}
 use Rattle.xk_members.specs.Words.{has}
 use Rattle.xk_members.proofs.Rising.{filter_rises}
+use Rattle.xk_members.proofs.Empty.{few_members}
 use Rattle.xk_members.proofs.Members.{first_in}
 use Rattle.xk_members.proofs.set.NumberSet.first.Goals as goal
 
@@ -16,3 +17,9 @@ returns-in-Some-clause-rising c = rw (← c.self.view_is) (filter_rises (has c.s
 
 pub returns-in-None-clause-rising : goal.returns-in-None-clause-rising
 returns-in-None-clause-rising c = rw (← c.self.view_is) (filter_rises (has c.self.inside.low.items) (length c.self.inside.low.items * 64))
+
+pub returns-in-Some-clause-few : goal.returns-in-Some-clause-few
+returns-in-Some-clause-few c = rw (← c.self.view_is) (few_members c.self.inside.low.items c.self.inside.mid.items c.self.inside.top.items c.self.invariant)
+
+pub returns-in-None-clause-few : goal.returns-in-None-clause-few
+returns-in-None-clause-few c = rw (← c.self.view_is) (few_members c.self.inside.low.items c.self.inside.mid.items c.self.inside.top.items c.self.invariant)

@@ -2,7 +2,7 @@ use Rattle.std.proofs.Common.{◌≡◌, true, sym, subst, ◌∙◌}
 use Rattle.xk_types.specs.Schedule.{all_ended}
 use Rattle.xk_workers.specs.Run.{RunValue}
 use Rattle.xk_workers.proofs.Runs.{over_fresh, over_going}
-use Rattle.xk_workers.proofs.run.Run.enabled.Goals as goal
+use Rattle.xk_workers.proofs.run.Run.first.Goals as goal
 
 pub returns-else-enabled-clause-over : goal.returns-else-enabled-clause-over
 returns-else-enabled-clause-over c = λ none. subst (λ (r : RunValue). all_ended r.core.world ≡ true) c.self.view_is
@@ -10,4 +10,4 @@ returns-else-enabled-clause-over c = λ none. subst (λ (r : RunValue). all_ende
 
 pub returns-in-Going-clause-over : goal.returns-in-Going-clause-over
 returns-in-Going-clause-over c = λ none. subst (λ (r : RunValue). all_ended r.core.world ≡ true) c.self.view_is
-    (over_going c.self.inside.stage c.in-Going.logged c.enabled-in-Going.result.now c.in-Going.is c.self.invariant.1 c.enabled-in-Going.ensures none)
+    (over_going c.self.inside.stage c.in-Going.logged c.first.result c.in-Going.is c.self.invariant.1 c.first.ensures none)
