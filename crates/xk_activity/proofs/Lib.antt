@@ -5,3 +5,4 @@ pub mod Locals
 pub mod Joined
 pub mod Reached
 pub mod Acts
+pub mod Lying
