@@ -6,3 +6,4 @@ pub mod Joined
 pub mod Reached
 pub mod Acts
 pub mod Lying
+pub mod Rows

@@ -15,4 +15,4 @@ mod ticket;
 pub use activities::Activities;
 pub use activity::Activity;
 pub use frames::{Frames, Next};
-pub use ticket::{run_local, Ticket};
+pub use ticket::{Ticket, run_local};
