@@ -1,6 +1,6 @@
 -- A list of activities that run one module, where one of them is read or changed.
 use Rattle.std.proofs.Common.{◌≡◌, ℕ, zero, suc, ◌<◌, List, [], ◌∷◌, length, refl, sym, ap, subst, ◌∙◌, arith, get_or, slice_set, All}
-use Rattle.std.proofs.lemmas.List.{map-set, length-map, get_or-set_same, length-set}
+use Rattle.std.proofs.lemmas.List.{map-set, length-map, get_or-set_same}
 use Rattle.xk_types.specs.Code.{ModuleValue}
 use Rattle.xk_types.specs.World.{Activity}
 use Rattle.xk_activity.specs.declared.frames.Next.{Next}
@@ -31,7 +31,7 @@ module _ (m : ModuleValue) (items : List ActivityValue) (room a : ℕ) (x : Acti
   inside = subst (λ (v : ActivitiesValue). a < length v.list) (sym view) lt
 
   -- the activity of this number
-  at_is : act_at old.list a ≡ x.act
+  pub at_is : act_at old.list a ≡ x.act
   at_is = ap (λ (v : ActivitiesValue). act_at v.list a) (sym view) ∙ there items a x inside is
 
   -- what holds of it holds of the one that is read

@@ -5,3 +5,5 @@ pub mod Locals
 pub mod Joined
 pub mod Reached
 pub mod Acts
+pub mod Lying
+pub mod Rows

@@ -20,7 +20,7 @@ use Rattle.xk_activity.specs.Stacked.{waiting, frames_on, AreStacked, IsStacked,
 
 -- ---- those who wait see only what lies below
 
-less : (s : List Value) (m n : ℕ) → m ≤ n → take m (take n s) ≡ take m s
+pub less : (s : List Value) (m n : ℕ) → m ≤ n → take m (take n s) ≡ take m s
 less s m n le = grind (arith, common_steps)
 
 take_less : (s t : List Value) (m n : ℕ) → m ≤ n → take n s ≡ take n t → take m s ≡ take m t
@@ -112,7 +112,7 @@ pub start_stacked : (m : ModuleValue) (unit long slots frames : ℕ) (cs : List 
     → long ≡ slots_of m unit → slots ≡ stack_of m unit → frames + 1 ≡ frames_of m unit → IsStacked m unit 0 cs long slots frames
 start_stacked m unit long slots frames cs limits shape lt none top s f =
     subst (λ (ds : List Caller). IsStacked m unit 0 ds long slots frames) (sym none)
-    (record { limits = limits; shape = shape; top = omega arith; room = record { slots_fit = omega arith; frames_fit = omega arith }; stacked = tt })
+    (record { limits = limits; shape = shape; top = omega arith; room = record { slots_fit = omega arith; frames_fit = omega arith }; stacked = refl })
 
 -- ---- a call
 

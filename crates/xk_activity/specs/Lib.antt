@@ -5,3 +5,4 @@ pub mod Arm
 pub mod Stacked
 pub mod Joined
 pub mod Activities
+pub mod Ticket

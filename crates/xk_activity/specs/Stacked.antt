@@ -30,9 +30,9 @@ pub record HasRoom (m : ModuleValue) (slots frames base unit : ℕ) (below : Lis
   pub slots_fit : base + stack_of m unit ≤ slots
   pub frames_fit : length below + frames_of m unit ≤ frames + 1
 
--- each frame that waits ends where the one above it begins
+-- each frame that waits ends where the one above it begins, and the last begins with the stack
 abbrev pub AreStacked : ModuleValue → ℕ → ℕ → ℕ → List Caller → Type 0
-AreStacked m slots frames top [] = Unit {0}
+AreStacked m slots frames top [] = top ≡ 0
 AreStacked m slots frames top (c ∷ cs) =
     (c.base + slots_of m c.unit ≡ top) × HasRoom m slots frames c.base c.unit cs × AreStacked m slots frames c.base cs
 

@@ -1,6 +1,7 @@
 //! All activities of a running program, but for their finishes.
 
 ghost use Rattle.std.specs.Prelude.{◌≡◌, ℤ, ℕ, ◌+◌, ◌<◌, ◌≤◌, [], ◌∷◌, ◌++◌, length, map, Some, slice_get, slice_set, option_map, All, IfOk, OnOk};
+ghost use Rattle.std.specs.Bool.{Decides};
 ghost use Rattle.std.specs.List.{list_all};
 ghost use Rattle.std.specs.Vec.{vec_capacity};
 ghost use Rattle.xk_types.specs.declared.names.Value.TheVariants as value;
@@ -10,9 +11,11 @@ ghost use Rattle.xk_activity.specs.Local.{IsRight, IsSafe, local, is_stepped};
 ghost use Rattle.xk_activity.specs.Joined.{frames_in};
 ghost use Rattle.xk_activity.specs.Stacked.{values_at};
 ghost use Rattle.xk_activity.specs.Activities.{act_at, with_act_at, Stands, Takes, Runs};
+ghost use Rattle.xk_activity.specs.Ticket.{Fits, handed_in};
 
 use crate::activity::Activity;
 use crate::frames::{Frames, Next};
+use crate::ticket::Ticket;
 use std::alloc::{AllocError, Global};
 use std::marker::Model;
 use xk_bounds::Verified;
@@ -240,6 +243,23 @@ impl<'m> Activities<'m> {
     {
         let act = &self.list[a];
         act.is_local()
+    }
+
+    /// Whether a ticket's activity is there, and has the ticket's old frames.
+    pub fn accepts(&self, ticket: &Ticket<'m>) -> bool
+        ensures { Decides result (Fits self.now ticket.now) }
+    {
+        let a = ticket.act().0 as usize;
+        a < self.len() && self.frames(a).same(ticket.old())
+    }
+
+    /// A ticket's activity has the ticket's new frames. Takes no memory.
+    pub fn apply(&mut self, ticket: Ticket<'m>)
+        requires { Fits self.old ticket }
+        ensures { self.new ≡ handed_in self.old ticket.entry }
+    {
+        let act = &mut self.list[ticket.act().0 as usize];
+        act.put_frames(ticket.into_new());
     }
 
     /// What activity a starts that runs this unit with these values.

@@ -5,7 +5,7 @@ ghost use Rattle.xk_types.specs.declared.names.Value.TheVariants as value;
 ghost use Rattle.xk_types.specs.World.{instruction_at, is_ended, root};
 ghost use Rattle.xk_types.specs.Step.{governing, slot_at, onward, with_slots, arrived, ended, past};
 ghost use Rattle.xk_activity.specs.Local.{IsRight, IsSafe, local, is_stepped};
-ghost use Rattle.xk_activity.specs.Joined.{frames_in};
+ghost use Rattle.xk_activity.specs.Joined.{frames_in, with_frames};
 ghost use Rattle.xk_activity.specs.Stacked.{values_at};
 ghost use Rattle.xk_activity.specs.Activities.{fresh, with_act, Stands, Takes, Runs};
 
@@ -83,6 +83,14 @@ impl<'m> Activity<'m> {
         ensures { result.now ≡ frames_in self.now.module_run self.now.act }
     {
         &self.frames
+    }
+
+    /// Has these frames from now on.
+    pub(crate) fn put_frames(&mut self, frames: Frames<'m>)
+        ensures module { self.new.module_run ≡ frames.entry.module_run }
+        ensures activity { self.new.act ≡ with_frames self.old.act frames.entry }
+    {
+        self.frames = frames;
     }
 
     /// The instruction that it stands at.

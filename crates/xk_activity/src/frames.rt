@@ -1,6 +1,7 @@
 //! The frames of one activity.
 
 ghost use Rattle.std.specs.Prelude.{◌≡◌, ◌⊎◌, ◌+◌, ◌<◌, ◌≤◌, ◌^◌, length, take, drop, Some, IfOk, slice_get, All};
+ghost use Rattle.std.specs.Bool.{Decides};
 ghost use Rattle.std.specs.Vec.{vec_capacity};
 ghost use Rattle.xk_types.specs.declared.instr.Instr.{Instr};
 ghost use Rattle.xk_types.specs.Code.{IsWithinLimits};
@@ -10,6 +11,7 @@ ghost use Rattle.xk_activity.specs.Local.{Beyond, Stepped, IsRight, IsSafe, loca
 ghost use Rattle.xk_activity.specs.Arm.{Answers};
 ghost use Rattle.xk_activity.specs.Stacked.{CanCall, Does, values_at, placed, with_slot};
 
+use crate::alike::{are_same_callers, are_same_cells};
 use crate::caller::Caller;
 use crate::cell::Cell;
 use crate::fill::{copy_callers, copy_cells, fill, hand, put};
@@ -17,6 +19,7 @@ use crate::flat::{is_flat, one};
 use std::alloc::{AllocError, Global};
 use std::marker::Model;
 use xk_bounds::Verified;
+use xk_same::is_same_module;
 use xk_types::{Instr, Value};
 
 /// What a call for one local step did.
@@ -147,6 +150,21 @@ impl<'m> Frames<'m> {
             stack,
             callers,
         })
+    }
+
+    /// Whether they are the same frames of the same module.
+    pub fn same(&self, other: &Frames<'m>) -> bool
+        ensures { Decides result (self.now ≡ other.now) }
+    {
+        if self.unit != other.unit || self.place != other.place || self.base != other.base {
+            return false;
+        }
+        if !are_same_cells(&self.stack, &other.stack)
+            || !are_same_callers(&self.callers, &other.callers)
+        {
+            return false;
+        }
+        is_same_module(self.verified.module(), other.verified.module())
     }
 
     /// The code of the present frame's unit.

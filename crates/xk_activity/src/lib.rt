@@ -3,13 +3,16 @@
 
 mod activities;
 mod activity;
+mod alike;
 mod caller;
 mod cell;
 mod fill;
 mod flat;
 mod frames;
 pub mod laws;
+mod ticket;
 
 pub use activities::Activities;
 pub use activity::Activity;
 pub use frames::{Frames, Next};
+pub use ticket::{Ticket, run_local};

@@ -1,0 +1,113 @@
+//! Comparing two modules part by part.
+
+ghost use Rattle.std.specs.Prelude.{◌≡◌};
+ghost use Rattle.std.specs.Bool.{Decides};
+
+use xk_types::{Instr, Module, ParamKind, Unit};
+
+/// Whether the second instruction is of a form, and what it has passes a test.
+macro_rules! is_also {
+    ($instr:expr, $form:pat => $test:expr) => {
+        match $instr {
+            $form => $test,
+            _ => false,
+        }
+    };
+}
+
+/// Whether two instructions are the same.
+fn is_same_instr(a: &Instr, b: &Instr) -> bool
+    ensures { Decides result (a.now ≡ b.now) }
+{
+    match a {
+        Instr::Lit(d, n) => is_also!(b, Instr::Lit(e, o) => d == e && n == o),
+        Instr::Copy(d, p) => is_also!(b, Instr::Copy(e, r) => d == e && p == r),
+        Instr::Add(d, p, q) => is_also!(b, Instr::Add(e, r, s) => d == e && p == r && q == s),
+        Instr::Sub(d, p, q) => is_also!(b, Instr::Sub(e, r, s) => d == e && p == r && q == s),
+        Instr::Mul(d, p, q) => is_also!(b, Instr::Mul(e, r, s) => d == e && p == r && q == s),
+        Instr::Unless(f, p, q, t) => {
+            is_also!(b, Instr::Unless(g, r, s, u) => f == g && p == r && q == s && t == u)
+        }
+        Instr::Jump(t) => is_also!(b, Instr::Jump(u) => t == u),
+        Instr::For(k, n, o, e) => {
+            is_also!(b, Instr::For(l, p, q, f) => k == l && n == p && o == q && e == f)
+        }
+        Instr::Next(p) => is_also!(b, Instr::Next(q) => p == q),
+        Instr::Finish(p) => is_also!(b, Instr::Finish(q) => p == q),
+        Instr::EndFinish(p) => is_also!(b, Instr::EndFinish(q) => p == q),
+        Instr::Get(d, s) => is_also!(b, Instr::Get(e, t) => d == e && s == t),
+        Instr::Put(s, p) => is_also!(b, Instr::Put(t, q) => s == t && p == q),
+        Instr::AddTo(s, p) => is_also!(b, Instr::AddTo(t, q) => s == t && p == q),
+        Instr::Print(p) => is_also!(b, Instr::Print(q) => p == q),
+        Instr::Make(k) => is_also!(b, Instr::Make(l) => k == l),
+        Instr::Resume(k) => is_also!(b, Instr::Resume(l) => k == l),
+        Instr::Drop(k) => is_also!(b, Instr::Drop(l) => k == l),
+        Instr::Advance => is_also!(b, Instr::Advance => true),
+        Instr::Call(t, x) => is_also!(b, Instr::Call(u, y) => t == u && x.slots() == y.slots()),
+        Instr::Spawn(t, x) => is_also!(b, Instr::Spawn(u, y) => t == u && x.slots() == y.slots()),
+        Instr::Ret => is_also!(b, Instr::Ret => true),
+    }
+}
+
+/// Whether two pieces of code are the same.
+fn is_same_code(a: &[Instr], b: &[Instr]) -> bool
+    ensures { Decides result (a.now ≡ b.now) }
+{
+    if a.len() != b.len() {
+        return false;
+    }
+    for i in 0..a.len() {
+        if !is_same_instr(&a[i], &b[i]) {
+            return false;
+        }
+    }
+    true
+}
+
+/// Whether two lists of parameters are the same.
+fn are_same_params(a: &[ParamKind], b: &[ParamKind]) -> bool
+    ensures { Decides result (a.now ≡ b.now) }
+{
+    a == b
+}
+
+/// Whether two units are the same.
+#[tactic(auto, using(crate::proofs::Parts::same_unit))]
+fn is_same_unit(a: &Unit, b: &Unit) -> bool
+    ensures { Decides result (a.now ≡ b.now) }
+{
+    if a.kind != b.kind || a.slots != b.slots {
+        return false;
+    }
+    are_same_params(&a.params, &b.params) && is_same_code(&a.code, &b.code)
+}
+
+/// Whether these units are the same.
+fn are_same_units(a: &[Unit], b: &[Unit]) -> bool
+    ensures { Decides result (a.now ≡ b.now) }
+{
+    if a.len() != b.len() {
+        return false;
+    }
+    for i in 0..a.len() {
+        if !is_same_unit(&a[i], &b[i]) {
+            return false;
+        }
+    }
+    true
+}
+
+/// Whether these numbers are the same.
+fn are_same_numbers(a: &[i64], b: &[i64]) -> bool
+    ensures { Decides result (a.now ≡ b.now) }
+{
+    a == b
+}
+
+/// Whether two modules are the same: they have the same shared numbers and the same units.
+#[tactic(auto, using(crate::proofs::Parts::same_module))]
+pub fn is_same_module(a: &Module, b: &Module) -> bool
+    ensures { Decides result (a.now ≡ b.now) }
+{
+    are_same_numbers(a.shared(), b.shared()) && are_same_units(a.units(), b.units())
+}
