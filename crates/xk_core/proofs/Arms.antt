@@ -1,9 +1,8 @@
 -- From a step of the definition to what the arms owe, and back.
 use Rattle.std.specs.Prelude.{slice_set}
-use Rattle.std.proofs.Common.{◌≡◌, ◌||◌, ℕ, zero, suc, ℤ, ◌-◌, ◌<◌, ◌≤◌, Bool, true, false, List, [], ◌∷◌, ◌++◌, length, map, replicate, arith, Option, Some, None, slice_get, refl, ap, sym, cond, get_or, All, subst, ◌^◌, ◌∙◌}
-use Rattle.std.proofs.lemmas.Option.{slice_get_within, slice_get_read, slice_get-get_or, get_or_from_slice_get}
+use Rattle.std.proofs.Common.{◌≡◌, ℕ, zero, suc, ℤ, ◌<◌, Bool, true, false, List, [], ◌∷◌, length, map, arith, Option, Some, None, slice_get, refl, ap, sym, cond, get_or, All, ◌∙◌}
+use Rattle.std.proofs.lemmas.Option.{slice_get_within, slice_get_read, get_or_from_slice_get}
 use Rattle.std.proofs.lemmas.Bool.{false≢true}
-use Rattle.std.proofs.lemmas.List.{length-map}
 use Rattle.xk_types.specs.declared.instr.Instr.{Instr}
 use Rattle.xk_types.specs.declared.instr.Instr.TheVariants as instr
 use Rattle.xk_types.specs.declared.names.Value.{Value}
@@ -12,10 +11,9 @@ use Rattle.xk_types.specs.declared.names.Event.{Event}
 use Rattle.xk_types.specs.declared.names.Event.TheVariants as event
 use Rattle.xk_types.specs.declared.unit.ParamKind.{ParamKind}
 use Rattle.xk_types.specs.declared.unit.ParamKind.TheVariants as param
-use Rattle.std.specs.Option.{option_map_or, option_and_then}
-use Rattle.xk_types.specs.Code.{UnitValue, ModuleValue, is_body, IsUnitWithinLimits, IsWithinLimits, is_method}
-use Rattle.xk_types.specs.World.{Activity, Clock, World, standing_of, slots_of, instruction_at, Frame}
-use Rattle.xk_types.specs.Step.{Outcome, Wrong, Stepped, ClockUse, OutOfRange, carried_out, done, number_in, clock_in, registered_on, put_in, arguments_in, names_clock, is_given, joined, spawned, spawning, settled, none, onward, with_slots, is_registered, computing, turning, slot_at, called, calling, returning, cell_in, stored, writing}
+use Rattle.xk_types.specs.Code.{UnitValue, ModuleValue, is_body}
+use Rattle.xk_types.specs.World.{Activity, Clock, World, standing_of}
+use Rattle.xk_types.specs.Step.{Outcome, Wrong, ClockUse, OutOfRange, carried_out, done, number_in, clock_in, registered_on, put_in, arguments_in, spawned, spawning, none, onward, with_slots, is_registered, slot_at, cell_in, stored, writing}
 use Rattle.xk_types.specs.Schedule.{is_step}
 use Rattle.xk_core.specs.Arm.{value_at, IsRoomy, carried, carried_by}
 

@@ -1,6 +1,6 @@
 -- What a running activity stands at where others can see its next step.
 use Rattle.std.proofs.Common.{◌≡◌, ℕ, ℤ, Bool, true, false, cond, List, [], ◌∷◌, Option, Some, None, refl, sym, ap, ◌∙◌, slice_get}
-use Rattle.std.specs.Prelude.{int_lt, pos, ◌+ℤ◌, ◌+◌, slice_set}
+use Rattle.std.specs.Prelude.{int_lt}
 use Rattle.std.proofs.lemmas.Bool.{false≢true}
 use Rattle.xk_types.specs.declared.instr.Instr.{Instr}
 use Rattle.xk_types.specs.declared.instr.Instr.TheVariants as instr
@@ -10,7 +10,7 @@ use Rattle.xk_types.specs.declared.unit.ParamKind.{ParamKind}
 use Rattle.xk_types.specs.declared.unit.ParamKind.TheVariants as param
 use Rattle.xk_types.specs.Code.{UnitValue, is_method, compares}
 use Rattle.xk_types.specs.World.{Frame}
-use Rattle.xk_activity.specs.Local.{OutcomeOf, Beyond, Wrong, Stepped, Spot, Turn, FramesValue, in_frame, put_in, number_in, clock_in, arguments_in, turning, turned, carried, carried_on, code_of, spot_of, onward, called, calling, returning}
+use Rattle.xk_activity.specs.Local.{OutcomeOf, Beyond, Wrong, Stepped, Spot, Turn, FramesValue, in_frame, put_in, number_in, clock_in, arguments_in, turning, turned, carried_on, code_of, spot_of, onward, called, calling, returning}
 use Rattle.xk_core.specs.Arm.{is_visible}
 
 -- the step concerns more

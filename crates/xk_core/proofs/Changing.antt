@@ -1,20 +1,14 @@
 -- Which changes of standings steps make.
-use Rattle.std.proofs.Common.{◌≡◌, ℕ, ◌+◌, ◌<◌, length, map, true, false, Bool, refl, List, [], ◌∷◌, cond, Option, Some, None, sym, ◌∙◌, subst, slice_get}
+use Rattle.std.proofs.Common.{◌≡◌, ℕ, ◌+◌, ◌<◌, length, map, true, false, Bool, refl, List, cond, Option, Some, None, sym, ◌∙◌, subst, slice_get}
 use Rattle.std.specs.List.{list_any}
 use Rattle.std.proofs.lemmas.Bool.{false≢true}
-use Rattle.xk_types.specs.declared.instr.Instr.{Instr}
-use Rattle.xk_types.specs.declared.instr.Instr.TheVariants as instr
-use Rattle.xk_types.specs.declared.names.Event.{Event}
-use Rattle.xk_types.specs.Code.{UnitValue}
-use Rattle.xk_types.specs.World.{Frame, Activity, Clock, World, standing_of}
+use Rattle.xk_types.specs.World.{Activity, Clock, World, standing_of}
 use Rattle.xk_types.specs.Step.{Outcome, Blocked, is_signalled, waits, done, past, all, passed, settled_clock, moved, joined}
 use Rattle.xk_types.specs.declared.names.Event.TheVariants as event
 use Rattle.xk_types.specs.Schedule.{is_step}
 use Rattle.xk_core.specs.declared.change.StandingChange.{StandingChange}
 use Rattle.xk_core.specs.declared.change.StandingChange.TheVariants as standing_change
-use Rattle.xk_core.specs.declared.change.StepChange.{StepChange}
-use Rattle.xk_core.specs.declared.change.StepChange.TheVariants as step_change
-use Rattle.xk_core.specs.Change.{standing_after, AllowsChangeOn, AllowsChange}
+use Rattle.xk_core.specs.Change.{standing_after, AllowsChangeOn}
 use Rattle.xk_standings.specs.declared.which.Which.{Which}
 use Rattle.xk_standings.specs.declared.which.Which.TheVariants as which
 use Rattle.xk_standings.specs.View.{Registration, held}

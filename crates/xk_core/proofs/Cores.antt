@@ -1,18 +1,16 @@
 -- What holds of a core, by the law.
-use Rattle.std.proofs.Common.{◌≡◌, ℕ, ◌+◌, ◌<◌, ◌≤◌, ◌^◌, true, false, not, ◌&&◌, List, [], ◌∷◌, length, Option, Some, None, Result, Ok, Err, OnOk, OnErr, slice_get, slice_index_or, All, arith, refl, ap, ◌∙◌}
+use Rattle.std.proofs.Common.{◌≡◌, ℕ, ◌+◌, ◌<◌, ◌≤◌, ◌^◌, true, false, not, ◌&&◌, List, length, Option, Some, None, Result, Ok, Err, OnOk, OnErr, slice_get, slice_index_or, All, arith, refl, ap, ◌∙◌}
 use Rattle.std.proofs.lemmas.Option.{slice_get-get_or, get_or_from_slice_get, slice_get_within}
 use Rattle.xk_types.specs.declared.names.Event.{Event}
 use Rattle.xk_types.specs.declared.names.Status.{Status}
 use Rattle.xk_types.specs.declared.names.Status.TheVariants as status
 use Rattle.xk_types.specs.declared.instr.Instr.{Instr}
-use Rattle.xk_types.specs.Code.{ModuleValue, IsUnitWithinLimits, IsWithinLimits}
-use Rattle.xk_types.specs.World.{Frame, Activity, World, opening}
+use Rattle.xk_types.specs.Code.{ModuleValue, IsWithinLimits}
+use Rattle.xk_types.specs.World.{Activity, World, opening}
 use Rattle.xk_types.specs.Step.{Stepped, carried_out, run_at, passing, step_by, step_of, step}
 use Rattle.xk_types.specs.Schedule.{is_step, is_enabled, all_ended}
 use Rattle.xk_types.specs.Bound.{steps_bound}
 use Rattle.xk_types.specs.Accepted.{IsAccepted}
-use Rattle.std.proofs.lemmas.List.Elements.{All-cons, All-nil}
-use Rattle.xk_types.specs.declared.rules.Kind.{Kind}
 use Rattle.std.specs.Prelude.{option_and_then}
 use Rattle.xk_types.proofs.Lists.{get_inside}
 use Rattle.xk_activity.specs.Activities.{act_at, nobody}

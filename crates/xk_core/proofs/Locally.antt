@@ -1,5 +1,5 @@
 -- A local step of a core: what the frames of its activity tell, and what the definition does.
-use Rattle.std.proofs.Common.{◌≡◌, ℕ, ◌<◌, Bool, true, false, List, length, Option, Some, None, refl, sym, ap, ◌∙◌, subst, slice_get, slice_set}
+use Rattle.std.proofs.Common.{◌≡◌, ℕ, ◌<◌, true, false, List, length, Option, Some, None, refl, sym, ap, ◌∙◌, subst, slice_get, slice_set}
 use Rattle.std.specs.Option.{option_map_or}
 use Rattle.std.proofs.lemmas.Bool.{false≢true}
 use Rattle.std.proofs.lemmas.Option.{same_Some, slice_get_within, get_or_from_slice_get}
@@ -21,7 +21,7 @@ use Rattle.xk_activity.specs.Activities.{Stands, act_at, nobody}
 use Rattle.xk_activity.proofs.Joined.{joined}
 use Rattle.xk_activity.proofs.Reached.{reached_safe}
 use Rattle.xk_core.specs.Arm.{concerns_finishes, is_visible, carried, IsLast}
-use Rattle.xk_core.specs.Core.{CoreValue, IsCore, TakesStep, Locally, IsBeyond, is_running, runs_now, next_instruction, instruction_of, instruction_by}
+use Rattle.xk_core.specs.Core.{CoreValue, TakesStep, Locally, IsBeyond, is_running, runs_now, next_instruction, instruction_of, instruction_by}
 use Rattle.xk_core.specs.Told.{with_node, with_nodes, with_finishes, AreTold}
 use Rattle.xk_core.proofs.Beyond.{visible_there, nobody_waits}
 use Rattle.xk_core.proofs.Cores.{carry_step}

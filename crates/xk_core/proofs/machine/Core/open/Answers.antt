@@ -1,4 +1,4 @@
-use Rattle.std.proofs.Common.{◌≡◌, ap, ◌∙◌, [], ◌∷◌}
+use Rattle.std.proofs.Common.{ap, ◌∙◌, [], ◌∷◌}
 use Rattle.xk_types.specs.World.{root}
 use Rattle.xk_finishes.specs.Tree.{fresh_node}
 use Rattle.xk_core.proofs.Finishing.{opened}

@@ -1,4 +1,4 @@
-use Rattle.std.proofs.Common.{◌≡◌, ap, Some, slice_get, slice_set, sym, subst}
+use Rattle.std.proofs.Common.{◌≡◌, ap, Some, slice_set, sym, subst}
 use Rattle.xk_types.specs.declared.instr.Instr.TheVariants as instruction
 use Rattle.xk_types.specs.World.{Activity}
 use Rattle.std.proofs.lemmas.Option.{get_or_from_slice_get}

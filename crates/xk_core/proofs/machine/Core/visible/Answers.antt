@@ -2,7 +2,7 @@ use Rattle.std.proofs.Common.{◌≡◌, true, Some, refl, ap, sym, subst, ◌�
 use Rattle.xk_types.specs.declared.instr.Instr.TheVariants as instruction
 use Rattle.xk_types.specs.World.{instruction_at}
 use Rattle.xk_activity.specs.Activities.{act_at}
-use Rattle.xk_core.specs.Arm.{is_visible, IsLast}
+use Rattle.xk_core.specs.Arm.{IsLast}
 use Rattle.xk_core.specs.Core.{CoreValue, IsBeyond, WantsMemory, is_running, next_instruction}
 use Rattle.xk_core.specs.Told.{with_finishes}
 use Rattle.xk_core.proofs.Cores.{at_err}

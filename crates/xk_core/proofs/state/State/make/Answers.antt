@@ -1,4 +1,4 @@
-use Rattle.std.proofs.Common.{◌≡◌, ◌+◌, ◌<◌, true, [], ◌∷◌, ◌++◌, length, map, subst, sym, refl, ap, ◌∙◌, slice_set, List}
+use Rattle.std.proofs.Common.{◌≡◌, ◌+◌, true, [], ◌∷◌, ◌++◌, length, map, subst, sym, refl, ap, ◌∙◌, slice_set, List}
 use Rattle.xk_types.specs.declared.instr.Instr.TheVariants as instruction
 use Rattle.xk_types.specs.declared.names.Event.TheVariants as event
 use Rattle.xk_types.specs.declared.names.Value.TheVariants as value

@@ -4,7 +4,7 @@ use Rattle.std.proofs.lemmas.Int.{to_z-of_z}
 use Rattle.xk_types.specs.declared.instr.Instr.TheVariants as instruction
 use Rattle.xk_types.specs.declared.names.Event.TheVariants as event
 use Rattle.xk_types.specs.World.{World}
-use Rattle.xk_types.specs.Step.{Stepped, settled, moved, none, only, resumed, dropped}
+use Rattle.xk_types.specs.Step.{Stepped, settled, moved, none}
 use Rattle.xk_types.specs.Schedule.{is_step}
 use Rattle.xk_standings.specs.Told.{told_of, rooms_of}
 use Rattle.xk_activity.specs.Activities.{ActivitiesValue, Stands, act_at}

@@ -1,11 +1,11 @@
-use Rattle.std.proofs.Common.{◌≡◌, ℕ, ◌+◌, ◌<◌, ◌≤◌, refl, length-set, true, subst, sym, ◌∙◌, ap, length, slice_get, slice_set, [], ◌∷◌, ◌++◌, map, arith, List}
+use Rattle.std.proofs.Common.{◌≡◌, ℕ, ◌+◌, ◌<◌, ◌≤◌, refl, length-set, true, subst, sym, ◌∙◌, ap, length, slice_set, [], ◌∷◌, ◌++◌, map, arith, List}
 use Rattle.std.proofs.lemmas.List.{length-map, length_push}
 use Rattle.std.proofs.lemmas.Option.{slice_get_within}
 use Rattle.xk_types.specs.declared.instr.Instr.TheVariants as instruction
 use Rattle.xk_types.specs.declared.names.Event.TheVariants as event
 use Rattle.xk_types.specs.declared.names.Value.{Value}
-use Rattle.xk_types.specs.Code.{ModuleValue, IsWithinLimits}
-use Rattle.xk_types.specs.World.{Activity, Clock, World, slots_of, base_unit}
+use Rattle.xk_types.specs.Code.{IsWithinLimits}
+use Rattle.xk_types.specs.World.{Activity, Clock, World, base_unit}
 use Rattle.xk_types.specs.Step.{Stepped, is_given, joined, onward, child, settled_clock}
 use Rattle.xk_types.specs.Schedule.{is_step}
 use Rattle.xk_activity.specs.Activities.{ActivitiesValue, act_at}
