@@ -1,21 +1,19 @@
 -- From a step of the definition to what the arms owe, and back.
-use Rattle.std.specs.Prelude.{slice_set}
-use Rattle.std.proofs.Common.{◌≡◌, ℕ, zero, suc, ℤ, ◌<◌, Bool, true, false, List, [], ◌∷◌, length, map, arith, Option, Some, None, slice_get, refl, ap, sym, cond, get_or, All, ◌∙◌}
-use Rattle.std.proofs.lemmas.Option.{slice_get_within, slice_get_read, get_or_from_slice_get}
+use Rattle.std.proofs.Common.{◌≡◌, ℕ, zero, suc, ℤ, ◌<◌, Bool, true, false, List, [], ◌∷◌, length, map, arith, Option, Some, None, slice_get, refl, ap, sym, cond, All, ◌∙◌}
+use Rattle.std.proofs.lemmas.Option.{slice_get_within, get_or_from_slice_get}
 use Rattle.std.proofs.lemmas.Bool.{false≢true}
 use Rattle.xk_types.specs.declared.instr.Instr.{Instr}
 use Rattle.xk_types.specs.declared.instr.Instr.TheVariants as instr
 use Rattle.xk_types.specs.declared.names.Value.{Value}
 use Rattle.xk_types.specs.declared.names.Value.TheVariants as value
 use Rattle.xk_types.specs.declared.names.Event.{Event}
-use Rattle.xk_types.specs.declared.names.Event.TheVariants as event
 use Rattle.xk_types.specs.declared.unit.ParamKind.{ParamKind}
 use Rattle.xk_types.specs.declared.unit.ParamKind.TheVariants as param
 use Rattle.xk_types.specs.Code.{UnitValue, ModuleValue, is_body}
 use Rattle.xk_types.specs.World.{Activity, Clock, World, standing_of}
-use Rattle.xk_types.specs.Step.{Outcome, Wrong, ClockUse, OutOfRange, carried_out, done, number_in, clock_in, registered_on, put_in, arguments_in, spawned, spawning, none, onward, with_slots, is_registered, slot_at, cell_in, stored, writing}
+use Rattle.xk_types.specs.Step.{Outcome, Wrong, ClockUse, OutOfRange, carried_out, number_in, clock_in, registered_on, arguments_in, spawned, spawning, is_registered, slot_at, cell_in, stored}
 use Rattle.xk_types.specs.Schedule.{is_step}
-use Rattle.xk_core.specs.Arm.{value_at, IsRoomy, carried, carried_by}
+use Rattle.xk_core.specs.Arm.{value_at, carried, carried_by}
 
 same_some : {X : Type 0} (x y : X) → Some x ≡ Some y → x ≡ y
 same_some x y e = cc
@@ -89,22 +87,9 @@ within_by m w a i (Some act) e h = slice_get_within w.activities a act e
 pub carried_within : (m : ModuleValue) (w : World) (a : ℕ) (i : Instr) → is_step (carried m w a i) ≡ true → a < length w.activities
 carried_within m w a i h = within_by m w a i (slice_get w.activities a) refl h
 
--- the activity that is read at a place is the one there
-pub read_at : (w : World) (a : ℕ) (act : Activity) → a < length w.activities → act ≡ get_or w.activities a act → slice_get w.activities a ≡ Some act
-read_at w a act lt e = slice_get_read w.activities (length w.activities) a act refl lt e
-
 -- the step of the activity there
 pub carried_there : (m : ModuleValue) (w : World) (a : ℕ) (i : Instr) (act : Activity) → slice_get w.activities a ≡ Some act → carried m w a i ≡ carried_out m w a act i
 carried_there m w a i act e = ap (carried_by m w a i) e
-
--- the activity that is read takes the step
-pub actor_there : (m : ModuleValue) (w : World) (a : ℕ) (i : Instr) (act : Activity) → is_step (carried m w a i) ≡ true → act ≡ get_or w.activities a act
-    → slice_get w.activities a ≡ Some act
-actor_there m w a i act h is = read_at w a act (carried_within m w a i h) is
-
--- each clock knows where an activity stands that exists
-pub stands_there : (m : ModuleValue) (w : World) (a : ℕ) → IsRoomy m w a → a < length w.activities → All (λ c. a < length c.standings) w.clocks
-stands_there m w a room lt k d within = rw (room.standings k d within) lt
 
 -- ---- starting an activity
 
@@ -136,44 +121,11 @@ spawn_by m w a act unit args None e here h =
     cc
 spawn_by m w a act unit args (Some u) e here h = (u, e)
 
--- the unit that is started exists
-pub spawn_unit : (m : ModuleValue) (w : World) (a : ℕ) (act : Activity) (unit : ℕ) (args : List ℕ) → act ≡ get_or w.activities a act
-    → is_step (carried m w a (instr.Spawn unit args)) ≡ true → (u : UnitValue) × (slice_get m.units unit ≡ Some u)
-spawn_unit m w a act unit args is h =
-    spawn_by m w a act unit args (slice_get m.units unit) refl (read_at w a act (carried_within m w a (instr.Spawn unit args) h) is) h
-
-pub spawn_there : (m : ModuleValue) (w : World) (a : ℕ) (act : Activity) (unit : ℕ) (args : List ℕ) (u : UnitValue) → u ≡ get_or m.units unit u
-    → act ≡ get_or w.activities a act → is_step (carried m w a (instr.Spawn unit args)) ≡ true → IsSpawn m w a act unit args u
-spawn_there m w a act unit args u at is h =
-    let v = spawn_unit m w a act unit args is h in
-    spawning_there m w a act unit args u (slice_get_read m.units (length m.units) unit u refl (slice_get_within m.units unit v.0 v.1) at)
-    (read_at w a act (carried_within m w a (instr.Spawn unit args) h) is) h
-
 -- ---- shared numbers
-
--- what a step that reads one has: it is there, and so is the slot that is written
-pub record IsGet (m : ModuleValue) (w : World) (a : ℕ) (act : Activity) (d s : ℕ) : Type 0 where
-  pub n : ℤ
-  pub cell : slice_get w.cells s ≡ Some n
-  pub slot : d < length act.frame.slots
-  pub goes : carried m w a (instr.Get d s) ≡ done w a (onward (with_slots act (slice_set act.frame.slots d (value.Number n)))) none event.Got
 
 pub cell_there : (o : Option ℤ) (go : ℤ → Outcome) → is_step (cell_in o go) ≡ true → (n : ℤ) × (o ≡ Some n) × (cell_in o go ≡ go n) × (is_step (go n) ≡ true)
 cell_there None go h = absurd (false≢true h)
 cell_there (Some n) go h = (n, refl, refl, h)
-
-pub get_there : (m : ModuleValue) (w : World) (a : ℕ) (act : Activity) (d s : ℕ) → act ≡ get_or w.activities a act
-    → is_step (carried m w a (instr.Get d s)) ≡ true → IsGet m w a act d s
-get_there m w a act d s is h =
-    let e = carried_there m w a (instr.Get d s) act (read_at w a act (carried_within m w a (instr.Get d s) h) is) in
-    let c = cell_there (slice_get w.cells s) (λ n. writing act d (value.Number n) (λ next. done w a next none event.Got)) (ap is_step (sym e) ∙ h) in
-    let p = put_there (slot_at act d) act d (value.Number c.0) (λ next. done w a next none event.Got) c.3 in
-    record { n = c.0; cell = c.1; slot = slice_get_within act.frame.slots d p.0 p.1; goes = e ∙ c.2 ∙ p.2 }
-  where
-    put_there : (o : Option Value) (x : Activity) (k : ℕ) (v : Value) (go : Activity → Outcome) → is_step (put_in o x k v go) ≡ true
-        → (old : Value) × (o ≡ Some old) × (put_in o x k v go ≡ go (onward (with_slots x (slice_set x.frame.slots k v))))
-    put_there None x k v go q = absurd (false≢true q)
-    put_there (Some old) x k v go q = (old, refl, refl)
 
 -- what one has that writes one: it is there, and a number stands in the slot that is read
 pub record IsStore (m : ModuleValue) (w : World) (a : ℕ) (act : Activity) (i : Instr) (s x : ℕ) (new : ℤ → ℤ → ℤ) (e : Event) : Type 0 where
@@ -182,21 +134,3 @@ pub record IsStore (m : ModuleValue) (w : World) (a : ℕ) (act : Activity) (i :
   pub old : ℤ
   pub cell : slice_get w.cells s ≡ Some old
   pub goes : carried m w a i ≡ stored w a act s (new old n) e
-
-pub store_there : (m : ModuleValue) (w : World) (a : ℕ) (act : Activity) (i : Instr) (s x : ℕ) (new : ℤ → ℤ → ℤ) (e : Event)
-    → carried_out m w a act i ≡ number_in (slot_at act x) (λ n. cell_in (slice_get w.cells s) (λ old. stored w a act s (new old n) e))
-    → act ≡ get_or w.activities a act → is_step (carried m w a i) ≡ true → IsStore m w a act i s x new e
-store_there m w a act i s x new e row is h =
-    let t = carried_there m w a i act (read_at w a act (carried_within m w a i h) is) ∙ row in
-    let n = number_at (slot_at act x) (λ k. cell_in (slice_get w.cells s) (λ old. stored w a act s (new old k) e)) (ap is_step (sym t) ∙ h) in
-    let c = cell_there (slice_get w.cells s) (λ old. stored w a act s (new old n.0) e) n.3 in
-    record { n = n.0; number = n.1; old = c.0; cell = c.1; goes = t ∙ n.2 ∙ c.2 }
-  where
-    number_at : (o : Option Value) (go : ℤ → Outcome) → is_step (number_in o go) ≡ true → (n : ℤ) × (o ≡ Some (value.Number n)) × (number_in o go ≡ go n) × (is_step (go n) ≡ true)
-    number_at None go q = absurd (false≢true q)
-    number_at (Some value.Unset) go q = absurd (false≢true q)
-    number_at (Some (value.Number n)) go q = (n, refl, refl, q)
-    number_at (Some (value.Clock c)) go q = absurd (false≢true q)
-
-pub same_number : (n k : ℤ) → value.Number n ≡ value.Number k → n ≡ k
-same_number n k e = cc

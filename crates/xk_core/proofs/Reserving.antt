@@ -1,16 +1,11 @@
 -- The room that a state has reserved stays enough, and there is some left where a clock is made.
-use Rattle.std.proofs.Common.{◌≡◌, ℕ, zero, suc, ℤ, ◌+◌, ◌<◌, ◌≤◌, Bool, true, false, cond, List, [], ◌∷◌, ◌++◌, length, Option, Some, None, inl, inr, ◌⊎◌, refl, sym, ap, ◌∙◌, subst, arith, slice_get, slice_set, slice_index_or, length-set}
+use Rattle.std.proofs.Common.{◌≡◌, ℕ, zero, suc, ◌<◌, ◌≤◌, List, [], ◌∷◌, ◌++◌, length, Some, inl, inr, ◌⊎◌, refl, sym, ap, ◌∙◌, subst, arith, slice_get, slice_set, slice_index_or, length-set}
 use Rattle.std.proofs.lemmas.Bool.{cases_eq}
 use Rattle.std.proofs.lemmas.Option.{none-some, same_Some, slice_get_within, get_or_from_slice_get}
 use Rattle.std.proofs.lemmas.List.{length_push}
-use Rattle.xk_types.specs.declared.instr.Instr.{Instr}
 use Rattle.xk_types.specs.declared.instr.Instr.TheVariants as instr
-use Rattle.xk_types.specs.declared.names.Value.{Value}
-use Rattle.xk_types.specs.declared.names.Value.TheVariants as value
-use Rattle.xk_types.specs.declared.unit.ParamKind.{ParamKind}
-use Rattle.xk_types.specs.declared.unit.ParamKind.TheVariants as param
-use Rattle.xk_types.specs.Code.{ModuleValue, UnitValue, is_method}
-use Rattle.xk_types.specs.World.{Frame, Activity, World, base_of, base_unit, instruction_at, main_of}
+use Rattle.xk_types.specs.Code.{ModuleValue}
+use Rattle.xk_types.specs.World.{Activity, World, base_of, base_unit, main_of}
 use Rattle.xk_types.specs.Bound.{clocks_bound, stack_of}
 use Rattle.xk_types.proofs.Lists.{get_inside, get-set_same, get-set_other, get_push, get-push_other}
 use Rattle.xk_laws.proofs.Scopes.Invariant.{based}
@@ -20,13 +15,13 @@ use Rattle.xk_finishes.specs.Tree.{NodeValue}
 use Rattle.xk_standings.specs.Told.{Rooms, HasRoomToMake}
 use Rattle.xk_activity.specs.declared.frames.Next.{Next}
 use Rattle.xk_activity.specs.declared.frames.Next.TheVariants as next
-use Rattle.xk_activity.specs.Local as frames
 use Rattle.xk_activity.specs.Joined.{frames_in}
 use Rattle.xk_activity.specs.Activities.{ActivitiesValue, act_at, with_act_at, nobody, Takes, Runs}
 use Rattle.xk_core.specs.Core.{next_instruction}
 use Rattle.xk_core.specs.Reserved.{AreReserved}
 use Rattle.xk_core.specs.Told.{with_node, with_finishes}
 use Rattle.xk_core.proofs.Finishing.{IsHeld, runs}
+use Rattle.xk_core.proofs.Stretch.{StaysBy, local_stays, ran_stays}
 
 -- ---- what is reserved
 
@@ -105,79 +100,11 @@ pub kept_on : (v new : ActivitiesValue) (n : ℕ) (r : Rooms) (a : ℕ) (y : Act
     → y.frame.unit ≡ (act_at v.list a).frame.unit → y.callers ≡ (act_at v.list a).callers → (n ≡ length new.list) × AreReserved new.module_run new.list r
 kept_on v new n r a y h is unit callers = kept_by v new n n r r a y h is refl refl (onward_base (act_at v.list a) y unit callers)
 
--- what a local step leaves began with the same unit
-abbrev Keeps : ℕ → frames.Outcome → Type 0
-Keeps b frames.Beyond = Unit {0}
-Keeps b frames.Wrong = Unit {0}
-Keeps b (frames.Stepped fs) = base_of fs.frame fs.callers ≡ b
-
-number_keeps : (b : ℕ) (o : Option Value) (go : ℤ → frames.Outcome) → ((n : ℤ) → Keeps b (go n)) → Keeps b (frames.number_in o go)
-number_keeps b None go h = tt
-number_keeps b (Some value.Unset) go h = tt
-number_keeps b (Some (value.Number n)) go h = h n
-number_keeps b (Some (value.Clock c)) go h = tt
-
-clock_keeps : (b : ℕ) (o : Option Value) (go : ℕ → frames.Outcome) → ((c : ℕ) → Keeps b (go c)) → Keeps b (frames.clock_in o go)
-clock_keeps b None go h = tt
-clock_keeps b (Some value.Unset) go h = tt
-clock_keeps b (Some (value.Number n)) go h = tt
-clock_keeps b (Some (value.Clock c)) go h = h c
-
-arguments_keep : (b : ℕ) (slots : List Value) (ps : List ParamKind) (xs : List ℕ) (go : List Value → frames.Outcome) → ((vs : List Value) → Keeps b (go vs))
-    → Keeps b (frames.arguments_in slots ps xs go)
-arguments_keep b slots [] [] go h = h []
-arguments_keep b slots [] (x ∷ xs) go h = tt
-arguments_keep b slots (p ∷ ps) [] go h = tt
-arguments_keep b slots (param.Number ∷ ps) (x ∷ xs) go h = number_keeps b (slice_get slots x) _
-    (λ n. arguments_keep b slots ps xs (λ values. go (value.Number n ∷ values)) (λ vs. h (value.Number n ∷ vs)))
-arguments_keep b slots (param.Clock ∷ ps) (x ∷ xs) go h = clock_keeps b (slice_get slots x) _
-    (λ c. arguments_keep b slots ps xs (λ values. go (value.Clock c ∷ values)) (λ vs. h (value.Clock c ∷ vs)))
-
-module _ (fs : frames.FramesValue) where
-  abbrev base : ℕ
-  base = base_of fs.frame fs.callers
-
-  call_keeps : (t : ℕ) (args : List ℕ) (o : Option UnitValue) → Keeps base (frames.calling fs t args o)
-  call_keeps t args None = tt
-  call_keeps t args (Some u) = by (is_method u.kind)
-    where
-      by : (c : Bool) → Keeps base (cond c (frames.arguments_in fs.frame.slots u.params args (λ values. frames.Stepped (frames.called fs t values))) frames.Wrong)
-      by true = arguments_keep base fs.frame.slots u.params args (λ values. frames.Stepped (frames.called fs t values)) (λ vs. refl)
-      by false = tt
-
-  return_keeps : (gs : List Frame) → Keeps (base_of fs.frame gs) (frames.returning fs gs)
-  return_keeps [] = tt
-  return_keeps (g ∷ gs) = based g (record g { place = g.place + 1 }) gs refl
-
-  frame_keeps : (t : frames.Turn) → Keeps base (frames.in_frame fs t)
-  frame_keeps frames.Beyond = tt
-  frame_keeps frames.Wrong = tt
-  frame_keeps (frames.Stepped s) = based fs.frame (frames.frame_on fs.frame.unit s) fs.callers refl
-
-  carried_keeps : (i : Instr) → Keeps base (frames.carried_on fs i)
-  carried_keeps (instr.Call t args) = call_keeps t args (slice_get fs.module_run.units t)
-  carried_keeps instr.Ret = return_keeps fs.callers
-  carried_keeps i = frame_keeps (frames.carried (frames.code_of fs.module_run fs.frame.unit) (frames.spot_of fs.frame) i)
-
-  local_keeps : (o : Option Instr) → Keeps base (frames.local_at fs o)
-  local_keeps None = tt
-  local_keeps (Some i) = carried_keeps i
-
--- nor do any number of them
-ran_keeps : (fs : frames.FramesValue) (n : ℕ) → Keeps (base fs) (frames.ran frames.local fs n)
-ran_keeps fs zero = refl
-ran_keeps fs (suc n) = by (frames.ran frames.local fs n) (ran_keeps fs n)
-  where
-    by : (o : frames.Outcome) → Keeps (base fs) o → Keeps (base fs) (frames.then_step frames.local o)
-    by frames.Beyond h = tt
-    by frames.Wrong h = tt
-    by (frames.Stepped gs) h = subst (λ b. Keeps b (frames.local gs)) h (local_keeps gs (instruction_at gs.module_run gs.frame))
-
 pub runs_base : (m : ModuleValue) (x y : Activity) (max n : ℕ) → Runs m x max n y → base_unit y ≡ base_unit x
-runs_base m x y max n r = ap base_unit r.is ∙ subst (Keeps (base_unit x)) r.ran (ran_keeps (frames_in m x) n)
+runs_base m x y max n r = ap base_unit r.is ∙ (subst (StaysBy (frames_in m x)) r.ran (ran_stays (frames_in m x) n)).base
 
 pub takes_base : (m : ModuleValue) (x y : Activity) (n : Next) → Takes m x n y → base_unit y ≡ base_unit x
-takes_base m x y next.Stepped t = ap base_unit t.2 ∙ subst (Keeps (base_unit x)) t.1 (local_keeps (frames_in m x) (instruction_at m x.frame))
+takes_base m x y next.Stepped t = ap base_unit t.2 ∙ (subst (StaysBy (frames_in m x)) t.1 (local_stays (frames_in m x))).base
 takes_base m x y next.Visible t = ap base_unit t.1
 
 -- ---- where a clock is made

@@ -32,7 +32,7 @@ pub record Stays (fs gs : FramesValue) : Type 0 where
   pub module_run : gs.module_run ≡ fs.module_run
   pub base : base_of gs.frame gs.callers ≡ base_of fs.frame fs.callers
 
-abbrev StaysBy : FramesValue → Outcome → Type 0
+abbrev pub StaysBy : FramesValue → Outcome → Type 0
 StaysBy fs Beyond = Unit {0}
 StaysBy fs Wrong = Unit {0}
 StaysBy fs (Stepped gs) = Stays fs gs
@@ -68,12 +68,28 @@ carried_stays fs (instr.Call t args) = calling_stays fs t args (slice_get fs.mod
 carried_stays fs instr.Ret = returning_stays fs fs.callers refl
 carried_stays fs i = frame_stays fs (carried (code_of fs.module_run fs.frame.unit) (spot_of fs.frame) i)
 
-local_stays : (fs : FramesValue) → StaysBy fs (local fs)
+pub local_stays : (fs : FramesValue) → StaysBy fs (local fs)
 local_stays fs = go (instruction_at fs.module_run fs.frame)
   where
     go : (o : Option Instr) → StaysBy fs (local_at fs o)
     go None = tt
     go (Some i) = carried_stays fs i
+
+-- nor does one more
+then_stays : (fs gs : FramesValue) (o : Outcome) → Stays fs gs → StaysBy gs o → StaysBy fs o
+then_stays fs gs Beyond s k = tt
+then_stays fs gs Wrong s k = tt
+then_stays fs gs (Stepped hs) s k = record { module_run = k.module_run ∙ s.module_run; base = k.base ∙ s.base }
+
+-- nor do any number of them
+pub ran_stays : (fs : FramesValue) (n : ℕ) → StaysBy fs (ran local fs n)
+ran_stays fs zero = record { module_run = refl; base = refl }
+ran_stays fs (suc n) = by (ran local fs n) (ran_stays fs n)
+  where
+    by : (o : Outcome) → StaysBy fs o → StaysBy fs (then_step local o)
+    by Beyond s = tt
+    by Wrong s = tt
+    by (Stepped gs) s = then_stays fs gs (local gs) s (local_stays gs)
 
 -- ---- clocks
 
@@ -159,13 +175,12 @@ stretch m limits ok w reached a x there running = go
         let is : local (frames_in m y) ≡ Stepped fs =
         subst (λ k. local (record { module_run = k; frame = gs.frame; callers = gs.callers }) ≡ Stepped fs) s.stays.module_run l in
         let e : step m v a ≡ world.Stepped (after v a y fs 1) event.Local = local_step m limits ok v s.reached a y here running fs is in
-        let k : Stays gs fs = subst (λ o. StaysBy gs o) l (local_stays gs) in
         let u : after v a y fs 1 ≡ after w a x fs (n + 1) =
         ap (λ l. record w { activities = l; steps = w.steps + n + 1 }) (set-set w.activities a y (with_frames x fs))
         ∙ ap (λ j. record w { activities = slice_set w.activities a (with_frames x fs); steps = j }) (omega arith) in
         let f : step m v a ≡ world.Stepped (after w a x fs (n + 1)) event.Local = e ∙ ap (λ z. world.Stepped z event.Local) u in
         record {
-          stays = record { module_run = k.module_run ∙ s.stays.module_run; base = k.base ∙ s.stays.base };
+          stays = subst (λ o. StaysBy (frames_in m x) o) l (then_stays (frames_in m x) gs (local gs) s.stays (local_stays gs));
           goes = ap (λ l. run m l w) (sym (replicate_more n a)) ∙ run_more m (replicate n a) w v (after w a x fs (n + 1)) a event.Local s.goes f;
           shows = ap (λ l. events m l w) (sym (replicate_more n a)) ∙ events_more m (replicate n a) w v (after w a x fs (n + 1)) a event.Local s.goes f
               ∙ ap (λ l. l ++ (a, event.Local) ∷ []) s.shows ∙ replicate_more n (a, event.Local);
