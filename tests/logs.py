@@ -5,15 +5,17 @@
     python3 tests/logs.py [CASES] [SEED] [--program PATH] [--jobs N]
 
 2,000 cases, seed 1 and 2 jobs where nothing else is said. A case is a program, as a source text or a module, and the log of a run by an order
-or by chance, which may be changed: an entry, a line, or a byte. The program runs it with `--log` in that order, replays the log and charts
-it. The telling is held against itself, too: what is written is read back, no beginning of a text is a text, and entries that are joined give
-the same run. The rows are asked of the program twice: as they are, and of the modules that their programs are compiled to.
+or by chance, which may be changed: an entry, a line, or a byte. Five cases in a row have the same program, which is run with `--log` in some
+order; the program replays each log and charts it. The telling is held against itself, too: what is written is read back, no beginning of a
+text is a text, and entries that are joined give the same run. The rows are asked of the program twice: as they are, and of the modules that
+their programs are compiled to.
 """
 
 from __future__ import annotations
 
 import argparse
 import concurrent.futures
+import functools
 import pathlib
 import random
 import re
@@ -37,6 +39,7 @@ IN_STEP = TESTS / "rows/in-step.x10"
 NEW_LINE = b"\n"
 MOST_STEPS = 600
 CHUNK = 100
+LOGS_OF_A_PROGRAM = 5
 SHOWN = 5
 SECONDS = 60
 
@@ -54,6 +57,7 @@ class Text:
     data: bytes
     is_module: bool = False
 
+    @functools.lru_cache(maxsize=4)
     def judged(self) -> Accepted | Refused:
         return telling.judge(self.data) if self.is_module else telling_source.judge(self.data)
 
@@ -282,21 +286,28 @@ def log_of_case(rng: random.Random, module: telling.Module) -> bytes:
     return text if way < 0.6 else rng.choice(changes)()
 
 
-def differences(rng: random.Random, program: Program | None) -> Iterator[str]:
-    """What differs in a case."""
+def differences(rng: random.Random, program: Program | None, cases: int) -> Iterator[str]:
+    """What differs in a run of a program, and in so many cases of it."""
     text, judged = accepted_text(rng)
-    order, given = rng.choice(list(Order)), log_of_case(rng, judged.module)
-    told = Told()
-    right = told.run(text, order)
+    order = rng.choice(list(Order))
+    right = Told().run(text, order)
     yield from against_itself(rng, judged.module, right[1], order)
-    if program is None:
-        return
-    asked = [(f"run --order {order.value} --log", right, program.run(text, order))]
+    if program and (got := program.run(text, order)) != right:
+        yield shown(text, f"run --order {order.value} --log", right, got)
+    for _ in range(cases):
+        yield from log_differences(text, log_of_case(rng, judged.module), program)
+
+
+def log_differences(text: Text, given: bytes, program: Program | None) -> Iterator[str]:
+    """What the program says otherwise of a log."""
     for command in ("replay", "chart"):
-        asked.append((f"{command} {given!r}", told.answer(text, given, command), program.answer(text, given, command)))
-    for question, wanted_answer, got in asked:
-        if wanted_answer != got:
-            yield f"{text}\n    {question}\n    telling: {wanted_answer}\n    program: {got}"
+        right = Told().answer(text, given, command)
+        if program and (got := program.answer(text, given, command)) != right:
+            yield shown(text, f"{command} {given!r}", right, got)
+
+
+def shown(text: Text, question: str, right: object, got: object) -> str:
+    return f"{text}\n    {question}\n    telling: {right}\n    program: {got}"
 
 
 def against_itself(rng: random.Random, module: telling.Module, text: bytes, order: Order) -> Iterator[str]:
@@ -330,7 +341,12 @@ class Job:
     def of_cases(self, cases: range) -> list[tuple[int, str]]:
         with tempfile.TemporaryDirectory() as folder:
             program = self.program and Program(self.program, folder)
-            return [(case, what) for case in cases for what in differences(random.Random(f"{self.seed} {case}"), program)]
+            firsts = range(cases.start, cases.stop, LOGS_OF_A_PROGRAM)
+            return [
+                (first, what)
+                for first in firsts
+                for what in differences(random.Random(f"{self.seed} {first}"), program, min(LOGS_OF_A_PROGRAM, cases.stop - first))
+            ]
 
 
 def words() -> argparse.Namespace:

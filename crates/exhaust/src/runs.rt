@@ -32,13 +32,17 @@ fn opened<'m>(alloc: Global, verified: &'m Verified) -> Result<Core<'m>, Wrong>
     }
 }
 
-/// One step of an activity that can take it, at the second try where memory was refused.
+/// One step of an activity that can take it, at the second try where memory was refused. No step asks for memory where a program starts
+/// nobody.
 fn stepped(core: &mut Core, act: Act) -> Result<(), Wrong> {
     if !core.enabled(act) {
         return Err(Wrong("a step isn't enabled"));
     }
     if let Ok(_) = core.step(act) {
         return Ok(());
+    }
+    if core.module().activities() == 1 {
+        return Err(Wrong("a step asks for memory though nobody is started"));
     }
     match core.step(act) {
         Ok(_) => Ok(()),
@@ -143,13 +147,17 @@ fn by_turns(alloc: Global, verified: &Verified) -> Result<(), Wrong> {
     Err(Wrong("a run by turns is longer than its bound"))
 }
 
-/// One step of an activity that can take it, at the second try where memory was refused.
+/// One step of an activity that can take it, at the second try where memory was refused. No step asks for memory where a program starts
+/// nobody.
 fn driver_stepped(driver: &mut Driver, act: Act) -> Result<(), Wrong> {
     if !driver.core().enabled(act) {
         return Err(Wrong("a driven step isn't enabled"));
     }
     if driver.step(act).is_ok() {
         return Ok(());
+    }
+    if driver.core().module().activities() == 1 {
+        return Err(Wrong("a driven step asks for memory though nobody is started"));
     }
     match driver.step(act) {
         Ok(_) => Ok(()),
