@@ -9,3 +9,4 @@ pub mod Turns
 pub mod Following
 pub mod ChoiceRows
 pub mod Stretches
+pub mod Going

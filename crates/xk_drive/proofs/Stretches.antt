@@ -14,12 +14,14 @@ use Rattle.xk_types.proofs.Lists.{Each}
 use Rattle.xk_laws.proofs.Invariant.{IsClockSound}
 use Rattle.xk_laws.proofs.Reached.{same_through, first_step, reached_sound}
 use Rattle.xk_laws.proofs.Counts.{step_counts}
-use Rattle.xk_core.specs.Core.{IsCore, is_quiet}
+use Rattle.xk_core.specs.Core.{CoreValue, IsCore, is_quiet}
+use Rattle.xk_core.specs.Stretch.{RunsTo, AreLocal, IsUnseen}
 use Rattle.xk_core.proofs.Cores.{core_stepped}
 use Rattle.xk_members.specs.Members.{numbers_from, with_member}
 use Rattle.xk_members.proofs.Rising.{member_changed}
 use Rattle.xk_drive.specs.Choosing.{enabled_in, Names, Follows, IsSteady, goes_on, state_after, state_on}
 use Rattle.xk_drive.specs.Listing.{IsAmong}
+use Rattle.xk_drive.specs.Stretches.{IsStretch}
 use Rattle.xk_drive.proofs.UntouchedForms.{step_kind}
 use Rattle.xk_drive.proofs.Untouched.{untouched, keeps_width, steps_within}
 use Rattle.xk_drive.proofs.Listing.{among_after}
@@ -98,10 +100,25 @@ listed_still m w v a core h can =
     ∙ ap (λ b. with_member a b (enabled_in m w)) (can ∙ sym (ap is_step h))
     ∙ sym (member_changed (is_enabled m w) (is_enabled m w) (length w.activities) a (steps_within m w v a event.Local h) (λ k lt ne. refl))
 
--- ---- stretches
+-- who can take a step is there
+pub enabled_within : (m : ModuleValue) (w : World) (a : ℕ) → is_enabled m w a ≡ true → a < length w.activities
+enabled_within m w a h = by (step m w a) refl h
+  where
+    by : (o : Outcome) → step m w a ≡ o → is_step o ≡ true → a < length w.activities
+    by Blocked e g = cc
+    by (Wrong c) e g = cc
+    by (Stepped v f) e g = steps_within m w v a f e
+
+-- and in the list
+pub listed_there : (m : ModuleValue) (w : World) (a : ℕ) → is_enabled m w a ≡ true → with_member a true (enabled_in m w) ≡ enabled_in m w
+listed_there m w a can =
+    ap (λ b. with_member a b (enabled_in m w)) (sym can)
+    ∙ sym (member_changed (is_enabled m w) (is_enabled m w) (length w.activities) a (enabled_within m w a can) (λ k lt ne. refl))
+
+-- ---- several steps
 
 -- n steps of activity a lead from w to v, and nobody else can see them
-pub record IsStretch (m : ModuleValue) (a n : ℕ) (w v : World) : Type 0 where
+pub record GoesAlone (m : ModuleValue) (a n : ℕ) (w v : World) : Type 0 where
   pub leads : run m (replicate n a) w ≡ Through v
   pub local : events m (replicate n a) w ≡ replicate n (a, event.Local)
 
@@ -109,7 +126,7 @@ pub record IsStretch (m : ModuleValue) (a n : ℕ) (w v : World) : Type 0 where
 record IsBegun (m : ModuleValue) (a n : ℕ) (w v : World) : Type 0 where
   next : World
   stepped : step m w a ≡ Stepped next event.Local
-  rest : IsStretch m a n next v
+  rest : GoesAlone m a n next v
 
 event_first : List (ℕ × Event) → Event
 event_first [] = event.Local
@@ -119,11 +136,11 @@ events_rest : List (ℕ × Event) → List (ℕ × Event)
 events_rest [] = []
 events_rest (p ∷ ps) = ps
 
-begun : (m : ModuleValue) (a n : ℕ) (w v : World) → IsStretch m a (suc n) w v → IsBegun m a n w v
+begun : (m : ModuleValue) (a n : ℕ) (w v : World) → GoesAlone m a (suc n) w v → IsBegun m a n w v
 begun m a n w v h =
     let t = first_step w v (step m w a) (run m (replicate n a)) h.leads in
     let seen : (a, t.1) ∷ events m (replicate n a) t.0 ≡ (a, event.Local) ∷ replicate n (a, event.Local) =
-        sym (ap (λ o. events_on a o (events m (replicate n a))) t.2) ∙ h.local in
+    sym (ap (λ o. events_on a o (events m (replicate n a))) t.2) ∙ h.local in
     record {
       next = t.0;
       stepped = t.2 ∙ ap (λ e. Stepped t.0 e) (ap event_first seen);
@@ -131,56 +148,85 @@ begun m a n w v h =
     }
 
 -- who takes one more step can
-able : (m : ModuleValue) (a n : ℕ) (w v : World) → IsStretch m a (suc n) w v → is_enabled m w a ≡ true
+able : (m : ModuleValue) (a n : ℕ) (w v : World) → GoesAlone m a (suc n) w v → is_enabled m w a ≡ true
 able m a n w v h = (let b = begun m a n w v h in ap is_step b.stepped)
 
 -- a core is one behind it
-pub stretch_core : (m : ModuleValue) (a n : ℕ) (w v : World) → IsCore m w → IsStretch m a n w v → IsCore m v
-stretch_core m a zero w v core h = subst (IsCore m) (same_through w v h.leads) core
-stretch_core m a (suc n) w v core h =
+pub alone_core : (m : ModuleValue) (a n : ℕ) (w v : World) → IsCore m w → GoesAlone m a n w v → IsCore m v
+alone_core m a zero w v core h = subst (IsCore m) (same_through w v h.leads) core
+alone_core m a (suc n) w v core h =
     let b = begun m a n w v h in
-    stretch_core m a n b.next v (core_stepped m w b.next a event.Local core b.stepped) b.rest
+    alone_core m a n b.next v (core_stepped m w b.next a event.Local core b.stepped) b.rest
 
 -- of those who can take a step only this one may be gone behind it
-pub stretch_listed : (m : ModuleValue) (a n : ℕ) (w v : World) → IsCore m w → IsStretch m a (suc n) w v → enabled_in m v ≡ with_member a (is_enabled m v a) (enabled_in m w)
-stretch_listed m a zero w v core h =
+pub alone_listed : (m : ModuleValue) (a n : ℕ) (w v : World) → IsCore m w → is_enabled m w a ≡ true → GoesAlone m a n w v
+    → enabled_in m v ≡ with_member a (is_enabled m v a) (enabled_in m w)
+alone_listed m a zero w v core can h =
+    subst (λ z. enabled_in m z ≡ with_member a (is_enabled m z a) (enabled_in m w)) (same_through w v h.leads)
+    (sym (ap (λ b. with_member a b (enabled_in m w)) can ∙ listed_there m w a can))
+alone_listed m a (suc zero) w v core can h =
     let b = begun m a zero w v h in
     listed_local m w v a core (b.stepped ∙ ap (λ x. Stepped x event.Local) (same_through b.next v b.rest.leads))
-stretch_listed m a (suc n) w v core h =
+alone_listed m a (suc (suc n)) w v core can h =
     let b = begun m a (suc n) w v h in
-    stretch_listed m a n b.next v (core_stepped m w b.next a event.Local core b.stepped) b.rest
-    ∙ ap (with_member a (is_enabled m v a)) (listed_still m w b.next a core b.stepped (able m a n b.next v b.rest))
+    let again = able m a n b.next v b.rest in
+    alone_listed m a (suc n) b.next v (core_stepped m w b.next a event.Local core b.stepped) again b.rest
+    ∙ ap (with_member a (is_enabled m v a)) (listed_still m w b.next a core b.stepped again)
 
 -- who waits at an `advance` is still among these
-pub stretch_among : (m : ModuleValue) (a n : ℕ) (w v : World) (list : List ℕ) → IsStretch m a n w v → IsAmong w list → IsAmong v list
-stretch_among m a zero w v list h among = subst (λ z. IsAmong z list) (same_through w v h.leads) among
-stretch_among m a (suc n) w v list h among =
+pub alone_among : (m : ModuleValue) (a n : ℕ) (w v : World) (list : List ℕ) → GoesAlone m a n w v → IsAmong w list → IsAmong v list
+alone_among m a zero w v list h among = subst (λ z. IsAmong z list) (same_through w v h.leads) among
+alone_among m a (suc n) w v list h among =
     let b = begun m a n w v h in
-    stretch_among m a n b.next v list b.rest (among_after m w b.next a event.Local list b.stepped among)
+    alone_among m a n b.next v list b.rest (among_after m w b.next a event.Local list b.stepped among)
 
 -- ---- choosers
 
--- a chooser whose state stays names who takes the stretch at each of its steps
-pub stretch_follows : {S : Type 0} (answer : S → List ℕ → ℕ) (after : S → List ℕ → S) (m : ModuleValue) (s : S) (a n : ℕ) (w v : World) → IsSteady after s → IsCore m w
-    → Names answer m s w a → IsStretch m a n w v → Follows answer after m s w (replicate n a)
-stretch_follows answer after m s a zero w v steady core named h = tt
-stretch_follows answer after m s a (suc zero) w v steady core named h =
+-- a chooser whose state stays names who takes them at each of these steps
+pub alone_follows : {S : Type 0} (answer : S → List ℕ → ℕ) (after : S → List ℕ → S) (m : ModuleValue) (s : S) (a n : ℕ) (w v : World) → IsSteady after s → IsCore m w
+    → Names answer m s w a → GoesAlone m a n w v → Follows answer after m s w (replicate n a)
+alone_follows answer after m s a zero w v steady core named h = tt
+alone_follows answer after m s a (suc zero) w v steady core named h =
     let b = begun m a zero w v h in
     (named, subst (λ o. goes_on o (λ z. Unit {0})) (sym b.stepped) tt)
-stretch_follows answer after m s a (suc (suc n)) w v steady core named h =
+alone_follows answer after m s a (suc (suc n)) w v steady core named h =
     let b = begun m a (suc n) w v h in
     let still = listed_still m w b.next a core b.stepped (able m a n b.next v b.rest) in
     let again : Names answer m s b.next a = subst (λ (l : List ℕ). slice_get l (answer s l % length l) ≡ Some a) (sym still) named in
-    let rest = stretch_follows answer after m s a (suc n) b.next v steady (core_stepped m w b.next a event.Local core b.stepped) again b.rest in
-    (named, subst (λ o. goes_on o (λ z. Follows answer after m (after s (enabled_in m w)) z (replicate (suc n) a))) (sym b.stepped)
-    (subst (λ t. Follows answer after m t b.next (replicate (suc n) a)) (sym (steady (enabled_in m w))) rest))
+    let rest = alone_follows answer after m s a (suc n) b.next v steady (core_stepped m w b.next a event.Local core b.stepped) again b.rest in
+    (
+      named,
+      subst (λ o. goes_on o (λ z. Follows answer after m (after s (enabled_in m w)) z (replicate (suc n) a))) (sym b.stepped)
+          (subst (λ t. Follows answer after m t b.next (replicate (suc n) a)) (sym (steady (enabled_in m w))) rest),
+    )
 
 -- and is left in that state
-pub stretch_state : {S : Type 0} (after : S → List ℕ → S) (m : ModuleValue) (s : S) (a n : ℕ) (w v : World) → IsSteady after s → IsStretch m a n w v
+pub alone_state : {S : Type 0} (after : S → List ℕ → S) (m : ModuleValue) (s : S) (a n : ℕ) (w v : World) → IsSteady after s → GoesAlone m a n w v
     → state_after after m s w (replicate n a) ≡ s
-stretch_state after m s a zero w v steady h = refl
-stretch_state after m s a (suc n) w v steady h =
+alone_state after m s a zero w v steady h = refl
+alone_state after m s a (suc n) w v steady h =
     let b = begun m a n w v h in
     ap (λ o. state_on o s (λ z. state_after after m (after s (enabled_in m w)) z (replicate n a))) b.stepped
     ∙ ap (λ t. state_after after m t b.next (replicate n a)) (steady (enabled_in m w))
-    ∙ stretch_state after m s a n b.next v steady b.rest
+    ∙ alone_state after m s a n b.next v steady b.rest
+
+-- ---- stretches
+
+-- a steady chooser names one activity for all its steps that nobody else can see, at once
+pub stretch_of : {S : Type 0} (answer : S → List ℕ → ℕ) (after : S → List ℕ → S) (c d : CoreValue) (s t : S) (a n : ℕ) → IsSteady after s → IsCore c.module_run c.world
+    → Names answer c.module_run s c.world a → RunsTo c a n d → AreLocal c a n → IsUnseen c a n → d.module_run ≡ c.module_run → t ≡ after s (enabled_in c.module_run c.world)
+    → IsStretch answer after c s n d t
+stretch_of answer after c d s t a n steady core named leads local unseen same asked =
+    let alone : GoesAlone c.module_run a n c.world d.world = record { leads = leads; local = local } in
+    record {
+      act = a;
+      follows = alone_follows answer after c.module_run s a n c.world d.world steady core named alone;
+      leads = leads;
+      unseen = unseen;
+      same_module = same;
+      left = asked ∙ steady (enabled_in c.module_run c.world) ∙ sym (alone_state after c.module_run s a n c.world d.world steady alone);
+    }
+
+-- no step is one
+pub stretch_none : {S : Type 0} (answer : S → List ℕ → ℕ) (after : S → List ℕ → S) (c : CoreValue) (s : S) → IsStretch answer after c s 0 c s
+stretch_none answer after c s = record { act = 0; follows = tt; leads = refl; unseen = refl; same_module = refl; left = refl }
