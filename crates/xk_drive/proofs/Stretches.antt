@@ -128,11 +128,11 @@ record IsBegun (m : ModuleValue) (a n : ℕ) (w v : World) : Type 0 where
   stepped : step m w a ≡ Stepped next event.Local
   rest : GoesAlone m a n next v
 
-event_first : List (ℕ × Event) → Event
+abbrev event_first : List (ℕ × Event) → Event
 event_first [] = event.Local
 event_first (p ∷ ps) = p.1
 
-events_rest : List (ℕ × Event) → List (ℕ × Event)
+abbrev events_rest : List (ℕ × Event) → List (ℕ × Event)
 events_rest [] = []
 events_rest (p ∷ ps) = ps
 
