@@ -71,8 +71,8 @@ local_quiet m w v a core h =
     let same : v.clocks ≡ w.clocks = subst (Rests w) h (step_rests m w a core) refl in
     ap (list_all (λ (c : Clock). not (c.last == v.steps))) same
     ∙ quiet_all v.steps w.clocks (λ k c at.
-        let s : IsClockSound w.activities w.steps c = (reached_sound m core.limits core.accepted w core.reached).clocks k c at in
-        omega (arith, s.last, counted))
+    let s : IsClockSound w.activities w.steps c = (reached_sound m core.limits core.accepted w core.reached).clocks k c at in
+    omega (arith, s.last, counted))
 
 -- ---- and others able to step as they were
 
@@ -193,8 +193,7 @@ alone_follows answer after m s a (suc (suc n)) w v steady core named h =
     let b = begun m a (suc n) w v h in
     let still = listed_still m w b.next a core b.stepped (able m a n b.next v b.rest) in
     let again : Names answer m s b.next a = subst (λ (l : List ℕ). slice_get l (answer s l % length l) ≡ Some a) (sym still) named in
-    let rest = alone_follows answer after m s a (suc n) b.next v steady (core_stepped m w b.next a event.Local core b.stepped) again b.rest in
-    (
+    let rest = alone_follows answer after m s a (suc n) b.next v steady (core_stepped m w b.next a event.Local core b.stepped) again b.rest in (
       named,
       subst (λ o. goes_on o (λ z. Follows answer after m (after s (enabled_in m w)) z (replicate (suc n) a))) (sym b.stepped)
           (subst (λ t. Follows answer after m t b.next (replicate (suc n) a)) (sym (steady (enabled_in m w))) rest),

@@ -341,8 +341,8 @@ impl<'m> Driver<'m> {
         if self.enabled.is_empty() || !chooser.is_steady() {
             return 0;
         }
-        let number = chooser.pick(&self.enabled, &mut self.shown);
-        self.run(Act(number), max)
+        let named = chooser.pick(&self.enabled, &mut self.shown);
+        self.run(Act(named), max)
     }
 
     /// Up to max steps of the activity that nobody else can see, and how many they were.
