@@ -56,9 +56,8 @@ is_seen p = not (is_local p.1)
 
 -- where nothing is seen of the other, it prints nothing more
 pub printed_then : (m : ModuleValue) (xs ys : List ℕ) (w v : World) → run m xs w ≡ Through v → seen m ys v ≡ [] → printed m (xs ++ ys) w ≡ printed m xs w
-printed_then m xs ys w v h nothing = ap (filter_map number_in) (
-    ap (filter is_seen) (events_then m xs ys w v h)
-    ∙ filter-append is_seen (events m xs w) (events m ys v)
-    ∙ ap (λ l. seen m xs w ++ l) nothing
-    ∙ append-nil (seen m xs w)
-    )
+printed_then m xs ys w v h nothing =
+    ap (λ es. filter_map number_in (filter is_seen es)) (events_then m xs ys w v h)
+    ∙ ap (filter_map number_in) (filter-append is_seen (events m xs w) (events m ys v))
+    ∙ ap (λ l. filter_map number_in (seen m xs w ++ l)) nothing
+    ∙ ap (filter_map number_in) (append-nil (seen m xs w))
