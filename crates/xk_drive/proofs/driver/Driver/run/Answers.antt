@@ -25,10 +25,10 @@ invariant_of-self c =
     let d = c.self.inside in
     let m = d.core.module_run in
     let w = d.core.world in
-    let k = c.run.new.self.module_run in
-    let v = c.run.new.self.world in
+    let k = c.run-steps.new.self.module_run in
+    let v = c.run-steps.new.self.world in
     let act = c.args.act in
-    let same : k ≡ m = c.run.ensures.same_module in
+    let same : k ≡ m = c.run-steps.ensures.same_module in
     let can : is_enabled m w act ≡ true = subst (λ (x : CoreValue). is_enabled x.module_run x.world act ≡ true) (sym c.self.view_is) c.requires in
     let alone : GoesAlone m act c.run-steps.result w v = record { leads = c.run-steps.ensures.ran; local = c.run-steps.ensures.local } in
     record {
