@@ -8,3 +8,5 @@ pub mod Answered
 pub mod Turns
 pub mod Following
 pub mod ChoiceRows
+pub mod Stretches
+pub mod Going

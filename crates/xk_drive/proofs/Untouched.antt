@@ -154,7 +154,7 @@ module _ (m : ModuleValue) (w : World) (a b : ℕ) (core : IsCore m w) (inside :
     over = λ here alone later quiet another. leaves_moved act (ended act) (all dropped) _ refl refl refl later quiet (end_awaits act found alive (another refl));
     arrives = λ later quiet another. leaves_moved act (arrived act) (all resumed) _ refl refl refl later quiet
         (λ x. awaits_on w.activities (core_owned m w core) a act (arrived act) found refl (innermost b x) alive refl);
-    done = λ next change e on start later quiet another. leaves_moved act next change _ refl refl refl later quiet (on_awaits act next found alive on);
+    done = λ next change e on start rests later quiet another. leaves_moved act next change _ refl refl refl later quiet (on_awaits act next found alive on);
     made = λ next on later quiet another. same_enabled m w _ b core later (get-set_other w.activities a b next differs)
         (λ waiting. ap (waits_on b) (settled_quiet (w.steps + 1) (w.clocks ++ new_clock (length w.activities) a ∷ []) (quiet waiting)) ∙ waits_made (length w.activities) a b w.clocks differs)
         (λ x there. on_awaits act next found alive on x);
@@ -249,7 +249,7 @@ step_takes m w a = step_kind (Takes w a) m w a tt (λ act found alive. record {
   closed = λ n opened nobody awake. taken_set w _ a act (left act n) event.Closed found refl refl refl (λ h. awake);
   over = λ here alone. taken_set w _ a act (ended act) event.Ended found refl refl refl (λ h. refl);
   arrives = taken_set w _ a act (arrived act) event.Arrived found refl refl refl (λ h. absurd (h refl));
-  done = λ next change e on start. taken_set w _ a act next e found refl on.governed start (λ h. on.awake);
+  done = λ next change e on start rests. taken_set w _ a act next e found refl on.governed start (λ h. on.awake);
   made = λ next on. taken_set w _ a act next event.Made found refl on.governed refl (λ h. on.awake);
   stored = λ s n e on start. taken_set w _ a act (onward act) e found refl refl start (λ h. on.awake);
   spawned = λ t args values at on. taken_push w _ a act (onward act) (child m a act t values) found refl refl on.awake refl;

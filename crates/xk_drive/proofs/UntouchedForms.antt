@@ -1,5 +1,5 @@
 -- The forms of a step, with what each says of the activity that takes it.
-use Rattle.std.proofs.Common.{◌≡◌, ℕ, suc, zero, ◌+◌, ◌≤◌, int_lt, Bool, true, false, cond, List, [], ◌∷◌, ℤ, Some, None, Option, refl, ap, arith}
+use Rattle.std.proofs.Common.{◌≡◌, ℕ, suc, zero, ◌+◌, ◌≤◌, int_lt, Bool, true, false, true≢false, cond, List, [], ◌∷◌, ℤ, Some, None, Option, refl, sym, ap, arith}
 use Rattle.std.specs.Prelude.{slice_get}
 use Rattle.std.specs.Int.{w64, int_wrapping_add, int_wrapping_sub, int_wrapping_mul}
 use Rattle.xk_types.specs.declared.instr.Instr.{Instr}
@@ -16,6 +16,7 @@ use Rattle.xk_types.specs.declared.unit.ParamKind.TheVariants as param
 use Rattle.xk_types.specs.Code.{UnitValue, ModuleValue, compares, is_method, is_body}
 use Rattle.xk_types.specs.World.{Frame, Activity, Clock, World, standing_of, instruction_at, is_ended}
 use Rattle.xk_types.specs.Step.{Cause, Outcome, Blocked, Wrong, ClockUse, OutOfRange, is_registered, number_in, clock_in, registered_on, put_in, slot_at, arguments_in, computing, turning, again, spawned, spawning, carried_out, run_at, done, made, waits, passing, past, passed, step_by, step_of, step, called, calling, returning, none, awaits, innermost, onward, going, left, ended, arrived, all, dropped, resumed, closing, cell_in, stored}
+use Rattle.xk_types.specs.Schedule.{is_local}
 use Rattle.xk_drive.specs.Listing.{is_arrived}
 
 -- an activity that goes on: the same finish governs it, it hasn't ended, it doesn't wait at an `advance`, and it has closed no finish
@@ -66,7 +67,8 @@ pub record HoldsOfKinds (P : Outcome → Type 0) (m : ModuleValue) (w : World) (
   pub closed : (n : ℕ) → act.opened ≡ suc n → awaits w.activities (innermost a act) ≡ false → is_arrived act.status ≡ false → P (done w a (left act n) none event.Closed)
   pub over : instruction_at m act.frame ≡ Some instr.Ret → act.callers ≡ [] → P (done w a (ended act) (all dropped) event.Ended)
   pub arrives : P (done w a (arrived act) (all resumed) event.Arrived)
-  pub done : (next : Activity) (change : ℕ → Standing → Standing) (e : Event) → GoesOn act next → is_start e ≡ false → P (done w a next change e)
+  pub done : (next : Activity) (change : ℕ → Standing → Standing) (e : Event) → GoesOn act next → is_start e ≡ false
+      → (is_local e ≡ true → change ≡ none) → P (done w a next change e)
   pub made : (next : Activity) → GoesOn act next → P (made w a next)
   pub stored : (s : ℕ) (n : ℤ) (e : Event) → GoesOn act (onward act) → is_start e ≡ false → P (stored w a act s n e)
   pub spawned : (t : ℕ) (args : List ℕ) (values : List Value) → IsAt m act (instr.Spawn t args) → GoesOn act (onward act) → P (spawned m w a act t values)
@@ -74,9 +76,9 @@ pub record HoldsOfKinds (P : Outcome → Type 0) (m : ModuleValue) (w : World) (
 module _ (P : Outcome → Type 0) (m : ModuleValue) (w : World) (a : ℕ) (act : Activity) (alive : is_ended act.status ≡ false)
     (awake : is_arrived act.status ≡ false) (f : HoldsOfKinds P m w a act) where
   -- the present frame changes
-  frame_kind : (frame : Frame) (callers : List Frame) (change : ℕ → Standing → Standing) (e : Event) → is_start e ≡ false
+  frame_kind : (frame : Frame) (callers : List Frame) (change : ℕ → Standing → Standing) (e : Event) → is_start e ≡ false → (is_local e ≡ true → change ≡ none)
       → P (done w a (record act { frame = frame; callers = callers }) change e)
-  frame_kind frame callers change e h = f.done (record act { frame = frame; callers = callers }) change e (moves_on act frame callers alive awake) h
+  frame_kind frame callers change e h rests = f.done (record act { frame = frame; callers = callers }) change e (moves_on act frame callers alive awake) h rests
 
   -- where a number is wanted
   number_kind : (o : Option Value) (go : ℤ → Outcome) → ((z : ℤ) → P (go z)) → P (number_in o go)
@@ -136,26 +138,26 @@ module _ (P : Outcome → Type 0) (m : ModuleValue) (w : World) (a : ℕ) (act :
   calling_kind t args (Some u) = cases (is_method u.kind)
     where
       cases : (b : Bool) → P (cond b (arguments_in w a act u.params args (λ values. done w a (called m act t values) none event.Local)) (Wrong OutOfRange))
-      cases true = arguments_kind u.params args _ (λ values. frame_kind _ (act.frame ∷ act.callers) none event.Local refl)
+      cases true = arguments_kind u.params args _ (λ values. frame_kind _ (act.frame ∷ act.callers) none event.Local refl (λ h. refl))
       cases false = f.wrong _
 
   -- where a number is computed from two others
   computing_kind : (g : ℤ → ℤ → ℤ) (d x y : ℕ) → P (computing w a act g d x y)
   computing_kind g d x y =
-      number_kind (slot_at act x) _ (λ p. number_kind (slot_at act y) _ (λ q. put_kind (slot_at act d) d _ _ (λ z on. f.done z none event.Local on refl)))
+      number_kind (slot_at act x) _ (λ p. number_kind (slot_at act y) _ (λ q. put_kind (slot_at act d) d _ _ (λ z on. f.done z none event.Local on refl (λ h. refl))))
 
   -- where a turn of a loop ends
   turning_kind : (b : ℕ) (o : Option Instr) → P (turning w a act b o)
   turning_kind b (Some (instr.For k lo hi e)) =
       number_kind (slot_at act k) _ (λ n. f.done (cond (int_lt n hi) (again act b k n) (onward act)) none event.Local
-      (either_on act (again act b k n) (onward act) (int_lt n hi) (moves_on act _ act.callers alive awake) (moves_on act _ act.callers alive awake)) refl)
+      (either_on act (again act b k n) (onward act) (int_lt n hi) (moves_on act _ act.callers alive awake) (moves_on act _ act.callers alive awake)) refl (λ h. refl))
   turning_kind b None = f.wrong _
   turning_kind b (Some _) = f.wrong _
 
   -- where a unit ends
   returning_kind : instruction_at m act.frame ≡ Some instr.Ret → (fs : List Frame) → act.callers ≡ fs → P (returning w a act fs)
   returning_kind here [] e = f.over here e
-  returning_kind here (g ∷ fs) e = frame_kind _ fs none event.Local refl
+  returning_kind here (g ∷ fs) e = frame_kind _ fs none event.Local refl (λ h. refl)
 
   -- where a finish ends
   closing_kind : (n : ℕ) → act.opened ≡ n → P (closing w a act n)
@@ -168,28 +170,28 @@ module _ (P : Outcome → Type 0) (m : ModuleValue) (w : World) (a : ℕ) (act :
 
   -- each instruction
   instruction_kind : (i : Instr) → act.status ≡ status.Running → instruction_at m act.frame ≡ Some i → P (carried_out m w a act i)
-  instruction_kind (instr.Lit d n) runs here = put_kind (slot_at act d) d _ _ (λ x on. f.done x none event.Local on refl)
-  instruction_kind (instr.Copy d x) runs here = number_kind (slot_at act x) _ (λ p. put_kind (slot_at act d) d _ _ (λ z on. f.done z none event.Local on refl))
+  instruction_kind (instr.Lit d n) runs here = put_kind (slot_at act d) d _ _ (λ x on. f.done x none event.Local on refl (λ h. refl))
+  instruction_kind (instr.Copy d x) runs here = number_kind (slot_at act x) _ (λ p. put_kind (slot_at act d) d _ _ (λ z on. f.done z none event.Local on refl (λ h. refl)))
   instruction_kind (instr.Add d x y) runs here = computing_kind (int_wrapping_add w64) d x y
   instruction_kind (instr.Sub d x y) runs here = computing_kind (int_wrapping_sub w64) d x y
   instruction_kind (instr.Mul d x y) runs here = computing_kind (int_wrapping_mul w64) d x y
   instruction_kind (instr.Unless op x y t) runs here =
       number_kind (slot_at act x) _ (λ p. number_kind (slot_at act y) _ (λ q. f.done (cond (compares op p q) (onward act) (going act t)) none event.Local
-      (either_on act (onward act) (going act t) (compares op p q) (moves_on act _ act.callers alive awake) (moves_on act _ act.callers alive awake)) refl))
-  instruction_kind (instr.Jump t) runs here = frame_kind _ act.callers none event.Local refl
-  instruction_kind (instr.For k lo hi e) runs here = put_kind (slot_at act k) k _ _ (λ x on. f.done x none event.Local on refl)
+      (either_on act (onward act) (going act t) (compares op p q) (moves_on act _ act.callers alive awake) (moves_on act _ act.callers alive awake)) refl (λ h. refl)))
+  instruction_kind (instr.Jump t) runs here = frame_kind _ act.callers none event.Local refl (λ h. refl)
+  instruction_kind (instr.For k lo hi e) runs here = put_kind (slot_at act k) k _ _ (λ x on. f.done x none event.Local on refl (λ h. refl))
   instruction_kind (instr.Next b) runs here = turning_kind b (instruction_at m (record act.frame { place = b }))
-  instruction_kind (instr.Get d s) runs here = cell_kind (slice_get w.cells s) _ (λ n. put_kind (slot_at act d) d _ _ (λ x on. f.done x none event.Got on refl))
+  instruction_kind (instr.Get d s) runs here = cell_kind (slice_get w.cells s) _ (λ n. put_kind (slot_at act d) d _ _ (λ x on. f.done x none event.Got on refl (λ h. refl)))
   instruction_kind (instr.Put s x) runs here =
       number_kind (slot_at act x) _ (λ n. cell_kind (slice_get w.cells s) _ (λ old. f.stored s _ event.Put (moves_on act _ act.callers alive awake) refl))
   instruction_kind (instr.AddTo s x) runs here =
       number_kind (slot_at act x) _ (λ n. cell_kind (slice_get w.cells s) _ (λ old. f.stored s _ event.Added (moves_on act _ act.callers alive awake) refl))
-  instruction_kind (instr.Finish e) runs here = f.done _ none event.Opened (record { governed = refl; alive = alive; awake = awake; opened = omega arith }) refl
+  instruction_kind (instr.Finish e) runs here = f.done _ none event.Opened (record { governed = refl; alive = alive; awake = awake; opened = omega arith }) refl (λ h. refl)
   instruction_kind (instr.EndFinish b) runs here = closing_kind act.opened refl
-  instruction_kind (instr.Print x) runs here = number_kind (slot_at act x) _ (λ n. frame_kind _ act.callers none (event.Printed n) refl)
+  instruction_kind (instr.Print x) runs here = number_kind (slot_at act x) _ (λ n. frame_kind _ act.callers none (event.Printed n) refl (λ h. refl))
   instruction_kind (instr.Make k) runs here = put_kind (slot_at act k) k _ _ (λ x on. f.made x on)
-  instruction_kind (instr.Resume k) runs here = clock_kind (slot_at act k) _ (λ c. frame_kind _ act.callers _ event.Resumed refl)
-  instruction_kind (instr.Drop k) runs here = clock_kind (slot_at act k) _ (λ c. frame_kind _ act.callers _ event.Dropped refl)
+  instruction_kind (instr.Resume k) runs here = clock_kind (slot_at act k) _ (λ c. frame_kind _ act.callers _ event.Resumed refl (λ h. absurd (true≢false (sym h))))
+  instruction_kind (instr.Drop k) runs here = clock_kind (slot_at act k) _ (λ c. frame_kind _ act.callers _ event.Dropped refl (λ h. absurd (true≢false (sym h))))
   instruction_kind instr.Advance runs here = f.arrives
   instruction_kind (instr.Spawn t args) runs here = spawning_kind t args (record { runs = runs; here = here }) (slice_get m.units t)
   instruction_kind (instr.Call t args) runs here = calling_kind t args (slice_get m.units t)
@@ -201,7 +203,7 @@ module _ (P : Outcome → Type 0) (m : ModuleValue) (w : World) (a : ℕ) (act :
 
 module _ (P : Outcome → Type 0) (m : ModuleValue) (w : World) (a : ℕ) (act : Activity) (f : HoldsOfKinds P m w a act) where
   passing_kind : P (passing w a act)
-  passing_kind = cases (waits w a) (f.done (past act (w.steps + 1)) (all passed) event.Passed (record { governed = refl; alive = refl; awake = refl; opened = omega arith }) refl)
+  passing_kind = cases (waits w a) (f.done (past act (w.steps + 1)) (all passed) event.Passed (record { governed = refl; alive = refl; awake = refl; opened = omega arith }) refl (λ h. absurd (true≢false (sym h))))
     where
       cases : (b : Bool) {o : Outcome} → P o → P (cond b Blocked o)
       cases true h = f.blocked

@@ -159,7 +159,7 @@ module _ (m : ModuleValue) (w : World) (core : IsCore m w) (each : AreOpen w.act
     closed = λ n opened nobody awake. open_set w.activities a act (left act n) found alive refl (left_keeps a act n opened nobody alive) each;
     over = λ here alone. open_set w.activities a act (ended act) found alive refl (ended_keeps a act found here alone) each;
     arrives = open_set w.activities a act (arrived act) found alive refl (λ b x at going own some within. (refl, within)) each;
-    done = λ next change e on quiet. open_on w.activities a act next found alive on each;
+    done = λ next change e on quiet rests. open_on w.activities a act next found alive on each;
     made = λ next on. open_on w.activities a act next found alive on each;
     stored = λ s n e on quiet. open_on w.activities a act (onward act) found alive on each;
     spawned = λ t args values at on.

@@ -44,6 +44,10 @@ abbrev pub state_after : {S : Type 0} → (S → List ℕ → S) → ModuleValue
 state_after after m s w [] = s
 state_after after m s w (a ∷ list) = state_on (step m w a) s (λ v. state_after after m (after s (enabled_in m w)) v list)
 
+-- being asked leaves the state as it is: so who is named is named again, as long as the same can take a step
+abbrev pub IsSteady : {S : Type 0} → (S → List ℕ → S) → S → Type 0
+IsSteady after s = (list : List ℕ) → after s list ≡ s
+
 -- ---- the choosers that stand ready
 
 -- the place that each in turn has, after the one taken before

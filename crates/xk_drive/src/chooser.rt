@@ -1,9 +1,9 @@
 //! Who takes the next step.
 
-ghost use Rattle.std.specs.Prelude.{◌≡◌, ◌<◌, ◌≤◌, ◌-◌, ◌%◌, ◌^◌, Some, length, slice_get};
+ghost use Rattle.std.specs.Prelude.{◌≡◌, ◌<◌, ◌≤◌, ◌-◌, ◌%◌, ◌^◌, true, Some, length, slice_get};
 ghost use Rattle.std.specs.Vec.{vec_capacity};
 ghost use Rattle.xk_members.specs.Members.{IsRising, place_above};
-ghost use Rattle.xk_drive.specs.Choosing.{IsAnswered, turn_of};
+ghost use Rattle.xk_drive.specs.Choosing.{IsAnswered, IsSteady, turn_of};
 
 use std::marker::Model;
 use xk_members::NumberSet;
@@ -39,6 +39,14 @@ pub trait Chooser {
         enabled.list(shown);
         let answer = self.choose(shown) as usize;
         shown[place_in(answer, shown.len())]
+    }
+
+    /// Whether it stays in its state, whatever it is shown: then it names the same again as long as the same can take a step, and needn't
+    /// be asked before each. Who says no is asked.
+    fn is_steady(&self) -> bool
+        ensures { result ≡ true → IsSteady after self.now }
+    {
+        false
     }
 }
 
@@ -93,6 +101,11 @@ impl Chooser for First {
     fn pick(&mut self, enabled: &NumberSet, _shown: &mut Vec<u32>) -> u32 {
         least(enabled)
     }
+
+    #[inline(always)]
+    fn is_steady(&self) -> bool {
+        true
+    }
 }
 
 /// The greatest enabled activity, at each step.
@@ -113,6 +126,11 @@ impl Chooser for Last {
     #[inline(always)]
     fn pick(&mut self, enabled: &NumberSet, _shown: &mut Vec<u32>) -> u32 {
         greatest(enabled)
+    }
+
+    #[inline(always)]
+    fn is_steady(&self) -> bool {
+        true
     }
 }
 

@@ -325,3 +325,37 @@ impl<'m> Driver<'m> {
         Ok(Some(Turn { act, event }))
     }
 }
+
+impl<'m> Driver<'m> {
+    ghost use Rattle.xk_core.specs.Stretch.{RunsTo, AreLocal, IsUnseen};
+    ghost use Rattle.xk_drive.specs.Stretches.{IsStretch};
+
+    /// Up to max steps at once of the activity that the chooser names, and how many they were: those before the next one that others
+    /// can see, if the chooser is steady, and none else. Nobody else is any more or less able to step. Takes no memory.
+    #[inline(always)]
+    pub fn stretch<C: Chooser>(&mut self, chooser: &mut C, max: u32) -> u32
+        ensures taken { IsStretch C.answer C.after self.old chooser.old result
+            self.new chooser.new }
+        ensures counted { self.new.world.steps ≡ self.old.world.steps + result }
+    {
+        if self.enabled.is_empty() || !chooser.is_steady() {
+            return 0;
+        }
+        let named = chooser.pick(&self.enabled, &mut self.shown);
+        self.run(Act(named), max)
+    }
+
+    /// Up to max steps of the activity that nobody else can see, and how many they were.
+    fn run(&mut self, act: Act, max: u32) -> u32
+        requires { IsTrue (is_enabled self.old.module_run self.old.world act) }
+        ensures ran { RunsTo self.old act result self.new }
+        ensures local { AreLocal self.old act result }
+        ensures unseen { IsUnseen self.old act result }
+        ensures counted { self.new.world.steps ≡ self.old.world.steps + result }
+        ensures same_module { self.new.module_run ≡ self.old.module_run }
+    {
+        let steps = self.core.run(act, max);
+        list_own(&mut self.enabled, &self.core, act);
+        steps
+    }
+}

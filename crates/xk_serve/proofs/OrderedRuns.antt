@@ -1,5 +1,5 @@
 -- How a run in an order goes on by a step, and comes to its end.
-use Rattle.std.proofs.Common.{◌≡◌, ℕ, ℤ, List, [], ◌∷◌, ◌++◌, true, refl, sym, ap, subst, ◌∙◌}
+use Rattle.std.proofs.Common.{◌≡◌, ℕ, ℤ, ◌≤◌, List, [], ◌∷◌, ◌++◌, replicate, true, refl, sym, ap, subst, ◌∙◌, arith}
 use Rattle.std.specs.Option.{option_to_list}
 use Rattle.xk_types.specs.declared.names.Entry.{Entry}
 use Rattle.xk_types.specs.declared.names.Event.{Event}
@@ -11,9 +11,11 @@ use Rattle.xk_types.specs.Logs.{schedule_of}
 use Rattle.xk_core.specs.Core.{CoreValue}
 use Rattle.xk_drive.specs.Choosing.{enabled_in, Names, Follows, goes_on, state_after}
 use Rattle.xk_drive.specs.Driving.{IsChosen, IsRunOf, IsTurn}
+use Rattle.xk_drive.specs.Stretches.{IsStretch}
 use Rattle.xk_serve.specs.OrderedRun.{IsLogThat, IsReplay, IsRunThat, IsSomeRun}
-use Rattle.xk_laws.proofs.Reached.{run_more}
+use Rattle.xk_laws.proofs.Reached.{run_more, run_counts}
 use Rattle.xk_drive.proofs.Following.{follows_more, printed_more, state_more}
+use Rattle.xk_drive.proofs.Going.{run_then, follows_then, state_then, printed_then}
 
 -- A list that follows a chooser, which began in state b, leads here, and printed these numbers; the chooser is in state s.
 pub record IsFront {S : Type 0} (answer : S → List ℕ → ℕ) (after : S → List ℕ → S) (m : ModuleValue) (b : S) (w : World) (s : S) (numbers : List ℤ) : Type 0 where
@@ -48,6 +50,32 @@ pub front_more : {S : Type 0} (answer : S → List ℕ → ℕ) (after : S → L
 front_more answer after m b c d s t a e numbers same f turn =
     subst (λ n. IsFront answer after n b d.world t (numbers ++ option_to_list (number_printed e))) same
     (front_on answer after b c d s t a e numbers (subst (λ n. IsFront answer after n b c.world s numbers) (sym same) f) turn)
+
+-- a stretch more
+front_along : {S : Type 0} (answer : S → List ℕ → ℕ) (after : S → List ℕ → S) (b : S) (c d : CoreValue) (s t : S) (n : ℕ) (numbers : List ℤ)
+    → IsFront answer after c.module_run b c.world s numbers → IsStretch answer after c s n d t → IsFront answer after c.module_run b d.world t numbers
+front_along answer after b c d s t n numbers f more =
+    let m = c.module_run in
+    let steps = replicate n more.act in
+    record {
+      list = f.list ++ steps;
+      follows = follows_then answer after m f.list steps b (opening m) c.world f.leads f.follows
+          (subst (λ z. Follows answer after m z c.world steps) f.state_is more.follows);
+      leads = run_then m f.list steps (opening m) c.world f.leads ∙ more.leads;
+      state_is = more.left ∙ ap (λ z. state_after after m z c.world steps) f.state_is ∙ sym (state_then after m f.list steps b (opening m) c.world f.leads);
+      numbers_are = f.numbers_are ∙ sym (printed_then m f.list steps (opening m) c.world f.leads more.unseen);
+    }
+
+pub front_stretch : {S : Type 0} (answer : S → List ℕ → ℕ) (after : S → List ℕ → S) (m : ModuleValue) (b : S) (c d : CoreValue) (s t : S) (n : ℕ) (numbers : List ℤ)
+    → c.module_run ≡ m → IsFront answer after m b c.world s numbers → IsStretch answer after c s n d t → IsFront answer after m b d.world t numbers
+front_stretch answer after m b c d s t n numbers same f more =
+    subst (λ k. IsFront answer after k b d.world t numbers) same
+    (front_along answer after b c d s t n numbers (subst (λ k. IsFront answer after k b c.world s numbers) (sym same) f) more)
+
+-- it takes no step back
+pub stretch_counts : {S : Type 0} (answer : S → List ℕ → ℕ) (after : S → List ℕ → S) (c d : CoreValue) (s t : S) (n : ℕ) → IsStretch answer after c s n d t
+    → c.world.steps ≤ d.world.steps
+stretch_counts answer after c d s t n more = (let e = run_counts c.module_run (replicate n more.act) c.world d.world more.leads in omega arith)
 
 -- ---- choosers without a state
 

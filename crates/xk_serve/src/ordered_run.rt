@@ -5,6 +5,7 @@ ghost use Rattle.std.specs.Option.{option_to_list};
 ghost use Rattle.xk_types.specs.World.{opening};
 ghost use Rattle.xk_types.specs.Schedule.{number_printed};
 ghost use Rattle.xk_drive.specs.Choosing.{Follows};
+ghost use Rattle.xk_drive.specs.Stretches.{IsStretch};
 ghost use Rattle.xk_serve.specs.OrderedRun.{IsOrderedRun, IsRunThat};
 
 use std::alloc::{AllocError, Global};
@@ -47,6 +48,18 @@ fn run_by<C: Chooser>(
             return Ok((printed, steps));
         };
         keep(&mut printed, turn.event)?;
+        go_on(&mut driver, chooser, turn.event);
+    }
+}
+
+/// Behind a step that nobody else could see, takes all steps like it that come next, if the chooser is steady, and tells how many.
+#[inline(always)]
+fn go_on<C: Chooser>(driver: &mut Driver<'_>, chooser: &mut C, event: Event) -> u32
+    ensures { IsStretch C.answer C.after driver.old chooser.old result driver.new chooser.new }
+{
+    match event {
+        Event::Local => driver.stretch(chooser, u32::MAX),
+        _ => 0,
     }
 }
 

@@ -1,0 +1,231 @@
+-- Stretches of local steps: others are left able to step as they were, and a chooser whose state stays names who takes them at each step.
+use Rattle.std.proofs.Common.{◌≡◌, ◌∙◌, ℕ, zero, suc, ◌+◌, ◌<◌, Bool, true, false, true≢false, cond, not, ◌==◌, ◌%◌, List, [], ◌∷◌, length, filter, map, replicate, Some, slice_get, refl, sym, ap, subst, arith}
+use Rattle.std.specs.List.{list_all}
+use Rattle.std.proofs.lemmas.Bool.{ne_eqb}
+use Rattle.std.proofs.lemmas.List.{set-get_or}
+use Rattle.xk_types.specs.declared.names.Event.{Event}
+use Rattle.xk_types.specs.declared.names.Event.TheVariants as event
+use Rattle.xk_types.specs.declared.names.Standing.TheVariants as standing
+use Rattle.xk_types.specs.Code.{ModuleValue}
+use Rattle.xk_types.specs.World.{Clock, World}
+use Rattle.xk_types.specs.Step.{Outcome, Blocked, Wrong, Stepped, step, none, moved, is_ready, settled_clock, advanced}
+use Rattle.xk_types.specs.Schedule.{Through, run, events, events_on, is_local, is_step, is_enabled}
+use Rattle.xk_types.proofs.Lists.{Each}
+use Rattle.xk_laws.proofs.Invariant.{IsClockSound}
+use Rattle.xk_laws.proofs.Reached.{same_through, first_step, reached_sound}
+use Rattle.xk_laws.proofs.Counts.{step_counts}
+use Rattle.xk_core.specs.Core.{CoreValue, IsCore, is_quiet}
+use Rattle.xk_core.specs.Stretch.{RunsTo, AreLocal, IsUnseen}
+use Rattle.xk_core.proofs.Cores.{core_stepped}
+use Rattle.xk_members.specs.Members.{numbers_from, with_member}
+use Rattle.xk_members.proofs.Rising.{member_changed}
+use Rattle.xk_drive.specs.Choosing.{enabled_in, Names, Follows, IsSteady, goes_on, state_after, state_on}
+use Rattle.xk_drive.specs.Listing.{IsAmong}
+use Rattle.xk_drive.specs.Stretches.{IsStretch}
+use Rattle.xk_drive.proofs.UntouchedForms.{step_kind}
+use Rattle.xk_drive.proofs.Untouched.{untouched, keeps_width, steps_within}
+use Rattle.xk_drive.proofs.Listing.{among_after}
+
+-- ---- a local step leaves the clocks as they are
+
+-- where no clock is ready, and no standing changes, the end of a step leaves all clocks as they are
+clocks_rest : (now a : ℕ) (cs : List Clock) → Each (λ k c. is_ready c ≡ false) cs → map (settled_clock now) (moved a none cs) ≡ cs
+clocks_rest now a [] h = refl
+clocks_rest now a (c ∷ cs) h =
+    ap (λ z. z ∷ map (settled_clock now) (moved a none cs))
+    (ap (λ l. settled_clock now (record c { standings = l })) (set-get_or c.standings a standing.Apart)
+    ∙ ap (λ b. cond b (record { phase = c.phase + 1; last = now; standings = map advanced c.standings }) c) (h 0 c refl))
+    ∙ ap (λ l. c ∷ l) (clocks_rest now a cs (λ k d at. h (suc k) d at))
+
+abbrev Rests : World → Outcome → Type 0
+Rests w Blocked = Unit {0}
+Rests w (Wrong c) = Unit {0}
+Rests w (Stepped v e) = is_local e ≡ true → v.clocks ≡ w.clocks
+
+step_rests : (m : ModuleValue) (w : World) (a : ℕ) → IsCore m w → Rests w (step m w a)
+step_rests m w a core = step_kind (Rests w) m w a tt (λ act found alive. record {
+  blocked = tt;
+  wrong = λ c. tt;
+  closed = λ n opened nobody awake h. absurd (true≢false (sym h));
+  over = λ here alone h. absurd (true≢false (sym h));
+  arrives = λ h. absurd (true≢false (sym h));
+  done = λ next change e on start rests h. ap (λ ch. map (settled_clock (w.steps + 1)) (moved a ch w.clocks)) (rests h) ∙ clocks_rest (w.steps + 1) a w.clocks unready;
+  made = λ next on h. absurd (true≢false (sym h));
+  stored = λ s n e on start h. clocks_rest (w.steps + 1) a w.clocks unready;
+  spawned = λ t args values at on h. absurd (true≢false (sym h));
+})
+  where
+    unready : Each (λ k c. is_ready c ≡ false) w.clocks
+    unready k c at = (let s : IsClockSound w.activities w.steps c = (reached_sound m core.limits core.accepted w core.reached).clocks k c at in s.unready)
+
+-- so none advances
+quiet_all : (now : ℕ) (cs : List Clock) → Each (λ k c. c.last < now) cs → list_all (λ (c : Clock). not (c.last == now)) cs ≡ true
+quiet_all now [] h = refl
+quiet_all now (c ∷ cs) h =
+    let early : c.last < now = h 0 c refl in
+    rw (ne_eqb c.last now (λ e. absurd (omega (arith, early, e)))) (quiet_all now cs (λ k d at. h (suc k) d at))
+
+local_quiet : (m : ModuleValue) (w v : World) (a : ℕ) → IsCore m w → step m w a ≡ Stepped v event.Local → is_quiet v ≡ true
+local_quiet m w v a core h =
+    let counted : v.steps ≡ w.steps + 1 = step_counts m w v a event.Local h in
+    let same : v.clocks ≡ w.clocks = subst (Rests w) h (step_rests m w a core) refl in
+    ap (list_all (λ (c : Clock). not (c.last == v.steps))) same
+    ∙ quiet_all v.steps w.clocks (λ k c at.
+    let s : IsClockSound w.activities w.steps c = (reached_sound m core.limits core.accepted w core.reached).clocks k c at in
+    omega (arith, s.last, counted))
+
+-- ---- and others able to step as they were
+
+no_end : event.Local ≡ event.Ended → ⊥
+no_end h = cc
+
+no_start : event.Local ≡ event.Spawned → ⊥
+no_start h = cc
+
+local_same : (m : ModuleValue) (w v : World) (a : ℕ) → IsCore m w → step m w a ≡ Stepped v event.Local → (b : ℕ) → b < length w.activities → (b ≡ a → ⊥)
+    → is_enabled m v b ≡ is_enabled m w b
+local_same m w v a core h b inside differs = untouched m w v a event.Local core h b (λ waiting. local_quiet m w v a core h) inside differs (λ e owns. no_end e)
+
+-- so of the list of those who can take a step only this one may be gone
+pub listed_local : (m : ModuleValue) (w v : World) (a : ℕ) → IsCore m w → step m w a ≡ Stepped v event.Local
+    → enabled_in m v ≡ with_member a (is_enabled m v a) (enabled_in m w)
+listed_local m w v a core h =
+    ap (λ n. filter (is_enabled m v) (numbers_from 0 n)) (keeps_width m w v a event.Local h no_start)
+    ∙ member_changed (is_enabled m w) (is_enabled m v) (length w.activities) a (steps_within m w v a event.Local h) (local_same m w v a core h)
+
+-- and where it can take another step, the list is as it was
+pub listed_still : (m : ModuleValue) (w v : World) (a : ℕ) → IsCore m w → step m w a ≡ Stepped v event.Local → is_enabled m v a ≡ true → enabled_in m v ≡ enabled_in m w
+listed_still m w v a core h can =
+    listed_local m w v a core h
+    ∙ ap (λ b. with_member a b (enabled_in m w)) (can ∙ sym (ap is_step h))
+    ∙ sym (member_changed (is_enabled m w) (is_enabled m w) (length w.activities) a (steps_within m w v a event.Local h) (λ k lt ne. refl))
+
+-- who can take a step is there
+pub enabled_within : (m : ModuleValue) (w : World) (a : ℕ) → is_enabled m w a ≡ true → a < length w.activities
+enabled_within m w a h = by (step m w a) refl h
+  where
+    by : (o : Outcome) → step m w a ≡ o → is_step o ≡ true → a < length w.activities
+    by Blocked e g = cc
+    by (Wrong c) e g = cc
+    by (Stepped v f) e g = steps_within m w v a f e
+
+-- and in the list
+pub listed_there : (m : ModuleValue) (w : World) (a : ℕ) → is_enabled m w a ≡ true → with_member a true (enabled_in m w) ≡ enabled_in m w
+listed_there m w a can =
+    ap (λ b. with_member a b (enabled_in m w)) (sym can)
+    ∙ sym (member_changed (is_enabled m w) (is_enabled m w) (length w.activities) a (enabled_within m w a can) (λ k lt ne. refl))
+
+-- ---- several steps
+
+-- n steps of activity a lead from w to v, and nobody else can see them
+pub record GoesAlone (m : ModuleValue) (a n : ℕ) (w v : World) : Type 0 where
+  pub leads : run m (replicate n a) w ≡ Through v
+  pub local : events m (replicate n a) w ≡ replicate n (a, event.Local)
+
+-- its first step, and the rest
+record IsBegun (m : ModuleValue) (a n : ℕ) (w v : World) : Type 0 where
+  next : World
+  stepped : step m w a ≡ Stepped next event.Local
+  rest : GoesAlone m a n next v
+
+abbrev event_first : List (ℕ × Event) → Event
+event_first [] = event.Local
+event_first (p ∷ ps) = p.1
+
+abbrev events_rest : List (ℕ × Event) → List (ℕ × Event)
+events_rest [] = []
+events_rest (p ∷ ps) = ps
+
+begun : (m : ModuleValue) (a n : ℕ) (w v : World) → GoesAlone m a (suc n) w v → IsBegun m a n w v
+begun m a n w v h =
+    let t = first_step w v (step m w a) (run m (replicate n a)) h.leads in
+    let seen : (a, t.1) ∷ events m (replicate n a) t.0 ≡ (a, event.Local) ∷ replicate n (a, event.Local) =
+    sym (ap (λ o. events_on a o (events m (replicate n a))) t.2) ∙ h.local in
+    record {
+      next = t.0;
+      stepped = t.2 ∙ ap (λ e. Stepped t.0 e) (ap event_first seen);
+      rest = record { leads = t.3; local = ap events_rest seen };
+    }
+
+-- who takes one more step can
+able : (m : ModuleValue) (a n : ℕ) (w v : World) → GoesAlone m a (suc n) w v → is_enabled m w a ≡ true
+able m a n w v h = (let b = begun m a n w v h in ap is_step b.stepped)
+
+-- a core is one behind it
+pub alone_core : (m : ModuleValue) (a n : ℕ) (w v : World) → IsCore m w → GoesAlone m a n w v → IsCore m v
+alone_core m a zero w v core h = subst (IsCore m) (same_through w v h.leads) core
+alone_core m a (suc n) w v core h =
+    let b = begun m a n w v h in
+    alone_core m a n b.next v (core_stepped m w b.next a event.Local core b.stepped) b.rest
+
+-- of those who can take a step only this one may be gone behind it
+pub alone_listed : (m : ModuleValue) (a n : ℕ) (w v : World) → IsCore m w → is_enabled m w a ≡ true → GoesAlone m a n w v
+    → enabled_in m v ≡ with_member a (is_enabled m v a) (enabled_in m w)
+alone_listed m a zero w v core can h =
+    subst (λ z. enabled_in m z ≡ with_member a (is_enabled m z a) (enabled_in m w)) (same_through w v h.leads)
+    (sym (ap (λ b. with_member a b (enabled_in m w)) can ∙ listed_there m w a can))
+alone_listed m a (suc zero) w v core can h =
+    let b = begun m a zero w v h in
+    listed_local m w v a core (b.stepped ∙ ap (λ x. Stepped x event.Local) (same_through b.next v b.rest.leads))
+alone_listed m a (suc (suc n)) w v core can h =
+    let b = begun m a (suc n) w v h in
+    let again = able m a n b.next v b.rest in
+    alone_listed m a (suc n) b.next v (core_stepped m w b.next a event.Local core b.stepped) again b.rest
+    ∙ ap (with_member a (is_enabled m v a)) (listed_still m w b.next a core b.stepped again)
+
+-- who waits at an `advance` is still among these
+pub alone_among : (m : ModuleValue) (a n : ℕ) (w v : World) (list : List ℕ) → GoesAlone m a n w v → IsAmong w list → IsAmong v list
+alone_among m a zero w v list h among = subst (λ z. IsAmong z list) (same_through w v h.leads) among
+alone_among m a (suc n) w v list h among =
+    let b = begun m a n w v h in
+    alone_among m a n b.next v list b.rest (among_after m w b.next a event.Local list b.stepped among)
+
+-- ---- choosers
+
+-- a chooser whose state stays names who takes them at each of these steps
+pub alone_follows : {S : Type 0} (answer : S → List ℕ → ℕ) (after : S → List ℕ → S) (m : ModuleValue) (s : S) (a n : ℕ) (w v : World) → IsSteady after s → IsCore m w
+    → Names answer m s w a → GoesAlone m a n w v → Follows answer after m s w (replicate n a)
+alone_follows answer after m s a zero w v steady core named h = tt
+alone_follows answer after m s a (suc zero) w v steady core named h =
+    let b = begun m a zero w v h in
+    (named, subst (λ o. goes_on o (λ z. Unit {0})) (sym b.stepped) tt)
+alone_follows answer after m s a (suc (suc n)) w v steady core named h =
+    let b = begun m a (suc n) w v h in
+    let still = listed_still m w b.next a core b.stepped (able m a n b.next v b.rest) in
+    let again : Names answer m s b.next a = subst (λ (l : List ℕ). slice_get l (answer s l % length l) ≡ Some a) (sym still) named in
+    let rest = alone_follows answer after m s a (suc n) b.next v steady (core_stepped m w b.next a event.Local core b.stepped) again b.rest in (
+      named,
+      subst (λ o. goes_on o (λ z. Follows answer after m (after s (enabled_in m w)) z (replicate (suc n) a))) (sym b.stepped)
+          (subst (λ t. Follows answer after m t b.next (replicate (suc n) a)) (sym (steady (enabled_in m w))) rest),
+    )
+
+-- and is left in that state
+pub alone_state : {S : Type 0} (after : S → List ℕ → S) (m : ModuleValue) (s : S) (a n : ℕ) (w v : World) → IsSteady after s → GoesAlone m a n w v
+    → state_after after m s w (replicate n a) ≡ s
+alone_state after m s a zero w v steady h = refl
+alone_state after m s a (suc n) w v steady h =
+    let b = begun m a n w v h in
+    ap (λ o. state_on o s (λ z. state_after after m (after s (enabled_in m w)) z (replicate n a))) b.stepped
+    ∙ ap (λ t. state_after after m t b.next (replicate n a)) (steady (enabled_in m w))
+    ∙ alone_state after m s a n b.next v steady b.rest
+
+-- ---- stretches
+
+-- a steady chooser names one activity for all its steps that nobody else can see, at once
+pub stretch_of : {S : Type 0} (answer : S → List ℕ → ℕ) (after : S → List ℕ → S) (c d : CoreValue) (s t : S) (a n : ℕ) → IsSteady after s → IsCore c.module_run c.world
+    → Names answer c.module_run s c.world a → RunsTo c a n d → AreLocal c a n → IsUnseen c a n → d.module_run ≡ c.module_run → t ≡ after s (enabled_in c.module_run c.world)
+    → IsStretch answer after c s n d t
+stretch_of answer after c d s t a n steady core named leads local unseen same asked =
+    let alone : GoesAlone c.module_run a n c.world d.world = record { leads = leads; local = local } in
+    record {
+      act = a;
+      follows = alone_follows answer after c.module_run s a n c.world d.world steady core named alone;
+      leads = leads;
+      unseen = unseen;
+      same_module = same;
+      left = asked ∙ steady (enabled_in c.module_run c.world) ∙ sym (alone_state after c.module_run s a n c.world d.world steady alone);
+    }
+
+-- no step is one
+pub stretch_none : {S : Type 0} (answer : S → List ℕ → ℕ) (after : S → List ℕ → S) (c : CoreValue) (s : S) → IsStretch answer after c s 0 c s
+stretch_none answer after c s = record { act = 0; follows = tt; leads = refl; unseen = refl; same_module = refl; left = refl }

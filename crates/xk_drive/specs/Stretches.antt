@@ -1,0 +1,15 @@
+-- Stretches of steps of one activity that a chooser names each time and nobody else can see.
+use Rattle.std.specs.Prelude.{◌≡◌, ℕ, List, replicate}
+use Rattle.xk_core.specs.Core.{CoreValue}
+use Rattle.xk_core.specs.Stretch.{RunsTo, IsUnseen}
+use Rattle.xk_drive.specs.Choosing.{Follows, state_after}
+
+-- A chooser in state s, which answers so and then is in such a state, names one activity n times: its steps lead from c to d, nothing is seen
+-- of them, and the chooser is left in state t.
+pub record IsStretch {S : Type 0} (answer : S → List ℕ → ℕ) (after : S → List ℕ → S) (c : CoreValue) (s : S) (n : ℕ) (d : CoreValue) (t : S) : Type 0 where
+  pub act : ℕ
+  pub follows : Follows answer after c.module_run s c.world (replicate n act)
+  pub leads : RunsTo c act n d
+  pub unseen : IsUnseen c act n
+  pub same_module : d.module_run ≡ c.module_run
+  pub left : t ≡ state_after after c.module_run s c.world (replicate n act)
