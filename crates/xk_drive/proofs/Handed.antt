@@ -1,0 +1,9 @@
+-- Local steps that are handed in leave all others as able to step as they were. (Not checked yet; it isn't in Lib.antt.)
+--
+-- The way: `Core::apply` ensures besides that `self.new ≡ with_world self.old (after_steps self.old.world act ticket.new steps)`. In the proof:
+-- `told_at`, `set_told` and `get_or_from_slice_get` for `with_nodes`, and `stretch` for the frames. Then for b other than a
+--   same_enabled m w v b core later (get-set_other w.activities a b y differs) (λ waiting. refl)
+--       (λ z found. awaits_on w.activities (core_owned m w core) a x y there refl (innermost b z) alive alive)
+-- with v = after_steps w a fs n and y = with_frames x fs, where `same_enabled` of Untouched.antt is made `pub`; `member_changed` gives the set,
+-- as in `listed_alone`; clocks and statuses are the same, so IsAmong stays with its test. `run_append` of xk_replay/proofs/Lines.antt,
+-- moved to Runs.antt, and the same for `printed`, give IsRunOf.
