@@ -6,8 +6,8 @@ ghost use Rattle.xk_types.specs.World.{opening};
 ghost use Rattle.xk_types.specs.Step.{Stepped, step};
 ghost use Rattle.xk_types.specs.Schedule.{IsReached, is_enabled, all_ended};
 ghost use Rattle.xk_types.specs.Bound.{steps_bound};
-ghost use Rattle.xk_core.specs.Core.{is_running, Locally, IsBeyond, next_instruction, next_of, governor, opening_core, StepsTo, WantsMemory, IsCore, IsLeastEnabled, is_about_to_start, is_quiet, is_registered_on, is_next_local};
-ghost use Rattle.xk_core.specs.Stretch.{RunsTo, AreLocal, IsUnseen};
+ghost use Rattle.xk_core.specs.Core.{is_running, with_world, Locally, IsBeyond, next_instruction, next_of, governor, opening_core, StepsTo, WantsMemory, IsCore, IsLeastEnabled, is_about_to_start, is_quiet, is_registered_on, is_next_local};
+ghost use Rattle.xk_core.specs.Stretch.{after_steps, RunsTo, AreLocal, IsUnseen};
 ghost use Rattle.xk_core.specs.Handed.{Accepts};
 ghost use Rattle.xk_activity.specs.Activities.{act_at};
 ghost use Rattle.xk_activity.specs.Joined.{frames_in};
@@ -261,6 +261,9 @@ impl<'m> Core<'m> {
         ensures unseen { IsUnseen self.old ticket.entry.act ticket.entry.steps }
         ensures counted { self.new.world.steps ≡ self.old.world.steps + ticket.entry.steps }
         ensures same_module { self.new.module_run ≡ self.old.module_run }
+        // The activity has the ticket's new frames, and nothing else changes but the count of steps.
+        ensures changed { self.new ≡ with_world self.old (after_steps self.old.world
+            ticket.entry.act ticket.entry.new ticket.entry.steps) }
     {
         self.state.apply(ticket)
     }

@@ -14,7 +14,7 @@ ghost use Rattle.xk_activity.specs.Activities.{act_at, Stands, Takes};
 ghost use Rattle.xk_activity.specs.Local.{IsRight, IsSafe, local, is_stepped};
 ghost use Rattle.xk_activity.specs.Joined.{frames_in};
 ghost use Rattle.xk_rooms.specs.Rooms.{HasRoomLeft};
-ghost use Rattle.xk_core.specs.Stretch.{HasRoomForSteps, TakesSteps};
+ghost use Rattle.xk_core.specs.Stretch.{after_steps, HasRoomForSteps, TakesSteps};
 ghost use Rattle.xk_core.specs.Handed.{IsAsBefore};
 ghost use Rattle.xk_core.specs.Able.{is_able};
 ghost use Rattle.xk_core.specs.Core.{is_quiet, is_running, next_instruction, with_world, TakesStep};
@@ -543,8 +543,10 @@ impl<'m> State<'m> {
     pub fn apply(&mut self, ticket: Ticket<'m>)
         requires before { IsAsBefore self.old ticket }
         requires steps { HasRoomForSteps self.old ticket.act }
-        ensures { TakesSteps self.old ticket.entry.act ticket.entry.steps
+        ensures runs { TakesSteps self.old ticket.entry.act ticket.entry.steps
             ticket.entry.steps self.new }
+        ensures changed { self.new ≡ with_world self.old (after_steps self.old.world
+            ticket.entry.act ticket.entry.new ticket.entry.steps) }
     {
         self.steps += ticket.steps() as u64;
         self.activities.apply(ticket);
