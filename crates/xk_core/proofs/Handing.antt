@@ -44,5 +44,5 @@ module _ (m : ModuleValue) (ns : List NodeValue) (w : World) (h : IsHeld m ns w)
   decided k e r s runs so d = (λ q. (running_is k e r runs ∙ so, has_now (d.0 q)), λ q. d.1 (as_before q))
 
   -- where it doesn't, nothing is accepted
-  pub denied : (k : ℕ) → k ≡ t.act → (r : Bool) → r ≡ is_running w k → r ≡ false → Decides false (Accepts now t)
-  denied k e r runs so = (λ q. absurd (false≢true q), λ q. sym so ∙ sym (running_is k e r runs) ∙ q.0)
+  pub denied : (k : ℕ) → k ≡ t.act → (r : Bool) → r ≡ is_running w k → r ≡ false → Decides r (Accepts now t)
+  denied k e r runs so = (λ q. absurd (false≢true (sym so ∙ q)), λ q. sym (running_is k e r runs) ∙ q.0)

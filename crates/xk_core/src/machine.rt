@@ -247,10 +247,7 @@ impl<'m> Core<'m> {
     pub fn accepts(&self, ticket: &Ticket<'m>) -> bool
         ensures { Decides result (Accepts self.now ticket.now) }
     {
-        match self.state.runs(ticket.act().0 as usize) {
-            true => self.state.accepts(ticket),
-            false => false,
-        }
+        self.state.runs(ticket.act().0 as usize) && self.state.accepts(ticket)
     }
 
     /// The steps of a ticket, which nobody else can see. Takes no memory.
