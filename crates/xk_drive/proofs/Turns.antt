@@ -17,7 +17,7 @@ use Rattle.xk_laws.proofs.Reached.{run_more}
 use Rattle.xk_core.specs.Core.{CoreValue}
 use Rattle.xk_core.specs.Stretch.{RunsTo, IsUnseen}
 use Rattle.xk_drive.specs.Choosing.{enabled_in, Follows, state_after}
-use Rattle.xk_drive.specs.Driving.{IsTurn, IsPutOff, IsShort, IsRunOf, IsNoted, IsChosen, IsChosenSoFar, state_so_far}
+use Rattle.xk_drive.specs.Driving.{IsTurn, IsPutOff, IsShort, IsRunOf, IsNoted, IsCommitted, IsChosen, IsChosenSoFar, state_so_far}
 use Rattle.xk_drive.proofs.Runs.{run_append}
 use Rattle.xk_drive.proofs.Following.{follows_more, state_more, printed_more, printed_unseen}
 
@@ -49,21 +49,27 @@ schedule_entry log e =
     flat_map-append (λ (x : Entry). replicate x.steps x.act) log (e ∷ [])
     ∙ ap (λ l. schedule_of log ++ l) (flat_map-cons (λ (x : Entry). replicate x.steps x.act) e [] ∙ append-nil (replicate e.steps e.act))
 
+-- one entry more at the end of a log
+pub committed : (log mid more : List Entry) (e : Entry) (a n : ℕ) → e.act ≡ a → e.steps ≡ n → mid ≡ log → more ≡ mid ++ e ∷ [] → IsCommitted log a n more
+committed log mid more e a n act steps same is = (e, act, steps, is ∙ ap (λ l. l ++ e ∷ []) same)
+
 -- by an entry whose steps nobody else can see
-pub run_unseen : (m k : ModuleValue) (log : List Entry) (numbers : List ℤ) (c d : CoreValue) (e : Entry)
-    → IsRunOf m log numbers c → RunsTo c e.act e.steps d → IsUnseen c e.act e.steps → d.module_run ≡ c.module_run → k ≡ m
-    → IsRunOf k (log ++ e ∷ []) numbers d
-run_unseen m k log numbers c d e r ran hidden same is =
-    subst (λ j. IsRunOf j (log ++ e ∷ []) numbers d) (sym is) (record {
+pub run_commits : (m k : ModuleValue) (log more : List Entry) (numbers : List ℤ) (c d : CoreValue) (a n : ℕ)
+    → IsRunOf m log numbers c → RunsTo c a n d → IsUnseen c a n → d.module_run ≡ c.module_run → k ≡ m → IsCommitted log a n more → IsRunOf k more numbers d
+run_commits m k log more numbers c d a n r ran hidden same is l =
+    subst (λ j. IsRunOf j more numbers d) (sym is) (subst (λ es. IsRunOf m es numbers d) (sym l.3) (record {
       module_is = same ∙ r.module_is;
-      leads = ap (λ l. run m l (opening m)) (schedule_entry log e) ∙ run_append m (schedule_of log) list (opening m) c.world r.leads
+      leads = ap (λ xs. run m xs (opening m)) schedule ∙ run_append m (schedule_of log) list (opening m) c.world r.leads
           ∙ subst (λ j. run j list c.world ≡ Through d.world) r.module_is ran;
-      prints = r.prints ∙ sym (ap (λ l. printed m l (opening m)) (schedule_entry log e)
+      prints = r.prints ∙ sym (ap (λ xs. printed m xs (opening m)) schedule
           ∙ printed_unseen m (schedule_of log) list (opening m) c.world r.leads (subst (λ j. seen j list c.world ≡ []) r.module_is hidden));
-    })
+    }))
   where
     list : List ℕ
-    list = replicate e.steps e.act
+    list = replicate n a
+
+    schedule : schedule_of (log ++ l.0 ∷ []) ≡ schedule_of log ++ list
+    schedule = schedule_entry log l.0 ∙ ap (λ j. schedule_of log ++ replicate j l.0.act) l.2 ∙ ap (λ b. schedule_of log ++ replicate n b) l.1
 
 -- and by a turn
 pub run_goes_on : {S : Type 0} (answer : S → List ℕ → ℕ) (after : S → List ℕ → S) (m k : ModuleValue) (log : List Entry) (numbers : List ℤ) (c d : CoreValue)

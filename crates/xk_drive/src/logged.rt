@@ -63,6 +63,16 @@ pub struct Logged<'m> {
     pub ghost run: { IsRunOf driver.module_run log.items printed.items driver },
 }
 
+/// Puts an entry at the end of a log that has room for it.
+fn enter(log: &mut Vec<Entry>, entry: Entry)
+    requires { vec_len log.old < vec_capacity log.old }
+    ensures { log.new.items ≡ log.old.items ++ entry ∷ [] }
+{
+    if log.push(entry).is_err() {
+        unreachable!()
+    }
+}
+
 /// Writes a turn down, in lists that have room for it.
 fn note(log: &mut Vec<Entry>, printed: &mut Vec<i64>, turn: Turn)
     requires log { vec_len log.old < vec_capacity log.old }
@@ -75,9 +85,7 @@ fn note(log: &mut Vec<Entry>, printed: &mut Vec<i64>, turn: Turn)
         act: turn.act.0,
         steps: 1,
     };
-    if log.push(entry).is_err() {
-        unreachable!()
-    }
+    enter(log, entry);
     if let Event::Printed(number) = turn.event
         && printed.push(number).is_err()
     {
@@ -150,9 +158,7 @@ impl<'m> Logged<'m> {
             steps: ticket.steps(),
         };
         self.driver.apply(ticket);
-        if self.log.push(entry).is_err() {
-            unreachable!()
-        }
+        enter(&mut self.log, entry);
         Ok(())
     }
 
