@@ -1,5 +1,5 @@
 -- Local steps of one activity that are handed in leave each other as able to step as it was.
-use Rattle.std.proofs.Common.{◌≡◌, ◌∙◌, ◌⊎◌, inl, inr, ℕ, ◌<◌, ◌≤◌, Bool, true, false, List, [], ◌∷◌, length, filter, Option, Some, None, refl, sym, ap, subst, slice_get, slice_set, length-set}
+use Rattle.std.proofs.Common.{◌≡◌, ◌∙◌, ◌⊎◌, inl, inr, ℕ, ◌<◌, ◌≤◌, Bool, true, false, List, length, filter, Option, Some, None, refl, sym, ap, subst, slice_get, length-set}
 use Rattle.std.specs.Option.{option_map_or}
 use Rattle.std.proofs.lemmas.Bool.{false≢true, cases_eq}
 use Rattle.std.proofs.lemmas.Option.{slice_get_within, get_or_from_slice_get}
