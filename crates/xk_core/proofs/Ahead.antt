@@ -20,7 +20,7 @@ use Rattle.xk_activity.specs.Activities.{act_at, nobody}
 use Rattle.xk_activity.proofs.Joined.{joined}
 use Rattle.xk_activity.proofs.Reached.{reached_safe}
 use Rattle.xk_core.specs.Core.{CoreValue, is_running, runs_now, is_taken_locally, is_next_local}
-use Rattle.xk_core.specs.Stretch.{TakesSteps, HasRoomForSteps, RunsTo, AreLocal, IsUnseen}
+use Rattle.xk_core.specs.Stretch.{after_steps, TakesSteps, HasRoomForSteps, RunsTo, AreLocal, IsUnseen}
 use Rattle.xk_core.specs.Told.{with_node, with_nodes, with_finishes}
 use Rattle.xk_core.proofs.Cores.{core_bound}
 use Rattle.xk_core.proofs.Told.{set_told, get_told}
@@ -138,6 +138,13 @@ module _ (m : ModuleValue) (ns : List NodeValue) (w : World) (a : ℕ) (h : IsHe
         let s = stretched n fs e in
         let b = core_bound m (after (with_finishes ns w) a (with_node r.n r.x) fs n) (record { limits = h.core.limits; accepted = h.core.accepted; reached = s.reached }) in
         omega (arith, b, h.core.accepted.bounds.steps)
+
+    -- they change nothing that finishes are about
+    pub steps_told : (fs : frames.FramesValue) (n : ℕ) → after_steps (with_finishes ns w) a fs n ≡ with_finishes ns (after_steps w a fs n)
+    steps_told fs n =
+        ap (λ x. after (with_finishes ns w) a x fs n) (get_or_from_slice_get (with_nodes ns w.activities) a (with_node r.n r.x) nobody r.both)
+        ∙ ap (λ l. record w { activities = l; steps = w.steps + n }) (sym (set_told ns w.activities a r.n (with_frames r.x fs) r.here))
+        ∙ ap (λ x. with_finishes ns (after w a x fs n)) (sym act_is)
 
     module _ (max n : ℕ) (fs : frames.FramesValue) (e : frames.ran frames.local (frames_in m (act_at w.activities a)) n ≡ frames.Stepped fs)
         (stops : (n ≡ max) ⊎ (frames.local fs ≡ frames.Beyond)) where

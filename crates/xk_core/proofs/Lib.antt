@@ -11,3 +11,4 @@ pub mod Beyond
 pub mod Reserving
 pub mod Stretch
 pub mod Ahead
+pub mod Handing

@@ -5,3 +5,4 @@ pub mod Core
 pub mod Stretch
 pub mod Told
 pub mod Reserved
+pub mod Handed

@@ -1,12 +1,23 @@
 //! The core: a module that the verifier accepted, and a world that a legal schedule of it reaches.
 
+<<<<<<< HEAD
 ghost use Rattle.std.specs.Prelude.{◌≡◌, ◌⊎◌, true, false, ◌+◌, ◌<◌, ◌≤◌, Some, None, length, option_map, option_copied, slice_get, is_some, vec_capacity, IsTrue, IfOk, IfSome, IfNone, OnOk, OnErr};
+=======
+ghost use Rattle.std.specs.Bool.{Decides};
+ghost use Rattle.std.specs.Prelude.{◌≡◌, ◌⊎◌, true, false, ◌+◌, ◌<◌, ◌≤◌, Some, None, length, option_map, option_copied, slice_get, IsTrue, IfOk, IfSome, IfNone, OnOk, OnErr};
+>>>>>>> 76313df2123b52550c70f59f9e423c26977d272b
 ghost use Rattle.xk_types.specs.World.{opening};
 ghost use Rattle.xk_types.specs.Step.{Stepped, step, waits};
 ghost use Rattle.xk_types.specs.Schedule.{IsReached, is_enabled, all_ended};
 ghost use Rattle.xk_types.specs.Bound.{steps_bound};
+<<<<<<< HEAD
 ghost use Rattle.xk_core.specs.Core.{is_running, Locally, IsBeyond, next_instruction, next_of, governor, opening_core, StepsTo, WantsMemory, IsCore, IsLeastEnabled, is_about_to_start, is_quiet, advanced_now, is_held_back_by, is_registered_on, is_next_local};
 ghost use Rattle.xk_core.specs.Stretch.{RunsTo, AreLocal, IsUnseen};
+=======
+ghost use Rattle.xk_core.specs.Core.{is_running, with_world, Locally, IsBeyond, next_instruction, next_of, governor, opening_core, StepsTo, WantsMemory, IsCore, IsLeastEnabled, is_about_to_start, is_quiet, is_registered_on, is_next_local};
+ghost use Rattle.xk_core.specs.Stretch.{after_steps, RunsTo, AreLocal, IsUnseen};
+ghost use Rattle.xk_core.specs.Handed.{Accepts};
+>>>>>>> 76313df2123b52550c70f59f9e423c26977d272b
 ghost use Rattle.xk_activity.specs.Activities.{act_at};
 ghost use Rattle.xk_activity.specs.Joined.{frames_in};
 ghost use Rattle.xk_core.specs.Able.{is_kept};
@@ -18,7 +29,7 @@ use crate::change::is_registered;
 use crate::state::State;
 use std::alloc::{AllocError, Global};
 use std::marker::Model;
-use xk_activity::{Frames, Next};
+use xk_activity::{Frames, Next, Ticket};
 use xk_bounds::Verified;
 use xk_finishes::FinishTree;
 use xk_types::{Act, Args, ClockId, Event, Instr};
@@ -257,6 +268,28 @@ impl<'m> Core<'m> {
             true => self.state.run(act.0 as usize, max),
             false => 0,
         }
+    }
+
+    /// Whether the ticket's activity exists and runs, and has the ticket's old frames: then its steps can be taken.
+    pub fn accepts(&self, ticket: &Ticket<'m>) -> bool
+        ensures { Decides result (Accepts self.now ticket.now) }
+    {
+        self.state.runs(ticket.act().0 as usize) && self.state.accepts(ticket)
+    }
+
+    /// The steps of a ticket, which nobody else can see. Takes no memory.
+    pub fn apply(&mut self, ticket: Ticket<'m>)
+        requires { Accepts self.old ticket }
+        ensures ran { RunsTo self.old ticket.entry.act ticket.entry.steps self.new }
+        ensures local { AreLocal self.old ticket.entry.act ticket.entry.steps }
+        ensures unseen { IsUnseen self.old ticket.entry.act ticket.entry.steps }
+        ensures counted { self.new.world.steps ≡ self.old.world.steps + ticket.entry.steps }
+        ensures same_module { self.new.module_run ≡ self.old.module_run }
+        // The activity has the ticket's new frames, and nothing else changes but the count of steps.
+        ensures changed { self.new ≡ with_world self.old (after_steps self.old.world
+            ticket.entry.act ticket.entry.new ticket.entry.steps) }
+    {
+        self.state.apply(ticket)
     }
 
     /// The instruction that activity a carries out next, if it runs.

@@ -1,6 +1,11 @@
 //! The world of a running program, but for its finishes, and the arms of its steps.
 
+<<<<<<< HEAD
 ghost use Rattle.std.specs.Prelude.{◌≡◌, ℕ, ℤ, ◌+◌, ◌<◌, ◌≤◌, ◌^◌, true, false, ◌∷◌, [], ◌++◌, Some, length, slice_get, slice_set, option_copied, option_map, is_some, vec_capacity, IfOk, IfSome, OnOk, OnErr, All};
+=======
+ghost use Rattle.std.specs.Bool.{Decides};
+ghost use Rattle.std.specs.Prelude.{◌≡◌, ℕ, ℤ, ◌+◌, ◌<◌, ◌≤◌, ◌^◌, true, false, ◌∷◌, [], ◌++◌, Some, length, slice_get, slice_set, option_copied, option_map, IfOk, OnOk, OnErr, All};
+>>>>>>> 76313df2123b52550c70f59f9e423c26977d272b
 ghost use Rattle.xk_types.specs.declared.names.Value.TheVariants as value;
 ghost use Rattle.xk_types.specs.declared.instr.Instr.TheVariants as instruction;
 ghost use Rattle.xk_types.specs.Code.{IsWithinLimits};
@@ -13,7 +18,8 @@ ghost use Rattle.xk_activity.specs.Activities.{act_at, Stands, Takes};
 ghost use Rattle.xk_activity.specs.Local.{IsRight, IsSafe, local, is_stepped};
 ghost use Rattle.xk_activity.specs.Joined.{frames_in};
 ghost use Rattle.xk_rooms.specs.Rooms.{HasRoomLeft};
-ghost use Rattle.xk_core.specs.Stretch.{HasRoomForSteps, TakesSteps};
+ghost use Rattle.xk_core.specs.Stretch.{after_steps, HasRoomForSteps, TakesSteps};
+ghost use Rattle.xk_core.specs.Handed.{IsAsBefore};
 ghost use Rattle.xk_core.specs.Able.{is_able};
 ghost use Rattle.xk_core.specs.Core.{is_quiet, advanced_now, is_held_back_by, is_running, next_instruction, with_world, TakesStep};
 ghost use Rattle.xk_core.specs.Change.{standing_after_step, AllowsChange};
@@ -23,7 +29,7 @@ ghost use Rattle.xk_types.specs.World as world;
 use crate::change::{StandingChange, StepChange};
 use std::alloc::{AllocError, Global};
 use std::marker::Model;
-use xk_activity::{Activities, Frames, Next};
+use xk_activity::{Activities, Frames, Next, Ticket};
 use xk_bounds::{Room, Verified};
 use xk_finishes::FinishTree;
 use xk_standings::Standings;
@@ -546,5 +552,25 @@ impl<'m> State<'m> {
         let n = self.activities.run(a, max);
         self.steps += n as u64;
         n
+    }
+
+    /// Whether a ticket's activity is there, and has the ticket's old frames.
+    pub fn accepts(&self, ticket: &Ticket<'m>) -> bool
+        ensures { Decides result (IsAsBefore self.now ticket.now) }
+    {
+        self.activities.accepts(ticket)
+    }
+
+    /// The steps of a ticket, whose activity runs. No clock is ready to advance, and none becomes so. Takes no memory.
+    pub fn apply(&mut self, ticket: Ticket<'m>)
+        requires before { IsAsBefore self.old ticket }
+        requires steps { HasRoomForSteps self.old ticket.act }
+        ensures runs { TakesSteps self.old ticket.entry.act ticket.entry.steps
+            ticket.entry.steps self.new }
+        ensures changed { self.new ≡ with_world self.old (after_steps self.old.world
+            ticket.entry.act ticket.entry.new ticket.entry.steps) }
+    {
+        self.steps += ticket.steps() as u64;
+        self.activities.apply(ticket);
     }
 }

@@ -2,6 +2,7 @@
 use Rattle.std.proofs.Common.{◌≡◌, ℕ, ℤ, Bool, not, List, [], ◌∷◌, ◌++◌, Option, filter, refl, sym, ap, subst, ◌∙◌}
 use Rattle.std.specs.List.{filter_map}
 use Rattle.std.specs.Option.{option_to_list}
+use Rattle.std.proofs.lemmas.List.{append-nil}
 use Rattle.std.proofs.lemmas.List.Elements.{filter-append, filter_map-append}
 use Rattle.xk_types.specs.declared.names.Event.{Event}
 use Rattle.xk_types.specs.declared.names.Event.TheVariants as event
@@ -10,7 +11,7 @@ use Rattle.xk_types.specs.World.{World}
 use Rattle.xk_types.specs.Step.{Stepped, step}
 use Rattle.xk_types.specs.Schedule.{Through, run, events, is_local, seen, number_printed, printed}
 use Rattle.xk_laws.proofs.Reached.{same_through, first_step}
-use Rattle.xk_drive.proofs.Runs.{events_more}
+use Rattle.xk_drive.proofs.Runs.{events_append, events_more}
 use Rattle.xk_drive.specs.Choosing.{enabled_in, Names, Follows, goes_on, state_after, state_on}
 
 -- ---- choosers
@@ -76,3 +77,9 @@ printed_more m list w v x a e h g =
     ∙ ap (filter_map number_in) (filter-append is_seen (events m list w) ((a, e) ∷ []))
     ∙ filter_map-append number_in (seen m list w) (filter is_seen ((a, e) ∷ []))
     ∙ ap (λ ns. printed m list w ++ ns) (printed_by a e)
+
+-- those of a schedule more of which nothing is seen
+pub printed_unseen : (m : ModuleValue) (xs ys : List ℕ) (w v : World) → run m xs w ≡ Through v → seen m ys v ≡ [] → printed m (xs ++ ys) w ≡ printed m xs w
+printed_unseen m xs ys w v h hidden =
+    ap (λ es. filter_map number_in (filter is_seen es)) (events_append m xs ys w v h)
+    ∙ ap (filter_map number_in) (filter-append is_seen (events m xs w) (events m ys v) ∙ ap (λ es. seen m xs w ++ es) hidden ∙ append-nil (seen m xs w))

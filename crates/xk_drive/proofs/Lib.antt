@@ -4,6 +4,7 @@ pub mod UntouchedOwners
 pub mod UntouchedAwaits
 pub mod Untouched
 pub mod Listing
+pub mod Handed
 pub mod Answered
 pub mod Turns
 pub mod Following

@@ -1,22 +1,25 @@
 -- A run and its log, turn by turn.
 use Rattle.std.proofs.Common.{Vec, ◌≡◌, ◌∙◌, ℕ, ℤ, ◌+◌, ◌-◌, ◌<◌, ◌≤◌, ◌%◌, Bool, true, false, List, [], ◌∷◌, ◌++◌, length, replicate, Some, refl, sym, ap, subst, ◌⊎◌, inl, inr, arith, slice_get}
 use Rattle.std.specs.Option.{option_to_list}
-use Rattle.std.proofs.lemmas.List.Concat.{flat_map-append}
+use Rattle.std.proofs.lemmas.List.{append-nil}
+use Rattle.std.proofs.lemmas.List.Concat.{flat_map-append, flat_map-cons}
 use Rattle.std.proofs.lemmas.List.Elements.{All-nil, All-push}
 use Rattle.xk_types.specs.declared.names.Entry.{Entry}
 use Rattle.xk_types.specs.declared.names.Event.{Event}
 use Rattle.xk_types.specs.Code.{ModuleValue}
 use Rattle.xk_types.specs.World.{World, opening}
 use Rattle.xk_types.specs.Step.{Stepped, step}
-use Rattle.xk_types.specs.Schedule.{Through, run, printed, number_printed}
+use Rattle.xk_types.specs.Schedule.{Through, run, seen, printed, number_printed}
 use Rattle.xk_types.specs.Bound.{steps_bound}
 use Rattle.xk_types.specs.Logs.{schedule_of, one_step_of}
 use Rattle.xk_laws.proofs.Counts.{step_counts}
 use Rattle.xk_laws.proofs.Reached.{run_more}
 use Rattle.xk_core.specs.Core.{CoreValue}
+use Rattle.xk_core.specs.Stretch.{RunsTo, IsUnseen}
 use Rattle.xk_drive.specs.Choosing.{enabled_in, Follows, state_after}
-use Rattle.xk_drive.specs.Driving.{IsTurn, IsPutOff, IsShort, IsRunOf, IsNoted, IsChosen, IsChosenSoFar, state_so_far}
-use Rattle.xk_drive.proofs.Following.{follows_more, state_more, printed_more}
+use Rattle.xk_drive.specs.Driving.{IsTurn, IsPutOff, IsShort, IsRunOf, IsNoted, IsCommitted, IsChosen, IsChosenSoFar, state_so_far}
+use Rattle.xk_drive.proofs.Runs.{run_append}
+use Rattle.xk_drive.proofs.Following.{follows_more, state_more, printed_more, printed_unseen}
 
 -- one entry more is one step more
 schedule_more : (log : List Entry) (a : ℕ) → schedule_of (log ++ one_step_of a ∷ []) ≡ schedule_of log ++ a ∷ []
@@ -39,6 +42,34 @@ run_steps m k log numbers c d a e r taken same is =
   where
     stepped : step m c.world a ≡ Stepped d.world e
     stepped = subst (λ j. step j c.world a ≡ Stepped d.world e) r.module_is taken
+
+-- one entry more is so many steps more
+schedule_entry : (log : List Entry) (e : Entry) → schedule_of (log ++ e ∷ []) ≡ schedule_of log ++ replicate e.steps e.act
+schedule_entry log e =
+    flat_map-append (λ (x : Entry). replicate x.steps x.act) log (e ∷ [])
+    ∙ ap (λ l. schedule_of log ++ l) (flat_map-cons (λ (x : Entry). replicate x.steps x.act) e [] ∙ append-nil (replicate e.steps e.act))
+
+-- one entry more at the end of a log
+pub committed : (log mid more : List Entry) (e : Entry) (a n : ℕ) → e.act ≡ a → e.steps ≡ n → mid ≡ log → more ≡ mid ++ e ∷ [] → IsCommitted log a n more
+committed log mid more e a n act steps same is = (e, act, steps, is ∙ ap (λ l. l ++ e ∷ []) same)
+
+-- by an entry whose steps nobody else can see
+pub run_commits : (m k : ModuleValue) (log more : List Entry) (numbers : List ℤ) (c d : CoreValue) (a n : ℕ)
+    → IsRunOf m log numbers c → RunsTo c a n d → IsUnseen c a n → d.module_run ≡ c.module_run → k ≡ m → IsCommitted log a n more → IsRunOf k more numbers d
+run_commits m k log more numbers c d a n r ran hidden same is l =
+    subst (λ j. IsRunOf j more numbers d) (sym is) (subst (λ es. IsRunOf m es numbers d) (sym l.3) (record {
+      module_is = same ∙ r.module_is;
+      leads = ap (λ xs. run m xs (opening m)) schedule ∙ run_append m (schedule_of log) list (opening m) c.world r.leads
+          ∙ subst (λ j. run j list c.world ≡ Through d.world) r.module_is ran;
+      prints = r.prints ∙ sym (ap (λ xs. printed m xs (opening m)) schedule
+          ∙ printed_unseen m (schedule_of log) list (opening m) c.world r.leads (subst (λ j. seen j list c.world ≡ []) r.module_is hidden));
+    }))
+  where
+    list : List ℕ
+    list = replicate n a
+
+    schedule : schedule_of (log ++ l.0 ∷ []) ≡ schedule_of log ++ list
+    schedule = schedule_entry log l.0 ∙ ap (λ j. schedule_of log ++ replicate j l.0.act) l.2 ∙ ap (λ b. schedule_of log ++ replicate n b) l.1
 
 -- and by a turn
 pub run_goes_on : {S : Type 0} (answer : S → List ℕ → ℕ) (after : S → List ℕ → S) (m k : ModuleValue) (log : List Entry) (numbers : List ℤ) (c d : CoreValue)

@@ -76,7 +76,7 @@ waits_joined a b given (c ∷ cs) wide =
 
 -- One that is the same in two worlds, and waits in both or in neither for clocks, if it does at all, and for those under its finish, is enabled
 -- in both or in neither.
-same_enabled : (m : ModuleValue) (w v : World) (b : ℕ) → IsCore m w → IsCore m v → slice_get v.activities b ≡ slice_get w.activities b
+pub same_enabled : (m : ModuleValue) (w v : World) (b : ℕ) → IsCore m w → IsCore m v → slice_get v.activities b ≡ slice_get w.activities b
     → (is_waiting w b ≡ true → waits v b ≡ waits w b)
     → ((x : Activity) → slice_get w.activities b ≡ Some x → awaits v.activities (innermost b x) ≡ awaits w.activities (innermost b x)) → is_enabled m v b ≡ is_enabled m w b
 same_enabled m w v b core later same waiting awaiting =

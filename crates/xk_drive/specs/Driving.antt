@@ -99,3 +99,7 @@ pub record IsChosenSoFar {S : Type 0} (answer : S → List ℕ → ℕ) (after :
   pub follows : Follows answer after m s (opening m) (schedule_of log)
   pub left : (t ≡ state_after after m s (opening m) (schedule_of log)) ⊎ (t ≡ after (state_after after m s (opening m) (schedule_of log)) (enabled_in m w))
   pub single : All (λ e. e.steps ≡ 1) log
+
+-- What a commit does to a log: one entry more, of so many steps of activity a.
+abbrev pub IsCommitted : List Entry → ℕ → ℕ → List Entry → Type 0
+IsCommitted log a n more = (e : Entry) × (e.act ≡ a) × (e.steps ≡ n) × (more ≡ log ++ e ∷ [])

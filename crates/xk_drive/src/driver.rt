@@ -9,12 +9,15 @@ ghost use Rattle.xk_types.specs.Schedule.{is_enabled, all_ended};
 ghost use Rattle.xk_types.specs.Bound.{steps_bound, activities_bound};
 ghost use Rattle.xk_members.specs.Members.{with_member, place_above};
 ghost use Rattle.xk_core.specs.Core.{IsCore, StepsTo, WantsMemory};
+ghost use Rattle.xk_core.specs.Handed.{Accepts};
+ghost use Rattle.xk_core.specs.Stretch.{RunsTo, AreLocal, IsUnseen};
 ghost use Rattle.xk_drive.specs.Choosing.{enabled_in};
 ghost use Rattle.xk_drive.specs.Listing.{other_to_list, with_or_without, each_tested, woken, waiting_after, everybody_in, KeepsList};
 
 use crate::chooser::Chooser;
 use std::alloc::{AllocError, Global};
 use std::marker::Model;
+use xk_activity::Ticket;
 use xk_core::Core;
 use xk_members::NumberSet;
 use xk_types::{Act, Event};
@@ -302,6 +305,22 @@ impl<'m> Driver<'m> {
         );
         note_waiting(&mut self.waiting, act, event);
         Ok(event)
+    }
+
+    /// The steps of a ticket, which nobody else can see: all others can step as before. Takes no memory.
+    pub fn apply(&mut self, ticket: Ticket<'m>)
+        requires { Accepts self.old ticket }
+        ensures ran { RunsTo self.old ticket.entry.act ticket.entry.steps self.new }
+        ensures local { AreLocal self.old ticket.entry.act ticket.entry.steps }
+        ensures unseen { IsUnseen self.old ticket.entry.act ticket.entry.steps }
+        ensures counted { self.new.world.steps ≡ self.old.world.steps + ticket.entry.steps }
+        ensures same_module { self.new.module_run ≡ self.old.module_run }
+    {
+        let act = ticket.act();
+        self.core.apply(ticket);
+        // Every core is where a legal schedule of its module leads.
+        let _there = self.core.activities();
+        list_one(&mut self.enabled, &self.core, act);
     }
 
     /// The next turn: the step of the activity that the chooser names, and nothing where all have ended. Err only where that step

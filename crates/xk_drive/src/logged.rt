@@ -7,11 +7,14 @@ ghost use Rattle.xk_types.specs.Schedule.{all_ended, is_enabled, number_printed}
 ghost use Rattle.xk_types.specs.Bound.{steps_bound};
 ghost use Rattle.xk_types.specs.Logs.{one_step_of};
 ghost use Rattle.xk_core.specs.Core.{StepsTo};
-ghost use Rattle.xk_drive.specs.Driving.{IsRunOf, IsNoted, IsPutOff, IsShort, IsShortOf};
+ghost use Rattle.xk_core.specs.Handed.{Accepts};
+ghost use Rattle.xk_core.specs.Stretch.{RunsTo, AreLocal};
+ghost use Rattle.xk_drive.specs.Driving.{IsRunOf, IsNoted, IsPutOff, IsShort, IsShortOf, IsFull, IsCommitted};
 
 use crate::chooser::Chooser;
 use crate::driver::{Driver, Turn};
 use std::alloc::{AllocError, Global};
+use xk_activity::Ticket;
 use xk_bounds::Verified;
 use xk_core::Core;
 use xk_types::{Act, Entry, Event};
@@ -60,6 +63,16 @@ pub struct Logged<'m> {
     pub ghost run: { IsRunOf driver.module_run log.items printed.items driver },
 }
 
+/// Puts an entry at the end of a log that has room for it.
+fn enter(log: &mut Vec<Entry>, entry: Entry)
+    requires { vec_len log.old < vec_capacity log.old }
+    ensures { log.new.items ≡ log.old.items ++ entry ∷ [] }
+{
+    if log.push(entry).is_err() {
+        unreachable!()
+    }
+}
+
 /// Writes a turn down, in lists that have room for it.
 fn note(log: &mut Vec<Entry>, printed: &mut Vec<i64>, turn: Turn)
     requires log { vec_len log.old < vec_capacity log.old }
@@ -72,9 +85,7 @@ fn note(log: &mut Vec<Entry>, printed: &mut Vec<i64>, turn: Turn)
         act: turn.act.0,
         steps: 1,
     };
-    if log.push(entry).is_err() {
-        unreachable!()
-    }
+    enter(log, entry);
     if let Event::Printed(number) = turn.event
         && printed.push(number).is_err()
     {
@@ -123,6 +134,32 @@ impl<'m> Logged<'m> {
         let event = self.driver.step(act)?;
         note(&mut self.log, &mut self.printed, Turn { act, event });
         Ok(event)
+    }
+
+    /// The steps of a ticket, with one entry for all of them. Room for the entry is taken first. Where memory is refused no step is
+    /// taken, and nothing has changed.
+    pub fn commit(&mut self, ticket: Ticket<'m>) -> Result<(), AllocError>
+        requires { Accepts self.old.driver ticket }
+        ensures ran { OnOk result
+            (RunsTo self.old.driver ticket.entry.act ticket.entry.steps self.new.driver) }
+        ensures local { OnOk result
+            (AreLocal self.old.driver ticket.entry.act ticket.entry.steps) }
+        ensures logged { OnOk result (IsCommitted self.old.log.items
+            ticket.entry.act ticket.entry.steps self.new.log.items) }
+        ensures silent { self.new.printed.items ≡ self.old.printed.items }
+        ensures same_module { self.new.driver.module_run ≡ self.old.driver.module_run }
+        ensures refused { OnErr result (self.new.driver ≡ self.old.driver) }
+        ensures refused_log { OnErr result (self.new.log.items ≡ self.old.log.items) }
+        ensures only_where_it_grows { OnErr result (IsFull self.new.log) }
+    {
+        self.log.try_reserve(1)?;
+        let entry = Entry {
+            act: ticket.act().0,
+            steps: ticket.steps(),
+        };
+        self.driver.apply(ticket);
+        enter(&mut self.log, entry);
+        Ok(())
     }
 
     /// One turn, and whether there was one: there is none where all have ended. Err where memory was refused: then no step was taken.

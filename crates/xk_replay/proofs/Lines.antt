@@ -17,16 +17,11 @@ use Rattle.xk_laws.proofs.Reached.{same_through, first_step}
 use Rattle.xk_core.specs.Core.{CoreValue, is_quiet, opening_core}
 use Rattle.xk_members.specs.Members.{numbers_from}
 use Rattle.xk_drive.specs.Driving.{IsRunOf}
+use Rattle.xk_drive.proofs.Runs.{run_append}
 use Rattle.xk_drive.proofs.Listing.{one_more, one_not}
 use Rattle.xk_replay.specs.Chart.{has_advanced, advance_in, advances_in, advances_on, advances, act_text, acts_text, advance_line, chart_lines, chart_text}
 
 -- ---- runs in two parts
-
-pub run_append : (m : ModuleValue) (xs ys : List ℕ) (w v : World) → run m xs w ≡ Through v → run m (xs ++ ys) w ≡ run m ys v
-run_append m [] ys w v h = ap (run m ys) (same_through w v h)
-run_append m (a ∷ xs) ys w v h =
-    let f = first_step w v (step m w a) (run m xs) h in
-    ap (λ o. run_on w o (run m (xs ++ ys))) f.2 ∙ run_append m xs ys f.0 v f.3
 
 -- a front of a legal list is legal
 pub legal_front : (m : ModuleValue) (xs ys : List ℕ) (w v : World) → run m (xs ++ ys) w ≡ Through v → (u : World) × (run m xs w ≡ Through u)

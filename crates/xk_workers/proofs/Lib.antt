@@ -2,4 +2,5 @@ pub mod Runs
 pub mod Local
 pub mod Seeking
 pub mod Takes
-pub mod Parts
+pub mod Ready
+pub mod Handing

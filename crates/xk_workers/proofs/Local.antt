@@ -19,8 +19,7 @@ use Rattle.xk_types.proofs.Lists.{get-set_other, get-push_other}
 use Rattle.xk_laws.proofs.Forms.{step_form}
 use Rattle.xk_laws.proofs.NeverWrong.Steps.{Keeps, step_keeps}
 use Rattle.xk_laws.proofs.Reached.{reached_sound, reached_scoped}
-use Rattle.xk_core.specs.Core.{CoreValue, IsCore}
-use Rattle.xk_workers.specs.Claims.{is_taken_locally, is_next_local}
+use Rattle.xk_core.specs.Core.{CoreValue, IsCore, is_taken_locally, is_next_local}
 
 -- ---- steps that others can see
 
@@ -81,8 +80,8 @@ seen_closing w a act (suc n) = tested (awaits w.activities (innermost a act))
     tested true = refl
     tested false = refl
 
-seen_passing : (w : World) (a : ℕ) (act : Activity) → IsSeen (passing w a act)
-seen_passing w a act = tested (waits w a)
+pub seen_passing : (w : World) (a : ℕ) (act : Activity) → IsSeen (passing w a act)
+pub seen_passing w a act = tested (waits w a)
   where
     tested : (b : Bool) → IsSeen (cond b Blocked (done w a (past act (w.steps + 1)) (all passed) event.Passed))
     tested true = refl

@@ -11,7 +11,8 @@ use Rattle.xk_types.specs.Code.{ModuleValue}
 use Rattle.xk_types.specs.World.{Activity, World}
 use Rattle.xk_types.specs.Step.{Stepped, step, step_of}
 use Rattle.xk_types.specs.Schedule.{is_step, is_enabled}
-use Rattle.xk_core.specs.Core.{CoreValue, IsCore}
+use Rattle.xk_core.specs.Core.{CoreValue, IsCore, is_next_local}
+use Rattle.xk_core.specs.Stretch.{RunsTo, AreLocal}
 use Rattle.xk_core.proofs.Cores.{core_stepped}
 use Rattle.xk_members.specs.Members.{numbers_from}
 use Rattle.xk_drive.specs.Choosing.{enabled_in}

@@ -2,20 +2,8 @@
 use Rattle.std.specs.Prelude.{◌≡◌, ℕ, Bool, true, false, List, [], ◌∷◌, ◌++◌, length, slice_index_or}
 use Rattle.xk_types.specs.declared.names.Event.{Event}
 use Rattle.xk_types.specs.declared.names.Event.TheVariants as event
-use Rattle.xk_types.specs.Step.{Outcome, Blocked, Wrong, Stepped, step}
-use Rattle.xk_types.specs.Schedule.{is_local}
-use Rattle.xk_core.specs.Core.{CoreValue}
+use Rattle.xk_core.specs.Core.{CoreValue, is_next_local}
 use Rattle.xk_workers.specs.declared.claims.Claims.{Claims}
-
--- a step that nobody else can see
-abbrev pub is_taken_locally : Outcome → Bool
-is_taken_locally Blocked = false
-is_taken_locally (Wrong c) = false
-is_taken_locally (Stepped w e) = is_local e
-
--- the next step of activity a is local; so it is enabled
-abbrev pub is_next_local : CoreValue → ℕ → Bool
-is_next_local c a = is_taken_locally (step c.module_run c.world a)
 
 -- who is claimed, by number
 abbrev pub claims_in : Claims → List Bool

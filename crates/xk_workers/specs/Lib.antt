@@ -1,3 +1,4 @@
 pub mod Claims
 pub mod Run
 pub mod Shared
+pub mod Turned

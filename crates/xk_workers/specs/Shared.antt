@@ -2,11 +2,18 @@
 use Rattle.std.specs.Prelude.{◌≡◌, ℕ, Bool, true, false, List, Result, Ok, Err, slice_set}
 use Rattle.xk_types.specs.Schedule.{is_enabled, all_ended}
 use Rattle.xk_types.specs.Code.{ModuleValue}
+use Rattle.xk_drive.specs.Driving.{IsCommitted}
 use Rattle.xk_drive.specs.declared.logged.Ended.{Ended}
 use Rattle.xk_drive.specs.declared.logged.Partial.{Partial}
 use Rattle.xk_workers.specs.declared.shared.Take.{Take}
 use Rattle.xk_workers.specs.declared.shared.Take.TheVariants as take
-use Rattle.xk_workers.specs.Claims.{is_claimed, is_next_local}
+use Rattle.xk_activity.specs.Ticket.{TicketValue}
+use Rattle.xk_core.specs.Core.{is_next_local}
+use Rattle.xk_core.specs.Handed.{Accepts}
+use Rattle.xk_core.specs.Stretch.{RunsTo, AreLocal}
+use Rattle.xk_workers.specs.declared.shared.CommitFault.{CommitFault}
+use Rattle.xk_workers.specs.declared.shared.CommitFault.TheVariants as fault
+use Rattle.xk_workers.specs.Claims.{is_claimed}
 use Rattle.xk_workers.specs.Run.{RunValue}
 
 -- a run with its log, who is claimed by number, and whether the workers were told to stop
@@ -29,6 +36,10 @@ pub record AreAllClaimed (s : SharedValue) : Type 0 where
 abbrev pub with_claim : ℕ → SharedValue → SharedValue
 with_claim a s = record s { claims = slice_set s.claims a true }
 
+-- activity a isn't claimed
+abbrev pub without_claim : ℕ → SharedValue → SharedValue
+without_claim a s = record s { claims = slice_set s.claims a false }
+
 -- What a worker is told to do, before s and then t: the local steps of an activity, which it has claimed now; one step of an activity; to wait
 -- until others have done something; or nothing more, since all have ended, or since the workers were told to stop.
 abbrev pub Tells : SharedValue → Take → SharedValue → Type 0
@@ -38,13 +49,34 @@ Tells s take.Idle t = (s.stopped ≡ false) × AreAllClaimed s × (t ≡ s)
 Tells s take.Done t = (s.stopped ≡ false) × (all_ended s.run.core.world ≡ true) × (t ≡ s)
 Tells s take.Stopped t = (s.stopped ≡ true) × (t ≡ s)
 
--- it is no claim
-abbrev pub is_work : Take → Bool
-is_work (take.Work a) = true
-is_work (take.Act a) = false
-is_work take.Idle = false
-is_work take.Done = false
-is_work take.Stopped = false
+-- who is told to take one step under the lock is about to do what others can see
+abbrev pub ActsVisibly : SharedValue → Take → Type 0
+ActsVisibly s (take.Work a) = Unit {0}
+ActsVisibly s (take.Act a) = is_next_local s.run.core a ≡ false
+ActsVisibly s take.Idle = Unit {0}
+ActsVisibly s take.Done = Unit {0}
+ActsVisibly s take.Stopped = Unit {0}
+
+-- ---- what is handed in
+
+-- The ticket's steps were taken, at once: so many steps of its activity, which nobody else can see, and which print nothing. One entry says so,
+-- and its activity isn't claimed any more.
+pub record HasTaken (s : SharedValue) (t : TicketValue) (next : SharedValue) : Type 0 where
+  pub accepted : Accepts s.run.core t
+  pub ran : RunsTo s.run.core t.act t.steps next.run.core
+  pub local : AreLocal s.run.core t.act t.steps
+  pub logged : IsCommitted s.run.log t.act t.steps next.run.log
+  pub printed : next.run.printed ≡ s.run.printed
+  pub same_module : next.run.core.module_run ≡ s.run.core.module_run
+  pub claims : next.claims ≡ slice_set s.claims t.act false
+  pub goes_on : next.stopped ≡ s.stopped
+
+-- What became of a ticket, before s and then next: its steps were taken; its activity hasn't the ticket's old frames, or doesn't run; or there
+-- was no memory for the entry. Where they weren't taken its claim is released, and nothing else has changed.
+abbrev pub Commits : SharedValue → TicketValue → Result (Unit {0}) CommitFault → SharedValue → Type 0
+Commits s t (Ok done) next = HasTaken s t next
+Commits s t (Err fault.Stale) next = (Accepts s.run.core t → ⊥) × (next ≡ without_claim t.act s)
+Commits s t (Err fault.OutOfMemory) next = Accepts s.run.core t × (next ≡ without_claim t.act s)
 
 -- ---- the answer
 

@@ -1,6 +1,6 @@
 //! Whose local steps somebody computes.
 
-ghost use Rattle.std.specs.Prelude.{◌≡◌, ◌<◌, ◌≤◌, false, [], ◌∷◌, ◌++◌};
+ghost use Rattle.std.specs.Prelude.{◌≡◌, ◌<◌, ◌≤◌, false, [], ◌∷◌, ◌++◌, slice_set};
 ghost use Rattle.std.specs.Vec.{vec_len, vec_capacity};
 ghost use Rattle.xk_workers.specs.Claims.{claims_in, is_claimed, claims_after};
 
@@ -33,6 +33,20 @@ impl Claims {
         match act.0.checked_sub(1) {
             None => self.main,
             Some(child) => self.children.get(child as usize).copied().unwrap_or(false),
+        }
+    }
+
+    /// Says whether the activity is claimed from now on. One that has no place is none.
+    pub fn put(&mut self, act: Act, claimed: bool)
+        ensures { claims_in self.new ≡ slice_set (claims_in self.old) act claimed }
+    {
+        match act.0.checked_sub(1) {
+            None => self.main = claimed,
+            Some(child) => {
+                if let Some(claim) = self.children.get_mut(child as usize) {
+                    *claim = claimed;
+                }
+            }
         }
     }
 

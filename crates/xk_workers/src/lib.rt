@@ -4,10 +4,9 @@
 mod claims;
 mod gate;
 mod run;
-mod same;
 mod shared;
 mod workers;
 
 pub use gate::{Direct, Gate};
-pub use shared::{Shared, Take};
+pub use shared::{CommitFault, Shared, Take};
 pub use workers::run_workers;

@@ -1,18 +1,23 @@
 //! A run with its log, which takes no memory before its first step.
 
-ghost use Rattle.std.specs.Prelude.{◌≡◌, ◌∷◌, ◌++◌, [], true, false, None, slice_get, IfOk, IfErr, OnOk, OnErr, IsTrue};
+ghost use Rattle.std.specs.Prelude.{◌≡◌, ◌∷◌, ◌++◌, [], true, false, None, slice_get, IfOk, IfErr, OnOk, OnErr, IsTrue, length};
 ghost use Rattle.xk_types.specs.Schedule.{is_enabled, all_ended};
 ghost use Rattle.xk_types.specs.Bound.{steps_bound};
 ghost use Rattle.xk_types.specs.Logs.{one_step_of};
 ghost use Rattle.xk_members.specs.Members.{place_above};
+ghost use Rattle.xk_activity.specs.Joined.{frames_in};
+ghost use Rattle.xk_activity.specs.Activities.{act_at};
 ghost use Rattle.xk_core.specs.Core.{StepsTo, IsCore};
+ghost use Rattle.xk_core.specs.Handed.{Accepts};
+ghost use Rattle.xk_core.specs.Stretch.{RunsTo, AreLocal};
 ghost use Rattle.xk_drive.specs.Choosing.{enabled_in};
-ghost use Rattle.xk_drive.specs.Driving.{IsRunOf};
+ghost use Rattle.xk_drive.specs.Driving.{IsRunOf, IsCommitted};
 ghost use Rattle.xk_workers.specs.Run.{fresh_run, run_at, IsStage, IsGoing, IsLegalRun};
 
 use std::alloc::{AllocError, Global};
 use std::marker::Model;
 use std::mem;
+use xk_activity::{Frames, Ticket};
 use xk_core::Core;
 use xk_drive::{Ended, Logged, Partial, unstarted};
 use xk_types::{Act, Entry, Event};
@@ -158,6 +163,41 @@ impl<'m> Run<'m> {
         begin(&mut self.stage, self.alloc)?;
         match &mut self.stage {
             Stage::Going(logged) => logged.step(act),
+            _ => unreachable!(),
+        }
+    }
+
+    /// The frames of the activity, in room of their own.
+    pub fn copy(&self, act: Act) -> Result<Frames<'m>, AllocError>
+        requires { act < length self.now.core.world.activities }
+        ensures frames { IfOk result (λ f. f ≡ frames_in self.now.core.module_run
+            (act_at self.now.core.world.activities act)) }
+        // The module is accepted, and every core is where a legal schedule of it leads.
+        ensures core { IsCore self.now.core.module_run self.now.core.world }
+    {
+        let core = self.core();
+        let _everybody = core.activities();
+        core.frames(act).copy(self.alloc)
+    }
+
+    /// The steps of a ticket, with one entry. Where memory is refused none is taken, and nothing has changed.
+    pub fn commit(&mut self, ticket: Ticket<'m>) -> Result<(), AllocError>
+        requires { Accepts self.old.core ticket }
+        ensures ran { OnOk result
+            (RunsTo self.old.core ticket.entry.act ticket.entry.steps self.new.core) }
+        ensures local { OnOk result
+            (AreLocal self.old.core ticket.entry.act ticket.entry.steps) }
+        ensures logged { OnOk result
+            (IsCommitted self.old.log ticket.entry.act ticket.entry.steps self.new.log) }
+        ensures printed { self.new.printed ≡ self.old.printed }
+        ensures same_module { self.new.core.module_run ≡ self.old.core.module_run }
+        ensures refused { OnErr result (self.new ≡ self.old) }
+        // The module is accepted, and every core is where a legal schedule of it leads.
+        ensures core { IsCore self.old.core.module_run self.old.core.world }
+    {
+        begin(&mut self.stage, self.alloc)?;
+        match &mut self.stage {
+            Stage::Going(logged) => logged.commit(ticket),
             _ => unreachable!(),
         }
     }

@@ -1,18 +1,22 @@
 //! What workers share: a run with its log, who is claimed, and whether to stop.
 
-ghost use Rattle.std.specs.Prelude.{◌≡◌, ◌+◌, ◌≤◌, ◌∷◌, ◌++◌, [], true, false, IfOk, IfErr, IfSome, IfNone, OnOk, OnErr, IsTrue, All, Some, slice_get};
+ghost use Rattle.std.specs.Prelude.{◌≡◌, ◌+◌, ◌≤◌, ◌<◌, ◌∷◌, ◌++◌, [], true, false, IfOk, IfErr, IfSome, IfNone, OnOk, OnErr, IsTrue, All, Some, slice_get, length};
 ghost use Rattle.xk_types.specs.Schedule.{is_enabled, all_ended};
 ghost use Rattle.xk_types.specs.Logs.{one_step_of};
-ghost use Rattle.xk_core.specs.Core.{StepsTo};
+ghost use Rattle.xk_activity.specs.Local.{IsSafe, local, is_stepped};
+ghost use Rattle.xk_activity.specs.Joined.{frames_in};
+ghost use Rattle.xk_activity.specs.Activities.{act_at};
+ghost use Rattle.xk_core.specs.Core.{StepsTo, is_next_local};
 ghost use Rattle.xk_drive.specs.Choosing.{enabled_in};
 ghost use Rattle.xk_workers.specs.Claims.{claims_in, is_claimed, claims_after};
 ghost use Rattle.xk_workers.specs.Run.{fresh_run, IsLegalRun};
-ghost use Rattle.xk_workers.specs.Shared.{IsFree, Tells, is_work};
+ghost use Rattle.xk_workers.specs.Shared.{IsFree, Tells, ActsVisibly, Commits, without_claim};
 
 use crate::claims::Claims;
 use crate::run::Run;
 use std::alloc::{AllocError, Global};
 use std::marker::Model;
+use xk_activity::{Frames, Ticket};
 use xk_core::Core;
 use xk_drive::{Ended, Partial};
 use xk_types::{Act, Entry, Event};
@@ -30,6 +34,15 @@ pub enum Take {
     Done,
     /// Nothing: the workers were told to stop.
     Stopped,
+}
+
+/// Why the steps of a ticket weren't taken.
+#[derive(Clone, Copy, Debug)]
+pub enum CommitFault {
+    /// The activity doesn't run, or hasn't the frames any more that they were computed from.
+    Stale,
+    /// There is no memory for the entry.
+    OutOfMemory,
 }
 
 /// A running program that workers share under a lock, with its log: whoever has the lock finds a core to which the log leads.
@@ -109,8 +122,8 @@ impl<'m> Shared<'m> {
     /// Takes no memory.
     pub fn take(&mut self) -> Take
         ensures told { Tells self.old result self.new }
-        // Local steps are taken under the lock, too, as yet.
-        ensures no_work { is_work result ≡ false }
+        // Steps that nobody else can see are computed outside the lock.
+        ensures visible { ActsVisibly self.old result }
     {
         if self.stopped {
             return Take::Stopped;
@@ -118,9 +131,57 @@ impl<'m> Shared<'m> {
         let Some(first) = self.run.first() else {
             return Take::Done;
         };
-        match first_unclaimed(&self.run, &self.claims, first) {
-            Some(act) => Take::Act(act),
-            None => Take::Idle,
+        let Some(act) = first_unclaimed(&self.run, &self.claims, first) else {
+            return Take::Idle;
+        };
+        if !self.run.core().next_local(act) {
+            return Take::Act(act);
+        }
+        self.claims.put(act, true);
+        Take::Work(act)
+    }
+
+    /// Whether the activity is claimed.
+    pub fn claimed(&self, act: Act) -> bool
+        ensures { result ≡ is_claimed self.now.claims act }
+    {
+        self.claims.has(act)
+    }
+
+    /// The frames of the activity, in room of their own, so that its local steps can be computed outside the lock.
+    pub fn copy(&self, act: Act) -> Result<Frames<'m>, AllocError>
+        requires { act < length self.now.run.core.world.activities }
+        ensures frames { IfOk result (λ f. f ≡ frames_in self.now.run.core.module_run
+            (act_at self.now.run.core.world.activities act)) }
+        // Where the next step is one of those, they can be computed.
+        ensures safe { is_next_local self.now.run.core act ≡ true → IfOk result (IsSafe local) }
+        ensures next { is_next_local self.now.run.core act ≡ true
+            → IfOk result (λ f. is_stepped (local f) ≡ true) }
+    {
+        self.run.copy(act)
+    }
+
+    /// Ends the claim of the activity.
+    pub fn release(&mut self, act: Act)
+        requires { is_claimed self.old.claims act ≡ true }
+        ensures { self.new ≡ without_claim act self.old }
+    {
+        self.claims.put(act, false);
+    }
+
+    /// Hands in local steps of an activity that were computed outside the lock: they are taken at once, with one entry. `Stale` exactly
+    /// where the activity doesn't run, or hasn't the ticket's old frames any more, which is looked at first; `OutOfMemory` where there
+    /// is no room for the entry. However it goes, the activity isn't claimed any more, and where it goes wrong nothing else has changed.
+    pub fn commit(&mut self, ticket: Ticket<'m>) -> Result<(), CommitFault>
+        ensures { Commits self.old ticket.entry result self.new }
+    {
+        self.claims.put(ticket.act(), false);
+        if !self.run.core().accepts(&ticket) {
+            return Err(CommitFault::Stale);
+        }
+        match self.run.commit(ticket) {
+            Ok(()) => Ok(()),
+            Err(_) => Err(CommitFault::OutOfMemory),
         }
     }
 

@@ -3,20 +3,36 @@
 ghost use Rattle.std.specs.Prelude.{◌≡◌, ◌≤◌, IfOk, IfErr};
 ghost use Rattle.std.specs.Bool.{Decides};
 ghost use Rattle.xk_workers.specs.Shared.{IsSettled};
+ghost use Rattle.xk_workers.specs.Turned.{CanCompute};
 
 use crate::gate::Gate;
-use crate::same::is_same_module;
-use crate::shared::{Shared, Take};
-use std::alloc::Global;
+use crate::shared::{CommitFault, Shared, Take};
+use std::alloc::{AllocError, Global};
 use std::sync::{Condvar, Mutex, Wait};
 use std::thread;
 use std::thread::Threads;
+use xk_activity::{Frames, Ticket};
 use xk_core::Core;
 use xk_drive::{Ended, First, Partial, drive, unstarted};
+use xk_same::is_same_module;
+use xk_types::Act;
+
+/// How many local steps a worker computes at once, at most.
+const MOST: u32 = 65_536;
+
+/// What all workers have beside the machine: memory, how local steps are computed, and where they wait for each other.
+#[derive(Clone, Copy)]
+struct Desk<'a, G> {
+    alloc: Global,
+    gate: &'a G,
+    changed: &'a Condvar,
+}
 
 /// What came of a worker's turn under the lock.
-#[derive(Clone, Copy)]
-enum Turned {
+#[derive(Drop)]
+pub enum Turned<'m> {
+    /// Local steps of the activity, which is claimed and has these frames, are to be computed.
+    Works(Act, Frames<'m>),
     /// Something was done.
     Acted,
     /// It is to wait for the others.
@@ -25,45 +41,95 @@ enum Turned {
     Over,
 }
 
-/// A worker's turn under the lock: it does what it is told. A worker that is refused memory tells all of them to stop.
-fn turn(shared: &mut Shared<'_>) -> Turned {
+/// A worker was refused memory: it claims the activity no more, and all are told to stop.
+fn give_up(shared: &mut Shared<'_>, act: Act) {
+    if shared.claimed(act) {
+        shared.release(act);
+    }
+    shared.stop();
+}
+
+/// A worker's turn under the lock: it does what it is told, or takes the frames with it from which it is to compute local steps.
+fn turn<'m>(shared: &mut Shared<'m>) -> Turned<'m>
+    ensures { CanCompute result }
+{
     match shared.take() {
+        Take::Work(act) => match shared.copy(act) {
+            Ok(frames) => Turned::Works(act, frames),
+            Err(_) => {
+                give_up(shared, act);
+                Turned::Acted
+            }
+        },
         Take::Act(act) => {
             if shared.act(act).is_err() {
                 shared.stop();
             }
             Turned::Acted
         }
-        Take::Work(_) => unreachable!(),
         Take::Idle => Turned::Waits,
         Take::Done | Take::Stopped => Turned::Over,
     }
 }
 
-/// A worker: takes its turns until there is nothing more to do, and sleeps while it has to wait for others.
-fn work<R: Wait>(rt: &R, board: &Mutex<Shared<'_>>, changed: &Condvar) {
+/// Hands in what came of the activity's local steps, under the lock.
+fn hand_in<'m>(
+    shared: &mut Shared<'m>,
+    act: Act,
+    answer: Result<Ticket<'m>, (Frames<'m>, AllocError)>,
+) {
+    match answer {
+        Ok(ticket) => {
+            if let Err(CommitFault::OutOfMemory) = shared.commit(ticket) {
+                shared.stop();
+            }
+        }
+        Err(_) => give_up(shared, act),
+    }
+}
+
+/// A worker: takes its turns until there is nothing more to do, computes local steps outside the lock, and sleeps while it has to wait
+/// for others.
+fn work<R: Wait, G: Gate>(rt: &R, desk: &Desk<'_, G>, board: &Mutex<Shared<'_>>, worker: u32) {
     for _ in rt.forever() {
         let mut shared = board.lock(rt);
         match turn(&mut *shared) {
-            Turned::Acted => changed.notify_all(),
-            Turned::Waits => drop(changed.wait(rt, shared)),
+            Turned::Works(act, frames) => {
+                drop(shared);
+                let answer = desk.gate.compute(desk.alloc, worker, act, frames, MOST);
+                hand_in(&mut *board.lock(rt), act, answer);
+                desk.changed.notify_all();
+            }
+            Turned::Acted => desk.changed.notify_all(),
+            Turned::Waits => drop(desk.changed.wait(rt, shared)),
             Turned::Over => return,
         }
     }
 }
 
 /// Lets this many workers loose on the machine, of which the calling thread is one. Where a thread can't be started there are fewer.
-fn worked<'m, R: Threads + Wait + Sync>(rt: &R, shared: Shared<'m>, workers: u32) -> Shared<'m> {
+fn worked<'m, R: Threads + Wait + Sync, G: Gate + Sync>(
+    rt: &R,
+    alloc: Global,
+    shared: Shared<'m>,
+    workers: u32,
+    gate: &G,
+) -> Shared<'m> {
     let board = Mutex::new(shared);
     let changed = Condvar::new();
-    let (lock, bell) = (&board, &changed);
+    let desk = Desk {
+        alloc,
+        gate,
+        changed: &changed,
+    };
+    let (lock, all) = (&board, &desk);
     thread::scope(thread::scope_env(), rt, |scope| {
-        for _ in 1..workers {
-            if scope.spawn(move || work(rt, lock, bell)).is_err() {
+        for worker in 1..workers {
+            if scope.spawn(move || work(rt, all, lock, worker)).is_err() {
                 break;
             }
         }
-        work(rt, lock, bell);
+        work(rt, all, lock, 0);
     });
     board.into_inner()
 }
@@ -96,15 +162,15 @@ fn settle<'m>(alloc: Global, shared: Shared<'m>, aside: Core<'m>) -> Result<Ende
 }
 
 /// Runs a core, from before its first step, by this many worker threads under one lock, the calling thread among them; where a thread
-/// can't be started there are fewer. Ok where all activities have ended, and Err where memory was refused. Whatever the workers do, the
-/// log in the answer stands for a legal schedule of the module that leads to the core in the answer, as the types of the answers keep.
-/// The gate isn't asked yet: all steps are taken under the lock.
+/// can't be started there are fewer. Steps that others can see are taken under the lock; local ones are computed outside it by the gate,
+/// and handed in. Ok where all activities have ended, and Err where memory was refused. Whatever the workers do, the log in the answer
+/// stands for a legal schedule of the module that leads to the core in the answer, as the types of the answers keep.
 pub fn run_workers<'m, R: Threads + Wait + Sync, G: Gate + Sync>(
     rt: &R,
     alloc: Global,
     start: Core<'m>,
     workers: u32,
-    _gate: &G,
+    gate: &G,
 ) -> Result<Ended<'m>, Partial<'m>>
     requires some { 1 ≤ workers }
     requires few { workers ≤ 64 }
@@ -116,6 +182,6 @@ pub fn run_workers<'m, R: Threads + Wait + Sync, G: Gate + Sync>(
     let Ok(aside) = Core::open(alloc, start.module()) else {
         return Err(unstarted(alloc, start));
     };
-    let shared = worked(rt, Shared::open(alloc, start), workers);
+    let shared = worked(rt, alloc, Shared::open(alloc, start), workers, gate);
     settle(alloc, shared, aside)
 }

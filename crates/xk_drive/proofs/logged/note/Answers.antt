@@ -5,5 +5,5 @@ use Rattle.xk_drive.proofs.logged.note.Goals as goal
 
 pub returns-clause-log : goal.returns-clause-log
 returns-clause-log c =
-    rw (c.if-is_err.ensures.negation) at c.push.ensures.items
+    c.enter.ensures
     ∙ ap (λ e. c.args.log.now.items ++ e ∷ []) (one_step_is c.turn.inside.0.0.0 _ ∙ ap (λ t. one_step_of t.act) c.turn.view_is)
