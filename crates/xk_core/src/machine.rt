@@ -1,23 +1,14 @@
 //! The core: a module that the verifier accepted, and a world that a legal schedule of it reaches.
 
-<<<<<<< HEAD
 ghost use Rattle.std.specs.Prelude.{◌≡◌, ◌⊎◌, true, false, ◌+◌, ◌<◌, ◌≤◌, Some, None, length, option_map, option_copied, slice_get, is_some, vec_capacity, IsTrue, IfOk, IfSome, IfNone, OnOk, OnErr};
-=======
 ghost use Rattle.std.specs.Bool.{Decides};
-ghost use Rattle.std.specs.Prelude.{◌≡◌, ◌⊎◌, true, false, ◌+◌, ◌<◌, ◌≤◌, Some, None, length, option_map, option_copied, slice_get, IsTrue, IfOk, IfSome, IfNone, OnOk, OnErr};
->>>>>>> 76313df2123b52550c70f59f9e423c26977d272b
 ghost use Rattle.xk_types.specs.World.{opening};
 ghost use Rattle.xk_types.specs.Step.{Stepped, step, waits};
 ghost use Rattle.xk_types.specs.Schedule.{IsReached, is_enabled, all_ended};
 ghost use Rattle.xk_types.specs.Bound.{steps_bound};
-<<<<<<< HEAD
-ghost use Rattle.xk_core.specs.Core.{is_running, Locally, IsBeyond, next_instruction, next_of, governor, opening_core, StepsTo, WantsMemory, IsCore, IsLeastEnabled, is_about_to_start, is_quiet, advanced_now, is_held_back_by, is_registered_on, is_next_local};
-ghost use Rattle.xk_core.specs.Stretch.{RunsTo, AreLocal, IsUnseen};
-=======
-ghost use Rattle.xk_core.specs.Core.{is_running, with_world, Locally, IsBeyond, next_instruction, next_of, governor, opening_core, StepsTo, WantsMemory, IsCore, IsLeastEnabled, is_about_to_start, is_quiet, is_registered_on, is_next_local};
-ghost use Rattle.xk_core.specs.Stretch.{after_steps, RunsTo, AreLocal, IsUnseen};
+ghost use Rattle.xk_core.specs.Core.{is_running, Locally, IsBeyond, next_instruction, next_of, governor, opening_core, StepsTo, WantsMemory, IsCore, IsLeastEnabled, is_about_to_start, is_quiet, advanced_now, is_held_back_by, is_registered_on, is_next_local, with_world};
+ghost use Rattle.xk_core.specs.Stretch.{RunsTo, AreLocal, IsUnseen, after_steps};
 ghost use Rattle.xk_core.specs.Handed.{Accepts};
->>>>>>> 76313df2123b52550c70f59f9e423c26977d272b
 ghost use Rattle.xk_activity.specs.Activities.{act_at};
 ghost use Rattle.xk_activity.specs.Joined.{frames_in};
 ghost use Rattle.xk_core.specs.Able.{is_kept};
