@@ -1,5 +1,5 @@
 -- Stretches of local steps: others are left able to step as they were, and a chooser whose state stays names who takes them at each step.
-use Rattle.std.proofs.Common.{◌≡◌, ◌∙◌, ℕ, zero, suc, ◌+◌, ◌<◌, Bool, true, false, true≢false, cond, not, ◌==◌, ◌%◌, List, [], ◌∷◌, length, filter, map, replicate, Some, slice_get, refl, sym, ap, subst, arith}
+use Rattle.std.proofs.Common.{◌≡◌, ◌∙◌, ℕ, zero, suc, ◌+◌, ◌<◌, true, false, true≢false, cond, not, ◌==◌, ◌%◌, List, [], ◌∷◌, length, filter, map, replicate, Some, slice_get, refl, sym, ap, subst, arith}
 use Rattle.std.specs.List.{list_all}
 use Rattle.std.proofs.lemmas.Bool.{ne_eqb}
 use Rattle.std.proofs.lemmas.List.{set-get_or}

@@ -350,7 +350,7 @@ impl<'m> Driver<'m> {
     ghost use Rattle.xk_drive.specs.Stretches.{IsStretch};
 
     /// Up to max steps at once of the activity that the chooser names, and how many they were: those before the next one that others
-    /// can see, if the chooser is steady, and none else. Nobody else is any more or less able to step. Takes no memory.
+    /// can see, if the chooser is steady, and none else. The chooser is left as if it had named each. Takes no memory.
     #[inline(always)]
     pub fn stretch<C: Chooser>(&mut self, chooser: &mut C, max: u32) -> u32
         ensures taken { IsStretch C.answer C.after self.old chooser.old result
