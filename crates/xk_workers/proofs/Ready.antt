@@ -1,9 +1,8 @@
 -- Who is about to take a local step: its frames tell of one, and of no wrong one behind it.
-use Rattle.std.proofs.Common.{◌≡◌, ◌∙◌, ℕ, Bool, true, false, true≢false, Option, Some, None, refl, sym, subst, slice_get}
+use Rattle.std.proofs.Common.{◌≡◌, ◌∙◌, ℕ, true, false, true≢false, Option, Some, None, refl, sym, subst, slice_get}
 use Rattle.std.proofs.lemmas.Option.{get_or_from_slice_get}
 use Rattle.xk_types.specs.declared.names.Status.{Status}
 use Rattle.xk_types.specs.declared.names.Status.TheVariants as status
-use Rattle.xk_types.specs.Code.{ModuleValue}
 use Rattle.xk_types.specs.World.{Activity, World}
 use Rattle.xk_types.specs.Step.{Outcome, Blocked, Wrong, Stepped, step, step_of, step_by}
 use Rattle.xk_activity.specs.Local as frames
@@ -61,3 +60,8 @@ ready c a core l =
     by frames.Beyond e = absurd (true≢false (sym l ∙ seen_so (step c.module_run c.world a) (agrees frames.Beyond e)))
     by frames.Wrong e = absurd (subst (λ o. frames.IsRight o) e (safe 1))
     by (frames.Stepped fs) e = refl
+
+-- and so of a copy of them
+pub ready_copy : (c : CoreValue) (a : ℕ) (f : frames.FramesValue) → IsCore c.module_run c.world → is_next_local c a ≡ true → f ≡ frames_of c a
+    → frames.IsSafe frames.local f × (frames.is_stepped (frames.local f) ≡ true)
+ready_copy c a f core l is = subst (λ (g : frames.FramesValue). frames.IsSafe frames.local g × (frames.is_stepped (frames.local g) ≡ true)) (sym is) (ready c a core l)

@@ -2,11 +2,9 @@
 use Rattle.std.proofs.Common.{◌≡◌, ℕ, Bool, true, false, cond, List, [], ◌∷◌, length, Option, None, slice_get, refl, sym, ap, subst, ◌∙◌, arith}
 use Rattle.std.proofs.lemmas.Bool.{le-leb}
 use Rattle.std.proofs.lemmas.Option.{none-some}
-use Rattle.xk_types.specs.declared.names.Event.{Event}
 use Rattle.xk_types.specs.World.{World, opening}
-use Rattle.xk_types.specs.Step.{Stepped, step}
 use Rattle.xk_core.specs.Core.{CoreValue, IsCore}
-use Rattle.xk_core.proofs.Cores.{core_fresh, core_stepped}
+use Rattle.xk_core.proofs.Cores.{core_fresh}
 use Rattle.xk_types.specs.Schedule.{is_enabled, all_ended}
 use Rattle.xk_members.specs.Members.{place_above}
 use Rattle.xk_drive.specs.Choosing.{enabled_in}
@@ -15,19 +13,11 @@ use Rattle.xk_drive.proofs.Listing.{listed_over}
 use Rattle.xk_drive.specs.declared.logged.Logged.{Logged}
 use Rattle.xk_workers.specs.declared.run.Stage.{Stage}
 use Rattle.xk_workers.specs.declared.run.Stage.TheVariants as stage
-use Rattle.xk_workers.specs.Run.{RunValue, fresh_run, run_at, IsStage, IsRun, IsLegalRun}
+use Rattle.xk_workers.specs.Run.{RunValue, fresh_run, run_at, IsStage, IsRun}
 
 -- a core that has taken no step is a run
 pub fresh_is : (c : CoreValue) → IsCore c.module_run c.world → c.world.steps ≡ 0 → IsRun (fresh_run c)
 fresh_is c core none = record { core = core; legal = run_starts c.module_run c refl (core_fresh c.module_run c.world core none) }
-
--- a run stays one by a step, if it stays legal
-pub stepped_is : (r s : RunValue) (a : ℕ) (e : Event) → IsRun r → step r.core.module_run r.core.world a ≡ Stepped s.core.world e
-    → s.core.module_run ≡ r.core.module_run → IsLegalRun s → IsRun s
-stepped_is r s a e is taken same legal = record {
-  core = subst (λ m. IsCore m s.core.world) (sym same) (core_stepped r.core.module_run r.core.world s.core.world a e is.core taken);
-  legal = legal;
-}
 
 -- a run in which nobody can take a step is over
 pub run_over : (r : RunValue) → IsRun r → enabled_in r.core.module_run r.core.world ≡ [] → all_ended r.core.world ≡ true
