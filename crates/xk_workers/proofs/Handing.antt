@@ -67,16 +67,16 @@ record Leaves (m : ModuleValue) (a : ℕ) (w v : World) : Type 0 where
   pub width : length v.activities ≡ length w.activities
   pub others : (b : ℕ) → (b ≡ a → ⊥) → is_next_local (core_in m w) b ≡ true → is_next_local (core_in m v) b ≡ true
 
-first_event : (a : ℕ) (e : Event) (more rest : List (ℕ × Event)) → (a, e) ∷ more ≡ (a, event.Local) ∷ rest → (e ≡ event.Local) × (more ≡ rest)
-first_event a e more rest h = cc
+heads : (p q : ℕ × Event) (ps qs : List (ℕ × Event)) → p ∷ ps ≡ q ∷ qs → (p ≡ q) × (ps ≡ qs)
+heads p q ps qs h = (cc, cc)
 
 leaves : (m : ModuleValue) (a n : ℕ) (w v : World) → IsCore m w → run m (replicate n a) w ≡ Through v → events m (replicate n a) w ≡ replicate n (a, event.Local) → Leaves m a w v
 leaves m a zero w v core goes shows = subst (Leaves m a w) (same_through w v goes) (record { width = refl; others = λ b ne l. l })
 leaves m a (suc n) w v core goes shows =
     let f = first_step w v (step m w a) (run m (replicate n a)) goes in
-    let at = first_event a f.1 (events m (replicate n a) f.0) (replicate n (a, event.Local))
+    let at = heads (a, f.1) (a, event.Local) (events m (replicate n a) f.0) (replicate n (a, event.Local))
     (sym (ap (λ o. events_on a o (events m (replicate n a))) f.2) ∙ shows) in
-    let taken : step m w a ≡ Stepped f.0 event.Local = f.2 ∙ ap (Stepped f.0) at.0 in
+    let taken : step m w a ≡ Stepped f.0 event.Local = f.2 ∙ ap (λ (p : ℕ × Event). Stepped f.0 p.1) at.0 in
     let next : IsCore m f.0 = core_stepped m w f.0 a event.Local core taken in
     let rest : Leaves m a f.0 v = leaves m a n f.0 v next f.3 at.1 in
     record {

@@ -81,7 +81,7 @@ seen_closing w a act (suc n) = tested (awaits w.activities (innermost a act))
     tested false = refl
 
 pub seen_passing : (w : World) (a : ℕ) (act : Activity) → IsSeen (passing w a act)
-pub seen_passing w a act = tested (waits w a)
+seen_passing w a act = tested (waits w a)
   where
     tested : (b : Bool) → IsSeen (cond b Blocked (done w a (past act (w.steps + 1)) (all passed) event.Passed))
     tested true = refl
