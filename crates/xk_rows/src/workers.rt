@@ -112,7 +112,7 @@ fn a_gate_is_refused_memory(rt: HostRuntime) -> Result<(), Fail> {
 /// Local steps of main, as many as there are, computed from a copy of its frames.
 fn ticket<'m>(alloc: Global, shared: &Shared<'m>) -> Result<Ticket<'m>, Fail> {
     let main = Act(0);
-    if !shared.core().next_local(main) {
+    if shared.core().activities() == 0 || !shared.core().next_local(main) {
         return Err("main has no local step".into());
     }
     match run_local(alloc, main, shared.copy(main)?, 9) {

@@ -1,6 +1,6 @@
 //! A run with its log, which takes no memory before its first step.
 
-ghost use Rattle.std.specs.Prelude.{◌≡◌, ◌∷◌, ◌++◌, [], true, false, None, slice_get, IfOk, IfErr, OnOk, OnErr, IsTrue, length};
+ghost use Rattle.std.specs.Prelude.{◌≡◌, ◌∷◌, ◌++◌, [], true, false, None, slice_get, IfOk, IfErr, OnOk, OnErr, IsTrue, length, ◌<◌};
 ghost use Rattle.xk_types.specs.Schedule.{is_enabled, all_ended};
 ghost use Rattle.xk_types.specs.Bound.{steps_bound};
 ghost use Rattle.xk_types.specs.Logs.{one_step_of};
