@@ -61,3 +61,8 @@ ready c a core l =
     by frames.Beyond e = absurd (true≢false (sym l ∙ seen_so (step c.module_run c.world a) (agrees frames.Beyond e)))
     by frames.Wrong e = absurd (subst (λ o. frames.IsRight o) e (safe 1))
     by (frames.Stepped fs) e = refl
+
+-- and so of a copy of them
+pub ready_copy : (c : CoreValue) (a : ℕ) (f : frames.FramesValue) → IsCore c.module_run c.world → is_next_local c a ≡ true → f ≡ frames_of c a
+    → frames.IsSafe frames.local f × (frames.is_stepped (frames.local f) ≡ true)
+ready_copy c a f core l is = subst (λ (g : frames.FramesValue). frames.IsSafe frames.local g × (frames.is_stepped (frames.local g) ≡ true)) (sym is) (ready c a core l)

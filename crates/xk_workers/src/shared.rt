@@ -179,10 +179,10 @@ impl<'m> Shared<'m> {
         if !self.run.core().accepts(&ticket) {
             return Err(CommitFault::Stale);
         }
-        match self.run.commit(ticket) {
-            Ok(()) => Ok(()),
-            Err(_) => Err(CommitFault::OutOfMemory),
-        }
+        let Ok(()) = self.run.commit(ticket) else {
+            return Err(CommitFault::OutOfMemory);
+        };
+        Ok(())
     }
 
     /// One step of the activity, with its entry in the log. The room for the entry, for a number that it may print and for the claim of
