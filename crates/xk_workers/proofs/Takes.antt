@@ -94,7 +94,7 @@ all_from P p a (suc n) all b from below h =
     tested false t all (inl s) go = absurd (true≢false (sym h ∙ sym (ap p s) ∙ t))
     tested false t all (inr ne) go = go all (omega arith)
 
-pub enabled_within : (m : ModuleValue) (w : World) (a : ℕ) → is_enabled m w a ≡ true → a < length w.activities
+enabled_within : (m : ModuleValue) (w : World) (a : ℕ) → is_enabled m w a ≡ true → a < length w.activities
 enabled_within m w a h = of (slice_get w.activities a) refl h
   where
     of : (o : Option Activity) → slice_get w.activities a ≡ o → is_step (step_of m w a o) ≡ true → a < length w.activities
