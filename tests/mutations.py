@@ -45,8 +45,6 @@ SECONDS = 60
 # Runs of more steps than this are not made at all; those of more steps, or of more steps times activities and clocks, than these are
 # looked at for their form alone; and schedules are followed where there are no more activities than this.
 LONGEST_RUN, LONGEST_COMPARED, MOST_WORK, MOST_ACTIVITIES = 2_000_000, 20_000, 2_000_000, 64
-# The program looks at all clocks in each step: where there are more clocks times steps than this it isn't run.
-MOST_CLOCK_STEPS = 300_000_000
 # So many runs of each text are compared with what it means.
 RUNS_MEANT = 3
 CHUNK = 100
@@ -190,7 +188,7 @@ class Comparer:
         answer = self.ask(text, "check")
         if answer != told:
             outcome.differ("check", told, answer)
-        elif judged.bounds.steps <= LONGEST_RUN and judged.bounds.steps * judged.bounds.clocks <= MOST_CLOCK_STEPS:
+        elif judged.bounds.steps <= LONGEST_RUN:
             self.runs(text, judged, outcome)
         else:
             outcome.counts["accepted modules that were not run"] += 1
