@@ -135,7 +135,7 @@ ample run --log "$work/log" -
 each_growth "fifty activities, with a log" run --log "$work/log" -
 
 # Runs by one worker, which takes the steps as in the order `first`.
-for row in in-step.x10 ring.json shared-sum.x10; do
+for row in in-step.x10 ring.json shared-sum.x10 two-loops.x10; do
     case $row in *.json) form=--module ;; *) form= ;; esac
     cp "tests/rows/$row" "$work/in"
     ample run $form --workers 1 -

@@ -1,7 +1,8 @@
 #!/bin/sh
-# Runs small programs by 1, 2 and 64 worker threads: two activities in step, a ring of three clocks, and three activities that add to a shared
-# number. Each run has to end in as many steps as every run of the program, and to print the same numbers, in whatever order; its log has to be
-# that of a run that prints just what it printed, and that can be charted. Five times each, also where no thread or few can be started. With
+# Runs small programs by 1, 2 and 64 worker threads: two activities in step, a ring of three clocks, three activities that add to a shared
+# number, and two that have long loops of their own. Each run has to end in as many steps as every run of the program, and to print the same
+# numbers, in whatever order; its log has to have the same entries, in whatever order, and to be that of a run that prints just what it printed,
+# and that can be charted. Five times each, also where no thread or few can be started. With
 # the word `stress` two hundred times each, and then the ring a thousand times by 64 workers on two processors, within five minutes; how long
 # that takes is told beside the same in the order `first`.
 set -eu
@@ -36,15 +37,19 @@ by_workers() {
     "$program" replay $4 "tests/rows/$3" "$work/log" > "$work/again" || fail "$what: its log isn't replayed"
     cmp -s "$work/again" "$work/out" || fail "$what: its log prints $(cat "$work/again")"
     "$program" chart $4 "tests/rows/$3" "$work/log" > "$work/chart" || fail "$what: its log isn't charted"
+    sort "$work/log" > "$work/entries"
+    [ -e "$work/wanted-entries" ] || cp "$work/entries" "$work/wanted-entries"
+    cmp -s "$work/entries" "$work/wanted-entries" || fail "$what: its log has other entries"
     runs=$((runs + 1))
 }
 
 # often TIMES SPACE: each program so often by 1, 2 and 64 workers.
 often() {
-    for row in in-step.x10 ring.json shared-sum.x10; do
+    for row in in-step.x10 ring.json shared-sum.x10 two-loops.x10; do
         case $row in *.json) form=--module ;; *) form= ;; esac
         cp "tests/rows/${row%.*}.stdout" "$work/wanted"
         sort "$work/wanted" > "$work/wanted-sorted"
+        rm -f "$work/wanted-entries"
         for workers in 1 2 64; do
             at=0
             while [ "$at" -lt "$1" ]; do

@@ -1,6 +1,6 @@
 //! Tests of the libraries, of what neither their contracts say nor the built program shows: schedules whose runs are known from outside, all
-//! schedules of small modules, runs that other choosers drive, kinds and rooms, devices that fail, logs that end elsewhere, and the texts
-//! of faults.
+//! schedules of small modules, runs that other choosers drive, workers that compute at once, kinds and rooms, devices that fail, logs that end
+//! elsewhere, and the texts of faults.
 #![tactic(auto)]
 
 #[cfg(test)]
@@ -19,3 +19,5 @@ mod serving;
 mod told;
 #[cfg(test)]
 mod verifier;
+#[cfg(test)]
+mod workers;

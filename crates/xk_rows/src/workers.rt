@@ -1,0 +1,147 @@
+//! Local steps that are computed outside the lock: two workers compute at once; a gate may be refused memory; and a ticket is taken once, on the
+//! module that it is of.
+
+use crate::programs::{OTHER_SUM, SUM_AND_PHASE, TWO_SUMS, accepted};
+use std::alloc::{AllocError, Global};
+use std::sync::atomic::{AtomicU64, Ordering};
+use std::test::Fail;
+use std::thread;
+use xk_activity::{Frames, Ticket, run_local};
+use xk_core::Core;
+use xk_drive::{Ended, Partial};
+use xk_types::{Act, Entry};
+use xk_workers::{CommitFault, Gate, Shared, run_workers};
+
+/// Waits in its first call until a second one has begun, or until it has looked ten million times.
+#[derive(Drop)]
+struct Meeting {
+    begun: AtomicU64,
+    met: AtomicU64,
+}
+
+impl Meeting {
+    /// Looks whether a second call has begun, until one has.
+    fn wait(&self) {
+        for _ in 0..10_000_000 {
+            if self.begun.load(Ordering::SeqCst) > 1 {
+                self.met.store(1, Ordering::SeqCst);
+                return;
+            }
+            thread::yield_now();
+        }
+    }
+}
+
+impl Gate for Meeting {
+    fn compute<'m>(
+        &self,
+        alloc: Global,
+        _worker: u32,
+        act: Act,
+        old: Frames<'m>,
+        max: u32,
+    ) -> Result<Ticket<'m>, (Frames<'m>, AllocError)> {
+        if self.begun.fetch_add(1, Ordering::SeqCst) == 0 {
+            self.wait();
+        }
+        run_local(alloc, act, old, max)
+    }
+}
+
+/// Is refused memory in each call.
+#[derive(Clone, Copy)]
+struct Refused;
+
+impl Gate for Refused {
+    fn compute<'m>(
+        &self,
+        _alloc: Global,
+        _worker: u32,
+        _act: Act,
+        old: Frames<'m>,
+        _max: u32,
+    ) -> Result<Ticket<'m>, (Frames<'m>, AllocError)> {
+        Err((old, AllocError))
+    }
+}
+
+/// How many entries and steps a log has.
+fn counted(log: &[Entry]) -> (usize, u64) {
+    let mut steps = 0u64;
+    for entry in log {
+        steps = steps.saturating_add(u64::from(entry.steps));
+    }
+    (log.len(), steps)
+}
+
+/// Whether all have ended in a run's answer, and how many entries and steps its log has.
+fn answered(answer: Result<Ended<'_>, Partial<'_>>) -> (bool, (usize, u64)) {
+    match answer {
+        Ok(ended) => (true, counted(&ended.log)),
+        Err(partial) => (partial.core.ended(), counted(&partial.log)),
+    }
+}
+
+/// While one worker computes, another does: neither has the lock then. Each stretch of local steps is one entry.
+#[test]
+fn workers_compute_at_once(rt: HostRuntime) -> Result<(), Fail> {
+    let alloc = rt.alloc();
+    let verified = accepted(alloc, TWO_SUMS)?;
+    let gate = Meeting {
+        begun: AtomicU64::new(0),
+        met: AtomicU64::new(0),
+    };
+    let start = Core::open(alloc, &verified)?;
+    let answer = answered(run_workers(&rt, alloc, start, 2, &gate));
+    assert_eq!(rt; answer, (true, (7, 11)));
+    assert_eq!(rt; gate.met.load(Ordering::SeqCst), 1);
+    Ok(())
+}
+
+/// A gate that is refused memory ends the run, behind what was done before.
+#[test]
+fn a_gate_is_refused_memory(rt: HostRuntime) -> Result<(), Fail> {
+    let alloc = rt.alloc();
+    let verified = accepted(alloc, TWO_SUMS)?;
+    let start = Core::open(alloc, &verified)?;
+    let answer = answered(run_workers(&rt, alloc, start, 2, &Refused));
+    assert_eq!(rt; answer, (false, (1, 1)));
+    Ok(())
+}
+
+/// Local steps of main, as many as there are, computed from a copy of its frames.
+fn ticket<'m>(alloc: Global, shared: &Shared<'m>) -> Result<Ticket<'m>, Fail> {
+    let main = Act(0);
+    if shared.core().activities() == 0 || !shared.core().next_local(main) {
+        return Err("main has no local step".into());
+    }
+    match run_local(alloc, main, shared.copy(main)?, 9) {
+        Ok(ticket) => Ok(ticket),
+        Err(_) => Err("memory is refused".into()),
+    }
+}
+
+/// Whether a ticket is stale, and then how many entries the log has, and how many steps were taken.
+fn handed<'m>(shared: &mut Shared<'m>, ticket: Ticket<'m>) -> (bool, usize, u64) {
+    let is_stale = match shared.commit(ticket) {
+        Ok(()) => false,
+        Err(CommitFault::Stale) => true,
+        Err(CommitFault::OutOfMemory) => false,
+    };
+    (is_stale, shared.log().len(), shared.core().steps_done())
+}
+
+/// A ticket is taken once; one that was computed of another module isn't, though it is of the same places and slots.
+#[test]
+fn tickets_are_stale(rt: HostRuntime) -> Result<(), Fail> {
+    let alloc = rt.alloc();
+    let (verified, other) = (accepted(alloc, SUM_AND_PHASE)?, accepted(alloc, OTHER_SUM)?);
+    let mut shared = Shared::open(alloc, Core::open(alloc, &verified)?);
+    let others = Shared::open(alloc, Core::open(alloc, &other)?);
+    let (first, again) = (ticket(alloc, &shared)?, ticket(alloc, &shared)?);
+    let foreign = ticket(alloc, &others)?;
+    assert_eq!(rt; handed(&mut shared, foreign), (true, 0, 0));
+    assert_eq!(rt; handed(&mut shared, first), (false, 1, 3));
+    assert_eq!(rt; handed(&mut shared, again), (true, 1, 3));
+    Ok(())
+}
