@@ -17,5 +17,5 @@ pub invariant_of-self : goal.invariant_of-self
 invariant_of-self c =
     let old = c.self.inside in
     let local : is_next_local old.run.core c.in-Some-first_unclaimed.act ≡ true =
-        ap (λ (k : CoreValue). is_next_local k c.in-Some-first_unclaimed.act) (sym c.core.ensures) ∙ sym c.next_local.ensures ∙ c.if-not-next_local.false in
+    ap (λ (k : CoreValue). is_next_local k c.in-Some-first_unclaimed.act) (sym c.core.ensures) ∙ sym c.next_local.ensures ∙ c.if-not-next_local.false in
     subst (λ (l : List Bool). AreClaims old.run.core l) (sym c.put.ensures) (claims_put old.run.core c.in-Some-first_unclaimed.act (claims_in old.claims) local c.self.invariant)
