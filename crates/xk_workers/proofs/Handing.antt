@@ -1,5 +1,5 @@
 -- Local steps of one activity that are handed in: what others have claimed stays local.
-use Rattle.std.proofs.Common.{◌≡◌, ◌∙◌, ◌⊎◌, inl, inr, ◌<◌, ℕ, zero, suc, Bool, true, false, true≢false, List, [], ◌∷◌, length, replicate, refl, sym, ap, subst, slice_set, length-set}
+use Rattle.std.proofs.Common.{◌≡◌, ◌∙◌, ◌⊎◌, inl, inr, ℕ, zero, suc, Bool, true, false, true≢false, List, [], ◌∷◌, length, replicate, refl, sym, ap, subst, slice_set, length-set}
 use Rattle.std.proofs.lemmas.Bool.{cases_eq}
 use Rattle.xk_types.specs.declared.names.Event.{Event}
 use Rattle.xk_types.specs.declared.names.Event.TheVariants as event

@@ -1,16 +1,11 @@
 -- Runs, as their stages keep them.
-use Rattle.std.proofs.Common.{◌≡◌, ℕ, zero, suc, Bool, true, false, cond, List, [], ◌∷◌, length, replicate, Option, None, slice_get, refl, sym, ap, subst, ◌∙◌, arith}
+use Rattle.std.proofs.Common.{◌≡◌, ℕ, Bool, true, false, cond, List, [], ◌∷◌, length, Option, None, slice_get, refl, sym, ap, subst, ◌∙◌, arith}
 use Rattle.std.proofs.lemmas.Bool.{le-leb}
 use Rattle.std.proofs.lemmas.Option.{none-some}
-use Rattle.xk_types.specs.declared.names.Event.{Event}
-use Rattle.xk_types.specs.Code.{ModuleValue}
 use Rattle.xk_types.specs.World.{World, opening}
-use Rattle.xk_types.specs.Step.{Stepped, step}
 use Rattle.xk_core.specs.Core.{CoreValue, IsCore}
-use Rattle.xk_core.proofs.Cores.{core_fresh, core_stepped}
-use Rattle.xk_types.specs.Schedule.{Through, run, is_enabled, all_ended}
-use Rattle.xk_laws.proofs.Reached.{same_through, first_step}
-use Rattle.xk_core.specs.Stretch.{RunsTo}
+use Rattle.xk_core.proofs.Cores.{core_fresh}
+use Rattle.xk_types.specs.Schedule.{is_enabled, all_ended}
 use Rattle.xk_members.specs.Members.{place_above}
 use Rattle.xk_drive.specs.Choosing.{enabled_in}
 use Rattle.xk_drive.proofs.Turns.{run_starts}
@@ -18,33 +13,11 @@ use Rattle.xk_drive.proofs.Listing.{listed_over}
 use Rattle.xk_drive.specs.declared.logged.Logged.{Logged}
 use Rattle.xk_workers.specs.declared.run.Stage.{Stage}
 use Rattle.xk_workers.specs.declared.run.Stage.TheVariants as stage
-use Rattle.xk_workers.specs.Run.{RunValue, fresh_run, run_at, IsStage, IsRun, IsLegalRun}
+use Rattle.xk_workers.specs.Run.{RunValue, fresh_run, run_at, IsStage, IsRun}
 
 -- a core that has taken no step is a run
 pub fresh_is : (c : CoreValue) → IsCore c.module_run c.world → c.world.steps ≡ 0 → IsRun (fresh_run c)
 fresh_is c core none = record { core = core; legal = run_starts c.module_run c refl (core_fresh c.module_run c.world core none) }
-
--- a run stays one by a step, if it stays legal
-pub stepped_is : (r s : RunValue) (a : ℕ) (e : Event) → IsRun r → step r.core.module_run r.core.world a ≡ Stepped s.core.world e
-    → s.core.module_run ≡ r.core.module_run → IsLegalRun s → IsRun s
-stepped_is r s a e is taken same legal = record {
-  core = subst (λ m. IsCore m s.core.world) (sym same) (core_stepped r.core.module_run r.core.world s.core.world a e is.core taken);
-  legal = legal;
-}
-
--- so many steps of one activity lead from a core to a core
-core_runs : (m : ModuleValue) (a n : ℕ) (w v : World) → IsCore m w → run m (replicate n a) w ≡ Through v → IsCore m v
-core_runs m a zero w v core goes = subst (IsCore m) (same_through w v goes) core
-core_runs m a (suc n) w v core goes =
-    let f = first_step w v (step m w a) (run m (replicate n a)) goes in
-    core_runs m a n f.0 v (core_stepped m w f.0 a f.1 core f.2) f.3
-
--- and stays one by so many of one activity
-pub ran_is : (r s : RunValue) (a n : ℕ) → IsRun r → RunsTo r.core a n s.core → s.core.module_run ≡ r.core.module_run → IsLegalRun s → IsRun s
-ran_is r s a n is ran same legal = record {
-  core = subst (λ m. IsCore m s.core.world) (sym same) (core_runs r.core.module_run a n r.core.world s.core.world is.core ran);
-  legal = legal;
-}
 
 -- a run in which nobody can take a step is over
 pub run_over : (r : RunValue) → IsRun r → enabled_in r.core.module_run r.core.world ≡ [] → all_ended r.core.world ≡ true

@@ -11,8 +11,7 @@ use Rattle.xk_types.specs.Code.{ModuleValue}
 use Rattle.xk_types.specs.World.{Activity, World}
 use Rattle.xk_types.specs.Step.{Stepped, step, step_of}
 use Rattle.xk_types.specs.Schedule.{is_step, is_enabled}
-use Rattle.xk_core.specs.Core.{CoreValue, IsCore, is_next_local}
-use Rattle.xk_core.specs.Stretch.{RunsTo, AreLocal}
+use Rattle.xk_core.specs.Core.{CoreValue, IsCore}
 use Rattle.xk_core.proofs.Cores.{core_stepped}
 use Rattle.xk_members.specs.Members.{numbers_from}
 use Rattle.xk_drive.specs.Choosing.{enabled_in}
@@ -115,10 +114,6 @@ all_claimed s first is all = record {
 }
 
 -- ---- what a worker is told
-
-pub tells_act : (s : SharedValue) (a : ℕ) → s.stopped ≡ false → (is_enabled s.run.core.module_run s.run.core.world a ≡ true) × (is_claimed s.claims a ≡ false)
-    → Tells s (take.Act a) s
-tells_act s a on free = (on, record { enabled = free.0; unclaimed = free.1 }, refl)
 
 pub tells_idle : (s : SharedValue) (first : ℕ) → s.stopped ≡ false → Some first ≡ slice_get (enabled_in s.run.core.module_run s.run.core.world) 0
     → All (λ a. is_claimed s.claims a ≡ true) (enabled_in s.run.core.module_run s.run.core.world) → Tells s take.Idle s

@@ -1,4 +1,4 @@
-use Rattle.std.proofs.Common.{◌≡◌, ◌∙◌, List, OnOk, ap, sym, subst}
+use Rattle.std.proofs.Common.{◌∙◌, List, OnOk, ap, sym, subst}
 use Rattle.xk_types.specs.declared.names.Entry.{Entry}
 use Rattle.xk_drive.specs.Driving.{IsCommitted}
 use Rattle.xk_workers.specs.Run.{RunValue, run_at}

@@ -1,4 +1,4 @@
-use Rattle.std.proofs.Common.{◌≡◌, ◌∙◌, false, Bool, List, ℕ, refl, ap, sym, subst, slice_set}
+use Rattle.std.proofs.Common.{◌∙◌, false, Bool, List, ℕ, refl, ap, sym, subst, slice_set}
 use Rattle.xk_core.specs.Core.{CoreValue}
 use Rattle.xk_core.specs.Handed.{Accepts}
 use Rattle.xk_workers.specs.Claims.{AreClaims, claims_in}
