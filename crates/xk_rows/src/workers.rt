@@ -7,6 +7,7 @@ use std::sync::atomic::{AtomicU64, Ordering};
 use std::test::Fail;
 use std::thread;
 use xk_activity::{Frames, Ticket, run_local};
+use xk_bounds::Verified;
 use xk_core::Core;
 use xk_drive::{Ended, Partial};
 use xk_types::{Act, Entry};
@@ -131,17 +132,52 @@ fn handed<'m>(shared: &mut Shared<'m>, ticket: Ticket<'m>) -> (bool, usize, u64)
     (is_stale, shared.log().len(), shared.core().steps_done())
 }
 
-/// A ticket is taken once; one that was computed of another module isn't, though it is of the same places and slots.
+/// Hands two tickets of the same frames in.
+fn handed_twice<'m>(
+    alloc: Global,
+    shared: &mut Shared<'m>,
+) -> Result<[(bool, usize, u64); 2], Fail> {
+    let first = ticket(alloc, shared)?;
+    let again = ticket(alloc, shared)?;
+    Ok([handed(shared, first), handed(shared, again)])
+}
+
+/// A ticket of main before its first step.
+fn ticket_of<'m>(alloc: Global, verified: &'m Verified) -> Result<Ticket<'m>, Fail> {
+    let shared = Shared::open(alloc, Core::open(alloc, verified)?);
+    ticket(alloc, &shared)
+}
+
+/// Hands a ticket of one module in where another runs.
+fn handed_across<'m>(
+    alloc: Global,
+    verified: &'m Verified,
+    other: &'m Verified,
+) -> Result<(bool, usize, u64), Fail> {
+    let start = Core::open(alloc, verified)?;
+    let foreign = ticket_of(alloc, other)?;
+    let mut shared = Shared::open(alloc, start);
+    Ok(handed(&mut shared, foreign))
+}
+
+/// A ticket is taken once.
 #[test]
-fn tickets_are_stale(rt: HostRuntime) -> Result<(), Fail> {
+fn a_second_ticket_is_stale(rt: HostRuntime) -> Result<(), Fail> {
     let alloc = rt.alloc();
-    let (verified, other) = (accepted(alloc, SUM_AND_PHASE)?, accepted(alloc, OTHER_SUM)?);
+    let verified = accepted(alloc, SUM_AND_PHASE)?;
     let mut shared = Shared::open(alloc, Core::open(alloc, &verified)?);
-    let others = Shared::open(alloc, Core::open(alloc, &other)?);
-    let (first, again) = (ticket(alloc, &shared)?, ticket(alloc, &shared)?);
-    let foreign = ticket(alloc, &others)?;
-    assert_eq!(rt; handed(&mut shared, foreign), (true, 0, 0));
-    assert_eq!(rt; handed(&mut shared, first), (false, 1, 3));
-    assert_eq!(rt; handed(&mut shared, again), (true, 1, 3));
+    let told = handed_twice(alloc, &mut shared)?;
+    assert_eq!(rt; told, [(false, 1, 3), (true, 1, 3)]);
+    Ok(())
+}
+
+/// A ticket of another module isn't taken, though that has the same places and slots.
+#[test]
+fn a_ticket_of_another_module_is_stale(rt: HostRuntime) -> Result<(), Fail> {
+    let alloc = rt.alloc();
+    let verified = accepted(alloc, SUM_AND_PHASE)?;
+    let other = accepted(alloc, OTHER_SUM)?;
+    let told = handed_across(alloc, &verified, &other)?;
+    assert_eq!(rt; told, (true, 0, 0));
     Ok(())
 }

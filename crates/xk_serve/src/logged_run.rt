@@ -22,7 +22,7 @@ pub(crate) struct LoggedRun {
     pub(crate) printed: Vec<i64>,
     /// How many steps it took.
     pub(crate) steps: u64,
-    /// Who took each step.
+    /// Who took how many steps after whom.
     pub(crate) log: Vec<Entry>,
 }
 

@@ -167,7 +167,7 @@ impl<'m> Run<'m> {
         }
     }
 
-    /// The frames of the activity, in room of their own.
+    /// The frames of the activity, in room of their own. Err where memory is refused.
     pub fn copy(&self, act: Act) -> Result<Frames<'m>, AllocError>
         requires { act < length self.now.core.world.activities }
         ensures frames { IfOk result (λ f. f ≡ frames_in self.now.core.module_run

@@ -41,7 +41,7 @@ pub enum Take {
 pub enum CommitFault {
     /// The activity doesn't run, or hasn't the frames any more that they were computed from.
     Stale,
-    /// There is no memory for the entry.
+    /// Memory was refused for the entry, or for the log that begins with it.
     OutOfMemory,
 }
 
@@ -148,7 +148,8 @@ impl<'m> Shared<'m> {
         self.claims.has(act)
     }
 
-    /// The frames of the activity, in room of their own, so that its local steps can be computed outside the lock.
+    /// The frames of the activity, in room of their own, so that its local steps can be computed outside the lock. Err where
+    /// memory is refused.
     pub fn copy(&self, act: Act) -> Result<Frames<'m>, AllocError>
         requires { act < length self.now.run.core.world.activities }
         ensures frames { IfOk result (λ f. f ≡ frames_in self.now.run.core.module_run
@@ -170,8 +171,9 @@ impl<'m> Shared<'m> {
     }
 
     /// Hands in local steps of an activity that were computed outside the lock: they are taken at once, with one entry. `Stale` exactly
-    /// where the activity doesn't run, or hasn't the ticket's old frames any more, which is looked at first; `OutOfMemory` where there
-    /// is no room for the entry. However it goes, the activity isn't claimed any more, and where it goes wrong nothing else has changed.
+    /// where the activity doesn't run, or hasn't the ticket's old frames any more, which is looked at first; `OutOfMemory` where
+    /// memory is refused for the entry, or for the log that begins with it. However it goes, the activity isn't claimed any more, and
+    /// where it goes wrong nothing else has changed.
     pub fn commit(&mut self, ticket: Ticket<'m>) -> Result<(), CommitFault>
         ensures { Commits self.old ticket.entry result self.new }
     {
