@@ -30,7 +30,7 @@ abbrev pub IsTaken : {S : Type 0} → (S → List ℕ → ℕ) → (S → List �
 IsTaken answer after c s d t None = (all_ended c.world ≡ true) × (d ≡ c) × (t ≡ s)
 IsTaken answer after c s d t (Some turn) = IsTurn answer after c s turn.act turn.event d t
 
--- The step that the chooser names wants memory: its activity is about to make a clock, to call a method or to start an activity.
+-- The step that the chooser names wants memory: its activity is about to start another.
 pub record NamesWhoGrows {S : Type 0} (answer : S → List ℕ → ℕ) (c : CoreValue) (s : S) : Type 0 where
   pub act : ℕ
   pub named : Names answer c.module_run s c.world act

@@ -25,7 +25,7 @@ abbrev pub StopsAt : ModuleValue → List ℕ → World → ℕ → World → Ty
 StopsAt m list w at v = LeadsPart m list w at v × (a : ℕ) × (slice_get list at ≡ Some a) × (is_enabled m v a ≡ false)
 
 -- the first `at` steps of the list lead from w to v, one is left, and memory was wanted: for the list of events before the
--- first step, or because the activity that is named next is about to make a clock, to call a method or to start an activity
+-- first step, or because the activity that is named next is about to start another
 abbrev pub WantsMemoryAt : ModuleValue → List ℕ → World → ℕ → World → Type 0
 WantsMemoryAt m list w at v = LeadsPart m list w at v × (a : ℕ) × (slice_get list at ≡ Some a) × ((at ≡ 0) ⊎ IsAboutToGrow m v a)
 

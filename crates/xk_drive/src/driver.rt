@@ -281,8 +281,8 @@ impl<'m> Driver<'m> {
         self.enabled.is_empty()
     }
 
-    /// One step of the activity, and what it is seen to do. Only the making of a clock, a call of a method and the start of an
-    /// activity want memory; where that is refused the core is as before.
+    /// One step of the activity, and what it is seen to do. Only the start of an activity wants memory; where that is refused the core is
+    /// as before.
     #[inline(always)]
     pub fn step(&mut self, act: Act) -> Result<Event, AllocError>
         requires { IsTrue (is_enabled self.old.module_run self.old.world act) }
