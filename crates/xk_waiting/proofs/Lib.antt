@@ -1,0 +1,4 @@
+pub mod Chains
+pub mod Laid
+pub mod Listing
+pub mod Times
