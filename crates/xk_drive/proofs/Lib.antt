@@ -8,3 +8,4 @@ pub mod Answered
 pub mod Turns
 pub mod Following
 pub mod ChoiceRows
+pub mod HeldBack

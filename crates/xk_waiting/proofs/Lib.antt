@@ -1,3 +1,4 @@
+pub mod Apart
 pub mod Chains
 pub mod Laid
 pub mod Listing

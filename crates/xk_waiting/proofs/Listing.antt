@@ -10,8 +10,8 @@ pub record IsListing (next : List (Option ℕ)) (acts done : List ℕ) (start : 
   pub split : acts ≡ done ++ rest
   pub chained : IsChain next start rest
 
-pub begins : (next : List (Option ℕ)) (acts : List ℕ) (start : Option ℕ) → IsChain next start acts → IsListing next acts [] start
-begins next acts start h = record { rest = acts; split = refl; chained = h }
+pub begins : (next : List (Option ℕ)) (before acts : List ℕ) (start : Option ℕ) → IsChain next start acts → IsListing next (before ++ acts) before start
+begins next before acts start h = record { rest = acts; split = refl; chained = h }
 
 pub record Steps (next : List (Option ℕ)) (acts done : List ℕ) (act : ℕ) : Type 0 where
   pub inside : act < length next

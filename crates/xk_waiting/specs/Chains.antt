@@ -1,6 +1,6 @@
 -- Lists of activities as chains: the first of each list, and the next of each activity.
-use Rattle.std.specs.Prelude.{◌≡◌, ℕ, zero, suc, ◌<◌, ◌≤◌, List, [], ◌∷◌, length, map, Option, Some, None, slice_index_or}
-use Rattle.xk_waiting.specs.Waiting.{times_in_all, waiters}
+use Rattle.std.specs.Prelude.{◌≡◌, ℕ, zero, suc, ◌+◌, ◌<◌, ◌≤◌, List, [], ◌∷◌, length, map, Option, Some, None, slice_index_or}
+use Rattle.xk_waiting.specs.Waiting.{times, times_in_all, waiters}
 
 -- the activity that a row of them has at a place, or nobody
 abbrev pub at : List (Option ℕ) → ℕ → Option ℕ
@@ -26,3 +26,8 @@ pub record AreLaid (first next : List (Option ℕ)) (lists : List (List ℕ)) : 
   pub clocks : length lists ≡ length first
   pub chained : (clock : ℕ) → IsChain next (at first clock) (waiters lists clock)
   pub once : (act : ℕ) → times_in_all act lists ≤ 1
+
+-- nobody stands twice in a list and these lists together, and all are below the room
+pub record AreApart (room : ℕ) (acts : List ℕ) (lists : List (List ℕ)) : Type 0 where
+  pub once : (act : ℕ) → times act acts + times_in_all act lists ≤ 1
+  pub within : (act : ℕ) → 0 < times act acts + times_in_all act lists → act < room

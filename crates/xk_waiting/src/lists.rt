@@ -1,9 +1,9 @@
 //! The lists.
 
-ghost use Rattle.std.specs.Prelude.{◌≡◌, ℕ, ◌+◌, ◌<◌, ◌≤◌, [], ◌∷◌, length, replicate, slice_set, IfOk};
+ghost use Rattle.std.specs.Prelude.{◌≡◌, ℕ, ◌+◌, ◌<◌, ◌≤◌, [], ◌∷◌, ◌++◌, All, length, replicate, slice_set, IfOk};
 ghost use Rattle.std.specs.Vec.{vec_capacity};
-ghost use Rattle.xk_waiting.specs.Chains.{chain, IsChain};
-ghost use Rattle.xk_waiting.specs.Waiting.{times, times_in_all, waiters};
+ghost use Rattle.xk_waiting.specs.Chains.{chain, AreApart, IsChain};
+ghost use Rattle.xk_waiting.specs.Waiting.{left, taken, times, times_in_all, waiters};
 
 use std::alloc::{AllocError, Global};
 use std::marker::Model;
@@ -57,22 +57,53 @@ impl WaitingLists {
         self.first[clock as usize] = Some(act);
     }
 
-    /// Takes out all who wait for this clock, and lists them in place of what the list held.
-    pub fn take(&mut self, clock: u32, shown: &mut Vec<u32>)
-        requires clock { clock < length self.old.lists }
+    /// Takes out all who wait for one of these clocks, and lists them in place of what the list held.
+    pub fn take(&mut self, clocks: &[u32], shown: &mut Vec<u32>)
+        requires clocks { All (λ clock. clock < length self.old.lists) clocks.now }
         requires capacity { self.old.room ≤ vec_capacity shown.old }
-        ensures shown { shown.new.items ≡ waiters self.old.lists clock }
-        ensures lists { self.new.lists ≡ slice_set self.old.lists clock [] }
+        ensures shown { shown.new.items ≡ taken self.old.lists clocks.now }
+        ensures lists { self.new.lists ≡ left self.old.lists clocks.now }
         ensures room { self.new.room ≡ self.old.room }
-        ensures within { (act : ℕ) → 0 < times act shown.new.items → act < self.old.room }
         // Nobody stands twice anywhere.
         ensures once { (act : ℕ)
             → times act shown.new.items + times_in_all act self.new.lists ≤ 1 }
+        ensures within { (act : ℕ) → 0 < times act shown.new.items → act < self.old.room }
+        ensures capacity { vec_capacity shown.old ≤ vec_capacity shown.new }
+    {
+        shown.clear();
+        let _room = self.next.len();
+        take_each(self, clocks, shown);
+    }
+
+    /// Takes out all who wait for this clock, and lists them behind what the list has.
+    fn take_one(&mut self, clock: u32, shown: &mut Vec<u32>)
+        requires clock { clock < length self.old.lists }
+        requires capacity { length shown.old.items + length (waiters self.old.lists clock)
+            ≤ vec_capacity shown.old }
+        ensures shown { shown.new.items ≡ shown.old.items ++ waiters self.old.lists clock }
+        ensures lists { self.new.lists ≡ slice_set self.old.lists clock [] }
+        ensures room { self.new.room ≡ self.old.room }
         ensures capacity { vec_capacity shown.old ≤ vec_capacity shown.new }
     {
         let start = self.first[clock as usize];
         self.first[clock as usize] = None;
         list_from(&self.next, start, shown);
+    }
+}
+
+/// Takes out all who wait for one of these clocks, and lists them behind what the list has.
+fn take_each(lists: &mut WaitingLists, clocks: &[u32], shown: &mut Vec<u32>)
+    requires clocks { All (λ clock. clock < length lists.old.lists) clocks.now }
+    requires apart { AreApart lists.old.room shown.old.items lists.old.lists }
+    requires capacity { lists.old.room ≤ vec_capacity shown.old }
+    ensures shown { shown.new.items ≡ shown.old.items ++ taken lists.old.lists clocks.now }
+    ensures lists { lists.new.lists ≡ left lists.old.lists clocks.now }
+    ensures room { lists.new.room ≡ lists.old.room }
+    ensures apart { AreApart lists.old.room shown.new.items lists.new.lists }
+    ensures capacity { vec_capacity shown.old ≤ vec_capacity shown.new }
+{
+    for clock in clocks {
+        lists.take_one(*clock, shown);
     }
 }
 
@@ -83,14 +114,15 @@ fn nobody(alloc: Global, n: u32) -> Result<Vec<Option<u32>>, AllocError>
     vec![in alloc; None; n as usize]
 }
 
-/// Lists a whole chain, in place of what the list held.
+/// Lists a whole chain behind what the list has.
 fn list_from(next: &[Option<u32>], start: Option<u32>, shown: &mut Vec<u32>)
     requires chain { IsChain next.now start (chain next.now (length next.now) start) }
-    requires capacity { length next.now ≤ vec_capacity shown.old }
-    ensures shown { shown.new.items ≡ chain next.now (length next.now) start }
+    requires capacity { length shown.old.items + length (chain next.now (length next.now) start)
+        ≤ vec_capacity shown.old }
+    ensures shown { shown.new.items
+        ≡ shown.old.items ++ chain next.now (length next.now) start }
     ensures capacity { vec_capacity shown.old ≤ vec_capacity shown.new }
 {
-    shown.clear();
     let mut at = start;
     while let Some(act) = at {
         if shown.push(act).is_err() {
