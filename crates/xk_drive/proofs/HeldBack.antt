@@ -1,8 +1,8 @@
 -- Which clocks hold an activity back, before a step of another and after it.
-use Rattle.std.proofs.Common.{◌≡◌, ℕ, zero, suc, ◌+◌, ◌<◌, ◌||◌, ◌==◌, Bool, true, false, true≢false, List, [], ◌∷◌, ◌++◌, map, length, Option, Some, None, refl, sym, ap, ◌∙◌, subst, arith, slice_get}
-use Rattle.std.specs.List.{list_any}
+use Rattle.std.proofs.Common.{◌≡◌, ℕ, zero, suc, ◌+◌, ◌<◌, ◌||◌, ◌==◌, not, Bool, true, false, true≢false, List, [], ◌∷◌, ◌++◌, map, length, Option, Some, None, refl, sym, ap, ◌∙◌, subst, arith, slice_get}
+use Rattle.std.specs.List.{list_all, list_any}
 use Rattle.std.specs.Option.{option_map_or}
-use Rattle.std.proofs.lemmas.Bool.{eq-eqb}
+use Rattle.std.proofs.lemmas.Bool.{and_parts, eq-eqb}
 use Rattle.xk_types.specs.declared.names.Standing.{Standing}
 use Rattle.xk_types.specs.declared.names.Standing.TheVariants as standing
 use Rattle.xk_types.specs.declared.names.Event.{Event}
@@ -14,7 +14,7 @@ use Rattle.xk_types.proofs.Lists.{Each}
 use Rattle.xk_laws.proofs.Reached.{reached_sound}
 use Rattle.xk_laws.proofs.Clocks.Advance.{settled_cases, advanced_clock, stand-advanced}
 use Rattle.xk_laws.proofs.Clocks.Standings.{stand_other, new_other, stand_joined_old}
-use Rattle.xk_core.specs.Core.{IsCore}
+use Rattle.xk_core.specs.Core.{IsCore, is_quiet}
 use Rattle.xk_drive.specs.Advanced.{is_held_back_by, has_advanced}
 use Rattle.xk_drive.proofs.UntouchedForms.{step_kind}
 
@@ -148,3 +148,26 @@ pub free_on : (m : ModuleValue) (w v : World) (a : ℕ) (e : Event) → IsCore m
 free_on m w v a e core h b inside differs waiting =
     let c = held_by v b waiting in
     waits_by w b c.0 ((held_on m w v a e core h b inside differs c.0).only c.1)
+
+pub both : (x y : Bool) → (x ≡ true → y ≡ true) → (y ≡ true → x ≡ true) → x ≡ y
+both true y to from = sym (to refl)
+both false true to from = from refl
+both false false to from = refl
+
+-- where no clock advances, none did
+none_went : (now : ℕ) (clocks : List Clock) → list_all (λ k. not (k.last == now)) clocks ≡ true → (c : ℕ) → went now clocks c ≡ false
+none_went now [] quiet c = refl
+none_went now (k ∷ clocks) quiet zero = not_true (k.last == now) (and_parts (not (k.last == now)) (list_all (λ j. not (j.last == now)) clocks) quiet).0
+  where
+    not_true : (b : Bool) → not b ≡ true → b ≡ false
+    not_true true h = sym h
+    not_true false h = refl
+none_went now (k ∷ clocks) quiet (suc c) = none_went now clocks (and_parts (not (k.last == now)) (list_all (λ j. not (j.last == now)) clocks) quiet).1 c
+
+-- so others are held back as before
+pub waits_same : (m : ModuleValue) (w v : World) (a : ℕ) (e : Event) → IsCore m w → step m w a ≡ Stepped v e → (b : ℕ) → b < length w.activities → (b ≡ a → ⊥)
+    → is_quiet v ≡ true → waits v b ≡ waits w b
+waits_same m w v a e core h b inside differs quiet = both (waits v b) (waits w b) (free_on m w v a e core h b inside differs)
+    (λ waiting.
+    let c = held_by w b waiting in
+    waits_by v b c.0 ((held_on m w v a e core h b inside differs c.0).stays c.1 (none_went v.steps v.clocks quiet c.0)))

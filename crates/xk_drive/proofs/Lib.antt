@@ -9,3 +9,5 @@ pub mod Turns
 pub mod Following
 pub mod ChoiceRows
 pub mod HeldBack
+pub mod Asked
+pub mod Woken

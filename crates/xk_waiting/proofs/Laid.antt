@@ -1,10 +1,11 @@
 -- All lists, laid out as chains.
 use Rattle.std.proofs.Common.{◌≡◌, ℕ, zero, suc, ◌<◌, ◌≤◌, List, [], ◌∷◌, length, map, replicate, slice_set, get_or, Option, Some, None, ◌⊎◌, inl, inr, refl, sym, ap, subst, arith}
-use Rattle.std.proofs.lemmas.Bool.{cases_eq, cases_lt}
+use Rattle.std.proofs.lemmas.Bool.{cases_eq}
 use Rattle.std.proofs.lemmas.List.{get_or-set_same, get_or-set_other, length-set, length-replicate}
 use Rattle.xk_waiting.specs.Chains.{at, chain, lists_of, AreApart, IsChain, AreLaid}
 use Rattle.xk_waiting.specs.Waiting.{times, times_in_all, waiters}
 use Rattle.xk_waiting.proofs.Chains.{untouched, found, chain_within}
+use Rattle.xk_waiting.proofs.Left.{stands_in}
 use Rattle.xk_waiting.proofs.Times.{first_times, other_times, list_times, set_times, none_times, few}
 
 -- the lists are those that the chains give
@@ -120,17 +121,9 @@ take_laid first next lists c laid there = record {
         subst (λ (f : Option ℕ). IsChain next f (waiters (slice_set lists c []) d)) (sym (get_or-set_other first c d None None ne))
         (subst (λ (l : List ℕ). IsChain next (at first d) l) (sym (get_or-set_other lists c d [] [] ne)) (laid.chained d))
 
--- who stands in one of the lists is within the room
-in_one : (a : ℕ) (lists : List (List ℕ)) → 0 < times_in_all a lists → (c : ℕ) × (0 < times a (waiters lists c))
-in_one a [] some = absurd (omega arith)
-in_one a (l ∷ lists) some = elim (cases_lt 0 (times a l)) [
-  | inl here ↦ (0, here)
-  | inr none ↦ (let later = in_one a lists (omega arith) in (suc later.0, later.1))
-]
-
 -- nobody is taken yet
 pub laid_apart : (first next : List (Option ℕ)) (lists : List (List ℕ)) (shown : List ℕ) → AreLaid first next lists → shown ≡ [] → AreApart (length next) shown lists
 laid_apart first next lists shown laid none = rw none (record {
   once = λ a. omega (arith, laid.once a);
-  within = λ a some. (let c = in_one a lists (omega (arith, some)) in chain_within next (at first c.0) (waiters lists c.0) (laid.chained c.0) a c.1);
+  within = λ a some. (let c = stands_in a lists (omega (arith, some)) in chain_within next (at first c.0) (waiters lists c.0) (laid.chained c.0) a c.1);
 })

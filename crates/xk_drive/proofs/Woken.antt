@@ -1,0 +1,214 @@
+-- Those who can take a step, and those who are held back, after a step whose advances have been looked at.
+use Rattle.std.proofs.Common.{◌≡◌, ◌∙◌, ℕ, zero, suc, ◌+◌, ◌<◌, ◌≤◌, ◌==◌, not, Bool, true, false, true≢false, cond, List, [], ◌∷◌, length, filter, Option, Some, None, slice_get, slice_set, ◌⊎◌, inl, inr, refl, sym, ap, subst, arith}
+use Rattle.std.specs.Option.{option_map_or}
+use Rattle.std.proofs.lemmas.Bool.{cases_eq, cases_lt}
+use Rattle.xk_types.specs.declared.names.Event.{Event}
+use Rattle.xk_types.specs.declared.names.Event.TheVariants as event
+use Rattle.xk_types.specs.declared.names.Status.{Status}
+use Rattle.xk_types.specs.declared.names.Status.TheVariants as status
+use Rattle.xk_types.specs.Code.{ModuleValue}
+use Rattle.xk_types.specs.World.{Activity, Clock, World}
+use Rattle.xk_types.specs.Step.{Blocked, Stepped, step, step_by, step_of, passing, waits}
+use Rattle.xk_types.specs.Schedule.{is_step, is_enabled}
+use Rattle.xk_members.specs.Members.{numbers_from}
+use Rattle.xk_waiting.specs.Waiting.{times, times_in_all, waiters, taken, left}
+use Rattle.xk_waiting.proofs.Left.{left_times, left_length, left_stands, stands_in}
+use Rattle.xk_waiting.proofs.Times.{first_times, other_times, list_times}
+use Rattle.xk_core.specs.Core.{IsCore, governor}
+use Rattle.xk_drive.specs.Advanced.{is_held_back_by, has_advanced, advanced_now}
+use Rattle.xk_drive.specs.Choosing.{enabled_in}
+use Rattle.xk_drive.specs.Held.{AreHeld, AreAsked, IsPut, IsNotedIn}
+use Rattle.xk_drive.specs.Listing.{is_arrived, is_waiting}
+use Rattle.xk_drive.proofs.Asked.{IsListAsked, AreListsAsked, list_asked, lists_asked}
+use Rattle.xk_drive.proofs.HeldBack.{both, held_on, held_by, waits_by, free_on}
+use Rattle.xk_drive.proofs.Listing.{IsOneStep, step_widens}
+use Rattle.xk_drive.proofs.Untouched.{untouched_by, steps_within, awake_after, awake_fresh, waiting_same, waiting_within, waits_after}
+
+-- ---- the clocks that advanced
+
+-- who is in a row of numbers that pass a test
+in_row : (p : ℕ → Bool) (c a n : ℕ) → 0 < times c (filter p (numbers_from a n)) → c < a + n
+in_row p c a zero some = absurd (omega arith)
+in_row p c a (suc n) some = of (p a) some (in_row p c (suc a) n)
+  where
+    of : (b : Bool) → 0 < times c (cond b (a ∷ filter p (numbers_from (suc a) n)) (filter p (numbers_from (suc a) n)))
+        → (0 < times c (filter p (numbers_from (suc a) n)) → c < suc a + n) → c < a + suc n
+    of true here later = elim (cases_eq a c) [
+      | inl e ↦ omega (arith, e)
+      | inr ne ↦ (let less = later (omega (arith, here, other_times c a (filter p (numbers_from (suc a) n)) ne)) in omega arith)
+    ]
+    of false here later = let less = later here in omega arith
+
+-- who isn't doesn't pass it
+out_of_row : (p : ℕ → Bool) (c a n : ℕ) → times c (filter p (numbers_from a n)) ≡ 0 → a ≤ c → c < a + n → p c ≡ false
+out_of_row p c a zero none from below = absurd (omega arith)
+out_of_row p c a (suc n) none from below = of (p a) refl none (out_of_row p c (suc a) n)
+  where
+    of : (b : Bool) → p a ≡ b → times c (cond b (a ∷ filter p (numbers_from (suc a) n)) (filter p (numbers_from (suc a) n))) ≡ 0
+        → (times c (filter p (numbers_from (suc a) n)) ≡ 0 → suc a ≤ c → c < suc a + n → p c ≡ false) → p c ≡ false
+    of true is here later = later (omega (arith, here)) (omega (arith, from, differs)) (omega (arith, below))
+      where
+        differs : c ≡ a → ⊥
+        differs e = omega (arith, here, ap (λ x. times x (a ∷ filter p (numbers_from (suc a) n))) e, first_times a (filter p (numbers_from (suc a) n)))
+    of false is here later = elim (cases_eq c a) [
+      | inl e ↦ ap p e ∙ is
+      | inr ne ↦ later here (omega (arith, from, ne)) (omega (arith, below))
+    ]
+
+on_there : (f : Clock → Bool) (clocks : List Clock) (c : ℕ) → option_map_or f (slice_get clocks c) false ≡ true → c < length clocks
+on_there f [] c h = absurd (true≢false (sym h))
+on_there f (k ∷ clocks) zero h = omega arith
+on_there f (k ∷ clocks) (suc c) h = let later = on_there f clocks c h in omega arith
+
+pub advanced_there : (v : World) (c : ℕ) → 0 < times c (advanced_now v) → c < length v.clocks
+advanced_there v c some = omega (arith, in_row (has_advanced v) c 0 (length v.clocks) some)
+
+-- a clock that isn't among those that advanced didn't
+not_advanced : (v : World) (c : ℕ) → times c (advanced_now v) ≡ 0 → has_advanced v c ≡ false
+not_advanced v c none = of (has_advanced v c) refl
+  where
+    of : (b : Bool) → has_advanced v c ≡ b → b ≡ false
+    of false e = refl
+    of true e = sym e ∙ out_of_row (has_advanced v) c 0 (length v.clocks) none (omega arith) (omega (arith, on_there (λ k. k.last == v.steps) v.clocks c e))
+
+pub held_there : (w : World) (b c : ℕ) → is_held_back_by w b c ≡ true → c < length w.clocks
+held_there w b c h = on_there _ w.clocks c h
+
+-- ---- who waits at an `advance` can take a step exactly if no clock holds it back
+
+pub waiting_enabled : (m : ModuleValue) (w : World) (b : ℕ) → is_waiting w b ≡ true → is_enabled m w b ≡ not (waits w b)
+waiting_enabled m w b h = of (slice_get w.activities b) h
+  where
+    tested : (x : Activity) (t : Bool) → waits w b ≡ t → is_step (passing w b x) ≡ not (waits w b)
+    tested x true e = rw e refl
+    tested x false e = rw e refl
+
+    by : (x : Activity) (s : Status) → is_arrived s ≡ true → is_step (step_by m w b x s) ≡ not (waits w b)
+    by x status.Running g = absurd (true≢false (sym g))
+    by x status.Arrived g = tested x (waits w b) refl
+    by x status.Ended g = absurd (true≢false (sym g))
+
+    of : (o : Option Activity) → option_map_or (λ (y : Activity). is_arrived y.status) o false ≡ true → is_step (step_of m w b o) ≡ not (waits w b)
+    of None g = absurd (true≢false (sym g))
+    of (Some x) g = by x x.status g
+
+-- ---- a step
+
+-- what a step comes to where those who were held back by clocks that advanced have been asked anew; the activity that took it stands in no list
+pub record IsWokenTo (m : ModuleValue) (w v : World) (a : ℕ) (e : Event) (next : List ℕ) (later : List (List ℕ)) : Type 0 where
+  pub test : ℕ → Bool
+  pub list_is : next ≡ filter test (numbers_from 0 (length w.activities))
+  pub step : IsOneStep m w v a e test
+  pub nowhere : times_in_all a later ≡ 0
+  pub once : (b : ℕ) → times_in_all b later ≤ 1
+  pub stands : (c b : ℕ) → 0 < times b (waiters later c) → (is_waiting v b ≡ true) × (is_held_back_by v b c ≡ true)
+  pub covers : (b : ℕ) → (b ≡ a → ⊥) → is_waiting v b ≡ true → waits v b ≡ true → 0 < times_in_all b later
+
+module _ (m : ModuleValue) (w v : World) (a : ℕ) (e : Event) (lists : List (List ℕ)) (core : IsCore m w) (stepped : step m w a ≡ Stepped v e)
+    (held : AreHeld w lists) (wide : length v.clocks ≤ length lists) where
+  abbrev n : ℕ
+  n = length w.activities
+
+  abbrev acts : List ℕ
+  acts = taken lists (advanced_now v)
+
+  abbrev rest : List (List ℕ)
+  rest = left lists (advanced_now v)
+
+  there : (c : ℕ) → 0 < times c (advanced_now v) → c < length lists
+  there c some = let h = advanced_there v c some in omega arith
+
+  conserved : (b : ℕ) → times b acts + times_in_all b rest ≡ times_in_all b lists
+  conserved b = left_times b lists (advanced_now v) there
+
+  -- who stood in a list waited, and was held back
+  waited : (b : ℕ) → 0 < times_in_all b lists → is_waiting w b ≡ true
+  waited b some = (held.stands (stands_in b lists some).0 b (stands_in b lists some).1).0
+
+  was_held : (b : ℕ) → 0 < times_in_all b lists → waits w b ≡ true
+  was_held b some = waits_by w b (stands_in b lists some).0 (held.stands (stands_in b lists some).0 b (stands_in b lists some).1).1
+
+  stuck : (b : ℕ) → 0 < times_in_all b lists → is_enabled m w b ≡ false
+  stuck b some = waiting_enabled m w b (waited b some) ∙ ap not (was_held b some)
+
+  inside : (b : ℕ) → 0 < times_in_all b lists → b < length w.activities
+  inside b some = waiting_within w b (waited b some)
+
+  -- so it isn't the one that took the step
+  another : (b : ℕ) → 0 < times_in_all b lists → b ≡ a → ⊥
+  another b some same = true≢false (sym (ap is_step stepped) ∙ sym (ap (is_enabled m w) same) ∙ stuck b some)
+
+  none_own : times_in_all a lists ≡ 0
+  none_own = elim (cases_lt 0 (times_in_all a lists)) [ inl some ↦ absurd (another a some refl) | inr none ↦ omega arith ]
+
+  waits_still : (b : ℕ) → 0 < times_in_all b lists → is_waiting v b ≡ true
+  waits_still b some = waiting_same m w v a e stepped b (another b some) (inside b some) ∙ waited b some
+
+  -- who is left is held back as before
+  still_held : (c b : ℕ) → 0 < times b (waiters rest c) → (0 < times_in_all b lists) × (is_held_back_by v b c ≡ true)
+  still_held c b some =
+      let k = left_stands b lists (advanced_now v) there c some in
+      let all : 0 < times_in_all b lists = omega (arith, k.0, list_times b c lists) in (
+        all,
+        (held_on m w v a e core stepped b (inside b all) (another b all) c).stays (held.stands c b k.0).1 (not_advanced v c k.1),
+      )
+
+  -- who isn't asked is as able to step as before
+  same_able : (k : ℕ) → times k acts ≡ 0 → k < length w.activities → (k ≡ a → ⊥) → (e ≡ event.Ended → governor w a ≡ Some k → ⊥) → is_enabled m v k ≡ is_enabled m w k
+  same_able k none lt ne other = untouched_by m w v a e core stepped k
+      (λ waiting. both (waits v k) (waits w k) (free_on m w v a e core stepped k lt ne)
+      (λ on.
+      let some : 0 < times_in_all k rest = omega (arith, held.covers k waiting on, conserved k, none) in
+      let c = stands_in k rest some in
+      waits_by v k c.0 (still_held c.0 k c.1).1)) lt ne other
+
+  module _ (next : List ℕ) (later : List (List ℕ)) (asked : AreAsked v acts (enabled_in m w) rest next later) where
+    asks : IsListAsked v acts (is_enabled m w) n next
+    asks = list_asked v acts (is_enabled m w) n (enabled_in m w) rest next later (λ b some. inside b (omega (arith, some, conserved b))) refl asked
+
+    puts : AreListsAsked v acts rest later
+    puts = lists_asked v acts (enabled_in m w) rest next later
+        (λ c b on. omega (arith, held_there v b c on, wide, left_length lists (advanced_now v))) asked
+
+    others : (k : ℕ) → k < length w.activities → (k ≡ a → ⊥) → (e ≡ event.Ended → governor w a ≡ Some k → ⊥) → is_enabled m v k ≡ asks.test k
+    others k lt ne other = elim (cases_lt 0 (times k acts)) [
+      | inl some ↦ of (waits v k) refl (omega (arith, some, conserved k)) some
+      | inr none ↦ same_able k (omega (arith, none)) lt ne other ∙ sym (asks.others k (omega (arith, none)))
+    ]
+      where
+        of : (b : Bool) → waits v k ≡ b → 0 < times_in_all k lists → 0 < times k acts → is_enabled m v k ≡ asks.test k
+        of true on all some = waiting_enabled m v k (waits_still k all) ∙ ap not on ∙ sym (asks.held k on ∙ stuck k all)
+        of false off all some = waiting_enabled m v k (waits_still k all) ∙ ap not off ∙ sym (asks.free k some off)
+
+    pub woken_to : IsWokenTo m w v a e next later
+    woken_to = record {
+      test = asks.test;
+      list_is = asks.list_is;
+      step = record {
+        core = core;
+        stepped = stepped;
+        own = λ h. asks.others a (omega (arith, conserved a, none_own)) ∙ ap is_step stepped;
+        others = others;
+      };
+      nowhere = omega (arith, puts.few a, conserved a, none_own);
+      once = λ b. omega (arith, puts.few b, conserved b, held.once b);
+      stands = stands;
+      covers = covers;
+    }
+      where
+        stands : (c b : ℕ) → 0 < times b (waiters later c) → (is_waiting v b ≡ true) × (is_held_back_by v b c ≡ true)
+        stands c b some = elim (puts.stands c b some) [
+          | inl old ↦ (let k = still_held c b old in (waits_still b k.0, k.1))
+          | inr new ↦ (waits_still b (omega (arith, new.0, conserved b)), new.1)
+        ]
+
+        covers : (b : ℕ) → (b ≡ a → ⊥) → is_waiting v b ≡ true → waits v b ≡ true → 0 < times_in_all b later
+        covers b ne waiting on =
+            let lt : b < length v.activities = waiting_within v b waiting in
+            let fresh : b ≡ length w.activities → ⊥ = λ is. true≢false (sym waiting ∙ ap (is_waiting v) is ∙ awake_fresh m w v a e stepped) in
+            let here : b < length w.activities = omega (arith, lt, fresh, (step_widens m w v a e stepped).1) in
+            let before : 0 < times_in_all b lists = held.covers b (sym (waiting_same m w v a e stepped b ne here) ∙ waiting) (free_on m w v a e core stepped b here ne on) in
+            elim (cases_lt 0 (times b acts)) [
+              | inl some ↦ puts.put b some on
+              | inr none ↦ omega (arith, none, before, conserved b, puts.kept b)
+            ]
