@@ -1,5 +1,5 @@
 -- A running core, as its clauses see it: a module, and a world that a legal schedule of it reaches.
-use Rattle.std.specs.Prelude.{◌≡◌, ℕ, ◌+◌, ◌<◌, ◌==◌, Bool, true, false, not, length, Option, Some, None, slice_get, slice_set, option_and_then}
+use Rattle.std.specs.Prelude.{◌≡◌, ℕ, ◌+◌, ◌<◌, ◌==◌, Bool, true, false, not, List, length, filter, Option, Some, None, slice_get, slice_set, option_and_then}
 use Rattle.std.specs.List.{list_all}
 use Rattle.std.specs.Option.{option_map_or}
 use Rattle.xk_types.specs.declared.instr.Instr.{Instr}
@@ -9,9 +9,10 @@ use Rattle.xk_types.specs.declared.names.Status.{Status}
 use Rattle.xk_types.specs.declared.names.Status.TheVariants as status
 use Rattle.xk_types.specs.Code.{ModuleValue, IsWithinLimits}
 use Rattle.xk_types.specs.World.{Activity, World, instruction_at, opening, standing_of}
-use Rattle.xk_types.specs.Step.{Outcome, Blocked, Wrong, Stepped, step, is_registered, settled, moved, none}
+use Rattle.xk_types.specs.Step.{Outcome, Blocked, Wrong, Stepped, step, is_registered, is_signalled, settled, moved, none}
 use Rattle.xk_types.specs.Schedule.{IsReached, is_enabled, is_local}
 use Rattle.xk_types.specs.Accepted.{IsAccepted}
+use Rattle.xk_members.specs.Members.{numbers_from}
 use Rattle.xk_activity.specs.declared.frames.Next.{Next}
 use Rattle.xk_activity.specs.declared.frames.Next.TheVariants as next
 use Rattle.xk_activity.specs.Local as frames
@@ -99,6 +100,27 @@ is_registered_on w a c = option_map_or (λ k. is_registered (standing_of k a)) (
 -- no clock advanced in the step that led to this world
 abbrev pub is_quiet : World → Bool
 is_quiet w = list_all (λ c. not (c.last == w.steps)) w.clocks
+
+-- clock c advanced in that step
+abbrev pub has_advanced : World → ℕ → Bool
+has_advanced w c = option_map_or (λ k. k.last == w.steps) (slice_get w.clocks c) false
+
+-- those that did, rising
+abbrev pub advanced_now : World → List ℕ
+advanced_now w = filter (has_advanced w) (numbers_from 0 (length w.clocks))
+
+abbrev pub is_arrived : Status → Bool
+is_arrived status.Running = false
+is_arrived status.Arrived = true
+is_arrived status.Ended = false
+
+-- activity a exists and waits at an `advance`
+abbrev pub is_waiting : World → ℕ → Bool
+is_waiting w a = option_map_or (λ act. is_arrived act.status) (slice_get w.activities a) false
+
+-- clock c holds activity a back: it is signalled on it
+abbrev pub is_held_back_by : World → ℕ → ℕ → Bool
+is_held_back_by w a c = option_map_or (λ k. is_signalled (standing_of k a)) (slice_get w.clocks c) false
 
 -- a step that nobody else can see
 abbrev pub is_taken_locally : Outcome → Bool

@@ -1,11 +1,11 @@
 //! The core: a module that the verifier accepted, and a world that a legal schedule of it reaches.
 
-ghost use Rattle.std.specs.Prelude.{◌≡◌, ◌⊎◌, true, false, ◌+◌, ◌<◌, ◌≤◌, Some, None, length, option_map, option_copied, slice_get, IsTrue, IfOk, IfSome, IfNone, OnOk, OnErr};
+ghost use Rattle.std.specs.Prelude.{◌≡◌, ◌⊎◌, true, false, ◌+◌, ◌<◌, ◌≤◌, Some, None, length, option_map, option_copied, slice_get, is_some, vec_capacity, IsTrue, IfOk, IfSome, IfNone, OnOk, OnErr};
 ghost use Rattle.xk_types.specs.World.{opening};
-ghost use Rattle.xk_types.specs.Step.{Stepped, step};
+ghost use Rattle.xk_types.specs.Step.{Stepped, step, waits};
 ghost use Rattle.xk_types.specs.Schedule.{IsReached, is_enabled, all_ended};
 ghost use Rattle.xk_types.specs.Bound.{steps_bound};
-ghost use Rattle.xk_core.specs.Core.{is_running, Locally, IsBeyond, next_instruction, next_of, governor, opening_core, StepsTo, WantsMemory, IsCore, IsLeastEnabled, is_about_to_start, is_quiet, is_registered_on, is_next_local};
+ghost use Rattle.xk_core.specs.Core.{is_running, is_waiting, Locally, IsBeyond, next_instruction, next_of, governor, opening_core, StepsTo, WantsMemory, IsCore, IsLeastEnabled, is_about_to_start, is_quiet, advanced_now, is_held_back_by, is_registered_on, is_next_local};
 ghost use Rattle.xk_core.specs.Stretch.{RunsTo, AreLocal, IsUnseen};
 ghost use Rattle.xk_activity.specs.Activities.{act_at};
 ghost use Rattle.xk_activity.specs.Joined.{frames_in};
@@ -194,6 +194,31 @@ impl<'m> Core<'m> {
         ensures { result ≡ is_quiet self.now.world }
     {
         self.state.is_quiet()
+    }
+
+    /// Lists the clocks that advanced in the last step, rising, in place of what the list held. What it costs goes by how many these are.
+    pub fn list_advanced(&self, list: &mut Vec<u32>)
+        requires { length self.now.world.clocks ≤ vec_capacity list.old }
+        ensures items { list.new.items ≡ advanced_now self.now.world }
+        ensures room { vec_capacity list.old ≤ vec_capacity list.new }
+    {
+        self.state.list_advanced(list);
+    }
+
+    /// Whether the activity exists and waits at an `advance`.
+    pub fn is_waiting(&self, act: Act) -> bool
+        ensures { result ≡ is_waiting self.now.world act }
+    {
+        self.state.is_waiting(act.0 as usize)
+    }
+
+    /// A clock that holds the activity back where it waits at an `advance`, if one does: it is signalled on it.
+    pub fn waits_for(&self, act: Act) -> Option<ClockId>
+        requires { act < length self.now.world.activities }
+        ensures held { IfSome result (λ c. is_held_back_by self.now.world act c ≡ true) }
+        ensures waits { is_some result ≡ waits self.now.world act }
+    {
+        self.state.waits_for(act.0 as usize)
     }
 
     /// The activity that opened the finish which governs this one, if one did.

@@ -1,6 +1,6 @@
 //! The world of a running program, but for its finishes, and the arms of its steps.
 
-ghost use Rattle.std.specs.Prelude.{◌≡◌, ℕ, ℤ, ◌+◌, ◌<◌, ◌≤◌, ◌^◌, true, false, ◌∷◌, [], ◌++◌, Some, length, slice_get, slice_set, option_copied, option_map, IfOk, OnOk, OnErr, All};
+ghost use Rattle.std.specs.Prelude.{◌≡◌, ℕ, ℤ, ◌+◌, ◌<◌, ◌≤◌, ◌^◌, true, false, ◌∷◌, [], ◌++◌, Some, length, slice_get, slice_set, option_copied, option_map, is_some, vec_capacity, IfOk, IfSome, OnOk, OnErr, All};
 ghost use Rattle.xk_types.specs.declared.names.Value.TheVariants as value;
 ghost use Rattle.xk_types.specs.declared.instr.Instr.TheVariants as instruction;
 ghost use Rattle.xk_types.specs.Code.{IsWithinLimits};
@@ -15,7 +15,7 @@ ghost use Rattle.xk_activity.specs.Joined.{frames_in};
 ghost use Rattle.xk_rooms.specs.Rooms.{HasRoomLeft};
 ghost use Rattle.xk_core.specs.Stretch.{HasRoomForSteps, TakesSteps};
 ghost use Rattle.xk_core.specs.Able.{is_able};
-ghost use Rattle.xk_core.specs.Core.{is_quiet, is_running, next_instruction, with_world, TakesStep};
+ghost use Rattle.xk_core.specs.Core.{is_quiet, advanced_now, is_held_back_by, is_running, is_waiting, next_instruction, with_world, TakesStep};
 ghost use Rattle.xk_core.specs.Change.{standing_after_step, AllowsChange};
 ghost use Rattle.xk_core.specs.Arm.{concerns_finishes, is_visible, carried, CarriesOut, passed_on, IsRoomy, IsLast};
 ghost use Rattle.xk_types.specs.World as world;
@@ -432,6 +432,15 @@ impl<'m> State<'m> {
         self.standings.is_quiet(self.steps)
     }
 
+    /// Lists the clocks that advanced in the last step, rising, in place of what the list held.
+    pub fn list_advanced(&self, list: &mut Vec<u32>)
+        requires { length self.now.world.clocks ≤ vec_capacity list.old }
+        ensures items { list.new.items ≡ advanced_now self.now.world }
+        ensures room { vec_capacity list.old ≤ vec_capacity list.new }
+    {
+        self.standings.list_advanced(self.steps, list);
+    }
+
     /// Whether activity a exists and runs.
     #[inline(always)]
     pub fn runs(&self, a: usize) -> bool
@@ -477,6 +486,22 @@ impl<'m> State<'m> {
         ensures { result ≡ waits self.now.world a }
     {
         self.standings.waits(a)
+    }
+
+    /// Whether activity a exists and waits at an `advance`.
+    pub fn is_waiting(&self, a: usize) -> bool
+        ensures { result ≡ is_waiting self.now.world a }
+    {
+        a < self.activities.len() && matches!(self.activities.status(a), Status::Arrived)
+    }
+
+    /// A clock that holds activity a back, if one does: it is signalled on it.
+    pub fn waits_for(&self, a: usize) -> Option<ClockId>
+        requires { a < length self.now.world.activities }
+        ensures held { IfSome result (λ c. is_held_back_by self.now.world a c ≡ true) }
+        ensures waits { is_some result ≡ waits self.now.world a }
+    {
+        self.standings.held_back_by(a)
     }
 
     /// Whether activity a exists, doesn't wait at an `advance`, and isn't over.

@@ -8,7 +8,7 @@ use Rattle.xk_members.specs.Members.{numbers_from, with_member}
 use Rattle.xk_members.proofs.Rising.{member_changed}
 use Rattle.xk_waiting.specs.Waiting.{times, times_in_all, waiters}
 use Rattle.xk_waiting.proofs.Times.{first_times, other_times, set_times, list_times}
-use Rattle.xk_drive.specs.Advanced.{is_held_back_by}
+use Rattle.xk_core.specs.Core.{is_held_back_by}
 use Rattle.xk_drive.specs.Held.{IsAsked, AreAsked}
 use Rattle.xk_drive.proofs.HeldBack.{waits_by}
 

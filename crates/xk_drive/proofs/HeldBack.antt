@@ -15,7 +15,7 @@ use Rattle.xk_laws.proofs.Reached.{reached_sound}
 use Rattle.xk_laws.proofs.Clocks.Advance.{settled_cases, advanced_clock, stand-advanced}
 use Rattle.xk_laws.proofs.Clocks.Standings.{stand_other, new_other, stand_joined_old}
 use Rattle.xk_core.specs.Core.{IsCore, is_quiet}
-use Rattle.xk_drive.specs.Advanced.{is_held_back_by, has_advanced}
+use Rattle.xk_core.specs.Core.{is_held_back_by, has_advanced}
 use Rattle.xk_drive.proofs.UntouchedForms.{step_kind}
 
 -- clock c of these holds activity b back

@@ -15,7 +15,7 @@ use Rattle.xk_waiting.specs.Waiting.{times, times_in_all, waiters, taken, left}
 use Rattle.xk_waiting.proofs.Left.{left_times, left_length, left_stands, stands_in}
 use Rattle.xk_waiting.proofs.Times.{first_times, other_times, list_times}
 use Rattle.xk_core.specs.Core.{IsCore, governor}
-use Rattle.xk_drive.specs.Advanced.{is_held_back_by, has_advanced, advanced_now}
+use Rattle.xk_core.specs.Core.{is_held_back_by, has_advanced, advanced_now}
 use Rattle.xk_drive.specs.Choosing.{enabled_in}
 use Rattle.xk_drive.specs.Held.{AreHeld, AreAsked, IsPut, IsNotedIn}
 use Rattle.xk_drive.specs.Listing.{is_arrived, is_waiting}

@@ -7,7 +7,7 @@ use Rattle.xk_types.specs.Step.{Stepped, step, waits}
 use Rattle.xk_members.specs.Members.{with_member}
 use Rattle.xk_waiting.specs.Waiting.{times, times_in_all, waiters}
 use Rattle.xk_core.specs.Core.{CoreValue, IsCore}
-use Rattle.xk_drive.specs.Advanced.{is_held_back_by}
+use Rattle.xk_core.specs.Core.{is_held_back_by}
 use Rattle.xk_drive.specs.Choosing.{enabled_in}
 use Rattle.xk_drive.specs.Listing.{is_waiting}
 

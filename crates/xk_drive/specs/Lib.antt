@@ -2,5 +2,4 @@ pub mod Schedules
 pub mod Choosing
 pub mod Listing
 pub mod Driving
-pub mod Advanced
 pub mod Held

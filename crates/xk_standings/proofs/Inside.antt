@@ -1,6 +1,6 @@
 -- What holds of standings as callers see them, of their parts as the code keeps them.
-use Rattle.std.proofs.Common.{◌≡◌, ℕ, zero, suc, ◌+◌, ◌<◌, ◌^◌, Bool, List, [], ◌∷◌, ◌++◌, map, length, get_or, set, Option, Some, refl, sym, ap, ◌∙◌, subst, arith, slice_get, slice_index_or}
-use Rattle.std.specs.List.{list_any}
+use Rattle.std.proofs.Common.{◌≡◌, ℕ, zero, suc, ◌+◌, ◌<◌, ◌^◌, Bool, true, List, [], ◌∷◌, ◌++◌, map, length, get_or, set, Option, Some, is_some, refl, sym, ap, ◌∙◌, subst, arith, slice_get, slice_index_or}
+use Rattle.std.specs.List.{list_any, find}
 use Rattle.std.specs.Option.{option_map_or, option_map}
 use Rattle.xk_types.specs.declared.names.Standing.{Standing}
 use Rattle.xk_types.specs.declared.names.Standing.TheVariants as standing
@@ -9,11 +9,11 @@ use Rattle.xk_types.specs.Step.{is_signalled, settled_clock, joined}
 use Rattle.xk_clocks.specs.Table.{count_at}
 use Rattle.xk_standings.specs.View.{Registration, standing_at, reg_on, AreDistinct, held, IsKept}
 use Rattle.xk_standings.specs.Calls.{ClocksValue, RegistrationsValue, is_signalled_in, calls, call_register, IsGiven, AreToldAs, AreAllowed, OwesRegister}
-use Rattle.xk_standings.specs.Told.{StandingsValue, Rooms, told_of, lists, rooms, rooms_of, registrations, AreKept, AreHandedOn, HasRoomToMake}
+use Rattle.xk_standings.specs.Told.{StandingsValue, Rooms, told_of, lists, rooms, rooms_of, is_held_by, registrations, AreKept, AreHandedOn, HasRoomToMake}
 use Rattle.xk_standings.proofs.Keeping.{held_item, length-lists, length-told, phase_in, last_in, standing_in, started_in}
 use Rattle.xk_standings.proofs.Counted.{registered_many}
 use Rattle.xk_standings.proofs.Owed.{may_register}
-use Rattle.xk_standings.proofs.Waiting.{waits_in}
+use Rattle.xk_standings.proofs.Waiting.{waits_in, find_any, held_in}
 
 pub inside_clocks : (s t : StandingsValue) (k : ℕ) → s ≡ t → k < length (told_of t) → k < length s.numbers.table.clocks
 inside_clocks s t k same h =
@@ -63,15 +63,24 @@ stands_some s t items a k p x r st same is there at h found phase reads =
 
 -- ---- whether it waits
 
-pub waits_of : (s t : StandingsValue) (items : List RegistrationsValue) (a : ℕ) (x : RegistrationsValue) (b : Bool) → s ≡ t → s.held ≡ lists items → AreKept s
-    → a < length t.held → x ≡ get_or items a x → b ≡ list_any (is_signalled_in s.numbers.table.clocks) x.list
-    → b ≡ list_any (λ c. is_signalled (standing_of c a)) (told_of t)
-waits_of s t items a x b same is kept there at found =
-    found
+pub waits_of : (s t : StandingsValue) (items : List RegistrationsValue) (a : ℕ) (x : RegistrationsValue) (o : Option Registration) → s ≡ t → s.held ≡ lists items → AreKept s
+    → a < length t.held → x ≡ get_or items a x → o ≡ find (is_signalled_in s.numbers.table.clocks) x.list
+    → is_some o ≡ list_any (λ c. is_signalled (standing_of c a)) (told_of t)
+waits_of s t items a x o same is kept there at first =
+    find_any (is_signalled_in s.numbers.table.clocks) x.list o first
     ∙ ap (list_any (is_signalled_in s.numbers.table.clocks))
     (sym (held_item items a x (inside_held s t items a same is there) at) ∙ ap (λ (acts : List (List Registration)). held acts a) (sym is))
     ∙ waits_in s.numbers.lasts s.held s.numbers.table.clocks a kept
     ∙ ap (λ (v : StandingsValue). list_any (λ c. is_signalled (standing_of c a)) (told_of v)) same
+
+-- the first registration that reads as signalled is on a clock that holds it back
+pub held_of : (s t : StandingsValue) (items : List RegistrationsValue) (a k : ℕ) (x : RegistrationsValue) (r : Registration) → s ≡ t → s.held ≡ lists items → AreKept s
+    → a < length t.held → x ≡ get_or items a x → Some r ≡ find (is_signalled_in s.numbers.table.clocks) x.list → k ≡ r.clock → is_held_by (told_of t) a k ≡ true
+held_of s t items a k x r same is kept there at first clock =
+    let here : held s.held a ≡ x.list = ap (λ (acts : List (List Registration)). held acts a) is ∙ held_item items a x (inside_held s t items a same is there) at in
+    ap (is_held_by (told_of t) a) clock
+    ∙ ap (λ (v : StandingsValue). is_held_by (told_of v) a r.clock) (sym same)
+    ∙ held_in s.numbers.lasts s.held s.numbers.table.clocks a r kept (ap (find (is_signalled_in s.numbers.table.clocks)) here ∙ sym first)
 
 -- ---- an activity is started
 

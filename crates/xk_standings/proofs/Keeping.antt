@@ -1,5 +1,5 @@
 -- What a step makes of the registrations of all, as the code keeps them.
-use Rattle.std.proofs.Common.{◌≡◌, ℕ, zero, suc, ◌+◌, ◌<◌, ◌^◌, ◌==◌, Bool, false, not, List, [], ◌∷◌, ◌++◌, map, length, get_or, set, Some, None, refl, sym, ap, ◌∙◌, subst, arith, slice_get, slice_index_or, All}
+use Rattle.std.proofs.Common.{◌≡◌, ℕ, zero, suc, ◌+◌, ◌<◌, ◌^◌, ◌==◌, Bool, false, not, List, [], ◌∷◌, ◌++◌, map, length, filter, get_or, set, Some, None, refl, sym, ap, ◌∙◌, subst, arith, slice_get, slice_index_or, All}
 use Rattle.std.specs.List.{list_any, list_all}
 use Rattle.std.specs.Option.{option_map_or, option_map}
 use Rattle.std.proofs.lemmas.List.{map-set, map_push, length-map, set-get_or}
@@ -7,13 +7,15 @@ use Rattle.std.proofs.lemmas.Option.{none-some, same_Some}
 use Rattle.xk_types.specs.declared.names.Standing.TheVariants as standing
 use Rattle.xk_types.specs.World.{Clock, standing_of}
 use Rattle.xk_types.specs.Step.{is_signalled, is_ready, resumed, passed, dropped, none, all, settled_clock, moved, joined, new_clock}
+use Rattle.xk_members.specs.Members.{numbers_from}
+use Rattle.xk_members.proofs.Rising.{same_members}
 use Rattle.xk_clocks.specs.Table.{CountValue, count_at}
 use Rattle.xk_clocks.proofs.Tallies.{ready_same}
 use Rattle.xk_standings.specs.declared.which.Which.{Which}
 use Rattle.xk_standings.specs.declared.which.Which.TheVariants as which
 use Rattle.xk_standings.specs.View.{Registration, standing_at, row, reg_on, AreDistinct, told, told_by, told_clock, held, IsKept}
-use Rattle.xk_standings.specs.Calls.{ClocksValue, RegistrationsValue, concerns, calls, call_resume, call_drop, call_register, regs_open, regs_on, regs_resumed, regs_passed, phase_at, others, made_clocks, IsGiven, AreToldAs, AreAllowed, OwesResume, OwesDrop, HavePhasesLeft}
-use Rattle.xk_standings.specs.Told.{lists, change_on}
+use Rattle.xk_standings.specs.Calls.{ClocksValue, RegistrationsValue, noted_in, concerns, calls, call_resume, call_drop, call_register, regs_open, regs_on, regs_resumed, regs_passed, phase_at, others, made_clocks, IsGiven, AreToldAs, AreAllowed, OwesResume, OwesDrop, HavePhasesLeft}
+use Rattle.xk_standings.specs.Told.{lists, change_on, has_advanced_in, advanced_in}
 use Rattle.xk_standings.proofs.Moves.{row_at}
 use Rattle.xk_standings.proofs.Marks.{stands_reg}
 use Rattle.xk_standings.proofs.Makes.{length-told_by}
@@ -200,3 +202,11 @@ quiet_by step f (l ∷ ls) (c ∷ cs) same is = rw (is 0 c, quiet_by step (λ k.
 pub quiet_in : (step : ℕ) (ls : List ℕ) (acts : List (List Registration)) (cs : List CountValue) → IsKept ls acts cs
     → list_all (λ last. not (last == step)) ls ≡ list_all (λ (c : Clock). not (c.last == step)) (told ls acts cs)
 quiet_in step ls acts cs kept = quiet_by step (told_clock (λ k. slice_index_or ls k 0) acts) ls cs kept.lasts (λ k c. refl)
+
+-- ---- which clocks advanced
+
+pub noted_told : (step : ℕ) (ls : List ℕ) (acts : List (List Registration)) (cs : List CountValue) → IsKept ls acts cs → noted_in ls step ≡ advanced_in (told ls acts cs) step
+noted_told step ls acts cs kept =
+    ap (λ n. filter (λ k. get_or ls k 0 == step) (numbers_from 0 n)) (kept.lasts ∙ sym (length-told ls acts cs))
+    ∙ same_members (has_advanced_in (told ls acts cs) step) (λ k. get_or ls k 0 == step) 0 (length (told ls acts cs))
+    (λ k from below. sym (ap (λ o. option_map_or (λ (c : Clock). c.last == step) o false) (told_at ls acts cs k (omega (arith, below, length-told ls acts cs)))))

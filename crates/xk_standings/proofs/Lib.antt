@@ -8,6 +8,7 @@ pub mod InTurn
 pub mod StepLaws
 pub mod Owed
 pub mod Lists
+pub mod Noted
 pub mod Handing
 pub mod Rows
 pub mod Keeping

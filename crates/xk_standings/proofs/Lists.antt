@@ -30,7 +30,7 @@ where-from_retain R test f says (x ∷ xs) ys h =
 
 -- ---- steps of last advances
 
-other_number : (m n : ℕ) → m < n → (m == n) ≡ false
+pub other_number : (m n : ℕ) → m < n → (m == n) ≡ false
 other_number m n h = grind (arith, nat_tests)
 
 -- none is a step behind all of them

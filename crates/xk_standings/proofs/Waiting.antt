@@ -1,6 +1,6 @@
 -- Whether an activity is signalled on some clock, by its own registrations.
-use Rattle.std.proofs.Common.{◌≡◌, ℕ, zero, suc, ◌<◌, ◌≤◌, ◌==◌, ◌||◌, Bool, true, false, cond, List, [], ◌∷◌, length, get_or, Option, Some, None, refl, sym, ap, ◌∙◌, subst, arith, slice_get, slice_index_or, All}
-use Rattle.std.specs.List.{list_any}
+use Rattle.std.proofs.Common.{◌≡◌, ℕ, zero, suc, ◌<◌, ◌≤◌, ◌==◌, ◌||◌, Bool, true, false, cond, List, [], ◌∷◌, length, get_or, Option, Some, None, is_some, refl, sym, ap, ◌∙◌, subst, arith, slice_get, slice_index_or, All}
+use Rattle.std.specs.List.{list_any, find as find_in}
 use Rattle.std.specs.Option.{option_map_or}
 use Rattle.std.proofs.lemmas.Bool.{eqb-true}
 use Rattle.std.proofs.lemmas.Bool.Decides.{nat_tests}
@@ -11,12 +11,12 @@ use Rattle.xk_types.specs.Step.{is_signalled}
 use Rattle.xk_clocks.specs.Table.{CountValue, count_at}
 use Rattle.xk_standings.specs.View.{Registration, standing_at, reg_on, AreDistinct, AreSound, told, told_by, told_clock, held, IsKept}
 use Rattle.xk_standings.specs.Calls.{RegistrationsValue, phase_at, is_signalled_in}
-use Rattle.xk_standings.specs.Told.{lists}
+use Rattle.xk_standings.specs.Told.{lists, is_held_by}
 use Rattle.xk_standings.proofs.Moves.{row_at}
 use Rattle.xk_standings.proofs.Marks.{stands_reg, reg_clock}
 use Rattle.xk_standings.proofs.Calls.{get_or_get}
 use Rattle.xk_standings.proofs.Owed.{found, get_there}
-use Rattle.xk_standings.proofs.Keeping.{held_item}
+use Rattle.xk_standings.proofs.Keeping.{held_item, told_at}
 
 same_number : (n : ℕ) → (n == n) ≡ true
 same_number n = grind (arith, nat_tests)
@@ -95,6 +95,10 @@ signalled_by : (p : ℕ) (o : Option Registration) → is_signalled (option_map_
 signalled_by p None h = absurd (grind arith)
 signalled_by p (Some r) h = (r, refl, h)
 
+stood : (ls : List ℕ) (acts : List (List Registration)) (a k : ℕ) (c : CountValue) → is_signalled (standing_of (told_clock (λ j. slice_index_or ls j 0) acts k c) a)
+    ≡ is_signalled (option_map_or (λ r. standing_at c.phase r.resumed) (reg_on (held acts a) k) standing.Apart)
+stood ls acts a k c = ap is_signalled (row_at acts k c.phase a ∙ stands_reg (held acts a) k c.phase)
+
 pub waits_in : (ls : List ℕ) (acts : List (List Registration)) (cs : List CountValue) (a : ℕ) → IsKept ls acts cs
     → list_any (is_signalled_in cs) (held acts a) ≡ list_any (λ c. is_signalled (standing_of c a)) (told ls acts cs)
 waits_in ls acts cs a kept =
@@ -103,25 +107,58 @@ waits_in ls acts cs a kept =
     last : ℕ → ℕ
     last k = slice_index_or ls k 0
 
-    stood : (k : ℕ) (c : CountValue) → is_signalled (standing_of (told_clock last acts k c) a)
-        ≡ is_signalled (option_map_or (λ r. standing_at c.phase r.resumed) (reg_on (held acts a) k) standing.Apart)
-    stood k c = ap is_signalled (row_at acts k c.phase a ∙ stands_reg (held acts a) k c.phase)
-
     there : list_any (is_signalled_in cs) (held acts a) ≡ true → list_any (λ c. is_signalled (standing_of c a)) (told ls acts cs) ≡ true
     there h =
         let one = find (is_signalled_in cs) (held acts a) (kept.sound a).distinct h in
         any_told (λ c. is_signalled (standing_of c a)) (told_clock last acts) cs one.one.clock (count_at cs one.one.clock)
         (get_there cs one.one.clock (found (length cs) (held acts a) one.one.clock one.one (kept.sound a) one.is))
-        (stood one.one.clock (count_at cs one.one.clock)
+        (stood ls acts a one.one.clock (count_at cs one.one.clock)
         ∙ ap (λ o. is_signalled (option_map_or (λ r. standing_at (count_at cs one.one.clock).phase r.resumed) o standing.Apart)) one.is ∙ one.passes)
 
     back : list_any (λ c. is_signalled (standing_of c a)) (told ls acts cs) ≡ true → list_any (is_signalled_in cs) (held acts a) ≡ true
     back h =
         let clock = find_told (λ c. is_signalled (standing_of c a)) (told_clock last acts) cs h in
-        let one = signalled_by clock.c.phase (reg_on (held acts a) clock.k) (sym (stood clock.k clock.c) ∙ clock.passes) in
+        let one = signalled_by clock.c.phase (reg_on (held acts a) clock.k) (sym (stood ls acts a clock.k clock.c) ∙ clock.passes) in
         any_at (is_signalled_in cs) (held acts a) clock.k one.0 one.1
         (ap (λ n. is_signalled (standing_at (phase_at cs n) one.0.resumed)) (reg_clock (held acts a) clock.k one.0 one.1)
         ∙ ap (λ (c : CountValue). is_signalled (standing_at c.phase one.0.resumed)) (get_or_get cs clock.k clock.c _ clock.at) ∙ one.2)
+
+-- ---- the first that holds an activity back
+
+pub find_any : (test : Registration → Bool) (rs : List Registration) (o : Option Registration) → o ≡ find_in test rs → is_some o ≡ list_any test rs
+find_any test rs o is = ap is_some is ∙ go rs
+  where
+    go : (rs : List Registration) → is_some (find_in test rs) ≡ list_any test rs
+    go [] = refl
+    go (r ∷ rs) = either (test r) (go rs)
+      where
+        either : (b : Bool) → is_some (find_in test rs) ≡ list_any test rs → is_some (cond b (Some r) (find_in test rs)) ≡ (b || list_any test rs)
+        either true e = refl
+        either false e = e
+
+-- it is the one on its clock
+find_is : (test : Registration → Bool) (rs : List Registration) (r : Registration) → AreDistinct rs → find_in test rs ≡ Some r
+    → (reg_on rs r.clock ≡ Some r) × (test r ≡ true)
+find_is test [] r distinct is = absurd (none-some r is)
+find_is test (s ∷ rs) r distinct is = go (test s) refl is (find_is test rs r distinct.1)
+  where
+    further : (b : Bool) → (s.clock == r.clock) ≡ b → reg_on rs r.clock ≡ Some r → cond b (Some s) (reg_on rs r.clock) ≡ Some r
+    further true e at = absurd (none-some r (sym distinct.0 ∙ ap (reg_on rs) (eqb-true s.clock r.clock e) ∙ at))
+    further false e at = at
+
+    go : (b : Bool) → test s ≡ b → cond b (Some s) (find_in test rs) ≡ Some r → (find_in test rs ≡ Some r → (reg_on rs r.clock ≡ Some r) × (test r ≡ true))
+        → (reg_on (s ∷ rs) r.clock ≡ Some r) × (test r ≡ true)
+    go true e h later = subst (λ (x : Registration). (reg_on (s ∷ rs) x.clock ≡ Some x) × (test x ≡ true)) (same_Some s r h) (rw (same_number s.clock) refl, e)
+    go false e h later = let rest = later h in (further (s.clock == r.clock) refl rest.0, rest.1)
+
+pub held_in : (ls : List ℕ) (acts : List (List Registration)) (cs : List CountValue) (a : ℕ) (r : Registration) → IsKept ls acts cs
+    → find_in (is_signalled_in cs) (held acts a) ≡ Some r → is_held_by (told ls acts cs) a r.clock ≡ true
+held_in ls acts cs a r kept is =
+    let one = find_is (is_signalled_in cs) (held acts a) r (kept.sound a).distinct is in
+    ap (λ o. option_map_or (λ (c : Clock). is_signalled (standing_of c a)) o false)
+    (told_at ls acts cs r.clock (found (length cs) (held acts a) r.clock r (kept.sound a) one.0))
+    ∙ stood ls acts a r.clock (count_at cs r.clock)
+    ∙ ap (λ o. is_signalled (option_map_or (λ (x : Registration). standing_at (count_at cs r.clock).phase x.resumed) o standing.Apart)) one.0 ∙ one.1
 
 -- ---- each is on a clock that exists
 

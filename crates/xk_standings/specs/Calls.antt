@@ -1,10 +1,11 @@
 -- What a step makes of an activity's registrations, and which calls of the clocks it takes.
-use Rattle.std.specs.Prelude.{◌≡◌, ℕ, ◌+◌, ◌<◌, ◌≤◌, ◌^◌, ◌==◌, ◌&&◌, is_none, Bool, true, false, not, List, [], ◌∷◌, ◌++◌, map, length, Option, Some, None, slice_get, slice_set, if◌then◌else◌}
+use Rattle.std.specs.Prelude.{◌≡◌, ℕ, ◌+◌, ◌<◌, ◌≤◌, ◌^◌, ◌==◌, ◌&&◌, is_none, Bool, true, false, not, List, [], ◌∷◌, ◌++◌, map, filter, length, Option, Some, None, slice_get, slice_index_or, slice_set, if◌then◌else◌, All}
 use Rattle.std.specs.Option.{option_to_list}
 use Rattle.xk_types.specs.declared.names.Value.{Value}
 use Rattle.xk_types.specs.declared.names.Value.TheVariants as value
 use Rattle.xk_types.specs.World.{Clock}
 use Rattle.xk_types.specs.Step.{is_pending, is_signalled}
+use Rattle.xk_members.specs.Members.{numbers_from, SetValue}
 use Rattle.xk_clocks.specs.Table.{CountValue, TableValue, new_count, is_ready_count, count_settled, one_if, count_at, count_resumed, count_dropped, count_registered}
 use Rattle.xk_standings.specs.declared.which.Which.{Which}
 use Rattle.xk_standings.specs.declared.which.Which.TheVariants as which
@@ -79,6 +80,21 @@ with_taken from (value.Clock c) rs = if is_none (reg_on rs c) then rs ++ option_
 pub record ClocksValue : Type 0 where
   pub table : TableValue
   pub lasts : List ℕ
+
+-- the clocks whose last advance was in the step of this number, rising; in step 0 those that haven't advanced
+abbrev pub noted_in : List ℕ → ℕ → List ℕ
+noted_in ls step = filter (λ k. slice_index_or ls k 0 == step) (numbers_from 0 (length ls))
+
+-- The steps of the last advances are told of all clocks, and there is room for those of more; none is behind the newest, and the set has those
+-- that advanced in that one.
+pub record IsUpToDate (t : TableValue) (ls : List ℕ) (room newest : ℕ) (latest : SetValue) : Type 0 where
+  pub lasts : length ls ≡ length t.clocks
+  pub fits : length ls ≤ t.room
+  pub few : t.room ≤ 262144
+  pub room_for_lasts : t.room ≤ room
+  pub room_for_latest : t.room ≤ latest.room
+  pub newest_is : All (λ last. last ≤ newest) ls
+  pub latest_is : latest.members ≡ noted_in ls newest
 
 -- with one more clock, which its maker is registered on
 abbrev pub made_clocks : ClocksValue → ClocksValue

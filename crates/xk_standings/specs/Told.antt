@@ -1,9 +1,11 @@
 -- Where all activities stand on all clocks, as the code keeps it, and what it tells of.
-use Rattle.std.specs.Prelude.{ℕ, ◌<◌, Bool, List, map, length, slice_index_or}
+use Rattle.std.specs.Prelude.{ℕ, ◌<◌, ◌==◌, Bool, false, List, map, filter, length, slice_get, slice_index_or}
 use Rattle.std.specs.List.{count_by}
+use Rattle.std.specs.Option.{option_map_or}
 use Rattle.xk_types.specs.declared.names.Standing.{Standing}
 use Rattle.xk_types.specs.World.{Clock, standing_of}
-use Rattle.xk_types.specs.Step.{is_registered, only, all}
+use Rattle.xk_types.specs.Step.{is_registered, is_signalled, only, all}
+use Rattle.xk_members.specs.Members.{numbers_from}
 use Rattle.xk_standings.specs.declared.which.Which.{Which}
 use Rattle.xk_standings.specs.declared.which.Which.TheVariants as which
 use Rattle.xk_standings.specs.View.{Registration, held, told, IsKept}
@@ -44,6 +46,18 @@ rooms_of s = record { clocks = s.numbers.table.room; places = s.places }
 -- on how many of these clocks activity a is registered
 abbrev pub registrations : List Clock → ℕ → ℕ
 registrations clocks a = count_by (λ c. is_registered (standing_of c a)) clocks
+
+-- clock k holds activity a back: it is signalled on it
+abbrev pub is_held_by : List Clock → ℕ → ℕ → Bool
+is_held_by clocks a k = option_map_or (λ c. is_signalled (standing_of c a)) (slice_get clocks k) false
+
+-- the last advance of clock k was in the step of this number
+abbrev pub has_advanced_in : List Clock → ℕ → ℕ → Bool
+has_advanced_in clocks step k = option_map_or (λ c. c.last == step) (slice_get clocks k) false
+
+-- the clocks of which that holds, rising
+abbrev pub advanced_in : List Clock → ℕ → List ℕ
+advanced_in clocks step = filter (has_advanced_in clocks step) (numbers_from 0 (length clocks))
 
 -- among these clocks, activity a can make one more
 pub record HasRoomToMake (r : Rooms) (clocks : List Clock) (a : ℕ) : Type 0 where

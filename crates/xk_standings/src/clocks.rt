@@ -1,14 +1,16 @@
 //! All clocks.
 
-ghost use Rattle.std.specs.Prelude.{◌≡◌, ℕ, ◌+◌, ◌<◌, ◌≤◌, ◌==◌, ◌^◌, not, [], ◌∷◌, length, slice_index_or, slice_set, IfOk};
+ghost use Rattle.std.specs.Prelude.{◌≡◌, ℕ, ◌+◌, ◌<◌, ◌≤◌, ◌==◌, ◌^◌, not, [], ◌∷◌, length, slice_index_or, slice_set, vec_capacity, IfOk};
 ghost use Rattle.std.specs.List.{list_all};
 ghost use Rattle.xk_clocks.specs.Table.{count_at, is_ready_count};
-ghost use Rattle.xk_standings.specs.Calls.{calls, made_clocks, call_resume, call_drop, call_register, OwesResume, OwesDrop, OwesRegister, Allows};
+ghost use Rattle.xk_standings.specs.Calls.{calls, noted_in, made_clocks, call_resume, call_drop, call_register, OwesResume, OwesDrop, OwesRegister, Allows};
 
+use crate::latest::{list_places, put_or_take, turn_to};
 use crate::registration::Registration;
 use std::alloc::{AllocError, Global};
 use std::marker::Model;
 use xk_clocks::ClockTable;
+use xk_members::NumberSet;
 use xk_types::ClockId;
 
 /// The clocks of a running program in numbers, and the number of the step in which each advanced last.
@@ -16,26 +18,28 @@ use xk_types::ClockId;
 pub struct Clocks {
     table: ClockTable,
     lasts: Vec<u64>,
-    /// The clock that advanced last, and a number of a step behind which none has: so that it needn't be searched for.
-    latest: usize,
+    /// A number of a step behind which no clock has advanced, and the clocks whose last advance was in that step: so that they
+    /// needn't be searched for.
     newest: u64,
+    latest: NumberSet,
 }
 
 impl Model for Clocks {
-    ghost use Rattle.std.specs.Prelude.{◌≡◌, ◌≤◌, All, length, vec_capacity};
-    ghost use Rattle.xk_standings.specs.Calls.{ClocksValue};
+    ghost use Rattle.std.specs.Prelude.{vec_capacity};
+    ghost use Rattle.xk_standings.specs.Calls.{ClocksValue, IsUpToDate};
 
     ghost Value = { ClocksValue };
 
     ghost view = { λ c. record { table = c.table; lasts = c.lasts.items } };
 
-    ghost invariant = { λ c. (length c.lasts.items ≡ length c.table.clocks)
-        × (c.table.room ≤ vec_capacity c.lasts) × All (λ last. last ≤ c.newest) c.lasts.items };
+    ghost invariant = { λ c. IsUpToDate c.table c.lasts.items (vec_capacity c.lasts)
+        c.newest c.latest };
 }
 
 impl Clocks {
     /// No clock, and room for this many.
     pub fn open(alloc: Global, clocks: u32) -> Result<Clocks, AllocError>
+        requires { clocks ≤ 262144 }
         ensures { IfOk result
             (λ c. c ≡ record { table = record { room = clocks; clocks = [] }; lasts = [] }) }
     {
@@ -43,8 +47,8 @@ impl Clocks {
         Ok(Clocks {
             table,
             lasts: Vec::with_capacity(alloc, clocks as usize)?,
-            latest: 0,
             newest: 0,
+            latest: NumberSet::with_room(alloc, clocks)?,
         })
     }
 
@@ -61,8 +65,10 @@ impl Clocks {
         ensures number { result ≡ length self.old.table.clocks }
         ensures made { self.new ≡ made_clocks self.old }
     {
+        let clock = self.table.make();
         self.lasts.push_reserved(0);
-        self.table.make()
+        put_or_take(&mut self.latest, clock.0, self.newest == 0);
+        clock
     }
 
     /// An activity begins with the registration, which its starter has handed on. No clock advances.
@@ -99,10 +105,27 @@ impl Clocks {
         if step > self.newest {
             return true;
         }
-        if self.lasts.get(self.latest).copied() == Some(step) {
-            return false;
+        if step == self.newest {
+            return self.latest.is_empty();
         }
         self.lasts.iter().all(|last| *last != step)
+    }
+
+    /// Lists the clocks whose last advance was in the step of this number, rising, in place of what the list held. All clocks are
+    /// looked at only where one has advanced in a later step.
+    pub fn list_advanced(&self, step: u64, list: &mut Vec<u32>)
+        requires { length self.now.lasts ≤ vec_capacity list.old }
+        ensures items { list.new.items ≡ noted_in self.now.lasts step }
+        ensures room { vec_capacity list.old ≤ vec_capacity list.new }
+    {
+        if step == self.newest {
+            self.latest.list(list);
+            return;
+        }
+        list.clear();
+        if step < self.newest {
+            list_places(&self.lasts, step, list);
+        }
     }
 
     /// The clock has advanced in the step of this number.
@@ -110,9 +133,9 @@ impl Clocks {
         requires { clock < length self.old.lasts }
         ensures { self.new ≡ record self.old { lasts = slice_set self.old.lasts clock now } }
     {
+        self.newest = turn_to(&mut self.latest, self.newest, now);
         self.lasts[clock.0 as usize] = now;
-        self.latest = clock.0 as usize;
-        self.newest = self.newest.max(now);
+        put_or_take(&mut self.latest, clock.0, now == self.newest);
     }
 
     /// The registration, which is open, is resumed in the step of this number. Whether its clock advanced.

@@ -1,7 +1,7 @@
 //! One registration after the other.
 
 ghost use Rattle.std.specs.Prelude.{◌≡◌, ℕ, ◌<◌, [], ◌∷◌, length, All};
-ghost use Rattle.std.specs.List.{list_any};
+ghost use Rattle.std.specs.List.{find};
 ghost use Rattle.xk_standings.specs.View.{AreDistinct, reg_on};
 ghost use Rattle.xk_standings.specs.Calls.{concerns, calls, call_resume, call_drop, call_register, regs_open, regs_on, regs_resumed, regs_passed, reg_resumed, phase_at, is_signalled_in, OwesResume, OwesDrop, OwesRegister, AreAllowed, AreAllowedInTurn};
 
@@ -114,16 +114,15 @@ fn is_signalled_now(registration: Registration, clocks: &Clocks) -> bool
     matches!(registration.standing(phase), Standing::Signalled)
 }
 
-/// Whether one of them reads as signalled, each in the present phase of its clock.
-pub fn signalled_on_some(registrations: &[Registration], clocks: &Clocks) -> bool
+/// The first of them that reads as signalled, each in the present phase of its clock.
+pub fn find_signalled(registrations: &[Registration], clocks: &Clocks) -> Option<Registration>
     requires { All (λ r. r.clock < length clocks.now.table.clocks) registrations.now }
-    ensures { result
-        ≡ list_any (is_signalled_in clocks.now.table.clocks) registrations.now }
+    ensures { result ≡ find (is_signalled_in clocks.now.table.clocks) registrations.now }
 {
     for i in 0..registrations.len() {
         if is_signalled_now(registrations[i], clocks) {
-            return true;
+            return Some(registrations[i]);
         }
     }
-    false
+    None
 }

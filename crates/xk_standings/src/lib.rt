@@ -3,6 +3,7 @@
 
 mod clocks;
 mod each;
+mod latest;
 pub mod laws;
 mod registration;
 mod registrations;

@@ -1,15 +1,15 @@
 //! Where all activities stand on all clocks.
 
-ghost use Rattle.std.specs.Prelude.{◌≡◌, ℕ, ◌+◌, ◌<◌, ◌≤◌, ◌==◌, ◌^◌, Bool, false, not, Some, [], ◌∷◌, ◌++◌, length, map, option_map, slice_get, slice_index_or, All, IfOk, OnOk};
+ghost use Rattle.std.specs.Prelude.{◌≡◌, ℕ, ◌+◌, ◌<◌, ◌≤◌, ◌==◌, ◌^◌, Bool, true, false, not, Some, is_some, [], ◌∷◌, ◌++◌, length, map, option_map, slice_get, slice_index_or, vec_capacity, All, IfOk, IfSome, OnOk};
 ghost use Rattle.std.specs.List.{list_any, list_all};
 ghost use Rattle.xk_types.specs.World.{standing_of};
 ghost use Rattle.xk_types.specs.Step.{is_signalled, is_given, resumed, passed, dropped, none, all, settled_clock, moved, joined, new_clock};
 ghost use Rattle.xk_standings.specs.View.{held};
 ghost use Rattle.xk_standings.specs.Calls.{IsGiven};
-ghost use Rattle.xk_standings.specs.Told.{told_of, rooms_of, change_on, AreHandedOn, HasRoomToMake};
+ghost use Rattle.xk_standings.specs.Told.{told_of, rooms_of, change_on, is_held_by, advanced_in, AreHandedOn, HasRoomToMake};
 
 use crate::clocks::Clocks;
-use crate::each::{find_on, signalled_on_some};
+use crate::each::{find_on, find_signalled};
 use crate::registrations::Registrations;
 use crate::which::Which;
 use std::alloc::{AllocError, Global};
@@ -49,6 +49,7 @@ impl Standings {
     /// One activity, and no clock. Room for this many clocks, and at least this many places for what the activity is
     /// registered on.
     pub fn open(alloc: Global, clocks: u32, places: usize) -> Result<Standings, AllocError>
+        requires { clocks ≤ 262144 }
         ensures clocks { IfOk result (λ s. told_of s ≡ []) }
         ensures activities { IfOk result (λ s. length s.held ≡ 1) }
         ensures clock_room { IfOk result (λ s. (rooms_of s).clocks ≡ clocks) }
@@ -100,13 +101,36 @@ impl Standings {
         }
     }
 
+    /// A clock that holds activity a back: it is signalled on it. None where it is signalled on no clock.
+    pub fn held_back_by(&self, a: usize) -> Option<ClockId>
+        requires { a < length self.now.held }
+        ensures held { IfSome result (λ k. is_held_by (told_of self.now) a k ≡ true) }
+        ensures waits { is_some result
+            ≡ list_any (λ c. is_signalled (standing_of c a)) (told_of self.now) }
+    {
+        let registrations = &self.held[a];
+        match find_signalled(registrations.as_slice(), &self.clocks) {
+            Some(registration) => Some(registration.clock()),
+            None => None,
+        }
+    }
+
     /// Whether activity a is signalled on some clock.
     pub fn waits(&self, a: usize) -> bool
         requires { a < length self.now.held }
         ensures { result ≡ list_any (λ c. is_signalled (standing_of c a)) (told_of self.now) }
     {
-        let registrations = &self.held[a];
-        signalled_on_some(registrations.as_slice(), &self.clocks)
+        self.held_back_by(a).is_some()
+    }
+
+    /// Lists the clocks whose last advance was in the step of this number, rising, in place of what the list held. What it costs goes
+    /// by their number, unless a clock has advanced in a later step.
+    pub fn list_advanced(&self, step: u64, list: &mut Vec<u32>)
+        requires { length (told_of self.now) ≤ vec_capacity list.old }
+        ensures items { list.new.items ≡ advanced_in (told_of self.now) step }
+        ensures room { vec_capacity list.old ≤ vec_capacity list.new }
+    {
+        self.clocks.list_advanced(step, list);
     }
 
     /// Whether no clock advanced in the step of this number.

@@ -1,0 +1,16 @@
+use Rattle.std.proofs.Common.{◌<◌, length, sym, subst, arith}
+use Rattle.xk_standings.specs.Calls.{ClocksValue}
+use Rattle.xk_standings.proofs.Noted.{latest_within, advance_noted}
+use Rattle.xk_standings.proofs.clocks.Clocks.note.Goals as goal
+
+pub turn_to-self-inside-requires : goal.turn_to-self-inside-requires
+turn_to-self-inside-requires c = latest_within _ _ _ _ _ c.self.invariant
+
+pub invariant_of-self : goal.invariant_of-self
+invariant_of-self c =
+    let inside : c.args.clock < length c.self.inside.lasts.items =
+    subst (λ (v : ClocksValue). c.args.clock < length v.lasts) (sym c.self.view_is) c.requires in
+    advance_noted c.self.inside.table c.self.inside.lasts.items _ c.self.inside.newest c.args.now c.turn_to-self-inside.result c.clock.inside.0
+    c.self.inside.latest c.turn_to-self-inside.new.set c.put_or_take.new.set c.self.invariant
+    (omega (arith, inside, c.clock.view_is)) c.turn_to-self-inside.ensures.newer c.turn_to-self-inside.ensures.members c.turn_to-self-inside.ensures.room
+    c.put_or_take.ensures.members c.put_or_take.ensures.room
