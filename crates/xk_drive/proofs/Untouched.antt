@@ -28,7 +28,7 @@ use Rattle.xk_laws.proofs.Clocks.Standings.{stand_other, new_other, stand_joined
 use Rattle.xk_core.specs.Able.{able_by, able_of, kept_by}
 use Rattle.xk_core.specs.Core.{IsCore, is_quiet, governor, instruction_of}
 use Rattle.xk_core.proofs.Cores.{core_able, core_stepped}
-use Rattle.xk_drive.specs.Listing.{is_arrived, is_waiting}
+use Rattle.xk_core.specs.Core.{is_arrived, is_waiting}
 use Rattle.xk_drive.proofs.UntouchedForms.{GoesOn, is_start, starts_or_arrives, step_kind}
 use Rattle.xk_drive.proofs.HeldBack.{waits_same}
 use Rattle.xk_drive.proofs.UntouchedOwners.{core_owned, core_open}

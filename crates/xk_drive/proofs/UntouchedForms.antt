@@ -16,7 +16,7 @@ use Rattle.xk_types.specs.declared.unit.ParamKind.TheVariants as param
 use Rattle.xk_types.specs.Code.{UnitValue, ModuleValue, compares, is_method, is_body}
 use Rattle.xk_types.specs.World.{Frame, Activity, Clock, World, standing_of, instruction_at, is_ended}
 use Rattle.xk_types.specs.Step.{Cause, Outcome, Blocked, Wrong, ClockUse, OutOfRange, is_registered, number_in, clock_in, registered_on, put_in, slot_at, arguments_in, computing, turning, again, spawned, spawning, carried_out, run_at, done, made, waits, passing, past, passed, step_by, step_of, step, called, calling, returning, none, awaits, innermost, onward, going, left, ended, arrived, all, dropped, resumed, closing, cell_in, stored}
-use Rattle.xk_drive.specs.Listing.{is_arrived}
+use Rattle.xk_core.specs.Core.{is_arrived}
 
 -- an activity that goes on: the same finish governs it, it hasn't ended, it doesn't wait at an `advance`, and it has closed no finish
 pub record GoesOn (act next : Activity) : Type 0 where

@@ -10,7 +10,7 @@ use Rattle.xk_types.specs.Code.{ModuleValue}
 use Rattle.xk_types.specs.World.{Activity, Clock, World}
 use Rattle.xk_types.specs.Step.{Blocked, Stepped, step, step_by, step_of, passing, waits}
 use Rattle.xk_types.specs.Schedule.{is_step, is_enabled}
-use Rattle.xk_members.specs.Members.{numbers_from}
+use Rattle.xk_members.specs.Members.{numbers_from, with_member}
 use Rattle.xk_waiting.specs.Waiting.{times, times_in_all, waiters, taken, left}
 use Rattle.xk_waiting.proofs.Left.{left_times, left_length, left_stands, stands_in}
 use Rattle.xk_waiting.proofs.Times.{first_times, other_times, list_times}
@@ -18,7 +18,7 @@ use Rattle.xk_core.specs.Core.{IsCore, governor}
 use Rattle.xk_core.specs.Core.{is_held_back_by, has_advanced, advanced_now}
 use Rattle.xk_drive.specs.Choosing.{enabled_in}
 use Rattle.xk_drive.specs.Held.{AreHeld, AreAsked, IsPut, IsNotedIn}
-use Rattle.xk_drive.specs.Listing.{is_arrived, is_waiting}
+use Rattle.xk_core.specs.Core.{is_arrived, is_waiting}
 use Rattle.xk_drive.proofs.Asked.{IsListAsked, AreListsAsked, list_asked, lists_asked}
 use Rattle.xk_drive.proofs.HeldBack.{both, held_on, held_by, waits_by, free_on}
 use Rattle.xk_drive.proofs.Listing.{IsOneStep, step_widens}
@@ -212,3 +212,148 @@ module _ (m : ModuleValue) (w v : World) (a : ℕ) (e : Event) (lists : List (Li
               | inl some ↦ puts.put b some on
               | inr none ↦ omega (arith, none, before, conserved b, puts.kept b)
             ]
+
+-- ---- the activity that took the step
+
+-- one that is put into a list is asked
+put_asked : (v : World) (a : ℕ) (later last : List (List ℕ)) → length v.clocks ≤ length later → IsPut v a later last → AreListsAsked v (a ∷ []) later last
+put_asked v a later last wide put = of put
+  where
+    by : (next : List ℕ) → AreAsked v (a ∷ []) [] later next last → AreListsAsked v (a ∷ []) later last
+    by next asked = lists_asked v (a ∷ []) [] later next last (λ c b on. omega (arith, held_there v b c on, wide)) asked
+
+    of : IsPut v a later last → AreListsAsked v (a ∷ []) later last
+    of (inl h) = by [] ([], last, inl (h.0, h.1, refl, h.2), (refl, refl))
+    of (inr h) = by (with_member a true []) (with_member a true [], last, inr (h.0, refl, h.1), (refl, refl))
+
+only_it : (a b : ℕ) → 0 < times b (a ∷ []) → a ≡ b
+only_it a b some = elim (cases_eq a b) [ inl e ↦ e | inr ne ↦ absurd (omega (arith, some, other_times b a [] ne)) ]
+
+once_more : (v : World) (a : ℕ) (later last : List (List ℕ)) → AreListsAsked v (a ∷ []) later last → times_in_all a later ≡ 0 → ((b : ℕ) → times_in_all b later ≤ 1)
+    → (b : ℕ) → times_in_all b last ≤ 1
+once_more v a later last r nowhere once b = elim (cases_eq a b) [
+  | inl e ↦ subst (λ k. times_in_all k last ≤ 1) e (omega (arith, r.few a, nowhere, first_times a []))
+  | inr ne ↦ omega (arith, r.few b, once b, other_times b a [] ne)
+]
+
+stands_more : (v : World) (a : ℕ) (later last : List (List ℕ)) → AreListsAsked v (a ∷ []) later last → is_waiting v a ≡ true
+    → ((c b : ℕ) → 0 < times b (waiters later c) → (is_waiting v b ≡ true) × (is_held_back_by v b c ≡ true))
+    → (c b : ℕ) → 0 < times b (waiters last c) → (is_waiting v b ≡ true) × (is_held_back_by v b c ≡ true)
+stands_more v a later last r waiting stands c b some = elim (r.stands c b some) [
+  | inl old ↦ stands c b old
+  | inr new ↦ (subst (λ k. is_waiting v k ≡ true) (only_it a b new.0) waiting, new.1)
+]
+
+covers_it : (v : World) (a : ℕ) (later last : List (List ℕ)) → AreListsAsked v (a ∷ []) later last → (b : ℕ) → a ≡ b → waits v b ≡ true → 0 < times_in_all b last
+covers_it v a later last r b e on = r.put b (subst (λ k. 0 < times k (a ∷ [])) e (omega (arith, first_times a []))) on
+
+-- one that waits at an `advance`, and stands in no list, is put into one if a clock holds it back
+pub put_held : (v : World) (a : ℕ) (later last : List (List ℕ)) → length v.clocks ≤ length later → times_in_all a later ≡ 0 → is_waiting v a ≡ true → IsPut v a later last
+    → ((b : ℕ) → times_in_all b later ≤ 1) → ((c b : ℕ) → 0 < times b (waiters later c) → (is_waiting v b ≡ true) × (is_held_back_by v b c ≡ true))
+    → ((b : ℕ) → (b ≡ a → ⊥) → is_waiting v b ≡ true → waits v b ≡ true → 0 < times_in_all b later) → AreHeld v last
+put_held v a later last wide nowhere waiting put once stands covers =
+    let r = put_asked v a later last wide put in
+    record {
+      once = once_more v a later last r nowhere once;
+      stands = stands_more v a later last r waiting stands;
+      covers = λ b waits_now on. elim (cases_eq a b) [
+        | inl e ↦ covers_it v a later last r b e on
+        | inr ne ↦ omega (arith, r.kept b, covers b (λ e. ne (sym e)) waits_now on)
+      ];
+    }
+
+-- so those who are held back are in lists again once the step is noted
+pub noted_held : (m : ModuleValue) (w v : World) (a : ℕ) (e : Event) (next : List ℕ) (later last : List (List ℕ)) → step m w a ≡ Stepped v e → IsWokenTo m w v a e next later
+    → length v.clocks ≤ length later → IsNotedIn v a e later last → AreHeld v last
+noted_held m w v a e next later last stepped woken wide noted = elim (arrival e) [
+  | inl is ↦
+      put_held v a later last wide woken.nowhere (waits_after m w v a e stepped is) (subst (λ f. IsNotedIn v a f later last) is noted) woken.once woken.stands woken.covers
+  | inr other ↦ subst (λ (ls : List (List ℕ)). AreHeld v ls) (sym (same e other noted)) (record {
+      once = woken.once;
+      stands = woken.stands;
+      covers = λ b waiting on.
+          woken.covers b (λ is. true≢false (sym waiting ∙ ap (is_waiting v) is ∙ awake_after m w v a e stepped other)) waiting on;
+    })
+]
+  where
+    arrival : (f : Event) → (f ≡ event.Arrived) ⊎ (f ≡ event.Arrived → ⊥)
+    arrival event.Arrived = inl refl
+    arrival _ = inr (λ h. cc)
+
+    same : (f : Event) → (f ≡ event.Arrived → ⊥) → IsNotedIn v a f later last → last ≡ later
+    same event.Arrived not h = absurd (not refl)
+    same _ not h = h
+
+-- ---- where a core is taken over
+
+-- those of the first numbers who are held back stand in lists, and nobody else does
+pub record AreHeldBelow (w : World) (n : ℕ) (lists : List (List ℕ)) : Type 0 where
+  pub once : (b : ℕ) → times_in_all b lists ≤ 1
+  pub stands : (c b : ℕ) → 0 < times b (waiters lists c) → (is_waiting w b ≡ true) × (is_held_back_by w b c ≡ true)
+  pub covers : (b : ℕ) → b < n → is_waiting w b ≡ true → waits w b ≡ true → 0 < times_in_all b lists
+  pub later : (b : ℕ) → n ≤ b → times_in_all b lists ≡ 0
+
+pub all_below : (w : World) (lists : List (List ℕ)) → AreHeldBelow w (length w.activities) lists → AreHeld w lists
+all_below w lists h = record {
+  once = h.once;
+  stands = h.stands;
+  covers = λ b waiting on. h.covers b (waiting_within w b waiting) waiting on;
+}
+
+pub none_below : (w : World) (lists : List (List ℕ)) → ((b : ℕ) → times_in_all b lists ≡ 0) → AreHeldBelow w 0 lists
+none_below w lists none = record {
+  once = λ b. omega (arith, none b);
+  stands = λ c b some. absurd (omega (arith, some, none b, list_times b c lists));
+  covers = λ b lt. absurd (omega (arith, lt));
+  later = λ b le. none b;
+}
+
+-- ---- for the calls
+
+-- who is asked waits at an `advance`, and is there
+pub asked_there : (w : World) (lists : List (List ℕ)) → AreHeld w lists → (b : ℕ) → 0 < times_in_all b lists → b < length w.activities
+asked_there w lists held b some = waiting_within w b (held.stands (stands_in b lists some).0 b (stands_in b lists some).1).0
+
+-- who takes a step stands in no list
+pub steps_nowhere : (m : ModuleValue) (w v : World) (a : ℕ) (e : Event) (lists : List (List ℕ)) → step m w a ≡ Stepped v e → AreHeld w lists → times_in_all a lists ≡ 0
+steps_nowhere m w v a e lists stepped held = elim (cases_lt 0 (times_in_all a lists)) [
+  | inl some ↦
+      (let c = stands_in a lists some in
+      let s = held.stands c.0 a c.1 in
+      absurd (true≢false (sym (ap is_step stepped) ∙ waiting_enabled m w a s.0 ∙ ap not (waits_by w a c.0 s.1))))
+  | inr none ↦ omega arith
+]
+
+-- nor does one who stood in none once others are asked
+pub asked_nowhere : (v : World) (a : ℕ) (lists : List (List ℕ)) (list next : List ℕ) (later : List (List ℕ)) → length v.clocks ≤ length lists → times_in_all a lists ≡ 0
+    → AreAsked v (taken lists (advanced_now v)) list (left lists (advanced_now v)) next later → times_in_all a later ≡ 0
+asked_nowhere v a lists list next later wide nowhere asked =
+    let puts = lists_asked v (taken lists (advanced_now v)) list (left lists (advanced_now v)) next later
+    (λ c b on. omega (arith, held_there v b c on, wide, left_length lists (advanced_now v))) asked in
+    omega (arith, puts.few a, nowhere, left_times a lists (advanced_now v) (λ c some. let h = advanced_there v c some in omega arith))
+
+-- one more that is asked, or isn't, as it doesn't wait
+pub held_more : (w : World) (a : ℕ) (lists last : List (List ℕ)) → length w.clocks ≤ length lists → AreHeldBelow w a lists → is_waiting w a ≡ true → IsPut w a lists last
+    → AreHeldBelow w (a + 1) last
+held_more w a lists last wide h waiting put =
+    let r = put_asked w a lists last wide put in
+    record {
+      once = once_more w a lists last r (h.later a (omega arith)) h.once;
+      stands = stands_more w a lists last r waiting h.stands;
+      covers = λ b lt waits_now on. elim (cases_eq a b) [
+        | inl e ↦ covers_it w a lists last r b e on
+        | inr ne ↦ omega (arith, r.kept b, h.covers b (omega (arith, lt, ne)) waits_now on)
+      ];
+      later = λ b le. omega (arith, r.few b, h.later b (omega (arith, le)), other_times b a [] (λ e. omega (arith, le, e)));
+    }
+
+pub skip_more : (w : World) (a : ℕ) (lists : List (List ℕ)) → AreHeldBelow w a lists → is_waiting w a ≡ false → AreHeldBelow w (a + 1) lists
+skip_more w a lists h awake = record {
+  once = h.once;
+  stands = h.stands;
+  covers = λ b lt waiting on. elim (cases_eq b a) [
+    | inl e ↦ absurd (true≢false (sym waiting ∙ ap (is_waiting w) e ∙ awake))
+    | inr ne ↦ h.covers b (omega (arith, lt, ne)) waiting on
+  ];
+  later = λ b le. h.later b (omega (arith, le));
+}

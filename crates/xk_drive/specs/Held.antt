@@ -9,7 +9,7 @@ use Rattle.xk_waiting.specs.Waiting.{times, times_in_all, waiters}
 use Rattle.xk_core.specs.Core.{CoreValue, IsCore}
 use Rattle.xk_core.specs.Core.{is_held_back_by}
 use Rattle.xk_drive.specs.Choosing.{enabled_in}
-use Rattle.xk_drive.specs.Listing.{is_waiting}
+use Rattle.xk_core.specs.Core.{is_waiting}
 
 -- Who waits at an `advance` and is held back by a clock stands in the list of one that does, and in no other; nobody else stands in any.
 pub record AreHeld (w : World) (lists : List (List ℕ)) : Type 0 where
