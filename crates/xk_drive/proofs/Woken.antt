@@ -1,7 +1,8 @@
 -- Those who can take a step, and those who are held back, after a step whose advances have been looked at.
-use Rattle.std.proofs.Common.{◌≡◌, ◌∙◌, ℕ, zero, suc, ◌+◌, ◌<◌, ◌≤◌, ◌==◌, not, Bool, true, false, true≢false, cond, List, [], ◌∷◌, length, filter, Option, Some, None, slice_get, slice_set, ◌⊎◌, inl, inr, refl, sym, ap, subst, arith}
+use Rattle.std.proofs.Common.{◌≡◌, ◌∙◌, ℕ, zero, suc, ◌+◌, ◌<◌, ◌≤◌, ◌==◌, not, Bool, true, false, true≢false, cond, List, [], ◌∷◌, length, filter, get_or, drop, drop-cons, add-one, All, Option, Some, None, slice_get, slice_set, ◌⊎◌, inl, inr, refl, sym, ap, subst, arith}
 use Rattle.std.specs.Option.{option_map_or}
 use Rattle.std.proofs.lemmas.Bool.{cases_eq, cases_lt}
+use Rattle.std.proofs.lemmas.List.Elements.{All-from_get_or}
 use Rattle.xk_types.specs.declared.names.Event.{Event}
 use Rattle.xk_types.specs.declared.names.Event.TheVariants as event
 use Rattle.xk_types.specs.declared.names.Status.{Status}
@@ -17,7 +18,7 @@ use Rattle.xk_waiting.proofs.Times.{first_times, other_times, list_times}
 use Rattle.xk_core.specs.Core.{IsCore, governor}
 use Rattle.xk_core.specs.Core.{is_held_back_by, has_advanced, advanced_now}
 use Rattle.xk_drive.specs.Choosing.{enabled_in}
-use Rattle.xk_drive.specs.Held.{AreHeld, AreAsked, IsPut, IsNotedIn}
+use Rattle.xk_drive.specs.Held.{AreHeld, AreAsked, IsAsked, IsPut, IsNotedIn}
 use Rattle.xk_core.specs.Core.{is_arrived, is_waiting}
 use Rattle.xk_drive.proofs.Asked.{IsListAsked, AreListsAsked, list_asked, lists_asked}
 use Rattle.xk_drive.proofs.HeldBack.{both, held_on, held_by, waits_by, free_on}
@@ -357,3 +358,36 @@ skip_more w a lists h awake = record {
   ];
   later = λ b le. h.later b (omega (arith, le));
 }
+
+-- who stands at a place of a list stands in it
+pub at_place : (acts : List ℕ) (i : ℕ) → i < length acts → 0 < times (get_or acts i 0) acts
+at_place [] i lt = absurd (omega arith)
+at_place (a ∷ acts) zero lt = omega (arith, first_times a acts)
+at_place (a ∷ acts) (suc i) lt = let later = at_place acts i (omega arith) in omega arith
+
+pub from_place : (acts : List ℕ) (i : ℕ) → i < length acts → drop i acts ≡ get_or acts i 0 ∷ drop (i + 1) acts
+from_place acts i lt = drop-cons acts i 0 lt ∙ ap (λ j. get_or acts i 0 ∷ drop j acts) (sym (add-one i))
+
+-- who is asked stands once more at most
+pub few_asked : (v : World) (a : ℕ) (list : List ℕ) (lists : List (List ℕ)) (next : List ℕ) (later : List (List ℕ)) → length v.clocks ≤ length lists
+    → IsAsked v a list lists next later → (b : ℕ) → times_in_all b later ≤ times b (a ∷ []) + times_in_all b lists
+few_asked v a list lists next later wide asked b =
+    (lists_asked v (a ∷ []) list lists next later (λ c k on. omega (arith, held_there v k c on, wide)) (next, later, asked, (refl, refl))).few b
+
+-- nobody stands twice once the first of some is asked
+pub once_asked : (v : World) (acts : List ℕ) (i : ℕ) (list : List ℕ) (lists : List (List ℕ)) (next : List ℕ) (later : List (List ℕ)) → i < length acts
+    → length v.clocks ≤ length lists → ((b : ℕ) → times b (drop i acts) + times_in_all b lists ≤ 1) → IsAsked v (get_or acts i 0) list lists next later
+    → (b : ℕ) → times b (drop (i + 1) acts) + times_in_all b later ≤ 1
+once_asked v acts i list lists next later lt wide once asked b =
+    omega (arith, once b, ap (times b) (from_place acts i lt), few_asked v (get_or acts i 0) list lists next later wide asked b)
+
+-- the clocks that advanced have lists
+pub all_there : (v : World) (lists : List (List ℕ)) (clocks row : List ℕ) → length v.clocks ≤ length lists → clocks ≡ advanced_now v → row ≡ clocks
+    → All (λ c. c < length lists) row
+all_there v lists clocks row wide is same = subst (λ l. All (λ c. c < length lists) l) (sym (same ∙ is)) (All-from_get_or (λ c. c < length lists) (advanced_now v) 0
+    (λ i lt. omega (arith, advanced_there v (get_or (advanced_now v) i 0) (at_place (advanced_now v) i lt), wide)))
+
+-- those who are taken stood in lists
+pub taken_there : (v : World) (lists : List (List ℕ)) → length v.clocks ≤ length lists → (b : ℕ) → 0 < times b (taken lists (advanced_now v)) → 0 < times_in_all b lists
+taken_there v lists wide b some =
+    omega (arith, some, left_times b lists (advanced_now v) (λ c there. let h = advanced_there v c there in omega arith))
