@@ -1,5 +1,5 @@
 -- Those who are asked anew what holds them back.
-use Rattle.std.proofs.Common.{◌≡◌, ◌∙◌, ℕ, zero, suc, ◌+◌, ◌<◌, ◌≤◌, ◌==◌, Bool, true, false, true≢false, cond, if◌then◌else◌, List, [], ◌∷◌, length, filter, slice_set, ◌⊎◌, inl, inr, refl, sym, ap, subst, arith}
+use Rattle.std.proofs.Common.{◌≡◌, ◌∙◌, ℕ, ◌+◌, ◌<◌, ◌≤◌, ◌==◌, Bool, true, false, true≢false, if◌then◌else◌, List, [], ◌∷◌, length, filter, slice_set, ◌⊎◌, inl, inr, refl, sym, ap, subst, arith}
 use Rattle.std.proofs.lemmas.Bool.{cases_eq, cases_lt, eq-eqb, ne_eqb}
 use Rattle.std.proofs.lemmas.List.{get_or-set_same, get_or-set_other, length-set}
 use Rattle.xk_types.specs.World.{World}
@@ -9,7 +9,7 @@ use Rattle.xk_members.proofs.Rising.{member_changed}
 use Rattle.xk_waiting.specs.Waiting.{times, times_in_all, waiters}
 use Rattle.xk_waiting.proofs.Times.{first_times, other_times, set_times, list_times}
 use Rattle.xk_core.specs.Core.{is_held_back_by}
-use Rattle.xk_drive.specs.Held.{IsAsked, AreAsked}
+use Rattle.xk_drive.specs.Held.{AreAsked}
 use Rattle.xk_drive.proofs.HeldBack.{waits_by}
 
 -- ---- the set of those who can take a step
@@ -115,8 +115,14 @@ put_more w a c acts lists later held there h = record {
   put = λ b some on. elim (cases_eq a b) [
     | inl e ↦
         (let mine : 0 < times b (a ∷ waiters lists c) = subst (λ k. 0 < times k (a ∷ waiters lists c)) e (omega (arith, first_times a (waiters lists c))) in
-        omega (arith, mine, h.kept b, set_times b c lists (a ∷ waiters lists c) there, list_times b c (slice_set lists c (a ∷ waiters lists c)),
-          ap (times b) (get_or-set_same lists c (a ∷ waiters lists c) [] there)))
+        omega (
+          arith,
+          mine,
+          h.kept b,
+          set_times b c lists (a ∷ waiters lists c) there,
+          list_times b c (slice_set lists c (a ∷ waiters lists c)),
+          ap (times b) (get_or-set_same lists c (a ∷ waiters lists c) [] there),
+        ))
     | inr ne ↦ h.put b (omega (arith, some, other_times b a acts ne)) on
   ];
   few = λ b. omega (arith, h.few b, set_times b c lists (a ∷ waiters lists c) there);

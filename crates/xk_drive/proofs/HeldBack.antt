@@ -1,5 +1,5 @@
 -- Which clocks hold an activity back, before a step of another and after it.
-use Rattle.std.proofs.Common.{◌≡◌, ℕ, zero, suc, ◌+◌, ◌<◌, ◌||◌, ◌==◌, not, Bool, true, false, true≢false, List, [], ◌∷◌, ◌++◌, map, length, Option, Some, None, refl, sym, ap, ◌∙◌, subst, arith, slice_get}
+use Rattle.std.proofs.Common.{◌≡◌, ℕ, zero, suc, ◌+◌, ◌<◌, ◌||◌, ◌==◌, not, Bool, true, false, true≢false, List, [], ◌∷◌, ◌++◌, map, length, refl, sym, ap, ◌∙◌, subst, arith, slice_get}
 use Rattle.std.specs.List.{list_all, list_any}
 use Rattle.std.specs.Option.{option_map_or}
 use Rattle.std.proofs.lemmas.Bool.{and_parts, eq-eqb}
@@ -7,12 +7,12 @@ use Rattle.xk_types.specs.declared.names.Standing.{Standing}
 use Rattle.xk_types.specs.declared.names.Standing.TheVariants as standing
 use Rattle.xk_types.specs.declared.names.Event.{Event}
 use Rattle.xk_types.specs.Code.{ModuleValue}
-use Rattle.xk_types.specs.World.{Activity, Clock, World, standing_of}
+use Rattle.xk_types.specs.World.{Clock, World, standing_of}
 use Rattle.xk_types.specs.Step.{Outcome, Blocked, Wrong, Stepped, step, is_signalled, settled_clock, moved, joined, new_clock, is_given, advanced, none, all, dropped, resumed, waits}
 use Rattle.xk_laws.proofs.Invariant.{IsClockSound}
 use Rattle.xk_types.proofs.Lists.{Each}
 use Rattle.xk_laws.proofs.Reached.{reached_sound}
-use Rattle.xk_laws.proofs.Clocks.Advance.{settled_cases, advanced_clock, stand-advanced}
+use Rattle.xk_laws.proofs.Clocks.Advance.{settled_cases, stand-advanced}
 use Rattle.xk_laws.proofs.Clocks.Standings.{stand_other, new_other, stand_joined_old}
 use Rattle.xk_core.specs.Core.{IsCore, is_quiet}
 use Rattle.xk_core.specs.Core.{is_held_back_by, has_advanced}

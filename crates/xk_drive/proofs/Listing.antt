@@ -1,10 +1,10 @@
 -- The list of those who can take a step, after a step.
-use Rattle.std.proofs.Common.{◌≡◌, ◌∙◌, ℕ, zero, suc, ◌+◌, ◌-◌, ◌<◌, ◌≤◌, Bool, true, false, true≢false, cond, if◌then◌else◌, ◌&&◌, ◌==◌, List, [], ◌∷◌, ◌++◌, All, length, get_or, filter, Option, Some, None, Result, Ok, Err, OnErr, slice_get, ◌⊎◌, inl, inr, refl, sym, ap, subst, arith, add-one}
+use Rattle.std.proofs.Common.{◌≡◌, ◌∙◌, ℕ, zero, suc, ◌+◌, ◌-◌, ◌<◌, ◌≤◌, Bool, true, false, cond, if◌then◌else◌, ◌&&◌, ◌==◌, List, [], ◌∷◌, ◌++◌, length, get_or, filter, Option, Some, None, Result, Ok, Err, OnErr, slice_get, ◌⊎◌, inl, inr, refl, sym, ap, subst, arith, add-one}
 use Rattle.std.specs.List.{list_all}
 use Rattle.std.proofs.lemmas.Bool.{cases_eq, eq-eqb, ne_eqb, eqb-true, eqb-false}
 use Rattle.std.proofs.lemmas.Option.{none-some, same_Some, slice_get-get_or}
 use Rattle.std.proofs.lemmas.List.{append-nil}
-use Rattle.std.proofs.lemmas.List.Elements.{filter-append, All-from_get_or}
+use Rattle.std.proofs.lemmas.List.Elements.{filter-append}
 use Rattle.xk_types.specs.declared.names.Event.{Event}
 use Rattle.xk_types.specs.declared.names.Event.TheVariants as event
 use Rattle.xk_types.specs.declared.names.Status.{Status}
@@ -13,15 +13,15 @@ use Rattle.xk_types.specs.Code.{ModuleValue}
 use Rattle.xk_types.specs.World.{Activity, World, is_ended}
 use Rattle.xk_types.specs.Step.{Stepped, step, step_by, step_of}
 use Rattle.xk_types.specs.Schedule.{is_step, is_enabled, all_ended}
-use Rattle.xk_core.specs.Core.{CoreValue, IsCore, is_quiet, governor}
+use Rattle.xk_core.specs.Core.{IsCore, governor}
 use Rattle.xk_types.specs.Bound.{activities_bound, clocks_bound}
 use Rattle.xk_laws.proofs.Reached.{reached_room}
 use Rattle.xk_members.specs.Members.{IsRising, numbers_from, with_member}
 use Rattle.xk_drive.specs.Choosing.{enabled_in}
 use Rattle.xk_drive.specs.Listing.{other_to_list}
 use Rattle.xk_core.proofs.Cores.{core_ends}
-use Rattle.xk_members.proofs.Rising.{filter_rises, member_added, member_changed, member_passes, members_few, members_none, numbers_more, same_members}
-use Rattle.xk_drive.proofs.Untouched.{untouched, grows_by_start, keeps_width, steps_within, governor_same, governor_within, awake_after, awake_fresh, waiting_same, waiting_within}
+use Rattle.xk_members.proofs.Rising.{filter_rises, member_added, member_changed, member_passes, members_few, members_none, numbers_more}
+use Rattle.xk_drive.proofs.Untouched.{grows_by_start, keeps_width, steps_within, governor_same, governor_within}
 
 -- ---- who is in the list
 

@@ -1,30 +1,23 @@
 -- A step of one activity leaves each other as able to step as it was, but for the one that it starts, those on a clock that advances, and,
 -- where it ends its activity, the owner of the finish that governs that one.
-use Rattle.std.proofs.Common.{◌≡◌, ℕ, zero, suc, ◌+◌, ◌<◌, ◌≤◌, ◌&&◌, ◌||◌, ◌==◌, not, Bool, true, false, true≢false, cond, List, [], ◌∷◌, ◌++◌, map, length, Option, Some, None, refl, sym, ap, ap₂, ◌∙◌, subst, arith, slice_get, slice_set, option_and_then, length-set}
-use Rattle.std.specs.List.{list_all, list_any}
+use Rattle.std.proofs.Common.{◌≡◌, ℕ, zero, suc, ◌+◌, ◌<◌, ◌≤◌, ◌&&◌, not, Bool, true, false, true≢false, cond, List, [], ◌∷◌, ◌++◌, length, Option, Some, None, refl, sym, ap, ◌∙◌, subst, arith, slice_get, slice_set, option_and_then, length-set}
 use Rattle.std.specs.Option.{option_map_or}
-use Rattle.std.proofs.lemmas.Bool.{and_parts, eq-eqb}
 use Rattle.std.proofs.lemmas.List.{length_push}
 use Rattle.std.proofs.lemmas.Option.{none-some, same_Some, slice_get_within}
 use Rattle.xk_types.specs.declared.instr.Instr.{Instr}
 use Rattle.xk_types.specs.declared.instr.Instr.TheVariants as instr
 use Rattle.xk_types.specs.declared.names.Status.{Status}
 use Rattle.xk_types.specs.declared.names.Status.TheVariants as status
-use Rattle.xk_types.specs.declared.names.Standing.{Standing}
 use Rattle.xk_types.specs.declared.names.Value.{Value}
 use Rattle.xk_types.specs.declared.names.Event.{Event}
 use Rattle.xk_types.specs.declared.names.Event.TheVariants as event
 use Rattle.xk_types.specs.Code.{ModuleValue}
-use Rattle.xk_types.specs.World.{Finish, Activity, Clock, World, standing_of, is_ended}
-use Rattle.xk_types.specs.Step.{Outcome, Blocked, Wrong, Stepped, step, is_signalled, settled_clock, moved, joined, new_clock, is_given, onward, left, ended, arrived, child, innermost, awaits, waits, dropped, resumed, none, all}
+use Rattle.xk_types.specs.World.{Finish, Activity, World, is_ended}
+use Rattle.xk_types.specs.Step.{Outcome, Blocked, Wrong, Stepped, step, onward, left, ended, arrived, child, innermost, awaits, waits}
 use Rattle.xk_types.specs.Schedule.{is_enabled}
-use Rattle.xk_laws.proofs.Invariant.{IsClockSound}
-use Rattle.xk_types.proofs.Lists.{Each, get-set_same, get-set_other, get-push_other, get-append_left}
-use Rattle.xk_laws.proofs.Reached.{reached_sound}
+use Rattle.xk_types.proofs.Lists.{get-set_same, get-set_other, get-push_other, get-append_left}
 use Rattle.xk_laws.proofs.Scopes.Invariant.{governing_at}
 use Rattle.xk_laws.proofs.Scopes.Under.{AreOwned}
-use Rattle.xk_laws.proofs.Clocks.Advance.{settled_cases}
-use Rattle.xk_laws.proofs.Clocks.Standings.{stand_other, new_other, stand_joined_old}
 use Rattle.xk_core.specs.Able.{able_by, able_of, kept_by}
 use Rattle.xk_core.specs.Core.{IsCore, is_quiet, governor, instruction_of}
 use Rattle.xk_core.proofs.Cores.{core_able, core_stepped}

@@ -1,5 +1,5 @@
 -- Those who can take a step, and those who are held back, after a step whose advances have been looked at.
-use Rattle.std.proofs.Common.{◌≡◌, ◌∙◌, ℕ, zero, suc, ◌+◌, ◌<◌, ◌≤◌, ◌==◌, not, Bool, true, false, true≢false, cond, List, [], ◌∷◌, length, filter, get_or, drop, drop-cons, add-one, All, Option, Some, None, slice_get, slice_set, ◌⊎◌, inl, inr, refl, sym, ap, subst, arith}
+use Rattle.std.proofs.Common.{◌≡◌, ◌∙◌, ℕ, zero, suc, ◌+◌, ◌<◌, ◌≤◌, ◌==◌, not, Bool, true, false, true≢false, cond, List, [], ◌∷◌, length, filter, get_or, drop, drop-cons, add-one, All, Option, Some, None, slice_get, ◌⊎◌, inl, inr, refl, sym, ap, subst, arith}
 use Rattle.std.specs.Option.{option_map_or}
 use Rattle.std.proofs.lemmas.Bool.{cases_eq, cases_lt}
 use Rattle.std.proofs.lemmas.List.Elements.{All-from_get_or}
@@ -9,7 +9,7 @@ use Rattle.xk_types.specs.declared.names.Status.{Status}
 use Rattle.xk_types.specs.declared.names.Status.TheVariants as status
 use Rattle.xk_types.specs.Code.{ModuleValue}
 use Rattle.xk_types.specs.World.{Activity, Clock, World}
-use Rattle.xk_types.specs.Step.{Blocked, Stepped, step, step_by, step_of, passing, waits}
+use Rattle.xk_types.specs.Step.{Stepped, step, step_by, step_of, passing, waits}
 use Rattle.xk_types.specs.Schedule.{is_step, is_enabled}
 use Rattle.xk_members.specs.Members.{numbers_from, with_member}
 use Rattle.xk_waiting.specs.Waiting.{times, times_in_all, waiters, taken, left}
@@ -21,9 +21,9 @@ use Rattle.xk_drive.specs.Choosing.{enabled_in}
 use Rattle.xk_drive.specs.Held.{AreHeld, AreAsked, IsAsked, IsPut, IsNotedIn}
 use Rattle.xk_core.specs.Core.{is_arrived, is_waiting}
 use Rattle.xk_drive.proofs.Asked.{IsListAsked, AreListsAsked, list_asked, lists_asked}
-use Rattle.xk_drive.proofs.HeldBack.{both, held_on, held_by, waits_by, free_on}
+use Rattle.xk_drive.proofs.HeldBack.{both, held_on, waits_by, free_on}
 use Rattle.xk_drive.proofs.Listing.{IsOneStep, step_widens}
-use Rattle.xk_drive.proofs.Untouched.{untouched_by, steps_within, awake_after, awake_fresh, waiting_same, waiting_within, waits_after}
+use Rattle.xk_drive.proofs.Untouched.{untouched_by, awake_after, awake_fresh, waiting_same, waiting_within, waits_after}
 
 -- ---- the clocks that advanced
 
@@ -270,11 +270,11 @@ noted_held m w v a e next later last stepped woken wide noted = elim (arrival e)
   | inl is ↦
       put_held v a later last wide woken.nowhere (waits_after m w v a e stepped is) (subst (λ f. IsNotedIn v a f later last) is noted) woken.once woken.stands woken.covers
   | inr other ↦ subst (λ (ls : List (List ℕ)). AreHeld v ls) (sym (same e other noted)) (record {
-      once = woken.once;
-      stands = woken.stands;
-      covers = λ b waiting on.
-          woken.covers b (λ is. true≢false (sym waiting ∙ ap (is_waiting v) is ∙ awake_after m w v a e stepped other)) waiting on;
-    })
+    once = woken.once;
+    stands = woken.stands;
+    covers = λ b waiting on.
+        woken.covers b (λ is. true≢false (sym waiting ∙ ap (is_waiting v) is ∙ awake_after m w v a e stepped other)) waiting on;
+  })
 ]
   where
     arrival : (f : Event) → (f ≡ event.Arrived) ⊎ (f ≡ event.Arrived → ⊥)

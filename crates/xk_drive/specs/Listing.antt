@@ -1,16 +1,11 @@
 -- The set of those who can take a step, from step to step.
-use Rattle.std.specs.Prelude.{◌≡◌, ℕ, ◌-◌, Bool, true, false, List, [], ◌∷◌, length, filter, Option, Some, None, slice_get, if◌then◌else◌}
-use Rattle.std.specs.Option.{option_map_or}
+use Rattle.std.specs.Prelude.{ℕ, ◌-◌, List, length, Option, Some, None}
 use Rattle.xk_types.specs.declared.names.Event.{Event}
 use Rattle.xk_types.specs.declared.names.Event.TheVariants as event
-use Rattle.xk_types.specs.declared.names.Status.{Status}
-use Rattle.xk_types.specs.declared.names.Status.TheVariants as status
 use Rattle.xk_types.specs.World.{World}
 use Rattle.xk_types.specs.Schedule.{is_enabled}
-use Rattle.xk_types.specs.Step.{Stepped, step}
-use Rattle.xk_members.specs.Members.{numbers_from, with_member}
-use Rattle.xk_core.specs.Core.{CoreValue, IsCore, governor, is_quiet}
-use Rattle.xk_drive.specs.Choosing.{enabled_in}
+use Rattle.xk_members.specs.Members.{with_member}
+use Rattle.xk_core.specs.Core.{CoreValue, governor}
 
 -- Who but the activity that took it may be able to step after a step, whatever clocks do, and wasn't before: one that it started; and
 -- where it ended its activity, the one that opened the finish which governs it.

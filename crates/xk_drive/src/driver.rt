@@ -313,9 +313,11 @@ impl<'m> Driver<'m> {
         ensures back { IfErr result (λ c. c ≡ start.entry) }
     {
         let clocks = most_clocks_of(&start);
-        let Ok((mut enabled, mut waiting, shown, advanced)) =
-            lists_for(alloc, most_of(&start), clocks)
-        else {
+        let Ok((mut enabled, mut waiting, shown, advanced)) = lists_for(
+            alloc,
+            most_of(&start),
+            clocks,
+        ) else {
             return Err(start);
         };
         list_all(&mut enabled, &mut waiting, &start);

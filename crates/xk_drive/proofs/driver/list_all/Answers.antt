@@ -1,4 +1,4 @@
-use Rattle.std.proofs.Common.{◌≡◌, ◌∙◌, ◌+◌, ℕ, List, length, refl, ap, sym, subst, arith}
+use Rattle.std.proofs.Common.{◌≡◌, ◌∙◌, length, refl, sym, subst, arith}
 use Rattle.xk_types.specs.Schedule.{is_enabled}
 use Rattle.xk_drive.proofs.Listing.{listed_more}
 use Rattle.xk_drive.proofs.Woken.{AreHeldBelow, all_below, none_below, held_more, skip_more}

@@ -1,4 +1,4 @@
-use Rattle.std.proofs.Common.{◌≡◌, ◌∙◌, ◌<◌, ℕ, List, length, ap, sym, subst, arith}
+use Rattle.std.proofs.Common.{◌∙◌, ◌<◌, ℕ, List, length, ap, subst, arith}
 use Rattle.xk_waiting.specs.Waiting.{times}
 use Rattle.xk_waiting.proofs.Left.{left_length}
 use Rattle.xk_drive.proofs.Woken.{all_there, taken_there}

@@ -9,4 +9,4 @@ returns-clause-opening c = core_fresh c.args.start.module_run c.args.start.world
 
 pub list_all-requires-clause-nobody_waits : goal.list_all-requires-clause-nobody_waits
 list_all-requires-clause-nobody_waits c b =
-    ap (times_in_all b) (c.in-Ok.waiting-is ∙ c.in-Ok.ensures.nobody_waits) ∙ none_times b c.most_clocks_of-clocks.result
+    ap (times_in_all b) c.in-Ok.ensures.nobody_waits ∙ none_times b c.most_clocks_of-clocks.result
