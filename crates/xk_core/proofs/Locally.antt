@@ -21,7 +21,7 @@ use Rattle.xk_activity.specs.Activities.{Stands, act_at, nobody}
 use Rattle.xk_activity.proofs.Joined.{joined}
 use Rattle.xk_activity.proofs.Reached.{reached_safe}
 use Rattle.xk_core.specs.Arm.{concerns_finishes, is_visible, carried, IsLast}
-use Rattle.xk_core.specs.Core.{CoreValue, TakesStep, Locally, IsBeyond, is_running, runs_now, next_instruction, instruction_of, instruction_by}
+use Rattle.xk_core.specs.Core.{CoreValue, TakesStep, Locally, IsBeyond, is_arrived, is_running, is_waiting, runs_now, next_instruction, instruction_of, instruction_by}
 use Rattle.xk_core.specs.Told.{with_node, with_nodes, with_finishes, AreTold}
 use Rattle.xk_core.proofs.Beyond.{visible_there, nobody_waits}
 use Rattle.xk_core.proofs.Cores.{carry_step}
@@ -144,6 +144,15 @@ running_told ns w width a = by (told_at ns w.activities width a)
     by (Nobody e g) = ap (λ o. option_map_or (λ (act : Activity). runs_now act.status) o false) (g ∙ sym e)
     by (Somebody n x k e g) = ap (λ o. option_map_or (λ (act : Activity). runs_now act.status) o false) g
         ∙ sym (ap (λ o. option_map_or (λ (act : Activity). runs_now act.status) o false) e)
+
+-- and whether it waits at an `advance`
+pub waiting_told : (ns : List NodeValue) (w : World) → length ns ≡ length w.activities → (a : ℕ) → is_waiting (with_finishes ns w) a ≡ is_waiting w a
+waiting_told ns w width a = by (told_at ns w.activities width a)
+  where
+    by : At ns w.activities a → is_waiting (with_finishes ns w) a ≡ is_waiting w a
+    by (Nobody e g) = ap (λ o. option_map_or (λ (act : Activity). is_arrived act.status) o false) (g ∙ sym e)
+    by (Somebody n x k e g) = ap (λ o. option_map_or (λ (act : Activity). is_arrived act.status) o false) g
+        ∙ sym (ap (λ o. option_map_or (λ (act : Activity). is_arrived act.status) o false) e)
 
 -- who doesn't has no next instruction
 pub none_next : (m : ModuleValue) (w : World) (a : ℕ) → is_running w a ≡ false → next_instruction m w a ≡ None

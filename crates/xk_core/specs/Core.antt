@@ -109,6 +109,15 @@ has_advanced w c = option_map_or (λ k. k.last == w.steps) (slice_get w.clocks c
 abbrev pub advanced_now : World → List ℕ
 advanced_now w = filter (has_advanced w) (numbers_from 0 (length w.clocks))
 
+abbrev pub is_arrived : Status → Bool
+is_arrived status.Running = false
+is_arrived status.Arrived = true
+is_arrived status.Ended = false
+
+-- activity a exists and waits at an `advance`
+abbrev pub is_waiting : World → ℕ → Bool
+is_waiting w a = option_map_or (λ act. is_arrived act.status) (slice_get w.activities a) false
+
 -- clock c holds activity a back: it is signalled on it
 abbrev pub is_held_back_by : World → ℕ → ℕ → Bool
 is_held_back_by w a c = option_map_or (λ k. is_signalled (standing_of k a)) (slice_get w.clocks c) false

@@ -17,7 +17,7 @@ ghost use Rattle.xk_rooms.specs.Rooms.{HasRoomLeft};
 ghost use Rattle.xk_core.specs.Stretch.{after_steps, HasRoomForSteps, TakesSteps};
 ghost use Rattle.xk_core.specs.Handed.{IsAsBefore};
 ghost use Rattle.xk_core.specs.Able.{is_able};
-ghost use Rattle.xk_core.specs.Core.{is_quiet, advanced_now, is_held_back_by, is_running, next_instruction, with_world, TakesStep};
+ghost use Rattle.xk_core.specs.Core.{is_quiet, advanced_now, is_held_back_by, is_running, is_waiting, next_instruction, with_world, TakesStep};
 ghost use Rattle.xk_core.specs.Change.{standing_after_step, AllowsChange};
 ghost use Rattle.xk_core.specs.Arm.{concerns_finishes, is_visible, carried, CarriesOut, passed_on, IsRoomy, IsLast};
 ghost use Rattle.xk_types.specs.World as world;
@@ -488,6 +488,13 @@ impl<'m> State<'m> {
         ensures { result ≡ waits self.now.world a }
     {
         self.standings.waits(a)
+    }
+
+    /// Whether activity a exists and waits at an `advance`.
+    pub fn is_waiting(&self, a: usize) -> bool
+        ensures { result ≡ is_waiting self.now.world a }
+    {
+        a < self.activities.len() && matches!(self.activities.status(a), Status::Arrived)
     }
 
     /// A clock that holds activity a back, if one does: it is signalled on it.

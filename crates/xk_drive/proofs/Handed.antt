@@ -14,12 +14,14 @@ use Rattle.xk_types.proofs.Lists.{get-set_same, get-set_other}
 use Rattle.xk_activity.specs.Local.{FramesValue}
 use Rattle.xk_activity.specs.Joined.{with_frames}
 use Rattle.xk_activity.specs.Activities.{act_at, nobody}
-use Rattle.xk_core.specs.Core.{CoreValue, IsCore, with_world, is_running, runs_now}
+use Rattle.xk_core.specs.Core.{CoreValue, IsCore, with_world, is_running, runs_now, is_arrived, is_waiting}
 use Rattle.xk_core.specs.Stretch.{after_steps}
 use Rattle.xk_members.specs.Members.{SetValue, numbers_from, with_member}
 use Rattle.xk_members.proofs.Rising.{member_changed}
+use Rattle.xk_waiting.specs.Waiting.{WaitingValue}
 use Rattle.xk_drive.specs.Choosing.{enabled_in}
-use Rattle.xk_drive.specs.Listing.{IsAmong, is_arrived, is_waiting, with_or_without}
+use Rattle.xk_drive.specs.Held.{AreHeld}
+use Rattle.xk_drive.specs.Listing.{with_or_without}
 use Rattle.xk_drive.specs.Driving.{IsListed}
 use Rattle.xk_drive.proofs.Untouched.{same_enabled}
 use Rattle.xk_drive.proofs.UntouchedOwners.{core_owned}
@@ -92,33 +94,36 @@ module _ (m : ModuleValue) (w : World) (a : ℕ) (fs : FramesValue) (n : ℕ) (r
           (ap waits_as (get-set_same w.activities a x y r.found) ∙ sym (ap waits_as r.found))
       by (inr ne) = ap waits_as (get-set_other w.activities a b y ne)
 
-  among_handed : (list : List ℕ) → IsAmong w list → IsAmong v list
-  among_handed list among = record {
-    test = among.test;
-    list_is = among.list_is ∙ ap (λ k. filter among.test (numbers_from 0 k)) (sym width_same);
-    covers = λ b h. among.covers b (sym (waiting_handed b) ∙ h);
+  -- and those who are held back are so by the same clocks
+  held_handed : (lists : List (List ℕ)) → AreHeld w lists → AreHeld v lists
+  held_handed lists held = record {
+    once = held.once;
+    stands = λ c b some. (waiting_handed b ∙ (held.stands c b some).0, (held.stands c b some).1);
+    covers = λ b waiting on. held.covers b (sym (waiting_handed b) ∙ waiting) on;
   }
 
-  -- the sets tell of the world then, where this one is put in or out
-  module _ (s t waiting : SetValue) (shown : ℕ) where
-    sets_handed : IsListed (record { module_run = m; world = w }) s waiting shown → IsCore m v
+  -- the set and the lists tell of the world then, where this one is put in or out
+  module _ (s t : SetValue) (waiting : WaitingValue) (shown advanced : ℕ) where
+    sets_handed : IsListed (record { module_run = m; world = w }) s waiting shown advanced → IsCore m v
         → t.members ≡ with_or_without (record { module_run = m; world = v }) a s.members → t.room ≡ s.room
-        → IsListed (record { module_run = m; world = v }) t waiting shown
+        → IsListed (record { module_run = m; world = v }) t waiting shown advanced
     sets_handed old later members room = record {
       core = later;
       list_is = members ∙ ap (with_member a (is_enabled m v a)) old.list_is ∙ listed_handed old.core later;
-      among = among_handed waiting.members old.among;
+      held = held_handed waiting.lists old.held;
       roomy = subst (λ k. activities_bound m ≤ k) (sym room) old.roomy;
       roomy_to_wait = old.roomy_to_wait;
+      roomy_clocks = old.roomy_clocks;
       roomy_list = old.roomy_list;
+      roomy_advanced = old.roomy_advanced;
     }
 
 -- what the driver keeps, behind the steps of a ticket
-pub driver_handed : (c d : CoreValue) (a : ℕ) (fs : FramesValue) (n : ℕ) (s t waiting : SetValue) (shown : ℕ) → is_running c.world a ≡ true
-    → d ≡ with_world c (after_steps c.world a fs n) → IsCore d.module_run d.world → IsListed c s waiting shown
-    → t.members ≡ with_or_without d a s.members → t.room ≡ s.room → IsListed d t waiting shown
-driver_handed c d a fs n s t waiting shown runs is later old members room =
-    subst (λ (z : CoreValue). IsListed z t waiting shown) (sym is)
-    (sets_handed c.module_run c.world a fs n runs s t waiting shown old
+pub driver_handed : (c d : CoreValue) (a : ℕ) (fs : FramesValue) (n : ℕ) (s t : SetValue) (waiting : WaitingValue) (shown advanced : ℕ) → is_running c.world a ≡ true
+    → d ≡ with_world c (after_steps c.world a fs n) → IsCore d.module_run d.world → IsListed c s waiting shown advanced
+    → t.members ≡ with_or_without d a s.members → t.room ≡ s.room → IsListed d t waiting shown advanced
+driver_handed c d a fs n s t waiting shown advanced runs is later old members room =
+    subst (λ (z : CoreValue). IsListed z t waiting shown advanced) (sym is)
+    (sets_handed c.module_run c.world a fs n runs s t waiting shown advanced old
     (subst (λ (z : CoreValue). IsCore z.module_run z.world) is later)
     (subst (λ (z : CoreValue). t.members ≡ with_or_without z a s.members) is members) room)

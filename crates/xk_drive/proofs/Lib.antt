@@ -11,3 +11,6 @@ pub mod Following
 pub mod ChoiceRows
 pub mod Stretches
 pub mod Going
+pub mod HeldBack
+pub mod Asked
+pub mod Woken

@@ -1,10 +1,10 @@
 -- The list of those who can take a step, after a step.
-use Rattle.std.proofs.Common.{◌≡◌, ◌∙◌, ℕ, zero, suc, ◌+◌, ◌-◌, ◌<◌, ◌≤◌, Bool, true, false, true≢false, cond, if◌then◌else◌, ◌&&◌, ◌==◌, List, [], ◌∷◌, ◌++◌, All, length, get_or, filter, Option, Some, None, Result, Ok, Err, OnErr, slice_get, ◌⊎◌, inl, inr, refl, sym, ap, subst, arith, add-one}
+use Rattle.std.proofs.Common.{◌≡◌, ◌∙◌, ℕ, zero, suc, ◌+◌, ◌-◌, ◌<◌, ◌≤◌, Bool, true, false, cond, if◌then◌else◌, ◌&&◌, ◌==◌, List, [], ◌∷◌, ◌++◌, length, get_or, filter, Option, Some, None, Result, Ok, Err, OnErr, slice_get, ◌⊎◌, inl, inr, refl, sym, ap, subst, arith, add-one}
 use Rattle.std.specs.List.{list_all}
 use Rattle.std.proofs.lemmas.Bool.{cases_eq, eq-eqb, ne_eqb, eqb-true, eqb-false}
 use Rattle.std.proofs.lemmas.Option.{none-some, same_Some, slice_get-get_or}
 use Rattle.std.proofs.lemmas.List.{append-nil}
-use Rattle.std.proofs.lemmas.List.Elements.{filter-append, All-from_get_or}
+use Rattle.std.proofs.lemmas.List.Elements.{filter-append}
 use Rattle.xk_types.specs.declared.names.Event.{Event}
 use Rattle.xk_types.specs.declared.names.Event.TheVariants as event
 use Rattle.xk_types.specs.declared.names.Status.{Status}
@@ -13,15 +13,15 @@ use Rattle.xk_types.specs.Code.{ModuleValue}
 use Rattle.xk_types.specs.World.{Activity, World, is_ended}
 use Rattle.xk_types.specs.Step.{Stepped, step, step_by, step_of}
 use Rattle.xk_types.specs.Schedule.{is_step, is_enabled, all_ended}
-use Rattle.xk_core.specs.Core.{CoreValue, IsCore, is_quiet, governor}
-use Rattle.xk_types.specs.Bound.{activities_bound}
+use Rattle.xk_core.specs.Core.{IsCore, governor}
+use Rattle.xk_types.specs.Bound.{activities_bound, clocks_bound}
 use Rattle.xk_laws.proofs.Reached.{reached_room}
 use Rattle.xk_members.specs.Members.{IsRising, numbers_from, with_member}
 use Rattle.xk_drive.specs.Choosing.{enabled_in}
-use Rattle.xk_drive.specs.Listing.{other_to_list, IsAmong, is_waiting, each_tested, woken, waiting_after}
+use Rattle.xk_drive.specs.Listing.{other_to_list}
 use Rattle.xk_core.proofs.Cores.{core_ends}
-use Rattle.xk_members.proofs.Rising.{filter_rises, member_added, member_changed, member_passes, members_few, members_none, numbers_more, same_members}
-use Rattle.xk_drive.proofs.Untouched.{untouched, grows_by_start, keeps_width, steps_within, governor_same, governor_within, awake_after, awake_fresh, waiting_same, waiting_within}
+use Rattle.xk_members.proofs.Rising.{filter_rises, member_added, member_changed, member_passes, members_few, members_none, numbers_more}
+use Rattle.xk_drive.proofs.Untouched.{grows_by_start, keeps_width, steps_within, governor_same, governor_within}
 
 -- ---- who is in the list
 
@@ -240,184 +240,6 @@ core_few m w core = (reached_room m core.limits core.accepted w core.reached).ac
 pub core_limit : (m : ModuleValue) (w : World) → IsCore m w → activities_bound m ≤ 100000
 core_limit m w core = core.accepted.bounds.activities
 
--- ---- those who are looked at where a clock advanced
-
--- A test that differs from another only at those of these numbers that are looked at again.
-each_from : (c : CoreValue) (among p t : ℕ → Bool) (n a k : ℕ)
-    → ((j : ℕ) → a ≤ j → j < a + k → among j ≡ true → (j < n) × (t j ≡ is_enabled c.module_run c.world j))
-    → ((j : ℕ) → j < n → (a ≤ j → j < a + k → among j ≡ false) → t j ≡ p j)
-    → each_tested c (filter among (numbers_from a k)) (filter p (numbers_from 0 n)) ≡ filter t (numbers_from 0 n)
-each_from c among p t n a zero at out = sym (same_members p t 0 n (λ j from to. out j (omega arith) (λ f g. absurd (omega (arith, f, g)))))
-each_from c among p t n a (suc k) at out = on (λ r at out. each_from c among r t n (suc a) k at out) (among a) refl
-  where
-    q : ℕ → Bool
-    q = is_enabled c.module_run c.world
-
-    rest : List ℕ
-    rest = filter among (numbers_from (suc a) k)
-
-    on : ((r : ℕ → Bool) → ((j : ℕ) → suc a ≤ j → j < suc a + k → among j ≡ true → (j < n) × (t j ≡ is_enabled c.module_run c.world j))
-        → ((j : ℕ) → j < n → (suc a ≤ j → j < suc a + k → among j ≡ false) → t j ≡ r j)
-        → each_tested c rest (filter r (numbers_from 0 n)) ≡ filter t (numbers_from 0 n))
-        → (b : Bool) → among a ≡ b → each_tested c (cond b (a ∷ rest) rest) (filter p (numbers_from 0 n)) ≡ filter t (numbers_from 0 n)
-    on later true e =
-        let here : (a < n) × (t a ≡ q a) = at a (omega arith) (omega arith) e in
-        ap (each_tested c rest)
-        (ap (λ b. with_member a b (filter p (numbers_from 0 n))) (sym (at_itself a q p))
-        ∙ sym (member_changed p (but_at a q p) n a here.0 (λ j lt ne. elsewhere a q p j ne)))
-        ∙ later (but_at a q p) (λ j from to. at j (omega (arith, from)) (omega (arith, to))) (λ j lt off. other here.1 j lt off (cases_eq j a))
-      where
-        other : t a ≡ q a → (j : ℕ) → j < n → (suc a ≤ j → j < suc a + k → among j ≡ false) → (j ≡ a) ⊎ (j ≡ a → ⊥) → t j ≡ but_at a q p j
-        other same j lt off (inl is) = rw is (same ∙ sym (at_itself a q p))
-        other same j lt off (inr ne) = out j lt (λ from to. off (omega (arith, from, ne)) (omega (arith, to))) ∙ sym (elsewhere a q p j ne)
-    on later false e = later p (λ j from to. at j (omega (arith, from)) (omega (arith, to))) (λ j lt off. out j lt (λ from to. apart j off from to (cases_eq j a)))
-      where
-        apart : (j : ℕ) → (suc a ≤ j → j < suc a + k → among j ≡ false) → a ≤ j → j < a + suc k → (j ≡ a) ⊎ (j ≡ a → ⊥) → among j ≡ false
-        apart j off from to (inl is) = rw is e
-        apart j off from to (inr ne) = off (omega (arith, from, ne)) (omega (arith, to))
-
-pub each_is : (c : CoreValue) (among p : ℕ → Bool) (n : ℕ)
-    → each_tested c (filter among (numbers_from 0 n)) (filter p (numbers_from 0 n))
-    ≡ filter (λ k. cond (among k) (is_enabled c.module_run c.world k) (p k)) (numbers_from 0 n)
-each_is c among p n = each_from c among p (λ k. cond (among k) (is_enabled c.module_run c.world k) (p k)) n 0 n
-    (λ j from to is. (omega arith, ap (λ b. cond b (is_enabled c.module_run c.world j) (p j)) is))
-    (λ j lt off. ap (λ b. cond b (is_enabled c.module_run c.world j) (p j)) (off (omega arith) (omega arith)))
-
--- a list for which a step is as a test of it says
-pub record IsWoken (m : ModuleValue) (w v : World) (a : ℕ) (e : Event) (list : List ℕ) : Type 0 where
-  pub test : ℕ → Bool
-  pub list_is : list ≡ filter test (numbers_from 0 (length w.activities))
-  pub step : IsOneStep m w v a e test
-
-pub woken_is : (c : CoreValue) (w : World) (a : ℕ) (e : Event) (waiting : List ℕ) → IsCore c.module_run w → step c.module_run w a ≡ Stepped c.world e → IsAmong w waiting
-    → IsWoken c.module_run w c.world a e (woken c waiting (enabled_in c.module_run w))
-woken_is c w a e waiting core stepped among = on (is_quiet v) refl
-  where
-    m : ModuleValue
-    m = c.module_run
-
-    v : World
-    v = c.world
-
-    on : (b : Bool) → is_quiet v ≡ b → IsWoken m w v a e (cond b (enabled_in m w) (each_tested c waiting (enabled_in m w)))
-    on true quiet = record {
-      test = is_enabled m w;
-      list_is = refl;
-      step = record {
-        core = core;
-        stepped = stepped;
-        own = λ h. ap is_step stepped;
-        others = λ k lt ne other. untouched m w v a e core stepped k (λ h. quiet) lt ne other;
-      };
-    }
-    on false loud = record {
-      test = λ k. cond (among.test k) (is_enabled m v k) (is_enabled m w k);
-      list_is = ap (λ l. each_tested c l (enabled_in m w)) among.list_is ∙ each_is c among.test (is_enabled m w) (length w.activities);
-      step = record {
-        core = core;
-        stepped = stepped;
-        own = λ h. own (among.test a) h;
-        others = λ k lt ne other. others k lt ne other (among.test k) refl;
-      };
-    }
-      where
-        own : (b : Bool) → is_enabled m v a ≡ true → cond b (is_enabled m v a) (is_enabled m w a) ≡ true
-        own true h = h
-        own false h = ap is_step stepped
-
-        others : (k : ℕ) → k < length w.activities → (k ≡ a → ⊥) → (e ≡ event.Ended → governor w a ≡ Some k → ⊥) → (b : Bool) → among.test k ≡ b
-            → is_enabled m v k ≡ cond b (is_enabled m v k) (is_enabled m w k)
-        others k lt ne other true is = refl
-        others k lt ne other false is = untouched m w v a e core stepped k (λ h. absurd (true≢false (sym (among.covers k h) ∙ is))) lt ne other
-
--- ---- those among whom all are who wait at an `advance`
-
--- they are there
-pub among_within : (w : World) (list : List ℕ) → IsAmong w list → (i a : ℕ) → slice_get list i ≡ Some a → a < length w.activities
-among_within w list among i a e = (member_passes among.test (length w.activities) i a (ap (λ l. slice_get l i) (sym among.list_is) ∙ e)).1
-
-pub among_few : (w : World) (list : List ℕ) → IsAmong w list → length list ≤ length w.activities
-among_few w list among = omega (arith, ap length among.list_is, members_few among.test (length w.activities))
-
-pub among_after : (m : ModuleValue) (w v : World) (a : ℕ) (e : Event) (list : List ℕ) → step m w a ≡ Stepped v e → IsAmong w list → IsAmong v (waiting_after a e list)
-among_after m w v a e list stepped among = by e refl
-  where
-    n : ℕ
-    n = length w.activities
-
-    -- another than the one that took the step
-    kept : (b : ℕ) → b < n → (b ≡ a → ⊥) → is_waiting v b ≡ true → among.test b ≡ true
-    kept b lt ne h = among.covers b (sym (waiting_same m w v a e stepped b ne lt) ∙ h)
-
-    within : (e ≡ event.Spawned → ⊥) → (b : ℕ) → is_waiting v b ≡ true → b < n
-    within start b h = omega (arith, waiting_within v b h, keeps_width m w v a e stepped start)
-
-    changed : (s : Bool) → (e ≡ event.Spawned → ⊥) → (is_waiting v a ≡ true → s ≡ true) → IsAmong v (with_member a s list)
-    changed s start own = record {
-      test = test;
-      list_is = ap (with_member a s) among.list_is
-          ∙ ap (λ b. with_member a b (filter among.test (numbers_from 0 n))) (sym (at_itself a (λ k. s) among.test))
-          ∙ sym (member_changed among.test test n a (steps_within m w v a e stepped) (λ k lt ne. elsewhere a (λ k. s) among.test k ne))
-          ∙ ap (λ k. filter test (numbers_from 0 k)) (sym (keeps_width m w v a e stepped start));
-      covers = λ b h. covers b h (cases_eq b a);
-    }
-      where
-        test : ℕ → Bool
-        test = but_at a (λ k. s) among.test
-
-        covers : (b : ℕ) → is_waiting v b ≡ true → (b ≡ a) ⊎ (b ≡ a → ⊥) → test b ≡ true
-        covers b h (inl is) = ap test is ∙ at_itself a (λ k. s) among.test ∙ own (subst (λ z. is_waiting v z ≡ true) is h)
-        covers b h (inr ne) = elsewhere a (λ k. s) among.test b ne ∙ kept b (within start b h) ne h
-
-    plain : (e ≡ event.Spawned → ⊥) → (e ≡ event.Arrived → ⊥) → IsAmong v list
-    plain start arrival = record {
-      test = among.test;
-      list_is = among.list_is ∙ ap (λ k. filter among.test (numbers_from 0 k)) (sym (keeps_width m w v a e stepped start));
-      covers = λ b h. covers b h (cases_eq b a);
-    }
-      where
-        covers : (b : ℕ) → is_waiting v b ≡ true → (b ≡ a) ⊎ (b ≡ a → ⊥) → among.test b ≡ true
-        covers b h (inl is) = absurd (true≢false (sym (subst (λ z. is_waiting v z ≡ true) is h) ∙ awake_after m w v a e stepped arrival))
-        covers b h (inr ne) = kept b (within start b h) ne h
-
-    started : e ≡ event.Spawned → IsAmong v list
-    started start = record {
-      test = test;
-      list_is = one_not test n list (among.list_is ∙ sym (same_members among.test test 0 n (λ k from to. elsewhere n (λ k. false) among.test k (λ g. absurd (omega (arith, g, to))))))
-          (at_itself n (λ k. false) among.test)
-          ∙ ap (λ k. filter test (numbers_from 0 k)) (sym wide);
-      covers = λ b h. covers b h (cases_eq b a) (cases_eq b n);
-    }
-      where
-        wide : length v.activities ≡ n + 1
-        wide = grows_by_start m w v a (subst (λ f. step m w a ≡ Stepped v f) start stepped)
-
-        test : ℕ → Bool
-        test = but_at n (λ k. false) among.test
-
-        covers : (b : ℕ) → is_waiting v b ≡ true → (b ≡ a) ⊎ (b ≡ a → ⊥) → (b ≡ n) ⊎ (b ≡ n → ⊥) → test b ≡ true
-        covers b h (inl is) new = absurd (true≢false (sym (subst (λ z. is_waiting v z ≡ true) is h) ∙ awake_after m w v a e stepped (λ g. (let k : event.Spawned ≡ event.Arrived = sym start ∙ g in cc))))
-        covers b h (inr ne) (inl is) = absurd (true≢false (sym (subst (λ z. is_waiting v z ≡ true) is h) ∙ awake_fresh m w v a e stepped))
-        covers b h (inr ne) (inr old) =
-            elsewhere n (λ k. false) among.test b old ∙ kept b (omega (arith, waiting_within v b h, wide, old)) ne h
-
-    by : (f : Event) → e ≡ f → IsAmong v (waiting_after a f list)
-    by event.Arrived h = changed true (λ g. (let k : event.Arrived ≡ event.Spawned = sym h ∙ g in cc)) (λ k. refl)
-    by event.Passed h = changed false (λ g. (let k : event.Passed ≡ event.Spawned = sym h ∙ g in cc))
-        (λ g. absurd (true≢false (sym g ∙ awake_after m w v a e stepped (λ f. (let k : event.Passed ≡ event.Arrived = sym h ∙ f in cc)))))
-    by event.Spawned h = started h
-    by event.Local h = plain (λ g. (let k : event.Local ≡ event.Spawned = sym h ∙ g in cc)) (λ g. (let k : event.Local ≡ event.Arrived = sym h ∙ g in cc))
-    by event.Made h = plain (λ g. (let k : event.Made ≡ event.Spawned = sym h ∙ g in cc)) (λ g. (let k : event.Made ≡ event.Arrived = sym h ∙ g in cc))
-    by event.Got h = plain (λ g. (let k : event.Got ≡ event.Spawned = sym h ∙ g in cc)) (λ g. (let k : event.Got ≡ event.Arrived = sym h ∙ g in cc))
-    by event.Put h = plain (λ g. (let k : event.Put ≡ event.Spawned = sym h ∙ g in cc)) (λ g. (let k : event.Put ≡ event.Arrived = sym h ∙ g in cc))
-    by event.Added h = plain (λ g. (let k : event.Added ≡ event.Spawned = sym h ∙ g in cc)) (λ g. (let k : event.Added ≡ event.Arrived = sym h ∙ g in cc))
-    by event.Opened h = plain (λ g. (let k : event.Opened ≡ event.Spawned = sym h ∙ g in cc)) (λ g. (let k : event.Opened ≡ event.Arrived = sym h ∙ g in cc))
-    by event.Closed h = plain (λ g. (let k : event.Closed ≡ event.Spawned = sym h ∙ g in cc)) (λ g. (let k : event.Closed ≡ event.Arrived = sym h ∙ g in cc))
-    by event.Resumed h = plain (λ g. (let k : event.Resumed ≡ event.Spawned = sym h ∙ g in cc)) (λ g. (let k : event.Resumed ≡ event.Arrived = sym h ∙ g in cc))
-    by event.Dropped h = plain (λ g. (let k : event.Dropped ≡ event.Spawned = sym h ∙ g in cc)) (λ g. (let k : event.Dropped ≡ event.Arrived = sym h ∙ g in cc))
-    by event.Ended h = plain (λ g. (let k : event.Ended ≡ event.Spawned = sym h ∙ g in cc)) (λ g. (let k : event.Ended ≡ event.Arrived = sym h ∙ g in cc))
-    by (event.Printed n) h = plain (λ g. (let k : event.Printed n ≡ event.Spawned = sym h ∙ g in cc)) (λ g. (let k : event.Printed n ≡ event.Arrived = sym h ∙ g in cc))
-
 -- ---- one more in the list
 
 pub listed_more : (p : ℕ → Bool) (n : ℕ) (list next : List ℕ) → list ≡ filter p (numbers_from 0 n) → next ≡ with_member n (p n) list
@@ -437,6 +259,5 @@ other_within m w a b e core lt is = by (sort_of w a e)
 pub some_there : (xs : List ℕ) (b : Bool) → b ≡ (length xs == 0) → b ≡ false → 0 < length xs
 some_there xs b is off = omega (arith, eqb-false (length xs) 0 (sym is ∙ off))
 
-pub among_all : (w : World) (list : List ℕ) (room : ℕ) → IsAmong w list → length w.activities ≤ room → All (λ a. a < room) list
-among_all w list room among le =
-    All-from_get_or (λ a. a < room) list 0 (λ i lt. omega (arith, le, among_within w list among i (get_or list i 0) (slice_get-get_or list i 0 lt)))
+pub core_clocks : (m : ModuleValue) (w : World) → IsCore m w → length w.clocks ≤ clocks_bound m
+core_clocks m w core = (reached_room m core.limits core.accepted w core.reached).clocks

@@ -8,23 +8,26 @@ use Rattle.xk_types.specs.declared.names.Event.TheVariants as event
 use Rattle.xk_types.specs.declared.names.Standing.TheVariants as standing
 use Rattle.xk_types.specs.Code.{ModuleValue}
 use Rattle.xk_types.specs.World.{Clock, World}
-use Rattle.xk_types.specs.Step.{Outcome, Blocked, Wrong, Stepped, step, none, moved, is_ready, settled_clock, advanced}
+use Rattle.xk_types.specs.Step.{Outcome, Blocked, Wrong, Stepped, step, none, moved, is_ready, settled_clock, advanced, waits}
 use Rattle.xk_types.specs.Schedule.{Through, run, events, events_on, is_local, is_step, is_enabled}
 use Rattle.xk_types.proofs.Lists.{Each}
 use Rattle.xk_laws.proofs.Invariant.{IsClockSound}
 use Rattle.xk_laws.proofs.Reached.{same_through, first_step, reached_sound}
 use Rattle.xk_laws.proofs.Counts.{step_counts}
-use Rattle.xk_core.specs.Core.{CoreValue, IsCore, is_quiet}
+use Rattle.xk_core.specs.Core.{CoreValue, IsCore, is_quiet, is_waiting, is_held_back_by}
 use Rattle.xk_core.specs.Stretch.{RunsTo, AreLocal, IsUnseen}
 use Rattle.xk_core.proofs.Cores.{core_stepped}
 use Rattle.xk_members.specs.Members.{numbers_from, with_member}
 use Rattle.xk_members.proofs.Rising.{member_changed}
+use Rattle.xk_waiting.specs.Waiting.{times, times_in_all, waiters}
+use Rattle.xk_waiting.proofs.Times.{list_times}
 use Rattle.xk_drive.specs.Choosing.{enabled_in, Names, Follows, IsSteady, goes_on, state_after, state_on}
-use Rattle.xk_drive.specs.Listing.{IsAmong}
+use Rattle.xk_drive.specs.Held.{AreHeld}
 use Rattle.xk_drive.specs.Stretches.{IsStretch}
 use Rattle.xk_drive.proofs.UntouchedForms.{step_kind}
-use Rattle.xk_drive.proofs.Untouched.{untouched, keeps_width, steps_within}
-use Rattle.xk_drive.proofs.Listing.{among_after}
+use Rattle.xk_drive.proofs.HeldBack.{held_on, free_on, none_went}
+use Rattle.xk_drive.proofs.Untouched.{untouched, keeps_width, steps_within, awake_after, waiting_same, waiting_within}
+use Rattle.xk_drive.proofs.Woken.{steps_nowhere}
 
 -- ---- a local step leaves the clocks as they are
 
@@ -115,6 +118,36 @@ listed_there m w a can =
     ap (λ b. with_member a b (enabled_in m w)) (sym can)
     ∙ sym (member_changed (is_enabled m w) (is_enabled m w) (length w.activities) a (enabled_within m w a can) (λ k lt ne. refl))
 
+-- ---- those who are held back
+
+no_arrival : event.Local ≡ event.Arrived → ⊥
+no_arrival h = cc
+
+-- a local step leaves them held back by the same clocks
+pub held_local : (m : ModuleValue) (w v : World) (a : ℕ) (lists : List (List ℕ)) → IsCore m w → step m w a ≡ Stepped v event.Local → AreHeld w lists → AreHeld v lists
+held_local m w v a lists core h held = record { once = held.once; stands = stands; covers = covers }
+  where
+    quiet : is_quiet v ≡ true
+    quiet = local_quiet m w v a core h
+
+    nowhere : times_in_all a lists ≡ 0
+    nowhere = steps_nowhere m w v a event.Local lists h held
+
+    stands : (c b : ℕ) → 0 < times b (waiters lists c) → (is_waiting v b ≡ true) × (is_held_back_by v b c ≡ true)
+    stands c b some =
+        let before = held.stands c b some in
+        let inside : b < length w.activities = waiting_within w b before.0 in
+        let differs : b ≡ a → ⊥ = λ e. omega (arith, some, list_times b c lists, ap (λ k. times_in_all k lists) e, nowhere) in (
+          waiting_same m w v a event.Local h b differs inside ∙ before.0,
+          (held_on m w v a event.Local core h b inside differs c).stays before.1 (none_went v.steps v.clocks quiet c),
+        )
+
+    covers : (b : ℕ) → is_waiting v b ≡ true → waits v b ≡ true → 0 < times_in_all b lists
+    covers b waiting on =
+        let differs : b ≡ a → ⊥ = λ e. true≢false (sym waiting ∙ ap (is_waiting v) e ∙ awake_after m w v a event.Local h no_arrival) in
+        let inside : b < length w.activities = omega (arith, waiting_within v b waiting, keeps_width m w v a event.Local h no_start) in
+        held.covers b (sym (waiting_same m w v a event.Local h b differs inside) ∙ waiting) (free_on m w v a event.Local core h b inside differs on)
+
 -- ---- several steps
 
 -- n steps of activity a lead from w to v, and nobody else can see them
@@ -173,12 +206,12 @@ alone_listed m a (suc (suc n)) w v core can h =
     alone_listed m a (suc n) b.next v (core_stepped m w b.next a event.Local core b.stepped) again b.rest
     ∙ ap (with_member a (is_enabled m v a)) (listed_still m w b.next a core b.stepped again)
 
--- who waits at an `advance` is still among these
-pub alone_among : (m : ModuleValue) (a n : ℕ) (w v : World) (list : List ℕ) → GoesAlone m a n w v → IsAmong w list → IsAmong v list
-alone_among m a zero w v list h among = subst (λ z. IsAmong z list) (same_through w v h.leads) among
-alone_among m a (suc n) w v list h among =
+-- those who are held back still are
+pub alone_held : (m : ModuleValue) (a n : ℕ) (w v : World) (lists : List (List ℕ)) → IsCore m w → GoesAlone m a n w v → AreHeld w lists → AreHeld v lists
+alone_held m a zero w v lists core h held = subst (λ z. AreHeld z lists) (same_through w v h.leads) held
+alone_held m a (suc n) w v lists core h held =
     let b = begun m a n w v h in
-    alone_among m a n b.next v list b.rest (among_after m w b.next a event.Local list b.stepped among)
+    alone_held m a n b.next v lists (core_stepped m w b.next a event.Local core b.stepped) b.rest (held_local m w b.next a lists core b.stepped held)
 
 -- ---- choosers
 

@@ -1,76 +1,31 @@
 -- A step of one activity leaves each other as able to step as it was, but for the one that it starts, those on a clock that advances, and,
 -- where it ends its activity, the owner of the finish that governs that one.
-use Rattle.std.proofs.Common.{◌≡◌, ℕ, zero, suc, ◌+◌, ◌<◌, ◌≤◌, ◌&&◌, ◌||◌, ◌==◌, not, Bool, true, false, true≢false, cond, List, [], ◌∷◌, ◌++◌, map, length, Option, Some, None, refl, sym, ap, ap₂, ◌∙◌, subst, arith, slice_get, slice_set, option_and_then, length-set}
-use Rattle.std.specs.List.{list_all, list_any}
+use Rattle.std.proofs.Common.{◌≡◌, ℕ, zero, suc, ◌+◌, ◌<◌, ◌≤◌, ◌&&◌, not, Bool, true, false, true≢false, cond, List, [], ◌∷◌, ◌++◌, length, Option, Some, None, refl, sym, ap, ◌∙◌, subst, arith, slice_get, slice_set, option_and_then, length-set}
 use Rattle.std.specs.Option.{option_map_or}
-use Rattle.std.proofs.lemmas.Bool.{and_parts, eq-eqb}
 use Rattle.std.proofs.lemmas.List.{length_push}
 use Rattle.std.proofs.lemmas.Option.{none-some, same_Some, slice_get_within}
 use Rattle.xk_types.specs.declared.instr.Instr.{Instr}
 use Rattle.xk_types.specs.declared.instr.Instr.TheVariants as instr
 use Rattle.xk_types.specs.declared.names.Status.{Status}
 use Rattle.xk_types.specs.declared.names.Status.TheVariants as status
-use Rattle.xk_types.specs.declared.names.Standing.{Standing}
 use Rattle.xk_types.specs.declared.names.Value.{Value}
 use Rattle.xk_types.specs.declared.names.Event.{Event}
 use Rattle.xk_types.specs.declared.names.Event.TheVariants as event
 use Rattle.xk_types.specs.Code.{ModuleValue}
-use Rattle.xk_types.specs.World.{Finish, Activity, Clock, World, standing_of, is_ended}
-use Rattle.xk_types.specs.Step.{Outcome, Blocked, Wrong, Stepped, step, is_signalled, settled_clock, moved, joined, new_clock, is_given, onward, left, ended, arrived, child, innermost, awaits, waits, dropped, resumed, none, all}
+use Rattle.xk_types.specs.World.{Finish, Activity, World, is_ended}
+use Rattle.xk_types.specs.Step.{Outcome, Blocked, Wrong, Stepped, step, onward, left, ended, arrived, child, innermost, awaits, waits}
 use Rattle.xk_types.specs.Schedule.{is_enabled}
-use Rattle.xk_laws.proofs.Invariant.{IsClockSound}
-use Rattle.xk_types.proofs.Lists.{Each, get-set_same, get-set_other, get-push_other, get-append_left}
-use Rattle.xk_laws.proofs.Reached.{reached_sound}
+use Rattle.xk_types.proofs.Lists.{get-set_same, get-set_other, get-push_other, get-append_left}
 use Rattle.xk_laws.proofs.Scopes.Invariant.{governing_at}
 use Rattle.xk_laws.proofs.Scopes.Under.{AreOwned}
-use Rattle.xk_laws.proofs.Clocks.Advance.{settled_cases}
-use Rattle.xk_laws.proofs.Clocks.Standings.{stand_other, new_other, stand_joined_old}
 use Rattle.xk_core.specs.Able.{able_by, able_of, kept_by}
 use Rattle.xk_core.specs.Core.{IsCore, is_quiet, governor, instruction_of}
 use Rattle.xk_core.proofs.Cores.{core_able, core_stepped}
-use Rattle.xk_drive.specs.Listing.{is_arrived, is_waiting}
-use Rattle.xk_drive.proofs.UntouchedForms.{GoesOn, is_start, step_kind}
+use Rattle.xk_core.specs.Core.{is_arrived, is_waiting}
+use Rattle.xk_drive.proofs.UntouchedForms.{GoesOn, is_start, starts_or_arrives, step_kind}
+use Rattle.xk_drive.proofs.HeldBack.{waits_same}
 use Rattle.xk_drive.proofs.UntouchedOwners.{core_owned, core_open}
 use Rattle.xk_drive.proofs.UntouchedAwaits.{owned_set, awaits_on, awaits_end, awaits_push}
-
--- ---- clocks
-
--- what differs by a test
-apart : (x now : ℕ) → not (x == now) ≡ true → x ≡ now → ⊥
-apart x now h e = true≢false (sym h ∙ ap not (eq-eqb x now e))
-
--- where no clock advances, the end of a step changes none
-settled_quiet : (now : ℕ) (clocks : List Clock) → list_all (λ c. not (c.last == now)) (map (settled_clock now) clocks) ≡ true → map (settled_clock now) clocks ≡ clocks
-settled_quiet now [] quiet = refl
-settled_quiet now (c ∷ cs) quiet =
-    let parts = and_parts (not ((settled_clock now c).last == now)) (list_all (λ d. not (d.last == now)) (map (settled_clock now) cs)) quiet in
-    ap (λ l. settled_clock now c ∷ l) (settled_quiet now cs parts.1) ∙ ap (λ d. d ∷ cs) (same (apart (settled_clock now c).last now parts.0))
-  where
-    same : ((settled_clock now c).last ≡ now → ⊥) → settled_clock now c ≡ c
-    same = settled_cases now c (λ d. (d.last ≡ now → ⊥) → d ≡ c) (λ ready never. absurd (never refl)) (λ unready never. refl)
-
--- activity b is signalled on one of these clocks
-abbrev waits_on : ℕ → List Clock → Bool
-waits_on b clocks = list_any (λ c. is_signalled (standing_of c b)) clocks
-
--- where another's standings change
-waits_moved : (a b : ℕ) (change : ℕ → Standing → Standing) (clocks : List Clock) → (b ≡ a → ⊥) → waits_on b (moved a change clocks) ≡ waits_on b clocks
-waits_moved a b change [] differs = refl
-waits_moved a b change (c ∷ cs) differs =
-    ap (λ s. is_signalled s || waits_on b (moved a (λ k. change (suc k)) cs)) (stand_other a b (change 0) c differs)
-    ∙ ap (λ x. is_signalled (standing_of c b) || x) (waits_moved a b (λ k. change (suc k)) cs differs)
-
--- where another makes a clock
-waits_made : (n a b : ℕ) (clocks : List Clock) → (b ≡ a → ⊥) → waits_on b (clocks ++ new_clock n a ∷ []) ≡ waits_on b clocks
-waits_made n a b [] differs = ap (λ s. is_signalled s || false) (new_other n a b differs)
-waits_made n a b (c ∷ cs) differs = ap (λ x. is_signalled (standing_of c b) || x) (waits_made n a b cs differs)
-
--- where another starts an activity
-waits_joined : (a b : ℕ) (given : ℕ → Bool) (clocks : List Clock) → Each (λ k c. b < length c.standings) clocks → waits_on b (joined a given clocks) ≡ waits_on b clocks
-waits_joined a b given [] wide = refl
-waits_joined a b given (c ∷ cs) wide =
-    ap (λ s. is_signalled s || waits_on b (joined a (λ k. given (suc k)) cs)) (stand_joined_old a b (given 0) c (wide zero c refl))
-    ∙ ap (λ x. is_signalled (standing_of c b) || x) (waits_joined a b (λ k. given (suc k)) cs (λ k. wide (suc k)))
 
 -- ---- who is enabled
 
@@ -105,19 +60,14 @@ same_enabled m w v b core later same waiting awaiting =
 abbrev Leaves : ModuleValue → World → ℕ → ℕ → Outcome → Type 0
 Leaves m w a b Blocked = Unit {0}
 Leaves m w a b (Wrong c) = Unit {0}
-Leaves m w a b (Stepped v e) = IsCore m v → (is_waiting w b ≡ true → is_quiet v ≡ true) → (e ≡ event.Ended → governor w a ≡ Some b → ⊥) → is_enabled m v b ≡ is_enabled m w b
+Leaves m w a b (Stepped v e) = IsCore m v → (is_waiting w b ≡ true → waits v b ≡ waits w b) → (e ≡ event.Ended → governor w a ≡ Some b → ⊥) → is_enabled m v b ≡ is_enabled m w b
 
 module _ (m : ModuleValue) (w : World) (a b : ℕ) (core : IsCore m w) (inside : b < length w.activities) (differs : b ≡ a → ⊥) where
-  -- one activity changes, and where it stands
-  leaves_moved : (act next : Activity) (change : ℕ → Standing → Standing) (v : World) → v.activities ≡ slice_set w.activities a next
-      → v.clocks ≡ map (settled_clock (w.steps + 1)) (moved a change w.clocks)
-      → v.steps ≡ w.steps + 1 → IsCore m v → (is_waiting w b ≡ true → is_quiet v ≡ true)
+  -- one activity changes
+  leaves_moved : (next : Activity) (v : World) → v.activities ≡ slice_set w.activities a next → IsCore m v → (is_waiting w b ≡ true → waits v b ≡ waits w b)
       → ((x : Activity) → awaits (slice_set w.activities a next) (innermost b x) ≡ awaits w.activities (innermost b x)) → is_enabled m v b ≡ is_enabled m w b
-  leaves_moved act next change v acts clocks steps later quiet awaiting =
-      same_enabled m w v b core later (ap (λ l. slice_get l b) acts ∙ get-set_other w.activities a b next differs)
-      (λ waiting. ap (waits_on b) (clocks ∙ settled_quiet (w.steps + 1) (moved a change w.clocks)
-      (sym (ap₂ (λ n l. list_all (λ (c : Clock). not (c.last == n)) l) steps clocks) ∙ quiet waiting)) ∙ waits_moved a b change w.clocks differs)
-      (λ x found. ap (λ l. awaits l (innermost b x)) acts ∙ awaiting x)
+  leaves_moved next v acts later waiting awaiting =
+      same_enabled m w v b core later (ap (λ l. slice_get l b) acts ∙ get-set_other w.activities a b next differs) waiting (λ x found. ap (λ l. awaits l (innermost b x)) acts ∙ awaiting x)
 
   -- it goes on
   on_awaits : (act next : Activity) → slice_get w.activities a ≡ Some act → is_ended act.status ≡ false → GoesOn act next → (x : Activity)
@@ -141,35 +91,35 @@ module _ (m : ModuleValue) (w : World) (a b : ℕ) (core : IsCore m w) (inside :
       (λ e. differs (same_Some b a e))
       ∙ awaits_on w.activities (core_owned m w core) a act (onward act) found refl (innermost b x) alive alive
 
-  -- each clock has a standing for it
-  wide : Each (λ k c. b < length c.standings) w.clocks
-  wide k c at = (let s : IsClockSound w.activities w.steps c = (reached_sound m core.limits core.accepted w core.reached).clocks k c at in omega (arith, s.width, inside))
-
   step_leaves : Leaves m w a b (step m w a)
   step_leaves = step_kind (Leaves m w a b) m w a tt (λ act found alive. record {
     blocked = tt;
     wrong = λ c. tt;
-    closed = λ n opened nobody awake later quiet another. leaves_moved act (left act n) none _ refl refl refl later quiet
+    closed = λ n opened nobody awake later waiting another. leaves_moved (left act n) _ refl later waiting
         (λ x. awaits_on w.activities (core_owned m w core) a act (left act n) found refl (innermost b x) alive alive);
-    over = λ here alone later quiet another. leaves_moved act (ended act) (all dropped) _ refl refl refl later quiet (end_awaits act found alive (another refl));
-    arrives = λ later quiet another. leaves_moved act (arrived act) (all resumed) _ refl refl refl later quiet
+    over = λ here alone later waiting another. leaves_moved (ended act) _ refl later waiting (end_awaits act found alive (another refl));
+    arrives = λ later waiting another. leaves_moved (arrived act) _ refl later waiting
         (λ x. awaits_on w.activities (core_owned m w core) a act (arrived act) found refl (innermost b x) alive refl);
-    done = λ next change e on start rests later quiet another. leaves_moved act next change _ refl refl refl later quiet (on_awaits act next found alive on);
-    made = λ next on later quiet another. same_enabled m w _ b core later (get-set_other w.activities a b next differs)
-        (λ waiting. ap (waits_on b) (settled_quiet (w.steps + 1) (w.clocks ++ new_clock (length w.activities) a ∷ []) (quiet waiting)) ∙ waits_made (length w.activities) a b w.clocks differs)
-        (λ x there. on_awaits act next found alive on x);
-    stored = λ s n e on start later quiet another. leaves_moved act (onward act) none _ refl refl refl later quiet (on_awaits act (onward act) found alive on);
-    spawned = λ t args values at on later quiet another. same_enabled m w _ b core later
+    done = λ next change e on start rests later waiting another. leaves_moved next _ refl later waiting (on_awaits act next found alive on);
+    made = λ next on later waiting another. leaves_moved next _ refl later waiting (on_awaits act next found alive on);
+    stored = λ s n e on start later waiting another. leaves_moved (onward act) _ refl later waiting (on_awaits act (onward act) found alive on);
+    spawned = λ t args values at on later waiting another. same_enabled m w _ b core later
         (get-push_other (slice_set w.activities a (onward act)) (child m a act t values) b
         (λ e. absurd (omega (arith, inside, length-set w.activities a (onward act)))) ∙ get-set_other w.activities a b (onward act) differs)
-        (λ waiting. ap (waits_on b) (settled_quiet (w.steps + 1) (joined a (is_given values) w.clocks) (quiet waiting)) ∙ waits_joined a b (is_given values) w.clocks wide)
-        (λ x there. start_awaits act t values _ found alive refl later x);
+        waiting (λ x there. start_awaits act t values _ found alive refl later x);
   })
 
--- a step leaves others as able to step as they were, where no clock advances, and else those who don't wait at an `advance`
+-- a step leaves another as able to step as it was, if clocks hold it back as before where it waits at an `advance`
+pub untouched_by : (m : ModuleValue) (w v : World) (a : ℕ) (e : Event) → IsCore m w → step m w a ≡ Stepped v e → (b : ℕ) → (is_waiting w b ≡ true → waits v b ≡ waits w b)
+    → b < length w.activities → (b ≡ a → ⊥) → (e ≡ event.Ended → governor w a ≡ Some b → ⊥) → is_enabled m v b ≡ is_enabled m w b
+untouched_by m w v a e core h b waiting inside differs another =
+    subst (Leaves m w a b) h (step_leaves m w a b core inside differs) (core_stepped m w v a e core h) waiting another
+
+-- as they do where no clock advances
 pub untouched : (m : ModuleValue) (w v : World) (a : ℕ) (e : Event) → IsCore m w → step m w a ≡ Stepped v e → (b : ℕ) → (is_waiting w b ≡ true → is_quiet v ≡ true) → b < length w.activities → (b ≡ a → ⊥)
     → (e ≡ event.Ended → governor w a ≡ Some b → ⊥) → is_enabled m v b ≡ is_enabled m w b
-untouched m w v a e core h b quiet inside differs another = subst (Leaves m w a b) h (step_leaves m w a b core inside differs) (core_stepped m w v a e core h) quiet another
+untouched m w v a e core h b quiet inside differs another =
+    untouched_by m w v a e core h b (λ waiting. waits_same m w v a e core h b inside differs (quiet waiting)) inside differs another
 
 -- ---- who is there
 
@@ -177,13 +127,14 @@ untouched m w v a e core h b quiet inside differs another = subst (Leaves m w a 
 abbrev started : Event → ℕ
 started e = cond (is_start e) 1 0
 
--- What a step says of who takes it, and of how many there are: that one is there, is governed as before, waits at an `advance` only if it has
+-- What a step says of who takes it, and of how many there are: that one is there, is governed as before, waits at an `advance` exactly if it has
 -- just arrived, and there is one more if it was started, which doesn't wait; others are as they were.
 record IsTaken (w v : World) (a : ℕ) (e : Event) : Type 0 where
   within : a < length w.activities
   width : length v.activities ≡ length w.activities + started e
   governor : governor v a ≡ governor w a
   awake : (e ≡ event.Arrived → ⊥) → is_waiting v a ≡ false
+  arrived : e ≡ event.Arrived → is_waiting v a ≡ true
   fresh : is_waiting v (length w.activities) ≡ false
   others : (b : ℕ) → (b ≡ a → ⊥) → b < length w.activities → is_waiting v b ≡ is_waiting w b
 
@@ -209,19 +160,31 @@ get-push_last (y ∷ xs) x (suc k) e = get-push_last xs x k (omega arith)
 -- one activity changes
 taken_set : (w v : World) (a : ℕ) (act next : Activity) (e : Event) → slice_get w.activities a ≡ Some act
     → v.activities ≡ slice_set w.activities a next → next.governed ≡ act.governed → is_start e ≡ false
-    → ((e ≡ event.Arrived → ⊥) → is_arrived next.status ≡ false)
+    → ((e ≡ event.Arrived → ⊥) → is_arrived next.status ≡ false) → (e ≡ event.Arrived → is_arrived next.status ≡ true)
     → IsTaken w v a e
-taken_set w v a act next e found acts governed start awake = record {
+taken_set w v a act next e found acts governed start awake arrived = record {
   within = slice_get_within w.activities a act found;
   width = (let nobody : started e ≡ 0 = ap (λ s. cond s 1 0) start in omega (arith, nobody, ap length acts, length-set w.activities a next));
   governor = ap (λ l. option_and_then (λ (x : Activity). x.governed.owner) (slice_get l a)) acts
       ∙ ap (option_and_then (λ (x : Activity). x.governed.owner)) (get-set_same w.activities a act next found)
       ∙ ap (λ (g : Finish). g.owner) governed ∙ sym (ap (option_and_then (λ (x : Activity). x.governed.owner)) found);
   awake = λ h. ap waits_as (ap (λ l. slice_get l a) acts ∙ get-set_same w.activities a act next found) ∙ awake h;
+  arrived = λ h. ap waits_as (ap (λ l. slice_get l a) acts ∙ get-set_same w.activities a act next found) ∙ arrived h;
   fresh = ap (λ l. waits_as (slice_get l (length w.activities))) acts
       ∙ ap waits_as (slice_get-beyond (slice_set w.activities a next) (length w.activities) (omega (arith, length-set w.activities a next)));
   others = λ b differs inside. ap (λ l. waits_as (slice_get l b)) acts ∙ ap waits_as (get-set_other w.activities a b next differs);
 }
+
+started_not_arrived : event.Spawned ≡ event.Arrived → ⊥
+started_not_arrived h = cc
+
+-- what neither starts an activity nor has one wait
+no_start : (e : Event) → starts_or_arrives e ≡ false → is_start e ≡ false
+no_start event.Spawned h = absurd (true≢false h)
+no_start _ h = refl
+
+no_arrival : (e : Event) → starts_or_arrives e ≡ false → e ≡ event.Arrived → ⊥
+no_arrival e h is = true≢false (sym (ap starts_or_arrives is) ∙ h)
 
 -- and one is started
 taken_push : (w v : World) (a : ℕ) (act next x : Activity) → slice_get w.activities a ≡ Some act → v.activities ≡ slice_set w.activities a next ++ x ∷ []
@@ -235,6 +198,7 @@ taken_push w v a act next x found acts governed awake awake_child = record {
       ∙ ap (λ (g : Finish). g.owner) governed ∙ sym (ap (option_and_then (λ (y : Activity). y.governed.owner)) found);
   awake = λ h. ap waits_as (ap (λ l. slice_get l a) acts
       ∙ get-append_left (slice_set w.activities a next) (x ∷ []) a next (get-set_same w.activities a act next found)) ∙ awake;
+  arrived = λ h. absurd (started_not_arrived h);
   fresh = ap waits_as (ap (λ l. slice_get l (length w.activities)) acts
       ∙ get-push_last (slice_set w.activities a next) x (length w.activities) (sym (length-set w.activities a next))) ∙ awake_child;
   others = λ b differs inside. ap waits_as (ap (λ l. slice_get l b) acts
@@ -246,12 +210,12 @@ step_takes : (m : ModuleValue) (w : World) (a : ℕ) → Takes w a (step m w a)
 step_takes m w a = step_kind (Takes w a) m w a tt (λ act found alive. record {
   blocked = tt;
   wrong = λ c. tt;
-  closed = λ n opened nobody awake. taken_set w _ a act (left act n) event.Closed found refl refl refl (λ h. awake);
-  over = λ here alone. taken_set w _ a act (ended act) event.Ended found refl refl refl (λ h. refl);
-  arrives = taken_set w _ a act (arrived act) event.Arrived found refl refl refl (λ h. absurd (h refl));
-  done = λ next change e on start rests. taken_set w _ a act next e found refl on.governed start (λ h. on.awake);
-  made = λ next on. taken_set w _ a act next event.Made found refl on.governed refl (λ h. on.awake);
-  stored = λ s n e on start. taken_set w _ a act (onward act) e found refl refl start (λ h. on.awake);
+  closed = λ n opened nobody awake. taken_set w _ a act (left act n) event.Closed found refl refl refl (λ h. awake) (λ h. cc);
+  over = λ here alone. taken_set w _ a act (ended act) event.Ended found refl refl refl (λ h. refl) (λ h. cc);
+  arrives = taken_set w _ a act (arrived act) event.Arrived found refl refl refl (λ h. absurd (h refl)) (λ h. refl);
+  done = λ next change e on start rests. taken_set w _ a act next e found refl on.governed (no_start e start) (λ h. on.awake) (λ h. absurd (no_arrival e start h));
+  made = λ next on. taken_set w _ a act next event.Made found refl on.governed refl (λ h. on.awake) (λ h. cc);
+  stored = λ s n e on start. taken_set w _ a act (onward act) e found refl refl (no_start e start) (λ h. on.awake) (λ h. absurd (no_arrival e start h));
   spawned = λ t args values at on. taken_push w _ a act (onward act) (child m a act t values) found refl refl on.awake refl;
 })
 
@@ -264,11 +228,11 @@ grows_by_start m w v a h = (taken m w v a event.Spawned h).width
 
 -- and nothing else does
 pub keeps_width : (m : ModuleValue) (w v : World) (a : ℕ) (e : Event) → step m w a ≡ Stepped v e → (e ≡ event.Spawned → ⊥) → length v.activities ≡ length w.activities
-keeps_width m w v a e h other = (let nobody : started e ≡ 0 = ap (λ s. cond s 1 0) (no_start e other) in omega (arith, nobody, (taken m w v a e h).width))
+keeps_width m w v a e h other = (let nobody : started e ≡ 0 = ap (λ s. cond s 1 0) (other_event e other) in omega (arith, nobody, (taken m w v a e h).width))
   where
-    no_start : (x : Event) → (x ≡ event.Spawned → ⊥) → is_start x ≡ false
-    no_start event.Spawned g = absurd (g refl)
-    no_start _ g = refl
+    other_event : (x : Event) → (x ≡ event.Spawned → ⊥) → is_start x ≡ false
+    other_event event.Spawned g = absurd (g refl)
+    other_event _ g = refl
 
 -- who takes a step is there
 pub steps_within : (m : ModuleValue) (w v : World) (a : ℕ) (e : Event) → step m w a ≡ Stepped v e → a < length w.activities
@@ -291,6 +255,10 @@ governor_within m w core a b inside h = of (slice_get w.activities a) refl h
 -- who takes a step does only if it has just arrived
 pub awake_after : (m : ModuleValue) (w v : World) (a : ℕ) (e : Event) → step m w a ≡ Stepped v e → (e ≡ event.Arrived → ⊥) → is_waiting v a ≡ false
 awake_after m w v a e h = (taken m w v a e h).awake
+
+-- and does then
+pub waits_after : (m : ModuleValue) (w v : World) (a : ℕ) (e : Event) → step m w a ≡ Stepped v e → e ≡ event.Arrived → is_waiting v a ≡ true
+waits_after m w v a e h = (taken m w v a e h).arrived
 
 -- one that it starts doesn't
 pub awake_fresh : (m : ModuleValue) (w v : World) (a : ℕ) (e : Event) → step m w a ≡ Stepped v e → is_waiting v (length w.activities) ≡ false

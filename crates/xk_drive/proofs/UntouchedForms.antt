@@ -17,7 +17,7 @@ use Rattle.xk_types.specs.Code.{UnitValue, ModuleValue, compares, is_method, is_
 use Rattle.xk_types.specs.World.{Frame, Activity, Clock, World, standing_of, instruction_at, is_ended}
 use Rattle.xk_types.specs.Step.{Cause, Outcome, Blocked, Wrong, ClockUse, OutOfRange, is_registered, number_in, clock_in, registered_on, put_in, slot_at, arguments_in, computing, turning, again, spawned, spawning, carried_out, run_at, done, made, waits, passing, past, passed, step_by, step_of, step, called, calling, returning, none, awaits, innermost, onward, going, left, ended, arrived, all, dropped, resumed, closing, cell_in, stored}
 use Rattle.xk_types.specs.Schedule.{is_local}
-use Rattle.xk_drive.specs.Listing.{is_arrived}
+use Rattle.xk_core.specs.Core.{is_arrived}
 
 -- an activity that goes on: the same finish governs it, it hasn't ended, it doesn't wait at an `advance`, and it has closed no finish
 pub record GoesOn (act next : Activity) : Type 0 where
@@ -25,6 +25,23 @@ pub record GoesOn (act next : Activity) : Type 0 where
   pub alive : is_ended next.status ≡ false
   pub awake : is_arrived next.status ≡ false
   pub opened : act.opened ≤ next.opened
+
+-- an activity is started, or comes to wait at an `advance`
+abbrev pub starts_or_arrives : Event → Bool
+starts_or_arrives event.Local = false
+starts_or_arrives (event.Printed n) = false
+starts_or_arrives event.Made = false
+starts_or_arrives event.Got = false
+starts_or_arrives event.Put = false
+starts_or_arrives event.Added = false
+starts_or_arrives event.Opened = false
+starts_or_arrives event.Closed = false
+starts_or_arrives event.Spawned = true
+starts_or_arrives event.Resumed = false
+starts_or_arrives event.Dropped = false
+starts_or_arrives event.Arrived = true
+starts_or_arrives event.Passed = false
+starts_or_arrives event.Ended = false
 
 -- an activity is started
 abbrev pub is_start : Event → Bool
@@ -67,17 +84,17 @@ pub record HoldsOfKinds (P : Outcome → Type 0) (m : ModuleValue) (w : World) (
   pub closed : (n : ℕ) → act.opened ≡ suc n → awaits w.activities (innermost a act) ≡ false → is_arrived act.status ≡ false → P (done w a (left act n) none event.Closed)
   pub over : instruction_at m act.frame ≡ Some instr.Ret → act.callers ≡ [] → P (done w a (ended act) (all dropped) event.Ended)
   pub arrives : P (done w a (arrived act) (all resumed) event.Arrived)
-  pub done : (next : Activity) (change : ℕ → Standing → Standing) (e : Event) → GoesOn act next → is_start e ≡ false
+  pub done : (next : Activity) (change : ℕ → Standing → Standing) (e : Event) → GoesOn act next → starts_or_arrives e ≡ false
       → (is_local e ≡ true → change ≡ none) → P (done w a next change e)
   pub made : (next : Activity) → GoesOn act next → P (made w a next)
-  pub stored : (s : ℕ) (n : ℤ) (e : Event) → GoesOn act (onward act) → is_start e ≡ false → P (stored w a act s n e)
+  pub stored : (s : ℕ) (n : ℤ) (e : Event) → GoesOn act (onward act) → starts_or_arrives e ≡ false → P (stored w a act s n e)
   pub spawned : (t : ℕ) (args : List ℕ) (values : List Value) → IsAt m act (instr.Spawn t args) → GoesOn act (onward act) → P (spawned m w a act t values)
 
 module _ (P : Outcome → Type 0) (m : ModuleValue) (w : World) (a : ℕ) (act : Activity) (alive : is_ended act.status ≡ false)
     (awake : is_arrived act.status ≡ false) (f : HoldsOfKinds P m w a act) where
   -- the present frame changes
-  frame_kind : (frame : Frame) (callers : List Frame) (change : ℕ → Standing → Standing) (e : Event) → is_start e ≡ false → (is_local e ≡ true → change ≡ none)
-      → P (done w a (record act { frame = frame; callers = callers }) change e)
+  frame_kind : (frame : Frame) (callers : List Frame) (change : ℕ → Standing → Standing) (e : Event) → starts_or_arrives e ≡ false
+      → (is_local e ≡ true → change ≡ none) → P (done w a (record act { frame = frame; callers = callers }) change e)
   frame_kind frame callers change e h rests = f.done (record act { frame = frame; callers = callers }) change e (moves_on act frame callers alive awake) h rests
 
   -- where a number is wanted

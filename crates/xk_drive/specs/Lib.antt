@@ -3,3 +3,4 @@ pub mod Choosing
 pub mod Listing
 pub mod Driving
 pub mod Stretches
+pub mod Held

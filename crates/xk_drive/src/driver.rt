@@ -1,18 +1,20 @@
 //! A core that a chooser drives, step by step.
 
-ghost use Rattle.std.specs.Prelude.{◌≡◌, ◌⊎◌, ◌+◌, ◌<◌, ◌≤◌, true, false, [], Bool, Some, None, All, length, slice_get, IfOk, IfErr, IfSome, OnOk, OnErr, IsTrue};
+ghost use Rattle.std.specs.Prelude.{◌≡◌, ◌⊎◌, ℕ, ◌+◌, ◌<◌, ◌≤◌, true, false, [], Bool, Some, None, length, replicate, slice_get, IfOk, IfErr, IfSome, OnOk, OnErr, IsTrue};
 ghost use Rattle.std.specs.Vec.{vec_capacity};
 ghost use Rattle.xk_types.specs.declared.names.Event.TheVariants as event;
 ghost use Rattle.xk_types.specs.World.{World, opening};
 ghost use Rattle.xk_types.specs.Step.{Stepped, step};
 ghost use Rattle.xk_types.specs.Schedule.{is_enabled, all_ended};
-ghost use Rattle.xk_types.specs.Bound.{steps_bound, activities_bound};
+ghost use Rattle.xk_types.specs.Bound.{steps_bound, activities_bound, clocks_bound};
 ghost use Rattle.xk_members.specs.Members.{with_member, place_above};
-ghost use Rattle.xk_core.specs.Core.{IsCore, StepsTo, WantsMemory};
+ghost use Rattle.xk_core.specs.Core.{IsCore, StepsTo, WantsMemory, advanced_now, is_waiting};
 ghost use Rattle.xk_core.specs.Handed.{Accepts};
 ghost use Rattle.xk_core.specs.Stretch.{RunsTo, AreLocal, IsUnseen};
+ghost use Rattle.xk_waiting.specs.Waiting.{left, taken, times, times_in_all};
 ghost use Rattle.xk_drive.specs.Choosing.{enabled_in};
-ghost use Rattle.xk_drive.specs.Listing.{other_to_list, with_or_without, each_tested, woken, waiting_after, everybody_in, KeepsList};
+ghost use Rattle.xk_drive.specs.Held.{AreHeld, IsPut, IsAsked, AreAsked, IsNotedIn, KeepsLists};
+ghost use Rattle.xk_drive.specs.Listing.{other_to_list, with_or_without};
 
 use crate::chooser::Chooser;
 use std::alloc::{AllocError, Global};
@@ -21,6 +23,7 @@ use xk_activity::Ticket;
 use xk_core::Core;
 use xk_members::NumberSet;
 use xk_types::{Act, Event};
+use xk_waiting::WaitingLists;
 
 /// Whose step it was, and what it was seen to do.
 #[derive(Clone, Copy, Debug)]
@@ -30,16 +33,19 @@ pub struct Turn {
 }
 
 /// A core, and the set of its activities that can take a step. The set is kept from step to step: a step looks at its own activity, at
-/// one that it starts, and at one that may wait for its end; and where a clock advances, at those who wait at an `advance`.
+/// one that it starts, and at one that may wait for its end; and where a clock advances, at those who wait for that clock. Who waits at an
+/// `advance` for several clocks stands in the list of one of them.
 #[derive(Drop)]
 pub struct Driver<'m> {
     core: Core<'m>,
     /// Those who can take a step.
     enabled: NumberSet,
-    /// Among others those who wait at an `advance`.
-    waiting: NumberSet,
+    /// Those who wait at an `advance`, each in the list of a clock that holds it back.
+    waiting: WaitingLists,
     /// Where numbers of activities are listed, with room for all that there can be.
     shown: Vec<u32>,
+    /// Where clocks that advanced are listed, with room for all that there can be.
+    advanced: Vec<u32>,
 }
 
 impl<'m> Model for Driver<'m> {
@@ -51,7 +57,8 @@ impl<'m> Model for Driver<'m> {
 
     ghost view = { λ d. d.core };
 
-    ghost invariant = { λ d. IsListed d.core d.enabled d.waiting (vec_capacity d.shown) };
+    ghost invariant = { λ d. IsListed d.core d.enabled d.waiting (vec_capacity d.shown)
+        (vec_capacity d.advanced) };
 }
 
 /// Puts an activity into the set if it can take a step, and else takes it out.
@@ -65,17 +72,6 @@ fn list_one(enabled: &mut NumberSet, core: &Core<'_>, act: Act)
         enabled.insert(act.0);
     } else {
         enabled.remove(act.0);
-    }
-}
-
-/// The same for each of these.
-fn list_each(enabled: &mut NumberSet, core: &Core<'_>, acts: &[u32])
-    requires { All (λ a. a < enabled.old.room) acts.now }
-    ensures members { enabled.new.members ≡ each_tested core.now acts.now enabled.old.members }
-    ensures room { enabled.new.room ≡ enabled.old.room }
-{
-    for act in acts {
-        list_one(enabled, core, Act(*act));
     }
 }
 
@@ -107,90 +103,183 @@ fn other_to_list(core: &Core<'_>, act: Act, event: Event) -> Option<Act>
     }
 }
 
-/// Brings the set of those who may wait at an `advance` up to date after a step of the activity.
+/// Puts an activity that stands in no list into that of a clock which holds it back, if one does.
 #[inline(always)]
-fn note_waiting(waiting: &mut NumberSet, act: Act, event: Event)
-    requires { act < waiting.old.room }
-    ensures members { waiting.new.members ≡ waiting_after act event waiting.old.members }
+fn put_waiting(waiting: &mut WaitingLists, core: &Core<'_>, act: Act)
+    requires act { act < length core.now.world.activities }
+    requires room { length core.now.world.activities ≤ waiting.old.room }
+    requires clocks { length core.now.world.clocks ≤ length waiting.old.lists }
+    requires nowhere { times_in_all act waiting.old.lists ≡ 0 }
+    ensures put { IsPut core.now.world act waiting.old.lists waiting.new.lists }
     ensures room { waiting.new.room ≡ waiting.old.room }
+    ensures clocks { length waiting.new.lists ≡ length waiting.old.lists }
+{
+    if let Some(clock) = core.waits_for(act) {
+        waiting.put(clock.0, act.0);
+    }
+}
+
+/// Puts an activity that waits at an `advance` and stands in no list into that of a clock which holds it back, or else into the set.
+#[inline(always)]
+fn ask_anew(enabled: &mut NumberSet, waiting: &mut WaitingLists, core: &Core<'_>, act: Act)
+    requires act { act < length core.now.world.activities }
+    requires set { length core.now.world.activities ≤ enabled.old.room }
+    requires room { length core.now.world.activities ≤ waiting.old.room }
+    requires clocks { length core.now.world.clocks ≤ length waiting.old.lists }
+    requires nowhere { times_in_all act waiting.old.lists ≡ 0 }
+    ensures asked { IsAsked core.now.world act enabled.old.members waiting.old.lists
+        enabled.new.members waiting.new.lists }
+    ensures kept { enabled.new.room ≡ enabled.old.room }
+    ensures room { waiting.new.room ≡ waiting.old.room }
+    ensures clocks { length waiting.new.lists ≡ length waiting.old.lists }
+{
+    match core.waits_for(act) {
+        Some(clock) => waiting.put(clock.0, act.0),
+        None => enabled.insert(act.0),
+    }
+}
+
+/// The same for each of these.
+fn ask_each(enabled: &mut NumberSet, waiting: &mut WaitingLists, core: &Core<'_>, acts: &[u32])
+    requires there { (b : ℕ) → 0 < times b acts.now → b < length core.now.world.activities }
+    requires set { length core.now.world.activities ≤ enabled.old.room }
+    requires room { length core.now.world.activities ≤ waiting.old.room }
+    requires clocks { length core.now.world.clocks ≤ length waiting.old.lists }
+    requires once { (b : ℕ) → times b acts.now + times_in_all b waiting.old.lists ≤ 1 }
+    ensures asked { AreAsked core.now.world acts.now enabled.old.members waiting.old.lists
+        enabled.new.members waiting.new.lists }
+    ensures kept { enabled.new.room ≡ enabled.old.room }
+    ensures room { waiting.new.room ≡ waiting.old.room }
+    ensures clocks { length waiting.new.lists ≡ length waiting.old.lists }
+{
+    for act in acts {
+        ask_anew(enabled, waiting, core, Act(*act));
+    }
+}
+
+/// Brings the lists of those who wait at an `advance` up to date after a step of the activity, which stands in none.
+#[inline(always)]
+fn note_waiting(waiting: &mut WaitingLists, core: &Core<'_>, act: Act, event: Event)
+    requires act { act < length core.now.world.activities }
+    requires room { length core.now.world.activities ≤ waiting.old.room }
+    requires clocks { length core.now.world.clocks ≤ length waiting.old.lists }
+    requires nowhere { times_in_all act waiting.old.lists ≡ 0 }
+    ensures noted { IsNotedIn core.now.world act event waiting.old.lists waiting.new.lists }
+    ensures room { waiting.new.room ≡ waiting.old.room }
+    ensures clocks { length waiting.new.lists ≡ length waiting.old.lists }
 {
     match event {
-        Event::Arrived => waiting.insert(act.0),
-        Event::Passed => waiting.remove(act.0),
+        Event::Arrived => put_waiting(waiting, core, act),
         _ => {}
     }
 }
 
-/// Lists, in sets with nobody in them, those who can take a step, and all that there are, as any may wait at an `advance`.
-fn list_all(enabled: &mut NumberSet, waiting: &mut NumberSet, core: &Core<'_>)
+/// Puts each who can take a step into a set with nobody in it, and each who waits at an `advance` and can't into a list.
+fn list_all(enabled: &mut NumberSet, waiting: &mut WaitingLists, core: &Core<'_>)
     requires nobody { enabled.old.members ≡ [] }
-    requires nobody_waits { waiting.old.members ≡ [] }
-    requires room { length core.now.world.activities ≤ enabled.old.room }
-    requires room_to_wait { length core.now.world.activities ≤ waiting.old.room }
+    requires nobody_waits { (b : ℕ) → times_in_all b waiting.old.lists ≡ 0 }
+    requires set { length core.now.world.activities ≤ enabled.old.room }
+    requires room { length core.now.world.activities ≤ waiting.old.room }
+    requires clocks { length core.now.world.clocks ≤ length waiting.old.lists }
     ensures list { enabled.new.members ≡ enabled_in core.now.module_run core.now.world }
-    ensures all { waiting.new.members ≡ everybody_in core.now.world }
-    ensures room { enabled.new.room ≡ enabled.old.room }
-    ensures room_to_wait { waiting.new.room ≡ waiting.old.room }
+    ensures held { AreHeld core.now.world waiting.new.lists }
+    ensures kept { enabled.new.room ≡ enabled.old.room }
+    ensures room { waiting.new.room ≡ waiting.old.room }
+    ensures clocks { length waiting.new.lists ≡ length waiting.old.lists }
 {
     for a in 0..core.activities() {
         list_one(enabled, core, Act(a));
-        waiting.insert(a);
+        if core.is_waiting(Act(a)) {
+            put_waiting(waiting, core, Act(a));
+        }
     }
 }
 
-/// Where a clock advanced in the step that led to this core, looks at those who may have waited for it.
+/// Asks those anew who stand in the lists of clocks that advanced in the step that led to this core.
 #[inline(always)]
-fn list_woken(enabled: &mut NumberSet, waiting: &NumberSet, shown: &mut Vec<u32>, core: &Core<'_>)
-    requires there { All (λ a. a < enabled.old.room) waiting.now.members }
-    requires room { length waiting.now.members ≤ vec_capacity shown.old }
-    ensures members { enabled.new.members ≡ woken core.now waiting.now.members enabled.old.members }
+fn list_woken(
+    enabled: &mut NumberSet,
+    waiting: &mut WaitingLists,
+    shown: &mut Vec<u32>,
+    advanced: &mut Vec<u32>,
+    core: &Core<'_>,
+)
+    requires there { (b : ℕ) → 0 < times_in_all b waiting.old.lists
+        → b < length core.now.world.activities }
+    requires set { length core.now.world.activities ≤ enabled.old.room }
+    requires room { length core.now.world.activities ≤ waiting.old.room }
+    requires clocks { length core.now.world.clocks ≤ length waiting.old.lists }
+    requires capacity { waiting.old.room ≤ vec_capacity shown.old }
+    requires capacity_of_clocks { length core.now.world.clocks ≤ vec_capacity advanced.old }
+    ensures asked { let clocks = advanced_now core.now.world in
+        AreAsked core.now.world (taken waiting.old.lists clocks) enabled.old.members
+        (left waiting.old.lists clocks) enabled.new.members waiting.new.lists }
     ensures kept { enabled.new.room ≡ enabled.old.room }
-    ensures room { vec_capacity shown.old ≤ vec_capacity shown.new }
+    ensures room { waiting.new.room ≡ waiting.old.room }
+    ensures clocks { length waiting.new.lists ≡ length waiting.old.lists }
+    ensures capacity { vec_capacity shown.old ≤ vec_capacity shown.new }
+    ensures capacity_of_clocks { vec_capacity advanced.old ≤ vec_capacity advanced.new }
 {
-    if !core.is_quiet() {
-        waiting.list(shown);
-        list_each(enabled, core, shown);
-    }
+    core.list_advanced(advanced);
+    waiting.take(advanced, shown);
+    ask_each(enabled, waiting, core, shown);
 }
 
-/// Brings the set of those who can take a step up to date after a step of the activity. Who may have waited for a clock is told as it
-/// was before.
+/// Brings the set of those who can take a step, and the lists of those who are held back, up to date after a step of the activity.
 #[inline(always)]
 fn list_after(
     enabled: &mut NumberSet,
-    waiting: &NumberSet,
+    waiting: &mut WaitingLists,
     shown: &mut Vec<u32>,
+    advanced: &mut Vec<u32>,
     core: &Core<'_>,
     act: Act,
     event: Event,
 )
     requires core { IsCore core.now.module_run core.now.world }
     requires act { act < length core.now.world.activities }
+    requires there { (b : ℕ) → 0 < times_in_all b waiting.old.lists
+        → b < length core.now.world.activities }
+    requires nowhere { times_in_all act waiting.old.lists ≡ 0 }
     requires set { length core.now.world.activities ≤ enabled.old.room }
-    requires there { All (λ a. a < enabled.old.room) waiting.now.members }
-    requires room { length waiting.now.members ≤ vec_capacity shown.old }
-    ensures list { KeepsList core.now act event waiting.now.members
-        enabled.old.members enabled.new.members }
+    requires room { length core.now.world.activities ≤ waiting.old.room }
+    requires clocks { length core.now.world.clocks ≤ length waiting.old.lists }
+    requires capacity { waiting.old.room ≤ vec_capacity shown.old }
+    requires capacity_of_clocks { length core.now.world.clocks ≤ vec_capacity advanced.old }
+    ensures lists { KeepsLists core.now act event enabled.old.members waiting.old.lists
+        enabled.new.members waiting.new.lists }
     ensures kept { enabled.new.room ≡ enabled.old.room }
-    ensures room { vec_capacity shown.old ≤ vec_capacity shown.new }
+    ensures room { waiting.new.room ≡ waiting.old.room }
+    ensures clocks { length waiting.new.lists ≡ length waiting.old.lists }
+    ensures capacity { vec_capacity shown.old ≤ vec_capacity shown.new }
+    ensures capacity_of_clocks { vec_capacity advanced.old ≤ vec_capacity advanced.new }
 {
-    list_woken(enabled, waiting, shown, core);
+    list_woken(enabled, waiting, shown, advanced, core);
+    note_waiting(waiting, core, act, event);
     list_own(enabled, core, act);
     if let Some(other) = other_to_list(core, act, event) {
         list_one(enabled, core, other);
     }
 }
 
-/// Sets with nobody in them, and a list, with room for so many activities.
-fn lists_for(alloc: Global, most: u32) -> Result<(NumberSet, NumberSet, Vec<u32>), AllocError>
+/// A set and lists with nobody in them, and lists to show, with room for so many activities and clocks.
+fn lists_for(
+    alloc: Global,
+    most: u32,
+    clocks: u32,
+) -> Result<(NumberSet, WaitingLists, Vec<u32>, Vec<u32>), AllocError>
     requires { most ≤ 100000 }
-    ensures nobody { IfOk result (λ r. (r.0.members ≡ []) × (r.1.members ≡ [])) }
-    ensures room { IfOk result
-        (λ r. (most ≤ r.0.room) × (most ≤ r.1.room) × (most ≤ vec_capacity r.2)) }
+    ensures nobody { IfOk result (λ r. r.0.members ≡ []) }
+    ensures nobody_waits { IfOk result (λ r. r.1.lists ≡ replicate clocks []) }
+    ensures room { IfOk result (λ r. (most ≤ r.0.room) × (r.1.room ≡ most)) }
+    ensures capacity { IfOk result
+        (λ r. (most ≤ vec_capacity r.2) × (clocks ≤ vec_capacity r.3)) }
 {
     let enabled = NumberSet::with_room(alloc, most)?;
-    let waiting = NumberSet::with_room(alloc, most)?;
-    Ok((enabled, waiting, Vec::with_capacity(alloc, most as usize)?))
+    let waiting = WaitingLists::with_room(alloc, clocks, most)?;
+    let shown = Vec::with_capacity(alloc, most as usize)?;
+    let advanced = Vec::with_capacity(alloc, clocks as usize)?;
+    Ok((enabled, waiting, shown, advanced))
 }
 
 /// The most activities that a run of its module has.
@@ -206,6 +295,16 @@ fn most_of(core: &Core<'_>) -> u32
     most
 }
 
+/// The most clocks that a run of its module has.
+fn most_clocks_of(core: &Core<'_>) -> u32
+    ensures most { result ≡ clocks_bound core.now.module_run }
+    ensures there { length core.now.world.clocks ≤ result }
+{
+    let most = core.module().clocks();
+    let _there = core.activities();
+    most
+}
+
 impl<'m> Driver<'m> {
     ghost use Rattle.xk_drive.specs.Driving.{IsTaken, IsRefused};
 
@@ -216,7 +315,12 @@ impl<'m> Driver<'m> {
         ensures opening { IfOk result (λ d. d.world.steps ≡ 0 → d.world ≡ opening d.module_run) }
         ensures back { IfErr result (λ c. c ≡ start.entry) }
     {
-        let Ok((mut enabled, mut waiting, shown)) = lists_for(alloc, most_of(&start)) else {
+        let clocks = most_clocks_of(&start);
+        let Ok((mut enabled, mut waiting, shown, advanced)) = lists_for(
+            alloc,
+            most_of(&start),
+            clocks,
+        ) else {
             return Err(start);
         };
         list_all(&mut enabled, &mut waiting, &start);
@@ -225,6 +329,7 @@ impl<'m> Driver<'m> {
             enabled,
             waiting,
             shown,
+            advanced,
         })
     }
 
@@ -297,13 +402,13 @@ impl<'m> Driver<'m> {
         let event = self.core.step(act)?;
         list_after(
             &mut self.enabled,
-            &self.waiting,
+            &mut self.waiting,
             &mut self.shown,
+            &mut self.advanced,
             &self.core,
             act,
             event,
         );
-        note_waiting(&mut self.waiting, act, event);
         Ok(event)
     }
 

@@ -1,6 +1,6 @@
 //! The clocks that advanced in the newest step.
 
-ghost use Rattle.std.specs.Prelude.{◌≡◌, ◌<◌, ◌≤◌, ◌==◌, nat_lt, max, [], length, if◌then◌else◌, vec_capacity, All};
+ghost use Rattle.std.specs.Prelude.{◌≡◌, ◌<◌, ◌≤◌, nat_lt, max, [], length, if◌then◌else◌, vec_capacity, All};
 ghost use Rattle.xk_members.specs.Members.{with_member};
 ghost use Rattle.xk_standings.specs.Calls.{noted_in};
 

@@ -21,5 +21,5 @@ invariant_of-self c =
     let next = c.list_one.new.enabled in
     let runs = subst (λ (v : CoreValue). is_running v.world t.act ≡ true) (sym c.self.view_is) c.requires.0 in
     let members = subst (λ a. next.members ≡ with_or_without v a d.enabled.members) c.act-act.ensures c.list_one.ensures.members in
-    driver_handed d.core v t.act t.new t.steps d.enabled next d.waiting (vec_capacity d.shown) runs c.apply.ensures.changed c.activities-there.ensures.core
+    driver_handed d.core v t.act t.new t.steps d.enabled next d.waiting (vec_capacity d.shown) (vec_capacity d.advanced) runs c.apply.ensures.changed c.activities-there.ensures.core
     c.self.invariant members c.list_one.ensures.room

@@ -1,5 +1,12 @@
+use Rattle.std.proofs.Common.{◌∙◌, ap}
+use Rattle.xk_waiting.specs.Waiting.{times_in_all}
+use Rattle.xk_waiting.proofs.Times.{none_times}
 use Rattle.xk_core.proofs.Cores.{core_fresh}
 use Rattle.xk_drive.proofs.driver.Driver.new.Goals as goal
 
 pub returns-clause-opening : goal.returns-clause-opening
 returns-clause-opening c = core_fresh c.args.start.module_run c.args.start.world c.most_of.ensures.core
+
+pub list_all-requires-clause-nobody_waits : goal.list_all-requires-clause-nobody_waits
+list_all-requires-clause-nobody_waits c b =
+    ap (times_in_all b) c.in-Ok.ensures.nobody_waits ∙ none_times b c.most_clocks_of-clocks.result

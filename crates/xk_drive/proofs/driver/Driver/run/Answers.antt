@@ -1,11 +1,11 @@
 use Rattle.std.proofs.Common.{◌≡◌, ◌∙◌, true, sym, ap, subst, arith}
-use Rattle.xk_types.specs.Bound.{activities_bound}
+use Rattle.xk_types.specs.Bound.{activities_bound, clocks_bound}
 use Rattle.xk_types.specs.Schedule.{is_enabled}
 use Rattle.xk_core.specs.Core.{CoreValue, IsCore}
 use Rattle.xk_members.specs.Members.{with_member}
 use Rattle.xk_drive.specs.Choosing.{enabled_in}
 use Rattle.xk_drive.proofs.Listing.{core_few}
-use Rattle.xk_drive.proofs.Stretches.{GoesAlone, alone_core, alone_listed, alone_among, enabled_within, listed_there}
+use Rattle.xk_drive.proofs.Stretches.{GoesAlone, alone_core, alone_listed, alone_held, enabled_within, listed_there}
 use Rattle.xk_drive.proofs.driver.Driver.run.Goals as goal
 
 pub list_own-requires : goal.list_own-requires
@@ -38,8 +38,10 @@ invariant_of-self c =
           ∙ ap (λ j. with_member act (is_enabled j v act) (enabled_in m w)) same
           ∙ sym (alone_listed m act c.run-steps.result w v c.self.invariant.core can alone)
           ∙ ap (λ j. enabled_in j v) (sym same);
-      among = alone_among m act c.run-steps.result w v d.waiting.members alone c.self.invariant.among;
+      held = alone_held m act c.run-steps.result w v d.waiting.lists c.self.invariant.core alone c.self.invariant.held;
       roomy = omega (arith, ap activities_bound same, c.self.invariant.roomy, c.list_own.ensures.room);
       roomy_to_wait = omega (arith, ap activities_bound same, c.self.invariant.roomy_to_wait);
+      roomy_clocks = omega (arith, ap clocks_bound same, c.self.invariant.roomy_clocks);
       roomy_list = omega (arith, ap activities_bound same, c.self.invariant.roomy_list);
+      roomy_advanced = omega (arith, ap clocks_bound same, c.self.invariant.roomy_advanced);
     }

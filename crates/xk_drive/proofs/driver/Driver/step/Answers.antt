@@ -1,12 +1,12 @@
 use Rattle.std.proofs.Common.{◌≡◌, ◌∙◌, ap, sym, subst, arith}
-use Rattle.xk_types.specs.Bound.{activities_bound}
+use Rattle.xk_types.specs.Bound.{activities_bound, clocks_bound}
 use Rattle.xk_types.specs.Step.{Stepped, step}
 use Rattle.xk_core.specs.Core.{IsCore}
 use Rattle.xk_core.proofs.Cores.{core_stepped}
 use Rattle.xk_drive.specs.Choosing.{enabled_in}
-use Rattle.xk_drive.specs.Listing.{IsAmong}
 use Rattle.xk_drive.proofs.Untouched.{steps_within}
-use Rattle.xk_drive.proofs.Listing.{step_widens, core_few, among_all, among_few, among_after}
+use Rattle.xk_drive.proofs.Listing.{step_widens, core_few, core_clocks}
+use Rattle.xk_drive.proofs.Woken.{asked_there, steps_nowhere}
 use Rattle.xk_drive.proofs.driver.Driver.step.Goals as goal
 
 pub list_after-requires-clause-core : goal.list_after-requires-clause-core
@@ -27,6 +27,20 @@ list_after-requires-clause-act c =
       (step_widens core.module_run core.world v c.args.act c.in_ok-event.event stepped).0,
     )
 
+pub list_after-requires-clause-there : goal.list_after-requires-clause-there
+list_after-requires-clause-there c b some =
+    let d = c.self.inside in
+    omega (
+      arith,
+      asked_there d.core.world d.waiting.lists c.self.invariant.held b some,
+      (step_widens d.core.module_run d.core.world c.step.new.self.world c.args.act c.in_ok-event.event c.in_ok-event.ensures.stepped).0,
+    )
+
+pub list_after-requires-clause-nowhere : goal.list_after-requires-clause-nowhere
+list_after-requires-clause-nowhere c =
+    let d = c.self.inside in
+    steps_nowhere d.core.module_run d.core.world c.step.new.self.world c.args.act c.in_ok-event.event d.waiting.lists c.in_ok-event.ensures.stepped c.self.invariant.held
+
 pub list_after-requires-clause-set : goal.list_after-requires-clause-set
 list_after-requires-clause-set c =
     let core = c.self.inside.core in
@@ -37,30 +51,37 @@ list_after-requires-clause-set c =
       c.self.invariant.roomy,
     )
 
-pub list_after-requires-clause-there : goal.list_after-requires-clause-there
-list_after-requires-clause-there c =
-    let d = c.self.inside in
-    among_all d.core.world d.waiting.members d.enabled.room c.self.invariant.among
-    (omega (arith, core_few d.core.module_run d.core.world c.self.invariant.core, c.self.invariant.roomy))
-
 pub list_after-requires-clause-room : goal.list_after-requires-clause-room
 list_after-requires-clause-room c =
-    let d = c.self.inside in
+    let core = c.self.inside.core in
+    let v = c.step.new.self.world in
     omega (
       arith,
-      among_few d.core.world d.waiting.members c.self.invariant.among,
-      core_few d.core.module_run d.core.world c.self.invariant.core,
-      c.self.invariant.roomy_list,
+      core_few core.module_run v (core_stepped core.module_run core.world v c.args.act c.in_ok-event.event c.self.invariant.core c.in_ok-event.ensures.stepped),
+      c.self.invariant.roomy_to_wait,
     )
 
-pub note_waiting-requires : goal.note_waiting-requires
-note_waiting-requires c =
-    let d = c.self.inside in
+pub list_after-requires-clause-clocks : goal.list_after-requires-clause-clocks
+list_after-requires-clause-clocks c =
+    let core = c.self.inside.core in
+    let v = c.step.new.self.world in
     omega (
       arith,
-      steps_within d.core.module_run d.core.world c.step.new.self.world c.args.act c.in_ok-event.event c.in_ok-event.ensures.stepped,
-      core_few d.core.module_run d.core.world c.self.invariant.core,
-      c.self.invariant.roomy_to_wait,
+      core_clocks core.module_run v (core_stepped core.module_run core.world v c.args.act c.in_ok-event.event c.self.invariant.core c.in_ok-event.ensures.stepped),
+      c.self.invariant.roomy_clocks,
+    )
+
+pub list_after-requires-clause-capacity : goal.list_after-requires-clause-capacity
+list_after-requires-clause-capacity c = omega (arith, c.self.invariant.roomy_to_wait, c.self.invariant.roomy_list)
+
+pub list_after-requires-clause-capacity_of_clocks : goal.list_after-requires-clause-capacity_of_clocks
+list_after-requires-clause-capacity_of_clocks c =
+    let core = c.self.inside.core in
+    let v = c.step.new.self.world in
+    omega (
+      arith,
+      core_clocks core.module_run v (core_stepped core.module_run core.world v c.args.act c.in_ok-event.event c.self.invariant.core c.in_ok-event.ensures.stepped),
+      c.self.invariant.roomy_advanced,
     )
 
 pub invariant_of-self-2 : goal.invariant_of-self-2
@@ -71,14 +92,16 @@ invariant_of-self-2 c =
     let v = c.step.new.self.world in
     let same = c.step.ensures.same_module in
     let stepped = c.in_ok-event.ensures.stepped in
+    let kept = c.list_after.ensures.lists w (subst (λ k. IsCore k w) (sym same) c.self.invariant.core)
+    (subst (λ k. step k w c.args.act ≡ Stepped v c.in_ok-event.event) (sym same) stepped)
+    (c.self.invariant.list_is ∙ ap (λ k. enabled_in k w) (sym same)) c.self.invariant.held in
     record {
       core = subst (λ k. IsCore k v) (sym same) (core_stepped m w v c.args.act c.in_ok-event.event c.self.invariant.core stepped);
-      list_is = c.list_after.ensures.list w (subst (λ k. IsCore k w) (sym same) c.self.invariant.core)
-          (subst (λ k. step k w c.args.act ≡ Stepped v c.in_ok-event.event) (sym same) stepped)
-          (c.self.invariant.list_is ∙ ap (λ k. enabled_in k w) (sym same)) c.self.invariant.among;
-      among = subst (IsAmong v) (sym c.note_waiting.ensures.members)
-          (among_after m w v c.args.act c.in_ok-event.event d.waiting.members stepped c.self.invariant.among);
+      list_is = kept.0;
+      held = kept.1;
       roomy = omega (arith, ap activities_bound same, c.self.invariant.roomy, c.list_after.ensures.kept);
-      roomy_to_wait = omega (arith, ap activities_bound same, c.self.invariant.roomy_to_wait, c.note_waiting.ensures.room);
-      roomy_list = omega (arith, ap activities_bound same, c.self.invariant.roomy_list, c.list_after.ensures.room);
+      roomy_to_wait = omega (arith, ap activities_bound same, c.self.invariant.roomy_to_wait, c.list_after.ensures.room);
+      roomy_clocks = omega (arith, ap clocks_bound same, c.self.invariant.roomy_clocks, c.list_after.ensures.clocks);
+      roomy_list = omega (arith, ap activities_bound same, c.self.invariant.roomy_list, c.list_after.ensures.capacity);
+      roomy_advanced = omega (arith, ap clocks_bound same, c.self.invariant.roomy_advanced, c.list_after.ensures.capacity_of_clocks);
     }

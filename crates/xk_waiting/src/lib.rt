@@ -1,0 +1,6 @@
+//! Who waits for which clock.
+#![tactic(auto)]
+
+mod lists;
+
+pub use lists::WaitingLists;
