@@ -16,12 +16,12 @@ use Rattle.xk_waiting.specs.Waiting.{times, times_in_all, waiters, taken, left}
 use Rattle.xk_waiting.proofs.Left.{left_times, left_length, left_stands, stands_in}
 use Rattle.xk_waiting.proofs.Times.{first_times, other_times, list_times}
 use Rattle.xk_core.specs.Core.{IsCore, governor}
-use Rattle.xk_core.specs.Core.{is_held_back_by, has_advanced, advanced_now}
+use Rattle.xk_core.specs.Core.{is_held_back_by, has_advanced, advanced_now, is_quiet}
 use Rattle.xk_drive.specs.Choosing.{enabled_in}
 use Rattle.xk_drive.specs.Held.{AreHeld, AreAsked, IsAsked, IsPut, IsNotedIn}
 use Rattle.xk_core.specs.Core.{is_arrived, is_waiting}
 use Rattle.xk_drive.proofs.Asked.{IsListAsked, AreListsAsked, list_asked, lists_asked}
-use Rattle.xk_drive.proofs.HeldBack.{both, held_on, waits_by, free_on}
+use Rattle.xk_drive.proofs.HeldBack.{both, held_on, waits_by, free_on, none_went}
 use Rattle.xk_drive.proofs.Listing.{IsOneStep, step_widens}
 use Rattle.xk_drive.proofs.Untouched.{untouched_by, awake_after, awake_fresh, waiting_same, waiting_within, waits_after}
 
@@ -71,6 +71,18 @@ not_advanced v c none = of (has_advanced v c) refl
     of : (b : Bool) → has_advanced v c ≡ b → b ≡ false
     of false e = refl
     of true e = sym e ∙ out_of_row (has_advanced v) c 0 (length v.clocks) none (omega arith) (omega (arith, on_there (λ k. k.last == v.steps) v.clocks c e))
+
+-- where none did, they are none
+none_pass : (p : ℕ → Bool) (row : List ℕ) → ((c : ℕ) → p c ≡ false) → filter p row ≡ []
+none_pass p [] none = refl
+none_pass p (c ∷ row) none = rw (none c) (none_pass p row none)
+
+advanced_none : (v : World) → is_quiet v ≡ true → advanced_now v ≡ []
+advanced_none v quiet = none_pass (has_advanced v) (numbers_from 0 (length v.clocks)) (λ c. none_went v.steps v.clocks quiet c)
+
+-- and nobody is asked
+pub asked_none : (v : World) (list : List ℕ) (lists : List (List ℕ)) → is_quiet v ≡ true → AreAsked v (taken lists (advanced_now v)) list (left lists (advanced_now v)) list lists
+asked_none v list lists quiet = subst (λ (l : List ℕ). AreAsked v (taken lists l) list (left lists l) list lists) (sym (advanced_none v quiet)) (refl, refl)
 
 pub held_there : (w : World) (b c : ℕ) → is_held_back_by w b c ≡ true → c < length w.clocks
 held_there w b c h = on_there _ w.clocks c h

@@ -196,8 +196,7 @@ fn list_all(enabled: &mut NumberSet, waiting: &mut WaitingLists, core: &Core<'_>
 }
 
 /// Asks those anew who stand in the lists of clocks that advanced in the step that led to this core.
-#[inline(always)]
-fn list_woken(
+fn ask_woken(
     enabled: &mut NumberSet,
     waiting: &mut WaitingLists,
     shown: &mut Vec<u32>,
@@ -223,6 +222,36 @@ fn list_woken(
     core.list_advanced(advanced);
     waiting.take(advanced, shown);
     ask_each(enabled, waiting, core, shown);
+}
+
+/// The same, where no clock may have advanced: then nothing else is looked at.
+#[inline(always)]
+fn list_woken(
+    enabled: &mut NumberSet,
+    waiting: &mut WaitingLists,
+    shown: &mut Vec<u32>,
+    advanced: &mut Vec<u32>,
+    core: &Core<'_>,
+)
+    requires there { (b : ℕ) → 0 < times_in_all b waiting.old.lists
+        → b < length core.now.world.activities }
+    requires set { length core.now.world.activities ≤ enabled.old.room }
+    requires room { length core.now.world.activities ≤ waiting.old.room }
+    requires clocks { length core.now.world.clocks ≤ length waiting.old.lists }
+    requires capacity { waiting.old.room ≤ vec_capacity shown.old }
+    requires capacity_of_clocks { length core.now.world.clocks ≤ vec_capacity advanced.old }
+    ensures asked { let clocks = advanced_now core.now.world in
+        AreAsked core.now.world (taken waiting.old.lists clocks) enabled.old.members
+        (left waiting.old.lists clocks) enabled.new.members waiting.new.lists }
+    ensures kept { enabled.new.room ≡ enabled.old.room }
+    ensures room { waiting.new.room ≡ waiting.old.room }
+    ensures clocks { length waiting.new.lists ≡ length waiting.old.lists }
+    ensures capacity { vec_capacity shown.old ≤ vec_capacity shown.new }
+    ensures capacity_of_clocks { vec_capacity advanced.old ≤ vec_capacity advanced.new }
+{
+    if !core.is_quiet() {
+        ask_woken(enabled, waiting, shown, advanced, core);
+    }
 }
 
 /// Brings the set of those who can take a step, and the lists of those who are held back, up to date after a step of the activity.
