@@ -81,21 +81,49 @@ impl Comparison {
 #[derive(Drop)]
 pub enum Instr {
     /// `lit d n`: slot d becomes the number n.
-    Lit(u16, i64),
+    Lit {
+        d: u16,
+        n: i64,
+    },
     /// `copy d a`: slot d becomes the number in a.
-    Copy(u16, u16),
+    Copy {
+        d: u16,
+        a: u16,
+    },
     /// `add d a b`: slot d becomes the sum of the numbers in a and b, wrapped to 64 bits.
-    Add(u16, u16, u16),
+    Add {
+        d: u16,
+        a: u16,
+        b: u16,
+    },
     /// `sub d a b`: slot d becomes the number in a less the one in b, wrapped to 64 bits.
-    Sub(u16, u16, u16),
+    Sub {
+        d: u16,
+        a: u16,
+        b: u16,
+    },
     /// `mul d a b`: slot d becomes the product of the numbers in a and b, wrapped to 64 bits.
-    Mul(u16, u16, u16),
+    Mul {
+        d: u16,
+        a: u16,
+        b: u16,
+    },
     /// `unless op a b t`: goes to place t, unless the numbers in a and b compare so.
-    Unless(Comparison, u16, u16, u16),
+    Unless {
+        op: Comparison,
+        a: u16,
+        b: u16,
+        t: u16,
+    },
     /// `jump t`: goes to place t.
     Jump(u16),
     /// `for k lo hi e`: begins a loop whose `next` stands at place e: slot k becomes lo.
-    For(u16, i64, i64, u16),
+    For {
+        k: u16,
+        lo: i64,
+        hi: i64,
+        e: u16,
+    },
     /// `next b`: ends a turn of the loop whose `for` stands at place b. Where its slot is less than its upper bound, it becomes
     /// one more, and the loop goes round again from place b + 1.
     Next(u16),
@@ -106,11 +134,20 @@ pub enum Instr {
     /// Where the verifier accepts the module, it is the one that the `finish` at place b opened.
     EndFinish(u16),
     /// `get d s`: slot d becomes shared number s.
-    Get(u16, u16),
+    Get {
+        d: u16,
+        s: u16,
+    },
     /// `put s a`: shared number s becomes the number in a.
-    Put(u16, u16),
+    Put {
+        s: u16,
+        a: u16,
+    },
     /// `addto s a`: shared number s becomes its sum with the number in a, wrapped to 64 bits: one step reads and writes it.
-    AddTo(u16, u16),
+    AddTo {
+        s: u16,
+        a: u16,
+    },
     /// `print a`: prints the number in a.
     Print(u16),
     /// `make k`: makes a clock, registers the activity on it, and puts its name into slot k.
@@ -123,10 +160,16 @@ pub enum Instr {
     Advance,
     /// `call u args`: runs unit u, a method, with these arguments, and goes on when it returns. The method borrows the clocks
     /// among them.
-    Call(u16, Args),
+    Call {
+        unit: u16,
+        args: Args,
+    },
     /// `spawn u args`: starts a new activity that runs unit u with these arguments. It is registered on the clocks among
     /// them, and stands on each where its starter stands.
-    Spawn(u16, Args),
+    Spawn {
+        unit: u16,
+        args: Args,
+    },
     /// `ret`: in a method, back behind the `call` that runs it; else the activity ends. Goes nowhere.
     Ret,
 }
@@ -137,7 +180,7 @@ impl Instr {
         ensures { result ≡ length (arguments_of self.now) }
     {
         match self {
-            Instr::Call(_, args) | Instr::Spawn(_, args) => args.count(),
+            Instr::Call { args, .. } | Instr::Spawn { args, .. } => args.count(),
             _ => 0,
         }
     }
