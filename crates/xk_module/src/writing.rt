@@ -91,29 +91,29 @@ impl Written for Instr {
 
     fn json(&self, alloc: Global) -> Result<Value, AllocError> {
         match self {
-            Instr::Lit(d, n) => json!(in alloc; ["lit", *d, *n]),
-            Instr::Copy(d, a) => words(alloc, "copy", &[*d, *a]),
-            Instr::Add(d, a, b) => words(alloc, "add", &[*d, *a, *b]),
-            Instr::Sub(d, a, b) => words(alloc, "sub", &[*d, *a, *b]),
-            Instr::Mul(d, a, b) => words(alloc, "mul", &[*d, *a, *b]),
-            Instr::Unless(op, a, b, t) => {
+            Instr::Lit { d, n } => json!(in alloc; ["lit", *d, *n]),
+            Instr::Copy { d, a } => words(alloc, "copy", &[*d, *a]),
+            Instr::Add { d, a, b } => words(alloc, "add", &[*d, *a, *b]),
+            Instr::Sub { d, a, b } => words(alloc, "sub", &[*d, *a, *b]),
+            Instr::Mul { d, a, b } => words(alloc, "mul", &[*d, *a, *b]),
+            Instr::Unless { op, a, b, t } => {
                 json!(in alloc; ["unless", comparison(*op), *a, *b, *t])
             }
             Instr::Jump(t) => words(alloc, "jump", &[*t]),
-            Instr::For(k, lo, hi, e) => json!(in alloc; ["for", *k, *lo, *hi, *e]),
+            Instr::For { k, lo, hi, e } => json!(in alloc; ["for", *k, *lo, *hi, *e]),
             Instr::Next(b) => words(alloc, "next", &[*b]),
             Instr::Finish(e) => words(alloc, "finish", &[*e]),
             Instr::EndFinish(b) => words(alloc, "endfinish", &[*b]),
-            Instr::Get(d, s) => words(alloc, "get", &[*d, *s]),
-            Instr::Put(s, a) => words(alloc, "put", &[*s, *a]),
-            Instr::AddTo(s, a) => words(alloc, "addto", &[*s, *a]),
+            Instr::Get { d, s } => words(alloc, "get", &[*d, *s]),
+            Instr::Put { s, a } => words(alloc, "put", &[*s, *a]),
+            Instr::AddTo { s, a } => words(alloc, "addto", &[*s, *a]),
             Instr::Print(a) => words(alloc, "print", &[*a]),
             Instr::Make(k) => words(alloc, "make", &[*k]),
             Instr::Resume(k) => words(alloc, "resume", &[*k]),
             Instr::Drop(k) => words(alloc, "drop", &[*k]),
             Instr::Advance => words(alloc, "advance", &[]),
-            Instr::Call(unit, args) => run(alloc, "call", *unit, args.slots()),
-            Instr::Spawn(unit, args) => run(alloc, "spawn", *unit, args.slots()),
+            Instr::Call { unit, args } => run(alloc, "call", *unit, args.slots()),
+            Instr::Spawn { unit, args } => run(alloc, "spawn", *unit, args.slots()),
             Instr::Ret => words(alloc, "ret", &[]),
         }
     }

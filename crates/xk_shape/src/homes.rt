@@ -60,7 +60,7 @@ pub(crate) fn gives_away(m: &Module, u: &Unit, tables: &Tables, at: u16) -> bool
     ensures { result ≡ breaks_registers m.now u.now at }
 {
     match u.code.get(at as usize) {
-        Some(Instr::Call(run, args) | Instr::Spawn(run, args)) => {
+        Some(Instr::Call { unit: run, args } | Instr::Spawn { unit: run, args }) => {
             let arguments = Arguments::new(params_of(m, *run), args.slots());
             has_clock_away(u, tables, arguments, at)
         }

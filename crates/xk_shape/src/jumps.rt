@@ -30,9 +30,9 @@ fn aims_well(u: &Unit, at: u16, instr: &Instr) -> bool
     ensures { result ≡ aims_well u.now at instr.now }
 {
     match instr {
-        Instr::Unless(_, _, _, target) => lies_ahead(u, at, *target),
+        Instr::Unless { t: target, .. } => lies_ahead(u, at, *target),
         Instr::Jump(target) => lies_ahead(u, at, *target),
-        Instr::For(_, _, _, last) => lies_ahead(u, at, *last),
+        Instr::For { e: last, .. } => lies_ahead(u, at, *last),
         Instr::Next(first) => *first < at,
         Instr::Finish(last) => lies_ahead(u, at, *last),
         Instr::EndFinish(first) => *first < at,
@@ -71,7 +71,7 @@ fn jumps_across(u: &Unit, tables: &Tables, at: u16, instr: &Instr) -> bool
     ensures { result ≡ is_crossing u.now at instr.now }
 {
     match instr {
-        Instr::Unless(_, _, _, target) => tables.is_parted(at, *target),
+        Instr::Unless { t: target, .. } => tables.is_parted(at, *target),
         Instr::Jump(target) => tables.is_parted(at, *target),
         _ => false,
     }
@@ -83,11 +83,11 @@ fn is_crossing(u: &Unit, among: &[Span], at: u16, instr: &Instr) -> bool
     ensures { result ≡ is_crossing u.now at instr.now }
 {
     match instr {
-        Instr::For(_, _, _, _) | Instr::Finish(_) => {
+        Instr::For { .. } | Instr::Finish(_) => {
             is_amiss(among, span_begun(u, at as usize, instr))
         }
         Instr::Next(first) | Instr::EndFinish(first) => is_amiss(among, span_ended(u, at, *first)),
-        Instr::Unless(_, _, _, target) => crosses_any(among, at, *target),
+        Instr::Unless { t: target, .. } => crosses_any(among, at, *target),
         Instr::Jump(target) => crosses_any(among, at, *target),
         _ => false,
     }
@@ -120,7 +120,7 @@ fn is_backward(instr: &Instr) -> bool
     ensures { result ≡ is_backward instr.now }
 {
     match instr {
-        Instr::For(_, lo, hi, _) => *hi < *lo,
+        Instr::For { lo, hi, .. } => *hi < *lo,
         _ => false,
     }
 }
@@ -144,13 +144,13 @@ fn slot_written(instr: &Instr) -> Option<u16>
     ensures { result ≡ slot_written instr.now }
 {
     match instr {
-        Instr::Lit(d, _) => Some(*d),
-        Instr::Copy(d, _) => Some(*d),
-        Instr::Add(d, _, _) => Some(*d),
-        Instr::Sub(d, _, _) => Some(*d),
-        Instr::Mul(d, _, _) => Some(*d),
-        Instr::For(slot, _, _, _) => Some(*slot),
-        Instr::Get(d, _) => Some(*d),
+        Instr::Lit { d, .. } => Some(*d),
+        Instr::Copy { d, .. } => Some(*d),
+        Instr::Add { d, .. } => Some(*d),
+        Instr::Sub { d, .. } => Some(*d),
+        Instr::Mul { d, .. } => Some(*d),
+        Instr::For { k: slot, .. } => Some(*slot),
+        Instr::Get { d, .. } => Some(*d),
         Instr::Make(d) => Some(*d),
         _ => None,
     }

@@ -68,7 +68,7 @@ fn loop_begun(u: &Unit, at: usize, instr: &Instr) -> Option<Span>
     ensures { result ≡ option_map span_of (loop_begun u.now at instr.now) }
 {
     match instr {
-        Instr::For(_, _, _, last) => match u.code.get(*last as usize) {
+        Instr::For { e: last, .. } => match u.code.get(*last as usize) {
             Some(Instr::Next(first)) if *first as usize == at => Some(Span {
                 first: *first,
                 last: *last,
@@ -100,7 +100,7 @@ pub(crate) fn span_begun(u: &Unit, at: usize, instr: &Instr) -> Option<Span>
     ensures { result ≡ span_begun u.now at instr.now }
 {
     match instr {
-        Instr::For(_, _, _, _) => loop_begun(u, at, instr),
+        Instr::For { .. } => loop_begun(u, at, instr),
         Instr::Finish(_) => finish_opened(u, at, instr),
         _ => None,
     }

@@ -62,7 +62,7 @@ fn behind(u: &Unit, known: &[Place], at: u16) -> Option<Place>
     let here = known[at as usize];
     let instr = &u.code[at as usize];
     match instr {
-        Instr::For(slot, _, _, _) if begins_span(u, at, instr) => Some(Place {
+        Instr::For { k: slot, .. } if begins_span(u, at, instr) => Some(Place {
             within: Some(at),
             counters: with_slot(here.counters, *slot),
             ..here
@@ -80,7 +80,7 @@ fn behind(u: &Unit, known: &[Place], at: u16) -> Option<Place>
                 None
             }
         }
-        Instr::For(_, _, _, _) | Instr::Finish(_) => None,
+        Instr::For { .. } | Instr::Finish(_) => None,
         _ => Some(here),
     }
 }

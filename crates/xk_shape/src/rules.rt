@@ -120,23 +120,26 @@ fn names_below(instr: &Instr, slots: u16) -> bool
     ensures { result ≡ list_all (λ s. nat_lt s slots) (slots_named instr.now) }
 {
     match instr {
-        Instr::Lit(d, _) => *d < slots,
-        Instr::Copy(d, x) => *d < slots && *x < slots,
-        Instr::Add(d, x, y) => *d < slots && *x < slots && *y < slots,
-        Instr::Sub(d, x, y) => *d < slots && *x < slots && *y < slots,
-        Instr::Mul(d, x, y) => *d < slots && *x < slots && *y < slots,
-        Instr::Unless(_, x, y, _) => *x < slots && *y < slots,
+        Instr::Lit { d, .. } => *d < slots,
+        Instr::Copy { d, a: x } => *d < slots && *x < slots,
+        Instr::Add { d, a: x, b: y } => *d < slots && *x < slots && *y < slots,
+        Instr::Sub { d, a: x, b: y } => *d < slots && *x < slots && *y < slots,
+        Instr::Mul { d, a: x, b: y } => *d < slots && *x < slots && *y < slots,
+        Instr::Unless { a: x, b: y, .. } => *x < slots && *y < slots,
         Instr::Jump(_) => true,
-        Instr::For(slot, _, _, _) => *slot < slots,
+        Instr::For { k: slot, .. } => *slot < slots,
         Instr::Next(_) | Instr::Finish(_) | Instr::EndFinish(_) => true,
-        Instr::Get(d, _) => *d < slots,
-        Instr::Put(_, x) | Instr::AddTo(_, x) => *x < slots,
+        Instr::Get { d, .. } => *d < slots,
+        Instr::Put { a: x, .. } | Instr::AddTo { a: x, .. } => *x < slots,
         Instr::Print(x) => *x < slots,
         Instr::Make(d) => *d < slots,
         Instr::Resume(c) => *c < slots,
         Instr::Drop(c) => *c < slots,
         Instr::Advance => true,
-        Instr::Call(_, args) | Instr::Spawn(_, args) => args.slots().iter().all(|s| *s < slots),
+        Instr::Call { args, .. } | Instr::Spawn { args, .. } => args
+            .slots()
+            .iter()
+            .all(|s| *s < slots),
         Instr::Ret => true,
     }
 }
@@ -146,9 +149,9 @@ fn names_missing_cell(m: &Module, u: &Unit, at: u16) -> bool
     ensures { result ≡ breaks_cell m.now u.now at }
 {
     match u.code.get(at as usize) {
-        Some(Instr::Get(_, cell) | Instr::Put(cell, _) | Instr::AddTo(cell, _)) => {
-            *cell as usize >= m.shared().len()
-        }
+        Some(
+            Instr::Get { s: cell, .. } | Instr::Put { s: cell, .. } | Instr::AddTo { s: cell, .. },
+        ) => { *cell as usize >= m.shared().len() }
         _ => false,
     }
 }
@@ -168,8 +171,13 @@ fn runs_wrongly(m: &Module, unit: u16, u: &Unit, at: u16) -> bool
     ensures { result ≡ instr_is (runs_amiss m.now unit) (slice_get u.now.code at) }
 {
     match u.code.get(at as usize) {
-        Some(Instr::Call(called, args)) => !is_callable(m, unit, *called, args),
-        Some(Instr::Spawn(started, args)) => !is_startable(m, unit, *started, args),
+        Some(Instr::Call { unit: called, args }) => !is_callable(m, unit, *called, args),
+        Some(
+            Instr::Spawn {
+                unit: started,
+                args,
+            },
+        ) => !is_startable(m, unit, *started, args),
         _ => false,
     }
 }
@@ -225,7 +233,7 @@ fn gives_clock_twice(m: &Module, u: &Unit, at: u16) -> bool
     ensures { result ≡ breaks_same_clock m.now u.now at }
 {
     match u.code.get(at as usize) {
-        Some(Instr::Call(run, args) | Instr::Spawn(run, args)) => {
+        Some(Instr::Call { unit: run, args } | Instr::Spawn { unit: run, args }) => {
             has_clock_twice(Arguments::new(params_of(m, *run), args.slots()))
         }
         _ => false,

@@ -21,7 +21,7 @@ returns-in-For c =
     let i = c.index-instr.result.now in
     let here = found_at c.args.u.now _ c.args.at i c.u.view_is (omega (arith, c.requires.last, c.requires.inside)) c.index-instr.ensures in
     let so = place_known c.args.u.now c.args.known.now c.args.at outside c.requires.known (omega (arith, c.requires.last)) in
-    behind_for c.args.u.now c.args.at i _ here so c.requires.nested c.in-For.slot c.in-For.field-3 c.with_slot.result c.in-For.field-1 c.in-For.field-2
+    behind_for c.args.u.now c.args.at i _ here so c.requires.nested c.in-For.slot c.in-For.e c.with_slot.result c.in-For.lo c.in-For.hi
     c.in-For.is (sym c.begins_span.ensures ∙ c.if-begins_span.true) c.with_slot.ensures
 
 pub returns-in-Finish : goal.returns-in-Finish
@@ -68,7 +68,7 @@ returns-in-For-2 c =
     let i = c.index-instr.result.now in
     let here = found_at c.args.u.now _ c.args.at i c.u.view_is (omega (arith, c.requires.last, c.requires.inside)) c.index-instr.ensures in
     let so = place_known c.args.u.now c.args.known.now c.args.at outside c.requires.known (omega (arith, c.requires.last)) in
-    amiss_begin c.args.u.now c.args.at i _ here so c.requires.nested c.in-For.field-3 (ap end_named c.in-For.is) (sym c.begins_span.ensures ∙ c.if-begins_span.false)
+    amiss_begin c.args.u.now c.args.at i _ here so c.requires.nested c.in-For.e (ap end_named c.in-For.is) (sym c.begins_span.ensures ∙ c.if-begins_span.false)
 
 pub returns-in-For-2-2 : goal.returns-in-For-2-2
 returns-in-For-2-2 c =
