@@ -31,7 +31,7 @@ pub(crate) fn successors_of(instr: &Instr, at: u16) -> Successors
     ensures rising { AreRising result }
 {
     match instr {
-        Instr::Unless(_, _, _, t) => either(at + 1, *t),
+        Instr::Unless { t, .. } => either(at + 1, *t),
         Instr::Jump(t) => Successors::One(*t),
         Instr::Next(b) => either(at + 1, *b + 1),
         Instr::Ret => Successors::Nowhere,
@@ -94,17 +94,17 @@ pub(crate) fn kinds_after(
     ensures { IsRow (after m.now u.now instr.now slot kind) result }
 {
     match instr {
-        Instr::Lit(d, _) | Instr::For(d, _, _, _) | Instr::Get(d, _) => {
+        Instr::Lit { d, .. } | Instr::For { k: d, .. } | Instr::Get { d, .. } => {
             write(*d, Kind::Number, slot, kind)
         }
-        Instr::Copy(d, x) => {
+        Instr::Copy { d, a: x } => {
             read(*x, slot, kind)?;
             write(*d, Kind::Number, slot, kind)
         }
-        Instr::Add(d, x, y) => compute(*d, *x, *y, slot, kind),
-        Instr::Sub(d, x, y) => compute(*d, *x, *y, slot, kind),
-        Instr::Mul(d, x, y) => compute(*d, *x, *y, slot, kind),
-        Instr::Unless(_, x, y, _) => {
+        Instr::Add { d, a: x, b: y } => compute(*d, *x, *y, slot, kind),
+        Instr::Sub { d, a: x, b: y } => compute(*d, *x, *y, slot, kind),
+        Instr::Mul { d, a: x, b: y } => compute(*d, *x, *y, slot, kind),
+        Instr::Unless { a: x, b: y, .. } => {
             read(*x, slot, kind)?;
             read(*y, slot, kind)?;
             Ok(KindSet::of(kind))
@@ -113,7 +113,7 @@ pub(crate) fn kinds_after(
             may_read(loop_slot(u, *b), slot, kind)?;
             Ok(KindSet::of(kind))
         }
-        Instr::Put(_, x) | Instr::AddTo(_, x) | Instr::Print(x) => {
+        Instr::Put { a: x, .. } | Instr::AddTo { a: x, .. } | Instr::Print(x) => {
             read(*x, slot, kind)?;
             Ok(KindSet::of(kind))
         }
@@ -121,13 +121,16 @@ pub(crate) fn kinds_after(
         Instr::Resume(c) => use_clock(*c, Kind::Resumed, slot, kind),
         Instr::Drop(c) => use_clock(*c, Kind::Out, slot, kind),
         Instr::Advance => Ok(KindSet::of(awake(kind))),
-        Instr::Call(called, args) => {
+        Instr::Call { unit: called, args } => {
             let arguments = Arguments::new(params_of(m, *called), args.slots());
             let lent = arguments.has_clock(slot);
             give(arguments, slot, kind)?;
             Ok(kinds_across(lent, kind))
         }
-        Instr::Spawn(started, args) => {
+        Instr::Spawn {
+            unit: started,
+            args,
+        } => {
             give(
                 Arguments::new(params_of(m, *started), args.slots()),
                 slot,
@@ -165,7 +168,7 @@ fn slot_of_for(instr: &Instr) -> Option<u16>
     ensures { result ≡ loop_slot (Some instr.now) }
 {
     match instr {
-        Instr::For(k, _, _, _) => Some(*k),
+        Instr::For { k, .. } => Some(*k),
         _ => None,
     }
 }
