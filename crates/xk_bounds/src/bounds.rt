@@ -139,7 +139,7 @@ fn visits_next(before: &[u64], here: u64, instr: &Instr) -> u64
     ensures { result ≡ visits_next CUT before.now here instr.now }
 {
     match instr {
-        Instr::For(_, lo, hi, _) => cut_product(here, turns(*lo, *hi)),
+        Instr::For { lo, hi, .. } => cut_product(here, turns(*lo, *hi)),
         Instr::Next(first) => before.get(*first as usize).copied().unwrap_or(0),
         _ => here,
     }
@@ -168,7 +168,7 @@ fn run(instr: &Instr, table: &[u64]) -> u64
     ensures { result ≡ option_map_or (slice_index table.now) (unit_run instr.now) 0 }
 {
     match instr {
-        Instr::Call(unit, _) | Instr::Spawn(unit, _) => {
+        Instr::Call { unit, .. } | Instr::Spawn { unit, .. } => {
             table.get(*unit as usize).copied().unwrap_or(0)
         }
         _ => 0,
@@ -185,7 +185,7 @@ fn weight(counted: Quantity, instr: &Instr) -> u64
             _ => 1,
         },
         Quantity::Activities => match instr {
-            Instr::Spawn(_, _) => 1,
+            Instr::Spawn { .. } => 1,
             _ => 0,
         },
         Quantity::Clocks => match instr {

@@ -89,7 +89,7 @@ impl Room {
         ensures { IsCalled table.now instr.now result }
     {
         match instr {
-            Instr::Call(unit, _) => table.get(*unit as usize).copied().unwrap_or(NOTHING),
+            Instr::Call { unit, .. } => table.get(*unit as usize).copied().unwrap_or(NOTHING),
             _ => NOTHING,
         }
     }
