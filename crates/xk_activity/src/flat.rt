@@ -36,31 +36,31 @@ fn carry(code: &[Instr], place: usize, slots: &mut [Cell], instr: &Instr) -> Opt
     ensures { Carries code.now (spot_at place slots.old) instr.now result slots.new }
 {
     match instr {
-        Instr::Lit(d, x) => {
+        Instr::Lit { d, n: x } => {
             write(slots, *d, *x);
             Some(place + 1)
         }
-        Instr::Copy(d, x) => {
+        Instr::Copy { d, a: x } => {
             let n = number(slots, *x);
             write(slots, *d, n);
             Some(place + 1)
         }
-        Instr::Add(d, x, y) => {
+        Instr::Add { d, a: x, b: y } => {
             let n = number(slots, *x).wrapping_add(number(slots, *y));
             write(slots, *d, n);
             Some(place + 1)
         }
-        Instr::Sub(d, x, y) => {
+        Instr::Sub { d, a: x, b: y } => {
             let n = number(slots, *x).wrapping_sub(number(slots, *y));
             write(slots, *d, n);
             Some(place + 1)
         }
-        Instr::Mul(d, x, y) => {
+        Instr::Mul { d, a: x, b: y } => {
             let n = number(slots, *x).wrapping_mul(number(slots, *y));
             write(slots, *d, n);
             Some(place + 1)
         }
-        Instr::Unless(op, x, y, t) => {
+        Instr::Unless { op, a: x, b: y, t } => {
             if op.holds(number(slots, *x), number(slots, *y)) {
                 Some(place + 1)
             } else {
@@ -68,12 +68,12 @@ fn carry(code: &[Instr], place: usize, slots: &mut [Cell], instr: &Instr) -> Opt
             }
         }
         Instr::Jump(t) => Some(*t as usize),
-        Instr::For(k, lo, _, _) => {
+        Instr::For { k, lo, .. } => {
             write(slots, *k, *lo);
             Some(place + 1)
         }
         Instr::Next(b) => match &code[*b as usize] {
-            Instr::For(k, _, hi, _) => {
+            Instr::For { k, hi, .. } => {
                 let x = number(slots, *k);
                 if x < *hi {
                     write(slots, *k, x + 1);
@@ -86,16 +86,16 @@ fn carry(code: &[Instr], place: usize, slots: &mut [Cell], instr: &Instr) -> Opt
         },
         Instr::Finish(_) => None,
         Instr::EndFinish(_) => None,
-        Instr::Get(_, _) => None,
-        Instr::Put(_, _) => None,
-        Instr::AddTo(_, _) => None,
+        Instr::Get { .. } => None,
+        Instr::Put { .. } => None,
+        Instr::AddTo { .. } => None,
         Instr::Print(_) => None,
         Instr::Make(_) => None,
         Instr::Resume(_) => None,
         Instr::Drop(_) => None,
         Instr::Advance => None,
-        Instr::Call(_, _) => None,
-        Instr::Spawn(_, _) => None,
+        Instr::Call { .. } => None,
+        Instr::Spawn { .. } => None,
         Instr::Ret => None,
     }
 }
@@ -105,14 +105,14 @@ pub(crate) fn is_flat(instr: &Instr) -> bool
     ensures { result ≡ not (is_beyond instr.now) }
 {
     match instr {
-        Instr::Lit(_, _)
-        | Instr::Copy(_, _)
-        | Instr::Add(_, _, _)
-        | Instr::Sub(_, _, _)
-        | Instr::Mul(_, _, _)
-        | Instr::Unless(_, _, _, _)
+        Instr::Lit { .. }
+        | Instr::Copy { .. }
+        | Instr::Add { .. }
+        | Instr::Sub { .. }
+        | Instr::Mul { .. }
+        | Instr::Unless { .. }
         | Instr::Jump(_)
-        | Instr::For(_, _, _, _)
+        | Instr::For { .. }
         | Instr::Next(_) => true,
         _ => false,
     }

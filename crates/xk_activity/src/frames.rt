@@ -272,7 +272,7 @@ impl<'m> Frames<'m> {
     {
         let code = self.code();
         match &code[self.place] {
-            Instr::Call(unit, args) => {
+            Instr::Call { unit, args } => {
                 self.call(*unit, args.slots());
                 Next::Stepped
             }
@@ -321,7 +321,7 @@ impl<'m> Frames<'m> {
         ensures { result ≡ is_stepped (local self.now) }
     {
         match self.next() {
-            Instr::Call(_, _) => true,
+            Instr::Call { .. } => true,
             Instr::Ret => self.waits(),
             instr => is_flat(instr),
         }

@@ -3,4 +3,4 @@ use Rattle.xk_activity.proofs.Locals.{call_steps}
 use Rattle.xk_activity.proofs.frames.Frames.is_local.Goals as goal
 
 pub returns-in-Call : goal.returns-in-Call
-returns-in-Call c = sym (call_steps c.args.self.now c.in-Call.field-0 c.in-Call.field-1 (c.next.ensures ∙ ap Some c.in-Call.is) c.requires)
+returns-in-Call c = sym (call_steps c.args.self.now c.in-Call.unit c.in-Call.args (c.next.ensures ∙ ap Some c.in-Call.is) c.requires)
