@@ -60,9 +60,9 @@ fn joined(operator: Operator, d: u16, x: u16, y: u16) -> Instr
     ensures { result ≡ instr_of operator d x y }
 {
     match operator {
-        Operator::Plus => Instr::Add(d, x, y),
-        Operator::Minus => Instr::Sub(d, x, y),
-        Operator::Times => Instr::Mul(d, x, y),
+        Operator::Plus => Instr::Add { d, a: x, b: y },
+        Operator::Minus => Instr::Sub { d, a: x, b: y },
+        Operator::Times => Instr::Mul { d, a: x, b: y },
     }
 }
 
@@ -81,15 +81,15 @@ pub(crate) fn emit_expr<'t>(
 {
     match e {
         Expr::Number(n) => {
-            push(code, Instr::Lit(t, n.value))?;
+            push(code, Instr::Lit { d: t, n: n.value })?;
             Ok(t)
         }
         Expr::Name(x) => number(scope, *x),
         Expr::Paren(_, e) => emit_expr(code, scope, t, e),
         Expr::Negation(_, e) => {
-            push(code, Instr::Lit(t, 0))?;
+            push(code, Instr::Lit { d: t, n: 0 })?;
             let y = emit_expr(code, scope, after(t)?, e)?;
-            push(code, Instr::Sub(t, t, y))?;
+            push(code, Instr::Sub { d: t, a: t, b: y })?;
             Ok(t)
         }
         Expr::Binary(operator, l, _, r) => {
@@ -141,13 +141,19 @@ pub(crate) fn emit_into<'t>(
         ++ last_into scope.now t (expression e.now) d ∷ []))) }
 {
     match e {
-        Expr::Number(n) => push(code, Instr::Lit(d, n.value)),
-        Expr::Name(x) => push(code, Instr::Copy(d, number(scope, *x)?)),
+        Expr::Number(n) => push(code, Instr::Lit { d, n: n.value }),
+        Expr::Name(x) => push(
+            code,
+            Instr::Copy {
+                d,
+                a: number(scope, *x)?,
+            },
+        ),
         Expr::Paren(_, e) => emit_into(code, scope, t, e, d),
         Expr::Negation(_, e) => {
-            push(code, Instr::Lit(t, 0))?;
+            push(code, Instr::Lit { d: t, n: 0 })?;
             let y = emit_expr(code, scope, after(t)?, e)?;
-            push(code, Instr::Sub(d, t, y))
+            push(code, Instr::Sub { d, a: t, b: y })
         }
         Expr::Binary(operator, l, _, r) => {
             let (x, y) = emit_both(code, scope, t, l, r)?;

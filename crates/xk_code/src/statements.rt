@@ -84,7 +84,12 @@ fn close_test(code: &mut Vec<Instr>, test: Test) -> Result<(), CodeError>
     patch(
         code,
         test.at as usize,
-        Instr::Unless(test.op, test.x, test.y, end),
+        Instr::Unless {
+            op: test.op,
+            a: test.x,
+            b: test.y,
+            t: end,
+        },
     );
     Ok(())
 }
@@ -152,7 +157,16 @@ fn close_loop(
 {
     let end = place(code)?;
     push(code, Instr::Next(at))?;
-    patch(code, at as usize, Instr::For(n, lo.value, hi.value, end));
+    patch(
+        code,
+        at as usize,
+        Instr::For {
+            k: n,
+            lo: lo.value,
+            hi: hi.value,
+            e: end,
+        },
+    );
     Ok(())
 }
 
@@ -297,7 +311,7 @@ impl<'a, 't> Emitter<'a, 't> {
             self.now.setting.now scope.now self.now.free (expression e.now) d ∷ []))) }
     {
         match self.shared_alone(e) {
-            Some(s) => push(code, Instr::Get(d, s)),
+            Some(s) => push(code, Instr::Get { d, s }),
             None => emit_into(code, scope, self.free, e, d),
         }
     }
@@ -348,7 +362,7 @@ impl<'a, 't> Emitter<'a, 't> {
         match self.setting.shared(x) {
             Some(s) => {
                 let y = emit_expr(code, scope, self.free, e)?;
-                push(code, Instr::Put(s, y))
+                push(code, Instr::Put { s, a: y })
             }
             None => self.emit_value(code, scope, e, number(scope, x)?),
         }
@@ -375,7 +389,13 @@ impl<'a, 't> Emitter<'a, 't> {
             (slot_for scope.now self.now.free (expression e.now)) ∷ []))) }
     {
         let y = emit_expr(code, scope, self.free, e)?;
-        push(code, Instr::AddTo(self.setting.place(x)?, y))
+        push(
+            code,
+            Instr::AddTo {
+                s: self.setting.place(x)?,
+                a: y,
+            },
+        )
     }
 
     /// The code of a call.
@@ -399,7 +419,13 @@ impl<'a, 't> Emitter<'a, 't> {
             (argument_slots scope.now self.now.free (expressions es.now)) ∷ []))) }
     {
         let slots = emit_args(self.alloc, code, scope, self.free, es)?;
-        push(code, Instr::Call(self.setting.method(f)?, args(slots)?))
+        push(
+            code,
+            Instr::Call {
+                unit: self.setting.method(f)?,
+                args: args(slots)?,
+            },
+        )
     }
 
     /// The code of a line that is printed.
@@ -445,7 +471,13 @@ impl<'a, 't> Emitter<'a, 't> {
         let body = self.setting.body(at)?;
         let mut slots = clock_slots(self.alloc, scope, clocks)?;
         push_texts(&mut slots, scope, &body.captures)?;
-        push(code, Instr::Spawn(body.unit, args(slots)?))
+        push(
+            code,
+            Instr::Spawn {
+                unit: body.unit,
+                args: args(slots)?,
+            },
+        )
     }
 
     /// The code of what a comparison compares, and a gap for it.

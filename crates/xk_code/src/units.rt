@@ -186,11 +186,11 @@ fn written(instr: &Instr) -> usize
     ensures { result ≡ written_slots instr.now }
 {
     match instr {
-        Instr::Lit(d, _) => *d as usize + 1,
-        Instr::Copy(d, _) => *d as usize + 1,
-        Instr::Add(d, _, _) => *d as usize + 1,
-        Instr::Sub(d, _, _) => *d as usize + 1,
-        Instr::Mul(d, _, _) => *d as usize + 1,
+        Instr::Lit { d, .. } => *d as usize + 1,
+        Instr::Copy { d, .. } => *d as usize + 1,
+        Instr::Add { d, .. } => *d as usize + 1,
+        Instr::Sub { d, .. } => *d as usize + 1,
+        Instr::Mul { d, .. } => *d as usize + 1,
         _ => 0,
     }
 }
