@@ -185,7 +185,7 @@ impl<'m> Core<'m> {
         ensures { result ≡ is_about_to_start self.now.module_run self.now.world act }
     {
         match self.next_instruction(act.0 as usize) {
-            Some(Instr::Spawn(..)) => true,
+            Some(Instr::Spawn { .. }) => true,
             _ => false,
         }
     }
@@ -357,7 +357,7 @@ impl<'m> Core<'m> {
         match self.state.next(act.0 as usize) {
             Instr::Finish(e) => Ok(self.open_finish(act, *e)),
             Instr::EndFinish(b) => Ok(self.close_finish(act, *b)),
-            Instr::Spawn(unit, args) => self.start(act, *unit, args),
+            Instr::Spawn { unit, args } => self.start(act, *unit, args),
             instr => Ok(self.carry_out(act, instr)),
         }
     }

@@ -151,9 +151,9 @@ impl<'m> State<'m> {
     {
         match instr {
             Instr::Make(d) => self.make(a, *d),
-            Instr::Get(d, s) => self.get(a, *d, *s),
-            Instr::Put(s, x) => self.put(a, *s, *x),
-            Instr::AddTo(s, x) => self.add_to(a, *s, *x),
+            Instr::Get { d, s } => self.get(a, *d, *s),
+            Instr::Put { s, a: x } => self.put(a, *s, *x),
+            Instr::AddTo { s, a: x } => self.add_to(a, *s, *x),
             Instr::Print(x) => self.print(a, *x),
             Instr::Resume(k) => self.resume(a, *k),
             Instr::Drop(k) => self.leave_clock(a, *k),
