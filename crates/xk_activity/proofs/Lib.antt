@@ -2,6 +2,7 @@ pub mod Cells
 pub mod Safe
 pub mod Stacking
 pub mod Locals
+pub mod Turns
 pub mod Joined
 pub mod Reached
 pub mod Acts

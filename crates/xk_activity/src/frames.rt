@@ -15,7 +15,7 @@ use crate::alike::{are_same_callers, are_same_cells};
 use crate::caller::Caller;
 use crate::cell::Cell;
 use crate::fill::{copy_callers, copy_cells, fill, hand, put};
-use crate::flat::{is_flat, one};
+use crate::flat::{is_flat, one, run_flat};
 use std::alloc::{AllocError, Global};
 use std::marker::Model;
 use xk_bounds::Verified;
@@ -75,6 +75,32 @@ fn step_top(code: &[Instr], place: usize, stack: &mut Vec<Cell>, base: usize) ->
 {
     let slots = &mut stack[base..];
     one(code, place, slots)
+}
+
+/// Up to max next instructions of the frame that lies on a stack from base on, while they concern that frame alone: the place then,
+/// and how many they were.
+#[inline(always)]
+fn run_on_top(
+    code: &[Instr],
+    start: usize,
+    stack: &mut Vec<Cell>,
+    base: usize,
+    max: u32,
+) -> (usize, u32)
+    requires short { length code.now < 2 ^ 16 }
+    requires base { base ≤ length stack.old.items }
+    requires safe { IsSafe (turn code.now) (spot_at start (drop base stack.old.items)) }
+    ensures ran { ran (turn code.now) (spot_at start (drop base stack.old.items)) result.1
+        ≡ Stepped (spot_at result.0 (drop base stack.new.items)) }
+    ensures most { result.1 ≤ max }
+    ensures stops { (result.1 ≡ max)
+        ⊎ (turn code.now (spot_at result.0 (drop base stack.new.items)) ≡ Beyond) }
+    ensures below { take base stack.new.items ≡ take base stack.old.items }
+    ensures length { length stack.new.items ≡ length stack.old.items }
+    ensures capacity { vec_capacity stack.new ≡ vec_capacity stack.old }
+{
+    let slots = &mut stack[base..];
+    run_flat(code, start, slots, max)
 }
 
 /// How many slots the unit has.
@@ -297,6 +323,22 @@ impl<'m> Frames<'m> {
         }
     }
 
+    /// Up to max steps that concern the present frame alone, and how many they were.
+    fn run_frame(&mut self, max: u32) -> u32
+        requires { IsSafe local self.old }
+        ensures ran { ran local self.old result ≡ Stepped self.new }
+        ensures most { result ≤ max }
+        ensures stops { (result ≡ max)
+            ⊎ (turn (code_of self.new.module_run self.new.frame.unit) (spot_of self.new.frame)
+                ≡ Beyond) }
+        ensures same { self.new.module_run ≡ self.old.module_run }
+    {
+        let code = self.code();
+        let (place, steps) = run_on_top(code, self.place, &mut self.stack, self.base, max);
+        self.place = place;
+        steps
+    }
+
     /// Up to max steps that nobody else can see, and how many they were: max, or as many as there are before one that others can
     /// see. Takes no memory.
     pub fn run(&mut self, max: u32) -> u32
@@ -306,13 +348,19 @@ impl<'m> Frames<'m> {
         ensures stops { (result ≡ max) ⊎ (local self.new ≡ Beyond) }
         ensures same { self.new.module_run ≡ self.old.module_run }
     {
+        let mut done = 0;
+        // Each turn but the last one ends with a call or a return, which is a step.
         for n in 0..max {
-            match self.local() {
-                Next::Stepped => {}
-                Next::Visible => return n,
+            done += self.run_frame(max - done);
+            if done == max {
+                return done;
+            }
+            match self.across() {
+                Next::Stepped => done += 1,
+                Next::Visible => return done,
             }
         }
-        max
+        done
     }
 
     /// Whether nobody else can see the next step.
