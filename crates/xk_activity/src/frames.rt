@@ -330,7 +330,7 @@ impl<'m> Frames<'m> {
         ensures most { result ≤ max }
         ensures stops { (result ≡ max)
             ⊎ (turn (code_of self.new.module_run self.new.frame.unit) (spot_of self.new.frame)
-                ≡ Beyond) }
+            ≡ Beyond) }
         ensures same { self.new.module_run ≡ self.old.module_run }
     {
         let code = self.code();
