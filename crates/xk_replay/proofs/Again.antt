@@ -16,7 +16,9 @@ use Rattle.xk_types.specs.Logs.{schedule_of}
 use Rattle.xk_laws.proofs.Reached.{run_more}
 use Rattle.xk_core.specs.Core.{CoreValue}
 use Rattle.xk_drive.specs.Driving.{IsRunOf}
+use Rattle.xk_core.specs.Stretch.{RunsTo, IsUnseen}
 use Rattle.xk_drive.proofs.Following.{printed_more}
+use Rattle.xk_drive.proofs.Going.{run_then, printed_then}
 use Rattle.xk_replay.specs.Replay.{IsSoFar, GoesOn, IsHeld, IsRepeated, IsStoppedAt}
 
 -- ---- by a step
@@ -46,6 +48,24 @@ pub goes_more : (c d x : CoreValue) (numbers more : List ℤ) (a n : ℕ) (e : E
 goes_more c d x numbers more a n e goes stepped same list s =
     subst (λ l. IsSoFar l (more ++ option_to_list (number_printed e)) x) (one_more list n a)
     (so_far_more (list ++ replicate n a) more d x a e (goes list s) stepped same)
+
+-- some steps of it more, of which nothing is seen
+pub goes_unseen : (c d x : CoreValue) (numbers more : List ℤ) (a n k : ℕ)
+    → GoesOn c numbers a n d more → RunsTo d a k x → IsUnseen d a k → x.module_run ≡ d.module_run → GoesOn c numbers a (n + k) x more
+goes_unseen c d x numbers more a n k goes runs unseen same list s =
+    let m = d.module_run in
+    let before = list ++ replicate n a in
+    let so_far = goes list s in
+    subst (λ l. IsSoFar l more x) (append_assoc list (replicate n a) (replicate k a) ∙ ap (λ l. list ++ l) (replicate-append-replicate n k a))
+    record {
+      leads = subst (λ k2. Leads k2 (before ++ replicate k a) x.world) (sym same) (run_then m before (replicate k a) (opening m) d.world so_far.leads ∙ runs);
+      prints = subst (λ k2. more ≡ printed k2 (before ++ replicate k a) (opening k2)) (sym same)
+          (so_far.prints ∙ sym (printed_then m before (replicate k a) (opening m) d.world so_far.leads unseen));
+    }
+
+-- as many as another number says
+pub goes_as : (c : CoreValue) (numbers : List ℤ) (a n m : ℕ) (d : CoreValue) (more : List ℤ) → n ≡ m → GoesOn c numbers a n d more → GoesOn c numbers a m d more
+goes_as c numbers a n m d more e goes = subst (λ k. GoesOn c numbers a k d more) e goes
 
 -- ---- by an entry
 

@@ -87,19 +87,28 @@ fn carry_out<'m>(
     Ok(Led { core, printed })
 }
 
-/// Carries out the steps of an entry, and tells whether all of them were enabled. It stops before the first that isn't.
+/// Carries out the steps of an entry, and tells whether all of them were enabled. It stops before the first that isn't. Those that
+/// nobody else can see are taken as many at once as there are.
 fn repeat(core: &mut Core<'_>, printed: &mut Vec<i64>, entry: Entry) -> Result<bool, AllocError>
     ensures repeated { IfOk result
         (IsRepeated core.old printed.old.items entry core.new printed.new.items) }
     ensures same_module { core.new.module_run ≡ core.old.module_run }
 {
     let act = Act(entry.act);
-    for _done in 0..entry.steps {
+    let mut done = 0;
+    // Each turn but the last one ends with a step that others can see.
+    for turn in 0..entry.steps {
+        let unseen = core.run(act, entry.steps - done);
+        done += unseen;
+        if done == entry.steps {
+            return Ok(true);
+        }
         if !core.enabled(act) {
             return Ok(false);
         }
         let event = core.step(act)?;
         keep(printed, event)?;
+        done += 1;
     }
     Ok(true)
 }
