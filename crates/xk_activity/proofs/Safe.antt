@@ -1,19 +1,19 @@
 -- Steps one after the other.
-use Rattle.std.proofs.Common.{◌≡◌, ℕ, zero, suc, ◌+◌, refl, sym, subst, ap, ◌∙◌, add-one, arith}
+use Rattle.std.proofs.Common.{◌≡◌, ℕ, zero, suc, ◌+◌, refl, sym, subst, ap, ◌∙◌, arith}
 use Rattle.xk_activity.specs.Local.{OutcomeOf, Stepped, then_step, ran, IsSafe, IsRight}
 
 -- where a safe run has come to, the next step isn't wrong
 pub safe_here : {X : Type 0} (step : X → OutcomeOf X) (start : X) (n : ℕ) (x : X) → IsSafe step start → ran step start n ≡ Stepped x → IsRight (step x)
 safe_here step start n x safe e = subst (λ o. IsRight (then_step step o)) e (safe (suc n))
 
--- one step more
-pub ran_on : {X : Type 0} (step : X → OutcomeOf X) (start : X) (n : ℕ) (x y : X) → ran step start n ≡ Stepped x → step x ≡ Stepped y → ran step start (n + 1) ≡ Stepped y
-ran_on step start n x y e h = ap (λ k. ran step start k) (add-one n) ∙ (ap (then_step step) e ∙ h)
-
 -- steps, and then as many more
 pub ran_more : {X : Type 0} (step : X → OutcomeOf X) (start : X) (n m : ℕ) (x : X) → ran step start n ≡ Stepped x → ran step start (n + m) ≡ ran step x m
 ran_more step start n zero x e = let z : n + 0 ≡ n = omega arith in ap (λ k. ran step start k) z ∙ e
 ran_more step start n (suc m) x e = let z : n + suc m ≡ suc (n + m) = omega arith in ap (λ k. ran step start k) z ∙ ap (then_step step) (ran_more step start n m x e)
+
+-- one step more
+pub ran_on : {X : Type 0} (step : X → OutcomeOf X) (start : X) (n : ℕ) (x y : X) → ran step start n ≡ Stepped x → step x ≡ Stepped y → ran step start (n + 1) ≡ Stepped y
+ran_on step start n x y e h = ran_more step start n 1 x e ∙ h
 
 -- where a safe run has come to, it is safe to go on
 pub safe_on : {X : Type 0} (step : X → OutcomeOf X) (start : X) (n : ℕ) (x : X) → IsSafe step start → ran step start n ≡ Stepped x → IsSafe step x

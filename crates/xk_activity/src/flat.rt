@@ -3,7 +3,7 @@
 ghost use Rattle.std.specs.Prelude.{◌≡◌, ◌⊎◌, ℕ, ℤ, ◌+◌, ◌<◌, ◌≤◌, ◌^◌, length, not, Some, slice_get, slice_set};
 ghost use Rattle.xk_types.specs.declared.names.Value.TheVariants as value;
 ghost use Rattle.xk_activity.specs.Local.{Beyond, Stepped, turn, ran, spot_at, IsSafe, IsRight};
-ghost use Rattle.xk_activity.specs.Arm.{CanCarry, Carries, Answers, is_beyond};
+ghost use Rattle.xk_activity.specs.Arm.{CanCarry, Carries, Answers, IsTurnAt, Turned, is_beyond};
 
 use crate::cell::Cell;
 use xk_types::Instr;
@@ -17,14 +17,38 @@ fn number(slots: &[Cell], s: u16) -> i64
     slots[s as usize].number()
 }
 
-/// Writes a number to a slot.
+/// Writes a number to a slot, and gives the next place.
 #[inline(always)]
-fn write(slots: &mut [Cell], d: u16, n: i64)
-    requires { d < length slots.old }
-    ensures { slots.new ≡ slice_set slots.old d (value.Number n) }
+fn write(slots: &mut [Cell], d: u16, n: i64, place: usize) -> usize
+    requires slot { d < length slots.old }
+    requires place { place + 1 < 2 ^ 16 }
+    ensures written { slots.new ≡ slice_set slots.old d (value.Number n) }
+    ensures next { result ≡ place + 1 }
 {
     let slot = &mut slots[d as usize];
     slot.set_number(n);
+    place + 1
+}
+
+/// Ends a turn of the loop that begins at place b, and gives the next place.
+#[inline(always)]
+fn end_turn(code: &[Instr], place: usize, slots: &mut [Cell], b: u16) -> usize
+    requires short { length code.now < 2 ^ 16 }
+    requires place { place + 1 < 2 ^ 16 }
+    requires turn { IsTurnAt code.now (spot_at place slots.old) b }
+    ensures { Turned code.now (spot_at place slots.old) b (spot_at result slots.new) }
+{
+    match &code[b as usize] {
+        Instr::For { k, hi, .. } => {
+            let n = number(slots, *k);
+            if n < *hi {
+                write(slots, *k, n + 1, b as usize)
+            } else {
+                place + 1
+            }
+        }
+        _ => unreachable!(),
+    }
 }
 
 /// Carries out an instruction, and gives the next place; nothing where it concerns more than the frame.
@@ -35,69 +59,33 @@ fn carry(code: &[Instr], place: usize, slots: &mut [Cell], instr: &Instr) -> Opt
     requires operands { CanCarry code.now (spot_at place slots.old) instr.now }
     ensures { Carries code.now (spot_at place slots.old) instr.now result slots.new }
 {
-    match instr {
-        Instr::Lit { d, n: x } => {
-            write(slots, *d, *x);
-            Some(place + 1)
+    let next = match instr {
+        Instr::Lit { d, n } => write(slots, *d, *n, place),
+        Instr::Copy { d, a } => {
+            let n = number(slots, *a);
+            write(slots, *d, n, place)
         }
-        Instr::Copy { d, a: x } => {
-            let n = number(slots, *x);
-            write(slots, *d, n);
-            Some(place + 1)
+        Instr::Add { d, a, b } => {
+            let n = number(slots, *a).wrapping_add(number(slots, *b));
+            write(slots, *d, n, place)
         }
-        Instr::Add { d, a: x, b: y } => {
-            let n = number(slots, *x).wrapping_add(number(slots, *y));
-            write(slots, *d, n);
-            Some(place + 1)
+        Instr::Sub { d, a, b } => {
+            let n = number(slots, *a).wrapping_sub(number(slots, *b));
+            write(slots, *d, n, place)
         }
-        Instr::Sub { d, a: x, b: y } => {
-            let n = number(slots, *x).wrapping_sub(number(slots, *y));
-            write(slots, *d, n);
-            Some(place + 1)
+        Instr::Mul { d, a, b } => {
+            let n = number(slots, *a).wrapping_mul(number(slots, *b));
+            write(slots, *d, n, place)
         }
-        Instr::Mul { d, a: x, b: y } => {
-            let n = number(slots, *x).wrapping_mul(number(slots, *y));
-            write(slots, *d, n);
-            Some(place + 1)
+        Instr::Unless { op, a, b, .. } if op.holds(number(slots, *a), number(slots, *b)) => {
+            place + 1
         }
-        Instr::Unless { op, a: x, b: y, t } => {
-            if op.holds(number(slots, *x), number(slots, *y)) {
-                Some(place + 1)
-            } else {
-                Some(*t as usize)
-            }
-        }
-        Instr::Jump(t) => Some(*t as usize),
-        Instr::For { k, lo, .. } => {
-            write(slots, *k, *lo);
-            Some(place + 1)
-        }
-        Instr::Next(b) => match &code[*b as usize] {
-            Instr::For { k, hi, .. } => {
-                let x = number(slots, *k);
-                if x < *hi {
-                    write(slots, *k, x + 1);
-                    Some(*b as usize + 1)
-                } else {
-                    Some(place + 1)
-                }
-            }
-            _ => unreachable!(),
-        },
-        Instr::Finish(_) => None,
-        Instr::EndFinish(_) => None,
-        Instr::Get { .. } => None,
-        Instr::Put { .. } => None,
-        Instr::AddTo { .. } => None,
-        Instr::Print(_) => None,
-        Instr::Make(_) => None,
-        Instr::Resume(_) => None,
-        Instr::Drop(_) => None,
-        Instr::Advance => None,
-        Instr::Call { .. } => None,
-        Instr::Spawn { .. } => None,
-        Instr::Ret => None,
-    }
+        Instr::Unless { t, .. } | Instr::Jump(t) => *t as usize,
+        Instr::For { k, lo, .. } => write(slots, *k, *lo, place),
+        Instr::Next(b) => end_turn(code, place, slots, *b),
+        _ => return None,
+    };
+    Some(next)
 }
 
 /// Whether an instruction concerns one frame alone.

@@ -8,6 +8,7 @@ use Rattle.xk_types.specs.declared.names.Event.{Event}
 use Rattle.xk_types.specs.Code.{ModuleValue}
 use Rattle.xk_types.specs.World.{Activity, World}
 use Rattle.xk_types.specs.Step.{Outcome, Blocked, Stepped, carried_out, passing}
+use Rattle.xk_activity.specs.Arm.{is_beyond}
 use Rattle.xk_activity.specs.Activities.{Stands, act_at}
 
 -- what a slot holds, and nothing where there is no such slot
@@ -19,19 +20,10 @@ abbrev pub starts : Instr → Bool
 starts (instr.Spawn t args) = true
 starts _ = false
 
--- others can see it: it isn't one of those that change the frames of their activity alone
+-- others can see it: it concerns more than the frames of its activity, of which a call makes one
 abbrev pub is_visible : Instr → Bool
-is_visible (instr.Lit d n) = false
-is_visible (instr.Copy d x) = false
-is_visible (instr.Add d x y) = false
-is_visible (instr.Sub d x y) = false
-is_visible (instr.Mul d x y) = false
-is_visible (instr.Unless op x y t) = false
-is_visible (instr.Jump t) = false
-is_visible (instr.For k lo hi e) = false
-is_visible (instr.Next b) = false
 is_visible (instr.Call t args) = false
-is_visible _ = true
+is_visible i = is_beyond i
 
 -- it opens or closes a finish, or starts an activity
 abbrev pub concerns_finishes : Instr → Bool
