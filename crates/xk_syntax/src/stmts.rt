@@ -1,11 +1,11 @@
 //! Statements, by recursive descent.
 
 ghost use Rattle.std.specs.Prelude.{◌≡◌, [], map};
-ghost use Rattle.xk_tree.specs.Tree.{expression, statement};
+ghost use Rattle.xk_tree.specs.Tree.{expression, statement, word};
 ghost use Rattle.xk_exprs.specs.Marks.{marks};
 ghost use Rattle.xk_exprs.specs.Readers.{Gives};
-ghost use Rattle.xk_syntax.specs.Readers.{stmts_at, else_at, rest_at, stmt_at};
-ghost use Rattle.xk_syntax.specs.Views.{head_value};
+ghost use Rattle.xk_syntax.specs.Readers.{Brace, Condition, Range, Start, Wait, stmts_at, else_at, rest_at, stmt_at};
+ghost use Rattle.xk_syntax.specs.Views.{clocks_value, head_value};
 
 use crate::heads::{Head, stmt_head};
 use crate::parts::{after_keyword, ahead, need_sign};
@@ -13,7 +13,7 @@ use std::alloc::Global;
 use xk_exprs::parts::{next, unexpected};
 use xk_exprs::{SyntaxError, SyntaxFault, SyntaxRule};
 use xk_tokens::{Keyword, Kind, Sign, Token};
-use xk_tree::{Expr, Stmt};
+use xk_tree::{ClockList, Expr, Name, Number, Stmt};
 use xk_types::Comparison;
 
 /// Whether a statement can begin with a token of this kind.
@@ -78,6 +78,23 @@ pub(crate) fn read_stmts<'s, 't>(
     Ok((stmts, after))
 }
 
+/// A statement, in a box.
+#[cycle(stmts)]
+#[tactic(auto, unfolding(crate::specs::Readers::bind))]
+fn boxed_stmt<'s, 't>(
+    alloc: Global,
+    levels: u32,
+    tokens: &'s [Token<'t>],
+    end: usize,
+) -> Result<(Box<Stmt<'t>>, &'s [Token<'t>]), SyntaxError>
+    ensures { Gives (λ x. (statement x.0.value, marks x.1.now)) result
+        (stmt_at levels (marks tokens.now)) }
+{
+    let (stmt, rest) = read_stmt(alloc, levels, tokens, end)?;
+    let stmt = Box::new(alloc, stmt)?;
+    Ok((stmt, rest))
+}
+
 /// An `if`, behind its statement.
 #[cycle(stmts)]
 #[tactic(auto, unfolding(crate::specs::Readers::bind, crate::specs::Readers::else_at))]
@@ -88,20 +105,18 @@ fn else_part<'s, 't>(
     left: Expr<'t>,
     comparison: Comparison,
     right: Expr<'t>,
-    stmt: Stmt<'t>,
+    stmt: Box<Stmt<'t>>,
     tokens: &'s [Token<'t>],
     end: usize,
 ) -> Result<(Stmt<'t>, &'s [Token<'t>]), SyntaxError>
     ensures { Gives (λ x. (statement x.0, marks x.1.now)) result
         (else_at (stmt_at levels) paren (expression left.entry) comparison
-        (expression right.entry) (statement stmt.entry) (marks tokens.now)) }
+        (expression right.entry) (statement stmt.entry.value) (marks tokens.now)) }
 {
-    let stmt = Box::new(alloc, stmt)?;
     match after_keyword(Keyword::Else, tokens) {
         None => Ok((Stmt::If(paren, left, comparison, right, stmt), tokens)),
         Some(rest) => {
-            let (other, rest) = read_stmt(alloc, levels, rest, end)?;
-            let other = Box::new(alloc, other)?;
+            let (other, rest) = boxed_stmt(alloc, levels, rest, end)?;
             Ok((
                 Stmt::IfElse(paren, left, comparison, right, stmt, other),
                 rest,
@@ -110,9 +125,102 @@ fn else_part<'s, 't>(
     }
 }
 
-/// The rest of a statement that begins with this head.
+/// The rest of an `if`, behind its `)`.
 #[cycle(stmts)]
 #[tactic(auto, unfolding(crate::specs::Readers::bind, crate::specs::Readers::rest_at))]
+fn choice<'s, 't>(
+    alloc: Global,
+    levels: u32,
+    paren: usize,
+    left: Expr<'t>,
+    comparison: Comparison,
+    right: Expr<'t>,
+    tokens: &'s [Token<'t>],
+    end: usize,
+) -> Result<(Stmt<'t>, &'s [Token<'t>]), SyntaxError>
+    ensures { Gives (λ x. (statement x.0, marks x.1.now)) result
+        (rest_at (stmt_at levels) (Condition paren (expression left.entry) comparison
+        (expression right.entry)) (marks tokens.now)) }
+{
+    let (stmt, rest) = boxed_stmt(alloc, levels, tokens, end)?;
+    else_part(
+        alloc, levels, paren, left, comparison, right, stmt, rest, end,
+    )
+}
+
+/// The rest of a block, behind its `{`.
+#[cycle(stmts)]
+#[tactic(auto, unfolding(crate::specs::Readers::bind, crate::specs::Readers::rest_at))]
+fn block<'s, 't>(
+    alloc: Global,
+    levels: u32,
+    tokens: &'s [Token<'t>],
+    end: usize,
+) -> Result<(Stmt<'t>, &'s [Token<'t>]), SyntaxError>
+    ensures { Gives (λ x. (statement x.0, marks x.1.now)) result
+        (rest_at (stmt_at levels) Brace (marks tokens.now)) }
+{
+    let (stmts, rest) = read_stmts(alloc, levels, tokens, end)?;
+    Ok((Stmt::Block(stmts), rest))
+}
+
+/// The rest of a `for`, behind its `)`.
+#[cycle(stmts)]
+#[tactic(auto, unfolding(crate::specs::Readers::bind, crate::specs::Readers::rest_at))]
+fn turns<'s, 't>(
+    alloc: Global,
+    levels: u32,
+    paren: usize,
+    name: Name<'t>,
+    lo: Number,
+    hi: Number,
+    tokens: &'s [Token<'t>],
+    end: usize,
+) -> Result<(Stmt<'t>, &'s [Token<'t>]), SyntaxError>
+    ensures { Gives (λ x. (statement x.0, marks x.1.now)) result
+        (rest_at (stmt_at levels) (Range paren (word name.entry) lo hi) (marks tokens.now)) }
+{
+    let (stmt, rest) = boxed_stmt(alloc, levels, tokens, end)?;
+    Ok((Stmt::For(paren, name, lo, hi, stmt), rest))
+}
+
+/// The rest of an `async`, behind its list of clocks.
+#[cycle(stmts)]
+#[tactic(auto, unfolding(crate::specs::Readers::bind, crate::specs::Readers::rest_at))]
+fn started<'s, 't>(
+    alloc: Global,
+    levels: u32,
+    at: usize,
+    clocks: Option<ClockList<'t>>,
+    tokens: &'s [Token<'t>],
+    end: usize,
+) -> Result<(Stmt<'t>, &'s [Token<'t>]), SyntaxError>
+    ensures { Gives (λ x. (statement x.0, marks x.1.now)) result
+        (rest_at (stmt_at levels) (Start at (clocks_value clocks.entry)) (marks tokens.now)) }
+{
+    let (stmt, rest) = boxed_stmt(alloc, levels, tokens, end)?;
+    Ok((Stmt::Async(at, clocks, stmt), rest))
+}
+
+/// The rest of a `finish`, behind that word.
+#[cycle(stmts)]
+#[tactic(auto, unfolding(crate::specs::Readers::bind, crate::specs::Readers::rest_at))]
+fn awaited<'s, 't>(
+    alloc: Global,
+    levels: u32,
+    tokens: &'s [Token<'t>],
+    end: usize,
+) -> Result<(Stmt<'t>, &'s [Token<'t>]), SyntaxError>
+    ensures { Gives (λ x. (statement x.0, marks x.1.now)) result
+        (rest_at (stmt_at levels) Wait (marks tokens.now)) }
+{
+    let (stmt, rest) = boxed_stmt(alloc, levels, tokens, end)?;
+    Ok((Stmt::Finish(stmt), rest))
+}
+
+/// The rest of a statement that begins with this head.
+#[cycle(stmts)]
+#[tactic(auto, unfolding(crate::specs::Readers::rest_at))]
 fn rest_of<'s, 't>(
     alloc: Global,
     levels: u32,
@@ -125,28 +233,13 @@ fn rest_of<'s, 't>(
 {
     match head {
         Head::Whole(stmt) => Ok((stmt, tokens)),
-        Head::Brace => {
-            let (stmts, rest) = read_stmts(alloc, levels, tokens, end)?;
-            Ok((Stmt::Block(stmts), rest))
-        }
+        Head::Brace => block(alloc, levels, tokens, end),
         Head::Condition(paren, left, comparison, right) => {
-            let (stmt, rest) = read_stmt(alloc, levels, tokens, end)?;
-            else_part(
-                alloc, levels, paren, left, comparison, right, stmt, rest, end,
-            )
+            choice(alloc, levels, paren, left, comparison, right, tokens, end)
         }
-        Head::Range(paren, name, lo, hi) => {
-            let (stmt, rest) = read_stmt(alloc, levels, tokens, end)?;
-            Ok((Stmt::For(paren, name, lo, hi, Box::new(alloc, stmt)?), rest))
-        }
-        Head::Start(at, clocks) => {
-            let (stmt, rest) = read_stmt(alloc, levels, tokens, end)?;
-            Ok((Stmt::Async(at, clocks, Box::new(alloc, stmt)?), rest))
-        }
-        Head::Wait => {
-            let (stmt, rest) = read_stmt(alloc, levels, tokens, end)?;
-            Ok((Stmt::Finish(Box::new(alloc, stmt)?), rest))
-        }
+        Head::Range(paren, name, lo, hi) => turns(alloc, levels, paren, name, lo, hi, tokens, end),
+        Head::Start(at, clocks) => started(alloc, levels, at, clocks, tokens, end),
+        Head::Wait => awaited(alloc, levels, tokens, end),
     }
 }
 

@@ -5,16 +5,34 @@ use Rattle.xk_syntax.specs.Readers.{ahead_at, more_at, stmt_at}
 use Rattle.xk_syntax.proofs.stmts.+stmts.Given as goal
 
 abbrev pub decreases-read_stmt : goal.decreases-read_stmt
-decreases-read_stmt l = 3 * l.levels
+decreases-read_stmt l = 5 * l.levels
 
 abbrev pub decreases-read_stmts : goal.decreases-read_stmts
-decreases-read_stmts l = 3 * l.levels + 1
+decreases-read_stmts l = 5 * l.levels + 1
+
+abbrev pub decreases-boxed_stmt : goal.decreases-boxed_stmt
+decreases-boxed_stmt l = 5 * l.levels + 1
+
+abbrev pub decreases-block : goal.decreases-block
+decreases-block l = 5 * l.levels + 2
 
 abbrev pub decreases-else_part : goal.decreases-else_part
-decreases-else_part l = 3 * l.levels + 1
+decreases-else_part l = 5 * l.levels + 2
+
+abbrev pub decreases-choice : goal.decreases-choice
+decreases-choice l = 5 * l.levels + 3
+
+abbrev pub decreases-turns : goal.decreases-turns
+decreases-turns l = 5 * l.levels + 2
+
+abbrev pub decreases-started : goal.decreases-started
+decreases-started l = 5 * l.levels + 2
+
+abbrev pub decreases-awaited : goal.decreases-awaited
+decreases-awaited l = 5 * l.levels + 2
 
 abbrev pub decreases-rest_of : goal.decreases-rest_of
-decreases-rest_of l = 3 * l.levels + 2
+decreases-rest_of l = 5 * l.levels + 4
 
 -- what is read from here on is what is read from the start
 abbrev pub invariant-read_stmts-loop-here : goal.invariant-read_stmts-loop-here
