@@ -9,7 +9,7 @@ use Rattle.xk_types.specs.declared.instr.Comparison.TheVariants as comparison
 use Rattle.xk_types.specs.declared.instr.Instr.{Instr}
 use Rattle.xk_types.specs.declared.instr.Instr.TheVariants as instr
 use Rattle.xk_module.specs.ModuleText.{long, word, named, array_of, comparison_name, instr_value, IsWord, IsLong, IsInstrInRange}
-use Rattle.xk_module.specs.Named.{◌>>=◌, word_at, none_at, one_at, two_at, three_at, lit_at, comparison_of, comparison_at, unless_at, for_at, run_at, instr_of, instr_at}
+use Rattle.xk_module.specs.Named.{◌>>=◌, word_at, none_at, one_at, two_at, three_at, lit_at, comparison_of, comparison_at, unless_at, for_at, run_at, instr_of, instr_of_words, instr_of_word, instr_at}
 use Rattle.xk_module.proofs.Lists.{listed-items_of}
 use Rattle.xk_module.proofs.Parts.{bind_some, by_name, word_takes, word_again, long_takes, long_again, array_takes, head_takes, end_takes, str_takes, each_takes, each_again}
 
@@ -264,32 +264,42 @@ by_shape {shape = shape} {values = values} s key make value name operands others
     let same : make x.0 ≡ i = cc in
     rw (same_name, same_operands) (subst (IsValue key (values x.0)) same (value x.0 taken.1))) there
 
-instr_of_takes : (name : List ℕ) (operands : List Data) (i : Instr) → instr_of name operands ≡ Some i → IsValue name operands i
-unfolding instr_of
-instr_of_takes name operands i e =
-    by_shape lit (codes "lit") (λ x. instr.Lit x.0 x.1) (λ x p. (refl, p)) name operands _ i e (λ e.
-    by_shape two (codes "copy") (λ x. instr.Copy x.0 x.1) (λ x p. (refl, p)) name operands _ i e (λ e.
-    by_shape three (codes "add") (λ x. instr.Add x.0 x.1 x.2) (λ x p. (refl, p)) name operands _ i e (λ e.
-    by_shape three (codes "sub") (λ x. instr.Sub x.0 x.1 x.2) (λ x p. (refl, p)) name operands _ i e (λ e.
-    by_shape three (codes "mul") (λ x. instr.Mul x.0 x.1 x.2) (λ x p. (refl, p)) name operands _ i e (λ e.
-    by_shape unless (codes "unless") (λ x. instr.Unless x.0 x.1 x.2 x.3) (λ x p. (refl, p)) name operands _ i e (λ e.
+instr_of_word_takes : (name : List ℕ) (operands : List Data) (i : Instr) → instr_of_word name operands ≡ Some i → IsValue name operands i
+unfolding instr_of_word
+instr_of_word_takes name operands i e =
     by_shape one (codes "jump") instr.Jump (λ x p. (refl, p)) name operands _ i e (λ e.
-    by_shape counted (codes "for") (λ x. instr.For x.0 x.1 x.2 x.3) (λ x p. (refl, p)) name operands _ i e (λ e.
     by_shape one (codes "next") instr.Next (λ x p. (refl, p)) name operands _ i e (λ e.
     by_shape one (codes "finish") instr.Finish (λ x p. (refl, p)) name operands _ i e (λ e.
     by_shape one (codes "endfinish") instr.EndFinish (λ x p. (refl, p)) name operands _ i e (λ e.
-    by_shape two (codes "get") (λ x. instr.Get x.0 x.1) (λ x p. (refl, p)) name operands _ i e (λ e.
-    by_shape two (codes "put") (λ x. instr.Put x.0 x.1) (λ x p. (refl, p)) name operands _ i e (λ e.
-    by_shape two (codes "addto") (λ x. instr.AddTo x.0 x.1) (λ x p. (refl, p)) name operands _ i e (λ e.
     by_shape one (codes "print") instr.Print (λ x p. (refl, p)) name operands _ i e (λ e.
     by_shape one (codes "make") instr.Make (λ x p. (refl, p)) name operands _ i e (λ e.
     by_shape one (codes "resume") instr.Resume (λ x p. (refl, p)) name operands _ i e (λ e.
     by_shape one (codes "drop") instr.Drop (λ x p. (refl, p)) name operands _ i e (λ e.
-    by_shape none (codes "advance") (λ _. instr.Advance) (λ x p. (refl, p)) name operands _ i e (λ e.
+    absurd cc))))))))
+
+instr_of_words_takes : (name : List ℕ) (operands : List Data) (i : Instr) → instr_of_words name operands ≡ Some i → IsValue name operands i
+unfolding instr_of_words
+instr_of_words_takes name operands i e =
+    by_shape two (codes "copy") (λ x. instr.Copy x.0 x.1) (λ x p. (refl, p)) name operands _ i e (λ e.
+    by_shape three (codes "add") (λ x. instr.Add x.0 x.1 x.2) (λ x p. (refl, p)) name operands _ i e (λ e.
+    by_shape three (codes "sub") (λ x. instr.Sub x.0 x.1 x.2) (λ x p. (refl, p)) name operands _ i e (λ e.
+    by_shape three (codes "mul") (λ x. instr.Mul x.0 x.1 x.2) (λ x p. (refl, p)) name operands _ i e (λ e.
+    by_shape two (codes "get") (λ x. instr.Get x.0 x.1) (λ x p. (refl, p)) name operands _ i e (λ e.
+    by_shape two (codes "put") (λ x. instr.Put x.0 x.1) (λ x p. (refl, p)) name operands _ i e (λ e.
+    by_shape two (codes "addto") (λ x. instr.AddTo x.0 x.1) (λ x p. (refl, p)) name operands _ i e (λ e.
+    instr_of_word_takes name operands i e)))))))
+
+instr_of_takes : (name : List ℕ) (operands : List Data) (i : Instr) → instr_of name operands ≡ Some i → IsValue name operands i
+unfolding instr_of
+instr_of_takes name operands i e =
+    by_shape lit (codes "lit") (λ x. instr.Lit x.0 x.1) (λ x p. (refl, p)) name operands _ i e (λ e.
+    by_shape unless (codes "unless") (λ x. instr.Unless x.0 x.1 x.2 x.3) (λ x p. (refl, p)) name operands _ i e (λ e.
+    by_shape counted (codes "for") (λ x. instr.For x.0 x.1 x.2 x.3) (λ x p. (refl, p)) name operands _ i e (λ e.
     by_shape run (codes "call") (λ x. instr.Call x.0 x.1) (λ x p. (refl, p)) name operands _ i e (λ e.
     by_shape run (codes "spawn") (λ x. instr.Spawn x.0 x.1) (λ x p. (refl, p)) name operands _ i e (λ e.
+    by_shape none (codes "advance") (λ _. instr.Advance) (λ x p. (refl, p)) name operands _ i e (λ e.
     by_shape none (codes "ret") (λ _. instr.Ret) (λ x p. (refl, p)) name operands _ i e (λ e.
-    absurd cc))))))))))))))))))))))
+    instr_of_words_takes name operands i e)))))))
 
 pub instr_takes : (d : Data) (i : Instr) → instr_at d ≡ Some i → (d ≡ instr_value i) × IsInstrInRange i
 unfolding instr_at
@@ -309,7 +319,7 @@ unfolding instr_at
 instr_of_again name operands i e = ap (instr_of name) (listed-items_of operands) ∙ e
 
 pub instr_again : (i : Instr) → IsInstrInRange i → instr_at (instr_value i) ≡ Some i
-unfolding instr_of
+unfolding instr_of instr_of_words instr_of_word
 instr_again (instr.Lit d n) p = instr_of_again (codes "lit") (lit_values (d, n)) (instr.Lit d n) (rw (lit_again (d, n) p) refl)
 instr_again (instr.Copy d a) p = instr_of_again (codes "copy") (two_values (d, a)) (instr.Copy d a) (rw (two_again (d, a) p) refl)
 instr_again (instr.Add d a b) p = instr_of_again (codes "add") (three_values (d, a, b)) (instr.Add d a b) (rw (three_again (d, a, b) p) refl)

@@ -170,32 +170,42 @@ run_at (a ∷ b ∷ []) = do
   Some (t, args)
 run_at _ = None
 
--- the instruction of this name with these operands
-unfoldable pub instr_of : List ℕ → List Data → Option Instr
-instr_of name operands =
-    if bytes_eq name (codes "lit") then (lit_at operands >>= λ x. Some (instr.Lit x.0 x.1))
-    else if bytes_eq name (codes "copy") then (two_at operands >>= λ x. Some (instr.Copy x.0 x.1))
-    else if bytes_eq name (codes "add") then (three_at operands >>= λ x. Some (instr.Add x.0 x.1 x.2))
-    else if bytes_eq name (codes "sub") then (three_at operands >>= λ x. Some (instr.Sub x.0 x.1 x.2))
-    else if bytes_eq name (codes "mul") then (three_at operands >>= λ x. Some (instr.Mul x.0 x.1 x.2))
-    else if bytes_eq name (codes "unless") then (unless_at operands >>= λ x. Some (instr.Unless x.0 x.1 x.2 x.3))
-    else if bytes_eq name (codes "jump") then (one_at operands >>= λ t. Some (instr.Jump t))
-    else if bytes_eq name (codes "for") then (for_at operands >>= λ x. Some (instr.For x.0 x.1 x.2 x.3))
+-- the instruction of this name with one operand
+unfoldable pub instr_of_word : List ℕ → List Data → Option Instr
+instr_of_word name operands =
+    if bytes_eq name (codes "jump") then (one_at operands >>= λ t. Some (instr.Jump t))
     else if bytes_eq name (codes "next") then (one_at operands >>= λ b. Some (instr.Next b))
     else if bytes_eq name (codes "finish") then (one_at operands >>= λ e. Some (instr.Finish e))
     else if bytes_eq name (codes "endfinish") then (one_at operands >>= λ b. Some (instr.EndFinish b))
-    else if bytes_eq name (codes "get") then (two_at operands >>= λ x. Some (instr.Get x.0 x.1))
-    else if bytes_eq name (codes "put") then (two_at operands >>= λ x. Some (instr.Put x.0 x.1))
-    else if bytes_eq name (codes "addto") then (two_at operands >>= λ x. Some (instr.AddTo x.0 x.1))
     else if bytes_eq name (codes "print") then (one_at operands >>= λ a. Some (instr.Print a))
     else if bytes_eq name (codes "make") then (one_at operands >>= λ k. Some (instr.Make k))
     else if bytes_eq name (codes "resume") then (one_at operands >>= λ k. Some (instr.Resume k))
     else if bytes_eq name (codes "drop") then (one_at operands >>= λ k. Some (instr.Drop k))
-    else if bytes_eq name (codes "advance") then (none_at operands >>= λ _. Some instr.Advance)
+    else None
+
+-- the instruction of this name with two or three operands that are all slots or shared numbers, or with one
+unfoldable pub instr_of_words : List ℕ → List Data → Option Instr
+instr_of_words name operands =
+    if bytes_eq name (codes "copy") then (two_at operands >>= λ x. Some (instr.Copy x.0 x.1))
+    else if bytes_eq name (codes "add") then (three_at operands >>= λ x. Some (instr.Add x.0 x.1 x.2))
+    else if bytes_eq name (codes "sub") then (three_at operands >>= λ x. Some (instr.Sub x.0 x.1 x.2))
+    else if bytes_eq name (codes "mul") then (three_at operands >>= λ x. Some (instr.Mul x.0 x.1 x.2))
+    else if bytes_eq name (codes "get") then (two_at operands >>= λ x. Some (instr.Get x.0 x.1))
+    else if bytes_eq name (codes "put") then (two_at operands >>= λ x. Some (instr.Put x.0 x.1))
+    else if bytes_eq name (codes "addto") then (two_at operands >>= λ x. Some (instr.AddTo x.0 x.1))
+    else instr_of_word name operands
+
+-- the instruction of this name with these operands
+unfoldable pub instr_of : List ℕ → List Data → Option Instr
+instr_of name operands =
+    if bytes_eq name (codes "lit") then (lit_at operands >>= λ x. Some (instr.Lit x.0 x.1))
+    else if bytes_eq name (codes "unless") then (unless_at operands >>= λ x. Some (instr.Unless x.0 x.1 x.2 x.3))
+    else if bytes_eq name (codes "for") then (for_at operands >>= λ x. Some (instr.For x.0 x.1 x.2 x.3))
     else if bytes_eq name (codes "call") then (run_at operands >>= λ x. Some (instr.Call x.0 x.1))
     else if bytes_eq name (codes "spawn") then (run_at operands >>= λ x. Some (instr.Spawn x.0 x.1))
+    else if bytes_eq name (codes "advance") then (none_at operands >>= λ _. Some instr.Advance)
     else if bytes_eq name (codes "ret") then (none_at operands >>= λ _. Some instr.Ret)
-    else None
+    else instr_of_words name operands
 
 abbrev pub head_at : {A : Type 0} → List A → Option (A × List A)
 head_at [] = None

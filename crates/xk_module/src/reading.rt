@@ -4,7 +4,7 @@ ghost use Rattle.std.specs.Prelude.{◌≡◌, ◌⊎◌, IsErrOf, List, Option,
 ghost use Rattle.serde_json.specs.Data.{Data};
 ghost use Rattle.serde_json.specs.View.{view};
 ghost use Rattle.xk_types.specs.Code.{module_of};
-ghost use Rattle.xk_module.specs.Named.{Gives, views, each, none_at, one_at, two_at, three_at, lit_at, comparison_at, unless_at, for_at, run_at, instr_of, kind_at, param_at, params_at, version_at, module_at};
+ghost use Rattle.xk_module.specs.Named.{Gives, views, each, none_at, one_at, two_at, three_at, lit_at, comparison_at, unless_at, for_at, run_at, instr_of, instr_of_words, instr_of_word, kind_at, param_at, params_at, version_at, module_at};
 
 use crate::fault::Refusal;
 use crate::json::{array, end, field, long, object, text, word};
@@ -102,27 +102,49 @@ fn instr(alloc: Global, name: &str, operands: &[Value]) -> Result<Instr, Refusal
 {
     match name {
         "lit" => slot_and_number(operands).map(|(d, n)| Instr::Lit { d, n }),
+        "unless" => compared_slots(operands).map(|(op, a, b, t)| Instr::Unless { op, a, b, t }),
+        "for" => slot_and_bounds(operands).map(|(k, lo, hi, e)| Instr::For { k, lo, hi, e }),
+        "call" => unit_and_args(alloc, operands).map(|(unit, args)| Instr::Call { unit, args }),
+        "spawn" => unit_and_args(alloc, operands).map(|(unit, args)| Instr::Spawn { unit, args }),
+        "advance" => no_operand(operands).map(|()| Instr::Advance),
+        "ret" => no_operand(operands).map(|()| Instr::Ret),
+        _ => instr_of_words(name, operands),
+    }
+}
+
+/// The instruction of this name with two or three operands that are all slots or shared numbers, or with one operand.
+#[tactic(auto, unfolding(crate::specs::Named::instr_of_words))]
+fn instr_of_words(name: &str, operands: &[Value]) -> Result<Instr, Refusal>
+    ensures given { Gives (λ x. x) result (instr_of_words name.now (views operands.now)) }
+    ensures no_memory { ¬ IsErrOf result Refusal.Memory }
+{
+    match name {
         "copy" => two_words(operands).map(|(d, a)| Instr::Copy { d, a }),
         "add" => three_slots(operands).map(|(d, a, b)| Instr::Add { d, a, b }),
         "sub" => three_slots(operands).map(|(d, a, b)| Instr::Sub { d, a, b }),
         "mul" => three_slots(operands).map(|(d, a, b)| Instr::Mul { d, a, b }),
-        "unless" => compared_slots(operands).map(|(op, a, b, t)| Instr::Unless { op, a, b, t }),
-        "jump" => one_word(operands).map(Instr::Jump),
-        "for" => slot_and_bounds(operands).map(|(k, lo, hi, e)| Instr::For { k, lo, hi, e }),
-        "next" => one_word(operands).map(Instr::Next),
-        "finish" => one_word(operands).map(Instr::Finish),
-        "endfinish" => one_word(operands).map(Instr::EndFinish),
         "get" => two_words(operands).map(|(d, s)| Instr::Get { d, s }),
         "put" => two_words(operands).map(|(s, a)| Instr::Put { s, a }),
         "addto" => two_words(operands).map(|(s, a)| Instr::AddTo { s, a }),
+        _ => instr_of_word(name, operands),
+    }
+}
+
+/// The instruction of this name with one operand.
+#[tactic(auto, unfolding(crate::specs::Named::instr_of_word))]
+fn instr_of_word(name: &str, operands: &[Value]) -> Result<Instr, Refusal>
+    ensures given { Gives (λ x. x) result (instr_of_word name.now (views operands.now)) }
+    ensures no_memory { ¬ IsErrOf result Refusal.Memory }
+{
+    match name {
+        "jump" => one_word(operands).map(Instr::Jump),
+        "next" => one_word(operands).map(Instr::Next),
+        "finish" => one_word(operands).map(Instr::Finish),
+        "endfinish" => one_word(operands).map(Instr::EndFinish),
         "print" => one_word(operands).map(Instr::Print),
         "make" => one_word(operands).map(Instr::Make),
         "resume" => one_word(operands).map(Instr::Resume),
         "drop" => one_word(operands).map(Instr::Drop),
-        "advance" => no_operand(operands).map(|()| Instr::Advance),
-        "call" => unit_and_args(alloc, operands).map(|(unit, args)| Instr::Call { unit, args }),
-        "spawn" => unit_and_args(alloc, operands).map(|(unit, args)| Instr::Spawn { unit, args }),
-        "ret" => no_operand(operands).map(|()| Instr::Ret),
         _ => Err(Refusal::Unfit),
     }
 }
