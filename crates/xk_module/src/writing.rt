@@ -5,6 +5,7 @@ ghost use Rattle.std.specs.List.{AllByRecursion};
 ghost use Rattle.serde_json.specs.Data.{Data, string};
 ghost use Rattle.serde_json.specs.View.{view};
 ghost use Rattle.serde_json.specs.Written.{compact_text};
+ghost use Rattle.xk_module.specs.Operands.{operand_value};
 ghost use Rattle.xk_module.specs.ModuleText.{word, long, array_of, named, comparison_name, kind_value, letter, module_value, IsWord, IsInRange, IsModuleText};
 
 use serde_json::{Value, json};
@@ -71,6 +72,7 @@ impl Written for i64 {
 }
 
 impl Written for u16 {
+    ghost use Rattle.xk_module.specs.Operands.{operand_value};
     ghost use Rattle.xk_module.specs.ModuleText.{word, IsWord};
 
     ghost value = { word };
@@ -136,33 +138,34 @@ impl Written for Unit {
 fn no_operand(alloc: Global, name: &str) -> Result<Value, AllocError>
     ensures { IfOk result (λ v. view v ≡ named name.now []) }
 {
-    words(alloc, name, &[])
+    operation(alloc, name, &[])
 }
 
 /// An instruction with a slot or a place.
 fn one_word(alloc: Global, name: &str, a: u16) -> Result<Value, AllocError>
     ensures { IfOk result (λ v. view v ≡ named name.now (word a ∷ [])) }
 {
-    words(alloc, name, &[a])
+    operation(alloc, name, &[Operand::Word(a)])
 }
 
 /// An instruction with two slots, or a slot and a shared number.
 fn two_words(alloc: Global, name: &str, a: u16, b: u16) -> Result<Value, AllocError>
     ensures { IfOk result (λ v. view v ≡ named name.now (word a ∷ word b ∷ [])) }
 {
-    words(alloc, name, &[a, b])
+    operation(alloc, name, &[Operand::Word(a), Operand::Word(b)])
 }
 
 fn three_slots(alloc: Global, name: &str, a: u16, b: u16, c: u16) -> Result<Value, AllocError>
     ensures { IfOk result (λ v. view v ≡ named name.now (word a ∷ word b ∷ word c ∷ [])) }
 {
-    words(alloc, name, &[a, b, c])
+    let operands = [Operand::Word(a), Operand::Word(b), Operand::Word(c)];
+    operation(alloc, name, &operands)
 }
 
 fn slot_and_number(alloc: Global, name: &str, d: u16, n: i64) -> Result<Value, AllocError>
     ensures { IfOk result (λ v. view v ≡ named name.now (word d ∷ long n ∷ [])) }
 {
-    json!(in alloc; [name, d, n])
+    operation(alloc, name, &[Operand::Word(d), Operand::Long(n)])
 }
 
 /// An instruction with a comparison, two slots and a place.
@@ -177,7 +180,13 @@ fn compared_slots(
     ensures { IfOk result (λ v. view v ≡
         named name.now (string (comparison_name op) ∷ word a ∷ word b ∷ word t ∷ [])) }
 {
-    json!(in alloc; [name, comparison(op), a, b, t])
+    let operands = [
+        Operand::Comparison(op),
+        Operand::Word(a),
+        Operand::Word(b),
+        Operand::Word(t),
+    ];
+    operation(alloc, name, &operands)
 }
 
 /// An instruction with a slot, two bounds and a place.
@@ -192,17 +201,45 @@ fn slot_and_bounds(
     ensures { IfOk result (λ v. view v ≡
         named name.now (word k ∷ long lo ∷ long hi ∷ word e ∷ [])) }
 {
-    json!(in alloc; [name, k, lo, hi, e])
+    let operands = [
+        Operand::Word(k),
+        Operand::Long(lo),
+        Operand::Long(hi),
+        Operand::Word(e),
+    ];
+    operation(alloc, name, &operands)
 }
 
-/// An instruction with these operands, each of them a slot or a place or the like.
-fn words(alloc: Global, name: &str, operands: &[u16]) -> Result<Value, AllocError>
-    ensures { IfOk result (λ v. view v ≡ named name.now (map word operands.now)) }
+/// An operand that is one value.
+#[derive(Clone, Copy)]
+enum Operand {
+    /// A slot, a shared number or a place.
+    Word(u16),
+    /// A number.
+    Long(i64),
+    /// A comparison.
+    Comparison(Comparison),
+}
+
+/// The value of an operand.
+fn operand_json(alloc: Global, operand: Operand) -> Result<Value, AllocError>
+    ensures { IfOk result (λ v. view v ≡ operand_value operand) }
+{
+    match operand {
+        Operand::Word(n) => Ok(Value::from(n)),
+        Operand::Long(n) => Ok(Value::from(n)),
+        Operand::Comparison(op) => Value::try_from_str(alloc, comparison(op)),
+    }
+}
+
+/// An instruction with these operands.
+fn operation(alloc: Global, name: &str, operands: &[Operand]) -> Result<Value, AllocError>
+    ensures { IfOk result (λ v. view v ≡ named name.now (map operand_value operands.now)) }
 {
     let mut values = Vec::new(alloc);
     values.push(Value::try_from_str(alloc, name)?)?;
     for operand in operands {
-        values.push(Value::from(*operand))?;
+        values.push(operand_json(alloc, *operand)?)?;
     }
     Ok(Value::from(values))
 }
