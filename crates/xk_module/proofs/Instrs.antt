@@ -1,6 +1,5 @@
 -- Instructions: what is read is the value of what it names, and that value is read again.
 use Rattle.std.proofs.Common.{◌≡◌, ℕ, ℤ, cond, List, [], ◌∷◌, map, Option, Some, codes, refl, ap, ◌∙◌, subst}
-use Rattle.std.specs.Bool.{⊤}
 use Rattle.std.specs.List.{AllByRecursion}
 use Rattle.std.specs.Str.{bytes_eq}
 use Rattle.serde_json.specs.Data.{Data, string}
@@ -9,9 +8,9 @@ use Rattle.xk_types.specs.declared.instr.Comparison.TheVariants as comparison
 use Rattle.xk_types.specs.declared.instr.Instr.{Instr}
 use Rattle.xk_types.specs.declared.instr.Instr.TheVariants as instr
 use Rattle.xk_module.specs.ModuleText.{long, word, named, array_of, comparison_name, instr_value, IsWord, IsLong, IsInstrInRange}
-use Rattle.xk_module.specs.Named.{◌>>=◌, word_at, none_at, one_at, two_at, three_at, lit_at, comparison_of, comparison_at, unless_at, for_at, run_at, instr_of, instr_at}
+use Rattle.xk_module.specs.Named.{◌>>=◌, word_at, lit_at, comparison_of, comparison_at, unless_at, for_at, run_at, instr_of, instr_without_args, instr_of_words, instr_of_none, instr_of_one, instr_of_two, instr_of_three, name_and_operands_at, instr_at}
 use Rattle.xk_module.proofs.Lists.{listed-items_of}
-use Rattle.xk_module.proofs.Parts.{bind_some, by_name, word_takes, word_again, long_takes, long_again, array_takes, head_takes, end_takes, str_takes, each_takes, each_again}
+use Rattle.xk_module.proofs.Parts.{bind_some, by_name, word_takes, word_again, long_takes, long_again, array_takes, head_takes, str_takes, each_takes, each_again}
 
 -- ---- shapes of operands
 
@@ -19,80 +18,6 @@ use Rattle.xk_module.proofs.Parts.{bind_some, by_name, word_takes, word_again, l
 pub record IsShape {X : Type 0} (shape : List Data → Option X) (values : X → List Data) (P : X → Type 0) : Type 0 where
   takes : (operands : List Data) (x : X) → shape operands ≡ Some x → (operands ≡ values x) × P x
   again : (x : X) → P x → shape (values x) ≡ Some x
-
-none : IsShape none_at (λ _. []) (λ _. ⊤)
-none = record {
-  takes = λ operands x e. (end_takes operands x e, tt);
-  again = λ x p. refl;
-}
-
-one_takes : (operands : List Data) (x : ℕ) → one_at operands ≡ Some x → (operands ≡ word x ∷ []) × IsWord x
-unfolding one_at
-one_takes (a ∷ []) x e = let t = word_takes a x e in (ap (λ (d : Data). d ∷ []) t.0, t.1)
-one_takes [] x e = absurd cc
-one_takes (a ∷ b ∷ rest) x e = absurd cc
-
-one_again : (x : ℕ) → IsWord x → one_at (word x ∷ []) ≡ Some x
-unfolding one_at
-one_again x p = word_again x p
-
-one : IsShape one_at (λ a. word a ∷ []) IsWord
-one = record { takes = one_takes; again = one_again }
-
-abbrev two_values : ℕ × ℕ → List Data
-two_values x = word x.0 ∷ word x.1 ∷ []
-
-abbrev AreTwoWords : ℕ × ℕ → Type 0
-AreTwoWords x = IsWord x.0 × IsWord x.1
-
-two_takes : (operands : List Data) (x : ℕ × ℕ) → two_at operands ≡ Some x → (operands ≡ two_values x) × AreTwoWords x
-unfolding two_at
-two_takes (a ∷ b ∷ []) x e =
-    let p = bind_some _ _ _ e in
-    let q = bind_some _ _ _ p.2 in
-    let i = word_takes a p.0 p.1 in
-    let j = word_takes b q.0 q.1 in
-    let same : (p.0, q.0) ≡ x = cc in
-    subst (λ (x : ℕ × ℕ). (a ∷ b ∷ [] ≡ two_values x) × AreTwoWords x) same (cc (i.0, j.0), (i.1, j.1))
-two_takes [] x e = absurd cc
-two_takes (a ∷ []) x e = absurd cc
-two_takes (a ∷ b ∷ c ∷ rest) x e = absurd cc
-
-two_again : (x : ℕ × ℕ) → AreTwoWords x → two_at (two_values x) ≡ Some x
-unfolding two_at
-two_again x p = rw (word_again x.0 p.0, word_again x.1 p.1) refl
-
-two : IsShape two_at two_values AreTwoWords
-two = record { takes = two_takes; again = two_again }
-
-abbrev three_values : ℕ × ℕ × ℕ → List Data
-three_values x = word x.0 ∷ word x.1 ∷ word x.2 ∷ []
-
-abbrev AreWords : ℕ × ℕ × ℕ → Type 0
-AreWords x = IsWord x.0 × IsWord x.1 × IsWord x.2
-
-three_takes : (operands : List Data) (x : ℕ × ℕ × ℕ) → three_at operands ≡ Some x → (operands ≡ three_values x) × AreWords x
-unfolding three_at
-three_takes (a ∷ b ∷ c ∷ []) x e =
-    let p = bind_some _ _ _ e in
-    let q = bind_some _ _ _ p.2 in
-    let r = bind_some _ _ _ q.2 in
-    let i = word_takes a p.0 p.1 in
-    let j = word_takes b q.0 q.1 in
-    let k = word_takes c r.0 r.1 in
-    let same : (p.0, q.0, r.0) ≡ x = cc in
-    subst (λ (x : ℕ × ℕ × ℕ). (a ∷ b ∷ c ∷ [] ≡ three_values x) × AreWords x) same (cc (i.0, j.0, k.0), (i.1, j.1, k.1))
-three_takes [] x e = absurd cc
-three_takes (a ∷ []) x e = absurd cc
-three_takes (a ∷ b ∷ []) x e = absurd cc
-three_takes (a ∷ b ∷ c ∷ d ∷ rest) x e = absurd cc
-
-three_again : (x : ℕ × ℕ × ℕ) → AreWords x → three_at (three_values x) ≡ Some x
-unfolding three_at
-three_again x p = rw (word_again x.0 p.0, word_again x.1 p.1, word_again x.2 p.2) refl
-
-three : IsShape three_at three_values AreWords
-three = record { takes = three_takes; again = three_again }
 
 abbrev lit_values : ℕ × ℤ → List Data
 lit_values x = word x.0 ∷ long x.1 ∷ []
@@ -264,72 +189,153 @@ by_shape {shape = shape} {values = values} s key make value name operands others
     let same : make x.0 ≡ i = cc in
     rw (same_name, same_operands) (subst (IsValue key (values x.0)) same (value x.0 taken.1))) there
 
+-- the same where the operands were read before
+by_key : (key : List ℕ) (this : Instr) (operands : List Data) → IsValue key operands this
+    → (name : List ℕ) (others : Option Instr) (i : Instr) → cond (bytes_eq name key) (Some this) others ≡ Some i
+    → (others ≡ Some i → IsValue name operands i) → IsValue name operands i
+by_key key this operands value name others i e there =
+    by_name name key _ _ i (IsValue name operands i) e (λ same_name e.
+    let same : this ≡ i = cc in
+    rw same_name (subst (IsValue key operands) same value)) there
+
+instr_of_none_takes : (name : List ℕ) (i : Instr) → instr_of_none name ≡ Some i → IsValue name [] i
+unfolding instr_of_none
+instr_of_none_takes name i e =
+    by_key (codes "advance") instr.Advance [] (refl, tt) name _ i e (λ e.
+    by_key (codes "ret") instr.Ret [] (refl, tt) name _ i e (λ e.
+    absurd cc))
+
+instr_of_one_takes : (name : List ℕ) (x : ℕ) (i : Instr) → IsWord x → instr_of_one name x ≡ Some i → IsValue name (word x ∷ []) i
+unfolding instr_of_one
+instr_of_one_takes name x i p e =
+    by_key (codes "jump") (instr.Jump x) (word x ∷ []) (refl, p) name _ i e (λ e.
+    by_key (codes "next") (instr.Next x) (word x ∷ []) (refl, p) name _ i e (λ e.
+    by_key (codes "finish") (instr.Finish x) (word x ∷ []) (refl, p) name _ i e (λ e.
+    by_key (codes "endfinish") (instr.EndFinish x) (word x ∷ []) (refl, p) name _ i e (λ e.
+    by_key (codes "print") (instr.Print x) (word x ∷ []) (refl, p) name _ i e (λ e.
+    by_key (codes "make") (instr.Make x) (word x ∷ []) (refl, p) name _ i e (λ e.
+    by_key (codes "resume") (instr.Resume x) (word x ∷ []) (refl, p) name _ i e (λ e.
+    by_key (codes "drop") (instr.Drop x) (word x ∷ []) (refl, p) name _ i e (λ e.
+    absurd cc))))))))
+
+instr_of_two_takes : (name : List ℕ) (x y : ℕ) (i : Instr) → IsWord x × IsWord y → instr_of_two name x y ≡ Some i → IsValue name (word x ∷ word y ∷ []) i
+unfolding instr_of_two
+instr_of_two_takes name x y i p e =
+    by_key (codes "copy") (instr.Copy x y) (word x ∷ word y ∷ []) (refl, p) name _ i e (λ e.
+    by_key (codes "get") (instr.Get x y) (word x ∷ word y ∷ []) (refl, p) name _ i e (λ e.
+    by_key (codes "put") (instr.Put x y) (word x ∷ word y ∷ []) (refl, p) name _ i e (λ e.
+    by_key (codes "addto") (instr.AddTo x y) (word x ∷ word y ∷ []) (refl, p) name _ i e (λ e.
+    absurd cc))))
+
+instr_of_three_takes : (name : List ℕ) (x y z : ℕ) (i : Instr) → IsWord x × IsWord y × IsWord z → instr_of_three name x y z ≡ Some i
+    → IsValue name (word x ∷ word y ∷ word z ∷ []) i
+unfolding instr_of_three
+instr_of_three_takes name x y z i p e =
+    by_key (codes "add") (instr.Add x y z) (word x ∷ word y ∷ word z ∷ []) (refl, p) name _ i e (λ e.
+    by_key (codes "sub") (instr.Sub x y z) (word x ∷ word y ∷ word z ∷ []) (refl, p) name _ i e (λ e.
+    by_key (codes "mul") (instr.Mul x y z) (word x ∷ word y ∷ word z ∷ []) (refl, p) name _ i e (λ e.
+    absurd cc)))
+
+instr_of_words_takes : (name : List ℕ) (operands : List Data) (i : Instr) → instr_of_words name operands ≡ Some i → IsValue name operands i
+unfolding instr_of_words
+instr_of_words_takes name [] i e = instr_of_none_takes name i e
+instr_of_words_takes name (a ∷ []) i e =
+    let p = bind_some _ _ _ e in
+    let j = word_takes a p.0 p.1 in
+    let same : word p.0 ∷ [] ≡ a ∷ [] = cc j.0 in
+    subst (λ (operands : List Data). IsValue name operands i) same (instr_of_one_takes name p.0 i j.1 p.2)
+instr_of_words_takes name (a ∷ b ∷ []) i e =
+    let p = bind_some _ _ _ e in
+    let q = bind_some _ _ _ p.2 in
+    let j = word_takes a p.0 p.1 in
+    let k = word_takes b q.0 q.1 in
+    let same : word p.0 ∷ word q.0 ∷ [] ≡ a ∷ b ∷ [] = cc (j.0, k.0) in
+    subst (λ (operands : List Data). IsValue name operands i) same (instr_of_two_takes name p.0 q.0 i (j.1, k.1) q.2)
+instr_of_words_takes name (a ∷ b ∷ c ∷ []) i e =
+    let p = bind_some _ _ _ e in
+    let q = bind_some _ _ _ p.2 in
+    let r = bind_some _ _ _ q.2 in
+    let j = word_takes a p.0 p.1 in
+    let k = word_takes b q.0 q.1 in
+    let l = word_takes c r.0 r.1 in
+    let same : word p.0 ∷ word q.0 ∷ word r.0 ∷ [] ≡ a ∷ b ∷ c ∷ [] = cc (j.0, k.0, l.0) in
+    subst (λ (operands : List Data). IsValue name operands i) same (instr_of_three_takes name p.0 q.0 r.0 i (j.1, k.1, l.1) r.2)
+instr_of_words_takes name (a ∷ b ∷ c ∷ d ∷ rest) i e = absurd cc
+
+instr_without_args_takes : (name : List ℕ) (operands : List Data) (i : Instr) → instr_without_args name operands ≡ Some i → IsValue name operands i
+unfolding instr_without_args
+instr_without_args_takes name operands i e =
+    by_shape lit (codes "lit") (λ x. instr.Lit x.0 x.1) (λ x p. (refl, p)) name operands _ i e (λ e.
+    by_shape unless (codes "unless") (λ x. instr.Unless x.0 x.1 x.2 x.3) (λ x p. (refl, p)) name operands _ i e (λ e.
+    by_shape counted (codes "for") (λ x. instr.For x.0 x.1 x.2 x.3) (λ x p. (refl, p)) name operands _ i e (λ e.
+    instr_of_words_takes name operands i e)))
+
 instr_of_takes : (name : List ℕ) (operands : List Data) (i : Instr) → instr_of name operands ≡ Some i → IsValue name operands i
 unfolding instr_of
 instr_of_takes name operands i e =
-    by_shape lit (codes "lit") (λ x. instr.Lit x.0 x.1) (λ x p. (refl, p)) name operands _ i e (λ e.
-    by_shape two (codes "copy") (λ x. instr.Copy x.0 x.1) (λ x p. (refl, p)) name operands _ i e (λ e.
-    by_shape three (codes "add") (λ x. instr.Add x.0 x.1 x.2) (λ x p. (refl, p)) name operands _ i e (λ e.
-    by_shape three (codes "sub") (λ x. instr.Sub x.0 x.1 x.2) (λ x p. (refl, p)) name operands _ i e (λ e.
-    by_shape three (codes "mul") (λ x. instr.Mul x.0 x.1 x.2) (λ x p. (refl, p)) name operands _ i e (λ e.
-    by_shape unless (codes "unless") (λ x. instr.Unless x.0 x.1 x.2 x.3) (λ x p. (refl, p)) name operands _ i e (λ e.
-    by_shape one (codes "jump") instr.Jump (λ x p. (refl, p)) name operands _ i e (λ e.
-    by_shape counted (codes "for") (λ x. instr.For x.0 x.1 x.2 x.3) (λ x p. (refl, p)) name operands _ i e (λ e.
-    by_shape one (codes "next") instr.Next (λ x p. (refl, p)) name operands _ i e (λ e.
-    by_shape one (codes "finish") instr.Finish (λ x p. (refl, p)) name operands _ i e (λ e.
-    by_shape one (codes "endfinish") instr.EndFinish (λ x p. (refl, p)) name operands _ i e (λ e.
-    by_shape two (codes "get") (λ x. instr.Get x.0 x.1) (λ x p. (refl, p)) name operands _ i e (λ e.
-    by_shape two (codes "put") (λ x. instr.Put x.0 x.1) (λ x p. (refl, p)) name operands _ i e (λ e.
-    by_shape two (codes "addto") (λ x. instr.AddTo x.0 x.1) (λ x p. (refl, p)) name operands _ i e (λ e.
-    by_shape one (codes "print") instr.Print (λ x p. (refl, p)) name operands _ i e (λ e.
-    by_shape one (codes "make") instr.Make (λ x p. (refl, p)) name operands _ i e (λ e.
-    by_shape one (codes "resume") instr.Resume (λ x p. (refl, p)) name operands _ i e (λ e.
-    by_shape one (codes "drop") instr.Drop (λ x p. (refl, p)) name operands _ i e (λ e.
-    by_shape none (codes "advance") (λ _. instr.Advance) (λ x p. (refl, p)) name operands _ i e (λ e.
     by_shape run (codes "call") (λ x. instr.Call x.0 x.1) (λ x p. (refl, p)) name operands _ i e (λ e.
     by_shape run (codes "spawn") (λ x. instr.Spawn x.0 x.1) (λ x p. (refl, p)) name operands _ i e (λ e.
-    by_shape none (codes "ret") (λ _. instr.Ret) (λ x p. (refl, p)) name operands _ i e (λ e.
-    absurd cc))))))))))))))))))))))
+    instr_without_args_takes name operands i e))
+
+name_and_operands_takes : (d : Data) (x : List ℕ × List Data) → name_and_operands_at d ≡ Some x → d ≡ named x.0 x.1
+unfolding name_and_operands_at
+name_and_operands_takes d x e =
+    let values = bind_some _ _ _ e in
+    let parts = bind_some _ _ _ values.2 in
+    let name = bind_some _ _ _ parts.2 in
+    let same : (name.0, parts.0.1) ≡ x = cc in
+    array_takes d values.0 values.1
+    ∙ ap array_of (head_takes values.0 parts.0 parts.1 ∙ ap (λ (x : Data). x ∷ parts.0.1) (str_takes parts.0.0 name.0 name.1))
+    ∙ ap (λ (x : List ℕ × List Data). named x.0 x.1) same
 
 pub instr_takes : (d : Data) (i : Instr) → instr_at d ≡ Some i → (d ≡ instr_value i) × IsInstrInRange i
 unfolding instr_at
 instr_takes d i e =
-    let values = bind_some _ _ _ e in
-    let parts = bind_some _ _ _ values.2 in
-    let name = bind_some _ _ _ parts.2 in
-    let t = instr_of_takes name.0 parts.0.1 i name.2 in (
-      array_takes d values.0 values.1
-          ∙ ap array_of (head_takes values.0 parts.0 parts.1 ∙ ap (λ (x : Data). x ∷ parts.0.1) (str_takes parts.0.0 name.0 name.1))
-          ∙ t.0,
-      t.1,
-    )
+    let parts = bind_some _ _ _ e in
+    let t = instr_of_takes parts.0.0 parts.0.1 i parts.2 in
+    (name_and_operands_takes d parts.0 parts.1 ∙ t.0, t.1)
 
 instr_of_again : (name : List ℕ) (operands : List Data) (i : Instr) → instr_of name operands ≡ Some i → instr_at (named name operands) ≡ Some i
-unfolding instr_at
+unfolding instr_at name_and_operands_at
 instr_of_again name operands i e = ap (instr_of name) (listed-items_of operands) ∙ e
 
 pub instr_again : (i : Instr) → IsInstrInRange i → instr_at (instr_value i) ≡ Some i
-unfolding instr_of
+unfolding instr_of instr_without_args instr_of_words instr_of_none instr_of_one instr_of_two instr_of_three
 instr_again (instr.Lit d n) p = instr_of_again (codes "lit") (lit_values (d, n)) (instr.Lit d n) (rw (lit_again (d, n) p) refl)
-instr_again (instr.Copy d a) p = instr_of_again (codes "copy") (two_values (d, a)) (instr.Copy d a) (rw (two_again (d, a) p) refl)
-instr_again (instr.Add d a b) p = instr_of_again (codes "add") (three_values (d, a, b)) (instr.Add d a b) (rw (three_again (d, a, b) p) refl)
-instr_again (instr.Sub d a b) p = instr_of_again (codes "sub") (three_values (d, a, b)) (instr.Sub d a b) (rw (three_again (d, a, b) p) refl)
-instr_again (instr.Mul d a b) p = instr_of_again (codes "mul") (three_values (d, a, b)) (instr.Mul d a b) (rw (three_again (d, a, b) p) refl)
+instr_again (instr.Copy d a) p =
+    instr_of_again (codes "copy") (word d ∷ word a ∷ []) (instr.Copy d a) (rw (word_again d p.0, word_again a p.1) refl)
+instr_again (instr.Add d a b) p =
+    instr_of_again (codes "add") (word d ∷ word a ∷ word b ∷ []) (instr.Add d a b) (rw (word_again d p.0, word_again a p.1, word_again b p.2) refl)
+instr_again (instr.Sub d a b) p =
+    instr_of_again (codes "sub") (word d ∷ word a ∷ word b ∷ []) (instr.Sub d a b) (rw (word_again d p.0, word_again a p.1, word_again b p.2) refl)
+instr_again (instr.Mul d a b) p =
+    instr_of_again (codes "mul") (word d ∷ word a ∷ word b ∷ []) (instr.Mul d a b) (rw (word_again d p.0, word_again a p.1, word_again b p.2) refl)
 instr_again (instr.Unless op a b t) p =
     instr_of_again (codes "unless") (unless_values (op, a, b, t)) (instr.Unless op a b t) (rw (unless_again (op, a, b, t) p) refl)
-instr_again (instr.Jump t) p = instr_of_again (codes "jump") (word t ∷ []) (instr.Jump t) (rw (one_again t p) refl)
+instr_again (instr.Jump t) p =
+    instr_of_again (codes "jump") (word t ∷ []) (instr.Jump t) (rw (word_again t p) refl)
 instr_again (instr.For k lo hi e) p =
     instr_of_again (codes "for") (for_values (k, lo, hi, e)) (instr.For k lo hi e) (rw (for_again (k, lo, hi, e) p) refl)
-instr_again (instr.Next b) p = instr_of_again (codes "next") (word b ∷ []) (instr.Next b) (rw (one_again b p) refl)
-instr_again (instr.Finish e) p = instr_of_again (codes "finish") (word e ∷ []) (instr.Finish e) (rw (one_again e p) refl)
-instr_again (instr.EndFinish b) p = instr_of_again (codes "endfinish") (word b ∷ []) (instr.EndFinish b) (rw (one_again b p) refl)
-instr_again (instr.Get d s) p = instr_of_again (codes "get") (two_values (d, s)) (instr.Get d s) (rw (two_again (d, s) p) refl)
-instr_again (instr.Put s a) p = instr_of_again (codes "put") (two_values (s, a)) (instr.Put s a) (rw (two_again (s, a) p) refl)
-instr_again (instr.AddTo s a) p = instr_of_again (codes "addto") (two_values (s, a)) (instr.AddTo s a) (rw (two_again (s, a) p) refl)
-instr_again (instr.Print a) p = instr_of_again (codes "print") (word a ∷ []) (instr.Print a) (rw (one_again a p) refl)
-instr_again (instr.Make k) p = instr_of_again (codes "make") (word k ∷ []) (instr.Make k) (rw (one_again k p) refl)
-instr_again (instr.Resume k) p = instr_of_again (codes "resume") (word k ∷ []) (instr.Resume k) (rw (one_again k p) refl)
-instr_again (instr.Drop k) p = instr_of_again (codes "drop") (word k ∷ []) (instr.Drop k) (rw (one_again k p) refl)
+instr_again (instr.Next b) p =
+    instr_of_again (codes "next") (word b ∷ []) (instr.Next b) (rw (word_again b p) refl)
+instr_again (instr.Finish e) p =
+    instr_of_again (codes "finish") (word e ∷ []) (instr.Finish e) (rw (word_again e p) refl)
+instr_again (instr.EndFinish b) p =
+    instr_of_again (codes "endfinish") (word b ∷ []) (instr.EndFinish b) (rw (word_again b p) refl)
+instr_again (instr.Get d s) p =
+    instr_of_again (codes "get") (word d ∷ word s ∷ []) (instr.Get d s) (rw (word_again d p.0, word_again s p.1) refl)
+instr_again (instr.Put s a) p =
+    instr_of_again (codes "put") (word s ∷ word a ∷ []) (instr.Put s a) (rw (word_again s p.0, word_again a p.1) refl)
+instr_again (instr.AddTo s a) p =
+    instr_of_again (codes "addto") (word s ∷ word a ∷ []) (instr.AddTo s a) (rw (word_again s p.0, word_again a p.1) refl)
+instr_again (instr.Print a) p =
+    instr_of_again (codes "print") (word a ∷ []) (instr.Print a) (rw (word_again a p) refl)
+instr_again (instr.Make k) p =
+    instr_of_again (codes "make") (word k ∷ []) (instr.Make k) (rw (word_again k p) refl)
+instr_again (instr.Resume k) p =
+    instr_of_again (codes "resume") (word k ∷ []) (instr.Resume k) (rw (word_again k p) refl)
+instr_again (instr.Drop k) p =
+    instr_of_again (codes "drop") (word k ∷ []) (instr.Drop k) (rw (word_again k p) refl)
 instr_again instr.Advance p = instr_of_again (codes "advance") [] instr.Advance refl
 instr_again (instr.Call t args) p =
     instr_of_again (codes "call") (run_values (t, args)) (instr.Call t args) (rw (run_again (t, args) p) refl)

@@ -11,7 +11,7 @@ use Rattle.xk_types.specs.declared.unit.ParamKind.{ParamKind}
 use Rattle.xk_types.specs.declared.unit.ParamKind.TheVariants as param_kind
 use Rattle.xk_types.specs.Code.{UnitValue, ModuleValue, module_of}
 use Rattle.xk_module.specs.ModuleText.{long, word, array_of, object_of, instr_value, kind_value, letter, unit_value, module_value, IsLong, IsInstrInRange, IsUnitInRange, IsInRange, Names}
-use Rattle.xk_module.specs.Named.{each, long_at, instr_at, kind_of, kind_at, param_at, params_at, code_at, unit_at, version_at, shared_at, units_at, module_at}
+use Rattle.xk_module.specs.Named.{each, long_at, instr_at, kind_of, kind_at, param_at, params_at, code_at, unit_members_at, unit_at, version_at, shared_at, units_at, module_members_at, module_at}
 use Rattle.xk_module.proofs.Lists.{listed-items_of}
 use Rattle.xk_module.proofs.Parts.{bind_some, by_test, by_name, then, guard_some, number_takes, str_takes, u64_takes, word_takes, word_again, long_takes, long_again, array_takes, object_takes, then_others, end_takes, each_takes, each_again}
 use Rattle.xk_module.proofs.Instrs.{instr_takes, instr_again}
@@ -81,33 +81,40 @@ unit_object code kind params slots = object_of ((codes "code", code) ∷ (codes 
 same_unit : (a a' b b' c c' d d' : Data) → a ≡ a' → b ≡ b' → c ≡ c' → d ≡ d' → unit_object a b c d ≡ unit_object a' b' c' d'
 same_unit a a' b b' c c' d d' p q r s = cc
 
+unit_members_takes : (d : Data) (x : Data × Data × Data × Data) → unit_members_at d ≡ Some x → d ≡ unit_object x.0 x.1 x.2 x.3
+unfolding unit_members_at
+unit_members_takes d x e =
+    then _ _ x _ e (λ members is_members e.
+    then _ _ x _ e (λ code is_code e.
+    then _ _ x _ e (λ kind is_kind e.
+    then _ _ x _ e (λ params is_params e.
+    then _ _ x _ e (λ slots is_slots e.
+    then _ _ x _ e (λ end is_end e.
+    let listed = then_others _ members code _ is_code (then_others _ code.1 kind _ is_kind (then_others _ kind.1 params _ is_params
+    (then_others _ params.1 slots _ is_slots (end_takes slots.1 end is_end)))) in
+    let same : (code.0, kind.0, params.0, slots.0) ≡ x = cc in
+    object_takes d members is_members ∙ ap object_of listed ∙ ap (λ (x : Data × Data × Data × Data). unit_object x.0 x.1 x.2 x.3) same))))))
+
 unit_takes : (d : Data) (u : UnitValue) → unit_at d ≡ Some u → (d ≡ unit_value u) × IsUnitInRange u
 unfolding unit_at
 unit_takes d u e =
     then _ _ u _ e (λ members is_members e.
-    then _ _ u _ e (λ code is_code e.
     then _ _ u _ e (λ kind is_kind e.
-    then _ _ u _ e (λ params is_params e.
     then _ _ u _ e (λ slots is_slots e.
-    then _ _ u _ e (λ end is_end e.
-    let listed = then_others _ members code _ is_code (then_others _ code.1 kind _ is_kind (then_others _ kind.1 params _ is_params
-    (then_others _ params.1 slots _ is_slots (end_takes slots.1 end is_end)))) in
-    let whole : d ≡ unit_object code.0 kind.0 params.0 slots.0 = object_takes d members is_members ∙ ap object_of listed in
-    then _ _ u _ e (λ code_value is_code e.
-    then _ _ u _ e (λ kind_value is_kind e.
-    then _ _ u _ e (λ params_value is_params e.
-    then _ _ u _ e (λ slots_value is_slots e.
-    let of_code = code_takes code.0 code_value is_code in
-    let of_kind = kind_takes kind.0 kind_value is_kind in
-    let of_params = params_takes params.0 params_value is_params in
-    let of_slots = word_takes slots.0 slots_value is_slots in
-    let made : UnitValue = record { kind = kind_value; params = params_value; slots = slots_value; code = code_value } in
+    then _ _ u _ e (λ params is_params e.
+    then _ _ u _ e (λ code is_code e.
+    let whole = unit_members_takes d members is_members in
+    let of_code = code_takes members.0 code is_code in
+    let of_kind = kind_takes members.1 kind is_kind in
+    let of_params = params_takes members.2 params is_params in
+    let of_slots = word_takes members.3 slots is_slots in
+    let made : UnitValue = record { kind = kind; params = params; slots = slots; code = code } in
     let same : made ≡ u = cc in
     subst (λ (u : UnitValue). (d ≡ unit_value u) × IsUnitInRange u) same
-    (whole ∙ same_unit _ _ _ _ _ _ _ _ of_code.0 of_kind of_params of_slots.0, record { slots = of_slots.1; code = of_code.1 })))))))))))
+    (whole ∙ same_unit _ _ _ _ _ _ _ _ of_code.0 of_kind of_params of_slots.0, record { slots = of_slots.1; code = of_code.1 }))))))
 
 unit_again : (u : UnitValue) → IsUnitInRange u → unit_at (unit_value u) ≡ Some u
-unfolding unit_at
+unfolding unit_at unit_members_at
 unit_again u p = rw (code_again u.code p.code, kind_again u.kind, params_again u.params, word_again u.slots p.slots) refl
 
 -- ---- modules
@@ -153,6 +160,21 @@ module_object shared units version = object_of ((codes "shared", shared) ∷ (co
 same_module : (a a' b b' c c' : Data) → a ≡ a' → b ≡ b' → c ≡ c' → module_object a b c ≡ module_object a' b' c'
 same_module a a' b b' c c' p q r = cc
 
+module_members_takes : (d : Data) (x : Data × Data) → module_members_at d ≡ Some x → d ≡ module_object x.0 x.1 (word 1)
+unfolding module_members_at
+module_members_takes d x e =
+    then _ _ x _ e (λ members is_members e.
+    then _ _ x _ e (λ shared is_shared e.
+    then _ _ x _ e (λ units is_units e.
+    then _ _ x _ e (λ version is_version e.
+    then _ _ x _ e (λ end is_end e.
+    then _ _ x _ e (λ number is_number e.
+    let listed = then_others _ members shared _ is_shared (then_others _ shared.1 units _ is_units (then_others _ units.1 version _ is_version (end_takes version.1 end is_end))) in
+    let same : (shared.0, units.0) ≡ x = cc in
+    object_takes d members is_members ∙ ap object_of listed
+    ∙ ap (module_object shared.0 units.0) (version_takes version.0 number is_number)
+    ∙ ap (λ (x : Data × Data). module_object x.0 x.1 (word 1)) same))))))
+
 -- what is read is named
 pub module_takes : (d : Data) (m : ModuleValue) → module_at d ≡ Some m → Names d m
 unfolding module_at
@@ -160,24 +182,16 @@ module_takes d m e =
     then _ _ m _ e (λ members is_members e.
     then _ _ m _ e (λ shared is_shared e.
     then _ _ m _ e (λ units is_units e.
-    then _ _ m _ e (λ version is_version e.
-    then _ _ m _ e (λ end is_end e.
-    let listed = then_others _ members shared _ is_shared (then_others _ shared.1 units _ is_units (then_others _ units.1 version _ is_version (end_takes version.1 end is_end))) in
-    let whole : d ≡ module_object shared.0 units.0 version.0 = object_takes d members is_members ∙ ap object_of listed in
-    then _ _ m _ e (λ number is_number e.
-    then _ _ m _ e (λ shared_value is_shared e.
-    then _ _ m _ e (λ units_value is_units e.
-    let of_shared = shared_takes shared.0 shared_value is_shared in
-    let of_units = units_takes units.0 units_value is_units in
-    let of_version = version_takes version.0 number is_number in
-    let same : module_of shared_value units_value ≡ m = cc in
+    let of_shared = shared_takes members.0 shared is_shared in
+    let of_units = units_takes members.1 units is_units in
+    let same : module_of shared units ≡ m = cc in
     subst (Names d) same (record {
-      value = whole ∙ same_module _ _ _ _ _ _ of_shared.0 of_units.0 of_version;
+      value = module_members_takes d members is_members ∙ same_module _ _ _ _ _ _ of_shared.0 of_units.0 refl;
       range = record { shared = of_shared.1; units = of_units.1 };
-    })))))))))
+    }))))
 
 value_again : (m : ModuleValue) → IsInRange m → module_at (module_value m) ≡ Some m
-unfolding module_at
+unfolding module_at module_members_at
 value_again m p = rw (version_again, shared_again m.shared p.shared, units_again m.units p.units) refl
 
 -- what is named is read

@@ -1,3 +1,4 @@
 pub mod Faults
 pub mod ModuleText
 pub mod Named
+pub mod Operands

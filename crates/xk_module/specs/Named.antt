@@ -90,33 +90,13 @@ each f (x ∷ xs) = do
   ys ← each f xs
   Some (y ∷ ys)
 
+-- each element of an array
+abbrev pub elements_at : {A : Type 0} → (Data → Option A) → Data → Option (List A)
+elements_at f d = do
+  values ← array_at d
+  each f values
+
 -- ---- instructions
-
--- no operand
-abbrev pub none_at : List Data → Option ⊤
-none_at operands = end_at operands
-
--- one slot, or one place
-unfoldable pub one_at : List Data → Option ℕ
-one_at (a ∷ []) = word_at a
-one_at _ = None
-
--- two slots
-unfoldable pub two_at : List Data → Option (ℕ × ℕ)
-two_at (a ∷ b ∷ []) = do
-  x ← word_at a
-  y ← word_at b
-  Some (x, y)
-two_at _ = None
-
--- three slots
-unfoldable pub three_at : List Data → Option (ℕ × ℕ × ℕ)
-three_at (a ∷ b ∷ c ∷ []) = do
-  x ← word_at a
-  y ← word_at b
-  z ← word_at c
-  Some (x, y, z)
-three_at _ = None
 
 -- a slot and a number
 unfoldable pub lit_at : List Data → Option (ℕ × ℤ)
@@ -170,43 +150,90 @@ run_at (a ∷ b ∷ []) = do
   Some (t, args)
 run_at _ = None
 
+-- the instruction of this name that has no operand
+unfoldable pub instr_of_none : List ℕ → Option Instr
+instr_of_none name =
+    if bytes_eq name (codes "advance") then Some instr.Advance
+    else if bytes_eq name (codes "ret") then Some instr.Ret
+    else None
+
+-- the instruction of this name with this slot or place
+unfoldable pub instr_of_one : List ℕ → ℕ → Option Instr
+instr_of_one name x =
+    if bytes_eq name (codes "jump") then Some (instr.Jump x)
+    else if bytes_eq name (codes "next") then Some (instr.Next x)
+    else if bytes_eq name (codes "finish") then Some (instr.Finish x)
+    else if bytes_eq name (codes "endfinish") then Some (instr.EndFinish x)
+    else if bytes_eq name (codes "print") then Some (instr.Print x)
+    else if bytes_eq name (codes "make") then Some (instr.Make x)
+    else if bytes_eq name (codes "resume") then Some (instr.Resume x)
+    else if bytes_eq name (codes "drop") then Some (instr.Drop x)
+    else None
+
+-- the instruction of this name with these two slots, or with a slot and a shared number
+unfoldable pub instr_of_two : List ℕ → ℕ → ℕ → Option Instr
+instr_of_two name x y =
+    if bytes_eq name (codes "copy") then Some (instr.Copy x y)
+    else if bytes_eq name (codes "get") then Some (instr.Get x y)
+    else if bytes_eq name (codes "put") then Some (instr.Put x y)
+    else if bytes_eq name (codes "addto") then Some (instr.AddTo x y)
+    else None
+
+-- the instruction of this name with these slots
+unfoldable pub instr_of_three : List ℕ → ℕ → ℕ → ℕ → Option Instr
+instr_of_three name x y z =
+    if bytes_eq name (codes "add") then Some (instr.Add x y z)
+    else if bytes_eq name (codes "sub") then Some (instr.Sub x y z)
+    else if bytes_eq name (codes "mul") then Some (instr.Mul x y z)
+    else None
+
+-- the instruction of this name whose operands are all slots, shared numbers or places
+unfoldable pub instr_of_words : List ℕ → List Data → Option Instr
+instr_of_words name [] = instr_of_none name
+instr_of_words name (a ∷ []) = do
+  x ← word_at a
+  instr_of_one name x
+instr_of_words name (a ∷ b ∷ []) = do
+  x ← word_at a
+  y ← word_at b
+  instr_of_two name x y
+instr_of_words name (a ∷ b ∷ c ∷ []) = do
+  x ← word_at a
+  y ← word_at b
+  z ← word_at c
+  instr_of_three name x y z
+instr_of_words _ _ = None
+
+-- the instruction of this name with these operands, where it runs no unit
+unfoldable pub instr_without_args : List ℕ → List Data → Option Instr
+instr_without_args name operands =
+    if bytes_eq name (codes "lit") then (lit_at operands >>= λ x. Some (instr.Lit x.0 x.1))
+    else if bytes_eq name (codes "unless") then (unless_at operands >>= λ x. Some (instr.Unless x.0 x.1 x.2 x.3))
+    else if bytes_eq name (codes "for") then (for_at operands >>= λ x. Some (instr.For x.0 x.1 x.2 x.3))
+    else instr_of_words name operands
+
 -- the instruction of this name with these operands
 unfoldable pub instr_of : List ℕ → List Data → Option Instr
 instr_of name operands =
-    if bytes_eq name (codes "lit") then (lit_at operands >>= λ x. Some (instr.Lit x.0 x.1))
-    else if bytes_eq name (codes "copy") then (two_at operands >>= λ x. Some (instr.Copy x.0 x.1))
-    else if bytes_eq name (codes "add") then (three_at operands >>= λ x. Some (instr.Add x.0 x.1 x.2))
-    else if bytes_eq name (codes "sub") then (three_at operands >>= λ x. Some (instr.Sub x.0 x.1 x.2))
-    else if bytes_eq name (codes "mul") then (three_at operands >>= λ x. Some (instr.Mul x.0 x.1 x.2))
-    else if bytes_eq name (codes "unless") then (unless_at operands >>= λ x. Some (instr.Unless x.0 x.1 x.2 x.3))
-    else if bytes_eq name (codes "jump") then (one_at operands >>= λ t. Some (instr.Jump t))
-    else if bytes_eq name (codes "for") then (for_at operands >>= λ x. Some (instr.For x.0 x.1 x.2 x.3))
-    else if bytes_eq name (codes "next") then (one_at operands >>= λ b. Some (instr.Next b))
-    else if bytes_eq name (codes "finish") then (one_at operands >>= λ e. Some (instr.Finish e))
-    else if bytes_eq name (codes "endfinish") then (one_at operands >>= λ b. Some (instr.EndFinish b))
-    else if bytes_eq name (codes "get") then (two_at operands >>= λ x. Some (instr.Get x.0 x.1))
-    else if bytes_eq name (codes "put") then (two_at operands >>= λ x. Some (instr.Put x.0 x.1))
-    else if bytes_eq name (codes "addto") then (two_at operands >>= λ x. Some (instr.AddTo x.0 x.1))
-    else if bytes_eq name (codes "print") then (one_at operands >>= λ a. Some (instr.Print a))
-    else if bytes_eq name (codes "make") then (one_at operands >>= λ k. Some (instr.Make k))
-    else if bytes_eq name (codes "resume") then (one_at operands >>= λ k. Some (instr.Resume k))
-    else if bytes_eq name (codes "drop") then (one_at operands >>= λ k. Some (instr.Drop k))
-    else if bytes_eq name (codes "advance") then (none_at operands >>= λ _. Some instr.Advance)
-    else if bytes_eq name (codes "call") then (run_at operands >>= λ x. Some (instr.Call x.0 x.1))
+    if bytes_eq name (codes "call") then (run_at operands >>= λ x. Some (instr.Call x.0 x.1))
     else if bytes_eq name (codes "spawn") then (run_at operands >>= λ x. Some (instr.Spawn x.0 x.1))
-    else if bytes_eq name (codes "ret") then (none_at operands >>= λ _. Some instr.Ret)
-    else None
+    else instr_without_args name operands
 
 abbrev pub head_at : {A : Type 0} → List A → Option (A × List A)
 head_at [] = None
 head_at (x ∷ xs) = Some (x, xs)
 
-unfoldable pub instr_at : Data → Option Instr
-instr_at d = do
+unfoldable pub name_and_operands_at : Data → Option (List ℕ × List Data)
+name_and_operands_at d = do
   values ← array_at d
   parts ← head_at values
   name ← as_str parts.0
-  instr_of name parts.1
+  Some (name, parts.1)
+
+unfoldable pub instr_at : Data → Option Instr
+instr_at d = do
+  parts ← name_and_operands_at d
+  instr_of parts.0 parts.1
 
 -- ---- units and modules
 
@@ -231,23 +258,27 @@ params_at d = do
   each param_at letters
 
 unfoldable pub code_at : Data → Option (List Instr)
-code_at d = do
-  values ← array_at d
-  each instr_at values
+code_at d = elements_at instr_at d
 
-unfoldable pub unit_at : Data → Option UnitValue
-unit_at d = do
+-- the values of the members of a unit, in the order of their keys
+unfoldable pub unit_members_at : Data → Option (Data × Data × Data × Data)
+unit_members_at d = do
   members ← object_at d
   code ← field_at (codes "code") members
   kind ← field_at (codes "kind") code.1
   params ← field_at (codes "params") kind.1
   slots ← field_at (codes "slots") params.1
   _ ← end_at slots.1
-  code_value ← code_at code.0
-  kind_value ← kind_at kind.0
-  params_value ← params_at params.0
-  slots_value ← word_at slots.0
-  Some (record { kind = kind_value; params = params_value; slots = slots_value; code = code_value })
+  Some (code.0, kind.0, params.0, slots.0)
+
+unfoldable pub unit_at : Data → Option UnitValue
+unit_at d = do
+  members ← unit_members_at d
+  kind ← kind_at members.1
+  slots ← word_at members.3
+  params ← params_at members.2
+  code ← code_at members.0
+  Some (record { kind = kind; params = params; slots = slots; code = code })
 
 unfoldable pub version_at : Data → Option ⊤
 version_at d = do
@@ -256,24 +287,26 @@ version_at d = do
   if n == 1 then Some tt else None
 
 unfoldable pub shared_at : Data → Option (List ℤ)
-shared_at d = do
-  values ← array_at d
-  each long_at values
+shared_at d = elements_at long_at d
 
 unfoldable pub units_at : Data → Option (List UnitValue)
-units_at d = do
-  values ← array_at d
-  each unit_at values
+units_at d = elements_at unit_at d
 
--- the module, limits left out
-unfoldable pub module_at : Data → Option ModuleValue
-module_at d = do
+-- the values of the members of a module, but for the version, which is 1
+unfoldable pub module_members_at : Data → Option (Data × Data)
+module_members_at d = do
   members ← object_at d
   shared ← field_at (codes "shared") members
   units ← field_at (codes "units") shared.1
   version ← field_at (codes "version") units.1
   _ ← end_at version.1
   _ ← version_at version.0
-  shared_value ← shared_at shared.0
-  units_value ← units_at units.0
-  Some (module_of shared_value units_value)
+  Some (shared.0, units.0)
+
+-- the module, limits left out
+unfoldable pub module_at : Data → Option ModuleValue
+module_at d = do
+  members ← module_members_at d
+  shared ← shared_at members.0
+  units ← units_at members.1
+  Some (module_of shared units)

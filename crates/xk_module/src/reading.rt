@@ -1,13 +1,13 @@
 //! Reads modules out of JSON values.
 
-ghost use Rattle.std.specs.Prelude.{◌≡◌, ◌⊎◌, IsErrOf, List, Option, codes, length, map};
+ghost use Rattle.std.specs.Prelude.{◌≡◌, ◌⊎◌, IsErrOf, List, Option, codes, length, map, option_map};
 ghost use Rattle.serde_json.specs.Data.{Data};
 ghost use Rattle.serde_json.specs.View.{view};
 ghost use Rattle.xk_types.specs.Code.{module_of};
-ghost use Rattle.xk_module.specs.Named.{Gives, views, each, none_at, one_at, two_at, three_at, lit_at, comparison_at, unless_at, for_at, run_at, instr_of, kind_at, param_at, params_at, version_at, module_at};
+ghost use Rattle.xk_module.specs.Named.{Gives, views, each, elements_at, name_and_operands_at, lit_at, comparison_at, unless_at, for_at, run_at, instr_of, instr_without_args, instr_of_words, instr_of_none, instr_of_one, instr_of_two, instr_of_three, kind_at, param_at, params_at, unit_members_at, version_at, module_members_at, module_at};
 
 use crate::fault::Refusal;
-use crate::json::{array, end, field, long, object, text, word};
+use crate::json::{array, end, field, long, object, word};
 use serde_json::Value;
 use std::alloc::Global;
 use xk_types::{Args, Comparison, Instr, ParamKind, Unit, UnitKind};
@@ -33,13 +33,20 @@ fn all<T: Named>(alloc: Global, values: &[Value]) -> Result<Vec<T>, Refusal>
     Ok(found)
 }
 
+/// Reads each element of an array.
+fn elements<T: Named>(alloc: Global, value: &Value) -> Result<Vec<T>, Refusal>
+    ensures { Gives (λ found. found.items) result (elements_at T.named (view value.now)) }
+{
+    all(alloc, array(value).ok_or(Refusal::Unfit)?)
+}
+
 impl Named for i64 {
     ghost use Rattle.xk_module.specs.Named.{long_at};
 
     ghost named = { long_at };
 
     fn read(_alloc: Global, value: &Value) -> Result<i64, Refusal> {
-        long(value)
+        long(value).ok_or(Refusal::Unfit)
     }
 }
 
@@ -49,7 +56,7 @@ impl Named for u16 {
     ghost named = { word_at };
 
     fn read(_alloc: Global, value: &Value) -> Result<u16, Refusal> {
-        word(value)
+        word(value).ok_or(Refusal::Unfit)
     }
 }
 
@@ -60,10 +67,8 @@ impl Named for Instr {
 
     #[tactic(auto, unfolding(crate::specs::Named::instr_at))]
     fn read(alloc: Global, value: &Value) -> Result<Instr, Refusal> {
-        let Some((name, operands)) = array(value)?.split_first() else {
-            return Err(Refusal::Unfit);
-        };
-        instr(alloc, text(name)?, operands)
+        let (name, operands) = name_and_operands(value).ok_or(Refusal::Unfit)?;
+        instr(alloc, name, operands)
     }
 }
 
@@ -74,16 +79,11 @@ impl Named for Unit {
 
     #[tactic(auto, unfolding(crate::specs::Named::unit_at, crate::specs::Named::code_at))]
     fn read(alloc: Global, value: &Value) -> Result<Unit, Refusal> {
-        let mut members = object(value)?;
-        let code = field(&mut members, "code")?;
-        let kind = field(&mut members, "kind")?;
-        let params = field(&mut members, "params")?;
-        let slots = field(&mut members, "slots")?;
-        end(members)?;
-        let code = all(alloc, array(code)?)?;
-        let kind = unit_kind(kind)?;
+        let (code, kind, params, slots) = unit_members(value).ok_or(Refusal::Unfit)?;
+        let kind = unit_kind(kind).ok_or(Refusal::Unfit)?;
+        let slots = word(slots).ok_or(Refusal::Unfit)?;
         let params = param_kinds(alloc, params)?;
-        let slots = word(slots)?;
+        let code = elements(alloc, code)?;
         Ok(Unit {
             kind,
             params,
@@ -91,6 +91,16 @@ impl Named for Unit {
             code,
         })
     }
+}
+
+/// What an instruction's array has inside.
+#[tactic(auto, unfolding(crate::specs::Named::name_and_operands_at))]
+fn name_and_operands(value: &Value) -> Option<(&str, &[Value])>
+    ensures { option_map (λ parts. (parts.0.now, views parts.1.now)) result ≡
+        name_and_operands_at (view value.now) }
+{
+    let (name, operands) = array(value)?.split_first()?;
+    Some((name.as_str()?, operands))
 }
 
 /// The instruction of this name with these operands.
@@ -101,125 +111,140 @@ fn instr(alloc: Global, name: &str, operands: &[Value]) -> Result<Instr, Refusal
         → (name.now ≡ codes "call") ⊎ (name.now ≡ codes "spawn") }
 {
     match name {
-        "lit" => slot_and_number(operands).map(|(d, n)| Instr::Lit { d, n }),
-        "copy" => two_words(operands).map(|(d, a)| Instr::Copy { d, a }),
-        "add" => three_slots(operands).map(|(d, a, b)| Instr::Add { d, a, b }),
-        "sub" => three_slots(operands).map(|(d, a, b)| Instr::Sub { d, a, b }),
-        "mul" => three_slots(operands).map(|(d, a, b)| Instr::Mul { d, a, b }),
-        "unless" => compared_slots(operands).map(|(op, a, b, t)| Instr::Unless { op, a, b, t }),
-        "jump" => one_word(operands).map(Instr::Jump),
-        "for" => slot_and_bounds(operands).map(|(k, lo, hi, e)| Instr::For { k, lo, hi, e }),
-        "next" => one_word(operands).map(Instr::Next),
-        "finish" => one_word(operands).map(Instr::Finish),
-        "endfinish" => one_word(operands).map(Instr::EndFinish),
-        "get" => two_words(operands).map(|(d, s)| Instr::Get { d, s }),
-        "put" => two_words(operands).map(|(s, a)| Instr::Put { s, a }),
-        "addto" => two_words(operands).map(|(s, a)| Instr::AddTo { s, a }),
-        "print" => one_word(operands).map(Instr::Print),
-        "make" => one_word(operands).map(Instr::Make),
-        "resume" => one_word(operands).map(Instr::Resume),
-        "drop" => one_word(operands).map(Instr::Drop),
-        "advance" => no_operand(operands).map(|()| Instr::Advance),
         "call" => unit_and_args(alloc, operands).map(|(unit, args)| Instr::Call { unit, args }),
         "spawn" => unit_and_args(alloc, operands).map(|(unit, args)| Instr::Spawn { unit, args }),
-        "ret" => no_operand(operands).map(|()| Instr::Ret),
-        _ => Err(Refusal::Unfit),
+        _ => instr_without_args(name, operands).ok_or(Refusal::Unfit),
     }
 }
 
-fn no_operand(operands: &[Value]) -> Result<(), Refusal>
-    ensures given { Gives (λ x. x) result (none_at (views operands.now)) }
-    ensures no_memory { ¬ IsErrOf result Refusal.Memory }
+/// The same of an instruction that runs no unit.
+#[tactic(auto, unfolding(crate::specs::Named::instr_without_args))]
+fn instr_without_args(name: &str, operands: &[Value]) -> Option<Instr>
+    ensures { result ≡ instr_without_args name.now (views operands.now) }
 {
-    match operands {
-        [] => Ok(()),
-        _ => Err(Refusal::Unfit),
+    match name {
+        "lit" => slot_and_number(operands).map(|(d, n)| Instr::Lit { d, n }),
+        "unless" => compared_slots(operands).map(|(op, a, b, t)| Instr::Unless { op, a, b, t }),
+        "for" => slot_and_bounds(operands).map(|(k, lo, hi, e)| Instr::For { k, lo, hi, e }),
+        _ => instr_of_words(name, operands),
     }
 }
 
-/// A slot or a place.
-#[tactic(auto, unfolding(crate::specs::Named::one_at))]
-fn one_word(operands: &[Value]) -> Result<u16, Refusal>
-    ensures given { Gives (λ x. x) result (one_at (views operands.now)) }
-    ensures no_memory { ¬ IsErrOf result Refusal.Memory }
+/// The same of an instruction whose operands are all slots, shared numbers or places.
+#[tactic(auto, unfolding(crate::specs::Named::instr_of_words))]
+fn instr_of_words(name: &str, operands: &[Value]) -> Option<Instr>
+    ensures { result ≡ instr_of_words name.now (views operands.now) }
 {
     match operands {
-        [a] => word(a),
-        _ => Err(Refusal::Unfit),
+        [] => instr_of_none(name),
+        [a] => instr_of_one(name, word(a)?),
+        [a, b] => instr_of_two(name, word(a)?, word(b)?),
+        [a, b, c] => instr_of_three(name, word(a)?, word(b)?, word(c)?),
+        _ => None,
     }
 }
 
-/// Two slots, or a slot and a shared number.
-#[tactic(auto, unfolding(crate::specs::Named::two_at))]
-fn two_words(operands: &[Value]) -> Result<(u16, u16), Refusal>
-    ensures given { Gives (λ x. x) result (two_at (views operands.now)) }
-    ensures no_memory { ¬ IsErrOf result Refusal.Memory }
+/// The instruction of this name that has no operand.
+#[tactic(auto, unfolding(crate::specs::Named::instr_of_none))]
+fn instr_of_none(name: &str) -> Option<Instr>
+    ensures { result ≡ instr_of_none name.now }
 {
-    match operands {
-        [a, b] => Ok((word(a)?, word(b)?)),
-        _ => Err(Refusal::Unfit),
+    match name {
+        "advance" => Some(Instr::Advance),
+        "ret" => Some(Instr::Ret),
+        _ => None,
     }
 }
 
-#[tactic(auto, unfolding(crate::specs::Named::three_at))]
-fn three_slots(operands: &[Value]) -> Result<(u16, u16, u16), Refusal>
-    ensures given { Gives (λ x. x) result (three_at (views operands.now)) }
-    ensures no_memory { ¬ IsErrOf result Refusal.Memory }
+/// The instruction of this name with this slot or place.
+#[tactic(auto, unfolding(crate::specs::Named::instr_of_one))]
+fn instr_of_one(name: &str, x: u16) -> Option<Instr>
+    ensures { result ≡ instr_of_one name.now x }
 {
-    match operands {
-        [a, b, c] => Ok((word(a)?, word(b)?, word(c)?)),
-        _ => Err(Refusal::Unfit),
+    match name {
+        "jump" => Some(Instr::Jump(x)),
+        "next" => Some(Instr::Next(x)),
+        "finish" => Some(Instr::Finish(x)),
+        "endfinish" => Some(Instr::EndFinish(x)),
+        "print" => Some(Instr::Print(x)),
+        "make" => Some(Instr::Make(x)),
+        "resume" => Some(Instr::Resume(x)),
+        "drop" => Some(Instr::Drop(x)),
+        _ => None,
+    }
+}
+
+/// The instruction of this name with these two slots, or with a slot and a shared number.
+#[tactic(auto, unfolding(crate::specs::Named::instr_of_two))]
+fn instr_of_two(name: &str, x: u16, y: u16) -> Option<Instr>
+    ensures { result ≡ instr_of_two name.now x y }
+{
+    match name {
+        "copy" => Some(Instr::Copy { d: x, a: y }),
+        "get" => Some(Instr::Get { d: x, s: y }),
+        "put" => Some(Instr::Put { s: x, a: y }),
+        "addto" => Some(Instr::AddTo { s: x, a: y }),
+        _ => None,
+    }
+}
+
+/// The instruction of this name with these slots.
+#[tactic(auto, unfolding(crate::specs::Named::instr_of_three))]
+fn instr_of_three(name: &str, d: u16, a: u16, b: u16) -> Option<Instr>
+    ensures { result ≡ instr_of_three name.now d a b }
+{
+    match name {
+        "add" => Some(Instr::Add { d, a, b }),
+        "sub" => Some(Instr::Sub { d, a, b }),
+        "mul" => Some(Instr::Mul { d, a, b }),
+        _ => None,
     }
 }
 
 #[tactic(auto, unfolding(crate::specs::Named::lit_at))]
-fn slot_and_number(operands: &[Value]) -> Result<(u16, i64), Refusal>
-    ensures given { Gives (λ x. x) result (lit_at (views operands.now)) }
-    ensures no_memory { ¬ IsErrOf result Refusal.Memory }
+fn slot_and_number(operands: &[Value]) -> Option<(u16, i64)>
+    ensures { result ≡ lit_at (views operands.now) }
 {
     match operands {
-        [d, n] => Ok((word(d)?, long(n)?)),
-        _ => Err(Refusal::Unfit),
+        [d, n] => Some((word(d)?, long(n)?)),
+        _ => None,
     }
 }
 
 #[tactic(auto, unfolding(crate::specs::Named::comparison_at))]
-fn comparison(value: &Value) -> Result<Comparison, Refusal>
-    ensures given { Gives (λ x. x) result (comparison_at (view value.now)) }
-    ensures no_memory { ¬ IsErrOf result Refusal.Memory }
+fn comparison(value: &Value) -> Option<Comparison>
+    ensures { result ≡ comparison_at (view value.now) }
 {
-    match text(value)? {
-        "eq" => Ok(Comparison::Eq),
-        "ne" => Ok(Comparison::Ne),
-        "lt" => Ok(Comparison::Lt),
-        "le" => Ok(Comparison::Le),
-        "gt" => Ok(Comparison::Gt),
-        "ge" => Ok(Comparison::Ge),
-        _ => Err(Refusal::Unfit),
+    match value.as_str()? {
+        "eq" => Some(Comparison::Eq),
+        "ne" => Some(Comparison::Ne),
+        "lt" => Some(Comparison::Lt),
+        "le" => Some(Comparison::Le),
+        "gt" => Some(Comparison::Gt),
+        "ge" => Some(Comparison::Ge),
+        _ => None,
     }
 }
 
 /// A comparison, two slots and a place.
 #[tactic(auto, unfolding(crate::specs::Named::unless_at))]
-fn compared_slots(operands: &[Value]) -> Result<(Comparison, u16, u16, u16), Refusal>
-    ensures given { Gives (λ x. x) result (unless_at (views operands.now)) }
-    ensures no_memory { ¬ IsErrOf result Refusal.Memory }
+fn compared_slots(operands: &[Value]) -> Option<(Comparison, u16, u16, u16)>
+    ensures { result ≡ unless_at (views operands.now) }
 {
     match operands {
-        [op, a, b, t] => Ok((comparison(op)?, word(a)?, word(b)?, word(t)?)),
-        _ => Err(Refusal::Unfit),
+        [op, a, b, t] => Some((comparison(op)?, word(a)?, word(b)?, word(t)?)),
+        _ => None,
     }
 }
 
 /// A slot, two bounds and a place.
 #[tactic(auto, unfolding(crate::specs::Named::for_at))]
-fn slot_and_bounds(operands: &[Value]) -> Result<(u16, i64, i64, u16), Refusal>
-    ensures given { Gives (λ x. x) result (for_at (views operands.now)) }
-    ensures no_memory { ¬ IsErrOf result Refusal.Memory }
+fn slot_and_bounds(operands: &[Value]) -> Option<(u16, i64, i64, u16)>
+    ensures { result ≡ for_at (views operands.now) }
 {
     match operands {
-        [k, lo, hi, e] => Ok((word(k)?, long(lo)?, long(hi)?, word(e)?)),
-        _ => Err(Refusal::Unfit),
+        [k, lo, hi, e] => Some((word(k)?, long(lo)?, long(hi)?, word(e)?)),
+        _ => None,
     }
 }
 
@@ -230,21 +255,23 @@ fn unit_and_args(alloc: Global, operands: &[Value]) -> Result<(u16, Args), Refus
     ensures memory { IsErrOf result Refusal.Memory → length operands.now ≡ 2 }
 {
     match operands {
-        [unit, slots] => Ok((word(unit)?, Args::new(all(alloc, array(slots)?)?))),
+        [unit, slots] => {
+            let unit = word(unit).ok_or(Refusal::Unfit)?;
+            Ok((unit, Args::new(elements(alloc, slots)?)))
+        }
         _ => Err(Refusal::Unfit),
     }
 }
 
 #[tactic(auto, unfolding(crate::specs::Named::kind_at))]
-fn unit_kind(value: &Value) -> Result<UnitKind, Refusal>
-    ensures given { Gives (λ x. x) result (kind_at (view value.now)) }
-    ensures no_memory { ¬ IsErrOf result Refusal.Memory }
+fn unit_kind(value: &Value) -> Option<UnitKind>
+    ensures { result ≡ kind_at (view value.now) }
 {
-    match text(value)? {
-        "main" => Ok(UnitKind::Main),
-        "method" => Ok(UnitKind::Method),
-        "body" => Ok(UnitKind::Body),
-        _ => Err(Refusal::Unfit),
+    match value.as_str()? {
+        "main" => Some(UnitKind::Main),
+        "method" => Some(UnitKind::Method),
+        "body" => Some(UnitKind::Body),
+        _ => None,
     }
 }
 
@@ -253,40 +280,55 @@ fn unit_kind(value: &Value) -> Result<UnitKind, Refusal>
 fn param_kinds(alloc: Global, value: &Value) -> Result<Vec<ParamKind>, Refusal>
     ensures { Gives (λ kinds. kinds.items) result (params_at (view value.now)) }
 {
+    let letters = value.as_str().ok_or(Refusal::Unfit)?;
     let mut kinds = Vec::new(alloc);
-    for letter in text(value)?.as_bytes() {
-        kinds.push(param_kind(*letter)?)?;
+    for letter in letters.as_bytes() {
+        kinds.push(param_kind(*letter).ok_or(Refusal::Unfit)?)?;
     }
     Ok(kinds)
 }
 
-fn param_kind(letter: u8) -> Result<ParamKind, Refusal>
-    ensures given { Gives (λ x. x) result (param_at letter) }
-    ensures no_memory { ¬ IsErrOf result Refusal.Memory }
+fn param_kind(letter: u8) -> Option<ParamKind>
+    ensures { result ≡ param_at letter }
 {
     match letter {
-        b'n' => Ok(ParamKind::Number),
-        b'c' => Ok(ParamKind::Clock),
-        _ => Err(Refusal::Unfit),
+        b'n' => Some(ParamKind::Number),
+        b'c' => Some(ParamKind::Clock),
+        _ => None,
     }
+}
+
+/// The values of a unit's members, in the order of their keys.
+#[tactic(auto, unfolding(crate::specs::Named::unit_members_at))]
+fn unit_members(value: &Value) -> Option<(&Value, &Value, &Value, &Value)>
+    ensures { option_map (λ m. (view m.0.now, view m.1.now, view m.2.now, view m.3.now)) result ≡
+        unit_members_at (view value.now) }
+{
+    let mut members = object(value)?;
+    let code = field(&mut members, "code")?;
+    let kind = field(&mut members, "kind")?;
+    let params = field(&mut members, "params")?;
+    let slots = field(&mut members, "slots")?;
+    end(members)?;
+    Some((code, kind, params, slots))
 }
 
 /// The version is 1.
 #[tactic(auto, unfolding(crate::specs::Named::version_at))]
-fn version(value: &Value) -> Result<(), Refusal>
-    ensures given { Gives (λ x. x) result (version_at (view value.now)) }
-    ensures no_memory { ¬ IsErrOf result Refusal.Memory }
+fn version(value: &Value) -> Option<()>
+    ensures { result ≡ version_at (view value.now) }
 {
     match value.as_u64() {
-        Some(1) => Ok(()),
-        _ => Err(Refusal::Unfit),
+        Some(1) => Some(()),
+        _ => None,
     }
 }
 
-/// The shared numbers and the units of a module.
-#[tactic(auto, unfolding(crate::specs::Named::module_at, crate::specs::Named::shared_at, crate::specs::Named::units_at))]
-pub(crate) fn module(alloc: Global, value: &Value) -> Result<(Vec<i64>, Vec<Unit>), Refusal>
-    ensures { Gives (λ x. module_of x.0.items x.1.items) result (module_at (view value.now)) }
+/// The values of a module's members, but for the version, which is 1.
+#[tactic(auto, unfolding(crate::specs::Named::module_members_at))]
+fn module_members(value: &Value) -> Option<(&Value, &Value)>
+    ensures { option_map (λ m. (view m.0.now, view m.1.now)) result ≡
+        module_members_at (view value.now) }
 {
     let mut members = object(value)?;
     let shared = field(&mut members, "shared")?;
@@ -294,5 +336,14 @@ pub(crate) fn module(alloc: Global, value: &Value) -> Result<(Vec<i64>, Vec<Unit
     let number = field(&mut members, "version")?;
     end(members)?;
     version(number)?;
-    Ok((all(alloc, array(shared)?)?, all(alloc, array(units)?)?))
+    Some((shared, units))
+}
+
+/// The shared numbers and the units of a module.
+#[tactic(auto, unfolding(crate::specs::Named::module_at, crate::specs::Named::shared_at, crate::specs::Named::units_at))]
+pub(crate) fn module(alloc: Global, value: &Value) -> Result<(Vec<i64>, Vec<Unit>), Refusal>
+    ensures { Gives (λ x. module_of x.0.items x.1.items) result (module_at (view value.now)) }
+{
+    let (shared, units) = module_members(value).ok_or(Refusal::Unfit)?;
+    Ok((elements(alloc, shared)?, elements(alloc, units)?))
 }

@@ -5,7 +5,8 @@ ghost use Rattle.std.specs.List.{AllByRecursion};
 ghost use Rattle.serde_json.specs.Data.{Data, string};
 ghost use Rattle.serde_json.specs.View.{view};
 ghost use Rattle.serde_json.specs.Written.{compact_text};
-ghost use Rattle.xk_module.specs.ModuleText.{word, array_of, named, comparison_name, kind_value, letter, module_value, IsWord, IsInRange, IsModuleText};
+ghost use Rattle.xk_module.specs.Operands.{operand_value};
+ghost use Rattle.xk_module.specs.ModuleText.{word, long, array_of, named, comparison_name, kind_value, letter, module_value, IsWord, IsInRange, IsModuleText};
 
 use serde_json::{Value, json};
 use std::alloc::{AllocError, Global};
@@ -71,6 +72,7 @@ impl Written for i64 {
 }
 
 impl Written for u16 {
+    ghost use Rattle.xk_module.specs.Operands.{operand_value};
     ghost use Rattle.xk_module.specs.ModuleText.{word, IsWord};
 
     ghost value = { word };
@@ -91,30 +93,28 @@ impl Written for Instr {
 
     fn json(&self, alloc: Global) -> Result<Value, AllocError> {
         match self {
-            Instr::Lit { d, n } => json!(in alloc; ["lit", *d, *n]),
-            Instr::Copy { d, a } => words(alloc, "copy", &[*d, *a]),
-            Instr::Add { d, a, b } => words(alloc, "add", &[*d, *a, *b]),
-            Instr::Sub { d, a, b } => words(alloc, "sub", &[*d, *a, *b]),
-            Instr::Mul { d, a, b } => words(alloc, "mul", &[*d, *a, *b]),
-            Instr::Unless { op, a, b, t } => {
-                json!(in alloc; ["unless", comparison(*op), *a, *b, *t])
-            }
-            Instr::Jump(t) => words(alloc, "jump", &[*t]),
-            Instr::For { k, lo, hi, e } => json!(in alloc; ["for", *k, *lo, *hi, *e]),
-            Instr::Next(b) => words(alloc, "next", &[*b]),
-            Instr::Finish(e) => words(alloc, "finish", &[*e]),
-            Instr::EndFinish(b) => words(alloc, "endfinish", &[*b]),
-            Instr::Get { d, s } => words(alloc, "get", &[*d, *s]),
-            Instr::Put { s, a } => words(alloc, "put", &[*s, *a]),
-            Instr::AddTo { s, a } => words(alloc, "addto", &[*s, *a]),
-            Instr::Print(a) => words(alloc, "print", &[*a]),
-            Instr::Make(k) => words(alloc, "make", &[*k]),
-            Instr::Resume(k) => words(alloc, "resume", &[*k]),
-            Instr::Drop(k) => words(alloc, "drop", &[*k]),
-            Instr::Advance => words(alloc, "advance", &[]),
+            Instr::Lit { d, n } => slot_and_number(alloc, "lit", *d, *n),
+            Instr::Copy { d, a } => two_words(alloc, "copy", *d, *a),
+            Instr::Add { d, a, b } => three_slots(alloc, "add", *d, *a, *b),
+            Instr::Sub { d, a, b } => three_slots(alloc, "sub", *d, *a, *b),
+            Instr::Mul { d, a, b } => three_slots(alloc, "mul", *d, *a, *b),
+            Instr::Unless { op, a, b, t } => compared_slots(alloc, "unless", *op, *a, *b, *t),
+            Instr::Jump(t) => one_word(alloc, "jump", *t),
+            Instr::For { k, lo, hi, e } => slot_and_bounds(alloc, "for", *k, *lo, *hi, *e),
+            Instr::Next(b) => one_word(alloc, "next", *b),
+            Instr::Finish(e) => one_word(alloc, "finish", *e),
+            Instr::EndFinish(b) => one_word(alloc, "endfinish", *b),
+            Instr::Get { d, s } => two_words(alloc, "get", *d, *s),
+            Instr::Put { s, a } => two_words(alloc, "put", *s, *a),
+            Instr::AddTo { s, a } => two_words(alloc, "addto", *s, *a),
+            Instr::Print(a) => one_word(alloc, "print", *a),
+            Instr::Make(k) => one_word(alloc, "make", *k),
+            Instr::Resume(k) => one_word(alloc, "resume", *k),
+            Instr::Drop(k) => one_word(alloc, "drop", *k),
+            Instr::Advance => no_operand(alloc, "advance"),
             Instr::Call { unit, args } => run(alloc, "call", *unit, args.slots()),
             Instr::Spawn { unit, args } => run(alloc, "spawn", *unit, args.slots()),
-            Instr::Ret => words(alloc, "ret", &[]),
+            Instr::Ret => no_operand(alloc, "ret"),
         }
     }
 }
@@ -134,14 +134,112 @@ impl Written for Unit {
     }
 }
 
-/// An instruction with these operands, each of them a slot or a place or the like.
-fn words(alloc: Global, name: &str, operands: &[u16]) -> Result<Value, AllocError>
-    ensures { IfOk result (λ v. view v ≡ named name.now (map word operands.now)) }
+/// An instruction with no operand.
+fn no_operand(alloc: Global, name: &str) -> Result<Value, AllocError>
+    ensures { IfOk result (λ v. view v ≡ named name.now []) }
+{
+    operation(alloc, name, &[])
+}
+
+/// An instruction with a slot or a place.
+fn one_word(alloc: Global, name: &str, a: u16) -> Result<Value, AllocError>
+    ensures { IfOk result (λ v. view v ≡ named name.now (word a ∷ [])) }
+{
+    operation(alloc, name, &[Operand::Word(a)])
+}
+
+/// An instruction with two slots, or a slot and a shared number.
+fn two_words(alloc: Global, name: &str, a: u16, b: u16) -> Result<Value, AllocError>
+    ensures { IfOk result (λ v. view v ≡ named name.now (word a ∷ word b ∷ [])) }
+{
+    operation(alloc, name, &[Operand::Word(a), Operand::Word(b)])
+}
+
+fn three_slots(alloc: Global, name: &str, a: u16, b: u16, c: u16) -> Result<Value, AllocError>
+    ensures { IfOk result (λ v. view v ≡ named name.now (word a ∷ word b ∷ word c ∷ [])) }
+{
+    let operands = [Operand::Word(a), Operand::Word(b), Operand::Word(c)];
+    operation(alloc, name, &operands)
+}
+
+fn slot_and_number(alloc: Global, name: &str, d: u16, n: i64) -> Result<Value, AllocError>
+    ensures { IfOk result (λ v. view v ≡ named name.now (word d ∷ long n ∷ [])) }
+{
+    operation(alloc, name, &[Operand::Word(d), Operand::Long(n)])
+}
+
+/// An instruction with a comparison, two slots and a place.
+fn compared_slots(
+    alloc: Global,
+    name: &str,
+    op: Comparison,
+    a: u16,
+    b: u16,
+    t: u16,
+) -> Result<Value, AllocError>
+    ensures { IfOk result (λ v. view v ≡
+        named name.now (string (comparison_name op) ∷ word a ∷ word b ∷ word t ∷ [])) }
+{
+    let operands = [
+        Operand::Comparison(op),
+        Operand::Word(a),
+        Operand::Word(b),
+        Operand::Word(t),
+    ];
+    operation(alloc, name, &operands)
+}
+
+/// An instruction with a slot, two bounds and a place.
+fn slot_and_bounds(
+    alloc: Global,
+    name: &str,
+    k: u16,
+    lo: i64,
+    hi: i64,
+    e: u16,
+) -> Result<Value, AllocError>
+    ensures { IfOk result (λ v. view v ≡
+        named name.now (word k ∷ long lo ∷ long hi ∷ word e ∷ [])) }
+{
+    let operands = [
+        Operand::Word(k),
+        Operand::Long(lo),
+        Operand::Long(hi),
+        Operand::Word(e),
+    ];
+    operation(alloc, name, &operands)
+}
+
+/// An operand that is one value.
+#[derive(Clone, Copy)]
+enum Operand {
+    /// A slot, a shared number or a place.
+    Word(u16),
+    /// A number.
+    Long(i64),
+    /// A comparison.
+    Comparison(Comparison),
+}
+
+/// The value of an operand.
+fn operand_json(alloc: Global, operand: Operand) -> Result<Value, AllocError>
+    ensures { IfOk result (λ v. view v ≡ operand_value operand) }
+{
+    match operand {
+        Operand::Word(n) => Ok(Value::from(n)),
+        Operand::Long(n) => Ok(Value::from(n)),
+        Operand::Comparison(op) => Value::try_from_str(alloc, comparison(op)),
+    }
+}
+
+/// An instruction with these operands.
+fn operation(alloc: Global, name: &str, operands: &[Operand]) -> Result<Value, AllocError>
+    ensures { IfOk result (λ v. view v ≡ named name.now (map operand_value operands.now)) }
 {
     let mut values = Vec::new(alloc);
     values.push(Value::try_from_str(alloc, name)?)?;
     for operand in operands {
-        values.push(Value::from(*operand))?;
+        values.push(operand_json(alloc, *operand)?)?;
     }
     Ok(Value::from(values))
 }

@@ -1,6 +1,4 @@
-use Rattle.std.proofs.Common.{◌≡◌, ◌++◌, map, drop}
-use Rattle.std.specs.List.{AllByRecursion}
-use Rattle.xk_module.specs.Named.{views}
+use Rattle.std.proofs.Common.{drop}
 use Rattle.xk_module.proofs.Values.{AreWritten}
 use Rattle.xk_module.proofs.writing.array.Given as goal
 
