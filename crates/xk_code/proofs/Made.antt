@@ -48,6 +48,13 @@ few_all [] h = omega arith
 few_all (i ∷ is) h = let few = All-head (λ i. length (arguments_of i) ≤ 64) i is h in
     let rest = few_all is (All-tail (λ i. length (arguments_of i) ≤ 64) i is h) in omega arith
 
+pub scope_over : (cx : Setting) (kind : UnitKind) (xs : List (List ℕ)) (kinds : List ParamKind) (s : Statement) (n : ℕ) (Names : Type 0) (err : CodeError)
+    → Denies err Names (n ≤ 64) → length xs ≡ n → err ≡ error.Table → IsUnitWithinLimits (unit_of cx kind xs kinds s) → ⊥
+scope_over cx kind xs kinds s n Names err h is table limits =
+    let few = limits.slots in
+    let least = slots_more (length xs + count s) (unit_code cx xs s) in
+    subst (λ e. Denies e Names (n ≤ 64)) table h (omega arith)
+
 pub names_over : (cx : Setting) (kind : UnitKind) (xs : List (List ℕ)) (kinds : List ParamKind) (s : Statement) (n : ℕ) (err : CodeError)
     → Denies err ⊤ (n + count s ≤ 64) → n ≡ length xs → err ≡ error.Table → IsUnitWithinLimits (unit_of cx kind xs kinds s) → ⊥
 names_over cx kind xs kinds s n err h is table limits =

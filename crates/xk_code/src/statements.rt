@@ -3,7 +3,7 @@
 ghost use Rattle.std.specs.Prelude.{◌≡◌, ℕ, ◌+◌, ◌<◌, ◌≤◌, List, [], ◌∷◌, ◌++◌, length, map, option_map, All, unwrap_or, IsSome, OnOk, IfOk, IfErr, ⊤};
 ghost use Rattle.xk_types.specs.declared.instr.Instr.{Instr as Instruction};
 ghost use Rattle.xk_types.specs.declared.instr.Instr.TheVariants as instr;
-ghost use Rattle.xk_tree.specs.Tree.{Statement, Statements, clock_list, word, words, expression, expressions, source, statement, statements};
+ghost use Rattle.xk_tree.specs.Tree.{Statement, Statements, Finish, For, If, clock_list, word, words, expression, expressions, source, statement, statements};
 ghost use Rattle.xk_names.specs.Scope.{Table as Names, find, texts};
 ghost use Rattle.xk_names.specs.Uses.{clocks_listed};
 ghost use Rattle.xk_code.specs.CodeOf.{argument_slots, before_assigned, before_into, body_at, body_params, body_unit, both, code_of, code_of_all, code_of_source, count, count_all, declared, declared_by_all, eval, eval_all, last_assigned, last_value, number_of, second, shared_alone, slot_for, slots_of};
@@ -510,6 +510,158 @@ impl<'a, 't> Emitter<'a, 't> {
         Ok(Test { at, op, x, y })
     }
 
+    /// The code of a declaration, and the slot behind its name, which is visible behind it.
+    fn emit_declared(
+        &self,
+        code: &mut Vec<Instr>,
+        scope: &mut Scope<'t>,
+        n: u16,
+        x: Name<'t>,
+        right: &Right<'t>,
+    ) -> Result<u16, CodeError>
+        ensures code { OnOk result (code.new.items ≡ code.old.items
+            ++ code_of_source self.now.setting.now self.now.free scope.old n (source right.now)) }
+        ensures scope { OnOk result (scope.new ≡ scope.old ++ (x.entry.text.now, n) ∷ []) }
+        ensures slots { IfOk result (λ m. m ≡ n + 1) }
+        ensures refused { IfErr result (λ err. Denies err
+            (IsSourceKnown self.now.setting.now scope.old (source right.now)
+            × IsNew scope.old x.entry.text.now)
+            (HasRoom scope.old (length code.old.items)
+            (code_of_source self.now.setting.now self.now.free scope.old n (source right.now))
+            × (n + 1 ≤ 64))) }
+    {
+        self.emit_source(code, scope, right, n)?;
+        declare(scope, x.text, n)?;
+        after(n)
+    }
+
+    /// The code of a block, and the slot behind those of its names, which end with it.
+    #[cycle(emit)]
+    fn emit_block(
+        &self,
+        code: &mut Vec<Instr>,
+        scope: &mut Scope<'t>,
+        n: u16,
+        ss: &[Stmt<'t>],
+    ) -> Result<u16, CodeError>
+        ensures code { OnOk result (code.new.items ≡ code.old.items
+            ++ code_of_all self.now.setting.now self.now.free scope.old n (length code.old.items)
+            (statements ss.now)) }
+        ensures scope { OnOk result (scope.new ≡ scope.old) }
+        ensures slots { IfOk result (λ m. m ≡ n + count_all (statements ss.now)) }
+        ensures refused { IfErr result (λ err. Denies err
+            (AreCovered self.now.setting.now scope.old n
+            (statements ss.now))
+            (HasRoom scope.old (length code.old.items)
+            (code_of_all self.now.setting.now self.now.free scope.old n (length code.old.items)
+            (statements ss.now))
+            × (n + count_all (statements ss.now) ≤ 64))) }
+    {
+        let visible = scope.len();
+        let m = self.emit_all(code, scope, n, ss)?;
+        cut(scope, visible);
+        Ok(m)
+    }
+
+    /// The code of an `if` without `else`, wherever it stands in the text.
+    #[cycle(emit)]
+    fn emit_if(
+        &self,
+        code: &mut Vec<Instr>,
+        scope: &mut Scope<'t>,
+        n: u16,
+        s: &Stmt<'t>,
+        l: &Expr<'t>,
+        op: Comparison,
+        r: &Expr<'t>,
+    ) -> Result<u16, CodeError>
+        ensures code { OnOk result (code.new.items ≡ code.old.items
+            ++ code_of self.now.setting.now self.now.free scope.old n (length code.old.items)
+            (If 0 (expression l.now) op (expression r.now) (statement s.now))) }
+        ensures scope { OnOk result (scope.new ≡ scope.old) }
+        ensures slots { IfOk result (λ m. m ≡ n + count (statement s.now)) }
+        ensures refused { IfErr result (λ err. Denies err
+            (IsCovered self.now.setting.now scope.old n
+            (If 0 (expression l.now) op (expression r.now) (statement s.now)))
+            (HasRoom scope.old (length code.old.items)
+            (code_of self.now.setting.now self.now.free scope.old n (length code.old.items)
+            (If 0 (expression l.now) op (expression r.now) (statement s.now)))
+            × (n + count (statement s.now) ≤ 64))) }
+    {
+        let visible = scope.len();
+        let test = self.open_test(code, scope, l, op, r)?;
+        let m = self.emit(code, scope, n, s)?;
+        cut(scope, visible);
+        close_test(code, test)?;
+        Ok(m)
+    }
+
+    /// The code of a `for`: none where its bounds leave it no turn.
+    #[cycle(emit)]
+    fn emit_for(
+        &self,
+        code: &mut Vec<Instr>,
+        scope: &mut Scope<'t>,
+        n: u16,
+        i: Name<'t>,
+        lo: Number,
+        hi: Number,
+        s: &Stmt<'t>,
+    ) -> Result<u16, CodeError>
+        ensures code { OnOk result (code.new.items ≡ code.old.items
+            ++ code_of self.now.setting.now self.now.free scope.old n (length code.old.items)
+            (For 0 (word i.entry) lo hi (statement s.now))) }
+        ensures scope { OnOk result (scope.new ≡ scope.old) }
+        ensures slots { IfOk result (λ m. m ≡ n + (count (statement s.now) + 1)) }
+        ensures refused { IfErr result (λ err. Denies err
+            (IsCovered self.now.setting.now scope.old n
+            (For 0 (word i.entry) lo hi (statement s.now)))
+            (HasRoom scope.old (length code.old.items)
+            (code_of self.now.setting.now self.now.free scope.old n (length code.old.items)
+            (For 0 (word i.entry) lo hi (statement s.now)))
+            × (n + (count (statement s.now) + 1) ≤ 64))) }
+    {
+        if lo.value > hi.value {
+            return slots_behind(after(n)?, s);
+        }
+        let visible = scope.len();
+        let (first, inner) = open_loop(code, scope, i, n)?;
+        let m = self.emit(code, scope, inner, s)?;
+        cut(scope, visible);
+        close_loop(code, first, n, lo, hi)?;
+        Ok(m)
+    }
+
+    /// The code of a `finish`.
+    #[cycle(emit)]
+    fn emit_finish(
+        &self,
+        code: &mut Vec<Instr>,
+        scope: &mut Scope<'t>,
+        n: u16,
+        s: &Stmt<'t>,
+    ) -> Result<u16, CodeError>
+        ensures code { OnOk result (code.new.items ≡ code.old.items
+            ++ code_of self.now.setting.now self.now.free scope.old n (length code.old.items)
+            (Finish (statement s.now))) }
+        ensures scope { OnOk result (scope.new ≡ scope.old) }
+        ensures slots { IfOk result (λ m. m ≡ n + count (statement s.now)) }
+        ensures refused { IfErr result (λ err. Denies err
+            (IsCovered self.now.setting.now scope.old n
+            (Finish (statement s.now)))
+            (HasRoom scope.old (length code.old.items)
+            (code_of self.now.setting.now self.now.free scope.old n (length code.old.items)
+            (Finish (statement s.now)))
+            × (n + count (statement s.now) ≤ 64))) }
+    {
+        let visible = scope.len();
+        let first = gap(code)?;
+        let m = self.emit(code, scope, n, s)?;
+        cut(scope, visible);
+        close_finish(code, first)?;
+        Ok(m)
+    }
+
     /// The code of a statement, and the slot behind those of its names. Its names are visible behind it.
     #[cycle(emit)]
     pub(crate) fn emit(
@@ -531,18 +683,9 @@ impl<'a, 't> Emitter<'a, 't> {
             (statement s.now)) × (n + count (statement s.now) ≤ 64))) }
     {
         match s {
-            Stmt::Block(ss) => {
-                let visible = scope.len();
-                let m = self.emit_all(code, scope, n, ss)?;
-                cut(scope, visible);
-                Ok(m)
-            }
+            Stmt::Block(ss) => self.emit_block(code, scope, n, ss),
             Stmt::Empty => Ok(n),
-            Stmt::Declare(_, x, _, right) => {
-                self.emit_source(code, scope, right, n)?;
-                declare(scope, x.text, n)?;
-                after(n)
-            }
+            Stmt::Declare(_, x, _, right) => self.emit_declared(code, scope, n, *x, right),
             Stmt::Assign(x, e) => {
                 self.emit_assigned(code, scope, *x, e)?;
                 Ok(n)
@@ -551,14 +694,7 @@ impl<'a, 't> Emitter<'a, 't> {
                 self.emit_atomic(code, scope, *x, e)?;
                 Ok(n)
             }
-            Stmt::If(_, l, op, r, s) => {
-                let visible = scope.len();
-                let test = self.open_test(code, scope, l, *op, r)?;
-                let m = self.emit(code, scope, n, s)?;
-                cut(scope, visible);
-                close_test(code, test)?;
-                Ok(m)
-            }
+            Stmt::If(_, l, op, r, s) => self.emit_if(code, scope, n, s, l, *op, r),
             Stmt::IfElse(_, l, op, r, s, u) => {
                 let visible = scope.len();
                 let test = self.open_test(code, scope, l, *op, r)?;
@@ -570,29 +706,12 @@ impl<'a, 't> Emitter<'a, 't> {
                 close_else(code, jump)?;
                 Ok(k)
             }
-            Stmt::For(_, i, lo, hi, s) => {
-                if lo.value > hi.value {
-                    return slots_behind(after(n)?, s);
-                }
-                let visible = scope.len();
-                let (first, inner) = open_loop(code, scope, *i, n)?;
-                let m = self.emit(code, scope, inner, s)?;
-                cut(scope, visible);
-                close_loop(code, first, n, *lo, *hi)?;
-                Ok(m)
-            }
+            Stmt::For(_, i, lo, hi, s) => self.emit_for(code, scope, n, *i, *lo, *hi, s),
             Stmt::Async(at, clocks, _) => {
                 self.emit_async(code, scope, *at, clocks)?;
                 Ok(n)
             }
-            Stmt::Finish(s) => {
-                let visible = scope.len();
-                let first = gap(code)?;
-                let m = self.emit(code, scope, n, s)?;
-                cut(scope, visible);
-                close_finish(code, first)?;
-                Ok(m)
-            }
+            Stmt::Finish(s) => self.emit_finish(code, scope, n, s),
             Stmt::Call(f, _, es) => {
                 self.emit_call(code, scope, *f, es)?;
                 Ok(n)

@@ -1,15 +1,15 @@
 //! The units of methods and of the bodies of `async`.
 
-ghost use Rattle.std.specs.Prelude.{◌≡◌, ◌++◌, [], ◌∷◌, length, map, max, option_map, ◌≤◌, IsSome, OnOk, IfOk, IfErr, ⊤};
+ghost use Rattle.std.specs.Prelude.{◌≡◌, ◌++◌, [], ◌∷◌, length, map, max, option_map, ◌+◌, ◌≤◌, IsSome, OnOk, IfOk, IfErr, ⊤};
 ghost use Rattle.xk_types.specs.declared.instr.Instr.TheVariants as instr;
 ghost use Rattle.xk_types.specs.Code.{IsUnitWithinLimits};
-ghost use Rattle.xk_tree.specs.Tree.{Block, clock_list, method_value, param_value, statement, words};
+ghost use Rattle.xk_tree.specs.Tree.{Block, clock_list, method_value, param_value, statement, statements, words};
 ghost use Rattle.xk_names.specs.Scope.{texts};
 ghost use Rattle.xk_names.specs.Uses.{clocks_listed};
-ghost use Rattle.xk_code.specs.Unit.{body_kinds, kinds_of_params, names_of_params, scope_from, slots_used, unit_of_body, unit_of_method, written_slots};
-ghost use Rattle.xk_code.specs.CodeOf.{body_at, body_params};
-ghost use Rattle.xk_code.specs.Covered.{AreNew, IsUnitCovered};
-ghost use Rattle.xk_code.specs.Room.{Denies};
+ghost use Rattle.xk_code.specs.Unit.{body_kinds, kinds_of_params, names_of_params, scope_from, slots_used, unit_of, unit_of_body, unit_of_method, written_slots};
+ghost use Rattle.xk_code.specs.CodeOf.{body_at, body_params, code_of, code_of_all, count, count_all};
+ghost use Rattle.xk_code.specs.Covered.{AreCovered, AreNew, IsCovered, IsUnitCovered};
+ghost use Rattle.xk_code.specs.Room.{Denies, HasRoom};
 ghost use Rattle.xk_code.specs.declared.error.CodeError.TheVariants as error;
 
 use crate::error::CodeError;
@@ -23,7 +23,6 @@ use xk_types::{Instr, MAX_SLOTS, ParamKind, Unit, UnitKind};
 
 /// The unit of a method, or of `main`. It has none where a name that its code needs is unknown, or one that it declares is known
 /// already; nor where its unit would go beyond a limit.
-#[tactic(auto, using(crate::proofs::Made::unit_made))]
 pub fn method_unit<'t>(
     alloc: Global,
     setting: &Setting<'t>,
@@ -40,22 +39,12 @@ pub fn method_unit<'t>(
         → IsUnitWithinLimits (unit_of_method setting.now kind (method_value method.now)) → ⊥) }
 {
     let names = param_names(alloc, &method.params)?;
-    let (mut scope, n) = param_scope(alloc, &names)?;
-    let free = slots_behind_all(n, &method.body)?;
-    let emitter = Emitter {
-        alloc,
-        setting,
-        free,
-    };
-    let mut code = Vec::new(alloc);
-    emitter.emit_all(&mut code, &mut scope, n, &method.body)?;
-    let unit = unit(kind, param_kinds(alloc, &method.params)?, free, code)?;
-    Ok(unit)
+    let kinds = param_kinds(alloc, &method.params)?;
+    block_unit(alloc, setting, kind, &names, kinds, &method.body)
 }
 
 /// The unit of the body of an `async`, whose word stands at offset `at`, and which is given these clocks; or why it has none, as of
 /// a method.
-#[tactic(auto, using(crate::proofs::Made::unit_made))]
 pub fn body_unit<'t>(
     alloc: Global,
     setting: &Setting<'t>,
@@ -73,18 +62,112 @@ pub fn body_unit<'t>(
         (unit_of_body setting.now at (option_map clock_list clocks.now) (statement s.now)) → ⊥) }
 {
     let names = body_names(alloc, setting, at, clocks)?;
-    let (mut scope, n) = param_scope(alloc, &names)?;
+    let kinds = body_kinds(alloc, setting, at, clocks)?;
+    stmt_unit(alloc, setting, UnitKind::Body, &names, kinds, s)
+}
+
+/// The unit of a block, with the names of its parameters and what they take.
+#[tactic(auto, using(crate::proofs::Made::unit_made))]
+fn block_unit<'t>(
+    alloc: Global,
+    setting: &Setting<'t>,
+    kind: UnitKind,
+    names: &[&'t [u8]],
+    kinds: Vec<ParamKind>,
+    body: &[Stmt<'t>],
+) -> Result<Unit, CodeError>
+    ensures made { IfOk result (λ unit. unit ≡ unit_of setting.now kind
+        (map (λ x. x.now) names.now) kinds.items (Block (statements body.now))) }
+    ensures limits { IfOk result IsUnitWithinLimits }
+    ensures name { IfErr result (λ e. e ≡ error.Name → IsUnitCovered setting.now
+        (map (λ x. x.now) names.now) (Block (statements body.now)) → ⊥) }
+    ensures table { IfErr result (λ e. e ≡ error.Table
+        → IsUnitWithinLimits (unit_of setting.now kind (map (λ x. x.now) names.now)
+        kinds.items (Block (statements body.now))) → ⊥) }
+{
+    let (mut scope, n) = param_scope(alloc, names)?;
+    let free = slots_behind_all(n, body)?;
+    let code = block_code(alloc, setting, free, &mut scope, n, body)?;
+    let unit = unit(kind, kinds, free, code)?;
+    Ok(unit)
+}
+
+/// The same of a statement.
+#[tactic(auto, using(crate::proofs::Made::unit_made))]
+fn stmt_unit<'t>(
+    alloc: Global,
+    setting: &Setting<'t>,
+    kind: UnitKind,
+    names: &[&'t [u8]],
+    kinds: Vec<ParamKind>,
+    s: &Stmt<'t>,
+) -> Result<Unit, CodeError>
+    ensures made { IfOk result (λ unit. unit ≡ unit_of setting.now kind
+        (map (λ x. x.now) names.now) kinds.items (statement s.now)) }
+    ensures limits { IfOk result IsUnitWithinLimits }
+    ensures name { IfErr result (λ e. e ≡ error.Name → IsUnitCovered setting.now
+        (map (λ x. x.now) names.now) (statement s.now) → ⊥) }
+    ensures table { IfErr result (λ e. e ≡ error.Table
+        → IsUnitWithinLimits (unit_of setting.now kind (map (λ x. x.now) names.now)
+        kinds.items (statement s.now)) → ⊥) }
+{
+    let (mut scope, n) = param_scope(alloc, names)?;
     let free = slots_behind(n, s)?;
+    let code = stmt_code(alloc, setting, free, &mut scope, n, s)?;
+    let unit = unit(kind, kinds, free, code)?;
+    Ok(unit)
+}
+
+/// The code of a block, where `free` is the first temporary and `n` the next slot.
+fn block_code<'t>(
+    alloc: Global,
+    setting: &Setting<'t>,
+    free: u16,
+    scope: &mut Scope<'t>,
+    n: u16,
+    body: &[Stmt<'t>],
+) -> Result<Vec<Instr>, CodeError>
+    ensures code { IfOk result (λ code. code.items
+        ≡ code_of_all setting.now free scope.old n 0 (statements body.now)) }
+    ensures refused { IfErr result (λ e. Denies e
+        (AreCovered setting.now scope.old n (statements body.now))
+        (HasRoom scope.old 0 (code_of_all setting.now free scope.old n 0 (statements body.now))
+        × (n + count_all (statements body.now) ≤ 64))) }
+{
     let emitter = Emitter {
         alloc,
         setting,
         free,
     };
     let mut code = Vec::new(alloc);
-    emitter.emit(&mut code, &mut scope, n, s)?;
-    let kinds = body_kinds(alloc, setting, at, clocks)?;
-    let unit = unit(UnitKind::Body, kinds, free, code)?;
-    Ok(unit)
+    emitter.emit_all(&mut code, scope, n, body)?;
+    Ok(code)
+}
+
+/// The code of a statement, likewise.
+fn stmt_code<'t>(
+    alloc: Global,
+    setting: &Setting<'t>,
+    free: u16,
+    scope: &mut Scope<'t>,
+    n: u16,
+    s: &Stmt<'t>,
+) -> Result<Vec<Instr>, CodeError>
+    ensures code { IfOk result (λ code. code.items
+        ≡ code_of setting.now free scope.old n 0 (statement s.now)) }
+    ensures refused { IfErr result (λ e. Denies e
+        (IsCovered setting.now scope.old n (statement s.now))
+        (HasRoom scope.old 0 (code_of setting.now free scope.old n 0 (statement s.now))
+        × (n + count (statement s.now) ≤ 64))) }
+{
+    let emitter = Emitter {
+        alloc,
+        setting,
+        free,
+    };
+    let mut code = Vec::new(alloc);
+    emitter.emit(&mut code, scope, n, s)?;
+    Ok(code)
 }
 
 /// The names of a body's parameters: its clocks, and then the numbers that it takes from outside.
