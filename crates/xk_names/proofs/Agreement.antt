@@ -1,12 +1,11 @@
 -- Tables that have each name once, and lists of all declarations: what is found by a name is the same.
-use Rattle.std.proofs.Common.{◌≡◌, ℕ, suc, nat_eq, Bool, true, false, cond, ◌||◌, List, [], ◌∷◌, ◌++◌, map, length, Option, Some, None, refl, sym, ap, ◌∙◌, subst}
+use Rattle.std.proofs.Common.{◌≡◌, ℕ, suc, Bool, true, false, cond, ◌||◌, List, [], ◌∷◌, ◌++◌, length, Option, Some, None, refl, sym, ap, ◌∙◌}
 use Rattle.std.specs.Prelude.{is_some}
-use Rattle.std.specs.List.{list_any, flat_map}
-use Rattle.std.specs.Cmp.Lexicographic.{pointwise, bytes_decides}
+use Rattle.std.specs.Cmp.Lexicographic.{bytes_decides}
 use Rattle.std.proofs.lemmas.Option.{none-some}
-use Rattle.xk_tree.specs.Tree.{Word, MethodValue, ParamValue}
+use Rattle.xk_tree.specs.Tree.{Word, MethodValue}
 use Rattle.xk_names.specs.declared.known.Known.{Known}
-use Rattle.xk_names.specs.Scope.{Table, find, has, is_text, Declaration, entry, entries, texts, Scope, is_given, has_first}
+use Rattle.xk_names.specs.Scope.{Table, find, has, is_text, Declaration, entry, entries, texts, Scope, is_given}
 use Rattle.xk_names.specs.Uses.{Signatures, signature, signatures}
 use Rattle.xk_names.specs.Scoped.{with_all, with_body}
 use Rattle.xk_names.specs.Collected.{put, put_all, put_text, put_texts, put_methods, with_declared, body_of}

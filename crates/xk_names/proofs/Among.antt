@@ -1,5 +1,5 @@
 -- Elements of lists that are joined.
-use Rattle.std.proofs.Common.{◌≡◌, ◌⊎◌, inl, inr, Bool, true, false, cond, List, [], ◌∷◌, ◌++◌, map, refl, subst}
+use Rattle.std.proofs.Common.{◌≡◌, ◌⊎◌, inl, inr, List, [], ◌∷◌, ◌++◌, map, refl, subst}
 use Rattle.std.specs.List.{flat_map}
 use Rattle.xk_names.specs.Scope.{Has}
 

@@ -1,12 +1,12 @@
 -- What is answered of a tree.
-use Rattle.std.proofs.Common.{◌≡◌, inl, inr, List, [], Option, Some, None, refl, sym, ◌∙◌, subst}
+use Rattle.std.proofs.Common.{◌≡◌, inl, inr, [], Option, Some, None, refl, sym, ◌∙◌, subst}
 use Rattle.std.specs.Prelude.{codes}
 use Rattle.std.proofs.lemmas.Option.{none-some}
 use Rattle.xk_tree.specs.declared.fault.FrontFault.{FrontFault}
 use Rattle.xk_tree.specs.Tree.{TreeValue}
 use Rattle.xk_names.specs.Scope.{Has, find}
 use Rattle.xk_names.specs.Uses.{Signatures, signatures}
-use Rattle.xk_names.specs.Faults.{HasNameFault, HasFault, HasMain, IsReported, no_main}
+use Rattle.xk_names.specs.Faults.{HasNameFault, HasFault, IsReported, no_main}
 use Rattle.xk_names.specs.Collected.{least, name_faults, put_methods}
 use Rattle.xk_names.proofs.Whole.{fault_there, fault_listed, called_same}
 use Rattle.xk_names.proofs.Reported.{least_kept, least_none}

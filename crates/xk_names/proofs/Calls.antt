@@ -1,12 +1,11 @@
 -- The faults of a call, as they are found one after another.
 use Rattle.std.proofs.Common.{◌≡◌, ℕ, suc, nat_eq, List, [], ◌∷◌, ◌++◌, map, length, Option, Some, refl, sym, ap, ◌∙◌}
 use Rattle.std.specs.List.{flat_map}
-use Rattle.xk_types.specs.declared.unit.ParamKind.{ParamKind}
 use Rattle.xk_tree.specs.declared.fault.FrontRule.TheVariants as rule
 use Rattle.xk_tree.specs.declared.fault.FrontFault.{FrontFault}
 use Rattle.xk_tree.specs.declared.tree.Param.{Param}
 use Rattle.xk_tree.specs.declared.tree.Expr.{Expr}
-use Rattle.xk_tree.specs.Tree.{Word, Expression, param_value, expressions}
+use Rattle.xk_tree.specs.Tree.{Word, param_value, expressions}
 use Rattle.xk_names.specs.Scope.{Scope}
 use Rattle.xk_names.specs.Uses.{Given, given, argument_uses, argument_misfits, argument_clocks}
 use Rattle.xk_names.specs.Faults.{fault}

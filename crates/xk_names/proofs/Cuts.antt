@@ -1,5 +1,5 @@
 -- Scopes that grow at their end, and are cut back.
-use Rattle.std.proofs.Common.{◌≡◌, ℕ, Bool, true, false, cond, List, [], ◌∷◌, ◌++◌, take, drop, length, Option, Some, None, refl, sym, ap, ◌∙◌, append_assoc, append-nil}
+use Rattle.std.proofs.Common.{◌≡◌, ℕ, Bool, true, false, cond, List, [], ◌∷◌, ◌++◌, take, drop, length, refl, sym, ap, ◌∙◌, append_assoc, append-nil}
 use Rattle.std.specs.Prelude.{is_some}
 use Rattle.xk_tree.specs.Tree.{Statements, Done, More}
 use Rattle.xk_names.specs.declared.known.Known.{Known}

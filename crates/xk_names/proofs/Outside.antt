@@ -1,6 +1,6 @@
 -- What a body takes is visible where the body stands, and is no clock. Of bodies within bodies, the outer one takes what the inner one takes
 -- and isn't declared between.
-use Rattle.std.proofs.Common.{◌≡◌, ◌⊎◌, inl, inr, ℕ, Bool, true, false, cond, ◌||◌, List, [], ◌∷◌, ◌++◌, map, length, Option, Some, None, refl, sym, ap, ◌∙◌, subst}
+use Rattle.std.proofs.Common.{◌≡◌, ◌⊎◌, inl, inr, ℕ, Bool, true, false, cond, ◌||◌, List, [], ◌∷◌, ◌++◌, length, Option, Some, None, refl, sym, ap, ◌∙◌, subst}
 use Rattle.std.specs.List.{flat_map}
 use Rattle.xk_types.specs.declared.unit.ParamKind.TheVariants as param
 use Rattle.xk_tree.specs.Tree.{Word, Expression, Literal, Named, Paren, Negation, Binary, Source, Make, Value, Statement, Statements, Done, More, Block, Empty, Declare, Assign, Atomic, If, IfElse, For, Async, Finish, Call, Resume, Drop, AdvanceAll, Print}
@@ -9,7 +9,7 @@ use Rattle.xk_names.specs.declared.known.Kind.{Kind}
 use Rattle.xk_names.specs.declared.known.Kind.TheVariants as kind
 use Rattle.xk_names.specs.declared.known.Want.TheVariants as want
 use Rattle.xk_names.specs.Scope.{Table, find, has, is_text, Has, Declaration, declared, entry, Scope, is_clock, is_number, is_readable, is_assigned}
-use Rattle.xk_names.specs.Uses.{Use, use_as, Signatures, numbers, values, argument_uses, Given, given_to, source_uses, assigned_uses, is_var, kind_of, uses, declares, clocks_listed}
+use Rattle.xk_names.specs.Uses.{Use, use_as, Signatures, numbers, values, argument_uses, Given, given_to, source_uses, assigned_uses, is_var, kind_of, declares, clocks_listed}
 use Rattle.xk_names.specs.Places.{behind}
 use Rattle.xk_names.specs.Scoped.{IsRight, IsSound, IsSoundInside, AreSound, with_all, with_body}
 use Rattle.xk_names.specs.Collected.{put_text}

@@ -1,15 +1,15 @@
 -- A statement's own faults where the same is found by names.
-use Rattle.std.proofs.Common.{◌≡◌, ℕ, nat_eq, Bool, true, false, cond, ◌||◌, List, [], ◌∷◌, ◌++◌, map, length, Option, Some, None, refl, sym, ap, ◌∙◌}
+use Rattle.std.proofs.Common.{◌≡◌, ℕ, nat_eq, cond, ◌||◌, List, [], ◌∷◌, ◌++◌, map, length, Option, Some, None, refl, ap, ◌∙◌}
 use Rattle.std.specs.Prelude.{is_some}
 use Rattle.std.specs.List.{flat_map}
 use Rattle.xk_tree.specs.declared.fault.FrontRule.TheVariants as rule
 use Rattle.xk_tree.specs.declared.fault.FrontFault.{FrontFault}
-use Rattle.xk_tree.specs.Tree.{Word, Expression, Statement, Call, Assign, ParamValue}
+use Rattle.xk_tree.specs.Tree.{Word, Expression, Statement, Call, Assign}
 use Rattle.xk_names.specs.declared.known.Known.{Known}
 use Rattle.xk_names.specs.declared.known.Kind.{Kind}
 use Rattle.xk_names.specs.declared.known.Kind.TheVariants as kind
 use Rattle.xk_names.specs.declared.known.Want.TheVariants as want
-use Rattle.xk_names.specs.Scope.{Table, find, has, Declaration, Scope, sees, sees_as, is_own, is_given, fits}
+use Rattle.xk_names.specs.Scope.{Table, find, Scope, sees_as, is_given, fits}
 use Rattle.xk_names.specs.Uses.{Use, use_as, Signatures, numbers, values, is_var, uses, declares, misfits, argument_uses, argument_misfits, argument_clocks, given_to, clocks_given, calls}
 use Rattle.xk_names.specs.Faults.{fault}
 use Rattle.xk_names.specs.Collected.{unless, when, known_use_faults, use_faults, again, known_call_faults, call_faults, repeats, own}

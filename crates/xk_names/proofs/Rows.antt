@@ -1,19 +1,17 @@
 -- Small programs, each with a fault of names that it has.
-use Rattle.std.proofs.Common.{◌≡◌, ◌≢◌, inl, inr, ℕ, ◌+◌, pos, List, [], ◌∷◌, refl, true, false, Option, Some, None, arith}
+use Rattle.std.proofs.Common.{◌≡◌, inl, inr, ℕ, ◌+◌, pos, List, [], ◌∷◌, refl, Option, Some, None, arith}
 use Rattle.std.specs.Prelude.{codes}
 use Rattle.xk_types.specs.declared.unit.ParamKind.TheVariants as param
 use Rattle.xk_tree.specs.declared.fault.FrontRule.TheVariants as rule
-use Rattle.xk_tree.specs.declared.tree.Number.{Number}
 use Rattle.xk_tree.specs.declared.tree.Binding.TheVariants as binding
-use Rattle.xk_tree.specs.declared.tree.TypeName.{TypeName}
 use Rattle.xk_tree.specs.declared.tree.Verb.{Verb}
-use Rattle.xk_tree.specs.Tree.{Word, Clocks, Expression, Literal, Named, Paren, Source, Make, Value, ParamValue, MethodValue, SharedValue, TreeValue, Statement, Statements, Done, More, Block, Empty, Declare, Assign, Atomic, If, IfElse, For, Async, Finish, Call, Resume, Drop, AdvanceAll, Print}
+use Rattle.xk_tree.specs.Tree.{Word, Clocks, Expression, Literal, Named, Paren, Make, Value, ParamValue, MethodValue, SharedValue, TreeValue, Statement, Statements, Done, More, Block, Declare, Assign, Async, Call, Resume, Print}
 use Rattle.xk_names.specs.declared.known.Kind.TheVariants as kind
 use Rattle.xk_names.specs.declared.known.Want.TheVariants as want
 use Rattle.xk_names.specs.Scope.{known}
 use Rattle.xk_names.specs.Uses.{use_as}
-use Rattle.xk_names.specs.Places.{Way, Here, First, Later, Inside, Else}
-use Rattle.xk_names.specs.Faults.{fault, Breaks, NotVisible, OtherKind, NotSeen, DeclaredAgain, Misfit, NoMethod, OtherCount, ClockAgain, scope_in, HasNameFault, InShared, InMethods, InParams, InBody, HasFault, HasMain, no_main}
+use Rattle.xk_names.specs.Places.{Here, First, Later, Inside}
+use Rattle.xk_names.specs.Faults.{fault, NotVisible, OtherKind, NotSeen, DeclaredAgain, Misfit, NoMethod, OtherCount, ClockAgain, scope_in, HasNameFault, InMethods, InParams, InBody, HasFault, HasMain, no_main}
 
 abbrev named : ℕ → List ℕ → Word
 named at text = record { at = at; text = text }

@@ -1,16 +1,16 @@
 -- A tree without faults of names is scoped.
-use Rattle.std.proofs.Common.{◌≡◌, ◌≢◌, ◌⊎◌, inl, inr, ℕ, suc, nat_eq, Bool, true, false, ◌||◌, List, [], ◌∷◌, ◌++◌, length, Option, Some, None, refl, sym, ap, ◌∙◌, subst, eqb-true, eq-eqb}
+use Rattle.std.proofs.Common.{◌≡◌, ◌⊎◌, inl, inr, ℕ, nat_eq, Bool, true, false, ◌||◌, List, [], ◌∷◌, length, Option, Some, None, refl, sym, ◌∙◌, subst, eqb-true, eq-eqb}
 use Rattle.std.specs.Prelude.{codes}
 use Rattle.xk_tree.specs.declared.fault.FrontRule.TheVariants as rule
 use Rattle.xk_tree.specs.declared.fault.FrontFault.{FrontFault}
-use Rattle.xk_tree.specs.Tree.{Word, Expression, Statement, Statements, Done, More, Block, Empty, Declare, Assign, Atomic, If, IfElse, For, Async, Finish, Call, Resume, Drop, AdvanceAll, Print, ParamValue, MethodValue, TreeValue}
+use Rattle.xk_tree.specs.Tree.{Word, Expression, Statement, Statements, Done, More, Block, If, IfElse, For, Async, Finish, ParamValue, TreeValue}
 use Rattle.xk_names.specs.declared.known.Known.{Known}
 use Rattle.xk_names.specs.declared.known.Kind.{Kind}
 use Rattle.xk_names.specs.declared.known.Kind.TheVariants as kind
-use Rattle.xk_names.specs.Scope.{find, has, texts, Has, Declaration, Scope, sees, sees_as, fits, is_own, is_given}
-use Rattle.xk_names.specs.Uses.{Use, Signatures, signatures, uses, declares, misfits, clocks_given, clocks_listed, calls}
+use Rattle.xk_names.specs.Scope.{find, has, texts, Has, Declaration, Scope, sees, sees_as, fits, is_given}
+use Rattle.xk_names.specs.Uses.{Use, Signatures, signatures, uses, declares, clocks_listed, calls}
 use Rattle.xk_names.specs.Places.{Way, Here, First, Later, Inside, Else, Stands, StandsAmong, behind}
-use Rattle.xk_names.specs.Faults.{fault, Breaks, NotVisible, OtherKind, NotSeen, DeclaredAgain, Misfit, NoMethod, OtherCount, ClockAgain, HasNameFault, InShared, InMethods, InParams, InBody, HasFault, HasMain, no_main}
+use Rattle.xk_names.specs.Faults.{fault, Breaks, NotVisible, OtherKind, NotSeen, DeclaredAgain, Misfit, NoMethod, OtherCount, ClockAgain, InMethods, InParams, InBody, HasFault, HasMain, no_main}
 use Rattle.xk_names.specs.Scoped.{IsRight, IsCallable, IsSound, IsSoundInside, AreSound, with_all, with_body, method_scope, IsScoped}
 use Rattle.xk_names.proofs.Walked.{scope_at, scope_among, among_once}
 use Rattle.xk_names.proofs.Whole.{seen_at}

@@ -1,10 +1,10 @@
 -- The faults of statements, as they are found one after another.
-use Rattle.std.proofs.Common.{◌≡◌, ℕ, ◌+◌, ◌<◌, List, [], ◌∷◌, ◌++◌, map, drop, length, get_or, Option, refl, sym, ap, ◌∙◌, drop-cons, add-one}
+use Rattle.std.proofs.Common.{◌≡◌, ℕ, ◌+◌, ◌<◌, List, ◌++◌, map, drop, length, get_or, Option, sym, ap, ◌∙◌, drop-cons, add-one}
 use Rattle.std.specs.List.{flat_map}
 use Rattle.xk_tree.specs.declared.fault.FrontFault.{FrontFault}
 use Rattle.xk_tree.specs.declared.tree.Stmt.{Stmt}
 use Rattle.xk_tree.specs.declared.tree.Method.{Method}
-use Rattle.xk_tree.specs.Tree.{Statement, Statements, More, statement, statements, method_value}
+use Rattle.xk_tree.specs.Tree.{Statement, More, statement, statements, method_value}
 use Rattle.xk_names.specs.declared.known.Known.{Known}
 use Rattle.xk_names.specs.Scope.{Table, Scope}
 use Rattle.xk_names.specs.Uses.{Signatures}

@@ -1,5 +1,5 @@
 -- Loops over arguments.
-use Rattle.std.proofs.Common.{◌≡◌, ℕ, zero, suc, ◌+◌, ◌<◌, ◌≤◌, List, [], ◌∷◌, ◌++◌, map, drop, length, min, get_or, Option, refl, sym, ap, ◌∙◌, arith, drop-cons, add-one, subst}
+use Rattle.std.proofs.Common.{◌≡◌, ℕ, zero, suc, ◌+◌, ◌<◌, ◌≤◌, List, [], ◌∷◌, ◌++◌, map, drop, length, min, get_or, Option, refl, sym, ap, ◌∙◌, arith, drop-cons, add-one}
 use Rattle.std.specs.List.{flat_map}
 use Rattle.xk_tree.specs.declared.tree.Param.{Param}
 use Rattle.xk_tree.specs.declared.tree.Expr.{Expr}

@@ -1,9 +1,9 @@
 -- The faults of a method's body: those of the list are those that stand somewhere in it.
-use Rattle.std.proofs.Common.{◌≡◌, ◌⊎◌, inl, inr, ℕ, suc, List, [], ◌∷◌, ◌++◌, map, length, Option, refl, sym, ap, ◌∙◌, subst, append_assoc}
+use Rattle.std.proofs.Common.{◌≡◌, inl, inr, ℕ, List, [], ◌∷◌, ◌++◌, length, refl, sym, ap, ◌∙◌, subst, append_assoc}
 use Rattle.xk_tree.specs.declared.fault.FrontFault.{FrontFault}
-use Rattle.xk_tree.specs.Tree.{Word, Statement, Statements, Done, More, Block, Empty, Declare, Assign, Atomic, If, IfElse, For, Async, Finish, Call, Resume, Drop, AdvanceAll, Print}
+use Rattle.xk_tree.specs.Tree.{Statement, Statements, Done, More, Block, If, IfElse, For, Async, Finish}
 use Rattle.xk_names.specs.declared.known.Known.{Known}
-use Rattle.xk_names.specs.Scope.{Table, Has, Declaration, entry, entries, texts, Scope}
+use Rattle.xk_names.specs.Scope.{Table, Has, Declaration, entry, entries, Scope}
 use Rattle.xk_names.specs.Uses.{Signatures, declares, clocks_listed}
 use Rattle.xk_names.specs.Places.{Way, Here, First, Later, Inside, Else, Stands, StandsAmong, behind, declared_at, declared_among, Bodies, bodies_at, bodies_among}
 use Rattle.xk_names.specs.Faults.{Breaks}

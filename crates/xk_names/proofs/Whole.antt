@@ -1,15 +1,15 @@
 -- The faults of a tree: those of the list are those that the tree has.
-use Rattle.std.proofs.Common.{◌≡◌, ◌⊎◌, inl, inr, ℕ, Bool, true, false, cond, ◌||◌, List, [], ◌∷◌, ◌++◌, map, length, Option, Some, None, refl, sym, ap, ◌∙◌, subst, append_assoc}
+use Rattle.std.proofs.Common.{◌≡◌, ◌⊎◌, inl, inr, ℕ, Bool, true, false, cond, ◌||◌, List, [], ◌∷◌, ◌++◌, map, Some, refl, sym, ap, ◌∙◌, subst, append_assoc}
 use Rattle.std.specs.Prelude.{is_some}
 use Rattle.std.specs.List.{flat_map}
 use Rattle.xk_tree.specs.declared.fault.FrontRule.TheVariants as rule
 use Rattle.xk_tree.specs.declared.fault.FrontFault.{FrontFault}
-use Rattle.xk_tree.specs.Tree.{Word, Statement, MethodValue, ParamValue, SharedValue, TreeValue}
+use Rattle.xk_tree.specs.Tree.{MethodValue, TreeValue}
 use Rattle.xk_names.specs.declared.known.Known.{Known}
 use Rattle.xk_names.specs.Scope.{Table, find, has, is_text, Has, Declaration, entry, entries, texts, Scope}
 use Rattle.xk_names.specs.Uses.{Signatures, signature, signatures}
-use Rattle.xk_names.specs.Places.{Way, StandsAmong, declared_among, bodies_among}
-use Rattle.xk_names.specs.Faults.{fault, Breaks, shared_declaration, param_declaration, declared_before, scope_in, RepeatsName, RepeatsMethod, BreaksInside, HasNameFault, InShared, InMethods, InParams, InBody}
+use Rattle.xk_names.specs.Places.{Way, declared_among, bodies_among}
+use Rattle.xk_names.specs.Faults.{fault, Breaks, shared_declaration, param_declaration, declared_before, scope_in, RepeatsName, HasNameFault, InShared, InMethods, InParams, InBody}
 use Rattle.xk_names.specs.Scoped.{method_scope}
 use Rattle.xk_names.specs.Collected.{put, put_all, put_methods, when, again, among, declared_again, methods_again, method_faults, name_faults}
 use Rattle.xk_names.proofs.Among.{has_left, has_right, has_either, from_flat, to_flat}

@@ -1,5 +1,5 @@
 -- The faults of names that a tree has.
-use Rattle.std.specs.Prelude.{◌≡◌, ◌≢◌, ◌⊎◌, ℕ, ◌<◌, ◌≤◌, Bool, true, false, List, [], ◌∷◌, ◌++◌, length, map, Option, Some, None, codes}
+use Rattle.std.specs.Prelude.{◌≡◌, ◌≢◌, ◌⊎◌, ℕ, ◌<◌, ◌≤◌, true, false, List, [], ◌∷◌, ◌++◌, length, map, Some, None, codes}
 use Rattle.xk_types.specs.declared.unit.ParamKind.{ParamKind}
 use Rattle.xk_types.specs.declared.unit.ParamKind.TheVariants as param
 use Rattle.xk_tree.specs.declared.fault.FrontRule.{FrontRule}
@@ -10,7 +10,7 @@ use Rattle.xk_tree.specs.Tree.{Word, Expression, Statement, ParamValue, MethodVa
 use Rattle.xk_names.specs.declared.known.Known.{Known}
 use Rattle.xk_names.specs.declared.known.Kind.{Kind}
 use Rattle.xk_names.specs.declared.known.Kind.TheVariants as kind
-use Rattle.xk_names.specs.Scope.{Table, find, has, texts, Has, Declaration, declared, entries, Scope, sees, fits}
+use Rattle.xk_names.specs.Scope.{find, has, texts, Has, Declaration, declared, entries, Scope, sees, fits}
 use Rattle.xk_names.specs.Uses.{Use, Signatures, signatures, uses, declares, misfits, clocks_given, calls}
 use Rattle.xk_names.specs.Places.{Way, StandsAmong, declared_among, bodies_among}
 

@@ -1,6 +1,6 @@
 -- Places in a method's body, and the declarations whose scopes hold them.
-use Rattle.std.specs.Prelude.{◌≡◌, ℕ, suc, List, [], ◌∷◌, ◌++◌, length, Option, map}
-use Rattle.xk_tree.specs.Tree.{Word, Statement, Statements, Done, More, Block, Empty, Declare, Assign, Atomic, If, IfElse, For, Async, Finish, Call, Resume, Drop, AdvanceAll, Print}
+use Rattle.std.specs.Prelude.{◌≡◌, ℕ, suc, List, [], ◌∷◌, ◌++◌}
+use Rattle.xk_tree.specs.Tree.{Statement, Statements, More, Block, Declare, If, IfElse, For, Async, Finish}
 use Rattle.xk_names.specs.Scope.{Declaration, texts}
 use Rattle.xk_names.specs.Uses.{declares, clocks_listed}
 

@@ -8,7 +8,7 @@ use Rattle.xk_tree.specs.declared.tree.Binding.{Binding}
 use Rattle.xk_tree.specs.declared.tree.Binding.TheVariants as binding
 use Rattle.xk_tree.specs.declared.tree.TypeName.{TypeName}
 use Rattle.xk_tree.specs.declared.tree.Number.{Number}
-use Rattle.xk_tree.specs.Tree.{Word, Clocks, Expression, Literal, Named, Paren, Negation, Binary, Source, Make, Value, ParamValue, MethodValue, SharedValue, Statement, Block, Empty, Declare, Assign, Atomic, If, IfElse, For, Async, Finish, Call, Resume, Drop, AdvanceAll, Print}
+use Rattle.xk_tree.specs.Tree.{Word, Clocks, Expression, Literal, Named, Paren, Negation, Binary, Source, Make, Value, ParamValue, MethodValue, Statement, Declare, Assign, Atomic, If, IfElse, For, Async, Call, Resume, Drop, Print}
 use Rattle.xk_names.specs.declared.known.Known.{Known}
 use Rattle.xk_names.specs.declared.known.Kind.{Kind}
 use Rattle.xk_names.specs.declared.known.Kind.TheVariants as kind

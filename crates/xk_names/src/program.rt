@@ -131,45 +131,37 @@ fn check_method<'t>(
     Ok(())
 }
 
-// The methods' parameters and bodies.
+// The methods' parameters and bodies, in the scope of what is declared outside.
 fn check_methods<'t>(
     alloc: Global,
     worst: &mut Option<FrontFault>,
-    scope: &mut Scope<'t>,
+    mut scope: Scope<'t>,
     methods: &Methods<'_, 't>,
     all: &[Method<'t>],
 ) -> Result<(), AllocError>
-    requires { scope.old.bodies ≡ [] }
+    requires { scope.bodies ≡ [] }
     ensures faults { OnOk result (worst.new ≡ least worst.old
-        (flat_map (method_faults methods.now scope.old.names) (map method_value all.now))) }
+        (flat_map (method_faults methods.now scope.entry.names) (map method_value all.now))) }
 {
     for method in all {
-        check_method(alloc, worst, scope, methods, method)?;
+        check_method(alloc, worst, &mut scope, methods, method)?;
     }
     Ok(())
 }
 
-// The least fault of names, F9 aside; and the methods by their names.
-fn least_fault<'a, 't>(
-    alloc: Global,
-    tree: &'a Tree<'t>,
-) -> Result<(Option<FrontFault>, Methods<'a, 't>), AllocError>
+// The least fault of names, F9 aside; and whether there is a method `main` without parameters.
+fn least_fault(alloc: Global, tree: &Tree<'_>) -> Result<(Option<FrontFault>, bool), AllocError>
     ensures worst { IfOk result (λ r. r.0 ≡ least None (name_faults (tree_value tree.now))) }
-    ensures methods { IfOk result (λ r. r.1 ≡
-        put_methods [] (map method_value tree.now.methods.items)) }
+    ensures main { IfOk result (λ r. IsTrue r.1 ↔
+        (find (put_methods [] (tree_value tree.now).methods) (codes "main") ≡ Some [])) }
 {
     let mut worst = None;
     let mut scope = Scope::new(alloc);
     declare_shared(&mut worst, &mut scope, tree.shared.as_slice())?;
     let methods = first_methods(alloc, &mut worst, tree.methods.as_slice())?;
-    check_methods(
-        alloc,
-        &mut worst,
-        &mut scope,
-        &methods,
-        tree.methods.as_slice(),
-    )?;
-    Ok((worst, methods))
+    check_methods(alloc, &mut worst, scope, &methods, tree.methods.as_slice())?;
+    let has_main = has_main(&methods);
+    Ok((worst, has_main))
 }
 
 // Whether there is a method `main` without parameters.
@@ -189,11 +181,11 @@ pub fn check_names(alloc: Global, tree: &Tree<'_>) -> Result<(), FrontError>
     ensures fault { (f : FrontFault) → result ≡ Err (FrontError.Fault f)
         → IsReported (tree_value tree.now) f }
 {
-    let (worst, methods) = least_fault(alloc, tree)?;
+    let (worst, has_main) = least_fault(alloc, tree)?;
     match worst {
         Some(fault) => Err(FrontError::Fault(fault)),
         None => {
-            if has_main(&methods) {
+            if has_main {
                 Ok(())
             } else {
                 Err(FrontError::Fault(FrontFault {

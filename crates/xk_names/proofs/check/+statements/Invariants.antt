@@ -1,4 +1,4 @@
-use Rattle.std.proofs.Common.{◌≡◌, drop, length}
+use Rattle.std.proofs.Common.{◌≡◌, drop}
 use Rattle.xk_tree.specs.Tree.{statements}
 use Rattle.xk_names.specs.Collected.{least, among, after}
 use Rattle.xk_names.proofs.check.+statements.Given as goal

@@ -1,4 +1,4 @@
-use Rattle.std.proofs.Common.{◌∙◌, ap, take, drop}
+use Rattle.std.proofs.Common.{◌∙◌, ap, take}
 use Rattle.xk_names.specs.Scope.{Scope}
 use Rattle.xk_names.proofs.Cuts.{left_scope, left}
 use Rattle.xk_names.proofs.scope.Scope.leave.Goals as goal
