@@ -53,7 +53,7 @@ seen_so (Wrong c) h = refl
 seen_so (Stepped v e) h = h
 
 -- who runs takes one where the frames tell of one
-next_is : (m : ModuleValue) → IsWithinLimits m → IsAccepted m → (w : World) → IsReached m w → (a : ℕ) (x : Activity) → slice_get w.activities a ≡ Some x
+pub next_is : (m : ModuleValue) → IsWithinLimits m → IsAccepted m → (w : World) → IsReached m w → (a : ℕ) (x : Activity) → slice_get w.activities a ≡ Some x
     → x.status ≡ status.Running → frames.is_stepped (frames.local (frames_in m x)) ≡ is_taken_locally (step m w a)
 next_is m limits ok w reached a x there running = by (frames.local (frames_in m x)) refl
   where

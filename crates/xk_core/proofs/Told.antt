@@ -14,7 +14,7 @@ use Rattle.xk_types.specs.declared.unit.ParamKind.{ParamKind}
 use Rattle.xk_types.specs.declared.unit.ParamKind.TheVariants as param
 use Rattle.xk_types.specs.Code.{UnitValue, ModuleValue, compares, is_method, is_body}
 use Rattle.xk_types.specs.World.{Frame, Activity, Clock, World, standing_of, instruction_at, base_of, base_unit, is_ended}
-use Rattle.xk_types.specs.Step.{Outcome, Blocked, Wrong, Stepped, ClockUse, OutOfRange, is_registered, number_in, clock_in, registered_on, put_in, slot_at, arguments_in, computing, turning, again, spawned, spawning, new_clock, carried_out, done, made, onward, going, with_slots, arrived, ended, none, only, all, resumed, dropped, called, calling, back_in, returning, settled, moved, cell_in, stored, child, governing, joined, is_given}
+use Rattle.xk_types.specs.Step.{Cause, Outcome, Blocked, Wrong, Stepped, ClockUse, OutOfRange, is_registered, number_in, clock_in, registered_on, put_in, slot_at, arguments_in, computing, turning, again, spawned, spawning, new_clock, carried_out, done, made, onward, going, with_slots, arrived, ended, none, only, all, resumed, dropped, called, calling, back_in, returning, settled, moved, cell_in, stored, child, governing, joined, is_given}
 use Rattle.xk_laws.proofs.Scopes.Invariant.{based}
 use Rattle.xk_finishes.specs.Tree.{NodeValue}
 use Rattle.xk_core.specs.Arm.{concerns_finishes, carried_by, carried}
@@ -85,6 +85,41 @@ pub record IsTold (i : Instr) (ns : List NodeValue) (w : World) (a : ℕ) (x : A
   pub same : with' ≡ told_so ns without
   pub tells : Tells i w a x without
 
+-- ---- operands, in two worlds that differ in finishes alone
+
+module _ (R : Outcome → Outcome → Type 0) (wrong : (c : Cause) → R (Wrong c) (Wrong c)) (ns : List NodeValue) (w : World) (a : ℕ) (n : NodeValue) (x : Activity) where
+  number_both : (o : Option Value) (go' go : ℤ → Outcome) → ((z : ℤ) → R (go' z) (go z)) → R (number_in o go') (number_in o go)
+  number_both None go' go h = wrong _
+  number_both (Some value.Unset) go' go h = wrong _
+  number_both (Some (value.Number z)) go' go h = h z
+  number_both (Some (value.Clock c)) go' go h = wrong _
+
+  registered_both : (o : Option Clock) (go' go : Outcome) → R go' go → R (registered_on o a go') (registered_on o a go)
+  registered_both None go' go h = wrong _
+  registered_both (Some c) go' go h = cases (is_registered (standing_of c a))
+    where
+      cases : (b : Bool) → R (cond b go' (Wrong ClockUse)) (cond b go (Wrong ClockUse))
+      cases true = h
+      cases false = wrong _
+
+  clock_both : (o : Option Value) (go' go : ℕ → Outcome) → ((c : ℕ) → R (go' c) (go c)) → R (clock_in (with_finishes ns w) a o go') (clock_in w a o go)
+  clock_both None go' go h = wrong _
+  clock_both (Some value.Unset) go' go h = wrong _
+  clock_both (Some (value.Number z)) go' go h = wrong _
+  clock_both (Some (value.Clock c)) go' go h = registered_both (slice_get w.clocks c) (go' c) (go c) (h c)
+
+  arguments_both : (ps : List ParamKind) (xs : List ℕ) (go' go : List Value → Outcome) → ((values : List Value) → R (go' values) (go values))
+      → R (arguments_in (with_finishes ns w) a (with_node n x) ps xs go') (arguments_in w a x ps xs go)
+  arguments_both [] [] go' go h = h []
+  arguments_both [] (z ∷ xs) go' go h = wrong _
+  arguments_both (p ∷ ps) [] go' go h = wrong _
+  arguments_both (param.Number ∷ ps) (z ∷ xs) go' go h = number_both (slot_at x z) _ _
+      (λ j. arguments_both ps xs (λ values. go' (value.Number j ∷ values)) (λ values. go (value.Number j ∷ values)) (λ values. h (value.Number j ∷ values)))
+  arguments_both (param.Clock ∷ ps) (z ∷ xs) go' go h = clock_both (slot_at x z) _ _
+      (λ j. arguments_both ps xs (λ values. go' (value.Clock j ∷ values)) (λ values. go (value.Clock j ∷ values)) (λ values. h (value.Clock j ∷ values)))
+
+-- ---- a step
+
 module _ (m : ModuleValue) (ns : List NodeValue) (w : World) (a : ℕ) (n : NodeValue) (x : Activity) (width : length ns ≡ length w.activities)
     (here : slice_get ns a ≡ Some n) (found : slice_get w.activities a ≡ Some x)
     (alive : is_ended x.status ≡ false) where
@@ -106,41 +141,20 @@ module _ (m : ModuleValue) (ns : List NodeValue) (w : World) (a : ℕ) (n : Node
   goes_told i y change e st unit callers other = done_told i y change e (ap is_ended st ∙ alive ∙ sym other)
       (ap (base_of y.frame) callers ∙ based x.frame y.frame x.callers unit) (λ q. absurd (false≢true (sym other ∙ q)))
 
-  number_told : (i : Instr) → (o : Option Value) (go' go : ℤ → Outcome) → ((z : ℤ) → Told i (go' z) (go z)) → Told i (number_in o go') (number_in o go)
-  number_told i None go' go h = record { same = refl; tells = tt }
-  number_told i (Some value.Unset) go' go h = record { same = refl; tells = tt }
-  number_told i (Some (value.Number z)) go' go h = h z
-  number_told i (Some (value.Clock c)) go' go h = record { same = refl; tells = tt }
+  wrong_told : (i : Instr) (c : Cause) → Told i (Wrong c) (Wrong c)
+  wrong_told i c = record { same = refl; tells = tt }
 
-  registered_told : (i : Instr) → (o : Option Clock) (go' go : Outcome) → Told i go' go → Told i (registered_on o a go') (registered_on o a go)
-  registered_told i None go' go h = record { same = refl; tells = tt }
-  registered_told i (Some c) go' go h = cases (is_registered (standing_of c a))
-    where
-      cases : (b : Bool) → Told i (cond b go' (Wrong ClockUse)) (cond b go (Wrong ClockUse))
-      cases true = h
-      cases false = record { same = refl; tells = tt }
+  number_told : (i : Instr) (o : Option Value) (go' go : ℤ → Outcome) → ((z : ℤ) → Told i (go' z) (go z)) → Told i (number_in o go') (number_in o go)
+  number_told i = number_both (Told i) (wrong_told i) ns w a n x
 
-  clock_told : (i : Instr) → (o : Option Value) (go' go : ℕ → Outcome) → ((c : ℕ) → Told i (go' c) (go c)) → Told i (clock_in (with_finishes ns w) a o go') (clock_in w a o go)
-  clock_told i None go' go h = record { same = refl; tells = tt }
-  clock_told i (Some value.Unset) go' go h = record { same = refl; tells = tt }
-  clock_told i (Some (value.Number z)) go' go h = record { same = refl; tells = tt }
-  clock_told i (Some (value.Clock c)) go' go h = registered_told i (slice_get w.clocks c) (go' c) (go c) (h c)
+  clock_told : (i : Instr) (o : Option Value) (go' go : ℕ → Outcome) → ((c : ℕ) → Told i (go' c) (go c)) → Told i (clock_in (with_finishes ns w) a o go') (clock_in w a o go)
+  clock_told i = clock_both (Told i) (wrong_told i) ns w a n x
 
   put_told : (i : Instr) → (o : Option Value) (d : ℕ) (v : Value) (go' go : Activity → Outcome)
       → Told i (go' (with_node n (onward (with_slots x (slice_set x.frame.slots d v))))) (go (onward (with_slots x (slice_set x.frame.slots d v))))
       → Told i (put_in o (with_node n x) d v go') (put_in o x d v go)
   put_told i None d v go' go h = record { same = refl; tells = tt }
   put_told i (Some old) d v go' go h = h
-
-  arguments_told : (i : Instr) → (ps : List ParamKind) (xs : List ℕ) (go' go : List Value → Outcome)
-      → ((values : List Value) → Told i (go' values) (go values)) → Told i (arguments_in (with_finishes ns w) a (with_node n x) ps xs go') (arguments_in w a x ps xs go)
-  arguments_told i [] [] go' go h = h []
-  arguments_told i [] (z ∷ xs) go' go h = record { same = refl; tells = tt }
-  arguments_told i (p ∷ ps) [] go' go h = record { same = refl; tells = tt }
-  arguments_told i (param.Number ∷ ps) (z ∷ xs) go' go h = number_told i (slot_at x z) _ _
-      (λ k. arguments_told i ps xs (λ values. go' (value.Number k ∷ values)) (λ values. go (value.Number k ∷ values)) (λ values. h (value.Number k ∷ values)))
-  arguments_told i (param.Clock ∷ ps) (z ∷ xs) go' go h = clock_told i (slot_at x z) _ _
-      (λ k. arguments_told i ps xs (λ values. go' (value.Clock k ∷ values)) (λ values. go (value.Clock k ∷ values)) (λ values. h (value.Clock k ∷ values)))
 
   writes_told : (i : Instr) → (d : ℕ) (v : Value)
       → Told i (put_in (slot_at x d) (with_node n x) d v (λ next. done (with_finishes ns w) a next none event.Local))
@@ -189,7 +203,7 @@ module _ (m : ModuleValue) (ns : List NodeValue) (w : World) (a : ℕ) (n : Node
       cases : (b : Bool) → Told i (cond b (arguments_in (with_finishes ns w) a (with_node n x) u.params args
           (λ values. done (with_finishes ns w) a (called m (with_node n x) t values) none event.Local)) (Wrong OutOfRange))
           (cond b (arguments_in w a x u.params args (λ values. done w a (called m x t values) none event.Local)) (Wrong OutOfRange))
-      cases true = arguments_told i u.params args _ _ (λ values. done_told i (called m x t values) none event.Local alive refl (λ q. absurd (false≢true q)))
+      cases true = arguments_both (Told i) (wrong_told i) ns w a n x u.params args _ _ (λ values. done_told i (called m x t values) none event.Local alive refl (λ q. absurd (false≢true q)))
       cases false = record { same = refl; tells = tt }
 
   returning_told : (i : Instr) → (fs : List Frame) → x.callers ≡ fs → i ≡ instr.Ret → Told i (returning (with_finishes ns w) a (with_node n x) fs) (returning w a x fs)
@@ -276,43 +290,13 @@ module _ (m : ModuleValue) (ns : List NodeValue) (w : World) (a : ℕ) (n : Node
     abbrev So : Outcome → Outcome → Type 0
     So p q = p ≡ told_so (ns ++ k ∷ []) q
 
-    number_so : (o : Option Value) (go' go : ℤ → Outcome) → ((z : ℤ) → So (go' z) (go z)) → So (number_in o go') (number_in o go)
-    number_so None go' go h = refl
-    number_so (Some value.Unset) go' go h = refl
-    number_so (Some (value.Number z)) go' go h = h z
-    number_so (Some (value.Clock c)) go' go h = refl
-
-    registered_so : (o : Option Clock) (go' go : Outcome) → So go' go → So (registered_on o a go') (registered_on o a go)
-    registered_so None go' go h = refl
-    registered_so (Some c) go' go h = cases (is_registered (standing_of c a))
-      where
-        cases : (b : Bool) → So (cond b go' (Wrong ClockUse)) (cond b go (Wrong ClockUse))
-        cases true = h
-        cases false = refl
-
-    clock_so : (o : Option Value) (go' go : ℕ → Outcome) → ((c : ℕ) → So (go' c) (go c)) → So (clock_in (with_finishes ns w) a o go') (clock_in w a o go)
-    clock_so None go' go h = refl
-    clock_so (Some value.Unset) go' go h = refl
-    clock_so (Some (value.Number z)) go' go h = refl
-    clock_so (Some (value.Clock c)) go' go h = registered_so (slice_get w.clocks c) (go' c) (go c) (h c)
-
-    arguments_so : (ps : List ParamKind) (xs : List ℕ) (go' go : List Value → Outcome) → ((values : List Value) → So (go' values) (go values))
-        → So (arguments_in (with_finishes ns w) a (with_node n x) ps xs go') (arguments_in w a x ps xs go)
-    arguments_so [] [] go' go h = h []
-    arguments_so [] (z ∷ xs) go' go h = refl
-    arguments_so (p ∷ ps) [] go' go h = refl
-    arguments_so (param.Number ∷ ps) (z ∷ xs) go' go h = number_so (slot_at x z) _ _
-        (λ j. arguments_so ps xs (λ values. go' (value.Number j ∷ values)) (λ values. go (value.Number j ∷ values)) (λ values. h (value.Number j ∷ values)))
-    arguments_so (param.Clock ∷ ps) (z ∷ xs) go' go h = clock_so (slot_at x z) _ _
-        (λ j. arguments_so ps xs (λ values. go' (value.Clock j ∷ values)) (λ values. go (value.Clock j ∷ values)) (λ values. h (value.Clock j ∷ values)))
-
     spawning_so : (t : ℕ) (args : List ℕ) (o : Option UnitValue) → So (spawning m (with_finishes ns w) a (with_node n x) t args o) (spawning m w a x t args o)
     spawning_so t args None = refl
     spawning_so t args (Some u) = cases (is_body u.kind)
       where
         cases : (b : Bool) → So (cond b (arguments_in (with_finishes ns w) a (with_node n x) u.params args (spawned m (with_finishes ns w) a (with_node n x) t))
             (Wrong OutOfRange)) (cond b (arguments_in w a x u.params args (spawned m w a x t)) (Wrong OutOfRange))
-        cases true = arguments_so u.params args _ _ (λ values. spawned_told k t values zero' governed)
+        cases true = arguments_both So (λ c. refl) ns w a n x u.params args _ _ (λ values. spawned_told k t values zero' governed)
         cases false = refl
 
     pub spawn_told : (t : ℕ) (args : List ℕ) → carried m (with_finishes ns w) a (instr.Spawn t args) ≡ told_so (ns ++ k ∷ []) (carried m w a (instr.Spawn t args))

@@ -11,12 +11,12 @@ use Rattle.xk_types.specs.World.{Clock, World, standing_of}
 use Rattle.xk_types.specs.Step.{Outcome, Blocked, Wrong, Stepped, step, is_signalled, settled_clock, moved, joined, new_clock, is_given, advanced, none, all, dropped, resumed, waits}
 use Rattle.xk_laws.proofs.Invariant.{IsClockSound}
 use Rattle.xk_types.proofs.Lists.{Each}
+use Rattle.xk_laws.proofs.Forms.{step_kind}
 use Rattle.xk_laws.proofs.Reached.{reached_sound}
 use Rattle.xk_laws.proofs.Clocks.Advance.{settled_cases, stand-advanced}
 use Rattle.xk_laws.proofs.Clocks.Standings.{stand_other, new_other, stand_joined_old}
 use Rattle.xk_core.specs.Core.{IsCore, is_quiet}
 use Rattle.xk_core.specs.Core.{is_held_back_by, has_advanced}
-use Rattle.xk_drive.proofs.UntouchedForms.{step_kind}
 
 -- clock c of these holds activity b back
 abbrev holds : ℕ → List Clock → ℕ → Bool
@@ -99,10 +99,8 @@ module _ (m : ModuleValue) (w : World) (a b c : ℕ) (core : IsCore m w) (inside
   wide k d at = (let s : IsClockSound w.activities w.steps d = (reached_sound m core.limits core.accepted w core.reached).clocks k d at in omega (arith, s.width, inside))
 
   holds_on : HoldsOn w b c (step m w a)
-  holds_on = step_kind (HoldsOn w b c) m w a tt (λ act found alive. record {
-    blocked = tt;
-    wrong = λ e. tt;
-    closed = λ n opened nobody awake. by_move _ none refl refl;
+  holds_on = step_kind (HoldsOn w b c) m w a tt (λ e. tt) (λ act found alive. record {
+    closed = λ n opened nobody runs. by_move _ none refl refl;
     over = λ here alone. by_move _ (all dropped) refl refl;
     arrives = by_move _ (all resumed) refl refl;
     done = λ next change e on start rests. by_move _ change refl refl;

@@ -1,5 +1,4 @@
 pub mod Runs
-pub mod UntouchedForms
 pub mod UntouchedOwners
 pub mod UntouchedAwaits
 pub mod Untouched

@@ -14,6 +14,7 @@ use Rattle.xk_types.proofs.Lists.{Each}
 use Rattle.xk_laws.proofs.Invariant.{IsClockSound}
 use Rattle.xk_laws.proofs.Reached.{same_through, first_step, reached_sound}
 use Rattle.xk_laws.proofs.Counts.{step_counts}
+use Rattle.xk_laws.proofs.Forms.{step_kind}
 use Rattle.xk_core.specs.Core.{CoreValue, IsCore, is_quiet, is_waiting, is_held_back_by}
 use Rattle.xk_core.specs.Stretch.{RunsTo, AreLocal, IsUnseen}
 use Rattle.xk_core.proofs.Cores.{core_stepped}
@@ -24,7 +25,6 @@ use Rattle.xk_waiting.proofs.Times.{list_times}
 use Rattle.xk_drive.specs.Choosing.{enabled_in, Names, Follows, IsSteady, goes_on, state_after, state_on}
 use Rattle.xk_drive.specs.Held.{AreHeld}
 use Rattle.xk_drive.specs.Stretches.{IsStretch}
-use Rattle.xk_drive.proofs.UntouchedForms.{step_kind}
 use Rattle.xk_drive.proofs.HeldBack.{held_on, free_on, none_went}
 use Rattle.xk_drive.proofs.Untouched.{untouched, keeps_width, steps_within, awake_after, waiting_same, waiting_within}
 use Rattle.xk_drive.proofs.Woken.{steps_nowhere}
@@ -46,10 +46,8 @@ Rests w (Wrong c) = Unit {0}
 Rests w (Stepped v e) = is_local e ≡ true → v.clocks ≡ w.clocks
 
 step_rests : (m : ModuleValue) (w : World) (a : ℕ) → IsCore m w → Rests w (step m w a)
-step_rests m w a core = step_kind (Rests w) m w a tt (λ act found alive. record {
-  blocked = tt;
-  wrong = λ c. tt;
-  closed = λ n opened nobody awake h. absurd (true≢false (sym h));
+step_rests m w a core = step_kind (Rests w) m w a tt (λ c. tt) (λ act found alive. record {
+  closed = λ n opened nobody runs h. absurd (true≢false (sym h));
   over = λ here alone h. absurd (true≢false (sym h));
   arrives = λ h. absurd (true≢false (sym h));
   done = λ next change e on start rests h. ap (λ ch. map (settled_clock (w.steps + 1)) (moved a ch w.clocks)) (rests h) ∙ clocks_rest (w.steps + 1) a w.clocks unready;

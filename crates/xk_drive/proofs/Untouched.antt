@@ -16,13 +16,13 @@ use Rattle.xk_types.specs.World.{Finish, Activity, World, is_ended}
 use Rattle.xk_types.specs.Step.{Outcome, Blocked, Wrong, Stepped, step, onward, left, ended, arrived, child, innermost, awaits, waits}
 use Rattle.xk_types.specs.Schedule.{is_enabled}
 use Rattle.xk_types.proofs.Lists.{get-set_same, get-set_other, get-push_other, get-append_left}
+use Rattle.xk_laws.proofs.Forms.{GoesOn, starts_or_arrives, step_kind}
 use Rattle.xk_laws.proofs.Scopes.Invariant.{governing_at}
 use Rattle.xk_laws.proofs.Scopes.Under.{AreOwned}
 use Rattle.xk_core.specs.Able.{able_by, able_of, kept_by}
 use Rattle.xk_core.specs.Core.{IsCore, is_quiet, governor, instruction_of}
 use Rattle.xk_core.proofs.Cores.{core_able, core_stepped}
 use Rattle.xk_core.specs.Core.{is_arrived, is_waiting}
-use Rattle.xk_drive.proofs.UntouchedForms.{GoesOn, is_start, starts_or_arrives, step_kind}
 use Rattle.xk_drive.proofs.HeldBack.{waits_same}
 use Rattle.xk_drive.proofs.UntouchedOwners.{core_owned, core_open}
 use Rattle.xk_drive.proofs.UntouchedAwaits.{owned_set, awaits_on, awaits_end, awaits_push}
@@ -72,7 +72,7 @@ module _ (m : ModuleValue) (w : World) (a b : ℕ) (core : IsCore m w) (inside :
   -- it goes on
   on_awaits : (act next : Activity) → slice_get w.activities a ≡ Some act → is_ended act.status ≡ false → GoesOn act next → (x : Activity)
       → awaits (slice_set w.activities a next) (innermost b x) ≡ awaits w.activities (innermost b x)
-  on_awaits act next found alive on x = awaits_on w.activities (core_owned m w core) a act next found on.governed (innermost b x) alive on.alive
+  on_awaits act next found alive on x = awaits_on w.activities (core_owned m w core) a act next found on.governed (innermost b x) alive (ap is_ended on.runs)
 
   -- it ends
   end_awaits : (act : Activity) → slice_get w.activities a ≡ Some act → is_ended act.status ≡ false → (governor w a ≡ Some b → ⊥) → (x : Activity)
@@ -92,10 +92,8 @@ module _ (m : ModuleValue) (w : World) (a b : ℕ) (core : IsCore m w) (inside :
       ∙ awaits_on w.activities (core_owned m w core) a act (onward act) found refl (innermost b x) alive alive
 
   step_leaves : Leaves m w a b (step m w a)
-  step_leaves = step_kind (Leaves m w a b) m w a tt (λ act found alive. record {
-    blocked = tt;
-    wrong = λ c. tt;
-    closed = λ n opened nobody awake later waiting another. leaves_moved (left act n) _ refl later waiting
+  step_leaves = step_kind (Leaves m w a b) m w a tt (λ c. tt) (λ act found alive. record {
+    closed = λ n opened nobody runs later waiting another. leaves_moved (left act n) _ refl later waiting
         (λ x. awaits_on w.activities (core_owned m w core) a act (left act n) found refl (innermost b x) alive alive);
     over = λ here alone later waiting another. leaves_moved (ended act) _ refl later waiting (end_awaits act found alive (another refl));
     arrives = λ later waiting another. leaves_moved (arrived act) _ refl later waiting
@@ -122,6 +120,11 @@ untouched m w v a e core h b quiet inside differs another =
     untouched_by m w v a e core h b (λ waiting. waits_same m w v a e core h b inside differs (quiet waiting)) inside differs another
 
 -- ---- who is there
+
+-- an activity is started
+abbrev is_start : Event → Bool
+is_start event.Spawned = true
+is_start _ = false
 
 -- how many activities a step of this event starts
 abbrev started : Event → ℕ
@@ -207,16 +210,14 @@ taken_push w v a act next x found acts governed awake awake_child = record {
 }
 
 step_takes : (m : ModuleValue) (w : World) (a : ℕ) → Takes w a (step m w a)
-step_takes m w a = step_kind (Takes w a) m w a tt (λ act found alive. record {
-  blocked = tt;
-  wrong = λ c. tt;
-  closed = λ n opened nobody awake. taken_set w _ a act (left act n) event.Closed found refl refl refl (λ h. awake) (λ h. cc);
+step_takes m w a = step_kind (Takes w a) m w a tt (λ c. tt) (λ act found alive. record {
+  closed = λ n opened nobody runs. taken_set w _ a act (left act n) event.Closed found refl refl refl (λ h. ap is_arrived runs) (λ h. cc);
   over = λ here alone. taken_set w _ a act (ended act) event.Ended found refl refl refl (λ h. refl) (λ h. cc);
   arrives = taken_set w _ a act (arrived act) event.Arrived found refl refl refl (λ h. absurd (h refl)) (λ h. refl);
-  done = λ next change e on start rests. taken_set w _ a act next e found refl on.governed (no_start e start) (λ h. on.awake) (λ h. absurd (no_arrival e start h));
-  made = λ next on. taken_set w _ a act next event.Made found refl on.governed refl (λ h. on.awake) (λ h. cc);
-  stored = λ s n e on start. taken_set w _ a act (onward act) e found refl refl (no_start e start) (λ h. on.awake) (λ h. absurd (no_arrival e start h));
-  spawned = λ t args values at on. taken_push w _ a act (onward act) (child m a act t values) found refl refl on.awake refl;
+  done = λ next change e on start rests. taken_set w _ a act next e found refl on.governed (no_start e start) (λ h. ap is_arrived on.runs) (λ h. absurd (no_arrival e start h));
+  made = λ next on. taken_set w _ a act next event.Made found refl on.governed refl (λ h. ap is_arrived on.runs) (λ h. cc);
+  stored = λ s n e on start. taken_set w _ a act (onward act) e found refl refl (no_start e start) (λ h. ap is_arrived on.runs) (λ h. absurd (no_arrival e start h));
+  spawned = λ t args values at on. taken_push w _ a act (onward act) (child m a act t values) found refl refl (ap is_arrived on.runs) refl;
 })
 
 taken : (m : ModuleValue) (w v : World) (a : ℕ) (e : Event) → step m w a ≡ Stepped v e → IsTaken w v a e

@@ -9,13 +9,13 @@ use Rattle.xk_types.specs.Step.{Outcome, Blocked, Wrong, Stepped, step, onward, 
 use Rattle.xk_types.specs.Schedule.{Through, run}
 use Rattle.xk_laws.proofs.Invariant.{IsActivitySound, IsSound, looks}
 use Rattle.xk_types.proofs.Lists.{Each, each_set, each_push, get-set_same, get-set_other, get_once, get-append_left}
+use Rattle.xk_laws.proofs.Forms.{GoesOn, step_kind}
 use Rattle.xk_laws.proofs.Reached.{same_through, first_step, opening_reached, reached_sound, reached_scoped}
 use Rattle.xk_laws.proofs.NeverWrong.Steps.{closed_at_end}
 use Rattle.xk_laws.proofs.Scopes.Invariant.{IsScoped, finish_at, governing_at}
 use Rattle.xk_laws.proofs.Scopes.Under.{AreOwned, under_governed, IsAwaited}
 use Rattle.xk_core.specs.Core.{IsCore}
 use Rattle.xk_core.proofs.Cores.{core_stepped}
-use Rattle.xk_drive.proofs.UntouchedForms.{GoesOn, step_kind}
 
 -- two numbers are one, or they aren't
 pub same_or_not : (x y : ℕ) → (x ≡ y) ⊎ (x ≡ y → ⊥)
@@ -93,7 +93,7 @@ module _ (acts : List Activity) (a : ℕ) (act next : Activity) (found : slice_g
 
   -- where it goes on
   pub open_on : is_ended act.status ≡ false → GoesOn act next → AreOpen acts → AreOpen (slice_set acts a next)
-  open_on alive on each = open_set alive on.governed (λ b x at going own some within. (on.alive, omega (arith, on.opened, within))) each
+  open_on alive on each = open_set alive on.governed (λ b x at going own some within. (ap is_ended on.runs, omega (arith, on.opened, within))) each
 
 -- one activity more, governed by a finish that its owner has open
 open_push : (acts : List Activity) (x : Activity) → AreOpen acts → IsOpen acts x → AreOpen (acts ++ x ∷ [])
@@ -153,10 +153,8 @@ module _ (m : ModuleValue) (w : World) (core : IsCore m w) (each : AreOpen w.act
 
   -- each step keeps it so
   step_open : (a : ℕ) → Opens (step m w a)
-  step_open a = step_kind Opens m w a tt (λ act found alive. record {
-    blocked = tt;
-    wrong = λ c. tt;
-    closed = λ n opened nobody awake. open_set w.activities a act (left act n) found alive refl (left_keeps a act n opened nobody alive) each;
+  step_open a = step_kind Opens m w a tt (λ c. tt) (λ act found alive. record {
+    closed = λ n opened nobody runs. open_set w.activities a act (left act n) found alive refl (left_keeps a act n opened nobody alive) each;
     over = λ here alone. open_set w.activities a act (ended act) found alive refl (ended_keeps a act found here alone) each;
     arrives = open_set w.activities a act (arrived act) found alive refl (λ b x at going own some within. (refl, within)) each;
     done = λ next change e on quiet rests. open_on w.activities a act next found alive on each;

@@ -6,8 +6,8 @@ use Rattle.std.specs.Option.{option_map_or}
 use Rattle.xk_types.specs.declared.names.Event.{Event}
 use Rattle.xk_types.specs.Code.{ModuleValue}
 use Rattle.xk_types.specs.World.{Activity, World, is_ended}
-use Rattle.xk_types.specs.Step.{Outcome, Blocked, Wrong, Stepped, step}
-use Rattle.xk_laws.proofs.Forms.{step_form}
+use Rattle.xk_types.specs.Step.{Outcome, Blocked, Wrong, Stepped, step, left, ended, arrived, onward}
+use Rattle.xk_laws.proofs.Forms.{step_kind}
 
 -- the world that a step leads to has one step more
 abbrev Counts : ℕ → Outcome → Type 0
@@ -17,13 +17,14 @@ Counts n (Stepped v e) = v.steps ≡ n + 1
 
 -- a step counts itself
 pub step_counts : (m : ModuleValue) (w v : World) (a : ℕ) (e : Event) → step m w a ≡ Stepped v e → v.steps ≡ w.steps + 1
-step_counts m w v a e h = subst (Counts w.steps) h (step_form (Counts w.steps) m w a (record {
-  blocked = tt;
-  wrong = λ c. tt;
-  done = λ act next change f at alive. refl;
-  made = λ act next at alive. refl;
-  stored = λ act s n e at alive. refl;
-  spawned = λ act t values at alive. refl;
+step_counts m w v a e h = subst (Counts w.steps) h (step_kind (Counts w.steps) m w a tt (λ c. tt) (λ act found alive. record {
+  closed = λ n some nobody runs. refl;
+  over = λ here alone. refl;
+  arrives = refl;
+  done = λ next change e on quiet rests. refl;
+  made = λ next on. refl;
+  stored = λ s n e on quiet. refl;
+  spawned = λ t args values at on. refl;
 }))
 
 -- ---- who has ended
@@ -55,11 +56,12 @@ KeepsOver acts (Stepped v e) = (b : ℕ) → is_over acts b ≡ true → is_over
 
 -- who has ended stays so
 pub step_keeps_over : (m : ModuleValue) (w v : World) (a : ℕ) (e : Event) → step m w a ≡ Stepped v e → (b : ℕ) → is_over w.activities b ≡ true → is_over v.activities b ≡ true
-step_keeps_over m w v a e h = subst (KeepsOver w.activities) h (step_form (KeepsOver w.activities) m w a (record {
-  blocked = tt;
-  wrong = λ c. tt;
-  done = λ act next change f at alive b over. over_set w.activities a b act next at alive over;
-  made = λ act next at alive b over. over_set w.activities a b act next at alive over;
-  stored = λ act s n e at alive b over. over_set w.activities a b act _ at alive over;
-  spawned = λ act t values at alive b over. over_append (slice_set w.activities a _) _ b (over_set w.activities a b act _ at alive over);
+step_keeps_over m w v a e h = subst (KeepsOver w.activities) h (step_kind (KeepsOver w.activities) m w a tt (λ c. tt) (λ act found alive. record {
+  closed = λ n some nobody runs b over. over_set w.activities a b act (left act n) found alive over;
+  over = λ here alone b over. over_set w.activities a b act (ended act) found alive over;
+  arrives = λ b over. over_set w.activities a b act (arrived act) found alive over;
+  done = λ next change e on quiet rests b over. over_set w.activities a b act next found alive over;
+  made = λ next on b over. over_set w.activities a b act next found alive over;
+  stored = λ s n e on quiet b over. over_set w.activities a b act (onward act) found alive over;
+  spawned = λ t args values at on b over. over_append (slice_set w.activities a (onward act)) _ b (over_set w.activities a b act (onward act) found alive over);
 }))

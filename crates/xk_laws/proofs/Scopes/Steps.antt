@@ -1,7 +1,6 @@
--- Each step of a sound world keeps the scopes of clocks, instruction by instruction.
-use Rattle.std.proofs.Common.{◌≡◌, ℕ, zero, suc, ◌+◌, ◌<◌, ◌≤◌, ◌==◌, Bool, true, false, cond, List, [], ◌∷◌, ◌++◌, length, map, set, ℤ, pos, ◌+ℤ◌, int_lt, Option, Some, None, inl, inr, ◌⊎◌, refl, sym, ap, ◌∙◌, subst, arith, length-set}
+-- Each step of a sound world keeps the scopes of clocks, by the forms that it can have.
+use Rattle.std.proofs.Common.{◌≡◌, ℕ, zero, suc, ◌+◌, ◌<◌, ◌≤◌, Bool, true, false, cond, List, [], ◌∷◌, ◌++◌, length, map, set, ℤ, Some, inl, inr, ◌⊎◌, refl, sym, ap, ◌∙◌, subst, arith, length-set}
 use Rattle.std.specs.Prelude.{slice_get}
-use Rattle.std.specs.Int.{w64, int_wrapping_add, int_wrapping_sub, int_wrapping_mul}
 use Rattle.std.specs.List.{list_any}
 use Rattle.std.specs.Option.{option_map_or, option_and_then}
 use Rattle.std.proofs.lemmas.Bool.{false≢true}
@@ -12,7 +11,6 @@ use Rattle.xk_types.specs.declared.instr.Instr.{Instr}
 use Rattle.xk_types.specs.declared.instr.Instr.TheVariants as instr
 use Rattle.xk_types.specs.declared.names.Value.{Value}
 use Rattle.xk_types.specs.declared.names.Value.TheVariants as value
-use Rattle.xk_types.specs.declared.names.Status.{Status}
 use Rattle.xk_types.specs.declared.names.Status.TheVariants as status
 use Rattle.xk_types.specs.declared.names.Standing.{Standing}
 use Rattle.xk_types.specs.declared.names.Standing.TheVariants as standing
@@ -20,22 +18,22 @@ use Rattle.xk_types.specs.declared.names.Event.{Event}
 use Rattle.xk_types.specs.declared.names.Event.TheVariants as event
 use Rattle.xk_types.specs.declared.rules.Rule.TheVariants as rule
 use Rattle.xk_types.specs.declared.rules.Kind.{Kind}
-use Rattle.xk_types.specs.declared.unit.ParamKind.{ParamKind}
 use Rattle.xk_types.specs.declared.unit.ParamKind.TheVariants as param
-use Rattle.xk_types.specs.Code.{UnitValue, ModuleValue, params_of, clock_arguments, compares, is_method, is_body}
+use Rattle.xk_types.specs.Code.{UnitValue, ModuleValue, params_of, clock_arguments, is_method, is_body}
 use Rattle.xk_types.specs.Blocks.{block_at, depth_at, same_block, homes, is_elsewhere, is_here}
-use Rattle.xk_types.specs.World.{Frame, Finish, Activity, Clock, World, standing_of, instruction_at, frame_with, base_of}
-use Rattle.xk_types.specs.Step.{Outcome, Blocked, Wrong, ClockUse, is_registered, number_in, clock_in, registered_on, put_in, slot_at, arguments_in, computing, turning, again, spawned, carried_out, run_at, done, made, onward, going, with_slots, arrived, ended, past, none, only, all, resumed, passed, dropped, child, innermost, awaits, left, closing, called, back_in, returning, new_clock, is_given, governing, joined, entered, moved, settled_clock, passing, waits, step_by, step_of, step, cell_in, stored}
+use Rattle.xk_types.specs.World.{Frame, Finish, Activity, Clock, World, frame_with, base_of}
+use Rattle.xk_types.specs.Step.{slot_at, spawned, done, made, onward, with_slots, arrived, ended, past, none, all, resumed, passed, dropped, child, left, called, back_in, new_clock, is_given, governing, joined, entered, moved, settled_clock, step, stored}
 use Rattle.xk_types.specs.Order.{Has}
-use Rattle.xk_types.specs.Shape.{instr_is, gives_away, target}
+use Rattle.xk_types.specs.Shape.{instr_is, gives_away}
 use Rattle.xk_types.specs.Accepted.{IsAccepted}
 use Rattle.xk_types.specs.Walk.{let_go, becomes}
 use Rattle.xk_laws.proofs.Invariant.{Each, Names, NamedIn, IsWaiting, AreWaiting, IsActivitySound, IsSound, looks, kind_by, is_held, stands_on}
-use Rattle.xk_types.proofs.Lists.{get_inside, each_set, each_push, get_push, get-push_other, fun_ext}
+use Rattle.xk_types.proofs.Lists.{each_set, each_push, get_push, get-push_other, fun_ext}
 use Rattle.xk_laws.proofs.Clocks.Standings.{stands_on-moved_same, stands_on-moved_other, length-moved, stands_on-push_old, stands_on-push_other, stands_on-joined_old, stands_on-joined_new, length-joined}
 use Rattle.xk_laws.proofs.Shape.Units.{IsFit, IsRun, unit_fits, unbroken, start_fits, call_fits}
+use Rattle.xk_laws.proofs.Forms.{IsNext, GoesIn, Changes, HoldsOfForms, step_form}
 use Rattle.xk_laws.proofs.Shape.Blocks.{is_border, block_next, block_jump, block_round, block_opened, block_closed, block_begun, block_end, block_start}
-use Rattle.xk_laws.proofs.NeverWrong.Given.{AreGiven, given_none, given_more, Begun, frame_begun, look_given, new_look}
+use Rattle.xk_laws.proofs.NeverWrong.Given.{AreGiven, Begun, frame_begun, look_given, new_look}
 use Rattle.xk_laws.proofs.SlotKinds.Table.{let_go_held, resumed_held, passed_held}
 use Rattle.xk_laws.proofs.Bound.Totals.{room_called}
 use Rattle.xk_laws.proofs.SlotKinds.Walks.{Allowed}
@@ -45,75 +43,7 @@ use Rattle.xk_types.proofs.Members.{has_any}
 use Rattle.xk_types.proofs.Shape.Spans.{is_same}
 use Rattle.xk_laws.proofs.Shape.Homes.{make_home, param_home, handed_home}
 
--- ---- operands
-
-module _ (m : ModuleValue) (w : World) (a : ℕ) where
-  number_scopes : (o : Option Value) (go : ℤ → Outcome) → ((n : ℤ) → o ≡ Some (value.Number n) → Scopes m (go n)) → Scopes m (number_in o go)
-  number_scopes None go h = tt
-  number_scopes (Some value.Unset) go h = tt
-  number_scopes (Some (value.Number n)) go h = h n refl
-  number_scopes (Some (value.Clock c)) go h = tt
-
-  registered_scopes : (o : Option Clock) (go : Outcome) → (is_held (kind_by (option_map_or (λ c. standing_of c a) o standing.Apart)) ≡ true → Scopes m go)
-      → Scopes m (registered_on o a go)
-  registered_scopes None go h = tt
-  registered_scopes (Some c) go h = cases (standing_of c a) h
-    where
-      cases : (s : Standing) → (is_held (kind_by s) ≡ true → Scopes m go) → Scopes m (cond (is_registered s) go (Wrong ClockUse))
-      cases standing.Apart g = tt
-      cases standing.Open g = g refl
-      cases standing.Signalled g = g refl
-      cases standing.Ahead g = g refl
-
-  clock_scopes : (o : Option Value) (go : ℕ → Outcome) → ((k : ℕ) → o ≡ Some (value.Clock k) → is_held (looks w.clocks a k) ≡ true → Scopes m (go k)) → Scopes m (clock_in w a o go)
-  clock_scopes None go h = tt
-  clock_scopes (Some value.Unset) go h = tt
-  clock_scopes (Some (value.Number n)) go h = tt
-  clock_scopes (Some (value.Clock k)) go h = registered_scopes (slice_get w.clocks k) (go k) (λ held. h k refl held)
-
-  cell_scopes : (o : Option ℤ) (go : ℤ → Outcome) → ((n : ℤ) → Scopes m (go n)) → Scopes m (cell_in o go)
-  cell_scopes None go h = tt
-  cell_scopes (Some n) go h = h n
-
-  -- a shared number that is written concerns no scope
-  stored_scopes : (act : Activity) (s : ℕ) (n : ℤ) (e : Event) → Scopes m (done w a (onward act) none e) → Scopes m (stored w a act s n e)
-  stored_scopes act s n e h = record { scopes = h.scopes; width = h.width; activities = h.activities }
-
-  put_scopes : (o : Option Value) (act : Activity) (d : ℕ) (v : Value) (go : Activity → Outcome)
-      → ((old : Value) → o ≡ Some old → Scopes m (go (onward (with_slots act (set act.frame.slots d v))))) → Scopes m (put_in o act d v go)
-  put_scopes None act d v go h = tt
-  put_scopes (Some old) act d v go h = h old refl
-
-  arguments_scopes : (act : Activity) (ps : List ParamKind) (xs : List ℕ) (go : List Value → Outcome)
-      → ((values : List Value) → AreGiven (stands_on w.clocks a) act.frame.slots ps xs values → Scopes m (go values)) → Scopes m (arguments_in w a act ps xs go)
-  arguments_scopes act [] [] go h = h [] (given_none (stands_on w.clocks a) act.frame.slots)
-  arguments_scopes act [] (x ∷ xs) go h = tt
-  arguments_scopes act (p ∷ ps) [] go h = tt
-  arguments_scopes act (param.Number ∷ ps) (x ∷ xs) go h = number_scopes (slot_at act x) _
-      (λ n is. arguments_scopes act ps xs (λ values. go (value.Number n ∷ values))
-      (λ values g. h (value.Number n ∷ values) (given_more (stands_on w.clocks a) act.frame.slots param.Number ps x xs (value.Number n) values refl g)))
-  arguments_scopes act (param.Clock ∷ ps) (x ∷ xs) go h = clock_scopes (slot_at act x) _
-      (λ k is held. arguments_scopes act ps xs (λ values. go (value.Clock k ∷ values))
-      (λ values g. h (value.Clock k ∷ values) (given_more (stands_on w.clocks a) act.frame.slots param.Clock ps x xs (value.Clock k) values (x, refl, refl, is, held) g)))
-
 -- ---- one activity
-
--- a change of standings registers the activity on no clock
-abbrev pub Registers : (ℕ → Standing → Standing) → Type 0
-Registers change = (k : ℕ) (st : Standing) → is_held (kind_by (change k st)) ≡ true → is_held (kind_by st) ≡ true
-
-only_registers : (c : ℕ) (f : Standing → Standing) → ((st : Standing) → is_held (kind_by (f st)) ≡ true → is_held (kind_by st) ≡ true) → Registers (only c f)
-only_registers c f h k st = cases (k == c)
-  where
-    cases : (b : Bool) → is_held (kind_by (cond b (f st) st)) ≡ true → is_held (kind_by st) ≡ true
-    cases true g = h st g
-    cases false g = g
-
--- where a slot got a number, the names are those that were there
-number_names : (slots : List Value) (d : ℕ) (old : Value) (n : ℤ) → slice_get slots d ≡ Some old → (s c : ℕ) → Names (set slots d (value.Number n)) s c → Names slots s c
-number_names slots d old n at s c named =
-    each_set (λ z x. (k : ℕ) → x ≡ value.Clock k → Names slots z k) slots d old (value.Number n) at
-    (λ k e. absurd (grind arith)) (λ z x differs g k e. g ∙ ap Some e) s (value.Clock c) named c refl
 
 module _ (m : ModuleValue) (ok : IsAccepted m) (w : World) (a : ℕ) (was : Activity) (sound : IsSound m w) (scoped : IsScoped m w)
     (found : slice_get w.activities a ≡ Some was) where
@@ -186,7 +116,8 @@ module _ (m : ModuleValue) (ok : IsAccepted m) (w : World) (a : ℕ) (was : Acti
   keeps_to : (act : Activity) (change : ℕ → Standing → Standing) (e : Event) → act.frame.unit ≡ was.frame.unit → act.callers ≡ was.callers
       → act.opened ≡ was.opened → act.governed ≡ was.governed
       → block_at me.u act.frame.place ≡ block_at me.u was.frame.place → ((s c : ℕ) → Names act.frame.slots s c → Names was.frame.slots s c)
-      → ((k : ℕ) → change k standing.Apart ≡ standing.Apart) → Registers change → Scopes m (done w a act change e)
+      → ((k : ℕ) → change k standing.Apart ≡ standing.Apart) → ((k : ℕ) (st : Standing) → is_held (kind_by (change k st)) ≡ true → is_held (kind_by st) ≡ true)
+      → Scopes m (done w a act change e)
   keeps_to act change e unit callers opened governed block names apart registers = done_scopes act change e apart
       (stays act (λ k. kind_by (change k (stands_on w.clocks a k))) unit callers opened governed block names (λ c held. registers c (stands_on w.clocks a c) held))
 
@@ -200,43 +131,26 @@ module _ (m : ModuleValue) (ok : IsAccepted m) (w : World) (a : ℕ) (was : Acti
     at_it : (i : Instr) → Here i → IsAt m (stands_on w.clocks a) (length w.clocks) w.steps was me.u i
     at_it i here = record { ok = ok; me = me; unit = refl; fit = fit; running = running; here = here }
 
-    -- an instruction that goes on, and writes nothing
-    goes_on : (i : Instr) → Here i → is_border i ≡ false → (change : ℕ → Standing → Standing) (e : Event) → ((k : ℕ) → change k standing.Apart ≡ standing.Apart) → Registers change
-        → Scopes m (done w a (onward was) change e)
-    goes_on i here plain change e apart registers = keeps_to (onward was) change e refl refl refl refl
-        (block_next me.u fit.finishes was.frame.place i here plain) (λ s c named. named) apart registers
+    -- where it goes on in its unit, the same finishes stand round the place
+    block_of : (i : Instr) → Here i → (frame : Frame) → GoesIn i was.frame frame → block_at me.u frame.place ≡ block_at me.u was.frame.place
+    block_of i here frame to = elim to.place [
+      | inl e ↦ ap (block_at me.u) e ∙ block_next me.u fit.finishes was.frame.place i here to.plain
+      | inr (inl aim) ↦ block_jump me.u fit.finishes fit.loops was.frame.place frame.place i here to.plain aim
+      | inr (inr t) ↦ ap (block_at me.u) t.2 ∙ block_round me.u fit.finishes fit.loops t.0 was.frame.place (here ∙ ap (λ j. Some j) t.1)
+    ]
 
-    -- one that writes a number to slot d, and goes on
-    writes_number : (e : Event) (i : Instr) → Here i → is_border i ≡ false → (d : ℕ) (n : ℤ)
-        → Scopes m (put_in (slot_at was d) was d (value.Number n) (λ next. done w a next none e))
-    writes_number e i here plain d n = put_scopes m w a (slot_at was d) was d (value.Number n) (λ next. done w a next none e)
-        (λ old at. keeps_to (onward (with_slots was (set was.frame.slots d (value.Number n)))) none e refl refl refl refl
-        (block_next me.u fit.finishes was.frame.place i here plain) (number_names was.frame.slots d old n at) (λ k. refl) (λ k st h. h))
+    -- one that goes on in its unit
+    goes_scopes : (i : Instr) → Here i → (frame : Frame) → GoesIn i was.frame frame → (change : ℕ → Standing → Standing) (e : Event) → Changes change e
+        → Scopes m (done w a (record was { frame = frame }) change e)
+    goes_scopes i here frame to change e changes =
+        keeps_to (record was { frame = frame }) change e to.unit refl refl refl (block_of i here frame to) to.names changes.apart changes.registers
 
-    computing_scopes : (i : Instr) → Here i → is_border i ≡ false → (f : ℤ → ℤ → ℤ) (d x y : ℕ) → Scopes m (computing w a was f d x y)
-    computing_scopes i here plain f d x y = number_scopes m w a (slot_at was x) _
-        (λ p e. number_scopes m w a (slot_at was y) _ (λ q g. writes_number event.Local i here plain d (f p q)))
-
-    -- one that goes to this place
-    goes_to : (i : Instr) → Here i → is_border i ≡ false → (t : ℕ) → target i ≡ Some t → Scopes m (done w a (going was t) none event.Local)
-    goes_to i here plain t aim = keeps_to (going was t) none event.Local refl refl refl refl
-        (block_jump me.u fit.finishes fit.loops was.frame.place t i here plain aim) (λ s c named. named) (λ k. refl) (λ k st h. h)
-
-    unless_scopes : (i : Instr) → Here i → is_border i ≡ false → (t : ℕ) → target i ≡ Some t → (b : Bool) → Scopes m (done w a (cond b (onward was) (going was t)) none event.Local)
-    unless_scopes i here plain t aim true = goes_on i here plain none event.Local (λ k. refl) (λ k st h. h)
-    unless_scopes i here plain t aim false = goes_to i here plain t aim
-
-    -- the end of a turn
-    turn_scopes : (b k : ℕ) (n : ℤ) → Here (instr.Next b) → slot_at was k ≡ Some (value.Number n) → (x : Bool)
-        → Scopes m (done w a (cond x (again was b k n) (onward was)) none event.Local)
-    turn_scopes b k n here at true = keeps_to (again was b k n) none event.Local refl refl refl refl (block_round me.u fit.finishes fit.loops b was.frame.place here)
-        (number_names was.frame.slots k (value.Number n) (n +ℤ pos 1) at) (λ c. refl) (λ c st h. h)
-    turn_scopes b k n here at false = goes_on (instr.Next b) here refl none event.Local (λ c. refl) (λ c st h. h)
-
-    turning_scopes : (b : ℕ) → Here (instr.Next b) → (o : Option Instr) → Scopes m (turning w a was b o)
-    turning_scopes b here (Some (instr.For k lo hi e)) = number_scopes m w a (slot_at was k) _ (λ n at. turn_scopes b k n here at (int_lt n hi))
-    turning_scopes b here None = tt
-    turning_scopes b here (Some _) = tt
+    -- a shared number that is written concerns no scope
+    stored_scopes : (i : Instr) → Here i → is_border i ≡ false → (s : ℕ) (n : ℤ) (e : Event) → Scopes m (stored w a was s n e)
+    stored_scopes i here plain s n e =
+        let h : Scopes m (done w a (onward was) none e) = keeps_to (onward was) none e refl refl refl refl
+        (block_next me.u fit.finishes was.frame.place i here plain) (λ s c named. named) (λ k. refl) (λ k st h. h) in
+        record { scopes = h.scopes; width = h.width; activities = h.activities }
 
     -- ---- finishes
 
@@ -324,28 +238,7 @@ module _ (m : ModuleValue) (ok : IsAccepted m) (w : World) (a : ℕ) (was : Acti
               scope = h.scope;
             }
 
-    closing_scopes : (b n : ℕ) → Here (instr.EndFinish b) → was.opened ≡ n → Scopes m (closing w a was n)
-    closing_scopes b zero here e = tt
-    closing_scopes b (suc n) here e = cases (awaits w.activities (innermost a was))
-      where
-        cases : (x : Bool) → Scopes m (cond x Blocked (done w a (left was n) none event.Closed))
-        cases true = tt
-        cases false = close_scopes b n here e
-
     -- ---- clocks
-
-    -- an instruction that changes where the activity stands on a clock
-    using_scopes : (i : Instr) → Here i → is_border i ≡ false → (x : ℕ) (f : Standing → Standing) (e : Event) → f standing.Apart ≡ standing.Apart
-        → ((st : Standing) → is_held (kind_by (f st)) ≡ true → is_held (kind_by st) ≡ true) → Scopes m (clock_in w a (slot_at was x) (λ c. done w a (onward was) (only c f) e))
-    using_scopes i here plain x f e apart registers = clock_scopes m w a (slot_at was x) _
-        (λ c is held. goes_on i here plain (only c f) e (λ k. stays_apart c k) (only_registers c f registers))
-      where
-        stays_apart : (c k : ℕ) → only c f k standing.Apart ≡ standing.Apart
-        stays_apart c k = cases (k == c)
-          where
-            cases : (b : Bool) → cond b (f standing.Apart) standing.Apart ≡ standing.Apart
-            cases true = apart
-            cases false = refl
 
     -- the scopes after a clock was made
     abbrev more_scopes : List Finish
@@ -470,13 +363,6 @@ module _ (m : ModuleValue) (ok : IsAccepted m) (w : World) (a : ℕ) (was : Acti
               ∙ ap Some (governing_at a was ∙ ap (finish_at a was.governed) (let e = mine.opened in omega arith));
         }
 
-    -- `call`
-    calling_scopes : (t : ℕ) (args : List ℕ) → Here (instr.Call t args) → Scopes m (carried_out m w a was (instr.Call t args))
-    calling_scopes t args here =
-        let r = call_fits m ok.shape was.frame.unit me.u me.unit t args was.frame.place here in
-        rw (r.found, r.fits) (arguments_scopes m w a was r.v.params args (λ values. done w a (called m was t values) none event.Local)
-        (λ values given. called_scopes t args here values r given))
-
     -- the end of a method
     back_scopes : Here instr.Ret → (f : Frame) (fs : List Frame) → was.callers ≡ f ∷ fs → Scopes m (done w a (back_in was f fs) none event.Local)
     back_scopes here f fs under = done_scopes (back_in was f fs) none event.Local (λ k. refl) (record {
@@ -515,14 +401,6 @@ module _ (m : ModuleValue) (ok : IsAccepted m) (w : World) (a : ℕ) (was : Acti
                   (subst (IsRound h.home) (sym block) (subst (λ v. IsRound h.home (block_at v f.place)) is h.round));
               scope = h.scope;
             }
-
-    -- the end of an activity
-    end_scopes : Scopes m (done w a (ended was) (all dropped) event.Ended)
-    end_scopes = keeps_to (ended was) (all dropped) event.Ended refl refl refl refl refl (λ s c named. named) (λ k. refl) (λ k st h. absurd (false≢true h))
-
-    ret_scopes : Here instr.Ret → (fs : List Frame) → was.callers ≡ fs → Scopes m (returning w a was fs)
-    ret_scopes here [] e = end_scopes
-    ret_scopes here (f ∷ fs) e = back_scopes here f fs e
 
     -- what a new activity stands on, its starter stands on
     given_held : (b : Bool) (st : Standing) → is_held (kind_by (cond b st standing.Apart)) ≡ true → is_held (kind_by st) ≡ true
@@ -601,65 +479,38 @@ module _ (m : ModuleValue) (ok : IsAccepted m) (w : World) (a : ℕ) (was : Acti
               (λ s c named. named) (λ c held. held))
               (λ b x differs at. scoped.activities b x at)
 
-    -- `spawn`
-    spawning_scopes : (t : ℕ) (args : List ℕ) → Here (instr.Spawn t args) → Scopes m (carried_out m w a was (instr.Spawn t args))
-    spawning_scopes t args here =
-        let r = start_fits m ok.shape was.frame.unit me.u me.unit t args was.frame.place here in
-        rw (r.found, r.fits) (arguments_scopes m w a was r.v.params args (spawned m w a was t) (λ values given. started_scopes t args here values r given))
+    -- what was given to a unit was given to the one that the rules speak of
+    given_to : (u v : UnitValue) (t : ℕ) (args : List ℕ) (values : List Value) → slice_get m.units t ≡ Some u → slice_get m.units t ≡ Some v
+        → AreGiven (stands_on w.clocks a) was.frame.slots u.params args values → AreGiven (stands_on w.clocks a) was.frame.slots v.params args values
+    given_to u v t args values found there =
+        subst (λ (x : UnitValue). AreGiven (stands_on w.clocks a) was.frame.slots x.params args values) (same_Some u v (sym found ∙ there))
 
-    -- every instruction
-    instruction_scopes : (i : Instr) → Here i → Scopes m (carried_out m w a was i)
-    instruction_scopes (instr.Lit d n) here = writes_number event.Local (instr.Lit d n) here refl d n
-    instruction_scopes (instr.Copy d x) here = number_scopes m w a (slot_at was x) _ (λ n e. writes_number event.Local (instr.Copy d x) here refl d n)
-    instruction_scopes (instr.Add d x y) here = computing_scopes (instr.Add d x y) here refl (int_wrapping_add w64) d x y
-    instruction_scopes (instr.Sub d x y) here = computing_scopes (instr.Sub d x y) here refl (int_wrapping_sub w64) d x y
-    instruction_scopes (instr.Mul d x y) here = computing_scopes (instr.Mul d x y) here refl (int_wrapping_mul w64) d x y
-    instruction_scopes (instr.Unless op x y t) here = number_scopes m w a (slot_at was x) _
-        (λ p e. number_scopes m w a (slot_at was y) _ (λ q g. unless_scopes (instr.Unless op x y t) here refl t refl (compares op p q)))
-    instruction_scopes (instr.Jump t) here = goes_to (instr.Jump t) here refl t refl
-    instruction_scopes (instr.For k lo hi e) here = writes_number event.Local (instr.For k lo hi e) here refl k lo
-    instruction_scopes (instr.Next b) here = turning_scopes b here (instruction_at m (record was.frame { place = b }))
-    instruction_scopes (instr.Get d s) here = cell_scopes m w a (slice_get w.cells s) _ (λ n. writes_number event.Got (instr.Get d s) here refl d n)
-    instruction_scopes (instr.Put s x) here = number_scopes m w a (slot_at was x) _ (λ n e. cell_scopes m w a (slice_get w.cells s) _
-        (λ old. stored_scopes m w a was s n event.Put (goes_on (instr.Put s x) here refl none event.Put (λ k. refl) (λ k st h. h))))
-    instruction_scopes (instr.AddTo s x) here = number_scopes m w a (slot_at was x) _ (λ n e. cell_scopes m w a (slice_get w.cells s) _
-        (λ old. stored_scopes m w a was s (int_wrapping_add w64 old n) event.Added (goes_on (instr.AddTo s x) here refl none event.Added (λ k. refl) (λ k st h. h))))
-    instruction_scopes (instr.Finish e) here = finish_scopes e here
-    instruction_scopes (instr.EndFinish b) here = closing_scopes b was.opened here refl
-    instruction_scopes (instr.Print x) here = number_scopes m w a (slot_at was x) _ (λ n e. goes_on (instr.Print x) here refl none (event.Printed n) (λ k. refl) (λ k st h. h))
-    instruction_scopes (instr.Make d) here = put_scopes m w a (slot_at was d) was d (value.Clock (length w.clocks)) (λ next. made w a next) (λ old at. made_scopes d old here at)
-    instruction_scopes (instr.Resume x) here = using_scopes (instr.Resume x) here refl x resumed event.Resumed refl resumed_held
-    instruction_scopes (instr.Drop x) here = using_scopes (instr.Drop x) here refl x dropped event.Dropped refl (λ st h. absurd (false≢true h))
-    instruction_scopes instr.Advance here = keeps_to (arrived was) (all resumed) event.Arrived refl refl refl refl refl (λ s c named. named) (λ k. refl)
-        (λ k st h. resumed_held st h)
-    instruction_scopes (instr.Call t args) here = calling_scopes t args here
-    instruction_scopes (instr.Spawn t args) here = spawning_scopes t args here
-    instruction_scopes instr.Ret here = ret_scopes here was.callers refl
+  -- the instruction stands in the code of its unit
+  stands : (i : Instr) → IsNext m was i → slice_get me.u.code was.frame.place ≡ Some i
+  stands i at = sym (ap (option_and_then (λ unit. slice_get unit.code was.frame.place)) me.unit) ∙ at.here
 
-    run_scopes : Scopes m (run_at m w a was (instruction_at m was.frame))
-    run_scopes =
-        let i = get_inside me.u.code was.frame.place me.frame.place in
-        subst (λ o. Scopes m (run_at m w a was o)) (sym (ap (option_and_then (λ unit. slice_get unit.code was.frame.place)) me.unit ∙ i.1)) (instruction_scopes i.0 i.1)
-
-  -- the second half of an `advance`
-  pass_scopes : was.status ≡ status.Arrived → Scopes m (passing w a was)
-  pass_scopes waiting = cases (waits w a)
-    where
-      cases : (b : Bool) → Scopes m (cond b Blocked (done w a (past was (w.steps + 1)) (all passed) event.Passed))
-      cases true = tt
-      cases false = keeps_to (past was (w.steps + 1)) (all passed) event.Passed refl refl refl refl
-          (block_next me.u fit.finishes was.frame.place instr.Advance (me.advance waiting) refl)
-          (λ s c named. named) (λ k. refl) (λ k st h. passed_held st h)
+  -- the forms of a step
+  form_scopes : HoldsOfForms (Scopes m) m w a was
+  form_scopes = record {
+    goes = λ i at frame to change e changes. goes_scopes at.runs i (stands i at) frame to change e changes;
+    stored = λ i at plain s n e quiet. stored_scopes at.runs i (stands i at) plain s n e;
+    made = λ d old at there. made_scopes at.runs d old (stands (instr.Make d) at) there;
+    opened = λ e at. finish_scopes at.runs e (stands (instr.Finish e) at);
+    closed = λ b n at some nobody. close_scopes at.runs b n (stands (instr.EndFinish b) at) some;
+    arrives = λ at. keeps_to (arrived was) (all resumed) event.Arrived refl refl refl refl refl (λ s c named. named) (λ k. refl) (λ k st h. resumed_held st h);
+    passes = λ waiting. keeps_to (past was (w.steps + 1)) (all passed) event.Passed refl refl refl refl
+        (block_next me.u fit.finishes was.frame.place instr.Advance (me.advance waiting) refl)
+        (λ s c named. named) (λ k. refl) (λ k st h. passed_held st h);
+    calls = λ t args u values at found given.
+        (let r = call_fits m ok.shape was.frame.unit me.u me.unit t args was.frame.place (stands (instr.Call t args) at) in
+        called_scopes at.runs t args (stands (instr.Call t args) at) values r (given_to at.runs u r.v t args values found r.found given));
+    returns = λ f fs at under. back_scopes at.runs (stands instr.Ret at) f fs under;
+    over = λ at alone. keeps_to (ended was) (all dropped) event.Ended refl refl refl refl refl (λ s c named. named) (λ k. refl) (λ k st h. absurd (false≢true h));
+    spawned = λ t args u values at found given.
+        (let r = start_fits m ok.shape was.frame.unit me.u me.unit t args was.frame.place (stands (instr.Spawn t args) at) in
+        started_scopes at.runs t args (stands (instr.Spawn t args) at) values r (given_to at.runs u r.v t args values found r.found given));
+  }
 
 -- every step of a sound world keeps its scopes
 pub step_scopes : (m : ModuleValue) → IsAccepted m → (w : World) → IsSound m w → IsScoped m w → (a : ℕ) → Scopes m (step m w a)
-step_scopes m ok w sound scoped a = of (slice_get w.activities a) refl
-  where
-    by : (act : Activity) → slice_get w.activities a ≡ Some act → (st : Status) → act.status ≡ st → Scopes m (step_by m w a act st)
-    by act found status.Running e = run_scopes m ok w a act sound scoped found e
-    by act found status.Arrived e = pass_scopes m ok w a act sound scoped found e
-    by act found status.Ended e = tt
-
-    of : (o : Option Activity) → slice_get w.activities a ≡ o → Scopes m (step_of m w a o)
-    of None e = tt
-    of (Some act) e = by act e act.status refl
+step_scopes m ok w sound scoped a = step_form (Scopes m) m w a tt (λ c. tt) (λ act found. form_scopes m ok w a act sound scoped found)
