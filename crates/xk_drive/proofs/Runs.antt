@@ -7,17 +7,11 @@ use Rattle.xk_types.specs.declared.names.Event.{Event}
 use Rattle.xk_types.specs.Code.{ModuleValue}
 use Rattle.xk_types.specs.World.{World}
 use Rattle.xk_types.specs.Step.{Stepped, step}
-use Rattle.xk_types.specs.Schedule.{Through, run, run_on, is_local, events, events_on, seen}
+use Rattle.xk_types.specs.Schedule.{Through, run, is_local, events, events_on, seen}
 use Rattle.xk_laws.proofs.Reached.{same_through, first_step, run_more}
 use Rattle.xk_drive.specs.Schedules.{shown, events_seen, LeadsPart}
 
 -- ---- in two parts
-
-pub run_append : (m : ModuleValue) (xs ys : List ℕ) (w v : World) → run m xs w ≡ Through v → run m (xs ++ ys) w ≡ run m ys v
-run_append m [] ys w v h = ap (run m ys) (same_through w v h)
-run_append m (a ∷ xs) ys w v h =
-    let f = first_step w v (step m w a) (run m xs) h in
-    ap (λ o. run_on w o (run m (xs ++ ys))) f.2 ∙ run_append m xs ys f.0 v f.3
 
 pub events_append : (m : ModuleValue) (xs ys : List ℕ) (w v : World) → run m xs w ≡ Through v → events m (xs ++ ys) w ≡ events m xs w ++ events m ys v
 events_append m [] ys w v h = ap (events m ys) (same_through w v h)

@@ -18,7 +18,7 @@ use Rattle.xk_core.specs.Core.{CoreValue}
 use Rattle.xk_core.specs.Stretch.{RunsTo, IsUnseen}
 use Rattle.xk_drive.specs.Choosing.{enabled_in, Follows, state_after}
 use Rattle.xk_drive.specs.Driving.{IsTurn, IsPutOff, IsShort, IsRunOf, IsNoted, IsCommitted, IsChosen, IsChosenSoFar, state_so_far}
-use Rattle.xk_drive.proofs.Runs.{run_append}
+use Rattle.xk_drive.proofs.Going.{run_then}
 use Rattle.xk_drive.proofs.Following.{follows_more, state_more, printed_more, printed_unseen}
 
 -- one entry more is one step more
@@ -59,7 +59,7 @@ pub run_commits : (m k : ModuleValue) (log more : List Entry) (numbers : List �
 run_commits m k log more numbers c d a n r ran hidden same is l =
     subst (λ j. IsRunOf j more numbers d) (sym is) (subst (λ es. IsRunOf m es numbers d) (sym l.3) (record {
       module_is = same ∙ r.module_is;
-      leads = ap (λ xs. run m xs (opening m)) schedule ∙ run_append m (schedule_of log) list (opening m) c.world r.leads
+      leads = ap (λ xs. run m xs (opening m)) schedule ∙ run_then m (schedule_of log) list (opening m) c.world r.leads
           ∙ subst (λ j. run j list c.world ≡ Through d.world) r.module_is ran;
       prints = r.prints ∙ sym (ap (λ xs. printed m xs (opening m)) schedule
           ∙ printed_unseen m (schedule_of log) list (opening m) c.world r.leads (subst (λ j. seen j list c.world ≡ []) r.module_is hidden));

@@ -17,7 +17,7 @@ use Rattle.xk_laws.proofs.Reached.{same_through, first_step}
 use Rattle.xk_core.specs.Core.{CoreValue, is_quiet, opening_core}
 use Rattle.xk_members.specs.Members.{numbers_from}
 use Rattle.xk_drive.specs.Driving.{IsRunOf}
-use Rattle.xk_drive.proofs.Runs.{run_append}
+use Rattle.xk_drive.proofs.Going.{run_then}
 use Rattle.xk_drive.proofs.Listing.{one_more, one_not}
 use Rattle.xk_replay.specs.Chart.{has_advanced, advance_in, advances_in, advances_on, advances, act_text, acts_text, advance_line, chart_lines, chart_text}
 
@@ -115,7 +115,7 @@ entry_charted m log i z c d text more lt h led same grown =
     record {
       same_module = same ∙ h.same_module;
       last = h.last;
-      legal = sym (run_append m list rest c.world d.world through) ∙ ap (λ l. run m l c.world) (sym (schedule_rest log i z lt)) ∙ h.legal;
+      legal = sym (run_then m list rest c.world d.world through) ∙ ap (λ l. run m l c.world) (sym (schedule_rest log i z lt)) ∙ h.legal;
       lines = ap (λ l. l ++ chart_lines m rest d.world) (grown ∙ ap (λ k. text ++ chart_lines k list c.world) h.same_module)
           ∙ append_assoc text (chart_lines m list c.world) (chart_lines m rest d.world)
           ∙ ap (λ l. text ++ l) (sym (lines_append m list rest c.world d.world through))
