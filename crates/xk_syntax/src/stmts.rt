@@ -128,7 +128,7 @@ fn else_part<'s, 't>(
 /// The rest of an `if`, behind its `)`.
 #[cycle(stmts)]
 #[tactic(auto, unfolding(crate::specs::Readers::bind, crate::specs::Readers::rest_at))]
-fn choice<'s, 't>(
+fn if_stmt<'s, 't>(
     alloc: Global,
     levels: u32,
     paren: usize,
@@ -151,7 +151,7 @@ fn choice<'s, 't>(
 /// The rest of a block, behind its `{`.
 #[cycle(stmts)]
 #[tactic(auto, unfolding(crate::specs::Readers::bind, crate::specs::Readers::rest_at))]
-fn block<'s, 't>(
+fn block_stmt<'s, 't>(
     alloc: Global,
     levels: u32,
     tokens: &'s [Token<'t>],
@@ -167,7 +167,7 @@ fn block<'s, 't>(
 /// The rest of a `for`, behind its `)`.
 #[cycle(stmts)]
 #[tactic(auto, unfolding(crate::specs::Readers::bind, crate::specs::Readers::rest_at))]
-fn turns<'s, 't>(
+fn for_stmt<'s, 't>(
     alloc: Global,
     levels: u32,
     paren: usize,
@@ -187,7 +187,7 @@ fn turns<'s, 't>(
 /// The rest of an `async`, behind its list of clocks.
 #[cycle(stmts)]
 #[tactic(auto, unfolding(crate::specs::Readers::bind, crate::specs::Readers::rest_at))]
-fn started<'s, 't>(
+fn async_stmt<'s, 't>(
     alloc: Global,
     levels: u32,
     at: usize,
@@ -205,7 +205,7 @@ fn started<'s, 't>(
 /// The rest of a `finish`, behind that word.
 #[cycle(stmts)]
 #[tactic(auto, unfolding(crate::specs::Readers::bind, crate::specs::Readers::rest_at))]
-fn awaited<'s, 't>(
+fn finish_stmt<'s, 't>(
     alloc: Global,
     levels: u32,
     tokens: &'s [Token<'t>],
@@ -233,13 +233,15 @@ fn rest_of<'s, 't>(
 {
     match head {
         Head::Whole(stmt) => Ok((stmt, tokens)),
-        Head::Brace => block(alloc, levels, tokens, end),
+        Head::Brace => block_stmt(alloc, levels, tokens, end),
         Head::Condition(paren, left, comparison, right) => {
-            choice(alloc, levels, paren, left, comparison, right, tokens, end)
+            if_stmt(alloc, levels, paren, left, comparison, right, tokens, end)
         }
-        Head::Range(paren, name, lo, hi) => turns(alloc, levels, paren, name, lo, hi, tokens, end),
-        Head::Start(at, clocks) => started(alloc, levels, at, clocks, tokens, end),
-        Head::Wait => awaited(alloc, levels, tokens, end),
+        Head::Range(paren, name, lo, hi) => for_stmt(
+            alloc, levels, paren, name, lo, hi, tokens, end,
+        ),
+        Head::Start(at, clocks) => async_stmt(alloc, levels, at, clocks, tokens, end),
+        Head::Wait => finish_stmt(alloc, levels, tokens, end),
     }
 }
 

@@ -13,23 +13,23 @@ decreases-read_stmts l = 5 * l.levels + 1
 abbrev pub decreases-boxed_stmt : goal.decreases-boxed_stmt
 decreases-boxed_stmt l = 5 * l.levels + 1
 
-abbrev pub decreases-block : goal.decreases-block
-decreases-block l = 5 * l.levels + 2
+abbrev pub decreases-block_stmt : goal.decreases-block_stmt
+decreases-block_stmt l = 5 * l.levels + 2
 
 abbrev pub decreases-else_part : goal.decreases-else_part
 decreases-else_part l = 5 * l.levels + 2
 
-abbrev pub decreases-choice : goal.decreases-choice
-decreases-choice l = 5 * l.levels + 3
+abbrev pub decreases-if_stmt : goal.decreases-if_stmt
+decreases-if_stmt l = 5 * l.levels + 3
 
-abbrev pub decreases-turns : goal.decreases-turns
-decreases-turns l = 5 * l.levels + 2
+abbrev pub decreases-for_stmt : goal.decreases-for_stmt
+decreases-for_stmt l = 5 * l.levels + 2
 
-abbrev pub decreases-started : goal.decreases-started
-decreases-started l = 5 * l.levels + 2
+abbrev pub decreases-async_stmt : goal.decreases-async_stmt
+decreases-async_stmt l = 5 * l.levels + 2
 
-abbrev pub decreases-awaited : goal.decreases-awaited
-decreases-awaited l = 5 * l.levels + 2
+abbrev pub decreases-finish_stmt : goal.decreases-finish_stmt
+decreases-finish_stmt l = 5 * l.levels + 2
 
 abbrev pub decreases-rest_of : goal.decreases-rest_of
 decreases-rest_of l = 5 * l.levels + 4
