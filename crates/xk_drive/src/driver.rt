@@ -507,6 +507,9 @@ impl<'m> Driver<'m> {
         ensures counted { self.new.world.steps ≡ self.old.world.steps + result }
         ensures same_module { self.new.module_run ≡ self.old.module_run }
     {
+        if !self.core.next_local(act) {
+            return 0;
+        }
         let steps = self.core.run(act, max);
         list_own(&mut self.enabled, &self.core, act);
         steps

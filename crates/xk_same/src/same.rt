@@ -20,14 +20,14 @@ fn is_same_instr(a: &Instr, b: &Instr) -> bool
     ensures { Decides result (a.now ≡ b.now) }
 {
     match a {
-        Instr::Lit { d, n } => is_also!(b, Instr::Lit { d: e, n: o } => d == e && n == o),
-        Instr::Copy { d, a: p } => is_also!(b, Instr::Copy { d: e, a: r } => d == e && p == r),
+        Instr::Lit { d, n } => is_also!(b, Instr::Lit { d: e, n: o } => *d == *e && *n == *o),
+        Instr::Copy { d, a: p } => is_also!(b, Instr::Copy { d: e, a: r } => *d == *e && *p == *r),
         Instr::Add { d, a: p, b: q } =>
-            is_also!(b, Instr::Add { d: e, a: r, b: s } => d == e && p == r && q == s),
+            is_also!(b, Instr::Add { d: e, a: r, b: s } => *d == *e && *p == *r && *q == *s),
         Instr::Sub { d, a: p, b: q } =>
-            is_also!(b, Instr::Sub { d: e, a: r, b: s } => d == e && p == r && q == s),
+            is_also!(b, Instr::Sub { d: e, a: r, b: s } => *d == *e && *p == *r && *q == *s),
         Instr::Mul { d, a: p, b: q } =>
-            is_also!(b, Instr::Mul { d: e, a: r, b: s } => d == e && p == r && q == s),
+            is_also!(b, Instr::Mul { d: e, a: r, b: s } => *d == *e && *p == *r && *q == *s),
         Instr::Unless {
             op: f,
             a: p,
@@ -35,28 +35,29 @@ fn is_same_instr(a: &Instr, b: &Instr) -> bool
             t,
         } => {
             is_also!(b, Instr::Unless { op: g, a: r, b: s, t: u }
-                => f == g && p == r && q == s && t == u)
+                => *f == *g && *p == *r && *q == *s && *t == *u)
         }
-        Instr::Jump(t) => is_also!(b, Instr::Jump(u) => t == u),
+        Instr::Jump(t) => is_also!(b, Instr::Jump(u) => *t == *u),
         Instr::For { k, lo: n, hi: o, e } => {
             is_also!(b, Instr::For { k: l, lo: p, hi: q, e: f }
-                => k == l && n == p && o == q && e == f)
+                => *k == *l && *n == *p && *o == *q && *e == *f)
         }
-        Instr::Next(p) => is_also!(b, Instr::Next(q) => p == q),
-        Instr::Finish(p) => is_also!(b, Instr::Finish(q) => p == q),
-        Instr::EndFinish(p) => is_also!(b, Instr::EndFinish(q) => p == q),
-        Instr::Get { d, s } => is_also!(b, Instr::Get { d: e, s: t } => d == e && s == t),
-        Instr::Put { s, a: p } => is_also!(b, Instr::Put { s: t, a: q } => s == t && p == q),
-        Instr::AddTo { s, a: p } => is_also!(b, Instr::AddTo { s: t, a: q } => s == t && p == q),
-        Instr::Print(p) => is_also!(b, Instr::Print(q) => p == q),
-        Instr::Make(k) => is_also!(b, Instr::Make(l) => k == l),
-        Instr::Resume(k) => is_also!(b, Instr::Resume(l) => k == l),
-        Instr::Drop(k) => is_also!(b, Instr::Drop(l) => k == l),
+        Instr::Next(p) => is_also!(b, Instr::Next(q) => *p == *q),
+        Instr::Finish(p) => is_also!(b, Instr::Finish(q) => *p == *q),
+        Instr::EndFinish(p) => is_also!(b, Instr::EndFinish(q) => *p == *q),
+        Instr::Get { d, s } => is_also!(b, Instr::Get { d: e, s: t } => *d == *e && *s == *t),
+        Instr::Put { s, a: p } => is_also!(b, Instr::Put { s: t, a: q } => *s == *t && *p == *q),
+        Instr::AddTo { s, a: p } =>
+            is_also!(b, Instr::AddTo { s: t, a: q } => *s == *t && *p == *q),
+        Instr::Print(p) => is_also!(b, Instr::Print(q) => *p == *q),
+        Instr::Make(k) => is_also!(b, Instr::Make(l) => *k == *l),
+        Instr::Resume(k) => is_also!(b, Instr::Resume(l) => *k == *l),
+        Instr::Drop(k) => is_also!(b, Instr::Drop(l) => *k == *l),
         Instr::Advance => is_also!(b, Instr::Advance => true),
         Instr::Call { unit: t, args: x } =>
-            is_also!(b, Instr::Call { unit: u, args: y } => t == u && x.slots() == y.slots()),
+            is_also!(b, Instr::Call { unit: u, args: y } => *t == *u && x.slots() == y.slots()),
         Instr::Spawn { unit: t, args: x } =>
-            is_also!(b, Instr::Spawn { unit: u, args: y } => t == u && x.slots() == y.slots()),
+            is_also!(b, Instr::Spawn { unit: u, args: y } => *t == *u && x.slots() == y.slots()),
         Instr::Ret => is_also!(b, Instr::Ret => true),
     }
 }
