@@ -54,36 +54,19 @@ fn check<'t>(
 {
     check_own(alloc, worst, scope, methods, s)?;
     match s {
-        Stmt::Declare(b, x, _, r) => {
-            scope.declare(*x, kind_of(*b, r))?;
-            Ok(())
-        }
-        Stmt::Block(ss) => {
-            check_block(alloc, worst, scope, methods, ss.as_slice())?;
-            Ok(())
-        }
-        Stmt::If(_, _, _, _, s) => {
-            check_held(alloc, worst, scope, methods, s)?;
-            Ok(())
-        }
+        Stmt::Declare(b, x, _, r) => scope.declare(*x, kind_of(*b, r)),
+        Stmt::Block(ss) => check_block(alloc, worst, scope, methods, ss.as_slice()),
+        Stmt::If(_, _, _, _, s) => check_held(alloc, worst, scope, methods, s),
         Stmt::IfElse(_, _, _, _, s, t) => {
             check_held(alloc, worst, scope, methods, s)?;
-            check_held(alloc, worst, scope, methods, t)?;
-            Ok(())
+            check_held(alloc, worst, scope, methods, t)
         }
-        Stmt::For(_, x, _, _, s) => {
-            check_loop(alloc, worst, scope, methods, *x, s)?;
-            Ok(())
-        }
+        Stmt::For(_, x, _, _, s) => check_loop(alloc, worst, scope, methods, *x, s),
         Stmt::Async(_, clocks, s) => {
             let clocks = given(alloc, clocks)?;
-            check_body(alloc, worst, scope, methods, clocks, s)?;
-            Ok(())
+            check_body(alloc, worst, scope, methods, clocks, s)
         }
-        Stmt::Finish(s) => {
-            check_held(alloc, worst, scope, methods, s)?;
-            Ok(())
-        }
+        Stmt::Finish(s) => check_held(alloc, worst, scope, methods, s),
         Stmt::Empty => Ok(()),
         Stmt::Assign(_, _) => Ok(()),
         Stmt::Atomic(_, _, _, _) => Ok(()),

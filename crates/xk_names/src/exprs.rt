@@ -3,13 +3,13 @@
 ghost use Rattle.std.specs.Prelude.{◌≡◌, if◌then◌else◌};
 ghost use Rattle.std.specs.List.{flat_map};
 ghost use Rattle.xk_tree.specs.Tree.{expression, word};
-ghost use Rattle.xk_names.specs.Uses.{number_start, numbers, start_of, use_as, values};
+ghost use Rattle.xk_names.specs.Uses.{numbers, start_of, use_as, values};
 ghost use Rattle.xk_names.specs.Collected.{least, use_faults};
 
 use crate::known::Want;
 use crate::scope::Scope;
-use crate::worst::note;
-use xk_tree::{Expr, FrontFault, FrontRule, Name, Number};
+use crate::worst::{note, note_if};
+use xk_tree::{Expr, FrontFault, FrontRule, Name};
 
 // A name that is used.
 pub fn check_use<'t>(worst: &mut Option<FrontFault>, scope: &Scope<'t>, name: Name<'t>, want: Want)
@@ -18,12 +18,10 @@ pub fn check_use<'t>(worst: &mut Option<FrontFault>, scope: &Scope<'t>, name: Na
     match scope.find(name.text) {
         None => note(worst, FrontRule::UnknownName, name.at),
         Some(known) => {
-            if !known.kind.fits(want) {
-                note(worst, FrontRule::WrongKind, name.at);
-            }
-            if !scope.sees(name.text, known) {
-                note(worst, FrontRule::NotCaptured, name.at);
-            }
+            let fits = known.kind.fits(want);
+            note_if(!fits, worst, FrontRule::WrongKind, name.at);
+            let is_seen = scope.sees(name.text, known);
+            note_if(!is_seen, worst, FrontRule::NotCaptured, name.at);
         }
     }
 }
@@ -56,18 +54,12 @@ pub fn check_values<'t>(worst: &mut Option<FrontFault>, scope: &Scope<'t>, e: &E
     }
 }
 
-fn number_start(n: Number) -> usize
-    ensures { result ≡ number_start n }
-{
-    n.minus.unwrap_or(n.at)
-}
-
 // Where an expression begins.
 pub fn start_of(e: &Expr<'_>) -> usize
     ensures { result ≡ start_of (expression e.now) }
 {
     match e {
-        Expr::Number(n) => number_start(*n),
+        Expr::Number(n) => n.minus.unwrap_or(n.at),
         Expr::Name(x) => x.at,
         Expr::Paren(at, _) => *at,
         Expr::Negation(at, _) => *at,

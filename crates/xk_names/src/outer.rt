@@ -173,31 +173,15 @@ fn take_all<'t>(
             let _is_new = own.put(x.text)?;
             Ok(())
         }
-        Stmt::Block(ss) => {
-            take_block(alloc, own, out, methods, ss.as_slice())?;
-            Ok(())
-        }
-        Stmt::If(_, _, _, _, s) => {
-            take_held(alloc, own, out, methods, s)?;
-            Ok(())
-        }
+        Stmt::Block(ss) => take_block(alloc, own, out, methods, ss.as_slice()),
+        Stmt::If(_, _, _, _, s) => take_held(alloc, own, out, methods, s),
         Stmt::IfElse(_, _, _, _, s, t) => {
             take_held(alloc, own, out, methods, s)?;
-            take_held(alloc, own, out, methods, t)?;
-            Ok(())
+            take_held(alloc, own, out, methods, t)
         }
-        Stmt::For(_, x, _, _, s) => {
-            take_loop(alloc, own, out, methods, *x, s)?;
-            Ok(())
-        }
-        Stmt::Async(_, _, body) => {
-            take_held(alloc, own, out, methods, body)?;
-            Ok(())
-        }
-        Stmt::Finish(s) => {
-            take_held(alloc, own, out, methods, s)?;
-            Ok(())
-        }
+        Stmt::For(_, x, _, _, s) => take_loop(alloc, own, out, methods, *x, s),
+        Stmt::Async(_, _, body) => take_held(alloc, own, out, methods, body),
+        Stmt::Finish(s) => take_held(alloc, own, out, methods, s),
         Stmt::Empty => Ok(()),
         Stmt::Assign(_, _) => Ok(()),
         Stmt::Atomic(_, _, _, _) => Ok(()),
@@ -288,9 +272,22 @@ pub fn captures<'t>(
     ensures { IfOk result (λ taken. map (λ x. x.now) taken.items ≡
         captures methods.now (shared_texts (map shared_value shared.now)) (statement body.now)) }
 {
-    let mut own = shared_names(alloc, shared)?;
+    let own = shared_names(alloc, shared)?;
+    let taken = taken_from(alloc, own, methods, body)?;
+    taken.to_vec(alloc)
+}
+
+// The numbers that a statement takes from outside, where it has these of its own.
+fn taken_from<'t>(
+    alloc: Global,
+    mut own: Texts<'t>,
+    methods: &Methods<'_, 't>,
+    body: &Stmt<'t>,
+) -> Result<Texts<'t>, AllocError>
+    ensures { IfOk result (λ out. out ≡
+        put_texts [] (outer_words methods.now own.entry (statement body.now))) }
+{
     let mut out = Texts::new(alloc);
     take_all(alloc, &mut own, &mut out, methods, body)?;
-    let taken = out.to_vec(alloc)?;
-    Ok(taken)
+    Ok(out)
 }

@@ -28,9 +28,17 @@ use Rattle.xk_words.specs.declared.words_fault.WordsFault.TheVariants as fault
 
 -- ---- the command line
 
+-- an argument without a long name, which has to be there
+abbrev pub place : Text → Rule
+place name = record (new_rule name) { required = true; action = Some action.Set }
+
+-- an option of a long name that takes a value
+abbrev pub option : Text → Text → Rule
+option name long = record (new_rule name) { long = Some long; action = Some action.Set }
+
 -- FILE, which has to be there
 abbrev pub file_place : Rule
-file_place = record (new_rule (codes "FILE")) { required = true; action = Some action.Set }
+file_place = place (codes "FILE")
 
 -- `--module`
 abbrev pub module_flag : Rule
@@ -46,7 +54,7 @@ on_either name = with_rule (on_file name) module_flag
 
 -- LOG, which has to be there
 abbrev pub log_place : Rule
-log_place = record (new_rule (codes "LOG")) { required = true; action = Some action.Set }
+log_place = place (codes "LOG")
 
 -- a command on FILE and LOG
 abbrev pub on_log : Text → App
@@ -54,7 +62,7 @@ on_log name = with_rule (on_either name) log_place
 
 -- `--log PATH`
 abbrev pub log_option : Rule
-log_option = record (new_rule (codes "PATH")) { long = Some (codes "log"); action = Some action.Set }
+log_option = option (codes "PATH") (codes "log")
 
 -- texts that stand somewhere in memory
 abbrev pub Names : Type 0
@@ -62,7 +70,7 @@ Names = Bor (List (Bor Text))
 
 -- `--order ORDER`, which takes one of these names
 abbrev pub order_option : Names → Rule
-order_option names = record (new_rule (codes "ORDER")) { long = Some (codes "order"); action = Some action.Set; parser = Some (parser.Names names) }
+order_option names = record (option (codes "ORDER") (codes "order")) { parser = Some (parser.Names names) }
 
 -- the command on FILE whose steps are taken in an order
 abbrev pub by_order : Names → App
@@ -70,7 +78,7 @@ by_order names = with_rule (on_either (codes "run")) (order_option names)
 
 -- `--workers N`, which takes a whole number from 1 to 64
 abbrev pub workers_option : Rule
-workers_option = record (new_rule (codes "N")) { long = Some (codes "workers"); action = Some action.Set; parser = Some (parser.Unsigned 1 64) }
+workers_option = record (option (codes "N") (codes "workers")) { parser = Some (parser.Unsigned 1 64) }
 
 -- the same, whose steps may be taken by workers
 abbrev pub by_workers : Names → App

@@ -1,8 +1,8 @@
 //! The command line, as `clap` reads it.
 
-ghost use Rattle.std.specs.Prelude.{◌≡◌, [], false, Some, None, IfOk, OnOk, IfErr, option_map};
-ghost use Rattle.clap.specs.Words.{app_of, first_of, found_of, kind_of, rows_of, subcommand_rows_of};
-ghost use Rattle.xk_words.specs.Line.{FitsKind, HasNoGlobals, IsRefused, WithOrders, asked_by, asked_in, asked_value, by_order, by_workers, command_by, command_line, drive_in, excludes_by, excludes_in, faults_in, form_in, form_named, is_both, job_of, on_either, on_file, on_log, order_in, order_named, run_by, run_line, task_value, texts, way_value, workers_in, workers_named};
+ghost use Rattle.std.specs.Prelude.{◌≡◌, [], false, Some, None, IfOk, OnOk, IfErr, IsOkAnd, option_map};
+ghost use Rattle.clap.specs.Words.{app_of, first_of, found_of, kind_of, rows_of, rule_of, subcommand_rows_of, with_subcommand};
+ghost use Rattle.xk_words.specs.Line.{FitsKind, HasNoGlobals, IsRefused, WithOrders, asked_by, asked_in, asked_value, by_order, by_workers, command_by, command_line, drive_in, excludes_by, excludes_in, faults_in, form_in, form_named, is_both, job_of, log_option, module_flag, on_either, on_file, on_log, option, order_in, order_named, order_option, place, program, run_by, run_line, task_value, texts, way_value, workers_in, workers_named, workers_option};
 
 use crate::job::{Command, Drive, Form, Job, Order, Workers};
 use crate::words_fault::WordsFault;
@@ -39,31 +39,50 @@ pub fn read_job<'a>(alloc: Global, words: &'a [&'a str]) -> Result<Job<'a>, Word
 fn line<'a>(alloc: Global) -> Result<clap::Command<'a>, AllocError>
     ensures { IfOk result (λ c. WithOrders (λ names. app_of c ≡ command_line names)) }
 {
-    let check = on_either(alloc, "check", "Says whether a program is accepted.")?;
+    let check = on_either(alloc, "check", "Says whether a program is accepted.");
+    let checks = add(program(alloc), check)?;
     let compile = on_file(
         alloc,
         "compile",
         "Compiles a program and prints its module.",
-    )?;
-    let run = run_line(alloc)?;
+    );
+    let compiles = add(checks, compile)?;
+    let runs = add(compiles, run_line(alloc))?;
     let replay = on_log(
         alloc,
         "replay",
         "Runs a program again as a log has it, and prints what it prints.",
-    )?;
+    );
+    let replays = add(runs, replay)?;
     let chart = on_log(
         alloc,
         "chart",
         "Prints when the clocks advanced in the run that a log has.",
-    )?;
+    );
+    add(replays, chart)
+}
+
+/// The program without its commands, of which one has to be there.
+fn program<'a>(alloc: Global) -> clap::Command<'a>
+    ensures { app_of result ≡ program }
+{
     clap::Command::new(alloc, "x10clock")
         .about("Verifies and runs clocked programs.")
         .subcommand_required(true)
-        .subcommand(check)?
-        .subcommand(compile)?
-        .subcommand(run)?
-        .subcommand(replay)?
-        .subcommand(chart)
+}
+
+/// The line with a further command, where there was memory for it.
+fn add<'a>(
+    line: clap::Command<'a>,
+    command: Result<clap::Command<'a>, AllocError>,
+) -> Result<clap::Command<'a>, AllocError>
+    ensures { IfOk result (λ c. IsOkAnd command.entry (λ d.
+        HasNoGlobals d → app_of c ≡ with_subcommand (app_of line.entry) (app_of d).top)) }
+{
+    match command {
+        Ok(command) => line.subcommand(command),
+        Err(error) => Err(error),
+    }
 }
 
 /// The command `run`.
@@ -71,11 +90,8 @@ fn run_line<'a>(alloc: Global) -> Result<clap::Command<'a>, AllocError>
     ensures shape { IfOk result (λ c. WithOrders (λ names. app_of c ≡ run_line names)) }
     ensures local { IfOk result HasNoGlobals }
 {
-    let log = Arg::new(alloc, "PATH")
-        .long("log")
-        .help("The file that the log of the run goes to")
-        .action(ArgAction::Set);
-    by_workers(alloc)?.arg(log)
+    let command = by_workers(alloc)?;
+    command.arg(log_option(alloc))
 }
 
 /// The command `run` without `--log`.
@@ -83,12 +99,8 @@ fn by_workers<'a>(alloc: Global) -> Result<clap::Command<'a>, AllocError>
     ensures shape { IfOk result (λ c. WithOrders (λ names. app_of c ≡ by_workers names)) }
     ensures local { IfOk result HasNoGlobals }
 {
-    let workers = Arg::new(alloc, "N")
-        .long("workers")
-        .help("Run by so many worker threads, 1 to 64: whoever comes first takes the next step")
-        .action(ArgAction::Set)
-        .value_parser(ValueParser::unsigned(1, 64));
-    by_order(alloc)?.arg(workers)
+    let command = by_order(alloc)?;
+    command.arg(workers_option(alloc))
 }
 
 /// The command `run` without `--workers` and `--log`.
@@ -96,14 +108,8 @@ fn by_order<'a>(alloc: Global) -> Result<clap::Command<'a>, AllocError>
     ensures shape { IfOk result (λ c. WithOrders (λ names. app_of c ≡ by_order names)) }
     ensures local { IfOk result HasNoGlobals }
 {
-    let order = Arg::new(alloc, "ORDER")
-        .long("order")
-        .help(
-            "Who takes the next step: the least activity that can (the default), the greatest, or each in turn",
-        )
-        .action(ArgAction::Set)
-        .value_parser(ORDERS.as_slice());
-    on_either(alloc, "run", "Runs a program and prints what it prints.")?.arg(order)
+    let command = on_either(alloc, "run", "Runs a program and prints what it prints.")?;
+    command.arg(order_option(alloc))
 }
 
 /// A command on FILE and on LOG, which is the log of a run of it.
@@ -111,11 +117,8 @@ fn on_log<'a>(alloc: Global, name: &'a str, about: &'a str) -> Result<clap::Comm
     ensures shape { IfOk result (λ c. app_of c ≡ on_log name.entry.now) }
     ensures local { IfOk result HasNoGlobals }
 {
-    let log = Arg::new(alloc, "LOG")
-        .help("The log of a run of FILE")
-        .required(true)
-        .action(ArgAction::Set);
-    on_either(alloc, name, about)?.arg(log)
+    let command = on_either(alloc, name, about)?;
+    command.arg(place(alloc, "LOG", "The log of a run of FILE"))
 }
 
 /// A command on FILE, which is a source text, or a module where the words say so.
@@ -127,11 +130,8 @@ fn on_either<'a>(
     ensures shape { IfOk result (λ c. app_of c ≡ on_either name.entry.now) }
     ensures local { IfOk result HasNoGlobals }
 {
-    let module_flag = Arg::new(alloc, "module")
-        .long("module")
-        .help("FILE is a module text")
-        .action(ArgAction::SetTrue);
-    on_file(alloc, name, about)?.arg(module_flag)
+    let command = on_file(alloc, name, about)?;
+    command.arg(module_flag(alloc))
 }
 
 /// A command on FILE.
@@ -143,11 +143,82 @@ fn on_file<'a>(
     ensures shape { IfOk result (λ c. app_of c ≡ on_file name.entry.now) }
     ensures local { IfOk result HasNoGlobals }
 {
-    let file = Arg::new(alloc, "FILE")
-        .help("The program; - is standard input")
-        .required(true)
-        .action(ArgAction::Set);
+    let file = place(alloc, "FILE", "The program; - is standard input");
     clap::Command::new(alloc, name).about(about).arg(file)
+}
+
+/// `--log PATH`.
+fn log_option<'a>(alloc: Global) -> Arg<'a>
+    ensures rule { rule_of result ≡ log_option }
+    ensures local { result.global ≡ false }
+{
+    option(
+        alloc,
+        "PATH",
+        "log",
+        "The file that the log of the run goes to",
+    )
+}
+
+/// `--workers N`.
+fn workers_option<'a>(alloc: Global) -> Arg<'a>
+    ensures rule { rule_of result ≡ workers_option }
+    ensures local { result.global ≡ false }
+{
+    let workers = option(
+        alloc,
+        "N",
+        "workers",
+        "Run by so many worker threads, 1 to 64: whoever comes first takes the next step",
+    );
+    workers.value_parser(ValueParser::unsigned(1, 64))
+}
+
+/// `--order ORDER`.
+fn order_option<'a>(alloc: Global) -> Arg<'a>
+    ensures rule { WithOrders (λ names. rule_of result ≡ order_option names) }
+    ensures local { result.global ≡ false }
+{
+    let order = option(
+        alloc,
+        "ORDER",
+        "order",
+        "Who takes the next step: the least activity that can (the default), the greatest, or each in turn",
+    );
+    order.value_parser(ORDERS.as_slice())
+}
+
+/// `--module`.
+fn module_flag<'a>(alloc: Global) -> Arg<'a>
+    ensures rule { rule_of result ≡ module_flag }
+    ensures local { result.global ≡ false }
+{
+    Arg::new(alloc, "module")
+        .long("module")
+        .help("FILE is a module text")
+        .action(ArgAction::SetTrue)
+}
+
+/// An option of this long name that takes a value.
+fn option<'a>(alloc: Global, name: &'a str, long: &'a str, help: &'a str) -> Arg<'a>
+    ensures rule { rule_of result ≡ option name.entry.now long.entry.now }
+    ensures local { result.global ≡ false }
+{
+    Arg::new(alloc, name)
+        .long(long)
+        .help(help)
+        .action(ArgAction::Set)
+}
+
+/// An argument without a long name, which has to be there.
+fn place<'a>(alloc: Global, name: &'a str, help: &'a str) -> Arg<'a>
+    ensures rule { rule_of result ≡ place name.entry.now }
+    ensures local { result.global ≡ false }
+{
+    Arg::new(alloc, name)
+        .help(help)
+        .required(true)
+        .action(ArgAction::Set)
 }
 
 /// The job in what `clap` found.

@@ -1,4 +1,5 @@
 use Rattle.std.proofs.Common.{List, [], ◌∷◌, length, suc, option_map, ◌∙◌, ap, sym, arith}
+use Rattle.std.proofs.lemmas.Result.{on_ok_weaker}
 use Rattle.xk_tree.specs.declared.tree.Stmt.{Stmt}
 use Rattle.xk_tree.specs.declared.tree.Stmt.TheVariants as stmt
 use Rattle.xk_tree.specs.declared.tree.Stmt.TheOpen as layer
@@ -12,25 +13,30 @@ use Rattle.xk_names.specs.Collected.{with_declared, body_of, faults, among, leas
 use Rattle.xk_names.proofs.Steps.{inside_found, both_found, block_turn, after_turn}
 use Rattle.xk_names.proofs.check.+statements.Goals as goal
 
-pub check-returns-in_ok-check_block-in-Block-clause-faults : goal.check-returns-in_ok-check_block-in-Block-clause-faults
-check-returns-in_ok-check_block-in-Block-clause-faults t c =
+pub check-returns-in-Block-clause-faults : goal.check-returns-in-Block-clause-faults
+check-returns-in-Block-clause-faults t c =
+    on_ok_weaker c.check_block.result (λ h.
     inside_found c.args.methods.now c.args.scope.now (statement c.args.s.now) (Block
     (statements c.in-Block.ss.items)) c.args.worst.now c.check_own.new.worst c.check_block.new.worst
     (ap statement c.in-Block.is ∙ ap statement (sym (stmt.rolls-Block c.in-Block.ss)) ∙ fold-roll-Stmt Statement layer_statement
     (layer.Block c.in-Block.ss)) c.in_ok-check_own.ensures
-    (c.in_ok-check_block-in-Block.ensures.faults ∙ ap (λ (q : List Stmt). least c.check_own.new.worst
-    (among c.args.methods.now c.args.scope.now (statements q))) c.as_slice.ensures.value)
+    (h ∙ ap (λ (q : List Stmt). least c.check_own.new.worst
+    (among c.args.methods.now c.args.scope.now (statements q))) c.as_slice.ensures.value))
+    c.check_block.ensures.faults
 
-pub check-returns-in_ok-check_held-in-If-clause-faults : goal.check-returns-in_ok-check_held-in-If-clause-faults
-check-returns-in_ok-check_held-in-If-clause-faults t c =
+pub check-returns-in-If-clause-faults : goal.check-returns-in-If-clause-faults
+check-returns-in-If-clause-faults t c =
+    on_ok_weaker c.check_held.result (λ h.
     inside_found c.args.methods.now c.args.scope.now (statement c.args.s.now) (If c.in-If.field-0 (expression c.in-If.field-1) c.in-If.field-2
     (expression c.in-If.field-3) (statement c.in-If.s.value)) c.args.worst.now c.check_own.new.worst c.check_held.new.worst
     (ap statement c.in-If.is ∙ ap statement (sym (stmt.rolls-If c.in-If.field-0 c.in-If.field-1 c.in-If.field-2 c.in-If.field-3 c.in-If.s))
     ∙ fold-roll-Stmt Statement layer_statement (layer.If c.in-If.field-0 c.in-If.field-1 c.in-If.field-2 c.in-If.field-3 c.in-If.s)) c.in_ok-check_own.ensures
-    (c.in_ok-check_held-in-If.ensures.faults ∙ ap (λ (q : Stmt). least c.check_own.new.worst (faults c.args.methods.now c.args.scope.now (statement q))) c.deref.ensures)
+    (h ∙ ap (λ (q : Stmt). least c.check_own.new.worst (faults c.args.methods.now c.args.scope.now (statement q))) c.deref.ensures))
+    c.check_held.ensures.faults
 
-pub check-returns-in_ok-check_held-in-IfElse-2-clause-faults : goal.check-returns-in_ok-check_held-in-IfElse-2-clause-faults
-check-returns-in_ok-check_held-in-IfElse-2-clause-faults t c =
+pub check-returns-in_ok-check_held-in-IfElse-clause-faults : goal.check-returns-in_ok-check_held-in-IfElse-clause-faults
+check-returns-in_ok-check_held-in-IfElse-clause-faults t c =
+    on_ok_weaker c.check_held-in-IfElse-2.result (λ h.
     inside_found c.args.methods.now c.args.scope.now (statement c.args.s.now) (IfElse c.in-IfElse.field-0 (expression c.in-IfElse.field-1) c.in-IfElse.field-2
     (expression c.in-IfElse.field-3) (statement c.in-IfElse.s.value)
     (statement c.in-IfElse.t.value)) c.args.worst.now c.check_own.new.worst c.check_held-in-IfElse-2.new.worst
@@ -40,38 +46,45 @@ check-returns-in_ok-check_held-in-IfElse-2-clause-faults t c =
     (layer.IfElse c.in-IfElse.field-0 c.in-IfElse.field-1 c.in-IfElse.field-2 c.in-IfElse.field-3 c.in-IfElse.s c.in-IfElse.t)) c.in_ok-check_own.ensures
     (both_found c.args.methods.now c.args.scope.now c.check_held-in-IfElse.new.scope c.in-IfElse.s.value c.in-IfElse.t.value c.deref-in-IfElse.result.now c.deref-in-IfElse-2.result.now
     c.check_own.new.worst c.check_held-in-IfElse.new.worst c.check_held-in-IfElse-2.new.worst
-    c.deref-in-IfElse.ensures c.deref-in-IfElse-2.ensures c.in_ok-check_held-in-IfElse.ensures.scope c.in_ok-check_held-in-IfElse.ensures.faults c.in_ok-check_held-in-IfElse-2.ensures.faults)
+    c.deref-in-IfElse.ensures c.deref-in-IfElse-2.ensures c.in_ok-check_held-in-IfElse.ensures.scope c.in_ok-check_held-in-IfElse.ensures.faults h))
+    c.check_held-in-IfElse-2.ensures.faults
 
-pub check-returns-in_ok-check_loop-in-For-clause-faults : goal.check-returns-in_ok-check_loop-in-For-clause-faults
-check-returns-in_ok-check_loop-in-For-clause-faults t c =
+pub check-returns-in-For-clause-faults : goal.check-returns-in-For-clause-faults
+check-returns-in-For-clause-faults t c =
     let name : Declaration = record { name = word c.in-For.x; known = known kind.Val (length c.args.scope.now.bodies) } in
+    on_ok_weaker c.check_loop.result (λ h.
     inside_found c.args.methods.now c.args.scope.now (statement c.args.s.now) (For c.in-For.field-0 (word c.in-For.x) c.in-For.field-2 c.in-For.field-3
     (statement c.in-For.s.value)) c.args.worst.now c.check_own.new.worst c.check_loop.new.worst
     (ap statement c.in-For.is ∙ ap statement (sym (stmt.rolls-For c.in-For.field-0 c.in-For.x c.in-For.field-2 c.in-For.field-3 c.in-For.s))
     ∙ fold-roll-Stmt Statement layer_statement (layer.For c.in-For.field-0 c.in-For.x c.in-For.field-2 c.in-For.field-3 c.in-For.s)) c.in_ok-check_own.ensures
-    (c.in_ok-check_loop-in-For.ensures.faults
-    ∙ ap (λ (q : Stmt). least c.check_own.new.worst (faults c.args.methods.now (with_declared c.args.scope.now (name ∷ [])) (statement q))) c.deref-in-For.ensures)
+    (h
+    ∙ ap (λ (q : Stmt). least c.check_own.new.worst (faults c.args.methods.now (with_declared c.args.scope.now (name ∷ [])) (statement q))) c.deref-in-For.ensures))
+    c.check_loop.ensures.faults
 
-pub check-returns-in_ok-check_body-in-Async-clause-faults : goal.check-returns-in_ok-check_body-in-Async-clause-faults
-check-returns-in_ok-check_body-in-Async-clause-faults t c =
+pub check-returns-in_ok-clocks-in-Async-clause-faults : goal.check-returns-in_ok-clocks-in-Async-clause-faults
+check-returns-in_ok-clocks-in-Async-clause-faults t c =
+    on_ok_weaker c.check_body.result (λ h.
     inside_found c.args.methods.now c.args.scope.now (statement c.args.s.now) (Async c.in-Async.field-0 (option_map clock_list c.in-Async.clocks)
     (statement c.in-Async.s.value)) c.args.worst.now c.check_own.new.worst c.check_body.new.worst
     (ap statement c.in-Async.is ∙ ap statement (sym (stmt.rolls-Async c.in-Async.field-0 c.in-Async.clocks c.in-Async.s))
     ∙ fold-roll-Stmt Statement layer_statement (layer.Async c.in-Async.field-0 c.in-Async.clocks c.in-Async.s)) c.in_ok-check_own.ensures
-    (c.in_ok-check_body-in-Async.ensures.faults
+    (h
     ∙ ap (λ k. let there : Scope = record { names = c.args.scope.now.names; bodies = k ∷ c.args.scope.now.bodies } in
     least c.check_own.new.worst (faults c.args.methods.now there (statement c.deref-in-Async.result.now))) c.in_ok-clocks-in-Async.ensures
     ∙ ap (λ (q : Stmt). least c.check_own.new.worst (faults c.args.methods.now (body_of c.args.scope.now (clocks_listed (option_map clock_list c.in-Async.clocks)))
-    (statement q))) c.deref-in-Async.ensures)
+    (statement q))) c.deref-in-Async.ensures))
+    c.check_body.ensures.faults
 
-pub check-returns-in_ok-check_held-in-Finish-clause-faults : goal.check-returns-in_ok-check_held-in-Finish-clause-faults
-check-returns-in_ok-check_held-in-Finish-clause-faults t c =
+pub check-returns-in-Finish-clause-faults : goal.check-returns-in-Finish-clause-faults
+check-returns-in-Finish-clause-faults t c =
+    on_ok_weaker c.check_held-in-Finish.result (λ h.
     inside_found c.args.methods.now c.args.scope.now (statement c.args.s.now) (Finish
     (statement c.in-Finish.s.value)) c.args.worst.now c.check_own.new.worst c.check_held-in-Finish.new.worst
     (ap statement c.in-Finish.is ∙ ap statement (sym (stmt.rolls-Finish c.in-Finish.s))
     ∙ fold-roll-Stmt Statement layer_statement (layer.Finish c.in-Finish.s)) c.in_ok-check_own.ensures
-    (c.in_ok-check_held-in-Finish.ensures.faults ∙ ap (λ (q : Stmt). least c.check_own.new.worst
-    (faults c.args.methods.now c.args.scope.now (statement q))) c.deref-in-Finish.ensures)
+    (h ∙ ap (λ (q : Stmt). least c.check_own.new.worst
+    (faults c.args.methods.now c.args.scope.now (statement q))) c.deref-in-Finish.ensures))
+    c.check_held-in-Finish.ensures.faults
 
 pub check_block-loop-s-preserved : goal.check_block-loop-s-preserved
 check_block-loop-s-preserved t c = record {

@@ -1,4 +1,5 @@
 use Rattle.std.proofs.Common.{◌∷◌, map, option_map, sym, ◌∙◌, ap, arith}
+use Rattle.std.proofs.lemmas.Result.{on_ok_weaker}
 use Rattle.xk_tree.specs.declared.tree.Stmt.{Stmt}
 use Rattle.xk_tree.specs.declared.tree.Stmt.TheVariants as stmt
 use Rattle.xk_tree.specs.declared.tree.Stmt.TheOpen as layer
@@ -11,24 +12,29 @@ use Rattle.xk_names.specs.Collected.{put_text, put_texts}
 use Rattle.xk_names.proofs.Taken.{inner_taken, both_taken, taken_turn, own_turn}
 use Rattle.xk_names.proofs.outer.+taken.Goals as goal
 
-pub take_all-returns-in_ok-take_block-in-Block-clause-out : goal.take_all-returns-in_ok-take_block-in-Block-clause-out
-take_all-returns-in_ok-take_block-in-Block-clause-out t c =
+pub take_all-returns-in-Block-clause-out : goal.take_all-returns-in-Block-clause-out
+take_all-returns-in-Block-clause-out t c =
+    on_ok_weaker c.take_block.result (λ h.
     inner_taken c.args.methods.now c.args.own.now (statement c.args.s.now) (Block (statements c.in-Block.ss.items)) c.args.out.now c.take_own.new.out c.take_block.new.out
     (ap statement c.in-Block.is ∙ ap statement (sym (stmt.rolls-Block c.in-Block.ss)) ∙ fold-roll-Stmt Statement layer_statement (layer.Block c.in-Block.ss))
     c.in_ok-take_own.ensures
-    (c.in_ok-take_block-in-Block.ensures.out ∙ ap (λ (q : List Stmt). put_texts c.take_own.new.out (outer_among c.args.methods.now c.args.own.now
-    (statements q))) c.as_slice.ensures.value)
+    (h ∙ ap (λ (q : List Stmt). put_texts c.take_own.new.out (outer_among c.args.methods.now c.args.own.now
+    (statements q))) c.as_slice.ensures.value))
+    c.take_block.ensures.out
 
-pub take_all-returns-in_ok-take_held-in-If-clause-out : goal.take_all-returns-in_ok-take_held-in-If-clause-out
-take_all-returns-in_ok-take_held-in-If-clause-out t c =
+pub take_all-returns-in-If-clause-out : goal.take_all-returns-in-If-clause-out
+take_all-returns-in-If-clause-out t c =
+    on_ok_weaker c.take_held.result (λ h.
     inner_taken c.args.methods.now c.args.own.now (statement c.args.s.now) (If c.in-If.field-0 (expression c.in-If.field-1) c.in-If.field-2 (expression c.in-If.field-3)
     (statement c.in-If.s.value)) c.args.out.now c.take_own.new.out c.take_held.new.out
     (ap statement c.in-If.is ∙ ap statement (sym (stmt.rolls-If c.in-If.field-0 c.in-If.field-1 c.in-If.field-2 c.in-If.field-3 c.in-If.s))
     ∙ fold-roll-Stmt Statement layer_statement (layer.If c.in-If.field-0 c.in-If.field-1 c.in-If.field-2 c.in-If.field-3 c.in-If.s)) c.in_ok-take_own.ensures
-    (c.in_ok-take_held-in-If.ensures.out ∙ ap (λ (q : Stmt). put_texts c.take_own.new.out (outer_words c.args.methods.now c.args.own.now (statement q))) c.deref.ensures)
+    (h ∙ ap (λ (q : Stmt). put_texts c.take_own.new.out (outer_words c.args.methods.now c.args.own.now (statement q))) c.deref.ensures))
+    c.take_held.ensures.out
 
-pub take_all-returns-in_ok-take_held-in-IfElse-2-clause-out : goal.take_all-returns-in_ok-take_held-in-IfElse-2-clause-out
-take_all-returns-in_ok-take_held-in-IfElse-2-clause-out t c =
+pub take_all-returns-in_ok-take_held-in-IfElse-clause-out : goal.take_all-returns-in_ok-take_held-in-IfElse-clause-out
+take_all-returns-in_ok-take_held-in-IfElse-clause-out t c =
+    on_ok_weaker c.take_held-in-IfElse-2.result (λ h.
     inner_taken c.args.methods.now c.args.own.now (statement c.args.s.now) (IfElse c.in-IfElse.field-0 (expression c.in-IfElse.field-1) c.in-IfElse.field-2 (expression
     c.in-IfElse.field-3) (statement c.in-IfElse.s.value) (statement c.in-IfElse.t.value)) c.args.out.now c.take_own.new.out c.take_held-in-IfElse-2.new.out
     (ap statement c.in-IfElse.is ∙ ap statement (sym (stmt.rolls-IfElse c.in-IfElse.field-0 c.in-IfElse.field-1 c.in-IfElse.field-2 c.in-IfElse.field-3 c.in-IfElse.s
@@ -36,33 +42,40 @@ take_all-returns-in_ok-take_held-in-IfElse-2-clause-out t c =
     c.in-IfElse.t)) c.in_ok-take_own.ensures
     (both_taken c.args.methods.now c.args.own.now c.take_held-in-IfElse.new.own c.in-IfElse.s.value c.in-IfElse.t.value c.deref-in-IfElse.result.now c.deref-in-IfElse-2.result.now
     c.take_own.new.out c.take_held-in-IfElse.new.out c.take_held-in-IfElse-2.new.out
-    c.deref-in-IfElse.ensures c.deref-in-IfElse-2.ensures c.in_ok-take_held-in-IfElse.ensures.own c.in_ok-take_held-in-IfElse.ensures.out c.in_ok-take_held-in-IfElse-2.ensures.out)
+    c.deref-in-IfElse.ensures c.deref-in-IfElse-2.ensures c.in_ok-take_held-in-IfElse.ensures.own c.in_ok-take_held-in-IfElse.ensures.out h))
+    c.take_held-in-IfElse-2.ensures.out
 
-pub take_all-returns-in_ok-take_loop-in-For-clause-out : goal.take_all-returns-in_ok-take_loop-in-For-clause-out
-take_all-returns-in_ok-take_loop-in-For-clause-out t c =
+pub take_all-returns-in-For-clause-out : goal.take_all-returns-in-For-clause-out
+take_all-returns-in-For-clause-out t c =
+    on_ok_weaker c.take_loop.result (λ h.
     inner_taken c.args.methods.now c.args.own.now (statement c.args.s.now) (For c.in-For.field-0 (word c.in-For.x) c.in-For.field-2 c.in-For.field-3
     (statement c.in-For.s.value)) c.args.out.now c.take_own.new.out c.take_loop.new.out
     (ap statement c.in-For.is ∙ ap statement (sym (stmt.rolls-For c.in-For.field-0 c.in-For.x c.in-For.field-2 c.in-For.field-3 c.in-For.s))
     ∙ fold-roll-Stmt Statement layer_statement (layer.For c.in-For.field-0 c.in-For.x c.in-For.field-2 c.in-For.field-3 c.in-For.s)) c.in_ok-take_own.ensures
-    (c.in_ok-take_loop-in-For.ensures.out ∙ ap (λ (q : Stmt). put_texts c.take_own.new.out (outer_words c.args.methods.now (put_text c.args.own.now c.in-For.x.text.now)
-    (statement q))) c.deref-in-For.ensures)
+    (h ∙ ap (λ (q : Stmt). put_texts c.take_own.new.out (outer_words c.args.methods.now (put_text c.args.own.now c.in-For.x.text.now)
+    (statement q))) c.deref-in-For.ensures))
+    c.take_loop.ensures.out
 
-pub take_all-returns-in_ok-take_held-in-Async-clause-out : goal.take_all-returns-in_ok-take_held-in-Async-clause-out
-take_all-returns-in_ok-take_held-in-Async-clause-out t c =
+pub take_all-returns-in-Async-clause-out : goal.take_all-returns-in-Async-clause-out
+take_all-returns-in-Async-clause-out t c =
+    on_ok_weaker c.take_held-in-Async.result (λ h.
     inner_taken c.args.methods.now c.args.own.now (statement c.args.s.now) (Async c.in-Async.field-0 (option_map clock_list c.in-Async.field-1)
     (statement c.in-Async.body.value)) c.args.out.now c.take_own.new.out c.take_held-in-Async.new.out
     (ap statement c.in-Async.is ∙ ap statement (sym (stmt.rolls-Async c.in-Async.field-0 c.in-Async.field-1 c.in-Async.body))
     ∙ fold-roll-Stmt Statement layer_statement (layer.Async c.in-Async.field-0 c.in-Async.field-1 c.in-Async.body)) c.in_ok-take_own.ensures
-    (c.in_ok-take_held-in-Async.ensures.out ∙ ap (λ (q : Stmt). put_texts c.take_own.new.out (outer_words c.args.methods.now c.args.own.now
-    (statement q))) c.deref-in-Async.ensures)
+    (h ∙ ap (λ (q : Stmt). put_texts c.take_own.new.out (outer_words c.args.methods.now c.args.own.now
+    (statement q))) c.deref-in-Async.ensures))
+    c.take_held-in-Async.ensures.out
 
-pub take_all-returns-in_ok-take_held-in-Finish-clause-out : goal.take_all-returns-in_ok-take_held-in-Finish-clause-out
-take_all-returns-in_ok-take_held-in-Finish-clause-out t c =
+pub take_all-returns-in-Finish-clause-out : goal.take_all-returns-in-Finish-clause-out
+take_all-returns-in-Finish-clause-out t c =
+    on_ok_weaker c.take_held-in-Finish.result (λ h.
     inner_taken c.args.methods.now c.args.own.now (statement c.args.s.now) (Finish (statement c.in-Finish.s.value)) c.args.out.now c.take_own.new.out c.take_held-in-Finish.new.out
     (ap statement c.in-Finish.is ∙ ap statement (sym (stmt.rolls-Finish c.in-Finish.s)) ∙ fold-roll-Stmt Statement layer_statement (layer.Finish c.in-Finish.s))
     c.in_ok-take_own.ensures
-    (c.in_ok-take_held-in-Finish.ensures.out ∙ ap (λ (q : Stmt). put_texts c.take_own.new.out (outer_words c.args.methods.now c.args.own.now
-    (statement q))) c.deref-in-Finish.ensures)
+    (h ∙ ap (λ (q : Stmt). put_texts c.take_own.new.out (outer_words c.args.methods.now c.args.own.now
+    (statement q))) c.deref-in-Finish.ensures))
+    c.take_held-in-Finish.ensures.out
 
 pub take_block-loop-s-preserved : goal.take_block-loop-s-preserved
 take_block-loop-s-preserved t c = record {

@@ -1,4 +1,5 @@
 use Rattle.std.proofs.Common.{[], ap, ◌∙◌}
+use Rattle.std.proofs.lemmas.Result.{IfOk-weaker}
 use Rattle.xk_tree.specs.Tree.{statement}
 use Rattle.xk_names.specs.Captures.{outer_words}
 use Rattle.xk_names.specs.Collected.{put_texts}
@@ -7,7 +8,6 @@ use Rattle.xk_names.proofs.outer.captures.Goals as goal
 
 pub returns : goal.returns
 returns c =
-    c.in_ok-taken.ensures ∙ c.in_ok-take_all.ensures.out
-    ∙ ap (λ k. put_texts k (outer_words c.args.methods.now c.in_ok-own.own (statement c.args.body.now))) c.new-out.ensures
+    IfOk-weaker c.to_vec.result _ _ (λ v h. h ∙ c.in_ok-taken.ensures
     ∙ ap (λ k. put_texts [] (outer_words c.args.methods.now k (statement c.args.body.now))) c.in_ok-own.ensures
-    ∙ captures_kept c.args.methods.now c.args.shared.now (statement c.args.body.now)
+    ∙ captures_kept c.args.methods.now c.args.shared.now (statement c.args.body.now)) c.to_vec.ensures

@@ -1,32 +1,40 @@
-use Rattle.std.proofs.Common.{◌≡◌, true, ap, ap₂, ◌∙◌, codes}
+use Rattle.std.proofs.Common.{◌≡◌, Ok, Err, Result, ap, ap₂, ◌∙◌}
+use Rattle.std.specs.Prelude.{IfOk, IsOkAnd}
 use Rattle.std.proofs.lemmas.Result.{IfOk-weaker}
 use Rattle.clap.specs.Words.{App, app_of, with_subcommand}
-use Rattle.clap.specs.Simple.{app_of_fields, on_top}
 use Rattle.clap.specs.declared.builder.command.Command.{Command}
-use Rattle.clap.specs.declared.builder.command.Command.TheOpen.{Command-F}
-use Rattle.xk_words.specs.Line.{on_either, on_file, on_log, program, run_line}
+use Rattle.xk_words.specs.Line.{HasNoGlobals, WithOrders, run_line}
 use Rattle.xk_words.proofs.line.line.Goals as goal
+
+-- what a line is to which a command was added of which this is known
+added : {E : Type 0} (r : Result Command E) (line now : App) (P : App → Type 0)
+    → IsOkAnd r (λ d. HasNoGlobals d → now ≡ with_subcommand line (app_of d).top) → IfOk r HasNoGlobals → IfOk r (λ d. P (app_of d))
+    → (a : App) × P a × (now ≡ with_subcommand line a.top)
+added (Ok d) line now P h local p = (app_of d, p, h local)
+added (Err e) line now P h local p = absurd h
+
+-- the same of a command whose shape is known
+added_shape : {E : Type 0} (r : Result Command E) (line start now a : App)
+    → IsOkAnd r (λ d. HasNoGlobals d → now ≡ with_subcommand line (app_of d).top) → IfOk r HasNoGlobals → IfOk r (λ d. app_of d ≡ a)
+    → line ≡ start → now ≡ with_subcommand start a.top
+added_shape r line start now a h local is e =
+    let p = added r line now (λ b. b ≡ a) h local is in p.2 ∙ ap₂ with_subcommand e (ap (λ (b : App). b.top) p.1)
 
 pub returns : goal.returns
 returns c =
-    let top_is : app_of c.subcommand_required.result ≡ program =
-    ap app_of_fields (c.subcommand_required.ensures ∙ ap (λ (f : Command-F Command). record f { subcommand_required = true }) c.about.ensures)
-    ∙ ap (λ (a : App). on_top (λ s. record s { subcommand_required = true }) a) c.new.ensures.app in
-    let check_is : app_of c.in_ok-check.check ≡ on_either (codes "check") = c.in_ok-check.ensures.shape in
-    let compile_is : app_of c.in_ok-compile.compile ≡ on_file (codes "compile") = c.in_ok-compile.ensures.shape in
-    let orders = c.in_ok-run.ensures.shape in
-    let run_is : app_of c.in_ok-run.run' ≡ run_line orders.0 = orders.2 in
-    let with_check = c.in_ok-subcommand.ensures.shape c.in_ok-check.ensures.local ∙ ap₂ with_subcommand top_is (ap (λ (a : App). a.top) check_is) in
+    let with_check =
+    added_shape c.on_either-check.result _ _ _ _ c.in_ok-checks.ensures c.on_either-check.ensures.local c.on_either-check.ensures.shape c.program.ensures in
     let with_compile =
-    c.in_ok-subcommand-2.ensures.shape c.in_ok-compile.ensures.local ∙ ap₂ with_subcommand with_check (ap (λ (a : App). a.top) compile_is) in
-    let replay_is : app_of c.in_ok-replay.replay ≡ on_log (codes "replay") = c.in_ok-replay.ensures.shape in
-    let chart_is : app_of c.in_ok-chart.chart ≡ on_log (codes "chart") = c.in_ok-chart.ensures.shape in
-    let with_run = c.in_ok-subcommand-3.ensures.shape c.in_ok-run.ensures.local ∙ ap₂ with_subcommand with_compile (ap (λ (a : App). a.top) run_is) in
-    let with_replay = c.in_ok-subcommand-4.ensures.shape c.in_ok-replay.ensures.local ∙ ap₂ with_subcommand with_run (ap (λ (a : App). a.top) replay_is) in
-    IfOk-weaker c.subcommand-5.result _ _
+    added_shape c.on_file-compile.result _ _ _ _ c.in_ok-compiles.ensures c.on_file-compile.ensures.local c.on_file-compile.ensures.shape with_check in
+    let run = added c.run_line.result (app_of c.in_ok-compiles.compiles) _ (λ a. WithOrders (λ names. a ≡ run_line names)) c.in_ok-runs.ensures c.run_line.ensures.local c.run_line.ensures.shape in
+    let orders = run.1 in
+    let with_run = run.2 ∙ ap₂ with_subcommand with_compile (ap (λ (a : App). a.top) orders.2) in
+    let with_replay =
+    added_shape c.on_log-replay.result _ _ _ _ c.in_ok-replays.ensures c.on_log-replay.ensures.local c.on_log-replay.ensures.shape with_run in
+    IfOk-weaker c.add-5.result _ _
     (λ r h. (
       orders.0,
       orders.1,
-      h.shape c.in_ok-chart.ensures.local ∙ ap₂ with_subcommand with_replay (ap (λ (a : App). a.top) chart_is),
+      added_shape c.on_log-chart.result _ _ _ _ h c.on_log-chart.ensures.local c.on_log-chart.ensures.shape with_replay,
     ))
-    c.subcommand-5.ensures
+    c.add-5.ensures

@@ -1,15 +1,11 @@
-use Rattle.std.proofs.Common.{rules, ◌≡◌, ◌||◌, false, ap₂, ◌∙◌}
+use Rattle.std.proofs.Common.{◌||◌, ap₂, ◌∙◌}
 use Rattle.std.proofs.lemmas.Result.{IfOk-weaker}
-use Rattle.clap.specs.Words.{rule_of, with_rule}
-use Rattle.xk_words.specs.Line.{log_place}
+use Rattle.clap.specs.Words.{with_rule}
 use Rattle.xk_words.proofs.line.on_log.Goals as goal
 
 pub returns-clause-shape : goal.returns-clause-shape
 returns-clause-shape c =
-    let log_is : rule_of c.action-log.result ≡ log_place = search rules in
-    IfOk-weaker c.arg.result _ _ (λ r h. h.shape (search rules) ∙ ap₂ with_rule c.in_ok-on_either.ensures.shape log_is) c.arg.ensures
+    IfOk-weaker c.arg.result _ _ (λ r h. h.shape c.place.ensures.local ∙ ap₂ with_rule c.in_ok-command.ensures.shape c.place.ensures.rule) c.arg.ensures
 
 pub returns-clause-local : goal.returns-clause-local
-returns-clause-local c =
-    let log_local : c.action-log.result.global ≡ false = search rules in
-    IfOk-weaker c.arg.result _ _ (λ r h. h.globals ∙ ap₂ ◌||◌ c.in_ok-on_either.ensures.local log_local) c.arg.ensures
+returns-clause-local c = IfOk-weaker c.arg.result _ _ (λ r h. h.globals ∙ ap₂ ◌||◌ c.in_ok-command.ensures.local c.place.ensures.local) c.arg.ensures
