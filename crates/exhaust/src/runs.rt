@@ -11,8 +11,7 @@ use xk_types::Act;
 
 /// A module is run in each way.
 pub fn on_verified(alloc: Global, verified: &Verified) -> Result<(), Wrong> {
-    let schedule = by_steps(alloc, verified)?;
-    by_schedule(alloc, verified, &schedule)?;
+    by_hand(alloc, verified)?;
     by_chooser(alloc, verified, First)?;
     by_chooser(alloc, verified, Last)?;
     by_chooser(alloc, verified, Round::new())?;
@@ -52,25 +51,28 @@ fn stepped(core: &mut Core, act: Act) -> Result<(), Wrong> {
 
 /// Adds a number to a list, at the second try where memory was refused.
 fn note(list: &mut Vec<u32>, number: u32) -> Result<(), Wrong> {
-    if list.push(number).is_ok() || list.push(number).is_ok() {
-        Ok(())
-    } else {
-        Err(Wrong("a list doesn't grow at the second try"))
-    }
+    let is_noted = list.push(number).is_ok() || list.push(number).is_ok();
+    holds(is_noted, "a list doesn't grow at the second try")
 }
 
-/// The run in which the least activity always steps; which activities those were.
-fn by_steps(alloc: Global, verified: &Verified) -> Result<Vec<u32>, Wrong> {
-    let mut core = opened(alloc, verified)?;
-    let mut schedule = Vec::new(alloc);
-    for _ in 0..=verified.steps() {
+/// Single steps to the end, each of the least activity that can take one; which activities those were.
+fn by_steps(core: &mut Core, schedule: &mut Vec<u32>) -> Result<(), Wrong> {
+    for _ in 0..=core.module().steps() {
         let Some(act) = core.pick() else {
-            return Ok(schedule);
+            return Ok(());
         };
-        stepped(&mut core, act)?;
-        note(&mut schedule, act.0)?;
+        stepped(core, act)?;
+        note(schedule, act.0)?;
     }
     Err(Wrong("a run is longer than its bound"))
+}
+
+/// A run by single steps, and the same by its schedule.
+fn by_hand(alloc: Global, verified: &Verified) -> Result<(), Wrong> {
+    let mut core = opened(alloc, verified)?;
+    let mut schedule = Vec::new(alloc);
+    by_steps(&mut core, &mut schedule)?;
+    by_schedule(alloc, verified, &schedule)
 }
 
 /// Whether a schedule leads to the end; None where memory was refused.
@@ -86,7 +88,7 @@ fn is_carried_out(
     }
 }
 
-/// The same run by its schedule.
+/// A schedule leads to the end.
 fn by_schedule(alloc: Global, verified: &Verified, schedule: &[u32]) -> Result<(), Wrong> {
     let ends = match is_carried_out(alloc, verified, schedule)? {
         None => is_carried_out(alloc, verified, schedule)?,
@@ -134,17 +136,22 @@ fn taken_over<'m>(alloc: Global, verified: &'m Verified) -> Result<Driver<'m>, W
     made.map_err(|_| Wrong("a core isn't taken over at the second try"))
 }
 
-/// A run by turns of the greatest activity and by steps of the least one.
-fn by_turns(alloc: Global, verified: &Verified) -> Result<(), Wrong> {
-    let mut driver = taken_over(alloc, verified)?;
-    for _ in 0..=verified.steps() {
+/// Turns of the greatest activity and steps of the least one, to the end.
+fn turns(driver: &mut Driver) -> Result<(), Wrong> {
+    for _ in 0..=driver.core().module().steps() {
         let Some(act) = driver.core().pick() else {
             return holds(driver.over(), "a run by turns isn't over");
         };
-        driver_stepped(&mut driver, act)?;
-        turned(&mut driver)?;
+        driver_stepped(driver, act)?;
+        turned(driver)?;
     }
     Err(Wrong("a run by turns is longer than its bound"))
+}
+
+/// A run by turns.
+fn by_turns(alloc: Global, verified: &Verified) -> Result<(), Wrong> {
+    let mut driver = taken_over(alloc, verified)?;
+    turns(&mut driver)
 }
 
 /// One step of an activity that can take it, at the second try where memory was refused. No step asks for memory where a program starts
@@ -167,9 +174,6 @@ fn driver_stepped(driver: &mut Driver, act: Act) -> Result<(), Wrong> {
 
 /// One turn of the greatest activity, if there is one, at the second try where memory was refused.
 fn turned(driver: &mut Driver) -> Result<(), Wrong> {
-    if driver.turn(&mut Last).is_ok() || driver.turn(&mut Last).is_ok() {
-        Ok(())
-    } else {
-        Err(Wrong("a turn is refused at the second try"))
-    }
+    let is_taken = driver.turn(&mut Last).is_ok() || driver.turn(&mut Last).is_ok();
+    holds(is_taken, "a turn is refused at the second try")
 }
