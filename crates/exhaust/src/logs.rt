@@ -38,15 +38,25 @@ fn is_charted(alloc: Global, ended: &Ended<'_>, is_whole: bool) -> Result<(), Wr
     holds(is_written, "a log isn't written at the first try")
 }
 
-/// A log is of a whole run, which is charted, or is refused for not being one.
-fn is_replayed(alloc: Global, verified: &Verified, log: Log, is_whole: bool) -> Result<(), Wrong> {
-    match replayed(alloc, verified, log) {
-        Ok(ended) => is_charted(alloc, &ended, is_whole),
+/// A log was of a whole run, which is charted, or was refused for not being one.
+fn is_right(
+    alloc: Global,
+    answer: &Result<Ended<'_>, (Log, ReplayFault)>,
+    is_whole: bool,
+) -> Result<(), Wrong> {
+    match answer {
+        Ok(ended) => is_charted(alloc, ended, is_whole),
         Err((_, fault)) => holds(
-            !is_whole && fault != ReplayFault::OutOfMemory,
+            !is_whole && *fault != ReplayFault::OutOfMemory,
             "a log isn't played again at the second try",
         ),
     }
+}
+
+/// A log is played again, and answered as it must be.
+fn is_replayed(alloc: Global, verified: &Verified, log: Log, is_whole: bool) -> Result<(), Wrong> {
+    let answer = replayed(alloc, verified, log);
+    is_right(alloc, &answer, is_whole)
 }
 
 /// A text is the log of a whole run of a program, or is refused for not being one.

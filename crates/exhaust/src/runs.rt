@@ -6,7 +6,9 @@ use crate::tries::{Wrong, holds};
 use std::alloc::Global;
 use xk_bounds::Verified;
 use xk_core::Core;
-use xk_drive::{Chooser, Driver, First, Halt, Last, Round, drive, run_schedule};
+use xk_drive::{
+    Chooser, Driver, Ended, First, Halt, Last, Partial, Ran, Round, drive, run_schedule,
+};
 use xk_types::Act;
 
 /// A module is run in each way.
@@ -75,17 +77,23 @@ fn by_hand(alloc: Global, verified: &Verified) -> Result<(), Wrong> {
     by_schedule(alloc, verified, &schedule)
 }
 
+/// Whether a schedule led to the end; None where memory was refused.
+fn is_through(answer: &Result<Ran<'_>, Halt<'_>>) -> Option<bool> {
+    match answer {
+        Ok(ran) => Some(ran.core.ended()),
+        Err(Halt::NotEnabled { .. }) => Some(false),
+        Err(Halt::OutOfMemory { .. }) => None,
+    }
+}
+
 /// Whether a schedule leads to the end; None where memory was refused.
 fn is_carried_out(
     alloc: Global,
     verified: &Verified,
     schedule: &[u32],
 ) -> Result<Option<bool>, Wrong> {
-    match run_schedule(alloc, opened(alloc, verified)?, schedule) {
-        Ok(ran) => Ok(Some(ran.core.ended())),
-        Err(Halt::NotEnabled { .. }) => Ok(Some(false)),
-        Err(Halt::OutOfMemory { .. }) => Ok(None),
-    }
+    let answer = run_schedule(alloc, opened(alloc, verified)?, schedule);
+    Ok(is_through(&answer))
 }
 
 /// A schedule leads to the end.
@@ -100,16 +108,22 @@ fn by_schedule(alloc: Global, verified: &Verified, schedule: &[u32]) -> Result<(
     )
 }
 
+/// Whether a driven run is over; None where memory was refused.
+fn is_over(answer: &Result<Ended<'_>, Partial<'_>>) -> Option<bool> {
+    match answer {
+        Ok(ended) => Some(ended.core.ended()),
+        Err(_) => None,
+    }
+}
+
 /// Whether a run that a chooser drives is over; None where memory was refused.
 fn is_driven<C: Chooser>(
     alloc: Global,
     verified: &Verified,
     chooser: &mut C,
 ) -> Result<Option<bool>, Wrong> {
-    match drive(alloc, opened(alloc, verified)?, chooser) {
-        Ok(ended) => Ok(Some(ended.core.ended())),
-        Err(_) => Ok(None),
-    }
+    let answer = drive(alloc, opened(alloc, verified)?, chooser);
+    Ok(is_over(&answer))
 }
 
 /// A run that a chooser drives.
@@ -133,7 +147,8 @@ fn taken_over<'m>(alloc: Global, verified: &'m Verified) -> Result<Driver<'m>, W
         Err(same) => Driver::new(alloc, same),
         answer => answer,
     };
-    made.map_err(|_| Wrong("a core isn't taken over at the second try"))
+    made.ok()
+        .ok_or(Wrong("a core isn't taken over at the second try"))
 }
 
 /// Turns of the greatest activity and steps of the least one, to the end.

@@ -7,7 +7,7 @@ use std::alloc::{AllocError, Global};
 use std::test::Fail;
 use xk_bounds::Verified;
 use xk_core::Core;
-use xk_drive::{Chooser, drive};
+use xk_drive::{Chooser, Ended, Partial, drive};
 use xk_types::Entry;
 
 /// Answers a place beyond the end of each list.
@@ -53,7 +53,15 @@ fn are_steps(log: &[Entry], acts: &[u32]) -> bool {
             .all(|(entry, act)| entry.act == *act && entry.steps == 1)
 }
 
-/// Whether a module that is driven so has the steps of these activities, and prints these numbers.
+/// Whether a run has ended, in which these activities took the steps and these numbers were printed.
+fn is_run(answer: &Result<Ended<'_>, Partial<'_>>, acts: &[u32], printed: &[i64]) -> bool {
+    match answer {
+        Ok(ended) => are_steps(&ended.log, acts) && ended.printed.as_slice() == printed,
+        Err(_) => false,
+    }
+}
+
+/// Whether a module that is driven so has such a run.
 fn is_driven_so<C: Chooser>(
     alloc: Global,
     verified: &Verified,
@@ -61,10 +69,8 @@ fn is_driven_so<C: Chooser>(
     acts: &[u32],
     printed: &[i64],
 ) -> Result<bool, AllocError> {
-    match drive(alloc, Core::open(alloc, verified)?, chooser) {
-        Ok(ended) => Ok(are_steps(&ended.log, acts) && ended.printed.as_slice() == printed),
-        Err(_) => Ok(false),
-    }
+    let answer = drive(alloc, Core::open(alloc, verified)?, chooser);
+    Ok(is_run(&answer, acts, printed))
 }
 
 /// A pair on a clock.

@@ -5,7 +5,7 @@ use crate::programs::{IN_STEP, LATE_CHILD, accepted};
 use std::alloc::Global;
 use std::test::Fail;
 use xk_core::{Core, laws};
-use xk_drive::{Halt, run_schedule};
+use xk_drive::{Halt, Ran, run_schedule};
 use xk_types::{Act, ClockId, Event};
 
 /// The phase of the first clock, if there is one, and the step of its last advance; the step of the last pass of each of two activities,
@@ -46,17 +46,21 @@ fn known(core: &Core) -> Option<Known> {
 }
 
 /// Where a schedule is halted, if it is; whether this is what was seen of it, if it isn't; and what is known then.
-fn carried_out(
-    alloc: Global,
-    start: Core<'_>,
-    schedule: &[u32],
-    seen: &[Event],
-) -> (Option<usize>, bool, Option<Known>) {
-    match run_schedule(alloc, start, schedule) {
+type Told = (Option<usize>, bool, Option<Known>);
+
+/// What there is to tell of the answer to a schedule.
+fn told(answer: &Result<Ran<'_>, Halt<'_>>, seen: &[Event]) -> Told {
+    match answer {
         Ok(ran) => (None, ran.seen.as_slice() == seen, known(&ran.core)),
-        Err(Halt::NotEnabled { at, core }) => (Some(at), false, known(&core)),
+        Err(Halt::NotEnabled { at, core }) => (Some(*at), false, known(core)),
         Err(Halt::OutOfMemory { .. }) => (None, false, None),
     }
+}
+
+/// What becomes of a schedule.
+fn carried_out(alloc: Global, start: Core<'_>, schedule: &[u32], seen: &[Event]) -> Told {
+    let answer = run_schedule(alloc, start, schedule);
+    told(&answer, seen)
 }
 
 /// Main waits for the child, or both go on to the end.

@@ -76,7 +76,7 @@ fn counted(log: &[Entry]) -> (usize, u64) {
 }
 
 /// Whether all have ended in a run's answer, and how many entries and steps its log has.
-fn answered(answer: Result<Ended<'_>, Partial<'_>>) -> (bool, (usize, u64)) {
+fn answered(answer: &Result<Ended<'_>, Partial<'_>>) -> (bool, (usize, u64)) {
     match answer {
         Ok(ended) => (true, counted(&ended.log)),
         Err(partial) => (partial.core.ended(), counted(&partial.log)),
@@ -93,8 +93,8 @@ fn workers_compute_at_once(rt: HostRuntime) -> Result<(), Fail> {
         met: AtomicU64::new(0),
     };
     let start = Core::open(alloc, &verified)?;
-    let answer = answered(run_workers(&rt, alloc, start, 2, &gate));
-    assert_eq!(rt; answer, (true, (7, 11)));
+    let answer = run_workers(&rt, alloc, start, 2, &gate);
+    assert_eq!(rt; answered(&answer), (true, (7, 11)));
     assert_eq!(rt; gate.met.load(Ordering::SeqCst), 1);
     Ok(())
 }
@@ -105,8 +105,8 @@ fn a_gate_is_refused_memory(rt: HostRuntime) -> Result<(), Fail> {
     let alloc = rt.alloc();
     let verified = accepted(alloc, TWO_SUMS)?;
     let start = Core::open(alloc, &verified)?;
-    let answer = answered(run_workers(&rt, alloc, start, 2, &Refused));
-    assert_eq!(rt; answer, (false, (1, 1)));
+    let answer = run_workers(&rt, alloc, start, 2, &Refused);
+    assert_eq!(rt; answered(&answer), (false, (1, 1)));
     Ok(())
 }
 
