@@ -1,46 +1,59 @@
 #!/usr/bin/env python3
-"""Looks whether the second telling of the rules (tests/telling.py) says of schedules what the tests of `xk_rows` want of the libraries.
+"""Schedules of small modules: whether the second telling of the rules (tests/telling.py, telling_log.py) says of them what the rows of
+tests/schedules.rows want, and whether the program says the same of their logs.
 
-    python3 tests/schedules.py
+    python3 tests/schedules.py [--program PATH]
 
-The rows are those of crates/xk_rows/src/runs.rt and every.rt, over the modules of programs.rt. The telling knows no phases and no numbers of
-steps: they are counted here. Those of tests/texts.rows are of programs as texts, which are carried out by tests/meaning.py and by their modules.
+The telling knows no phases and no numbers of steps: they are counted here. Where all schedules of a module are known, the program replays and
+charts the log of each, or, where there are more than 100, of 60 that are spread evenly among them. The rows of tests/texts.rows are of programs
+as texts, which are carried out by tests/meaning.py and by their modules.
 """
 from __future__ import annotations
 
-import ast
-import collections
+import argparse
 import pathlib
 import re
 import sys
+import tempfile
+from collections import Counter
 from dataclasses import dataclass, field
 
+import logs
 import meaning
 import telling
+import telling_log
 import telling_source
+from logs import Program, Text, Told
 from telling import World, Wrong
 
 TESTS = pathlib.Path(__file__).resolve().parent
-SOURCES = TESTS.parent / "crates/xk_rows/src"
+PROGRAM = TESTS.parent / "crates/x10clock/out/x10clock"
+MOST, SOME = 100, 60
+
+PRINTED = re.compile(r"(\d+) print((?: -?\d+)*)")
+KNOWN = re.compile(r"(?:halted at (\d+): |.*)clocks.* since(.*?) (?:able(.*)|over)")
 
 
-def modules() -> dict[str, telling.Module]:
-    text = (SOURCES / "programs.rt").read_text(encoding="utf-8")
-    found = re.findall(r'pub const (\w+): &str =\s*r#"(.*?)"#;', text, re.S)
-    return {name: telling.read_module(module.encode()) for name, module in found}
+@dataclass
+class Asked:
+    """How much was asked, and how much of it was told otherwise."""
+
+    count: int = 0
+    wrong: int = 0
+
+    def said(self, question: str, row: object, got: object) -> None:
+        self.count += 1
+        if got != row:
+            self.wrong += 1
+            print(f"{question}\n    row:  {row}\n    told: {got}", file=sys.stderr)
 
 
-def rows(file: str) -> list[tuple]:
-    """The tables in this file: each row's name of a module, and what stands beside it."""
-    text = (SOURCES / file).read_text(encoding="utf-8")
-    tables = re.findall(r"\[Row[^\]]*\] \{\n    &?\[(.*?)\n    \]\n", text, re.S)
-    table = re.sub(r"//[^\n]*", "", "".join(tables))
-    return list(ast.literal_eval("[" + re.sub(r"\(\s*([A-Z_]+),", r'("\1",', table).replace("&[", "[") + "]"))
+# One schedule.
 
 
 @dataclass
 class Known:
-    """What is known of a run, as a row of runs.rt has it."""
+    """What is known of a run, as a row has it."""
 
     module: telling.Module
     world: World
@@ -78,7 +91,7 @@ class Known:
         return f"{begin}clocks{clocks} since{since}{end}"
 
 
-def told(module: telling.Module, schedule: list[int]) -> str:
+def known_of(module: telling.Module, schedule: list[int]) -> str:
     known = Known(module, telling.opening(module))
     for at, who in enumerate(schedule):
         if not known.step(who, at + 1):
@@ -86,20 +99,100 @@ def told(module: telling.Module, schedule: list[int]) -> str:
     return known.text("".join(f"{event} " for event in known.seen))
 
 
-def all_printed(module: telling.Module) -> dict[str, int]:
-    """What the schedules of a module print, and how many of them do."""
-    known: dict[World, collections.Counter] = {}
+def log_of(schedule: list[int]) -> bytes:
+    """The log with an entry for each step."""
+    return telling_log.text_of([telling_log.Entry(who, 1) for who in schedule])
 
-    def from_here(world: World) -> collections.Counter:
-        if world not in known:
-            steps = [taken for who in range(len(world.activities)) if (taken := telling.step(module, world, who))]
-            known[world] = collections.Counter() if steps else collections.Counter({"": 1})
-            for taken in steps:
-                for rest, count in from_here(taken.world).items():
-                    known[world][("" if taken.printed is None else f" {taken.printed}") + rest] += count
-        return known[world]
 
-    return dict(from_here(telling.opening(module)))
+def ask_able(asked: Asked, program: Program, text: Text, schedule: list[int], known: str) -> None:
+    """Whether those can step behind a schedule, or where it is halted, of whom a row says so: by the log with a step of each."""
+    at, since, able = KNOWN.fullmatch(known).groups()
+    done = schedule if at is None else schedule[: int(at)]
+    for who in range(len(since.split())):
+        can_step = str(who) in (able or "").split()
+        line = "x10clock: L5 NotEnded" if can_step else f"x10clock: L4 NotEnabled entry {len(done)}"
+        given = log_of([*done, who])
+        asked.said(f"{text}\n    replay {given!r}", logs.wanted(line, "replay"), program.answer(text, given, "replay"))
+
+
+# All schedules.
+
+
+@dataclass
+class Every:
+    """All schedules of a module that come to the end, in the order of the numbers that they have."""
+
+    module: telling.Module
+    known: dict[World, Counter[str]] = field(default_factory=dict)
+
+    def steps(self, world: World) -> list[tuple[int, telling.Step]]:
+        """The steps that can be taken, and who takes them."""
+        return [(who, taken) for who in range(len(world.activities)) if (taken := telling.step(self.module, world, who))]
+
+    def printed(self, world: World) -> Counter[str]:
+        """What the schedules from here print, and how many of them do."""
+        if world not in self.known:
+            steps = self.steps(world)
+            printed: Counter[str] = Counter() if steps else Counter({"": 1})
+            for _, taken in steps:
+                begin = "" if taken.printed is None else f" {taken.printed}"
+                printed.update({begin + rest: count for rest, count in self.printed(taken.world).items()})
+            self.known[world] = printed
+        return self.known[world]
+
+    def schedule(self, place: int) -> list[int]:
+        """The one in this place."""
+        world, schedule = telling.opening(self.module), []
+        while steps := self.steps(world):
+            for who, taken in steps:
+                count = self.printed(taken.world).total()
+                if place < count:
+                    break
+                place -= count
+            schedule.append(who)
+            world = taken.world
+        return schedule
+
+
+def ask_every(asked: Asked, program: Program, text: Text, row: str) -> None:
+    """How many schedules print what; and some of them, or all, are replayed and charted."""
+    every = Every(text.judged().module)
+    printed = every.printed(telling.opening(every.module))
+    asked.said(f"{text}\n    every", {numbers: int(count) for count, numbers in PRINTED.findall(row)}, dict(printed))
+    total = printed.total()
+    count = total if total <= MOST else SOME
+    for place in (at * total // count for at in range(count)):
+        given = log_of(every.schedule(place))
+        for command in ("replay", "chart"):
+            asked.said(f"{text}\n    {command} {given!r}", Told().answer(text, given, command), program.answer(text, given, command))
+
+
+# The rows.
+
+
+def ask_rows(asked: Asked, program: Program) -> None:
+    """The rows of modules."""
+    text, schedule = Text(b""), []
+    for line in (TESTS / "schedules.rows").read_text().splitlines():
+        if line.startswith("{"):
+            text = Text(line.encode(), is_module=True)
+        if not line or line[0] in "{#":
+            continue
+        name, row = line.split(":", 1)
+        row = row.strip()
+        match name:
+            case "every":
+                ask_every(asked, program, text, row)
+            case "by":
+                schedule = [int(who) for who in row.split()]
+            case "known":
+                asked.said(f"{text}\n    by {schedule}", row, known_of(text.judged().module, schedule))
+                ask_able(asked, program, text, schedule, row)
+            case _:
+                for command in ("replay", "chart") if name == "refused" else (name,):
+                    for who in (Told(), program):
+                        question = f"{text}\n    {command} of {schedule}, {type(who).__name__}"
+                        asked.said(question, logs.wanted(row, command), who.answer(text, log_of(schedule), command))
 
 
 def seen_of(world: meaning.World, schedule: str) -> str:
@@ -123,28 +216,28 @@ def texts() -> list[tuple[str, str, str, str]]:
     return re.findall(r"^(.+)\ntext: (.*)\nmodule: (.*)\nseen: (.*)$", (TESTS / "texts.rows").read_text(), re.MULTILINE)
 
 
-def main() -> int:
-    known, count, wrong = modules(), 0, 0
-    for text, own, compiled, wanted in texts():
+def ask_texts(asked: Asked) -> None:
+    """The rows of texts, of the telling alone."""
+    for text, own, compiled, seen in texts():
         tree = telling_source.parse(text.encode())
         module = telling.read_module(telling_source.module_text(text.encode()).encode())
-        for told_by, seen in (("text", seen_of(meaning.Program(tree), own)), ("module", seen_of(meaning.Machine(module), compiled))):
-            count += 1
-            if seen != wanted:
-                wrong += 1
-                print(f"texts.rows, {text}:\n    row:     {wanted}\n    {told_by}: {seen}", file=sys.stderr)
-    for name, schedule, wanted in rows("runs.rt"):
-        count, text = count + 1, told(known[name], schedule)
-        if text != wanted:
-            wrong += 1
-            print(f"runs.rt, {name} by {schedule}:\n    row:     {wanted}\n    telling: {text}", file=sys.stderr)
-    for name, wanted in rows("every.rt"):
-        count, printed = count + 1, all_printed(known[name])
-        if printed != dict(wanted):
-            wrong += 1
-            print(f"every.rt, {name}:\n    row:     {dict(wanted)}\n    telling: {printed}", file=sys.stderr)
-    print(f"schedules: {count} rows, {wrong} told otherwise")
-    return 1 if wrong or not count else 0
+        asked.said(f"{text}\n    text: {own}", seen, seen_of(meaning.Program(tree), own))
+        asked.said(f"{text}\n    module: {compiled}", seen, seen_of(meaning.Machine(module), compiled))
+
+
+def words() -> argparse.Namespace:
+    parser = argparse.ArgumentParser(description="Compares what is known of schedules with a second telling, and asks the program.")
+    parser.add_argument("--program", type=pathlib.Path, default=PROGRAM)
+    return parser.parse_args()
+
+
+def main() -> int:
+    program, asked = words().program.resolve(), Asked()
+    ask_texts(asked)
+    with tempfile.TemporaryDirectory() as folder:
+        ask_rows(asked, Program(program, folder))
+    print(f"schedules: {asked.count} rows, {asked.wrong} told otherwise")
+    return 1 if asked.wrong or not asked.count else 0
 
 
 if __name__ == "__main__":

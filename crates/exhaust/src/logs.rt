@@ -29,26 +29,34 @@ fn replayed<'m>(
     }
 }
 
-/// A run has a chart. Its log is written at the first try, since that takes no memory.
-fn is_charted(alloc: Global, ended: &Ended<'_>) -> Result<(), Wrong> {
+/// A run is that of a whole log, and has a chart. Its log is written at the first try, since that takes no memory.
+fn is_charted(alloc: Global, ended: &Ended<'_>, is_whole: bool) -> Result<(), Wrong> {
+    holds(is_whole, "a log is played again that isn't of a whole run")?;
     let is_charted = chart(alloc, ended).is_ok() || chart(alloc, ended).is_ok();
     holds(is_charted, "a chart isn't made at the second try")?;
     let is_written = write_log(ended, &mut Counted::new(io::sink())).is_ok();
     holds(is_written, "a log isn't written at the first try")
 }
 
-/// A log is of a whole run, which is charted, or is refused for not being one.
-fn is_replayed(alloc: Global, verified: &Verified, log: Log, is_whole: bool) -> Result<(), Wrong> {
-    match replayed(alloc, verified, log) {
-        Ok(ended) => {
-            holds(is_whole, "a log is played again that isn't of a whole run")?;
-            is_charted(alloc, &ended)
-        }
+/// A log was of a whole run, which is charted, or was refused for not being one.
+fn is_right(
+    alloc: Global,
+    answer: &Result<Ended<'_>, (Log, ReplayFault)>,
+    is_whole: bool,
+) -> Result<(), Wrong> {
+    match answer {
+        Ok(ended) => is_charted(alloc, ended, is_whole),
         Err((_, fault)) => holds(
-            !is_whole && fault != ReplayFault::OutOfMemory,
+            !is_whole && *fault != ReplayFault::OutOfMemory,
             "a log isn't played again at the second try",
         ),
     }
+}
+
+/// A log is played again, and answered as it must be.
+fn is_replayed(alloc: Global, verified: &Verified, log: Log, is_whole: bool) -> Result<(), Wrong> {
+    let answer = replayed(alloc, verified, log);
+    is_right(alloc, &answer, is_whole)
 }
 
 /// A text is the log of a whole run of a program, or is refused for not being one.

@@ -6,13 +6,14 @@ use crate::tries::{Wrong, holds};
 use std::alloc::Global;
 use xk_bounds::Verified;
 use xk_core::Core;
-use xk_drive::{Chooser, Driver, First, Halt, Last, Round, drive, run_schedule};
+use xk_drive::{
+    Chooser, Driver, Ended, First, Halt, Last, Partial, Ran, Round, drive, run_schedule,
+};
 use xk_types::Act;
 
 /// A module is run in each way.
 pub fn on_verified(alloc: Global, verified: &Verified) -> Result<(), Wrong> {
-    let schedule = by_steps(alloc, verified)?;
-    by_schedule(alloc, verified, &schedule)?;
+    by_hand(alloc, verified)?;
     by_chooser(alloc, verified, First)?;
     by_chooser(alloc, verified, Last)?;
     by_chooser(alloc, verified, Round::new())?;
@@ -52,25 +53,37 @@ fn stepped(core: &mut Core, act: Act) -> Result<(), Wrong> {
 
 /// Adds a number to a list, at the second try where memory was refused.
 fn note(list: &mut Vec<u32>, number: u32) -> Result<(), Wrong> {
-    if list.push(number).is_ok() || list.push(number).is_ok() {
-        Ok(())
-    } else {
-        Err(Wrong("a list doesn't grow at the second try"))
-    }
+    let is_noted = list.push(number).is_ok() || list.push(number).is_ok();
+    holds(is_noted, "a list doesn't grow at the second try")
 }
 
-/// The run in which the least activity always steps; which activities those were.
-fn by_steps(alloc: Global, verified: &Verified) -> Result<Vec<u32>, Wrong> {
-    let mut core = opened(alloc, verified)?;
-    let mut schedule = Vec::new(alloc);
-    for _ in 0..=verified.steps() {
+/// Single steps to the end, each of the least activity that can take one; which activities those were.
+fn by_steps(core: &mut Core, schedule: &mut Vec<u32>) -> Result<(), Wrong> {
+    for _ in 0..=core.module().steps() {
         let Some(act) = core.pick() else {
-            return Ok(schedule);
+            return Ok(());
         };
-        stepped(&mut core, act)?;
-        note(&mut schedule, act.0)?;
+        stepped(core, act)?;
+        note(schedule, act.0)?;
     }
     Err(Wrong("a run is longer than its bound"))
+}
+
+/// A run by single steps, and the same by its schedule.
+fn by_hand(alloc: Global, verified: &Verified) -> Result<(), Wrong> {
+    let mut core = opened(alloc, verified)?;
+    let mut schedule = Vec::new(alloc);
+    by_steps(&mut core, &mut schedule)?;
+    by_schedule(alloc, verified, &schedule)
+}
+
+/// Whether a schedule led to the end; None where memory was refused.
+fn is_through(answer: &Result<Ran<'_>, Halt<'_>>) -> Option<bool> {
+    match answer {
+        Ok(ran) => Some(ran.core.ended()),
+        Err(Halt::NotEnabled { .. }) => Some(false),
+        Err(Halt::OutOfMemory { .. }) => None,
+    }
 }
 
 /// Whether a schedule leads to the end; None where memory was refused.
@@ -79,14 +92,11 @@ fn is_carried_out(
     verified: &Verified,
     schedule: &[u32],
 ) -> Result<Option<bool>, Wrong> {
-    match run_schedule(alloc, opened(alloc, verified)?, schedule) {
-        Ok(ran) => Ok(Some(ran.core.ended())),
-        Err(Halt::NotEnabled { .. }) => Ok(Some(false)),
-        Err(Halt::OutOfMemory { .. }) => Ok(None),
-    }
+    let answer = run_schedule(alloc, opened(alloc, verified)?, schedule);
+    Ok(is_through(&answer))
 }
 
-/// The same run by its schedule.
+/// A schedule leads to the end.
 fn by_schedule(alloc: Global, verified: &Verified, schedule: &[u32]) -> Result<(), Wrong> {
     let ends = match is_carried_out(alloc, verified, schedule)? {
         None => is_carried_out(alloc, verified, schedule)?,
@@ -98,16 +108,22 @@ fn by_schedule(alloc: Global, verified: &Verified, schedule: &[u32]) -> Result<(
     )
 }
 
+/// Whether a driven run is over; None where memory was refused.
+fn is_over(answer: &Result<Ended<'_>, Partial<'_>>) -> Option<bool> {
+    match answer {
+        Ok(ended) => Some(ended.core.ended()),
+        Err(_) => None,
+    }
+}
+
 /// Whether a run that a chooser drives is over; None where memory was refused.
 fn is_driven<C: Chooser>(
     alloc: Global,
     verified: &Verified,
     chooser: &mut C,
 ) -> Result<Option<bool>, Wrong> {
-    match drive(alloc, opened(alloc, verified)?, chooser) {
-        Ok(ended) => Ok(Some(ended.core.ended())),
-        Err(_) => Ok(None),
-    }
+    let answer = drive(alloc, opened(alloc, verified)?, chooser);
+    Ok(is_over(&answer))
 }
 
 /// A run that a chooser drives.
@@ -131,20 +147,26 @@ fn taken_over<'m>(alloc: Global, verified: &'m Verified) -> Result<Driver<'m>, W
         Err(same) => Driver::new(alloc, same),
         answer => answer,
     };
-    made.map_err(|_| Wrong("a core isn't taken over at the second try"))
+    made.ok()
+        .ok_or(Wrong("a core isn't taken over at the second try"))
 }
 
-/// A run by turns of the greatest activity and by steps of the least one.
-fn by_turns(alloc: Global, verified: &Verified) -> Result<(), Wrong> {
-    let mut driver = taken_over(alloc, verified)?;
-    for _ in 0..=verified.steps() {
+/// Turns of the greatest activity and steps of the least one, to the end.
+fn turns(driver: &mut Driver) -> Result<(), Wrong> {
+    for _ in 0..=driver.core().module().steps() {
         let Some(act) = driver.core().pick() else {
             return holds(driver.over(), "a run by turns isn't over");
         };
-        driver_stepped(&mut driver, act)?;
-        turned(&mut driver)?;
+        driver_stepped(driver, act)?;
+        turned(driver)?;
     }
     Err(Wrong("a run by turns is longer than its bound"))
+}
+
+/// A run by turns.
+fn by_turns(alloc: Global, verified: &Verified) -> Result<(), Wrong> {
+    let mut driver = taken_over(alloc, verified)?;
+    turns(&mut driver)
 }
 
 /// One step of an activity that can take it, at the second try where memory was refused. No step asks for memory where a program starts
@@ -167,9 +189,6 @@ fn driver_stepped(driver: &mut Driver, act: Act) -> Result<(), Wrong> {
 
 /// One turn of the greatest activity, if there is one, at the second try where memory was refused.
 fn turned(driver: &mut Driver) -> Result<(), Wrong> {
-    if driver.turn(&mut Last).is_ok() || driver.turn(&mut Last).is_ok() {
-        Ok(())
-    } else {
-        Err(Wrong("a turn is refused at the second try"))
-    }
+    let is_taken = driver.turn(&mut Last).is_ok() || driver.turn(&mut Last).is_ok();
+    holds(is_taken, "a turn is refused at the second try")
 }

@@ -67,17 +67,22 @@ pub fn accepted(alloc: Global, text: &str) -> Result<Verified, Wrong> {
     }
 }
 
-/// A tape is made, read and written.
+/// A tape is read and written.
+fn is_used(tape: &mut Tape) -> Result<(), Wrong> {
+    let mut buf = [0u8; 4];
+    holds(tape.read(&mut buf) == Ok(2), "a tape is read otherwise")?;
+    let is_written = tape.write(b"out") == Ok(3) || tape.write(b"out") == Ok(3);
+    holds(is_written, "a tape isn't written at the second try")
+}
+
+/// A tape is made, and used.
 pub fn on_tape(alloc: Global) -> Result<(), Wrong> {
     let made = match Tape::new(alloc, b"in") {
         Err(_) => Tape::new(alloc, b"in"),
         answer => answer,
     };
-    let Ok(mut tape) = made else {
-        return Err(Wrong("a tape isn't made at the second try"));
-    };
-    let mut buf = [0u8; 4];
-    holds(tape.read(&mut buf) == Ok(2), "a tape is read otherwise")?;
-    let is_written = tape.write(b"out") == Ok(3) || tape.write(b"out") == Ok(3);
-    holds(is_written, "a tape isn't written at the second try")
+    match made {
+        Ok(mut tape) => is_used(&mut tape),
+        Err(_) => Err(Wrong("a tape isn't made at the second try")),
+    }
 }

@@ -1,14 +1,11 @@
-//! Tests of the libraries, of what neither their contracts say nor the built program shows: schedules whose runs are known from outside, all
-//! schedules of small modules, runs that other choosers drive, workers that compute at once, kinds and rooms, devices that fail, logs that end
-//! elsewhere, and the texts of faults.
+//! Tests of the libraries, of what neither their contracts say nor the built program shows: given schedules, runs that other choosers drive,
+//! workers that compute at once, kinds and rooms, devices that fail, a line without an end, and the texts of faults.
 #![tactic(auto)]
 
 #[cfg(test)]
 mod devices;
 #[cfg(test)]
 mod driven;
-#[cfg(test)]
-mod every;
 #[cfg(test)]
 mod programs;
 #[cfg(test)]

@@ -1,14 +1,14 @@
-//! What the program answers over devices that fail, and to logs that end too early or go on too long.
+//! What the program answers over devices that fail, and to a line without an end.
 
 use crate::programs::SUM_AND_PHASE;
-use std::alloc::{AllocError, Global};
+use std::alloc::Global;
 use std::io;
-use std::io::Read;
+use std::io::{ErrorKind, Read, Write};
 use std::sync::Wait;
 use std::thread::Threads;
 use xk_log::{LogFault, read_log};
 use xk_serve::serve;
-use xk_types::{Counted, Tape};
+use xk_types::Counted;
 use xk_words::{Command, Form, Job};
 
 const RUN: Command<'static> = Command::Run {
@@ -23,18 +23,78 @@ const CHART: Command<'static> = Command::Chart { log: "log" };
 /// What a run of `SUM_AND_PHASE` prints.
 const PRINTED: &str = "5\nended steps 8\n";
 
-/// Its log; that without its last line; and with a byte more.
+/// Its log, and that without its last line.
 const LOG: &str = "x10log 1\n0 1\n0 1\n0 1\n0 1\n0 1\n0 1\n0 1\n0 1\nend 8\n";
 
 const ENTRIES: &str = "x10log 1\n0 1\n0 1\n0 1\n0 1\n0 1\n0 1\n0 1\n0 1\n";
-
-const LONGER: &str = "x10log 1\n0 1\n0 1\n0 1\n0 1\n0 1\n0 1\n0 1\n0 1\nend 8\n\n";
 
 /// Its chart.
 const CHARTED: &str = "step 5 clock 0 phase 1 acts 0\n";
 
 /// The line of a device that failed.
 const DEVICE: &str = "x10clock: device\n";
+
+/// Gives a text, as much at once as is wanted, or takes one, in any pieces; one of its calls may fail.
+#[derive(Clone, Copy)]
+struct Passing {
+    /// What is still to be given, or taken.
+    rest: &'static [u8],
+    /// Whether anything else was written.
+    is_other: bool,
+    calls: u64,
+    /// Which call fails, 0 being none.
+    failing: u64,
+}
+
+impl Passing {
+    fn new(text: &'static str, failing: u64) -> Counted<Passing> {
+        Counted::new(Passing {
+            rest: text.as_bytes(),
+            is_other: false,
+            calls: 0,
+            failing,
+        })
+    }
+
+    /// Counts a call, which may be the one that fails.
+    fn call(&mut self) -> io::Result<()> {
+        self.calls = self.calls.saturating_add(1);
+        if self.calls == self.failing {
+            Err(io::Error::from(ErrorKind::Other))
+        } else {
+            Ok(())
+        }
+    }
+
+    /// Whether just this text was written.
+    fn is_taken(self) -> bool {
+        self.rest.is_empty() && !self.is_other
+    }
+}
+
+impl Read for Passing {
+    fn read(&mut self, buf: &mut [u8]) -> io::Result<usize> {
+        self.call()?;
+        let count = buf.len().min(self.rest.len());
+        buf[..count].copy_from_slice(&self.rest[..count]);
+        self.rest = &self.rest[count..];
+        Ok(count)
+    }
+}
+
+impl Write for Passing {
+    fn write(&mut self, buf: &[u8]) -> io::Result<usize> {
+        self.call()?;
+        let count = buf.len().min(self.rest.len());
+        self.is_other = self.is_other || &self.rest[..count] != buf;
+        self.rest = &self.rest[count..];
+        Ok(buf.len())
+    }
+
+    fn flush(&mut self) -> io::Result<()> {
+        Ok(())
+    }
+}
 
 /// At which of its calls each device fails, 0 being none.
 #[derive(Clone, Copy, Debug)]
@@ -62,78 +122,54 @@ struct Written {
     log: &'static str,
 }
 
-const NOTHING: Written = Written {
-    out: "",
-    err: "",
-    log: "",
-};
-
-/// The devices of the program, each a tape.
-#[derive(Drop)]
-struct Tapes {
-    program: Tape,
-    log_in: Tape,
-    out: Tape,
-    err: Tape,
-    log_out: Tape,
-}
-
-impl Tapes {
-    /// The devices of a job on `SUM_AND_PHASE` and this log.
-    fn new(alloc: Global, log: &[u8], failing: Failing) -> Result<Tapes, AllocError> {
-        Ok(Tapes {
-            program: Tape::new(alloc, SUM_AND_PHASE.as_bytes())?.failing_at(failing.program),
-            log_in: Tape::new(alloc, log)?.failing_at(failing.log_in),
-            out: Tape::new(alloc, b"")?.failing_at(failing.out),
-            err: Tape::new(alloc, b"")?.failing_at(failing.err),
-            log_out: Tape::new(alloc, b"")?.failing_at(failing.log_out),
-        })
-    }
-
-    /// The status of this command.
-    fn answer<R: Threads + Wait + Sync>(
-        &mut self,
-        rt: &R,
-        alloc: Global,
-        command: Command<'_>,
-    ) -> u8 {
-        let job = Job {
-            command,
-            form: Form::Module,
-            file: "-",
-        };
-        serve(
-            rt,
-            alloc,
-            &job,
-            &mut self.program,
-            &mut self.log_in,
-            &mut self.out,
-            &mut self.err,
-            &mut self.log_out,
-        )
-    }
-
-    /// Whether this is what was written.
-    fn have(&self, written: Written) -> bool {
-        self.out.written() == written.out.as_bytes()
-            && self.err.written() == written.err.as_bytes()
-            && self.log_out.written() == written.log.as_bytes()
-    }
-}
-
-/// The status of a command on a log, and whether this is what it writes.
+/// The status of a command on `SUM_AND_PHASE` and its log, and whether this is what it writes.
 fn served<R: Threads + Wait + Sync>(
     rt: &R,
     alloc: Global,
     command: Command<'_>,
-    log: &[u8],
     failing: Failing,
     written: Written,
-) -> Result<(u8, bool), AllocError> {
-    let mut tapes = Tapes::new(alloc, log, failing)?;
-    let status = tapes.answer(rt, alloc, command);
-    Ok((status, tapes.have(written)))
+) -> (u8, bool) {
+    let job = Job {
+        command,
+        form: Form::Module,
+        file: "-",
+    };
+    let mut program = Passing::new(SUM_AND_PHASE, failing.program);
+    let mut log_in = Passing::new(LOG, failing.log_in);
+    let mut out = Passing::new(written.out, failing.out);
+    let mut err = Passing::new(written.err, failing.err);
+    let mut log_out = Passing::new(written.log, failing.log_out);
+    let status = serve(
+        rt,
+        alloc,
+        &job,
+        &mut program,
+        &mut log_in,
+        &mut out,
+        &mut err,
+        &mut log_out,
+    );
+    let is_written = out.into_inner().is_taken()
+        && err.into_inner().is_taken()
+        && log_out.into_inner().is_taken();
+    (status, is_written)
+}
+
+/// Whether a command fails so, with this result and this log written before: the line says so, unless it can't be written either.
+fn fails<R: Threads + Wait + Sync>(
+    rt: &R,
+    alloc: Global,
+    command: Command<'_>,
+    failing: Failing,
+    out: &'static str,
+    log: &'static str,
+) -> bool {
+    let err = DEVICE;
+    let told = served(rt, alloc, command, failing, Written { out, err, log });
+    let failing = Failing { err: 1, ..failing };
+    let silent = served(rt, alloc, command, failing, Written { out, err: "", log });
+    told == (5, true) && silent == (5, true)
 }
 
 /// Commands, each with a call that fails, and with the result and the log that were written before. A read gives the whole text, and the next
@@ -164,11 +200,9 @@ fn failing_calls() -> [(Command<'static>, Failing, &'static str, &'static str); 
     ]
 }
 
-/// Where no call fails, the result is written, and the log of a run. Where one does, the line says so, unless it can't be written either.
+/// Where no call fails, the result is written, and the log of a run.
 #[test]
-fn devices_fail(rt: HostRuntime) -> Result<(), AllocError> {
-    let alloc = rt.alloc();
-    let given = LOG.as_bytes();
+fn devices_serve(rt: HostRuntime) {
     for (command, out, log) in [
         (RUN, PRINTED, LOG),
         (REPLAY, PRINTED, ""),
@@ -176,65 +210,23 @@ fn devices_fail(rt: HostRuntime) -> Result<(), AllocError> {
     ] {
         let told = served(
             &rt,
-            alloc,
+            rt.alloc(),
             command,
-            given,
             NONE,
             Written { out, err: "", log },
-        )?;
+        );
         assert_eq!(rt; told, (0, true), "{command:?}");
     }
-    for (command, failing, out, log) in failing_calls() {
-        let err = DEVICE;
-        let told = served(
-            &rt,
-            alloc,
-            command,
-            given,
-            failing,
-            Written { out, err, log },
-        )?;
-        assert_eq!(rt; told, (5, true), "{command:?} {failing:?}");
-        let failing = Failing { err: 1, ..failing };
-        let told = served(
-            &rt,
-            alloc,
-            command,
-            given,
-            failing,
-            Written { out, err: "", log },
-        )?;
-        assert_eq!(rt; told, (5, true), "{command:?} {failing:?}");
-    }
-    Ok(())
 }
 
-/// A text that is the beginning of a log is refused for that, unless the line that says so can't be written; one that goes on behind a log, for
-/// the line behind its last one.
 #[test]
-fn logs_end_elsewhere(rt: HostRuntime) -> Result<(), AllocError> {
-    let alloc = rt.alloc();
-    let truncated = Written {
-        err: "x10clock: L2 Truncated\n",
-        ..NOTHING
-    };
-    let grammar = Written {
-        err: "x10clock: L1 Grammar line 11\n",
-        ..NOTHING
-    };
-    let silent = Failing { err: 1, ..NONE };
-    for command in [REPLAY, CHART] {
-        for length in 0..LOG.len() {
-            let log = &LOG.as_bytes()[..length];
-            let told = served(&rt, alloc, command, log, NONE, truncated)?;
-            assert_eq!(rt; told, (3, true), "{command:?} {length}");
-            let told = served(&rt, alloc, command, log, silent, NOTHING)?;
-            assert_eq!(rt; told, (5, true), "{command:?} {length}");
-        }
-        let told = served(&rt, alloc, command, LONGER.as_bytes(), NONE, grammar)?;
-        assert_eq!(rt; told, (3, true), "{command:?}");
+fn devices_fail(rt: HostRuntime) {
+    for (command, failing, out, log) in failing_calls() {
+        assert!(rt;
+            fails(&rt, rt.alloc(), command, failing, out, log),
+            "{command:?} {failing:?}"
+        );
     }
-    Ok(())
 }
 
 /// Gives the digit 1 for ever, one with each read.

@@ -1,7 +1,7 @@
-//! What faults say of themselves.
+//! What faults say of themselves, which the program never prints.
 
 use std::alloc::Global;
-use std::test::Fail;
+use std::fmt::Display;
 use xk_bounds::{BoundFault, KindFault, Refusal, ShapeFault};
 use xk_module::ModuleFault;
 use xk_serve::Fault;
@@ -18,6 +18,22 @@ const SHAPE: ShapeFault = ShapeFault {
 
 const SHAPE_TEXT: &str = "the code breaks rule V8 Home in unit 3 at 70";
 
+const BOUND: BoundFault = BoundFault {
+    rule: Rule::Stack,
+    limit: 4096,
+};
+
+const KIND_TEXT: &str = "slot 5 breaks rule V13 Leak in unit 2 at 90, where it is resumed";
+
+const FRONT: FrontFault = FrontFault {
+    rule: FrontRule::Recursive,
+    at: 10,
+};
+
+const FRONT_TEXT: &str = "the text breaks rule F10 Recursive at 10";
+
+const MEMORY_TEXT: &str = "out of memory";
+
 fn kind_fault(alloc: Global) -> KindFault {
     KindFault {
         rule: Rule::Leak,
@@ -29,66 +45,42 @@ fn kind_fault(alloc: Global) -> KindFault {
     }
 }
 
-const KIND_TEXT: &str = "slot 5 breaks rule V13 Leak in unit 2 at 90, where it is resumed";
-
-const FRONT_TEXT: &str = "the text breaks rule F10 Recursive at 10";
-
-#[test]
-fn refusals_are_told(rt: HostRuntime) -> Result<(), Fail> {
-    let alloc = rt.alloc();
-    let bound = BoundFault {
-        rule: Rule::Stack,
-        limit: 4096,
-    };
-    for (refusal, wanted) in [
-        (Refusal::Shape(SHAPE), SHAPE_TEXT),
-        (Refusal::Kind(kind_fault(alloc)), KIND_TEXT),
-        (
-            Refusal::Bound(bound),
-            "a run may go over 4096, by rule V17 Stack",
-        ),
-        (Refusal::OutOfMemory, "out of memory"),
-    ] {
-        let text = format!(in alloc; "{refusal}")?;
-        assert_eq!(rt; text.as_str(), wanted);
+/// Whether this is what a fault says.
+fn says<D: Display>(alloc: Global, fault: &D, wanted: &str) -> bool {
+    match format!(in alloc; "{fault}") {
+        Ok(text) => text.as_str() == wanted,
+        Err(_) => false,
     }
-    Ok(())
 }
 
 #[test]
-fn faults_of_shape_and_kinds_are_told(rt: HostRuntime) -> Result<(), Fail> {
+fn refusals_are_told(rt: HostRuntime) {
     let alloc = rt.alloc();
-    let text = format!(in alloc; "{};{}", ShapeError::Fault(SHAPE), ShapeError::OutOfMemory)?;
-    let wanted = format!(in alloc; "{SHAPE_TEXT};out of memory")?;
-    assert_eq!(rt; text.as_str(), wanted.as_str());
-    let fault = KindError::Fault(kind_fault(alloc));
-    let text = format!(in alloc; "{fault};{}", KindError::OutOfMemory)?;
-    let wanted = format!(in alloc; "{KIND_TEXT};out of memory")?;
-    assert_eq!(rt; text.as_str(), wanted.as_str());
-    Ok(())
+    assert!(rt; says(alloc, &Refusal::Shape(SHAPE), SHAPE_TEXT));
+    assert!(rt; says(alloc, &ShapeError::Fault(SHAPE), SHAPE_TEXT));
+    assert!(rt; says(alloc, &ShapeError::OutOfMemory, MEMORY_TEXT));
+    assert!(rt; says(alloc, &Refusal::Kind(kind_fault(alloc)), KIND_TEXT));
+    assert!(rt; says(alloc, &KindError::Fault(kind_fault(alloc)), KIND_TEXT));
+    assert!(rt; says(alloc, &KindError::OutOfMemory, MEMORY_TEXT));
+    let bound_text = "a run may go over 4096, by rule V17 Stack";
+    assert!(rt; says(alloc, &Refusal::Bound(BOUND), bound_text));
+    assert!(rt; says(alloc, &Refusal::OutOfMemory, MEMORY_TEXT));
 }
 
 #[test]
-fn faults_are_told(rt: HostRuntime) -> Result<(), Fail> {
+fn faults_are_told(rt: HostRuntime) {
     let alloc = rt.alloc();
     for (fault, wanted) in [
         (ModuleFault::NotJson, "the bytes are no JSON text"),
         (ModuleFault::NotAModule, "the JSON value names no module"),
         (ModuleFault::Limit, "the module goes beyond a limit"),
-        (ModuleFault::OutOfMemory, "out of memory"),
+        (ModuleFault::OutOfMemory, MEMORY_TEXT),
     ] {
-        let text = format!(in alloc; "{fault};{}", Fault::Text(fault))?;
-        let twice = format!(in alloc; "{wanted};{wanted}")?;
-        assert_eq!(rt; text.as_str(), twice.as_str());
+        assert!(rt; says(alloc, &fault, wanted), "{wanted}");
+        assert!(rt; says(alloc, &Fault::Text(fault), wanted), "{wanted}");
     }
-    let front = FrontFault {
-        rule: FrontRule::Recursive,
-        at: 10,
-    };
-    let text = format!(in alloc; "{};{}", FrontError::Fault(front), Fault::Front(front))?;
-    let twice = format!(in alloc; "{FRONT_TEXT};{FRONT_TEXT}")?;
-    assert_eq!(rt; text.as_str(), twice.as_str());
-    let text = format!(in alloc; "{};{}", Fault::OutOfMemory, Fault::Device)?;
-    assert_eq!(rt; text.as_str(), "out of memory;a device failed");
-    Ok(())
+    assert!(rt; says(alloc, &FrontError::Fault(FRONT), FRONT_TEXT));
+    assert!(rt; says(alloc, &Fault::Front(FRONT), FRONT_TEXT));
+    assert!(rt; says(alloc, &Fault::OutOfMemory, MEMORY_TEXT));
+    assert!(rt; says(alloc, &Fault::Device, "a device failed"));
 }

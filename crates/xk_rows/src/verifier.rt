@@ -3,9 +3,9 @@
 use crate::programs::{accepted, module};
 use std::alloc::Global;
 use std::test::Fail;
-use xk_bounds::{KindSet, Verified};
+use xk_bounds::Verified;
 use xk_shape::shape;
-use xk_types::Kind;
+use xk_types::{Kind, Module};
 use xk_typestate::{Typed, check_kinds};
 
 /// Main opens a finish, calls the first method there and starts a body; the body calls the same method, which opens a finish, and behind it
@@ -17,60 +17,45 @@ const ROOMS: &str =
 const KINDS: &str =
     r#"{"version":1,"shared":[],"units":[{"kind":"main","params":"","slots":0,"code":[["ret"]]},{"kind":"body","params":"c","slots":5,"code":[["lit",1,5],["unless","lt",1,1,3],["lit",2,7],["make",3],["make",4],["resume",4],["call",2,[3]],["advance"],["drop",0],["ret"]]},{"kind":"method","params":"c","slots":1,"code":[["ret"]]}]}"#;
 
-/// The module with its kinds.
-fn typed(alloc: Global, text: &str) -> Result<Typed, Fail> {
-    let Ok(shaped) = shape(alloc, module(alloc, text)?) else {
-        return Err("a module hasn't the shape".into());
-    };
-    match check_kinds(alloc, shaped) {
-        Ok(typed) => Ok(typed),
-        Err(_) => Err("a walk is refused".into()),
+/// The module with its kinds, where it has the shape and no walk is refused.
+fn typed(alloc: Global, program: Module) -> Option<Typed> {
+    match shape(alloc, program) {
+        Ok(shaped) => check_kinds(alloc, shaped).ok(),
+        Err(_) => None,
     }
 }
 
-/// The names of the kinds of a slot of unit 1 before an instruction.
-fn kinds_text(alloc: Global, typed: &Typed, at: u16, slot: u16) -> Result<String, Fail> {
-    let set = kinds_at(typed, at, slot).ok_or("no such place")?;
-    let mut text = String::new(alloc);
-    for kind in [
-        Kind::Unset,
-        Kind::Number,
-        Kind::Live,
-        Kind::Resumed,
-        Kind::Out,
-    ] {
-        if set.contains(kind) {
-            text.push_str(format!(in alloc; " {}", kind.name())?.as_str())?;
-        }
-    }
-    Ok(text)
-}
-
-/// The kinds of a slot of unit 1 before an instruction; none where there is no such place.
-fn kinds_at(typed: &Typed, at: u16, slot: u16) -> Option<KindSet> {
+/// Which kinds a slot of unit 1 may be of before an instruction, unset, a number, live, resumed and out; none where there is no such place.
+fn kinds_at(typed: &Typed, at: u16, slot: u16) -> Option<[bool; 5]> {
     let u = typed.module().units().get(1)?;
-    if (at as usize) < u.code.len() && slot < u.slots {
-        Some(typed.kinds(1, at, slot))
-    } else {
-        None
+    if (at as usize) >= u.code.len() || slot >= u.slots {
+        return None;
     }
+    let set = typed.kinds(1, at, slot);
+    Some([
+        set.contains(Kind::Unset),
+        set.contains(Kind::Number),
+        set.contains(Kind::Live),
+        set.contains(Kind::Resumed),
+        set.contains(Kind::Out),
+    ])
 }
 
 #[test]
 fn kinds_are_told(rt: HostRuntime) -> Result<(), Fail> {
-    let typed = typed(rt.alloc(), KINDS)?;
+    let typed = typed(rt.alloc(), module(rt.alloc(), KINDS)?).ok_or("a module is refused")?;
     for (at, slot, wanted) in [
-        (0, 0, " live resumed"),
-        (3, 1, " number"),
-        (3, 2, " unset number"),
-        (6, 3, " live"),
-        (6, 4, " resumed"),
-        (7, 3, " live resumed"),
-        (8, 4, " live"),
-        (9, 0, " out"),
+        (0, 0, [false, false, true, true, false]),
+        (3, 1, [false, true, false, false, false]),
+        (3, 2, [true, true, false, false, false]),
+        (6, 3, [false, false, true, false, false]),
+        (6, 4, [false, false, false, true, false]),
+        (7, 3, [false, false, true, true, false]),
+        (8, 4, [false, false, true, false, false]),
+        (9, 0, [false, false, false, false, true]),
     ] {
-        let text = kinds_text(rt.alloc(), &typed, at, slot)?;
-        assert_eq!(rt; text.as_str(), wanted, "slot {slot} at {at}");
+        let told = kinds_at(&typed, at, slot);
+        assert_eq!(rt; told, Some(wanted), "slot {slot} at {at}");
     }
     Ok(())
 }
