@@ -34,6 +34,9 @@ fault_of f g e = cc
 pub told : {A : Type 0} (g f : FrontFault) (r : FrontError) → r ≡ error.Fault g → ◌≡◌ {A = Result A FrontError} (Err r) (Err (error.Fault f)) → g ≡ f
 told g f r is e = let same : r ≡ error.Fault f = cc in let both : error.Fault g ≡ error.Fault f = sym is ∙ same in cc
 
+pub same_error : {A : Type 0} (d e : FrontError) → ◌≡◌ {A = Result A FrontError} (Err d) (Err e) → d ≡ e
+same_error d e h = cc
+
 -- an error that is handed on
 pub passed_on : {A : Type 0} (r : Result A FrontError) (x y : FrontError) (f : FrontFault) → r ≡ Err x → x ≡ y → r ≡ Err (error.Fault f)
     → y ≡ error.Fault f

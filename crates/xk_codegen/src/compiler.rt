@@ -197,6 +197,29 @@ fn check(alloc: Global, tree: &Tree<'_>) -> Result<(), FrontError>
     }
 }
 
+/// The module of these parts, which are those that have units, in the order of these; or F14 at the least offset.
+fn module_of_parts<'a, 't>(
+    alloc: Global,
+    tree: &'a Tree<'t>,
+    parts: &[Part<'a, 't>],
+) -> Result<Module, FrontError>
+    requires scoped { IsScoped (tree_value tree.now) }
+    requires shared { length (tree_value tree.now).shared ≤ 256 }
+    requires units { AreUnits (tree_value tree.now) (map part parts.now) }
+    ensures compiled { IfOk result (λ m. IsCompiled (tree_value tree.now) m) }
+    ensures limits { IfOk result IsWithinLimits }
+    ensures keeps { IfOk result (λ m. HasBodiesApart (tree_value tree.now) → KeepsShape m) }
+    ensures means { IfOk result (λ m. HasBodiesApart (tree_value tree.now)
+        → Means (tree_value tree.now) m) }
+    ensures fault { (f : Fault) → result ≡ Err (FrontError.Fault f)
+        → HasBodiesApart (tree_value tree.now) → HasTableFault (tree_value tree.now) f }
+{
+    let setting = settle(alloc, tree, parts)?;
+    let units = units_of(alloc, &setting, parts)?;
+    let module = module(alloc, tree, units)?;
+    Ok(module)
+}
+
 /// The module that is the code of a tree without faults of names; or F14 at the least offset.
 fn code(alloc: Global, tree: &Tree<'_>) -> Result<Module, FrontError>
     requires scoped { IsScoped (tree_value tree.now) }
@@ -210,11 +233,10 @@ fn code(alloc: Global, tree: &Tree<'_>) -> Result<Module, FrontError>
         → HasBodiesApart (tree_value tree.now) → HasTableFault (tree_value tree.now) f }
 {
     check_shared(tree)?;
-    let parts = units_in_order(alloc, tree)?;
-    let setting = settle(alloc, tree, &parts)?;
-    let units = units_of(alloc, &setting, &parts)?;
-    let module = module(alloc, tree, units)?;
-    Ok(module)
+    match units_in_order(alloc, tree) {
+        Ok(parts) => module_of_parts(alloc, tree, &parts),
+        Err(e) => Err(e),
+    }
 }
 
 /// The module that is the code of a tree. Else a fault of the tree: F5 to F8, F11 and F12 first, at the least offset, of two there the one of the

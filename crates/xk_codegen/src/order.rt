@@ -5,9 +5,10 @@ ghost use Rattle.xk_tree.specs.declared.fault.FrontFault.{FrontFault as Fault};
 ghost use Rattle.xk_tree.specs.Tree.{tree_value};
 ghost use Rattle.xk_names.specs.Scoped.{IsScoped};
 ghost use Rattle.xk_codegen.specs.Views.{part};
-ghost use Rattle.xk_source.specs.Parts.{parts};
-ghost use Rattle.xk_source.specs.Graph.{IsOrder};
-ghost use Rattle.xk_codegen.specs.Places.{RunsItself};
+ghost use Rattle.xk_source.specs.Parts.{opening, parts, place_of};
+ghost use Rattle.xk_source.specs.Graph.{IsOrder, graph};
+ghost use Rattle.xk_calls.specs.Calls.{rows};
+ghost use Rattle.xk_codegen.specs.Places.{ArePlaces, RunsItself};
 ghost use Rattle.xk_source.specs.Compiled.{AreUnits};
 
 use crate::parts::{Part, parts};
@@ -33,7 +34,59 @@ fn parts_at<'a, 't>(
     Ok(units)
 }
 
-/// The places of the parts that have units, in the order of these.
+/// F10 there, where a part is run again.
+fn run_again(found: &[Part<'_, '_>], place: usize) -> FrontError
+    ensures { (f : Fault) → result ≡ FrontError.Fault f → f.rule ≡ FrontRule.Recursive }
+{
+    FrontError::Fault(FrontFault {
+        rule: FrontRule::Recursive,
+        at: found.get(place).map_or(0, |p| p.offset()),
+    })
+}
+
+/// The places of the parts that have units, in the order of these, where `main` is the part at this place, and these are the places of what each
+/// part runs.
+fn order_by<'t>(
+    alloc: Global,
+    tree: &Tree<'t>,
+    found: &[Part<'_, 't>],
+    lists: &[Vec<usize>],
+    main: usize,
+) -> Result<Vec<usize>, FrontError>
+    requires graph { rows lists.now ≡ graph (parts (tree_value tree.now)) }
+    requires begins { place_of (parts (tree_value tree.now)) opening ≡ Some main }
+    ensures order { IfOk result (λ order. IsOrder (tree_value tree.now) order.items) }
+    ensures fault { (f : Fault) → result ≡ Err (FrontError.Fault f)
+        → RunsItself (tree_value tree.now) f }
+{
+    let _tree = tree;
+    let order = order_from(alloc, lists, main)?;
+    match order {
+        Ok(order) => Ok(order),
+        // never so for a tree that was parsed and has no recursive call: a body stands within what starts it
+        Err(place) => Err(run_again(found, place.caller)),
+    }
+}
+
+/// The same, where the parts stand among these.
+fn order_among<'t>(
+    alloc: Global,
+    tree: &Tree<'t>,
+    found: &[Part<'_, 't>],
+    places: &Places<'t>,
+) -> Result<Vec<usize>, FrontError>
+    requires scoped { IsScoped (tree_value tree.now) }
+    requires parts { map part found.now ≡ parts (tree_value tree.now) }
+    requires places { ArePlaces (map part found.now) places.now }
+    ensures order { IfOk result (λ order. IsOrder (tree_value tree.now) order.items) }
+    ensures fault { (f : Fault) → result ≡ Err (FrontError.Fault f)
+        → RunsItself (tree_value tree.now) f }
+{
+    let lists = places.graph(alloc, found)?;
+    order_by(alloc, tree, found, &lists, places.method(b"main"))
+}
+
+/// The same for all parts of a program.
 fn order_of<'t>(
     alloc: Global,
     tree: &Tree<'t>,
@@ -45,18 +98,8 @@ fn order_of<'t>(
     ensures fault { (f : Fault) → result ≡ Err (FrontError.Fault f)
         → RunsItself (tree_value tree.now) f }
 {
-    let _tree = tree;
     let places = Places::new(alloc, found)?;
-    let graph = places.graph(alloc, found)?;
-    let order = order_from(alloc, &graph, places.method(b"main"))?;
-    match order {
-        Ok(order) => Ok(order),
-        // never so for a tree that was parsed and has no recursive call: a body stands within what starts it
-        Err(place) => Err(FrontError::Fault(FrontFault {
-            rule: FrontRule::Recursive,
-            at: found.get(place.caller).map_or(0, |p| p.offset()),
-        })),
-    }
+    order_among(alloc, tree, found, &places)
 }
 
 /// The parts of a program that have units, in the order of these: as long as one that is run has no number, the next number is given to that

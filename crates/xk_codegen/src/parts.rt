@@ -52,15 +52,15 @@ fn add_bodies<'a, 't>(found: &mut Vec<Part<'a, 't>>, s: &'a Stmt<'t>) -> Result<
             add_bodies(found, s)
         }
         Stmt::Finish(s) => add_bodies(found, s),
-        Stmt::Empty => Ok(()),
-        Stmt::Declare(..) => Ok(()),
-        Stmt::Assign(..) => Ok(()),
-        Stmt::Atomic(..) => Ok(()),
-        Stmt::Call(..) => Ok(()),
-        Stmt::Resume(..) => Ok(()),
-        Stmt::Drop(..) => Ok(()),
-        Stmt::AdvanceAll(..) => Ok(()),
-        Stmt::Print(..) => Ok(()),
+        Stmt::Empty
+        | Stmt::Declare(..)
+        | Stmt::Assign(..)
+        | Stmt::Atomic(..)
+        | Stmt::Call(..)
+        | Stmt::Resume(..)
+        | Stmt::Drop(..)
+        | Stmt::AdvanceAll(..)
+        | Stmt::Print(..) => Ok(()),
     }
 }
 

@@ -133,14 +133,14 @@ impl<'t> Places<'t> {
                 found.push(self.called(*g))?;
                 Ok(())
             }
-            Stmt::Empty => Ok(()),
-            Stmt::Declare(..) => Ok(()),
-            Stmt::Assign(..) => Ok(()),
-            Stmt::Atomic(..) => Ok(()),
-            Stmt::Resume(..) => Ok(()),
-            Stmt::Drop(..) => Ok(()),
-            Stmt::AdvanceAll(..) => Ok(()),
-            Stmt::Print(..) => Ok(()),
+            Stmt::Empty
+            | Stmt::Declare(..)
+            | Stmt::Assign(..)
+            | Stmt::Atomic(..)
+            | Stmt::Resume(..)
+            | Stmt::Drop(..)
+            | Stmt::AdvanceAll(..)
+            | Stmt::Print(..) => Ok(()),
         }
     }
 

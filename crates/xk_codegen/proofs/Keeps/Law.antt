@@ -83,22 +83,19 @@ record OfParts (t : TreeValue) (m : ModuleValue) : Type 0 where
   compiled : IsCompiled t m
   few : length m.units ≤ 1024
 
-module _ (t : TreeValue) (ps qs us : List declared.Part) (cx : Setting) (m : ModuleValue) (made : List UnitValue) (scoped : IsScoped t)
-    (units : AreUnits t (map part ps)) (one : qs ≡ ps) (two : us ≡ ps) (setting : IsSetting t (map part qs) cx) (few : length us ≤ 1024)
-    (code : made ≡ map (unit_of_part cx) (map part us)) (is : m ≡ module_of (map (λ s. s.start.value) t.shared) made) where
+module _ (t : TreeValue) (ps : List declared.Part) (cx : Setting) (m : ModuleValue) (made : List UnitValue) (scoped : IsScoped t)
+    (units : AreUnits t (map part ps)) (setting : IsSetting t (map part ps) cx) (few : length ps ≤ 1024)
+    (code : made ≡ map (unit_of_part cx) (map part ps)) (is : m ≡ module_of (map (λ s. s.start.value) t.shared) made) where
   of_parts : OfParts t m
   of_parts =
-      let numbers : map (unit_of_part cx) (map part us) ≡ map (unit_of_part cx) (map part ps) =
-      ap (λ (l : List declared.Part). map (unit_of_part cx) (map part l)) two in
-      let in_module : m.units ≡ map (unit_of_part cx) (map part ps) = ap (λ (v : ModuleValue). v.units) is ∙ code ∙ numbers in
-      let long : length (map (unit_of_part cx) (map part ps)) ≡ length ps = length-map (map part ps) (unit_of_part cx) ∙ length-map ps part in
-      let count : length m.units ≡ length us = ap length in_module ∙ long ∙ ap length (sym two) in
+      let in_module : m.units ≡ map (unit_of_part cx) (map part ps) = ap (λ (v : ModuleValue). v.units) is ∙ code in
+      let long : length m.units ≡ length ps = ap length in_module ∙ length-map (map part ps) (unit_of_part cx) ∙ length-map ps part in
       record {
         compiled = record {
           units = map part ps;
           setting = cx;
           are_units = units;
-          is_setting = subst (λ (l : List declared.Part). IsSetting t (map part l) cx) one setting;
+          is_setting = setting;
           shared = ap (λ (v : ModuleValue). v.shared) is;
           code = in_module;
         };

@@ -1,0 +1,43 @@
+use Rattle.std.proofs.Common.{◌≡◌, ◌∙◌, ℕ, suc, List, length, ap, sym, subst, arith}
+use Rattle.std.proofs.lemmas.List.{length-map}
+use Rattle.xk_calls.specs.Calls.{AreWithin, AreReached, IsRecursive}
+use Rattle.xk_calls.specs.Order.{AreLeast, IsInOrder}
+use Rattle.xk_tree.specs.declared.fault.FrontError.TheVariants as error
+use Rattle.xk_tree.specs.Tree.{tree_value}
+use Rattle.xk_source.specs.Parts.{parts}
+use Rattle.xk_codegen.proofs.Faults.{same_error}
+use Rattle.xk_codegen.proofs.Ordered.{within}
+use Rattle.xk_codegen.proofs.Placed.{main_within}
+use Rattle.xk_codegen.proofs.order.order_by.Goals as goal
+
+pub order_from-requires-clause-within : goal.order_from-requires-clause-within
+order_from-requires-clause-within c = subst (λ (r : List (List ℕ)). AreWithin r) (sym c.requires.graph) (within (parts (tree_value c.args.tree.now)))
+
+pub order_from-requires-clause-start : goal.order_from-requires-clause-start
+order_from-requires-clause-start c =
+    let h = main_within (tree_value c.args.tree.now) c.args.main _ c.requires.begins c.requires.graph in
+    let long = length-map c.args.lists.now (λ v. v.items) in
+    omega arith
+
+pub returns-in-Ok-clause-order : goal.returns-in-Ok-clause-order
+returns-in-Ok-clause-order c =
+    let same = c.requires.graph in
+    record {
+      start = c.args.main;
+      begins = c.requires.begins;
+      first = rw c.in-Ok.is at c.in_ok-order.ensures.first;
+      reached = subst (λ (r : List (List ℕ)). AreReached r c.args.main c.in-Ok.order.items) same (rw c.in-Ok.is at c.in_ok-order.ensures.reached);
+      later = subst (λ (r : List (List ℕ)). IsInOrder r c.in-Ok.order.items) same (rw c.in-Ok.is at c.in_ok-order.ensures.later);
+      once = rw c.in-Ok.is at c.in_ok-order.ensures.once;
+      least = subst (λ (r : List (List ℕ)). AreLeast r c.args.main c.in-Ok.order.items) same (rw c.in-Ok.is at c.in_ok-order.ensures.least);
+    }
+
+pub returns-in-Err-clause-fault : goal.returns-in-Err-clause-fault
+returns-in-Err-clause-fault c = λ f e. record {
+  place = c.in-Err.place.caller;
+  call = c.in-Err.place.index;
+  again =
+      subst (λ (r : List (List ℕ)). IsRecursive r c.in-Err.place.caller c.in-Err.place.index) c.requires.graph
+      (rw c.in-Err.is at c.in_ok-order.ensures.found);
+  is = c.run_again.ensures f (same_error c.run_again.result (error.Fault f) e);
+}
