@@ -118,6 +118,26 @@ fn place_next(
     Ok(false)
 }
 
+/// Gives numbers as long as a method can get one, and notes for the others the call that they wait for.
+fn place_rest(
+    calls: &[Vec<usize>],
+    numbers: &mut [usize],
+    placed: &mut Vec<usize>,
+    waits: &mut [usize],
+) -> Result<(), AllocError>
+    requires within { AreWithin (rows calls.now) }
+    requires all { length numbers.old ≡ length calls.now }
+    requires noted { length waits.old ≡ length calls.now }
+    requires numbered { IsNumbered (rows calls.now) numbers.old }
+    requires top { AtMost numbers.old (vec_len placed.old) }
+    ensures numbered { OnOk result (IsNumbered (rows calls.now) numbers.new) }
+    ensures stuck { OnOk result
+        (AreStuck (rows calls.now) numbers.new waits.new (length numbers.new)) }
+{
+    while place_next(calls, numbers, placed, waits)? {}
+    Ok(())
+}
+
 /// The first method that has no number.
 fn unplaced(numbers: &[usize]) -> Option<usize>
     ensures { MatchOption result
@@ -181,7 +201,7 @@ fn number_all(
     let mut waits = vec![in alloc; 0usize; calls.len()]?;
     let mut placed = Vec::new(alloc);
     place_in_order(calls, &mut numbers, &mut placed, order)?;
-    while place_next(calls, &mut numbers, &mut placed, &mut waits)? {}
+    place_rest(calls, &mut numbers, &mut placed, &mut waits)?;
     match unplaced(&numbers) {
         None => Ok(Ok(numbers)),
         Some(start) => {
