@@ -118,6 +118,26 @@ fn place_next(
     Ok(false)
 }
 
+/// Gives numbers as long as a method can get one, and notes for the others the call that they wait for.
+fn place_rest(
+    calls: &[Vec<usize>],
+    numbers: &mut [usize],
+    placed: &mut Vec<usize>,
+    waits: &mut [usize],
+) -> Result<(), AllocError>
+    requires within { AreWithin (rows calls.now) }
+    requires all { length numbers.old ≡ length calls.now }
+    requires noted { length waits.old ≡ length calls.now }
+    requires numbered { IsNumbered (rows calls.now) numbers.old }
+    requires top { AtMost numbers.old (vec_len placed.old) }
+    ensures numbered { OnOk result (IsNumbered (rows calls.now) numbers.new) }
+    ensures stuck { OnOk result
+        (AreStuck (rows calls.now) numbers.new waits.new (length numbers.new)) }
+{
+    while place_next(calls, numbers, placed, waits)? {}
+    Ok(())
+}
+
 /// The first method that has no number.
 fn unplaced(numbers: &[usize]) -> Option<usize>
     ensures { MatchOption result
@@ -165,6 +185,34 @@ fn walk_round(
     }
 }
 
+/// Gives each method a number that falls along its calls, or finds a recursive call.
+fn number_each(
+    alloc: Global,
+    calls: &[Vec<usize>],
+    numbers: &mut [usize],
+    waits: &mut [usize],
+    order: &[usize],
+) -> Result<Option<CallPlace>, AllocError>
+    requires within { AreWithin (rows calls.now) }
+    requires all { length numbers.old ≡ length calls.now }
+    requires noted { length waits.old ≡ length calls.now }
+    requires fresh { (j : ℕ) → slice_index numbers.old j ≡ 0 }
+    ensures falls { result ≡ Ok None → Falls (rows calls.now) numbers.new }
+    ensures found { IfOk result (λ o. IfSome o (λ p.
+        IsRecursive (rows calls.now) p.caller p.index)) }
+{
+    let mut placed = Vec::new(alloc);
+    place_in_order(calls, numbers, &mut placed, order)?;
+    place_rest(calls, numbers, &mut placed, waits)?;
+    match unplaced(numbers) {
+        None => Ok(None),
+        Some(start) => {
+            let mut seen = vec![in alloc; 0usize; calls.len()]?;
+            Ok(Some(walk_round(calls, numbers, waits, &mut seen, start)))
+        }
+    }
+}
+
 /// Numbers that fall along each call, or a recursive call.
 fn number_all(
     alloc: Global,
@@ -179,15 +227,10 @@ fn number_all(
 {
     let mut numbers = vec![in alloc; 0usize; calls.len()]?;
     let mut waits = vec![in alloc; 0usize; calls.len()]?;
-    let mut placed = Vec::new(alloc);
-    place_in_order(calls, &mut numbers, &mut placed, order)?;
-    while place_next(calls, &mut numbers, &mut placed, &mut waits)? {}
-    match unplaced(&numbers) {
+    let found = number_each(alloc, calls, &mut numbers, &mut waits, order)?;
+    match found {
         None => Ok(Ok(numbers)),
-        Some(start) => {
-            let mut seen = vec![in alloc; 0usize; calls.len()]?;
-            Ok(Err(walk_round(calls, &numbers, &waits, &mut seen, start)))
-        }
+        Some(place) => Ok(Err(place)),
     }
 }
 
