@@ -197,7 +197,31 @@ fn check(alloc: Global, tree: &Tree<'_>) -> Result<(), FrontError>
     }
 }
 
-/// The module of these parts, which are those that have units, in the order of these; or F14 at the least offset.
+/// The module of these parts, which are those that have units, in the order of these, in their setting; or F14 at the least offset.
+fn module_in<'a, 't>(
+    alloc: Global,
+    tree: &'a Tree<'t>,
+    setting: &Setting<'t>,
+    parts: &[Part<'a, 't>],
+) -> Result<Module, FrontError>
+    requires scoped { IsScoped (tree_value tree.now) }
+    requires shared { length (tree_value tree.now).shared ≤ 256 }
+    requires units { AreUnits (tree_value tree.now) (map part parts.now) }
+    requires setting { IsSetting (tree_value tree.now) (map part parts.now) setting.now }
+    ensures compiled { IfOk result (λ m. IsCompiled (tree_value tree.now) m) }
+    ensures limits { IfOk result IsWithinLimits }
+    ensures keeps { IfOk result (λ m. HasBodiesApart (tree_value tree.now) → KeepsShape m) }
+    ensures means { IfOk result (λ m. HasBodiesApart (tree_value tree.now)
+        → Means (tree_value tree.now) m) }
+    ensures fault { (f : Fault) → result ≡ Err (FrontError.Fault f)
+        → HasBodiesApart (tree_value tree.now) → HasTableFault (tree_value tree.now) f }
+{
+    let units = units_of(alloc, setting, parts)?;
+    let module = module(alloc, tree, units)?;
+    Ok(module)
+}
+
+/// The same, in a setting that is made for them.
 fn module_of_parts<'a, 't>(
     alloc: Global,
     tree: &'a Tree<'t>,
@@ -215,9 +239,7 @@ fn module_of_parts<'a, 't>(
         → HasBodiesApart (tree_value tree.now) → HasTableFault (tree_value tree.now) f }
 {
     let setting = settle(alloc, tree, parts)?;
-    let units = units_of(alloc, &setting, parts)?;
-    let module = module(alloc, tree, units)?;
-    Ok(module)
+    module_in(alloc, tree, &setting, parts)
 }
 
 /// The module that is the code of a tree without faults of names; or F14 at the least offset.

@@ -41,17 +41,17 @@ fn add_bodies<'a, 't>(found: &mut Vec<Part<'a, 't>>, s: &'a Stmt<'t>) -> Result<
 {
     match s {
         Stmt::Block(ss) => add_bodies_all(found, ss),
-        Stmt::If(_, _, _, _, s) => add_bodies(found, s),
+        Stmt::If(_, _, _, _, s) | Stmt::For(_, _, _, _, s) | Stmt::Finish(s) => {
+            add_bodies(found, s)
+        }
         Stmt::IfElse(_, _, _, _, s, u) => {
             add_bodies(found, s)?;
             add_bodies(found, u)
         }
-        Stmt::For(_, _, _, _, s) => add_bodies(found, s),
         Stmt::Async(at, clocks, s) => {
             found.push(Part::Body(*at, clocks, s))?;
             add_bodies(found, s)
         }
-        Stmt::Finish(s) => add_bodies(found, s),
         Stmt::Empty
         | Stmt::Declare(..)
         | Stmt::Assign(..)

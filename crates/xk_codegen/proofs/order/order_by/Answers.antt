@@ -1,4 +1,4 @@
-use Rattle.std.proofs.Common.{◌≡◌, ◌∙◌, ℕ, suc, List, length, ap, sym, subst, arith}
+use Rattle.std.proofs.Common.{ℕ, List, sym, subst, arith}
 use Rattle.std.proofs.lemmas.List.{length-map}
 use Rattle.xk_calls.specs.Calls.{AreWithin, AreReached, IsRecursive}
 use Rattle.xk_calls.specs.Order.{AreLeast, IsInOrder}
