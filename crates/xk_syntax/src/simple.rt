@@ -4,7 +4,7 @@ ghost use Rattle.std.specs.Prelude.{◌≡◌, option_map, codes, Some};
 ghost use Rattle.xk_tree.specs.Tree.{expression, source, statement, word};
 ghost use Rattle.xk_exprs.specs.Marks.{marks};
 ghost use Rattle.xk_exprs.specs.Readers.{Gives};
-ghost use Rattle.xk_syntax.specs.Readers.{bind, verb_at, bare_verb_at, act_at, type_part_at, source_at, declare_at, ended, atomic_at, advance_at, print_head_at, print_at, call_at, dotted_at, assign_at, named_at};
+ghost use Rattle.xk_syntax.specs.Readers.{bind, verb_at, bare_verb_at, act_at, type_part_at, source_at, declare_at, atomic_at, advance_at, print_head_at, print_at, call_at, dotted_at, assign_at, named_at};
 
 use crate::lists::args;
 use crate::parts::{
@@ -15,20 +15,6 @@ use std::alloc::Global;
 use xk_exprs::{SyntaxError, read_expr, read_term};
 use xk_tokens::{Sign, Token};
 use xk_tree::{Binding, Name, Right, Stmt, TypeName, Verb};
-
-/// A statement that ends in `;`, before that.
-#[tactic(auto, unfolding(crate::specs::Readers::bind))]
-fn ended<'s, 't>(
-    stmt: Stmt<'t>,
-    tokens: &'s [Token<'t>],
-    end: usize,
-) -> Result<(Stmt<'t>, &'s [Token<'t>]), SyntaxError>
-    ensures { Gives (λ x. (statement x.0, marks x.1.now)) result
-        (ended (statement stmt.entry) (marks tokens.now)) }
-{
-    let rest = need_sign(Sign::Semicolon, tokens, end)?;
-    Ok((stmt, rest))
-}
 
 /// `word (`.
 #[tactic(auto, unfolding(crate::specs::Readers::bind, crate::specs::Readers::verb_at))]
@@ -127,7 +113,8 @@ pub(crate) fn declaration<'s, 't>(
     let (ty, rest) = type_part(rest, end)?;
     let rest = need_sign(Sign::Assign, rest, end)?;
     let (right, rest) = right(alloc, levels, rest, end)?;
-    ended(Stmt::Declare(binding, name, ty, right), rest, end)
+    let rest = need_sign(Sign::Semicolon, rest, end)?;
+    Ok((Stmt::Declare(binding, name, ty, right), rest))
 }
 
 /// An `atomic`.
@@ -146,7 +133,8 @@ pub(crate) fn atomic<'s, 't>(
     let (again, rest) = name(rest, end)?;
     let (plus, rest) = need_plus(rest, end)?;
     let (term, rest) = read_term(alloc, levels, rest, end)?;
-    ended(Stmt::Atomic(target, again, plus, term), rest, end)
+    let rest = need_sign(Sign::Semicolon, rest, end)?;
+    Ok((Stmt::Atomic(target, again, plus, term), rest))
 }
 
 /// `Clock.advanceAll();`, with the offset of its `Clock`.
@@ -160,7 +148,8 @@ pub(crate) fn advance_all<'s, 't>(
         (advance_at at (marks tokens.now)) }
 {
     let (verb, rest) = act(b"advanceAll", tokens, end)?;
-    ended(Stmt::AdvanceAll(at, verb), rest, end)
+    let rest = need_sign(Sign::Semicolon, rest, end)?;
+    Ok((Stmt::AdvanceAll(at, verb), rest))
 }
 
 /// `. OUT . println (`, and the offset of `OUT`.
@@ -192,7 +181,8 @@ pub(crate) fn print<'s, 't>(
     let ((at, verb), rest) = print_head(tokens, end)?;
     let (expr, rest) = read_expr(alloc, levels, rest, end)?;
     let rest = need_sign(Sign::RightParen, rest, end)?;
-    ended(Stmt::Print(at, verb, expr), rest, end)
+    let rest = need_sign(Sign::Semicolon, rest, end)?;
+    Ok((Stmt::Print(at, verb, expr), rest))
 }
 
 /// `resume ();` or `drop ();`, behind the clock's name and the `.`.
@@ -208,11 +198,13 @@ fn dotted<'s, 't>(
     match this_word(b"resume", tokens) {
         Some(_) => {
             let (verb, rest) = bare_verb(b"resume", tokens, end)?;
-            ended(Stmt::Resume(clock, verb), rest, end)
+            let rest = need_sign(Sign::Semicolon, rest, end)?;
+            Ok((Stmt::Resume(clock, verb), rest))
         }
         None => {
             let (verb, rest) = bare_verb(b"drop", tokens, end)?;
-            ended(Stmt::Drop(clock, verb), rest, end)
+            let rest = need_sign(Sign::Semicolon, rest, end)?;
+            Ok((Stmt::Drop(clock, verb), rest))
         }
     }
 }
@@ -231,7 +223,8 @@ fn assignment<'s, 't>(
 {
     let rest = need_sign(Sign::Assign, tokens, end)?;
     let (expr, rest) = read_expr(alloc, levels, rest, end)?;
-    ended(Stmt::Assign(target, expr), rest, end)
+    let rest = need_sign(Sign::Semicolon, rest, end)?;
+    Ok((Stmt::Assign(target, expr), rest))
 }
 
 /// A call, behind its `(`.
@@ -248,7 +241,8 @@ fn call<'s, 't>(
         (call_at levels (word method.entry) (paren, marks tokens.now)) }
 {
     let (args, rest) = args(alloc, levels, tokens, end)?;
-    ended(Stmt::Call(method, paren, args), rest, end)
+    let rest = need_sign(Sign::Semicolon, rest, end)?;
+    Ok((Stmt::Call(method, paren, args), rest))
 }
 
 /// A statement that begins with a name, behind it.
