@@ -1,5 +1,5 @@
 -- What the code of a part denies, the code of the whole denies.
-use Rattle.std.proofs.Common.{◌≡◌, ℕ, zero, suc, int_le, true, ◌+◌, ◌<◌, ◌≤◌, List, [], ◌∷◌, ◌++◌, length, map, get_or, drop, refl, sym, ap, subst, ◌∙◌, arith, length-append, All, cond, pos}
+use Rattle.std.proofs.Common.{◌≡◌, ℕ, zero, suc, int_le, true, ◌+◌, ◌<◌, ◌≤◌, List, [], ◌∷◌, ◌++◌, length, map, get_or, drop, refl, sym, ap, subst, ◌∙◌, arith, append_assoc, length-append, All, cond, pos}
 use Rattle.std.proofs.lemmas.List.Elements.{All-nil, All-cons, All-head, All-tail}
 use Rattle.std.proofs.lemmas.List.{at_drop_more}
 use Rattle.xk_types.specs.Code.{arguments_of}
@@ -13,7 +13,7 @@ use Rattle.xk_tree.specs.declared.tree.Number.{Number}
 use Rattle.xk_tree.specs.Tree.{Word, Expression, Negation, Binary, Statement, Statements, More, If, IfElse, For, Finish, Declare, expression, expressions}
 use Rattle.xk_code.specs.declared.error.CodeError.{CodeError}
 use Rattle.xk_code.specs.declared.error.CodeError.TheVariants as error
-use Rattle.xk_code.specs.CodeOf.{Setting, Scope, behind, before_into, both, code_of, code_of_all, count, count_all, declared, eval, eval_all, last_into, second, slot_for}
+use Rattle.xk_code.specs.CodeOf.{Setting, Scope, behind, before_into, both, code_of, code_of_all, code_of_then, count, count_all, declared, eval, eval_all, last_into, second, slot_for}
 use Rattle.xk_code.specs.Covered.{AreNew, IsKnown, IsNew, IsCovered, AreCovered}
 use Rattle.xk_code.specs.Room.{AreLow, Denies, HasRoom}
 use Rattle.xk_code.proofs.Rooms.{DeniesEval, arguments_append, room_behind, room_first, slots_append, temporary_written}
@@ -108,74 +108,75 @@ if_end err cx t scope n size inner long at l op r s h is is_long =
     let same : length (code_of cx t scope n inner s) ≡ length body = ap (λ k. length (code_of cx t scope n k s)) is in
     denies err h (λ k. tt) (λ m. let whole = m.0.code in omega (arith, length-append (both scope t l r) (test ∷ body)))
 
-pub else_tested : (err : CodeError) (cx : Setting) (t : ℕ) (scope : Scope) (n size at : ℕ) (l : Expression) (op : Comparison) (r : Expression) (s u : Statement)
-    → Denies err (IsKnown scope l × IsKnown scope r) (HasRoom scope size (both scope t l r ++ instr.Jump 0 ∷ [])) → DeniesCode err cx t scope n size (IfElse at l op r s u)
-else_tested err cx t scope n size at l op r s u h = denies err h (λ k. (k.0, k.1)) (λ m. room_gap scope size (both scope t l r) _ _ m.0)
+-- an `if` up to its `else`
+abbrev pub DeniesThen : CodeError → Setting → ℕ → Scope → ℕ → ℕ → Expression → Comparison → Expression → Statement → Type 0
+DeniesThen err cx t scope n size l op r s =
+    Denies err (IsKnown scope l × IsKnown scope r × IsCovered cx scope n s) (HasRoom scope size (code_of_then cx t scope n size l op r s) × (n + count s ≤ 64))
 
-pub else_inner : (err : CodeError) (cx : Setting) (t : ℕ) (scope : Scope) (n size inner at : ℕ) (l : Expression) (op : Comparison) (r : Expression) (s u : Statement)
-    → DeniesCode err cx t scope n inner s → inner ≡ size + length (both scope t l r) + 1 → DeniesCode err cx t scope n size (IfElse at l op r s u)
-else_inner err cx t scope n size inner at l op r s u h is =
+pub then_tested : (err : CodeError) (cx : Setting) (t : ℕ) (scope : Scope) (n size : ℕ) (l : Expression) (op : Comparison) (r : Expression) (s : Statement)
+    → Denies err (IsKnown scope l × IsKnown scope r) (HasRoom scope size (both scope t l r ++ instr.Jump 0 ∷ [])) → DeniesThen err cx t scope n size l op r s
+then_tested err cx t scope n size l op r s h = denies err h (λ k. (k.0, k.1)) (λ m. room_gap scope size (both scope t l r) _ _ m.0)
+
+pub then_inner : (err : CodeError) (cx : Setting) (t : ℕ) (scope : Scope) (n size inner : ℕ) (l : Expression) (op : Comparison) (r : Expression) (s : Statement)
+    → DeniesCode err cx t scope n inner s → inner ≡ size + length (both scope t l r) + 1 → DeniesThen err cx t scope n size l op r s
+then_inner err cx t scope n size inner l op r s h is =
     let q = size + length (both scope t l r) in
     let body = code_of cx t scope n (q + 1) s in
-    let other = code_of cx t scope (n + count s) (q + 1 + length body + 1) u in
+    let jump = instr.Jump 0 in
     let test = instr.Unless op (slot_for scope t l) (second scope t l r) (q + 1 + length body + 1) in
-    let jump = instr.Jump (q + 1 + length body + 1 + length other) in
     denies err h (λ k. k.2) (λ m.
-    let few = m.1 in
-    let inside = room_behind scope q (test ∷ []) (body ++ jump ∷ other) (q + 1) refl (room_behind scope size (both scope t l r) (test ∷ (body ++ jump ∷ other)) q refl m.0) in
-    (moved cx t n inner (q + 1) scope s is (room_first scope (q + 1) body (jump ∷ other) inside), omega arith))
+    let inside = room_behind scope q (test ∷ []) (body ++ jump ∷ []) (q + 1) refl (room_behind scope size (both scope t l r) (test ∷ (body ++ jump ∷ [])) q refl m.0) in
+    (moved cx t n inner (q + 1) scope s is (room_first scope (q + 1) body (jump ∷ []) inside), m.1))
 
-pub else_between : (err : CodeError) (cx : Setting) (t : ℕ) (scope : Scope) (n size inner long at : ℕ) (l : Expression) (op : Comparison) (r : Expression) (s u : Statement)
+pub then_end : (err : CodeError) (cx : Setting) (t : ℕ) (scope : Scope) (n size inner long : ℕ) (l : Expression) (op : Comparison) (r : Expression) (s : Statement)
     → Denies err ⊤ (long < 4096) → inner ≡ size + length (both scope t l r) + 1 → long ≡ inner + length (code_of cx t scope n inner s)
-    → DeniesCode err cx t scope n size (IfElse at l op r s u)
-else_between err cx t scope n size inner long at l op r s u h is is_long =
+    → DeniesThen err cx t scope n size l op r s
+then_end err cx t scope n size inner long l op r s h is is_long =
     let q = size + length (both scope t l r) in
     let body = code_of cx t scope n (q + 1) s in
-    let other = code_of cx t scope (n + count s) (q + 1 + length body + 1) u in
+    let jump = instr.Jump 0 in
     let test = instr.Unless op (slot_for scope t l) (second scope t l r) (q + 1 + length body + 1) in
-    let jump = instr.Jump (q + 1 + length body + 1 + length other) in
     let same : length (code_of cx t scope n inner s) ≡ length body = ap (λ k. length (code_of cx t scope n k s)) is in
     denies err h (λ k. tt) (λ m.
-    let whole = m.0.code in omega (arith, length-append (both scope t l r) (test ∷ (body ++ jump ∷ other)), length-append body (jump ∷ other)))
+    let whole = m.0.code in omega (arith, length-append (both scope t l r) (test ∷ (body ++ jump ∷ [])), length-append body (jump ∷ [])))
 
-pub else_other : (err : CodeError) (cx : Setting) (t : ℕ) (scope again : Scope) (n k size inner from at : ℕ) (l : Expression) (op : Comparison) (r : Expression) (s u : Statement)
-    → DeniesCode err cx t again k from u → again ≡ scope → k ≡ n + count s
-    → inner ≡ size + length (both scope t l r) + 1 → from ≡ inner + length (code_of cx t scope n inner s) + 1 → DeniesCode err cx t scope n size (IfElse at l op r s u)
-else_other err cx t scope again n k size inner from at l op r s u h same_scope next is is_from =
+pub else_begun : (err : CodeError) (cx : Setting) (t : ℕ) (scope : Scope) (n size at : ℕ) (l : Expression) (op : Comparison) (r : Expression) (s u : Statement)
+    → DeniesThen err cx t scope n size l op r s → DeniesCode err cx t scope n size (IfElse at l op r s u)
+else_begun err cx t scope n size at l op r s u h =
     let q = size + length (both scope t l r) in
     let body = code_of cx t scope n (q + 1) s in
     let p = q + 1 + length body + 1 in
     let other = code_of cx t scope (n + count s) p u in
     let test = instr.Unless op (slot_for scope t l) (second scope t l r) p in
     let jump = instr.Jump (p + length other) in
-    let same : length (code_of cx t scope n inner s) ≡ length body = ap (λ j. length (code_of cx t scope n j s)) is in
+    denies err h (λ k. (k.0, k.1, k.2)) (λ m.
+    let few = m.1 in
+    (subst (HasRoom scope size) (append_assoc (both scope t l r) (test ∷ body) (instr.Jump 0 ∷ []))
+    (room_gap scope size (both scope t l r ++ test ∷ body) other jump (subst (HasRoom scope size) (sym (append_assoc (both scope t l r) (test ∷ body) (jump ∷ other))) m.0)), omega arith))
+
+pub else_other : (err : CodeError) (cx : Setting) (t : ℕ) (scope again : Scope) (n k size from at : ℕ) (l : Expression) (op : Comparison) (r : Expression) (s u : Statement)
+    → DeniesCode err cx t again k from u → again ≡ scope → k ≡ n + count s
+    → from ≡ size + length (code_of_then cx t scope n size l op r s) → DeniesCode err cx t scope n size (IfElse at l op r s u)
+else_other err cx t scope again n k size from at l op r s u h same_scope next is_from =
+    let q = size + length (both scope t l r) in
+    let body = code_of cx t scope n (q + 1) s in
+    let p = q + 1 + length body + 1 in
+    let other = code_of cx t scope (n + count s) p u in
+    let test = instr.Unless op (slot_for scope t l) (second scope t l r) p in
+    let jump = instr.Jump (p + length other) in
+    let is_place : from ≡ p = omega (arith, is_from, length-append (both scope t l r) (test ∷ (body ++ instr.Jump 0 ∷ [])), length-append body (instr.Jump 0 ∷ [])) in
     let there : DeniesCode err cx t scope (n + count s) from u =
     subst (λ j. DeniesCode err cx t scope j from u) next (subst (λ (w : Scope). DeniesCode err cx t w k from u) same_scope h) in
     denies err there (λ c. c.3) (λ m.
     let few = m.1 in
     let inside = room_behind scope q (test ∷ []) (body ++ jump ∷ other) (q + 1) refl (room_behind scope size (both scope t l r) (test ∷ (body ++ jump ∷ other)) q refl m.0) in
     let ahead = room_behind scope (q + 1) body (jump ∷ other) (q + 1 + length body) refl inside in
-    (moved cx t (n + count s) from p scope u (omega arith) (room_behind scope (q + 1 + length body) (jump ∷ []) other p refl ahead), omega arith))
+    (moved cx t (n + count s) from p scope u is_place (room_behind scope (q + 1 + length body) (jump ∷ []) other p refl ahead), omega arith))
 
-pub else_end : (err : CodeError) (cx : Setting) (t : ℕ) (scope again : Scope) (n k size inner from long at : ℕ)
-    (l : Expression) (op : Comparison) (r : Expression) (s u : Statement)
-    → Denies err ⊤ (long ≤ 4096) → again ≡ scope → k ≡ n + count s
-    → inner ≡ size + length (both scope t l r) + 1 → from ≡ inner + length (code_of cx t scope n inner s) + 1
-    → long ≡ from + length (code_of cx t again k from u) → DeniesCode err cx t scope n size (IfElse at l op r s u)
-else_end err cx t scope again n k size inner from long at l op r s u h same_scope next is is_from is_long =
-    let q = size + length (both scope t l r) in
-    let body = code_of cx t scope n (q + 1) s in
-    let p = q + 1 + length body + 1 in
-    let other = code_of cx t scope (n + count s) p u in
-    let test = instr.Unless op (slot_for scope t l) (second scope t l r) p in
-    let jump = instr.Jump (p + length other) in
-    let same : length (code_of cx t scope n inner s) ≡ length body = ap (λ j. length (code_of cx t scope n j s)) is in
-    let there : from ≡ p = omega arith in
-    let rest : length (code_of cx t again k from u) ≡ length other =
-    ap (λ (w : Scope). length (code_of cx t w k from u)) same_scope ∙ ap (λ j. length (code_of cx t scope j from u)) next
-    ∙ ap (λ j. length (code_of cx t scope (n + count s) j u)) there in
-    denies err h (λ c. tt) (λ m.
-    let whole = m.0.code in omega (arith, length-append (both scope t l r) (test ∷ (body ++ jump ∷ other)), length-append body (jump ∷ other)))
+-- code that is there had room
+pub code_end : (err : CodeError) (cx : Setting) (t : ℕ) (scope : Scope) (n size long : ℕ) (s : Statement)
+    → Denies err ⊤ (long ≤ 4096) → long ≡ size + length (code_of cx t scope n size s) → DeniesCode err cx t scope n size s
+code_end err cx t scope n size long s h is = denies err h (λ k. tt) (λ m. let whole = m.0.code in omega arith)
 
 -- ---- finishes
 

@@ -7,7 +7,7 @@ use Rattle.xk_types.specs.declared.instr.Instr.TheVariants as instr
 use Rattle.xk_types.specs.declared.instr.Comparison.{Comparison}
 use Rattle.xk_tree.specs.declared.tree.Number.{Number}
 use Rattle.xk_tree.specs.Tree.{Word, Expression, Statement, If, IfElse, For, Finish, Statements, More}
-use Rattle.xk_code.specs.CodeOf.{Scope, Setting, both, second, slot_for, count, count_all, declared, declared_by_all, code_of, code_of_all}
+use Rattle.xk_code.specs.CodeOf.{Scope, Setting, both, second, slot_for, count, count_all, declared, declared_by_all, code_of, code_of_all, code_of_then}
 use Rattle.xk_code.specs.Covered.{AreCovered}
 use Rattle.xk_code.proofs.Denials.{RoomOfAll, covered_turn, room_turn}
 
@@ -109,42 +109,61 @@ test_filled cx t n at off scope op o l r x y s base c1 c2 c3 gap e1 place is_op 
     ∙ ap (λ k. front ++ instr.Unless op (slot_for scope t l) k (q + 1 + length body) ∷ body) is_y
     ∙ append_assoc base first (instr.Unless op (slot_for scope t l) (second scope t l r) (q + 1 + length body) ∷ body)
 
-pub choice_filled : (cx : Setting) (t n m at off jump : ℕ) (scope again : Scope) (op o : Comparison) (l r : Expression) (x y : ℕ)
-    (s u : Statement) (base c1 c2 c3 c4 c5 : List Instr) (gap : Instr)
+-- the same up to an `else`, where a gap is left for the jump over that
+pub then_filled : (cx : Setting) (t n at : ℕ) (scope : Scope) (op o : Comparison) (l r : Expression) (x y : ℕ) (s : Statement) (base c1 c2 c3 : List Instr) (gap : Instr)
     → c1 ≡ base ++ (both scope t l r ++ gap ∷ []) → at ≡ length base + length (both scope t l r) → o ≡ op → x ≡ slot_for scope t l → y ≡ second scope t l r
     → c2 ≡ c1 ++ code_of cx t scope n (length c1) s
-    → jump ≡ length c2
     → ((front body : List Instr) (old : Instr) → c2 ≡ front ++ old ∷ body → at ≡ length front
     → c3 ≡ front ++ instr.Unless o x y (length front + 1 + length body + 1) ∷ (body ++ instr.Jump 0 ∷ []))
-    → again ≡ scope → m ≡ n + count s → c4 ≡ c3 ++ code_of cx t again m (length c3) u
-    → ((front body : List Instr) (old : Instr) → c4 ≡ front ++ old ∷ body → jump ≡ length front → c5 ≡ front ++ instr.Jump (length front + 1 + length body) ∷ body)
-    → c5 ≡ base ++ code_of cx t scope n (length base) (IfElse off l op r s u)
-choice_filled cx t n m at off jump scope again op o l r x y s u base c1 c2 c3 c4 c5 gap e1 place is_op is_x is_y e2 at_jump fills is_again is_next e4 fills_too =
+    → c3 ≡ base ++ code_of_then cx t scope n (length base) l op r s
+then_filled cx t n at scope op o l r x y s base c1 c2 c3 gap e1 place is_op is_x is_y e2 fills =
     let first = both scope t l r in
     let q = length base + length first in
     let body = code_of cx t scope n (q + 1) s in
-    let rest = code_of cx t scope (n + count s) (q + 1 + length body + 1) u in
     let front = base ++ first in
     let assoc : base ++ (first ++ gap ∷ []) ≡ front ++ gap ∷ [] = sym (append_assoc base first (gap ∷ [])) in
     let split : length front ≡ q = length-append base first in
     let long : length c1 ≡ q + 1 = ap length (e1 ∙ assoc) ∙ length-append front (gap ∷ []) ∙ ap (λ k. k + 1) split in
     let is_body : c2 ≡ front ++ gap ∷ body =
     e2 ∙ ap (λ p. c1 ++ code_of cx t scope n p s) long ∙ ap (λ (c : List Instr). c ++ body) (e1 ∙ assoc) ∙ append_assoc front (gap ∷ []) body in
-    let test = instr.Unless op (slot_for scope t l) (second scope t l r) (q + 1 + length body + 1) in
-    let tested : c3 ≡ front ++ test ∷ (body ++ instr.Jump 0 ∷ []) =
     fills front body gap is_body (place ∙ sym split)
     ∙ ap (λ k. front ++ instr.Unless o x y (k + 1 + length body + 1) ∷ (body ++ instr.Jump 0 ∷ [])) split
     ∙ ap (λ k. front ++ instr.Unless k x y (q + 1 + length body + 1) ∷ (body ++ instr.Jump 0 ∷ [])) is_op
     ∙ ap (λ k. front ++ instr.Unless op k y (q + 1 + length body + 1) ∷ (body ++ instr.Jump 0 ∷ [])) is_x
-    ∙ ap (λ k. front ++ instr.Unless op (slot_for scope t l) k (q + 1 + length body + 1) ∷ (body ++ instr.Jump 0 ∷ [])) is_y in
+    ∙ ap (λ k. front ++ instr.Unless op (slot_for scope t l) k (q + 1 + length body + 1) ∷ (body ++ instr.Jump 0 ∷ [])) is_y
+    ∙ append_assoc base first (instr.Unless op (slot_for scope t l) (second scope t l r) (q + 1 + length body + 1) ∷ (body ++ instr.Jump 0 ∷ []))
+
+-- and with what stands behind the `else`, when that gap is filled
+pub choice_filled : (cx : Setting) (t n m off jump : ℕ) (scope again : Scope) (op : Comparison) (l r : Expression) (s u : Statement) (base c3 c5 : List Instr)
+    → c3 ≡ base ++ code_of_then cx t scope n (length base) l op r s → length c3 ≡ jump + 1 → again ≡ scope → m ≡ n + count s
+    → ((front : List Instr) (old : Instr) → c3 ≡ front ++ old ∷ [] → jump ≡ length front
+    → c5 ≡ front ++ instr.Jump (length front + 1 + length (code_of cx t again m (length c3) u)) ∷ code_of cx t again m (length c3) u)
+    → c5 ≡ base ++ code_of cx t scope n (length base) (IfElse off l op r s u)
+choice_filled cx t n m off jump scope again op l r s u base c3 c5 e3 at_jump is_again is_next fills =
+    let first = both scope t l r in
+    let q = length base + length first in
+    let body = code_of cx t scope n (q + 1) s in
+    let rest = code_of cx t scope (n + count s) (q + 1 + length body + 1) u in
+    let front = base ++ first in
+    let test = instr.Unless op (slot_for scope t l) (second scope t l r) (q + 1 + length body + 1) in
     let ahead = front ++ test ∷ body in
-    let apart : c3 ≡ ahead ++ instr.Jump 0 ∷ [] = tested ∙ sym (append_assoc front (test ∷ body) (instr.Jump 0 ∷ [])) in
-    let until : length ahead ≡ q + 1 + length body = omega (arith, length-append front (test ∷ body), split) in
-    let long3 : length c3 ≡ q + 1 + length body + 1 = ap length apart ∙ length-append ahead (instr.Jump 0 ∷ []) ∙ ap (λ k. k + 1) until in
-    let is_rest : c4 ≡ ahead ++ instr.Jump 0 ∷ rest =
-    e4 ∙ ap (λ (w : Scope). c3 ++ code_of cx t w m (length c3) u) is_again ∙ ap (λ k. c3 ++ code_of cx t scope k (length c3) u) is_next
-    ∙ ap (λ p. c3 ++ code_of cx t scope (n + count s) p u) long3 ∙ ap (λ (c : List Instr). c ++ rest) apart ∙ append_assoc ahead (instr.Jump 0 ∷ []) rest in
-    let there : jump ≡ length ahead = at_jump ∙ ap length is_body ∙ length-append front (gap ∷ body) ∙ sym (length-append front (test ∷ body)) in
-    fills_too ahead rest (instr.Jump 0) is_rest there
+    let apart : c3 ≡ ahead ++ instr.Jump 0 ∷ [] =
+    e3 ∙ sym (append_assoc base first (test ∷ (body ++ instr.Jump 0 ∷ []))) ∙ sym (append_assoc front (test ∷ body) (instr.Jump 0 ∷ [])) in
+    let until : length ahead ≡ q + 1 + length body = omega (arith, length-append front (test ∷ body), length-append base first) in
+    let long : length c3 ≡ q + 1 + length body + 1 = ap length apart ∙ length-append ahead (instr.Jump 0 ∷ []) ∙ ap (λ k. k + 1) until in
+    let there : jump ≡ length ahead = omega (arith, at_jump, long, until) in
+    let is_rest : code_of cx t again m (length c3) u ≡ rest =
+    ap (λ (w : Scope). code_of cx t w m (length c3) u) is_again ∙ ap (λ k. code_of cx t scope k (length c3) u) is_next ∙ ap (λ p. code_of cx t scope (n + count s) p u) long in
+    fills ahead (instr.Jump 0) apart there
+    ∙ ap (λ (c : List Instr). ahead ++ instr.Jump (length ahead + 1 + length c) ∷ c) is_rest
     ∙ ap (λ k. ahead ++ instr.Jump (k + 1 + length rest) ∷ rest) until
     ∙ simp append_assoc
+
+-- what stands behind an `else`, when the gap before it is filled
+pub other_filled : (cx : Setting) (t n jump : ℕ) (scope : Scope) (s : Statement) (c3 c4 c5 : List Instr) → c4 ≡ c3 ++ code_of cx t scope n (length c3) s
+    → ((front body : List Instr) (old : Instr) → c4 ≡ front ++ old ∷ body → jump ≡ length front → c5 ≡ front ++ instr.Jump (length front + 1 + length body) ∷ body)
+    → (front : List Instr) (old : Instr) → c3 ≡ front ++ old ∷ [] → jump ≡ length front
+    → c5 ≡ front ++ instr.Jump (length front + 1 + length (code_of cx t scope n (length c3) s)) ∷ code_of cx t scope n (length c3) s
+other_filled cx t n jump scope s c3 c4 c5 e4 fills front old e3 place =
+    let body = code_of cx t scope n (length c3) s in
+    fills front body old (e4 ∙ ap (λ (c : List Instr). c ++ body) e3 ∙ append_assoc front (old ∷ []) body) place

@@ -7,6 +7,7 @@ use Rattle.std.specs.Option.{option_map_or}
 use Rattle.std.specs.Map.{lookup}
 use Rattle.xk_types.specs.declared.instr.Instr.{Instr}
 use Rattle.xk_types.specs.declared.instr.Instr.TheVariants as instr
+use Rattle.xk_types.specs.declared.instr.Comparison.{Comparison}
 use Rattle.xk_tree.specs.declared.tree.Operator.{Operator}
 use Rattle.xk_tree.specs.declared.tree.Operator.TheVariants as operator
 use Rattle.xk_tree.specs.Tree.{Word, Clocks, Expression, Literal, Named, Paren, Negation, Binary, Source, Make, Value, Statement, Block, Empty, Declare, Assign, Atomic, If, IfElse, For, Async, Finish, Call, Resume, Drop, AdvanceAll, Print, Statements, Done, More}
@@ -211,3 +212,10 @@ abbrev mutual
   code_of_all cx t scope n p Done = []
   code_of_all cx t scope n p (More s ss) =
       code_of cx t scope n p s ++ code_of_all cx t (declared scope n s) (n + count s) (p + length (code_of cx t scope n p s)) ss
+
+-- the code of an `if` up to its `else`, with a gap for the jump over that
+abbrev pub code_of_then : Setting → ℕ → Scope → ℕ → ℕ → Expression → Comparison → Expression → Statement → List Instr
+code_of_then cx t scope n p l op r s =
+    let q = p + length (both scope t l r) in
+    let body = code_of cx t scope n (q + 1) s in
+    both scope t l r ++ instr.Unless op (slot_for scope t l) (second scope t l r) (q + 1 + length body + 1) ∷ (body ++ instr.Jump 0 ∷ [])

@@ -6,7 +6,7 @@ ghost use Rattle.xk_types.specs.declared.instr.Instr.TheVariants as instr;
 ghost use Rattle.xk_tree.specs.Tree.{Statement, Statements, Finish, For, If, clock_list, word, words, expression, expressions, source, statement, statements};
 ghost use Rattle.xk_names.specs.Scope.{Table as Names, find, texts};
 ghost use Rattle.xk_names.specs.Uses.{clocks_listed};
-ghost use Rattle.xk_code.specs.CodeOf.{argument_slots, before_assigned, before_into, body_at, body_params, body_unit, both, code_of, code_of_all, code_of_source, count, count_all, declared, declared_by_all, eval, eval_all, last_assigned, last_value, number_of, second, shared_alone, slot_for, slots_of};
+ghost use Rattle.xk_code.specs.CodeOf.{argument_slots, before_assigned, before_into, body_at, body_params, body_unit, both, code_of, code_of_all, code_of_source, code_of_then, count, count_all, declared, declared_by_all, eval, eval_all, last_assigned, last_value, number_of, second, shared_alone, slot_for, slots_of};
 ghost use Rattle.xk_code.specs.Covered.{AreCovered, IsAssignable, IsCovered, IsFound, IsKnown, IsNew, IsSourceKnown, IsValueKnown};
 ghost use Rattle.xk_code.specs.Room.{Denies, HasRoom};
 
@@ -596,6 +596,71 @@ impl<'a, 't> Emitter<'a, 't> {
         Ok(m)
     }
 
+    /// The code of an `if` up to its `else`: says which slot is next, and where a gap was left for the jump over that.
+    #[cycle(emit)]
+    fn emit_then(
+        &self,
+        code: &mut Vec<Instr>,
+        scope: &mut Scope<'t>,
+        n: u16,
+        s: &Stmt<'t>,
+        l: &Expr<'t>,
+        op: Comparison,
+        r: &Expr<'t>,
+    ) -> Result<(u16, u16), CodeError>
+        ensures code { OnOk result (code.new.items ≡ code.old.items
+            ++ code_of_then self.now.setting.now self.now.free scope.old n (length code.old.items)
+            (expression l.now) op (expression r.now) (statement s.now)) }
+        ensures scope { OnOk result (scope.new ≡ scope.old) }
+        ensures slots { IfOk result (λ begun. begun.0 ≡ n + count (statement s.now)) }
+        ensures place { IfOk result (λ begun. length code.new.items ≡ begun.1 + 1) }
+        ensures refused { IfErr result (λ err. Denies err
+            (IsKnown scope.old (expression l.now) × IsKnown scope.old (expression r.now)
+            × IsCovered self.now.setting.now scope.old n (statement s.now))
+            (HasRoom scope.old (length code.old.items)
+            (code_of_then self.now.setting.now self.now.free scope.old n (length code.old.items)
+            (expression l.now) op (expression r.now) (statement s.now))
+            × (n + count (statement s.now) ≤ 64))) }
+    {
+        let visible = scope.len();
+        let test = self.open_test(code, scope, l, op, r)?;
+        let m = self.emit(code, scope, n, s)?;
+        cut(scope, visible);
+        let jump = begin_else(code, test)?;
+        Ok((m, jump))
+    }
+
+    /// The code behind an `else`, over which a jump goes, for which a gap was left.
+    #[cycle(emit)]
+    fn emit_else(
+        &self,
+        code: &mut Vec<Instr>,
+        scope: &mut Scope<'t>,
+        n: u16,
+        s: &Stmt<'t>,
+        jump: u16,
+    ) -> Result<u16, CodeError>
+        ensures code { OnOk result ((front : List Instruction) (old : Instruction)
+            → code.old.items ≡ front ++ old ∷ [] → jump ≡ length front
+            → code.new.items ≡ front ++ instr.Jump (length front + 1 + length (code_of
+            self.now.setting.now self.now.free scope.old n (length code.old.items)
+            (statement s.now))) ∷ code_of self.now.setting.now self.now.free scope.old n
+            (length code.old.items) (statement s.now)) }
+        ensures scope { OnOk result (scope.new ≡ scope.old) }
+        ensures slots { IfOk result (λ m. m ≡ n + count (statement s.now)) }
+        ensures refused { IfErr result (λ err. Denies err
+            (IsCovered self.now.setting.now scope.old n (statement s.now))
+            (HasRoom scope.old (length code.old.items)
+            (code_of self.now.setting.now self.now.free scope.old n (length code.old.items)
+            (statement s.now)) × (n + count (statement s.now) ≤ 64))) }
+    {
+        let visible = scope.len();
+        let m = self.emit(code, scope, n, s)?;
+        cut(scope, visible);
+        close_else(code, jump)?;
+        Ok(m)
+    }
+
     /// The code of a `for`: none where its bounds leave it no turn.
     #[cycle(emit)]
     fn emit_for(
@@ -696,15 +761,8 @@ impl<'a, 't> Emitter<'a, 't> {
             }
             Stmt::If(_, l, op, r, s) => self.emit_if(code, scope, n, s, l, *op, r),
             Stmt::IfElse(_, l, op, r, s, u) => {
-                let visible = scope.len();
-                let test = self.open_test(code, scope, l, *op, r)?;
-                let m = self.emit(code, scope, n, s)?;
-                cut(scope, visible);
-                let jump = begin_else(code, test)?;
-                let k = self.emit(code, scope, m, u)?;
-                cut(scope, visible);
-                close_else(code, jump)?;
-                Ok(k)
+                let (m, jump) = self.emit_then(code, scope, n, s, l, *op, r)?;
+                self.emit_else(code, scope, m, u, jump)
             }
             Stmt::For(_, i, lo, hi, s) => self.emit_for(code, scope, n, *i, *lo, *hi, s),
             Stmt::Async(at, clocks, _) => {

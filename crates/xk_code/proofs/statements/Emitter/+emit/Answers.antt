@@ -1,11 +1,11 @@
 use Rattle.std.proofs.Common.{◌≡◌, ◌+◌, ◌++◌, drop, option_map, length, length-append, subst, sym, ap, ◌∙◌, int_le, true, rules, arith}
-use Rattle.std.proofs.lemmas.Result.{err_from_is_err_and}
+use Rattle.std.proofs.lemmas.Result.{err_from_is_err_and, IfErr-weaker, on_ok_weaker}
 use Rattle.std.proofs.lemmas.List.{at_drop_more}
 use Rattle.xk_tree.specs.declared.tree.Stmt.{the_lemmas}
 use Rattle.xk_tree.specs.Tree.{Statement, Statements, More, Async, IfElse, clock_list, word, expression, statement, statements}
 use Rattle.xk_code.specs.CodeOf.{code_of}
-use Rattle.xk_code.proofs.Patched.{AreEmitted, one_more, test_filled, choice_filled, loop_filled, finish_filled}
-use Rattle.xk_code.proofs.Denials.{DeniesCode, denies, else_between, else_end, else_inner, else_other, else_tested, finish_end, finish_inner, if_end, if_inner, if_tested, length_gap, loop_end, loop_inner, one_denied}
+use Rattle.xk_code.proofs.Patched.{AreEmitted, one_more, test_filled, then_filled, choice_filled, other_filled, loop_filled, finish_filled}
+use Rattle.xk_code.proofs.Denials.{DeniesCode, code_end, denies, else_begun, else_other, finish_end, finish_inner, if_end, if_inner, if_tested, length_gap, loop_end, loop_inner, one_denied, then_end, then_inner, then_tested}
 use Rattle.xk_code.proofs.statements.Emitter.+emit.Goals as goal
 
 pub emit_if-returns-clause-code : goal.emit_if-returns-clause-code
@@ -15,24 +15,6 @@ emit_if-returns-clause-code t c =
     let e = c.in_ok-test.ensures in
     test_filled _ _ _ _ 0 _ c.args.op _ (expression c.args.l.now) (expression c.args.r.now) _ _ (statement s) base _ _ _ _
     e.code e.place e.comparison e.first e.second c.in_ok-m.ensures.code c.in_ok-close_test.ensures.code
-
-pub emit-returns-in_ok-close_else-in-IfElse-clause-code : goal.emit-returns-in_ok-close_else-in-IfElse-clause-code
-emit-returns-in_ok-close_else-in-IfElse-clause-code t c =
-    let base = c.args.code.now.items in
-    let s = c.deref-in-IfElse.result.now in
-    let u = c.deref-in-IfElse-2.result.now in
-    let e = c.in_ok-test-in-IfElse.ensures in
-    let l = expression c.in-IfElse.l in
-    let r = expression c.in-IfElse.r in
-    let seen : IfElse c.in-IfElse.field-0 l c.in-IfElse.op r (statement s) (statement u) ≡ statement c.args.s.now =
-    ap (λ x. IfElse c.in-IfElse.field-0 l c.in-IfElse.op r (statement x) (statement u)) c.deref-in-IfElse.ensures
-    ∙ ap (λ x. IfElse c.in-IfElse.field-0 l c.in-IfElse.op r (statement c.in-IfElse.s.value) (statement x)) c.deref-in-IfElse-2.ensures
-    ∙ rw c.in-IfElse.is (search (rules, the_lemmas)) in
-    let again = c.cut.ensures.statement c.args.scope.now c.args.n (statement s) c.in_ok-m-in-IfElse.ensures.scope c.len-visible.ensures in
-    choice_filled _ _ _ _ _ c.in-IfElse.field-0 _ _ _ c.in-IfElse.op _ l r _ _ (statement s) (statement u) base _ _ _ _ _ _
-    e.code e.place e.comparison e.first e.second c.in_ok-m-in-IfElse.ensures.code c.in_ok-jump-in-IfElse.ensures.place c.in_ok-jump-in-IfElse.ensures.code
-    again c.in_ok-m-in-IfElse.ensures.slots c.in_ok-k-in-IfElse.ensures.code c.in_ok-close_else-in-IfElse.ensures.code
-    ∙ ap (λ x. base ++ code_of c.args.self.now.setting.now c.args.self.now.free c.args.scope.now c.args.n (length base) x) seen
 
 pub emit_for-returns-clause-code : goal.emit_for-returns-clause-code
 emit_for-returns-clause-code t c =
@@ -98,24 +80,80 @@ emit_if-returns-in_err-close_test-clause-refused t c =
     let made = ap length c.in_ok-m.ensures.code ∙ length-append _ _ in
     rw (p.1, p.2) (if_end err cx free scope n (length base) _ _ 0 l c.args.op r s refused opened made)
 
-pub emit-returns-in_err-test-in-IfElse-clause-refused : goal.emit-returns-in_err-test-in-IfElse-clause-refused
-emit-returns-in_err-test-in-IfElse-clause-refused t c =
-    let p = err_from_is_err_and c.from_residual-in_err-test-in-IfElse.result c.from_residual-in_err-test-in-IfElse.ensures.1 in
-    let err = c.in_err-test-in-IfElse.field-0.0 in
+-- ---- an `if` with an `else`
+
+pub emit_then-returns-clause-code : goal.emit_then-returns-clause-code
+emit_then-returns-clause-code t c =
+    let base = c.args.code.now.items in
+    let s = c.args.s.now in
+    let e = c.in_ok-test.ensures in
+    then_filled _ _ _ _ _ c.args.op _ (expression c.args.l.now) (expression c.args.r.now) _ _ (statement s) base _ _ _ _
+    e.code e.place e.comparison e.first e.second c.in_ok-m.ensures.code c.in_ok-jump.ensures.code
+
+pub emit_then-returns-in_err-test-clause-refused : goal.emit_then-returns-in_err-test-clause-refused
+emit_then-returns-in_err-test-clause-refused t c =
+    let p = err_from_is_err_and c.from_residual.result c.from_residual.ensures.1 in
+    let err = c.in_err-test.field-0.0 in
     let cx = c.args.self.now.setting.now in
     let free = c.args.self.now.free in
     let scope = c.args.scope.now in
     let n = c.args.n in
     let base = c.args.code.now.items in
-    let refused = c.in_err-test-in-IfElse.ensures.refused in
-    let f = c.in-IfElse in
-    let l = expression f.l in
-    let r = expression f.r in
-    let s = statement f.s.value in
-    let u = statement f.u.value in
-    let seen : IfElse f.field-0 l f.op r s u ≡ statement c.args.s.now = rw f.is (search (rules, the_lemmas)) in
-    rw (p.1, p.2) (subst (λ (x : Statement). DeniesCode err cx free scope n (length base) x) seen
-    (else_tested err cx free scope n (length base) f.field-0 l f.op r s u refused))
+    let refused = c.in_err-test.ensures.refused in
+    let l = expression c.args.l.now in
+    let r = expression c.args.r.now in
+    let s = statement c.args.s.now in
+    rw (p.1, p.2) (then_tested err cx free scope n (length base) l c.args.op r s refused)
+
+pub emit_then-returns-in_err-m-clause-refused : goal.emit_then-returns-in_err-m-clause-refused
+emit_then-returns-in_err-m-clause-refused t c =
+    let p = err_from_is_err_and c.from_residual-in_err-m.result c.from_residual-in_err-m.ensures.1 in
+    let err = c.in_err-m.field-0.0 in
+    let cx = c.args.self.now.setting.now in
+    let free = c.args.self.now.free in
+    let scope = c.args.scope.now in
+    let n = c.args.n in
+    let base = c.args.code.now.items in
+    let refused = c.in_err-m.ensures.refused in
+    let l = expression c.args.l.now in
+    let r = expression c.args.r.now in
+    let s = statement c.args.s.now in
+    let opened = ap length c.in_ok-test.ensures.code ∙ length_gap base _ _ in
+    rw (p.1, p.2) (then_inner err cx free scope n (length base) _ l c.args.op r s refused opened)
+
+pub emit_then-returns-in_err-jump-clause-refused : goal.emit_then-returns-in_err-jump-clause-refused
+emit_then-returns-in_err-jump-clause-refused t c =
+    let p = err_from_is_err_and c.from_residual-in_err-jump.result c.from_residual-in_err-jump.ensures.1 in
+    let err = c.in_err-jump.field-0.0 in
+    let cx = c.args.self.now.setting.now in
+    let free = c.args.self.now.free in
+    let scope = c.args.scope.now in
+    let n = c.args.n in
+    let base = c.args.code.now.items in
+    let refused = c.in_err-jump.ensures.refused in
+    let l = expression c.args.l.now in
+    let r = expression c.args.r.now in
+    let s = statement c.args.s.now in
+    let opened = ap length c.in_ok-test.ensures.code ∙ length_gap base _ _ in
+    let made = ap length c.in_ok-m.ensures.code ∙ length-append _ _ in
+    rw (p.1, p.2) (then_end err cx free scope n (length base) _ _ l c.args.op r s refused opened made)
+
+pub emit_else-returns-clause-code : goal.emit_else-returns-clause-code
+emit_else-returns-clause-code t c =
+    other_filled _ _ _ _ _ (statement c.args.s.now) c.args.code.now.items _ _ c.in_ok-m.ensures.code c.in_ok-close_else.ensures.code
+
+pub emit_else-returns-in_err-close_else-clause-refused : goal.emit_else-returns-in_err-close_else-clause-refused
+emit_else-returns-in_err-close_else-clause-refused t c =
+    let p = err_from_is_err_and c.from_residual-in_err-close_else.result c.from_residual-in_err-close_else.ensures.1 in
+    let err = c.in_err-close_else.field-0.0 in
+    let cx = c.args.self.now.setting.now in
+    let free = c.args.self.now.free in
+    let scope = c.args.scope.now in
+    let n = c.args.n in
+    let base = c.args.code.now.items in
+    let refused = c.in_err-close_else.ensures.refused in
+    let made = ap length c.in_ok-m.ensures.code ∙ length-append _ _ in
+    rw (p.1, p.2) (code_end err cx free scope n (length base) _ (statement c.args.s.now) refused made)
 
 pub emit-returns-in_err-m-in-IfElse-clause-refused : goal.emit-returns-in_err-m-in-IfElse-clause-refused
 emit-returns-in_err-m-in-IfElse-clause-refused t c =
@@ -134,84 +172,47 @@ emit-returns-in_err-m-in-IfElse-clause-refused t c =
     let u = statement f.u.value in
     let seen : IfElse f.field-0 l f.op r s u ≡ statement c.args.s.now =
     ap (λ x. IfElse f.field-0 l f.op r (statement x) u) c.deref-in-IfElse.ensures ∙ rw f.is (search (rules, the_lemmas)) in
-    let opened = ap length c.in_ok-test-in-IfElse.ensures.code ∙ length_gap base _ _ in
     rw (p.1, p.2) (subst (λ (x : Statement). DeniesCode err cx free scope n (length base) x) seen
-    (else_inner err cx free scope n (length base) _ f.field-0 l f.op r s u refused opened))
+    (else_begun err cx free scope n (length base) f.field-0 l f.op r s u refused))
 
-pub emit-returns-in_err-jump-in-IfElse-clause-refused : goal.emit-returns-in_err-jump-in-IfElse-clause-refused
-emit-returns-in_err-jump-in-IfElse-clause-refused t c =
-    let p = err_from_is_err_and c.from_residual-in_err-jump-in-IfElse.result c.from_residual-in_err-jump-in-IfElse.ensures.1 in
-    let err = c.in_err-jump-in-IfElse.field-0.0 in
-    let cx = c.args.self.now.setting.now in
-    let free = c.args.self.now.free in
-    let scope = c.args.scope.now in
-    let n = c.args.n in
+pub emit-returns-in_ok-m-in-IfElse-clause-code : goal.emit-returns-in_ok-m-in-IfElse-clause-code
+emit-returns-in_ok-m-in-IfElse-clause-code t c =
     let base = c.args.code.now.items in
-    let refused = c.in_err-jump-in-IfElse.ensures.refused in
     let f = c.in-IfElse in
+    let s = c.deref-in-IfElse.result.now in
+    let u = c.deref-in-IfElse-2.result.now in
+    let e = c.in_ok-m-in-IfElse.ensures in
     let l = expression f.l in
     let r = expression f.r in
-    let s = statement c.deref-in-IfElse.result.now in
-    let u = statement f.u.value in
-    let seen : IfElse f.field-0 l f.op r s u ≡ statement c.args.s.now =
-    ap (λ x. IfElse f.field-0 l f.op r (statement x) u) c.deref-in-IfElse.ensures ∙ rw f.is (search (rules, the_lemmas)) in
-    let opened = ap length c.in_ok-test-in-IfElse.ensures.code ∙ length_gap base _ _ in
-    let made = ap length c.in_ok-m-in-IfElse.ensures.code ∙ length-append _ _ in
-    rw (p.1, p.2) (subst (λ (x : Statement). DeniesCode err cx free scope n (length base) x) seen
-    (else_between err cx free scope n (length base) _ _ f.field-0 l f.op r s u refused opened made))
+    let seen : IfElse f.field-0 l f.op r (statement s) (statement u) ≡ statement c.args.s.now =
+    ap (λ x. IfElse f.field-0 l f.op r (statement x) (statement u)) c.deref-in-IfElse.ensures
+    ∙ ap (λ x. IfElse f.field-0 l f.op r (statement f.s.value) (statement x)) c.deref-in-IfElse-2.ensures ∙ rw f.is (search (rules, the_lemmas)) in
+    on_ok_weaker c.emit_else.result (λ fills.
+    choice_filled _ _ _ _ f.field-0 _ _ _ f.op l r (statement s) (statement u) base _ _ e.code e.place e.scope e.slots fills
+    ∙ ap (λ x. base ++ code_of c.args.self.now.setting.now c.args.self.now.free c.args.scope.now c.args.n (length base) x) seen) c.emit_else.ensures.code
 
-pub emit-returns-in_err-k-in-IfElse-clause-refused : goal.emit-returns-in_err-k-in-IfElse-clause-refused
-emit-returns-in_err-k-in-IfElse-clause-refused t c =
-    let p = err_from_is_err_and c.from_residual-in_err-k-in-IfElse.result c.from_residual-in_err-k-in-IfElse.ensures.1 in
-    let err = c.in_err-k-in-IfElse.field-0.0 in
+pub emit-returns-in_ok-m-in-IfElse-clause-refused : goal.emit-returns-in_ok-m-in-IfElse-clause-refused
+emit-returns-in_ok-m-in-IfElse-clause-refused t c =
     let cx = c.args.self.now.setting.now in
     let free = c.args.self.now.free in
     let scope = c.args.scope.now in
     let n = c.args.n in
     let base = c.args.code.now.items in
-    let refused = c.in_err-k-in-IfElse.ensures.refused in
     let f = c.in-IfElse in
     let l = expression f.l in
     let r = expression f.r in
     let s = statement c.deref-in-IfElse.result.now in
     let u = statement c.deref-in-IfElse-2.result.now in
+    let e = c.in_ok-m-in-IfElse.ensures in
     let seen : IfElse f.field-0 l f.op r s u ≡ statement c.args.s.now =
     ap (λ x. IfElse f.field-0 l f.op r (statement x) u) c.deref-in-IfElse.ensures
     ∙ ap (λ x. IfElse f.field-0 l f.op r (statement f.s.value) (statement x)) c.deref-in-IfElse-2.ensures ∙ rw f.is (search (rules, the_lemmas)) in
-    let opened = ap length c.in_ok-test-in-IfElse.ensures.code ∙ length_gap base _ _ in
-    let made = ap length c.in_ok-m-in-IfElse.ensures.code ∙ length-append _ _ in
-    let again = c.cut.ensures.statement scope n s c.in_ok-m-in-IfElse.ensures.scope c.len-visible.ensures in
-    let next = c.in_ok-m-in-IfElse.ensures.slots in
-    let between = c.in_ok-jump-in-IfElse.ensures.size ∙ ap (λ k. k + 1) made in
-    rw (p.1, p.2) (subst (λ (x : Statement). DeniesCode err cx free scope n (length base) x) seen
-    (else_other err cx free scope _ n _ (length base) _ _ f.field-0 l f.op r s u refused again next opened between))
+    let from = ap length e.code ∙ length-append base _ in
+    IfErr-weaker c.emit_else.result _ _ (λ err refused.
+    subst (λ (x : Statement). DeniesCode err cx free scope n (length base) x) seen
+    (else_other err cx free scope _ n _ (length base) _ f.field-0 l f.op r s u refused e.scope e.slots from)) c.emit_else.ensures.refused
 
-pub emit-returns-in_err-close_else-in-IfElse-clause-refused : goal.emit-returns-in_err-close_else-in-IfElse-clause-refused
-emit-returns-in_err-close_else-in-IfElse-clause-refused t c =
-    let p = err_from_is_err_and c.from_residual-in_err-close_else-in-IfElse.result c.from_residual-in_err-close_else-in-IfElse.ensures.1 in
-    let err = c.in_err-close_else-in-IfElse.field-0.0 in
-    let cx = c.args.self.now.setting.now in
-    let free = c.args.self.now.free in
-    let scope = c.args.scope.now in
-    let n = c.args.n in
-    let base = c.args.code.now.items in
-    let refused = c.in_err-close_else-in-IfElse.ensures.refused in
-    let f = c.in-IfElse in
-    let l = expression f.l in
-    let r = expression f.r in
-    let s = statement c.deref-in-IfElse.result.now in
-    let u = statement c.deref-in-IfElse-2.result.now in
-    let seen : IfElse f.field-0 l f.op r s u ≡ statement c.args.s.now =
-    ap (λ x. IfElse f.field-0 l f.op r (statement x) u) c.deref-in-IfElse.ensures
-    ∙ ap (λ x. IfElse f.field-0 l f.op r (statement f.s.value) (statement x)) c.deref-in-IfElse-2.ensures ∙ rw f.is (search (rules, the_lemmas)) in
-    let opened = ap length c.in_ok-test-in-IfElse.ensures.code ∙ length_gap base _ _ in
-    let made = ap length c.in_ok-m-in-IfElse.ensures.code ∙ length-append _ _ in
-    let again = c.cut.ensures.statement scope n s c.in_ok-m-in-IfElse.ensures.scope c.len-visible.ensures in
-    let next = c.in_ok-m-in-IfElse.ensures.slots in
-    let between = c.in_ok-jump-in-IfElse.ensures.size ∙ ap (λ k. k + 1) made in
-    let over = ap length c.in_ok-k-in-IfElse.ensures.code ∙ length-append _ _ in
-    rw (p.1, p.2) (subst (λ (x : Statement). DeniesCode err cx free scope n (length base) x) seen
-    (else_end err cx free scope _ n _ (length base) _ _ _ f.field-0 l f.op r s u refused again next opened between over))
+-- ---- loops and finishes
 
 pub emit_for-returns-in_err-m-clause-refused : goal.emit_for-returns-in_err-m-clause-refused
 emit_for-returns-in_err-m-clause-refused t c =
