@@ -138,14 +138,29 @@ fn handed_twice<'m>(alloc: Global, shared: &mut Shared<'m>) -> Option<[(bool, us
     Some([handed(shared, first), handed(shared, again)])
 }
 
+/// A ticket of main before its first step.
+fn ticket_of<'m>(alloc: Global, verified: &'m Verified) -> Option<Ticket<'m>> {
+    let shared = Shared::open(alloc, Core::open(alloc, verified).ok()?);
+    ticket(alloc, &shared)
+}
+
+/// Hands a ticket in where a module runs.
+fn handed_in<'m>(
+    alloc: Global,
+    verified: &'m Verified,
+    ticket: Ticket<'m>,
+) -> Option<(bool, usize, u64)> {
+    let mut shared = Shared::open(alloc, Core::open(alloc, verified).ok()?);
+    Some(handed(&mut shared, ticket))
+}
+
 /// Hands a ticket of one module in where another runs.
 fn handed_across<'m>(
     alloc: Global,
-    other: &Shared<'m>,
-    shared: &mut Shared<'m>,
+    verified: &'m Verified,
+    other: &'m Verified,
 ) -> Option<(bool, usize, u64)> {
-    let foreign = ticket(alloc, other)?;
-    Some(handed(shared, foreign))
+    handed_in(alloc, verified, ticket_of(alloc, other)?)
 }
 
 /// A ticket is taken once.
@@ -165,9 +180,7 @@ fn a_ticket_of_another_module_is_stale(rt: HostRuntime) -> Result<(), Fail> {
     let alloc = rt.alloc();
     let verified = accepted(alloc, SUM_AND_PHASE)?;
     let other = accepted(alloc, OTHER_SUM)?;
-    let mut shared = Shared::open(alloc, Core::open(alloc, &verified)?);
-    let elsewhere = Shared::open(alloc, Core::open(alloc, &other)?);
-    let told = handed_across(alloc, &elsewhere, &mut shared);
+    let told = handed_across(alloc, &verified, &other);
     assert_eq!(rt; told, Some((true, 0, 0)));
     Ok(())
 }
