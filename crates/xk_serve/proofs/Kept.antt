@@ -1,5 +1,5 @@
 -- Of a source text that is too long no more than one byte too many is kept: what stands against that stands against the whole text.
-use Rattle.std.proofs.Common.{◌≡◌, ◌+◌, ◌<◌, ◌≤◌, ℕ, List, [], length, take, min, refl, Option, Some, None, inl, inr, arith, ap, ◌∙◌, subst}
+use Rattle.std.proofs.Common.{◌≡◌, ◌+◌, ◌<◌, ◌≤◌, ℕ, List, length, take, min, Option, Some, None, inl, inr, arith, ap, ◌∙◌, subst}
 use Rattle.std.proofs.lemmas.List.{length-take, take_all}
 use Rattle.std.specs.Prelude.{IfSome}
 use Rattle.xk_types.specs.Code.{ModuleValue}
@@ -14,6 +14,7 @@ use Rattle.xk_serve.specs.Programs.{Gives, IsNoModule, IsNoSource, longest_sourc
 use Rattle.xk_serve.specs.Bytes.{kept}
 use Rattle.xk_serve.specs.Answer.{FailsBy, GivesAccepted, Succeeds, Task}
 use Rattle.xk_serve.specs.Serving.{AgainstLog, IfKnown, IsRead, Reads, StandsAgainst, read_of}
+use Rattle.xk_serve.proofs.Tasks.{of_each}
 
 -- a front that is shorter than it may be is the whole
 whole : (n : ℕ) (bytes known : List ℕ) → bytes ≡ take (n + 1) known → length bytes ≤ n → bytes ≡ known
@@ -59,11 +60,6 @@ kept_fails t bytes known logged fault.Device e h = absurd h
 kept_succeeds : (t : Task) (bytes known logged : List ℕ) (d : Done) → bytes ≡ kept t.form known → Succeeds t bytes logged d → Succeeds t known logged d
 kept_succeeds t bytes known logged d e h = record { of = h.of; given = kept_gives t.form bytes known h.of e h.given; done = h.done }
 
--- what follows for each list follows for one that is known
-of_each : (P Q : List ℕ → Type 0) (known : Option (List ℕ)) → ((xs : List ℕ) → P xs → Q xs) → IfSome known P → IfSome known Q
-of_each P Q None f h = tt
-of_each P Q (Some xs) f h = f xs h
-
 -- a success with the bytes kept is one with those that are known
 pub kept_done : (t : Task) (known logged : Option (List ℕ)) (bytes : List ℕ) (d : Done) → IfSome known (λ k. bytes ≡ kept t.form k)
     → IfSome (read_of t logged) (λ log. Succeeds t bytes log d) → IfKnown t known logged (λ k log. Succeeds t k log d)
@@ -89,25 +85,3 @@ kept_stands t known logged bytes n (fault.NotEnabled i) s e h = stands t known l
 kept_stands t known logged bytes n fault.NotEnded s e h = stands t known logged bytes n fault.NotEnded s h.0 e h.1
 kept_stands t known logged bytes n fault.OutOfMemory s e h = stands t known logged bytes n fault.OutOfMemory s h.0 e h.1
 kept_stands t known logged bytes n fault.Device s e h = inr h
-
--- what holds of each list holds of the one that is known, if any is
-of_any : (P : List ℕ → Type 0) (known : Option (List ℕ)) → ((xs : List ℕ) → P xs) → IfSome known P
-of_any P None h = tt
-of_any P (Some xs) h = h xs
-
--- what stands against the task whatever log there is stands against it where no log was read
-pub against_any : (t : Task) (bytes : List ℕ) (known : Option (List ℕ)) (n : ℕ) (f : Fault) → ((logged : List ℕ) → FailsBy t bytes logged f)
-    → AgainstLog t bytes known n n f
-against_any t bytes known n (fault.Text f) h = (refl, of_any _ (read_of t known) h)
-against_any t bytes known n (fault.Front f) h = (refl, of_any _ (read_of t known) h)
-against_any t bytes known n (fault.Refused r) h = (refl, of_any _ (read_of t known) h)
-against_any t bytes known n (fault.Grammar line) h = (refl, of_any _ (read_of t known) h)
-against_any t bytes known n fault.Truncated h = (refl, of_any _ (read_of t known) h)
-against_any t bytes known n (fault.NotEnabled i) h = (refl, of_any _ (read_of t known) h)
-against_any t bytes known n fault.NotEnded h = (refl, of_any _ (read_of t known) h)
-against_any t bytes known n fault.OutOfMemory h = (refl, of_any _ (read_of t known) h)
-against_any t bytes known n fault.Device h = absurd (h [])
-
--- want of memory stands against any task, where no read failed
-pub against_memory : (t : Task) (bytes : List ℕ) (known : Option (List ℕ)) (old new : ℕ) → new ≡ old → AgainstLog t bytes known old new fault.OutOfMemory
-against_memory t bytes known old new e = (e, of_any _ (read_of t known) (λ logged. tt))

@@ -1,4 +1,4 @@
-pub mod Again
 pub mod Kept
 pub mod OrderedRuns
 pub mod Replies
+pub mod Tasks

@@ -1,8 +1,9 @@
 -- How a run in an order goes on by a step, and comes to its end.
-use Rattle.std.proofs.Common.{◌≡◌, ℕ, ℤ, ◌≤◌, List, [], ◌∷◌, ◌++◌, replicate, true, refl, sym, ap, subst, ◌∙◌, arith}
+use Rattle.std.proofs.Common.{◌≡◌, ℕ, ℤ, ◌+◌, ◌-◌, ◌<◌, ◌≤◌, Bool, List, [], ◌∷◌, ◌++◌, replicate, true, false, refl, sym, ap, subst, ◌∙◌, arith}
 use Rattle.std.specs.Option.{option_to_list}
 use Rattle.xk_types.specs.declared.names.Entry.{Entry}
 use Rattle.xk_types.specs.declared.names.Event.{Event}
+use Rattle.xk_types.specs.Bound.{steps_bound}
 use Rattle.xk_types.specs.Code.{ModuleValue}
 use Rattle.xk_types.specs.World.{World, opening}
 use Rattle.xk_types.specs.Step.{Outcome, Blocked, Wrong, Stepped, step}
@@ -12,7 +13,8 @@ use Rattle.xk_core.specs.Core.{CoreValue}
 use Rattle.xk_drive.specs.Choosing.{enabled_in, Names, Follows, goes_on, state_after}
 use Rattle.xk_drive.specs.Driving.{IsChosen, IsRunOf, IsTurn}
 use Rattle.xk_drive.specs.Stretches.{IsStretch}
-use Rattle.xk_serve.specs.OrderedRun.{IsLogThat, IsReplay, IsRunThat, IsSomeRun}
+use Rattle.xk_serve.specs.OrderedRun.{GoesOn, IsGone, IsLogThat, IsReplay, IsRunThat, IsSomeRun}
+use Rattle.xk_laws.proofs.Counts.{step_counts}
 use Rattle.xk_laws.proofs.Reached.{run_more, run_counts}
 use Rattle.xk_drive.proofs.Following.{follows_more, printed_more, state_more}
 use Rattle.xk_drive.proofs.Going.{run_then, follows_then, state_then, printed_then}
@@ -73,9 +75,52 @@ front_stretch answer after m b c d s t n numbers same f more =
     (front_along answer after b c d s t n numbers (subst (λ k. IsFront answer after k b c.world s numbers) (sym same) f) more)
 
 -- it takes no step back
-pub stretch_counts : {S : Type 0} (answer : S → List ℕ → ℕ) (after : S → List ℕ → S) (c d : CoreValue) (s t : S) (n : ℕ) → IsStretch answer after c s n d t
+stretch_counts : {S : Type 0} (answer : S → List ℕ → ℕ) (after : S → List ℕ → S) (c d : CoreValue) (s t : S) (n : ℕ) → IsStretch answer after c s n d t
     → c.world.steps ≤ d.world.steps
 stretch_counts answer after c d s t n more = (let e = run_counts c.module_run (replicate n more.act) c.world d.world more.leads in omega arith)
+
+gone : {S : Type 0} (answer : S → List ℕ → ℕ) (after : S → List ℕ → S) (c d : CoreValue) (s t : S) (numbers more : List ℤ) (went : Bool)
+    → went ≡ true → GoesOn answer after c s numbers d t more went → IsGone answer after c s numbers d t more
+gone answer after c d s t numbers more went is goes = subst (GoesOn answer after c s numbers d t more) is goes
+
+-- both
+pub front_goes : {S : Type 0} (answer : S → List ℕ → ℕ) (after : S → List ℕ → S) (m : ModuleValue) (b : S) (c d : CoreValue) (s t : S) (numbers more : List ℤ)
+    (went : Bool) → went ≡ true → c.module_run ≡ m → IsFront answer after m b c.world s numbers → GoesOn answer after c s numbers d t more went
+    → (d.module_run ≡ m) × IsFront answer after m b d.world t more
+front_goes answer after m b c d s t numbers more went is same f goes =
+    let g = gone answer after c d s t numbers more went is goes in
+    let same_on = g.turn.same_module ∙ same in
+    let on = front_more answer after m b c g.between s g.left g.act g.event numbers same f g.turn in (
+      g.stretch.same_module ∙ same_on,
+      subst (IsFront answer after m b d.world t) (sym g.kept) (front_stretch answer after m b g.between d g.left t g.count _ same_on on g.stretch),
+    )
+
+-- fewer steps are left
+pub goes_less : {S : Type 0} (answer : S → List ℕ → ℕ) (after : S → List ℕ → S) (m : ModuleValue) (c d : CoreValue) (s t : S) (numbers more : List ℤ) (went : Bool)
+    → went ≡ true → c.module_run ≡ m → GoesOn answer after c s numbers d t more went
+    → steps_bound m + 1 - d.world.steps < steps_bound m + 1 - c.world.steps
+goes_less answer after m c d s t numbers more went is same goes =
+    let g = gone answer after c d s t numbers more went is goes in
+    let within : g.between.world.steps ≤ steps_bound m = subst (λ k. g.between.world.steps ≤ steps_bound k) (g.turn.same_module ∙ same) g.within in
+    let one : g.between.world.steps ≡ c.world.steps + 1 = step_counts c.module_run c.world g.between.world g.act g.event g.turn.stepped in
+    let on : g.between.world.steps ≤ d.world.steps = stretch_counts answer after g.between d g.left t g.count g.stretch in
+    omega arith
+
+-- where it goes no further, the run is over
+pub front_ends : {S : Type 0} (answer : S → List ℕ → ℕ) (after : S → List ℕ → S) (m : ModuleValue) (b : S) (c d : CoreValue) (s t : S) (numbers more : List ℤ)
+    (went : Bool) (steps : ℕ) → went ≡ false → c.module_run ≡ m → IsFront answer after m b c.world s numbers → GoesOn answer after c s numbers d t more went
+    → steps ≡ d.world.steps → IsRunThat (Follows answer after m b (opening m)) m more steps
+front_ends answer after m b c d s t numbers more went steps is same f goes count =
+    let over : GoesOn answer after c s numbers d t more false = subst (GoesOn answer after c s numbers d t more) is goes in
+    record {
+      list = f.list;
+      last = c.world;
+      follows = f.follows;
+      leads = f.leads;
+      over = over.0;
+      numbers_are = over.3 ∙ f.numbers_are;
+      steps_are = count ∙ ap (λ (k : CoreValue). k.world.steps) over.1;
+    }
 
 -- ---- choosers without a state
 

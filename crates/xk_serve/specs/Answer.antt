@@ -104,6 +104,13 @@ IsNoRun m logged fault.NotEnded = (es : List Entry) × IsLogText logged es × Is
 IsNoRun m logged fault.OutOfMemory = ⊤
 IsNoRun m logged _ = ⊥
 
+-- the verifier refuses the module; or memory was wanting, of which nothing is claimed
+abbrev pub IsRefusal : ModuleValue → Fault → Type 0
+IsRefusal m (fault.Refused refusal.OutOfMemory) = ⊥
+IsRefusal m (fault.Refused r) = Refuses m r
+IsRefusal m fault.OutOfMemory = ⊤
+IsRefusal m _ = ⊥
+
 -- a module that is accepted is given, and this holds of it
 abbrev pub GivesAccepted : Task → List ℕ → (ModuleValue → Type 0) → Type 0
 GivesAccepted t bytes P = (m : ModuleValue) × Gives t.form bytes m × IsAccepted m × P m

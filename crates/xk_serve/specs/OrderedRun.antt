@@ -1,13 +1,19 @@
 -- Runs of a module to its end, each step taken in an order, or by whom it may be.
-use Rattle.std.specs.Prelude.{◌≡◌, ℕ, ℤ, ◌-◌, ⊤, true, All, List, length, None}
+use Rattle.std.specs.Prelude.{◌≡◌, ℕ, ℤ, ◌-◌, ◌≤◌, ⊤, Bool, true, false, All, List, ◌++◌, length, None}
+use Rattle.std.specs.Option.{option_to_list}
 use Rattle.xk_types.specs.declared.names.Entry.{Entry}
+use Rattle.xk_types.specs.declared.names.Event.{Event}
+use Rattle.xk_types.specs.Bound.{steps_bound}
 use Rattle.xk_types.specs.Code.{ModuleValue}
 use Rattle.xk_types.specs.World.{World, opening}
-use Rattle.xk_types.specs.Schedule.{Leads, all_ended, printed}
+use Rattle.xk_types.specs.Schedule.{Leads, all_ended, number_printed, printed}
 use Rattle.xk_types.specs.Logs.{schedule_of}
 use Rattle.xk_words.specs.declared.job.Order.{Order}
 use Rattle.xk_words.specs.declared.job.Order.TheVariants as order
+use Rattle.xk_core.specs.Core.{CoreValue}
 use Rattle.xk_drive.specs.Choosing.{Follows, turn_of, turn_after}
+use Rattle.xk_drive.specs.Driving.{IsTurn}
+use Rattle.xk_drive.specs.Stretches.{IsStretch}
 
 -- Each step of the list, from the opening world on, is one of the enabled activity that has its turn: the least; the greatest; the least
 -- of greater number than the one taken before, else the least.
@@ -25,6 +31,24 @@ pub record IsRunThat (Has : List ℕ → Type 0) (m : ModuleValue) (numbers : Li
   pub over : all_ended last ≡ true
   pub numbers_are : numbers ≡ printed m list (opening m)
   pub steps_are : steps ≡ last.steps
+
+-- A chooser in state s named an activity, which took a step, and then one again and again, whose steps nobody else could see: these steps lead
+-- from c to d, and the chooser is left in state t. What the first of them prints stands behind the numbers that were printed before.
+pub record IsGone {S : Type 0} (answer : S → List ℕ → ℕ) (after : S → List ℕ → S) (c : CoreValue) (s : S) (numbers : List ℤ) (d : CoreValue) (t : S) (more : List ℤ) : Type 0 where
+  pub act : ℕ
+  pub event : Event
+  pub between : CoreValue
+  pub left : S
+  pub count : ℕ
+  pub turn : IsTurn answer after c s act event between left
+  pub within : between.world.steps ≤ steps_bound between.module_run
+  pub stretch : IsStretch answer after between left count d t
+  pub kept : more ≡ numbers ++ option_to_list (number_printed event)
+
+-- what became of that: all have ended, and nothing changed; or such steps were taken
+abbrev pub GoesOn : {S : Type 0} → (S → List ℕ → ℕ) → (S → List ℕ → S) → CoreValue → S → List ℤ → CoreValue → S → List ℤ → Bool → Type 0
+GoesOn answer after c s numbers d t more false = (all_ended c.world ≡ true) × (d ≡ c) × (t ≡ s) × (more ≡ numbers)
+GoesOn answer after c s numbers d t more true = IsGone answer after c s numbers d t more
 
 -- the run in this order prints these numbers, and takes so many steps
 abbrev pub IsOrderedRun : Order → ModuleValue → List ℤ → ℕ → Type 0

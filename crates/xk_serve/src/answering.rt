@@ -2,9 +2,10 @@
 
 ghost use Rattle.std.specs.Prelude.{◌≡◌, ℕ, List, false, IfOk, IfErr, IfSome, OnOk};
 ghost use Rattle.xk_types.specs.Accepted.{IsAccepted};
-ghost use Rattle.xk_serve.specs.Answer.{ComesTo, IsLogText, Run, Succeeds, reads_log, task_of, way_given};
+ghost use Rattle.xk_serve.specs.Answer.{Chart, Check, ComesTo, Compile, IsLogText, IsRefusal, Replay, Run, Succeeds, reads_log, task_of, way_given};
 ghost use Rattle.xk_words.specs.Line.{By, In};
-ghost use Rattle.xk_serve.specs.Serving.{AgainstLog, AgainstRun, read_of};
+ghost use Rattle.xk_serve.specs.Serving.{AgainstLog, AgainstModule, AgainstRun, read_of};
+ghost use Rattle.xk_serve.specs.declared.fault.Fault.TheVariants.{OutOfMemory};
 
 use crate::done::Done;
 use crate::fault::Fault;
@@ -40,35 +41,131 @@ pub(crate) fn answer<R: Threads + Wait + Sync, L: Source>(
 {
     let module = module_in(alloc, job, bytes)?;
     match job.command {
-        Command::Compile => Ok(Done::Compiled(write_module(alloc, &module)?)),
-        Command::Check => {
-            let verified = verify(alloc, module)?;
-            Ok(Done::Accepted {
-                steps: verified.steps(),
-                activities: verified.activities(),
-                clocks: verified.clocks(),
-            })
-        }
-        Command::Run { drive, log } => {
-            let verified = verify(alloc, module)?;
-            Ok(ran(rt, alloc, drive, log.is_some(), &verified)?)
-        }
-        Command::Replay { .. } => {
-            let verified = verify(alloc, module)?;
-            let ended = run_again(alloc, &verified, log_in)?;
-            let steps = ended.core.steps_done();
-            Ok(Done::Ended {
-                printed: ended.printed,
-                steps,
-                log: None,
-            })
-        }
-        Command::Chart { .. } => {
-            let verified = verify(alloc, module)?;
-            let ended = run_again(alloc, &verified, log_in)?;
-            Ok(Done::Charted(chart(alloc, &ended)?))
-        }
+        Command::Compile => compiled(alloc, &module),
+        Command::Check => checked(alloc, module),
+        Command::Run { drive, log } => run_driven(rt, alloc, drive, log.is_some(), module),
+        Command::Replay { .. } => replayed(alloc, module, log_in),
+        Command::Chart { .. } => charted(alloc, module, log_in),
     }
+}
+
+/// The text of a module.
+fn compiled(alloc: Global, m: &Module) -> Result<Done, Fault>
+    ensures done { IfOk result (λ d. (logged : List ℕ) → ComesTo Compile m.now logged d) }
+    ensures fault { IfErr result (λ f. f ≡ OutOfMemory) }
+{
+    Ok(Done::Compiled(write_module(alloc, m)?))
+}
+
+/// The bounds on the runs of a module, if it is accepted.
+fn checked(alloc: Global, m: Module) -> Result<Done, Fault>
+    ensures done { IfOk result (λ d. (logged : List ℕ) → ComesTo Check m logged d) }
+    ensures fault { IfErr result (IsRefusal m) }
+{
+    let verified = accepted(alloc, m)?;
+    Ok(Done::Accepted {
+        steps: verified.steps(),
+        activities: verified.activities(),
+        clocks: verified.clocks(),
+    })
+}
+
+/// The run of a module as it is to be driven, if it is accepted, with its log where that is to be kept.
+fn run_driven<R: Threads + Wait + Sync>(
+    rt: &R,
+    alloc: Global,
+    drive: Option<Drive>,
+    keeps_log: bool,
+    m: Module,
+) -> Result<Done, Fault>
+    ensures done { IfOk result (λ d. (logged : List ℕ)
+        → ComesTo (Run (way_given drive) keeps_log) m logged d) }
+    ensures fault { IfErr result (IsRefusal m) }
+{
+    let verified = accepted(alloc, m)?;
+    Ok(ran(rt, alloc, drive, keeps_log, &verified)?)
+}
+
+/// What a module prints in the run that the log has, if the module is accepted.
+fn replayed<L: Source>(alloc: Global, m: Module, log_in: &mut L) -> Result<Done, Fault>
+    ensures done { IfOk result (λ d. IfSome (L.remaining log_in.old)
+        (λ logged. ComesTo Replay m logged d)) }
+    ensures no_fault { OnOk result (L.fault_count log_in.new ≡ L.fault_count log_in.old) }
+    ensures fault { IfErr result (AgainstModule m (L.remaining log_in.old)
+        (L.fault_count log_in.old) (L.fault_count log_in.new)) }
+{
+    let verified = accepted(alloc, m)?;
+    replayed_by(alloc, &verified, log_in)
+}
+
+/// The chart of the run of a module that the log has, if the module is accepted.
+fn charted<L: Source>(alloc: Global, m: Module, log_in: &mut L) -> Result<Done, Fault>
+    ensures done { IfOk result (λ d. IfSome (L.remaining log_in.old)
+        (λ logged. ComesTo Chart m logged d)) }
+    ensures no_fault { OnOk result (L.fault_count log_in.new ≡ L.fault_count log_in.old) }
+    ensures fault { IfErr result (AgainstModule m (L.remaining log_in.old)
+        (L.fault_count log_in.old) (L.fault_count log_in.new)) }
+{
+    let verified = accepted(alloc, m)?;
+    charted_by(alloc, &verified, log_in)
+}
+
+/// The module, if the verifier accepts it.
+fn accepted(alloc: Global, m: Module) -> Result<Verified, Fault>
+    ensures accepted { IfOk result (λ v. (v ≡ m) × IsAccepted m) }
+    ensures refused { IfErr result (IsRefusal m) }
+{
+    Ok(verify(alloc, m)?)
+}
+
+/// What an accepted module prints in the run that the log has.
+fn replayed_by<L: Source>(alloc: Global, verified: &Verified, log_in: &mut L) -> Result<Done, Fault>
+    requires { IsAccepted verified.now }
+    ensures done { IfOk result (λ d. IfSome (L.remaining log_in.old)
+        (λ logged. ComesTo Replay verified.now logged d)) }
+    ensures no_fault { OnOk result (L.fault_count log_in.new ≡ L.fault_count log_in.old) }
+    ensures fault { IfErr result (AgainstRun verified.now (L.remaining log_in.old)
+        (L.fault_count log_in.old) (L.fault_count log_in.new)) }
+{
+    let ended = run_again(alloc, verified, log_in)?;
+    Ok(numbers_of(ended))
+}
+
+/// The chart of the run of an accepted module that the log has.
+fn charted_by<L: Source>(alloc: Global, verified: &Verified, log_in: &mut L) -> Result<Done, Fault>
+    requires { IsAccepted verified.now }
+    ensures done { IfOk result (λ d. IfSome (L.remaining log_in.old)
+        (λ logged. ComesTo Chart verified.now logged d)) }
+    ensures no_fault { OnOk result (L.fault_count log_in.new ≡ L.fault_count log_in.old) }
+    ensures fault { IfErr result (AgainstRun verified.now (L.remaining log_in.old)
+        (L.fault_count log_in.old) (L.fault_count log_in.new)) }
+{
+    let ended = run_again(alloc, verified, log_in)?;
+    chart_of(alloc, &ended)
+}
+
+/// What a run printed that came to its end, and how many steps it took.
+fn numbers_of(ended: Ended<'_>) -> Done
+    requires { IsAccepted ended.module.now }
+    ensures { (logged : List ℕ) → IsLogText logged ended.entry.log.items
+        → ComesTo Replay ended.entry.module.now logged result }
+{
+    let steps = ended.core.steps_done();
+    Done::Ended {
+        printed: ended.printed,
+        steps,
+        log: None,
+    }
+}
+
+/// The chart of a run that came to its end.
+fn chart_of(alloc: Global, ended: &Ended<'_>) -> Result<Done, Fault>
+    requires { IsAccepted ended.now.module.now }
+    ensures done { IfOk result (λ d. (logged : List ℕ) → IsLogText logged ended.now.log.items
+        → ComesTo Chart ended.now.module.now logged d) }
+    ensures fault { IfErr result (λ f. f ≡ OutOfMemory) }
+{
+    Ok(Done::Charted(chart(alloc, ended)?))
 }
 
 /// The whole run again that the log has.

@@ -4,9 +4,9 @@ ghost use Rattle.std.specs.Prelude.{◌≡◌, ◌++◌, IfOk, OnOk};
 ghost use Rattle.std.specs.Option.{option_to_list};
 ghost use Rattle.xk_types.specs.World.{opening};
 ghost use Rattle.xk_types.specs.Schedule.{number_printed};
+ghost use Rattle.xk_core.specs.Core.{opening_core};
 ghost use Rattle.xk_drive.specs.Choosing.{Follows};
-ghost use Rattle.xk_drive.specs.Stretches.{IsStretch};
-ghost use Rattle.xk_serve.specs.OrderedRun.{IsOrderedRun, IsRunThat};
+ghost use Rattle.xk_serve.specs.OrderedRun.{GoesOn, IsOrderedRun, IsRunThat};
 
 use std::alloc::{AllocError, Global};
 use xk_bounds::Verified;
@@ -40,27 +40,36 @@ fn run_by<C: Chooser>(
         (Follows C.answer C.after verified.now chooser.old (opening verified.now))
         verified.now run.0.items run.1) }
 {
-    let mut driver = driven(alloc, Core::open(alloc, verified)?)?;
+    let mut driver = opened(alloc, verified)?;
     let mut printed = Vec::new(alloc);
-    loop {
-        let steps = driver.core().steps_done();
-        let Some(turn) = driver.turn(chooser)? else {
-            return Ok((printed, steps));
-        };
-        keep(&mut printed, turn.event)?;
-        go_on(&mut driver, chooser, turn.event);
-    }
+    while take_turn(&mut driver, &mut printed, chooser)? {}
+    let steps = driver.core().steps_done();
+    Ok((printed, steps))
 }
 
-/// Behind a step that nobody else could see, takes all steps like it that come next, if the chooser is steady, and tells how many.
+/// One turn, with the steps behind it that nobody else can see, and whether there was one: there is none where all have ended.
 #[inline(always)]
-fn go_on<C: Chooser>(driver: &mut Driver<'_>, chooser: &mut C, event: Event) -> u32
-    ensures { IsStretch C.answer C.after driver.old chooser.old result driver.new chooser.new }
+fn take_turn<C: Chooser>(
+    driver: &mut Driver<'_>,
+    printed: &mut Vec<i64>,
+    chooser: &mut C,
+) -> Result<bool, AllocError>
+    ensures { IfOk result (GoesOn C.answer C.after driver.old chooser.old printed.old.items
+        driver.new chooser.new printed.new.items) }
 {
-    match event {
-        Event::Local => driver.stretch(chooser, u32::MAX),
-        _ => 0,
-    }
+    let Some(turn) = driver.turn(chooser)? else {
+        return Ok(false);
+    };
+    keep(printed, turn.event)?;
+    driver.stretch(chooser, u32::MAX);
+    Ok(true)
+}
+
+/// The opening world, to be driven.
+fn opened<'m>(alloc: Global, verified: &'m Verified) -> Result<Driver<'m>, AllocError>
+    ensures { IfOk result (λ driver. driver ≡ opening_core verified.now) }
+{
+    driven(alloc, Core::open(alloc, verified)?)
 }
 
 /// The core, to be driven.

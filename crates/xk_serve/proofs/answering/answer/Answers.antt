@@ -1,49 +1,53 @@
-use Rattle.std.proofs.Common.{ap}
+use Rattle.std.proofs.Common.{◌∙◌, refl, ap, sym}
 use Rattle.std.proofs.lemmas.Result.{err_from_is_err_and}
-use Rattle.xk_serve.specs.Answer.{doing_of, task_of}
-use Rattle.xk_serve.proofs.Again.{chart_done, charted, replay_done, replayed, whole}
-use Rattle.xk_serve.proofs.Kept.{against_any, against_memory}
+use Rattle.xk_serve.specs.Answer.{Chart, Check, Compile, Replay, Run, doing_of, task_of, way_given}
+use Rattle.xk_serve.proofs.Tasks.{against_any, against_log, against_memory, against_refused, done_of_any, done_of_log}
 use Rattle.xk_serve.proofs.answering.answer.Goals as goal
 
 pub returns-in_err-module-clause-fault : goal.returns-in_err-module-clause-fault
 returns-in_err-module-clause-fault g c =
     let p = err_from_is_err_and c.from_residual.result c.from_residual.ensures.1 in
-    rw (p.1, p.2) (against_any (task_of c.args.job.now) c.args.bytes.now (g.L.Source.remaining c.args.log_in.now) _ c.in_err-module.field-0.0
+    rw (p.1, p.2) (against_any (task_of c.args.job.now) c.args.bytes.now (g.L.Source.remaining c.args.log_in.now) _ _ c.in_err-module.field-0.0 refl
     c.in_err-module.ensures.fault)
 
-pub returns-in_ok-ended-in-Replay-clause-done : goal.returns-in_ok-ended-in-Replay-clause-done
-returns-in_ok-ended-in-Replay-clause-done g c =
-    let ended = c.in_ok-ended-in-Replay.ended in
-    let is = c.in_ok-ended-in-Replay.ensures in
-    let accepted = c.in_ok-verified-in-Replay.ensures.accepted in
-    replay_done _ c.args.job.now.form c.args.bytes.now (g.L.Source.remaining c.args.log_in.now) _ ended.log.items _ (ap doing_of c.in-Replay.is)
-    c.in_ok-module.ensures.module is.log (λ logged text. (
-      accepted.1,
-      (
-        ended.log.items,
-        text,
-        replayed _ _ _ ended.log.items _ ended.core _ is.same_module accepted.0 ended.run ended.over c.steps_done-steps.ensures.count,
-      ),
-    ))
+pub returns-in-Compile-clause-done : goal.returns-in-Compile-clause-done
+returns-in-Compile-clause-done g c =
+    done_of_any (task_of c.args.job.now) c.args.bytes.now (g.L.Source.remaining c.args.log_in.now) _ Compile c.compiled.result (ap doing_of c.in-Compile.is) c.in_ok-module.ensures.module c.compiled.ensures.done
 
-pub returns-in_ok-chart-in-Chart-clause-done : goal.returns-in_ok-chart-in-Chart-clause-done
-returns-in_ok-chart-in-Chart-clause-done g c =
-    let ended = c.in_ok-ended-in-Chart.ended in
-    let is = c.in_ok-ended-in-Chart.ensures in
-    let accepted = c.in_ok-verified-in-Chart.ensures.accepted in
-    chart_done _ c.args.job.now.form c.args.bytes.now (g.L.Source.remaining c.args.log_in.now) _ ended.log.items _ (ap doing_of c.in-Chart.is)
-    c.in_ok-module.ensures.module is.log (λ logged text. (
-      accepted.1,
-      (
-        ended.log.items,
-        text,
-        whole _ _ _ ended.log.items _ ended.core is.same_module accepted.0 ended.run ended.over,
-        charted _ _ _ ended.log.items _ is.same_module accepted.0 c.in_ok-chart-in-Chart.ensures,
-      ),
-    ))
+pub returns-in-Compile-clause-fault : goal.returns-in-Compile-clause-fault
+returns-in-Compile-clause-fault g c =
+    against_memory (task_of c.args.job.now) c.args.bytes.now (g.L.Source.remaining c.args.log_in.now) _ c.compiled.result c.compiled.ensures.fault
 
-pub returns-in_err-chart-in-Chart-clause-fault : goal.returns-in_err-chart-in-Chart-clause-fault
-returns-in_err-chart-in-Chart-clause-fault g c =
-    let p = err_from_is_err_and c.from_residual-in_err-chart-in-Chart.result c.from_residual-in_err-chart-in-Chart.ensures.1 in
-    rw (p.1, p.2) (against_memory (task_of c.args.job.now) c.args.bytes.now (g.L.Source.remaining c.args.log_in.now) _ _
-    c.in_ok-ended-in-Chart.ensures.no_fault)
+pub returns-in-Check-clause-done : goal.returns-in-Check-clause-done
+returns-in-Check-clause-done g c =
+    done_of_any (task_of c.args.job.now) c.args.bytes.now (g.L.Source.remaining c.args.log_in.now) _ Check c.checked.result (ap doing_of c.in-Check.is) c.in_ok-module.ensures.module c.checked.ensures.done
+
+pub returns-in-Check-clause-fault : goal.returns-in-Check-clause-fault
+returns-in-Check-clause-fault g c =
+    against_refused (task_of c.args.job.now) c.args.bytes.now (g.L.Source.remaining c.args.log_in.now) _ _ Check c.checked.result (ap doing_of c.in-Check.is) tt c.in_ok-module.ensures.module c.checked.ensures.fault
+
+pub returns-in-Run-clause-done : goal.returns-in-Run-clause-done
+returns-in-Run-clause-done g c =
+    let what = Run (way_given c.in-Run.drive) c.is_some.result in
+    let is = ap doing_of c.in-Run.is ∙ ap (λ kept. Run (way_given c.in-Run.drive) kept) (sym c.is_some.ensures) in
+    done_of_any (task_of c.args.job.now) c.args.bytes.now (g.L.Source.remaining c.args.log_in.now) _ what c.run_driven.result is c.in_ok-module.ensures.module c.run_driven.ensures.done
+
+pub returns-in-Run-clause-fault : goal.returns-in-Run-clause-fault
+returns-in-Run-clause-fault g c =
+    against_refused (task_of c.args.job.now) c.args.bytes.now (g.L.Source.remaining c.args.log_in.now) _ _ _ c.run_driven.result (ap doing_of c.in-Run.is) tt c.in_ok-module.ensures.module c.run_driven.ensures.fault
+
+pub returns-in-Replay-clause-done : goal.returns-in-Replay-clause-done
+returns-in-Replay-clause-done g c =
+    done_of_log (task_of c.args.job.now) c.args.bytes.now (g.L.Source.remaining c.args.log_in.now) _ Replay c.replayed.result (ap doing_of c.in-Replay.is) refl c.in_ok-module.ensures.module c.replayed.ensures.done
+
+pub returns-in-Replay-clause-fault : goal.returns-in-Replay-clause-fault
+returns-in-Replay-clause-fault g c =
+    against_log (task_of c.args.job.now) c.args.bytes.now (g.L.Source.remaining c.args.log_in.now) _ _ _ Replay c.replayed.result (ap doing_of c.in-Replay.is) tt refl c.in_ok-module.ensures.module c.replayed.ensures.fault
+
+pub returns-in-Chart-clause-done : goal.returns-in-Chart-clause-done
+returns-in-Chart-clause-done g c =
+    done_of_log (task_of c.args.job.now) c.args.bytes.now (g.L.Source.remaining c.args.log_in.now) _ Chart c.charted.result (ap doing_of c.in-Chart.is) refl c.in_ok-module.ensures.module c.charted.ensures.done
+
+pub returns-in-Chart-clause-fault : goal.returns-in-Chart-clause-fault
+returns-in-Chart-clause-fault g c =
+    against_log (task_of c.args.job.now) c.args.bytes.now (g.L.Source.remaining c.args.log_in.now) _ _ _ Chart c.charted.result (ap doing_of c.in-Chart.is) tt refl c.in_ok-module.ensures.module c.charted.ensures.fault

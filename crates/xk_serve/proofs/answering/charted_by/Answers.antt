@@ -1,0 +1,24 @@
+use Rattle.std.proofs.Common.{subst, sym}
+use Rattle.std.proofs.lemmas.Result.{IfOk-weaker}
+use Rattle.xk_types.specs.Accepted.{IsAccepted}
+use Rattle.xk_serve.specs.Answer.{Chart, ComesTo}
+use Rattle.xk_serve.proofs.Tasks.{of_each, run_wants}
+use Rattle.xk_serve.proofs.answering.charted_by.Goals as goal
+
+pub chart_of-requires : goal.chart_of-requires
+chart_of-requires g c = subst IsAccepted (sym c.in_ok-ended.ensures.same_module) c.requires
+
+pub returns-clause-done : goal.returns-clause-done
+returns-clause-done g c =
+    let is = c.in_ok-ended.ensures in
+    IfOk-weaker c.chart_of.result _ _
+    (λ d h. of_each _ _ (g.L.Source.remaining c.args.log_in.now)
+    (λ logged text. subst (λ m. ComesTo Chart m logged d) is.same_module (h logged text)) is.log)
+    c.chart_of.ensures.done
+
+pub returns-clause-no_fault : goal.returns-clause-no_fault
+returns-clause-no_fault g c = IfOk-weaker c.chart_of.result _ _ (λ d h. c.in_ok-ended.ensures.no_fault) c.chart_of.ensures.done
+
+pub returns-clause-fault : goal.returns-clause-fault
+returns-clause-fault g c =
+    run_wants _ (g.L.Source.remaining c.args.log_in.now) _ _ c.chart_of.result c.in_ok-ended.ensures.no_fault c.chart_of.ensures.fault
