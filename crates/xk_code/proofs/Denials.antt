@@ -150,9 +150,11 @@ else_begun err cx t scope n size at l op r s u h =
     let test = instr.Unless op (slot_for scope t l) (second scope t l r) p in
     let jump = instr.Jump (p + length other) in
     denies err h (λ k. (k.0, k.1, k.2)) (λ m.
-    let few = m.1 in
-    (subst (HasRoom scope size) (append_assoc (both scope t l r) (test ∷ body) (instr.Jump 0 ∷ []))
-    (room_gap scope size (both scope t l r ++ test ∷ body) other jump (subst (HasRoom scope size) (sym (append_assoc (both scope t l r) (test ∷ body) (jump ∷ other))) m.0)), omega arith))
+    let few = m.1 in (
+      subst (HasRoom scope size) (append_assoc (both scope t l r) (test ∷ body) (instr.Jump 0 ∷ []))
+          (room_gap scope size (both scope t l r ++ test ∷ body) other jump (subst (HasRoom scope size) (sym (append_assoc (both scope t l r) (test ∷ body) (jump ∷ other))) m.0)),
+      omega arith,
+    ))
 
 pub else_other : (err : CodeError) (cx : Setting) (t : ℕ) (scope again : Scope) (n k size from at : ℕ) (l : Expression) (op : Comparison) (r : Expression) (s u : Statement)
     → DeniesCode err cx t again k from u → again ≡ scope → k ≡ n + count s

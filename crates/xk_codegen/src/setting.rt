@@ -66,8 +66,10 @@ fn body_of<'a, 't>(
     s: &'a Stmt<'t>,
 ) -> Result<Body<'t>, AllocError>
     requires { methods.now ≡ signatures (tree_value tree.now).methods }
-    ensures { IfOk result (λ body. body ≡ record { unit = unit_number place;
-        captures = taken (tree_value tree.now) (statement s.now) }) }
+    ensures { IfOk result (λ body. body ≡ record {
+      unit = unit_number place;
+      captures = taken (tree_value tree.now) (statement s.now);
+    }) }
 {
     let captures = captures(alloc, methods, &tree.shared, s)?;
     Ok(Body {
