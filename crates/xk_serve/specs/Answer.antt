@@ -10,7 +10,6 @@ use Rattle.xk_words.specs.declared.job.Drive.{Drive}
 use Rattle.xk_words.specs.declared.job.Form.{Form}
 use Rattle.xk_words.specs.declared.job.Form.TheVariants as form
 use Rattle.xk_words.specs.declared.job.Job.{Job}
-use Rattle.xk_words.specs.declared.job.Order.{Order}
 use Rattle.xk_words.specs.declared.job.Order.TheVariants as order
 use Rattle.xk_words.specs.Line.{By, In, Way, way_value}
 use Rattle.xk_module.specs.ModuleText.{module_value}

@@ -1,7 +1,5 @@
 use Rattle.std.proofs.Common.{◌≡◌, ℕ, List, Err, ap, refl}
 use Rattle.std.proofs.lemmas.Result.{err_from_is_err_and}
-use Rattle.xk_types.specs.Code.{ModuleValue, IsWithinLimits}
-use Rattle.xk_module.specs.ModuleText.{IsJson, IsModuleText}
 use Rattle.xk_module.specs.declared.fault.ModuleFault.{ModuleFault}
 use Rattle.xk_module.specs.declared.fault.ModuleFault.TheVariants as text
 use Rattle.xk_words.specs.declared.job.Form.TheVariants as form
