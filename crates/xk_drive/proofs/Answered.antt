@@ -1,8 +1,8 @@
 -- Whom an answer names in a list.
 use Rattle.std.proofs.Common.{◌≡◌, ◌∙◌, ℕ, zero, suc, ◌%◌, ◌≤◌, nat_le, Bool, true, false, cond, List, [], ◌∷◌, length, filter, Option, Some, None, slice_get, sym, ap, arith}
 use Rattle.std.proofs.Math.Nat.{mod_self, mod-eq_of_lt}
-use Rattle.std.proofs.lemmas.Option.{slice_get_within}
-use Rattle.xk_drive.specs.Choosing.{turn_of}
+use Rattle.std.proofs.lemmas.Option.{slice_get_within, get_or_from_slice_get}
+use Rattle.xk_drive.specs.Choosing.{IsAloneIn, turn_of, turn_after}
 
 -- the place of a member
 pub at_place : (xs : List ℕ) (t a : ℕ) → Some a ≡ slice_get xs t → slice_get xs (t % length xs) ≡ Some a
@@ -29,3 +29,9 @@ few_kept p (x ∷ xs) = on (p x) (few_kept p xs)
 pub turn_within : (o : Option ℕ) (xs : List ℕ) → turn_of o xs ≤ length xs
 turn_within None xs = omega arith
 turn_within (Some taken) xs = few_kept (λ a. nat_le a taken) xs
+
+-- one that is alone has its turn again
+pub alone_again : (x : ℕ) (xs : List ℕ) → IsAloneIn xs x → turn_after (Some x) xs ≡ Some x
+alone_again x xs h =
+    ap (λ k. Some k) (get_or_from_slice_get xs (turn_of (Some x) xs % length xs) x 0
+    (at_end xs (turn_of (Some x) xs) x (sym h.greatest) (turn_within (Some x) xs) (sym h.least)))

@@ -22,7 +22,7 @@ use Rattle.xk_members.specs.Members.{numbers_from, with_member}
 use Rattle.xk_members.proofs.Rising.{member_changed}
 use Rattle.xk_waiting.specs.Waiting.{times, times_in_all, waiters}
 use Rattle.xk_waiting.proofs.Times.{list_times}
-use Rattle.xk_drive.specs.Choosing.{enabled_in, Names, Follows, IsSteady, goes_on, state_after, state_on}
+use Rattle.xk_drive.specs.Choosing.{enabled_in, Names, Follows, IsSteadyOn, goes_on, state_after, state_on}
 use Rattle.xk_drive.specs.Held.{AreHeld}
 use Rattle.xk_drive.specs.Stretches.{IsStretch}
 use Rattle.xk_drive.proofs.HeldBack.{held_on, free_on, none_went}
@@ -213,8 +213,8 @@ alone_held m a (suc n) w v lists core h held =
 
 -- ---- choosers
 
--- a chooser whose state stays names who takes them at each of these steps
-pub alone_follows : {S : Type 0} (answer : S → List ℕ → ℕ) (after : S → List ℕ → S) (m : ModuleValue) (s : S) (a n : ℕ) (w v : World) → IsSteady after s → IsCore m w
+-- a chooser whose state stays where it is shown who can step names who takes them at each of these steps
+pub alone_follows : {S : Type 0} (answer : S → List ℕ → ℕ) (after : S → List ℕ → S) (m : ModuleValue) (s : S) (a n : ℕ) (w v : World) → IsSteadyOn after s (enabled_in m w) → IsCore m w
     → Names answer m s w a → GoesAlone m a n w v → Follows answer after m s w (replicate n a)
 alone_follows answer after m s a zero w v steady core named h = tt
 alone_follows answer after m s a (suc zero) w v steady core named h =
@@ -224,27 +224,31 @@ alone_follows answer after m s a (suc (suc n)) w v steady core named h =
     let b = begun m a (suc n) w v h in
     let still = listed_still m w b.next a core b.stepped (able m a n b.next v b.rest) in
     let again : Names answer m s b.next a = subst (λ (l : List ℕ). slice_get l (answer s l % length l) ≡ Some a) (sym still) named in
-    let rest = alone_follows answer after m s a (suc n) b.next v steady (core_stepped m w b.next a event.Local core b.stepped) again b.rest in (
+    let rest = alone_follows answer after m s a (suc n) b.next v (subst (IsSteadyOn after s) (sym still) steady) (core_stepped m w b.next a event.Local core b.stepped) again b.rest in (
       named,
       subst (λ o. goes_on o (λ z. Follows answer after m (after s (enabled_in m w)) z (replicate (suc n) a))) (sym b.stepped)
-          (subst (λ t. Follows answer after m t b.next (replicate (suc n) a)) (sym (steady (enabled_in m w))) rest),
+          (subst (λ t. Follows answer after m t b.next (replicate (suc n) a)) (sym steady) rest),
     )
 
 -- and is left in that state
-pub alone_state : {S : Type 0} (after : S → List ℕ → S) (m : ModuleValue) (s : S) (a n : ℕ) (w v : World) → IsSteady after s → GoesAlone m a n w v
-    → state_after after m s w (replicate n a) ≡ s
-alone_state after m s a zero w v steady h = refl
-alone_state after m s a (suc n) w v steady h =
-    let b = begun m a n w v h in
-    ap (λ o. state_on o s (λ z. state_after after m (after s (enabled_in m w)) z (replicate n a))) b.stepped
-    ∙ ap (λ t. state_after after m t b.next (replicate n a)) (steady (enabled_in m w))
-    ∙ alone_state after m s a n b.next v steady b.rest
+pub alone_state : {S : Type 0} (after : S → List ℕ → S) (m : ModuleValue) (s : S) (a n : ℕ) (w v : World) → IsSteadyOn after s (enabled_in m w) → IsCore m w
+    → GoesAlone m a n w v → state_after after m s w (replicate n a) ≡ s
+alone_state after m s a zero w v steady core h = refl
+alone_state after m s a (suc zero) w v steady core h =
+    let b = begun m a zero w v h in
+    ap (λ o. state_on o s (λ z. state_after after m (after s (enabled_in m w)) z (replicate zero a))) b.stepped ∙ steady
+alone_state after m s a (suc (suc n)) w v steady core h =
+    let b = begun m a (suc n) w v h in
+    let still = listed_still m w b.next a core b.stepped (able m a n b.next v b.rest) in
+    ap (λ o. state_on o s (λ z. state_after after m (after s (enabled_in m w)) z (replicate (suc n) a))) b.stepped
+    ∙ ap (λ t. state_after after m t b.next (replicate (suc n) a)) steady
+    ∙ alone_state after m s a (suc n) b.next v (subst (IsSteadyOn after s) (sym still) steady) (core_stepped m w b.next a event.Local core b.stepped) b.rest
 
 -- ---- stretches
 
--- a steady chooser names one activity for all its steps that nobody else can see, at once
-pub stretch_of : {S : Type 0} (answer : S → List ℕ → ℕ) (after : S → List ℕ → S) (c d : CoreValue) (s t : S) (a n : ℕ) → IsSteady after s → IsCore c.module_run c.world
-    → Names answer c.module_run s c.world a → RunsTo c a n d → AreLocal c a n → IsUnseen c a n → d.module_run ≡ c.module_run → t ≡ after s (enabled_in c.module_run c.world)
+-- a chooser that is steady names one activity for all its steps that nobody else can see, at once
+pub stretch_of : {S : Type 0} (answer : S → List ℕ → ℕ) (after : S → List ℕ → S) (c d : CoreValue) (s t : S) (a n : ℕ) → IsSteadyOn after s (enabled_in c.module_run c.world)
+    → IsCore c.module_run c.world → Names answer c.module_run s c.world a → RunsTo c a n d → AreLocal c a n → IsUnseen c a n → d.module_run ≡ c.module_run → t ≡ after s (enabled_in c.module_run c.world)
     → IsStretch answer after c s n d t
 stretch_of answer after c d s t a n steady core named leads local unseen same asked =
     let alone : GoesAlone c.module_run a n c.world d.world = record { leads = leads; local = local } in
@@ -254,7 +258,7 @@ stretch_of answer after c d s t a n steady core named leads local unseen same as
       leads = leads;
       unseen = unseen;
       same_module = same;
-      left = asked ∙ steady (enabled_in c.module_run c.world) ∙ sym (alone_state after c.module_run s a n c.world d.world steady alone);
+      left = asked ∙ steady ∙ sym (alone_state after c.module_run s a n c.world d.world steady core alone);
     }
 
 -- no step is one

@@ -44,9 +44,14 @@ abbrev pub state_after : {S : Type 0} → (S → List ℕ → S) → ModuleValue
 state_after after m s w [] = s
 state_after after m s w (a ∷ list) = state_on (step m w a) s (λ v. state_after after m (after s (enabled_in m w)) v list)
 
--- being asked leaves the state as it is: so who is named is named again, as long as the same can take a step
-abbrev pub IsSteady : {S : Type 0} → (S → List ℕ → S) → S → Type 0
-IsSteady after s = (list : List ℕ) → after s list ≡ s
+-- being shown this list leaves the state as it is: so who is named is named again, as long as the same can take a step
+abbrev pub IsSteadyOn : {S : Type 0} → (S → List ℕ → S) → S → List ℕ → Type 0
+IsSteadyOn after s list = after s list ≡ s
+
+-- this one is the least of a list, and none is above it
+pub record IsAloneIn (xs : List ℕ) (x : ℕ) : Type 0 where
+  pub least : slice_get xs 0 ≡ Some x
+  pub greatest : slice_get xs (place_above x xs) ≡ None
 
 -- ---- the choosers that stand ready
 

@@ -3,7 +3,7 @@
 ghost use Rattle.std.specs.Prelude.{◌≡◌, ◌<◌, ◌≤◌, ◌-◌, ◌%◌, ◌^◌, true, Some, length, slice_get};
 ghost use Rattle.std.specs.Vec.{vec_capacity};
 ghost use Rattle.xk_members.specs.Members.{IsRising, place_above};
-ghost use Rattle.xk_drive.specs.Choosing.{IsAnswered, IsSteady, turn_of};
+ghost use Rattle.xk_drive.specs.Choosing.{IsAnswered, IsSteadyOn, IsAloneIn, turn_of};
 
 use std::marker::Model;
 use xk_members::NumberSet;
@@ -41,10 +41,10 @@ pub trait Chooser {
         shown[place_in(answer, shown.len())]
     }
 
-    /// Whether it stays in its state, whatever it is shown: then it names the same again as long as the same can take a step, and needn't
-    /// be asked before each. Who says no is asked.
-    fn is_steady(&self) -> bool
-        ensures { result ≡ true → IsSteady after self.now }
+    /// Whether it stays in its state when it is shown these: then it names the same again as long as the same can take a step, and
+    /// needn't be asked before each. Who says no is asked.
+    fn is_steady(&self, _enabled: &NumberSet) -> bool
+        ensures { result ≡ true → IsSteadyOn after self.now _enabled.now.members }
     {
         false
     }
@@ -103,7 +103,7 @@ impl Chooser for First {
     }
 
     #[inline(always)]
-    fn is_steady(&self) -> bool {
+    fn is_steady(&self, _enabled: &NumberSet) -> bool {
         true
     }
 }
@@ -129,7 +129,7 @@ impl Chooser for Last {
     }
 
     #[inline(always)]
-    fn is_steady(&self) -> bool {
+    fn is_steady(&self, _enabled: &NumberSet) -> bool {
         true
     }
 }
@@ -196,6 +196,17 @@ impl Round {
     }
 }
 
+/// Whether this one is the least member, and none is above it.
+#[inline(always)]
+fn is_alone(enabled: &NumberSet, taken: u32) -> bool
+    ensures { result ≡ true → IsAloneIn enabled.now.members taken }
+{
+    match (enabled.first(), enabled.above(taken)) {
+        (Some(first), None) => first == taken,
+        _ => false,
+    }
+}
+
 /// How many of the numbers aren't above this one.
 fn up_to(taken: u32, enabled: &[u32]) -> usize
     requires rising { IsRising enabled.now }
@@ -223,5 +234,14 @@ impl Chooser for Round {
         let act = self.turn(enabled);
         self.taken = Some(act);
         act
+    }
+
+    /// It is where the one taken before is alone.
+    #[inline(always)]
+    fn is_steady(&self, enabled: &NumberSet) -> bool {
+        match self.taken {
+            Some(taken) => is_alone(enabled, taken),
+            None => false,
+        }
     }
 }

@@ -291,6 +291,14 @@ fn list_after(
     }
 }
 
+/// Whether a chooser is steady, and nobody else can see the next step of the activity that it names.
+#[inline(always)]
+fn goes_ahead(is_steady: bool, core: &Core<'_>, act: Act) -> bool
+    ensures { result ≡ true → is_steady ≡ true }
+{
+    is_steady && core.next_local(act)
+}
+
 /// A set and lists with nobody in them, and lists to show, with room for so many activities and clocks.
 fn lists_for(
     alloc: Global,
@@ -481,36 +489,44 @@ impl<'m> Driver<'m> {
 
 impl<'m> Driver<'m> {
     ghost use Rattle.xk_core.specs.Stretch.{RunsTo, AreLocal, IsUnseen};
-    ghost use Rattle.xk_drive.specs.Stretches.{IsStretch};
+    ghost use Rattle.xk_drive.specs.Stretches.{IsGone, IsRefusedBehind};
 
-    /// Up to max steps at once of the activity that the chooser names, and how many they were: those before the next one that others
-    /// can see, if the chooser is steady, and none else. The chooser is left as if it had named each. Takes no memory.
+    /// The next turns up to one that others can see, and that one, if the chooser is steady; else one turn. It gives the last of these,
+    /// and nothing where all have ended. The chooser is left as if it had named each. Err only where the step of the last turn wants
+    /// memory, and was refused it: then it wasn't taken, though the chooser was asked.
     #[inline(always)]
-    pub fn stretch<C: Chooser>(&mut self, chooser: &mut C, max: u32) -> u32
-        ensures taken { IsStretch C.answer C.after self.old chooser.old result
-            self.new chooser.new }
-        ensures counted { self.new.world.steps ≡ self.old.world.steps + result }
+    pub fn turns<C: Chooser>(&mut self, chooser: &mut C) -> Result<Option<Turn>, AllocError>
+        ensures gone { IfOk result
+            (IsGone C.answer C.after self.old chooser.old self.new chooser.new) }
+        // The verified number of steps is never passed.
+        ensures bound { IfOk result (λ o. IfSome o
+            (λ turn. self.new.world.steps ≤ steps_bound self.new.module_run)) }
+        ensures refused { OnErr result
+            (IsRefusedBehind C.answer C.after self.old chooser.old self.new chooser.new) }
     {
-        if self.enabled.is_empty() || !chooser.is_steady() {
-            return 0;
+        if self.enabled.is_empty() {
+            return Ok(None);
         }
-        let named = chooser.pick(&self.enabled, &mut self.shown);
-        self.run(Act(named), max)
+        let is_steady = chooser.is_steady(&self.enabled);
+        let act = Act(chooser.pick(&self.enabled, &mut self.shown));
+        if !goes_ahead(is_steady, &self.core, act) {
+            let event = self.step(act)?;
+            return Ok(Some(Turn { act, event }));
+        }
+        self.run(act);
+        let turn = self.turn(chooser)?;
+        Ok(turn)
     }
 
-    /// Up to max steps of the activity that nobody else can see, and how many they were.
-    fn run(&mut self, act: Act, max: u32) -> u32
+    /// The steps of the activity that nobody else can see, up to one that others can, and how many they were.
+    fn run(&mut self, act: Act) -> u32
         requires { IsTrue (is_enabled self.old.module_run self.old.world act) }
         ensures ran { RunsTo self.old act result self.new }
         ensures local { AreLocal self.old act result }
         ensures unseen { IsUnseen self.old act result }
-        ensures counted { self.new.world.steps ≡ self.old.world.steps + result }
         ensures same_module { self.new.module_run ≡ self.old.module_run }
     {
-        if !self.core.next_local(act) {
-            return 0;
-        }
-        let steps = self.core.run(act, max);
+        let steps = self.core.run(act, u32::MAX);
         list_own(&mut self.enabled, &self.core, act);
         steps
     }

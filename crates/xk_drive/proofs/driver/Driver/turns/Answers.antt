@@ -1,0 +1,137 @@
+use Rattle.std.proofs.Common.{◌≡◌, ◌∙◌, ◌%◌, true, false, length, refl, sym, ap, subst, arith, slice_get, Some}
+use Rattle.xk_types.specs.Schedule.{all_ended}
+use Rattle.xk_core.specs.Core.{CoreValue, StepsTo, WantsMemory}
+use Rattle.xk_drive.specs.Choosing.{Names, enabled_in, IsSteadyOn}
+use Rattle.xk_drive.specs.Stretches.{IsStretch}
+use Rattle.xk_drive.proofs.Listing.{listed_few, listed_enabled, over_is, on_err, core_few}
+use Rattle.xk_drive.proofs.Stretches.{stretch_of, stretch_none}
+use Rattle.xk_drive.proofs.driver.Driver.turns.Goals as goal
+
+pub returns-then-is_empty-clause-gone : goal.returns-then-is_empty-clause-gone
+returns-then-is_empty-clause-gone g c =
+    let d = c.self.inside in
+    record {
+      count = 0;
+      between = c.args.self.now;
+      left = c.args.chooser.now;
+      stretch = stretch_none g.C.Chooser.answer g.C.Chooser.after c.args.self.now c.args.chooser.now;
+      turn = (
+        subst (λ (v : CoreValue). all_ended v.world ≡ true) c.self.view_is
+            (sym (over_is d.core.module_run d.core.world d.enabled.members (length d.enabled.members) c.self.invariant.core c.self.invariant.list_is refl)
+            ∙ sym c.is_empty.ensures ∙ c.if-is_empty.true),
+        refl,
+        refl,
+      );
+    }
+
+pub pick-requires-clause-room : goal.pick-requires-clause-room
+pick-requires-clause-room g c =
+    let d = c.self.inside in
+    omega (
+      arith,
+      ap length c.self.invariant.list_is,
+      listed_few d.core.module_run d.core.world,
+      core_few d.core.module_run d.core.world c.self.invariant.core,
+      c.self.invariant.roomy_list,
+    )
+
+pub step-requires : goal.step-requires
+step-requires g c =
+    let d = c.self.inside in
+    let answer = g.C.Chooser.answer c.args.chooser.now in
+    listed_enabled d.core.module_run d.core.world _ c.pick.result
+    (subst (λ l. slice_get l (answer l % length l) ≡ Some c.pick.result) c.self.invariant.list_is c.pick.ensures.picked)
+
+pub returns-in_err-event-clause-refused : goal.returns-in_err-event-clause-refused
+returns-in_err-event-clause-refused g c =
+    let d = c.self.inside in
+    let answer = g.C.Chooser.answer c.args.chooser.now in
+    on_err c.from_residual.result _ (record {
+      count = 0;
+      between = c.args.self.now;
+      left = c.args.chooser.now;
+      stretch = stretch_none g.C.Chooser.answer g.C.Chooser.after c.args.self.now c.args.chooser.now;
+      refused = record {
+        same = c.in_err-event.ensures.refused ∙ c.self.view_is;
+        goes_on = subst (λ (v : CoreValue). all_ended v.world ≡ false) c.self.view_is
+            (sym (over_is d.core.module_run d.core.world d.enabled.members (length d.enabled.members) c.self.invariant.core c.self.invariant.list_is refl)
+            ∙ sym c.is_empty.ensures ∙ c.if-is_empty.false);
+        asked = c.pick.ensures.goes_on ∙ ap (g.C.Chooser.after c.args.chooser.now)
+            (c.self.invariant.list_is ∙ ap (λ (v : CoreValue). enabled_in v.module_run v.world) c.self.view_is);
+        wants = record {
+          act = c.pick.result;
+          named = subst (λ (v : CoreValue). Names g.C.Chooser.answer v.module_run c.args.chooser.now v.world c.pick.result) c.self.view_is
+              (subst (λ l. slice_get l (answer l % length l) ≡ Some c.pick.result) c.self.invariant.list_is c.pick.ensures.picked);
+          grows = subst (λ (v : CoreValue). WantsMemory v c.pick.result) c.self.view_is c.in_err-event.ensures.only_where_it_grows;
+        };
+      };
+    })
+
+pub returns-then-not-goes_ahead-clause-gone : goal.returns-then-not-goes_ahead-clause-gone
+returns-then-not-goes_ahead-clause-gone g c =
+    let answer = g.C.Chooser.answer c.args.chooser.now in
+    record {
+      count = 0;
+      between = c.args.self.now;
+      left = c.args.chooser.now;
+      stretch = stretch_none g.C.Chooser.answer g.C.Chooser.after c.args.self.now c.args.chooser.now;
+      turn = record {
+        chosen = subst (λ (v : CoreValue). Names g.C.Chooser.answer v.module_run c.args.chooser.now v.world c.pick.result) c.self.view_is
+            (subst (λ l. slice_get l (answer l % length l) ≡ Some c.pick.result) c.self.invariant.list_is c.pick.ensures.picked);
+        stepped = subst (λ (v : CoreValue). StepsTo v c.pick.result c.step.new.self c.in_ok-event.event) c.self.view_is c.in_ok-event.ensures.stepped;
+        same_module = c.in_ok-event.ensures.same_module ∙ ap (λ (v : CoreValue). v.module_run) c.self.view_is;
+        goes_on = c.pick.ensures.goes_on ∙ ap (g.C.Chooser.after c.args.chooser.now)
+            (c.self.invariant.list_is ∙ ap (λ (v : CoreValue). enabled_in v.module_run v.world) c.self.view_is);
+      };
+    }
+
+pub run-requires : goal.run-requires
+run-requires g c =
+    let d = c.self.inside in
+    let answer = g.C.Chooser.answer c.args.chooser.now in
+    listed_enabled d.core.module_run d.core.world _ c.pick.result
+    (subst (λ l. slice_get l (answer l % length l) ≡ Some c.pick.result) c.self.invariant.list_is c.pick.ensures.picked)
+
+pub returns-in_err-turn-clause-refused : goal.returns-in_err-turn-clause-refused
+returns-in_err-turn-clause-refused g c =
+    let d = c.self.inside in
+    let answer = g.C.Chooser.answer in
+    let after = g.C.Chooser.after in
+    let s = c.args.chooser.now in
+    let act = c.pick.result in
+    let named : Names answer d.core.module_run s d.core.world act =
+    subst (λ l. slice_get l (answer s l % length l) ≡ Some act) c.self.invariant.list_is c.pick.ensures.picked in
+    let steady : IsSteadyOn after s (enabled_in d.core.module_run d.core.world) =
+    subst (IsSteadyOn after s) c.self.invariant.list_is (c.is_steady-is_steady.ensures (c.goes_ahead.ensures c.if-not-goes_ahead.false)) in
+    on_err c.from_residual-in_err-turn.result _ (record {
+      count = c.run.result;
+      between = c.run.new.self;
+      left = c.pick.new.self;
+      stretch = subst (λ (v : CoreValue). IsStretch answer after v s c.run.result c.run.new.self c.pick.new.self) c.self.view_is
+          (stretch_of answer after d.core c.run.new.self s c.pick.new.self act c.run.result steady c.self.invariant.core named
+          c.run.ensures.ran c.run.ensures.local c.run.ensures.unseen c.run.ensures.same_module
+          (c.pick.ensures.goes_on ∙ ap (after s) c.self.invariant.list_is));
+      refused = c.in_err-turn.ensures.refused;
+    })
+
+pub returns-clause-gone : goal.returns-clause-gone
+returns-clause-gone g c =
+    let d = c.self.inside in
+    let answer = g.C.Chooser.answer in
+    let after = g.C.Chooser.after in
+    let s = c.args.chooser.now in
+    let act = c.pick.result in
+    let named : Names answer d.core.module_run s d.core.world act =
+    subst (λ l. slice_get l (answer s l % length l) ≡ Some act) c.self.invariant.list_is c.pick.ensures.picked in
+    let steady : IsSteadyOn after s (enabled_in d.core.module_run d.core.world) =
+    subst (IsSteadyOn after s) c.self.invariant.list_is (c.is_steady-is_steady.ensures (c.goes_ahead.ensures c.if-not-goes_ahead.false)) in
+    record {
+      count = c.run.result;
+      between = c.run.new.self;
+      left = c.pick.new.self;
+      stretch = subst (λ (v : CoreValue). IsStretch answer after v s c.run.result c.run.new.self c.pick.new.self) c.self.view_is
+          (stretch_of answer after d.core c.run.new.self s c.pick.new.self act c.run.result steady c.self.invariant.core named
+          c.run.ensures.ran c.run.ensures.local c.run.ensures.unseen c.run.ensures.same_module
+          (c.pick.ensures.goes_on ∙ ap (after s) c.self.invariant.list_is));
+      turn = c.in_ok-turn.ensures.taken;
+    }
