@@ -16,6 +16,13 @@ def counting(turns):
     return module([unit("main", 3, code)])
 
 
+def counting_beside(count, turns):
+    """So many activities, each with such a loop."""
+    body = [["lit", 2, 0], ["for", 0, 1, turns, 5], ["for", 1, 1, 5000, 4], ["add", 2, 2, 1], ["next", 2], ["next", 1], ["ret"]]
+    main = [["for", 0, 1, count, 2], ["spawn", 1, []], ["next", 0], ["ret"]]
+    return module([unit("main", 1, main), unit("body", 3, body)])
+
+
 def calling(turns):
     """A loop in a loop that calls a method with a number: the call, a sum, the `ret` and the end of a turn are four steps."""
     code = [["for", 0, 1, turns, 4], ["for", 1, 1, 5000, 3], ["call", 1, [1]], ["next", 1], ["next", 0], ["ret"]]
@@ -97,7 +104,8 @@ ALL, FIRST, LAST, ROUND = ("first", "last", "round"), ("first",), ("last",), ("r
 
 # What is in a row, its module, and the orders in which it is run.
 ROWS = [
-    ("100 million local steps, two loops", lambda: counting(9999), FIRST),
+    ("100 million local steps, two loops", lambda: counting(9999), ALL),
+    ("10 million local steps of 100 activities", lambda: counting_beside(100, 10), ALL),
     ("10 million calls of a method", lambda: calling(2000), FIRST),
     ("10 million finishes opened and closed", lambda: finishing(2000), FIRST),
     ("64,000 activities, each in a finish of its own", lambda: gathering(64_000), ALL),

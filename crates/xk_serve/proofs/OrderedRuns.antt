@@ -1,5 +1,5 @@
 -- How a run in an order goes on by a step, and comes to its end.
-use Rattle.std.proofs.Common.{◌≡◌, ℕ, ℤ, ◌+◌, ◌-◌, ◌<◌, ◌≤◌, Bool, List, [], ◌∷◌, ◌++◌, replicate, true, false, refl, sym, ap, subst, ◌∙◌, arith}
+use Rattle.std.proofs.Common.{◌≡◌, ℕ, ℤ, ◌+◌, ◌-◌, ◌<◌, ◌≤◌, Bool, List, [], ◌∷◌, ◌++◌, replicate, true, false, None, refl, sym, ap, subst, ◌∙◌, arith}
 use Rattle.std.specs.Option.{option_to_list}
 use Rattle.xk_types.specs.declared.names.Entry.{Entry}
 use Rattle.xk_types.specs.declared.names.Event.{Event}
@@ -12,8 +12,8 @@ use Rattle.xk_types.specs.Logs.{schedule_of}
 use Rattle.xk_core.specs.Core.{CoreValue}
 use Rattle.xk_drive.specs.Choosing.{enabled_in, Names, Follows, goes_on, state_after}
 use Rattle.xk_drive.specs.Driving.{IsChosen, IsRunOf, IsTurn}
-use Rattle.xk_drive.specs.Stretches.{IsStretch}
-use Rattle.xk_serve.specs.OrderedRun.{GoesOn, IsGone, IsLogThat, IsReplay, IsRunThat, IsSomeRun}
+use Rattle.xk_drive.specs.Stretches.{IsGone, IsStretch}
+use Rattle.xk_serve.specs.OrderedRun.{GoesOn, IsEnd, IsStepOn, IsLogThat, IsReplay, IsRunThat, IsSomeRun}
 use Rattle.xk_laws.proofs.Counts.{step_counts}
 use Rattle.xk_laws.proofs.Reached.{run_more, run_counts}
 use Rattle.xk_drive.proofs.Following.{follows_more, printed_more, state_more}
@@ -80,7 +80,7 @@ stretch_counts : {S : Type 0} (answer : S → List ℕ → ℕ) (after : S → L
 stretch_counts answer after c d s t n more = (let e = run_counts c.module_run (replicate n more.act) c.world d.world more.leads in omega arith)
 
 gone : {S : Type 0} (answer : S → List ℕ → ℕ) (after : S → List ℕ → S) (c d : CoreValue) (s t : S) (numbers more : List ℤ) (went : Bool)
-    → went ≡ true → GoesOn answer after c s numbers d t more went → IsGone answer after c s numbers d t more
+    → went ≡ true → GoesOn answer after c s numbers d t more went → IsStepOn answer after c s numbers d t more
 gone answer after c d s t numbers more went is goes = subst (GoesOn answer after c s numbers d t more) is goes
 
 -- both
@@ -89,11 +89,21 @@ pub front_goes : {S : Type 0} (answer : S → List ℕ → ℕ) (after : S → L
     → (d.module_run ≡ m) × IsFront answer after m b d.world t more
 front_goes answer after m b c d s t numbers more went is same f goes =
     let g = gone answer after c d s t numbers more went is goes in
-    let same_on = g.turn.same_module ∙ same in
-    let on = front_more answer after m b c g.between s g.left g.act g.event numbers same f g.turn in (
-      g.stretch.same_module ∙ same_on,
-      subst (IsFront answer after m b d.world t) (sym g.kept) (front_stretch answer after m b g.between d g.left t g.count _ same_on on g.stretch),
+    let same_on = g.stretch.same_module ∙ same in
+    let on = front_stretch answer after m b c g.between s g.left g.count numbers same f g.stretch in (
+      g.turn.same_module ∙ same_on,
+      subst (IsFront answer after m b d.world t) (sym g.kept) (front_more answer after m b g.between d g.left t g.act g.event numbers same_on on g.turn),
     )
+
+-- where no turn was left behind a stretch, all have ended
+pub none_left : {S : Type 0} (answer : S → List ℕ → ℕ) (after : S → List ℕ → S) (c d : CoreValue) (s t : S) (numbers more : List ℤ) → IsGone answer after c s d t None
+    → more ≡ numbers → IsEnd answer after c s numbers d t more
+none_left answer after c d s t numbers more gone kept = record {
+  count = gone.count;
+  stretch = subst (λ x. IsStretch answer after c s gone.count x t) (sym gone.turn.1) (subst (λ y. IsStretch answer after c s gone.count gone.between y) (sym gone.turn.2) gone.stretch);
+  over = subst (λ (x : CoreValue). all_ended x.world ≡ true) (sym gone.turn.1) gone.turn.0;
+  kept = kept;
+}
 
 -- fewer steps are left
 pub goes_less : {S : Type 0} (answer : S → List ℕ → ℕ) (after : S → List ℕ → S) (m : ModuleValue) (c d : CoreValue) (s t : S) (numbers more : List ℤ) (went : Bool)
@@ -101,9 +111,9 @@ pub goes_less : {S : Type 0} (answer : S → List ℕ → ℕ) (after : S → Li
     → steps_bound m + 1 - d.world.steps < steps_bound m + 1 - c.world.steps
 goes_less answer after m c d s t numbers more went is same goes =
     let g = gone answer after c d s t numbers more went is goes in
-    let within : g.between.world.steps ≤ steps_bound m = subst (λ k. g.between.world.steps ≤ steps_bound k) (g.turn.same_module ∙ same) g.within in
-    let one : g.between.world.steps ≡ c.world.steps + 1 = step_counts c.module_run c.world g.between.world g.act g.event g.turn.stepped in
-    let on : g.between.world.steps ≤ d.world.steps = stretch_counts answer after g.between d g.left t g.count g.stretch in
+    let within : d.world.steps ≤ steps_bound m = subst (λ k. d.world.steps ≤ steps_bound k) (g.turn.same_module ∙ (g.stretch.same_module ∙ same)) g.within in
+    let one : d.world.steps ≡ g.between.world.steps + 1 = step_counts g.between.module_run g.between.world d.world g.act g.event g.turn.stepped in
+    let on : c.world.steps ≤ g.between.world.steps = stretch_counts answer after c g.between s g.left g.count g.stretch in
     omega arith
 
 -- where it goes no further, the run is over
@@ -111,15 +121,16 @@ pub front_ends : {S : Type 0} (answer : S → List ℕ → ℕ) (after : S → L
     (went : Bool) (steps : ℕ) → went ≡ false → c.module_run ≡ m → IsFront answer after m b c.world s numbers → GoesOn answer after c s numbers d t more went
     → steps ≡ d.world.steps → IsRunThat (Follows answer after m b (opening m)) m more steps
 front_ends answer after m b c d s t numbers more went steps is same f goes count =
-    let over : GoesOn answer after c s numbers d t more false = subst (GoesOn answer after c s numbers d t more) is goes in
+    let ends : IsEnd answer after c s numbers d t more = subst (GoesOn answer after c s numbers d t more) is goes in
+    let on = front_stretch answer after m b c d s t ends.count numbers same f ends.stretch in
     record {
-      list = f.list;
-      last = c.world;
-      follows = f.follows;
-      leads = f.leads;
-      over = over.0;
-      numbers_are = over.3 ∙ f.numbers_are;
-      steps_are = count ∙ ap (λ (k : CoreValue). k.world.steps) over.1;
+      list = on.list;
+      last = d.world;
+      follows = on.follows;
+      leads = on.leads;
+      over = ends.over;
+      numbers_are = ends.kept ∙ on.numbers_are;
+      steps_are = count;
     }
 
 -- ---- choosers without a state

@@ -32,23 +32,30 @@ pub record IsRunThat (Has : List ℕ → Type 0) (m : ModuleValue) (numbers : Li
   pub numbers_are : numbers ≡ printed m list (opening m)
   pub steps_are : steps ≡ last.steps
 
--- A chooser in state s named an activity, which took a step, and then one again and again, whose steps nobody else could see: these steps lead
--- from c to d, and the chooser is left in state t. What the first of them prints stands behind the numbers that were printed before.
-pub record IsGone {S : Type 0} (answer : S → List ℕ → ℕ) (after : S → List ℕ → S) (c : CoreValue) (s : S) (numbers : List ℤ) (d : CoreValue) (t : S) (more : List ℤ) : Type 0 where
-  pub act : ℕ
-  pub event : Event
+-- A chooser in state s named one activity again and again, whose steps nobody else could see, and then one that took a step: these steps lead
+-- from c to d, and the chooser is left in state t. What the last of them prints stands behind the numbers that were printed before.
+pub record IsStepOn {S : Type 0} (answer : S → List ℕ → ℕ) (after : S → List ℕ → S) (c : CoreValue) (s : S) (numbers : List ℤ) (d : CoreValue) (t : S) (more : List ℤ) : Type 0 where
+  pub count : ℕ
   pub between : CoreValue
   pub left : S
-  pub count : ℕ
-  pub turn : IsTurn answer after c s act event between left
-  pub within : between.world.steps ≤ steps_bound between.module_run
-  pub stretch : IsStretch answer after between left count d t
+  pub act : ℕ
+  pub event : Event
+  pub stretch : IsStretch answer after c s count between left
+  pub turn : IsTurn answer after between left act event d t
+  pub within : d.world.steps ≤ steps_bound d.module_run
   pub kept : more ≡ numbers ++ option_to_list (number_printed event)
 
--- what became of that: all have ended, and nothing changed; or such steps were taken
+-- or all have ended behind the first of these
+pub record IsEnd {S : Type 0} (answer : S → List ℕ → ℕ) (after : S → List ℕ → S) (c : CoreValue) (s : S) (numbers : List ℤ) (d : CoreValue) (t : S) (more : List ℤ) : Type 0 where
+  pub count : ℕ
+  pub stretch : IsStretch answer after c s count d t
+  pub over : all_ended d.world ≡ true
+  pub kept : more ≡ numbers
+
+-- what became of that
 abbrev pub GoesOn : {S : Type 0} → (S → List ℕ → ℕ) → (S → List ℕ → S) → CoreValue → S → List ℤ → CoreValue → S → List ℤ → Bool → Type 0
-GoesOn answer after c s numbers d t more false = (all_ended c.world ≡ true) × (d ≡ c) × (t ≡ s) × (more ≡ numbers)
-GoesOn answer after c s numbers d t more true = IsGone answer after c s numbers d t more
+GoesOn answer after c s numbers d t more false = IsEnd answer after c s numbers d t more
+GoesOn answer after c s numbers d t more true = IsStepOn answer after c s numbers d t more
 
 -- the run in this order prints these numbers, and takes so many steps
 abbrev pub IsOrderedRun : Order → ModuleValue → List ℤ → ℕ → Type 0

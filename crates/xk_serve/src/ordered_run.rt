@@ -47,7 +47,7 @@ fn run_by<C: Chooser>(
     Ok((printed, steps))
 }
 
-/// One turn, with the steps behind it that nobody else can see, and whether there was one: there is none where all have ended.
+/// The next turns up to one whose step others can see, with that one, and whether there was one: there is none where all have ended.
 #[inline(always)]
 fn take_turn<C: Chooser>(
     driver: &mut Driver<'_>,
@@ -57,11 +57,10 @@ fn take_turn<C: Chooser>(
     ensures { IfOk result (GoesOn C.answer C.after driver.old chooser.old printed.old.items
         driver.new chooser.new printed.new.items) }
 {
-    let Some(turn) = driver.turn(chooser)? else {
+    let Some(turn) = driver.turns(chooser)? else {
         return Ok(false);
     };
     keep(printed, turn.event)?;
-    driver.stretch(chooser, u32::MAX);
     Ok(true)
 }
 

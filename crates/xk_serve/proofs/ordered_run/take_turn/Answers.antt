@@ -1,20 +1,22 @@
-use Rattle.std.proofs.Common.{◌≤◌, subst}
+use Rattle.std.proofs.Common.{◌≤◌, ◌≡◌, subst, sym, None, Some}
 use Rattle.std.specs.Prelude.{IfSome}
 use Rattle.xk_types.specs.Bound.{steps_bound}
-use Rattle.xk_drive.specs.Driving.{IsTaken}
+use Rattle.xk_drive.specs.Stretches.{IsGone}
+use Rattle.xk_serve.proofs.OrderedRuns.{none_left}
 use Rattle.xk_serve.proofs.ordered_run.take_turn.Goals as goal
 
 pub returns : goal.returns
 returns g c =
-    let after = c.turn.new.self in
+    let after = c.turns.new.self in
+    let gone = subst (IsGone g.C.Chooser.answer g.C.Chooser.after c.args.driver.now c.args.chooser.now after c.turns.new.chooser) c.in-Some.is c.in_ok-turns.ensures.gone in
     record {
+      count = gone.count;
+      between = gone.between;
+      left = gone.left;
       act = c.in-Some.turn.act;
       event = c.in-Some.turn.event;
-      between = after;
-      left = c.turn.new.chooser;
-      count = c.stretch.result;
-      turn = subst (IsTaken g.C.Chooser.answer g.C.Chooser.after c.args.driver.now c.args.chooser.now after c.turn.new.chooser) c.in-Some.is c.in_ok-turn.ensures.taken;
-      within = subst (λ o. IfSome o (λ turn. after.world.steps ≤ steps_bound after.module_run)) c.in-Some.is c.in_ok-turn.ensures.bound;
-      stretch = c.stretch.ensures.taken;
+      stretch = gone.stretch;
+      turn = gone.turn;
+      within = subst (λ o. IfSome o (λ turn. after.world.steps ≤ steps_bound after.module_run)) c.in-Some.is c.in_ok-turns.ensures.bound;
       kept = c.in_ok-keep.ensures;
     }
