@@ -5,7 +5,7 @@ ghost use Rattle.std.specs.Bool.{Decides};
 ghost use Rattle.xk_types.specs.declared.names.Value.TheVariants as value;
 ghost use Rattle.xk_types.specs.declared.instr.Instr.TheVariants as instruction;
 ghost use Rattle.xk_types.specs.Code.{IsWithinLimits};
-ghost use Rattle.xk_types.specs.World.{standing_of, opening, instruction_at};
+ghost use Rattle.xk_types.specs.World.{standing_of, opening};
 ghost use Rattle.xk_types.specs.Step.{Stepped, settled, moved, waits, onward, none};
 ghost use Rattle.xk_types.specs.Schedule.{is_step, all_ended};
 ghost use Rattle.xk_types.specs.Bound.{stack_of};
@@ -449,17 +449,6 @@ impl<'m> State<'m> {
         ensures { result ≡ is_running self.now.world a }
     {
         a < self.activities.len() && matches!(self.activities.status(a), Status::Running)
-    }
-
-    /// The instruction that activity a stands at.
-    #[inline(always)]
-    pub fn next(&self, a: usize) -> &'m Instr
-        requires there { a < length self.now.world.activities }
-        requires stands { Stands self.now.module_run (act_at self.now.world.activities a) }
-        ensures { instruction_at self.now.module_run (act_at self.now.world.activities a).frame
-            ≡ Some result.now }
-    {
-        self.activities.next(a)
     }
 
     /// The instruction that activity a carries out next, if it runs.
