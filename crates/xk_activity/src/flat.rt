@@ -39,7 +39,8 @@ fn end_turn(code: &[Instr], place: usize, kinds: &mut [Kind], numbers: &mut [i64
     requires short { length code.now < 2 ^ 16 }
     requires place { place + 1 < 2 ^ 16 }
     requires turn { IsTurnAt code.now (spot_at place (values_of kinds.old numbers.old)) b }
-    ensures { Turned code.now (spot_at place (values_of kinds.old numbers.old)) b (spot_at result (values_of kinds.new numbers.new)) }
+    ensures { Turned code.now (spot_at place (values_of kinds.old numbers.old)) b
+        (spot_at result (values_of kinds.new numbers.new)) }
 {
     match &code[b as usize] {
         Instr::For { k, hi, .. } => {
@@ -56,11 +57,19 @@ fn end_turn(code: &[Instr], place: usize, kinds: &mut [Kind], numbers: &mut [i64
 
 /// Carries out an instruction, and gives the next place; nothing where it concerns more than the frame.
 #[inline(always)]
-fn carry(code: &[Instr], place: usize, kinds: &mut [Kind], numbers: &mut [i64], instr: &Instr) -> Option<usize>
+fn carry(
+    code: &[Instr],
+    place: usize,
+    kinds: &mut [Kind],
+    numbers: &mut [i64],
+    instr: &Instr,
+) -> Option<usize>
     requires short { length code.now < 2 ^ 16 }
     requires place { place + 1 < 2 ^ 16 }
-    requires operands { CanCarry code.now (spot_at place (values_of kinds.old numbers.old)) instr.now }
-    ensures { Carries code.now (spot_at place (values_of kinds.old numbers.old)) instr.now result (values_of kinds.new numbers.new) }
+    requires operands { CanCarry code.now (spot_at place (values_of kinds.old numbers.old))
+        instr.now }
+    ensures { Carries code.now (spot_at place (values_of kinds.old numbers.old)) instr.now result
+        (values_of kinds.new numbers.new) }
 {
     let next = match instr {
         Instr::Lit { d, n } => write(kinds, numbers, *d, *n, place),
@@ -80,9 +89,8 @@ fn carry(code: &[Instr], place: usize, kinds: &mut [Kind], numbers: &mut [i64], 
             let n = number(kinds, numbers, *a).wrapping_mul(number(kinds, numbers, *b));
             write(kinds, numbers, *d, n, place)
         }
-        Instr::Unless { op, a, b, .. } if op.holds(number(kinds, numbers, *a), number(kinds, numbers, *b)) => {
-            place + 1
-        }
+        Instr::Unless { op, a, b, .. }
+            if op.holds(number(kinds, numbers, *a), number(kinds, numbers, *b)) => { place + 1 }
         Instr::Unless { t, .. } | Instr::Jump(t) => *t as usize,
         Instr::For { k, lo, .. } => write(kinds, numbers, *k, *lo, place),
         Instr::Next(b) => end_turn(code, place, kinds, numbers, *b),
@@ -111,23 +119,36 @@ pub(crate) fn is_flat(instr: &Instr) -> bool
 
 /// The next instruction, if it concerns the frame alone, and the next place.
 #[inline(always)]
-pub(crate) fn one(code: &[Instr], place: usize, kinds: &mut [Kind], numbers: &mut [i64]) -> Option<usize>
+pub(crate) fn one(
+    code: &[Instr],
+    place: usize,
+    kinds: &mut [Kind],
+    numbers: &mut [i64],
+) -> Option<usize>
     requires short { length code.now < 2 ^ 16 }
     requires right { IsRight (turn code.now (spot_at place (values_of kinds.old numbers.old))) }
-    ensures { Answers code.now (spot_at place (values_of kinds.old numbers.old)) result (values_of kinds.new numbers.new) }
+    ensures { Answers code.now (spot_at place (values_of kinds.old numbers.old)) result
+        (values_of kinds.new numbers.new) }
 {
     carry(code, place, kinds, numbers, &code[place])
 }
 
 /// Up to max instructions that concern the frame alone: the place then, and how many they were.
 #[inline(never)]
-pub(crate) fn run_flat(code: &[Instr], start: usize, kinds: &mut [Kind], numbers: &mut [i64], max: u32) -> (usize, u32)
+pub(crate) fn run_flat(
+    code: &[Instr],
+    start: usize,
+    kinds: &mut [Kind],
+    numbers: &mut [i64],
+    max: u32,
+) -> (usize, u32)
     requires short { length code.now < 2 ^ 16 }
     requires safe { IsSafe (turn code.now) (spot_at start (values_of kinds.old numbers.old)) }
     ensures ran { ran (turn code.now) (spot_at start (values_of kinds.old numbers.old)) result.1
         ≡ Stepped (spot_at result.0 (values_of kinds.new numbers.new)) }
     ensures most { result.1 ≤ max }
-    ensures stops { (result.1 ≡ max) ⊎ (turn code.now (spot_at result.0 (values_of kinds.new numbers.new)) ≡ Beyond) }
+    ensures stops { (result.1 ≡ max)
+        ⊎ (turn code.now (spot_at result.0 (values_of kinds.new numbers.new)) ≡ Beyond) }
 {
     let mut place = start;
     for n in 0..max {

@@ -1,14 +1,13 @@
 //! The frames of one activity.
 
-ghost use Rattle.std.specs.Prelude.{◌≡◌, ◌⊎◌, ◌+◌, ◌<◌, ◌≤◌, ◌^◌, length, take, drop, Some, IfOk, slice_get, All};
+ghost use Rattle.std.specs.Prelude.{◌≡◌, ◌⊎◌, ◌+◌, ◌<◌, ◌≤◌, ◌^◌, length, Some, IfOk, OnOk, slice_get, All};
 ghost use Rattle.std.specs.Bool.{Decides};
 ghost use Rattle.std.specs.Vec.{vec_capacity};
 ghost use Rattle.xk_types.specs.declared.instr.Instr.{Instr};
 ghost use Rattle.xk_types.specs.Code.{IsWithinLimits};
 ghost use Rattle.xk_types.specs.Shape.{HasShape};
 ghost use Rattle.xk_types.specs.World.{instruction_at, slots_of};
-ghost use Rattle.xk_activity.specs.Local.{Beyond, Stepped, IsRight, IsSafe, local, ran, turn, code_of, spot_of, spot_at, started, begun, called, returning, is_stepped};
-ghost use Rattle.xk_activity.specs.Arm.{Answers};
+ghost use Rattle.xk_activity.specs.Local.{Beyond, Stepped, IsRight, IsSafe, local, ran, turn, code_of, spot_of, started, begun, called, returning, is_stepped};
 ghost use Rattle.xk_activity.specs.Stacked.{CanCall, Does, values_at, placed, with_slot};
 
 use crate::alike::{are_same_callers, are_same_slots};
@@ -180,17 +179,17 @@ impl<'m> Frames<'m> {
         self.stack.value(self.base, s as usize)
     }
 
-    /// What these slots of the present frame hold.
-    pub fn values(&self, alloc: Global, args: &[u16]) -> Result<Vec<Value>, AllocError>
+    /// Lists what these slots of the present frame hold, in place of what the list held.
+    pub fn values(&self, args: &[u16], values: &mut Vec<Value>) -> Result<(), AllocError>
         requires { All (λ s. s < length self.now.frame.slots) args.now }
-        ensures { IfOk result (λ v. v.items ≡ values_at self.now.frame.slots args.now) }
+        ensures { OnOk result (values.new.items ≡ values_at self.now.frame.slots args.now) }
     {
-        let mut values = Vec::with_capacity(alloc, args.len())?;
+        values.clear();
         for s in args {
             let value = self.slot(*s);
             values.push(value)?;
         }
-        Ok(values)
+        Ok(())
     }
 
     /// Writes a slot of the present frame.

@@ -40,6 +40,8 @@ pub struct State<'m> {
     standings: Standings,
     cells: Vec<i64>,
     steps: u64,
+    /// Where the values are listed that are handed to an activity that starts.
+    handed: Vec<Value>,
 }
 
 impl<'m> Model for State<'m> {
@@ -94,6 +96,7 @@ impl<'m> State<'m> {
             standings: Standings::open(alloc, verified.clocks(), places)?,
             cells: program.shared().to_vec(alloc)?,
             steps: 0,
+            handed: Vec::new(alloc),
         })
     }
 
@@ -344,10 +347,10 @@ impl<'m> State<'m> {
         ensures finishes_refused { OnErr result (finishes.new ≡ finishes.old) }
     {
         let alloc = self.activities.allocator();
-        let values = self.activities.values(alloc, a, args)?;
-        let new = self.activities.begin(alloc, a, unit, &values)?;
+        self.activities.frames(a).values(args, &mut self.handed)?;
+        let new = self.activities.begin(alloc, a, unit, &self.handed)?;
         let places = most.slots as usize;
-        let registrations = self.standings.child(alloc, a, places, &values)?;
+        let registrations = self.standings.child(alloc, a, places, &self.handed)?;
         self.activities.reserve()?;
         self.standings.reserve()?;
         finishes.spawned(Act(a as u32), most.finishes)?;

@@ -1,4 +1,4 @@
-use Rattle.std.proofs.Common.{rules, arith, ap, ◌∙◌, sym, length, slice_get, ◌++◌, ◌∷◌, []}
+use Rattle.std.proofs.Common.{arith, ap, ◌∙◌, sym, length, slice_get, ◌++◌, ◌∷◌, []}
 use Rattle.std.proofs.lemmas.List.{length-take-le}
 use Rattle.xk_activity.specs.Stack.{StackValue}
 use Rattle.xk_activity.proofs.Stacks.{one_more}
@@ -17,6 +17,6 @@ push-requires c =
 pub loop-s-preserved : goal.loop-s-preserved
 loop-s-preserved c = (
   ap (λ (x : StackValue). x.items) c.push.ensures ∙ ap (λ xs. xs ++ c.value.result ∷ []) c.loop-s.invariant.0
-  ∙ sym (one_more c.args.stack.now.items c.loop-s.s c.value.result (ap (slice_get c.args.stack.now.items) (omega arith) ∙ c.value.ensures)),
+      ∙ sym (one_more c.args.stack.now.items c.loop-s.s c.value.result (ap (slice_get c.args.stack.now.items) (omega arith) ∙ c.value.ensures)),
   ap (λ (x : StackValue). x.room) c.push.ensures ∙ c.loop-s.invariant.1,
 )

@@ -1,8 +1,5 @@
-use Rattle.std.proofs.Common.{arith, ◌≡◌, ◌+◌, ◌++◌, length, replicate, ap, ◌∙◌, rules, sym}
-use Rattle.std.specs.Prelude.{reverse}
-use Rattle.std.proofs.lemmas.List.{length-replicate, length-append}
-use Rattle.xk_types.specs.declared.names.Value.TheVariants as value
-use Rattle.xk_activity.proofs.Stacking.{own_room, start_stacked}
+use Rattle.std.proofs.Common.{length, ap, rules}
+use Rattle.xk_activity.proofs.Stacking.{own_room}
 use Rattle.xk_activity.proofs.frames.Frames.begin.Goals as goal
 
 pub put-requires : goal.put-requires

@@ -1,4 +1,4 @@
-use Rattle.std.proofs.Common.{rules, arith, ap, length}
+use Rattle.std.proofs.Common.{arith, ap, length}
 use Rattle.xk_activity.specs.Stack.{StackValue}
 use Rattle.xk_activity.proofs.Stacks.{length_of}
 use Rattle.xk_activity.proofs.stack.Stack.room.Goals as goal

@@ -1,6 +1,5 @@
-use Rattle.std.proofs.Common.{ap, ◌∙◌, ◌≡◌, subst, sym, drop}
+use Rattle.std.proofs.Common.{ap, ◌∙◌, subst, sym}
 use Rattle.xk_activity.specs.Local.{Stepped, IsSafe, ran, turn, spot_at}
-use Rattle.xk_activity.specs.Stack.{values_of}
 use Rattle.xk_activity.proofs.Stacks.{base_there, above, below, as_long, drop_of}
 use Rattle.xk_activity.proofs.stack.Stack.run.Goals as goal
 

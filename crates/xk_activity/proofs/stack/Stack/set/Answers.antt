@@ -21,5 +21,5 @@ index_mut-requires-2 c =
 pub returns : goal.returns
 returns c =
     let h = written c.self.inside.kinds.items c.self.inside.numbers.items _ (c.args.base + c.args.s) c.parts_of-kind.result.0 c.parts_of-kind.result.1 c.args.v c.args.self.now c.self.view_is
-        (parts c.args.v c.parts_of-kind.result.0 c.parts_of-kind.result.1 c.parts_of-kind.ensures.kind c.parts_of-kind.ensures.number) in
+    (parts c.args.v c.parts_of-kind.result.0 c.parts_of-kind.result.1 c.parts_of-kind.ensures.kind c.parts_of-kind.ensures.number) in
     search (rules, h)

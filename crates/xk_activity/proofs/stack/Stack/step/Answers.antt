@@ -21,10 +21,10 @@ step_from-requires-clause-right c =
 pub returns-clause-stepped : goal.returns-clause-stepped
 returns-clause-stepped c =
     subst (λ xs. Answers c.args.code.now (spot_at c.args.place xs) c.step_from.result
-        (drop c.args.base (values_of c.step_from.new.kinds.items c.step_from.new.numbers.items)))
+    (drop c.args.base (values_of c.step_from.new.kinds.items c.step_from.new.numbers.items)))
     (above c.self.inside.kinds.items c.self.inside.numbers.items _ c.args.base c.args.self.now c.self.view_is)
     (subst (λ ys. Answers c.args.code.now
-        (spot_at c.args.place (values_of (drop c.args.base c.self.inside.kinds.items) (drop c.args.base c.self.inside.numbers.items))) c.step_from.result ys)
+    (spot_at c.args.place (values_of (drop c.args.base c.self.inside.kinds.items) (drop c.args.base c.self.inside.numbers.items))) c.step_from.result ys)
     (drop_of c.args.base c.step_from.new.kinds.items c.step_from.new.numbers.items) c.step_from.ensures.stepped)
 
 pub returns-clause-below : goal.returns-clause-below
