@@ -1,4 +1,4 @@
-pub mod Cells
+pub mod Stacks
 pub mod Safe
 pub mod Stacking
 pub mod Locals

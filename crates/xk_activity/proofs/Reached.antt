@@ -1,23 +1,22 @@
 -- In each world that a legal schedule of an accepted module reaches, no number of local steps of a running activity is wrong.
 use Rattle.std.specs.Prelude.{slice_set}
-use Rattle.std.proofs.Common.{◌≡◌, ℕ, zero, suc, ◌<◌, ◌++◌, Bool, true, false, cond, List, [], ◌∷◌, length, refl, sym, ap, subst, ◌∙◌, Option, Some, None, slice_get, arith}
+use Rattle.std.proofs.Common.{◌≡◌, ℕ, zero, suc, ◌++◌, Bool, true, false, cond, List, [], ◌∷◌, refl, sym, ap, subst, ◌∙◌, Option, Some, None, slice_get, arith}
 use Rattle.std.proofs.lemmas.Option.{slice_get_within}
 use Rattle.xk_types.specs.declared.names.Event.{Event}
 use Rattle.xk_types.specs.declared.names.Event.TheVariants as event
 use Rattle.xk_types.specs.declared.names.Status.TheVariants as status
-use Rattle.xk_types.specs.declared.names.Value.{Value}
 use Rattle.xk_types.specs.declared.instr.Instr.{Instr}
 use Rattle.xk_types.specs.declared.instr.Instr.TheVariants as instr
 use Rattle.xk_types.specs.Code.{UnitValue, ModuleValue, IsWithinLimits, is_method}
 use Rattle.xk_types.specs.World.{Frame, Activity, World, opening, instruction_at}
 use Rattle.xk_types.specs.Step as world
-use Rattle.xk_types.specs.Schedule.{Course, Through, Wronged, run, run_on, IsReached}
+use Rattle.xk_types.specs.Schedule.{Through, Wronged, run, run_on, IsReached}
 use Rattle.xk_types.specs.Accepted.{IsAccepted}
 use Rattle.xk_laws.proofs.Law.{every_schedule}
 use Rattle.xk_laws.proofs.Reached.{same_through, first_step, run_more}
-use Rattle.xk_activity.specs.Local.{OutcomeOf, Outcome, Beyond, Wrong, Stepped, IsRight, IsSafe, Turn, FramesValue, then_step, ran, in_frame, carried, carried_on, local, local_at, code_of, spot_of, arguments_in, called, calling, returning}
+use Rattle.xk_activity.specs.Local.{Outcome, Beyond, Wrong, Stepped, IsRight, IsSafe, Turn, FramesValue, then_step, ran, in_frame, carried, carried_on, local, local_at, code_of, spot_of, arguments_in, called, calling, returning}
 use Rattle.xk_activity.specs.Stacked.{values_at}
-use Rattle.xk_activity.specs.Joined.{frames_in, with_frames, IsSeen, IsLocally, IsWrong, Agrees}
+use Rattle.xk_activity.specs.Joined.{frames_in, with_frames, Agrees}
 use Rattle.xk_activity.proofs.Joined.{joined}
 use Rattle.xk_activity.proofs.Locals.{arguments_there}
 

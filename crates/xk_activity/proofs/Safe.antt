@@ -1,5 +1,5 @@
 -- Steps one after the other.
-use Rattle.std.proofs.Common.{◌≡◌, ℕ, zero, suc, ◌+◌, refl, sym, subst, ap, ◌∙◌, arith}
+use Rattle.std.proofs.Common.{◌≡◌, ℕ, zero, suc, ◌+◌, subst, ap, ◌∙◌, arith}
 use Rattle.xk_activity.specs.Local.{OutcomeOf, Stepped, then_step, ran, IsSafe, IsRight}
 
 -- where a safe run has come to, the next step isn't wrong

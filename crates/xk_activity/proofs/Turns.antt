@@ -1,6 +1,6 @@
 -- Many steps on the present frame are as many on the frames.
-use Rattle.std.proofs.Common.{◌≡◌, ℕ, zero, suc, refl, sym, subst, ap, ◌∙◌}
-use Rattle.xk_activity.specs.Local.{OutcomeOf, Beyond, Wrong, Stepped, IsRight, IsSafe, Spot, Turn, FramesValue, in_frame, then_step, ran, local, turn, spot_of, frame_on}
+use Rattle.std.proofs.Common.{◌≡◌, ℕ, zero, suc, refl, ap, ◌∙◌}
+use Rattle.xk_activity.specs.Local.{Beyond, Wrong, Stepped, IsRight, IsSafe, Spot, Turn, FramesValue, in_frame, then_step, ran, local, turn, spot_of, frame_on}
 use Rattle.xk_activity.proofs.Locals.{code_now, turn_right, turn_steps}
 use Rattle.xk_activity.proofs.Safe.{safe_here}
 

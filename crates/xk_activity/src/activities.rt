@@ -1,6 +1,6 @@
 //! All activities of a running program, but for their finishes.
 
-ghost use Rattle.std.specs.Prelude.{◌≡◌, ℤ, ℕ, ◌+◌, ◌<◌, ◌≤◌, [], ◌∷◌, ◌++◌, length, map, Some, slice_get, slice_set, option_map, All, IfOk, OnOk};
+ghost use Rattle.std.specs.Prelude.{◌≡◌, ℤ, ℕ, ◌+◌, ◌<◌, ◌≤◌, [], ◌∷◌, ◌++◌, length, Some, slice_set, All, IfOk, OnOk};
 ghost use Rattle.std.specs.Bool.{Decides};
 ghost use Rattle.std.specs.List.{list_all};
 ghost use Rattle.std.specs.Vec.{vec_capacity};
@@ -9,7 +9,6 @@ ghost use Rattle.xk_types.specs.World.{instruction_at, slots_of, main_of, is_end
 ghost use Rattle.xk_types.specs.Step.{governing, child, slot_at, onward, with_slots, arrived, ended, past};
 ghost use Rattle.xk_activity.specs.Local.{IsRight, IsSafe, local, is_stepped};
 ghost use Rattle.xk_activity.specs.Joined.{frames_in};
-ghost use Rattle.xk_activity.specs.Stacked.{values_at};
 ghost use Rattle.xk_activity.specs.Activities.{act_at, with_act_at, Stands, Takes, Runs};
 ghost use Rattle.xk_activity.specs.Ticket.{Fits, handed_in};
 
@@ -142,17 +141,6 @@ impl<'m> Activities<'m> {
     {
         let act = &self.list[a];
         act.clock(s)
-    }
-
-    /// What these slots of it hold.
-    pub fn values(&self, alloc: Global, a: usize, args: &[u16]) -> Result<Vec<Value>, AllocError>
-        requires there { a < length self.now.list }
-        requires slots { All (λ s. s < length (act_at self.now.list a).frame.slots) args.now }
-        ensures { IfOk result
-            (λ v. v.items ≡ values_at (act_at self.now.list a).frame.slots args.now) }
-    {
-        let act = &self.list[a];
-        act.values(alloc, args)
     }
 
     /// It goes on to the next instruction.

@@ -1,16 +1,14 @@
 //! One activity, but for its finishes.
 
-ghost use Rattle.std.specs.Prelude.{◌≡◌, ℤ, ℕ, ◌+◌, ◌<◌, ◌≤◌, length, map, Some, slice_set, All, IfOk};
+ghost use Rattle.std.specs.Prelude.{◌≡◌, ℤ, ℕ, ◌<◌, ◌≤◌, length, Some, slice_set};
 ghost use Rattle.xk_types.specs.declared.names.Value.TheVariants as value;
 ghost use Rattle.xk_types.specs.World.{instruction_at, is_ended, root};
 ghost use Rattle.xk_types.specs.Step.{governing, slot_at, onward, with_slots, arrived, ended, past};
 ghost use Rattle.xk_activity.specs.Local.{IsRight, IsSafe, local, is_stepped};
 ghost use Rattle.xk_activity.specs.Joined.{frames_in, with_frames};
-ghost use Rattle.xk_activity.specs.Stacked.{values_at};
 ghost use Rattle.xk_activity.specs.Activities.{fresh, with_act, Stands, Takes, Runs};
 
 use crate::frames::{Frames, Next};
-use std::alloc::{AllocError, Global};
 use std::marker::Model;
 use xk_types::{ClockId, Instr, Status, Value};
 
@@ -121,14 +119,6 @@ impl<'m> Activity<'m> {
             Value::Clock(c) => c,
             _ => unreachable!(),
         }
-    }
-
-    /// What these slots hold.
-    pub(crate) fn values(&self, alloc: Global, args: &[u16]) -> Result<Vec<Value>, AllocError>
-        requires { All (λ s. s < length self.now.act.frame.slots) args.now }
-        ensures { IfOk result (λ v. v.items ≡ values_at self.now.act.frame.slots args.now) }
-    {
-        self.frames.values(alloc, args)
     }
 
     /// On to the next instruction.

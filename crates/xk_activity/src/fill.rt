@@ -1,4 +1,4 @@
-//! Cells put on a stack that has room for them.
+//! Slots put on a stack that has room for them.
 
 ghost use Rattle.std.specs.Prelude.{◌≡◌, ◌+◌, ◌<◌, ◌≤◌, ◌++◌, drop, length, replicate, All, IfOk};
 ghost use Rattle.std.specs.Vec.{vec_len, vec_capacity};
@@ -6,54 +6,52 @@ ghost use Rattle.xk_types.specs.declared.names.Value.TheVariants as value;
 ghost use Rattle.xk_activity.specs.Stacked.{values_at};
 
 use crate::caller::Caller;
-use crate::cell::Cell;
+use crate::stack::Stack;
 use std::alloc::{AllocError, Global};
 use xk_types::Value;
 
-/// This many cells more, to which nothing was written yet.
-pub(crate) fn fill(stack: &mut Vec<Cell>, size: usize)
-    requires { vec_len stack.old + size ≤ vec_capacity stack.old }
+/// This many slots more, to which nothing was written yet.
+pub(crate) fn fill(stack: &mut Stack, size: usize)
+    requires { length stack.old.items + size ≤ stack.old.room }
     ensures items { stack.new.items ≡ stack.old.items ++ replicate size value.Unset }
-    ensures capacity { vec_capacity stack.new ≡ vec_capacity stack.old }
+    ensures room { stack.new.room ≡ stack.old.room }
 {
     for _ in 0..size {
-        stack.push_reserved(Cell::unset());
+        stack.push(Value::Unset);
     }
 }
 
 /// The values of these slots of the frame that begins at base.
-pub(crate) fn hand(stack: &mut Vec<Cell>, base: usize, args: &[u16])
-    requires room { vec_len stack.old + length args.now ≤ vec_capacity stack.old }
-    requires slots { All (λ s. base + s < vec_len stack.old) args.now }
+pub(crate) fn hand(stack: &mut Stack, base: usize, args: &[u16])
+    requires room { length stack.old.items + length args.now ≤ stack.old.room }
+    requires slots { All (λ s. base + s < length stack.old.items) args.now }
     ensures items { stack.new.items
         ≡ stack.old.items ++ values_at (drop base stack.old.items) args.now }
-    ensures capacity { vec_capacity stack.new ≡ vec_capacity stack.old }
+    ensures room { stack.new.room ≡ stack.old.room }
 {
     for s in args {
-        let cell = stack[base + *s as usize];
-        stack.push_reserved(cell);
+        stack.push_again(base, *s as usize);
     }
 }
 
 /// These values.
-pub(crate) fn put(stack: &mut Vec<Cell>, values: &[Value])
-    requires { vec_len stack.old + length values.now ≤ vec_capacity stack.old }
+pub(crate) fn put(stack: &mut Stack, values: &[Value])
+    requires { length stack.old.items + length values.now ≤ stack.old.room }
     ensures items { stack.new.items ≡ stack.old.items ++ values.now }
-    ensures capacity { vec_capacity stack.new ≡ vec_capacity stack.old }
+    ensures room { stack.new.room ≡ stack.old.room }
 {
     for v in values {
-        stack.push_reserved(Cell::of(*v));
+        stack.push(*v);
     }
 }
 
-/// The same cells, with the same room.
-pub(crate) fn copy_cells(alloc: Global, stack: &Vec<Cell>) -> Result<Vec<Cell>, AllocError>
-    ensures items { IfOk result (λ v. v.items ≡ stack.now.items) }
-    ensures capacity { IfOk result (λ v. vec_capacity v ≡ vec_capacity stack.now) }
+/// The same slots, with the same room.
+pub(crate) fn copy_slots(alloc: Global, stack: &Stack) -> Result<Stack, AllocError>
+    ensures { IfOk result (λ s. s ≡ stack.now) }
 {
-    let mut copy = Vec::with_capacity(alloc, stack.capacity())?;
-    for cell in stack {
-        copy.push_reserved(*cell);
+    let mut copy = Stack::with_room(alloc, stack.room())?;
+    for s in 0..stack.len() {
+        copy.push(stack.value(0, s));
     }
     Ok(copy)
 }

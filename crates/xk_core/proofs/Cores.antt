@@ -106,11 +106,6 @@ pub at_ok : {A E : Type 0} (P : Type 0) (r : Result A E) → P → OnOk r P
 at_ok P (Ok x) p = p
 at_ok P (Err e) p = tt
 
--- and at Err
-pub at_err : {A E : Type 0} (P : Type 0) (r : Result A E) → P → OnErr r P
-at_err P (Ok x) p = tt
-at_err P (Err e) p = p
-
 -- what follows from what holds at Err
 pub err_on : {A E : Type 0} (P Q : Type 0) (r : Result A E) → (P → Q) → OnErr r P → OnErr r Q
 err_on P Q (Ok x) f h = tt

@@ -2,7 +2,7 @@
 use Rattle.std.proofs.Common.{◌≡◌, ℕ, ◌<◌, true, false, List, length, Option, Some, None, refl, sym, ap, ◌∙◌, subst, slice_get, slice_set}
 use Rattle.std.specs.Option.{option_map_or}
 use Rattle.std.proofs.lemmas.Bool.{false≢true}
-use Rattle.std.proofs.lemmas.Option.{same_Some, slice_get_within, get_or_from_slice_get}
+use Rattle.std.proofs.lemmas.Option.{none-some, same_Some, slice_get_within, get_or_from_slice_get}
 use Rattle.xk_types.specs.declared.instr.Instr.{Instr}
 use Rattle.xk_types.specs.declared.instr.Instr.TheVariants as instr
 use Rattle.xk_types.specs.declared.names.Status.{Status}
@@ -21,7 +21,7 @@ use Rattle.xk_activity.specs.Activities.{Stands, act_at, nobody}
 use Rattle.xk_activity.proofs.Joined.{joined}
 use Rattle.xk_activity.proofs.Reached.{reached_safe}
 use Rattle.xk_core.specs.Arm.{concerns_finishes, is_visible, carried, IsLast}
-use Rattle.xk_core.specs.Core.{CoreValue, TakesStep, Locally, IsBeyond, is_arrived, is_running, is_waiting, runs_now, next_instruction, instruction_of, instruction_by}
+use Rattle.xk_core.specs.Core.{CoreValue, TakesStep, Locally, IsBeyond, is_arrived, is_running, is_waiting, runs_now, next_instruction, next_of, instruction_of, instruction_by}
 use Rattle.xk_core.specs.Told.{with_node, with_nodes, with_finishes, AreTold}
 use Rattle.xk_core.proofs.Beyond.{visible_there, nobody_waits}
 use Rattle.xk_core.proofs.Cores.{carry_step}
@@ -83,23 +83,6 @@ module _ (m : ModuleValue) (ns : List NodeValue) (w : World) (a : ℕ) (h : IsHe
     at_next : next_instruction m (with_finishes ns w) a ≡ Some at.0
     at_next = ap (instruction_of m) r.both ∙ ap (instruction_by m (with_node r.n r.x)) r.running ∙ at.1
 
-    pub here_next : (i : Instr) → instruction_at m (act_at w.activities a).frame ≡ Some i → next_instruction m (with_finishes ns w) a ≡ Some i
-    here_next i e = ap (instruction_of m) r.both ∙ ap (instruction_by m (with_node r.n r.x)) r.running ∙ subst (λ (x : Activity). instruction_at m x.frame ≡ Some i) act_is e
-
-    -- where others can see its next step
-    module _ (beyond : IsBeyond (record { module_run = m; world = with_finishes ns w }) a) (i : Instr)
-        (here : instruction_at m (act_at w.activities a).frame ≡ Some i) where
-      seen : frames.carried_on (frames_in m r.x) i ≡ frames.Beyond
-      seen = sym (ap (frames.local_at (frames_in m r.x)) (subst (λ (x : Activity). instruction_at m x.frame ≡ Some i) act_is here))
-          ∙ subst (λ x. frames.local (frames_in m x) ≡ frames.Beyond) (get_or_from_slice_get (with_nodes ns w.activities) a (with_node r.n r.x) nobody r.both) beyond
-
-      pub beyond_visible : is_visible i ≡ true
-      beyond_visible = visible_there (frames_in m r.x) i seen
-
-      pub beyond_last : i ≡ instr.Ret → IsLast (with_finishes ns w) a
-      beyond_last ret act there = ap (λ (x : Activity). x.callers) (same_Some act (with_node r.n r.x) (sym there ∙ r.both))
-          ∙ nobody_waits (frames_in m r.x) r.x.callers (subst (λ j. frames.carried_on (frames_in m r.x) j ≡ frames.Beyond) ret seen)
-
     module _ (enabled : is_enabled m (with_finishes ns w) a ≡ true) where
       local_goes : (fs : frames.FramesValue) → frames.local (frames_in m (act_at w.activities a)) ≡ frames.Stepped fs → (v : World)
           → v ≡ settled (record w { activities = slice_set w.activities a (with_frames (act_at w.activities a) fs); clocks = moved a none w.clocks })
@@ -154,15 +137,34 @@ waiting_told ns w width a = by (told_at ns w.activities width a)
     by (Somebody n x k e g) = ap (λ o. option_map_or (λ (act : Activity). is_arrived act.status) o false) g
         ∙ sym (ap (λ o. option_map_or (λ (act : Activity). is_arrived act.status) o false) e)
 
--- who doesn't has no next instruction
-pub none_next : (m : ModuleValue) (w : World) (a : ℕ) → is_running w a ≡ false → next_instruction m w a ≡ None
-none_next m w a h = by (slice_get w.activities a) h
-  where
-    go : (act : Activity) (s : Status) → runs_now s ≡ false → instruction_by m act s ≡ None
-    go act status.Running q = absurd (false≢true (sym q))
-    go act status.Arrived q = refl
-    go act status.Ended q = refl
+-- ---- at an instruction whose step others can see
 
-    by : (o : Option Activity) → option_map_or (λ (act : Activity). runs_now act.status) o false ≡ false → instruction_of m o ≡ None
-    by None q = refl
-    by (Some act) q = go act act.status q
+module _ (c : CoreValue) (a : ℕ) (i : Instr) (here : next_of c a ≡ Some i) (beyond : IsBeyond c a) where
+  -- who stands there
+  record Standing : Type 0 where
+    pub x : Activity
+    pub found : slice_get c.world.activities a ≡ Some x
+    pub at : instruction_at c.module_run x.frame ≡ Some i
+
+  who : Standing
+  who = of (slice_get c.world.activities a) refl here
+    where
+      by : (x : Activity) (s : Status) → slice_get c.world.activities a ≡ Some x → instruction_by c.module_run x s ≡ Some i → Standing
+      by x status.Running e f = record { x = x; found = e; at = f }
+      by x status.Arrived e f = absurd (none-some i f)
+      by x status.Ended e f = absurd (none-some i f)
+
+      of : (o : Option Activity) → slice_get c.world.activities a ≡ o → instruction_of c.module_run o ≡ Some i → Standing
+      of None e f = absurd (none-some i f)
+      of (Some x) e f = by x x.status e f
+
+  seen : frames.carried_on (frames_in c.module_run who.x) i ≡ frames.Beyond
+  seen = sym (ap (frames.local_at (frames_in c.module_run who.x)) who.at)
+      ∙ subst (λ x. frames.local (frames_in c.module_run x) ≡ frames.Beyond) (get_or_from_slice_get c.world.activities a who.x nobody who.found) beyond
+
+  pub beyond_visible : is_visible i ≡ true
+  beyond_visible = visible_there (frames_in c.module_run who.x) i seen
+
+  pub beyond_last : i ≡ instr.Ret → IsLast c.world a
+  beyond_last ret act there = ap (λ (x : Activity). x.callers) (same_Some act who.x (sym there ∙ who.found))
+      ∙ nobody_waits (frames_in c.module_run who.x) who.x.callers (subst (λ j. frames.carried_on (frames_in c.module_run who.x) j ≡ frames.Beyond) ret seen)

@@ -6,7 +6,7 @@ ghost use Rattle.xk_types.specs.World.{opening};
 ghost use Rattle.xk_types.specs.Step.{Stepped, step, waits};
 ghost use Rattle.xk_types.specs.Schedule.{IsReached, is_enabled, all_ended};
 ghost use Rattle.xk_types.specs.Bound.{steps_bound};
-ghost use Rattle.xk_core.specs.Core.{is_running, Locally, IsBeyond, next_instruction, next_of, governor, opening_core, StepsTo, WantsMemory, IsCore, IsLeastEnabled, is_about_to_start, is_quiet, advanced_now, is_held_back_by, is_registered_on, is_next_local, with_world, is_waiting};
+ghost use Rattle.xk_core.specs.Core.{is_running, Locally, next_instruction, next_of, governor, opening_core, StepsTo, WantsMemory, IsCore, IsLeastEnabled, is_about_to_start, is_quiet, advanced_now, is_held_back_by, is_registered_on, is_next_local, with_world, is_waiting};
 ghost use Rattle.xk_core.specs.Stretch.{RunsTo, AreLocal, IsUnseen, after_steps};
 ghost use Rattle.xk_core.specs.Handed.{Accepts};
 ghost use Rattle.xk_activity.specs.Activities.{act_at};
@@ -324,12 +324,42 @@ impl<'m> Core<'m> {
         ensures refused { OnErr result (self.new ≡ self.old) }
         ensures only_where_it_grows { OnErr result (WantsMemory self.old act) }
     {
-        match self.state.runs(act.0 as usize) {
-            false => Ok(self.pass(act)),
-            true => match self.local(act) {
-                Next::Stepped => Ok(Event::Local),
-                Next::Visible => self.visible(act),
-            },
+        match self.next_instruction(act.0 as usize) {
+            Some(instr) => self.carry_on(act, instr),
+            None => Ok(self.pass(act)),
+        }
+    }
+
+    /// A running activity carries out its next instruction.
+    #[inline(always)]
+    fn carry_on(&mut self, act: Act, instr: &Instr) -> Result<Event, AllocError>
+        requires enabled { IsTrue (is_enabled self.old.module_run self.old.world act) }
+        requires here { next_of self.old act ≡ Some instr.now }
+        ensures stepped { IfOk result (StepsTo self.old act self.new) }
+        ensures same_module { self.new.module_run ≡ self.old.module_run }
+        ensures refused { OnErr result (self.new ≡ self.old) }
+        ensures only_where_it_grows { OnErr result (WantsMemory self.old act) }
+    {
+        match instr {
+            Instr::Finish(e) => Ok(self.open_finish(act, *e)),
+            Instr::EndFinish(b) => Ok(self.close_finish(act, *b)),
+            Instr::Spawn { unit, args } => self.start(act, *unit, args),
+            _ => Ok(self.go_by(act, instr)),
+        }
+    }
+
+    /// A running activity carries out its next instruction, which opens or closes no finish, and starts no activity.
+    #[inline(always)]
+    fn go_by(&mut self, act: Act, instr: &Instr) -> Event
+        requires enabled { is_enabled self.old.module_run self.old.world act ≡ true }
+        requires here { next_of self.old act ≡ Some instr.now }
+        requires plain { concerns_finishes instr.now ≡ false }
+        ensures stepped { StepsTo self.old act self.new result }
+        ensures same_module { self.new.module_run ≡ self.old.module_run }
+    {
+        match self.local(act) {
+            Next::Stepped => Event::Local,
+            Next::Visible => self.carry_out(act, instr),
         }
     }
 
@@ -342,24 +372,6 @@ impl<'m> Core<'m> {
         ensures same_module { self.new.module_run ≡ self.old.module_run }
     {
         self.state.local(act.0 as usize)
-    }
-
-    /// A running activity carries out its next instruction, which others can see.
-    fn visible(&mut self, act: Act) -> Result<Event, AllocError>
-        requires enabled { IsTrue (is_enabled self.old.module_run self.old.world act) }
-        requires runs { is_running self.old.world act ≡ true }
-        requires beyond { IsBeyond self.old act }
-        ensures stepped { IfOk result (StepsTo self.old act self.new) }
-        ensures same_module { self.new.module_run ≡ self.old.module_run }
-        ensures refused { OnErr result (self.new ≡ self.old) }
-        ensures only_where_it_grows { OnErr result (WantsMemory self.old act) }
-    {
-        match self.state.next(act.0 as usize) {
-            Instr::Finish(e) => Ok(self.open_finish(act, *e)),
-            Instr::EndFinish(b) => Ok(self.close_finish(act, *b)),
-            Instr::Spawn { unit, args } => self.start(act, *unit, args),
-            instr => Ok(self.carry_out(act, instr)),
-        }
     }
 
     /// The activity passes the `advance` that it waits at.

@@ -5,7 +5,7 @@ ghost use Rattle.std.specs.Bool.{Decides};
 ghost use Rattle.xk_types.specs.declared.names.Value.TheVariants as value;
 ghost use Rattle.xk_types.specs.declared.instr.Instr.TheVariants as instruction;
 ghost use Rattle.xk_types.specs.Code.{IsWithinLimits};
-ghost use Rattle.xk_types.specs.World.{standing_of, opening, instruction_at};
+ghost use Rattle.xk_types.specs.World.{standing_of, opening};
 ghost use Rattle.xk_types.specs.Step.{Stepped, settled, moved, waits, onward, none};
 ghost use Rattle.xk_types.specs.Schedule.{is_step, all_ended};
 ghost use Rattle.xk_types.specs.Bound.{stack_of};
@@ -40,6 +40,8 @@ pub struct State<'m> {
     standings: Standings,
     cells: Vec<i64>,
     steps: u64,
+    /// Where the values are listed that are handed to an activity that starts.
+    handed: Vec<Value>,
 }
 
 impl<'m> Model for State<'m> {
@@ -94,6 +96,7 @@ impl<'m> State<'m> {
             standings: Standings::open(alloc, verified.clocks(), places)?,
             cells: program.shared().to_vec(alloc)?,
             steps: 0,
+            handed: Vec::new(alloc),
         })
     }
 
@@ -344,10 +347,10 @@ impl<'m> State<'m> {
         ensures finishes_refused { OnErr result (finishes.new ≡ finishes.old) }
     {
         let alloc = self.activities.allocator();
-        let values = self.activities.values(alloc, a, args)?;
-        let new = self.activities.begin(alloc, a, unit, &values)?;
+        self.activities.frames(a).values(args, &mut self.handed)?;
+        let new = self.activities.begin(alloc, a, unit, &self.handed)?;
         let places = most.slots as usize;
-        let registrations = self.standings.child(alloc, a, places, &values)?;
+        let registrations = self.standings.child(alloc, a, places, &self.handed)?;
         self.activities.reserve()?;
         self.standings.reserve()?;
         finishes.spawned(Act(a as u32), most.finishes)?;
@@ -449,17 +452,6 @@ impl<'m> State<'m> {
         ensures { result ≡ is_running self.now.world a }
     {
         a < self.activities.len() && matches!(self.activities.status(a), Status::Running)
-    }
-
-    /// The instruction that activity a stands at.
-    #[inline(always)]
-    pub fn next(&self, a: usize) -> &'m Instr
-        requires there { a < length self.now.world.activities }
-        requires stands { Stands self.now.module_run (act_at self.now.world.activities a) }
-        ensures { instruction_at self.now.module_run (act_at self.now.world.activities a).frame
-            ≡ Some result.now }
-    {
-        self.activities.next(a)
     }
 
     /// The instruction that activity a carries out next, if it runs.

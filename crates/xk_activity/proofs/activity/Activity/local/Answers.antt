@@ -1,5 +1,4 @@
 use Rattle.std.proofs.Common.{subst, refl}
-use Rattle.xk_types.specs.World.{root}
 use Rattle.xk_activity.specs.Joined.{with_frames}
 use Rattle.xk_activity.specs.Activities.{ActivityValue, Takes, fresh}
 use Rattle.xk_activity.proofs.Acts.{taken}

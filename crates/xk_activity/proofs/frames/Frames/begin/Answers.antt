@@ -1,16 +1,13 @@
-use Rattle.std.proofs.Common.{arith, ◌≡◌, ◌+◌, ◌++◌, length, replicate, ap, ◌∙◌, rules, sym}
-use Rattle.std.specs.Prelude.{reverse}
-use Rattle.std.proofs.lemmas.List.{length-replicate, length-append}
-use Rattle.xk_types.specs.declared.names.Value.TheVariants as value
-use Rattle.xk_activity.proofs.Stacking.{own_room, start_stacked}
+use Rattle.std.proofs.Common.{length, ap, rules}
+use Rattle.xk_activity.proofs.Stacking.{own_room}
 use Rattle.xk_activity.proofs.frames.Frames.begin.Goals as goal
 
 pub put-requires : goal.put-requires
 put-requires c =
     let o = own_room c.args.verified.now c.args.unit c.size_of-size.ensures.shape c.requires.unit in
-    let e = c.in_ok-stack.ensures.exact in
+    let e = c.in_ok-stack.ensures.room in
     let f = c.room-room.ensures.slots in
-    let l = ap length c.in_ok-stack.ensures.items in
+    let l = ap length c.in_ok-stack.ensures.empty in
     search (rules, o.0)
 
 pub fill-requires : goal.fill-requires

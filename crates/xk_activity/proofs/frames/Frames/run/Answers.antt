@@ -1,4 +1,4 @@
-use Rattle.std.proofs.Common.{◌≡◌, ◌+◌, ◌≤◌, ap, sym, ◌∙◌, arith}
+use Rattle.std.proofs.Common.{◌+◌, ap, sym, ◌∙◌, arith}
 use Rattle.xk_activity.specs.Local.{Stepped, local}
 use Rattle.xk_activity.proofs.Safe.{safe_here, safe_on, ran_more, ran_on}
 use Rattle.xk_activity.proofs.frames.Frames.run.Goals as goal

@@ -1,4 +1,4 @@
-use Rattle.std.proofs.Common.{◌≡◌, ℕ, ◌+◌, ◌<◌, ◌≤◌, refl, length-set, true, subst, sym, ◌∙◌, ap, length, slice_set, [], ◌∷◌, ◌++◌, map, arith, List}
+use Rattle.std.proofs.Common.{◌≡◌, ℕ, ◌+◌, ◌<◌, ◌≤◌, refl, length-set, true, subst, sym, ◌∙◌, ap, length, slice_set, [], ◌∷◌, ◌++◌, map, arith, List, All}
 use Rattle.std.proofs.lemmas.List.{length-map, length_push}
 use Rattle.std.proofs.lemmas.Option.{slice_get_within}
 use Rattle.xk_types.specs.declared.instr.Instr.TheVariants as instruction
@@ -9,6 +9,7 @@ use Rattle.xk_types.specs.World.{Activity, Clock, World, base_unit}
 use Rattle.xk_types.specs.Step.{Stepped, is_given, joined, onward, child, settled_clock}
 use Rattle.xk_types.specs.Schedule.{is_step}
 use Rattle.xk_activity.specs.Activities.{ActivitiesValue, act_at}
+use Rattle.xk_activity.specs.Local.{FramesValue}
 use Rattle.xk_activity.specs.Stacked.{values_at, value_at}
 use Rattle.xk_core.specs.Arm.{carried}
 use Rattle.xk_core.specs.Core.{CoreValue}
@@ -23,12 +24,12 @@ use Rattle.xk_core.specs.Reserved.{AreReserved}
 use Rattle.xk_core.proofs.Reserving.{reserved_more, onward_base}
 use Rattle.xk_core.proofs.state.State.spawn.Goals as goal
 
-pub values-requires-clause-slots : goal.values-requires-clause-slots
-values-requires-clause-slots c =
+pub values-requires : goal.values-requires
+values-requires c =
     let m = c.self.inside.activities.module_run in
     let w : World = record { activities = c.self.inside.activities.list; clocks = told_of c.self.inside.standings; cells = c.self.inside.cells.items; steps = c.self.inside.steps } in
     let can = subst (λ (v : CoreValue). is_step (carried v.module_run v.world c.args.a (instruction.Spawn c.args.unit c.args.args.now)) ≡ true) (sym c.self.view_is) c.requires.enabled in
-    (spawn_here m w c.args.a c.args.unit c.args.args.now can).2.slots
+    subst (λ (f : FramesValue). All (λ s. s < length f.frame.slots) c.args.args.now) (sym c.frames.ensures) (spawn_here m w c.args.a c.args.unit c.args.args.now can).2.slots
 
 pub begin-requires-clause-unit : goal.begin-requires-clause-unit
 begin-requires-clause-unit c =
@@ -46,7 +47,8 @@ begin-requires-clause-fits c =
     let limits : IsWithinLimits m = subst (λ (v : CoreValue). IsWithinLimits v.module_run) (sym c.self.view_is) c.requires.limits in
     let fits = spawn_fits m w c.args.a c.args.unit c.args.args.now limits can in
     let slots : List Value = (act_at w.activities c.args.a).frame.slots in
-    let long = ap (λ (l : List Value). length l) (c.deref.ensures.value ∙ c.in_ok-values.ensures) ∙ length-map c.args.args.now (value_at slots) in
+    let listed = c.in_ok-values.ensures ∙ ap (λ (f : FramesValue). values_at f.frame.slots c.args.args.now) c.frames.ensures in
+    let long = ap (λ (l : List Value). length l) (c.deref.ensures.value ∙ listed) ∙ length-map c.args.args.now (value_at slots) in
     omega (arith, fits, long)
 
 pub admit-requires-clause-handed_on : goal.admit-requires-clause-handed_on
@@ -64,6 +66,7 @@ invariant_of-self-2 c =
     let w : World = record { activities = c.self.inside.activities.list; clocks = told_of c.self.inside.standings; cells = c.self.inside.cells.items; steps = c.self.inside.steps } in
     let act : Activity = act_at w.activities c.args.a in
     let values : List Value = values_at act.frame.slots c.args.args.now in
+    let listed = c.in_ok-values.ensures ∙ ap (λ (f : FramesValue). values_at f.frame.slots c.args.args.now) c.frames.ensures in
     let new : Activity = child m c.args.a act c.args.unit values in
     let room : ℕ = c.in_ok-registrations.registrations.room in
     let acts : c.admit-2.new.self.list ≡ slice_set w.activities c.args.a (onward act) ++ new ∷ [] =
@@ -71,7 +74,7 @@ invariant_of-self-2 c =
     ∙ ap (λ (v : ActivitiesValue). v.list ++ c.in_ok-new.new.act ∷ []) c.go_on.ensures
     ∙ ap (λ (l : List Activity). slice_set l c.args.a (onward (act_at l c.args.a)) ++ c.in_ok-new.new.act ∷ []) c.reserve.ensures.list
     ∙ ap (λ (x : Activity). slice_set w.activities c.args.a (onward act) ++ x ∷ [])
-    (c.in_ok-new.ensures.activity c.args.a ∙ ap (λ (l : List Value). child m c.args.a act c.args.unit l) (c.deref.ensures.value ∙ c.in_ok-values.ensures)) in
+    (c.in_ok-new.ensures.activity c.args.a ∙ ap (λ (l : List Value). child m c.args.a act c.args.unit l) (c.deref.ensures.value ∙ listed)) in
     let same : c.admit-2.new.self.module_run ≡ m =
     ap (λ (v : ActivitiesValue). v.module_run) c.admit-2.ensures ∙ ap (λ (v : ActivitiesValue). v.module_run) c.go_on.ensures ∙ c.reserve.ensures.module in
     let clocks : (rooms_of c.admit.new.self).clocks ≡ (rooms_of c.self.inside.standings).clocks =
@@ -102,17 +105,18 @@ returns-clause-started c =
     let lt : c.args.a < length w.activities = carried_within m w c.args.a (instruction.Spawn c.args.unit c.args.args.now) can in
     let act : Activity = act_at w.activities c.args.a in
     let values : List Value = values_at act.frame.slots c.args.args.now in
+    let listed = c.in_ok-values.ensures ∙ ap (λ (f : FramesValue). values_at f.frame.slots c.args.args.now) c.frames.ensures in
     let s = spawn_here m w c.args.a c.args.unit c.args.args.now can in
     let clocks : told_of c.admit.new.self ≡ map (settled_clock (w.steps + 1)) (joined c.args.a (is_given values) w.clocks) =
     joins (w.steps + 1) c.self.inside.standings c.reserve-2.new.self c.admit.new.self c.args.a (is_given c.deref-2.result.now) c.in_ok-registrations.registrations.list
     c.reserve-2.ensures.numbers c.reserve-2.ensures.held c.admit.ensures.told (omega (arith, lt, c.self.invariant)) c.in_ok-registrations.ensures.given
-    ∙ ap (λ (l : List Value). map (settled_clock (w.steps + 1)) (joined c.args.a (is_given l) w.clocks)) (c.deref-2.ensures.value ∙ c.in_ok-values.ensures) in
+    ∙ ap (λ (l : List Value). map (settled_clock (w.steps + 1)) (joined c.args.a (is_given l) w.clocks)) (c.deref-2.ensures.value ∙ listed) in
     let acts : c.admit-2.new.self.list ≡ slice_set w.activities c.args.a (onward act) ++ child m c.args.a act c.args.unit values ∷ [] =
     ap (λ (v : ActivitiesValue). v.list) c.admit-2.ensures
     ∙ ap (λ (v : ActivitiesValue). v.list ++ c.in_ok-new.new.act ∷ []) c.go_on.ensures
     ∙ ap (λ (l : List Activity). slice_set l c.args.a (onward (act_at l c.args.a)) ++ c.in_ok-new.new.act ∷ []) c.reserve.ensures.list
     ∙ ap (λ (x : Activity). slice_set w.activities c.args.a (onward act) ++ x ∷ [])
-    (c.in_ok-new.ensures.activity c.args.a ∙ ap (λ (l : List Value). child m c.args.a act c.args.unit l) (c.deref.ensures.value ∙ c.in_ok-values.ensures)) in
+    (c.in_ok-new.ensures.activity c.args.a ∙ ap (λ (l : List Value). child m c.args.a act c.args.unit l) (c.deref.ensures.value ∙ listed)) in
     subst (λ (v : CoreValue). carried v.module_run v.world c.args.a (instruction.Spawn c.args.unit c.args.args.now)
     ≡ Stepped (record { activities = c.admit-2.new.self.list; clocks = told_of c.admit.new.self; cells = w.cells; steps = w.steps + 1 }) event.Spawned) c.self.view_is
     (s.2.goes
