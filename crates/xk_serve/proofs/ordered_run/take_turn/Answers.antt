@@ -8,7 +8,7 @@ use Rattle.xk_serve.proofs.ordered_run.take_turn.Goals as goal
 pub returns : goal.returns
 returns g c =
     let after = c.turns.new.self in
-    let gone = subst (IsGone g.C.Chooser.answer g.C.Chooser.after c.args.driver.now c.args.chooser.now after c.turns.new.chooser) c.in-Some.is c.in_ok-turns.ensures.gone in
+    let gone = subst (IsGone g.C.Chooser.answer g.C.Chooser.after c.args.driver.now c.args.chooser.now after c.turns.new.chooser) c.in-Some.is c.in_ok-turn.ensures.gone in
     record {
       count = gone.count;
       between = gone.between;
@@ -17,6 +17,6 @@ returns g c =
       event = c.in-Some.turn.event;
       stretch = gone.stretch;
       turn = gone.turn;
-      within = subst (λ o. IfSome o (λ turn. after.world.steps ≤ steps_bound after.module_run)) c.in-Some.is c.in_ok-turns.ensures.bound;
+      within = subst (λ o. IfSome o (λ turn. after.world.steps ≤ steps_bound after.module_run)) c.in-Some.is c.in_ok-turn.ensures.bound;
       kept = c.in_ok-keep.ensures;
     }
