@@ -8,7 +8,6 @@ use Rattle.xk_types.specs.declared.names.Value.TheVariants as value
 use Rattle.xk_activity.specs.declared.stack.Kind.{Kind}
 use Rattle.xk_activity.specs.declared.stack.Kind.TheVariants as kind
 use Rattle.xk_activity.specs.Stack.{StackValue, value_of, kind_of, number_of, values_of}
-use Rattle.xk_activity.specs.Stacked.{value_at}
 
 pub again : (v : Value) → value_of (kind_of v) (number_of v) ≡ v
 again value.Unset = refl
@@ -84,11 +83,6 @@ pub number_read : (ks : List Kind) (ns : List ℤ) (i : ℕ) (n r d : ℤ) → s
     → slice_get (values_of ks ns) i ≡ Some (value.Number r)
 number_read ks ns i n r d e is = e ∙ ap (λ m. Some (value.Number m)) (sym (get_or_from_slice_get ns i n d (number_of_slot ks ns i n e)) ∙ sym is)
 
-pub value_read : (ks : List Kind) (ns : List ℤ) (i : ℕ) (k : Kind) (n : ℤ) (v : Value) → i < length (values_of ks ns) → k ≡ get_or ks i k → n ≡ get_or ns i n
-    → v ≡ value_of k n → slice_get (values_of ks ns) i ≡ Some v
-value_read ks ns i k n v lt ek en ev =
-    get_of ks ns i k n lt ∙ ap (λ x. Some (value_of x (get_or ns i n))) (sym ek) ∙ ap (λ x. Some (value_of k x)) (sym en) ∙ ap Some (sym ev)
-
 -- ---- a stack of these lists
 
 abbrev pub stack_on : List Kind → List ℤ → ℕ → StackValue
@@ -112,12 +106,6 @@ base_there ks ns room b now view e le =
     let h = subst (λ (v : StackValue). b ≤ length v.items) (sym view) le in
     let l = length_of ks ns e in (omega arith, omega arith)
 
-pub value_there : (ks : List Kind) (ns : List ℤ) (room s : ℕ) (k : Kind) (n : ℤ) (v : Value) (now : StackValue) → stack_on ks ns room ≡ now → s < length now.items
-    → k ≡ get_or ks s k → n ≡ get_or ns s n → v ≡ value_of k n → slice_get now.items s ≡ Some v
-value_there ks ns room s k n v now view lt ek en ev =
-    ap (λ (x : StackValue). slice_get x.items s) (sym view)
-    ∙ value_read ks ns s k n v (subst (λ (x : StackValue). s < length x.items) (sym view) lt) ek en ev
-
 pub pushed : (ks ls : List Kind) (ns ms : List ℤ) (room most : ℕ) (k : Kind) (n : ℤ) (v : Value) (now : StackValue) → stack_on ks ns room ≡ now → length ns ≡ length ks
     → ls ≡ ks ++ k ∷ [] → ms ≡ ns ++ n ∷ [] → most ≡ room → value_of k n ≡ v → stack_on ls ms most ≡ record now { items = now.items ++ v ∷ [] }
 pushed ks ls ns ms room most k n v now view e ek en er ev =
@@ -125,19 +113,6 @@ pushed ks ls ns ms room most k n v now view e ek en er ev =
     ∙ ap (λ xs. record { items = xs; room = room })
     (ap (λ l. values_of l ms) ek ∙ ap (λ l. values_of (ks ++ k ∷ []) l) en ∙ append_of ks (k ∷ []) ns (n ∷ []) e ∙ ap (λ x. values_of ks ns ++ x ∷ []) ev)
     ∙ ap (λ (s : StackValue). record s { items = s.items ++ v ∷ [] }) view
-
-pub pushed_again : (ks ls : List Kind) (ns ms : List ℤ) (room most s : ℕ) (k : Kind) (n : ℤ) (now : StackValue) → stack_on ks ns room ≡ now → length ns ≡ length ks
-    → s < length now.items → k ≡ get_or ks s k → n ≡ get_or ns s n
-    → ls ≡ ks ++ k ∷ [] → ms ≡ ns ++ n ∷ [] → most ≡ room → stack_on ls ms most ≡ record now { items = now.items ++ value_at now.items s ∷ [] }
-pushed_again ks ls ns ms room most s k n now view e lt gk gn ek en er =
-    pushed ks ls ns ms room most k n (value_at now.items s) now view e ek en er
-    (sym (get_or_from_slice_get now.items s (value_of k n) value.Unset (value_there ks ns room s k n (value_of k n) now view lt gk gn refl)))
-
-pub written : (ks : List Kind) (ns : List ℤ) (room s : ℕ) (k : Kind) (n : ℤ) (v : Value) (now : StackValue) → stack_on ks ns room ≡ now → value_of k n ≡ v
-    → stack_on (slice_set ks s k) (slice_set ns s n) room ≡ record now { items = slice_set now.items s v }
-written ks ns room s k n v now view ev =
-    ap (λ xs. record { items = xs; room = room }) (set_in ks ns s k n ∙ ap (slice_set (values_of ks ns) s) ev)
-    ∙ ap (λ (x : StackValue). record x { items = slice_set x.items s v }) view
 
 pub cut : (ks ls : List Kind) (ns ms : List ℤ) (room most i : ℕ) (now : StackValue) → stack_on ks ns room ≡ now → ls ≡ take i ks → ms ≡ take i ns → most ≡ room
     → stack_on ls ms most ≡ record now { items = take i now.items }
@@ -171,3 +146,27 @@ pub one_more_same : (vs ws : List Value) (i : ℕ) (v w : Value) → slice_get v
     → take (i + 1) vs ≡ take (i + 1) ws
 one_more_same vs ws i v w ev ew e h =
     one_more vs i v ev ∙ ap (λ x. take i vs ++ x ∷ []) e ∙ ap (λ l. l ++ w ∷ []) h ∙ sym (one_more ws i w ew)
+
+pub there : (ks : List Kind) (ns : List ℤ) (i : ℕ) → i < length ks → i < length ns → i < length (values_of ks ns)
+there [] ns i lk ln = lk
+there (k ∷ ks) [] i lk ln = ln
+there (k ∷ ks) (n ∷ ns) zero lk ln = omega arith
+there (k ∷ ks) (n ∷ ns) (suc i) lk ln = let r = there ks ns i (omega arith) (omega arith) in omega arith
+
+-- the value of slot i, of the kind and the number there
+pub value_of_slot : (ks : List Kind) (ns : List ℤ) (i : ℕ) (k d : Kind) (n e : ℤ) (v : Value) → i < length ks → i < length ns → k ≡ get_or ks i d → n ≡ get_or ns i e
+    → v ≡ value_of k n → slice_get (values_of ks ns) i ≡ Some v
+value_of_slot ks ns i k d n e v lk ln ek en ev =
+    get_of ks ns i d e (there ks ns i lk ln) ∙ ap (λ x. Some (value_of x (get_or ns i e))) (sym ek) ∙ ap (λ x. Some (value_of k x)) (sym en) ∙ ap Some (sym ev)
+
+-- a slot of the frame that begins at b, on a stack with more behind it
+front : (xs ys : List Value) (i : ℕ) (v : Value) → i < length xs → slice_get (xs ++ ys) i ≡ Some v → slice_get xs i ≡ Some v
+front [] ys i v lt e = absurd (omega arith)
+front (x ∷ xs) ys zero v lt e = e
+front (x ∷ xs) ys (suc i) v lt e = front xs ys i v (omega arith) e
+
+pub behind : (xs ys : List Value) (b s i : ℕ) (v : Value) → i ≡ b + s → i < length xs → slice_get (xs ++ ys) i ≡ Some v → slice_get (drop b xs) s ≡ Some v
+behind xs ys zero s i v is lt e = ap (slice_get xs) (omega arith) ∙ front xs ys i v lt e
+behind [] ys (suc b) s i v is lt e = absurd (omega arith)
+behind (x ∷ xs) ys (suc b) s zero v is lt e = absurd (omega arith)
+behind (x ∷ xs) ys (suc b) s (suc i) v is lt e = behind xs ys b s i v (omega arith) (omega arith) e

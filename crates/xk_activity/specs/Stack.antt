@@ -1,6 +1,5 @@
 -- What the two lists of a stack stand for: the values of slots.
-use Rattle.std.specs.Prelude.{Vec, ℕ, ℤ, pos, ◌≡◌, List, [], ◌∷◌, length, take}
-use Rattle.std.specs.Vec.{vec_capacity}
+use Rattle.std.specs.Prelude.{ℕ, ℤ, pos, ◌≡◌, List, [], ◌∷◌, length, take}
 use Rattle.xk_activity.specs.declared.stack.Kind.{Kind}
 use Rattle.xk_activity.specs.declared.stack.Kind.TheVariants as kind
 use Rattle.xk_types.specs.declared.names.Value.{Value}
@@ -35,10 +34,8 @@ pub record StackValue : Type 0 where
   pub room : ℕ
 
 -- what lies below a place stays, and nothing becomes longer, in two lists
-pub record KeepsBelow {Z : Type 0} (base : ℕ) (ks ls : Vec Kind Z) (ns ms : Vec ℤ Z) : Type 0 where
-  pub kinds : take base ls.items ≡ take base ks.items
-  pub numbers : take base ms.items ≡ take base ns.items
-  pub kinds_length : length ls.items ≡ length ks.items
-  pub numbers_length : length ms.items ≡ length ns.items
-  pub kinds_room : vec_capacity ls ≡ vec_capacity ks
-  pub numbers_room : vec_capacity ms ≡ vec_capacity ns
+pub record KeepsBelow (base : ℕ) (ks ls : List Kind) (ns ms : List ℤ) : Type 0 where
+  pub kinds : take base ls ≡ take base ks
+  pub numbers : take base ms ≡ take base ns
+  pub kinds_length : length ls ≡ length ks
+  pub numbers_length : length ms ≡ length ns

@@ -30,7 +30,8 @@ pub(crate) fn hand(stack: &mut Stack, base: usize, args: &[u16])
     ensures room { stack.new.room ≡ stack.old.room }
 {
     for s in args {
-        stack.push_again(base, *s as usize);
+        let value = stack.value(base, *s as usize);
+        stack.push(value);
     }
 }
 

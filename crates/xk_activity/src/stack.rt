@@ -1,48 +1,51 @@
 //! The slots of all frames of one activity.
 
-ghost use Rattle.std.specs.Prelude.{◌≡◌, ◌⊎◌, ◌+◌, ◌<◌, ◌≤◌, ◌^◌, [], ◌∷◌, ◌++◌, length, take, drop, slice_get, slice_set, Some, IfOk};
+ghost use Rattle.std.specs.Prelude.{◌≡◌, ◌⊎◌, ◌+◌, ◌<◌, ◌≤◌, ◌^◌, max, [], ◌∷◌, ◌++◌, length, take, drop, slice_get, slice_set, Some, IfOk};
 ghost use Rattle.xk_activity.specs.Local.{Beyond, Stepped, IsRight, IsSafe, ran, turn, spot_at};
 ghost use Rattle.xk_activity.specs.Arm.{Answers};
 ghost use Rattle.xk_activity.specs.Stack.{kind_of, number_of, value_of, values_of, KeepsBelow};
-ghost use Rattle.xk_activity.specs.Stacked.{value_at};
 
 use crate::flat::{one, run_flat};
+use smallvec::SmallVec;
 use std::alloc::{AllocError, Global};
 use std::marker::Model;
 use xk_types::{ClockId, Instr, Value};
 
 /// What a slot holds, but for the number that it may hold.
-#[derive(Clone, Copy)]
+#[derive(Clone, Copy, Default)]
 pub(crate) enum Kind {
     /// Nothing was written to it yet.
+    #[default]
     Unset,
     /// A number, which stands elsewhere.
     Number,
     Clock(ClockId),
 }
 
+/// How many slots stand in the stack itself, without memory of their own.
+const OWN: usize = 4;
+
 /// Slots, those of one frame behind the other. Their kinds stand in one list and their numbers in another, so that a number is
-/// read and written without a look at its kind. Room is taken when the stack is made; nothing else takes memory.
+/// read and written without a look at its kind. Room for more than a few is taken when the stack is made; nothing else takes memory.
 #[derive(Drop)]
 pub(crate) struct Stack {
-    kinds: Vec<Kind>,
-    numbers: Vec<i64>,
+    kinds: SmallVec<Kind, OWN>,
+    numbers: SmallVec<i64, OWN>,
 }
 
 impl Model for Stack {
     ghost use Rattle.std.specs.Prelude.{◌≡◌, length};
-    ghost use Rattle.std.specs.Vec.{vec_capacity};
     ghost use Rattle.xk_activity.specs.Stack.{StackValue, values_of};
 
     ghost Value = { StackValue };
 
     ghost view = { λ s. record {
       items = values_of s.kinds.items s.numbers.items;
-      room = vec_capacity s.kinds;
+      room = s.kinds.capacity;
     } };
 
     ghost invariant = { λ s. (length s.numbers.items ≡ length s.kinds.items)
-        × (vec_capacity s.numbers ≡ vec_capacity s.kinds) };
+        × (s.numbers.capacity ≡ s.kinds.capacity) };
 }
 
 /// The kind of a value, and the number that it is; 0 where it is none.
@@ -68,13 +71,38 @@ fn value_of(kind: Kind, number: i64) -> Value
     }
 }
 
+/// What a slot of these kinds and numbers holds.
+#[inline(always)]
+fn value_in(kinds: &[Kind], numbers: &[i64], base: usize, s: usize) -> Value
+    requires kinds { base + s < length kinds.now }
+    requires numbers { base + s < length numbers.now }
+    ensures { slice_get (values_of kinds.now numbers.now) (base + s) ≡ Some result }
+{
+    let kind = kinds[base + s];
+    let number = numbers[base + s];
+    value_of(kind, number)
+}
+
+/// Writes a slot of these kinds and numbers.
+#[inline(always)]
+fn set_in(kinds: &mut [Kind], numbers: &mut [i64], base: usize, s: usize, v: Value)
+    requires kinds { base + s < length kinds.old }
+    requires numbers { base + s < length numbers.old }
+    ensures { values_of kinds.new numbers.new
+        ≡ slice_set (values_of kinds.old numbers.old) (base + s) v }
+{
+    let (kind, number) = parts_of(v);
+    kinds[base + s] = kind;
+    numbers[base + s] = number;
+}
+
 /// The next instruction of the frame whose slots are those from base on, if it concerns that frame alone, and the next place.
 #[inline(always)]
 fn step_from(
     code: &[Instr],
     place: usize,
-    kinds: &mut Vec<Kind>,
-    numbers: &mut Vec<i64>,
+    kinds: &mut SmallVec<Kind, OWN>,
+    numbers: &mut SmallVec<i64, OWN>,
     base: usize,
 ) -> Option<usize>
     requires short { length code.now < 2 ^ 16 }
@@ -85,10 +113,13 @@ fn step_from(
     ensures stepped { Answers code.now (spot_at place (values_of (drop base kinds.old.items)
         (drop base numbers.old.items)))
         result (values_of (drop base kinds.new.items) (drop base numbers.new.items)) }
-    ensures below { KeepsBelow base kinds.old kinds.new numbers.old numbers.new }
+    ensures below { KeepsBelow base kinds.old.items kinds.new.items
+        numbers.old.items numbers.new.items }
+    ensures kinds_room { kinds.new.capacity ≡ kinds.old.capacity }
+    ensures numbers_room { numbers.new.capacity ≡ numbers.old.capacity }
 {
-    let kinds_above = &mut kinds[base..];
-    let numbers_above = &mut numbers[base..];
+    let kinds_above = &mut kinds.as_mut_slice()[base..];
+    let numbers_above = &mut numbers.as_mut_slice()[base..];
     one(code, place, kinds_above, numbers_above)
 }
 
@@ -98,8 +129,8 @@ fn step_from(
 fn run_from(
     code: &[Instr],
     start: usize,
-    kinds: &mut Vec<Kind>,
-    numbers: &mut Vec<i64>,
+    kinds: &mut SmallVec<Kind, OWN>,
+    numbers: &mut SmallVec<i64, OWN>,
     base: usize,
     max: u32,
 ) -> (usize, u32)
@@ -114,21 +145,24 @@ fn run_from(
     ensures most { result.1 ≤ max }
     ensures stops { (result.1 ≡ max) ⊎ (turn code.now (spot_at result.0
         (values_of (drop base kinds.new.items) (drop base numbers.new.items))) ≡ Beyond) }
-    ensures below { KeepsBelow base kinds.old kinds.new numbers.old numbers.new }
+    ensures below { KeepsBelow base kinds.old.items kinds.new.items
+        numbers.old.items numbers.new.items }
+    ensures kinds_room { kinds.new.capacity ≡ kinds.old.capacity }
+    ensures numbers_room { numbers.new.capacity ≡ numbers.old.capacity }
 {
-    let kinds_above = &mut kinds[base..];
-    let numbers_above = &mut numbers[base..];
+    let kinds_above = &mut kinds.as_mut_slice()[base..];
+    let numbers_above = &mut numbers.as_mut_slice()[base..];
     run_flat(code, start, kinds_above, numbers_above, max)
 }
 
 impl Stack {
-    /// No slots, and room for so many.
+    /// No slots, and room for so many, at least.
     pub(crate) fn with_room(alloc: Global, room: usize) -> Result<Stack, AllocError>
         ensures empty { IfOk result (λ s. s.items ≡ []) }
-        ensures room { IfOk result (λ s. s.room ≡ room) }
+        ensures room { IfOk result (λ s. s.room ≡ max 4 room) }
     {
-        let kinds = Vec::with_capacity(alloc, room)?;
-        let numbers = Vec::with_capacity(alloc, room)?;
+        let kinds = SmallVec::with_capacity(alloc, room)?;
+        let numbers = SmallVec::with_capacity(alloc, room)?;
         Ok(Stack { kinds, numbers })
     }
 
@@ -143,7 +177,9 @@ impl Stack {
     pub(crate) fn room(&self) -> usize
         ensures room { result ≡ self.now.room }
         ensures fits { length self.now.items ≤ result }
+        ensures least { 4 ≤ result }
     {
+        let _slots = self.kinds.len();
         self.kinds.capacity()
     }
 
@@ -152,7 +188,7 @@ impl Stack {
         requires { base + s < length self.now.items }
         ensures { slice_get self.now.items (base + s) ≡ Some result }
     {
-        value_of(self.kinds[base + s], self.numbers[base + s])
+        value_in(self.kinds.as_slice(), self.numbers.as_slice(), base, s)
     }
 
     /// Writes slot s of the frame whose slots begin at base.
@@ -161,9 +197,13 @@ impl Stack {
         ensures { self.new
             ≡ record self.old { items = slice_set self.old.items (base + s) v } }
     {
-        let (kind, number) = parts_of(v);
-        self.kinds[base + s] = kind;
-        self.numbers[base + s] = number;
+        set_in(
+            self.kinds.as_mut_slice(),
+            self.numbers.as_mut_slice(),
+            base,
+            s,
+            v,
+        );
     }
 
     /// One slot more, on top, which holds this.
@@ -172,20 +212,6 @@ impl Stack {
         ensures { self.new ≡ record self.old { items = self.old.items ++ v ∷ [] } }
     {
         let (kind, number) = parts_of(v);
-        self.kinds.push_reserved(kind);
-        self.numbers.push_reserved(number);
-    }
-
-    /// One slot more, on top, which holds what slot s of the frame does whose slots begin at base.
-    pub(crate) fn push_again(&mut self, base: usize, s: usize)
-        requires slot { base + s < length self.old.items }
-        requires room { length self.old.items < self.old.room }
-        ensures { self.new ≡ record self.old {
-          items = self.old.items ++ value_at self.old.items (base + s) ∷ [];
-        } }
-    {
-        let kind = self.kinds[base + s];
-        let number = self.numbers[base + s];
         self.kinds.push_reserved(kind);
         self.numbers.push_reserved(number);
     }

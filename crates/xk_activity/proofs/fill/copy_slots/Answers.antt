@@ -12,6 +12,7 @@ push-requires c =
     let t = c.loop-s-test.true in
     let f = c.room.ensures.fits in
     let e = c.room.ensures.room in
+    let four = c.room.ensures.least in
     omega (arith, c.len-s-end.ensures)
 
 pub loop-s-preserved : goal.loop-s-preserved

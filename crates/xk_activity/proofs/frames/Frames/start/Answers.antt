@@ -18,5 +18,5 @@ invariant_of-result c =
     (ap reverse c.in_ok-callers.ensures.items)
     (ap length c.fill.ensures.items ∙ ap (λ xs. length (xs ++ replicate c.size_of-size.result value.Unset)) c.in_ok-stack.ensures.empty
     ∙ length-replicate c.size_of-size.result value.Unset ∙ c.size_of-size.ensures.size)
-    (c.fill.ensures.room ∙ c.in_ok-stack.ensures.room ∙ c.room-room.ensures.slots)
+    (let r = c.fill.ensures.room in let e = c.in_ok-stack.ensures.room in let f = c.room-room.ensures.slots in omega arith)
     (let e = c.in_ok-callers.ensures.exact in let f = c.room-room.ensures.frames in omega (arith, o.1))

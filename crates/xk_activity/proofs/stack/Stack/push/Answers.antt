@@ -4,7 +4,12 @@ use Rattle.xk_activity.proofs.stack.Stack.push.Goals as goal
 
 pub push_reserved-requires : goal.push_reserved-requires
 push_reserved-requires c =
-    let h = room_there c.self.inside.kinds.items c.self.inside.numbers.items _ c.args.self.now c.self.view_is c.self.invariant.0 c.requires in omega (arith, c.self.inside.kinds.ok)
+    let h = room_there c.self.inside.kinds.items c.self.inside.numbers.items _ c.args.self.now c.self.view_is c.self.invariant.0 c.requires in omega arith
+
+pub push_reserved-requires-2 : goal.push_reserved-requires-2
+push_reserved-requires-2 c =
+    let h = room_there c.self.inside.kinds.items c.self.inside.numbers.items _ c.args.self.now c.self.view_is c.self.invariant.0 c.requires in
+    let e = c.self.invariant.0 in let r = c.self.invariant.1 in omega arith
 
 pub returns : goal.returns
 returns c =

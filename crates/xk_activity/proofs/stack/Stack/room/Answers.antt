@@ -7,4 +7,4 @@ pub returns-clause-fits : goal.returns-clause-fits
 returns-clause-fits c =
     let l = length_of c.self.inside.kinds.items c.self.inside.numbers.items c.self.invariant.0 in
     let v = ap (λ (s : StackValue). length s.items) c.self.view_is in
-    omega (arith, c.self.inside.kinds.ok, c.capacity.ensures)
+    omega (arith, c.len-slots.ensures.fits, c.len-slots.ensures.value, c.capacity.ensures.value)
