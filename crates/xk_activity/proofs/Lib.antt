@@ -1,4 +1,4 @@
-pub mod Stacks
+pub mod Cells
 pub mod Safe
 pub mod Stacking
 pub mod Locals

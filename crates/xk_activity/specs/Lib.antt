@@ -1,5 +1,6 @@
 pub mod Local
-pub mod Stack
+pub mod Cell
+pub mod CellLaw
 pub mod Arm
 pub mod Stacked
 pub mod Joined

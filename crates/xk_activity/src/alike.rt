@@ -4,17 +4,24 @@ ghost use Rattle.std.specs.Prelude.{◌≡◌};
 ghost use Rattle.std.specs.Bool.{Decides};
 
 use crate::caller::Caller;
-use crate::stack::Stack;
+use crate::cell::Cell;
 
-/// Whether these slots hold the same.
-pub(crate) fn are_same_slots(a: &Stack, b: &Stack) -> bool
-    ensures { Decides result (a.now.items ≡ b.now.items) }
+/// Whether two cells hold the same.
+fn is_same_cell(a: Cell, b: Cell) -> bool
+    ensures { Decides result (a ≡ b) }
+{
+    a.value() == b.value()
+}
+
+/// Whether these cells hold the same.
+pub(crate) fn are_same_cells(a: &[Cell], b: &[Cell]) -> bool
+    ensures { Decides result (a.now ≡ b.now) }
 {
     if a.len() != b.len() {
         return false;
     }
-    for s in 0..a.len() {
-        if a.value(0, s) != b.value(0, s) {
+    for i in 0..a.len() {
+        if !is_same_cell(a[i], b[i]) {
             return false;
         }
     }

@@ -1,4 +1,4 @@
-//! Slots put on a stack that has room for them.
+//! Cells put on a stack that has room for them.
 
 ghost use Rattle.std.specs.Prelude.{◌≡◌, ◌+◌, ◌<◌, ◌≤◌, ◌++◌, drop, length, replicate, All, IfOk};
 ghost use Rattle.std.specs.Vec.{vec_len, vec_capacity};
@@ -6,53 +6,54 @@ ghost use Rattle.xk_types.specs.declared.names.Value.TheVariants as value;
 ghost use Rattle.xk_activity.specs.Stacked.{values_at};
 
 use crate::caller::Caller;
-use crate::stack::Stack;
+use crate::cell::Cell;
 use std::alloc::{AllocError, Global};
 use xk_types::Value;
 
-/// This many slots more, to which nothing was written yet.
-pub(crate) fn fill(stack: &mut Stack, size: usize)
-    requires { length stack.old.items + size ≤ stack.old.room }
+/// This many cells more, to which nothing was written yet.
+pub(crate) fn fill(stack: &mut Vec<Cell>, size: usize)
+    requires { vec_len stack.old + size ≤ vec_capacity stack.old }
     ensures items { stack.new.items ≡ stack.old.items ++ replicate size value.Unset }
-    ensures room { stack.new.room ≡ stack.old.room }
+    ensures capacity { vec_capacity stack.new ≡ vec_capacity stack.old }
 {
     for _ in 0..size {
-        stack.push(Value::Unset);
+        stack.push_reserved(Cell::unset());
     }
 }
 
 /// The values of these slots of the frame that begins at base.
-pub(crate) fn hand(stack: &mut Stack, base: usize, args: &[u16])
-    requires room { length stack.old.items + length args.now ≤ stack.old.room }
-    requires slots { All (λ s. base + s < length stack.old.items) args.now }
+pub(crate) fn hand(stack: &mut Vec<Cell>, base: usize, args: &[u16])
+    requires room { vec_len stack.old + length args.now ≤ vec_capacity stack.old }
+    requires slots { All (λ s. base + s < vec_len stack.old) args.now }
     ensures items { stack.new.items
         ≡ stack.old.items ++ values_at (drop base stack.old.items) args.now }
-    ensures room { stack.new.room ≡ stack.old.room }
+    ensures capacity { vec_capacity stack.new ≡ vec_capacity stack.old }
 {
     for s in args {
-        let value = stack.value(base, *s as usize);
-        stack.push(value);
+        let cell = stack[base + *s as usize];
+        stack.push_reserved(cell);
     }
 }
 
 /// These values.
-pub(crate) fn put(stack: &mut Stack, values: &[Value])
-    requires { length stack.old.items + length values.now ≤ stack.old.room }
+pub(crate) fn put(stack: &mut Vec<Cell>, values: &[Value])
+    requires { vec_len stack.old + length values.now ≤ vec_capacity stack.old }
     ensures items { stack.new.items ≡ stack.old.items ++ values.now }
-    ensures room { stack.new.room ≡ stack.old.room }
+    ensures capacity { vec_capacity stack.new ≡ vec_capacity stack.old }
 {
     for v in values {
-        stack.push(*v);
+        stack.push_reserved(Cell::of(*v));
     }
 }
 
-/// The same slots, with the same room.
-pub(crate) fn copy_slots(alloc: Global, stack: &Stack) -> Result<Stack, AllocError>
-    ensures { IfOk result (λ s. s ≡ stack.now) }
+/// The same cells, with the same room.
+pub(crate) fn copy_cells(alloc: Global, stack: &Vec<Cell>) -> Result<Vec<Cell>, AllocError>
+    ensures items { IfOk result (λ v. v.items ≡ stack.now.items) }
+    ensures capacity { IfOk result (λ v. vec_capacity v ≡ vec_capacity stack.now) }
 {
-    let mut copy = Stack::with_room(alloc, stack.room())?;
-    for s in 0..stack.len() {
-        copy.push(stack.value(0, s));
+    let mut copy = Vec::with_capacity(alloc, stack.capacity())?;
+    for cell in stack {
+        copy.push_reserved(*cell);
     }
     Ok(copy)
 }

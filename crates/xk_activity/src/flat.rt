@@ -3,50 +3,46 @@
 ghost use Rattle.std.specs.Prelude.{◌≡◌, ◌⊎◌, ℕ, ℤ, ◌+◌, ◌<◌, ◌≤◌, ◌^◌, length, not, Some, slice_get, slice_set};
 ghost use Rattle.xk_types.specs.declared.names.Value.TheVariants as value;
 ghost use Rattle.xk_activity.specs.Local.{Beyond, Stepped, turn, ran, spot_at, IsSafe, IsRight};
-ghost use Rattle.xk_activity.specs.Stack.{values_of};
 ghost use Rattle.xk_activity.specs.Arm.{CanCarry, Carries, Answers, IsTurnAt, Turned, is_beyond};
 
-use crate::stack::Kind;
+use crate::cell::Cell;
 use xk_types::Instr;
 
 /// The number in a slot that holds one.
 #[inline(always)]
-fn number(kinds: &[Kind], numbers: &[i64], s: u16) -> i64
-    requires { (n : ℤ)
-        × (slice_get (values_of kinds.now numbers.now) s ≡ Some (value.Number n)) }
-    ensures { slice_get (values_of kinds.now numbers.now) s ≡ Some (value.Number result) }
+fn number(slots: &[Cell], s: u16) -> i64
+    requires { (n : ℤ) × (slice_get slots.now s ≡ Some (value.Number n)) }
+    ensures { slice_get slots.now s ≡ Some (value.Number result) }
 {
-    numbers[s as usize]
+    slots[s as usize].number()
 }
 
 /// Writes a number to a slot, and gives the next place.
 #[inline(always)]
-fn write(kinds: &mut [Kind], numbers: &mut [i64], d: u16, n: i64, place: usize) -> usize
-    requires slot { d < length (values_of kinds.old numbers.old) }
+fn write(slots: &mut [Cell], d: u16, n: i64, place: usize) -> usize
+    requires slot { d < length slots.old }
     requires place { place + 1 < 2 ^ 16 }
-    ensures written { values_of kinds.new numbers.new
-        ≡ slice_set (values_of kinds.old numbers.old) d (value.Number n) }
+    ensures written { slots.new ≡ slice_set slots.old d (value.Number n) }
     ensures next { result ≡ place + 1 }
 {
-    kinds[d as usize] = Kind::Number;
-    numbers[d as usize] = n;
+    let slot = &mut slots[d as usize];
+    slot.set_number(n);
     place + 1
 }
 
 /// Ends a turn of the loop that begins at place b, and gives the next place.
 #[inline(always)]
-fn end_turn(code: &[Instr], place: usize, kinds: &mut [Kind], numbers: &mut [i64], b: u16) -> usize
+fn end_turn(code: &[Instr], place: usize, slots: &mut [Cell], b: u16) -> usize
     requires short { length code.now < 2 ^ 16 }
     requires place { place + 1 < 2 ^ 16 }
-    requires turn { IsTurnAt code.now (spot_at place (values_of kinds.old numbers.old)) b }
-    ensures { Turned code.now (spot_at place (values_of kinds.old numbers.old)) b
-        (spot_at result (values_of kinds.new numbers.new)) }
+    requires turn { IsTurnAt code.now (spot_at place slots.old) b }
+    ensures { Turned code.now (spot_at place slots.old) b (spot_at result slots.new) }
 {
     match &code[b as usize] {
         Instr::For { k, hi, .. } => {
-            let n = number(kinds, numbers, *k);
+            let n = number(slots, *k);
             if n < *hi {
-                write(kinds, numbers, *k, n + 1, b as usize)
+                write(slots, *k, n + 1, b as usize)
             } else {
                 place + 1
             }
@@ -57,43 +53,36 @@ fn end_turn(code: &[Instr], place: usize, kinds: &mut [Kind], numbers: &mut [i64
 
 /// Carries out an instruction, and gives the next place; nothing where it concerns more than the frame.
 #[inline(always)]
-fn carry(
-    code: &[Instr],
-    place: usize,
-    kinds: &mut [Kind],
-    numbers: &mut [i64],
-    instr: &Instr,
-) -> Option<usize>
+fn carry(code: &[Instr], place: usize, slots: &mut [Cell], instr: &Instr) -> Option<usize>
     requires short { length code.now < 2 ^ 16 }
     requires place { place + 1 < 2 ^ 16 }
-    requires operands { CanCarry code.now (spot_at place (values_of kinds.old numbers.old))
-        instr.now }
-    ensures { Carries code.now (spot_at place (values_of kinds.old numbers.old)) instr.now result
-        (values_of kinds.new numbers.new) }
+    requires operands { CanCarry code.now (spot_at place slots.old) instr.now }
+    ensures { Carries code.now (spot_at place slots.old) instr.now result slots.new }
 {
     let next = match instr {
-        Instr::Lit { d, n } => write(kinds, numbers, *d, *n, place),
+        Instr::Lit { d, n } => write(slots, *d, *n, place),
         Instr::Copy { d, a } => {
-            let n = number(kinds, numbers, *a);
-            write(kinds, numbers, *d, n, place)
+            let n = number(slots, *a);
+            write(slots, *d, n, place)
         }
         Instr::Add { d, a, b } => {
-            let n = number(kinds, numbers, *a).wrapping_add(number(kinds, numbers, *b));
-            write(kinds, numbers, *d, n, place)
+            let n = number(slots, *a).wrapping_add(number(slots, *b));
+            write(slots, *d, n, place)
         }
         Instr::Sub { d, a, b } => {
-            let n = number(kinds, numbers, *a).wrapping_sub(number(kinds, numbers, *b));
-            write(kinds, numbers, *d, n, place)
+            let n = number(slots, *a).wrapping_sub(number(slots, *b));
+            write(slots, *d, n, place)
         }
         Instr::Mul { d, a, b } => {
-            let n = number(kinds, numbers, *a).wrapping_mul(number(kinds, numbers, *b));
-            write(kinds, numbers, *d, n, place)
+            let n = number(slots, *a).wrapping_mul(number(slots, *b));
+            write(slots, *d, n, place)
         }
-        Instr::Unless { op, a, b, .. }
-            if op.holds(number(kinds, numbers, *a), number(kinds, numbers, *b)) => { place + 1 }
+        Instr::Unless { op, a, b, .. } if op.holds(number(slots, *a), number(slots, *b)) => {
+            place + 1
+        }
         Instr::Unless { t, .. } | Instr::Jump(t) => *t as usize,
-        Instr::For { k, lo, .. } => write(kinds, numbers, *k, *lo, place),
-        Instr::Next(b) => end_turn(code, place, kinds, numbers, *b),
+        Instr::For { k, lo, .. } => write(slots, *k, *lo, place),
+        Instr::Next(b) => end_turn(code, place, slots, *b),
         _ => return None,
     };
     Some(next)
@@ -119,40 +108,27 @@ pub(crate) fn is_flat(instr: &Instr) -> bool
 
 /// The next instruction, if it concerns the frame alone, and the next place.
 #[inline(always)]
-pub(crate) fn one(
-    code: &[Instr],
-    place: usize,
-    kinds: &mut [Kind],
-    numbers: &mut [i64],
-) -> Option<usize>
+pub(crate) fn one(code: &[Instr], place: usize, slots: &mut [Cell]) -> Option<usize>
     requires short { length code.now < 2 ^ 16 }
-    requires right { IsRight (turn code.now (spot_at place (values_of kinds.old numbers.old))) }
-    ensures { Answers code.now (spot_at place (values_of kinds.old numbers.old)) result
-        (values_of kinds.new numbers.new) }
+    requires right { IsRight (turn code.now (spot_at place slots.old)) }
+    ensures { Answers code.now (spot_at place slots.old) result slots.new }
 {
-    carry(code, place, kinds, numbers, &code[place])
+    carry(code, place, slots, &code[place])
 }
 
 /// Up to max instructions that concern the frame alone: the place then, and how many they were.
 #[inline(never)]
-pub(crate) fn run_flat(
-    code: &[Instr],
-    start: usize,
-    kinds: &mut [Kind],
-    numbers: &mut [i64],
-    max: u32,
-) -> (usize, u32)
+pub(crate) fn run_flat(code: &[Instr], start: usize, slots: &mut [Cell], max: u32) -> (usize, u32)
     requires short { length code.now < 2 ^ 16 }
-    requires safe { IsSafe (turn code.now) (spot_at start (values_of kinds.old numbers.old)) }
-    ensures ran { ran (turn code.now) (spot_at start (values_of kinds.old numbers.old)) result.1
-        ≡ Stepped (spot_at result.0 (values_of kinds.new numbers.new)) }
+    requires safe { IsSafe (turn code.now) (spot_at start slots.old) }
+    ensures ran { ran (turn code.now) (spot_at start slots.old) result.1
+        ≡ Stepped (spot_at result.0 slots.new) }
     ensures most { result.1 ≤ max }
-    ensures stops { (result.1 ≡ max)
-        ⊎ (turn code.now (spot_at result.0 (values_of kinds.new numbers.new)) ≡ Beyond) }
+    ensures stops { (result.1 ≡ max) ⊎ (turn code.now (spot_at result.0 slots.new) ≡ Beyond) }
 {
     let mut place = start;
     for n in 0..max {
-        match one(code, place, kinds, numbers) {
+        match one(code, place, slots) {
             Some(next) => place = next,
             None => return (place, n),
         }

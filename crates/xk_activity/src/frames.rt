@@ -1,20 +1,21 @@
 //! The frames of one activity.
 
-ghost use Rattle.std.specs.Prelude.{◌≡◌, ◌⊎◌, ◌+◌, ◌<◌, ◌≤◌, ◌^◌, length, Some, IfOk, OnOk, slice_get, All};
+ghost use Rattle.std.specs.Prelude.{◌≡◌, ◌⊎◌, ◌+◌, ◌<◌, ◌≤◌, ◌^◌, length, take, drop, Some, IfOk, OnOk, slice_get, All};
 ghost use Rattle.std.specs.Bool.{Decides};
 ghost use Rattle.std.specs.Vec.{vec_capacity};
 ghost use Rattle.xk_types.specs.declared.instr.Instr.{Instr};
 ghost use Rattle.xk_types.specs.Code.{IsWithinLimits};
 ghost use Rattle.xk_types.specs.Shape.{HasShape};
 ghost use Rattle.xk_types.specs.World.{instruction_at, slots_of};
-ghost use Rattle.xk_activity.specs.Local.{Beyond, Stepped, IsRight, IsSafe, local, ran, turn, code_of, spot_of, started, begun, called, returning, is_stepped};
+ghost use Rattle.xk_activity.specs.Local.{Beyond, Stepped, IsRight, IsSafe, local, ran, turn, code_of, spot_of, spot_at, started, begun, called, returning, is_stepped};
+ghost use Rattle.xk_activity.specs.Arm.{Answers};
 ghost use Rattle.xk_activity.specs.Stacked.{CanCall, Does, values_at, placed, with_slot};
 
-use crate::alike::{are_same_callers, are_same_slots};
+use crate::alike::{are_same_callers, are_same_cells};
 use crate::caller::Caller;
-use crate::fill::{copy_callers, copy_slots, fill, hand, put};
-use crate::flat::is_flat;
-use crate::stack::Stack;
+use crate::cell::Cell;
+use crate::fill::{copy_callers, copy_cells, fill, hand, put};
+use crate::flat::{is_flat, one, run_flat};
 use std::alloc::{AllocError, Global};
 use std::marker::Model;
 use xk_bounds::Verified;
@@ -40,7 +41,7 @@ pub struct Frames<'m> {
     /// Where the slots of the present frame begin.
     base: usize,
     /// The slots of all frames, those of the present one last.
-    stack: Stack,
+    stack: Vec<Cell>,
     /// The frames that wait, the nearest last.
     callers: Vec<Caller>,
 }
@@ -57,7 +58,49 @@ impl<'m> Model for Frames<'m> {
         (reverse f.callers.items) };
 
     ghost invariant = { λ f. IsStacked f.verified.now f.unit f.base (reverse f.callers.items)
-        (length f.stack.items) f.stack.room (vec_capacity f.callers) };
+        (length f.stack.items) (vec_capacity f.stack) (vec_capacity f.callers) };
+}
+
+/// The next instruction of the frame that lies on a stack from base on, if it concerns that frame alone, and the next place.
+#[inline(always)]
+fn step_top(code: &[Instr], place: usize, stack: &mut Vec<Cell>, base: usize) -> Option<usize>
+    requires short { length code.now < 2 ^ 16 }
+    requires base { base ≤ length stack.old.items }
+    requires right { IsRight (turn code.now (spot_at place (drop base stack.old.items))) }
+    ensures stepped { Answers code.now (spot_at place (drop base stack.old.items)) result
+        (drop base stack.new.items) }
+    ensures below { take base stack.new.items ≡ take base stack.old.items }
+    ensures length { length stack.new.items ≡ length stack.old.items }
+    ensures capacity { vec_capacity stack.new ≡ vec_capacity stack.old }
+{
+    let slots = &mut stack[base..];
+    one(code, place, slots)
+}
+
+/// Up to max next instructions of the frame that lies on a stack from base on, while they concern that frame alone: the place then,
+/// and how many they were.
+#[inline(always)]
+fn run_on_top(
+    code: &[Instr],
+    start: usize,
+    stack: &mut Vec<Cell>,
+    base: usize,
+    max: u32,
+) -> (usize, u32)
+    requires short { length code.now < 2 ^ 16 }
+    requires base { base ≤ length stack.old.items }
+    requires safe { IsSafe (turn code.now) (spot_at start (drop base stack.old.items)) }
+    ensures ran { ran (turn code.now) (spot_at start (drop base stack.old.items)) result.1
+        ≡ Stepped (spot_at result.0 (drop base stack.new.items)) }
+    ensures most { result.1 ≤ max }
+    ensures stops { (result.1 ≡ max)
+        ⊎ (turn code.now (spot_at result.0 (drop base stack.new.items)) ≡ Beyond) }
+    ensures below { take base stack.new.items ≡ take base stack.old.items }
+    ensures length { length stack.new.items ≡ length stack.old.items }
+    ensures capacity { vec_capacity stack.new ≡ vec_capacity stack.old }
+{
+    let slots = &mut stack[base..];
+    run_flat(code, start, slots, max)
 }
 
 /// How many slots the unit has.
@@ -79,7 +122,7 @@ impl<'m> Frames<'m> {
     {
         let size = size_of(verified, unit);
         let room = verified.room(unit);
-        let mut stack = Stack::with_room(alloc, room.slots as usize)?;
+        let mut stack = Vec::with_capacity(alloc, room.slots as usize)?;
         fill(&mut stack, size as usize);
         let callers = Vec::with_capacity(alloc, room.frames as usize - 1)?;
         Ok(Frames {
@@ -105,7 +148,7 @@ impl<'m> Frames<'m> {
     {
         let size = size_of(verified, unit);
         let room = verified.room(unit);
-        let mut stack = Stack::with_room(alloc, room.slots as usize)?;
+        let mut stack = Vec::with_capacity(alloc, room.slots as usize)?;
         put(&mut stack, values);
         fill(&mut stack, size as usize - values.len());
         let callers = Vec::with_capacity(alloc, room.frames as usize - 1)?;
@@ -123,7 +166,7 @@ impl<'m> Frames<'m> {
     pub fn copy(&self, alloc: Global) -> Result<Frames<'m>, AllocError>
         ensures { IfOk result (λ f. f ≡ self.now) }
     {
-        let stack = copy_slots(alloc, &self.stack)?;
+        let stack = copy_cells(alloc, &self.stack)?;
         let callers = copy_callers(alloc, &self.callers)?;
         Ok(Frames {
             verified: self.verified,
@@ -142,7 +185,7 @@ impl<'m> Frames<'m> {
         if self.unit != other.unit || self.place != other.place || self.base != other.base {
             return false;
         }
-        if !are_same_slots(&self.stack, &other.stack)
+        if !are_same_cells(&self.stack, &other.stack)
             || !are_same_callers(&self.callers, &other.callers)
         {
             return false;
@@ -176,7 +219,7 @@ impl<'m> Frames<'m> {
         requires { s < length self.now.frame.slots }
         ensures { slice_get self.now.frame.slots s ≡ Some result }
     {
-        self.stack.value(self.base, s as usize)
+        self.stack[self.base + s as usize].value()
     }
 
     /// Lists what these slots of the present frame hold, in place of what the list held.
@@ -197,7 +240,7 @@ impl<'m> Frames<'m> {
         requires { s < length self.old.frame.slots }
         ensures { self.new ≡ with_slot self.old s v }
     {
-        self.stack.set(self.base, s as usize, v);
+        self.stack[self.base + s as usize] = Cell::of(v);
     }
 
     /// The present frame goes on to the next instruction.
@@ -271,7 +314,7 @@ impl<'m> Frames<'m> {
         ensures same { self.new.module_run ≡ self.old.module_run }
     {
         let code = self.code();
-        match self.stack.step(code, self.place, self.base) {
+        match step_top(code, self.place, &mut self.stack, self.base) {
             Some(place) => {
                 self.place = place;
                 Next::Stepped
@@ -291,7 +334,7 @@ impl<'m> Frames<'m> {
         ensures same { self.new.module_run ≡ self.old.module_run }
     {
         let code = self.code();
-        let (place, steps) = self.stack.run(code, self.place, self.base, max);
+        let (place, steps) = run_on_top(code, self.place, &mut self.stack, self.base, max);
         self.place = place;
         steps
     }
@@ -327,9 +370,15 @@ impl<'m> Frames<'m> {
     {
         match self.next() {
             Instr::Call { .. } => true,
-            // A frame waits for the present one to return.
-            Instr::Ret => !self.callers.is_empty(),
+            Instr::Ret => self.waits(),
             instr => is_flat(instr),
         }
+    }
+
+    /// Whether a frame waits for the present one to return.
+    fn waits(&self) -> bool
+        ensures { result ≡ is_stepped (returning self.now self.now.callers) }
+    {
+        !self.callers.is_empty()
     }
 }

@@ -5,11 +5,11 @@ mod activities;
 mod activity;
 mod alike;
 mod caller;
+mod cell;
 mod fill;
 mod flat;
 mod frames;
 pub mod laws;
-mod stack;
 mod ticket;
 
 pub use activities::Activities;

@@ -5,9 +5,9 @@ use Rattle.xk_activity.proofs.frames.Frames.begin.Goals as goal
 pub put-requires : goal.put-requires
 put-requires c =
     let o = own_room c.args.verified.now c.args.unit c.size_of-size.ensures.shape c.requires.unit in
-    let e = c.in_ok-stack.ensures.room in
+    let e = c.in_ok-stack.ensures.exact in
     let f = c.room-room.ensures.slots in
-    let l = ap length c.in_ok-stack.ensures.empty in
+    let l = ap length c.in_ok-stack.ensures.items in
     search (rules, o.0)
 
 pub fill-requires : goal.fill-requires

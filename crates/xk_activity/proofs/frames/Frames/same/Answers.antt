@@ -10,8 +10,8 @@ returns-then-self-other c = (
       (c.self.view_is ∙ (q ∙ sym c.other.view_is)) in search (rules, p.unit, p.place, p.base),
 )
 
-pub returns-then-not-are_same_slots : goal.returns-then-not-are_same_slots
-returns-then-not-are_same_slots c = (
+pub returns-then-not-are_same_cells : goal.returns-then-not-are_same_cells
+returns-then-not-are_same_cells c = (
   λ h. cc,
   λ q. let p = same_parts _ _ c.self.inside.unit c.other.inside.unit c.self.inside.place c.other.inside.place c.self.inside.base c.other.inside.base
       c.self.inside.stack.items c.other.inside.stack.items c.self.inside.callers.items c.other.inside.callers.items _ _ _ _ _ _ c.self.invariant c.other.invariant

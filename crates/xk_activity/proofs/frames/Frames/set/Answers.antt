@@ -1,11 +1,9 @@
-use Rattle.std.specs.Prelude.{reverse}
 use Rattle.std.proofs.Common.{ap, ◌∙◌}
-use Rattle.xk_activity.specs.Stack.{StackValue}
-use Rattle.xk_activity.specs.Stacked.{frames_on}
+use Rattle.xk_activity.specs.Stacked.{with_slot}
 use Rattle.xk_activity.proofs.Stacking.{put_ok}
 use Rattle.xk_activity.proofs.frames.Frames.set.Goals as goal
 
 pub returns : goal.returns
 returns c =
-    ap (λ (s : StackValue). frames_on c.self.inside.verified.now c.self.inside.unit c.self.inside.place c.self.inside.base s.items (reverse c.self.inside.callers.items)) c.set.ensures
-    ∙ put_ok _ _ _ c.self.inside.unit c.self.inside.place c.self.inside.base c.args.s c.args.v c.self.inside.stack.items _ c.args.self.now c.self.view_is c.self.invariant.stacked
+    put_ok _ _ _ c.self.inside.unit c.self.inside.place c.self.inside.base c.args.s c.of.result c.self.inside.stack.items _ c.args.self.now c.self.view_is c.self.invariant.stacked
+    ∙ ap (with_slot c.args.self.now c.args.s) c.of.ensures

@@ -16,7 +16,7 @@ invariant_of-result c =
     let o = own_room c.args.verified.now c.args.unit c.size_of-size.ensures.shape c.requires in
     start_stacked c.args.verified.now c.args.unit (length c.fill.new.stack.items) _ _ _ c.size_of-size.ensures.limits c.size_of-size.ensures.shape c.requires
     (ap reverse c.in_ok-callers.ensures.items)
-    (ap length c.fill.ensures.items ∙ ap (λ xs. length (xs ++ replicate c.size_of-size.result value.Unset)) c.in_ok-stack.ensures.empty
+    (ap length c.fill.ensures.items ∙ ap (λ xs. length (xs ++ replicate c.size_of-size.result value.Unset)) c.in_ok-stack.ensures.items
     ∙ length-replicate c.size_of-size.result value.Unset ∙ c.size_of-size.ensures.size)
-    (let r = c.fill.ensures.room in let e = c.in_ok-stack.ensures.room in let f = c.room-room.ensures.slots in omega arith)
+    (c.fill.ensures.capacity ∙ c.in_ok-stack.ensures.exact ∙ c.room-room.ensures.slots)
     (let e = c.in_ok-callers.ensures.exact in let f = c.room-room.ensures.frames in omega (arith, o.1))
