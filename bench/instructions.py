@@ -1,0 +1,72 @@
+#!/usr/bin/env python3
+"""Counts the instructions of the built program beside those of the machine in bench/plain, by callgrind.
+
+    python3 bench/instructions.py [PROGRAM] [--only WORD]
+
+PROGRAM is crates/x10clock/out/x10clock unless another is named. A figure is what twice as much work takes more, so that starting a process and
+reading the module don't count. It is the same on each run, whatever else the machine does; it says nothing of memory that isn't in a cache.
+"""
+import argparse
+import concurrent.futures
+import re
+import subprocess
+import tempfile
+
+import modules
+from by_hand import ORDERS, TOP, built
+
+FIRST = ("first",)
+# What a row counts, its module for so much work, and the orders.
+ROWS = [
+    ("20,000 local steps, two loops", lambda k: modules.counting(2 * k), ORDERS),
+    ("10,000 calls of a method", lambda k: modules.calling(2 * k), FIRST),
+    ("10,000 finishes opened and closed", lambda k: modules.finishing(2 * k), FIRST),
+    ("5,000 activities, each in a finish of its own", lambda k: modules.gathering(5000 * k), ORDERS),
+    ("5,000 starts under one finish", lambda k: modules.starting_in_finish(5000 * k), ORDERS),
+    ("5,000 starts", lambda k: modules.starting(5000 * k), ORDERS),
+    ("50 phases of 100 activities on a clock", lambda k: modules.in_step(100, 50 * k), ORDERS),
+    ("50 phases of a ring of 90 activities", lambda k: modules.ring(90, 50 * k), ORDERS),
+    ("5,000 clocks, one after the other", lambda k: modules.clocks_in_turn(5000 * k), FIRST),
+    ("a million local steps of 100 activities", lambda k: modules.counting_beside(100, k), ("round",)),
+]
+
+
+def collected(words):
+    """The instructions of one call."""
+    call = ["valgrind", "--tool=callgrind", "--callgrind-out-file=/dev/null", *words]
+    return int(re.search(r"Collected : (\d+)", subprocess.run(call, capture_output=True, text=True, check=True).stderr)[1])
+
+
+def more(make, words):
+    """What twice as much work takes more, of a call of these words with the module's path where they have None."""
+    counts = []
+    for work in (1, 2):
+        with tempfile.NamedTemporaryFile("w", suffix=".json") as file:
+            file.write(make(work))
+            file.flush()
+            counts.append(collected([file.name if word is None else word for word in words]))
+    return counts[1] - counts[0]
+
+
+def row(job):
+    name, make, order, program, machine = job
+    ours = more(make, [program, "run", "--order", order, "--module", None])
+    plain = more(make, [machine, None, order])
+    return f"| {name} | {order} | {ours:,} | {plain:,} | {ours / plain:.2f} |"
+
+
+def main():
+    parser = argparse.ArgumentParser()
+    parser.add_argument("program", nargs="?", default=str(TOP / "crates/x10clock/out/x10clock"))
+    parser.add_argument("--only", default="")
+    given = parser.parse_args()
+    machine = built()
+    jobs = [(name, make, order, given.program, machine) for name, make, orders in ROWS if given.only in name for order in orders]
+    print("| What | Order | Ours | By hand | Ratio |\n|---|---|---|---|---|")
+    with concurrent.futures.ThreadPoolExecutor(2) as pool:
+        for line in pool.map(row, jobs):
+            print(line, flush=True)
+
+
+if __name__ == "__main__":
+    main()
