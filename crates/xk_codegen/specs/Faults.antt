@@ -1,10 +1,10 @@
 -- Which faults a program has.
-use Rattle.std.specs.Prelude.{◌≡◌, ℕ, List, Some, slice_get}
+use Rattle.std.specs.Prelude.{◌≡◌, ◌≤◌, ℕ, List, Some, length, slice_get}
 use Rattle.xk_types.specs.Code.{IsUnitWithinLimits}
 use Rattle.xk_tree.specs.declared.fault.FrontRule.TheVariants as rule
 use Rattle.xk_tree.specs.declared.fault.FrontFault.{FrontFault}
 use Rattle.xk_tree.specs.Tree.{SharedValue, TreeValue}
-use Rattle.xk_names.specs.Faults.{HasFault, fault}
+use Rattle.xk_names.specs.Faults.{HasFault, IsReported, fault}
 use Rattle.xk_units.specs.Recursion.{HasRecursion}
 use Rattle.xk_code.specs.CodeOf.{Setting}
 use Rattle.xk_source.specs.Parts.{Part, OfMethod, OfBody}
@@ -15,18 +15,41 @@ abbrev pub offset : Part → ℕ
 offset (OfMethod m) = m.name.at
 offset (OfBody at cs s) = at
 
--- a table goes over its limit
-pub data HasTableFault (t : TreeValue) (f : FrontFault) : Type 0 where
-  -- more than 256 shared numbers
-  ManyShared : (s : SharedValue) → slice_get t.shared 256 ≡ Some s → f ≡ fault rule.Table s.name.at → HasTableFault t f
-  -- more than 1,024 units
-  ManyUnits : (units : List Part) (p : Part) → AreUnits t units → slice_get units 1024 ≡ Some p → f ≡ fault rule.Table (offset p) → HasTableFault t f
-  -- a unit with too many slots or instructions, or an instruction of it with too many arguments
-  LargeUnit : (units : List Part) (cx : Setting) (k : ℕ) (p : Part) → AreUnits t units → IsSetting t units cx → slice_get units k ≡ Some p
-      → (IsUnitWithinLimits (unit_of_part cx p) → ⊥) → f ≡ fault rule.Table (offset p) → HasTableFault t f
+-- a part of these units goes beyond a limit: the 1,025th, or one whose unit has too many slots or instructions, or an instruction with too many
+-- arguments
+pub data IsLarge (units : List Part) (cx : Setting) (p : Part) : Type 0 where
+  Beyond : slice_get units 1024 ≡ Some p → IsLarge units cx p
+  Large : (k : ℕ) → slice_get units k ≡ Some p → (IsUnitWithinLimits (unit_of_part cx p) → ⊥) → IsLarge units cx p
 
--- the program has the fault, one of F5 to F12 and F14
+-- the fault F14 at the least offset of a part that goes beyond a limit
+pub record IsFirstLarge (t : TreeValue) (f : FrontFault) : Type 0 where
+  pub units : List Part
+  pub setting : Setting
+  pub are_units : AreUnits t units
+  pub is_setting : IsSetting t units setting
+  pub part : Part
+  pub large : IsLarge units setting part
+  pub is : f ≡ fault rule.Table (offset part)
+  pub first : (q : Part) → IsLarge units setting q → offset part ≤ offset q
+
+-- A table goes over its limit, and the fault is the one that is told.
+pub data IsTableFault (t : TreeValue) (f : FrontFault) : Type 0 where
+  -- more than 256 shared numbers: at the 257th
+  ManyShared : (s : SharedValue) → slice_get t.shared 256 ≡ Some s → f ≡ fault rule.Table s.name.at → IsTableFault t f
+  -- else a part that goes beyond a limit
+  LargePart : length t.shared ≤ 256 → IsFirstLarge t f → IsTableFault t f
+
+-- no fault of names, F5 to F9, F11 or F12
+abbrev pub IsClean : TreeValue → Type 0
+IsClean t = (g : FrontFault) → HasFault t g → ⊥
+
+-- no recursive call, F10
+abbrev pub IsFalling : TreeValue → Type 0
+IsFalling t = (g : FrontFault) → HasRecursion t g → ⊥
+
+-- The program has the fault, one of F5 to F12 and F14, and it is the one that is told: of F5 to F8, F11 and F12 the first; F9 where there is none of
+-- these; F10 where there is no fault of names; F14 where there is none of all those. Of several calls that are F10, which one is told is left open.
 pub data IsFaultOf (t : TreeValue) (f : FrontFault) : Type 0 where
-  InNames : HasFault t f → IsFaultOf t f
-  InCalls : HasRecursion t f → IsFaultOf t f
-  InTables : HasTableFault t f → IsFaultOf t f
+  InNames : IsReported t f → IsFaultOf t f
+  InCalls : IsClean t → HasRecursion t f → IsFaultOf t f
+  InTables : IsClean t → IsFalling t → IsTableFault t f → IsFaultOf t f

@@ -14,7 +14,7 @@ ghost use Rattle.xk_codegen.specs.Views.{part};
 ghost use Rattle.xk_codegen.specs.Named.{IsPartCovered};
 ghost use Rattle.xk_source.specs.Meaning.{Means};
 ghost use Rattle.xk_source.specs.Compiled.{AreUnits, IsCompiled, IsSetting, method_kind, unit_of_part};
-ghost use Rattle.xk_codegen.specs.Faults.{HasTableFault, IsFaultOf, offset};
+ghost use Rattle.xk_codegen.specs.Faults.{IsFaultOf, IsFirstLarge, IsTableFault, offset};
 ghost use Rattle.xk_codegen.specs.Keeps.{KeepsShape};
 
 use crate::order::units_in_order;
@@ -115,7 +115,7 @@ fn units_of<'t>(
     ensures limits { IfOk result (λ units. All IsUnitWithinLimits units.items) }
     ensures fault { (f : Fault) (t : TreeValue) → result ≡ Err (FrontError.Fault f)
         → IsScoped t → HasBodiesApart t → AreUnits t (map part parts.now)
-        → IsSetting t (map part parts.now) setting.now → HasTableFault t f }
+        → IsSetting t (map part parts.now) setting.now → IsFirstLarge t f }
 {
     let mut worst = beyond(parts);
     let mut units = Vec::new(alloc);
@@ -165,7 +165,7 @@ fn module(alloc: Global, tree: &Tree<'_>, units: Vec<Unit>) -> Result<Module, Fr
 fn check_shared(tree: &Tree<'_>) -> Result<(), FrontError>
     ensures fits { OnOk result (length (tree_value tree.now).shared ≤ 256) }
     ensures fault { (f : Fault) → result ≡ Err (FrontError.Fault f)
-        → HasTableFault (tree_value tree.now) f }
+        → IsTableFault (tree_value tree.now) f }
 {
     match tree.shared.get(MAX_SHARED) {
         None => Ok(()),
@@ -214,7 +214,7 @@ fn module_in<'a, 't>(
     ensures means { IfOk result (λ m. HasBodiesApart (tree_value tree.now)
         → Means (tree_value tree.now) m) }
     ensures fault { (f : Fault) → result ≡ Err (FrontError.Fault f)
-        → HasBodiesApart (tree_value tree.now) → HasTableFault (tree_value tree.now) f }
+        → HasBodiesApart (tree_value tree.now) → IsTableFault (tree_value tree.now) f }
 {
     let units = units_of(alloc, setting, parts)?;
     let module = module(alloc, tree, units)?;
@@ -236,7 +236,7 @@ fn module_of_parts<'a, 't>(
     ensures means { IfOk result (λ m. HasBodiesApart (tree_value tree.now)
         → Means (tree_value tree.now) m) }
     ensures fault { (f : Fault) → result ≡ Err (FrontError.Fault f)
-        → HasBodiesApart (tree_value tree.now) → HasTableFault (tree_value tree.now) f }
+        → HasBodiesApart (tree_value tree.now) → IsTableFault (tree_value tree.now) f }
 {
     let setting = settle(alloc, tree, parts)?;
     module_in(alloc, tree, &setting, parts)
@@ -252,7 +252,7 @@ fn code(alloc: Global, tree: &Tree<'_>) -> Result<Module, FrontError>
     ensures means { IfOk result (λ m. HasBodiesApart (tree_value tree.now)
         → Means (tree_value tree.now) m) }
     ensures fault { (f : Fault) → result ≡ Err (FrontError.Fault f)
-        → HasBodiesApart (tree_value tree.now) → HasTableFault (tree_value tree.now) f }
+        → HasBodiesApart (tree_value tree.now) → IsTableFault (tree_value tree.now) f }
 {
     check_shared(tree)?;
     match units_in_order(alloc, tree) {
