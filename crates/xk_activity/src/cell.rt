@@ -78,12 +78,24 @@ impl Cell {
         }
     }
 
-    /// Becomes a number.
+    /// Becomes a number. Most often it is one already, and to see that costs less than to write it.
     #[inline(always)]
     pub(crate) fn set_number(&mut self, n: i64)
         ensures { self.new ≡ value.Number n }
     {
-        self.kind = Kind::Number;
+        self.number = n;
+        match self.kind {
+            Kind::Number => {}
+            _ => self.kind = Kind::Number,
+        }
+    }
+
+    /// Becomes another number.
+    #[inline(always)]
+    pub(crate) fn change(&mut self, n: i64)
+        requires { (m : ℤ) × (self.old ≡ value.Number m) }
+        ensures { self.new ≡ value.Number n }
+    {
         self.number = n;
     }
 

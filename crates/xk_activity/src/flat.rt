@@ -19,7 +19,7 @@ fn number(slots: &[Cell], s: u16) -> i64
 
 /// Writes a number to a slot, and gives the next place.
 #[inline(always)]
-fn write(slots: &mut [Cell], d: u16, n: i64, place: usize) -> usize
+fn write(slots: &mut [Cell], d: u16, n: i64, place: u32) -> u32
     requires slot { d < length slots.old }
     requires place { place + 1 < 2 ^ 16 }
     ensures written { slots.new ≡ slice_set slots.old d (value.Number n) }
@@ -30,9 +30,19 @@ fn write(slots: &mut [Cell], d: u16, n: i64, place: usize) -> usize
     place + 1
 }
 
+/// Writes another number to a slot that holds one.
+#[inline(always)]
+fn change(slots: &mut [Cell], k: u16, n: i64)
+    requires { (m : ℤ) × (slice_get slots.old k ≡ Some (value.Number m)) }
+    ensures { slots.new ≡ slice_set slots.old k (value.Number n) }
+{
+    let slot = &mut slots[k as usize];
+    slot.change(n);
+}
+
 /// Ends a turn of the loop that begins at place b, and gives the next place.
 #[inline(always)]
-fn end_turn(code: &[Instr], place: usize, slots: &mut [Cell], b: u16) -> usize
+fn end_turn(code: &[Instr], place: u32, slots: &mut [Cell], b: u16) -> u32
     requires short { length code.now < 2 ^ 16 }
     requires place { place + 1 < 2 ^ 16 }
     requires turn { IsTurnAt code.now (spot_at place slots.old) b }
@@ -42,7 +52,8 @@ fn end_turn(code: &[Instr], place: usize, slots: &mut [Cell], b: u16) -> usize
         Instr::For { k, hi, .. } => {
             let n = number(slots, *k);
             if n < *hi {
-                write(slots, *k, n + 1, b as usize)
+                change(slots, *k, n + 1);
+                b as u32 + 1
             } else {
                 place + 1
             }
@@ -53,7 +64,7 @@ fn end_turn(code: &[Instr], place: usize, slots: &mut [Cell], b: u16) -> usize
 
 /// Carries out an instruction, and gives the next place; nothing where it concerns more than the frame.
 #[inline(always)]
-fn carry(code: &[Instr], place: usize, slots: &mut [Cell], instr: &Instr) -> Option<usize>
+fn carry(code: &[Instr], place: u32, slots: &mut [Cell], instr: &Instr) -> Option<u32>
     requires short { length code.now < 2 ^ 16 }
     requires place { place + 1 < 2 ^ 16 }
     requires operands { CanCarry code.now (spot_at place slots.old) instr.now }
@@ -80,7 +91,7 @@ fn carry(code: &[Instr], place: usize, slots: &mut [Cell], instr: &Instr) -> Opt
         Instr::Unless { op, a, b, .. } if op.holds(number(slots, *a), number(slots, *b)) => {
             place + 1
         }
-        Instr::Unless { t, .. } | Instr::Jump(t) => *t as usize,
+        Instr::Unless { t, .. } | Instr::Jump(t) => *t as u32,
         Instr::For { k, lo, .. } => write(slots, *k, *lo, place),
         Instr::Next(b) => end_turn(code, place, slots, *b),
         _ => return None,
@@ -108,17 +119,17 @@ pub(crate) fn is_flat(instr: &Instr) -> bool
 
 /// The next instruction, if it concerns the frame alone, and the next place.
 #[inline(always)]
-pub(crate) fn one(code: &[Instr], place: usize, slots: &mut [Cell]) -> Option<usize>
+pub(crate) fn one(code: &[Instr], place: u32, slots: &mut [Cell]) -> Option<u32>
     requires short { length code.now < 2 ^ 16 }
     requires right { IsRight (turn code.now (spot_at place slots.old)) }
     ensures { Answers code.now (spot_at place slots.old) result slots.new }
 {
-    carry(code, place, slots, &code[place])
+    carry(code, place, slots, &code[place as usize])
 }
 
 /// Up to max instructions that concern the frame alone: the place then, and how many they were.
 #[inline(never)]
-pub(crate) fn run_flat(code: &[Instr], start: usize, slots: &mut [Cell], max: u32) -> (usize, u32)
+pub(crate) fn run_flat(code: &[Instr], start: u32, slots: &mut [Cell], max: u32) -> (u32, u32)
     requires short { length code.now < 2 ^ 16 }
     requires safe { IsSafe (turn code.now) (spot_at start slots.old) }
     ensures ran { ran (turn code.now) (spot_at start slots.old) result.1

@@ -37,7 +37,7 @@ pub enum Next {
 pub struct Frames<'m> {
     verified: &'m Verified,
     unit: u16,
-    place: usize,
+    place: u32,
     /// Where the slots of the present frame begin.
     base: usize,
     /// The slots of all frames, those of the present one last.
@@ -63,7 +63,7 @@ impl<'m> Model for Frames<'m> {
 
 /// The next instruction of the frame that lies on a stack from base on, if it concerns that frame alone, and the next place.
 #[inline(always)]
-fn step_top(code: &[Instr], place: usize, stack: &mut Vec<Cell>, base: usize) -> Option<usize>
+fn step_top(code: &[Instr], place: u32, stack: &mut Vec<Cell>, base: usize) -> Option<u32>
     requires short { length code.now < 2 ^ 16 }
     requires base { base ≤ length stack.old.items }
     requires right { IsRight (turn code.now (spot_at place (drop base stack.old.items))) }
@@ -82,11 +82,11 @@ fn step_top(code: &[Instr], place: usize, stack: &mut Vec<Cell>, base: usize) ->
 #[inline(always)]
 fn run_on_top(
     code: &[Instr],
-    start: usize,
+    start: u32,
     stack: &mut Vec<Cell>,
     base: usize,
     max: u32,
-) -> (usize, u32)
+) -> (u32, u32)
     requires short { length code.now < 2 ^ 16 }
     requires base { base ≤ length stack.old.items }
     requires safe { IsSafe (turn code.now) (spot_at start (drop base stack.old.items)) }
@@ -211,7 +211,7 @@ impl<'m> Frames<'m> {
             × (instruction_at self.now.module_run self.now.frame ≡ Some i) }
         ensures { instruction_at self.now.module_run self.now.frame ≡ Some result.now }
     {
-        &self.code()[self.place]
+        &self.code()[self.place as usize]
     }
 
     /// What a slot of the present frame holds.
@@ -280,7 +280,7 @@ impl<'m> Frames<'m> {
             Some(c) => {
                 self.stack.truncate(self.base);
                 self.unit = c.unit;
-                self.place = c.place as usize + 1;
+                self.place = c.place as u32 + 1;
                 self.base = c.base;
                 Next::Stepped
             }
@@ -297,7 +297,7 @@ impl<'m> Frames<'m> {
         ensures same { self.new.module_run ≡ self.old.module_run }
     {
         let code = self.code();
-        match &code[self.place] {
+        match &code[self.place as usize] {
             Instr::Call { unit, args } => {
                 self.call(*unit, args.slots());
                 Next::Stepped

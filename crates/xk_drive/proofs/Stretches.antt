@@ -264,3 +264,17 @@ stretch_of answer after c d s t a n steady core named leads local unseen same as
 -- no step is one
 pub stretch_none : {S : Type 0} (answer : S → List ℕ → ℕ) (after : S → List ℕ → S) (c : CoreValue) (s : S) → IsStretch answer after c s 0 c s
 stretch_none answer after c s = record { act = 0; follows = tt; leads = refl; unseen = refl; same_module = refl; left = refl }
+
+-- who was named, and can go on behind the steps, is named again by a chooser that stayed in its state, and it stays in it
+pub named_still : {S : Type 0} (answer : S → List ℕ → ℕ) (after : S → List ℕ → S) (m k : ModuleValue) (w v : World) (s t : S) (a n : ℕ)
+    → IsSteadyOn after s (enabled_in m w) → IsCore m w → GoesAlone m a n w v → k ≡ m → t ≡ after s (enabled_in m w) → is_enabled m w a ≡ true → is_enabled k v a ≡ true
+    → Names answer m s w a → Names answer k t v a × (t ≡ after t (enabled_in k v))
+named_still answer after m k w v s t a n steady core alone same left could can named =
+    let list : enabled_in k v ≡ enabled_in m w =
+    ap (λ j. enabled_in j v) same ∙ alone_listed m a n w v core could alone
+    ∙ ap (λ b. with_member a b (enabled_in m w)) (ap (λ j. is_enabled j v a) (sym same) ∙ can) ∙ listed_there m w a could in
+    let still : t ≡ s = left ∙ steady in (
+      subst (λ l. slice_get l (answer t l % length l) ≡ Some a) (sym list)
+          (subst (λ z. slice_get (enabled_in m w) (answer z (enabled_in m w) % length (enabled_in m w)) ≡ Some a) (sym still) named),
+      sym (ap (λ l. after t l) list ∙ ap (λ z. after z (enabled_in m w)) still ∙ steady ∙ sym still),
+    )

@@ -18,7 +18,7 @@ use Rattle.xk_waiting.proofs.Times.{first_times, other_times, list_times}
 use Rattle.xk_core.specs.Core.{IsCore, governor}
 use Rattle.xk_core.specs.Core.{is_held_back_by, has_advanced, advanced_now, is_quiet}
 use Rattle.xk_drive.specs.Choosing.{enabled_in}
-use Rattle.xk_drive.specs.Held.{AreHeld, AreAsked, IsAsked, IsPut, IsNotedIn}
+use Rattle.xk_drive.specs.Held.{IsHeldNow, AreHeld, AreAsked, IsAsked, IsPut, IsNotedIn}
 use Rattle.xk_core.specs.Core.{is_arrived, is_waiting}
 use Rattle.xk_drive.proofs.Asked.{IsListAsked, AreListsAsked, list_asked, lists_asked}
 use Rattle.xk_drive.proofs.HeldBack.{both, held_on, waits_by, free_on, none_went}
@@ -296,6 +296,10 @@ noted_held m w v a e next later last stepped woken wide noted = elim (arrival e)
     same : (f : Event) → (f ≡ event.Arrived → ⊥) → IsNotedIn v a f later last → last ≡ later
     same event.Arrived not h = absurd (not refl)
     same _ not h = h
+
+-- who has just come to wait and is held back can't take a step
+pub held_unable : (m : ModuleValue) (w v : World) (a : ℕ) (e : Event) → step m w a ≡ Stepped v e → IsHeldNow v a e → is_enabled m v a ≡ false
+held_unable m w v a e stepped now = waiting_enabled m v a (waits_after m w v a e stepped now.0) ∙ ap not now.1
 
 -- ---- where a core is taken over
 

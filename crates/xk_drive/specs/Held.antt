@@ -40,6 +40,10 @@ abbrev pub IsNotedIn : World → ℕ → Event → List (List ℕ) → List (Lis
 IsNotedIn w a event.Arrived lists later = IsPut w a lists later
 IsNotedIn w a _ lists later = later ≡ lists
 
+-- it has just come to wait, and a clock holds it back
+abbrev pub IsHeldNow : World → ℕ → Event → Type 0
+IsHeldNow w a e = (e ≡ event.Arrived) × (waits w a ≡ true)
+
 -- Where the list had those who could take a step before a step of activity a that led to this core, and the lists those who were held back, the
 -- next have those who can and those who are now.
 abbrev pub KeepsLists : CoreValue → ℕ → Event → List ℕ → List (List ℕ) → List ℕ → List (List ℕ) → Type 0

@@ -43,9 +43,10 @@ pub trait Chooser {
 
     /// Whether it stays in its state when it is shown these: then it names the same again as long as the same can take a step, and
     /// needn't be asked before each. Who says no is asked.
-    fn is_steady(&self, _enabled: &NumberSet) -> bool
-        ensures { result ≡ true → IsSteadyOn after self.now _enabled.now.members }
+    fn is_steady(&self, enabled: &NumberSet) -> bool
+        ensures { result ≡ true → IsSteadyOn after self.now enabled.now.members }
     {
+        let _shown = enabled;
         false
     }
 }

@@ -4,7 +4,7 @@ ghost use Rattle.std.specs.Prelude.{◌≡◌, ◌⊎◌, ℕ, ◌+◌, ◌<◌,
 ghost use Rattle.std.specs.Vec.{vec_capacity};
 ghost use Rattle.xk_types.specs.declared.names.Event.TheVariants as event;
 ghost use Rattle.xk_types.specs.World.{World, opening};
-ghost use Rattle.xk_types.specs.Step.{Stepped, step};
+ghost use Rattle.xk_types.specs.Step.{Stepped, step, waits};
 ghost use Rattle.xk_types.specs.Schedule.{is_enabled, all_ended};
 ghost use Rattle.xk_types.specs.Bound.{steps_bound, activities_bound, clocks_bound};
 ghost use Rattle.xk_members.specs.Members.{with_member, place_above};
@@ -13,7 +13,7 @@ ghost use Rattle.xk_core.specs.Handed.{Accepts};
 ghost use Rattle.xk_core.specs.Stretch.{RunsTo, AreLocal, IsUnseen};
 ghost use Rattle.xk_waiting.specs.Waiting.{left, taken, times, times_in_all};
 ghost use Rattle.xk_drive.specs.Choosing.{enabled_in};
-ghost use Rattle.xk_drive.specs.Held.{AreHeld, IsPut, IsAsked, AreAsked, IsNotedIn, KeepsLists};
+ghost use Rattle.xk_drive.specs.Held.{AreHeld, IsHeldNow, IsPut, IsAsked, AreAsked, IsNotedIn, KeepsLists};
 ghost use Rattle.xk_drive.specs.Listing.{other_to_list, with_or_without};
 
 use crate::chooser::Chooser;
@@ -75,18 +75,25 @@ fn list_one(enabled: &mut NumberSet, core: &Core<'_>, act: Act)
     }
 }
 
-/// Takes an activity that is in the set out of it, if it can't take another step.
+/// Takes an activity that is in the set out of it, if it can't take another step, and says whether it can. Of one that is known to be held back
+/// that isn't asked.
 #[inline(always)]
-fn list_own(enabled: &mut NumberSet, core: &Core<'_>, act: Act)
+fn list_own(enabled: &mut NumberSet, core: &Core<'_>, act: Act, is_held: bool) -> bool
     requires { act < enabled.old.room }
-    ensures members { (is_enabled core.now.module_run core.now.world act ≡ true
+    ensures members { (is_held ≡ true
+        → is_enabled core.now.module_run core.now.world act ≡ false)
+        → (is_enabled core.now.module_run core.now.world act ≡ true
         → with_member act true enabled.old.members ≡ enabled.old.members)
         → enabled.new.members ≡ with_or_without core.now act enabled.old.members }
+    ensures can { is_held ≡ false
+        → result ≡ is_enabled core.now.module_run core.now.world act }
     ensures room { enabled.new.room ≡ enabled.old.room }
 {
-    if !core.enabled(act) {
+    if is_held || !core.enabled(act) {
         enabled.remove(act.0);
+        return false;
     }
+    true
 }
 
 /// Who but the activity that took it may be able to step after a step, and not before, or the other way round, whatever clocks do: one
@@ -103,19 +110,24 @@ fn other_to_list(core: &Core<'_>, act: Act, event: Event) -> Option<Act>
     }
 }
 
-/// Puts an activity that stands in no list into that of a clock which holds it back, if one does.
+/// Puts an activity that stands in no list into that of a clock which holds it back, if one does, and says whether one does.
 #[inline(always)]
-fn put_waiting(waiting: &mut WaitingLists, core: &Core<'_>, act: Act)
+fn put_waiting(waiting: &mut WaitingLists, core: &Core<'_>, act: Act) -> bool
     requires act { act < length core.now.world.activities }
     requires room { length core.now.world.activities ≤ waiting.old.room }
     requires clocks { length core.now.world.clocks ≤ length waiting.old.lists }
     requires nowhere { times_in_all act waiting.old.lists ≡ 0 }
     ensures put { IsPut core.now.world act waiting.old.lists waiting.new.lists }
+    ensures held { result ≡ true → waits core.now.world act ≡ true }
     ensures room { waiting.new.room ≡ waiting.old.room }
     ensures clocks { length waiting.new.lists ≡ length waiting.old.lists }
 {
-    if let Some(clock) = core.waits_for(act) {
-        waiting.put(clock.0, act.0);
+    match core.waits_for(act) {
+        Some(clock) => {
+            waiting.put(clock.0, act.0);
+            true
+        }
+        None => false,
     }
 }
 
@@ -157,20 +169,22 @@ fn ask_each(enabled: &mut NumberSet, waiting: &mut WaitingLists, core: &Core<'_>
     }
 }
 
-/// Brings the lists of those who wait at an `advance` up to date after a step of the activity, which stands in none.
+/// Brings the lists of those who wait at an `advance` up to date after a step of the activity, which stands in none; and says whether it has
+/// come to wait and is held back.
 #[inline(always)]
-fn note_waiting(waiting: &mut WaitingLists, core: &Core<'_>, act: Act, event: Event)
+fn note_waiting(waiting: &mut WaitingLists, core: &Core<'_>, act: Act, event: Event) -> bool
     requires act { act < length core.now.world.activities }
     requires room { length core.now.world.activities ≤ waiting.old.room }
     requires clocks { length core.now.world.clocks ≤ length waiting.old.lists }
     requires nowhere { times_in_all act waiting.old.lists ≡ 0 }
     ensures noted { IsNotedIn core.now.world act event waiting.old.lists waiting.new.lists }
+    ensures held { result ≡ true → IsHeldNow core.now.world act event }
     ensures room { waiting.new.room ≡ waiting.old.room }
     ensures clocks { length waiting.new.lists ≡ length waiting.old.lists }
 {
     match event {
         Event::Arrived => put_waiting(waiting, core, act),
-        _ => {}
+        _ => false,
     }
 }
 
@@ -284,8 +298,8 @@ fn list_after(
     ensures capacity_of_clocks { vec_capacity advanced.old ≤ vec_capacity advanced.new }
 {
     list_woken(enabled, waiting, shown, advanced, core);
-    note_waiting(waiting, core, act, event);
-    list_own(enabled, core, act);
+    let is_held = note_waiting(waiting, core, act, event);
+    list_own(enabled, core, act, is_held);
     if let Some(other) = other_to_list(core, act, event) {
         list_one(enabled, core, other);
     }
@@ -513,21 +527,26 @@ impl<'m> Driver<'m> {
             let event = self.step(act)?;
             return Ok(Some(Turn { act, event }));
         }
-        self.run(act);
+        let (_steps, can_go_on) = self.run(act);
+        if can_go_on {
+            let event = self.step(act)?;
+            return Ok(Some(Turn { act, event }));
+        }
         let turn = self.turn(chooser)?;
         Ok(turn)
     }
 
-    /// The steps of the activity that nobody else can see, up to one that others can, and how many they were.
-    fn run(&mut self, act: Act) -> u32
+    /// The steps of the activity that nobody else can see, up to one that others can, how many they were, and whether it can take that one.
+    fn run(&mut self, act: Act) -> (u32, bool)
         requires { IsTrue (is_enabled self.old.module_run self.old.world act) }
-        ensures ran { RunsTo self.old act result self.new }
-        ensures local { AreLocal self.old act result }
-        ensures unseen { IsUnseen self.old act result }
+        ensures ran { RunsTo self.old act result.0 self.new }
+        ensures local { AreLocal self.old act result.0 }
+        ensures unseen { IsUnseen self.old act result.0 }
+        ensures can { result.1 ≡ is_enabled self.new.module_run self.new.world act }
         ensures same_module { self.new.module_run ≡ self.old.module_run }
     {
         let steps = self.core.run(act, u32::MAX);
-        list_own(&mut self.enabled, &self.core, act);
-        steps
+        let can_go_on = list_own(&mut self.enabled, &self.core, act, false);
+        (steps, can_go_on)
     }
 }

@@ -5,3 +5,4 @@ mod Members
 mod Changes
 pub mod Listing
 mod Empty
+mod Within

@@ -1,5 +1,5 @@
 -- Sets of numbers, seen as the rising lists of their members.
-use Rattle.std.specs.Prelude.{◌≡◌, ℕ, zero, suc, ◌<◌, nat_le, nat_lt, Bool, if◌then◌else◌, ◌++◌, List, [], ◌∷◌, length, filter, Some, slice_get}
+use Rattle.std.specs.Prelude.{◌≡◌, ℕ, zero, suc, ◌<◌, nat_le, nat_lt, Bool, if◌then◌else◌, ◌++◌, List, [], ◌∷◌, length, filter, Some, slice_get, All}
 
 -- each is smaller than the next
 abbrev pub IsRising : List ℕ → Type 0
@@ -22,3 +22,8 @@ place_above number xs = length (filter (λ x. nat_le x number) xs)
 pub record SetValue : Type 0 where
   pub members : List ℕ
   pub room : ℕ
+
+-- the members of a set that has this room
+pub record AreMembers (xs : List ℕ) (room : ℕ) : Type 0 where
+  pub rise : IsRising xs
+  pub within : All (λ x. x < room) xs

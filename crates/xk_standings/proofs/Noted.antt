@@ -12,21 +12,6 @@ use Rattle.xk_clocks.specs.Table.{TableValue}
 use Rattle.xk_standings.specs.Calls.{noted_in, IsUpToDate}
 use Rattle.xk_standings.proofs.Lists.{other_number}
 
--- ---- the least is taken out of a set
-
-pub first_taken : (xs : List ℕ) (b : ℕ) → IsRising xs → Some b ≡ slice_get xs 0 → b ∷ with_member b false xs ≡ xs
-first_taken [] b up is = absurd (none-some b (sym is))
-first_taken (x ∷ xs) b up is =
-    let e : x ≡ b = same_Some x b (sym is) in
-    ap (λ l. b ∷ l) (sym (member_taken_out b (x ∷ xs) 0 up (omega arith) e)) ∙ ap (λ y. y ∷ xs) (sym e)
-
-pub all_behind : (P : ℕ → Type 0) (x : ℕ) (xs ys : List ℕ) → x ∷ ys ≡ xs → All P xs → All P ys
-all_behind P x xs ys e all = λ i d lt. (subst (λ (l : List ℕ). All P l) (sym e) all) (suc i) d (omega arith)
-
-pub nobody_left : (xs : List ℕ) (o : Option ℕ) → o ≡ slice_get xs 0 → ((k : ℕ) → o ≡ Some k → ⊥) → xs ≡ []
-nobody_left [] o is none = refl
-nobody_left (x ∷ xs) o is none = absurd (none x is)
-
 -- ---- the clocks whose last advance was in a step
 
 abbrev pub is_noted : List ℕ → ℕ → ℕ → Bool
@@ -104,18 +89,6 @@ quiet_noted ls step (x ∷ list) is =
     ne_eqb (length (x ∷ list)) 0 (λ e. omega (arith, e)) ∙ sym (loud_one ls step x member.1 member.0)
 
 -- ---- what is kept of all clocks
-
--- the set has clocks that are there
-pub latest_within : (t : TableValue) (ls : List ℕ) (room newest : ℕ) (latest : SetValue) → IsUpToDate t ls room newest latest → All (λ x. x < latest.room) latest.members
-latest_within t ls room newest latest kept =
-    All-from_get_or (λ x. x < latest.room) latest.members 0
-    (λ i lt. omega (
-      arith,
-      kept.fits,
-      kept.room_for_latest,
-      (member_passes (is_noted ls newest) (length ls) i (get_or latest.members i 0)
-          (ap (λ l. slice_get l i) (sym kept.latest_is) ∙ slice_get-get_or latest.members i 0 lt)).1,
-    ))
 
 pub latest_few : (t : TableValue) (ls : List ℕ) (room newest : ℕ) (latest : SetValue) → IsUpToDate t ls room newest latest → length latest.members ≤ length ls
 latest_few t ls room newest latest kept = omega (arith, ap length kept.latest_is, members_few (is_noted ls newest) (length ls))

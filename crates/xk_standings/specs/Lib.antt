@@ -1,3 +1,5 @@
 pub mod View
 pub mod Calls
 pub mod Told
+pub mod Resumed
+pub mod ResumedLaw

@@ -10,7 +10,7 @@ use crate::registration::Registration;
 use std::alloc::{AllocError, Global};
 use std::marker::Model;
 use xk_clocks::ClockTable;
-use xk_members::NumberSet;
+use xk_members::FewNumbers;
 use xk_types::ClockId;
 
 /// The clocks of a running program in numbers, and the number of the step in which each advanced last.
@@ -21,7 +21,7 @@ pub struct Clocks {
     /// A number of a step behind which no clock has advanced, and the clocks whose last advance was in that step: so that they
     /// needn't be searched for.
     newest: u64,
-    latest: NumberSet,
+    latest: FewNumbers,
 }
 
 impl Model for Clocks {
@@ -48,7 +48,7 @@ impl Clocks {
             table,
             lasts: Vec::with_capacity(alloc, clocks as usize)?,
             newest: 0,
-            latest: NumberSet::with_room(alloc, clocks)?,
+            latest: FewNumbers::with_room(alloc, clocks)?,
         })
     }
 

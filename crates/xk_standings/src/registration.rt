@@ -13,17 +13,31 @@ use xk_types::{ClockId, Standing};
 #[derive(Clone, Copy)]
 pub struct Registration {
     clock: ClockId,
-    resumed: Option<u64>,
+    is_resumed: bool,
+    /// 0 where it wasn't resumed. An `Option` of it would take half as much memory again, for each clock that each activity is registered on.
+    phase: u64,
 }
 
 impl Model for Registration {
     ghost use Rattle.xk_standings.specs.View as definitions;
+    ghost use Rattle.xk_standings.specs.Resumed.{resumed_of, was_resumed, phase_in, IsPlain};
+    ghost use Rattle.xk_standings.specs.ResumedLaw.{was_again, alike};
+    ghost use Rattle.std.proofs.Common.{sym};
 
     ghost Value = { definitions.Registration };
 
-    ghost view = { λ r. record { clock = r.clock; resumed = r.resumed } };
+    ghost view = { λ r. record { clock = r.clock; resumed = resumed_of r.is_resumed r.phase } };
 
-    ghost inverse = { λ r. record { clock = r.clock; resumed = r.resumed } };
+    ghost invariant = { λ r. IsPlain r.is_resumed r.phase };
+
+    ghost inverse = { λ v. record {
+      clock = v.clock;
+      is_resumed = was_resumed v.resumed;
+      phase = phase_in v.resumed;
+    } };
+
+    ghost inverse_ok = { λ r h. alike (λ b p. record { clock = r.clock; is_resumed = b; phase = p })
+        _ r.is_resumed _ r.phase (was_again r.is_resumed r.phase) (sym h) };
 }
 
 impl Default for Registration {
@@ -40,7 +54,8 @@ impl Registration {
     {
         Registration {
             clock,
-            resumed: None,
+            is_resumed: false,
+            phase: 0,
         }
     }
 
@@ -55,22 +70,19 @@ impl Registration {
     pub fn is_open(self) -> bool
         ensures { result ≡ is_open self }
     {
-        self.resumed.is_none()
+        !self.is_resumed
     }
 
     /// Where the activity stands on the clock while that one is in this phase.
     pub fn standing(self, phase: u64) -> Standing
         ensures { result ≡ standing_at phase self.resumed }
     {
-        match self.resumed {
-            None => Standing::Open,
-            Some(resumed) => {
-                if resumed == phase {
-                    Standing::Signalled
-                } else {
-                    Standing::Ahead
-                }
-            }
+        if !self.is_resumed {
+            Standing::Open
+        } else if self.phase == phase {
+            Standing::Signalled
+        } else {
+            Standing::Ahead
         }
     }
 
@@ -97,7 +109,8 @@ impl Registration {
     {
         Registration {
             clock: self.clock,
-            resumed: Some(phase),
+            is_resumed: true,
+            phase,
         }
     }
 }

@@ -5,11 +5,11 @@ use Rattle.xk_waiting.specs.Waiting.{left, taken}
 use Rattle.xk_core.specs.Core.{advanced_now}
 use Rattle.xk_drive.specs.Held.{AreAsked}
 use Rattle.xk_drive.proofs.Listing.{listed_own, listed_alone, listed_two, other_within}
-use Rattle.xk_drive.proofs.Woken.{asked_nowhere, noted_held, woken_to}
+use Rattle.xk_drive.proofs.Woken.{asked_nowhere, held_unable, noted_held, woken_to}
 use Rattle.xk_drive.proofs.driver.list_after.Goals as goal
 
-pub note_waiting-requires-clause-nowhere : goal.note_waiting-requires-clause-nowhere
-note_waiting-requires-clause-nowhere c =
+pub note_waiting-is_held-requires-clause-nowhere : goal.note_waiting-is_held-requires-clause-nowhere
+note_waiting-is_held-requires-clause-nowhere c =
     asked_nowhere c.args.core.now.world c.args.act c.args.waiting.now.lists c.args.enabled.now.members c.list_woken.new.enabled.members c.list_woken.new.waiting.lists
     c.requires.clocks c.requires.nowhere c.list_woken.ensures.asked
 
@@ -36,11 +36,11 @@ returns-in-Some-clause-lists c before core stepped is held =
     let later = c.list_woken.new.waiting.lists in
     let asked = subst (λ (l : List ℕ). AreAsked v (taken lists (advanced_now v)) l (left lists (advanced_now v)) next later) is c.list_woken.ensures.asked in
     let r = woken_to m before v act e lists core stepped held c.requires.clocks next later asked in
-    let own = c.list_own.ensures.members (λ h. ap (with_member act true) r.list_is ∙ listed_own m before v act e r.test r.step h ∙ sym r.list_is) in (
+    let own = c.list_own.ensures.members (λ held_now. held_unable m before v act e stepped (c.note_waiting-is_held.ensures.held held_now)) (λ h. ap (with_member act true) r.list_is ∙ listed_own m before v act e r.test r.step h ∙ sym r.list_is) in (
       c.list_one.ensures.members
           ∙ ap (with_member c.in-Some.other (can c.in-Some.other)) (own ∙ ap (with_member act (can act)) r.list_is)
           ∙ listed_two m before v act c.in-Some.other e r.test r.step (sym c.other_to_list.ensures ∙ c.in-Some.is),
-      noted_held m before v act e next later c.note_waiting.new.waiting.lists stepped r (omega (arith, c.requires.clocks, c.list_woken.ensures.clocks)) c.note_waiting.ensures.noted,
+      noted_held m before v act e next later c.note_waiting-is_held.new.waiting.lists stepped r (omega (arith, c.requires.clocks, c.list_woken.ensures.clocks)) c.note_waiting-is_held.ensures.noted,
     )
 
 pub returns-in_default-clause-lists : goal.returns-in_default-clause-lists
@@ -55,7 +55,7 @@ returns-in_default-clause-lists c before core stepped is held =
     let later = c.list_woken.new.waiting.lists in
     let asked = subst (λ (l : List ℕ). AreAsked v (taken lists (advanced_now v)) l (left lists (advanced_now v)) next later) is c.list_woken.ensures.asked in
     let r = woken_to m before v act e lists core stepped held c.requires.clocks next later asked in
-    let own = c.list_own.ensures.members (λ h. ap (with_member act true) r.list_is ∙ listed_own m before v act e r.test r.step h ∙ sym r.list_is) in (
+    let own = c.list_own.ensures.members (λ held_now. held_unable m before v act e stepped (c.note_waiting-is_held.ensures.held held_now)) (λ h. ap (with_member act true) r.list_is ∙ listed_own m before v act e r.test r.step h ∙ sym r.list_is) in (
       own ∙ ap (with_member act (can act)) r.list_is ∙ listed_alone m before v act e r.test r.step (sym c.in_default.ensures),
-      noted_held m before v act e next later c.note_waiting.new.waiting.lists stepped r (omega (arith, c.requires.clocks, c.list_woken.ensures.clocks)) c.note_waiting.ensures.noted,
+      noted_held m before v act e next later c.note_waiting-is_held.new.waiting.lists stepped r (omega (arith, c.requires.clocks, c.list_woken.ensures.clocks)) c.note_waiting-is_held.ensures.noted,
     )

@@ -1,4 +1,4 @@
-use Rattle.std.proofs.Common.{◌≡◌, ◌∙◌, true, sym, ap, subst, arith}
+use Rattle.std.proofs.Common.{◌≡◌, ◌∙◌, true, true≢false, sym, ap, subst, arith}
 use Rattle.xk_types.specs.Bound.{activities_bound, clocks_bound}
 use Rattle.xk_types.specs.Schedule.{is_enabled}
 use Rattle.xk_core.specs.Core.{CoreValue, IsCore}
@@ -8,8 +8,8 @@ use Rattle.xk_drive.proofs.Listing.{core_few}
 use Rattle.xk_drive.proofs.Stretches.{GoesAlone, alone_core, alone_listed, alone_held, enabled_within, listed_there}
 use Rattle.xk_drive.proofs.driver.Driver.run.Goals as goal
 
-pub list_own-requires : goal.list_own-requires
-list_own-requires c =
+pub list_own-can_go_on-requires : goal.list_own-can_go_on-requires
+list_own-can_go_on-requires c =
     let d = c.self.inside in
     let can : is_enabled d.core.module_run d.core.world c.args.act ≡ true =
     subst (λ (v : CoreValue). is_enabled v.module_run v.world c.args.act ≡ true) (sym c.self.view_is) c.requires in
@@ -33,13 +33,13 @@ invariant_of-self c =
     let alone : GoesAlone m act c.run-steps.result w v = record { leads = c.run-steps.ensures.ran; local = c.run-steps.ensures.local } in
     record {
       core = subst (λ j. IsCore j v) (sym same) (alone_core m act c.run-steps.result w v c.self.invariant.core alone);
-      list_is = c.list_own.ensures.members (λ h. ap (with_member act true) c.self.invariant.list_is ∙ listed_there m w act can ∙ sym c.self.invariant.list_is)
+      list_is = c.list_own-can_go_on.ensures.members (λ h. absurd (true≢false (sym h))) (λ h. ap (with_member act true) c.self.invariant.list_is ∙ listed_there m w act can ∙ sym c.self.invariant.list_is)
           ∙ ap (with_member act (is_enabled k v act)) c.self.invariant.list_is
           ∙ ap (λ j. with_member act (is_enabled j v act) (enabled_in m w)) same
           ∙ sym (alone_listed m act c.run-steps.result w v c.self.invariant.core can alone)
           ∙ ap (λ j. enabled_in j v) (sym same);
       held = alone_held m act c.run-steps.result w v d.waiting.lists c.self.invariant.core alone c.self.invariant.held;
-      roomy = omega (arith, ap activities_bound same, c.self.invariant.roomy, c.list_own.ensures.room);
+      roomy = omega (arith, ap activities_bound same, c.self.invariant.roomy, c.list_own-can_go_on.ensures.room);
       roomy_to_wait = omega (arith, ap activities_bound same, c.self.invariant.roomy_to_wait);
       roomy_clocks = omega (arith, ap clocks_bound same, c.self.invariant.roomy_clocks);
       roomy_list = omega (arith, ap activities_bound same, c.self.invariant.roomy_list);

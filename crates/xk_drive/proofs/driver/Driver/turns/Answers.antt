@@ -1,10 +1,10 @@
 use Rattle.std.proofs.Common.{◌≡◌, ◌∙◌, ◌%◌, true, false, length, refl, sym, ap, subst, arith, slice_get, Some}
-use Rattle.xk_types.specs.Schedule.{all_ended}
+use Rattle.xk_types.specs.Schedule.{all_ended, is_enabled}
 use Rattle.xk_core.specs.Core.{CoreValue, StepsTo, WantsMemory}
 use Rattle.xk_drive.specs.Choosing.{Names, enabled_in, IsSteadyOn}
 use Rattle.xk_drive.specs.Stretches.{IsStretch}
-use Rattle.xk_drive.proofs.Listing.{listed_few, listed_enabled, over_is, on_err, core_few}
-use Rattle.xk_drive.proofs.Stretches.{stretch_of, stretch_none}
+use Rattle.xk_drive.proofs.Listing.{going, listed_few, listed_enabled, over_is, on_err, core_few}
+use Rattle.xk_drive.proofs.Stretches.{GoesAlone, named_still, stretch_of, stretch_none}
 use Rattle.xk_drive.proofs.driver.Driver.turns.Goals as goal
 
 pub returns-then-is_empty-clause-gone : goal.returns-then-is_empty-clause-gone
@@ -85,8 +85,8 @@ returns-then-not-goes_ahead-clause-gone g c =
       };
     }
 
-pub run-requires : goal.run-requires
-run-requires g c =
+pub run-steps-requires : goal.run-steps-requires
+run-steps-requires g c =
     let d = c.self.inside in
     let answer = g.C.Chooser.answer c.args.chooser.now in
     listed_enabled d.core.module_run d.core.world _ c.pick.result
@@ -104,12 +104,12 @@ returns-in_err-turn-clause-refused g c =
     let steady : IsSteadyOn after s (enabled_in d.core.module_run d.core.world) =
     subst (IsSteadyOn after s) c.self.invariant.list_is (c.is_steady-is_steady.ensures (c.goes_ahead.ensures c.if-not-goes_ahead.false)) in
     on_err c.from_residual-in_err-turn.result _ (record {
-      count = c.run.result;
-      between = c.run.new.self;
+      count = c.run-steps.result.0;
+      between = c.run-steps.new.self;
       left = c.pick.new.self;
-      stretch = subst (λ (v : CoreValue). IsStretch answer after v s c.run.result c.run.new.self c.pick.new.self) c.self.view_is
-          (stretch_of answer after d.core c.run.new.self s c.pick.new.self act c.run.result steady c.self.invariant.core named
-          c.run.ensures.ran c.run.ensures.local c.run.ensures.unseen c.run.ensures.same_module
+      stretch = subst (λ (v : CoreValue). IsStretch answer after v s c.run-steps.result.0 c.run-steps.new.self c.pick.new.self) c.self.view_is
+          (stretch_of answer after d.core c.run-steps.new.self s c.pick.new.self act c.run-steps.result.0 steady c.self.invariant.core named
+          c.run-steps.ensures.ran c.run-steps.ensures.local c.run-steps.ensures.unseen c.run-steps.ensures.same_module
           (c.pick.ensures.goes_on ∙ ap (after s) c.self.invariant.list_is));
       refused = c.in_err-turn.ensures.refused;
     })
@@ -126,12 +126,76 @@ returns-clause-gone g c =
     let steady : IsSteadyOn after s (enabled_in d.core.module_run d.core.world) =
     subst (IsSteadyOn after s) c.self.invariant.list_is (c.is_steady-is_steady.ensures (c.goes_ahead.ensures c.if-not-goes_ahead.false)) in
     record {
-      count = c.run.result;
-      between = c.run.new.self;
+      count = c.run-steps.result.0;
+      between = c.run-steps.new.self;
       left = c.pick.new.self;
-      stretch = subst (λ (v : CoreValue). IsStretch answer after v s c.run.result c.run.new.self c.pick.new.self) c.self.view_is
-          (stretch_of answer after d.core c.run.new.self s c.pick.new.self act c.run.result steady c.self.invariant.core named
-          c.run.ensures.ran c.run.ensures.local c.run.ensures.unseen c.run.ensures.same_module
+      stretch = subst (λ (v : CoreValue). IsStretch answer after v s c.run-steps.result.0 c.run-steps.new.self c.pick.new.self) c.self.view_is
+          (stretch_of answer after d.core c.run-steps.new.self s c.pick.new.self act c.run-steps.result.0 steady c.self.invariant.core named
+          c.run-steps.ensures.ran c.run-steps.ensures.local c.run-steps.ensures.unseen c.run-steps.ensures.same_module
           (c.pick.ensures.goes_on ∙ ap (after s) c.self.invariant.list_is));
       turn = c.in_ok-turn.ensures.taken;
+    }
+
+pub returns-in_err-event-2-clause-refused : goal.returns-in_err-event-2-clause-refused
+returns-in_err-event-2-clause-refused g c =
+    let d = c.self.inside in
+    let answer = g.C.Chooser.answer in
+    let after = g.C.Chooser.after in
+    let s = c.args.chooser.now in
+    let act = c.pick.result in
+    let named : Names answer d.core.module_run s d.core.world act =
+    subst (λ l. slice_get l (answer s l % length l) ≡ Some act) c.self.invariant.list_is c.pick.ensures.picked in
+    let steady : IsSteadyOn after s (enabled_in d.core.module_run d.core.world) =
+    subst (IsSteadyOn after s) c.self.invariant.list_is (c.is_steady-is_steady.ensures (c.goes_ahead.ensures c.if-not-goes_ahead.false)) in
+    let left = c.pick.ensures.goes_on ∙ ap (after s) c.self.invariant.list_is in
+    let alone : GoesAlone d.core.module_run act c.run-steps.result.0 d.core.world c.run-steps.new.self.world =
+    record { leads = c.run-steps.ensures.ran; local = c.run-steps.ensures.local } in
+    let can : is_enabled c.run-steps.new.self.module_run c.run-steps.new.self.world act ≡ true = sym c.run-steps.ensures.can ∙ c.if-can_go_on.true in
+    let again = named_still answer after d.core.module_run c.run-steps.new.self.module_run d.core.world c.run-steps.new.self.world s c.pick.new.self act c.run-steps.result.0
+    steady c.self.invariant.core alone c.run-steps.ensures.same_module left (listed_enabled d.core.module_run d.core.world _ act named) can named
+    in on_err c.from_residual-in_err-event-2.result _ (record {
+      count = c.run-steps.result.0;
+      between = c.run-steps.new.self;
+      left = c.pick.new.self;
+      stretch = subst (λ (v : CoreValue). IsStretch answer after v s c.run-steps.result.0 c.run-steps.new.self c.pick.new.self) c.self.view_is
+          (stretch_of answer after d.core c.run-steps.new.self s c.pick.new.self act c.run-steps.result.0 steady c.self.invariant.core named
+          c.run-steps.ensures.ran c.run-steps.ensures.local c.run-steps.ensures.unseen c.run-steps.ensures.same_module left);
+      refused = record {
+        same = c.in_err-event-2.ensures.refused;
+        goes_on = going c.run-steps.new.self.module_run c.run-steps.new.self.world act can;
+        asked = again.1;
+        wants = record { act = act; named = again.0; grows = c.in_err-event-2.ensures.only_where_it_grows };
+      };
+    })
+
+pub returns-then-can_go_on-clause-gone : goal.returns-then-can_go_on-clause-gone
+returns-then-can_go_on-clause-gone g c =
+    let d = c.self.inside in
+    let answer = g.C.Chooser.answer in
+    let after = g.C.Chooser.after in
+    let s = c.args.chooser.now in
+    let act = c.pick.result in
+    let named : Names answer d.core.module_run s d.core.world act =
+    subst (λ l. slice_get l (answer s l % length l) ≡ Some act) c.self.invariant.list_is c.pick.ensures.picked in
+    let steady : IsSteadyOn after s (enabled_in d.core.module_run d.core.world) =
+    subst (IsSteadyOn after s) c.self.invariant.list_is (c.is_steady-is_steady.ensures (c.goes_ahead.ensures c.if-not-goes_ahead.false)) in
+    let left = c.pick.ensures.goes_on ∙ ap (after s) c.self.invariant.list_is in
+    let alone : GoesAlone d.core.module_run act c.run-steps.result.0 d.core.world c.run-steps.new.self.world =
+    record { leads = c.run-steps.ensures.ran; local = c.run-steps.ensures.local } in
+    let can : is_enabled c.run-steps.new.self.module_run c.run-steps.new.self.world act ≡ true = sym c.run-steps.ensures.can ∙ c.if-can_go_on.true in
+    let again = named_still answer after d.core.module_run c.run-steps.new.self.module_run d.core.world c.run-steps.new.self.world s c.pick.new.self act c.run-steps.result.0
+    steady c.self.invariant.core alone c.run-steps.ensures.same_module left (listed_enabled d.core.module_run d.core.world _ act named) can named
+    in record {
+      count = c.run-steps.result.0;
+      between = c.run-steps.new.self;
+      left = c.pick.new.self;
+      stretch = subst (λ (v : CoreValue). IsStretch answer after v s c.run-steps.result.0 c.run-steps.new.self c.pick.new.self) c.self.view_is
+          (stretch_of answer after d.core c.run-steps.new.self s c.pick.new.self act c.run-steps.result.0 steady c.self.invariant.core named
+          c.run-steps.ensures.ran c.run-steps.ensures.local c.run-steps.ensures.unseen c.run-steps.ensures.same_module left);
+      turn = record {
+        chosen = again.0;
+        stepped = c.in_ok-event-2.ensures.stepped;
+        same_module = c.in_ok-event-2.ensures.same_module;
+        goes_on = again.1;
+      };
     }

@@ -1,10 +1,7 @@
 use Rattle.std.proofs.Common.{◌<◌, length, sym, subst, arith}
 use Rattle.xk_standings.specs.Calls.{ClocksValue}
-use Rattle.xk_standings.proofs.Noted.{latest_within, advance_noted}
+use Rattle.xk_standings.proofs.Noted.{advance_noted}
 use Rattle.xk_standings.proofs.clocks.Clocks.note.Goals as goal
-
-pub turn_to-self-inside-requires : goal.turn_to-self-inside-requires
-turn_to-self-inside-requires c = latest_within _ _ _ _ _ c.self.invariant
 
 pub invariant_of-self : goal.invariant_of-self
 invariant_of-self c =
