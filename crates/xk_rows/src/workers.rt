@@ -2,10 +2,11 @@
 //! module that it is of.
 
 use crate::programs::{OTHER_SUM, SUM_AND_PHASE, TWO_SUMS, accepted};
-use std::alloc::{AllocError, Global};
+use std::alloc::{AllocError, AllocGlobal, Global};
+use std::sync::Wait;
 use std::sync::atomic::{AtomicU64, Ordering};
 use std::test::Fail;
-use std::thread;
+use std::thread::{self, Threads};
 use xk_activity::{Frames, Ticket, run_local};
 use xk_bounds::Verified;
 use xk_core::Core;
@@ -83,18 +84,28 @@ fn answered(answer: &Result<Ended<'_>, Partial<'_>>) -> (bool, (usize, u64)) {
     }
 }
 
+/// A run of two workers by this gate: whether all have ended, and how many entries and steps its log has.
+fn by_two<R: AllocGlobal + Threads + Wait + Sync, G: Gate + Sync>(
+    rt: &R,
+    verified: &Verified,
+    gate: &G,
+) -> Option<(bool, (usize, u64))> {
+    match Core::open(rt.alloc(), verified) {
+        Ok(start) => Some(answered(&run_workers(rt, rt.alloc(), start, 2, gate))),
+        Err(_) => None,
+    }
+}
+
 /// While one worker computes, another does: neither has the lock then. Each stretch of local steps is one entry.
 #[test]
 fn workers_compute_at_once(rt: HostRuntime) -> Result<(), Fail> {
-    let alloc = rt.alloc();
-    let verified = accepted(alloc, TWO_SUMS)?;
+    let verified = accepted(rt.alloc(), TWO_SUMS)?;
     let gate = Meeting {
         begun: AtomicU64::new(0),
         met: AtomicU64::new(0),
     };
-    let start = Core::open(alloc, &verified)?;
-    let answer = run_workers(&rt, alloc, start, 2, &gate);
-    assert_eq!(rt; answered(&answer), (true, (7, 11)));
+    let told = by_two(&rt, &verified, &gate);
+    assert_eq!(rt; told, Some((true, (7, 11))));
     assert_eq!(rt; gate.met.load(Ordering::SeqCst), 1);
     Ok(())
 }
@@ -102,11 +113,9 @@ fn workers_compute_at_once(rt: HostRuntime) -> Result<(), Fail> {
 /// A gate that is refused memory ends the run, behind what was done before.
 #[test]
 fn a_gate_is_refused_memory(rt: HostRuntime) -> Result<(), Fail> {
-    let alloc = rt.alloc();
-    let verified = accepted(alloc, TWO_SUMS)?;
-    let start = Core::open(alloc, &verified)?;
-    let answer = run_workers(&rt, alloc, start, 2, &Refused);
-    assert_eq!(rt; answered(&answer), (false, (1, 1)));
+    let verified = accepted(rt.alloc(), TWO_SUMS)?;
+    let told = by_two(&rt, &verified, &Refused);
+    assert_eq!(rt; told, Some((false, (1, 1))));
     Ok(())
 }
 
@@ -138,20 +147,42 @@ fn handed_twice<'m>(alloc: Global, shared: &mut Shared<'m>) -> Option<[(bool, us
     Some([handed(shared, first), handed(shared, again)])
 }
 
-/// A ticket of main before its first step.
-fn ticket_of<'m>(alloc: Global, verified: &'m Verified) -> Option<Ticket<'m>> {
-    let shared = Shared::open(alloc, Core::open(alloc, verified).ok()?);
-    ticket(alloc, &shared)
+/// A run that workers share, before its first step.
+fn opened<'m>(alloc: Global, verified: &'m Verified) -> Option<Shared<'m>> {
+    match Core::open(alloc, verified) {
+        Ok(core) => Some(Shared::open(alloc, core)),
+        Err(_) => None,
+    }
 }
 
-/// Hands a ticket in where a module runs.
-fn handed_in<'m>(
-    alloc: Global,
-    verified: &'m Verified,
-    ticket: Ticket<'m>,
+/// Hands two tickets of main before its first step in.
+fn handed_twice_in(alloc: Global, verified: &Verified) -> Option<[(bool, usize, u64); 2]> {
+    match opened(alloc, verified) {
+        Some(mut shared) => handed_twice(alloc, &mut shared),
+        None => None,
+    }
+}
+
+/// A ticket of main, if there is a run.
+fn ticket_if<'m>(alloc: Global, shared: &Option<Shared<'m>>) -> Option<Ticket<'m>> {
+    match shared {
+        Some(shared) => ticket(alloc, shared),
+        None => None,
+    }
+}
+
+/// A ticket of main before its first step.
+fn ticket_of<'m>(alloc: Global, verified: &'m Verified) -> Option<Ticket<'m>> {
+    let shared = opened(alloc, verified);
+    ticket_if(alloc, &shared)
+}
+
+/// Hands a ticket in, if there is one.
+fn handed_if<'m>(
+    shared: &mut Shared<'m>,
+    ticket: Option<Ticket<'m>>,
 ) -> Option<(bool, usize, u64)> {
-    let mut shared = Shared::open(alloc, Core::open(alloc, verified).ok()?);
-    Some(handed(&mut shared, ticket))
+    Some(handed(shared, ticket?))
 }
 
 /// Hands a ticket of one module in where another runs.
@@ -160,7 +191,10 @@ fn handed_across<'m>(
     verified: &'m Verified,
     other: &'m Verified,
 ) -> Option<(bool, usize, u64)> {
-    handed_in(alloc, verified, ticket_of(alloc, other)?)
+    match opened(alloc, verified) {
+        Some(mut shared) => handed_if(&mut shared, ticket_of(alloc, other)),
+        None => None,
+    }
 }
 
 /// A ticket is taken once.
@@ -168,8 +202,7 @@ fn handed_across<'m>(
 fn a_second_ticket_is_stale(rt: HostRuntime) -> Result<(), Fail> {
     let alloc = rt.alloc();
     let verified = accepted(alloc, SUM_AND_PHASE)?;
-    let mut shared = Shared::open(alloc, Core::open(alloc, &verified)?);
-    let told = handed_twice(alloc, &mut shared);
+    let told = handed_twice_in(alloc, &verified);
     assert_eq!(rt; told, Some([(false, 1, 3), (true, 1, 3)]));
     Ok(())
 }
