@@ -3,3 +3,4 @@ pub mod Unit
 pub mod Covered
 pub mod Reached
 pub mod Room
+pub mod Simple

@@ -1,6 +1,6 @@
 //! The code of statements.
 
-ghost use Rattle.std.specs.Prelude.{◌≡◌, ℕ, ◌+◌, ◌<◌, ◌≤◌, List, [], ◌∷◌, ◌++◌, length, map, option_map, All, unwrap_or, IsSome, OnOk, IfOk, IfErr, ⊤};
+ghost use Rattle.std.specs.Prelude.{◌≡◌, true, ℕ, ◌+◌, ◌<◌, ◌≤◌, List, [], ◌∷◌, ◌++◌, length, map, option_map, All, unwrap_or, IsSome, OnOk, IfOk, IfErr, ⊤};
 ghost use Rattle.xk_types.specs.declared.instr.Instr.{Instr as Instruction};
 ghost use Rattle.xk_types.specs.declared.instr.Instr.TheVariants as instr;
 ghost use Rattle.xk_tree.specs.Tree.{Statement, Statements, Finish, For, If, clock_list, word, words, expression, expressions, source, statement, statements};
@@ -9,6 +9,7 @@ ghost use Rattle.xk_names.specs.Uses.{clocks_listed};
 ghost use Rattle.xk_code.specs.CodeOf.{argument_slots, before_assigned, before_into, body_at, body_params, body_unit, both, code_of, code_of_all, code_of_source, code_of_then, count, count_all, declared, declared_by_all, eval, eval_all, last_assigned, last_value, number_of, second, shared_alone, slot_for, slots_of};
 ghost use Rattle.xk_code.specs.Covered.{AreCovered, IsAssignable, IsCovered, IsFound, IsKnown, IsNew, IsSourceKnown, IsValueKnown};
 ghost use Rattle.xk_code.specs.Room.{Denies, HasRoom};
+ghost use Rattle.xk_code.specs.Simple.{is_simple};
 
 use crate::error::CodeError;
 use crate::expressions::{Scope, after, emit_args, emit_both, emit_expr, emit_into, number, push};
@@ -535,6 +536,66 @@ impl<'a, 't> Emitter<'a, 't> {
         after(n)
     }
 
+    /// The code of a statement that holds no statement, or only the body of an `async`; and the slot behind its name, if it has one.
+    fn emit_simple(
+        &self,
+        code: &mut Vec<Instr>,
+        scope: &mut Scope<'t>,
+        n: u16,
+        s: &Stmt<'t>,
+    ) -> Result<u16, CodeError>
+        requires { is_simple (statement s.now) ≡ true }
+        ensures code { OnOk result (code.new.items ≡ code.old.items
+            ++ code_of self.now.setting.now self.now.free scope.old n (length code.old.items)
+            (statement s.now)) }
+        ensures scope { OnOk result (scope.new ≡ declared scope.old n (statement s.now)) }
+        ensures slots { IfOk result (λ m. m ≡ n + count (statement s.now)) }
+        ensures refused { IfErr result (λ err. Denies err
+            (IsCovered self.now.setting.now scope.old n (statement s.now))
+            (HasRoom scope.old (length code.old.items)
+            (code_of self.now.setting.now self.now.free scope.old n (length code.old.items)
+            (statement s.now)) × (n + count (statement s.now) ≤ 64))) }
+    {
+        match s {
+            Stmt::Empty => Ok(n),
+            Stmt::Declare(_, x, _, right) => self.emit_declared(code, scope, n, *x, right),
+            Stmt::Assign(x, e) => {
+                self.emit_assigned(code, scope, *x, e)?;
+                Ok(n)
+            }
+            Stmt::Atomic(x, _, _, e) => {
+                self.emit_atomic(code, scope, *x, e)?;
+                Ok(n)
+            }
+            Stmt::Async(at, clocks, _) => {
+                self.emit_async(code, scope, *at, clocks)?;
+                Ok(n)
+            }
+            Stmt::Call(f, _, es) => {
+                self.emit_call(code, scope, *f, es)?;
+                Ok(n)
+            }
+            Stmt::Resume(c, _) => {
+                push(code, Instr::Resume(number(scope, *c)?))?;
+                Ok(n)
+            }
+            Stmt::Drop(c, _) => {
+                push(code, Instr::Drop(number(scope, *c)?))?;
+                Ok(n)
+            }
+            Stmt::AdvanceAll(..) => {
+                push(code, Instr::Advance)?;
+                Ok(n)
+            }
+            Stmt::Print(_, _, e) => {
+                self.emit_print(code, scope, e)?;
+                Ok(n)
+            }
+            Stmt::Block(_) | Stmt::If(..) | Stmt::IfElse(..) | Stmt::For(..) | Stmt::Finish(_) =>
+                unreachable!(),
+        }
+    }
+
     /// The code of a block, and the slot behind those of its names, which end with it.
     #[cycle(emit)]
     fn emit_block(
@@ -749,47 +810,23 @@ impl<'a, 't> Emitter<'a, 't> {
     {
         match s {
             Stmt::Block(ss) => self.emit_block(code, scope, n, ss),
-            Stmt::Empty => Ok(n),
-            Stmt::Declare(_, x, _, right) => self.emit_declared(code, scope, n, *x, right),
-            Stmt::Assign(x, e) => {
-                self.emit_assigned(code, scope, *x, e)?;
-                Ok(n)
-            }
-            Stmt::Atomic(x, _, _, e) => {
-                self.emit_atomic(code, scope, *x, e)?;
-                Ok(n)
-            }
             Stmt::If(_, l, op, r, s) => self.emit_if(code, scope, n, s, l, *op, r),
             Stmt::IfElse(_, l, op, r, s, u) => {
                 let (m, jump) = self.emit_then(code, scope, n, s, l, *op, r)?;
                 self.emit_else(code, scope, m, u, jump)
             }
             Stmt::For(_, i, lo, hi, s) => self.emit_for(code, scope, n, *i, *lo, *hi, s),
-            Stmt::Async(at, clocks, _) => {
-                self.emit_async(code, scope, *at, clocks)?;
-                Ok(n)
-            }
             Stmt::Finish(s) => self.emit_finish(code, scope, n, s),
-            Stmt::Call(f, _, es) => {
-                self.emit_call(code, scope, *f, es)?;
-                Ok(n)
-            }
-            Stmt::Resume(c, _) => {
-                push(code, Instr::Resume(number(scope, *c)?))?;
-                Ok(n)
-            }
-            Stmt::Drop(c, _) => {
-                push(code, Instr::Drop(number(scope, *c)?))?;
-                Ok(n)
-            }
-            Stmt::AdvanceAll(..) => {
-                push(code, Instr::Advance)?;
-                Ok(n)
-            }
-            Stmt::Print(_, _, e) => {
-                self.emit_print(code, scope, e)?;
-                Ok(n)
-            }
+            Stmt::Empty
+            | Stmt::Declare(..)
+            | Stmt::Assign(..)
+            | Stmt::Atomic(..)
+            | Stmt::Async(..)
+            | Stmt::Call(..)
+            | Stmt::Resume(..)
+            | Stmt::Drop(..)
+            | Stmt::AdvanceAll(..)
+            | Stmt::Print(..) => self.emit_simple(code, scope, n, s),
         }
     }
 

@@ -1,16 +1,16 @@
 -- Lists to which one more is added.
-use Rattle.std.proofs.Common.{◌≡◌, ℕ, suc, ◌+◌, ◌<◌, Bool, true, false, cond, List, [], ◌∷◌, ◌++◌, map, drop, length, get_or, slice_get, option_map, Vec, refl, sym, ap, ◌∙◌, drop-cons, add-one, append_assoc}
+use Rattle.std.proofs.Common.{◌≡◌, ℕ, ℤ, suc, ◌+◌, ◌<◌, Bool, true, false, cond, List, [], ◌∷◌, ◌++◌, map, drop, length, get_or, slice_get, option_map, Vec, refl, sym, ap, ◌∙◌, drop-cons, add-one, append_assoc}
 use Rattle.std.proofs.lemmas.Option.{slice_get-map, slice_get_read}
 use Rattle.xk_tree.specs.declared.tree.Shared.{Shared}
-use Rattle.xk_tree.specs.Tree.{shared_value}
+use Rattle.xk_tree.specs.declared.tree.Method.{Method}
+use Rattle.xk_tree.specs.Tree.{method_value, shared_value}
 use Rattle.xk_names.specs.Scope.{Table, find, is_text}
 use Rattle.xk_names.specs.Collected.{put}
 use Rattle.xk_units.specs.Callees.{first_of}
 use Rattle.xk_units.proofs.Collecting.{put_number}
 use Rattle.xk_source.specs.Compiled.{shared_among}
 use Rattle.std.specs.declared.alloc.Global.{Global}
-use Rattle.std.specs.Prelude.{Option, Some, None}
-use Rattle.xk_code.specs.CodeOf.{Body}
+use Rattle.std.specs.Prelude.{Option, Some}
 use Rattle.xk_calls.specs.Calls.{rows}
 use Rattle.xk_codegen.specs.declared.parts.Part.{Part}
 use Rattle.xk_codegen.specs.Views.{part}
@@ -31,11 +31,24 @@ parts_left ps i p q h is e =
     ap (map part) (drop-cons ps i p h) ∙ ap (λ k. part k ∷ map part (drop (suc i) ps)) (sym is) ∙ ap (λ k. k ∷ map part (drop (suc i) ps)) e
     ∙ ap (λ n. q ∷ map part (drop n ps)) (sym (add-one i))
 
--- ---- bodies
+-- the methods that are left begin with this one
+pub methods_left : (ms : List Method) (i : ℕ) (m : Method) → i < length ms → m ≡ get_or ms i m
+    → map method_value (drop i ms) ≡ method_value m ∷ map method_value (drop (i + 1) ms)
+methods_left ms i m h is =
+    ap (map method_value) (drop-cons ms i m h) ∙ ap (λ k. method_value k ∷ map method_value (drop (suc i) ms)) (sym is)
+    ∙ ap (λ n. method_value m ∷ map method_value (drop n ms)) (sym (add-one i))
 
-abbrev pub first_body : Option Body → Option Body → Option Body
-first_body (Some b) o = Some b
-first_body None o = o
+-- ---- the shared numbers at the start
+
+pub starts_step : (ss : List Shared) (d : Shared) (i : ℕ) (v : ℤ) (before after : List ℤ) → i < length ss → v ≡ (get_or ss i d).start.value → after ≡ before ++ v ∷ []
+    → after ++ map (λ s. s.start.value) (map shared_value (drop (i + 1) ss)) ≡ before ++ map (λ s. s.start.value) (map shared_value (drop i ss))
+starts_step ss d i v before after h is e =
+    let rest : List Shared → List ℤ = λ l. map (λ s. s.start.value) (map shared_value l) in
+    ap (λ (l : List ℤ). l ++ rest (drop (i + 1) ss)) e
+    ∙ append_assoc before (v ∷ []) (rest (drop (i + 1) ss))
+    ∙ ap (λ w. before ++ w ∷ rest (drop (i + 1) ss)) is
+    ∙ ap (λ n. before ++ (get_or ss i d).start.value ∷ rest (drop n ss)) (add-one i)
+    ∙ ap (λ l. before ++ rest l) (sym (drop-cons ss i d h))
 
 -- ---- parts at places
 

@@ -131,6 +131,13 @@ fn units_of<'t>(
     }
 }
 
+/// What a shared number is at the start.
+fn start_of(number: &Shared<'_>) -> i64
+    ensures { result ≡ (shared_value number.now).start.value }
+{
+    number.start.value
+}
+
 /// The shared numbers as they are at the start.
 fn starts(alloc: Global, shared: &[Shared<'_>]) -> Result<Vec<i64>, AllocError>
     ensures { IfOk result (λ numbers. numbers.items
@@ -138,7 +145,7 @@ fn starts(alloc: Global, shared: &[Shared<'_>]) -> Result<Vec<i64>, AllocError>
 {
     let mut numbers = Vec::new(alloc);
     for number in shared {
-        numbers.push(number.start.value)?;
+        numbers.push(start_of(number))?;
     }
     Ok(numbers)
 }

@@ -11,7 +11,7 @@ ghost use Rattle.xk_calls.specs.Calls.{rows};
 ghost use Rattle.xk_codegen.specs.Places.{ArePlaces, RunsItself};
 ghost use Rattle.xk_source.specs.Compiled.{AreUnits};
 
-use crate::parts::{Part, parts};
+use crate::parts::{Part, add_part, parts};
 use crate::runs::Places;
 use std::alloc::{AllocError, Global};
 use xk_calls::order_from;
@@ -29,7 +29,7 @@ fn parts_at<'a, 't>(
 {
     let mut units = Vec::new(alloc);
     for i in order {
-        units.push(parts[*i])?;
+        add_part(&mut units, parts[*i])?;
     }
     Ok(units)
 }
@@ -102,9 +102,26 @@ fn order_of<'t>(
     order_among(alloc, tree, found, &places)
 }
 
+/// The parts that have units, in the order of these, where the parts stand among these.
+#[tactic(auto, using(crate::proofs::Ordered::are_units, crate::proofs::Placed::order_within))]
+fn units_among<'a, 't>(
+    alloc: Global,
+    tree: &Tree<'t>,
+    found: &[Part<'a, 't>],
+) -> Result<Vec<Part<'a, 't>>, FrontError>
+    requires scoped { IsScoped (tree_value tree.now) }
+    requires parts { map part found.now ≡ parts (tree_value tree.now) }
+    ensures units { IfOk result (λ units. AreUnits (tree_value tree.now) (map part units.items)) }
+    ensures fault { (f : Fault) → result ≡ Err (FrontError.Fault f)
+        → RunsItself (tree_value tree.now) f }
+{
+    let order = order_of(alloc, tree, found)?;
+    let units = parts_at(alloc, found, &order)?;
+    Ok(units)
+}
+
 /// The parts of a program that have units, in the order of these: as long as one that is run has no number, the next number is given to that
 /// one, of those run only by parts with numbers, which is the first in the text.
-#[tactic(auto, using(crate::proofs::Ordered::are_units, crate::proofs::Placed::order_within))]
 pub(crate) fn units_in_order<'a, 't>(
     alloc: Global,
     tree: &'a Tree<'t>,
@@ -115,7 +132,5 @@ pub(crate) fn units_in_order<'a, 't>(
         → RunsItself (tree_value tree.now) f }
 {
     let parts = parts(alloc, tree)?;
-    let order = order_of(alloc, tree, &parts)?;
-    let units = parts_at(alloc, &parts, &order)?;
-    Ok(units)
+    units_among(alloc, tree, &parts)
 }

@@ -1,8 +1,8 @@
 //! The parts of a program that have code of their own.
 
-ghost use Rattle.std.specs.Prelude.{◌≡◌, ◌++◌, map, OnOk, IfOk};
-ghost use Rattle.xk_tree.specs.Tree.{statement, statements, tree_value};
-ghost use Rattle.xk_source.specs.Parts.{bodies, bodies_all, parts};
+ghost use Rattle.std.specs.Prelude.{◌≡◌, [], ◌∷◌, ◌++◌, map, option_map, OnOk, IfOk};
+ghost use Rattle.xk_tree.specs.Tree.{clock_list, method_value, statement, statements, tree_value};
+ghost use Rattle.xk_source.specs.Parts.{OfBody, bodies, bodies_all, method_parts, parts};
 ghost use Rattle.xk_codegen.specs.Views.{part};
 
 use std::alloc::{AllocError, Global};
@@ -33,6 +33,34 @@ impl<'a, 't> Part<'a, 't> {
     }
 }
 
+/// Adds a part.
+pub(crate) fn add_part<'a, 't>(
+    found: &mut Vec<Part<'a, 't>>,
+    p: Part<'a, 't>,
+) -> Result<(), AllocError>
+    ensures items { OnOk result (found.new.items ≡ found.old.items ++ p.entry ∷ []) }
+    ensures parts { OnOk result (map part found.new.items
+        ≡ map part found.old.items ++ part p.entry ∷ []) }
+{
+    match found.push(p) {
+        Ok(()) => Ok(()),
+        Err(_) => Err(AllocError),
+    }
+}
+
+/// Adds the body of an `async`.
+fn add_body<'a, 't>(
+    found: &mut Vec<Part<'a, 't>>,
+    at: usize,
+    clocks: &'a Option<ClockList<'t>>,
+    s: &'a Stmt<'t>,
+) -> Result<(), AllocError>
+    ensures { OnOk result (map part found.new.items ≡ map part found.old.items
+        ++ OfBody at (option_map clock_list clocks.now) (statement s.now) ∷ []) }
+{
+    add_part(found, Part::Body(at, clocks, s))
+}
+
 /// Adds the bodies of `async` in a statement.
 #[cycle(bodies)]
 fn add_bodies<'a, 't>(found: &mut Vec<Part<'a, 't>>, s: &'a Stmt<'t>) -> Result<(), AllocError>
@@ -41,15 +69,15 @@ fn add_bodies<'a, 't>(found: &mut Vec<Part<'a, 't>>, s: &'a Stmt<'t>) -> Result<
 {
     match s {
         Stmt::Block(ss) => add_bodies_all(found, ss),
-        Stmt::If(_, _, _, _, s) | Stmt::For(_, _, _, _, s) | Stmt::Finish(s) => {
-            add_bodies(found, s)
-        }
+        Stmt::If(_, _, _, _, s) => add_bodies(found, s),
+        Stmt::For(_, _, _, _, s) => add_bodies(found, s),
+        Stmt::Finish(s) => add_bodies(found, s),
         Stmt::IfElse(_, _, _, _, s, u) => {
             add_bodies(found, s)?;
             add_bodies(found, u)
         }
         Stmt::Async(at, clocks, s) => {
-            found.push(Part::Body(*at, clocks, s))?;
+            add_body(found, *at, clocks, s)?;
             add_bodies(found, s)
         }
         Stmt::Empty
@@ -79,6 +107,18 @@ fn add_bodies_all<'a, 't>(
     Ok(())
 }
 
+/// Adds a method and the bodies in it.
+fn add_method<'a, 't>(
+    found: &mut Vec<Part<'a, 't>>,
+    method: &'a Method<'t>,
+) -> Result<(), AllocError>
+    ensures { OnOk result (map part found.new.items
+        ≡ map part found.old.items ++ method_parts (method_value method.now)) }
+{
+    add_part(found, Part::Method(method))?;
+    add_bodies_all(found, &method.body)
+}
+
 /// The parts of a program, in the order of the text.
 pub(crate) fn parts<'a, 't>(
     alloc: Global,
@@ -88,8 +128,7 @@ pub(crate) fn parts<'a, 't>(
 {
     let mut found = Vec::new(alloc);
     for method in &tree.methods {
-        found.push(Part::Method(method))?;
-        add_bodies_all(&mut found, &method.body)?;
+        add_method(&mut found, method)?;
     }
     Ok(found)
 }

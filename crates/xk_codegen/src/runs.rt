@@ -71,6 +71,14 @@ fn body_places(alloc: Global, parts: &[Part<'_, '_>]) -> Result<IndexMap<usize, 
     Ok(table)
 }
 
+/// Adds a place.
+fn add_place(found: &mut Vec<usize>, place: usize) -> Result<(), AllocError>
+    ensures { OnOk result (found.new.items ≡ found.old.items ++ place ∷ []) }
+{
+    found.push(place)?;
+    Ok(())
+}
+
 impl<'t> Places<'t> {
     /// The places of these parts.
     pub(crate) fn new(alloc: Global, parts: &[Part<'_, 't>]) -> Result<Self, AllocError>
@@ -124,15 +132,9 @@ impl<'t> Places<'t> {
                     Ok(())
                 }
             }
-            Stmt::Async(at, _, _) => {
-                found.push(self.started(*at))?;
-                Ok(())
-            }
+            Stmt::Async(at, _, _) => add_place(found, self.started(*at)),
             Stmt::Finish(s) => self.add_runs(found, s),
-            Stmt::Call(g, _, _) => {
-                found.push(self.called(*g))?;
-                Ok(())
-            }
+            Stmt::Call(g, _, _) => add_place(found, self.called(*g)),
             Stmt::Empty
             | Stmt::Declare(..)
             | Stmt::Assign(..)
@@ -156,17 +158,39 @@ impl<'t> Places<'t> {
         Ok(())
     }
 
+    /// Adds the places of what a part runs.
+    fn add_part_runs(&self, found: &mut Vec<usize>, p: &Part<'_, 't>) -> Result<(), AllocError>
+        ensures { OnOk result (found.new.items
+            ≡ found.old.items ++ map (place_in self.now) (part_runs (part p.now))) }
+    {
+        match p {
+            Part::Method(method) => self.add_all_runs(found, &method.body),
+            Part::Body(_, _, s) => self.add_runs(found, s),
+        }
+    }
+
     /// The places of what a part runs.
     fn part_runs(&self, alloc: Global, p: &Part<'_, 't>) -> Result<Vec<usize>, AllocError>
         ensures { IfOk result (λ found. found.items
             ≡ map (place_in self.now) (part_runs (part p.now))) }
     {
         let mut found = Vec::new(alloc);
-        match p {
-            Part::Method(method) => self.add_all_runs(&mut found, &method.body)?,
-            Part::Body(_, _, s) => self.add_runs(&mut found, s)?,
-        }
+        self.add_part_runs(&mut found, p)?;
         Ok(found)
+    }
+
+    /// Adds to the lists the places of what a part runs.
+    fn add_list(
+        &self,
+        alloc: Global,
+        lists: &mut Vec<Vec<usize>>,
+        p: &Part<'_, 't>,
+    ) -> Result<(), AllocError>
+        ensures { OnOk result (rows lists.new.items
+            ≡ rows lists.old.items ++ map (place_in self.now) (part_runs (part p.now)) ∷ []) }
+    {
+        lists.push(self.part_runs(alloc, p)?)?;
+        Ok(())
     }
 
     /// For each part the places of what it runs; the last one is for all that aren't there.
@@ -180,7 +204,7 @@ impl<'t> Places<'t> {
     {
         let mut lists = Vec::new(alloc);
         for p in parts {
-            lists.push(self.part_runs(alloc, p)?)?;
+            self.add_list(alloc, &mut lists, p)?;
         }
         lists.push(Vec::new(alloc))?;
         Ok(lists)

@@ -1,5 +1,6 @@
 -- The faults of a call, as they are found one after another.
-use Rattle.std.proofs.Common.{◌≡◌, ℕ, suc, nat_eq, List, [], ◌∷◌, ◌++◌, map, length, Option, Some, refl, sym, ap, ◌∙◌}
+use Rattle.std.proofs.Common.{◌≡◌, ℕ, suc, nat_eq, Bool, true, false, List, [], ◌∷◌, ◌++◌, map, length, Option, Some, refl, sym, ap, ◌∙◌}
+use Rattle.std.specs.Prelude.{not}
 use Rattle.std.specs.List.{flat_map}
 use Rattle.xk_tree.specs.declared.fault.FrontRule.TheVariants as rule
 use Rattle.xk_tree.specs.declared.fault.FrontFault.{FrontFault}
@@ -10,7 +11,7 @@ use Rattle.xk_names.specs.Scope.{Scope}
 use Rattle.xk_names.specs.Uses.{Given, given, argument_uses, argument_misfits, argument_clocks}
 use Rattle.xk_names.specs.Faults.{fault}
 use Rattle.xk_names.specs.Given.{call_all}
-use Rattle.xk_names.specs.Collected.{least, use_faults, unless, repeats}
+use Rattle.xk_names.specs.Collected.{least, use_faults, unless, when, repeats}
 use Rattle.xk_names.proofs.Least.{least_append}
 
 length_params : (ps : List Param) → length (map param_value ps) ≡ length ps
@@ -20,6 +21,14 @@ length_params (p ∷ ps) = ap (λ n. suc n) (length_params ps)
 length_expressions : (es : List Expr) → length (expressions es) ≡ length es
 length_expressions [] = refl
 length_expressions (e ∷ es) = ap (λ n. suc n) (length_expressions es)
+
+-- as many arguments as parameters
+pub count_told : (m n at : ℕ) → when (not (nat_eq m n)) rule.Arity at ≡ unless (nat_eq m n) rule.Arity at
+count_told m n at = go (nat_eq m n)
+  where
+    go : (b : Bool) → when (not b) rule.Arity at ≡ unless b rule.Arity at
+    go true = refl
+    go false = refl
 
 pub call_found : (sc : Scope) (g : Word) (ps : List Param) (es : List Expr) (list : Given) (w w1 w2 w3 w4 : Option FrontFault)
     → list ≡ given (map param_value ps) (expressions es)

@@ -1,12 +1,12 @@
 //! Calls, and lists of clocks.
 
-ghost use Rattle.std.specs.Prelude.{◌≡◌, [], ◌++◌, map, nat_eq, OnOk, IfOk};
+ghost use Rattle.std.specs.Prelude.{◌≡◌, [], ◌++◌, map, OnOk, IfOk};
 ghost use Rattle.std.specs.List.{flat_map};
 ghost use Rattle.xk_tree.specs.Tree.{expression, expressions, param_value, word, words};
 ghost use Rattle.xk_names.specs.Faults.{fault};
 ghost use Rattle.xk_names.specs.Scope.{find, has};
 ghost use Rattle.xk_names.specs.Uses.{argument_clocks, argument_misfits, argument_uses, given, use_as};
-ghost use Rattle.xk_names.specs.Collected.{least, put_text, put_texts, repeats, unless, use_faults, when};
+ghost use Rattle.xk_names.specs.Collected.{least, put_text, put_texts, repeats, use_faults, when};
 ghost use Rattle.xk_names.specs.Given.{arguments, call_all};
 
 use crate::exprs::{check_numbers, check_use, start_of};
@@ -139,35 +139,37 @@ fn check_misfits(worst: &mut Option<FrontFault>, given: &[Argument<'_, '_>])
     }
 }
 
+// The clocks that arguments give, which have to be different from these and from each other.
 fn check_clocks<'t>(
-    alloc: Global,
     worst: &mut Option<FrontFault>,
+    clocks: &mut Texts<'t>,
     given: &[Argument<'_, 't>],
 ) -> Result<(), AllocError>
-    ensures { OnOk result (worst.new ≡ least worst.old
-        (repeats [] (flat_map (λ a. argument_clocks a.0 a.1) (arguments given.now)))) }
+    ensures faults { OnOk result (worst.new ≡ least worst.old
+        (repeats clocks.old (flat_map (λ a. argument_clocks a.0 a.1) (arguments given.now)))) }
+    ensures clocks { OnOk result (clocks.new ≡ put_texts clocks.old
+        (flat_map (λ a. argument_clocks a.0 a.1) (arguments given.now))) }
 {
-    let mut clocks = Texts::new(alloc);
     for argument in given {
-        check_clock(worst, &mut clocks, argument.takes, argument.value)?;
+        check_clock(worst, clocks, argument.takes, argument.value)?;
     }
     Ok(())
 }
 
-// The clocks of a list, which have to be different.
+// The clocks of a list, which have to be different from these and from each other.
 pub fn check_list<'t>(
-    alloc: Global,
     worst: &mut Option<FrontFault>,
+    clocks: &mut Texts<'t>,
     names: &[Name<'t>],
-) -> Result<Texts<'t>, AllocError>
-    ensures faults { OnOk result (worst.new ≡ least worst.old (repeats [] (words names.now))) }
-    ensures clocks { IfOk result (λ clocks. clocks ≡ put_texts [] (words names.now)) }
+) -> Result<(), AllocError>
+    ensures faults { OnOk result (worst.new ≡ least worst.old
+        (repeats clocks.old (words names.now))) }
+    ensures clocks { OnOk result (clocks.new ≡ put_texts clocks.old (words names.now)) }
 {
-    let mut clocks = Texts::new(alloc);
     for name in names {
-        check_again(worst, &mut clocks, *name)?;
+        check_again(worst, clocks, *name)?;
     }
-    Ok(clocks)
+    Ok(())
 }
 
 // The names of a list, which have to be clocks'.
@@ -177,15 +179,6 @@ pub fn check_listed<'t>(worst: &mut Option<FrontFault>, scope: &Scope<'t>, names
 {
     for name in names {
         check_use(worst, scope, *name, Want::Clock);
-    }
-}
-
-// As many arguments as parameters.
-fn check_count(worst: &mut Option<FrontFault>, at: usize, params: usize, values: usize)
-    ensures { worst.new ≡ least worst.old (unless (nat_eq params values) FrontRule.Arity at) }
-{
-    if params != values {
-        note(worst, FrontRule::Arity, at);
     }
 }
 
@@ -206,9 +199,8 @@ fn check_arguments<'t>(
     let given = given.as_slice();
     check_uses(worst, scope, given);
     check_misfits(worst, given);
-    check_count(worst, g.at, params.len(), values.len());
-    check_clocks(alloc, worst, given)?;
-    Ok(())
+    note_if(params.len() != values.len(), worst, FrontRule::Arity, g.at);
+    check_clocks(worst, &mut Texts::new(alloc), given)
 }
 
 // A call.

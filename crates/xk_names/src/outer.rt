@@ -251,18 +251,36 @@ fn take_loop<'t>(
     Ok(())
 }
 
-// The names of the shared numbers, each once.
-fn shared_names<'t>(alloc: Global, shared: &[Shared<'t>]) -> Result<Texts<'t>, AllocError>
-    ensures { IfOk result (λ names. names ≡ put_texts [] (map (λ s. word s.name) shared.now)) }
+// Adds the names of the shared numbers.
+fn put_shared<'t>(own: &mut Texts<'t>, shared: &[Shared<'t>]) -> Result<(), AllocError>
+    ensures { OnOk result (own.new ≡ put_texts own.old (map (λ s. word s.name) shared.now)) }
 {
-    let mut names = Texts::new(alloc);
     for number in shared {
-        let _is_new = names.put(number.name.text)?;
+        let _is_new = own.put(number.name.text)?;
     }
-    Ok(names)
+    Ok(())
+}
+
+// The numbers that a statement takes from outside, where `own` has these of its own beside the shared ones, and `out` was taken before.
+fn take_listed<'t>(
+    alloc: Global,
+    own: &mut Texts<'t>,
+    out: &mut Texts<'t>,
+    methods: &Methods<'_, 't>,
+    shared: &[Shared<'t>],
+    body: &Stmt<'t>,
+) -> Result<Vec<&'t [u8]>, AllocError>
+    ensures { IfOk result (λ taken. map (λ x. x.now) taken.items ≡ put_texts out.old
+        (outer_words methods.now (put_texts own.old (map (λ s. word s.name) shared.now))
+        (statement body.now))) }
+{
+    put_shared(own, shared)?;
+    take_all(alloc, own, out, methods, body)?;
+    out.to_vec(alloc)
 }
 
 /// The numbers that the body of an `async` takes from outside, by their names, in the order of their first use.
+#[tactic(auto, using(crate::proofs::Captured::captures_kept))]
 pub fn captures<'t>(
     alloc: Global,
     methods: &Methods<'_, 't>,
@@ -272,22 +290,7 @@ pub fn captures<'t>(
     ensures { IfOk result (λ taken. map (λ x. x.now) taken.items ≡
         captures methods.now (shared_texts (map shared_value shared.now)) (statement body.now)) }
 {
-    let own = shared_names(alloc, shared)?;
-    let taken = taken_from(alloc, own, methods, body)?;
-    taken.to_vec(alloc)
-}
-
-// The numbers that a statement takes from outside, where it has these of its own.
-fn taken_from<'t>(
-    alloc: Global,
-    mut own: Texts<'t>,
-    methods: &Methods<'_, 't>,
-    body: &Stmt<'t>,
-) -> Result<Texts<'t>, AllocError>
-    ensures { IfOk result (λ out. out ≡
-        put_texts [] (outer_words methods.now own.entry (statement body.now))) }
-{
+    let mut own = Texts::new(alloc);
     let mut out = Texts::new(alloc);
-    take_all(alloc, &mut own, &mut out, methods, body)?;
-    Ok(out)
+    take_listed(alloc, &mut own, &mut out, methods, shared, body)
 }

@@ -81,23 +81,23 @@ fn declare_params<'t>(
     Ok(())
 }
 
-// The methods by their names.
-fn first_methods<'a, 't>(
-    alloc: Global,
+// Puts the methods in by their names.
+fn put_methods<'a, 't>(
     worst: &mut Option<FrontFault>,
+    found: &mut Methods<'a, 't>,
     methods: &'a [Method<'t>],
-) -> Result<Methods<'a, 't>, AllocError>
+) -> Result<(), AllocError>
     ensures faults { OnOk result (worst.new ≡ least worst.old
-        (methods_again [] (map method_value methods.now))) }
-    ensures methods { IfOk result (λ ms. ms ≡ put_methods [] (map method_value methods.now)) }
+        (methods_again found.old (map method_value methods.now))) }
+    ensures methods { OnOk result (found.new ≡
+        put_methods found.old (map method_value methods.now)) }
 {
-    let mut found = Methods::new(alloc);
     for method in methods {
         let is_there = found.find(method.name.text).is_some();
         note_if(is_there, worst, FrontRule::DuplicateName, method.name.at);
         found.put(method.name.text, method.params.as_slice())?;
     }
-    Ok(found)
+    Ok(())
 }
 
 /// The methods of a tree by their names, the first where two have one name.
@@ -107,7 +107,8 @@ pub fn methods_of<'a, 't>(alloc: Global, tree: &'a Tree<'t>) -> Result<Methods<'
         → IfOk result (λ ms. ms ≡ signatures (tree_value tree.now).methods) }
 {
     let mut worst = None;
-    let methods = first_methods(alloc, &mut worst, tree.methods.as_slice())?;
+    let mut methods = Methods::new(alloc);
+    put_methods(&mut worst, &mut methods, tree.methods.as_slice())?;
     Ok(methods)
 }
 
@@ -135,16 +136,17 @@ fn check_method<'t>(
 fn check_methods<'t>(
     alloc: Global,
     worst: &mut Option<FrontFault>,
-    mut scope: Scope<'t>,
+    scope: &mut Scope<'t>,
     methods: &Methods<'_, 't>,
     all: &[Method<'t>],
 ) -> Result<(), AllocError>
-    requires { scope.bodies ≡ [] }
+    requires { scope.old.bodies ≡ [] }
     ensures faults { OnOk result (worst.new ≡ least worst.old
-        (flat_map (method_faults methods.now scope.entry.names) (map method_value all.now))) }
+        (flat_map (method_faults methods.now scope.old.names) (map method_value all.now))) }
+    ensures scope { OnOk result (scope.new ≡ scope.old) }
 {
     for method in all {
-        check_method(alloc, worst, &mut scope, methods, method)?;
+        check_method(alloc, worst, scope, methods, method)?;
     }
     Ok(())
 }
@@ -155,12 +157,29 @@ fn least_fault(alloc: Global, tree: &Tree<'_>) -> Result<(Option<FrontFault>, bo
     ensures main { IfOk result (λ r. IsTrue r.1 ↔
         (find (put_methods [] (tree_value tree.now).methods) (codes "main") ≡ Some [])) }
 {
-    let mut worst = None;
     let mut scope = Scope::new(alloc);
-    declare_shared(&mut worst, &mut scope, tree.shared.as_slice())?;
-    let methods = first_methods(alloc, &mut worst, tree.methods.as_slice())?;
-    check_methods(alloc, &mut worst, scope, &methods, tree.methods.as_slice())?;
-    let has_main = has_main(&methods);
+    let mut methods = Methods::new(alloc);
+    least_within(alloc, &mut scope, &mut methods, tree)
+}
+
+// The same, where nothing is visible yet and there are no methods.
+fn least_within<'a, 't>(
+    alloc: Global,
+    scope: &mut Scope<'t>,
+    methods: &mut Methods<'a, 't>,
+    tree: &'a Tree<'t>,
+) -> Result<(Option<FrontFault>, bool), AllocError>
+    requires scope { scope.old ≡ record { names = []; bodies = [] } }
+    requires methods { methods.old ≡ [] }
+    ensures worst { IfOk result (λ r. r.0 ≡ least None (name_faults (tree_value tree.now))) }
+    ensures main { IfOk result (λ r. IsTrue r.1 ↔
+        (find (put_methods [] (tree_value tree.now).methods) (codes "main") ≡ Some [])) }
+{
+    let mut worst = None;
+    declare_shared(&mut worst, scope, tree.shared.as_slice())?;
+    put_methods(&mut worst, methods, tree.methods.as_slice())?;
+    check_methods(alloc, &mut worst, scope, methods, tree.methods.as_slice())?;
+    let has_main = has_main(methods);
     Ok((worst, has_main))
 }
 

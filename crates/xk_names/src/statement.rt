@@ -14,6 +14,7 @@ use crate::exprs::{check_numbers, check_use, check_values};
 use crate::known::{Kind, Known, Want};
 use crate::methods::Methods;
 use crate::scope::Scope;
+use crate::table::Texts;
 use crate::worst::{note, note_if};
 use std::alloc::{AllocError, Global};
 use xk_tree::{Binding, ClockList, Expr, FrontFault, FrontRule, Name, Right, Stmt, TypeName};
@@ -154,8 +155,7 @@ fn check_given<'t>(
         None => Ok(()),
         Some(list) => {
             check_listed(worst, scope, list.names.as_slice());
-            let _clocks = check_list(alloc, worst, list.names.as_slice())?;
-            Ok(())
+            check_list(worst, &mut Texts::new(alloc), list.names.as_slice())
         }
     }
 }

@@ -32,6 +32,10 @@ pub record IsRunThat (Has : List ℕ → Type 0) (m : ModuleValue) (numbers : Li
   pub numbers_are : numbers ≡ printed m list (opening m)
   pub steps_are : steps ≡ last.steps
 
+-- whoever is chosen takes each step, from the state b of the chooser on: such a run prints these numbers, and takes so many steps
+abbrev pub IsRunBy : {S : Type 0} → (S → List ℕ → ℕ) → (S → List ℕ → S) → ModuleValue → S → List ℤ → ℕ → Type 0
+IsRunBy answer after m b = IsRunThat (Follows answer after m b (opening m)) m
+
 -- A chooser in state s named one activity again and again, whose steps nobody else could see, and then one that took a step: these steps lead
 -- from c to d, and the chooser is left in state t. What the last of them prints stands behind the numbers that were printed before.
 pub record IsStepOn {S : Type 0} (answer : S → List ℕ → ℕ) (after : S → List ℕ → S) (c : CoreValue) (s : S) (numbers : List ℤ) (d : CoreValue) (t : S) (more : List ℤ) : Type 0 where

@@ -9,7 +9,7 @@ ghost use Rattle.xk_serve.specs.declared.fault.Fault.TheVariants.{OutOfMemory};
 
 use crate::done::Done;
 use crate::fault::Fault;
-use crate::logged_run::{run_by_workers, run_with_log};
+use crate::logged_run::{run_by_workers, run_with_log, steps_of};
 use crate::ordered_run::run_in_order;
 use crate::programs::module_in;
 use std::alloc::{AllocError, Global};
@@ -150,10 +150,9 @@ fn numbers_of(ended: Ended<'_>) -> Done
     ensures { (logged : List ℕ) → IsLogText logged ended.entry.log.items
         → ComesTo Replay ended.entry.module.now logged result }
 {
-    let steps = ended.core.steps_done();
     Done::Ended {
         printed: ended.printed,
-        steps,
+        steps: steps_of(ended.core),
         log: None,
     }
 }

@@ -10,7 +10,7 @@ use std::sync::Wait;
 use std::thread::Threads;
 use xk_bounds::Verified;
 use xk_core::Core;
-use xk_drive::{Chooser, Ended, First, Last, Round, drive};
+use xk_drive::{Chooser, Ended, First, Last, Partial, Round, drive};
 use xk_types::Entry;
 use xk_words::{Order, Workers};
 use xk_workers::{Direct, run_workers};
@@ -55,7 +55,7 @@ fn log_by<C: Chooser>(
 {
     match drive(alloc, Core::open(alloc, verified)?, chooser) {
         Ok(ended) => Ok(logged(ended)),
-        Err(_) => Err(AllocError),
+        Err(partial) => Err(cut_short(partial)),
     }
 }
 
@@ -72,7 +72,7 @@ pub(crate) fn run_by_workers<R: Threads + Wait + Sync>(
     let start = Core::open(alloc, verified)?;
     match run_workers(rt, alloc, start, workers.count(), &Direct) {
         Ok(ended) => Ok(logged(ended)),
-        Err(_) => Err(AllocError),
+        Err(partial) => Err(cut_short(partial)),
     }
 }
 
@@ -82,10 +82,21 @@ fn logged(ended: Ended<'_>) -> LoggedRun
     ensures steps { result.steps ≡ ended.entry.core.world.steps }
     ensures log { result.log ≡ ended.entry.log }
 {
-    let steps = ended.core.steps_done();
     LoggedRun {
         printed: ended.printed,
-        steps,
+        steps: steps_of(ended.core),
         log: ended.log,
     }
+}
+
+/// How many steps a core has taken that is let go.
+pub(crate) fn steps_of(core: Core<'_>) -> u64
+    ensures { result ≡ core.entry.world.steps }
+{
+    core.steps_done()
+}
+
+/// A run that was cut short for want of memory is let go.
+fn cut_short(_partial: Partial<'_>) -> AllocError {
+    AllocError
 }

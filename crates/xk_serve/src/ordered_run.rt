@@ -1,13 +1,13 @@
 //! The run of a module in an order.
 
-ghost use Rattle.std.specs.Prelude.{◌≡◌, ◌++◌, IfOk, OnOk};
+ghost use Rattle.std.specs.Prelude.{◌≡◌, [], ◌++◌, IfOk, OnOk};
 ghost use Rattle.std.specs.Option.{option_to_list};
 ghost use Rattle.xk_types.specs.World.{opening};
 ghost use Rattle.xk_types.specs.Schedule.{number_printed};
 ghost use Rattle.xk_core.specs.Core.{opening_core};
-ghost use Rattle.xk_drive.specs.Choosing.{Follows};
-ghost use Rattle.xk_serve.specs.OrderedRun.{GoesOn, IsOrderedRun, IsRunThat};
+ghost use Rattle.xk_serve.specs.OrderedRun.{GoesOn, IsOrderedRun, IsRunBy};
 
+use crate::logged_run::steps_of;
 use std::alloc::{AllocError, Global};
 use xk_bounds::Verified;
 use xk_core::Core;
@@ -36,15 +36,58 @@ fn run_by<C: Chooser>(
     verified: &Verified,
     chooser: &mut C,
 ) -> Result<(Vec<i64>, u64), AllocError>
-    ensures { IfOk result (λ run. IsRunThat
-        (Follows C.answer C.after verified.now chooser.old (opening verified.now))
-        verified.now run.0.items run.1) }
+    ensures { IfOk result (λ run.
+        IsRunBy C.answer C.after verified.now chooser.old run.0.items run.1) }
 {
-    let mut driver = opened(alloc, verified)?;
+    match opened(alloc, verified) {
+        Ok(driver) => run_from(alloc, driver, chooser),
+        Err(e) => Err(e),
+    }
+}
+
+/// The same from the opening world on. What it leads to is let go.
+fn run_from<C: Chooser>(
+    alloc: Global,
+    mut driver: Driver<'_>,
+    chooser: &mut C,
+) -> Result<(Vec<i64>, u64), AllocError>
+    requires { driver.world ≡ opening driver.module_run }
+    ensures { IfOk result (λ run.
+        IsRunBy C.answer C.after driver.entry.module_run chooser.old run.0.items run.1) }
+{
+    let printed = printed_by(alloc, &mut driver, chooser);
+    let steps = steps_of(driver.into_core());
+    Ok((printed?, steps))
+}
+
+/// The numbers that all turns from the opening world on print.
+fn printed_by<C: Chooser>(
+    alloc: Global,
+    driver: &mut Driver<'_>,
+    chooser: &mut C,
+) -> Result<Vec<i64>, AllocError>
+    requires { driver.old.world ≡ opening driver.old.module_run }
+    ensures { IfOk result (λ printed. IsRunBy C.answer C.after driver.old.module_run chooser.old
+        printed.items driver.new.world.steps) }
+{
     let mut printed = Vec::new(alloc);
-    while take_turn(&mut driver, &mut printed, chooser)? {}
-    let steps = driver.core().steps_done();
-    Ok((printed, steps))
+    take_turns(driver, &mut printed, chooser)?;
+    Ok(printed)
+}
+
+/// All turns from the opening world on, to the end.
+fn take_turns<C: Chooser>(
+    driver: &mut Driver<'_>,
+    printed: &mut Vec<i64>,
+    chooser: &mut C,
+) -> Result<(), AllocError>
+    requires opening { driver.old.world ≡ opening driver.old.module_run }
+    requires none { printed.old.items ≡ [] }
+    ensures { OnOk result (IsRunBy C.answer C.after driver.old.module_run chooser.old
+        printed.new.items driver.new.world.steps) }
+{
+    while take_turn(driver, printed, chooser)? {}
+    Ok(())
 }
 
 /// The next turns up to one whose step others can see, with that one, and whether there was one: there is none where all have ended.

@@ -80,6 +80,11 @@ Commits s t (Err fault.OutOfMemory) next = Accepts s.run.core t × (next ≡ wit
 
 -- ---- the answer
 
+-- somebody can still take a step, and the workers weren't told to stop
+pub record GoesOn (s : SharedValue) : Type 0 where
+  pub stopped : s.stopped ≡ false
+  pub open_yet : all_ended s.run.core.world ≡ false
+
 -- this run, which came to its end
 abbrev pub IsEndOf : RunValue → Result Ended Partial → Type 0
 IsEndOf r (Ok e) = (e.core ≡ r.core) × (e.log.items ≡ r.log)

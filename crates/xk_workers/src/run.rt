@@ -67,6 +67,18 @@ fn begun<'m>(alloc: Global, stage: Stage<'m>) -> (Stage<'m>, Result<(), AllocErr
     }
 }
 
+/// Begins the log. Where memory is refused nothing changes.
+fn begin_log(stage: &mut Stage<'_>, alloc: Global) -> Result<(), AllocError>
+    requires { IsStage stage.old }
+    ensures same { run_at stage.new ≡ run_at stage.old }
+    ensures there { IsStage stage.new }
+    ensures going { OnOk result (IsGoing stage.new) }
+{
+    let (next, answer) = begun(alloc, mem::replace(stage, Stage::Between));
+    drop(mem::replace(stage, next));
+    answer
+}
+
 /// Begins the log, if it isn't begun. Where memory is refused nothing changes.
 fn begin(stage: &mut Stage<'_>, alloc: Global) -> Result<(), AllocError>
     requires { IsStage stage.old }
@@ -74,13 +86,10 @@ fn begin(stage: &mut Stage<'_>, alloc: Global) -> Result<(), AllocError>
     ensures there { IsStage stage.new }
     ensures going { OnOk result (IsGoing stage.new) }
 {
-    if let Stage::Going(_) = stage {
-        return Ok(());
+    match stage {
+        Stage::Going(_) => Ok(()),
+        _ => begin_log(stage, alloc),
     }
-    let fresh = mem::replace(stage, Stage::Between);
-    let (next, answer) = begun(alloc, fresh);
-    *stage = next;
-    answer
 }
 
 impl<'m> Run<'m> {

@@ -1,6 +1,7 @@
 //! What workers share: a run with its log, who is claimed, and whether to stop.
 
 ghost use Rattle.std.specs.Prelude.{◌≡◌, ◌+◌, ◌≤◌, ◌<◌, ◌∷◌, ◌++◌, [], true, false, IfOk, IfErr, IfSome, IfNone, OnOk, OnErr, IsTrue, All, Some, slice_get, length};
+ghost use Rattle.std.specs.Bool.{Decides};
 ghost use Rattle.xk_types.specs.Schedule.{is_enabled, all_ended};
 ghost use Rattle.xk_types.specs.Logs.{one_step_of};
 ghost use Rattle.xk_activity.specs.Local.{IsSafe, local, is_stepped};
@@ -10,7 +11,7 @@ ghost use Rattle.xk_core.specs.Core.{StepsTo, is_next_local};
 ghost use Rattle.xk_drive.specs.Choosing.{enabled_in};
 ghost use Rattle.xk_workers.specs.Claims.{claims_in, is_claimed, claims_after};
 ghost use Rattle.xk_workers.specs.Run.{fresh_run, IsLegalRun};
-ghost use Rattle.xk_workers.specs.Shared.{IsFree, Tells, ActsVisibly, Commits, without_claim};
+ghost use Rattle.xk_workers.specs.Shared.{IsFree, Tells, ActsVisibly, Commits, GoesOn, without_claim};
 
 use crate::claims::Claims;
 use crate::run::Run;
@@ -214,11 +215,11 @@ impl<'m> Shared<'m> {
         self.stopped = true;
     }
 
-    /// Whether the workers were told to stop.
-    pub(crate) fn is_stopped(&self) -> bool
-        ensures { result ≡ self.now.stopped }
+    /// Whether there is more to do: somebody can still take a step, and the workers weren't told to stop.
+    pub(crate) fn goes_on(&self) -> bool
+        ensures { Decides result (GoesOn self.now) }
     {
-        self.stopped
+        !self.stopped && !self.run.core().ended()
     }
 
     /// The answer: Ok where all have ended, and Err where somebody can still take a step.

@@ -1,8 +1,8 @@
 //! Worker threads.
 
-ghost use Rattle.std.specs.Prelude.{◌≡◌, ◌≤◌, IfOk, IfErr};
+ghost use Rattle.std.specs.Prelude.{◌≡◌, ◌≤◌, true, false, IfOk, IfErr};
 ghost use Rattle.std.specs.Bool.{Decides};
-ghost use Rattle.xk_workers.specs.Shared.{IsSettled};
+ghost use Rattle.xk_workers.specs.Shared.{IsSettled, GoesOn};
 ghost use Rattle.xk_workers.specs.Turned.{CanCompute};
 
 use crate::gate::Gate;
@@ -141,6 +141,15 @@ fn is_same(shared: &Shared<'_>, core: &Core<'_>) -> bool
     is_same_module(shared.core().module().module(), core.module().module())
 }
 
+/// Whether the workers' run is the answer: its module is that of the core, and all have ended, or the workers were told to stop.
+fn is_answer(shared: &Shared<'_>, core: &Core<'_>) -> bool
+    ensures same { result ≡ true → shared.now.run.core.module_run ≡ core.now.module_run }
+    ensures none { result ≡ false
+        → shared.now.run.core.module_run ≡ core.now.module_run → GoesOn shared.now }
+{
+    is_same(shared, core) && !shared.goes_on()
+}
+
 /// The answer that the workers came to, or the one of the least activity first, on a core that was kept aside: where the workers' module
 /// is another, or where they left off though nobody was refused memory.
 fn settle<'m>(alloc: Global, shared: Shared<'m>, aside: Core<'m>) -> Result<Ended<'m>, Partial<'m>>
@@ -150,14 +159,10 @@ fn settle<'m>(alloc: Global, shared: Shared<'m>, aside: Core<'m>) -> Result<Ende
         (λ p. p.module.now ≡ aside.entry.module_run) }
     ensures settled { IsSettled shared.entry aside.entry.module_run result }
 {
-    if is_same(&shared, &aside) {
-        let stopped = shared.is_stopped();
-        match shared.close() {
-            Ok(ended) => return Ok(ended),
-            Err(partial) if stopped => return Err(partial),
-            Err(_) => {}
-        }
+    if is_answer(&shared, &aside) {
+        return shared.close();
     }
+    drop(shared);
     drive(alloc, aside, &mut First)
 }
 

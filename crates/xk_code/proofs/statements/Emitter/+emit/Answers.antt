@@ -1,11 +1,11 @@
-use Rattle.std.proofs.Common.{◌≡◌, ◌+◌, ◌++◌, drop, option_map, length, length-append, subst, sym, ap, ◌∙◌, int_le, true, rules, arith}
+use Rattle.std.proofs.Common.{◌≡◌, ◌+◌, ◌++◌, drop, length, length-append, subst, sym, ap, ◌∙◌, int_le, true, rules, arith}
 use Rattle.std.proofs.lemmas.Result.{err_from_is_err_and, IfErr-weaker, on_ok_weaker}
 use Rattle.std.proofs.lemmas.List.{at_drop_more}
 use Rattle.xk_tree.specs.declared.tree.Stmt.{the_lemmas}
-use Rattle.xk_tree.specs.Tree.{Statement, Statements, More, Async, IfElse, clock_list, word, expression, statement, statements}
+use Rattle.xk_tree.specs.Tree.{Statement, Statements, More, IfElse, word, expression, statement, statements}
 use Rattle.xk_code.specs.CodeOf.{code_of}
 use Rattle.xk_code.proofs.Patched.{AreEmitted, one_more, test_filled, then_filled, choice_filled, other_filled, loop_filled, finish_filled}
-use Rattle.xk_code.proofs.Denials.{DeniesCode, code_end, denies, else_begun, else_other, finish_end, finish_inner, if_end, if_inner, if_tested, length_gap, loop_end, loop_inner, one_denied, then_end, then_inner, then_tested}
+use Rattle.xk_code.proofs.Denials.{DeniesCode, code_end, else_begun, else_other, finish_end, finish_inner, if_end, if_inner, if_tested, length_gap, loop_end, loop_inner, one_denied, then_end, then_inner, then_tested}
 use Rattle.xk_code.proofs.statements.Emitter.+emit.Goals as goal
 
 pub emit_if-returns-clause-code : goal.emit_if-returns-clause-code
@@ -157,7 +157,7 @@ emit_else-returns-in_err-close_else-clause-refused t c =
 
 pub emit-returns-in_err-m-in-IfElse-clause-refused : goal.emit-returns-in_err-m-in-IfElse-clause-refused
 emit-returns-in_err-m-in-IfElse-clause-refused t c =
-    let p = err_from_is_err_and c.from_residual-in_err-m-in-IfElse.result c.from_residual-in_err-m-in-IfElse.ensures.1 in
+    let p = err_from_is_err_and c.from_residual.result c.from_residual.ensures.1 in
     let err = c.in_err-m-in-IfElse.field-0.0 in
     let cx = c.args.self.now.setting.now in
     let free = c.args.self.now.free in
@@ -246,21 +246,6 @@ emit_for-returns-in_err-close_loop-clause-refused t c =
     let opened = ap length e.code ∙ length-append base _ in
     let made = ap length c.in_ok-m.ensures.code ∙ length-append _ _ in
     rw (p.1, p.2) (loop_end err cx free scope _ n _ (length base) _ _ 0 (word c.args.i) c.args.lo c.args.hi s turns refused e.scope e.next opened made)
-
-pub emit-returns-in_err-emit_async-in-Async-clause-refused : goal.emit-returns-in_err-emit_async-in-Async-clause-refused
-emit-returns-in_err-emit_async-in-Async-clause-refused t c =
-    let p = err_from_is_err_and c.from_residual-in_err-emit_async-in-Async.result c.from_residual-in_err-emit_async-in-Async.ensures.1 in
-    let err = c.in_err-emit_async-in-Async.field-0.0 in
-    let cx = c.args.self.now.setting.now in
-    let free = c.args.self.now.free in
-    let scope = c.args.scope.now in
-    let n = c.args.n in
-    let base = c.args.code.now.items in
-    let refused = c.in_err-emit_async-in-Async.ensures.refused in
-    let f = c.in-Async in
-    let seen : Async f.at (option_map clock_list f.clocks) (statement f.field-2.value) ≡ statement c.args.s.now = rw f.is (search (rules, the_lemmas)) in
-    rw (p.1, p.2) (subst (λ (x : Statement). DeniesCode err cx free scope n (length base) x) seen
-    (denies err refused (λ k. k) (λ m. m.0)))
 
 pub emit_finish-returns-in_err-m-clause-refused : goal.emit_finish-returns-in_err-m-clause-refused
 emit_finish-returns-in_err-m-clause-refused t c =

@@ -4,7 +4,7 @@ use Rattle.xk_units.specs.Callees.{first_of}
 use Rattle.xk_source.specs.Parts.{method_among}
 use Rattle.xk_codegen.specs.Views.{part}
 use Rattle.xk_source.specs.Compiled.{unit_number}
-use Rattle.xk_codegen.proofs.setting.method_units.Given as goal
+use Rattle.xk_codegen.proofs.setting.add_methods.Given as goal
 
 -- what the table has for a name, or the units that are left
 abbrev pub invariant-loop-i : goal.invariant-loop-i

@@ -3,7 +3,7 @@ use Rattle.xk_tree.specs.Tree.{shared_value}
 use Rattle.xk_names.specs.Scope.{find}
 use Rattle.xk_units.specs.Callees.{first_of}
 use Rattle.xk_source.specs.Compiled.{shared_among}
-use Rattle.xk_codegen.proofs.setting.shared_places.Given as goal
+use Rattle.xk_codegen.proofs.setting.add_shared.Given as goal
 
 -- what the table has for a name, or the shared numbers that are left
 abbrev pub invariant-loop-i : goal.invariant-loop-i

@@ -3,8 +3,8 @@ use Rattle.std.specs.Map.{lookup}
 use Rattle.xk_tree.specs.Tree.{tree_value}
 use Rattle.xk_codegen.specs.Views.{part}
 use Rattle.xk_source.specs.Compiled.{settled_body}
-use Rattle.xk_codegen.proofs.Lists.{first_body}
-use Rattle.xk_codegen.proofs.setting.body_units.Given as goal
+use Rattle.xk_codegen.specs.Places.{first_body}
+use Rattle.xk_codegen.proofs.setting.add_bodies.Given as goal
 
 -- what the table has for an offset, or the units that are left
 abbrev pub invariant-loop-i : goal.invariant-loop-i
