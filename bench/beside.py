@@ -1,14 +1,17 @@
 #!/usr/bin/env python3
 """Times the built program beside the machine in bench/plain, on the modules of bench/modules.py.
 
-    python3 bench/beside.py [PROGRAM] [--only WORD] [--rounds N]
+    python3 bench/beside.py [PROGRAM] [--only WORD] [--rounds N] [--builds N]
 
-PROGRAM is crates/x10clock/out/x10clock unless another is named. Both have to print the same bytes. Each row has the seconds of processor time
-of each, their ratio, and the most memory of each: the least of three runs, which are made in turn. A run of less than a twentieth of a second
-is marked as short: its ratio says little. Memory counts from what the measuring process held, some 15 MB.
+PROGRAM is crates/x10clock/out/x10clock unless another is named. Both have to print the same bytes. The machine is built nine times: the builds
+differ in where the functions stand alone, and so by half in the time that one loop takes. Beside each of them three runs are made in turn, of
+which the least counts. Each row has the seconds of processor time, the least of ours and the one of the middle build by hand; the ratio beside
+the middle build; the ratios beside the fastest and the slowest; and the most memory of each. A run of less than a twentieth of a second is
+marked as short: its ratio says little. Memory counts from what the measuring process held, some 15 MB.
 """
 import argparse
 import os
+import statistics
 import subprocess
 import sys
 import tempfile
@@ -29,19 +32,27 @@ def ran(words):
         return out.read(), usage.ru_utime + usage.ru_stime, usage.ru_maxrss / 1024
 
 
-def row(name, order, program, machine, path, rounds):
-    ours, plain = [], []
-    for _ in range(rounds):
-        ours.append(ran([program, "run", "--order", order, "--module", path]))
-        plain.append(ran([machine, path, order]))
-    if ours[0][0] != plain[0][0]:
-        sys.exit(f"{name}, {order}: {ours[0][0][-200:]!r} beside {plain[0][0][-200:]!r}")
-    steps = int(plain[0][0].split()[-1])
-    seconds = [min(run[1] for run in runs) for runs in (ours, plain)]
-    memory = [min(run[2] for run in runs) for runs in (ours, plain)]
-    ratio = f"{seconds[0] / seconds[1]:.2f}" if seconds[1] else "-"
-    short = " (short)" if min(seconds) < SHORT else ""
-    print(f"| {name} | {order} | {steps:,} | {seconds[0]:.3f} | {seconds[1]:.3f} | {ratio}{short} | {memory[0]:.0f} | {memory[1]:.0f} |", flush=True)
+def in_turn(ours, machine, path, order, rounds):
+    """Runs of ours and by hand, in turn: what they print, the least seconds of each, and the least memory of each."""
+    runs = [(ran(ours), ran([machine, path, order])) for _ in range(rounds)]
+    if runs[0][0][0] != runs[0][1][0]:
+        sys.exit(f"{path}, {order}: {runs[0][0][0][-200:]!r} beside {runs[0][1][0][-200:]!r}")
+    seconds, memory = ([min(run[side][what] for run in runs) for side in (0, 1)] for what in (1, 2))
+    return runs[0][1][0], seconds, memory
+
+
+def row(name, order, program, machines, path, rounds):
+    ours = [program, "run", "--order", order, "--module", path]
+    printed, seconds, memory = zip(*(in_turn(ours, machine, path, order, rounds) for machine in machines))
+    ratios = [own / max(other, 1e-6) for own, other in seconds]
+    own, other = min(pair[0] for pair in seconds), statistics.median(pair[1] for pair in seconds)
+    short = " (short)" if min(own, other) < SHORT else ""
+    held = " | ".join(f"{min(sizes):.0f}" for sizes in zip(*memory))
+    print(
+        f"| {name} | {order} | {int(printed[0].split()[-1]):,} | {own:.3f} | {other:.3f} | {statistics.median(ratios):.2f}{short} "
+        f"| {min(ratios):.2f} to {max(ratios):.2f} | {held} |",
+        flush=True,
+    )
 
 
 def main():
@@ -49,10 +60,11 @@ def main():
     parser.add_argument("program", nargs="?", default=str(TOP / "crates/x10clock/out/x10clock"))
     parser.add_argument("--only", default="")
     parser.add_argument("--rounds", type=int, default=3)
+    parser.add_argument("--builds", type=int, default=9)
     given = parser.parse_args()
-    machine = built()
-    print("| Module | Order | Steps | Ours | By hand | Ratio | MB | MB by hand |")
-    print("|---|---|---|---|---|---|---|---|")
+    machines = [built(f"plain-{number}") for number in range(1, given.builds + 1)]
+    print("| Module | Order | Steps | Ours | By hand | Ratio | Over the builds | MB | MB by hand |")
+    print("|---|---|---|---|---|---|---|---|---|")
     for name, make, orders in ROWS:
         if given.only not in name:
             continue
@@ -60,7 +72,7 @@ def main():
             file.write(make())
             file.flush()
             for order in orders:
-                row(name, order, given.program, machine, file.name, given.rounds)
+                row(name, order, given.program, machines, file.name, given.rounds)
 
 
 if __name__ == "__main__":

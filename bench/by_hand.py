@@ -7,9 +7,11 @@ TOP = pathlib.Path(__file__).resolve().parent.parent
 ORDERS = ("first", "last", "round")
 
 
-def built():
-    """Builds the machine in bench/plain, with rustc alone, and gives its path."""
-    path = pathlib.Path(tempfile.gettempdir()) / "x10clock-plain"
+def built(name="plain"):
+    """Builds the machine in bench/plain, with rustc alone, and gives its path. What is built under another name differs in nothing but where
+    the compiler puts the functions: their symbols are made from that name, and stand in their order."""
+    path = pathlib.Path(tempfile.gettempdir()) / f"x10clock-{name}"
     source = TOP / "bench/plain/main.rs"
-    subprocess.run(["rustc", "-C", "opt-level=3", "--edition", "2024", "-o", path, source], check=True)
+    words = ["rustc", "-C", "opt-level=3", "-C", f"metadata={name}", "--edition", "2024", "-o", path, source]
+    subprocess.run(words, check=True)
     return str(path)

@@ -256,8 +256,8 @@ pub fn numbers_in_order(
     }
 }
 
-/// Numbers for methods, so that each is greater than those of the methods that it calls; or a recursive call, the first in the order of
-/// methods and of a method's calls.
+/// Numbers for methods, so that each is greater than those of the methods that it calls; or a recursive call. Of several it is the first in
+/// the order of methods and of a method's calls, which the contract leaves open.
 pub fn numbers_by_calls(
     alloc: Global,
     calls: &[Vec<usize>],

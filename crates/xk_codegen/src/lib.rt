@@ -1,4 +1,4 @@
-//! The code of source trees.
+//! Source trees to modules: which parts have units, in which order, and what their code refers to.
 #![tactic(auto, using(crate::proofs::Lists::part_push, crate::proofs::Lists::rows_push))]
 
 mod compiler;

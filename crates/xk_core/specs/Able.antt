@@ -19,7 +19,7 @@ abbrev pub able_of : World → ℕ → Option Activity → Bool
 able_of w a None = false
 able_of w a (Some act) = able_by w a act.status
 
--- activity a exists, doesn't wait at an `advance`, and isn't over
+-- activity a exists, isn't over, and isn't held back by a clock at an `advance`
 abbrev pub is_able : World → ℕ → Bool
 is_able w a = able_of w a (slice_get w.activities a)
 

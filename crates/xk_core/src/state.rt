@@ -498,7 +498,7 @@ impl<'m> State<'m> {
         self.standings.held_back_by(a)
     }
 
-    /// Whether activity a exists, doesn't wait at an `advance`, and isn't over.
+    /// Whether activity a exists, isn't over, and isn't held back by a clock at an `advance`.
     #[inline(always)]
     pub fn is_able(&self, a: usize) -> bool
         ensures { result ≡ is_able self.now.world a }

@@ -1,4 +1,4 @@
-//! A set of numbers that tells its least member, its greatest, and the next above a number, all in a few steps.
+//! Sets of numbers: one that tells its least member, its greatest, and the next above a number, all in a few steps; and one for few members.
 #![tactic(auto)]
 
 mod few;

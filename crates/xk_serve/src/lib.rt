@@ -1,4 +1,4 @@
-//! What the program answers: a job and the bytes of its file to a status and two texts.
+//! What the program answers: a job and the bytes of its files to a status, two texts and a log.
 #![tactic(auto)]
 
 mod answering;

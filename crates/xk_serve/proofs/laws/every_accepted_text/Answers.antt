@@ -4,10 +4,7 @@ use Rattle.xk_serve.proofs.laws.every_accepted_text.Goals as goal
 
 pub returns : goal.returns
 returns c = λ bytes m p accepted.
-    let every = c.every_accepted_module.ensures m p.limits accepted in
     record {
-      never_wrong = every.never_wrong;
-      bounded = every.steps;
-      ended = every.ends;
+      schedules = c.every_accepted_module.ensures m p.limits accepted;
       of_the_text = c.means_its_source.ensures p.tree m p.scoped (bodies_apart bytes p.tree p.spelled.1) p.limits.units p.code;
     }
