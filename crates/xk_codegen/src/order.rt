@@ -63,7 +63,7 @@ fn order_by<'t>(
     let order = order_from(alloc, lists, main)?;
     match order {
         Ok(order) => Ok(order),
-        // never so for a tree that was parsed and has no recursive call: a body stands within what starts it
+        // Never so for a tree that was parsed and has no recursive call: a body stands within what starts it.
         Err(place) => Err(run_again(found, place.caller)),
     }
 }

@@ -1,6 +1,6 @@
 //! What the parts of a program run.
 
-ghost use Rattle.std.specs.Prelude.{◌≡◌, ℕ, List, [], ◌∷◌, ◌++◌, length, map, nat_eq, unwrap_or, OnOk, IfOk};
+ghost use Rattle.std.specs.Prelude.{◌≡◌, ℕ, List, [], ◌∷◌, ◌++◌, map, nat_eq, unwrap_or, OnOk, IfOk};
 ghost use Rattle.std.specs.Map.{lookup};
 ghost use Rattle.xk_calls.specs.Calls.{rows};
 ghost use Rattle.xk_tree.specs.Tree.{statement, statements, word};

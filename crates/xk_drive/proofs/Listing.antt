@@ -237,9 +237,6 @@ on_err (Err e) P p = p
 pub core_few : (m : ModuleValue) (w : World) → IsCore m w → length w.activities ≤ activities_bound m
 core_few m w core = (reached_room m core.limits core.accepted w core.reached).activities
 
-pub core_limit : (m : ModuleValue) (w : World) → IsCore m w → activities_bound m ≤ 100000
-core_limit m w core = core.accepted.bounds.activities
-
 -- ---- one more in the list
 
 pub listed_more : (p : ℕ → Bool) (n : ℕ) (list next : List ℕ) → list ≡ filter p (numbers_from 0 n) → next ≡ with_member n (p n) list

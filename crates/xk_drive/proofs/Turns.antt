@@ -1,13 +1,13 @@
 -- A run and its log, turn by turn.
-use Rattle.std.proofs.Common.{Vec, ◌≡◌, ◌∙◌, ℕ, ℤ, ◌+◌, ◌-◌, ◌<◌, ◌≤◌, ◌%◌, Bool, true, false, List, [], ◌∷◌, ◌++◌, length, replicate, Some, refl, sym, ap, subst, ◌⊎◌, inl, inr, arith, slice_get}
+use Rattle.std.proofs.Common.{◌≡◌, ◌∙◌, ℕ, ℤ, ◌+◌, ◌-◌, ◌<◌, ◌≤◌, ◌%◌, Bool, true, false, List, [], ◌∷◌, ◌++◌, length, replicate, Some, refl, sym, ap, subst, arith, slice_get}
 use Rattle.std.specs.Option.{option_to_list}
 use Rattle.std.proofs.lemmas.List.{append-nil}
 use Rattle.std.proofs.lemmas.List.Concat.{flat_map-append, flat_map-cons}
-use Rattle.std.proofs.lemmas.List.Elements.{All-nil, All-push}
+use Rattle.std.proofs.lemmas.List.Elements.{All-push}
 use Rattle.xk_types.specs.declared.names.Entry.{Entry}
 use Rattle.xk_types.specs.declared.names.Event.{Event}
 use Rattle.xk_types.specs.Code.{ModuleValue}
-use Rattle.xk_types.specs.World.{World, opening}
+use Rattle.xk_types.specs.World.{opening}
 use Rattle.xk_types.specs.Step.{Stepped, step}
 use Rattle.xk_types.specs.Schedule.{Through, run, seen, printed, number_printed}
 use Rattle.xk_types.specs.Bound.{steps_bound}
@@ -17,7 +17,7 @@ use Rattle.xk_laws.proofs.Reached.{run_more}
 use Rattle.xk_core.specs.Core.{CoreValue}
 use Rattle.xk_core.specs.Stretch.{RunsTo, IsUnseen}
 use Rattle.xk_drive.specs.Choosing.{enabled_in, Follows, state_after}
-use Rattle.xk_drive.specs.Driving.{IsTurn, IsPutOff, IsShort, IsRunOf, IsNoted, IsCommitted, IsChosen, IsChosenSoFar, state_so_far}
+use Rattle.xk_drive.specs.Driving.{IsTurn, IsRunOf, IsNoted, IsCommitted, IsChosen}
 use Rattle.xk_drive.proofs.Going.{run_then}
 use Rattle.xk_drive.proofs.Following.{follows_more, state_more, printed_more, printed_unseen}
 
@@ -142,40 +142,3 @@ pub going_less : {S : Type 0} (answer : S → List ℕ → ℕ) (after : S → L
 going_less answer after s t log more c d b e noted within =
     let n = noted_step answer after c d s t log more b e noted in
     omega (arith, noted_counts answer after c d s t log more n, ap steps_bound n.turn.same_module, within)
-
--- a run begins
-pub going_starts : {S : Type 0} (answer : S → List ℕ → ℕ) (after : S → List ℕ → S) (m : ModuleValue) (s : S) (c : CoreValue) → c.module_run ≡ m
-    → c.world.steps ≡ 0 → IsGoing answer after m s [] c s
-going_starts answer after m s c is start = record {
-  same_module = is;
-  bound = omega (arith, start);
-  chosen = record { follows = tt; left = refl; single = All-nil (λ (e : Entry). e.steps ≡ 1) };
-}
-
--- cut short, the chooser may have been asked once more
-pub chosen_so_far : {S : Type 0} (answer : S → List ℕ → ℕ) (after : S → List ℕ → S) (m : ModuleValue) (first s t : S) (log : List Entry) (c d : CoreValue) (w : World)
-    → IsGoing answer after m first log c s → IsPutOff after c s d t → w ≡ d.world → IsChosenSoFar answer after m first log w t
-chosen_so_far answer after m first s t log c d w g off is = record {
-  follows = g.chosen.follows;
-  left = of off.asked;
-  single = g.chosen.single;
-}
-  where
-    now : c.world ≡ w
-    now = sym (is ∙ ap (λ (v : CoreValue). v.world) off.same)
-
-    of : (t ≡ s) ⊎ (t ≡ after s (enabled_in c.module_run c.world))
-        → (t ≡ state_after after m first (opening m) (schedule_of log)) ⊎ (t ≡ after (state_after after m first (opening m) (schedule_of log)) (enabled_in m w))
-    of (inl e) = inl (e ∙ g.chosen.left)
-    of (inr e) = inr (e ∙ ap (λ k. after s (enabled_in k c.world)) g.same_module ∙ ap (λ z. after s (enabled_in m z)) now ∙ ap (λ z. after z (enabled_in m w)) g.chosen.left)
-
--- what a run that was cut short was short of, the chooser being where the log leaves it
-pub short_so_far : {S X Z : Type 0} (answer : S → List ℕ → ℕ) (after : S → List ℕ → S) (m : ModuleValue) (first s t : S) (log : Vec Entry Z)
-    (numbers : Vec X Z) (kept : List Entry) (c d : CoreValue)
-    → IsGoing answer after m first kept c s → IsPutOff after c s d t → log.items ≡ kept → IsShort answer log numbers c s
-    → IsShort answer log numbers d (state_so_far after first log.items d)
-short_so_far answer after m first s t log numbers kept c d g off same short =
-    subst (λ v. IsShort answer log numbers v (state_so_far after first log.items v)) (sym off.same) (subst (IsShort answer log numbers c) left short)
-  where
-    left : s ≡ state_so_far after first log.items c
-    left = g.chosen.left ∙ ap (λ k. state_after after k first (opening k) (schedule_of kept)) (sym g.same_module) ∙ ap (λ l. state_so_far after first l c) (sym same)

@@ -1,14 +1,14 @@
 //! A core that a chooser drives, step by step.
 
-ghost use Rattle.std.specs.Prelude.{◌≡◌, ◌⊎◌, ℕ, ◌+◌, ◌<◌, ◌≤◌, true, false, [], Bool, Some, None, length, replicate, slice_get, IfOk, IfErr, IfSome, OnOk, OnErr, IsTrue};
+ghost use Rattle.std.specs.Prelude.{◌≡◌, ℕ, ◌+◌, ◌<◌, ◌≤◌, true, false, [], Some, None, length, replicate, slice_get, IfOk, IfErr, IfSome, OnOk, OnErr, IsTrue};
 ghost use Rattle.std.specs.Vec.{vec_capacity};
 ghost use Rattle.xk_types.specs.declared.names.Event.TheVariants as event;
-ghost use Rattle.xk_types.specs.World.{World, opening};
-ghost use Rattle.xk_types.specs.Step.{Stepped, step, waits};
+ghost use Rattle.xk_types.specs.World.{opening};
+ghost use Rattle.xk_types.specs.Step.{step, waits};
 ghost use Rattle.xk_types.specs.Schedule.{is_enabled, all_ended};
 ghost use Rattle.xk_types.specs.Bound.{steps_bound, activities_bound, clocks_bound};
 ghost use Rattle.xk_members.specs.Members.{with_member, place_above};
-ghost use Rattle.xk_core.specs.Core.{IsCore, StepsTo, WantsMemory, advanced_now, is_waiting};
+ghost use Rattle.xk_core.specs.Core.{IsCore, StepsTo, WantsMemory, advanced_now, is_next_local};
 ghost use Rattle.xk_core.specs.Handed.{Accepts};
 ghost use Rattle.xk_core.specs.Stretch.{RunsTo, AreLocal, IsUnseen};
 ghost use Rattle.xk_waiting.specs.Waiting.{left, taken, times, times_in_all};
@@ -28,7 +28,9 @@ use xk_waiting::WaitingLists;
 /// Whose step it was, and what it was seen to do.
 #[derive(Clone, Copy, Debug)]
 pub struct Turn {
+    /// Whose step it was.
     pub act: Act,
+    /// What it was seen to do.
     pub event: Event,
 }
 
@@ -87,6 +89,7 @@ fn list_own(enabled: &mut NumberSet, core: &Core<'_>, act: Act, is_held: bool) -
         → enabled.new.members ≡ with_or_without core.now act enabled.old.members }
     ensures can { is_held ≡ false
         → result ≡ is_enabled core.now.module_run core.now.world act }
+    ensures held { is_held ≡ true → result ≡ false }
     ensures room { enabled.new.room ≡ enabled.old.room }
 {
     if is_held || !core.enabled(act) {
@@ -118,7 +121,7 @@ fn put_waiting(waiting: &mut WaitingLists, core: &Core<'_>, act: Act) -> bool
     requires clocks { length core.now.world.clocks ≤ length waiting.old.lists }
     requires nowhere { times_in_all act waiting.old.lists ≡ 0 }
     ensures put { IsPut core.now.world act waiting.old.lists waiting.new.lists }
-    ensures held { result ≡ true → waits core.now.world act ≡ true }
+    ensures held { result ≡ waits core.now.world act }
     ensures room { waiting.new.room ≡ waiting.old.room }
     ensures clocks { length waiting.new.lists ≡ length waiting.old.lists }
 {
@@ -179,6 +182,7 @@ fn note_waiting(waiting: &mut WaitingLists, core: &Core<'_>, act: Act, event: Ev
     requires nowhere { times_in_all act waiting.old.lists ≡ 0 }
     ensures noted { IsNotedIn core.now.world act event waiting.old.lists waiting.new.lists }
     ensures held { result ≡ true → IsHeldNow core.now.world act event }
+    ensures not_held { result ≡ false → IsHeldNow core.now.world act event → ⊥ }
     ensures room { waiting.new.room ≡ waiting.old.room }
     ensures clocks { length waiting.new.lists ≡ length waiting.old.lists }
 {
@@ -308,7 +312,9 @@ fn list_after(
 /// Whether a chooser is steady, and nobody else can see the next step of the activity that it names.
 #[inline(always)]
 fn goes_ahead(is_steady: bool, core: &Core<'_>, act: Act) -> bool
-    ensures { result ≡ true → is_steady ≡ true }
+    ensures steady { result ≡ true → is_steady ≡ true }
+    ensures local { result ≡ true → is_next_local core.now act ≡ true }
+    ensures ahead { is_steady ≡ true → is_next_local core.now act ≡ true → result ≡ true }
 {
     is_steady && core.next_local(act)
 }

@@ -1,6 +1,6 @@
 //! Runs that are written down as they go.
 
-ghost use Rattle.std.specs.Prelude.{◌≡◌, ◌⊎◌, ◌+◌, ◌<◌, ◌≤◌, true, false, [], ◌∷◌, ◌++◌, Ok, IfOk, IfErr, OnOk, OnErr, IsTrue};
+ghost use Rattle.std.specs.Prelude.{◌≡◌, ◌+◌, ◌<◌, ◌≤◌, true, false, [], ◌∷◌, ◌++◌, Ok, IfOk, IfErr, OnOk, OnErr, IsTrue};
 ghost use Rattle.std.specs.Option.{option_to_list};
 ghost use Rattle.std.specs.Vec.{vec_len, vec_capacity};
 ghost use Rattle.xk_types.specs.Schedule.{all_ended, is_enabled, number_printed};
@@ -32,6 +32,7 @@ pub struct Ended<'m> {
     pub core: Core<'m>,
     /// The log stands for a legal schedule of the module, which leads to the core, and prints these numbers.
     pub ghost run: { IsRunOf module.now log.items printed.items core },
+    /// All activities have ended.
     pub ghost over: { all_ended core.world ≡ true },
 }
 

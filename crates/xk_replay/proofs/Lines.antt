@@ -46,13 +46,6 @@ lines_append m xs ys w v h =
 
 -- ---- by a step
 
--- who has steps to take in a legal list can take the first
-pub first_enabled : (m : ModuleValue) (a n : ℕ) (w v : World) → 0 < n → run m (replicate n a) w ≡ Through v → is_enabled m w a ≡ true
-first_enabled m a zero w v some h = absurd (grind arith)
-first_enabled m a (suc n) w v some h =
-    let f = first_step w v (step m w a) (run m (replicate n a)) h in
-    ap is_step f.2
-
 -- the rest goes as the whole does
 pub rest_run : (m : ModuleValue) (a n k : ℕ) (w x : World) (e : Event) (all : Course) → n ≡ suc k → run m (replicate n a) w ≡ all → step m w a ≡ Stepped x e
     → run m (replicate k a) x ≡ all

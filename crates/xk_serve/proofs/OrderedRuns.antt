@@ -13,7 +13,7 @@ use Rattle.xk_core.specs.Core.{CoreValue}
 use Rattle.xk_drive.specs.Choosing.{enabled_in, Names, Follows, goes_on, state_after}
 use Rattle.xk_drive.specs.Driving.{IsChosen, IsRunOf, IsTurn}
 use Rattle.xk_drive.specs.Stretches.{IsGone, IsStretch}
-use Rattle.xk_serve.specs.OrderedRun.{GoesOn, IsEnd, IsStepOn, IsLogThat, IsReplay, IsRunThat, IsSomeRun}
+use Rattle.xk_serve.specs.OrderedRun.{GoesOn, IsEnd, IsStepOn, IsLogThat, IsReplay, IsRunThat}
 use Rattle.xk_laws.proofs.Counts.{step_counts}
 use Rattle.xk_laws.proofs.Reached.{run_more, run_counts}
 use Rattle.xk_drive.proofs.Following.{follows_more, printed_more, state_more}
@@ -196,7 +196,3 @@ pub worked_run : (m n : ModuleValue) (log : List Entry) (numbers : List ℤ) (c 
 worked_run m n log numbers c steps same run over counted =
     let run_of = subst (λ k. IsRunOf k log numbers c) same run in
     record { list = schedule_of log; last = c.world; follows = refl; leads = run_of.leads; over = over; numbers_are = run_of.prints; steps_are = counted }
-
--- a run by a log is some run
-pub some_run : (m : ModuleValue) (log : List Entry) (numbers : List ℤ) (steps : ℕ) → IsReplay m log numbers steps → IsSomeRun m numbers steps
-some_run m log numbers steps r = run_weaker _ _ m numbers steps (λ list h. tt) r

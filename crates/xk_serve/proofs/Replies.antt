@@ -166,15 +166,6 @@ sources_stand_else t program known n fault.NotEnded h other = h.0
 sources_stand_else t program known n fault.OutOfMemory h other = h.0
 sources_stand_else t program known n fault.Device h other = absurd (other refl)
 
--- a fault was reported, and not by 5: neither the sources failed nor the sink
-pub report_faults : (t : Task) (program known : Option (List ℕ)) (n : Reads) (f : Fault) (err_old err_new : Option (List ℕ)) (faults_old faults_new result : ℕ)
-    → StandsAgainst t program known n f → Reports f err_old err_new faults_old faults_new result → result ≢ 5 → IsRead n × (faults_new ≡ faults_old)
-report_faults t program known n f err_old err_new faults_old faults_new result h (inl (inl p)) other =
-    (sources_stand t program known n f h (λ e. other (p.0 ∙ e)), p.2)
-report_faults t program known n f err_old err_new faults_old faults_new result h (inl (inr p)) other = absurd (other p.0)
-report_faults t program known n f err_old err_new faults_old faults_new result h (inr (d, inl p)) other = (sources_stand_else t program known n f h d, p.2)
-report_faults t program known n f err_old err_new faults_old faults_new result h (inr (d, inr p)) other = absurd (other p.0)
-
 -- a device's fault was told
 pub device_reports : (f : Fault) (line : List ℕ) (err_old err_new : Option (List ℕ)) (faults_old faults_new result : ℕ)
     → f ≡ fault.Device → line ≡ device_line → Tells line 5 err_old err_new faults_old faults_new result → Reports f err_old err_new faults_old faults_new result

@@ -1,6 +1,6 @@
 //! Calls that lead back to the method that makes them.
 
-ghost use Rattle.std.specs.Prelude.{◌≡◌, ◌⊎◌, ◌<◌, List, map, length, slice_get, None, Some, Ok, Err, IfOk, IfSome, MatchOption, OnOk};
+ghost use Rattle.std.specs.Prelude.{◌≡◌, ◌⊎◌, ◌<◌, ◌≤◌, List, map, length, slice_get, None, Some, Ok, Err, IfOk, IfSome, MatchOption, OnOk};
 ghost use Rattle.xk_tree.specs.declared.fault.FrontFault.{FrontFault as Fault};
 ghost use Rattle.xk_calls.specs.Calls.{rows};
 ghost use Rattle.xk_tree.specs.Tree.{Word, method_value, tree_value, words};
@@ -101,9 +101,10 @@ fn call_back<'t>(
 
 /// The lesser of two offsets.
 fn lesser(a: Option<usize>, b: Option<usize>) -> Option<usize>
-    ensures { MatchOption result
+    ensures one { MatchOption result
         ((a ≡ None) × (b ≡ None))
         (λ at. (a ≡ Some at) ⊎ (b ≡ Some at)) }
+    ensures least { IfSome result (λ at. IfSome a (λ x. at ≤ x) × IfSome b (λ y. at ≤ y)) }
 {
     match a {
         None => b,

@@ -7,7 +7,7 @@ use Rattle.xk_types.specs.declared.names.Status.TheVariants as status
 use Rattle.xk_types.specs.declared.names.Event.{Event}
 use Rattle.xk_types.specs.Code.{ModuleValue}
 use Rattle.xk_types.specs.World.{Activity, World}
-use Rattle.xk_types.specs.Step.{Outcome, Blocked, Wrong, Stepped, done, step, onward, left, ended, arrived, child}
+use Rattle.xk_types.specs.Step.{Outcome, Blocked, Wrong, Stepped, step, onward, left, ended, arrived, child}
 use Rattle.xk_types.proofs.Lists.{get-set_other, get-push_other}
 use Rattle.xk_laws.proofs.Forms.{step_kind}
 use Rattle.xk_core.specs.Core.{CoreValue, IsCore, is_running, runs_now, is_taken_locally, is_next_local}

@@ -61,7 +61,3 @@ alone_fresh s c a e =
     subst (λ (t : Stage). IsStage t
     → None ≡ slice_get (enabled_in (run_at t).core.module_run (run_at t).core.world) (place_above a (enabled_in (run_at t).core.module_run (run_at t).core.world)))
     (sym e) (alone c a)
-
--- before its first step main hasn't ended
-pub fresh_goes_on : (s : Stage) (c : CoreValue) → s ≡ stage.Fresh c → IsStage s → all_ended c.world ≡ false
-fresh_goes_on s c e = subst (λ (t : Stage). IsStage t → all_ended c.world ≡ false) (sym e) (λ start. ap all_ended start)

@@ -13,9 +13,6 @@ pub record IsSeeking (claims : List Bool) (list : List ℕ) (next : Option ℕ) 
   pub next_is : next ≡ slice_get list place
   pub behind : (i x : ℕ) → i < place → slice_get list i ≡ Some x → is_claimed claims x ≡ true
 
-pub seeks : (claims : List Bool) (list : List ℕ) (next : Option ℕ) → next ≡ slice_get list 0 → IsSeeking claims list next
-seeks claims list next e = record { place = 0; next_is = e; behind = λ i x below at. absurd (omega arith) }
-
 pub seeks_on : (claims : List Bool) (list : List ℕ) (k : ℕ) (next : Option ℕ) → IsRising list → IsSeeking claims list (Some k) → is_claimed claims k ≡ true
     → next ≡ slice_get list (place_above k list) → IsSeeking claims list next
 seeks_on claims list k next up h claimed e = record {

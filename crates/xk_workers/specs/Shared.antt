@@ -40,6 +40,10 @@ with_claim a s = record s { claims = slice_set s.claims a true }
 abbrev pub without_claim : ℕ → SharedValue → SharedValue
 without_claim a s = record s { claims = slice_set s.claims a false }
 
+-- activity a is given up: it isn't claimed any more, and the workers are told to stop
+abbrev pub given_up : ℕ → SharedValue → SharedValue
+given_up a s = record (without_claim a s) { stopped = true }
+
 -- What a worker is told to do, before s and then t: the local steps of an activity, which it has claimed now; one step of an activity; to wait
 -- until others have done something; or nothing more, since all have ended, or since the workers were told to stop.
 abbrev pub Tells : SharedValue → Take → SharedValue → Type 0

@@ -1,8 +1,17 @@
--- What comes of a worker's turn under the lock.
-use Rattle.std.specs.Prelude.{◌≡◌, true}
+-- What comes of a worker's turn under the lock, and of local steps that it hands in.
+use Rattle.std.specs.Prelude.{◌≡◌, ◌⊎◌, ℕ, true, ◌++◌, ◌∷◌, [], Result, Ok, Err}
+use Rattle.xk_types.specs.declared.names.Event.{Event}
+use Rattle.xk_types.specs.Schedule.{all_ended}
+use Rattle.xk_types.specs.Logs.{one_step_of}
+use Rattle.xk_activity.specs.Activities.{act_at}
+use Rattle.xk_activity.specs.Joined.{frames_in}
 use Rattle.xk_activity.specs.Local.{IsSafe, local, is_stepped}
+use Rattle.xk_activity.specs.Ticket.{TicketValue}
+use Rattle.xk_core.specs.Core.{StepsTo, is_next_local}
+use Rattle.xk_core.specs.Handed.{Accepts}
 use Rattle.xk_workers.specs.declared.workers.Turned.{Turned}
 use Rattle.xk_workers.specs.declared.workers.Turned.TheVariants as turned
+use Rattle.xk_workers.specs.Shared.{SharedValue, IsFree, AreAllClaimed, HasTaken, given_up, with_claim, without_claim}
 
 -- local steps can be computed from the frames that it took with it, one at least
 abbrev pub CanCompute : Turned → Type 0
@@ -10,3 +19,27 @@ CanCompute (turned.Works a fs) = IsSafe local fs × (is_stepped (local fs) ≡ t
 CanCompute turned.Acted = Unit {0}
 CanCompute turned.Waits = Unit {0}
 CanCompute turned.Over = Unit {0}
+
+-- one step of a free activity was taken, with its entry in the log
+pub record HasActed (s t : SharedValue) : Type 0 where
+  pub act : ℕ
+  pub event : Event
+  pub free : IsFree s act
+  pub stepped : StepsTo s.run.core act t.run.core event
+  pub logged : t.run.log ≡ s.run.log ++ one_step_of act ∷ []
+
+-- A worker's turn, before s and then t: it has claimed a free activity whose next step is local, and has its frames; or one step was taken, or
+-- the workers are told to stop; or it waits, since everybody is claimed; or there is nothing more to do. Where it waits or is done, nothing has
+-- changed.
+abbrev pub Turns : SharedValue → Turned → SharedValue → Type 0
+Turns s (turned.Works a fs) t = IsFree s a × (is_next_local s.run.core a ≡ true)
+    × (fs ≡ frames_in s.run.core.module_run (act_at s.run.core.world.activities a)) × (t ≡ with_claim a s)
+Turns s turned.Acted t = HasActed s t ⊎ (t.stopped ≡ true)
+Turns s turned.Waits t = AreAllClaimed s × (t ≡ s)
+Turns s turned.Over t = ((s.stopped ≡ true) ⊎ (all_ended s.run.core.world ≡ true)) × (t ≡ s)
+
+-- What is handed in, before s and then t. Of a ticket its steps were taken; or it was stale, and its claim alone is gone; or there was no memory
+-- for its entry, and the activity is given up. Where computing was refused memory it is given up.
+abbrev pub HandsIn : {E : Type 0} → SharedValue → ℕ → Result TicketValue E → SharedValue → Type 0
+HandsIn s a (Ok ticket) t = HasTaken s ticket t ⊎ ((Accepts s.run.core ticket → ⊥) × (t ≡ without_claim ticket.act s)) ⊎ (t ≡ given_up ticket.act s)
+HandsIn s a (Err refused) t = t ≡ given_up a s

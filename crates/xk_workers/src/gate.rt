@@ -11,7 +11,7 @@ use xk_types::Act;
 /// How a worker computes the local steps of an activity outside the lock, while others have it.
 pub trait Gate {
     /// Up to max local steps of activity `act`, which has these frames: max, or as many as there are before one that others can see.
-    /// Where memory is refused, the frames come back as they were.
+    /// Where memory is refused, the frames come back as they were. Workers are numbered from 0, which is the calling thread.
     fn compute<'m>(
         &self,
         alloc: Global,

@@ -2,7 +2,6 @@
 
 ghost use Rattle.std.specs.Prelude.{◌≡◌, ◌∷◌, ◌++◌, [], true, false, None, slice_get, IfOk, IfErr, OnOk, OnErr, IsTrue, length, ◌<◌};
 ghost use Rattle.xk_types.specs.Schedule.{is_enabled, all_ended};
-ghost use Rattle.xk_types.specs.Bound.{steps_bound};
 ghost use Rattle.xk_types.specs.Logs.{one_step_of};
 ghost use Rattle.xk_members.specs.Members.{place_above};
 ghost use Rattle.xk_activity.specs.Joined.{frames_in};
@@ -11,7 +10,7 @@ ghost use Rattle.xk_core.specs.Core.{StepsTo, IsCore};
 ghost use Rattle.xk_core.specs.Handed.{Accepts};
 ghost use Rattle.xk_core.specs.Stretch.{RunsTo, AreLocal};
 ghost use Rattle.xk_drive.specs.Choosing.{enabled_in};
-ghost use Rattle.xk_drive.specs.Driving.{IsRunOf, IsCommitted};
+ghost use Rattle.xk_drive.specs.Driving.{IsCommitted};
 ghost use Rattle.xk_workers.specs.Run.{fresh_run, run_at, IsStage, IsGoing, IsLegalRun};
 
 use std::alloc::{AllocError, Global};

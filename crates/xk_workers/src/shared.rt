@@ -1,6 +1,6 @@
 //! What workers share: a run with its log, who is claimed, and whether to stop.
 
-ghost use Rattle.std.specs.Prelude.{◌≡◌, ◌+◌, ◌≤◌, ◌<◌, ◌∷◌, ◌++◌, [], true, false, IfOk, IfErr, IfSome, IfNone, OnOk, OnErr, IsTrue, All, Some, slice_get, length};
+ghost use Rattle.std.specs.Prelude.{◌≡◌, ◌+◌, ◌<◌, ◌∷◌, ◌++◌, [], true, false, IfOk, IfErr, IfSome, IfNone, OnOk, OnErr, All, Some, slice_get, length};
 ghost use Rattle.std.specs.Bool.{Decides};
 ghost use Rattle.xk_types.specs.Schedule.{is_enabled, all_ended};
 ghost use Rattle.xk_types.specs.Logs.{one_step_of};
@@ -11,7 +11,7 @@ ghost use Rattle.xk_core.specs.Core.{StepsTo, is_next_local};
 ghost use Rattle.xk_drive.specs.Choosing.{enabled_in};
 ghost use Rattle.xk_workers.specs.Claims.{claims_in, is_claimed, claims_after};
 ghost use Rattle.xk_workers.specs.Run.{fresh_run, IsLegalRun};
-ghost use Rattle.xk_workers.specs.Shared.{IsFree, Tells, ActsVisibly, Commits, GoesOn, without_claim};
+ghost use Rattle.xk_workers.specs.Shared.{IsFree, Tells, ActsVisibly, Commits, GoesOn, given_up, without_claim};
 
 use crate::claims::Claims;
 use crate::run::Run;
@@ -163,12 +163,19 @@ impl<'m> Shared<'m> {
         self.run.copy(act)
     }
 
+    /// Ends the claim of the activity, if it has one.
+    fn end_claim(&mut self, act: Act)
+        ensures { self.new ≡ without_claim act self.old }
+    {
+        self.claims.put(act, false);
+    }
+
     /// Ends the claim of the activity.
     pub fn release(&mut self, act: Act)
         requires { is_claimed self.old.claims act ≡ true }
         ensures { self.new ≡ without_claim act self.old }
     {
-        self.claims.put(act, false);
+        self.end_claim(act);
     }
 
     /// Hands in local steps of an activity that were computed outside the lock: they are taken at once, with one entry. `Stale` exactly
@@ -204,6 +211,14 @@ impl<'m> Shared<'m> {
         let event = self.run.step(act)?;
         self.claims.note(event);
         Ok(event)
+    }
+
+    /// Gives the activity up for want of memory: it isn't claimed any more, and the workers are told to stop.
+    pub(crate) fn give_up(&mut self, act: Act)
+        ensures { self.new ≡ given_up act self.old }
+    {
+        self.end_claim(act);
+        self.stop();
     }
 
     /// Tells the workers to stop.

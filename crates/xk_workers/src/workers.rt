@@ -3,7 +3,7 @@
 ghost use Rattle.std.specs.Prelude.{◌≡◌, ◌≤◌, true, false, IfOk, IfErr};
 ghost use Rattle.std.specs.Bool.{Decides};
 ghost use Rattle.xk_workers.specs.Shared.{IsSettled, GoesOn};
-ghost use Rattle.xk_workers.specs.Turned.{CanCompute};
+ghost use Rattle.xk_workers.specs.Turned.{CanCompute, HandsIn, Turns};
 
 use crate::gate::Gate;
 use crate::shared::{CommitFault, Shared, Take};
@@ -18,7 +18,7 @@ use xk_same::is_same_module;
 use xk_types::Act;
 
 /// How many local steps a worker computes at once, at most.
-const MOST: u32 = 65_536;
+const MOST_LOCAL_STEPS: u32 = 65_536;
 
 /// What all workers have beside the machine: memory, how local steps are computed, and where they wait for each other.
 #[derive(Clone, Copy)]
@@ -41,23 +41,16 @@ pub enum Turned<'m> {
     Over,
 }
 
-/// A worker was refused memory: it claims the activity no more, and all are told to stop.
-fn give_up(shared: &mut Shared<'_>, act: Act) {
-    if shared.claimed(act) {
-        shared.release(act);
-    }
-    shared.stop();
-}
-
 /// A worker's turn under the lock: it does what it is told, or takes the frames with it from which it is to compute local steps.
 fn turn<'m>(shared: &mut Shared<'m>) -> Turned<'m>
-    ensures { CanCompute result }
+    ensures can { CanCompute result }
+    ensures turned { Turns shared.old result shared.new }
 {
     match shared.take() {
         Take::Work(act) => match shared.copy(act) {
             Ok(frames) => Turned::Works(act, frames),
             Err(_) => {
-                give_up(shared, act);
+                shared.give_up(act);
                 Turned::Acted
             }
         },
@@ -77,14 +70,16 @@ fn hand_in<'m>(
     shared: &mut Shared<'m>,
     act: Act,
     answer: Result<Ticket<'m>, (Frames<'m>, AllocError)>,
-) {
+)
+    ensures { HandsIn shared.old act answer.entry shared.new }
+{
     match answer {
         Ok(ticket) => {
             if let Err(CommitFault::OutOfMemory) = shared.commit(ticket) {
                 shared.stop();
             }
         }
-        Err(_) => give_up(shared, act),
+        Err(_) => shared.give_up(act),
     }
 }
 
@@ -96,7 +91,8 @@ fn work<R: Wait, G: Gate>(rt: &R, desk: &Desk<'_, G>, board: &Mutex<Shared<'_>>,
         match turn(&mut *shared) {
             Turned::Works(act, frames) => {
                 drop(shared);
-                let answer = desk.gate.compute(desk.alloc, worker, act, frames, MOST);
+                let most = MOST_LOCAL_STEPS;
+                let answer = desk.gate.compute(desk.alloc, worker, act, frames, most);
                 hand_in(&mut *board.lock(rt), act, answer);
                 desk.changed.notify_all();
             }
@@ -166,8 +162,8 @@ fn settle<'m>(alloc: Global, shared: Shared<'m>, aside: Core<'m>) -> Result<Ende
     drive(alloc, aside, &mut First)
 }
 
-/// Runs a core, from before its first step, by this many worker threads under one lock, the calling thread among them; where a thread
-/// can't be started there are fewer. Steps that others can see are taken under the lock; local ones are computed outside it by the gate,
+/// Runs a core, from before its first step, by 1 to 64 worker threads under one lock, the calling thread among them; where a thread can't
+/// be started there are fewer. More than 64 would only wait for the lock. Steps that others can see are taken under the lock; local ones are computed outside it by the gate,
 /// and handed in. Ok where all activities have ended, and Err where memory was refused. Whatever the workers do, the log in the answer
 /// stands for a legal schedule of the module that leads to the core in the answer, as the types of the answers keep.
 pub fn run_workers<'m, R: Threads + Wait + Sync, G: Gate + Sync>(

@@ -19,8 +19,8 @@ returns-in-None-clause-none c = λ f h.
     sym (c.call_of_main.ensures ∙ ap (λ ns. main_in (map (λ names. words names.items) ns)) c.deref-3.ensures.value ∙ ap main_in c.in_ok-called.ensures
     ∙ ap (λ ms. main_in (all_callees (map method_value ms))) c.deref.ensures.value) in
     elim h [
-      | inl m ↦ is_main_uncalled (tree_value c.args.tree.now) f (main ∙ c.in-None.ensures.0) m
-      | inr b ↦ c.in_ok-back.ensures.none (ap Ok c.in-None.ensures.1) f b
+      | inl m ↦ is_main_uncalled (tree_value c.args.tree.now) f (main ∙ c.in-None.ensures.one.0) m
+      | inr b ↦ c.in_ok-back.ensures.none (ap Ok c.in-None.ensures.one.1) f b
     ]
 
 pub returns-clause-found : goal.returns-clause-found
@@ -29,7 +29,7 @@ returns-clause-found c = λ f e.
     sym (c.call_of_main.ensures ∙ ap (λ ns. main_in (map (λ names. words names.items) ns)) c.deref-3.ensures.value ∙ ap main_in c.in_ok-called.ensures
     ∙ ap (λ ms. main_in (all_callees (map method_value ms))) c.deref.ensures.value) in
     let same : fault rule.Recursive c.in-Some.at ≡ f = fault_of (fault rule.Recursive c.in-Some.at) f e in
-    subst (λ (g : FrontFault). HasRecursion (tree_value c.args.tree.now) g) same (elim c.in-Some.ensures [
+    subst (λ (g : FrontFault). HasRecursion (tree_value c.args.tree.now) g) same (elim c.in-Some.ensures.one [
       | inl a ↦ inl (is_main_called (tree_value c.args.tree.now) c.in-Some.at (main ∙ a))
       | inr b ↦ inr (rw b at c.in_ok-back.ensures.found)
     ])

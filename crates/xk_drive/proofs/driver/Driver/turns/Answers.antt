@@ -102,7 +102,7 @@ returns-in_err-turn-clause-refused g c =
     let named : Names answer d.core.module_run s d.core.world act =
     subst (λ l. slice_get l (answer s l % length l) ≡ Some act) c.self.invariant.list_is c.pick.ensures.picked in
     let steady : IsSteadyOn after s (enabled_in d.core.module_run d.core.world) =
-    subst (IsSteadyOn after s) c.self.invariant.list_is (c.is_steady-is_steady.ensures (c.goes_ahead.ensures c.if-not-goes_ahead.false)) in
+    subst (IsSteadyOn after s) c.self.invariant.list_is (c.is_steady-is_steady.ensures (c.goes_ahead.ensures.steady c.if-not-goes_ahead.false)) in
     on_err c.from_residual-in_err-turn.result _ (record {
       count = c.run-steps.result.0;
       between = c.run-steps.new.self;
@@ -124,7 +124,7 @@ returns-clause-gone g c =
     let named : Names answer d.core.module_run s d.core.world act =
     subst (λ l. slice_get l (answer s l % length l) ≡ Some act) c.self.invariant.list_is c.pick.ensures.picked in
     let steady : IsSteadyOn after s (enabled_in d.core.module_run d.core.world) =
-    subst (IsSteadyOn after s) c.self.invariant.list_is (c.is_steady-is_steady.ensures (c.goes_ahead.ensures c.if-not-goes_ahead.false)) in
+    subst (IsSteadyOn after s) c.self.invariant.list_is (c.is_steady-is_steady.ensures (c.goes_ahead.ensures.steady c.if-not-goes_ahead.false)) in
     record {
       count = c.run-steps.result.0;
       between = c.run-steps.new.self;
@@ -146,7 +146,7 @@ returns-in_err-event-2-clause-refused g c =
     let named : Names answer d.core.module_run s d.core.world act =
     subst (λ l. slice_get l (answer s l % length l) ≡ Some act) c.self.invariant.list_is c.pick.ensures.picked in
     let steady : IsSteadyOn after s (enabled_in d.core.module_run d.core.world) =
-    subst (IsSteadyOn after s) c.self.invariant.list_is (c.is_steady-is_steady.ensures (c.goes_ahead.ensures c.if-not-goes_ahead.false)) in
+    subst (IsSteadyOn after s) c.self.invariant.list_is (c.is_steady-is_steady.ensures (c.goes_ahead.ensures.steady c.if-not-goes_ahead.false)) in
     let left = c.pick.ensures.goes_on ∙ ap (after s) c.self.invariant.list_is in
     let alone : GoesAlone d.core.module_run act c.run-steps.result.0 d.core.world c.run-steps.new.self.world =
     record { leads = c.run-steps.ensures.ran; local = c.run-steps.ensures.local } in
@@ -178,7 +178,7 @@ returns-then-can_go_on-clause-gone g c =
     let named : Names answer d.core.module_run s d.core.world act =
     subst (λ l. slice_get l (answer s l % length l) ≡ Some act) c.self.invariant.list_is c.pick.ensures.picked in
     let steady : IsSteadyOn after s (enabled_in d.core.module_run d.core.world) =
-    subst (IsSteadyOn after s) c.self.invariant.list_is (c.is_steady-is_steady.ensures (c.goes_ahead.ensures c.if-not-goes_ahead.false)) in
+    subst (IsSteadyOn after s) c.self.invariant.list_is (c.is_steady-is_steady.ensures (c.goes_ahead.ensures.steady c.if-not-goes_ahead.false)) in
     let left = c.pick.ensures.goes_on ∙ ap (after s) c.self.invariant.list_is in
     let alone : GoesAlone d.core.module_run act c.run-steps.result.0 d.core.world c.run-steps.new.self.world =
     record { leads = c.run-steps.ensures.ran; local = c.run-steps.ensures.local } in
