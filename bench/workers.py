@@ -1,0 +1,59 @@
+#!/usr/bin/env python3
+"""Times the built program by worker threads beside the order `first`: activities with long loops of their own, and many that advance together.
+
+    python3 bench/workers.py [PROGRAM] [--rounds N]
+
+PROGRAM is crates/x10clock/out/x10clock unless another is named. Prints for each module the seconds that passed, the least of three runs: in
+the order `first`, and by 1, 2 and 4 workers.
+"""
+import argparse
+import subprocess
+import tempfile
+import time
+
+from by_hand import TOP
+from modules import counting_beside, module, unit
+
+
+def in_step_with_sums(activities, phases):
+    """Activities on one clock, each of which adds eight times between two advances."""
+    main = [["make", 0], ["for", 1, 1, activities, 3], ["spawn", 1, [0]], ["next", 1], ["drop", 0], ["ret"]]
+    body = [["lit", 2, 0], ["for", 1, 1, phases, 11], *[["add", 2, 2, 1]] * 8, ["advance"], ["next", 1], ["drop", 0], ["ret"]]
+    return module([unit("main", 2, main), unit("body", 3, body, "c")])
+
+
+ROWS = [
+    ("two activities with a loop of 100 million steps each", counting_beside(2, 10_000)),
+    ("four activities with a loop of 50 million steps each", counting_beside(4, 5_000)),
+    ("1,000 activities that take some ten local steps, and advance together, 100 times", in_step_with_sums(1_000, 100)),
+]
+
+
+def passed(words, rounds):
+    """The least seconds that a call took by the clock."""
+    seconds = []
+    for _ in range(rounds):
+        began = time.monotonic()
+        subprocess.run(words, stdout=subprocess.DEVNULL, check=True)
+        seconds.append(time.monotonic() - began)
+    return min(seconds)
+
+
+def main():
+    parser = argparse.ArgumentParser()
+    parser.add_argument("program", nargs="?", default=str(TOP / "crates/x10clock/out/x10clock"))
+    parser.add_argument("--rounds", type=int, default=3)
+    given = parser.parse_args()
+    print("| Program | `first` | 1 worker | 2 | 4 |")
+    print("|---|---|---|---|---|")
+    for name, text in ROWS:
+        with tempfile.NamedTemporaryFile("w", suffix=".json") as file:
+            file.write(text)
+            file.flush()
+            ways = [[], *(["--workers", str(count)] for count in (1, 2, 4))]
+            seconds = [passed([given.program, "run", *way, "--module", file.name], given.rounds) for way in ways]
+        print(f"| {name} | " + " | ".join(f"{second:.2f}" for second in seconds) + " |", flush=True)
+
+
+if __name__ == "__main__":
+    main()
