@@ -15,9 +15,6 @@ use Rattle.xk_types.specs.Step.{Outcome, Wrong, ClockUse, OutOfRange, carried_ou
 use Rattle.xk_types.specs.Schedule.{is_step}
 use Rattle.xk_core.specs.Arm.{value_at, carried, carried_by}
 
-same_some : {X : Type 0} (x y : X) → Some x ≡ Some y → x ≡ y
-same_some x y e = cc
-
 -- the value that is read in a slot is the one there
 value_there : (act : Activity) (s : ℕ) (v : Value) → slot_at act s ≡ Some v → value_at act s ≡ v
 value_there act s v e = get_or_from_slice_get act.frame.slots s v value.Unset e

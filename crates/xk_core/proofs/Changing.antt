@@ -16,18 +16,6 @@ use Rattle.xk_standings.specs.Calls.{IsGiven}
 use Rattle.xk_standings.specs.Told.{StandingsValue, told_of, change_on, AreHandedOn}
 use Rattle.xk_core.specs.Arm.{passed_on, passing_by}
 
--- who passes is signalled on no clock
-pub pass_allows : (w : World) (a : ℕ) → is_step (passed_on w a) ≡ true → list_any (λ c. is_signalled (standing_of c a)) w.clocks ≡ false
-pass_allows w a h = by (slice_get w.activities a) h
-  where
-    at : (b : Bool) (o : Outcome) → is_step (cond b Blocked o) ≡ true → b ≡ false
-    at true o g = absurd (false≢true g)
-    at false o g = refl
-
-    by : (o : Option Activity) → is_step (passing_by w a o) ≡ true → waits w a ≡ false
-    by None g = absurd (false≢true g)
-    by (Some act) g = at (waits w a) (done w a (past act (w.steps + 1)) (all passed) event.Passed) g
-
 -- ---- a start, where room was made meanwhile
 
 pub handed : (s t : StandingsValue) (a : ℕ) (given : ℕ → Bool) (new : List Registration) → t.held ≡ s.held → a < length s.held → IsGiven given (held s.held a) new

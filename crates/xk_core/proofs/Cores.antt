@@ -101,11 +101,6 @@ core_fresh m w core h = opening_only m w core.reached h
 pub core_clocks : (m : ModuleValue) (w : World) → IsCore m w → length w.clocks < 2 ^ 32
 core_clocks m w core = omega (arith, (reached_room m core.limits core.accepted w core.reached).clocks, core.accepted.bounds.clocks)
 
--- what holds anyway holds at Ok
-pub at_ok : {A E : Type 0} (P : Type 0) (r : Result A E) → P → OnOk r P
-at_ok P (Ok x) p = p
-at_ok P (Err e) p = tt
-
 -- what follows from what holds at Err
 pub err_on : {A E : Type 0} (P Q : Type 0) (r : Result A E) → (P → Q) → OnErr r P → OnErr r Q
 err_on P Q (Ok x) f h = tt

@@ -6,10 +6,10 @@ use Rattle.std.proofs.lemmas.List.{length_push}
 use Rattle.xk_types.specs.declared.instr.Instr.TheVariants as instr
 use Rattle.xk_types.specs.Code.{ModuleValue}
 use Rattle.xk_types.specs.World.{Activity, World, base_of, base_unit, main_of}
-use Rattle.xk_types.specs.Bound.{clocks_bound, stack_of}
+use Rattle.xk_types.specs.Bound.{clocks_bound}
 use Rattle.xk_types.proofs.Lists.{get_inside, get-set_same, get-set_other, get_push, get-push_other}
 use Rattle.xk_laws.proofs.Scopes.Invariant.{based}
-use Rattle.xk_rooms.specs.Rooms.{HasRoomLeft, registrations, places_of}
+use Rattle.xk_rooms.specs.Rooms.{HasRoomLeft, registrations, places_from, places_of}
 use Rattle.xk_rooms.proofs.Law.{made_has_room}
 use Rattle.xk_finishes.specs.Tree.{NodeValue}
 use Rattle.xk_standings.specs.Told.{Rooms, HasRoomToMake}
@@ -34,32 +34,32 @@ reserved_set m acts r q a y h same base = rw same (record {
   places = λ b z there. by b z there (cases_eq b a);
 })
   where
-    by : (b : ℕ) (z : Activity) → slice_get (slice_set acts a y) b ≡ Some z → (b ≡ a) ⊎ (b ≡ a → ⊥) → stack_of m (base_unit z) ≤ slice_index_or r.places b 0
+    by : (b : ℕ) (z : Activity) → slice_get (slice_set acts a y) b ≡ Some z → (b ≡ a) ⊎ (b ≡ a → ⊥) → places_of m z ≤ slice_index_or r.places b 0
     by b z there (inl e) =
         let inside = slice_get_within (slice_set acts a y) b z there in
         let x = get_inside acts a (omega (arith, inside, length-set acts a y, e)) in
         let yz : y ≡ z = same_Some y z (sym (get-set_same acts a x.0 y x.1) ∙ ap (slice_get (slice_set acts a y)) (sym e) ∙ there) in
         let units : base_unit z ≡ base_unit x.0 = ap base_unit (sym yz) ∙ base ∙ ap base_unit (get_or_from_slice_get acts a x.0 nobody x.1) in
-        subst (λ k. stack_of m (base_unit z) ≤ slice_index_or r.places k 0) (sym e)
-        (subst (λ k. stack_of m k ≤ slice_index_or r.places a 0) (sym units) (h.places a x.0 x.1))
+        subst (λ k. places_of m z ≤ slice_index_or r.places k 0) (sym e)
+        (subst (λ k. places_from m k ≤ slice_index_or r.places a 0) (sym units) (h.places a x.0 x.1))
     by b z there (inr differs) = h.places b z (sym (get-set_other acts a b y differs) ∙ there)
 
 -- one more, with places of its own
 pub reserved_push : (m : ModuleValue) (acts : List Activity) (r q : Rooms) (n : ℕ) (y : Activity) → AreReserved m acts r → q.clocks ≡ r.clocks
-    → q.places ≡ r.places ++ n ∷ [] → stack_of m (base_unit y) ≤ n → AreReserved m (acts ++ y ∷ []) q
+    → q.places ≡ r.places ++ n ∷ [] → places_of m y ≤ n → AreReserved m (acts ++ y ∷ []) q
 reserved_push m acts r q n y h clocks places fits = record {
   clocks = omega (arith, h.clocks, clocks);
   width = ap length places ∙ omega (arith, length_push r.places n, length_push acts y, h.width);
-  places = λ b z there. subst (λ (l : List ℕ). stack_of m (base_unit z) ≤ slice_index_or l b 0) (sym places) (by b z there (cases_eq b (length acts)));
+  places = λ b z there. subst (λ (l : List ℕ). places_of m z ≤ slice_index_or l b 0) (sym places) (by b z there (cases_eq b (length acts)));
 }
   where
     by : (b : ℕ) (z : Activity) → slice_get (acts ++ y ∷ []) b ≡ Some z → (b ≡ length acts) ⊎ (b ≡ length acts → ⊥)
-        → stack_of m (base_unit z) ≤ slice_index_or (r.places ++ n ∷ []) b 0
+        → places_of m z ≤ slice_index_or (r.places ++ n ∷ []) b 0
     by b z there (inl e) =
         let yz : y ≡ z = same_Some y z (sym (get_push acts y) ∙ ap (slice_get (acts ++ y ∷ [])) (sym e) ∙ there) in
         let at : slice_get (r.places ++ n ∷ []) b ≡ Some n = ap (slice_get (r.places ++ n ∷ [])) (e ∙ sym h.width) ∙ get_push r.places n in
         let is : slice_index_or (r.places ++ n ∷ []) b 0 ≡ n = get_or_from_slice_get (r.places ++ n ∷ []) b n 0 at in
-        subst (λ (x : Activity). stack_of m (base_unit x) ≤ slice_index_or (r.places ++ n ∷ []) b 0) yz (omega (arith, fits, is))
+        subst (λ (x : Activity). places_of m x ≤ slice_index_or (r.places ++ n ∷ []) b 0) yz (omega (arith, fits, is))
     by b z there (inr differs) =
         let old = sym (get-push_other acts y b differs) ∙ there in
         let p = get_inside r.places b (omega (arith, slice_get_within acts b z old, h.width)) in
@@ -69,18 +69,9 @@ reserved_push m acts r q n y h clocks places fits = record {
 
 -- where activity a goes on meanwhile
 pub reserved_more : (m : ModuleValue) (acts news : List Activity) (r q : Rooms) (a n : ℕ) (x y : Activity) → AreReserved m acts r → base_unit x ≡ base_unit (act_at acts a)
-    → news ≡ slice_set acts a x ++ y ∷ [] → q.clocks ≡ r.clocks → q.places ≡ r.places ++ n ∷ [] → stack_of m (base_unit y) ≤ n → AreReserved m news q
+    → news ≡ slice_set acts a x ++ y ∷ [] → q.clocks ≡ r.clocks → q.places ≡ r.places ++ n ∷ [] → places_of m y ≤ n → AreReserved m news q
 reserved_more m acts news r q a n x y h base is clocks places fits =
     subst (λ l. AreReserved m l q) (sym is) (reserved_push m (slice_set acts a x) r q n y (reserved_set m acts r r a x h refl base) clocks places fits)
-
--- at the beginning
-pub reserved_open : (m : ModuleValue) (acts : List Activity) (q : Rooms) → acts ≡ main_of m ∷ [] → q.clocks ≡ clocks_bound m → length q.places ≡ 1
-    → stack_of m 0 ≤ slice_index_or q.places 0 0 → AreReserved m acts q
-reserved_open m acts q is clocks width fits = rw is (record { clocks = omega (arith, clocks); width = width; places = by })
-  where
-    by : (a : ℕ) (x : Activity) → slice_get (main_of m ∷ []) a ≡ Some x → stack_of m (base_unit x) ≤ slice_index_or q.places a 0
-    by zero x e = subst (λ (z : Activity). stack_of m (base_unit z) ≤ slice_index_or q.places 0 0) (same_Some (main_of m) x e) fits
-    by (suc a) x e = absurd (none-some x e)
 
 -- ---- the unit that an activity began with
 

@@ -76,15 +76,6 @@ StepsTo c a d e = step c.module_run c.world a ≡ Stepped d.world e
 abbrev pub WantsMemory : CoreValue → ℕ → Type 0
 WantsMemory c a = IsAboutToGrow c.module_run c.world a
 
--- activity a is about to start another
-abbrev pub is_about_to_start : ModuleValue → World → ℕ → Bool
-is_about_to_start m w a = option_map_or starts (next_instruction m w a) false
-
--- behind a step of activity a this room is for two more than there are activities
-abbrev pub HasRoomAfter : CoreValue → ℕ → ℕ → Type 0
-HasRoomAfter c a room =
-    (w : World) (e : Event) → step c.module_run c.world a ≡ Stepped w e → length w.activities + 1 < room
-
 -- a is enabled, and nobody of a smaller number is
 abbrev pub IsLeastEnabled : ModuleValue → World → ℕ → Type 0
 IsLeastEnabled m w a = (is_enabled m w a ≡ true) × ((b : ℕ) → b < a → is_enabled m w b ≡ false)

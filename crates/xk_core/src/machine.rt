@@ -179,17 +179,6 @@ impl<'m> Core<'m> {
         is_registered(self.state.standing(act.0 as usize, clock))
     }
 
-    /// Whether the activity is about to start another.
-    #[inline(always)]
-    pub fn is_about_to_start(&self, act: Act) -> bool
-        ensures { result ≡ is_about_to_start self.now.module_run self.now.world act }
-    {
-        match self.next_instruction(act.0 as usize) {
-            Some(Instr::Spawn { .. }) => true,
-            _ => false,
-        }
-    }
-
     /// Whether no clock advanced in the last step.
     #[inline(always)]
     pub fn is_quiet(&self) -> bool

@@ -1,6 +1,6 @@
 //! The world of a running program, but for its finishes, and the arms of its steps.
 
-ghost use Rattle.std.specs.Prelude.{◌≡◌, ℕ, ℤ, ◌+◌, ◌<◌, ◌≤◌, ◌^◌, true, false, ◌∷◌, [], ◌++◌, Some, length, slice_get, slice_set, option_copied, option_map, is_some, vec_capacity, IfOk, IfSome, OnOk, OnErr, All};
+ghost use Rattle.std.specs.Prelude.{◌≡◌, ℕ, ℤ, ◌+◌, ◌<◌, ◌≤◌, ◌^◌, min, true, false, ◌∷◌, [], ◌++◌, Some, length, slice_get, slice_set, option_copied, option_map, is_some, vec_capacity, IfOk, IfSome, OnOk, OnErr, All};
 ghost use Rattle.std.specs.Bool.{Decides};
 ghost use Rattle.xk_types.specs.declared.names.Value.TheVariants as value;
 ghost use Rattle.xk_types.specs.declared.instr.Instr.TheVariants as instruction;
@@ -8,7 +8,7 @@ ghost use Rattle.xk_types.specs.Code.{IsWithinLimits};
 ghost use Rattle.xk_types.specs.World.{standing_of, opening};
 ghost use Rattle.xk_types.specs.Step.{Stepped, settled, moved, waits, onward, none};
 ghost use Rattle.xk_types.specs.Schedule.{is_step, all_ended};
-ghost use Rattle.xk_types.specs.Bound.{stack_of};
+ghost use Rattle.xk_types.specs.Bound.{clocks_bound, stack_of};
 ghost use Rattle.xk_finishes.specs.Tree.{node_at, fresh_node, governing_of};
 ghost use Rattle.xk_activity.specs.Activities.{act_at, Stands, Takes};
 ghost use Rattle.xk_activity.specs.Local.{IsRight, IsSafe, local, is_stepped};
@@ -82,6 +82,14 @@ fn set_cell(cells: &mut Vec<i64>, s: u16, n: i64)
     cells[s as usize] = n;
 }
 
+/// Room for what an activity is registered on whose frames may have this many slots: a place for each clock that one of them
+/// may name, and no more than the run may have clocks.
+fn places(verified: &Verified, slots: u32) -> usize
+    ensures { result ≡ min slots (clocks_bound verified.now) }
+{
+    slots.min(verified.clocks()) as usize
+}
+
 impl<'m> State<'m> {
     /// A world with main alone, before its first step.
     pub fn open(alloc: Global, verified: &'m Verified) -> Result<State<'m>, AllocError>
@@ -90,7 +98,7 @@ impl<'m> State<'m> {
     {
         let program = verified.module();
         let _main = &program.units()[0];
-        let places = verified.room(0).slots as usize;
+        let places = places(verified, verified.room(0).slots);
         Ok(State {
             activities: Activities::open(alloc, verified)?,
             standings: Standings::open(alloc, verified.clocks(), places)?,
@@ -287,7 +295,7 @@ impl<'m> State<'m> {
         Event::Added
     }
 
-    /// Activity a makes a clock, for which there is room, and puts its name into slot d.
+    /// Activity a makes a clock, for which there is room, and puts its name into slot d. No clock can become ready by it, so that the step only counts.
     fn make(&mut self, a: usize, d: u16) -> Event
         requires enabled { is_step
             (carried self.old.module_run self.old.world a (instruction.Make d)) ≡ true }
@@ -318,7 +326,7 @@ impl<'m> State<'m> {
     }
 
     /// Activity a starts one that runs this unit with the values of these slots, with this much room for its finishes and for what
-    /// it is registered on. Where memory is refused nothing changes.
+    /// it is registered on. No clock can become ready by it. Where memory is refused nothing changes.
     pub fn spawn(
         &mut self,
         finishes: &mut FinishTree,
@@ -349,7 +357,7 @@ impl<'m> State<'m> {
         let alloc = self.activities.allocator();
         self.activities.frames(a).values(args, &mut self.handed)?;
         let new = self.activities.begin(alloc, a, unit, &self.handed)?;
-        let places = most.slots as usize;
+        let places = places(self.activities.verified(), most.slots);
         let registrations = self.standings.child(alloc, a, places, &self.handed)?;
         self.activities.reserve()?;
         self.standings.reserve()?;

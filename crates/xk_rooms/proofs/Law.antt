@@ -2,21 +2,21 @@
 use Rattle.std.proofs.Common.{◌≡◌, ℕ, ◌+◌, ◌<◌, ◌≤◌, [], ◌∷◌, ◌++◌, map, length, Some, None, Option, set, refl, ap, ◌∙◌, subst, arith, slice_get}
 use Rattle.std.proofs.lemmas.Option.{slice_get_within}
 use Rattle.std.proofs.lemmas.List.{length-append, length-map}
+use Rattle.std.proofs.lemmas.List.Sums.{count_by-le-length}
 use Rattle.xk_types.specs.declared.names.Value.{Value}
 use Rattle.xk_types.specs.declared.names.Value.TheVariants as value
 use Rattle.xk_types.specs.declared.names.Event.TheVariants as event
 use Rattle.xk_types.specs.Code.{ModuleValue, IsWithinLimits}
-use Rattle.xk_types.specs.World.{Activity, World, base_of}
-use Rattle.xk_types.specs.Step.{step, step_of, step_by, run_at, put_in, made, settled, settled_clock, new_clock, onward, with_slots}
+use Rattle.xk_types.specs.World.{Activity, World, base_of, standing_of}
+use Rattle.xk_types.specs.Step.{is_registered, step, step_of, step_by, run_at, put_in, made, settled, settled_clock, new_clock, onward, with_slots}
 use Rattle.xk_types.specs.Schedule.{IsReached}
 use Rattle.xk_types.specs.Accepted.{IsAccepted}
-use Rattle.xk_types.specs.Bound.{stack_of}
 use Rattle.xk_types.proofs.Lists.{get-set_same, get_once}
 use Rattle.xk_laws.proofs.Invariant.{IsActivitySound, looks, is_held, slots_in}
 use Rattle.xk_laws.proofs.NeverWrong.Steps.{Keeps, step_keeps}
 use Rattle.xk_laws.proofs.Scopes.Invariant.{based}
 use Rattle.xk_laws.proofs.Reached.{reached_step, reached_sound, reached_scoped, reached_room}
-use Rattle.xk_rooms.specs.Rooms.{registrations, places_of, HasRoom, HasRoomLeft, IsAboutToMake}
+use Rattle.xk_rooms.specs.Rooms.{registrations, places_from, places_of, HasRoom, HasRoomLeft, IsAboutToMake}
 use Rattle.xk_rooms.proofs.Counting.{named_by}
 use Rattle.xk_rooms.proofs.Named.{slots_of_all, length-slots, named_in_all}
 use Rattle.xk_rooms.proofs.Stacks.{stacked}
@@ -35,7 +35,9 @@ reached_has_room m w limits ok r = record {
   clocks = (reached_room m limits ok w r).clocks;
   places = λ a act there.
       (let s = (reached_sound m limits ok w r).activities a act there in
-      omega (arith, in_slots m w a act s, stacked m ok.shape (looks w.clocks a) (length w.clocks) w.steps act s));
+      let few = count_by-le-length (λ c. is_registered (standing_of c a)) w.clocks in
+      let clocks = (reached_room m limits ok w r).clocks in
+      omega (arith, in_slots m w a act s, stacked m ok.shape (looks w.clocks a) (length w.clocks) w.steps act s, few, clocks));
 }
 
 -- the world behind a `make`
@@ -47,7 +49,7 @@ behind m w a act next there unit callers v acts now clocks room =
     let long : length v.clocks ≡ length w.clocks + 1 = ap length clocks ∙ length-map (w.clocks ++ new_clock (length w.activities) a ∷ []) (settled_clock now)
     ∙ length-append w.clocks (new_clock (length w.activities) a ∷ []) in
     let more : registrations v.clocks a ≡ registrations w.clocks a + 1 = ap (λ cs. registrations cs a) clocks ∙ made_more now a (length w.activities) w.clocks inside in
-    let base : places_of m next ≡ places_of m act = ap (stack_of m) (ap (base_of next.frame) callers ∙ based act.frame next.frame act.callers unit) in
+    let base : places_of m next ≡ places_of m act = ap (places_from m) (ap (base_of next.frame) callers ∙ based act.frame next.frame act.callers unit) in
     let most = room.places a next (ap (λ acts. slice_get acts a) acts ∙ get-set_same w.activities a act next there) in
     record {
       clocks = omega (arith, long, room.clocks);

@@ -1,5 +1,5 @@
 -- How much room a world's clocks want, and what its activities are registered on.
-use Rattle.std.specs.Prelude.{◌≡◌, ℕ, ◌<◌, ◌≤◌, List, length, Some, slice_get}
+use Rattle.std.specs.Prelude.{◌≡◌, ℕ, ◌<◌, ◌≤◌, min, List, length, Some, slice_get}
 use Rattle.std.specs.List.{count_by}
 use Rattle.xk_types.specs.declared.instr.Instr.TheVariants as instr
 use Rattle.xk_types.specs.declared.names.Status.TheVariants as status
@@ -12,9 +12,13 @@ use Rattle.xk_types.specs.Bound.{clocks_bound, stack_of}
 abbrev pub registrations : List Clock → ℕ → ℕ
 registrations clocks a = count_by (λ c. is_registered (standing_of c a)) clocks
 
--- on how many it may be: as many as its frames may have slots, from the unit on that it began with
+-- on how many an activity may be that begins with this unit: as many as its frames may have slots from there on, and no more than there
+-- may be clocks
+abbrev pub places_from : ModuleValue → ℕ → ℕ
+places_from m unit = min (stack_of m unit) (clocks_bound m)
+
 abbrev pub places_of : ModuleValue → Activity → ℕ
-places_of m act = stack_of m (base_unit act)
+places_of m act = places_from m (base_unit act)
 
 -- no more clocks than verified, and no more registrations of an activity than it has places
 pub record HasRoom (m : ModuleValue) (w : World) : Type 0 where

@@ -171,18 +171,3 @@ passed_told now a ls acts cs kept inside quiet =
       ahead = ahead_passed (held acts a) k c.phase ((kept.fit k c at).ahead a);
       between = count_passed (stands (held acts a) k c.phase) c still ∙ ap (λ s. count_moved (stands (held acts a) k c.phase) s c) (sym reads);
     })
-
--- ---- in the words of the definitions
-
--- the clock of a drop or a resume, and all of them
-only_resumed : (c0 : ℕ) → only c0 resumed ≡ resumed_on (λ k. k == c0)
-only_resumed c0 = refl
-
-only_dropped : (c0 : ℕ) → only c0 dropped ≡ left_on (λ k. k == c0)
-only_dropped c0 = refl
-
-all_resumed : all resumed ≡ resumed_on (λ k. true)
-all_resumed = refl
-
-all_dropped : all dropped ≡ left_on (λ k. true)
-all_dropped = refl

@@ -18,7 +18,7 @@ use xk_types::{ClockId, Value};
 /// else takes memory. `laws::goes_with_steps` says what the calls make of the clocks of a world.
 #[derive(Drop)]
 pub struct Registrations {
-    list: SmallVec<Registration, 2>,
+    list: SmallVec<Registration, 1>,
 }
 
 impl Model for Registrations {

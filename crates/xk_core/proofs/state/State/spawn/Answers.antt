@@ -1,11 +1,11 @@
-use Rattle.std.proofs.Common.{◌≡◌, ℕ, ◌+◌, ◌<◌, ◌≤◌, refl, length-set, true, subst, sym, ◌∙◌, ap, length, slice_set, [], ◌∷◌, ◌++◌, map, arith, List, All}
+use Rattle.std.proofs.Common.{◌≡◌, ℕ, ◌+◌, ◌<◌, ◌≤◌, min, refl, length-set, true, subst, sym, ◌∙◌, ap, length, slice_set, [], ◌∷◌, ◌++◌, map, arith, List, All}
 use Rattle.std.proofs.lemmas.List.{length-map, length_push}
 use Rattle.std.proofs.lemmas.Option.{slice_get_within}
 use Rattle.xk_types.specs.declared.instr.Instr.TheVariants as instruction
 use Rattle.xk_types.specs.declared.names.Event.TheVariants as event
 use Rattle.xk_types.specs.declared.names.Value.{Value}
 use Rattle.xk_types.specs.Code.{IsWithinLimits}
-use Rattle.xk_types.specs.World.{Activity, Clock, World, base_unit}
+use Rattle.xk_types.specs.World.{Activity, Clock, World}
 use Rattle.xk_types.specs.Step.{Stepped, is_given, joined, onward, child, settled_clock}
 use Rattle.xk_types.specs.Schedule.{is_step}
 use Rattle.xk_activity.specs.Activities.{ActivitiesValue, act_at}
@@ -19,7 +19,8 @@ use Rattle.xk_core.proofs.Visible.{spawn_here, spawn_fits}
 use Rattle.xk_standings.specs.View.{Registration}
 use Rattle.xk_standings.specs.Calls.{ClocksValue}
 use Rattle.xk_standings.specs.Told.{told_of, rooms_of}
-use Rattle.xk_types.specs.Bound.{stack_of}
+use Rattle.xk_types.specs.Bound.{clocks_bound, stack_of}
+use Rattle.xk_rooms.specs.Rooms.{places_of}
 use Rattle.xk_core.specs.Reserved.{AreReserved}
 use Rattle.xk_core.proofs.Reserving.{reserved_more, onward_base}
 use Rattle.xk_core.proofs.state.State.spawn.Goals as goal
@@ -82,7 +83,8 @@ invariant_of-self-2 c =
     let places : (rooms_of c.admit.new.self).places ≡ (rooms_of c.self.inside.standings).places ++ room ∷ [] =
     c.admit.ensures.places ∙ ap (λ (l : List ℕ). l ++ room ∷ []) c.reserve-2.ensures.places in
     let most : stack_of m c.args.unit ≤ c.args.most.slots = subst (λ (v : CoreValue). stack_of v.module_run c.args.unit ≤ c.args.most.slots) (sym c.self.view_is) c.requires.places in
-    let fits : stack_of m (base_unit new) ≤ room = omega (arith, most, c.in_ok-registrations.ensures.places) in (
+    let bound = subst (λ k. c.places-places.result ≡ min c.args.most.slots (clocks_bound k)) c.verified.ensures c.places-places.ensures in
+    let fits : places_of m new ≤ room = omega (arith, most, bound, c.in_ok-registrations.ensures.places) in (
       omega (
         arith,
         c.admit.ensures.activities,
