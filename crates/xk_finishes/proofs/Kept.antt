@@ -39,17 +39,6 @@ counting_same nodes old new h same = record { earlier = h.earlier; held = h.held
 
 -- ---- each call
 
--- main begins
-pub counting_opened : (room : ℕ) → IsCounting (fresh_node root room ∷ []) []
-counting_opened room = record { earlier = earlier; held = held; counted = λ a d. refl }
-  where
-    earlier : (b : ℕ) (node : NodeValue) → slice_get (fresh_node root room ∷ []) b ≡ Some node → (a : ℕ) → node.governed.owner ≡ Some a → a < b
-    earlier b node at a owned = absurd (grind arith)
-
-    held : (b : ℕ) (node : NodeValue) → slice_get (fresh_node root room ∷ []) b ≡ Some node → node.ended ≡ false → (a : ℕ) → node.governed.owner ≡ Some a
-        → IsOpen (fresh_node root room ∷ []) node.governed a
-    held b node at runs a owned = absurd (grind arith)
-
 -- a `finish`
 pub counting_entered : (nodes : List NodeValue) (lists : List (List ℕ)) (a : ℕ) → IsCounting nodes lists → a < length nodes
     → IsCounting (changed_at nodes a node_entered) lists

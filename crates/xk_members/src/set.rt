@@ -1,8 +1,7 @@
 //! The set.
 
 ghost use Rattle.std.specs.Prelude.{◌≡◌, ◌+◌, ◌-◌, ◌*◌, ◌/◌, ◌<◌, ◌≤◌, ◌==◌, [], length, true, false, slice_get, IfOk, OnOk, OnErr};
-ghost use Rattle.std.specs.List.{list_any};
-ghost use Rattle.std.specs.Vec.{vec_len, vec_capacity};
+ghost use Rattle.std.specs.Vec.{vec_capacity};
 ghost use Rattle.xk_members.specs.Members.{IsRising, with_member, place_above};
 
 use crate::search::{last_member, next_member};

@@ -35,9 +35,6 @@ pub record IsTaking (before : List ℕ) (lists : List (List ℕ)) (clocks rest s
   pub lists_are : left now rest ≡ left lists clocks
   pub same : length now ≡ length lists
 
-pub taking_begins : (before : List ℕ) (lists : List (List ℕ)) (clocks : List ℕ) → IsTaking before lists clocks clocks before lists
-taking_begins before lists clocks = record { shown_is = refl; lists_are = refl; same = refl }
-
 pub taking_goes_on : (before : List ℕ) (lists : List (List ℕ)) (clocks rest shown : List ℕ) (now : List (List ℕ)) (c : ℕ) → IsTaking before lists clocks (c ∷ rest) shown now
     → IsTaking before lists clocks rest (shown ++ waiters now c) (slice_set now c [])
 taking_goes_on before lists clocks rest shown now c h = record {
