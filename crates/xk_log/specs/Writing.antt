@@ -1,4 +1,4 @@
--- What writing does to a device.
+-- What writing does to a device. This project's own.
 use Rattle.std.specs.Prelude.{◌≡◌, ℕ, List, Option, Result, MatchResult, take}
 use Rattle.std.specs.Io.KnownBytes.{Appends}
 use Rattle.xk_types.specs.Device.{Rose}

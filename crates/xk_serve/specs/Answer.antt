@@ -1,4 +1,4 @@
--- What the program answers: which status and texts a job and the bytes of its file may have.
+-- What the program answers: which status and texts a job and the bytes of its file may have. This project's own.
 use Rattle.std.specs.Prelude.{◌≡◌, ◌≢◌, ℕ, ⊤, ◌⊎◌, ℤ, Bool, true, false, List, [], Option, Some, None, is_some, option_map, unwrap_or, string_bytes}
 use Rattle.serde_json.specs.Written.{compact_text}
 use Rattle.xk_types.specs.Code.{ModuleValue}

@@ -1,4 +1,4 @@
--- What reading to the end and writing a text do to devices.
+-- What reading to the end does to devices, and what is kept of a file. This project's own.
 use Rattle.std.specs.Prelude.{◌≡◌, ℕ, ◌+◌, List, Option, take}
 use Rattle.std.specs.Io.KnownBytes.{Appends}
 use Rattle.xk_types.specs.Device.{Rose}

@@ -1,4 +1,4 @@
--- The lines that the program prints. Each ends in a line feed.
+-- The lines that the program prints, each with a line feed at its end, and its statuses. This project's own.
 use Rattle.std.specs.Prelude.{ℕ, ℤ, List, [], ◌++◌, flat_map, codes, decimal, Option, Some, None, string_bytes}
 use Rattle.std.specs.Fmt.{signed_decimal}
 use Rattle.xk_types.specs.declared.rules.Rule.{Rule}

@@ -1,4 +1,4 @@
--- How many workers there may be.
+-- How many workers there may be. This project's own.
 use Rattle.std.specs.Prelude.{ℕ, ◌&&◌, nat_le, Option, Some, None, if◌then◌else◌}
 
 -- a number of workers is one from 1 to 64

@@ -1,4 +1,4 @@
--- The machine that workers share, as each sees it who has the lock.
+-- The machine that workers share, as each sees it who has the lock. This project's own.
 use Rattle.std.specs.Prelude.{◌≡◌, ℕ, Bool, true, false, List, Result, Ok, Err, slice_set}
 use Rattle.xk_types.specs.Schedule.{is_enabled, all_ended}
 use Rattle.xk_types.specs.Code.{ModuleValue}

@@ -1,4 +1,4 @@
--- What comes of a worker's turn under the lock, and of local steps that it hands in.
+-- What comes of a worker's turn under the lock, and of local steps that it hands in. This project's own.
 use Rattle.std.specs.Prelude.{◌≡◌, ◌⊎◌, ℕ, true, ◌++◌, ◌∷◌, [], Result, Ok, Err}
 use Rattle.xk_types.specs.declared.names.Event.{Event}
 use Rattle.xk_types.specs.Schedule.{all_ended}
