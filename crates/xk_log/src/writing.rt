@@ -60,8 +60,8 @@ fn write_end<W: Sink>(sink: &mut W, entries: u64) -> Result<(), Device>
     write_all(sink, page.text())
 }
 
-// Writes a text.
-fn write_all<W: Sink>(sink: &mut W, text: &[u8]) -> Result<(), Device>
+/// Writes the whole text, or, where a write fails, a beginning of it.
+pub fn write_all<W: Sink>(sink: &mut W, text: &[u8]) -> Result<(), Device>
     ensures all { OnOk result (Appends (W.contents sink.old) (W.contents sink.new) text.now) }
     ensures beginning { AppendsBeginning (W.contents sink.old) (W.contents sink.new) text.now }
     ensures no_fault { OnOk result (W.fault_count sink.new ≡ W.fault_count sink.old) }

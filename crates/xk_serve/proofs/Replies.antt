@@ -8,7 +8,7 @@ use Rattle.xk_serve.specs.declared.done.Done.{Done}
 use Rattle.xk_serve.specs.declared.fault.Fault.{Fault}
 use Rattle.xk_serve.specs.declared.fault.Fault.TheVariants as fault
 use Rattle.xk_serve.specs.Answer.{FailsBy, Succeeds, Task, done_reply, fault_reply}
-use Rattle.xk_serve.specs.Bytes.{AppendsBeginning}
+use Rattle.xk_log.specs.Writing.{AppendsBeginning}
 use Rattle.xk_serve.specs.Lines.{device_line, fault_line, memory_line, status_of}
 use Rattle.xk_serve.specs.Serving.{Answered, ErrBegins, IfKnown, IsBegun, IsRead, IsTold, IsWritten, OutBegins, Reads, Reports, StandsAgainst, Tells, read_of}
 

@@ -9,7 +9,7 @@ use Rattle.xk_words.specs.declared.words_fault.WordsFault.TheVariants as words
 use Rattle.xk_serve.specs.declared.done.Done.{Done}
 use Rattle.xk_serve.specs.declared.fault.Fault.{Fault}
 use Rattle.xk_serve.specs.declared.fault.Fault.TheVariants as fault
-use Rattle.xk_serve.specs.Bytes.{AppendsBeginning}
+use Rattle.xk_log.specs.Writing.{AppendsBeginning}
 use Rattle.xk_serve.specs.Answer.{Answers, FailsBy, IsNoRun, IsRefusal, Reply, Succeeds, Task, reads_log}
 use Rattle.xk_serve.specs.Lines.{done_log, done_text, excluded_line, fault_line, memory_line, status_of}
 

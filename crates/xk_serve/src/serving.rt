@@ -3,21 +3,22 @@
 ghost use Rattle.std.specs.Prelude.{◌≡◌, ◌≢◌, ◌⊎◌, false, [], IfOk, IfErr, IfSome, OnOk, OnErr, string_bytes};
 ghost use Rattle.std.specs.Io.KnownBytes.{Appends};
 ghost use Rattle.xk_types.specs.Device.{Rose};
+ghost use Rattle.xk_log.specs.Writing.{AppendsBeginning};
 ghost use Rattle.xk_serve.specs.Answer.{Succeeds, reads_log, task_of};
-ghost use Rattle.xk_serve.specs.Bytes.{AppendsBeginning, FailsRead, kept};
+ghost use Rattle.xk_serve.specs.Bytes.{FailsRead, kept};
 ghost use Rattle.xk_serve.specs.Lines.{device_line, done_log, done_text, memory_line};
 ghost use Rattle.xk_serve.specs.Serving.{Answered, ErrBegins, IfKnown, IsBegun, IsWritten, OutBegins, Reports, StandsAgainst, Tells, TellsWords};
 
 use crate::answering::answer;
-use crate::bytes::{read_all, read_front, write_all};
+use crate::bytes::{read_all, read_front};
 use crate::done::Done;
 use crate::fault::{DEVICE_LINE, EXCLUDED_LINE, Fault, MEMORY_LINE};
 use crate::programs::LONGEST_SOURCE;
 use std::alloc::Global;
 use std::sync::Wait;
 use std::thread::Threads;
-use xk_log::write_entries;
-use xk_types::{Failed, Sink, Source};
+use xk_log::{Device, write_all, write_entries};
+use xk_types::{Sink, Source};
 use xk_words::{Form, Job, WordsFault};
 
 /// Reads the program, does the job, and writes what comes of it: its result to `out` and then the log of a run that is to have one
@@ -157,7 +158,7 @@ fn write_result<O: Sink, K: Sink>(
     text: &str,
     out: &mut O,
     log_out: &mut K,
-) -> Result<(), Failed>
+) -> Result<(), Device>
     requires { text.now ≡ done_text done.now }
     ensures all { OnOk result (IsWritten done.now (O.contents out.old) (O.contents out.new)
         (K.contents log_out.old) (K.contents log_out.new)) }
@@ -173,7 +174,7 @@ fn write_result<O: Sink, K: Sink>(
 }
 
 /// Writes the log of a run that is to have one, and nothing else.
-fn write_log<K: Sink>(done: &Done, log_out: &mut K) -> Result<(), Failed>
+fn write_log<K: Sink>(done: &Done, log_out: &mut K) -> Result<(), Device>
     ensures all { OnOk result
         (Appends (K.contents log_out.old) (K.contents log_out.new) (done_log done.now)) }
     ensures beginning { AppendsBeginning (K.contents log_out.old) (K.contents log_out.new) (done_log done.now) }
@@ -184,10 +185,7 @@ fn write_log<K: Sink>(done: &Done, log_out: &mut K) -> Result<(), Failed>
     let Some(log) = done.log() else {
         return Ok(());
     };
-    match write_entries(log, log_out) {
-        Ok(()) => Ok(()),
-        Err(_) => Err(Failed),
-    }
+    write_entries(log, log_out)
 }
 
 /// Writes the line of a fault, and gives the status: the fault's, or 4 where memory for the line ran out, or 5 where it can't

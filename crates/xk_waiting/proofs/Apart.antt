@@ -1,5 +1,5 @@
 -- Lists that are taken out one after the other.
-use Rattle.std.proofs.Common.{◌≡◌, ◌∙◌, ℕ, ◌+◌, ◌<◌, ◌≤◌, List, [], ◌∷◌, ◌++◌, length, get_or, drop, slice_set, refl, sym, ap, subst, arith, length-append, append_assoc, add-one, drop-cons}
+use Rattle.std.proofs.Common.{◌≡◌, ◌∙◌, ℕ, ◌+◌, ◌<◌, ◌≤◌, List, [], ◌∷◌, ◌++◌, length, get_or, drop, slice_set, sym, ap, subst, arith, length-append, append_assoc, add-one, drop-cons}
 use Rattle.std.proofs.lemmas.List.{length-set}
 use Rattle.xk_waiting.specs.Chains.{AreApart}
 use Rattle.xk_waiting.specs.Waiting.{times, waiters, taken, left}
