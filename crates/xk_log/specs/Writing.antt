@@ -1,7 +1,6 @@
 -- What writing does to a device. This project's own.
-use Rattle.std.specs.Prelude.{◌≡◌, ℕ, List, Option, Result, MatchResult, take}
+use Rattle.std.specs.Prelude.{ℕ, List, Option, take}
 use Rattle.std.specs.Io.KnownBytes.{Appends}
-use Rattle.xk_types.specs.Device.{Rose}
 
 -- known bytes grow by a beginning of the text
 abbrev pub AppendsBeginning : Option (List ℕ) → Option (List ℕ) → List ℕ → Type 0
