@@ -1,11 +1,10 @@
 -- The tree goes on counting, whatever happens.
-use Rattle.std.proofs.Common.{◌≡◌, ℕ, zero, suc, ◌+◌, ◌<◌, ◌^◌, ◌==◌, Bool, true, false, not, ◌&&◌, List, [], ◌∷◌, ◌++◌, length, get_or, set, Some, refl, sym, ap, ◌∙◌, arith}
-use Rattle.std.specs.Prelude.{slice_get}
+use Rattle.std.proofs.Common.{◌≡◌, ℕ, zero, suc, ◌+◌, ◌<◌, ◌^◌, ◌==◌, Bool, true, false, not, ◌&&◌, List, [], ◌∷◌, ◌++◌, length, get_or, set, refl, sym, ap, ◌∙◌, arith}
 use Rattle.std.proofs.lemmas.Bool.Decides.{nat_tests}
-use Rattle.xk_types.specs.World.{Finish, root}
+use Rattle.xk_types.specs.World.{Finish}
 use Rattle.xk_types.specs.Step.{same_finish}
 use Rattle.xk_finishes.specs.Tree.{NodeValue, fresh_node, node_at, innermost_of, governing_of, changed_at, node_entered, node_left, node_ended, awaits_innermost}
-use Rattle.xk_finishes.specs.Counters.{finish_at, is_counted, one_if, counter, count_in, CountIs, CountsSame, CountsOneMore, IsOpen, AreCounted, IsCounting}
+use Rattle.xk_finishes.specs.Counters.{finish_at, is_counted, one_if, counter, count_in, CountIs, CountsSame, CountsOneMore, AreCounted, IsCounting}
 use Rattle.xk_finishes.proofs.Counting.{node_there, counted_at, counter_below, counter_pushed, counter_set, awaits_counter}
 use Rattle.xk_finishes.proofs.Open.{are_open_entered, are_open_ended, are_open_left, are_open_spawned}
 use Rattle.xk_finishes.proofs.Places.{read_any}

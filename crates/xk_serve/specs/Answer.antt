@@ -12,6 +12,7 @@ use Rattle.xk_words.specs.declared.job.Form.TheVariants as form
 use Rattle.xk_words.specs.declared.job.Job.{Job}
 use Rattle.xk_words.specs.declared.job.Order.TheVariants as order
 use Rattle.xk_words.specs.Line.{By, In, Way, way_value}
+use Rattle.xk_words.specs.Status.{status_done}
 use Rattle.xk_module.specs.ModuleText.{module_value}
 use Rattle.xk_bounds.specs.Refused.{Refuses}
 use Rattle.xk_bounds.specs.declared.refusal.Refusal.TheVariants as refusal
@@ -136,7 +137,7 @@ pub record Reply : Type 0 where
   pub log : List ℕ
 
 abbrev pub done_reply : Done → Reply
-done_reply d = record { status = 0; out = done_text d; err = []; log = done_log d }
+done_reply d = record { status = status_done; out = done_text d; err = []; log = done_log d }
 
 abbrev pub fault_reply : Fault → Reply
 fault_reply f = record { status = status_of f; out = []; err = fault_line f; log = [] }
