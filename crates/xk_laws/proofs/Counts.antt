@@ -1,12 +1,9 @@
--- Each step counts itself, and who has ended stays so.
-use Rattle.std.proofs.lemmas.Bool.{false≢true}
-use Rattle.std.proofs.Common.{◌≡◌, ℕ, zero, suc, ◌+◌, Bool, true, false, List, ◌∷◌, [], ◌++◌, Some, refl, subst, sym, ap, ◌∙◌}
-use Rattle.std.specs.Prelude.{slice_get, slice_set}
-use Rattle.std.specs.Option.{option_map_or}
+-- Each step counts itself.
+use Rattle.std.proofs.Common.{◌≡◌, ℕ, ◌+◌, refl, subst}
 use Rattle.xk_types.specs.declared.names.Event.{Event}
 use Rattle.xk_types.specs.Code.{ModuleValue}
-use Rattle.xk_types.specs.World.{Activity, World, is_ended}
-use Rattle.xk_types.specs.Step.{Outcome, Blocked, Wrong, Stepped, step, left, ended, arrived, onward}
+use Rattle.xk_types.specs.World.{World}
+use Rattle.xk_types.specs.Step.{Outcome, Blocked, Wrong, Stepped, step}
 use Rattle.xk_laws.proofs.Forms.{step_kind}
 
 -- the world that a step leads to has one step more
@@ -26,9 +23,3 @@ step_counts m w v a e h = subst (Counts w.steps) h (step_kind (Counts w.steps) m
   stored = λ s n e on quiet. refl;
   spawned = λ t args values at on. refl;
 }))
-
--- ---- who has ended
-
--- activity b is there and has ended
-abbrev pub is_over : List Activity → ℕ → Bool
-is_over acts b = option_map_or (λ act. is_ended act.status) (slice_get acts b) false
