@@ -11,7 +11,7 @@ use Rattle.xk_types.specs.Schedule.{Leads, all_ended, number_printed, printed}
 use Rattle.xk_types.specs.Logs.{schedule_of}
 use Rattle.xk_core.specs.Core.{CoreValue}
 use Rattle.xk_drive.specs.Choosing.{enabled_in, Names, Follows, goes_on, state_after}
-use Rattle.xk_drive.specs.Driving.{IsChosen, IsRunOf, IsTurn}
+use Rattle.xk_drive.specs.Driving.{IsRunOf, IsTurn}
 use Rattle.xk_drive.specs.Stretches.{IsGone, IsStretch}
 use Rattle.xk_serve.specs.OrderedRun.{GoesOn, IsEnd, IsStepOn, IsLogThat, IsReplay, IsRunThat}
 use Rattle.xk_laws.proofs.Counts.{step_counts}
