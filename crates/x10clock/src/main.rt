@@ -1,8 +1,9 @@
 //! The program: words to a job, files and streams to devices, and the status that serving it answers.
 #![tactic(auto)]
 
-ghost use Rattle.std.specs.Prelude.{◌≡◌, ◌≢◌, [], IfSome};
+ghost use Rattle.std.specs.Prelude.{◌≡◌, ◌≢◌, []};
 ghost use Rattle.std.specs.Io.KnownBytes.{Appends};
+ghost use Rattle.xk_words.specs.Status.{status_device, status_memory};
 ghost use Rattle.xk_serve.specs.Answer.{task_of};
 ghost use Rattle.xk_serve.specs.Lines.{memory_line};
 ghost use Rattle.xk_serve.specs.Serving.{Answered, ErrBegins, IfKnown, OutBegins};
@@ -16,7 +17,7 @@ use std::thread::Threads;
 use std::{env, fs, io};
 use xk_serve::{Fault, report, serve, tell, tell_words};
 use xk_types::{Counted, Sink, Source};
-use xk_words::{Command, Job, read_job};
+use xk_words::{Command, Job, read_job, status};
 
 /// What a job may want of the runtime: memory, files, standard input, and threads that wait for one another.
 trait Runtime: AllocGlobal + Files + Input + Threads + Wait + Sync {}
@@ -31,7 +32,11 @@ fn main(rt: HostRuntime) -> ExitCode {
         Err(e) if e.kind() == ErrorKind::OutOfMemory => {
             report(rt.alloc(), &Fault::OutOfMemory, &mut err)
         }
-        Err(_) => tell("x10clock: a word is not in UTF-8\n", 2, &mut err),
+        Err(_) => tell(
+            "x10clock: a word is not in UTF-8\n",
+            status::WORDS,
+            &mut err,
+        ),
     };
     ExitCode::from(status)
 }
@@ -135,7 +140,7 @@ fn on_devices<
     log_out: &mut K,
 ) -> u8
     ensures answered { IfKnown (task_of job.now) (P.remaining program) (L.remaining log_in.old)
-        (λ bytes logged. result ≢ 4 → result ≢ 5
+        (λ bytes logged. result ≢ status_memory → result ≢ status_device
         → Answered (task_of job.now) bytes logged result
         (O.contents out.old) (O.contents out.new) (E.contents err.old) (E.contents err.new)
         (K.contents log_out.old) (K.contents log_out.new)) }
@@ -144,11 +149,13 @@ fn on_devices<
         (O.contents out.old) (O.contents out.new)
         (K.contents log_out.old) (K.contents log_out.new)) }
     ensures err_begins { IfKnown (task_of job.now) (P.remaining program) (L.remaining log_in.old)
-        (λ bytes logged. ErrBegins (task_of job.now) bytes logged (E.contents err.old) (E.contents err.new)) }
-    ensures memory_out { result ≡ 4 → Appends (O.contents out.old) (O.contents out.new) [] }
-    ensures memory_log { result ≡ 4
+        (λ bytes logged. ErrBegins (task_of job.now) bytes logged
+        (E.contents err.old) (E.contents err.new)) }
+    ensures memory_out { result ≡ status_memory
+        → Appends (O.contents out.old) (O.contents out.new) [] }
+    ensures memory_log { result ≡ status_memory
         → Appends (K.contents log_out.old) (K.contents log_out.new) [] }
-    ensures memory_err { result ≡ 4
+    ensures memory_err { result ≡ status_memory
         → Appends (E.contents err.old) (E.contents err.new) memory_line }
 {
     let mut source = Counted::new(program);

@@ -213,10 +213,3 @@ pub joined : (m : ModuleValue) (w : World) (a : ℕ) (act : Activity) → slice_
 joined m w a act there running =
     subst (λ o. Agrees w a act (local (frames_in m act)) (world.step_of m w a o)) (sym there)
     (subst (λ s. Agrees w a act (local (frames_in m act)) (world.step_by m w a act s)) (sym running) (at_agrees m w a act (instruction_at m act.frame)))
-
--- where it is one that nobody else can see, the step that the world takes changes the activity's frames so, and nothing else
-pub local_joined : (m : ModuleValue) (w : World) (a : ℕ) (act : Activity) (fs : FramesValue) (v : World) (e : Event) → slice_get w.activities a ≡ Some act
-    → act.status ≡ status.Running → local (frames_in m act) ≡ Stepped fs → world.step m w a ≡ world.Stepped v e
-    → world.step m w a ≡ world.done w a (with_frames act fs) world.none event.Local
-local_joined m w a act fs v e there running l s =
-    s ∙ subst (λ o. IsLocally w a act fs o) s (subst (λ x. Agrees w a act x (world.step m w a)) l (joined m w a act there running))

@@ -139,11 +139,6 @@ call_there fs t args limits e h =
 
 -- ---- whether the step is local
 
-stepped_in : (fs : FramesValue) (t : Turn) → is_stepped (in_frame fs t) ≡ is_stepped t
-stepped_in fs Beyond = refl
-stepped_in fs Wrong = refl
-stepped_in fs (Stepped s) = refl
-
 -- a call that isn't wrong is one step
 pub call_steps : (fs : FramesValue) (t : ℕ) (args : List ℕ) → instruction_at fs.module_run fs.frame ≡ Some (instr.Call t args)
     → IsRight (local fs) → is_stepped (local fs) ≡ true

@@ -223,12 +223,6 @@ call_gives m a b unit place base t size top stack handed filled args old news no
 
 -- ---- a return
 
--- what a return leaves, where a frame waits
-pub left_stacked : (m : ModuleValue) (unit base : ℕ) (c : Caller) (cs : List Caller) (long slots frames : ℕ)
-    → IsStacked m unit base (c ∷ cs) long slots frames → (cut : ℕ) → cut ≡ base → IsStacked m c.unit c.base cs cut slots frames
-left_stacked m unit base c cs long slots frames s cut e =
-    record { limits = s.limits; shape = s.shape; top = e ∙ sym s.stacked.0; room = s.stacked.1; stacked = s.stacked.2 }
-
 -- the frames then
 pub left_steps : (m : ModuleValue) (a b unit place base : ℕ) (stack cut : List Value) (old news : List Caller) (c : Caller) (now : FramesValue)
     → frames_on m unit place base stack (reverse old) ≡ now → AreStacked m a b base (reverse old) → old ≡ news ++ c ∷ [] → cut ≡ take base stack

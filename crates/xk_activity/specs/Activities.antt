@@ -1,4 +1,4 @@
--- The activities of a world, but for their finishes, as the code keeps them.
+-- The activities of a world, but for their finishes, as the code keeps them. This project's own.
 use Rattle.std.specs.Prelude.{◌≡◌, ◌⊎◌, ℕ, List, [], map, Some, slice_index_or, slice_set}
 use Rattle.xk_types.specs.declared.names.Status.TheVariants as status
 use Rattle.xk_types.specs.declared.instr.Instr.{Instr}

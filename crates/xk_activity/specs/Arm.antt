@@ -1,4 +1,5 @@
--- What an instruction on one frame needs, and what it leaves, arm by arm, as the code says it.
+-- What an instruction on one frame needs, and what it leaves, arm by arm, as the code says it. The rules are those of `xk_types`,
+-- `Step.antt`.
 use Rattle.std.specs.Prelude.{◌≡◌, ℕ, ℤ, pos, ◌+ℤ◌, ◌+◌, ◌<◌, int_lt, Bool, true, false, List, slice_get, slice_set, Option, Some, None, length, if◌then◌else◌}
 use Rattle.std.specs.Int.{w64, int_wrapping_add, int_wrapping_sub, int_wrapping_mul}
 use Rattle.xk_types.specs.declared.instr.Instr.{Instr}

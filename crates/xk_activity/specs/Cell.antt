@@ -1,4 +1,5 @@
--- What a cell stands for: a value, of which one field tells the kind, with its clock if it names one, and one the number.
+-- What a cell stands for: a value, of which one field tells the kind, with its clock if it names one, and one the number. This project's
+-- own.
 use Rattle.std.specs.Prelude.{ℤ, pos, ◌≡◌}
 use Rattle.xk_activity.specs.declared.cell.Kind.{Kind}
 use Rattle.xk_activity.specs.declared.cell.Kind.TheVariants as kind

@@ -1,4 +1,4 @@
--- The fields of a cell are again those of its value.
+-- The fields of a cell are again those of its value. This project's own.
 use Rattle.std.proofs.Common.{◌≡◌, ℤ, refl}
 use Rattle.xk_activity.specs.declared.cell.Kind.{Kind}
 use Rattle.xk_activity.specs.declared.cell.Kind.TheVariants as kind

@@ -1,4 +1,4 @@
--- A local step, and a step of the world: how what the frames alone tell agrees with what the world's step does.
+-- A local step, and a step of the world: how what the frames alone tell agrees with what the world's step does. This project's own.
 use Rattle.std.specs.Prelude.{ℕ, ◌≡◌, false}
 use Rattle.xk_types.specs.declared.names.Event.TheVariants as event
 use Rattle.xk_types.specs.Code.{ModuleValue}

@@ -1,4 +1,4 @@
--- How the frames of an activity lie on one stack of cells, and the room that they keep.
+-- How the frames of an activity lie on one stack of cells, and the room that they keep. This project's own.
 use Rattle.std.specs.Prelude.{ℕ, ◌≡◌, ◌+◌, ◌<◌, ◌≤◌, List, [], ◌∷◌, length, take, drop, map, All, Some, slice_get, slice_index_or, slice_set}
 use Rattle.xk_types.specs.declared.names.Value.{Value}
 use Rattle.xk_types.specs.declared.names.Value.TheVariants as value

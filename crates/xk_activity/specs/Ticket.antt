@@ -1,4 +1,4 @@
--- Local steps of an activity that were computed apart from the others.
+-- Local steps of an activity that were computed apart from the others. This project's own.
 use Rattle.std.specs.Prelude.{ℕ, ◌≡◌, ◌⊎◌, ◌<◌, ◌≤◌, length}
 use Rattle.xk_activity.specs.Local.{FramesValue, Beyond, Stepped, local, ran}
 use Rattle.xk_activity.specs.Joined.{frames_in, with_frames}

@@ -1,6 +1,6 @@
 //! What a slot holds, read without a test.
 
-ghost use Rattle.std.specs.Prelude.{◌≡◌, ℕ, ℤ};
+ghost use Rattle.std.specs.Prelude.{◌≡◌, ℤ};
 ghost use Rattle.xk_types.specs.declared.names.Value.TheVariants as value;
 
 use std::marker::Model;

@@ -1,6 +1,6 @@
 //! Instructions that concern one frame alone.
 
-ghost use Rattle.std.specs.Prelude.{◌≡◌, ◌⊎◌, ℕ, ℤ, ◌+◌, ◌<◌, ◌≤◌, ◌^◌, length, not, Some, slice_get, slice_set};
+ghost use Rattle.std.specs.Prelude.{◌≡◌, ◌⊎◌, ℤ, ◌+◌, ◌<◌, ◌≤◌, ◌^◌, length, not, Some, slice_get, slice_set};
 ghost use Rattle.xk_types.specs.declared.names.Value.TheVariants as value;
 ghost use Rattle.xk_activity.specs.Local.{Beyond, Stepped, turn, ran, spot_at, IsSafe, IsRight};
 ghost use Rattle.xk_activity.specs.Arm.{CanCarry, Carries, Answers, IsTurnAt, Turned, is_beyond};

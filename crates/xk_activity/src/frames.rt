@@ -1,6 +1,6 @@
 //! The frames of one activity.
 
-ghost use Rattle.std.specs.Prelude.{◌≡◌, ◌⊎◌, ◌+◌, ◌<◌, ◌≤◌, ◌^◌, length, take, drop, Some, IfOk, OnOk, slice_get, All};
+ghost use Rattle.std.specs.Prelude.{◌≡◌, ◌⊎◌, ℕ, ◌+◌, ◌<◌, ◌≤◌, ◌^◌, length, take, drop, Some, IfOk, MatchResult, slice_get, All};
 ghost use Rattle.std.specs.Bool.{Decides};
 ghost use Rattle.std.specs.Vec.{vec_capacity};
 ghost use Rattle.xk_types.specs.declared.instr.Instr.{Instr};
@@ -222,10 +222,14 @@ impl<'m> Frames<'m> {
         self.stack[self.base + s as usize].value()
     }
 
-    /// Lists what these slots of the present frame hold, in place of what the list held.
+    /// Lists what these slots of the present frame hold, in place of what the list held. Where memory is refused, it has what the first of
+    /// them hold.
     pub fn values(&self, args: &[u16], values: &mut Vec<Value>) -> Result<(), AllocError>
         requires { All (λ s. s < length self.now.frame.slots) args.now }
-        ensures { OnOk result (values.new.items ≡ values_at self.now.frame.slots args.now) }
+        ensures { MatchResult result
+            (λ _. values.new.items ≡ values_at self.now.frame.slots args.now)
+            (λ _. (n : ℕ)
+            × (values.new.items ≡ values_at self.now.frame.slots (take n args.now))) }
     {
         values.clear();
         for s in args {

@@ -1,4 +1,4 @@
--- The bounds of a module, as the verifier holds them.
+-- The bounds of a module, as the verifier holds them. This project's own.
 use Rattle.std.specs.Prelude.{◌≡◌, ℕ, ◌+◌, ◌*◌, min, ℤ, List, slice_index}
 use Rattle.std.specs.Option.{option_map_or}
 use Rattle.xk_types.specs.declared.instr.Instr.{Instr}

@@ -1,4 +1,4 @@
--- What a refusal says of the module that it refuses.
+-- What a refusal says of the module that it refuses. This project's own.
 use Rattle.std.specs.Prelude.{◌≡◌, ◌<◌, ◌≤◌}
 use Rattle.xk_types.specs.declared.rules.Rule.{Rule}
 use Rattle.xk_types.specs.Code.{ModuleValue}

@@ -1,4 +1,4 @@
--- The rooms of units, as the verifier reckons them.
+-- The rooms of units, as the verifier reckons them. This project's own.
 use Rattle.std.specs.Prelude.{◌≡◌, ℕ, ◌+◌, ◌<◌, ◌≤◌, List, length, map, slice_index_or}
 use Rattle.std.specs.Option.{option_map_or}
 use Rattle.xk_types.specs.declared.instr.Instr.{Instr}

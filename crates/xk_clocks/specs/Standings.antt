@@ -1,4 +1,5 @@
--- What the numbers of a clock count: its standings.
+-- What the numbers of a clock count: its standings. That they are counted is this project's own; what a standing is, `xk_types` says in
+-- `World.antt`.
 use Rattle.std.specs.Prelude.{◌≡◌, ℕ, suc, Bool, List, [], ◌∷◌, if◌then◌else◌}
 use Rattle.xk_types.specs.declared.names.Standing.{Standing}
 use Rattle.xk_types.specs.World.{Clock}

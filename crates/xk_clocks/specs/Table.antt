@@ -2,7 +2,7 @@
 --
 -- X10 Language Specification 2.4, chapter Clocks, its beginning: a clock advances when every activity registered on it has resumed it. Since
 -- whoever is registered was pending or signalled, it is enough to count both: all are signalled where somebody is registered and nobody is
--- pending. `Standings` says what these numbers count.
+-- pending. `Standings` says what these numbers count. That they are kept is this project's own.
 use Rattle.std.specs.Prelude.{ℕ, ◌+◌, ◌-◌, ◌==◌, Bool, not, ◌&&◌, List, slice_set, slice_index_or, if◌then◌else◌}
 
 -- a clock: its phase, how many are registered on it, and how many of these are open or ahead

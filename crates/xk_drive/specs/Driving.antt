@@ -1,4 +1,4 @@
--- Runs that a chooser drives, and their logs.
+-- Runs that a chooser drives, and their logs. This project's own.
 use Rattle.std.specs.Prelude.{Vec, ◌≡◌, ◌⊎◌, ℕ, ℤ, ◌≤◌, Bool, All, List, [], ◌∷◌, ◌++◌, length, Option, Some, None, true, false}
 use Rattle.std.specs.Vec.{vec_len, vec_capacity}
 use Rattle.xk_types.specs.declared.names.Entry.{Entry}

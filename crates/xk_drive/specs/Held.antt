@@ -1,4 +1,4 @@
--- The lists of those who wait at an `advance`, each that of a clock which holds them back, from step to step.
+-- The lists of those who wait at an `advance`, each that of a clock which holds them back, from step to step. This project's own.
 use Rattle.std.specs.Prelude.{◌≡◌, ℕ, ◌<◌, ◌≤◌, ◌⊎◌, true, false, List, [], ◌∷◌, slice_set}
 use Rattle.xk_types.specs.declared.names.Event.{Event}
 use Rattle.xk_types.specs.declared.names.Event.TheVariants as event

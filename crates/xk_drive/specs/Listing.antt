@@ -1,4 +1,4 @@
--- The set of those who can take a step, from step to step.
+-- The set of those who can take a step, from step to step. This project's own.
 use Rattle.std.specs.Prelude.{ℕ, ◌-◌, List, length, Option, Some, None}
 use Rattle.xk_types.specs.declared.names.Event.{Event}
 use Rattle.xk_types.specs.declared.names.Event.TheVariants as event

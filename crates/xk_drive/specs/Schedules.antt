@@ -1,4 +1,4 @@
--- How far a schedule goes from a world, and what is seen on the way.
+-- How far a schedule goes from a world, and what is seen on the way. This project's own.
 use Rattle.std.specs.Prelude.{◌≡◌, ℕ, ◌⊎◌, false, List, [], ◌∷◌, Some, map, take, slice_get, if◌then◌else◌}
 use Rattle.xk_types.specs.declared.names.Event.{Event}
 use Rattle.xk_types.specs.Code.{ModuleValue}

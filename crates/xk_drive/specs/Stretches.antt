@@ -1,4 +1,4 @@
--- Stretches of steps of one activity that a chooser names each time and nobody else can see.
+-- Stretches of steps of one activity that a chooser names each time and nobody else can see. This project's own.
 use Rattle.std.specs.Prelude.{◌≡◌, ℕ, List, Option, replicate}
 use Rattle.xk_core.specs.Core.{CoreValue}
 use Rattle.xk_core.specs.Stretch.{RunsTo, IsUnseen}

@@ -10,5 +10,5 @@ mod schedule;
 pub use chooser::{Chooser, First, Last, Round};
 pub use driver::{Driver, Turn};
 pub use driving::{drive, unstarted};
-pub use logged::{Ended, Logged, Partial};
+pub use logged::{Ended, Logged, Partial, keep_printed};
 pub use schedule::{Halt, Ran, run_schedule};

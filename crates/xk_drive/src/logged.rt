@@ -94,6 +94,32 @@ fn note(log: &mut Vec<Entry>, printed: &mut Vec<i64>, turn: Turn)
     }
 }
 
+/// Keeps the number that an event prints, if it does.
+pub fn keep_printed(printed: &mut Vec<i64>, event: Event) -> Result<(), AllocError>
+    ensures { OnOk result
+        (printed.new.items ≡ printed.old.items ++ option_to_list (number_printed event)) }
+{
+    match event {
+        Event::Printed(number) => {
+            printed.push(number)?;
+            Ok(())
+        }
+        Event::Local
+        | Event::Made
+        | Event::Got
+        | Event::Put
+        | Event::Added
+        | Event::Opened
+        | Event::Closed
+        | Event::Spawned
+        | Event::Resumed
+        | Event::Dropped
+        | Event::Arrived
+        | Event::Passed
+        | Event::Ended => Ok(()),
+    }
+}
+
 impl<'m> Logged<'m> {
     /// A run before its first step. Where memory is refused, the core is given back as it was.
     pub fn open(alloc: Global, start: Core<'m>) -> Result<Logged<'m>, Core<'m>>

@@ -1,11 +1,10 @@
 -- The tree goes on counting, whatever happens.
-use Rattle.std.proofs.Common.{◌≡◌, ℕ, zero, suc, ◌+◌, ◌<◌, ◌^◌, ◌==◌, Bool, true, false, not, ◌&&◌, List, [], ◌∷◌, ◌++◌, length, get_or, set, Some, refl, sym, ap, ◌∙◌, arith}
-use Rattle.std.specs.Prelude.{slice_get}
+use Rattle.std.proofs.Common.{◌≡◌, ℕ, zero, suc, ◌+◌, ◌<◌, ◌^◌, ◌==◌, Bool, true, false, not, ◌&&◌, List, [], ◌∷◌, ◌++◌, length, get_or, set, refl, sym, ap, ◌∙◌, arith}
 use Rattle.std.proofs.lemmas.Bool.Decides.{nat_tests}
-use Rattle.xk_types.specs.World.{Finish, root}
+use Rattle.xk_types.specs.World.{Finish}
 use Rattle.xk_types.specs.Step.{same_finish}
 use Rattle.xk_finishes.specs.Tree.{NodeValue, fresh_node, node_at, innermost_of, governing_of, changed_at, node_entered, node_left, node_ended, awaits_innermost}
-use Rattle.xk_finishes.specs.Counters.{finish_at, is_counted, one_if, counter, count_in, CountIs, CountsSame, CountsOneMore, IsOpen, AreCounted, IsCounting}
+use Rattle.xk_finishes.specs.Counters.{finish_at, is_counted, one_if, counter, count_in, CountIs, CountsSame, CountsOneMore, AreCounted, IsCounting}
 use Rattle.xk_finishes.proofs.Counting.{node_there, counted_at, counter_below, counter_pushed, counter_set, awaits_counter}
 use Rattle.xk_finishes.proofs.Open.{are_open_entered, are_open_ended, are_open_left, are_open_spawned}
 use Rattle.xk_finishes.proofs.Places.{read_any}
@@ -38,17 +37,6 @@ pub counting_same : (nodes : List NodeValue) (old new : List (List ℕ)) → IsC
 counting_same nodes old new h same = record { earlier = h.earlier; held = h.held; counted = λ a d. same a d ∙ h.counted a d }
 
 -- ---- each call
-
--- main begins
-pub counting_opened : (room : ℕ) → IsCounting (fresh_node root room ∷ []) []
-counting_opened room = record { earlier = earlier; held = held; counted = λ a d. refl }
-  where
-    earlier : (b : ℕ) (node : NodeValue) → slice_get (fresh_node root room ∷ []) b ≡ Some node → (a : ℕ) → node.governed.owner ≡ Some a → a < b
-    earlier b node at a owned = absurd (grind arith)
-
-    held : (b : ℕ) (node : NodeValue) → slice_get (fresh_node root room ∷ []) b ≡ Some node → node.ended ≡ false → (a : ℕ) → node.governed.owner ≡ Some a
-        → IsOpen (fresh_node root room ∷ []) node.governed a
-    held b node at runs a owned = absurd (grind arith)
 
 -- a `finish`
 pub counting_entered : (nodes : List NodeValue) (lists : List (List ℕ)) (a : ℕ) → IsCounting nodes lists → a < length nodes

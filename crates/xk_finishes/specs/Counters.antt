@@ -1,4 +1,4 @@
--- One counter for each finish, instead of a walk over all activities.
+-- One counter for each finish, instead of a walk over all activities. This project's own.
 --
 -- A finish counts those alone whom it governs itself. Whoever is under it by way of an inner finish hasn't to be counted: the owner of
 -- that one hasn't ended before it is closed.

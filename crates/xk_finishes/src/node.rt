@@ -1,6 +1,6 @@
 //! What the tree keeps of one activity.
 
-ghost use Rattle.std.specs.Prelude.{◌≡◌, ◌+◌, ◌-◌, ◌<◌, true, false};
+ghost use Rattle.std.specs.Prelude.{◌≡◌, ◌<◌, true, false};
 ghost use Rattle.xk_finishes.specs.Tree.{fresh_node, node_entered, node_left, node_ended, governing_of};
 
 use crate::finish::Finish;

@@ -1,7 +1,7 @@
 -- Writing texts one after another.
 use Rattle.std.proofs.Common.{◌≡◌, ℕ, ◌+◌, ◌≤◌, min, List, ◌++◌, length, take, Option, Some, None, ap, sym, ◌∙◌, arith, append_assoc, subst}
 use Rattle.std.proofs.Math.Seq.{take-append-add}
-use Rattle.std.proofs.lemmas.List.{take_all, take-append-le, take_min}
+use Rattle.std.proofs.lemmas.List.{take-append-le, take_min}
 use Rattle.std.specs.Io.KnownBytes.{Appends}
 use Rattle.xk_log.specs.Writing.{AppendsBeginning}
 
@@ -11,10 +11,6 @@ appends_then None b c xs ys h k = tt
 appends_then (Some s) None c xs ys h k = absurd h
 appends_then (Some s) (Some t) None xs ys h k = k
 appends_then (Some s) (Some t) (Some u) xs ys h k = k ∙ ap (λ z. z ++ ys) h ∙ append_assoc s xs ys
-
--- a whole text is a beginning of it
-pub beginning_all : (a b : Option (List ℕ)) (xs : List ℕ) → Appends a b xs → AppendsBeginning a b xs
-beginning_all a b xs h = (length xs, subst (Appends a b) (sym (take_all (length xs) xs (omega arith))) h)
 
 -- a beginning of a text is one of a longer text
 pub beginning_more : (a b : Option (List ℕ)) (xs ys : List ℕ) → AppendsBeginning a b xs → AppendsBeginning a b (xs ++ ys)

@@ -149,10 +149,6 @@ counts_stopped old new text fault.Truncated e h = e
 counts_stopped old new text fault.Device e h = absurd h
 counts_stopped old new text fault.OutOfMemory e h = e
 
-pub tells_device : (a : Option (List ℕ)) → IfSome a (λ t. Tells t (Err fault.Device))
-tells_device None = tt
-tells_device (Some t) = tt
-
 -- ---- the end
 
 within : (n : ℕ) (left : List ℕ) → n ≤ longest_line → length (take n left) ≤ longest_line
@@ -185,12 +181,6 @@ tells_finished (Some t) None s es left n r ready one short none is c e = absurd 
 tells_finished (Some t) (Some u) s es left n r ready one short none is c e =
     let text = before (place_of s es) ++ take n left in
     subst (λ l. Tells l r) (sym (c ∙ ap (λ l. text ++ l) e ∙ append-nil text)) (finished s es left n r ready one short none is)
-
-pub counts_finished : (old new : ℕ) (s : Stage) (es : List Entry) (r : Result (List Entry) LogFault) → new ≡ old → Finishes (place_of s es) r
-    → CountsDevice old new r
-counts_finished old new stage.Start es r e is = subst (CountsDevice old new) (sym is) e
-counts_finished old new stage.Within es r e is = subst (CountsDevice old new) (sym is) e
-counts_finished old new stage.Behind es r e is = subst (CountsDevice old new) (sym is) e
 
 -- ---- how long what was read can be
 

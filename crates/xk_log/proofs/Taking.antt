@@ -38,9 +38,6 @@ leading_zero ds n zero some h is =
 
 -- ---- lines of entries
 
-pub no_blank : (line : List ℕ) (e : Entry) → Lacks blank line → line ≡ entry_line e → ⊥
-no_blank line e h is = lacks_none blank (decimal e.act) (decimal e.steps) (subst (Lacks blank) is h)
-
 pub parts_of : (line x y : List ℕ) (e : Entry) → line ≡ x ++ blank ∷ y → Lacks blank x → FitsEntry e → line ≡ entry_line e
     → (x ≡ decimal e.act) × (y ≡ decimal e.steps)
 parts_of line x y e split first fits is =
@@ -55,41 +52,6 @@ no_steps line x y e n split first is zero fits eq =
 
 -- ---- lines behind the first
 
-all_push : (es : List Entry) (e : Entry) → AllByRecursion FitsEntry es → FitsEntry e → AllByRecursion FitsEntry (es ++ e ∷ [])
-all_push [] e h k = (k, tt)
-all_push (f ∷ fs) e h k = (h.0, all_push fs e h.1 k)
-
-pub ready_entry : (s : Stage) (es : List Entry) (e : Entry) → s ≡ stage.Within → IsReadyAt s es → FitsEntry e → length es < most_entries
-    → IsReadyAt s (es ++ e ∷ [])
-ready_entry s es e is ready fits room =
-    let log : IsLog es = subst (λ z. IsReadyAt z es) is ready in
-    let P : Stage → Type 0 = λ z. IsReadyAt z (es ++ e ∷ []) in
-    let size : length (es ++ e ∷ []) ≡ length es + 1 = length-append es (e ∷ []) in
-    let next : IsLog (es ++ e ∷ []) = record { short = omega (arith, size, room); each = all_push es e log.each fits } in
-    subst P (sym is) next
-
-pub took_entry : (s : Stage) (es new : List Entry) (e : Entry) (line : List ℕ) → s ≡ stage.Within → line ≡ entry_line e → new ≡ es ++ e ∷ []
-    → before (place_of s new) ≡ before (place_of s es) ++ ended line
-took_entry s es new e line is spelled grown =
-    let lines : entry_lines (es ++ e ∷ []) ≡ entry_lines es ++ ended (entry_line e) =
-    flat_map-append (λ x. ended (entry_line x)) es (e ∷ []) ∙ ap (λ l. entry_lines es ++ l) (append-nil (ended (entry_line e))) in
-    let within : before (Within new) ≡ before (Within es) ++ ended line =
-    ap (λ l. ended head_line ++ entry_lines l) grown ∙ ap (λ l. ended head_line ++ l) (lines ∙ ap (λ l. entry_lines es ++ ended l) (sym spelled))
-    ∙ sym (append_assoc (ended head_line) (entry_lines es) (ended line)) in
-    let P : Stage → Type 0 = λ z. before (place_of z new) ≡ before (place_of z es) ++ ended line in
-    subst P (sym is) within
-
-pub ready_end : (s : Stage) (es : List Entry) → s ≡ stage.Within → IsReadyAt s es → IsLog es
-ready_end s es is ready = subst (λ z. IsReadyAt z es) is ready
-
-pub took_end : (s : Stage) (es : List Entry) (line : List ℕ) → s ≡ stage.Within → line ≡ end_line (length es)
-    → before (Behind es) ≡ before (place_of s es) ++ ended line
-took_end s es line is spelled =
-    let within : before (Behind es) ≡ before (Within es) ++ ended line =
-    ap (λ l. ended head_line ++ (entry_lines es ++ ended l)) (sym spelled) ∙ sym (append_assoc (ended head_line) (entry_lines es) (ended line)) in
-    let P : Stage → Type 0 = λ z. before (Behind es) ≡ before (place_of z es) ++ ended line in
-    subst P (sym is) within
-
 pub refused_full : (s : Stage) (es : List Entry) (e : Entry) (line : List ℕ) (k : ℕ) → s ≡ stage.Within → k ≡ length es + 2 → FitsEntry e
     → line ≡ entry_line e
     → most_entries ≤ length es → Refuses (place_of s es) line (fault.Grammar k)
@@ -97,16 +59,6 @@ refused_full s es e line k is number fits spelled full =
     let unfit : Fits (Within es) line → ⊥ = λ h. elim h [
       | inl entry ↦ omega (arith, entry.room, full)
       | inr last ↦ end_is_no_entry (length es) e fits (sym last ∙ spelled)
-    ] in
-    let P : Stage → Type 0 = λ z. Refuses (place_of z es) line (fault.Grammar k) in
-    subst P (sym is) (number, unfit)
-
-pub refused_other : (s : Stage) (es : List Entry) (line : List ℕ) (k : ℕ) → s ≡ stage.Within → k ≡ length es + 2
-    → ((e : Entry) → FitsEntry e → ¬ (line ≡ entry_line e)) → ¬ (line ≡ end_line (length es)) → Refuses (place_of s es) line (fault.Grammar k)
-refused_other s es line k is number none other =
-    let unfit : Fits (Within es) line → ⊥ = λ h. elim h [
-      | inl entry ↦ none entry.entry entry.fits entry.spelled
-      | inr last ↦ other last
     ] in
     let P : Stage → Type 0 = λ z. Refuses (place_of z es) line (fault.Grammar k) in
     subst P (sym is) (number, unfit)

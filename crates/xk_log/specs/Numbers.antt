@@ -1,4 +1,4 @@
--- Numbers of 32 bits, read from left to right.
+-- Numbers of 32 bits, read from left to right. This project's own.
 use Rattle.std.specs.Prelude.{ℕ, ◌+◌, ◌-◌, ◌*◌, ◌^◌, nat_lt, List, [], ◌∷◌, Option, Some, None, if◌then◌else◌}
 use Rattle.std.specs.Char.{is_ascii_digit}
 

@@ -1,4 +1,5 @@
--- What a text is, if it isn't a log's: which of its lines is the first that doesn't fit its place, or that it ends too early.
+-- What a text is, if it isn't a log's: which of its lines is the first that doesn't fit its place, or that it ends too early. This
+-- project's own.
 use Rattle.std.specs.Prelude.{◌≡◌, ℕ, ◌+◌, ◌<◌, ◌≤◌, ◌⊎◌, List, [], ◌∷◌, ◌++◌, length, take}
 use Rattle.xk_types.specs.declared.names.Entry.{Entry}
 use Rattle.xk_log.specs.LogText.{Lacks, line_feed, head_line, entry_line, end_line, ended, entry_lines, log_text, most_entries, FitsEntry, IsLog}

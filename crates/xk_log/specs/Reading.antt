@@ -1,4 +1,4 @@
--- What reading a log answers.
+-- What reading a log answers. This project's own, as the format is.
 use Rattle.std.specs.Prelude.{◌≡◌, ℕ, ◌<◌, ⊤, List, [], ◌++◌, Result, Ok, Err}
 use Rattle.xk_types.specs.declared.names.Entry.{Entry}
 use Rattle.xk_types.specs.Device.{Rose}

@@ -1,12 +1,7 @@
--- What writing does to a device.
-use Rattle.std.specs.Prelude.{◌≡◌, ℕ, List, Option, Result, MatchResult, take}
+-- What writing does to a device. This project's own.
+use Rattle.std.specs.Prelude.{ℕ, List, Option, take}
 use Rattle.std.specs.Io.KnownBytes.{Appends}
-use Rattle.xk_types.specs.Device.{Rose}
 
 -- known bytes grow by a beginning of the text
 abbrev pub AppendsBeginning : Option (List ℕ) → Option (List ℕ) → List ℕ → Type 0
 AppendsBeginning old new text = (n : ℕ) × Appends old new (take n text)
-
--- success is without a failed write, and want of success with one
-abbrev pub FailsByDevice : {A E : Type 0} → ℕ → ℕ → Result A E → Type 0
-FailsByDevice old new r = MatchResult r (λ _. new ≡ old) (λ _. Rose old new)

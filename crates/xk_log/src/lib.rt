@@ -13,4 +13,4 @@ mod writing;
 pub use fault::{Device, LogFault};
 pub use listing::Log;
 pub use reading::read_log;
-pub use writing::write_entries;
+pub use writing::{write_all, write_entries};

@@ -1,7 +1,7 @@
 //! A text of some lines, before it is written.
 
-ghost use Rattle.std.specs.Prelude.{◌≡◌, ◌+◌, ◌^◌, ◌<◌, ◌≤◌, ◌∷◌, ◌++◌, [], length, decimal};
-ghost use Rattle.xk_log.specs.LogText.{entry_line, end_line, ended, FitsEntry};
+ghost use Rattle.std.specs.Prelude.{◌≡◌, ◌+◌, ◌≤◌, ◌++◌, [], length, decimal};
+ghost use Rattle.xk_log.specs.LogText.{entry_line, end_line, ended};
 
 use itoa::Buffer;
 use std::marker::Model;

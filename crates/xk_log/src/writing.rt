@@ -17,7 +17,8 @@ const AT_A_TIME: usize = 90;
 pub fn write_entries<W: Sink>(entries: &[Entry], sink: &mut W) -> Result<(), Device>
     ensures all { OnOk result
         (Appends (W.contents sink.old) (W.contents sink.new) (log_text entries.now)) }
-    ensures beginning { AppendsBeginning (W.contents sink.old) (W.contents sink.new) (log_text entries.now) }
+    ensures beginning { AppendsBeginning
+        (W.contents sink.old) (W.contents sink.new) (log_text entries.now) }
     ensures no_fault { OnOk result (W.fault_count sink.new ≡ W.fault_count sink.old) }
     ensures failed { OnErr result (Rose (W.fault_count sink.old) (W.fault_count sink.new)) }
 {
@@ -36,7 +37,8 @@ fn write_some<W: Sink>(sink: &mut W, entries: &[Entry]) -> Result<(), Device>
     requires { length entries.now ≤ 90 }
     ensures all { OnOk result
         (Appends (W.contents sink.old) (W.contents sink.new) (entry_lines entries.now)) }
-    ensures beginning { AppendsBeginning (W.contents sink.old) (W.contents sink.new) (entry_lines entries.now) }
+    ensures beginning { AppendsBeginning
+        (W.contents sink.old) (W.contents sink.new) (entry_lines entries.now) }
     ensures no_fault { OnOk result (W.fault_count sink.new ≡ W.fault_count sink.old) }
     ensures failed { OnErr result (Rose (W.fault_count sink.old) (W.fault_count sink.new)) }
 {
@@ -51,7 +53,8 @@ fn write_some<W: Sink>(sink: &mut W, entries: &[Entry]) -> Result<(), Device>
 fn write_end<W: Sink>(sink: &mut W, entries: u64) -> Result<(), Device>
     ensures all { OnOk result
         (Appends (W.contents sink.old) (W.contents sink.new) (ended (end_line entries))) }
-    ensures beginning { AppendsBeginning (W.contents sink.old) (W.contents sink.new) (ended (end_line entries)) }
+    ensures beginning { AppendsBeginning
+        (W.contents sink.old) (W.contents sink.new) (ended (end_line entries)) }
     ensures no_fault { OnOk result (W.fault_count sink.new ≡ W.fault_count sink.old) }
     ensures failed { OnErr result (Rose (W.fault_count sink.old) (W.fault_count sink.new)) }
 {
@@ -60,8 +63,8 @@ fn write_end<W: Sink>(sink: &mut W, entries: u64) -> Result<(), Device>
     write_all(sink, page.text())
 }
 
-// Writes a text.
-fn write_all<W: Sink>(sink: &mut W, text: &[u8]) -> Result<(), Device>
+/// Writes the whole text, or, where a write fails, a beginning of it.
+pub fn write_all<W: Sink>(sink: &mut W, text: &[u8]) -> Result<(), Device>
     ensures all { OnOk result (Appends (W.contents sink.old) (W.contents sink.new) text.now) }
     ensures beginning { AppendsBeginning (W.contents sink.old) (W.contents sink.new) text.now }
     ensures no_fault { OnOk result (W.fault_count sink.new ≡ W.fault_count sink.old) }

@@ -117,9 +117,6 @@ top_bit : (j a : ℕ) → 2 ^ j ≤ a → a < 2 ^ suc j → bit_at a j ≡ 1
 top_bit zero a from to = let e : a ≡ 1 = omega arith in rw e refl
 top_bit (suc j) a from to = bit_at-suc a j ∙ top_bit j (a / 2) (omega arith) (omega arith)
 
-pub last_none : (words : List ℕ) (k : ℕ) → slice_index_or words k 0 ≡ 0 → IsLast (has words) (k * 64) (k * 64 + 64) None
-last_none words k e j from to = none_of_zero words j (let q : j / 64 ≡ k = omega arith in rw q e)
-
 pub last_some : (words : List ℕ) (k : ℕ) → slice_index_or words k 0 < 2 ^ 64 → 0 < slice_index_or words k 0
     → IsLast (has words) (k * 64) (k * 64 + 64) (Some (k * 64 + 63 - leading_zeros w64 (slice_index_or words k 0)))
 last_some words k fits some =

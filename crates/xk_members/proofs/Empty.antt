@@ -1,7 +1,6 @@
 -- Whether a set has members, by the word of words.
-use Rattle.std.proofs.Common.{◌≡◌, ◌∙◌, ℕ, suc, ◌*◌, ◌+◌, ◌/◌, ◌<◌, ◌≤◌, ◌==◌, Bool, true, false, not, List, [], ◌∷◌, length, filter, Option, Some, None, is_some, refl, sym, ap, arith}
+use Rattle.std.proofs.Common.{◌≡◌, ℕ, ◌*◌, ◌+◌, ◌/◌, ◌≤◌, ◌==◌, Bool, true, false, not, List, [], ◌∷◌, length, Option, Some, None, is_some, refl, sym, ap, arith}
 use Rattle.std.proofs.lemmas.Bool.{ne_eqb}
-use Rattle.xk_members.specs.Members.{numbers_from}
 use Rattle.xk_members.specs.Words.{has, members_of, IsNext, IsSummed}
 use Rattle.xk_members.proofs.Bits.{clash}
 use Rattle.xk_members.proofs.Members.{none_of}

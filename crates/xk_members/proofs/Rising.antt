@@ -373,7 +373,3 @@ with_member_rises b s xs up =
     (kept_rises (λ x. nat_lt x b) xs up)
     (from_number b s more above)
     (number_rises b s more above (kept_rises (λ x. nat_lt b x) xs up))
-
--- and so does one that nobody is in
-pub nobody_rises : (xs : List ℕ) → xs ≡ [] → IsRising xs
-nobody_rises xs e = rw e (λ i x y f g. absurd (none-some x f))

@@ -1,5 +1,5 @@
 -- A set that is kept as the rising list of its members.
-use Rattle.std.proofs.Common.{◌≡◌, ℕ, zero, suc, ◌+◌, ◌<◌, ◌≤◌, nat_lt, Bool, true, false, cond, List, [], ◌∷◌, ◌++◌, length, get_or, refl, subst, Err, nat_cmp, filter, All, arith, ap, ◌∙◌, sym}
+use Rattle.std.proofs.Common.{◌≡◌, ℕ, zero, suc, ◌<◌, ◌≤◌, nat_lt, Bool, true, false, cond, List, [], ◌∷◌, ◌++◌, length, get_or, refl, subst, Err, nat_cmp, filter, All, arith, ap, sym}
 use Rattle.std.specs.List.{insert}
 use Rattle.std.proofs.lemmas.List.Edits.{length-insert}
 use Rattle.std.proofs.lemmas.List.Elements.{All-append, All-filter, All-cons, All-nil}

@@ -1,4 +1,4 @@
--- Sets of numbers, seen as the rising lists of their members.
+-- Sets of numbers, seen as the rising lists of their members. This project's own.
 use Rattle.std.specs.Prelude.{◌≡◌, ℕ, zero, suc, ◌<◌, nat_le, nat_lt, Bool, if◌then◌else◌, ◌++◌, List, [], ◌∷◌, length, filter, Some, slice_get, All}
 
 -- each is smaller than the next

@@ -1,4 +1,4 @@
--- Sets of numbers as words of 64 bits, and the words that say which words have members.
+-- Sets of numbers as words of 64 bits, and the words that say which words have members. This project's own.
 use Rattle.std.specs.Prelude.{◌≡◌, ℕ, ◌+◌, ◌*◌, ◌/◌, ◌%◌, ◌^◌, ◌<◌, ◌≤◌, ◌==◌, Bool, true, false, List, length, filter, Option, Some, None, bit_and, bit_or, slice_set, slice_index_or}
 use Rattle.std.specs.Int.{bit_at, bit_not, w64}
 use Rattle.xk_members.specs.Members.{numbers_from}

@@ -15,7 +15,7 @@ pub struct FewNumbers {
 }
 
 impl Model for FewNumbers {
-    ghost use Rattle.std.specs.Vec.{vec_capacity, vec_len};
+    ghost use Rattle.std.specs.Vec.{vec_capacity};
     ghost use Rattle.xk_members.specs.Members.{SetValue, AreMembers};
 
     ghost Value = { SetValue };

@@ -7,4 +7,4 @@ mod set;
 mod words;
 
 pub use few::FewNumbers;
-pub use set::{MOST_ROOM, NumberSet};
+pub use set::NumberSet;

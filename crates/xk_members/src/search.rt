@@ -1,6 +1,6 @@
 //! Searches over words and their sums.
 
-ghost use Rattle.std.specs.Prelude.{◌≡◌, ◌+◌, ◌*◌, ◌/◌, ◌<◌, length};
+ghost use Rattle.std.specs.Prelude.{◌+◌, ◌*◌, ◌/◌, length};
 ghost use Rattle.xk_members.specs.Words.{has, IsNext, IsLast, IsSummed};
 
 use crate::words::{last_in_word, next_in_word};

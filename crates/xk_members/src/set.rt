@@ -1,8 +1,7 @@
 //! The set.
 
 ghost use Rattle.std.specs.Prelude.{◌≡◌, ◌+◌, ◌-◌, ◌*◌, ◌/◌, ◌<◌, ◌≤◌, ◌==◌, [], length, true, false, slice_get, IfOk, OnOk, OnErr};
-ghost use Rattle.std.specs.List.{list_any};
-ghost use Rattle.std.specs.Vec.{vec_len, vec_capacity};
+ghost use Rattle.std.specs.Vec.{vec_capacity};
 ghost use Rattle.xk_members.specs.Members.{IsRising, with_member, place_above};
 
 use crate::search::{last_member, next_member};
@@ -10,11 +9,8 @@ use crate::words::{clear, fill, make_room, next_in_word, put};
 use std::alloc::{AllocError, Global};
 use std::marker::Model;
 
-/// A set has room for no more numbers than these: 64 words of 64 words of 64 bits.
-pub const MOST_ROOM: u32 = 262_144;
-
-/// A set of numbers below its room. Contracts see it as the rising list of its members. Each call but `with_room` and `reserve` takes a few steps,
-/// however many members there are, and no memory.
+/// A set of numbers below its room, which is 262,144 at most: 64 words of 64 words of 64 bits. Contracts see it as the rising list of its
+/// members. Each call but `with_room` and `reserve` takes a few steps, however many members there are, and no memory.
 #[derive(Drop)]
 pub struct NumberSet {
     low: Vec<u64>,

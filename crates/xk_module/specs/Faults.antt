@@ -1,4 +1,4 @@
--- What a fault prints.
+-- What a fault prints. This project's own.
 use Rattle.std.specs.Prelude.{ℕ, List, codes, Option, Some, None}
 use Rattle.xk_module.specs.declared.fault.Refusal.{Refusal}
 use Rattle.xk_module.specs.declared.fault.Refusal.TheVariants as refusal

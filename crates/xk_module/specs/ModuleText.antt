@@ -1,4 +1,4 @@
--- Module text, version 1: which JSON value each module has.
+-- Module text, version 1: which JSON value each module has. The format is this project's own.
 use Rattle.std.specs.Prelude.{◌≡◌, ℕ, ℤ, ◌^◌, ◌<◌, List, [], ◌∷◌, map, codes, Some, IsUtf8, FitsSigned}
 use Rattle.std.specs.Int.{w64}
 use Rattle.std.specs.List.{AllByRecursion}

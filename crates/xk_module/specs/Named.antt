@@ -1,4 +1,5 @@
--- Which module a JSON value names, as the reader finds out. The laws in `proofs/Modules` join it to the values of modules.
+-- Which module a JSON value names, as the reader finds out. The laws in `proofs/Modules` join it to the values of modules. This project's
+-- own.
 use Rattle.std.specs.Prelude.{◌≡◌, ℕ, ℤ, pos, negsuc, ◌^◌, ◌==◌, nat_lt, List, [], ◌∷◌, map, codes, Option, Some, None, option_map, option_and_then, Result, Ok, Err, String, string_bytes, ⊤, if◌then◌else◌}
 use Rattle.std.specs.Str.{bytes_eq}
 use Rattle.std.specs.declared.alloc.Global.{Global}

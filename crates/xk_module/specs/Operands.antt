@@ -1,4 +1,4 @@
--- The values of operands, as an instruction is written.
+-- The values of operands, as an instruction is written. This project's own.
 use Rattle.serde_json.specs.Data.{Data, string}
 use Rattle.xk_module.specs.ModuleText.{long, word, comparison_name}
 use Rattle.xk_module.specs.declared.writing.Operand.{Operand}

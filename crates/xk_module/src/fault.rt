@@ -3,7 +3,6 @@
 ghost use Rattle.std.specs.Prelude.{◌≡◌, option_map};
 ghost use Rattle.xk_module.specs.Faults.{fault_label};
 ghost use Rattle.xk_module.specs.declared.fault.Refusal.TheVariants as refusal;
-ghost use Rattle.xk_module.specs.declared.fault.ModuleFault.TheVariants as fault;
 
 use std::alloc::{AllocError, AllocFailed};
 use thiserror::Error;

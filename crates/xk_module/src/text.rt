@@ -1,7 +1,6 @@
 //! Module text, version 1.
 
-ghost use Rattle.std.specs.Prelude.{◌<◌, length, IfOk, IfErr, IsErrOf};
-ghost use Rattle.serde_json.specs.Data.{Data};
+ghost use Rattle.std.specs.Prelude.{◌<◌, length, IfOk, IsErrOf};
 ghost use Rattle.serde_json.specs.View.{view};
 ghost use Rattle.xk_types.specs.Code.{ModuleValue, IsWithinLimits};
 ghost use Rattle.xk_module.specs.ModuleText.{IsText, IsJson, IsModuleText};

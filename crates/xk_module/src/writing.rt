@@ -1,6 +1,6 @@
 //! Writes modules as text.
 
-ghost use Rattle.std.specs.Prelude.{◌≡◌, ◌∷◌, ◌++◌, [], codes, map, IfOk, OnOk, string_bytes};
+ghost use Rattle.std.specs.Prelude.{◌≡◌, ◌∷◌, [], map, IfOk, OnOk, string_bytes};
 ghost use Rattle.std.specs.List.{AllByRecursion};
 ghost use Rattle.serde_json.specs.Data.{Data, string};
 ghost use Rattle.serde_json.specs.View.{view};
@@ -72,7 +72,6 @@ impl Written for i64 {
 }
 
 impl Written for u16 {
-    ghost use Rattle.xk_module.specs.Operands.{operand_value};
     ghost use Rattle.xk_module.specs.ModuleText.{word, IsWord};
 
     ghost value = { word };

@@ -14,12 +14,12 @@ use Rattle.xk_types.specs.Step.{Stepped, step}
 use Rattle.xk_types.specs.Schedule.{Course, Through, run, run_on, is_step, is_enabled}
 use Rattle.xk_types.specs.Logs.{schedule_of}
 use Rattle.xk_laws.proofs.Reached.{same_through, first_step}
-use Rattle.xk_core.specs.Core.{CoreValue, is_quiet, opening_core}
+use Rattle.xk_core.specs.Core.{CoreValue, has_advanced, is_quiet, opening_core}
 use Rattle.xk_members.specs.Members.{numbers_from}
 use Rattle.xk_drive.specs.Driving.{IsRunOf}
 use Rattle.xk_drive.proofs.Going.{run_then}
 use Rattle.xk_drive.proofs.Listing.{one_more, one_not}
-use Rattle.xk_replay.specs.Chart.{has_advanced, advance_in, advances_in, advances_on, advances, act_text, acts_text, advance_line, chart_lines, chart_text}
+use Rattle.xk_replay.specs.Chart.{advance_in, advances_in, advances_on, advances, act_text, acts_text, advance_line, chart_lines, chart_text}
 
 -- ---- runs in two parts
 

@@ -1,6 +1,6 @@
 -- The chart of a run: all advances of its clocks. What an advance is, `xk_types` says in `Step.antt`; that they are told so is this project's
 -- own.
-use Rattle.std.specs.Prelude.{◌≡◌, ℕ, ◌==◌, Bool, false, List, [], ◌∷◌, ◌++◌, length, map, filter, flat_map, slice_get, codes, decimal}
+use Rattle.std.specs.Prelude.{◌≡◌, ℕ, List, [], ◌∷◌, ◌++◌, length, map, filter, flat_map, slice_get, codes, decimal}
 use Rattle.std.specs.Option.{option_map_or}
 use Rattle.xk_types.specs.declared.names.Entry.{Entry}
 use Rattle.xk_types.specs.Code.{ModuleValue}
@@ -8,7 +8,7 @@ use Rattle.xk_types.specs.World.{World, opening}
 use Rattle.xk_types.specs.Step.{Outcome, Blocked, Wrong, Stepped, step}
 use Rattle.xk_types.specs.Schedule.{Through, run}
 use Rattle.xk_types.specs.Logs.{schedule_of}
-use Rattle.xk_core.specs.Core.{CoreValue, is_registered_on}
+use Rattle.xk_core.specs.Core.{CoreValue, advanced_now, is_registered_on}
 use Rattle.xk_members.specs.Members.{numbers_from}
 
 -- an advance of a clock: the step in which it came, counted from 1, the clock, its phase from then on, and who is registered on it behind
@@ -18,10 +18,6 @@ pub record Advance : Type 0 where
   pub clock : ℕ
   pub phase : ℕ
   pub acts : List ℕ
-
--- clock c advanced in the step that led to this world
-abbrev pub has_advanced : World → ℕ → Bool
-has_advanced w c = option_map_or (λ k. k.last == w.steps) (slice_get w.clocks c) false
 
 -- the phase of clock c
 abbrev pub phase_of : World → ℕ → ℕ
@@ -37,7 +33,7 @@ advance_in w c = record { step = w.steps; clock = c; phase = phase_of w c; acts 
 
 -- the advances in the step that led to this world, by rising clocks
 abbrev pub advances_in : World → List Advance
-advances_in w = map (advance_in w) (filter (has_advanced w) (numbers_from 0 (length w.clocks)))
+advances_in w = map (advance_in w) (advanced_now w)
 
 abbrev pub advances_on : Outcome → (World → List Advance) → List Advance
 advances_on Blocked go = []

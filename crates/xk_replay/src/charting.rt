@@ -1,8 +1,9 @@
 //! The chart of a run: when its clocks advanced, and who was registered on them.
 
-ghost use Rattle.std.specs.Prelude.{◌≡◌, ◌+◌, ◌<◌, ◌++◌, length, flat_map, replicate, IfOk, OnOk, string_bytes};
+ghost use Rattle.std.specs.Prelude.{◌≡◌, ◌<◌, ◌++◌, length, flat_map, replicate, IfOk, OnOk, string_bytes};
 ghost use Rattle.xk_types.specs.Schedule.{Through, run};
-ghost use Rattle.xk_replay.specs.Chart.{IsLegalFrom, act_text, acts_text, advance_in, advance_line, advances_in, chart_lines, chart_text, has_advanced, registered_in};
+ghost use Rattle.xk_core.specs.Core.{has_advanced};
+ghost use Rattle.xk_replay.specs.Chart.{IsLegalFrom, act_text, acts_text, advance_in, advance_line, advances_in, chart_lines, chart_text, registered_in};
 
 use std::alloc::{AllocError, Global};
 use xk_core::Core;

@@ -1,8 +1,6 @@
 //! A log is played again.
 
-ghost use Rattle.std.specs.Prelude.{◌≡◌, ◌++◌, IfOk, IfErr, OnOk};
-ghost use Rattle.std.specs.Option.{option_to_list};
-ghost use Rattle.xk_types.specs.Schedule.{number_printed};
+ghost use Rattle.std.specs.Prelude.{◌≡◌, IfOk, IfErr};
 ghost use Rattle.xk_drive.specs.Driving.{IsRunOf};
 ghost use Rattle.xk_replay.specs.Replay.{IsFaultOf, IsStop, IsRepeated};
 
@@ -10,9 +8,9 @@ use crate::fault::ReplayFault;
 use std::alloc::{AllocError, Global};
 use xk_bounds::Verified;
 use xk_core::Core;
-use xk_drive::Ended;
+use xk_drive::{Ended, keep_printed};
 use xk_log::Log;
-use xk_types::{Act, Entry, Event};
+use xk_types::{Act, Entry};
 
 /// Where a log leads, and what it prints on the way.
 #[derive(Drop)]
@@ -107,34 +105,8 @@ fn repeat(core: &mut Core<'_>, printed: &mut Vec<i64>, entry: Entry) -> Result<b
             return Ok(false);
         }
         let event = core.step(act)?;
-        keep(printed, event)?;
+        keep_printed(printed, event)?;
         done += 1;
     }
     Ok(true)
-}
-
-/// Keeps the number that an event prints, if it does.
-fn keep(printed: &mut Vec<i64>, event: Event) -> Result<(), AllocError>
-    ensures { OnOk result
-        (printed.new.items ≡ printed.old.items ++ option_to_list (number_printed event)) }
-{
-    match event {
-        Event::Printed(number) => {
-            printed.push(number)?;
-            Ok(())
-        }
-        Event::Local
-        | Event::Made
-        | Event::Got
-        | Event::Put
-        | Event::Added
-        | Event::Opened
-        | Event::Closed
-        | Event::Spawned
-        | Event::Resumed
-        | Event::Dropped
-        | Event::Arrived
-        | Event::Passed
-        | Event::Ended => Ok(()),
-    }
 }

@@ -11,7 +11,7 @@ use Rattle.xk_types.specs.Schedule.{Leads, all_ended, number_printed, printed}
 use Rattle.xk_types.specs.Logs.{schedule_of}
 use Rattle.xk_core.specs.Core.{CoreValue}
 use Rattle.xk_drive.specs.Choosing.{enabled_in, Names, Follows, goes_on, state_after}
-use Rattle.xk_drive.specs.Driving.{IsChosen, IsRunOf, IsTurn}
+use Rattle.xk_drive.specs.Driving.{IsRunOf, IsTurn}
 use Rattle.xk_drive.specs.Stretches.{IsGone, IsStretch}
 use Rattle.xk_serve.specs.OrderedRun.{GoesOn, IsEnd, IsStepOn, IsLogThat, IsReplay, IsRunThat}
 use Rattle.xk_laws.proofs.Counts.{step_counts}
@@ -171,22 +171,6 @@ pub log_without_state : {S : Type 0} (place : List ℕ → ℕ) (m : ModuleValue
     → IsRunThat (IsLogThat (Follows {S = Unit {0}} (λ z enabled. place enabled) (λ z enabled. z) m tt (opening m)) log) m numbers steps
 log_without_state place m s log numbers steps r = run_weaker _ _ m numbers steps
     (λ list h. record { follows = follows_any place m s list (opening m) h.follows; stands_for = h.stands_for; single = h.single }) r
-
--- a run that was driven to its end
-pub logged_run : {S : Type 0} (answer : S → List ℕ → ℕ) (after : S → List ℕ → S) (m n : ModuleValue) (s t : S) (log : List Entry) (numbers : List ℤ)
-    (c : CoreValue) (steps : ℕ) → n ≡ m → IsChosen answer after m s log t → IsRunOf n log numbers c → all_ended c.world ≡ true → steps ≡ c.world.steps
-    → IsRunThat (IsLogThat (Follows answer after m s (opening m)) log) m numbers steps
-logged_run answer after m n s t log numbers c steps same chosen run over counted =
-    let run_of = subst (λ k. IsRunOf k log numbers c) same run in
-    record {
-      list = schedule_of log;
-      last = c.world;
-      follows = record { follows = chosen.follows; stands_for = refl; single = chosen.single };
-      leads = run_of.leads;
-      over = over;
-      numbers_are = run_of.prints;
-      steps_are = counted;
-    }
 
 -- ---- runs by workers
 

@@ -8,7 +8,7 @@ use Rattle.xk_serve.specs.declared.done.Done.{Done}
 use Rattle.xk_serve.specs.declared.fault.Fault.{Fault}
 use Rattle.xk_serve.specs.declared.fault.Fault.TheVariants as fault
 use Rattle.xk_serve.specs.Answer.{FailsBy, Succeeds, Task, done_reply, fault_reply}
-use Rattle.xk_serve.specs.Bytes.{AppendsBeginning}
+use Rattle.xk_log.specs.Writing.{AppendsBeginning}
 use Rattle.xk_serve.specs.Lines.{device_line, fault_line, memory_line, status_of}
 use Rattle.xk_serve.specs.Serving.{Answered, ErrBegins, IfKnown, IsBegun, IsRead, IsTold, IsWritten, OutBegins, Reads, Reports, StandsAgainst, Tells, read_of}
 
@@ -142,29 +142,6 @@ pub report_begins : (t : Task) (program known : Option (List ℕ)) (n : Reads) (
 report_begins t None known n f err_old err_new faults_old faults_new result h r = tt
 report_begins t (Some bytes) known n f err_old err_new faults_old faults_new result h r = if_known (read_of t known) _
     (λ logged e. report_begun t bytes logged f err_old err_new faults_old faults_new result (told_of t bytes logged known n f e h) r)
-
--- a source that failed is told of with status 5
-sources_stand : (t : Task) (program known : Option (List ℕ)) (n : Reads) (f : Fault) → StandsAgainst t program known n f → status_of f ≢ 5 → IsRead n
-sources_stand t program known n (fault.Text f) h not5 = h.0
-sources_stand t program known n (fault.Front f) h not5 = h.0
-sources_stand t program known n (fault.Refused r) h not5 = h.0
-sources_stand t program known n (fault.Grammar line) h not5 = h.0
-sources_stand t program known n fault.Truncated h not5 = h.0
-sources_stand t program known n (fault.NotEnabled i) h not5 = h.0
-sources_stand t program known n fault.NotEnded h not5 = h.0
-sources_stand t program known n fault.OutOfMemory h not5 = h.0
-sources_stand t program known n fault.Device h not5 = absurd (not5 refl)
-
-sources_stand_else : (t : Task) (program known : Option (List ℕ)) (n : Reads) (f : Fault) → StandsAgainst t program known n f → f ≢ fault.Device → IsRead n
-sources_stand_else t program known n (fault.Text f) h other = h.0
-sources_stand_else t program known n (fault.Front f) h other = h.0
-sources_stand_else t program known n (fault.Refused r) h other = h.0
-sources_stand_else t program known n (fault.Grammar line) h other = h.0
-sources_stand_else t program known n fault.Truncated h other = h.0
-sources_stand_else t program known n (fault.NotEnabled i) h other = h.0
-sources_stand_else t program known n fault.NotEnded h other = h.0
-sources_stand_else t program known n fault.OutOfMemory h other = h.0
-sources_stand_else t program known n fault.Device h other = absurd (other refl)
 
 -- a device's fault was told
 pub device_reports : (f : Fault) (line : List ℕ) (err_old err_new : Option (List ℕ)) (faults_old faults_new result : ℕ)

@@ -1,4 +1,4 @@
--- What the program answers: which status and texts a job and the bytes of its file may have.
+-- What the program answers: which status and texts a job and the bytes of its file may have. This project's own.
 use Rattle.std.specs.Prelude.{◌≡◌, ◌≢◌, ℕ, ⊤, ◌⊎◌, ℤ, Bool, true, false, List, [], Option, Some, None, is_some, option_map, unwrap_or, string_bytes}
 use Rattle.serde_json.specs.Written.{compact_text}
 use Rattle.xk_types.specs.Code.{ModuleValue}
@@ -12,6 +12,7 @@ use Rattle.xk_words.specs.declared.job.Form.TheVariants as form
 use Rattle.xk_words.specs.declared.job.Job.{Job}
 use Rattle.xk_words.specs.declared.job.Order.TheVariants as order
 use Rattle.xk_words.specs.Line.{By, In, Way, way_value}
+use Rattle.xk_words.specs.Status.{status_done}
 use Rattle.xk_module.specs.ModuleText.{module_value}
 use Rattle.xk_bounds.specs.Refused.{Refuses}
 use Rattle.xk_bounds.specs.declared.refusal.Refusal.TheVariants as refusal
@@ -136,7 +137,7 @@ pub record Reply : Type 0 where
   pub log : List ℕ
 
 abbrev pub done_reply : Done → Reply
-done_reply d = record { status = 0; out = done_text d; err = []; log = done_log d }
+done_reply d = record { status = status_done; out = done_text d; err = []; log = done_log d }
 
 abbrev pub fault_reply : Fault → Reply
 fault_reply f = record { status = status_of f; out = []; err = fault_line f; log = [] }

@@ -1,6 +1,5 @@
--- What reading to the end and writing a text do to devices.
-use Rattle.std.specs.Prelude.{◌≡◌, ℕ, ◌+◌, List, Option, take}
-use Rattle.std.specs.Io.KnownBytes.{Appends}
+-- What reading to the end does to devices, and what is kept of a file. This project's own.
+use Rattle.std.specs.Prelude.{◌≡◌, ℕ, ◌+◌, List, take}
 use Rattle.xk_types.specs.Device.{Rose}
 use Rattle.xk_words.specs.declared.job.Form.{Form}
 use Rattle.xk_words.specs.declared.job.Form.TheVariants as form
@@ -13,10 +12,6 @@ abbrev pub FailsRead : ℕ → ℕ → Fault → Type 0
 FailsRead old new fault.OutOfMemory = new ≡ old
 FailsRead old new fault.Device = Rose old new
 FailsRead old new _ = ⊥
-
--- known bytes grow by a beginning of the text
-abbrev pub AppendsBeginning : Option (List ℕ) → Option (List ℕ) → List ℕ → Type 0
-AppendsBeginning old new text = (n : ℕ) × Appends old new (take n text)
 
 -- the bytes that are kept of a file: of a source text one more than it may have, at most
 abbrev pub kept : Form → List ℕ → List ℕ

@@ -1,4 +1,4 @@
--- What holds of a program that is accepted: of its text, and of the module that the text is compiled to.
+-- What holds of a program that is accepted: of its text, and of the module that the text is compiled to. This project's own.
 use Rattle.std.specs.Prelude.{ℕ, List}
 use Rattle.xk_types.specs.Code.{ModuleValue}
 use Rattle.xk_types.specs.World.{World, opening}

@@ -1,4 +1,5 @@
--- What stands against a job, of what the readers, the compiler or the verifier say. Want of memory is one fault, whoever met it.
+-- What stands against a job, of what the readers, the compiler or the verifier say. Want of memory is one fault, whoever met it. This
+-- project's own.
 use Rattle.xk_module.specs.declared.fault.ModuleFault.{ModuleFault}
 use Rattle.xk_module.specs.declared.fault.ModuleFault.TheVariants as text
 use Rattle.xk_tree.specs.declared.fault.FrontError.{FrontError}

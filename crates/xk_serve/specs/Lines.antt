@@ -1,10 +1,11 @@
--- The lines that the program prints. Each ends in a line feed.
+-- The lines that the program prints, each with a line feed at its end, and its statuses. This project's own.
 use Rattle.std.specs.Prelude.{ℕ, ℤ, List, [], ◌++◌, flat_map, codes, decimal, Option, Some, None, string_bytes}
 use Rattle.std.specs.Fmt.{signed_decimal}
 use Rattle.xk_types.specs.declared.rules.Rule.{Rule}
 use Rattle.xk_types.specs.declared.rules.Visit.{Visit}
 use Rattle.xk_types.specs.Names.{rule_number, rule_name, kind_name}
 use Rattle.xk_log.specs.LogText.{log_text}
+use Rattle.xk_words.specs.Status.{status_device, status_log, status_memory, status_program}
 use Rattle.xk_module.specs.Faults.{fault_label}
 use Rattle.xk_tree.specs.declared.fault.FrontFault.{FrontFault}
 use Rattle.xk_tree.specs.Fault.{front_number, front_name}
@@ -114,25 +115,25 @@ fault_line fault.NotEnded = line (codes "L5 NotEnded")
 fault_line fault.OutOfMemory = memory_line
 fault_line fault.Device = device_line
 
--- ---- statuses: 1 for a program that is refused, 3 for a log, 4 for want of memory, 5 for a device
+-- ---- statuses
 
 abbrev pub label_status : Option (List ℕ) → ℕ
-label_status (Some label) = 1
-label_status None = 4
+label_status (Some label) = status_program
+label_status None = status_memory
 
 abbrev pub refusal_status : Refusal → ℕ
-refusal_status (refusal.Shape f) = 1
-refusal_status (refusal.Kind f) = 1
-refusal_status (refusal.Bound f) = 1
-refusal_status refusal.OutOfMemory = 4
+refusal_status (refusal.Shape f) = status_program
+refusal_status (refusal.Kind f) = status_program
+refusal_status (refusal.Bound f) = status_program
+refusal_status refusal.OutOfMemory = status_memory
 
 abbrev pub status_of : Fault → ℕ
 status_of (fault.Text f) = label_status (fault_label f)
-status_of (fault.Front f) = 1
+status_of (fault.Front f) = status_program
 status_of (fault.Refused r) = refusal_status r
-status_of (fault.Grammar n) = 3
-status_of fault.Truncated = 3
-status_of (fault.NotEnabled n) = 3
-status_of fault.NotEnded = 3
-status_of fault.OutOfMemory = 4
-status_of fault.Device = 5
+status_of (fault.Grammar n) = status_log
+status_of fault.Truncated = status_log
+status_of (fault.NotEnabled n) = status_log
+status_of fault.NotEnded = status_log
+status_of fault.OutOfMemory = status_memory
+status_of fault.Device = status_device

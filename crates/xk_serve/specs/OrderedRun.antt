@@ -1,4 +1,5 @@
--- Runs of a module to its end, each step taken in an order, or by whom it may be.
+-- Runs of a module to its end, each step taken in an order, or by whom it may be. X10 leaves the order open (`xk_drive`, `Choosing.antt`);
+-- the orders are this project's own.
 use Rattle.std.specs.Prelude.{◌≡◌, ℕ, ℤ, ◌-◌, ◌≤◌, ⊤, Bool, true, false, All, List, ◌++◌, length, None}
 use Rattle.std.specs.Option.{option_to_list}
 use Rattle.xk_types.specs.declared.names.Entry.{Entry}

@@ -1,4 +1,4 @@
--- What program the bytes of FILE give: a module, or why there is none.
+-- What program the bytes of FILE give: a module, or why there is none. This project's own.
 use Rattle.std.specs.Prelude.{◌≡◌, ◌≢◌, ◌<◌, ◌≤◌, ◌⊎◌, ℕ, ⊤, List, length, IsUtf8}
 use Rattle.std.specs.Str.{IsValidUpTo}
 use Rattle.xk_types.specs.Code.{ModuleValue, IsWithinLimits}

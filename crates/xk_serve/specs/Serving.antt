@@ -1,15 +1,16 @@
--- What the program does with its devices.
+-- What the program does with its devices. This project's own.
 use Rattle.std.specs.Prelude.{◌≡◌, ◌≢◌, ℕ, ◌⊎◌, List, [], Option, Some, IfSome, string_bytes, if◌then◌else◌}
 use Rattle.std.specs.Io.KnownBytes.{Appends}
 use Rattle.xk_types.specs.Accepted.{IsAccepted}
 use Rattle.xk_types.specs.Code.{ModuleValue}
 use Rattle.xk_types.specs.Device.{Rose}
+use Rattle.xk_words.specs.Status.{status_device, status_done, status_memory, status_words}
 use Rattle.xk_words.specs.declared.words_fault.WordsFault.{WordsFault}
 use Rattle.xk_words.specs.declared.words_fault.WordsFault.TheVariants as words
 use Rattle.xk_serve.specs.declared.done.Done.{Done}
 use Rattle.xk_serve.specs.declared.fault.Fault.{Fault}
 use Rattle.xk_serve.specs.declared.fault.Fault.TheVariants as fault
-use Rattle.xk_serve.specs.Bytes.{AppendsBeginning}
+use Rattle.xk_log.specs.Writing.{AppendsBeginning}
 use Rattle.xk_serve.specs.Answer.{Answers, FailsBy, IsNoRun, IsRefusal, Reply, Succeeds, Task, reads_log}
 use Rattle.xk_serve.specs.Lines.{done_log, done_text, excluded_line, fault_line, memory_line, status_of}
 
@@ -66,17 +67,17 @@ abbrev pub AgainstModule : ModuleValue → Option (List ℕ) → ℕ → ℕ →
 AgainstModule m known old new f = ((new ≡ old) × IsRefusal m f) ⊎ (IsAccepted m × AgainstRun m known old new f)
 
 -- The line was written, the sink didn't fail and the status is this one; or a beginning of the line was written, the sink
--- failed and the status is 5.
+-- failed and the status is that of a device.
 abbrev pub Tells : List ℕ → ℕ → Option (List ℕ) → Option (List ℕ) → ℕ → ℕ → ℕ → Type 0
 Tells line status old new faults_old faults_new result =
     ((result ≡ status) × Appends old new line × (faults_new ≡ faults_old))
-    ⊎ ((result ≡ 5) × AppendsBeginning old new line × Rose faults_old faults_new)
+    ⊎ ((result ≡ status_device) × AppendsBeginning old new line × Rose faults_old faults_new)
 
 -- the fault is told, or, where its line couldn't be made, want of memory
 abbrev pub Reports : Fault → Option (List ℕ) → Option (List ℕ) → ℕ → ℕ → ℕ → Type 0
 Reports f old new faults_old faults_new result =
     Tells (fault_line f) (status_of f) old new faults_old faults_new result
-    ⊎ ((f ≢ fault.Device) × Tells memory_line 4 old new faults_old faults_new result)
+    ⊎ ((f ≢ fault.Device) × Tells memory_line status_memory old new faults_old faults_new result)
 
 -- status and texts are an answer to the task on these bytes
 pub record Answered (t : Task) (bytes logged : List ℕ) (status : ℕ) (out_old out_new err_old err_new log_old log_new : Option (List ℕ)) : Type 0 where
@@ -103,7 +104,7 @@ ErrBegins t bytes logged old new = (f : Fault) × IsTold t bytes logged f × App
 -- How words that are no job are told, where the first predicate says what standard output got and with which status,
 -- and the second one the same of standard error: help goes to the one, all else to the other.
 abbrev pub TellsWords : WordsFault → (List ℕ → ℕ → Type 0) → (List ℕ → ℕ → Type 0) → Type 0
-TellsWords (words.Help text) On_out On_err = On_out (string_bytes text) 0
-TellsWords (words.NotUnderstood text) On_out On_err = On_err (string_bytes text) 2
-TellsWords words.OrderAndWorkers On_out On_err = On_err excluded_line 2
-TellsWords words.OutOfMemory On_out On_err = On_err memory_line 4
+TellsWords (words.Help text) On_out On_err = On_out (string_bytes text) status_done
+TellsWords (words.NotUnderstood text) On_out On_err = On_err (string_bytes text) status_words
+TellsWords words.OrderAndWorkers On_out On_err = On_err excluded_line status_words
+TellsWords words.OutOfMemory On_out On_err = On_err memory_line status_memory

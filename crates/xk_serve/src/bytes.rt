@@ -1,13 +1,11 @@
-//! Reading to the end, and writing a whole text.
+//! Reading to the end, or no further than is wanted.
 
-ghost use Rattle.std.specs.Prelude.{◌≡◌, take, IfOk, IfErr, IfSome, OnOk, OnErr};
-ghost use Rattle.std.specs.Io.KnownBytes.{Appends};
-ghost use Rattle.xk_types.specs.Device.{Rose};
-ghost use Rattle.xk_serve.specs.Bytes.{AppendsBeginning, FailsRead};
+ghost use Rattle.std.specs.Prelude.{◌≡◌, take, IfOk, IfErr, IfSome, OnOk};
+ghost use Rattle.xk_serve.specs.Bytes.{FailsRead};
 
 use crate::fault::Fault;
 use std::alloc::Global;
-use xk_types::{Failed, Sink, Source};
+use xk_types::Source;
 
 /// How many bytes one read asks for.
 const PIECE: usize = 4096;
@@ -55,18 +53,4 @@ pub(crate) fn read_front<R: Source>(
         found.extend_from_slice(&piece[..read])?;
     }
     Ok(found)
-}
-
-/// Writes the whole text, or, where a write fails, a beginning of it.
-pub(crate) fn write_all<W: Sink>(sink: &mut W, text: &[u8]) -> Result<(), Failed>
-    ensures all { OnOk result (Appends (W.contents sink.old) (W.contents sink.new) text.now) }
-    ensures beginning { AppendsBeginning (W.contents sink.old) (W.contents sink.new) text.now }
-    ensures no_fault { OnOk result (W.fault_count sink.new ≡ W.fault_count sink.old) }
-    ensures failed { OnErr result (Rose (W.fault_count sink.old) (W.fault_count sink.new)) }
-{
-    let mut written = 0;
-    while written < text.len() {
-        written += sink.write(&text[written..])?;
-    }
-    Ok(())
 }

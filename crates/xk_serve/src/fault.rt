@@ -12,6 +12,7 @@ use xk_module::ModuleFault;
 use xk_replay::ReplayFault;
 use xk_tree::{FrontError, FrontFault};
 use xk_types::{Failed, Module, Rule, Visit};
+use xk_words::status;
 
 /// What stands against a job.
 #[derive(Debug, Drop, Error)]
@@ -55,17 +56,19 @@ pub(crate) const DEVICE_LINE: &str = "x10clock: device\n";
 pub(crate) const EXCLUDED_LINE: &str = "x10clock: --workers and --order exclude each other\n";
 
 impl Fault {
-    /// The status that the program ends with: 1 for a program that is refused, 3 for a log, 4 for want of memory, 5 for a device.
+    /// The status that the program ends with.
     pub(crate) fn status(&self) -> u8
         ensures { result ≡ status_of self.now }
     {
         match self {
             Fault::Text(fault) => label_status(*fault),
-            Fault::Front(_) => 1,
+            Fault::Front(_) => status::PROGRAM,
             Fault::Refused(refusal) => refusal_status(refusal),
-            Fault::Grammar(_) | Fault::Truncated | Fault::NotEnabled(_) | Fault::NotEnded => 3,
-            Fault::OutOfMemory => 4,
-            Fault::Device => 5,
+            Fault::Grammar(_) | Fault::Truncated | Fault::NotEnabled(_) | Fault::NotEnded => {
+                status::LOG
+            }
+            Fault::OutOfMemory => status::MEMORY,
+            Fault::Device => status::DEVICE,
         }
     }
 
@@ -204,8 +207,8 @@ fn label_status(fault: ModuleFault) -> u8
     ensures { result ≡ label_status (fault_label fault) }
 {
     match fault.label() {
-        Some(_) => 1,
-        None => 4,
+        Some(_) => status::PROGRAM,
+        None => status::MEMORY,
     }
 }
 
@@ -214,8 +217,8 @@ fn refusal_status(refusal: &Refusal) -> u8
     ensures { result ≡ refusal_status refusal.now }
 {
     match refusal {
-        Refusal::Shape(_) | Refusal::Kind(_) | Refusal::Bound(_) => 1,
-        Refusal::OutOfMemory => 4,
+        Refusal::Shape(_) | Refusal::Kind(_) | Refusal::Bound(_) => status::PROGRAM,
+        Refusal::OutOfMemory => status::MEMORY,
     }
 }
 

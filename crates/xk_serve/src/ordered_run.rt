@@ -1,9 +1,7 @@
 //! The run of a module in an order.
 
-ghost use Rattle.std.specs.Prelude.{◌≡◌, [], ◌++◌, IfOk, OnOk};
-ghost use Rattle.std.specs.Option.{option_to_list};
+ghost use Rattle.std.specs.Prelude.{◌≡◌, [], IfOk, OnOk};
 ghost use Rattle.xk_types.specs.World.{opening};
-ghost use Rattle.xk_types.specs.Schedule.{number_printed};
 ghost use Rattle.xk_core.specs.Core.{opening_core};
 ghost use Rattle.xk_serve.specs.OrderedRun.{GoesOn, IsOrderedRun, IsRunBy};
 
@@ -11,8 +9,7 @@ use crate::logged_run::steps_of;
 use std::alloc::{AllocError, Global};
 use xk_bounds::Verified;
 use xk_core::Core;
-use xk_drive::{Chooser, Driver, First, Last, Round};
-use xk_types::Event;
+use xk_drive::{Chooser, Driver, First, Last, Round, keep_printed};
 use xk_words::Order;
 
 /// Runs the module to its end, in this order, and gives the numbers that it prints and how many steps it takes.
@@ -103,7 +100,7 @@ fn take_turn<C: Chooser>(
     let Some(turn) = driver.turns(chooser)? else {
         return Ok(false);
     };
-    keep(printed, turn.event)?;
+    keep_printed(printed, turn.event)?;
     Ok(true)
 }
 
@@ -119,30 +116,4 @@ fn driven<'m>(alloc: Global, core: Core<'m>) -> Result<Driver<'m>, AllocError>
     ensures { IfOk result (λ driver. driver ≡ core.entry) }
 {
     Driver::new(alloc, core).map_err(|_| AllocError)
-}
-
-/// Keeps the number that an event prints, if it does.
-fn keep(printed: &mut Vec<i64>, event: Event) -> Result<(), AllocError>
-    ensures { OnOk result
-        (printed.new.items ≡ printed.old.items ++ option_to_list (number_printed event)) }
-{
-    match event {
-        Event::Printed(number) => {
-            printed.push(number)?;
-            Ok(())
-        }
-        Event::Local
-        | Event::Made
-        | Event::Got
-        | Event::Put
-        | Event::Added
-        | Event::Opened
-        | Event::Closed
-        | Event::Spawned
-        | Event::Resumed
-        | Event::Dropped
-        | Event::Arrived
-        | Event::Passed
-        | Event::Ended => Ok(()),
-    }
 }

@@ -3,22 +3,24 @@
 ghost use Rattle.std.specs.Prelude.{◌≡◌, ◌≢◌, ◌⊎◌, false, [], IfOk, IfErr, IfSome, OnOk, OnErr, string_bytes};
 ghost use Rattle.std.specs.Io.KnownBytes.{Appends};
 ghost use Rattle.xk_types.specs.Device.{Rose};
+ghost use Rattle.xk_log.specs.Writing.{AppendsBeginning};
+ghost use Rattle.xk_words.specs.Status.{status_device, status_done, status_memory};
 ghost use Rattle.xk_serve.specs.Answer.{Succeeds, reads_log, task_of};
-ghost use Rattle.xk_serve.specs.Bytes.{AppendsBeginning, FailsRead, kept};
+ghost use Rattle.xk_serve.specs.Bytes.{FailsRead, kept};
 ghost use Rattle.xk_serve.specs.Lines.{device_line, done_log, done_text, memory_line};
 ghost use Rattle.xk_serve.specs.Serving.{Answered, ErrBegins, IfKnown, IsBegun, IsWritten, OutBegins, Reports, StandsAgainst, Tells, TellsWords};
 
 use crate::answering::answer;
-use crate::bytes::{read_all, read_front, write_all};
+use crate::bytes::{read_all, read_front};
 use crate::done::Done;
 use crate::fault::{DEVICE_LINE, EXCLUDED_LINE, Fault, MEMORY_LINE};
 use crate::programs::LONGEST_SOURCE;
 use std::alloc::Global;
 use std::sync::Wait;
 use std::thread::Threads;
-use xk_log::write_entries;
-use xk_types::{Failed, Sink, Source};
-use xk_words::{Form, Job, WordsFault};
+use xk_log::{Device, write_all, write_entries};
+use xk_types::{Sink, Source};
+use xk_words::{Form, Job, WordsFault, status};
 
 /// Reads the program, does the job, and writes what comes of it: its result to `out` and then the log of a run that is to have one
 /// to `log_out`, or one line to `err`. The answer is the exit status: 0 where the job is done, 1 where the program is refused, 3 where the log is, 4
@@ -36,7 +38,7 @@ pub fn serve<R: Threads + Wait + Sync, P: Source, L: Source, O: Sink, E: Sink, K
     log_out: &mut K,
 ) -> u8
     ensures answered { IfKnown (task_of job.now) (P.remaining program.old) (L.remaining log_in.old)
-        (λ bytes logged. result ≢ 4 → result ≢ 5
+        (λ bytes logged. result ≢ status_memory → result ≢ status_device
         → Answered (task_of job.now) bytes logged result
         (O.contents out.old) (O.contents out.new) (E.contents err.old) (E.contents err.new)
         (K.contents log_out.old) (K.contents log_out.new)) }
@@ -47,23 +49,27 @@ pub fn serve<R: Threads + Wait + Sync, P: Source, L: Source, O: Sink, E: Sink, K
         (O.contents out.old) (O.contents out.new)
         (K.contents log_out.old) (K.contents log_out.new)) }
     ensures err_begins { IfKnown (task_of job.now) (P.remaining program.old) (L.remaining log_in.old)
-        (λ bytes logged. ErrBegins (task_of job.now) bytes logged (E.contents err.old) (E.contents err.new)) }
-    ensures memory_out { result ≡ 4 → Appends (O.contents out.old) (O.contents out.new) [] }
-    ensures memory_log { result ≡ 4
+        (λ bytes logged. ErrBegins (task_of job.now) bytes logged
+        (E.contents err.old) (E.contents err.new)) }
+    ensures memory_out { result ≡ status_memory
+        → Appends (O.contents out.old) (O.contents out.new) [] }
+    ensures memory_log { result ≡ status_memory
         → Appends (K.contents log_out.old) (K.contents log_out.new) [] }
-    ensures memory_err { result ≡ 4
+    ensures memory_err { result ≡ status_memory
         → Appends (E.contents err.old) (E.contents err.new) memory_line }
-    ensures faults { result ≢ 5 → (P.fault_count program.new ≡ P.fault_count program.old)
+    ensures faults { result ≢ status_device
+        → (P.fault_count program.new ≡ P.fault_count program.old)
         × (L.fault_count log_in.new ≡ L.fault_count log_in.old)
         × (O.fault_count out.new ≡ O.fault_count out.old)
         × (E.fault_count err.new ≡ E.fault_count err.old)
         × (K.fault_count log_out.new ≡ K.fault_count log_out.old) }
-    ensures device { result ≡ 5 → Rose (P.fault_count program.old) (P.fault_count program.new)
+    ensures device { result ≡ status_device
+        → Rose (P.fault_count program.old) (P.fault_count program.new)
         ⊎ (Rose (L.fault_count log_in.old) (L.fault_count log_in.new)
         ⊎ (Rose (O.fault_count out.old) (O.fault_count out.new)
         ⊎ (Rose (E.fault_count err.old) (E.fault_count err.new)
         ⊎ Rose (K.fault_count log_out.old) (K.fault_count log_out.new)))) }
-    ensures device_err { result ≡ 5
+    ensures device_err { result ≡ status_device
         → Appends (E.contents err.old) (E.contents err.new) device_line
         ⊎ Rose (E.fault_count err.old) (E.fault_count err.new) }
 
@@ -130,23 +136,24 @@ fn print<O: Sink, E: Sink, K: Sink>(
     log_out: &mut K,
 ) -> u8
     requires { text.now ≡ done_text done.now }
-    ensures printed { ((result ≡ 0) × IsWritten done.now (O.contents out.old) (O.contents out.new)
+    ensures printed { ((result ≡ status_done)
+        × IsWritten done.now (O.contents out.old) (O.contents out.new)
         (K.contents log_out.old) (K.contents log_out.new)
         × Appends (E.contents err.old) (E.contents err.new) [])
-        ⊎ ((result ≡ 5) × (Rose (O.fault_count out.old) (O.fault_count out.new)
+        ⊎ ((result ≡ status_device) × (Rose (O.fault_count out.old) (O.fault_count out.new)
         ⊎ Rose (K.fault_count log_out.old) (K.fault_count log_out.new))) }
-    ensures told { result ≡ 5
+    ensures told { result ≡ status_device
         → Appends (E.contents err.old) (E.contents err.new) device_line
         ⊎ Rose (E.fault_count err.old) (E.fault_count err.new) }
     ensures begun { IsBegun done.now (O.contents out.old) (O.contents out.new)
         (K.contents log_out.old) (K.contents log_out.new) }
     ensures err_beginning { AppendsBeginning (E.contents err.old) (E.contents err.new) device_line }
-    ensures faults { result ≢ 5 → (O.fault_count out.new ≡ O.fault_count out.old)
+    ensures faults { result ≢ status_device → (O.fault_count out.new ≡ O.fault_count out.old)
         × (E.fault_count err.new ≡ E.fault_count err.old)
         × (K.fault_count log_out.new ≡ K.fault_count log_out.old) }
 {
     match write_result(done, text, out, log_out) {
-        Ok(()) => 0,
+        Ok(()) => status::DONE,
         Err(_) => report(alloc, &Fault::Device, err),
     }
 }
@@ -157,7 +164,7 @@ fn write_result<O: Sink, K: Sink>(
     text: &str,
     out: &mut O,
     log_out: &mut K,
-) -> Result<(), Failed>
+) -> Result<(), Device>
     requires { text.now ≡ done_text done.now }
     ensures all { OnOk result (IsWritten done.now (O.contents out.old) (O.contents out.new)
         (K.contents log_out.old) (K.contents log_out.new)) }
@@ -173,10 +180,11 @@ fn write_result<O: Sink, K: Sink>(
 }
 
 /// Writes the log of a run that is to have one, and nothing else.
-fn write_log<K: Sink>(done: &Done, log_out: &mut K) -> Result<(), Failed>
+fn write_log<K: Sink>(done: &Done, log_out: &mut K) -> Result<(), Device>
     ensures all { OnOk result
         (Appends (K.contents log_out.old) (K.contents log_out.new) (done_log done.now)) }
-    ensures beginning { AppendsBeginning (K.contents log_out.old) (K.contents log_out.new) (done_log done.now) }
+    ensures beginning { AppendsBeginning
+        (K.contents log_out.old) (K.contents log_out.new) (done_log done.now) }
     ensures no_fault { OnOk result (K.fault_count log_out.new ≡ K.fault_count log_out.old) }
     ensures failed { OnErr result
         (Rose (K.fault_count log_out.old) (K.fault_count log_out.new)) }
@@ -184,10 +192,7 @@ fn write_log<K: Sink>(done: &Done, log_out: &mut K) -> Result<(), Failed>
     let Some(log) = done.log() else {
         return Ok(());
     };
-    match write_entries(log, log_out) {
-        Ok(()) => Ok(()),
-        Err(_) => Err(Failed),
-    }
+    write_entries(log, log_out)
 }
 
 /// Writes the line of a fault, and gives the status: the fault's, or 4 where memory for the line ran out, or 5 where it can't
@@ -197,8 +202,8 @@ pub fn report<E: Sink>(alloc: Global, fault: &Fault, err: &mut E) -> u8
         (E.fault_count err.old) (E.fault_count err.new) result }
 {
     match fault {
-        Fault::OutOfMemory => tell(MEMORY_LINE, 4, err),
-        Fault::Device => tell(DEVICE_LINE, 5, err),
+        Fault::OutOfMemory => tell(MEMORY_LINE, status::MEMORY, err),
+        Fault::Device => tell(DEVICE_LINE, status::DEVICE, err),
         Fault::Text(_)
         | Fault::Front(_)
         | Fault::Refused(_)
@@ -207,7 +212,7 @@ pub fn report<E: Sink>(alloc: Global, fault: &Fault, err: &mut E) -> u8
         | Fault::NotEnabled(_)
         | Fault::NotEnded => match fault.line(alloc) {
             Ok(line) => tell(line.as_str(), fault.status(), err),
-            Err(_) => tell(MEMORY_LINE, 4, err),
+            Err(_) => tell(MEMORY_LINE, status::MEMORY, err),
         },
     }
 }
@@ -219,7 +224,7 @@ pub fn tell<E: Sink>(line: &str, status: u8, err: &mut E) -> u8
 {
     match write_all(err, line.as_bytes()) {
         Ok(()) => status,
-        Err(_) => 5,
+        Err(_) => status::DEVICE,
     }
 }
 
@@ -235,9 +240,9 @@ pub fn tell_words<O: Sink, E: Sink>(fault: &WordsFault, out: &mut O, err: &mut E
         (E.fault_count err.old) (E.fault_count err.new) result) }
 {
     match fault {
-        WordsFault::Help(text) => tell(text.as_str(), 0, out),
-        WordsFault::NotUnderstood(text) => tell(text.as_str(), 2, err),
-        WordsFault::OrderAndWorkers => tell(EXCLUDED_LINE, 2, err),
-        WordsFault::OutOfMemory => tell(MEMORY_LINE, 4, err),
+        WordsFault::Help(text) => tell(text.as_str(), status::DONE, out),
+        WordsFault::NotUnderstood(text) => tell(text.as_str(), status::WORDS, err),
+        WordsFault::OrderAndWorkers => tell(EXCLUDED_LINE, status::WORDS, err),
+        WordsFault::OutOfMemory => tell(MEMORY_LINE, status::MEMORY, err),
     }
 }

@@ -1,4 +1,4 @@
--- What a `call` or a `spawn` hands on.
+-- What a `call` or a `spawn` hands on. This project's own.
 use Rattle.std.specs.Prelude.{◌≡◌, ℕ, List, [], ◌∷◌, Option, Some, None, ◌⊎◌}
 use Rattle.xk_types.specs.declared.unit.ParamKind.{ParamKind}
 use Rattle.xk_types.specs.Code.{clock_arguments}

@@ -1,4 +1,4 @@
--- Units that have blocks.
+-- Units that have blocks. This project's own.
 use Rattle.std.specs.Prelude.{◌≡◌, ℕ, false}
 use Rattle.xk_types.specs.Code.{UnitValue, IsUnitWithinLimits}
 use Rattle.xk_types.specs.Shape.{breaks_target, breaks_block, breaks_slot, breaks_home}

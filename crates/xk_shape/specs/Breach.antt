@@ -1,4 +1,4 @@
--- Where one rule on the shape of code is broken.
+-- Where one rule on the shape of code is broken. This project's own.
 use Rattle.std.specs.Prelude.{◌≡◌, ℕ, ◌<◌, Bool, true, false, [], ◌∷◌, Option, Some, None}
 use Rattle.xk_types.specs.declared.rules.Rule.{Rule}
 use Rattle.xk_types.specs.Code.{UnitValue, ModuleValue}

@@ -1,4 +1,4 @@
--- What a fault of shape says of the module that has it.
+-- What a fault of shape says of the module that has it. This project's own.
 use Rattle.std.specs.Prelude.{◌≡◌, ℕ, ◌<◌, true, false, [], ◌∷◌}
 use Rattle.xk_types.specs.declared.rules.Rule.{Rule}
 use Rattle.xk_types.specs.Code.{ModuleValue}

@@ -1,4 +1,4 @@
--- How the loops and finishes of units lie.
+-- How the loops and finishes of units lie. This project's own.
 use Rattle.std.specs.Prelude.{◌≡◌, ℕ, List, length, slice_get, Some}
 use Rattle.xk_types.specs.Code.{UnitValue, ModuleValue}
 use Rattle.xk_types.specs.Shape.{spans}

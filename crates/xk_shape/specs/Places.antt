@@ -1,4 +1,4 @@
--- How the places of a unit lie to its loops and finishes.
+-- How the places of a unit lie to its loops and finishes. This project's own.
 use Rattle.std.specs.Prelude.{◌≡◌, ℕ, ◌<◌, ◌&&◌, ◌==◌, Bool, true, false, List, length, Option, Some, None, slice_get}
 use Rattle.std.specs.Int.{bit_at}
 use Rattle.std.specs.List.{list_any, last_or}

@@ -1,4 +1,4 @@
--- What a module is known to be whose shape was checked.
+-- What a module is known to be whose shape was checked. This project's own.
 use Rattle.xk_types.specs.Code.{ModuleValue, IsWithinLimits}
 use Rattle.xk_types.specs.Shape.{HasShape}
 

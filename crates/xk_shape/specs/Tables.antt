@@ -1,4 +1,4 @@
--- What the tables of a unit say: how each place lies, and where each slot is at home.
+-- What the tables of a unit say: how each place lies, and where each slot is at home. This project's own.
 use Rattle.std.specs.Prelude.{◌≡◌, ℕ, ◌<◌, Bool, List, length, slice_get, Option, Some, if◌then◌else◌}
 use Rattle.std.specs.List.{position}
 use Rattle.xk_types.specs.Code.{UnitValue}

@@ -1,6 +1,6 @@
 //! The rules on targets, loops and finishes.
 
-ghost use Rattle.std.specs.Prelude.{◌≡◌, ℕ, ◌<◌, ◌&&◌, true, false, length, slice_get, Some, MatchOption};
+ghost use Rattle.std.specs.Prelude.{◌≡◌, ℕ, ◌<◌, ◌&&◌, true, false, slice_get, Some, MatchOption};
 ghost use Rattle.std.specs.List.{list_any};
 ghost use Rattle.xk_types.specs.Code.{loops, is_within};
 ghost use Rattle.xk_types.specs.Shape.{spans, lies_ahead, aims_well, breaks_target, overlaps, is_crossing, breaks_block, slot_written, is_backward, writes_slot, breaks_loop};

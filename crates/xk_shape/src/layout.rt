@@ -1,7 +1,6 @@
 //! How the loops and finishes of units lie.
 
 ghost use Rattle.std.specs.Prelude.{◌≡◌, ◌≤◌, length, IfOk};
-ghost use Rattle.xk_types.specs.Code.{IsWithinLimits};
 ghost use Rattle.xk_shape.specs.Layout.{IsLayout, AreLayouts, IsNested};
 ghost use Rattle.xk_shape.specs.declared.layout.Layout.TheVariants.{Nested};
 

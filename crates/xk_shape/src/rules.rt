@@ -1,9 +1,9 @@
 //! The rules on the shape of code, tried one after another.
 
-ghost use Rattle.std.specs.Prelude.{◌≡◌, ℕ, ◌+◌, ◌<◌, ◌≤◌, ◌||◌, ◌&&◌, not, ◌==◌, nat_lt, false, true, length, slice_get, MatchResult, MatchOption};
+ghost use Rattle.std.specs.Prelude.{◌≡◌, ◌+◌, ◌<◌, ◌||◌, ◌&&◌, not, ◌==◌, nat_lt, false, true, length, slice_get, MatchResult, MatchOption};
 ghost use Rattle.std.specs.List.{list_all};
 ghost use Rattle.xk_types.specs.Code.{IsUnitWithinLimits, params_of, is_method, is_body};
-ghost use Rattle.xk_types.specs.Shape.{breaks_in, breaks_slot, breaks_cell, is_in_place, runs_amiss, instr_is, is_fitting, breaks_end, has_twice, gives_twice, breaks_same_clock, slots_named, is_ret, HasShape};
+ghost use Rattle.xk_types.specs.Shape.{breaks_in, breaks_slot, breaks_cell, is_in_place, runs_amiss, instr_is, is_fitting, breaks_end, has_twice, breaks_same_clock, slots_named, is_ret, HasShape};
 ghost use Rattle.xk_shape.specs.Arguments.{clocks};
 ghost use Rattle.xk_shape.specs.Fault.{Refuses};
 ghost use Rattle.xk_shape.specs.Layout.{IsLayout, AreLayouts};

@@ -1,6 +1,6 @@
 //! What is known of the places and slots of a unit.
 
-ghost use Rattle.std.specs.Prelude.{◌≡◌, ℕ, ◌<◌, ◌≤◌, not, false, length, slice_get, IfOk, MatchOption};
+ghost use Rattle.std.specs.Prelude.{◌≡◌, ◌<◌, ◌≤◌, not, false, length, slice_get, IfOk, MatchOption};
 ghost use Rattle.std.specs.List.{list_any, position};
 ghost use Rattle.std.specs.Option.{option_map_or};
 ghost use Rattle.xk_types.specs.Code.{UnitValue};

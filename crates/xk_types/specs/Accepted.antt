@@ -1,4 +1,4 @@
--- What the verifier accepts, and what holds of every schedule of an accepted module.
+-- What the verifier accepts, and what holds of every schedule of an accepted module. Both are this project's own.
 use Rattle.std.specs.Prelude.{◌≡◌, ℕ, ◌+◌, ◌≤◌, true, false, List, length, All, sum_by}
 use Rattle.xk_types.specs.declared.rules.Rule.{Rule}
 use Rattle.xk_types.specs.declared.rules.Visit.{Visit}

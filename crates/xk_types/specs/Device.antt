@@ -1,4 +1,4 @@
--- Devices: what a program reads from and writes to, and the count of their failures.
+-- Devices: what a program reads from and writes to, and the count of their failures. This project's own.
 use Rattle.std.specs.Prelude.{◌≡◌, ℕ, ◌+◌, ◌-◌, ◌^◌, ◌<◌, ◌≤◌, ◌==◌, min, List, [], length, Option, Some, None, option_and_then, Result, MatchResult, IfOk, if◌then◌else◌}
 use Rattle.xk_types.specs.declared.device.Failed.{Failed}
 use Rattle.xk_types.specs.declared.counted.Counted.{Counted}

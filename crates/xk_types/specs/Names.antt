@@ -1,4 +1,4 @@
--- The numbers and names of rules and kinds, as a refusal prints them.
+-- The numbers and names of rules and kinds, as a refusal prints them. This project's own.
 use Rattle.std.specs.Prelude.{ℕ, List, codes}
 use Rattle.xk_types.specs.declared.rules.Rule.{Rule}
 use Rattle.xk_types.specs.declared.rules.Rule.TheVariants as rule

@@ -1,4 +1,4 @@
--- Membership, and the order in which places are reported.
+-- Membership, and the order in which places are reported, which is this project's own.
 use Rattle.std.specs.Prelude.{◌≡◌, ℕ, ◌<◌, ◌⊎◌, List, [], ◌∷◌}
 
 -- x is an element of the list

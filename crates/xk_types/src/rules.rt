@@ -7,7 +7,7 @@ ghost use Rattle.xk_types.specs.Names.{rule_number, rule_name, kind_name};
 /// of the code, the next three about the kinds of slots, the last four about bounds.
 #[derive(Clone, Copy, Debug, PartialEq, Eq)]
 pub enum Rule {
-    /// V1: a target lies ahead and inside the code, or, for the end of a loop or block, behind.
+    /// V1: where jumps go, and where loops and finishes end, lies ahead and inside the code; where they begin lies behind.
     Target,
     /// V2: loops and blocks are paired, nest or lie apart, and no jump crosses their edge.
     Block,

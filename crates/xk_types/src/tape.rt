@@ -1,6 +1,6 @@
 //! A device over memory.
 
-ghost use Rattle.std.specs.Prelude.{◌≡◌, ◌+◌, ◌-◌, ◌↔◌, ◌++◌, min, take, drop, length, Some, None, Ok, Err, IsTrue, IsOk, IsErr, IfOk, OnOk, OnErr};
+ghost use Rattle.std.specs.Prelude.{◌≡◌, ◌↔◌, ◌++◌, min, take, drop, length, Some, None, Ok, Err, IsTrue, IsErr, IfOk, OnOk, OnErr};
 ghost use Rattle.std.specs.Io.{ReadsAtMost, WritesAtMost};
 ghost use Rattle.std.specs.Io.KnownBytes.{ReadConsumes, WriteAppends};
 ghost use Rattle.xk_types.specs.Device.{CountsFailure, TakesSome, after_failure, failed_tape, fresh_tape, one_call_later, one_less};

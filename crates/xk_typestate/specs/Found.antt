@@ -1,4 +1,4 @@
--- The stops that a search has found, and the walks that led to them.
+-- The stops that a search has found, and the walks that led to them. This project's own.
 use Rattle.std.specs.Prelude.{◌≡◌, ℕ, zero, suc, ◌<◌, List, Option, Some, None}
 use Rattle.xk_types.specs.declared.rules.Visit.{Visit}
 use Rattle.xk_types.specs.Code.{UnitValue, ModuleValue}

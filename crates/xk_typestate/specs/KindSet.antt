@@ -1,4 +1,4 @@
--- A set of kinds, as what it says of each.
+-- A set of kinds, as what it says of each. This project's own.
 use Rattle.std.specs.Prelude.{ℕ, ◌+◌, Bool, true, false, not, ◌==◌, bit_and, if◌then◌else◌}
 use Rattle.xk_types.specs.declared.rules.Kind.{Kind}
 use Rattle.xk_types.specs.declared.rules.Kind.TheVariants as kind

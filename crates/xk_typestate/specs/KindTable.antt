@@ -1,4 +1,4 @@
--- The kinds of slots at each instruction, exactly.
+-- The kinds of slots at each instruction, exactly. This project's own.
 use Rattle.std.specs.Prelude.{◌≡◌, ℕ, ◌<◌, ◌↔◌, List, [], length, slice_get, slice_index_or, Some, IsTrue}
 use Rattle.xk_types.specs.declared.rules.Visit.{Visit}
 use Rattle.xk_types.specs.Code.{UnitValue, ModuleValue}

@@ -1,4 +1,4 @@
--- Places of a module, and the kinds that slots may have there.
+-- Places of a module, and the kinds that slots may have there. This project's own.
 use Rattle.std.specs.Prelude.{◌≡◌, ℕ, ◌<◌, length, Some, slice_get}
 use Rattle.xk_types.specs.declared.rules.Kind.{Kind}
 use Rattle.xk_types.specs.declared.rules.Visit.{Visit}

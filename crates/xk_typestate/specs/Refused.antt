@@ -1,4 +1,4 @@
--- Walks that end where the table refuses to go on, and the least of them.
+-- Walks that end where the table refuses to go on, and the least of them. This project's own.
 use Rattle.std.specs.Prelude.{◌≡◌, ℕ, ◌<◌, ◌≤◌, List, [], ◌∷◌, length, Some, slice_get, IsTrue}
 use Rattle.xk_types.specs.declared.rules.Rule.{Rule}
 use Rattle.xk_types.specs.declared.rules.Kind.{Kind}

@@ -1,4 +1,4 @@
--- What the code answers to the table of kinds and to the edges.
+-- What the code answers to the table of kinds and to the edges. This project's own.
 use Rattle.std.specs.Prelude.{◌≡◌, ℕ, ◌≤◌, ◌↔◌, List, [], ◌∷◌, Result, Ok, Err, IsTrue}
 use Rattle.xk_types.specs.declared.rules.Rule.{Rule}
 use Rattle.xk_types.specs.declared.rules.Kind.{Kind}

@@ -1,4 +1,4 @@
--- A breadth-first search for all that walks of one slot come to, as far as it has come.
+-- A breadth-first search for all that walks of one slot come to, as far as it has come. This project's own.
 use Rattle.std.specs.Prelude.{◌≡◌, ℕ, ◌+◌, ◌*◌, ◌<◌, ◌≤◌, Bool, true, false, List, [], ◌∷◌, ◌++◌, length, Option, Some, None, slice_get, slice_index_or, slice_set, IsTrue, sum_by, ◌⊎◌, if◌then◌else◌}
 use Rattle.xk_types.specs.declared.instr.Instr.{Instr}
 use Rattle.xk_types.specs.declared.rules.Kind.{Kind}

@@ -1,6 +1,6 @@
 //! Sets of kinds.
 
-ghost use Rattle.std.specs.Prelude.{◌≡◌, ◌↔◌, ◌⊎◌, ◌≢◌, IsTrue};
+ghost use Rattle.std.specs.Prelude.{◌≡◌, ◌↔◌, ◌⊎◌, IsTrue};
 ghost use Rattle.xk_types.specs.declared.rules.Kind.{Kind};
 ghost use Rattle.xk_typestate.specs.KindSet.{kinds_have, kinds_with, no_kinds, kind_bit};
 

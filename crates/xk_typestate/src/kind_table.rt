@@ -1,6 +1,6 @@
 //! The kinds of slots at each instruction.
 
-ghost use Rattle.std.specs.Prelude.{◌≡◌, ℕ, ◌<◌, ◌≤◌, [], length, IfOk, slice_index_or};
+ghost use Rattle.std.specs.Prelude.{◌≡◌, ◌<◌, ◌≤◌, [], length, IfOk, slice_index_or};
 ghost use Rattle.xk_types.specs.Code.{IsUnitWithinLimits};
 ghost use Rattle.xk_typestate.specs.KindSet.{no_kinds};
 ghost use Rattle.xk_typestate.specs.Search.{IsClosed};

@@ -1,11 +1,11 @@
 //! All that walks of one slot come to, found breadth-first.
 
-ghost use Rattle.std.specs.Prelude.{◌≡◌, ℕ, ◌+◌, ◌<◌, ◌≤◌, length, IsTrue, IfOk, replicate, []};
+ghost use Rattle.std.specs.Prelude.{◌≡◌, ℕ, ◌+◌, ◌<◌, ◌≤◌, length, IfOk, replicate, []};
 ghost use Rattle.xk_types.specs.Code.{UnitValue, ModuleValue};
 ghost use Rattle.xk_types.specs.Order.{Has};
-ghost use Rattle.xk_typestate.specs.KindSet.{kinds_have, no_kinds};
+ghost use Rattle.xk_typestate.specs.KindSet.{no_kinds};
 ghost use Rattle.xk_typestate.specs.Rows.{places};
-ghost use Rattle.xk_typestate.specs.Search.{IsClosed, IsFound, IsSearched, IsComplete, IsPut, Extends, IsLatest, HasPut, CanCome};
+ghost use Rattle.xk_typestate.specs.Search.{IsClosed, IsSearched, IsComplete, IsPut, Extends, IsLatest, HasPut, CanCome};
 
 use crate::kind_set::{KINDS, KindSet};
 use crate::rows::{Successors, kinds_at_entry, kinds_left, successors_of};

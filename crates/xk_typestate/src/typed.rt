@@ -1,6 +1,6 @@
 //! Modules whose slots are used as what they hold.
 
-ghost use Rattle.std.specs.Prelude.{◌≡◌, ◌↔◌, ℕ, IsTrue, IfOk, IfErr, MatchResult, Some, slice_get};
+ghost use Rattle.std.specs.Prelude.{◌≡◌, ◌↔◌, IsTrue, IfOk, IfErr, MatchResult, Some};
 ghost use Rattle.xk_types.specs.declared.rules.Kind.{Kind};
 ghost use Rattle.xk_types.specs.Code.{IsWithinLimits};
 ghost use Rattle.xk_types.specs.Shape.{HasShape};
@@ -10,7 +10,6 @@ ghost use Rattle.xk_typestate.specs.Place.{visit, HasPlace, IsVisitedIn};
 ghost use Rattle.xk_typestate.specs.Refused.{IsNeverRefused, IsNeverRefusedIn, FailsModule, FailsUnit};
 ghost use Rattle.xk_typestate.specs.Search.{IsClosed};
 ghost use Rattle.xk_typestate.specs.KindTable.{IsKindTable, IsTyped};
-ghost use Rattle.xk_typestate.specs.declared.refusal.KindError.TheVariants as kind_error;
 
 use crate::kind_set::KindSet;
 use crate::kind_table::KindTable;

@@ -1,5 +1,5 @@
 -- Lists that are taken out one after the other.
-use Rattle.std.proofs.Common.{◌≡◌, ◌∙◌, ℕ, ◌+◌, ◌<◌, ◌≤◌, List, [], ◌∷◌, ◌++◌, length, get_or, drop, slice_set, refl, sym, ap, subst, arith, length-append, append_assoc, add-one, drop-cons}
+use Rattle.std.proofs.Common.{◌≡◌, ◌∙◌, ℕ, ◌+◌, ◌<◌, ◌≤◌, List, [], ◌∷◌, ◌++◌, length, get_or, drop, slice_set, sym, ap, subst, arith, length-append, append_assoc, add-one, drop-cons}
 use Rattle.std.proofs.lemmas.List.{length-set}
 use Rattle.xk_waiting.specs.Chains.{AreApart}
 use Rattle.xk_waiting.specs.Waiting.{times, waiters, taken, left}
@@ -34,9 +34,6 @@ pub record IsTaking (before : List ℕ) (lists : List (List ℕ)) (clocks rest s
   pub shown_is : shown ++ taken now rest ≡ before ++ taken lists clocks
   pub lists_are : left now rest ≡ left lists clocks
   pub same : length now ≡ length lists
-
-pub taking_begins : (before : List ℕ) (lists : List (List ℕ)) (clocks : List ℕ) → IsTaking before lists clocks clocks before lists
-taking_begins before lists clocks = record { shown_is = refl; lists_are = refl; same = refl }
 
 pub taking_goes_on : (before : List ℕ) (lists : List (List ℕ)) (clocks rest shown : List ℕ) (now : List (List ℕ)) (c : ℕ) → IsTaking before lists clocks (c ∷ rest) shown now
     → IsTaking before lists clocks rest (shown ++ waiters now c) (slice_set now c [])

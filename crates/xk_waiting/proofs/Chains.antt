@@ -1,5 +1,5 @@
 -- Chains.
-use Rattle.std.proofs.Common.{◌≡◌, ℕ, zero, suc, ◌<◌, ◌≤◌, List, [], ◌∷◌, length, slice_set, Option, Some, None, inl, inr, refl, sym, ap, subst, arith}
+use Rattle.std.proofs.Common.{◌≡◌, ℕ, zero, suc, ◌<◌, ◌≤◌, List, [], ◌∷◌, length, slice_set, Option, None, inl, inr, refl, sym, ap, subst, arith}
 use Rattle.std.proofs.lemmas.Bool.{cases_eq}
 use Rattle.std.proofs.lemmas.List.{get_or-set_other, length-set}
 use Rattle.xk_waiting.specs.Chains.{at, chain, IsChain}
@@ -38,9 +38,3 @@ chain_within next start (b ∷ acts) h a some = elim (cases_eq b a) [
   | inl e ↦ omega (arith, h.1, e)
   | inr ne ↦ chain_within next (at next b) acts h.2 a (omega (arith, some, other_times a b acts ne))
 ]
-
--- no more are found than steps are allowed
-pub chain_short : (next : List (Option ℕ)) (n : ℕ) (start : Option ℕ) → length (chain next n start) ≤ n
-chain_short next n None = omega arith
-chain_short next zero (Some a) = omega arith
-chain_short next (suc n) (Some a) = let later = chain_short next n (at next a) in omega arith

@@ -1,4 +1,4 @@
--- Lists of activities as chains: the first of each list, and the next of each activity.
+-- Lists of activities as chains: the first of each list, and the next of each activity. This project's own.
 use Rattle.std.specs.Prelude.{◌≡◌, ℕ, zero, suc, ◌+◌, ◌<◌, ◌≤◌, List, [], ◌∷◌, length, map, Option, Some, None, slice_index_or}
 use Rattle.xk_waiting.specs.Waiting.{times, times_in_all, waiters}
 

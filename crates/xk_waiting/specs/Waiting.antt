@@ -1,4 +1,4 @@
--- Lists of activities by clock: who waits for it.
+-- Lists of activities by clock: who waits for it. That such lists are kept is this project's own.
 use Rattle.std.specs.Prelude.{ℕ, ◌+◌, ◌==◌, if◌then◌else◌, List, [], ◌∷◌, ◌++◌, slice_index_or, slice_set}
 
 -- how often an activity stands in a list

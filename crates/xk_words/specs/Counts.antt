@@ -1,6 +1,10 @@
--- How many workers there may be.
+-- How many workers there may be. This project's own.
 use Rattle.std.specs.Prelude.{ℕ, ◌&&◌, nat_le, Option, Some, None, if◌then◌else◌}
 
--- a number of workers is one from 1 to 64
+-- the most worker threads
+abbrev pub most_workers : ℕ
+most_workers = 64
+
+-- a number of workers is one from 1 to the most
 abbrev pub count_within : ℕ → Option ℕ
-count_within n = if nat_le 1 n && nat_le n 64 then Some n else None
+count_within n = if nat_le 1 n && nat_le n most_workers then Some n else None

@@ -1,4 +1,4 @@
--- The program's command line in the terms of `clap`, and what its words ask for.
+-- The program's command line in the terms of `clap`, and what its words ask for. This project's own.
 use Rattle.std.specs.Prelude.{ℕ, ◌≡◌, ◌≢◌, ◌⊎◌, ⊤, ◌&&◌, nat_lt, Bool, true, false, List, [], ◌∷◌, length, map, Option, Some, None, is_some, option_and_then, option_map, codes, if◌then◌else◌}
 use Rattle.std.specs.Char.{is_digit}
 use Rattle.std.specs.List.{list_all}
@@ -13,7 +13,8 @@ use Rattle.clap.specs.declared.builder.action.ArgAction.TheVariants as action
 use Rattle.clap.specs.declared.builder.value_parser.ValueParser.TheVariants as parser
 use Rattle.clap.specs.declared.error.kind.ErrorKind.{ErrorKind}
 use Rattle.clap.specs.declared.error.kind.ErrorKind.TheVariants as kind
-use Rattle.xk_words.specs.Counts.{count_within}
+use Rattle.xk_words.specs.Counts.{count_within, most_workers}
+use Rattle.xk_words.specs.Status.{status_done, status_memory, status_words}
 use Rattle.xk_words.specs.declared.job.Command.{Command}
 use Rattle.xk_words.specs.declared.job.Command.TheVariants as command
 use Rattle.xk_words.specs.declared.job.Drive.{Drive}
@@ -78,7 +79,7 @@ by_order names = with_rule (on_either (codes "run")) (order_option names)
 
 -- `--workers N`, which takes a whole number from 1 to 64
 abbrev pub workers_option : Rule
-workers_option = record (option (codes "N") (codes "workers")) { parser = Some (parser.Unsigned 1 64) }
+workers_option = record (option (codes "N") (codes "workers")) { parser = Some (parser.Unsigned 1 most_workers) }
 
 -- the same, whose steps may be taken by workers
 abbrev pub by_workers : Names → App
@@ -252,7 +253,7 @@ IsRefused kinds asked both fault.OutOfMemory = ⊤
 
 -- the status that the program ends with
 abbrev pub status_of : WordsFault → ℕ
-status_of (fault.Help text) = 0
-status_of (fault.NotUnderstood text) = 2
-status_of fault.OrderAndWorkers = 2
-status_of fault.OutOfMemory = 4
+status_of (fault.Help text) = status_done
+status_of (fault.NotUnderstood text) = status_words
+status_of fault.OrderAndWorkers = status_words
+status_of fault.OutOfMemory = status_memory

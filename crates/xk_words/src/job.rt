@@ -1,7 +1,7 @@
 //! What the words ask for.
 
 ghost use Rattle.std.specs.Prelude.{◌≡◌, ◌≤◌, option_map};
-ghost use Rattle.xk_words.specs.Counts.{count_within};
+ghost use Rattle.xk_words.specs.Counts.{count_within, most_workers};
 
 /// What is to be done with FILE.
 #[derive(Clone, Copy, Debug, PartialEq, Eq)]
@@ -58,12 +58,15 @@ pub enum Order {
     Round,
 }
 
+/// The most worker threads.
+pub const MOST_WORKERS: u32 = 64;
+
 /// A number of worker threads, from 1 to 64.
 #[derive(Clone, Copy, Debug, PartialEq, Eq)]
 pub struct Workers {
     count: u32,
     ghost some: { 1 ≤ count },
-    ghost few: { count ≤ 64 },
+    ghost few: { count ≤ most_workers },
 }
 
 impl Workers {
@@ -71,7 +74,7 @@ impl Workers {
     pub fn new(count: u32) -> Option<Workers>
         ensures { option_map (λ w. w.count) result ≡ count_within count }
     {
-        if count < 1 || 64 < count {
+        if count < 1 || MOST_WORKERS < count {
             return None;
         }
         Some(Workers { count })
@@ -81,7 +84,7 @@ impl Workers {
     pub fn count(self) -> u32
         ensures same { result ≡ self.count }
         ensures some { 1 ≤ result }
-        ensures few { result ≤ 64 }
+        ensures few { result ≤ most_workers }
     {
         self.count
     }

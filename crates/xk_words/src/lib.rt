@@ -3,8 +3,9 @@
 
 mod job;
 mod line;
+pub mod status;
 mod words_fault;
 
-pub use job::{Command, Drive, Form, Job, Order, Workers};
+pub use job::{Command, Drive, Form, Job, MOST_WORKERS, Order, Workers};
 pub use line::read_job;
 pub use words_fault::WordsFault;

@@ -4,7 +4,7 @@ ghost use Rattle.std.specs.Prelude.{◌≡◌, [], false, Some, None, IfOk, OnOk
 ghost use Rattle.clap.specs.Words.{app_of, first_of, found_of, kind_of, rows_of, rule_of, subcommand_rows_of, with_subcommand};
 ghost use Rattle.xk_words.specs.Line.{FitsKind, HasNoGlobals, IsRefused, WithOrders, asked_by, asked_in, asked_value, by_order, by_workers, command_by, command_line, drive_in, excludes_by, excludes_in, faults_in, form_in, form_named, is_both, job_of, log_option, module_flag, on_either, on_file, on_log, option, order_in, order_named, order_option, place, program, run_by, run_line, task_value, texts, way_value, workers_in, workers_named, workers_option};
 
-use crate::job::{Command, Drive, Form, Job, Order, Workers};
+use crate::job::{Command, Drive, Form, Job, MOST_WORKERS, Order, Workers};
 use crate::words_fault::WordsFault;
 use clap::builder::ValueParser;
 use clap::error::ErrorKind;
@@ -171,7 +171,7 @@ fn workers_option<'a>(alloc: Global) -> Arg<'a>
         "workers",
         "Run by so many worker threads, 1 to 64: whoever comes first takes the next step",
     );
-    workers.value_parser(ValueParser::unsigned(1, 64))
+    workers.value_parser(ValueParser::unsigned(1, u64::from(MOST_WORKERS)))
 }
 
 /// `--order ORDER`.

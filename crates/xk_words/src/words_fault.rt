@@ -2,6 +2,7 @@
 
 ghost use Rattle.std.specs.Prelude.{◌≡◌};
 
+use crate::status;
 use std::alloc::AllocError;
 use thiserror::Error;
 
@@ -25,14 +26,14 @@ pub enum WordsFault {
 impl WordsFault {
     ghost use Rattle.xk_words.specs.Line.{status_of};
 
-    /// The status that the program ends with: 0 for help, 2 for words that aren't understood or exclude each other, 4 for want of memory.
+    /// The status that the program ends with.
     pub fn status(&self) -> u8
         ensures { result ≡ status_of self.now }
     {
         match self {
-            WordsFault::Help(_) => 0,
-            WordsFault::NotUnderstood(_) | WordsFault::OrderAndWorkers => 2,
-            WordsFault::OutOfMemory => 4,
+            WordsFault::Help(_) => status::DONE,
+            WordsFault::NotUnderstood(_) | WordsFault::OrderAndWorkers => status::WORDS,
+            WordsFault::OutOfMemory => status::MEMORY,
         }
     }
 }

@@ -18,7 +18,8 @@ use Rattle.xk_drive.specs.Choosing.{enabled_in}
 use Rattle.xk_drive.proofs.Untouched.{grows_by_start, keeps_width}
 use Rattle.xk_workers.specs.declared.shared.Take.TheVariants as take
 use Rattle.xk_workers.specs.Claims.{is_claimed, claims_after, AreClaims}
-use Rattle.xk_workers.specs.Shared.{SharedValue, AreAllClaimed, Tells}
+use Rattle.xk_workers.specs.Shared.{SharedValue, AreAllClaimed, Tells, given_up, told_to_stop}
+use Rattle.xk_workers.proofs.Handing.{put_back}
 use Rattle.xk_workers.proofs.Local.{stays_local}
 
 -- ---- claims after a step
@@ -118,3 +119,10 @@ all_claimed s first is all = record {
 pub tells_idle : (s : SharedValue) (first : ℕ) → s.stopped ≡ false → Some first ≡ slice_get (enabled_in s.run.core.module_run s.run.core.world) 0
     → All (λ a. is_claimed s.claims a ≡ true) (enabled_in s.run.core.module_run s.run.core.world) → Tells s take.Idle s
 tells_idle s first on is all = (on, all_claimed s first is all, refl)
+
+-- ---- memory that is refused for frames
+
+-- who was claimed, and is given up at once: the workers are told to stop, and nothing else has changed
+pub given_back : (s told t : SharedValue) (a : ℕ) → Tells s (take.Work a) told → t ≡ given_up a told → t ≡ told_to_stop s
+given_back s told t a (goes, (free, (local, put))) gone =
+    gone ∙ ap (given_up a) put ∙ ap (λ (l : List Bool). told_to_stop (record s { claims = l })) (put_back s.claims a free.unclaimed)

@@ -1,4 +1,4 @@
--- Claims: whose local steps somebody computes, so that nobody else takes a step of it.
+-- Claims: whose local steps somebody computes, so that nobody else takes a step of it. This project's own.
 use Rattle.std.specs.Prelude.{◌≡◌, ℕ, Bool, true, false, List, [], ◌∷◌, ◌++◌, length, slice_index_or}
 use Rattle.xk_types.specs.declared.names.Event.{Event}
 use Rattle.xk_types.specs.declared.names.Event.TheVariants as event

@@ -1,4 +1,4 @@
--- A run with its log, before its first step and behind it.
+-- A run with its log, before its first step and behind it. This project's own.
 use Rattle.std.specs.Prelude.{◌≡◌, ℤ, List, []}
 use Rattle.xk_types.specs.declared.names.Entry.{Entry}
 use Rattle.xk_types.specs.World.{opening}

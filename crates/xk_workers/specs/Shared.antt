@@ -1,4 +1,4 @@
--- The machine that workers share, as each sees it who has the lock.
+-- The machine that workers share, as each sees it who has the lock. This project's own.
 use Rattle.std.specs.Prelude.{◌≡◌, ℕ, Bool, true, false, List, Result, Ok, Err, slice_set}
 use Rattle.xk_types.specs.Schedule.{is_enabled, all_ended}
 use Rattle.xk_types.specs.Code.{ModuleValue}
@@ -40,9 +40,13 @@ with_claim a s = record s { claims = slice_set s.claims a true }
 abbrev pub without_claim : ℕ → SharedValue → SharedValue
 without_claim a s = record s { claims = slice_set s.claims a false }
 
+-- the workers are told to stop
+abbrev pub told_to_stop : SharedValue → SharedValue
+told_to_stop s = record s { stopped = true }
+
 -- activity a is given up: it isn't claimed any more, and the workers are told to stop
 abbrev pub given_up : ℕ → SharedValue → SharedValue
-given_up a s = record (without_claim a s) { stopped = true }
+given_up a s = told_to_stop (without_claim a s)
 
 -- What a worker is told to do, before s and then t: the local steps of an activity, which it has claimed now; one step of an activity; to wait
 -- until others have done something; or nothing more, since all have ended, or since the workers were told to stop.

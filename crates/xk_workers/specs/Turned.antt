@@ -1,4 +1,4 @@
--- What comes of a worker's turn under the lock, and of local steps that it hands in.
+-- What comes of a worker's turn under the lock, and of local steps that it hands in. This project's own.
 use Rattle.std.specs.Prelude.{◌≡◌, ◌⊎◌, ℕ, true, ◌++◌, ◌∷◌, [], Result, Ok, Err}
 use Rattle.xk_types.specs.declared.names.Event.{Event}
 use Rattle.xk_types.specs.Schedule.{all_ended}
@@ -11,7 +11,8 @@ use Rattle.xk_core.specs.Core.{StepsTo, is_next_local}
 use Rattle.xk_core.specs.Handed.{Accepts}
 use Rattle.xk_workers.specs.declared.workers.Turned.{Turned}
 use Rattle.xk_workers.specs.declared.workers.Turned.TheVariants as turned
-use Rattle.xk_workers.specs.Shared.{SharedValue, IsFree, AreAllClaimed, HasTaken, given_up, with_claim, without_claim}
+use Rattle.xk_workers.specs.Claims.{claims_after}
+use Rattle.xk_workers.specs.Shared.{SharedValue, IsFree, AreAllClaimed, HasTaken, given_up, told_to_stop, with_claim, without_claim}
 
 -- local steps can be computed from the frames that it took with it, one at least
 abbrev pub CanCompute : Turned → Type 0
@@ -20,21 +21,24 @@ CanCompute turned.Acted = Unit {0}
 CanCompute turned.Waits = Unit {0}
 CanCompute turned.Over = Unit {0}
 
--- one step of a free activity was taken, with its entry in the log
+-- one step of a free activity was taken, with its entry in the log, and whom it started nobody has claimed
 pub record HasActed (s t : SharedValue) : Type 0 where
   pub act : ℕ
   pub event : Event
   pub free : IsFree s act
   pub stepped : StepsTo s.run.core act t.run.core event
   pub logged : t.run.log ≡ s.run.log ++ one_step_of act ∷ []
+  pub same_module : t.run.core.module_run ≡ s.run.core.module_run
+  pub claims : t.claims ≡ claims_after event s.claims
+  pub goes_on : t.stopped ≡ s.stopped
 
 -- A worker's turn, before s and then t: it has claimed a free activity whose next step is local, and has its frames; or one step was taken, or
--- the workers are told to stop; or it waits, since everybody is claimed; or there is nothing more to do. Where it waits or is done, nothing has
--- changed.
+-- memory was refused, and the workers are told to stop; or it waits, since everybody is claimed; or there is nothing more to do. Where it stops
+-- nothing else has changed; where it waits or is done, nothing at all.
 abbrev pub Turns : SharedValue → Turned → SharedValue → Type 0
 Turns s (turned.Works a fs) t = IsFree s a × (is_next_local s.run.core a ≡ true)
     × (fs ≡ frames_in s.run.core.module_run (act_at s.run.core.world.activities a)) × (t ≡ with_claim a s)
-Turns s turned.Acted t = HasActed s t ⊎ (t.stopped ≡ true)
+Turns s turned.Acted t = HasActed s t ⊎ (t ≡ told_to_stop s)
 Turns s turned.Waits t = AreAllClaimed s × (t ≡ s)
 Turns s turned.Over t = ((s.stopped ≡ true) ⊎ (all_ended s.run.core.world ≡ true)) × (t ≡ s)
 

@@ -1,6 +1,6 @@
 //! What workers share: a run with its log, who is claimed, and whether to stop.
 
-ghost use Rattle.std.specs.Prelude.{◌≡◌, ◌+◌, ◌<◌, ◌∷◌, ◌++◌, [], true, false, IfOk, IfErr, IfSome, IfNone, OnOk, OnErr, All, Some, slice_get, length};
+ghost use Rattle.std.specs.Prelude.{◌≡◌, ◌<◌, ◌∷◌, ◌++◌, [], true, false, IfOk, IfErr, IfSome, IfNone, OnOk, OnErr, All, Some, slice_get, length};
 ghost use Rattle.std.specs.Bool.{Decides};
 ghost use Rattle.xk_types.specs.Schedule.{is_enabled, all_ended};
 ghost use Rattle.xk_types.specs.Logs.{one_step_of};

@@ -4,6 +4,7 @@ ghost use Rattle.std.specs.Prelude.{◌≡◌, ◌≤◌, true, false, IfOk, IfE
 ghost use Rattle.std.specs.Bool.{Decides};
 ghost use Rattle.xk_workers.specs.Shared.{IsSettled, GoesOn};
 ghost use Rattle.xk_workers.specs.Turned.{CanCompute, HandsIn, Turns};
+ghost use Rattle.xk_workers.specs.Workers.{most_workers};
 
 use crate::gate::Gate;
 use crate::shared::{CommitFault, Shared, Take};
@@ -42,6 +43,7 @@ pub enum Turned<'m> {
 }
 
 /// A worker's turn under the lock: it does what it is told, or takes the frames with it from which it is to compute local steps.
+#[tactic(auto, using(crate::proofs::Takes::given_back))]
 fn turn<'m>(shared: &mut Shared<'m>) -> Turned<'m>
     ensures can { CanCompute result }
     ensures turned { Turns shared.old result shared.new }
@@ -163,8 +165,8 @@ fn settle<'m>(alloc: Global, shared: Shared<'m>, aside: Core<'m>) -> Result<Ende
 }
 
 /// Runs a core, from before its first step, by 1 to 64 worker threads under one lock, the calling thread among them; where a thread can't
-/// be started there are fewer. More than 64 would only wait for the lock. Steps that others can see are taken under the lock; local ones are computed outside it by the gate,
-/// and handed in. Ok where all activities have ended, and Err where memory was refused. Whatever the workers do, the log in the answer
+/// be started there are fewer. More than 64 would only wait for the lock. Steps that others can see are taken under the lock; local ones
+/// are computed outside it by the gate, and handed in. Ok where all activities have ended, and Err where memory was refused. Whatever the workers do, the log in the answer
 /// stands for a legal schedule of the module that leads to the core in the answer, as the types of the answers keep.
 pub fn run_workers<'m, R: Threads + Wait + Sync, G: Gate + Sync>(
     rt: &R,
@@ -174,7 +176,7 @@ pub fn run_workers<'m, R: Threads + Wait + Sync, G: Gate + Sync>(
     gate: &G,
 ) -> Result<Ended<'m>, Partial<'m>>
     requires some { 1 ≤ workers }
-    requires few { workers ≤ 64 }
+    requires few { workers ≤ most_workers }
     requires fresh { start.world.steps ≡ 0 }
     ensures same_module { IfOk result (λ e. e.module.now ≡ start.entry.module_run) }
     ensures partial_same_module { IfErr result

@@ -32,7 +32,6 @@ use Rattle.xk_laws.proofs.Shape.Blocks.{block_opened, block_closed, block_end}
 use Rattle.xk_laws.proofs.Bound.Totals.{nesting_at, room_own}
 use Rattle.xk_types.specs.Bound.{room_of}
 use Rattle.xk_laws.proofs.Scopes.Invariant.{opened_in, opened_by, IsScoped}
-use Rattle.xk_laws.proofs.Scopes.Under.{awaited}
 
 -- ---- the second half of an `advance`
 

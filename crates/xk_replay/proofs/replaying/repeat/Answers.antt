@@ -25,7 +25,7 @@ pub loop-turn-preserved : goal.loop-turn-preserved
 loop-turn-preserved c =
     let there = goes_unseen c.args.core.now c.loop-turn.core c.run-unseen.new.self c.args.printed.now.items c.loop-turn.printed.items c.args.entry.act
     c.loop-turn.done c.run-unseen.result c.loop-turn.invariant.0 c.run-unseen.ensures.ran c.run-unseen.ensures.unseen c.run-unseen.ensures.same_module in (
-      rw c.in_ok-keep.ensures (goes_more c.args.core.now c.run-unseen.new.self c.step.new.self c.args.printed.now.items c.loop-turn.printed.items
+      rw c.in_ok-keep_printed.ensures (goes_more c.args.core.now c.run-unseen.new.self c.step.new.self c.args.printed.now.items c.loop-turn.printed.items
           c.args.entry.act (c.loop-turn.done + c.run-unseen.result) c.in_ok-event.event there c.in_ok-event.ensures.stepped c.step.ensures.same_module),
       c.step.ensures.same_module ∙ c.run-unseen.ensures.same_module ∙ c.loop-turn.invariant.1,
       (let a = c.loop-turn.invariant.2 in omega arith),

@@ -17,5 +17,5 @@ returns g c =
       stretch = gone.stretch;
       turn = gone.turn;
       within = subst (λ o. IfSome o (λ turn. after.world.steps ≤ steps_bound after.module_run)) c.in-Some.is c.in_ok-turn.ensures.bound;
-      kept = c.in_ok-keep.ensures;
+      kept = c.in_ok-keep_printed.ensures;
     }

@@ -1,7 +1,7 @@
-use Rattle.std.proofs.Common.{rules, ◌≡◌, ◌<◌, ◌≤◌, ◌∙◌, length, true, false, not, refl, sym, ap, subst, arith, ℕ, List, Ok, nat_cmp, insert}
+use Rattle.std.proofs.Common.{rules, ◌≡◌, ◌<◌, ◌∙◌, length, true, refl, sym, ap, subst, arith, ℕ, List, Ok, nat_cmp, insert}
 use Rattle.std.specs.List.Sorted.{IsBinarySearchResult}
 use Rattle.std.specs.Vec.{vec_capacity, vec_len}
-use Rattle.xk_members.specs.Members.{AreMembers, with_member, SetValue}
+use Rattle.xk_members.specs.Members.{with_member, SetValue}
 use Rattle.xk_members.proofs.Within.{missing}
 use Rattle.xk_members.proofs.Rising.{found_stays_in}
 use Rattle.xk_members.proofs.few.FewNumbers.insert.Goals as goal

@@ -1,7 +1,7 @@
-use Rattle.std.proofs.Common.{◌≡◌, ◌∙◌, false, refl, sym, subst, ℕ, List, Ok, Err, nat_cmp}
+use Rattle.std.proofs.Common.{◌≡◌, ◌∙◌, false, refl, subst, ℕ, List, Ok, Err, nat_cmp}
 use Rattle.std.specs.List.Sorted.{IsBinarySearchResult}
 use Rattle.std.specs.Vec.{vec_capacity}
-use Rattle.xk_members.specs.Members.{AreMembers, with_member, SetValue}
+use Rattle.xk_members.specs.Members.{with_member, SetValue}
 use Rattle.xk_members.proofs.Within.{are_members_without}
 use Rattle.xk_members.proofs.Rising.{found_taken_out, missing_stays_out}
 use Rattle.xk_members.proofs.few.FewNumbers.remove.Goals as goal
