@@ -6,7 +6,7 @@ ghost use Rattle.xk_types.specs.World.{opening};
 ghost use Rattle.xk_types.specs.Step.{Stepped, step, waits};
 ghost use Rattle.xk_types.specs.Schedule.{IsReached, is_enabled, all_ended};
 ghost use Rattle.xk_types.specs.Bound.{steps_bound};
-ghost use Rattle.xk_core.specs.Core.{is_running, Locally, next_instruction, next_of, governor, opening_core, StepsTo, WantsMemory, IsCore, IsLeastEnabled, is_about_to_start, is_quiet, advanced_now, is_held_back_by, is_registered_on, is_next_local, with_world, is_waiting};
+ghost use Rattle.xk_core.specs.Core.{is_running, Locally, next_instruction, next_of, governor, opening_core, StepsTo, WantsMemory, IsCore, IsLeastEnabled, is_quiet, advanced_now, is_held_back_by, is_registered_on, is_next_local, with_world, is_waiting};
 ghost use Rattle.xk_core.specs.Stretch.{RunsTo, AreLocal, IsUnseen, after_steps};
 ghost use Rattle.xk_core.specs.Handed.{Accepts};
 ghost use Rattle.xk_activity.specs.Activities.{act_at};
