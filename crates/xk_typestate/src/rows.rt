@@ -1,6 +1,6 @@
 //! The table of kinds, and where instructions lead: all that depends on which instructions there are.
 
-ghost use Rattle.std.specs.Prelude.{◌≡◌, ℕ, ◌↔◌, ◌<◌, [], ◌∷◌, IsTrue, MatchResult, Ok, Some, slice_get};
+ghost use Rattle.std.specs.Prelude.{◌≡◌, ℕ, ◌↔◌, ◌<◌, [], ◌∷◌, IsTrue, MatchResult, Ok, Some, slice_get, if◌then◌else◌};
 ghost use Rattle.xk_types.specs.declared.rules.Kind.{Kind};
 ghost use Rattle.xk_types.specs.declared.rules.Kind.TheVariants.{Number};
 ghost use Rattle.xk_types.specs.Order.{Has};
