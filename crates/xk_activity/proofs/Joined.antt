@@ -2,11 +2,10 @@
 use Rattle.std.specs.Option.{option_map_or, option_and_then}
 use Rattle.std.specs.Prelude.{slice_set, int_lt, ◌+ℤ◌, pos}
 use Rattle.std.specs.Int.{w64, int_wrapping_add, int_wrapping_sub, int_wrapping_mul}
-use Rattle.std.proofs.Common.{◌≡◌, ℕ, zero, suc, ℤ, Bool, true, false, cond, List, [], ◌∷◌, length, ◌+◌, refl, sym, subst, ◌∙◌, Option, Some, None, slice_get}
+use Rattle.std.proofs.Common.{◌≡◌, ℕ, zero, suc, ℤ, Bool, true, false, cond, List, [], ◌∷◌, length, ◌+◌, refl, sym, subst, Option, Some, None, slice_get}
 use Rattle.xk_types.specs.declared.names.Value.{Value}
 use Rattle.xk_types.specs.declared.names.Value.TheVariants as value
 use Rattle.xk_types.specs.declared.names.Status.TheVariants as status
-use Rattle.xk_types.specs.declared.names.Event.{Event}
 use Rattle.xk_types.specs.declared.names.Event.TheVariants as event
 use Rattle.xk_types.specs.declared.instr.Instr.{Instr}
 use Rattle.xk_types.specs.declared.instr.Instr.TheVariants as instr
@@ -16,7 +15,7 @@ use Rattle.xk_types.specs.Code.{UnitValue, ModuleValue, is_method, is_body, comp
 use Rattle.xk_types.specs.World.{Frame, Activity, Clock, World, instruction_at, standing_of}
 use Rattle.xk_types.specs.Step as world
 use Rattle.xk_activity.specs.Local.{Outcome, Beyond, Wrong, Stepped, Turn, FramesValue, in_frame, carried_on, local, local_at, code_of, spot_of, onward, number_in, clock_in, arguments_in, put_in, turning, turned, calling, called, returning}
-use Rattle.xk_activity.specs.Joined.{frames_in, with_frames, IsSeen, IsLocally, Agrees}
+use Rattle.xk_activity.specs.Joined.{frames_in, IsSeen, Agrees}
 
 -- ---- steps that others can see
 

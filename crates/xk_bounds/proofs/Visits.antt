@@ -1,5 +1,5 @@
 -- How often an instruction is carried out at most, from one place of a unit to the next: what is carried along the code is right.
-use Rattle.std.proofs.Common.{◌≡◌, ℕ, ℤ, zero, suc, ◌+◌, ◌*◌, ◌<◌, ◌≤◌, eqb, min, cond, nat_lt, nat_le, Bool, true, false, not, ◌&&◌, List, [], ◌∷◌, ◌++◌, length, map, filter, Option, Some, None, slice_get, slice_index, inl, inr, sym, refl, ap, ◌∙◌, subst, arith}
+use Rattle.std.proofs.Common.{◌≡◌, ℕ, ℤ, zero, suc, ◌+◌, ◌*◌, ◌<◌, ◌≤◌, eqb, min, cond, nat_lt, Bool, true, false, not, ◌&&◌, List, [], ◌∷◌, ◌++◌, length, map, filter, Option, Some, None, slice_get, slice_index, inl, inr, sym, refl, ap, ◌∙◌, subst, arith}
 use Rattle.std.specs.List.{list_any}
 use Rattle.std.specs.Option.{option_map_or}
 use Rattle.std.proofs.Math.Nat.{mul_comm, mul_left_comm}

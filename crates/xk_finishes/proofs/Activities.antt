@@ -8,7 +8,7 @@ use Rattle.xk_types.specs.Code.{ModuleValue}
 use Rattle.xk_types.specs.World.{Finish, Activity, is_ended}
 use Rattle.xk_types.specs.Step.{same_finish}
 use Rattle.xk_types.specs.Step as step
-use Rattle.xk_finishes.specs.Tree.{NodeValue, fresh_node, node_at, governing_of, node_entered, node_left, node_ended, changed_at, node_of, IsNodeOf, AreNodesOf}
+use Rattle.xk_finishes.specs.Tree.{NodeValue, fresh_node, node_at, governing_of, node_entered, node_left, node_ended, changed_at, IsNodeOf, AreNodesOf}
 use Rattle.xk_finishes.specs.Tree as tree
 
 -- neither is there, or both are, and the node tells of the activity

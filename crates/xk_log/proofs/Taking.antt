@@ -1,17 +1,15 @@
 -- Reading one line.
-use Rattle.std.proofs.Common.{◌≡◌, ℕ, ◌+◌, ◌^◌, ◌<◌, ◌≤◌, List, [], ◌∷◌, ◌++◌, length, get_or, decimal, Option, Some, None, IfSome, IfNone, ap, sym, ◌∙◌, arith, subst, inl, inr, append_assoc, append-nil, length-append, lit<}
-use Rattle.std.specs.List.{AllByRecursion}
-use Rattle.std.proofs.lemmas.Grind.{flat_map-append}
+use Rattle.std.proofs.Common.{◌≡◌, ℕ, ◌+◌, ◌^◌, ◌<◌, ◌≤◌, List, ◌∷◌, ◌++◌, length, get_or, decimal, Option, Some, None, IfSome, IfNone, ap, sym, ◌∙◌, arith, subst, inl, inr, lit<}
 use Rattle.std.proofs.lemmas.Fmt.{decimal_injective}
 use Rattle.xk_types.specs.declared.names.Entry.{Entry}
 use Rattle.xk_log.specs.declared.fault.LogFault.TheVariants as fault
 use Rattle.xk_log.specs.declared.progress.Stage.{Stage}
 use Rattle.xk_log.specs.declared.progress.Stage.TheVariants as stage
-use Rattle.xk_log.specs.LogText.{Lacks, blank, head_line, entry_line, end_line, ended, entry_lines, most_entries, FitsEntry, IsLog}
-use Rattle.xk_log.specs.Places.{Within, Behind, before, Fits}
+use Rattle.xk_log.specs.LogText.{Lacks, blank, entry_line, most_entries, FitsEntry}
+use Rattle.xk_log.specs.Places.{Within, Fits}
 use Rattle.xk_log.specs.Numbers.{value_from}
-use Rattle.xk_log.specs.Reading.{place_of, IsReadyAt, Refuses}
-use Rattle.xk_log.proofs.Lines.{lacks_none, split_unique}
+use Rattle.xk_log.specs.Reading.{place_of, Refuses}
+use Rattle.xk_log.proofs.Lines.{split_unique}
 use Rattle.xk_log.proofs.Numbers.{none_some, number_found, number_again, number_leads, number_nonempty, number_lacks, wide}
 use Rattle.xk_log.proofs.Verdicts.{end_is_no_entry}
 

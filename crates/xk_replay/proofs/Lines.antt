@@ -11,7 +11,7 @@ use Rattle.xk_types.specs.declared.names.Event.{Event}
 use Rattle.xk_types.specs.Code.{ModuleValue}
 use Rattle.xk_types.specs.World.{Clock, World}
 use Rattle.xk_types.specs.Step.{Stepped, step}
-use Rattle.xk_types.specs.Schedule.{Course, Through, run, run_on, is_step, is_enabled}
+use Rattle.xk_types.specs.Schedule.{Course, Through, run, run_on}
 use Rattle.xk_types.specs.Logs.{schedule_of}
 use Rattle.xk_laws.proofs.Reached.{same_through, first_step}
 use Rattle.xk_core.specs.Core.{CoreValue, has_advanced, is_quiet, opening_core}

@@ -10,7 +10,7 @@ use Rattle.xk_serve.specs.declared.fault.Fault.TheVariants as fault
 use Rattle.xk_serve.specs.Answer.{FailsBy, Succeeds, Task, done_reply, fault_reply}
 use Rattle.xk_log.specs.Writing.{AppendsBeginning}
 use Rattle.xk_serve.specs.Lines.{device_line, fault_line, memory_line, status_of}
-use Rattle.xk_serve.specs.Serving.{Answered, ErrBegins, IfKnown, IsBegun, IsRead, IsTold, IsWritten, OutBegins, Reads, Reports, StandsAgainst, Tells, read_of}
+use Rattle.xk_serve.specs.Serving.{Answered, ErrBegins, IfKnown, IsBegun, IsTold, IsWritten, OutBegins, Reads, Reports, StandsAgainst, Tells, read_of}
 
 -- nothing was written
 pub appends_none : (a : Option (List ℕ)) → Appends a a []

@@ -124,5 +124,5 @@ tells_idle s first on is all = (on, all_claimed s first is all, refl)
 
 -- who was claimed, and is given up at once: the workers are told to stop, and nothing else has changed
 pub given_back : (s told t : SharedValue) (a : ℕ) → Tells s (take.Work a) told → t ≡ given_up a told → t ≡ told_to_stop s
-given_back s told t a (goes, (free, (local, put))) gone =
+given_back s told t a (goes, free, local, put) gone =
     gone ∙ ap (given_up a) put ∙ ap (λ (l : List Bool). told_to_stop (record s { claims = l })) (put_back s.claims a free.unclaimed)

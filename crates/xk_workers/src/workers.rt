@@ -43,7 +43,6 @@ pub enum Turned<'m> {
 }
 
 /// A worker's turn under the lock: it does what it is told, or takes the frames with it from which it is to compute local steps.
-#[tactic(auto, using(crate::proofs::Takes::given_back))]
 fn turn<'m>(shared: &mut Shared<'m>) -> Turned<'m>
     ensures can { CanCompute result }
     ensures turned { Turns shared.old result shared.new }

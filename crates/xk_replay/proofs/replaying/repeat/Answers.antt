@@ -1,4 +1,4 @@
-use Rattle.std.proofs.Common.{◌≡◌, ◌∙◌, ◌+◌, refl, sym, arith}
+use Rattle.std.proofs.Common.{◌∙◌, ◌+◌, refl, sym, arith}
 use Rattle.xk_replay.proofs.Again.{goes_none, goes_more, goes_unseen, goes_as}
 use Rattle.xk_replay.proofs.replaying.repeat.Goals as goal
 
