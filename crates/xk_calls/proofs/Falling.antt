@@ -1,8 +1,8 @@
 -- Numbers that fall along calls, and paths of calls.
-use Rattle.std.proofs.Common.{◌≡◌, ◌≢◌, ℕ, zero, suc, ◌+◌, ◌<◌, ◌≤◌, inl, inr, Bool, true, false, cond, nat_eq, Vec, List, [], ◌∷◌, ◌++◌, length, map, ◌-◌, replicate, set, get_or, slice_get, slice_index, Some, refl, sym, ap, ◌∙◌, subst, arith, get_or-set_other, get_or-set_same, ne_eqb, eq-eqb}
+use Rattle.std.proofs.Common.{◌≡◌, ◌≢◌, ℕ, zero, suc, ◌+◌, ◌<◌, ◌≤◌, inl, inr, Bool, true, false, cond, nat_eq, Vec, List, [], ◌∷◌, ◌++◌, length, ◌-◌, replicate, set, get_or, slice_get, slice_index, Some, refl, sym, ap, ◌∙◌, subst, arith, get_or-set_other, get_or-set_same, ne_eqb, eq-eqb}
 use Rattle.std.proofs.lemmas.Bool.Decides.{eqb_tells}
 use Rattle.std.specs.declared.alloc.Global.{Global}
-use Rattle.xk_calls.specs.Calls.{rows, called_by, IsCall, AreWithin, Path, Reaches, AreReached, IsRecursive, IsNumbered, AtMost, Falls, Rises, zeros}
+use Rattle.xk_calls.specs.Calls.{rows, called_by, IsCall, Path, Reaches, AreReached, IsRecursive, IsNumbered, AtMost, Falls, zeros}
 
 -- a row, as code reads it
 pub row_at : (vs : List (Vec ℕ Global)) (i : ℕ) (v : Vec ℕ Global) → i < length vs → v ≡ get_or vs i v → v.items ≡ called_by (rows vs) i
@@ -70,18 +70,6 @@ numbered_more calls numbers i top v old most h z above ready m k j call has =
           (omega arith, omega arith)
     ]
 
-pub at_most_more : (numbers : List ℕ) (i top v : ℕ) → AtMost numbers top → i < length numbers → top ≤ v → AtMost (set numbers i v) v
-at_most_more numbers i top v most h above k =
-    elim (eqb_tells k i) [
-      | inl same ↦
-          let new : slice_index (set numbers i v) k ≡ v = ap (slice_index (set numbers i v)) same.1 ∙ get_or-set_same numbers i v 0 h in
-          omega arith
-      | inr other ↦
-          let ne : k ≢ i = other.1 in
-          let keep : slice_index (set numbers i v) k ≡ slice_index numbers k = rw get_or-set_other refl in
-          let m = most k in omega arith
-    ]
-
 -- ---- the walk from one that waits to the one that it waits for
 
 -- all that were met reach the place of the walk
@@ -136,39 +124,8 @@ all_zero zero i = refl
 all_zero (suc n) zero = refl
 all_zero (suc n) (suc i) = all_zero n i
 
-pub first_numbered : (calls : List (List ℕ)) (n : ℕ) → IsNumbered calls (replicate n 0)
-first_numbered calls n i k j call has = let e = all_zero n i in absurd (omega arith)
-
-pub first_top : (n top : ℕ) → AtMost (replicate n 0) top
-first_top n top i = let e = all_zero n i in omega arith
-
--- ---- at the end
-
 -- a method that calls is one of those
 pub caller_within : (calls : List (List ℕ)) (i k j : ℕ) → IsCall calls i k j → i < length calls
 caller_within [] i k j call = absurd cc
 caller_within (c ∷ calls) zero k j call = omega arith
 caller_within (c ∷ calls) (suc i) k j call = let h = caller_within calls i k j call in omega arith
-
-pub all_fall : (calls : List (List ℕ)) (numbers : List ℕ) → length numbers ≡ length calls → IsNumbered calls numbers
-    → ((i : ℕ) → i < length numbers → 0 < slice_index numbers i) → Falls calls numbers
-all_fall calls numbers len old full i k j call =
-    let h = caller_within calls i k j call in (old i k j call (full i (omega arith))).1
-
--- ---- turned round
-
-turned_at : (xs : List ℕ) (top i : ℕ) → i < length xs → slice_index (map (λ x. top - x) xs) i ≡ top - slice_index xs i
-turned_at [] top i h = absurd (omega arith)
-turned_at (x ∷ xs) top zero h = refl
-turned_at (x ∷ xs) top (suc i) h = turned_at xs top i (omega arith)
-
-pub turned_rises : (calls : List (List ℕ)) (numbers : List ℕ) (top : ℕ) → length numbers ≡ length calls → AreWithin calls → Falls calls numbers → AtMost numbers top
-    → Rises calls (map (λ x. top - x) numbers)
-turned_rises calls numbers top len within falls most i k j call =
-    let w = within i k j call in
-    let h = caller_within calls i k j call in
-    let a = turned_at numbers top i (omega arith) in
-    let b = turned_at numbers top j (omega arith) in
-    let f = falls i k j call in
-    let m = most i in
-    omega arith

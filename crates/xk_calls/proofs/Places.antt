@@ -2,7 +2,7 @@
 use Rattle.std.proofs.Common.{◌≡◌, ℕ, zero, suc, ◌+◌, ◌<◌, ◌≤◌, inl, inr, Bool, true, false, cond, nat_eq, List, [], ◌∷◌, ◌++◌, length, set, slice_get, slice_index, Some, sym, ap, ◌∙◌, subst, arith, ne_eqb}
 use Rattle.std.proofs.lemmas.Bool.{cases_eq, cases_lt}
 use Rattle.std.proofs.lemmas.Option.{slice_get_within}
-use Rattle.xk_calls.specs.Calls.{IsCall, AreReached, Falls, AtMost, IsRecursive, zeros}
+use Rattle.xk_calls.specs.Calls.{IsCall, Falls, AtMost, IsRecursive, zeros}
 use Rattle.xk_calls.specs.Order.{pending, MarksReached, CanFall, HasPlace, IsReady, IsOnce, IsInOrder, AreLeast}
 use Rattle.xk_calls.proofs.Falling.{reaches_on, none_recursive, caller_within}
 use Rattle.xk_calls.proofs.Marks.{set_here, set_other, within_full, get_front, get_last, get_pushed, last_call}
@@ -221,10 +221,6 @@ none_left calls left falls waits j =
       | inl m ↦ absurd (climb calls falls.0 left (top_of falls.0) falls.1 (below_top falls.0) waits (suc (top_of falls.0)) j (omega arith) m)
       | inr z ↦ omega arith
     ]
-
-pub all_reached : (calls : List (List ℕ)) (start : ℕ) (seen left order : List ℕ) → MarksReached calls start seen
-    → IsBegun calls start seen left order → AreReached calls start order
-all_reached calls start seen left order marks begun n m e = marks.sound m (begun.reached n m e)
 
 pub all_later : (calls : List (List ℕ)) (start : ℕ) (seen left order : List ℕ) → MarksReached calls start seen → IsBegun calls start seen left order
     → ((j : ℕ) → slice_index left j ≡ 0) → IsInOrder calls order

@@ -268,25 +268,6 @@ ready_same left waits next s i old full still same = record {
 }
 
 -- one gets its place
-pub ready_less : (left waits : List ℕ) (s n : BTreeSet ℕ) (i : ℕ) → AreReady left waits s → Updates nat_cmp s n i false → i < length left → AreReady (set left i 0) waits n
-ready_less left waits s n i old u h = record {
-  unplaced = λ j m. elim (cases_eq j i) [
-    | inl e ↦ absurd (gone j e m)
-    | inr ne ↦ let k = set_other left i 0 j ne in let o = old.unplaced j (sym (kept s n i false u j ne) ∙ m) in omega arith
-  ];
-  free = λ j m. elim (cases_eq j i) [
-    | inl e ↦ absurd (gone j e m)
-    | inr ne ↦ old.free j (sym (kept s n i false u j ne) ∙ m)
-  ];
-  all = λ j m z. elim (cases_eq j i) [
-    | inl e ↦ let k = set_here left i 0 h in let f = ap (slice_index (set left i 0)) e in absurd (omega arith)
-    | inr ne ↦ let k = set_other left i 0 j ne in kept s n i false u j ne ∙ old.all j (omega arith) z
-  ];
-}
-  where
-    gone : (j : ℕ) → j ≡ i → IsTrue (contains nat_cmp n j) → ⊥
-    gone j e m = let f = ap (contains nat_cmp n) e in let w = u.1 in cc
-
 pub not_in_empty : (s : BTreeSet ℕ) (j : ℕ) → s.keys ≡ [] → IsTrue (contains nat_cmp s j) → ⊥
 not_in_empty s j e m = let f : contains nat_cmp s j ≡ false = ap (list_any (is_at (nat_cmp j))) e in cc
 

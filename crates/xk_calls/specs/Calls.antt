@@ -43,10 +43,6 @@ AreWithin calls = (i k j : ℕ) → IsCall calls i k j → j < length calls
 abbrev pub Falls : List (List ℕ) → List ℕ → Type 0
 Falls calls numbers = (i k j : ℕ) → IsCall calls i k j → slice_index numbers j < slice_index numbers i
 
--- each method has a smaller number than those that it calls
-abbrev pub Rises : List (List ℕ) → List ℕ → Type 0
-Rises calls numbers = (i k j : ℕ) → IsCall calls i k j → slice_index numbers i < slice_index numbers j
-
 -- ---- numbers that are given one after another, from 1 on; 0 stands for none
 
 -- a method with a number calls only methods with a smaller one

@@ -1,4 +1,5 @@
 -- The order of the methods that are reached from one: each stands behind its callers, and of those that may be next the least one is.
+-- This project's own.
 use Rattle.std.specs.Prelude.{◌≡◌, ◌<◌, ◌≤◌, ◌+◌, ◌==◌, ℕ, zero, suc, List, length, slice_index, slice_get, Some, IsTrue, if◌then◌else◌}
 use Rattle.std.specs.BTreeSet.{BTreeSet, contains}
 use Rattle.std.specs.Ordering.{nat_cmp}

@@ -5,5 +5,5 @@ mod numbers;
 mod order;
 mod search;
 
-pub use numbers::{CallPlace, numbers_by_calls, numbers_in_order};
+pub use numbers::{CallPlace, numbers_by_calls};
 pub use order::order_from;

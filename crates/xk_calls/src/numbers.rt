@@ -1,7 +1,7 @@
 //! Numbers for methods in the order of their calls, or a recursive call.
 
-ghost use Rattle.std.specs.Prelude.{◌≡◌, List, ◌<◌, ◌≤◌, ◌+◌, ℕ, true, false, length, map, slice_get, slice_index, vec_len, IfErr, IfOk, IsTrue, OnOk, MatchOption, IfSome, Ok, Some, None};
-ghost use Rattle.xk_calls.specs.Calls.{AreReached, AreStuck, AreWithin, AtMost, called_by, Falls, IsCall, IsNumbered, IsRecursive, Reaches, Rises, Waits, rows, zeros};
+ghost use Rattle.std.specs.Prelude.{◌≡◌, List, ◌<◌, ◌+◌, ℕ, true, false, length, slice_get, slice_index, vec_len, IfErr, IfOk, OnOk, MatchOption, IfSome, Ok, Some, None};
+ghost use Rattle.xk_calls.specs.Calls.{AreReached, AreStuck, AreWithin, AtMost, called_by, Falls, IsNumbered, IsRecursive, Reaches, Waits, rows, zeros};
 
 use crate::search::search;
 use std::alloc::{AllocError, Global};
@@ -234,9 +234,9 @@ fn number_all(
     }
 }
 
-/// Numbers for methods, from 1 on, so that each is greater than those of the methods that it calls; or a recursive call. The methods of
-/// `order` get theirs first, as far as none of them waits for one behind it, and in this order.
-pub fn numbers_in_order(
+/// Numbers for methods, so that each is greater than those of the methods that it calls; or a recursive call. The methods of `order` are tried
+/// first, which saves time and changes nothing of what is promised.
+fn numbers_in_order(
     alloc: Global,
     calls: &[Vec<usize>],
     order: &[usize],

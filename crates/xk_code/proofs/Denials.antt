@@ -14,7 +14,7 @@ use Rattle.xk_tree.specs.Tree.{Word, Expression, Negation, Binary, Statement, St
 use Rattle.xk_code.specs.declared.error.CodeError.{CodeError}
 use Rattle.xk_code.specs.declared.error.CodeError.TheVariants as error
 use Rattle.xk_code.specs.CodeOf.{Setting, Scope, behind, before_into, both, code_of, code_of_all, code_of_then, count, count_all, declared, eval, eval_all, last_into, second, slot_for}
-use Rattle.xk_code.specs.Covered.{AreNew, IsKnown, IsNew, IsCovered, AreCovered}
+use Rattle.xk_code.specs.Covered.{AreNew, IsKnown, IsCovered, AreCovered}
 use Rattle.xk_code.specs.Room.{AreLow, Denies, HasRoom}
 use Rattle.xk_code.proofs.Rooms.{DeniesEval, arguments_append, room_behind, room_first, slots_append, temporary_written}
 
@@ -219,13 +219,6 @@ pub loop_room : (cx : Setting) (t : ℕ) (scope : Scope) (n size at : ℕ) (i : 
 loop_room cx t scope n size at i lo hi s turns m =
     let body = code_of cx t (scope ++ (i.text, n) ∷ []) (n + 1) (size + 1) s in
     subst (λ b. HasRoom scope size (cond b (instr.For n lo.value hi.value (size + 1 + length body) ∷ (body ++ instr.Next size ∷ [])) [])) turns m.0
-
-pub loop_opened : (err : CodeError) (cx : Setting) (t : ℕ) (scope : Scope) (n size at : ℕ) (i : Word) (lo hi : Number) (s : Statement)
-    → int_le lo.value hi.value ≡ true → Denies err (IsNew scope i.text) ((size < 4096) × (n < 64)) → DeniesCode err cx t scope n size (For at i lo hi s)
-loop_opened err cx t scope n size at i lo hi s turns h = denies err h (λ k. (k turns).0) (λ m.
-    let whole = (loop_room cx t scope n size at i lo hi s turns m).code in
-    let few = m.1 in
-    (omega arith, omega arith))
 
 pub loop_inner : (err : CodeError) (cx : Setting) (t : ℕ) (scope inside : Scope) (n k size inner at : ℕ) (i : Word) (lo hi : Number) (s : Statement)
     → int_le lo.value hi.value ≡ true → DeniesCode err cx t inside k inner s → inside ≡ scope ++ (i.text, n) ∷ [] → k ≡ n + 1 → inner ≡ size + 1

@@ -85,6 +85,3 @@ code_over cx kind xs kinds s scope n t base err h empty is_scope is_n is_t table
     let at_t = subst (λ k. HasRoom scope 0 (code_of cx k scope n 0 s)) (sym there) at_n in
     let at_base = subst (λ (b : List Instr). HasRoom scope (length b) (code_of cx t scope n (length b) s)) (sym empty) at_t in
     subst (λ e. Denies e (IsCovered cx scope n s) (HasRoom scope (length base) (code_of cx t scope n (length base) s) × (n + count s ≤ 64))) table h (at_base, omega arith)
-
-pub unit_over : (u v : UnitValue) (err : CodeError) → Denies err ⊤ (IsUnitWithinLimits u) → u ≡ v → err ≡ error.Table → IsUnitWithinLimits v → ⊥
-unit_over u v err h is table limits = subst (λ e. Denies e ⊤ (IsUnitWithinLimits u)) table h (subst IsUnitWithinLimits (sym is) limits)

@@ -1,4 +1,4 @@
--- What code needs of names: each that it uses is found, and each that it declares is new.
+-- What code needs of names: each that it uses is found, and each that it declares is new. This project's own.
 use Rattle.std.specs.Prelude.{ℕ, ◌+◌, List, [], ◌∷◌, ◌++◌, int_le, Option, Some, None, IsSome, IsNone, length, All, IsTrue, ⊤}
 use Rattle.xk_tree.specs.Tree.{Word, Expression, Literal, Named, Paren, Negation, Binary, Source, Make, Value, Statement, Block, Empty, Declare, Assign, Atomic, If, IfElse, For, Async, Finish, Call, Resume, Drop, AdvanceAll, Print, Statements, Done, More}
 use Rattle.xk_names.specs.Scope.{Table, find}

@@ -1,5 +1,5 @@
 -- What the code of a statement leads to: the methods that it calls, and the bodies of `async` in it. A loop without a turn has no code, and
--- what stands in it isn't reached.
+-- what stands in it isn't reached. This project's own.
 use Rattle.std.specs.Prelude.{◌≡◌, ℕ, int_le, List, [], ◌∷◌, ◌++◌, Option, Some, is_some, if◌then◌else◌}
 use Rattle.xk_tree.specs.Tree.{Word, Clocks, Statement, Block, If, IfElse, For, Async, Finish, Call, Statements, Done, More, MethodValue, TreeValue}
 use Rattle.xk_names.specs.Scope.{find, has, Has}

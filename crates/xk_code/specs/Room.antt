@@ -1,4 +1,4 @@
--- Room for code, and what an error says: names are wanting, or room.
+-- Room for code, and what an error says: names are wanting, or room. This project's own.
 use Rattle.std.specs.Prelude.{ℕ, ◌+◌, ◌<◌, ◌≤◌, max, List, [], ◌∷◌, length, ⊤}
 use Rattle.xk_types.specs.declared.instr.Instr.{Instr}
 use Rattle.xk_types.specs.Code.{arguments_of}

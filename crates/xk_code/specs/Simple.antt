@@ -1,4 +1,4 @@
--- Statements in whose code no statement's own code stands. The body of an `async` has a unit for itself.
+-- Statements in whose code no statement's own code stands. The body of an `async` has a unit for itself. This project's own.
 use Rattle.std.specs.Prelude.{Bool, true, false}
 use Rattle.xk_tree.specs.Tree.{Statement, Block, If, IfElse, For, Finish}
 

@@ -1,4 +1,4 @@
--- The unit of a method, or of the body of an `async`.
+-- The unit of a method, or of the body of an `async`. This project's own.
 use Rattle.std.specs.Prelude.{ℕ, suc, ◌+◌, max, List, [], ◌∷◌, ◌++◌, length, map, Option}
 use Rattle.xk_types.specs.declared.instr.Instr.{Instr}
 use Rattle.xk_types.specs.declared.instr.Instr.TheVariants as instr

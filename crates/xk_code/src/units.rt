@@ -257,7 +257,6 @@ fn slots_of_code(free: u16, code: &[Instr]) -> Result<u16, CodeError>
 }
 
 /// The greater of two numbers.
-
 fn larger(a: usize, b: usize) -> usize
     ensures { result ≡ max a b }
 {

@@ -34,11 +34,6 @@ ends_below k j [] e le = tt
 ends_below k j (Operator at o ∷ ts) e le = omega arith
 ends_below k j (_ ∷ ts) e le = tt
 
-ends_0 : (ts : List Mark) → Ends 0 ts
-ends_0 [] = tt
-ends_0 (Operator at o ∷ ts) = binds_some o
-ends_0 (_ ∷ ts) = tt
-
 -- an expression of this level and depth is read from its tokens
 abbrev pub Complete : ℕ → ℕ → (ℕ → List Mark → Read) → Type 0
 Complete k d item =

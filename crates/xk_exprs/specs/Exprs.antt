@@ -1,4 +1,5 @@
 -- Reading numbers and expressions. A reader of a part is told how many operators are left, and tells how many are left behind it.
+-- The grammar is this project's own, in the manner of X10's expressions.
 use Rattle.std.specs.Prelude.{ℕ, zero, suc, ◌-◌, ◌^◌, ◌==◌, nat_lt, nat_le, ℤ, pos, neg_ℤ, List, [], ◌∷◌, Option, Some, None, if◌then◌else◌}
 use Rattle.xk_tokens.specs.declared.token.Sign.TheVariants as sign
 use Rattle.xk_tree.specs.declared.tree.Operator.{Operator as Op}

@@ -1,4 +1,4 @@
--- What the faults of readers are among the faults of texts and trees.
+-- What the faults of readers are among the faults of texts and trees. This project's own.
 use Rattle.xk_tree.specs.declared.fault.FrontRule.{FrontRule}
 use Rattle.xk_tree.specs.declared.fault.FrontRule.TheVariants as front
 use Rattle.xk_tree.specs.declared.fault.FrontError.{FrontError}

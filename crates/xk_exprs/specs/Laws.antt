@@ -1,4 +1,4 @@
--- What the readers give is what is spelled.
+-- What the readers give is what is spelled. This project's own.
 use Rattle.std.specs.Prelude.{◌≡◌, ℕ, List, ◌++◌, Some}
 use Rattle.xk_tree.specs.declared.tree.Number as number
 use Rattle.xk_tree.specs.Tree.{Expression}

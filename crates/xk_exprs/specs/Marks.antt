@@ -1,4 +1,4 @@
--- Tokens as a tree keeps them: with an offset only where a tree has it.
+-- Tokens as a tree keeps them: with an offset only where a tree has it. This project's own.
 use Rattle.std.specs.Prelude.{ℕ, List, Option, Some, None, map}
 use Rattle.xk_tokens.specs.declared.token.Sign.{Sign}
 use Rattle.xk_tokens.specs.declared.token.Sign.TheVariants as sign

@@ -1,4 +1,4 @@
--- Reading from left to right: a value, and the tokens behind it. Where nothing can be read, `None`.
+-- Reading from left to right: a value, and the tokens behind it. Where nothing can be read, `None`. This project's own.
 use Rattle.std.specs.Prelude.{◌≡◌, ℕ, zero, suc, List, [], ◌∷◌, length, Option, Some, None, Result, Ok, Err}
 use Rattle.xk_tokens.specs.declared.token.Kind.{Kind}
 use Rattle.xk_tokens.specs.declared.token.Kind.TheVariants as kind

@@ -1,5 +1,5 @@
 -- Tables that have each name once, and lists of all declarations: what is found by a name is the same.
-use Rattle.std.proofs.Common.{◌≡◌, ℕ, suc, Bool, true, false, cond, ◌||◌, List, [], ◌∷◌, ◌++◌, length, Option, Some, None, refl, sym, ap, ◌∙◌}
+use Rattle.std.proofs.Common.{◌≡◌, ℕ, suc, Bool, true, false, cond, ◌||◌, List, [], ◌∷◌, ◌++◌, length, Option, Some, None, refl, sym, ap, ◌∙◌, append-nil}
 use Rattle.std.specs.Prelude.{is_some}
 use Rattle.std.specs.Cmp.Lexicographic.{bytes_decides}
 use Rattle.std.proofs.lemmas.Option.{none-some}
@@ -45,22 +45,18 @@ find_put {A} table y a x = go (find table y) refl
 pub put_same : {A : Type 0} (a b : Table A) (y : List ℕ) (k : A) → FindsSame a b → FindsSame (put a y k) (b ++ (y, k) ∷ [])
 put_same a b y k same x = find_put a y k x ∙ ap (λ o. or_entry o (is_text x y) k) (same x) ∙ sym (find_behind b y k x)
 
-append_step : {A : Type 0} (xs : List A) (y : A) (ys : List A) → xs ++ y ∷ ys ≡ (xs ++ y ∷ []) ++ ys
+pub append_step : {A : Type 0} (xs : List A) (y : A) (ys : List A) → xs ++ y ∷ ys ≡ (xs ++ y ∷ []) ++ ys
 append_step [] y ys = refl
 append_step (x ∷ xs) y ys = ap (λ r. x ∷ r) (append_step xs y ys)
 
-append_empty : {A : Type 0} (xs : List A) → xs ++ [] ≡ xs
-append_empty [] = refl
-append_empty (x ∷ xs) = ap (λ r. x ∷ r) (append_empty xs)
-
 pub put_all_same : (a b : Table Known) (ds : List Declaration) → FindsSame a b → FindsSame (put_all a ds) (b ++ entries ds)
-put_all_same a b [] same x = same x ∙ ap (λ t. find t x) (sym (append_empty b))
+put_all_same a b [] same x = same x ∙ ap (λ t. find t x) (sym (append-nil b))
 put_all_same a b (d ∷ ds) same x =
     put_all_same (put a d.name.text d.known) (b ++ entry d ∷ []) ds (put_same a b d.name.text d.known same) x
     ∙ ap (λ t. find t x) (sym (append_step b (entry d) (entries ds)))
 
 pub put_methods_same : (a b : Signatures) (ms : List MethodValue) → FindsSame a b → FindsSame (put_methods a ms) (b ++ signatures ms)
-put_methods_same a b [] same x = same x ∙ ap (λ t. find t x) (sym (append_empty b))
+put_methods_same a b [] same x = same x ∙ ap (λ t. find t x) (sym (append-nil b))
 put_methods_same a b (m ∷ ms) same x =
     put_methods_same (put a m.name.text m.params) (b ++ signature m ∷ []) ms (put_same a b m.name.text m.params same) x
     ∙ ap (λ t. find t x) (sym (append_step b (signature m) (signatures ms)))
@@ -98,7 +94,7 @@ pub put_text_same : (a b : List (List ℕ)) (y : List ℕ) → HasSame a b → H
 put_text_same a b y same x = has_put a y x ∙ ap (λ c. c || is_text x y) (same x) ∙ sym (has_behind b y x)
 
 pub put_texts_same : (a b : List (List ℕ)) (ws : List Word) → HasSame a b → HasSame (put_texts a ws) (b ++ texts ws)
-put_texts_same a b [] same x = same x ∙ ap (λ t. has t x) (sym (append_empty b))
+put_texts_same a b [] same x = same x ∙ ap (λ t. has t x) (sym (append-nil b))
 put_texts_same a b (w ∷ ws) same x =
     put_texts_same (put_text a w.text) (b ++ w.text ∷ []) ws (put_text_same a b w.text same) x
     ∙ ap (λ t. has t x) (sym (append_step b w.text (texts ws)))

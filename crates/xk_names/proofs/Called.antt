@@ -1,5 +1,5 @@
 -- Methods that all have names of their own stand in a table as they stand in the text.
-use Rattle.std.proofs.Common.{◌≡◌, Bool, true, false, cond, List, [], ◌∷◌, ◌++◌, map, refl, sym, ap, ◌∙◌, subst}
+use Rattle.std.proofs.Common.{◌≡◌, Bool, true, false, cond, List, [], ◌∷◌, ◌++◌, map, refl, sym, ap, ◌∙◌, subst, append-nil}
 use Rattle.std.specs.Prelude.{is_some}
 use Rattle.xk_tree.specs.declared.fault.FrontRule.TheVariants as rule
 use Rattle.xk_tree.specs.declared.fault.FrontFault.{FrontFault}
@@ -9,7 +9,8 @@ use Rattle.xk_names.specs.Uses.{Signatures, signature, signatures}
 use Rattle.xk_names.specs.Faults.{fault, RepeatsMethod}
 use Rattle.xk_names.specs.Scoped.{IsScoped}
 use Rattle.xk_names.specs.Collected.{put, put_methods}
-use Rattle.xk_names.proofs.Whole.{methods_found, append_step, append_empty, append_signatures}
+use Rattle.xk_names.proofs.Agreement.{append_step}
+use Rattle.xk_names.proofs.Whole.{methods_found, append_signatures}
 
 put_new : (kept : Signatures) (m : MethodValue) → is_some (find kept m.name.text) ≡ false → put kept m.name.text m.params ≡ kept ++ signature m ∷ []
 put_new kept m e = ap (λ b. cond b kept (kept ++ signature m ∷ [])) e
@@ -24,7 +25,7 @@ no_earlier seen m ms none = methods_found seen m.name.text ∙ go (has (texts (m
 
 put_all_new : (seen ms : List MethodValue) (kept : Signatures) → kept ≡ signatures seen → ((f : FrontFault) → RepeatsMethod (seen ++ ms) f → ⊥)
     → put_methods kept ms ≡ signatures (seen ++ ms)
-put_all_new seen [] kept e none = e ∙ ap signatures (sym (append_empty seen))
+put_all_new seen [] kept e none = e ∙ ap signatures (sym (append-nil seen))
 put_all_new seen (m ∷ ms) kept e none =
     put_all_new (seen ++ m ∷ []) ms (put kept m.name.text m.params)
     (put_new kept m (ap (λ k. is_some (find k m.name.text)) e ∙ no_earlier seen m ms none) ∙ ap (λ k. k ++ signature m ∷ []) e ∙ sym (append_signatures seen (m ∷ [])))

@@ -1,6 +1,6 @@
 -- What a body takes is visible where the body stands, and is no clock. Of bodies within bodies, the outer one takes what the inner one takes
 -- and isn't declared between.
-use Rattle.std.proofs.Common.{◌≡◌, ◌⊎◌, inl, inr, ℕ, Bool, true, false, cond, ◌||◌, List, [], ◌∷◌, ◌++◌, length, Option, Some, None, refl, sym, ap, ◌∙◌, subst}
+use Rattle.std.proofs.Common.{◌≡◌, ◌⊎◌, inl, inr, ℕ, Bool, true, false, cond, ◌||◌, List, [], ◌∷◌, ◌++◌, length, Option, Some, None, refl, sym, ap, ◌∙◌, subst, append-nil}
 use Rattle.std.specs.List.{flat_map}
 use Rattle.xk_types.specs.declared.unit.ParamKind.TheVariants as param
 use Rattle.xk_tree.specs.Tree.{Word, Expression, Literal, Named, Paren, Negation, Binary, Source, Make, Value, Statement, Statements, Done, More, Block, Empty, Declare, Assign, Atomic, If, IfElse, For, Async, Finish, Call, Resume, Drop, AdvanceAll, Print}
@@ -16,7 +16,6 @@ use Rattle.xk_names.specs.Collected.{put_text}
 use Rattle.xk_names.specs.Captures.{number_words, source_words, argument_words, words_used, words_besides, own_behind, outer_inside, outer_among, outer_words}
 use Rattle.xk_names.proofs.Among.{has_left, has_right, has_either}
 use Rattle.xk_names.proofs.Agreement.{find_behind, or_entry, has_put}
-use Rattle.xk_names.proofs.Whole.{append_empty}
 
 -- ---- names that are used as numbers
 
@@ -184,7 +183,7 @@ since_put names before there own d since x h =
 
 since_same : (names : Table Known) (before : List (List ℕ)) (there : Table Known) (own : List (List ℕ)) → IsSince names before there own
     → IsSince names before (there ++ []) own
-since_same names before there own since = subst (λ k. IsSince names before k own) (sym (append_empty there)) since
+since_same names before there own since = subst (λ k. IsSince names before k own) (sym (append-nil there)) since
 
 since_behind : (names : Table Known) (before : List (List ℕ)) (sc : Scope) (own : List (List ℕ)) (s : Statement) → IsSince names before sc.names own
     → IsSince names before (with_all sc (behind (length sc.bodies) s)).names (own_behind own s)

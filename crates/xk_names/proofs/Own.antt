@@ -1,5 +1,5 @@
 -- The faults of a statement, apart from those that it holds: those of the list are those that the rules name.
-use Rattle.std.proofs.Common.{◌≡◌, ◌≢◌, ◌⊎◌, inl, inr, ℕ, nat_eq, Bool, true, false, List, [], ◌∷◌, ◌++◌, map, length, Option, Some, None, refl, sym, ap, ◌∙◌, subst, eqb-true, eq-eqb}
+use Rattle.std.proofs.Common.{◌≡◌, ◌≢◌, ◌⊎◌, inl, inr, ℕ, nat_eq, Bool, true, false, List, [], ◌∷◌, ◌++◌, map, length, Option, Some, None, refl, sym, ap, ◌∙◌, subst, eqb-true, eq-eqb, append-nil}
 use Rattle.std.specs.Prelude.{is_some}
 use Rattle.std.specs.List.{flat_map}
 use Rattle.xk_tree.specs.declared.fault.FrontRule.{FrontRule}
@@ -12,7 +12,7 @@ use Rattle.xk_names.specs.Uses.{Use, Signatures, uses, declares, misfits, clocks
 use Rattle.xk_names.specs.Faults.{fault, Breaks, NotVisible, OtherKind, NotSeen, DeclaredAgain, Misfit, NoMethod, OtherCount, ClockAgain}
 use Rattle.xk_names.specs.Collected.{unless, when, known_use_faults, use_faults, again, known_call_faults, call_faults, repeats, put_text, own}
 use Rattle.xk_names.proofs.Among.{has_left, has_right, has_either, from_flat, to_flat, from_map, to_map}
-use Rattle.xk_names.proofs.Agreement.{HasSame, put_text_same}
+use Rattle.xk_names.proofs.Agreement.{HasSame, put_text_same, append_step}
 
 some_is : {A : Type 0} (x y : A) → Some x ≡ Some y → x ≡ y
 some_is x y e = cc
@@ -47,19 +47,11 @@ abbrev Repeated : List (List ℕ) → List Word → FrontFault → Type 0
 Repeated seen cs f = (before : List Word) × ((c : Word) × ((after : List Word) × (cs ≡ before ++ c ∷ after) × (has (seen ++ texts before) c.text ≡ true)
     × (f ≡ fault rule.SameClockTwice c.at)))
 
-append_step : (xs : List (List ℕ)) (y : List ℕ) (ys : List (List ℕ)) → xs ++ y ∷ ys ≡ (xs ++ y ∷ []) ++ ys
-append_step [] y ys = refl
-append_step (x ∷ xs) y ys = ap (λ r. x ∷ r) (append_step xs y ys)
-
-append_empty : (xs : List (List ℕ)) → xs ++ [] ≡ xs
-append_empty [] = refl
-append_empty (x ∷ xs) = ap (λ r. x ∷ r) (append_empty xs)
-
 from_repeats : (kept seen : List (List ℕ)) (cs : List Word) (f : FrontFault) → HasSame kept seen → Has (repeats kept cs) f → Repeated seen cs f
 from_repeats kept seen [] f same h = absurd h
 from_repeats kept seen (c ∷ cs) f same h = elim (has_either (when (has kept c.text) rule.SameClockTwice c.at) (repeats (put_text kept c.text) cs) f h) [
   | inl a ↦ let r = from_when (has kept c.text) rule.SameClockTwice c.at f a in
-      ([], (c, (cs, refl, ap (λ t. has t c.text) (append_empty seen) ∙ sym (same c.text) ∙ r.0, r.1)))
+      ([], (c, (cs, refl, ap (λ t. has t c.text) (append-nil seen) ∙ sym (same c.text) ∙ r.0, r.1)))
   | inr b ↦ let r = from_repeats (put_text kept c.text) (seen ++ c.text ∷ []) cs f (put_text_same kept seen c.text same) b in
       (c ∷ r.0, (r.1.0, (r.1.1.0, ap (λ t. c ∷ t) r.1.1.1, ap (λ t. has t r.1.0.text) (append_step seen c.text (texts r.0)) ∙ r.1.1.2, r.1.1.3)))
 ]
@@ -68,7 +60,7 @@ to_repeats : (kept seen : List (List ℕ)) (before : List Word) (c : Word) (afte
     → has (seen ++ texts before) c.text ≡ true → f ≡ fault rule.SameClockTwice c.at → Has (repeats kept (before ++ c ∷ after)) f
 to_repeats kept seen [] c after f same h e =
     has_left (when (has kept c.text) rule.SameClockTwice c.at) (repeats (put_text kept c.text) after) f
-    (to_when (has kept c.text) rule.SameClockTwice c.at f (same c.text ∙ sym (ap (λ t. has t c.text) (append_empty seen)) ∙ h) e)
+    (to_when (has kept c.text) rule.SameClockTwice c.at f (same c.text ∙ sym (ap (λ t. has t c.text) (append-nil seen)) ∙ h) e)
 to_repeats kept seen (b ∷ before) c after f same h e =
     has_right (when (has kept b.text) rule.SameClockTwice b.at) (repeats (put_text kept b.text) (before ++ c ∷ after)) f
     (to_repeats (put_text kept b.text) (seen ++ b.text ∷ []) before c after f (put_text_same kept seen b.text same)

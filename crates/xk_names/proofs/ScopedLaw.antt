@@ -1,13 +1,12 @@
 -- A tree without faults of names is scoped.
-use Rattle.std.proofs.Common.{◌≡◌, ◌⊎◌, inl, inr, ℕ, nat_eq, Bool, true, false, ◌||◌, List, [], ◌∷◌, length, Option, Some, None, refl, sym, ◌∙◌, subst, eqb-true, eq-eqb}
+use Rattle.std.proofs.Common.{◌≡◌, inl, inr, nat_eq, Bool, true, false, List, [], ◌∷◌, length, Option, Some, None, refl, sym, ◌∙◌, subst, eqb-true, eq-eqb}
 use Rattle.std.specs.Prelude.{codes}
 use Rattle.xk_tree.specs.declared.fault.FrontRule.TheVariants as rule
 use Rattle.xk_tree.specs.declared.fault.FrontFault.{FrontFault}
 use Rattle.xk_tree.specs.Tree.{Word, Expression, Statement, Statements, Done, More, Block, If, IfElse, For, Async, Finish, ParamValue, TreeValue}
 use Rattle.xk_names.specs.declared.known.Known.{Known}
-use Rattle.xk_names.specs.declared.known.Kind.{Kind}
 use Rattle.xk_names.specs.declared.known.Kind.TheVariants as kind
-use Rattle.xk_names.specs.Scope.{find, has, texts, Has, Declaration, Scope, sees, sees_as, fits, is_given}
+use Rattle.xk_names.specs.Scope.{find, has, texts, Has, Declaration, Scope, sees, fits}
 use Rattle.xk_names.specs.Uses.{Use, Signatures, signatures, uses, declares, clocks_listed, calls}
 use Rattle.xk_names.specs.Places.{Way, Here, First, Later, Inside, Else, Stands, StandsAmong, behind}
 use Rattle.xk_names.specs.Faults.{fault, Breaks, NotVisible, OtherKind, NotSeen, DeclaredAgain, Misfit, NoMethod, OtherCount, ClockAgain, InMethods, InParams, InBody, HasFault, HasMain, no_main}
@@ -123,24 +122,3 @@ scoped_tree t clean = record {
   methods_apart = λ f r. clean f (inl (InMethods r));
   main = main_there t (λ lacks. clean no_main (inr (lacks, refl)));
 }
-
--- ---- what a body of `async` sees from outside: shared numbers and numbers that stay, and clocks that it is given
-
-pub seen_from : (sc : Scope) (x : List ℕ) (k : Known) → sees sc x k ≡ true
-    → (k.kind ≡ kind.Shared) ⊎ ((k.kind ≡ kind.Val) ⊎ ((k.depth ≡ length sc.bodies) ⊎ ((k.kind ≡ kind.Clock) × (is_given sc x ≡ true))))
-seen_from sc x k h = go k.kind refl h
-  where
-    own : (d : Kind) → nat_eq k.depth (length sc.bodies) ≡ true → (d ≡ kind.Shared) ⊎ ((d ≡ kind.Val)
-        ⊎ ((k.depth ≡ length sc.bodies) ⊎ ((d ≡ kind.Clock) × (is_given sc x ≡ true))))
-    own d e = inr (inr (inl (eqb-true k.depth (length sc.bodies) e)))
-
-    clock : (b : Bool) → nat_eq k.depth (length sc.bodies) ≡ b → (b || is_given sc x) ≡ true
-        → (kind.Clock ≡ kind.Shared) ⊎ ((kind.Clock ≡ kind.Val) ⊎ ((k.depth ≡ length sc.bodies) ⊎ ((kind.Clock ≡ kind.Clock) × (is_given sc x ≡ true))))
-    clock true e g = own kind.Clock e
-    clock false e g = inr (inr (inr (refl, g)))
-
-    go : (d : Kind) → k.kind ≡ d → sees_as d sc x k ≡ true → (d ≡ kind.Shared) ⊎ ((d ≡ kind.Val) ⊎ ((k.depth ≡ length sc.bodies) ⊎ ((d ≡ kind.Clock) × (is_given sc x ≡ true))))
-    go kind.Shared e g = inl refl
-    go kind.Val e g = inr (inl refl)
-    go kind.Var e g = own kind.Var g
-    go kind.Clock e g = clock (nat_eq k.depth (length sc.bodies)) refl g

@@ -1,5 +1,5 @@
 -- What is taken from outside, one word after another.
-use Rattle.std.proofs.Common.{◌≡◌, ℕ, zero, suc, ◌+◌, ◌<◌, Bool, true, false, cond, Bor, List, [], ◌∷◌, ◌++◌, map, take, drop, length, get_or, refl, sym, ap, ◌∙◌, append_assoc, drop-cons, add-one}
+use Rattle.std.proofs.Common.{◌≡◌, ℕ, zero, suc, ◌+◌, ◌<◌, Bool, true, false, cond, Bor, List, [], ◌∷◌, ◌++◌, map, take, drop, length, get_or, refl, sym, ap, ◌∙◌, append_assoc, drop-cons, add-one, append-nil}
 use Rattle.std.specs.Prelude.{if◌then◌else◌}
 use Rattle.std.specs.List.{flat_map}
 use Rattle.xk_tree.specs.declared.tree.Stmt.{Stmt}
@@ -44,19 +44,15 @@ take_front : (xs ys : List (List ℕ)) → take (length xs) (xs ++ ys) ≡ xs
 take_front [] ys = refl
 take_front (x ∷ xs) ys = ap (λ r. x ∷ r) (take_front xs ys)
 
-append_empty : (xs : List (List ℕ)) → xs ++ [] ≡ xs
-append_empty [] = refl
-append_empty (x ∷ xs) = ap (λ r. x ∷ r) (append_empty xs)
-
 put_grows : (ts : List (List ℕ)) (x : List ℕ) → (more : List (List ℕ)) × (put_text ts x ≡ ts ++ more)
 put_grows ts x = go (has ts x)
   where
     go : (b : Bool) → (more : List (List ℕ)) × (cond b ts (ts ++ x ∷ []) ≡ ts ++ more)
-    go true = ([], sym (append_empty ts))
+    go true = ([], sym (append-nil ts))
     go false = (x ∷ [], refl)
 
 grows : (ts : List (List ℕ)) (ws : List Word) → (more : List (List ℕ)) × (put_texts ts ws ≡ ts ++ more)
-grows ts [] = ([], sym (append_empty ts))
+grows ts [] = ([], sym (append-nil ts))
 grows ts (w ∷ ws) =
     let f = put_grows ts w.text in
     let g = grows (put_text ts w.text) ws in
@@ -66,7 +62,7 @@ pub cut_texts : (before kept : List (List ℕ)) (ws : List Word) (n : ℕ) → k
 cut_texts before kept ws n e h = let g = grows before ws in ap (λ k. take k kept) h ∙ ap (take (length before)) (e ∙ g.1) ∙ take_front before g.0
 
 after_grows : (own : List (List ℕ)) (ss : Statements) → (more : List (List ℕ)) × (own_after own ss ≡ own ++ more)
-after_grows own Done = ([], sym (append_empty own))
+after_grows own Done = ([], sym (append-nil own))
 after_grows own (More s ss) =
     let f = grows own (map (λ d. d.name) (behind 0 s)) in
     let g = after_grows (own_behind own s) ss in

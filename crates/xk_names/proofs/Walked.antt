@@ -1,5 +1,5 @@
 -- The faults of a method's body: those of the list are those that stand somewhere in it.
-use Rattle.std.proofs.Common.{◌≡◌, inl, inr, ℕ, List, [], ◌∷◌, ◌++◌, length, refl, sym, ap, ◌∙◌, subst, append_assoc}
+use Rattle.std.proofs.Common.{◌≡◌, inl, inr, ℕ, List, [], ◌∷◌, ◌++◌, length, refl, sym, ap, ◌∙◌, subst, append_assoc, append-nil}
 use Rattle.xk_tree.specs.declared.fault.FrontFault.{FrontFault}
 use Rattle.xk_tree.specs.Tree.{Statement, Statements, Done, More, Block, If, IfElse, For, Async, Finish}
 use Rattle.xk_names.specs.declared.known.Known.{Known}
@@ -119,13 +119,9 @@ mutual
 
 -- ---- what a place sees, at once
 
-append_entries : (ds es : List Declaration) → entries (ds ++ es) ≡ entries ds ++ entries es
+pub append_entries : (ds es : List Declaration) → entries (ds ++ es) ≡ entries ds ++ entries es
 append_entries [] es = refl
 append_entries (d ∷ ds) es = ap (λ r. entry d ∷ r) (append_entries ds es)
-
-append_empty : (xs : Table Known) → xs ++ [] ≡ xs
-append_empty [] = refl
-append_empty (x ∷ xs) = ap (λ r. x ∷ r) (append_empty xs)
 
 abbrev scope_of : Table Known → Bodies → Scope
 scope_of names bodies = record { names = names; bodies = bodies }
@@ -134,7 +130,7 @@ joined : (names : Table Known) (bs : Bodies) (ds es : List Declaration) → scop
 joined names bs ds es = ap (λ k. scope_of k bs) (append_assoc names (entries ds) (entries es) ∙ ap (λ k. names ++ k) (sym (append_entries ds es)))
 
 stays : (sc : Scope) → sc ≡ scope_of (sc.names ++ entries []) sc.bodies
-stays sc = ap (λ k. scope_of k sc.bodies) (sym (append_empty sc.names))
+stays sc = ap (λ k. scope_of k sc.bodies) (sym (append-nil sc.names))
 
 stays_at : (sc : Scope) (s : Statement) → sc ≡ scope_of (sc.names ++ entries (declared_at (length sc.bodies) s Here)) (bodies_at sc.bodies s Here)
 stays_at sc (Block ss) = stays sc

@@ -1,35 +1,23 @@
 -- The faults of a tree: those of the list are those that the tree has.
-use Rattle.std.proofs.Common.{◌≡◌, ◌⊎◌, inl, inr, ℕ, Bool, true, false, cond, ◌||◌, List, [], ◌∷◌, ◌++◌, map, Some, refl, sym, ap, ◌∙◌, subst, append_assoc}
+use Rattle.std.proofs.Common.{◌≡◌, ◌⊎◌, inl, inr, ℕ, Bool, true, false, cond, ◌||◌, List, [], ◌∷◌, ◌++◌, map, Some, refl, sym, ap, ◌∙◌, subst, append_assoc, append-nil}
 use Rattle.std.specs.Prelude.{is_some}
 use Rattle.std.specs.List.{flat_map}
 use Rattle.xk_tree.specs.declared.fault.FrontRule.TheVariants as rule
 use Rattle.xk_tree.specs.declared.fault.FrontFault.{FrontFault}
 use Rattle.xk_tree.specs.Tree.{MethodValue, TreeValue}
 use Rattle.xk_names.specs.declared.known.Known.{Known}
-use Rattle.xk_names.specs.Scope.{Table, find, has, is_text, Has, Declaration, entry, entries, texts, Scope}
+use Rattle.xk_names.specs.Scope.{Table, find, has, is_text, Has, Declaration, entries, texts, Scope}
 use Rattle.xk_names.specs.Uses.{Signatures, signature, signatures}
 use Rattle.xk_names.specs.Places.{Way, declared_among, bodies_among}
 use Rattle.xk_names.specs.Faults.{fault, Breaks, shared_declaration, param_declaration, declared_before, scope_in, RepeatsName, HasNameFault, InShared, InMethods, InParams, InBody}
 use Rattle.xk_names.specs.Scoped.{method_scope}
 use Rattle.xk_names.specs.Collected.{put, put_all, put_methods, when, again, among, declared_again, methods_again, method_faults, name_faults}
 use Rattle.xk_names.proofs.Among.{has_left, has_right, has_either, from_flat, to_flat}
-use Rattle.xk_names.proofs.Agreement.{FindsSame, Agrees, put_same, put_all_same, put_methods_same}
+use Rattle.xk_names.proofs.Agreement.{FindsSame, Agrees, put_same, put_all_same, put_methods_same, append_step}
 use Rattle.xk_names.proofs.Own.{from_when, to_when}
-use Rattle.xk_names.proofs.Walked.{held_among, listed_among, among_once}
+use Rattle.xk_names.proofs.Walked.{held_among, listed_among, among_once, append_entries}
 
 -- ---- lists of declarations
-
-pub append_step : {A : Type 0} (xs : List A) (y : A) (ys : List A) → xs ++ y ∷ ys ≡ (xs ++ y ∷ []) ++ ys
-append_step [] y ys = refl
-append_step (x ∷ xs) y ys = ap (λ r. x ∷ r) (append_step xs y ys)
-
-pub append_empty : {A : Type 0} (xs : List A) → xs ++ [] ≡ xs
-append_empty [] = refl
-append_empty (x ∷ xs) = ap (λ r. x ∷ r) (append_empty xs)
-
-pub append_entries : (ds es : List Declaration) → entries (ds ++ es) ≡ entries ds ++ entries es
-append_entries [] es = refl
-append_entries (d ∷ ds) es = ap (λ r. entry d ∷ r) (append_entries ds es)
 
 pub append_signatures : (ds es : List MethodValue) → signatures (ds ++ es) ≡ signatures ds ++ signatures es
 append_signatures [] es = refl
@@ -66,7 +54,7 @@ from_again kept seen (d ∷ ds) f same h = elim (has_either (again kept d) (decl
       (
         ds,
         refl,
-        ap (λ (k : List Declaration). has (texts (map (λ e. e.name) k)) d.name.text) (append_empty seen) ∙ sym (names_found seen d.name.text)
+        ap (λ (k : List Declaration). has (texts (map (λ e. e.name) k)) d.name.text) (append-nil seen) ∙ sym (names_found seen d.name.text)
             ∙ sym (ap is_some (same d.name.text)) ∙ r.0,
         r.1,
       ),
@@ -95,7 +83,7 @@ to_again : (kept : Table Known) (seen before : List Declaration) (d : Declaratio
 to_again kept seen [] d after f same h e =
     has_left (again kept d) (declared_again (put kept d.name.text d.known) after) f
     (to_when (is_some (find kept d.name.text)) rule.DuplicateName d.name.at f
-    (ap is_some (same d.name.text) ∙ names_found seen d.name.text ∙ sym (ap (λ (k : List Declaration). has (texts (map (λ e. e.name) k)) d.name.text) (append_empty seen)) ∙ h) e)
+    (ap is_some (same d.name.text) ∙ names_found seen d.name.text ∙ sym (ap (λ (k : List Declaration). has (texts (map (λ e. e.name) k)) d.name.text) (append-nil seen)) ∙ h) e)
 to_again kept seen (b ∷ before) d after f same h e =
     let more : FindsSame (put kept b.name.text b.known) (entries (seen ++ b ∷ [])) =
     λ x. put_same kept (entries seen) b.name.text b.known same x ∙ ap (λ t. find t x) (sym (append_entries seen (b ∷ []))) in
@@ -129,7 +117,7 @@ from_methods kept seen (m ∷ ms) f same h = elim (has_either (when (is_some (fi
           (
             ms,
             refl,
-            ap (λ (k : List MethodValue). has (texts (map (λ n. n.name) k)) m.name.text) (append_empty seen) ∙ sym (methods_found seen m.name.text)
+            ap (λ (k : List MethodValue). has (texts (map (λ n. n.name) k)) m.name.text) (append-nil seen) ∙ sym (methods_found seen m.name.text)
                 ∙ sym (ap is_some (same m.name.text)) ∙ r.0,
             r.1,
           ),
@@ -158,7 +146,7 @@ to_methods : (kept : Signatures) (seen before : List MethodValue) (m : MethodVal
 to_methods kept seen [] m after f same h e =
     has_left (when (is_some (find kept m.name.text)) rule.DuplicateName m.name.at) (methods_again (put kept m.name.text m.params) after) f
     (to_when (is_some (find kept m.name.text)) rule.DuplicateName m.name.at f
-    (ap is_some (same m.name.text) ∙ methods_found seen m.name.text ∙ sym (ap (λ (k : List MethodValue). has (texts (map (λ n. n.name) k)) m.name.text) (append_empty seen)) ∙ h) e)
+    (ap is_some (same m.name.text) ∙ methods_found seen m.name.text ∙ sym (ap (λ (k : List MethodValue). has (texts (map (λ n. n.name) k)) m.name.text) (append-nil seen)) ∙ h) e)
 to_methods kept seen (b ∷ before) m after f same h e =
     let more : FindsSame (put kept b.name.text b.params) (signatures (seen ++ b ∷ [])) =
     λ x. put_same kept (signatures seen) b.name.text b.params same x ∙ ap (λ t. find t x) (sym (append_signatures seen (b ∷ []))) in

@@ -1,5 +1,5 @@
 -- What the body of an `async` takes from outside: the numbers that it uses and doesn't declare, in the order of their first use, those of inner
--- bodies included. Shared numbers aren't taken, and clocks stand in the body's list.
+-- bodies included. Shared numbers aren't taken, and clocks stand in the body's list. The rule is this project's own.
 use Rattle.std.specs.Prelude.{ℕ, List, [], ◌∷◌, ◌++◌, map, if◌then◌else◌}
 use Rattle.std.specs.List.{flat_map}
 use Rattle.xk_types.specs.declared.unit.ParamKind.{ParamKind}

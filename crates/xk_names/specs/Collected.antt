@@ -1,4 +1,4 @@
--- All faults of names of a tree in a list, and which of them is reported.
+-- All faults of names of a tree in a list, and which of them is reported. The rules are this project's own.
 use Rattle.std.specs.Prelude.{ℕ, nat_eq, nat_lt, Bool, ◌||◌, ◌&&◌, List, [], ◌∷◌, ◌++◌, length, map, Option, Some, None, is_some, if◌then◌else◌}
 use Rattle.std.specs.List.{flat_map}
 use Rattle.xk_tree.specs.declared.fault.FrontRule.{FrontRule}

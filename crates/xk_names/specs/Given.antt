@@ -1,4 +1,4 @@
--- Parts of statements that the code goes through, and their faults.
+-- Parts of statements that the code goes through, and their faults. This project's own.
 use Rattle.std.specs.Prelude.{List, [], ◌∷◌, ◌++◌, map, Option, is_some, if◌then◌else◌}
 use Rattle.std.specs.List.{flat_map}
 use Rattle.xk_types.specs.declared.unit.ParamKind.{ParamKind}

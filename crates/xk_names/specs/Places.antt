@@ -1,4 +1,4 @@
--- Places in a method's body, and the declarations whose scopes hold them.
+-- Places in a method's body, and the declarations whose scopes hold them. This project's own.
 use Rattle.std.specs.Prelude.{◌≡◌, ℕ, suc, List, [], ◌∷◌, ◌++◌}
 use Rattle.xk_tree.specs.Tree.{Statement, Statements, More, Block, Declare, If, IfElse, For, Async, Finish}
 use Rattle.xk_names.specs.Scope.{Declaration, texts}

@@ -1,4 +1,4 @@
--- What is visible at a place, and what may be done with it there.
+-- What is visible at a place, and what may be done with it there. The rules are this project's own.
 use Rattle.std.specs.Prelude.{◌≡◌, ◌⊎◌, ℕ, nat_eq, Bool, true, false, ◌||◌, List, [], ◌∷◌, length, Option, map}
 use Rattle.std.specs.List.{list_any}
 use Rattle.std.specs.Cmp.Lexicographic.{pointwise}

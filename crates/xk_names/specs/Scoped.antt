@@ -1,4 +1,4 @@
--- What later passes may rely on in a tree without faults of names: each name that is used is visible, and is what is wanted.
+-- What later passes may rely on in a tree without faults of names: each name that is used is visible, and is what is wanted. This project's own.
 use Rattle.std.specs.Prelude.{◌≡◌, ℕ, true, false, List, [], ◌∷◌, ◌++◌, length, Some, None}
 use Rattle.xk_tree.specs.declared.fault.FrontFault.{FrontFault}
 use Rattle.xk_tree.specs.Tree.{Word, Expression, Statement, Statements, Done, More, Block, If, IfElse, For, Async, Finish, ParamValue, MethodValue, TreeValue}

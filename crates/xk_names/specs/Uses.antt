@@ -1,4 +1,4 @@
--- What a statement does with names, apart from the statements that it holds.
+-- What a statement does with names, apart from the statements that it holds. This project's own.
 use Rattle.std.specs.Prelude.{ℕ, Bool, true, false, List, [], ◌∷◌, ◌++◌, Option, Some, None, map, if◌then◌else◌, unwrap_or}
 use Rattle.std.specs.List.{flat_map}
 use Rattle.std.specs.Option.{option_map_or}

@@ -1,6 +1,6 @@
 //! Calls, and lists of clocks.
 
-ghost use Rattle.std.specs.Prelude.{◌≡◌, [], ◌++◌, map, OnOk, IfOk};
+ghost use Rattle.std.specs.Prelude.{◌≡◌, [], map, OnOk, IfOk};
 ghost use Rattle.std.specs.List.{flat_map};
 ghost use Rattle.xk_tree.specs.Tree.{expression, expressions, param_value, word, words};
 ghost use Rattle.xk_names.specs.Faults.{fault};

@@ -1,11 +1,11 @@
 //! Statements, and those that they hold.
 
-ghost use Rattle.std.specs.Prelude.{◌≡◌, ◌∷◌, [], ◌++◌, length, option_map, IfOk, OnOk};
+ghost use Rattle.std.specs.Prelude.{◌≡◌, ◌∷◌, [], length, option_map, IfOk, OnOk};
 ghost use Rattle.xk_tree.specs.Tree.{clock_list, source, statement, statements, word};
 ghost use Rattle.xk_names.specs.Scope.{declared};
 ghost use Rattle.xk_names.specs.Uses.{clocks_listed, kind_of};
 ghost use Rattle.xk_names.specs.Places.{behind};
-ghost use Rattle.xk_names.specs.Collected.{among, body_of, faults, least, put_texts, with_clocks, with_declared};
+ghost use Rattle.xk_names.specs.Collected.{among, faults, least, put_texts, with_clocks, with_declared};
 
 use crate::arguments::clocks_of;
 use crate::known::Kind;

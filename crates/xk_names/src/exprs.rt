@@ -1,6 +1,6 @@
 //! The names that expressions use.
 
-ghost use Rattle.std.specs.Prelude.{◌≡◌, if◌then◌else◌};
+ghost use Rattle.std.specs.Prelude.{◌≡◌};
 ghost use Rattle.std.specs.List.{flat_map};
 ghost use Rattle.xk_tree.specs.Tree.{expression, word};
 ghost use Rattle.xk_names.specs.Uses.{numbers, start_of, use_as, values};

@@ -1,6 +1,6 @@
 //! The methods of a program, by their names.
 
-ghost use Rattle.std.specs.Prelude.{◌≡◌, [], map, option_map, OnOk};
+ghost use Rattle.std.specs.Prelude.{◌≡◌, [], map, option_map, OnErr, OnOk};
 ghost use Rattle.xk_tree.specs.Tree.{param_value};
 ghost use Rattle.xk_names.specs.Scope.{find};
 ghost use Rattle.xk_names.specs.Uses.{Signatures};
@@ -32,16 +32,18 @@ impl<'a, 't> Methods<'a, 't> {
         }
     }
 
-    /// The parameters of the first method of the name.
+    /// The parameters of the first method of the name, or `None` where no method has it.
     pub fn find(&self, name: &'t [u8]) -> Option<&'a [Param<'t>]>
         ensures { option_map (λ ps. map param_value ps.now) result ≡ find self.now name.now }
     {
         self.params.find(name)
     }
 
-    // Adds a method, unless one of its name is there.
+    // Adds a method, unless one of its name is there. Where memory is wanting nothing changes.
     pub(crate) fn put(&mut self, name: &'t [u8], params: &'a [Param<'t>]) -> Result<(), AllocError>
-        ensures { OnOk result (self.new ≡ put self.old name.now (map param_value params.now)) }
+        ensures entry { OnOk result
+            (self.new ≡ put self.old name.now (map param_value params.now)) }
+        ensures same { OnErr result (self.new ≡ self.old) }
     {
         self.params.put(name, params)?;
         Ok(())

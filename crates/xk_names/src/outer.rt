@@ -9,7 +9,7 @@ ghost use Rattle.xk_names.specs.Uses.{given_to};
 ghost use Rattle.xk_names.specs.Given.{arguments as given_words};
 ghost use Rattle.xk_names.specs.Captures.{argument_words, captures, number_words, outer_among, shared_texts};
 ghost use Rattle.xk_names.specs.Captures.{outer_words, own_behind, source_words, words_besides};
-ghost use Rattle.xk_names.specs.Captures.{words_used, outer_inside};
+ghost use Rattle.xk_names.specs.Captures.{words_used};
 ghost use Rattle.xk_names.specs.Collected.{put_text, put_texts};
 
 use crate::arguments::{Argument, arguments};
@@ -279,7 +279,9 @@ fn take_listed<'t>(
     out.to_vec(alloc)
 }
 
-/// The numbers that the body of an `async` takes from outside, by their names, in the order of their first use.
+/// The numbers that the body of an `async` takes from outside: those that it uses and doesn't declare, inner bodies included, by their names, each
+/// once, in the order of their first use. Neither the numbers in `shared` nor clocks are among them. `methods` tells which arguments are numbers.
+/// The only error is want of memory.
 #[tactic(auto, using(crate::proofs::Captured::captures_kept))]
 pub fn captures<'t>(
     alloc: Global,

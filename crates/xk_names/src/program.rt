@@ -100,7 +100,8 @@ fn put_methods<'a, 't>(
     Ok(())
 }
 
-/// The methods of a tree by their names, the first where two have one name.
+/// The methods of a tree by their names, each with its parameters: the first where two have one name, which F6 refuses. Nothing is asked of the
+/// tree. The only error is want of memory.
 pub fn methods_of<'a, 't>(alloc: Global, tree: &'a Tree<'t>) -> Result<Methods<'a, 't>, AllocError>
     ensures methods { IfOk result (λ ms. ms ≡ put_methods [] (tree_value tree.now).methods) }
     ensures scoped { IsScoped (tree_value tree.now)
@@ -193,7 +194,9 @@ fn has_main<'t>(methods: &Methods<'_, 't>) -> bool
     }
 }
 
-/// Looks for faults of names in a tree, F5 to F9, F11 and F12.
+/// Looks for faults of names in a tree: F5 to F9, F11 and F12 of `docs/LANGUAGE.md`, rules that are this project's own. `Ok` means that the tree
+/// has none, so that each name that is used is visible and is what is wanted. Otherwise the fault is told that has the least offset, and of
+/// those there the least number; F9 only where there is no other. `OutOfMemory` tells nothing of the tree.
 pub fn check_names(alloc: Global, tree: &Tree<'_>) -> Result<(), FrontError>
     ensures clean { OnOk result ((f : FrontFault) → HasFault (tree_value tree.now) f → ⊥) }
     ensures scoped { OnOk result (IsScoped (tree_value tree.now)) }

@@ -1,6 +1,6 @@
 //! Tables and sets of names.
 
-ghost use Rattle.std.specs.Prelude.{◌≡◌, ℕ, List, [], map, take, length, not, OnOk, IfOk};
+ghost use Rattle.std.specs.Prelude.{◌≡◌, ℕ, List, [], map, take, length, not, OnErr, OnOk, IfOk};
 ghost use Rattle.xk_names.specs.Scope.{Table as Entries, find, has};
 ghost use Rattle.xk_tree.specs.Tree.{Statements, Word};
 ghost use Rattle.xk_names.specs.Captures.{own_after};
@@ -10,7 +10,7 @@ use indexmap::{IndexMap, IndexSet};
 use std::alloc::{AllocError, Global};
 use std::marker::Model;
 
-// What names stand for, in the order in which they were put in.
+/// What names stand for, in the order in which they were put in. No name is there twice.
 #[derive(Drop)]
 pub struct Table<'t, A: Copy> {
     entries: IndexMap<&'t [u8], A>,
@@ -23,6 +23,7 @@ impl<'t, A: Copy> Model for Table<'t, A> {
 }
 
 impl<'t, A: Copy> Table<'t, A> {
+    /// A table without entries.
     pub fn new(alloc: Global) -> Self
         ensures { result ≡ [] }
     {
@@ -31,21 +32,24 @@ impl<'t, A: Copy> Table<'t, A> {
         }
     }
 
+    /// How many entries it has.
     pub fn len(&self) -> usize
         ensures { result ≡ length self.now }
     {
         self.entries.len()
     }
 
+    /// What the name stands for, or `None` where it has no entry.
     pub fn find(&self, text: &'t [u8]) -> Option<A>
         ensures { result ≡ find self.now text.now }
     {
         self.entries.get(&text).copied()
     }
 
-    // Adds an entry, unless the text has one.
+    /// Adds an entry behind the others, unless the name has one, which stays then. Where memory is wanting nothing changes.
     pub fn put(&mut self, text: &'t [u8], a: A) -> Result<(), AllocError>
-        ensures { OnOk result (self.new ≡ put self.old text.now a) }
+        ensures entry { OnOk result (self.new ≡ put self.old text.now a) }
+        ensures same { OnErr result (self.new ≡ self.old) }
     {
         if !self.entries.contains_key(&text) {
             self.entries.insert(text, a)?;
@@ -53,6 +57,7 @@ impl<'t, A: Copy> Table<'t, A> {
         Ok(())
     }
 
+    /// Forgets all but the first `len` entries.
     #[tactic(auto, using(crate::proofs::Tables::take_shown))]
     pub fn truncate(&mut self, len: usize)
         ensures { self.new ≡ take len self.old }
@@ -88,10 +93,11 @@ impl<'t> Texts<'t> {
         self.keys.contains(&text)
     }
 
-    // Adds a name, and says whether it is new.
+    // Adds a name, and says whether it is new. Where memory is wanting nothing changes.
     pub fn put(&mut self, text: &'t [u8]) -> Result<bool, AllocError>
         ensures new { IfOk result (λ new. new ≡ not (has self.old text.now)) }
         ensures texts { OnOk result (self.new ≡ put_text self.old text.now) }
+        ensures same { OnErr result (self.new ≡ self.old) }
     {
         let new = self.keys.insert(text)?;
         Ok(new)

@@ -1,4 +1,4 @@
--- What the readers give is what is spelled.
+-- What the readers give is what is spelled. This project's own.
 use Rattle.std.specs.Prelude.{◌≡◌, ℕ, true, List, Some, None}
 use Rattle.xk_tokens.specs.declared.token.Keyword.TheVariants as keyword
 use Rattle.xk_tree.specs.Tree.{Statement, TreeValue}

@@ -1,4 +1,5 @@
 -- Reading statements, methods and programs. Where nothing can be read, `None`.
+-- The grammar is this project's own, in the manner of X10's statements and methods.
 use Rattle.std.specs.Prelude.{ℕ, zero, suc, List, [], ◌∷◌, ◌++◌, Option, Some, None, codes, if◌then◌else◌}
 use Rattle.std.specs.Str.{bytes_eq}
 use denote.Enum.Bare.{sameb}

@@ -1,4 +1,4 @@
--- How statements, methods and programs are spelled, and which of them are within the limits.
+-- How statements, methods and programs are spelled, and which of them are within the limits. Grammar and limits are this project's own.
 use Rattle.std.specs.Prelude.{◌≡◌, ◌≢◌, ℕ, zero, suc, ◌≤◌, Bool, true, false, List, [], ◌∷◌, ◌++◌, length, map, Option, Some, None, codes}
 use Rattle.std.specs.List.{AllByRecursion}
 use Rattle.xk_types.specs.declared.instr.Comparison.{Comparison}

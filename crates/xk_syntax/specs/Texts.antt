@@ -1,4 +1,4 @@
--- A fault of a text means that it spells no tree, and is of a rule on texts.
+-- A fault of a text means that it spells no tree, and is of a rule on texts. The faults are this project's own.
 use Rattle.std.specs.Prelude.{ℕ, ⊤, List, Result, Err}
 use Rattle.xk_tree.specs.declared.tree.Tree.{Tree}
 use Rattle.xk_tree.specs.declared.fault.FrontRule.{FrontRule}

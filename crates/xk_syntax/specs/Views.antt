@@ -1,4 +1,4 @@
--- What the code's heads are, apart from where they lie in memory.
+-- What the code's heads are, apart from where they lie in memory. This project's own.
 use Rattle.std.specs.Prelude.{Option, option_map}
 use Rattle.xk_tree.specs.declared.tree.ClockList.{ClockList}
 use Rattle.xk_tree.specs.Tree.{Clocks, expression, word, clock_list, statement}

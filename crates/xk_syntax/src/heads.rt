@@ -1,6 +1,5 @@
 //! What stands before the statement, or the statements, that a statement holds.
 
-ghost use Rattle.std.specs.Prelude.{◌≡◌};
 ghost use Rattle.xk_tree.specs.Tree.{statement};
 ghost use Rattle.xk_exprs.specs.Marks.{marks};
 ghost use Rattle.xk_exprs.specs.Readers.{Gives};

@@ -3,8 +3,8 @@
 ghost use Rattle.std.specs.Prelude.{◌≡◌, option_map};
 ghost use Rattle.std.specs.Str.{bytes_eq};
 ghost use Rattle.xk_tree.specs.Tree.{word};
-ghost use Rattle.xk_exprs.specs.Marks.{mark, marks};
-ghost use Rattle.xk_exprs.specs.Readers.{Gives, head_at};
+ghost use Rattle.xk_exprs.specs.Marks.{marks};
+ghost use Rattle.xk_exprs.specs.Readers.{Gives};
 ghost use Rattle.xk_syntax.specs.Readers.{sign_at, keyword_at, open_at, plus_at, clock_at, word_at, this_word_at, comparison_of, comparison_at, type_at, ahead_at};
 
 use xk_exprs::SyntaxError;

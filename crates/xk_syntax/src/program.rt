@@ -1,6 +1,6 @@
 //! Methods, shared numbers and programs.
 
-ghost use Rattle.std.specs.Prelude.{◌≡◌, ◌<◌, ℕ, [], length, map, IfOk};
+ghost use Rattle.std.specs.Prelude.{◌≡◌, ◌<◌, [], length, map, IfOk};
 ghost use Rattle.xk_tokens.specs.declared.token.Keyword.TheVariants as words;
 ghost use Rattle.xk_tree.specs.declared.fault.FrontRule.TheVariants as rule;
 ghost use Rattle.xk_tree.specs.declared.fault.FrontFault.{FrontFault as Fault};
@@ -135,9 +135,11 @@ fn program<'t>(alloc: Global, tokens: &[Token<'t>], end: usize) -> Result<Tree<'
     }
 }
 
-/// The tree that a text spells.
+/// The tree that a text spells, within the limits. The words `async` in it stand at offsets that differ.
 ///
-/// Of the rules F1, F2, F3 and F13 the error names the one that is broken first in the text.
+/// A fault means that the text spells no tree. Its rule is one of F1 to F4 and F13 of `docs/LANGUAGE.md`, rules that are this project's own; it is
+/// F4 exactly where the text has more than 1,048,576 bytes. Which of the others is told, and at which offset, no clause says. `OutOfMemory` tells
+/// nothing of the text.
 pub fn parse<'t>(alloc: Global, text: &'t str) -> Result<Tree<'t>, FrontError>
     ensures spelled { IfOk result (λ tree. SpellsTree text.now (tree_value tree)) }
     ensures none_spelled { IsRefused text.now result }

@@ -1,7 +1,7 @@
 //! Statements that hold no other, behind their first token.
 
-ghost use Rattle.std.specs.Prelude.{◌≡◌, option_map, codes, Some};
-ghost use Rattle.xk_tree.specs.Tree.{expression, source, statement, word};
+ghost use Rattle.std.specs.Prelude.{Some};
+ghost use Rattle.xk_tree.specs.Tree.{source, statement, word};
 ghost use Rattle.xk_exprs.specs.Marks.{marks};
 ghost use Rattle.xk_exprs.specs.Readers.{Gives};
 ghost use Rattle.xk_syntax.specs.Readers.{bind, verb_at, bare_verb_at, act_at, type_part_at, source_at, declare_at, atomic_at, advance_at, print_head_at, print_at, call_at, dotted_at, assign_at, named_at};

@@ -1,4 +1,4 @@
--- A text read from left to right, a piece at a time.
+-- A text read from left to right, a piece at a time. This project's own.
 use Rattle.std.specs.Prelude.{ℕ, zero, suc, ◌+◌, ◌-◌, ◌^◌, ◌==◌, nat_le, Bool, false, ◌&&◌, List, [], ◌∷◌, length, take, Option, Some, None, option_map, unwrap_or, if◌then◌else◌}
 use Rattle.std.specs.List.{prefix_len}
 use Rattle.xk_tokens.specs.declared.token.Sign.{Sign}

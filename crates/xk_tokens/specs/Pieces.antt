@@ -1,4 +1,5 @@
 -- What a text spells. It is cut into pieces, each as long as can be: blanks, comments, and those that are tokens.
+-- Which pieces there are is this project's own, in the manner of X10.
 use Rattle.std.specs.Prelude.{◌≡◌, ◌≢◌, ℕ, ◌+◌, ◌-◌, ◌*◌, ◌^◌, ◌≤◌, ◌==◌, nat_le, ◌⊎◌, Bool, true, false, IsTrue, IsFalse, not, ◌&&◌, ◌||◌, List, [], ◌∷◌, ◌++◌, length, map, Option, Some, None, if◌then◌else◌}
 use Rattle.std.specs.List.{list_all, list_any}
 use Rattle.xk_tokens.specs.declared.token.Sign.{Sign}

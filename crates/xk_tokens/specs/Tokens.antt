@@ -1,4 +1,4 @@
--- Tokens, and how signs and reserved words are spelled.
+-- Tokens, and how signs and reserved words are spelled. The signs and words are X10's as far as X10 has them; the choice is this project's own.
 use Rattle.std.specs.Prelude.{ℕ, List, Option, Some, None, codes, if◌then◌else◌}
 use Rattle.std.specs.Str.{bytes_eq}
 use Rattle.xk_tokens.specs.declared.token.Sign.{Sign}

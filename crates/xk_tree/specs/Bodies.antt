@@ -1,4 +1,4 @@
--- Where the words `async` of a tree stand, in the order of the text.
+-- Where the words `async` of a tree stand, in the order of the text. This project's own.
 use Rattle.std.specs.Prelude.{ℕ, List, [], ◌∷◌, ◌++◌}
 use Rattle.std.specs.List.Sorted.{IsStrictlyIncreasing}
 use Rattle.xk_tree.specs.Tree.{Statement, Statements, Done, More, Block, If, IfElse, For, Async, Finish, MethodValue, TreeValue}

@@ -1,4 +1,4 @@
--- The numbers and names of the faults of a text or its tree, as the program prints them.
+-- The numbers and names of the faults of a text or its tree, as the program prints them. The faults are this project's own.
 use Rattle.std.specs.Prelude.{ℕ, List, codes}
 use Rattle.xk_tree.specs.declared.fault.FrontRule.{FrontRule}
 use Rattle.xk_tree.specs.declared.fault.FrontRule.TheVariants as rule

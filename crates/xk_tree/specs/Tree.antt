@@ -1,4 +1,5 @@
 -- Trees, apart from where they lie in memory. Numbers called `at`, `paren` or `minus` are offsets in the text.
+-- The language is this project's own, in the manner of X10.
 use Rattle.std.specs.Prelude.{ℕ, List, [], ◌∷◌, map, Option, option_map}
 use Rattle.xk_types.specs.declared.instr.Comparison.{Comparison}
 use Rattle.xk_tree.specs.declared.tree.Operator.{Operator}

@@ -3,6 +3,7 @@ use Rattle.std.proofs.Common.{◌≡◌, ℕ, zero, suc, ◌+◌, Bool, true, fa
 use Rattle.std.specs.Prelude.{is_some}
 use Rattle.std.specs.declared.alloc.Global.{Global}
 use Rattle.std.specs.Cmp.Lexicographic.{bytes_decides}
+use Rattle.std.specs.Option.{option_or}
 use Rattle.xk_calls.specs.Calls.{rows}
 use Rattle.xk_tree.specs.Tree.{Word, method_value, word, words}
 use Rattle.xk_tree.specs.declared.tree.Method.{Method}
@@ -10,7 +11,6 @@ use Rattle.xk_tree.specs.declared.tree.Name.{Name}
 use Rattle.xk_names.specs.Scope.{Table, find, is_text}
 use Rattle.xk_names.specs.Collected.{put}
 use Rattle.xk_units.specs.Recursion.{number_among}
-use Rattle.xk_units.specs.Callees.{first_of}
 
 pub words_push : (ns : List Name) (n : Name) → words (ns ++ n ∷ []) ≡ words ns ++ word n ∷ []
 words_push [] n = refl
@@ -31,37 +31,37 @@ same_text x y h = (bytes_decides x y).0 h
 
 -- ---- numbers of names
 
-find_last : (table : Table ℕ) (k x : List ℕ) (i : ℕ) (o : Option ℕ) → first_of (find (table ++ (k, i) ∷ []) x) o ≡ first_of (find table x) (cond (is_text x k) (Some i) o)
+find_last : (table : Table ℕ) (k x : List ℕ) (i : ℕ) (o : Option ℕ) → option_or (find (table ++ (k, i) ∷ []) x) o ≡ option_or (find table x) (cond (is_text x k) (Some i) o)
 find_last [] k x i o = go (is_text x k)
   where
-    go : (b : Bool) → first_of (cond b (Some i) None) o ≡ cond b (Some i) o
+    go : (b : Bool) → option_or (cond b (Some i) None) o ≡ cond b (Some i) o
     go true = refl
     go false = refl
 find_last (e ∷ table) k x i o = go (is_text x e.0) (find_last table k x i o)
   where
-    go : (b : Bool) → first_of (find (table ++ (k, i) ∷ []) x) o ≡ first_of (find table x) (cond (is_text x k) (Some i) o)
-        → first_of (cond b (Some e.1) (find (table ++ (k, i) ∷ []) x)) o ≡ first_of (cond b (Some e.1) (find table x)) (cond (is_text x k) (Some i) o)
+    go : (b : Bool) → option_or (find (table ++ (k, i) ∷ []) x) o ≡ option_or (find table x) (cond (is_text x k) (Some i) o)
+        → option_or (cond b (Some e.1) (find (table ++ (k, i) ∷ []) x)) o ≡ option_or (cond b (Some e.1) (find table x)) (cond (is_text x k) (Some i) o)
     go true later = refl
     go false later = later
 
 -- a name that the table has already
 find_present : (table : Table ℕ) (k x : List ℕ) (i : ℕ) (o : Option ℕ) → is_some (find table k) ≡ true
-    → first_of (find table x) o ≡ first_of (find table x) (cond (is_text x k) (Some i) o)
+    → option_or (find table x) o ≡ option_or (find table x) (cond (is_text x k) (Some i) o)
 find_present table k x i o h = go (is_text x k) refl
   where
-    there : (p q : Option ℕ) → is_some p ≡ true → first_of p o ≡ first_of p q
+    there : (p q : Option ℕ) → is_some p ≡ true → option_or p o ≡ option_or p q
     there (Some j) q e = refl
     there None q e = cc
 
-    go : (b : Bool) → is_text x k ≡ b → first_of (find table x) o ≡ first_of (find table x) (cond b (Some i) o)
+    go : (b : Bool) → is_text x k ≡ b → option_or (find table x) o ≡ option_or (find table x) (cond b (Some i) o)
     go true e = there (find table x) (Some i) (ap (λ y. is_some (find table y)) (same_text x k e) ∙ h)
     go false e = refl
 
 -- a name's number, where one method more is in the table
-pub put_number : (table : Table ℕ) (k x : List ℕ) (i : ℕ) (o : Option ℕ) → first_of (find (put table k i) x) o ≡ first_of (find table x) (cond (is_text x k) (Some i) o)
+pub put_number : (table : Table ℕ) (k x : List ℕ) (i : ℕ) (o : Option ℕ) → option_or (find (put table k i) x) o ≡ option_or (find table x) (cond (is_text x k) (Some i) o)
 put_number table k x i o = go (is_some (find table k)) refl
   where
-    go : (b : Bool) → is_some (find table k) ≡ b → first_of (find (cond b table (table ++ (k, i) ∷ [])) x) o ≡ first_of (find table x) (cond (is_text x k) (Some i) o)
+    go : (b : Bool) → is_some (find table k) ≡ b → option_or (find (cond b table (table ++ (k, i) ∷ [])) x) o ≡ option_or (find table x) (cond (is_text x k) (Some i) o)
     go true e = find_present table k x i o e
     go false e = find_last table k x i o
 

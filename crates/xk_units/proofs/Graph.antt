@@ -4,6 +4,7 @@ use Rattle.std.proofs.lemmas.List.{length-map}
 use Rattle.std.specs.Prelude.{unwrap_or, codes}
 use Rattle.std.specs.declared.alloc.Global.{Global}
 use Rattle.std.specs.Cmp.Lexicographic.{bytes_decides}
+use Rattle.std.specs.Option.{option_or}
 use Rattle.xk_calls.specs.Calls.{IsCall, Path, IsRecursive, AreWithin}
 use Rattle.xk_tree.specs.declared.fault.FrontRule.TheVariants as rule
 use Rattle.xk_tree.specs.declared.fault.FrontFault.{FrontFault}
@@ -12,7 +13,7 @@ use Rattle.xk_tree.specs.declared.tree.Name.{Name}
 use Rattle.xk_names.specs.Scope.{Table, find, is_text, Has}
 use Rattle.xk_names.specs.Faults.{fault}
 use Rattle.xk_units.specs.Recursion.{number_among, HasCall, CallsBy, LeadTo, IsMainCalled, ComesBack}
-use Rattle.xk_units.specs.Callees.{callees_all, all_callees, first_of, main_among, main_in, number_or_last, numbers_called, graph}
+use Rattle.xk_units.specs.Callees.{callees_all, all_callees, main_among, main_in, number_or_last, numbers_called, graph}
 use Rattle.xk_units.proofs.Listed.{has_at, place_of, is_listed_among, stands_among}
 
 -- ---- rows
@@ -178,12 +179,12 @@ pub main_called : (ms : List MethodValue) (at : ℕ) → main_in (all_callees ms
 main_called [] at e = absurd cc
 main_called (m ∷ ms) at e = go (main_among (callees_all m.body)) refl e (main_called ms at)
   where
-    go : (o : Option ℕ) → main_among (callees_all m.body) ≡ o → first_of o (main_in (all_callees ms)) ≡ Some at
+    go : (o : Option ℕ) → main_among (callees_all m.body) ≡ o → option_or o (main_in (all_callees ms)) ≡ Some at
         → (main_in (all_callees ms) ≡ Some at → MainIn ms at) → MainIn (m ∷ ms) at
     go (Some a) here h later = let r = main_has (callees_all m.body) at (here ∙ h) in (zero, m, r.0, refl, r.1, r.2, r.3)
     go None here h later = let r = later h in (suc r.0, r.1, r.2, r.3, r.4, r.5, r.6)
 
-first_none : (a b : Option ℕ) → first_of a b ≡ None → (a ≡ None) × (b ≡ None)
+first_none : (a b : Option ℕ) → option_or a b ≡ None → (a ≡ None) × (b ≡ None)
 first_none (Some x) b e = cc
 first_none None b e = (refl, e)
 

@@ -1,23 +1,10 @@
 -- A method's calls by the places where they stand, and in a list.
-use Rattle.std.proofs.Common.{◌≡◌, ◌⊎◌, inl, inr, ℕ, zero, suc, ◌+◌, List, [], ◌∷◌, ◌++◌, Some, slice_get, refl, sym, ap, subst}
+use Rattle.std.proofs.Common.{◌≡◌, inl, inr, ℕ, zero, suc, List, [], ◌∷◌, Some, slice_get, refl, sym, ap, subst}
 use Rattle.xk_tree.specs.Tree.{Word, Expression, Statement, Statements, Done, More, Block, If, IfElse, For, Async, Finish, Call}
 use Rattle.xk_names.specs.Scope.{Has}
 use Rattle.xk_names.specs.Places.{Way, Here, First, Later, Inside, Else, Stands, StandsAmong}
+use Rattle.xk_names.proofs.Among.{has_left, has_right, has_either}
 use Rattle.xk_units.specs.Callees.{callees, callees_all}
-
-pub has_left : {A : Type 0} (xs ys : List A) (x : A) → Has xs x → Has (xs ++ ys) x
-has_left [] ys x h = absurd h
-has_left (y ∷ xs) ys x (inl e) = inl e
-has_left (y ∷ xs) ys x (inr h) = inr (has_left xs ys x h)
-
-pub has_right : {A : Type 0} (xs ys : List A) (x : A) → Has ys x → Has (xs ++ ys) x
-has_right [] ys x h = h
-has_right (y ∷ xs) ys x h = inr (has_right xs ys x h)
-
-pub has_either : {A : Type 0} (xs ys : List A) (x : A) → Has (xs ++ ys) x → Has xs x ⊎ Has ys x
-has_either [] ys x h = inr h
-has_either (y ∷ xs) ys x (inl e) = inl (inl e)
-has_either (y ∷ xs) ys x (inr h) = elim (has_either xs ys x h) [ inl a ↦ inl (inr a) | inr b ↦ inr b ]
 
 pub has_at : {A : Type 0} (xs : List A) (k : ℕ) (x : A) → slice_get xs k ≡ Some x → Has xs x
 has_at [] k x e = absurd cc

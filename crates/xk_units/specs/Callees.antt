@@ -1,5 +1,6 @@
--- The calls of statements in a list, in the order of the text.
+-- The calls of statements in a list, in the order of the text. This project's own.
 use Rattle.std.specs.Prelude.{ℕ, List, [], ◌∷◌, ◌++◌, map, length, Option, Some, None, unwrap_or, codes, if◌then◌else◌}
+use Rattle.std.specs.Option.{option_or}
 use Rattle.xk_tree.specs.Tree.{Word, Statement, Statements, Done, More, Block, If, IfElse, For, Async, Finish, Call, MethodValue}
 use Rattle.xk_names.specs.Scope.{is_text}
 use Rattle.xk_units.specs.Recursion.{number_among}
@@ -29,13 +30,9 @@ abbrev pub main_among : List Word → Option ℕ
 main_among [] = None
 main_among (g ∷ gs) = if is_text g.text (codes "main") then Some g.at else main_among gs
 
-abbrev pub first_of : Option ℕ → Option ℕ → Option ℕ
-first_of (Some at) o = Some at
-first_of None o = o
-
 abbrev pub main_in : List (List Word) → Option ℕ
 main_in [] = None
-main_in (gs ∷ rest) = first_of (main_among gs) (main_in rest)
+main_in (gs ∷ rest) = option_or (main_among gs) (main_in rest)
 
 -- the numbers of the methods that are called, where one more number stands for all methods that don't exist
 abbrev pub number_or_last : List MethodValue → Word → ℕ

@@ -1,5 +1,5 @@
 -- What a place sees in the text, beside the slots that its unit has there.
-use Rattle.std.proofs.Common.{◌≡◌, ◌⊎◌, inl, inr, ℕ, suc, nat_eq, ◌≤◌, Bool, true, false, ◌||◌, List, [], ◌∷◌, ◌++◌, length, Option, Some, None, refl, sym, ap, ◌∙◌, subst, arith, eqb-true}
+use Rattle.std.proofs.Common.{◌≡◌, ◌⊎◌, inl, inr, ℕ, suc, nat_eq, ◌≤◌, Bool, true, false, ◌||◌, List, [], ◌∷◌, ◌++◌, length, Option, Some, None, refl, sym, ap, ◌∙◌, subst, arith, eqb-true, append-nil}
 use Rattle.xk_tree.specs.Tree.{Word, Statement, Declare, Clocks, Source, Make, Value}
 use Rattle.xk_tree.specs.declared.tree.Binding.{Binding}
 use Rattle.xk_tree.specs.declared.tree.Binding.TheVariants as binding
@@ -7,14 +7,13 @@ use Rattle.xk_names.specs.declared.known.Known.{Known}
 use Rattle.xk_names.specs.declared.known.Kind.{Kind}
 use Rattle.xk_names.specs.declared.known.Kind.TheVariants as kind
 use Rattle.xk_names.specs.Scope as names
-use Rattle.xk_names.specs.Scope.{Table, find, has, is_text, texts, Has, Declaration, known, is_own, is_given, is_shared, is_clock}
+use Rattle.xk_names.specs.Scope.{Table, find, has, is_text, texts, Has, known, is_own, is_given, is_shared}
 use Rattle.xk_names.specs.Uses.{Signatures, kind_of, clocks_listed}
 use Rattle.xk_names.specs.Places as places
 use Rattle.xk_names.specs.Scoped.{IsSound, IsSoundInside, with_all, with_body}
 use Rattle.xk_names.specs.Collected.{put_text}
 use Rattle.xk_names.specs.Captures.{own_behind, outer_words, captures}
 use Rattle.xk_names.proofs.Agreement.{find_behind, or_entry, has_put, put_texts_same}
-use Rattle.xk_names.proofs.Whole.{append_empty}
 use Rattle.xk_names.proofs.Outside.{outer_found}
 use Rattle.xk_code.specs.CodeOf.{Scope, declared}
 use Rattle.xk_code.specs.Unit.{scope_from}
@@ -86,7 +85,7 @@ plain_kind binding.Var (Value e) = refl
 
 fits_same : (shared : Texts) (sc : Seen) (scope : Scope) (own : Texts) → Fits shared sc scope own → Fits shared (with_all sc []) scope own
 fits_same shared sc scope own fits =
-    subst (λ (t : Table Known). let there : Seen = record { names = t; bodies = sc.bodies } in Fits shared there scope own) (sym (append_empty sc.names)) fits
+    subst (λ (t : Table Known). let there : Seen = record { names = t; bodies = sc.bodies } in Fits shared there scope own) (sym (append-nil sc.names)) fits
 
 -- behind a statement
 pub fits_behind : (shared : Texts) (sc : Seen) (scope : Scope) (own : Texts) (n : ℕ) (s : Statement) → Fits shared sc scope own

@@ -10,7 +10,7 @@ use Rattle.xk_names.specs.declared.known.Known.{Known}
 use Rattle.xk_names.specs.declared.known.Kind.TheVariants as kind
 use Rattle.xk_names.specs.declared.known.Want.TheVariants as want
 use Rattle.xk_names.specs.Scope as names
-use Rattle.xk_names.specs.Scope.{find, has, texts, Has, is_clock, is_shared, fits}
+use Rattle.xk_names.specs.Scope.{find, has, texts, Has, is_clock}
 use Rattle.xk_names.specs.Uses.{Signatures, use_as, kind_of, numbers, clocks_listed, given_to, argument_uses, argument_misfits}
 use Rattle.xk_names.specs.Places as places
 use Rattle.xk_names.specs.Scoped.{IsRight, IsSound, IsSoundInside, AreSound, with_all, with_body}

@@ -1,11 +1,11 @@
 -- Names and slots: what is found behind one entry more, and names that are declared one after another.
-use Rattle.std.proofs.Common.{◌≡◌, ◌⊎◌, inl, inr, ℕ, ◌+◌, Bool, true, false, cond, ◌||◌, List, [], ◌∷◌, ◌++◌, Option, Some, None, refl, sym, ap, ◌∙◌, subst}
+use Rattle.std.proofs.Common.{◌≡◌, ◌⊎◌, inl, inr, ℕ, ◌+◌, Bool, true, false, cond, ◌||◌, List, [], ◌∷◌, ◌++◌, Option, Some, None, refl, sym, ap, ◌∙◌, subst, append-nil}
 use Rattle.std.specs.Prelude.{is_some}
 use Rattle.std.specs.Cmp.Lexicographic.{bytes_decides}
 use Rattle.xk_tree.specs.Tree.{Word}
 use Rattle.xk_names.specs.Scope.{Table, find, has, is_text, texts, Has}
 use Rattle.xk_names.specs.Collected.{put_text, put_texts}
-use Rattle.xk_names.proofs.Agreement.{find_behind, or_entry, has_behind}
+use Rattle.xk_names.proofs.Agreement.{find_behind, or_entry, has_behind, append_step}
 use Rattle.xk_code.specs.CodeOf.{Scope}
 use Rattle.xk_code.specs.Unit.{scope_from}
 use Rattle.xk_code.specs.Covered.{IsFound, AreNew}
@@ -97,16 +97,8 @@ differ_new scope n seen (x ∷ xs) fresh h = (
       h.1,
 )
 
-append_empty : (xs : List (List ℕ)) → xs ++ [] ≡ xs
-append_empty [] = refl
-append_empty (x ∷ xs) = ap (λ r. x ∷ r) (append_empty xs)
-
-append_step : (xs : List (List ℕ)) (y : List ℕ) (ys : List (List ℕ)) → xs ++ y ∷ ys ≡ (xs ++ y ∷ []) ++ ys
-append_step [] y ys = refl
-append_step (x ∷ xs) y ys = ap (λ r. x ∷ r) (append_step xs y ys)
-
 pub differ_append : (seen xs ys : List (List ℕ)) → Differ seen xs → Differ (seen ++ xs) ys → Differ seen (xs ++ ys)
-differ_append seen [] ys h g = subst (λ k. Differ k ys) (append_empty seen) g
+differ_append seen [] ys h g = subst (λ k. Differ k ys) (append-nil seen) g
 differ_append seen (x ∷ xs) ys h g = (h.0, differ_append (seen ++ x ∷ []) xs ys h.1 (subst (λ k. Differ k ys) (append_step seen x xs) g))
 
 -- names that are put into a list once each

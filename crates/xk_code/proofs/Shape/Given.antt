@@ -15,6 +15,7 @@ use Rattle.xk_types.specs.Shape.{has_twice, gives_twice}
 use Rattle.xk_tree.specs.Tree.{Word, Clocks, Expression, Literal, Named, Paren, Negation, Binary, ParamValue, Statement, Block, Empty, Declare, Assign, Atomic, If, IfElse, For, Async, Finish, Call, Resume, Drop, AdvanceAll, Print, Statements, Done, More}
 use Rattle.xk_names.specs.Scope.{find, has, is_text, texts, Has}
 use Rattle.xk_names.specs.Uses.{given, argument_misfits, argument_clocks, clocks_listed}
+use Rattle.xk_names.proofs.Among.{has_right, has_either}
 use Rattle.xk_code.specs.CodeOf.{Scope, Setting, number_of, slots_of, body_unit, body_params, captures_at, slot_for, behind, eval_all, argument_slots, count, declared}
 use Rattle.xk_code.specs.Unit.{scope_from, body_kinds, kinds_of_params}
 use Rattle.xk_code.specs.Covered.{IsFound, IsNew, IsKnown, IsCovered, AreCovered}
@@ -128,10 +129,6 @@ body_clocks (c ∷ cs) ns f = ap (λ l. f c.text ∷ l) (body_clocks cs ns f)
 
 -- ---- arguments of a method
 
-has_behind : {X : Type 0} (xs ys : List X) (x : X) → Has ys x → Has (xs ++ ys) x
-has_behind [] ys x h = h
-has_behind (z ∷ xs) ys x h = inr (has_behind xs ys x h)
-
 abbrev pub clock_words : List ParamValue → List Expression → List Word
 clock_words ps es = flat_map (λ a. argument_clocks a.0 a.1) (given ps es)
 
@@ -157,16 +154,7 @@ call_clocks scope t (p ∷ ps) (e ∷ es) fit =
     call_clock scope t p.takes.kind e (kinds_of_params ps) (argument_slots scope (behind t (slot_for scope t e)) es) (clock_words ps es)
     (flat_map (λ a. argument_misfits a.0 a.1) (given ps es)) fit
     (call_clocks scope (behind t (slot_for scope t e)) ps es
-    (λ n h. fit n (has_behind (argument_misfits p.takes.kind e) (flat_map (λ a. argument_misfits a.0 a.1) (given ps es)) n h)))
-
-has_split : {X : Type 0} (xs ys : List X) (x : X) → Has (xs ++ ys) x → Has xs x ⊎ Has ys x
-has_split [] ys x h = inr h
-has_split (z ∷ xs) ys x (inl e) = inl (inl e)
-has_split {X} (z ∷ xs) ys x (inr h) = go (has_split xs ys x h)
-  where
-    go : Has xs x ⊎ Has ys x → Has (z ∷ xs) x ⊎ Has ys x
-    go (inl g) = inl (inr g)
-    go (inr g) = inr g
+    (λ n h. fit n (has_right (argument_misfits p.takes.kind e) (flat_map (λ a. argument_misfits a.0 a.1) (given ps es)) n h)))
 
 one_found : (scope : Scope) (k : ParamKind) (e : Expression) (c : Word) → IsKnown scope e → Has (argument_clocks k e) c → IsFound scope c.text
 one_found scope param.Number e c h g = absurd g
@@ -180,7 +168,7 @@ one_found scope param.Clock (Binary o a at b) c h g = absurd g
 call_found : (scope : Scope) (ps : List ParamValue) (es : List Expression) (c : Word) → All (IsKnown scope) es → Has (clock_words ps es) c → IsFound scope c.text
 call_found scope [] es c h g = absurd g
 call_found scope (p ∷ ps) [] c h g = absurd g
-call_found scope (p ∷ ps) (e ∷ es) c h g = go (has_split (argument_clocks p.takes.kind e) (clock_words ps es) c g) (call_found scope ps es c (All-tail (IsKnown scope) e es h))
+call_found scope (p ∷ ps) (e ∷ es) c h g = go (has_either (argument_clocks p.takes.kind e) (clock_words ps es) c g) (call_found scope ps es c (All-tail (IsKnown scope) e es h))
   where
     go : Has (argument_clocks p.takes.kind e) c ⊎ Has (clock_words ps es) c → (Has (clock_words ps es) c → IsFound scope c.text) → IsFound scope c.text
     go (inl q) later = one_found scope p.takes.kind e c (All-head (IsKnown scope) e es h) q

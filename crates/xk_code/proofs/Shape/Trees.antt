@@ -1,5 +1,5 @@
 -- The units of a tree without faults of names: those of its methods, and of the bodies of `async` that they lead to.
-use Rattle.std.proofs.Common.{◌≡◌, ℕ, int_le, Bool, true, false, cond, ◌<◌, List, [], ◌∷◌, ◌++◌, length, inl, inr, ◌⊎◌, refl, sym, ◌∙◌, subst, arith, ◌==◌}
+use Rattle.std.proofs.Common.{◌≡◌, ℕ, int_le, Bool, true, false, cond, ◌<◌, [], length, inl, inr, ◌⊎◌, refl, sym, ◌∙◌, subst, arith, ◌==◌}
 use Rattle.std.proofs.lemmas.List.{length-map}
 use Rattle.std.proofs.lemmas.Bool.Decides.{nat_tests}
 use Rattle.xk_types.specs.declared.unit.UnitKind.{UnitKind}
@@ -11,6 +11,7 @@ use Rattle.xk_names.specs.Scope.{Scope, Has, texts}
 use Rattle.xk_names.specs.Uses.{Signatures, signatures, declares, clocks_listed}
 use Rattle.xk_names.specs.Places.{behind}
 use Rattle.xk_names.specs.Scoped.{IsSound, IsSoundInside, AreSound, with_all, with_body, IsScoped, method_scope}
+use Rattle.xk_names.proofs.Among.{has_either}
 use Rattle.xk_code.specs.CodeOf.{Setting, body_params, captures_at}
 use Rattle.xk_code.specs.Unit.{names_of_params, kinds_of_params, unit_of_method, unit_of_body, body_kinds}
 use Rattle.xk_code.specs.Reached.{AsyncBody, bodies_in, bodies_in_all, IsSettingFor}
@@ -26,15 +27,6 @@ pub record IsSoundBody (ms : Signatures) (b : AsyncBody) : Type 0 where
   pub itself : IsSound ms sc b.body
   pub inside : IsSoundInside ms sc b.body
 
-has_split : {X : Type 0} (xs ys : List X) (x : X) → Has (xs ++ ys) x → Has xs x ⊎ Has ys x
-has_split [] ys x h = inr h
-has_split (z ∷ xs) ys x (inl e) = inl (inl e)
-has_split {X} (z ∷ xs) ys x (inr h) = go (has_split xs ys x h)
-  where
-    go : Has xs x ⊎ Has ys x → Has (z ∷ xs) x ⊎ Has ys x
-    go (inl g) = inl (inr g)
-    go (inr g) = inr g
-
 either : {A B C : Type 0} → (A → C) → (B → C) → A ⊎ B → C
 either f g (inl a) = f a
 either f g (inr b) = g b
@@ -45,7 +37,7 @@ mutual
   body_sound ms sc (Block ss) b h g i = bodies_sound ms sc ss b g i
   body_sound ms sc (If at l op r s) b h g i = body_sound ms sc s b g.0 g.1 i
   body_sound ms sc (IfElse at l op r s u) b h g i =
-      either (body_sound ms sc s b g.0.0 g.0.1) (body_sound ms sc u b g.1.0 g.1.1) (has_split (bodies_in s) (bodies_in u) b i)
+      either (body_sound ms sc s b g.0.0 g.0.1) (body_sound ms sc u b g.1.0 g.1.1) (has_either (bodies_in s) (bodies_in u) b i)
   body_sound ms sc (For at w lo hi s) b h g i =
       go (int_le lo.value hi.value) (body_sound ms (with_all sc (declares (length sc.bodies) (For at w lo hi s))) s b g.0 g.1) i
     where
@@ -61,7 +53,7 @@ mutual
   bodies_sound : (ms : Signatures) (sc : Scope) (ss : Statements) (b : AsyncBody) → AreSound ms sc ss → Has (bodies_in_all ss) b → IsSoundBody ms b
   bodies_sound ms sc Done b g i = absurd i
   bodies_sound ms sc (More s ss) b g i =
-      either (body_sound ms sc s b g.0.0 g.0.1) (bodies_sound ms (with_all sc (behind (length sc.bodies) s)) ss b g.1) (has_split (bodies_in s) (bodies_in_all ss) b i)
+      either (body_sound ms sc s b g.0.0 g.0.1) (bodies_sound ms (with_all sc (behind (length sc.bodies) s)) ss b g.1) (has_either (bodies_in s) (bodies_in_all ss) b i)
 
 module _ (t : TreeValue) (scoped : IsScoped t) (m : MethodValue) (there : Has t.methods m) (cx : Setting) (setting : IsSettingFor cx t m)
     (made : ModuleValue) (shared : SharedBelow cx (length made.shared)) (unit : ℕ) where

@@ -1,4 +1,4 @@
-use Rattle.std.proofs.Common.{◌≡◌, ◌≤◌, ◌<◌, ◌+◌, ◌*◌, ℕ, List, slice_index, length, ap, sym, ◌∙◌, arith}
+use Rattle.std.proofs.Common.{◌≡◌, ℕ, List, slice_index, length, ap, sym, ◌∙◌, arith}
 use Rattle.xk_calls.specs.Calls.{rows}
 use Rattle.xk_calls.specs.Order.{pending, times}
 use Rattle.xk_calls.proofs.Falling.{length-rows}
