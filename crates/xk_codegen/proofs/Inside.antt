@@ -5,7 +5,7 @@ use Rattle.xk_tree.specs.Tree.{Word, Statement, Statements, Done, More, Block, I
 use Rattle.xk_tree.specs.Bodies.{asyncs, asyncs_in, asyncs_of_methods}
 use Rattle.xk_names.specs.Scope.{Has}
 use Rattle.xk_units.specs.Callees.{callees, callees_all}
-use Rattle.xk_units.proofs.Listed.{has_left, has_right, has_either}
+use Rattle.xk_names.proofs.Among.{has_left, has_right, has_either}
 use Rattle.xk_source.specs.Parts.{Part, OfMethod, OfBody, Run, Calls, Starts, bodies, bodies_all, method_parts, runs, runs_all, part_runs}
 use Rattle.xk_source.proofs.Units.Rising.{Rising, rising_left, rising_right, rising_apart}
 use Rattle.xk_source.proofs.Units.Nested.{of_some}

@@ -6,11 +6,11 @@ use Rattle.xk_tree.specs.declared.tree.Method.{Method}
 use Rattle.xk_tree.specs.Tree.{method_value, shared_value}
 use Rattle.xk_names.specs.Scope.{Table, find, is_text}
 use Rattle.xk_names.specs.Collected.{put}
-use Rattle.xk_units.specs.Callees.{first_of}
 use Rattle.xk_units.proofs.Collecting.{put_number}
 use Rattle.xk_source.specs.Compiled.{shared_among}
 use Rattle.std.specs.declared.alloc.Global.{Global}
 use Rattle.std.specs.Prelude.{Option, Some}
+use Rattle.std.specs.Option.{option_or}
 use Rattle.xk_calls.specs.Calls.{rows}
 use Rattle.xk_codegen.specs.declared.parts.Part.{Part}
 use Rattle.xk_codegen.specs.Views.{part}
@@ -81,12 +81,12 @@ numbered_or false f i o = refl
 
 pub shared_step : (d : Shared) (before after : Table ℕ) (ss : List Shared) (i : ℕ) (x : List ℕ) → i < length ss
     → after ≡ put before (get_or ss i d).name.text.now i
-    → first_of (find after x) (shared_among (i + 1) (map shared_value (drop (i + 1) ss)) x) ≡ first_of (find before x) (shared_among i (map shared_value (drop i ss)) x)
+    → option_or (find after x) (shared_among (i + 1) (map shared_value (drop (i + 1) ss)) x) ≡ option_or (find before x) (shared_among i (map shared_value (drop i ss)) x)
 shared_step d before after ss i x h e =
     let text : List ℕ = (get_or ss i d).name.text.now in
     let left : ℕ → Option ℕ = λ k. shared_among k (map shared_value (drop (suc i) ss)) x in
-    ap (λ t. first_of (find t x) (shared_among (i + 1) (map shared_value (drop (i + 1) ss)) x)) e
+    ap (λ t. option_or (find t x) (shared_among (i + 1) (map shared_value (drop (i + 1) ss)) x)) e
     ∙ put_number before text x i (shared_among (i + 1) (map shared_value (drop (i + 1) ss)) x)
-    ∙ ap (λ k. first_of (find before x) (cond (is_text x text) (Some i) (shared_among (i + 1) (map shared_value (drop k ss)) x))) (add-one i)
-    ∙ ap (λ k. first_of (find before x) (cond (is_text x text) (Some i) (left k))) (add-one i)
-    ∙ ap (λ l. first_of (find before x) (shared_among i (map shared_value l) x)) (sym (drop-cons ss i d h))
+    ∙ ap (λ k. option_or (find before x) (cond (is_text x text) (Some i) (shared_among (i + 1) (map shared_value (drop k ss)) x))) (add-one i)
+    ∙ ap (λ k. option_or (find before x) (cond (is_text x text) (Some i) (left k))) (add-one i)
+    ∙ ap (λ l. option_or (find before x) (shared_among i (map shared_value l) x)) (sym (drop-cons ss i d h))

@@ -1,4 +1,4 @@
--- Which faults a program has.
+-- Which faults a program has. This project's own.
 use Rattle.std.specs.Prelude.{◌≡◌, ◌≤◌, ℕ, List, Some, length, slice_get}
 use Rattle.xk_types.specs.Code.{IsUnitWithinLimits}
 use Rattle.xk_tree.specs.declared.fault.FrontRule.TheVariants as rule

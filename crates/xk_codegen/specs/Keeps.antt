@@ -1,4 +1,4 @@
--- The rules on the shape of modules that the compiler keeps.
+-- The rules on the shape of modules that the compiler keeps. This project's own.
 use Rattle.std.specs.Prelude.{◌≡◌, ℕ, Bool, true, false}
 use Rattle.xk_types.specs.declared.rules.Rule.{Rule}
 use Rattle.xk_types.specs.declared.rules.Rule.TheVariants as shape

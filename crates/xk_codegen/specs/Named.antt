@@ -1,4 +1,4 @@
--- Names that the code of a part needs.
+-- Names that the code of a part needs. This project's own.
 use Rattle.std.specs.Prelude.{IsSome}
 use Rattle.xk_tree.specs.Tree.{Block}
 use Rattle.xk_code.specs.CodeOf.{Setting, body_at, body_params}

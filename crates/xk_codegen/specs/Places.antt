@@ -1,12 +1,11 @@
--- The places of parts, as they are looked up, and what is run again.
-use Rattle.std.specs.Prelude.{◌≡◌, ℕ, nat_eq, List, Option, Some, None, length, unwrap_or}
+-- The places of parts, as they are looked up, and what is run again. This project's own.
+use Rattle.std.specs.Prelude.{◌≡◌, ℕ, nat_eq, List, length, unwrap_or}
 use Rattle.std.specs.Map.{lookup}
 use Rattle.xk_names.specs.Scope.{Table, find}
 use Rattle.xk_calls.specs.Calls.{IsRecursive}
 use Rattle.xk_tree.specs.declared.fault.FrontRule.TheVariants as rule
 use Rattle.xk_tree.specs.declared.fault.FrontFault.{FrontFault}
 use Rattle.xk_tree.specs.Tree.{TreeValue}
-use Rattle.xk_code.specs.CodeOf.{Body}
 use Rattle.xk_source.specs.Graph.{graph}
 use Rattle.xk_source.specs.Parts.{Part, Run, Calls, Starts, parts, method_among, body_among}
 
@@ -25,11 +24,6 @@ pub record ArePlaces (ps : List Part) (q : Places) : Type 0 where
   pub methods : (x : List ℕ) → find q.methods x ≡ method_among 0 ps x
   pub bodies : (at : ℕ) → lookup (nat_eq at) q.bodies ≡ body_among 0 ps at
   pub other : q.other ≡ length ps
-
--- the body that a table has, or else the one that is found further on
-abbrev pub first_body : Option Body → Option Body → Option Body
-first_body (Some b) o = Some b
-first_body None o = o
 
 -- a part is run again from what it runs, and the fault is F10
 pub record RunsItself (t : TreeValue) (f : FrontFault) : Type 0 where

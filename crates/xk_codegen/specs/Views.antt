@@ -1,4 +1,4 @@
--- What the code's parts are.
+-- What the code's parts are. This project's own.
 use Rattle.std.specs.Prelude.{option_map}
 use Rattle.xk_tree.specs.Tree.{method_value, clock_list, statement}
 use Rattle.xk_codegen.specs.declared.parts.Part as declared

@@ -2,14 +2,13 @@
 
 ghost use Rattle.std.specs.Prelude.{◌≡◌, ◌≤◌, ◌+◌, ℕ, List, [], ◌∷◌, Option, Some, is_some, false, length, map, nat_eq, option_map, if◌then◌else◌, IfOk, OnOk};
 ghost use Rattle.std.specs.Map.{lookup};
+ghost use Rattle.std.specs.Option.{option_or};
 ghost use Rattle.xk_tree.specs.Tree.{shared_value, statement, tree_value};
 ghost use Rattle.xk_names.specs.Scope.{find};
 ghost use Rattle.xk_names.specs.Uses.{signatures};
 ghost use Rattle.xk_names.specs.Scoped.{IsScoped};
-ghost use Rattle.xk_units.specs.Callees.{first_of};
 ghost use Rattle.xk_code.specs.CodeOf.{Body as BodyValue};
 ghost use Rattle.xk_source.specs.Parts.{Part as PartValue, method_among};
-ghost use Rattle.xk_codegen.specs.Places.{first_body};
 ghost use Rattle.xk_codegen.specs.Views.{part};
 ghost use Rattle.xk_source.specs.Compiled.{IsSetting, settled_body, shared_among, taken, unit_number};
 
@@ -48,8 +47,8 @@ fn add_shared<'t>(table: &mut Table<'t, u16>, shared: &[Shared<'t>]) -> Result<(
 /// Adds the unit of a part that is a method, unless there is one of its name.
 fn add_method<'t>(table: &mut Table<'t, u16>, i: usize, p: &Part<'_, 't>) -> Result<(), AllocError>
     ensures { OnOk result ((rest : List PartValue) (x : List ℕ)
-        → first_of (find table.new x) (option_map unit_number (method_among (i + 1) rest x))
-        ≡ first_of (find table.old x)
+        → option_or (find table.new x) (option_map unit_number (method_among (i + 1) rest x))
+        ≡ option_or (find table.old x)
         (option_map unit_number (method_among i (part p.now ∷ rest) x))) }
 {
     match p {
@@ -99,8 +98,8 @@ fn insert_body<'t>(
 ) -> Result<(), AllocError>
     requires { is_some (lookup (nat_eq at) table.old.entries) ≡ false }
     ensures { OnOk result ((k : ℕ) (o : Option BodyValue)
-        → first_body (lookup (nat_eq k) table.new.entries) o
-        ≡ first_body (lookup (nat_eq k) table.old.entries)
+        → option_or (lookup (nat_eq k) table.new.entries) o
+        ≡ option_or (lookup (nat_eq k) table.old.entries)
         (if nat_eq k at then Some body.entry else o)) }
 {
     table.insert(at, body)?;
@@ -119,8 +118,8 @@ fn put_body<'a, 't>(
 ) -> Result<(), AllocError>
     requires { methods.now ≡ signatures (tree_value tree.now).methods }
     ensures { OnOk result ((k : ℕ) (o : Option BodyValue)
-        → first_body (lookup (nat_eq k) table.new.entries) o
-        ≡ first_body (lookup (nat_eq k) table.old.entries) (if nat_eq k at then Some (record {
+        → option_or (lookup (nat_eq k) table.new.entries) o
+        ≡ option_or (lookup (nat_eq k) table.old.entries) (if nat_eq k at then Some (record {
           unit = unit_number i;
           captures = taken (tree_value tree.now) (statement s.now);
         }) else o)) }
@@ -143,9 +142,9 @@ fn add_body<'a, 't>(
 ) -> Result<(), AllocError>
     requires { methods.now ≡ signatures (tree_value tree.now).methods }
     ensures { OnOk result ((rest : List PartValue) (at : ℕ)
-        → first_body (lookup (nat_eq at) table.new.entries)
+        → option_or (lookup (nat_eq at) table.new.entries)
         (settled_body (tree_value tree.now) (i + 1) rest at)
-        ≡ first_body (lookup (nat_eq at) table.old.entries)
+        ≡ option_or (lookup (nat_eq at) table.old.entries)
         (settled_body (tree_value tree.now) i (part p.now ∷ rest) at)) }
 {
     match p {

@@ -9,7 +9,7 @@ use Rattle.xk_tree.specs.Bodies.{HasBodiesApart}
 use Rattle.xk_tree.specs.Tree.{Word, Expression, Statement, Statements, Done, More, Block, Empty, Declare, Assign, Atomic, If, IfElse, For, Async, Finish, Call, Resume, Drop, AdvanceAll, Print, MethodValue, SharedValue, TreeValue}
 use Rattle.xk_names.specs.Scope.{Has, find, is_text}
 use Rattle.xk_names.specs.Scoped.{IsScoped}
-use Rattle.xk_units.proofs.Listed.{has_left, has_right}
+use Rattle.xk_names.proofs.Among.{has_left, has_right}
 use Rattle.xk_units.proofs.Graph.{at_mapped}
 use Rattle.xk_code.specs.CodeOf.{Setting, Body, number_of, body_unit}
 use Rattle.xk_code.specs.Unit.{names_of_params}

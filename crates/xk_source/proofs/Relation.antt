@@ -288,14 +288,6 @@ code_split cx t scope n q s = (code_of cx t scope n q s, refl)
 
 -- ---- a name stands for another value
 
--- of two names that differ, the test fails
-pub other_text : (x y : List ℕ) → (x ≡ y → ⊥) → is_text x y ≡ false
-other_text x y ne = by (is_text x y) refl
-  where
-    by : (b : Bool) → is_text x y ≡ b → b ≡ false
-    by true e = absurd (ne (same_text x y e))
-    by false e = refl
-
 pub matched_write : (scope more : Scope) (names : Names) (slots : List Held) (x : List ℕ) (d : ℕ) (old v : Held) → IsMatched scope names slots
     → slice_get slots d ≡ Some old → ((y : List ℕ) (s : ℕ) → find more y ≡ Some s → is_text y x ≡ true → s ≡ d)
     → ((y : List ℕ) (s : ℕ) → find more y ≡ Some s → is_text y x ≡ false → (find scope y ≡ Some s) × (s ≡ d → ⊥))

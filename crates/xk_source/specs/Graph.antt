@@ -1,4 +1,4 @@
--- What the parts of a program run, by numbers.
+-- What the parts of a program run, by numbers. This project's own.
 use Rattle.std.specs.Prelude.{◌≡◌, ℕ, List, [], ◌∷◌, ◌++◌, map, length, Some, slice_get, unwrap_or}
 use Rattle.xk_calls.specs.Calls.{AreReached}
 use Rattle.xk_calls.specs.Order.{AreLeast, IsInOrder, IsOnce}

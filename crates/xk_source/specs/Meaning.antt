@@ -1,4 +1,4 @@
--- What it means that a module does what a program says.
+-- What it means that a module does what a program says. This project's own.
 use Rattle.std.specs.Prelude.{◌≡◌, ℕ, ℤ, Bool, List, [], ◌∷◌, map, if◌then◌else◌}
 use Rattle.std.specs.List.{list_all}
 use Rattle.xk_types.specs.declared.names.Event.{Event}

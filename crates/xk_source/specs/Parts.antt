@@ -1,4 +1,4 @@
--- The parts of a program that have code of their own: methods, and the bodies of `async`.
+-- The parts of a program that have code of their own: methods, and the bodies of `async`. This project's own.
 use Rattle.std.specs.Prelude.{ℕ, suc, nat_eq, int_le, List, [], ◌∷◌, ◌++◌, Option, Some, None, codes, if◌then◌else◌}
 use Rattle.std.specs.List.{flat_map}
 use Rattle.xk_tree.specs.Tree.{Word, Clocks, Statement, Statements, Done, More, Block, If, IfElse, For, Async, Finish, Call, MethodValue, TreeValue}

@@ -12,7 +12,7 @@ use Rattle.xk_names.specs.Scope.{Has, find, is_text}
 use Rattle.xk_names.specs.Uses.{signatures}
 use Rattle.xk_names.specs.Scoped.{IsScoped}
 use Rattle.xk_units.proofs.Collecting.{same_text}
-use Rattle.xk_units.proofs.Listed.{has_left, has_right}
+use Rattle.xk_names.proofs.Among.{has_left, has_right}
 use Rattle.xk_units.proofs.Graph.{at_mapped}
 use Rattle.xk_code.specs.CodeOf.{Setting, Body, number_of, body_unit}
 use Rattle.xk_code.specs.Unit.{kinds_of_params, body_kinds}

@@ -6,7 +6,8 @@ use Rattle.xk_names.specs.Scope.{Has}
 use Rattle.xk_names.specs.Uses.{signatures}
 use Rattle.xk_names.specs.Scoped.{IsScoped}
 use Rattle.xk_names.specs.Captures.{shared_texts}
-use Rattle.xk_units.proofs.Listed.{has_at, has_either}
+use Rattle.xk_names.proofs.Among.{has_either}
+use Rattle.xk_units.proofs.Listed.{has_at}
 use Rattle.xk_code.specs.CodeOf.{Setting, body_at, body_params}
 use Rattle.xk_code.specs.Unit.{names_of_params}
 use Rattle.xk_code.specs.Covered.{IsUnitCovered}

@@ -7,7 +7,7 @@ use Rattle.xk_names.specs.Scope.{Has, find, is_text, Scope}
 use Rattle.xk_names.specs.Uses.{Signatures, signatures, clocks_listed, declares}
 use Rattle.xk_names.specs.Scoped.{IsSound, IsSoundInside, AreSound, with_all, with_body, method_scope, IsScoped}
 use Rattle.xk_names.specs.Places.{behind}
-use Rattle.xk_units.proofs.Listed.{has_left, has_right, has_either}
+use Rattle.xk_names.proofs.Among.{has_left, has_right, has_either}
 use Rattle.xk_source.specs.Parts.{Part, OfMethod, OfBody, Run, Calls, Starts, bodies, bodies_all, method_parts, opening, parts, runs, runs_all, part_runs, place_of}
 use Rattle.xk_source.proofs.Units.Among.{Fits, found}
 

@@ -6,7 +6,8 @@ use Rattle.std.specs.List.Sorted.{IsStrictlyIncreasing}
 use Rattle.std.proofs.lemmas.List.Kept.{AllPairs-from_increasing}
 use Rattle.std.proofs.lemmas.Option.{slice_get_within, get_or_from_slice_get}
 use Rattle.xk_names.specs.Scope.{Has}
-use Rattle.xk_units.proofs.Listed.{has_left, has_right, place_of}
+use Rattle.xk_names.proofs.Among.{has_left, has_right}
+use Rattle.xk_units.proofs.Listed.{place_of}
 
 abbrev pub Rising : List ℕ → Type 0
 Rising [] = ⊤

@@ -7,7 +7,7 @@ use Rattle.xk_tree.specs.Bodies.{HasBodiesApart}
 use Rattle.xk_names.specs.Scope.{Has, has, find, is_text}
 use Rattle.xk_names.specs.Uses.{signatures}
 use Rattle.xk_names.specs.Captures.{shared_texts}
-use Rattle.xk_units.proofs.Listed.{has_left, has_right, has_either}
+use Rattle.xk_names.proofs.Among.{has_left, has_right, has_either}
 use Rattle.xk_code.specs.CodeOf.{Setting, body_at}
 use Rattle.xk_code.specs.Covered.{IsFound}
 use Rattle.xk_code.specs.Reached.{AsyncBody, bodies_in, bodies_in_all, calls_in, calls_in_all, IsSettled}

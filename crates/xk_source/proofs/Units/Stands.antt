@@ -1,5 +1,5 @@
 -- In a tree without faults of names each body of `async` stands at a place that sees what its code needs.
-use Rattle.std.proofs.Common.{◌≡◌, inl, inr, ℕ, Bool, true, false, cond, List, [], ◌∷◌, ◌++◌, length, Option, Some, refl, sym, ap, ◌∙◌, subst}
+use Rattle.std.proofs.Common.{◌≡◌, inl, inr, ℕ, Bool, true, false, cond, List, [], ◌∷◌, ◌++◌, length, Option, Some, refl, sym, ap, ◌∙◌, subst, append-nil}
 use Rattle.std.specs.Prelude.{is_some, option_map}
 use Rattle.xk_tree.specs.Tree.{Clocks, Statement, Statements, Done, More, Block, If, IfElse, For, Async, Finish, TreeValue}
 use Rattle.xk_names.specs.declared.known.Known.{Known}
@@ -11,9 +11,8 @@ use Rattle.xk_names.specs.Places as places
 use Rattle.xk_names.specs.Scoped.{IsSound, IsSoundInside, AreSound, with_all, with_body, method_scope, IsScoped}
 use Rattle.xk_names.specs.Collected.{put_text}
 use Rattle.xk_names.specs.Captures.{own_behind, shared_texts}
-use Rattle.xk_names.proofs.Among.{from_flat, to_map}
+use Rattle.xk_names.proofs.Among.{from_flat, to_map, has_either}
 use Rattle.xk_names.proofs.Outside.{outer_found}
-use Rattle.xk_units.proofs.Listed.{has_either}
 use Rattle.xk_code.specs.CodeOf.{Setting, Scope, body_params, declared}
 use Rattle.xk_code.specs.Unit.{scope_from}
 use Rattle.xk_code.specs.Covered.{IsUnitCovered}
@@ -114,10 +113,6 @@ with_slots shared sc scope own fits = record {
   depths = fits.depths;
 }
 
-append_nil : {A : Type 0} (xs : List A) → xs ++ [] ≡ xs
-append_nil [] = refl
-append_nil (x ∷ xs) = ap (λ r. x ∷ r) (append_nil xs)
-
 -- the `async` alone
 abbrev pub alone : ℕ → Option Clocks → Statement → Statements
 alone at cs s = More (Async at cs s) Done
@@ -129,6 +124,6 @@ body_covered cx ms shared at cs s placed h settled =
     let held : AsyncBody = record { at = at; clocks = cs; body = s } in
     (all_covered cx ms shared placed h.sc (slots_for h.sc.names) shared 0 (alone at cs s) (with_slots shared h.sc h.scope h.own h.fits) ((h.itself, h.inside), tt)
     (λ w g.
-    let o = outer_found ms h.sc shared (Async at cs s) h.itself h.inside w (subst (λ ws. Has ws w) (append_nil _) g) in
+    let o = outer_found ms h.sc shared (Async at cs s) h.itself h.inside w (subst (λ ws. Has ws w) (append-nil _) g) in
     ap is_some (slot_there h.sc.names w.text ∙ ap (option_map (λ k. 0)) o.there.found))
     settled).1 held (inl refl)

@@ -1,8 +1,8 @@
 use Rattle.std.proofs.Common.{ℕ, ◌+◌, Some, cond, ◌∷◌, Option, option_map, ap, sym, ◌∙◌, add-one}
 use Rattle.std.proofs.lemmas.Result.{on_ok_weaker}
+use Rattle.std.specs.Option.{option_or}
 use Rattle.xk_names.specs.Scope.{find, is_text}
 use Rattle.xk_names.specs.Collected.{put}
-use Rattle.xk_units.specs.Callees.{first_of}
 use Rattle.xk_units.proofs.Collecting.{put_number}
 use Rattle.xk_source.specs.Parts.{Part, method_among}
 use Rattle.xk_source.specs.Compiled.{unit_number}
@@ -16,10 +16,10 @@ returns-in-Method c = on_ok_weaker c.put.result (λ h rest x.
     let table = c.args.table.now in
     let text = c.in-Method.method.now.name.text.now in
     let left : ℕ → Option ℕ = λ j. method_among j rest x in
-    ap (λ t. first_of (find t x) (option_map unit_number (left (i + 1)))) h
-    ∙ ap (λ n. first_of (find (put table text n) x) (option_map unit_number (left (i + 1)))) c.unit_number.ensures
+    ap (λ t. option_or (find t x) (option_map unit_number (left (i + 1)))) h
+    ∙ ap (λ n. option_or (find (put table text n) x) (option_map unit_number (left (i + 1)))) c.unit_number.ensures
     ∙ put_number table text x (unit_number i) (option_map unit_number (left (i + 1)))
-    ∙ ap (first_of (find table x)) (numbered_or (is_text x text) unit_number i (left (i + 1)))
-    ∙ ap (λ j. first_of (find table x) (option_map unit_number (cond (is_text x text) (Some i) (left j)))) (add-one i)
-    ∙ ap (λ (p : Part). first_of (find table x) (option_map unit_number (method_among i (p ∷ rest) x))) (sym (ap part c.in-Method.is)))
-    c.put.ensures
+    ∙ ap (option_or (find table x)) (numbered_or (is_text x text) unit_number i (left (i + 1)))
+    ∙ ap (λ j. option_or (find table x) (option_map unit_number (cond (is_text x text) (Some i) (left j)))) (add-one i)
+    ∙ ap (λ (p : Part). option_or (find table x) (option_map unit_number (method_among i (p ∷ rest) x))) (sym (ap part c.in-Method.is)))
+    c.put.ensures.entry
