@@ -1,6 +1,6 @@
 -- Steps one after the other.
-use Rattle.std.proofs.Common.{◌≡◌, ℕ, zero, suc, ◌+◌, subst, ap, ◌∙◌, arith}
-use Rattle.xk_activity.specs.Local.{OutcomeOf, Stepped, then_step, ran, IsSafe, IsRight}
+use Rattle.std.proofs.Common.{◌≡◌, ◌⊎◌, inl, inr, ℕ, zero, suc, ◌+◌, ◌<◌, true, false, subst, ap, ◌∙◌, arith}
+use Rattle.xk_activity.specs.Local.{OutcomeOf, Beyond, Stepped, then_step, ran, is_stepped, IsSafe, IsRight}
 
 -- where a safe run has come to, the next step isn't wrong
 pub safe_here : {X : Type 0} (step : X → OutcomeOf X) (start : X) (n : ℕ) (x : X) → IsSafe step start → ran step start n ≡ Stepped x → IsRight (step x)
@@ -18,3 +18,13 @@ ran_on step start n x y e h = ran_more step start n 1 x e ∙ h
 -- where a safe run has come to, it is safe to go on
 pub safe_on : {X : Type 0} (step : X → OutcomeOf X) (start : X) (n : ℕ) (x : X) → IsSafe step start → ran step start n ≡ Stepped x → IsSafe step x
 safe_on step start n x safe e m = subst (λ o. IsRight o) (ran_more step start n m x e) (safe (n + m))
+
+-- where the first step is taken, and all that may be, there is a step
+pub some_steps : {X : Type 0} (step : X → OutcomeOf X) (start new : X) (n max : ℕ) → 0 < max → is_stepped (step start) ≡ true → ran step start n ≡ Stepped new
+    → (n ≡ max) ⊎ (step new ≡ Beyond) → 0 < n
+some_steps step start new zero max some next e (inl all) = absurd (omega (arith, some, all))
+some_steps step start new zero max some next e (inr end) =
+    let here : start ≡ new = cc in
+    let none : is_stepped (step start) ≡ false = ap (λ x. is_stepped (step x)) here ∙ ap is_stepped end in
+    cc
+some_steps step start new (suc n) max some next e stops = omega arith

@@ -109,7 +109,7 @@ own_room m unit shape lt = go (slice_there m.units unit lt)
 
 -- before its first instruction
 pub start_stacked : (m : ModuleValue) (unit long slots frames : ℕ) (cs : List Caller) → IsWithinLimits m → HasShape m → unit < length m.units → cs ≡ []
-    → long ≡ slots_of m unit → slots ≡ stack_of m unit → frames + 1 ≡ frames_of m unit → IsStacked m unit 0 cs long slots frames
+    → long ≡ slots_of m unit → stack_of m unit ≤ slots → frames + 1 ≡ frames_of m unit → IsStacked m unit 0 cs long slots frames
 start_stacked m unit long slots frames cs limits shape lt none top s f =
     subst (λ (ds : List Caller). IsStacked m unit 0 ds long slots frames) (sym none)
     (record { limits = limits; shape = shape; top = omega arith; room = record { slots_fit = omega arith; frames_fit = omega arith }; stacked = refl })

@@ -38,6 +38,13 @@ impl Model for Cell {
         _ c.kind _ c.number (kind_again c.kind c.number) (sym h) };
 }
 
+impl Default for Cell {
+    /// What stands where no cell does.
+    fn default() -> Cell {
+        Cell::unset()
+    }
+}
+
 impl Cell {
     /// Nothing was written to it yet.
     #[inline(always)]

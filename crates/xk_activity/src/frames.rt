@@ -13,8 +13,7 @@ ghost use Rattle.xk_activity.specs.Stacked.{CanCall, Does, values_at, placed, wi
 
 use crate::alike::{are_same_callers, are_same_cells};
 use crate::caller::Caller;
-use crate::cell::Cell;
-use crate::fill::{copy_callers, copy_cells, fill, hand, put};
+use crate::fill::{Stack, copy_callers, copy_cells, empty, fill, hand, put, write};
 use crate::flat::{is_flat, one, run_flat};
 use std::alloc::{AllocError, Global};
 use std::marker::Model;
@@ -41,7 +40,7 @@ pub struct Frames<'m> {
     /// Where the slots of the present frame begin.
     base: usize,
     /// The slots of all frames, those of the present one last.
-    stack: Vec<Cell>,
+    stack: Stack,
     /// The frames that wait, the nearest last.
     callers: Vec<Caller>,
 }
@@ -58,12 +57,12 @@ impl<'m> Model for Frames<'m> {
         (reverse f.callers.items) };
 
     ghost invariant = { λ f. IsStacked f.verified.now f.unit f.base (reverse f.callers.items)
-        (length f.stack.items) (vec_capacity f.stack) (vec_capacity f.callers) };
+        (length f.stack.items) f.stack.capacity (vec_capacity f.callers) };
 }
 
 /// The next instruction of the frame that lies on a stack from base on, if it concerns that frame alone, and the next place.
 #[inline(always)]
-fn step_top(code: &[Instr], place: u32, stack: &mut Vec<Cell>, base: usize) -> Option<u32>
+fn step_top(code: &[Instr], place: u32, stack: &mut Stack, base: usize) -> Option<u32>
     requires short { length code.now < 2 ^ 16 }
     requires base { base ≤ length stack.old.items }
     requires right { IsRight (turn code.now (spot_at place (drop base stack.old.items))) }
@@ -71,22 +70,17 @@ fn step_top(code: &[Instr], place: u32, stack: &mut Vec<Cell>, base: usize) -> O
         (drop base stack.new.items) }
     ensures below { take base stack.new.items ≡ take base stack.old.items }
     ensures length { length stack.new.items ≡ length stack.old.items }
-    ensures capacity { vec_capacity stack.new ≡ vec_capacity stack.old }
+    ensures capacity { stack.new.capacity ≡ stack.old.capacity }
 {
-    let slots = &mut stack[base..];
+    let cells = stack.as_mut_slice();
+    let slots = &mut cells[base..];
     one(code, place, slots)
 }
 
 /// Up to max next instructions of the frame that lies on a stack from base on, while they concern that frame alone: the place then,
 /// and how many they were.
 #[inline(always)]
-fn run_on_top(
-    code: &[Instr],
-    start: u32,
-    stack: &mut Vec<Cell>,
-    base: usize,
-    max: u32,
-) -> (u32, u32)
+fn run_on_top(code: &[Instr], start: u32, stack: &mut Stack, base: usize, max: u32) -> (u32, u32)
     requires short { length code.now < 2 ^ 16 }
     requires base { base ≤ length stack.old.items }
     requires safe { IsSafe (turn code.now) (spot_at start (drop base stack.old.items)) }
@@ -97,9 +91,10 @@ fn run_on_top(
         ⊎ (turn code.now (spot_at result.0 (drop base stack.new.items)) ≡ Beyond) }
     ensures below { take base stack.new.items ≡ take base stack.old.items }
     ensures length { length stack.new.items ≡ length stack.old.items }
-    ensures capacity { vec_capacity stack.new ≡ vec_capacity stack.old }
+    ensures capacity { stack.new.capacity ≡ stack.old.capacity }
 {
-    let slots = &mut stack[base..];
+    let cells = stack.as_mut_slice();
+    let slots = &mut cells[base..];
     run_flat(code, start, slots, max)
 }
 
@@ -122,7 +117,7 @@ impl<'m> Frames<'m> {
     {
         let size = size_of(verified, unit);
         let room = verified.room(unit);
-        let mut stack = Vec::with_capacity(alloc, room.slots as usize)?;
+        let mut stack = empty(alloc, room.slots)?;
         fill(&mut stack, size as usize);
         let callers = Vec::with_capacity(alloc, room.frames as usize - 1)?;
         Ok(Frames {
@@ -148,7 +143,7 @@ impl<'m> Frames<'m> {
     {
         let size = size_of(verified, unit);
         let room = verified.room(unit);
-        let mut stack = Vec::with_capacity(alloc, room.slots as usize)?;
+        let mut stack = empty(alloc, room.slots)?;
         put(&mut stack, values);
         fill(&mut stack, size as usize - values.len());
         let callers = Vec::with_capacity(alloc, room.frames as usize - 1)?;
@@ -185,7 +180,7 @@ impl<'m> Frames<'m> {
         if self.unit != other.unit || self.place != other.place || self.base != other.base {
             return false;
         }
-        if !are_same_cells(&self.stack, &other.stack)
+        if !are_same_cells(self.stack.as_slice(), other.stack.as_slice())
             || !are_same_callers(&self.callers, &other.callers)
         {
             return false;
@@ -219,7 +214,7 @@ impl<'m> Frames<'m> {
         requires { s < length self.now.frame.slots }
         ensures { slice_get self.now.frame.slots s ≡ Some result }
     {
-        self.stack[self.base + s as usize].value()
+        self.stack.as_slice()[self.base + s as usize].value()
     }
 
     /// Lists what these slots of the present frame hold, in place of what the list held. Where memory is refused, it has what the first of
@@ -244,7 +239,7 @@ impl<'m> Frames<'m> {
         requires { s < length self.old.frame.slots }
         ensures { self.new ≡ with_slot self.old s v }
     {
-        self.stack[self.base + s as usize] = Cell::of(v);
+        write(&mut self.stack, self.base, s, v);
     }
 
     /// The present frame goes on to the next instruction.

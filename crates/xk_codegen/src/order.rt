@@ -8,7 +8,7 @@ ghost use Rattle.xk_codegen.specs.Views.{part};
 ghost use Rattle.xk_source.specs.Parts.{opening, parts, place_of};
 ghost use Rattle.xk_source.specs.Graph.{IsOrder, graph};
 ghost use Rattle.xk_calls.specs.Calls.{rows};
-ghost use Rattle.xk_codegen.specs.Places.{ArePlaces, RunsItself};
+ghost use Rattle.xk_codegen.specs.Places.{ArePlaces, IsRunAgain, RunsItself};
 ghost use Rattle.xk_source.specs.Compiled.{AreUnits};
 
 use crate::parts::{Part, add_part, parts};
@@ -36,11 +36,16 @@ fn parts_at<'a, 't>(
 
 /// F10 there, where a part is run again.
 fn run_again(found: &[Part<'_, '_>], place: usize) -> FrontError
-    ensures { (f : Fault) → result ≡ FrontError.Fault f → f.rule ≡ FrontRule.Recursive }
+    ensures { (f : Fault) → result ≡ FrontError.Fault f
+        → IsRunAgain (map part found.now) place f }
 {
+    let at = match found.get(place) {
+        Some(part) => part.offset(),
+        None => 0,
+    };
     FrontError::Fault(FrontFault {
         rule: FrontRule::Recursive,
-        at: found.get(place).map_or(0, |p| p.offset()),
+        at,
     })
 }
 
@@ -53,6 +58,7 @@ fn order_by<'t>(
     lists: &[Vec<usize>],
     main: usize,
 ) -> Result<Vec<usize>, FrontError>
+    requires parts { map part found.now ≡ parts (tree_value tree.now) }
     requires graph { rows lists.now ≡ graph (parts (tree_value tree.now)) }
     requires begins { place_of (parts (tree_value tree.now)) opening ≡ Some main }
     ensures order { IfOk result (λ order. IsOrder (tree_value tree.now) order.items) }

@@ -1,6 +1,6 @@
 //! Runs that are written down as they go.
 
-ghost use Rattle.std.specs.Prelude.{◌≡◌, ◌+◌, ◌<◌, ◌≤◌, true, false, [], ◌∷◌, ◌++◌, Ok, IfOk, IfErr, OnOk, OnErr, IsTrue};
+ghost use Rattle.std.specs.Prelude.{◌≡◌, ◌+◌, ◌<◌, ◌≤◌, true, false, [], ◌∷◌, ◌++◌, Ok, IfOk, IfErr, MatchResult, OnOk, OnErr, IsTrue};
 ghost use Rattle.std.specs.Option.{option_to_list};
 ghost use Rattle.std.specs.Vec.{vec_len, vec_capacity};
 ghost use Rattle.xk_types.specs.Schedule.{all_ended, is_enabled, number_printed};
@@ -94,10 +94,11 @@ fn note(log: &mut Vec<Entry>, printed: &mut Vec<i64>, turn: Turn)
     }
 }
 
-/// Keeps the number that an event prints, if it does.
+/// Keeps the number that an event prints, if it does. Where memory is refused, nothing is kept.
 pub fn keep_printed(printed: &mut Vec<i64>, event: Event) -> Result<(), AllocError>
-    ensures { OnOk result
-        (printed.new.items ≡ printed.old.items ++ option_to_list (number_printed event)) }
+    ensures { MatchResult result
+        (λ _. printed.new.items ≡ printed.old.items ++ option_to_list (number_printed event))
+        (λ _. printed.new.items ≡ printed.old.items) }
 {
     match event {
         Event::Printed(number) => {

@@ -2,7 +2,7 @@
 use Rattle.std.proofs.Common.{◌≡◌, ℕ, zero, suc, ◌<◌, ◌≤◌, List, [], ◌∷◌, length, map, replicate, slice_set, get_or, Option, Some, None, ◌⊎◌, inl, inr, refl, sym, ap, subst, arith}
 use Rattle.std.proofs.lemmas.Bool.{cases_eq}
 use Rattle.std.proofs.lemmas.List.{get_or-set_same, get_or-set_other, length-set, length-replicate}
-use Rattle.xk_waiting.specs.Chains.{at, chain, lists_of, AreApart, IsChain, AreLaid}
+use Rattle.xk_waiting.specs.Chains.{at, chain, lists_of, AreApart, IsChain, AreLaid, HasPlaces}
 use Rattle.xk_waiting.specs.Waiting.{times, times_in_all, waiters}
 use Rattle.xk_waiting.proofs.Chains.{untouched, found, chain_within}
 use Rattle.xk_waiting.proofs.Left.{stands_in}
@@ -50,6 +50,13 @@ empty_laid clocks acts = record {
   chained = λ c. rw (no_list clocks c) (no_first clocks c);
   once = λ a. omega (arith, none_times a clocks);
 }
+
+pub empty_places : (clocks acts room : ℕ) → (0 < clocks → acts ≡ room) → HasPlaces (replicate clocks None) (replicate acts None) room
+empty_places clocks acts room is some = omega (
+  arith,
+  is (omega (arith, some, length-replicate {A = Option ℕ} clocks None)),
+  length-replicate {A = Option ℕ} acts None,
+)
 
 -- ---- somebody is put before a list
 
@@ -121,9 +128,29 @@ take_laid first next lists c laid there = record {
         subst (λ (f : Option ℕ). IsChain next f (waiters (slice_set lists c []) d)) (sym (get_or-set_other first c d None None ne))
         (subst (λ (l : List ℕ). IsChain next (at first d) l) (sym (get_or-set_other lists c d [] [] ne)) (laid.chained d))
 
+-- who stands in a list stands in one of them
+some_list : (a : ℕ) (lists : List (List ℕ)) → 0 < times_in_all a lists → 0 < length lists
+some_list a [] some = absurd (omega (arith, some))
+some_list a (l ∷ lists) some = omega arith
+
 -- nobody is taken yet
-pub laid_apart : (first next : List (Option ℕ)) (lists : List (List ℕ)) (shown : List ℕ) → AreLaid first next lists → shown ≡ [] → AreApart (length next) shown lists
-laid_apart first next lists shown laid none = rw none (record {
+pub laid_apart : (first next : List (Option ℕ)) (room : ℕ) (lists : List (List ℕ)) (shown : List ℕ) → AreLaid first next lists → HasPlaces first next room → shown ≡ []
+    → AreApart room shown lists
+laid_apart first next room lists shown laid places none = rw none (record {
   once = λ a. omega (arith, laid.once a);
-  within = λ a some. (let c = stands_in a lists (omega (arith, some)) in chain_within next (at first c.0) (waiters lists c.0) (laid.chained c.0) a c.1);
+  within = λ a some. (
+      let c = stands_in a lists (omega (arith, some)) in
+      omega (
+        arith,
+        chain_within next (at first c.0) (waiters lists c.0) (laid.chained c.0) a c.1,
+        places (omega (arith, some_list a lists (omega (arith, some)), laid.clocks)),
+      )
+      );
 })
+
+-- a place of a row is written
+pub set_places : (first next : List (Option ℕ)) (room c act : ℕ) (f v : Option ℕ) → HasPlaces first next room → HasPlaces (slice_set first c f) (slice_set next act v) room
+set_places first next room c act f v places some = omega (arith, places (omega (arith, some, length-set first c f)), length-set next act v)
+
+pub set_first : (first next : List (Option ℕ)) (room c : ℕ) (f : Option ℕ) → HasPlaces first next room → HasPlaces (slice_set first c f) next room
+set_first first next room c f places some = places (omega (arith, some, length-set first c f))

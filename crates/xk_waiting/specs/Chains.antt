@@ -27,6 +27,10 @@ pub record AreLaid (first next : List (Option ℕ)) (lists : List (List ℕ)) : 
   pub chained : (clock : ℕ) → IsChain next (at first clock) (waiters lists clock)
   pub once : (act : ℕ) → times_in_all act lists ≤ 1
 
+-- where there is a clock there is a place for each activity below the room
+abbrev pub HasPlaces : List (Option ℕ) → List (Option ℕ) → ℕ → Type 0
+HasPlaces first next room = 0 < length first → length next ≡ room
+
 -- nobody stands twice in a list and these lists together, and all are below the room
 pub record AreApart (room : ℕ) (acts : List ℕ) (lists : List (List ℕ)) : Type 0 where
   pub once : (act : ℕ) → times act acts + times_in_all act lists ≤ 1

@@ -14,23 +14,25 @@ use std::marker::Model;
 pub struct WaitingLists {
     /// The first of each clock's list.
     first: Vec<Option<u32>>,
-    /// Who follows each activity in its list. Of one who stands in no list it says nothing.
+    /// Who follows each activity in its list. Of one who stands in no list it says nothing. Where there is no clock it is empty.
     next: Vec<Option<u32>>,
+    /// How many activities there can be.
+    room: u32,
 }
 
 impl Model for WaitingLists {
-    ghost use Rattle.std.specs.Prelude.{length};
-    ghost use Rattle.xk_waiting.specs.Chains.{lists_of, AreLaid};
+    ghost use Rattle.xk_waiting.specs.Chains.{lists_of, AreLaid, HasPlaces};
     ghost use Rattle.xk_waiting.specs.Waiting.{WaitingValue};
 
     ghost Value = { WaitingValue };
 
     ghost view = { λ w. record {
       lists = lists_of w.first.items w.next.items;
-      room = length w.next.items;
+      room = w.room;
     } };
 
-    ghost invariant = { λ w. AreLaid w.first.items w.next.items (lists_of w.first.items w.next.items) };
+    ghost invariant = { λ w. AreLaid w.first.items w.next.items (lists_of w.first.items w.next.items)
+        × HasPlaces w.first.items w.next.items w.room };
 }
 
 impl WaitingLists {
@@ -40,8 +42,12 @@ impl WaitingLists {
         ensures room { IfOk result (λ w. w.room ≡ acts) }
     {
         let first = nobody(alloc, clocks)?;
-        let next = nobody(alloc, acts)?;
-        Ok(WaitingLists { first, next })
+        let next = nobody(alloc, places_for(clocks, acts))?;
+        Ok(WaitingLists {
+            first,
+            next,
+            room: acts,
+        })
     }
 
     /// Puts an activity that stands in no list before all others that wait for this clock.
@@ -105,6 +111,13 @@ fn take_each(lists: &mut WaitingLists, clocks: &[u32], shown: &mut Vec<u32>)
     for clock in clocks {
         lists.take_one(*clock, shown);
     }
+}
+
+/// A place for each activity; none where there is no clock that anybody could wait for.
+fn places_for(clocks: u32, acts: u32) -> u32
+    ensures { 0 < clocks → result ≡ acts }
+{
+    if clocks == 0 { 0 } else { acts }
 }
 
 /// So many places, with nobody at any.

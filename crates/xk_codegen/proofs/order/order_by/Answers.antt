@@ -4,7 +4,8 @@ use Rattle.xk_calls.specs.Calls.{AreWithin, AreReached, IsRecursive}
 use Rattle.xk_calls.specs.Order.{AreLeast, IsInOrder}
 use Rattle.xk_tree.specs.declared.fault.FrontError.TheVariants as error
 use Rattle.xk_tree.specs.Tree.{tree_value}
-use Rattle.xk_source.specs.Parts.{parts}
+use Rattle.xk_source.specs.Parts.{Part, parts}
+use Rattle.xk_codegen.specs.Places.{IsRunAgain}
 use Rattle.xk_codegen.proofs.Faults.{same_error}
 use Rattle.xk_codegen.proofs.Ordered.{within}
 use Rattle.xk_codegen.proofs.Placed.{main_within}
@@ -39,5 +40,7 @@ returns-in-Err-clause-fault c = λ f e. record {
   again =
       subst (λ (r : List (List ℕ)). IsRecursive r c.in-Err.place.caller c.in-Err.place.index) c.requires.graph
       (rw c.in-Err.is at c.in_ok-order.ensures.found);
-  is = c.run_again.ensures f (same_error c.run_again.result (error.Fault f) e);
+  fault =
+      subst (λ (ps : List Part). IsRunAgain ps c.in-Err.place.caller f) c.requires.parts
+      (c.run_again.ensures f (same_error c.run_again.result (error.Fault f) e));
 }

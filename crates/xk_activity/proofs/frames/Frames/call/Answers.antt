@@ -8,7 +8,7 @@ use Rattle.xk_activity.proofs.frames.Frames.call.Goals as goal
 pub hand-requires-clause-room : goal.hand-requires-clause-room
 hand-requires-clause-room c =
     let r = call_ready _ _ _ _ _ _ _ _ _ _ c.args.self.now c.self.invariant c.self.view_is c.requires in
-    let f = r.0.cells in let g = r.1 in omega (arith, c.self.inside.stack.ok)
+    let f = r.0.cells in let g = r.1 in omega arith
 
 pub fill-requires : goal.fill-requires
 fill-requires c =
@@ -18,7 +18,7 @@ fill-requires c =
     ap length c.hand.ensures.items ∙ length-append c.self.inside.stack.items _ ∙ ap (λ n. length c.self.inside.stack.items + n) (length-map c.args.args.now (value_at (drop c.self.inside.base c.self.inside.stack.items))) in
     let k = c.hand.ensures.capacity in
     let e = c.size_of-size.ensures.size in
-    omega (arith, c.self.inside.stack.ok, c.hand.new.stack.ok)
+    omega arith
 
 pub overflow_cast-self-inside : goal.overflow_cast-self-inside
 overflow_cast-self-inside c =
@@ -42,12 +42,12 @@ invariant_of-self c =
     let g = r.1 in
     let e = c.size_of-size.ensures.size in
     call_stacked _ _ _ _ _ _ _ _ _ _ _ _ _ _ r.0 c.push_reserved.ensures.items
-    (omega (arith, c.self.inside.stack.ok, c.len-top.ensures)) (omega arith)
+    (omega (arith, c.len-top.ensures.value)) (omega arith)
     (c.fill.ensures.capacity ∙ c.hand.ensures.capacity) c.push_reserved.ensures.capacity
 
 pub returns : goal.returns
 returns c =
     let t = c.self.invariant.top in
     call_gives _ _ _ _ _ _ _ _ _ c.self.inside.stack.items c.hand.new.stack.items c.fill.new.stack.items c.args.args.now c.self.inside.callers.items _ c.args.self.now
-    c.self.view_is c.self.invariant.stacked (omega arith) (omega (arith, c.self.inside.stack.ok, c.len-top.ensures))
+    c.self.view_is c.self.invariant.stacked (omega arith) (omega (arith, c.len-top.ensures.value))
     c.push_reserved.ensures.items c.hand.ensures.items c.fill.ensures.items c.size_of-size.ensures.size

@@ -6,7 +6,9 @@ use Rattle.xk_activity.proofs.Stacking.{own_room, start_stacked}
 use Rattle.xk_activity.proofs.frames.Frames.start.Goals as goal
 
 pub fill-requires : goal.fill-requires
-fill-requires c = let o = own_room c.args.verified.now c.args.unit c.size_of-size.ensures.shape c.requires in search (rules, o.0)
+fill-requires c =
+    let o = own_room c.args.verified.now c.args.unit c.size_of-size.ensures.shape c.requires in
+    omega (arith, o.0, ap length c.in_ok-stack.ensures.none, c.in_ok-stack.ensures.room, c.room-room.ensures.slots, c.size_of-size.ensures.size)
 
 pub overflow_sub-room : goal.overflow_sub-room
 overflow_sub-room c = let o = own_room c.args.verified.now c.args.unit c.size_of-size.ensures.shape c.requires in search (rules, o.1)
@@ -16,7 +18,7 @@ invariant_of-result c =
     let o = own_room c.args.verified.now c.args.unit c.size_of-size.ensures.shape c.requires in
     start_stacked c.args.verified.now c.args.unit (length c.fill.new.stack.items) _ _ _ c.size_of-size.ensures.limits c.size_of-size.ensures.shape c.requires
     (ap reverse c.in_ok-callers.ensures.items)
-    (ap length c.fill.ensures.items ∙ ap (λ xs. length (xs ++ replicate c.size_of-size.result value.Unset)) c.in_ok-stack.ensures.items
+    (ap length c.fill.ensures.items ∙ ap (λ xs. length (xs ++ replicate c.size_of-size.result value.Unset)) c.in_ok-stack.ensures.none
     ∙ length-replicate c.size_of-size.result value.Unset ∙ c.size_of-size.ensures.size)
-    (c.fill.ensures.capacity ∙ c.in_ok-stack.ensures.exact ∙ c.room-room.ensures.slots)
+    (let e = c.fill.ensures.capacity in let f = c.in_ok-stack.ensures.room in let g = c.room-room.ensures.slots in omega arith)
     (let e = c.in_ok-callers.ensures.exact in let f = c.room-room.ensures.frames in omega (arith, o.1))

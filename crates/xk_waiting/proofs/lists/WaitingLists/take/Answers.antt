@@ -6,4 +6,4 @@ pub take_each-requires-clause-apart : goal.take_each-requires-clause-apart
 take_each-requires-clause-apart c =
     let first = c.self.inside.first.items in
     let next = c.self.inside.next.items in
-    rw (← c.self.view_is) (laid_apart first next (lists_of first next) c.clear.new.self.items c.self.invariant c.clear.ensures.items)
+    rw (← c.self.view_is) (laid_apart first next c.self.inside.room (lists_of first next) c.clear.new.self.items c.self.invariant.0 c.self.invariant.1 c.clear.ensures.items)
