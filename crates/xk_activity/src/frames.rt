@@ -288,6 +288,7 @@ impl<'m> Frames<'m> {
     }
 
     /// The next step, where it concerns more than the present frame.
+    #[inline(always)]
     fn across(&mut self) -> Next
         requires right { IsRight (local self.old) }
         requires beyond { turn (code_of self.old.module_run self.old.frame.unit)

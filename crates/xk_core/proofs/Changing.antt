@@ -1,11 +1,7 @@
 -- Which changes of standings steps make.
-use Rattle.std.proofs.Common.{◌≡◌, ℕ, ◌+◌, ◌<◌, length, map, true, false, Bool, refl, List, cond, Option, Some, None, sym, ◌∙◌, subst, slice_get}
-use Rattle.std.specs.List.{list_any}
-use Rattle.std.proofs.lemmas.Bool.{false≢true}
-use Rattle.xk_types.specs.World.{Activity, Clock, World, standing_of}
-use Rattle.xk_types.specs.Step.{Outcome, Blocked, is_signalled, waits, done, past, all, passed, settled_clock, moved, joined}
-use Rattle.xk_types.specs.declared.names.Event.TheVariants as event
-use Rattle.xk_types.specs.Schedule.{is_step}
+use Rattle.std.proofs.Common.{◌≡◌, ℕ, ◌<◌, length, map, Bool, refl, List, sym, ◌∙◌, subst}
+use Rattle.xk_types.specs.World.{Clock}
+use Rattle.xk_types.specs.Step.{all, passed, settled_clock, moved, joined}
 use Rattle.xk_core.specs.declared.change.StandingChange.{StandingChange}
 use Rattle.xk_core.specs.declared.change.StandingChange.TheVariants as standing_change
 use Rattle.xk_core.specs.Change.{standing_after, AllowsChangeOn}
@@ -14,7 +10,6 @@ use Rattle.xk_standings.specs.declared.which.Which.TheVariants as which
 use Rattle.xk_standings.specs.View.{Registration, held}
 use Rattle.xk_standings.specs.Calls.{IsGiven}
 use Rattle.xk_standings.specs.Told.{StandingsValue, told_of, change_on, AreHandedOn}
-use Rattle.xk_core.specs.Arm.{passed_on, passing_by}
 
 -- ---- a start, where room was made meanwhile
 

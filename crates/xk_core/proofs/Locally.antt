@@ -1,5 +1,6 @@
 -- A local step of a core: what the frames of its activity tell, and what the definition does.
-use Rattle.std.proofs.Common.{◌≡◌, ℕ, ◌<◌, true, false, List, length, Option, Some, None, refl, sym, ap, ◌∙◌, subst, slice_get, slice_set}
+use Rattle.std.specs.Bool.{Decides}
+use Rattle.std.proofs.Common.{◌≡◌, ℕ, ◌<◌, Bool, true, false, not, List, length, Option, Some, None, refl, sym, ap, ◌∙◌, subst, slice_get, slice_set}
 use Rattle.std.specs.Option.{option_map_or}
 use Rattle.std.proofs.lemmas.Bool.{false≢true}
 use Rattle.std.proofs.lemmas.Option.{none-some, same_Some, slice_get_within, get_or_from_slice_get}
@@ -26,6 +27,12 @@ use Rattle.xk_core.specs.Told.{with_node, with_nodes, with_finishes, AreTold}
 use Rattle.xk_core.proofs.Beyond.{visible_there, nobody_waits}
 use Rattle.xk_core.proofs.Cores.{carry_step}
 use Rattle.xk_core.proofs.Finishing.{At, Nobody, Somebody, told_at, IsHeld, held_on, parts_roomy, carry_enabled, carry_stepped}
+
+-- a step that isn't wrong is taken, or others can see it
+beyond_decides : (o : frames.Outcome) → frames.IsRight o → Decides (not (frames.is_stepped o)) (o ≡ frames.Beyond)
+beyond_decides frames.Beyond h = (λ e. refl, λ e. refl)
+beyond_decides frames.Wrong h = absurd h
+beyond_decides (frames.Stepped fs) h = (λ e. absurd (false≢true e), λ e. cc)
 
 -- an instruction whose step the frames tell concerns no finish
 plain_of : (f : frames.FramesValue) (i : Instr) (fs : frames.FramesValue) → frames.carried_on f i ≡ frames.Stepped fs → concerns_finishes i ≡ false
@@ -75,6 +82,24 @@ module _ (m : ModuleValue) (ns : List NodeValue) (w : World) (a : ℕ) (h : IsHe
     pub local_right : frames.IsRight (frames.local (frames_in m (act_at w.activities a)))
     local_right = subst (λ x. frames.IsRight (frames.local (frames_in m x))) (sym act_is)
         (reached_safe m h.core.limits h.core.accepted (with_finishes ns w) h.core.reached a (with_node r.n r.x) r.both r.running 1)
+
+    -- whether others can see its next step
+    pub seen_decides : (b : Bool) → b ≡ frames.is_stepped (frames.local (frames_in m (act_at w.activities a)))
+        → Decides (not b) (IsBeyond (record { module_run = m; world = with_finishes ns w }) a)
+    seen_decides b is =
+        subst (λ t. Decides (not t) (IsBeyond (record { module_run = m; world = with_finishes ns w }) a)) (sym is)
+        (subst (λ x. Decides (not (frames.is_stepped (frames.local (frames_in m x)))) (frames.local (frames_in m told) ≡ frames.Beyond)) (sym act_is)
+        (subst (λ x. Decides (not (frames.is_stepped (frames.local (frames_in m r.x)))) (frames.local (frames_in m x) ≡ frames.Beyond)) (sym told_is)
+        (beyond_decides (frames.local (frames_in m r.x)) right)))
+      where
+        told : Activity
+        told = act_at (with_nodes ns w.activities) a
+
+        told_is : told ≡ with_node r.n r.x
+        told_is = get_or_from_slice_get (with_nodes ns w.activities) a (with_node r.n r.x) nobody r.both
+
+        right : frames.IsRight (frames.local (frames_in m r.x))
+        right = subst (λ x. frames.IsRight (frames.local (frames_in m x))) act_is local_right
 
     -- the instruction that it stands at
     at : Stands m r.x

@@ -1,12 +1,11 @@
 -- The room that a state has reserved stays enough, and there is some left where a clock is made.
-use Rattle.std.proofs.Common.{◌≡◌, ℕ, zero, suc, ◌<◌, ◌≤◌, List, [], ◌∷◌, ◌++◌, length, Some, inl, inr, ◌⊎◌, refl, sym, ap, ◌∙◌, subst, arith, slice_get, slice_set, slice_index_or, length-set}
+use Rattle.std.proofs.Common.{◌≡◌, ℕ, ◌<◌, ◌≤◌, List, [], ◌∷◌, ◌++◌, length, Some, inl, inr, ◌⊎◌, refl, sym, ap, ◌∙◌, subst, arith, slice_get, slice_set, slice_index_or, length-set}
 use Rattle.std.proofs.lemmas.Bool.{cases_eq}
-use Rattle.std.proofs.lemmas.Option.{none-some, same_Some, slice_get_within, get_or_from_slice_get}
+use Rattle.std.proofs.lemmas.Option.{same_Some, slice_get_within, get_or_from_slice_get}
 use Rattle.std.proofs.lemmas.List.{length_push}
 use Rattle.xk_types.specs.declared.instr.Instr.TheVariants as instr
 use Rattle.xk_types.specs.Code.{ModuleValue}
-use Rattle.xk_types.specs.World.{Activity, World, base_of, base_unit, main_of}
-use Rattle.xk_types.specs.Bound.{clocks_bound}
+use Rattle.xk_types.specs.World.{Activity, World, base_of, base_unit}
 use Rattle.xk_types.proofs.Lists.{get_inside, get-set_same, get-set_other, get_push, get-push_other}
 use Rattle.xk_laws.proofs.Scopes.Invariant.{based}
 use Rattle.xk_rooms.specs.Rooms.{HasRoomLeft, registrations, places_from, places_of}

@@ -6,7 +6,7 @@ ghost use Rattle.xk_types.specs.World.{opening};
 ghost use Rattle.xk_types.specs.Step.{Stepped, step, waits};
 ghost use Rattle.xk_types.specs.Schedule.{IsReached, is_enabled, all_ended};
 ghost use Rattle.xk_types.specs.Bound.{steps_bound};
-ghost use Rattle.xk_core.specs.Core.{is_running, Locally, next_instruction, next_of, governor, opening_core, StepsTo, WantsMemory, IsCore, IsLeastEnabled, is_quiet, advanced_now, is_held_back_by, is_registered_on, is_next_local, with_world, is_waiting};
+ghost use Rattle.xk_core.specs.Core.{is_running, IsBeyond, Locally, next_instruction, next_of, governor, opening_core, StepsTo, WantsMemory, IsCore, IsLeastEnabled, is_quiet, advanced_now, is_held_back_by, is_registered_on, is_next_local, with_world, is_waiting};
 ghost use Rattle.xk_core.specs.Stretch.{RunsTo, AreLocal, IsUnseen, after_steps};
 ghost use Rattle.xk_core.specs.Handed.{Accepts};
 ghost use Rattle.xk_activity.specs.Activities.{act_at};
@@ -346,10 +346,22 @@ impl<'m> Core<'m> {
         ensures stepped { StepsTo self.old act self.new result }
         ensures same_module { self.new.module_run ≡ self.old.module_run }
     {
+        if self.is_seen(act) {
+            return self.carry_out(act, instr);
+        }
         match self.local(act) {
             Next::Stepped => Event::Local,
-            Next::Visible => self.carry_out(act, instr),
+            Next::Visible => unreachable!(),
         }
+    }
+
+    /// Whether others can see the next step of a running activity.
+    #[inline(always)]
+    fn is_seen(&self, act: Act) -> bool
+        requires { is_running self.now.world act ≡ true }
+        ensures { Decides result (IsBeyond self.now act) }
+    {
+        !self.state.is_local(act.0 as usize)
     }
 
     /// One step of a running activity, if nobody else can see it.

@@ -543,6 +543,7 @@ impl<'m> Driver<'m> {
     }
 
     /// The steps of the activity that nobody else can see, up to one that others can, how many they were, and whether it can take that one.
+    #[inline(always)]
     fn run(&mut self, act: Act) -> (u32, bool)
         requires { IsTrue (is_enabled self.old.module_run self.old.world act) }
         ensures ran { RunsTo self.old act result.0 self.new }

@@ -19,12 +19,12 @@ starts members room next e roomy = record { so_far = none members; next_is = e; 
     none [] = refl
     none (x ∷ xs) = refl
 
-there : (xs : List ℕ) (i k : ℕ) → slice_get xs i ≡ Some k → i < length xs
+pub there : (xs : List ℕ) (i k : ℕ) → slice_get xs i ≡ Some k → i < length xs
 there [] i k e = absurd (none-some k e)
 there (x ∷ xs) zero k e = omega arith
 there (x ∷ xs) (suc i) k e = let h : i < length xs = there xs i k e in omega arith
 
-at : (xs : List ℕ) (i k : ℕ) → slice_get xs i ≡ Some k → get_or xs i 0 ≡ k
+pub at : (xs : List ℕ) (i k : ℕ) → slice_get xs i ≡ Some k → get_or xs i 0 ≡ k
 at xs i k e = same_Some (get_or xs i 0) k (sym (slice_get-get_or xs i 0 (there xs i k e)) ∙ e)
 
 -- behind a member stands the least one above it
@@ -55,7 +55,7 @@ goes_on members list room more k next up h le e =
       roomy = let r = h.roomy in omega arith;
     }
 
-nobody : (xs : List ℕ) (i : ℕ) → slice_get xs i ≡ None → length xs ≤ i
+pub nobody : (xs : List ℕ) (i : ℕ) → slice_get xs i ≡ None → length xs ≤ i
 nobody [] i e = omega arith
 nobody (x ∷ xs) zero e = cc
 nobody (x ∷ xs) (suc i) e = let h : length xs ≤ i = nobody xs i e in omega arith

@@ -282,7 +282,7 @@ pub member_changed : (p q : ℕ → Bool) (n b : ℕ) → b < n → ((k : ℕ) �
 member_changed p q n b below same = changed_from p q 0 n b (omega arith) (omega arith) (λ k from lt. same k (omega arith))
 
 -- a number above all others
-added_last : (b : ℕ) (s : Bool) (xs : List ℕ) → ((k y : ℕ) → slice_get xs k ≡ Some y → y < b) → xs ++ cond s (b ∷ []) [] ≡ with_member b s xs
+pub added_last : (b : ℕ) (s : Bool) (xs : List ℕ) → ((k y : ℕ) → slice_get xs k ≡ Some y → y < b) → xs ++ cond s (b ∷ []) [] ≡ with_member b s xs
 added_last b s xs less =
     rw (
       filter_all (λ x. nat_lt x b) xs (λ k y e. lt-ltb y b (less k y e)),

@@ -1,11 +1,13 @@
 -- A set that is kept as the rising list of its members.
-use Rattle.std.proofs.Common.{◌≡◌, ℕ, zero, suc, ◌<◌, ◌≤◌, nat_lt, Bool, true, false, cond, List, [], ◌∷◌, ◌++◌, length, get_or, refl, subst, Err, nat_cmp, filter, All, arith, ap, sym}
+use Rattle.std.proofs.Common.{◌≡◌, ℕ, zero, suc, ◌-◌, ◌<◌, ◌≤◌, nat_lt, Bool, true, false, cond, List, [], ◌∷◌, ◌++◌, length, get_or, refl, subst, Err, Some, None, slice_get, nat_cmp, filter, All, arith, ap, sym}
 use Rattle.std.specs.List.{insert}
 use Rattle.std.proofs.lemmas.List.Edits.{length-insert}
 use Rattle.std.proofs.lemmas.List.Elements.{All-append, All-filter, All-cons, All-nil}
-use Rattle.xk_members.specs.Members.{IsRising, with_member, AreMembers}
+use Rattle.xk_members.specs.Members.{AreBelow, IsRising, with_member, AreMembers}
 use Rattle.std.specs.List.Sorted.{IsBinarySearchResult}
-use Rattle.xk_members.proofs.Rising.{rising_far, with_member_rises, missing_put_in}
+use Rattle.std.proofs.lemmas.List.{length-append}
+use Rattle.xk_members.proofs.Listing.{there, at, nobody}
+use Rattle.xk_members.proofs.Rising.{added_last, rising_far, rising_up, with_member_rises, missing_put_in}
 
 -- each is its place at least
 at_least : (xs : List ℕ) → IsRising xs → (i : ℕ) → i < length xs → i ≤ get_or xs i 0
@@ -69,3 +71,32 @@ missing b xs ys i room lt h same inside found =
       fits = room_for_one b xs i room lt h (omega (arith, inside, ap length same)) puts;
       keeps = subst (λ (l : List ℕ). AreMembers l room) (sym puts) (are_members_with b xs room lt h);
     }
+
+-- what it comes to that a number is above all others
+pub record IsLast (b : ℕ) (xs : List ℕ) (room : ℕ) : Type 0 where
+  pub puts : xs ++ b ∷ [] ≡ with_member b true xs
+  pub fits : length xs < room
+  pub keeps : AreMembers (xs ++ b ∷ []) room
+
+pub put_last : (b : ℕ) (xs : List ℕ) (room : ℕ) → b < room → AreMembers xs room → AreBelow b xs → IsLast b xs room
+put_last b xs room lt h below =
+    let puts : xs ++ b ∷ [] ≡ with_member b true xs = added_last b true xs below in
+    record {
+      puts = puts;
+      fits = omega (arith, length-append xs (b ∷ []), ap length puts, few_members (with_member b true xs) room (are_members_with b xs room lt h));
+      keeps = subst (λ (l : List ℕ). AreMembers l room) (sym puts) (are_members_with b xs room lt h);
+    }
+
+-- where the last of them is less than a number all are
+pub below_last : (b : ℕ) (xs : List ℕ) (last : ℕ) → IsRising xs → slice_get xs (length xs - 1) ≡ Some last → last < b → AreBelow b xs
+below_last b xs last up is lt i x e =
+    let inside : i < length xs = there xs i x e in
+    let up_to_last : get_or xs i 0 ≤ get_or xs (length xs - 1) 0 = rising_up xs up i (length xs - 1) (omega arith) (omega arith) in
+    omega (arith, up_to_last, at xs i x e, at xs (length xs - 1) last is, lt)
+
+-- and where there is no last one
+pub below_nobody : (b : ℕ) (xs : List ℕ) → slice_get xs (length xs - 1) ≡ None → AreBelow b xs
+below_nobody b xs none i x e =
+    let inside : i < length xs = there xs i x e in
+    let short : length xs ≤ length xs - 1 = nobody xs (length xs - 1) none in
+    absurd (omega arith)

@@ -5,6 +5,10 @@ use Rattle.std.specs.Prelude.{◌≡◌, ℕ, zero, suc, ◌<◌, nat_le, nat_lt
 abbrev pub IsRising : List ℕ → Type 0
 IsRising xs = (i x y : ℕ) → slice_get xs i ≡ Some x → slice_get xs (suc i) ≡ Some y → x < y
 
+-- each is less than this number
+abbrev pub AreBelow : ℕ → List ℕ → Type 0
+AreBelow number xs = (i x : ℕ) → slice_get xs i ≡ Some x → x < number
+
 -- so many numbers, from a on
 abbrev pub numbers_from : ℕ → ℕ → List ℕ
 numbers_from a zero = []

@@ -2,13 +2,13 @@
 
 ghost use Rattle.std.specs.Prelude.{◌≡◌, ◌+◌, ◌<◌, ◌≤◌, ◌==◌, [], ◌++◌, length, true, false, IfOk};
 ghost use Rattle.std.specs.Vec.{vec_capacity, vec_len};
-ghost use Rattle.xk_members.specs.Members.{IsRising, with_member};
+ghost use Rattle.xk_members.specs.Members.{AreBelow, IsRising, with_member};
 
 use std::alloc::{AllocError, Global};
 use std::marker::Model;
 
 /// A set of numbers below its room, kept as the rising list of its members. What it takes to put one in, or to take one out, grows with those
-/// above it; to take all out, or to tell whether there are any, is one step. No call but `with_room` takes memory.
+/// above it; to put one in above all others, to take all out, or to tell whether there are any, is one step. No call but `with_room` takes memory.
 #[derive(Drop)]
 pub struct FewNumbers {
     numbers: Vec<u32>,
@@ -36,8 +36,31 @@ impl FewNumbers {
         })
     }
 
-    /// Puts a number in.
+    /// Puts a number in. One above all others goes behind them at once.
     pub fn insert(&mut self, number: u32)
+        requires { number < self.old.room }
+        ensures members { self.new.members ≡ with_member number true self.old.members }
+        ensures room { self.new.room ≡ self.old.room }
+    {
+        if self.is_below(number) {
+            self.numbers.push_reserved(number);
+        } else {
+            self.insert_among(number);
+        }
+    }
+
+    /// Whether all members are below this number.
+    fn is_below(&self, number: u32) -> bool
+        ensures { result ≡ true → AreBelow number self.now.members }
+    {
+        match self.numbers.last() {
+            Some(last) => *last < number,
+            None => true,
+        }
+    }
+
+    /// Puts a number in among others.
+    fn insert_among(&mut self, number: u32)
         requires { number < self.old.room }
         ensures members { self.new.members ≡ with_member number true self.old.members }
         ensures room { self.new.room ≡ self.old.room }

@@ -1,13 +1,12 @@
 -- The clocks that advanced in the newest step, as a set.
-use Rattle.std.proofs.Common.{◌≡◌, ◌∙◌, ℕ, zero, suc, ◌+◌, ◌<◌, ◌≤◌, ◌==◌, Bool, true, false, not, ◌&&◌, cond, max, nat_lt, List, [], ◌∷◌, ◌++◌, length, get_or, set, filter, Option, Some, slice_get, refl, sym, ap, subst, arith, add-one, All, length-set, length-append, get_or-set_same, get_or-set_other}
+use Rattle.std.proofs.Common.{◌≡◌, ◌∙◌, ℕ, zero, suc, ◌+◌, ◌<◌, ◌≤◌, ◌==◌, Bool, true, false, not, ◌&&◌, cond, max, nat_lt, List, [], ◌∷◌, ◌++◌, length, get_or, set, filter, slice_get, refl, sym, ap, subst, arith, add-one, All, length-set, length-append, get_or-set_same, get_or-set_other}
 use Rattle.std.specs.List.{list_all}
-use Rattle.std.proofs.lemmas.Option.{none-some, same_Some, slice_get-get_or}
 use Rattle.std.proofs.Math.Seq.{get_or-append_seam}
 use Rattle.std.proofs.lemmas.Bool.{eq-eqb, ne_eqb, ltb-true, ltb-false}
 use Rattle.std.proofs.lemmas.List.{append-nil, length_push, get_or_append_left}
-use Rattle.std.proofs.lemmas.List.Elements.{filter-append, All-push, All-set, All-from_get_or}
-use Rattle.xk_members.specs.Members.{IsRising, numbers_from, with_member, SetValue}
-use Rattle.xk_members.proofs.Rising.{member_added, member_changed, member_taken_out, member_passes, members_few, members_none, numbers_more, same_members}
+use Rattle.std.proofs.lemmas.List.Elements.{filter-append, All-push, All-set}
+use Rattle.xk_members.specs.Members.{numbers_from, with_member, SetValue}
+use Rattle.xk_members.proofs.Rising.{member_added, member_changed, member_passes, members_few, members_none, numbers_more, same_members}
 use Rattle.xk_clocks.specs.Table.{TableValue}
 use Rattle.xk_standings.specs.Calls.{noted_in, IsUpToDate}
 use Rattle.xk_standings.proofs.Lists.{other_number}

@@ -1,11 +1,11 @@
 -- Each step's part on clocks, over the table and the registrations, is the definitions'.
-use Rattle.std.proofs.Common.{◌≡◌, ℕ, zero, suc, ◌+◌, ◌-◌, ◌<◌, ◌==◌, ◌&&◌, Bool, true, false, not, cond, List, [], ◌∷◌, map, length, set, Option, Some, None, refl, sym, ap, ◌∙◌, subst, arith, slice_get, slice_index_or}
+use Rattle.std.proofs.Common.{◌≡◌, ℕ, zero, suc, ◌+◌, ◌-◌, ◌<◌, ◌&&◌, Bool, true, false, not, cond, List, [], ◌∷◌, map, length, set, Option, Some, None, refl, sym, ap, ◌∙◌, subst, arith, slice_get, slice_index_or}
 use Rattle.std.specs.Option.{option_map_or}
 use Rattle.std.proofs.lemmas.Option.{none-some, same_Some}
 use Rattle.xk_types.specs.declared.names.Standing.{Standing}
 use Rattle.xk_types.specs.declared.names.Standing.TheVariants as standing
 use Rattle.xk_types.specs.World.{Clock, standing_of}
-use Rattle.xk_types.specs.Step.{is_signalled, resumed, passed, dropped, only, all, settled_clock, moved}
+use Rattle.xk_types.specs.Step.{is_signalled, passed, all, settled_clock, moved}
 use Rattle.xk_clocks.specs.Table.{CountValue, is_ready_count, count_settled}
 use Rattle.xk_standings.specs.View.{Registration, stands, told, told_clock, told_by, held, WillAdvance, AreFit, IsKept, AreSound, AreDistinct, reg_on, count_between, count_after, counts_after, last_settled, count_moved}
 use Rattle.xk_standings.specs.Calls.{called, noted, regs_resumed, regs_passed, regs_open, regs_on, call_resume, call_drop, marked, mark_resumed, is_open, regs_where, phase_at}

@@ -11,26 +11,20 @@ use crate::which::Which;
 use xk_types::{ClockId, Standing};
 
 /// Resumes one registration in the step of this number, if it is open and on a clock that the step concerns.
-fn resume_one(
-    registration: Registration,
-    which: &Which,
-    clocks: &mut Clocks,
-    now: u64,
-) -> Registration
+fn resume_one(registration: &mut Registration, which: &Which, clocks: &mut Clocks, now: u64)
     requires { AreAllowedInTurn OwesResume call_resume
-        (regs_open (concerns which.now) (registration ∷ [])) clocks.old.table.clocks }
-    ensures registration { result
-        ≡ reg_resumed (concerns which.now) registration clocks.old.table.clocks }
-    ensures clocks { clocks.new
-        ≡ calls now call_resume (regs_open (concerns which.now) (registration ∷ [])) clocks.old }
+        (regs_open (concerns which.now) (registration.old ∷ [])) clocks.old.table.clocks }
+    ensures registration { registration.new
+        ≡ reg_resumed (concerns which.now) registration.old clocks.old.table.clocks }
+    ensures clocks { clocks.new ≡ calls now call_resume
+        (regs_open (concerns which.now) (registration.old ∷ [])) clocks.old }
 {
     let clock = registration.clock();
-    if !(which.concerns(clock) && registration.is_open()) {
-        return registration;
+    if which.concerns(clock) && registration.is_open() {
+        let phase = clocks.phase(clock);
+        clocks.resume(*registration, now);
+        registration.resume(phase);
     }
-    let phase = clocks.phase(clock);
-    clocks.resume(registration, now);
-    registration.resumed_in(phase)
 }
 
 /// Resumes those on clocks that the step concerns, each that is open in the present phase of its clock.
@@ -44,7 +38,7 @@ pub fn resume_each(registrations: &mut [Registration], which: &Which, clocks: &m
         ≡ calls now call_resume (regs_open (concerns which.now) registrations.old) clocks.old }
 {
     for i in 0..registrations.len() {
-        registrations[i] = resume_one(registrations[i], which, clocks, now);
+        resume_one(&mut registrations[i], which, clocks, now);
     }
 }
 

@@ -103,14 +103,11 @@ impl Registration {
         Registration::on(self.clock)
     }
 
-    /// The same, resumed in this phase.
-    pub fn resumed_in(self, phase: u64) -> Registration
-        ensures { result ≡ record { clock = self.clock; resumed = Some phase } }
+    /// Is resumed in this phase.
+    pub fn resume(&mut self, phase: u64)
+        ensures { self.new ≡ record { clock = self.old.clock; resumed = Some phase } }
     {
-        Registration {
-            clock: self.clock,
-            is_resumed: true,
-            phase,
-        }
+        self.is_resumed = true;
+        self.phase = phase;
     }
 }

@@ -1,4 +1,4 @@
-use Rattle.std.proofs.Common.{◌≡◌, ◌<◌, ◌&&◌, List, [], length, drop, arith, refl, ◌∙◌}
+use Rattle.std.proofs.Common.{◌≡◌, ◌<◌, ◌&&◌, List, [], length, drop, arith, refl, sym, ◌∙◌}
 use Rattle.std.proofs.lemmas.List.{at_drop_all}
 use Rattle.xk_standings.specs.View.{Registration}
 use Rattle.xk_standings.specs.Calls.{concerns, call_resume, regs_open, is_open, OwesResume}
@@ -18,13 +18,14 @@ loop-i-init c = record {
 pub resume_one-requires : goal.resume_one-requires
 resume_one-requires c =
     let inside : c.loop-i.i < length c.loop-i.registrations = omega (arith, c.loop-i-test.true, c.loop-i.auto.registrations) in
+    rw (sym c.index-registrations-i.is)
     (more_allowed OwesResume call_resume (λ r. concerns c.args.which.now r.clock && is_open r) c.loop-i.i c.loop-i.registrations c.loop-i.clocks.table.clocks
     c.index-registrations-i.result inside c.index-registrations-i.is c.loop-i.invariant.allowed).0
 
 pub loop-i-preserved : goal.loop-i-preserved
 loop-i-preserved c =
     let inside : c.loop-i.i < length c.loop-i.registrations = omega (arith, c.loop-i-test.true, c.loop-i.auto.registrations) in
-    rw (c.resume_one.ensures.registration, c.resume_one.ensures.clocks) (record {
+    rw (c.resume_one.ensures.registration, c.resume_one.ensures.clocks, sym c.index-registrations-i.is) (record {
       registrations = more_registrations (concerns c.args.which.now) c.loop-i.i c.loop-i.registrations _ c.loop-i.clocks.table.clocks
           c.index-registrations-i.result inside c.index-registrations-i.is c.loop-i.invariant.registrations;
       rest = more_rest c.loop-i.i c.loop-i.registrations c.args.registrations.now _ c.loop-i.invariant.rest;
