@@ -1,6 +1,6 @@
 //! Cells put on a stack that has room for them.
 
-ghost use Rattle.std.specs.Prelude.{◌≡◌, ◌+◌, ◌<◌, ◌≤◌, [], ◌++◌, drop, length, replicate, slice_set, All, IfOk};
+ghost use Rattle.std.specs.Prelude.{◌≡◌, ◌+◌, ◌<◌, ◌≤◌, [], ◌++◌, drop, length, replicate, slice_set, All, IfOk, IsOk};
 ghost use Rattle.std.specs.Vec.{vec_capacity};
 ghost use Rattle.smallvec.specs.SmallVec.{small_vec_len, HasRoomFor};
 ghost use Rattle.xk_types.specs.declared.names.Value.TheVariants as value;
@@ -20,6 +20,8 @@ pub(crate) type Stack = SmallVec<Cell, 1>;
 pub(crate) fn empty(alloc: Global, room: u32) -> Result<Stack, AllocError>
     ensures none { IfOk result (λ s. s.items ≡ []) }
     ensures room { IfOk result (λ s. room ≤ s.capacity) }
+    // One cell lies in the stack itself.
+    ensures one { room ≤ 1 → IsOk result }
 {
     SmallVec::with_capacity(alloc, room as usize)
 }
@@ -75,6 +77,7 @@ pub(crate) fn copy_cells(alloc: Global, stack: &Stack) -> Result<Stack, AllocErr
     ensures items { IfOk result (λ v. v.items ≡ stack.now.items) }
     ensures capacity { IfOk result (λ v. v.capacity ≡ stack.now.capacity) }
 {
+    // No more cells than there is room for.
     let _len = stack.len();
     let mut copy = SmallVec::with_capacity(alloc, stack.capacity())?;
     for cell in stack.as_slice() {

@@ -77,7 +77,8 @@ impl WaitingLists {
         ensures capacity { vec_capacity shown.old ≤ vec_capacity shown.new }
     {
         shown.clear();
-        let _room = self.next.len();
+        // Nobody stands in two lists, so that all who wait fit into the room.
+        let _apart = &self.next;
         take_each(self, clocks, shown);
     }
 
