@@ -1,6 +1,7 @@
 pub mod Cells
 pub mod Safe
 pub mod Stacking
+pub mod Operands
 pub mod Locals
 pub mod Turns
 pub mod Joined

@@ -13,6 +13,7 @@ use Rattle.xk_types.specs.Code.{UnitValue, IsWithinLimits, is_method}
 use Rattle.xk_types.specs.World.{instruction_at}
 use Rattle.xk_activity.specs.Local.{OutcomeOf, Beyond, Wrong, Stepped, IsRight, Spot, Turn, FramesValue, in_frame, carried, carried_at, carried_on, local, local_at, turn, code_of, spot_of, frame_on, number_in, clock_in, arguments_in, calling, called, is_stepped}
 use Rattle.xk_activity.specs.Stacked.{value_at, values_at, CanCall}
+use Rattle.xk_activity.proofs.Operands.{number_there, number_goes}
 use Rattle.xk_activity.proofs.Stacking.{code_at, limits_of}
 
 -- the code of the present frame's unit, and where that frame stands
@@ -70,12 +71,6 @@ all_cons : (P : ℕ → Type 0) (x : ℕ) (xs : List ℕ) → P x → All P xs �
 all_cons P x xs p h zero d lt = p
 all_cons P x xs p h (suc k) d lt = h k d (omega arith)
 
-number_there : {X : Type 0} (o : Option Value) (go : ℤ → OutcomeOf X) → IsRight (number_in o go) → (n : ℤ) × (o ≡ Some (value.Number n)) × IsRight (go n)
-number_there None go h = absurd h
-number_there (Some value.Unset) go h = absurd h
-number_there (Some (value.Number n)) go h = (n, refl, h)
-number_there (Some (value.Clock c)) go h = absurd h
-
 clock_there : {X : Type 0} (o : Option Value) (go : ℕ → OutcomeOf X) → IsRight (clock_in o go) → (c : ℕ) × (o ≡ Some (value.Clock c)) × IsRight (go c)
 clock_there None go h = absurd h
 clock_there (Some value.Unset) go h = absurd h
@@ -97,9 +92,10 @@ pub arguments_there : {X : Type 0} (slots : List Value) (ps : List ParamKind) (x
 arguments_there slots [] [] go h = (refl, λ k d lt. absurd (omega arith), refl)
 arguments_there slots [] (x ∷ xs) go h = absurd h
 arguments_there slots (p ∷ ps) [] go h = absurd h
-arguments_there slots (param.Number ∷ ps) (x ∷ xs) go h =
-    let n = number_there (slice_get slots x) (λ z. arguments_in slots ps xs (λ values. go (value.Number z ∷ values))) h in
-    let r = arguments_there slots ps xs (λ values. go (value.Number n.0 ∷ values)) n.2 in (
+arguments_there {X} slots (param.Number ∷ ps) (x ∷ xs) go h =
+    let after : ℤ → OutcomeOf X = λ z. arguments_in slots ps xs (λ values. go (value.Number z ∷ values)) in
+    let n = number_there (slice_get slots x) after h in
+    let r = arguments_there slots ps xs (λ values. go (value.Number n.0 ∷ values)) (number_goes (slice_get slots x) after n.0 h n.1) in (
       ap suc r.0,
       all_cons (λ s. s < length slots) x xs (slice_get_within slots x _ n.1) r.1,
       ap (λ o. number_in o (λ z. arguments_in slots ps xs (λ values. go (value.Number z ∷ values)))) n.1 ∙ r.2

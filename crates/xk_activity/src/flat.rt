@@ -2,8 +2,8 @@
 
 ghost use Rattle.std.specs.Prelude.{◌≡◌, ◌⊎◌, ℤ, ◌+◌, ◌<◌, ◌≤◌, ◌^◌, length, not, Some, slice_get, slice_set};
 ghost use Rattle.xk_types.specs.declared.names.Value.TheVariants as value;
-ghost use Rattle.xk_activity.specs.Local.{Beyond, Stepped, turn, ran, spot_at, IsSafe, IsRight};
-ghost use Rattle.xk_activity.specs.Arm.{CanCarry, Carries, Answers, IsTurnAt, Turned, is_beyond};
+ghost use Rattle.xk_activity.specs.Local.{Beyond, Stepped, carried, turn, turning, ran, spot_at, IsSafe, IsRight};
+ghost use Rattle.xk_activity.specs.Arm.{Answers, is_beyond};
 
 use crate::cell::Cell;
 use xk_types::Instr;
@@ -40,15 +40,16 @@ fn change(slots: &mut [Cell], k: u16, n: i64)
     slot.change(n);
 }
 
-/// Ends a turn of the loop that begins at place b, and gives the next place.
+/// Ends a turn of the loop that begins at place b with this instruction, and gives the next place.
 #[inline(always)]
-fn end_turn(code: &[Instr], place: u32, slots: &mut [Cell], b: u16) -> u32
-    requires short { length code.now < 2 ^ 16 }
+#[tactic(auto, using(crate::proofs::Operands::number_there))]
+fn end_turn(head: &Instr, place: u32, slots: &mut [Cell], b: u16) -> u32
     requires place { place + 1 < 2 ^ 16 }
-    requires turn { IsTurnAt code.now (spot_at place slots.old) b }
-    ensures { Turned code.now (spot_at place slots.old) b (spot_at result slots.new) }
+    requires right { IsRight (turning (spot_at place slots.old) b (Some head.now)) }
+    ensures { turning (spot_at place slots.old) b (Some head.now)
+        ≡ Stepped (spot_at result slots.new) }
 {
-    match &code[b as usize] {
+    match head {
         Instr::For { k, hi, .. } => {
             let n = number(slots, *k);
             if n < *hi {
@@ -64,11 +65,13 @@ fn end_turn(code: &[Instr], place: u32, slots: &mut [Cell], b: u16) -> u32
 
 /// Carries out an instruction, and gives the next place; nothing where it concerns more than the frame.
 #[inline(always)]
+#[tactic(auto, using(crate::proofs::Operands::number_there, crate::proofs::Operands::number_goes, crate::proofs::Operands::slot_there, crate::proofs::Operands::begin_there))]
 fn carry(code: &[Instr], place: u32, slots: &mut [Cell], instr: &Instr) -> Option<u32>
     requires short { length code.now < 2 ^ 16 }
     requires place { place + 1 < 2 ^ 16 }
-    requires operands { CanCarry code.now (spot_at place slots.old) instr.now }
-    ensures { Carries code.now (spot_at place slots.old) instr.now result slots.new }
+    requires right { IsRight (carried code.now (spot_at place slots.old) instr.now) }
+    ensures { Answers (carried code.now (spot_at place slots.old) instr.now) slots.old result
+        slots.new }
 {
     let next = match instr {
         Instr::Lit { d, n } => write(slots, *d, *n, place),
@@ -93,7 +96,7 @@ fn carry(code: &[Instr], place: u32, slots: &mut [Cell], instr: &Instr) -> Optio
         }
         Instr::Unless { t, .. } | Instr::Jump(t) => *t as u32,
         Instr::For { k, lo, .. } => write(slots, *k, *lo, place),
-        Instr::Next(b) => end_turn(code, place, slots, *b),
+        Instr::Next(b) => end_turn(&code[*b as usize], place, slots, *b),
         _ => return None,
     };
     Some(next)
@@ -122,7 +125,7 @@ pub(crate) fn is_flat(instr: &Instr) -> bool
 pub(crate) fn one(code: &[Instr], place: u32, slots: &mut [Cell]) -> Option<u32>
     requires short { length code.now < 2 ^ 16 }
     requires right { IsRight (turn code.now (spot_at place slots.old)) }
-    ensures { Answers code.now (spot_at place slots.old) result slots.new }
+    ensures { Answers (turn code.now (spot_at place slots.old)) slots.old result slots.new }
 {
     carry(code, place, slots, &code[place as usize])
 }

@@ -66,8 +66,8 @@ fn step_top(code: &[Instr], place: u32, stack: &mut Stack, base: usize) -> Optio
     requires short { length code.now < 2 ^ 16 }
     requires base { base ≤ length stack.old.items }
     requires right { IsRight (turn code.now (spot_at place (drop base stack.old.items))) }
-    ensures stepped { Answers code.now (spot_at place (drop base stack.old.items)) result
-        (drop base stack.new.items) }
+    ensures stepped { Answers (turn code.now (spot_at place (drop base stack.old.items)))
+        (drop base stack.old.items) result (drop base stack.new.items) }
     ensures below { take base stack.new.items ≡ take base stack.old.items }
     ensures length { length stack.new.items ≡ length stack.old.items }
     ensures capacity { stack.new.capacity ≡ stack.old.capacity }

@@ -11,40 +11,35 @@ use Rattle.xk_types.specs.declared.unit.ParamKind.TheVariants as param
 use Rattle.xk_types.specs.Code.{UnitValue, is_method, compares}
 use Rattle.xk_types.specs.World.{Frame}
 use Rattle.xk_activity.specs.Local.{OutcomeOf, Beyond, Wrong, Stepped, Spot, Turn, FramesValue, in_frame, put_in, number_in, clock_in, arguments_in, turning, turned, carried_on, code_of, spot_of, onward, called, calling, returning}
+use Rattle.xk_activity.specs.Arm.{is_more}
 use Rattle.xk_core.specs.Arm.{is_visible}
 
--- the step concerns more
-abbrev is_beyond : {X : Type 0} → OutcomeOf X → Bool
-is_beyond Beyond = true
-is_beyond Wrong = false
-is_beyond (Stepped x) = false
-
-number_beyond : {X : Type 0} (o : Option Value) (go : ℤ → OutcomeOf X) → ((n : ℤ) → is_beyond (go n) ≡ false) → is_beyond (number_in o go) ≡ false
+number_beyond : {X : Type 0} (o : Option Value) (go : ℤ → OutcomeOf X) → ((n : ℤ) → is_more (go n) ≡ false) → is_more (number_in o go) ≡ false
 number_beyond None go h = refl
 number_beyond (Some value.Unset) go h = refl
 number_beyond (Some (value.Number n)) go h = h n
 number_beyond (Some (value.Clock c)) go h = refl
 
-clock_beyond : {X : Type 0} (o : Option Value) (go : ℕ → OutcomeOf X) → ((c : ℕ) → is_beyond (go c) ≡ false) → is_beyond (clock_in o go) ≡ false
+clock_beyond : {X : Type 0} (o : Option Value) (go : ℕ → OutcomeOf X) → ((c : ℕ) → is_more (go c) ≡ false) → is_more (clock_in o go) ≡ false
 clock_beyond None go h = refl
 clock_beyond (Some value.Unset) go h = refl
 clock_beyond (Some (value.Number n)) go h = refl
 clock_beyond (Some (value.Clock c)) go h = h c
 
-put_beyond : (o : Option Value) (f : Spot) (d : ℕ) (v : Value) → is_beyond (put_in o f d v) ≡ false
+put_beyond : (o : Option Value) (f : Spot) (d : ℕ) (v : Value) → is_more (put_in o f d v) ≡ false
 put_beyond None f d v = refl
 put_beyond (Some old) f d v = refl
 
-cond_beyond : {X : Type 0} (b : Bool) (p q : OutcomeOf X) → is_beyond p ≡ false → is_beyond q ≡ false → is_beyond (cond b p q) ≡ false
+cond_beyond : {X : Type 0} (b : Bool) (p q : OutcomeOf X) → is_more p ≡ false → is_more q ≡ false → is_more (cond b p q) ≡ false
 cond_beyond true p q h g = h
 cond_beyond false p q h g = g
 
-turn_beyond : (f : Spot) (b : ℕ) (o : Option Instr) → is_beyond (turning f b o) ≡ false
+turn_beyond : (f : Spot) (b : ℕ) (o : Option Instr) → is_more (turning f b o) ≡ false
 turn_beyond f b (Some (instr.For k lo hi e)) = number_beyond (slice_get f.slots k) (turned f b k hi) (λ n. cond_beyond (int_lt n hi) _ _ refl refl)
 turn_beyond f b _ = refl
 
-arguments_beyond : {X : Type 0} (slots : List Value) (ps : List ParamKind) (xs : List ℕ) (go : List Value → OutcomeOf X) → ((vs : List Value) → is_beyond (go vs) ≡ false)
-    → is_beyond (arguments_in slots ps xs go) ≡ false
+arguments_beyond : {X : Type 0} (slots : List Value) (ps : List ParamKind) (xs : List ℕ) (go : List Value → OutcomeOf X) → ((vs : List Value) → is_more (go vs) ≡ false)
+    → is_more (arguments_in slots ps xs go) ≡ false
 arguments_beyond slots [] [] go h = h []
 arguments_beyond slots [] (x ∷ xs) go h = refl
 arguments_beyond slots (p ∷ ps) [] go h = refl
@@ -53,12 +48,12 @@ arguments_beyond slots (param.Number ∷ ps) (x ∷ xs) go h = number_beyond (sl
 arguments_beyond slots (param.Clock ∷ ps) (x ∷ xs) go h = clock_beyond (slice_get slots x) _
     (λ c. arguments_beyond slots ps xs (λ values. go (value.Clock c ∷ values)) (λ vs. h (value.Clock c ∷ vs)))
 
-call_beyond : (fs : FramesValue) (t : ℕ) (args : List ℕ) (o : Option UnitValue) → is_beyond (calling fs t args o) ≡ false
+call_beyond : (fs : FramesValue) (t : ℕ) (args : List ℕ) (o : Option UnitValue) → is_more (calling fs t args o) ≡ false
 call_beyond fs t args None = refl
 call_beyond fs t args (Some u) = cond_beyond (is_method u.kind) _ _
     (arguments_beyond fs.frame.slots u.params args (λ values. Stepped (called fs t values)) (λ vs. refl)) refl
 
-in_frame_beyond : (fs : FramesValue) (t : Turn) → is_beyond (in_frame fs t) ≡ is_beyond t
+in_frame_beyond : (fs : FramesValue) (t : Turn) → is_more (in_frame fs t) ≡ is_more t
 in_frame_beyond fs Beyond = refl
 in_frame_beyond fs Wrong = refl
 in_frame_beyond fs (Stepped s) = refl
@@ -68,11 +63,11 @@ module _ (fs : FramesValue) where
   abbrev f : Spot
   f = spot_of fs.frame
 
-  hidden : (t : Turn) → is_beyond t ≡ false → in_frame fs t ≡ Beyond → (b : Bool) → b ≡ true
-  hidden t h e b = absurd (false≢true (sym (in_frame_beyond fs t ∙ h) ∙ ap is_beyond e))
+  hidden : (t : Turn) → is_more t ≡ false → in_frame fs t ≡ Beyond → (b : Bool) → b ≡ true
+  hidden t h e b = absurd (false≢true (sym (in_frame_beyond fs t ∙ h) ∙ ap is_more e))
 
-  two : (op : ℤ → ℤ → Turn) (x y : ℕ) → ((p q : ℤ) → is_beyond (op p q) ≡ false)
-      → is_beyond (number_in (slice_get f.slots x) (λ p. number_in (slice_get f.slots y) (λ q. op p q))) ≡ false
+  two : (op : ℤ → ℤ → Turn) (x y : ℕ) → ((p q : ℤ) → is_more (op p q) ≡ false)
+      → is_more (number_in (slice_get f.slots x) (λ p. number_in (slice_get f.slots y) (λ q. op p q))) ≡ false
   two op x y h = number_beyond (slice_get f.slots x) _ (λ p. number_beyond (slice_get f.slots y) _ (λ q. h p q))
 
   -- so the instruction where a step does is one that others can see
@@ -86,10 +81,10 @@ module _ (fs : FramesValue) where
   visible_there (instr.Jump t) e = hidden (Stepped (record f { place = t })) refl e false
   visible_there (instr.For k lo hi end) e = hidden _ (put_beyond (slice_get f.slots k) f k _) e false
   visible_there (instr.Next b) e = hidden _ (turn_beyond f b (slice_get (code_of fs.module_run fs.frame.unit) b)) e false
-  visible_there (instr.Call t args) e = absurd (false≢true (sym (call_beyond fs t args (slice_get fs.module_run.units t)) ∙ ap is_beyond e))
+  visible_there (instr.Call t args) e = absurd (false≢true (sym (call_beyond fs t args (slice_get fs.module_run.units t)) ∙ ap is_more e))
   visible_there _ e = refl
 
   -- and at a `ret` no frame waits
   pub nobody_waits : (gs : List Frame) → returning fs gs ≡ Beyond → gs ≡ []
   nobody_waits [] e = refl
-  nobody_waits (g ∷ gs) e = absurd (false≢true (ap is_beyond e))
+  nobody_waits (g ∷ gs) e = absurd (false≢true (ap is_more e))
