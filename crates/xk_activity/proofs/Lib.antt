@@ -1,4 +1,5 @@
-pub mod Cells
+pub mod Words
+pub mod Handed
 pub mod Safe
 pub mod Stacking
 pub mod Operands

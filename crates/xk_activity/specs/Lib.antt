@@ -1,6 +1,5 @@
 pub mod Local
-pub mod Cell
-pub mod CellLaw
+pub mod Slots
 pub mod Arm
 pub mod Stacked
 pub mod Joined

@@ -1,5 +1,5 @@
--- How the frames of an activity lie on one stack of cells, and the room that they keep. This project's own.
-use Rattle.std.specs.Prelude.{ℕ, ◌≡◌, ◌+◌, ◌<◌, ◌≤◌, List, [], ◌∷◌, length, take, drop, map, All, Some, slice_get, slice_index_or, slice_set}
+-- How the frames of an activity lie on one stack of words, and the room that they keep. This project's own.
+use Rattle.std.specs.Prelude.{ℕ, ℤ, ◌≡◌, ◌+◌, ◌<◌, ◌≤◌, List, [], ◌∷◌, length, take, drop, map, All, Some, slice_get, slice_index_or, slice_set}
 use Rattle.xk_types.specs.declared.names.Value.{Value}
 use Rattle.xk_types.specs.declared.names.Value.TheVariants as value
 use Rattle.xk_types.specs.declared.instr.Instr.TheVariants as instr
@@ -10,18 +10,20 @@ use Rattle.xk_types.specs.Bound.{stack_of, frames_of}
 use Rattle.xk_activity.specs.declared.caller.Caller.{Caller}
 use Rattle.xk_activity.specs.declared.frames.Next.{Next}
 use Rattle.xk_activity.specs.declared.frames.Next.TheVariants as next
+use Rattle.xk_activity.specs.declared.marks.Marks.{Marks}
+use Rattle.xk_activity.specs.Slots.{values_of}
 use Rattle.xk_activity.specs.Local.{FramesValue, Outcome, Beyond, Stepped}
 
 -- the frames that wait, the nearest first, on a stack whose part up to top is theirs
-abbrev pub waiting : List Value → ℕ → List Caller → List Frame
+abbrev pub waiting : List ℤ → ℕ → List Caller → List Frame
 waiting stack top [] = []
-waiting stack top (c ∷ cs) = record { unit = c.unit; place = c.place; slots = drop c.base (take top stack) } ∷ waiting stack c.base cs
+waiting stack top (c ∷ cs) = record { unit = c.unit; place = c.place; slots = values_of c.marks (drop c.base (take top stack)) } ∷ waiting stack c.base cs
 
 -- the frames on a stack, of which the present one begins at base
-abbrev pub frames_on : ModuleValue → ℕ → ℕ → ℕ → List Value → List Caller → FramesValue
-frames_on m unit place base stack cs = record {
+abbrev pub frames_on : ModuleValue → ℕ → ℕ → Marks → ℕ → List ℤ → List Caller → FramesValue
+frames_on m unit place marks base stack cs = record {
   module_run = m;
-  frame = record { unit = unit; place = place; slots = drop base stack };
+  frame = record { unit = unit; place = place; slots = values_of marks (drop base stack) };
   callers = waiting stack base cs;
 }
 
@@ -35,6 +37,11 @@ abbrev pub AreStacked : ModuleValue → ℕ → ℕ → ℕ → List Caller → 
 AreStacked m slots frames top [] = top ≡ 0
 AreStacked m slots frames top (c ∷ cs) =
     (c.base + slots_of m c.unit ≡ top) × HasRoom m slots frames c.base c.unit cs × AreStacked m slots frames c.base cs
+
+-- each frame that waits has at most 64 slots, and ends where the one above it begins, on a stack of this length
+abbrev pub AreBelow : ℕ → ℕ → List Caller → Type 0
+AreBelow long top [] = top ≤ long
+AreBelow long top (c ∷ cs) = (c.base ≤ top) × (top ≤ long) × (top ≤ c.base + 64) × AreBelow long c.base cs
 
 -- the present frame is the uppermost, and there is room for all that it and those that wait may call
 pub record IsStacked (m : ModuleValue) (unit base : ℕ) (below : List Caller) (long slots frames : ℕ) : Type 0 where

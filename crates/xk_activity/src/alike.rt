@@ -1,51 +1,34 @@
-//! Whether two stacks, and the frames that wait on them, are the same.
+//! Whether frames that wait are the same.
 
-ghost use Rattle.std.specs.Prelude.{◌≡◌};
+ghost use Rattle.std.specs.Prelude.{◌≡◌, ◌≤◌, ℕ, length, reverse};
 ghost use Rattle.std.specs.Bool.{Decides};
+ghost use Rattle.xk_activity.specs.Stacked.{waiting, AreBelow};
 
 use crate::caller::Caller;
-use crate::cell::Cell;
+use crate::slots::{are_same_slots, part};
 
-/// Whether two cells hold the same.
-fn is_same_cell(a: Cell, b: Cell) -> bool
-    ensures { Decides result (a ≡ b) }
+/// Whether the frames that wait on one stack, up to top, are those that wait on the other, up to end.
+pub(crate) fn are_same_waiting(
+    a: &[i64],
+    callers: &[Caller],
+    top: usize,
+    b: &[i64],
+    others: &[Caller],
+    end: usize,
+) -> bool
+    requires stacked { AreBelow (length a.now) top (reverse callers.now) }
+    requires other_stacked { AreBelow (length b.now) end (reverse others.now) }
+    ensures { Decides result
+        (waiting a.now top (reverse callers.now) ≡ waiting b.now end (reverse others.now)) }
 {
-    a.value() == b.value()
-}
-
-/// Whether these cells hold the same.
-pub(crate) fn are_same_cells(a: &[Cell], b: &[Cell]) -> bool
-    ensures { Decides result (a.now ≡ b.now) }
-{
-    if a.len() != b.len() {
-        return false;
-    }
-    for i in 0..a.len() {
-        if !is_same_cell(a[i], b[i]) {
-            return false;
+    match (callers.split_last(), others.split_last()) {
+        (None, None) => true,
+        (Some((c, callers)), Some((d, others))) => {
+            c.unit == d.unit
+                && c.place == d.place
+                && are_same_slots(part(a, c.base, top), c.marks, part(b, d.base, end), d.marks)
+                && are_same_waiting(a, callers, c.base, b, others, d.base)
         }
+        _ => false,
     }
-    true
-}
-
-/// Whether two frames that wait stand at the same place, and begin at the same cell.
-fn is_same_caller(a: Caller, b: Caller) -> bool
-    ensures { Decides result (a ≡ b) }
-{
-    a.unit == b.unit && a.place == b.place && a.base == b.base
-}
-
-/// Whether these frames wait in the same way.
-pub(crate) fn are_same_callers(a: &[Caller], b: &[Caller]) -> bool
-    ensures { Decides result (a.now ≡ b.now) }
-{
-    if a.len() != b.len() {
-        return false;
-    }
-    for i in 0..a.len() {
-        if !is_same_caller(a[i], b[i]) {
-            return false;
-        }
-    }
-    true
 }

@@ -1,9 +1,12 @@
 //! A frame that waits at a `call`.
 
-/// Its unit and place, and where its slots begin in the stack.
+use crate::marks::Marks;
+
+/// Its unit and place, which of its slots hold numbers, and where they begin in the stack.
 #[derive(Clone, Copy)]
 pub(crate) struct Caller {
     pub(crate) unit: u16,
     pub(crate) place: u16,
+    pub(crate) marks: Marks,
     pub(crate) base: usize,
 }

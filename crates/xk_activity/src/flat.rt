@@ -1,59 +1,46 @@
 //! Instructions that concern one frame alone.
 
-ghost use Rattle.std.specs.Prelude.{◌≡◌, ◌⊎◌, ℤ, ◌+◌, ◌<◌, ◌≤◌, ◌^◌, length, not, Some, slice_get, slice_set};
+ghost use Rattle.std.specs.Prelude.{◌≡◌, ◌⊎◌, ◌+◌, ◌<◌, ◌≤◌, ◌^◌, length, not, Some, slice_set};
 ghost use Rattle.xk_types.specs.declared.names.Value.TheVariants as value;
 ghost use Rattle.xk_activity.specs.Local.{Beyond, Stepped, carried, turn, turning, ran, spot_at, IsSafe, IsRight};
 ghost use Rattle.xk_activity.specs.Arm.{Answers, is_beyond};
+ghost use Rattle.xk_activity.specs.Slots.{values_of};
 
-use crate::cell::Cell;
+use crate::marks::Marks;
+use crate::slots::{change, number, set_number};
 use xk_types::Instr;
-
-/// The number in a slot that holds one.
-#[inline(always)]
-fn number(slots: &[Cell], s: u16) -> i64
-    requires { (n : ℤ) × (slice_get slots.now s ≡ Some (value.Number n)) }
-    ensures { slice_get slots.now s ≡ Some (value.Number result) }
-{
-    slots[s as usize].number()
-}
 
 /// Writes a number to a slot, and gives the next place.
 #[inline(always)]
-fn write(slots: &mut [Cell], d: u16, n: i64, place: u32) -> u32
-    requires slot { d < length slots.old }
+fn write(words: &mut [i64], marks: &mut Marks, d: u16, n: i64, place: u32) -> u32
+    requires slot { d < length (values_of marks.old words.old) }
+    requires few { length words.old ≤ 64 }
     requires place { place + 1 < 2 ^ 16 }
-    ensures written { slots.new ≡ slice_set slots.old d (value.Number n) }
+    ensures written { values_of marks.new words.new
+        ≡ slice_set (values_of marks.old words.old) d (value.Number n) }
+    ensures length { length words.new ≡ length words.old }
     ensures next { result ≡ place + 1 }
 {
-    let slot = &mut slots[d as usize];
-    slot.set_number(n);
+    set_number(words, marks, d, n);
     place + 1
-}
-
-/// Writes another number to a slot that holds one.
-#[inline(always)]
-fn change(slots: &mut [Cell], k: u16, n: i64)
-    requires { (m : ℤ) × (slice_get slots.old k ≡ Some (value.Number m)) }
-    ensures { slots.new ≡ slice_set slots.old k (value.Number n) }
-{
-    let slot = &mut slots[k as usize];
-    slot.change(n);
 }
 
 /// Ends a turn of the loop that begins at place b with this instruction, and gives the next place.
 #[inline(always)]
 #[tactic(auto, using(crate::proofs::Operands::number_there))]
-fn end_turn(head: &Instr, place: u32, slots: &mut [Cell], b: u16) -> u32
+fn end_turn(head: &Instr, place: u32, words: &mut [i64], marks: Marks, b: u16) -> u32
     requires place { place + 1 < 2 ^ 16 }
-    requires right { IsRight (turning (spot_at place slots.old) b (Some head.now)) }
-    ensures { turning (spot_at place slots.old) b (Some head.now)
-        ≡ Stepped (spot_at result slots.new) }
+    requires right { IsRight (turning (spot_at place (values_of marks words.old)) b
+        (Some head.now)) }
+    ensures turned { turning (spot_at place (values_of marks words.old)) b (Some head.now)
+        ≡ Stepped (spot_at result (values_of marks words.new)) }
+    ensures length { length words.new ≡ length words.old }
 {
     match head {
         Instr::For { k, hi, .. } => {
-            let n = number(slots, *k);
+            let n = number(words, marks, *k);
             if n < *hi {
-                change(slots, *k, n + 1);
+                change(words, marks, *k, n + 1);
                 b as u32 + 1
             } else {
                 place + 1
@@ -66,37 +53,46 @@ fn end_turn(head: &Instr, place: u32, slots: &mut [Cell], b: u16) -> u32
 /// Carries out an instruction, and gives the next place; nothing where it concerns more than the frame.
 #[inline(always)]
 #[tactic(auto, using(crate::proofs::Operands::number_there, crate::proofs::Operands::number_goes, crate::proofs::Operands::slot_there, crate::proofs::Operands::begin_there))]
-fn carry(code: &[Instr], place: u32, slots: &mut [Cell], instr: &Instr) -> Option<u32>
+fn carry(
+    code: &[Instr],
+    place: u32,
+    words: &mut [i64],
+    marks: &mut Marks,
+    instr: &Instr,
+) -> Option<u32>
     requires short { length code.now < 2 ^ 16 }
     requires place { place + 1 < 2 ^ 16 }
-    requires right { IsRight (carried code.now (spot_at place slots.old) instr.now) }
-    ensures { Answers (carried code.now (spot_at place slots.old) instr.now) slots.old result
-        slots.new }
+    requires few { length words.old ≤ 64 }
+    requires right { IsRight (carried code.now (spot_at place (values_of marks.old words.old))
+        instr.now) }
+    ensures answers { Answers (carried code.now (spot_at place (values_of marks.old words.old))
+        instr.now) (values_of marks.old words.old) result (values_of marks.new words.new) }
+    ensures length { length words.new ≡ length words.old }
 {
     let next = match instr {
-        Instr::Lit { d, n } => write(slots, *d, *n, place),
+        Instr::Lit { d, n } => write(words, marks, *d, *n, place),
         Instr::Copy { d, a } => {
-            let n = number(slots, *a);
-            write(slots, *d, n, place)
+            let n = number(words, *marks, *a);
+            write(words, marks, *d, n, place)
         }
         Instr::Add { d, a, b } => {
-            let n = number(slots, *a).wrapping_add(number(slots, *b));
-            write(slots, *d, n, place)
+            let n = number(words, *marks, *a).wrapping_add(number(words, *marks, *b));
+            write(words, marks, *d, n, place)
         }
         Instr::Sub { d, a, b } => {
-            let n = number(slots, *a).wrapping_sub(number(slots, *b));
-            write(slots, *d, n, place)
+            let n = number(words, *marks, *a).wrapping_sub(number(words, *marks, *b));
+            write(words, marks, *d, n, place)
         }
         Instr::Mul { d, a, b } => {
-            let n = number(slots, *a).wrapping_mul(number(slots, *b));
-            write(slots, *d, n, place)
+            let n = number(words, *marks, *a).wrapping_mul(number(words, *marks, *b));
+            write(words, marks, *d, n, place)
         }
-        Instr::Unless { op, a, b, .. } if op.holds(number(slots, *a), number(slots, *b)) => {
+        Instr::Unless { op, a, b, .. } if op.holds(number(words, *marks, *a), number(words, *marks, *b)) => {
             place + 1
         }
         Instr::Unless { t, .. } | Instr::Jump(t) => *t as u32,
-        Instr::For { k, lo, .. } => write(slots, *k, *lo, place),
-        Instr::Next(b) => end_turn(&code[*b as usize], place, slots, *b),
+        Instr::For { k, lo, .. } => write(words, marks, *k, *lo, place),
+        Instr::Next(b) => end_turn(&code[*b as usize], place, words, *marks, *b),
         _ => return None,
     };
     Some(next)
@@ -122,30 +118,53 @@ pub(crate) fn is_flat(instr: &Instr) -> bool
 
 /// The next instruction, if it concerns the frame alone, and the next place.
 #[inline(always)]
-pub(crate) fn one(code: &[Instr], place: u32, slots: &mut [Cell]) -> Option<u32>
+pub(crate) fn one(
+    code: &[Instr],
+    place: u32,
+    words: &mut [i64],
+    marks: &mut Marks,
+) -> Option<u32>
     requires short { length code.now < 2 ^ 16 }
-    requires right { IsRight (turn code.now (spot_at place slots.old)) }
-    ensures { Answers (turn code.now (spot_at place slots.old)) slots.old result slots.new }
+    requires few { length words.old ≤ 64 }
+    requires right { IsRight (turn code.now (spot_at place (values_of marks.old words.old))) }
+    ensures answers { Answers (turn code.now (spot_at place (values_of marks.old words.old)))
+        (values_of marks.old words.old) result (values_of marks.new words.new) }
+    ensures length { length words.new ≡ length words.old }
 {
-    carry(code, place, slots, &code[place as usize])
+    carry(code, place, words, marks, &code[place as usize])
 }
 
 /// Up to max instructions that concern the frame alone: the place then, and how many they were.
 #[inline(never)]
-pub(crate) fn run_flat(code: &[Instr], start: u32, slots: &mut [Cell], max: u32) -> (u32, u32)
+pub(crate) fn run_flat(
+    code: &[Instr],
+    start: u32,
+    words: &mut [i64],
+    marks: &mut Marks,
+    max: u32,
+) -> (u32, u32)
     requires short { length code.now < 2 ^ 16 }
-    requires safe { IsSafe (turn code.now) (spot_at start slots.old) }
-    ensures ran { ran (turn code.now) (spot_at start slots.old) result.1
-        ≡ Stepped (spot_at result.0 slots.new) }
+    requires few { length words.old ≤ 64 }
+    requires safe { IsSafe (turn code.now) (spot_at start (values_of marks.old words.old)) }
+    ensures ran { ran (turn code.now) (spot_at start (values_of marks.old words.old)) result.1
+        ≡ Stepped (spot_at result.0 (values_of marks.new words.new)) }
     ensures most { result.1 ≤ max }
-    ensures stops { (result.1 ≡ max) ⊎ (turn code.now (spot_at result.0 slots.new) ≡ Beyond) }
+    ensures stops { (result.1 ≡ max)
+        ⊎ (turn code.now (spot_at result.0 (values_of marks.new words.new)) ≡ Beyond) }
+    ensures length { length words.new ≡ length words.old }
 {
     let mut place = start;
+    // A copy, which can lie in a register while the loop runs.
+    let mut now = *marks;
     for n in 0..max {
-        match one(code, place, slots) {
+        match one(code, place, words, &mut now) {
             Some(next) => place = next,
-            None => return (place, n),
+            None => {
+                *marks = now;
+                return (place, n);
+            }
         }
     }
+    *marks = now;
     (place, max)
 }

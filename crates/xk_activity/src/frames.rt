@@ -1,6 +1,6 @@
 //! The frames of one activity.
 
-ghost use Rattle.std.specs.Prelude.{◌≡◌, ◌⊎◌, ℕ, ◌+◌, ◌<◌, ◌≤◌, ◌^◌, length, take, drop, Some, IfOk, MatchResult, slice_get, All};
+ghost use Rattle.std.specs.Prelude.{◌≡◌, ◌⊎◌, ℕ, ◌+◌, ◌<◌, ◌≤◌, ◌^◌, length, take, drop, Some, IfOk, MatchResult, slice_get, slice_set, All};
 ghost use Rattle.std.specs.Bool.{Decides};
 ghost use Rattle.std.specs.Vec.{vec_capacity};
 ghost use Rattle.xk_types.specs.declared.instr.Instr.{Instr};
@@ -10,11 +10,14 @@ ghost use Rattle.xk_types.specs.World.{instruction_at, slots_of};
 ghost use Rattle.xk_activity.specs.Local.{Beyond, Stepped, IsRight, IsSafe, local, ran, turn, code_of, spot_of, spot_at, started, begun, called, returning, is_stepped};
 ghost use Rattle.xk_activity.specs.Arm.{Answers};
 ghost use Rattle.xk_activity.specs.Stacked.{CanCall, Does, values_at, placed, with_slot};
+ghost use Rattle.xk_activity.specs.Slots.{values_of};
 
-use crate::alike::{are_same_callers, are_same_cells};
+use crate::alike::are_same_waiting;
 use crate::caller::Caller;
-use crate::fill::{Stack, copy_callers, copy_cells, empty, fill, hand, put, write};
+use crate::fill::{Stack, copy_callers, copy_words, empty, fill, hand, put};
 use crate::flat::{is_flat, one, run_flat};
+use crate::marks::Marks;
+use crate::slots::{are_same_slots, part, set, value};
 use std::alloc::{AllocError, Global};
 use std::marker::Model;
 use xk_bounds::Verified;
@@ -37,6 +40,8 @@ pub struct Frames<'m> {
     verified: &'m Verified,
     unit: u16,
     place: u32,
+    /// Which slots of the present frame hold numbers.
+    marks: Marks,
     /// Where the slots of the present frame begin.
     base: usize,
     /// The slots of all frames, those of the present one last.
@@ -53,8 +58,8 @@ impl<'m> Model for Frames<'m> {
 
     ghost Value = { FramesValue };
 
-    ghost view = { λ f. frames_on f.verified.now f.unit f.place f.base f.stack.items
-        (reverse f.callers.items) };
+    ghost view = { λ f. frames_on f.verified.now f.unit f.place f.marks f.base
+        f.stack.items (reverse f.callers.items) };
 
     ghost invariant = { λ f. IsStacked f.verified.now f.unit f.base (reverse f.callers.items)
         (length f.stack.items) f.stack.capacity (vec_capacity f.callers) };
@@ -62,40 +67,76 @@ impl<'m> Model for Frames<'m> {
 
 /// The next instruction of the frame that lies on a stack from base on, if it concerns that frame alone, and the next place.
 #[inline(always)]
-fn step_top(code: &[Instr], place: u32, stack: &mut Stack, base: usize) -> Option<u32>
+fn step_top(
+    code: &[Instr],
+    place: u32,
+    marks: &mut Marks,
+    stack: &mut Stack,
+    base: usize,
+) -> Option<u32>
     requires short { length code.now < 2 ^ 16 }
     requires base { base ≤ length stack.old.items }
-    requires right { IsRight (turn code.now (spot_at place (drop base stack.old.items))) }
-    ensures stepped { Answers (turn code.now (spot_at place (drop base stack.old.items)))
-        (drop base stack.old.items) result (drop base stack.new.items) }
+    requires few { length (drop base stack.old.items) ≤ 64 }
+    requires right { IsRight (turn code.now
+        (spot_at place (values_of marks.old (drop base stack.old.items)))) }
+    ensures stepped { Answers (turn code.now
+        (spot_at place (values_of marks.old (drop base stack.old.items))))
+        (values_of marks.old (drop base stack.old.items)) result
+        (values_of marks.new (drop base stack.new.items)) }
     ensures below { take base stack.new.items ≡ take base stack.old.items }
     ensures length { length stack.new.items ≡ length stack.old.items }
     ensures capacity { stack.new.capacity ≡ stack.old.capacity }
 {
-    let cells = stack.as_mut_slice();
-    let slots = &mut cells[base..];
-    one(code, place, slots)
+    let words = stack.as_mut_slice();
+    let slots = &mut words[base..];
+    one(code, place, slots, marks)
 }
 
 /// Up to max next instructions of the frame that lies on a stack from base on, while they concern that frame alone: the place then,
 /// and how many they were.
 #[inline(always)]
-fn run_on_top(code: &[Instr], start: u32, stack: &mut Stack, base: usize, max: u32) -> (u32, u32)
+fn run_on_top(
+    code: &[Instr],
+    start: u32,
+    marks: &mut Marks,
+    stack: &mut Stack,
+    base: usize,
+    max: u32,
+) -> (u32, u32)
     requires short { length code.now < 2 ^ 16 }
     requires base { base ≤ length stack.old.items }
-    requires safe { IsSafe (turn code.now) (spot_at start (drop base stack.old.items)) }
-    ensures ran { ran (turn code.now) (spot_at start (drop base stack.old.items)) result.1
-        ≡ Stepped (spot_at result.0 (drop base stack.new.items)) }
+    requires few { length (drop base stack.old.items) ≤ 64 }
+    requires safe { IsSafe (turn code.now)
+        (spot_at start (values_of marks.old (drop base stack.old.items))) }
+    ensures ran { ran (turn code.now)
+        (spot_at start (values_of marks.old (drop base stack.old.items))) result.1
+        ≡ Stepped (spot_at result.0 (values_of marks.new (drop base stack.new.items))) }
     ensures most { result.1 ≤ max }
-    ensures stops { (result.1 ≡ max)
-        ⊎ (turn code.now (spot_at result.0 (drop base stack.new.items)) ≡ Beyond) }
+    ensures stops { (result.1 ≡ max) ⊎ (turn code.now
+        (spot_at result.0 (values_of marks.new (drop base stack.new.items))) ≡ Beyond) }
     ensures below { take base stack.new.items ≡ take base stack.old.items }
     ensures length { length stack.new.items ≡ length stack.old.items }
     ensures capacity { stack.new.capacity ≡ stack.old.capacity }
 {
-    let cells = stack.as_mut_slice();
-    let slots = &mut cells[base..];
-    run_flat(code, start, slots, max)
+    let words = stack.as_mut_slice();
+    let slots = &mut words[base..];
+    run_flat(code, start, slots, marks, max)
+}
+
+/// Another value in a slot of the frame that lies on a stack from base on.
+fn set_on_top(marks: &mut Marks, stack: &mut Stack, base: usize, s: u16, v: Value)
+    requires base { base ≤ length stack.old.items }
+    requires slot { s < length (values_of marks.old (drop base stack.old.items)) }
+    requires few { length (drop base stack.old.items) ≤ 64 }
+    ensures written { values_of marks.new (drop base stack.new.items)
+        ≡ slice_set (values_of marks.old (drop base stack.old.items)) s v }
+    ensures below { take base stack.new.items ≡ take base stack.old.items }
+    ensures length { length stack.new.items ≡ length stack.old.items }
+    ensures capacity { stack.new.capacity ≡ stack.old.capacity }
+{
+    let words = stack.as_mut_slice();
+    let slots = &mut words[base..];
+    set(slots, marks, s, v);
 }
 
 /// How many slots the unit has.
@@ -124,6 +165,7 @@ impl<'m> Frames<'m> {
             verified,
             unit,
             place: 0,
+            marks: Marks::none(),
             base: 0,
             stack,
             callers,
@@ -144,13 +186,14 @@ impl<'m> Frames<'m> {
         let size = size_of(verified, unit);
         let room = verified.room(unit);
         let mut stack = empty(alloc, room.slots)?;
-        put(&mut stack, values);
+        let marks = put(&mut stack, values);
         fill(&mut stack, size as usize - values.len());
         let callers = Vec::with_capacity(alloc, room.frames as usize - 1)?;
         Ok(Frames {
             verified,
             unit,
             place: 0,
+            marks,
             base: 0,
             stack,
             callers,
@@ -161,12 +204,13 @@ impl<'m> Frames<'m> {
     pub fn copy(&self, alloc: Global) -> Result<Frames<'m>, AllocError>
         ensures { IfOk result (λ f. f ≡ self.now) }
     {
-        let stack = copy_cells(alloc, &self.stack)?;
+        let stack = copy_words(alloc, &self.stack)?;
         let callers = copy_callers(alloc, &self.callers)?;
         Ok(Frames {
             verified: self.verified,
             unit: self.unit,
             place: self.place,
+            marks: self.marks,
             base: self.base,
             stack,
             callers,
@@ -177,11 +221,15 @@ impl<'m> Frames<'m> {
     pub fn same(&self, other: &Frames<'m>) -> bool
         ensures { Decides result (self.now ≡ other.now) }
     {
-        if self.unit != other.unit || self.place != other.place || self.base != other.base {
+        if self.unit != other.unit || self.place != other.place {
             return false;
         }
-        if !are_same_cells(self.stack.as_slice(), other.stack.as_slice())
-            || !are_same_callers(&self.callers, &other.callers)
+        let words = self.stack.as_slice();
+        let others = other.stack.as_slice();
+        let slots = part(words, self.base, words.len());
+        let other_slots = part(others, other.base, others.len());
+        if !are_same_slots(slots, self.marks, other_slots, other.marks)
+            || !are_same_waiting(words, &self.callers, self.base, others, &other.callers, other.base)
         {
             return false;
         }
@@ -214,7 +262,8 @@ impl<'m> Frames<'m> {
         requires { s < length self.now.frame.slots }
         ensures { slice_get self.now.frame.slots s ≡ Some result }
     {
-        self.stack.as_slice()[self.base + s as usize].value()
+        let words = self.stack.as_slice();
+        value(part(words, self.base, words.len()), self.marks, s)
     }
 
     /// Lists what these slots of the present frame hold, in place of what the list held. Where memory is refused, it has what the first of
@@ -239,7 +288,7 @@ impl<'m> Frames<'m> {
         requires { s < length self.old.frame.slots }
         ensures { self.new ≡ with_slot self.old s v }
     {
-        write(&mut self.stack, self.base, s, v);
+        set_on_top(&mut self.marks, &mut self.stack, self.base, s, v);
     }
 
     /// The present frame goes on to the next instruction.
@@ -258,15 +307,17 @@ impl<'m> Frames<'m> {
     {
         let size = size_of(self.verified, unit);
         let top = self.stack.len();
-        hand(&mut self.stack, self.base, args);
+        let marks = hand(&mut self.stack, self.base, self.marks, args);
         fill(&mut self.stack, size as usize - args.len());
         self.callers.push_reserved(Caller {
             unit: self.unit,
             place: self.place as u16,
+            marks: self.marks,
             base: self.base,
         });
         self.unit = unit;
         self.place = 0;
+        self.marks = marks;
         self.base = top;
     }
 
@@ -280,6 +331,7 @@ impl<'m> Frames<'m> {
                 self.stack.truncate(self.base);
                 self.unit = c.unit;
                 self.place = c.place as u32 + 1;
+                self.marks = c.marks;
                 self.base = c.base;
                 Next::Stepped
             }
@@ -314,7 +366,7 @@ impl<'m> Frames<'m> {
         ensures same { self.new.module_run ≡ self.old.module_run }
     {
         let code = self.code();
-        match step_top(code, self.place, &mut self.stack, self.base) {
+        match step_top(code, self.place, &mut self.marks, &mut self.stack, self.base) {
             Some(place) => {
                 self.place = place;
                 Next::Stepped
@@ -334,7 +386,14 @@ impl<'m> Frames<'m> {
         ensures same { self.new.module_run ≡ self.old.module_run }
     {
         let code = self.code();
-        let (place, steps) = run_on_top(code, self.place, &mut self.stack, self.base, max);
+        let (place, steps) = run_on_top(
+            code,
+            self.place,
+            &mut self.marks,
+            &mut self.stack,
+            self.base,
+            max,
+        );
         self.place = place;
         steps
     }

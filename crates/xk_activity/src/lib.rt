@@ -5,11 +5,12 @@ mod activities;
 mod activity;
 mod alike;
 mod caller;
-mod cell;
 mod fill;
 mod flat;
 mod frames;
 pub mod laws;
+mod marks;
+mod slots;
 mod ticket;
 
 pub use activities::Activities;

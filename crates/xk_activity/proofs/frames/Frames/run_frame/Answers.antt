@@ -1,6 +1,7 @@
 use Rattle.std.proofs.Common.{List, drop, subst, sym, ap, ◌∙◌}
 use Rattle.xk_types.specs.declared.instr.Instr.{Instr}
 use Rattle.xk_activity.specs.Local.{FramesValue, Stepped, IsSafe, ran, turn, spot_of, spot_at, code_of}
+use Rattle.xk_activity.specs.Slots.{values_of}
 use Rattle.xk_activity.proofs.Stacking.{unit_within, top_ok}
 use Rattle.xk_activity.proofs.Locals.{next_there}
 use Rattle.xk_activity.proofs.Turns.{turns_safe, turns_ran}
@@ -13,7 +14,7 @@ code-code-requires c =
 
 pub run_on_top-place-requires-clause-safe : goal.run_on_top-place-requires-clause-safe
 run_on_top-place-requires-clause-safe c =
-    subst (λ (is : List Instr). IsSafe (turn is) (spot_at c.self.inside.place (drop c.self.inside.base c.self.inside.stack.items))) (sym c.code-code.ensures.code)
+    subst (λ (is : List Instr). IsSafe (turn is) (spot_at c.self.inside.place (values_of c.self.inside.marks (drop c.self.inside.base c.self.inside.stack.items)))) (sym c.code-code.ensures.code)
     (subst (λ (f : FramesValue). IsSafe (turn (code_of c.args.self.now.module_run c.args.self.now.frame.unit)) (spot_of f.frame)) (sym c.self.view_is)
     (turns_safe c.args.self.now c.requires))
 
@@ -22,5 +23,5 @@ returns-clause-ran c =
     turns_ran c.args.self.now c.requires c.run_on_top-place.result.1 (spot_at c.run_on_top-place.result.0 _)
     (ap (λ (is : List Instr). ran (turn is) (spot_of c.args.self.now.frame) c.run_on_top-place.result.1) (sym c.code-code.ensures.code)
     ∙ ap (λ (f : FramesValue). ran (turn c.code-code.result.now) (spot_of f.frame) c.run_on_top-place.result.1) (sym c.self.view_is) ∙ c.run_on_top-place.ensures.ran)
-    ∙ ap Stepped (sym (top_ok _ _ _ c.self.inside.unit c.self.inside.place c.self.inside.base c.run_on_top-place.result.0 c.self.inside.stack.items c.run_on_top-place.new.stack.items _ c.args.self.now
+    ∙ ap Stepped (sym (top_ok _ _ _ c.self.inside.unit c.self.inside.place c.self.inside.marks c.self.inside.base c.run_on_top-place.result.0 c.run_on_top-place.new.marks c.self.inside.stack.items c.run_on_top-place.new.stack.items _ c.args.self.now
     c.self.view_is c.self.invariant.stacked c.run_on_top-place.ensures.below))

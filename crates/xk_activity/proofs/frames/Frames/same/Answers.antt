@@ -1,19 +1,20 @@
-use Rattle.std.proofs.Common.{◌∙◌, sym, rules}
-use Rattle.xk_activity.proofs.Lying.{same_parts}
+use Rattle.std.proofs.Common.{◌≡◌, ℤ, List, ◌∙◌, sym, ap, arith, subst, length}
+use Rattle.std.specs.Prelude.{reverse}
+use Rattle.xk_activity.specs.declared.caller.Caller.{Caller}
+use Rattle.xk_activity.specs.Stacked.{AreBelow}
+use Rattle.xk_activity.proofs.Stacking.{are_below}
 use Rattle.xk_activity.proofs.frames.Frames.same.Goals as goal
 
-pub returns-then-self-other : goal.returns-then-self-other
-returns-then-self-other c = (
-  λ h. cc,
-  λ q. let p = same_parts _ _ c.self.inside.unit c.other.inside.unit c.self.inside.place c.other.inside.place c.self.inside.base c.other.inside.base
-      c.self.inside.stack.items c.other.inside.stack.items c.self.inside.callers.items c.other.inside.callers.items _ _ _ _ _ _ c.self.invariant c.other.invariant
-      (c.self.view_is ∙ (q ∙ sym c.other.view_is)) in search (rules, p.unit, p.place, p.base),
-)
+pub are_same_waiting-requires-clause-stacked : goal.are_same_waiting-requires-clause-stacked
+are_same_waiting-requires-clause-stacked c =
+    subst (λ (xs : List ℤ). AreBelow (length xs) c.self.inside.base (reverse c.deref.result.now)) (sym c.as_slice-words.ensures)
+    (subst (λ (cs : List Caller). AreBelow (length c.self.inside.stack.items) c.self.inside.base (reverse cs)) (sym c.deref.ensures.value)
+    (are_below _ _ _ c.self.inside.base (length c.self.inside.stack.items) (reverse c.self.inside.callers.items) c.self.invariant.limits c.self.invariant.stacked
+    (let t = c.self.invariant.top in omega arith)))
 
-pub returns-then-not-are_same_cells : goal.returns-then-not-are_same_cells
-returns-then-not-are_same_cells c = (
-  λ h. cc,
-  λ q. let p = same_parts _ _ c.self.inside.unit c.other.inside.unit c.self.inside.place c.other.inside.place c.self.inside.base c.other.inside.base
-      c.self.inside.stack.items c.other.inside.stack.items c.self.inside.callers.items c.other.inside.callers.items _ _ _ _ _ _ c.self.invariant c.other.invariant
-      (c.self.view_is ∙ (q ∙ sym c.other.view_is)) in search (rules, p.stack, p.callers),
-)
+pub are_same_waiting-requires-clause-other_stacked : goal.are_same_waiting-requires-clause-other_stacked
+are_same_waiting-requires-clause-other_stacked c =
+    subst (λ (xs : List ℤ). AreBelow (length xs) c.other.inside.base (reverse c.deref-else-not-are_same_slots.result.now)) (sym c.as_slice-others.ensures)
+    (subst (λ (cs : List Caller). AreBelow (length c.other.inside.stack.items) c.other.inside.base (reverse cs)) (sym c.deref-else-not-are_same_slots.ensures.value)
+    (are_below _ _ _ c.other.inside.base (length c.other.inside.stack.items) (reverse c.other.inside.callers.items) c.other.invariant.limits c.other.invariant.stacked
+    (let t = c.other.invariant.top in omega arith)))
