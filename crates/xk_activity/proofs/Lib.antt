@@ -8,5 +8,4 @@ pub mod Turns
 pub mod Joined
 pub mod Reached
 pub mod Acts
-pub mod Lying
 pub mod Rows

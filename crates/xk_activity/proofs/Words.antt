@@ -147,12 +147,6 @@ laid_length old new marks values l =
     let all = ap length l.items ∙ length-append old l.fresh in
     omega arith
 
--- no mark beyond them
-pub laid_free : (old new : List ℤ) (marks : Marks) (values : List Value) (i : ℕ) → AreLaid old new marks values → i ≡ length values → i < 64 → is_marked marks i ≡ false
-laid_free old new marks values i l at few =
-    let many = sym (length_by (is_marked marks) l.fresh) ∙ ap length l.hold in
-    l.above i (omega arith) few
-
 -- a word of the stack as it was, read when others were put behind
 pub word_kept : (old new : List ℤ) (marks : Marks) (values : List Value) (base s : ℕ) → AreLaid old new marks values → base + s < length old
     → slice_index_or new (base + s) (pos 0) ≡ slice_index_or (drop base old) s (pos 0)

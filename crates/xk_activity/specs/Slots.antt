@@ -18,12 +18,6 @@ abbrev pub value_of : Bool → ℤ → Value
 value_of true n = value.Number n
 value_of false n = unmarked n
 
--- a value is a number
-abbrev pub is_number : Value → Bool
-is_number value.Unset = false
-is_number (value.Number n) = true
-is_number (value.Clock c) = false
-
 -- what words stand for, where the test says which of them have a mark
 abbrev pub values_by : (ℕ → Bool) → List ℤ → List Value
 values_by marked [] = []

@@ -8,7 +8,7 @@ ghost use Rattle.xk_activity.specs.Slots.{values_of, AreLaid};
 
 use crate::caller::Caller;
 use crate::marks::Marks;
-use crate::slots::{is_number, word_of};
+use crate::slots::word_of;
 use smallvec::SmallVec;
 use std::alloc::{AllocError, Global};
 use xk_types::Value;
@@ -60,7 +60,7 @@ pub(crate) fn hand(stack: &mut Stack, base: usize, marks: Marks, args: &[u16]) -
     for i in 0..args.len() {
         let s = args[i];
         let word = word_at(stack, base, s);
-        handed.put_if(i as u16, marks.has(s));
+        handed.set(i as u16, marks.has(s));
         stack.push_reserved(word);
     }
     handed
@@ -75,9 +75,9 @@ pub(crate) fn put(stack: &mut Stack, values: &[Value]) -> Marks
 {
     let mut marks = Marks::none();
     for i in 0..values.len() {
-        let v = values[i];
-        marks.put_if(i as u16, is_number(&v));
-        stack.push_reserved(word_of(v));
+        let (word, is_number) = word_of(values[i]);
+        marks.set(i as u16, is_number);
+        stack.push_reserved(word);
     }
     marks
 }

@@ -87,9 +87,8 @@ fn carry(
             let n = number(words, *marks, *a).wrapping_mul(number(words, *marks, *b));
             write(words, marks, *d, n, place)
         }
-        Instr::Unless { op, a, b, .. } if op.holds(number(words, *marks, *a), number(words, *marks, *b)) => {
-            place + 1
-        }
+        Instr::Unless { op, a, b, .. }
+            if op.holds(number(words, *marks, *a), number(words, *marks, *b)) => { place + 1 }
         Instr::Unless { t, .. } | Instr::Jump(t) => *t as u32,
         Instr::For { k, lo, .. } => write(words, marks, *k, *lo, place),
         Instr::Next(b) => end_turn(&code[*b as usize], place, words, *marks, *b),
@@ -118,12 +117,7 @@ pub(crate) fn is_flat(instr: &Instr) -> bool
 
 /// The next instruction, if it concerns the frame alone, and the next place.
 #[inline(always)]
-pub(crate) fn one(
-    code: &[Instr],
-    place: u32,
-    words: &mut [i64],
-    marks: &mut Marks,
-) -> Option<u32>
+pub(crate) fn one(code: &[Instr], place: u32, words: &mut [i64], marks: &mut Marks) -> Option<u32>
     requires short { length code.now < 2 ^ 16 }
     requires few { length words.old ≤ 64 }
     requires right { IsRight (turn code.now (spot_at place (values_of marks.old words.old))) }

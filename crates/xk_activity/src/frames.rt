@@ -229,7 +229,14 @@ impl<'m> Frames<'m> {
         let slots = part(words, self.base, words.len());
         let other_slots = part(others, other.base, others.len());
         if !are_same_slots(slots, self.marks, other_slots, other.marks)
-            || !are_same_waiting(words, &self.callers, self.base, others, &other.callers, other.base)
+            || !are_same_waiting(
+                words,
+                &self.callers,
+                self.base,
+                others,
+                &other.callers,
+                other.base,
+            )
         {
             return false;
         }
@@ -366,7 +373,13 @@ impl<'m> Frames<'m> {
         ensures same { self.new.module_run ≡ self.old.module_run }
     {
         let code = self.code();
-        match step_top(code, self.place, &mut self.marks, &mut self.stack, self.base) {
+        match step_top(
+            code,
+            self.place,
+            &mut self.marks,
+            &mut self.stack,
+            self.base,
+        ) {
             Some(place) => {
                 self.place = place;
                 Next::Stepped

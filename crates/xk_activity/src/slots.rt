@@ -4,27 +4,20 @@
 ghost use Rattle.std.specs.Prelude.{◌≡◌, ℤ, ◌<◌, ◌≤◌, drop, length, take, Some, slice_get, slice_set};
 ghost use Rattle.std.specs.Bool.{Decides};
 ghost use Rattle.xk_types.specs.declared.names.Value.TheVariants as value;
-ghost use Rattle.xk_activity.specs.Slots.{is_number, unmarked, value_of, values_of};
+ghost use Rattle.xk_activity.specs.Slots.{unmarked, value_of, values_of};
 
 use crate::marks::Marks;
 use xk_types::{ClockId, Value};
 
-/// The word that stands for a value; a number is marked as such, too.
-pub(crate) fn word_of(v: Value) -> i64
-    ensures { value_of (is_number v) result ≡ v }
+/// The word that stands for a value, and whether it has a mark.
+pub(crate) fn word_of(v: Value) -> (i64, bool)
+    ensures { value_of result.1 result.0 ≡ v }
 {
     match v {
-        Value::Unset => 0,
-        Value::Number(n) => n,
-        Value::Clock(c) => c.0 as i64 + 1,
+        Value::Unset => (0, false),
+        Value::Number(n) => (n, true),
+        Value::Clock(c) => (c.0 as i64 + 1, false),
     }
-}
-
-/// Whether a value is a number.
-pub(crate) fn is_number(v: &Value) -> bool
-    ensures { result ≡ is_number v.now }
-{
-    matches!(v, Value::Number(_))
 }
 
 /// What a word without a mark stands for.
@@ -70,7 +63,7 @@ pub(crate) fn set_number(words: &mut [i64], marks: &mut Marks, d: u16, n: i64)
     ensures length { length words.new ≡ length words.old }
 {
     words[d as usize] = n;
-    marks.put(d);
+    marks.set(d, true);
 }
 
 /// Writes another number to a slot that holds one.
@@ -92,11 +85,9 @@ pub(crate) fn set(words: &mut [i64], marks: &mut Marks, s: u16, v: Value)
         ≡ slice_set (values_of marks.old words.old) s v }
     ensures length { length words.new ≡ length words.old }
 {
-    words[s as usize] = word_of(v);
-    match is_number(&v) {
-        true => marks.put(s),
-        false => marks.take(s),
-    }
+    let (word, is_number) = word_of(v);
+    words[s as usize] = word;
+    marks.set(s, is_number);
 }
 
 /// The words from base on, up to top.
