@@ -1,5 +1,5 @@
 -- What holds of a core by its parts: a world without finishes, and the tree that tells of them.
-use Rattle.std.proofs.Common.{◌≡◌, ℕ, zero, suc, ◌+◌, ◌-◌, ◌<◌, ◌≤◌, Bool, true, false, not, ◌&&◌, cond, List, [], ◌∷◌, ◌++◌, length, map, Option, Some, None, Result, Ok, Err, IfOk, OnOk, OnErr, inl, inr, ◌⊎◌, refl, sym, ap, ◌∙◌, subst, arith, slice_get, slice_set, option_map, length-set}
+use Rattle.std.proofs.Common.{◌≡◌, ℕ, zero, suc, ◌+◌, ◌-◌, ◌<◌, ◌≤◌, Bool, true, false, not, ◌&&◌, cond, List, [], ◌∷◌, ◌++◌, length, map, Option, Some, None, Result, Ok, Err, IfOk, OnOk, inl, inr, ◌⊎◌, refl, sym, ap, ◌∙◌, subst, arith, slice_get, slice_set, option_map, length-set}
 use Rattle.std.specs.List.{list_all}
 use Rattle.std.proofs.lemmas.Bool.{false≢true, cases_eq}
 use Rattle.std.proofs.lemmas.Option.{none-some, same_Some, slice_get_within, get_or_from_slice_get}
@@ -536,19 +536,19 @@ module _ (m : ModuleValue) (ns : List NodeValue) (w : World) (a : ℕ) (h : IsHe
           go false q = subst (λ (z : World). AreTold m ns z.activities) (same_world _ v event.Passed e q)
               (told_stays m ns w.activities a n x (past x (w.steps + 1)) h.are k p (sym (runs_on x.status refl)) (based x.frame (past x (w.steps + 1)).frame x.callers refl))
 
--- ---- whether memory was there or not
+-- ---- a start
 
--- where it was, the new activity is told of; else nothing changed
-pub started_held : {E : Type 0} (m : ModuleValue) (ns ks : List NodeValue) (w v : World) (a t : ℕ) (args : List ℕ) (room : ℕ) (r : Result Event E) → IsHeld m ns w
+-- the new activity is told of
+pub started_held : (m : ModuleValue) (ns ks : List NodeValue) (w v : World) (a t : ℕ) (args : List ℕ) (room : ℕ) (e : Event) → IsHeld m ns w
     → next_instruction m (with_finishes ns w) a ≡ Some (instr.Spawn t args) → is_enabled m (with_finishes ns w) a ≡ true → room ≡ room_of m t
-    → IfOk r (λ e. carried m w a (instr.Spawn t args) ≡ Stepped v e) → OnOk r (ks ≡ ns ++ fresh_node (governing_of a (node_at ns a)) room ∷ [])
-    → OnErr r (v ≡ w) → OnErr r (ks ≡ ns)
-    → IsHeld m ks v × IfOk r (λ e. step m (with_finishes ns w) a ≡ Stepped (with_finishes ks v) e)
-started_held m ns ks w v a t args room (Ok e) h next enabled fits is new same kept =
+    → carried m w a (instr.Spawn t args) ≡ Stepped v e → ks ≡ ns ++ fresh_node (governing_of a (node_at ns a)) room ∷ []
+    → IsHeld m ks v × (step m (with_finishes ns w) a ≡ Stepped (with_finishes ks v) e)
+started_held m ns ks w v a t args room e h next enabled fits is new =
     let goes = spawn_stepped m ns w a h t args room next v e is in
     let are = spawn_are m ns w a h t args room next v e enabled is fits in
     rw new (held_on m ns (ns ++ fresh_node (governing_of a (node_at ns a)) room ∷ []) w v a e h are goes, goes)
-started_held m ns ks w v a t args room (Err x) h next enabled fits is new same kept = rw (same, kept) (h, tt)
+
+-- ---- whether memory was there or not
 
 pub taken_counts : {E : Type 0} (m : ModuleValue) (w v : World) (a : ℕ) (r : Result Event E) → IfOk r (λ e. step m w a ≡ Stepped v e) → OnOk r (v.steps ≡ w.steps + 1)
 taken_counts m w v a (Ok e) h = step_counts m w v a e h

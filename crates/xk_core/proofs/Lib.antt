@@ -6,6 +6,7 @@ pub mod Told
 pub mod Governing
 pub mod Finishing
 pub mod Visible
+pub mod Starting
 pub mod Locally
 pub mod Beyond
 pub mod Reserving

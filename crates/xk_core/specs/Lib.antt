@@ -2,6 +2,7 @@ pub mod Change
 pub mod Arm
 pub mod Able
 pub mod Core
+pub mod State
 pub mod Stretch
 pub mod Told
 pub mod Reserved

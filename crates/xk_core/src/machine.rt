@@ -417,8 +417,11 @@ impl<'m> Core<'m> {
         ensures same_module { self.new.module_run ≡ self.old.module_run }
         ensures refused { OnErr result (self.new ≡ self.old) }
     {
+        let a = act.0 as usize;
         let most = self.state.verified().room(unit);
-        self.state.spawn(&mut self.finishes, act.0 as usize, unit, args.slots(), most)
+        let newcomer = self.state.prepare(a, unit, args.slots(), most.slots)?;
+        self.finishes.spawned(act, most.finishes)?;
+        Ok(self.state.admit(a, newcomer))
     }
 
     /// The activity carries out an instruction that opens or closes no finish, and starts no activity.

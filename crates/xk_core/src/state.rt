@@ -1,6 +1,6 @@
 //! The world of a running program, but for its finishes, and the arms of its steps.
 
-ghost use Rattle.std.specs.Prelude.{◌≡◌, ℕ, ℤ, ◌+◌, ◌<◌, ◌≤◌, ◌^◌, min, true, false, ◌∷◌, [], ◌++◌, Some, length, slice_get, slice_set, option_copied, option_map, is_some, vec_capacity, IfOk, IfSome, OnOk, OnErr, All};
+ghost use Rattle.std.specs.Prelude.{◌≡◌, ℕ, ℤ, ◌+◌, ◌<◌, ◌≤◌, ◌^◌, min, true, false, List, Some, length, slice_get, slice_set, option_copied, option_map, is_some, vec_capacity, IfOk, IfSome, OnOk, OnErr, All};
 ghost use Rattle.std.specs.Bool.{Decides};
 ghost use Rattle.xk_types.specs.declared.names.Value.TheVariants as value;
 ghost use Rattle.xk_types.specs.declared.instr.Instr.TheVariants as instruction;
@@ -9,7 +9,6 @@ ghost use Rattle.xk_types.specs.World.{standing_of, opening};
 ghost use Rattle.xk_types.specs.Step.{Stepped, settled, moved, waits, onward, none};
 ghost use Rattle.xk_types.specs.Schedule.{is_step, all_ended};
 ghost use Rattle.xk_types.specs.Bound.{clocks_bound, stack_of};
-ghost use Rattle.xk_finishes.specs.Tree.{node_at, fresh_node, governing_of};
 ghost use Rattle.xk_activity.specs.Activities.{act_at, Stands, Takes};
 ghost use Rattle.xk_activity.specs.Local.{IsRight, IsSafe, local, is_stepped};
 ghost use Rattle.xk_activity.specs.Joined.{frames_in};
@@ -17,6 +16,7 @@ ghost use Rattle.xk_rooms.specs.Rooms.{HasRoomLeft};
 ghost use Rattle.xk_core.specs.Stretch.{after_steps, HasRoomForSteps, TakesSteps};
 ghost use Rattle.xk_core.specs.Handed.{IsAsBefore};
 ghost use Rattle.xk_core.specs.Able.{is_able};
+ghost use Rattle.xk_core.specs.State.{core_of, IsReady};
 ghost use Rattle.xk_core.specs.Core.{is_quiet, advanced_now, is_held_back_by, is_running, is_waiting, next_instruction, with_world, TakesStep};
 ghost use Rattle.xk_core.specs.Change.{standing_after_step, AllowsChange};
 ghost use Rattle.xk_core.specs.Arm.{concerns_finishes, is_visible, carried, CarriesOut, passed_on, IsRoomy, IsLast};
@@ -25,15 +25,14 @@ ghost use Rattle.xk_types.specs.World as world;
 use crate::change::{StandingChange, StepChange};
 use std::alloc::{AllocError, Global};
 use std::marker::Model;
-use xk_activity::{Activities, Frames, Next, Ticket};
-use xk_bounds::{Room, Verified};
-use xk_finishes::FinishTree;
-use xk_standings::Standings;
-use xk_types::{Act, ClockId, Event, Instr, Standing, Status, Value};
+use xk_activity::{Activities, Activity, Frames, Next, Ticket};
+use xk_bounds::Verified;
+use xk_standings::{Registrations, Standings};
+use xk_types::{ClockId, Event, Instr, Standing, Status, Value};
 
 /// The module that is run, and the world but for its finishes: activities by their numbers, where they stand on clocks, the shared
 /// numbers, and how many steps were taken. It stands for the world in which no activity has a finish open, and main's finish
-/// governs all.
+/// governs all; and it tells what each activity is registered on, and how many activities there is room for.
 #[derive(Drop)]
 pub struct State<'m> {
     activities: Activities<'m>,
@@ -45,12 +44,12 @@ pub struct State<'m> {
 }
 
 impl<'m> Model for State<'m> {
-    ghost use Rattle.std.specs.Prelude.{◌≡◌, length};
-    ghost use Rattle.xk_core.specs.Core.{CoreValue};
+    ghost use Rattle.std.specs.Prelude.{◌≡◌, length, min};
+    ghost use Rattle.xk_core.specs.State.{StateValue};
     ghost use Rattle.xk_core.specs.Reserved.{AreReserved};
     ghost use Rattle.xk_standings.specs.Told.{told_of, rooms_of};
 
-    ghost Value = { CoreValue };
+    ghost Value = { StateValue };
 
     ghost view = { λ s. record {
       module_run = s.activities.module_run;
@@ -60,10 +59,32 @@ impl<'m> Model for State<'m> {
         cells = s.cells.items;
         steps = s.steps;
       };
+      held = s.standings.held;
+      room = min s.activities.room s.standings.room;
     } };
 
     ghost invariant = { λ s. (length s.standings.held ≡ length s.activities.list)
         × AreReserved s.activities.module_run s.activities.list (rooms_of s.standings) };
+}
+
+/// An activity that is to begin, and what it will be registered on. It is in no world yet.
+#[derive(Drop)]
+pub struct Newcomer<'m> {
+    activity: Activity<'m>,
+    registrations: Registrations,
+}
+
+impl<'m> Model for Newcomer<'m> {
+    ghost use Rattle.xk_core.specs.State.{NewcomerValue};
+
+    ghost Value = { NewcomerValue };
+
+    ghost view = { λ n. record {
+      module_run = n.activity.module_run;
+      act = n.activity.act;
+      registrations = n.registrations.list;
+      places = n.registrations.room;
+    } };
 }
 
 /// A shared number, as a slot holds it.
@@ -122,7 +143,7 @@ impl<'m> State<'m> {
         requires phases { All (λ c. c.phase + 1 < 2 ^ 64) self.old.world.clocks }
         requires there { a < length self.old.world.activities }
         requires allowed { AllowsChange self.old.world.clocks a change }
-        ensures { self.new ≡ with_world self.old (settled (record self.old.world
+        ensures { core_of self.new ≡ with_world (core_of self.old) (settled (record self.old.world
             { clocks = moved a (standing_after_step change) self.old.world.clocks })) }
     {
         self.steps += 1;
@@ -136,7 +157,7 @@ impl<'m> State<'m> {
         requires right { IsRight (local (frames_in self.old.module_run
             (act_at self.old.world.activities a))) }
         requires room { IsRoomy self.old.module_run self.old.world a }
-        ensures { TakesStep self.old a result self.new }
+        ensures { TakesStep (core_of self.old) a result (core_of self.new) }
     {
         let next = self.activities.local(a);
         if matches!(next, Next::Stepped) {
@@ -315,7 +336,7 @@ impl<'m> State<'m> {
     pub fn go_on(&mut self, a: usize)
         requires there { a < length self.old.world.activities }
         requires room { IsRoomy self.old.module_run self.old.world a }
-        ensures { self.new ≡ with_world self.old (settled (record self.old.world {
+        ensures { core_of self.new ≡ with_world (core_of self.old) (settled (record self.old.world {
           activities = slice_set self.old.world.activities a
               (onward (act_at self.old.world.activities a));
           clocks = moved a none self.old.world.clocks;
@@ -325,48 +346,56 @@ impl<'m> State<'m> {
         self.end_step(a, StepChange::Nothing);
     }
 
-    /// Activity a starts one that runs this unit with the values of these slots, with this much room for its finishes and for what
-    /// it is registered on. No clock can become ready by it. Where memory is refused nothing changes.
-    pub fn spawn(
+    /// The activity that activity a is about to start, which runs this unit with the values of these slots, and whose frames may
+    /// have this many slots. Takes all memory that a state needs for it. The world stays as it is, also where memory is refused.
+    #[inline(always)]
+    pub fn prepare(
         &mut self,
-        finishes: &mut FinishTree,
         a: usize,
         unit: u16,
         args: &[u16],
-        most: Room,
-    ) -> Result<Event, AllocError>
-        requires enabled { is_step
-            (carried self.old.module_run self.old.world a (instruction.Spawn unit args.now))
-            ≡ true }
-        requires room { IsRoomy self.old.module_run self.old.world a }
-        requires with_finishes { length finishes.old ≡ length self.old.world.activities }
-        requires runs { (node_at finishes.old a).ended ≡ false }
-        requires numbers { length self.old.world.activities + 1 < 2 ^ 32 }
+        slots: u32,
+    ) -> Result<Newcomer<'m>, AllocError>
+        requires enabled { is_step (carried self.old.module_run self.old.world a
+            (instruction.Spawn unit args.now)) ≡ true }
         requires limits { IsWithinLimits self.old.module_run }
-        requires places { stack_of self.old.module_run unit ≤ most.slots }
-        ensures started { IfOk result
-            (CarriesOut self.old.module_run self.old.world a
-            (instruction.Spawn unit args.now) self.new.world) }
-        ensures same { self.new.module_run ≡ self.old.module_run }
-        ensures finishes { OnOk result
-            (finishes.new ≡ finishes.old
-            ++ fresh_node (governing_of a (node_at finishes.old a)) most.finishes ∷ []) }
-        ensures refused { OnErr result (self.new ≡ self.old) }
-        ensures finishes_refused { OnErr result (finishes.new ≡ finishes.old) }
+        requires places { stack_of self.old.module_run unit ≤ slots }
+        ensures ready { IfOk result (IsReady self.new a unit args.now) }
+        ensures same { core_of self.new ≡ core_of self.old }
     {
         let alloc = self.activities.allocator();
         self.activities.frames(a).values(args, &mut self.handed)?;
-        let new = self.activities.begin(alloc, a, unit, &self.handed)?;
-        let places = places(self.activities.verified(), most.slots);
+        let activity = self.activities.begin(alloc, a, unit, &self.handed)?;
+        let places = places(self.activities.verified(), slots);
         let registrations = self.standings.child(alloc, a, places, &self.handed)?;
         self.activities.reserve()?;
         self.standings.reserve()?;
-        finishes.spawned(Act(a as u32), most.finishes)?;
+        Ok(Newcomer {
+            activity,
+            registrations,
+        })
+    }
+
+    /// Activity a starts the newcomer, for which there is room. No clock can become ready by it. Takes no memory.
+    #[inline(always)]
+    pub fn admit(&mut self, a: usize, newcomer: Newcomer<'m>) -> Event
+        requires ready { (unit : ℕ) × (args : List ℕ) × IsReady self.old a unit args newcomer }
+        requires room { IsRoomy self.old.module_run self.old.world a }
+        requires numbers { length self.old.world.activities + 1 < 2 ^ 32 }
+        ensures started { (unit : ℕ) (args : List ℕ) → IsReady self.old a unit args newcomer.entry
+            → CarriesOut self.old.module_run self.old.world a (instruction.Spawn unit args)
+            self.new.world result }
+        ensures same { self.new.module_run ≡ self.old.module_run }
+    {
+        let Newcomer {
+            activity,
+            registrations,
+        } = newcomer;
         self.standings.admit(registrations);
         self.activities.go_on(a);
-        self.activities.admit(new);
+        self.activities.admit(activity);
         self.steps += 1;
-        Ok(Event::Spawned)
+        Event::Spawned
     }
 
     /// Activity a passes the `advance` that it waits at.
@@ -548,8 +577,8 @@ impl<'m> State<'m> {
         requires there { a < length self.old.world.activities }
         requires safe { IsSafe local (frames_in self.old.module_run
             (act_at self.old.world.activities a)) }
-        requires steps { HasRoomForSteps self.old a }
-        ensures runs { TakesSteps self.old a max result self.new }
+        requires steps { HasRoomForSteps (core_of self.old) a }
+        ensures runs { TakesSteps (core_of self.old) a max result (core_of self.new) }
         ensures most { result ≤ max }
     {
         let n = self.activities.run(a, max);
@@ -559,19 +588,19 @@ impl<'m> State<'m> {
 
     /// Whether a ticket's activity is there, and has the ticket's old frames.
     pub fn accepts(&self, ticket: &Ticket<'m>) -> bool
-        ensures { Decides result (IsAsBefore self.now ticket.now) }
+        ensures { Decides result (IsAsBefore (core_of self.now) ticket.now) }
     {
         self.activities.accepts(ticket)
     }
 
     /// The steps of a ticket, whose activity runs. No clock is ready to advance, and none becomes so. Takes no memory.
     pub fn apply(&mut self, ticket: Ticket<'m>)
-        requires before { IsAsBefore self.old ticket }
-        requires steps { HasRoomForSteps self.old ticket.act }
-        ensures runs { TakesSteps self.old ticket.entry.act ticket.entry.steps
-            ticket.entry.steps self.new }
-        ensures changed { self.new ≡ with_world self.old (after_steps self.old.world
-            ticket.entry.act ticket.entry.new ticket.entry.steps) }
+        requires before { IsAsBefore (core_of self.old) ticket }
+        requires steps { HasRoomForSteps (core_of self.old) ticket.act }
+        ensures runs { TakesSteps (core_of self.old) ticket.entry.act ticket.entry.steps
+            ticket.entry.steps (core_of self.new) }
+        ensures changed { core_of self.new ≡ with_world (core_of self.old)
+            (after_steps self.old.world ticket.entry.act ticket.entry.new ticket.entry.steps) }
     {
         self.steps += ticket.steps() as u64;
         self.activities.apply(ticket);

@@ -1,6 +1,7 @@
 use Rattle.std.proofs.Common.{◌≡◌, ◌∙◌, ap, sym, subst}
 use Rattle.xk_types.specs.World.{World}
 use Rattle.xk_core.specs.Core.{CoreValue, with_world}
+use Rattle.xk_core.specs.State.{core_of}
 use Rattle.xk_core.specs.Stretch.{after_steps, RunsTo, AreLocal, IsUnseen}
 use Rattle.xk_core.specs.Told.{with_finishes}
 use Rattle.xk_core.proofs.Finishing.{held, parts}
@@ -35,7 +36,7 @@ invariant_of-self c =
     let t = c.args.ticket in
     let h = held m ns w c.self.invariant in
     let runs = runs_told m ns w h t c.args.self.now c.self.view_is c.requires.0 in
-    let ran = runner_ran m ns w t.act h runs t.steps t.steps c.apply.new.self c.apply.ensures.runs in
+    let ran = runner_ran m ns w t.act h runs t.steps t.steps (core_of c.apply.new.self) c.apply.ensures.runs in
     parts c.apply.new.self.module_run ns c.apply.new.self.world ran.held
 
 pub returns-clause-ran : goal.returns-clause-ran
@@ -46,7 +47,7 @@ returns-clause-ran c =
     let t = c.args.ticket in
     let h = held m ns w c.self.invariant in
     let runs = runs_told m ns w h t c.args.self.now c.self.view_is c.requires.0 in
-    let ran = runner_ran m ns w t.act h runs t.steps t.steps c.apply.new.self c.apply.ensures.runs in
+    let ran = runner_ran m ns w t.act h runs t.steps t.steps (core_of c.apply.new.self) c.apply.ensures.runs in
     subst (λ (v : CoreValue). RunsTo v t.act t.steps (record { module_run = c.apply.new.self.module_run; world = with_finishes ns c.apply.new.self.world }))
     c.self.view_is ran.goes
 
@@ -58,7 +59,7 @@ returns-clause-local c =
     let t = c.args.ticket in
     let h = held m ns w c.self.invariant in
     let runs = runs_told m ns w h t c.args.self.now c.self.view_is c.requires.0 in
-    let ran = runner_ran m ns w t.act h runs t.steps t.steps c.apply.new.self c.apply.ensures.runs in
+    let ran = runner_ran m ns w t.act h runs t.steps t.steps (core_of c.apply.new.self) c.apply.ensures.runs in
     subst (λ (v : CoreValue). AreLocal v t.act t.steps) c.self.view_is ran.shows
 
 pub returns-clause-unseen : goal.returns-clause-unseen
@@ -69,7 +70,7 @@ returns-clause-unseen c =
     let t = c.args.ticket in
     let h = held m ns w c.self.invariant in
     let runs = runs_told m ns w h t c.args.self.now c.self.view_is c.requires.0 in
-    let ran = runner_ran m ns w t.act h runs t.steps t.steps c.apply.new.self c.apply.ensures.runs in
+    let ran = runner_ran m ns w t.act h runs t.steps t.steps (core_of c.apply.new.self) c.apply.ensures.runs in
     subst (λ (v : CoreValue). IsUnseen v t.act t.steps) c.self.view_is ran.hides
 
 pub returns-clause-changed : goal.returns-clause-changed

@@ -1,6 +1,7 @@
 use Rattle.std.proofs.Common.{◌≡◌, true, sym, subst}
 use Rattle.xk_types.specs.Schedule.{is_enabled}
 use Rattle.xk_core.specs.Core.{CoreValue, TakesStep, Locally, is_running}
+use Rattle.xk_core.specs.State.{core_of}
 use Rattle.xk_core.specs.Told.{with_finishes}
 use Rattle.xk_core.proofs.Finishing.{held, parts, parts_roomy}
 use Rattle.xk_core.proofs.Locally.{local_there, local_right, local_told}
@@ -42,9 +43,9 @@ invariant_of-self c =
     let runs : is_running (with_finishes ns w) c.args.act ≡ true = subst (λ (v : CoreValue). is_running v.world c.args.act ≡ true) (sym c.self.view_is) c.requires.runs in
     let can : is_enabled m (with_finishes ns w) c.args.act ≡ true =
     subst (λ (v : CoreValue). is_enabled v.module_run v.world c.args.act ≡ true) (sym c.self.view_is) c.requires.enabled in
-    let t : TakesStep (record { module_run = m; world = w }) c.args.act c.local.result c.local.new.self =
-    subst (λ n. TakesStep (record { module_run = m; world = w }) n c.local.result c.local.new.self) c.act.view_is c.local.ensures in
-    let told = local_told m ns w c.args.act h runs can c.local.result c.local.new.self t in
+    let t : TakesStep (record { module_run = m; world = w }) c.args.act c.local.result (core_of c.local.new.self) =
+    subst (λ n. TakesStep (record { module_run = m; world = w }) n c.local.result (core_of c.local.new.self)) c.act.view_is c.local.ensures in
+    let told = local_told m ns w c.args.act h runs can c.local.result (core_of c.local.new.self) t in
     parts c.local.new.self.module_run ns c.local.new.self.world told.1
 
 pub returns-clause-stepped : goal.returns-clause-stepped
@@ -56,8 +57,8 @@ returns-clause-stepped c =
     let runs : is_running (with_finishes ns w) c.args.act ≡ true = subst (λ (v : CoreValue). is_running v.world c.args.act ≡ true) (sym c.self.view_is) c.requires.runs in
     let can : is_enabled m (with_finishes ns w) c.args.act ≡ true =
     subst (λ (v : CoreValue). is_enabled v.module_run v.world c.args.act ≡ true) (sym c.self.view_is) c.requires.enabled in
-    let t : TakesStep (record { module_run = m; world = w }) c.args.act c.local.result c.local.new.self =
-    subst (λ n. TakesStep (record { module_run = m; world = w }) n c.local.result c.local.new.self) c.act.view_is c.local.ensures in
-    let told = local_told m ns w c.args.act h runs can c.local.result c.local.new.self t in
+    let t : TakesStep (record { module_run = m; world = w }) c.args.act c.local.result (core_of c.local.new.self) =
+    subst (λ n. TakesStep (record { module_run = m; world = w }) n c.local.result (core_of c.local.new.self)) c.act.view_is c.local.ensures in
+    let told = local_told m ns w c.args.act h runs can c.local.result (core_of c.local.new.self) t in
     subst (λ (v : CoreValue). Locally v c.args.act c.local.result (record { module_run = c.local.new.self.module_run; world = with_finishes ns c.local.new.self.world }))
     c.self.view_is told.2

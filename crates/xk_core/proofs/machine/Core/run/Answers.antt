@@ -1,5 +1,6 @@
 use Rattle.std.proofs.Common.{◌≡◌, inr, true, false, ◌∙◌, sym, subst, ap}
 use Rattle.xk_core.specs.Core.{CoreValue, is_running, is_next_local}
+use Rattle.xk_core.specs.State.{core_of}
 use Rattle.xk_core.specs.Stretch.{HasRoomForSteps, TakesSteps, RunsTo, AreLocal, IsUnseen}
 use Rattle.xk_core.specs.Told.{with_finishes}
 use Rattle.xk_core.proofs.Finishing.{held, parts}
@@ -35,9 +36,9 @@ invariant_of-self c =
     let h = held m ns w c.self.invariant in
     let runs : is_running (with_finishes ns w) c.args.act ≡ true =
     running_told ns w h.are.width c.args.act ∙ ap (λ n. is_running w n) (sym c.act.view_is) ∙ sym c.runs.ensures ∙ c.in-true.is in
-    let t : TakesSteps (record { module_run = m; world = w }) c.args.act c.args.max c.run.result c.run.new.self =
-    subst (λ n. TakesSteps (record { module_run = m; world = w }) n c.args.max c.run.result c.run.new.self) c.act.view_is c.run.ensures.runs in
-    let ran = runner_ran m ns w c.args.act h runs c.args.max c.run.result c.run.new.self t in
+    let t : TakesSteps (record { module_run = m; world = w }) c.args.act c.args.max c.run.result (core_of c.run.new.self) =
+    subst (λ n. TakesSteps (record { module_run = m; world = w }) n c.args.max c.run.result (core_of c.run.new.self)) c.act.view_is c.run.ensures.runs in
+    let ran = runner_ran m ns w c.args.act h runs c.args.max c.run.result (core_of c.run.new.self) t in
     parts c.run.new.self.module_run ns c.run.new.self.world ran.held
 
 pub returns-in-true-clause-ran : goal.returns-in-true-clause-ran
@@ -48,9 +49,9 @@ returns-in-true-clause-ran c =
     let h = held m ns w c.self.invariant in
     let runs : is_running (with_finishes ns w) c.args.act ≡ true =
     running_told ns w h.are.width c.args.act ∙ ap (λ n. is_running w n) (sym c.act.view_is) ∙ sym c.runs.ensures ∙ c.in-true.is in
-    let t : TakesSteps (record { module_run = m; world = w }) c.args.act c.args.max c.run.result c.run.new.self =
-    subst (λ n. TakesSteps (record { module_run = m; world = w }) n c.args.max c.run.result c.run.new.self) c.act.view_is c.run.ensures.runs in
-    let ran = runner_ran m ns w c.args.act h runs c.args.max c.run.result c.run.new.self t in
+    let t : TakesSteps (record { module_run = m; world = w }) c.args.act c.args.max c.run.result (core_of c.run.new.self) =
+    subst (λ n. TakesSteps (record { module_run = m; world = w }) n c.args.max c.run.result (core_of c.run.new.self)) c.act.view_is c.run.ensures.runs in
+    let ran = runner_ran m ns w c.args.act h runs c.args.max c.run.result (core_of c.run.new.self) t in
     subst (λ (v : CoreValue). RunsTo v c.args.act c.run.result (record { module_run = c.run.new.self.module_run; world = with_finishes ns c.run.new.self.world }))
     c.self.view_is ran.goes
 
@@ -62,9 +63,9 @@ returns-in-true-clause-local c =
     let h = held m ns w c.self.invariant in
     let runs : is_running (with_finishes ns w) c.args.act ≡ true =
     running_told ns w h.are.width c.args.act ∙ ap (λ n. is_running w n) (sym c.act.view_is) ∙ sym c.runs.ensures ∙ c.in-true.is in
-    let t : TakesSteps (record { module_run = m; world = w }) c.args.act c.args.max c.run.result c.run.new.self =
-    subst (λ n. TakesSteps (record { module_run = m; world = w }) n c.args.max c.run.result c.run.new.self) c.act.view_is c.run.ensures.runs in
-    let ran = runner_ran m ns w c.args.act h runs c.args.max c.run.result c.run.new.self t in
+    let t : TakesSteps (record { module_run = m; world = w }) c.args.act c.args.max c.run.result (core_of c.run.new.self) =
+    subst (λ n. TakesSteps (record { module_run = m; world = w }) n c.args.max c.run.result (core_of c.run.new.self)) c.act.view_is c.run.ensures.runs in
+    let ran = runner_ran m ns w c.args.act h runs c.args.max c.run.result (core_of c.run.new.self) t in
     subst (λ (v : CoreValue). AreLocal v c.args.act c.run.result) c.self.view_is ran.shows
 
 pub returns-in-true-clause-unseen : goal.returns-in-true-clause-unseen
@@ -75,9 +76,9 @@ returns-in-true-clause-unseen c =
     let h = held m ns w c.self.invariant in
     let runs : is_running (with_finishes ns w) c.args.act ≡ true =
     running_told ns w h.are.width c.args.act ∙ ap (λ n. is_running w n) (sym c.act.view_is) ∙ sym c.runs.ensures ∙ c.in-true.is in
-    let t : TakesSteps (record { module_run = m; world = w }) c.args.act c.args.max c.run.result c.run.new.self =
-    subst (λ n. TakesSteps (record { module_run = m; world = w }) n c.args.max c.run.result c.run.new.self) c.act.view_is c.run.ensures.runs in
-    let ran = runner_ran m ns w c.args.act h runs c.args.max c.run.result c.run.new.self t in
+    let t : TakesSteps (record { module_run = m; world = w }) c.args.act c.args.max c.run.result (core_of c.run.new.self) =
+    subst (λ n. TakesSteps (record { module_run = m; world = w }) n c.args.max c.run.result (core_of c.run.new.self)) c.act.view_is c.run.ensures.runs in
+    let ran = runner_ran m ns w c.args.act h runs c.args.max c.run.result (core_of c.run.new.self) t in
     subst (λ (v : CoreValue). IsUnseen v c.args.act c.run.result) c.self.view_is ran.hides
 
 pub returns-in-true-clause-stops : goal.returns-in-true-clause-stops
@@ -88,9 +89,9 @@ returns-in-true-clause-stops c =
     let h = held m ns w c.self.invariant in
     let runs : is_running (with_finishes ns w) c.args.act ≡ true =
     running_told ns w h.are.width c.args.act ∙ ap (λ n. is_running w n) (sym c.act.view_is) ∙ sym c.runs.ensures ∙ c.in-true.is in
-    let t : TakesSteps (record { module_run = m; world = w }) c.args.act c.args.max c.run.result c.run.new.self =
-    subst (λ n. TakesSteps (record { module_run = m; world = w }) n c.args.max c.run.result c.run.new.self) c.act.view_is c.run.ensures.runs in
-    let ran = runner_ran m ns w c.args.act h runs c.args.max c.run.result c.run.new.self t in
+    let t : TakesSteps (record { module_run = m; world = w }) c.args.act c.args.max c.run.result (core_of c.run.new.self) =
+    subst (λ n. TakesSteps (record { module_run = m; world = w }) n c.args.max c.run.result (core_of c.run.new.self)) c.act.view_is c.run.ensures.runs in
+    let ran = runner_ran m ns w c.args.act h runs c.args.max c.run.result (core_of c.run.new.self) t in
     ran.stops
 
 pub returns-in-false-clause-stops : goal.returns-in-false-clause-stops

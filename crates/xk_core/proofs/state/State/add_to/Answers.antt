@@ -10,6 +10,7 @@ use Rattle.xk_standings.specs.Told.{told_of, rooms_of}
 use Rattle.xk_activity.specs.Activities.{ActivitiesValue, act_at}
 use Rattle.xk_core.specs.Arm.{carried}
 use Rattle.xk_core.specs.Core.{CoreValue}
+use Rattle.xk_core.specs.State.{StateValue}
 use Rattle.xk_core.proofs.Visible.{store_here, same_number}
 use Rattle.xk_core.proofs.Reserving.{kept_on}
 use Rattle.xk_core.proofs.state.State.add_to.Goals as goal
@@ -18,7 +19,7 @@ pub number-n-requires-clause-number : goal.number-n-requires-clause-number
 number-n-requires-clause-number c =
     let m = c.self.inside.activities.module_run in
     let w : World = record { activities = c.self.inside.activities.list; clocks = told_of c.self.inside.standings; cells = c.self.inside.cells.items; steps = c.self.inside.steps } in
-    let can = subst (λ (v : CoreValue). is_step (carried v.module_run v.world c.args.a (instruction.AddTo c.args.s c.args.x)) ≡ true) (sym c.self.view_is) c.requires.enabled in
+    let can = subst (λ (v : StateValue). is_step (carried v.module_run v.world c.args.a (instruction.AddTo c.args.s c.args.x)) ≡ true) (sym c.self.view_is) c.requires.enabled in
     let r = store_here m w c.args.a (instruction.AddTo c.args.s c.args.x) c.args.s c.args.x (int_wrapping_add w64) event.Added refl can in
     (r.n, r.number)
 
@@ -26,7 +27,7 @@ pub index-requires : goal.index-requires
 index-requires c =
     let m = c.self.inside.activities.module_run in
     let w : World = record { activities = c.self.inside.activities.list; clocks = told_of c.self.inside.standings; cells = c.self.inside.cells.items; steps = c.self.inside.steps } in
-    let can = subst (λ (v : CoreValue). is_step (carried v.module_run v.world c.args.a (instruction.AddTo c.args.s c.args.x)) ≡ true) (sym c.self.view_is) c.requires.enabled in
+    let can = subst (λ (v : StateValue). is_step (carried v.module_run v.world c.args.a (instruction.AddTo c.args.s c.args.x)) ≡ true) (sym c.self.view_is) c.requires.enabled in
     let r = store_here m w c.args.a (instruction.AddTo c.args.s c.args.x) c.args.s c.args.x (int_wrapping_add w64) event.Added refl can in
     let h = slice_get_within w.cells c.args.s r.old r.cell in
     omega (arith, c.self.inside.cells.ok)
@@ -35,7 +36,7 @@ pub index_mut-requires : goal.index_mut-requires
 index_mut-requires c =
     let m = c.self.inside.activities.module_run in
     let w : World = record { activities = c.self.inside.activities.list; clocks = told_of c.self.inside.standings; cells = c.self.inside.cells.items; steps = c.self.inside.steps } in
-    let can = subst (λ (v : CoreValue). is_step (carried v.module_run v.world c.args.a (instruction.AddTo c.args.s c.args.x)) ≡ true) (sym c.self.view_is) c.requires.enabled in
+    let can = subst (λ (v : StateValue). is_step (carried v.module_run v.world c.args.a (instruction.AddTo c.args.s c.args.x)) ≡ true) (sym c.self.view_is) c.requires.enabled in
     let r = store_here m w c.args.a (instruction.AddTo c.args.s c.args.x) c.args.s c.args.x (int_wrapping_add w64) event.Added refl can in
     let h = slice_get_within w.cells c.args.s r.old r.cell in
     omega (arith, c.self.inside.cells.ok)
@@ -44,9 +45,9 @@ pub returns-clause-stepped : goal.returns-clause-stepped
 returns-clause-stepped c =
     let m = c.self.inside.activities.module_run in
     let w : World = record { activities = c.self.inside.activities.list; clocks = told_of c.self.inside.standings; cells = c.self.inside.cells.items; steps = c.self.inside.steps } in
-    let can = subst (λ (v : CoreValue). is_step (carried v.module_run v.world c.args.a (instruction.AddTo c.args.s c.args.x)) ≡ true) (sym c.self.view_is) c.requires.enabled in
+    let can = subst (λ (v : StateValue). is_step (carried v.module_run v.world c.args.a (instruction.AddTo c.args.s c.args.x)) ≡ true) (sym c.self.view_is) c.requires.enabled in
     let r = store_here m w c.args.a (instruction.AddTo c.args.s c.args.x) c.args.s c.args.x (int_wrapping_add w64) event.Added refl can in
-    subst (λ (v : CoreValue). carried v.module_run v.world c.args.a (instruction.AddTo c.args.s c.args.x) ≡ Stepped c.end_step.new.self.world event.Added) c.self.view_is
+    subst (λ (v : StateValue). carried v.module_run v.world c.args.a (instruction.AddTo c.args.s c.args.x) ≡ Stepped c.end_step.new.self.world event.Added) c.self.view_is
     (r.goes ∙ ap (λ n. stored w c.args.a (act_at w.activities c.args.a) c.args.s (int_wrapping_add w64 r.old n) event.Added)
     (same_number r.n c.number-n.result (sym r.number ∙ c.number-n.ensures))
     ∙ ap (λ o. stored w c.args.a (act_at w.activities c.args.a) c.args.s (int_wrapping_add w64 o c.number-n.result) event.Added)

@@ -2,7 +2,7 @@ use Rattle.std.proofs.Common.{◌≡◌, inl, length, refl, sym, subst}
 use Rattle.xk_activity.specs.Local.{FramesValue, Stepped, local, ran}
 use Rattle.xk_activity.specs.Joined.{frames_in, with_frames}
 use Rattle.xk_activity.specs.Activities.{act_at}
-use Rattle.xk_core.specs.Core.{CoreValue}
+use Rattle.xk_core.specs.State.{StateValue, core_of}
 use Rattle.xk_core.specs.Handed.{HasOldFrames}
 use Rattle.xk_standings.specs.Told.{rooms_of}
 use Rattle.xk_core.proofs.Reserving.{kept_by, runs_base}
@@ -15,7 +15,7 @@ invariant_of-self c =
     let x = act_at v.list t.act in
     let n = length c.self.inside.standings.held in
     let r = rooms_of c.self.inside.standings in
-    let same : frames_in v.module_run x ≡ t.old = subst (λ (u : CoreValue). HasOldFrames u t) (sym c.self.view_is) c.requires.before.1 in
+    let same : frames_in v.module_run x ≡ t.old = subst (λ (u : StateValue). HasOldFrames (core_of u) t) (sym c.self.view_is) c.requires.before.1 in
     let walked : ran local (frames_in v.module_run x) c.steps.result ≡ Stepped t.new =
     subst (λ (fs : FramesValue). ran local fs c.steps.result ≡ Stepped t.new) (sym same) c.steps.ensures.walked.ran in
     kept_by v c.apply.new.self n n r r t.act (with_frames x t.new) c.self.invariant c.apply.ensures refl refl

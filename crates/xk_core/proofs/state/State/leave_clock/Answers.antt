@@ -8,6 +8,7 @@ use Rattle.xk_standings.specs.Told.{told_of, rooms_of}
 use Rattle.xk_activity.specs.Activities.{ActivitiesValue, Stands, act_at}
 use Rattle.xk_core.specs.Arm.{carried}
 use Rattle.xk_core.specs.Core.{CoreValue}
+use Rattle.xk_core.specs.State.{StateValue}
 use Rattle.xk_core.proofs.Visible.{drop_clock, drop_done}
 use Rattle.xk_core.proofs.Reserving.{kept_on}
 use Rattle.xk_core.proofs.state.State.leave_clock.Goals as goal
@@ -17,18 +18,18 @@ clock-c-requires-clause-clock c =
     let m = c.self.inside.activities.module_run in
     let w : World = record { activities = c.self.inside.activities.list; clocks = told_of c.self.inside.standings; cells = c.self.inside.cells.items; steps = c.self.inside.steps } in
     drop_clock m w c.args.a c.args.k
-    (subst (λ (v : CoreValue). is_step (carried v.module_run v.world c.args.a (instruction.Drop c.args.k)) ≡ true) (sym c.self.view_is) c.requires.enabled)
+    (subst (λ (v : StateValue). is_step (carried v.module_run v.world c.args.a (instruction.Drop c.args.k)) ≡ true) (sym c.self.view_is) c.requires.enabled)
 
 pub go_on-requires-clause-stands : goal.go_on-requires-clause-stands
 go_on-requires-clause-stands c =
-    subst (λ (v : CoreValue). Stands v.module_run (act_at v.world.activities c.args.a)) (sym c.self.view_is) c.requires.room.stands
+    subst (λ (v : StateValue). Stands v.module_run (act_at v.world.activities c.args.a)) (sym c.self.view_is) c.requires.room.stands
 
 pub returns-clause-stepped : goal.returns-clause-stepped
 returns-clause-stepped c =
     let m = c.self.inside.activities.module_run in
     let w : World = record { activities = c.self.inside.activities.list; clocks = told_of c.self.inside.standings; cells = c.self.inside.cells.items; steps = c.self.inside.steps } in
-    let can = subst (λ (v : CoreValue). is_step (carried v.module_run v.world c.args.a (instruction.Drop c.args.k)) ≡ true) (sym c.self.view_is) c.requires.enabled in
-    subst (λ (v : CoreValue). carried v.module_run v.world c.args.a (instruction.Drop c.args.k) ≡ Stepped c.end_step.new.self.world event.Dropped) c.self.view_is
+    let can = subst (λ (v : StateValue). is_step (carried v.module_run v.world c.args.a (instruction.Drop c.args.k)) ≡ true) (sym c.self.view_is) c.requires.enabled in
+    subst (λ (v : StateValue). carried v.module_run v.world c.args.a (instruction.Drop c.args.k) ≡ Stepped c.end_step.new.self.world event.Dropped) c.self.view_is
     (drop_done m w c.args.a c.args.k c.clock-c.result can c.clock-c.ensures
     ∙ ap (λ (v : ActivitiesValue). Stepped (settled (record w { activities = v.list; clocks = moved c.args.a (only c.clock-c.result dropped) w.clocks })) event.Dropped) (sym c.go_on.ensures)
     ∙ ap (λ (v : CoreValue). Stepped v.world event.Dropped) (sym c.end_step.ensures))

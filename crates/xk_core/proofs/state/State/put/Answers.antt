@@ -11,6 +11,7 @@ use Rattle.xk_standings.specs.Told.{told_of, rooms_of}
 use Rattle.xk_activity.specs.Activities.{ActivitiesValue, act_at}
 use Rattle.xk_core.specs.Arm.{carried}
 use Rattle.xk_core.specs.Core.{CoreValue}
+use Rattle.xk_core.specs.State.{StateValue}
 use Rattle.xk_core.proofs.Visible.{store_here, same_number}
 use Rattle.xk_core.proofs.Reserving.{kept_on}
 use Rattle.xk_core.proofs.state.State.put.Goals as goal
@@ -19,7 +20,7 @@ pub number-n-requires-clause-number : goal.number-n-requires-clause-number
 number-n-requires-clause-number c =
     let m = c.self.inside.activities.module_run in
     let w : World = record { activities = c.self.inside.activities.list; clocks = told_of c.self.inside.standings; cells = c.self.inside.cells.items; steps = c.self.inside.steps } in
-    let can = subst (λ (v : CoreValue). is_step (carried v.module_run v.world c.args.a (instruction.Put c.args.s c.args.x)) ≡ true) (sym c.self.view_is) c.requires.enabled in
+    let can = subst (λ (v : StateValue). is_step (carried v.module_run v.world c.args.a (instruction.Put c.args.s c.args.x)) ≡ true) (sym c.self.view_is) c.requires.enabled in
     let r = store_here m w c.args.a (instruction.Put c.args.s c.args.x) c.args.s c.args.x (λ old n. n) event.Put refl can in
     (r.n, r.number)
 
@@ -27,7 +28,7 @@ pub set_cell-requires : goal.set_cell-requires
 set_cell-requires c =
     let m = c.self.inside.activities.module_run in
     let w : World = record { activities = c.self.inside.activities.list; clocks = told_of c.self.inside.standings; cells = c.self.inside.cells.items; steps = c.self.inside.steps } in
-    let can = subst (λ (v : CoreValue). is_step (carried v.module_run v.world c.args.a (instruction.Put c.args.s c.args.x)) ≡ true) (sym c.self.view_is) c.requires.enabled in
+    let can = subst (λ (v : StateValue). is_step (carried v.module_run v.world c.args.a (instruction.Put c.args.s c.args.x)) ≡ true) (sym c.self.view_is) c.requires.enabled in
     let r = store_here m w c.args.a (instruction.Put c.args.s c.args.x) c.args.s c.args.x (λ old n. n) event.Put refl can in
     slice_get_within w.cells c.args.s r.old r.cell
 
@@ -35,9 +36,9 @@ pub returns-clause-stepped : goal.returns-clause-stepped
 returns-clause-stepped c =
     let m = c.self.inside.activities.module_run in
     let w : World = record { activities = c.self.inside.activities.list; clocks = told_of c.self.inside.standings; cells = c.self.inside.cells.items; steps = c.self.inside.steps } in
-    let can = subst (λ (v : CoreValue). is_step (carried v.module_run v.world c.args.a (instruction.Put c.args.s c.args.x)) ≡ true) (sym c.self.view_is) c.requires.enabled in
+    let can = subst (λ (v : StateValue). is_step (carried v.module_run v.world c.args.a (instruction.Put c.args.s c.args.x)) ≡ true) (sym c.self.view_is) c.requires.enabled in
     let r = store_here m w c.args.a (instruction.Put c.args.s c.args.x) c.args.s c.args.x (λ old n. n) event.Put refl can in
-    subst (λ (v : CoreValue). carried v.module_run v.world c.args.a (instruction.Put c.args.s c.args.x) ≡ Stepped c.end_step.new.self.world event.Put) c.self.view_is
+    subst (λ (v : StateValue). carried v.module_run v.world c.args.a (instruction.Put c.args.s c.args.x) ≡ Stepped c.end_step.new.self.world event.Put) c.self.view_is
     (r.goes ∙ ap (λ n. stored w c.args.a (act_at w.activities c.args.a) c.args.s n event.Put) (same_number r.n c.number-n.result (sym r.number ∙ c.number-n.ensures))
     ∙ ap (λ (v : ActivitiesValue). Stepped (settled (record w { activities = v.list; clocks = moved c.args.a none w.clocks; cells = slice_set w.cells c.args.s c.number-n.result })) event.Put)
     (sym c.go_on.ensures)

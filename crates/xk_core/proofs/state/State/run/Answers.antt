@@ -2,7 +2,7 @@ use Rattle.std.proofs.Common.{length, refl, sym, subst, arith}
 use Rattle.xk_activity.specs.Local.{IsSafe, local}
 use Rattle.xk_activity.specs.Joined.{frames_in}
 use Rattle.xk_activity.specs.Activities.{act_at}
-use Rattle.xk_core.specs.Core.{CoreValue}
+use Rattle.xk_core.specs.State.{StateValue, core_of}
 use Rattle.xk_core.specs.Stretch.{HasRoomForSteps}
 use Rattle.xk_standings.specs.Told.{rooms_of}
 use Rattle.xk_core.proofs.Reserving.{kept_by, runs_base}
@@ -10,11 +10,11 @@ use Rattle.xk_core.proofs.state.State.run.Goals as goal
 
 pub run-n-requires-clause-safe : goal.run-n-requires-clause-safe
 run-n-requires-clause-safe c =
-    subst (λ (v : CoreValue). IsSafe local (frames_in v.module_run (act_at v.world.activities c.args.a))) (sym c.self.view_is) c.requires.safe
+    subst (λ (v : StateValue). IsSafe local (frames_in v.module_run (act_at v.world.activities c.args.a))) (sym c.self.view_is) c.requires.safe
 
 pub overflow_add-self : goal.overflow_add-self
 overflow_add-self c =
-    let room = subst (λ (v : CoreValue). HasRoomForSteps v c.args.a) (sym c.self.view_is) c.requires.steps in
+    let room = subst (λ (v : StateValue). HasRoomForSteps (core_of v) c.args.a) (sym c.self.view_is) c.requires.steps in
     let fits = room c.run-n.result c.run-n.ensures.runs.frames c.run-n.ensures.runs.ran in
     omega (arith, fits)
 
