@@ -1,7 +1,7 @@
 -- The slots of a frame as words with marks: what is read, written and put behind others.
-use Rattle.std.proofs.Common.{◌≡◌, ℕ, zero, suc, ◌+◌, ◌<◌, ◌≤◌, ℤ, pos, Bool, true, false, cond, List, [], ◌∷◌, ◌++◌, length, replicate, drop, Some, None, refl, sym, ap, subst, ◌∙◌, arith, slice_get, slice_set}
+use Rattle.std.proofs.Common.{◌≡◌, ℕ, zero, suc, ◌+◌, ◌<◌, ◌≤◌, ℤ, pos, Bool, true, false, cond, List, [], ◌∷◌, ◌++◌, length, replicate, drop, Some, refl, sym, ap, ◌∙◌, arith, slice_get, slice_set}
 use Rattle.std.specs.Prelude.{slice_index_or, int_le, ◌&&◌, ◌-ℤ◌, nat_abs}
-use Rattle.std.proofs.lemmas.List.{append_assoc, append-nil, length-append, length-replicate, get_or-drop}
+use Rattle.std.proofs.lemmas.List.{append_assoc, append-nil, length-append, get_or-drop}
 use Rattle.std.proofs.Math.ListN.{get_or-append}
 use Rattle.std.proofs.lemmas.Option.{none-some, same_Some, slice_get-get_or, slice_get_within, get_or_from_slice_get}
 use Rattle.xk_types.specs.declared.names.Value.{Value}

@@ -1,9 +1,9 @@
 use Rattle.std.specs.Int.{w64}
-use Rattle.std.proofs.Common.{◌≡◌, ◌+◌, ◌<◌, ◌-◌, ◌∷◌, [], ◌++◌, List, drop, take, length, get_or, subst, sym, ap, ◌∙◌, arith}
+use Rattle.std.proofs.Common.{◌∷◌, [], ◌++◌, List, drop, take, get_or, subst, ap, ◌∙◌, arith}
 use Rattle.std.proofs.lemmas.Int.{to_z-of_z}
 use Rattle.std.proofs.lemmas.List.{length-drop}
 use Rattle.xk_types.specs.declared.names.Value.{Value}
-use Rattle.xk_activity.specs.Slots.{AreLaid, value_of, values_of}
+use Rattle.xk_activity.specs.Slots.{AreLaid, values_of}
 use Rattle.xk_activity.specs.Stacked.{values_at}
 use Rattle.xk_activity.proofs.Words.{laid_length, laid_more, word_kept}
 use Rattle.xk_activity.proofs.Handed.{handed_many, one_slot_more}

@@ -1,5 +1,5 @@
 use Rattle.std.specs.Int.{w64}
-use Rattle.std.proofs.Common.{◌≡◌, rules, to_z, of_z, ◌+◌, ◌∷◌, [], ◌++◌, List, take, subst, sym, ap, ◌∙◌, arith}
+use Rattle.std.proofs.Common.{◌≡◌, rules, to_z, of_z, ◌∷◌, [], ◌++◌, List, take, subst, ap, ◌∙◌, arith}
 use Rattle.xk_types.specs.declared.names.Value.{Value}
 use Rattle.xk_activity.specs.Slots.{AreLaid, value_of}
 use Rattle.xk_activity.proofs.Words.{laid_length, laid_more}

@@ -1,4 +1,4 @@
-use Rattle.std.proofs.Common.{◌+◌, sym, ap, ◌∙◌, arith, length, refl}
+use Rattle.std.proofs.Common.{sym, ap, ◌∙◌, arith, length, refl}
 use Rattle.xk_activity.specs.Slots.{is_marked, values_of}
 use Rattle.xk_activity.proofs.Words.{length_by}
 use Rattle.xk_activity.proofs.Handed.{same_more, same_all}

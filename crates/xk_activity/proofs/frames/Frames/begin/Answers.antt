@@ -1,4 +1,4 @@
-use Rattle.std.proofs.Common.{length, ap, ◌∙◌, arith, rules, replicate, pos, ◌++◌, ◌-◌}
+use Rattle.std.proofs.Common.{length, ap, ◌∙◌, arith, rules, replicate, pos, ◌-◌}
 use Rattle.std.specs.Prelude.{reverse}
 use Rattle.std.proofs.lemmas.List.{length-append, length-replicate}
 use Rattle.xk_activity.proofs.Stacking.{own_room, start_stacked, begin_gives, few_slots}

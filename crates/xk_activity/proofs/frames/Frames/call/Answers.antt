@@ -1,4 +1,4 @@
-use Rattle.std.proofs.Common.{arith, ◌≡◌, ◌+◌, ◌-◌, length, drop, replicate, pos, ap, ◌∙◌}
+use Rattle.std.proofs.Common.{arith, ◌≡◌, ◌+◌, ◌-◌, length, drop, pos, ap, ◌∙◌}
 use Rattle.std.proofs.lemmas.List.{length-reverse, length-map, length-append, length-replicate, length-drop}
 use Rattle.xk_activity.specs.Slots.{values_of}
 use Rattle.xk_activity.specs.Stacked.{value_at}

@@ -1,4 +1,4 @@
-use Rattle.std.proofs.Common.{◌≡◌, ℤ, List, ◌∙◌, sym, ap, arith, subst, length}
+use Rattle.std.proofs.Common.{ℤ, List, sym, arith, subst, length}
 use Rattle.std.specs.Prelude.{reverse}
 use Rattle.xk_activity.specs.declared.caller.Caller.{Caller}
 use Rattle.xk_activity.specs.Stacked.{AreBelow}

@@ -1,4 +1,4 @@
-use Rattle.std.proofs.Common.{◌≡◌, ◌<◌, ◌≤◌, ℕ, List, ap, ◌∙◌, sym, length, take, drop, subst, slice_get}
+use Rattle.std.proofs.Common.{◌≡◌, ◌<◌, ◌≤◌, ℕ, ap, ◌∙◌, sym, length, take, drop, subst, slice_get}
 use Rattle.std.proofs.Math.Seq.{take-length}
 use Rattle.xk_activity.specs.Local.{FramesValue}
 use Rattle.xk_activity.specs.Slots.{is_marked, values_of}
