@@ -150,17 +150,14 @@ pub(crate) fn run_flat(
     let mut place = start;
     // A copy, which can lie in a register while the loop runs.
     let mut now = *marks;
-    // Counted down to 0, which costs less than to compare with max.
-    let mut left = max;
-    while left > 0 {
+    for n in 0..max {
         match one(code, place, words, &mut now) {
             Some(next) => place = next,
             None => {
                 *marks = now;
-                return (place, max - left);
+                return (place, n);
             }
         }
-        left -= 1;
     }
     *marks = now;
     (place, max)

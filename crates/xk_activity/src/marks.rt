@@ -27,7 +27,7 @@ impl Marks {
         self.bits >> s & 1 == 1
     }
 
-    /// Whether slot s holds a number is this.
+    /// From now on slot s holds a number, or holds none.
     #[inline(always)]
     pub(crate) fn set(&mut self, s: u16, holds: bool)
         requires { s < 64 }

@@ -24,6 +24,7 @@ pub(crate) fn word_of(v: Value) -> (i64, bool)
 fn unmarked(word: i64) -> Value
     ensures { result ≡ unmarked word }
 {
+    // A clock has a number of 32 bits.
     if 1 <= word && word <= 4_294_967_296 {
         Value::Clock(ClockId((word - 1) as u32))
     } else {
