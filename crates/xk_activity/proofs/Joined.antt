@@ -1,7 +1,7 @@
 -- A local step is the world's step, told of the frames alone.
 use Rattle.std.specs.Option.{option_map_or, option_and_then}
-use Rattle.std.specs.Prelude.{slice_set, int_lt, ◌+ℤ◌, pos}
-use Rattle.std.specs.Int.{w64, int_wrapping_add, int_wrapping_sub, int_wrapping_mul}
+use Rattle.std.specs.Prelude.{slice_set, int_lt, int_le, ◌+ℤ◌, pos}
+use Rattle.std.specs.Int.{w64, int_min, int_wrapping_add, int_wrapping_sub, int_wrapping_mul}
 use Rattle.std.proofs.Common.{◌≡◌, ℕ, zero, suc, ℤ, Bool, true, false, cond, List, [], ◌∷◌, length, ◌+◌, refl, sym, subst, Option, Some, None, slice_get}
 use Rattle.xk_types.specs.declared.names.Value.{Value}
 use Rattle.xk_types.specs.declared.names.Value.TheVariants as value
@@ -11,10 +11,10 @@ use Rattle.xk_types.specs.declared.instr.Instr.{Instr}
 use Rattle.xk_types.specs.declared.instr.Instr.TheVariants as instr
 use Rattle.xk_types.specs.declared.unit.ParamKind.{ParamKind}
 use Rattle.xk_types.specs.declared.unit.ParamKind.TheVariants as param
-use Rattle.xk_types.specs.Code.{UnitValue, ModuleValue, is_method, is_body, compares}
+use Rattle.xk_types.specs.Code.{UnitValue, ModuleValue, Loop, loop_head, is_method, is_body, compares}
 use Rattle.xk_types.specs.World.{Frame, Activity, Clock, World, instruction_at, standing_of}
 use Rattle.xk_types.specs.Step as world
-use Rattle.xk_activity.specs.Local.{Outcome, Beyond, Wrong, Stepped, Turn, FramesValue, in_frame, carried_on, local, local_at, code_of, spot_of, onward, number_in, clock_in, arguments_in, put_in, turning, turned, calling, called, returning}
+use Rattle.xk_activity.specs.Local.{Outcome, Beyond, Wrong, Stepped, Turn, FramesValue, in_frame, carried_on, local, local_at, code_of, spot_of, onward, number_in, clock_in, arguments_in, put_in, writing, no_further, beginning, turning, turned, calling, called, returning}
 use Rattle.xk_activity.specs.Joined.{frames_in, IsSeen, Agrees}
 
 -- ---- steps that others can see
@@ -96,18 +96,30 @@ module _ (m : ModuleValue) (w : World) (a : ℕ) (act : Activity) where
   computing_fits : (f : ℤ → ℤ → ℤ) (d x y : ℕ) → Agrees w a act (in_frame now (number_in (slice_get act.frame.slots x) (λ p. number_in (slice_get act.frame.slots y) (λ q. put_in (slice_get act.frame.slots d) (spot_of act.frame) d (value.Number (f p q)))))) (world.computing w a act f d x y)
   computing_fits f d x y = number_fits (world.slot_at act x) _ _ (λ p. number_fits (world.slot_at act y) _ _ (λ q. writing_fits (world.slot_at act d) d (f p q)))
 
-  turned_fits : (b k : ℕ) (hi n : ℤ) → Fits (turned (spot_of act.frame) b k hi n) (world.done w a (cond (int_lt n hi) (world.again act b k n) (world.onward act)) world.none event.Local)
-  turned_fits b k hi n = go (int_lt n hi)
+  further_fits : (o : Option ℕ) (hi : ℤ) (f : ℤ → Turn) (g : ℤ → world.Outcome) → ((top : ℤ) → Fits (f top) (g top))
+      → Fits (no_further (spot_of act.frame) o hi f) (world.no_further act o hi g)
+  further_fits None hi f g h = h hi
+  further_fits (Some x) hi f g h = number_fits (world.slot_at act x) _ _ (λ n. h (int_min n hi))
+
+  beginning_fits : (k : ℕ) (lo : ℤ) (t : ℕ) (top : ℤ) → Fits (beginning (spot_of act.frame) k lo t top) (world.beginning w a act k lo t top)
+  beginning_fits k lo t top = go (int_le lo top)
+    where
+      go : (c : Bool) → Fits (cond c (writing (spot_of act.frame) k lo) (Stepped (record (spot_of act.frame) { place = t })))
+          (cond c (world.writing act k (value.Number lo) (λ next. world.done w a next world.none event.Local)) (world.done w a (world.going act t) world.none event.Local))
+      go true = writing_fits (world.slot_at act k) k lo
+      go false = refl
+
+  turned_fits : (b k : ℕ) (n top : ℤ) → Fits (turned (spot_of act.frame) b k n top) (world.done w a (cond (int_lt n top) (world.again act b k n) (world.onward act)) world.none event.Local)
+  turned_fits b k n top = go (int_lt n top)
     where
       go : (c : Bool) → Fits (cond c (Stepped (record { place = b + 1; slots = slice_set act.frame.slots k (value.Number (n +ℤ pos 1)) })) (Stepped (onward (spot_of act.frame))))
           (world.done w a (cond c (world.again act b k n) (world.onward act)) world.none event.Local)
       go true = refl
       go false = refl
 
-  turning_fits : (b : ℕ) (o : Option Instr) → Fits (turning (spot_of act.frame) b o) (world.turning w a act b o)
-  turning_fits b (Some (instr.For k lo hi e)) = number_fits (world.slot_at act k) _ _ (λ n. turned_fits b k hi n)
+  turning_fits : (b : ℕ) (o : Option Loop) → Fits (turning (spot_of act.frame) b o) (world.turning w a act b o)
   turning_fits b None = tt
-  turning_fits b (Some _) = tt
+  turning_fits b (Some l) = number_fits (world.slot_at act l.slot) _ _ (λ n. further_fits l.limit l.hi _ _ (λ top. turned_fits b l.slot n top))
 
   branch_fits : (c : Bool) (t : ℕ) → Fits (Stepped (cond c (onward (spot_of act.frame)) (record (spot_of act.frame) { place = t })))
       (world.done w a (cond c (world.onward act) (world.going act t)) world.none event.Local)
@@ -185,9 +197,10 @@ module _ (m : ModuleValue) (w : World) (a : ℕ) (act : Activity) where
       number_fits (world.slot_at act x) _ _ (λ p. number_fits (world.slot_at act y) _ _ (λ q. branch_fits (compares op p q) t))
   carried_agrees (instr.Jump t) = refl
   carried_agrees (instr.For k lo hi e) = writing_fits (world.slot_at act k) k lo
+  carried_agrees (instr.ForTo k lo x hi e) = further_fits (Some x) hi _ _ (λ top. beginning_fits k lo (e + 1) top)
   carried_agrees (instr.Next b) =
-      subst (λ o. Agrees w a act (in_frame now (turning (spot_of act.frame) b o)) (world.carried_out m w a act (instr.Next b))) (sym (same_instruction b))
-      (turning_fits b (instruction_at m (record act.frame { place = b })))
+      subst (λ o. Agrees w a act (in_frame now (turning (spot_of act.frame) b (option_and_then (loop_head b) o))) (world.carried_out m w a act (instr.Next b))) (sym (same_instruction b))
+      (turning_fits b (option_and_then (loop_head b) (instruction_at m (record act.frame { place = b }))))
   carried_agrees (instr.Finish e) = refl
   carried_agrees (instr.EndFinish b) = seen_closing w a act act.opened
   carried_agrees (instr.Get d s) = seen_cell (slice_get w.cells s) _ (λ n. seen_put (world.slot_at act d) act d (value.Number n) _ (λ x. refl))

@@ -1,8 +1,10 @@
 -- What an instruction works on is there, where its step isn't wrong.
 use Rattle.std.proofs.Common.{◌≡◌, ℕ, ℤ, ◌<◌, List, Option, Some, None, slice_get, length, refl}
+use Rattle.std.specs.Option.{option_and_then}
 use Rattle.std.proofs.lemmas.Option.{slice_get_within}
 use Rattle.xk_types.specs.declared.names.Value.{Value}
 use Rattle.xk_types.specs.declared.names.Value.TheVariants as value
+use Rattle.xk_types.specs.Code.{loop_head}
 use Rattle.xk_activity.specs.Local.{OutcomeOf, IsRight, Spot, number_in, put_in, turning}
 use Rattle.xk_types.specs.declared.instr.Instr.{Instr}
 
@@ -26,9 +28,9 @@ slot_there f d v h = by (slice_get f.slots d) refl h
     by (Some x) e h = slice_get_within f.slots d x e
 
 -- where a loop's turn ends, something stands where it begins
-pub begin_there : (code : List Instr) (f : Spot) (b : ℕ) → IsRight (turning f b (slice_get code b)) → b < length code
+pub begin_there : (code : List Instr) (f : Spot) (b : ℕ) → IsRight (turning f b (option_and_then (loop_head b) (slice_get code b))) → b < length code
 begin_there code f b h = by (slice_get code b) refl h
   where
-    by : (o : Option Instr) → slice_get code b ≡ o → IsRight (turning f b o) → b < length code
+    by : (o : Option Instr) → slice_get code b ≡ o → IsRight (turning f b (option_and_then (loop_head b) o)) → b < length code
     by None e h = absurd h
     by (Some i) e h = slice_get_within code b i e

@@ -13,7 +13,7 @@ use Rattle.xk_types.specs.Step as world
 use Rattle.xk_types.specs.Schedule.{Through, Wronged, run, run_on, IsReached}
 use Rattle.xk_types.specs.Accepted.{IsAccepted}
 use Rattle.xk_laws.proofs.Law.{every_schedule}
-use Rattle.xk_laws.proofs.Reached.{same_through, first_step, run_more}
+use Rattle.xk_laws.proofs.Reached.{same_through, first_step, reached_step}
 use Rattle.xk_activity.specs.Local.{Outcome, Beyond, Wrong, Stepped, IsRight, IsSafe, Turn, FramesValue, then_step, ran, in_frame, carried, carried_on, local, local_at, code_of, spot_of, arguments_in, called, calling, returning}
 use Rattle.xk_activity.specs.Stacked.{values_at}
 use Rattle.xk_activity.specs.Joined.{frames_in, with_frames, Agrees}
@@ -88,7 +88,7 @@ module _ (m : ModuleValue) (limits : IsWithinLimits m) (ok : IsAccepted m) (a : 
   Along (Stepped fs) = IsHad fs
 
   never : (v : World) (c : world.Cause) → IsReached m v → world.step m v a ≡ world.Wrong c → ⊥
-  never v c r e = (every_schedule m limits ok).never_wrong (r.0 ++ a ∷ []) v c (run_wrong m r.0 (opening m) v a c r.1 e)
+  never v c r e = (every_schedule m limits ok).never_wrong v.arguments r.1.0 (r.0 ++ a ∷ []) v c (run_wrong m r.0 (opening m v.arguments) v a c r.1.1 e)
 
   read_set : (xs : List Activity) (k : ℕ) (x y : Activity) → slice_get xs k ≡ Some x → slice_get (slice_set xs k y) k ≡ Some y
   read_set [] k x y h = absurd (let g = slice_get_within [] k x h in omega arith)
@@ -111,7 +111,7 @@ module _ (m : ModuleValue) (limits : IsWithinLimits m) (ok : IsAccepted m) (a : 
       go (Stepped gs) (world.Stepped u f) e h s = record {
         v = u;
         x = with_frames x gs;
-        reached = (r.0 ++ a ∷ [], run_more m r.0 (opening m) v u a f r.1 e);
+        reached = reached_step m v u a f r e;
         there = ap (λ (z : World). slice_get z.activities a) (same_world u _ f event.Local h) ∙ read_set v.activities a x (with_frames x gs) there;
         running = running;
         frames = ap (λ (k : ModuleValue). record { module_run = k; frame = gs.frame; callers = gs.callers }) (sym s);

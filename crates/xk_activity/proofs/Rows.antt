@@ -46,13 +46,13 @@ not_for_ten h = elim h.stops as (λ _. ⊥) [ inl e ↦ omega arith | inr e ↦ 
 
 -- main alone accepts it
 abbrev main_alone : ActivitiesValue
-main_alone = record { module_run = doubling; list = main_of doubling ∷ []; room = 1 }
+main_alone = record { module_run = doubling; list = main_of doubling [] ∷ []; room = 1 }
 
 accepted : Fits main_alone two_steps
 accepted = (omega arith, refl)
 
 -- main stands at its `print` then
-main_then : handed_in main_alone two_steps ≡ record { module_run = doubling; list = record (main_of doubling) { frame = two_steps.new.frame } ∷ []; room = 1 }
+main_then : handed_in main_alone two_steps ≡ record { module_run = doubling; list = record (main_of doubling []) { frame = two_steps.new.frame } ∷ []; room = 1 }
 main_then = refl
 
 -- which accepts it no more, nor is there an activity 1

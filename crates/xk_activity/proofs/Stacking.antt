@@ -1,7 +1,7 @@
 -- Frames on one stack: what a write, a call and a return leave.
 use Rattle.std.specs.Prelude.{reverse, nat_eq, slice_set}
 use Rattle.std.specs.Option.{option_map_or, option_and_then}
-use Rattle.std.proofs.Common.{◌≡◌, Bool, false, not, replicate, ℕ, zero, suc, ℤ, pos, ◌+◌, ◌-◌, ◌≤◌, ◌<◌, ◌^◌, List, [], ◌∷◌, ◌++◌, length, take, drop, refl, sym, ap, subst, ◌∙◌, arith, Option, Some, None, slice_get, All}
+use Rattle.std.proofs.Common.{◌≡◌, Bool, not, replicate, ℕ, zero, suc, ℤ, pos, ◌+◌, ◌-◌, ◌≤◌, ◌<◌, ◌^◌, List, [], ◌∷◌, ◌++◌, length, take, drop, refl, sym, ap, subst, ◌∙◌, arith, Option, Some, None, slice_get, All}
 use Rattle.std.proofs.lemmas.Grind.{common_steps}
 use Rattle.std.proofs.lemmas.List.{reverse-append, length-reverse, length-map, length-drop}
 use Rattle.std.proofs.lemmas.Option.{slice_get_within, get_or_from_slice_get}
@@ -15,11 +15,11 @@ use Rattle.xk_types.specs.World.{Frame, slots_of, instruction_at}
 use Rattle.xk_types.specs.Bound.{stack_of, frames_of}
 use Rattle.xk_laws.proofs.Bound.Totals.{chain_own, chain_called, stack_own, stack_called}
 use Rattle.xk_activity.specs.declared.caller.Caller.{Caller}
-use Rattle.xk_activity.specs.Local.{FramesValue, Stepped, code_of, started, begun, called, returning, is_stepped}
+use Rattle.xk_activity.specs.Local.{FramesValue, Stepped, code_of, begun, called, returning, is_stepped}
 use Rattle.xk_activity.specs.declared.marks.Marks.{Marks}
 use Rattle.xk_activity.specs.Slots.{is_marked, values_of, AreLaid}
 use Rattle.xk_activity.specs.Stacked.{waiting, frames_on, AreStacked, IsStacked, AreBelow, with_slot, CanCall, value_at, values_at}
-use Rattle.xk_activity.proofs.Words.{length_by, zeros_ok, laid_filled}
+use Rattle.xk_activity.proofs.Words.{length_by, laid_filled}
 
 -- ---- those who wait see only what lies below
 
@@ -278,15 +278,7 @@ set_gives m a b unit place marks base marked s v old new cs now view h below wri
 
 -- ---- the first frame
 
--- where nothing was written to its slots
-pub start_gives : (m : ModuleValue) (unit : ℕ) (marks : Marks) (old stack : List ℤ) (callers : List Caller) (size : ℕ) → old ≡ [] → stack ≡ old ++ replicate size (pos 0)
-    → size ≡ slots_of m unit → callers ≡ [] → ((s : ℕ) → is_marked marks s ≡ false) → frames_on m unit 0 marks 0 stack (reverse callers) ≡ started m unit
-start_gives m unit marks old stack callers size none e esize alone free =
-    ap (λ cs. frames_on m unit 0 marks 0 stack (reverse cs)) alone
-    ∙ ap (λ xs. frames_on m unit 0 marks 0 xs []) (e ∙ ap (λ xs. xs ++ replicate size (pos 0)) none)
-    ∙ ap (λ vs. record { module_run = m; frame = record { unit = unit; place = 0; slots = vs }; callers = [] }) (zeros_ok marks size free ∙ ap (λ n. replicate n value.Unset) esize)
-
--- where its first slots were given values
+-- its first slots were given values
 pub begin_gives : (m : ModuleValue) (unit : ℕ) (marks : Marks) (old handed stack : List ℤ) (values : List Value) (callers : List Caller) (size : ℕ) → old ≡ []
     → AreLaid old handed marks values → stack ≡ handed ++ replicate (size - length values) (pos 0) → size ≡ slots_of m unit → length values ≤ size → size ≤ 64 → callers ≡ []
     → frames_on m unit 0 marks 0 stack (reverse callers) ≡ begun m unit values

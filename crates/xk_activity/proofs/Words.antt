@@ -102,9 +102,6 @@ zeros_by f (suc k) h =
     ap (λ b. value_of b (pos 0) ∷ values_by (λ s. f (suc s)) (replicate k (pos 0))) (h zero (omega arith))
     ∙ ap (λ vs. value.Unset ∷ vs) (zeros_by (λ s. f (suc s)) k (λ s lt. h (suc s) (omega arith)))
 
-pub zeros_ok : (marks : Marks) (k : ℕ) → ((s : ℕ) → is_marked marks s ≡ false) → values_of marks (replicate k (pos 0)) ≡ replicate k value.Unset
-zeros_ok marks k h = zeros_by (is_marked marks) k (λ s lt. h s)
-
 -- no words so far
 pub laid_none : (old : List ℤ) (marks : Marks) → ((s : ℕ) → is_marked marks s ≡ false) → AreLaid old old marks []
 laid_none old marks h = record { fresh = []; items = sym (append-nil old); hold = refl; above = λ s le lt. h s }

@@ -1,16 +1,16 @@
 -- What an activity does that nobody else can see, told of its frames alone: steps whose event is `Local`, one after the other. The
 -- rules are those of a step of the world (`Rattle.xk_types.specs.Step`); `proofs/Joined.antt` shows that the two agree.
-use Rattle.std.specs.Prelude.{ℕ, zero, suc, ℤ, pos, ◌+ℤ◌, ◌+◌, int_lt, Bool, true, false, List, [], ◌∷◌, slice_get, slice_set, Option, Some, None, if◌then◌else◌}
-use Rattle.std.specs.Option.{option_map_or}
-use Rattle.std.specs.Int.{w64, int_wrapping_add, int_wrapping_sub, int_wrapping_mul}
+use Rattle.std.specs.Prelude.{ℕ, zero, suc, ℤ, pos, ◌+ℤ◌, ◌+◌, int_lt, int_le, Bool, true, false, List, [], ◌∷◌, slice_get, slice_set, Option, Some, None, if◌then◌else◌}
+use Rattle.std.specs.Option.{option_map_or, option_and_then}
+use Rattle.std.specs.Int.{w64, int_min, int_wrapping_add, int_wrapping_sub, int_wrapping_mul}
 use Rattle.xk_types.specs.declared.instr.Instr.{Instr}
 use Rattle.xk_types.specs.declared.instr.Instr.TheVariants as instr
 use Rattle.xk_types.specs.declared.names.Value.{Value}
 use Rattle.xk_types.specs.declared.names.Value.TheVariants as value
 use Rattle.xk_types.specs.declared.unit.ParamKind.{ParamKind}
 use Rattle.xk_types.specs.declared.unit.ParamKind.TheVariants as param
-use Rattle.xk_types.specs.Code.{UnitValue, ModuleValue, is_method, compares}
-use Rattle.xk_types.specs.World.{Frame, frame_with, start_of, instruction_at}
+use Rattle.xk_types.specs.Code.{UnitValue, ModuleValue, Loop, loop_head, is_method, compares}
+use Rattle.xk_types.specs.World.{Frame, frame_with, instruction_at}
 
 -- What a step comes to that may change an X.
 pub data OutcomeOf (X : Type 0) : Type 0 where
@@ -82,14 +82,23 @@ writing f d n = put_in (slice_get f.slots d) f d (value.Number n)
 abbrev pub computing : (ℤ → ℤ → ℤ) → Spot → ℕ → ℕ → ℕ → Turn
 computing op f d x y = number_at f x (λ p. number_at f y (λ q. writing f d (op p q)))
 
--- the loop's slot k has its next number, and the turn begins behind the `for` at place b; or the frame goes on
-abbrev pub turned : Spot → ℕ → ℕ → ℤ → ℤ → Turn
-turned f b k hi n = if int_lt n hi then Stepped (record { place = b + 1; slots = slice_set f.slots k (value.Number (n +ℤ pos 1)) }) else Stepped (onward f)
+-- a bound, and no further than the number in the slot that is named, if one is
+abbrev pub no_further : Spot → Option ℕ → ℤ → (ℤ → Turn) → Turn
+no_further f None hi go = go hi
+no_further f (Some x) hi go = number_at f x (λ n. go (int_min n hi))
 
--- a turn of the loop whose `for` stands at place b ends
-abbrev pub turning : Spot → ℕ → Option Instr → Turn
-turning f b (Some (instr.For k lo hi e)) = number_at f k (turned f b k hi)
-turning f b _ = Wrong
+-- a loop that goes up to `top` has its first turn, or it is passed over, to place t
+abbrev pub beginning : Spot → ℕ → ℤ → ℕ → ℤ → Turn
+beginning f k lo t top = if int_le lo top then writing f k lo else Stepped (record f { place = t })
+
+-- the loop's slot k has its next number, and the turn begins behind the head at place b; or the frame goes on
+abbrev pub turned : Spot → ℕ → ℕ → ℤ → ℤ → Turn
+turned f b k n top = if int_lt n top then Stepped (record { place = b + 1; slots = slice_set f.slots k (value.Number (n +ℤ pos 1)) }) else Stepped (onward f)
+
+-- a turn of the loop whose head stands at place b ends
+abbrev pub turning : Spot → ℕ → Option Loop → Turn
+turning f b None = Wrong
+turning f b (Some l) = number_at f l.slot (λ n. no_further f l.limit l.hi (turned f b l.slot n))
 
 -- an instruction of this code
 abbrev pub carried : List Instr → Spot → Instr → Turn
@@ -101,7 +110,8 @@ carried code f (instr.Mul d x y) = computing (int_wrapping_mul w64) f d x y
 carried code f (instr.Unless op x y t) = number_at f x (λ p. number_at f y (λ q. Stepped (if compares op p q then onward f else record f { place = t })))
 carried code f (instr.Jump t) = Stepped (record f { place = t })
 carried code f (instr.For k lo hi e) = writing f k lo
-carried code f (instr.Next b) = turning f b (slice_get code b)
+carried code f (instr.ForTo k lo x hi e) = no_further f (Some x) hi (beginning f k lo (e + 1))
+carried code f (instr.Next b) = turning f b (option_and_then (loop_head b) (slice_get code b))
 carried code f (instr.Finish e) = Beyond
 carried code f (instr.EndFinish b) = Beyond
 carried code f (instr.Get d s) = Beyond
@@ -200,11 +210,7 @@ local_at fs (Some i) = carried_on fs i
 abbrev pub local : FramesValue → Outcome
 local fs = local_at fs (instruction_at fs.module_run fs.frame)
 
--- the frames of an activity that begins with this unit: its slots are unset
-abbrev pub started : ModuleValue → ℕ → FramesValue
-started m unit = record { module_run = m; frame = start_of m unit; callers = [] }
-
--- and those where its first slots are given these values
+-- the frames of an activity that begins with this unit: its first slots are given these values
 abbrev pub begun : ModuleValue → ℕ → List Value → FramesValue
 begun m unit values = record { module_run = m; frame = frame_with m unit values; callers = [] }
 

@@ -1,11 +1,11 @@
 //! All activities of a running program, but for their finishes.
 
-ghost use Rattle.std.specs.Prelude.{◌≡◌, ℤ, ℕ, ◌<◌, ◌≤◌, [], ◌∷◌, ◌++◌, length, Some, slice_set, All, IfOk, OnOk};
+ghost use Rattle.std.specs.Prelude.{◌≡◌, ℤ, ℕ, ◌<◌, ◌≤◌, [], ◌∷◌, ◌++◌, length, map, Some, slice_set, All, IfOk, OnOk};
 ghost use Rattle.std.specs.Bool.{Decides};
 ghost use Rattle.std.specs.List.{list_all};
 ghost use Rattle.std.specs.Vec.{vec_capacity};
 ghost use Rattle.xk_types.specs.declared.names.Value.TheVariants as value;
-ghost use Rattle.xk_types.specs.World.{instruction_at, slots_of, main_of, is_ended, root};
+ghost use Rattle.xk_types.specs.World.{instruction_at, slots_of, AreArguments, main_of, is_ended, root};
 ghost use Rattle.xk_types.specs.Step.{governing, child, slot_at, onward, with_slots, arrived, ended, past};
 ghost use Rattle.xk_activity.specs.Local.{IsRight, IsSafe, local, is_stepped};
 ghost use Rattle.xk_activity.specs.Joined.{frames_in};
@@ -50,15 +50,32 @@ fn all_over<'m>(list: &[Activity<'m>]) -> bool
     list.iter().all(|act| act.is_ended())
 }
 
+/// Numbers, as what slots hold.
+fn numbers_held(alloc: Global, numbers: &[i64]) -> Result<Vec<Value>, AllocError>
+    ensures { IfOk result (λ v. v.items ≡ map (λ n. value.Number n) numbers.now) }
+{
+    let mut values = Vec::with_capacity(alloc, numbers.len())?;
+    for n in numbers {
+        values.push(Value::Number(*n))?;
+    }
+    Ok(values)
+}
+
 impl<'m> Activities<'m> {
-    /// Main alone, before its first step.
-    pub fn open(alloc: Global, verified: &'m Verified) -> Result<Activities<'m>, AllocError>
+    /// Main alone, before its first step, given these numbers.
+    pub fn open(
+        alloc: Global,
+        verified: &'m Verified,
+        arguments: &[i64],
+    ) -> Result<Activities<'m>, AllocError>
+        requires { AreArguments verified.now arguments.now }
         ensures module { IfOk result (λ s. s.module_run ≡ verified.now) }
-        ensures main { IfOk result (λ s. s.list ≡ main_of verified.now ∷ []) }
+        ensures main { IfOk result (λ s. s.list ≡ main_of verified.now arguments.now ∷ []) }
     {
         let program = verified.module();
         let _main = &program.units()[0];
-        let main = Frames::start(alloc, verified, 0)?;
+        let values = numbers_held(alloc, arguments)?;
+        let main = Frames::begin(alloc, verified, 0, &values)?;
         let mut list = Vec::with_capacity(alloc, 1)?;
         list.push_reserved(Activity::new(main, 0));
         Ok(Activities { verified, list })

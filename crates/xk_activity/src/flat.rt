@@ -1,8 +1,9 @@
 //! Instructions that concern one frame alone.
 
-ghost use Rattle.std.specs.Prelude.{◌≡◌, ◌⊎◌, ◌+◌, ◌<◌, ◌≤◌, ◌^◌, length, not, Some, slice_set};
+ghost use Rattle.std.specs.Prelude.{◌≡◌, ◌⊎◌, ℤ, ◌+◌, ◌<◌, ◌≤◌, ◌^◌, length, not, Some, slice_get, slice_set};
 ghost use Rattle.xk_types.specs.declared.names.Value.TheVariants as value;
-ghost use Rattle.xk_activity.specs.Local.{Beyond, Stepped, carried, turn, turning, ran, spot_at, IsSafe, IsRight};
+ghost use Rattle.xk_types.specs.Code.{loop_head};
+ghost use Rattle.xk_activity.specs.Local.{Beyond, Stepped, number_in, beginning, carried, turn, turned, turning, ran, spot_at, IsSafe, IsRight};
 ghost use Rattle.xk_activity.specs.Arm.{Answers, is_beyond};
 ghost use Rattle.xk_activity.specs.Slots.{values_of};
 
@@ -25,28 +26,63 @@ fn write(words: &mut [i64], marks: &mut Marks, d: u16, n: i64, place: u32) -> u3
     place + 1
 }
 
+/// The loop's slot k has its next number, if that is no more than `top`, and its turn begins behind place b; or the frame goes on. Gives the
+/// next place.
+#[inline(always)]
+fn turn_to(words: &mut [i64], marks: Marks, place: u32, b: u16, k: u16, top: i64) -> u32
+    requires place { place + 1 < 2 ^ 16 }
+    requires number { (n : ℤ) × (slice_get (values_of marks words.old) k
+        ≡ Some (value.Number n)) }
+    ensures turned { number_in (slice_get (values_of marks words.old) k)
+        (λ n. turned (spot_at place (values_of marks words.old)) b k n top)
+        ≡ Stepped (spot_at result (values_of marks words.new)) }
+    ensures length { length words.new ≡ length words.old }
+{
+    let n = number(words, marks, k);
+    if n < top {
+        change(words, marks, k, n + 1);
+        b as u32 + 1
+    } else {
+        place + 1
+    }
+}
+
 /// Ends a turn of the loop that begins at place b with this instruction, and gives the next place.
 #[inline(always)]
-#[tactic(auto, using(crate::proofs::Operands::number_there))]
+#[tactic(auto, using(crate::proofs::Operands::number_there, crate::proofs::Operands::number_goes))]
 fn end_turn(head: &Instr, place: u32, words: &mut [i64], marks: Marks, b: u16) -> u32
     requires place { place + 1 < 2 ^ 16 }
     requires right { IsRight (turning (spot_at place (values_of marks words.old)) b
-        (Some head.now)) }
-    ensures turned { turning (spot_at place (values_of marks words.old)) b (Some head.now)
+        (loop_head b head.now)) }
+    ensures turned { turning (spot_at place (values_of marks words.old)) b (loop_head b head.now)
         ≡ Stepped (spot_at result (values_of marks words.new)) }
     ensures length { length words.new ≡ length words.old }
 {
     match head {
-        Instr::For { k, hi, .. } => {
-            let n = number(words, marks, *k);
-            if n < *hi {
-                change(words, marks, *k, n + 1);
-                b as u32 + 1
-            } else {
-                place + 1
-            }
+        Instr::For { k, hi, .. } => turn_to(words, marks, place, b, *k, *hi),
+        Instr::ForTo { k, x, hi, .. } => {
+            let top = number(words, marks, *x).min(*hi);
+            turn_to(words, marks, place, b, *k, top)
         }
         _ => unreachable!(),
+    }
+}
+
+/// Begins the loop of slot k that goes from lo up to `top`, or passes over it, to the place behind e. Gives the next place.
+#[inline(always)]
+fn begin(words: &mut [i64], marks: &mut Marks, place: u32, k: u16, lo: i64, e: u16, top: i64) -> u32
+    requires place { place + 1 < 2 ^ 16 }
+    requires few { length words.old ≤ 64 }
+    requires right { IsRight (beginning (spot_at place (values_of marks.old words.old)) k lo
+        (e + 1) top) }
+    ensures begun { beginning (spot_at place (values_of marks.old words.old)) k lo (e + 1) top
+        ≡ Stepped (spot_at result (values_of marks.new words.new)) }
+    ensures length { length words.new ≡ length words.old }
+{
+    if lo <= top {
+        write(words, marks, k, lo, place)
+    } else {
+        e as u32 + 1
     }
 }
 
@@ -91,6 +127,10 @@ fn carry(
             if op.holds(number(words, *marks, *a), number(words, *marks, *b)) => { place + 1 }
         Instr::Unless { t, .. } | Instr::Jump(t) => *t as u32,
         Instr::For { k, lo, .. } => write(words, marks, *k, *lo, place),
+        Instr::ForTo { k, lo, x, hi, e } => {
+            let top = number(words, *marks, *x).min(*hi);
+            begin(words, marks, place, *k, *lo, *e, top)
+        }
         Instr::Next(b) => end_turn(&code[*b as usize], place, words, *marks, *b),
         _ => return None,
     };
@@ -110,6 +150,7 @@ pub(crate) fn is_flat(instr: &Instr) -> bool
         | Instr::Unless { .. }
         | Instr::Jump(_)
         | Instr::For { .. }
+        | Instr::ForTo { .. }
         | Instr::Next(_) => true,
         _ => false,
     }

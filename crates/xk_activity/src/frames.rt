@@ -7,7 +7,7 @@ ghost use Rattle.xk_types.specs.declared.instr.Instr.{Instr};
 ghost use Rattle.xk_types.specs.Code.{IsWithinLimits};
 ghost use Rattle.xk_types.specs.Shape.{HasShape};
 ghost use Rattle.xk_types.specs.World.{instruction_at, slots_of};
-ghost use Rattle.xk_activity.specs.Local.{Beyond, Stepped, IsRight, IsSafe, local, ran, turn, code_of, spot_of, spot_at, started, begun, called, returning, is_stepped};
+ghost use Rattle.xk_activity.specs.Local.{Beyond, Stepped, IsRight, IsSafe, local, ran, turn, code_of, spot_of, spot_at, begun, called, returning, is_stepped};
 ghost use Rattle.xk_activity.specs.Arm.{Answers};
 ghost use Rattle.xk_activity.specs.Stacked.{CanCall, Does, values_at, placed, with_slot};
 ghost use Rattle.xk_activity.specs.Slots.{values_of};
@@ -151,27 +151,6 @@ fn size_of(verified: &Verified, unit: u16) -> u16
 }
 
 impl<'m> Frames<'m> {
-    /// One frame of the unit, before its first instruction, with unset slots.
-    pub fn start(alloc: Global, verified: &'m Verified, unit: u16) -> Result<Frames<'m>, AllocError>
-        requires { unit < length verified.now.units }
-        ensures { IfOk result (λ f. f ≡ started verified.now unit) }
-    {
-        let size = size_of(verified, unit);
-        let room = verified.room(unit);
-        let mut stack = empty(alloc, room.slots)?;
-        fill(&mut stack, size as usize);
-        let callers = Vec::with_capacity(alloc, room.frames as usize - 1)?;
-        Ok(Frames {
-            verified,
-            unit,
-            place: 0,
-            marks: Marks::none(),
-            base: 0,
-            stack,
-            callers,
-        })
-    }
-
     /// One frame of the unit, before its first instruction, its first slots given these values.
     pub fn begin(
         alloc: Global,

@@ -1,21 +1,21 @@
 -- How often an instruction is carried out at most, from one place of a unit to the next: what is carried along the code is right.
-use Rattle.std.proofs.Common.{◌≡◌, ℕ, ℤ, zero, suc, ◌+◌, ◌*◌, ◌<◌, ◌≤◌, eqb, min, cond, nat_lt, Bool, true, false, not, ◌&&◌, List, [], ◌∷◌, ◌++◌, length, map, filter, Option, Some, None, slice_get, slice_index, inl, inr, sym, refl, ap, ◌∙◌, subst, arith}
+use Rattle.std.proofs.Common.{◌≡◌, ℕ, ℤ, zero, suc, ◌+◌, ◌*◌, ◌<◌, ◌≤◌, eqb, min, cond, nat_lt, Bool, true, false, not, ◌&&◌, List, [], ◌∷◌, ◌++◌, length, map, filter, Option, Some, None, option_map, slice_get, slice_index, inl, inr, sym, refl, ap, ◌∙◌, subst, arith}
 use Rattle.std.specs.List.{list_any}
 use Rattle.std.specs.Option.{option_map_or}
 use Rattle.std.proofs.Math.Nat.{mul_comm, mul_left_comm}
-use Rattle.std.proofs.lemmas.Option.{same_Some, cond_some, option_and_then_some}
+use Rattle.std.proofs.lemmas.Option.{same_Some, none-some, cond_some, option_and_then_some}
 use Rattle.std.proofs.lemmas.Bool.{and_parts, or_parts, not-false, ltb-true, le-ltb, eqb-true, both_ways, false_from_ne_true, cases_order}
 use Rattle.xk_types.specs.declared.instr.Instr.{Instr}
 use Rattle.xk_types.specs.declared.instr.Instr.TheVariants as instr
 use Rattle.xk_types.specs.Order.{Has}
-use Rattle.xk_types.specs.Code.{UnitValue, Loop, loop_begun, begun_from, loops, is_next_of, is_round, turns}
+use Rattle.xk_types.specs.Code.{UnitValue, Loop, loop_head, loop_begun, begun_from, loops, is_next_of, is_round, turns}
 use Rattle.xk_types.specs.Blocks.{Span, is_end_of, finishes}
 use Rattle.xk_types.specs.Shape.{aims_well, instr_is, is_crossing, span_of, spans, span_begun, span_ended, overlaps}
 use Rattle.xk_types.specs.Bound.{product, visits}
 use Rattle.xk_shape.specs.Blocks.{IsOrderly}
 use Rattle.xk_bounds.specs.Measure.{loop_between, visits_next}
 use Rattle.xk_bounds.proofs.Cuts.{cut_left}
-use Rattle.xk_types.proofs.Shape.Loops.{IsLoop, begins, is_loop}
+use Rattle.xk_types.proofs.Shape.Loops.{IsLoop, head_aims, head_crossing, begins, is_loop}
 use Rattle.xk_types.proofs.Shape.Spans.{not_amiss, of_loop}
 use Rattle.xk_shape.proofs.Nested.{no_rise, decides_inside, inside_same, inside_next}
 
@@ -53,7 +53,7 @@ begun_is : (u : UnitValue) (first : ℕ) (i : Instr) (l : Loop) → slice_get u.
 begun_is u first i l here h =
     let b = begins u first i l h in
     let ends : slice_get u.code l.last ≡ Some (instr.Next l.first) = b.next ∙ ap (λ n. Some (instr.Next n)) (sym b.first) in
-    (b.first, record { begins = ap (slice_get u.code) b.first ∙ here ∙ ap Some b.is; ends = ends })
+    (b.first, record { head = i; begins = ap (slice_get u.code) b.first ∙ here; is = ap (λ n. loop_head n i) b.first ∙ b.is; ends = ends })
 
 -- the list is the unit's code from a place on
 abbrev IsFrom : UnitValue → ℕ → List Instr → Type 0
@@ -83,15 +83,22 @@ module _ (u : UnitValue) where
   -- an instruction that is no `for`, and one that is no `next`
   abbrev begins_none : Instr → Bool
   begins_none (instr.For k lo hi e) = false
+  begins_none (instr.ForTo k lo x hi e) = false
   begins_none _ = true
 
   abbrev ends_none : Instr → Bool
   ends_none (instr.Next b) = false
   ends_none _ = true
 
+  -- the head of a loop begins one, and ends none
+  head_halves : (n : ℕ) (i : Instr) (l : Loop) → loop_head n i ≡ Some l → (begins_none i ≡ false) × (ends_none i ≡ true)
+  head_halves n (instr.For k lo hi e) l h = (refl, refl)
+  head_halves n (instr.ForTo k lo x hi e) l h = (refl, refl)
+  head_halves n _ l h = absurd (none-some l h)
+
   no_begin : (at : ℕ) (i : Instr) (l : Loop) → slice_get u.code at ≡ Some i → begins_none i ≡ true → IsLoop u l → l.first ≡ at → ⊥
   no_begin at i l here none is e =
-      both_ways (begins_none i) (ap begins_none (same_Some _ _ (sym here ∙ ap (slice_get u.code) (sym e) ∙ is.begins))) none
+      both_ways (begins_none i) (ap begins_none (same_Some _ _ (sym here ∙ ap (slice_get u.code) (sym e) ∙ is.begins)) ∙ (head_halves l.first is.head l is.is).0) none
 
   no_end : (at : ℕ) (i : Instr) (l : Loop) → slice_get u.code at ≡ Some i → ends_none i ≡ true → IsLoop u l → l.last ≡ at → ⊥
   no_end at i l here none is e =
@@ -144,18 +151,15 @@ module _ (u : UnitValue) where
         inside_next at (span_of k) (λ eq. omega arith) (no_end at i k here is_for at_k.1))
         (entered (suc n) j is (from_next n x is from) found (omega arith))
 
-  -- behind a `for`, each turn of its loop
-  pub enters : (at k : ℕ) (lo hi : ℤ) (e : ℕ) → IsOrderly u → slice_get u.code at ≡ Some (instr.For k lo hi e) → visits u (suc at) ≡ turns (loop_between lo hi) * visits u at
-  enters at k lo hi e blocks here =
-      let i = instr.For k lo hi e in
-      let loop : Loop = record { first = at; last = e; slot = k; lo = lo; hi = hi } in
-      let some = not_amiss u (span_begun u at i) (sym (ap (instr_is (is_crossing u at)) here) ∙ blocks.blocks at) in
+  -- behind the head of a loop, each turn of it
+  pub enters : (at : ℕ) (i : Instr) (l : Loop) → IsOrderly u → slice_get u.code at ≡ Some i → loop_head at i ≡ Some l → visits u (suc at) ≡ turns l * visits u at
+  enters at i l blocks here head =
+      let some = not_amiss u (option_map span_of (loop_begun u at i)) (sym (head_crossing u at at i l head) ∙ sym (ap (instr_is (is_crossing u at)) here) ∙ blocks.blocks at) in
       let is = of_loop (loop_begun u at i) some.0 some.1 in
-      let both = cond_some (is_next_of at (slice_get u.code e)) loop is.0 is.1 in
-      let begun : loop_begun u at i ≡ Some loop = ap (λ b. cond b (Some loop) None) both.0 in
+      let begun : loop_begun u at i ≡ Some l = is.1 ∙ sym (begins u at i is.0 is.1).is ∙ head in
       let aims = not-false (aims_well u at i) (sym (ap (instr_is (λ x. not (aims_well u at x))) here) ∙ blocks.targets at) in
-      let ahead = ltb-true at e (and_parts (nat_lt at e) (nat_lt e (length u.code)) aims).0 in
-      entered at i loop here refl begun ahead 0 at u.code (λ j. let eq : j ≡ 0 + j = omega arith in ap (slice_get u.code) eq) here (omega arith)
+      let ahead = ltb-true at l.last (and_parts (nat_lt at l.last) (nat_lt l.last (length u.code)) (sym (head_aims u at at i l head) ∙ aims)).0 in
+      entered at i l here (head_halves at i l head).1 begun ahead 0 at u.code (λ j. let eq : j ≡ 0 + j = omega arith in ap (slice_get u.code) eq) here (omega arith)
 
   -- ---- out of a loop
 
@@ -167,12 +171,16 @@ module _ (u : UnitValue) where
     ends : l.last ≡ at
     is : IsLoop u l
 
+  loop_ended : (at first : ℕ) (i : Instr) (s : Span) → slice_get u.code first ≡ Some i → option_map span_of (loop_begun u first i) ≡ Some s → s.last ≡ at → IsEnded at first s
+  loop_ended at first i s here begun ends =
+      let of = of_loop (loop_begun u first i) s begun in
+      let is = begun_is u first i of.0 here of.1 in
+      record { l = of.0; span = of.2; begins = is.0; ends = ap (λ (x : Span). x.last) of.2 ∙ ends; is = is.1 }
+
   begun_ended : (at first : ℕ) (i : Instr) (s : Span) → slice_get u.code at ≡ Some (instr.Next first) → slice_get u.code first ≡ Some i → span_begun u first i ≡ Some s
       → s.last ≡ at → IsEnded at first s
-  begun_ended at first (instr.For k lo hi e) s next here begun ends =
-      let of = of_loop (loop_begun u first (instr.For k lo hi e)) s begun in
-      let is = begun_is u first (instr.For k lo hi e) of.0 here of.1 in
-      record { l = of.0; span = of.2; begins = is.0; ends = ap (λ (x : Span). x.last) of.2 ∙ ends; is = is.1 }
+  begun_ended at first (instr.For k lo hi e) s next here begun ends = loop_ended at first (instr.For k lo hi e) s here begun ends
+  begun_ended at first (instr.ForTo k lo x hi e) s next here begun ends = loop_ended at first (instr.ForTo k lo x hi e) s here begun ends
   begun_ended at first (instr.Finish e) s next here begun ends =
       let both = cond_some (is_end_of first (slice_get u.code e)) (record { first = first; last = e }) s begun in
       let same : e ≡ at = ap (λ (x : Span). x.last) both.1 ∙ ends in
@@ -189,7 +197,9 @@ module _ (u : UnitValue) where
 
   -- of two loops of one `for`, or of one `next`, one is the other
   same_end : (l k : Loop) → IsLoop u l → IsLoop u k → k.first ≡ l.first → k.last ≡ l.last
-  same_end l k is at_k e = let same = same_Some _ _ (sym at_k.begins ∙ ap (slice_get u.code) e ∙ is.begins) in cc
+  same_end l k is at_k e =
+      let same : at_k.head ≡ is.head = same_Some _ _ (sym at_k.begins ∙ ap (slice_get u.code) e ∙ is.begins) in
+      ap (λ x. x.last) (same_Some k l (sym at_k.is ∙ ap (loop_head k.first) same ∙ ap (λ n. loop_head n is.head) e ∙ is.is))
 
   same_begin : (l k : Loop) → IsLoop u l → IsLoop u k → k.last ≡ l.last → k.first ≡ l.first
   same_begin l k is at_k e = let same = same_Some _ _ (sym at_k.ends ∙ ap (slice_get u.code) e ∙ is.ends) in cc
@@ -200,7 +210,7 @@ module _ (u : UnitValue) where
       let parts = or_parts (nat_lt l.first k.first && nat_lt k.first l.last && nat_lt l.last k.last)
       (nat_lt k.first l.first && nat_lt l.first k.last && nat_lt k.last l.last) apart in
       let begins = no_begin l.last (instr.Next l.first) k is.ends refl at_k in
-      let ends = no_end l.first (instr.For l.slot l.lo l.hi l.last) k is.begins refl at_k in
+      let ends = no_end l.first is.head k is.begins (head_halves l.first is.head l is.is).1 at_k in
       let inside = no_rise l.first k.first l.last k.last parts.0 in
       let about = no_rise k.first l.first k.last l.last parts.1 in
       inside_same (suc l.last) l.first (span_of k)
@@ -242,7 +252,11 @@ pub next_measured : (u : UnitValue) (cut at here : ℕ) (before : List ℕ) (i :
 next_measured u cut at here before (instr.For k lo hi e) blocks found is counted =
     ap (λ n. min (n * turns (loop_between lo hi)) cut) is
     ∙ cut_left cut (visits u at) (turns (loop_between lo hi))
-    ∙ ap (λ n. min n cut) (mul_comm (visits u at) (turns (loop_between lo hi)) ∙ sym (enters u at k lo hi e blocks found))
+    ∙ ap (λ n. min n cut) (mul_comm (visits u at) (turns (loop_between lo hi)) ∙ sym (enters u at (instr.For k lo hi e) _ blocks found refl))
+next_measured u cut at here before (instr.ForTo k lo x hi e) blocks found is counted =
+    ap (λ n. min (n * turns (loop_between lo hi)) cut) is
+    ∙ cut_left cut (visits u at) (turns (loop_between lo hi))
+    ∙ ap (λ n. min n cut) (mul_comm (visits u at) (turns (loop_between lo hi)) ∙ sym (enters u at (instr.ForTo k lo x hi e) _ blocks found refl))
 next_measured u cut at here before (instr.Next first) blocks found is counted =
     let out = leaves u at first blocks found in
     counted first out.0 ∙ ap (λ n. min n cut) (sym out.1)

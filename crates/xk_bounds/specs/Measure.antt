@@ -1,5 +1,5 @@
 -- The bounds of a module, as the verifier holds them. This project's own.
-use Rattle.std.specs.Prelude.{◌≡◌, ℕ, ◌+◌, ◌*◌, min, ℤ, List, slice_index}
+use Rattle.std.specs.Prelude.{◌≡◌, ℕ, ◌+◌, ◌*◌, min, ℤ, List, slice_index, None}
 use Rattle.std.specs.Option.{option_map_or}
 use Rattle.xk_types.specs.declared.instr.Instr.{Instr}
 use Rattle.xk_types.specs.declared.instr.Instr.TheVariants as instr
@@ -31,12 +31,13 @@ added_by weight table u = sum_from (added_at weight table u) 0 u.code
 
 -- a loop with these bounds
 abbrev pub loop_between : ℤ → ℤ → Loop
-loop_between lo hi = record { first = 0; last = 0; slot = 0; lo = lo; hi = hi }
+loop_between lo hi = record { first = 0; last = 0; slot = 0; lo = lo; hi = hi; limit = None }
 
 -- How often the next instruction is carried out, cut, where this one is `here` times, and the list says it of those before:
 -- behind a loop as often as its `for`.
 abbrev pub visits_next : ℕ → List ℕ → ℕ → Instr → ℕ
 visits_next cut before here (instr.For k lo hi e) = min (here * turns (loop_between lo hi)) cut
+visits_next cut before here (instr.ForTo k lo x hi e) = min (here * turns (loop_between lo hi)) cut
 visits_next cut before here (instr.Next first) = slice_index before first
 visits_next cut before here _ = here
 

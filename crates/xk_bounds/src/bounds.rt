@@ -140,6 +140,7 @@ fn visits_next(before: &[u64], here: u64, instr: &Instr) -> u64
 {
     match instr {
         Instr::For { lo, hi, .. } => cut_product(here, turns(*lo, *hi)),
+        Instr::ForTo { lo, hi, .. } => cut_product(here, turns(*lo, *hi)),
         Instr::Next(first) => before.get(*first as usize).copied().unwrap_or(0),
         _ => here,
     }

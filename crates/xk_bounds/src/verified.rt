@@ -2,7 +2,7 @@
 
 ghost use Rattle.std.specs.Prelude.{◌≡◌, ◌↔◌, ◌<◌, length, IsTrue, IfOk, IfErr};
 ghost use Rattle.xk_types.specs.declared.rules.Kind.{Kind};
-ghost use Rattle.xk_types.specs.Code.{IsWithinLimits};
+ghost use Rattle.xk_types.specs.Code.{IsWithinLimits, params_of};
 ghost use Rattle.xk_types.specs.Shape.{HasShape};
 ghost use Rattle.xk_types.specs.Bound.{steps_bound, activities_bound, clocks_bound, stack_of, stack_bound, frames_of, room_of, IsWithinBounds};
 ghost use Rattle.xk_types.specs.Accepted.{IsAccepted};
@@ -81,6 +81,15 @@ impl Verified {
         ensures limits { IsWithinLimits self.now }
     {
         self.typed.module()
+    }
+
+    /// How many numbers its main takes.
+    pub fn arguments(&self) -> u32
+        ensures { result ≡ length (params_of self.now 0) }
+    {
+        let program = self.module();
+        let main = &program.units()[0];
+        main.params.len() as u32
     }
 
     /// The kinds that the slot may have before the instruction: those that walks end with there.

@@ -2,7 +2,7 @@
 --
 -- How statements become instructions is this project's own choice. What the statements mean is told in the X10 Language Specification 2.4,
 -- chapters Statements, Activities and Clocks. A name that isn't visible, or a method that doesn't exist, has no code; it gets a 0 here.
-use Rattle.std.specs.Prelude.{ℕ, pos, int_le, nat_eq, ◌+◌, ◌==◌, List, [], ◌∷◌, ◌++◌, map, length, Option, Some, None, unwrap_or, if◌then◌else◌}
+use Rattle.std.specs.Prelude.{ℕ, ℤ, pos, int_le, nat_eq, ◌+◌, ◌==◌, List, [], ◌∷◌, ◌++◌, map, length, Option, Some, None, unwrap_or, if◌then◌else◌}
 use Rattle.std.specs.Option.{option_map_or}
 use Rattle.std.specs.Map.{lookup}
 use Rattle.xk_types.specs.declared.instr.Instr.{Instr}
@@ -10,7 +10,7 @@ use Rattle.xk_types.specs.declared.instr.Instr.TheVariants as instr
 use Rattle.xk_types.specs.declared.instr.Comparison.{Comparison}
 use Rattle.xk_tree.specs.declared.tree.Operator.{Operator}
 use Rattle.xk_tree.specs.declared.tree.Operator.TheVariants as operator
-use Rattle.xk_tree.specs.Tree.{Word, Clocks, Expression, Literal, Named, Paren, Negation, Binary, Source, Make, Value, Statement, Block, Empty, Declare, Assign, Atomic, If, IfElse, For, Async, Finish, Call, Resume, Drop, AdvanceAll, Print, Statements, Done, More}
+use Rattle.xk_tree.specs.Tree.{Word, Clocks, Expression, Literal, Named, Paren, Negation, Binary, Source, Make, Value, Bound, UpTo, Least, top, Statement, Block, Empty, Declare, Assign, Atomic, If, IfElse, For, Async, Finish, Call, Resume, Drop, AdvanceAll, Print, Statements, Done, More}
 use Rattle.xk_names.specs.Scope.{Table, find, texts}
 use Rattle.xk_names.specs.Uses.{clocks_listed}
 
@@ -140,6 +140,28 @@ abbrev pub last_assigned : Setting → Scope → ℕ → Word → Expression →
 last_assigned cx scope t x e (Some s) = instr.Put s (slot_for scope t e)
 last_assigned cx scope t x e None = last_value cx scope t e (number_of scope x)
 
+-- ---- loops
+
+-- how many slots the names of a loop take: its own, and that of its limit right behind it
+abbrev pub loop_slots : Bound → ℕ
+loop_slots (UpTo hi) = 1
+loop_slots (Least x v e hi) = 2
+
+-- what is visible within, where n is the next slot
+abbrev pub within_loop : Scope → ℕ → Word → Bound → Scope
+within_loop scope n i (UpTo hi) = scope ++ (i.text, n) ∷ []
+within_loop scope n i (Least x v e hi) = (scope ++ (i.text, n) ∷ []) ++ (x.text, n + 1) ∷ []
+
+-- what brings the limit into its slot
+abbrev pub before_bound : Scope → ℕ → ℕ → Bound → List Instr
+before_bound scope t n (UpTo hi) = []
+before_bound scope t n (Least x v e hi) = before_into scope t e ++ last_into scope t e (n + 1) ∷ []
+
+-- a loop's head, whose `next` stands at place q
+abbrev pub head_of : ℕ → ℤ → Bound → ℕ → Instr
+head_of n lo (UpTo hi) q = instr.For n lo hi.value q
+head_of n lo (Least x v e hi) q = instr.ForTo n lo (n + 1) hi.value q
+
 -- ---- statements
 
 -- how many slots the names of a statement take, those in the bodies of `async` left out
@@ -149,7 +171,7 @@ abbrev mutual
   count (Declare b x ty r) = 1
   count (If at l op r s) = count s
   count (IfElse at l op r s u) = count s + count u
-  count (For at i lo hi s) = count s + 1
+  count (For at i lo b s) = count s + loop_slots b
   count (Finish s) = count s
   count _ = 0
 
@@ -166,16 +188,17 @@ abbrev pub declared_by_all : Scope → ℕ → Statements → Scope
 declared_by_all scope n Done = scope
 declared_by_all scope n (More s ss) = declared_by_all (declared scope n s) (n + count s) ss
 
--- what stands before the instruction that does a statement, where t is the first temporary
-abbrev pub before : Setting → Scope → ℕ → Statement → List Instr
-before cx scope t (Declare b x ty (Value e)) = before_into scope t e
-before cx scope t (Assign x e) = before_assigned scope t e (find cx.shared x.text)
-before cx scope t (Atomic x y at e) = eval scope t e
-before cx scope t (If at l op r s) = both scope t l r
-before cx scope t (IfElse at l op r s u) = both scope t l r
-before cx scope t (Call f at es) = eval_all scope t es
-before cx scope t (Print at v e) = eval scope t e
-before cx scope t _ = []
+-- what stands before the instruction that does a statement, where t is the first temporary, and n the next slot
+abbrev pub before : Setting → Scope → ℕ → ℕ → Statement → List Instr
+before cx scope t n (Declare b x ty (Value e)) = before_into scope t e
+before cx scope t n (Assign x e) = before_assigned scope t e (find cx.shared x.text)
+before cx scope t n (Atomic x y at e) = eval scope t e
+before cx scope t n (If at l op r s) = both scope t l r
+before cx scope t n (IfElse at l op r s u) = both scope t l r
+before cx scope t n (Call f at es) = eval_all scope t es
+before cx scope t n (Print at v e) = eval scope t e
+before cx scope t n (For at i lo b s) = if int_le lo.value (top b) then before_bound scope t n b else []
+before cx scope t n _ = []
 
 -- the code of a statement: t is the first temporary, n the next slot, and the first instruction stands at place p
 abbrev mutual
@@ -195,9 +218,10 @@ abbrev mutual
       let other = code_of cx t scope (n + count s) (q + 1 + length body + 1) u in
       both scope t l r ++ instr.Unless op (slot_for scope t l) (second scope t l r) (q + 1 + length body + 1)
       ∷ (body ++ instr.Jump (q + 1 + length body + 1 + length other) ∷ other)
-  code_of cx t scope n p (For at i lo hi s) =
-      let body = code_of cx t (scope ++ (i.text, n) ∷ []) (n + 1) (p + 1) s in
-      if int_le lo.value hi.value then instr.For n lo.value hi.value (p + 1 + length body) ∷ (body ++ instr.Next p ∷ []) else []
+  code_of cx t scope n p (For at i lo b s) =
+      let q = p + length (before_bound scope t n b) in
+      let body = code_of cx t (within_loop scope n i b) (n + loop_slots b) (q + 1) s in
+      if int_le lo.value (top b) then before_bound scope t n b ++ head_of n lo.value b (q + 1 + length body) ∷ (body ++ instr.Next q ∷ []) else []
   code_of cx t scope n p (Async at cs s) = instr.Spawn (body_unit cx at) (slots_of scope (body_params cx at cs)) ∷ []
   code_of cx t scope n p (Finish s) =
       let body = code_of cx t scope n (p + 1) s in

@@ -1,8 +1,8 @@
 -- What code needs of names: each that it uses is found, and each that it declares is new. This project's own.
 use Rattle.std.specs.Prelude.{ℕ, ◌+◌, List, [], ◌∷◌, ◌++◌, int_le, Option, Some, None, IsSome, IsNone, length, All, IsTrue, ⊤}
-use Rattle.xk_tree.specs.Tree.{Word, Expression, Literal, Named, Paren, Negation, Binary, Source, Make, Value, Statement, Block, Empty, Declare, Assign, Atomic, If, IfElse, For, Async, Finish, Call, Resume, Drop, AdvanceAll, Print, Statements, Done, More}
+use Rattle.xk_tree.specs.Tree.{Word, Expression, Literal, Named, Paren, Negation, Binary, Source, Make, Value, Bound, UpTo, Least, top, Statement, Block, Empty, Declare, Assign, Atomic, If, IfElse, For, Async, Finish, Call, Resume, Drop, AdvanceAll, Print, Statements, Done, More}
 use Rattle.xk_names.specs.Scope.{Table, find}
-use Rattle.xk_code.specs.CodeOf.{Setting, Scope, body_at, body_params, count, declared, shared_alone}
+use Rattle.xk_code.specs.CodeOf.{Setting, Scope, body_at, body_params, loop_slots, within_loop, count, declared, shared_alone}
 use Rattle.xk_code.specs.Unit.{scope_from}
 
 -- a table has a number for the name
@@ -38,6 +38,16 @@ abbrev pub IsAssignable : Setting → Scope → Word → Expression → Option �
 IsAssignable cx scope x e (Some s) = IsKnown scope e
 IsAssignable cx scope x e None = IsFound scope x.text × IsValueKnown cx scope e
 
+-- so is each name of a loop's bound
+abbrev pub IsBoundKnown : Scope → Bound → Type 0
+IsBoundKnown scope (UpTo hi) = ⊤
+IsBoundKnown scope (Least x v e hi) = IsKnown scope e
+
+-- the names of a loop aren't visible yet; n is the next slot
+abbrev pub IsLoopNew : Scope → ℕ → Word → Bound → Type 0
+IsLoopNew scope n i (UpTo hi) = IsNew scope i.text
+IsLoopNew scope n i (Least x v e hi) = IsNew scope i.text × IsNew (scope ++ (i.text, n) ∷ []) x.text
+
 abbrev mutual
   -- a statement's code needs no more names than there are; n is the next slot
   pub IsCovered : Setting → Scope → ℕ → Statement → Type 0
@@ -49,8 +59,8 @@ abbrev mutual
   IsCovered cx scope n (If at l op r s) = IsKnown scope l × IsKnown scope r × IsCovered cx scope n s
   IsCovered cx scope n (IfElse at l op r s u) =
       IsKnown scope l × IsKnown scope r × IsCovered cx scope n s × IsCovered cx scope (n + count s) u
-  IsCovered cx scope n (For at i lo hi s) =
-      IsTrue (int_le lo.value hi.value) → IsNew scope i.text × IsCovered cx (scope ++ (i.text, n) ∷ []) (n + 1) s
+  IsCovered cx scope n (For at i lo b s) =
+      IsTrue (int_le lo.value (top b)) → IsBoundKnown scope b × IsLoopNew scope n i b × IsCovered cx (within_loop scope n i b) (n + loop_slots b) s
   IsCovered cx scope n (Async at cs s) = IsSome (body_at cx at) × All (IsFound scope) (body_params cx at cs)
   IsCovered cx scope n (Finish s) = IsCovered cx scope n s
   IsCovered cx scope n (Call f at es) = IsFound cx.methods f.text × All (IsKnown scope) es

@@ -1,7 +1,7 @@
 -- What the code of a statement leads to: the methods that it calls, and the bodies of `async` in it. A loop without a turn has no code, and
 -- what stands in it isn't reached. This project's own.
 use Rattle.std.specs.Prelude.{◌≡◌, ℕ, int_le, List, [], ◌∷◌, ◌++◌, Option, Some, is_some, if◌then◌else◌}
-use Rattle.xk_tree.specs.Tree.{Word, Clocks, Statement, Block, If, IfElse, For, Async, Finish, Call, Statements, Done, More, MethodValue, TreeValue}
+use Rattle.xk_tree.specs.Tree.{Word, Clocks, Statement, Block, If, IfElse, For, top, Async, Finish, Call, Statements, Done, More, MethodValue, TreeValue}
 use Rattle.xk_names.specs.Scope.{find, has, Has}
 use Rattle.xk_names.specs.Uses.{Signatures, signatures}
 use Rattle.xk_names.specs.Captures.{captures, shared_texts}
@@ -20,7 +20,7 @@ abbrev mutual
   bodies_in (Block ss) = bodies_in_all ss
   bodies_in (If at l op r s) = bodies_in s
   bodies_in (IfElse at l op r s u) = bodies_in s ++ bodies_in u
-  bodies_in (For at i lo hi s) = if int_le lo.value hi.value then bodies_in s else []
+  bodies_in (For at i lo b s) = if int_le lo.value (top b) then bodies_in s else []
   bodies_in (Async at cs s) = record { at = at; clocks = cs; body = s } ∷ bodies_in s
   bodies_in (Finish s) = bodies_in s
   bodies_in _ = []
@@ -35,7 +35,7 @@ abbrev mutual
   calls_in (Block ss) = calls_in_all ss
   calls_in (If at l op r s) = calls_in s
   calls_in (IfElse at l op r s u) = calls_in s ++ calls_in u
-  calls_in (For at i lo hi s) = if int_le lo.value hi.value then calls_in s else []
+  calls_in (For at i lo b s) = if int_le lo.value (top b) then calls_in s else []
   calls_in (Async at cs s) = calls_in s
   calls_in (Finish s) = calls_in s
   calls_in (Call f at es) = f ∷ []

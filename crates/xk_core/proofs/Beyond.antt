@@ -1,6 +1,8 @@
 -- What a running activity stands at where others can see its next step.
-use Rattle.std.proofs.Common.{◌≡◌, ℕ, ℤ, Bool, true, false, cond, List, [], ◌∷◌, Option, Some, None, refl, sym, ap, ◌∙◌, slice_get}
-use Rattle.std.specs.Prelude.{int_lt}
+use Rattle.std.proofs.Common.{◌≡◌, ℕ, ℤ, ◌+◌, Bool, true, false, cond, List, [], ◌∷◌, Option, Some, None, refl, sym, ap, ◌∙◌, slice_get}
+use Rattle.std.specs.Prelude.{int_lt, int_le}
+use Rattle.std.specs.Int.{int_min}
+use Rattle.std.specs.Option.{option_and_then}
 use Rattle.std.proofs.lemmas.Bool.{false≢true}
 use Rattle.xk_types.specs.declared.instr.Instr.{Instr}
 use Rattle.xk_types.specs.declared.instr.Instr.TheVariants as instr
@@ -8,9 +10,9 @@ use Rattle.xk_types.specs.declared.names.Value.{Value}
 use Rattle.xk_types.specs.declared.names.Value.TheVariants as value
 use Rattle.xk_types.specs.declared.unit.ParamKind.{ParamKind}
 use Rattle.xk_types.specs.declared.unit.ParamKind.TheVariants as param
-use Rattle.xk_types.specs.Code.{UnitValue, is_method, compares}
+use Rattle.xk_types.specs.Code.{UnitValue, Loop, loop_head, is_method, compares}
 use Rattle.xk_types.specs.World.{Frame}
-use Rattle.xk_activity.specs.Local.{OutcomeOf, Beyond, Wrong, Stepped, Spot, Turn, FramesValue, in_frame, put_in, number_in, clock_in, arguments_in, turning, turned, carried_on, code_of, spot_of, onward, called, calling, returning}
+use Rattle.xk_activity.specs.Local.{OutcomeOf, Beyond, Wrong, Stepped, Spot, Turn, FramesValue, in_frame, put_in, number_in, clock_in, arguments_in, no_further, beginning, turning, turned, carried_on, code_of, spot_of, onward, called, calling, returning}
 use Rattle.xk_activity.specs.Arm.{is_more}
 use Rattle.xk_core.specs.Arm.{is_visible}
 
@@ -34,9 +36,17 @@ cond_beyond : {X : Type 0} (b : Bool) (p q : OutcomeOf X) → is_more p ≡ fals
 cond_beyond true p q h g = h
 cond_beyond false p q h g = g
 
-turn_beyond : (f : Spot) (b : ℕ) (o : Option Instr) → is_more (turning f b o) ≡ false
-turn_beyond f b (Some (instr.For k lo hi e)) = number_beyond (slice_get f.slots k) (turned f b k hi) (λ n. cond_beyond (int_lt n hi) _ _ refl refl)
-turn_beyond f b _ = refl
+further_beyond : (f : Spot) (o : Option ℕ) (hi : ℤ) (go : ℤ → Turn) → ((top : ℤ) → is_more (go top) ≡ false) → is_more (no_further f o hi go) ≡ false
+further_beyond f None hi go h = h hi
+further_beyond f (Some x) hi go h = number_beyond (slice_get f.slots x) _ (λ n. h (int_min n hi))
+
+begin_beyond : (f : Spot) (k : ℕ) (lo : ℤ) (t : ℕ) (top : ℤ) → is_more (beginning f k lo t top) ≡ false
+begin_beyond f k lo t top = cond_beyond (int_le lo top) _ _ (put_beyond (slice_get f.slots k) f k _) refl
+
+turn_beyond : (f : Spot) (b : ℕ) (o : Option Loop) → is_more (turning f b o) ≡ false
+turn_beyond f b None = refl
+turn_beyond f b (Some l) = number_beyond (slice_get f.slots l.slot) _
+    (λ n. further_beyond f l.limit l.hi (turned f b l.slot n) (λ top. cond_beyond (int_lt n top) _ _ refl refl))
 
 arguments_beyond : {X : Type 0} (slots : List Value) (ps : List ParamKind) (xs : List ℕ) (go : List Value → OutcomeOf X) → ((vs : List Value) → is_more (go vs) ≡ false)
     → is_more (arguments_in slots ps xs go) ≡ false
@@ -80,7 +90,8 @@ module _ (fs : FramesValue) where
   visible_there (instr.Unless op x y t) e = hidden _ (two (λ p q. Stepped (cond (compares op p q) (onward f) (record f { place = t }))) x y (λ p q. refl)) e false
   visible_there (instr.Jump t) e = hidden (Stepped (record f { place = t })) refl e false
   visible_there (instr.For k lo hi end) e = hidden _ (put_beyond (slice_get f.slots k) f k _) e false
-  visible_there (instr.Next b) e = hidden _ (turn_beyond f b (slice_get (code_of fs.module_run fs.frame.unit) b)) e false
+  visible_there (instr.ForTo k lo x hi end) e = hidden _ (further_beyond f (Some x) hi (beginning f k lo (end + 1)) (begin_beyond f k lo (end + 1))) e false
+  visible_there (instr.Next b) e = hidden _ (turn_beyond f b (option_and_then (loop_head b) (slice_get (code_of fs.module_run fs.frame.unit) b))) e false
   visible_there (instr.Call t args) e = absurd (false≢true (sym (call_beyond fs t args (slice_get fs.module_run.units t)) ∙ ap is_more e))
   visible_there _ e = refl
 

@@ -94,7 +94,7 @@ pub carry_step : (m : ModuleValue) (w : World) (a : ℕ) (i : Instr) → next_in
 carry_step m w a i e = carry_at m w a (slice_get w.activities a) i e
 
 -- a core that has taken no step is in the opening world
-pub core_fresh : (m : ModuleValue) (w : World) → IsCore m w → w.steps ≡ 0 → w ≡ opening m
+pub core_fresh : (m : ModuleValue) (w : World) → IsCore m w → w.steps ≡ 0 → w ≡ opening m w.arguments
 core_fresh m w core h = opening_only m w core.reached h
 
 -- nor more clocks

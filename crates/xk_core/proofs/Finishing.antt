@@ -1,5 +1,5 @@
 -- What holds of a core by its parts: a world without finishes, and the tree that tells of them.
-use Rattle.std.proofs.Common.{◌≡◌, ℕ, zero, suc, ◌+◌, ◌-◌, ◌<◌, ◌≤◌, Bool, true, false, not, ◌&&◌, cond, List, [], ◌∷◌, ◌++◌, length, map, Option, Some, None, Result, Ok, Err, IfOk, OnOk, inl, inr, ◌⊎◌, refl, sym, ap, ◌∙◌, subst, arith, slice_get, slice_set, option_map, length-set}
+use Rattle.std.proofs.Common.{◌≡◌, ℕ, zero, suc, ℤ, ◌+◌, ◌-◌, ◌<◌, ◌≤◌, Bool, true, false, not, ◌&&◌, cond, List, [], ◌∷◌, ◌++◌, length, map, Option, Some, None, Result, Ok, Err, IfOk, OnOk, inl, inr, ◌⊎◌, refl, sym, ap, ◌∙◌, subst, arith, slice_get, slice_set, option_map, length-set}
 use Rattle.std.specs.List.{list_all}
 use Rattle.std.proofs.lemmas.Bool.{false≢true, cases_eq}
 use Rattle.std.proofs.lemmas.Option.{none-some, same_Some, slice_get_within, get_or_from_slice_get}
@@ -13,7 +13,7 @@ use Rattle.xk_types.specs.declared.names.Event.TheVariants as event
 use Rattle.xk_types.specs.Code.{ModuleValue, IsWithinLimits}
 use Rattle.xk_types.specs.Accepted.{IsAccepted}
 use Rattle.xk_types.specs.Bound.{steps_bound, room_of}
-use Rattle.xk_types.specs.World.{Activity, World, base_unit, is_ended, instruction_at, root, main_of, opening}
+use Rattle.xk_types.specs.World.{Activity, World, base_unit, is_ended, instruction_at, root, main_of, opening, AreArguments}
 use Rattle.xk_types.specs.Step.{Outcome, Blocked, Wrong, Stepped, waits, step_by, step_of, step, carried_out, past, done, none, all, passed, onward, moved, settled, left, closing, awaits, innermost, child}
 use Rattle.xk_types.specs.Schedule.{is_step, is_enabled}
 use Rattle.xk_types.proofs.Lists.{get_inside, get-set_same, get-set_other, get_push, get-push_other}
@@ -220,14 +220,14 @@ pass_within w a h = by (slice_get w.activities a) refl h
     by (Some x) e k = slice_get_within w.activities a x e
 
 -- the opening world, and the tree of it
-pub opened : (m k : ModuleValue) (ns : List NodeValue) (w : World) → IsWithinLimits m → IsAccepted m → k ≡ m → w ≡ opening m → ns ≡ fresh_node root (room_of m 0) ∷ []
+pub opened : (m k : ModuleValue) (args : List ℤ) (ns : List NodeValue) (w : World) → IsWithinLimits m → IsAccepted m → AreArguments m args → k ≡ m → w ≡ opening m args → ns ≡ fresh_node root (room_of m 0) ∷ []
     → IsCore k (with_finishes ns w) × AreTold k ns w.activities
-opened m k ns w limits accepted same world nodes = rw (same, world, nodes) (
-  record { limits = limits; accepted = accepted; reached = opening_reached m },
+opened m k args ns w limits accepted taken same world nodes = rw (same, world, nodes) (
+  record { limits = limits; accepted = accepted; reached = opening_reached m args taken },
   record { width = refl; each = told },
 )
   where
-    told : (a : ℕ) (n : NodeValue) (x : Activity) → slice_get (fresh_node root (room_of m 0) ∷ []) a ≡ Some n → slice_get (main_of m ∷ []) a ≡ Some x → IsToldOf m n x
+    told : (a : ℕ) (n : NodeValue) (x : Activity) → slice_get (fresh_node root (room_of m 0) ∷ []) a ≡ Some n → slice_get (main_of m args ∷ []) a ≡ Some x → IsToldOf m n x
     told zero n x p q = subst (λ z. IsToldOf m z x) (same_Some _ n p) (subst (λ z. IsToldOf m (fresh_node root (room_of m 0)) z) (same_Some _ x q) (record { ended = refl; room = refl }))
     told (suc a) n x p q = absurd (none-some n p)
 

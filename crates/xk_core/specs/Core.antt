@@ -1,5 +1,5 @@
 -- A running core, as its clauses see it: a module, and a world that a legal schedule of it reaches.
-use Rattle.std.specs.Prelude.{◌≡◌, ℕ, ◌<◌, ◌==◌, Bool, true, false, not, List, length, filter, Option, Some, None, slice_get, slice_set, option_and_then}
+use Rattle.std.specs.Prelude.{◌≡◌, ℕ, ℤ, ◌<◌, ◌==◌, Bool, true, false, not, List, length, filter, Option, Some, None, slice_get, slice_set, option_and_then}
 use Rattle.std.specs.List.{list_all}
 use Rattle.std.specs.Option.{option_map_or}
 use Rattle.xk_types.specs.declared.instr.Instr.{Instr}
@@ -60,9 +60,9 @@ next_instruction m w a = instruction_of m (slice_get w.activities a)
 abbrev pub IsAboutToGrow : ModuleValue → World → ℕ → Type 0
 IsAboutToGrow m w a = (i : Instr) × (next_instruction m w a ≡ Some i) × (starts i ≡ true)
 
--- the core of a module before its first step
-abbrev pub opening_core : ModuleValue → CoreValue
-opening_core m = record { module_run = m; world = opening m }
+-- the core of a module before its first step, its main given these numbers
+abbrev pub opening_core : ModuleValue → List ℤ → CoreValue
+opening_core m args = record { module_run = m; world = opening m args }
 
 -- the instruction that activity a of a core carries out next, if it runs
 abbrev pub next_of : CoreValue → ℕ → Option Instr

@@ -2,7 +2,7 @@
 
 ghost use Rattle.std.specs.Prelude.{◌≡◌, ◌⊎◌, true, false, ◌+◌, ◌<◌, ◌≤◌, Some, None, length, option_map, option_copied, slice_get, is_some, vec_capacity, IsTrue, IfOk, IfSome, IfNone, OnOk, OnErr};
 ghost use Rattle.std.specs.Bool.{Decides};
-ghost use Rattle.xk_types.specs.World.{opening};
+ghost use Rattle.xk_types.specs.World.{AreArguments, opening};
 ghost use Rattle.xk_types.specs.Step.{Stepped, step, waits};
 ghost use Rattle.xk_types.specs.Schedule.{IsReached, is_enabled, all_ended};
 ghost use Rattle.xk_types.specs.Bound.{steps_bound};
@@ -56,13 +56,18 @@ fn is_end(event: Event) -> bool
 }
 
 impl<'m> Core<'m> {
-    /// The opening world of a module: main alone, before its first step. Err where memory was refused.
-    pub fn open(alloc: Global, verified: &'m Verified) -> Result<Core<'m>, AllocError>
-        ensures { IfOk result (λ c. c ≡ opening_core verified.now) }
+    /// The opening world of a module: main alone, before its first step, given as many numbers as it takes. Err where memory was refused.
+    pub fn open(
+        alloc: Global,
+        verified: &'m Verified,
+        arguments: &[i64],
+    ) -> Result<Core<'m>, AllocError>
+        requires { AreArguments verified.now arguments.now }
+        ensures { IfOk result (λ c. c ≡ opening_core verified.now arguments.now) }
     {
         let program = verified.module();
         let _main = &program.units()[0];
-        let state = State::open(alloc, verified)?;
+        let state = State::open(alloc, verified, arguments)?;
         let finishes = FinishTree::open(alloc, verified.room(0).finishes)?;
         Ok(Core { state, finishes })
     }
@@ -71,9 +76,19 @@ impl<'m> Core<'m> {
     pub fn module(&self) -> &'m Verified
         ensures same { result.now ≡ self.now.module_run }
         // A core that has taken no step is in the opening world.
-        ensures opening { self.now.world.steps ≡ 0 → self.now.world ≡ opening self.now.module_run }
+        ensures opening { self.now.world.steps ≡ 0
+            → self.now.world ≡ opening self.now.module_run self.now.world.arguments }
+        // Its main was given as many numbers as it takes.
+        ensures taken { AreArguments self.now.module_run self.now.world.arguments }
     {
         self.state.verified()
+    }
+
+    /// The numbers that main was given, as `open` was given them.
+    pub fn arguments(&self) -> &[i64]
+        ensures { result.now ≡ self.now.world.arguments }
+    {
+        self.state.arguments()
     }
 
     /// Whether the activity exists and can take a step: it runs, and doesn't wait at an `endfinish` for somebody who hasn't ended; or
@@ -121,7 +136,8 @@ impl<'m> Core<'m> {
     pub fn steps_done(&self) -> u64
         ensures count { result ≡ self.now.world.steps }
         ensures bound { result ≤ steps_bound self.now.module_run }
-        ensures opening { result ≡ 0 → self.now.world ≡ opening self.now.module_run }
+        ensures opening { result ≡ 0
+            → self.now.world ≡ opening self.now.module_run self.now.world.arguments }
         // Every core is where a legal schedule of its module leads.
         ensures reached { IsReached self.now.module_run self.now.world }
     {

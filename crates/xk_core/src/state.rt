@@ -5,7 +5,7 @@ ghost use Rattle.std.specs.Bool.{Decides};
 ghost use Rattle.xk_types.specs.declared.names.Value.TheVariants as value;
 ghost use Rattle.xk_types.specs.declared.instr.Instr.TheVariants as instruction;
 ghost use Rattle.xk_types.specs.Code.{IsWithinLimits};
-ghost use Rattle.xk_types.specs.World.{standing_of, opening};
+ghost use Rattle.xk_types.specs.World.{AreArguments, standing_of, opening};
 ghost use Rattle.xk_types.specs.Step.{Stepped, settled, moved, waits, onward, none};
 ghost use Rattle.xk_types.specs.Schedule.{is_step, all_ended};
 ghost use Rattle.xk_types.specs.Bound.{clocks_bound, stack_of};
@@ -39,6 +39,8 @@ pub struct State<'m> {
     standings: Standings,
     cells: Vec<i64>,
     steps: u64,
+    /// What main was given.
+    arguments: Vec<i64>,
     /// Where the values are listed that are handed to an activity that starts.
     handed: Vec<Value>,
 }
@@ -58,6 +60,7 @@ impl<'m> Model for State<'m> {
         clocks = told_of s.standings;
         cells = s.cells.items;
         steps = s.steps;
+        arguments = s.arguments.items;
       };
       held = s.standings.held;
       room = min s.activities.room s.standings.room;
@@ -112,19 +115,25 @@ fn places(verified: &Verified, slots: u32) -> usize
 }
 
 impl<'m> State<'m> {
-    /// A world with main alone, before its first step.
-    pub fn open(alloc: Global, verified: &'m Verified) -> Result<State<'m>, AllocError>
+    /// A world with main alone, before its first step, given these numbers.
+    pub fn open(
+        alloc: Global,
+        verified: &'m Verified,
+        arguments: &[i64],
+    ) -> Result<State<'m>, AllocError>
+        requires { AreArguments verified.now arguments.now }
         ensures module { IfOk result (λ s. s.module_run ≡ verified.now) }
-        ensures world { IfOk result (λ s. s.world ≡ opening verified.now) }
+        ensures world { IfOk result (λ s. s.world ≡ opening verified.now arguments.now) }
     {
         let program = verified.module();
         let _main = &program.units()[0];
         let places = places(verified, verified.room(0).slots);
         Ok(State {
-            activities: Activities::open(alloc, verified)?,
+            activities: Activities::open(alloc, verified, arguments)?,
             standings: Standings::open(alloc, verified.clocks(), places)?,
             cells: program.shared().to_vec(alloc)?,
             steps: 0,
+            arguments: arguments.to_vec(alloc)?,
             handed: Vec::new(alloc),
         })
     }
@@ -134,6 +143,13 @@ impl<'m> State<'m> {
         ensures { result.now ≡ self.now.module_run }
     {
         self.activities.verified()
+    }
+
+    /// What main was given.
+    pub fn arguments(&self) -> &[i64]
+        ensures { result.now ≡ self.now.world.arguments }
+    {
+        &self.arguments
     }
 
     /// The end of a step of activity a, whose standings change: it is counted, and each clock that is ready advances.

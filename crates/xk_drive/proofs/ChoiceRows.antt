@@ -18,12 +18,12 @@ pair = record {
 }
 
 -- the least enabled one, at each step
-first : Follows {S = ℕ} (λ s list. 0) (λ s list. s) pair 0 (opening pair) (0 ∷ 0 ∷ 0 ∷ 1 ∷ 0 ∷ 0 ∷ 0 ∷ 0 ∷ 1 ∷ 1 ∷ 1 ∷ 1 ∷ [])
+first : Follows {S = ℕ} (λ s list. 0) (λ s list. s) pair 0 (opening pair []) (0 ∷ 0 ∷ 0 ∷ 1 ∷ 0 ∷ 0 ∷ 0 ∷ 0 ∷ 1 ∷ 1 ∷ 1 ∷ 1 ∷ [])
 first = (refl, (refl, (refl, (refl, (refl, (refl, (refl, (refl, (refl, (refl, (refl, (refl, tt))))))))))))
 
 -- whoever answers a great number chooses by what is left of it, counted round the list: here the last of two
-great : Follows {S = ℕ} (λ s list. 4294967295) (λ s list. s) pair 0 (opening pair) (0 ∷ 0 ∷ 1 ∷ 0 ∷ 1 ∷ 1 ∷ 1 ∷ 1 ∷ 0 ∷ 0 ∷ 0 ∷ 0 ∷ [])
+great : Follows {S = ℕ} (λ s list. 4294967295) (λ s list. s) pair 0 (opening pair []) (0 ∷ 0 ∷ 1 ∷ 0 ∷ 1 ∷ 1 ∷ 1 ∷ 1 ∷ 0 ∷ 0 ∷ 0 ∷ 0 ∷ [])
 great = (refl, (refl, (refl, (refl, (refl, (refl, (refl, (refl, (refl, (refl, (refl, (refl, tt))))))))))))
 
-great_prints : printed pair (0 ∷ 0 ∷ 1 ∷ 0 ∷ 1 ∷ 1 ∷ 1 ∷ 1 ∷ 0 ∷ 0 ∷ 0 ∷ 0 ∷ []) (opening pair) ≡ pos 2 ∷ pos 1 ∷ []
+great_prints : printed pair (0 ∷ 0 ∷ 1 ∷ 0 ∷ 1 ∷ 1 ∷ 1 ∷ 1 ∷ 0 ∷ 0 ∷ 0 ∷ 0 ∷ []) (opening pair []) ≡ pos 2 ∷ pos 1 ∷ []
 great_prints = refl

@@ -1,5 +1,5 @@
 -- Who owns the finish that governs an activity that hasn't ended, hasn't ended.
-use Rattle.std.proofs.Common.{◌≡◌, ℕ, zero, suc, ◌+◌, ◌<◌, ◌≤◌, ◌==◌, ◌&&◌, not, Bool, true, false, List, [], ◌∷◌, ◌++◌, length, Some, inl, inr, ◌⊎◌, refl, sym, ap, ◌∙◌, subst, arith, slice_get, slice_set, option_and_then, eqb-true}
+use Rattle.std.proofs.Common.{◌≡◌, ℕ, ℤ, zero, suc, ◌+◌, ◌<◌, ◌≤◌, ◌==◌, ◌&&◌, not, Bool, true, false, List, [], ◌∷◌, ◌++◌, length, Some, inl, inr, ◌⊎◌, refl, sym, ap, ◌∙◌, subst, arith, slice_get, slice_set, option_and_then, eqb-true}
 use Rattle.std.proofs.lemmas.Bool.{false≢true, eqb-false, or_left, or_right, and_from}
 use Rattle.std.proofs.lemmas.Option.{none-some, same_Some}
 use Rattle.xk_types.specs.declared.instr.Instr.TheVariants as instr
@@ -174,11 +174,11 @@ run_open m (b ∷ list) w v core each h =
     run_open m list f.0 v (core_stepped m w f.0 b f.1 core f.2) (subst Opens f.2 (step_open m w core each b)) f.3
 
 -- in the opening world nobody is governed by a finish that somebody owns
-opening_open : (m : ModuleValue) → AreOpen (opening m).activities
-opening_open m zero act found alive o own = absurd (none-some o (ap (λ (x : Activity). x.governed.owner) (same_Some _ act found) ∙ own))
-opening_open m (suc b) act found alive o own = absurd (none-some act found)
+opening_open : (m : ModuleValue) (args : List ℤ) → AreOpen (opening m args).activities
+opening_open m args zero act found alive o own = absurd (none-some o (ap (λ (x : Activity). x.governed.owner) (same_Some _ act found) ∙ own))
+opening_open m args (suc b) act found alive o own = absurd (none-some act found)
 
 -- the finish that governs an activity of a core that hasn't ended is open, and its owner hasn't ended
 pub core_open : (m : ModuleValue) (w : World) → IsCore m w → AreOpen w.activities
-core_open m w core = run_open m core.reached.0 (opening m) w (record { limits = core.limits; accepted = core.accepted; reached = opening_reached m })
-    (opening_open m) core.reached.1
+core_open m w core = run_open m core.reached.0 (opening m w.arguments) w
+    (record { limits = core.limits; accepted = core.accepted; reached = opening_reached m w.arguments core.reached.1.0 }) (opening_open m w.arguments) core.reached.1.1

@@ -80,7 +80,7 @@ pub record IsListed (c : CoreValue) (enabled : SetValue) (waiting : WaitingValue
 pub record IsRunOf (m : ModuleValue) (log : List Entry) (numbers : List ℤ) (c : CoreValue) : Type 0 where
   pub module_is : c.module_run ≡ m
   pub leads : Leads m (schedule_of log) c.world
-  pub prints : numbers ≡ printed m (schedule_of log) (opening m)
+  pub prints : numbers ≡ printed m (schedule_of log) (opening m c.world.arguments)
 
 -- What a turn does to a run and its log: one entry more where it was taken; nothing where all have ended.
 abbrev pub IsNoted : {S : Type 0} → (S → List ℕ → ℕ) → (S → List ℕ → S) → CoreValue → S → List Entry → CoreValue → S → List Entry → Bool → Type 0
@@ -89,18 +89,18 @@ IsNoted answer after c s log d t more true = (a : ℕ) × (e : Event) × IsTurn 
 
 -- the state of a chooser that was in state s at the beginning, and has chosen each step of the log
 abbrev pub state_so_far : {S : Type 0} → (S → List ℕ → S) → S → List Entry → CoreValue → S
-state_so_far after s log c = state_after after c.module_run s (opening c.module_run) (schedule_of log)
+state_so_far after s log c = state_after after c.module_run s (opening c.module_run c.world.arguments) (schedule_of log)
 
--- The log is that of a run from the opening world which followed a chooser that was in state s, and is in state t now: each entry is one step.
-pub record IsChosen {S : Type 0} (answer : S → List ℕ → ℕ) (after : S → List ℕ → S) (m : ModuleValue) (s : S) (log : List Entry) (t : S) : Type 0 where
-  pub follows : Follows answer after m s (opening m) (schedule_of log)
-  pub left : t ≡ state_after after m s (opening m) (schedule_of log)
+-- The log is that of a run from the opening world with these arguments which followed a chooser that was in state s, and is in state t now: each entry is one step.
+pub record IsChosen {S : Type 0} (answer : S → List ℕ → ℕ) (after : S → List ℕ → S) (m : ModuleValue) (args : List ℤ) (s : S) (log : List Entry) (t : S) : Type 0 where
+  pub follows : Follows answer after m s (opening m args) (schedule_of log)
+  pub left : t ≡ state_after after m s (opening m args) (schedule_of log)
   pub single : All (λ e. e.steps ≡ 1) log
 
 -- the same, but that the chooser may have been asked once more, in the world that the log leads to
-pub record IsChosenSoFar {S : Type 0} (answer : S → List ℕ → ℕ) (after : S → List ℕ → S) (m : ModuleValue) (s : S) (log : List Entry) (w : World) (t : S) : Type 0 where
-  pub follows : Follows answer after m s (opening m) (schedule_of log)
-  pub left : (t ≡ state_after after m s (opening m) (schedule_of log)) ⊎ (t ≡ after (state_after after m s (opening m) (schedule_of log)) (enabled_in m w))
+pub record IsChosenSoFar {S : Type 0} (answer : S → List ℕ → ℕ) (after : S → List ℕ → S) (m : ModuleValue) (args : List ℤ) (s : S) (log : List Entry) (w : World) (t : S) : Type 0 where
+  pub follows : Follows answer after m s (opening m args) (schedule_of log)
+  pub left : (t ≡ state_after after m s (opening m args) (schedule_of log)) ⊎ (t ≡ after (state_after after m s (opening m args) (schedule_of log)) (enabled_in m w))
   pub single : All (λ e. e.steps ≡ 1) log
 
 -- What a commit does to a log: one entry more, of so many steps of activity a.

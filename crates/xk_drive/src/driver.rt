@@ -3,7 +3,7 @@
 ghost use Rattle.std.specs.Prelude.{◌≡◌, ℕ, ◌+◌, ◌<◌, ◌≤◌, true, false, [], Some, None, length, replicate, slice_get, IfOk, IfErr, IfSome, OnOk, OnErr, IsTrue};
 ghost use Rattle.std.specs.Vec.{vec_capacity};
 ghost use Rattle.xk_types.specs.declared.names.Event.TheVariants as event;
-ghost use Rattle.xk_types.specs.World.{opening};
+ghost use Rattle.xk_types.specs.World.{AreArguments, opening};
 ghost use Rattle.xk_types.specs.Step.{step, waits};
 ghost use Rattle.xk_types.specs.Schedule.{is_enabled, all_ended};
 ghost use Rattle.xk_types.specs.Bound.{steps_bound, activities_bound, clocks_bound};
@@ -369,7 +369,9 @@ impl<'m> Driver<'m> {
     pub fn new(alloc: Global, start: Core<'m>) -> Result<Driver<'m>, Core<'m>>
         ensures same { IfOk result (λ d. d ≡ start.entry) }
         // A core that has taken no step is in the opening world.
-        ensures opening { IfOk result (λ d. d.world.steps ≡ 0 → d.world ≡ opening d.module_run) }
+        ensures opening { IfOk result (λ d. d.world.steps ≡ 0
+            → d.world ≡ opening d.module_run d.world.arguments) }
+        ensures taken { IfOk result (λ d. AreArguments d.module_run d.world.arguments) }
         ensures back { IfErr result (λ c. c ≡ start.entry) }
     {
         let clocks = most_clocks_of(&start);

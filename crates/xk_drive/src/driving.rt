@@ -36,13 +36,18 @@ pub fn drive<'m, C: Chooser>(
 ) -> Result<Ended<'m>, Partial<'m>>
     requires { start.world.steps ≡ 0 }
     ensures chosen { IfOk result (λ e.
-        IsChosen C.answer C.after start.entry.module_run chooser.old e.log.items chooser.new) }
+        IsChosen C.answer C.after start.entry.module_run start.entry.world.arguments chooser.old
+        e.log.items chooser.new) }
     ensures same_module { IfOk result (λ e. e.module.now ≡ start.entry.module_run) }
+    ensures same_arguments { IfOk result (λ e.
+        e.core.world.arguments ≡ start.entry.world.arguments) }
     ensures bound { IfOk result (λ e. e.core.world.steps ≤ steps_bound start.entry.module_run) }
     ensures partial_chosen { IfErr result (λ p.
-        IsChosenSoFar C.answer C.after start.entry.module_run chooser.old
-        p.log.items p.core.world chooser.new) }
+        IsChosenSoFar C.answer C.after start.entry.module_run start.entry.world.arguments
+        chooser.old p.log.items p.core.world chooser.new) }
     ensures partial_same_module { IfErr result (λ p. p.module.now ≡ start.entry.module_run) }
+    ensures partial_same_arguments { IfErr result (λ p.
+        p.core.world.arguments ≡ start.entry.world.arguments) }
     // Somebody could still take a step.
     ensures partial_goes_on { IfErr result (λ p. all_ended p.core.world ≡ false) }
     // The log has no room left, or the numbers have none, or the step of whom the chooser names next wants memory.

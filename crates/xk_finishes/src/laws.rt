@@ -1,6 +1,6 @@
 //! The tree and the steps of a world.
 
-ghost use Rattle.std.specs.Prelude.{◌≡◌, ℕ, suc, List, [], ◌∷◌, ◌++◌, Some, slice_get, slice_set};
+ghost use Rattle.std.specs.Prelude.{◌≡◌, ℕ, ℤ, suc, List, [], ◌∷◌, ◌++◌, Some, slice_get, slice_set};
 ghost use Rattle.xk_types.specs.declared.names.Value.{Value};
 ghost use Rattle.xk_types.specs.Code.{ModuleValue};
 ghost use Rattle.xk_types.specs.World.{Activity, Finish, root, main_of, is_ended};
@@ -14,7 +14,7 @@ pub fn goes_with_steps()
     ensures awaited { (acts : List Activity) (nodes : List NodeValue) → AreNodesOf acts nodes
         → (f : Finish) → awaits nodes f ≡ step.awaits acts f }
     ensures opened { (m : ModuleValue) (room : ℕ)
-        → AreNodesOf (main_of m ∷ []) (fresh_node root room ∷ []) }
+        → (args : List ℤ) → AreNodesOf (main_of m args ∷ []) (fresh_node root room ∷ []) }
     ensures entered { (acts : List Activity) (nodes : List NodeValue) → AreNodesOf acts nodes
         → (a : ℕ) (act : Activity) → slice_get acts a ≡ Some act
         → AreNodesOf (slice_set acts a (step.entered act)) (changed_at nodes a node_entered) }

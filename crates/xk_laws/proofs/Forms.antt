@@ -1,8 +1,8 @@
 -- What a step can come to: it is blocked, it is wrong, or it has one of the forms below, each with what it does to the activity that takes
 -- it. What holds of these holds of each step, and of steps side by side. No other lemma need walk over the instructions for that.
 use Rattle.std.proofs.Common.{◌≡◌, ℕ, suc, zero, ◌+◌, ◌≤◌, ◌==◌, ℤ, pos, ◌+ℤ◌, int_lt, Bool, true, false, true≢false, cond, List, [], ◌∷◌, length, set, ◌⊎◌, inl, inr, Some, None, Option, refl, sym, ap, ◌∙◌, arith}
-use Rattle.std.specs.Prelude.{slice_get}
-use Rattle.std.specs.Int.{w64, int_wrapping_add, int_wrapping_sub, int_wrapping_mul}
+use Rattle.std.specs.Prelude.{slice_get, option_and_then, int_le}
+use Rattle.std.specs.Int.{w64, int_min, int_wrapping_add, int_wrapping_sub, int_wrapping_mul}
 use Rattle.std.specs.Option.{option_map_or}
 use Rattle.std.proofs.lemmas.Bool.{false≢true}
 use Rattle.xk_types.specs.declared.instr.Instr.{Instr}
@@ -17,9 +17,9 @@ use Rattle.xk_types.specs.declared.names.Event.{Event}
 use Rattle.xk_types.specs.declared.names.Event.TheVariants as event
 use Rattle.xk_types.specs.declared.unit.ParamKind.{ParamKind}
 use Rattle.xk_types.specs.declared.unit.ParamKind.TheVariants as param
-use Rattle.xk_types.specs.Code.{UnitValue, ModuleValue, compares, is_method, is_body}
+use Rattle.xk_types.specs.Code.{UnitValue, ModuleValue, compares, is_method, is_body, Loop, loop_head}
 use Rattle.xk_types.specs.World.{Frame, Finish, Activity, Clock, World, standing_of, instruction_at, is_ended}
-use Rattle.xk_types.specs.Step.{Cause, Outcome, Blocked, Wrong, ClockUse, OutOfRange, is_registered, number_in, clock_in, registered_on, put_in, slot_at, arguments_in, computing, turning, again, spawned, spawning, carried_out, run_at, done, made, waits, passing, past, passed, step_by, step_of, step, called, calling, back_in, returning, none, only, all, resumed, dropped, awaits, innermost, onward, going, with_slots, entered, left, ended, arrived, closing, cell_in, stored}
+use Rattle.xk_types.specs.Step.{Cause, Outcome, Blocked, Wrong, ClockUse, OutOfRange, is_registered, number_in, clock_in, registered_on, put_in, slot_at, arguments_in, computing, no_further, turning, again, spawned, spawning, carried_out, run_at, done, made, waits, passing, past, passed, step_by, step_of, step, called, calling, back_in, returning, none, only, all, resumed, dropped, awaits, innermost, onward, going, with_slots, entered, left, ended, arrived, closing, cell_in, stored}
 use Rattle.xk_types.specs.Schedule.{is_local}
 use Rattle.xk_types.specs.Shape.{target}
 use Rattle.xk_types.proofs.Lists.{each_set}
@@ -160,6 +160,11 @@ module _ (P : (Finishes → Outcome) → Type 0) (wrong : (c : Cause) → P (λ 
   number_form (Some (value.Number n)) go h = h n refl
   number_form (Some (value.Clock c)) go h = wrong _
 
+  -- where a loop goes no further up than a number
+  limit_form : (o : Option ℕ) (hi : ℤ) (go : Finishes → ℤ → Outcome) → ((n : ℤ) → P (λ z. go z n)) → P (λ z. no_further (act_with act z) o hi (go z))
+  limit_form None hi go h = h hi
+  limit_form (Some x) hi go h = number_form (slot_at act x) (λ z n. go z (int_min n hi)) (λ n is. h (int_min n hi))
+
   -- where a registration is wanted
   registered_form : (o : Option Clock) (go : Finishes → Outcome) → (is_held (kind_by (option_map_or (λ c. standing_of c a) o standing.Apart)) ≡ true → P go)
       → P (λ z. registered_on o a (go z))
@@ -265,10 +270,17 @@ module _ (P : (Finishes → Outcome) → Type 0) (Next : Instr → Type 0) (m : 
       none event.Local unseen
   turn_form b k n at is false = next_form (instr.Next b) at refl none event.Local unseen
 
-  turning_form : (b : ℕ) → Next (instr.Next b) → (o : Option Instr) → P (λ z. turning (world_with w z) a (act_with act z) b o)
-  turning_form b at (Some (instr.For k lo hi e)) = number_form P wrong w a act (slot_at act k) _ (λ n is. turn_form b k n at is (int_lt n hi))
+  turning_form : (b : ℕ) → Next (instr.Next b) → (o : Option Loop) → P (λ z. turning (world_with w z) a (act_with act z) b o)
   turning_form b at None = wrong _
-  turning_form b at (Some _) = wrong _
+  turning_form b at (Some l) = number_form P wrong w a act (slot_at act l.slot) _
+      (λ n is. limit_form P wrong w a act l.limit l.hi _ (λ top. turn_form b l.slot n at is (int_lt n top)))
+
+  -- where a loop begins, or is passed over
+  begin_form : (k : ℕ) (lo : ℤ) (x : ℕ) (hi : ℤ) (e : ℕ) → Next (instr.ForTo k lo x hi e) → (b : Bool)
+      → P (λ z. cond b (put_in (slot_at act k) (act_with act z) k (value.Number lo) (λ next. done (world_with w z) a next none event.Local))
+      (done (world_with w z) a (going (act_with act z) (e + 1)) none event.Local))
+  begin_form k lo x hi e at true = write_form (instr.ForTo k lo x hi e) at refl event.Local unseen k lo
+  begin_form k lo x hi e at false = aim_form (instr.ForTo k lo x hi e) at refl (e + 1) refl
 
   -- where a method is called
   calling_form : (t : ℕ) (args : List ℕ) → Next (instr.Call t args) → (o : Option UnitValue) → slice_get m.units t ≡ o
@@ -297,7 +309,8 @@ module _ (P : (Finishes → Outcome) → Type 0) (Next : Instr → Type 0) (m : 
       (λ p e. number_form P wrong w a act (slot_at act y) _ (λ q g. branch_form (instr.Unless op x y t) at refl t refl (compares op p q)))
   instruction_form (instr.Jump t) at = aim_form (instr.Jump t) at refl t refl
   instruction_form (instr.For k lo hi e) at = write_form (instr.For k lo hi e) at refl event.Local unseen k lo
-  instruction_form (instr.Next b) at = turning_form b at (instruction_at m (record act.frame { place = b }))
+  instruction_form (instr.ForTo k lo x hi e) at = limit_form P wrong w a act (Some x) hi _ (λ top. begin_form k lo x hi e at (int_le lo top))
+  instruction_form (instr.Next b) at = turning_form b at (option_and_then (loop_head b) (instruction_at m (record act.frame { place = b })))
   instruction_form (instr.Get d s) at = cell_form P wrong w a act (slice_get w.cells s) _
       (λ n. write_form (instr.Get d s) at refl event.Got (unmoved event.Got refl refl) d n)
   instruction_form (instr.Put s x) at = cell_put (instr.Put s x) at refl x s (λ old n. n) event.Put (unmoved event.Put refl refl)

@@ -19,8 +19,8 @@ sound_stack m shape look clocks now act s = omega (arith, s.frame.slots, stack_o
 -- the law over every schedule
 pub every_schedule : (m : ModuleValue) → IsWithinLimits m → IsAccepted m → EverySchedule m
 every_schedule m limits ok = record {
-  never_wrong = λ list w c h. run_right m ok list (opening m) w c (opening_whole m limits ok) h;
-  steps = λ list w h. (let n = run_counts m list (opening m) w h in let room = (reached_room m limits ok w (list, h)).steps in omega arith);
+  never_wrong = λ args taken list w c h. run_right m ok list (opening m args) w c (opening_whole m limits ok args taken) h;
+  steps = λ list w h. (let n = run_counts m list (opening m w.arguments) w h.1 in let room = (reached_room m limits ok w (list, h)).steps in omega arith);
   activities = λ list w h. (reached_room m limits ok w (list, h)).activities;
   clocks = λ list w h. (reached_room m limits ok w (list, h)).clocks;
   stack = λ list w h k d inside.

@@ -1,5 +1,5 @@
 -- The opening world keeps the invariants.
-use Rattle.std.proofs.Common.{◌≡◌, ℕ, zero, suc, true, not, ◌==◌, [], ◌∷◌, length, replicate, Some, refl, sym, ap, ◌∙◌, subst, arith, inl, eqb-true}
+use Rattle.std.proofs.Common.{◌≡◌, ℕ, ℤ, zero, suc, true, false, not, ◌==◌, List, [], ◌∷◌, length, map, replicate, Some, refl, sym, ap, ◌∙◌, subst, arith, inl, inr, eqb-true}
 use Rattle.std.specs.Prelude.{slice_get}
 use Rattle.std.specs.Option.{option_map_or}
 use Rattle.std.proofs.lemmas.Bool.{false≢true, not-false, and_parts, or_parts}
@@ -12,20 +12,29 @@ use Rattle.xk_types.specs.declared.names.Value.TheVariants as value
 use Rattle.xk_types.specs.declared.names.Status.TheVariants as status
 use Rattle.xk_types.specs.declared.rules.Rule.TheVariants as rule
 use Rattle.xk_types.specs.declared.rules.Kind.TheVariants as kind
-use Rattle.xk_types.specs.Code.{UnitValue, ModuleValue, IsWithinLimits, is_main}
+use Rattle.xk_types.specs.Code.{UnitValue, ModuleValue, IsWithinLimits, is_main, params_of, clock_arguments}
 use Rattle.xk_types.specs.Order.{Has}
-use Rattle.xk_types.specs.World.{opening, main_of, slots_of}
-use Rattle.xk_types.specs.Shape.{instr_is, is_in_place, runs_amiss, HasShape}
+use Rattle.xk_types.specs.World.{opening, main_of, start_of, slots_of, AreArguments}
+use Rattle.xk_types.specs.Shape.{instr_is, is_in_place, runs_amiss, has_twice, HasShape}
 use Rattle.xk_types.specs.Walk.{entry_kinds, entry_of}
 use Rattle.xk_types.specs.Bound.{steps_weight, activities_weight, clocks_weight, total}
 use Rattle.xk_types.specs.Accepted.{IsAccepted}
-use Rattle.xk_laws.proofs.Invariant.{Each, Expects, IsActivitySound, IsSound, looks, kind_of, owed, owing}
+use Rattle.xk_laws.proofs.Invariant.{Each, IsFrameSound, IsActivitySound, IsSound, stands_on, looks, owed, owing}
+use Rattle.xk_laws.proofs.NeverWrong.Given.{IsGivenTo, AreGiven, Begun, frame_begun}
+use Rattle.xk_types.specs.declared.unit.ParamKind.{ParamKind}
+use Rattle.xk_types.specs.declared.unit.ParamKind.TheVariants as param
+use Rattle.xk_types.specs.declared.names.Standing.{Standing}
+use Rattle.xk_types.proofs.Members.{none_has}
+use Rattle.std.specs.List.{list_any}
+use Rattle.std.proofs.lemmas.List.{length-map}
+use Rattle.std.proofs.lemmas.Option.{slice_get_within}
+use Rattle.std.proofs.lemmas.Bool.{not-true}
 use Rattle.xk_types.proofs.Lists.{get_inside, get-replicate}
 use Rattle.xk_laws.proofs.Bound.Measure.{owed_first}
 use Rattle.xk_laws.proofs.Bound.Totals.{stack_within_bound}
 use Rattle.xk_types.proofs.Walks.{visited_entry}
 use Rattle.xk_laws.proofs.Shape.Units.{unit_fits, unbroken}
-use Rattle.xk_types.specs.Blocks.{depth_at}
+use Rattle.xk_types.specs.Blocks.{depth_at, takes_clock}
 use Rattle.xk_laws.proofs.Shape.Blocks.{block_start}
 use Rattle.xk_laws.proofs.Scopes.Invariant.{opened_in, IsScopedIn, IsScoped}
 
@@ -34,33 +43,60 @@ each_one : {X : Type 0} (P : ℕ → X → Type 0) (x : X) → P 0 x → Each P 
 each_one P x h zero y e = subst (P zero) (same_Some x y e) h
 each_one P x h (suc i) y e = absurd (none-some y e)
 
--- main has no parameters
-main_entry : (m : ModuleValue) → HasShape m → (u : UnitValue) → slice_get m.units 0 ≡ Some u → (s : ℕ) → Has (entry_kinds u s) kind.Unset
-main_entry m shape u found s =
-    subst (λ list. Has (entry_of (slice_get list s)) kind.Unset)
-    (sym (nil_from_length u.params (eqb-true (length u.params) 0 (and_parts (is_main u.kind) (length u.params == 0) in_place).1))) (inl refl)
+-- an element at a place is one
+get_has : {X : Type 0} (xs : List X) (s : ℕ) (x : X) → slice_get xs s ≡ Some x → Has xs x
+get_has [] s x h = absurd (none-some x h)
+get_has (y ∷ ys) zero x h = inl (same_Some y x h)
+get_has (y ∷ ys) (suc s) x h = inr (get_has ys s x h)
+
+-- a parameter that takes no clock takes a number
+takes_number : (p : ParamKind) → takes_clock (Some p) ≡ false → p ≡ param.Number
+takes_number param.Number h = refl
+takes_number param.Clock h = absurd (false≢true (sym h))
+
+-- numbers are given to parameters that take no clock
+numbers_given : (stands : ℕ → Standing) (slots : List Value) (ps : List ParamKind) (args : List ℤ) → length args ≡ length ps → list_any (λ p. takes_clock (Some p)) ps ≡ false
+    → AreGiven stands slots ps [] (map (λ n. value.Number n) args)
+numbers_given stands slots ps args width none = record {
+  width = length-map args (λ n. value.Number n) ∙ width;
+  each = λ s v h. number s v (any_mapped args s v h) (get_inside ps s (let g = slice_get_within (map (λ n. value.Number n) args) s v h in omega (arith, length-map args (λ n. value.Number n))));
+}
+  where
+    any_mapped : (ns : List ℤ) (s : ℕ) (v : Value) → slice_get (map (λ n. value.Number n) ns) s ≡ Some v → (n : ℤ) × (value.Number n ≡ v)
+    any_mapped [] s v h = absurd (none-some v h)
+    any_mapped (n ∷ ns) zero v h = (n, same_Some (value.Number n) v h)
+    any_mapped (n ∷ ns) (suc s) v h = any_mapped ns s v h
+
+    number : (s : ℕ) (v : Value) → (n : ℤ) × (value.Number n ≡ v) → (p : ParamKind) × (slice_get ps s ≡ Some p) → IsGivenTo stands slots (slice_get ps s) (slice_get [] s) v
+    number s v n p = subst (IsGivenTo stands slots (slice_get ps s) (slice_get [] s)) n.1
+        (p.1 ∙ ap (λ x. Some x) (takes_number p.0 (none_has (λ q. takes_clock (Some q)) ps p.0 none (get_has ps s p.0 p.1))))
+
+-- main takes numbers alone
+main_takes : (m : ModuleValue) → HasShape m → (u : UnitValue) → slice_get m.units 0 ≡ Some u → list_any (λ p. takes_clock (Some p)) u.params ≡ false
+main_takes m shape u found = not-true (list_any (λ p. takes_clock (Some p)) u.params)
+    (and_parts (is_main u.kind) (not (list_any (λ p. takes_clock (Some p)) u.params)) in_place).1
   where
     in_place : is_in_place 0 u ≡ true
     in_place = not-false (is_in_place 0 u) (or_parts (not (is_in_place 0 u)) (instr_is (runs_amiss m 0) (slice_get u.code 0)) (unbroken m shape rule.Unit 0 u found 0)).0
 
 -- main owes all that its unit weighs
 owing_main : (weight : Instr → ℕ) (half : ℕ) (m : ModuleValue) → HasShape m → (u : UnitValue) → slice_get m.units 0 ≡ Some u
-    → owing weight half m (main_of m ∷ []) ≡ total weight m 0
-owing_main weight half m shape u found =
-    let h = sum_by-cons (owed weight half m) (main_of m) [] in
-    let g = owed_first weight half m shape (main_of m) u found refl refl refl in
+    → (args : List ℤ) → owing weight half m (main_of m args ∷ []) ≡ total weight m 0
+owing_main weight half m shape u found args =
+    let h = sum_by-cons (owed weight half m) (main_of m args) [] in
+    let g = owed_first weight half m shape (main_of m args) u found refl refl refl in
     omega arith
 
 -- the opening world of an accepted module is sound
-pub opening_sound : (m : ModuleValue) → IsWithinLimits m → IsAccepted m → IsSound m (opening m)
-opening_sound m limits ok = record {
+pub opening_sound : (m : ModuleValue) → IsWithinLimits m → IsAccepted m → (args : List ℤ) → AreArguments m args → IsSound m (opening m args)
+opening_sound m limits ok args taken = record {
   limits = limits;
-  activities = each_one (λ a act. IsActivitySound m (looks [] a) 0 0 act) (main_of m) main;
+  activities = each_one (λ a act. IsActivitySound m (looks [] a) 0 0 act) (main_of m args) main;
   clocks = λ k c h. absurd (none-some c h);
   cells = refl;
-  steps = let h = owing_main steps_weight 1 m ok.shape first.0 first.1 in omega arith;
-  started = let h = owing_main activities_weight 0 m ok.shape first.0 first.1 in omega arith;
-  made = let h = owing_main clocks_weight 0 m ok.shape first.0 first.1 in omega arith;
+  steps = let h = owing_main steps_weight 1 m ok.shape first.0 first.1 args in omega arith;
+  started = let h = owing_main activities_weight 0 m ok.shape first.0 first.1 args in omega arith;
+  made = let h = owing_main clocks_weight 0 m ok.shape first.0 first.1 args in omega arith;
 }
   where
     first : (u : UnitValue) × (slice_get m.units 0 ≡ Some u)
@@ -69,19 +105,38 @@ opening_sound m limits ok = record {
     unset : (s : ℕ) (v : Value) → slice_get (replicate (slots_of m 0) value.Unset) s ≡ Some v → value.Unset ≡ v
     unset s v h = get-replicate (slots_of m 0) value.Unset v s h
 
-    main : IsActivitySound m (looks [] 0) 0 0 (main_of m)
+    -- a frame of nothing
+    bare : IsFrameSound first.0 0 (start_of m 0)
+    bare = record {
+      slots = length-replicate (slots_of m 0) value.Unset ∙ ap (λ o. option_map_or (λ u. u.slots) o 0) first.1;
+      place = (unit_fits m ok.shape 0 first.0 first.1).some;
+      known = λ s c h. absurd (let e = unset s (value.Clock c) h in grind arith);
+      apart = λ s t c h g. absurd (let e = unset s (value.Clock c) h in grind arith);
+    }
+
+    params : params_of m 0 ≡ first.0.params
+    params = ap (λ o. option_map_or (λ u. u.params) o []) first.1
+
+    values : List Value
+    values = map (λ n. value.Number n) args
+
+    given : AreGiven (stands_on [] 0) (start_of m 0).slots first.0.params [] values
+    given = numbers_given (stands_on [] 0) (start_of m 0).slots first.0.params args (taken ∙ ap length params) (main_takes m ok.shape first.0 first.1)
+
+    once : (ps : List ParamKind) → has_twice (clock_arguments ps []) ≡ false
+    once [] = refl
+    once (p ∷ ps) = refl
+
+    begins : Begun m (stands_on [] 0) (looks [] 0) 0 (start_of m 0).slots 0 first.0 [] (main_of m args).frame
+    begins = frame_begun m limits ok.shape (stands_on [] 0) (looks [] 0) 0 first.0 (start_of m 0) bare 0 first.0 first.1 [] (once first.0.params) values given (λ s k h. refl)
+
+    main : IsActivitySound m (looks [] 0) 0 0 (main_of m args)
     main = record {
       since = omega arith;
       u = first.0;
       unit = first.1;
-      frame = record {
-        slots = length-replicate (slots_of m 0) value.Unset ∙ ap (λ o. option_map_or (λ u. u.slots) o 0) first.1;
-        place = (unit_fits m ok.shape 0 first.0 first.1).some;
-        known = λ s c h. absurd (let e = unset s (value.Clock c) h in grind arith);
-        apart = λ s t c h g. absurd (let e = unset s (value.Clock c) h in grind arith);
-      };
-      kinds = λ s v h. subst (λ x. Expects m first.0 status.Running 0 s (kind_of (looks [] 0) x)) (unset s v h)
-          (visited_entry m first.0 s kind.Unset (main_entry m ok.shape first.0 first.1 s));
+      frame = begins.frame;
+      kinds = begins.kinds;
       advance = λ e. absurd (grind arith);
       held = λ c h. absurd (false≢true h);
       waiting = tt;
@@ -90,14 +145,14 @@ opening_sound m limits ok = record {
     }
 
 -- and no clock has a scope
-pub opening_scoped : (m : ModuleValue) → IsWithinLimits m → IsAccepted m → IsScoped m (opening m)
-opening_scoped m limits ok = record {
+pub opening_scoped : (m : ModuleValue) → IsWithinLimits m → IsAccepted m → (args : List ℤ) → IsScoped m (opening m args)
+opening_scoped m limits ok args = record {
   scopes = [];
   width = refl;
-  activities = each_one (λ a act. IsScopedIn m [] (looks [] a) a act) (main_of m) (record {
-    opened = (let none' : opened_in m (main_of m).frame ≡ 0 = ap (λ x. option_map_or (λ u. depth_at u 0) x 0) first.1
+  activities = each_one (λ a act. IsScopedIn m [] (looks [] a) a act) (main_of m args) (record {
+    opened = (let none' : opened_in m (main_of m args).frame ≡ 0 = ap (λ x. option_map_or (λ u. depth_at u 0) x 0) first.1
         ∙ ap length (block_start first.0 (unit_fits m ok.shape 0 first.0 first.1).finishes) in
-        omega (arith, sum_by-cons (opened_in m) (main_of m).frame []));
+        omega (arith, sum_by-cons (opened_in m) (main_of m args).frame []));
     rooms = (omega arith, tt);
     owner = λ o e. absurd (none-some o e);
     homes = ((λ s c named held. absurd (false≢true held)), tt);

@@ -1,15 +1,16 @@
 -- Each world that a legal schedule of an accepted module leads to is sound, its clocks have their scopes, and its numbers are within the
 -- bounds; and a run is never wrong.
-use Rattle.std.proofs.Common.{◌≡◌, ℕ, ◌+◌, ◌<◌, ◌≤◌, true, false, List, [], ◌∷◌, ◌++◌, length, refl, sym, ap, ◌∙◌, subst, arith}
+use Rattle.std.proofs.Common.{◌≡◌, ℕ, ◌+◌, ◌<◌, ◌≤◌, true, false, ℤ, List, [], ◌∷◌, ◌++◌, length, refl, sym, ap, ◌∙◌, subst, arith}
 use Rattle.xk_types.specs.declared.names.Event.{Event}
 use Rattle.xk_types.specs.Code.{ModuleValue, IsWithinLimits}
-use Rattle.xk_types.specs.World.{World, opening}
+use Rattle.xk_types.specs.World.{World, opening, AreArguments}
 use Rattle.xk_types.specs.Step.{Cause, Outcome, Blocked, Wrong, Stepped, step}
 use Rattle.xk_types.specs.Schedule.{Course, Through, Wronged, run, run_on, IsReached, is_enabled, all_ended}
 use Rattle.xk_types.specs.Bound.{steps_bound, activities_bound, clocks_bound}
 use Rattle.xk_types.specs.Accepted.{IsAccepted}
 use Rattle.xk_laws.proofs.Invariant.{IsSound}
 use Rattle.xk_laws.proofs.Counts.{step_counts}
+use Rattle.xk_laws.proofs.Forms.{step_kind}
 use Rattle.xk_laws.proofs.NeverWrong.Steps.{Keeps, step_keeps}
 use Rattle.xk_laws.proofs.Progress.Ends.{stuck_ended}
 use Rattle.xk_laws.proofs.Opening.{opening_sound, opening_scoped}
@@ -77,32 +78,63 @@ run_right m ok (b ∷ list) w v c whole h = by (step m w b) refl (step_keeps m o
 -- ---- worlds that are reached
 
 -- the opening world is reached
-pub opening_reached : (m : ModuleValue) → IsReached m (opening m)
-opening_reached m = ([], refl)
+pub opening_reached : (m : ModuleValue) (args : List ℤ) → AreArguments m args → IsReached m (opening m args)
+opening_reached m args taken = ([], (taken, refl))
+
+-- no step changes what main was given
+step_arguments : (m : ModuleValue) (w v : World) (a : ℕ) (e : Event) → step m w a ≡ Stepped v e → v.arguments ≡ w.arguments
+step_arguments m w v a e h = subst (KeepArguments w) h (step_kind (KeepArguments w) m w a tt (λ c. tt) (λ act found lives. record {
+  closed = λ n some nobody runs. refl;
+  over = λ here none. refl;
+  arrives = refl;
+  done = λ next change e goes quiet rests. refl;
+  made = λ next goes. refl;
+  stored = λ s n e goes quiet. refl;
+  spawned = λ t args values at goes. refl;
+}))
+  where
+    KeepArguments : World → Outcome → Type 0
+    KeepArguments x Blocked = Unit {0}
+    KeepArguments x (Wrong c) = Unit {0}
+    KeepArguments x (Stepped y e) = y.arguments ≡ x.arguments
+
+-- nor does a run
+pub run_arguments : (m : ModuleValue) (list : List ℕ) (w v : World) → run m list w ≡ Through v → v.arguments ≡ w.arguments
+run_arguments m [] w v h = ap (λ z. z.arguments) (sym (same_through w v h))
+run_arguments m (b ∷ list) w v h =
+    let f = first_step w v (step m w b) (run m list) h in
+    run_arguments m list f.0 v f.3 ∙ step_arguments m w f.0 b f.1 f.2
 
 -- reaching goes on by a step
 pub reached_step : (m : ModuleValue) (w v : World) (a : ℕ) (e : Event) → IsReached m w → step m w a ≡ Stepped v e → IsReached m v
-reached_step m w v a e r h = (r.0 ++ a ∷ [], run_more m r.0 (opening m) w v a e r.1 h)
+reached_step m w v a e r h =
+    let same = step_arguments m w v a e h in (
+      r.0 ++ a ∷ [],
+      (
+        subst (AreArguments m) (sym same) r.1.0,
+        subst (λ args. run m (r.0 ++ a ∷ []) (opening m args) ≡ Through v) (sym same) (run_more m r.0 (opening m w.arguments) w v a e r.1.1 h),
+      ),
+    )
 
 -- a world that is reached after no step is the opening one
-pub opening_only : (m : ModuleValue) (w : World) → IsReached m w → w.steps ≡ 0 → w ≡ opening m
-opening_only m w r h = by r.0 r.1
+pub opening_only : (m : ModuleValue) (w : World) → IsReached m w → w.steps ≡ 0 → w ≡ opening m w.arguments
+opening_only m w r h = by r.0 r.1.1
   where
-    by : (list : List ℕ) → run m list (opening m) ≡ Through w → w ≡ opening m
-    by [] e = sym (same_through (opening m) w e)
-    by (a ∷ list) e = let n = run_counts m (a ∷ list) (opening m) w e in absurd (omega arith)
+    by : (list : List ℕ) → run m list (opening m w.arguments) ≡ Through w → w ≡ opening m w.arguments
+    by [] e = sym (same_through (opening m w.arguments) w e)
+    by (a ∷ list) e = let n = run_counts m (a ∷ list) (opening m w.arguments) w e in absurd (omega arith)
 
 -- the opening world is whole
-pub opening_whole : (m : ModuleValue) → IsWithinLimits m → IsAccepted m → IsWhole m (opening m)
-opening_whole m limits ok = record { sound = opening_sound m limits ok; scoped = opening_scoped m limits ok }
+pub opening_whole : (m : ModuleValue) → IsWithinLimits m → IsAccepted m → (args : List ℤ) → AreArguments m args → IsWhole m (opening m args)
+opening_whole m limits ok args taken = record { sound = opening_sound m limits ok args taken; scoped = opening_scoped m limits ok args }
 
 -- a world that is reached is sound
 pub reached_sound : (m : ModuleValue) → IsWithinLimits m → IsAccepted m → (w : World) → IsReached m w → IsSound m w
-reached_sound m limits ok w r = (run_whole m ok r.0 (opening m) w (opening_whole m limits ok) r.1).sound
+reached_sound m limits ok w r = (run_whole m ok r.0 (opening m w.arguments) w (opening_whole m limits ok w.arguments r.1.0) r.1.1).sound
 
 -- and its clocks have their scopes
 pub reached_scoped : (m : ModuleValue) → IsWithinLimits m → IsAccepted m → (w : World) → IsReached m w → IsScoped m w
-reached_scoped m limits ok w r = (run_whole m ok r.0 (opening m) w (opening_whole m limits ok) r.1).scoped
+reached_scoped m limits ok w r = (run_whole m ok r.0 (opening m w.arguments) w (opening_whole m limits ok w.arguments r.1.0) r.1.1).scoped
 
 -- the numbers of a world, within the bounds of its module
 pub record HasRoom (m : ModuleValue) (w : World) : Type 0 where

@@ -1,4 +1,5 @@
 -- Modules that are shown accepted, and what the laws say of them; and why the laws need their premises.
+pub mod Fresh
 pub mod Checked
 pub mod Sum
 pub mod Pair

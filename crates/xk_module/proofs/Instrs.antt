@@ -8,7 +8,7 @@ use Rattle.xk_types.specs.declared.instr.Comparison.TheVariants as comparison
 use Rattle.xk_types.specs.declared.instr.Instr.{Instr}
 use Rattle.xk_types.specs.declared.instr.Instr.TheVariants as instr
 use Rattle.xk_module.specs.ModuleText.{long, word, named, array_of, comparison_name, instr_value, IsWord, IsLong, IsInstrInRange}
-use Rattle.xk_module.specs.Named.{◌>>=◌, word_at, lit_at, comparison_of, comparison_at, unless_at, for_at, run_at, instr_of, instr_without_args, instr_of_words, instr_of_none, instr_of_one, instr_of_two, instr_of_three, name_and_operands_at, instr_at}
+use Rattle.xk_module.specs.Named.{◌>>=◌, word_at, lit_at, comparison_of, comparison_at, unless_at, for_at, forto_at, run_at, instr_of, instr_without_args, instr_of_words, instr_of_none, instr_of_one, instr_of_two, instr_of_three, name_and_operands_at, instr_at}
 use Rattle.xk_module.proofs.Lists.{listed-items_of}
 use Rattle.xk_module.proofs.Parts.{bind_some, by_name, word_takes, word_again, long_takes, long_again, array_takes, head_takes, str_takes, each_takes, each_again}
 
@@ -141,6 +141,42 @@ for_again x p = rw (word_again x.0 p.0, long_again x.1 p.1, long_again x.2 p.2, 
 counted : IsShape for_at for_values IsForInRange
 counted = record { takes = for_takes; again = for_again }
 
+abbrev forto_values : ℕ × ℤ × ℕ × ℤ × ℕ → List Data
+forto_values x = word x.0 ∷ long x.1 ∷ word x.2 ∷ long x.3 ∷ word x.4 ∷ []
+
+abbrev IsForToInRange : ℕ × ℤ × ℕ × ℤ × ℕ → Type 0
+IsForToInRange x = IsWord x.0 × IsLong x.1 × IsWord x.2 × IsLong x.3 × IsWord x.4
+
+forto_takes : (operands : List Data) (x : ℕ × ℤ × ℕ × ℤ × ℕ) → forto_at operands ≡ Some x → (operands ≡ forto_values x) × IsForToInRange x
+unfolding forto_at
+forto_takes (a ∷ b ∷ c ∷ d ∷ f ∷ []) x e =
+    let p = bind_some _ _ _ e in
+    let q = bind_some _ _ _ p.2 in
+    let r = bind_some _ _ _ q.2 in
+    let s = bind_some _ _ _ r.2 in
+    let t = bind_some _ _ _ s.2 in
+    let i = word_takes a p.0 p.1 in
+    let j = long_takes b q.0 q.1 in
+    let k = word_takes c r.0 r.1 in
+    let l = long_takes d s.0 s.1 in
+    let m = word_takes f t.0 t.1 in
+    let same : (p.0, q.0, r.0, s.0, t.0) ≡ x = cc in
+    subst (λ (x : ℕ × ℤ × ℕ × ℤ × ℕ). (a ∷ b ∷ c ∷ d ∷ f ∷ [] ≡ forto_values x) × IsForToInRange x) same
+    (cc (i.0, j.0, k.0, l.0, m.0), (i.1, j.1, k.1, l.1, m.1))
+forto_takes [] x e = absurd cc
+forto_takes (a ∷ []) x e = absurd cc
+forto_takes (a ∷ b ∷ []) x e = absurd cc
+forto_takes (a ∷ b ∷ c ∷ []) x e = absurd cc
+forto_takes (a ∷ b ∷ c ∷ d ∷ []) x e = absurd cc
+forto_takes (a ∷ b ∷ c ∷ d ∷ f ∷ g ∷ rest) x e = absurd cc
+
+forto_again : (x : ℕ × ℤ × ℕ × ℤ × ℕ) → IsForToInRange x → forto_at (forto_values x) ≡ Some x
+unfolding forto_at
+forto_again x p = rw (word_again x.0 p.0, long_again x.1 p.1, word_again x.2 p.2, long_again x.3 p.3, word_again x.4 p.4) refl
+
+limited : IsShape forto_at forto_values IsForToInRange
+limited = record { takes = forto_takes; again = forto_again }
+
 abbrev run_values : ℕ × List ℕ → List Data
 run_values x = word x.0 ∷ array_of (map word x.1) ∷ []
 
@@ -268,7 +304,8 @@ instr_without_args_takes name operands i e =
     by_shape lit (codes "lit") (λ x. instr.Lit x.0 x.1) (λ x p. (refl, p)) name operands _ i e (λ e.
     by_shape unless (codes "unless") (λ x. instr.Unless x.0 x.1 x.2 x.3) (λ x p. (refl, p)) name operands _ i e (λ e.
     by_shape counted (codes "for") (λ x. instr.For x.0 x.1 x.2 x.3) (λ x p. (refl, p)) name operands _ i e (λ e.
-    instr_of_words_takes name operands i e)))
+    by_shape limited (codes "forto") (λ x. instr.ForTo x.0 x.1 x.2 x.3 x.4) (λ x p. (refl, p)) name operands _ i e (λ e.
+    instr_of_words_takes name operands i e))))
 
 instr_of_takes : (name : List ℕ) (operands : List Data) (i : Instr) → instr_of name operands ≡ Some i → IsValue name operands i
 unfolding instr_of
@@ -316,6 +353,8 @@ instr_again (instr.Jump t) p =
     instr_of_again (codes "jump") (word t ∷ []) (instr.Jump t) (rw (word_again t p) refl)
 instr_again (instr.For k lo hi e) p =
     instr_of_again (codes "for") (for_values (k, lo, hi, e)) (instr.For k lo hi e) (rw (for_again (k, lo, hi, e) p) refl)
+instr_again (instr.ForTo k lo x hi e) p =
+    instr_of_again (codes "forto") (forto_values (k, lo, x, hi, e)) (instr.ForTo k lo x hi e) (rw (forto_again (k, lo, x, hi, e) p) refl)
 instr_again (instr.Next b) p =
     instr_of_again (codes "next") (word b ∷ []) (instr.Next b) (rw (word_again b p) refl)
 instr_again (instr.Finish e) p =

@@ -1,5 +1,5 @@
 -- The two laws: what is read is the value of a module, and the value of a module is read as that module.
-use Rattle.std.proofs.Common.{◌≡◌, ℕ, ℤ, eqb, List, [], ◌∷◌, map, Some, codes, refl, sym, ap, ◌∙◌, subst}
+use Rattle.std.proofs.Common.{◌≡◌, ℕ, ℤ, eqb, false, cond, List, [], ◌∷◌, map, Some, None, codes, refl, sym, ap, ◌∙◌, subst}
 use Rattle.std.specs.Bool.{⊤}
 use Rattle.std.specs.List.{AllByRecursion}
 use Rattle.std.proofs.lemmas.Bool.{eqb-true}
@@ -9,8 +9,10 @@ use Rattle.xk_types.specs.declared.unit.UnitKind.{UnitKind}
 use Rattle.xk_types.specs.declared.unit.UnitKind.TheVariants as unit_kind
 use Rattle.xk_types.specs.declared.unit.ParamKind.{ParamKind}
 use Rattle.xk_types.specs.declared.unit.ParamKind.TheVariants as param_kind
-use Rattle.xk_types.specs.Code.{UnitValue, ModuleValue, module_of}
-use Rattle.xk_module.specs.ModuleText.{long, word, array_of, object_of, instr_value, kind_value, letter, unit_value, module_value, IsLong, IsInstrInRange, IsUnitInRange, IsInRange, Names}
+use Rattle.xk_types.specs.Code.{UnitValue, ModuleValue}
+use Rattle.xk_module.specs.declared.version.Version.{Version}
+use Rattle.xk_module.specs.declared.version.Version.TheVariants as version
+use Rattle.xk_module.specs.ModuleText.{long, word, array_of, object_of, instr_value, kind_value, letter, unit_value, version_number, knows, module_value_in, IsLong, IsInstrInRange, IsUnitInRange, IsInRange, Names}
 use Rattle.xk_module.specs.Named.{each, long_at, instr_at, kind_of, kind_at, param_at, params_at, code_at, unit_members_at, unit_at, version_at, shared_at, units_at, module_members_at, module_at}
 use Rattle.xk_module.proofs.Lists.{listed-items_of}
 use Rattle.xk_module.proofs.Parts.{bind_some, by_test, by_name, then, guard_some, number_takes, str_takes, u64_takes, word_takes, word_again, long_takes, long_again, array_takes, object_takes, then_others, end_takes, each_takes, each_again}
@@ -119,17 +121,23 @@ unit_again u p = rw (code_again u.code p.code, kind_again u.kind, params_again u
 
 -- ---- modules
 
-version_takes : (d : Data) (x : ⊤) → version_at d ≡ Some x → d ≡ word 1
+version_of_takes : (n : ℕ) (v : Version) → cond (eqb n 1) (Some version.One) (cond (eqb n 2) (Some version.Two) None) ≡ Some v → n ≡ version_number v
+version_of_takes n v e =
+    by_test (eqb n 1) _ _ v (n ≡ version_number v) e (λ t e. let h : version.One ≡ v = cc in eqb-true n 1 t ∙ ap version_number h) (λ e.
+    by_test (eqb n 2) _ _ v (n ≡ version_number v) e (λ t e. let h : version.Two ≡ v = cc in eqb-true n 2 t ∙ ap version_number h) (λ e.
+    absurd cc))
+
+version_takes : (d : Data) (v : Version) → version_at d ≡ Some v → d ≡ word (version_number v)
 unfolding version_at
-version_takes d x e =
+version_takes d v e =
     let k = bind_some _ _ _ e in
     let n = bind_some _ _ _ k.2 in
-    let g = guard_some _ _ _ n.2 in
-    number_takes d k.0 k.1 ∙ ap number (u64_takes k.0 n.0 n.1) ∙ ap word (eqb-true n.0 1 g.0)
+    number_takes d k.0 k.1 ∙ ap number (u64_takes k.0 n.0 n.1) ∙ ap word (version_of_takes n.0 v n.2)
 
-version_again : version_at (word 1) ≡ Some tt
+version_again : (v : Version) → version_at (word (version_number v)) ≡ Some v
 unfolding version_at
-version_again = refl
+version_again version.One = refl
+version_again version.Two = refl
 
 shared_takes : (d : Data) (zs : List ℤ) → shared_at d ≡ Some zs → (d ≡ array_of (map long zs)) × AllByRecursion IsLong zs
 unfolding shared_at
@@ -160,20 +168,20 @@ module_object shared units version = object_of ((codes "shared", shared) ∷ (co
 same_module : (a a' b b' c c' : Data) → a ≡ a' → b ≡ b' → c ≡ c' → module_object a b c ≡ module_object a' b' c'
 same_module a a' b b' c c' p q r = cc
 
-module_members_takes : (d : Data) (x : Data × Data) → module_members_at d ≡ Some x → d ≡ module_object x.0 x.1 (word 1)
+module_members_takes : (d : Data) (x : Data × Data × Version) → module_members_at d ≡ Some x → d ≡ module_object x.0 x.1 (word (version_number x.2))
 unfolding module_members_at
 module_members_takes d x e =
     then _ _ x _ e (λ members is_members e.
     then _ _ x _ e (λ shared is_shared e.
     then _ _ x _ e (λ units is_units e.
-    then _ _ x _ e (λ version is_version e.
-    then _ _ x _ e (λ end is_end e.
     then _ _ x _ e (λ number is_number e.
-    let listed = then_others _ members shared _ is_shared (then_others _ shared.1 units _ is_units (then_others _ units.1 version _ is_version (end_takes version.1 end is_end))) in
-    let same : (shared.0, units.0) ≡ x = cc in
+    then _ _ x _ e (λ end is_end e.
+    then _ _ x _ e (λ v is_version e.
+    let listed = then_others _ members shared _ is_shared (then_others _ shared.1 units _ is_units (then_others _ units.1 number _ is_number (end_takes number.1 end is_end))) in
+    let same : (shared.0, units.0, v) ≡ x = cc in
     object_takes d members is_members ∙ ap object_of listed
-    ∙ ap (module_object shared.0 units.0) (version_takes version.0 number is_number)
-    ∙ ap (λ (x : Data × Data). module_object x.0 x.1 (word 1)) same))))))
+    ∙ ap (module_object shared.0 units.0) (version_takes number.0 v is_version)
+    ∙ ap (λ (x : Data × Data × Version). module_object x.0 x.1 (word (version_number x.2))) same))))))
 
 -- what is read is named
 pub module_takes : (d : Data) (m : ModuleValue) → module_at d ≡ Some m → Names d m
@@ -184,19 +192,29 @@ module_takes d m e =
     then _ _ m _ e (λ units is_units e.
     let of_shared = shared_takes members.0 shared is_shared in
     let of_units = units_takes members.1 units is_units in
-    let same : module_of shared units ≡ m = cc in
-    subst (Names d) same (record {
+    let known = guard_some (knows members.2 units) _ m e in
+    subst (Names d) known.1 (record {
+      version = members.2;
+      known = known.0;
       value = module_members_takes d members is_members ∙ same_module _ _ _ _ _ _ of_shared.0 of_units.0 refl;
       range = record { shared = of_shared.1; units = of_units.1 };
     }))))
 
-value_again : (m : ModuleValue) → IsInRange m → module_at (module_value m) ≡ Some m
+value_again : (v : Version) (m : ModuleValue) → IsInRange m → module_at (module_value_in v m) ≡ cond (knows v m.units) (Some m) None
 unfolding module_at module_members_at
-value_again m p = rw (version_again, shared_again m.shared p.shared, units_again m.units p.units) refl
+value_again v m p = rw (version_again v, shared_again m.shared p.shared, units_again m.units p.units) refl
 
 -- what is named is read
 pub module_again : (d : Data) (m : ModuleValue) → Names d m → module_at d ≡ Some m
-module_again d m names = ap module_at names.value ∙ value_again m names.range
+module_again d m names =
+    ap module_at names.value ∙ value_again names.version m names.range ∙ ap (λ b. cond b (Some m) None) names.known
+
+-- a value in a version that can't say the module names nothing
+pub value_unknown : (v : Version) (m n : ModuleValue) → IsInRange m → knows v m.units ≡ false → Names (module_value_in v m) n → ⊥
+value_unknown v m n range unknown names =
+    let none : module_at (module_value_in v m) ≡ None = value_again v m range ∙ ap (λ b. cond b (Some m) None) unknown in
+    let some = module_again (module_value_in v m) n names in
+    absurd cc
 
 -- a value names one module at most
 pub named_once : (d : Data) (m n : ModuleValue) → Names d m → Names d n → m ≡ n

@@ -1,5 +1,5 @@
 -- The values of modules: they have no floats and nest little, so that their text is read back to them.
-use Rattle.std.proofs.Common.{◌≡◌, ℕ, ◌≤◌, ℤ, pos, negsuc, false, List, [], ◌∷◌, ◌++◌, map, String, string_bytes, Some, refl, sym, ap, ◌∙◌, subst, arith}
+use Rattle.std.proofs.Common.{◌≡◌, ℕ, ◌≤◌, ℤ, pos, negsuc, Bool, true, false, not, ◌||◌, cond, List, [], ◌∷◌, ◌++◌, map, String, string_bytes, Some, refl, sym, ap, ◌∙◌, subst, arith}
 use Rattle.std.specs.List.{AllByRecursion}
 use Rattle.std.specs.declared.alloc.Global.{Global}
 use Rattle.std.proofs.lemmas.Str.{IsUtf8-string_bytes}
@@ -13,8 +13,10 @@ use Rattle.xk_types.specs.declared.instr.Instr.TheVariants as instr
 use Rattle.xk_types.specs.declared.unit.UnitKind.{UnitKind}
 use Rattle.xk_types.specs.declared.unit.UnitKind.TheVariants as unit_kind
 use Rattle.xk_types.specs.Code.{UnitValue, ModuleValue}
+use Rattle.xk_module.specs.declared.version.Version.{Version}
+use Rattle.xk_module.specs.declared.version.Version.TheVariants as version
 use Rattle.xk_module.specs.Named.{views}
-use Rattle.xk_module.specs.ModuleText.{long, word, array_of, instr_value, kind_value, unit_value, module_value, IsInRange, Names, IsModuleText}
+use Rattle.xk_module.specs.ModuleText.{long, word, array_of, instr_value, kind_value, unit_value, has_forto, takes_arguments, knows, version_of, module_value, IsInRange, Names, IsModuleText}
 use Rattle.xk_module.proofs.Modules.{named_once}
 
 -- ---- no floats
@@ -33,6 +35,7 @@ words_no_float xs = array_no_float word (λ x. refl) xs
 instr_no_float : (i : Instr) → has_float (instr_value i) ≡ false
 instr_no_float (instr.Lit d n) = rw (long_no_float n) refl
 instr_no_float (instr.For k lo hi e) = rw (long_no_float lo, long_no_float hi) refl
+instr_no_float (instr.ForTo k lo x hi e) = rw (long_no_float lo, long_no_float hi) refl
 instr_no_float (instr.Call t args) = rw (words_no_float args) refl
 instr_no_float (instr.Spawn t args) = rw (words_no_float args) refl
 instr_no_float _ = refl
@@ -83,6 +86,26 @@ pub record AreWritten {A : Type 0} (value : A → Data) (InRange : A → Type 0)
   pub values : views done ++ map value rest ≡ map value all
   pub range : AllByRecursion InRange rest → AllByRecursion InRange all
 
+-- ---- versions
+
+-- the version that a module is written in can say it
+written_known : (m : ModuleValue) → knows (version_of m) m.units ≡ true
+written_known m = by (has_forto m.units) (takes_arguments m.units) refl
+  where
+    by : (b c : Bool) → has_forto m.units ≡ b → knows (cond (b || c) version.Two version.One) m.units ≡ true
+    by true c e = refl
+    by false true e = refl
+    by false false e = ap not e
+
+-- the value that is written names the module
+pub value_named : (m : ModuleValue) → IsInRange m → Names (module_value m) m
+value_named m range = record { version = version_of m; known = written_known m; value = refl; range = range }
+
+-- without a `forto` each version can say it
+pub known_without : (v : Version) (m : ModuleValue) → has_forto m.units ≡ false → knows v m.units ≡ true
+known_without version.One m e = ap not e
+known_without version.Two m e = refl
+
 -- ---- texts
 
 -- what is written for a module's value is its compact text
@@ -95,8 +118,8 @@ pub written_text : (s : String Global) (d : Data) (m : ModuleValue) → d ≡ mo
     → (depth d ≤ max_depth → read (string_bytes s) ≡ Some d) → IsModuleText (string_bytes s) m
 written_text s d m value range reads =
     let few : depth d ≤ max_depth = subst (λ (d : Data). depth d ≤ max_depth) (sym value) (let most = module_depth m in omega arith) in
-    (d, record { utf8 = IsUtf8-string_bytes s; value = reads few }, record { value = value; range = range })
+    (d, record { utf8 = IsUtf8-string_bytes s; value = reads few }, record { version = version_of m; known = written_known m; value = value; range = range })
 
 -- the value of a module is that of no other
 pub named_alone : (m n : ModuleValue) → IsInRange m → Names (module_value m) n → n ≡ m
-named_alone m n range names = named_once (module_value m) n m names (record { value = refl; range = range })
+named_alone m n range names = named_once (module_value m) n m names (value_named m range)

@@ -1,4 +1,4 @@
--- Three modules, and the text of each, byte for byte, by evaluation.
+-- Four modules, and the text of each, byte for byte, by evaluation.
 use Rattle.std.proofs.Common.{◌≡◌, pos, List, [], ◌∷◌, codes, refl}
 use Rattle.std.specs.Fmt.{digits}
 use Rattle.serde_json.specs.Written.{compact_text}
@@ -54,3 +54,20 @@ adds_text : compact_text (module_value adds)
     ≡ codes "{\"shared\":[0],\"units\":[{\"code\":[[\"finish\",4],[\"for\",0,1,3,3],[\"spawn\",1,[0]],[\"next\",1],[\"endfinish\",0],[\"get\",1,0],[\"print\",1],[\"ret\"]],\"kind\":\"main\",\"params\":\"\",\"slots\":2},{\"code\":[[\"addto\",0,0],[\"ret\"]],\"kind\":\"body\",\"params\":\"n\",\"slots\":1}],\"version\":1}"
 unfolding serde_json_on_literals digits
 adds_text = refl
+
+-- a loop that goes up to a number that main is given, and no further than 10
+abbrev squares : ModuleValue
+squares = module_of [] (
+    record {
+      kind = unit_kind.Main;
+      params = param.Number ∷ [];
+      slots = 4;
+      code =
+          instr.Lit 1 (pos 0) ∷ instr.Mul 3 0 0 ∷ instr.ForTo 2 (pos 1) 3 (pos 10) 4 ∷ instr.Add 1 1 2 ∷ instr.Next 2 ∷ instr.Print 1 ∷ instr.Ret ∷ [];
+    }
+    ∷ [])
+
+squares_text : compact_text (module_value squares)
+    ≡ codes "{\"shared\":[],\"units\":[{\"code\":[[\"lit\",1,0],[\"mul\",3,0,0],[\"forto\",2,1,3,10,4],[\"add\",1,1,2],[\"next\",2],[\"print\",1],[\"ret\"]],\"kind\":\"main\",\"params\":\"n\",\"slots\":4}],\"version\":2}"
+unfolding serde_json_on_literals digits
+squares_text = refl

@@ -1,7 +1,7 @@
--- Module text, version 1: which JSON value each module has. The format is this project's own.
-use Rattle.std.specs.Prelude.{◌≡◌, ℕ, ℤ, ◌^◌, ◌<◌, List, [], ◌∷◌, map, codes, Some, IsUtf8, FitsSigned}
+-- Module text: which JSON values each module has, one in each version that can say it. The format is this project's own.
+use Rattle.std.specs.Prelude.{◌≡◌, ℕ, ℤ, ◌^◌, ◌<◌, ◌==◌, ◌||◌, not, Bool, true, false, List, [], ◌∷◌, length, map, codes, Some, IsUtf8, FitsSigned, if◌then◌else◌}
 use Rattle.std.specs.Int.{w64}
-use Rattle.std.specs.List.{AllByRecursion}
+use Rattle.std.specs.List.{AllByRecursion, list_any}
 use Rattle.serde_json.specs.Data.{Data, number, string, array, object, unsigned, Members, no_members, member}
 use Rattle.serde_json.specs.Find.{of_integer}
 use Rattle.serde_json.specs.Read.{read}
@@ -15,6 +15,8 @@ use Rattle.xk_types.specs.declared.unit.UnitKind.TheVariants as unit_kind
 use Rattle.xk_types.specs.declared.unit.ParamKind.{ParamKind}
 use Rattle.xk_types.specs.declared.unit.ParamKind.TheVariants as param_kind
 use Rattle.xk_types.specs.Code.{UnitValue, ModuleValue}
+use Rattle.xk_module.specs.declared.version.Version.{Version}
+use Rattle.xk_module.specs.declared.version.Version.TheVariants as version
 
 -- ---- values
 
@@ -60,6 +62,7 @@ instr_value (instr.Mul d a b) = named (codes "mul") (word d ∷ word a ∷ word 
 instr_value (instr.Unless op a b t) = named (codes "unless") (string (comparison_name op) ∷ word a ∷ word b ∷ word t ∷ [])
 instr_value (instr.Jump t) = named (codes "jump") (word t ∷ [])
 instr_value (instr.For k lo hi e) = named (codes "for") (word k ∷ long lo ∷ long hi ∷ word e ∷ [])
+instr_value (instr.ForTo k lo x hi e) = named (codes "forto") (word k ∷ long lo ∷ word x ∷ long hi ∷ word e ∷ [])
 instr_value (instr.Next b) = named (codes "next") (word b ∷ [])
 instr_value (instr.Finish e) = named (codes "finish") (word e ∷ [])
 instr_value (instr.EndFinish b) = named (codes "endfinish") (word b ∷ [])
@@ -93,13 +96,45 @@ unit_value u = object_of
     ∷ (codes "slots", word u.slots)
     ∷ [])
 
--- the one JSON value of a module
-abbrev pub module_value : ModuleValue → Data
-module_value m = object_of
+-- ---- versions
+
+abbrev pub version_number : Version → ℕ
+version_number version.One = 1
+version_number version.Two = 2
+
+abbrev pub is_forto : Instr → Bool
+is_forto (instr.ForTo k lo x hi e) = true
+is_forto _ = false
+
+-- one of these units has a `forto`
+abbrev pub has_forto : List UnitValue → Bool
+has_forto units = list_any (λ u. list_any is_forto u.code) units
+
+-- main, the first of these units, has parameters
+abbrev pub takes_arguments : List UnitValue → Bool
+takes_arguments [] = false
+takes_arguments (u ∷ us) = not (length u.params == 0)
+
+-- a text of the version can have these units
+abbrev pub knows : Version → List UnitValue → Bool
+knows version.One units = not (has_forto units)
+knows version.Two units = true
+
+-- the version that a module is written in
+abbrev pub version_of : ModuleValue → Version
+version_of m = if has_forto m.units || takes_arguments m.units then version.Two else version.One
+
+-- the JSON value of a module in a version
+abbrev pub module_value_in : Version → ModuleValue → Data
+module_value_in v m = object_of
     ((codes "shared", array_of (map long m.shared))
     ∷ (codes "units", array_of (map unit_value m.units))
-    ∷ (codes "version", word 1)
+    ∷ (codes "version", word (version_number v))
     ∷ [])
+
+-- the JSON value that is written of a module
+abbrev pub module_value : ModuleValue → Data
+module_value m = module_value_in (version_of m) m
 
 -- ---- ranges
 
@@ -120,6 +155,7 @@ IsInstrInRange (instr.Mul d a b) = IsWord d × IsWord a × IsWord b
 IsInstrInRange (instr.Unless op a b t) = IsWord a × IsWord b × IsWord t
 IsInstrInRange (instr.Jump t) = IsWord t
 IsInstrInRange (instr.For k lo hi e) = IsWord k × IsLong lo × IsLong hi × IsWord e
+IsInstrInRange (instr.ForTo k lo x hi e) = IsWord k × IsLong lo × IsWord x × IsLong hi × IsWord e
 IsInstrInRange (instr.Next b) = IsWord b
 IsInstrInRange (instr.Finish e) = IsWord e
 IsInstrInRange (instr.EndFinish b) = IsWord b
@@ -146,7 +182,9 @@ pub record IsInRange (m : ModuleValue) : Type 0 where
 -- ---- the relation between values and modules, limits left out
 
 pub record Names (d : Data) (m : ModuleValue) : Type 0 where
-  pub value : d ≡ module_value m
+  pub version : Version
+  pub known : knows version m.units ≡ true
+  pub value : d ≡ module_value_in version m
   pub range : IsInRange m
 
 -- the bytes are a text of this JSON value, in UTF-8

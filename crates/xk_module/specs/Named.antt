@@ -16,6 +16,9 @@ use Rattle.xk_types.specs.declared.unit.UnitKind.TheVariants as unit_kind
 use Rattle.xk_types.specs.declared.unit.ParamKind.{ParamKind}
 use Rattle.xk_types.specs.declared.unit.ParamKind.TheVariants as param_kind
 use Rattle.xk_types.specs.Code.{UnitValue, ModuleValue, module_of}
+use Rattle.xk_module.specs.declared.version.Version.{Version}
+use Rattle.xk_module.specs.declared.version.Version.TheVariants as version
+use Rattle.xk_module.specs.ModuleText.{knows}
 use Rattle.xk_module.specs.declared.fault.Refusal.{Refusal}
 use Rattle.xk_module.specs.declared.fault.Refusal.TheVariants as refusal
 
@@ -142,6 +145,17 @@ for_at (a ∷ b ∷ c ∷ d ∷ []) = do
   Some (k, lo, hi, e)
 for_at _ = None
 
+-- a slot, a bound, the slot of a limit, a bound and a place
+unfoldable pub forto_at : List Data → Option (ℕ × ℤ × ℕ × ℤ × ℕ)
+forto_at (a ∷ b ∷ c ∷ d ∷ f ∷ []) = do
+  k ← word_at a
+  lo ← long_at b
+  x ← word_at c
+  hi ← long_at d
+  e ← word_at f
+  Some (k, lo, x, hi, e)
+forto_at _ = None
+
 -- a unit that is run, and the slots of an array
 unfoldable pub run_at : List Data → Option (ℕ × List ℕ)
 run_at (a ∷ b ∷ []) = do
@@ -211,6 +225,7 @@ instr_without_args name operands =
     if bytes_eq name (codes "lit") then (lit_at operands >>= λ x. Some (instr.Lit x.0 x.1))
     else if bytes_eq name (codes "unless") then (unless_at operands >>= λ x. Some (instr.Unless x.0 x.1 x.2 x.3))
     else if bytes_eq name (codes "for") then (for_at operands >>= λ x. Some (instr.For x.0 x.1 x.2 x.3))
+    else if bytes_eq name (codes "forto") then (forto_at operands >>= λ x. Some (instr.ForTo x.0 x.1 x.2 x.3 x.4))
     else instr_of_words name operands
 
 -- the instruction of this name with these operands
@@ -281,11 +296,11 @@ unit_at d = do
   code ← code_at members.0
   Some (record { kind = kind; params = params; slots = slots; code = code })
 
-unfoldable pub version_at : Data → Option ⊤
+unfoldable pub version_at : Data → Option Version
 version_at d = do
   number ← as_number d
   n ← as_u64 number
-  if n == 1 then Some tt else None
+  if n == 1 then Some version.One else if n == 2 then Some version.Two else None
 
 unfoldable pub shared_at : Data → Option (List ℤ)
 shared_at d = elements_at long_at d
@@ -293,16 +308,16 @@ shared_at d = elements_at long_at d
 unfoldable pub units_at : Data → Option (List UnitValue)
 units_at d = elements_at unit_at d
 
--- the values of the members of a module, but for the version, which is 1
-unfoldable pub module_members_at : Data → Option (Data × Data)
+-- the values of the members of a module, the version as what it is
+unfoldable pub module_members_at : Data → Option (Data × Data × Version)
 module_members_at d = do
   members ← object_at d
   shared ← field_at (codes "shared") members
   units ← field_at (codes "units") shared.1
-  version ← field_at (codes "version") units.1
-  _ ← end_at version.1
-  _ ← version_at version.0
-  Some (shared.0, units.0)
+  number ← field_at (codes "version") units.1
+  _ ← end_at number.1
+  version ← version_at number.0
+  Some (shared.0, units.0, version)
 
 -- the module, limits left out
 unfoldable pub module_at : Data → Option ModuleValue
@@ -310,4 +325,4 @@ module_at d = do
   members ← module_members_at d
   shared ← shared_at members.0
   units ← units_at members.1
-  Some (module_of shared units)
+  if knows members.2 units then Some (module_of shared units) else None

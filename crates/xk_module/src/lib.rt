@@ -6,6 +6,7 @@ mod json;
 pub mod laws;
 mod reading;
 mod text;
+mod version;
 mod writing;
 
 pub use fault::ModuleFault;

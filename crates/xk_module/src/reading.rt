@@ -4,10 +4,11 @@ ghost use Rattle.std.specs.Prelude.{◌≡◌, ◌⊎◌, IsErrOf, Option, codes
 ghost use Rattle.serde_json.specs.Data.{Data};
 ghost use Rattle.serde_json.specs.View.{view};
 ghost use Rattle.xk_types.specs.Code.{module_of};
-ghost use Rattle.xk_module.specs.Named.{Gives, views, each, elements_at, name_and_operands_at, lit_at, comparison_at, unless_at, for_at, run_at, instr_of, instr_without_args, instr_of_words, instr_of_none, instr_of_one, instr_of_two, instr_of_three, kind_at, param_at, params_at, unit_members_at, version_at, module_members_at, module_at};
+ghost use Rattle.xk_module.specs.Named.{Gives, views, each, elements_at, name_and_operands_at, lit_at, comparison_at, unless_at, for_at, forto_at, run_at, instr_of, instr_without_args, instr_of_words, instr_of_none, instr_of_one, instr_of_two, instr_of_three, kind_at, param_at, params_at, unit_members_at, version_at, module_members_at, module_at};
 
 use crate::fault::Refusal;
 use crate::json::{array, end, field, long, object, word};
+use crate::version::Version;
 use serde_json::Value;
 use std::alloc::Global;
 use xk_types::{Args, Comparison, Instr, ParamKind, Unit, UnitKind};
@@ -126,6 +127,13 @@ fn instr_without_args(name: &str, operands: &[Value]) -> Option<Instr>
         "lit" => slot_and_number(operands).map(|(d, n)| Instr::Lit { d, n }),
         "unless" => compared_slots(operands).map(|(op, a, b, t)| Instr::Unless { op, a, b, t }),
         "for" => slot_and_bounds(operands).map(|(k, lo, hi, e)| Instr::For { k, lo, hi, e }),
+        "forto" => slot_bounds_and_limit(operands).map(|(k, lo, x, hi, e)| Instr::ForTo {
+            k,
+            lo,
+            x,
+            hi,
+            e,
+        }),
         _ => instr_of_words(name, operands),
     }
 }
@@ -248,6 +256,17 @@ fn slot_and_bounds(operands: &[Value]) -> Option<(u16, i64, i64, u16)>
     }
 }
 
+/// A slot, a bound, the slot of a limit, a bound and a place.
+#[tactic(auto, unfolding(crate::specs::Named::forto_at))]
+fn slot_bounds_and_limit(operands: &[Value]) -> Option<(u16, i64, u16, i64, u16)>
+    ensures { result ≡ forto_at (views operands.now) }
+{
+    match operands {
+        [k, lo, x, hi, e] => Some((word(k)?, long(lo)?, word(x)?, long(hi)?, word(e)?)),
+        _ => None,
+    }
+}
+
 /// A unit that is run, and its arguments.
 #[tactic(auto, unfolding(crate::specs::Named::run_at))]
 fn unit_and_args(alloc: Global, operands: &[Value]) -> Result<(u16, Args), Refusal>
@@ -313,21 +332,22 @@ fn unit_members(value: &Value) -> Option<(&Value, &Value, &Value, &Value)>
     Some((code, kind, params, slots))
 }
 
-/// The version is 1.
+/// The version of this number.
 #[tactic(auto, unfolding(crate::specs::Named::version_at))]
-fn version(value: &Value) -> Option<()>
+fn version(value: &Value) -> Option<Version>
     ensures { result ≡ version_at (view value.now) }
 {
     match value.as_u64() {
-        Some(1) => Some(()),
+        Some(1) => Some(Version::One),
+        Some(2) => Some(Version::Two),
         _ => None,
     }
 }
 
-/// The values of a module's members, but for the version, which is 1.
+/// The values of a module's members, the version as what it is.
 #[tactic(auto, unfolding(crate::specs::Named::module_members_at))]
-fn module_members(value: &Value) -> Option<(&Value, &Value)>
-    ensures { option_map (λ m. (view m.0.now, view m.1.now)) result ≡
+fn module_members(value: &Value) -> Option<(&Value, &Value, Version)>
+    ensures { option_map (λ m. (view m.0.now, view m.1.now, m.2)) result ≡
         module_members_at (view value.now) }
 {
     let mut members = object(value)?;
@@ -335,8 +355,7 @@ fn module_members(value: &Value) -> Option<(&Value, &Value)>
     let units = field(&mut members, "units")?;
     let number = field(&mut members, "version")?;
     end(members)?;
-    version(number)?;
-    Some((shared, units))
+    Some((shared, units, version(number)?))
 }
 
 /// The shared numbers and the units of a module.
@@ -344,6 +363,11 @@ fn module_members(value: &Value) -> Option<(&Value, &Value)>
 pub(crate) fn module(alloc: Global, value: &Value) -> Result<(Vec<i64>, Vec<Unit>), Refusal>
     ensures { Gives (λ x. module_of x.0.items x.1.items) result (module_at (view value.now)) }
 {
-    let (shared, units) = module_members(value).ok_or(Refusal::Unfit)?;
-    Ok((elements(alloc, shared)?, elements(alloc, units)?))
+    let (shared, units, version) = module_members(value).ok_or(Refusal::Unfit)?;
+    let shared: Vec<i64> = elements(alloc, shared)?;
+    let units: Vec<Unit> = elements(alloc, units)?;
+    if !version.knows(&units) {
+        return Err(Refusal::Unfit);
+    }
+    Ok((shared, units))
 }

@@ -1,4 +1,4 @@
-//! Module text, version 1.
+//! Module text.
 
 ghost use Rattle.std.specs.Prelude.{◌<◌, length, IfOk, IsErrOf};
 ghost use Rattle.serde_json.specs.View.{view};
@@ -11,12 +11,12 @@ use serde_json::Value;
 use std::alloc::Global;
 use xk_types::Module;
 
-/// Reads a module from its text, which is one JSON object in UTF-8 with the keys `version` (the number 1), `shared` (an
+/// Reads a module from its text, which is one JSON object in UTF-8 with the keys `version` (the number 1 or 2), `shared` (an
 /// array of whole numbers of 64 bits, signed) and `units` (an array of objects), and no other. A unit has the keys `kind`
 /// (`"main"`, `"method"` or `"body"`), `params` (a letter for each parameter, `n` for a number and `c` for a clock),
 /// `slots` (0 to 65,535) and `code`, and no other. The code is an array of instructions, and an instruction an array of its
 /// name and its operands: `["lit",d,n]`, `["copy",d,a]`, `["add",d,a,b]`, `["sub",d,a,b]`, `["mul",d,a,b]`,
-/// `["unless",op,a,b,t]`, `["jump",t]`, `["for",k,lo,hi,e]`, `["next",b]`, `["finish",e]`, `["endfinish",b]`, `["get",d,s]`,
+/// `["unless",op,a,b,t]`, `["jump",t]`, `["for",k,lo,hi,e]`, `["forto",k,lo,x,hi,e]` (where the version is 2), `["next",b]`, `["finish",e]`, `["endfinish",b]`, `["get",d,s]`,
 /// `["put",s,a]`, `["addto",s,a]`, `["print",a]`, `["make",k]`, `["resume",k]`, `["drop",k]`, `["advance"]`,
 /// `["call",u,[x,..]]`, `["spawn",u,[x,..]]`, `["ret"]`. Here n, lo and hi are whole numbers of 64 bits, signed, and op is one
 /// of `"eq"`, `"ne"`, `"lt"`, `"le"`, `"gt"` and `"ge"`; t, e and what `next` and `endfinish` have are places in the code, s is

@@ -8,12 +8,14 @@ ghost use Rattle.serde_json.specs.Written.{compact_text};
 ghost use Rattle.xk_module.specs.Operands.{operand_value};
 ghost use Rattle.xk_module.specs.ModuleText.{word, long, array_of, named, comparison_name, kind_value, letter, module_value, IsWord, IsInRange, IsModuleText};
 
+use crate::version::version_of;
 use serde_json::{Value, json};
 use std::alloc::{AllocError, Global};
 use xk_types::{Comparison, Instr, Module, ParamKind, Unit, UnitKind};
 
 /// Writes the text of a module, in the format that `read_module` reads: with no white space, and with the keys of each object in
-/// alphabetic order. `read_module` reads the text as that module.
+/// alphabetic order. `read_module` reads the text as that module. It is a text of version 2 where the module has a `forto` or its main
+/// has parameters, else of version 1.
 pub fn write_module(alloc: Global, m: &Module) -> Result<String, AllocError>
     ensures text { IfOk result (λ text. string_bytes text ≡ compact_text (module_value m.now)) }
     ensures reads_back { IfOk result (λ text. IsModuleText (string_bytes text) m.now) }
@@ -30,7 +32,8 @@ fn module_json(alloc: Global, m: &Module) -> Result<Value, AllocError>
 {
     let shared = array(alloc, m.shared())?;
     let units = array(alloc, m.units())?;
-    json!(in alloc; {"shared": shared, "units": units, "version": 1u16})
+    let version = version_of(m).number();
+    json!(in alloc; {"shared": shared, "units": units, "version": version})
 }
 
 /// What has a JSON value.
@@ -100,6 +103,9 @@ impl Written for Instr {
             Instr::Unless { op, a, b, t } => compared_slots(alloc, "unless", *op, *a, *b, *t),
             Instr::Jump(t) => one_word(alloc, "jump", *t),
             Instr::For { k, lo, hi, e } => slot_and_bounds(alloc, "for", *k, *lo, *hi, *e),
+            Instr::ForTo { k, lo, x, hi, e } => slot_bounds_and_limit(
+                alloc, "forto", *k, *lo, *x, *hi, *e,
+            ),
             Instr::Next(b) => one_word(alloc, "next", *b),
             Instr::Finish(e) => one_word(alloc, "finish", *e),
             Instr::EndFinish(b) => one_word(alloc, "endfinish", *b),
@@ -203,6 +209,29 @@ fn slot_and_bounds(
     let operands = [
         Operand::Word(k),
         Operand::Long(lo),
+        Operand::Long(hi),
+        Operand::Word(e),
+    ];
+    operation(alloc, name, &operands)
+}
+
+/// An instruction with a slot, a bound, the slot of a limit, a bound and a place.
+fn slot_bounds_and_limit(
+    alloc: Global,
+    name: &str,
+    k: u16,
+    lo: i64,
+    x: u16,
+    hi: i64,
+    e: u16,
+) -> Result<Value, AllocError>
+    ensures { IfOk result (λ v. view v ≡
+        named name.now (word k ∷ long lo ∷ word x ∷ long hi ∷ word e ∷ [])) }
+{
+    let operands = [
+        Operand::Word(k),
+        Operand::Long(lo),
+        Operand::Word(x),
         Operand::Long(hi),
         Operand::Word(e),
     ];

@@ -6,7 +6,7 @@ use Rattle.xk_tree.specs.declared.fault.FrontFault.{FrontFault}
 use Rattle.xk_tree.specs.Tree.{TreeValue}
 use Rattle.xk_names.specs.Scope.{Has, find}
 use Rattle.xk_names.specs.Uses.{Signatures, signatures}
-use Rattle.xk_names.specs.Faults.{HasNameFault, HasFault, IsReported, no_main}
+use Rattle.xk_names.specs.Faults.{HasNameFault, HasFault, MayBegin, IsReported, no_main}
 use Rattle.xk_names.specs.Collected.{least, name_faults, put_methods}
 use Rattle.xk_names.proofs.Whole.{fault_there, fault_listed, called_same}
 use Rattle.xk_names.proofs.Reported.{least_kept, least_none}
@@ -25,13 +25,13 @@ main_found : (t : TreeValue) (ms : Signatures) → ms ≡ put_methods [] t.metho
 main_found t ms is = subst (λ k. find k (codes "main") ≡ find (signatures t.methods) (codes "main")) (sym is) (called_same t (codes "main"))
 
 pub clean_tree : (t : TreeValue) (w : Option FrontFault) (ms : Signatures) → w ≡ least None (name_faults t) → w ≡ None → ms ≡ put_methods [] t.methods
-    → find ms (codes "main") ≡ Some [] → (f : FrontFault) → HasFault t f → ⊥
+    → MayBegin (find ms (codes "main")) → (f : FrontFault) → HasFault t f → ⊥
 clean_tree t w ms is none made main f (inl h) = none_there t w is none f h
-clean_tree t w ms is none made main f (inr h) = h.0 (sym (main_found t ms made) ∙ main)
+clean_tree t w ms is none made main f (inr h) = h.0 (subst MayBegin (main_found t ms made) main)
 
 pub no_main_reported : (t : TreeValue) (w : Option FrontFault) (ms : Signatures) → w ≡ least None (name_faults t) → w ≡ None → ms ≡ put_methods [] t.methods
-    → (find ms (codes "main") ≡ Some [] → ⊥) → IsReported t no_main
+    → (MayBegin (find ms (codes "main")) → ⊥) → IsReported t no_main
 no_main_reported t w ms is none made lacks = record {
-  there = inr (λ main. lacks (main_found t ms made ∙ main), refl);
+  there = inr (λ main. lacks (subst MayBegin (sym (main_found t ms made)) main), refl);
   first = λ g h. absurd (none_there t w is none g h);
 }

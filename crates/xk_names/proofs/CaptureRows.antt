@@ -6,7 +6,7 @@ use Rattle.xk_tree.specs.declared.tree.Number.{Number}
 use Rattle.xk_tree.specs.declared.tree.Operator.TheVariants as operator
 use Rattle.xk_tree.specs.declared.tree.Binding.TheVariants as binding
 use Rattle.xk_tree.specs.declared.tree.Verb.{Verb}
-use Rattle.xk_tree.specs.Tree.{Word, Expression, Named, Binary, Value, Statement, Done, More, Block, Declare, Assign, Atomic, For, Async, Call, Print}
+use Rattle.xk_tree.specs.Tree.{Word, Expression, Named, Binary, Value, UpTo, Statement, Done, More, Block, Declare, Assign, Atomic, For, Async, Call, Print}
 use Rattle.xk_names.specs.Uses.{Signatures}
 use Rattle.xk_names.specs.Captures.{captures}
 
@@ -73,7 +73,7 @@ out_of_scope : taken (Block (More (Block (More (val z (Named x)) Done)) (More (p
 out_of_scope = refl
 
 -- `{ for (z in 2..1) println(z + x); println(z); }`: a loop's name isn't taken, and is gone behind the loop; a loop without a turn counts
-loop_name : taken (Block (More (For 0 z (number 2) (number 1) (print (Binary operator.Plus (Named z) 0 (Named x)))) (More (print (Named z)) Done)))
+loop_name : taken (Block (More (For 0 z (number 2) (UpTo (number 1)) (print (Binary operator.Plus (Named z) 0 (Named x)))) (More (print (Named z)) Done)))
     ≡ codes "x" ∷ codes "z" ∷ []
 loop_name = refl
 

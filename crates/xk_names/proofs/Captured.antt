@@ -5,9 +5,9 @@ use Rattle.xk_tree.specs.Tree.{Word, Statement, Statements, Done, More, Block, I
 use Rattle.xk_names.specs.Scope.{has, texts}
 use Rattle.xk_names.specs.Uses.{Signatures}
 use Rattle.xk_names.specs.Places.{behind}
-use Rattle.xk_names.specs.Captures.{words_used, words_besides, own_behind, outer_inside, outer_among, outer_words, shared_texts, captures}
-use Rattle.xk_names.specs.Collected.{put_text, put_texts}
-use Rattle.xk_names.proofs.Agreement.{HasSame, put_text_same, put_texts_same}
+use Rattle.xk_names.specs.Captures.{loop_words, words_used, words_besides, own_behind, outer_inside, outer_among, outer_words, shared_texts, captures}
+use Rattle.xk_names.specs.Collected.{put_texts}
+use Rattle.xk_names.proofs.Agreement.{HasSame, put_texts_same}
 
 besides_same : (a b : List (List ℕ)) → HasSame a b → (ws : List Word) → words_besides a ws ≡ words_besides b ws
 besides_same a b same [] = refl
@@ -16,11 +16,11 @@ besides_same a b same (w ∷ ws) =
     let rest : List Word = words_besides a ws in
     ap (λ c. cond c [] one ++ rest) (same w.text) ∙ ap (λ r. cond (has b w.text) [] one ++ r) (besides_same a b same ws)
 
-put_both : (a b : List (List ℕ)) → HasSame a b → (y : List ℕ) → HasSame (put_text a y) (put_text b y)
-put_both a b same y x = put_text_same a b y same x ∙ sym (put_text_same b b y (λ z. refl) x)
+put_both : (a b : List (List ℕ)) → HasSame a b → (ws : List Word) → HasSame (put_texts a ws) (put_texts b ws)
+put_both a b same ws x = put_texts_same a b ws same x ∙ sym (put_texts_same b b ws (λ z. refl) x)
 
 behind_both : (a b : List (List ℕ)) → HasSame a b → (s : Statement) → HasSame (own_behind a s) (own_behind b s)
-behind_both a b same s x = put_texts_same a b (map (λ d. d.name) (behind 0 s)) same x ∙ sym (put_texts_same b b (map (λ d. d.name) (behind 0 s)) (λ z. refl) x)
+behind_both a b same s = put_both a b same (map (λ d. d.name) (behind 0 s))
 
 append_both : (ws xs ys zs : List Word) → ws ≡ xs → ys ≡ zs → ws ++ ys ≡ xs ++ zs
 append_both ws xs ys zs e f = ap (λ k. k ++ ys) e ∙ ap (λ k. xs ++ k) f
@@ -37,11 +37,12 @@ mutual
       (besides_same a b same (words_used ms s)) (inside_same ms a b same s))
       (append_both (words_besides a (words_used ms t)) (words_besides b (words_used ms t)) (outer_inside ms a t) (outer_inside ms b t)
       (besides_same a b same (words_used ms t)) (inside_same ms a b same t))
-  inside_same ms a b same (For at i lo hi s) =
-      let c : List (List ℕ) = put_text a i.text in
-      let d : List (List ℕ) = put_text b i.text in
+  inside_same ms a b same (For at i lo k s) =
+      let ws = loop_words i k in
+      let c : List (List ℕ) = put_texts a ws in
+      let d : List (List ℕ) = put_texts b ws in
       append_both (words_besides c (words_used ms s)) (words_besides d (words_used ms s)) (outer_inside ms c s) (outer_inside ms d s)
-      (besides_same c d (put_both a b same i.text) (words_used ms s)) (inside_same ms c d (put_both a b same i.text) s)
+      (besides_same c d (put_both a b same ws) (words_used ms s)) (inside_same ms c d (put_both a b same ws) s)
   inside_same ms a b same (Async at cs s) =
       append_both (words_besides a (words_used ms s)) (words_besides b (words_used ms s)) (outer_inside ms a s) (outer_inside ms b s)
       (besides_same a b same (words_used ms s)) (inside_same ms a b same s)

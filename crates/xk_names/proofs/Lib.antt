@@ -19,3 +19,4 @@ pub mod Answered
 pub mod ScopedLaw
 mod Rows
 mod CaptureRows
+pub mod Loops

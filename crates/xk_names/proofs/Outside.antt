@@ -1,19 +1,20 @@
 -- What a body takes is visible where the body stands, and is no clock. Of bodies within bodies, the outer one takes what the inner one takes
 -- and isn't declared between.
-use Rattle.std.proofs.Common.{◌≡◌, ◌⊎◌, inl, inr, ℕ, Bool, true, false, cond, ◌||◌, List, [], ◌∷◌, ◌++◌, length, Option, Some, None, refl, sym, ap, ◌∙◌, subst, append-nil}
+use Rattle.std.proofs.Common.{◌≡◌, ◌⊎◌, inl, inr, ℕ, Bool, true, false, cond, ◌||◌, List, [], ◌∷◌, ◌++◌, length, Option, Some, None, refl, sym, ap, ◌∙◌, subst, append_assoc, append-nil}
 use Rattle.std.specs.List.{flat_map}
 use Rattle.xk_types.specs.declared.unit.ParamKind.TheVariants as param
-use Rattle.xk_tree.specs.Tree.{Word, Expression, Literal, Named, Paren, Negation, Binary, Source, Make, Value, Statement, Statements, Done, More, Block, Empty, Declare, Assign, Atomic, If, IfElse, For, Async, Finish, Call, Resume, Drop, AdvanceAll, Print}
+use Rattle.xk_tree.specs.declared.tree.Number.{Number}
+use Rattle.xk_tree.specs.Tree.{Word, Expression, Literal, Named, Paren, Negation, Binary, Source, Make, Value, Bound, UpTo, Least, Statement, Statements, Done, More, Block, Empty, Declare, Assign, Atomic, If, IfElse, For, Async, Finish, Call, Resume, Drop, AdvanceAll, Print}
 use Rattle.xk_names.specs.declared.known.Known.{Known}
 use Rattle.xk_names.specs.declared.known.Kind.{Kind}
 use Rattle.xk_names.specs.declared.known.Kind.TheVariants as kind
 use Rattle.xk_names.specs.declared.known.Want.TheVariants as want
 use Rattle.xk_names.specs.Scope.{Table, find, has, is_text, Has, Declaration, declared, entry, Scope, is_clock, is_number, is_readable, is_assigned}
-use Rattle.xk_names.specs.Uses.{Use, use_as, Signatures, numbers, values, argument_uses, Given, given_to, source_uses, assigned_uses, is_var, kind_of, declares, clocks_listed}
+use Rattle.xk_names.specs.Uses.{Use, use_as, Signatures, numbers, values, argument_uses, Given, given_to, source_uses, bound_uses, assigned_uses, is_var, kind_of, declares, clocks_listed}
 use Rattle.xk_names.specs.Places.{behind}
 use Rattle.xk_names.specs.Scoped.{IsRight, IsSound, IsSoundInside, AreSound, with_all, with_body}
-use Rattle.xk_names.specs.Collected.{put_text}
-use Rattle.xk_names.specs.Captures.{number_words, source_words, argument_words, words_used, words_besides, own_behind, outer_inside, outer_among, outer_words}
+use Rattle.xk_names.specs.Collected.{put_text, put_texts}
+use Rattle.xk_names.specs.Captures.{number_words, source_words, bound_words, loop_words, argument_words, words_used, words_besides, own_behind, outer_inside, outer_among, outer_words}
 use Rattle.xk_names.proofs.Among.{has_left, has_right, has_either}
 use Rattle.xk_names.proofs.Agreement.{find_behind, or_entry, has_put}
 
@@ -85,6 +86,10 @@ source_numbers : (sc : Scope) (r : Source) → AreRight sc (source_uses r) → A
 source_numbers sc (Make at v) right w h = absurd h
 source_numbers sc (Value e) right w h = value_numbers sc e right w h
 
+bound_numbers : (sc : Scope) (b : Bound) → AreRight sc (bound_uses b) → AreNumbers sc (bound_words b)
+bound_numbers sc (UpTo n) right w h = absurd h
+bound_numbers sc (Least x v e n) right w h = expression_numbers sc e right w h
+
 assigned_numbers : (sc : Scope) (k : Option Known) (e : Expression) → AreRight sc (assigned_uses k e) → AreNumbers sc (number_words e)
 assigned_numbers sc k e = go (is_var k)
   where
@@ -125,7 +130,7 @@ used_numbers ms sc (Call g at es) sound w h = given_numbers sc (given_to (find m
 used_numbers ms sc (Print at v e) sound w h = expression_numbers sc e sound.used w h
 used_numbers ms sc (Block ss) sound w h = absurd h
 used_numbers ms sc Empty sound w h = absurd h
-used_numbers ms sc (For at i lo hi s) sound w h = absurd h
+used_numbers ms sc (For at i lo b s) sound w h = bound_numbers sc b sound.used w h
 used_numbers ms sc (Async at cs s) sound w h = absurd h
 used_numbers ms sc (Finish s) sound w h = absurd h
 used_numbers ms sc (Resume c v) sound w h = absurd h
@@ -181,6 +186,17 @@ since_put names before there own d since x h =
     let was = since x apart.0 in
     (was.0, find_behind there d.name.text d.known x ∙ ap (λ b. or_entry (find there x) b d.known) apart.1 ∙ or_none (find there x) d.known ∙ was.1)
 
+-- the names of a loop
+since_loop : (names : Table Known) (before : List (List ℕ)) (sc : Scope) (own : List (List ℕ)) (at : ℕ) (i : Word) (lo : Number) (b : Bound) (s : Statement)
+    → IsSince names before sc.names own
+    → IsSince names before (with_all sc (declares (length sc.bodies) (For at i lo b s))).names (put_texts own (loop_words i b))
+since_loop names before sc own at i lo (UpTo hi) s since = since_put names before sc.names own (declared i kind.Val (length sc.bodies)) since
+since_loop names before sc own at i lo (Least x v e hi) s since =
+    let first = declared i kind.Val (length sc.bodies) in
+    let second = declared x kind.Val (length sc.bodies) in
+    subst (λ k. IsSince names before k (put_text (put_text own i.text) x.text)) (append_assoc sc.names (entry first ∷ []) (entry second ∷ []))
+    (since_put names before (sc.names ++ entry first ∷ []) (put_text own i.text) second (since_put names before sc.names own first since))
+
 since_same : (names : Table Known) (before : List (List ℕ)) (there : Table Known) (own : List (List ℕ)) → IsSince names before there own
     → IsSince names before (there ++ []) own
 since_same names before there own since = subst (λ k. IsSince names before k own) (sym (append-nil there)) since
@@ -221,10 +237,11 @@ mutual
     | inl a ↦ statement_outer ms names before sc own s since sound.0.0 w (λ k. inside_outer ms names before sc own s since sound.0.1 w k) a
     | inr b ↦ statement_outer ms names before sc own u since sound.1.0 w (λ k. inside_outer ms names before sc own u since sound.1.1 w k) b
   ]
-  inside_outer ms names before sc own (For at i lo hi s) since sound w h =
-      let there = with_all sc (declares (length sc.bodies) (For at i lo hi s)) in
-      let more = since_put names before sc.names own (declared i kind.Val (length sc.bodies)) since in
-      statement_outer ms names before there (put_text own i.text) s more sound.0 w (λ k. inside_outer ms names before there (put_text own i.text) s more sound.1 w k) h
+  inside_outer ms names before sc own (For at i lo b s) since sound w h =
+      let there = with_all sc (declares (length sc.bodies) (For at i lo b s)) in
+      let inner = put_texts own (loop_words i b) in
+      let more = since_loop names before sc own at i lo b s since in
+      statement_outer ms names before there inner s more sound.0 w (λ k. inside_outer ms names before there inner s more sound.1 w k) h
   inside_outer ms names before sc own (Async at cs s) since sound w h =
       let there = with_body sc (clocks_listed cs) in
       statement_outer ms names before there own s since sound.0 w (λ k. inside_outer ms names before there own s since sound.1 w k) h
@@ -270,6 +287,10 @@ more_put these a b y fewer x h = elim (one_of (has b x) (is_text x y) (sym (has_
     or_true true = refl
     or_true false = refl
 
+more_puts : (these a b : List (List ℕ)) (ws : List Word) → HasNoMore these a b → HasNoMore these (put_texts a ws) (put_texts b ws)
+more_puts these a b [] fewer = fewer
+more_puts these a b (w ∷ ws) fewer = more_puts these (put_text a w.text) (put_text b w.text) ws (more_put these a b w.text fewer)
+
 more_behind : (these a b : List (List ℕ)) (s : Statement) → HasNoMore these a b → HasNoMore these (own_behind a s) (own_behind b s)
 more_behind these a b (Declare k x ty r) fewer = more_put these a b x.text fewer
 more_behind these a b _ fewer = fewer
@@ -301,10 +322,10 @@ mutual
     | inl k ↦ has_left (outer_words ms b s) (outer_words ms b u) w (statement_kept ms these a b s w fewer other (λ j. inside_kept ms these a b s w fewer other j) k)
     | inr k ↦ has_right (outer_words ms b s) (outer_words ms b u) w (statement_kept ms these a b u w fewer other (λ j. inside_kept ms these a b u w fewer other j) k)
   ]
-  inside_kept ms these a b (For at i lo hi s) w fewer other h =
-      let more = more_put these a b i.text fewer in
-      let c : List (List ℕ) = put_text a i.text in
-      let d : List (List ℕ) = put_text b i.text in
+  inside_kept ms these a b (For at i lo k s) w fewer other h =
+      let more = more_puts these a b (loop_words i k) fewer in
+      let c : List (List ℕ) = put_texts a (loop_words i k) in
+      let d : List (List ℕ) = put_texts b (loop_words i k) in
       statement_kept ms these c d s w more other (λ k. inside_kept ms these c d s w more other k) h
   inside_kept ms these a b (Async at cs s) w fewer other h = statement_kept ms these a b s w fewer other (λ k. inside_kept ms these a b s w fewer other k) h
   inside_kept ms these a b (Finish s) w fewer other h = statement_kept ms these a b s w fewer other (λ k. inside_kept ms these a b s w fewer other k) h

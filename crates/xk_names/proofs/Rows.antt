@@ -1,6 +1,7 @@
 -- Small programs, each with a fault of names that it has.
-use Rattle.std.proofs.Common.{◌≡◌, inl, inr, ℕ, ◌+◌, pos, List, [], ◌∷◌, refl, Option, Some, None, arith}
+use Rattle.std.proofs.Common.{◌≡◌, inl, inr, ℕ, ◌+◌, true, false, pos, List, [], ◌∷◌, refl, Option, Some, None, arith}
 use Rattle.std.specs.Prelude.{codes}
+use Rattle.xk_types.specs.declared.unit.ParamKind.{ParamKind}
 use Rattle.xk_types.specs.declared.unit.ParamKind.TheVariants as param
 use Rattle.xk_tree.specs.declared.fault.FrontRule.TheVariants as rule
 use Rattle.xk_tree.specs.declared.tree.Binding.TheVariants as binding
@@ -218,15 +219,21 @@ param_again = InParams twice (inl refl) (record {
   is = refl;
 })
 
--- no method is called `main`, or it has parameters
+-- no method is called `main`, or it has a parameter that takes a clock
 no_method_main : HasFault (program [] (taker ∷ [])) no_main
-no_method_main = inr (λ e. absurd (cc), refl)
+no_method_main = inr (λ e. e, refl)
 
-abbrev main_with : MethodValue
-main_with = method (named 4 (codes "main")) (record { name = x 9; takes = record { at = 12; kind = param.Number } } ∷ []) Done
+abbrev main_with : ParamKind → MethodValue
+main_with k = method (named 4 (codes "main")) (record { name = x 9; takes = record { at = 12; kind = k } } ∷ []) Done
 
-main_with_params : HasFault (program [] (main_with ∷ [])) no_main
-main_with_params = inr (λ e. absurd (cc), refl)
+main_with_clock : HasFault (program [] (main_with param.Clock ∷ [])) no_main
+main_with_clock = inr (λ e. true_false e, refl)
+  where
+    true_false : true ≡ false → ⊥
+    true_false e = cc
 
-main_there : HasMain (program [] (main Done ∷ main_with ∷ []))
+main_with_number : HasMain (program [] (main_with param.Number ∷ []))
+main_with_number = refl
+
+main_there : HasMain (program [] (main Done ∷ main_with param.Clock ∷ []))
 main_there = refl

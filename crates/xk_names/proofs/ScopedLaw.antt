@@ -1,6 +1,7 @@
 -- A tree without faults of names is scoped.
 use Rattle.std.proofs.Common.{◌≡◌, inl, inr, nat_eq, Bool, true, false, List, [], ◌∷◌, length, Option, Some, None, refl, sym, ◌∙◌, subst, eqb-true, eq-eqb}
 use Rattle.std.specs.Prelude.{codes}
+use Rattle.std.specs.List.{list_any}
 use Rattle.xk_tree.specs.declared.fault.FrontRule.TheVariants as rule
 use Rattle.xk_tree.specs.declared.fault.FrontFault.{FrontFault}
 use Rattle.xk_tree.specs.Tree.{Word, Expression, Statement, Statements, Done, More, Block, If, IfElse, For, Async, Finish, ParamValue, TreeValue}
@@ -9,7 +10,7 @@ use Rattle.xk_names.specs.declared.known.Kind.TheVariants as kind
 use Rattle.xk_names.specs.Scope.{find, has, texts, Has, Declaration, Scope, sees, fits}
 use Rattle.xk_names.specs.Uses.{Use, Signatures, signatures, uses, declares, clocks_listed, calls}
 use Rattle.xk_names.specs.Places.{Way, Here, First, Later, Inside, Else, Stands, StandsAmong, behind}
-use Rattle.xk_names.specs.Faults.{fault, Breaks, NotVisible, OtherKind, NotSeen, DeclaredAgain, Misfit, NoMethod, OtherCount, ClockAgain, InMethods, InParams, InBody, HasFault, HasMain, no_main}
+use Rattle.xk_names.specs.Faults.{fault, Breaks, NotVisible, OtherKind, NotSeen, DeclaredAgain, Misfit, NoMethod, OtherCount, ClockAgain, InMethods, InParams, InBody, HasFault, wants_clock, MayBegin, HasMain, no_main}
 use Rattle.xk_names.specs.Scoped.{IsRight, IsCallable, IsSound, IsSoundInside, AreSound, with_all, with_body, method_scope, IsScoped}
 use Rattle.xk_names.proofs.Walked.{scope_at, scope_among, among_once}
 use Rattle.xk_names.proofs.Whole.{seen_at}
@@ -102,12 +103,15 @@ mutual
   )
 
 main_there : (t : TreeValue) → ((HasMain t → ⊥) → ⊥) → HasMain t
-main_there t h = go (find (signatures t.methods) (codes "main")) refl
+main_there t h = go (find (signatures t.methods) (codes "main")) h
   where
-    go : (o : Option (List ParamValue)) → find (signatures t.methods) (codes "main") ≡ o → HasMain t
-    go None e = absurd (h (λ m. let never : None ≡ Some [] = sym e ∙ m in cc))
-    go (Some []) e = e
-    go (Some (p ∷ ps)) e = absurd (h (λ m. let never : Some (p ∷ ps) ≡ Some [] = sym e ∙ m in cc))
+    by : (b : Bool) → ((b ≡ false → ⊥) → ⊥) → b ≡ false
+    by false lacks = refl
+    by true lacks = absurd (lacks (λ e. cc))
+
+    go : (o : Option (List ParamValue)) → ((MayBegin o → ⊥) → ⊥) → MayBegin o
+    go None lacks = absurd (lacks (λ m. m))
+    go (Some ps) lacks = by (list_any wants_clock ps) lacks
 
 pub scoped_tree : (t : TreeValue) → ((f : FrontFault) → HasFault t f → ⊥) → IsScoped t
 scoped_tree t clean = record {

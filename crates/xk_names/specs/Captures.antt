@@ -4,11 +4,11 @@ use Rattle.std.specs.Prelude.{ℕ, List, [], ◌∷◌, ◌++◌, map, if◌then
 use Rattle.std.specs.List.{flat_map}
 use Rattle.xk_types.specs.declared.unit.ParamKind.{ParamKind}
 use Rattle.xk_types.specs.declared.unit.ParamKind.TheVariants as param
-use Rattle.xk_tree.specs.Tree.{Word, Expression, Literal, Named, Paren, Negation, Binary, Source, Make, Value, Statement, Statements, Done, More, Block, Declare, Assign, Atomic, If, IfElse, For, Async, Finish, Call, Print, SharedValue}
+use Rattle.xk_tree.specs.Tree.{Word, Expression, Literal, Named, Paren, Negation, Binary, Source, Make, Value, Bound, UpTo, Least, Statement, Statements, Done, More, Block, Declare, Assign, Atomic, If, IfElse, For, Async, Finish, Call, Print, SharedValue}
 use Rattle.xk_names.specs.Scope.{find, has}
 use Rattle.xk_names.specs.Uses.{Signatures, given_to}
 use Rattle.xk_names.specs.Places.{behind}
-use Rattle.xk_names.specs.Collected.{put_text, put_texts}
+use Rattle.xk_names.specs.Collected.{put_texts}
 
 -- the names of an expression, in the order of the text
 abbrev pub number_words : Expression → List Word
@@ -22,6 +22,15 @@ abbrev pub source_words : Source → List Word
 source_words (Make at v) = []
 source_words (Value e) = number_words e
 
+abbrev pub bound_words : Bound → List Word
+bound_words (UpTo n) = []
+bound_words (Least x v e n) = number_words e
+
+-- the names that a loop declares
+abbrev pub loop_words : Word → Bound → List Word
+loop_words i (UpTo n) = i ∷ []
+loop_words i (Least x v e n) = i ∷ x ∷ []
+
 abbrev pub argument_words : ParamKind → Expression → List Word
 argument_words param.Number e = number_words e
 argument_words param.Clock e = []
@@ -33,6 +42,7 @@ words_used ms (Assign x e) = x ∷ number_words e
 words_used ms (Atomic x y at e) = number_words e
 words_used ms (If at l c r s) = number_words l ++ number_words r
 words_used ms (IfElse at l c r s t) = number_words l ++ number_words r
+words_used ms (For at i lo b s) = bound_words b
 words_used ms (Call g at es) = flat_map (λ a. argument_words a.0 a.1) (given_to (find ms g.text) es)
 words_used ms (Print at v e) = number_words e
 words_used ms _ = []
@@ -57,7 +67,7 @@ abbrev mutual
   outer_inside ms own (If at l c r s) = words_besides own (words_used ms s) ++ outer_inside ms own s
   outer_inside ms own (IfElse at l c r s t) =
       (words_besides own (words_used ms s) ++ outer_inside ms own s) ++ (words_besides own (words_used ms t) ++ outer_inside ms own t)
-  outer_inside ms own (For at i lo hi s) = let there = put_text own i.text in words_besides there (words_used ms s) ++ outer_inside ms there s
+  outer_inside ms own (For at i lo b s) = let there = put_texts own (loop_words i b) in words_besides there (words_used ms s) ++ outer_inside ms there s
   outer_inside ms own (Async at cs s) = words_besides own (words_used ms s) ++ outer_inside ms own s
   outer_inside ms own (Finish s) = words_besides own (words_used ms s) ++ outer_inside ms own s
   outer_inside ms own _ = []

@@ -1,5 +1,6 @@
 -- The faults of names that a tree has. The rules are this project's own.
-use Rattle.std.specs.Prelude.{◌≡◌, ◌≢◌, ◌⊎◌, ℕ, ◌<◌, ◌≤◌, true, false, List, [], ◌∷◌, ◌++◌, length, map, Some, None, codes}
+use Rattle.std.specs.Prelude.{◌≡◌, ◌≢◌, ◌⊎◌, ℕ, ◌<◌, ◌≤◌, Bool, true, false, List, [], ◌∷◌, ◌++◌, length, map, Option, Some, None, codes}
+use Rattle.std.specs.List.{list_any}
 use Rattle.xk_types.specs.declared.unit.ParamKind.{ParamKind}
 use Rattle.xk_types.specs.declared.unit.ParamKind.TheVariants as param
 use Rattle.xk_tree.specs.declared.fault.FrontRule.{FrontRule}
@@ -93,9 +94,18 @@ pub data HasNameFault (t : TreeValue) (f : FrontFault) : Type 0 where
   InParams : (m : MethodValue) → Has t.methods m → RepeatsName (declared_before t m) f → HasNameFault t f
   InBody : (m : MethodValue) → Has t.methods m → BreaksInside t m f → HasNameFault t f
 
--- there is a method `main`, without parameters
+-- a parameter takes a clock
+abbrev pub wants_clock : ParamValue → Bool
+wants_clock p = elim p.takes.kind as (λ _. Bool) [ param.Clock ↦ true | param.Number ↦ false ]
+
+-- parameters of a method that a program may begin with
+abbrev pub MayBegin : Option (List ParamValue) → Type 0
+MayBegin None = ⊥
+MayBegin (Some ps) = list_any wants_clock ps ≡ false
+
+-- there is a method `main`, none of whose parameters takes a clock
 abbrev pub HasMain : TreeValue → Type 0
-HasMain t = find (signatures t.methods) (codes "main") ≡ Some []
+HasMain t = MayBegin (find (signatures t.methods) (codes "main"))
 
 abbrev pub no_main : FrontFault
 no_main = fault rule.NoMain 0

@@ -1,18 +1,19 @@
 -- Parts of statements that the code goes through, and their faults. This project's own.
-use Rattle.std.specs.Prelude.{List, [], ◌∷◌, ◌++◌, map, Option, is_some, if◌then◌else◌}
+use Rattle.std.specs.Prelude.{List, [], ◌∷◌, ◌++◌, map, length, Option, is_some, if◌then◌else◌}
 use Rattle.std.specs.List.{flat_map}
 use Rattle.xk_types.specs.declared.unit.ParamKind.{ParamKind}
 use Rattle.xk_tree.specs.declared.fault.FrontRule.TheVariants as rule
 use Rattle.xk_tree.specs.declared.fault.FrontFault.{FrontFault}
 use Rattle.xk_tree.specs.declared.tree.Binding.{Binding}
 use Rattle.xk_tree.specs.declared.tree.TypeName.{TypeName}
+use Rattle.xk_names.specs.declared.known.Kind.TheVariants as kind
 use Rattle.xk_names.specs.declared.known.Want.TheVariants as want
-use Rattle.xk_tree.specs.Tree.{Word, Expression, Source, ParamValue, expression}
+use Rattle.xk_tree.specs.Tree.{Word, Expression, Source, Bound, ParamValue, expression}
 use Rattle.xk_names.specs.declared.arguments.Argument.{Argument}
-use Rattle.xk_names.specs.Scope.{Scope, find, is_text}
-use Rattle.xk_names.specs.Uses.{use_as, numbers, source_uses, type_misfits, make_misfits, argument_uses, argument_misfits, argument_clocks, given_to}
+use Rattle.xk_names.specs.Scope.{Scope, find, is_text, declared}
+use Rattle.xk_names.specs.Uses.{use_as, numbers, bound_uses, bound_declares, bound_misfits, source_uses, type_misfits, make_misfits, argument_uses, argument_misfits, argument_clocks, given_to}
 use Rattle.xk_names.specs.Faults.{fault}
-use Rattle.xk_names.specs.Collected.{use_faults, known_call_faults, repeats, when}
+use Rattle.xk_names.specs.Collected.{again, use_faults, known_call_faults, repeats, when}
 
 abbrev pub argument : Argument → ParamKind × Expression
 argument a = (a.takes, expression a.value.now)
@@ -33,6 +34,13 @@ abbrev pub atomic_faults : Scope → Word → Word → Expression → List Front
 atomic_faults sc x y e =
     flat_map (use_faults sc) (use_as want.Shared x ∷ use_as want.Shared y ∷ numbers e)
     ++ map (fault rule.WrongKind) (if is_text x.text y.text then [] else y.at ∷ [])
+
+-- those of a loop of this name and bound
+abbrev pub loop_faults : Scope → Word → Bound → List FrontFault
+loop_faults sc i b =
+    flat_map (use_faults sc) (bound_uses b)
+    ++ (flat_map (again sc.names) (declared i kind.Val (length sc.bodies) ∷ bound_declares (length sc.bodies) b)
+    ++ (map (fault rule.WrongKind) (bound_misfits i b) ++ []))
 
 -- those of `val x: T = r;` and `var x: T = r;`
 abbrev pub declaration_faults : Scope → Binding → Word → Option TypeName → Source → List FrontFault

@@ -8,7 +8,7 @@ use Rattle.xk_tree.specs.declared.tree.Binding.{Binding}
 use Rattle.xk_tree.specs.declared.tree.Binding.TheVariants as binding
 use Rattle.xk_tree.specs.declared.tree.TypeName.{TypeName}
 use Rattle.xk_tree.specs.declared.tree.Number.{Number}
-use Rattle.xk_tree.specs.Tree.{Word, Clocks, Expression, Literal, Named, Paren, Negation, Binary, Source, Make, Value, ParamValue, MethodValue, Statement, Declare, Assign, Atomic, If, IfElse, For, Async, Call, Resume, Drop, Print}
+use Rattle.xk_tree.specs.Tree.{Word, Clocks, Expression, Literal, Named, Paren, Negation, Binary, Source, Make, Value, Bound, UpTo, Least, ParamValue, MethodValue, Statement, Declare, Assign, Atomic, If, IfElse, For, Async, Call, Resume, Drop, Print}
 use Rattle.xk_names.specs.declared.known.Known.{Known}
 use Rattle.xk_names.specs.declared.known.Kind.{Kind}
 use Rattle.xk_names.specs.declared.known.Kind.TheVariants as kind
@@ -103,6 +103,11 @@ abbrev pub source_uses : Source → List Use
 source_uses (Make at v) = []
 source_uses (Value e) = values e
 
+-- those of a loop's bound
+abbrev pub bound_uses : Bound → List Use
+bound_uses (UpTo n) = []
+bound_uses (Least x v e n) = numbers e
+
 abbrev pub is_var : Option Known → Bool
 is_var k = option_map_or (λ j. elim j.kind as (λ _. Bool) [ kind.Var ↦ true | kind.Val ↦ false | kind.Shared ↦ false | kind.Clock ↦ false ]) k false
 
@@ -117,6 +122,7 @@ uses ms names (Assign x e) = use_as want.Assigned x ∷ assigned_uses (find name
 uses ms names (Atomic x y at e) = use_as want.Shared x ∷ use_as want.Shared y ∷ numbers e
 uses ms names (If at l c r s) = numbers l ++ numbers r
 uses ms names (IfElse at l c r s t) = numbers l ++ numbers r
+uses ms names (For at i lo b s) = bound_uses b
 uses ms names (Async at cs s) = map (use_as want.Clock) (clocks_listed cs)
 uses ms names (Call g at es) = flat_map (λ a. argument_uses a.0 a.1) (given_to (find ms g.text) es)
 uses ms names (Resume c v) = use_as want.Clock c ∷ []
@@ -129,10 +135,15 @@ kind_of b (Make at v) = kind.Clock
 kind_of binding.Val (Value e) = kind.Val
 kind_of binding.Var (Value e) = kind.Var
 
--- the name that a statement declares, within so many bodies of `async`
+-- the name of a loop's limit
+abbrev pub bound_declares : ℕ → Bound → List Declaration
+bound_declares n (UpTo hi) = []
+bound_declares n (Least x v e hi) = declared x kind.Val n ∷ []
+
+-- the names that a statement declares, within so many bodies of `async`
 abbrev pub declares : ℕ → Statement → List Declaration
 declares n (Declare b x ty r) = declared x (kind_of b r) n ∷ []
-declares n (For at i lo hi s) = declared i kind.Val n ∷ []
+declares n (For at i lo b s) = declared i kind.Val n ∷ bound_declares n b
 declares n _ = []
 
 -- the type of a declaration, where it isn't that of what stands behind the `=`
@@ -147,10 +158,16 @@ make_misfits binding.Var (Make at v) = at ∷ []
 make_misfits binding.Var (Value e) = []
 make_misfits binding.Val r = []
 
+-- where a loop's limit has the loop's own name; those of texts never have
+abbrev pub bound_misfits : Word → Bound → List ℕ
+bound_misfits i (UpTo n) = []
+bound_misfits i (Least x v e n) = if is_text x.text i.text then x.at ∷ [] else []
+
 -- where something of the wrong kind stands that isn't a name alone
 abbrev pub misfits : Signatures → Statement → List ℕ
 misfits ms (Declare b x ty r) = type_misfits ty r ++ make_misfits b r
 misfits ms (Atomic x y at e) = if is_text x.text y.text then [] else y.at ∷ []
+misfits ms (For at i lo b s) = bound_misfits i b
 misfits ms (Call g at es) = flat_map (λ a. argument_misfits a.0 a.1) (given_to (find ms g.text) es)
 misfits ms _ = []
 

@@ -1,9 +1,9 @@
 //! Statements, and those that they hold.
 
 ghost use Rattle.std.specs.Prelude.{◌≡◌, ◌∷◌, [], length, option_map, IfOk, OnOk};
-ghost use Rattle.xk_tree.specs.Tree.{clock_list, source, statement, statements, word};
+ghost use Rattle.xk_tree.specs.Tree.{bound, clock_list, source, statement, statements, word};
 ghost use Rattle.xk_names.specs.Scope.{declared};
-ghost use Rattle.xk_names.specs.Uses.{clocks_listed, kind_of};
+ghost use Rattle.xk_names.specs.Uses.{bound_declares, clocks_listed, kind_of};
 ghost use Rattle.xk_names.specs.Places.{behind};
 ghost use Rattle.xk_names.specs.Collected.{among, faults, least, put_texts, with_clocks, with_declared};
 
@@ -14,7 +14,7 @@ use crate::scope::Scope;
 use crate::statement::check_own;
 use crate::table::Texts;
 use std::alloc::{AllocError, Global};
-use xk_tree::{Binding, ClockList, FrontFault, Name, Right, Stmt};
+use xk_tree::{Binding, Bound, ClockList, FrontFault, Name, Right, Stmt};
 
 fn kind_of(b: Binding, r: &Right<'_>) -> Kind
     ensures { result ≡ kind_of b (source r.now) }
@@ -35,6 +35,17 @@ fn given<'t>(alloc: Global, clocks: &Option<ClockList<'t>>) -> Result<Texts<'t>,
     match clocks {
         None => Ok(Texts::new(alloc)),
         Some(list) => clocks_of(alloc, list.names.as_slice()),
+    }
+}
+
+// Declares the name of a loop's limit, if it has one.
+fn declare_limit<'t>(scope: &mut Scope<'t>, limit: &Bound<'t>) -> Result<(), AllocError>
+    ensures { OnOk result (scope.new ≡ with_declared scope.old
+        (bound_declares (length scope.old.bodies) (bound limit.now))) }
+{
+    match limit {
+        Bound::UpTo(_) => Ok(()),
+        Bound::Least(y, _, _, _) => scope.declare(*y, Kind::Val),
     }
 }
 
@@ -61,7 +72,7 @@ fn check<'t>(
             check_held(alloc, worst, scope, methods, s)?;
             check_held(alloc, worst, scope, methods, t)
         }
-        Stmt::For(_, x, _, _, s) => check_loop(alloc, worst, scope, methods, *x, s),
+        Stmt::For(_, x, _, limit, s) => check_loop(alloc, worst, scope, methods, *x, limit, s),
         Stmt::Async(_, clocks, s) => {
             let clocks = given(alloc, clocks)?;
             check_body(alloc, worst, scope, methods, clocks, s)
@@ -118,7 +129,7 @@ fn check_held<'t>(
     Ok(())
 }
 
-// The body of a loop whose name is x.
+// The body of a loop whose name is x, with such a bound.
 #[cycle(statements)]
 fn check_loop<'t>(
     alloc: Global,
@@ -126,15 +137,18 @@ fn check_loop<'t>(
     scope: &mut Scope<'t>,
     methods: &Methods<'_, 't>,
     x: Name<'t>,
+    limit: &Bound<'t>,
     s: &Stmt<'t>,
 ) -> Result<(), AllocError>
     ensures faults { OnOk result (worst.new ≡ least worst.old
         (faults methods.now (with_declared scope.old
-        (declared (word x.entry) Kind.Val (length scope.old.bodies) ∷ [])) (statement s.now))) }
+        (declared (word x.entry) Kind.Val (length scope.old.bodies)
+        ∷ bound_declares (length scope.old.bodies) (bound limit.now))) (statement s.now))) }
     ensures scope { OnOk result (scope.new ≡ scope.old) }
 {
     let outside = scope.len();
     scope.declare(x, Kind::Val)?;
+    declare_limit(scope, limit)?;
     check(alloc, worst, scope, methods, s)?;
     scope.cut(outside);
     Ok(())

@@ -3,20 +3,20 @@
 
 ghost use Rattle.std.specs.Prelude.{◌≡◌, [], ◌∷◌, ◌++◌, map, OnOk, IfOk};
 ghost use Rattle.std.specs.List.{flat_map};
-ghost use Rattle.xk_tree.specs.Tree.{expression, expressions, shared_value, source, statement, statements, word};
+ghost use Rattle.xk_tree.specs.Tree.{bound, expression, expressions, shared_value, source, statement, statements, word};
 ghost use Rattle.xk_names.specs.Scope.{find};
 ghost use Rattle.xk_names.specs.Uses.{given_to};
 ghost use Rattle.xk_names.specs.Given.{arguments as given_words};
-ghost use Rattle.xk_names.specs.Captures.{argument_words, captures, number_words, outer_among, shared_texts};
+ghost use Rattle.xk_names.specs.Captures.{argument_words, bound_words, loop_words, captures, number_words, outer_among, shared_texts};
 ghost use Rattle.xk_names.specs.Captures.{outer_words, own_behind, source_words, words_besides};
 ghost use Rattle.xk_names.specs.Captures.{words_used};
-ghost use Rattle.xk_names.specs.Collected.{put_text, put_texts};
+ghost use Rattle.xk_names.specs.Collected.{put_texts};
 
 use crate::arguments::{Argument, arguments};
 use crate::methods::Methods;
 use crate::table::Texts;
 use std::alloc::{AllocError, Global};
-use xk_tree::{Expr, Name, Right, Shared, Stmt};
+use xk_tree::{Bound, Expr, Name, Right, Shared, Stmt};
 use xk_types::ParamKind;
 
 // A number that is used.
@@ -68,6 +68,31 @@ fn take_right<'t>(own: &Texts<'t>, out: &mut Texts<'t>, r: &Right<'t>) -> Result
     match r {
         Right::Make(_, _) => Ok(()),
         Right::Expr(e) => take_numbers(own, out, e),
+    }
+}
+
+fn take_bound<'t>(own: &Texts<'t>, out: &mut Texts<'t>, limit: &Bound<'t>) -> Result<(), AllocError>
+    ensures { OnOk result (out.new ≡ put_texts out.old
+        (words_besides own.now (bound_words (bound limit.now)))) }
+{
+    match limit {
+        Bound::UpTo(_) => Ok(()),
+        Bound::Least(_, _, e, _) => take_numbers(own, out, e),
+    }
+}
+
+// The names of a loop are declared within.
+fn put_loop<'t>(own: &mut Texts<'t>, x: Name<'t>, limit: &Bound<'t>) -> Result<(), AllocError>
+    ensures { OnOk result (own.new ≡ put_texts own.old
+        (loop_words (word x.entry) (bound limit.now))) }
+{
+    let _is_new = own.put(x.text)?;
+    match limit {
+        Bound::UpTo(_) => Ok(()),
+        Bound::Least(y, _, _, _) => {
+            let _is_new = own.put(y.text)?;
+            Ok(())
+        }
     }
 }
 
@@ -145,7 +170,7 @@ fn take_own<'t>(
         Stmt::Print(_, _, e) => take_numbers(own, out, e),
         Stmt::Block(_) => Ok(()),
         Stmt::Empty => Ok(()),
-        Stmt::For(_, _, _, _, _) => Ok(()),
+        Stmt::For(_, _, _, limit, _) => take_bound(own, out, limit),
         Stmt::Async(_, _, _) => Ok(()),
         Stmt::Finish(_) => Ok(()),
         Stmt::Resume(_, _) => Ok(()),
@@ -179,7 +204,7 @@ fn take_all<'t>(
             take_held(alloc, own, out, methods, s)?;
             take_held(alloc, own, out, methods, t)
         }
-        Stmt::For(_, x, _, _, s) => take_loop(alloc, own, out, methods, *x, s),
+        Stmt::For(_, x, _, limit, s) => take_loop(alloc, own, out, methods, *x, limit, s),
         Stmt::Async(_, _, body) => take_held(alloc, own, out, methods, body),
         Stmt::Finish(s) => take_held(alloc, own, out, methods, s),
         Stmt::Empty => Ok(()),
@@ -238,14 +263,16 @@ fn take_loop<'t>(
     out: &mut Texts<'t>,
     methods: &Methods<'_, 't>,
     x: Name<'t>,
+    limit: &Bound<'t>,
     s: &Stmt<'t>,
 ) -> Result<(), AllocError>
     ensures out { OnOk result (out.new ≡ put_texts out.old
-        (outer_words methods.now (put_text own.old x.entry.text.now) (statement s.now))) }
+        (outer_words methods.now (put_texts own.old (loop_words (word x.entry) (bound limit.now)))
+        (statement s.now))) }
     ensures own { OnOk result (own.new ≡ own.old) }
 {
     let outside = own.len();
-    let _is_new = own.put(x.text)?;
+    put_loop(own, x, limit)?;
     take_all(alloc, own, out, methods, s)?;
     own.cut(outside);
     Ok(())

@@ -2,9 +2,9 @@
 
 ghost use Rattle.std.specs.Prelude.{◌≡◌, ◌↔◌, [], ◌∷◌, Err, None, Some, codes, map, IsTrue, OnOk, IfOk};
 ghost use Rattle.xk_tree.specs.Tree.{method_value, param_value, shared_value, tree_value, word};
-ghost use Rattle.std.specs.List.{flat_map};
+ghost use Rattle.std.specs.List.{flat_map, list_any};
 ghost use Rattle.xk_names.specs.Scope.{declared, find};
-ghost use Rattle.xk_names.specs.Faults.{HasFault, IsReported, param_declaration, param_kind, shared_declaration};
+ghost use Rattle.xk_names.specs.Faults.{HasFault, IsReported, param_declaration, param_kind, shared_declaration, MayBegin, wants_clock};
 ghost use Rattle.xk_names.specs.Scoped.{IsScoped};
 ghost use Rattle.xk_names.specs.Uses.{signatures};
 ghost use Rattle.xk_names.specs.Collected.{again, declared_again, least, method_faults, methods_again, name_faults, put_methods, with_declared};
@@ -152,11 +152,11 @@ fn check_methods<'t>(
     Ok(())
 }
 
-// The least fault of names, F9 aside; and whether there is a method `main` without parameters.
+// The least fault of names, F9 aside; and whether there is a method `main` none of whose parameters takes a clock.
 fn least_fault(alloc: Global, tree: &Tree<'_>) -> Result<(Option<FrontFault>, bool), AllocError>
     ensures worst { IfOk result (λ r. r.0 ≡ least None (name_faults (tree_value tree.now))) }
     ensures main { IfOk result (λ r. IsTrue r.1 ↔
-        (find (put_methods [] (tree_value tree.now).methods) (codes "main") ≡ Some [])) }
+        (MayBegin (find (put_methods [] (tree_value tree.now).methods) (codes "main")))) }
 {
     let mut scope = Scope::new(alloc);
     let mut methods = Methods::new(alloc);
@@ -174,7 +174,7 @@ fn least_within<'a, 't>(
     requires methods { methods.old ≡ [] }
     ensures worst { IfOk result (λ r. r.0 ≡ least None (name_faults (tree_value tree.now))) }
     ensures main { IfOk result (λ r. IsTrue r.1 ↔
-        (find (put_methods [] (tree_value tree.now).methods) (codes "main") ≡ Some [])) }
+        (MayBegin (find (put_methods [] (tree_value tree.now).methods) (codes "main")))) }
 {
     let mut worst = None;
     declare_shared(&mut worst, scope, tree.shared.as_slice())?;
@@ -184,13 +184,33 @@ fn least_within<'a, 't>(
     Ok((worst, has_main))
 }
 
-// Whether there is a method `main` without parameters.
+// Whether a parameter takes a clock.
+fn is_clock(param: &Param<'_>) -> bool
+    ensures { result ≡ wants_clock (param_value param.now) }
+{
+    match param.takes.kind {
+        ParamKind::Clock => true,
+        ParamKind::Number => false,
+    }
+}
+
+// Whether one of the parameters takes a clock.
+fn take_clock(params: &[Param<'_>]) -> bool
+    ensures { result ≡ list_any wants_clock (map param_value params.now) }
+{
+    match params.split_first() {
+        None => false,
+        Some((param, rest)) => is_clock(param) || take_clock(rest),
+    }
+}
+
+// Whether there is a method `main` none of whose parameters takes a clock.
 fn has_main<'t>(methods: &Methods<'_, 't>) -> bool
-    ensures { IsTrue result ↔ (find methods.now (codes "main") ≡ Some []) }
+    ensures { IsTrue result ↔ (MayBegin (find methods.now (codes "main"))) }
 {
     match methods.find(b"main") {
         None => false,
-        Some(params) => params.is_empty(),
+        Some(params) => !take_clock(params),
     }
 }
 

@@ -2,11 +2,11 @@
 
 ghost use Rattle.std.specs.Prelude.{◌≡◌, map, is_some, option_map, ◌++◌, OnOk};
 ghost use Rattle.std.specs.List.{flat_map};
-ghost use Rattle.xk_tree.specs.Tree.{clock_list, expression, source, statement, word};
+ghost use Rattle.xk_tree.specs.Tree.{bound, clock_list, expression, source, statement, word};
 ghost use Rattle.xk_names.specs.Faults.{fault};
 ghost use Rattle.xk_names.specs.Scope.{find};
 ghost use Rattle.xk_names.specs.Uses.{assigned_uses, clocks_listed, is_var, make_misfits, numbers, source_uses, type_misfits};
-ghost use Rattle.xk_names.specs.Given.{atomic_faults, declaration_faults};
+ghost use Rattle.xk_names.specs.Given.{atomic_faults, declaration_faults, loop_faults};
 ghost use Rattle.xk_names.specs.Collected.{least, list_faults, own, use_faults, when};
 
 use crate::arguments::{check_call, check_list, check_listed};
@@ -17,7 +17,9 @@ use crate::scope::Scope;
 use crate::table::Texts;
 use crate::worst::{note, note_if};
 use std::alloc::{AllocError, Global};
-use xk_tree::{Binding, ClockList, Expr, FrontFault, FrontRule, Name, Right, Stmt, TypeName};
+use xk_tree::{
+    Binding, Bound, ClockList, Expr, FrontFault, FrontRule, Name, Right, Stmt, TypeName,
+};
 use xk_types::ParamKind;
 
 // A name that is declared.
@@ -123,6 +125,27 @@ fn check_atomic<'t>(
     note_if(x.text != y.text, worst, FrontRule::WrongKind, y.at);
 }
 
+// The names of a loop, and those of its bound.
+fn check_round<'t>(
+    worst: &mut Option<FrontFault>,
+    scope: &Scope<'t>,
+    x: Name<'t>,
+    limit: &Bound<'t>,
+)
+    ensures { worst.new ≡ least worst.old
+        (loop_faults scope.now (word x.entry) (bound limit.now)) }
+{
+    match limit {
+        Bound::UpTo(_) => check_new(worst, scope, x),
+        Bound::Least(y, _, e, _) => {
+            check_numbers(worst, scope, e);
+            check_new(worst, scope, x);
+            check_new(worst, scope, *y);
+            note_if(y.text == x.text, worst, FrontRule::WrongKind, y.at);
+        }
+    }
+}
+
 // `val x: T = r;` or `var x: T = r;`
 fn check_declaration<'t>(
     worst: &mut Option<FrontFault>,
@@ -194,8 +217,8 @@ pub fn check_own<'t>(
             check_sides(worst, scope, l, r);
             Ok(())
         }
-        Stmt::For(_, x, _, _, _) => {
-            check_new(worst, scope, *x);
+        Stmt::For(_, x, _, limit, _) => {
+            check_round(worst, scope, *x, limit);
             Ok(())
         }
         Stmt::Async(_, clocks, _) => check_given(alloc, worst, scope, clocks),

@@ -9,34 +9,36 @@ use Rattle.std.proofs.Common.{add-one}
 use Rattle.xk_types.specs.declared.names.Entry.{Entry}
 use Rattle.xk_types.specs.declared.names.Event.{Event}
 use Rattle.xk_types.specs.Code.{ModuleValue}
-use Rattle.xk_types.specs.World.{opening}
+use Rattle.xk_types.specs.World.{opening, AreArguments}
 use Rattle.xk_types.specs.Step.{Stepped, step}
-use Rattle.xk_types.specs.Schedule.{Leads, is_enabled, number_printed, printed}
+use Rattle.xk_types.specs.Schedule.{Through, run, is_enabled, number_printed, printed}
 use Rattle.xk_types.specs.Logs.{schedule_of}
-use Rattle.xk_laws.proofs.Reached.{run_more}
+use Rattle.xk_laws.proofs.Reached.{run_more, run_arguments}
 use Rattle.xk_core.specs.Core.{CoreValue}
 use Rattle.xk_drive.specs.Driving.{IsRunOf}
 use Rattle.xk_core.specs.Stretch.{RunsTo, IsUnseen}
 use Rattle.xk_drive.proofs.Following.{printed_more}
+use Rattle.xk_drive.proofs.Turns.{leads_with, run_of}
 use Rattle.xk_drive.proofs.Going.{run_then, printed_then}
 use Rattle.xk_replay.specs.Replay.{IsSoFar, GoesOn, IsHeld, IsRepeated, IsStoppedAt}
 
 -- ---- by a step
 
-so_far_more : (list : List ℕ) (numbers : List ℤ) (c d : CoreValue) (a : ℕ) (e : Event)
-    → IsSoFar list numbers c → step c.module_run c.world a ≡ Stepped d.world e → d.module_run ≡ c.module_run
-    → IsSoFar (list ++ a ∷ []) (numbers ++ option_to_list (number_printed e)) d
-so_far_more list numbers c d a e s stepped same = record {
-  leads = subst (λ m. Leads m (list ++ a ∷ []) d.world) (sym same)
-      (run_more c.module_run list (opening c.module_run) c.world d.world a e s.leads stepped);
-  prints = subst (λ m. numbers ++ option_to_list (number_printed e) ≡ printed m (list ++ a ∷ []) (opening m)) (sym same)
+so_far_more : (args : List ℤ) (list : List ℕ) (numbers : List ℤ) (c d : CoreValue) (a : ℕ) (e : Event)
+    → IsSoFar args list numbers c → step c.module_run c.world a ≡ Stepped d.world e → d.module_run ≡ c.module_run
+    → IsSoFar args (list ++ a ∷ []) (numbers ++ option_to_list (number_printed e)) d
+so_far_more args list numbers c d a e s stepped same = record {
+  taken = subst (λ m. AreArguments m args) (sym same) s.taken;
+  leads = subst (λ m. run m (list ++ a ∷ []) (opening m args) ≡ Through d.world) (sym same)
+      (run_more c.module_run list (opening c.module_run args) c.world d.world a e s.leads stepped);
+  prints = subst (λ m. numbers ++ option_to_list (number_printed e) ≡ printed m (list ++ a ∷ []) (opening m args)) (sym same)
       (ap (λ l. l ++ option_to_list (number_printed e)) s.prints
-      ∙ sym (printed_more c.module_run list (opening c.module_run) c.world d.world a e s.leads stepped));
+      ∙ sym (printed_more c.module_run list (opening c.module_run args) c.world d.world a e s.leads stepped));
 }
 
 -- no step of an entry was taken yet
 pub goes_none : (c : CoreValue) (numbers : List ℤ) (a : ℕ) → GoesOn c numbers a 0 c numbers
-goes_none c numbers a list s = subst (λ l. IsSoFar l numbers c) (sym (append-nil list)) s
+goes_none c numbers a args list s = subst (λ l. IsSoFar args l numbers c) (sym (append-nil list)) s
 
 one_more : (list : List ℕ) (n a : ℕ) → list ++ replicate n a ++ a ∷ [] ≡ list ++ replicate (n + 1) a
 one_more list n a = append_assoc list (replicate n a) (a ∷ []) ∙ ap (λ l. list ++ l) (replicate-append-replicate n 1 a)
@@ -45,22 +47,24 @@ one_more list n a = append_assoc list (replicate n a) (a ∷ []) ∙ ap (λ l. l
 pub goes_more : (c d x : CoreValue) (numbers more : List ℤ) (a n : ℕ) (e : Event)
     → GoesOn c numbers a n d more → step d.module_run d.world a ≡ Stepped x.world e → x.module_run ≡ d.module_run
     → GoesOn c numbers a (n + 1) x (more ++ option_to_list (number_printed e))
-goes_more c d x numbers more a n e goes stepped same list s =
-    subst (λ l. IsSoFar l (more ++ option_to_list (number_printed e)) x) (one_more list n a)
-    (so_far_more (list ++ replicate n a) more d x a e (goes list s) stepped same)
+goes_more c d x numbers more a n e goes stepped same args list s =
+    subst (λ l. IsSoFar args l (more ++ option_to_list (number_printed e)) x) (one_more list n a)
+    (so_far_more args (list ++ replicate n a) more d x a e (goes args list s) stepped same)
 
 -- some steps of it more, of which nothing is seen
 pub goes_unseen : (c d x : CoreValue) (numbers more : List ℤ) (a n k : ℕ)
     → GoesOn c numbers a n d more → RunsTo d a k x → IsUnseen d a k → x.module_run ≡ d.module_run → GoesOn c numbers a (n + k) x more
-goes_unseen c d x numbers more a n k goes runs unseen same list s =
+goes_unseen c d x numbers more a n k goes runs unseen same args list s =
     let m = d.module_run in
     let before = list ++ replicate n a in
-    let so_far = goes list s in
-    subst (λ l. IsSoFar l more x) (append_assoc list (replicate n a) (replicate k a) ∙ ap (λ l. list ++ l) (replicate-append-replicate n k a))
+    let so_far = goes args list s in
+    subst (λ l. IsSoFar args l more x) (append_assoc list (replicate n a) (replicate k a) ∙ ap (λ l. list ++ l) (replicate-append-replicate n k a))
     record {
-      leads = subst (λ k2. Leads k2 (before ++ replicate k a) x.world) (sym same) (run_then m before (replicate k a) (opening m) d.world so_far.leads ∙ runs);
-      prints = subst (λ k2. more ≡ printed k2 (before ++ replicate k a) (opening k2)) (sym same)
-          (so_far.prints ∙ sym (printed_then m before (replicate k a) (opening m) d.world so_far.leads unseen));
+      taken = subst (λ k2. AreArguments k2 args) (sym same) so_far.taken;
+      leads = subst (λ k2. run k2 (before ++ replicate k a) (opening k2 args) ≡ Through x.world) (sym same)
+          (run_then m before (replicate k a) (opening m args) d.world so_far.leads ∙ runs);
+      prints = subst (λ k2. more ≡ printed k2 (before ++ replicate k a) (opening k2 args)) (sym same)
+          (so_far.prints ∙ sym (printed_then m before (replicate k a) (opening m args) d.world so_far.leads unseen));
     }
 
 -- as many as another number says
@@ -79,42 +83,49 @@ schedule_more log i d lt =
     ∙ flat_map-append (λ (x : Entry). replicate x.steps x.act) (take i log) (e ∷ [])
     ∙ ap (λ l. schedule_of (take i log) ++ l) (flat_map-cons (λ (x : Entry). replicate x.steps x.act) e [] ∙ append-nil (replicate e.steps e.act))
 
-run_so_far : (m : ModuleValue) (log : List Entry) (numbers : List ℤ) (c : CoreValue) → IsRunOf m log numbers c → IsSoFar (schedule_of log) numbers c
+run_so_far : (m : ModuleValue) (log : List Entry) (numbers : List ℤ) (c : CoreValue) → IsRunOf m log numbers c → IsSoFar c.world.arguments (schedule_of log) numbers c
 run_so_far m log numbers c r = record {
-  leads = subst (λ k. Leads k (schedule_of log) c.world) (sym r.module_is) r.leads;
-  prints = subst (λ k. numbers ≡ printed k (schedule_of log) (opening k)) (sym r.module_is) r.prints;
+  taken = subst (λ k. AreArguments k c.world.arguments) (sym r.module_is) r.leads.0;
+  leads = subst (λ k. run k (schedule_of log) (opening k c.world.arguments) ≡ Through c.world) (sym r.module_is) r.leads.1;
+  prints = subst (λ k. numbers ≡ printed k (schedule_of log) (opening k c.world.arguments)) (sym r.module_is) r.prints;
 }
 
 -- all entries before this one were carried out, and so is this one
 pub entry_more : (m : ModuleValue) (log : List Entry) (i : ℕ) (z : Entry) (numbers more : List ℤ) (c d : CoreValue) → i < length log
     → IsRunOf m (take i log) numbers c → GoesOn c numbers (get_or log i z).act (get_or log i z).steps d more → d.module_run ≡ c.module_run
-    → IsRunOf m (take (i + 1) log) more d
+    → IsRunOf m (take (i + 1) log) more d × (d.world.arguments ≡ c.world.arguments)
 entry_more m log i z numbers more c d lt r goes same =
     let is = same ∙ r.module_is in
-    let s = goes (schedule_of (take i log)) (run_so_far m (take i log) numbers c r) in
+    let args = c.world.arguments in
+    let s = goes args (schedule_of (take i log)) (run_so_far m (take i log) numbers c r) in
     let e = get_or log i z in
     let front = schedule_of (take i log) ++ replicate e.steps e.act in
-    let list = sym (schedule_more log i z lt) in
-    record {
-      module_is = is;
-      leads = subst (λ l. Leads m l d.world) list (subst (λ k. Leads k front d.world) is s.leads);
-      prints = subst (λ l. more ≡ printed m l (opening m)) list (subst (λ k. more ≡ printed k front (opening k)) is s.prints);
-    }
+    let list = sym (schedule_more log i z lt) in (
+      run_of m args (take (i + 1) log) more d is (subst (λ k. AreArguments k args) is s.taken)
+          (subst (λ l. run m l (opening m args) ≡ Through d.world) list (subst (λ k. run k front (opening k args) ≡ Through d.world) is s.leads))
+          (subst (λ l. more ≡ printed m l (opening m args)) list (subst (λ k. more ≡ printed k front (opening k args)) is s.prints)),
+      run_arguments d.module_run front (opening d.module_run args) d.world s.leads,
+    )
 
 -- this one is held up
 pub entry_held : (m : ModuleValue) (log : List Entry) (i : ℕ) (z : Entry) (numbers more : List ℤ) (c d : CoreValue) → i < length log
-    → IsRunOf m (take i log) numbers c → IsHeld c numbers (get_or log i z) d more → d.module_run ≡ c.module_run → IsStoppedAt m log i
+    → IsRunOf m (take i log) numbers c → IsHeld c numbers (get_or log i z) d more → d.module_run ≡ c.module_run
+    → IsStoppedAt m c.world.arguments log i
 entry_held m log i z numbers more c d lt r h same =
     let is = same ∙ r.module_is in
     let e = get_or log i z in
+    let args = c.world.arguments in
+    let s = h.goes args (schedule_of (take i log)) (run_so_far m (take i log) numbers c r) in
+    let front = schedule_of (take i log) ++ replicate h.done e.act in
+    let led = leads_with m args front d.world (subst (λ k. AreArguments k args) is s.taken) (subst (λ k. run k front (opening k args) ≡ Through d.world) is s.leads) in
     record {
       entry = e;
       there = slice_get-get_or log i z lt;
       done = h.done;
       left = h.left;
       last = d.world;
-      leads = subst (λ k. Leads k (schedule_of (take i log) ++ replicate h.done e.act) d.world) is
-          (h.goes (schedule_of (take i log)) (run_so_far m (take i log) numbers c r)).leads;
+      leads = led.0;
+      given = led.1;
       blocked = subst (λ k. is_enabled k d.world e.act ≡ false) is h.blocked;
     }
 

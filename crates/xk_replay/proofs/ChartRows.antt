@@ -14,7 +14,7 @@ row step clock phase acts = record { step = step; clock = clock; phase = phase; 
 
 -- the chart of the schedule
 abbrev charted : ModuleValue → List ℕ → List Advance
-charted m list = advances m list (opening m)
+charted m list = advances m list (opening m [])
 
 -- ---- two activities in step, the least first and the greatest first
 
@@ -30,7 +30,7 @@ in_step_first = refl
 in_step_last : charted in_step (0 ∷ 0 ∷ 1 ∷ 0 ∷ 1 ∷ 1 ∷ 1 ∷ 1 ∷ 0 ∷ 0 ∷ 0 ∷ 0 ∷ []) ≡ row 4 0 1 (0 ∷ 1 ∷ []) ∷ []
 in_step_last = refl
 
-in_step_text : chart_text in_step (one_step_of 0 ∷ one_step_of 0 ∷ one_step_of 1 ∷ one_step_of 0 ∷ []) ≡ flat_map advance_line (row 4 0 1 (0 ∷ 1 ∷ []) ∷ [])
+in_step_text : chart_text in_step [] (one_step_of 0 ∷ one_step_of 0 ∷ one_step_of 1 ∷ one_step_of 0 ∷ []) ≡ flat_map advance_line (row 4 0 1 (0 ∷ 1 ∷ []) ∷ [])
 in_step_text = refl
 
 -- ---- the child starts ahead

@@ -66,18 +66,19 @@ rest_lines m a n k w x e text more all is stepped grown h =
 -- ---- by an entry
 
 -- The entries before number i were carried out and their lines written: the rest is legal, and its lines are those that are wanting.
-pub record IsCharted (m : ModuleValue) (log : List Entry) (i : ℕ) (c : CoreValue) (text : List ℕ) : Type 0 where
+pub record IsCharted (m : ModuleValue) (args : List ℤ) (log : List Entry) (i : ℕ) (c : CoreValue) (text : List ℕ) : Type 0 where
   pub same_module : c.module_run ≡ m
   pub last : World
   pub legal : run m (schedule_of (drop i log)) c.world ≡ Through last
-  pub lines : text ++ chart_lines m (schedule_of (drop i log)) c.world ≡ chart_text m log
+  pub lines : text ++ chart_lines m (schedule_of (drop i log)) c.world ≡ chart_text m args log
 
 -- none was carried out yet
-pub chart_starts : (m : ModuleValue) (log : List Entry) (numbers : List ℤ) (c d : CoreValue) (text : List ℕ) → IsRunOf m log numbers d → c ≡ opening_core m → text ≡ []
-    → IsCharted m log 0 c text
+pub chart_starts : (m : ModuleValue) (log : List Entry) (numbers : List ℤ) (c d : CoreValue) (text : List ℕ) → IsRunOf m log numbers d → c ≡ opening_core m d.world.arguments
+    → text ≡ [] → IsCharted m d.world.arguments log 0 c text
 chart_starts m log numbers c d text r is none =
-    subst (λ x. IsCharted m log 0 x text) (sym is) (subst (λ t. IsCharted m log 0 (opening_core m) t) (sym none)
-    (record { same_module = refl; last = d.world; legal = r.leads; lines = refl }))
+    let args = d.world.arguments in
+    subst (λ x. IsCharted m args log 0 x text) (sym is) (subst (λ t. IsCharted m args log 0 (opening_core m args) t) (sym none)
+    (record { same_module = refl; last = d.world; legal = r.leads.1; lines = refl }))
 
 schedule_rest : (log : List Entry) (i : ℕ) (z : Entry) → i < length log
     → schedule_of (drop i log) ≡ replicate (get_or log i z).steps (get_or log i z).act ++ schedule_of (drop (i + 1) log)
@@ -88,20 +89,20 @@ schedule_rest log i z lt =
     ∙ ap (λ j. replicate (get_or log i z).steps (get_or log i z).act ++ schedule_of (drop j log)) next
 
 -- the entry's steps are legal
-pub entry_legal : (m : ModuleValue) (log : List Entry) (i : ℕ) (z : Entry) (c : CoreValue) (text : List ℕ) → i < length log → IsCharted m log i c text
+pub entry_legal : (m : ModuleValue) (args : List ℤ) (log : List Entry) (i : ℕ) (z : Entry) (c : CoreValue) (text : List ℕ) → i < length log → IsCharted m args log i c text
     → (u : World) × (run c.module_run (replicate (get_or log i z).steps (get_or log i z).act) c.world ≡ Through u)
-entry_legal m log i z c text lt h =
+entry_legal m args log i z c text lt h =
     let list = replicate (get_or log i z).steps (get_or log i z).act in
     let f = legal_front m list (schedule_of (drop (i + 1) log)) c.world h.last
     (ap (λ l. run m l c.world) (sym (schedule_rest log i z lt)) ∙ h.legal) in
     (f.0, ap (λ k. run k list c.world) h.same_module ∙ f.1)
 
 -- and behind them the rest goes on
-pub entry_charted : (m : ModuleValue) (log : List Entry) (i : ℕ) (z : Entry) (c d : CoreValue) (text more : List ℕ) → i < length log → IsCharted m log i c text
+pub entry_charted : (m : ModuleValue) (args : List ℤ) (log : List Entry) (i : ℕ) (z : Entry) (c d : CoreValue) (text more : List ℕ) → i < length log → IsCharted m args log i c text
     → run c.module_run (replicate (get_or log i z).steps (get_or log i z).act) c.world ≡ Through d.world → d.module_run ≡ c.module_run
     → more ≡ text ++ chart_lines c.module_run (replicate (get_or log i z).steps (get_or log i z).act) c.world
-    → IsCharted m log (i + 1) d more
-entry_charted m log i z c d text more lt h led same grown =
+    → IsCharted m args log (i + 1) d more
+entry_charted m args log i z c d text more lt h led same grown =
     let list = replicate (get_or log i z).steps (get_or log i z).act in
     let rest = schedule_of (drop (i + 1) log) in
     let through : run m list c.world ≡ Through d.world = ap (λ k. run k list c.world) (sym h.same_module) ∙ led in

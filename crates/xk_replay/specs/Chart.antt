@@ -1,6 +1,6 @@
 -- The chart of a run: all advances of its clocks. What an advance is, `xk_types` says in `Step.antt`; that they are told so is this project's
 -- own.
-use Rattle.std.specs.Prelude.{◌≡◌, ℕ, List, [], ◌∷◌, ◌++◌, length, map, filter, flat_map, slice_get, codes, decimal}
+use Rattle.std.specs.Prelude.{◌≡◌, ℕ, ℤ, List, [], ◌∷◌, ◌++◌, length, map, filter, flat_map, slice_get, codes, decimal}
 use Rattle.std.specs.Option.{option_map_or}
 use Rattle.xk_types.specs.declared.names.Entry.{Entry}
 use Rattle.xk_types.specs.Code.{ModuleValue}
@@ -63,9 +63,9 @@ advance_line x =
 abbrev pub chart_lines : ModuleValue → List ℕ → World → List ℕ
 chart_lines m list w = flat_map advance_line (advances m list w)
 
--- the chart of the run that a log stands for
-abbrev pub chart_text : ModuleValue → List Entry → List ℕ
-chart_text m log = chart_lines m (schedule_of log) (opening m)
+-- the chart of the run that a log stands for, where main is given these numbers
+abbrev pub chart_text : ModuleValue → List ℤ → List Entry → List ℕ
+chart_text m args log = chart_lines m (schedule_of log) (opening m args)
 
 -- the list is legal from the core's world
 abbrev pub IsLegalFrom : CoreValue → List ℕ → Type 0

@@ -2,50 +2,53 @@
 use Rattle.std.specs.Prelude.{◌≡◌, ℕ, ℤ, ◌<◌, Bool, true, false, List, ◌++◌, replicate, take, Some, slice_get}
 use Rattle.xk_types.specs.declared.names.Entry.{Entry}
 use Rattle.xk_types.specs.Code.{ModuleValue}
-use Rattle.xk_types.specs.World.{World, opening}
-use Rattle.xk_types.specs.Schedule.{Leads, is_enabled, all_ended, printed}
+use Rattle.xk_types.specs.World.{World, opening, AreArguments}
+use Rattle.xk_types.specs.Schedule.{Through, Leads, run, is_enabled, all_ended, printed}
 use Rattle.xk_types.specs.Logs.{schedule_of}
 use Rattle.xk_core.specs.Core.{CoreValue}
 use Rattle.xk_replay.specs.declared.fault.ReplayFault.{ReplayFault}
 use Rattle.xk_replay.specs.declared.fault.ReplayFault.TheVariants as fault
 
--- Entry number i of the log is the first that holds a step which isn't enabled: those before it are legal, and so are this many of its own
+-- Where main is given these numbers, entry number i of the log is the first that holds a step which isn't enabled: those before it are legal, and so are this many of its own
 -- steps, fewer than it stands for; then its activity can't take another.
-pub record IsStoppedAt (m : ModuleValue) (log : List Entry) (i : ℕ) : Type 0 where
+pub record IsStoppedAt (m : ModuleValue) (args : List ℤ) (log : List Entry) (i : ℕ) : Type 0 where
   pub entry : Entry
   pub there : slice_get log i ≡ Some entry
   pub done : ℕ
   pub left : done < entry.steps
   pub last : World
   pub leads : Leads m (schedule_of (take i log) ++ replicate done entry.act) last
+  pub given : last.arguments ≡ args
   pub blocked : is_enabled m last entry.act ≡ false
 
 -- the log is legal, and behind its last step somebody hasn't ended
-pub record IsUnfinished (m : ModuleValue) (log : List Entry) : Type 0 where
+pub record IsUnfinished (m : ModuleValue) (args : List ℤ) (log : List Entry) : Type 0 where
   pub last : World
   pub leads : Leads m (schedule_of log) last
+  pub given : last.arguments ≡ args
   pub goes_on : all_ended last ≡ false
 
 -- what is told of a log that isn't that of a whole run; of want of memory nothing is said
-abbrev pub IsFaultOf : ModuleValue → List Entry → ReplayFault → Type 0
-IsFaultOf m log (fault.NotEnabled i) = IsStoppedAt m log i
-IsFaultOf m log fault.NotEnded = IsUnfinished m log
-IsFaultOf m log fault.OutOfMemory = Unit {0}
+abbrev pub IsFaultOf : ModuleValue → List ℤ → List Entry → ReplayFault → Type 0
+IsFaultOf m args log (fault.NotEnabled i) = IsStoppedAt m args log i
+IsFaultOf m args log fault.NotEnded = IsUnfinished m args log
+IsFaultOf m args log fault.OutOfMemory = Unit {0}
 
 -- what is told before the end of a log is looked at
-abbrev pub IsStop : ModuleValue → List Entry → ReplayFault → Type 0
-IsStop m log (fault.NotEnabled i) = IsStoppedAt m log i
-IsStop m log fault.NotEnded = ⊥
-IsStop m log fault.OutOfMemory = Unit {0}
+abbrev pub IsStop : ModuleValue → List ℤ → List Entry → ReplayFault → Type 0
+IsStop m args log (fault.NotEnabled i) = IsStoppedAt m args log i
+IsStop m args log fault.NotEnded = ⊥
+IsStop m args log fault.OutOfMemory = Unit {0}
 
--- the list leads from the opening world to the core, and prints these numbers
-pub record IsSoFar (list : List ℕ) (numbers : List ℤ) (c : CoreValue) : Type 0 where
-  pub leads : Leads c.module_run list c.world
-  pub prints : numbers ≡ printed c.module_run list (opening c.module_run)
+-- the list leads from the opening world with these arguments to the core, and prints these numbers
+pub record IsSoFar (args : List ℤ) (list : List ℕ) (numbers : List ℤ) (c : CoreValue) : Type 0 where
+  pub taken : AreArguments c.module_run args
+  pub leads : run c.module_run list (opening c.module_run args) ≡ Through c.world
+  pub prints : numbers ≡ printed c.module_run list (opening c.module_run args)
 
 -- this many steps more of activity a lead from one core to another
 abbrev pub GoesOn : CoreValue → List ℤ → ℕ → ℕ → CoreValue → List ℤ → Type 0
-GoesOn c numbers a n d more = (list : List ℕ) → IsSoFar list numbers c → IsSoFar (list ++ replicate n a) more d
+GoesOn c numbers a n d more = (args : List ℤ) (list : List ℕ) → IsSoFar args list numbers c → IsSoFar args (list ++ replicate n a) more d
 
 -- some steps of the entry were taken, fewer than it stands for, and then its activity can't take another
 pub record IsHeld (c : CoreValue) (numbers : List ℤ) (e : Entry) (d : CoreValue) (more : List ℤ) : Type 0 where

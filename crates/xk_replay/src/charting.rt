@@ -16,9 +16,10 @@ use xk_types::{Act, ClockId, Entry};
 /// looked at.
 pub fn chart(alloc: Global, ended: &Ended<'_>) -> Result<String, AllocError>
     ensures { IfOk result (λ text. string_bytes text
-        ≡ chart_text ended.now.module.now ended.now.log.items) }
+        ≡ chart_text ended.now.module.now ended.now.core.world.arguments
+        ended.now.log.items) }
 {
-    let mut core = Core::open(alloc, ended.module)?;
+    let mut core = Core::open(alloc, ended.module, ended.core.arguments())?;
     let mut text = String::new(alloc);
     for entry in &ended.log {
         put_entry(alloc, &mut text, &mut core, *entry)?;

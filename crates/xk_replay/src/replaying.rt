@@ -1,6 +1,7 @@
 //! A log is played again.
 
 ghost use Rattle.std.specs.Prelude.{◌≡◌, IfOk, IfErr};
+ghost use Rattle.xk_types.specs.World.{AreArguments};
 ghost use Rattle.xk_drive.specs.Driving.{IsRunOf};
 ghost use Rattle.xk_replay.specs.Replay.{IsFaultOf, IsStop, IsRepeated};
 
@@ -19,38 +20,44 @@ struct Led<'m> {
     printed: Vec<i64>,
 }
 
-/// Plays a log again: carries out the steps that its entries stand for, one after the other, and stops before the first that isn't
+/// Plays a log again, main being given as many numbers as it takes: carries out the steps that its entries stand for, one after the other, and stops before the first that isn't
 /// enabled, which comes behind at most the verified number of steps. Ok exactly where each is enabled and behind the last all have ended,
 /// want of memory aside; the answer has the log as it was given. Where there is none, the log comes back with the reason.
 pub fn replay<'m>(
     alloc: Global,
     verified: &'m Verified,
+    arguments: &[i64],
     log: Log,
 ) -> Result<Ended<'m>, (Log, ReplayFault)>
+    requires { AreArguments verified.now arguments.now }
     ensures same_module { IfOk result (λ e. e.module.now ≡ verified.now) }
+    ensures same_arguments { IfOk result (λ e. e.core.world.arguments ≡ arguments.now) }
     ensures same_log { IfOk result (λ e. e.log.items ≡ log) }
     ensures log_back { IfErr result (λ f. f.0 ≡ log) }
     // A log of which a fault is told is none of a whole run.
-    ensures fault { IfErr result (λ f. IsFaultOf verified.now log f.1) }
+    ensures fault { IfErr result (λ f. IsFaultOf verified.now arguments.now log f.1) }
 {
     let entries = log.into_entries();
-    match carry_out(alloc, verified, &entries) {
+    match carry_out(alloc, verified, arguments, &entries) {
         Err(fault) => Err((Log::new(entries), fault)),
-        Ok(led) => close(verified, entries, led),
+        Ok(led) => close(verified, arguments, entries, led),
     }
 }
 
 /// The answer to a log that leads so far.
 fn close<'m>(
     verified: &'m Verified,
+    arguments: &[i64],
     entries: Vec<Entry>,
     led: Led<'m>,
 ) -> Result<Ended<'m>, (Log, ReplayFault)>
-    requires { IsRunOf verified.now entries.items led.printed.items led.core }
+    requires run { IsRunOf verified.now entries.items led.printed.items led.core }
+    requires given { led.core.world.arguments ≡ arguments.now }
     ensures same_module { IfOk result (λ e. e.module.now ≡ verified.now) }
+    ensures same_arguments { IfOk result (λ e. e.core.world.arguments ≡ arguments.now) }
     ensures same_log { IfOk result (λ e. e.log.items ≡ entries.items) }
     ensures log_back { IfErr result (λ f. f.0 ≡ entries.items) }
-    ensures fault { IfErr result (λ f. IsFaultOf verified.now entries.items f.1) }
+    ensures fault { IfErr result (λ f. IsFaultOf verified.now arguments.now entries.items f.1) }
 {
     let over = led.core.ended();
     if over {
@@ -69,13 +76,16 @@ fn close<'m>(
 fn carry_out<'m>(
     alloc: Global,
     verified: &'m Verified,
+    arguments: &[i64],
     log: &[Entry],
 ) -> Result<Led<'m>, ReplayFault>
+    requires { AreArguments verified.now arguments.now }
     ensures led { IfOk result (λ led.
         IsRunOf verified.now log.now led.printed.items led.core) }
-    ensures stopped { IfErr result (IsStop verified.now log.now) }
+    ensures given { IfOk result (λ led. led.core.world.arguments ≡ arguments.now) }
+    ensures stopped { IfErr result (IsStop verified.now arguments.now log.now) }
 {
-    let mut core = Core::open(alloc, verified)?;
+    let mut core = Core::open(alloc, verified, arguments)?;
     let mut printed = Vec::new(alloc);
     for (i, entry) in log.iter().enumerate() {
         if !repeat(&mut core, &mut printed, *entry)? {

@@ -42,6 +42,16 @@ fn is_same_instr(a: &Instr, b: &Instr) -> bool
             is_also!(b, Instr::For { k: l, lo: p, hi: q, e: f }
                 => *k == *l && *n == *p && *o == *q && *e == *f)
         }
+        Instr::ForTo {
+            k,
+            lo: n,
+            x,
+            hi: o,
+            e,
+        } => {
+            is_also!(b, Instr::ForTo { k: l, lo: p, x: y, hi: q, e: f }
+                => *k == *l && *n == *p && *x == *y && *o == *q && *e == *f)
+        }
         Instr::Next(p) => is_also!(b, Instr::Next(q) => *p == *q),
         Instr::Finish(p) => is_also!(b, Instr::Finish(q) => *p == *q),
         Instr::EndFinish(p) => is_also!(b, Instr::EndFinish(q) => *p == *q),

@@ -9,7 +9,7 @@ use Rattle.xk_types.specs.declared.instr.Instr.{Instr}
 use Rattle.xk_types.specs.declared.instr.Instr.TheVariants as instr
 use Rattle.xk_types.specs.Code.{UnitValue, Loop, loops, is_round, is_within}
 use Rattle.xk_types.specs.Blocks.{is_inside}
-use Rattle.xk_types.specs.Shape.{span_of, spans, differ, crosses, slot_written, writes_slot}
+use Rattle.xk_types.specs.Shape.{span_of, spans, differ, crosses, slot_written, counts_by, spoils}
 use Rattle.xk_shape.specs.Nests.{begin_named}
 use Rattle.xk_shape.specs.Places.{is_counter}
 use Rattle.xk_types.proofs.Members.{same_test}
@@ -36,9 +36,9 @@ none_written : (at : ℕ) (ls : List Loop) → list_any (λ l. is_within at l &&
 none_written at [] = refl
 none_written at (l ∷ ls) = rw and-false (none_written at ls)
 
-pub nothing_written : (i : Instr) (at : ℕ) (ls : List Loop) → slot_written i ≡ None → list_any (λ l. is_within at l && writes_slot l.slot i) ls ≡ false
+pub nothing_written : (i : Instr) (at : ℕ) (ls : List Loop) → slot_written i ≡ None → list_any (λ l. is_within at l && spoils l i) ls ≡ false
 nothing_written i at ls none =
-    let P : Option ℕ → Type 0 = λ o. list_any (λ l. is_within at l && option_map_or (λ d. eqb d l.slot) o false) ls ≡ false in
+    let P : Option ℕ → Type 0 = λ o. list_any (λ l. is_within at l && option_map_or (λ d. counts_by d l) o false) ls ≡ false in
     subst P (sym none) (none_written at ls)
 
 written_ends : (i : Instr) (d : ℕ) → slot_written i ≡ Some d → begin_named i ≡ None
@@ -48,9 +48,9 @@ written_ends _ d h = refl
 
 -- what writes a slot writes one of a loop round it where a loop counts in that slot
 pub written_in : (u : UnitValue) (at d : ℕ) (i : Instr) → slice_get u.code at ≡ Some i → slot_written i ≡ Some d
-    → is_counter u at d ≡ list_any (λ l. is_within at l && writes_slot l.slot i) (loops u)
-written_in u at d i here writes = any_same (λ l. is_round at l && (d == l.slot)) (λ l. is_within at l && writes_slot l.slot i) (loops u)
+    → is_counter u at d ≡ list_any (λ l. is_within at l && spoils l i) (loops u)
+written_in u at d i here writes = any_same (λ l. is_round at l && counts_by d l) (λ l. is_within at l && spoils l i) (loops u)
     (λ l has.
     let apart = no_end u at i (span_of l) here (written_ends i d writes) (is_span u (span_of l) (loop_span u l has)) in
-    ap (λ b. (nat_lt l.first at && b) && (d == l.slot)) (below_last at l.last apart)
-    ∙ ap (λ o. is_within at l && option_map_or (λ x. x == l.slot) o false) (sym writes))
+    ap (λ b. (nat_lt l.first at && b) && counts_by d l) (below_last at l.last apart)
+    ∙ ap (λ o. is_within at l && option_map_or (λ x. counts_by x l) o false) (sym writes))

@@ -58,6 +58,7 @@ ends_inside f g apart p q = elim (cases_order g.last f.last) [
 begin_test : (u : UnitValue) (at e : ℕ) (i : Instr) → end_named i ≡ Some e
     → (is_jump i ≡ false) × (is_crossing u at i ≡ is_amiss u (span_begun u at i)) × (aims_well u at i ≡ lies_ahead u at e)
 begin_test u at e (instr.For k lo hi x) h = (refl, refl, ap (lies_ahead u at) (same_Some x e h))
+begin_test u at e (instr.ForTo k lo y hi x) h = (refl, refl, ap (lies_ahead u at) (same_Some x e h))
 begin_test u at e (instr.Finish x) h = (refl, refl, ap (lies_ahead u at) (same_Some x e h))
 begin_test u at e _ h = absurd (none-some e h)
 
@@ -189,6 +190,7 @@ module _ (u : UnitValue) (below : AreNestedBelow u (length u.code)) where
 
   aimed : (at : ℕ) (i : Instr) → slice_get u.code at ≡ Some i → is_jump i ≡ false → aims_well u at i ≡ true
   aimed at (instr.For k lo hi e) here h = (begins_well at e (instr.For k lo hi e) here refl).0
+  aimed at (instr.ForTo k lo x hi e) here h = (begins_well at e (instr.ForTo k lo x hi e) here refl).0
   aimed at (instr.Finish e) here h = (begins_well at e (instr.Finish e) here refl).0
   aimed at (instr.Next b) here h = (ends_well at b (instr.Next b) here refl).0
   aimed at (instr.EndFinish b) here h = (ends_well at b (instr.EndFinish b) here refl).0
@@ -198,6 +200,7 @@ module _ (u : UnitValue) (below : AreNestedBelow u (length u.code)) where
 
   paired : (at : ℕ) (i : Instr) → slice_get u.code at ≡ Some i → is_jump i ≡ false → is_crossing u at i ≡ false
   paired at (instr.For k lo hi e) here h = (begins_well at e (instr.For k lo hi e) here refl).1
+  paired at (instr.ForTo k lo x hi e) here h = (begins_well at e (instr.ForTo k lo x hi e) here refl).1
   paired at (instr.Finish e) here h = (begins_well at e (instr.Finish e) here refl).1
   paired at (instr.Next b) here h = (ends_well at b (instr.Next b) here refl).1
   paired at (instr.EndFinish b) here h = (ends_well at b (instr.EndFinish b) here refl).1

@@ -3,23 +3,24 @@ use Rattle.std.proofs.Common.{◌≡◌, ℕ, ℤ, suc, ◌+◌, ◌<◌, ◌⊎
 use Rattle.std.specs.List.{list_any}
 use Rattle.std.specs.Option.{option_eq}
 use Rattle.std.proofs.lemmas.Option.{same_Some, none-some, slice_get-get_or}
-use Rattle.std.proofs.lemmas.Bool.{and_parts, and_from, or_cases, or_left, or_right, not-false, both_ways, false_from_ne_true, cases_order}
+use Rattle.std.proofs.lemmas.Bool.{and_parts, and_from, or_cases, or_left, or_right, not-false, both_ways, false_from_ne_true, cases_order, eqb-true, eq-eqb}
 use Rattle.std.proofs.lemmas.Nat.Bits.{bit_at-zero}
+use Rattle.std.proofs.Math.Bool.{or-false}
 use Rattle.xk_types.specs.declared.instr.Instr.{Instr}
 use Rattle.xk_types.specs.declared.instr.Instr.TheVariants as instr
 use Rattle.xk_types.specs.Order.{Has}
-use Rattle.xk_types.specs.Code.{UnitValue, Loop, loop_begun, loops, is_round}
+use Rattle.xk_types.specs.Code.{UnitValue, Loop, loop_head, loop_begun, loops, is_round}
 use Rattle.xk_types.specs.Blocks.{Span, finish_opened, finishes, is_inside, block_at}
-use Rattle.xk_types.specs.Shape.{span_of, span_begun, spans, differ}
+use Rattle.xk_types.specs.Shape.{span_of, span_begun, spans, differ, counts_by}
 use Rattle.xk_shape.specs.declared.places.Place.{Place}
 use Rattle.xk_shape.specs.Nests.{end_named, begin_named, span, begins_behind, ends_behind, AreNested, AreNestedBelow, IsInNoneBehind}
 use Rattle.xk_shape.specs.Places.{innermost, IsInnermost, LiesWithin, is_counter, has_slot, LiesSo, AreFirstPlaces}
 use Rattle.xk_types.proofs.Members.{same_test, has_any, none_has}
 use Rattle.xk_types.proofs.Shape.Begun.{begun_had}
 use Rattle.xk_types.proofs.Shape.Finishes.{is_finish}
-use Rattle.xk_types.proofs.Shape.Loops.{is_loop}
+use Rattle.xk_types.proofs.Shape.Loops.{head_first, head_span, begins, is_loop}
 use Rattle.xk_types.proofs.Shape.Spans.{of_loop, loop_span, finish_span}
-use Rattle.xk_shape.proofs.SpanEnds.{is_span, slot_is, has_span, same_end, same_begin, no_begin, no_end, ends_none, begins_none, any_found, any_same}
+use Rattle.xk_shape.proofs.SpanEnds.{is_span, head_end, loop_is, has_span, same_end, same_begin, no_begin, no_end, ends_none, begins_none, any_found, any_same}
 use Rattle.xk_shape.proofs.Nested.{decides_inside, inside_same, inside_next, ends_inside, begun_ahead, ended_behind, nested_begun, nested_ended, nested_apart}
 use Rattle.xk_shape.proofs.Around.{around_same, block_first, block_begins}
 use Rattle.xk_shape.proofs.OneBlock.{innermost_push, decides_option}
@@ -28,11 +29,16 @@ next_length : (xs : List ℕ) (n : ℕ) → length xs + 1 ≡ length (xs ++ n �
 next_length [] n = refl
 next_length (x ∷ xs) n = omega (arith, next_length xs n)
 
-no_finish : (u : UnitValue) (at k e : ℕ) (lo hi : ℤ) → slice_get u.code at ≡ Some (instr.For k lo hi e) → (f : Span) → Has (finishes u) f → f.first ≡ at → ⊥
-no_finish u at k e lo hi here f has first = let same = same_Some _ _ (sym here ∙ ap (slice_get u.code) (sym first) ∙ (is_finish u f has).begins) in cc
+no_finish : (u : UnitValue) (at : ℕ) (i : Instr) (l : Loop) → slice_get u.code at ≡ Some i → loop_head at i ≡ Some l → (f : Span) → Has (finishes u) f → f.first ≡ at → ⊥
+no_finish u at i l here head f has first =
+    let same : i ≡ instr.Finish f.last = same_Some _ _ (sym here ∙ ap (slice_get u.code) (sym first) ∙ (is_finish u f has).begins) in
+    none-some l (ap (loop_head at) (sym same) ∙ head)
 
 no_loop : (u : UnitValue) (at e : ℕ) → slice_get u.code at ≡ Some (instr.Finish e) → (l : Loop) → Has (loops u) l → l.first ≡ at → ⊥
-no_loop u at e here l has first = let same = same_Some _ _ (sym here ∙ ap (slice_get u.code) (sym first) ∙ (is_loop u l has).begins) in cc
+no_loop u at e here l has first =
+    let is = is_loop u l has in
+    let same : instr.Finish e ≡ is.head = same_Some _ _ (sym here ∙ ap (slice_get u.code) (sym first) ∙ is.begins) in
+    none-some l (ap (loop_head l.first) same ∙ is.is)
 
 -- ---- two places
 
@@ -55,8 +61,8 @@ module _ (u : UnitValue) where
   block_same a b same = around_same (is_inside a) (is_inside b) (finishes u) (λ f has. same f (finish_span u f has))
 
   counter_same : (a b s : ℕ) → AreRoundBoth u a b → is_counter u a s ≡ is_counter u b s
-  counter_same a b s same = any_same (λ l. is_round a l && (s == l.slot)) (λ l. is_round b l && (s == l.slot)) (loops u)
-      (λ l has. ap (λ t. t && (s == l.slot)) (same (span_of l) (loop_span u l has)))
+  counter_same a b s same = any_same (λ l. is_round a l && counts_by s l) (λ l. is_round b l && counts_by s l) (loops u)
+      (λ l has. ap (λ t. t && counts_by s l) (same (span_of l) (loop_span u l has)))
 
   -- a place round which the same lie as round another lies as that one
   pub lies_as : (a b : ℕ) (p : Place) → AreRoundBoth u a b → LiesSo u b p → LiesSo u a p
@@ -113,37 +119,34 @@ module _ (u : UnitValue) where
 
   -- ---- the slots that loops count in
 
-  counter_loop : (at k e : ℕ) (lo hi : ℤ) → slice_get u.code at ≡ Some (instr.For k lo hi e) → (l : Loop) → Has (loops u) l → l.first ≡ at → at < e → (s : ℕ)
-      → is_counter u (suc at) s ≡ ((s == k) || is_counter u at s)
-  counter_loop at k e lo hi here own has_own first ahead s =
-      let i = instr.For k lo hi e in
-      let test : ℕ → Loop → Bool = λ n l. is_round n l && (s == l.slot) in
-      same_test (is_counter u (suc at) s) ((s == k) || is_counter u at s)
+  counter_loop : (at e : ℕ) (i : Instr) (own : Loop) → slice_get u.code at ≡ Some i → loop_head at i ≡ Some own → end_named i ≡ Some e → Has (loops u) own → own.first ≡ at
+      → at < e → (s : ℕ) → is_counter u (suc at) s ≡ (counts_by s own || is_counter u at s)
+  counter_loop at e i own here head names has_own first ahead s =
+      let test : ℕ → Loop → Bool = λ n l. is_round n l && counts_by s l in
+      same_test (is_counter u (suc at) s) (counts_by s own || is_counter u at s)
       (λ on.
       let r = any_found (test (suc at)) (loops u) on in
-      let parts = and_parts (is_round (suc at) r.0) (s == r.0.slot) r.2 in
+      let parts = and_parts (is_round (suc at) r.0) (counts_by s r.0) r.2 in
       elim (cases_order r.0.first at) [
         | inl same ↦
-            let slot = slot_is u r.0 k e lo hi r.1 (ap (slice_get u.code) same ∙ here) in
-            or_left (s == k) (is_counter u at s) (ap (λ n. s == n) (sym slot) ∙ parts.1)
+            let one = loop_is u r.0 own i r.1 (ap (slice_get u.code) same ∙ here) (ap (λ n. loop_head n i) same ∙ head) in
+            or_left (counts_by s own) (is_counter u at s) (ap (counts_by s) (sym one) ∙ parts.1)
         | inr other ↦
             let begins : r.0.first ≡ at → ⊥ = λ e. elim other [ inl lt ↦ omega arith | inr gt ↦ omega arith ] in
-            let same = enters at e i here refl (span_of r.0) (loop_span u r.0 r.1) begins in
-            or_right (s == k) (is_counter u at s) (has_any (test at) (loops u) r.0 r.1 (and_from (is_round at r.0) (s == r.0.slot) (sym same ∙ parts.0) parts.1))
+            let same = enters at e i here names (span_of r.0) (loop_span u r.0 r.1) begins in
+            or_right (counts_by s own) (is_counter u at s) (has_any (test at) (loops u) r.0 r.1 (and_from (is_round at r.0) (counts_by s r.0) (sym same ∙ parts.0) parts.1))
       ])
-      (λ on. elim (or_cases (s == k) (is_counter u at s) on) [
+      (λ on. elim (or_cases (counts_by s own) (is_counter u at s) on) [
         | inl own_slot ↦
-            let slot = slot_is u own k e lo hi has_own (ap (slice_get u.code) first ∙ here) in
-            let begin = same_Some _ _ (sym (is_loop u own has_own).begins ∙ ap (slice_get u.code) first ∙ here) in
-            let last : own.last ≡ e = same_Some own.last e (ap end_named begin) in
-            has_any (test (suc at)) (loops u) own has_own (and_from (is_round (suc at) own) (s == own.slot)
-            ((decides_inside (suc at) (span_of own)).1 (omega arith, omega arith)) (ap (λ n. s == n) slot ∙ own_slot))
+            let last : own.last ≡ e = same_Some own.last e (sym (head_end at i own head) ∙ names) in
+            has_any (test (suc at)) (loops u) own has_own (and_from (is_round (suc at) own) (counts_by s own)
+            ((decides_inside (suc at) (span_of own)).1 (omega arith, omega arith)) own_slot)
         | inr counted ↦
             let r = any_found (test at) (loops u) counted in
-            let parts = and_parts (is_round at r.0) (s == r.0.slot) r.2 in
+            let parts = and_parts (is_round at r.0) (counts_by s r.0) r.2 in
             let inside = (decides_inside at (span_of r.0)).0 parts.0 in
-            let same = enters at e i here refl (span_of r.0) (loop_span u r.0 r.1) (λ e. omega arith) in
-            has_any (test (suc at)) (loops u) r.0 r.1 (and_from (is_round (suc at) r.0) (s == r.0.slot) (same ∙ parts.0) parts.1)
+            let same = enters at e i here names (span_of r.0) (loop_span u r.0 r.1) (λ e. omega arith) in
+            has_any (test (suc at)) (loops u) r.0 r.1 (and_from (is_round (suc at) r.0) (counts_by s r.0) (same ∙ parts.0) parts.1)
       ])
 
   -- ---- how the next place lies
@@ -162,23 +165,23 @@ module _ (u : UnitValue) where
       → LiesSo u b p → LiesSo u (at + 1) p
   place_leaves at b i p here names below before has none so = lies_next at p (lies_as (suc at) b p (leaves at b i here names below before has none) so)
 
-  pub place_loops : (at k e : ℕ) (lo hi : ℤ) (p q : Place) → slice_get u.code at ≡ Some (instr.For k lo hi e) → at < e
-      → span_begun u at (instr.For k lo hi e) ≡ Some (span at e) → LiesSo u at p
-      → q.within ≡ Some at → q.finish ≡ p.finish → q.depth ≡ p.depth → ((s : ℕ) → s < 64 → has_slot q.counters s ≡ ((s == k) || has_slot p.counters s))
+  pub place_loops : (at e : ℕ) (i : Instr) (own : Loop) (p q : Place) → slice_get u.code at ≡ Some i → loop_head at i ≡ Some own → end_named i ≡ Some e → at < e
+      → span_begun u at i ≡ Some (span at e) → LiesSo u at p
+      → q.within ≡ Some at → q.finish ≡ p.finish → q.depth ≡ p.depth → ((s : ℕ) → s < 64 → has_slot q.counters s ≡ (counts_by s own || has_slot p.counters s))
       → LiesSo u (at + 1) q
-  place_loops at k e lo hi p q here ahead begun so within finish depth counters =
-      let i = instr.For k lo hi e in
+  place_loops at e i own p q here head names ahead begun so within finish depth counters =
       let has = has_span u at i (span at e) here begun in
-      let own = of_loop (loop_begun u at i) (span at e) begun in
-      let first : own.0.first ≡ at = ap (λ (s : Span). s.first) own.2 in
-      let has_own = begun_had (loop_begun u) 0 u.code at at i own.0 here (omega arith) own.1 in
+      let found = of_loop (loop_begun u at i) (span at e) (sym (head_span u at at i own head) ∙ begun) in
+      let is = begins u at i found.0 found.1 in
+      let same : found.0 ≡ own = same_Some found.0 own (sym is.is ∙ head) in
+      let has_own = subst (Has (loops u)) same (begun_had (loop_begun u) 0 u.code at at i found.0 here (omega arith) found.1) in
       let block : block_at u (suc at) ≡ block_at u at = around_same (is_inside (suc at)) (is_inside at) (finishes u)
-      (λ f has_f. enters at e i here refl f (finish_span u f has_f) (no_finish u at k e lo hi here f has_f)) in
+      (λ f has_f. enters at e i here names f (finish_span u f has_f) (no_finish u at i own here head f has_f)) in
       lies_next at q (record {
         within = subst (LiesWithin u (suc at)) (sym within) (enters_within at e has ahead);
         finish = finish ∙ so.finish ∙ ap innermost (sym block);
         depth = depth ∙ so.depth ∙ ap length (sym block);
-        counters = λ s lt. counters s lt ∙ ap (λ b. (s == k) || b) (so.counters s lt) ∙ sym (counter_loop at k e lo hi here own.0 has_own first ahead s);
+        counters = λ s lt. counters s lt ∙ ap (λ b. counts_by s own || b) (so.counters s lt) ∙ sym (counter_loop at e i own here head names has_own (head_first at i own head) ahead s);
       })
 
   pub place_finishes : (at e : ℕ) (p q : Place) → slice_get u.code at ≡ Some (instr.Finish e) → at < e → span_begun u at (instr.Finish e) ≡ Some (span at e) → LiesSo u at p
@@ -193,8 +196,8 @@ module _ (u : UnitValue) where
         within = subst (LiesWithin u (suc at)) (sym within) (enters_within at e has ahead);
         finish = finish ∙ sym (ap innermost block ∙ innermost_push (block_at u at) at);
         depth = depth ∙ ap (λ n. n + 1) so.depth ∙ next_length (block_at u at) at ∙ ap length (sym block);
-        counters = λ s lt. ap (λ n. has_slot n s) counters ∙ so.counters s lt ∙ any_same (λ l. is_round at l && (s == l.slot)) (λ l. is_round (suc at) l && (s == l.slot)) (loops u)
-            (λ l has_l. ap (λ t. t && (s == l.slot)) (sym (enters at e i here refl (span_of l) (loop_span u l has_l) (no_loop u at e here l has_l))));
+        counters = λ s lt. ap (λ n. has_slot n s) counters ∙ so.counters s lt ∙ any_same (λ l. is_round at l && counts_by s l) (λ l. is_round (suc at) l && counts_by s l) (loops u)
+            (λ l has_l. ap (λ t. t && counts_by s l) (sym (enters at e i here refl (span_of l) (loop_span u l has_l) (no_loop u at e here l has_l))));
       })
 
   -- ---- what stands before the next place nests
@@ -246,8 +249,8 @@ module _ (u : UnitValue) where
     finish = ap innermost (sym (block_first u));
     depth = ap length (sym (block_first u));
     counters = λ s lt. ap (λ n. n == 1) (bit_at-zero s) ∙ sym (false_from_ne_true (is_counter u 0 s) (λ on.
-        let r = any_found (λ l. is_round 0 l && (s == l.slot)) (loops u) on in
-        let h = (decides_inside 0 (span_of r.0)).0 (and_parts (is_round 0 r.0) (s == r.0.slot) r.2).0 in omega arith));
+        let r = any_found (λ l. is_round 0 l && counts_by s l) (loops u) on in
+        let h = (decides_inside 0 (span_of r.0)).0 (and_parts (is_round 0 r.0) (counts_by s r.0) r.2).0 in omega arith));
   }
 
 -- ---- where all nest
@@ -287,10 +290,12 @@ names_begin i b (inl is) = ap begin_named is
 names_begin i b (inr is) = ap begin_named is
 
 -- what neither begins nor ends one
-pub names_no_end : (i : Instr) → ((k : ℕ) (lo hi : ℤ) (e : ℕ) → i ≡ instr.For k lo hi e → ⊥) → ((e : ℕ) → i ≡ instr.Finish e → ⊥) → end_named i ≡ None
-names_no_end (instr.For k lo hi e) no_for no_finish = absurd (no_for k lo hi e refl)
-names_no_end (instr.Finish e) no_for no_finish = absurd (no_finish e refl)
-names_no_end _ no_for no_finish = refl
+pub names_no_end : (i : Instr) → ((k : ℕ) (lo hi : ℤ) (e : ℕ) → i ≡ instr.For k lo hi e → ⊥)
+    → ((k : ℕ) (lo : ℤ) (x : ℕ) (hi : ℤ) (e : ℕ) → i ≡ instr.ForTo k lo x hi e → ⊥) → ((e : ℕ) → i ≡ instr.Finish e → ⊥) → end_named i ≡ None
+names_no_end (instr.For k lo hi e) no_for no_forto no_finish = absurd (no_for k lo hi e refl)
+names_no_end (instr.ForTo k lo x hi e) no_for no_forto no_finish = absurd (no_forto k lo x hi e refl)
+names_no_end (instr.Finish e) no_for no_forto no_finish = absurd (no_finish e refl)
+names_no_end _ no_for no_forto no_finish = refl
 
 pub names_no_begin : (i : Instr) → ((b : ℕ) → i ≡ instr.Next b → ⊥) → ((b : ℕ) → i ≡ instr.EndFinish b → ⊥) → begin_named i ≡ None
 names_no_begin (instr.Next b) no_next no_end = absurd (no_next b refl)
@@ -302,15 +307,36 @@ module _ (u : UnitValue) (at : ℕ) (i : Instr) (p : Place) (here : slice_get u.
   abbrev pub GoesOn : Place → Type 0
   GoesOn q = LiesSo u (at + 1) q × AreNestedBelow u (at + 1)
 
-  pub behind_for : (k e n : ℕ) (lo hi : ℤ) → i ≡ instr.For k lo hi e → begins_behind u at i ≡ true → ((s : ℕ) → s < 64 → has_slot n s ≡ ((s == k) || has_slot p.counters s))
+  pub behind_loop : (e n : ℕ) (own : Loop) → loop_head at i ≡ Some own → end_named i ≡ Some e → begins_behind u at i ≡ true
+      → ((s : ℕ) → s < 64 → has_slot n s ≡ (counts_by s own || has_slot p.counters s))
       → GoesOn (record { within = Some at; finish = p.finish; depth = p.depth; counters = n })
-  behind_for k e n lo hi is test counters =
-      let named = ap end_named is in
+  behind_loop e n own head named test counters =
       let b = begun_ahead u at e i here named test in (
-        place_loops u at k e lo hi p (record { within = Some at; finish = p.finish; depth = p.depth; counters = n })
-            (here ∙ ap Some is) b.0 (ap (span_begun u at) (sym is) ∙ b.1) so refl refl refl counters,
+        place_loops u at e i own p (record { within = Some at; finish = p.finish; depth = p.depth; counters = n })
+            here head named b.0 b.1 so refl refl refl counters,
         below_begins u at e i here named below b.0 b.1,
       )
+
+  -- its slot is a counter
+  pub behind_for : (k e n : ℕ) (lo hi : ℤ) → i ≡ instr.For k lo hi e → begins_behind u at i ≡ true → ((s : ℕ) → s < 64 → has_slot n s ≡ ((s == k) || has_slot p.counters s))
+      → GoesOn (record { within = Some at; finish = p.finish; depth = p.depth; counters = n })
+  behind_for k e n lo hi is test counters = behind_loop e n _ (ap (loop_head at) is) (ap end_named is) test
+      (λ s lt. counters s lt ∙ ap (λ b. b || has_slot p.counters s) (sym (or-false (s == k))))
+
+  -- and so is its limit
+  pub behind_forto : (k x e n m : ℕ) (lo hi : ℤ) → i ≡ instr.ForTo k lo x hi e → begins_behind u at i ≡ true
+      → ((s : ℕ) → s < 64 → has_slot m s ≡ ((s == k) || has_slot p.counters s)) → ((s : ℕ) → s < 64 → has_slot n s ≡ ((s == x) || has_slot m s))
+      → GoesOn (record { within = Some at; finish = p.finish; depth = p.depth; counters = n })
+  behind_forto k x e n m lo hi is test slot limit = behind_loop e n _ (ap (loop_head at) is) (ap end_named is) test
+      (λ s lt. limit s lt ∙ ap (λ b. (s == x) || b) (slot s lt) ∙ turned (s == x) (x == s) (s == k) (has_slot p.counters s) (same_test (s == x) (x == s) (λ h. eq-eqb x s (sym (eqb-true s x h))) (λ h. eq-eqb s x (sym (eqb-true x s h)))))
+    where
+      turned : (a b c d : Bool) → a ≡ b → (a || (c || d)) ≡ ((c || b) || d)
+      turned true true true d h = refl
+      turned true true false d h = refl
+      turned false false true d h = refl
+      turned false false false d h = refl
+      turned true false c d h = absurd (grind arith)
+      turned false true c d h = absurd (grind arith)
 
   pub behind_finish : (e : ℕ) → i ≡ instr.Finish e → begins_behind u at i ≡ true
       → GoesOn (record { within = Some at; finish = Some at; depth = p.depth + 1; counters = p.counters })

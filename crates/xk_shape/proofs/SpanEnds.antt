@@ -1,17 +1,17 @@
 -- The loops and finishes of a unit: which instructions they begin and end with.
-use Rattle.std.proofs.Common.{◌≡◌, if◌then◌else◌, ℕ, ℤ, ◌+◌, ◌⊎◌, Bool, true, false, ◌||◌, List, [], ◌∷◌, ◌++◌, map, Some, None, slice_get, inl, inr, refl, sym, ap, ◌∙◌, subst, arith, option_map}
+use Rattle.std.proofs.Common.{◌≡◌, if◌then◌else◌, ℕ, ℤ, ◌+◌, ◌⊎◌, Bool, true, false, ◌||◌, List, [], ◌∷◌, ◌++◌, map, Some, None, slice_get, inl, inr, refl, sym, ap, ◌∙◌, subst, arith, option_map, option_and_then}
 use Rattle.std.specs.List.{list_any}
 use Rattle.std.proofs.lemmas.Option.{same_Some, cond_some, none-some}
 use Rattle.std.proofs.lemmas.Bool.{eq-eqb, false≢true}
 use Rattle.xk_types.specs.declared.instr.Instr.{Instr}
 use Rattle.xk_types.specs.declared.instr.Instr.TheVariants as instr
 use Rattle.xk_types.specs.Order.{Has}
-use Rattle.xk_types.specs.Code.{UnitValue, Loop, loop_begun, loops, is_next_of}
+use Rattle.xk_types.specs.Code.{UnitValue, Loop, loop_head, if_ended, loop_begun, loops, is_next_of}
 use Rattle.xk_types.specs.Blocks.{Span, is_end_of, finish_opened, finishes}
 use Rattle.xk_types.specs.Shape.{span_of, span_begun, spans}
 use Rattle.xk_shape.specs.Nests.{end_named, begin_named, span}
 use Rattle.xk_types.proofs.Shape.Begun.{begun_found, begun_had}
-use Rattle.xk_types.proofs.Shape.Loops.{IsLoop, is_loop}
+use Rattle.xk_types.proofs.Shape.Loops.{IsLoop, head_span, begins, is_loop}
 use Rattle.xk_types.proofs.Shape.Spans.{next_is, end_is, of_loop, loop_span, finish_span}
 
 -- ---- lists
@@ -54,24 +54,34 @@ pub record IsSpan (u : UnitValue) (s : Span) : Type 0 where
   pub ends : slice_get u.code s.last ≡ Some end
   pub behind : begin_named end ≡ Some s.first
 
+-- the head of a loop names its end
+pub head_end : (n : ℕ) (i : Instr) (l : Loop) → loop_head n i ≡ Some l → end_named i ≡ Some l.last
+head_end n (instr.For k lo hi e) l h = ap (λ x. Some x.last) (same_Some _ l h)
+head_end n (instr.ForTo k lo x hi e) l h = ap (λ x. Some x.last) (same_Some _ l h)
+head_end n _ l h = absurd (none-some l h)
+
+-- what the head of a loop begins
+loop_span_is : (u : UnitValue) (at : ℕ) (i : Instr) (s : Span) → slice_get u.code at ≡ Some i → option_map span_of (loop_begun u at i) ≡ Some s → IsSpan u s × (s.first ≡ at)
+loop_span_is u at i s here h =
+    let l = of_loop (loop_begun u at i) s h in
+    let b = begins u at i l.0 l.1 in
+    subst (λ (x : Span). IsSpan u x × (x.first ≡ at)) l.2 (
+      record {
+        begin = i;
+        begins = ap (slice_get u.code) b.first ∙ here;
+        ahead = head_end at i l.0 b.is;
+        begun = ap (λ n. span_begun u n i) b.first ∙ head_span u at at i l.0 b.is ∙ ap (option_map span_of) l.1;
+        end = instr.Next at;
+        ends = b.next;
+        behind = ap Some (sym b.first);
+      },
+      b.first,
+    )
+
 -- what an instruction begins
 pub span_is : (u : UnitValue) (at : ℕ) (i : Instr) (s : Span) → slice_get u.code at ≡ Some i → span_begun u at i ≡ Some s → IsSpan u s × (s.first ≡ at)
-span_is u at (instr.For k lo hi e) s here h =
-    let l = of_loop (loop_begun u at (instr.For k lo hi e)) s h in
-    let p = cond_some (is_next_of at (slice_get u.code e)) (record { first = at; last = e; slot = k; lo = lo; hi = hi }) l.0 l.1 in
-    let same : span at e ≡ s = ap span_of p.1 ∙ l.2 in
-    subst (λ (x : Span). IsSpan u x × (x.first ≡ at)) same (
-      record {
-        begin = instr.For k lo hi e;
-        begins = here;
-        ahead = refl;
-        begun = h ∙ ap Some (sym same);
-        end = instr.Next at;
-        ends = next_is at (slice_get u.code e) p.0;
-        behind = refl;
-      },
-      refl,
-    )
+span_is u at (instr.For k lo hi e) s here h = loop_span_is u at (instr.For k lo hi e) s here h
+span_is u at (instr.ForTo k lo x hi e) s here h = loop_span_is u at (instr.ForTo k lo x hi e) s here h
 span_is u at (instr.Finish e) s here h =
     let p = cond_some (is_end_of at (slice_get u.code e)) (span at e) s h in
     subst (λ (x : Span). IsSpan u x × (x.first ≡ at)) p.1 (
@@ -89,22 +99,31 @@ span_is u at (instr.Finish e) s here h =
 span_is u at _ s here h = absurd (none-some s h)
 
 -- it is one of the unit's
+has_loop_span : (u : UnitValue) (at : ℕ) (i : Instr) (s : Span) → slice_get u.code at ≡ Some i → option_map span_of (loop_begun u at i) ≡ Some s → Has (spans u) s
+has_loop_span u at i s here h =
+    let l = of_loop (loop_begun u at i) s h in
+    subst (Has (spans u)) l.2 (loop_span u l.0 (begun_had (loop_begun u) 0 u.code at at i l.0 here (omega arith) l.1))
+
 pub has_span : (u : UnitValue) (at : ℕ) (i : Instr) (s : Span) → slice_get u.code at ≡ Some i → span_begun u at i ≡ Some s → Has (spans u) s
-has_span u at (instr.For k lo hi e) s here h =
-    let l = of_loop (loop_begun u at (instr.For k lo hi e)) s h in
-    subst (Has (spans u)) l.2 (loop_span u l.0 (begun_had (loop_begun u) 0 u.code at at (instr.For k lo hi e) l.0 here (omega arith) l.1))
+has_span u at (instr.For k lo hi e) s here h = has_loop_span u at (instr.For k lo hi e) s here h
+has_span u at (instr.ForTo k lo x hi e) s here h = has_loop_span u at (instr.ForTo k lo x hi e) s here h
 has_span u at (instr.Finish e) s here h = finish_span u s (begun_had (finish_opened u) 0 u.code at at (instr.Finish e) s here (omega arith) h)
 has_span u at _ s here h = absurd (none-some s h)
 
--- what a loop's `for` begins is the loop
-loop_begins : (u : UnitValue) (l : Loop) → IsLoop u l → span_begun u l.first (instr.For l.slot l.lo l.hi l.last) ≡ Some (span_of l)
+-- what a loop's head begins is the loop
+loop_begins : (u : UnitValue) (l : Loop) (is : IsLoop u l) → span_begun u l.first is.head ≡ Some (span_of l)
 loop_begins u l is =
-    ap (λ o. option_map span_of (if is_next_of l.first o then Some l else None)) is.ends
+    head_span u l.first l.first is.head l is.is
+    ∙ ap (λ o. option_map span_of (option_and_then (if_ended u) o)) is.is
+    ∙ ap (λ o. option_map span_of (if is_next_of l.first o then Some l else None)) is.ends
     ∙ ap (λ b. option_map span_of (if b then Some l else None)) (eq-eqb l.first l.first refl)
 
--- the loop that a `for` begins counts in its slot
-pub slot_is : (u : UnitValue) (l : Loop) (k e : ℕ) (lo hi : ℤ) → Has (loops u) l → slice_get u.code l.first ≡ Some (instr.For k lo hi e) → l.slot ≡ k
-slot_is u l k e lo hi h here = let is = is_loop u l h in let same = same_Some _ _ (sym is.begins ∙ here) in cc
+-- one head begins one loop
+pub loop_is : (u : UnitValue) (l k : Loop) (i : Instr) → Has (loops u) l → slice_get u.code l.first ≡ Some i → loop_head l.first i ≡ Some k → l ≡ k
+loop_is u l k i h here head =
+    let is = is_loop u l h in
+    let same : is.head ≡ i = same_Some _ _ (sym is.begins ∙ here) in
+    same_Some l k (sym is.is ∙ ap (loop_head l.first) same ∙ head)
 
 finish_begins : (u : UnitValue) (at : ℕ) (i : Instr) (f : Span) → finish_opened u at i ≡ Some f → span_begun u at i ≡ Some f
 finish_begins u at (instr.Finish e) f h = h
@@ -116,7 +135,7 @@ is_span u s h = elim (had_append (map span_of (loops u)) (finishes u) s h) [
   | inl of_loops ↦
       let r = had_map span_of (loops u) s of_loops in
       let is = is_loop u r.0 r.1 in
-      subst (IsSpan u) r.2 (span_is u r.0.first (instr.For r.0.slot r.0.lo r.0.hi r.0.last) (span_of r.0) is.begins (loop_begins u r.0 is)).0
+      subst (IsSpan u) r.2 (span_is u r.0.first is.head (span_of r.0) is.begins (loop_begins u r.0 is)).0
   | inr of_finishes ↦
       let r = begun_found (finish_opened u) 0 u.code s of_finishes in
       let same : 0 + r.j ≡ r.j = omega arith in
@@ -148,6 +167,7 @@ no_end u at i s here none is e =
 -- what begins one ends none, and what ends one begins none
 pub ends_none : (i : Instr) (e : ℕ) → end_named i ≡ Some e → begin_named i ≡ None
 ends_none (instr.For k lo hi e) x h = refl
+ends_none (instr.ForTo k lo y hi e) x h = refl
 ends_none (instr.Finish e) x h = refl
 ends_none _ x h = absurd (none-some x h)
 

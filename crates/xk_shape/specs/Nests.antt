@@ -17,6 +17,7 @@ is_jump _ = false
 -- the place of the end of the loop or finish that the instruction begins
 abbrev pub end_named : Instr → Option ℕ
 end_named (instr.For k lo hi e) = Some e
+end_named (instr.ForTo k lo x hi e) = Some e
 end_named (instr.Finish e) = Some e
 end_named _ = None
 

@@ -5,7 +5,7 @@ use Rattle.std.specs.List.{list_any, last_or}
 use Rattle.xk_types.specs.Order.{Has}
 use Rattle.xk_types.specs.Code.{UnitValue, loops, is_round}
 use Rattle.xk_types.specs.Blocks.{Span, is_inside, block_at, depth_at}
-use Rattle.xk_types.specs.Shape.{spans}
+use Rattle.xk_types.specs.Shape.{spans, counts_by}
 use Rattle.xk_shape.specs.Nests.{IsInNoneBehind}
 use Rattle.xk_shape.specs.declared.places.Place.{Place}
 
@@ -26,9 +26,9 @@ abbrev pub LiesWithin : UnitValue → ℕ → Option ℕ → Type 0
 LiesWithin u at None = (s : Span) → Has (spans u) s → is_inside at s ≡ false
 LiesWithin u at (Some first) = IsInnermost u at first
 
--- a loop round the place counts its turns in this slot
+-- a loop round the place counts its turns by this slot
 abbrev pub is_counter : UnitValue → ℕ → ℕ → Bool
-is_counter u at s = list_any (λ l. is_round at l && (s == l.slot)) (loops u)
+is_counter u at s = list_any (λ l. is_round at l && counts_by s l) (loops u)
 
 -- one of the slots whose bits the number has
 abbrev pub has_slot : ℕ → ℕ → Bool

@@ -3,7 +3,7 @@
 ghost use Rattle.std.specs.Prelude.{◌≡◌, ℕ, ◌<◌, ◌&&◌, true, false, slice_get, Some, MatchOption};
 ghost use Rattle.std.specs.List.{list_any};
 ghost use Rattle.xk_types.specs.Code.{loops, is_within};
-ghost use Rattle.xk_types.specs.Shape.{spans, lies_ahead, aims_well, breaks_target, overlaps, is_crossing, breaks_block, slot_written, is_backward, writes_slot, breaks_loop};
+ghost use Rattle.xk_types.specs.Shape.{spans, lies_ahead, aims_well, breaks_target, overlaps, is_crossing, breaks_block, slot_written, begins_backward, spoils, breaks_loop};
 ghost use Rattle.xk_shape.specs.Blocks.{IsOrderly};
 ghost use Rattle.xk_shape.specs.Layout.{IsLayout};
 ghost use Rattle.xk_shape.specs.Nests.{AreNested};
@@ -33,6 +33,7 @@ fn aims_well(u: &Unit, at: u16, instr: &Instr) -> bool
         Instr::Unless { t: target, .. } => lies_ahead(u, at, *target),
         Instr::Jump(target) => lies_ahead(u, at, *target),
         Instr::For { e: last, .. } => lies_ahead(u, at, *last),
+        Instr::ForTo { e: last, .. } => lies_ahead(u, at, *last),
         Instr::Next(first) => *first < at,
         Instr::Finish(last) => lies_ahead(u, at, *last),
         Instr::EndFinish(first) => *first < at,
@@ -83,7 +84,7 @@ fn is_crossing(u: &Unit, among: &[Span], at: u16, instr: &Instr) -> bool
     ensures { result ≡ is_crossing u.now at instr.now }
 {
     match instr {
-        Instr::For { .. } | Instr::Finish(_) => {
+        Instr::For { .. } | Instr::ForTo { .. } | Instr::Finish(_) => {
             is_amiss(among, span_begun(u, at as usize, instr))
         }
         Instr::Next(first) | Instr::EndFinish(first) => is_amiss(among, span_ended(u, at, *first)),
@@ -110,17 +111,18 @@ pub(crate) fn misuses_loop(u: &Unit, tables: &Tables, at: u16) -> bool
     ensures { result ≡ breaks_loop u.now at }
 {
     match u.code.get(at as usize) {
-        Some(instr) => is_backward(instr) || writes_counter(u, tables, at, instr),
+        Some(instr) => begins_backward(instr) || writes_counter(u, tables, at, instr),
         None => false,
     }
 }
 
-/// Whether the bounds of the loop that it begins are out of order.
-fn is_backward(instr: &Instr) -> bool
-    ensures { result ≡ is_backward instr.now }
+/// Whether the bounds of the loop that it begins are out of order, or the loop is limited by its own slot.
+fn begins_backward(instr: &Instr) -> bool
+    ensures { result ≡ begins_backward instr.now }
 {
     match instr {
         Instr::For { lo, hi, .. } => *hi < *lo,
+        Instr::ForTo { k, lo, x, hi, .. } => *hi < *lo || *x == *k,
         _ => false,
     }
 }
@@ -131,7 +133,7 @@ fn writes_counter(u: &Unit, tables: &Tables, at: u16, instr: &Instr) -> bool
     requires tables { AreTables u.now tables.now }
     requires here { slice_get u.now.code at ≡ Some instr.now }
     ensures { result
-        ≡ list_any (λ l. is_within at l && writes_slot l.slot instr.now) (loops u.now) }
+        ≡ list_any (λ l. is_within at l && spoils l instr.now) (loops u.now) }
 {
     match slot_written(instr) {
         Some(slot) => tables.is_counter(slot, at),
@@ -150,6 +152,7 @@ fn slot_written(instr: &Instr) -> Option<u16>
         Instr::Sub { d, .. } => Some(*d),
         Instr::Mul { d, .. } => Some(*d),
         Instr::For { k: slot, .. } => Some(*slot),
+        Instr::ForTo { k: slot, .. } => Some(*slot),
         Instr::Get { d, .. } => Some(*d),
         Instr::Make(d) => Some(*d),
         _ => None,

@@ -68,13 +68,15 @@ fn loop_begun(u: &Unit, at: usize, instr: &Instr) -> Option<Span>
     ensures { result ≡ option_map span_of (loop_begun u.now at instr.now) }
 {
     match instr {
-        Instr::For { e: last, .. } => match u.code.get(*last as usize) {
-            Some(Instr::Next(first)) if *first as usize == at => Some(Span {
-                first: *first,
-                last: *last,
-            }),
-            _ => None,
-        },
+        Instr::For { e: last, .. } | Instr::ForTo { e: last, .. } => {
+            match u.code.get(*last as usize) {
+                Some(Instr::Next(first)) if *first as usize == at => Some(Span {
+                    first: *first,
+                    last: *last,
+                }),
+                _ => None,
+            }
+        }
         _ => None,
     }
 }
@@ -100,7 +102,7 @@ pub(crate) fn span_begun(u: &Unit, at: usize, instr: &Instr) -> Option<Span>
     ensures { result ≡ span_begun u.now at instr.now }
 {
     match instr {
-        Instr::For { .. } => loop_begun(u, at, instr),
+        Instr::For { .. } | Instr::ForTo { .. } => loop_begun(u, at, instr),
         Instr::Finish(_) => finish_opened(u, at, instr),
         _ => None,
     }

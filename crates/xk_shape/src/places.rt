@@ -17,7 +17,7 @@ pub(crate) struct Place {
     pub(crate) finish: Option<u16>,
     /// How many finishes are open.
     pub(crate) depth: u16,
-    /// The slots that count the turns of the loops round it, one bit each.
+    /// The slots by which the loops round it count their turns, one bit each.
     pub(crate) counters: u64,
 }
 
@@ -67,6 +67,15 @@ fn behind(u: &Unit, known: &[Place], at: u16) -> Option<Place>
             counters: with_slot(here.counters, *slot),
             ..here
         }),
+        Instr::ForTo {
+            k: slot,
+            x: limit,
+            ..
+        } if begins_span(u, at, instr) => Some(Place {
+            within: Some(at),
+            counters: with_slot(with_slot(here.counters, *slot), *limit),
+            ..here
+        }),
         Instr::Finish(_) if begins_span(u, at, instr) => Some(Place {
             within: Some(at),
             finish: Some(at),
@@ -80,7 +89,7 @@ fn behind(u: &Unit, known: &[Place], at: u16) -> Option<Place>
                 None
             }
         }
-        Instr::For { .. } | Instr::Finish(_) => None,
+        Instr::For { .. } | Instr::ForTo { .. } | Instr::Finish(_) => None,
         _ => Some(here),
     }
 }

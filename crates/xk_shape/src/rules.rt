@@ -1,7 +1,8 @@
 //! The rules on the shape of code, tried one after another.
 
-ghost use Rattle.std.specs.Prelude.{◌≡◌, ◌+◌, ◌<◌, ◌||◌, ◌&&◌, not, ◌==◌, nat_lt, false, true, length, slice_get, MatchResult, MatchOption};
-ghost use Rattle.std.specs.List.{list_all};
+ghost use Rattle.std.specs.Prelude.{◌≡◌, ◌+◌, ◌<◌, ◌||◌, ◌&&◌, not, ◌==◌, nat_lt, false, true, length, slice_get, Some, MatchResult, MatchOption};
+ghost use Rattle.std.specs.List.{list_all, list_any};
+ghost use Rattle.xk_types.specs.Blocks.{takes_clock};
 ghost use Rattle.xk_types.specs.Code.{IsUnitWithinLimits, params_of, is_method, is_body};
 ghost use Rattle.xk_types.specs.Shape.{breaks_in, breaks_slot, breaks_cell, is_in_place, runs_amiss, instr_is, is_fitting, breaks_end, has_twice, breaks_same_clock, slots_named, is_ret, HasShape};
 ghost use Rattle.xk_shape.specs.Arguments.{clocks};
@@ -128,6 +129,11 @@ fn names_below(instr: &Instr, slots: u16) -> bool
         Instr::Unless { a: x, b: y, .. } => *x < slots && *y < slots,
         Instr::Jump(_) => true,
         Instr::For { k: slot, .. } => *slot < slots,
+        Instr::ForTo {
+            k: slot,
+            x: limit,
+            ..
+        } => *slot < slots && *limit < slots,
         Instr::Next(_) | Instr::Finish(_) | Instr::EndFinish(_) => true,
         Instr::Get { d, .. } => *d < slots,
         Instr::Put { a: x, .. } | Instr::AddTo { a: x, .. } => *x < slots,
@@ -156,13 +162,30 @@ fn names_missing_cell(m: &Module, u: &Unit, at: u16) -> bool
     }
 }
 
-/// Whether the unit may have this number: unit 0 is main and takes nothing, and no other is main.
+/// Whether the unit may have this number: unit 0 is main and takes numbers alone, and no other is main.
 fn is_in_place(unit: u16, u: &Unit) -> bool
     ensures { result ≡ is_in_place unit u.now }
 {
     match u.kind {
-        UnitKind::Main => unit == 0 && u.params.is_empty(),
+        UnitKind::Main => unit == 0 && !has_clock(&u.params),
         UnitKind::Method | UnitKind::Body => unit != 0,
+    }
+}
+
+/// Whether a parameter takes a clock.
+fn has_clock(params: &[ParamKind]) -> bool
+    ensures { result ≡ list_any (λ p. takes_clock (Some p)) params.now }
+{
+    params.iter().any(|param| takes_clock(param))
+}
+
+/// Whether the parameter takes a clock.
+fn takes_clock(param: &ParamKind) -> bool
+    ensures { result ≡ takes_clock (Some param.now) }
+{
+    match param {
+        ParamKind::Number => false,
+        ParamKind::Clock => true,
     }
 }
 

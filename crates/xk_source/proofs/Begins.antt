@@ -14,7 +14,7 @@ use Rattle.xk_code.specs.Unit.{scope_from, first_temporary, unit_code, unit_of_m
 use Rattle.xk_code.specs.Covered.{IsFound, AreNew, IsUnitCovered}
 use Rattle.xk_code.proofs.Covered.Tables.{same_text, is_same, still_found, now_found}
 use Rattle.xk_source.specs.Parts.{OfMethod}
-use Rattle.xk_source.specs.Source.{Names, unfolded, shared_from}
+use Rattle.xk_source.specs.Source.{Names, named, unfolded, shared_from}
 use Rattle.xk_source.proofs.Exec.{IsMatched}
 use Rattle.xk_source.proofs.Relation.{holds_front, holds_back, holds_all, IsProper, Whole, IsLinked, AreLinked, Rest, Stands, rest_here, rest_unfolded}
 
@@ -40,12 +40,6 @@ AreKnown names [] [] = ⊤
 AreKnown names [] (v ∷ vs) = ⊥
 AreKnown names (x ∷ xs) [] = ⊥
 AreKnown names (x ∷ xs) (v ∷ vs) = (find names x ≡ Some v) × AreKnown names xs vs
-
--- what parameters stand for
-abbrev pub named : List ParamValue → List Held → Names
-named [] vs = []
-named (p ∷ ps) [] = []
-named (p ∷ ps) (v ∷ vs) = (p.name.text, v) ∷ named ps vs
 
 -- none of them is this one
 abbrev AreOthers : List ℕ → List (List ℕ) → Type 0

@@ -6,13 +6,12 @@ use Rattle.std.proofs.lemmas.List.{length-map}
 use Rattle.std.proofs.lemmas.Option.{slice_get_within}
 use Rattle.xk_types.specs.Code.{UnitValue, ModuleValue}
 use Rattle.xk_tree.specs.Bodies.{HasBodiesApart}
-use Rattle.xk_tree.specs.Tree.{Word, Expression, Statement, Statements, Done, More, Block, Empty, Declare, Assign, Atomic, If, IfElse, For, Async, Finish, Call, Resume, Drop, AdvanceAll, Print, MethodValue, SharedValue, TreeValue}
+use Rattle.xk_tree.specs.Tree.{Word, Expression, Statement, Statements, Done, More, Block, Empty, Declare, Assign, Atomic, If, IfElse, For, top, Async, Finish, Call, Resume, Drop, AdvanceAll, Print, MethodValue, SharedValue, TreeValue}
 use Rattle.xk_names.specs.Scope.{Has, find, is_text}
 use Rattle.xk_names.specs.Scoped.{IsScoped}
 use Rattle.xk_names.proofs.Among.{has_left, has_right}
 use Rattle.xk_units.proofs.Graph.{at_mapped}
 use Rattle.xk_code.specs.CodeOf.{Setting, Body, number_of, body_unit}
-use Rattle.xk_code.specs.Unit.{names_of_params}
 use Rattle.xk_code.proofs.Covered.Tables.{is_same}
 use Rattle.xk_source.specs.Parts.{Part, OfMethod, OfBody, Run, Calls, Starts, bodies, bodies_all, runs, runs_all}
 use Rattle.xk_source.specs.Compiled.{HasLater, IsCompiled, method_kind, shared_among, unit_of_part, unit_number}
@@ -94,8 +93,8 @@ module _ (t : TreeValue) (scoped : IsScoped t) (units : List Part) (cx : Setting
       linked k s (λ p i. among p (has_left (bodies s) (bodies u) p i)) (λ r i. later r (has_left (runs s) (runs u) r i)),
       linked k u (λ p i. among p (has_right (bodies s) (bodies u) p i)) (λ r i. later r (has_right (runs s) (runs u) r i)),
     )
-    linked k (For at i lo hi s) among later =
-        λ turns. linked k s among (λ r j. later r (subst (λ (b : Bool). Has (cond b (runs s) []) r) (sym turns) j))
+    linked k (For at i lo b s) among later =
+        λ turns. linked k s among (λ r j. later r (subst (λ (c : Bool). Has (cond c (runs s) []) r) (sym turns) j))
     linked k (Async at cs s) among later =
         let l = later (Starts at) (inl refl) in
         let u = body_unit_of t units cx h at cs s l.number (among (OfBody at cs s) (inl refl)) l.place in
@@ -140,14 +139,11 @@ module _ (t : TreeValue) (scoped : IsScoped t) (units : List Part) (cx : Setting
       let main = h.are_units.main in
       let there = in_tree 0 main h.are_units.first in
       let named : is_text (codes "main") main.name.text ≡ true = ap (is_text (codes "main")) h.are_units.named ∙ is_same (codes "main") in
-      let s = signed t.methods (codes "main") [] scoped.main in
-      let one = one_method t.methods (codes "main") main s.method scoped.methods_apart there s.there named s.named in
       record {
         built = record { shared = λ x. h.is_setting.shared x ∙ same_shared 0 t.shared x; methods = method_built };
         cells = cells;
         main = main;
         named = method_found t scoped (codes "main") main there named;
-        bare = ap names_of_params (ap (λ (q : MethodValue). q.params) one ∙ s.params);
         first = method_built 0 main h.are_units.first;
       }
 

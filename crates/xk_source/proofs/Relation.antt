@@ -1,23 +1,23 @@
 -- What is left of an activity's code, and what is left of its statements.
-use Rattle.std.proofs.Common.{◌≡◌, ℕ, ◌+◌, ◌<◌, ◌≤◌, Bool, true, false, cond, List, [], ◌∷◌, ◌++◌, length, ℤ, int_le, Some, None, Option, refl, sym, ap, ◌∙◌, subst, arith, ◌⊎◌, inl, inr, append_assoc, length-append}
+use Rattle.std.proofs.Common.{◌≡◌, ℕ, zero, suc, ◌+◌, ◌<◌, ◌≤◌, Bool, true, false, cond, List, [], ◌∷◌, ◌++◌, length, ℤ, int_le, Some, None, Option, refl, sym, ap, ◌∙◌, subst, arith, ◌⊎◌, inl, inr, append_assoc, length-append}
 use Rattle.std.specs.Prelude.{slice_get, slice_set, ⊤}
 use Rattle.std.proofs.lemmas.Bool.{false≢true}
 use Rattle.std.proofs.lemmas.Option.{none-some, same_Some}
 use Rattle.xk_types.specs.declared.instr.Instr.{Instr}
 use Rattle.xk_types.specs.declared.instr.Instr.TheVariants as instr
 use Rattle.xk_types.specs.declared.names.Value.{Value as Held}
-use Rattle.xk_types.specs.Code.{ModuleValue}
+use Rattle.xk_types.specs.Code.{ModuleValue, Loop, loop_head}
 use Rattle.xk_types.proofs.Lists.{get-set_same, get-set_other}
-use Rattle.xk_tree.specs.Tree.{Word, Expression, Make, Value, Statement, Block, Empty, Declare, Assign, Atomic, If, IfElse, For, Async, Finish, Call, Print, Statements, Done, More, MethodValue, TreeValue}
+use Rattle.xk_tree.specs.Tree.{Word, Expression, Make, Value, Bound, UpTo, Least, top, Statement, Block, Empty, Declare, Assign, Atomic, If, IfElse, For, Async, Finish, Call, Print, Statements, Done, More, MethodValue, TreeValue}
 use Rattle.xk_names.specs.Scope.{find, is_text}
-use Rattle.xk_code.specs.CodeOf.{Setting, Scope, number_of, body_unit, body_params, before, before_assigned, count, count_all, declared, declared_by_all, code_of, code_of_all}
+use Rattle.xk_code.specs.CodeOf.{Setting, Scope, number_of, body_unit, body_params, loop_slots, within_loop, before_into, last_into, before_bound, head_of, before, before_assigned, count, count_all, declared, declared_by_all, code_of, code_of_all}
 use Rattle.xk_code.specs.Unit.{unit_of_body}
 use Rattle.xk_code.specs.Covered.{IsNew, IsCovered, AreCovered, IsUnitCovered}
 use Rattle.xk_code.proofs.Covered.Tables.{same_text, is_same, none_new, found_behind}
 use Rattle.xk_names.proofs.Agreement.{find_behind, or_entry}
 use Rattle.xk_source.specs.Parts.{Part, OfMethod}
 use Rattle.xk_source.specs.Source.{Todo, Do, Turn, Close, Names, unfolded, unfolded_all, method_of}
-use Rattle.xk_source.proofs.Exec.{IsBelow, IsMatched, below_more, AreStraight, eval_straight, both_straight, args_straight, into_straight}
+use Rattle.xk_source.proofs.Exec.{IsBelow, IsMatched, below_more, AreStraight, eval_straight, straight_join, both_straight, args_straight, into_straight, last_straight}
 
 -- ---- code at a place
 
@@ -90,6 +90,18 @@ push_proper scope x n p = record {
 pub more_proper : (scope : Scope) (n k : ℕ) → n ≤ k → IsProper scope n → IsProper scope k
 more_proper scope n k le p = record { below = below_more scope n k le p.below; apart = p.apart }
 
+-- the names of a loop
+pub loop_within : (scope : Scope) (n : ℕ) (i : Word) (b : Bound) → IsWithin scope (within_loop scope n i b)
+loop_within scope n i (UpTo hi) = push_within scope i.text n
+loop_within scope n i (Least x v e hi) =
+    λ y s h. push_within (scope ++ (i.text, n) ∷ []) x.text (n + 1) y s (push_within scope i.text n y s h)
+
+pub loop_proper : (scope : Scope) (n : ℕ) (i : Word) (b : Bound) → IsProper scope n → IsProper (within_loop scope n i b) (n + loop_slots b)
+loop_proper scope n i (UpTo hi) p = push_proper scope i.text n p
+loop_proper scope n i (Least x v e hi) p =
+    more_proper (within_loop scope n i (Least x v e hi)) (n + 1 + 1) (n + 2) (omega arith)
+    (push_proper (scope ++ (i.text, n) ∷ []) x.text (n + 1) (push_proper scope i.text n p))
+
 -- a scope only grows
 pub grows : (scope : Scope) (n : ℕ) (s : Statement) → IsWithin scope (declared scope n s)
 grows scope n (Declare b x ty r) = push_within scope x.text n
@@ -118,7 +130,7 @@ abbrev mutual
   IsLinked w (Block ss) = AreLinked w ss
   IsLinked w (If at l op r s) = IsLinked w s
   IsLinked w (IfElse at l op r s u) = IsLinked w s × IsLinked w u
-  IsLinked w (For at i lo hi s) = int_le lo.value hi.value ≡ true → IsLinked w s
+  IsLinked w (For at i lo b s) = int_le lo.value (top b) ≡ true → IsLinked w s
   IsLinked w (Async at cs s) =
       (slice_get w.m.units (body_unit w.setting at) ≡ Some (unit_of_body w.setting at cs s)) × IsUnitCovered w.setting (body_params w.setting at cs) s × IsLinked w s
   IsLinked w (Finish s) = IsLinked w s
@@ -156,15 +168,25 @@ pub record StandAll (w : Whole) (t : ℕ) (code : List Instr) (scope : Scope) (n
   pub proper : IsProper scope n
   pub room : n + count_all ss ≤ t
 
+-- the limit of a loop is in the slot of the name that it has in the source, or there is none
+abbrev pub IsLimit : Scope → Option Word → Option ℕ → Type 0
+IsLimit scope None None = ⊤
+IsLimit scope None (Some d) = ⊥
+IsLimit scope (Some x) None = ⊥
+IsLimit scope (Some x) (Some d) = find scope x.text ≡ Some d
+
 -- the end of a loop stands there
-pub record StandsTurn (w : Whole) (t : ℕ) (code : List Instr) (scope : Scope) (q : ℕ) (i : Word) (hi : ℤ) (s : Statement) : Type 0 where
+pub record StandsTurn (w : Whole) (t : ℕ) (code : List Instr) (scope : Scope) (q : ℕ) (i : Word) (x : Option Word) (hi : ℤ) (s : Statement) : Type 0 where
   pub first : ℕ
-  pub slot : ℕ
-  pub lo : ℤ
   pub n : ℕ
+  pub head : Instr
+  pub loop : Loop
   pub next : slice_get code q ≡ Some (instr.Next first)
-  pub head : slice_get code first ≡ Some (instr.For slot lo hi q)
-  pub counter : find scope i.text ≡ Some slot
+  pub stands : slice_get code first ≡ Some head
+  pub begins : loop_head first head ≡ Some loop
+  pub most : loop.hi ≡ hi
+  pub counter : find scope i.text ≡ Some loop.slot
+  pub limit : IsLimit scope x loop.limit
   pub body : Stands w t code scope n (first + 1) s
   pub ends : first + 1 + length (code_of w.setting t scope n (first + 1) s) ≡ q
 
@@ -172,14 +194,14 @@ pub record StandsTurn (w : Whole) (t : ℕ) (code : List Instr) (scope : Scope) 
 abbrev pub IsSimple : Statement → Type 0
 IsSimple (Block ss) = ⊥
 IsSimple Empty = ⊥
-IsSimple (For at i lo hi s) = int_le lo.value hi.value ≡ true
+IsSimple (For at i lo b s) = int_le lo.value (top b) ≡ true
 IsSimple _ = ⊤
 
 abbrev pub Here : Whole → ℕ → List Instr → List Todo → Scope → ℕ → Type 0
 Here w t code [] scope q = slice_get code q ≡ Some instr.Ret
 Here w t code (Do s ∷ rest) scope q =
     (n : ℕ) × IsSimple s × Stands w t code scope n q s × Ahead code (declared scope n s) (q + length (code_of w.setting t scope n q s)) (Here w t code rest)
-Here w t code (Turn i hi s ∷ rest) scope q = StandsTurn w t code scope q i hi s × Ahead code scope (q + 1) (Here w t code rest)
+Here w t code (Turn i x hi s ∷ rest) scope q = StandsTurn w t code scope q i x hi s × Ahead code scope (q + 1) (Here w t code rest)
 Here w t code (Close ∷ rest) scope q = (b : ℕ) × (slice_get code q ≡ Some (instr.EndFinish b)) × Ahead code scope (q + 1) (Here w t code rest)
 
 -- from place p on, the code does these
@@ -215,15 +237,16 @@ mutual
   rest_unfolded w t code scope n p (Block ss) rest st r =
       rest_all w t code scope n p ss rest (record { holds = st.holds; covered = st.covered; linked = st.linked; proper = st.proper; room = st.room })
       (rest_wider w t code scope (declared_by_all scope n ss) (p + length (code_of_all w.setting t scope n p ss)) rest (all_grow scope n ss) r)
-  rest_unfolded w t code scope n p (For at i lo hi s) rest st r = by (int_le lo.value hi.value) refl
+  rest_unfolded w t code scope n p (For at i lo b s) rest st r = by (int_le lo.value (top b)) refl
     where
-      by : (b : Bool) → int_le lo.value hi.value ≡ b → Rest w t code scope p (cond b (Do (For at i lo hi s) ∷ []) [] ++ rest)
-      by true e = rest_here w t code scope p (Do (For at i lo hi s) ∷ rest) (n, e, st, r)
+      by : (c : Bool) → int_le lo.value (top b) ≡ c → Rest w t code scope p (cond c (Do (For at i lo b s) ∷ []) [] ++ rest)
+      by true e = rest_here w t code scope p (Do (For at i lo b s) ∷ rest) (n, e, st, r)
       by false e =
-          let body = code_of w.setting t (scope ++ (i.text, n) ∷ []) (n + 1) (p + 1) s in
-          let none : length (code_of w.setting t scope n p (For at i lo hi s)) ≡ 0 =
-          ap (λ b. length (cond b (instr.For n lo.value hi.value (p + 1 + length body) ∷ (body ++ instr.Next p ∷ [])) [])) e in
-          let same : p + length (code_of w.setting t scope n p (For at i lo hi s)) ≡ p = omega arith in
+          let q = p + length (before_bound scope t n b) in
+          let body = code_of w.setting t (within_loop scope n i b) (n + loop_slots b) (q + 1) s in
+          let none : length (code_of w.setting t scope n p (For at i lo b s)) ≡ 0 =
+          ap (λ c. length (cond c (before_bound scope t n b ++ head_of n lo.value b (q + 1 + length body) ∷ (body ++ instr.Next q ∷ [])) [])) e in
+          let same : p + length (code_of w.setting t scope n p (For at i lo b s)) ≡ p = omega arith in
           subst (λ q. Rest w t code scope q rest) same r
   rest_unfolded w t code scope n p s rest st r = rest_here w t code scope p (Do s ∷ rest) (n, tt, st, r)
 
@@ -263,19 +286,29 @@ assigned_straight : (scope : Scope) (t : ℕ) (e : Expression) (o : Option ℕ) 
 assigned_straight scope t e (Some s) = eval_straight scope t e
 assigned_straight scope t e None = into_straight scope t e
 
-pub before_straight : (cx : Setting) (scope : Scope) (t : ℕ) (s : Statement) → AreStraight (before cx scope t s)
-before_straight cx scope t (Declare b x ty (Make at v)) = tt
-before_straight cx scope t (Declare b x ty (Value e)) = into_straight scope t e
-before_straight cx scope t (Assign x e) = assigned_straight scope t e (find cx.shared x.text)
-before_straight cx scope t (Atomic x y at e) = eval_straight scope t e
-before_straight cx scope t (If at l op r s) = both_straight scope t l r
-before_straight cx scope t (IfElse at l op r s u) = both_straight scope t l r
-before_straight cx scope t (Call f at es) = args_straight scope t es
-before_straight cx scope t (Print at v e) = eval_straight scope t e
-before_straight cx scope t s = tt
+bound_straight : (scope : Scope) (t n : ℕ) (b : Bound) → AreStraight (before_bound scope t n b)
+bound_straight scope t n (UpTo hi) = tt
+bound_straight scope t n (Least x v e hi) =
+    straight_join (before_into scope t e) (last_into scope t e (n + 1) ∷ []) (into_straight scope t e) (last_straight scope t e (n + 1), tt)
+
+where_turns : (c : Bool) (is : List Instr) → AreStraight is → AreStraight (cond c is [])
+where_turns true is h = h
+where_turns false is h = tt
+
+pub before_straight : (cx : Setting) (scope : Scope) (t n : ℕ) (s : Statement) → AreStraight (before cx scope t n s)
+before_straight cx scope t n (Declare b x ty (Make at v)) = tt
+before_straight cx scope t n (Declare b x ty (Value e)) = into_straight scope t e
+before_straight cx scope t n (Assign x e) = assigned_straight scope t e (find cx.shared x.text)
+before_straight cx scope t n (Atomic x y at e) = eval_straight scope t e
+before_straight cx scope t n (If at l op r s) = both_straight scope t l r
+before_straight cx scope t n (IfElse at l op r s u) = both_straight scope t l r
+before_straight cx scope t n (Call f at es) = args_straight scope t es
+before_straight cx scope t n (Print at v e) = eval_straight scope t e
+before_straight cx scope t n (For at i lo b s) = where_turns (int_le lo.value (top b)) (before_bound scope t n b) (bound_straight scope t n b)
+before_straight cx scope t n s = tt
 
 pub code_split : (cx : Setting) (t : ℕ) (scope : Scope) (n q : ℕ) (s : Statement)
-    → (tail : List Instr) × (code_of cx t scope n q s ≡ before cx scope t s ++ tail)
+    → (tail : List Instr) × (code_of cx t scope n q s ≡ before cx scope t n s ++ tail)
 code_split cx t scope n q (Declare b x ty (Make at v)) = (_, refl)
 code_split cx t scope n q (Declare b x ty (Value e)) = (_, refl)
 code_split cx t scope n q (Assign x e) = (_, refl)
@@ -284,6 +317,17 @@ code_split cx t scope n q (If at l op r s) = (_, refl)
 code_split cx t scope n q (IfElse at l op r s u) = (_, refl)
 code_split cx t scope n q (Call f at es) = (_, refl)
 code_split cx t scope n q (Print at v e) = (_, refl)
+code_split cx t scope n q (For at i lo b s) = by (int_le lo.value (top b))
+  where
+    rest_of : List Instr
+    rest_of =
+        let p = q + length (before_bound scope t n b) in
+        let body = code_of cx t (within_loop scope n i b) (n + loop_slots b) (p + 1) s in
+        head_of n lo.value b (p + 1 + length body) ∷ (body ++ instr.Next p ∷ [])
+
+    by : (c : Bool) → (tail : List Instr) × (cond c (before_bound scope t n b ++ rest_of) [] ≡ cond c (before_bound scope t n b) [] ++ tail)
+    by true = (rest_of, refl)
+    by false = ([], refl)
 code_split cx t scope n q s = (code_of cx t scope n q s, refl)
 
 -- ---- a name stands for another value
@@ -315,6 +359,17 @@ matched_push scope names slots x n old v p new m there =
     other : (y : List ℕ) (s : ℕ) → is_text y x ≡ false → New y s → (find scope y ≡ Some s) × (s ≡ n → ⊥)
     other y s e (inl h) = (h, λ g. let low = p.below y s h in omega arith)
     other y s e (inr h) = absurd (false≢true (sym e ∙ h.1))
+
+-- a new name, whose slot holds already what it stands for
+pub matched_name : (scope : Scope) (names : Names) (slots : List Held) (x : List ℕ) (n : ℕ) (v : Held) → IsProper scope n → IsNew scope x
+    → IsMatched scope names slots → slice_get slots n ≡ Some v → IsMatched (scope ++ (x, n) ∷ []) ((x, v) ∷ names) slots
+matched_name scope names slots x n v p new m there =
+    subst (IsMatched (scope ++ (x, n) ∷ []) ((x, v) ∷ names)) (set_same slots n v there) (matched_push scope names slots x n v v p new m there)
+  where
+    set_same : (xs : List Held) (k : ℕ) (y : Held) → slice_get xs k ≡ Some y → slice_set xs k y ≡ xs
+    set_same [] k y h = absurd (none-some y h)
+    set_same (x ∷ xs) zero y h = ap (λ z. z ∷ xs) (sym (same_Some x y h))
+    set_same (x ∷ xs) (suc k) y h = ap (λ zs. x ∷ zs) (set_same xs k y h)
 
 -- one that was there
 pub matched_set : (scope : Scope) (names : Names) (slots : List Held) (x : List ℕ) (d n : ℕ) (old v : Held) → IsProper scope n

@@ -14,9 +14,9 @@ use Rattle.xk_tree.specs.declared.tree.Binding.TheVariants as binding
 use Rattle.xk_tree.specs.declared.tree.Operator.TheVariants as operator
 use Rattle.xk_tree.specs.declared.tree.Number.{Number}
 use Rattle.xk_tree.specs.declared.tree.Verb.{Verb}
-use Rattle.xk_tree.specs.Tree.{Word, Clocks, Expression, Literal, Named, Paren, Binary, Make, Value, Statement, Statements, Done, More, Block, Empty, Declare, Assign, Atomic, IfElse, For, Async, Finish, Call, Resume, Drop, AdvanceAll, Print, ParamValue, MethodValue, SharedValue, TreeValue}
+use Rattle.xk_tree.specs.Tree.{Word, Clocks, Expression, Literal, Named, Paren, Binary, Make, Value, UpTo, Least, Statement, Statements, Done, More, Block, Empty, Declare, Assign, Atomic, IfElse, For, Async, Finish, Call, Resume, Drop, AdvanceAll, Print, ParamValue, MethodValue, SharedValue, TreeValue}
 use Rattle.xk_code.specs.CodeOf.{Setting}
-use Rattle.xk_source.specs.Parts.{parts}
+use Rattle.xk_source.specs.Parts.{OfMethod, parts}
 use Rattle.xk_source.specs.Compiled.{taken, unit_of_part}
 use Rattle.xk_source.specs.Source.{SourceWorld, SourceOutcome, source_step, source_opening}
 use Rattle.xk_source.specs.Meaning.{Moment, moments, have_ended}
@@ -82,7 +82,7 @@ abbrev main : List Statement → MethodValue
 main ss = method (codes "main") [] ss
 
 abbrev run_of : TreeValue → List ℕ → List Moment
-run_of t list = moments (source_step t) list (source_opening t)
+run_of t list = moments (source_step t) list (source_opening t [])
 
 abbrev events_of : List Moment → List Event
 events_of ms = map (λ x. x.event) ms
@@ -98,7 +98,7 @@ world_after t [] v = v
 world_after t (a ∷ list) v = on_from v (source_step t v a) (world_after t list)
 
 abbrev after : TreeValue → List ℕ → SourceWorld
-after t list = world_after t list (source_opening t)
+after t list = world_after t list (source_opening t [])
 
 -- ---- one activity
 
@@ -110,14 +110,63 @@ alone = program [] (main (
     ∷ IfElse 0 (var (codes "x")) comparison.Lt (lit 3)
     (block (Assign (w (codes "x")) (plus (times (var (codes "x")) (lit 2)) (lit 1)) ∷ print (plus (var (codes "x")) (Paren 0 (lit 1))) ∷ []))
     (print (lit 0))
-    ∷ For 0 (w (codes "i")) (number (pos 1)) (number (pos 2)) (print (var (codes "i")))
-    ∷ For 0 (w (codes "j")) (number (pos 2)) (number (pos 1)) (print (var (codes "j")))
+    ∷ For 0 (w (codes "i")) (number (pos 1)) (UpTo (number (pos 2))) (print (var (codes "i")))
+    ∷ For 0 (w (codes "j")) (number (pos 2)) (UpTo (number (pos 1))) (print (var (codes "j")))
     ∷ []) ∷ [])
 
 -- declaration, branch, assignment, print, the loop's beginning, a turn and its end twice, the end of main
 alone_run : events_of (run_of alone (0 ∷ 0 ∷ 0 ∷ 0 ∷ 0 ∷ 0 ∷ 0 ∷ 0 ∷ 0 ∷ 0 ∷ []))
     ≡ event.Printed (pos 6) ∷ event.Printed (pos 1) ∷ event.Printed (pos 2) ∷ event.Ended ∷ []
 alone_run = refl
+
+-- ---- a limit, and an argument
+
+abbrev takes : List ℕ → ParamValue
+takes x = record { name = w x; takes = record { at = 0; kind = param.Number } }
+
+abbrev given_run : TreeValue → List ℤ → List ℕ → List Moment
+given_run t args list = moments (source_step t) list (source_opening t args)
+
+abbrev minus : Expression → Expression → Expression
+minus l r = Binary operator.Minus l 0 r
+
+-- `var m = n; for (i in 1..Math.min(m, 10)) { m = m - 1; println(i); }` in `main(n: Long)`: m falls, and the limit stays
+abbrev falling : TreeValue
+falling = program [] (method (codes "main") (takes (codes "n") ∷ []) (
+    var_is (codes "m") (var (codes "n"))
+    ∷ For 0 (w (codes "i")) (number (pos 1)) (Least (w (32 ∷ [])) verb (var (codes "m")) (number (pos 10)))
+    (block (Assign (w (codes "m")) (minus (var (codes "m")) (lit 1)) ∷ print (var (codes "i")) ∷ []))
+    ∷ []) ∷ [])
+
+-- the declaration, the loop's beginning, four turns of three steps, the end of main
+falling_run : events_of (given_run falling (pos 4 ∷ []) (0 ∷ 0 ∷ 0 ∷ 0 ∷ 0 ∷ 0 ∷ 0 ∷ 0 ∷ 0 ∷ 0 ∷ 0 ∷ 0 ∷ 0 ∷ 0 ∷ 0 ∷ []))
+    ≡ event.Printed (pos 1) ∷ event.Printed (pos 2) ∷ event.Printed (pos 3) ∷ event.Printed (pos 4) ∷ event.Ended ∷ []
+falling_run = refl
+
+-- no turn: the loop is passed over in one step
+falling_none : events_of (given_run falling (pos 0 ∷ []) (0 ∷ 0 ∷ 0 ∷ [])) ≡ event.Ended ∷ []
+falling_none = refl
+
+-- more than ten
+falling_most : events_of (given_run falling (pos 11 ∷ []) (0 ∷ 0 ∷ 0 ∷ 0 ∷ [])) ≡ event.Printed (pos 1) ∷ []
+falling_most = refl
+
+-- `var t = 0; for (i in 1..Math.min(n * n, 10)) { t = t + i; } println(t);`
+abbrev squares : MethodValue
+squares = method (codes "main") (takes (codes "n") ∷ []) (
+    var_is (codes "t") (lit 0)
+    ∷ For 0 (w (codes "i")) (number (pos 1)) (Least (w (32 ∷ [])) verb (times (var (codes "n")) (var (codes "n"))) (number (pos 10)))
+    (block (Assign (w (codes "t")) (plus (var (codes "t")) (var (codes "i"))) ∷ []))
+    ∷ print (var (codes "t"))
+    ∷ [])
+
+squares_code : unit_of_part (record { shared = []; methods = []; bodies = [] }) (OfMethod squares) ≡ record {
+  kind = unit_kind.Main;
+  params = param.Number ∷ [];
+  slots = 4;
+  code = instr.Lit 1 (pos 0) ∷ instr.Mul 3 0 0 ∷ instr.ForTo 2 (pos 1) 3 (pos 10) 4 ∷ instr.Add 1 1 2 ∷ instr.Next 2 ∷ instr.Print 1 ∷ instr.Ret ∷ [];
+}
+squares_code = refl
 
 -- ---- two activities on a clock
 
@@ -161,7 +210,7 @@ together_run : run_of together (0 ∷ 0 ∷ 1 ∷ 0 ∷ 0 ∷ 0 ∷ 1 ∷ 0 ∷ 
 together_run = refl
 
 -- the module's run; it has a step more for each number that is printed
-together_same : moments (step together_code) (0 ∷ 0 ∷ 1 ∷ 0 ∷ 0 ∷ 0 ∷ 0 ∷ 1 ∷ 0 ∷ 1 ∷ 1 ∷ 1 ∷ []) (opening together_code)
+together_same : moments (step together_code) (0 ∷ 0 ∷ 1 ∷ 0 ∷ 0 ∷ 0 ∷ 0 ∷ 1 ∷ 0 ∷ 1 ∷ 1 ∷ 1 ∷ []) (opening together_code [])
     ≡ run_of together (0 ∷ 0 ∷ 1 ∷ 0 ∷ 0 ∷ 0 ∷ 1 ∷ 0 ∷ 1 ∷ 1 ∷ [])
 together_same = refl
 
@@ -205,7 +254,7 @@ sharing_run : run_of sharing (0 ∷ 0 ∷ 1 ∷ 1 ∷ 0 ∷ 0 ∷ 0 ∷ 0 ∷ 0 
 unfolding under_within
 sharing_run = refl
 
-sharing_same : moments (step sharing_code) (0 ∷ 0 ∷ 1 ∷ 1 ∷ 1 ∷ 0 ∷ 0 ∷ 0 ∷ 0 ∷ 0 ∷ []) (opening sharing_code)
+sharing_same : moments (step sharing_code) (0 ∷ 0 ∷ 1 ∷ 1 ∷ 1 ∷ 0 ∷ 0 ∷ 0 ∷ 0 ∷ 0 ∷ []) (opening sharing_code [])
     ≡ run_of sharing (0 ∷ 0 ∷ 1 ∷ 1 ∷ 0 ∷ 0 ∷ 0 ∷ 0 ∷ 0 ∷ [])
 unfolding under_within
 sharing_same = refl
@@ -291,7 +340,7 @@ reading_run : run_of reading (0 ∷ 0 ∷ 1 ∷ 0 ∷ 0 ∷ 0 ∷ 0 ∷ 1 ∷ []
 reading_run = refl
 
 -- the module's run has a step more, which brings the 5 into a slot, and nobody sees it
-reading_same : moments (step reading_code) (0 ∷ 0 ∷ 1 ∷ 1 ∷ 0 ∷ 0 ∷ 0 ∷ 0 ∷ 1 ∷ []) (opening reading_code)
+reading_same : moments (step reading_code) (0 ∷ 0 ∷ 1 ∷ 1 ∷ 0 ∷ 0 ∷ 0 ∷ 0 ∷ 1 ∷ []) (opening reading_code [])
     ≡ run_of reading (0 ∷ 0 ∷ 1 ∷ 0 ∷ 0 ∷ 0 ∷ 0 ∷ 1 ∷ [])
 reading_same = refl
 

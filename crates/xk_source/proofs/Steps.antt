@@ -1,7 +1,7 @@
 -- Each step of a module's world is followed by the source's.
-use Rattle.std.proofs.Common.{◌≡◌, ℕ, zero, suc, ◌+◌, ◌<◌, ◌==◌, Bool, true, false, cond, List, [], ◌∷◌, ◌++◌, map, length, ℤ, pos, ◌+ℤ◌, int_lt, Some, None, Option, refl, sym, ap, ◌∙◌, subst, arith, ◌⊎◌, inl, inr, append_assoc, append-nil, length-append}
+use Rattle.std.proofs.Common.{◌≡◌, ℕ, zero, suc, ◌+◌, ◌<◌, ◌≤◌, ◌==◌, Bool, true, false, cond, List, [], ◌∷◌, ◌++◌, map, length, ℤ, pos, ◌+ℤ◌, int_lt, int_le, Some, None, Option, refl, sym, ap, ◌∙◌, subst, arith, ◌⊎◌, inl, inr, append_assoc, append-nil, length-append}
 use Rattle.std.specs.Prelude.{slice_get, slice_set, slice_index_or, replicate, unwrap_or, ◌-◌, ◌||◌, ⊤}
-use Rattle.std.specs.Int.{w64, int_wrapping_add, int_wrapping_sub, int_wrapping_mul}
+use Rattle.std.specs.Int.{w64, int_min, int_wrapping_add, int_wrapping_sub, int_wrapping_mul}
 use Rattle.std.specs.Option.{option_and_then, option_map_or}
 use Rattle.std.specs.List.{AllByRecursion}
 use Rattle.std.proofs.lemmas.Option.{none-some, same_Some}
@@ -18,25 +18,30 @@ use Rattle.xk_types.specs.declared.names.Event.{Event}
 use Rattle.xk_types.specs.declared.names.Event.TheVariants as event
 use Rattle.xk_types.specs.declared.unit.ParamKind.{ParamKind}
 use Rattle.xk_types.specs.declared.unit.ParamKind.TheVariants as param
-use Rattle.xk_types.specs.Code.{UnitValue, compares, is_method, is_body}
+use Rattle.xk_types.specs.Code.{UnitValue, compares, is_method, is_body, Loop, loop_head}
 use Rattle.xk_types.specs.World.{Frame, Finish as Governor, Activity, Clock, World, standing_of, instruction_at, frame_with, slots_of}
-use Rattle.xk_types.specs.Step.{Outcome, Blocked, Wrong, Stepped, OutOfRange, ClockUse, done, none, only, all, resumed, dropped, passed, onward, going, with_slots, arrived, ended, past, slot_at, number_in, clock_in, registered_on, is_registered, put_in, writing, cell_in, stored, computing, turning, again, entered, left, closing, returning, back_in, awaits, innermost, waits, passing, called, calling, child, spawning, arguments_in, is_given, names_clock, settled, joined, carried_out, run_at, step_by, step_of, step}
-use Rattle.xk_types.proofs.Lists.{fun_ext}
-use Rattle.xk_tree.specs.Tree.{Word, Expression, Literal, Named, Paren, Negation, Binary, Make, Value, Statement, Block, Empty, Declare, Assign, Atomic, If, IfElse, For, Async, Finish, Call, Resume, Drop, AdvanceAll, Print, ParamValue}
+use Rattle.xk_types.specs.Step.{Outcome, Blocked, Wrong, Stepped, OutOfRange, ClockUse, done, none, only, all, resumed, dropped, passed, onward, going, with_slots, arrived, ended, past, slot_at, number_in, clock_in, registered_on, is_registered, put_in, writing, cell_in, stored, computing, no_further, turning, again, entered, left, closing, returning, back_in, awaits, innermost, waits, passing, called, calling, child, spawning, arguments_in, is_given, names_clock, settled, joined, carried_out, run_at, step_by, step_of, step}
+use Rattle.xk_types.proofs.Lists.{fun_ext, get-set_other}
+use Rattle.xk_types.specs.declared.instr.Comparison.{Comparison}
+use Rattle.xk_tree.specs.declared.tree.Binding.{Binding}
+use Rattle.xk_tree.specs.declared.tree.Number.{Number}
+use Rattle.xk_tree.specs.declared.tree.TypeName.{TypeName}
+use Rattle.xk_tree.specs.declared.tree.Verb.{Verb}
+use Rattle.xk_tree.specs.Tree.{Word, Expression, Literal, Named, Paren, Negation, Binary, Make, Value, Bound, UpTo, Least, top, Clocks, Statement, Block, Empty, Declare, Assign, Atomic, If, IfElse, For, Async, Finish, Call, Resume, Drop, AdvanceAll, Print, ParamValue}
 use Rattle.xk_names.specs.Scope.{find, is_text, texts}
 use Rattle.xk_names.specs.Uses.{clocks_listed}
-use Rattle.xk_code.specs.CodeOf.{Scope, number_of, slots_of as slots_among, body_unit, captures_at, body_params, instr_of, slot_for, behind, eval, both, second, before_into, last_into, eval_all, argument_slots, shared_alone, before_assigned, last_assigned, count, declared, before, code_of}
+use Rattle.xk_code.specs.CodeOf.{Scope, number_of, slots_of as slots_among, body_unit, captures_at, body_params, instr_of, slot_for, behind, eval, both, second, before_into, last_into, eval_all, argument_slots, shared_alone, before_assigned, last_assigned, loop_slots, within_loop, before_bound, head_of, count, declared, before, code_of}
 use Rattle.xk_code.specs.Unit.{scope_from, first_temporary, unit_code, unit_of_method, unit_of_body, names_of_params, kinds_of_params, body_kinds}
-use Rattle.xk_code.specs.Covered.{IsFound, IsNew, IsKnown, IsKnownUnless, IsAssignable}
+use Rattle.xk_code.specs.Covered.{IsFound, IsNew, IsKnown, IsKnownUnless, IsAssignable, IsBoundKnown, IsLoopNew}
 use Rattle.xk_code.proofs.Covered.Tables.{is_same, none_new}
 use Rattle.xk_code.proofs.Scopes.{alone_before}
 use Rattle.xk_names.proofs.Agreement.{find_behind, or_entry}
-use Rattle.xk_source.specs.Source.{Todo, Do, Turn, Close, Names, Doing, SourceActivity, SourceWorld, SourceOutcome, alone, value_of, result_of, taken, unfolded, unfolded_all, left_with, knowing, declaring, storing, assigning, adding, given_one, given, invoked, invoking, handed, begun, starting, closed, over, continued, source_by, source_of, source_step}
-use Rattle.xk_source.proofs.Exec.{IsStraight, AreStraight, straight_back, last_straight, number_there, number_is, number_held, number_at, then_on, put_by, put_at, exec1, exec, exec_join, exec_parts, exec_one, then_parts, put_parts, op_parts, sub_parts, number_written, some_there, name_held, IsBelow, IsMatched, below_more, still_matched, eval_keeps, eval_gives, both_keeps, both_gives, args_keep, behind_least, slot_most, slot_behind, into_keeps, into_gives, slot_found}
+use Rattle.xk_source.specs.Source.{Todo, Do, Turn, Close, Names, named, Doing, SourceActivity, SourceWorld, SourceOutcome, alone, value_of, result_of, taken, unfolded, unfolded_all, left_with, knowing, declaring, storing, assigning, adding, limit_of, limited, looped, given_one, given, invoked, invoking, handed, begun, starting, closed, over, continued, source_by, source_of, source_step}
+use Rattle.xk_source.proofs.Exec.{IsStraight, AreStraight, straight_back, last_straight, number_there, number_is, number_held, number_at, then_on, put_by, put_at, exec1, exec, exec_join, exec_parts, exec_one, then_parts, put_parts, op_parts, sub_parts, number_written, other_written, ComesTo, some_there, name_held, IsBelow, IsMatched, below_more, still_matched, eval_keeps, eval_gives, both_keeps, both_gives, args_keep, behind_least, slot_most, slot_behind, into_keeps, into_gives, slot_found}
 use Rattle.xk_source.proofs.Pairs.{Pairs, pair_at, pairs_length}
 use Rattle.xk_source.proofs.Worlds.{IsAlike, AreRelated, Follows, both_move, both_write, both_make, both_start, one_moves, waits_alike, Together, together_at, IsKin, AreKin, awaits_kin, pairs_weaker}
-use Rattle.xk_source.proofs.Relation.{HoldsAt, Along, holds_front, holds_back, IsWithin, push_proper, more_proper, Whole, Stands, StandsTurn, Here, Rest, rest_wider, rest_jump, rest_here, IsSimple, push_within, rest_scope, before_straight, code_split, matched_push, matched_set}
-use Rattle.xk_source.proofs.Begins.{AreBuilt, AreKnown, named, known_named, matched_known, unit_rest}
+use Rattle.xk_source.proofs.Relation.{HoldsAt, Along, holds_front, holds_back, IsWithin, push_proper, more_proper, Whole, Stands, StandsTurn, Here, Rest, rest_wider, rest_jump, rest_here, IsSimple, IsLimit, IsProper, push_within, push_proper, loop_within, loop_proper, rest_scope, before_straight, code_split, matched_push, matched_name, matched_set}
+use Rattle.xk_source.proofs.Begins.{AreBuilt, AreKnown, known_named, matched_known, unit_rest}
 
 -- ---- the relation
 
@@ -60,14 +65,14 @@ pub record Within (cx : Whole) (code : List Instr) (place : ℕ) (slots : List H
   pub matched : IsMatched scope names start
   pub simple : IsSimple s
   pub after : Rest cx t code (declared scope n s) (first + length (code_of cx.setting t scope n first s)) rest
-  pub split : before cx.setting scope t s ≡ past ++ ahead
+  pub split : before cx.setting scope t n s ≡ past ++ ahead
   pub ran : exec past start ≡ Some slots
   pub at : place ≡ first + length past
 
 abbrev pub WithinFirst : Whole → List Instr → ℕ → List Held → List Todo → Names → Type 0
 WithinFirst cx code place slots [] names = ⊥
 WithinFirst cx code place slots (Do s ∷ rest) names = Within cx code place slots s rest names
-WithinFirst cx code place slots (Turn i hi s ∷ rest) names = ⊥
+WithinFirst cx code place slots (Turn i x hi s ∷ rest) names = ⊥
 WithinFirst cx code place slots (Close ∷ rest) names = ⊥
 
 abbrev pub RunsAs : Whole → List Instr → ℕ → List Held → List Todo → Names → Type 0
@@ -376,15 +381,15 @@ module _ (cx : Whole) (built : AreBuilt cx) (w : World) (v : SourceWorld) (a : �
     stands : Stands cx t like.unit.code scope n first s
     matched : IsMatched scope call.frame.names start
     after : Rest cx t like.unit.code (declared scope n s) (first + length (code_of cx.setting t scope n first s)) rest
-    ran : exec (before cx.setting scope t s) start ≡ Some act.frame.slots
-    at : act.frame.place ≡ first + length (before cx.setting scope t s)
+    ran : exec (before cx.setting scope t n s) start ≡ Some act.frame.slots
+    at : act.frame.place ≡ first + length (before cx.setting scope t n s)
 
   -- the instruction behind it
   ready_at : (s : Statement) (rest : List Todo) (r : Ready s rest) (i : Instr) (tail : List Instr)
-      → code_of cx.setting r.t r.scope r.n r.first s ≡ before cx.setting r.scope r.t s ++ i ∷ tail
+      → code_of cx.setting r.t r.scope r.n r.first s ≡ before cx.setting r.scope r.t r.n s ++ i ∷ tail
       → slice_get like.unit.code act.frame.place ≡ Some i
   ready_at s rest r i tail e =
-      let h = holds_back like.unit.code r.first (before cx.setting r.scope r.t s) (i ∷ tail) (subst (HoldsAt like.unit.code r.first) e r.stands.holds) in
+      let h = holds_back like.unit.code r.first (before cx.setting r.scope r.t r.n s) (i ∷ tail) (subst (HoldsAt like.unit.code r.first) e r.stands.holds) in
       subst (λ p. slice_get like.unit.code p ≡ Some i) (sym r.at) h.0
 
   ready_below : (s : Statement) (rest : List Todo) (r : Ready s rest) → IsBelow r.scope r.t
@@ -392,12 +397,12 @@ module _ (cx : Whole) (built : AreBuilt cx) (w : World) (v : SourceWorld) (a : �
 
   -- where that is the last one
   after_one : (s : Statement) (rest : List Todo) (r : Ready s rest) (i : Instr)
-      → code_of cx.setting r.t r.scope r.n r.first s ≡ before cx.setting r.scope r.t s ++ i ∷ []
+      → code_of cx.setting r.t r.scope r.n r.first s ≡ before cx.setting r.scope r.t r.n s ++ i ∷ []
       → Rest cx r.t like.unit.code (declared r.scope r.n s) (act.frame.place + 1) rest
   after_one s rest r i e =
       let long = ap length e in
       let same : r.first + length (code_of cx.setting r.t r.scope r.n r.first s) ≡ act.frame.place + 1 =
-      omega (arith, long, length-append (before cx.setting r.scope r.t s) (i ∷ []), r.at) in
+      omega (arith, long, length-append (before cx.setting r.scope r.t r.n s) (i ∷ []), r.at) in
       subst (λ p. Rest cx r.t like.unit.code (declared r.scope r.n s) p rest) same r.after
 
   ready_matched : (s : Statement) (rest : List Todo) (r : Ready s rest) → ((k : ℕ) → k < r.t → slice_get act.frame.slots k ≡ slice_get r.start k)
@@ -409,8 +414,8 @@ module _ (cx : Whole) (built : AreBuilt cx) (w : World) (v : SourceWorld) (a : �
 
   -- a name is given the number of an expression
   into_follows : (s : Statement) (rest : List Todo) (r : Ready s rest) (x : Word) (e : Expression) (d : ℕ) → IsKnown r.scope e
-      → before cx.setting r.scope r.t s ≡ before_into r.scope r.t e
-      → code_of cx.setting r.t r.scope r.n r.first s ≡ before cx.setting r.scope r.t s ++ last_into r.scope r.t e d ∷ []
+      → before cx.setting r.scope r.t r.n s ≡ before_into r.scope r.t e
+      → code_of cx.setting r.t r.scope r.n r.first s ≡ before cx.setting r.scope r.t r.n s ++ last_into r.scope r.t e d ∷ []
       → source_step cx.tree v a ≡ taken call.frame.names e (λ n. done v a (knowing call rest x (value.Number n)) none event.Local)
       → ((n : ℤ) (old : Held) → IsMatched r.scope call.frame.names act.frame.slots → slice_get act.frame.slots d ≡ Some old
       → IsMatched (declared r.scope r.n s) ((x.text, value.Number n) ∷ call.frame.names) (slice_set act.frame.slots d (value.Number n)))
@@ -440,7 +445,7 @@ module _ (cx : Whole) (built : AreBuilt cx) (w : World) (v : SourceWorld) (a : �
 
   -- what a value in a slot does that isn't written
   between_after : (s : Statement) (rest : List Todo) (r : Ready s rest) (i : Instr)
-      → code_of cx.setting r.t r.scope r.n r.first s ≡ before cx.setting r.scope r.t s ++ i ∷ [] → declared r.scope r.n s ≡ r.scope
+      → code_of cx.setting r.t r.scope r.n r.first s ≡ before cx.setting r.scope r.t r.n s ++ i ∷ [] → declared r.scope r.n s ≡ r.scope
       → ((k : ℕ) → k < r.t → slice_get act.frame.slots k ≡ slice_get r.start k)
       → Between cx like.unit.code (act.frame.place + 1) act.frame.slots rest call.frame.names
   between_after s rest r i e same keeps = record {
@@ -452,7 +457,7 @@ module _ (cx : Whole) (built : AreBuilt cx) (w : World) (v : SourceWorld) (a : �
 
   -- a slot is written with a value that both know
   between_known : (s : Statement) (rest : List Todo) (r : Ready s rest) (i : Instr) (x : List ℕ) (d : ℕ) (known old : Held)
-      → code_of cx.setting r.t r.scope r.n r.first s ≡ before cx.setting r.scope r.t s ++ i ∷ []
+      → code_of cx.setting r.t r.scope r.n r.first s ≡ before cx.setting r.scope r.t r.n s ++ i ∷ []
       → IsMatched (declared r.scope r.n s) ((x, known) ∷ call.frame.names) (slice_set act.frame.slots d known)
       → Between cx like.unit.code (act.frame.place + 1) (slice_set act.frame.slots d known) rest ((x, known) ∷ call.frame.names)
   between_known s rest r i x d known old e match = record { t = r.t; scope = declared r.scope r.n s; matched = match; rest = after_one s rest r i e }
@@ -479,8 +484,8 @@ module _ (cx : Whole) (built : AreBuilt cx) (w : World) (v : SourceWorld) (a : �
   -- a name is given the number of an expression, or a shared number that stands alone
   value_follows : (s : Statement) (rest : List Todo) (r : Ready s rest) (x : Word) (e : Expression) (d : ℕ) (o : Option ℕ)
       → shared_alone cx.setting e ≡ o
-      → IsKnownUnless o r.scope e → before cx.setting r.scope r.t s ≡ before_into r.scope r.t e
-      → code_of cx.setting r.t r.scope r.n r.first s ≡ before cx.setting r.scope r.t s ++ option_map_or (λ k. instr.Get d k) o (last_into r.scope r.t e d) ∷ []
+      → IsKnownUnless o r.scope e → before cx.setting r.scope r.t r.n s ≡ before_into r.scope r.t e
+      → code_of cx.setting r.t r.scope r.n r.first s ≡ before cx.setting r.scope r.t r.n s ++ option_map_or (λ k. instr.Get d k) o (last_into r.scope r.t e d) ∷ []
       → source_step cx.tree v a ≡ declaring v a call rest x e o
       → ((n : ℤ) (old : Held) → IsMatched r.scope call.frame.names act.frame.slots → slice_get act.frame.slots d ≡ Some old
       → IsMatched (declared r.scope r.n s) ((x.text, value.Number n) ∷ call.frame.names) (slice_set act.frame.slots d (value.Number n)))
@@ -497,8 +502,8 @@ module _ (cx : Whole) (built : AreBuilt cx) (w : World) (v : SourceWorld) (a : �
   -- a shared number is written or added to
   store_follows : (s : Statement) (rest : List Todo) (r : Ready s rest) (i : Instr) (k : ℕ) (e : Expression) (new : ℤ → ℤ → ℤ) (ev : Event)
       → IsKnown r.scope e
-      → before cx.setting r.scope r.t s ≡ eval r.scope r.t e
-      → code_of cx.setting r.t r.scope r.n r.first s ≡ before cx.setting r.scope r.t s ++ i ∷ []
+      → before cx.setting r.scope r.t r.n s ≡ eval r.scope r.t e
+      → code_of cx.setting r.t r.scope r.n r.first s ≡ before cx.setting r.scope r.t r.n s ++ i ∷ []
       → declared r.scope r.n s ≡ r.scope
       → carried_out cx.m w a act i ≡ number_in (slot_at act (slot_for r.scope r.t e)) (λ n. cell_in (slice_get w.cells k) (λ old. stored w a act k (new old n) ev))
       → source_step cx.tree v a ≡ storing v a call rest k e new ev → Good (run_at cx.m w a act (instruction_at cx.m act.frame))
@@ -536,11 +541,9 @@ module _ (cx : Whole) (built : AreBuilt cx) (w : World) (v : SourceWorld) (a : �
   pushed_there scope x n new =
       find_behind scope x n x ∙ (ap (λ o. or_entry o (is_text x x) n) (none_new (find scope x) new) ∙ ap (λ b. or_entry None b n) (is_same x))
 
-  decide : (s : Statement) (rest : List Todo) → call.frame.todo ≡ Do s ∷ rest → Ready s rest
+  decide_make : (b : Binding) (x : Word) (ty : Option TypeName) (at : ℕ) (vb : Verb) (rest : List Todo) → call.frame.todo ≡ Do (Declare b x ty (Make at vb)) ∷ rest → Ready (Declare b x ty (Make at vb)) rest
       → Good (run_at cx.m w a act (instruction_at cx.m act.frame))
-  decide (Block ss) rest e r = absurd r.simple
-  decide Empty rest e r = absurd r.simple
-  decide (Declare b x ty (Make at vb)) rest e r =
+  decide_make b x ty at vb rest e r =
       let s = Declare b x ty (Make at vb) in
       let same : length w.clocks ≡ length v.clocks = pairs_length IsAlike w.clocks v.clocks rel.clocks in
       at_place (instr.Make r.n) (ready_at s rest r (instr.Make r.n) [] refl) (put_follows (slot_at act r.n) r.n (value.Clock (length w.clocks)) _ (λ old at.
@@ -551,19 +554,31 @@ module _ (cx : Whole) (built : AreBuilt cx) (w : World) (v : SourceWorld) (a : �
       (between_known s rest r (instr.Make r.n) x.text r.n (value.Clock (length w.clocks)) old refl
       (matched_push r.scope call.frame.names act.frame.slots x.text r.n old (value.Clock (length w.clocks)) r.stands.proper r.stands.covered.1
       (ready_matched s rest r (nothing_ran r.start r.ran r.t)) at)))))))
-  decide (Declare b x ty (Value ex)) rest e r =
+
+  decide_value : (b : Binding) (x : Word) (ty : Option TypeName) (ex : Expression) (rest : List Todo) → call.frame.todo ≡ Do (Declare b x ty (Value ex)) ∷ rest → Ready (Declare b x ty (Value ex)) rest
+      → Good (run_at cx.m w a act (instruction_at cx.m act.frame))
+  decide_value b x ty ex rest e r =
       value_follows (Declare b x ty (Value ex)) rest r x ex r.n (shared_alone cx.setting ex) refl r.stands.covered.0 refl refl
       (source_runs (Do (Declare b x ty (Value ex)) ∷ rest) e ∙ ap (declaring v a call rest x ex) (sym (alone_same ex)))
       (λ n old held at. matched_push r.scope call.frame.names act.frame.slots x.text r.n old (value.Number n) r.stands.proper r.stands.covered.1 held at)
-  decide (Assign x ex) rest e r = assign_follows x ex rest e r (find cx.setting.shared x.text) refl r.stands.covered
-  decide (Atomic x y at ex) rest e r =
+
+  decide_assign : (x : Word) (ex : Expression) (rest : List Todo) → call.frame.todo ≡ Do (Assign x ex) ∷ rest → Ready (Assign x ex) rest
+      → Good (run_at cx.m w a act (instruction_at cx.m act.frame))
+  decide_assign x ex rest e r = assign_follows x ex rest e r (find cx.setting.shared x.text) refl r.stands.covered
+
+  decide_atomic : (x y : Word) (at : ℕ) (ex : Expression) (rest : List Todo) → call.frame.todo ≡ Do (Atomic x y at ex) ∷ rest → Ready (Atomic x y at ex) rest
+      → Good (run_at cx.m w a act (instruction_at cx.m act.frame))
+  decide_atomic x y at ex rest e r =
       let k = some_there (find cx.setting.shared x.text) r.stands.covered.0 in
       let there : find cx.setting.shared x.text ≡ Some (number_of cx.setting.shared x) = k.1 ∙ ap (λ j. Some j) (sym (slot_found cx.setting.shared x k.0 k.1)) in
       store_follows (Atomic x y at ex) rest r (instr.AddTo (number_of cx.setting.shared x) (slot_for r.scope r.t ex))
       (number_of cx.setting.shared x) ex (int_wrapping_add w64) event.Added
       r.stands.covered.1 refl refl refl refl
       (source_runs (Do (Atomic x y at ex) ∷ rest) e ∙ ap (adding v a call rest ex) (sym (built.shared x.text) ∙ there))
-  decide (If at l op r' s) rest e r =
+
+  decide_if : (at : ℕ) (l : Expression) (op : Comparison) (r' : Expression) (s : Statement) (rest : List Todo) → call.frame.todo ≡ Do (If at l op r' s) ∷ rest → Ready (If at l op r' s) rest
+      → Good (run_at cx.m w a act (instruction_at cx.m act.frame))
+  decide_if at l op r' s rest e r =
       let q = r.first + length (both r.scope r.t l r') in
       let body = code_of cx.setting r.t r.scope r.n (q + 1) s in
       let i = instr.Unless op (slot_for r.scope r.t l) (second r.scope r.t l r') (q + 1 + length body) in
@@ -594,7 +609,10 @@ module _ (cx : Whole) (built : AreBuilt cx) (w : World) (v : SourceWorld) (a : �
             (rest_scope cx r.t like.unit.code r.scope r.n (q + 1) (q + 1 + length body) s rest stands refl last);
       })
       (record { t = r.t; scope = r.scope; matched = held; rest = last }))))
-  decide (IfElse at l op r' s u) rest e r =
+
+  decide_if_else : (at : ℕ) (l : Expression) (op : Comparison) (r' : Expression) (s u : Statement) (rest : List Todo) → call.frame.todo ≡ Do (IfElse at l op r' s u) ∷ rest → Ready (IfElse at l op r' s u) rest
+      → Good (run_at cx.m w a act (instruction_at cx.m act.frame))
+  decide_if_else at l op r' s u rest e r =
       let q = r.first + length (both r.scope r.t l r') in
       let body = code_of cx.setting r.t r.scope r.n (q + 1) s in
       let mid = q + 1 + length body in
@@ -644,55 +662,191 @@ module _ (cx : Whole) (built : AreBuilt cx) (w : World) (v : SourceWorld) (a : �
         matched = held;
         rest = rest_scope cx r.t like.unit.code r.scope (r.n + count s) (mid + 1) end u rest stands_other refl last;
       }))))
-  decide (For at i lo hi s) rest e r =
-      let inner : Scope = r.scope ++ (i.text, r.n) ∷ [] in
-      let body = code_of cx.setting r.t inner (r.n + 1) (r.first + 1) s in
-      let q = r.first + 1 + length body in
-      let whole = instr.For r.n lo.value hi.value q ∷ (body ++ instr.Next r.first ∷ []) in
-      let code : code_of cx.setting r.t r.scope r.n r.first (For at i lo hi s) ≡ whole = ap (λ b. cond b whole []) r.simple in
-      let holds = subst (HoldsAt like.unit.code r.first) code r.stands.holds in
-      let next = holds_back like.unit.code (r.first + 1) body (instr.Next r.first ∷ []) holds.1 in
-      let here_at : r.first ≡ act.frame.place = (let at = r.at in omega arith) in
-      let long = ap length code in
-      let behind : r.first + length (code_of cx.setting r.t r.scope r.n r.first (For at i lo hi s)) ≡ q + 1 =
-      omega (arith, long, length-append body (instr.Next r.first ∷ [])) in
+
+  -- the number that a loop goes no further than, and what the source takes for it
+  limit_follows : (scope : Scope) (x : Option Word) (o : Option ℕ) (hi : ℤ) (go : ℤ → Outcome) → IsMatched scope call.frame.names act.frame.slots
+      → IsLimit scope x o
+      → ((most : ℤ) → ((sgo : ℤ → SourceOutcome) → limited call.frame.names x hi sgo ≡ sgo most) → Good (go most)) → Good (no_further act o hi go)
+  limit_follows scope None None hi go held at h = h hi (λ sgo. refl)
+  limit_follows scope None (Some d) hi go held at h = absurd at
+  limit_follows scope (Some x) None hi go held at h = absurd at
+  limit_follows scope (Some x) (Some d) hi go held at h =
+      number_follows (slot_at act d) _ (λ n g. h (int_min n hi) (λ sgo. ap (λ o. number_in o (λ k. sgo (int_min k hi))) (held x.text d at ∙ number_is (slot_at act d) n g)))
+
+  -- a loop whose head it stands at
+  record Round (i : Word) (lo : ℤ) (b : Bound) (s : Statement) (rest : List Todo) (scope : Scope) (n t : ℕ) (start : List Held) : Type 0 where
+    q : ℕ
+    proper : IsProper scope n
+    known : IsBoundKnown scope b
+    new : IsLoopNew scope n i b
+    room : n + loop_slots b ≤ t
+    matched : IsMatched scope call.frame.names start
+    ran : exec (before_bound scope t n b) start ≡ Some act.frame.slots
+    head : slice_get like.unit.code act.frame.place ≡ Some (head_of n lo b q)
+    -- within, and behind it
+    inside : Rest cx t like.unit.code (within_loop scope n i b) (act.frame.place + 1) (unfolded s ++ Turn i (limit_of b) (top b) s ∷ rest)
+    after : Rest cx t like.unit.code scope (q + 1) rest
+
+  -- what the limit comes to is in its slot, and those before it are as they were
+  record IsLimited (scope : Scope) (n t : ℕ) (e : Expression) (start : List Held) : Type 0 where
+    p : ℤ
+    gives : ComesTo call.frame.names e p
+    holds : number_held (slot_at act (n + 1)) ≡ Some p
+    keeps : (k : ℕ) → k < n → slice_get act.frame.slots k ≡ slice_get start k
+
+  limit_is : (scope : Scope) (n t : ℕ) (e : Expression) (start : List Held) → IsProper scope n → IsKnown scope e → n + 2 ≤ t
+      → IsMatched scope call.frame.names start → exec (before_into scope t e ++ last_into scope t e (n + 1) ∷ []) start ≡ Some act.frame.slots
+      → IsLimited scope n t e start
+  limit_is scope n t e start proper known room matched ran =
+      let slots = act.frame.slots in
+      let last = last_into scope t e (n + 1) in
+      let a = exec_parts (before_into scope t e) (last ∷ []) start slots ran in
+      let p = into_gives scope call.frame.names t e (n + 1) start a.0 slots (below_more scope n t (omega arith) proper.below) known matched a.1 (exec_one last a.0 slots a.2) in
+      record {
+        p = p.n;
+        gives = p.gives;
+        holds = number_written a.0 slots (n + 1) p.n p.old p.there p.made;
+        keeps = λ k lt. other_written a.0 slots (n + 1) k _ p.made (λ g. omega arith) ∙ into_keeps scope t e start a.0 a.1 k (omega arith);
+      }
+
+  round_follows : (i : Word) (lo : ℤ) (b : Bound) (s : Statement) (rest : List Todo) (scope : Scope) (n t : ℕ) (start : List Held)
+      → Round i lo b s rest scope n t start → source_step cx.tree v a ≡ looped v a call rest i lo b s
+      → Good (run_at cx.m w a act (instruction_at cx.m act.frame))
+  round_follows i lo (UpTo hi) s rest scope n t start r src =
+      at_place (instr.For n lo hi.value r.q) r.head (put_follows (slot_at act n) n (value.Number lo) _ (λ old at.
+      moves (act.frame.place + 1) _ (unfolded s ++ Turn i None hi.value s ∷ rest) ((i.text, value.Number lo) ∷ call.frame.names) none event.Local src
+      (record {
+        t = t;
+        scope = scope ++ (i.text, n) ∷ [];
+        matched = matched_push scope call.frame.names act.frame.slots i.text n old (value.Number lo) r.proper r.new
+            (λ x k f. r.matched x k f ∙ ap (λ o. slice_get o k) (same_Some start act.frame.slots r.ran)) at;
+        rest = r.inside;
+      })))
+  round_follows i lo (Least x vb e hi) s rest scope n t start r src =
+      at_place (instr.ForTo n lo (n + 1) hi.value r.q) r.head
+      (number_follows (slot_at act (n + 1)) _ (λ p g.
+      let same : l.p ≡ p = same_Some l.p p (sym l.holds ∙ g) in
+      by p g (int_le lo (int_min p hi.value)) refl (src ∙ (l.gives (λ k. done v a (first k (int_le lo (int_min k hi.value))) none event.Local)
+      ∙ ap (λ k. done v a (first k (int_le lo (int_min k hi.value))) none event.Local) same))))
+    where
+      l : IsLimited scope n t e start
+      l = limit_is scope n t e start r.proper r.known r.room r.matched r.ran
+
+      held : IsMatched scope call.frame.names act.frame.slots
+      held = still_matched scope n call.frame.names start act.frame.slots r.proper.below l.keeps r.matched
+
+      -- what the source does where the limit is k
+      first : ℤ → Bool → SourceActivity
+      first k c = cond c (knowing (knowing call [] i (value.Number lo)) (unfolded s ++ Turn i (Some x) hi.value s ∷ rest) x (value.Number k)) (left_with call rest)
+
+      by : (p : ℤ) → number_held (slot_at act (n + 1)) ≡ Some p → (c : Bool) → int_le lo (int_min p hi.value) ≡ c
+          → source_step cx.tree v a ≡ done v a (first p (int_le lo (int_min p hi.value))) none event.Local
+          → Good (cond c (writing act n (value.Number lo) (λ next. done w a next none event.Local)) (done w a (going act (r.q + 1)) none event.Local))
+      by p g true e src =
+          put_follows (slot_at act n) n (value.Number lo) _ (λ old at.
+          let inner : Scope = scope ++ (i.text, n) ∷ [] in
+          let names : Names = (i.text, value.Number lo) ∷ call.frame.names in
+          let slots = slice_set act.frame.slots n (value.Number lo) in
+          let there : slice_get slots (n + 1) ≡ Some (value.Number p) =
+          get-set_other act.frame.slots n (n + 1) (value.Number lo) (λ h. omega arith) ∙ number_is (slot_at act (n + 1)) p g in
+          moves (act.frame.place + 1) slots (unfolded s ++ Turn i (Some x) hi.value s ∷ rest) ((x.text, value.Number p) ∷ names) none event.Local
+          (src ∙ ap (λ c. done v a (first p c) none event.Local) e)
+          (record {
+            t = t;
+            scope = inner ++ (x.text, n + 1) ∷ [];
+            matched = matched_name inner names slots x.text (n + 1) (value.Number p) (push_proper scope i.text n r.proper) r.new.1
+                (matched_push scope call.frame.names act.frame.slots i.text n old (value.Number lo) r.proper r.new.0 held at) there;
+            rest = r.inside;
+          }))
+      by p g false e src =
+          moves (r.q + 1) act.frame.slots rest call.frame.names none event.Local (src ∙ ap (λ c. done v a (first p c) none event.Local) e)
+          (record { t = t; scope = scope; matched = held; rest = r.after })
+
+  -- the end of the loop
+  turn_stands : (t : ℕ) (scope : Scope) (n first q : ℕ) (i : Word) (lo : ℤ) (b : Bound) (s : Statement) → IsLoopNew scope n i b
+      → slice_get like.unit.code first ≡ Some (head_of n lo b q) → slice_get like.unit.code q ≡ Some (instr.Next first)
+      → Stands cx t like.unit.code (within_loop scope n i b) (n + loop_slots b) (first + 1) s
+      → first + 1 + length (code_of cx.setting t (within_loop scope n i b) (n + loop_slots b) (first + 1) s) ≡ q
+      → StandsTurn cx t like.unit.code (within_loop scope n i b) q i (limit_of b) (top b) s
+  turn_stands t scope n first q i lo (UpTo hi) s new head next body ends = record {
+    first = first;
+    n = n + 1;
+    head = instr.For n lo hi.value q;
+    loop = record { first = first; last = q; slot = n; lo = lo; hi = hi.value; limit = None };
+    next = next;
+    stands = head;
+    begins = refl;
+    most = refl;
+    counter = pushed_there scope i.text n new;
+    limit = tt;
+    body = body;
+    ends = ends;
+  }
+  turn_stands t scope n first q i lo (Least x vb e hi) s new head next body ends =
+      let inner : Scope = scope ++ (i.text, n) ∷ [] in
+      record {
+        first = first;
+        n = n + 2;
+        head = instr.ForTo n lo (n + 1) hi.value q;
+        loop = record { first = first; last = q; slot = n; lo = lo; hi = hi.value; limit = Some (n + 1) };
+        next = next;
+        stands = head;
+        begins = refl;
+        most = refl;
+        counter = push_within inner x.text (n + 1) i.text n (pushed_there scope i.text n new.0);
+        limit = pushed_there inner x.text (n + 1) new.1;
+        body = body;
+        ends = ends;
+      }
+
+  decide_for : (at : ℕ) (i : Word) (lo : Number) (b : Bound) (s : Statement) (rest : List Todo) → call.frame.todo ≡ Do (For at i lo b s) ∷ rest → Ready (For at i lo b s) rest
+      → Good (run_at cx.m w a act (instruction_at cx.m act.frame))
+  decide_for at i lo b s rest e r =
+      let s' = For at i lo b s in
+      let inner = within_loop r.scope r.n i b in
+      let first = before_bound r.scope r.t r.n b in
+      let p = r.first + length first in
+      let body = code_of cx.setting r.t inner (r.n + loop_slots b) (p + 1) s in
+      let q = p + 1 + length body in
+      let tail = head_of r.n lo.value b q ∷ (body ++ instr.Next p ∷ []) in
+      let code : code_of cx.setting r.t r.scope r.n r.first s' ≡ first ++ tail = ap (λ c. cond c (first ++ tail) []) r.simple in
+      let begins : before cx.setting r.scope r.t r.n s' ≡ first = ap (λ c. cond c first []) r.simple in
+      let holds = holds_back like.unit.code r.first first tail (subst (HoldsAt like.unit.code r.first) code r.stands.holds) in
+      let next = holds_back like.unit.code (p + 1) body (instr.Next p ∷ []) holds.1 in
+      let here_at : p ≡ act.frame.place = (let at = r.at in omega (arith, at, ap length begins)) in
+      let behind : r.first + length (code_of cx.setting r.t r.scope r.n r.first s') ≡ q + 1 =
+      omega (arith, ap length code, length-append first tail, length-append body (instr.Next p ∷ [])) in
       let fits = r.stands.covered r.simple in
-      let fresh = push_within r.scope i.text r.n in
+      let after : Rest cx r.t like.unit.code r.scope (q + 1) rest = subst (λ k. Rest cx r.t like.unit.code r.scope k rest) behind r.after in
       let last : Rest cx r.t like.unit.code inner (q + 1) rest =
-      rest_wider cx r.t like.unit.code r.scope inner (q + 1) rest fresh (subst (λ p. Rest cx r.t like.unit.code r.scope p rest) behind r.after) in
+      rest_wider cx r.t like.unit.code r.scope inner (q + 1) rest (loop_within r.scope r.n i b) after in
       let room = r.stands.room in
-      let stands : Stands cx r.t like.unit.code inner (r.n + 1) (r.first + 1) s = record {
-        holds = holds_front like.unit.code (r.first + 1) body (instr.Next r.first ∷ []) holds.1;
-        covered = fits.1;
+      let stands : Stands cx r.t like.unit.code inner (r.n + loop_slots b) (p + 1) s = record {
+        holds = holds_front like.unit.code (p + 1) body (instr.Next p ∷ []) holds.1;
+        covered = fits.2;
         linked = r.stands.linked r.simple;
-        proper = push_proper r.scope i.text r.n r.stands.proper;
+        proper = loop_proper r.scope r.n i b r.stands.proper;
         room = omega arith;
       } in
-      let turn : StandsTurn cx r.t like.unit.code inner q i hi.value s = record {
-        first = r.first;
-        slot = r.n;
-        lo = lo.value;
-        n = r.n + 1;
-        next = next.0;
-        head = holds.0;
-        counter = pushed_there r.scope i.text r.n fits.0;
-        body = stands;
-        ends = refl;
-      } in
-      at_place (instr.For r.n lo.value hi.value q) (ready_at (For at i lo hi s) rest r (instr.For r.n lo.value hi.value q) (body ++ instr.Next r.first ∷ []) code)
-      (put_follows (slot_at act r.n) r.n (value.Number lo.value) _ (λ old at'.
-      moves (act.frame.place + 1) _ (unfolded s ++ Turn i hi.value s ∷ rest) ((i.text, value.Number lo.value) ∷ call.frame.names) none event.Local
-      (source_runs (Do (For at i lo hi s) ∷ rest) e)
-      (record {
-        t = r.t;
-        scope = inner;
-        matched = matched_push r.scope call.frame.names act.frame.slots i.text r.n old (value.Number lo.value) r.stands.proper fits.0
-            (ready_matched (For at i lo hi s) rest r (nothing_ran r.start r.ran r.t)) at';
-        rest = subst (λ p. Rest cx r.t like.unit.code inner (p + 1) (unfolded s ++ Turn i hi.value s ∷ rest)) here_at
-            (rest_scope cx r.t like.unit.code inner (r.n + 1) (r.first + 1) q s (Turn i hi.value s ∷ rest) stands refl
-            (rest_here cx r.t like.unit.code inner q (Turn i hi.value s ∷ rest) (turn, last)));
-      })))
-  decide (Finish s) rest e r =
+      let turn = turn_stands r.t r.scope r.n p q i lo.value b s fits.1 holds.0 next.0 stands refl in
+      round_follows i lo.value b s rest r.scope r.n r.t r.start (record {
+        q = q;
+        proper = r.stands.proper;
+        known = fits.0;
+        new = fits.1;
+        room = omega arith;
+        matched = r.matched;
+        ran = ap (λ is. exec is r.start) (sym begins) ∙ r.ran;
+        head = subst (λ k. slice_get like.unit.code k ≡ Some (head_of r.n lo.value b q)) here_at holds.0;
+        inside = subst (λ k. Rest cx r.t like.unit.code inner (k + 1) (unfolded s ++ Turn i (limit_of b) (top b) s ∷ rest)) here_at
+            (rest_scope cx r.t like.unit.code inner (r.n + loop_slots b) (p + 1) q s (Turn i (limit_of b) (top b) s ∷ rest) stands refl
+            (rest_here cx r.t like.unit.code inner q (Turn i (limit_of b) (top b) s ∷ rest) (turn, last)));
+        after = after;
+      }) (source_runs (Do s' ∷ rest) e)
+
+  decide_finish : (s : Statement) (rest : List Todo) → call.frame.todo ≡ Do (Finish s) ∷ rest → Ready (Finish s) rest
+      → Good (run_at cx.m w a act (instruction_at cx.m act.frame))
+  decide_finish s rest e r =
       let body = code_of cx.setting r.t r.scope r.n (r.first + 1) s in
       let q = r.first + 1 + length body in
       let i = instr.Finish q in
@@ -720,7 +874,10 @@ module _ (cx : Whole) (built : AreBuilt cx) (w : World) (v : SourceWorld) (a : �
             (rest_scope cx r.t like.unit.code r.scope r.n (r.first + 1) q s (Close ∷ rest) stands refl
             (rest_here cx r.t like.unit.code r.scope q (Close ∷ rest) (r.first, end.0, last)));
       }))))
-  decide (Resume c vb) rest e r =
+
+  decide_resume : (c : Word) (vb : Verb) (rest : List Todo) → call.frame.todo ≡ Do (Resume c vb) ∷ rest → Ready (Resume c vb) rest
+      → Good (run_at cx.m w a act (instruction_at cx.m act.frame))
+  decide_resume c vb rest e r =
       let i = instr.Resume (number_of r.scope c) in
       at_place i (ready_at (Resume c vb) rest r i [] refl)
       (clock_follows (slot_at act (number_of r.scope c)) _ (λ k. done v a (left_with call rest) (only k resumed) event.Resumed) (λ k g.
@@ -728,7 +885,10 @@ module _ (cx : Whole) (built : AreBuilt cx) (w : World) (v : SourceWorld) (a : �
       (source_runs (Do (Resume c vb) ∷ rest) e ∙ (ap (λ o. clock_in v a o (λ k. done v a (left_with call rest) (only k resumed) event.Resumed))
       (clock_known (Resume c vb) rest r c r.stands.covered r.ran) ∙ g))
       (between_after (Resume c vb) rest r i refl refl (nothing_ran r.start r.ran r.t))))
-  decide (Drop c vb) rest e r =
+
+  decide_drop : (c : Word) (vb : Verb) (rest : List Todo) → call.frame.todo ≡ Do (Drop c vb) ∷ rest → Ready (Drop c vb) rest
+      → Good (run_at cx.m w a act (instruction_at cx.m act.frame))
+  decide_drop c vb rest e r =
       let i = instr.Drop (number_of r.scope c) in
       at_place i (ready_at (Drop c vb) rest r i [] refl)
       (clock_follows (slot_at act (number_of r.scope c)) _ (λ k. done v a (left_with call rest) (only k dropped) event.Dropped) (λ k g.
@@ -736,7 +896,10 @@ module _ (cx : Whole) (built : AreBuilt cx) (w : World) (v : SourceWorld) (a : �
       (source_runs (Do (Drop c vb) ∷ rest) e ∙ (ap (λ o. clock_in v a o (λ k. done v a (left_with call rest) (only k dropped) event.Dropped))
       (clock_known (Drop c vb) rest r c r.stands.covered r.ran) ∙ g))
       (between_after (Drop c vb) rest r i refl refl (nothing_ran r.start r.ran r.t))))
-  decide (AdvanceAll at vb) rest e r =
+
+  decide_advance : (at : ℕ) (vb : Verb) (rest : List Todo) → call.frame.todo ≡ Do (AdvanceAll at vb) ∷ rest → Ready (AdvanceAll at vb) rest
+      → Good (run_at cx.m w a act (instruction_at cx.m act.frame))
+  decide_advance at vb rest e r =
       at_place instr.Advance (ready_at (AdvanceAll at vb) rest r instr.Advance [] refl)
       (both_move cx.tree (IsAs cx) w v a rel (arrived act) _ (all resumed) event.Arrived (source_runs (Do (AdvanceAll at vb) ∷ rest) e) (record {
         status = refl;
@@ -747,14 +910,20 @@ module _ (cx : Whole) (built : AreBuilt cx) (w : World) (v : SourceWorld) (a : �
         stage = between_after (AdvanceAll at vb) rest r instr.Advance refl refl (nothing_ran r.start r.ran r.t);
         callers = like.callers;
       }))
-  decide (Print at vb ex) rest e r =
+
+  decide_print : (at : ℕ) (vb : Verb) (ex : Expression) (rest : List Todo) → call.frame.todo ≡ Do (Print at vb ex) ∷ rest → Ready (Print at vb ex) rest
+      → Good (run_at cx.m w a act (instruction_at cx.m act.frame))
+  decide_print at vb ex rest e r =
       let i = instr.Print (slot_for r.scope r.t ex) in
       at_place i (ready_at (Print at vb ex) rest r i [] refl) (number_follows (slot_at act (slot_for r.scope r.t ex)) _ (λ n g.
       moves (act.frame.place + 1) act.frame.slots rest call.frame.names none (event.Printed n)
       (source_runs (Do (Print at vb ex) ∷ rest) e
       ∙ eval_gives r.scope call.frame.names r.t ex r.start act.frame.slots n (ready_below (Print at vb ex) rest r) r.stands.covered r.matched r.ran g _)
       (between_after (Print at vb ex) rest r i refl refl (eval_keeps r.scope r.t ex r.start act.frame.slots r.ran))))
-  decide (Call f at es) rest e r =
+
+  decide_call : (f : Word) (at : ℕ) (es : List Expression) (rest : List Todo) → call.frame.todo ≡ Do (Call f at es) ∷ rest → Ready (Call f at es) rest
+      → Good (run_at cx.m w a act (instruction_at cx.m act.frame))
+  decide_call f at es rest e r =
       let d = r.stands.linked.0 in
       let u = number_of cx.setting.methods f in
       let unit = built.methods u d r.stands.linked.2 in
@@ -786,7 +955,10 @@ module _ (cx : Whole) (built : AreBuilt cx) (w : World) (v : SourceWorld) (a : �
             }));
         callers = (record { unit = like.unit; found = like.found; between = back }, like.callers);
       }))))
-  decide (Async at cs s) rest e r =
+
+  decide_async : (at : ℕ) (cs : Option Clocks) (s : Statement) (rest : List Todo) → call.frame.todo ≡ Do (Async at cs s) ∷ rest → Ready (Async at cs s) rest
+      → Good (run_at cx.m w a act (instruction_at cx.m act.frame))
+  decide_async at cs s rest e r =
       let ws = clocks_listed cs in
       let xs = captures_at cx.setting at in
       let ps = body_params cx.setting at cs in
@@ -820,33 +992,59 @@ module _ (cx : Whole) (built : AreBuilt cx) (w : World) (v : SourceWorld) (a : �
         callers = tt;
       }))))
 
+  decide : (s : Statement) (rest : List Todo) → call.frame.todo ≡ Do s ∷ rest → Ready s rest
+      → Good (run_at cx.m w a act (instruction_at cx.m act.frame))
+  decide (Block ss) rest e r = absurd r.simple
+  decide Empty rest e r = absurd r.simple
+  decide (Declare b x ty (Make at vb)) rest e r = decide_make b x ty at vb rest e r
+  decide (Declare b x ty (Value ex)) rest e r = decide_value b x ty ex rest e r
+  decide (Assign x ex) rest e r = decide_assign x ex rest e r
+  decide (Atomic x y at ex) rest e r = decide_atomic x y at ex rest e r
+  decide (If at l op r' s) rest e r = decide_if at l op r' s rest e r
+  decide (IfElse at l op r' s u) rest e r = decide_if_else at l op r' s u rest e r
+  decide (For at i lo b s) rest e r = decide_for at i lo b s rest e r
+  decide (Finish s) rest e r = decide_finish s rest e r
+  decide (Resume c vb) rest e r = decide_resume c vb rest e r
+  decide (Drop c vb) rest e r = decide_drop c vb rest e r
+  decide (AdvanceAll at vb) rest e r = decide_advance at vb rest e r
+  decide (Print at vb ex) rest e r = decide_print at vb ex rest e r
+  decide (Call f at es) rest e r = decide_call f at es rest e r
+  decide (Async at cs s) rest e r = decide_async at cs s rest e r
+
   -- ---- the end of a turn, of a finish, of a call
 
-  turn_follows : (rest : List Todo) (i : Word) (hi : ℤ) (s : Statement) → call.frame.todo ≡ Turn i hi s ∷ rest → (t : ℕ) (scope : Scope)
+  turn_follows : (rest : List Todo) (i : Word) (x : Option Word) (hi : ℤ) (s : Statement) → call.frame.todo ≡ Turn i x hi s ∷ rest → (t : ℕ) (scope : Scope)
       → IsMatched scope call.frame.names act.frame.slots
-      → StandsTurn cx t like.unit.code scope act.frame.place i hi s → Rest cx t like.unit.code scope (act.frame.place + 1) rest
+      → StandsTurn cx t like.unit.code scope act.frame.place i x hi s → Rest cx t like.unit.code scope (act.frame.place + 1) rest
       → Good (run_at cx.m w a act (instruction_at cx.m act.frame))
-  turn_follows rest i hi s e t scope held st last =
+  turn_follows rest i x hi s e t scope held st last =
       at_place (instr.Next st.first) st.next
-      (subst (λ o. Good (turning w a act st.first o)) (sym (ap (option_and_then (λ u. slice_get u.code st.first)) like.found ∙ st.head))
-      (number_follows (slot_at act st.slot) _ (λ n g.
-      let known : value_of call.frame.names i ≡ Some (value.Number n) = held i.text st.slot st.counter ∙ number_is (slot_at act st.slot) n g in
-      by n g (int_lt n hi) (source_runs (Turn i hi s ∷ rest) e ∙ ap (λ o. number_in o (λ n.
-      done v a (cond (int_lt n hi) (knowing call (unfolded s ++ Turn i hi s ∷ rest) i (value.Number (n +ℤ pos 1))) (left_with call rest)) none event.Local)) known))))
+      (subst (λ o. Good (turning w a act st.first o))
+      (sym (ap (option_and_then (loop_head st.first)) (ap (option_and_then (λ u. slice_get u.code st.first)) like.found ∙ st.stands) ∙ st.begins))
+      (number_follows (slot_at act st.loop.slot) _ (λ n g.
+      let known : value_of call.frame.names i ≡ Some (value.Number n) = held i.text st.loop.slot st.counter ∙ number_is (slot_at act st.loop.slot) n g in
+      limit_follows scope x st.loop.limit st.loop.hi _ held st.limit (λ most is.
+      by n g (int_lt n most) (source_runs (Turn i x hi s ∷ rest) e
+      ∙ (ap (λ o. number_in o (λ k. limited call.frame.names x hi (λ top. done v a (ends k (int_lt k top)) none event.Local))) known
+      ∙ (ap (λ h. limited call.frame.names x h (λ top. done v a (ends n (int_lt n top)) none event.Local)) (sym st.most)
+      ∙ is (λ top. done v a (ends n (int_lt n top)) none event.Local))))))))
     where
-      by : (n : ℤ) → number_held (slot_at act st.slot) ≡ Some n → (b : Bool)
-          → source_step cx.tree v a ≡ done v a (cond b (knowing call (unfolded s ++ Turn i hi s ∷ rest) i (value.Number (n +ℤ pos 1))) (left_with call rest)) none event.Local
-          → Good (done w a (cond b (again act st.first st.slot n) (onward act)) none event.Local)
+      -- what the source does where i is n
+      ends : ℤ → Bool → SourceActivity
+      ends n c = cond c (knowing call (unfolded s ++ Turn i x hi s ∷ rest) i (value.Number (n +ℤ pos 1))) (left_with call rest)
+
+      by : (n : ℤ) → number_held (slot_at act st.loop.slot) ≡ Some n → (b : Bool) → source_step cx.tree v a ≡ done v a (ends n b) none event.Local
+          → Good (done w a (cond b (again act st.first st.loop.slot n) (onward act)) none event.Local)
       by n g true src =
-          let was = number_there (slot_at act st.slot) n g in
-          moves (st.first + 1) (slice_set act.frame.slots st.slot (value.Number (n +ℤ pos 1))) (unfolded s ++ Turn i hi s ∷ rest)
+          let was = number_there (slot_at act st.loop.slot) n g in
+          moves (st.first + 1) (slice_set act.frame.slots st.loop.slot (value.Number (n +ℤ pos 1))) (unfolded s ++ Turn i x hi s ∷ rest)
           ((i.text, value.Number (n +ℤ pos 1)) ∷ call.frame.names) none event.Local src
           (record {
             t = t;
             scope = scope;
-            matched = matched_set scope call.frame.names act.frame.slots i.text st.slot st.n was.0 (value.Number (n +ℤ pos 1)) st.body.proper held was.1 st.counter;
-            rest = rest_scope cx t like.unit.code scope st.n (st.first + 1) act.frame.place s (Turn i hi s ∷ rest) st.body st.ends
-                (rest_here cx t like.unit.code scope act.frame.place (Turn i hi s ∷ rest) (st, last));
+            matched = matched_set scope call.frame.names act.frame.slots i.text st.loop.slot st.n was.0 (value.Number (n +ℤ pos 1)) st.body.proper held was.1 st.counter;
+            rest = rest_scope cx t like.unit.code scope st.n (st.first + 1) act.frame.place s (Turn i x hi s ∷ rest) st.body st.ends
+                (rest_here cx t like.unit.code scope act.frame.place (Turn i x hi s ∷ rest) (st, last));
           })
       by n g false src = moves (act.frame.place + 1) act.frame.slots rest call.frame.names none event.Local src (record { t = t; scope = scope; matched = held; rest = last })
 
@@ -903,9 +1101,9 @@ module _ (cx : Whole) (built : AreBuilt cx) (w : World) (v : SourceWorld) (a : �
       → Within cx like.unit.code act.frame.place act.frame.slots s rest call.frame.names → Good (run_at cx.m w a act (instruction_at cx.m act.frame))
   within_follows s rest e h = by h.ahead h.split
     where
-      by : (ahead : List Instr) → before cx.setting h.scope h.t s ≡ h.past ++ ahead → Good (run_at cx.m w a act (instruction_at cx.m act.frame))
+      by : (ahead : List Instr) → before cx.setting h.scope h.t h.n s ≡ h.past ++ ahead → Good (run_at cx.m w a act (instruction_at cx.m act.frame))
       by [] split =
-          let all : before cx.setting h.scope h.t s ≡ h.past = split ∙ append-nil h.past in
+          let all : before cx.setting h.scope h.t h.n s ≡ h.past = split ∙ append-nil h.past in
           decide s rest e (record {
             t = h.t;
             scope = h.scope;
@@ -921,9 +1119,9 @@ module _ (cx : Whole) (built : AreBuilt cx) (w : World) (v : SourceWorld) (a : �
           })
       by (i ∷ ahead) split =
           let sp = code_split cx.setting h.t h.scope h.n h.first s in
-          let held = holds_front like.unit.code h.first (before cx.setting h.scope h.t s) sp.0 (subst (HoldsAt like.unit.code h.first) sp.1 h.stands.holds) in
+          let held = holds_front like.unit.code h.first (before cx.setting h.scope h.t h.n s) sp.0 (subst (HoldsAt like.unit.code h.first) sp.1 h.stands.holds) in
           let now = holds_back like.unit.code h.first h.past (i ∷ ahead) (subst (HoldsAt like.unit.code h.first) split held) in
-          let straight = straight_back h.past (i ∷ ahead) (subst AreStraight split (before_straight cx.setting h.scope h.t s)) in
+          let straight = straight_back h.past (i ∷ ahead) (subst AreStraight split (before_straight cx.setting h.scope h.t h.n s)) in
           at_place i (subst (λ p. slice_get like.unit.code p ≡ Some i) (sym h.at) now.0) (straight_follows i straight.0 (λ out g.
           waits_here (Do s ∷ rest) e (act.frame.place + 1) out (inr (record {
             t = h.t;
@@ -953,7 +1151,7 @@ module _ (cx : Whole) (built : AreBuilt cx) (w : World) (v : SourceWorld) (a : �
     first = act.frame.place;
     start = act.frame.slots;
     past = [];
-    ahead = before cx.setting inner t s;
+    ahead = before cx.setting inner t h.0 s;
     simple = h.1;
     stands = h.2;
     matched = λ x k f. held x k (within x k f);
@@ -962,7 +1160,7 @@ module _ (cx : Whole) (built : AreBuilt cx) (w : World) (v : SourceWorld) (a : �
     ran = refl;
     at = omega arith;
   })
-  here_follows (Turn i hi s ∷ rest) e t scope inner held within h = turn_follows rest i hi s e t inner (λ x k f. held x k (within x k f)) h.0 h.1
+  here_follows (Turn i x hi s ∷ rest) e t scope inner held within h = turn_follows rest i x hi s e t inner (λ x k f. held x k (within x k f)) h.0 h.1
   here_follows (Close ∷ rest) e t scope inner held within h =
       close_follows rest e h.0 h.1 (record { t = t; scope = inner; matched = λ x k f. held x k (within x k f); rest = h.2 })
 
@@ -985,7 +1183,7 @@ module _ (cx : Whole) (built : AreBuilt cx) (w : World) (v : SourceWorld) (a : �
   runs_follow todo e (inl b) = between_follows todo e b
   runs_follow [] e (inr h) = absurd h
   runs_follow (Do s ∷ rest) e (inr h) = within_follows s rest e h
-  runs_follow (Turn i hi s ∷ rest) e (inr h) = absurd h
+  runs_follow (Turn i x hi s ∷ rest) e (inr h) = absurd h
   runs_follow (Close ∷ rest) e (inr h) = absurd h
 
 -- ---- the second half of an `advanceAll`

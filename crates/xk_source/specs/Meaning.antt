@@ -49,14 +49,14 @@ Goes {F} step (a ∷ list) w v = (next : WorldOf F) × (e : Event) × (step w a 
 abbrev pub have_ended : {F : Type 0} → WorldOf F → Bool
 have_ended w = list_all (λ act. is_ended act.status) w.activities
 
--- a run of the program with these moments, which has ended or hasn't
-pub record HasRun (t : TreeValue) (seen : List Moment) (over : Bool) : Type 0 where
+-- a run of the program with these arguments and moments, which has ended or hasn't
+pub record HasRun (t : TreeValue) (args : List ℤ) (seen : List Moment) (over : Bool) : Type 0 where
   pub list : List ℕ
   pub last : SourceWorld
-  pub goes : Goes (source_step t) list (source_opening t) last
-  pub same : moments (source_step t) list (source_opening t) ≡ seen
+  pub goes : Goes (source_step t) list (source_opening t args) last
+  pub same : moments (source_step t) list (source_opening t args) ≡ seen
   pub ends : have_ended last ≡ over
 
--- For each legal run of the module there is one of the program with the same moments, and which has ended where that one has.
+-- For each legal run of the module there is one of the program with the same arguments and the same moments, and which has ended where that one has.
 abbrev pub Means : TreeValue → ModuleValue → Type 0
-Means t m = (list : List ℕ) (w : World) → Leads m list w → HasRun t (moments (step m) list (opening m)) (have_ended w)
+Means t m = (list : List ℕ) (w : World) → Leads m list w → HasRun t w.arguments (moments (step m) list (opening m w.arguments)) (have_ended w)

@@ -1,7 +1,7 @@
 -- The parts of a program that have code of their own: methods, and the bodies of `async`. This project's own.
 use Rattle.std.specs.Prelude.{ℕ, suc, nat_eq, int_le, List, [], ◌∷◌, ◌++◌, Option, Some, None, codes, if◌then◌else◌}
 use Rattle.std.specs.List.{flat_map}
-use Rattle.xk_tree.specs.Tree.{Word, Clocks, Statement, Statements, Done, More, Block, If, IfElse, For, Async, Finish, Call, MethodValue, TreeValue}
+use Rattle.xk_tree.specs.Tree.{Word, Clocks, Statement, Statements, Done, More, Block, If, IfElse, For, top, Async, Finish, Call, MethodValue, TreeValue}
 use Rattle.xk_names.specs.Scope.{is_text}
 
 -- a method; or the body of an `async`, by the offset of that word, with the clocks that it lists
@@ -15,7 +15,7 @@ abbrev mutual
   bodies (Block ss) = bodies_all ss
   bodies (If at l c r s) = bodies s
   bodies (IfElse at l c r s u) = bodies s ++ bodies u
-  bodies (For at i lo hi s) = bodies s
+  bodies (For at i lo b s) = bodies s
   bodies (Async at cs s) = OfBody at cs s ∷ bodies s
   bodies (Finish s) = bodies s
   bodies _ = []
@@ -45,7 +45,7 @@ abbrev mutual
   runs (Block ss) = runs_all ss
   runs (If at l c r s) = runs s
   runs (IfElse at l c r s u) = runs s ++ runs u
-  runs (For at i lo hi s) = if int_le lo.value hi.value then runs s else []
+  runs (For at i lo b s) = if int_le lo.value (top b) then runs s else []
   runs (Async at cs s) = Starts at ∷ []
   runs (Finish s) = runs s
   runs (Call g at es) = Calls g ∷ []

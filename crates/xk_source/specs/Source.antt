@@ -6,10 +6,11 @@
 -- Clocks, finishes, shared numbers, what is wrong and the end of a step are those of a module's world; only what an activity has in progress
 -- differs: here it is the statements that are left, and what names stand for.
 -- This project's own rules: a step does one statement, with its expressions, or ends a turn of a loop, a finish, a call or an activity; a block,
--- a `;` and a loop that takes no turn have no step of their own; a shared number is read, written or added to in one step; `advanceAll` is
+-- a `;` and a loop that takes no turn have no step of their own; what a loop's limit comes to is
+-- taken once, before its first turn; a shared number is read, written or added to in one step; `advanceAll` is
 -- two steps; a new activity knows the names of its starter, with what they stand for then.
 use Rattle.std.specs.Prelude.{ℕ, zero, suc, ℤ, pos, ◌+ℤ◌, int_lt, int_le, ◌+◌, List, [], ◌∷◌, ◌++◌, map, length, codes, Option, Some, None, slice_get, slice_set, if◌then◌else◌}
-use Rattle.std.specs.Int.{w64, int_wrapping_add, int_wrapping_sub, int_wrapping_mul}
+use Rattle.std.specs.Int.{w64, int_min, int_wrapping_add, int_wrapping_sub, int_wrapping_mul}
 use Rattle.std.specs.Option.{option_map_or}
 use Rattle.xk_types.specs.declared.names.Value.{Value as Held}
 use Rattle.xk_types.specs.declared.names.Value.TheVariants as value
@@ -24,14 +25,15 @@ use Rattle.xk_types.specs.World.{ActivityOf, WorldOf, root}
 use Rattle.xk_types.specs.Step.{OutcomeOf, Blocked, Wrong, Stepped, OutOfRange, WrongKind, settled, joined, is_given, governing, done, made, number_in, clock_in, cell_in, none, only, all, resumed, dropped, passed, arrived, ended, awaits, innermost, waits}
 use Rattle.xk_tree.specs.declared.tree.Operator.{Operator}
 use Rattle.xk_tree.specs.declared.tree.Operator.TheVariants as operator
-use Rattle.xk_tree.specs.Tree.{Word, Expression, Literal, Named, Paren, Negation, Binary, Make, Value, Statement, Block, Empty, Declare, Assign, Atomic, If, IfElse, For, Async, Finish, Call, Resume, Drop, AdvanceAll, Print, Statements, Done, More, ParamValue, MethodValue, SharedValue, TreeValue}
+use Rattle.xk_tree.specs.Tree.{Word, Expression, Literal, Named, Paren, Negation, Binary, Make, Value, Bound, UpTo, Least, top, Statement, Block, Empty, Declare, Assign, Atomic, If, IfElse, For, Async, Finish, Call, Resume, Drop, AdvanceAll, Print, Statements, Done, More, ParamValue, MethodValue, SharedValue, TreeValue}
 use Rattle.xk_names.specs.Scope.{Table, find, is_text}
 use Rattle.xk_names.specs.Uses.{clocks_listed}
 
--- What is left to be done: a statement; or the end of a turn of the loop with this name, which goes on up to a number; or the end of a finish.
+-- What is left to be done: a statement; or the end of a turn of the loop with this name, which goes on up to a number, and no further
+-- than what a second name stands for, if there is one; or the end of a finish.
 pub data Todo : Type 0 where
   Do : Statement → Todo
-  Turn : Word → ℤ → Statement → Todo
+  Turn : Word → Option Word → ℤ → Statement → Todo
   Close : Todo
 
 -- what names stand for, the latest first
@@ -98,7 +100,7 @@ abbrev mutual
   pub unfolded : Statement → List Todo
   unfolded (Block ss) = unfolded_all ss
   unfolded Empty = []
-  unfolded (For at i lo hi s) = if int_le lo.value hi.value then Do (For at i lo hi s) ∷ [] else []
+  unfolded (For at i lo b s) = if int_le lo.value (top b) then Do (For at i lo b s) ∷ [] else []
   unfolded s = Do s ∷ []
 
   pub unfolded_all : Statements → List Todo
@@ -187,6 +189,25 @@ starting w a act rest body clocks =
       clocks = joined a (is_given clocks) w.clocks;
     })) event.Spawned
 
+-- ---- loops
+
+-- the name of a loop's limit, if it has one
+abbrev pub limit_of : Bound → Option Word
+limit_of (UpTo hi) = None
+limit_of (Least x v e hi) = Some x
+
+-- a bound, and no further than the number that the name stands for, if there is one
+abbrev pub limited : Names → Option Word → ℤ → (ℤ → SourceOutcome) → SourceOutcome
+limited names None hi go = go hi
+limited names (Some x) hi go = number_in (value_of names x) (λ n. go (int_min n hi))
+
+-- A loop has its first turn, if it has one. The name of its limit stands for what that comes to from then on.
+abbrev pub looped : SourceWorld → ℕ → SourceActivity → List Todo → Word → ℤ → Bound → Statement → SourceOutcome
+looped w a act rest i lo (UpTo hi) s = done w a (knowing act (unfolded s ++ Turn i None hi.value s ∷ rest) i (value.Number lo)) none event.Local
+looped w a act rest i lo (Least x v e hi) s = taken act.frame.names e (λ n.
+    done w a (if int_le lo (int_min n hi.value)
+    then knowing (knowing act [] i (value.Number lo)) (unfolded s ++ Turn i (Some x) hi.value s ∷ rest) x (value.Number n) else left_with act rest) none event.Local)
+
 -- ---- a statement
 
 -- Activity a does a statement, and has this left to do. What a block or a `;` unfolds into is left instead of it, so that neither comes here.
@@ -201,8 +222,7 @@ performed t w a act rest (If at l op r s) =
 performed t w a act rest (IfElse at l op r s u) =
     taken act.frame.names l (λ p. taken act.frame.names r (λ q.
     done w a (left_with act (if compares op p q then unfolded s ++ rest else unfolded u ++ rest)) none event.Local))
-performed t w a act rest (For at i lo hi s) =
-    done w a (knowing act (unfolded s ++ Turn i hi.value s ∷ rest) i (value.Number lo.value)) none event.Local
+performed t w a act rest (For at i lo b s) = looped w a act rest i lo.value b s
 performed t w a act rest (Async at cs s) = handed w a act.frame.names (clocks_listed cs) (starting w a act rest s)
 performed t w a act rest (Finish s) =
     done w a (record (left_with act (unfolded s ++ Close ∷ rest)) { opened = act.opened + 1 }) none event.Opened
@@ -216,9 +236,9 @@ performed t w a act rest (Print at v e) = taken act.frame.names e (λ n. done w 
 performed t w a act rest s = done w a (left_with act (unfolded s ++ rest)) none event.Local
 
 -- a turn of a loop ends: another one begins, or the loop is over
-abbrev pub turned : SourceWorld → ℕ → SourceActivity → List Todo → Word → ℤ → Statement → SourceOutcome
-turned w a act rest i hi s = number_in (value_of act.frame.names i) (λ n.
-    done w a (if int_lt n hi then knowing act (unfolded s ++ Turn i hi s ∷ rest) i (value.Number (n +ℤ pos 1)) else left_with act rest) none event.Local)
+abbrev pub turned : SourceWorld → ℕ → SourceActivity → List Todo → Word → Option Word → ℤ → Statement → SourceOutcome
+turned w a act rest i x hi s = number_in (value_of act.frame.names i) (λ n. limited act.frame.names x hi (λ most.
+    done w a (if int_lt n most then knowing act (unfolded s ++ Turn i x hi s ∷ rest) i (value.Number (n +ℤ pos 1)) else left_with act rest) none event.Local))
 
 -- a finish ends, by how many are open
 abbrev pub closed : SourceWorld → ℕ → SourceActivity → List Todo → ℕ → SourceOutcome
@@ -235,7 +255,7 @@ over w a act (c ∷ cs) = done w a (record act { frame = c; callers = cs }) none
 abbrev pub continued : TreeValue → SourceWorld → ℕ → SourceActivity → List Todo → SourceOutcome
 continued t w a act [] = over w a act act.callers
 continued t w a act (Do s ∷ rest) = performed t w a act rest s
-continued t w a act (Turn i hi s ∷ rest) = turned w a act rest i hi s
+continued t w a act (Turn i x hi s ∷ rest) = turned w a act rest i x hi s
 continued t w a act (Close ∷ rest) = closed w a act rest act.opened
 
 -- the second half of an `advanceAll`
@@ -261,11 +281,21 @@ source_step t w a = source_of t w a (slice_get w.activities a)
 abbrev pub main_todo : TreeValue → List Todo
 main_todo t = option_map_or (λ m. unfolded_all m.body) (method_of t (codes "main")) []
 
--- main alone, before its first statement
-abbrev pub source_opening : TreeValue → SourceWorld
-source_opening t = record {
+-- what parameters stand for
+abbrev pub named : List ParamValue → List Held → Names
+named [] vs = []
+named (p ∷ ps) [] = []
+named (p ∷ ps) (v ∷ vs) = (p.name.text, v) ∷ named ps vs
+
+-- what `main` knows, which is given these numbers
+abbrev pub main_names : TreeValue → List ℤ → Names
+main_names t args = option_map_or (λ m. named m.params (map value.Number args)) (method_of t (codes "main")) []
+
+-- main alone with its arguments, before its first statement
+abbrev pub source_opening : TreeValue → List ℤ → SourceWorld
+source_opening t args = record {
   activities = record {
-    frame = record { todo = main_todo t; names = [] };
+    frame = record { todo = main_todo t; names = main_names t args };
     callers = [];
     status = status.Running;
     since = 0;
@@ -275,4 +305,5 @@ source_opening t = record {
   clocks = [];
   cells = map (λ s. s.start.value) t.shared;
   steps = 0;
+  arguments = args;
 }

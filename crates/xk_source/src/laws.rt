@@ -9,8 +9,8 @@ ghost use Rattle.xk_tree.specs.Tree.{TreeValue};
 ghost use Rattle.xk_types.specs.Code.{ModuleValue};
 
 /// A compiled program means its source. Let a module be the code of a tree without faults of names, in which the offsets of the words
-/// `async` rise. For each legal run of the module there is a run of the tree in which the same is seen: the same activities do
-/// the same things in the same order, and after each of these all clocks and shared numbers are the same. It is never wrong, and all
+/// `async` rise. For each legal run of the module there is a run of the tree with the same arguments in which the same is seen: the same activities
+/// do the same things in the same order, and after each of these all clocks and shared numbers are the same. It is never wrong, and all
 /// of its activities have ended just where the module's have. The call does nothing; its contract is the law.
 pub fn means_its_source()
     ensures { (t : TreeValue) (m : ModuleValue) → IsScoped t → HasBodiesApart t

@@ -1,6 +1,6 @@
 -- Trees, apart from where they lie in memory. Numbers called `at`, `paren` or `minus` are offsets in the text.
 -- The language is this project's own, in the manner of X10.
-use Rattle.std.specs.Prelude.{ℕ, List, [], ◌∷◌, map, Option, option_map}
+use Rattle.std.specs.Prelude.{ℕ, ℤ, List, [], ◌∷◌, map, Option, option_map}
 use Rattle.xk_types.specs.declared.instr.Comparison.{Comparison}
 use Rattle.xk_tree.specs.declared.tree.Operator.{Operator}
 use Rattle.xk_tree.specs.declared.tree.Number.{Number}
@@ -17,6 +17,8 @@ use Rattle.xk_tree.specs.declared.tree.Expr.{Expr}
 use Rattle.xk_tree.specs.declared.tree.Expr.TheVariants as expr
 use Rattle.xk_tree.specs.declared.tree.Right.{Right}
 use Rattle.xk_tree.specs.declared.tree.Right.TheVariants as right
+use Rattle.xk_tree.specs.declared.tree.Bound as reached
+use Rattle.xk_tree.specs.declared.tree.Bound.TheVariants as reach
 use Rattle.xk_tree.specs.declared.tree.Stmt.{Stmt}
 use Rattle.xk_tree.specs.declared.tree.Stmt.TheOpen as layer
 use Rattle.xk_tree.specs.declared.tree.Stmt.TheOpen.{Stmt-F}
@@ -40,6 +42,16 @@ pub data Source : Type 0 where
   Make : ℕ → Verb → Source
   Value : Expression → Source
 
+-- How far a loop goes: up to a number; or `Math.min(e, n)`, with a name that no text has for what the expression comes to.
+pub data Bound : Type 0 where
+  UpTo : Number → Bound
+  Least : Word → Verb → Expression → Number → Bound
+
+-- the number that a loop goes no further than
+abbrev pub top : Bound → ℤ
+top (UpTo n) = n.value
+top (Least x v e n) = n.value
+
 -- `clocked (c, ..)`
 pub record Clocks : Type 0 where
   pub paren : ℕ
@@ -55,7 +67,7 @@ mutual
     Atomic : Word → Word → ℕ → Expression → Statement
     If : ℕ → Expression → Comparison → Expression → Statement → Statement
     IfElse : ℕ → Expression → Comparison → Expression → Statement → Statement → Statement
-    For : ℕ → Word → Number → Number → Statement → Statement
+    For : ℕ → Word → Number → Bound → Statement → Statement
     Async : ℕ → Option Clocks → Statement → Statement
     Finish : Statement → Statement
     Call : Word → ℕ → List Expression → Statement
@@ -110,6 +122,10 @@ abbrev pub source : Right → Source
 source (right.Make at verb) = Make at verb
 source (right.Expr e) = Value (expression e)
 
+abbrev pub bound : reached.Bound → Bound
+bound (reach.UpTo n) = UpTo n
+bound (reach.Least x v e n) = Least (word x) v (expression e) n
+
 abbrev pub clock_list : clocks.ClockList → Clocks
 clock_list l = record { paren = l.paren; names = words l.names.items }
 
@@ -125,7 +141,7 @@ layer_statement (layer.Assign n e) = Assign (word n) (expression e)
 layer_statement (layer.Atomic n m at e) = Atomic (word n) (word m) at (expression e)
 layer_statement (layer.If at l c r s) = If at (expression l) c (expression r) s.value
 layer_statement (layer.IfElse at l c r s t) = IfElse at (expression l) c (expression r) s.value t.value
-layer_statement (layer.For at n a b s) = For at (word n) a b s.value
+layer_statement (layer.For at n a b s) = For at (word n) a (bound b) s.value
 layer_statement (layer.Async at cs s) = Async at (option_map clock_list cs) s.value
 layer_statement (layer.Finish s) = Finish s.value
 layer_statement (layer.Call n at es) = Call (word n) at (expressions es.items)

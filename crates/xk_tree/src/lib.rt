@@ -6,6 +6,6 @@ mod tree;
 
 pub use fault::{FrontError, FrontFault, FrontRule};
 pub use tree::{
-    Binding, ClockList, Expr, Method, Name, Number, Operator, Param, Right, Shared, Stmt, Tree,
-    TypeName, Verb,
+    Binding, Bound, ClockList, Expr, Method, Name, Number, Operator, Param, Right, Shared, Stmt,
+    Tree, TypeName, Verb,
 };

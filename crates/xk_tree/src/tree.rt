@@ -7,7 +7,7 @@ use xk_types::{Comparison, ParamKind};
 pub struct Name<'t> {
     /// The offset of its first byte.
     pub at: usize,
-    /// Its letters, digits and `_`, in ASCII.
+    /// Its letters, digits and `_`, in ASCII; or spaces, where it stands for what the text has no name for.
     pub text: &'t [u8],
 }
 
@@ -84,6 +84,15 @@ pub enum Right<'t> {
     Expr(Expr<'t>),
 }
 
+/// How far a loop goes.
+#[derive(Drop)]
+pub enum Bound<'t> {
+    /// A number.
+    UpTo(Number),
+    /// `Math.min(e, n)`: with a name that no text has, which stands where `Math` does; the word `min`; the expression, and the number.
+    Least(Name<'t>, Verb, Expr<'t>, Number),
+}
+
 /// The clocks that an `async` registers its activity on: `clocked (c, ..)`.
 #[derive(Drop)]
 pub struct ClockList<'t> {
@@ -111,7 +120,7 @@ pub enum Stmt<'t> {
     /// `if (l op r) s else t`, with the offset of its `(`.
     IfElse(usize, Expr<'t>, Comparison, Expr<'t>, Box<Stmt<'t>>, Box<Stmt<'t>>),
     /// `for (i in a..b) s`, with the offset of its `(`.
-    For(usize, Name<'t>, Number, Number, Box<Stmt<'t>>),
+    For(usize, Name<'t>, Number, Bound<'t>, Box<Stmt<'t>>),
     /// `async s` or `async clocked (c, ..) s`, with the offset of `async`.
     Async(usize, Option<ClockList<'t>>, Box<Stmt<'t>>),
     /// `finish s`

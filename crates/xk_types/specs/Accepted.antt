@@ -1,9 +1,9 @@
 -- What the verifier accepts, and what holds of every schedule of an accepted module. Both are this project's own.
-use Rattle.std.specs.Prelude.{◌≡◌, ℕ, ◌+◌, ◌≤◌, true, false, List, length, All, sum_by}
+use Rattle.std.specs.Prelude.{◌≡◌, ℕ, ◌+◌, ◌≤◌, true, false, List, ℤ, length, All, sum_by}
 use Rattle.xk_types.specs.declared.rules.Rule.{Rule}
 use Rattle.xk_types.specs.declared.rules.Visit.{Visit}
 use Rattle.xk_types.specs.Code.{ModuleValue}
-use Rattle.xk_types.specs.World.{Activity, World, opening}
+use Rattle.xk_types.specs.World.{Activity, World, opening, AreArguments}
 use Rattle.xk_types.specs.Step.{Cause}
 use Rattle.xk_types.specs.Schedule.{Wronged, run, Leads, is_enabled, all_ended}
 use Rattle.xk_types.specs.Walk.{IsRefusedAt}
@@ -23,7 +23,7 @@ slots_held act = length act.frame.slots + sum_by (λ f. length f.slots) act.call
 -- What holds of every schedule of a module, whoever made it.
 pub record EverySchedule (m : ModuleValue) : Type 0 where
   -- no step of any list raises ClockUseException or meets a missing or wrong operand
-  pub never_wrong : (list : List ℕ) (w : World) (c : Cause) → run m list (opening m) ≡ Wronged w c → ⊥
+  pub never_wrong : (args : List ℤ) → AreArguments m args → (list : List ℕ) (w : World) (c : Cause) → run m list (opening m args) ≡ Wronged w c → ⊥
   -- a legal list has at most the verified number of steps
   pub steps : (list : List ℕ) (w : World) → Leads m list w → length list ≤ steps_bound m
   pub activities : (list : List ℕ) (w : World) → Leads m list w → length w.activities ≤ activities_bound m

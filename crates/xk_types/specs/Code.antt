@@ -1,6 +1,6 @@
 -- What a module is, apart from where it lies in memory, and its limits. Bytecode, modules and limits are this project's own. A loop is
 -- X10's `for (i in a..b)` (X10 Language Specification 2.4, chapter Statements, For statement).
-use Rattle.std.specs.Prelude.{ℕ, suc, ℤ, ◌+◌, ◌==◌, ◌≤◌, ◌-ℤ◌, nat_abs, int_lt, int_le, nat_lt, nat_le, Bool, true, false, not, ◌&&◌, List, [], ◌∷◌, length, slice_get, Option, Some, None, All, if◌then◌else◌}
+use Rattle.std.specs.Prelude.{ℕ, suc, ℤ, ◌+◌, ◌==◌, ◌≤◌, ◌-ℤ◌, nat_abs, int_lt, int_le, nat_lt, nat_le, Bool, true, false, not, ◌&&◌, List, [], ◌∷◌, length, slice_get, Option, Some, None, option_and_then, All, if◌then◌else◌}
 use Rattle.std.specs.Option.{option_map_or}
 use Rattle.xk_types.specs.declared.instr.Comparison.{Comparison}
 use Rattle.xk_types.specs.declared.instr.Comparison.TheVariants as comparison
@@ -84,23 +84,34 @@ clock_arguments (param.Clock ∷ ps) (x ∷ xs) = x ∷ clock_arguments ps xs
 
 -- ---- loops
 
--- a loop: the places of its `for` and of its `next`, its slot, its bounds
+-- A loop: the places of its first instruction and of its `next`, its slot, its bounds, and the slot of a number that it goes no further up
+-- than, if it names one.
 pub record Loop : Type 0 where
   pub first : ℕ
   pub last : ℕ
   pub slot : ℕ
   pub lo : ℤ
   pub hi : ℤ
+  pub limit : Option ℕ
+
+-- the loop that an instruction at place `first` is the head of, by what it says itself
+abbrev pub loop_head : ℕ → Instr → Option Loop
+loop_head first (instr.For k lo hi e) = Some (record { first = first; last = e; slot = k; lo = lo; hi = hi; limit = None })
+loop_head first (instr.ForTo k lo x hi e) = Some (record { first = first; last = e; slot = k; lo = lo; hi = hi; limit = Some x })
+loop_head first _ = None
 
 -- it is a `next` that names this place
 abbrev pub is_next_of : ℕ → Option Instr → Bool
 is_next_of first (Some (instr.Next b)) = b == first
 is_next_of first _ = false
 
--- the loop that an instruction at place `first` begins: a `for` and a `next` that name each other
+-- it ends at a `next` that names its first place
+abbrev pub if_ended : UnitValue → Loop → Option Loop
+if_ended u l = if is_next_of l.first (slice_get u.code l.last) then Some l else None
+
+-- the loop that an instruction at place `first` begins: its head and a `next` name each other
 abbrev pub loop_begun : UnitValue → ℕ → Instr → Option Loop
-loop_begun u first (instr.For k lo hi e) = if is_next_of first (slice_get u.code e) then Some (record { first = first; last = e; slot = k; lo = lo; hi = hi }) else None
-loop_begun u first _ = None
+loop_begun u first i = option_and_then (if_ended u) (loop_head first i)
 
 -- what instructions begin, the first of them at place `at`, in their order
 abbrev pub begun_from : {X : Type 0} → (ℕ → Instr → Option X) → ℕ → List Instr → List X
@@ -111,15 +122,15 @@ begun_from begun at (i ∷ is) = option_map_or (λ x. x ∷ begun_from begun (su
 abbrev pub loops_from : UnitValue → ℕ → List Instr → List Loop
 loops_from u at is = begun_from (loop_begun u) at is
 
--- the loops of a unit, by the places of their `for`
+-- the loops of a unit, by the places of their heads
 abbrev pub loops : UnitValue → List Loop
 loops u = loops_from u 0 u.code
 
--- the place lies in the loop: behind its `for`, and up to its `next`
+-- the place lies in the loop: behind its head, and up to its `next`
 abbrev pub is_round : ℕ → Loop → Bool
 is_round at l = nat_lt l.first at && nat_le at l.last
 
--- the place lies strictly between its `for` and its `next`
+-- the place lies strictly between its head and its `next`
 abbrev pub is_within : ℕ → Loop → Bool
 is_within at l = nat_lt l.first at && nat_lt at l.last
 

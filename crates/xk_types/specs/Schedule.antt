@@ -6,7 +6,7 @@ use Rattle.std.specs.List.{list_all, filter_map}
 use Rattle.xk_types.specs.declared.names.Event.{Event}
 use Rattle.xk_types.specs.declared.names.Event.TheVariants as event
 use Rattle.xk_types.specs.Code.{ModuleValue}
-use Rattle.xk_types.specs.World.{World, opening, is_ended}
+use Rattle.xk_types.specs.World.{World, opening, AreArguments, is_ended}
 use Rattle.xk_types.specs.Step.{Cause, Outcome, Blocked, Wrong, Stepped, step}
 
 -- How a list of activity numbers goes: through to a last world; or it stops in a world before a step that is blocked, or
@@ -27,9 +27,9 @@ abbrev pub run : ModuleValue → List ℕ → World → Course
 run m [] w = Through w
 run m (a ∷ list) w = run_on w (step m w a) (run m list)
 
--- the list is a legal schedule of the module, and leads here
+-- the list is a legal schedule of the module with the arguments that this world has, and leads to it
 abbrev pub Leads : ModuleValue → List ℕ → World → Type 0
-Leads m list w = run m list (opening m) ≡ Through w
+Leads m list w = AreArguments m w.arguments × (run m list (opening m w.arguments) ≡ Through w)
 
 -- some legal schedule leads here
 abbrev pub IsReached : ModuleValue → World → Type 0

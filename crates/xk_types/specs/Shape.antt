@@ -11,10 +11,10 @@ use Rattle.xk_types.specs.declared.instr.Instr.TheVariants as instr
 use Rattle.xk_types.specs.declared.rules.Rule.{Rule}
 use Rattle.xk_types.specs.declared.rules.Rule.TheVariants as rule
 use Rattle.xk_types.specs.declared.unit.UnitKind.{UnitKind}
-use Rattle.xk_types.specs.Code.{UnitValue, ModuleValue, is_main, is_method, is_body, params_of, clock_arguments, Loop, loop_begun, loops, is_within}
+use Rattle.xk_types.specs.Code.{UnitValue, ModuleValue, is_main, is_method, is_body, params_of, clock_arguments, Loop, loop_head, loop_begun, loops, is_within}
 use Rattle.xk_types.specs.Blocks.{Span, finish_opened, finishes, is_inside, block_at, takes_clock, made_from, homes, is_elsewhere}
 
--- the slots that an instruction names; that of a `next` is its `for`'s
+-- the slots that an instruction names; those of a `next` are its loop's
 abbrev pub slots_named : Instr → List ℕ
 slots_named (instr.Lit d n) = d ∷ []
 slots_named (instr.Copy d x) = d ∷ x ∷ []
@@ -24,6 +24,7 @@ slots_named (instr.Mul d x y) = d ∷ x ∷ y ∷ []
 slots_named (instr.Unless op x y t) = x ∷ y ∷ []
 slots_named (instr.Jump t) = []
 slots_named (instr.For k lo hi e) = k ∷ []
+slots_named (instr.ForTo k lo x hi e) = k ∷ x ∷ []
 slots_named (instr.Next b) = []
 slots_named (instr.Finish e) = []
 slots_named (instr.EndFinish b) = []
@@ -39,7 +40,7 @@ slots_named (instr.Call t args) = args
 slots_named (instr.Spawn t args) = args
 slots_named instr.Ret = []
 
--- the slot that an instruction names and writes, if it does (a `next` writes its `for`'s)
+-- the slot that an instruction names and writes, if it does (a `next` writes its loop's)
 abbrev pub slot_written : Instr → Option ℕ
 slot_written (instr.Lit d n) = Some d
 slot_written (instr.Copy d x) = Some d
@@ -48,13 +49,15 @@ slot_written (instr.Sub d x y) = Some d
 slot_written (instr.Mul d x y) = Some d
 slot_written (instr.Get d s) = Some d
 slot_written (instr.For k lo hi e) = Some k
+slot_written (instr.ForTo k lo x hi e) = Some k
 slot_written (instr.Make d) = Some d
 slot_written _ = None
 
--- where an instruction may go but to the next, ahead of it
+-- where an instruction may go but to the next, ahead of it; a `forto` may pass over its loop
 abbrev pub target : Instr → Option ℕ
 target (instr.Unless op x y t) = Some t
 target (instr.Jump t) = Some t
+target (instr.ForTo k lo x hi e) = Some (e + 1)
 target _ = None
 
 -- the instruction is a `ret`
@@ -78,6 +81,7 @@ abbrev pub aims_well : UnitValue → ℕ → Instr → Bool
 aims_well u at (instr.Unless op x y t) = lies_ahead u at t
 aims_well u at (instr.Jump t) = lies_ahead u at t
 aims_well u at (instr.For k lo hi e) = lies_ahead u at e
+aims_well u at (instr.ForTo k lo x hi e) = lies_ahead u at e
 aims_well u at (instr.Next b) = nat_lt b at
 aims_well u at (instr.Finish e) = lies_ahead u at e
 aims_well u at (instr.EndFinish b) = nat_lt b at
@@ -87,15 +91,14 @@ aims_well u at _ = true
 abbrev pub breaks_target : UnitValue → ℕ → Bool
 breaks_target u at = instr_is (λ i. not (aims_well u at i)) (slice_get u.code at)
 
--- the loop from its `for` to its `next`
+-- the loop from its head to its `next`
 abbrev pub span_of : Loop → Span
 span_of l = record { first = l.first; last = l.last }
 
 -- the loop or the finish that an instruction at place `at` begins
 abbrev pub span_begun : UnitValue → ℕ → Instr → Option Span
-span_begun u at (instr.For k lo hi e) = option_map span_of (loop_begun u at (instr.For k lo hi e))
 span_begun u at (instr.Finish e) = finish_opened u at (instr.Finish e)
-span_begun u at _ = None
+span_begun u at i = option_map span_of (loop_begun u at i)
 
 -- the loops and the finishes of a unit
 abbrev pub spans : UnitValue → List Span
@@ -130,6 +133,7 @@ crosses at t l = differ (nat_lt l.first at && nat_lt at l.last) (is_inside t l)
 -- the instruction is half of a loop or a finish that is amiss, or a jump that crosses the edge of one
 abbrev pub is_crossing : UnitValue → ℕ → Instr → Bool
 is_crossing u at (instr.For k lo hi e) = is_amiss u (span_begun u at (instr.For k lo hi e))
+is_crossing u at (instr.ForTo k lo x hi e) = is_amiss u (span_begun u at (instr.ForTo k lo x hi e))
 is_crossing u at (instr.Finish e) = is_amiss u (span_begun u at (instr.Finish e))
 is_crossing u at (instr.Next b) = is_amiss u (span_ended u at b (slice_get u.code b))
 is_crossing u at (instr.EndFinish b) = is_amiss u (span_ended u at b (slice_get u.code b))
@@ -137,25 +141,36 @@ is_crossing u at (instr.Unless op x y t) = list_any (crosses at t) (spans u)
 is_crossing u at (instr.Jump t) = list_any (crosses at t) (spans u)
 is_crossing u at _ = false
 
--- V2: a `for` and a `next`, and a `finish` and an `endfinish`, name each other; loops and finishes nest or lie apart; no jump leaves
+-- V2: the head and the `next` of a loop, and a `finish` and an `endfinish`, name each other; loops and finishes nest or lie apart; no jump leaves
 -- one or comes into one
 abbrev pub breaks_block : UnitValue → ℕ → Bool
 breaks_block u at = instr_is (is_crossing u at) (slice_get u.code at)
 
--- the bounds of the loop that it begins are out of order
-abbrev pub is_backward : Instr → Bool
-is_backward (instr.For k lo hi e) = int_lt hi lo
-is_backward _ = false
+-- it goes no further up than the number in this slot
+abbrev pub is_limit : ℕ → Loop → Bool
+is_limit s l = option_map_or (λ x. x == s) l.limit false
 
--- it writes this slot
-abbrev pub writes_slot : ℕ → Instr → Bool
-writes_slot s i = option_map_or (λ d. d == s) (slot_written i) false
+-- its bounds are out of order, or its own slot is its limit
+abbrev pub is_backward : Loop → Bool
+is_backward l = int_lt l.hi l.lo || is_limit l.slot l
 
--- V6: a loop's bounds are in order, and no instruction inside it writes its slot
+-- so is the loop of which this is the head
+abbrev pub begins_backward : Instr → Bool
+begins_backward i = option_map_or is_backward (loop_head 0 i) false
+
+-- the slot is the loop's, or that of its limit
+abbrev pub counts_by : ℕ → Loop → Bool
+counts_by s l = (s == l.slot) || is_limit s l
+
+-- it writes one of them
+abbrev pub spoils : Loop → Instr → Bool
+spoils l i = option_map_or (λ d. counts_by d l) (slot_written i) false
+
+-- V6: a loop's bounds are in order, its slot isn't its limit, and no instruction inside it writes either
 abbrev pub breaks_loop : UnitValue → ℕ → Bool
 breaks_loop u at =
-    instr_is is_backward (slice_get u.code at)
-    || instr_is (λ i. list_any (λ l. is_within at l && writes_slot l.slot i) (loops u)) (slice_get u.code at)
+    instr_is begins_backward (slice_get u.code at)
+    || instr_is (λ i. list_any (λ l. is_within at l && spoils l i) (loops u)) (slice_get u.code at)
 
 -- ---- slots, units, the end
 
@@ -174,9 +189,9 @@ cell_named _ = None
 abbrev pub breaks_cell : ModuleValue → UnitValue → ℕ → Bool
 breaks_cell m u at = instr_is (λ i. option_map_or (λ s. not (nat_lt s (length m.shared))) (cell_named i) false) (slice_get u.code at)
 
--- unit 0 is main and has no parameters, and no other unit is main
+-- unit 0 is main and has no parameter that takes a clock, and no other unit is main
 abbrev pub is_in_place : ℕ → UnitValue → Bool
-is_in_place unit u = if unit == 0 then is_main u.kind && (length u.params == 0) else not (is_main u.kind)
+is_in_place unit u = if unit == 0 then is_main u.kind && not (list_any (λ p. takes_clock (Some p)) u.params) else not (is_main u.kind)
 
 -- what unit number `unit` calls or starts is of such a kind and of greater number, and is given as many arguments as it has
 -- parameters
@@ -190,7 +205,7 @@ runs_amiss m unit (instr.Call t args) = not (is_fitting is_method unit t args (s
 runs_amiss m unit (instr.Spawn t args) = not (is_fitting is_body unit t args (slice_get m.units t))
 runs_amiss m unit _ = false
 
--- V4: unit 0 is the only main, and has no parameters (a breach is reported at instruction 0); a unit that is called or started
+-- V4: unit 0 is the only main, and takes numbers alone (a breach is reported at instruction 0); a unit that is called or started
 -- fits
 abbrev pub breaks_unit : ModuleValue → ℕ → UnitValue → ℕ → Bool
 breaks_unit m unit u at = ((at == 0) && not (is_in_place unit u)) || instr_is (runs_amiss m unit) (slice_get u.code at)

@@ -17,8 +17,8 @@
 -- stands on a clock that it is given where its starter stands, and a missing registration is the only ground of ClockUseException, so
 -- that a starter that has resumed a clock may hand it on; a clock that can advance does so at the end of the same step, and one that
 -- nobody is registered on never does; what else is wrong but ClockUseException.
-use Rattle.std.specs.Prelude.{ℕ, zero, suc, ℤ, pos, ◌+ℤ◌, int_lt, ◌+◌, ◌==◌, Bool, true, false, not, ◌&&◌, ◌||◌, List, [], ◌∷◌, ◌++◌, map, length, replicate, Option, Some, None, slice_get, slice_set, if◌then◌else◌}
-use Rattle.std.specs.Int.{w64, int_wrapping_add, int_wrapping_sub, int_wrapping_mul}
+use Rattle.std.specs.Prelude.{ℕ, zero, suc, ℤ, pos, ◌+ℤ◌, int_lt, int_le, ◌+◌, ◌==◌, Bool, true, false, not, ◌&&◌, ◌||◌, List, [], ◌∷◌, ◌++◌, map, length, replicate, Option, Some, None, option_and_then, slice_get, slice_set, if◌then◌else◌}
+use Rattle.std.specs.Int.{w64, int_min, int_wrapping_add, int_wrapping_sub, int_wrapping_mul}
 use Rattle.std.specs.List.{list_any}
 use Rattle.std.specs.Option.{option_map_or}
 use Rattle.xk_types.specs.declared.instr.Instr.{Instr}
@@ -34,7 +34,7 @@ use Rattle.xk_types.specs.declared.names.Event.{Event}
 use Rattle.xk_types.specs.declared.names.Event.TheVariants as event
 use Rattle.xk_types.specs.declared.unit.ParamKind.{ParamKind}
 use Rattle.xk_types.specs.declared.unit.ParamKind.TheVariants as param
-use Rattle.xk_types.specs.Code.{UnitValue, ModuleValue, is_method, is_body, compares}
+use Rattle.xk_types.specs.Code.{UnitValue, ModuleValue, is_method, is_body, compares, Loop, loop_head}
 use Rattle.xk_types.specs.World.{Frame, Finish, ActivityOf, Activity, Clock, WorldOf, World, is_ended, standing_of, frame_with, instruction_at}
 
 -- Why a step is wrong: a clock operation by an activity that isn't registered on the clock; an unset slot is read; a
@@ -364,15 +364,26 @@ branching w a act op x y t =
     number_in (slot_at act x) (λ p. number_in (slot_at act y) (λ q.
     done w a (if compares op p q then onward act else going act t) none event.Local))
 
--- the loop's slot has its next number, and the turn begins behind the `for` at place b
+-- a bound, and no further than the number in the slot that is named, if one is
+abbrev pub no_further : Activity → Option ℕ → ℤ → (ℤ → Outcome) → Outcome
+no_further act None hi go = go hi
+no_further act (Some x) hi go = number_in (slot_at act x) (λ n. go (int_min n hi))
+
+-- a loop that goes up to `top` has a turn, its first, or it is passed over, to place t
+abbrev pub beginning : World → ℕ → Activity → ℕ → ℤ → ℕ → ℤ → Outcome
+beginning w a act k lo t top =
+    if int_le lo top then writing act k (value.Number lo) (λ next. done w a next none event.Local) else done w a (going act t) none event.Local
+
+-- the loop's slot has its next number, and the turn begins behind the head at place b
 abbrev pub again : Activity → ℕ → ℕ → ℤ → Activity
 again act b k n = going (with_slots act (slice_set act.frame.slots k (value.Number (n +ℤ pos 1)))) (b + 1)
 
--- a turn of the loop whose `for` stands at place b ends
-abbrev pub turning : World → ℕ → Activity → ℕ → Option Instr → Outcome
-turning w a act b (Some (instr.For k lo hi e)) =
-    number_in (slot_at act k) (λ n. done w a (if int_lt n hi then again act b k n else onward act) none event.Local)
-turning w a act b _ = Wrong OutOfRange
+-- a turn ends of the loop whose head stands at place b
+abbrev pub turning : World → ℕ → Activity → ℕ → Option Loop → Outcome
+turning w a act b None = Wrong OutOfRange
+turning w a act b (Some l) =
+    number_in (slot_at act l.slot) (λ n. no_further act l.limit l.hi (λ top.
+    done w a (if int_lt n top then again act b l.slot n else onward act) none event.Local))
 
 -- ---- shared numbers
 
@@ -397,7 +408,8 @@ carried_out m w a act (instr.Mul d x y) = computing w a act (int_wrapping_mul w6
 carried_out m w a act (instr.Unless op x y t) = branching w a act op x y t
 carried_out m w a act (instr.Jump t) = done w a (going act t) none event.Local
 carried_out m w a act (instr.For k lo hi e) = writing act k (value.Number lo) (λ next. done w a next none event.Local)
-carried_out m w a act (instr.Next b) = turning w a act b (instruction_at m (record act.frame { place = b }))
+carried_out m w a act (instr.ForTo k lo x hi e) = no_further act (Some x) hi (beginning w a act k lo (e + 1))
+carried_out m w a act (instr.Next b) = turning w a act b (option_and_then (loop_head b) (instruction_at m (record act.frame { place = b })))
 carried_out m w a act (instr.Finish e) = done w a (entered act) none event.Opened
 carried_out m w a act (instr.EndFinish b) = closing w a act act.opened
 carried_out m w a act (instr.Get d s) = cell_in (slice_get w.cells s) (λ n. writing act d (value.Number n) (λ next. done w a next none event.Got))

@@ -3,7 +3,7 @@
 -- A slot's kind says what it holds: nothing, a number, or the name of a clock on which the activity is registered and
 -- open (live), registered and signalled or ahead (resumed), or registered no more (out). Kinds, table and walks are this
 -- project's own.
-use Rattle.std.specs.Prelude.{◌≡◌, ℕ, ◌+◌, ◌<◌, ◌==◌, nat_lt, Bool, true, false, not, ◌&&◌, length, List, [], ◌∷◌, Option, Some, None, slice_get, if◌then◌else◌}
+use Rattle.std.specs.Prelude.{◌≡◌, ℕ, ◌+◌, ◌<◌, ◌==◌, nat_lt, Bool, true, false, not, ◌&&◌, length, List, [], ◌∷◌, Option, Some, None, option_map, option_and_then, slice_get, if◌then◌else◌}
 use Rattle.xk_types.specs.declared.instr.Instr.{Instr}
 use Rattle.xk_types.specs.declared.instr.Instr.TheVariants as instr
 use Rattle.xk_types.specs.declared.unit.ParamKind.{ParamKind}
@@ -14,7 +14,7 @@ use Rattle.xk_types.specs.declared.rules.Kind.{Kind}
 use Rattle.xk_types.specs.declared.rules.Kind.TheVariants as kind
 use Rattle.xk_types.specs.declared.rules.Visit.{Visit}
 use Rattle.std.specs.List.{list_any}
-use Rattle.xk_types.specs.Code.{UnitValue, ModuleValue, params_of, clock_arguments, is_method}
+use Rattle.xk_types.specs.Code.{UnitValue, ModuleValue, params_of, clock_arguments, is_method, Loop, loop_head}
 use Rattle.xk_types.specs.Blocks.{block_at, homes, is_here}
 use Rattle.xk_types.specs.Order.{Has}
 
@@ -78,10 +78,17 @@ abbrev pub may_read : Option ℕ → ℕ → Kind → After → After
 may_read None s k go = go
 may_read (Some x) s k go = reads x s k go
 
--- the slot of the loop that a `for` begins
-abbrev pub loop_slot : Option Instr → Option ℕ
-loop_slot (Some (instr.For k lo hi e)) = Some k
-loop_slot _ = None
+-- the slot of the loop, if there is one
+abbrev pub loop_slot : Option Loop → Option ℕ
+loop_slot o = option_map (λ l. l.slot) o
+
+-- the slot that it goes no further up than, if it names one
+abbrev pub loop_limit : Option Loop → Option ℕ
+loop_limit o = option_and_then (λ l. l.limit) o
+
+-- the end of a turn reads both
+abbrev pub turns_round : Option Loop → ℕ → Kind → After → After
+turns_round o s k go = may_read (loop_slot o) s k (may_read (loop_limit o) s k go)
 
 -- it writes slot d, which then has the new kind
 abbrev pub writes : ℕ → Kind → ℕ → Kind → After
@@ -132,7 +139,8 @@ after m u (instr.Mul d x y) s k = reads x s k (reads y s k (writes d kind.Number
 after m u (instr.Unless op x y t) s k = reads x s k (reads y s k (becomes k))
 after m u (instr.Jump t) s k = becomes k
 after m u (instr.For d lo hi e) s k = writes d kind.Number s k
-after m u (instr.Next b) s k = may_read (loop_slot (slice_get u.code b)) s k (becomes k)
+after m u (instr.ForTo d lo x hi e) s k = reads x s k (writes d kind.Number s k)
+after m u (instr.Next b) s k = turns_round (option_and_then (loop_head b) (slice_get u.code b)) s k (becomes k)
 after m u (instr.Get d c) s k = writes d kind.Number s k
 after m u (instr.Put c x) s k = reads x s k (becomes k)
 after m u (instr.AddTo c x) s k = reads x s k (becomes k)
@@ -154,6 +162,7 @@ after m u instr.Ret s k = if is_own u s then overwritten k (becomes k) else beco
 abbrev pub successors : Instr → ℕ → List ℕ
 successors (instr.Unless op x y t) at = (at + 1) ∷ t ∷ []
 successors (instr.Jump t) at = t ∷ []
+successors (instr.ForTo k lo x hi e) at = (at + 1) ∷ (e + 1) ∷ []
 successors (instr.Next b) at = (at + 1) ∷ (b + 1) ∷ []
 successors instr.Ret at = []
 successors _ at = (at + 1) ∷ []
@@ -172,6 +181,25 @@ row_of m u s k (Some i) = after m u i s k
 abbrev pub row : ModuleValue → UnitValue → ℕ → Visit → After
 row m u s p = row_of m u s p.kind (slice_get u.code p.at)
 
+-- the instruction, if it goes to this place, passes over what it would have begun
+abbrev pub passes_over : Instr → ℕ → Bool
+passes_over (instr.ForTo k lo x hi e) to = to == e + 1
+passes_over _ to = false
+
+-- the kind stays, where the row doesn't refuse it
+abbrev pub stays : Kind → After → After
+stays k (To ks) = becomes k
+stays k (Refused r) = Refused r
+
+-- What an instruction leaves of a kind on its way to a place: one that passes over a loop doesn't write the loop's slot.
+abbrev pub after_to : ModuleValue → UnitValue → Instr → ℕ → ℕ → Kind → After
+after_to m u i to s k = if passes_over i to then stays k (after m u i s k) else after m u i s k
+
+-- the same for what stands at a place
+abbrev pub way_of : ModuleValue → UnitValue → ℕ → ℕ → Kind → Option Instr → After
+way_of m u to s k None = To []
+way_of m u to s k (Some i) = after_to m u i to s k
+
 -- the row leaves this kind, among others or alone
 abbrev pub MayBecome : After → Kind → Type 0
 MayBecome (To ks) k = Has ks k
@@ -180,7 +208,7 @@ MayBecome (Refused r) k = ⊥
 -- a walk may go from p to q
 pub record IsEdge (m : ModuleValue) (u : UnitValue) (s : ℕ) (p q : Visit) : Type 0 where
   pub place : Has (places_after (slice_get u.code p.at) p.at) q.at
-  pub kind : MayBecome (row m u s p) q.kind
+  pub kind : MayBecome (way_of m u q.at s p.kind (slice_get u.code p.at)) q.kind
 
 -- ---- walks
 

@@ -3,7 +3,7 @@
 -- X10 Language Specification 2.4: an activity runs a statement on its own, and main is the first one (chapter Activities, Spawning an
 -- activity and Initial activity); a clock has a phase, and each activity registered on it has resumed it in this phase or has not (chapter
 -- Clocks, its beginning and Resuming clocks). How a world is written down is this project's own.
-use Rattle.std.specs.Prelude.{ℕ, ℤ, ◌-◌, List, [], ◌∷◌, ◌++◌, length, Bool, true, false, Option, None, replicate, slice_get, slice_index_or, option_and_then}
+use Rattle.std.specs.Prelude.{◌≡◌, ℕ, ℤ, ◌-◌, List, [], ◌∷◌, ◌++◌, length, map, Bool, true, false, Option, None, replicate, slice_get, slice_index_or, option_and_then}
 use Rattle.std.specs.Option.{option_map_or}
 use Rattle.xk_types.specs.declared.instr.Instr.{Instr}
 use Rattle.xk_types.specs.declared.names.Value.{Value}
@@ -12,7 +12,7 @@ use Rattle.xk_types.specs.declared.names.Status.{Status}
 use Rattle.xk_types.specs.declared.names.Status.TheVariants as status
 use Rattle.xk_types.specs.declared.names.Standing.{Standing}
 use Rattle.xk_types.specs.declared.names.Standing.TheVariants as standing
-use Rattle.xk_types.specs.Code.{ModuleValue}
+use Rattle.xk_types.specs.Code.{ModuleValue, params_of}
 
 -- a unit in progress: its number, the instruction that it stands at, its slots
 pub record Frame : Type 0 where
@@ -54,12 +54,13 @@ pub record Clock : Type 0 where
   pub last : ℕ
   pub standings : List Standing
 
--- all there is: activities, clocks, shared numbers, the number of steps taken
+-- all there is: activities, clocks, shared numbers, the number of steps taken, and the numbers that main was given, which no step changes
 pub record WorldOf (F : Type 0) : Type 0 where
   pub activities : List (ActivityOf F)
   pub clocks : List Clock
   pub cells : List ℤ
   pub steps : ℕ
+  pub arguments : List ℤ
 
 -- the world of a module
 abbrev pub World : Type 0
@@ -90,13 +91,24 @@ start_of m u = record { unit = u; place = 0; slots = replicate (slots_of m u) va
 abbrev pub frame_with : ModuleValue → ℕ → List Value → Frame
 frame_with m u values = record { unit = u; place = 0; slots = values ++ replicate (slots_of m u - length values) value.Unset }
 
--- main before its first step
-abbrev pub main_of : ModuleValue → Activity
-main_of m = record { frame = start_of m 0; callers = []; status = status.Running; since = 0; opened = 0; governed = root }
+-- main before its first step, its parameters being given these numbers
+abbrev pub main_of : ModuleValue → List ℤ → Activity
+main_of m args = record {
+  frame = frame_with m 0 (map (λ n. value.Number n) args);
+  callers = [];
+  status = status.Running;
+  since = 0;
+  opened = 0;
+  governed = root;
+}
 
 -- main alone, no clock, no step
-abbrev pub opening : ModuleValue → World
-opening m = record { activities = main_of m ∷ []; clocks = []; cells = m.shared; steps = 0 }
+abbrev pub opening : ModuleValue → List ℤ → World
+opening m args = record { activities = main_of m args ∷ []; clocks = []; cells = m.shared; steps = 0; arguments = args }
+
+-- as many numbers as main takes
+abbrev pub AreArguments : ModuleValue → List ℤ → Type 0
+AreArguments m args = length args ≡ length (params_of m 0)
 
 -- where an activity stands on a clock
 abbrev pub standing_of : Clock → ℕ → Standing

@@ -124,8 +124,17 @@ pub enum Instr {
         hi: i64,
         e: u16,
     },
-    /// `next b`: ends a turn of the loop whose `for` stands at place b. Where its slot is less than its upper bound, it becomes
-    /// one more, and the loop goes round again from place b + 1.
+    /// `forto k lo x hi e`: begins a loop whose `next` stands at place e, and which goes no further up than the number in x and
+    /// than hi: where lo is no more than the lesser of them slot k becomes lo; else it goes to place e + 1.
+    ForTo {
+        k: u16,
+        lo: i64,
+        x: u16,
+        hi: i64,
+        e: u16,
+    },
+    /// `next b`: ends a turn of the loop whose `for` or `forto` stands at place b. Where its slot is less than its upper bound, for
+    /// a `forto` the lesser one, it becomes one more, and the loop goes round again from place b + 1.
     Next(u16),
     /// `finish e`: opens a finish, whose `endfinish` stands at place e. It governs what the activity starts while it is the
     /// innermost that the activity has open.

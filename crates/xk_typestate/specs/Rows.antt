@@ -1,9 +1,10 @@
 -- What the code answers to the table of kinds and to the edges. This project's own.
-use Rattle.std.specs.Prelude.{◌≡◌, ℕ, ◌≤◌, ◌↔◌, List, [], ◌∷◌, Result, Ok, Err, IsTrue}
+use Rattle.std.specs.Prelude.{◌≡◌, ℕ, ◌≤◌, ◌↔◌, List, [], ◌∷◌, Result, Ok, Err, IsTrue, if◌then◌else◌}
+use Rattle.xk_types.specs.declared.instr.Instr.{Instr}
 use Rattle.xk_types.specs.declared.rules.Rule.{Rule}
 use Rattle.xk_types.specs.declared.rules.Kind.{Kind}
 use Rattle.xk_types.specs.Order.{Has}
-use Rattle.xk_types.specs.Walk.{After, To, Refused}
+use Rattle.xk_types.specs.Walk.{After, To, Refused, passes_over}
 use Rattle.xk_typestate.specs.KindSet.{KindsValue, kinds_have}
 use Rattle.xk_typestate.specs.declared.rows.Successors.{Successors}
 use Rattle.xk_typestate.specs.declared.rows.Successors.TheVariants.{Nowhere, One, Two}
@@ -16,6 +17,10 @@ HasAll set list = (k : Kind) → IsTrue (kinds_have set k) ↔ Has list k
 abbrev pub IsRow : After → Result KindsValue Rule → Type 0
 IsRow a (Ok set) = (list : List Kind) × (a ≡ To list) × HasAll set list
 IsRow a (Err r) = a ≡ Refused r
+
+-- what is left on the way to a place, by whether it passes over a loop
+abbrev pub way_kinds : Instr → ℕ → KindsValue → KindsValue → KindsValue
+way_kinds i to on past = if passes_over i to then past else on
 
 -- the places that are the successors
 abbrev pub places : Successors → List ℕ

@@ -1,12 +1,13 @@
 //! The table of kinds, and where instructions lead: all that depends on which instructions there are.
 
-ghost use Rattle.std.specs.Prelude.{◌≡◌, ℕ, ◌↔◌, ◌<◌, [], ◌∷◌, IsTrue, MatchResult, Ok, Some, slice_get, if◌then◌else◌};
+ghost use Rattle.std.specs.Prelude.{◌≡◌, ℕ, ◌↔◌, ◌<◌, [], ◌∷◌, IsTrue, MatchResult, Ok, Some, slice_get, option_and_then, if◌then◌else◌};
+ghost use Rattle.xk_types.specs.Code.{loop_head};
 ghost use Rattle.xk_types.specs.declared.rules.Kind.{Kind};
 ghost use Rattle.xk_types.specs.declared.rules.Kind.TheVariants.{Number};
 ghost use Rattle.xk_types.specs.Order.{Has};
-ghost use Rattle.xk_types.specs.Walk.{After, Refused, after, becomes, awake, reads, may_read, loop_slot, overwritten, let_go, writes, uses, hands_on, gives, across, is_own, successors, entry_kinds, MayBecome};
+ghost use Rattle.xk_types.specs.Walk.{After, Refused, after, becomes, awake, reads, may_read, loop_slot, loop_limit, overwritten, let_go, writes, uses, hands_on, gives, across, is_own, stays, passes_over, successors, entry_kinds, MayBecome};
 ghost use Rattle.xk_typestate.specs.KindSet.{kinds_have};
-ghost use Rattle.xk_typestate.specs.Rows.{IsRow, places, AreRising};
+ghost use Rattle.xk_typestate.specs.Rows.{IsRow, way_kinds, places, AreRising};
 
 use crate::kind_set::KindSet;
 use xk_shape::{Arguments, Blocks, params_of};
@@ -33,6 +34,7 @@ pub(crate) fn successors_of(instr: &Instr, at: u16) -> Successors
     match instr {
         Instr::Unless { t, .. } => either(at + 1, *t),
         Instr::Jump(t) => Successors::One(*t),
+        Instr::ForTo { e, .. } => either(at + 1, *e + 1),
         Instr::Next(b) => either(at + 1, *b + 1),
         Instr::Ret => Successors::Nowhere,
         _ => Successors::One(at + 1),
@@ -62,7 +64,8 @@ pub(crate) fn kinds_at_entry(u: &Unit, slot: u16) -> KindSet
     }
 }
 
-/// What an instruction leaves of the kind of a slot, or nothing where it refuses it. The blocks are those of the unit.
+/// What an instruction leaves of the kind of a slot, and what it leaves where it passes over a loop; nothing where it refuses it.
+/// The blocks are those of the unit.
 pub(crate) fn kinds_left(
     m: &Module,
     u: &Unit,
@@ -70,14 +73,33 @@ pub(crate) fn kinds_left(
     instr: &Instr,
     slot: u16,
     kind: Kind,
-) -> KindSet
+) -> (KindSet, KindSet)
     requires { blocks.now ≡ u.now }
-    ensures { (k : Kind)
-        → IsTrue (kinds_have result k) ↔ MayBecome (after m.now u.now instr.now slot kind) k }
+    ensures on { (k : Kind)
+        → IsTrue (kinds_have result.0 k) ↔ MayBecome (after m.now u.now instr.now slot kind) k }
+    ensures past { (k : Kind) → IsTrue (kinds_have result.1 k)
+        ↔ MayBecome (stays kind (after m.now u.now instr.now slot kind)) k }
 {
     match kinds_after(m, u, blocks, instr, slot, kind) {
-        Ok(kinds) => kinds,
-        Err(_) => KindSet::empty(),
+        Ok(kinds) => (kinds, KindSet::of(kind)),
+        Err(_) => (KindSet::empty(), KindSet::empty()),
+    }
+}
+
+/// Of these two what is left on the way to a place.
+pub(crate) fn way(instr: &Instr, to: u16, on: KindSet, past: KindSet) -> KindSet
+    ensures { result ≡ way_kinds instr.now to on past }
+{
+    if passes_over(instr, to) { past } else { on }
+}
+
+/// Whether the instruction, if it goes to this place, passes over a loop.
+fn passes_over(instr: &Instr, to: u16) -> bool
+    ensures { result ≡ passes_over instr.now to }
+{
+    match instr {
+        Instr::ForTo { e, .. } => to as u32 == *e as u32 + 1,
+        _ => false,
     }
 }
 
@@ -97,7 +119,7 @@ pub(crate) fn kinds_after(
         Instr::Lit { d, .. } | Instr::For { k: d, .. } | Instr::Get { d, .. } => {
             write(*d, Kind::Number, slot, kind)
         }
-        Instr::Copy { d, a: x } => {
+        Instr::Copy { d, a: x } | Instr::ForTo { k: d, x, .. } => {
             read(*x, slot, kind)?;
             write(*d, Kind::Number, slot, kind)
         }
@@ -111,6 +133,7 @@ pub(crate) fn kinds_after(
         }
         Instr::Next(b) => {
             may_read(loop_slot(u, *b), slot, kind)?;
+            may_read(loop_limit(u, *b), slot, kind)?;
             Ok(KindSet::of(kind))
         }
         Instr::Put { a: x, .. } | Instr::AddTo { a: x, .. } | Instr::Print(x) => {
@@ -155,20 +178,40 @@ fn compute(d: u16, x: u16, y: u16, slot: u16, kind: Kind) -> Result<KindSet, Rul
 
 /// The slot of the loop that begins at this place; none where no loop does.
 fn loop_slot(u: &Unit, at: u16) -> Option<u16>
-    ensures { result ≡ loop_slot (slice_get u.now.code at) }
+    ensures { result ≡ loop_slot (option_and_then (loop_head at) (slice_get u.now.code at)) }
 {
     match u.code.get(at as usize) {
-        Some(instr) => slot_of_for(instr),
+        Some(instr) => slot_of_head(instr),
         None => None,
     }
 }
 
-/// The slot of a `for`; none for other instructions.
-fn slot_of_for(instr: &Instr) -> Option<u16>
-    ensures { result ≡ loop_slot (Some instr.now) }
+/// The slot of the loop of which the instruction is the head; none for other instructions.
+fn slot_of_head(instr: &Instr) -> Option<u16>
+    ensures { (at : ℕ) → result ≡ loop_slot (loop_head at instr.now) }
 {
     match instr {
-        Instr::For { k, .. } => Some(*k),
+        Instr::For { k, .. } | Instr::ForTo { k, .. } => Some(*k),
+        _ => None,
+    }
+}
+
+/// The slot that the loop that begins at this place goes no further up than; none where no loop does, or it names none.
+fn loop_limit(u: &Unit, at: u16) -> Option<u16>
+    ensures { result ≡ loop_limit (option_and_then (loop_head at) (slice_get u.now.code at)) }
+{
+    match u.code.get(at as usize) {
+        Some(instr) => limit_of_head(instr),
+        None => None,
+    }
+}
+
+/// The same of the instruction that is its head.
+fn limit_of_head(instr: &Instr) -> Option<u16>
+    ensures { (at : ℕ) → result ≡ loop_limit (loop_head at instr.now) }
+{
+    match instr {
+        Instr::ForTo { x, .. } => Some(*x),
         _ => None,
     }
 }

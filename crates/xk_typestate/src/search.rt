@@ -4,14 +4,14 @@ ghost use Rattle.std.specs.Prelude.{◌≡◌, ℕ, ◌+◌, ◌<◌, ◌≤◌,
 ghost use Rattle.xk_types.specs.Code.{UnitValue, ModuleValue};
 ghost use Rattle.xk_types.specs.Order.{Has};
 ghost use Rattle.xk_typestate.specs.KindSet.{no_kinds};
-ghost use Rattle.xk_typestate.specs.Rows.{places};
+ghost use Rattle.xk_typestate.specs.Rows.{places, way_kinds};
 ghost use Rattle.xk_typestate.specs.Search.{IsClosed, IsSearched, IsComplete, IsPut, Extends, IsLatest, HasPut, CanCome};
 
 use crate::kind_set::{KINDS, KindSet};
-use crate::rows::{Successors, kinds_at_entry, kinds_left, successors_of};
+use crate::rows::{Successors, kinds_at_entry, kinds_left, successors_of, way};
 use std::alloc::{AllocError, Global};
 use xk_shape::Blocks;
-use xk_types::{Kind, Module, Unit, Visit};
+use xk_types::{Instr, Kind, Module, Unit, Visit};
 
 /// A stop that walks come to.
 #[derive(Clone, Copy)]
@@ -83,31 +83,41 @@ impl Search {
         let stop = self.found[done].stop;
         let instr = &u.code[stop.at as usize];
         let kinds = kinds_left(m, u, blocks, instr, slot, stop.kind);
-        self.put_successors(successors_of(instr, stop.at), kinds, Some(done))
+        self.put_successors(
+            successors_of(instr, stop.at),
+            instr,
+            kinds.0,
+            kinds.1,
+            Some(done),
+        )
     }
 
-    /// Puts these kinds at each of the successors.
+    /// Puts at each of the successors those of the kinds that are left on the way there.
     fn put_successors(
         &mut self,
         successors: Successors,
+        instr: &Instr,
         kinds: KindSet,
+        past: KindSet,
         from: Option<usize>,
     ) -> Result<(), AllocError>
         requires inside { (to : ℕ) → Has (places successors) to → to < length self.old.seen.items }
         ensures grown { IfOk result (λ _. Extends self.old self.new) }
         ensures put { IfOk result
-            (λ _. (to : ℕ) → Has (places successors) to → HasPut self.new to kinds) }
+            (λ _. (to : ℕ) → Has (places successors) to
+            → HasPut self.new to (way_kinds instr.now to kinds past)) }
         ensures searched { (m : ModuleValue) (u : UnitValue) (s done : ℕ)
             → IsSearched m u s self.old done
-            → ((to : ℕ) → Has (places successors) to → CanCome m u s done self.old to kinds from)
+            → ((to : ℕ) → Has (places successors) to
+            → CanCome m u s done self.old to (way_kinds instr.now to kinds past) from)
             → IfOk result (λ _. IsSearched m u s self.new done) }
     {
         match successors {
             Successors::Nowhere => Ok(()),
-            Successors::One(to) => self.put_all(to, kinds, from),
+            Successors::One(to) => self.put_all(to, way(instr, to, kinds, past), from),
             Successors::Two(first, second) => {
-                self.put_all(first, kinds, from)?;
-                self.put_all(second, kinds, from)
+                self.put_all(first, way(instr, first, kinds, past), from)?;
+                self.put_all(second, way(instr, second, kinds, past), from)
             }
         }
     }

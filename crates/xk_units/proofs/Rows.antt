@@ -5,7 +5,7 @@ use Rattle.xk_calls.specs.Calls.{Path, IsCall}
 use Rattle.xk_tree.specs.declared.fault.FrontRule.TheVariants as rule
 use Rattle.xk_tree.specs.declared.fault.FrontFault.{FrontFault}
 use Rattle.xk_tree.specs.declared.tree.Number.{Number}
-use Rattle.xk_tree.specs.Tree.{Word, MethodValue, TreeValue, Statement, Statements, Done, More, For, Async, Call}
+use Rattle.xk_tree.specs.Tree.{Word, MethodValue, TreeValue, UpTo, Statement, Statements, Done, More, For, Async, Call}
 use Rattle.xk_names.specs.Places.{Here, First, Inside}
 use Rattle.xk_names.specs.Faults.{fault}
 use Rattle.xk_units.specs.Recursion.{HasCall, HasRecursion}
@@ -77,7 +77,7 @@ main_called = inl (record {
 
 -- `def f() { for (i in 2..1) async f(); } def main() { }`: in the body of an `async`, in a loop without a turn
 abbrev hidden : Statements
-hidden = one (For 14 (named 15 (codes "i")) (number 20 2) (number 23 1) (Async 26 None (call (f 32) 33)))
+hidden = one (For 14 (named 15 (codes "i")) (number 20 2) (UpTo (number 23 1)) (Async 26 None (call (f 32) 33)))
 
 abbrev calls_inside : TreeValue
 calls_inside = program (method (f 4) hidden ∷ method (main 43) Done ∷ [])

@@ -17,14 +17,14 @@ use Rattle.xk_workers.specs.Run.{RunValue, fresh_run, run_at, IsStage, IsRun}
 
 -- a core that has taken no step is a run
 pub fresh_is : (c : CoreValue) → IsCore c.module_run c.world → c.world.steps ≡ 0 → IsRun (fresh_run c)
-fresh_is c core none = record { core = core; legal = run_starts c.module_run c refl (core_fresh c.module_run c.world core none) }
+fresh_is c core none = record { core = core; legal = run_starts c.module_run c refl core.reached.1.0 (core_fresh c.module_run c.world core none) }
 
 -- a run in which nobody can take a step is over
 pub run_over : (r : RunValue) → IsRun r → enabled_in r.core.module_run r.core.world ≡ [] → all_ended r.core.world ≡ true
 run_over r is none = listed_over r.core.module_run r.core.world is.core none
 
 -- before the first step main alone is there
-fresh_nobody : (c : CoreValue) → c.world ≡ opening c.module_run → is_enabled c.module_run c.world 0 ≡ false → enabled_in c.module_run c.world ≡ []
+fresh_nobody : (c : CoreValue) → c.world ≡ opening c.module_run c.world.arguments → is_enabled c.module_run c.world 0 ≡ false → enabled_in c.module_run c.world ≡ []
 fresh_nobody c start =
     subst (λ (w : World). is_enabled c.module_run w 0 ≡ false → enabled_in c.module_run w ≡ []) (sym start) (λ h. ap (λ b. cond b (0 ∷ []) []) h)
 
@@ -49,11 +49,11 @@ nobody_above : (b : Bool) (a : ℕ) → let list : List ℕ = cond b (0 ∷ []) 
 nobody_above true a = let main : List ℕ = 0 ∷ [] in ap (λ (b : Bool). slice_get main (length {A = ℕ} (cond b main []))) (sym (le-leb 0 a (omega arith)))
 nobody_above false a = refl
 
-alone : (c : CoreValue) (a : ℕ) → c.world ≡ opening c.module_run
+alone : (c : CoreValue) (a : ℕ) → c.world ≡ opening c.module_run c.world.arguments
     → None ≡ slice_get (enabled_in c.module_run c.world) (place_above a (enabled_in c.module_run c.world))
 alone c a start =
     subst (λ (w : World). None ≡ slice_get (enabled_in c.module_run w) (place_above a (enabled_in c.module_run w))) (sym start)
-    (nobody_above (is_enabled c.module_run (opening c.module_run) 0) a)
+    (nobody_above (is_enabled c.module_run (opening c.module_run c.world.arguments) 0) a)
 
 pub alone_fresh : (s : Stage) (c : CoreValue) (a : ℕ) → s ≡ stage.Fresh c → IsStage s
     → None ≡ slice_get (enabled_in (run_at s).core.module_run (run_at s).core.world) (place_above a (enabled_in (run_at s).core.module_run (run_at s).core.world))

@@ -21,11 +21,11 @@ fresh_run c = record { core = c; log = []; printed = [] }
 abbrev pub run_at : Stage → RunValue
 run_at (stage.Fresh c) = fresh_run c
 run_at (stage.Going r) = record { core = r.driver; log = r.log.items; printed = r.printed.items }
-run_at stage.Between = fresh_run (opening_core (module_of [] []))
+run_at stage.Between = fresh_run (opening_core (module_of [] []) [])
 
 -- before the first step the world is the opening one; and the run is there
 abbrev pub IsStage : Stage → Type 0
-IsStage (stage.Fresh c) = c.world ≡ opening c.module_run
+IsStage (stage.Fresh c) = c.world ≡ opening c.module_run c.world.arguments
 IsStage (stage.Going r) = Unit {0}
 IsStage stage.Between = ⊥
 

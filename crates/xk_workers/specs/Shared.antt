@@ -1,14 +1,13 @@
 -- The machine that workers share, as each sees it who has the lock. This project's own.
 use Rattle.std.specs.Prelude.{◌≡◌, ℕ, Bool, true, false, List, Result, Ok, Err, slice_set}
 use Rattle.xk_types.specs.Schedule.{is_enabled, all_ended}
-use Rattle.xk_types.specs.Code.{ModuleValue}
 use Rattle.xk_drive.specs.Driving.{IsCommitted}
 use Rattle.xk_drive.specs.declared.logged.Ended.{Ended}
 use Rattle.xk_drive.specs.declared.logged.Partial.{Partial}
 use Rattle.xk_workers.specs.declared.shared.Take.{Take}
 use Rattle.xk_workers.specs.declared.shared.Take.TheVariants as take
 use Rattle.xk_activity.specs.Ticket.{TicketValue}
-use Rattle.xk_core.specs.Core.{is_next_local}
+use Rattle.xk_core.specs.Core.{CoreValue, is_next_local}
 use Rattle.xk_core.specs.Handed.{Accepts}
 use Rattle.xk_core.specs.Stretch.{RunsTo, AreLocal}
 use Rattle.xk_workers.specs.declared.shared.CommitFault.{CommitFault}
@@ -103,7 +102,12 @@ abbrev pub IsCutShort : RunValue → Result Ended Partial → Type 0
 IsCutShort r (Ok e) = ⊥
 IsCutShort r (Err p) = (p.core ≡ r.core) × (p.log.items ≡ r.log)
 
--- Where the workers' run is one of this module, and has come to its end, it is the answer; so it is where they were told to stop before.
-pub record IsSettled (s : SharedValue) (m : ModuleValue) (answer : Result Ended Partial) : Type 0 where
-  pub finished : s.run.core.module_run ≡ m → all_ended s.run.core.world ≡ true → IsEndOf s.run answer
-  pub cut_short : s.run.core.module_run ≡ m → all_ended s.run.core.world ≡ false → s.stopped ≡ true → IsCutShort s.run answer
+-- both run the same module, and main was given the same
+pub record AreAlike (c d : CoreValue) : Type 0 where
+  pub same_module : c.module_run ≡ d.module_run
+  pub same_arguments : c.world.arguments ≡ d.world.arguments
+
+-- Where the workers' run is one of this core's module with its arguments, and has come to its end, it is the answer; so it is where they were told to stop before.
+pub record IsSettled (s : SharedValue) (c : CoreValue) (answer : Result Ended Partial) : Type 0 where
+  pub finished : AreAlike s.run.core c → all_ended s.run.core.world ≡ true → IsEndOf s.run answer
+  pub cut_short : AreAlike s.run.core c → all_ended s.run.core.world ≡ false → s.stopped ≡ true → IsCutShort s.run answer

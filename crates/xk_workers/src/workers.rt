@@ -2,7 +2,7 @@
 
 ghost use Rattle.std.specs.Prelude.{◌≡◌, ◌≤◌, true, false, IfOk, IfErr};
 ghost use Rattle.std.specs.Bool.{Decides};
-ghost use Rattle.xk_workers.specs.Shared.{IsSettled, GoesOn};
+ghost use Rattle.xk_workers.specs.Shared.{AreAlike, IsSettled, GoesOn};
 ghost use Rattle.xk_workers.specs.Turned.{CanCompute, HandsIn, Turns};
 ghost use Rattle.xk_workers.specs.Workers.{most_workers};
 
@@ -131,30 +131,42 @@ fn worked<'m, R: Threads + Wait + Sync, G: Gate + Sync>(
     board.into_inner()
 }
 
-/// Whether the workers' module is that of the core.
-fn is_same(shared: &Shared<'_>, core: &Core<'_>) -> bool
-    ensures { Decides result (shared.now.run.core.module_run ≡ core.now.module_run) }
+/// Whether these numbers are the same.
+fn are_same_numbers(a: &[i64], b: &[i64]) -> bool
+    ensures { Decides result (a.now ≡ b.now) }
 {
-    is_same_module(shared.core().module().module(), core.module().module())
+    a == b
 }
 
-/// Whether the workers' run is the answer: its module is that of the core, and all have ended, or the workers were told to stop.
+/// Whether the workers' module is that of the core, and main was given the same.
+fn is_same(shared: &Shared<'_>, core: &Core<'_>) -> bool
+    ensures { Decides result (AreAlike shared.now.run.core core.now) }
+{
+    is_same_module(shared.core().module().module(), core.module().module())
+        && are_same_numbers(shared.core().arguments(), core.arguments())
+}
+
+/// Whether the workers' run is the answer: it is one of the core's module with its arguments, and all have ended, or the workers were told
+/// to stop.
 fn is_answer(shared: &Shared<'_>, core: &Core<'_>) -> bool
-    ensures same { result ≡ true → shared.now.run.core.module_run ≡ core.now.module_run }
-    ensures none { result ≡ false
-        → shared.now.run.core.module_run ≡ core.now.module_run → GoesOn shared.now }
+    ensures same { result ≡ true → AreAlike shared.now.run.core core.now }
+    ensures none { result ≡ false → AreAlike shared.now.run.core core.now → GoesOn shared.now }
 {
     is_same(shared, core) && !shared.goes_on()
 }
 
 /// The answer that the workers came to, or the one of the least activity first, on a core that was kept aside: where the workers' module
-/// is another, or where they left off though nobody was refused memory.
+/// or its arguments are others, or where they left off though nobody was refused memory.
 fn settle<'m>(alloc: Global, shared: Shared<'m>, aside: Core<'m>) -> Result<Ended<'m>, Partial<'m>>
     requires { aside.world.steps ≡ 0 }
     ensures same_module { IfOk result (λ e. e.module.now ≡ aside.entry.module_run) }
     ensures partial_same_module { IfErr result
         (λ p. p.module.now ≡ aside.entry.module_run) }
-    ensures settled { IsSettled shared.entry aside.entry.module_run result }
+    ensures same_arguments { IfOk result
+        (λ e. e.core.world.arguments ≡ aside.entry.world.arguments) }
+    ensures partial_same_arguments { IfErr result
+        (λ p. p.core.world.arguments ≡ aside.entry.world.arguments) }
+    ensures settled { IsSettled shared.entry aside.entry result }
 {
     if is_answer(&shared, &aside) {
         return shared.close();
@@ -180,8 +192,12 @@ pub fn run_workers<'m, R: Threads + Wait + Sync, G: Gate + Sync>(
     ensures same_module { IfOk result (λ e. e.module.now ≡ start.entry.module_run) }
     ensures partial_same_module { IfErr result
         (λ p. p.module.now ≡ start.entry.module_run) }
+    ensures same_arguments { IfOk result
+        (λ e. e.core.world.arguments ≡ start.entry.world.arguments) }
+    ensures partial_same_arguments { IfErr result
+        (λ p. p.core.world.arguments ≡ start.entry.world.arguments) }
 {
-    let Ok(aside) = Core::open(alloc, start.module()) else {
+    let Ok(aside) = Core::open(alloc, start.module(), start.arguments()) else {
         return Err(unstarted(alloc, start));
     };
     let shared = worked(rt, alloc, Shared::open(alloc, start), workers, gate);

@@ -1,6 +1,7 @@
 -- What a place sees in the text, beside the slots that its unit has there.
-use Rattle.std.proofs.Common.{◌≡◌, ◌⊎◌, inl, inr, ℕ, suc, nat_eq, ◌≤◌, Bool, true, false, ◌||◌, List, [], ◌∷◌, ◌++◌, length, Option, Some, None, refl, sym, ap, ◌∙◌, subst, arith, eqb-true, append-nil}
-use Rattle.xk_tree.specs.Tree.{Word, Statement, Declare, Clocks, Source, Make, Value}
+use Rattle.std.proofs.Common.{◌≡◌, ◌⊎◌, inl, inr, ℕ, suc, ◌+◌, nat_eq, ◌≤◌, Bool, true, false, ◌||◌, List, [], ◌∷◌, ◌++◌, append_assoc, length, Option, Some, None, refl, sym, ap, ◌∙◌, subst, arith, eqb-true, append-nil}
+use Rattle.xk_tree.specs.declared.tree.Number.{Number}
+use Rattle.xk_tree.specs.Tree.{Word, Bound, UpTo, Least, Statement, Declare, For, Clocks, Source, Make, Value}
 use Rattle.xk_tree.specs.declared.tree.Binding.{Binding}
 use Rattle.xk_tree.specs.declared.tree.Binding.TheVariants as binding
 use Rattle.xk_names.specs.declared.known.Known.{Known}
@@ -8,14 +9,14 @@ use Rattle.xk_names.specs.declared.known.Kind.{Kind}
 use Rattle.xk_names.specs.declared.known.Kind.TheVariants as kind
 use Rattle.xk_names.specs.Scope as names
 use Rattle.xk_names.specs.Scope.{Table, find, has, is_text, texts, Has, known, is_own, is_given, is_shared}
-use Rattle.xk_names.specs.Uses.{Signatures, kind_of, clocks_listed}
+use Rattle.xk_names.specs.Uses.{Signatures, kind_of, declares, clocks_listed}
 use Rattle.xk_names.specs.Places as places
 use Rattle.xk_names.specs.Scoped.{IsSound, IsSoundInside, with_all, with_body}
-use Rattle.xk_names.specs.Collected.{put_text}
-use Rattle.xk_names.specs.Captures.{own_behind, outer_words, captures}
+use Rattle.xk_names.specs.Collected.{put_text, put_texts}
+use Rattle.xk_names.specs.Captures.{loop_words, own_behind, outer_words, captures}
 use Rattle.xk_names.proofs.Agreement.{find_behind, or_entry, has_put, put_texts_same}
 use Rattle.xk_names.proofs.Outside.{outer_found}
-use Rattle.xk_code.specs.CodeOf.{Scope, declared}
+use Rattle.xk_code.specs.CodeOf.{Scope, within_loop, declared}
 use Rattle.xk_code.specs.Unit.{scope_from}
 use Rattle.xk_code.specs.Covered.{IsFound}
 use Rattle.xk_code.proofs.Covered.Tables.{one_of, none_new, found_behind, absent_behind, still_absent, still_found, now_found, param_found, among_texts, text_among, in_either, in_left}
@@ -94,9 +95,16 @@ fits_behind shared sc scope own n (Declare b x ty r) fits = fits_name shared sc 
 fits_behind shared sc scope own n _ fits = fits_same shared sc scope own fits
 
 -- in the body of a loop
-pub fits_loop : (shared : Texts) (sc : Seen) (scope : Scope) (own : Texts) (n : ℕ) (i : Word) → Fits shared sc scope own
-    → Fits shared (with_name sc i.text kind.Val) (scope ++ (i.text, n) ∷ []) (put_text own i.text)
-fits_loop shared sc scope own n i fits = fits_name shared sc scope own i.text kind.Val n refl fits
+pub fits_loop : (shared : Texts) (sc : Seen) (scope : Scope) (own : Texts) (n at : ℕ) (i : Word) (lo : Number) (b : Bound) (s : Statement)
+    → Fits shared sc scope own
+    → Fits shared (with_all sc (declares (length sc.bodies) (For at i lo b s))) (within_loop scope n i b) (put_texts own (loop_words i b))
+fits_loop shared sc scope own n at i lo (UpTo hi) s fits = fits_name shared sc scope own i.text kind.Val n refl fits
+fits_loop shared sc scope own n at i lo (Least x v e hi) s fits =
+    let one = with_name sc i.text kind.Val in
+    let two = fits_name shared one (scope ++ (i.text, n) ∷ []) (put_text own i.text) x.text kind.Val (n + 1) refl
+    (fits_name shared sc scope own i.text kind.Val n refl fits) in
+    subst (λ (k : Table Known). Fits shared (record { names = k; bodies = sc.bodies }) (within_loop scope n i (Least x v e hi)) (put_texts own (loop_words i (Least x v e hi))))
+    (append_assoc sc.names ((i.text, known kind.Val (length sc.bodies)) ∷ []) ((x.text, known kind.Val (length sc.bodies)) ∷ [])) two
 
 -- ---- the body of an `async`
 

@@ -5,7 +5,7 @@ use Rattle.xk_types.specs.declared.unit.ParamKind.TheVariants as param
 use Rattle.xk_tree.specs.declared.tree.Binding.TheVariants as binding
 use Rattle.xk_tree.specs.declared.tree.Number.{Number}
 use Rattle.xk_tree.specs.declared.tree.Verb.{Verb}
-use Rattle.xk_tree.specs.Tree.{Word, Clocks, Expression, Literal, Named, Make, Value, Statement, Statements, Done, More, Block, Declare, For, Async, Call, Print, MethodValue, SharedValue, TreeValue}
+use Rattle.xk_tree.specs.Tree.{Word, Clocks, Expression, Literal, Named, Make, Value, UpTo, Statement, Statements, Done, More, Block, Declare, For, Async, Call, Print, MethodValue, SharedValue, TreeValue}
 use Rattle.std.specs.List.{All}
 use Rattle.std.proofs.lemmas.List.Elements.{recursion_from_All}
 use Rattle.xk_names.specs.Scope.{is_text}
@@ -44,7 +44,7 @@ outer = Block (More (Async 20 None inner) Done)
 abbrev body : Statements
 body =
     More (Declare binding.Val (w (codes "x")) None (Value (Literal (number 1)))) (More (Declare binding.Val (w (codes "c")) None (Make 0 verb))
-    (More (Async 10 c outer) (More calls_m (More (For 0 (w (codes "i")) (number 2) (number 1) (Async 30 None calls_m)) Done))))
+    (More (Async 10 c outer) (More calls_m (More (For 0 (w (codes "i")) (number 2) (UpTo (number 1)) (Async 30 None calls_m)) Done))))
 
 abbrev main : MethodValue
 main = record { name = w (codes "main"); paren = 0; params = []; body = body }

@@ -5,25 +5,26 @@ use Rattle.std.specs.Prelude.{is_some, int_le}
 use Rattle.std.specs.Option.{option_map_or}
 use Rattle.std.specs.List.{All, flat_map}
 use Rattle.std.proofs.lemmas.List.Elements.{All-append, All-cons, All-nil}
-use Rattle.xk_tree.specs.Tree.{Word, Clocks, Expression, Statement, Statements, Done, More, Block, Empty, Declare, Assign, Atomic, If, IfElse, For, Async, Finish, Call, Resume, Drop, AdvanceAll, Print, ParamValue}
+use Rattle.xk_tree.specs.declared.tree.Number.{Number}
+use Rattle.xk_tree.specs.Tree.{Word, Clocks, Expression, Bound, UpTo, Least, top, Statement, Statements, Done, More, Block, Empty, Declare, Assign, Atomic, If, IfElse, For, Async, Finish, Call, Resume, Drop, AdvanceAll, Print, ParamValue}
 use Rattle.xk_names.specs.declared.known.Known.{Known}
 use Rattle.xk_names.specs.declared.known.Kind.TheVariants as kind
 use Rattle.xk_names.specs.declared.known.Want.TheVariants as want
 use Rattle.xk_names.specs.Scope as names
-use Rattle.xk_names.specs.Scope.{find, has, texts, Has, is_clock}
-use Rattle.xk_names.specs.Uses.{Signatures, use_as, kind_of, numbers, clocks_listed, given_to, argument_uses, argument_misfits}
+use Rattle.xk_names.specs.Scope.{find, has, is_text, texts, Has, is_clock}
+use Rattle.xk_names.specs.Uses.{Signatures, use_as, kind_of, numbers, bound_uses, declares, clocks_listed, given_to, argument_uses, argument_misfits}
 use Rattle.xk_names.specs.Places as places
 use Rattle.xk_names.specs.Scoped.{IsRight, IsSound, IsSoundInside, AreSound, with_all, with_body}
 use Rattle.xk_names.specs.Collected.{put_text, put_texts}
-use Rattle.xk_names.specs.Captures.{number_words, argument_words, words_used, words_besides, own_behind, outer_inside, outer_among, outer_words, captures}
+use Rattle.xk_names.specs.Captures.{number_words, bound_words, loop_words, argument_words, words_used, words_besides, own_behind, outer_inside, outer_among, outer_words, captures}
 use Rattle.xk_names.proofs.Among.{has_left, has_right, has_either, to_map}
 use Rattle.xk_names.proofs.Outside.{AreRight, outer_found, outer_kept}
-use Rattle.xk_code.specs.CodeOf.{Setting, Body, Scope, body_params, count, declared}
+use Rattle.xk_code.specs.CodeOf.{Setting, Body, Scope, body_params, loop_slots, within_loop, count, declared}
 use Rattle.xk_code.specs.Unit.{scope_from}
-use Rattle.xk_code.specs.Covered.{IsFound, IsNew, IsKnown, IsCovered, AreCovered, IsUnitCovered}
+use Rattle.xk_code.specs.Covered.{IsFound, IsNew, IsKnown, IsBoundKnown, IsLoopNew, IsCovered, AreCovered, IsUnitCovered}
 use Rattle.xk_code.specs.Reached.{AsyncBody, bodies_in, bodies_in_all, calls_in, calls_in_all, IsSettled}
-use Rattle.xk_code.proofs.Covered.Tables.{Differ, differ_new, differ_append, differ_texts, param_found, still_found, among_texts, in_right}
-use Rattle.xk_code.proofs.Covered.Fitting.{Seen, Texts, Fits, with_name, fits_behind, fits_loop, fits_body, body_names, is_captured}
+use Rattle.xk_code.proofs.Covered.Tables.{Differ, differ_new, differ_append, differ_texts, param_found, still_absent, still_found, among_texts, in_right}
+use Rattle.xk_code.proofs.Covered.Fitting.{Seen, Texts, Fits, fits_behind, fits_loop, fits_body, body_names, is_captured}
 use Rattle.xk_code.proofs.Covered.Known.{AreTaken, taken_besides, HasPlaces, shared_known, clock_slot, has_slot, expression_known, source_known, assigned_known, arguments_known, all_texts}
 
 -- ---- what is settled for a statement
@@ -199,12 +200,38 @@ call_known ms shared sc scope own f at es there sound taken =
         let one : qs ≡ ps = cc in
         arguments_known shared sc scope own qs es (ap length one ∙ same) there right fitting words
 
-loop_covered : (cx : Setting) (ms : Signatures) (shared : Texts) (scope inside : Scope) (n : ℕ) (i : Word) (s : Statement) (turn : Bool)
-    → Settled cx ms shared (cond turn (calls_in s) []) (cond turn (bodies_in s) []) → IsNew scope i.text
-    → (Settled cx ms shared (calls_in s) (bodies_in s) → Covered cx inside (n + 1) s)
-    → (turn ≡ true → IsNew scope i.text × IsCovered cx inside (n + 1) s) × AreBodiesCovered cx (cond turn (bodies_in s) [])
-loop_covered cx ms shared scope inside n i s true settled new later = let r = later settled in (λ t. (new, r.0), r.1)
-loop_covered cx ms shared scope inside n i s false settled new later = (λ t. absurd cc, none_there cx)
+loop_covered : (cx : Setting) (ms : Signatures) (shared : Texts) (scope : Scope) (n : ℕ) (i : Word) (b : Bound) (s : Statement) (turn : Bool)
+    → Settled cx ms shared (cond turn (calls_in s) []) (cond turn (bodies_in s) []) → IsBoundKnown scope b → IsLoopNew scope n i b
+    → (Settled cx ms shared (calls_in s) (bodies_in s) → Covered cx (within_loop scope n i b) (n + loop_slots b) s)
+    → (turn ≡ true → IsBoundKnown scope b × IsLoopNew scope n i b × IsCovered cx (within_loop scope n i b) (n + loop_slots b) s)
+    × AreBodiesCovered cx (cond turn (bodies_in s) [])
+loop_covered cx ms shared scope n i b s true settled known new later = let r = later settled in (λ t. (known, new, r.0), r.1)
+loop_covered cx ms shared scope n i b s false settled known new later = (λ t. absurd cc, none_there cx)
+
+bound_known : (shared : Texts) (sc : Seen) (scope : Scope) (own : Texts) (b : Bound) → Fits shared sc scope own → AreRight sc (bound_uses b)
+    → AreTaken own scope (bound_words b) → IsBoundKnown scope b
+bound_known shared sc scope own (UpTo hi) there right taken = tt
+bound_known shared sc scope own (Least x v e hi) there right taken = expression_known shared sc scope own e there right taken
+
+-- the names of a loop are new, and the second isn't the first
+loop_new : (ms : Signatures) (shared : Texts) (sc : Seen) (scope : Scope) (own : Texts) (n at : ℕ) (i : Word) (lo : Number) (b : Bound) (s : Statement)
+    → Fits shared sc scope own → IsSound ms sc (For at i lo b s) → IsLoopNew scope n i b
+loop_new ms shared sc scope own n at i lo (UpTo hi) s there sound =
+    ap is_some (there.fresh i.text (sound.new (names.declared i kind.Val (length sc.bodies)) (inl refl)))
+loop_new ms shared sc scope own n at i lo (Least x v e hi) s there sound = (
+  ap is_some (there.fresh i.text (sound.new (names.declared i kind.Val (length sc.bodies)) (inl refl))),
+  ap is_some (still_absent scope i.text n x.text (there.fresh x.text (sound.new (names.declared x kind.Val (length sc.bodies)) (inr (inl refl))))
+      (other (is_text x.text i.text) sound.fitting)),
+)
+  where
+    other : (b : Bool) → ((p : ℕ) → Has (cond b (x.at ∷ []) []) p → ⊥) → b ≡ false
+    other true none = absurd (none x.at (inl refl))
+    other false none = refl
+
+loop_still : (scope : Scope) (n : ℕ) (i : Word) (b : Bound) (ws : List Word) → IsTaken scope ws → IsTaken (within_loop scope n i b) ws
+loop_still scope n i (UpTo hi) ws taken w h = still_found scope i.text n w.text (taken w h)
+loop_still scope n i (Least x v e hi) ws taken w h =
+    still_found (scope ++ (i.text, n) ∷ []) x.text (n + 1) w.text (still_found scope i.text n w.text (taken w h))
 
 -- what has a slot keeps it
 still_taken : (scope : Scope) (n : ℕ) (s : Statement) (ws : List Word) → IsTaken scope ws → IsTaken (declared scope n s) ws
@@ -249,14 +276,14 @@ mutual
       let j = covered cx ms shared placed sc scope own (n + count s) u there inner.1.0 inner.1.1 (taken_right scope (outer_words ms own s) (outer_words ms own u) held)
       (settled_right cx ms shared (calls_in s) (calls_in u) (bodies_in s) (bodies_in u) settled) in
       ((both.0, both.1, k.0, j.0), both_covered cx (bodies_in s) (bodies_in u) k.1 j.1)
-  covered cx ms shared placed sc scope own n (For at i lo hi s) there sound inner taken settled =
-      let inside : Seen = with_name sc i.text kind.Val in
-      let slots : Scope = scope ++ (i.text, n) ∷ [] in
-      let names_there : Texts = put_text own i.text in
-      loop_covered cx ms shared scope slots n i s (int_le lo.value hi.value) settled
-      (ap is_some (there.fresh i.text (sound.new (names.declared i kind.Val (length sc.bodies)) (inl refl))))
-      (λ k. covered cx ms shared placed inside slots names_there (n + 1) s (fits_loop shared sc scope own n i there) inner.0 inner.1
-      (λ w h. still_found scope i.text n w.text (taken w h)) k)
+  covered cx ms shared placed sc scope own n (For at i lo b s) there sound inner taken settled =
+      let loop = For at i lo b s in
+      let inside : Seen = with_all sc (declares (length sc.bodies) loop) in
+      let names_there : Texts = put_texts own (loop_words i b) in
+      loop_covered cx ms shared scope n i b s (int_le lo.value (top b)) settled (bound_known shared sc scope own b there sound.used (own_taken ms scope own loop taken))
+      (loop_new ms shared sc scope own n at i lo b s there sound)
+      (λ k. covered cx ms shared placed inside (within_loop scope n i b) names_there (n + loop_slots b) s (fits_loop shared sc scope own n at i lo b s there) inner.0 inner.1
+      (loop_still scope n i b (outer_words ms names_there s) (taken_right scope (words_besides own (words_used ms loop)) (outer_words ms names_there s) taken)) k)
   covered cx ms shared placed sc scope own n (Async at cs s) there sound inner taken settled =
       let held : AsyncBody = record { at = at; clocks = cs; body = s } in
       let f : AsyncFits cx ms shared sc scope own at cs s = record {

@@ -7,14 +7,14 @@ use Rattle.std.proofs.lemmas.Int.{ints}
 use Rattle.std.proofs.lemmas.Option.{none-some, same_Some}
 use Rattle.xk_types.proofs.Lists.{fun_ext, get_inside, get_once, get-set_same, get-set_other}
 use Rattle.xk_types.proofs.Shape.Begun.{Rising}
-use Rattle.xk_types.proofs.Shape.Loops.{loop_of}
+use Rattle.xk_types.proofs.Shape.Loops.{IsLoop, head_first, head_writes}
 use Rattle.xk_laws.proofs.Shape.Loops.{AreLoops}
 use Rattle.xk_types.specs.declared.instr.Instr.{Instr}
 use Rattle.xk_types.specs.declared.instr.Instr.TheVariants as instr
 use Rattle.xk_types.specs.declared.names.Value.{Value}
 use Rattle.xk_types.specs.declared.names.Value.TheVariants as value
 use Rattle.xk_types.specs.Bound.{product, visits, sum_from}
-use Rattle.xk_types.specs.Code.{UnitValue, Loop, loops, is_round, is_within, turns}
+use Rattle.xk_types.specs.Code.{UnitValue, Loop, loop_head, loops, is_round, is_within, turns}
 use Rattle.xk_types.specs.Order.{Has}
 use Rattle.xk_types.specs.Shape.{slot_written, target, span_of, overlaps}
 use Rattle.xk_types.proofs.Members.{same_test}
@@ -48,20 +48,20 @@ due weight u p slots = sum_from (λ at i. visits_left u p slots at * weight i) 0
 
 -- ---- what a step does
 
--- What a `next` at place p does that names place b: the next turn of the loop, or on behind it.
+-- What a `next` at place p does that names place b: the next turn of the loop, which then hasn't come to its end, or on behind it.
 pub record IsTurn (u : UnitValue) (b p : ℕ) (slots : List Value) (q : ℕ) (new : List Value) : Type 0 where
-  pub k : ℕ
-  pub e : ℕ
-  pub lo : ℤ
-  pub hi : ℤ
+  pub l : Loop
+  pub head : Instr
+  pub here : slice_get u.code b ≡ Some head
+  pub is : loop_head b head ≡ Some l
   pub n : ℤ
-  pub for : slice_get u.code b ≡ Some (instr.For k lo hi e)
-  pub number : slice_get slots k ≡ Some (value.Number n)
-  pub goes : (int_lt n hi ≡ true) × (q ≡ b + 1) × (new ≡ slice_set slots k (value.Number (n +ℤ pos 1))) ⊎ (int_lt n hi ≡ false) × (q ≡ p + 1) × (new ≡ slots)
+  pub number : slice_get slots l.slot ≡ Some (value.Number n)
+  pub goes : (int_lt n l.hi ≡ true) × (q ≡ b + 1) × (new ≡ slice_set slots l.slot (value.Number (n +ℤ pos 1))) ⊎ (q ≡ p + 1) × (new ≡ slots)
 
 -- what a step of a running frame at place p, with these slots, makes of its place and its slots, by its instruction
 abbrev pub Goes : UnitValue → Instr → ℕ → List Value → ℕ → List Value → Type 0
 Goes u (instr.For k lo hi e) p slots q new = (q ≡ p + 1) × (k < length slots) × (new ≡ slice_set slots k (value.Number lo))
+Goes u (instr.ForTo k lo x hi e) p slots q new = (q ≡ p + 1) × (k < length slots) × (new ≡ slice_set slots k (value.Number lo)) ⊎ (q ≡ e + 1) × (new ≡ slots)
 Goes u (instr.Next b) p slots q new = IsTurn u b p slots q new
 Goes u (instr.Unless op x y t) p slots q new = ((q ≡ p + 1) ⊎ (q ≡ t)) × (new ≡ slots)
 Goes u (instr.Jump t) p slots q new = (q ≡ t) × (new ≡ slots)
@@ -298,17 +298,19 @@ not_behind : (l k : Loop) → overlaps (span_of l) (span_of k) ≡ false → l.f
 not_behind l k h f g = grind (arith, nat_tests)
 
 module _ (u : UnitValue) (a : AreLoops u) where
-  -- a `for` of a loop is no other instruction
-  first_is : (l : Loop) → Has (loops u) l → (i : Instr) → slice_get u.code l.first ≡ Some i → instr.For l.slot l.lo l.hi l.last ≡ i
-  first_is l h i e = get_once u.code l.first (instr.For l.slot l.lo l.hi l.last) i (a.is l h).begins e
+  -- the head of a loop is no other instruction
+  first_is : (l : Loop) (h : Has (loops u) l) (i : Instr) → slice_get u.code l.first ≡ Some i → (a.is l h).head ≡ i
+  first_is l h i e = get_once u.code l.first (a.is l h).head i (a.is l h).begins e
 
   -- nor is its `next`
   last_is : (l : Loop) → Has (loops u) l → (i : Instr) → slice_get u.code l.last ≡ Some i → instr.Next l.first ≡ i
   last_is l h i e = get_once u.code l.last (instr.Next l.first) i (a.is l h).ends e
 
-  -- one `for` begins one loop
+  -- one head begins one loop
   same_last : (l k : Loop) → Has (loops u) l → Has (loops u) k → l.first ≡ k.first → l.last ≡ k.last
-  same_last l k h g e = (let q = first_is l h (instr.For k.slot k.lo k.hi k.last) (ap (slice_get u.code) e ∙ (a.is k g).begins) in cc)
+  same_last l k h g e =
+      let q = first_is l h (a.is k g).head (ap (slice_get u.code) e ∙ (a.is k g).begins) in
+      ap (λ x. x.last) (same_Some l k (sym (a.is l h).is ∙ ap (loop_head l.first) q ∙ ap (λ n. loop_head n (a.is k g).head) e ∙ (a.is k g).is))
 
   -- one `next` ends one
   same_first : (l k : Loop) → Has (loops u) l → Has (loops u) k → l.last ≡ k.last → l.first ≡ k.first
@@ -372,7 +374,13 @@ module _ (u : UnitValue) (a : AreLoops u) where
           (λ l h. (let r = filter_has (is_round at) (loops u) l h in aside l r.0
           (λ same. (let last = same_last l f r.0 has same in let x = round_parts at l r.1 in true≢false (sym (round_from at f (omega arith) (omega arith)) ∙ e)))))
 
-  -- ---- a `for`
+  -- ---- the head of a loop
+
+  -- it stands where no loop ends
+  head_off : (f : Loop) → Has (loops u) f → (l : Loop) → Has (loops u) l → f.first ≡ l.last → ⊥
+  head_off f has l h e =
+      let q = last_is l h (a.is f has).head (ap (slice_get u.code) (sym e) ∙ (a.is f has).begins) in
+      none-some f (ap (loop_head f.first) q ∙ (a.is f has).is)
 
   -- into the first turn of loop f
   falls_for : (slots : List Value) (at : ℕ) (f : Loop) → Has (loops u) f → f.slot < length slots
@@ -391,13 +399,11 @@ module _ (u : UnitValue) (a : AreLoops u) where
 
       aside : (l : Loop) → Has (loops u) l → (l.first ≡ f.first → ⊥) → Stays slots f.first new (f.first + 1) l
       aside l h differ = record {
-        round = round_next f.first l (λ e. differ (sym e)) off;
+        round = round_next f.first l (λ e. differ (sym e)) (head_off f has l h);
         same = λ r. ap (turns_to l.hi) (get-set_other slots f.slot l.slot (value.Number f.lo)
-            (λ q. a.unwritten (instr.For f.slot f.lo f.hi f.last) f.first l (a.is f has).begins h (within_same f.first l off ∙ r) (ap Some (sym q))));
+            (λ q. a.unwritten (a.is f has).head f.first l (a.is f has).begins h (within_same f.first l (head_off f has l h) ∙ r)
+            (head_writes f.first (a.is f has).head f (a.is f has).is ∙ ap Some (sym q))));
       }
-        where
-          off : f.first ≡ l.last → ⊥
-          off e = (let q = last_is l h (instr.For f.slot f.lo f.hi f.last) (ap (slice_get u.code) (sym e) ∙ (a.is f has).begins) in cc)
 
   -- ---- a `next`
 
@@ -434,7 +440,8 @@ module _ (u : UnitValue) (a : AreLoops u) where
             (λ r. (let x = round_parts (f.first + 1) l r in let z = inside l f h has (let d = differ in omega arith) (omega arith) in
             let w = (a.ahead f has) in let v = z.last in let s = z.first in round_from f.last l (omega arith) (omega arith)));
         same = λ r. ap (turns_to l.hi) (get-set_other slots f.slot l.slot (value.Number (n +ℤ pos 1)) (λ q. (let x = round_parts f.last l r in let z = (a.ahead f has) in
-            a.unwritten (instr.For f.slot f.lo f.hi f.last) f.first l (a.is f has).begins h (within_from f.first l (outer l h differ r) (omega arith)) (ap Some (sym q)))));
+            a.unwritten (a.is f has).head f.first l (a.is f has).begins h (within_from f.first l (outer l h differ r) (omega arith))
+            (head_writes f.first (a.is f has).head f (a.is f has).is ∙ ap Some (sym q)))));
       }
 
   -- and out of the last
@@ -443,7 +450,7 @@ module _ (u : UnitValue) (a : AreLoops u) where
       falls_turn slots slots f.last (f.last + 1) at f has ((let x = (a.ahead f has) in omega arith), omega arith)
       (λ e. record { reach = λ h. omega arith; past = λ h. omega arith })
       (λ l h differ. record {
-        round = round_next f.last l (λ e. (let q = first_is l h (instr.Next f.first) (ap (slice_get u.code) (sym e) ∙ (a.is f has).ends) in cc))
+        round = round_next f.last l (λ e. head_off l h f has (sym e))
             (λ e. differ (same_first l f h has (sym e)));
         same = λ r. refl;
       })
@@ -454,30 +461,46 @@ module _ (u : UnitValue) (a : AreLoops u) where
   falls_turned b p slots q new at found m = subst (λ x. FallsAt x slots q new at) place (go m.goes)
     where
       f : Loop
-      f = loop_of b m.k m.lo m.hi m.e
+      f = m.l
 
       has : Has (loops u) f
-      has = (a.begun b m.k m.e m.lo m.hi m.for).0
+      has = (a.begun b m.head f m.here m.is).0
 
-      place : m.e ≡ p
-      place = (let g = a.ended b p found in let same = get_once u.code b (instr.For m.k m.lo m.hi m.e) (instr.For g.k g.lo g.hi p) m.for g.for in cc)
+      first : f.first ≡ b
+      first = head_first b m.head f m.is
 
-      go : (int_lt m.n m.hi ≡ true) × (q ≡ b + 1) × (new ≡ slice_set slots m.k (value.Number (m.n +ℤ pos 1))) ⊎ (int_lt m.n m.hi ≡ false) × (q ≡ p + 1) × (new ≡ slots)
-          → FallsAt m.e slots q new at
-      go (inl g) = rw (g.1, g.2) (falls_next slots at f m.n has g.0 m.number)
-      go (inr g) = rw (g.1, g.2, ← place) (falls_last slots at f has)
+      place : f.last ≡ p
+      place =
+          (let g = a.ended b p found in
+          let i = get_once u.code b m.head g.head m.here g.here in
+          ap (λ x. x.last) (same_Some f g.l (sym m.is ∙ ap (loop_head b) i ∙ g.is)) ∙ g.last)
+
+      go : (int_lt m.n f.hi ≡ true) × (q ≡ b + 1) × (new ≡ slice_set slots f.slot (value.Number (m.n +ℤ pos 1))) ⊎ (q ≡ p + 1) × (new ≡ slots)
+          → FallsAt f.last slots q new at
+      go (inl g) = subst (λ x. FallsAt f.last slots x new at) (ap (λ x. x + 1) first ∙ sym g.1)
+          (subst (λ y. FallsAt f.last slots (f.first + 1) y at) (sym g.2) (falls_next slots at f m.n has g.0 m.number))
+      go (inr g) = subst (λ x. FallsAt f.last slots x new at) (ap (λ x. x + 1) place ∙ sym g.0)
+          (subst (λ y. FallsAt f.last slots (f.last + 1) y at) (sym g.1) (falls_last slots at f has))
 
   -- ---- all others
 
   -- the instruction begins or ends turns of a loop
   abbrev is_turning : Instr → Bool
   is_turning (instr.For k lo hi e) = true
+  is_turning (instr.ForTo k lo x hi e) = true
   is_turning (instr.Next b) = true
   is_turning _ = false
 
+  -- a head does
+  head_turning : (n : ℕ) (i : Instr) (l : Loop) → loop_head n i ≡ Some l → is_turning i ≡ true
+  head_turning n (instr.For k lo hi e) l h = refl
+  head_turning n (instr.ForTo k lo x hi e) l h = refl
+  head_turning n _ l h = absurd (none-some l h)
+
   -- any other stands at no end of a loop
   off_first : (i : Instr) (p : ℕ) → slice_get u.code p ≡ Some i → is_turning i ≡ false → (l : Loop) → Has (loops u) l → p ≡ l.first → ⊥
-  off_first i p found other l h e = true≢false (ap is_turning (first_is l h i (ap (slice_get u.code) (sym e) ∙ found)) ∙ other)
+  off_first i p found other l h e = true≢false
+      (sym (head_turning l.first (a.is l h).head l (a.is l h).is) ∙ ap is_turning (first_is l h i (ap (slice_get u.code) (sym e) ∙ found)) ∙ other)
 
   off_last : (i : Instr) (p : ℕ) → slice_get u.code p ≡ Some i → is_turning i ≡ false → (l : Loop) → Has (loops u) l → p ≡ l.last → ⊥
   off_last i p found other l h e = true≢false (ap is_turning (last_is l h i (ap (slice_get u.code) (sym e) ∙ found)) ∙ other)
@@ -490,20 +513,29 @@ module _ (u : UnitValue) (a : AreLoops u) where
     same = λ r. ap (turns_to l.hi) (kept l.slot (a.unwritten i p l found h (within_same p l (off_last i p found other l h) ∙ r)));
   })
 
-  -- to a target
-  falls_to : (i : Instr) (p t : ℕ) (slots : List Value) (at : ℕ) → slice_get u.code p ≡ Some i → is_turning i ≡ false → target i ≡ Some t → FallsAt p slots t slots at
-  falls_to i p t slots at found other aim = (let k = a.kept i p t found aim in falls_ahead slots slots p t at k.ahead (λ l h. record {
-    round = sym (within_same p l (off_last i p found other l h)) ∙ k.same l h;
+  -- to a target, from where no loop ends
+  falls_to : (i : Instr) (p t : ℕ) (slots : List Value) (at : ℕ) → slice_get u.code p ≡ Some i → ((l : Loop) → Has (loops u) l → p ≡ l.last → ⊥)
+      → target i ≡ Some t → FallsAt p slots t slots at
+  falls_to i p t slots at found off aim = (let k = a.kept i p t found aim in falls_ahead slots slots p t at k.ahead (λ l h. record {
+    round = sym (within_same p l (off l h)) ∙ k.same l h;
     same = λ r. refl;
   }))
 
+  -- into a loop, or past it
+  falls_forto : (k : ℕ) (lo : ℤ) (x : ℕ) (hi : ℤ) (e p : ℕ) (slots : List Value) (q : ℕ) (new : List Value) (at : ℕ) → slice_get u.code p ≡ Some (instr.ForTo k lo x hi e)
+      → Goes u (instr.ForTo k lo x hi e) p slots q new → FallsAt p slots q new at
+  falls_forto k lo x hi e p slots q new at found (inl m) = rw (m.0, m.2) (falls_for slots at _ (a.begun p (instr.ForTo k lo x hi e) _ found refl).0 m.1)
+  falls_forto k lo x hi e p slots q new at found (inr m) = rw (m.0, m.1)
+      (falls_to (instr.ForTo k lo x hi e) p (e + 1) slots at found (λ l h. head_off _ (a.begun p (instr.ForTo k lo x hi e) _ found refl).0 l h) refl)
+
   -- how often each instruction is left, after a step
   falls : (i : Instr) (p : ℕ) (slots : List Value) (q : ℕ) (new : List Value) (at : ℕ) → slice_get u.code p ≡ Some i → Goes u i p slots q new → FallsAt p slots q new at
-  falls (instr.For k lo hi e) p slots q new at found m = rw (m.0, m.2) (falls_for slots at (loop_of p k lo hi e) (a.begun p k e lo hi found).0 m.1)
+  falls (instr.For k lo hi e) p slots q new at found m = rw (m.0, m.2) (falls_for slots at _ (a.begun p (instr.For k lo hi e) _ found refl).0 m.1)
+  falls (instr.ForTo k lo x hi e) p slots q new at found m = falls_forto k lo x hi e p slots q new at found m
   falls (instr.Next b) p slots q new at found m = falls_turned b p slots q new at found m
   falls (instr.Unless op x y t) p slots q new at found (inl e, same) = rw (e, same) (falls_on (instr.Unless op x y t) p slots slots at found refl (λ s h. refl))
-  falls (instr.Unless op x y t) p slots q new at found (inr e, same) = rw (e, same) (falls_to (instr.Unless op x y t) p t slots at found refl refl)
-  falls (instr.Jump t) p slots q new at found m = rw (m.0, m.1) (falls_to (instr.Jump t) p t slots at found refl refl)
+  falls (instr.Unless op x y t) p slots q new at found (inr e, same) = rw (e, same) (falls_to (instr.Unless op x y t) p t slots at found (off_last (instr.Unless op x y t) p found refl) refl)
+  falls (instr.Jump t) p slots q new at found m = rw (m.0, m.1) (falls_to (instr.Jump t) p t slots at found (off_last (instr.Jump t) p found refl) refl)
   falls instr.Ret p slots q new at found m = absurd m
   falls i p slots q new at found m = rw (m.0) (falls_on i p slots new at found refl m.1)
 

@@ -1,10 +1,12 @@
 -- Each instruction of a running activity that nothing keeps back is a step, which keeps the invariant.
-use Rattle.std.proofs.Common.{◌≡◌, ℕ, suc, ◌+◌, ◌<◌, Bool, true, false, cond, ◌==◌, List, [], ◌∷◌, ◌++◌, length, set, ℤ, pos, ◌+ℤ◌, int_lt, Some, None, refl, sym, ap, ◌∙◌, subst, arith, ◌⊎◌, ◌≤◌, not, ltb-true, inl, inr}
+use Rattle.std.proofs.Common.{◌≡◌, ℕ, suc, ◌+◌, ◌<◌, Bool, true, false, cond, ◌==◌, List, [], ◌∷◌, ◌++◌, length, set, ℤ, pos, ◌+ℤ◌, int_lt, int_le, Some, None, Option, refl, sym, ap, ◌∙◌, subst, arith, ◌⊎◌, ◌≤◌, not, ltb-true, inl, inr}
 use Rattle.std.specs.Prelude.{slice_get, nat_lt}
-use Rattle.std.specs.Int.{w64, int_wrapping_add, int_wrapping_sub, int_wrapping_mul}
+use Rattle.std.specs.Int.{w64, int_min, int_wrapping_add, int_wrapping_sub, int_wrapping_mul}
 use Rattle.std.specs.Option.{option_map_or, option_and_then}
-use Rattle.std.proofs.lemmas.Option.{slice_get_within, same_Some}
-use Rattle.std.proofs.lemmas.Bool.{cases_eq, false≢true, and_from}
+use Rattle.std.proofs.lemmas.Int.{ints, clamps}
+use Rattle.xk_types.proofs.Shape.Loops.{head_names, head_limit}
+use Rattle.std.proofs.lemmas.Option.{slice_get_within, same_Some, none-some}
+use Rattle.std.proofs.lemmas.Bool.{cases_eq, false≢true, and_from, eq-eqb}
 use Rattle.xk_types.specs.declared.instr.Instr.{Instr}
 use Rattle.xk_types.specs.declared.instr.Instr.TheVariants as instr
 use Rattle.xk_types.specs.declared.names.Value.{Value}
@@ -16,16 +18,16 @@ use Rattle.xk_types.specs.declared.names.Standing.TheVariants as standing
 use Rattle.xk_types.specs.declared.rules.Kind.{Kind}
 use Rattle.xk_types.specs.declared.rules.Kind.TheVariants as kind
 use Rattle.xk_types.specs.declared.instr.Comparison.{Comparison}
-use Rattle.xk_types.specs.Code.{ModuleValue, compares, params_of, unit_run, UnitValue, is_method, is_body}
+use Rattle.xk_types.specs.Code.{ModuleValue, compares, params_of, unit_run, UnitValue, is_method, is_body, Loop, loop_head}
 use Rattle.xk_types.specs.World.{Activity, World, standing_of, instruction_at, Frame, frame_with, is_ended}
 use Rattle.xk_types.specs.Accepted.{IsAccepted}
 use Rattle.xk_types.specs.declared.names.Event.{Event}
 use Rattle.xk_types.specs.declared.names.Event.TheVariants as event
-use Rattle.xk_types.specs.Step.{Outcome, done, made, onward, going, again, with_slots, arrived, ended, none, only, all, resumed, dropped, number_in, clock_in, put_in, computing, turning, child, is_given, spawned, carried_out, run_at, new_clock, called, back_in, returning, awaits, innermost, closing}
+use Rattle.xk_types.specs.Step.{Outcome, done, made, onward, going, again, with_slots, arrived, ended, none, only, all, resumed, dropped, number_in, clock_in, put_in, computing, no_further, beginning, turning, child, is_given, spawned, carried_out, run_at, new_clock, called, back_in, returning, awaits, innermost, closing}
 use Rattle.xk_types.specs.Order.{Has}
 use Rattle.xk_types.specs.Shape.{slots_named, slot_written, cell_named, is_ret}
 use Rattle.xk_types.specs.Blocks.{takes_clock, block_at, homes, is_here}
-use Rattle.xk_types.specs.Walk.{after, reads, may_read, loop_slot, writes, gives, becomes, MayBecome, successors, across, is_lent, is_own, overwritten, let_go, IsVisited}
+use Rattle.xk_types.specs.Walk.{After, To, Refused, after, after_to, turns_round, stays, reads, may_read, writes, gives, becomes, MayBecome, successors, across, is_lent, is_own, overwritten, let_go, IsVisited}
 use Rattle.xk_types.specs.Bound.{steps_weight, clocks_weight}
 use Rattle.xk_laws.proofs.Invariant.{Each, Stands, IsActivitySound, IsSound, stands_on, looks, kind_by, kind_of, is_held, NamesNone, NamedIn, once_past, Waits, IsWaiting, AreWaiting, Names, Expects}
 use Rattle.xk_types.proofs.Lists.{get_inside, get-set_other}
@@ -36,7 +38,7 @@ use Rattle.xk_laws.proofs.SlotKinds.Table.{reads_row, writes_row, uses_row, give
 use Rattle.xk_laws.proofs.Clocks.Standings.{stands_on-push_old, stands_on-push_new, new_same}
 use Rattle.xk_laws.proofs.Bound.Measure.{GoesOn, IsTaken, paid_on, paid_arrive, paid_end, paid_start, owed_first, IsPaid, paid_call, paid_back}
 use Rattle.xk_laws.proofs.NeverWrong.Changes.{IsNext, StandsNear, done_sound, made_sound, begun_sound, next_sound}
-use Rattle.xk_laws.proofs.NeverWrong.Running.{IsAt, IsWrite, slot_there, row_allowed, next_inside, leaving, leaving_to, writing, writing_to, using, next_visited}
+use Rattle.xk_laws.proofs.NeverWrong.Running.{IsAt, IsWrite, way_on, slot_there, row_allowed, next_inside, leaving, leaving_to, writing, writing_to, using, next_visited}
 use Rattle.xk_laws.proofs.Shape.Units.{IsFit, IsRun, unit_fits, start_fits, call_fits, cell_fits}
 use Rattle.xk_laws.proofs.NeverWrong.Given.{AreGiven, child_sound, Begun, frame_begun, across_waits}
 use Rattle.xk_laws.proofs.NeverWrong.Operands.{Moves, cell_moves, stored_moves, put_moves, number_moves, clock_moves, arguments_move}
@@ -114,6 +116,27 @@ only_apart k j f h = cases (j == k)
     cases true = h
     cases false = refl
 
+-- ---- bounds of loops
+
+same_le : (n : ℤ) → int_le n n ≡ true
+same_le n = grind (arith, ints)
+
+min_le : (n hi : ℤ) → int_le (int_min n hi) hi ≡ true
+min_le n hi = grind (arith, ints, clamps)
+
+less_le : (n top hi : ℤ) → int_lt n top ≡ true → int_le top hi ≡ true → int_lt n hi ≡ true
+less_le n top hi h g = grind (arith, ints)
+
+-- where it may read a slot
+may_row : (o : Option ℕ) (s : ℕ) (k : Kind) (go : After) → Allowed (may_read o s k go) → ((x : ℕ) → o ≡ Some x → s ≡ x → k ≡ kind.Number) × (may_read o s k go ≡ go)
+may_row None s k go h = ((λ x e q. absurd (none-some x e)), refl)
+may_row (Some x) s k go h = let r = reads_row x s k go h in ((λ y e q. r.0 (q ∙ sym (same_Some x y e))), r.1)
+
+-- where a row doesn't refuse, what it passes over may stay
+stays_row : (row : After) (k : Kind) → Allowed row → MayBecome (stays k row) k
+stays_row (To ks) k h = inl refl
+stays_row (Refused r) k h = absurd (h r refl)
+
 -- ---- instructions
 
 module _ (m : ModuleValue) (ok : IsAccepted m) (w : World) (a : ℕ) (was : Activity) (sound : IsSound m w) (found : slice_get w.activities a ≡ Some was)
@@ -167,10 +190,10 @@ module _ (m : ModuleValue) (ok : IsAccepted m) (w : World) (a : ℕ) (was : Acti
   named_inside i here x named = (at_it i here).fit.slots i was.frame.place x here named
 
   -- a number that is written to slot d fits in
-  number_written : (i : Instr) (d : ℕ) (n : ℤ) → ((s : ℕ) (k : Kind) → Allowed (after m me.u i s k) → IsWritten (after m me.u i s k) d kind.Number s k)
+  number_written : (i : Instr) (to d : ℕ) (n : ℤ) → ((s : ℕ) (k : Kind) → Allowed (after m me.u i s k) → IsWritten (after_to m me.u i to s k) d kind.Number s k)
       → (c : IsAt m (stands_on w.clocks a) (length w.clocks) w.steps was me.u i)
-      → IsWrite m (stands_on w.clocks a) (length w.clocks) w.steps was me.u i c d (value.Number n) kind.Number (looks w.clocks a) (length w.clocks)
-  number_written i d n rows c = record {
+      → IsWrite m (stands_on w.clocks a) (length w.clocks) w.steps was me.u i c to d (value.Number n) kind.Number (looks w.clocks a) (length w.clocks)
+  number_written i to d n rows c = record {
     rows = rows;
     becomes = refl;
     more = omega arith;
@@ -192,7 +215,8 @@ module _ (m : ModuleValue) (ok : IsAccepted m) (w : World) (a : ℕ) (was : Acti
       put_moves m (slice_get was.frame.slots d) old.0 was d (value.Number n) (λ next. done w a next none e) old.1
       (local_moves i here (onward (with_slots was (set was.frame.slots d (value.Number n)))) one zero' alone refl refl goes
       (writing m (stands_on w.clocks a) (length w.clocks) w.steps was me.u i c d old.0 (value.Number n) kind.Number (looks w.clocks a) (length w.clocks) old.1 other on
-      (number_written i d n rows c)) e)
+      (number_written i (was.frame.place + 1) d n
+      (λ s k h. subst (λ r. IsWritten r d kind.Number s k) (way_on m (stands_on w.clocks a) (length w.clocks) w.steps was me.u i c s k) (rows s k h)) c)) e)
 
   -- all slots but the one written stay
   others_stay : (d : ℕ) (v : Value) (s : ℕ) → (Some d ≡ Some s → ⊥) → slice_get (set was.frame.slots d v) s ≡ slice_get was.frame.slots s
@@ -227,7 +251,7 @@ module _ (m : ModuleValue) (ok : IsAccepted m) (w : World) (a : ℕ) (was : Acti
 
   -- an instruction that changes nothing, and goes to this place
   only_going : (i : Instr) → Here i → (to : ℕ) → Has (successors i was.frame.place) to → to < length me.u.code → steps_weight i ≡ 1 → clocks_weight i ≡ 0 → unit_run i ≡ None
-      → ((s : ℕ) (k : Kind) → Allowed (after m me.u i s k) → MayBecome (after m me.u i s k) k) → GoesOn me.u i was (going was to)
+      → ((s : ℕ) (k : Kind) → Allowed (after m me.u i s k) → MayBecome (after_to m me.u i to s k) k) → GoesOn me.u i was (going was to)
       → Moves m (done w a (going was to) none event.Local)
   only_going i here to on inside one zero' alone rows goes = local_moves i here (going was to) one zero' alone refl refl goes
       (leaving_to m (stands_on w.clocks a) (length w.clocks) w.steps was me.u i (at_it i here) to on inside rows) event.Local
@@ -262,11 +286,41 @@ module _ (m : ModuleValue) (ok : IsAccepted m) (w : World) (a : ℕ) (was : Acti
       put_number event.Local i here k lo (inl refl) refl (inl refl) refl refl refl (writes_row k kind.Number)
       (refl, (let h = named_inside i here k (inl refl) in omega (arith, me.frame.slots)), refl)
 
+  -- a loop that goes no further up than a slot's number, which the row reads, goes no further up than its bound
+  limited : (i : Instr) → Here i → (o : Option ℕ) → ((x : ℕ) → o ≡ Some x → x < me.u.slots) → ((x : ℕ) → o ≡ Some x → (k : Kind) → Allowed (after m me.u i x k) → k ≡ kind.Number)
+      → (hi : ℤ) (go : ℤ → Outcome) → ((top : ℤ) → int_le top hi ≡ true → Moves m (go top)) → Moves m (no_further was o hi go)
+  limited i here None inside reads_it hi go h = h hi (same_le hi)
+  limited i here (Some x) inside reads_it hi go h = is_number i here x (inside x refl) (reads_it x refl) (λ n. go (int_min n hi)) (λ n e. h (int_min n hi) (min_le n hi))
+
+  -- `forto`
+  forto_moves : (k : ℕ) (lo : ℤ) (x : ℕ) (hi : ℤ) (e : ℕ) → Here (instr.ForTo k lo x hi e) → Moves m (carried_out m w a was (instr.ForTo k lo x hi e))
+  forto_moves k lo x hi e here = limited i here (Some x)
+      (λ y q. subst (λ n. n < me.u.slots) (same_Some x y q) (named_inside i here x (inr (inl refl))))
+      (λ y q kd h. reads y kd (same_Some x y q) h) hi (beginning w a was k lo (e + 1)) (λ top le. cases (int_le lo top))
+    where
+      i : Instr
+      i = instr.ForTo k lo x hi e
+
+      reads : (y : ℕ) (kd : Kind) → x ≡ y → Allowed (after m me.u i y kd) → kd ≡ kind.Number
+      reads y kd q h = (copy_parts k x y kd h).0 (sym q)
+
+      past : (s : ℕ) (kd : Kind) → Allowed (after m me.u i s kd) → MayBecome (after_to m me.u i (e + 1) s kd) kd
+      past s kd h = rw (eq-eqb (e + 1) (e + 1) refl) (stays_row (after m me.u i s kd) kd h)
+
+      cases : (b : Bool) → Moves m (cond b (put_in (slice_get was.frame.slots k) was k (value.Number lo) (λ next. done w a next none event.Local))
+          (done w a (going was (e + 1)) none event.Local))
+      cases true = put_number event.Local i here k lo (inl refl) refl (inl refl) refl refl refl (λ s kd h. (copy_parts k x s kd h).1)
+          (inl (refl, (let h = named_inside i here k (inl refl) in omega (arith, me.frame.slots)), refl))
+      cases false = only_going i here (e + 1) (inr (inl refl)) ((at_it i here).fit.loops.kept i was.frame.place (e + 1) here refl).inside refl refl refl past (inr (refl, refl))
+
   -- `next`
   next_moves : (b : ℕ) → Here (instr.Next b) → Moves m (carried_out m w a was (instr.Next b))
-  next_moves b here = subst (λ o. Moves m (turning w a was b o)) (sym (ap (option_and_then (λ unit. slice_get unit.code b)) me.unit ∙ begins))
-      (is_number i here k (fit.slots (instr.For k lo hi at) b k begins (inl refl)) (λ kd h. (reads_row k k kd (becomes kd) (subst Allowed (row k kd) h)).0 refl) _
-      (λ n holds. cases n holds (int_lt n hi) refl))
+  next_moves b here = subst (λ o. Moves m (turning w a was b o))
+      (sym (ap (λ o. option_and_then (loop_head b) (option_and_then (λ unit. slice_get unit.code b) o)) me.unit ∙ head))
+      (is_number i here k (fit.slots loop.head b k loop.here (head_names b loop.head l loop.is))
+      (λ kd h. (reads_row k k kd (may_read l.limit k kd (becomes kd)) (subst Allowed (row k kd) h)).0 refl) _
+      (λ n holds. limited i here l.limit (λ x q. fit.slots loop.head b x loop.here (head_limit b loop.head l x loop.is q))
+      (λ x q kd h. (may_row l.limit x kd (becomes kd) (inner x kd h)).0 x q refl) l.hi _ (λ top le. cases n holds top le (int_lt n top) refl)))
     where
       i : Instr
       i = instr.Next b
@@ -280,48 +334,49 @@ module _ (m : ModuleValue) (ok : IsAccepted m) (w : World) (a : ℕ) (was : Acti
       loop : IsEnd me.u b at
       loop = fit.loops.ended b at here
 
+      l : Loop
+      l = loop.l
+
       k : ℕ
-      k = loop.k
+      k = l.slot
 
-      lo : ℤ
-      lo = loop.lo
-
-      hi : ℤ
-      hi = loop.hi
-
-      begins : slice_get me.u.code b ≡ Some (instr.For k lo hi at)
-      begins = loop.for
+      head : option_and_then (loop_head b) (slice_get me.u.code b) ≡ Some l
+      head = ap (option_and_then (loop_head b)) loop.here ∙ loop.is
 
       turn : (n : ℤ) (q : ℕ) (new : List Value) → slice_get was.frame.slots k ≡ Some (value.Number n)
-          → ((int_lt n hi ≡ true) × (q ≡ b + 1) × (new ≡ set was.frame.slots k (value.Number (n +ℤ pos 1)))) ⊎ ((int_lt n hi ≡ false) × (q ≡ at + 1) × (new ≡ was.frame.slots))
+          → ((int_lt n l.hi ≡ true) × (q ≡ b + 1) × (new ≡ set was.frame.slots k (value.Number (n +ℤ pos 1)))) ⊎ ((q ≡ at + 1) × (new ≡ was.frame.slots))
           → IsTurn me.u b at was.frame.slots q new
-      turn n q new holds goes = record { k = k; e = at; lo = lo; hi = hi; n = n; for = begins; number = holds; goes = goes }
+      turn n q new holds goes = record { l = l; head = loop.head; here = loop.here; is = loop.is; n = n; number = holds; goes = goes }
 
-      row : (s : ℕ) (kd : Kind) → after m me.u i s kd ≡ reads k s kd (becomes kd)
-      row s kd = ap (λ o. may_read (loop_slot o) s kd (becomes kd)) begins
+      row : (s : ℕ) (kd : Kind) → after m me.u i s kd ≡ reads k s kd (may_read l.limit s kd (becomes kd))
+      row s kd = ap (λ o. turns_round o s kd (becomes kd)) head
+
+      -- what the row of its own slot leaves
+      inner : (s : ℕ) (kd : Kind) → Allowed (after m me.u i s kd) → Allowed (may_read l.limit s kd (becomes kd))
+      inner s kd h = subst Allowed (reads_row k s kd (may_read l.limit s kd (becomes kd)) (subst Allowed (row s kd) h)).1 (subst Allowed (row s kd) h)
 
       rows : (s : ℕ) (kd : Kind) → Allowed (after m me.u i s kd) → after m me.u i s kd ≡ becomes kd
-      rows s kd h = row s kd ∙ (reads_row k s kd (becomes kd) (subst Allowed (row s kd) h)).1
+      rows s kd h = row s kd ∙ (reads_row k s kd (may_read l.limit s kd (becomes kd)) (subst Allowed (row s kd) h)).1 ∙ (may_row l.limit s kd (becomes kd) (inner s kd h)).1
 
       written : (s : ℕ) (kd : Kind) → Allowed (after m me.u i s kd) → IsWritten (after m me.u i s kd) k kind.Number s kd
       written s kd h =
-          let number : s ≡ k → kd ≡ kind.Number = (reads_row k s kd (becomes kd) (subst Allowed (row s kd) h)).0 in
+          let number : s ≡ k → kd ≡ kind.Number = (reads_row k s kd (may_read l.limit s kd (becomes kd)) (subst Allowed (row s kd) h)).0 in
           record {
             here = λ e. (ap is_held (number e), subst (λ r. MayBecome r kind.Number) (sym (rows s kd h)) (inl (number e)));
             other = λ differs. subst (λ r. MayBecome r kd) (sym (rows s kd h)) (inl refl);
           }
 
-      cases : (n : ℤ) → slice_get was.frame.slots k ≡ Some (value.Number n) → (x : Bool) → int_lt n hi ≡ x
+      cases : (n : ℤ) → slice_get was.frame.slots k ≡ Some (value.Number n) → (top : ℤ) → int_le top l.hi ≡ true → (x : Bool) → int_lt n top ≡ x
           → Moves m (done w a (cond x (again was b k n) (onward was)) none event.Local)
-      cases n holds true less = local_moves i here (again was b k n) refl refl refl refl refl
-          (turn n (b + 1) (set was.frame.slots k (value.Number (n +ℤ pos 1))) holds (inl (less, refl, refl)))
+      cases n holds top le true less = local_moves i here (again was b k n) refl refl refl refl refl
+          (turn n (b + 1) (set was.frame.slots k (value.Number (n +ℤ pos 1))) holds (inl (less_le n top l.hi less le, refl, refl)))
           (writing_to m (stands_on w.clocks a) (length w.clocks) w.steps was me.u i (at_it i here) k (value.Number n) (value.Number (n +ℤ pos 1))
           kind.Number (looks w.clocks a) (length w.clocks) (b + 1) holds
-          (inr (inl refl)) (let h = slice_get_within me.u.code at i here in let g = loop.ahead in omega arith) (number_written i k (n +ℤ pos 1) written (at_it i here)))
+          (inr (inl refl)) (let h = slice_get_within me.u.code at i here in let g = loop.ahead in omega arith) (number_written i (b + 1) k (n +ℤ pos 1) written (at_it i here)))
           event.Local
-      cases n holds false more = only_going i here (at + 1) (inl refl)
+      cases n holds top le false more = only_going i here (at + 1) (inl refl)
           (next_inside m (stands_on w.clocks a) (length w.clocks) w.steps was me.u i (at_it i here) refl) refl refl refl
-          (λ s kd h. subst (λ r. MayBecome r kd) (sym (rows s kd h)) (inl refl)) (turn n (at + 1) was.frame.slots holds (inr (more, refl, refl)))
+          (λ s kd h. subst (λ r. MayBecome r kd) (sym (rows s kd h)) (inl refl)) (turn n (at + 1) was.frame.slots holds (inr (refl, refl)))
 
   -- a shared number that it names is there
   cell_there : (i : Instr) → Here i → (s : ℕ) → cell_named i ≡ Some s → (n : ℤ) × (slice_get w.cells s ≡ Some n)
@@ -419,7 +474,7 @@ module _ (m : ModuleValue) (ok : IsAccepted m) (w : World) (a : ℕ) (was : Acti
       let next = writing m (stands_on w.clocks a) count w.steps was me.u i c d old.0 (value.Clock count) kind.Live (looks (w.clocks ++ clock ∷ []) a)
       (count + 1) old.1 refl (inl refl)
       (record {
-        rows = writes_row d kind.Live;
+        rows = λ s k h. subst (λ r. IsWritten r d kind.Live s k) (way_on m (stands_on w.clocks a) count w.steps was me.u i c s k) (writes_row d kind.Live s k h);
         becomes = ap kind_by (stands_on-push_new w.clocks clock a ∙ new_same (length w.activities) a (slice_get_within w.activities a was found));
         more = omega arith;
         same = λ k h. ap kind_by (stands_on-push_old w.clocks clock a k (λ e. absurd (omega arith)));
@@ -703,6 +758,7 @@ module _ (m : ModuleValue) (ok : IsAccepted m) (w : World) (a : ℕ) (was : Acti
   instruction_moves (instr.Unless op x y t) here free = unless_moves op x y t here
   instruction_moves (instr.Jump t) here free = jump_moves t here
   instruction_moves (instr.For k lo hi e) here free = for_moves k lo hi e here
+  instruction_moves (instr.ForTo k lo x hi e) here free = forto_moves k lo x hi e here
   instruction_moves (instr.Next b) here free = next_moves b here
   instruction_moves (instr.Get d s) here free = get_moves d s here
   instruction_moves (instr.Put s x) here free = store_moves s x here

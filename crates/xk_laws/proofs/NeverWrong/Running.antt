@@ -1,9 +1,10 @@
 -- What an instruction leaves of the activity that carries it out: its slots, their kinds and the names in them.
 use Rattle.std.proofs.Common.{◌≡◌, ℕ, ◌+◌, ◌<◌, ◌≤◌, true, false, List, length, set, Some, refl, sym, ap, ◌∙◌, subst, arith, length-set, ◌⊎◌, inl, inr}
 use Rattle.std.specs.Prelude.{slice_get}
-use Rattle.std.proofs.lemmas.Bool.{cases_eq, cases_lt, false≢true}
+use Rattle.std.proofs.lemmas.Bool.{cases_eq, cases_lt, false≢true, ne_eqb}
 use Rattle.std.proofs.lemmas.Option.{slice_get_within, same_Some}
 use Rattle.xk_types.specs.declared.instr.Instr.{Instr}
+use Rattle.xk_types.specs.declared.instr.Instr.TheVariants as instr
 use Rattle.xk_types.specs.declared.names.Value.{Value}
 use Rattle.xk_types.specs.declared.names.Value.TheVariants as value
 use Rattle.xk_types.specs.declared.names.Status.TheVariants as status
@@ -14,7 +15,7 @@ use Rattle.xk_types.specs.Order.{Has}
 use Rattle.xk_types.specs.World.{Activity}
 use Rattle.xk_types.specs.Step.{onward, going, with_slots, only}
 use Rattle.xk_types.specs.Shape.{slots_named, is_ret}
-use Rattle.xk_types.specs.Walk.{MayBecome, IsVisited, after, successors}
+use Rattle.xk_types.specs.Walk.{MayBecome, IsVisited, after, after_to, passes_over, successors}
 use Rattle.xk_types.specs.Accepted.{IsAccepted}
 use Rattle.xk_laws.proofs.Invariant.{Each, Expects, Names, NamesNone, NamedIn, once_past, IsActivitySound, kind_by, kind_of, is_held}
 use Rattle.xk_laws.proofs.NeverWrong.Callers.{IsMild, names_known, still_waiting}
@@ -66,15 +67,28 @@ module _ (m : ModuleValue) (stands : ℕ → Standing) (clocks now : ℕ) (was :
 
   -- what a slot becomes is visited at a next place
   pub next_visited : (s : ℕ) (v : Value) (new : Kind) (to : ℕ) → Has (successors i was.frame.place) to → slice_get was.frame.slots s ≡ Some v
-      → MayBecome (after m u i s (kind_of look v)) new → IsVisited m u s (record { at = to; kind = new })
+      → MayBecome (after_to m u i to s (kind_of look v)) new → IsVisited m u s (record { at = to; kind = new })
   next_visited s v new to on at may = visited_next m u s i was.frame.place c.here to (kind_of look v) new on may (visited_here s v at)
 
   -- ---- on to the next instruction, with slots that came of the old ones
 
+  -- an instruction that goes to the next place passes over nothing
+  pub on_next : passes_over i (was.frame.place + 1) ≡ false
+  on_next = by i c.here
+    where
+      by : (j : Instr) → slice_get u.code was.frame.place ≡ Some j → passes_over j (was.frame.place + 1) ≡ false
+      by (instr.ForTo k lo x hi e) h = ne_eqb (was.frame.place + 1) (e + 1)
+          (λ q. (let g = c.fit.loops.begun was.frame.place (instr.ForTo k lo x hi e) _ h refl in let d = c.fit.loops.ahead _ g.0 in absurd (omega arith)))
+      by _ h = refl
+
+  -- so that all of its row holds on the way there
+  pub way_on : (s : ℕ) (k : Kind) → after m u i s k ≡ after_to m u i (was.frame.place + 1) s k
+  way_on s k = rw on_next refl
+
   -- a slot after the step came of one before it, by the table
-  abbrev Turns : (ℕ → Kind) → List Value → Type 0
-  Turns new slots = (s : ℕ) (v : Value) → slice_get slots s ≡ Some v
-      → (old : Value) × (slice_get was.frame.slots s ≡ Some old) × MayBecome (after m u i s (kind_of look old)) (kind_of new v)
+  abbrev Turns : ℕ → (ℕ → Kind) → List Value → Type 0
+  Turns to new slots = (s : ℕ) (v : Value) → slice_get slots s ≡ Some v
+      → (old : Value) × (slice_get was.frame.slots s ≡ Some old) × MayBecome (after_to m u i to s (kind_of look old)) (kind_of new v)
 
   -- names in slots after the step
   record AreNames (new : ℕ → Kind) (count : ℕ) (slots : List Value) : Type 0 where
@@ -88,7 +102,7 @@ module _ (m : ModuleValue) (stands : ℕ → Standing) (clocks now : ℕ) (was :
 
   -- an instruction that goes on to this place
   straight : (new : ℕ → Kind) (count : ℕ) (slots : List Value) (to : ℕ) → Has (successors i was.frame.place) to → to < length u.code
-      → AreNames new count slots → Turns new slots → IsNext m u new count (now + 1) was (going (with_slots was slots) to)
+      → AreNames new count slots → Turns to new slots → IsNext m u new count (now + 1) was (going (with_slots was slots) to)
   straight new count slots to on inside names turns = record {
     unit = refl;
     callers = refl;
@@ -110,7 +124,7 @@ module _ (m : ModuleValue) (stands : ℕ → Standing) (clocks now : ℕ) (was :
   }
 
   -- an instruction that leaves each kind as it is, and goes to this place
-  pub leaving_to : (to : ℕ) → Has (successors i was.frame.place) to → to < length u.code → ((s : ℕ) (k : Kind) → Allowed (after m u i s k) → MayBecome (after m u i s k) k)
+  pub leaving_to : (to : ℕ) → Has (successors i was.frame.place) to → to < length u.code → ((s : ℕ) (k : Kind) → Allowed (after m u i s k) → MayBecome (after_to m u i to s k) k)
       → IsNext m u look clocks (now + 1) was (going was to)
   leaving_to to on inside rows = straight look clocks was.frame.slots to on inside
       (record { more = omega arith; width = refl; known = c.me.frame.known; apart = c.me.frame.apart; held = c.me.held; own = λ t k named. inl named; mild = λ k. inl refl })
@@ -123,7 +137,7 @@ module _ (m : ModuleValue) (stands : ℕ → Standing) (clocks now : ℕ) (was :
   -- one that goes to the next
   pub leaving : is_ret i ≡ false → Has (successors i was.frame.place) (was.frame.place + 1) → ((s : ℕ) (k : Kind) → Allowed (after m u i s k) → MayBecome (after m u i s k) k)
       → IsNext m u look clocks (now + 1) was (onward was)
-  leaving other on rows = leaving_to (was.frame.place + 1) on (next_inside other) rows
+  leaving other on rows = leaving_to (was.frame.place + 1) on (next_inside other) (λ s k h. subst (λ r. MayBecome r k) (way_on s k) (rows s k h))
 
   -- what doesn't change kinds of known clocks changes no slot's
   kind_same : (new : ℕ → Kind) → (s : ℕ) (v : Value) → slice_get was.frame.slots s ≡ Some v
@@ -142,9 +156,9 @@ module _ (m : ModuleValue) (stands : ℕ → Standing) (clocks now : ℕ) (was :
   written : (d : ℕ) (old v : Value) → slice_get was.frame.slots d ≡ Some old → Each (Written d v) (set was.frame.slots d v)
   written d old v at = each_set (Written d v) was.frame.slots d old v at (inl (refl, refl)) (λ s x differs g. inr (differs, g))
 
-  -- what a write asks of the value that is written, and of the kinds of clocks' names after it
-  pub record IsWrite (d : ℕ) (v : Value) (kd : Kind) (new : ℕ → Kind) (count : ℕ) : Type 0 where
-    pub rows : (s : ℕ) (k : Kind) → Allowed (after m u i s k) → IsWritten (after m u i s k) d kd s k
+  -- what a write asks of the value that is written, and of the kinds of clocks' names after it, on the way to a place
+  pub record IsWrite (to d : ℕ) (v : Value) (kd : Kind) (new : ℕ → Kind) (count : ℕ) : Type 0 where
+    pub rows : (s : ℕ) (k : Kind) → Allowed (after m u i s k) → IsWritten (after_to m u i to s k) d kd s k
     pub becomes : kind_of new v ≡ kd
     pub more : clocks ≤ count
     pub same : (k : ℕ) → k < clocks → new k ≡ look k
@@ -163,7 +177,7 @@ module _ (m : ModuleValue) (stands : ℕ → Standing) (clocks now : ℕ) (was :
   -- an instruction that writes slot d, and goes to this place
   pub writing_to : (d : ℕ) (old v : Value) (kd : Kind) (new : ℕ → Kind) (count : ℕ) (to : ℕ) → slice_get was.frame.slots d ≡ Some old
       → Has (successors i was.frame.place) to → to < length u.code
-      → IsWrite d v kd new count → IsNext m u new count (now + 1) was (going (with_slots was (set was.frame.slots d v)) to)
+      → IsWrite to d v kd new count → IsNext m u new count (now + 1) was (going (with_slots was (set was.frame.slots d v)) to)
   writing_to d old v kd new count to at on inside wr = straight new count (set was.frame.slots d v) to on inside
       (record {
         more = wr.more;
@@ -183,7 +197,7 @@ module _ (m : ModuleValue) (stands : ℕ → Standing) (clocks now : ℕ) (was :
       known s k (inl p) = (wr.fresh k (sym p.1)).1
       known s k (inr p) = let h = c.me.frame.known s k p.1 in omega (arith, wr.more)
 
-      row : (s : ℕ) (x : Value) → slice_get was.frame.slots s ≡ Some x → IsWritten (after m u i s (kind_of look x)) d kd s (kind_of look x)
+      row : (s : ℕ) (x : Value) → slice_get was.frame.slots s ≡ Some x → IsWritten (after_to m u i to s (kind_of look x)) d kd s (kind_of look x)
       row s x g = wr.rows s (kind_of look x) (row_allowed s x g)
 
       held : (k : ℕ) → (is_held (look k) ≡ true) ⊎ (v ≡ value.Clock k) → ((s : ℕ) × Names (set was.frame.slots d v) s k) ⊎ NamedIn was.callers k
@@ -203,21 +217,21 @@ module _ (m : ModuleValue) (stands : ℕ → Standing) (clocks now : ℕ) (was :
         | inr fresh ↦ inr (inr (inr (names_known m look was.status clocks was.frame was.callers c.me.waiting k fresh)))
       ]
 
-      turn : (s : ℕ) (x : Value) → Written d v s x → (was_x : Value) × (slice_get was.frame.slots s ≡ Some was_x) × MayBecome (after m u i s (kind_of look was_x)) (kind_of new x)
+      turn : (s : ℕ) (x : Value) → Written d v s x → (was_x : Value) × (slice_get was.frame.slots s ≡ Some was_x) × MayBecome (after_to m u i to s (kind_of look was_x)) (kind_of new x)
       turn s x (inl p) =
           let g : slice_get was.frame.slots s ≡ Some old = ap (slice_get was.frame.slots) p.0 ∙ at in
-          (old, g, subst (MayBecome (after m u i s (kind_of look old))) (sym (ap (kind_of new) p.1 ∙ wr.becomes)) ((row s old g).here p.0).1)
+          (old, g, subst (MayBecome (after_to m u i to s (kind_of look old))) (sym (ap (kind_of new) p.1 ∙ wr.becomes)) ((row s old g).here p.0).1)
       turn s x (inr p) = (
         x,
         p.1,
-        subst (MayBecome (after m u i s (kind_of look x)))
+        subst (MayBecome (after_to m u i to s (kind_of look x)))
             (sym (kind_same new s x p.1 (λ k named. wr.same k (c.me.frame.known s k named)))) ((row s x p.1).other p.0),
       )
 
   -- one that goes to the next
   pub writing : (d : ℕ) (old v : Value) (kd : Kind) (new : ℕ → Kind) (count : ℕ) → slice_get was.frame.slots d ≡ Some old → is_ret i ≡ false
       → Has (successors i was.frame.place) (was.frame.place + 1)
-      → IsWrite d v kd new count → IsNext m u new count (now + 1) was (onward (with_slots was (set was.frame.slots d v)))
+      → IsWrite (was.frame.place + 1) d v kd new count → IsNext m u new count (now + 1) was (onward (with_slots was (set was.frame.slots d v)))
   writing d old v kd new count at other on wr = writing_to d old v kd new count (was.frame.place + 1) at on (next_inside other) wr
 
   -- ---- a clock is used
@@ -258,15 +272,20 @@ module _ (m : ModuleValue) (stands : ℕ → Standing) (clocks now : ℕ) (was :
       ])
 
       turn : (s : ℕ) (v : Value) → slice_get was.frame.slots s ≡ Some v → (s ≡ x) ⊎ (s ≡ x → ⊥)
-          → (old : Value) × (slice_get was.frame.slots s ≡ Some old) × MayBecome (after m u i s (kind_of look old)) (kind_of new v)
+          → (old : Value) × (slice_get was.frame.slots s ≡ Some old) × MayBecome (after_to m u i (was.frame.place + 1) s (kind_of look old)) (kind_of new v)
       turn s v g (inl e) =
           let same : v ≡ value.Clock k = get_once was.frame.slots s v (value.Clock k) g (ap (slice_get was.frame.slots) e ∙ at) in
-          let held : is_held (look k) ≡ true = ((row x (value.Clock k) at).here refl).0 in
-          (v, g, subst (MayBecome (after m u i s (kind_of look v))) (sym (ap (kind_of new) same ∙ ap kind_by (only_here k f (stands k)) ∙ becomes held)) ((row s v g).here e).1)
+          let held : is_held (look k) ≡ true = ((row x (value.Clock k) at).here refl).0 in (
+            v,
+            g,
+            subst (MayBecome (after_to m u i (was.frame.place + 1) s (kind_of look v))) (sym (ap (kind_of new) same ∙ ap kind_by (only_here k f (stands k)) ∙ becomes held))
+                (subst (λ r. MayBecome r kd) (way_on s (kind_of look v)) ((row s v g).here e).1),
+          )
       turn s v g (inr differs) = (
         v,
         g,
-        subst (MayBecome (after m u i s (kind_of look v)))
+        subst (MayBecome (after_to m u i (was.frame.place + 1) s (kind_of look v)))
             (sym (kind_same new s v g (λ j named. ap kind_by (only_other k f j (stands j)
-            (λ same. differs (c.me.frame.apart s x j named (at ∙ ap (λ z. Some (value.Clock z)) (sym same)))))))) ((row s v g).other differs),
+            (λ same. differs (c.me.frame.apart s x j named (at ∙ ap (λ z. Some (value.Clock z)) (sym same))))))))
+            (subst (λ r. MayBecome r (kind_of look v)) (way_on s (kind_of look v)) ((row s v g).other differs)),
       )

@@ -15,7 +15,7 @@ use Rattle.xk_types.specs.Code.{UnitValue, ModuleValue, arguments_of}
 use Rattle.xk_types.specs.Names.{kind_place}
 use Rattle.xk_types.specs.Order.{Has}
 use Rattle.xk_types.specs.Shape.{is_in_place, breaks_in, breaks_unit_of, HasShape}
-use Rattle.xk_types.specs.Walk.{After, To, Refused, MayBecome, IsEdge, IsVisited, IsRefusedAt, entry_kinds, places_after, row, row_of}
+use Rattle.xk_types.specs.Walk.{After, To, Refused, MayBecome, IsEdge, IsVisited, IsRefusedAt, entry_kinds, places_after, row, row_of, way_of}
 use Rattle.xk_types.specs.Bound.{IsWithinBounds}
 use Rattle.xk_types.specs.Accepted.{IsAccepted}
 use Rattle.xk_types.proofs.Members.{all_has}
@@ -139,12 +139,18 @@ abbrev leads : (Kind → Bool) → After → Bool
 leads test (To ks) = list_all test ks
 leads test (Refused r) = false
 
+-- the row doesn't refuse
+abbrev allows : After → Bool
+allows a = leads (λ k. true) a
+
+-- the ways to each place behind it lead to kinds that the table has there
+abbrev pub ways_lead : ModuleValue → UnitValue → ℕ → (ℕ → List Kind) → ℕ → Kind → Bool
+ways_lead m u s table at k = list_all (λ to. leads (is_among (table to)) (way_of m u to s k (slice_get u.code at))) (places_after (slice_get u.code at) at)
+
 -- A slot's table of kinds, by place, is closed at a kind: where it has the kind, the row doesn't refuse, and leads to kinds
 -- that it has at the next places.
 abbrev pub is_closed_at : ModuleValue → UnitValue → ℕ → (ℕ → List Kind) → ℕ → Kind → Bool
-is_closed_at m u s table at k =
-    not (is_among (table at) k)
-    || leads (λ new. list_all (λ to. is_among (table to) new) (places_after (slice_get u.code at) at)) (row m u s (record { at = at; kind = k }))
+is_closed_at m u s table at k = not (is_among (table at) k) || (allows (row m u s (record { at = at; kind = k })) && ways_lead m u s table at k)
 
 -- it has the entry kinds, and is closed
 abbrev pub is_closed : ModuleValue → UnitValue → ℕ → (ℕ → List Kind) → Bool
@@ -158,7 +164,7 @@ are_closed m tables =
 module _ (m : ModuleValue) (u : UnitValue) (s : ℕ) (table : ℕ → List Kind) (closed : is_closed m u s table ≡ true) where
   -- where the table has the kind, the row leads on
   leads_on : (p : Visit) → p.at < length u.code → is_among (table p.at) p.kind ≡ true
-      → leads (λ new. list_all (λ to. is_among (table to) new) (places_after (slice_get u.code p.at) p.at)) (row m u s p) ≡ true
+      → (allows (row m u s p) && ways_lead m u s table p.at p.kind) ≡ true
   leads_on p inside has = other_half (is_among (table p.at) p.kind) _ has
       (all_has (is_closed_at m u s table p.at) every_kind p.kind
       (below_at (λ at. list_all (is_closed_at m u s table at) every_kind) (length u.code) p.at (and_parts (list_all (is_among (table 0)) (entry_kinds u s)) _ closed).1 inside)
@@ -167,15 +173,15 @@ module _ (m : ModuleValue) (u : UnitValue) (s : ℕ) (table : ℕ → List Kind)
   -- along an edge
   along : (p q : Visit) → is_among (table p.at) p.kind ≡ true → IsEdge m u s p q → is_among (table q.at) q.kind ≡ true
   along p q has e = elim (cases_lt p.at (length u.code)) [
-    | inl inside ↦ on (row m u s p) e.kind (leads_on p inside has)
+    | inl inside ↦
+        on (way_of m u q.at s p.kind (slice_get u.code p.at)) e.kind
+        (all_has (λ to. leads (is_among (table to)) (way_of m u to s p.kind (slice_get u.code p.at))) (places_after (slice_get u.code p.at) p.at) q.at
+        (and_parts (allows (row m u s p)) (ways_lead m u s table p.at p.kind) (leads_on p inside has)).1 e.place)
     | inr past ↦ absurd (subst (λ o. Has (places_after o p.at) q.at) (slice_get_past u.code p.at past) e.place)
   ]
     where
-      on : (a : After) → MayBecome a q.kind → leads (λ new. list_all (λ to. is_among (table to) new) (places_after (slice_get u.code p.at) p.at)) a ≡ true
-          → is_among (table q.at) q.kind ≡ true
-      on (To ks) may h =
-          all_has (λ to. is_among (table to) q.kind) (places_after (slice_get u.code p.at) p.at) q.at
-          (all_has (λ new. list_all (λ to. is_among (table to) new) (places_after (slice_get u.code p.at) p.at)) ks q.kind h may) e.place
+      on : (a : After) → MayBecome a q.kind → leads (is_among (table q.at)) a ≡ true → is_among (table q.at) q.kind ≡ true
+      on (To ks) may h = all_has (is_among (table q.at)) ks q.kind h may
       on (Refused r) may h = absurd may
 
   -- what is visited is in the table
@@ -188,8 +194,7 @@ module _ (m : ModuleValue) (u : UnitValue) (s : ℕ) (table : ℕ → List Kind)
   -- and isn't refused
   never_refused : (q : Visit) (r : Rule) → IsVisited m u s q → row m u s q ≡ Refused r → ⊥
   never_refused q r v h = elim (cases_lt q.at (length u.code)) [
-    | inl inside ↦ false≢true (sym (ap (leads (λ new. list_all (λ to. is_among (table to) new) (places_after (slice_get u.code q.at) q.at))) h)
-        ∙ leads_on q inside (visited_among q v))
+    | inl inside ↦ false≢true (sym (ap allows h) ∙ (and_parts (allows (row m u s q)) (ways_lead m u s table q.at q.kind) (leads_on q inside (visited_among q v))).0)
     | inr past ↦ to_refused (sym (ap (row_of m u s q.kind) (slice_get_past u.code q.at past)) ∙ h)
   ]
     where

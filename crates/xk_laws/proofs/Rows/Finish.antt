@@ -1,5 +1,8 @@
 -- A module with a finish that is accepted: main opens it, makes a clock inside, starts an activity with the clock, drops it, and at
 -- the end of the finish waits until the activity has ended.
+use Rattle.std.proofs.lemmas.List.{nil_from_length}
+use Rattle.xk_types.specs.World.{opening}
+use Rattle.xk_laws.proofs.Rows.Fresh.{fresh}
 use Rattle.std.proofs.Common.{◌≡◌, ℕ, zero, suc, ◌≤◌, Bool, true, false, ◌&&◌, List, [], ◌∷◌, length, Option, Some, None, refl, sym, ap, ◌∙◌, subst, arith}
 use Rattle.std.specs.Prelude.{slice_get}
 use Rattle.std.specs.List.{list_all}
@@ -13,7 +16,7 @@ use Rattle.xk_types.specs.declared.unit.ParamKind.TheVariants as param
 use Rattle.xk_types.specs.declared.rules.Kind.{Kind}
 use Rattle.xk_types.specs.declared.rules.Kind.TheVariants as kind
 use Rattle.xk_types.specs.Code.{UnitValue, ModuleValue, IsUnitWithinLimits, IsWithinLimits}
-use Rattle.xk_types.specs.World.{Activity, World, opening, is_ended}
+use Rattle.xk_types.specs.World.{Activity, World, is_ended}
 use Rattle.xk_types.specs.Step.{step_of}
 use Rattle.xk_types.specs.Schedule.{Course, Through, Held, Wronged, Leads, run, is_step, is_enabled, all_ended}
 use Rattle.xk_types.specs.Bound.{steps_bound, activities_bound, clocks_bound}
@@ -93,10 +96,10 @@ main_goes (Held w) = None
 main_goes (Wronged w c) = None
 
 -- main can't close the finish before the activity that it started has ended, and then it can
-pub waits_at_end : (main_goes (run finish_row (from_end []) (opening finish_row)) ≡ Some false)
-    × (main_goes (run finish_row (from_end (1 ∷ [])) (opening finish_row)) ≡ Some false)
-    × (main_goes (run finish_row (from_end (1 ∷ 1 ∷ [])) (opening finish_row)) ≡ Some false)
-    × (main_goes (run finish_row (from_end (1 ∷ 1 ∷ 1 ∷ [])) (opening finish_row)) ≡ Some true)
+pub waits_at_end : (main_goes (run finish_row (from_end []) (fresh finish_row)) ≡ Some false)
+    × (main_goes (run finish_row (from_end (1 ∷ [])) (fresh finish_row)) ≡ Some false)
+    × (main_goes (run finish_row (from_end (1 ∷ 1 ∷ [])) (fresh finish_row)) ≡ Some false)
+    × (main_goes (run finish_row (from_end (1 ∷ 1 ∷ 1 ∷ [])) (fresh finish_row)) ≡ Some true)
 unfolding Rattle.xk_types.specs.Step.under_within
 waits_at_end = (refl, refl, refl, refl)
 
@@ -121,7 +124,7 @@ not_over : (w : World) (act : Activity) → slice_get w.activities 1 ≡ Some ac
 not_over w act there on h = false≢true (sym on ∙ sym (ap (λ o. option_map_or (λ x. is_ended x.status) o false) there) ∙ h)
 
 -- However a run goes on from there, main can't take a step before the activity that it started has ended.
-pub waits_for_other : (rest : List ℕ) (w : World) → Leads finish_row (from_end rest) w → (act : Activity) → slice_get w.activities 1 ≡ Some act
+pub waits_for_other : (rest : List ℕ) (w : World) → run finish_row (from_end rest) (fresh finish_row) ≡ Through w → (act : Activity) → slice_get w.activities 1 ≡ Some act
     → is_ended act.status ≡ false → is_enabled finish_row w 0 ≡ false
 unfolding Rattle.xk_types.specs.Step.under_within
 waits_for_other [] w h act there on = subst main_stays h refl
@@ -136,7 +139,7 @@ waits_for_other (suc zero ∷ suc zero ∷ suc (suc a) ∷ r) w h act there on =
 waits_for_other (suc zero ∷ suc zero ∷ suc zero ∷ r) w h act there on = absurd (not_over w act there on (over r h))
   where
     -- it has ended, and stays so
-    over : (r : List ℕ) → Leads finish_row (from_end (1 ∷ 1 ∷ 1 ∷ r)) w → other_ended (Through w) ≡ true
+    over : (r : List ℕ) → run finish_row (from_end (1 ∷ 1 ∷ 1 ∷ r)) (fresh finish_row) ≡ Through w → other_ended (Through w) ≡ true
     over [] e = subst (λ c. other_ended c ≡ true) e refl
     over (suc zero ∷ r) e = absurd (short _ w e)
     over (suc (suc a) ∷ r) e = absurd (short _ w e)
@@ -179,7 +182,11 @@ not_all (x ∷ xs) (suc k) act there on = go (is_ended x.status) (not_all xs k a
     go true rest = rest
     go false rest = refl
 
+-- main takes nothing
+from_fresh : (list : List ℕ) (w : World) → Leads finish_row list w → run finish_row list (fresh finish_row) ≡ Through w
+from_fresh list w h = subst (λ args. run finish_row list (opening finish_row args) ≡ Through w) (nil_from_length w.arguments h.0) h.1
+
 -- so while main waits, it waits for one that goes on
 pub other_goes_on : (rest : List ℕ) (w : World) → Leads finish_row (from_end rest) w → (act : Activity) → slice_get w.activities 1 ≡ Some act
     → is_ended act.status ≡ false → is_enabled finish_row w 1 ≡ true
-other_goes_on rest w h act there on = other_goes (from_end rest) w h (not_all w.activities 1 act there on) (waits_for_other rest w h act there on)
+other_goes_on rest w h act there on = other_goes (from_end rest) w h (not_all w.activities 1 act there on) (waits_for_other rest w (from_fresh (from_end rest) w h) act there on)

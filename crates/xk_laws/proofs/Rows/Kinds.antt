@@ -114,11 +114,12 @@ signalled_world = record {
   clocks = record { phase = 0; last = 0; standings = standing.Signalled ∷ standing.Open ∷ [] } ∷ [];
   cells = [];
   steps = 3;
+  arguments = [];
 }
 
 -- a schedule leads there
 pub signalled_reached : Leads kinds_row (0 ∷ 0 ∷ 0 ∷ []) signalled_world
-signalled_reached = refl
+signalled_reached = (refl, refl)
 
 -- so a walk comes there with the kind resumed
 pub signalled_resumed : IsVisited kinds_row main_unit 0 (record { at = 3; kind = kind.Resumed })

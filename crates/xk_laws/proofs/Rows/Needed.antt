@@ -1,4 +1,5 @@
 -- The premises of the laws are needed: a module for each, of which the law is false without it.
+use Rattle.xk_laws.proofs.Rows.Fresh.{fresh}
 use Rattle.std.proofs.Common.{◌≡◌, ℕ, zero, suc, inl, inr, [], ◌∷◌, refl, sym, subst, arith}
 use Rattle.std.specs.Prelude.{slice_get}
 use Rattle.std.proofs.lemmas.List.Elements.{All-cons, All-nil, All-from_recursion}
@@ -11,10 +12,12 @@ use Rattle.xk_types.specs.declared.rules.Kind.TheVariants as kind
 use Rattle.xk_types.specs.declared.rules.Visit.{Visit}
 use Rattle.xk_types.specs.Code.{UnitValue, ModuleValue, IsUnitWithinLimits, IsWithinLimits}
 use Rattle.xk_types.specs.Order.{Has}
-use Rattle.xk_types.specs.World.{opening, main_of}
+use Rattle.xk_types.specs.World.{main_of}
 use Rattle.xk_types.specs.Step.{Missing, OutOfRange}
+use Rattle.xk_types.specs.World.{World}
+use Rattle.xk_types.specs.Schedule.{Course, Through, Held, Wronged, run}
 use Rattle.xk_types.specs.Accepted.{IsAccepted, EverySchedule}
-use Rattle.xk_types.specs.Walk.{MayBecome, IsVisited, places_after, row, overwritten, becomes}
+use Rattle.xk_types.specs.Walk.{MayBecome, IsVisited, places_after, way_of, overwritten, becomes}
 use Rattle.xk_types.specs.Kinds.{KindsAreSound}
 use Rattle.xk_types.proofs.Walks.{visited_closed}
 use Rattle.xk_laws.proofs.Rows.Checked.{HasFewArguments}
@@ -40,7 +43,7 @@ drop_limits = record {
 
 -- not every module within the limits keeps the law
 pub accepted_needed : ((m : ModuleValue) → IsWithinLimits m → EverySchedule m) → ⊥
-accepted_needed h = (h drop_row drop_limits).never_wrong (0 ∷ []) (opening drop_row) Missing refl
+accepted_needed h = (h drop_row drop_limits).never_wrong [] refl (0 ∷ []) (fresh drop_row) Missing refl
 
 -- a module of no unit
 abbrev no_unit : ModuleValue
@@ -57,7 +60,7 @@ no_unit_accepted = record {
 
 -- nor does every module that is accepted
 pub limits_needed : ((m : ModuleValue) → IsAccepted m → EverySchedule m) → ⊥
-limits_needed h = (h no_unit no_unit_accepted).never_wrong (0 ∷ []) (opening no_unit) OutOfRange refl
+limits_needed h = (h no_unit no_unit_accepted).never_wrong [] refl (0 ∷ []) (fresh no_unit) OutOfRange refl
 
 -- ---- the kinds
 
@@ -103,19 +106,28 @@ leak_comes q v = visited_closed leak_row leak_unit 0 (λ p. Comes p.at p.kind) (
     (λ p r h e. along p.at p.kind r.at r.kind h e.place e.kind) q v
   where
     along : (at : ℕ) (k : Kind) (to : ℕ) (new : Kind) → Comes at k → Has (places_after (slice_get leak_unit.code at) at) to
-        → MayBecome (row leak_row leak_unit 0 (record { at = at; kind = k })) new → Comes to new
+        → MayBecome (way_of leak_row leak_unit to 0 k (slice_get leak_unit.code at)) new → Comes to new
     along zero k to new h (inl on) may = subst (λ t. Comes t new) on (made_live k new may)
     along zero k to new h (inr none) may = absurd none
-    along (suc zero) k to new h place may = absurd (subst (λ x. MayBecome (row leak_row leak_unit 0 (record { at = 1; kind = x })) new) h may)
+    along (suc zero) k to new h place may = absurd (subst (λ x. MayBecome (way_of leak_row leak_unit to 0 x (slice_get leak_unit.code 1)) new) h may)
     along (suc (suc at)) k to new h place may = absurd h
+
+-- where two steps lead, if they do
+abbrev through : Course → World
+through (Through w) = w
+through (Held w) = w
+through (Wronged w c) = w
+
+abbrev leaked : World
+leaked = through (run leak_row (0 ∷ 0 ∷ []) (fresh leak_row))
 
 -- not every module within the limits has sound kinds
 pub accepted_needed_by_kinds : ((m : ModuleValue) → IsWithinLimits m → KindsAreSound m) → ⊥
 accepted_needed_by_kinds h =
-    let k = h leak_row leak_limits (0 ∷ 0 ∷ []) _ refl 0 _ refl refl in
+    let k = h leak_row leak_limits (0 ∷ 0 ∷ []) leaked (refl, refl) 0 _ refl refl in
     leak_comes (record { at = 2; kind = kind.Live })
     (subst (λ u. IsVisited leak_row u 0 (record { at = 2; kind = kind.Live })) (sym (same_Some leak_unit k.u k.found)) (k.visited 0 (value.Clock 1) refl))
 
 -- nor has every module that is accepted
 pub limits_needed_by_kinds : ((m : ModuleValue) → IsAccepted m → KindsAreSound m) → ⊥
-limits_needed_by_kinds h = let k = h no_unit no_unit_accepted [] (opening no_unit) refl 0 (main_of no_unit) refl refl in none-some k.u k.found
+limits_needed_by_kinds h = let k = h no_unit no_unit_accepted [] (fresh no_unit) (refl, refl) 0 (main_of no_unit []) refl refl in none-some k.u k.found

@@ -1,5 +1,6 @@
 -- A module of two activities that is accepted: main makes a clock, starts an activity with it and a number, and both wait
 -- for the clock once.
+use Rattle.xk_laws.proofs.Rows.Fresh.{fresh}
 use Rattle.std.proofs.Common.{◌≡◌, ℕ, zero, suc, pos, Bool, true, false, List, [], ◌∷◌, length, refl, arith}
 use Rattle.std.proofs.lemmas.List.Elements.{All-cons, All-nil, All-from_recursion}
 use Rattle.xk_types.specs.declared.instr.Instr.TheVariants as instr
@@ -8,7 +9,6 @@ use Rattle.xk_types.specs.declared.unit.ParamKind.TheVariants as param
 use Rattle.xk_types.specs.declared.rules.Kind.{Kind}
 use Rattle.xk_types.specs.declared.rules.Kind.TheVariants as kind
 use Rattle.xk_types.specs.Code.{UnitValue, ModuleValue, IsUnitWithinLimits, IsWithinLimits}
-use Rattle.xk_types.specs.World.{opening}
 use Rattle.xk_types.specs.Schedule.{Course, Through, Held, Wronged, run, all_ended, printed}
 use Rattle.xk_types.specs.Bound.{steps_bound, activities_bound, clocks_bound}
 use Rattle.xk_types.specs.Accepted.{IsAccepted, EverySchedule}
@@ -94,7 +94,7 @@ abbrev pair_list : List ℕ
 pair_list = 0 ∷ 0 ∷ 0 ∷ 0 ∷ 1 ∷ 1 ∷ 1 ∷ 0 ∷ 0 ∷ 0 ∷ 1 ∷ 1 ∷ 1 ∷ []
 
 -- it takes as many steps as the bound has
-pub pair_run : (comes_to_end (run pair_row pair_list (opening pair_row)) ≡ true) × (printed pair_row pair_list (opening pair_row) ≡ pos 12 ∷ [])
+pub pair_run : (comes_to_end (run pair_row pair_list (fresh pair_row)) ≡ true) × (printed pair_row pair_list (fresh pair_row) ≡ pos 12 ∷ [])
     × (steps_bound pair_row ≡ length pair_list) × (activities_bound pair_row ≡ 2) × (clocks_bound pair_row ≡ 1)
 unfolding Rattle.xk_types.specs.Bound.total_within Rattle.xk_types.specs.Bound.chain_within
 pair_run = (refl, refl, refl, refl, refl)

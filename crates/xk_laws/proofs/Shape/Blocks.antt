@@ -3,16 +3,16 @@ use Rattle.std.proofs.Common.{◌≡◌, ℕ, ◌+◌, ◌<◌, ◌≤◌, cond,
 use Rattle.std.specs.Prelude.{slice_get, filter, nat_lt}
 use Rattle.std.proofs.lemmas.Bool.{false≢true, cases_eq}
 use Rattle.std.proofs.lemmas.Bool.Decides.{nat_tests}
-use Rattle.std.proofs.lemmas.Option.{slice_get_within}
+use Rattle.std.proofs.lemmas.Option.{slice_get_within, none-some}
+use Rattle.xk_types.proofs.Shape.Loops.{head_first}
 use Rattle.xk_types.specs.declared.instr.Instr.{Instr}
 use Rattle.xk_types.specs.declared.instr.Instr.TheVariants as instr
-use Rattle.xk_types.specs.Code.{UnitValue}
+use Rattle.xk_types.specs.Code.{UnitValue, Loop, loop_head}
 use Rattle.xk_types.specs.Blocks.{Span, finishes, is_inside, block_at}
 use Rattle.xk_types.specs.Order.{Has}
 use Rattle.xk_types.specs.Shape.{span_of, overlaps, target}
 use Rattle.xk_types.proofs.Shape.Begun.{Rising}
 use Rattle.xk_types.proofs.Lists.{get_once}
-use Rattle.xk_types.proofs.Shape.Loops.{loop_of}
 use Rattle.xk_types.proofs.Shape.Finishes.{IsFinish, finish_of, inside_next}
 use Rattle.xk_laws.proofs.Shape.Loops.{AreLoops}
 use Rattle.xk_laws.proofs.Shape.Finishes.{AreFinishes}
@@ -79,6 +79,12 @@ is_border (instr.Finish e) = true
 is_border (instr.EndFinish b) = true
 is_border _ = false
 
+-- the head of a loop does neither
+pub head_plain : (n : ℕ) (i : Instr) (l : Loop) → loop_head n i ≡ Some l → is_border i ≡ false
+head_plain n (instr.For k lo hi e) l h = refl
+head_plain n (instr.ForTo k lo x hi e) l h = refl
+head_plain n _ l h = absurd (none-some l h)
+
 module _ (u : UnitValue) (a : AreFinishes u) where
   -- a place that is no border begins and ends no finish
   not_first : (p : ℕ) (i : Instr) → slice_get u.code p ≡ Some i → is_border i ≡ false → (f : Span) → Has (finishes u) f → f.first ≡ p → ⊥
@@ -101,11 +107,15 @@ module _ (u : UnitValue) (a : AreFinishes u) where
   pub block_round : AreLoops u → (b p : ℕ) → slice_get u.code p ≡ Some (instr.Next b) → block_at u (b + 1) ≡ block_at u p
   block_round ls b p here =
       let e = ls.ended b p here in
-      let l = loop_of b e.k e.lo e.hi p in
+      let first = head_first b e.head e.l e.is in
+      let plain = head_plain b e.head e.l e.is in
       ap (map (λ f. f.first)) (filter_same (is_inside (b + 1)) (is_inside p) (finishes u)
-      (λ f h. inside_both (span_of l) f (a.loops l f (ls.begun b e.k p e.lo e.hi e.for).0 h) e.ahead (a.ahead f h)
-      (not_first b (instr.For e.k e.lo e.hi p) e.for refl f h) (not_last p (instr.Next b) here refl f h)
-      (not_first p (instr.Next b) here refl f h) (not_last b (instr.For e.k e.lo e.hi p) e.for refl f h)))
+      (λ f h. inside_both (record { first = b; last = p }) f
+      (subst (λ n. overlaps (record { first = n; last = p }) f ≡ false) first
+      (subst (λ n. overlaps (record { first = e.l.first; last = n }) f ≡ false) e.last (a.loops e.l f (ls.begun b e.head e.l e.here e.is).0 h)))
+      e.ahead (a.ahead f h)
+      (not_first b e.head e.here plain f h) (not_last p (instr.Next b) here refl f h)
+      (not_first p (instr.Next b) here refl f h) (not_last b e.head e.here plain f h)))
 
   -- into a finish
   pub block_opened : (p e : ℕ) → slice_get u.code p ≡ Some (instr.Finish e) → block_at u (p + 1) ≡ block_at u p ++ p ∷ []

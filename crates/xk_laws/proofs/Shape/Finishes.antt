@@ -45,6 +45,18 @@ module _ (u : UnitValue) (targets : (at : ℕ) → breaks_target u at ≡ false)
   opened_has : (b e : ℕ) → slice_get u.code b ≡ Some (instr.Finish e) → Has (finishes u) (finish_of b e)
   opened_has b e here = begun_had (finish_opened u) 0 u.code b b (instr.Finish e) (finish_of b e) here (omega arith) (opened_is b e here)
 
+  -- no loop does that ends there
+  no_loop_ends : (b e : ℕ) (i : Instr) (s : Span) → slice_get u.code e ≡ Some (instr.EndFinish b) → (o : Option Loop) → loop_begun u b i ≡ o
+      → option_and_then (λ l. if l.last == e then Some l else None) (option_map span_of o) ≡ Some s → ⊥
+  no_loop_ends b e i s here None q r = absurd (none-some s r)
+  no_loop_ends b e i s here (Some l) q r =
+      let is = begins u b i l q in
+      let last = eqb-true l.last e (cond_some (l.last == e) (span_of l) s r).0 in
+      other (sym here ∙ ap (slice_get u.code) (sym last) ∙ is.next)
+    where
+      other : Some (instr.EndFinish b) ≡ Some (instr.Next b) → ⊥
+      other h = grind arith
+
   -- what an `endfinish` ends is a finish
   finish_ends : (b e : ℕ) (i : Instr) (s : Span) → slice_get u.code e ≡ Some (instr.EndFinish b) → slice_get u.code b ≡ Some i
       → EndsSpan u targets blocks kinds b e i s → Has (finishes u) (finish_of b e)
@@ -56,18 +68,8 @@ module _ (u : UnitValue) (targets : (at : ℕ) → breaks_target u at ≡ false)
           let last = eqb-true x e (cond_some (x == e) (finish_of b x) s r).0 in
           subst (λ n. Has (finishes u) (finish_of b n)) last (opened_has b x f)
       inner false q r = absurd (none-some s r)
-  finish_ends b e (instr.For k lo hi x) s here f g = inner (loop_begun u b (instr.For k lo hi x)) refl g
-    where
-      other : Some (instr.EndFinish b) ≡ Some (instr.Next b) → ⊥
-      other h = grind arith
-
-      inner : (o : Option Loop) → loop_begun u b (instr.For k lo hi x) ≡ o
-          → option_and_then (λ l. if l.last == e then Some l else None) (option_map span_of o) ≡ Some s → Has (finishes u) (finish_of b e)
-      inner None q r = absurd (none-some s r)
-      inner (Some l) q r =
-          let is = begins u b (instr.For k lo hi x) l q in
-          let last = eqb-true l.last e (cond_some (l.last == e) (span_of l) s r).0 in
-          absurd (other (sym here ∙ ap (slice_get u.code) (sym last) ∙ is.next))
+  finish_ends b e (instr.For k lo hi x) s here f g = absurd (no_loop_ends b e (instr.For k lo hi x) s here (loop_begun u b (instr.For k lo hi x)) refl g)
+  finish_ends b e (instr.ForTo k lo y hi x) s here f g = absurd (no_loop_ends b e (instr.ForTo k lo y hi x) s here (loop_begun u b (instr.ForTo k lo y hi x)) refl g)
   finish_ends b e _ s here f g = absurd (none-some s g)
 
   -- each `endfinish` closes one

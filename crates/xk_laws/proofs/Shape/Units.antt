@@ -69,9 +69,8 @@ unit_fits m shape unit u found = record {
   slots = λ i at s here named. ltb-true s u.slots (all_has (λ t. nat_lt t u.slots) (slots_named i) s
       (not-false (list_all (λ t. nat_lt t u.slots) (slots_named i)) (ap (instr_is (λ j. not (list_all (λ t. nat_lt t u.slots) (slots_named j)))) (sym here) ∙ slots_ok at)) named);
   finishes = are_finishes u (unbroken m shape rule.Target unit u found) (unbroken m shape rule.Block unit u found) (unbroken m shape rule.Loop unit u found);
-  loops = are_loops u (unbroken m shape rule.Target unit u found) (unbroken m shape rule.Block unit u found) (unbroken m shape rule.Loop unit u found);
-  next = λ i at here other. next_below at (length u.code) (slice_get_within u.code at i here)
-      (rw other at (ap (instr_is (last_but_ret u at)) (sym here) ∙ (ends_well u at (end_ok at)).0));
+  loops = are_loops u (unbroken m shape rule.Target unit u found) (unbroken m shape rule.Block unit u found) (unbroken m shape rule.Loop unit u found) behind;
+  next = λ i at here other. behind at i here other;
   last = λ at here. ltb-false (at + 1) (length u.code) (ap (instr_is (ret_but_last u at)) (sym here) ∙ (rets_end u at (end_ok at)));
   unmade = λ d at here. ltb-false d (length u.params) (handled (instr.Make d) at here);
   undropped = λ k at here method. rw method at (handled (instr.Drop k) at here);
@@ -86,6 +85,10 @@ unit_fits m shape unit u found = record {
 
     end_ok : (at : ℕ) → breaks_in m rule.End unit u at ≡ false
     end_ok at = unbroken m shape rule.End unit u found at
+
+    behind : (at : ℕ) (i : Instr) → slice_get u.code at ≡ Some i → is_ret i ≡ false → at + 1 < length u.code
+    behind at i here other = next_below at (length u.code) (slice_get_within u.code at i here)
+        (rw other at (ap (instr_is (last_but_ret u at)) (sym here) ∙ (ends_well u at (end_ok at)).0))
 
     go : (n : ℕ) → (n == 0) ≡ false → 0 < n
     go zero e = absurd (grind arith)

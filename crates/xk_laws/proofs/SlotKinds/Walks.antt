@@ -6,7 +6,7 @@ use Rattle.xk_types.specs.declared.rules.Rule.{Rule}
 use Rattle.xk_types.specs.declared.rules.Kind.{Kind}
 use Rattle.xk_types.specs.Code.{UnitValue, ModuleValue}
 use Rattle.xk_types.specs.Order.{Has}
-use Rattle.xk_types.specs.Walk.{After, Refused, MayBecome, IsVisited, places_after, row, row_of, after, successors}
+use Rattle.xk_types.specs.Walk.{After, Refused, MayBecome, IsVisited, places_after, row, row_of, after, after_to, way_of, successors}
 use Rattle.xk_types.specs.Accepted.{IsAccepted}
 use Rattle.xk_types.proofs.Walks.{visited_on}
 
@@ -24,11 +24,11 @@ visited_allowed m ok unit u found s inside i at here k v r e =
 
 -- and to the kind that it gives, at the next place
 pub visited_next : (m : ModuleValue) (u : UnitValue) (s : ℕ) (i : Instr) (at : ℕ) → slice_get u.code at ≡ Some i → (to : ℕ) (k new : Kind)
-    → Has (successors i at) to → MayBecome (after m u i s k) new
+    → Has (successors i at) to → MayBecome (after_to m u i to s k) new
     → IsVisited m u s (record { at = at; kind = k }) → IsVisited m u s (record { at = to; kind = new })
 visited_next m u s i at here to k new place may v =
     visited_on m u s (record { at = at; kind = k }) (record { at = to; kind = new }) v
     (record {
       place = subst (λ o. Has (places_after o at) to) (sym here) place;
-      kind = subst (λ o. MayBecome (row_of m u s k o) new) (sym here) may;
+      kind = subst (λ o. MayBecome (way_of m u to s k o) new) (sym here) may;
     })

@@ -1,11 +1,12 @@
 -- What a part of a tree without faults of names runs is a part of the tree.
-use Rattle.std.proofs.Common.{◌≡◌, inl, inr, ℕ, Bool, true, false, cond, List, [], ◌∷◌, ◌++◌, length, Some, refl, sym, ap, ◌∙◌, subst, eq-eqb}
+use Rattle.std.proofs.Common.{◌≡◌, inl, inr, ℕ, Bool, true, false, cond, List, [], ◌∷◌, ◌++◌, length, Option, Some, None, refl, sym, ap, ◌∙◌, subst, eq-eqb}
 use Rattle.std.specs.Prelude.{int_le, codes}
 use Rattle.std.specs.List.{flat_map}
-use Rattle.xk_tree.specs.Tree.{Word, Statement, Statements, Done, More, Block, If, IfElse, For, Async, Finish, Call, ParamValue, MethodValue, TreeValue}
+use Rattle.xk_tree.specs.Tree.{Word, Statement, Statements, Done, More, Block, If, IfElse, For, top, Async, Finish, Call, ParamValue, MethodValue, TreeValue}
 use Rattle.xk_names.specs.Scope.{Has, find, is_text, Scope}
 use Rattle.xk_names.specs.Uses.{Signatures, signatures, clocks_listed, declares}
 use Rattle.xk_names.specs.Scoped.{IsSound, IsSoundInside, AreSound, with_all, with_body, method_scope, IsScoped}
+use Rattle.xk_names.specs.Faults.{MayBegin}
 use Rattle.xk_names.specs.Places.{behind}
 use Rattle.xk_names.proofs.Among.{has_left, has_right, has_either}
 use Rattle.xk_source.specs.Parts.{Part, OfMethod, OfBody, Run, Calls, Starts, bodies, bodies_all, method_parts, opening, parts, runs, runs_all, part_runs, place_of}
@@ -41,7 +42,7 @@ mutual
     | inl x ↦ more_left (bodies s) (bodies u) (Starts at) (started s at x)
     | inr y ↦ more_right (bodies s) (bodies u) (Starts at) (started u at y)
   ]
-  started (For p i lo hi s) at h = started s at (of_some (int_le lo.value hi.value) (runs s) (Starts at) h)
+  started (For p i lo b s) at h = started s at (of_some (int_le lo.value (top b)) (runs s) (Starts at) h)
   started (Async a cs s) at (inl e) = record { part = OfBody a cs s; among = inl refl; fits = eq-eqb at a cc }
   started (Async a cs s) at (inr h) = absurd h
   started (Finish s) at h = started s at h
@@ -114,8 +115,8 @@ mutual
     | inl x ↦ known ms sc s inside.0.0 inside.0.1 g x
     | inr y ↦ known ms sc u inside.1.0 inside.1.1 g y
   ]
-  known ms sc (For a i lo hi s) own inside g h =
-      known ms (with_all sc (declares (length sc.bodies) (For a i lo hi s))) s inside.0 inside.1 g (of_some (int_le lo.value hi.value) (runs s) (Calls g) h)
+  known ms sc (For a i lo b s) own inside g h =
+      known ms (with_all sc (declares (length sc.bodies) (For a i lo b s))) s inside.0 inside.1 g (of_some (int_le lo.value (top b)) (runs s) (Calls g) h)
   known ms sc (Async a cs s) own inside g (inl e) = absurd cc
   known ms sc (Async a cs s) own inside g (inr h) = absurd h
   known ms sc (Finish s) own inside g h = known ms sc s inside.0 inside.1 g h
@@ -194,5 +195,9 @@ has_place t scoped p among (Calls g) h = called t g (part_known t t.methods scop
 has_place t scoped p among (Starts at) h =
     let q = part_started p at h in found (parts t) (Starts at) q.part (in_methods t.methods p q.part among q.among) q.fits
 
+main_params : (o : Option (List ParamValue)) → MayBegin o → (ps : List ParamValue) × (o ≡ Some ps)
+main_params None h = absurd h
+main_params (Some ps) h = (ps, refl)
+
 pub main_place : (t : TreeValue) → IsScoped t → (k : ℕ) × (place_of (parts t) opening ≡ Some k)
-main_place t scoped = called t (record { at = 0; text = codes "main" }) ([], scoped.main)
+main_place t scoped = called t (record { at = 0; text = codes "main" }) (main_params (find (signatures t.methods) (codes "main")) scoped.main)

@@ -2,7 +2,7 @@
 use Rattle.std.proofs.Common.{◌≡◌, inl, inr, ℕ, suc, ◌+◌, ◌<◌, Bool, true, false, cond, ◌||◌, List, [], ◌∷◌, ◌++◌, length, Option, Some, slice_get, nat_eq, refl, sym, ap, ◌∙◌, subst, arith, eqb-true}
 use Rattle.std.specs.Prelude.{is_some, int_le, option_map}
 use Rattle.std.proofs.lemmas.Option.{none-some}
-use Rattle.xk_tree.specs.Tree.{Word, Clocks, Statement, Statements, Done, More, Block, Empty, Declare, Assign, Atomic, If, IfElse, For, Async, Finish, Call, Resume, Drop, AdvanceAll, Print, SharedValue, TreeValue}
+use Rattle.xk_tree.specs.Tree.{Word, Clocks, Statement, Statements, Done, More, Block, Empty, Declare, Assign, Atomic, If, IfElse, For, top, Async, Finish, Call, Resume, Drop, AdvanceAll, Print, SharedValue, TreeValue}
 use Rattle.xk_tree.specs.Bodies.{HasBodiesApart}
 use Rattle.xk_names.specs.Scope.{Has, has, find, is_text}
 use Rattle.xk_names.specs.Uses.{signatures}
@@ -166,7 +166,7 @@ module _ (t : TreeValue) (units : List Part) (cx : Setting) (h : AreSettled t un
         both_settled t cx (calls_in s) (calls_in u) (bodies_in s) (bodies_in u)
         (settled s (λ p i. among p (has_left (bodies s) (bodies u) p i)) (λ r i. places r (has_left (runs s) (runs u) r i)))
         (settled u (λ p i. among p (has_right (bodies s) (bodies u) p i)) (λ r i. places r (has_right (runs s) (runs u) r i)))
-    settled (For at i lo hi s) among places = go (int_le lo.value hi.value) places (settled s among)
+    settled (For at i lo b s) among places = go (int_le lo.value (top b)) places (settled s among)
       where
         go : (b : Bool) → HavePlaces units (cond b (runs s) [])
             → (HavePlaces units (runs s) → Settled cx (signatures t.methods) (shared_texts t.shared) (calls_in s) (bodies_in s))

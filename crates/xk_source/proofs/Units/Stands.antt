@@ -6,18 +6,18 @@ use Rattle.xk_names.specs.declared.known.Known.{Known}
 use Rattle.xk_names.specs.declared.known.Kind.TheVariants as kind
 use Rattle.xk_names.specs.declared.known.Want.TheVariants as want
 use Rattle.xk_names.specs.Scope.{Scope as Seen, Table, Has, find, is_text}
-use Rattle.xk_names.specs.Uses.{Signatures, signatures, use_as, clocks_listed}
+use Rattle.xk_names.specs.Uses.{Signatures, signatures, use_as, declares, clocks_listed}
 use Rattle.xk_names.specs.Places as places
 use Rattle.xk_names.specs.Scoped.{IsSound, IsSoundInside, AreSound, with_all, with_body, method_scope, IsScoped}
-use Rattle.xk_names.specs.Collected.{put_text}
-use Rattle.xk_names.specs.Captures.{own_behind, shared_texts}
+use Rattle.xk_names.specs.Collected.{put_texts}
+use Rattle.xk_names.specs.Captures.{loop_words, own_behind, shared_texts}
 use Rattle.xk_names.proofs.Among.{from_flat, to_map, has_either}
 use Rattle.xk_names.proofs.Outside.{outer_found}
-use Rattle.xk_code.specs.CodeOf.{Setting, Scope, body_params, declared}
+use Rattle.xk_code.specs.CodeOf.{Setting, Scope, within_loop, body_params, declared}
 use Rattle.xk_code.specs.Unit.{scope_from}
 use Rattle.xk_code.specs.Covered.{IsUnitCovered}
 use Rattle.xk_code.specs.Reached.{AsyncBody, bodies_in_all, calls_in_all}
-use Rattle.xk_code.proofs.Covered.Fitting.{Texts, Fits, with_name, fits_behind, fits_loop, fits_body, body_names}
+use Rattle.xk_code.proofs.Covered.Fitting.{Texts, Fits, fits_behind, fits_loop, fits_body, body_names}
 use Rattle.xk_code.proofs.Covered.Known.{HasPlaces}
 use Rattle.xk_code.proofs.Covered.Statements.{Settled, all_covered}
 use Rattle.xk_code.proofs.CoveredLaw.{fits_method}
@@ -48,8 +48,9 @@ module _ (ms : Signatures) (shared : Texts) where
       | inl x ↦ stands sc scope own s fits inner.0.0 inner.0.1 p x
       | inr y ↦ stands sc scope own u fits inner.1.0 inner.1.1 p y
     ]
-    stands sc scope own (For at i lo hi s) fits sound inner p h =
-        stands (with_name sc i.text kind.Val) (scope ++ (i.text, 0) ∷ []) (put_text own i.text) s (fits_loop shared sc scope own 0 i fits) inner.0 inner.1 p h
+    stands sc scope own (For at i lo b s) fits sound inner p h =
+        stands (with_all sc (declares (length sc.bodies) (For at i lo b s))) (within_loop scope 0 i b) (put_texts own (loop_words i b)) s
+        (fits_loop shared sc scope own 0 at i lo b s fits) inner.0 inner.1 p h
     stands sc scope own (Async at cs s) fits sound inner p (inl e) =
         subst (PartStands ms shared) (sym e) (record { sc = sc; scope = scope; own = own; fits = fits; itself = sound; inside = inner })
     stands sc scope own (Async at cs s) fits sound inner p (inr h) =

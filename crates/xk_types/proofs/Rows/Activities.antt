@@ -11,13 +11,13 @@ use Rattle.xk_types.specs.declared.names.Event.TheVariants as event
 use Rattle.xk_types.specs.declared.rules.Rule.TheVariants as rule
 use Rattle.xk_types.specs.declared.rules.Kind.TheVariants as kind
 use Rattle.xk_types.specs.Code.{UnitValue, ModuleValue}
-use Rattle.xk_types.specs.World.{World, opening}
+use Rattle.xk_types.specs.World.{World}
 use Rattle.xk_types.specs.Step.{Cause, ClockUse, Missing, WrongKind, OutOfRange, Outcome, Blocked, Wrong, Stepped, step}
 use Rattle.xk_types.specs.Schedule.{Course, Through, Held, Wronged, run, is_enabled, printed, events}
 use Rattle.xk_types.specs.Walk.{After, To, Refused, row}
 use Rattle.xk_types.specs.Shape.{breaks}
 use Rattle.xk_types.specs.Bound.{total_within, steps_bound, activities_bound, clocks_bound, stack_bound}
-use Rattle.xk_types.proofs.Rows.Parts.{main_with, body_with, module_with, looked, each_kind}
+use Rattle.xk_types.proofs.Rows.Parts.{fresh, main_with, body_with, module_with, looked, each_kind}
 
 -- ---- modules
 
@@ -64,7 +64,7 @@ chosen choice m zero w = []
 chosen choice m (suc n) w = after_choice m w (choice m w) (chosen choice m n)
 
 abbrev always : (ModuleValue → World → Option ℕ) → ModuleValue → List ℕ
-always choice m = chosen choice m (suc (steps_bound m)) (opening m)
+always choice m = chosen choice m (suc (steps_bound m)) (fresh m)
 
 -- ---- what is looked at
 
@@ -107,19 +107,19 @@ abbrev pair_list : List ℕ
 pair_list = 0 ∷ 0 ∷ 0 ∷ 1 ∷ 0 ∷ 0 ∷ 0 ∷ 0 ∷ 1 ∷ 1 ∷ 1 ∷ 1 ∷ []
 
 -- all have ended after 12 steps; the clock advanced once, in the fourth
-pair_ended : looked (through (run pair_row pair_list (opening pair_row))) ≡ Some (true, 12, (1, 4) ∷ [])
+pair_ended : looked (through (run pair_row pair_list (fresh pair_row))) ≡ Some (true, 12, (1, 4) ∷ [])
 pair_ended = refl
 
-pair_printed : printed pair_row pair_list (opening pair_row) ≡ pos 1 ∷ pos 2 ∷ []
+pair_printed : printed pair_row pair_list (fresh pair_row) ≡ pos 1 ∷ pos 2 ∷ []
 pair_printed = refl
 
-pair_events : events pair_row pair_list (opening pair_row)
+pair_events : events pair_row pair_list (fresh pair_row)
     ≡ (0, event.Made) ∷ (0, event.Spawned) ∷ (0, event.Arrived) ∷ (1, event.Arrived) ∷ (0, event.Passed) ∷ (0, event.Local) ∷ (0, event.Printed (pos 1)) ∷ (0, event.Ended)
     ∷ (1, event.Passed) ∷ (1, event.Local) ∷ (1, event.Printed (pos 2)) ∷ (1, event.Ended) ∷ []
 pair_events = refl
 
 -- the child stands where main does, and is open when it starts
-pair_started : stood (through (run pair_row (0 ∷ 0 ∷ []) (opening pair_row))) ≡ Some ((standing.Open ∷ standing.Open ∷ []) ∷ [])
+pair_started : stood (through (run pair_row (0 ∷ 0 ∷ []) (fresh pair_row))) ≡ Some ((standing.Open ∷ standing.Open ∷ []) ∷ [])
 pair_started = refl
 
 abbrev pair_last_first : List ℕ
@@ -127,18 +127,18 @@ pair_last_first = 0 ∷ 0 ∷ 1 ∷ 0 ∷ 1 ∷ 1 ∷ 1 ∷ 1 ∷ 0 ∷ 0 ∷ 0 
 
 -- the last activity first: the child prints before main does
 pair_child_first : (always greatest pair_row ≡ pair_last_first)
-    × (looked (through (run pair_row pair_last_first (opening pair_row))) ≡ Some (true, 12, (1, 4) ∷ []))
-    × (printed pair_row pair_last_first (opening pair_row) ≡ pos 2 ∷ pos 1 ∷ [])
+    × (looked (through (run pair_row pair_last_first (fresh pair_row))) ≡ Some (true, 12, (1, 4) ∷ []))
+    × (printed pair_row pair_last_first (fresh pair_row) ≡ pos 2 ∷ pos 1 ∷ [])
 unfolding total_within
 pair_child_first = (refl, refl, refl)
 
 -- main waits for the child: its fourth step is blocked
-pair_waits : (looked (held (run pair_row (0 ∷ 0 ∷ 0 ∷ 0 ∷ []) (opening pair_row))) ≡ Some (false, 3, (0, 0) ∷ []))
-    × (stood (held (run pair_row (0 ∷ 0 ∷ 0 ∷ 0 ∷ []) (opening pair_row))) ≡ Some ((standing.Signalled ∷ standing.Open ∷ []) ∷ []))
+pair_waits : (looked (held (run pair_row (0 ∷ 0 ∷ 0 ∷ 0 ∷ []) (fresh pair_row))) ≡ Some (false, 3, (0, 0) ∷ []))
+    × (stood (held (run pair_row (0 ∷ 0 ∷ 0 ∷ 0 ∷ []) (fresh pair_row))) ≡ Some ((standing.Signalled ∷ standing.Open ∷ []) ∷ []))
 pair_waits = (refl, refl)
 
 -- there is no activity 1 before main starts it
-pair_alone : (run pair_row (1 ∷ []) (opening pair_row) ≡ Held (opening pair_row)) × (slice_get (opening pair_row).activities 1 ≡ None)
+pair_alone : (run pair_row (1 ∷ []) (fresh pair_row) ≡ Held (fresh pair_row)) × (slice_get (fresh pair_row).activities 1 ≡ None)
 pair_alone = (refl, refl)
 
 -- ---- a child that is given a clock on which its starter is ahead
@@ -154,12 +154,12 @@ unfolding total_within
 ahead_bounds = (refl, refl, refl)
 
 -- the clock advances at the resume, in the second step, and the child is ahead from its start
-ahead_started : (looked (through (run ahead_row (0 ∷ 0 ∷ []) (opening ahead_row))) ≡ Some (false, 2, (1, 2) ∷ []))
-    × (stood (through (run ahead_row (0 ∷ 0 ∷ 0 ∷ []) (opening ahead_row))) ≡ Some ((standing.Ahead ∷ standing.Ahead ∷ []) ∷ []))
+ahead_started : (looked (through (run ahead_row (0 ∷ 0 ∷ []) (fresh ahead_row))) ≡ Some (false, 2, (1, 2) ∷ []))
+    × (stood (through (run ahead_row (0 ∷ 0 ∷ 0 ∷ []) (fresh ahead_row))) ≡ Some ((standing.Ahead ∷ standing.Ahead ∷ []) ∷ []))
 ahead_started = (refl, refl)
 
 -- neither waits: main goes through to its end, and then the child does
-ahead_ended : looked (through (run ahead_row (0 ∷ 0 ∷ 0 ∷ 0 ∷ 0 ∷ 0 ∷ 1 ∷ 1 ∷ 1 ∷ []) (opening ahead_row))) ≡ Some (true, 9, (1, 2) ∷ [])
+ahead_ended : looked (through (run ahead_row (0 ∷ 0 ∷ 0 ∷ 0 ∷ 0 ∷ 0 ∷ 1 ∷ 1 ∷ 1 ∷ []) (fresh ahead_row))) ≡ Some (true, 9, (1, 2) ∷ [])
 ahead_ended = refl
 
 -- ---- a child that is given a clock on which its starter is signalled
@@ -176,7 +176,7 @@ unfolding total_within
 signalled_bounds = (refl, refl, refl)
 
 -- the first child is open, and the second is signalled as main is
-signalled_started : stood (through (run signalled_row (0 ∷ 0 ∷ 0 ∷ 0 ∷ []) (opening signalled_row)))
+signalled_started : stood (through (run signalled_row (0 ∷ 0 ∷ 0 ∷ 0 ∷ []) (fresh signalled_row)))
     ≡ Some ((standing.Signalled ∷ standing.Open ∷ standing.Signalled ∷ []) ∷ [])
 signalled_started = refl
 
@@ -185,8 +185,8 @@ signalled_first_first = 0 ∷ 0 ∷ 0 ∷ 0 ∷ 0 ∷ 1 ∷ 0 ∷ 0 ∷ 1 ∷ 1 
 
 -- the first activity first: the clock advances when the first child arrives
 signalled_ended : (always least signalled_row ≡ signalled_first_first)
-    × (looked (through (run signalled_row signalled_first_first (opening signalled_row))) ≡ Some (true, 15, (1, 6) ∷ []))
-    × (printed signalled_row signalled_first_first (opening signalled_row) ≡ pos 3 ∷ [])
+    × (looked (through (run signalled_row signalled_first_first (fresh signalled_row))) ≡ Some (true, 15, (1, 6) ∷ []))
+    × (printed signalled_row signalled_first_first (fresh signalled_row) ≡ pos 3 ∷ [])
 unfolding total_within
 signalled_ended = (refl, refl, refl)
 
@@ -207,8 +207,8 @@ drop_first_first = 0 ∷ 0 ∷ 0 ∷ 0 ∷ 1 ∷ 1 ∷ 1 ∷ 1 ∷ 1 ∷ []
 
 -- the first activity first: the clock advances when the child arrives
 drop_by_child : (always least drop_row ≡ drop_first_first)
-    × (looked (through (run drop_row drop_first_first (opening drop_row))) ≡ Some (true, 9, (1, 5) ∷ []))
-    × (printed drop_row drop_first_first (opening drop_row) ≡ pos 4 ∷ [])
+    × (looked (through (run drop_row drop_first_first (fresh drop_row))) ≡ Some (true, 9, (1, 5) ∷ []))
+    × (printed drop_row drop_first_first (fresh drop_row) ≡ pos 4 ∷ [])
 unfolding total_within
 drop_by_child = (refl, refl, refl)
 
@@ -217,8 +217,8 @@ drop_last_first = 0 ∷ 0 ∷ 1 ∷ 0 ∷ 1 ∷ 1 ∷ 1 ∷ 1 ∷ 0 ∷ []
 
 -- the last activity first: the clock advances when main drops it
 drop_by_main : (always greatest drop_row ≡ drop_last_first)
-    × (looked (through (run drop_row drop_last_first (opening drop_row))) ≡ Some (true, 9, (1, 4) ∷ []))
-    × (printed drop_row drop_last_first (opening drop_row) ≡ pos 4 ∷ [])
+    × (looked (through (run drop_row drop_last_first (fresh drop_row))) ≡ Some (true, 9, (1, 4) ∷ []))
+    × (printed drop_row drop_last_first (fresh drop_row) ≡ pos 4 ∷ [])
 unfolding total_within
 drop_by_main = (refl, refl, refl)
 
@@ -235,8 +235,8 @@ unfolding total_within
 phases_bounds = (refl, refl, refl)
 
 -- The child passes its first `advance`, and waits at its second, since main hasn't passed: the seventh step is blocked.
-phases_waits : (looked (held (run phases_row (0 ∷ 0 ∷ 0 ∷ 1 ∷ 1 ∷ 1 ∷ 1 ∷ []) (opening phases_row))) ≡ Some (false, 6, (1, 4) ∷ []))
-    × (stood (held (run phases_row (0 ∷ 0 ∷ 0 ∷ 1 ∷ 1 ∷ 1 ∷ 1 ∷ []) (opening phases_row))) ≡ Some ((standing.Ahead ∷ standing.Signalled ∷ []) ∷ []))
+phases_waits : (looked (held (run phases_row (0 ∷ 0 ∷ 0 ∷ 1 ∷ 1 ∷ 1 ∷ 1 ∷ []) (fresh phases_row))) ≡ Some (false, 6, (1, 4) ∷ []))
+    × (stood (held (run phases_row (0 ∷ 0 ∷ 0 ∷ 1 ∷ 1 ∷ 1 ∷ 1 ∷ []) (fresh phases_row))) ≡ Some ((standing.Ahead ∷ standing.Signalled ∷ []) ∷ []))
 phases_waits = (refl, refl)
 
 -- ---- three clocks, and three children on two of them each
@@ -261,7 +261,7 @@ unfolding total_within
 ring_chosen = refl
 
 -- nobody waits for ever: each clock advances twice
-ring_ended : looked (through (run ring_row ring_first_first (opening ring_row))) ≡ Some (true, 22, (2, 16) ∷ (2, 14) ∷ (2, 16) ∷ [])
+ring_ended : looked (through (run ring_row ring_first_first (fresh ring_row))) ≡ Some (true, 22, (2, 16) ∷ (2, 14) ∷ (2, 16) ∷ [])
 ring_ended = refl
 
 -- ---- wrong starts
@@ -276,7 +276,7 @@ starting code = module_with (
 
 -- what is wrong when main takes these steps
 abbrev wrong_at : List Instr → List ℕ → Option (Cause × ℕ)
-wrong_at code list = wronged (run (starting code) list (opening (starting code)))
+wrong_at code list = wronged (run (starting code) list (fresh (starting code)))
 
 -- there is no such unit, the unit is main, it wants an argument more or one less, there is no such slot
 wrong_range : (wrong_at (instr.Spawn 3 [] ∷ []) (0 ∷ []) ≡ Some (OutOfRange, 0))
@@ -303,8 +303,8 @@ wrong_kind = (refl, refl)
 abbrev number_row : ModuleValue
 number_row = starting (instr.Lit 0 (pos 7) ∷ instr.Spawn 2 (0 ∷ []) ∷ instr.Ret ∷ [])
 
-number_printed : (looked (through (run number_row (0 ∷ 0 ∷ 0 ∷ 1 ∷ 1 ∷ []) (opening number_row))) ≡ Some (true, 5, []))
-    × (printed number_row (0 ∷ 0 ∷ 0 ∷ 1 ∷ 1 ∷ []) (opening number_row) ≡ pos 7 ∷ [])
+number_printed : (looked (through (run number_row (0 ∷ 0 ∷ 0 ∷ 1 ∷ 1 ∷ []) (fresh number_row))) ≡ Some (true, 5, []))
+    × (printed number_row (0 ∷ 0 ∷ 0 ∷ 1 ∷ 1 ∷ []) (fresh number_row) ≡ pos 7 ∷ [])
 number_printed = (refl, refl)
 
 -- ---- shape

@@ -7,13 +7,12 @@ use Rattle.xk_types.specs.declared.rules.Rule.TheVariants as rule
 use Rattle.xk_types.specs.declared.rules.Kind.TheVariants as kind
 use Rattle.xk_types.specs.Code.{UnitValue, ModuleValue}
 use Rattle.xk_types.specs.Blocks.{block_at, homes}
-use Rattle.xk_types.specs.World.{opening}
 use Rattle.xk_types.specs.Step.{under_within}
 use Rattle.xk_types.specs.Schedule.{Course, Through, Held, Wronged, run, all_ended, printed}
 use Rattle.xk_types.specs.Walk.{IsRefusedAt}
 use Rattle.xk_types.specs.Shape.{breaks}
 use Rattle.xk_types.specs.Bound.{total_within, stack_of, chain_within, frames_of, nesting, room_of, steps_bound, activities_bound, clocks_bound}
-use Rattle.xk_types.proofs.Rows.Parts.{main_with, method_with, body_with, module_with, visit}
+use Rattle.xk_types.proofs.Rows.Parts.{fresh, main_with, method_with, body_with, module_with, visit}
 
 -- how many steps were taken, and whether all have ended, where the list is legal; where it isn't, before which of its members it stops
 pub data Way : Type 0 where
@@ -40,13 +39,13 @@ unfolding total_within
 nested_bounds = (refl, refl, refl)
 
 -- The finish waits for the child, and for the grandchild too, though the child has ended.
-nested_waits : (way (run nested (0 ∷ 0 ∷ 0 ∷ []) (opening nested)) ≡ Stops 2) × (way (run nested (0 ∷ 0 ∷ 1 ∷ 1 ∷ 0 ∷ []) (opening nested)) ≡ Stops 4)
+nested_waits : (way (run nested (0 ∷ 0 ∷ 0 ∷ []) (fresh nested)) ≡ Stops 2) × (way (run nested (0 ∷ 0 ∷ 1 ∷ 1 ∷ 0 ∷ []) (fresh nested)) ≡ Stops 4)
 unfolding under_within
 nested_waits = (refl, refl)
 
 -- 1 is printed before 2
-nested_ends : (way (run nested (0 ∷ 0 ∷ 1 ∷ 1 ∷ 2 ∷ 2 ∷ 2 ∷ 0 ∷ 0 ∷ 0 ∷ 0 ∷ []) (opening nested)) ≡ Goes 11 true)
-    × (printed nested (0 ∷ 0 ∷ 1 ∷ 2 ∷ 2 ∷ 1 ∷ 2 ∷ 0 ∷ 0 ∷ 0 ∷ 0 ∷ []) (opening nested) ≡ pos 1 ∷ pos 2 ∷ [])
+nested_ends : (way (run nested (0 ∷ 0 ∷ 1 ∷ 1 ∷ 2 ∷ 2 ∷ 2 ∷ 0 ∷ 0 ∷ 0 ∷ 0 ∷ []) (fresh nested)) ≡ Goes 11 true)
+    × (printed nested (0 ∷ 0 ∷ 1 ∷ 2 ∷ 2 ∷ 1 ∷ 2 ∷ 0 ∷ 0 ∷ 0 ∷ 0 ∷ []) (fresh nested) ≡ pos 1 ∷ pos 2 ∷ [])
 unfolding under_within
 nested_ends = (refl, refl)
 
@@ -60,15 +59,15 @@ through = module_with (
     ∷ [])
 
 -- (The module isn't accepted: activity 1 ends with its finish open. So main waits for activity 2 alone, which that finish governs.)
-through_waits : (way (run through (0 ∷ 0 ∷ 1 ∷ 1 ∷ 1 ∷ 0 ∷ []) (opening through)) ≡ Stops 5)
-    × (way (run through (0 ∷ 0 ∷ 1 ∷ 1 ∷ 1 ∷ 2 ∷ 0 ∷ 0 ∷ []) (opening through)) ≡ Goes 8 true)
+through_waits : (way (run through (0 ∷ 0 ∷ 1 ∷ 1 ∷ 1 ∷ 0 ∷ []) (fresh through)) ≡ Stops 5)
+    × (way (run through (0 ∷ 0 ∷ 1 ∷ 1 ∷ 1 ∷ 2 ∷ 0 ∷ 0 ∷ []) (fresh through)) ≡ Goes 8 true)
 unfolding under_within
 through_waits = (refl, refl)
 
 -- ---- no finish is open
 
 closes_nothing : way (run (module_with (main_with 0 (instr.EndFinish 0 ∷ instr.Ret ∷ []) ∷ [])) (0 ∷ [])
-    (opening (module_with (main_with 0 (instr.EndFinish 0 ∷ instr.Ret ∷ []) ∷ [])))) ≡ Fails 0
+    (fresh (module_with (main_with 0 (instr.EndFinish 0 ∷ instr.Ret ∷ []) ∷ [])))) ≡ Fails 0
 closes_nothing = refl
 
 -- ---- a clock that is made outside is handed on inside: the child would wait for main, and main for the child
@@ -84,7 +83,7 @@ outer_registers : (breaks outer rule.Registers 0 2 ≡ true) × (breaks outer ru
 outer_registers = (refl, refl, refl, refl, refl)
 
 -- so they would: after three steps of main and one of the other, nobody is enabled
-outer_stuck : (way (run outer (0 ∷ 0 ∷ 0 ∷ 1 ∷ 0 ∷ []) (opening outer)) ≡ Stops 4) × (way (run outer (0 ∷ 0 ∷ 0 ∷ 1 ∷ 1 ∷ []) (opening outer)) ≡ Stops 4)
+outer_stuck : (way (run outer (0 ∷ 0 ∷ 0 ∷ 1 ∷ 0 ∷ []) (fresh outer)) ≡ Stops 4) × (way (run outer (0 ∷ 0 ∷ 0 ∷ 1 ∷ 1 ∷ []) (fresh outer)) ≡ Stops 4)
 unfolding under_within
 outer_stuck = (refl, refl)
 
@@ -127,7 +126,7 @@ dropped_bounds : (steps_bound dropped ≡ 9) × (activities_bound dropped ≡ 2)
 unfolding total_within
 dropped_bounds = (refl, refl, refl)
 
-dropped_ends : way (run dropped (0 ∷ 0 ∷ 0 ∷ 1 ∷ 0 ∷ 1 ∷ 1 ∷ 0 ∷ 0 ∷ []) (opening dropped)) ≡ Goes 9 true
+dropped_ends : way (run dropped (0 ∷ 0 ∷ 0 ∷ 1 ∷ 0 ∷ 1 ∷ 1 ∷ 0 ∷ 0 ∷ []) (fresh dropped)) ≡ Goes 9 true
 unfolding under_within
 dropped_ends = refl
 

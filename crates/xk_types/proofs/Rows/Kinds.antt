@@ -7,11 +7,10 @@ use Rattle.xk_types.specs.declared.unit.ParamKind.TheVariants as param
 use Rattle.xk_types.specs.declared.rules.Rule.TheVariants as rule
 use Rattle.xk_types.specs.declared.rules.Kind.TheVariants as kind
 use Rattle.xk_types.specs.Code.{UnitValue, ModuleValue}
-use Rattle.xk_types.specs.World.{opening}
 use Rattle.xk_types.specs.Schedule.{Course, Through, Held, Wronged, run}
 use Rattle.xk_types.specs.Walk.{After, To, Refused, row, entry_kinds, IsRefusedAt}
 use Rattle.xk_types.specs.Shape.{breaks}
-use Rattle.xk_types.proofs.Rows.Parts.{each_kind}
+use Rattle.xk_types.proofs.Rows.Parts.{fresh, each_kind}
 
 abbrev unit_of : Instr → UnitValue
 unit_of i = record { kind = unit_kind.Main; params = []; slots = 2; code = i ∷ instr.Ret ∷ [] }
@@ -95,5 +94,5 @@ passes (Through w) = map (λ act. act.since) w.activities
 passes (Held w) = []
 passes (Wronged w c) = []
 
-since_handed_on : passes (run since_row (0 ∷ 0 ∷ 0 ∷ 0 ∷ []) (opening since_row)) ≡ 3 ∷ 3 ∷ []
+since_handed_on : passes (run since_row (0 ∷ 0 ∷ 0 ∷ 0 ∷ []) (fresh since_row)) ≡ 3 ∷ 3 ∷ []
 since_handed_on = refl

@@ -8,13 +8,12 @@ use Rattle.xk_types.specs.declared.rules.Rule.{Rule}
 use Rattle.xk_types.specs.declared.rules.Rule.TheVariants as rule
 use Rattle.xk_types.specs.declared.rules.Kind.TheVariants as kind
 use Rattle.xk_types.specs.Code.{UnitValue, ModuleValue, compares}
-use Rattle.xk_types.specs.World.{opening}
 use Rattle.xk_types.specs.Step.{Missing, OutOfRange}
 use Rattle.xk_types.specs.Schedule.{Course, Through, Held, Wronged, run, all_ended, printed}
 use Rattle.xk_types.specs.Walk.{IsRefusedAt}
 use Rattle.xk_types.specs.Shape.{breaks}
 use Rattle.xk_types.specs.Bound.{steps_bound, clocks_bound}
-use Rattle.xk_types.proofs.Rows.Parts.{main_with, main_only, visit, cause_of}
+use Rattle.xk_types.proofs.Rows.Parts.{fresh, main_with, main_only, visit, cause_of}
 
 -- whether all have ended in the last world, and the steps taken; nothing where the list stops
 abbrev ended_after : Course → Option (Bool × ℕ)
@@ -35,10 +34,10 @@ unfolding Rattle.xk_types.specs.Bound.total_within
 branch_bound = refl
 
 -- `unless` goes to its target, since 2 and 1 aren't equal
-branch_printed : printed branch_row (replicate 6 0) (opening branch_row) ≡ pos 0 ∷ []
+branch_printed : printed branch_row (replicate 6 0) (fresh branch_row) ≡ pos 0 ∷ []
 branch_printed = refl
 
-branch_ends : ended_after (run branch_row (replicate 6 0) (opening branch_row)) ≡ Some (true, 6)
+branch_ends : ended_after (run branch_row (replicate 6 0) (fresh branch_row)) ≡ Some (true, 6)
 branch_ends = refl
 
 abbrev compared : Comparison → List Bool
@@ -108,11 +107,11 @@ drops_refused = record {
 abbrev counting : ℤ → ℤ → ModuleValue
 counting lo hi = main_only 1 (instr.For 0 lo hi 2 ∷ instr.Print 0 ∷ instr.Next 0 ∷ instr.Ret ∷ [])
 
-counting_prints : printed (counting (negsuc 0) (pos 1)) (replicate 8 0) (opening (counting (negsuc 0) (pos 1))) ≡ negsuc 0 ∷ pos 0 ∷ pos 1 ∷ []
+counting_prints : printed (counting (negsuc 0) (pos 1)) (replicate 8 0) (fresh (counting (negsuc 0) (pos 1))) ≡ negsuc 0 ∷ pos 0 ∷ pos 1 ∷ []
 counting_prints = refl
 
 -- a `for`, three turns of two steps, a `ret`
-counting_ends : ended_after (run (counting (negsuc 0) (pos 1)) (replicate 8 0) (opening (counting (negsuc 0) (pos 1)))) ≡ Some (true, 8)
+counting_ends : ended_after (run (counting (negsuc 0) (pos 1)) (replicate 8 0) (fresh (counting (negsuc 0) (pos 1)))) ≡ Some (true, 8)
 counting_ends = refl
 
 counting_bound : steps_bound (counting (negsuc 0) (pos 1)) ≡ 8
@@ -141,14 +140,14 @@ clocks_in_loops = refl
 
 -- what is wrong at a `next` outside of its loop, or without one
 next_of_nothing : cause_of (run (main_only 1 (instr.Lit 0 (pos 1) ∷ instr.Next 0 ∷ instr.Ret ∷ [])) (replicate 2 0)
-    (opening (main_only 1 (instr.Lit 0 (pos 1) ∷ instr.Next 0 ∷ instr.Ret ∷ [])))) ≡ Some OutOfRange
+    (fresh (main_only 1 (instr.Lit 0 (pos 1) ∷ instr.Next 0 ∷ instr.Ret ∷ [])))) ≡ Some OutOfRange
 next_of_nothing = refl
 
 next_unset : cause_of (run (main_only 1 (instr.Jump 2 ∷ instr.For 0 (pos 1) (pos 2) 2 ∷ instr.Next 1 ∷ instr.Ret ∷ [])) (replicate 2 0)
-    (opening (main_only 1 (instr.Jump 2 ∷ instr.For 0 (pos 1) (pos 2) 2 ∷ instr.Next 1 ∷ instr.Ret ∷ [])))) ≡ Some Missing
+    (fresh (main_only 1 (instr.Jump 2 ∷ instr.For 0 (pos 1) (pos 2) 2 ∷ instr.Next 1 ∷ instr.Ret ∷ [])))) ≡ Some Missing
 next_unset = refl
 
-jump_beyond : cause_of (run (main_only 1 (instr.Jump 9 ∷ instr.Ret ∷ [])) (replicate 2 0) (opening (main_only 1 (instr.Jump 9 ∷ instr.Ret ∷ [])))) ≡ Some OutOfRange
+jump_beyond : cause_of (run (main_only 1 (instr.Jump 9 ∷ instr.Ret ∷ [])) (replicate 2 0) (fresh (main_only 1 (instr.Jump 9 ∷ instr.Ret ∷ [])))) ≡ Some OutOfRange
 jump_beyond = refl
 
 -- ---- the rules on targets and loops, at the first places of main

@@ -8,13 +8,12 @@ use Rattle.xk_types.specs.declared.names.Event.TheVariants as event
 use Rattle.xk_types.specs.declared.rules.Rule.TheVariants as rule
 use Rattle.xk_types.specs.declared.rules.Kind.TheVariants as kind
 use Rattle.xk_types.specs.Code.{UnitValue, ModuleValue}
-use Rattle.xk_types.specs.World.{opening}
 use Rattle.xk_types.specs.Step.{OutOfRange}
 use Rattle.xk_types.specs.Schedule.{Course, Through, Held, Wronged, run, all_ended, printed, events}
 use Rattle.xk_types.specs.Walk.{To, Refused, row, IsRefusedAt}
 use Rattle.xk_types.specs.Shape.{breaks}
 use Rattle.xk_types.specs.Bound.{total_within, chain_within, steps_bound, activities_bound, clocks_bound, stack_bound}
-use Rattle.xk_types.proofs.Rows.Parts.{main_with, method_with, module_with, visit, cause_of}
+use Rattle.xk_types.proofs.Rows.Parts.{fresh, main_with, method_with, module_with, visit, cause_of}
 
 -- ---- a method that waits for all clocks, of which it is lent one
 
@@ -34,10 +33,10 @@ looked (Through w) = Some (all_ended w, w.steps, map (λ c. (c.phase, c.last)) w
 looked (Held w) = None
 looked (Wronged w c) = None
 
-stepping_ends : looked (run stepping (replicate 9 0) (opening stepping)) ≡ Some (true, 9, (1, 5) ∷ (2, 8) ∷ [])
+stepping_ends : looked (run stepping (replicate 9 0) (fresh stepping)) ≡ Some (true, 9, (1, 5) ∷ (2, 8) ∷ [])
 stepping_ends = refl
 
-stepping_events : map (λ p. p.1) (events stepping (replicate 9 0) (opening stepping))
+stepping_events : map (λ p. p.1) (events stepping (replicate 9 0) (fresh stepping))
     ≡ event.Made ∷ event.Made ∷ event.Resumed ∷ event.Local ∷ event.Arrived ∷ event.Passed ∷ event.Local ∷ event.Resumed ∷ event.Ended ∷ []
 stepping_events = refl
 
@@ -96,7 +95,7 @@ calls_amiss = (refl, refl, refl, refl, refl, refl)
 
 -- a call of what is no method is wrong
 call_of_main : cause_of (run (module_with (main_with 0 (instr.Call 0 [] ∷ instr.Ret ∷ []) ∷ [])) (0 ∷ [])
-    (opening (module_with (main_with 0 (instr.Call 0 [] ∷ instr.Ret ∷ []) ∷ [])))) ≡ Some OutOfRange
+    (fresh (module_with (main_with 0 (instr.Call 0 [] ∷ instr.Ret ∷ []) ∷ [])))) ≡ Some OutOfRange
 call_of_main = refl
 
 -- ---- frames
@@ -108,12 +107,12 @@ nested = module_with (
     ∷ method_with (param.Number ∷ []) 2 (instr.Add 0 0 0 ∷ instr.Call 2 (0 ∷ []) ∷ instr.Print 0 ∷ instr.Ret ∷ [])
     ∷ method_with (param.Number ∷ []) 60 (instr.Add 0 0 0 ∷ instr.Print 0 ∷ instr.Ret ∷ []) ∷ [])
 
-nested_printed : printed nested (replicate 19 0) (opening nested) ≡ pos 8 ∷ pos 4 ∷ pos 8 ∷ pos 4 ∷ pos 2 ∷ []
+nested_printed : printed nested (replicate 19 0) (fresh nested) ≡ pos 8 ∷ pos 4 ∷ pos 8 ∷ pos 4 ∷ pos 2 ∷ []
 nested_printed = refl
 
 nested_bounds : (steps_bound nested ≡ 19) × (stack_bound nested ≡ 63)
 unfolding total_within chain_within
 nested_bounds = (refl, refl)
 
-nested_ends : looked (run nested (replicate 19 0) (opening nested)) ≡ Some (true, 19, [])
+nested_ends : looked (run nested (replicate 19 0) (fresh nested)) ≡ Some (true, 19, [])
 nested_ends = refl

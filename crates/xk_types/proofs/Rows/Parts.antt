@@ -4,7 +4,7 @@ use Rattle.xk_types.specs.declared.instr.Instr.{Instr}
 use Rattle.xk_types.specs.declared.unit.UnitKind.TheVariants as unit_kind
 use Rattle.xk_types.specs.declared.rules.Kind.TheVariants as kind
 use Rattle.xk_types.specs.Code.{ModuleValue, UnitValue}
-use Rattle.xk_types.specs.World.{World}
+use Rattle.xk_types.specs.World.{World, opening}
 use Rattle.xk_types.specs.Step.{Cause}
 use Rattle.xk_types.specs.Schedule.{Course, Through, Held, Wronged, all_ended}
 use Rattle.xk_types.specs.declared.unit.ParamKind.{ParamKind}
@@ -30,6 +30,10 @@ module_with units = record { shared = []; units = units }
 -- main alone
 abbrev pub main_only : ℕ → List Instr → ModuleValue
 main_only slots code = record { shared = []; units = main_with slots code ∷ [] }
+
+-- the opening world of a module whose main takes nothing
+abbrev pub fresh : ModuleValue → World
+fresh m = opening m []
 
 -- a stop of a walk
 abbrev pub visit : ℕ → Kind → Visit

@@ -6,12 +6,11 @@ use Rattle.xk_types.specs.declared.unit.ParamKind.TheVariants as param
 use Rattle.xk_types.specs.declared.names.Event.TheVariants as event
 use Rattle.xk_types.specs.declared.rules.Rule.TheVariants as rule
 use Rattle.xk_types.specs.Code.{ModuleValue}
-use Rattle.xk_types.specs.World.{opening}
 use Rattle.xk_types.specs.Step.{Cause, Missing, OutOfRange, under_within}
 use Rattle.xk_types.specs.Schedule.{Course, Through, Held, Wronged, run, all_ended, printed, events}
 use Rattle.xk_types.specs.Shape.{breaks}
 use Rattle.xk_types.specs.Bound.{total_within, steps_bound, activities_bound, clocks_bound}
-use Rattle.xk_types.proofs.Rows.Parts.{main_with, body_with}
+use Rattle.xk_types.proofs.Rows.Parts.{fresh, main_with, body_with}
 
 -- what a list comes to: the shared numbers and whether all have ended, or why it stops
 pub data Way : Type 0 where
@@ -39,8 +38,8 @@ unfolding total_within
 sum_bounds = (refl, refl, refl)
 
 -- in any order the sum is the same
-sum_ends : (way (run sum (0 ∷ 0 ∷ 0 ∷ 0 ∷ 0 ∷ 0 ∷ 0 ∷ 0 ∷ 3 ∷ 1 ∷ 2 ∷ 3 ∷ 2 ∷ 1 ∷ 0 ∷ 0 ∷ 0 ∷ 0 ∷ []) (opening sum)) ≡ Leaves (pos 6 ∷ []) true)
-    × (printed sum (0 ∷ 0 ∷ 0 ∷ 1 ∷ 1 ∷ 0 ∷ 0 ∷ 2 ∷ 2 ∷ 0 ∷ 0 ∷ 3 ∷ 3 ∷ 0 ∷ 0 ∷ 0 ∷ 0 ∷ 0 ∷ []) (opening sum) ≡ pos 6 ∷ [])
+sum_ends : (way (run sum (0 ∷ 0 ∷ 0 ∷ 0 ∷ 0 ∷ 0 ∷ 0 ∷ 0 ∷ 3 ∷ 1 ∷ 2 ∷ 3 ∷ 2 ∷ 1 ∷ 0 ∷ 0 ∷ 0 ∷ 0 ∷ []) (fresh sum)) ≡ Leaves (pos 6 ∷ []) true)
+    × (printed sum (0 ∷ 0 ∷ 0 ∷ 1 ∷ 1 ∷ 0 ∷ 0 ∷ 2 ∷ 2 ∷ 0 ∷ 0 ∷ 3 ∷ 3 ∷ 0 ∷ 0 ∷ 0 ∷ 0 ∷ 0 ∷ []) (fresh sum) ≡ pos 6 ∷ [])
 unfolding under_within
 sum_ends = (refl, refl)
 
@@ -55,10 +54,10 @@ passes = record {
   units = main_with 1 (instr.Get 0 1 ∷ instr.Put 0 0 ∷ instr.AddTo 1 0 ∷ instr.Ret ∷ []) ∷ [];
 }
 
-passes_ends : way (run passes (0 ∷ 0 ∷ 0 ∷ 0 ∷ []) (opening passes)) ≡ Leaves (pos 8 ∷ pos 16 ∷ []) true
+passes_ends : way (run passes (0 ∷ 0 ∷ 0 ∷ 0 ∷ []) (fresh passes)) ≡ Leaves (pos 8 ∷ pos 16 ∷ []) true
 passes_ends = refl
 
-passes_events : events passes (0 ∷ 0 ∷ 0 ∷ 0 ∷ []) (opening passes) ≡ (0, event.Got) ∷ (0, event.Put) ∷ (0, event.Added) ∷ (0, event.Ended) ∷ []
+passes_events : events passes (0 ∷ 0 ∷ 0 ∷ 0 ∷ []) (fresh passes) ≡ (0, event.Got) ∷ (0, event.Put) ∷ (0, event.Added) ∷ (0, event.Ended) ∷ []
 passes_events = refl
 
 -- ---- what goes wrong: no such number, an unset slot
@@ -66,9 +65,9 @@ passes_events = refl
 abbrev alone : List Instr → ModuleValue
 alone code = record { shared = []; units = main_with 1 code ∷ [] }
 
-no_cell : (way (run (alone (instr.Get 0 0 ∷ instr.Ret ∷ [])) (0 ∷ []) (opening (alone (instr.Get 0 0 ∷ instr.Ret ∷ [])))) ≡ Fails OutOfRange)
+no_cell : (way (run (alone (instr.Get 0 0 ∷ instr.Ret ∷ [])) (0 ∷ []) (fresh (alone (instr.Get 0 0 ∷ instr.Ret ∷ [])))) ≡ Fails OutOfRange)
     × (breaks (alone (instr.Get 0 0 ∷ instr.Ret ∷ [])) rule.Cell 0 0 ≡ true) × (breaks (alone (instr.Get 0 0 ∷ instr.Ret ∷ [])) rule.Cell 0 1 ≡ false)
 no_cell = (refl, refl, refl)
 
-unset : way (run (alone (instr.Put 0 0 ∷ instr.Ret ∷ [])) (0 ∷ []) (opening (alone (instr.Put 0 0 ∷ instr.Ret ∷ [])))) ≡ Fails Missing
+unset : way (run (alone (instr.Put 0 0 ∷ instr.Ret ∷ [])) (0 ∷ []) (fresh (alone (instr.Put 0 0 ∷ instr.Ret ∷ [])))) ≡ Fails Missing
 unset = refl

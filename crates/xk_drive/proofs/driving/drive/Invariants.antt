@@ -5,7 +5,7 @@ use Rattle.xk_drive.proofs.driving.drive.Given as goal
 
 -- the log is that of a run which the chooser chose
 abbrev pub invariant-loop-run : goal.invariant-loop-run
-invariant-loop-run g l = IsGoing g.C.Chooser.answer g.C.Chooser.after l.fn.start.module_run l.fn.chooser l.run.log.items l.run.driver l.chooser
+invariant-loop-run g l = IsGoing g.C.Chooser.answer g.C.Chooser.after l.fn.start.module_run l.fn.start.world.arguments l.fn.chooser l.run.log.items l.run.driver l.chooser
 
 -- steps left
 abbrev pub decreases-loop-run : goal.decreases-loop-run

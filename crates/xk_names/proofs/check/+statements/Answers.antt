@@ -1,15 +1,16 @@
-use Rattle.std.proofs.Common.{List, [], ◌∷◌, length, suc, option_map, ◌∙◌, ap, sym, arith}
+use Rattle.std.proofs.Common.{List, [], ◌∷◌, ◌++◌, length, suc, option_map, ◌∙◌, ap, sym, arith}
 use Rattle.std.proofs.lemmas.Result.{on_ok_weaker}
 use Rattle.xk_tree.specs.declared.tree.Stmt.{Stmt}
 use Rattle.xk_tree.specs.declared.tree.Stmt.TheVariants as stmt
 use Rattle.xk_tree.specs.declared.tree.Stmt.TheOpen as layer
 use Rattle.xk_tree.specs.declared.tree.Stmt.TheFolds.{fold-roll-Stmt}
-use Rattle.xk_tree.specs.Tree.{Statement, Block, If, IfElse, For, Async, Finish, layer_statement, expression, statement, statements, clock_list, word}
+use Rattle.xk_tree.specs.Tree.{Statement, Block, If, IfElse, For, Async, Finish, layer_statement, expression, statement, statements, clock_list, word, bound}
 use Rattle.xk_names.specs.declared.known.Kind.TheVariants as kind
 use Rattle.xk_names.specs.Scope.{Declaration, Scope, known}
-use Rattle.xk_names.specs.Uses.{clocks_listed}
+use Rattle.xk_names.specs.Uses.{bound_declares, clocks_listed}
 use Rattle.xk_names.specs.Places.{behind}
 use Rattle.xk_names.specs.Collected.{with_declared, body_of, faults, among, least}
+use Rattle.xk_names.proofs.Loops.{loop_behind}
 use Rattle.xk_names.proofs.Steps.{inside_found, both_found, block_turn, after_turn}
 use Rattle.xk_names.proofs.check.+statements.Goals as goal
 
@@ -53,12 +54,12 @@ pub check-returns-in-For-clause-faults : goal.check-returns-in-For-clause-faults
 check-returns-in-For-clause-faults t c =
     let name : Declaration = record { name = word c.in-For.x; known = known kind.Val (length c.args.scope.now.bodies) } in
     on_ok_weaker c.check_loop.result (λ h.
-    inside_found c.args.methods.now c.args.scope.now (statement c.args.s.now) (For c.in-For.field-0 (word c.in-For.x) c.in-For.field-2 c.in-For.field-3
+    inside_found c.args.methods.now c.args.scope.now (statement c.args.s.now) (For c.in-For.field-0 (word c.in-For.x) c.in-For.field-2 (bound c.in-For.limit)
     (statement c.in-For.s.value)) c.args.worst.now c.check_own.new.worst c.check_loop.new.worst
-    (ap statement c.in-For.is ∙ ap statement (sym (stmt.rolls-For c.in-For.field-0 c.in-For.x c.in-For.field-2 c.in-For.field-3 c.in-For.s))
-    ∙ fold-roll-Stmt Statement layer_statement (layer.For c.in-For.field-0 c.in-For.x c.in-For.field-2 c.in-For.field-3 c.in-For.s)) c.in_ok-check_own.ensures
+    (ap statement c.in-For.is ∙ ap statement (sym (stmt.rolls-For c.in-For.field-0 c.in-For.x c.in-For.field-2 c.in-For.limit c.in-For.s))
+    ∙ fold-roll-Stmt Statement layer_statement (layer.For c.in-For.field-0 c.in-For.x c.in-For.field-2 c.in-For.limit c.in-For.s)) c.in_ok-check_own.ensures
     (h
-    ∙ ap (λ (q : Stmt). least c.check_own.new.worst (faults c.args.methods.now (with_declared c.args.scope.now (name ∷ [])) (statement q))) c.deref-in-For.ensures))
+    ∙ ap (λ (q : Stmt). least c.check_own.new.worst (faults c.args.methods.now (with_declared c.args.scope.now (name ∷ bound_declares (length c.args.scope.now.bodies) (bound c.in-For.limit))) (statement q))) c.deref-in-For.ensures))
     c.check_loop.ensures.faults
 
 pub check-returns-in_ok-clocks-in-Async-clause-faults : goal.check-returns-in_ok-clocks-in-Async-clause-faults
@@ -97,9 +98,11 @@ check_block-loop-s-preserved t c = record {
 pub check_loop-returns-clause-scope : goal.check_loop-returns-clause-scope
 check_loop-returns-clause-scope t c =
     let name : Declaration = record { name = word c.args.x; known = known kind.Val (length c.args.scope.now.bodies) } in
+    let limits : List Declaration = bound_declares (length c.args.scope.now.bodies) (bound c.args.limit.now) in
     let held : List Declaration = behind (length c.args.scope.now.bodies) (statement c.args.s.now) in
-    c.cut.ensures.behind c.args.scope.now (name ∷ held)
-    (c.in_ok-check.ensures.scope ∙ ap (λ (k : Scope). with_declared k (behind (length k.bodies) (statement c.args.s.now))) c.in_ok-declare.ensures) c.len-outside.ensures
+    c.cut.ensures.behind c.args.scope.now (name ∷ (limits ++ held))
+    (loop_behind c.args.scope.now c.declare.new.self c.declare_limit.new.scope c.check.new.scope name (bound c.args.limit.now) (statement c.args.s.now)
+    c.in_ok-declare.ensures c.in_ok-declare_limit.ensures c.in_ok-check.ensures.scope) c.len-outside.ensures
 
 pub check_body-returns-clause-scope : goal.check_body-returns-clause-scope
 check_body-returns-clause-scope t c =

@@ -1,14 +1,15 @@
-use Rattle.std.proofs.Common.{◌∷◌, map, option_map, sym, ◌∙◌, ap, arith}
+use Rattle.std.proofs.Common.{◌∷◌, ◌++◌, map, option_map, sym, ◌∙◌, ap, arith}
 use Rattle.std.proofs.lemmas.Result.{on_ok_weaker}
 use Rattle.xk_tree.specs.declared.tree.Stmt.{Stmt}
 use Rattle.xk_tree.specs.declared.tree.Stmt.TheVariants as stmt
 use Rattle.xk_tree.specs.declared.tree.Stmt.TheOpen as layer
 use Rattle.xk_tree.specs.declared.tree.Stmt.TheFolds.{fold-roll-Stmt}
-use Rattle.xk_tree.specs.Tree.{Word, Statement, Block, If, IfElse, For, Async, Finish, layer_statement, expression, statement, statements, clock_list, word}
+use Rattle.xk_tree.specs.Tree.{Word, Statement, Block, If, IfElse, For, Async, Finish, layer_statement, expression, statement, statements, clock_list, word, bound}
 use Rattle.std.proofs.Common.{List}
 use Rattle.xk_names.specs.Places.{behind}
-use Rattle.xk_names.specs.Captures.{outer_words, outer_among, own_behind}
-use Rattle.xk_names.specs.Collected.{put_text, put_texts}
+use Rattle.xk_names.specs.Captures.{loop_words, outer_words, outer_among, own_behind}
+use Rattle.xk_names.specs.Collected.{put_texts}
+use Rattle.xk_names.proofs.Least.{put_texts_append}
 use Rattle.xk_names.proofs.Taken.{inner_taken, both_taken, taken_turn, own_turn}
 use Rattle.xk_names.proofs.outer.+taken.Goals as goal
 
@@ -48,11 +49,11 @@ take_all-returns-in_ok-take_held-in-IfElse-clause-out t c =
 pub take_all-returns-in-For-clause-out : goal.take_all-returns-in-For-clause-out
 take_all-returns-in-For-clause-out t c =
     on_ok_weaker c.take_loop.result (λ h.
-    inner_taken c.args.methods.now c.args.own.now (statement c.args.s.now) (For c.in-For.field-0 (word c.in-For.x) c.in-For.field-2 c.in-For.field-3
+    inner_taken c.args.methods.now c.args.own.now (statement c.args.s.now) (For c.in-For.field-0 (word c.in-For.x) c.in-For.field-2 (bound c.in-For.limit)
     (statement c.in-For.s.value)) c.args.out.now c.take_own.new.out c.take_loop.new.out
-    (ap statement c.in-For.is ∙ ap statement (sym (stmt.rolls-For c.in-For.field-0 c.in-For.x c.in-For.field-2 c.in-For.field-3 c.in-For.s))
-    ∙ fold-roll-Stmt Statement layer_statement (layer.For c.in-For.field-0 c.in-For.x c.in-For.field-2 c.in-For.field-3 c.in-For.s)) c.in_ok-take_own.ensures
-    (h ∙ ap (λ (q : Stmt). put_texts c.take_own.new.out (outer_words c.args.methods.now (put_text c.args.own.now c.in-For.x.text.now)
+    (ap statement c.in-For.is ∙ ap statement (sym (stmt.rolls-For c.in-For.field-0 c.in-For.x c.in-For.field-2 c.in-For.limit c.in-For.s))
+    ∙ fold-roll-Stmt Statement layer_statement (layer.For c.in-For.field-0 c.in-For.x c.in-For.field-2 c.in-For.limit c.in-For.s)) c.in_ok-take_own.ensures
+    (h ∙ ap (λ (q : Stmt). put_texts c.take_own.new.out (outer_words c.args.methods.now (put_texts c.args.own.now (loop_words (word c.in-For.x) (bound c.in-For.limit)))
     (statement q))) c.deref-in-For.ensures))
     c.take_loop.ensures.out
 
@@ -87,5 +88,7 @@ take_block-loop-s-preserved t c = record {
 pub take_loop-returns-clause-own : goal.take_loop-returns-clause-own
 take_loop-returns-clause-own t c =
     let held : List Word = map (λ d. d.name) (behind 0 (statement c.args.s.now)) in
-    c.cut.ensures.behind c.args.own.now (word c.args.x ∷ held)
-    (c.in_ok-take_all.ensures.own ∙ ap (λ k. own_behind k (statement c.args.s.now)) c.in_ok-_is_new.ensures.texts) c.len-outside.ensures
+    let names : List Word = loop_words (word c.args.x) (bound c.args.limit.now) in
+    c.cut.ensures.behind c.args.own.now (names ++ held)
+    (c.in_ok-take_all.ensures.own ∙ ap (λ k. own_behind k (statement c.args.s.now)) c.in_ok-put_loop.ensures
+    ∙ sym (put_texts_append c.args.own.now names held)) c.len-outside.ensures

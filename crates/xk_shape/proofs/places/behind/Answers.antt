@@ -4,7 +4,7 @@ use Rattle.xk_shape.specs.declared.places.Place.{Place}
 use Rattle.xk_shape.specs.Nests.{end_named}
 use Rattle.xk_shape.proofs.Around.{depth_few}
 use Rattle.xk_shape.proofs.Nested.{ended_behind}
-use Rattle.xk_shape.proofs.RoundPlaces.{found_at, place_known, names_begin, names_no_end, names_no_begin, behind_for, behind_finish, behind_end, behind_other, amiss_begin, amiss_end, amiss_within}
+use Rattle.xk_shape.proofs.RoundPlaces.{found_at, place_known, names_begin, names_no_end, names_no_begin, behind_for, behind_forto, behind_finish, behind_end, behind_other, amiss_begin, amiss_end, amiss_within}
 use Rattle.xk_shape.proofs.places.behind.Goals as goal
 use Rattle.xk_shape.proofs.places.behind.Goals.{else-ends_span-via-then-ends_span+else-eq, else-ends_span-via-else-ends_span}
 
@@ -24,19 +24,27 @@ returns-in-For c =
     behind_for c.args.u.now c.args.at i _ here so c.requires.nested c.in-For.slot c.in-For.e c.with_slot.result c.in-For.lo c.in-For.hi
     c.in-For.is (sym c.begins_span.ensures ∙ c.if-begins_span.true) c.with_slot.ensures
 
+pub returns-in-ForTo : goal.returns-in-ForTo
+returns-in-ForTo c =
+    let i = c.index-instr.result.now in
+    let here = found_at c.args.u.now _ c.args.at i c.u.view_is (omega (arith, c.requires.last, c.requires.inside)) c.index-instr.ensures in
+    let so = place_known c.args.u.now c.args.known.now c.args.at outside c.requires.known (omega (arith, c.requires.last)) in
+    behind_forto c.args.u.now c.args.at i _ here so c.requires.nested c.in-ForTo.slot c.in-ForTo.limit c.in-ForTo.e c.with_slot-in-ForTo-2.result c.with_slot-in-ForTo.result c.in-ForTo.lo c.in-ForTo.hi
+    c.in-ForTo.is (sym c.if-begins_span-2.ensures) c.with_slot-in-ForTo.ensures c.with_slot-in-ForTo-2.ensures
+
 pub returns-in-Finish : goal.returns-in-Finish
 returns-in-Finish c =
     let i = c.index-instr.result.now in
     let here = found_at c.args.u.now _ c.args.at i c.u.view_is (omega (arith, c.requires.last, c.requires.inside)) c.index-instr.ensures in
     let so = place_known c.args.u.now c.args.known.now c.args.at outside c.requires.known (omega (arith, c.requires.last)) in
-    behind_finish c.args.u.now c.args.at i _ here so c.requires.nested c.in-Finish.field-0 c.in-Finish.is (sym c.if-begins_span-2.ensures)
+    behind_finish c.args.u.now c.args.at i _ here so c.requires.nested c.in-Finish.field-0 c.in-Finish.is (sym c.if-begins_span-3.ensures)
 
 pub returns-in_default : goal.returns-in_default
 returns-in_default c =
     let i = c.index-instr.result.now in
     let here = found_at c.args.u.now _ c.args.at i c.u.view_is (omega (arith, c.requires.last, c.requires.inside)) c.index-instr.ensures in
     let so = place_known c.args.u.now c.args.known.now c.args.at outside c.requires.known (omega (arith, c.requires.last)) in
-    behind_other c.args.u.now c.args.at i _ here so c.requires.nested (names_no_end i c.in_default.not-For c.in_default.not-Finish)
+    behind_other c.args.u.now c.args.at i _ here so c.requires.nested (names_no_end i c.in_default.not-For c.in_default.not-ForTo c.in_default.not-Finish)
     (names_no_begin i c.in_default.not-Next c.in_default.not-EndFinish)
 
 pub returns-then-eq : goal.returns-then-eq
@@ -75,4 +83,11 @@ returns-in-For-2-2 c =
     let i = c.index-instr.result.now in
     let here = found_at c.args.u.now _ c.args.at i c.u.view_is (omega (arith, c.requires.last, c.requires.inside)) c.index-instr.ensures in
     let so = place_known c.args.u.now c.args.known.now c.args.at outside c.requires.known (omega (arith, c.requires.last)) in
-    amiss_begin c.args.u.now c.args.at i _ here so c.requires.nested c.in-Finish.field-0 (ap end_named c.in-Finish.is) (sym c.if-begins_span-2.ensures)
+    amiss_begin c.args.u.now c.args.at i _ here so c.requires.nested c.in-ForTo.e (ap end_named c.in-ForTo.is) (sym c.if-begins_span-2.ensures)
+
+pub returns-in-For-2-3 : goal.returns-in-For-2-3
+returns-in-For-2-3 c =
+    let i = c.index-instr.result.now in
+    let here = found_at c.args.u.now _ c.args.at i c.u.view_is (omega (arith, c.requires.last, c.requires.inside)) c.index-instr.ensures in
+    let so = place_known c.args.u.now c.args.known.now c.args.at outside c.requires.known (omega (arith, c.requires.last)) in
+    amiss_begin c.args.u.now c.args.at i _ here so c.requires.nested c.in-Finish.field-0 (ap end_named c.in-Finish.is) (sym c.if-begins_span-3.ensures)

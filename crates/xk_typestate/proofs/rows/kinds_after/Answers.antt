@@ -12,8 +12,8 @@ use Rattle.xk_typestate.proofs.rows.kinds_after.Goals as goal
 pub returns-in_ok-read-in-Unless-2 : goal.returns-in_ok-read-in-Unless-2
 returns-in_ok-read-in-Unless-2 c = one_row _ c.args.kind c.of.result (search rules) c.of.ensures
 
-pub returns-in_ok-may_read-in-Next : goal.returns-in_ok-may_read-in-Next
-returns-in_ok-may_read-in-Next c = one_row _ c.args.kind c.of-in-Next.result (search rules) c.of-in-Next.ensures
+pub returns-in_ok-may_read-in-Next-2 : goal.returns-in_ok-may_read-in-Next-2
+returns-in_ok-may_read-in-Next-2 c = one_row _ c.args.kind c.of-in-Next.result (search rules) c.of-in-Next.ensures
 
 pub returns-in_ok-read-in-Put : goal.returns-in_ok-read-in-Put
 returns-in_ok-read-in-Put c = one_row _ c.args.kind c.of-in-Put.result (search rules) c.of-in-Put.ensures

@@ -10,3 +10,10 @@ overflow_add-b c =
     let has : Has (successors c.args.instr.now c.args.at) to = subst (λ i. Has (successors i c.args.at) to) (sym c.in-Next.is) (inr (inl refl)) in
     let inside : to < 65536 = c.requires.inside to has in
     omega arith
+
+pub overflow_add-e : goal.overflow_add-e
+overflow_add-e c =
+    let to = c.in-ForTo.e + 1 in
+    let has : Has (successors c.args.instr.now c.args.at) to = subst (λ i. Has (successors i c.args.at) to) (sym c.in-ForTo.is) (inr (inl refl)) in
+    let inside : to < 65536 = c.requires.inside to has in
+    omega arith

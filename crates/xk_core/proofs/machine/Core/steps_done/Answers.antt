@@ -13,5 +13,5 @@ returns-clause-bound c = rw c.steps.ensures
 
 pub returns-clause-opening : goal.returns-clause-opening
 returns-clause-opening c none =
-    subst (λ (v : CoreValue). v.world ≡ opening v.module_run) c.self.view_is
+    subst (λ (v : CoreValue). v.world ≡ opening v.module_run v.world.arguments) c.self.view_is
     (core_fresh c.self.inside.state.module_run (with_finishes c.self.inside.finishes c.self.inside.state.world) c.self.invariant.0 (sym c.steps.ensures ∙ none))

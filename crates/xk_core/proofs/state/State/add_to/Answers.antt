@@ -18,7 +18,7 @@ use Rattle.xk_core.proofs.state.State.add_to.Goals as goal
 pub number-n-requires-clause-number : goal.number-n-requires-clause-number
 number-n-requires-clause-number c =
     let m = c.self.inside.activities.module_run in
-    let w : World = record { activities = c.self.inside.activities.list; clocks = told_of c.self.inside.standings; cells = c.self.inside.cells.items; steps = c.self.inside.steps } in
+    let w : World = record { activities = c.self.inside.activities.list; clocks = told_of c.self.inside.standings; cells = c.self.inside.cells.items; steps = c.self.inside.steps; arguments = c.self.inside.arguments.items } in
     let can = subst (λ (v : StateValue). is_step (carried v.module_run v.world c.args.a (instruction.AddTo c.args.s c.args.x)) ≡ true) (sym c.self.view_is) c.requires.enabled in
     let r = store_here m w c.args.a (instruction.AddTo c.args.s c.args.x) c.args.s c.args.x (int_wrapping_add w64) event.Added refl can in
     (r.n, r.number)
@@ -26,7 +26,7 @@ number-n-requires-clause-number c =
 pub index-requires : goal.index-requires
 index-requires c =
     let m = c.self.inside.activities.module_run in
-    let w : World = record { activities = c.self.inside.activities.list; clocks = told_of c.self.inside.standings; cells = c.self.inside.cells.items; steps = c.self.inside.steps } in
+    let w : World = record { activities = c.self.inside.activities.list; clocks = told_of c.self.inside.standings; cells = c.self.inside.cells.items; steps = c.self.inside.steps; arguments = c.self.inside.arguments.items } in
     let can = subst (λ (v : StateValue). is_step (carried v.module_run v.world c.args.a (instruction.AddTo c.args.s c.args.x)) ≡ true) (sym c.self.view_is) c.requires.enabled in
     let r = store_here m w c.args.a (instruction.AddTo c.args.s c.args.x) c.args.s c.args.x (int_wrapping_add w64) event.Added refl can in
     let h = slice_get_within w.cells c.args.s r.old r.cell in
@@ -35,7 +35,7 @@ index-requires c =
 pub index_mut-requires : goal.index_mut-requires
 index_mut-requires c =
     let m = c.self.inside.activities.module_run in
-    let w : World = record { activities = c.self.inside.activities.list; clocks = told_of c.self.inside.standings; cells = c.self.inside.cells.items; steps = c.self.inside.steps } in
+    let w : World = record { activities = c.self.inside.activities.list; clocks = told_of c.self.inside.standings; cells = c.self.inside.cells.items; steps = c.self.inside.steps; arguments = c.self.inside.arguments.items } in
     let can = subst (λ (v : StateValue). is_step (carried v.module_run v.world c.args.a (instruction.AddTo c.args.s c.args.x)) ≡ true) (sym c.self.view_is) c.requires.enabled in
     let r = store_here m w c.args.a (instruction.AddTo c.args.s c.args.x) c.args.s c.args.x (int_wrapping_add w64) event.Added refl can in
     let h = slice_get_within w.cells c.args.s r.old r.cell in
@@ -44,7 +44,7 @@ index_mut-requires c =
 pub returns-clause-stepped : goal.returns-clause-stepped
 returns-clause-stepped c =
     let m = c.self.inside.activities.module_run in
-    let w : World = record { activities = c.self.inside.activities.list; clocks = told_of c.self.inside.standings; cells = c.self.inside.cells.items; steps = c.self.inside.steps } in
+    let w : World = record { activities = c.self.inside.activities.list; clocks = told_of c.self.inside.standings; cells = c.self.inside.cells.items; steps = c.self.inside.steps; arguments = c.self.inside.arguments.items } in
     let can = subst (λ (v : StateValue). is_step (carried v.module_run v.world c.args.a (instruction.AddTo c.args.s c.args.x)) ≡ true) (sym c.self.view_is) c.requires.enabled in
     let r = store_here m w c.args.a (instruction.AddTo c.args.s c.args.x) c.args.s c.args.x (int_wrapping_add w64) event.Added refl can in
     subst (λ (v : StateValue). carried v.module_run v.world c.args.a (instruction.AddTo c.args.s c.args.x) ≡ Stepped c.end_step.new.self.world event.Added) c.self.view_is

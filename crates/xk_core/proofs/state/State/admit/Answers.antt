@@ -25,7 +25,7 @@ admit-requires-clause-room c =
 pub admit-requires-clause-handed_on : goal.admit-requires-clause-handed_on
 admit-requires-clause-handed_on c =
     let m = c.self.inside.activities.module_run in
-    let w : World = record { activities = c.self.inside.activities.list; clocks = told_of c.self.inside.standings; cells = c.self.inside.cells.items; steps = c.self.inside.steps } in
+    let w : World = record { activities = c.self.inside.activities.list; clocks = told_of c.self.inside.standings; cells = c.self.inside.cells.items; steps = c.self.inside.steps; arguments = c.self.inside.arguments.items } in
     let r = subst (λ (v : StateValue). IsReady v c.args.a c.requires.ready.0 c.requires.ready.1 (newcomer_of c.newcomer.inside.activity c.newcomer.inside.registrations)) (sym c.self.view_is)
     (subst (λ (x : NewcomerValue). IsReady c.args.self.now c.args.a c.requires.ready.0 c.requires.ready.1 x) (sym c.newcomer.view_is) c.requires.ready.2) in
     let lt : c.args.a < length w.activities = carried_within m w c.args.a (instruction.Spawn c.requires.ready.0 c.requires.ready.1) r.enabled in
@@ -34,7 +34,7 @@ admit-requires-clause-handed_on c =
 pub invariant_of-self : goal.invariant_of-self
 invariant_of-self c =
     let m = c.self.inside.activities.module_run in
-    let w : World = record { activities = c.self.inside.activities.list; clocks = told_of c.self.inside.standings; cells = c.self.inside.cells.items; steps = c.self.inside.steps } in
+    let w : World = record { activities = c.self.inside.activities.list; clocks = told_of c.self.inside.standings; cells = c.self.inside.cells.items; steps = c.self.inside.steps; arguments = c.self.inside.arguments.items } in
     let r = subst (λ (v : StateValue). IsReady v c.args.a c.requires.ready.0 c.requires.ready.1 (newcomer_of c.newcomer.inside.activity c.newcomer.inside.registrations)) (sym c.self.view_is)
     (subst (λ (x : NewcomerValue). IsReady c.args.self.now c.args.a c.requires.ready.0 c.requires.ready.1 x) (sym c.newcomer.view_is) c.requires.ready.2) in
     let act : Activity = act_at w.activities c.args.a in
@@ -58,7 +58,7 @@ invariant_of-self c =
 pub returns-clause-started : goal.returns-clause-started
 returns-clause-started c = λ unit args ready.
     let m = c.self.inside.activities.module_run in
-    let w : World = record { activities = c.self.inside.activities.list; clocks = told_of c.self.inside.standings; cells = c.self.inside.cells.items; steps = c.self.inside.steps } in
+    let w : World = record { activities = c.self.inside.activities.list; clocks = told_of c.self.inside.standings; cells = c.self.inside.cells.items; steps = c.self.inside.steps; arguments = c.self.inside.arguments.items } in
     let r = subst (λ (v : StateValue). IsReady v c.args.a unit args (newcomer_of c.newcomer.inside.activity c.newcomer.inside.registrations)) (sym c.self.view_is)
     (subst (λ (x : NewcomerValue). IsReady c.args.self.now c.args.a unit args x) (sym c.newcomer.view_is) ready) in
     let lt : c.args.a < length w.activities = carried_within m w c.args.a (instruction.Spawn unit args) r.enabled in
@@ -71,12 +71,13 @@ returns-clause-started c = λ unit args ready.
     let clocks : told_of c.admit.new.self ≡ map (settled_clock (w.steps + 1)) (joined c.args.a (is_given values) w.clocks) =
     c.admit.ensures.told c.args.a (is_given values) (w.steps + 1) (omega (arith, lt, c.self.invariant.0)) r.given in
     subst (λ (v : StateValue). carried v.module_run v.world c.args.a (instruction.Spawn unit args)
-    ≡ Stepped (record { activities = c.admit-2.new.self.list; clocks = told_of c.admit.new.self; cells = w.cells; steps = w.steps + 1 }) event.Spawned) c.self.view_is
+    ≡ Stepped (record { activities = c.admit-2.new.self.list; clocks = told_of c.admit.new.self; cells = w.cells; steps = w.steps + 1; arguments = w.arguments }) event.Spawned) c.self.view_is
     ((spawn_here m w c.args.a unit args r.enabled).2.goes
-    ∙ sym (ap (λ (l : List Activity). Stepped (record { activities = l; clocks = told_of c.admit.new.self; cells = w.cells; steps = w.steps + 1 }) event.Spawned) acts
+    ∙ sym (ap (λ (l : List Activity). Stepped (record { activities = l; clocks = told_of c.admit.new.self; cells = w.cells; steps = w.steps + 1; arguments = w.arguments }) event.Spawned) acts
     ∙ ap (λ (cs : List Clock). Stepped (record {
       activities = slice_set w.activities c.args.a (onward act) ++ child m c.args.a act unit values ∷ [];
       clocks = cs;
       cells = w.cells;
       steps = w.steps + 1;
+      arguments = w.arguments;
     }) event.Spawned) clocks))

@@ -18,7 +18,7 @@ use Rattle.xk_core.proofs.state.State.make.Goals as goal
 pub make-name-requires-clause-room : goal.make-name-requires-clause-room
 make-name-requires-clause-room c =
     let m = c.self.inside.activities.module_run in
-    let w : World = record { activities = c.self.inside.activities.list; clocks = told_of c.self.inside.standings; cells = c.self.inside.cells.items; steps = c.self.inside.steps } in
+    let w : World = record { activities = c.self.inside.activities.list; clocks = told_of c.self.inside.standings; cells = c.self.inside.cells.items; steps = c.self.inside.steps; arguments = c.self.inside.arguments.items } in
     let can = subst (λ (v : StateValue). is_step (carried v.module_run v.world c.args.a (instruction.Make c.args.d)) ≡ true) (sym c.self.view_is) c.requires.enabled in
     let left = subst (λ (v : StateValue). HasRoomLeft v.module_run v.world c.args.a) (sym c.self.view_is) c.requires.left in
     room_to_make m w c.args.a (rooms_of c.self.inside.standings) (carried_within m w c.args.a (instruction.Make c.args.d) can) c.self.invariant.1 left
@@ -26,14 +26,14 @@ make-name-requires-clause-room c =
 pub write-requires-clause-there : goal.write-requires-clause-there
 write-requires-clause-there c =
     let m = c.self.inside.activities.module_run in
-    let w : World = record { activities = c.self.inside.activities.list; clocks = told_of c.self.inside.standings; cells = c.self.inside.cells.items; steps = c.self.inside.steps } in
+    let w : World = record { activities = c.self.inside.activities.list; clocks = told_of c.self.inside.standings; cells = c.self.inside.cells.items; steps = c.self.inside.steps; arguments = c.self.inside.arguments.items } in
     let can = subst (λ (v : StateValue). is_step (carried v.module_run v.world c.args.a (instruction.Make c.args.d)) ≡ true) (sym c.self.view_is) c.requires.enabled in
     carried_within m w c.args.a (instruction.Make c.args.d) can
 
 pub write-requires-clause-slot : goal.write-requires-clause-slot
 write-requires-clause-slot c =
     let m = c.self.inside.activities.module_run in
-    let w : World = record { activities = c.self.inside.activities.list; clocks = told_of c.self.inside.standings; cells = c.self.inside.cells.items; steps = c.self.inside.steps } in
+    let w : World = record { activities = c.self.inside.activities.list; clocks = told_of c.self.inside.standings; cells = c.self.inside.cells.items; steps = c.self.inside.steps; arguments = c.self.inside.arguments.items } in
     let can = subst (λ (v : StateValue). is_step (carried v.module_run v.world c.args.a (instruction.Make c.args.d)) ≡ true) (sym c.self.view_is) c.requires.enabled in
     (make_here m w c.args.a c.args.d can).0
 
@@ -48,7 +48,7 @@ invariant_of-self c =
 pub returns-clause-stepped : goal.returns-clause-stepped
 returns-clause-stepped c =
     let m = c.self.inside.activities.module_run in
-    let w : World = record { activities = c.self.inside.activities.list; clocks = told_of c.self.inside.standings; cells = c.self.inside.cells.items; steps = c.self.inside.steps } in
+    let w : World = record { activities = c.self.inside.activities.list; clocks = told_of c.self.inside.standings; cells = c.self.inside.cells.items; steps = c.self.inside.steps; arguments = c.self.inside.arguments.items } in
     let can = subst (λ (v : StateValue). is_step (carried v.module_run v.world c.args.a (instruction.Make c.args.d)) ≡ true) (sym c.self.view_is) c.requires.enabled in
     let act : Activity = act_at w.activities c.args.a in
     let y : Activity = onward (with_slots act (slice_set act.frame.slots c.args.d (value.Clock (length w.clocks)))) in
@@ -58,7 +58,7 @@ returns-clause-stepped c =
     let clocks : told_of c.make-name.new.self ≡ map (settled_clock (w.steps + 1)) (w.clocks ++ new_clock (length w.activities) c.args.a ∷ []) =
     c.make-name.ensures.told (w.steps + 1) ∙ ap (λ k. map (settled_clock (w.steps + 1)) (w.clocks ++ new_clock k c.args.a ∷ [])) c.self.invariant.0 in
     subst (λ (v : StateValue). carried v.module_run v.world c.args.a (instruction.Make c.args.d)
-    ≡ Stepped (record { activities = c.write.new.self.list; clocks = told_of c.make-name.new.self; cells = w.cells; steps = w.steps + 1 }) event.Made) c.self.view_is
+    ≡ Stepped (record { activities = c.write.new.self.list; clocks = told_of c.make-name.new.self; cells = w.cells; steps = w.steps + 1; arguments = w.arguments }) event.Made) c.self.view_is
     ((make_here m w c.args.a c.args.d can).1
-    ∙ sym (ap (λ (l : List Activity). Stepped (record { activities = l; clocks = told_of c.make-name.new.self; cells = w.cells; steps = w.steps + 1 }) event.Made) acts
-    ∙ ap (λ (cs : List Clock). Stepped (record { activities = slice_set w.activities c.args.a y; clocks = cs; cells = w.cells; steps = w.steps + 1 }) event.Made) clocks))
+    ∙ sym (ap (λ (l : List Activity). Stepped (record { activities = l; clocks = told_of c.make-name.new.self; cells = w.cells; steps = w.steps + 1; arguments = w.arguments }) event.Made) acts
+    ∙ ap (λ (cs : List Clock). Stepped (record { activities = slice_set w.activities c.args.a y; clocks = cs; cells = w.cells; steps = w.steps + 1; arguments = w.arguments }) event.Made) clocks))

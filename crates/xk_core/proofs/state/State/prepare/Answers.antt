@@ -24,14 +24,14 @@ use Rattle.xk_core.proofs.state.State.prepare.Goals as goal
 pub values-requires : goal.values-requires
 values-requires c =
     let m = c.self.inside.activities.module_run in
-    let w : World = record { activities = c.self.inside.activities.list; clocks = told_of c.self.inside.standings; cells = c.self.inside.cells.items; steps = c.self.inside.steps } in
+    let w : World = record { activities = c.self.inside.activities.list; clocks = told_of c.self.inside.standings; cells = c.self.inside.cells.items; steps = c.self.inside.steps; arguments = c.self.inside.arguments.items } in
     let can = subst (λ (v : StateValue). is_step (carried v.module_run v.world c.args.a (instruction.Spawn c.args.unit c.args.args.now)) ≡ true) (sym c.self.view_is) c.requires.enabled in
     subst (λ (f : FramesValue). All (λ s. s < length f.frame.slots) c.args.args.now) (sym c.frames.ensures) (spawn_here m w c.args.a c.args.unit c.args.args.now can).2.slots
 
 pub begin-requires-clause-unit : goal.begin-requires-clause-unit
 begin-requires-clause-unit c =
     let m = c.self.inside.activities.module_run in
-    let w : World = record { activities = c.self.inside.activities.list; clocks = told_of c.self.inside.standings; cells = c.self.inside.cells.items; steps = c.self.inside.steps } in
+    let w : World = record { activities = c.self.inside.activities.list; clocks = told_of c.self.inside.standings; cells = c.self.inside.cells.items; steps = c.self.inside.steps; arguments = c.self.inside.arguments.items } in
     let can = subst (λ (v : StateValue). is_step (carried v.module_run v.world c.args.a (instruction.Spawn c.args.unit c.args.args.now)) ≡ true) (sym c.self.view_is) c.requires.enabled in
     let s = spawn_here m w c.args.a c.args.unit c.args.args.now can in
     slice_get_within m.units c.args.unit s.0 s.1
@@ -39,7 +39,7 @@ begin-requires-clause-unit c =
 pub begin-requires-clause-fits : goal.begin-requires-clause-fits
 begin-requires-clause-fits c =
     let m = c.self.inside.activities.module_run in
-    let w : World = record { activities = c.self.inside.activities.list; clocks = told_of c.self.inside.standings; cells = c.self.inside.cells.items; steps = c.self.inside.steps } in
+    let w : World = record { activities = c.self.inside.activities.list; clocks = told_of c.self.inside.standings; cells = c.self.inside.cells.items; steps = c.self.inside.steps; arguments = c.self.inside.arguments.items } in
     let can = subst (λ (v : StateValue). is_step (carried v.module_run v.world c.args.a (instruction.Spawn c.args.unit c.args.args.now)) ≡ true) (sym c.self.view_is) c.requires.enabled in
     let limits : IsWithinLimits m = subst (λ (v : StateValue). IsWithinLimits v.module_run) (sym c.self.view_is) c.requires.limits in
     let fits = spawn_fits m w c.args.a c.args.unit c.args.args.now limits can in
@@ -51,14 +51,14 @@ begin-requires-clause-fits c =
 pub returns-clause-ready : goal.returns-clause-ready
 returns-clause-ready c =
     let m = c.self.inside.activities.module_run in
-    let w : World = record { activities = c.self.inside.activities.list; clocks = told_of c.self.inside.standings; cells = c.self.inside.cells.items; steps = c.self.inside.steps } in
+    let w : World = record { activities = c.self.inside.activities.list; clocks = told_of c.self.inside.standings; cells = c.self.inside.cells.items; steps = c.self.inside.steps; arguments = c.self.inside.arguments.items } in
     let s : StateValue = record {
       module_run = m;
       world = w;
       held = c.self.inside.standings.held;
       room = min c.self.inside.activities.room c.self.inside.standings.room;
     } in
-    let now : World = record { activities = c.reserve.new.self.list; clocks = told_of c.reserve-2.new.self; cells = c.self.inside.cells.items; steps = c.self.inside.steps } in
+    let now : World = record { activities = c.reserve.new.self.list; clocks = told_of c.reserve-2.new.self; cells = c.self.inside.cells.items; steps = c.self.inside.steps; arguments = c.self.inside.arguments.items } in
     let t : StateValue = record {
       module_run = c.reserve.new.self.module_run;
       world = now;

@@ -18,7 +18,7 @@ use Rattle.xk_core.proofs.state.State.print.Goals as goal
 pub number-n-requires-clause-number : goal.number-n-requires-clause-number
 number-n-requires-clause-number c =
     let m = c.self.inside.activities.module_run in
-    let w : World = record { activities = c.self.inside.activities.list; clocks = told_of c.self.inside.standings; cells = c.self.inside.cells.items; steps = c.self.inside.steps } in
+    let w : World = record { activities = c.self.inside.activities.list; clocks = told_of c.self.inside.standings; cells = c.self.inside.cells.items; steps = c.self.inside.steps; arguments = c.self.inside.arguments.items } in
     print_number m w c.args.a c.args.x
     (subst (λ (v : StateValue). is_step (carried v.module_run v.world c.args.a (instruction.Print c.args.x)) ≡ true) (sym c.self.view_is) c.requires.enabled)
 
@@ -29,7 +29,7 @@ go_on-requires-clause-stands c =
 pub returns-clause-stepped : goal.returns-clause-stepped
 returns-clause-stepped c =
     let m = c.self.inside.activities.module_run in
-    let w : World = record { activities = c.self.inside.activities.list; clocks = told_of c.self.inside.standings; cells = c.self.inside.cells.items; steps = c.self.inside.steps } in
+    let w : World = record { activities = c.self.inside.activities.list; clocks = told_of c.self.inside.standings; cells = c.self.inside.cells.items; steps = c.self.inside.steps; arguments = c.self.inside.arguments.items } in
     let can = subst (λ (v : StateValue). is_step (carried v.module_run v.world c.args.a (instruction.Print c.args.x)) ≡ true) (sym c.self.view_is) c.requires.enabled in
     subst (λ (v : StateValue). carried v.module_run v.world c.args.a (instruction.Print c.args.x) ≡ Stepped c.end_step.new.self.world (event.Printed c.number-n.result)) c.self.view_is
     (print_done m w c.args.a c.args.x c.number-n.result can c.number-n.ensures

@@ -19,7 +19,7 @@ use Rattle.xk_core.proofs.state.State.put.Goals as goal
 pub number-n-requires-clause-number : goal.number-n-requires-clause-number
 number-n-requires-clause-number c =
     let m = c.self.inside.activities.module_run in
-    let w : World = record { activities = c.self.inside.activities.list; clocks = told_of c.self.inside.standings; cells = c.self.inside.cells.items; steps = c.self.inside.steps } in
+    let w : World = record { activities = c.self.inside.activities.list; clocks = told_of c.self.inside.standings; cells = c.self.inside.cells.items; steps = c.self.inside.steps; arguments = c.self.inside.arguments.items } in
     let can = subst (λ (v : StateValue). is_step (carried v.module_run v.world c.args.a (instruction.Put c.args.s c.args.x)) ≡ true) (sym c.self.view_is) c.requires.enabled in
     let r = store_here m w c.args.a (instruction.Put c.args.s c.args.x) c.args.s c.args.x (λ old n. n) event.Put refl can in
     (r.n, r.number)
@@ -27,7 +27,7 @@ number-n-requires-clause-number c =
 pub set_cell-requires : goal.set_cell-requires
 set_cell-requires c =
     let m = c.self.inside.activities.module_run in
-    let w : World = record { activities = c.self.inside.activities.list; clocks = told_of c.self.inside.standings; cells = c.self.inside.cells.items; steps = c.self.inside.steps } in
+    let w : World = record { activities = c.self.inside.activities.list; clocks = told_of c.self.inside.standings; cells = c.self.inside.cells.items; steps = c.self.inside.steps; arguments = c.self.inside.arguments.items } in
     let can = subst (λ (v : StateValue). is_step (carried v.module_run v.world c.args.a (instruction.Put c.args.s c.args.x)) ≡ true) (sym c.self.view_is) c.requires.enabled in
     let r = store_here m w c.args.a (instruction.Put c.args.s c.args.x) c.args.s c.args.x (λ old n. n) event.Put refl can in
     slice_get_within w.cells c.args.s r.old r.cell
@@ -35,7 +35,7 @@ set_cell-requires c =
 pub returns-clause-stepped : goal.returns-clause-stepped
 returns-clause-stepped c =
     let m = c.self.inside.activities.module_run in
-    let w : World = record { activities = c.self.inside.activities.list; clocks = told_of c.self.inside.standings; cells = c.self.inside.cells.items; steps = c.self.inside.steps } in
+    let w : World = record { activities = c.self.inside.activities.list; clocks = told_of c.self.inside.standings; cells = c.self.inside.cells.items; steps = c.self.inside.steps; arguments = c.self.inside.arguments.items } in
     let can = subst (λ (v : StateValue). is_step (carried v.module_run v.world c.args.a (instruction.Put c.args.s c.args.x)) ≡ true) (sym c.self.view_is) c.requires.enabled in
     let r = store_here m w c.args.a (instruction.Put c.args.s c.args.x) c.args.s c.args.x (λ old n. n) event.Put refl can in
     subst (λ (v : StateValue). carried v.module_run v.world c.args.a (instruction.Put c.args.s c.args.x) ≡ Stepped c.end_step.new.self.world event.Put) c.self.view_is

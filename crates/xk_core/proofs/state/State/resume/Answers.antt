@@ -16,7 +16,7 @@ use Rattle.xk_core.proofs.state.State.resume.Goals as goal
 pub clock-c-requires-clause-clock : goal.clock-c-requires-clause-clock
 clock-c-requires-clause-clock c =
     let m = c.self.inside.activities.module_run in
-    let w : World = record { activities = c.self.inside.activities.list; clocks = told_of c.self.inside.standings; cells = c.self.inside.cells.items; steps = c.self.inside.steps } in
+    let w : World = record { activities = c.self.inside.activities.list; clocks = told_of c.self.inside.standings; cells = c.self.inside.cells.items; steps = c.self.inside.steps; arguments = c.self.inside.arguments.items } in
     resume_clock m w c.args.a c.args.k
     (subst (λ (v : StateValue). is_step (carried v.module_run v.world c.args.a (instruction.Resume c.args.k)) ≡ true) (sym c.self.view_is) c.requires.enabled)
 
@@ -27,7 +27,7 @@ go_on-requires-clause-stands c =
 pub returns-clause-stepped : goal.returns-clause-stepped
 returns-clause-stepped c =
     let m = c.self.inside.activities.module_run in
-    let w : World = record { activities = c.self.inside.activities.list; clocks = told_of c.self.inside.standings; cells = c.self.inside.cells.items; steps = c.self.inside.steps } in
+    let w : World = record { activities = c.self.inside.activities.list; clocks = told_of c.self.inside.standings; cells = c.self.inside.cells.items; steps = c.self.inside.steps; arguments = c.self.inside.arguments.items } in
     let can = subst (λ (v : StateValue). is_step (carried v.module_run v.world c.args.a (instruction.Resume c.args.k)) ≡ true) (sym c.self.view_is) c.requires.enabled in
     subst (λ (v : StateValue). carried v.module_run v.world c.args.a (instruction.Resume c.args.k) ≡ Stepped c.end_step.new.self.world event.Resumed) c.self.view_is
     (resume_done m w c.args.a c.args.k c.clock-c.result can c.clock-c.ensures

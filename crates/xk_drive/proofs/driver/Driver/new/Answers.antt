@@ -7,6 +7,9 @@ use Rattle.xk_drive.proofs.driver.Driver.new.Goals as goal
 pub returns-clause-opening : goal.returns-clause-opening
 returns-clause-opening c = core_fresh c.args.start.module_run c.args.start.world c.most_of.ensures.core
 
+pub returns-clause-taken : goal.returns-clause-taken
+returns-clause-taken c = c.most_of.ensures.core.reached.1.0
+
 pub list_all-requires-clause-nobody_waits : goal.list_all-requires-clause-nobody_waits
 list_all-requires-clause-nobody_waits c b =
     ap (times_in_all b) c.in-Ok.ensures.nobody_waits ∙ none_times b c.most_clocks_of-clocks.result
