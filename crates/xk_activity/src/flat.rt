@@ -3,7 +3,7 @@
 ghost use Rattle.std.specs.Prelude.{◌≡◌, ◌⊎◌, ℤ, ◌+◌, ◌<◌, ◌≤◌, ◌^◌, length, not, Some, slice_get, slice_set};
 ghost use Rattle.xk_types.specs.declared.names.Value.TheVariants as value;
 ghost use Rattle.xk_types.specs.Code.{loop_head};
-ghost use Rattle.xk_activity.specs.Local.{Beyond, Stepped, number_in, beginning, carried, turn, turned, turning, ran, spot_at, IsSafe, IsRight};
+ghost use Rattle.xk_activity.specs.Local.{Beyond, Stepped, beginning, carried, turn, turning, ran, spot_at, IsSafe, IsRight};
 ghost use Rattle.xk_activity.specs.Arm.{Answers, is_beyond};
 ghost use Rattle.xk_activity.specs.Slots.{values_of};
 
@@ -26,27 +26,6 @@ fn write(words: &mut [i64], marks: &mut Marks, d: u16, n: i64, place: u32) -> u3
     place + 1
 }
 
-/// The loop's slot k has its next number, if that is no more than `top`, and its turn begins behind place b; or the frame goes on. Gives the
-/// next place.
-#[inline(always)]
-fn turn_to(words: &mut [i64], marks: Marks, place: u32, b: u16, k: u16, top: i64) -> u32
-    requires place { place + 1 < 2 ^ 16 }
-    requires number { (n : ℤ) × (slice_get (values_of marks words.old) k
-        ≡ Some (value.Number n)) }
-    ensures turned { number_in (slice_get (values_of marks words.old) k)
-        (λ n. turned (spot_at place (values_of marks words.old)) b k n top)
-        ≡ Stepped (spot_at result (values_of marks words.new)) }
-    ensures length { length words.new ≡ length words.old }
-{
-    let n = number(words, marks, k);
-    if n < top {
-        change(words, marks, k, n + 1);
-        b as u32 + 1
-    } else {
-        place + 1
-    }
-}
-
 /// Ends a turn of the loop that begins at place b with this instruction, and gives the next place.
 #[inline(always)]
 #[tactic(auto, using(crate::proofs::Operands::number_there, crate::proofs::Operands::number_goes))]
@@ -58,13 +37,17 @@ fn end_turn(head: &Instr, place: u32, words: &mut [i64], marks: Marks, b: u16) -
         ≡ Stepped (spot_at result (values_of marks words.new)) }
     ensures length { length words.new ≡ length words.old }
 {
-    match head {
-        Instr::For { k, hi, .. } => turn_to(words, marks, place, b, *k, *hi),
-        Instr::ForTo { k, x, hi, .. } => {
-            let top = number(words, marks, *x).min(*hi);
-            turn_to(words, marks, place, b, *k, top)
-        }
+    let (k, top) = match head {
+        Instr::For { k, hi, .. } => (*k, *hi),
+        Instr::ForTo { k, x, hi, .. } => (*k, number(words, marks, *x).min(*hi)),
         _ => unreachable!(),
+    };
+    let n = number(words, marks, k);
+    if n < top {
+        change(words, marks, k, n + 1);
+        b as u32 + 1
+    } else {
+        place + 1
     }
 }
 

@@ -100,13 +100,6 @@ pub(crate) fn part(words: &[i64], base: usize, top: usize) -> &[i64]
     &words[base..top]
 }
 
-/// Whether two values are the same.
-fn is_same_value(a: Value, b: Value) -> bool
-    ensures { Decides result (a ≡ b) }
-{
-    a == b
-}
-
 /// Whether the slots of two frames hold the same.
 pub(crate) fn are_same_slots(a: &[i64], p: Marks, b: &[i64], q: Marks) -> bool
     requires few { length a.now ≤ 64 }
@@ -117,7 +110,7 @@ pub(crate) fn are_same_slots(a: &[i64], p: Marks, b: &[i64], q: Marks) -> bool
         return false;
     }
     for i in 0..a.len() {
-        if !is_same_value(value(a, p, i as u16), value(b, q, i as u16)) {
+        if value(a, p, i as u16) != value(b, q, i as u16) {
             return false;
         }
     }

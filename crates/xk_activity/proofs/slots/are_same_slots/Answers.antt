@@ -1,4 +1,4 @@
-use Rattle.std.proofs.Common.{sym, ap, ◌∙◌, arith, length, refl}
+use Rattle.std.proofs.Common.{sym, ap, ◌∙◌, arith, length, refl, rules}
 use Rattle.xk_activity.specs.Slots.{is_marked, values_of}
 use Rattle.xk_activity.proofs.Words.{length_by}
 use Rattle.xk_activity.proofs.Handed.{same_more, same_all}
@@ -12,7 +12,7 @@ returns-then-a-b c = (
 
 pub loop-i-preserved : goal.loop-i-preserved
 loop-i-preserved c =
-    same_more (values_of c.args.p c.args.a.now) (values_of c.args.q c.args.b.now) c.loop-i.i c.value.result c.value-in-loop-i.result c.value.ensures c.value-in-loop-i.ensures (c.if-not-is_same_value.ensures.0 refl)
+    same_more (values_of c.args.p c.args.a.now) (values_of c.args.q c.args.b.now) c.loop-i.i c.value.result c.value-in-loop-i.result c.value.ensures c.value-in-loop-i.ensures (search rules)
     c.loop-i.invariant
 
 pub returns : goal.returns
