@@ -1,6 +1,6 @@
 //! Instructions that concern one frame alone.
 
-ghost use Rattle.std.specs.Prelude.{◌≡◌, ◌⊎◌, ℤ, ◌+◌, ◌<◌, ◌≤◌, ◌^◌, length, not, Some, slice_get, slice_set};
+ghost use Rattle.std.specs.Prelude.{◌≡◌, ◌⊎◌, ◌+◌, ◌<◌, ◌≤◌, ◌^◌, length, not, Some, slice_set};
 ghost use Rattle.xk_types.specs.declared.names.Value.TheVariants as value;
 ghost use Rattle.xk_types.specs.Code.{loop_head};
 ghost use Rattle.xk_activity.specs.Local.{Beyond, Stepped, beginning, carried, turn, turning, ran, spot_at, IsSafe, IsRight};
