@@ -10,11 +10,11 @@ use Rattle.xk_types.specs.declared.instr.Instr.TheVariants as instr
 use Rattle.xk_types.specs.declared.instr.Comparison.{Comparison}
 use Rattle.xk_tree.specs.declared.tree.Operator.{Operator}
 use Rattle.xk_tree.specs.declared.tree.Number.{Number}
-use Rattle.xk_tree.specs.Tree.{Word, Expression, Negation, Binary, Statement, Statements, More, If, IfElse, For, Finish, Declare, expression, expressions}
+use Rattle.xk_tree.specs.Tree.{Word, Expression, Negation, Binary, Bound, UpTo, Least, Statement, Statements, More, If, IfElse, For, top, Finish, Declare, expression, expressions}
 use Rattle.xk_code.specs.declared.error.CodeError.{CodeError}
 use Rattle.xk_code.specs.declared.error.CodeError.TheVariants as error
-use Rattle.xk_code.specs.CodeOf.{Setting, Scope, behind, before_into, both, code_of, code_of_all, code_of_then, count, count_all, declared, eval, eval_all, last_into, second, slot_for}
-use Rattle.xk_code.specs.Covered.{AreNew, IsKnown, IsCovered, AreCovered}
+use Rattle.xk_code.specs.CodeOf.{Setting, Scope, behind, before_bound, before_into, both, head_of, loop_slots, within_loop, code_of, code_of_all, code_of_then, count, count_all, declared, eval, eval_all, last_into, second, slot_for}
+use Rattle.xk_code.specs.Covered.{AreNew, IsBoundKnown, IsKnown, IsLoopNew, IsCovered, AreCovered}
 use Rattle.xk_code.specs.Room.{AreLow, Denies, HasRoom}
 use Rattle.xk_code.proofs.Rooms.{DeniesEval, arguments_append, room_behind, room_first, slots_append, temporary_written}
 
@@ -211,42 +211,66 @@ low_more (e ∷ scope) x n low h = (low.0, low_more scope x n low.1 h)
 abbrev pub RoomOf : Setting → ℕ → Scope → ℕ → ℕ → Statement → Type 0
 RoomOf cx t scope n size s = HasRoom scope size (code_of cx t scope n size s) × (n + count s ≤ 64)
 
+-- the slots of a loop's names are low
+low_loop : (scope : Scope) (n : ℕ) (i : Word) (b : Bound) → AreLow scope → n + loop_slots b ≤ 64 → AreLow (within_loop scope n i b)
+low_loop scope n i (UpTo hi) low h = low_more scope i.text n low (omega arith)
+low_loop scope n i (Least x v e hi) low h = low_more (scope ++ (i.text, n) ∷ []) x.text (n + 1) (low_more scope i.text n low (omega arith)) (omega arith)
+
 -- what a loop that has turns needs
-pub loop_room : (cx : Setting) (t : ℕ) (scope : Scope) (n size at : ℕ) (i : Word) (lo hi : Number) (s : Statement)
-    → int_le lo.value hi.value ≡ true → RoomOf cx t scope n size (For at i lo hi s)
-    → let body = code_of cx t (scope ++ (i.text, n) ∷ []) (n + 1) (size + 1) s in
-    HasRoom scope size (instr.For n lo.value hi.value (size + 1 + length body) ∷ (body ++ instr.Next size ∷ []))
-loop_room cx t scope n size at i lo hi s turns m =
-    let body = code_of cx t (scope ++ (i.text, n) ∷ []) (n + 1) (size + 1) s in
-    subst (λ b. HasRoom scope size (cond b (instr.For n lo.value hi.value (size + 1 + length body) ∷ (body ++ instr.Next size ∷ [])) [])) turns m.0
+pub loop_room : (cx : Setting) (t : ℕ) (scope : Scope) (n size at : ℕ) (i : Word) (lo : Number) (b : Bound) (s : Statement)
+    → int_le lo.value (top b) ≡ true → RoomOf cx t scope n size (For at i lo b s)
+    → let q = size + length (before_bound scope t n b) in
+    let body = code_of cx t (within_loop scope n i b) (n + loop_slots b) (q + 1) s in
+    HasRoom scope size (before_bound scope t n b ++ head_of n lo.value b (q + 1 + length body) ∷ (body ++ instr.Next q ∷ []))
+loop_room cx t scope n size at i lo b s turns m =
+    let q = size + length (before_bound scope t n b) in
+    let body = code_of cx t (within_loop scope n i b) (n + loop_slots b) (q + 1) s in
+    subst (λ x. HasRoom scope size (cond x (before_bound scope t n b ++ head_of n lo.value b (q + 1 + length body) ∷ (body ++ instr.Next q ∷ [])) [])) turns m.0
 
-pub loop_inner : (err : CodeError) (cx : Setting) (t : ℕ) (scope inside : Scope) (n k size inner at : ℕ) (i : Word) (lo hi : Number) (s : Statement)
-    → int_le lo.value hi.value ≡ true → DeniesCode err cx t inside k inner s → inside ≡ scope ++ (i.text, n) ∷ [] → k ≡ n + 1 → inner ≡ size + 1
-    → DeniesCode err cx t scope n size (For at i lo hi s)
-loop_inner err cx t scope inside n k size inner at i lo hi s turns h is_inside next is =
-    let there = scope ++ (i.text, n) ∷ [] in
-    let body = code_of cx t there (n + 1) (size + 1) s in
-    let denied : DeniesCode err cx t there (n + 1) inner s =
-    subst (λ j. DeniesCode err cx t there j inner s) next (subst (λ (w : Scope). DeniesCode err cx t w k inner s) is_inside h) in
-    denies err denied (λ c. (c turns).1) (λ m.
+pub loop_opened : (err : CodeError) (cx : Setting) (t : ℕ) (scope : Scope) (n size at : ℕ) (i : Word) (lo : Number) (b : Bound) (s : Statement)
+    → int_le lo.value (top b) ≡ true
+    → Denies err (IsBoundKnown scope b × IsLoopNew scope n i b) (HasRoom scope size (before_bound scope t n b ++ instr.Jump 0 ∷ []) × (n + loop_slots b ≤ 64))
+    → DeniesCode err cx t scope n size (For at i lo b s)
+loop_opened err cx t scope n size at i lo b s turns h =
+    denies err h (λ c. ((c turns).0, (c turns).1)) (λ m.
     let few = m.1 in
-    let whole = loop_room cx t scope n size at i lo hi s turns m in
-    let b = room_first scope (size + 1) body (instr.Next size ∷ [])
-    (room_behind scope size (instr.For n lo.value hi.value (size + 1 + length body) ∷ []) (body ++ instr.Next size ∷ []) (size + 1) refl whole) in
-    let low : HasRoom there (size + 1) body = record { low = low_more scope i.text n b.low (omega arith); code = b.code; slots = b.slots; arguments = b.arguments } in
-    (moved cx t (n + 1) inner (size + 1) there s is low, omega arith))
+    (room_gap scope size (before_bound scope t n b) _ _ (loop_room cx t scope n size at i lo b s turns m), omega arith))
 
-pub loop_end : (err : CodeError) (cx : Setting) (t : ℕ) (scope inside : Scope) (n k size inner long at : ℕ) (i : Word) (lo hi : Number) (s : Statement)
-    → int_le lo.value hi.value ≡ true → Denies err ⊤ (long < 4096) → inside ≡ scope ++ (i.text, n) ∷ [] → k ≡ n + 1 → inner ≡ size + 1
-    → long ≡ inner + length (code_of cx t inside k inner s) → DeniesCode err cx t scope n size (For at i lo hi s)
-loop_end err cx t scope inside n k size inner long at i lo hi s turns h is_inside next is is_long =
-    let there = scope ++ (i.text, n) ∷ [] in
-    let body = code_of cx t there (n + 1) (size + 1) s in
+pub loop_inner : (err : CodeError) (cx : Setting) (t : ℕ) (scope inside : Scope) (n k size inner at : ℕ) (i : Word) (lo : Number) (b : Bound) (s : Statement)
+    → int_le lo.value (top b) ≡ true → DeniesCode err cx t inside k inner s → inside ≡ within_loop scope n i b → k ≡ n + loop_slots b
+    → inner ≡ size + length (before_bound scope t n b) + 1 → DeniesCode err cx t scope n size (For at i lo b s)
+loop_inner err cx t scope inside n k size inner at i lo b s turns h is_inside next is =
+    let first = before_bound scope t n b in
+    let q = size + length first in
+    let there = within_loop scope n i b in
+    let body = code_of cx t there (n + loop_slots b) (q + 1) s in
+    let head = head_of n lo.value b (q + 1 + length body) in
+    let denied : DeniesCode err cx t there (n + loop_slots b) inner s =
+    subst (λ j. DeniesCode err cx t there j inner s) next (subst (λ (w : Scope). DeniesCode err cx t w k inner s) is_inside h) in
+    denies err denied (λ c. (c turns).2) (λ m.
+    let few = m.1 in
+    let whole = loop_room cx t scope n size at i lo b s turns m in
+    let behind_limit = room_behind scope size first (head ∷ (body ++ instr.Next q ∷ [])) q refl whole in
+    let r = room_first scope (q + 1) body (instr.Next q ∷ []) (room_behind scope q (head ∷ []) (body ++ instr.Next q ∷ []) (q + 1) refl behind_limit) in
+    let low : HasRoom there (q + 1) body = record { low = low_loop scope n i b r.low (omega arith); code = r.code; slots = r.slots; arguments = r.arguments } in
+    (moved cx t (n + loop_slots b) inner (q + 1) there s is low, omega arith))
+
+pub loop_end : (err : CodeError) (cx : Setting) (t : ℕ) (scope inside : Scope) (n k size inner long at : ℕ) (i : Word) (lo : Number) (b : Bound) (s : Statement)
+    → int_le lo.value (top b) ≡ true → Denies err ⊤ (long < 4096) → inside ≡ within_loop scope n i b → k ≡ n + loop_slots b
+    → inner ≡ size + length (before_bound scope t n b) + 1 → long ≡ inner + length (code_of cx t inside k inner s)
+    → DeniesCode err cx t scope n size (For at i lo b s)
+loop_end err cx t scope inside n k size inner long at i lo b s turns h is_inside next is is_long =
+    let first = before_bound scope t n b in
+    let q = size + length first in
+    let there = within_loop scope n i b in
+    let body = code_of cx t there (n + loop_slots b) (q + 1) s in
+    let head = head_of n lo.value b (q + 1 + length body) in
     let same : length (code_of cx t inside k inner s) ≡ length body =
     ap (λ (w : Scope). length (code_of cx t w k inner s)) is_inside ∙ ap (λ j. length (code_of cx t there j inner s)) next
-    ∙ ap (λ j. length (code_of cx t there (n + 1) j s)) is in
+    ∙ ap (λ j. length (code_of cx t there (n + loop_slots b) j s)) is in
     denies err h (λ c. tt) (λ m.
-    let whole = (loop_room cx t scope n size at i lo hi s turns m).code in omega (arith, length-append body (instr.Next size ∷ [])))
+    let whole = (loop_room cx t scope n size at i lo b s turns m).code in
+    omega (arith, length-append first (head ∷ (body ++ instr.Next q ∷ [])), length-append body (instr.Next q ∷ [])))
 
 -- ---- what all elements of a list meet
 

@@ -6,8 +6,8 @@ use Rattle.xk_types.specs.declared.instr.Instr.{Instr}
 use Rattle.xk_types.specs.declared.instr.Instr.TheVariants as instr
 use Rattle.xk_types.specs.declared.instr.Comparison.{Comparison}
 use Rattle.xk_tree.specs.declared.tree.Number.{Number}
-use Rattle.xk_tree.specs.Tree.{Word, Expression, Statement, If, IfElse, For, Finish, Statements, More}
-use Rattle.xk_code.specs.CodeOf.{Scope, Setting, both, second, slot_for, count, count_all, declared, declared_by_all, code_of, code_of_all, code_of_then}
+use Rattle.xk_tree.specs.Tree.{Word, Expression, Bound, Statement, If, IfElse, For, top, Finish, Statements, More}
+use Rattle.xk_code.specs.CodeOf.{Scope, Setting, before_bound, both, head_of, loop_slots, second, slot_for, within_loop, count, count_all, declared, declared_by_all, code_of, code_of_all, code_of_then}
 use Rattle.xk_code.specs.Covered.{AreCovered}
 use Rattle.xk_code.proofs.Denials.{RoomOfAll, covered_turn, room_turn}
 
@@ -72,19 +72,28 @@ finish_filled cx t n at scope s base c1 c2 c3 gap place e1 e2 fills =
     filled base c1 c2 c3 (code_of cx t scope n (length base + 1) s) at gap (λ p k. instr.Finish (p + 1 + k)) (λ p. instr.EndFinish p ∷ []) place e1
     (e2 ∙ ap (λ p. c1 ++ code_of cx t scope n p s) long) fills
 
-pub loop_filled : (cx : Setting) (t n m at off : ℕ) (scope inner : Scope) (i : Word) (lo hi : Number) (s : Statement) (base c1 c2 c3 : List Instr) (gap : Instr)
-    → int_le lo.value hi.value ≡ true → at ≡ length base → c1 ≡ base ++ gap ∷ [] → inner ≡ scope ++ (i.text, n) ∷ [] → m ≡ n + 1 → c2 ≡ c1 ++ code_of cx t inner m (length c1) s
-    → Fills c2 at (λ p k. instr.For n lo.value hi.value (p + 1 + k)) (λ p. instr.Next p ∷ []) c3
-    → c3 ≡ base ++ code_of cx t scope n (length base) (For off i lo hi s)
-loop_filled cx t n m at off scope inner i lo hi s base c1 c2 c3 gap turns place e1 is_inner next e2 fills =
-    let long : length c1 ≡ length base + 1 = ap length e1 ∙ length-append base (gap ∷ []) in
-    let there = scope ++ (i.text, n) ∷ [] in
-    let body = code_of cx t there (n + 1) (length base + 1) s in
+-- the code of a loop, the gap for whose head is filled
+pub loop_filled : (cx : Setting) (t n m at off : ℕ) (scope inner : Scope) (i : Word) (lo : Number) (b : Bound) (s : Statement) (base c1 c2 c3 : List Instr) (gap : Instr)
+    → int_le lo.value (top b) ≡ true → c1 ≡ base ++ (before_bound scope t n b ++ gap ∷ []) → at ≡ length base + length (before_bound scope t n b)
+    → inner ≡ within_loop scope n i b → m ≡ n + loop_slots b → c2 ≡ c1 ++ code_of cx t inner m (length c1) s
+    → Fills c2 at (λ p k. head_of n lo.value b (p + 1 + k)) (λ p. instr.Next p ∷ []) c3
+    → c3 ≡ base ++ code_of cx t scope n (length base) (For off i lo b s)
+loop_filled cx t n m at off scope inner i lo b s base c1 c2 c3 gap turns e1 place is_inner next e2 fills =
+    let first = before_bound scope t n b in
+    let front = base ++ first in
+    let q = length base + length first in
+    let split : length front ≡ q = length-append base first in
+    let here : c1 ≡ front ++ gap ∷ [] = e1 ∙ sym (append_assoc base first (gap ∷ [])) in
+    let long : length c1 ≡ q + 1 = ap length here ∙ length-append front (gap ∷ []) ∙ ap (λ k. k + 1) split in
+    let there = within_loop scope n i b in
+    let body = code_of cx t there (n + loop_slots b) (q + 1) s in
     let is_body : c2 ≡ c1 ++ body =
     e2 ∙ ap (λ (w : Scope). c1 ++ code_of cx t w m (length c1) s) is_inner ∙ ap (λ k. c1 ++ code_of cx t there k (length c1) s) next
-    ∙ ap (λ p. c1 ++ code_of cx t there (n + 1) p s) long in
-    filled base c1 c2 c3 body at gap (λ p k. instr.For n lo.value hi.value (p + 1 + k)) (λ p. instr.Next p ∷ []) place e1 is_body fills
-    ∙ ap (λ b. base ++ cond b (instr.For n lo.value hi.value (length base + 1 + length body) ∷ (body ++ instr.Next (length base) ∷ [])) []) (sym turns)
+    ∙ ap (λ p. c1 ++ code_of cx t there (n + loop_slots b) p s) long in
+    filled front c1 c2 c3 body at gap (λ p k. head_of n lo.value b (p + 1 + k)) (λ p. instr.Next p ∷ []) (place ∙ sym split) here is_body fills
+    ∙ ap (λ k. front ++ head_of n lo.value b (k + 1 + length body) ∷ (body ++ instr.Next k ∷ [])) split
+    ∙ append_assoc base first (head_of n lo.value b (q + 1 + length body) ∷ (body ++ instr.Next q ∷ []))
+    ∙ ap (λ x. base ++ cond x (first ++ head_of n lo.value b (q + 1 + length body) ∷ (body ++ instr.Next q ∷ [])) []) (sym turns)
 
 -- the code of two expressions and a comparison, whose gap is filled
 pub test_filled : (cx : Setting) (t n at off : ℕ) (scope : Scope) (op o : Comparison) (l r : Expression) (x y : ℕ) (s : Statement) (base c1 c2 c3 : List Instr) (gap : Instr)

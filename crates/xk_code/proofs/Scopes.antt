@@ -1,7 +1,7 @@
 -- Scopes that are cut back, and shared numbers that stand alone.
 use Rattle.std.proofs.Common.{◌≡◌, ℕ, ◌+◌, List, [], ◌∷◌, ◌++◌, take, length, Some, refl, sym, ap, ◌∙◌, append_assoc, append-nil}
-use Rattle.xk_tree.specs.Tree.{Expression, Literal, Named, Paren, Negation, Binary, Statement, Declare, Statements, Done, More}
-use Rattle.xk_code.specs.CodeOf.{Scope, Setting, before_into, count, declared, declared_by_all, shared_alone}
+use Rattle.xk_tree.specs.Tree.{Word, Expression, Literal, Named, Paren, Negation, Binary, Bound, UpTo, Least, Statement, Declare, Statements, Done, More}
+use Rattle.xk_code.specs.CodeOf.{Scope, Setting, before_into, count, declared, declared_by_all, shared_alone, within_loop}
 
 take_front : (xs ys : Scope) → take (length xs) (xs ++ ys) ≡ xs
 take_front [] ys = refl
@@ -28,12 +28,17 @@ cut_back new old names n len s is made count = let g = grown names n s in cut_to
 pub cut_all_back : (new old names : Scope) (n len : ℕ) (ss : Statements) → new ≡ take len old → old ≡ declared_by_all names n ss → len ≡ length names → new ≡ names
 cut_all_back new old names n len ss is made count = let g = all_grown names n ss in cut_to new old names g.0 len is (made ∙ g.1) count
 
--- and the name of a loop goes too
-pub cut_loop_back : (new old names : Scope) (x : List ℕ) (n m len : ℕ) (s : Statement)
-    → new ≡ take len old → old ≡ declared (names ++ (x, n) ∷ []) m s → len ≡ length names → new ≡ names
-cut_loop_back new old names x n m len s is made count =
-    let g = grown (names ++ (x, n) ∷ []) m s in
-    cut_to new old names ((x, n) ∷ g.0) len is (made ∙ g.1 ∙ append_assoc names ((x, n) ∷ []) g.0) count
+loop_grown : (names : Scope) (n : ℕ) (i : Word) (b : Bound) → (more : Scope) × (within_loop names n i b ≡ names ++ more)
+loop_grown names n i (UpTo hi) = ((i.text, n) ∷ [], refl)
+loop_grown names n i (Least x v e hi) = ((i.text, n) ∷ (x.text, n + 1) ∷ [], append_assoc names ((i.text, n) ∷ []) ((x.text, n + 1) ∷ []))
+
+-- and the names of a loop go too
+pub cut_loop_back : (new old names : Scope) (n m len : ℕ) (i : Word) (b : Bound) (s : Statement)
+    → new ≡ take len old → old ≡ declared (within_loop names n i b) m s → len ≡ length names → new ≡ names
+cut_loop_back new old names n m len i b s is made count =
+    let l = loop_grown names n i b in
+    let g = grown (within_loop names n i b) m s in
+    cut_to new old names (l.0 ++ g.0) len is (made ∙ g.1 ∙ ap (λ (w : Scope). w ++ g.0) l.1 ∙ append_assoc names l.0 g.0) count
 
 -- before a shared number that stands alone there is nothing
 pub alone_before : (cx : Setting) (scope : Scope) (t s : ℕ) (e : Expression) → shared_alone cx e ≡ Some s → before_into scope t e ≡ []

@@ -38,6 +38,7 @@ pub(crate) fn number<'t>(table: &Table<'t, u16>, x: Name<'t>) -> Result<u16, Cod
 /// The slot behind one.
 pub(crate) fn after(n: u16) -> Result<u16, CodeError>
     ensures next { IfOk result (λ m. m ≡ n + 1) }
+    ensures low { OnOk result (n < 64) }
     ensures refused { IfErr result (λ e. Denies e ⊤ (n < 64)) }
 {
     if n < MAX_SLOTS {

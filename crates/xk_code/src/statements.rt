@@ -3,11 +3,11 @@
 ghost use Rattle.std.specs.Prelude.{◌≡◌, true, ℕ, ◌+◌, ◌<◌, ◌≤◌, List, [], ◌∷◌, ◌++◌, length, map, option_map, All, unwrap_or, IsSome, OnOk, IfOk, IfErr, ⊤};
 ghost use Rattle.xk_types.specs.declared.instr.Instr.{Instr as Instruction};
 ghost use Rattle.xk_types.specs.declared.instr.Instr.TheVariants as instr;
-ghost use Rattle.xk_tree.specs.Tree.{Statement, Statements, Finish, For, If, clock_list, word, words, expression, expressions, source, statement, statements};
+ghost use Rattle.xk_tree.specs.Tree.{Bound as LoopBound, Statement, Statements, Finish, For, If, Word, bound, clock_list, top, word, words, expression, expressions, source, statement, statements};
 ghost use Rattle.xk_names.specs.Scope.{Table as Names, find, texts};
 ghost use Rattle.xk_names.specs.Uses.{clocks_listed};
-ghost use Rattle.xk_code.specs.CodeOf.{argument_slots, before_assigned, before_into, body_at, body_params, body_unit, both, code_of, code_of_all, code_of_source, code_of_then, count, count_all, declared, declared_by_all, eval, eval_all, last_assigned, last_value, number_of, second, shared_alone, slot_for, slots_of};
-ghost use Rattle.xk_code.specs.Covered.{AreCovered, IsAssignable, IsCovered, IsFound, IsKnown, IsNew, IsSourceKnown, IsValueKnown};
+ghost use Rattle.xk_code.specs.CodeOf.{argument_slots, before_assigned, before_bound, before_into, body_at, body_params, body_unit, both, code_of, code_of_all, code_of_source, code_of_then, count, count_all, declared, declared_by_all, eval, eval_all, head_of, last_assigned, last_value, loop_slots, number_of, second, shared_alone, slot_for, slots_of, within_loop};
+ghost use Rattle.xk_code.specs.Covered.{AreCovered, IsAssignable, IsBoundKnown, IsCovered, IsFound, IsKnown, IsLoopNew, IsNew, IsSourceKnown, IsValueKnown};
 ghost use Rattle.xk_code.specs.Room.{Denies, HasRoom};
 ghost use Rattle.xk_code.specs.Simple.{is_simple};
 
@@ -15,7 +15,7 @@ use crate::error::CodeError;
 use crate::expressions::{Scope, after, emit_args, emit_both, emit_expr, emit_into, number, push};
 use crate::setting::Setting;
 use std::alloc::Global;
-use xk_tree::{ClockList, Expr, Name, Number, Right, Stmt};
+use xk_tree::{Bound, ClockList, Expr, Name, Number, Right, Stmt};
 use xk_types::{Args, Comparison, Instr, MAX_ARGS, MAX_CODE};
 
 /// Makes the code of one unit.
@@ -123,23 +123,89 @@ fn close_else(code: &mut Vec<Instr>, at: u16) -> Result<(), CodeError>
     Ok(())
 }
 
-/// Begins a loop over slot n, which its name has inside: leaves a gap and says where, and which is the next slot.
-fn open_loop<'t>(
-    code: &mut Vec<Instr>,
-    scope: &mut Scope<'t>,
-    i: Name<'t>,
-    n: u16,
-) -> Result<(u16, u16), CodeError>
-    ensures place { IfOk result (λ begun. begun.0 ≡ length code.old.items) }
-    ensures next { IfOk result (λ begun. begun.1 ≡ n + 1) }
-    ensures code { OnOk result (code.new.items ≡ code.old.items ++ instr.Jump 0 ∷ []) }
-    ensures scope { OnOk result (scope.new ≡ scope.old ++ (i.entry.text.now, n) ∷ []) }
-    ensures refused { IfErr result (λ e. Denies e (IsNew scope.old i.entry.text.now)
-        ((length code.old.items < 4096) × (n < 64))) }
+/// The most that the number of a loop can be.
+fn top(limit: &Bound<'_>) -> i64
+    ensures { result ≡ top (bound limit.now) }
 {
-    let first = gap(code)?;
+    match limit {
+        Bound::UpTo(hi) => hi.value,
+        Bound::Least(_, _, _, hi) => hi.value,
+    }
+}
+
+/// The slot behind those of a loop's names, where n is the next.
+fn behind_names(n: u16, limit: &Bound<'_>) -> Result<u16, CodeError>
+    ensures next { IfOk result (λ m. m ≡ n + loop_slots (bound limit.now)) }
+    ensures low { OnOk result (n < 64) }
+    ensures refused { IfErr result (λ e. Denies e ⊤ (n + loop_slots (bound limit.now) ≤ 64)) }
+{
+    match limit {
+        Bound::UpTo(_) => after(n),
+        Bound::Least(..) => after(after(n)?),
+    }
+}
+
+/// The code that brings the limit of a loop over slot n into its slot, the one behind n.
+fn emit_limit<'t>(
+    code: &mut Vec<Instr>,
+    scope: &Scope<'t>,
+    t: u16,
+    n: u16,
+    limit: &Bound<'t>,
+) -> Result<(), CodeError>
+    requires low { n < 64 }
+    ensures code { OnOk result (code.new.items
+        ≡ code.old.items ++ before_bound scope.now t n (bound limit.now)) }
+    ensures refused { IfErr result (λ e. Denies e (IsBoundKnown scope.now (bound limit.now))
+        (HasRoom scope.now (length code.old.items)
+        (before_bound scope.now t n (bound limit.now)))) }
+{
+    match limit {
+        Bound::UpTo(_) => Ok(()),
+        Bound::Least(_, _, e, _) => emit_into(code, scope, t, e, n + 1),
+    }
+}
+
+/// The names of a loop over slot n are visible.
+fn declare_loop<'t>(
+    scope: &mut Scope<'t>,
+    n: u16,
+    i: Name<'t>,
+    limit: &Bound<'t>,
+) -> Result<(), CodeError>
+    requires low { n < 64 }
+    ensures scope { OnOk result
+        (scope.new ≡ within_loop scope.old n (word i.entry) (bound limit.now)) }
+    ensures refused { IfErr result (λ e. Denies e
+        (IsLoopNew scope.old n (word i.entry) (bound limit.now)) ⊤) }
+{
     declare(scope, i.text, n)?;
-    Ok((first, after(n)?))
+    match limit {
+        Bound::UpTo(_) => Ok(()),
+        Bound::Least(x, _, _, _) => declare(scope, x.text, n + 1),
+    }
+}
+
+/// The head of a loop over slot n, whose `next` stands at this place.
+fn head(n: u16, lo: Number, limit: &Bound<'_>, next: u16) -> Instr
+    requires low { n < 64 }
+    ensures { result ≡ head_of n lo.value (bound limit.now) next }
+{
+    match limit {
+        Bound::UpTo(hi) => Instr::For {
+            k: n,
+            lo: lo.value,
+            hi: hi.value,
+            e: next,
+        },
+        Bound::Least(_, _, _, hi) => Instr::ForTo {
+            k: n,
+            lo: lo.value,
+            x: n + 1,
+            hi: hi.value,
+            e: next,
+        },
+    }
 }
 
 /// Ends a loop over slot n, for which a gap was left.
@@ -148,26 +214,19 @@ fn close_loop(
     at: u16,
     n: u16,
     lo: Number,
-    hi: Number,
+    limit: &Bound<'_>,
 ) -> Result<(), CodeError>
+    requires low { n < 64 }
     ensures code { OnOk result ((front body : List Instruction) (old : Instruction)
         → code.old.items ≡ front ++ old ∷ body → at ≡ length front
-        → code.new.items ≡ front ++ instr.For n lo.value hi.value (length front + 1 + length body)
+        → code.new.items
+        ≡ front ++ head_of n lo.value (bound limit.now) (length front + 1 + length body)
         ∷ (body ++ instr.Next (length front) ∷ [])) }
     ensures refused { IfErr result (λ e. Denies e ⊤ (length code.old.items < 4096)) }
 {
     let end = place(code)?;
     push(code, Instr::Next(at))?;
-    patch(
-        code,
-        at as usize,
-        Instr::For {
-            k: n,
-            lo: lo.value,
-            hi: hi.value,
-            e: end,
-        },
-    );
+    patch(code, at as usize, head(n, lo, limit, end));
     Ok(())
 }
 
@@ -204,8 +263,8 @@ fn cut(scope: &mut Scope<'_>, len: usize)
         → scope.old ≡ declared names n s → len ≡ length names → scope.new ≡ names }
     ensures statements { (names : Names ℕ) (n : ℕ) (ss : Statements)
         → scope.old ≡ declared_by_all names n ss → len ≡ length names → scope.new ≡ names }
-    ensures turn { (names : Names ℕ) (x : List ℕ) (n m : ℕ) (s : Statement)
-        → scope.old ≡ declared (names ++ (x, n) ∷ []) m s → len ≡ length names
+    ensures turn { (names : Names ℕ) (n m : ℕ) (i : Word) (b : LoopBound) (s : Statement)
+        → scope.old ≡ declared (within_loop names n i b) m s → len ≡ length names
         → scope.new ≡ names }
 {
     scope.truncate(len);
@@ -722,6 +781,38 @@ impl<'a, 't> Emitter<'a, 't> {
         Ok(m)
     }
 
+    /// Begins a loop over slot n, whose names are visible inside: the code of its limit, and a gap for its head. Says where that is, and
+    /// which is the next slot.
+    fn open_loop(
+        &self,
+        code: &mut Vec<Instr>,
+        scope: &mut Scope<'t>,
+        n: u16,
+        i: Name<'t>,
+        limit: &Bound<'t>,
+    ) -> Result<(u16, u16), CodeError>
+        ensures code { OnOk result (code.new.items ≡ code.old.items
+            ++ (before_bound scope.old self.now.free n (bound limit.now) ++ instr.Jump 0 ∷ [])) }
+        ensures place { IfOk result (λ begun. begun.0 ≡ length code.old.items
+            + length (before_bound scope.old self.now.free n (bound limit.now))) }
+        ensures next { IfOk result (λ begun. begun.1 ≡ n + loop_slots (bound limit.now)) }
+        ensures low { OnOk result (n < 64) }
+        ensures scope { OnOk result
+            (scope.new ≡ within_loop scope.old n (word i.entry) (bound limit.now)) }
+        ensures refused { IfErr result (λ e. Denies e
+            (IsBoundKnown scope.old (bound limit.now)
+            × IsLoopNew scope.old n (word i.entry) (bound limit.now))
+            (HasRoom scope.old (length code.old.items)
+            (before_bound scope.old self.now.free n (bound limit.now) ++ instr.Jump 0 ∷ [])
+            × (n + loop_slots (bound limit.now) ≤ 64))) }
+    {
+        let inner = behind_names(n, limit)?;
+        emit_limit(code, scope, self.free, n, limit)?;
+        let first = gap(code)?;
+        declare_loop(scope, n, i, limit)?;
+        Ok((first, inner))
+    }
+
     /// The code of a `for`: none where its bounds leave it no turn.
     #[cycle(emit)]
     fn emit_for(
@@ -731,30 +822,31 @@ impl<'a, 't> Emitter<'a, 't> {
         n: u16,
         i: Name<'t>,
         lo: Number,
-        hi: Number,
+        limit: &Bound<'t>,
         s: &Stmt<'t>,
     ) -> Result<u16, CodeError>
         ensures code { OnOk result (code.new.items ≡ code.old.items
             ++ code_of self.now.setting.now self.now.free scope.old n (length code.old.items)
-            (For 0 (word i.entry) lo hi (statement s.now))) }
+            (For 0 (word i.entry) lo (bound limit.now) (statement s.now))) }
         ensures scope { OnOk result (scope.new ≡ scope.old) }
-        ensures slots { IfOk result (λ m. m ≡ n + (count (statement s.now) + 1)) }
+        ensures slots { IfOk result
+            (λ m. m ≡ n + (count (statement s.now) + loop_slots (bound limit.now))) }
         ensures refused { IfErr result (λ err. Denies err
             (IsCovered self.now.setting.now scope.old n
-            (For 0 (word i.entry) lo hi (statement s.now)))
+            (For 0 (word i.entry) lo (bound limit.now) (statement s.now)))
             (HasRoom scope.old (length code.old.items)
             (code_of self.now.setting.now self.now.free scope.old n (length code.old.items)
-            (For 0 (word i.entry) lo hi (statement s.now)))
-            × (n + (count (statement s.now) + 1) ≤ 64))) }
+            (For 0 (word i.entry) lo (bound limit.now) (statement s.now)))
+            × (n + (count (statement s.now) + loop_slots (bound limit.now)) ≤ 64))) }
     {
-        if lo.value > hi.value {
-            return slots_behind(after(n)?, s);
+        if lo.value > top(limit) {
+            return slots_behind(behind_names(n, limit)?, s);
         }
         let visible = scope.len();
-        let (first, inner) = open_loop(code, scope, i, n)?;
+        let (first, inner) = self.open_loop(code, scope, n, i, limit)?;
         let m = self.emit(code, scope, inner, s)?;
         cut(scope, visible);
-        close_loop(code, first, n, lo, hi)?;
+        close_loop(code, first, n, lo, limit)?;
         Ok(m)
     }
 
@@ -815,7 +907,7 @@ impl<'a, 't> Emitter<'a, 't> {
                 let (m, jump) = self.emit_then(code, scope, n, s, l, *op, r)?;
                 self.emit_else(code, scope, m, u, jump)
             }
-            Stmt::For(_, i, lo, hi, s) => self.emit_for(code, scope, n, *i, *lo, *hi, s),
+            Stmt::For(_, i, lo, limit, s) => self.emit_for(code, scope, n, *i, *lo, limit, s),
             Stmt::Finish(s) => self.emit_finish(code, scope, n, s),
             Stmt::Empty
             | Stmt::Declare(..)
@@ -869,7 +961,7 @@ pub(crate) fn slots_behind(n: u16, s: &Stmt<'_>) -> Result<u16, CodeError>
         Stmt::Declare(..) => after(n),
         Stmt::If(_, _, _, _, s) => slots_behind(n, s),
         Stmt::IfElse(_, _, _, _, s, u) => slots_behind(slots_behind(n, s)?, u),
-        Stmt::For(_, _, _, _, s) => slots_behind(after(n)?, s),
+        Stmt::For(_, _, _, limit, s) => slots_behind(behind_names(n, limit)?, s),
         Stmt::Finish(s) => slots_behind(n, s),
         Stmt::Empty => Ok(n),
         Stmt::Assign(..) => Ok(n),

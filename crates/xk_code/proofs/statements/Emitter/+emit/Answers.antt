@@ -2,10 +2,10 @@ use Rattle.std.proofs.Common.{◌≡◌, ◌+◌, ◌++◌, drop, length, length
 use Rattle.std.proofs.lemmas.Result.{err_from_is_err_and, IfErr-weaker, on_ok_weaker}
 use Rattle.std.proofs.lemmas.List.{at_drop_more}
 use Rattle.xk_tree.specs.declared.tree.Stmt.{the_lemmas}
-use Rattle.xk_tree.specs.Tree.{Statement, Statements, More, IfElse, word, expression, statement, statements}
-use Rattle.xk_code.specs.CodeOf.{code_of}
+use Rattle.xk_tree.specs.Tree.{Statement, Statements, More, IfElse, bound, top, word, expression, statement, statements}
+use Rattle.xk_code.specs.CodeOf.{before_bound, code_of}
 use Rattle.xk_code.proofs.Patched.{AreEmitted, one_more, test_filled, then_filled, choice_filled, other_filled, loop_filled, finish_filled}
-use Rattle.xk_code.proofs.Denials.{DeniesCode, code_end, else_begun, else_other, finish_end, finish_inner, if_end, if_inner, if_tested, length_gap, loop_end, loop_inner, one_denied, then_end, then_inner, then_tested}
+use Rattle.xk_code.proofs.Denials.{DeniesCode, code_end, else_begun, else_other, finish_end, finish_inner, if_end, if_inner, if_tested, length_gap, loop_end, loop_inner, loop_opened, one_denied, then_end, then_inner, then_tested}
 use Rattle.xk_code.proofs.statements.Emitter.+emit.Goals as goal
 
 pub emit_if-returns-clause-code : goal.emit_if-returns-clause-code
@@ -20,9 +20,9 @@ pub emit_for-returns-clause-code : goal.emit_for-returns-clause-code
 emit_for-returns-clause-code t c =
     let base = c.args.code.now.items in
     let s = c.args.s.now in
-    let turns : int_le c.args.lo.value c.args.hi.value ≡ true = search rules in
-    loop_filled _ _ _ _ _ 0 _ _ (word c.args.i) c.args.lo c.args.hi (statement s) base _ _ _ _ turns
-    c.in_ok-first.ensures.place c.in_ok-first.ensures.code c.in_ok-first.ensures.scope c.in_ok-first.ensures.next c.in_ok-m.ensures.code
+    let turns : int_le c.args.lo.value (top (bound c.args.limit.now)) ≡ true = search rules in
+    loop_filled _ _ _ _ _ 0 _ _ (word c.args.i) c.args.lo (bound c.args.limit.now) (statement s) base _ _ _ _ turns
+    c.in_ok-first.ensures.code c.in_ok-first.ensures.place c.in_ok-first.ensures.scope c.in_ok-first.ensures.next c.in_ok-m.ensures.code
     c.in_ok-close_loop.ensures.code
 
 pub emit_finish-returns-clause-code : goal.emit_finish-returns-clause-code
@@ -214,6 +214,19 @@ emit-returns-in_ok-m-in-IfElse-clause-refused t c =
 
 -- ---- loops and finishes
 
+pub emit_for-returns-in_err-first-clause-refused : goal.emit_for-returns-in_err-first-clause-refused
+emit_for-returns-in_err-first-clause-refused t c =
+    let p = err_from_is_err_and c.from_residual-in_err-first.result c.from_residual-in_err-first.ensures.1 in
+    let err = c.in_err-first.field-0.0 in
+    let cx = c.args.self.now.setting.now in
+    let free = c.args.self.now.free in
+    let scope = c.args.scope.now in
+    let base = c.args.code.now.items in
+    let b = bound c.args.limit.now in
+    let turns : int_le c.args.lo.value (top b) ≡ true = search rules in
+    let s = statement c.args.s.now in
+    rw (p.1, p.2) (loop_opened err cx free scope c.args.n (length base) 0 (word c.args.i) c.args.lo b s turns c.in_err-first.ensures.refused)
+
 pub emit_for-returns-in_err-m-clause-refused : goal.emit_for-returns-in_err-m-clause-refused
 emit_for-returns-in_err-m-clause-refused t c =
     let p = err_from_is_err_and c.from_residual-in_err-m.result c.from_residual-in_err-m.ensures.1 in
@@ -225,10 +238,11 @@ emit_for-returns-in_err-m-clause-refused t c =
     let base = c.args.code.now.items in
     let refused = c.in_err-m.ensures.refused in
     let s = statement c.args.s.now in
-    let turns : int_le c.args.lo.value c.args.hi.value ≡ true = search rules in
+    let b = bound c.args.limit.now in
+    let turns : int_le c.args.lo.value (top b) ≡ true = search rules in
     let e = c.in_ok-first.ensures in
-    let opened = ap length e.code ∙ length-append base _ in
-    rw (p.1, p.2) (loop_inner err cx free scope _ n _ (length base) _ 0 (word c.args.i) c.args.lo c.args.hi s turns refused e.scope e.next opened)
+    let opened = ap length e.code ∙ length_gap base (before_bound scope free n b) _ in
+    rw (p.1, p.2) (loop_inner err cx free scope _ n _ (length base) _ 0 (word c.args.i) c.args.lo b s turns refused e.scope e.next opened)
 
 pub emit_for-returns-in_err-close_loop-clause-refused : goal.emit_for-returns-in_err-close_loop-clause-refused
 emit_for-returns-in_err-close_loop-clause-refused t c =
@@ -241,11 +255,12 @@ emit_for-returns-in_err-close_loop-clause-refused t c =
     let base = c.args.code.now.items in
     let refused = c.in_err-close_loop.ensures.refused in
     let s = statement c.args.s.now in
-    let turns : int_le c.args.lo.value c.args.hi.value ≡ true = search rules in
+    let b = bound c.args.limit.now in
+    let turns : int_le c.args.lo.value (top b) ≡ true = search rules in
     let e = c.in_ok-first.ensures in
-    let opened = ap length e.code ∙ length-append base _ in
+    let opened = ap length e.code ∙ length_gap base (before_bound scope free n b) _ in
     let made = ap length c.in_ok-m.ensures.code ∙ length-append _ _ in
-    rw (p.1, p.2) (loop_end err cx free scope _ n _ (length base) _ _ 0 (word c.args.i) c.args.lo c.args.hi s turns refused e.scope e.next opened made)
+    rw (p.1, p.2) (loop_end err cx free scope _ n _ (length base) _ _ 0 (word c.args.i) c.args.lo b s turns refused e.scope e.next opened made)
 
 pub emit_finish-returns-in_err-m-clause-refused : goal.emit_finish-returns-in_err-m-clause-refused
 emit_finish-returns-in_err-m-clause-refused t c =
