@@ -1,20 +1,12 @@
 -- A number of workers as it is parsed.
-use Rattle.std.proofs.Common.{◌≡◌, ℕ, ◌^◌, ◌<◌, ◌≤◌, ◌&&◌, nat_lt, nat_le, Bool, true, false, if◌then◌else◌, List, [], ◌∷◌, length, Option, None, refl, sym, ap, ◌∙◌, arith}
+use Rattle.std.proofs.Common.{◌≡◌, ℕ, ◌^◌, ◌<◌, ◌≤◌, ◌&&◌, nat_le, Bool, true, false, if◌then◌else◌, List, Option, None, refl, sym, ap, ◌∙◌, arith}
 use Rattle.std.specs.Bool.{Decides}
-use Rattle.std.specs.Char.{digit_value, is_digit}
-use Rattle.std.specs.List.{list_all}
-use Rattle.std.specs.Str.Parse.{AllDigits, IsNumeral, digits_value, without_leading_plus}
+use Rattle.std.specs.Str.Parse.{IsNumeral, digits_value, without_leading_plus}
 use Rattle.std.proofs.lemmas.Bool.{and_parts, false_from_ne_true, leb-true}
-use Rattle.std.proofs.lemmas.Bool.Decides.{Decides-and, Decides-ltb}
 use Rattle.xk_words.specs.Counts.{count_within}
-use Rattle.xk_words.specs.Line.{is_numeral, workers_named}
-
-all_digits : (ds : List ℕ) → Decides (list_all (λ c. is_digit c 10) ds) (AllDigits 10 ds)
-all_digits [] = (λ e. tt, λ p. refl)
-all_digits (c ∷ cs) = Decides-and (is_digit c 10) (list_all (λ d. is_digit d 10) cs) (Decides-ltb (digit_value c) 10) (all_digits cs)
-
-numeral : (ds : List ℕ) → Decides (is_numeral ds) (IsNumeral 10 ds)
-numeral ds = Decides-and (nat_lt 0 (length ds)) (list_all (λ c. is_digit c 10) ds) (Decides-ltb 0 (length ds)) (all_digits ds)
+use Rattle.xk_words.specs.Line.{workers_named}
+use Rattle.xk_words.specs.Numbers.{is_numeral}
+use Rattle.xk_words.proofs.Numerals.{numeral}
 
 some_by : (b : Bool) (o : Option ℕ) → b ≡ true → o ≡ (if b then o else None)
 some_by b o e = rw e refl

@@ -1,12 +1,10 @@
 -- The program's command line in the terms of `clap`, and what its words ask for. This project's own.
-use Rattle.std.specs.Prelude.{ℕ, ◌≡◌, ◌≢◌, ◌⊎◌, ⊤, ◌&&◌, nat_lt, Bool, true, false, List, [], ◌∷◌, length, map, Option, Some, None, is_some, option_and_then, option_map, codes, if◌then◌else◌}
-use Rattle.std.specs.Char.{is_digit}
-use Rattle.std.specs.List.{list_all}
+use Rattle.std.specs.Prelude.{ℕ, ℤ, ◌≡◌, ◌≢◌, ◌⊎◌, ⊤, ◌&&◌, Bool, true, false, List, [], ◌∷◌, map, Option, Some, None, is_some, option_and_then, option_map, codes, if◌then◌else◌}
 use Rattle.std.specs.Option.{option_map_or}
 use Rattle.std.specs.Borrow.{Bor}
 use Rattle.std.specs.Str.{bytes_eq}
 use Rattle.std.specs.Str.Parse.{digits_value, without_leading_plus}
-use Rattle.clap.specs.Words.{App, IsAmong, Kinds, Row, Rule, Text, fault_of, first_of, new_app, new_rule, subcommand_of, with_rule, with_subcommand}
+use Rattle.clap.specs.Words.{App, IsAmong, Kinds, Row, Rule, Text, all_of, fault_of, first_of, new_app, new_rule, subcommand_of, with_rule, with_subcommand}
 use Rattle.clap.specs.declared.builder.command.Command.{Command as clap_Command}
 use Rattle.clap.specs.declared.builder.command.Command.TheViews.{out-Command}
 use Rattle.clap.specs.declared.builder.action.ArgAction.TheVariants as action
@@ -14,6 +12,7 @@ use Rattle.clap.specs.declared.builder.value_parser.ValueParser.TheVariants as p
 use Rattle.clap.specs.declared.error.kind.ErrorKind.{ErrorKind}
 use Rattle.clap.specs.declared.error.kind.ErrorKind.TheVariants as kind
 use Rattle.xk_words.specs.Counts.{count_within, most_workers}
+use Rattle.xk_words.specs.Numbers.{is_numeral, least_number, most_number, numbers_named}
 use Rattle.xk_words.specs.Status.{status_done, status_memory, status_words}
 use Rattle.xk_words.specs.declared.job.Command.{Command}
 use Rattle.xk_words.specs.declared.job.Command.TheVariants as command
@@ -57,9 +56,22 @@ on_either name = with_rule (on_file name) module_flag
 abbrev pub log_place : Rule
 log_place = place (codes "LOG")
 
+-- `--arg N`, once for each number, which is one of 64 bits
+abbrev pub arg_option : Rule
+arg_option = record (new_rule (codes "ARG")) {
+  long = Some (codes "arg");
+  action = Some action.Append;
+  value_names = 1;
+  parser = Some (parser.Signed least_number most_number);
+}
+
 -- a command on FILE and LOG
 abbrev pub on_log : Text → App
 on_log name = with_rule (on_either name) log_place
+
+-- the same, whose main may be given numbers
+abbrev pub on_run : Text → App
+on_run name = with_rule (on_log name) arg_option
 
 -- `--log PATH`
 abbrev pub log_option : Rule
@@ -86,8 +98,12 @@ abbrev pub by_workers : Names → App
 by_workers names = with_rule (by_order names) workers_option
 
 -- the same, whose log may be written
+abbrev pub with_log : Names → App
+with_log names = with_rule (by_workers names) log_option
+
+-- the same, whose main may be given numbers
 abbrev pub run_line : Names → App
-run_line names = with_rule (by_workers names) log_option
+run_line names = with_rule (with_log names) arg_option
 
 -- the program with a command that has to be there
 abbrev pub program : App
@@ -96,7 +112,7 @@ program = record (new_app (codes "x10clock")) { top = record (new_app (codes "x1
 abbrev pub command_line : Names → App
 command_line names =
     with_subcommand (with_subcommand (with_subcommand (with_subcommand (with_subcommand program
-    (on_either (codes "check")).top) (on_file (codes "compile")).top) (run_line names).top) (on_log (codes "replay")).top) (on_log (codes "chart")).top
+    (on_either (codes "check")).top) (on_file (codes "compile")).top) (run_line names).top) (on_run (codes "replay")).top) (on_run (codes "chart")).top
 
 -- no argument of the command is one of its subcommands too
 abbrev pub HasNoGlobals : clap_Command → Type 0
@@ -146,14 +162,15 @@ task_value (command.Run given log) = Run (option_map way_value given) (option_ma
 task_value (command.Replay log) = Replay log.now
 task_value (command.Chart log) = Chart log.now
 
--- a job without where its texts lie in memory
+-- a job without where its texts and numbers lie in memory
 pub record Asked : Type 0 where
   pub task : Task
   pub form : Form
   pub file : Text
+  pub arguments : List ℤ
 
 abbrev pub asked_value : Job → Asked
-asked_value job = record { task = task_value job.command; form = job.form; file = job.file.now }
+asked_value job = record { task = task_value job.command; form = job.form; file = job.file.now; arguments = job.arguments.items }
 
 -- the value of `--module` is `true` where it was given
 abbrev pub form_named : Text → Form
@@ -172,10 +189,6 @@ order_named name =
 abbrev pub order_in : List Row → Option Order
 order_in given = option_and_then order_named (first_of (codes "ORDER") given)
 
--- a digit or more, and nothing else
-abbrev pub is_numeral : List ℕ → Bool
-is_numeral ds = nat_lt 0 (length ds) && list_all (λ c. is_digit c 10) ds
-
 -- so many workers as a numeral says, before which a plus may stand
 abbrev pub workers_named : Text → Option ℕ
 workers_named text = let ds = without_leading_plus text in if is_numeral ds then count_within (digits_value 10 ds) else None
@@ -183,6 +196,10 @@ workers_named text = let ds = without_leading_plus text in if is_numeral ds then
 -- the workers that were given
 abbrev pub workers_in : List Row → Option ℕ
 workers_in given = option_and_then workers_named (first_of (codes "N") given)
+
+-- the numbers that were given, one for each `--arg`, in their order
+abbrev pub arguments_in : List Row → Option (List ℤ)
+arguments_in given = option_map_or numbers_named (all_of (codes "ARG") given) (Some [])
 
 -- both an order and workers were given
 abbrev pub is_both : List Row → Bool
@@ -210,10 +227,13 @@ command_by name given =
     else (if bytes_eq name (codes "replay") then option_map Replay (first_of (codes "LOG") given)
     else (if bytes_eq name (codes "chart") then option_map Chart (first_of (codes "LOG") given) else None))))
 
+-- this command on this file, with what else was given to it
+abbrev pub asked_of : Task → Text → List Row → Option Asked
+asked_of t file given = option_map (λ args. record { task = t; form = form_in given; file = file; arguments = args }) (arguments_in given)
+
 -- the job of a command's name and what was given with it
 abbrev pub asked_by : Text → List Row → Option Asked
-asked_by name given =
-    option_and_then (λ t. option_map (λ file. record { task = t; form = form_in given; file = file }) (first_of (codes "FILE") given)) (command_by name given)
+asked_by name given = option_and_then (λ t. option_and_then (λ file. asked_of t file given) (first_of (codes "FILE") given)) (command_by name given)
 
 abbrev pub asked_in : Option (Text × List Row) → Option Asked
 asked_in found = option_and_then (λ p. asked_by p.0 p.1) found

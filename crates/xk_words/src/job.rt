@@ -91,10 +91,12 @@ impl Workers {
 }
 
 /// One command on one file.
-#[derive(Clone, Copy, Debug, PartialEq, Eq)]
+#[derive(Debug, Drop)]
 pub struct Job<'a> {
     pub command: Command<'a>,
     pub form: Form,
     /// The file's path; `-` is standard input.
     pub file: &'a str,
+    /// `--arg`: the numbers that main is given, in order. `check` and `compile` are given none.
+    pub arguments: Vec<i64>,
 }

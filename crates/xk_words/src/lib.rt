@@ -3,6 +3,7 @@
 
 mod job;
 mod line;
+mod numbers;
 pub mod status;
 mod words_fault;
 

@@ -2,9 +2,10 @@
 
 ghost use Rattle.std.specs.Prelude.{◌≡◌, [], false, Some, None, IfOk, OnOk, IfErr, IsOkAnd, option_map};
 ghost use Rattle.clap.specs.Words.{app_of, first_of, found_of, kind_of, rows_of, rule_of, subcommand_rows_of, with_subcommand};
-ghost use Rattle.xk_words.specs.Line.{FitsKind, HasNoGlobals, IsRefused, WithOrders, asked_by, asked_in, asked_value, by_order, by_workers, command_by, command_line, drive_in, excludes_by, excludes_in, faults_in, form_in, form_named, is_both, job_of, log_option, module_flag, on_either, on_file, on_log, option, order_in, order_named, order_option, place, program, run_by, run_line, task_value, texts, way_value, workers_in, workers_named, workers_option};
+ghost use Rattle.xk_words.specs.Line.{FitsKind, HasNoGlobals, IsRefused, WithOrders, arg_option, arguments_in, asked_by, asked_in, asked_of, asked_value, by_order, by_workers, command_by, command_line, drive_in, excludes_by, excludes_in, faults_in, form_in, form_named, is_both, job_of, log_option, module_flag, on_either, on_file, on_log, on_run, option, order_in, order_named, order_option, place, program, run_by, run_line, task_value, texts, way_value, with_log, workers_in, workers_named, workers_option};
 
 use crate::job::{Command, Drive, Form, Job, MOST_WORKERS, Order, Workers};
+use crate::numbers::numbers_named;
 use crate::words_fault::WordsFault;
 use clap::builder::ValueParser;
 use clap::error::ErrorKind;
@@ -27,10 +28,7 @@ pub fn read_job<'a>(alloc: Global, words: &'a [&'a str]) -> Result<Job<'a>, Word
 {
     let command_line = line(alloc)?;
     match command_line.try_get_matches_from(words) {
-        Ok(matches) => match job_in(&matches) {
-            Some(job) => Ok(job),
-            None => Err(no_job(alloc, &matches)),
-        },
+        Ok(matches) => asked(alloc, &matches),
         Err(error) => Err(words_fault(alloc, &error)),
     }
 }
@@ -48,13 +46,13 @@ fn line<'a>(alloc: Global) -> Result<clap::Command<'a>, AllocError>
     );
     let compiles = add(checks, compile)?;
     let runs = add(compiles, run_line(alloc))?;
-    let replay = on_log(
+    let replay = on_run(
         alloc,
         "replay",
         "Runs a program again as a log has it, and prints what it prints.",
     );
     let replays = add(runs, replay)?;
-    let chart = on_log(
+    let chart = on_run(
         alloc,
         "chart",
         "Prints when the clocks advanced in the run that a log has.",
@@ -90,11 +88,20 @@ fn run_line<'a>(alloc: Global) -> Result<clap::Command<'a>, AllocError>
     ensures shape { IfOk result (λ c. WithOrders (λ names. app_of c ≡ run_line names)) }
     ensures local { IfOk result HasNoGlobals }
 {
+    let command = with_log(alloc)?;
+    command.arg(arg_option(alloc))
+}
+
+/// The command `run` without `--arg`.
+fn with_log<'a>(alloc: Global) -> Result<clap::Command<'a>, AllocError>
+    ensures shape { IfOk result (λ c. WithOrders (λ names. app_of c ≡ with_log names)) }
+    ensures local { IfOk result HasNoGlobals }
+{
     let command = by_workers(alloc)?;
     command.arg(log_option(alloc))
 }
 
-/// The command `run` without `--log`.
+/// The command `run` without `--log` and `--arg`.
 fn by_workers<'a>(alloc: Global) -> Result<clap::Command<'a>, AllocError>
     ensures shape { IfOk result (λ c. WithOrders (λ names. app_of c ≡ by_workers names)) }
     ensures local { IfOk result HasNoGlobals }
@@ -103,13 +110,22 @@ fn by_workers<'a>(alloc: Global) -> Result<clap::Command<'a>, AllocError>
     command.arg(workers_option(alloc))
 }
 
-/// The command `run` without `--workers` and `--log`.
+/// The command `run` without `--workers`, `--log` and `--arg`.
 fn by_order<'a>(alloc: Global) -> Result<clap::Command<'a>, AllocError>
     ensures shape { IfOk result (λ c. WithOrders (λ names. app_of c ≡ by_order names)) }
     ensures local { IfOk result HasNoGlobals }
 {
     let command = on_either(alloc, "run", "Runs a program and prints what it prints.")?;
     command.arg(order_option(alloc))
+}
+
+/// A command on FILE and on LOG, which is the log of a run of it with these arguments.
+fn on_run<'a>(alloc: Global, name: &'a str, about: &'a str) -> Result<clap::Command<'a>, AllocError>
+    ensures shape { IfOk result (λ c. app_of c ≡ on_run name.entry.now) }
+    ensures local { IfOk result HasNoGlobals }
+{
+    let command = on_log(alloc, name, about)?;
+    command.arg(arg_option(alloc))
 }
 
 /// A command on FILE and on LOG, which is the log of a run of it.
@@ -145,6 +161,19 @@ fn on_file<'a>(
 {
     let file = place(alloc, "FILE", "The program; - is standard input");
     clap::Command::new(alloc, name).about(about).arg(file)
+}
+
+/// `--arg N`, once for each number.
+fn arg_option<'a>(alloc: Global) -> Arg<'a>
+    ensures rule { rule_of result ≡ arg_option }
+    ensures local { result.global ≡ false }
+{
+    Arg::new(alloc, "ARG")
+        .long("arg")
+        .value_name("N")
+        .help("A number that main is given: once for each that it takes, in their order")
+        .action(ArgAction::Append)
+        .value_parser(ValueParser::signed(i64::MIN, i64::MAX))
 }
 
 /// `--log PATH`.
@@ -221,25 +250,78 @@ fn place<'a>(alloc: Global, name: &'a str, help: &'a str) -> Arg<'a>
         .action(ArgAction::Set)
 }
 
-/// The job in what `clap` found.
-fn job_in<'a>(matches: &ArgMatches<'a>) -> Option<Job<'a>>
-    ensures { option_map asked_value result ≡ asked_in (subcommand_rows_of matches.now) }
+/// The job in what `clap` found, or why there is none.
+fn asked<'a>(alloc: Global, matches: &ArgMatches<'a>) -> Result<Job<'a>, WordsFault>
+    ensures job { IfOk result
+        (λ job. asked_in (subcommand_rows_of matches.now) ≡ Some (asked_value job)) }
+    ensures refused { IfErr result (IsRefused [] (asked_in (subcommand_rows_of matches.now))
+        (excludes_by (subcommand_rows_of matches.now))) }
 {
-    let (name, given) = matches.subcommand()?;
-    job_by(name, given)
+    match job_in(alloc, matches)? {
+        Some(job) => Ok(job),
+        None => Err(no_job(alloc, matches)),
+    }
+}
+
+/// The job in what `clap` found.
+fn job_in<'a>(alloc: Global, matches: &ArgMatches<'a>) -> Result<Option<Job<'a>>, AllocError>
+    ensures { IfOk result
+        (λ job. option_map asked_value job ≡ asked_in (subcommand_rows_of matches.now)) }
+{
+    match matches.subcommand() {
+        Some((name, given)) => job_by(alloc, name, given),
+        None => Ok(None),
+    }
 }
 
 /// The job of a command's name and what was given with it.
-fn job_by<'a>(name: &str, given: &ArgMatches<'a>) -> Option<Job<'a>>
-    ensures { option_map asked_value result ≡ asked_by name.now (rows_of (found_of given.now)) }
+fn job_by<'a>(
+    alloc: Global,
+    name: &str,
+    given: &ArgMatches<'a>,
+) -> Result<Option<Job<'a>>, AllocError>
+    ensures { IfOk result
+        (λ job. option_map asked_value job ≡ asked_by name.now (rows_of (found_of given.now))) }
 {
-    let command = command_by(name, given)?;
-    let file = given_in(given, "FILE")?;
-    Some(Job {
-        command,
-        form: form_in(given),
-        file,
-    })
+    let Some(command) = command_by(name, given) else {
+        return Ok(None);
+    };
+    match given_in(given, "FILE") {
+        Some(file) => job_of(alloc, command, file, given),
+        None => Ok(None),
+    }
+}
+
+/// This command on this file, with what else was given to it.
+fn job_of<'a>(
+    alloc: Global,
+    command: Command<'a>,
+    file: &'a str,
+    given: &ArgMatches<'a>,
+) -> Result<Option<Job<'a>>, AllocError>
+    ensures { IfOk result (λ job. option_map asked_value job
+        ≡ asked_of (task_value command.entry) file.entry.now (rows_of (found_of given.now))) }
+{
+    match arguments_in(alloc, given)? {
+        Some(arguments) => Ok(Some(Job {
+            command,
+            form: form_in(given),
+            file,
+            arguments,
+        })),
+        None => Ok(None),
+    }
+}
+
+/// The numbers that were given, one for each `--arg`, in their order.
+fn arguments_in(alloc: Global, given: &ArgMatches<'_>) -> Result<Option<Vec<i64>>, AllocError>
+    ensures { IfOk result (λ found.
+        option_map (λ numbers. numbers.items) found ≡ arguments_in (rows_of (found_of given.now))) }
+{
+    match given.get_strs("ARG") {
+        Some(texts) => numbers_named(alloc, texts),
+        None => Ok(Some(Vec::new(alloc))),
+    }
 }
 
 /// The command of this name, with what else was given to it.

@@ -1,6 +1,7 @@
 use Rattle.std.proofs.Common.{◌≡◌, List, Option, refl, Some, None, option_map, ap, ◌∙◌}
 use Rattle.std.specs.Prelude.{Box}
 use Rattle.std.specs.Box.{box_value}
+use Rattle.std.proofs.lemmas.Result.{IfOk-weaker}
 use Rattle.clap.specs.Words.{Row, Text, found_of, rows_of, subcommand_rows}
 use Rattle.clap.specs.declared.parser.matches.SubCommand.{SubCommand}
 use Rattle.clap.specs.declared.parser.matches.ArgMatches.TheViews.{out-SubCommand, out-ArgMatches}
@@ -22,10 +23,11 @@ none_found : {Z : Type 0} (s : Option (Box SubCommand Z)) → None ≡ name_foun
 none_found None n = refl
 none_found (Some b) n = cc
 
-pub returns : goal.returns
-returns c =
-    c.job_by.ensures ∙ ap asked_in (both_found (out-ArgMatches c.args.matches.now).subcommand
-    c.in_ok-name.name.now (rows_of (found_of c.in_ok-name.given.now)) c.in_ok-name.ensures.name c.in_ok-name.ensures.rows)
+pub returns-in-Some : goal.returns-in-Some
+returns-in-Some c =
+    let found = both_found (out-ArgMatches c.args.matches.now).subcommand
+    c.in-Some.name.now (rows_of (found_of c.in-Some.given.now)) c.in-Some.ensures.name c.in-Some.ensures.rows in
+    IfOk-weaker c.job_by.result _ _ (λ job h. h ∙ ap asked_in found) c.job_by.ensures
 
-pub returns-in_err-name : goal.returns-in_err-name
-returns-in_err-name c = rw c.from_residual.ensures (ap asked_in (none_found (out-ArgMatches c.args.matches.now).subcommand c.in_err-name.ensures.name))
+pub returns-in-None : goal.returns-in-None
+returns-in-None c = ap asked_in (none_found (out-ArgMatches c.args.matches.now).subcommand c.in-None.ensures.name)

@@ -30,11 +30,11 @@ returns c =
     let orders = run.1 in
     let with_run = run.2 ∙ ap₂ with_subcommand with_compile (ap (λ (a : App). a.top) orders.2) in
     let with_replay =
-    added_shape c.on_log-replay.result _ _ _ _ c.in_ok-replays.ensures c.on_log-replay.ensures.local c.on_log-replay.ensures.shape with_run in
+    added_shape c.on_run-replay.result _ _ _ _ c.in_ok-replays.ensures c.on_run-replay.ensures.local c.on_run-replay.ensures.shape with_run in
     IfOk-weaker c.add-5.result _ _
     (λ r h. (
       orders.0,
       orders.1,
-      added_shape c.on_log-chart.result _ _ _ _ h c.on_log-chart.ensures.local c.on_log-chart.ensures.shape with_replay,
+      added_shape c.on_run-chart.result _ _ _ _ h c.on_run-chart.ensures.local c.on_run-chart.ensures.shape with_replay,
     ))
     c.add-5.ensures

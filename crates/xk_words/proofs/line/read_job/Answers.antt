@@ -1,5 +1,5 @@
-use Rattle.std.proofs.Common.{◌≡◌, ◌⊎◌, inl, inr, [], ◌∷◌, List, map, Option, None, Bool, true, codes, refl, sym, ap, ◌∙◌}
-use Rattle.std.proofs.lemmas.Result.{err_from_is_err_and}
+use Rattle.std.proofs.Common.{◌≡◌, ◌⊎◌, inl, inr, [], ◌∷◌, List, map, Option, Bool, true, codes, refl, sym, ap, ◌∙◌}
+use Rattle.std.proofs.lemmas.Result.{err_from_is_err_and, IfErr-weaker, IfOk-weaker}
 use Rattle.clap.specs.Words.{App, IsAmong, Kinds, Text, app_of, fault_of, is_simple, is_simple_and_free, subcommand_of, subcommand_rows_of}
 use Rattle.clap.specs.declared.error.kind.ErrorKind.{ErrorKind}
 use Rattle.clap.specs.declared.error.kind.ErrorKind.TheVariants as kind
@@ -45,40 +45,43 @@ excludes_are names a words found e h = ap excludes_by (h ∙ ap (λ b. subcomman
 without_memory : WithOrders (λ names. Unit {0})
 without_memory = (record { ref_ptr = (0, 0); now = map (λ t. record { ref_ptr = (0, 0); now = t }) (codes "first" ∷ codes "last" ∷ codes "round" ∷ []) }, refl, tt)
 
-pub returns-in-Some-clause-job : goal.returns-in-Some-clause-job
-returns-in-Some-clause-job c =
-    let line = c.in_ok-command_line.ensures in (
+pub returns-in-Ok-clause-job : goal.returns-in-Ok-clause-job
+returns-in-Ok-clause-job c =
+    let line = c.in_ok-command_line.ensures in
+    IfOk-weaker c.asked.result _ _
+    (λ job h. (
       line.0,
       line.1,
-      sym (c.in-Some.ensures
-          ∙ job_is line.0 (app_of c.in_ok-command_line.command_line) (texts c.args.words.now) (subcommand_rows_of c.in-Ok.matches)
-          line.2 (c.in-Ok.ensures.matches (ap is_simple line.2 ∙ simple line.0)).1),
-    )
+      sym (job_is line.0 (app_of c.in_ok-command_line.command_line) (texts c.args.words.now) (subcommand_rows_of c.in-Ok.matches)
+          line.2 (c.in-Ok.ensures.matches (ap is_simple line.2 ∙ simple line.0)).1)
+          ∙ h,
+    ))
+    c.asked.ensures.job
 
-pub returns-in-Some-clause-understood : goal.returns-in-Some-clause-understood
-returns-in-Some-clause-understood c =
-    let line = c.in_ok-command_line.ensures in (
+pub returns-in-Ok-clause-understood : goal.returns-in-Ok-clause-understood
+returns-in-Ok-clause-understood c =
+    let line = c.in_ok-command_line.ensures in
+    IfOk-weaker c.asked.result _ _
+    (λ job h. (
       line.0,
       line.1,
       sym (faults_are line.0 (app_of c.in_ok-command_line.command_line) (texts c.args.words.now) line.2)
           ∙ c.in-Ok.ensures.kinds (ap is_simple_and_free line.2 ∙ free line.0),
-    )
+    ))
+    c.asked.ensures.job
 
 pub returns-in-Ok-clause-refused : goal.returns-in-Ok-clause-refused
 returns-in-Ok-clause-refused c =
     let line = c.in_ok-command_line.ensures in
-    let none : job_of line.0 (texts c.args.words.now) ≡ None =
-    sym (c.in-None.ensures
-    ∙ job_is line.0 (app_of c.in_ok-command_line.command_line) (texts c.args.words.now) (subcommand_rows_of c.in-Ok.matches)
-    line.2 (c.in-Ok.ensures.matches (ap is_simple line.2 ∙ simple line.0)).1) in
+    let found = (c.in-Ok.ensures.matches (ap is_simple line.2 ∙ simple line.0)).1 in
+    let job = job_is line.0 (app_of c.in_ok-command_line.command_line) (texts c.args.words.now) (subcommand_rows_of c.in-Ok.matches) line.2 found in
     let no_fault : faults_in line.0 (texts c.args.words.now) ≡ [] =
     sym (faults_are line.0 (app_of c.in_ok-command_line.command_line) (texts c.args.words.now) line.2) ∙ c.in-Ok.ensures.kinds (ap is_simple_and_free line.2 ∙ free line.0) in
-    let both = sym (excludes_are line.0 (app_of c.in_ok-command_line.command_line) (texts c.args.words.now) (subcommand_rows_of c.in-Ok.matches)
-    line.2 (c.in-Ok.ensures.matches (ap is_simple line.2 ∙ simple line.0)).1) in
-    (line.0, line.1, rw (no_fault, none, both) c.no_job.ensures)
+    let both = excludes_are line.0 (app_of c.in_ok-command_line.command_line) (texts c.args.words.now) (subcommand_rows_of c.in-Ok.matches) line.2 found in
+    IfErr-weaker c.asked.result _ _ (λ f h. (line.0, line.1, rw (no_fault, ← job, ← both) h)) c.asked.ensures.refused
 
-pub returns-clause-refused : goal.returns-clause-refused
-returns-clause-refused c =
+pub returns-in-Err-clause-refused : goal.returns-in-Err-clause-refused
+returns-in-Err-clause-refused c =
     let line = c.in_ok-command_line.ensures in
     let e = faults_are line.0 (app_of c.in_ok-command_line.command_line) (texts c.args.words.now) line.2 in (
       line.0,
