@@ -1,29 +1,32 @@
 -- The two halves of a loop or a finish: each stands in the code, and names the other.
-use Rattle.std.proofs.Common.{◌≡◌, ℕ, ℤ, ◌+◌, List, [], ◌∷◌, ◌++◌, length, inl, inr, ◌⊎◌, refl, sym, subst}
+use Rattle.std.proofs.Common.{◌≡◌, ℕ, ℤ, Option, Some, None, ◌+◌, List, [], ◌∷◌, ◌++◌, length, inl, inr, ◌⊎◌, refl, sym, subst}
 use Rattle.std.proofs.lemmas.Bool.{false≢true}
 use Rattle.xk_types.specs.declared.instr.Instr.{Instr}
 use Rattle.xk_types.specs.declared.instr.Instr.TheVariants as instr
 use Rattle.xk_code.proofs.Shape.Stands.{Stands, stands_in, stands_left, stands_right, stands_last, Between, between, Holds, holds_at}
-use Rattle.xk_code.proofs.Shape.Nest.{Nest, Row, Then, Where, Choice, Loop, Closed, lay, EachRow}
+use Rattle.xk_code.proofs.Shape.Nest.{Nest, Row, Then, Where, Choice, Loop, Closed, head, lay, EachRow}
 use Rattle.xk_code.proofs.Shape.Targets.{Plain, until}
 
--- the `for` whose `next` stands at place `at`
-pub record IsFor (p : ℕ) (code : List Instr) (b at : ℕ) : Type 0 where
+-- the head of the loop whose `next` stands at place `at`
+pub record IsHead (p : ℕ) (code : List Instr) (b at : ℕ) : Type 0 where
   pub k : ℕ
   pub lo : ℤ
+  pub limit : Option ℕ
   pub hi : ℤ
-  pub stands : Stands p code b (instr.For k lo hi at)
+  pub stands : Stands p code b (head k lo limit hi at)
 
 -- the other half of the instruction at place `at`
 abbrev pub Paired : ℕ → List Instr → ℕ → Instr → Type 0
 Paired p code at (instr.For k lo hi e) = Stands p code e (instr.Next at)
-Paired p code at (instr.Next b) = IsFor p code b at
+Paired p code at (instr.ForTo k lo x hi e) = Stands p code e (instr.Next at)
+Paired p code at (instr.Next b) = IsHead p code b at
 Paired p code at (instr.Finish e) = Stands p code e (instr.EndFinish at)
 Paired p code at (instr.EndFinish b) = Stands p code b (instr.Finish at)
 Paired p code at _ = Unit {0}
 
 plain_paired : (p : ℕ) (code : List Instr) (at : ℕ) (i : Instr) → Plain i → Paired p code at i
 plain_paired p code at (instr.For k lo hi e) h = absurd (false≢true h)
+plain_paired p code at (instr.ForTo k lo x hi e) h = absurd (false≢true h)
 plain_paired p code at (instr.Next b) h = absurd (false≢true h)
 plain_paired p code at (instr.Finish e) h = absurd (false≢true h)
 plain_paired p code at (instr.EndFinish b) h = absurd (false≢true h)
@@ -32,7 +35,9 @@ plain_paired p code at _ h = tt
 -- in more code
 pub paired_more : (p q : ℕ) (xs ys : List Instr) → ((at : ℕ) (i : Instr) → Stands p xs at i → Stands q ys at i) → (at : ℕ) (i : Instr) → Paired p xs at i → Paired q ys at i
 paired_more p q xs ys more at (instr.For k lo hi e) h = more e (instr.Next at) h
-paired_more p q xs ys more at (instr.Next b) h = record { k = h.k; lo = h.lo; hi = h.hi; stands = more b (instr.For h.k h.lo h.hi at) h.stands }
+paired_more p q xs ys more at (instr.ForTo k lo x hi e) h = more e (instr.Next at) h
+paired_more p q xs ys more at (instr.Next b) h =
+    record { k = h.k; lo = h.lo; limit = h.limit; hi = h.hi; stands = more b (head h.k h.lo h.limit h.hi at) h.stands }
 paired_more p q xs ys more at (instr.Finish e) h = more e (instr.EndFinish at) h
 paired_more p q xs ys more at (instr.EndFinish b) h = more b (instr.Finish at) h
 paired_more p q xs ys more at _ h = tt
@@ -68,6 +73,10 @@ paired_round p first last body f opens closes at i h = go (between p first body 
     go (inr (inr (inl e))) = subst (λ k. Paired p (first ∷ (body ++ last ∷ [])) k i) (sym e.0) (subst (Paired p (first ∷ (body ++ last ∷ [])) (p + 1 + length body)) e.1 closes)
     go (inr (inr (inr k))) = absurd k
 
+paired_head : (p : ℕ) (code : List Instr) (at k : ℕ) (lo : ℤ) (l : Option ℕ) (hi : ℤ) (e : ℕ) → Stands p code e (instr.Next at) → Paired p code at (head k lo l hi e)
+paired_head p code at k lo None hi e h = h
+paired_head p code at k lo (Some x) hi e h = h
+
 -- each instruction of a structure's code
 pub paired_inside : (p : ℕ) (x : Nest) → EachRow Plain x → (at : ℕ) (i : Instr) → Stands p (lay p x) at i → Paired p (lay p x) at i
 paired_inside p (Row is) r = paired_row p is r
@@ -79,10 +88,11 @@ paired_inside p (Choice op x y a b) r =
     paired_behind p (instr.Unless op x y (until (p + 1) a + 1)) (lay (p + 1) a ++ jump ∷ other) tt
     (paired_then (p + 1) (until (p + 1) a) (lay (p + 1) a) (jump ∷ other) refl (paired_inside (p + 1) a r.0)
     (paired_behind (until (p + 1) a) jump other tt (paired_inside (until (p + 1) a + 1) b r.1)))
-paired_inside p (Loop k lo hi a) r =
-    let first = instr.For k lo hi (until (p + 1) a) in
-    paired_round p first (instr.Next p) (lay (p + 1) a) (paired_inside (p + 1) a r) (stands_last p first (lay (p + 1) a) (instr.Next p) [])
-    (record { k = k; lo = lo; hi = hi; stands = inl (refl, refl) })
+paired_inside p (Loop k lo l hi a) r =
+    let first = head k lo l hi (until (p + 1) a) in
+    paired_round p first (instr.Next p) (lay (p + 1) a) (paired_inside (p + 1) a r)
+    (paired_head p (lay p (Loop k lo l hi a)) p k lo l hi (until (p + 1) a) (stands_last p first (lay (p + 1) a) (instr.Next p) []))
+    (record { k = k; lo = lo; limit = l; hi = hi; stands = inl (refl, refl) })
 paired_inside p (Closed a) r =
     let first = instr.Finish (until (p + 1) a) in
     paired_round p first (instr.EndFinish p) (lay (p + 1) a) (paired_inside (p + 1) a r) (stands_last p first (lay (p + 1) a) (instr.EndFinish p) [])

@@ -9,11 +9,11 @@ use Rattle.xk_tree.specs.declared.tree.TypeName.{TypeName}
 use Rattle.xk_tree.specs.declared.tree.Verb.{Verb}
 use Rattle.xk_tree.specs.declared.tree.Operator.{Operator}
 use Rattle.xk_tree.specs.declared.tree.Operator.TheVariants as operator
-use Rattle.xk_tree.specs.Tree.{Word, Clocks, Expression, Literal, Named, Paren, Negation, Binary, Source, Make, Value, Statement, Block, Empty, Declare, Assign, Atomic, If, IfElse, For, Async, Finish, Call, Resume, Drop, AdvanceAll, Print, Statements, Done, More}
+use Rattle.xk_tree.specs.Tree.{Word, Clocks, Expression, Literal, Named, Paren, Negation, Binary, Source, Make, Value, Bound, UpTo, Least, top, Statement, Block, Empty, Declare, Assign, Atomic, If, IfElse, For, Async, Finish, Call, Resume, Drop, AdvanceAll, Print, Statements, Done, More}
 use Rattle.xk_names.specs.Scope.{find}
-use Rattle.xk_code.specs.CodeOf.{Scope, Setting, number_of, slots_of, body_unit, body_params, argument_slots, instr_of, slot_for, behind, eval, both, second, before_into, last_into, eval_all, last_value, code_of_source, before_assigned, last_assigned, count, declared}
+use Rattle.xk_code.specs.CodeOf.{Scope, Setting, before_bound, loop_slots, within_loop, number_of, slots_of, body_unit, body_params, argument_slots, instr_of, slot_for, behind, eval, both, second, before_into, last_into, eval_all, last_value, code_of_source, before_assigned, last_assigned, count, declared}
 use Rattle.xk_code.proofs.Shape.Stands.{Holds, holds_both}
-use Rattle.xk_code.proofs.Shape.Nest.{Nest, Row, Loop, EachRow, nest_of, nest_of_all}
+use Rattle.xk_code.proofs.Shape.Nest.{Nest, Row, Then, Loop, EachRow, limit_slot, nest_of, nest_of_all}
 
 -- A property of each statement that holds no other, in a unit's statements: the bodies of `async` are units of their own, and loops that take
 -- no turn have no code.
@@ -22,7 +22,7 @@ abbrev mutual
   EachInside Q (Block ss) = EachOf Q ss
   EachInside Q (If at l op r s) = EachInside Q s
   EachInside Q (IfElse at l op r s u) = EachInside Q s × EachInside Q u
-  EachInside Q (For at i lo hi s) = int_le lo.value hi.value ≡ true → EachInside Q s
+  EachInside Q (For at i lo b s) = int_le lo.value (top b) ≡ true → EachInside Q s
   EachInside Q (Finish s) = EachInside Q s
   EachInside Q s = Q s
 
@@ -124,6 +124,10 @@ module _ (cx : Setting) (Q : Statement → Type 0) (P : Instr → Type 0) (l : L
       then_one (before_into scope t e) (last_value cx scope t e (number_of scope x)) (each_before scope t e) (its_value scope t e (number_of scope x))
   each_assigned scope t x e (Some s) h = then_one (eval scope t e) (instr.Put s (slot_for scope t e)) (each_eval scope t e) (l.put x.text s (slot_for scope t e) h)
 
+  each_bound : (scope : Scope) (t n : ℕ) (b : Bound) → Holds P (before_bound scope t n b)
+  each_bound scope t n (UpTo hi) = tt
+  each_bound scope t n (Least x v e hi) = then_one (before_into scope t e) (last_into scope t e (n + 1)) (each_before scope t e) (its_last scope t e (n + 1))
+
   -- ---- statements
 
   mutual
@@ -136,11 +140,15 @@ module _ (cx : Setting) (Q : Statement → Type 0) (P : Instr → Type 0) (l : L
         then_one (eval scope t e) (instr.AddTo (number_of cx.shared x) (slot_for scope t e)) (each_eval scope t e) (l.add_to x y at e h (slot_for scope t e))
     rows_of t scope n (If at a op b s) h = (each_both scope t a b, rows_of t scope n s h)
     rows_of t scope n (IfElse at a op b s u) h = (each_both scope t a b, (rows_of t scope n s h.0, rows_of t scope (n + count s) u h.1))
-    rows_of t scope n (For at i lo hi s) h =
-        go (int_le lo.value hi.value) h (nest_of cx t (scope ++ (i.text, n) ∷ []) (n + 1) s) (rows_of t (scope ++ (i.text, n) ∷ []) (n + 1) s)
+    rows_of t scope n (For at i lo b s) h =
+        go (int_le lo.value (top b)) h (nest_of cx t there (n + loop_slots b) s) (rows_of t there (n + loop_slots b) s)
       where
-        go : (b : Bool) → (b ≡ true → EachInside Q s) → (x : Nest) → (EachInside Q s → EachRow P x) → EachRow P (cond b (Loop n lo.value hi.value x) (Row []))
-        go true g x r = r (g refl)
+        there : Scope
+        there = within_loop scope n i b
+
+        go : (c : Bool) → (c ≡ true → EachInside Q s) → (x : Nest) → (EachInside Q s → EachRow P x)
+            → EachRow P (cond c (Then (Row (before_bound scope t n b)) (Loop n lo.value (limit_slot n b) (top b) x)) (Row []))
+        go true g x r = (each_bound scope t n b, r (g refl))
         go false g x r = tt
     rows_of t scope n (Async at cs s) h =
         (l.spawn at cs s (slots_of scope (body_params cx at cs)) h (length-map (body_params cx at cs) (λ x. unwrap_or (find scope x) 0)), tt)
@@ -163,7 +171,7 @@ mutual
   each_inside Q h (Block ss) = each_of Q h ss
   each_inside Q h (If at l op r s) = each_inside Q h s
   each_inside Q h (IfElse at l op r s u) = (each_inside Q h s, each_inside Q h u)
-  each_inside Q h (For at i lo hi s) = λ turns. each_inside Q h s
+  each_inside Q h (For at i lo b s) = λ turns. each_inside Q h s
   each_inside Q h (Finish s) = each_inside Q h s
   each_inside Q h Empty = h Empty
   each_inside Q h (Declare b x ty r) = h (Declare b x ty r)

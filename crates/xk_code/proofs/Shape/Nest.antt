@@ -1,12 +1,12 @@
 -- The code of a statement in its structure: rows of instructions that name no place, what may be jumped over, loops and finishes.
-use Rattle.std.proofs.Common.{◌≡◌, ℕ, ℤ, int_le, Bool, true, false, cond, ◌+◌, List, [], ◌∷◌, ◌++◌, length, refl, ap, ◌∙◌}
+use Rattle.std.proofs.Common.{◌≡◌, ℕ, ℤ, int_le, Bool, true, false, cond, ◌+◌, List, [], ◌∷◌, ◌++◌, length, Option, Some, None, refl, ap, ◌∙◌}
 use Rattle.std.specs.Prelude.{if◌then◌else◌}
 use Rattle.xk_types.specs.declared.instr.Instr.{Instr}
 use Rattle.xk_types.specs.declared.instr.Instr.TheVariants as instr
 use Rattle.xk_types.specs.declared.instr.Comparison.{Comparison}
-use Rattle.xk_tree.specs.Tree.{Statement, Block, If, IfElse, For, Finish, Statements, Done, More}
+use Rattle.xk_tree.specs.Tree.{Bound, UpTo, Least, Statement, Block, If, IfElse, For, top, Finish, Statements, Done, More}
 use Rattle.xk_code.proofs.Shape.Stands.{Holds, holds_both, holds_all}
-use Rattle.xk_code.specs.CodeOf.{Scope, Setting, both, second, slot_for, count, declared, code_of, code_of_all}
+use Rattle.xk_code.specs.CodeOf.{Scope, Setting, before_bound, both, head_of, loop_slots, second, slot_for, within_loop, count, declared, code_of, code_of_all}
 
 pub data Nest : Type 0 where
   -- instructions that name no place
@@ -16,8 +16,14 @@ pub data Nest : Type 0 where
   Where : Comparison → ℕ → ℕ → Nest → Nest
   -- with what is carried out else
   Choice : Comparison → ℕ → ℕ → Nest → Nest → Nest
-  Loop : ℕ → ℤ → ℤ → Nest → Nest
+  -- a loop over a slot, from one number up to another, and no further than the number in a slot, if one is named
+  Loop : ℕ → ℤ → Option ℕ → ℤ → Nest → Nest
   Closed : Nest → Nest
+
+-- the first instruction of a loop whose `next` stands at place e
+abbrev pub head : ℕ → ℤ → Option ℕ → ℤ → ℕ → Instr
+head k lo None hi e = instr.For k lo hi e
+head k lo (Some x) hi e = instr.ForTo k lo x hi e
 
 -- its code from place p on
 abbrev pub lay : ℕ → Nest → List Instr
@@ -28,7 +34,7 @@ lay p (Choice op x y a b) =
     let body = lay (p + 1) a in
     let other = lay (p + 1 + length body + 1) b in
     instr.Unless op x y (p + 1 + length body + 1) ∷ (body ++ instr.Jump (p + 1 + length body + 1 + length other) ∷ other)
-lay p (Loop k lo hi a) = let body = lay (p + 1) a in instr.For k lo hi (p + 1 + length body) ∷ (body ++ instr.Next p ∷ [])
+lay p (Loop k lo l hi a) = let body = lay (p + 1) a in head k lo l hi (p + 1 + length body) ∷ (body ++ instr.Next p ∷ [])
 lay p (Closed a) = let body = lay (p + 1) a in instr.Finish (p + 1 + length body) ∷ (body ++ instr.EndFinish p ∷ [])
 
 -- each instruction of its rows has a property
@@ -37,14 +43,14 @@ EachRow P (Row is) = Holds P is
 EachRow P (Then a b) = EachRow P a × EachRow P b
 EachRow P (Where op x y a) = EachRow P a
 EachRow P (Choice op x y a b) = EachRow P a × EachRow P b
-EachRow P (Loop k lo hi a) = EachRow P a
+EachRow P (Loop k lo l hi a) = EachRow P a
 EachRow P (Closed a) = EachRow P a
 
 -- what holds of the instructions that make the structure
 pub record Frames (P : Instr → Type 0) : Type 0 where
   pub unless : (op : Comparison) (x y t : ℕ) → P (instr.Unless op x y t)
   pub jump : (t : ℕ) → P (instr.Jump t)
-  pub begins : (k : ℕ) (lo hi : ℤ) (e : ℕ) → P (instr.For k lo hi e)
+  pub begins : (k : ℕ) (lo : ℤ) (l : Option ℕ) (hi : ℤ) (e : ℕ) → P (head k lo l hi e)
   pub next : (b : ℕ) → P (instr.Next b)
   pub finish : (e : ℕ) → P (instr.Finish e)
   pub ends : (b : ℕ) → P (instr.EndFinish b)
@@ -61,8 +67,8 @@ each_laid P f p (Choice op x y a b) r =
       holds_both P (lay (p + 1) a) (instr.Jump (mid + 1 + length other) ∷ other) (each_laid P f (p + 1) a r.0)
           (f.jump (mid + 1 + length other), each_laid P f (mid + 1) b r.1),
     )
-each_laid P f p (Loop k lo hi a) r =
-    (f.begins k lo hi (p + 1 + length (lay (p + 1) a)), holds_both P (lay (p + 1) a) (instr.Next p ∷ []) (each_laid P f (p + 1) a r) (f.next p, tt))
+each_laid P f p (Loop k lo l hi a) r =
+    (f.begins k lo l hi (p + 1 + length (lay (p + 1) a)), holds_both P (lay (p + 1) a) (instr.Next p ∷ []) (each_laid P f (p + 1) a r) (f.next p, tt))
 each_laid P f p (Closed a) r =
     (f.finish (p + 1 + length (lay (p + 1) a)), holds_both P (lay (p + 1) a) (instr.EndFinish p ∷ []) (each_laid P f (p + 1) a r) (f.ends p, tt))
 
@@ -72,8 +78,13 @@ each_row P Q h (Row is) r = holds_all P Q h is r
 each_row P Q h (Then a b) r = (each_row P Q h a r.0, each_row P Q h b r.1)
 each_row P Q h (Where op x y a) r = each_row P Q h a r
 each_row P Q h (Choice op x y a b) r = (each_row P Q h a r.0, each_row P Q h b r.1)
-each_row P Q h (Loop k lo hi a) r = each_row P Q h a r
+each_row P Q h (Loop k lo l hi a) r = each_row P Q h a r
 each_row P Q h (Closed a) r = each_row P Q h a r
+
+-- the slot of a loop's limit, where n is the loop's
+abbrev pub limit_slot : ℕ → Bound → Option ℕ
+limit_slot n (UpTo hi) = None
+limit_slot n (Least x v e hi) = Some (n + 1)
 
 -- the structure of a statement's code
 abbrev mutual
@@ -82,14 +93,20 @@ abbrev mutual
   nest_of cx t scope n (If at l op r s) = Then (Row (both scope t l r)) (Where op (slot_for scope t l) (second scope t l r) (nest_of cx t scope n s))
   nest_of cx t scope n (IfElse at l op r s u) =
       Then (Row (both scope t l r)) (Choice op (slot_for scope t l) (second scope t l r) (nest_of cx t scope n s) (nest_of cx t scope (n + count s) u))
-  nest_of cx t scope n (For at i lo hi s) =
-      if int_le lo.value hi.value then Loop n lo.value hi.value (nest_of cx t (scope ++ (i.text, n) ∷ []) (n + 1) s) else Row []
+  nest_of cx t scope n (For at i lo b s) =
+      if int_le lo.value (top b)
+      then Then (Row (before_bound scope t n b)) (Loop n lo.value (limit_slot n b) (top b) (nest_of cx t (within_loop scope n i b) (n + loop_slots b) s))
+      else Row []
   nest_of cx t scope n (Finish s) = Closed (nest_of cx t scope n s)
   nest_of cx t scope n s = Row (code_of cx t scope n 0 s)
 
   pub nest_of_all : Setting → ℕ → Scope → ℕ → Statements → Nest
   nest_of_all cx t scope n Done = Row []
   nest_of_all cx t scope n (More s ss) = Then (nest_of cx t scope n s) (nest_of_all cx t (declared scope n s) (n + count s) ss)
+
+head_is : (n : ℕ) (lo : ℤ) (b : Bound) (e : ℕ) → head_of n lo b e ≡ head n lo (limit_slot n b) (top b) e
+head_is n lo (UpTo hi) e = refl
+head_is n lo (Least x v l hi) e = refl
 
 -- its code is this structure's
 mutual
@@ -111,13 +128,26 @@ mutual
       ∙ (let b = lay (q + 1) (nest_of cx t scope n s) in
       ap (λ o. first ++ instr.Unless op x y (q + 1 + length b + 1) ∷ (b ++ instr.Jump (q + 1 + length b + 1 + length o) ∷ o))
       (laid cx t scope m (q + 1 + length b + 1) u))
-  laid cx t scope n p (For at i lo hi s) = go (int_le lo.value hi.value)
-      (code_of cx t (scope ++ (i.text, n) ∷ []) (n + 1) (p + 1) s) (nest_of cx t (scope ++ (i.text, n) ∷ []) (n + 1) s)
-      (laid cx t (scope ++ (i.text, n) ∷ []) (n + 1) (p + 1) s)
+  laid cx t scope n p (For at i lo b s) = go (int_le lo.value (top b)) (code_of cx t there m (q + 1) s) (nest_of cx t there m s) (laid cx t there m (q + 1) s)
     where
-      go : (b : Bool) (body : List Instr) (inner : Nest) → body ≡ lay (p + 1) inner
-          → cond b (instr.For n lo.value hi.value (p + 1 + length body) ∷ (body ++ instr.Next p ∷ [])) [] ≡ lay p (cond b (Loop n lo.value hi.value inner) (Row []))
-      go true body inner e = ap (λ b. instr.For n lo.value hi.value (p + 1 + length b) ∷ (b ++ instr.Next p ∷ [])) e
+      first : List Instr
+      first = before_bound scope t n b
+
+      q : ℕ
+      q = p + length first
+
+      there : Scope
+      there = within_loop scope n i b
+
+      m : ℕ
+      m = n + loop_slots b
+
+      go : (c : Bool) (body : List Instr) (inner : Nest) → body ≡ lay (q + 1) inner
+          → cond c (first ++ head_of n lo.value b (q + 1 + length body) ∷ (body ++ instr.Next q ∷ [])) []
+          ≡ lay p (cond c (Then (Row first) (Loop n lo.value (limit_slot n b) (top b) inner)) (Row []))
+      go true body inner e =
+          ap (λ r. first ++ head_of n lo.value b (q + 1 + length r) ∷ (r ++ instr.Next q ∷ [])) e
+          ∙ ap (λ h. first ++ h ∷ (lay (q + 1) inner ++ instr.Next q ∷ [])) (head_is n lo.value b (q + 1 + length (lay (q + 1) inner)))
       go false body inner e = refl
   laid cx t scope n p (Finish s) = ap (λ b. instr.Finish (p + 1 + length b) ∷ (b ++ instr.EndFinish p ∷ [])) (laid cx t scope n (p + 1) s)
   laid cx t scope n p _ = refl

@@ -1,5 +1,5 @@
 -- The slots that code names: those of names, and temporaries that it writes.
-use Rattle.std.proofs.Common.{◌≡◌, ℕ, int_le, Bool, true, false, cond, ◌+◌, ◌<◌, ◌≤◌, List, [], ◌∷◌, ◌++◌, length, Option, Some, None, unwrap_or, refl, subst, arith, All}
+use Rattle.std.proofs.Common.{◌≡◌, ℕ, ℤ, int_le, Bool, true, false, cond, ◌+◌, ◌<◌, ◌≤◌, List, [], ◌∷◌, ◌++◌, length, Option, Some, None, unwrap_or, refl, subst, arith, All}
 use Rattle.std.specs.Prelude.{is_some, nat_lt}
 use Rattle.std.specs.List.{list_all}
 use Rattle.std.specs.Option.{option_map_or}
@@ -12,11 +12,11 @@ use Rattle.xk_types.specs.declared.instr.Instr.TheVariants as instr
 use Rattle.xk_types.specs.Shape.{slots_named}
 use Rattle.xk_tree.specs.declared.tree.Operator.{Operator}
 use Rattle.xk_tree.specs.declared.tree.Operator.TheVariants as operator
-use Rattle.xk_tree.specs.Tree.{Word, Expression, Literal, Named, Paren, Negation, Binary, Source, Make, Value, Statement, Block, Empty, Declare, Assign, Atomic, If, IfElse, For, Async, Finish, Call, Resume, Drop, AdvanceAll, Print, Statements, Done, More}
+use Rattle.xk_tree.specs.Tree.{Word, Expression, Literal, Named, Paren, Negation, Binary, Source, Make, Value, Bound, UpTo, Least, top, Statement, Block, Empty, Declare, Assign, Atomic, If, IfElse, For, Async, Finish, Call, Resume, Drop, AdvanceAll, Print, Statements, Done, More}
 use Rattle.xk_names.specs.Scope.{find, is_text}
-use Rattle.xk_code.specs.CodeOf.{Scope, Setting, number_of, slots_of, body_params, instr_of, slot_for, behind, eval, both, second, before_into, last_into, eval_all, argument_slots, last_value, code_of_source, before_assigned, last_assigned, count, count_all, declared, code_of, code_of_all}
+use Rattle.xk_code.specs.CodeOf.{Scope, Setting, before_bound, head_of, loop_slots, within_loop, number_of, slots_of, body_params, instr_of, slot_for, behind, eval, both, second, before_into, last_into, eval_all, argument_slots, last_value, code_of_source, before_assigned, last_assigned, count, count_all, declared, code_of, code_of_all}
 use Rattle.xk_code.specs.Unit.{written_slots, slots_used}
-use Rattle.xk_code.specs.Covered.{IsFound, IsNew, IsKnown, IsKnownUnless, IsValueKnown, IsSourceKnown, IsAssignable, IsCovered, AreCovered}
+use Rattle.xk_code.specs.Covered.{IsFound, IsBoundKnown, IsLoopNew, IsKnown, IsKnownUnless, IsValueKnown, IsSourceKnown, IsAssignable, IsCovered, AreCovered}
 use Rattle.xk_code.proofs.Shape.Stands.{Holds, holds_both, holds_left, holds_right}
 
 abbrev pub Below : ℕ → List ℕ → Type 0
@@ -214,6 +214,26 @@ module _ (m : ℕ) (scope : Scope) (within : ScopeBelow m scope) where
   assigned_below cx t x e None k h = put_below cx t e (number_of scope x) k.1 (text_below m scope x.text within k.0) h
   assigned_below cx t x e (Some s) k h = evaluated_then t e (instr.Put s (slot_for scope t e)) k (λ a. (a, tt)) h
 
+  bound_below : (t n : ℕ) (b : Bound) → IsBoundKnown scope b → n + loop_slots b ≤ m → Holds (WritesBelow m) (before_bound scope t n b)
+      → Holds (NamesBelow m) (before_bound scope t n b)
+  bound_below t n (UpTo hi) k r h = tt
+  bound_below t n (Least x v e hi) k r h =
+      let last = last_into scope t e (n + 1) in
+      let first = holds_left (WritesBelow m) (before_into scope t e) (last ∷ []) h in
+      then_named m (before_into scope t e) last (before_below t e k first) (last_below t e (n + 1) k (omega (arith, r)) first)
+
+-- ---- loops
+
+head_below : (m n : ℕ) (lo : ℤ) (b : Bound) (e : ℕ) → n + loop_slots b ≤ m → NamesBelow m (head_of n lo b e)
+head_below m n lo (UpTo hi) e r = (omega (arith, r), tt)
+head_below m n lo (Least x v l hi) e r = (omega (arith, r), (omega (arith, r), tt))
+
+-- the names of a loop are below m
+pub within_below : (m : ℕ) (scope : Scope) (n : ℕ) (i : Word) (b : Bound) → ScopeBelow m scope → n + loop_slots b ≤ m → ScopeBelow m (within_loop scope n i b)
+within_below m scope n i (UpTo hi) h r = scope_more m scope i.text n h (omega (arith, r))
+within_below m scope n i (Least x v e hi) h r =
+    scope_more m (scope ++ (i.text, n) ∷ []) x.text (n + 1) (scope_more m scope i.text n h (omega (arith, r))) (omega (arith, r))
+
 -- ---- statements
 
 mutual
@@ -247,16 +267,33 @@ mutual
         holds_both (NamesBelow m) body (jump ∷ other) (code_below m cx t scope n (q + 1) s w (omega (arith, r)) k.2 then')
             (tt, code_below m cx t scope (n + count s) (q + 1 + length body + 1) u w (omega (arith, r)) k.3 else'.1),
       )
-  code_below m cx t scope n p (For at i lo hi s) w r k h =
-      go (int_le lo.value hi.value) k (code_of cx t (scope ++ (i.text, n) ∷ []) (n + 1) (p + 1) s)
-      (λ c. code_below m cx t (scope ++ (i.text, n) ∷ []) (n + 1) (p + 1) s (scope_more m scope i.text n w (omega (arith, r))) (omega (arith, r)) c) h
+  code_below m cx t scope n p (For at i lo b s) w r k h =
+      go (int_le lo.value (top b)) k (code_of cx t there (n + loop_slots b) (q + 1) s)
+      (λ c. code_below m cx t there (n + loop_slots b) (q + 1) s (within_below m scope n i b w (omega (arith, r))) (omega (arith, r)) c) h
     where
-      go : (b : Bool) → (b ≡ true → IsNew scope i.text × IsCovered cx (scope ++ (i.text, n) ∷ []) (n + 1) s) → (body : List Instr)
-          → (IsCovered cx (scope ++ (i.text, n) ∷ []) (n + 1) s → Holds (WritesBelow m) body → Holds (NamesBelow m) body)
-          → Holds (WritesBelow m) (cond b (instr.For n lo.value hi.value (p + 1 + length body) ∷ (body ++ instr.Next p ∷ [])) [])
-          → Holds (NamesBelow m) (cond b (instr.For n lo.value hi.value (p + 1 + length body) ∷ (body ++ instr.Next p ∷ [])) [])
+      first : List Instr
+      first = before_bound scope t n b
+
+      q : ℕ
+      q = p + length first
+
+      there : Scope
+      there = within_loop scope n i b
+
+      -- its code, where this is the body's
+      round : List Instr → List Instr
+      round body = head_of n lo.value b (q + 1 + length body) ∷ (body ++ instr.Next q ∷ [])
+
+      go : (c : Bool) → (c ≡ true → IsBoundKnown scope b × IsLoopNew scope n i b × IsCovered cx there (n + loop_slots b) s) → (body : List Instr)
+          → (IsCovered cx there (n + loop_slots b) s → Holds (WritesBelow m) body → Holds (NamesBelow m) body)
+          → Holds (WritesBelow m) (cond c (first ++ round body) []) → Holds (NamesBelow m) (cond c (first ++ round body) [])
       go true c body f g =
-          ((omega (arith, r), tt), holds_both (NamesBelow m) body (instr.Next p ∷ []) (f (c refl).1 (holds_left (WritesBelow m) body (instr.Next p ∷ []) g.1)) (tt, tt))
+          let limit = holds_left (WritesBelow m) first (round body) g in
+          let rest = holds_right (WritesBelow m) first (round body) g in
+          holds_both (NamesBelow m) first (round body) (bound_below m scope w t n b (c refl).0 (omega (arith, r)) limit) (
+            head_below m n lo.value b (q + 1 + length body) (omega (arith, r)),
+            holds_both (NamesBelow m) body (instr.Next q ∷ []) (f (c refl).2 (holds_left (WritesBelow m) body (instr.Next q ∷ []) rest.1)) (tt, tt),
+          )
       go false c body f g = tt
   code_below m cx t scope n p (Async at cs s) w r k h = (texts_below m scope (body_params cx at cs) w k.1, tt)
   code_below m cx t scope n p (Finish s) w r k h =

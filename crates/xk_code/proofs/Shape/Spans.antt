@@ -1,5 +1,5 @@
 -- Loops and finishes nest or lie apart, and no jump crosses the edge of one.
-use Rattle.std.proofs.Common.{◌≡◌, ℕ, ◌+◌, ◌<◌, ◌≤◌, false, List, [], ◌∷◌, ◌++◌, length, inl, inr, ◌⊎◌, refl, sym, subst, arith}
+use Rattle.std.proofs.Common.{◌≡◌, ℕ, ℤ, Option, Some, None, ◌+◌, ◌<◌, ◌≤◌, false, List, [], ◌∷◌, ◌++◌, length, inl, inr, ◌⊎◌, refl, sym, subst, arith}
 use Rattle.std.proofs.lemmas.Bool.{false≢true}
 use Rattle.std.proofs.lemmas.Bool.Decides.{nat_tests}
 use Rattle.xk_types.specs.declared.instr.Instr.{Instr}
@@ -8,7 +8,7 @@ use Rattle.xk_types.specs.declared.instr.Comparison.{Comparison}
 use Rattle.xk_types.specs.Blocks.{Span}
 use Rattle.xk_types.specs.Shape.{overlaps, crosses}
 use Rattle.xk_code.proofs.Shape.Stands.{Stands, stands_from, stands_in, Between, between, Holds, holds_at}
-use Rattle.xk_code.proofs.Shape.Nest.{Nest, Row, Then, Where, Choice, Loop, Closed, lay, EachRow}
+use Rattle.xk_code.proofs.Shape.Nest.{Nest, Row, Then, Where, Choice, Loop, Closed, head, lay, EachRow}
 use Rattle.xk_code.proofs.Shape.Targets.{Plain, until, Aims, aims_wider, aims_inside}
 
 abbrev pub span : ℕ → ℕ → Span
@@ -17,6 +17,7 @@ span first last = record { first = first; last = last }
 -- it begins a loop or a finish that ends at place e
 abbrev pub Opens : ℕ → Instr → Type 0
 Opens e (instr.For k lo hi f) = f ≡ e
+Opens e (instr.ForTo k lo x hi f) = f ≡ e
 Opens e (instr.Finish f) = f ≡ e
 Opens e _ = ⊥
 
@@ -25,6 +26,7 @@ abbrev pub Respects : ℕ → ℕ → ℕ → Instr → Type 0
 Respects a e at (instr.Unless op x y t) = crosses at t (span a e) ≡ false
 Respects a e at (instr.Jump t) = crosses at t (span a e) ≡ false
 Respects a e at (instr.For k lo hi f) = overlaps (span a e) (span at f) ≡ false
+Respects a e at (instr.ForTo k lo x hi f) = overlaps (span a e) (span at f) ≡ false
 Respects a e at (instr.Finish f) = overlaps (span a e) (span at f) ≡ false
 Respects a e at _ = Unit {0}
 
@@ -62,6 +64,7 @@ pub respects_apart : (lo hi a e at : ℕ) (i : Instr) → a < e → lo ≤ at �
 respects_apart lo hi a e at (instr.Unless op x y t) o b d h = jump_apart lo hi a e at t o b h.0 h.1 d
 respects_apart lo hi a e at (instr.Jump t) o b d h = jump_apart lo hi a e at t o b h.0 h.1 d
 respects_apart lo hi a e at (instr.For k l g f) o b d h = span_apart lo hi a e at f o b h.0 h.1 d
+respects_apart lo hi a e at (instr.ForTo k l x g f) o b d h = span_apart lo hi a e at f o b h.0 h.1 d
 respects_apart lo hi a e at (instr.Finish f) o b d h = span_apart lo hi a e at f o b h.0 h.1 d
 respects_apart lo hi a e at _ o b d h = tt
 
@@ -69,11 +72,13 @@ respects_apart lo hi a e at _ o b d h = tt
 
 pub opens_aims : (lo hi a e : ℕ) (i : Instr) → Opens e i → Aims lo hi a i → (a < e) × (e < hi)
 opens_aims lo hi a e (instr.For k l h f) o g = (omega (arith, o, g.0), omega (arith, o, g.1))
+opens_aims lo hi a e (instr.ForTo k l x h f) o g = (omega (arith, o, g.0), omega (arith, o, g.1))
 opens_aims lo hi a e (instr.Finish f) o g = (omega (arith, o, g.0), omega (arith, o, g.1))
 opens_aims lo hi a e _ o g = absurd o
 
 plain_opens : (e : ℕ) (i : Instr) → Plain i → Opens e i → ⊥
 plain_opens e (instr.For k l h f) p o = false≢true p
+plain_opens e (instr.ForTo k l x h f) p o = false≢true p
 plain_opens e (instr.Finish f) p o = false≢true p
 plain_opens e _ p o = o
 
@@ -171,6 +176,18 @@ respects_round p first last body f ends closes opens free inner a e i h o at j k
         subst (λ n. Respects a e n j) (sym u.0) (subst (Respects a e p) u.1 (opens a e (span_within a e p (p + 1 + length body) (omega (arith, c)) b.0 b.1)))
     go (inr (inl s)) (inr (inl u)) = inner a e i s o at j u
 
+opens_head : (e k : ℕ) (lo : ℤ) (l : Option ℕ) (hi : ℤ) (f : ℕ) → Opens e (head k lo l hi f) → f ≡ e
+opens_head e k lo None hi f h = h
+opens_head e k lo (Some x) hi f h = h
+
+pub head_opens : (k : ℕ) (lo : ℤ) (l : Option ℕ) (hi : ℤ) (f : ℕ) → Opens f (head k lo l hi f)
+head_opens k lo None hi f = refl
+head_opens k lo (Some x) hi f = refl
+
+respects_head : (a e at k : ℕ) (lo : ℤ) (l : Option ℕ) (hi : ℤ) (f : ℕ) → overlaps (span a e) (span at f) ≡ false → Respects a e at (head k lo l hi f)
+respects_head a e at k lo None hi f h = h
+respects_head a e at k lo (Some x) hi f h = h
+
 -- each two instructions of a structure's code
 pub respects_inside : (p : ℕ) (x : Nest) → EachRow Plain x → AllRespect p (lay p x)
 respects_inside p (Row is) r = respects_row p is r
@@ -183,9 +200,10 @@ respects_inside p (Where op x y a) r =
 respects_inside p (Choice op x y a b) r =
     respects_choice p (until (p + 1) a) (until (until (p + 1) a + 1) b) op x y (lay (p + 1) a) (lay (until (p + 1) a + 1) b) refl refl
     (aims_inside (p + 1) a r.0) (aims_inside (until (p + 1) a + 1) b r.1) (respects_inside (p + 1) a r.0) (respects_inside (until (p + 1) a + 1) b r.1)
-respects_inside p (Loop k lo hi a) r =
-    respects_round p (instr.For k lo hi (until (p + 1) a)) (instr.Next p) (lay (p + 1) a) (aims_inside (p + 1) a r) (λ e h. sym h) (λ e h. h)
-    (λ s e h. h) (λ s e. tt) (respects_inside (p + 1) a r)
+respects_inside p (Loop k lo l hi a) r =
+    respects_round p (head k lo l hi (until (p + 1) a)) (instr.Next p) (lay (p + 1) a) (aims_inside (p + 1) a r)
+    (λ e h. sym (opens_head e k lo l hi (until (p + 1) a) h)) (λ e h. h)
+    (λ s e h. respects_head s e p k lo l hi (until (p + 1) a) h) (λ s e. tt) (respects_inside (p + 1) a r)
 respects_inside p (Closed a) r =
     respects_round p (instr.Finish (until (p + 1) a)) (instr.EndFinish p) (lay (p + 1) a) (aims_inside (p + 1) a r) (λ e h. sym h) (λ e h. h)
     (λ s e h. h) (λ s e. tt) (respects_inside (p + 1) a r)

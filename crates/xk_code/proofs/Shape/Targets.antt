@@ -1,18 +1,19 @@
 -- Places that are named: they lie in the code's own stretch, ahead or behind as they should.
-use Rattle.std.proofs.Common.{◌≡◌, ℕ, ◌+◌, ◌<◌, ◌≤◌, Bool, true, false, List, [], ◌∷◌, ◌++◌, length, inl, inr, ◌⊎◌, refl, sym, subst, arith, length-append}
+use Rattle.std.proofs.Common.{◌≡◌, ℕ, ℤ, Option, Some, None, ◌+◌, ◌<◌, ◌≤◌, Bool, true, false, List, [], ◌∷◌, ◌++◌, length, inl, inr, ◌⊎◌, refl, sym, subst, arith, length-append}
 use Rattle.std.proofs.lemmas.Bool.{false≢true}
 use Rattle.xk_types.specs.declared.instr.Instr.{Instr}
 use Rattle.xk_types.specs.declared.instr.Instr.TheVariants as instr
 use Rattle.xk_types.specs.declared.instr.Comparison.{Comparison}
 use Rattle.xk_types.specs.Shape.{is_ret}
 use Rattle.xk_code.proofs.Shape.Stands.{Stands, stands_in, Between, between, length_between, Holds, holds_at}
-use Rattle.xk_code.proofs.Shape.Nest.{Nest, Row, Then, Where, Choice, Loop, Closed, lay, EachRow}
+use Rattle.xk_code.proofs.Shape.Nest.{Nest, Row, Then, Where, Choice, Loop, Closed, head, lay, EachRow}
 
 -- it names no place, and isn't a `ret`
 abbrev pub is_plain : Instr → Bool
 is_plain (instr.Unless op x y t) = false
 is_plain (instr.Jump t) = false
 is_plain (instr.For k lo hi e) = false
+is_plain (instr.ForTo k lo x hi e) = false
 is_plain (instr.Next b) = false
 is_plain (instr.Finish e) = false
 is_plain (instr.EndFinish b) = false
@@ -31,6 +32,7 @@ abbrev pub Aims : ℕ → ℕ → ℕ → Instr → Type 0
 Aims lo hi at (instr.Unless op x y t) = (at < t) × (t ≤ hi)
 Aims lo hi at (instr.Jump t) = (at < t) × (t ≤ hi)
 Aims lo hi at (instr.For k l h e) = (at < e) × (e < hi)
+Aims lo hi at (instr.ForTo k l x h e) = (at < e) × (e < hi)
 Aims lo hi at (instr.Next b) = (lo ≤ b) × (b < at)
 Aims lo hi at (instr.Finish e) = (at < e) × (e < hi)
 Aims lo hi at (instr.EndFinish b) = (lo ≤ b) × (b < at)
@@ -40,6 +42,7 @@ pub plain_aims : (lo hi at : ℕ) (i : Instr) → Plain i → Aims lo hi at i
 plain_aims lo hi at (instr.Unless op x y t) h = absurd (false≢true h)
 plain_aims lo hi at (instr.Jump t) h = absurd (false≢true h)
 plain_aims lo hi at (instr.For k l g e) h = absurd (false≢true h)
+plain_aims lo hi at (instr.ForTo k l x g e) h = absurd (false≢true h)
 plain_aims lo hi at (instr.Next b) h = absurd (false≢true h)
 plain_aims lo hi at (instr.Finish e) h = absurd (false≢true h)
 plain_aims lo hi at (instr.EndFinish b) h = absurd (false≢true h)
@@ -50,6 +53,7 @@ pub aims_wider : (lo hi low high at : ℕ) (i : Instr) → low ≤ lo → hi ≤
 aims_wider lo hi low high at (instr.Unless op x y t) a b h = (h.0, omega (arith, h.1))
 aims_wider lo hi low high at (instr.Jump t) a b h = (h.0, omega (arith, h.1))
 aims_wider lo hi low high at (instr.For k l g e) a b h = (h.0, omega (arith, h.1))
+aims_wider lo hi low high at (instr.ForTo k l x g e) a b h = (h.0, omega (arith, h.1))
 aims_wider lo hi low high at (instr.Next t) a b h = (omega (arith, h.0), h.1)
 aims_wider lo hi low high at (instr.Finish e) a b h = (h.0, omega (arith, h.1))
 aims_wider lo hi low high at (instr.EndFinish t) a b h = (omega (arith, h.0), h.1)
@@ -117,13 +121,17 @@ aims_round p first last body f opens closes at i h = go (between p first body la
         (subst (Aims p (p + length (first ∷ (body ++ last ∷ []))) (p + 1 + length body)) e.1 (closes (p + length (first ∷ (body ++ last ∷ [])))))
     go (inr (inr (inr k))) = absurd k
 
+aims_head : (lo hi at k : ℕ) (l : ℤ) (limit : Option ℕ) (h : ℤ) (e : ℕ) → at < e → e < hi → Aims lo hi at (head k l limit h e)
+aims_head lo hi at k l None h e a b = (a, b)
+aims_head lo hi at k l (Some x) h e a b = (a, b)
+
 -- each instruction of a structure's code
 pub aims_inside : (p : ℕ) (x : Nest) → EachRow Plain x → (at : ℕ) (i : Instr) → Stands p (lay p x) at i → Aims p (until p x) at i
 aims_inside p (Row is) r = aims_row p is r
 aims_inside p (Then a b) r = aims_then p a b (aims_inside p a r.0) (aims_inside (until p a) b r.1)
 aims_inside p (Where op x y a) r = aims_where p op x y a (aims_inside (p + 1) a r)
 aims_inside p (Choice op x y a b) r = aims_choice p op x y a b (aims_inside (p + 1) a r.0) (aims_inside (until (p + 1) a + 1) b r.1)
-aims_inside p (Loop k lo hi a) r = aims_round p (instr.For k lo hi (until (p + 1) a)) (instr.Next p) (lay (p + 1) a) (aims_inside (p + 1) a r)
-    (λ h g. (omega arith, g)) (λ h. (omega arith, omega arith))
+aims_inside p (Loop k lo l hi a) r = aims_round p (head k lo l hi (until (p + 1) a)) (instr.Next p) (lay (p + 1) a) (aims_inside (p + 1) a r)
+    (λ h g. aims_head p h p k lo l hi (until (p + 1) a) (omega arith) g) (λ h. (omega arith, omega arith))
 aims_inside p (Closed a) r = aims_round p (instr.Finish (until (p + 1) a)) (instr.EndFinish p) (lay (p + 1) a) (aims_inside (p + 1) a r)
     (λ h g. (omega arith, g)) (λ h. (omega arith, omega arith))
