@@ -8,7 +8,7 @@ use Rattle.xk_types.specs.declared.instr.Instr.{Instr}
 use Rattle.xk_types.specs.Shape.{cell_named}
 use Rattle.xk_tree.specs.Tree.{Statement, Block, Atomic, If, IfElse, For, Finish, Statements, Done, More}
 use Rattle.xk_names.specs.Scope.{find}
-use Rattle.xk_code.specs.CodeOf.{Setting, Scope, count, declared}
+use Rattle.xk_code.specs.CodeOf.{Setting, Scope, loop_slots, within_loop, count, declared}
 use Rattle.xk_code.specs.Covered.{IsFound, IsCovered, AreCovered}
 use Rattle.xk_code.proofs.Shape.Leaves.{EachInside, EachOf, Leaves}
 
@@ -60,7 +60,7 @@ mutual
   adds_to_shared cx scope n (Atomic x y at e) c = c.0
   adds_to_shared cx scope n (If at l op r s) c = adds_to_shared cx scope n s c.2
   adds_to_shared cx scope n (IfElse at l op r s u) c = (adds_to_shared cx scope n s c.2, adds_to_shared cx scope (n + count s) u c.3)
-  adds_to_shared cx scope n (For at i lo hi s) c = λ turns. adds_to_shared cx (scope ++ (i.text, n) ∷ []) (n + 1) s (c turns).1
+  adds_to_shared cx scope n (For at i lo b s) c = λ turns. adds_to_shared cx (within_loop scope n i b) (n + loop_slots b) s (c turns).2
   adds_to_shared cx scope n (Finish s) c = adds_to_shared cx scope n s c
   adds_to_shared cx scope n _ c = tt
 

@@ -4,20 +4,21 @@ use Rattle.std.specs.Prelude.{slice_get, nat_lt, if◌then◌else◌}
 use Rattle.std.specs.List.{list_any}
 use Rattle.std.proofs.lemmas.Bool.{false≢true, eq-eqb, and_parts}
 use Rattle.std.proofs.lemmas.Bool.Decides.{nat_tests}
+use Rattle.std.proofs.lemmas.Option.{none-some, same_Some}
 use Rattle.xk_types.specs.declared.instr.Instr.{Instr}
 use Rattle.xk_types.specs.declared.instr.Instr.TheVariants as instr
-use Rattle.xk_types.specs.Code.{UnitValue, is_within, Loop, is_next_of, loops}
+use Rattle.xk_types.specs.Code.{UnitValue, is_within, Loop, is_next_of, loop_head, loops}
 use Rattle.xk_types.specs.Blocks.{Span, is_end_of, finishes}
 use Rattle.xk_types.specs.Order.{Has}
-use Rattle.xk_types.specs.Shape.{instr_is, is_ret, lies_ahead, aims_well, breaks_target, span_of, span_begun, spans, overlaps, crosses, span_ended, is_amiss, is_crossing, breaks_block, is_backward, writes_slot, breaks_loop, breaks_end}
-use Rattle.xk_types.proofs.Shape.Loops.{loop_of, is_loop}
+use Rattle.xk_types.specs.Shape.{instr_is, is_ret, lies_ahead, aims_well, breaks_target, span_of, span_begun, spans, overlaps, crosses, span_ended, is_amiss, is_crossing, breaks_block, begins_backward, spoils, breaks_loop, breaks_end}
+use Rattle.xk_types.proofs.Shape.Loops.{is_loop}
 use Rattle.xk_types.proofs.Shape.Finishes.{is_finish}
 use Rattle.xk_code.proofs.Shape.Stands.{Stands, stands_in, stands_left, stands_at, stands_got, stands_to, Holds, holds_at}
-use Rattle.xk_code.proofs.Shape.Nest.{Nest, lay, EachRow, each_row, each_laid}
+use Rattle.xk_code.proofs.Shape.Nest.{Nest, head, lay, EachRow, each_row, each_laid}
 use Rattle.xk_code.proofs.Shape.Targets.{Plain, plain_no_ret, until, Aims, aims_wider, aims_inside}
 use Rattle.xk_code.proofs.Shape.Halves.{Paired, paired_inside}
 use Rattle.xk_code.proofs.Shape.Counters.{LoopsKept, Forward, forward, spare_inside}
-use Rattle.xk_code.proofs.Shape.Spans.{span, Opens, Respects, respects_inside}
+use Rattle.xk_code.proofs.Shape.Spans.{span, Opens, head_opens, Respects, respects_inside}
 
 -- ---- lists
 
@@ -60,6 +61,20 @@ pub record Begins (code : List Instr) (s : Span) : Type 0 where
 abbrev NoRet : Instr → Type 0
 NoRet i = is_ret i ≡ false
 
+head_no_ret : (k : ℕ) (lo : ℤ) (l : Option ℕ) (hi : ℤ) (e : ℕ) → NoRet (head k lo l hi e)
+head_no_ret k lo None hi e = refl
+head_no_ret k lo (Some y) hi e = refl
+
+-- what begins a loop is no `ret`, and opens its span
+begins_no_ret : (a : ℕ) (i : Instr) (l : Loop) → loop_head a i ≡ Some l → is_ret i ≡ false
+begins_no_ret a instr.Ret l h = absurd (none-some l h)
+begins_no_ret a _ l h = refl
+
+begins_opens : (a : ℕ) (i : Instr) (l : Loop) → loop_head a i ≡ Some l → Opens l.last i
+begins_opens a (instr.For k lo hi e) l h = ap (λ m. m.last) (same_Some _ l h)
+begins_opens a (instr.ForTo k lo y hi e) l h = ap (λ m. m.last) (same_Some _ l h)
+begins_opens a _ l h = absurd (none-some l h)
+
 module _ (u : UnitValue) (x : Nest) (plain : EachRow Plain x) (is : u.code ≡ lay 0 x ++ instr.Ret ∷ []) where
   long : length u.code ≡ length (lay 0 x) + 1
   long = ap length is ∙ length-append (lay 0 x) (instr.Ret ∷ [])
@@ -94,6 +109,7 @@ module _ (u : UnitValue) (x : Nest) (plain : EachRow Plain x) (is : u.code ≡ l
   aims_true at (instr.Unless op a b t) h = ahead_true at t h.0 (let l = long in omega (arith, h.1))
   aims_true at (instr.Jump t) h = ahead_true at t h.0 (let l = long in omega (arith, h.1))
   aims_true at (instr.For k lo hi e) h = ahead_true at e h.0 (let l = long in omega (arith, h.1))
+  aims_true at (instr.ForTo k lo y hi e) h = ahead_true at e h.0 (let l = long in omega (arith, h.1))
   aims_true at (instr.Next b) h = let g = h.1 in grind (arith, nat_tests)
   aims_true at (instr.Finish e) h = ahead_true at e h.0 (let l = long in omega (arith, h.1))
   aims_true at (instr.EndFinish b) h = let g = h.1 in grind (arith, nat_tests)
@@ -112,7 +128,7 @@ module _ (u : UnitValue) (x : Nest) (plain : EachRow Plain x) (is : u.code ≡ l
   loop_begins : (l : Loop) → Has (loops u) l → Begins (lay 0 x) (span_of l)
   loop_begins l h =
       let r = is_loop u l h in
-      record { i = instr.For l.slot l.lo l.hi l.last; stands = found_inside l.first (instr.For l.slot l.lo l.hi l.last) r.begins refl; opens = refl }
+      record { i = r.head; stands = found_inside l.first r.head r.begins (begins_no_ret l.first r.head l r.is); opens = begins_opens l.first r.head l r.is }
 
   finish_begins : (s : Span) → Has (finishes u) s → Begins (lay 0 x) s
   finish_begins s h = let r = is_finish u s h in record { i = instr.Finish s.last; stands = found_inside s.first (instr.Finish s.last) r.begins refl; opens = refl }
@@ -135,14 +151,22 @@ module _ (u : UnitValue) (x : Nest) (plain : EachRow Plain x) (is : u.code ≡ l
     where
       go : (j : Instr) → Opens s.last j → Respects a e s.first j → overlaps (span a e) s ≡ false
       go (instr.For k lo hi f) q r = subst (λ n. overlaps (span a e) (span s.first n) ≡ false) q r
+      go (instr.ForTo k lo y hi f) q r = subst (λ n. overlaps (span a e) (span s.first n) ≡ false) q r
       go (instr.Finish f) q r = subst (λ n. overlaps (span a e) (span s.first n) ≡ false) q r
       go _ q r = absurd q
 
   one : (a e : ℕ) (i : Instr) → Stands 0 (lay 0 x) a i → Opens e i → is_amiss u (Some (span a e)) ≡ false
   one a e i h o = none_any (overlaps (span a e)) (spans u) (λ s g. opened a e i h o s (begun s g))
 
-  loop_there : (k : ℕ) (lo hi : ℤ) (at e : ℕ) → Stands 0 (lay 0 x) e (instr.Next at) → span_begun u at (instr.For k lo hi e) ≡ Some (span at e)
-  loop_there k lo hi at e h = ap (λ b. option_map span_of (cond b (Some (loop_of at k lo hi e)) None)) (ap (is_next_of at) (got e (instr.Next at) h) ∙ eq-eqb at at refl)
+  -- the `next` there names place `at`
+  named : (at e : ℕ) → Stands 0 (lay 0 x) e (instr.Next at) → is_next_of at (slice_get u.code e) ≡ true
+  named at e h = ap (is_next_of at) (got e (instr.Next at) h) ∙ eq-eqb at at refl
+
+  loop_there : (k : ℕ) (lo : ℤ) (l : Option ℕ) (hi : ℤ) (at e : ℕ) → Stands 0 (lay 0 x) e (instr.Next at) → span_begun u at (head k lo l hi e) ≡ Some (span at e)
+  loop_there k lo None hi at e h =
+      ap (λ b. option_map span_of (cond b (Some (record { first = at; last = e; slot = k; lo = lo; hi = hi; limit = None })) None)) (named at e h)
+  loop_there k lo (Some y) hi at e h =
+      ap (λ b. option_map span_of (cond b (Some (record { first = at; last = e; slot = k; lo = lo; hi = hi; limit = Some y })) None)) (named at e h)
 
   finish_there : (at e : ℕ) → Stands 0 (lay 0 x) e (instr.EndFinish at) → span_begun u at (instr.Finish e) ≡ Some (span at e)
   finish_there at e h = ap (λ b. cond b (Some (span at e)) None) (ap (is_end_of at) (got e (instr.EndFinish at) h) ∙ eq-eqb at at refl)
@@ -154,11 +178,12 @@ module _ (u : UnitValue) (x : Nest) (plain : EachRow Plain x) (is : u.code ≡ l
       ∙ ap (λ c. cond c (Some (span b at)) None) (eq-eqb at at refl)
 
   block_kept : (at : ℕ) (i : Instr) → Stands 0 (lay 0 x) at i → Paired 0 (lay 0 x) at i → is_crossing u at i ≡ false
-  block_kept at (instr.For k lo hi e) h q = ap (is_amiss u) (loop_there k lo hi at e q) ∙ one at e (instr.For k lo hi e) h refl
+  block_kept at (instr.For k lo hi e) h q = ap (is_amiss u) (loop_there k lo None hi at e q) ∙ one at e (instr.For k lo hi e) h refl
+  block_kept at (instr.ForTo k lo y hi e) h q = ap (is_amiss u) (loop_there k lo (Some y) hi at e q) ∙ one at e (instr.ForTo k lo y hi e) h refl
   block_kept at (instr.Finish e) h q = ap (is_amiss u) (finish_there at e q) ∙ one at e (instr.Finish e) h refl
   block_kept at (instr.Next b) h q =
-      let i = instr.For q.k q.lo q.hi at in
-      ap (is_amiss u) (ends_there at b i (got b i q.stands) (loop_there q.k q.lo q.hi b at h)) ∙ one b at i q.stands refl
+      let i = head q.k q.lo q.limit q.hi at in
+      ap (is_amiss u) (ends_there at b i (got b i q.stands) (loop_there q.k q.lo q.limit q.hi b at h)) ∙ one b at i q.stands (head_opens q.k q.lo q.limit q.hi at)
   block_kept at (instr.EndFinish b) h q =
       ap (is_amiss u) (ends_there at b (instr.Finish at) (got b (instr.Finish at) q) (finish_there b at h)) ∙ one b at (instr.Finish at) q refl
   block_kept at (instr.Unless op a b t) h q = none_any (crosses at t) (spans u) (λ s g. respected s g at (instr.Unless op a b t) h)
@@ -177,7 +202,7 @@ module _ (u : UnitValue) (x : Nest) (plain : EachRow Plain x) (is : u.code ≡ l
 
   no_ret : Holds NoRet (lay 0 x)
   no_ret = each_laid NoRet
-      (record { unless = λ op a b t. refl; jump = λ t. refl; begins = λ k lo hi e. refl; next = λ b. refl; finish = λ e. refl; ends = λ b. refl })
+      (record { unless = λ op a b t. refl; jump = λ t. refl; begins = head_no_ret; next = λ b. refl; finish = λ e. refl; ends = λ b. refl })
       0 x (each_row Plain NoRet plain_no_ret x plain)
 
   ends_late : (at : ℕ) (i : Instr) → Stands 0 (lay 0 x) at i ⊎ ((at ≡ length (lay 0 x)) × (instr.Ret ≡ i)) → (is_ret i && nat_lt (at + 1) (length u.code)) ≡ false
@@ -205,24 +230,25 @@ module _ (u : UnitValue) (x : Nest) (plain : EachRow Plain x) (is : u.code ≡ l
   -- ---- loops
 
   module _ (kept : LoopsKept x) where
-    forward_all : (at : ℕ) (i : Instr) → Stands 0 (lay 0 x) at i ⊎ ((at ≡ length (lay 0 x)) × (instr.Ret ≡ i)) → is_backward i ≡ false
+    forward_all : (at : ℕ) (i : Instr) → Stands 0 (lay 0 x) at i ⊎ ((at ≡ length (lay 0 x)) × (instr.Ret ≡ i)) → begins_backward i ≡ false
     forward_all at i (inl h) = holds_at Forward 0 (lay 0 x) at i (forward 0 x plain kept) h
-    forward_all at i (inr h) = subst (λ j. is_backward j ≡ false) h.1 refl
+    forward_all at i (inr h) = subst (λ j. begins_backward j ≡ false) h.1 refl
 
     spared_by : (l : Loop) → Has (loops u) l → (at : ℕ) (i : Instr) → Stands 0 (lay 0 x) at i ⊎ ((at ≡ length (lay 0 x)) × (instr.Ret ≡ i))
-        → (is_within at l && writes_slot l.slot i) ≡ false
+        → (is_within at l && spoils l i) ≡ false
     spared_by l h at i (inl g) = go (is_within at l) refl
       where
-        go : (b : Bool) → is_within at l ≡ b → (b && writes_slot l.slot i) ≡ false
+        go : (b : Bool) → is_within at l ≡ b → (b && spoils l i) ≡ false
         go false e = refl
         go true e =
             let p = and_parts (nat_lt l.first at) (nat_lt at l.last) e in
-            spare_inside 0 x plain kept l.first l.slot l.last l.lo l.hi (found_inside l.first (instr.For l.slot l.lo l.hi l.last) (is_loop u l h).begins refl)
+            let q = is_loop u l h in
+            spare_inside 0 x plain kept l.first q.head l (found_inside l.first q.head q.begins (begins_no_ret l.first q.head l q.is)) q.is
             at i g (ltb-true l.first at p.0) (ltb-true at l.last p.1)
-    spared_by l h at i (inr g) = subst (λ j. (is_within at l && writes_slot l.slot j) ≡ false) g.1 (and_false (is_within at l))
+    spared_by l h at i (inr g) = subst (λ j. (is_within at l && spoils l j) ≡ false) g.1 (and_false (is_within at l))
 
     -- V6
     pub loops_right : (at : ℕ) → breaks_loop u at ≡ false
-    loops_right at = rw (is_none is_backward (slice_get u.code at) (λ i h. forward_all at i (found at i h)))
-        (is_none (λ i. list_any (λ l. is_within at l && writes_slot l.slot i) (loops u)) (slice_get u.code at)
-        (λ i h. none_any (λ l. is_within at l && writes_slot l.slot i) (loops u) (λ l g. spared_by l g at i (found at i h))))
+    loops_right at = rw (is_none begins_backward (slice_get u.code at) (λ i h. forward_all at i (found at i h)))
+        (is_none (λ i. list_any (λ l. is_within at l && spoils l i) (loops u)) (slice_get u.code at)
+        (λ i h. none_any (λ l. is_within at l && spoils l i) (loops u) (λ l g. spared_by l g at i (found at i h))))
