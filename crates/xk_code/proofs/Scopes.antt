@@ -1,5 +1,5 @@
 -- Scopes that are cut back, and shared numbers that stand alone.
-use Rattle.std.proofs.Common.{◌≡◌, ℕ, ◌+◌, List, [], ◌∷◌, ◌++◌, take, length, Some, refl, sym, ap, ◌∙◌, append_assoc, append-nil}
+use Rattle.std.proofs.Common.{◌≡◌, ℕ, ◌+◌, [], ◌∷◌, ◌++◌, take, length, Some, refl, sym, ap, ◌∙◌, append_assoc, append-nil}
 use Rattle.xk_tree.specs.Tree.{Word, Expression, Literal, Named, Paren, Negation, Binary, Bound, UpTo, Least, Statement, Declare, Statements, Done, More}
 use Rattle.xk_code.specs.CodeOf.{Scope, Setting, before_into, count, declared, declared_by_all, shared_alone, within_loop}
 

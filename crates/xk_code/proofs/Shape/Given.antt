@@ -12,17 +12,17 @@ use Rattle.xk_types.specs.declared.unit.ParamKind.{ParamKind}
 use Rattle.xk_types.specs.declared.unit.ParamKind.TheVariants as param
 use Rattle.xk_types.specs.Code.{ModuleValue, params_of, clock_arguments}
 use Rattle.xk_types.specs.Shape.{has_twice, gives_twice}
-use Rattle.xk_tree.specs.Tree.{Word, Clocks, Expression, Literal, Named, Paren, Negation, Binary, ParamValue, Statement, Block, Empty, Declare, Assign, Atomic, If, IfElse, For, Async, Finish, Call, Resume, Drop, AdvanceAll, Print, Statements, Done, More}
+use Rattle.xk_tree.specs.Tree.{Word, Clocks, Expression, Literal, Named, Paren, Negation, Binary, Bound, UpTo, Least, top, ParamValue, Statement, Block, Empty, Declare, Assign, Atomic, If, IfElse, For, Async, Finish, Call, Resume, Drop, AdvanceAll, Print, Statements, Done, More}
 use Rattle.xk_names.specs.Scope.{find, has, is_text, texts, Has}
 use Rattle.xk_names.specs.Uses.{given, argument_misfits, argument_clocks, clocks_listed}
 use Rattle.xk_names.proofs.Among.{has_right, has_either}
-use Rattle.xk_code.specs.CodeOf.{Scope, Setting, number_of, slots_of, body_unit, body_params, captures_at, slot_for, behind, eval_all, argument_slots, count, declared}
+use Rattle.xk_code.specs.CodeOf.{Scope, Setting, before_bound, loop_slots, within_loop, number_of, slots_of, body_unit, body_params, captures_at, slot_for, behind, eval_all, argument_slots, count, declared}
 use Rattle.xk_code.specs.Unit.{scope_from, body_kinds, kinds_of_params}
-use Rattle.xk_code.specs.Covered.{IsFound, IsNew, IsKnown, IsCovered, AreCovered}
+use Rattle.xk_code.specs.Covered.{IsFound, IsBoundKnown, IsLoopNew, IsKnown, IsCovered, AreCovered}
 use Rattle.xk_code.proofs.Shape.Stands.{holds_both}
-use Rattle.xk_code.proofs.Shape.Nest.{Nest, Row, Loop, EachRow, nest_of, nest_of_all}
-use Rattle.xk_code.proofs.Shape.Leaves.{EachInside, EachOf, Leaves, rows_of, each_both, each_of_all}
-use Rattle.xk_code.proofs.Shape.Slots.{ScopeBelow, found_below, scope_more, scope_wider, declared_below}
+use Rattle.xk_code.proofs.Shape.Nest.{Nest, Row, Then, Loop, EachRow, limit_slot, nest_of, nest_of_all}
+use Rattle.xk_code.proofs.Shape.Leaves.{EachInside, EachOf, Leaves, rows_of, each_both, each_bound, each_of_all}
+use Rattle.xk_code.proofs.Shape.Slots.{ScopeBelow, found_below, scope_more, scope_wider, declared_below, within_below}
 use Rattle.xk_code.proofs.Shape.Counters.{find_more}
 
 -- ---- slots of different names differ
@@ -38,6 +38,12 @@ apart_more scope x n w h a b k f g = go (find_more scope x n a k f) (find_more s
     go (inl p) (inr q) = absurd (omega (arith, found_below n scope a k w p, q.1))
     go (inr p) (inl q) = absurd (omega (arith, found_below n scope b k w q, p.1))
     go (inr p) (inr q) = p.0 ∙ sym q.0
+
+apart_within : (scope : Scope) (n : ℕ) (i : Word) (b : Bound) → ScopeBelow n scope → AreApart scope → AreApart (within_loop scope n i b)
+apart_within scope n i (UpTo hi) w h = apart_more scope i.text n w h
+apart_within scope n i (Least x v e hi) w h =
+    apart_more (scope ++ (i.text, n) ∷ []) x.text (n + 1)
+    (scope_more (n + 1) scope i.text n (scope_wider n (n + 1) scope (omega arith) w) (omega arith)) (apart_more scope i.text n w h)
 
 apart_declared : (scope : Scope) (n : ℕ) (s : Statement) → ScopeBelow n scope → AreApart scope → AreApart (declared scope n s)
 apart_declared scope n (Declare b x ty r) w h = apart_more scope x.text n w h
@@ -254,15 +260,18 @@ module _ (m : ModuleValue) (cx : Setting) (t : ℕ) where
       each_both cx RunsNone (HandsOnce m) plain scope t l r,
       (hands_once scope n s w a c.2 h.0, hands_once scope (n + count s) u (scope_wider n (n + count s) scope (omega arith) w) a c.3 h.1),
     )
-    hands_once scope n (For at i lo hi s) w a c h =
-        let wider = scope_more (n + 1) scope i.text n (scope_wider n (n + 1) scope (omega arith) w) (omega arith) in
-        go (int_le lo.value hi.value) c h (nest_of cx t (scope ++ (i.text, n) ∷ []) (n + 1) s)
-        (hands_once (scope ++ (i.text, n) ∷ []) (n + 1) s wider (apart_more scope i.text n w a))
+    hands_once scope n (For at i lo b s) w a c h =
+        let inner = n + loop_slots b in
+        go (int_le lo.value (top b)) c h (nest_of cx t there inner s)
+        (hands_once there inner s (within_below inner scope n i b (scope_wider n inner scope (omega arith) w) (omega arith)) (apart_within scope n i b w a))
       where
-        go : (q : Bool) → (q ≡ true → IsNew scope i.text × IsCovered cx (scope ++ (i.text, n) ∷ []) (n + 1) s) → (q ≡ true → EachInside (GivesOnce m cx) s) → (y : Nest)
-            → (IsCovered cx (scope ++ (i.text, n) ∷ []) (n + 1) s → EachInside (GivesOnce m cx) s → EachRow (HandsOnce m) y)
-            → EachRow (HandsOnce m) (cond q (Loop n lo.value hi.value y) (Row []))
-        go true d g y f = f (d refl).1 (g refl)
+        there : Scope
+        there = within_loop scope n i b
+
+        go : (q : Bool) → (q ≡ true → IsBoundKnown scope b × IsLoopNew scope n i b × IsCovered cx there (n + loop_slots b) s) → (q ≡ true → EachInside (GivesOnce m cx) s)
+            → (y : Nest) → (IsCovered cx there (n + loop_slots b) s → EachInside (GivesOnce m cx) s → EachRow (HandsOnce m) y)
+            → EachRow (HandsOnce m) (cond q (Then (Row (before_bound scope t n b)) (Loop n lo.value (limit_slot n b) (top b) y)) (Row []))
+        go true d g y f = (each_bound cx RunsNone (HandsOnce m) plain scope t n b, f (d refl).2 (g refl))
         go false d g y f = tt
     hands_once scope n (Finish s) w a c h = hands_once scope n s w a c h
     hands_once scope n (Async at cs s) w a c h = (spawn_once m cx scope at cs a c.1 h, tt)

@@ -1,5 +1,5 @@
 -- Homes: each clock's slot is made once, no parameter's is, and a method that drops no clock of its parameters breaks none of V8.
-use Rattle.std.proofs.Common.{◌≡◌, ℕ, zero, suc, int_le, Bool, true, false, true≢false, cond, ◌+◌, ◌≤◌, ◌==◌, ◌&&◌, ◌||◌, List, [], ◌∷◌, ◌++◌, length, take, Option, Some, None, unwrap_or, inl, inr, ◌⊎◌, refl, sym, subst, arith}
+use Rattle.std.proofs.Common.{◌≡◌, ℕ, ℤ, zero, suc, int_le, Bool, true, false, true≢false, cond, ◌+◌, ◌≤◌, ◌==◌, ◌&&◌, ◌||◌, List, [], ◌∷◌, ◌++◌, length, take, Option, Some, None, unwrap_or, inl, inr, ◌⊎◌, refl, sym, subst, arith}
 use Rattle.std.specs.Prelude.{is_some, nat_lt, slice_get}
 use Rattle.std.proofs.lemmas.Bool.{false≢true}
 use Rattle.std.proofs.lemmas.Bool.Decides.{nat_tests}
@@ -11,14 +11,14 @@ use Rattle.xk_types.specs.declared.unit.UnitKind.{UnitKind}
 use Rattle.xk_types.specs.Code.{UnitValue, is_method}
 use Rattle.xk_types.specs.Blocks.{block_at, takes_clock, makes, made_from, is_elsewhere}
 use Rattle.xk_types.specs.Shape.{mishandles, moves_home, breaks_home}
-use Rattle.xk_tree.specs.Tree.{Make, Value, Statement, Block, Empty, Declare, Assign, Atomic, If, IfElse, For, Async, Finish, Call, Resume, Drop, AdvanceAll, Print, Statements, Done, More}
+use Rattle.xk_tree.specs.Tree.{Word, Make, Value, Bound, UpTo, Least, top, Statement, Block, Empty, Declare, Assign, Atomic, If, IfElse, For, Async, Finish, Call, Resume, Drop, AdvanceAll, Print, Statements, Done, More}
 use Rattle.xk_names.specs.Scope.{find, has, is_text}
-use Rattle.xk_code.specs.CodeOf.{Scope, Setting, both, slot_for, second, count, count_all, declared, code_of, code_of_all}
+use Rattle.xk_code.specs.CodeOf.{Scope, Setting, before_bound, both, head_of, loop_slots, within_loop, slot_for, second, count, count_all, declared, code_of, code_of_all}
 use Rattle.xk_code.specs.Unit.{scope_from, first_temporary, unit_code, unit_of}
-use Rattle.xk_code.specs.Covered.{IsFound, IsNew, IsCovered, AreCovered, IsUnitCovered}
+use Rattle.xk_code.specs.Covered.{IsFound, IsBoundKnown, IsLoopNew, IsCovered, AreCovered, IsUnitCovered}
 use Rattle.xk_code.proofs.Shape.Stands.{Holds, holds_both, holds_got}
-use Rattle.xk_code.proofs.Shape.Nest.{Nest, Row, Loop, lay, EachRow, each_laid, nest_of, nest_of_all, laid}
-use Rattle.xk_code.proofs.Shape.Leaves.{EachInside, EachOf, Leaves, rows_of, each_both}
+use Rattle.xk_code.proofs.Shape.Nest.{Nest, Row, Then, Loop, limit_slot, lay, EachRow, each_laid, nest_of, nest_of_all, laid}
+use Rattle.xk_code.proofs.Shape.Leaves.{EachInside, EachOf, Leaves, rows_of, each_both, each_bound}
 use Rattle.xk_code.proofs.Shape.Counters.{find_more}
 use Rattle.xk_code.proofs.Shape.Whole.{is_none}
 
@@ -86,6 +86,10 @@ make_leaves cx = record {
   spawn = λ at cs q args h e. tt;
 }
 
+rises_head : (lo hi n : ℕ) (l : ℤ) (b : Bound) (e : ℕ) (is : List Instr) → Rises lo hi is → Rises lo hi (head_of n l b e ∷ is)
+rises_head lo hi n l (UpTo h) e is r = (tt, r)
+rises_head lo hi n l (Least x v k h) e is r = (tt, r)
+
 mutual
   -- the slots of a statement's clocks
   pub rises : (cx : Setting) (t : ℕ) (scope : Scope) (n p : ℕ) (s : Statement) → Rises n (n + count s) (code_of cx t scope n p s)
@@ -112,16 +116,31 @@ mutual
         rises_both n (n + count s) (n + (count s + count u)) body (jump ∷ other) (rises cx t scope n (q + 1) s)
             (tt, subst (λ k. Rises (n + count s) k other) end (rises cx t scope (n + count s) (q + 1 + length body + 1) u)),
       )
-  rises cx t scope n p (For at i lo hi s) =
-      go (int_le lo.value hi.value) (code_of cx t (scope ++ (i.text, n) ∷ []) (n + 1) (p + 1) s) (rises cx t (scope ++ (i.text, n) ∷ []) (n + 1) (p + 1) s)
+  rises cx t scope n p (For at i lo b s) = go (int_le lo.value (top b)) (code_of cx t there m (q + 1) s) (rises cx t there m (q + 1) s)
     where
-      go : (b : Bool) (body : List Instr) → Rises (n + 1) (n + 1 + count s) body
-          → Rises n (n + (count s + 1)) (cond b (instr.For n lo.value hi.value (p + 1 + length body) ∷ (body ++ instr.Next p ∷ [])) [])
-      go true body h = (
-        tt,
-        rises_lower n (n + 1) (n + (count s + 1)) (body ++ instr.Next p ∷ []) (omega arith)
-            (rises_both (n + 1) (n + 1 + count s) (n + (count s + 1)) body (instr.Next p ∷ []) h (tt, omega arith)),
-      )
+      first : List Instr
+      first = before_bound scope t n b
+
+      q : ℕ
+      q = p + length first
+
+      there : Scope
+      there = within_loop scope n i b
+
+      m : ℕ
+      m = n + loop_slots b
+
+      end : ℕ
+      end = n + (count s + loop_slots b)
+
+      go : (c : Bool) (body : List Instr) → Rises m (m + count s) body
+          → Rises n end (cond c (first ++ head_of n lo.value b (q + 1 + length body) ∷ (body ++ instr.Next q ∷ [])) [])
+      go true body h =
+          let behind = body ++ instr.Next q ∷ [] in
+          let head = head_of n lo.value b (q + 1 + length body) in
+          rises_both n n end first (head ∷ behind) (rises_none n n first (omega arith) (each_bound cx NoClock NoMake (make_leaves cx) scope t n b))
+          (rises_head n end n lo.value b (q + 1 + length body) behind
+          (rises_lower n m end behind (omega arith) (rises_both m (m + count s) end body (instr.Next q ∷ []) h (tt, omega arith))))
       go false body h = omega arith
   rises cx t scope n p (Finish s) =
       let body = code_of cx t scope n (p + 1) s in
@@ -219,6 +238,11 @@ others_more xs m scope x n l h y k g other = go (find_more scope x n y k g)
     go (inl q) = h y k q other
     go (inr q) = omega (arith, q.1)
 
+others_within : (xs : List (List ℕ)) (m : ℕ) (scope : Scope) (n : ℕ) (i : Word) (b : Bound) → m ≤ n → OthersFrom xs m scope → OthersFrom xs m (within_loop scope n i b)
+others_within xs m scope n i (UpTo hi) l h = others_more xs m scope i.text n l h
+others_within xs m scope n i (Least x v e hi) l h =
+    others_more xs m (scope ++ (i.text, n) ∷ []) x.text (n + 1) (omega (arith, l)) (others_more xs m scope i.text n l h)
+
 others_declared : (xs : List (List ℕ)) (m : ℕ) (scope : Scope) (n : ℕ) (s : Statement) → m ≤ n → OthersFrom xs m scope → OthersFrom xs m (declared scope n s)
 others_declared xs m scope n (Declare b x ty r) l h = others_more xs m scope x.text n l h
 others_declared xs m scope n _ l h = h
@@ -249,14 +273,17 @@ mutual
     each_both cx NoDrop (DropsFrom m) (drop_leaves cx m) scope t a b,
     (drops_from cx xs m t scope n s l o c.2 h.0, drops_from cx xs m t scope (n + count s) u (omega (arith, l)) o c.3 h.1),
   )
-  drops_from cx xs m t scope n (For at i lo hi s) l o c h =
-      go (int_le lo.value hi.value) c h (nest_of cx t (scope ++ (i.text, n) ∷ []) (n + 1) s)
-      (drops_from cx xs m t (scope ++ (i.text, n) ∷ []) (n + 1) s (omega (arith, l)) (others_more xs m scope i.text n l o))
+  drops_from cx xs m t scope n (For at i lo b s) l o c h =
+      go (int_le lo.value (top b)) c h (nest_of cx t there (n + loop_slots b) s)
+      (drops_from cx xs m t there (n + loop_slots b) s (omega (arith, l)) (others_within xs m scope n i b l o))
     where
-      go : (q : Bool) → (q ≡ true → IsNew scope i.text × IsCovered cx (scope ++ (i.text, n) ∷ []) (n + 1) s) → (q ≡ true → EachInside (SparesClocks xs) s) → (y : Nest)
-          → (IsCovered cx (scope ++ (i.text, n) ∷ []) (n + 1) s → EachInside (SparesClocks xs) s → EachRow (DropsFrom m) y)
-          → EachRow (DropsFrom m) (cond q (Loop n lo.value hi.value y) (Row []))
-      go true d g y f = f (d refl).1 (g refl)
+      there : Scope
+      there = within_loop scope n i b
+
+      go : (q : Bool) → (q ≡ true → IsBoundKnown scope b × IsLoopNew scope n i b × IsCovered cx there (n + loop_slots b) s) → (q ≡ true → EachInside (SparesClocks xs) s)
+          → (y : Nest) → (IsCovered cx there (n + loop_slots b) s → EachInside (SparesClocks xs) s → EachRow (DropsFrom m) y)
+          → EachRow (DropsFrom m) (cond q (Then (Row (before_bound scope t n b)) (Loop n lo.value (limit_slot n b) (top b) y)) (Row []))
+      go true d g y f = (each_bound cx NoDrop (DropsFrom m) (drop_leaves cx m) scope t n b, f (d refl).2 (g refl))
       go false d g y f = tt
   drops_from cx xs m t scope n (Finish s) l o c h = drops_from cx xs m t scope n s l o c h
   drops_from cx xs m t scope n (Drop y v) l o c h = (slot_from xs m scope y.text o c h, tt)
@@ -296,7 +323,7 @@ module _ (cx : Setting) (kind : UnitKind) (xs : List (List ℕ)) (kinds : List P
   dropped : IsUnitCovered cx xs s → EachInside (SparesClocks xs) s → Holds (DropsFrom (length xs)) (unit_code cx xs s)
   dropped c h = subst (λ k. Holds (DropsFrom (length xs)) (k ++ instr.Ret ∷ [])) (sym (laid cx t (scope_from 0 xs) (length xs) 0 s))
       (holds_both (DropsFrom (length xs)) (lay 0 (nest_of cx t (scope_from 0 xs) (length xs) s)) (instr.Ret ∷ [])
-      (each_laid (DropsFrom (length xs)) (record { unless = λ op a b q. tt; jump = λ q. tt; begins = λ k lo hi e. tt; next = λ b. tt; finish = λ e. tt; ends = λ b. tt })
+      (each_laid (DropsFrom (length xs)) (record { unless = λ op a b q. tt; jump = λ q. tt; begins = λ k lo hi e. tt; limited = λ k lo x hi e. tt; next = λ b. tt; finish = λ e. tt; ends = λ b. tt })
       0 (nest_of cx t (scope_from 0 xs) (length xs) s)
       (drops_from cx xs (length xs) t (scope_from 0 xs) (length xs) s (omega arith) (others_first xs 0 (length xs)) c.body h)) (tt, tt))
 

@@ -124,7 +124,7 @@ module _ (cx : Setting) (Q : Statement → Type 0) (P : Instr → Type 0) (l : L
       then_one (before_into scope t e) (last_value cx scope t e (number_of scope x)) (each_before scope t e) (its_value scope t e (number_of scope x))
   each_assigned scope t x e (Some s) h = then_one (eval scope t e) (instr.Put s (slot_for scope t e)) (each_eval scope t e) (l.put x.text s (slot_for scope t e) h)
 
-  each_bound : (scope : Scope) (t n : ℕ) (b : Bound) → Holds P (before_bound scope t n b)
+  pub each_bound : (scope : Scope) (t n : ℕ) (b : Bound) → Holds P (before_bound scope t n b)
   each_bound scope t n (UpTo hi) = tt
   each_bound scope t n (Least x v e hi) = then_one (before_into scope t e) (last_into scope t e (n + 1)) (each_before scope t e) (its_last scope t e (n + 1))
 

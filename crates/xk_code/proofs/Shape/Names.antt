@@ -1,5 +1,5 @@
 -- What follows where names are without faults: no loop's name is assigned to in its body, what is called fits, and no clock is given twice.
-use Rattle.std.proofs.Common.{◌≡◌, ℕ, suc, Bool, true, false, cond, ◌<◌, List, [], ◌∷◌, ◌++◌, map, length, Option, Some, None, inl, refl, sym, ap, ◌∙◌, subst}
+use Rattle.std.proofs.Common.{◌≡◌, ℕ, suc, Bool, true, false, cond, ◌<◌, List, [], ◌∷◌, ◌++◌, append_assoc, map, length, Option, Some, None, inl, inr, refl, sym, ap, ◌∙◌, subst}
 use Rattle.std.specs.Prelude.{slice_get}
 use Rattle.std.specs.List.{flat_map}
 use Rattle.std.specs.Option.{option_map_or}
@@ -11,18 +11,20 @@ use Rattle.xk_types.specs.declared.unit.ParamKind.{ParamKind}
 use Rattle.xk_types.specs.declared.unit.ParamKind.TheVariants as param
 use Rattle.xk_types.specs.declared.unit.UnitKind.{UnitKind}
 use Rattle.xk_types.specs.Code.{UnitValue, ModuleValue, params_of, is_method, is_body}
-use Rattle.xk_tree.specs.Tree.{Word, Clocks, Expression, ParamValue, Statement, Block, Assign, If, IfElse, For, Async, Finish, Call, Statements, Done, More}
+use Rattle.xk_tree.specs.declared.tree.Number.{Number}
+use Rattle.xk_tree.specs.declared.tree.Verb.{Verb}
+use Rattle.xk_tree.specs.Tree.{Word, Clocks, Expression, Bound, UpTo, Least, ParamValue, Statement, Block, Assign, If, IfElse, For, Async, Finish, Call, Statements, Done, More}
 use Rattle.xk_names.specs.declared.known.Known.{Known}
 use Rattle.xk_names.specs.declared.known.Kind.TheVariants as kind
 use Rattle.xk_names.specs.declared.known.Want.TheVariants as want
 use Rattle.xk_names.specs.Scope.{Table, find, is_text, is_assigned, declared, entries, texts, Has, Scope}
-use Rattle.xk_names.specs.Uses.{Signatures, use_as, declares, given_to, argument_misfits, argument_clocks, clocks_listed}
+use Rattle.xk_names.specs.Uses.{Signatures, use_as, declares, bound_declares, bound_misfits, given_to, argument_misfits, argument_clocks, clocks_listed}
 use Rattle.xk_names.specs.Places.{behind}
 use Rattle.xk_names.specs.Scoped.{IsSound, IsSoundInside, AreSound, with_all}
 use Rattle.xk_code.specs.CodeOf.{Setting, number_of, body_unit, body_params, captures_at}
 use Rattle.xk_code.specs.Unit.{kinds_of_params, body_kinds}
 use Rattle.xk_code.proofs.Shape.Leaves.{EachInside, EachOf}
-use Rattle.xk_code.proofs.Shape.Counters.{SparesName, KeepsNames, AllKeepNames}
+use Rattle.xk_code.proofs.Shape.Counters.{SparesName, SparesLimitName, KeepsNames, AllKeepNames}
 use Rattle.xk_code.proofs.Shape.Runs.{Fits, RunsFitting}
 use Rattle.xk_code.proofs.Shape.Given.{GivesOnce}
 
@@ -68,15 +70,49 @@ mutual
       let ds = behind (length sc.bodies) s in
       (spares_name ms sc x k s f n g.0.0 g.0.1, spare_name ms (with_all sc ds) x k ss (found_before sc.names (entries ds) x k f) n g.1)
 
+-- another name than the new one is as unknown as before
+none_more : (table : Table Known) (x y : List ℕ) (k : Known) → find table y ≡ None → is_text y x ≡ false → find (table ++ (x, k) ∷ []) y ≡ None
+none_more [] x y k h g = ap (λ b. cond b (Some k) None) g
+none_more (e ∷ es) x y k h g = go (is_text y e.0) (λ q. none_more es x y k q g) h
+  where
+    go : (b : Bool) → (find es y ≡ None → find (es ++ (x, k) ∷ []) y ≡ None) → cond b (Some e.1) (find es y) ≡ None → cond b (Some e.1) (find (es ++ (x, k) ∷ []) y) ≡ None
+    go true later q = q
+    go false later q = later q
+
+-- a loop without faults has a limit with another name
+limit_differs : (i x : Word) (v : Verb) (e : Expression) (hi : Number) → ((at : ℕ) → Has (bound_misfits i (Least x v e hi)) at → ⊥) → is_text x.text i.text ≡ false
+limit_differs i x v e hi h = go (is_text x.text i.text) h
+  where
+    go : (b : Bool) → ((at : ℕ) → Has (cond b (x.at ∷ []) []) at → ⊥) → b ≡ false
+    go true none = absurd (none x.at (inl refl))
+    go false none = refl
+
+spares_limit : (ms : Signatures) (sc : Scope) (at : ℕ) (i : Word) (lo : Number) (b : Bound) (s : Statement) → IsSound ms sc (For at i lo b s)
+    → let there = with_all sc (declares (length sc.bodies) (For at i lo b s)) in IsSound ms there s → IsSoundInside ms there s → SparesLimitName b s
+spares_limit ms sc at i lo (UpTo hi) s h g k = tt
+spares_limit ms sc at i lo (Least x v e hi) s h g k =
+    let there = with_all sc (declares (length sc.bodies) (For at i lo (Least x v e hi) s)) in
+    let d = declared i kind.Val (length sc.bodies) in
+    let l = declared x kind.Val (length sc.bodies) in
+    let none = none_more sc.names i.text x.text d.known (h.new l (inr (inl refl))) (limit_differs i x v e hi h.fitting) in
+    let found =
+    subst (λ (names : Table Known). find names x.text ≡ Some l.known) (append_assoc sc.names ((i.text, d.known) ∷ []) ((x.text, l.known) ∷ []))
+    (found_new (sc.names ++ (i.text, d.known) ∷ []) x.text l.known none) in
+    spares_name ms there x.text l.known s found refl g k
+
 mutual
   pub keeps_names : (ms : Signatures) (sc : Scope) (s : Statement) → IsSound ms sc s → IsSoundInside ms sc s → KeepsNames s
   keeps_names ms sc (Block ss) h g = keep_names ms sc ss g
   keeps_names ms sc (If at l op r s) h g = keeps_names ms sc s g.0 g.1
   keeps_names ms sc (IfElse at l op r s u) h g = (keeps_names ms sc s g.0.0 g.0.1, keeps_names ms sc u g.1.0 g.1.1)
-  keeps_names ms sc (For at i lo hi s) h g = λ turns.
+  keeps_names ms sc (For at i lo b s) h g = λ turns.
       let d = declared i kind.Val (length sc.bodies) in
-      let there = with_all sc (declares (length sc.bodies) (For at i lo hi s)) in
-      (spares_name ms there i.text d.known s (found_new sc.names i.text d.known (h.new d (inl refl))) refl g.0 g.1, keeps_names ms there s g.0 g.1)
+      let there = with_all sc (declares (length sc.bodies) (For at i lo b s)) in
+      let first = found_new sc.names i.text d.known (h.new d (inl refl)) in
+      let found =
+      subst (λ (names : Table Known). find names i.text ≡ Some d.known) (append_assoc sc.names ((i.text, d.known) ∷ []) (entries (bound_declares (length sc.bodies) b)))
+      (found_before (sc.names ++ (i.text, d.known) ∷ []) (entries (bound_declares (length sc.bodies) b)) i.text d.known first) in
+      (spares_name ms there i.text d.known s found refl g.0 g.1, spares_limit ms sc at i lo b s h g.0 g.1, keeps_names ms there s g.0 g.1)
   keeps_names ms sc (Finish s) h g = keeps_names ms sc s g.0 g.1
   keeps_names ms sc _ h g = tt
 

@@ -50,10 +50,15 @@ EachRow P (Closed a) = EachRow P a
 pub record Frames (P : Instr → Type 0) : Type 0 where
   pub unless : (op : Comparison) (x y t : ℕ) → P (instr.Unless op x y t)
   pub jump : (t : ℕ) → P (instr.Jump t)
-  pub begins : (k : ℕ) (lo : ℤ) (l : Option ℕ) (hi : ℤ) (e : ℕ) → P (head k lo l hi e)
+  pub begins : (k : ℕ) (lo hi : ℤ) (e : ℕ) → P (instr.For k lo hi e)
+  pub limited : (k : ℕ) (lo : ℤ) (x : ℕ) (hi : ℤ) (e : ℕ) → P (instr.ForTo k lo x hi e)
   pub next : (b : ℕ) → P (instr.Next b)
   pub finish : (e : ℕ) → P (instr.Finish e)
   pub ends : (b : ℕ) → P (instr.EndFinish b)
+
+of_head : (P : Instr → Type 0) → Frames P → (k : ℕ) (lo : ℤ) (l : Option ℕ) (hi : ℤ) (e : ℕ) → P (head k lo l hi e)
+of_head P f k lo None hi e = f.begins k lo hi e
+of_head P f k lo (Some x) hi e = f.limited k lo x hi e
 
 -- and of its rows holds of its code
 pub each_laid : (P : Instr → Type 0) → Frames P → (p : ℕ) (x : Nest) → EachRow P x → Holds P (lay p x)
@@ -68,7 +73,7 @@ each_laid P f p (Choice op x y a b) r =
           (f.jump (mid + 1 + length other), each_laid P f (mid + 1) b r.1),
     )
 each_laid P f p (Loop k lo l hi a) r =
-    (f.begins k lo l hi (p + 1 + length (lay (p + 1) a)), holds_both P (lay (p + 1) a) (instr.Next p ∷ []) (each_laid P f (p + 1) a r) (f.next p, tt))
+    (of_head P f k lo l hi (p + 1 + length (lay (p + 1) a)), holds_both P (lay (p + 1) a) (instr.Next p ∷ []) (each_laid P f (p + 1) a r) (f.next p, tt))
 each_laid P f p (Closed a) r =
     (f.finish (p + 1 + length (lay (p + 1) a)), holds_both P (lay (p + 1) a) (instr.EndFinish p ∷ []) (each_laid P f (p + 1) a r) (f.ends p, tt))
 

@@ -10,7 +10,7 @@ use Rattle.xk_types.specs.Code.{UnitValue, ModuleValue}
 use Rattle.xk_types.specs.Shape.{breaks}
 use Rattle.xk_tree.specs.declared.tree.Binding.TheVariants as binding
 use Rattle.xk_tree.specs.declared.tree.Number.{Number}
-use Rattle.xk_tree.specs.Tree.{Word, Named, Value, Statement, Done, More, Block, Declare, Atomic, For, Async, Finish, Print}
+use Rattle.xk_tree.specs.Tree.{Word, Named, Value, UpTo, Statement, Done, More, Block, Declare, Atomic, For, Async, Finish, Print}
 use Rattle.xk_names.specs.Scope.{is_text}
 use Rattle.xk_code.specs.CodeOf.{Setting}
 use Rattle.xk_code.specs.Unit.{unit_of}
@@ -32,7 +32,7 @@ abbrev adds : Statement
 adds = Atomic (w (codes "s")) (w (codes "s")) 0 (Named (w (codes "i")))
 
 abbrev main : Statement
-main = Block (More (Finish (For 0 (w (codes "i")) (number (pos 1)) (number (pos 3)) (Async 9 None adds)))
+main = Block (More (Finish (For 0 (w (codes "i")) (number (pos 1)) (UpTo (number (pos 3))) (Async 9 None adds)))
     (More (Declare binding.Val (w (codes "r")) None (Value (Named (w (codes "s"))))) (More (Print 0 (record { at = 0; paren = 0 }) (Named (w (codes "r")))) Done)))
 
 abbrev main_unit : UnitValue
@@ -62,9 +62,9 @@ main_compiled = record {
   shared = one_shared;
   covered = record {
     params = tt;
-    body = ((λ turns. (refl, (refl, All-from_recursion (IsFound ((codes "i", 0) ∷ [])) (codes "i" ∷ []) (refl, tt)))), ((tt, refl), (refl, tt)));
+    body = ((λ turns. (tt, refl, (refl, All-from_recursion (IsFound ((codes "i", 0) ∷ [])) (codes "i" ∷ []) (refl, tt)))), ((tt, refl), (refl, tt)));
   };
-  names = ((λ turns. (tt, tt)), (tt, (tt, tt)));
+  names = ((λ turns. (tt, tt, tt)), (tt, (tt, tt)));
   place = refl;
   runs = ((λ turns. record { v = body_unit; found = refl; is = refl; behind = omega arith; count = refl }), (tt, (tt, tt)));
   params = refl;

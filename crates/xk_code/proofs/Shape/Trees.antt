@@ -6,7 +6,7 @@ use Rattle.xk_types.specs.declared.unit.UnitKind.{UnitKind}
 use Rattle.xk_types.specs.declared.unit.UnitKind.TheVariants as unit_kind
 use Rattle.xk_types.specs.Code.{ModuleValue}
 use Rattle.xk_types.specs.Shape.{is_in_place}
-use Rattle.xk_tree.specs.Tree.{Statement, Block, If, IfElse, For, Async, Finish, Statements, Done, More, MethodValue, TreeValue}
+use Rattle.xk_tree.specs.Tree.{Statement, Block, If, IfElse, For, top, Async, Finish, Statements, Done, More, MethodValue, TreeValue}
 use Rattle.xk_names.specs.Scope.{Scope, Has, texts}
 use Rattle.xk_names.specs.Uses.{Signatures, signatures, declares, clocks_listed}
 use Rattle.xk_names.specs.Places.{behind}
@@ -39,7 +39,7 @@ mutual
   body_sound ms sc (IfElse at l op r s u) b h g i =
       either (body_sound ms sc s b g.0.0 g.0.1) (body_sound ms sc u b g.1.0 g.1.1) (has_either (bodies_in s) (bodies_in u) b i)
   body_sound ms sc (For at w lo hi s) b h g i =
-      go (int_le lo.value hi.value) (body_sound ms (with_all sc (declares (length sc.bodies) (For at w lo hi s))) s b g.0 g.1) i
+      go (int_le lo.value (top hi)) (body_sound ms (with_all sc (declares (length sc.bodies) (For at w lo hi s))) s b g.0 g.1) i
     where
       go : (q : Bool) → (Has (bodies_in s) b → IsSoundBody ms b) → Has (cond q (bodies_in s) []) b → IsSoundBody ms b
       go true f k = f k

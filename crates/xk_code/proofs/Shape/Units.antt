@@ -112,7 +112,7 @@ module _ (cx : Setting) (kind : UnitKind) (xs : List (List ℕ)) (kinds : List P
   pub keeps_cell : (m : ModuleValue) → SharedBelow cx (length m.shared) → IsUnitCovered cx xs s → (at : ℕ) → breaks_cell m (unit_of cx kind xs kinds s) at ≡ false
   keeps_cell m below c = no_place (CellBelow (length m.shared)) (λ i. option_map_or (λ q. not (nat_lt q (length m.shared))) (cell_named i) false) (λ i h. h) (unit_code cx xs s)
       (laid_with (AddsToShared cx) (CellBelow (length m.shared)) (cell_leaves cx (length m.shared) below)
-      (record { unless = λ op a b q. refl; jump = λ q. refl; begins = λ k lo hi e. refl; next = λ b. refl; finish = λ e. refl; ends = λ b. refl }) refl
+      (record { unless = λ op a b q. refl; jump = λ q. refl; begins = λ k lo hi e. refl; limited = λ k lo x hi e. refl; next = λ b. refl; finish = λ e. refl; ends = λ b. refl }) refl
       (adds_to_shared cx (scope_from 0 xs) (length xs) s c.body))
 
   -- V4, where it stands in its place, and what it calls or starts fits
@@ -121,7 +121,7 @@ module _ (cx : Setting) (kind : UnitKind) (xs : List (List ℕ)) (kinds : List P
   keeps_unit m unit place runs at =
       let rest = no_place (RunsWell m unit) (runs_amiss m unit) (λ i h. h) (unit_code cx xs s)
       (laid_with (RunsFitting m cx unit) (RunsWell m unit) (unit_leaves m cx unit)
-      (record { unless = λ op a b q. refl; jump = λ q. refl; begins = λ k lo hi e. refl; next = λ b. refl; finish = λ e. refl; ends = λ b. refl }) refl runs) at in
+      (record { unless = λ op a b q. refl; jump = λ q. refl; begins = λ k lo hi e. refl; limited = λ k lo x hi e. refl; next = λ b. refl; finish = λ e. refl; ends = λ b. refl }) refl runs) at in
       either (at == 0) (is_in_place unit (unit_of cx kind xs kinds s)) (instr_is (runs_amiss m unit) (slice_get (unit_code cx xs s) at)) place rest
 
   -- V6, where no loop's name is assigned to in its body
@@ -132,5 +132,5 @@ module _ (cx : Setting) (kind : UnitKind) (xs : List (List ℕ)) (kinds : List P
   pub keeps_same_clock : (m : ModuleValue) → IsUnitCovered cx xs s → EachInside (GivesOnce m cx) s → (at : ℕ) → breaks_same_clock m (unit_of cx kind xs kinds s) at ≡ false
   keeps_same_clock m c once = no_place (HandsOnce m) (gives_twice m) (λ i h. h) (unit_code cx xs s)
       (subst (Holds (HandsOnce m)) (sym is_code) (holds_both (HandsOnce m) (lay 0 nest) (instr.Ret ∷ [])
-      (each_laid (HandsOnce m) (record { unless = λ op a b q. refl; jump = λ q. refl; begins = λ k lo hi e. refl; next = λ b. refl; finish = λ e. refl; ends = λ b. refl }) 0 nest
+      (each_laid (HandsOnce m) (record { unless = λ op a b q. refl; jump = λ q. refl; begins = λ k lo hi e. refl; limited = λ k lo x hi e. refl; next = λ b. refl; finish = λ e. refl; ends = λ b. refl }) 0 nest
       (hands_once m cx t (scope_from 0 xs) (length xs) s within (apart_first 0 xs) c.body once)) (refl, tt)))

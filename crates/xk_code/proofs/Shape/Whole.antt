@@ -61,10 +61,6 @@ pub record Begins (code : List Instr) (s : Span) : Type 0 where
 abbrev NoRet : Instr → Type 0
 NoRet i = is_ret i ≡ false
 
-head_no_ret : (k : ℕ) (lo : ℤ) (l : Option ℕ) (hi : ℤ) (e : ℕ) → NoRet (head k lo l hi e)
-head_no_ret k lo None hi e = refl
-head_no_ret k lo (Some y) hi e = refl
-
 -- what begins a loop is no `ret`, and opens its span
 begins_no_ret : (a : ℕ) (i : Instr) (l : Loop) → loop_head a i ≡ Some l → is_ret i ≡ false
 begins_no_ret a instr.Ret l h = absurd (none-some l h)
@@ -202,7 +198,7 @@ module _ (u : UnitValue) (x : Nest) (plain : EachRow Plain x) (is : u.code ≡ l
 
   no_ret : Holds NoRet (lay 0 x)
   no_ret = each_laid NoRet
-      (record { unless = λ op a b t. refl; jump = λ t. refl; begins = head_no_ret; next = λ b. refl; finish = λ e. refl; ends = λ b. refl })
+      (record { unless = λ op a b t. refl; jump = λ t. refl; begins = λ k lo hi e. refl; limited = λ k lo y hi e. refl; next = λ b. refl; finish = λ e. refl; ends = λ b. refl })
       0 x (each_row Plain NoRet plain_no_ret x plain)
 
   ends_late : (at : ℕ) (i : Instr) → Stands 0 (lay 0 x) at i ⊎ ((at ≡ length (lay 0 x)) × (instr.Ret ≡ i)) → (is_ret i && nat_lt (at + 1) (length u.code)) ≡ false
