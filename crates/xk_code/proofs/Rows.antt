@@ -10,7 +10,7 @@ use Rattle.xk_tree.specs.declared.tree.Binding.TheVariants as binding
 use Rattle.xk_tree.specs.declared.tree.Operator.TheVariants as operator
 use Rattle.xk_tree.specs.declared.tree.Number.{Number}
 use Rattle.xk_tree.specs.declared.tree.Verb.{Verb}
-use Rattle.xk_tree.specs.Tree.{Word, Clocks, Expression, Literal, Named, Paren, Negation, Binary, Make, Value, Statement, Statements, Done, More, Block, Empty, Declare, Assign, Atomic, If, IfElse, For, Async, Finish, Call, Resume, Drop, AdvanceAll, Print}
+use Rattle.xk_tree.specs.Tree.{Word, Clocks, Expression, Literal, Named, Paren, Negation, Binary, Make, Value, Bound, UpTo, Least, Statement, Statements, Done, More, Block, Empty, Declare, Assign, Atomic, If, IfElse, For, Async, Finish, Call, Resume, Drop, AdvanceAll, Print}
 use Rattle.xk_code.specs.CodeOf.{Setting}
 use Rattle.xk_code.specs.Unit.{unit_of_body, unit_of_method}
 use Rattle.xk_code.specs.Covered.{IsFound, IsUnitCovered}
@@ -107,7 +107,7 @@ abbrev adds : Statement
 adds = Block (More (Atomic (w (codes "s")) (w (codes "s")) 0 (var (codes "i"))) Done)
 
 abbrev adding_main : Statements
-adding_main = More (Finish (Block (More (For 0 (w (codes "i")) (number (pos 1)) (number (pos 3)) (Async 9 None adds)) Done)))
+adding_main = More (Finish (Block (More (For 0 (w (codes "i")) (number (pos 1)) (UpTo (number (pos 3))) (Async 9 None adds)) Done)))
     (More (val_is (codes "r") (var (codes "s"))) (More (print (var (codes "r"))) Done))
 
 main_adds : main_unit adding adding_main
@@ -124,7 +124,7 @@ main_adds = refl
 main_is_covered : IsUnitCovered adding [] (Block adding_main)
 main_is_covered = record {
   params = tt;
-  body = ((λ _. (refl, (refl, All-from_recursion (IsFound ((codes "i", 0) ∷ [])) (codes "i" ∷ []) (refl, tt))), tt), ((tt, refl), (refl, tt)));
+  body = ((λ _. (tt, refl, (refl, All-from_recursion (IsFound ((codes "i", 0) ∷ [])) (codes "i" ∷ []) (refl, tt))), tt), ((tt, refl), (refl, tt)));
 }
 
 body_adds : unit_of_body adding 9 None adds
@@ -153,10 +153,76 @@ main_calls : main_unit calling (More (Declare binding.Var (w (codes "x")) None (
     }
 main_calls = refl
 
+-- ---- a loop with a limit
+
+abbrev times : Expression → Expression → Expression
+times l r = Binary operator.Times l 0 r
+
+abbrev plus : Expression → Expression → Expression
+plus l r = Binary operator.Plus l 0 r
+
+-- the name that the limit of a loop has, which no text has
+abbrev hidden : Word
+hidden = w (32 ∷ [])
+
+-- the bound `Math.min(e, n)`
+abbrev least : Expression → ℤ → Bound
+least e n = Least hidden verb e (number n)
+
+-- `def main(n: Long) { var t = 0; for (i in 1..Math.min(n * n, 10)) { t = t + i; } println(t); }`
+abbrev squares_main : Statements
+squares_main = More (Declare binding.Var (w (codes "t")) None (Value (lit (pos 0))))
+    (More (For 0 (w (codes "i")) (number (pos 1)) (least (times (var (codes "n")) (var (codes "n"))) (pos 10))
+    (Block (More (Assign (w (codes "t")) (plus (var (codes "t")) (var (codes "i")))) Done)))
+    (More (print (var (codes "t"))) Done))
+
+-- its limit is brought to the slot behind that of its name, once, before the loop begins
+main_squares : unit_of_method bare unit_kind.Main (record {
+  name = w (codes "main");
+  paren = 0;
+  params = record { name = w (codes "n"); takes = record { at = 0; kind = param.Number } } ∷ [];
+  body = squares_main;
+}) ≡ record {
+  kind = unit_kind.Main;
+  params = param.Number ∷ [];
+  slots = 4;
+  code =
+      instr.Lit 1 (pos 0) ∷ instr.Mul 3 0 0 ∷ instr.ForTo 2 (pos 1) 3 (pos 10) 4 ∷ instr.Add 1 1 2 ∷ instr.Next 2 ∷ instr.Print 1 ∷ instr.Ret ∷ [];
+}
+main_squares = refl
+
+squares_is_covered : IsUnitCovered bare (codes "n" ∷ []) (Block squares_main)
+squares_is_covered = record {
+  params = (refl, tt);
+  body = ((tt, refl), ((λ _. ((refl, refl), (refl, refl), ((refl, (refl, refl)), tt))), (refl, tt)));
+}
+
+-- the limit of a loop within another: each has the two next slots, and a temporary stands behind the slots of all names
+main_nests : main_unit bare
+    (More (For 0 (w (codes "i")) (number (pos 1)) (least (lit (pos 2)) (pos 3))
+    (For 0 (w (codes "j")) (number (pos 0)) (Least (w (32 ∷ 32 ∷ [])) verb (plus (Paren 0 (times (var (codes "i")) (var (codes "i")))) (lit (pos 1))) (number (pos 9)))
+    (print (var (codes "j"))))) Done)
+    ≡ record {
+      kind = unit_kind.Main;
+      params = [];
+      slots = 6;
+      code =
+          instr.Lit 1 (pos 2) ∷ instr.ForTo 0 (pos 1) 1 (pos 3) 8
+          ∷ instr.Mul 4 0 0 ∷ instr.Lit 5 (pos 1) ∷ instr.Add 3 4 5 ∷ instr.ForTo 2 (pos 0) 3 (pos 9) 7 ∷ instr.Print 2 ∷ instr.Next 5
+          ∷ instr.Next 1 ∷ instr.Ret ∷ [];
+    }
+main_nests = refl
+
 -- ---- no turn
 
 -- a loop with no turn has no code, and its names have their slots
-main_skips : main_unit bare (More (For 0 (w (codes "i")) (number (pos 1)) (number (pos 0)) (val_is (codes "x") (lit (pos 1))))
+main_skips : main_unit bare (More (For 0 (w (codes "i")) (number (pos 1)) (UpTo (number (pos 0))) (val_is (codes "x") (lit (pos 1))))
     (More Empty (More (val_is (codes "y") (Paren 0 (lit (pos 3)))) Done)))
     ≡ record { kind = unit_kind.Main; params = []; slots = 3; code = instr.Lit 2 (pos 3) ∷ instr.Ret ∷ [] }
 main_skips = refl
+
+-- nor has one with a limit, which isn't taken then, and has its slot too
+main_skips_limit : main_unit bare (More (For 0 (w (codes "i")) (number (pos 4)) (least (lit (pos 7)) (pos 3)) Empty)
+    (More (val_is (codes "y") (lit (pos 3))) Done))
+    ≡ record { kind = unit_kind.Main; params = []; slots = 3; code = instr.Lit 2 (pos 3) ∷ instr.Ret ∷ [] }
+main_skips_limit = refl

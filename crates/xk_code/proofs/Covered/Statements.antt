@@ -21,7 +21,7 @@ use Rattle.xk_names.proofs.Among.{has_left, has_right, has_either, to_map}
 use Rattle.xk_names.proofs.Outside.{AreRight, outer_found, outer_kept}
 use Rattle.xk_code.specs.CodeOf.{Setting, Body, Scope, body_params, loop_slots, within_loop, count, declared}
 use Rattle.xk_code.specs.Unit.{scope_from}
-use Rattle.xk_code.specs.Covered.{IsFound, IsNew, IsKnown, IsBoundKnown, IsLoopNew, IsCovered, AreCovered, IsUnitCovered}
+use Rattle.xk_code.specs.Covered.{IsFound, IsKnown, IsBoundKnown, IsLoopNew, IsCovered, AreCovered, IsUnitCovered}
 use Rattle.xk_code.specs.Reached.{AsyncBody, bodies_in, bodies_in_all, calls_in, calls_in_all, IsSettled}
 use Rattle.xk_code.proofs.Covered.Tables.{Differ, differ_new, differ_append, differ_texts, param_found, still_absent, still_found, among_texts, in_right}
 use Rattle.xk_code.proofs.Covered.Fitting.{Seen, Texts, Fits, fits_behind, fits_loop, fits_body, body_names, is_captured}
