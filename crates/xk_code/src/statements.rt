@@ -3,7 +3,7 @@
 ghost use Rattle.std.specs.Prelude.{◌≡◌, true, ℕ, ◌+◌, ◌<◌, ◌≤◌, List, [], ◌∷◌, ◌++◌, length, map, option_map, All, unwrap_or, IsSome, OnOk, IfOk, IfErr, ⊤};
 ghost use Rattle.xk_types.specs.declared.instr.Instr.{Instr as Instruction};
 ghost use Rattle.xk_types.specs.declared.instr.Instr.TheVariants as instr;
-ghost use Rattle.xk_tree.specs.Tree.{Bound as LoopBound, Statement, Statements, Finish, For, If, Word, bound, clock_list, top, word, words, expression, expressions, source, statement, statements};
+ghost use Rattle.xk_tree.specs.Tree.{Bound as LoopBound, Statement, Statements, Finish, For, If, Word, bound, clock_list, word, words, expression, expressions, source, statement, statements};
 ghost use Rattle.xk_names.specs.Scope.{Table as Names, find, texts};
 ghost use Rattle.xk_names.specs.Uses.{clocks_listed};
 ghost use Rattle.xk_code.specs.CodeOf.{argument_slots, before_assigned, before_bound, before_into, body_at, body_params, body_unit, both, code_of, code_of_all, code_of_source, code_of_then, count, count_all, declared, declared_by_all, eval, eval_all, head_of, last_assigned, last_value, loop_slots, number_of, second, shared_alone, slot_for, slots_of, within_loop};
@@ -121,16 +121,6 @@ fn close_else(code: &mut Vec<Instr>, at: u16) -> Result<(), CodeError>
     let end = place(code)?;
     patch(code, at as usize, Instr::Jump(end));
     Ok(())
-}
-
-/// The most that the number of a loop can be.
-fn top(limit: &Bound<'_>) -> i64
-    ensures { result ≡ top (bound limit.now) }
-{
-    match limit {
-        Bound::UpTo(hi) => hi.value,
-        Bound::Least(_, _, _, hi) => hi.value,
-    }
 }
 
 /// The slot behind those of a loop's names, where n is the next.
@@ -839,7 +829,7 @@ impl<'a, 't> Emitter<'a, 't> {
             (For 0 (word i.entry) lo (bound limit.now) (statement s.now)))
             × (n + (count (statement s.now) + loop_slots (bound limit.now)) ≤ 64))) }
     {
-        if lo.value > top(limit) {
+        if lo.value > limit.top() {
             return slots_behind(behind_names(n, limit)?, s);
         }
         let visible = scope.len();

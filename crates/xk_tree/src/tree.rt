@@ -1,5 +1,8 @@
 //! Trees. They keep where in the text their names, numbers, types, parentheses and `-` stand, as offsets in bytes.
 
+ghost use Rattle.std.specs.Prelude.{◌≡◌};
+ghost use Rattle.xk_tree.specs.Tree.{bound, top};
+
 use xk_types::{Comparison, ParamKind};
 
 /// A name, and where it stands.
@@ -91,6 +94,18 @@ pub enum Bound<'t> {
     UpTo(Number),
     /// `Math.min(e, n)`: with a name that no text has, which stands where `Math` does; the word `min`; the expression, and the number.
     Least(Name<'t>, Verb, Expr<'t>, Number),
+}
+
+impl Bound<'_> {
+    /// The number of the text that the loop goes no further than, whatever the expression comes to.
+    pub fn top(&self) -> i64
+        ensures { result ≡ top (bound self.now) }
+    {
+        match self {
+            Bound::UpTo(n) => n.value,
+            Bound::Least(_, _, _, n) => n.value,
+        }
+    }
 }
 
 /// The clocks that an `async` registers its activity on: `clocked (c, ..)`.
