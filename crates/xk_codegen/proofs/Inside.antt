@@ -1,7 +1,7 @@
 -- What a part holds, where the offsets of the words `async` rise.
 use Rattle.std.proofs.Common.{◌≡◌, inl, inr, ℕ, zero, suc, ◌<◌, List, [], ◌∷◌, ◌++◌, Some, slice_get, refl, sym, ap, subst, arith}
 use Rattle.std.specs.Prelude.{int_le}
-use Rattle.xk_tree.specs.Tree.{Word, Statement, Statements, Done, More, Block, If, IfElse, For, Async, Finish, Call, MethodValue}
+use Rattle.xk_tree.specs.Tree.{Word, Statement, Statements, Done, More, Block, If, IfElse, For, top, Async, Finish, Call, MethodValue}
 use Rattle.xk_tree.specs.Bodies.{asyncs, asyncs_in, asyncs_of_methods}
 use Rattle.xk_names.specs.Scope.{Has}
 use Rattle.xk_units.specs.Callees.{callees, callees_all}
@@ -66,7 +66,7 @@ mutual
     | inl x ↦ held_left (callees s) (callees u) (asyncs s) (asyncs u) r (run_held s r x)
     | inr y ↦ held_right (callees s) (callees u) (asyncs s) (asyncs u) r (run_held u r y)
   ]
-  run_held (For p i lo hi s) r h = run_held s r (of_some (int_le lo.value hi.value) (runs s) r h)
+  run_held (For p i lo hi s) r h = run_held s r (of_some (int_le lo.value (top hi)) (runs s) r h)
   run_held (Async a cs s) r (inl e) = subst (λ (q : Run). Held (callees s) (a ∷ asyncs s) q) (sym e) (inl refl)
   run_held (Async a cs s) r (inr h) = absurd h
   run_held (Finish s) r h = run_held s r h

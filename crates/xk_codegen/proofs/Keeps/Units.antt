@@ -1,15 +1,18 @@
 -- What the code of a unit calls and starts stands where the setting says; and the first unit alone is main.
-use Rattle.std.proofs.Common.{◌≡◌, inl, ℕ, zero, suc, ◌<◌, ◌≤◌, ◌==◌, Bool, true, false, cond, List, [], ◌∷◌, map, length, Option, Some, slice_get, refl, sym, ap, ◌∙◌, subst, arith}
+use Rattle.std.proofs.Common.{◌≡◌, inl, ℕ, zero, suc, ◌<◌, ◌≤◌, ◌==◌, ◌||◌, Bool, true, false, cond, List, [], ◌∷◌, map, length, Option, None, Some, slice_get, refl, sym, ap, ◌∙◌, subst, arith}
 use Rattle.std.specs.Prelude.{codes, option_map, unwrap_or}
+use Rattle.std.specs.List.{list_any}
 use Rattle.std.specs.Option.{option_map_or}
 use Rattle.std.proofs.lemmas.Bool.Decides.{nat_tests}
 use Rattle.std.proofs.lemmas.Option.{slice_get_within}
 use Rattle.xk_types.specs.declared.unit.UnitKind.TheVariants as unit_kind
 use Rattle.xk_types.specs.Code.{UnitValue, ModuleValue, is_method, is_body}
+use Rattle.xk_types.specs.Blocks.{takes_clock}
 use Rattle.xk_types.specs.Shape.{is_in_place}
 use Rattle.xk_tree.specs.Tree.{Word, Clocks, Statement, Statements, Done, More, Block, Empty, Declare, Assign, Atomic, If, IfElse, For, Async, Finish, Call, Resume, Drop, AdvanceAll, Print, ParamValue, MethodValue, TreeValue}
 use Rattle.xk_names.specs.Scope.{Has, find, is_text}
 use Rattle.xk_names.specs.Uses.{signatures}
+use Rattle.xk_names.specs.Faults.{MayBegin, wants_clock}
 use Rattle.xk_names.specs.Scoped.{IsScoped}
 use Rattle.xk_units.proofs.Collecting.{same_text}
 use Rattle.xk_names.proofs.Among.{has_left, has_right}
@@ -29,6 +32,16 @@ use Rattle.xk_source.proofs.Units.Settled.{AreSettled, AreParts, body_unit_of}
 
 kind_of_main : (m : MethodValue) → m.name.text ≡ codes "main" → method_kind m ≡ unit_kind.Main
 kind_of_main m e = ap (λ x. cond (is_text x (codes "main")) unit_kind.Main unit_kind.Method) e
+
+-- a method `main` that a run may begin with takes no clock
+may_begin : (o : Option (List ParamValue)) → MayBegin o → (ps : List ParamValue) × (o ≡ Some ps) × (list_any wants_clock ps ≡ false)
+may_begin None h = absurd h
+may_begin (Some ps) h = (ps, refl, h)
+
+-- a unit takes a clock where its method does
+clocks_alike : (ps : List ParamValue) → list_any (λ k. takes_clock (Some k)) (kinds_of_params ps) ≡ list_any wants_clock ps
+clocks_alike [] = refl
+clocks_alike (p ∷ ps) = ap (λ b. wants_clock p || b) (clocks_alike ps)
 
 -- a method that isn't named so
 kind_of_other : (m : MethodValue) → (is_text m.name.text (codes "main") ≡ true → ⊥) → method_kind m ≡ unit_kind.Method
@@ -54,14 +67,15 @@ module _ (t : TreeValue) (scoped : IsScoped t) (units : List Part) (cx : Setting
   in_tree : (k : ℕ) (m : MethodValue) → slice_get units k ≡ Some (OfMethod m) → Has t.methods m
   in_tree k m e = part_of t scoped (OfMethod m) (h.are_units.within k (OfMethod m) e)
 
-  -- main has no parameters
-  pub main_alone : h.are_units.main.params ≡ []
-  main_alone =
+  -- main takes no clock
+  main_takes_none : list_any wants_clock h.are_units.main.params ≡ false
+  main_takes_none =
       let u = h.are_units in
-      let s = signed t.methods (codes "main") [] scoped.main in
+      let b = may_begin (find (signatures t.methods) (codes "main")) scoped.main in
+      let s = signed t.methods (codes "main") b.0 b.1 in
       let one : u.main ≡ s.method = one_method t.methods (codes "main") u.main s.method scoped.methods_apart (in_tree 0 u.main u.first) s.there
       (ap (is_text (codes "main")) u.named) s.named in
-      ap (λ (m : MethodValue). m.params) one ∙ s.params
+      ap (list_any wants_clock) (ap (λ (m : MethodValue). m.params) one ∙ s.params) ∙ b.2
 
   -- no other unit is called so
   other_name : (k : ℕ) (m : MethodValue) → slice_get units (suc k) ≡ Some (OfMethod m) → is_text m.name.text (codes "main") ≡ true → ⊥
@@ -75,7 +89,8 @@ module _ (t : TreeValue) (scoped : IsScoped t) (units : List Part) (cx : Setting
 
   first_in_place : (p : Part) → OfMethod h.are_units.main ≡ p → is_in_place 0 (unit_of_part cx p) ≡ true
   first_in_place p e =
-      subst (λ (q : Part). is_in_place 0 (unit_of_part cx q) ≡ true) e (rw (kind_of_main h.are_units.main h.are_units.named, main_alone) refl)
+      subst (λ (q : Part). is_in_place 0 (unit_of_part cx q) ≡ true) e
+      (rw (kind_of_main h.are_units.main h.are_units.named, clocks_alike h.are_units.main.params ∙ main_takes_none) refl)
 
   later_in_place : (k : ℕ) (p : Part) → slice_get units (suc k) ≡ Some p → is_in_place (suc k) (unit_of_part cx p) ≡ true
   later_in_place k (OfMethod m) e = (let behind : (suc k == 0) ≡ false = grind (arith, nat_tests) in rw (kind_of_other m (other_name k m e), behind) refl)
