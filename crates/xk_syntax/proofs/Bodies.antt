@@ -15,11 +15,11 @@ use Rattle.xk_tokens.specs.Pieces.{offsets}
 use Rattle.xk_tokens.proofs.Texts.{spelled_lexed}
 use Rattle.xk_tokens.proofs.Offsets.{lexed_increasing}
 use Rattle.xk_tree.specs.declared.tree.Number as tree
-use Rattle.xk_tree.specs.Tree.{Expression, Literal, Named, Paren, Negation, Binary, Make, Value, Statement, Statements, Done, More, Block, Empty, Declare, Assign, Atomic, If, IfElse, For, Async, Finish, Call, Resume, Drop, AdvanceAll, Print, MethodValue, TreeValue}
+use Rattle.xk_tree.specs.Tree.{Expression, Literal, Named, Paren, Negation, Binary, Make, Value, UpTo, Least, Statement, Statements, Done, More, Block, Empty, Declare, Assign, Atomic, If, IfElse, For, Async, Finish, Call, Resume, Drop, AdvanceAll, Print, MethodValue, TreeValue}
 use Rattle.xk_tree.specs.Bodies.{asyncs, asyncs_in, asyncs_of_methods, HasBodiesApart}
 use Rattle.xk_exprs.specs.Marks.{Mark, Name, Number, Operator, Open, Symbol, Reserved, AsyncAt, ClockAt, LongAt, Unfit, keyword_mark, sign_mark}
 use Rattle.xk_exprs.specs.Spelling.{spell, minus_marks, number_marks}
-use Rattle.xk_syntax.specs.Spelling.{word, number, expr, comparison_sign, type_mark, type_name, type_part, source, row, behind_comma, commas, clock_part, stmt, stmts, param, method, shared, program, lexeme_mark, token_mark, SpellsTree}
+use Rattle.xk_syntax.specs.Spelling.{word, number, expr, comparison_sign, type_mark, type_name, type_part, source, bound, row, behind_comma, commas, clock_part, stmt, stmts, param, method, shared, program, lexeme_mark, token_mark, SpellsTree}
 
 -- ---- the words `async` of a tree are those of its spelling
 
@@ -84,6 +84,12 @@ source_none : AddsNone source
 source_none (Make at v) after = refl
 source_none (Value e) after = expr_none e after
 
+bound_none : AddsNone bound
+bound_none (UpTo n) after = number_none n after
+bound_none (Least x v e n) after =
+    let close = Symbol sign.RightParen ∷ after in
+    expr_none e (Symbol sign.Comma ∷ number n close) ∙ number_none n close
+
 row_none : {T : Type 0} (f : T → List Mark → List Mark) → AddsNone f → AddsNone (row f)
 row_none f k [] after = refl
 row_none f k (x ∷ xs) after = k x (row f xs after) ∙ row_none f k xs after
@@ -111,9 +117,9 @@ mutual
       let body = Symbol sign.RightParen ∷ stmt s other in
       expr_none l (Symbol (comparison_sign c) ∷ expr r body) ∙ expr_none r body ∙ stmt_marked s other
       ∙ ap (λ (l : List ℕ). asyncs s ++ l) (stmt_marked t after) ∙ sym (append_assoc (asyncs s) (asyncs t) (marked after))
-  stmt_marked (For at w lo hi s) after =
+  stmt_marked (For at w lo b s) after =
       let body = Symbol sign.RightParen ∷ stmt s after in
-      number_none lo (Symbol sign.DotDot ∷ number hi body) ∙ number_none hi body ∙ stmt_marked s after
+      number_none lo (Symbol sign.DotDot ∷ bound b body) ∙ bound_none b body ∙ stmt_marked s after
   stmt_marked (Async at cs s) after = ap (λ (l : List ℕ). at ∷ l) (clocks_none cs (stmt s after) ∙ stmt_marked s after)
   stmt_marked (Finish s) after = stmt_marked s after
   stmt_marked (Call w at es) after = commas_none expr expr_none es (Symbol sign.RightParen ∷ Symbol sign.Semicolon ∷ after)

@@ -1,17 +1,19 @@
 -- Small texts: trees that they spell, and texts that spell none.
-use Rattle.std.proofs.Common.{◌≡◌, ℕ, zero, suc, List, [], ◌∷◌, ◌++◌, Some, None, codes, refl, lit≤}
+use Rattle.std.proofs.Common.{◌≡◌, ℕ, zero, suc, List, [], ◌∷◌, ◌++◌, map, Option, Some, None, codes, refl, lit≤}
 use Rattle.std.specs.Prelude.{pos, negsuc, replicate}
+use Rattle.std.specs.List.{AllByRecursion}
 use Rattle.xk_types.specs.declared.instr.Comparison.TheVariants as comparison
 use Rattle.xk_tokens.specs.Tokens.{keyword_of}
 use Rattle.xk_tokens.specs.Pieces.{number_of}
-use Rattle.xk_tokens.specs.Lexing.{sign_of_one, sign_of_two, comment_at, piece_at, sign_at as lexed_sign_at}
+use Rattle.xk_tokens.specs.Lexing.{lexed, sign_of_one, sign_of_two, comment_at, piece_at, sign_at as lexed_sign_at}
 use Rattle.xk_tree.specs.declared.tree.Operator.TheVariants as operator
-use Rattle.xk_tree.specs.Tree.{Word, Expression, Literal, Named, Binary, Statements, Done, More, Block, Empty, Atomic, If, IfElse, Async, Call, Resume, Drop, MethodValue, TreeValue}
+use Rattle.xk_tree.specs.declared.tree.Number as tree
+use Rattle.xk_tree.specs.Tree.{Word, Expression, Literal, Named, Binary, Least, Statements, Done, More, Block, Empty, Assign, Atomic, If, IfElse, For, Async, Call, Resume, Drop, MethodValue, TreeValue}
 use Rattle.xk_tree.specs.Bodies.{asyncs_of_methods}
 use Rattle.xk_exprs.specs.Readers.{turns, loop}
 use Rattle.xk_exprs.specs.Exprs.{value_of, number_at, another, chain_at, terms, sums, factor_at, whole_at, whole_term_at}
-use Rattle.xk_syntax.specs.Spelling.{SpellsTree}
-use Rattle.xk_syntax.specs.Readers.{bind, sign_at, keyword_at, open_at, plus_at, word_at, this_word_at, comparison_at, type_at, clock_at, next_item, more_at, commas_at, listed_at, verb_at, bare_verb_at, act_at, type_part_at, source_at, declare_at, atomic_at, advance_at, print_head_at, print_at, call_at, dotted_at, assign_at, named_at, flat_at, condition_at, range_at, clocks_at, start_at, stmt_head_at, ahead_at, stmts_at, else_at, rest_at, stmt_at, param_at, method_at, shared_at, program_at}
+use Rattle.xk_syntax.specs.Spelling.{token_mark, SpellsTree}
+use Rattle.xk_syntax.specs.Readers.{bind, sign_at, keyword_at, open_at, plus_at, word_at, this_word_at, comparison_at, type_at, clock_at, next_item, more_at, commas_at, listed_at, verb_at, bare_verb_at, act_at, type_part_at, source_at, declare_at, atomic_at, advance_at, print_head_at, print_at, call_at, dotted_at, assign_at, named_at, flat_at, condition_at, least_at, bound_at, range_at, clocks_at, start_at, stmt_head_at, ahead_at, stmts_at, else_at, rest_at, stmt_at, param_at, method_at, shared_at, program_at}
 use Rattle.xk_syntax.proofs.Texts.{spelled_from_read, none_from_read}
 
 abbrev name : ℕ → List ℕ → Word
@@ -20,8 +22,11 @@ name at text = record { at = at; text = text }
 abbrev variable : ℕ → List ℕ → Expression
 variable at text = Named (name at text)
 
+abbrev digits : ℕ → ℕ → tree.Number
+digits at n = record { minus = None; at = at; value = pos n }
+
 abbrev number : ℕ → ℕ → Expression
-number at n = Literal (record { minus = None; at = at; value = pos n })
+number at n = Literal (digits at n)
 
 -- `def main(){..}`
 abbrev main : Statements → MethodValue
@@ -32,6 +37,14 @@ only_main body = record { shared = []; methods = main body ∷ [] }
 
 abbrev SpellsNone : List ℕ → Type 0
 SpellsNone text = (t : TreeValue) → ¬ SpellsTree text t
+
+-- a text spells no tree where its tokens aren't read
+abbrev reading : List ℕ → Option TreeValue
+reading text = program_at (map token_mark (lexed text))
+
+unread : (texts : List (List ℕ)) → map reading texts ≡ map (λ text. None) texts → AllByRecursion SpellsNone texts
+unread [] e = tt
+unread (text ∷ texts) e = (none_from_read text cc, unread texts cc)
 
 -- ---- programs
 
@@ -144,6 +157,70 @@ unfolding sign_of_one sign_of_two comment_at piece_at lexed_sign_at number_of ke
     type_part_at source_at declare_at atomic_at advance_at print_head_at print_at call_at dotted_at assign_at named_at flat_at condition_at range_at clocks_at start_at
     stmt_head_at ahead_at stmts_at else_at rest_at stmt_at param_at method_at shared_at program_at
 no_needless_zero = none_from_read _ refl
+
+-- ---- loops with a limit
+
+-- what the text says in the place of a loop's bound
+abbrev bounded : List ℕ → List ℕ
+bounded bound = codes "def main(){for(i in 1.." ++ bound ++ codes ");}"
+
+-- its name is one space for each of the 64 levels that are left
+a_limit : SpellsTree (bounded (codes "Math.min(n*n,10)")) (only_main (More (For 14 (name 15 (codes "i")) (digits 20 1)
+    (Least (name 23 (replicate 64 32)) (record { at = 28; paren = 31 }) (Binary operator.Times (variable 32 (codes "n")) 33 (variable 34 (codes "n"))) (digits 36 10))
+    Empty) Done))
+unfolding sign_of_one sign_of_two comment_at piece_at lexed_sign_at number_of keyword_of turns loop value_of number_at another chain_at terms sums factor_at whole_at
+    whole_term_at bind sign_at keyword_at open_at plus_at word_at this_word_at comparison_at type_at clock_at next_item more_at commas_at listed_at verb_at bare_verb_at act_at
+    type_part_at source_at declare_at atomic_at advance_at print_head_at print_at call_at dotted_at assign_at named_at flat_at condition_at least_at bound_at range_at clocks_at
+    start_at stmt_head_at ahead_at stmts_at else_at rest_at stmt_at param_at method_at shared_at program_at
+a_limit = spelled_from_read _ _ (lit≤ tt) refl
+
+-- two limits have two names
+two_limits : SpellsTree (codes "def main(){for(i in 0..Math.min(2,-3)){for(j in 1..Math.min(i,2));}}") (only_main (More (For 14 (name 15 (codes "i")) (digits 20 0)
+    (Least (name 23 (replicate 64 32)) (record { at = 28; paren = 31 }) (number 32 2) (record { minus = Some 34; at = 35; value = negsuc 2 }))
+    (Block (More (For 42 (name 43 (codes "j")) (digits 48 1) (Least (name 51 (replicate 62 32)) (record { at = 56; paren = 59 }) (variable 60 (codes "i")) (digits 62 2))
+    Empty) Done))) Done))
+unfolding sign_of_one sign_of_two comment_at piece_at lexed_sign_at number_of keyword_of turns loop value_of number_at another chain_at terms sums factor_at whole_at
+    whole_term_at bind sign_at keyword_at open_at plus_at word_at this_word_at comparison_at type_at clock_at next_item more_at commas_at listed_at verb_at bare_verb_at act_at
+    type_part_at source_at declare_at atomic_at advance_at print_head_at print_at call_at dotted_at assign_at named_at flat_at condition_at least_at bound_at range_at clocks_at
+    start_at stmt_head_at ahead_at stmts_at else_at rest_at stmt_at param_at method_at shared_at program_at
+two_limits = spelled_from_read _ _ (lit≤ tt) refl
+
+-- `Math` and `min` are names elsewhere
+math_is_a_name : SpellsTree (codes "def main(){Math=min;for(Math in 1..Math.min(Math,2));}") (only_main (More (Assign (name 11 (codes "Math")) (variable 16 (codes "min")))
+    (More (For 23 (name 24 (codes "Math")) (digits 32 1) (Least (name 35 (replicate 64 32)) (record { at = 40; paren = 43 }) (variable 44 (codes "Math")) (digits 49 2))
+    Empty) Done)))
+unfolding sign_of_one sign_of_two comment_at piece_at lexed_sign_at number_of keyword_of turns loop value_of number_at another chain_at terms sums factor_at whole_at
+    whole_term_at bind sign_at keyword_at open_at plus_at word_at this_word_at comparison_at type_at clock_at next_item more_at commas_at listed_at verb_at bare_verb_at act_at
+    type_part_at source_at declare_at atomic_at advance_at print_head_at print_at call_at dotted_at assign_at named_at flat_at condition_at least_at bound_at range_at clocks_at
+    start_at stmt_head_at ahead_at stmts_at else_at rest_at stmt_at param_at method_at shared_at program_at
+math_is_a_name = spelled_from_read _ _ (lit≤ tt) refl
+
+-- what is no bound
+abbrev no_bounds : List (List ℕ)
+no_bounds = codes "Math.max(n,2)" ∷ codes "Math(n,2)" ∷ codes "Math.min n,2)" ∷ codes "Math.min(n 2)" ∷ codes "Math.min(n)" ∷ codes "Math.min(n,)" ∷ codes "Math.min(2,n)"
+    ∷ codes "Math.min(n,1+1)" ∷ codes "Math.min(,2)" ∷ codes "Math.min(n,2" ∷ codes "min(n,2)" ∷ codes "n" ∷ codes "1+1" ∷ []
+
+no_limits : AllByRecursion SpellsNone (map bounded no_bounds)
+unfolding sign_of_one sign_of_two comment_at piece_at lexed_sign_at number_of keyword_of turns loop value_of number_at another chain_at terms sums factor_at whole_at
+    whole_term_at bind sign_at keyword_at open_at plus_at word_at this_word_at comparison_at type_at clock_at next_item more_at commas_at listed_at verb_at bare_verb_at act_at
+    type_part_at source_at declare_at atomic_at advance_at print_head_at print_at call_at dotted_at assign_at named_at flat_at condition_at least_at bound_at range_at clocks_at
+    start_at stmt_head_at ahead_at stmts_at else_at rest_at stmt_at param_at method_at shared_at program_at
+no_limits = unread (map bounded no_bounds) refl
+
+no_limit_below : SpellsNone (codes "def main(){for(i in Math.min(n,2)..3);}")
+unfolding sign_of_one sign_of_two comment_at piece_at lexed_sign_at number_of keyword_of turns loop value_of number_at another chain_at terms sums factor_at whole_at
+    whole_term_at bind sign_at keyword_at open_at plus_at word_at this_word_at comparison_at type_at clock_at next_item more_at commas_at listed_at verb_at bare_verb_at act_at
+    type_part_at source_at declare_at atomic_at advance_at print_head_at print_at call_at dotted_at assign_at named_at flat_at condition_at least_at bound_at range_at clocks_at
+    start_at stmt_head_at ahead_at stmts_at else_at rest_at stmt_at param_at method_at shared_at program_at
+no_limit_below = none_from_read _ refl
+
+-- behind the loop 63 levels are left
+deep_in_a_limit : SpellsNone (bounded (codes "Math.min(" ++ replicate 64 40 ++ codes "1" ++ replicate 64 41 ++ codes ",2)"))
+unfolding sign_of_one sign_of_two comment_at piece_at lexed_sign_at number_of keyword_of turns loop value_of number_at another chain_at terms sums factor_at whole_at
+    whole_term_at bind sign_at keyword_at open_at plus_at word_at this_word_at comparison_at type_at clock_at next_item more_at commas_at listed_at verb_at bare_verb_at act_at
+    type_part_at source_at declare_at atomic_at advance_at print_head_at print_at call_at dotted_at assign_at named_at flat_at condition_at least_at bound_at range_at clocks_at
+    start_at stmt_head_at ahead_at stmts_at else_at rest_at stmt_at param_at method_at shared_at program_at
+deep_in_a_limit = none_from_read _ refl
 
 -- ---- depth
 

@@ -2,10 +2,10 @@
 use Rattle.std.proofs.Common.{◌<◌, ◌≤◌, List, [], ◌∷◌, length, Some, None, arith, length-append}
 use Rattle.xk_tokens.specs.declared.token.Sign.TheVariants as sign
 use Rattle.xk_tokens.specs.declared.token.Keyword.TheVariants as keyword
-use Rattle.xk_tree.specs.Tree.{Make, Value, Statement, Statements, Done, More, Block, Empty, Declare, Assign, Atomic, If, IfElse, For, Async, Finish, Call, Resume, Drop, AdvanceAll, Print}
+use Rattle.xk_tree.specs.Tree.{Make, Value, UpTo, Least, Statement, Statements, Done, More, Block, Empty, Declare, Assign, Atomic, If, IfElse, For, Async, Finish, Call, Resume, Drop, AdvanceAll, Print}
 use Rattle.xk_exprs.specs.Marks.{Mark, Symbol, Reserved}
 use Rattle.xk_exprs.specs.Spelling.{spell, number_marks}
-use Rattle.xk_syntax.specs.Spelling.{word, number, expr, comparison_sign, type_name, type_part, source, row, behind_comma, commas, clock_part, stmt, stmts}
+use Rattle.xk_syntax.specs.Spelling.{word, number, expr, comparison_sign, type_name, type_part, source, bound, row, behind_comma, commas, clock_part, stmt, stmts}
 
 abbrev pub Longer : {T : Type 0} → (T → List Mark → List Mark) → Type 0
 Longer {T = T} f = (x : T) (after : List Mark) → length after ≤ length (f x after)
@@ -26,6 +26,15 @@ type_part_longer (Some ty) after = omega (arith, type_longer ty after)
 source_longer : Longer source
 source_longer (Make at v) after = omega arith
 source_longer (Value e) after = expr_longer e after
+
+number_longer : Longer number
+number_longer n after = omega (arith, length-append (number_marks n) after)
+
+bound_longer : Longer bound
+bound_longer (UpTo n) after = number_longer n after
+bound_longer (Least x v e n) after =
+    let close = Symbol sign.RightParen ∷ after in
+    omega (arith, expr_longer e (Symbol sign.Comma ∷ number n close), number_longer n close)
 
 row_longer : {T : Type 0} (f : T → List Mark → List Mark) → Longer f → Longer (row f)
 row_longer f l [] after = omega arith
@@ -65,9 +74,9 @@ mutual
             (Reserved keyword.Else ∷ stmt t after),
         stmt_longer t after,
       )
-  stmt_longer (For at w lo hi s) after =
-      let upper = number hi (Symbol sign.RightParen ∷ stmt s after) in
-      omega (arith, length-append (number_marks lo) (Symbol sign.DotDot ∷ upper), length-append (number_marks hi) (Symbol sign.RightParen ∷ stmt s after), stmt_longer s after)
+  stmt_longer (For at w lo b s) after =
+      let body = Symbol sign.RightParen ∷ stmt s after in
+      omega (arith, number_longer lo (Symbol sign.DotDot ∷ bound b body), bound_longer b body, stmt_longer s after)
   stmt_longer (Async at cs s) after = omega (arith, clocks_longer cs (stmt s after), stmt_longer s after)
   stmt_longer (Finish s) after = omega (arith, stmt_longer s after)
   stmt_longer (Call w at es) after = omega (arith, commas_longer expr expr_longer es (Symbol sign.RightParen ∷ Symbol sign.Semicolon ∷ after))

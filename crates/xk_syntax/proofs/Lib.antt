@@ -4,6 +4,7 @@ pub mod Lengths
 pub mod Found
 pub mod Rows
 pub mod Flat
+pub mod Reach
 pub mod Statements
 pub mod Programs
 pub mod Texts

@@ -7,7 +7,7 @@ use Rattle.xk_tokens.specs.declared.token.Sign.TheVariants as sign
 use Rattle.xk_tokens.specs.declared.token.Keyword.TheVariants as keyword
 use Rattle.xk_tree.specs.declared.tree.Binding.TheVariants as binding
 use Rattle.xk_tree.specs.declared.tree.Number as tree
-use Rattle.xk_tree.specs.Tree.{Word, Expression, Clocks, Statement, Statements, Done, More, listed, Block, Empty, Declare, Assign, Atomic, If, IfElse, For, Async, Finish, Call, Resume, Drop, AdvanceAll, Print}
+use Rattle.xk_tree.specs.Tree.{Word, Expression, Bound, Clocks, Statement, Statements, Done, More, listed, Block, Empty, Declare, Assign, Atomic, If, IfElse, For, Async, Finish, Call, Resume, Drop, AdvanceAll, Print}
 use Rattle.xk_exprs.specs.Marks.{Mark, Name, Open, Symbol, Reserved, AsyncAt, ClockAt}
 use Rattle.xk_exprs.specs.declared.fault.SyntaxError.{SyntaxError}
 use Rattle.xk_exprs.specs.declared.fault.SyntaxError.TheVariants as error
@@ -15,12 +15,13 @@ use Rattle.xk_exprs.specs.Readers.{Refuses}
 use Rattle.xk_exprs.specs.Spelling.{IsNumber}
 use Rattle.xk_exprs.specs.Exprs.{whole_at}
 use Rattle.xk_exprs.proofs.Numbers.{number_found, number_again}
-use Rattle.xk_syntax.specs.Spelling.{word, number, expr, comparison_sign, row, clock_part, stmt, stmts, dangles, IsExpr, ClocksFit, Fits, AllFit}
+use Rattle.xk_syntax.specs.Spelling.{word, number, expr, comparison_sign, bound, row, clock_part, stmt, stmts, dangles, IsExpr, BoundFits, ClocksFit, Fits, AllFit}
 use Rattle.xk_syntax.specs.Laws.{Settles, StatementFound, StatementAgain}
 use Rattle.xk_syntax.specs.Readers.{bind, sign_at, keyword_at, open_at, word_at, comparison_at, more_at, Read, call_at, undotted, named_or, named_at, flat_by, flat_at, Head, Whole, Brace, Condition, Range, Start, Wait, whole, condition_at, range_at, clocks_or, clocks_at, start_at, head_by, stmt_head_at, ahead_or, ahead_at, stmts_at, else_or, else_at, rest_at, stmt_at}
 use Rattle.xk_syntax.proofs.Turns.{Shortens, bind_some, some_is, word_takes, more_refused, no_more}
 use Rattle.xk_syntax.proofs.Found.{sign_is, keyword_is, open_is, word_is, comparison_is, expr_is, IsFlat, flat_ended, declare_found, atomic_found, advance_found, print_found, dotted_found, assign_found}
 use Rattle.xk_syntax.proofs.Lengths.{stmt_longer}
+use Rattle.xk_syntax.proofs.Reach.{bound_found, bound_again}
 use Rattle.xk_syntax.proofs.Rows.{listed_found, EachFound, more_found, EachAgain, more_again, ItemAgain, commas_found, commas_again}
 use Rattle.xk_syntax.proofs.Flat.{HoldsNone, expr_again, flat_again}
 
@@ -31,7 +32,7 @@ abbrev head : Head → List Mark → List Mark
 head (Whole s) after = stmt s after
 head Brace after = Symbol sign.LeftBrace ∷ after
 head (Condition at l c r) after = Reserved keyword.If ∷ Open at ∷ expr l (Symbol (comparison_sign c) ∷ expr r (Symbol sign.RightParen ∷ after))
-head (Range at w lo hi) after = Reserved keyword.For ∷ Open at ∷ word w (Reserved keyword.In ∷ number lo (Symbol sign.DotDot ∷ number hi (Symbol sign.RightParen ∷ after)))
+head (Range at w lo b) after = Reserved keyword.For ∷ Open at ∷ word w (Reserved keyword.In ∷ number lo (Symbol sign.DotDot ∷ bound b (Symbol sign.RightParen ∷ after)))
 head (Start at cs) after = AsyncAt at ∷ clock_part cs after
 head Wait after = Reserved keyword.Finish ∷ after
 
@@ -39,7 +40,7 @@ abbrev HeadFits : ℕ → Head → Type 0
 HeadFits d (Whole s) = Fits (suc d) s × (dangles s ≡ false)
 HeadFits d Brace = Unit {0}
 HeadFits d (Condition at l c r) = IsExpr d l × IsExpr d r
-HeadFits d (Range at w lo hi) = IsNumber lo × IsNumber hi
+HeadFits d (Range at w lo b) = IsNumber lo × BoundFits d b
 HeadFits d (Start at cs) = ClocksFit cs
 HeadFits d Wait = Unit {0}
 
@@ -98,7 +99,7 @@ condition_found d ts x e =
     let s = sign_is sign.RightParen refl r.0.1 us.0 us.1 in
     subst (IsHead d (Reserved keyword.If ∷ ts)) (some_is _ x us.2) (record { spelled = cc; fits = (fl.1, fr.1) })
 
-range_found : (d : ℕ) (ts : List Mark) (x : Head × List Mark) → range_at ts ≡ Some x → IsHead d (Reserved keyword.For ∷ ts) x
+range_found : (d : ℕ) (ts : List Mark) (x : Head × List Mark) → range_at d ts ≡ Some x → IsHead d (Reserved keyword.For ∷ ts) x
 unfolding range_at
 range_found d ts x e =
     let at = bind_some _ _ _ e in
@@ -106,21 +107,21 @@ range_found d ts x e =
     let us = bind_some _ _ _ w.2 in
     let lo = bind_some _ _ _ us.2 in
     let vs = bind_some _ _ _ lo.2 in
-    let hi = bind_some _ _ _ vs.2 in
-    let zs = bind_some _ _ _ hi.2 in
+    let b = bind_some _ _ _ vs.2 in
+    let zs = bind_some _ _ _ b.2 in
     let p = open_is ts at.0 at.1 in
     let q = word_is at.0.1 w.0 w.1 in
     let r = keyword_is keyword.In refl w.0.1 us.0 us.1 in
     let a = number_found us.0 lo.0.0 lo.0.1 lo.1 in
     let s = sign_is sign.DotDot refl lo.0.1 vs.0 vs.1 in
-    let b = number_found vs.0 hi.0.0 hi.0.1 hi.1 in
-    let t = sign_is sign.RightParen refl hi.0.1 zs.0 zs.1 in
+    let f = bound_found d vs.0 b.0 b.1 in
+    let t = sign_is sign.RightParen refl b.0.1 zs.0 zs.1 in
     let first : ts ≡ Open at.0.0 ∷ word w.0.0 (Reserved keyword.In ∷ us.0) = cc in
-    let upper : vs.0 ≡ number hi.0.0 (Symbol sign.RightParen ∷ zs.0) = b.0 ∙ ap (number hi.0.0) t in
-    let both : us.0 ≡ number lo.0.0 (Symbol sign.DotDot ∷ number hi.0.0 (Symbol sign.RightParen ∷ zs.0)) = a.0 ∙ ap (number lo.0.0) (s
+    let upper : vs.0 ≡ bound b.0.0 (Symbol sign.RightParen ∷ zs.0) = f.0 ∙ ap (bound b.0.0) t in
+    let both : us.0 ≡ number lo.0.0 (Symbol sign.DotDot ∷ bound b.0.0 (Symbol sign.RightParen ∷ zs.0)) = a.0 ∙ ap (number lo.0.0) (s
     ∙ ap (λ (z : List Mark). Symbol sign.DotDot ∷ z) upper) in
     let all = first ∙ ap (λ (z : List Mark). Open at.0.0 ∷ word w.0.0 (Reserved keyword.In ∷ z)) both in
-    subst (IsHead d (Reserved keyword.For ∷ ts)) (some_is _ x zs.2) (record { spelled = ap (λ (z : List Mark). Reserved keyword.For ∷ z) all; fits = (a.1, b.1) })
+    subst (IsHead d (Reserved keyword.For ∷ ts)) (some_is _ x zs.2) (record { spelled = ap (λ (z : List Mark). Reserved keyword.For ∷ z) all; fits = (a.1, f.1) })
 
 clocks_found : (ts : List Mark) (x : Option Clocks × List Mark) → clocks_at ts ≡ Some x → (ts ≡ clock_part x.0 x.1) × ClocksFit x.0
 unfolding clocks_at
@@ -251,11 +252,11 @@ rest_found d inner f (Condition at l c r) ts x k e =
     let i = f ts s.0 s.1 in
     let g = else_found d inner f at l c r s.0.0 s.0.1 x k.0 k.1 i.fits i.settles s.2 in
     subst (λ (z : List Mark). IsStmt (suc d) (head (Condition at l c r) z) x) (sym i.spelled) g
-rest_found d inner f (Range at w lo hi) ts x k e =
+rest_found d inner f (Range at w lo b) ts x k e =
     let s = bind_some _ _ _ e in
     let i = f ts s.0 s.1 in
-    subst (IsStmt (suc d) (head (Range at w lo hi) ts)) (some_is _ x s.2) (record {
-      spelled = ap (head (Range at w lo hi)) i.spelled;
+    subst (IsStmt (suc d) (head (Range at w lo b) ts)) (some_is _ x s.2) (record {
+      spelled = ap (head (Range at w lo b)) i.spelled;
       fits =
           (k.0, k.1, i.fits);
       settles = i.settles;
@@ -331,11 +332,11 @@ condition_again d at l c r after fl fr =
     let right = expr r (Symbol sign.RightParen ∷ after) in
     rw (expr_again d l (comparison_sign c) right fl, comparison_again c right, expr_again d r sign.RightParen after fr) refl
 
-range_again : (at : ℕ) (w : Word) (lo hi : tree.Number) (after : List Mark) → IsNumber lo → IsNumber hi
-    → range_at (Open at ∷ word w (Reserved keyword.In ∷ number lo (Symbol sign.DotDot ∷ number hi (Symbol sign.RightParen ∷ after)))) ≡ Some (Range at w lo hi, after)
+range_again : (d at : ℕ) (w : Word) (lo : tree.Number) (b : Bound) (after : List Mark) → IsNumber lo → BoundFits d b
+    → range_at d (Open at ∷ word w (Reserved keyword.In ∷ number lo (Symbol sign.DotDot ∷ bound b (Symbol sign.RightParen ∷ after)))) ≡ Some (Range at w lo b, after)
 unfolding range_at open_at word_at keyword_at sign_at bind
-range_again at w lo hi after fl fh =
-    rw (number_again lo (Symbol sign.DotDot ∷ number hi (Symbol sign.RightParen ∷ after)) fl, number_again hi (Symbol sign.RightParen ∷ after) fh) refl
+range_again d at w lo b after fl fb =
+    rw (number_again lo (Symbol sign.DotDot ∷ bound b (Symbol sign.RightParen ∷ after)) fl, bound_again d b (Symbol sign.RightParen ∷ after) fb) refl
 
 word_again : ItemAgain word_at word (λ w. Unit {0})
 unfolding word_at
@@ -359,7 +360,7 @@ no_brace (Assign w e) after = refl
 no_brace (Atomic w v at e) after = refl
 no_brace (If at l c r s) after = refl
 no_brace (IfElse at l c r s t) after = refl
-no_brace (For at w lo hi s) after = refl
+no_brace (For at w lo b s) after = refl
 no_brace (Async at cs s) after = refl
 no_brace (Finish s) after = refl
 no_brace (Call w at es) after = refl
@@ -378,7 +379,7 @@ no_else (Assign w e) after = refl
 no_else (Atomic w v at e) after = refl
 no_else (If at l c r s) after = refl
 no_else (IfElse at l c r s t) after = refl
-no_else (For at w lo hi s) after = refl
+no_else (For at w lo b s) after = refl
 no_else (Async at cs s) after = refl
 no_else (Finish s) after = refl
 no_else (Call w at es) after = refl
@@ -397,7 +398,7 @@ no_clocked (Assign w e) after = refl
 no_clocked (Atomic w v at e) after = refl
 no_clocked (If at l c r s) after = refl
 no_clocked (IfElse at l c r s t) after = refl
-no_clocked (For at w lo hi s) after = refl
+no_clocked (For at w lo b s) after = refl
 no_clocked (Async at cs s) after = refl
 no_clocked (Finish s) after = refl
 no_clocked (Call w at es) after = refl
@@ -487,10 +488,10 @@ condition_head : (d at : ℕ) (l : Expression) (c : Comparison) (r : Expression)
 unfolding stmt_head_at bind
 condition_head d at l c r after fl fr = condition_again d at l c r after fl fr
 
-range_head : (d at : ℕ) (w : Word) (lo hi : tree.Number) (after : List Mark) → IsNumber lo → IsNumber hi
-    → stmt_head_at d (head (Range at w lo hi) after) ≡ Some (Range at w lo hi, after)
+range_head : (d at : ℕ) (w : Word) (lo : tree.Number) (b : Bound) (after : List Mark) → IsNumber lo → BoundFits d b
+    → stmt_head_at d (head (Range at w lo b) after) ≡ Some (Range at w lo b, after)
 unfolding stmt_head_at bind
-range_head d at w lo hi after fl fh = range_again at w lo hi after fl fh
+range_head d at w lo b after fl fb = range_again d at w lo b after fl fb
 
 start_head : (d at : ℕ) (cs : Option Clocks) (after : List Mark) → ClocksFit cs → keyword_at keyword.Clocked after ≡ None
     → stmt_head_at d (head (Start at cs) after) ≡ Some (Start at cs, after)
@@ -521,10 +522,10 @@ unfolding rest_at else_at keyword_at bind
 else_rest d inner again at l c r s t after hs ht closed settles =
     rw (again s (Reserved keyword.Else ∷ stmt t after) hs (λ q. absurd (apart (dangles s) closed q)), again t after ht settles) refl
 
-for_rest : (d : ℕ) (inner : List Mark → Read) → Again d inner → (at : ℕ) (w : Word) (lo hi : tree.Number) (s : Statement) (after : List Mark) → Fits d s → Settles s after
-    → rest_at inner (Range at w lo hi) (stmt s after) ≡ Some (For at w lo hi s, after)
+for_rest : (d : ℕ) (inner : List Mark → Read) → Again d inner → (at : ℕ) (w : Word) (lo : tree.Number) (b : Bound) (s : Statement) (after : List Mark) → Fits d s
+    → Settles s after → rest_at inner (Range at w lo b) (stmt s after) ≡ Some (For at w lo b s, after)
 unfolding rest_at bind
-for_rest d inner again at w lo hi s after h settles = rw (again s after h settles) refl
+for_rest d inner again at w lo b s after h settles = rw (again s after h settles) refl
 
 async_rest : (d : ℕ) (inner : List Mark → Read) → Again d inner → (at : ℕ) (cs : Option Clocks) (s : Statement) (after : List Mark) → Fits d s → Settles s after
     → rest_at inner (Start at cs) (stmt s after) ≡ Some (Async at cs s, after)
@@ -553,10 +554,10 @@ stmt_again (suc d) (IfElse at l c r s t) rest h settles =
     let ts = stmt s (Reserved keyword.Else ∷ stmt t rest) in
     then_rest d (head (Condition at l c r) ts) ts (Condition at l c r) (IfElse at l c r s t, rest) (condition_head d at l c r ts h.0 h.1)
     (else_rest d (stmt_at d) (stmt_again d) at l c r s t rest h.2 h.3 h.4 settles)
-stmt_again (suc d) (For at w lo hi s) rest h settles =
+stmt_again (suc d) (For at w lo b s) rest h settles =
     let ts = stmt s rest in
-    then_rest d (head (Range at w lo hi) ts) ts (Range at w lo hi) (For at w lo hi s, rest) (range_head d at w lo hi ts h.0 h.1)
-    (for_rest d (stmt_at d) (stmt_again d) at w lo hi s rest h.2 settles)
+    then_rest d (head (Range at w lo b) ts) ts (Range at w lo b) (For at w lo b s, rest) (range_head d at w lo b ts h.0 h.1)
+    (for_rest d (stmt_at d) (stmt_again d) at w lo b s rest h.2 settles)
 stmt_again (suc d) (Async at cs s) rest h settles =
     let ts = stmt s rest in
     then_rest d (head (Start at cs) ts) ts (Start at cs) (Async at cs s, rest) (start_head d at cs ts h.0 (no_clocked s rest))

@@ -14,14 +14,14 @@ use Rattle.xk_tokens.specs.Pieces.{has_stray}
 use Rattle.xk_tokens.specs.Lexing.{lexed}
 use Rattle.xk_tokens.proofs.Texts.{spelled_lexed, spelled_from_none}
 use Rattle.xk_tree.specs.declared.tree.Number as tree
-use Rattle.xk_tree.specs.Tree.{Expression, Literal, Named, Paren, Negation, Binary, Make, Value, Statement, Statements, Done, More, Block, Empty, Declare, Assign, Atomic, If, IfElse, For, Async, Finish, Call, Resume, Drop, AdvanceAll, Print, TreeValue}
+use Rattle.xk_tree.specs.Tree.{Expression, Literal, Named, Paren, Negation, Binary, Make, Value, UpTo, Least, Statement, Statements, Done, More, Block, Empty, Declare, Assign, Atomic, If, IfElse, For, Async, Finish, Call, Resume, Drop, AdvanceAll, Print, TreeValue}
 use Rattle.xk_exprs.specs.Marks.{Mark, Name, Number, Operator, Open, Symbol, Reserved, AsyncAt, ClockAt, LongAt, Unfit, kind_mark, marks}
 use Rattle.xk_exprs.specs.declared.fault.SyntaxError.{SyntaxError}
 use Rattle.xk_exprs.specs.declared.fault.SyntaxError.TheVariants as error
 use Rattle.xk_exprs.specs.Faults.{front_error}
 use Rattle.xk_exprs.specs.Readers.{Refuses}
 use Rattle.xk_exprs.specs.Spelling.{spell, minus_marks, number_marks}
-use Rattle.xk_syntax.specs.Spelling.{word, number, expr, comparison_sign, type_mark, type_name, type_part, source, row, behind_comma, commas, clock_part, stmt, stmts, param, method, shared, program, lexeme_mark, token_mark, SpellsTree}
+use Rattle.xk_syntax.specs.Spelling.{word, number, expr, comparison_sign, type_mark, type_name, type_part, source, bound, row, behind_comma, commas, clock_part, stmt, stmts, param, method, shared, program, lexeme_mark, token_mark, SpellsTree}
 use Rattle.xk_syntax.specs.Texts.{IsRefused}
 use Rattle.xk_syntax.specs.Readers.{program_at}
 use Rattle.xk_syntax.proofs.Programs.{program_found, program_again}
@@ -89,6 +89,12 @@ source_clean : KeepsClean source
 source_clean (Make at v) after h = h
 source_clean (Value e) after h = expr_clean e after h
 
+bound_clean : KeepsClean bound
+bound_clean (UpTo n) after h = number_clean n after h
+bound_clean (Least x v e n) after h =
+    let close = Symbol sign.RightParen ∷ after in
+    expr_clean e (Symbol sign.Comma ∷ number n close) (number_clean n close h)
+
 row_clean : {T : Type 0} (f : T → List Mark → List Mark) → KeepsClean f → KeepsClean (row f)
 row_clean f k [] after h = h
 row_clean f k (x ∷ xs) after h = k x (row f xs after) (row_clean f k xs after h)
@@ -115,9 +121,9 @@ mutual
       let other = Reserved keyword.Else ∷ stmt t after in
       let body = Symbol sign.RightParen ∷ stmt s other in
       expr_clean l (Symbol (comparison_sign c) ∷ expr r body) (expr_clean r body (stmt_clean s other (stmt_clean t after h)))
-  stmt_clean (For at w lo hi s) after h =
+  stmt_clean (For at w lo b s) after h =
       let body = Symbol sign.RightParen ∷ stmt s after in
-      number_clean lo (Symbol sign.DotDot ∷ number hi body) (number_clean hi body (stmt_clean s after h))
+      number_clean lo (Symbol sign.DotDot ∷ bound b body) (bound_clean b body (stmt_clean s after h))
   stmt_clean (Async at cs s) after h = clocks_clean cs (stmt s after) (stmt_clean s after h)
   stmt_clean (Finish s) after h = stmt_clean s after h
   stmt_clean (Call w at es) after h = commas_clean expr expr_clean es (Symbol sign.RightParen ∷ Symbol sign.Semicolon ∷ after) h

@@ -19,10 +19,11 @@ use Rattle.xk_tree.specs.declared.tree.Binding.TheVariants as binding
 use Rattle.xk_tree.specs.declared.tree.TypeName.{TypeName}
 use Rattle.xk_tree.specs.declared.tree.Number as tree
 use Rattle.xk_tree.specs.declared.tree.Verb.{Verb}
-use Rattle.xk_tree.specs.Tree.{Word, Expression, Source, Make, Value, Clocks, Statement, listed, Block, Empty, Declare, Assign, Atomic, If, IfElse, For, Async, Finish, Call, Resume, Drop, AdvanceAll, Print, ParamValue, MethodValue, SharedValue, TreeValue}
+use Rattle.xk_tree.specs.Tree.{Word, Expression, Source, Make, Value, Bound, UpTo, Least, Clocks, Statement, listed, Block, Empty, Declare, Assign, Atomic, If, IfElse, For, Async, Finish, Call, Resume, Drop, AdvanceAll, Print, ParamValue, MethodValue, SharedValue, TreeValue}
 use Rattle.xk_exprs.specs.Marks.{Mark, Name, Operator, Open, Symbol, Reserved, AsyncAt, ClockAt, LongAt}
 use Rattle.xk_exprs.specs.Readers.{Turn, Fails, Stops, Goes, loop, head_at}
 use Rattle.xk_exprs.specs.Exprs.{number_at, whole_at, whole_term_at}
+use Rattle.xk_syntax.specs.Spelling.{hidden_text}
 
 -- first the one, then the other with what the one gave
 unfoldable pub bind : {A B : Type 0} → Option A → (A → Option B) → Option B
@@ -328,7 +329,7 @@ pub data Head : Type 0 where
   Whole : Statement → Head
   Brace : Head
   Condition : ℕ → Expression → Comparison → Expression → Head
-  Range : ℕ → Word → tree.Number → tree.Number → Head
+  Range : ℕ → Word → tree.Number → Bound → Head
   Start : ℕ → Option Clocks → Head
   Wait : Head
 
@@ -349,16 +350,37 @@ condition_at d ts = do
   us ← sign_at sign.RightParen r.1
   Some (Condition at.0 l.0 c.0 r.0, us)
 
-unfoldable pub range_at : List Mark → ReadHead
-range_at ts = do
+-- behind `Math`, which stands at this offset, where so many levels are left behind the loop
+unfoldable pub least_at : ℕ → ℕ → List Mark → Option (Bound × List Mark)
+least_at d at ts = do
+  us ← sign_at sign.Dot ts
+  v ← verb_at (codes "min") us
+  e ← whole_at d v.1
+  vs ← sign_at sign.Comma e.1
+  n ← number_at vs
+  ws ← sign_at sign.RightParen n.1
+  Some (Least (record { at = at; text = hidden_text (suc d) }) v.0 e.0 n.0, ws)
+
+abbrev pub bound_or : ℕ → List Mark → Option (ℕ × List Mark) → Option (Bound × List Mark)
+bound_or d ts (Some at) = least_at d at.0 at.1
+bound_or d ts None = do
+  n ← number_at ts
+  Some (UpTo n.0, n.1)
+
+-- how far a loop goes: where `Math` comes, `Math.min(e, n)`, and else a number
+unfoldable pub bound_at : ℕ → List Mark → Option (Bound × List Mark)
+bound_at d ts = bound_or d ts (this_word_at (codes "Math") ts)
+
+unfoldable pub range_at : ℕ → List Mark → ReadHead
+range_at d ts = do
   at ← open_at ts
   w ← word_at at.1
   us ← keyword_at keyword.In w.1
   lo ← number_at us
   vs ← sign_at sign.DotDot lo.1
-  hi ← number_at vs
-  zs ← sign_at sign.RightParen hi.1
-  Some (Range at.0 w.0 lo.0 hi.0, zs)
+  b ← bound_at d vs
+  zs ← sign_at sign.RightParen b.1
+  Some (Range at.0 w.0 lo.0 b.0, zs)
 
 abbrev pub clocks_or : List Mark → Option (List Mark) → Option (Option Clocks × List Mark)
 clocks_or ts None = Some (None, ts)
@@ -380,7 +402,7 @@ start_at at ts = do
 abbrev pub head_by : ℕ → List Mark → Mark → List Mark → ReadHead
 head_by d all (Symbol sign.LeftBrace) ts = Some (Brace, ts)
 head_by d all (Reserved keyword.If) ts = condition_at d ts
-head_by d all (Reserved keyword.For) ts = range_at ts
+head_by d all (Reserved keyword.For) ts = range_at d ts
 head_by d all (AsyncAt at) ts = start_at at ts
 head_by d all (Reserved keyword.Finish) ts = Some (Wait, ts)
 head_by d all _ ts = whole (flat_at d all)
@@ -427,9 +449,9 @@ rest_at inner Brace ts = do
 rest_at inner (Condition at l c r) ts = do
   s ← inner ts
   else_at inner at l c r s.0 s.1
-rest_at inner (Range at w lo hi) ts = do
+rest_at inner (Range at w lo b) ts = do
   s ← inner ts
-  Some (For at w lo hi s.0, s.1)
+  Some (For at w lo b s.0, s.1)
 rest_at inner (Start at cs) ts = do
   s ← inner ts
   Some (Async at cs s.0, s.1)

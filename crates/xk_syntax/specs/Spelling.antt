@@ -1,5 +1,5 @@
 -- How statements, methods and programs are spelled, and which of them are within the limits. Grammar and limits are this project's own.
-use Rattle.std.specs.Prelude.{◌≡◌, ◌≢◌, ℕ, zero, suc, ◌≤◌, Bool, true, false, List, [], ◌∷◌, ◌++◌, length, map, Option, Some, None, codes}
+use Rattle.std.specs.Prelude.{◌≡◌, ◌≢◌, ℕ, zero, suc, ◌≤◌, min, Bool, true, false, List, [], ◌∷◌, ◌++◌, length, map, replicate, Option, Some, None, codes}
 use Rattle.std.specs.List.{AllByRecursion}
 use Rattle.xk_types.specs.declared.instr.Comparison.{Comparison}
 use Rattle.xk_types.specs.declared.instr.Comparison.TheVariants as comparison
@@ -18,7 +18,7 @@ use Rattle.xk_tree.specs.declared.tree.Binding.TheVariants as binding
 use Rattle.xk_tree.specs.declared.tree.TypeName.{TypeName}
 use Rattle.xk_tree.specs.declared.tree.Number as tree
 use Rattle.xk_tree.specs.declared.tree.Verb.{Verb}
-use Rattle.xk_tree.specs.Tree.{Word, Expression, Source, Make, Value, Clocks, Statement, Statements, Done, More, Block, Empty, Declare, Assign, Atomic, If, IfElse, For, Async, Finish, Call, Resume, Drop, AdvanceAll, Print, ParamValue, MethodValue, SharedValue, TreeValue}
+use Rattle.xk_tree.specs.Tree.{Word, Expression, Source, Make, Value, Bound, UpTo, Least, Clocks, Statement, Statements, Done, More, Block, Empty, Declare, Assign, Atomic, If, IfElse, For, Async, Finish, Call, Resume, Drop, AdvanceAll, Print, ParamValue, MethodValue, SharedValue, TreeValue}
 use Rattle.xk_exprs.specs.Marks.{Mark, Name, Number, Operator, Open, Symbol, Reserved, AsyncAt, ClockAt, LongAt, Unfit, sign_mark, keyword_mark}
 use Rattle.xk_exprs.specs.Spelling.{spell, number_marks, IsNumber, Spells, SpellsTerm}
 
@@ -65,6 +65,11 @@ abbrev pub source : Source → List Mark → List Mark
 source (Make at v) after = ClockAt at ∷ Symbol sign.Dot ∷ verb (codes "make") v (Symbol sign.RightParen ∷ after)
 source (Value e) after = expr e after
 
+-- how far a loop goes: a number, or `Math.min(e, n)`
+abbrev pub bound : Bound → List Mark → List Mark
+bound (UpTo n) after = number n after
+bound (Least x v e n) after = Name x.at (codes "Math") ∷ Symbol sign.Dot ∷ verb (codes "min") v (expr e (Symbol sign.Comma ∷ number n (Symbol sign.RightParen ∷ after)))
+
 -- one after another
 abbrev pub row : {T : Type 0} → (T → List Mark → List Mark) → List T → List Mark → List Mark
 row f [] after = after
@@ -92,7 +97,7 @@ abbrev mutual
   stmt (If at l c r s) after = Reserved keyword.If ∷ Open at ∷ expr l (Symbol (comparison_sign c) ∷ expr r (Symbol sign.RightParen ∷ stmt s after))
   stmt (IfElse at l c r s t) after = Reserved keyword.If ∷ Open at ∷ expr l (Symbol (comparison_sign c) ∷ expr r
       (Symbol sign.RightParen ∷ stmt s (Reserved keyword.Else ∷ stmt t after)))
-  stmt (For at w lo hi s) after = Reserved keyword.For ∷ Open at ∷ word w (Reserved keyword.In ∷ number lo (Symbol sign.DotDot ∷ number hi (Symbol sign.RightParen ∷ stmt s after)))
+  stmt (For at w lo b s) after = Reserved keyword.For ∷ Open at ∷ word w (Reserved keyword.In ∷ number lo (Symbol sign.DotDot ∷ bound b (Symbol sign.RightParen ∷ stmt s after)))
   stmt (Async at cs s) after = AsyncAt at ∷ clock_part cs (stmt s after)
   stmt (Finish s) after = Reserved keyword.Finish ∷ stmt s after
   stmt (Call w at es) after = word w (Open at ∷ commas expr es (Symbol sign.RightParen ∷ Symbol sign.Semicolon ∷ after))
@@ -133,7 +138,7 @@ IsTerm d e = SpellsTerm d (spell e) e
 abbrev pub dangles : Statement → Bool
 dangles (If at l c r s) = true
 dangles (IfElse at l c r s t) = dangles t
-dangles (For at w lo hi s) = dangles s
+dangles (For at w lo b s) = dangles s
 dangles (Async at cs s) = dangles s
 dangles (Finish s) = dangles s
 dangles _ = false
@@ -142,13 +147,24 @@ abbrev pub SourceFits : ℕ → Source → Type 0
 SourceFits d (Make at v) = Unit {0}
 SourceFits d (Value e) = IsExpr d e
 
+-- The letters of a name that stands for what a text has no name for: as many spaces as levels are left for the statement that needs it, itself among
+-- them. No token has such letters, and of statements in one another each has others. A method has 64 levels.
+abbrev pub hidden_text : ℕ → List ℕ
+hidden_text d = replicate (min d 64) 32
+
+-- where so many levels are left behind the loop
+abbrev pub BoundFits : ℕ → Bound → Type 0
+BoundFits d (UpTo n) = IsNumber n
+BoundFits d (Least x v e n) = (x.text ≡ hidden_text (suc d)) × IsExpr d e × IsNumber n
+
 abbrev pub ClocksFit : Option Clocks → Type 0
 ClocksFit None = Unit {0}
 ClocksFit (Some cs) = cs.names ≢ []
 
 abbrev mutual
   -- A statement fits where so many statements, parentheses and negations may still be in one another: its expressions and numbers are
-  -- within their limits, a list of clocks isn't empty, what is added by an `atomic` is a term, and an `else` belongs to the nearest `if`.
+  -- within their limits, a list of clocks isn't empty, what is added by an `atomic` is a term, an `else` belongs to the nearest `if`, and the
+  -- name of a loop's limit is the hidden one of its level.
   pub Fits : ℕ → Statement → Type 0
   Fits zero s = ⊥
   Fits (suc d) (Block ss) = AllFit d ss
@@ -158,7 +174,7 @@ abbrev mutual
   Fits (suc d) (Atomic w v at e) = IsTerm d e
   Fits (suc d) (If at l c r s) = IsExpr d l × IsExpr d r × Fits d s
   Fits (suc d) (IfElse at l c r s t) = IsExpr d l × IsExpr d r × Fits d s × Fits d t × (dangles s ≡ false)
-  Fits (suc d) (For at w lo hi s) = IsNumber lo × IsNumber hi × Fits d s
+  Fits (suc d) (For at w lo b s) = IsNumber lo × BoundFits d b × Fits d s
   Fits (suc d) (Async at cs s) = ClocksFit cs × Fits d s
   Fits (suc d) (Finish s) = Fits d s
   Fits (suc d) (Call w at es) = AllByRecursion (IsExpr d) es

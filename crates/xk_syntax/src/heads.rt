@@ -6,6 +6,7 @@ ghost use Rattle.xk_exprs.specs.Readers.{Gives};
 ghost use Rattle.xk_syntax.specs.Readers.{whole, condition_at, range_at, clocks_at, start_at, flat_at, stmt_head_at};
 ghost use Rattle.xk_syntax.specs.Views.{head_value, clocks_value};
 
+use crate::bounds::bound;
 use crate::lists::names;
 use crate::parts::{after_keyword, comparison, name, need_keyword, need_open, need_sign};
 use crate::simple::{advance_all, atomic, declaration, named, print};
@@ -13,7 +14,7 @@ use std::alloc::Global;
 use xk_exprs::parts::{next, unexpected};
 use xk_exprs::{SyntaxError, read_expr, read_number};
 use xk_tokens::{Keyword, Kind, Sign, Token};
-use xk_tree::{Binding, ClockList, Expr, Name, Number, Stmt};
+use xk_tree::{Binding, Bound, ClockList, Expr, Name, Number, Stmt};
 use xk_types::Comparison;
 
 /// A statement up to the statement that it holds, or up to the statements.
@@ -26,7 +27,7 @@ pub(crate) enum Head<'t> {
     /// `if (l op r)`, with the offset of its `(`.
     Condition(usize, Expr<'t>, Comparison, Expr<'t>),
     /// `for (i in a..b)`, with the offset of its `(`.
-    Range(usize, Name<'t>, Number, Number),
+    Range(usize, Name<'t>, Number, Bound<'t>),
     /// `async`, with its offset, and a list of clocks.
     Start(usize, Option<ClockList<'t>>),
     /// `finish`
@@ -55,19 +56,22 @@ fn condition<'s, 't>(
 /// A `for`, behind that word, up to its statement.
 #[tactic(auto, unfolding(crate::specs::Readers::bind, crate::specs::Readers::range_at))]
 fn range<'s, 't>(
+    alloc: Global,
+    levels: u32,
     tokens: &'s [Token<'t>],
     end: usize,
 ) -> Result<(Head<'t>, &'s [Token<'t>]), SyntaxError>
-    ensures { Gives (λ x. (head_value x.0, marks x.1.now)) result (range_at (marks tokens.now)) }
+    ensures { Gives (λ x. (head_value x.0, marks x.1.now)) result
+        (range_at levels (marks tokens.now)) }
 {
     let (paren, rest) = need_open(tokens, end)?;
     let (name, rest) = name(rest, end)?;
     let rest = need_keyword(Keyword::In, rest, end)?;
     let (lo, rest) = read_number(rest, end)?;
     let rest = need_sign(Sign::DotDot, rest, end)?;
-    let (hi, rest) = read_number(rest, end)?;
+    let (bound, rest) = bound(alloc, levels, rest, end)?;
     let rest = need_sign(Sign::RightParen, rest, end)?;
-    Ok((Head::Range(paren, name, lo, hi), rest))
+    Ok((Head::Range(paren, name, lo, bound), rest))
 }
 
 /// A `clocked` list, if there is one.
@@ -174,7 +178,7 @@ pub(crate) fn stmt_head<'s, 't>(
         },
         Kind::Keyword(word) => match word {
             Keyword::If => condition(alloc, levels, rest, end),
-            Keyword::For => range(rest, end),
+            Keyword::For => range(alloc, levels, rest, end),
             Keyword::Async => start(alloc, token.at, rest, end),
             Keyword::Finish => Ok((Head::Wait, rest)),
             _ => whole(alloc, levels, tokens, end),

@@ -1,7 +1,9 @@
 //! Source texts to trees.
 #![tactic(auto)]
 
+mod bounds;
 mod heads;
+mod hidden;
 pub mod laws;
 mod lists;
 mod parts;

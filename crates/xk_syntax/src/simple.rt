@@ -18,7 +18,7 @@ use xk_tree::{Binding, Name, Right, Stmt, TypeName, Verb};
 
 /// `word (`.
 #[tactic(auto, unfolding(crate::specs::Readers::bind, crate::specs::Readers::verb_at))]
-fn verb<'s, 't>(
+pub(crate) fn verb<'s, 't>(
     text: &[u8],
     tokens: &'s [Token<'t>],
     end: usize,

@@ -1,7 +1,7 @@
 //! Statements, by recursive descent.
 
 ghost use Rattle.std.specs.Prelude.{◌≡◌, [], map};
-ghost use Rattle.xk_tree.specs.Tree.{expression, statement, word};
+ghost use Rattle.xk_tree.specs.Tree.{bound, expression, statement, word};
 ghost use Rattle.xk_exprs.specs.Marks.{marks};
 ghost use Rattle.xk_exprs.specs.Readers.{Gives};
 ghost use Rattle.xk_syntax.specs.Readers.{Brace, Condition, Range, Start, Wait, stmts_at, else_at, rest_at, stmt_at};
@@ -13,7 +13,7 @@ use std::alloc::Global;
 use xk_exprs::parts::{next, unexpected};
 use xk_exprs::{SyntaxError, SyntaxFault, SyntaxRule};
 use xk_tokens::{Keyword, Kind, Sign, Token};
-use xk_tree::{ClockList, Expr, Name, Number, Stmt};
+use xk_tree::{Bound, ClockList, Expr, Name, Number, Stmt};
 use xk_types::Comparison;
 
 /// Whether a statement can begin with a token of this kind.
@@ -173,15 +173,16 @@ fn for_stmt<'s, 't>(
     paren: usize,
     name: Name<'t>,
     lo: Number,
-    hi: Number,
+    reach: Bound<'t>,
     tokens: &'s [Token<'t>],
     end: usize,
 ) -> Result<(Stmt<'t>, &'s [Token<'t>]), SyntaxError>
     ensures { Gives (λ x. (statement x.0, marks x.1.now)) result
-        (rest_at (stmt_at levels) (Range paren (word name.entry) lo hi) (marks tokens.now)) }
+        (rest_at (stmt_at levels) (Range paren (word name.entry) lo (bound reach.entry))
+        (marks tokens.now)) }
 {
     let (stmt, rest) = boxed_stmt(alloc, levels, tokens, end)?;
-    Ok((Stmt::For(paren, name, lo, hi, stmt), rest))
+    Ok((Stmt::For(paren, name, lo, reach, stmt), rest))
 }
 
 /// The rest of an `async`, behind its list of clocks.
@@ -237,8 +238,8 @@ fn rest_of<'s, 't>(
         Head::Condition(paren, left, comparison, right) => {
             if_stmt(alloc, levels, paren, left, comparison, right, tokens, end)
         }
-        Head::Range(paren, name, lo, hi) => for_stmt(
-            alloc, levels, paren, name, lo, hi, tokens, end,
+        Head::Range(paren, name, lo, reach) => for_stmt(
+            alloc, levels, paren, name, lo, reach, tokens, end,
         ),
         Head::Start(at, clocks) => async_stmt(alloc, levels, at, clocks, tokens, end),
         Head::Wait => finish_stmt(alloc, levels, tokens, end),
