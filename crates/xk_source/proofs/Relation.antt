@@ -168,6 +168,11 @@ pub record StandAll (w : Whole) (t : ℕ) (code : List Instr) (scope : Scope) (n
   pub proper : IsProper scope n
   pub room : n + count_all ss ≤ t
 
+-- the name of a loop's limit, if it has one
+abbrev pub limit_of : Bound → Option Word
+limit_of (UpTo hi) = None
+limit_of (Least x v e hi) = Some x
+
 -- the limit of a loop is in the slot of the name that it has in the source, or there is none
 abbrev pub IsLimit : Scope → Option Word → Option ℕ → Type 0
 IsLimit scope None None = ⊤

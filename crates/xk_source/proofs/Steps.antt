@@ -36,11 +36,11 @@ use Rattle.xk_code.specs.Covered.{IsFound, IsNew, IsKnown, IsKnownUnless, IsAssi
 use Rattle.xk_code.proofs.Covered.Tables.{is_same, none_new}
 use Rattle.xk_code.proofs.Scopes.{alone_before}
 use Rattle.xk_names.proofs.Agreement.{find_behind, or_entry}
-use Rattle.xk_source.specs.Source.{Todo, Do, Turn, Close, Names, named, Doing, SourceActivity, SourceWorld, SourceOutcome, alone, value_of, result_of, taken, unfolded, unfolded_all, left_with, knowing, declaring, storing, assigning, adding, limit_of, limited, looped, given_one, given, invoked, invoking, handed, begun, starting, closed, over, continued, source_by, source_of, source_step}
+use Rattle.xk_source.specs.Source.{Todo, Do, Turn, Close, Names, named, Doing, SourceActivity, SourceWorld, SourceOutcome, alone, value_of, result_of, taken, unfolded, unfolded_all, left_with, knowing, declaring, storing, assigning, adding, limited, looped, given_one, given, invoked, invoking, handed, begun, starting, closed, over, continued, source_by, source_of, source_step}
 use Rattle.xk_source.proofs.Exec.{IsStraight, AreStraight, straight_back, last_straight, number_there, number_is, number_held, number_at, then_on, put_by, put_at, exec1, exec, exec_join, exec_parts, exec_one, then_parts, put_parts, op_parts, sub_parts, number_written, other_written, ComesTo, some_there, name_held, IsBelow, IsMatched, below_more, still_matched, eval_keeps, eval_gives, both_keeps, both_gives, args_keep, behind_least, slot_most, slot_behind, into_keeps, into_gives, slot_found}
 use Rattle.xk_source.proofs.Pairs.{Pairs, pair_at, pairs_length}
 use Rattle.xk_source.proofs.Worlds.{IsAlike, AreRelated, Follows, both_move, both_write, both_make, both_start, one_moves, waits_alike, Together, together_at, IsKin, AreKin, awaits_kin, pairs_weaker}
-use Rattle.xk_source.proofs.Relation.{HoldsAt, Along, holds_front, holds_back, IsWithin, push_proper, more_proper, Whole, Stands, StandsTurn, Here, Rest, rest_wider, rest_jump, rest_here, IsSimple, IsLimit, IsProper, push_within, push_proper, loop_within, loop_proper, rest_scope, before_straight, code_split, matched_push, matched_name, matched_set}
+use Rattle.xk_source.proofs.Relation.{HoldsAt, Along, holds_front, holds_back, IsWithin, push_proper, more_proper, Whole, Stands, StandsTurn, Here, Rest, rest_wider, rest_jump, rest_here, IsSimple, limit_of, IsLimit, IsProper, push_within, push_proper, loop_within, loop_proper, rest_scope, before_straight, code_split, matched_push, matched_name, matched_set}
 use Rattle.xk_source.proofs.Begins.{AreBuilt, AreKnown, known_named, matched_known, unit_rest}
 
 -- ---- the relation

@@ -6,9 +6,9 @@
 -- Clocks, finishes, shared numbers, what is wrong and the end of a step are those of a module's world; only what an activity has in progress
 -- differs: here it is the statements that are left, and what names stand for.
 -- This project's own rules: a step does one statement, with its expressions, or ends a turn of a loop, a finish, a call or an activity; a block,
--- a `;` and a loop that takes no turn have no step of their own; what a loop's limit comes to is
--- taken once, before its first turn; a shared number is read, written or added to in one step; `advanceAll` is
--- two steps; a new activity knows the names of its starter, with what they stand for then.
+-- a `;` and a loop whose two numbers leave it no turn have no step of their own; what the limit of a loop comes to is taken once, before its
+-- first turn; a shared number is read, written or added to in one step; `advanceAll` is two steps; a new activity knows the names of its
+-- starter, with what they stand for then.
 use Rattle.std.specs.Prelude.{ℕ, zero, suc, ℤ, pos, ◌+ℤ◌, int_lt, int_le, ◌+◌, List, [], ◌∷◌, ◌++◌, map, length, codes, Option, Some, None, slice_get, slice_set, if◌then◌else◌}
 use Rattle.std.specs.Int.{w64, int_min, int_wrapping_add, int_wrapping_sub, int_wrapping_mul}
 use Rattle.std.specs.Option.{option_map_or}
@@ -191,17 +191,12 @@ starting w a act rest body clocks =
 
 -- ---- loops
 
--- the name of a loop's limit, if it has one
-abbrev pub limit_of : Bound → Option Word
-limit_of (UpTo hi) = None
-limit_of (Least x v e hi) = Some x
-
 -- a bound, and no further than the number that the name stands for, if there is one
 abbrev pub limited : Names → Option Word → ℤ → (ℤ → SourceOutcome) → SourceOutcome
 limited names None hi go = go hi
 limited names (Some x) hi go = number_in (value_of names x) (λ n. go (int_min n hi))
 
--- A loop has its first turn, if it has one. The name of its limit stands for what that comes to from then on.
+-- A loop has its first turn, if it has one. What its limit comes to is taken here alone: the limit's name stands for it from then on.
 abbrev pub looped : SourceWorld → ℕ → SourceActivity → List Todo → Word → ℤ → Bound → Statement → SourceOutcome
 looped w a act rest i lo (UpTo hi) s = done w a (knowing act (unfolded s ++ Turn i None hi.value s ∷ rest) i (value.Number lo)) none event.Local
 looped w a act rest i lo (Least x v e hi) s = taken act.frame.names e (λ n.
