@@ -6,7 +6,7 @@ use Rattle.std.proofs.lemmas.List.{length-map}
 use Rattle.std.proofs.lemmas.Option.{slice_get_within}
 use Rattle.xk_types.specs.Code.{UnitValue, ModuleValue}
 use Rattle.xk_tree.specs.Bodies.{HasBodiesApart}
-use Rattle.xk_tree.specs.Tree.{Word, Expression, Statement, Statements, Done, More, Block, Empty, Declare, Assign, Atomic, If, IfElse, For, top, Async, Finish, Call, Resume, Drop, AdvanceAll, Print, MethodValue, SharedValue, TreeValue}
+use Rattle.xk_tree.specs.Tree.{Word, Expression, Statement, Statements, Done, More, Block, Empty, Declare, Assign, Atomic, If, IfElse, For, Async, Finish, Call, Resume, Drop, AdvanceAll, Print, MethodValue, SharedValue, TreeValue}
 use Rattle.xk_names.specs.Scope.{Has, find, is_text}
 use Rattle.xk_names.specs.Scoped.{IsScoped}
 use Rattle.xk_names.proofs.Among.{has_left, has_right}
@@ -16,7 +16,7 @@ use Rattle.xk_code.proofs.Covered.Tables.{is_same}
 use Rattle.xk_source.specs.Parts.{Part, OfMethod, OfBody, Run, Calls, Starts, bodies, bodies_all, runs, runs_all}
 use Rattle.xk_source.specs.Compiled.{HasLater, IsCompiled, method_kind, shared_among, unit_of_part, unit_number}
 use Rattle.xk_source.proofs.Units.Among.{Fits, fits_there}
-use Rattle.xk_source.proofs.Units.Apart.{one_method, signed}
+use Rattle.xk_source.proofs.Units.Apart.{one_method}
 use Rattle.xk_source.proofs.Units.Stands.{part_of}
 use Rattle.xk_source.proofs.Units.Settled.{AreSettled, AreParts, body_unit_of}
 use Rattle.xk_source.proofs.Units.Covered.{unit_parts, method_there, body_there}

@@ -18,7 +18,7 @@ use Rattle.xk_types.specs.declared.names.Event.{Event}
 use Rattle.xk_types.specs.declared.names.Event.TheVariants as event
 use Rattle.xk_types.specs.declared.unit.ParamKind.{ParamKind}
 use Rattle.xk_types.specs.declared.unit.ParamKind.TheVariants as param
-use Rattle.xk_types.specs.Code.{UnitValue, compares, is_method, is_body, Loop, loop_head}
+use Rattle.xk_types.specs.Code.{UnitValue, compares, is_method, is_body, loop_head}
 use Rattle.xk_types.specs.World.{Frame, Finish as Governor, Activity, Clock, World, standing_of, instruction_at, frame_with, slots_of}
 use Rattle.xk_types.specs.Step.{Outcome, Blocked, Wrong, Stepped, OutOfRange, ClockUse, done, none, only, all, resumed, dropped, passed, onward, going, with_slots, arrived, ended, past, slot_at, number_in, clock_in, registered_on, is_registered, put_in, writing, cell_in, stored, computing, no_further, turning, again, entered, left, closing, returning, back_in, awaits, innermost, waits, passing, called, calling, child, spawning, arguments_in, is_given, names_clock, settled, joined, carried_out, run_at, step_by, step_of, step}
 use Rattle.xk_types.proofs.Lists.{fun_ext, get-set_other}

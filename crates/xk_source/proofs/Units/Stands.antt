@@ -1,9 +1,8 @@
 -- In a tree without faults of names each body of `async` stands at a place that sees what its code needs.
-use Rattle.std.proofs.Common.{◌≡◌, inl, inr, ℕ, Bool, true, false, cond, List, [], ◌∷◌, ◌++◌, length, Option, Some, refl, sym, ap, ◌∙◌, subst, append-nil}
+use Rattle.std.proofs.Common.{◌≡◌, inl, inr, ℕ, Bool, true, false, cond, List, [], ◌∷◌, length, Option, Some, refl, sym, ap, ◌∙◌, subst, append-nil}
 use Rattle.std.specs.Prelude.{is_some, option_map}
 use Rattle.xk_tree.specs.Tree.{Clocks, Statement, Statements, Done, More, Block, If, IfElse, For, Async, Finish, TreeValue}
 use Rattle.xk_names.specs.declared.known.Known.{Known}
-use Rattle.xk_names.specs.declared.known.Kind.TheVariants as kind
 use Rattle.xk_names.specs.declared.known.Want.TheVariants as want
 use Rattle.xk_names.specs.Scope.{Scope as Seen, Table, Has, find, is_text}
 use Rattle.xk_names.specs.Uses.{Signatures, signatures, use_as, declares, clocks_listed}
