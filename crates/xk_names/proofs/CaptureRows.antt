@@ -6,7 +6,7 @@ use Rattle.xk_tree.specs.declared.tree.Number.{Number}
 use Rattle.xk_tree.specs.declared.tree.Operator.TheVariants as operator
 use Rattle.xk_tree.specs.declared.tree.Binding.TheVariants as binding
 use Rattle.xk_tree.specs.declared.tree.Verb.{Verb}
-use Rattle.xk_tree.specs.Tree.{Word, Expression, Named, Binary, Value, UpTo, Statement, Done, More, Block, Declare, Assign, Atomic, For, Async, Call, Print}
+use Rattle.xk_tree.specs.Tree.{Word, Expression, Named, Binary, Value, UpTo, Least, Statement, Done, More, Block, Declare, Assign, Atomic, For, Async, Call, Print}
 use Rattle.xk_names.specs.Uses.{Signatures}
 use Rattle.xk_names.specs.Captures.{captures}
 
@@ -76,6 +76,11 @@ out_of_scope = refl
 loop_name : taken (Block (More (For 0 z (number 2) (UpTo (number 1)) (print (Binary operator.Plus (Named z) 0 (Named x)))) (More (print (Named z)) Done)))
     ≡ codes "x" ∷ codes "z" ∷ []
 loop_name = refl
+
+-- `for (z in 1..Math.min(z + x, 2)) println(z + y);`: a loop's name isn't visible in its bound, so that another `z` is taken there
+limit_words : taken (For 0 z (number 1) (Least (record { at = 0; text = codes " " }) verb (Binary operator.Plus (Named z) 0 (Named x)) (number 2))
+    (print (Binary operator.Plus (Named z) 0 (Named y)))) ≡ codes "z" ∷ codes "x" ∷ codes "y" ∷ []
+limit_words = refl
 
 -- `{ m(c, x); async clocked(c) m(c, y); }`: clocks stand in lists
 clocks_not : taken (Block (More (Call m 0 (Named c ∷ Named x ∷ [])) (More (async (c ∷ []) (Call m 0 (Named c ∷ Named y ∷ []))) Done))) ≡ codes "x" ∷ codes "y" ∷ []

@@ -6,7 +6,7 @@ use Rattle.xk_types.specs.declared.unit.ParamKind.TheVariants as param
 use Rattle.xk_tree.specs.declared.fault.FrontRule.TheVariants as rule
 use Rattle.xk_tree.specs.declared.tree.Binding.TheVariants as binding
 use Rattle.xk_tree.specs.declared.tree.Verb.{Verb}
-use Rattle.xk_tree.specs.Tree.{Word, Clocks, Expression, Literal, Named, Paren, Make, Value, ParamValue, MethodValue, SharedValue, TreeValue, Statement, Statements, Done, More, Block, Declare, Assign, Async, Call, Resume, Print}
+use Rattle.xk_tree.specs.Tree.{Word, Clocks, Expression, Literal, Named, Paren, Make, Value, Least, ParamValue, MethodValue, SharedValue, TreeValue, Statement, Statements, Done, More, Block, Empty, Declare, Assign, For, Async, Call, Resume, Print}
 use Rattle.xk_names.specs.declared.known.Kind.TheVariants as kind
 use Rattle.xk_names.specs.declared.known.Want.TheVariants as want
 use Rattle.xk_names.specs.Scope.{known}
@@ -109,6 +109,31 @@ ended_scope = InBody (main ended_body) (inl refl) (record {
   statement = Print 28 (verb 40) (Named (x 48));
   stands = refl;
   breaks = NotVisible (use_as want.Number (x 48)) (inl refl) refl refl;
+})
+
+-- `for (x in 1..Math.min(x, 2)) ;`: a loop's name isn't visible in its bound
+abbrev limited : Word → Statement
+limited limit = For 14 (x 15) (record { minus = None; at = 20; value = pos 1 }) (Least limit (record { at = 28; paren = 31 }) (Named (x 32))
+    (record { minus = None; at = 34; value = pos 2 })) Empty
+
+abbrev in_main : Statement → MethodValue
+in_main s = main (More s Done)
+
+not_in_its_bound : HasNameFault (program [] (in_main (limited (named 23 (codes " "))) ∷ [])) (fault rule.UnknownName 32)
+not_in_its_bound = InBody (in_main (limited (named 23 (codes " ")))) (inl refl) (record {
+  way = First Here;
+  statement = limited (named 23 (codes " "));
+  stands = refl;
+  breaks = NotVisible (use_as want.Number (x 32)) (inl refl) refl refl;
+})
+
+-- a tree that no text spells: the limit has the loop's own name
+limit_named_so : HasNameFault (program [] (in_main (limited (x 23)) ∷ [])) (fault rule.WrongKind 23)
+limit_named_so = InBody (in_main (limited (x 23))) (inl refl) (record {
+  way = First Here;
+  statement = limited (x 23);
+  stands = refl;
+  breaks = Misfit 23 (inl refl) refl;
 })
 
 -- `shared s = 0; shared t = 0; def main() { s = t; }`

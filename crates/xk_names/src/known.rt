@@ -1,7 +1,7 @@
 //! What is known of a name, and what is wanted of it.
 
 /// What a name stands for.
-#[derive(Clone, Copy, Debug, PartialEq, Eq)]
+#[derive(Clone, Copy)]
 pub enum Kind {
     /// A shared number.
     Shared,
@@ -14,7 +14,7 @@ pub enum Kind {
 }
 
 /// What is known of a name that is visible.
-#[derive(Clone, Copy, Debug, PartialEq, Eq)]
+#[derive(Clone, Copy)]
 pub struct Known {
     /// What it stands for.
     pub kind: Kind,
@@ -23,7 +23,7 @@ pub struct Known {
 }
 
 /// What the place wants where a name is used.
-#[derive(Clone, Copy, Debug, PartialEq, Eq)]
+#[derive(Clone, Copy)]
 pub enum Want {
     /// A number of the activity's own.
     Number,

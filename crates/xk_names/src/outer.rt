@@ -71,6 +71,7 @@ fn take_right<'t>(own: &Texts<'t>, out: &mut Texts<'t>, r: &Right<'t>) -> Result
     }
 }
 
+// The numbers of a loop's bound.
 fn take_bound<'t>(own: &Texts<'t>, out: &mut Texts<'t>, limit: &Bound<'t>) -> Result<(), AllocError>
     ensures { OnOk result (out.new ≡ put_texts out.old
         (words_besides own.now (bound_words (bound limit.now)))) }
@@ -81,7 +82,7 @@ fn take_bound<'t>(own: &Texts<'t>, out: &mut Texts<'t>, limit: &Bound<'t>) -> Re
     }
 }
 
-// The names of a loop are declared within.
+// Adds the names that a loop declares.
 fn put_loop<'t>(own: &mut Texts<'t>, x: Name<'t>, limit: &Bound<'t>) -> Result<(), AllocError>
     ensures { OnOk result (own.new ≡ put_texts own.old
         (loop_words (word x.entry) (bound limit.now))) }

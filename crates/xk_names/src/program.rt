@@ -4,7 +4,7 @@ ghost use Rattle.std.specs.Prelude.{◌≡◌, ◌↔◌, [], ◌∷◌, Err, No
 ghost use Rattle.xk_tree.specs.Tree.{method_value, param_value, shared_value, tree_value, word};
 ghost use Rattle.std.specs.List.{flat_map, list_any};
 ghost use Rattle.xk_names.specs.Scope.{declared, find};
-ghost use Rattle.xk_names.specs.Faults.{HasFault, IsReported, param_declaration, param_kind, shared_declaration, MayBegin, wants_clock};
+ghost use Rattle.xk_names.specs.Faults.{HasFault, IsReported, MayBegin, param_declaration, param_kind, shared_declaration, wants_clock};
 ghost use Rattle.xk_names.specs.Scoped.{IsScoped};
 ghost use Rattle.xk_names.specs.Uses.{signatures};
 ghost use Rattle.xk_names.specs.Collected.{again, declared_again, least, method_faults, methods_again, name_faults, put_methods, with_declared};
@@ -185,7 +185,7 @@ fn least_within<'a, 't>(
 }
 
 // Whether a parameter takes a clock.
-fn is_clock(param: &Param<'_>) -> bool
+fn takes_clock(param: &Param<'_>) -> bool
     ensures { result ≡ wants_clock (param_value param.now) }
 {
     match param.takes.kind {
@@ -195,12 +195,12 @@ fn is_clock(param: &Param<'_>) -> bool
 }
 
 // Whether one of the parameters takes a clock.
-fn take_clock(params: &[Param<'_>]) -> bool
+fn any_takes_clock(params: &[Param<'_>]) -> bool
     ensures { result ≡ list_any wants_clock (map param_value params.now) }
 {
     match params.split_first() {
         None => false,
-        Some((param, rest)) => is_clock(param) || take_clock(rest),
+        Some((param, rest)) => takes_clock(param) || any_takes_clock(rest),
     }
 }
 
@@ -210,7 +210,7 @@ fn has_main<'t>(methods: &Methods<'_, 't>) -> bool
 {
     match methods.find(b"main") {
         None => false,
-        Some(params) => !take_clock(params),
+        Some(params) => !any_takes_clock(params),
     }
 }
 

@@ -125,8 +125,8 @@ fn check_atomic<'t>(
     note_if(x.text != y.text, worst, FrontRule::WrongKind, y.at);
 }
 
-// The names of a loop, and those of its bound.
-fn check_round<'t>(
+// The names that a loop declares, and those that its bound uses.
+fn check_range<'t>(
     worst: &mut Option<FrontFault>,
     scope: &Scope<'t>,
     x: Name<'t>,
@@ -218,7 +218,7 @@ pub fn check_own<'t>(
             Ok(())
         }
         Stmt::For(_, x, _, limit, _) => {
-            check_round(worst, scope, *x, limit);
+            check_range(worst, scope, *x, limit);
             Ok(())
         }
         Stmt::Async(_, clocks, _) => check_given(alloc, worst, scope, clocks),

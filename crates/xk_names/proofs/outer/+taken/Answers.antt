@@ -1,4 +1,4 @@
-use Rattle.std.proofs.Common.{◌∷◌, ◌++◌, map, option_map, sym, ◌∙◌, ap, arith}
+use Rattle.std.proofs.Common.{◌++◌, map, option_map, sym, ◌∙◌, ap, arith}
 use Rattle.std.proofs.lemmas.Result.{on_ok_weaker}
 use Rattle.xk_tree.specs.declared.tree.Stmt.{Stmt}
 use Rattle.xk_tree.specs.declared.tree.Stmt.TheVariants as stmt
