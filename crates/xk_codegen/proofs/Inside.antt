@@ -66,7 +66,7 @@ mutual
     | inl x ↦ held_left (callees s) (callees u) (asyncs s) (asyncs u) r (run_held s r x)
     | inr y ↦ held_right (callees s) (callees u) (asyncs s) (asyncs u) r (run_held u r y)
   ]
-  run_held (For p i lo hi s) r h = run_held s r (of_some (int_le lo.value (top hi)) (runs s) r h)
+  run_held (For p i lo b s) r h = run_held s r (of_some (int_le lo.value (top b)) (runs s) r h)
   run_held (Async a cs s) r (inl e) = subst (λ (q : Run). Held (callees s) (a ∷ asyncs s) q) (sym e) (inl refl)
   run_held (Async a cs s) r (inr h) = absurd h
   run_held (Finish s) r h = run_held s r h
@@ -106,7 +106,7 @@ mutual
     | inl x ↦ inside_left (callees s) (callees u) (asyncs s) (asyncs u) p (inside s p x)
     | inr y ↦ inside_right (callees s) (callees u) (asyncs s) (asyncs u) p (inside u p y)
   ]
-  inside (For a i lo hi s) p h = inside s p h
+  inside (For a i lo b s) p h = inside s p h
   inside (Async a cs s) p (inl e) = subst (IsInside (callees s) (a ∷ asyncs s)) (sym e)
       (inl refl, λ r x. held_right [] (callees s) (a ∷ []) (asyncs s) r x, λ rising. rising.0)
   inside (Async a cs s) p (inr h) = inside_right [] (callees s) (a ∷ []) (asyncs s) p (inside s p h)

@@ -125,8 +125,8 @@ impl<'t> Places<'t> {
                 self.add_runs(found, s)?;
                 self.add_runs(found, u)
             }
-            Stmt::For(_, _, lo, limit, s) => {
-                if lo.value <= limit.top() {
+            Stmt::For(_, _, lo, bound, s) => {
+                if lo.value <= bound.top() {
                     self.add_runs(found, s)
                 } else {
                     Ok(())

@@ -156,8 +156,8 @@ module _ (t : TreeValue) (scoped : IsScoped t) (units : List Part) (cx : Setting
       finds_units k s (λ p i. among p (has_left (bodies s) (bodies u) p i)) (λ r i. later r (has_left (runs s) (runs u) r i)),
       finds_units k u (λ p i. among p (has_right (bodies s) (bodies u) p i)) (λ r i. later r (has_right (runs s) (runs u) r i)),
     )
-    finds_units k (For at i lo hi s) among later =
-        λ turns. finds_units k s among (λ r j. later r (subst (λ (b : Bool). Has (cond b (runs s) []) r) (sym turns) j))
+    finds_units k (For at i lo b s) among later =
+        λ turns. finds_units k s among (λ r j. later r (subst (λ (c : Bool). Has (cond c (runs s) []) r) (sym turns) j))
     finds_units k (Async at cs s) among later = finds_body k at cs s (among (OfBody at cs s) (inl refl)) (later (Starts at) (inl refl))
     finds_units k (Finish s) among later = finds_units k s among later
     finds_units k (Call f at es) among later = finds_method k f (later (Calls f) (inl refl))
