@@ -1,5 +1,5 @@
 -- Names that are added to a list, and numbers of names.
-use Rattle.std.proofs.Common.{◌≡◌, ℕ, zero, suc, ◌+◌, Bool, true, false, cond, List, [], ◌∷◌, ◌++◌, map, Vec, Option, Some, None, refl, sym, ap, ◌∙◌, ◌<◌, length, get_or, drop, append_assoc, arith}
+use Rattle.std.proofs.Common.{◌≡◌, ℕ, zero, suc, Bool, true, false, cond, List, [], ◌∷◌, ◌++◌, map, Vec, Option, Some, None, refl, sym, ap, ◌∙◌, ◌<◌, length, get_or, drop, append_assoc, arith}
 use Rattle.std.specs.Prelude.{is_some}
 use Rattle.std.specs.declared.alloc.Global.{Global}
 use Rattle.std.specs.Cmp.Lexicographic.{bytes_decides}
