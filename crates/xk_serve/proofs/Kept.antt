@@ -50,6 +50,7 @@ kept_fails t bytes known logged (fault.Refused (refusal.Shape r)) e h = (h.0, (h
 kept_fails t bytes known logged (fault.Refused (refusal.Kind r)) e h = (h.0, (h.1.0, kept_gives t.form bytes known h.1.0 e h.1.1, h.1.2))
 kept_fails t bytes known logged (fault.Refused (refusal.Bound r)) e h = (h.0, (h.1.0, kept_gives t.form bytes known h.1.0 e h.1.1, h.1.2))
 kept_fails t bytes known logged (fault.Refused refusal.OutOfMemory) e h = absurd h
+kept_fails t bytes known logged (fault.Arguments wants has) e h = (h.0, kept_accepted t bytes known _ e h.1)
 kept_fails t bytes known logged (fault.Grammar line) e h = (h.0, kept_accepted t bytes known _ e h.1)
 kept_fails t bytes known logged fault.Truncated e h = (h.0, kept_accepted t bytes known _ e h.1)
 kept_fails t bytes known logged (fault.NotEnabled i) e h = (h.0, kept_accepted t bytes known _ e h.1)
@@ -79,6 +80,7 @@ pub kept_stands : (t : Task) (known logged : Option (List â„•)) (bytes : List â„
 kept_stands t known logged bytes n (fault.Text f) s e h = stands t known logged bytes n (fault.Text f) s h.0 e h.1
 kept_stands t known logged bytes n (fault.Front f) s e h = stands t known logged bytes n (fault.Front f) s h.0 e h.1
 kept_stands t known logged bytes n (fault.Refused r) s e h = stands t known logged bytes n (fault.Refused r) s h.0 e h.1
+kept_stands t known logged bytes n (fault.Arguments wants has) s e h = stands t known logged bytes n (fault.Arguments wants has) s h.0 e h.1
 kept_stands t known logged bytes n (fault.Grammar line) s e h = stands t known logged bytes n (fault.Grammar line) s h.0 e h.1
 kept_stands t known logged bytes n fault.Truncated s e h = stands t known logged bytes n fault.Truncated s h.0 e h.1
 kept_stands t known logged bytes n (fault.NotEnabled i) s e h = stands t known logged bytes n (fault.NotEnabled i) s h.0 e h.1

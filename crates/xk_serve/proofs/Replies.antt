@@ -23,6 +23,7 @@ against_bytes : (t : Task) (bytes logged : List ℕ) (known : Option (List ℕ))
 against_bytes t bytes logged known n (fault.Text f) e h not5 = subst (λ o. IfSome o (λ log. FailsBy t bytes log (fault.Text f))) e h.1
 against_bytes t bytes logged known n (fault.Front f) e h not5 = subst (λ o. IfSome o (λ log. FailsBy t bytes log (fault.Front f))) e h.1
 against_bytes t bytes logged known n (fault.Refused r) e h not5 = subst (λ o. IfSome o (λ log. FailsBy t bytes log (fault.Refused r))) e h.1
+against_bytes t bytes logged known n (fault.Arguments wants has) e h not5 = subst (λ o. IfSome o (λ log. FailsBy t bytes log (fault.Arguments wants has))) e h.1
 against_bytes t bytes logged known n (fault.Grammar line) e h not5 = subst (λ o. IfSome o (λ log. FailsBy t bytes log (fault.Grammar line))) e h.1
 against_bytes t bytes logged known n fault.Truncated e h not5 = subst (λ o. IfSome o (λ log. FailsBy t bytes log (fault.Truncated))) e h.1
 against_bytes t bytes logged known n (fault.NotEnabled i) e h not5 = subst (λ o. IfSome o (λ log. FailsBy t bytes log (fault.NotEnabled i))) e h.1
@@ -122,6 +123,7 @@ told_of : (t : Task) (bytes logged : List ℕ) (known : Option (List ℕ)) (n : 
 told_of t bytes logged known n (fault.Text f) e h = inr (subst (λ o. IfSome o (λ log. FailsBy t bytes log (fault.Text f))) e h.1)
 told_of t bytes logged known n (fault.Front f) e h = inr (subst (λ o. IfSome o (λ log. FailsBy t bytes log (fault.Front f))) e h.1)
 told_of t bytes logged known n (fault.Refused r) e h = inr (subst (λ o. IfSome o (λ log. FailsBy t bytes log (fault.Refused r))) e h.1)
+told_of t bytes logged known n (fault.Arguments wants has) e h = inr (subst (λ o. IfSome o (λ log. FailsBy t bytes log (fault.Arguments wants has))) e h.1)
 told_of t bytes logged known n (fault.Grammar line) e h = inr (subst (λ o. IfSome o (λ log. FailsBy t bytes log (fault.Grammar line))) e h.1)
 told_of t bytes logged known n fault.Truncated e h = inr (subst (λ o. IfSome o (λ log. FailsBy t bytes log (fault.Truncated))) e h.1)
 told_of t bytes logged known n (fault.NotEnabled i) e h = inr (subst (λ o. IfSome o (λ log. FailsBy t bytes log (fault.NotEnabled i))) e h.1)

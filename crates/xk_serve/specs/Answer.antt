@@ -1,7 +1,8 @@
 -- What the program answers: which status and texts a job and the bytes of its file may have. This project's own.
-use Rattle.std.specs.Prelude.{◌≡◌, ◌≢◌, ℕ, ⊤, ◌⊎◌, ℤ, Bool, true, false, List, [], Option, Some, None, is_some, option_map, unwrap_or, string_bytes}
+use Rattle.std.specs.Prelude.{◌≡◌, ◌≢◌, ℕ, ⊤, ◌⊎◌, ℤ, Bool, true, false, List, [], length, Option, Some, None, is_some, option_map, unwrap_or, string_bytes}
 use Rattle.serde_json.specs.Written.{compact_text}
-use Rattle.xk_types.specs.Code.{ModuleValue}
+use Rattle.xk_types.specs.Code.{ModuleValue, params_of}
+use Rattle.xk_types.specs.World.{AreArguments}
 use Rattle.xk_types.specs.Bound.{steps_bound, activities_bound, clocks_bound}
 use Rattle.xk_types.specs.Accepted.{IsAccepted}
 use Rattle.xk_words.specs.declared.job.Command.{Command}
@@ -36,6 +37,12 @@ pub data Doing : Type 0 where
   Replay : Doing
   Chart : Doing
 
+-- whether the module is run, and main given its arguments
+abbrev pub runs : Doing → Bool
+runs Check = false
+runs Compile = false
+runs _ = true
+
 -- whether a log is read
 abbrev pub reads_log : Doing → Bool
 reads_log Replay = true
@@ -54,55 +61,56 @@ doing_of (command.Run given path) = Run (way_given given) (is_some path)
 doing_of (command.Replay log) = Replay
 doing_of (command.Chart log) = Chart
 
--- what is to be done with a file, and what stands in it
+-- what is to be done with a file, what stands in it, and what main is given where it is run
 pub record Task : Type 0 where
   pub doing : Doing
   pub form : Form
+  pub arguments : List ℤ
 
 abbrev pub task_of : Job → Task
-task_of job = record { doing = doing_of job.command; form = job.form }
+task_of job = record { doing = doing_of job.command; form = job.form; arguments = job.arguments.items }
 
 -- these bytes are the text of a log of these entries
 abbrev pub IsLogText : List ℕ → List Entry → Type 0
 IsLogText bytes es = Says (Whole es) bytes
 
--- a whole run again, by the log in these bytes
-abbrev pub Replays : ModuleValue → List ℕ → List ℤ → ℕ → Type 0
-Replays m logged numbers steps = (es : List Entry) × IsLogText logged es × IsReplay m es numbers steps
+-- a whole run with these arguments again, by the log in these bytes
+abbrev pub Replays : ModuleValue → List ℤ → List ℕ → List ℤ → ℕ → Type 0
+Replays m args logged numbers steps = (es : List Entry) × IsLogText logged es × IsReplay m args es numbers steps
 
--- the chart of a whole run, by the log in these bytes
-abbrev pub Charts : ModuleValue → List ℕ → List ℕ → Type 0
-Charts m logged text = (es : List Entry) × IsLogText logged es × IsWholeRun m es × (text ≡ chart_text m es)
+-- the chart of a whole run with these arguments, by the log in these bytes
+abbrev pub Charts : ModuleValue → List ℤ → List ℕ → List ℕ → Type 0
+Charts m args logged text = (es : List Entry) × IsLogText logged es × IsWholeRun m args es × (text ≡ chart_text m args es)
 
--- What is to be done with a module, and with the bytes of a log where one is read, comes to this: for `compile` the text of the module; where
--- the module is accepted, for `check` its bounds, for `run` its run in the order, or, by workers, some run of it, for `replay` and `chart` the run
--- that the log has.
-abbrev pub ComesTo : Doing → ModuleValue → List ℕ → Done → Type 0
-ComesTo Compile m logged (done.Compiled text) = string_bytes text ≡ compact_text (module_value m)
-ComesTo Check m logged (done.Accepted steps activities clocks) =
+-- What is to be done with a module, whose main is given these arguments where it is run, and with the bytes of a log where one is read, comes
+-- to this: for `compile` the text of the module; where the module is accepted, for `check` its bounds, for `run` its run in the order, or, by
+-- workers, some run of it, for `replay` and `chart` the run that the log has.
+abbrev pub ComesTo : Doing → ModuleValue → List ℤ → List ℕ → Done → Type 0
+ComesTo Compile m args logged (done.Compiled text) = string_bytes text ≡ compact_text (module_value m)
+ComesTo Check m args logged (done.Accepted steps activities clocks) =
     IsAccepted m × (steps ≡ steps_bound m) × (activities ≡ activities_bound m) × (clocks ≡ clocks_bound m)
-ComesTo (Run (In o) false) m logged (done.Ended numbers steps None) = IsAccepted m × IsOrderedRun o m numbers.items steps
-ComesTo (Run (In o) true) m logged (done.Ended numbers steps (Some log)) = IsAccepted m × IsLoggedRun o m numbers.items steps log.items
-ComesTo (Run (By n) false) m logged (done.Ended numbers steps None) = IsAccepted m × IsSomeRun m numbers.items steps
-ComesTo (Run (By n) true) m logged (done.Ended numbers steps (Some log)) = IsAccepted m × IsReplay m log.items numbers.items steps
-ComesTo Replay m logged (done.Ended numbers steps None) = IsAccepted m × Replays m logged numbers.items steps
-ComesTo Chart m logged (done.Charted text) = IsAccepted m × Charts m logged (string_bytes text)
-ComesTo _ m logged _ = ⊥
+ComesTo (Run (In o) false) m args logged (done.Ended numbers steps None) = IsAccepted m × IsOrderedRun o m args numbers.items steps
+ComesTo (Run (In o) true) m args logged (done.Ended numbers steps (Some log)) = IsAccepted m × IsLoggedRun o m args numbers.items steps log.items
+ComesTo (Run (By n) false) m args logged (done.Ended numbers steps None) = IsAccepted m × IsSomeRun m args numbers.items steps
+ComesTo (Run (By n) true) m args logged (done.Ended numbers steps (Some log)) = IsAccepted m × IsReplay m args log.items numbers.items steps
+ComesTo Replay m args logged (done.Ended numbers steps None) = IsAccepted m × Replays m args logged numbers.items steps
+ComesTo Chart m args logged (done.Charted text) = IsAccepted m × Charts m args logged (string_bytes text)
+ComesTo _ m args logged _ = ⊥
 
 -- the bytes give a module, and the task on it, and on the log, comes to that
 pub record Succeeds (t : Task) (bytes logged : List ℕ) (d : Done) : Type 0 where
   pub of : ModuleValue
   pub given : Gives t.form bytes of
-  pub done : ComesTo t.doing of logged d
+  pub done : ComesTo t.doing of t.arguments logged d
 
--- What stands against a log of a run of the module. Of want of memory nothing is claimed.
-abbrev pub IsNoRun : ModuleValue → List ℕ → Fault → Type 0
-IsNoRun m logged (fault.Grammar line) = IsWrongAt logged line
-IsNoRun m logged fault.Truncated = IsTruncated logged
-IsNoRun m logged (fault.NotEnabled i) = (es : List Entry) × IsLogText logged es × IsStoppedAt m es i
-IsNoRun m logged fault.NotEnded = (es : List Entry) × IsLogText logged es × IsUnfinished m es
-IsNoRun m logged fault.OutOfMemory = ⊤
-IsNoRun m logged _ = ⊥
+-- What stands against a log of a run of the module with these arguments. Of want of memory nothing is claimed.
+abbrev pub IsNoRun : ModuleValue → List ℤ → List ℕ → Fault → Type 0
+IsNoRun m args logged (fault.Grammar line) = IsWrongAt logged line
+IsNoRun m args logged fault.Truncated = IsTruncated logged
+IsNoRun m args logged (fault.NotEnabled i) = (es : List Entry) × IsLogText logged es × IsStoppedAt m args es i
+IsNoRun m args logged fault.NotEnded = (es : List Entry) × IsLogText logged es × IsUnfinished m args es
+IsNoRun m args logged fault.OutOfMemory = ⊤
+IsNoRun m args logged _ = ⊥
 
 -- the verifier refuses the module; or memory was wanting, of which nothing is claimed
 abbrev pub IsRefusal : ModuleValue → Fault → Type 0
@@ -111,21 +119,39 @@ IsRefusal m (fault.Refused r) = Refuses m r
 IsRefusal m fault.OutOfMemory = ⊤
 IsRefusal m _ = ⊥
 
+-- A1: main takes so many numbers, and is given so many others
+pub record IsMisfit (m : ModuleValue) (args : List ℤ) (wants has : ℕ) : Type 0 where
+  pub wants_are : wants ≡ length (params_of m 0)
+  pub has_are : has ≡ length args
+  pub misfit : ¬ AreArguments m args
+
+-- the module isn't run with these arguments: it is refused, or it is accepted and its main takes more or fewer
+abbrev pub IsNotRun : ModuleValue → List ℤ → Fault → Type 0
+IsNotRun m args (fault.Arguments wants has) = IsAccepted m × IsMisfit m args wants has
+IsNotRun m args f = IsRefusal m f
+
 -- a module that is accepted is given, and this holds of it
 abbrev pub GivesAccepted : Task → List ℕ → (ModuleValue → Type 0) → Type 0
 GivesAccepted t bytes P = (m : ModuleValue) × Gives t.form bytes m × IsAccepted m × P m
 
--- The fault is one of the bytes, or of the log's where one is read, or want of memory, of which nothing is claimed. `compile` asks nothing of
--- the verifier. A log is looked at only where the module is accepted.
+-- what stands against a log that is read: the module is accepted, main takes as many numbers as it is given, and the log is none of such a run
+abbrev pub FailsByLog : Task → List ℕ → List ℕ → Fault → Type 0
+FailsByLog t bytes logged f =
+    (reads_log t.doing ≡ true) × GivesAccepted t bytes (λ m. AreArguments m t.arguments × IsNoRun m t.arguments logged f)
+
+-- The fault is one of the bytes, or of main's arguments where the module is run, or of the log's bytes where a log is read, or want of
+-- memory, of which nothing is claimed. `compile` asks nothing of the verifier. The arguments are looked at only where the module is accepted,
+-- and a log only where they are as many as main takes.
 abbrev pub FailsBy : Task → List ℕ → List ℕ → Fault → Type 0
 FailsBy t bytes logged (fault.Text f) = (t.form ≡ form.Module) × IsNoModule bytes f
 FailsBy t bytes logged (fault.Front f) = (t.form ≡ form.Source) × IsNoSource bytes f
 FailsBy t bytes logged (fault.Refused refusal.OutOfMemory) = ⊥
 FailsBy t bytes logged (fault.Refused r) = (t.doing ≢ Compile) × ((m : ModuleValue) × Gives t.form bytes m × Refuses m r)
-FailsBy t bytes logged (fault.Grammar line) = (reads_log t.doing ≡ true) × GivesAccepted t bytes (λ m. IsNoRun m logged (fault.Grammar line))
-FailsBy t bytes logged fault.Truncated = (reads_log t.doing ≡ true) × GivesAccepted t bytes (λ m. IsNoRun m logged fault.Truncated)
-FailsBy t bytes logged (fault.NotEnabled i) = (reads_log t.doing ≡ true) × GivesAccepted t bytes (λ m. IsNoRun m logged (fault.NotEnabled i))
-FailsBy t bytes logged fault.NotEnded = (reads_log t.doing ≡ true) × GivesAccepted t bytes (λ m. IsNoRun m logged fault.NotEnded)
+FailsBy t bytes logged (fault.Arguments wants has) = (runs t.doing ≡ true) × GivesAccepted t bytes (λ m. IsMisfit m t.arguments wants has)
+FailsBy t bytes logged (fault.Grammar line) = FailsByLog t bytes logged (fault.Grammar line)
+FailsBy t bytes logged fault.Truncated = FailsByLog t bytes logged fault.Truncated
+FailsBy t bytes logged (fault.NotEnabled i) = FailsByLog t bytes logged (fault.NotEnabled i)
+FailsBy t bytes logged fault.NotEnded = FailsByLog t bytes logged fault.NotEnded
 FailsBy t bytes logged fault.OutOfMemory = ⊤
 FailsBy t bytes logged fault.Device = ⊥
 

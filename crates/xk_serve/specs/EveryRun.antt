@@ -8,11 +8,11 @@ use Rattle.xk_types.specs.Accepted.{EverySchedule}
 use Rattle.xk_tree.specs.Tree.{TreeValue}
 use Rattle.xk_source.specs.Meaning.{HasRun, moments}
 
--- every run of the module, whoever makes it; a run is a list of activity numbers, one for each step
+-- every run of the module, whatever main is given and whoever makes it; a run is a list of activity numbers, one for each step
 pub record EveryRun (tree : TreeValue) (m : ModuleValue) : Type 0 where
   -- none is ever wrong, each has at most the verified numbers of steps, activities, clocks and slots, and where nobody can take a step, every
   -- activity has ended
   pub schedules : EverySchedule m
-  -- A run is one of the text: a run of the tree, never wrong, has the same moments (whose step it is, what it does, and all clocks and shared
-  -- numbers behind it), and all of its activities have ended just where the module's have.
-  pub of_the_text : (list : List ℕ) (w : World) → Leads m list w → HasRun tree (moments (step m) list (opening m)) (all_ended w)
+  -- A run is one of the text with the same arguments: a run of the tree, never wrong, has the same moments (whose step it is, what it does,
+  -- and all clocks and shared numbers behind it), and all of its activities have ended just where the module's have.
+  pub of_the_text : (list : List ℕ) (w : World) → Leads m list w → HasRun tree w.arguments (moments (step m) list (opening m w.arguments)) (all_ended w)

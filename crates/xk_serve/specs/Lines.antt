@@ -97,6 +97,10 @@ refusal_line (refusal.Kind f) = line (kind_text f)
 refusal_line (refusal.Bound f) = line (bound_text f)
 refusal_line refusal.OutOfMemory = memory_line
 
+-- main takes another number of arguments: `A1 Arguments wants 1 has 0`
+abbrev pub arguments_line : ℕ → ℕ → List ℕ
+arguments_line wants has = line (codes "A1 Arguments wants " ++ (decimal wants ++ (codes " has " ++ decimal has)))
+
 -- a fault of the log: `L1 Grammar line 2`, `L4 NotEnabled entry 3`
 abbrev pub grammar_line : ℕ → List ℕ
 grammar_line n = line (codes "L1 Grammar line " ++ decimal n)
@@ -108,6 +112,7 @@ abbrev pub fault_line : Fault → List ℕ
 fault_line (fault.Text f) = label_line (fault_label f)
 fault_line (fault.Front f) = line (front_text f)
 fault_line (fault.Refused r) = refusal_line r
+fault_line (fault.Arguments wants has) = arguments_line wants has
 fault_line (fault.Grammar n) = grammar_line n
 fault_line fault.Truncated = line (codes "L2 Truncated")
 fault_line (fault.NotEnabled n) = not_enabled_line n
@@ -131,6 +136,7 @@ abbrev pub status_of : Fault → ℕ
 status_of (fault.Text f) = label_status (fault_label f)
 status_of (fault.Front f) = status_program
 status_of (fault.Refused r) = refusal_status r
+status_of (fault.Arguments wants has) = status_program
 status_of (fault.Grammar n) = status_log
 status_of fault.Truncated = status_log
 status_of (fault.NotEnabled n) = status_log

@@ -1,9 +1,10 @@
 -- What the program does with its devices. This project's own.
-use Rattle.std.specs.Prelude.{◌≡◌, ◌≢◌, ℕ, ◌⊎◌, List, [], Option, Some, IfSome, string_bytes, if◌then◌else◌}
+use Rattle.std.specs.Prelude.{◌≡◌, ◌≢◌, ℕ, ℤ, ◌⊎◌, List, [], Option, Some, IfSome, string_bytes, if◌then◌else◌}
 use Rattle.std.specs.Io.KnownBytes.{Appends}
 use Rattle.xk_types.specs.Accepted.{IsAccepted}
 use Rattle.xk_types.specs.Code.{ModuleValue}
 use Rattle.xk_types.specs.Device.{Rose}
+use Rattle.xk_types.specs.World.{AreArguments}
 use Rattle.xk_words.specs.Status.{status_device, status_done, status_memory, status_words}
 use Rattle.xk_words.specs.declared.words_fault.WordsFault.{WordsFault}
 use Rattle.xk_words.specs.declared.words_fault.WordsFault.TheVariants as words
@@ -11,7 +12,7 @@ use Rattle.xk_serve.specs.declared.done.Done.{Done}
 use Rattle.xk_serve.specs.declared.fault.Fault.{Fault}
 use Rattle.xk_serve.specs.declared.fault.Fault.TheVariants as fault
 use Rattle.xk_log.specs.Writing.{AppendsBeginning}
-use Rattle.xk_serve.specs.Answer.{Answers, FailsBy, IsNoRun, IsRefusal, Reply, Succeeds, Task, reads_log}
+use Rattle.xk_serve.specs.Answer.{Answers, FailsBy, IsNoRun, IsNotRun, Reply, Succeeds, Task, reads_log}
 use Rattle.xk_serve.specs.Lines.{done_log, done_text, excluded_line, fault_line, memory_line, status_of}
 
 -- all that is printed of it went to standard output, and its log to the log's device
@@ -56,15 +57,16 @@ abbrev pub AgainstLog : Task → List ℕ → Option (List ℕ) → ℕ → ℕ 
 AgainstLog t bytes known old new fault.Device = Rose old new
 AgainstLog t bytes known old new f = (new ≡ old) × IfSome (read_of t known) (λ logged. FailsBy t bytes logged f)
 
--- the same of a log of a run of the module
-abbrev pub AgainstRun : ModuleValue → Option (List ℕ) → ℕ → ℕ → Fault → Type 0
-AgainstRun m known old new fault.Device = Rose old new
-AgainstRun m known old new f = (new ≡ old) × IfSome known (λ logged. IsNoRun m logged f)
+-- the same of a log of a run of the module with these arguments
+abbrev pub AgainstRun : ModuleValue → List ℤ → Option (List ℕ) → ℕ → ℕ → Fault → Type 0
+AgainstRun m args known old new fault.Device = Rose old new
+AgainstRun m args known old new f = (new ≡ old) × IfSome known (λ logged. IsNoRun m args logged f)
 
--- What stands against a run of a module by a log: the verifier refuses the module, and no log was read; or it is accepted, and the log is none
--- of a run of it.
-abbrev pub AgainstModule : ModuleValue → Option (List ℕ) → ℕ → ℕ → Fault → Type 0
-AgainstModule m known old new f = ((new ≡ old) × IsRefusal m f) ⊎ (IsAccepted m × AgainstRun m known old new f)
+-- What stands against a run of a module by a log: the module isn't run with these arguments, and no log was read; or it is accepted, main
+-- takes as many, and the log is none of such a run.
+abbrev pub AgainstModule : ModuleValue → List ℤ → Option (List ℕ) → ℕ → ℕ → Fault → Type 0
+AgainstModule m args known old new f =
+    ((new ≡ old) × IsNotRun m args f) ⊎ (IsAccepted m × AreArguments m args × AgainstRun m args known old new f)
 
 -- The line was written, the sink didn't fail and the status is this one; or a beginning of the line was written, the sink
 -- failed and the status is that of a device.

@@ -2,7 +2,7 @@
 
 ghost use Rattle.std.specs.Prelude.{◌≡◌, IfOk, string_bytes};
 ghost use Rattle.xk_module.specs.Faults.{fault_label};
-ghost use Rattle.xk_serve.specs.Lines.{bound_text, fault_line, front_text, kind_text, label_line, label_status, grammar_line, line, not_enabled_line, place_text, refusal_line, refusal_status, rule_text, status_of, walk_text};
+ghost use Rattle.xk_serve.specs.Lines.{arguments_line, bound_text, fault_line, front_text, kind_text, label_line, label_status, grammar_line, line, not_enabled_line, place_text, refusal_line, refusal_status, rule_text, status_of, walk_text};
 
 use std::alloc::{AllocError, Global};
 use thiserror::Error;
@@ -26,6 +26,9 @@ pub enum Fault {
     /// The verifier refuses the module.
     #[error("{0}")]
     Refused(Refusal),
+    /// Main takes so many numbers, and is given so many others.
+    #[error("main takes {wants} numbers and is given {has}")]
+    Arguments { wants: u32, has: usize },
     /// This line of LOG, from 1 on, is the first that doesn't fit its place.
     #[error("line {0} of the log doesn't fit its place")]
     Grammar(u64),
@@ -62,7 +65,7 @@ impl Fault {
     {
         match self {
             Fault::Text(fault) => label_status(*fault),
-            Fault::Front(_) => status::PROGRAM,
+            Fault::Front(_) | Fault::Arguments { .. } => status::PROGRAM,
             Fault::Refused(refusal) => refusal_status(refusal),
             Fault::Grammar(_) | Fault::Truncated | Fault::NotEnabled(_) | Fault::NotEnded => {
                 status::LOG
@@ -80,6 +83,7 @@ impl Fault {
             Fault::Text(fault) => label_line(alloc, *fault),
             Fault::Front(fault) => line(alloc, front_text(alloc, *fault)?.as_str()),
             Fault::Refused(refusal) => refusal_line(alloc, refusal),
+            Fault::Arguments { wants, has } => arguments_line(alloc, *wants, *has),
             Fault::Grammar(number) => grammar_line(alloc, *number),
             Fault::Truncated => line(alloc, "L2 Truncated"),
             Fault::NotEnabled(entry) => not_enabled_line(alloc, *entry),
@@ -180,6 +184,16 @@ impl From<(Log, ReplayFault)> for Fault {
             ReplayFault::OutOfMemory => Fault::OutOfMemory,
         }
     }
+}
+
+/// `A1 Arguments wants 1 has 0`.
+fn arguments_line(alloc: Global, wants: u32, has: usize) -> Result<String, AllocError>
+    ensures { IfOk result (λ text. string_bytes text ≡ arguments_line wants has) }
+{
+    line(
+        alloc,
+        format!(in alloc; "A1 Arguments wants {wants} has {has}")?.as_str(),
+    )
 }
 
 /// `L1 Grammar line 2`.

@@ -1,7 +1,7 @@
 //! The run of a module in an order, or by workers, with its log.
 
 ghost use Rattle.std.specs.Prelude.{◌≡◌, IfOk};
-ghost use Rattle.xk_types.specs.World.{opening};
+ghost use Rattle.xk_types.specs.World.{AreArguments, opening};
 ghost use Rattle.xk_drive.specs.Choosing.{Follows};
 ghost use Rattle.xk_serve.specs.OrderedRun.{IsLogThat, IsLoggedRun, IsReplay, IsRunThat};
 
@@ -26,19 +26,21 @@ pub(crate) struct LoggedRun {
     pub(crate) log: Vec<Entry>,
 }
 
-/// Runs the module to its end, in this order, and keeps the log.
+/// Runs the module to its end, with these arguments, in this order, and keeps the log.
 pub(crate) fn run_with_log(
     alloc: Global,
     order: Order,
     verified: &Verified,
+    arguments: &[i64],
 ) -> Result<LoggedRun, AllocError>
-    ensures { IfOk result (λ run.
-        IsLoggedRun order verified.now run.printed.items run.steps run.log.items) }
+    requires { AreArguments verified.now arguments.now }
+    ensures { IfOk result (λ run. IsLoggedRun order verified.now arguments.now
+        run.printed.items run.steps run.log.items) }
 {
     match order {
-        Order::First => log_by(alloc, verified, &mut First),
-        Order::Last => log_by(alloc, verified, &mut Last),
-        Order::Round => log_by(alloc, verified, &mut Round::new()),
+        Order::First => log_by(alloc, verified, arguments, &mut First),
+        Order::Last => log_by(alloc, verified, arguments, &mut Last),
+        Order::Round => log_by(alloc, verified, arguments, &mut Round::new()),
     }
 }
 
@@ -46,30 +48,34 @@ pub(crate) fn run_with_log(
 fn log_by<C: Chooser>(
     alloc: Global,
     verified: &Verified,
+    arguments: &[i64],
     chooser: &mut C,
 ) -> Result<LoggedRun, AllocError>
+    requires { AreArguments verified.now arguments.now }
     ensures { IfOk result (λ run. IsRunThat
-        (IsLogThat (Follows C.answer C.after verified.now chooser.old (opening verified.now))
-        run.log.items)
-        verified.now run.printed.items run.steps) }
+        (IsLogThat (Follows C.answer C.after verified.now chooser.old
+        (opening verified.now arguments.now)) run.log.items)
+        verified.now arguments.now run.printed.items run.steps) }
 {
-    match drive(alloc, Core::open(alloc, verified)?, chooser) {
+    match drive(alloc, Core::open(alloc, verified, arguments)?, chooser) {
         Ok(ended) => Ok(logged(ended)),
         Err(partial) => Err(cut_short(partial)),
     }
 }
 
-/// Runs the module to its end by so many workers, and keeps the log.
+/// Runs the module to its end, with these arguments, by so many workers, and keeps the log.
 pub(crate) fn run_by_workers<R: Threads + Wait + Sync>(
     rt: &R,
     alloc: Global,
     workers: Workers,
     verified: &Verified,
+    arguments: &[i64],
 ) -> Result<LoggedRun, AllocError>
-    ensures { IfOk result (λ run.
-        IsReplay verified.now run.log.items run.printed.items run.steps) }
+    requires { AreArguments verified.now arguments.now }
+    ensures { IfOk result (λ run. IsReplay verified.now arguments.now
+        run.log.items run.printed.items run.steps) }
 {
-    let start = Core::open(alloc, verified)?;
+    let start = Core::open(alloc, verified, arguments)?;
     match run_workers(rt, alloc, start, workers.count(), &Direct) {
         Ok(ended) => Ok(logged(ended)),
         Err(partial) => Err(cut_short(partial)),

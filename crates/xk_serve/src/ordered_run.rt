@@ -1,7 +1,7 @@
 //! The run of a module in an order.
 
 ghost use Rattle.std.specs.Prelude.{◌≡◌, [], IfOk, OnOk};
-ghost use Rattle.xk_types.specs.World.{opening};
+ghost use Rattle.xk_types.specs.World.{AreArguments, opening};
 ghost use Rattle.xk_core.specs.Core.{opening_core};
 ghost use Rattle.xk_serve.specs.OrderedRun.{GoesOn, IsOrderedRun, IsRunBy};
 
@@ -12,18 +12,21 @@ use xk_core::Core;
 use xk_drive::{Chooser, Driver, First, Last, Round, keep_printed};
 use xk_words::Order;
 
-/// Runs the module to its end, in this order, and gives the numbers that it prints and how many steps it takes.
+/// Runs the module to its end, with these arguments, in this order, and gives the numbers that it prints and how many steps it takes.
 pub(crate) fn run_in_order(
     alloc: Global,
     order: Order,
     verified: &Verified,
+    arguments: &[i64],
 ) -> Result<(Vec<i64>, u64), AllocError>
-    ensures { IfOk result (λ run. IsOrderedRun order verified.now run.0.items run.1) }
+    requires { AreArguments verified.now arguments.now }
+    ensures { IfOk result (λ run.
+        IsOrderedRun order verified.now arguments.now run.0.items run.1) }
 {
     match order {
-        Order::First => run_by(alloc, verified, &mut First),
-        Order::Last => run_by(alloc, verified, &mut Last),
-        Order::Round => run_by(alloc, verified, &mut Round::new()),
+        Order::First => run_by(alloc, verified, arguments, &mut First),
+        Order::Last => run_by(alloc, verified, arguments, &mut Last),
+        Order::Round => run_by(alloc, verified, arguments, &mut Round::new()),
     }
 }
 
@@ -31,12 +34,14 @@ pub(crate) fn run_in_order(
 fn run_by<C: Chooser>(
     alloc: Global,
     verified: &Verified,
+    arguments: &[i64],
     chooser: &mut C,
 ) -> Result<(Vec<i64>, u64), AllocError>
-    ensures { IfOk result (λ run.
-        IsRunBy C.answer C.after verified.now chooser.old run.0.items run.1) }
+    requires { AreArguments verified.now arguments.now }
+    ensures { IfOk result (λ run. IsRunBy C.answer C.after verified.now arguments.now
+        chooser.old run.0.items run.1) }
 {
-    match opened(alloc, verified) {
+    match opened(alloc, verified, arguments) {
         Ok(driver) => run_from(alloc, driver, chooser),
         Err(e) => Err(e),
     }
@@ -48,9 +53,10 @@ fn run_from<C: Chooser>(
     mut driver: Driver<'_>,
     chooser: &mut C,
 ) -> Result<(Vec<i64>, u64), AllocError>
-    requires { driver.world ≡ opening driver.module_run }
-    ensures { IfOk result (λ run.
-        IsRunBy C.answer C.after driver.entry.module_run chooser.old run.0.items run.1) }
+    requires opening { driver.world ≡ opening driver.module_run driver.world.arguments }
+    requires taken { AreArguments driver.module_run driver.world.arguments }
+    ensures { IfOk result (λ run. IsRunBy C.answer C.after driver.entry.module_run
+        driver.entry.world.arguments chooser.old run.0.items run.1) }
 {
     let printed = printed_by(alloc, &mut driver, chooser);
     let steps = steps_of(driver.into_core());
@@ -63,9 +69,11 @@ fn printed_by<C: Chooser>(
     driver: &mut Driver<'_>,
     chooser: &mut C,
 ) -> Result<Vec<i64>, AllocError>
-    requires { driver.old.world ≡ opening driver.old.module_run }
-    ensures { IfOk result (λ printed. IsRunBy C.answer C.after driver.old.module_run chooser.old
-        printed.items driver.new.world.steps) }
+    requires opening { driver.old.world
+        ≡ opening driver.old.module_run driver.old.world.arguments }
+    requires taken { AreArguments driver.old.module_run driver.old.world.arguments }
+    ensures { IfOk result (λ printed. IsRunBy C.answer C.after driver.old.module_run
+        driver.old.world.arguments chooser.old printed.items driver.new.world.steps) }
 {
     let mut printed = Vec::new(alloc);
     take_turns(driver, &mut printed, chooser)?;
@@ -78,10 +86,12 @@ fn take_turns<C: Chooser>(
     printed: &mut Vec<i64>,
     chooser: &mut C,
 ) -> Result<(), AllocError>
-    requires opening { driver.old.world ≡ opening driver.old.module_run }
+    requires opening { driver.old.world
+        ≡ opening driver.old.module_run driver.old.world.arguments }
+    requires taken { AreArguments driver.old.module_run driver.old.world.arguments }
     requires none { printed.old.items ≡ [] }
-    ensures { OnOk result (IsRunBy C.answer C.after driver.old.module_run chooser.old
-        printed.new.items driver.new.world.steps) }
+    ensures { OnOk result (IsRunBy C.answer C.after driver.old.module_run
+        driver.old.world.arguments chooser.old printed.new.items driver.new.world.steps) }
 {
     while take_turn(driver, printed, chooser)? {}
     Ok(())
@@ -104,11 +114,16 @@ fn take_turn<C: Chooser>(
     Ok(true)
 }
 
-/// The opening world, to be driven.
-fn opened<'m>(alloc: Global, verified: &'m Verified) -> Result<Driver<'m>, AllocError>
-    ensures { IfOk result (λ driver. driver ≡ opening_core verified.now) }
+/// The opening world with these arguments, to be driven.
+fn opened<'m>(
+    alloc: Global,
+    verified: &'m Verified,
+    arguments: &[i64],
+) -> Result<Driver<'m>, AllocError>
+    requires { AreArguments verified.now arguments.now }
+    ensures { IfOk result (λ driver. driver ≡ opening_core verified.now arguments.now) }
 {
-    driven(alloc, Core::open(alloc, verified)?)
+    driven(alloc, Core::open(alloc, verified, arguments)?)
 }
 
 /// The core, to be driven.

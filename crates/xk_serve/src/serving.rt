@@ -4,10 +4,10 @@ ghost use Rattle.std.specs.Prelude.{◌≡◌, ◌≢◌, ◌⊎◌, false, [], 
 ghost use Rattle.std.specs.Io.KnownBytes.{Appends};
 ghost use Rattle.xk_types.specs.Device.{Rose};
 ghost use Rattle.xk_log.specs.Writing.{AppendsBeginning};
-ghost use Rattle.xk_words.specs.Status.{status_device, status_done, status_memory};
+ghost use Rattle.xk_words.specs.Status.{status_device, status_done, status_memory, status_program};
 ghost use Rattle.xk_serve.specs.Answer.{Succeeds, reads_log, task_of};
 ghost use Rattle.xk_serve.specs.Bytes.{FailsRead, kept};
-ghost use Rattle.xk_serve.specs.Lines.{device_line, done_log, done_text, memory_line};
+ghost use Rattle.xk_serve.specs.Lines.{device_line, done_log, done_text, memory_line, status_of};
 ghost use Rattle.xk_serve.specs.Serving.{Answered, ErrBegins, IfKnown, IsBegun, IsWritten, OutBegins, Reports, StandsAgainst, Tells, TellsWords};
 
 use crate::answering::answer;
@@ -23,8 +23,8 @@ use xk_types::{Sink, Source};
 use xk_words::{Form, Job, WordsFault, status};
 
 /// Reads the program, does the job, and writes what comes of it: its result to `out` and then the log of a run that is to have one
-/// to `log_out`, or one line to `err`. The answer is the exit status: 0 where the job is done, 1 where the program is refused, 3 where the log is, 4
-/// where memory ran out, 5 where a device failed. A run by workers is some run of the program: a call with such a job may wait for them, and
+/// to `log_out`, or one line to `err`. The answer is the exit status: 0 where the job is done, 1 where the program is refused, or is to be run and its
+/// main takes another number of arguments than it is given, 3 where the log is refused, 4 where memory ran out, 5 where a device failed. A run by workers is some run of the program: a call with such a job may wait for them, and
 /// what is said here holds where it returns. Whatever the answer but 5, no read or write failed. The result is written once it
 /// is whole, so `out` and `log_out` stay empty but at 0 and 5, and `err` never gets more than one line.
 pub fn serve<R: Threads + Wait + Sync, P: Source, L: Source, O: Sink, E: Sink, K: Sink>(
@@ -73,8 +73,9 @@ pub fn serve<R: Threads + Wait + Sync, P: Source, L: Source, O: Sink, E: Sink, K
         → Appends (E.contents err.old) (E.contents err.new) device_line
         ⊎ Rose (E.fault_count err.old) (E.fault_count err.new) }
 
-    // No log is read where the job is on none.
+    // No log is read where the job is on none, nor where the program is refused.
     ensures log_in { reads_log (task_of job.now).doing ≡ false → log_in.new ≡ log_in.old }
+    ensures log_unread { result ≡ status_program → log_in.new ≡ log_in.old }
 {
     match outcome(rt, alloc, job, program, log_in) {
         Ok((done, text)) => print(alloc, &done, text.as_str(), out, err, log_out),
@@ -105,6 +106,8 @@ fn outcome<R: Threads + Wait + Sync, P: Source, L: Source>(
           log_new = L.fault_count log_in.new;
         }) f) }
     ensures unread { reads_log (task_of job.now).doing ≡ false → log_in.new ≡ log_in.old }
+    ensures refused { IfErr result
+        (λ f. status_of f ≡ status_program → log_in.new ≡ log_in.old) }
 {
     let bytes = read_program(alloc, job.form, program)?;
     let done = answer(rt, alloc, job, &bytes, log_in)?;
@@ -207,6 +210,7 @@ pub fn report<E: Sink>(alloc: Global, fault: &Fault, err: &mut E) -> u8
         Fault::Text(_)
         | Fault::Front(_)
         | Fault::Refused(_)
+        | Fault::Arguments { .. }
         | Fault::Grammar(_)
         | Fault::Truncated
         | Fault::NotEnabled(_)

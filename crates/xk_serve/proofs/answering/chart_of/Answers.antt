@@ -1,3 +1,4 @@
+use Rattle.std.proofs.Common.{refl}
 use Rattle.xk_serve.proofs.answering.chart_of.Goals as goal
 
 pub returns-clause-done : goal.returns-clause-done
@@ -7,7 +8,7 @@ returns-clause-done c = λ logged text.
       (
         ended.log.items,
         text,
-        record { last = ended.core.world; leads = ended.run.leads; over = ended.over },
+        record { last = ended.core.world; leads = ended.run.leads; given = refl; over = ended.over },
         c.in_ok-chart.ensures,
       ),
     )

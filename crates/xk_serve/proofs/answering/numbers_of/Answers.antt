@@ -6,5 +6,5 @@ pub returns : goal.returns
 returns c = λ logged text.
     let ended = c.args.ended in (
       c.requires,
-      (ended.log.items, text, worked_run _ _ ended.log.items _ ended.core _ refl ended.run ended.over c.steps_of.ensures),
+      (ended.log.items, text, worked_run _ _ _ ended.log.items _ ended.core _ refl refl ended.run ended.over c.steps_of.ensures),
     )

@@ -7,7 +7,7 @@ use Rattle.xk_serve.proofs.ordered_run.take_turns.Given as goal
 abbrev pub invariant-loop : goal.invariant-loop
 invariant-loop g l = record {
   same_module : l.driver.module_run ≡ l.fn.driver.module_run;
-  run : IsFront g.C.Chooser.answer g.C.Chooser.after l.fn.driver.module_run l.fn.chooser l.driver.world l.chooser l.printed.items;
+  run : IsFront g.C.Chooser.answer g.C.Chooser.after l.fn.driver.module_run l.fn.driver.world.arguments l.fn.chooser l.driver.world l.chooser l.printed.items;
 }
 
 abbrev pub decreases-loop : goal.decreases-loop
