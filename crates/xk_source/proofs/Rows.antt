@@ -151,6 +151,25 @@ falling_none = refl
 falling_most : events_of (given_run falling (pos 11 ∷ []) (0 ∷ 0 ∷ 0 ∷ 0 ∷ [])) ≡ event.Printed (pos 1) ∷ []
 falling_most = refl
 
+-- the code takes m once into a slot of the limit's own, and not again before `next`
+abbrev falling_code : ModuleValue
+falling_code = module_of [] (
+    record {
+      kind = unit_kind.Main;
+      params = param.Number ∷ [];
+      slots = 5;
+      code = instr.Copy 1 0 ∷ instr.Copy 3 1 ∷ instr.ForTo 2 (pos 1) 3 (pos 10) 6 ∷ instr.Lit 4 (pos 1) ∷ instr.Sub 1 1 4 ∷ instr.Print 2 ∷ instr.Next 2 ∷ instr.Ret ∷ [];
+    }
+    ∷ [])
+
+falling_is : map (unit_of_part (record { shared = []; methods = []; bodies = [] })) (parts falling) ≡ falling_code.units
+falling_is = refl
+
+-- its run, where the module has steps more
+falling_same : moments (step falling_code) (0 ∷ 0 ∷ 0 ∷ 0 ∷ 0 ∷ 0 ∷ 0 ∷ 0 ∷ 0 ∷ 0 ∷ 0 ∷ 0 ∷ 0 ∷ 0 ∷ 0 ∷ 0 ∷ 0 ∷ 0 ∷ 0 ∷ 0 ∷ []) (opening falling_code (pos 4 ∷ []))
+    ≡ given_run falling (pos 4 ∷ []) (0 ∷ 0 ∷ 0 ∷ 0 ∷ 0 ∷ 0 ∷ 0 ∷ 0 ∷ 0 ∷ 0 ∷ 0 ∷ 0 ∷ 0 ∷ 0 ∷ 0 ∷ [])
+falling_same = refl
+
 -- `var t = 0; for (i in 1..Math.min(n * n, 10)) { t = t + i; } println(t);`
 abbrev squares : MethodValue
 squares = method (codes "main") (takes (codes "n") ∷ []) (
