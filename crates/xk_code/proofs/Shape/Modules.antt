@@ -37,7 +37,7 @@ pub record IsCompiled (m : ModuleValue) (unit : ℕ) (u : UnitValue) : Type 0 wh
   pub shared : SharedBelow cx (length m.shared)
   -- each name that is used is found
   pub covered : IsUnitCovered cx xs s
-  -- no loop's name is assigned to in its body
+  -- no loop's name is assigned to in its body, nor that of its limit
   pub names : KeepsNames s
   -- it is main where it has to be
   pub place : is_in_place unit u ≡ true

@@ -1,4 +1,4 @@
--- What follows where names are without faults: no loop's name is assigned to in its body, what is called fits, and no clock is given twice.
+-- What follows where names are without faults: no loop's name is assigned to in its body, nor that of its limit, what is called fits, and no clock is given twice.
 use Rattle.std.proofs.Common.{◌≡◌, ℕ, suc, Bool, true, false, cond, ◌<◌, List, [], ◌∷◌, ◌++◌, append_assoc, map, length, Option, Some, None, inl, inr, refl, sym, ap, ◌∙◌, subst}
 use Rattle.std.specs.Prelude.{slice_get}
 use Rattle.std.specs.List.{flat_map}

@@ -10,9 +10,9 @@ use Rattle.xk_types.specs.Code.{UnitValue, ModuleValue}
 use Rattle.xk_types.specs.Shape.{breaks}
 use Rattle.xk_tree.specs.declared.tree.Binding.TheVariants as binding
 use Rattle.xk_tree.specs.declared.tree.Number.{Number}
-use Rattle.xk_tree.specs.Tree.{Word, Named, Value, UpTo, Statement, Done, More, Block, Declare, Atomic, For, Async, Finish, Print}
+use Rattle.xk_tree.specs.Tree.{Word, Named, Value, UpTo, Least, Statement, Done, More, Block, Declare, Atomic, For, Async, Finish, Print}
 use Rattle.xk_names.specs.Scope.{is_text}
-use Rattle.xk_code.specs.CodeOf.{Setting}
+use Rattle.xk_code.specs.CodeOf.{Scope, Setting}
 use Rattle.xk_code.specs.Unit.{unit_of}
 use Rattle.xk_code.specs.Covered.{IsFound}
 use Rattle.xk_code.proofs.Shape.Cells.{SharedBelow}
@@ -24,15 +24,22 @@ w text = record { at = 0; text = text }
 abbrev number : ℤ → Number
 number n = record { minus = None; at = 0; value = n }
 
--- shared s; .. finish for (i in 1..3) async { atomic s = s + i; } val r = s; println(r);
+-- shared s; .. finish for (i in 1..3) for (j in 1..Math.min(i, 2)) async { atomic s = s + i; } val r = s; println(r);
 abbrev setting : Setting
 setting = record { shared = (codes "s", 0) ∷ []; methods = []; bodies = (9, record { unit = 1; captures = codes "i" ∷ [] }) ∷ [] }
 
 abbrev adds : Statement
 adds = Atomic (w (codes "s")) (w (codes "s")) 0 (Named (w (codes "i")))
 
+-- the name that the limit has, which no text has
+abbrev hidden : Word
+hidden = w (32 ∷ [])
+
+abbrev inner : Statement
+inner = For 0 (w (codes "j")) (number (pos 1)) (Least hidden (record { at = 0; paren = 0 }) (Named (w (codes "i"))) (number (pos 2))) (Async 9 None adds)
+
 abbrev main : Statement
-main = Block (More (Finish (For 0 (w (codes "i")) (number (pos 1)) (UpTo (number (pos 3))) (Async 9 None adds)))
+main = Block (More (Finish (For 0 (w (codes "i")) (number (pos 1)) (UpTo (number (pos 3))) inner))
     (More (Declare binding.Val (w (codes "r")) None (Value (Named (w (codes "s"))))) (More (Print 0 (record { at = 0; paren = 0 }) (Named (w (codes "r")))) Done)))
 
 abbrev main_unit : UnitValue
@@ -62,15 +69,17 @@ main_compiled = record {
   shared = one_shared;
   covered = record {
     params = tt;
-    body = ((λ turns. (tt, refl, (refl, All-from_recursion (IsFound ((codes "i", 0) ∷ [])) (codes "i" ∷ []) (refl, tt)))), ((tt, refl), (refl, tt)));
+    body = ((λ turns. (tt, refl, (λ more. (refl, (refl, refl), (refl, All-from_recursion (IsFound inside) (codes "i" ∷ []) (refl, tt)))))), ((tt, refl), (refl, tt)));
   };
-  names = ((λ turns. (tt, tt, tt)), (tt, (tt, tt)));
+  names = ((λ turns. ((λ more. tt), tt, (λ more. (tt, tt, tt)))), (tt, (tt, tt)));
   place = refl;
-  runs = ((λ turns. record { v = body_unit; found = refl; is = refl; behind = omega arith; count = refl }), (tt, (tt, tt)));
+  runs = ((λ turns more. record { v = body_unit; found = refl; is = refl; behind = omega arith; count = refl }), (tt, (tt, tt)));
   params = refl;
-  given = ((λ turns. record { kinds = refl; apart = λ before c after h. absurd (nothing before c after h) }), (tt, (tt, tt)));
+  given = ((λ turns more. record { kinds = refl; apart = λ before c after h. absurd (nothing before c after h) }), (tt, (tt, tt)));
 }
   where
+    inside : Scope
+    inside = (codes "i", 0) ∷ (codes "j", 1) ∷ (hidden.text, 2) ∷ []
     nothing : (before : List Word) (c : Word) (after : List Word) → [] ≡ before ++ c ∷ after → ⊥
     nothing [] c after h = cc
     nothing (x ∷ before) c after h = cc

@@ -124,7 +124,7 @@ module _ (cx : Setting) (kind : UnitKind) (xs : List (List ℕ)) (kinds : List P
       (record { unless = λ op a b q. refl; jump = λ q. refl; begins = λ k lo hi e. refl; limited = λ k lo x hi e. refl; next = λ b. refl; finish = λ e. refl; ends = λ b. refl }) refl runs) at in
       either (at == 0) (is_in_place unit (unit_of cx kind xs kinds s)) (instr_is (runs_amiss m unit) (slice_get (unit_code cx xs s) at)) place rest
 
-  -- V6, where no loop's name is assigned to in its body
+  -- V6, where no loop's name is assigned to in its body, nor that of its limit
   pub keeps_loop : IsUnitCovered cx xs s → KeepsNames s → (at : ℕ) → breaks_loop (unit_of cx kind xs kinds s) at ≡ false
   keeps_loop c names = whole.loops_right (unit_of cx kind xs kinds s) nest plain is_code (loops_kept cx t (scope_from 0 xs) (length xs) s within (omega arith) c.body names)
 
