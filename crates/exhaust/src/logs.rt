@@ -1,6 +1,8 @@
 //! Logs are read and played again, and their runs charted and written; each call tried again where memory was refused.
 
-use crate::tries::{Wrong, accepted, holds};
+ghost use Rattle.xk_types.specs.World.{AreArguments};
+
+use crate::tries::{Wrong, accepted, fits, holds};
 use std::alloc::Global;
 use std::io;
 use xk_bounds::Verified;
@@ -21,10 +23,13 @@ fn read(alloc: Global, text: &str) -> Result<Log, LogFault> {
 fn replayed<'m>(
     alloc: Global,
     verified: &'m Verified,
+    arguments: &[i64],
     log: Log,
-) -> Result<Ended<'m>, (Log, ReplayFault)> {
-    match replay(alloc, verified, log) {
-        Err((same, ReplayFault::OutOfMemory)) => replay(alloc, verified, same),
+) -> Result<Ended<'m>, (Log, ReplayFault)>
+    requires { AreArguments verified.now arguments.now }
+{
+    match replay(alloc, verified, arguments, log) {
+        Err((same, ReplayFault::OutOfMemory)) => replay(alloc, verified, arguments, same),
         answer => answer,
     }
 }
@@ -53,17 +58,30 @@ fn is_right(
     }
 }
 
-/// A log is played again, and answered as it must be.
-fn is_replayed(alloc: Global, verified: &Verified, log: Log, is_whole: bool) -> Result<(), Wrong> {
-    let answer = replayed(alloc, verified, log);
+/// A log is played again, main being given these numbers, and answered as it must be.
+fn is_replayed(
+    alloc: Global,
+    verified: &Verified,
+    arguments: &[i64],
+    log: Log,
+    is_whole: bool,
+) -> Result<(), Wrong> {
+    fits(verified, arguments)?;
+    let answer = replayed(alloc, verified, arguments, log);
     is_right(alloc, &answer, is_whole)
 }
 
-/// A text is the log of a whole run of a program, or is refused for not being one.
-pub fn is_answered(alloc: Global, program: &str, text: &str, is_whole: bool) -> Result<(), Wrong> {
+/// A text is the log of a whole run of a program with these arguments, or is refused for not being one.
+pub fn is_answered(
+    alloc: Global,
+    program: &str,
+    arguments: &[i64],
+    text: &str,
+    is_whole: bool,
+) -> Result<(), Wrong> {
     let verified = accepted(alloc, program)?;
     match read(alloc, text) {
-        Ok(log) => is_replayed(alloc, &verified, log, is_whole),
+        Ok(log) => is_replayed(alloc, &verified, arguments, log, is_whole),
         Err(fault) => holds(
             !is_whole && fault != LogFault::OutOfMemory,
             "a log isn't read at the second try",

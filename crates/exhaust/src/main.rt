@@ -16,7 +16,11 @@ use tries::Wrong;
 fn every_call(alloc: Global) -> Result<(), Wrong> {
     for text in rows::accepted() {
         let verified = tries::accepted(alloc, text)?;
-        runs::on_verified(alloc, &verified)?;
+        runs::on_verified(alloc, &verified, &[])?;
+    }
+    for (text, arguments) in rows::given() {
+        let verified = tries::accepted(alloc, text)?;
+        runs::on_verified(alloc, &verified, arguments)?;
     }
     for text in rows::refused() {
         tries::is_refused(alloc, text)?;
@@ -30,8 +34,8 @@ fn every_call(alloc: Global) -> Result<(), Wrong> {
     for text in rows::faulty() {
         sources::is_faulty(alloc, text)?;
     }
-    for (program, log, is_whole) in rows::logs() {
-        logs::is_answered(alloc, program, log, is_whole)?;
+    for (program, arguments, log, is_whole) in rows::logs() {
+        logs::is_answered(alloc, program, arguments, log, is_whole)?;
     }
     tries::on_tape(alloc)
 }

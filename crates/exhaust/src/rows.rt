@@ -12,6 +12,24 @@ const RING: &str =
 const NINE: &str =
     r#"{"version":1,"shared":[],"units":[{"kind":"main","params":"","slots":1,"code":[["for",0,1,9,2],["print",0],["next",0],["ret"]]}]}"#;
 
+/// The sum of the numbers up to the square of the one that main is given, and to ten at most.
+const SUM_TO_SQUARE: &str =
+    r#"{"version":2,"shared":[],"units":[{"kind":"main","params":"n","slots":4,"code":[["lit",1,0],["mul",3,0,0],["forto",2,1,3,10,4],["add",1,1,2],["next",2],["print",1],["ret"]]}]}"#;
+
+/// As many activities on a clock as main is given, and three at most.
+const AS_MANY: &str =
+    r#"{"version":2,"shared":[],"units":[{"kind":"main","params":"n","slots":4,"code":[["make",1],["copy",3,0],["forto",2,1,3,3,4],["spawn",1,[1]],["next",2],["advance"],["ret"]]},{"kind":"body","params":"c","slots":1,"code":[["advance"],["ret"]]}]}"#;
+
+/// Programs whose main takes numbers, and such numbers: a loop ends early, at its bound, and before it begins.
+pub fn given() -> [(&'static str, &'static [i64]); 4] {
+    [
+        (SUM_TO_SQUARE, &[3]),
+        (SUM_TO_SQUARE, &[0]),
+        (AS_MANY, &[2]),
+        (AS_MANY, &[7]),
+    ]
+}
+
 /// Programs that the verifier accepts: of one activity, of several, and with shared numbers; fifty activities that a loop starts, and a run
 /// of some thousand steps.
 pub fn accepted() -> [&'static str; 19] {
@@ -39,7 +57,7 @@ pub fn accepted() -> [&'static str; 19] {
 }
 
 /// Programs that the verifier refuses, by rules on shape, on kinds and on bounds.
-pub fn refused() -> [&'static str; 14] {
+pub fn refused() -> [&'static str; 16] {
     [
         r#"{"version":1,"shared":[],"units":[{"kind":"main","params":"","slots":1,"code":[["drop",0],["ret"]]}]}"#,
         r#"{"version":1,"shared":[],"units":[{"kind":"main","params":"","slots":1,"code":[["make",0],["lit",0,1],["ret"]]}]}"#,
@@ -55,56 +73,65 @@ pub fn refused() -> [&'static str; 14] {
         r#"{"version":1,"shared":[],"units":[{"kind":"main","params":"","slots":1,"code":[["make",0],["finish",3],["spawn",1,[0]],["endfinish",1],["advance"],["ret"]]},{"kind":"body","params":"c","slots":1,"code":[["advance"],["ret"]]}]}"#,
         r#"{"version":1,"shared":[],"units":[{"kind":"main","params":"","slots":1,"code":[["finish",3],["make",0],["spawn",1,[0]],["endfinish",0],["ret"]]},{"kind":"body","params":"c","slots":1,"code":[["advance"],["ret"]]}]}"#,
         r#"{"version":1,"shared":[],"units":[{"kind":"main","params":"","slots":1,"code":[["for",0,1,999999999,1],["next",0],["ret"]]}]}"#,
+        r#"{"version":2,"shared":[],"units":[{"kind":"main","params":"","slots":1,"code":[["forto",0,1,0,3,1],["next",0],["ret"]]}]}"#,
+        r#"{"version":2,"shared":[],"units":[{"kind":"main","params":"c","slots":1,"code":[["drop",0],["ret"]]}]}"#,
     ]
 }
 
-/// Texts that are no module: one beyond a limit, one that is no module, and no text.
-pub fn unread() -> [&'static str; 3] {
+/// Texts that are no module: one beyond a limit, one of no version, one with an instruction that its version lacks, and no text.
+pub fn unread() -> [&'static str; 4] {
     [
         r#"{"version":1,"shared":[],"units":[{"kind":"main","params":"","slots":65,"code":[["ret"]]}]}"#,
-        r#"{"version":2,"shared":[],"units":[]}"#,
+        r#"{"version":3,"shared":[],"units":[]}"#,
+        r#"{"version":1,"shared":[],"units":[{"kind":"main","params":"","slots":2,"code":[["lit",1,2],["forto",0,1,1,3,2],["next",1],["ret"]]}]}"#,
         "",
     ]
 }
 
 /// Source texts that have a module: of no statement; of all sorts of statements; of bodies that take numbers and clocks; of methods that call
-/// each other in a chain.
-pub fn compiled() -> [&'static str; 5] {
+/// each other in a chain; of a main that takes numbers, by which its loops end.
+pub fn compiled() -> [&'static str; 6] {
     [
         "def main() { }",
         "shared s = 0; def main() { finish { for (i in 1..3) async { atomic s = s + i; } } val r = s; Console.OUT.println(r); }",
         "def main() { val c = Clock.make(); var x: Long = -(1 + 2) * 3; if (x < 4) x = 5; else { c.resume(); } async clocked(c) { Clock.advanceAll(); } c.drop(); }",
         "def main() { val a = 1; val b = 2; async { Console.OUT.println(b); async { val d = a + b; Console.OUT.println(d); } } }",
         "def h(n: Long) { Console.OUT.println(n); } def g(c: Clock, n: Long) { h(n * 2); h(n); } def main() { val c = Clock.make(); g(c, 7); for (i in 2..1) h(i); }",
+        "def main(n: Long, k: Long) { var t = n; for (i in 1..Math.min(t * k, 9)) { for (j in 0..Math.min(i, 3)) t = t - j; async { Console.OUT.println(i); } } Console.OUT.println(t); }",
     ]
 }
 
 /// Source texts that break a rule: on tokens, on syntax, on names, on `main`, on recursion, on tables.
-pub fn faulty() -> [&'static str; 6] {
+pub fn faulty() -> [&'static str; 8] {
     [
         "def main() { # }",
         "def main() { val x = ; }",
         "def main() { val x = 1; async { val y = x; z = y; } }",
         "def f() { }",
+        "def main(c: Clock) { }",
+        "def main() { for (i in 1..Math.min(i, 3)) { } }",
         "def f() { g(); } def g() { async { f(); } } def main() { f(); }",
         "def main() { val a = 0; f(a, a, a, a, a, a, a, a, a, a, a, a, a, a, a, a, a, a, a, a, a, a, a, a, a, a, a, a, a, a, a, a, a, a, a, a, a, a, a, a, a, a, a, a, a, a, a, a, a, a, a, a, a, a, a, a, a, a, a, a, a, a, a, a, a); } def f(n0: Long, n1: Long, n2: Long, n3: Long, n4: Long, n5: Long, n6: Long, n7: Long, n8: Long, n9: Long, n10: Long, n11: Long, n12: Long, n13: Long, n14: Long, n15: Long, n16: Long, n17: Long, n18: Long, n19: Long, n20: Long, n21: Long, n22: Long, n23: Long, n24: Long, n25: Long, n26: Long, n27: Long, n28: Long, n29: Long, n30: Long, n31: Long, n32: Long, n33: Long, n34: Long, n35: Long, n36: Long, n37: Long, n38: Long, n39: Long, n40: Long, n41: Long, n42: Long, n43: Long, n44: Long, n45: Long, n46: Long, n47: Long, n48: Long, n49: Long, n50: Long, n51: Long, n52: Long, n53: Long, n54: Long, n55: Long, n56: Long, n57: Long, n58: Long, n59: Long, n60: Long, n61: Long, n62: Long, n63: Long, n64: Long) { }",
     ]
 }
 
-/// Programs, each with a log, and whether that is of a whole run. The others break a rule on logs: on lines, on where the text ends, on who
+/// Programs, each with what its main is given and a log, and whether that is of a whole run. The others break a rule on logs: on lines, on where the text ends, on who
 /// can step, on where a run ends.
-pub fn logs() -> [(&'static str, &'static str, bool); 7] {
+pub fn logs() -> [(&'static str, &'static [i64], &'static str, bool); 9] {
     [
-        (PAIR, "x10log 1\n0 3\n1 1\n0 4\n1 4\nend 4\n", true),
+        (PAIR, &[], "x10log 1\n0 3\n1 1\n0 4\n1 4\nend 4\n", true),
         (
             RING,
+            &[],
             "x10log 1\n0 7\n1 1\n2 1\n3 1\n1 2\n2 2\n3 2\n1 2\n2 2\n3 2\nend 10\n",
             true,
         ),
-        (NINE, "x10log 1\n0 20\nend 1\n", true),
-        (PAIR, "x10log 1\n0 3\n0 0\nend 2\n", false),
-        (PAIR, "x10log 1\n0 3\n1 1\n", false),
-        (PAIR, "x10log 1\n0 3\n0 1\nend 2\n", false),
-        (PAIR, "x10log 1\n0 3\nend 1\n", false),
+        (NINE, &[], "x10log 1\n0 20\nend 1\n", true),
+        (SUM_TO_SQUARE, &[3], "x10log 1\n0 23\nend 1\n", true),
+        (SUM_TO_SQUARE, &[4], "x10log 1\n0 23\nend 1\n", false),
+        (PAIR, &[], "x10log 1\n0 3\n0 0\nend 2\n", false),
+        (PAIR, &[], "x10log 1\n0 3\n1 1\n", false),
+        (PAIR, &[], "x10log 1\n0 3\n0 1\nend 2\n", false),
+        (PAIR, &[], "x10log 1\n0 3\nend 1\n", false),
     ]
 }

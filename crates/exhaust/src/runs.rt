@@ -2,7 +2,7 @@
 
 ghost use Rattle.std.specs.Prelude.{◌≡◌, IfOk};
 
-use crate::tries::{Wrong, holds};
+use crate::tries::{Wrong, fits, holds};
 use std::alloc::Global;
 use xk_bounds::Verified;
 use xk_core::Core;
@@ -11,22 +11,23 @@ use xk_drive::{
 };
 use xk_types::Act;
 
-/// A module is run in each way.
-pub fn on_verified(alloc: Global, verified: &Verified) -> Result<(), Wrong> {
-    by_hand(alloc, verified)?;
-    by_chooser(alloc, verified, First)?;
-    by_chooser(alloc, verified, Last)?;
-    by_chooser(alloc, verified, Round::new())?;
-    by_turns(alloc, verified)
+/// A module is run in each way, its main being given these numbers.
+pub fn on_verified(alloc: Global, verified: &Verified, arguments: &[i64]) -> Result<(), Wrong> {
+    by_hand(alloc, verified, arguments)?;
+    by_chooser(alloc, verified, arguments, First)?;
+    by_chooser(alloc, verified, arguments, Last)?;
+    by_chooser(alloc, verified, arguments, Round::new())?;
+    by_turns(alloc, verified, arguments)
 }
 
 /// A core, at the second try where memory was refused.
-fn opened<'m>(alloc: Global, verified: &'m Verified) -> Result<Core<'m>, Wrong>
+fn opened<'m>(alloc: Global, verified: &'m Verified, arguments: &[i64]) -> Result<Core<'m>, Wrong>
     ensures unstarted { IfOk result (λ c. c.world.steps ≡ 0) }
 {
-    match Core::open(alloc, verified) {
+    fits(verified, arguments)?;
+    match Core::open(alloc, verified, arguments) {
         Ok(core) => Ok(core),
-        Err(_) => match Core::open(alloc, verified) {
+        Err(_) => match Core::open(alloc, verified, arguments) {
             Ok(core) => Ok(core),
             Err(_) => Err(Wrong("a core isn't opened at the second try")),
         },
@@ -70,11 +71,11 @@ fn by_steps(core: &mut Core, schedule: &mut Vec<u32>) -> Result<(), Wrong> {
 }
 
 /// A run by single steps, and the same by its schedule.
-fn by_hand(alloc: Global, verified: &Verified) -> Result<(), Wrong> {
-    let mut core = opened(alloc, verified)?;
+fn by_hand(alloc: Global, verified: &Verified, arguments: &[i64]) -> Result<(), Wrong> {
+    let mut core = opened(alloc, verified, arguments)?;
     let mut schedule = Vec::new(alloc);
     by_steps(&mut core, &mut schedule)?;
-    by_schedule(alloc, verified, &schedule)
+    by_schedule(alloc, verified, arguments, &schedule)
 }
 
 /// Whether a schedule led to the end; None where memory was refused.
@@ -90,16 +91,22 @@ fn is_through(answer: &Result<Ran<'_>, Halt<'_>>) -> Option<bool> {
 fn is_carried_out(
     alloc: Global,
     verified: &Verified,
+    arguments: &[i64],
     schedule: &[u32],
 ) -> Result<Option<bool>, Wrong> {
-    let answer = run_schedule(alloc, opened(alloc, verified)?, schedule);
+    let answer = run_schedule(alloc, opened(alloc, verified, arguments)?, schedule);
     Ok(is_through(&answer))
 }
 
 /// A schedule leads to the end.
-fn by_schedule(alloc: Global, verified: &Verified, schedule: &[u32]) -> Result<(), Wrong> {
-    let ends = match is_carried_out(alloc, verified, schedule)? {
-        None => is_carried_out(alloc, verified, schedule)?,
+fn by_schedule(
+    alloc: Global,
+    verified: &Verified,
+    arguments: &[i64],
+    schedule: &[u32],
+) -> Result<(), Wrong> {
+    let ends = match is_carried_out(alloc, verified, arguments, schedule)? {
+        None => is_carried_out(alloc, verified, arguments, schedule)?,
         answer => answer,
     };
     holds(
@@ -120,9 +127,10 @@ fn is_over(answer: &Result<Ended<'_>, Partial<'_>>) -> Option<bool> {
 fn is_driven<C: Chooser>(
     alloc: Global,
     verified: &Verified,
+    arguments: &[i64],
     chooser: &mut C,
 ) -> Result<Option<bool>, Wrong> {
-    let answer = drive(alloc, opened(alloc, verified)?, chooser);
+    let answer = drive(alloc, opened(alloc, verified, arguments)?, chooser);
     Ok(is_over(&answer))
 }
 
@@ -130,20 +138,25 @@ fn is_driven<C: Chooser>(
 fn by_chooser<C: Chooser + Copy>(
     alloc: Global,
     verified: &Verified,
+    arguments: &[i64],
     chooser: C,
 ) -> Result<(), Wrong> {
     let mut first = chooser;
     let mut second = chooser;
-    let ends = match is_driven(alloc, verified, &mut first)? {
-        None => is_driven(alloc, verified, &mut second)?,
+    let ends = match is_driven(alloc, verified, arguments, &mut first)? {
+        None => is_driven(alloc, verified, arguments, &mut second)?,
         answer => answer,
     };
     holds(ends == Some(true), "a driven run isn't over")
 }
 
 /// A core that a driver takes over, at the second try, with what came back, where memory was refused.
-fn taken_over<'m>(alloc: Global, verified: &'m Verified) -> Result<Driver<'m>, Wrong> {
-    let made = match Driver::new(alloc, opened(alloc, verified)?) {
+fn taken_over<'m>(
+    alloc: Global,
+    verified: &'m Verified,
+    arguments: &[i64],
+) -> Result<Driver<'m>, Wrong> {
+    let made = match Driver::new(alloc, opened(alloc, verified, arguments)?) {
         Err(same) => Driver::new(alloc, same),
         answer => answer,
     };
@@ -164,8 +177,8 @@ fn turns(driver: &mut Driver) -> Result<(), Wrong> {
 }
 
 /// A run by turns.
-fn by_turns(alloc: Global, verified: &Verified) -> Result<(), Wrong> {
-    let mut driver = taken_over(alloc, verified)?;
+fn by_turns(alloc: Global, verified: &Verified, arguments: &[i64]) -> Result<(), Wrong> {
+    let mut driver = taken_over(alloc, verified, arguments)?;
     turns(&mut driver)
 }
 

@@ -1,5 +1,8 @@
 //! Reading and verifying, each tried again where memory was refused.
 
+ghost use Rattle.std.specs.Prelude.{OnOk};
+ghost use Rattle.xk_types.specs.World.{AreArguments};
+
 use std::alloc::Global;
 use xk_bounds::{Refusal, Verified, verify};
 use xk_module::{ModuleFault, read_module};
@@ -65,6 +68,16 @@ pub fn accepted(alloc: Global, text: &str) -> Result<Verified, Wrong> {
         Ok(verified) => Ok(verified),
         Err(_) => Err(Wrong("a module isn't accepted at the second try")),
     }
+}
+
+/// Main takes as many numbers as it is given.
+pub fn fits(verified: &Verified, arguments: &[i64]) -> Result<(), Wrong>
+    ensures { OnOk result (AreArguments verified.now arguments.now) }
+{
+    if verified.arguments() as usize != arguments.len() {
+        return Err(Wrong("main takes another number of arguments"));
+    }
+    Ok(())
 }
 
 /// A tape is read and written.
