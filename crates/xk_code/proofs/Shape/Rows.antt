@@ -80,6 +80,7 @@ main_compiled = record {
   where
     inside : Scope
     inside = (codes "i", 0) ∷ (codes "j", 1) ∷ (hidden.text, 2) ∷ []
+
     nothing : (before : List Word) (c : Word) (after : List Word) → [] ≡ before ++ c ∷ after → ⊥
     nothing [] c after h = cc
     nothing (x ∷ before) c after h = cc
