@@ -16,17 +16,26 @@ Code = list[list]
 Value = object
 
 # Which operands of an instruction are places.
-PLACES = {"unless": 4, "jump": 1, "for": 4, "next": 1, "finish": 1, "endfinish": 1}
+PLACES = {"unless": 4, "jump": 1, "for": 4, "forto": 5, "next": 1, "finish": 1, "endfinish": 1}
 BEHIND = ("next", "endfinish")
+CLOSERS = {"for": "next", "forto": "next", "finish": "endfinish"}
 # Which operands of an instruction are slots, and which of them it reads as numbers.
 SLOTS = {
-    "lit": (1,), "copy": (1, 2), "add": (1, 2, 3), "sub": (1, 2, 3), "mul": (1, 2, 3), "unless": (2, 3), "for": (1,), "make": (1,), "resume": (1,),
-    "drop": (1,), "print": (1,), "get": (1,), "put": (2,), "addto": (2,),
+    "lit": (1,), "copy": (1, 2), "add": (1, 2, 3), "sub": (1, 2, 3), "mul": (1, 2, 3), "unless": (2, 3), "for": (1,), "forto": (1, 3), "make": (1,),
+    "resume": (1,), "drop": (1,), "print": (1,), "get": (1,), "put": (2,), "addto": (2,),
 }  # fmt: skip
 OPERATORS = ("eq", "ne", "lt", "le", "gt", "ge")
 EDGES = (-(2**63), -(2**63) + 1, 2**63 - 1, 2**63 - 2, 2**32, -1, 0, 1)
 
 
+def arguments(rng: random.Random, count: int) -> tuple[int, ...]:
+    """So many numbers that a program may be given."""
+    return tuple(rng.choice(EDGES) if rng.random() < 0.15 else rng.randrange(-2, 8) for _ in range(count))
+
+
+def near(rng: random.Random, low: int, high: int) -> int:
+    """A number about the first or the last one of a loop, within 64 bits."""
+    return min(max(rng.choice([low, high]) + rng.choice([-1, 0, 0, 1]), -(2**63)), 2**63 - 1)
 @dataclass(frozen=True)
 class Raw:
     """A piece of text that stands in a value as it is."""
@@ -72,6 +81,7 @@ class UnitWriter:
         self.state = [frozenset("lr" if letter == "c" else "n") for letter in params] + [frozenset("u")] * (slots - len(params))
         self.homes = {slot: -1 for slot, letter in enumerate(params) if letter == "c"}
         self.block = -1
+        # The slots that loops around this place count with, or take their limits from.
         self.loop_slots: list[int] = []
         self.times = 1
         self.steps = 1
@@ -247,25 +257,47 @@ class UnitWriter:
             return False
         slot = self.rng.choice(free)
         low = self.rng.choice([0, 1, 1, -2, -(2**63), 2**63 - turns])
+        limit = self.limit(slot, low, low + turns - 1) if self.rng.random() < 0.5 else None
+        passed = list(self.state)
         entry = list(self.state)
         entry[slot] = frozenset("n")
+        opener = ["for", slot, low, low + turns - 1] if limit is None else ["forto", slot, low, limit, low + turns - 1]
         begin, homes, count, spent = len(self.code), dict(self.homes), self.rng.randint(0, 3), (self.steps, self.activities)
         for attempt in range(5):
             del self.code[begin:]
             self.state, self.homes, (self.steps, self.activities) = list(entry), dict(homes), spent
-            self.code.append(["for", slot, low, low + turns - 1, 0])
-            self.times *= turns
-            self.loop_slots.append(slot)
-            if attempt < 4:
-                self.statements(count, depth + 1)
-            self.emit("next", begin)
-            self.loop_slots.pop()
-            self.times //= turns
-            self.code[begin][4] = len(self.code) - 1
+            self.turn(opener, turns, lambda: self.statements(count if attempt < 4 else 0, depth + 1))
             if all(end <= start for end, start in zip(self.state, entry)):
                 break
             entry = [start | end for start, end in zip(entry, self.state)]
+        if limit is not None:
+            self.state = [end | before for end, before in zip(self.state, passed)]
         return True
+
+    def limit(self, slot: int, low: int, high: int) -> int | None:
+        """A slot with a number that a loop goes no further than, mostly about where it begins or ends; none where no other slot is there."""
+        numbers = [one for one in self.numbers() if one != slot]
+        free = [one for one in self.free() if one != slot]
+        if numbers and (not free or self.rng.random() < 0.6):
+            return self.rng.choice(numbers)
+        if not free:
+            return None
+        limit = self.rng.choice(free)
+        self.emit("lit", limit, self.rng.choice(EDGES) if self.rng.random() < 0.2 else near(self.rng, low, high))
+        self.state[limit] = frozenset("n")
+        return limit
+
+    def turn(self, opener: list, turns: int, body: Callable[[], None]) -> None:
+        """A loop around what this writes."""
+        begin, slots = len(self.code), [opener[at] for at in SLOTS[opener[0]]]
+        self.code.append([*opener, 0])
+        self.times *= turns
+        self.loop_slots += slots
+        body()
+        self.emit("next", begin)
+        del self.loop_slots[-len(slots) :]
+        self.times //= turns
+        self.code[begin][-1] = len(self.code) - 1
 
     def branch(self, depth: int) -> bool:
         numbers = self.numbers()
@@ -301,6 +333,20 @@ class UnitWriter:
         return True
 
 
+def main_params(rng: random.Random, most: int) -> str:
+    """Numbers alone, or now and then a clock, which main may not take."""
+    if rng.random() < 0.01:
+        return params_of(rng, most)
+    return "n" * min(most, rng.choice([0, 0, 0, 1, 1, 2, 3]))
+
+
+def version_of(rng: random.Random, units: list[dict]) -> int:
+    """The version that a module needs, or another one now and then."""
+    if rng.random() < 0.04:
+        return rng.choice([1, 2, 2, 3])
+    return 2 if any(instr[0] == "forto" for unit in units for instr in unit["code"]) else rng.choice([1, 1, 2])
+
+
 def params_of(rng: random.Random, most: int) -> str:
     return "".join(rng.choice("ccn") for _ in range(rng.choice([0, 1, 1, 1, 2, 2, 3]) if most >= 3 else rng.randint(0, most)))
 
@@ -321,7 +367,7 @@ def program(rng: random.Random) -> dict:
     for number in reversed(range(count)):
         kind = rng.choice(["body", "body", "method"]) if number else "main"
         slots = rng.choice([0, 1, 2, 3, 3, 4, 5])
-        params = params_of(rng, slots) if number else ""
+        params = params_of(rng, slots) if number else main_params(rng, slots)
         # Each unit has its share of the steps and activities.
         part = 1 if number == 0 else 2 + number
         own = copy.copy(knobs)
@@ -333,7 +379,7 @@ def program(rng: random.Random) -> dict:
         later.append(Signature(number, kind, params, writer.steps, writer.activities))
         units.append({"kind": kind, "params": params, "slots": slots, "code": code})
     shared = [rng.choice(EDGES) if rng.random() < 0.2 else rng.randrange(4) for _ in range(knobs.shared)]
-    return {"version": 1, "shared": shared, "units": units[::-1]}
+    return {"version": version_of(rng, units), "shared": shared, "units": units[::-1]}
 
 
 # Short codes without order.
@@ -370,11 +416,12 @@ def soup(rng: random.Random) -> dict:
             for at in range(len(params), slots):
                 insert(rng, code, 0, ["lit", at, 0])
         for _ in range(rng.choice([0, 0, 1, 1, 2])):
-            wrap(rng, code, rng.choice(["for", "finish"]), slots)
+            wrap(rng, code, rng.choice(["for", "forto", "finish"]), slots)
         return {"kind": kind, "params": params, "slots": slots, "code": code}
 
-    plan = [("main", "")] + [(rng.choice(["body", "method"]), params_of(rng, 2)) for _ in range(rng.randrange(3))]
-    return {"version": 1, "shared": [], "units": [unit(number, *form) for number, form in enumerate(plan)]}
+    plan = [("main", main_params(rng, 2))] + [(rng.choice(["body", "method"]), params_of(rng, 2)) for _ in range(rng.randrange(3))]
+    units = [unit(number, *form) for number, form in enumerate(plan)]
+    return {"version": version_of(rng, units), "shared": [], "units": units}
 
 
 # Changes of a code.
@@ -406,9 +453,11 @@ def wrap(rng: random.Random, code: Code, opener: str, slots: int) -> None:
     """Puts a loop or a finish around a part of the code."""
     begin = rng.randrange(len(code))
     end = rng.randrange(begin, len(code))
-    closer = [{"for": "next", "finish": "endfinish"}[opener], begin]
+    slot = lambda: rng.randrange(max(1, slots))
+    heads = {"for": [slot(), 1, rng.choice([1, 2, 3])], "forto": [slot(), 1, slot(), rng.choice([1, 2, 3])], "finish": []}
+    closer = [CLOSERS[opener], begin]
     insert(rng, code, end, closer)
-    insert(rng, code, begin, ["for", rng.randrange(max(1, slots)), 1, rng.choice([1, 2, 3]), 0] if opener == "for" else ["finish", 0])
+    insert(rng, code, begin, [opener, *heads[opener], 0])
     closer[1] = begin
     code[begin][PLACES[opener]] = end + 1
 
@@ -442,7 +491,7 @@ def break_block(rng: random.Random, module: dict) -> None:
     way = rng.randrange(4)
     if way == 0:
         number = rng.randrange(len(units))
-        wrap(rng, units[number]["code"], rng.choice(["for", "finish"]), units[number]["slots"])
+        wrap(rng, units[number]["code"], rng.choice(["for", "forto", "finish"]), units[number]["slots"])
         return
     found = some_place(rng, units, *PLACES) if way < 3 else some_place(rng, units)
     if not found:
@@ -506,16 +555,25 @@ def break_cell(rng: random.Random, module: dict) -> None:
 
 
 def break_loop(rng: random.Random, module: dict) -> None:
-    found = some_place(rng, module["units"], "for")
+    found = some_place(rng, module["units"], "for", "forto")
     if not found:
         return
     code, place = module["units"][found[0]]["code"], found[1]
-    if rng.random() < 0.5:
-        code[place][2], code[place][3] = code[place][3] + rng.choice([0, 1]), code[place][2]
+    head = code[place]
+    slots = [head[at] for at in SLOTS[head[0]]]
+    way = rng.randrange(5)
+    if way < 2:
+        head[2], head[-2] = head[-2] + rng.choice([0, 1]), head[2]
+    elif way == 2 and head[0] == "forto":
+        head[rng.choice([1, 3])] = rng.choice(slots)
     else:
-        slot = code[place][1]
-        instr = rng.choice([["lit", slot, 1], ["copy", slot, slot], ["make", slot], ["add", slot, slot, slot]])
-        insert(rng, code, rng.choice([place + 1, code[place][4]]), instr)
+        slot = rng.choice(slots)
+        instr = rng.choice([["lit", slot, 1], ["copy", slot, slot], ["make", slot], ["add", slot, slot, slot], ["for", slot, 1, 1], ["get", slot, 0]])
+        if instr[0] == "for":
+            insert(rng, code, place + 1, ["next", place + 1])
+            insert(rng, code, place + 1, [*instr, place + 2])
+        else:
+            insert(rng, code, rng.choice([place + 1, head[-1]]), instr)
 
 
 def break_end(rng: random.Random, module: dict) -> None:
@@ -667,19 +725,37 @@ def unit_form(kind: str, params: str, slots: int, code: Code) -> dict:
 
 
 def module_form(*units: dict, shared: tuple[int, ...] = ()) -> dict:
-    return {"version": 1, "shared": list(shared), "units": list(units)}
+    has_limit = any(instr[0] == "forto" for unit in units for instr in unit["code"])
+    return {"version": 2 if has_limit or units and units[0]["params"] else 1, "shared": list(shared), "units": list(units)}
 
 
-def nest(rng: random.Random, turns: list[int], body: Code) -> Code:
-    """Loops in one another, each with a slot of its own, around a body without places."""
+def first_number(rng: random.Random, turns: int) -> int:
+    """Where a loop of so many turns may begin."""
+    if turns == 2**64:
+        return -(2**63)
+    return rng.choice([0, 1, -5, -(2**63), 2**63 - turns]) if turns else 1
+
+
+def nest(rng: random.Random, turns: list[int], body: Code, limited: bool = False) -> Code:
+    """Loops in one another, each with a slot of its own, around a body without places; some go no further than slot 0 says, where that is said."""
     count, code = len(turns), []
     for level, many in enumerate(turns):
-        low = rng.choice([0, 1, -5, -(2**63), 2**63 - many]) if many > 0 else 1
-        code.append(["for", level, low, low + many - 1, 2 * count + len(body) - level - 1])
+        low = first_number(rng, many)
+        high, end = low + many - 1, 2 * count + len(body) - level - 1
+        if limited and rng.random() < 0.7:
+            code.append(["forto", level + 1, low, 0, high, end])
+        else:
+            code.append(["for", level + 1, low, high, end])
     code += body
     for level in reversed(range(count)):
         code.append(["next", level])
     return code + [["ret"]]
+
+
+def nesting(rng: random.Random, turns: list[int], body: Code) -> dict:
+    """A main with such loops, which perhaps takes a number that is their limit."""
+    limited = rng.random() < 0.5
+    return unit_form("main", "n" if limited else "", 6, nest(rng, turns, body, limited))
 
 
 def factors(rng: random.Random, product: int) -> list[int]:
@@ -697,15 +773,15 @@ def many_steps(rng: random.Random) -> dict:
     if way == 0:
         # One loop: its instructions by its turns, one for the `for` and one for the `ret`, and perhaps some more.
         turns = (1_000_000_000 - 2) // weight + rng.choice([-1, 0, 0, 0, 1])
-        code = nest(rng, [max(1, turns)], body)
+        main = nesting(rng, [max(1, turns)], body)
         rest = 1_000_000_000 - 2 - turns * weight
         for _ in range(max(0, min(6, rest + rng.choice([-1, 0, 0, 1])))):
-            code.insert(len(code) - 1, ["lit", 4, 1])
-        return module_form(unit_form("main", "", 6, code))
+            main["code"].insert(len(main["code"]) - 1, ["lit", 4, 1])
+        return module_form(main)
     if way == 1:
-        return module_form(unit_form("main", "", 6, nest(rng, factors(rng, 1_000_000_000 // weight), body)))
+        return module_form(nesting(rng, factors(rng, 1_000_000_000 // weight), body))
     if way == 2:
-        return module_form(unit_form("main", "", 6, [["for", 0, -(2**63), 2**63 - 1, 1], ["next", 0], ["ret"]]))
+        return module_form(nesting(rng, [2**64], []))
     kind = rng.choice(["body", "method"])
     word = "spawn" if kind == "body" else "call"
     height = rng.choice([3, 9, 27, 28, 29, 200])
@@ -720,14 +796,14 @@ def many_activities(rng: random.Random) -> dict:
     bodies = [unit_form("body", "", 0, [["spawn", 2 + number, []] for number in range(below)] + [["ret"]])] + [unit_form("body", "", 0, [["ret"]]) for _ in range(below)]
     if below:
         turns = factors(rng, max(1, 99_999 // (1 + below)))
-    return module_form(unit_form("main", "", 6, nest(rng, turns, [["spawn", 1, []]])), *bodies)
+    return module_form(nesting(rng, turns, [["spawn", 1, []]]), *bodies)
 
 
 def many_clocks(rng: random.Random) -> dict:
     turns = rng.choice([[100_000], [100_001], [1000, 100], [1000, 101], [11, 9091], [317, 316], factors(rng, 100_000)])
     if rng.random() < 0.5:
-        return module_form(unit_form("main", "", 6, nest(rng, turns, [["make", 5], ["drop", 5]])))
-    return module_form(unit_form("main", "", 6, nest(rng, turns, [["call", 1, []]])), unit_form("method", "", 1, [["make", 0], ["drop", 0], ["ret"]]))
+        return module_form(nesting(rng, turns, [["make", 5], ["drop", 5]]))
+    return module_form(nesting(rng, turns, [["call", 1, []]]), unit_form("method", "", 1, [["make", 0], ["drop", 0], ["ret"]]))
 
 
 def high_stack(rng: random.Random) -> dict:
@@ -774,7 +850,9 @@ def long_code(rng: random.Random) -> dict:
         slots = 64
         depth = rng.choice([10, 63, 64, 200])
         turns = rng.choice([1, 1, 2])
-        code = [["for", 1 + level % 63, 1, turns, 2 * depth - 1 - level] for level in range(depth)] + [["next", depth - 1 - level] for level in range(depth)]
+        head = lambda level: rng.choice([["for", 1 + level % 63, 1, turns], ["forto", 1 + level % 63, 1, 0, turns]])
+        heads = [[*head(level), 2 * depth - 1 - level] for level in range(depth)]
+        code = heads + [["next", depth - 1 - level] for level in range(depth)]
     elif way == 1:
         depth = rng.choice([10, 100, 500])
         code = [["finish", 2 * depth - 1 - level] for level in range(depth)] + [["endfinish", depth - 1 - level] for level in range(depth)]
@@ -786,7 +864,7 @@ def long_code(rng: random.Random) -> dict:
             code.append(rng.choice([["unless", rng.choice(OPERATORS), 0, 0, place + far], ["resume", 1], ["advance"], ["lit", 0, 1], ["jump", place + far]]))
         code += [["advance"]] * 6
     end = rng.choice([[], [], [["print", 1]], [["drop", 1]], [["drop", 1], ["drop", 1]], [["lit", 1, 0]]])
-    return module_form(unit_form("main", "", slots, code + end + [["ret"]]))
+    return module_form(unit_form("main", rng.choice(["", "n"]) if way == 0 else "", slots, code + end + [["ret"]]))
 
 
 # Changes of a value, and of its text.

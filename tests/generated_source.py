@@ -17,7 +17,7 @@ from generated import EDGES
 
 Tokens = list[str]
 
-NAMES = "a b c d e f g h i j k n s t x y z _ x1 y2 clock make resume drop OUT println advanceAll main Long2".split()
+NAMES = "a b c d e f g h i j k n s t x y z _ x1 y2 clock make resume drop OUT println advanceAll main Long2 Math min".split()
 COMPARISONS = ("==", "!=", "<", "<=", ">", ">=")
 RESERVED = "shared def val var if else for in async clocked finish atomic Clock Long Console".split()
 SIGNS = "( ) { } , ; : = + - * . .. == != < <= > >=".split()
@@ -109,7 +109,8 @@ class Writer:
         taken = {known.name for known in self.methods}
         fresh = [one for one in [*NAMES, "m", "step"] if one not in taken and one != "main"]
         name = "main" if is_main else self.chance(self.rng.choice(fresh), NAMES)
-        letters = "" if is_main and not self.slips() else rng.choice(["", "c", "c", "n", "nn", "cn", "nc", "nnn", "cc", "ncn"])
+        any_letters = ["", "c", "c", "n", "nn", "cn", "nc", "nnn", "cc", "ncn"]
+        letters = rng.choice(["", "", "n", "n", "nn"] if is_main and not self.slips() else any_letters)
         with self.scope():
             params: list[Tokens] = []
             for letter in letters:
@@ -372,7 +373,7 @@ class Writer:
         if self.times * max(1, turns) > 12:
             return False
         low = self.rng.choice([0, 1, 1, -2, -(2**63), 2**63 - 3])
-        bounds = [*self.written(low), "..", *self.written(low + turns - 1 if low + turns - 1 >= -(2**63) else low)]
+        bounds = [*self.written(low), "..", *self.bound(low, low + turns - 1 if low + turns - 1 >= -(2**63) else low)]
         begin, spent, count = len(self.tokens), (self.steps, self.activities), self.rng.randint(0, 3)
         entry = dict(self.unit.clocks)
         for attempt in range(5):
@@ -389,6 +390,15 @@ class Writer:
                 break
             entry = {known: ways | self.unit.clocks[known] for known, ways in entry.items()}
         return True
+
+    def bound(self, low: int, high: int) -> Tokens:
+        """How far a loop goes: to a number, or no further than an expression either, mostly one about where the loop begins or ends."""
+        if self.rng.random() < 0.5:
+            return self.written(high)
+        self.spend(1)
+        about = self.rng.random() < 0.4 or not self.numbers()
+        limit = self.written(generated.near(self.rng, low, high)) if about else self.expr(self.rng.choice([1, 2, 4]))
+        return ["Math", ".", "min", "(", *limit, ",", *self.written(high), ")"]
 
     def written(self, number: int) -> Tokens:
         return ["-", str(-number)] if number < 0 else [str(number)]
@@ -491,7 +501,9 @@ def restated(rng: random.Random, tokens: Tokens) -> Tokens:
             tokens = rest[:to] + piece + rest[to:]
         else:
             begin = rng.choice(starts(tokens))
-            form = rng.choice(["async", "async", "finish", "finish", "if ( 1 < 2 )", "for ( i9 in 1 .. 2 )", "for ( i9 in 1 .. 0 )"])
+            name = rng.choice([token for token in tokens if is_name(token)])
+            least = [f"for ( i9 in 1 .. Math . min ( {name} , {high} ) )" for high in (0, 2, 2)]
+            form = rng.choice(["async", "async", "finish", "finish", "if ( 1 < 2 )", "for ( i9 in 1 .. 2 )", "for ( i9 in 1 .. 0 )", *least])
             tokens = tokens[:begin] + form.split() + tokens[begin:]
     return tokens
 
@@ -580,7 +592,8 @@ def deep(rng: random.Random) -> Tokens:
     statements = max(0, rng.choice([0, 10, levels - 2, levels - 1, levels]))
     closed: Tokens = []
     for number in range(statements):
-        form = rng.choice(["{", "finish", "async", "if ( 1 < 2 )", f"for ( i{number} in 1 .. 1 )", "if ( 1 == 2 ) ; else"])
+        loops = [f"for ( i{number} in 1 .. {bound} )" for bound in ("1", "Math . min ( 1 , 1 )")]
+        form = rng.choice(["{", "finish", "async", "if ( 1 < 2 )", *loops, "if ( 1 == 2 ) ; else"])
         opened += form.split()
         closed += ["}"] if form == "{" else []
     declared = ONE if rng.random() < 0.7 else []
@@ -588,7 +601,9 @@ def deep(rng: random.Random) -> Tokens:
         return main_of(*declared, *opened, ";", *closed)
     signs = [rng.choice("(-") for _ in range(levels - statements - 1)]
     inner = "x" if "-" in signs[-1:] and rng.random() < 0.5 else "1"
-    return main_of(*declared, *opened, *PRINT, "(", *signs, inner, *(")" for sign in signs if sign == "("), ")", ";", *closed)
+    expr = [*signs, inner, *(")" for sign in signs if sign == "(")]
+    last = "for ( j in 1 .. Math . min (".split() + [*expr, *", 1 ) ) ;".split()] if rng.random() < 0.3 else [*PRINT, "(", *expr, ")", ";"]
+    return main_of(*declared, *opened, *last, *closed)
 
 
 def long_expr(rng: random.Random) -> Tokens:
@@ -603,7 +618,9 @@ def long_expr(rng: random.Random) -> Tokens:
             expr = ["(", *expr, ")", operator, one] if rng.random() < 0.3 else [one, operator, *expr]
         else:
             expr += [operator, "(", "-", "x", ")"] if rng.random() < 0.5 else [operator, "-", "3"]
-    way = rng.randrange(4)
+    way = rng.randrange(5)
+    if way == 4:
+        return main_of(*ONE, *"for ( i in 1 .. Math . min (".split(), *expr, *", 2 ) ) ;".split())
     if way == 0:
         return [*"def f ( a : Long , b : Long ) { }".split(), *main_of(*ONE, "f", "(", *expr, ",", *expr, ")", ";")]
     if way == 1:
@@ -630,7 +647,8 @@ def many_methods(rng: random.Random) -> Tokens:
 def many_slots(rng: random.Random) -> Tokens:
     count = near(rng, 64) - rng.choice([0, 0, 1, 2])
     declared = [token for number in range(count) for token in f"val x{number} = 1 ;".split()]
-    return main_of(*declared, *rng.choice([[], [*PRINT, "(", "1", ")", ";"], "if ( 1 < 2 ) ;".split()]))
+    loops = [f"for ( i in 1 .. Math . min ( {limit} ) ) ;".split() for limit in ("1 , 2", "x0 + 1 , 2", "1 + 2 * 3 , 1", "1 , 0")]
+    return main_of(*declared, *rng.choice([[], [*PRINT, "(", "1", ")", ";"], "if ( 1 < 2 ) ;".split(), *loops]))
 
 
 def many_instructions(rng: random.Random) -> Tokens:
@@ -651,14 +669,17 @@ def many_arguments(rng: random.Random) -> Tokens:
 
 
 def many_steps(rng: random.Random) -> Tokens:
-    bounds = rng.choice(["1 .. 999999998", "1 .. 999999999", "- 9223372036854775808 .. 9223372036854775807", "5 .. 4"])
-    return main_of(*f"for ( i in {bounds} ) ;".split())
+    low, high = rng.choice([("1", "999999998"), ("1", "999999999"), ("1", "999999997"), ("- 9223372036854775808", "9223372036854775807"), ("5", "4")])
+    if rng.random() < 0.5:
+        return main_of(*f"for ( i in {low} .. {high} ) ;".split())
+    return ["def", "main", "(", "n", ":", "Long", ")", "{", *f"for ( i in {low} .. Math . min ( n , {high} ) ) ;".split(), "}"]
 
 
 def many_activities(rng: random.Random) -> Tokens:
     turns = rng.choice([99_998, 99_999, 100_000, 100_001])
     body = rng.choice(["async ;", "{ val c = Clock . make ( ) ; c . drop ( ) ; }"])
-    return main_of(*f"for ( i in 1 .. {turns} ) {body}".split())
+    bound = rng.choice([f"{turns}", f"Math . min ( 3 , {turns} )"])
+    return main_of(*f"for ( i in 1 .. {bound} ) {body}".split())
 
 
 def long_chain(rng: random.Random) -> Tokens:

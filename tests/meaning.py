@@ -5,7 +5,8 @@ A program is carried out on its tree here: a step does one statement with its ex
 activity. It shares no world with tests/telling.py: a clock keeps a phase and where each activity stands, a finish keeps how many it still
 waits for. Then the module is run by a schedule by chance, and whenever a step of it is seen, the same activity of the program goes on up to
 its next step that is seen: these two have to be the same event, and leave the same phases, standings and shared numbers, with all
-activities ended in both or in neither. As often the program goes first and the module follows.
+activities ended in both or in neither. As often the program goes first and the module follows. Both get the same numbers, by chance, where
+`main` takes some.
 
     python3 tests/meaning.py [CASES] [SEED] [--runs N] [--jobs N] [--program PATH] [--only CASE]
     python3 tests/meaning.py --file FILE [--runs N]
@@ -28,10 +29,11 @@ from collections.abc import Iterator
 from dataclasses import dataclass, field
 from typing import Protocol
 
+import generated
 import generated_source
 import telling
 import telling_source as source
-from telling import ClockName, Standing, Status, Wrong, wrapped
+from telling import Arguments, ClockName, Standing, Status, Wrong, wrapped
 
 # A run is left after so many steps of who goes first.
 LONGEST = 400
@@ -62,9 +64,10 @@ class World(Protocol):
 
 @dataclass(frozen=True)
 class Turn:
-    """The end of a turn of a loop."""
+    """The end of a turn of a loop, and the number of its last turn, which is known since before the first one."""
 
     loop: source.Loop
+    last: int
 
 
 class Close(enum.Enum):
@@ -82,7 +85,7 @@ class Doing:
     todo: list[Todo] = field(default_factory=list)
 
     def next_comes(self, *stmts: source.Stmt) -> None:
-        """These come next, without a step for blocks, and none for loops that take no turn."""
+        """These come next, without a step for blocks, and none for loops whose numbers allow no turn."""
         self.todo += reversed([one for stmt in stmts for one in unfolded(stmt)])
 
 
@@ -91,7 +94,7 @@ def unfolded(stmt: source.Stmt) -> Iterator[source.Stmt]:
         case source.Block(statements):
             for one in statements:
                 yield from unfolded(one)
-        case source.Loop(_, low, high, _) if low > high:
+        case source.Loop(_, low, high) if low > high:
             pass
         case _:
             yield stmt
@@ -144,15 +147,17 @@ class Clock:
 
 
 class Program:
-    """A tree that is carried out, one step after the other."""
+    """A tree that is carried out, one step after the other, by a main that gets these numbers."""
 
-    def __init__(self, tree: source.Tree) -> None:
+    def __init__(self, tree: source.Tree, arguments: Arguments) -> None:
         self.cells = {shared.name.text: cell for cell, shared in enumerate(tree.shared)}
         self.methods = {method.name.text: method for method in tree.methods}
         self.shared = [shared.value for shared in tree.shared]
         self.clocks: list[Clock] = []
         self.activities: list[Activity] = []
-        self.begin(Activity([Doing({})], Finish(None)), self.methods["main"].body)
+        main = self.methods["main"]
+        given: dict[str, Value] = {param.name.text: number for param, number in zip(main.params, arguments, strict=True)}
+        self.begin(Activity([Doing(given)], Finish(None)), main.body)
 
     def begin(self, activity: Activity, body: source.Stmt) -> None:
         activity.calls[-1].next_comes(body)
@@ -233,9 +238,9 @@ class Program:
 
     def next_of(self, who: int, me: Activity, doing: Doing) -> str | None:
         match doing.todo[-1]:
-            case Turn(loop):
+            case Turn(loop, last):
                 doing.todo.pop()
-                return self.turn(doing, loop, self.number(doing.names, loop.name) + 1)
+                return self.turn(doing, loop, self.number(doing.names, loop.name) + 1, last)
             case Close.FINISH:
                 if me.opened[-1].left:
                     return None
@@ -246,13 +251,16 @@ class Program:
                 doing.todo.pop()
                 return self.does(who, me, doing, stmt)
 
-    def turn(self, doing: Doing, loop: source.Loop, number: int) -> str:
+    def turn(self, doing: Doing, loop: source.Loop, number: int, last: int) -> str:
         """A turn of a loop with this number, if there is one."""
-        if number <= loop.high:
+        if number <= last:
             doing.names[loop.name.text] = number
-            doing.todo.append(Turn(loop))
+            doing.todo.append(Turn(loop, last))
             doing.next_comes(loop.body)
         return ""
+
+    def last_turn(self, names: dict[str, Value], loop: source.Loop) -> int:
+        return loop.high if loop.limit is None else min(self.number(names, loop.limit), loop.high)
 
     def does(self, who: int, me: Activity, doing: Doing, stmt: source.Stmt) -> str:
         names = doing.names
@@ -277,8 +285,8 @@ class Program:
                 holds = compare(self.number(names, left), self.number(names, right))
                 doing.next_comes(*([then] if holds else [otherwise] if otherwise else []))
                 return ""
-            case source.Loop(_, low, _, _):
-                return self.turn(doing, stmt, low)
+            case source.Loop(_, low):
+                return self.turn(doing, stmt, low, self.last_turn(names, stmt))
             case source.Finish(body):
                 me.opened.append(Finish(me.innermost))
                 doing.todo.append(Close.FINISH)
@@ -334,8 +342,8 @@ class Program:
 class Machine:
     """A module that is run as tests/telling.py has it, whose phases are counted."""
 
-    def __init__(self, module: telling.Module) -> None:
-        self.module, self.world = module, telling.opening(module)
+    def __init__(self, module: telling.Module, arguments: Arguments) -> None:
+        self.module, self.world = module, telling.opening(module, arguments)
         self.phases: list[int] = []
 
     def count(self) -> int:
@@ -426,24 +434,31 @@ class Pair:
 
 def compare(tree: source.Tree, module: telling.Module, rng: random.Random) -> collections.Counter[str]:
     """A run by chance, to its end where that comes soon; raises Differs. Answers what was counted."""
-    worlds = Program(tree), Machine(module)
+    arguments = generated.arguments(rng, module.wants)
+    worlds = Program(tree, arguments), Machine(module, arguments)
     pair = Pair(*(worlds if rng.random() < 0.5 else worlds[::-1]))
-    # Some runs let one activity go on for long, some take turns.
-    stay = rng.choice([0.0, 0.5, 0.9])
-    who, end = 0, "runs that were left after many steps"
     try:
-        while len(pair.schedule) < LONGEST:
-            if rng.random() < stay and pair.step(who):
-                continue
-            others = range(pair.leader.count())
-            if (one := next((one for one in rng.sample(others, len(others)) if pair.step(one)), None)) is None:
-                pair.halts()
-                end = "runs to an end" if pair.leader.shown()[2] else "runs that got stuck"
-                break
-            who = one
+        end = end_of(pair, rng)
     except Wrong:
         end = "runs that went wrong"
-    return collections.Counter({end: 1, "runs": 1, "steps that are seen": len(pair.seen)})
+    except Differs as differs:
+        raise Differs(f"{differs}, with the numbers {arguments}") from None
+    counts = collections.Counter({end: 1, "runs": 1, "steps that are seen": len(pair.seen)})
+    return counts + collections.Counter({"runs with numbers given": 1 if arguments else 0})
+
+
+def end_of(pair: Pair, rng: random.Random) -> str:
+    """How a run by chance ends: some let one activity go on for long, some take turns."""
+    stay, who = rng.choice([0.0, 0.5, 0.9]), 0
+    while len(pair.schedule) < LONGEST:
+        if rng.random() < stay and pair.step(who):
+            continue
+        others = range(pair.leader.count())
+        if (one := next((one for one in rng.sample(others, len(others)) if pair.step(one)), None)) is None:
+            pair.halts()
+            return "runs to an end" if pair.leader.shown()[2] else "runs that got stuck"
+        who = one
+    return "runs that were left after many steps"
 
 
 # Texts.

@@ -2,8 +2,8 @@
 """Feeds the built program modules that nobody wrote, and compares each answer with a second telling of it (tests/telling.py).
 
 The modules are those of tests/rows and whole programs that are made up here, as they are, with a rule broken, or changed operand by
-operand and byte by byte (tests/generated.py). `check` and `run`, the latter in each order, have to answer what the telling answers,
-byte for byte; where there are several walks to what is refused, another shortest one is taken too, and counted. Of an accepted module with few worlds
+operand and byte by byte (tests/generated.py). `check` and `run`, the latter in each order and with numbers by chance where main takes some, have to
+answer what the telling answers, byte for byte; where there are several walks to what is refused, another shortest one is taken too, and counted. Of an accepted module with few worlds
 the telling goes through all schedules, and looks whether the promises hold.
 With `--source` the texts are programs in the language (tests/generated_source.py) and those of tests/answers/sources*.rows and of examples,
 and `compile` is compared too, with what tests/telling_source.py makes of them. Some runs of the module are compared with what the text means
@@ -37,14 +37,17 @@ import generated
 import generated_source
 import meaning
 import telling
+import telling_log
 import telling_source
-from telling import Accepted, Order, Refused
+from telling import Accepted, Arguments, Order, Refused
 
 TOP = pathlib.Path(__file__).resolve().parent.parent
 SECONDS = 60
 # Runs of more steps than this are not made at all; those of more steps, or of more steps times activities and clocks, than these are
 # looked at for their form alone; and schedules are followed where there are no more activities than this.
 LONGEST_RUN, LONGEST_COMPARED, MOST_WORK, MOST_ACTIVITIES = 2_000_000, 20_000, 2_000_000, 64
+# Runs that may be longer, by loops with a limit, are compared where they aren't longer than this.
+SHORT = 500
 # So many runs of each text are compared with what it means.
 RUNS_MEANT = 3
 CHUNK = 100
@@ -133,6 +136,28 @@ class Outcome:
         self.differences.append(f"{words}\n      telling: {wanted}\n      program: {got}")
 
 
+def words_of(arguments: Arguments) -> list[str]:
+    """The words by which a program is given these numbers: one of a negative number stands in one with it."""
+    return [f"--arg={number}" for number in arguments]
+
+
+def given_in_orders(text: bytes, judged: Accepted) -> list[Arguments]:
+    """The numbers that a program is given in each order, by its text alone."""
+    rng = random.Random(text)
+    return [generated.arguments(rng, judged.module.wants) for _ in Order]
+
+
+def is_short(text: bytes, judged: Accepted) -> bool:
+    """Whether the runs of a program are compared: by its bounds, or as it goes where loops may end sooner than they could."""
+    bounds = judged.bounds
+    if bounds.steps <= LONGEST_COMPARED:
+        return bounds.steps * (bounds.activities + bounds.clocks) <= MOST_WORK
+    if not any(instr.name == "forto" for unit in judged.module.units for instr in unit.code):
+        return False
+    runs = (telling_log.driven(judged.module, *how) for how in zip(Order, given_in_orders(text, judged)))
+    return all(next(itertools.islice(run, SHORT, None), None) is None for run in runs)
+
+
 def is_sampled(text: bytes) -> bool:
     """One text in four, in which `run` is tried too where it has to say what is known already."""
     return zlib.crc32(text) % 4 == 0
@@ -188,11 +213,15 @@ class Comparer:
         answer = self.ask(text, "check")
         if answer != told:
             outcome.differ("check", told, answer)
+        elif is_short(text, judged):
+            self.runs(text, judged, True, outcome)
         elif judged.bounds.steps <= LONGEST_RUN:
-            self.runs(text, judged, outcome)
+            self.runs(text, judged, False, outcome)
         else:
             outcome.counts["accepted modules that were not run"] += 1
-        self.schedules(judged, outcome)
+        if is_sampled(text):
+            self.misgiven(text, judged, outcome)
+        self.schedules(text, judged, outcome)
         return outcome
 
     def of_refused(self, text: bytes, judged: Refused) -> Outcome:
@@ -206,7 +235,8 @@ class Comparer:
             else:
                 outcome.differ("check", told, answer)
         if is_sampled(text):
-            again = self.ask(text, "run")
+            rng = random.Random(text)
+            again = self.ask(text, "run", *words_of(generated.arguments(rng, rng.choice([0, 0, 1, 2]))))
             if again != answer:
                 outcome.differ("run after check", answer, again)
         return outcome
@@ -222,35 +252,48 @@ class Comparer:
         same = f"x10clock: {fault.line(places)}\n" == answer.err
         return same and len(places) == len(fault.walk) and walks.is_walk(places, (fault.place, fault.kind))
 
-    def runs(self, text: bytes, judged: Accepted, outcome: Outcome) -> None:
-        bounds = judged.bounds
-        exact = bounds.steps <= LONGEST_COMPARED and bounds.steps * (bounds.activities + bounds.clocks) <= MOST_WORK
-        for order in Order:
-            answer = self.ask(text, "run", "--order", order.value)
+    def misgiven(self, text: bytes, judged: Accepted, outcome: Outcome) -> None:
+        """A program that is given another count of numbers than it wants isn't run."""
+        rng = random.Random(text)
+        given = generated.arguments(rng, rng.choice([count for count in range(5) if count != judged.module.wants]))
+        answer = self.ask(text, "run", *words_of(given))
+        told = refused(telling.misgiven(judged.module, given))
+        outcome.counts["runs that aren't given what they want"] += 1
+        if answer != told:
+            outcome.differ(f"run {' '.join(words_of(given))}", told, answer)
+
+    def runs(self, text: bytes, judged: Accepted, exact: bool, outcome: Outcome) -> None:
+        for order, given in zip(Order, given_in_orders(text, judged)):
+            question = ["run", "--order", order.value, *words_of(given)]
+            answer = self.ask(text, *question)
             if order is Order.FIRST and is_sampled(text):
-                usual = self.ask(text, "run")
+                usual = self.ask(text, "run", *words_of(given))
                 if answer != usual:
                     outcome.differ("run, with --order first and without", answer, usual)
-            if not exact:
-                outcome.counts["runs looked at for their form"] += 1
-                ended = ENDED.fullmatch(answer.out)
-                if answer != done(answer.out) or not ended or int(ended[2]) > bounds.steps:
-                    outcome.differ(f"run --order {order.value}", f"ended within {bounds.steps} steps", answer)
+            if exact:
+                self.compare_run(" ".join(question), judged, (order, given), answer, outcome)
                 continue
-            outcome.counts["runs compared"] += 1
-            try:
-                ran = telling.run(judged.module, order)
-            except telling.Wrong as wrong:
-                outcome.differ(f"run --order {order.value}", f"a wrong step: {wrong}", answer)
-                continue
-            told = done(ran.text())
-            if answer != told or not ran.ended or ran.steps > bounds.steps:
-                outcome.differ(f"run --order {order.value}", told if ran.ended else "nobody can step", answer)
+            outcome.counts["runs looked at for their form"] += 1
+            ended = ENDED.fullmatch(answer.out)
+            if answer != done(answer.out) or not ended or int(ended[2]) > judged.bounds.steps:
+                outcome.differ(" ".join(question), f"ended within {judged.bounds.steps} steps", answer)
 
-    def schedules(self, judged: Accepted, outcome: Outcome) -> None:
+    def compare_run(self, question: str, judged: Accepted, how: tuple[Order, Arguments], answer: Answer, outcome: Outcome) -> None:
+        outcome.counts["runs compared"] += 1
+        outcome.counts["of them with numbers given"] += 1 if how[1] else 0
+        try:
+            ran = telling.run(judged.module, *how)
+        except telling.Wrong as wrong:
+            outcome.differ(question, f"a wrong step: {wrong}", answer)
+            return
+        told = done(ran.text())
+        if answer != told or not ran.ended or ran.steps > judged.bounds.steps:
+            outcome.differ(question, told if ran.ended else "nobody can step", answer)
+
+    def schedules(self, text: bytes, judged: Accepted, outcome: Outcome) -> None:
         few = judged.bounds.activities <= MOST_ACTIVITIES and judged.bounds.steps <= LONGEST_COMPARED
         try:
-            worlds = telling.Schedules(judged, self.worlds).walk() if few else None
+            worlds = telling.Schedules(judged, self.worlds, given_in_orders(text, judged)[0]).walk() if few else None
         except telling.Broken as broken:
             outcome.differences.append(f"a promise is broken: {broken}")
             return

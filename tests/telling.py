@@ -7,8 +7,8 @@ each open finish the set of activities that it waits for. Beside the answers it 
 whether the promises hold: no wrong step, no longer schedule than was verified, and all have ended where nobody can step.
 
     python3 tests/telling.py check FILE              what the program prints
-    python3 tests/telling.py run FILE [ORDER]        ORDER is first, last or round
-    python3 tests/telling.py walk FILE [WORLDS]      all schedules, through so many worlds at most
+    python3 tests/telling.py run FILE [ORDER] [--arg=N]..       ORDER is first, last or round
+    python3 tests/telling.py walk FILE [WORLDS] [--arg=N]..     all schedules, through so many worlds at most
 """
 
 from __future__ import annotations
@@ -197,6 +197,7 @@ ROLES: dict[str, tuple[Role, ...]] = {
     "unless": (Role.OPERATOR, Role.READ, Role.READ, Role.TARGET),
     "jump": (Role.TARGET,),
     "for": (Role.WRITE, Role.LITERAL, Role.LITERAL, Role.END),
+    "forto": (Role.WRITE, Role.LITERAL, Role.READ, Role.LITERAL, Role.END),
     "next": (Role.BEGIN,),
     "make": (Role.MAKE,),
     "resume": (Role.USE,),
@@ -213,7 +214,10 @@ ROLES: dict[str, tuple[Role, ...]] = {
     "ret": (),
 }
 
-CLOSERS = {"for": "next", "finish": "endfinish"}
+# The first version of the format that knows an instruction, where it isn't the first of all.
+SINCE = {"forto": 2}
+
+CLOSERS = {"for": "next", "forto": "next", "finish": "endfinish"}
 
 COMPARISONS: dict[str, Callable[[int, int], bool]] = {
     "eq": lambda a, b: a == b,
@@ -260,6 +264,31 @@ class Pair(NamedTuple):
         return self.begin < place <= self.end
 
 
+class Head(NamedTuple):
+    """How a loop begins: the slot that counts, the first and the last number, and the slot whose number it goes no further than, if there is one."""
+
+    slot: int
+    low: int
+    high: int
+    limit: int | None
+
+    @staticmethod
+    def of(instr: Instr) -> Head:
+        if instr.name == "forto":
+            slot, low, limit, high, _end = instr.operands
+            return Head(slot, low, high, limit)
+        slot, low, high, _end = instr.operands
+        return Head(slot, low, high, None)
+
+    @property
+    def turns(self) -> int:
+        """How many turns it takes at most."""
+        return self.high - self.low + 1
+
+    @property
+    def kept(self) -> list[int]:
+        """The slots that nothing inside may write, and that its `next` reads."""
+        return [self.slot] if self.limit is None else [self.slot, self.limit]
 @dataclass(frozen=True)
 class Unit:
     kind: UnitKind
@@ -287,7 +316,11 @@ class Unit:
 
     @cached_property
     def loops(self) -> list[Pair]:
-        return self.pairs_of("for")
+        return [pair for opener in ("for", "forto") for pair in self.pairs_of(opener)]
+
+    def head(self, begin: int) -> Head:
+        """How the loop begins that is opened at this place."""
+        return Head.of(self.code[begin])
 
     @cached_property
     def blocks(self) -> list[int]:
@@ -321,6 +354,11 @@ class Module:
             return []
         return [slot for slot, param in zip(instr.arguments, self.units[instr.callee].params) if param == letter]
 
+    @property
+    def wants(self) -> int:
+        """How many numbers the program wants to be given, once it is accepted."""
+        return len(self.units[0].params)
+
 
 def fitted(condition: bool) -> None:
     if not condition:
@@ -345,32 +383,33 @@ def operand_of(role: Role, value: Json) -> int | str | tuple[int, ...]:
     return value
 
 
-def instr_of(value: Json) -> Instr:
+def instr_of(value: Json, version: int) -> Instr:
     fitted(isinstance(value, list) and len(value) > 0 and isinstance(value[0], str) and value[0] in ROLES)
     name, *operands = value
+    fitted(version >= SINCE.get(name, 1))
     roles = ROLES[name]
     fitted(len(operands) == len(roles))
     return Instr(name, tuple(operand_of(role, operand) for role, operand in zip(roles, operands)))
 
 
-def unit_of(value: Json) -> Unit:
+def unit_of(value: Json, version: int) -> Unit:
     fitted(isinstance(value, dict) and set(value) == {"kind", "params", "slots", "code"})
     kind, params, slots, code = value["kind"], value["params"], value["slots"], value["code"]
     fitted(isinstance(kind, str) and kind in {known.value for known in UnitKind})
     fitted(isinstance(params, str) and set(params) <= {"n", "c"})
     fitted(is_whole(slots, UNSIGNED_16))
     fitted(isinstance(code, list))
-    return Unit(UnitKind(kind), params, slots, tuple(map(instr_of, code)))
+    return Unit(UnitKind(kind), params, slots, tuple(instr_of(instr, version) for instr in code))
 
 
 def module_of(value: Json) -> Module:
     """The module that a value names, whatever its size."""
     fitted(isinstance(value, dict) and set(value) == {"version", "shared", "units"})
     version, shared, units = value["version"], value["shared"], value["units"]
-    fitted(is_whole(version, range(1, 2)))
+    fitted(is_whole(version, range(1, 3)))
     fitted(isinstance(shared, list) and all(is_whole(number, SIGNED_64) for number in shared))
     fitted(isinstance(units, list))
-    return Module(tuple(shared), tuple(map(unit_of, units)))
+    return Module(tuple(shared), tuple(unit_of(unit, version) for unit in units))
 
 
 def is_within_limits(module: Module) -> bool:
@@ -445,10 +484,10 @@ def breaks_slot(_: Module, unit: Unit) -> Iterator[int]:
 
 
 def breaks_unit(module: Module) -> Breaches:
-    """Main is unit 0, alone, and takes nothing; who is called or started is there, is of the right kind, and gets what it takes."""
+    """Main is unit 0, alone, and takes no clock; who is called or started is there, is of the right kind, and gets what it takes."""
     wanted = {"call": UnitKind.METHOD, "spawn": UnitKind.BODY}
     for number, unit in enumerate(module.units):
-        if (unit.kind is UnitKind.MAIN) != (number == 0) or (number == 0 and unit.params):
+        if (unit.kind is UnitKind.MAIN) != (number == 0) or (number == 0 and "c" in unit.params):
             yield number, 0
         for place, instr in enumerate(unit.code):
             if instr.name not in wanted:
@@ -467,13 +506,13 @@ def breaks_cell(module: Module, unit: Unit) -> Iterator[int]:
 
 @each_unit
 def breaks_loop(_: Module, unit: Unit) -> Iterator[int]:
-    """A loop has a turn, and nothing in it writes its slot."""
+    """A loop may have a turn, its limit isn't the slot that counts, and nothing in it writes one of the two."""
     for loop in unit.loops:
-        slot, low, high, _end = unit.code[loop.begin].operands
-        if low > high:
+        head = unit.head(loop.begin)
+        if head.low > head.high or head.limit == head.slot:
             yield loop.begin
         for place in range(loop.begin + 1, loop.end):
-            if slot in unit.code[place].of(Role.WRITE, Role.MAKE):
+            if set(head.kept) & set(unit.code[place].of(Role.WRITE, Role.MAKE)):
                 yield place
 
 
@@ -575,18 +614,23 @@ class Effect:
     # The finish that the instruction closes, if it closes one.
     closes: int | None
     following: tuple[int, ...]
+    # Where a walk goes on from a loop that takes no turn: its slot isn't written then.
+    past: int | None
 
     @staticmethod
     def of(module: Module, unit: Unit, place: int) -> Effect:
         instr = unit.code[place]
         reads = instr.of(Role.READ) + module.arguments(instr, "n")
         following = {place + 1, *instr.of(Role.TARGET)}
-        closes = None
+        closes = past = None
         match instr.name:
             case "next":
                 begin = instr.operands[0]
-                reads = [unit.code[begin].operands[0]]
+                reads = unit.head(begin).kept
                 following.add(begin + 1)
+            case "forto":
+                past = instr.of(Role.END)[0] + 1
+                following.add(past)
             case "jump":
                 following.remove(place + 1)
                 following.update(instr.operands)
@@ -604,6 +648,7 @@ class Effect:
             frozenset(module.arguments(instr, "c")),
             closes,
             tuple(sorted(following)),
+            past,
         )
 
 
@@ -635,9 +680,11 @@ class SlotWalks:
             return LEAK_REFUSED
         return None
 
-    def after(self, place: int, kind: Kind) -> tuple[Kind, ...]:
-        """The kinds with which a walk goes on from the place, where it isn't refused, rising."""
+    def after(self, place: int, kind: Kind, following: int) -> tuple[Kind, ...]:
+        """The kinds with which a walk goes on from the place to the following one, where it isn't refused, rising."""
         effect, slot = self.effects[place], self.slot
+        if following == effect.past:
+            return (kind,)
         if slot in effect.makes:
             return (Kind.LIVE,)
         if slot in effect.writes:
@@ -656,7 +703,7 @@ class SlotWalks:
         """Where a walk goes on from a point, rising; nowhere where it is refused."""
         if self.refusal(*point):
             return []
-        return [(place, kind) for place in self.effects[point[0]].following for kind in self.after(*point)]
+        return [(place, kind) for place in self.effects[point[0]].following for kind in self.after(*point, place)]
 
     @cached_property
     def found_from(self) -> dict[Point, Point | None]:
@@ -739,9 +786,8 @@ def turns(unit: Unit) -> list[int]:
     """How often each instruction is carried out at most, whenever its unit is."""
     times = [1] * len(unit.code)
     for loop in unit.loops:
-        _slot, low, high, _end = unit.code[loop.begin].operands
         for place in range(loop.begin + 1, loop.end + 1):
-            times[place] *= high - low + 1
+            times[place] *= unit.head(loop.begin).turns
     return times
 
 
@@ -918,8 +964,19 @@ class Step(NamedTuple):
     advanced: tuple[int, ...]
 
 
-def opening(module: Module) -> World:
-    frame = Frame(0, 0, (None,) * module.units[0].slots)
+Arguments = tuple[int, ...]
+
+
+def misgiven(module: Module, arguments: Arguments) -> str | None:
+    """What is said of a program that is given another count of numbers than it wants."""
+    if len(arguments) == module.wants:
+        return None
+    return f"A1 Arguments wants {module.wants} has {len(arguments)}"
+
+
+def opening(module: Module, arguments: Arguments = ()) -> World:
+    """The world in which a program begins that is given these numbers, as many as it wants."""
+    frame = Frame(0, 0, arguments + (None,) * (module.units[0].slots - len(arguments)))
     return World((Activity(Status.RUNNING, (frame,)),), (), module.shared)
 
 
@@ -1032,11 +1089,22 @@ class Turn:
     def for_(self, slot: int, low: int, _high: int, _end: int) -> None:
         self.lit(slot, low)
 
+    def last_turn(self, head: Head) -> int:
+        """The number of the last turn that a loop takes, if it takes one."""
+        return head.high if head.limit is None else min(self.number(head.limit), head.high)
+
+    def forto(self, slot: int, low: int, _limit: int, _high: int, end: int) -> None:
+        """Begins a loop, or goes past it where the limit is below its first number."""
+        if low <= self.last_turn(Head.of(self.instr)):
+            self.lit(slot, low)
+        else:
+            self.go_to(end + 1)
+
     def next(self, begin: int) -> None:
-        slot, _low, high, _end = self.module.units[self.frame.unit].code[begin].operands
-        turn = self.number(slot)
-        if turn < high:
-            self.write(slot, turn + 1)
+        head = self.module.units[self.frame.unit].head(begin)
+        turn = self.number(head.slot)
+        if turn < self.last_turn(head):
+            self.write(head.slot, turn + 1)
             self.go_to(begin + 1)
         else:
             self.go_on()
@@ -1211,9 +1279,9 @@ class Ran:
         return "".join(f"{number}\n" for number in self.printed) + f"ended steps {self.steps}\n"
 
 
-def run(module: Module, order: Order) -> Ran:
-    """The run in an order; raises Wrong."""
-    world, before, steps, printed = opening(module), -1, 0, []
+def run(module: Module, order: Order, arguments: Arguments = ()) -> Ran:
+    """The run in an order, with these numbers given; raises Wrong."""
+    world, before, steps, printed = opening(module, arguments), -1, 0, []
     while True:
         for who in order.candidates(len(world.activities), before):
             taken = step(module, world, who)
@@ -1246,10 +1314,11 @@ def kind_in(world: World, who: int, value: Value) -> Kind:
 
 
 class Schedules:
-    """A walk through all schedules of an accepted module. Worlds that are alike are looked at once."""
+    """A walk through all schedules of an accepted module that is given these numbers. Worlds that are alike are looked at once."""
 
-    def __init__(self, accepted: Accepted, worlds: int) -> None:
+    def __init__(self, accepted: Accepted, worlds: int, arguments: Arguments = ()) -> None:
         self.module, self.kinds, self.bounds, self.worlds = accepted.module, accepted.kinds, accepted.bounds, worlds
+        self.start = opening(self.module, arguments)
         # For each world that is done with, how many steps can be taken from it at most.
         self.longest: dict[World, int] = {}
         self.path: list[int] = []
@@ -1282,7 +1351,7 @@ class Schedules:
 
     def walk(self) -> int | None:
         """How many worlds there are, or None where there are more than were to be looked at; raises Broken."""
-        start = opening(self.module)
+        start = self.start
         self.look(start)
         stack: list[tuple[World, Iterator[tuple[int, World]], int, bool]] = [(start, self.steps_from(start), 0, False)]
         open_worlds = {start}
@@ -1330,37 +1399,58 @@ class Schedules:
                     begin = () if taken.printed is None else (taken.printed,)
                     found.update({begin + rest: count for rest, count in lists[taken.world].items()})
             lists[world] = found or Counter({(): 1})
-        return lists[opening(self.module)]
+        return lists[self.start]
 
 
 # The command line.
 
 
-def answer(command: str, judged: Accepted | Refused, more: list[str]) -> int:
-    """Prints what there is to say of a program."""
+def refusal(command: str, judged: Accepted | Refused, arguments: Arguments) -> str | None:
+    """The line on a program that is refused: all but `check` also look at how many numbers are given."""
     if isinstance(judged, Refused):
-        print(f"x10clock: {judged.line}", file=sys.stderr)
+        return judged.line
+    return None if command == "check" else misgiven(judged.module, arguments)
+
+
+def answer_walk(schedules: Schedules) -> None:
+    """Prints how often each list of numbers is printed."""
+    worlds = schedules.walk()
+    if worlds is None:
+        print("more worlds")
+        return
+    printed = schedules.printed()
+    print(f"{worlds} worlds, {printed.total()} schedules, at most {schedules.longest[schedules.start]} steps")
+    for numbers, count in sorted(printed.items()):
+        print(f"{count} times:", *numbers)
+
+
+def answer(command: str, judged: Accepted | Refused, more: list[str], arguments: Arguments = ()) -> int:
+    """Prints what there is to say of a program that is given these numbers."""
+    line = refusal(command, judged, arguments)
+    if line:
+        print(f"x10clock: {line}", file=sys.stderr)
         return 1
     if command == "check":
         print(judged.bounds.line())
     elif command == "run":
-        print(run(judged.module, Order(more[0] if more else "first")).text(), end="")
+        print(run(judged.module, Order(more[0] if more else "first"), arguments).text(), end="")
     else:
-        schedules = Schedules(judged, int(more[0]) if more else 1_000_000)
-        worlds = schedules.walk()
-        if worlds is None:
-            print("more worlds")
-            return 0
-        printed = schedules.printed()
-        print(f"{worlds} worlds, {printed.total()} schedules, at most {schedules.longest[opening(judged.module)]} steps")
-        for numbers, count in sorted(printed.items()):
-            print(f"{count} times:", *numbers)
+        answer_walk(Schedules(judged, int(more[0]) if more else 1_000_000, arguments))
     return 0
 
 
+ARGUMENT = "--arg="
+
+
+def parted(words: list[str]) -> tuple[list[str], Arguments]:
+    """The words of a call without the numbers that are given, and these."""
+    numbers = tuple(int(word.removeprefix(ARGUMENT)) for word in words if word.startswith(ARGUMENT))
+    return [word for word in words if not word.startswith(ARGUMENT)], numbers
+
+
 def main(words: list[str]) -> int:
-    command, path, *more = words
-    return answer(command, judge(pathlib.Path(path).read_bytes()), more)
+    (command, path, *more), arguments = parted(words)
+    return answer(command, judge(pathlib.Path(path).read_bytes()), more, arguments)
 
 
 if __name__ == "__main__":

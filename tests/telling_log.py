@@ -4,9 +4,9 @@
 A log is the schedule of a run, written down: lines of an activity and how many steps it takes one after the other. A text is read as one here
 by patterns, line by line; a replay takes the steps one by one, as tests/telling.py has them; a chart has a line for each clock that advances.
 
-    python3 tests/telling_log.py log FILE [ORDER]         the log of a run; ORDER is first, last or round
-    python3 tests/telling_log.py replay FILE LOG          what the run of this log prints
-    python3 tests/telling_log.py chart FILE LOG
+    python3 tests/telling_log.py log FILE [ORDER] [--arg=N]..         the log of a run; ORDER is first, last or round
+    python3 tests/telling_log.py replay FILE LOG [--arg=N]..          what the run of this log prints
+    python3 tests/telling_log.py chart FILE LOG [--arg=N]..
 
 FILE is a module, or with a name that ends in `.x10` a source text.
 """
@@ -22,8 +22,7 @@ from typing import NamedTuple
 
 import telling
 import telling_source
-from telling import Order
-
+from telling import Arguments, Order
 GREATEST = 4_294_967_295
 MOST_ENTRIES = 1_000_000_000
 # The longest line is an entry of twice the greatest number.
@@ -119,8 +118,8 @@ class Played:
     advances: list[Advance]
 
     @staticmethod
-    def opening(module: telling.Module) -> Played:
-        return Played(module, telling.opening(module), 0, [], {}, [])
+    def opening(module: telling.Module, arguments: Arguments) -> Played:
+        return Played(module, telling.opening(module, arguments), 0, [], {}, [])
 
     def step(self, who: int) -> bool:
         """A step of an activity, if it can take one."""
@@ -142,9 +141,9 @@ class Played:
         return "".join(advance.line() for advance in self.advances)
 
 
-def replay(module: telling.Module, log: Iterable[Entry]) -> Played:
-    """The run of a log, which has to come to the end of all activities; raises Fault."""
-    played = Played.opening(module)
+def replay(module: telling.Module, log: Iterable[Entry], arguments: Arguments = ()) -> Played:
+    """The run of a log, with these numbers given, which has to come to the end of all activities; raises Fault."""
+    played = Played.opening(module, arguments)
     for number, entry in enumerate(log):
         for _ in range(entry.steps):
             if not played.step(entry.activity):
@@ -154,17 +153,17 @@ def replay(module: telling.Module, log: Iterable[Entry]) -> Played:
     return played
 
 
-def driven(module: telling.Module, order: Order) -> Iterator[int]:
-    """The activities that take the steps of a run in this order."""
-    played, before = Played.opening(module), -1
+def driven(module: telling.Module, order: Order, arguments: Arguments = ()) -> Iterator[int]:
+    """The activities that take the steps of a run in this order, with these numbers given."""
+    played, before = Played.opening(module, arguments), -1
     while (who := next((one for one in order.candidates(len(played.world.activities), before) if played.step(one)), None)) is not None:
         before = who
         yield who
 
 
-def log_of(module: telling.Module, order: Order) -> Log:
+def log_of(module: telling.Module, order: Order, arguments: Arguments = ()) -> Log:
     """The log of a run in this order: an entry for each step."""
-    return [Entry(who, 1) for who in driven(module, order)]
+    return [Entry(who, 1) for who in driven(module, order, arguments)]
 
 
 # Answers: the status, standard output and standard error of the program.
@@ -172,12 +171,13 @@ def log_of(module: telling.Module, order: Order) -> Log:
 Answer = tuple[int, str, str]
 
 
-def answer(judged: telling.Accepted | telling.Refused, data: bytes, command: str) -> Answer:
-    """Of `replay` and `chart`: the program is judged before the log is read."""
-    if isinstance(judged, telling.Refused):
-        return 1, "", f"x10clock: {judged.line}\n"
+def answer(judged: telling.Accepted | telling.Refused, data: bytes, command: str, arguments: Arguments = ()) -> Answer:
+    """Of `replay` and `chart`: the program is judged, and the numbers that are given are counted, before the log is read."""
+    line = telling.refusal(command, judged, arguments)
+    if line:
+        return 1, "", f"x10clock: {line}\n"
     try:
-        played = replay(judged.module, read(data))
+        played = replay(judged.module, read(data), arguments)
     except Fault as fault:
         return 3, "", f"x10clock: {fault}\n"
     return 0, played.chart() if command == "chart" else played.output(), ""
@@ -189,12 +189,12 @@ def judge(path: pathlib.Path) -> telling.Accepted | telling.Refused:
 
 
 def main(words: list[str]) -> int:
-    command, file, *more = words
+    (command, file, *more), arguments = telling.parted(words)
     judged = judge(pathlib.Path(file))
-    if command == "log" and isinstance(judged, telling.Accepted):
-        sys.stdout.buffer.write(text_of(log_of(judged.module, Order(more[0] if more else "first"))))
+    if command == "log" and not telling.refusal(command, judged, arguments):
+        sys.stdout.buffer.write(text_of(log_of(judged.module, Order(more[0] if more else "first"), arguments)))
         return 0
-    status, out, err = answer(judged, pathlib.Path(more[0]).read_bytes() if more else b"", command)
+    status, out, err = answer(judged, pathlib.Path(more[0]).read_bytes() if more else b"", command, arguments)
     sys.stdout.write(out)
     sys.stderr.write(err)
     return status

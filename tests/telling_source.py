@@ -7,8 +7,8 @@ of the module from there on is told by tests/telling.py.
 
     python3 tests/telling_source.py compile FILE            what the program prints
     python3 tests/telling_source.py check FILE
-    python3 tests/telling_source.py run FILE [ORDER]        ORDER is first, last or round
-    python3 tests/telling_source.py walk FILE [WORLDS]      all schedules, through so many worlds at most
+    python3 tests/telling_source.py run FILE [ORDER] [--arg=N]..        ORDER is first, last or round
+    python3 tests/telling_source.py walk FILE [WORLDS] [--arg=N]..      all schedules, through so many worlds at most
 """
 
 from __future__ import annotations
@@ -196,9 +196,12 @@ class Branch:
 
 @dataclass(frozen=True)
 class Loop:
+    """Goes no further than `high`, nor than what `limit` comes to, where the bound is `Math.min(limit, high)`."""
+
     name: Name
     low: int
     high: int
+    limit: Expr | None
     body: Stmt
 
 
@@ -494,9 +497,22 @@ class Parser:
         self.want("in")
         low = self.number()
         self.want("..")
+        limit = self.least() if self.token.sort is Sort.NAME else None
         high = self.number()
+        if limit is not None:
+            self.want(")")
         self.want(")")
-        return Loop(name, low, high, self.statement())
+        return Loop(name, low, high, limit, self.statement())
+
+    def least(self) -> Expr:
+        """The first operand of `Math.min`, with all that stands before the second one."""
+        self.name("Math")
+        self.want(".")
+        self.name("min")
+        self.want("(")
+        limit = self.whole_expr()
+        self.want(",")
+        return limit
 
     def start(self, at: int) -> Async:
         clocks: list[Name] = []
@@ -608,6 +624,8 @@ class Names:
         self.visible: dict[str, Declared] = {}
         self.scopes: list[list[str]] = []
         self.meanings: dict[int, Declared] = {}
+        # What the limit of a loop comes to, by the offset of the loop's name.
+        self.limits: dict[int, Declared] = {}
         # The body of each `async`, by the offset of its word; the first method of each name; and who calls whom, and where.
         self.bodies: dict[int, UnitForm] = {}
         self.methods: dict[str, Method] = {}
@@ -627,7 +645,7 @@ class Names:
         if self.faults:
             offset, rule = min(self.faults)
             raise Fault(rule, offset)
-        if "main" not in self.methods or self.methods["main"].params:
+        if "main" not in self.methods or any(param.type == "Clock" for param in self.methods["main"].params):
             raise Fault(9, 0)
 
     def fault(self, rule: int, where: Expr | NewClock) -> None:
@@ -765,10 +783,8 @@ class Names:
                 self.alone(unit, then)
                 if otherwise:
                     self.alone(unit, otherwise)
-            case Loop(name, _, _, body):
-                with self.scope():
-                    self.declare(name, Declared(Meaning.FIXED, unit))
-                    self.alone(unit, body)
+            case Loop():
+                self.loop(unit, stmt)
             case Async():
                 self.start(unit, stmt)
             case Finish(body):
@@ -791,6 +807,17 @@ class Names:
             self.value(unit, stmt.right)
         number = Meaning.VAR if stmt.word == "var" else Meaning.FIXED
         self.declare(stmt.name, Declared(Meaning.CLOCK if is_clock else number, unit))
+
+    def loop(self, unit: UnitForm, stmt: Loop) -> None:
+        """The limit doesn't see the loop's name; what it comes to has a slot right behind that name's."""
+        if stmt.limit is not None:
+            self.number(unit, stmt.limit)
+        with self.scope():
+            self.declare(stmt.name, Declared(Meaning.FIXED, unit))
+            if stmt.limit is not None:
+                limit = self.limits[stmt.name.at] = Declared(Meaning.FIXED, unit)
+                unit.own.append(limit)
+            self.alone(unit, stmt.body)
 
     def start(self, unit: UnitForm, stmt: Async) -> None:
         for name in stmt.clocks:
@@ -929,9 +956,8 @@ class Coder:
                 self.code.append(["addto", self.cell(name), self.eval(term, self.first_temporary)])
             case Branch():
                 self.branch(stmt)
-            case Loop(name, low, high, body):
-                if low <= high:
-                    self.around(["for", self.slot(name), low, high], body, "next")
+            case Loop():
+                self.loop(stmt)
             case Finish(body):
                 self.around(["finish"], body, "endfinish")
             case Async(_, _, at):
@@ -961,6 +987,18 @@ class Coder:
         self.statement(body)
         opener.append(len(self.code))
         self.code.append([closer, begin])
+
+    def loop(self, stmt: Loop) -> None:
+        """Nothing where the numbers of the text allow no turn."""
+        if stmt.low > stmt.high:
+            return
+        slot = self.slot(stmt.name)
+        if stmt.limit is None:
+            self.around(["for", slot, stmt.low, stmt.high], stmt.body, "next")
+            return
+        limit = self.slots[self.names.limits[stmt.name.at]]
+        self.into(stmt.limit, limit, self.first_temporary)
+        self.around(["forto", slot, stmt.low, limit, stmt.high], stmt.body, "next")
 
     def branch(self, stmt: Branch) -> None:
         test = ["unless", COMPARISONS[stmt.comparison], *self.both(stmt.left, stmt.right, self.first_temporary)]
@@ -1040,7 +1078,13 @@ def compile_tree(tree: Tree) -> dict:
         coder = coders[unit]
         code = [[numbers[part] if isinstance(part, UnitForm) else part for part in instr] for instr in coder.code]
         units.append({"kind": unit.kind, "params": unit.letters, "slots": coder.highest, "code": code})
-    return {"version": 1, "shared": [shared.value for shared in tree.shared], "units": units}
+    return {"version": version_of(units), "shared": [shared.value for shared in tree.shared], "units": units}
+
+
+def version_of(units: list[dict]) -> int:
+    """The version that a module is written in: the second where it needs that one."""
+    has_limit = any(instr[0] == "forto" for unit in units for instr in unit["code"])
+    return 2 if has_limit or units[0]["params"] else 1
 
 
 # Answers.
@@ -1071,9 +1115,9 @@ def answer_compile(data: bytes) -> int:
 
 
 def main(words: list[str]) -> int:
-    command, path, *more = words
+    (command, path, *more), arguments = telling.parted(words)
     data = sys.stdin.buffer.read() if path == "-" else pathlib.Path(path).read_bytes()
-    return answer_compile(data) if command == "compile" else telling.answer(command, judge(data), more)
+    return answer_compile(data) if command == "compile" else telling.answer(command, judge(data), more, arguments)
 
 
 if __name__ == "__main__":

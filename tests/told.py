@@ -9,17 +9,26 @@ It knows `check`, `compile`, `run`, `replay` and `chart`, and none of clap's tex
 from __future__ import annotations
 
 import argparse
+import itertools
 import pathlib
 import sys
 
 import telling
 import telling_log
 import telling_source
-from telling import Accepted, Order, Refused
+from telling import Accepted, Arguments, Order, Refused
 
+# A run of more steps than this is too long for Python; runs are counted, for a bound says only how long they may become.
 TOO_LONG = 100_000
 # What is behind these bytes of a file isn't looked at: some files have no end.
 MOST_BYTES = 1 << 25
+
+
+def signed_64(text: str) -> int:
+    number = int(text)
+    if number not in telling.SIGNED_64:
+        raise ValueError(text)
+    return number
 
 
 def words() -> argparse.Namespace:
@@ -33,6 +42,8 @@ def words() -> argparse.Namespace:
         if name == "run":
             command.add_argument("--order", choices=[order.value for order in Order], default="first")
             command.add_argument("--log", type=pathlib.Path)
+        if name in ("run", "replay", "chart"):
+            command.add_argument("--arg", type=signed_64, action="append", default=[])
         if name in ("replay", "chart"):
             command.add_argument("log", type=pathlib.Path)
     return parser.parse_args()
@@ -43,23 +54,29 @@ def read(path: pathlib.Path) -> bytes:
         return file.read(MOST_BYTES)
 
 
-def logged(command: str, judged: Accepted | Refused, log: pathlib.Path) -> int:
+def logged(command: str, judged: Accepted | Refused, log: pathlib.Path, arguments: Arguments) -> int:
     """What is said of a log."""
-    status, out, err = telling_log.answer(judged, read(log), command)
+    status, out, err = telling_log.answer(judged, read(log), command, arguments)
     sys.stdout.write(out)
     sys.stderr.write(err)
     return status
 
 
-def ran(judged: Accepted, order: Order, log: pathlib.Path | None) -> int:
+def ran(judged: Accepted, order: Order, log: pathlib.Path | None, arguments: Arguments) -> int:
     """What a run prints; its log is written then, where one is wanted."""
-    if judged.bounds.steps > TOO_LONG:
+    if is_too_long(judged, order, arguments):
         print("told: too many steps for a run in Python", file=sys.stderr)
         return 9
-    status = telling.answer("run", judged, [order.value])
+    status = telling.answer("run", judged, [order.value], arguments)
     if log:
-        log.write_bytes(telling_log.text_of(telling_log.log_of(judged.module, order)))
+        log.write_bytes(telling_log.text_of(telling_log.log_of(judged.module, order, arguments)))
     return status
+
+
+def is_too_long(judged: Accepted, order: Order, arguments: Arguments) -> bool:
+    if judged.bounds.steps <= TOO_LONG:
+        return False
+    return next(itertools.islice(telling_log.driven(judged.module, order, arguments), TOO_LONG, None), None) is not None
 
 
 def said(given: argparse.Namespace) -> int:
@@ -67,11 +84,14 @@ def said(given: argparse.Namespace) -> int:
     if given.command == "compile":
         return telling_source.answer_compile(data)
     judged = telling.judge(data) if given.module else telling_source.judge(data)
+    if given.command == "check":
+        return telling.answer("check", judged, [])
+    arguments = tuple(given.arg)
     if given.command in ("replay", "chart"):
-        return logged(given.command, judged, given.log)
-    if given.command == "run" and isinstance(judged, Accepted):
-        return ran(judged, Order(given.order), given.log)
-    return telling.answer(given.command, judged, [])
+        return logged(given.command, judged, given.log, arguments)
+    if isinstance(judged, Accepted) and not telling.misgiven(judged.module, arguments):
+        return ran(judged, Order(given.order), given.log, arguments)
+    return telling.answer("run", judged, [], arguments)
 
 
 def main() -> int:
