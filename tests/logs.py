@@ -24,14 +24,13 @@ import subprocess
 import sys
 import tempfile
 from collections.abc import Callable, Iterator
-from dataclasses import dataclass
-
+from dataclasses import dataclass, replace
 import generated
 import generated_source
 import telling
 import telling_log
 import telling_source
-from telling import Accepted, Order, Refused
+from telling import Accepted, Arguments, Order, Refused
 from telling_log import Answer, Entry, Fault, Log
 
 TESTS = pathlib.Path(__file__).resolve().parent
@@ -46,6 +45,8 @@ SECONDS = 60
 
 ASKED = re.compile(r"(log|chart)(?: (last|round))?:(?: (.*))?|(replay|chart) (.*?): ?(.*)")
 ORDERS = {None: Order.FIRST, "last": Order.LAST, "round": Order.ROUND}
+# The numbers that a program is given in the rows behind this one.
+GIVEN = "args:"
 
 
 # Programs.
@@ -53,20 +54,25 @@ ORDERS = {None: Order.FIRST, "last": Order.LAST, "round": Order.ROUND}
 
 @dataclass(frozen=True)
 class Text:
-    """The text of a program."""
+    """The text of a program, and the numbers that it is given."""
 
     data: bytes
     is_module: bool = False
+    arguments: Arguments = ()
 
     @functools.lru_cache(maxsize=4)
     def judged(self) -> Accepted | Refused:
         return telling.judge(self.data) if self.is_module else telling_source.judge(self.data)
 
     def words(self) -> list[str]:
-        return ["--module"] if self.is_module else []
+        return [*(["--module"] if self.is_module else []), *(f"--arg={number}" for number in self.arguments)]
+
+    def given(self, *arguments: int) -> Text:
+        """The same program with these numbers."""
+        return replace(self, arguments=arguments)
 
     def compiled(self) -> Text:
-        return Text(telling_source.module_text(self.data).encode(), is_module=True)
+        return Text(telling_source.module_text(self.data).encode(), True, self.arguments)
 
 
 # Who answers.
@@ -78,10 +84,11 @@ class Told:
     def run(self, text: Text, order: Order) -> tuple[Answer, bytes]:
         """What a run prints, and its log."""
         module = text.judged().module
-        return (0, telling.run(module, order).text(), ""), telling_log.text_of(telling_log.log_of(module, order))
+        log = telling_log.log_of(module, order, text.arguments)
+        return (0, telling.run(module, order, text.arguments).text(), ""), telling_log.text_of(log)
 
     def answer(self, text: Text, log: bytes, command: str) -> Answer:
-        return telling_log.answer(text.judged(), log, command)
+        return telling_log.answer(text.judged(), log, command, text.arguments)
 
 
 class Program:
@@ -144,6 +151,9 @@ def row_differences(who: Told | Program) -> tuple[int, list[str]]:
     for line in ROWS.read_text().split("\n"):
         if not line or line.startswith("#"):
             continue
+        if line.startswith(GIVEN):
+            text = text.given(*map(int, line.removeprefix(GIVEN).split()))
+            continue
         asked = ASKED.fullmatch(line)
         if not asked:
             text = Text(line.encode())
@@ -185,17 +195,17 @@ def any_text(rng: random.Random) -> Text:
 
 
 def accepted_text(rng: random.Random) -> tuple[Text, Accepted]:
-    """A program that is accepted, and isn't long."""
+    """A program that is accepted, and isn't long, with as many numbers as it wants."""
     while True:
         text = any_text(rng)
         judged = text.judged()
         if isinstance(judged, Accepted) and judged.bounds.steps <= MOST_STEPS:
-            return text, judged
+            return text.given(*generated.arguments(rng, judged.module.wants)), judged
 
 
-def by_chance(rng: random.Random, module: telling.Module) -> Log:
+def by_chance(rng: random.Random, module: telling.Module, arguments: Arguments) -> Log:
     """The log of a run in which whoever can step may be next, and stays so for a while."""
-    played, log = telling_log.Played.opening(module), []
+    played, log = telling_log.Played.opening(module, arguments), []
     stay = rng.choice([0.0, 0.5, 0.9])
     while not played.world.has_ended:
         everybody = range(len(played.world.activities))
@@ -271,9 +281,10 @@ def changed_byte(rng: random.Random, text: bytes) -> bytes:
 SPOILS = [bytes([sign]) for sign in b"0123456789 endx\n\r\t+-.\x00\xff"] + [b"end ", b"00", b"\n\n"]
 
 
-def log_of_case(rng: random.Random, module: telling.Module) -> bytes:
+def log_of_case(rng: random.Random, module: telling.Module, arguments: Arguments) -> bytes:
     """The log of a run, as it is or changed."""
-    log = telling_log.log_of(module, rng.choice(list(Order))) if rng.random() < 0.4 else by_chance(rng, module)
+    in_order = rng.random() < 0.4
+    log = telling_log.log_of(module, rng.choice(list(Order)), arguments) if in_order else by_chance(rng, module, arguments)
     log = joined(rng, log) if rng.random() < 0.6 else log
     way = rng.random()
     if way < 0.3:
@@ -292,11 +303,13 @@ def differences(rng: random.Random, program: Program | None, cases: int) -> Iter
     text, judged = accepted_text(rng)
     order = rng.choice(list(Order))
     right = Told().run(text, order)
-    yield from against_itself(rng, judged.module, right[1], order)
+    yield from against_itself(rng, text, right[1], order)
     if program and (got := program.run(text, order)) != right:
         yield shown(text, f"run --order {order.value} --log", right, got)
     for _ in range(cases):
-        yield from log_differences(text, log_of_case(rng, judged.module), program)
+        # Now and then with other numbers than those of the run, or another count of them.
+        other = text.given(*generated.arguments(rng, judged.module.wants + rng.choice([0, 0, 0, 1])))
+        yield from log_differences(other if rng.random() < 0.1 else text, log_of_case(rng, judged.module, text.arguments), program)
 
 
 def log_differences(text: Text, given: bytes, program: Program | None) -> Iterator[str]:
@@ -311,18 +324,18 @@ def shown(text: Text, question: str, right: object, got: object) -> str:
     return f"{text}\n    {question}\n    telling: {right}\n    program: {got}"
 
 
-def against_itself(rng: random.Random, module: telling.Module, text: bytes, order: Order) -> Iterator[str]:
-    """What has to hold of the telling alone."""
-    log = telling_log.read(text)
-    played = telling_log.replay(module, log)
-    if played.output() != telling.run(module, order).text():
-        yield f"another run: {text!r}"
-    again = telling_log.replay(module, joined(rng, log))
+def against_itself(rng: random.Random, text: Text, written: bytes, order: Order) -> Iterator[str]:
+    """What has to hold of the telling alone, of the log that was written of a run."""
+    module, log = text.judged().module, telling_log.read(written)
+    played = telling_log.replay(module, log, text.arguments)
+    if played.output() != telling.run(module, order, text.arguments).text():
+        yield f"another run: {written!r}"
+    again = telling_log.replay(module, joined(rng, log), text.arguments)
     if (again.output(), again.chart()) != (played.output(), played.chart()):
-        yield f"joined entries give another run: {text!r}"
-    for end in (0, 1, len(text) - 1, *(rng.randrange(len(text)) for _ in range(3))):
-        yield from refused_so(text[:end], "L2 Truncated")
-    yield from refused_so(text + bytes([rng.randrange(256)]), f"L1 Grammar line {len(log) + 3}")
+        yield f"joined entries give another run: {written!r}"
+    for end in (0, 1, len(written) - 1, *(rng.randrange(len(written)) for _ in range(3))):
+        yield from refused_so(written[:end], "L2 Truncated")
+    yield from refused_so(written + bytes([rng.randrange(256)]), f"L1 Grammar line {len(log) + 3}")
 
 
 def refused_so(text: bytes, line: str) -> Iterator[str]:

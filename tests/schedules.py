@@ -91,8 +91,9 @@ class Known:
         return f"{begin}clocks{clocks} since{since}{end}"
 
 
-def known_of(module: telling.Module, schedule: list[int]) -> str:
-    known = Known(module, telling.opening(module))
+def known_of(text: Text, schedule: list[int]) -> str:
+    module = text.judged().module
+    known = Known(module, telling.opening(module, text.arguments))
     for at, who in enumerate(schedule):
         if not known.step(who, at + 1):
             return known.text(f"halted at {at}: ")
@@ -120,9 +121,10 @@ def ask_able(asked: Asked, program: Program, text: Text, schedule: list[int], kn
 
 @dataclass
 class Every:
-    """All schedules of a module that come to the end, in the order of the numbers that they have."""
+    """All schedules of a module that come to the end, in the order of the numbers that they have, and the world in which they begin."""
 
     module: telling.Module
+    start: World
     known: dict[World, Counter[str]] = field(default_factory=dict)
 
     def steps(self, world: World) -> list[tuple[int, telling.Step]]:
@@ -142,7 +144,7 @@ class Every:
 
     def schedule(self, place: int) -> list[int]:
         """The one in this place."""
-        world, schedule = telling.opening(self.module), []
+        world, schedule = self.start, []
         while steps := self.steps(world):
             for who, taken in steps:
                 count = self.printed(taken.world).total()
@@ -156,8 +158,9 @@ class Every:
 
 def ask_every(asked: Asked, program: Program, text: Text, row: str) -> None:
     """How many schedules print what; and some of them, or all, are replayed and charted."""
-    every = Every(text.judged().module)
-    printed = every.printed(telling.opening(every.module))
+    module = text.judged().module
+    every = Every(module, telling.opening(module, text.arguments))
+    printed = every.printed(every.start)
     asked.said(f"{text}\n    every", {numbers: int(count) for count, numbers in PRINTED.findall(row)}, dict(printed))
     total = printed.total()
     count = total if total <= MOST else SOME
@@ -183,10 +186,12 @@ def ask_rows(asked: Asked, program: Program) -> None:
         match name:
             case "every":
                 ask_every(asked, program, text, row)
+            case "args":
+                text = text.given(*map(int, row.split()))
             case "by":
                 schedule = [int(who) for who in row.split()]
             case "known":
-                asked.said(f"{text}\n    by {schedule}", row, known_of(text.judged().module, schedule))
+                asked.said(f"{text}\n    by {schedule}", row, known_of(text, schedule))
                 ask_able(asked, program, text, schedule, row)
             case _:
                 for command in ("replay", "chart") if name == "refused" else (name,):
@@ -211,18 +216,19 @@ def seen_of(world: meaning.World, schedule: str) -> str:
     return " ".join(seen + ["over"] if world.shown()[2] else seen)
 
 
-def texts() -> list[tuple[str, str, str, str]]:
-    """The rows of texts: the text, its schedule, its module's schedule, what is seen."""
-    return re.findall(r"^(.+)\ntext: (.*)\nmodule: (.*)\nseen: (.*)$", (TESTS / "texts.rows").read_text(), re.MULTILINE)
+def texts() -> list[tuple[str, str, str, str, str]]:
+    """The rows of texts: the text, the numbers that it is given, its schedule, its module's schedule, what is seen."""
+    row = r"^(.+)\n(?:args: (.*)\n)?text: (.*)\nmodule: (.*)\nseen: (.*)$"
+    return re.findall(row, (TESTS / "texts.rows").read_text(), re.MULTILINE)
 
 
 def ask_texts(asked: Asked) -> None:
     """The rows of texts, of the telling alone."""
-    for text, own, compiled, seen in texts():
-        tree = telling_source.parse(text.encode())
+    for text, args, own, compiled, seen in texts():
+        tree, arguments = telling_source.parse(text.encode()), tuple(map(int, args.split()))
         module = telling.read_module(telling_source.module_text(text.encode()).encode())
-        asked.said(f"{text}\n    text: {own}", seen, seen_of(meaning.Program(tree), own))
-        asked.said(f"{text}\n    module: {compiled}", seen, seen_of(meaning.Machine(module), compiled))
+        asked.said(f"{text}\n    text: {own}", seen, seen_of(meaning.Program(tree, arguments), own))
+        asked.said(f"{text}\n    module: {compiled}", seen, seen_of(meaning.Machine(module, arguments), compiled))
 
 
 def words() -> argparse.Namespace:
