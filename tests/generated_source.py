@@ -80,6 +80,8 @@ class Writer:
         self.methods: list[Signature] = []
         self.tokens: Tokens = []
         self.unit = Unit("main")
+        # The variables that limits of the loops around this place were taken from.
+        self.limiting: list[Known] = []
         self.times = self.steps = self.activities = 1
         self.depth = 0
 
@@ -242,6 +244,7 @@ class Writer:
             return
         ways: list[Callable[[], bool]] = [self.number] * 3 + [self.advance, self.call] * 2
         ways += [self.assign, self.share, self.show, self.resume, self.drop]
+        ways += [self.assign] * 8 if self.limiting else []
         ways += [] if alone else [self.make] * 3
         if self.depth < 5:
             ways += [self.start] * 5 + [self.loop, self.branch, self.finish] * 2 + [self.nested]
@@ -276,8 +279,9 @@ class Writer:
         variables, shared = self.of_kind("var"), self.of_kind("shared")
         if not variables:
             return False
+        limiting = [known for known in self.limiting if known in variables]
         right = [self.name_of(self.rng.choice(shared))] if shared and self.rng.random() < 0.3 else self.expr()
-        self.emit(self.name_of(self.rng.choice(variables)), "=", *right, ";")
+        self.emit(self.name_of(self.rng.choice(limiting if limiting and self.rng.random() < 0.8 else variables)), "=", *right, ";")
         self.spend(1)
         return True
 
@@ -373,7 +377,9 @@ class Writer:
         if self.times * max(1, turns) > 12:
             return False
         low = self.rng.choice([0, 1, 1, -2, -(2**63), 2**63 - 3])
-        bounds = [*self.written(low), "..", *self.bound(low, low + turns - 1 if low + turns - 1 >= -(2**63) else low)]
+        bound = self.bound(low, low + turns - 1 if low + turns - 1 >= -(2**63) else low)
+        bounds, limiting = [*self.written(low), "..", *bound], list(self.limiting)
+        self.limiting += [known for known in self.of_kind("var") if known.name in bound]
         begin, spent, count = len(self.tokens), (self.steps, self.activities), self.rng.randint(0, 3)
         entry = dict(self.unit.clocks)
         for attempt in range(5):
@@ -389,6 +395,7 @@ class Writer:
             if all(self.unit.clocks[known] <= ways for known, ways in entry.items()):
                 break
             entry = {known: ways | self.unit.clocks[known] for known, ways in entry.items()}
+        self.limiting = limiting
         return True
 
     def bound(self, low: int, high: int) -> Tokens:
@@ -396,8 +403,13 @@ class Writer:
         if self.rng.random() < 0.5:
             return self.written(high)
         self.spend(1)
-        about = self.rng.random() < 0.4 or not self.numbers()
-        limit = self.written(generated.near(self.rng, low, high)) if about else self.expr(self.rng.choice([1, 2, 4]))
+        way, variables = self.rng.random(), self.of_kind("var")
+        if variables and way < 0.4:
+            limit = [self.rng.choice(variables).name]
+        elif way < 0.6 or not self.numbers():
+            limit = self.written(generated.near(self.rng, low, high))
+        else:
+            limit = self.expr(self.rng.choice([1, 2, 4]))
         return ["Math", ".", "min", "(", *limit, ",", *self.written(high), ")"]
 
     def written(self, number: int) -> Tokens:

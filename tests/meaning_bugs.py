@@ -9,6 +9,7 @@ So many programs are tried at most for each, 500 where nothing else is said.
 from __future__ import annotations
 
 import sys
+from dataclasses import dataclass, replace
 
 import meaning
 import telling
@@ -113,6 +114,56 @@ class ClosesEarly(Coder):
             self.statement(body)
 
 
+@dataclass(frozen=True)
+class Again:
+    """Takes the limit of a loop once more."""
+
+    loop: source.Loop
+
+
+class TakesLimitsAnew(Coder):
+    """Takes the limit of a loop anew at the end of each turn."""
+
+    def statement(self, stmt: source.Stmt | Again) -> None:
+        match stmt:
+            case Again(loop):
+                self.into(loop.limit, self.slots[self.names.limits[loop.name.at]], self.first_temporary)
+            case source.Loop() if stmt.limit is not None:
+                super().statement(replace(stmt, body=source.Block([stmt.body, Again(stmt)])))
+            case _:
+                super().statement(stmt)
+
+
+class LimitsByItself(Coder):
+    """A loop with a limit asks the slot that counts for it."""
+
+    def around(self, opener: list, body: source.Stmt, closer: str) -> None:
+        if opener[0] == "forto":
+            opener[3] = opener[1]
+        super().around(opener, body, closer)
+
+
+class LimitsByNames(Coder):
+    """Where a name alone is a limit, what is assigned to it inside changes the limit too."""
+
+    def loop(self, stmt: source.Loop) -> None:
+        begin = len(self.code)
+        super().loop(stmt)
+        if isinstance(stmt.limit, source.Name):
+            for instr in self.code[begin:]:
+                if instr[0] == "forto" and instr[1] == self.slot(stmt.name):
+                    instr[3] = self.slot(stmt.limit)
+
+
+class ForgetsLimits(Coder):
+    """A loop with a limit goes as far as the number of the text."""
+
+    def around(self, opener: list, body: source.Stmt, closer: str) -> None:
+        if opener[0] == "forto":
+            opener[:] = ["for", opener[1], opener[2], opener[4]]
+        super().around(opener, body, closer)
+
+
 class Swaps(Coder):
     """Takes the second operand of `-` first."""
 
@@ -120,7 +171,10 @@ class Swaps(Coder):
         return super().both(left, right, free)[::-1]
 
 
-WRONG = [LeavesPrintsOut, ReadsTwice, MistakesClocks, PutsElsewhere, JumpsShort, Overlaps, CapturesOthers, TurnsLess, AddsInTwoSteps, ClosesEarly, Swaps]
+WRONG = [
+    LeavesPrintsOut, ReadsTwice, MistakesClocks, PutsElsewhere, JumpsShort, Overlaps, CapturesOthers, TurnsLess, AddsInTwoSteps, ClosesEarly, Swaps,
+    TakesLimitsAnew, LimitsByItself, LimitsByNames, ForgetsLimits,
+]  # fmt: skip
 
 
 def first_told(coder: type[Coder], cases: int) -> str | None:
