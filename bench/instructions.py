@@ -1,5 +1,6 @@
 #!/usr/bin/env python3
-"""Counts the instructions of the built program beside those of the machine in bench/plain, by callgrind.
+"""Counts the instructions of the built program beside those of the machine in bench/plain, by callgrind; and those of loops with a limit
+beside those of loops without one, which the machine in bench/plain doesn't know.
 
     python3 bench/instructions.py [PROGRAM] [--only WORD]
 
@@ -31,6 +32,13 @@ ROWS = [
 ]
 
 
+# What a row counts, its module with limits for so much work, and its module without.
+LIMITED = [
+    ("20,000 local steps, two loops with a limit", lambda k: modules.counting_to_limits(2 * k), lambda k: modules.counting(2 * k)),
+    ("10,000 loops of one turn with a limit", lambda k: modules.beginning_with_limits(2 * k), lambda k: modules.beginning(2 * k)),
+]
+
+
 def collected(words):
     """The instructions of one call."""
     call = ["valgrind", "--tool=callgrind", "--callgrind-out-file=/dev/null", *words]
@@ -55,17 +63,33 @@ def row(job):
     return f"| {name} | {order} | {ours:,} | {plain:,} | {ours / plain:.2f} |"
 
 
+def limited_row(job):
+    name, limited, plain, order, program = job
+    words = [program, "run", "--order", order, "--module", None]
+    with_limits, without = more(limited, words), more(plain, words)
+    return f"| {name} | {order} | {with_limits:,} | {without:,} | {with_limits / without:.2f} |"
+
+
+def print_table(head, row, jobs):
+    """A table of rows, in the order of their jobs; nothing where there are none."""
+    if not jobs:
+        return
+    print(f"| What | Order | {head} | Ratio |\n|---|---|---|---|---|")
+    with concurrent.futures.ThreadPoolExecutor(2) as pool:
+        for line in pool.map(row, jobs):
+            print(line, flush=True)
+
+
 def main():
     parser = argparse.ArgumentParser()
     parser.add_argument("program", nargs="?", default=str(TOP / "crates/x10clock/out/x10clock"))
     parser.add_argument("--only", default="")
     given = parser.parse_args()
-    machine = built()
-    jobs = [(name, make, order, given.program, machine) for name, make, orders in ROWS if given.only in name for order in orders]
-    print("| What | Order | Ours | By hand | Ratio |\n|---|---|---|---|---|")
-    with concurrent.futures.ThreadPoolExecutor(2) as pool:
-        for line in pool.map(row, jobs):
-            print(line, flush=True)
+    rows = [row for row in ROWS if given.only in row[0]]
+    machine = built() if rows else ""
+    print_table("Ours | By hand", row, [(name, make, order, given.program, machine) for name, make, orders in rows for order in orders])
+    limited = [row for row in LIMITED if given.only in row[0]]
+    print_table("With a limit | Without", limited_row, [(*one, order, given.program) for one in limited for order in ORDERS])
 
 
 if __name__ == "__main__":

@@ -2,8 +2,8 @@
 import json
 
 
-def module(units, shared=()):
-    return json.dumps({"version": 1, "shared": list(shared), "units": units}, separators=(",", ":"))
+def module(units, shared=(), version=1):
+    return json.dumps({"version": version, "shared": list(shared), "units": units}, separators=(",", ":"))
 
 
 def unit(kind, slots, code, params=""):
@@ -14,6 +14,24 @@ def counting(turns):
     """A loop in a loop: a sum, and the end of a turn; two steps for each turn of the inner one."""
     code = [["lit", 2, 0], ["for", 0, 1, turns, 5], ["for", 1, 1, 5000, 4], ["add", 2, 2, 1], ["next", 2], ["next", 1], ["print", 2], ["ret"]]
     return module([unit("main", 3, code)])
+
+
+def counting_to_limits(turns):
+    """The same, in which both loops have a limit that is no less than their last number."""
+    code = [["lit", 3, turns + 5000], ["lit", 2, 0], ["forto", 0, 1, 3, turns, 6], ["forto", 1, 1, 3, 5000, 5], ["add", 2, 2, 1], ["next", 3]]
+    return module([unit("main", 4, [*code, ["next", 2], ["print", 2], ["ret"]])], version=2)
+
+
+def beginning(turns):
+    """A loop in a loop that takes one turn: its beginning, and with the end of a turn three steps."""
+    code = [["for", 0, 1, turns, 5], ["for", 1, 1, 5000, 4], ["for", 2, 1, 1, 3], ["next", 2], ["next", 1], ["next", 0], ["ret"]]
+    return module([unit("main", 3, code)])
+
+
+def beginning_with_limits(turns):
+    """The same, in which the loop of one turn has a limit."""
+    code = [["lit", 3, 1], ["for", 0, 1, turns, 6], ["for", 1, 1, 5000, 5], ["forto", 2, 1, 3, 1, 4], ["next", 3], ["next", 2], ["next", 1], ["ret"]]
+    return module([unit("main", 4, code)], version=2)
 
 
 def counting_beside(count, turns):
