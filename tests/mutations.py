@@ -96,7 +96,7 @@ def source_texts() -> list[bytes]:
     """The texts of the rows of sources, and of the examples."""
     found = []
     for path in sorted((TOP / "tests/answers").glob("sources*.rows")):
-        rows = [line for line in path.read_text().split("\n") if line and not re.match("#|(run|last|round|compile): ", line)]
+        rows = [line for line in path.read_text().split("\n") if line and not re.match("#|(run|last|round|every|not run|compile): |args:", line)]
         found += map(row_text, rows[::2])
     return found + [path.read_bytes() for path in sorted((TOP / "examples").glob("*.x10"))]
 

@@ -32,11 +32,11 @@ PROGRAM = pathlib.Path(os.environ.get("X10CLOCK", TOP / "crates/x10clock/out/x10
 PAGES = [TOP / "README.md", TOP / "examples/README.md", *sorted((TOP / "docs").glob("*.md"))]
 REFUSALS = TOP / "docs/REFUSALS.md"
 # (L3, a read that failed, is told as `x10clock: device`.)
-NUMBERS = {"F": range(1, 15), "M": range(1, 4), "V": range(1, 18), "L": (1, 2, 4, 5)}
+NUMBERS = {"F": range(1, 15), "M": range(1, 4), "V": range(1, 18), "A": (1,), "L": (1, 2, 4, 5)}
 RULES = {f"{letter}{number}" for letter, numbers in NUMBERS.items() for number in numbers}
 
 BLOCK = re.compile(r"^```\w*\n(.*?)^```$", re.MULTILINE | re.DOTALL)
-QUESTION = re.compile(r"((?:check|compile|run)(?: --\w+(?: (?!--)\w+)?)*): (.*)\n")
+QUESTION = re.compile(r"((?:check|compile|run)(?: --\w+(?:=-?\d+| (?!--)\w+)?)*): (.*)\n")
 SECONDS = 60
 
 
@@ -48,7 +48,7 @@ class Played:
 
     def said(self, where: str, wanted: str, got: str) -> None:
         self.asked += 1
-        self.labels.update(re.findall(r"x10clock: ([FMVL]\d+) ", wanted))
+        self.labels.update(re.findall(r"x10clock: ([FMVAL]\d+) ", wanted))
         if wanted != got:
             self.differing.append(f"{where}\n    page:    {wanted!r}\n    program: {got!r}")
 
