@@ -28,10 +28,8 @@ MOST_STEPS, MOST_WORK = 20_000, 2_000_000
 def row_texts():
     """The texts of the rows of modules."""
     for path in sorted((TOP / "tests/answers").glob("*.rows")):
-        if path.name.startswith("sources"):
-            continue
-        rows = [line for line in path.read_text().split("\n") if line and not line.startswith(("#", "run: ", "last: ", "round: "))]
-        yield from map(mutations.row_text, rows[::2])
+        if not path.name.startswith("sources"):
+            yield from mutations.row_texts(path)
 
 
 def texts(cases, seed):
@@ -49,6 +47,11 @@ def told(program, judged, path, order):
     return subprocess.run(words, capture_output=True, text=True, check=False).stdout
 
 
+def is_known(module):
+    """Whether the plain machine knows all that a module has: no loops with a limit, and no numbers that main is given."""
+    return not module.wants and not any(instr.name == "forto" for unit in module.units for instr in unit.code)
+
+
 def is_small(bounds):
     return bounds.steps <= MOST_STEPS and bounds.steps * (bounds.activities + bounds.clocks) <= MOST_WORK
 
@@ -63,8 +66,9 @@ def main():
     with tempfile.NamedTemporaryFile(suffix=".json") as file:
         for text in texts(given.cases, given.seed):
             judged = telling.judge(text)
-            # The plain reader knows no escapes: those rows are about the text alone.
-            if not isinstance(judged, telling.Accepted) or b"\\" in text or not is_small(judged.bounds):
+            # The plain reader knows no escapes: those rows are about the text alone; and it reads the first version alone.
+            accepted = isinstance(judged, telling.Accepted) and is_small(judged.bounds) and is_known(judged.module)
+            if not accepted or b"\\" in text or b'"version":1' not in text:
                 counts["left out"] += 1
                 continue
             pathlib.Path(file.name).write_bytes(text)

@@ -92,12 +92,15 @@ def row_text(row: str) -> bytes:
     return re.sub(rb"\\(?:0([0-7]{3})|([ntr\\]))", byte, row.encode())
 
 
+def row_texts(path: pathlib.Path) -> list[bytes]:
+    """The texts of a file of rows: each stands above the line that `check` answers, and that above what runs print."""
+    rows = [line for line in path.read_text().split("\n") if line and not re.match("#|(run|last|round|every|not run|compile): |args:", line)]
+    return [row_text(row) for row in rows[::2]]
+
+
 def source_texts() -> list[bytes]:
     """The texts of the rows of sources, and of the examples."""
-    found = []
-    for path in sorted((TOP / "tests/answers").glob("sources*.rows")):
-        rows = [line for line in path.read_text().split("\n") if line and not re.match("#|(run|last|round|every|not run|compile): |args:", line)]
-        found += map(row_text, rows[::2])
+    found = [text for path in sorted((TOP / "tests/answers").glob("sources*.rows")) for text in row_texts(path)]
     return found + [path.read_bytes() for path in sorted((TOP / "examples").glob("*.x10"))]
 
 
