@@ -85,22 +85,29 @@ each_growth() {
     total=$((total + k - 1))
 }
 
+# formed ROW: $form has `--module` where the row is a module, and $given an `--arg` for each number that its main is given.
+formed() {
+    case $1 in *.json) form=--module ;; *) form= ;; esac
+    given=
+    [ ! -e "${1%.*}.args" ] || given=$(sed 's/^/--arg=/' "${1%.*}.args")
+}
+
 for row in tests/rows/*.json tests/rows/*.x10; do
     base=${row%.*}
-    case $row in *.json) form=--module ;; *) form= ;; esac
+    formed "$row"
     cp "$row" "$work/in"
-    for command in check run; do
-        ample "$command" $form -
-        [ "$command" = check ] || cmp -s "$work/out" "$base.stdout" || fail "$row: $(cat "$work/out")"
-        [ "$command" = check ] || cmp -s "$work/err" "$base.stderr" || fail "$row: $(cat "$work/err")"
-        each_growth "$row" "$command" $form -
-    done
+    ample check $form -
+    each_growth "$row" check $form -
+    ample run $form $given -
+    cmp -s "$work/out" "$base.stdout" || fail "$row: $(cat "$work/out")"
+    cmp -s "$work/err" "$base.stderr" || fail "$row: $(cat "$work/err")"
+    each_growth "$row" run $form $given -
     for order in first last round; do
         [ -e "$base.$order.stdout" ] || continue
-        ample run $form --order "$order" -
+        ample run $form $given --order "$order" -
         cmp -s "$work/out" "$base.$order.stdout" || fail "$row, order $order: $(cat "$work/out")"
         [ ! -s "$work/err" ] || fail "$row, order $order: $(cat "$work/err")"
-        each_growth "$row, order $order" run $form --order "$order" -
+        each_growth "$row, order $order" run $form $given --order "$order" -
     done
     if [ -z "$form" ]; then
         ample compile -
@@ -115,35 +122,49 @@ answered() {
 }
 
 # A run with its log; the log's replay and chart; and logs that are refused.
-for row in in-step.x10 ring.json method-waits.x10 shared-sum.x10; do
-    case $row in *.json) form=--module ;; *) form= ;; esac
+for row in in-step.x10 ring.json method-waits.x10 shared-sum.x10 sum-to-square.json as-many.x10; do
+    formed "tests/rows/$row"
     cp "tests/rows/$row" "$work/in"
-    ample run $form --log "$work/log" -
+    ample run $form $given --log "$work/log" -
     [ "$(tail -n 1 "$work/log")" = "$(sed -n 's/^ended steps /end /p' "$work/out")" ] || fail "$row, the log: $(cat "$work/log")"
-    each_growth "$row, with a log" run $form --log "$work/log" -
-    cp "$work/wanted-log" "$work/given"
+    each_growth "$row, with a log" run $form $given --log "$work/log" -
+    cp "$work/wanted-log" "$work/kept"
     cp "$work/wanted-out" "$work/told"
-    ample replay $form - "$work/given"
+    ample replay $form $given - "$work/kept"
     answered 0 || fail "$row, replay: $(cat "$work/out" "$work/err")"
-    each_growth "$row, replay" replay $form - "$work/given"
-    ample chart $form - "$work/given"
+    each_growth "$row, replay" replay $form $given - "$work/kept"
+    ample chart $form $given - "$work/kept"
     [ "$wanted" = 0 ] || fail "$row, chart: $(cat "$work/err")"
-    each_growth "$row, chart" chart $form - "$work/given"
+    each_growth "$row, chart" chart $form $given - "$work/kept"
 done
+
+# Too few arguments, and too many.
+cp tests/rows/as-many.x10 "$work/in"
+echo 'x10clock: A1 Arguments wants 1 has 0' > "$work/told"
+for call in 'run -' "chart - $work/kept"; do
+    ample $call
+    answered 1 || fail "no argument, $call: $(cat "$work/out" "$work/err")"
+    each_growth "no argument" $call
+done
+echo 'x10clock: A1 Arguments wants 1 has 2' > "$work/told"
+ample run --arg 1 --arg 1 -
+answered 1 || fail "two arguments: $(cat "$work/out" "$work/err")"
+each_growth "two arguments" run --arg 1 --arg 1 -
+
 printf 'def main() { for (i in 1..50) async { } }\n' > "$work/in"
 ample run --log "$work/log" -
 each_growth "fifty activities, with a log" run --log "$work/log" -
 
 # Runs by one worker, which takes the steps as in the order `first`.
-for row in in-step.x10 ring.json shared-sum.x10 two-loops.x10; do
-    case $row in *.json) form=--module ;; *) form= ;; esac
+for row in in-step.x10 ring.json shared-sum.x10 two-loops.x10 as-many.x10; do
+    formed "tests/rows/$row"
     cp "tests/rows/$row" "$work/in"
-    ample run $form --workers 1 -
+    ample run $form $given --workers 1 -
     cmp -s "$work/out" "tests/rows/${row%.*}.stdout" || fail "$row, by a worker: $(cat "$work/out" "$work/err")"
-    each_growth "$row, by a worker" run $form --workers 1 -
-    ample run $form --workers 1 --log "$work/log" -
+    each_growth "$row, by a worker" run $form $given --workers 1 -
+    ample run $form $given --workers 1 --log "$work/log" -
     cmp -s "$work/out" "tests/rows/${row%.*}.stdout" || fail "$row, by a worker with a log: $(cat "$work/out" "$work/err")"
-    each_growth "$row, by a worker with a log" run $form --workers 1 --log "$work/log" -
+    each_growth "$row, by a worker with a log" run $form $given --workers 1 --log "$work/log" -
 done
 printf 'def main() { for (i in 1..50) async { } }\n' > "$work/in"
 ample run --workers 1 -
@@ -189,6 +210,8 @@ no_job walk 2 "" "error: unrecognized subcommand 'walk'" walk
 no_job "an unknown order" 2 "" "error: invalid value 'least' for '--order <ORDER>'" run --module --order least -
 no_job "an order for check" 2 "" "error: unexpected argument '--order' found" check --module --order first -
 no_job "no workers" 2 "" "error: invalid value '0' for '--workers <N>': 0 is not in 1..=64" run --module --workers 0 -
+no_job "an argument that is no number" 2 "" "error: invalid value 'x' for '--arg <N>': invalid digit found in string" run --arg x -
+no_job "an argument for check" 2 "" "error: unexpected argument '--arg' found" check --arg 1 -
 no_job "workers beside an order" 2 "" "x10clock: --workers and --order exclude each other" run --module --workers 2 --order first -
 no_job --help 0 "Verifies and runs clocked programs." "" --help
 no_job "a word not in UTF-8" 2 "" "x10clock: a word is not in UTF-8" run --module "$(printf '\377')"

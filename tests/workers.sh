@@ -1,9 +1,9 @@
 #!/bin/sh
 # Runs small programs by 1, 2 and 64 worker threads: two activities in step, a ring of three clocks, three activities that add to a shared
-# number, and two that have long loops of their own. Each run has to end in as many steps as every run of the program, and to print the same
-# numbers, in whatever order; its log has to have the same entries, in whatever order, and to be that of a run that prints just what it printed,
-# and that can be charted. Five times each, also where no thread or few can be started. With
-# the word `stress` two hundred times each, and then the ring a thousand times by 64 workers on two processors, within five minutes; how long
+# number, two that have long loops of their own, and as many on a clock as main is given. Each run has to end in as many steps as every run
+# of the program, and to print the same numbers, in whatever order; its log has to have the same entries, in whatever order, and to be that
+# of a run that prints just what it printed, and that can be charted. Five times each, also where no thread or few can be started. With the
+# word `stress` two hundred times each, and then the ring a thousand times by 64 workers on two processors, within five minutes; how long
 # that takes is told beside the same in the order `first`.
 set -eu
 cd "$(dirname "$0")/.."
@@ -26,7 +26,7 @@ limited() {
     if [ "$space" = unlimited ]; then timeout 60 "$@"; else timeout 60 prlimit --as="$space" --nproc=1 "$@"; fi
 }
 
-# by_workers N SPACE ROW FORM: one run of the program by so many workers in so much address space, its log, and the log's chart.
+# by_workers N SPACE ROW WORDS: one run of the program by so many workers in so much address space, its log, and the log's chart.
 by_workers() {
     what="$3 by $1 workers in space $2"
     limited "$2" "$program" run $4 --workers "$1" --log "$work/log" "tests/rows/$3" > "$work/out" 2> "$work/err" || fail "$what: $(cat "$work/err")"
@@ -45,8 +45,9 @@ by_workers() {
 
 # often TIMES SPACE: each program so often by 1, 2 and 64 workers.
 often() {
-    for row in in-step.x10 ring.json shared-sum.x10 two-loops.x10; do
+    for row in in-step.x10 ring.json shared-sum.x10 two-loops.x10 as-many.x10; do
         case $row in *.json) form=--module ;; *) form= ;; esac
+        [ ! -e "tests/rows/${row%.*}.args" ] || form="$form $(sed 's/^/--arg=/' "tests/rows/${row%.*}.args")"
         cp "tests/rows/${row%.*}.stdout" "$work/wanted"
         sort "$work/wanted" > "$work/wanted-sorted"
         rm -f "$work/wanted-entries"

@@ -2,11 +2,10 @@
 
 ghost use Rattle.std.specs.Prelude.{◌≡◌, ◌-◌};
 
-use crate::programs::{IN_STEP, accepted};
-use std::alloc::{AllocError, Global};
+use crate::programs::{IN_STEP, accepted, opened};
+use std::alloc::Global;
 use std::test::Fail;
 use xk_bounds::Verified;
-use xk_core::Core;
 use xk_drive::{Chooser, Ended, Partial, drive};
 use xk_types::Entry;
 
@@ -68,8 +67,8 @@ fn is_driven_so<C: Chooser>(
     chooser: &mut C,
     acts: &[u32],
     printed: &[i64],
-) -> Result<bool, AllocError> {
-    let answer = drive(alloc, Core::open(alloc, verified)?, chooser);
+) -> Result<bool, Fail> {
+    let answer = drive(alloc, opened(alloc, verified, &[])?, chooser);
     Ok(is_run(&answer, acts, printed))
 }
 

@@ -1,8 +1,11 @@
-//! Modules of several activities, as text.
+//! Modules, as text, and the beginning of their runs.
+
+ghost use Rattle.std.specs.Prelude.{◌≡◌, IfOk};
 
 use std::alloc::Global;
 use std::test::Fail;
 use xk_bounds::{Verified, verify};
+use xk_core::Core;
 use xk_module::read_module;
 use xk_types::Module;
 
@@ -26,6 +29,10 @@ pub const LATE_CHILD: &str =
 pub const IN_STEP: &str =
     r#"{"version":1,"shared":[],"units":[{"kind":"main","params":"","slots":2,"code":[["make",0],["spawn",1,[0]],["advance"],["lit",1,1],["print",1],["ret"]]},{"kind":"body","params":"c","slots":2,"code":[["advance"],["lit",1,2],["print",1],["ret"]]}]}"#;
 
+/// The sum of the numbers up to the square of the one that main is given, and to ten at most.
+pub const SUM_TO_SQUARE: &str =
+    r#"{"version":2,"shared":[],"units":[{"kind":"main","params":"n","slots":4,"code":[["lit",1,0],["mul",3,0,0],["forto",2,1,3,10,4],["add",1,1,2],["next",2],["print",1],["ret"]]}]}"#;
+
 /// The module that a text names.
 pub fn module(alloc: Global, text: &str) -> Result<Module, Fail> {
     match read_module(alloc, text.as_bytes()) {
@@ -39,5 +46,22 @@ pub fn accepted(alloc: Global, text: &str) -> Result<Verified, Fail> {
     match verify(alloc, module(alloc, text)?) {
         Ok(verified) => Ok(verified),
         Err(_) => Err("a module is refused".into()),
+    }
+}
+
+/// The core of a module before its first step, main being given these numbers.
+pub fn opened<'m>(
+    alloc: Global,
+    verified: &'m Verified,
+    arguments: &[i64],
+) -> Result<Core<'m>, Fail>
+    ensures { IfOk result (λ core. core.world.steps ≡ 0) }
+{
+    if verified.arguments() as usize != arguments.len() {
+        return Err("main takes another number of arguments".into());
+    }
+    match Core::open(alloc, verified, arguments) {
+        Ok(core) => Ok(core),
+        Err(_) => Err("out of memory".into()),
     }
 }

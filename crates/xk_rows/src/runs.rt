@@ -1,7 +1,7 @@
 //! Schedules that are carried out by `run_schedule`, what is left of a core then, and the laws. Of many more, in `tests/schedules.rows`, the
 //! program is asked.
 
-use crate::programs::{IN_STEP, LATE_CHILD, accepted};
+use crate::programs::{IN_STEP, LATE_CHILD, SUM_TO_SQUARE, accepted, opened};
 use std::alloc::Global;
 use std::test::Fail;
 use xk_core::{Core, laws};
@@ -68,11 +68,11 @@ fn carried_out(alloc: Global, start: Core<'_>, schedule: &[u32], seen: &[Event])
 fn schedules_are_carried_out(rt: HostRuntime) -> Result<(), Fail> {
     let alloc = rt.alloc();
     let verified = accepted(alloc, IN_STEP)?;
-    let told = carried_out(alloc, Core::open(alloc, &verified)?, &[0, 0, 0, 0, 1], &[]);
+    let told = carried_out(alloc, opened(alloc, &verified, &[])?, &[0, 0, 0, 0, 1], &[]);
     let wanted = (Some((0, 0)), [(0, false), (0, true)], false);
     assert_eq!(rt; told, (Some(3), false, Some(wanted)));
     let schedule = [0, 0, 0, 1, 0, 0, 0, 0, 1, 1, 1, 1];
-    let told = carried_out(alloc, Core::open(alloc, &verified)?, &schedule, &SEEN);
+    let told = carried_out(alloc, opened(alloc, &verified, &[])?, &schedule, &SEEN);
     let wanted = (Some((1, 4)), [(5, false), (9, false)], true);
     assert_eq!(rt; told, (None, true, Some(wanted)));
     Ok(())
@@ -84,9 +84,24 @@ fn a_child_begins_late(rt: HostRuntime) -> Result<(), Fail> {
     let alloc = rt.alloc();
     let verified = accepted(alloc, LATE_CHILD)?;
     let seen = [Event::Arrived, Event::Passed, Event::Spawned];
-    let told = carried_out(alloc, Core::open(alloc, &verified)?, &[0, 0, 0], &seen);
+    let told = carried_out(alloc, opened(alloc, &verified, &[])?, &[0, 0, 0], &seen);
     let wanted = (None, [(2, true), (2, true)], false);
     assert_eq!(rt; told, (None, true, Some(wanted)));
+    Ok(())
+}
+
+/// How many numbers main was given, and the first of them.
+fn given(core: &Core) -> (usize, Option<i64>) {
+    let arguments = core.arguments();
+    (arguments.len(), arguments.first().copied())
+}
+
+/// A core tells what main was given.
+#[test]
+fn main_is_given_a_number(rt: HostRuntime) -> Result<(), Fail> {
+    let verified = accepted(rt.alloc(), SUM_TO_SQUARE)?;
+    let core = opened(rt.alloc(), &verified, &[-3])?;
+    assert_eq!(rt; given(&core), (1, Some(-3)));
     Ok(())
 }
 

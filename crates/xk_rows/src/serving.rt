@@ -134,6 +134,7 @@ fn served<R: Threads + Wait + Sync>(
         command,
         form: Form::Module,
         file: "-",
+        arguments: Vec::new(alloc),
     };
     let mut program = Passing::new(SUM_AND_PHASE, failing.program);
     let mut log_in = Passing::new(LOG, failing.log_in);

@@ -81,6 +81,8 @@ fn faults_are_told(rt: HostRuntime) {
     }
     assert!(rt; says(alloc, &FrontError::Fault(FRONT), FRONT_TEXT));
     assert!(rt; says(alloc, &Fault::Front(FRONT), FRONT_TEXT));
+    let mismatch = Fault::Arguments { wants: 1, has: 0 };
+    assert!(rt; says(alloc, &mismatch, "main takes 1 numbers and is given 0"));
     assert!(rt; says(alloc, &Fault::OutOfMemory, MEMORY_TEXT));
     assert!(rt; says(alloc, &Fault::Device, "a device failed"));
 }

@@ -1,7 +1,7 @@
 //! Local steps that are computed outside the lock: two workers compute at once; a gate may be refused memory; and a ticket is taken once, on the
 //! module that it is of.
 
-use crate::programs::{OTHER_SUM, SUM_AND_PHASE, TWO_SUMS, accepted};
+use crate::programs::{OTHER_SUM, SUM_AND_PHASE, TWO_SUMS, accepted, opened};
 use std::alloc::{AllocError, AllocGlobal, Global};
 use std::sync::Wait;
 use std::sync::atomic::{AtomicU64, Ordering};
@@ -9,7 +9,6 @@ use std::test::Fail;
 use std::thread::{self, Threads};
 use xk_activity::{Frames, Ticket, run_local};
 use xk_bounds::Verified;
-use xk_core::Core;
 use xk_drive::{Ended, Partial};
 use xk_types::{Act, Entry};
 use xk_workers::{CommitFault, Gate, Shared, run_workers};
@@ -90,7 +89,7 @@ fn by_two<R: AllocGlobal + Threads + Wait + Sync, G: Gate + Sync>(
     verified: &Verified,
     gate: &G,
 ) -> Option<(bool, (usize, u64))> {
-    match Core::open(rt.alloc(), verified) {
+    match opened(rt.alloc(), verified, &[]) {
         Ok(start) => Some(answered(&run_workers(rt, rt.alloc(), start, 2, gate))),
         Err(_) => None,
     }
@@ -148,8 +147,8 @@ fn handed_twice<'m>(alloc: Global, shared: &mut Shared<'m>) -> Option<[(bool, us
 }
 
 /// A run that workers share, before its first step.
-fn opened<'m>(alloc: Global, verified: &'m Verified) -> Option<Shared<'m>> {
-    match Core::open(alloc, verified) {
+fn shared_run<'m>(alloc: Global, verified: &'m Verified) -> Option<Shared<'m>> {
+    match opened(alloc, verified, &[]) {
         Ok(core) => Some(Shared::open(alloc, core)),
         Err(_) => None,
     }
@@ -157,7 +156,7 @@ fn opened<'m>(alloc: Global, verified: &'m Verified) -> Option<Shared<'m>> {
 
 /// Hands two tickets of main before its first step in.
 fn handed_twice_in(alloc: Global, verified: &Verified) -> Option<[(bool, usize, u64); 2]> {
-    match opened(alloc, verified) {
+    match shared_run(alloc, verified) {
         Some(mut shared) => handed_twice(alloc, &mut shared),
         None => None,
     }
@@ -173,7 +172,7 @@ fn ticket_if<'m>(alloc: Global, shared: &Option<Shared<'m>>) -> Option<Ticket<'m
 
 /// A ticket of main before its first step.
 fn ticket_of<'m>(alloc: Global, verified: &'m Verified) -> Option<Ticket<'m>> {
-    let shared = opened(alloc, verified);
+    let shared = shared_run(alloc, verified);
     ticket_if(alloc, &shared)
 }
 
@@ -191,7 +190,7 @@ fn handed_across<'m>(
     verified: &'m Verified,
     other: &'m Verified,
 ) -> Option<(bool, usize, u64)> {
-    match opened(alloc, verified) {
+    match shared_run(alloc, verified) {
         Some(mut shared) => handed_if(&mut shared, ticket_of(alloc, other)),
         None => None,
     }
