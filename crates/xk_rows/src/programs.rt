@@ -54,14 +54,14 @@ pub fn opened<'m>(
     alloc: Global,
     verified: &'m Verified,
     arguments: &[i64],
-) -> Result<Core<'m>, Fail>
+) -> Result<Core<'m>, &'static str>
     ensures { IfOk result (λ core. core.world.steps ≡ 0) }
 {
     if verified.arguments() as usize != arguments.len() {
-        return Err("main takes another number of arguments".into());
+        return Err("main takes another number of arguments");
     }
     match Core::open(alloc, verified, arguments) {
         Ok(core) => Ok(core),
-        Err(_) => Err("out of memory".into()),
+        Err(_) => Err("out of memory"),
     }
 }
