@@ -19,6 +19,7 @@ pub data Mark : Type 0 where
   Open : ℕ → Mark
   Symbol : Sign → Mark
   AsyncAt : ℕ → Mark
+  ClockedAt : ℕ → Mark
   ClockAt : ℕ → Mark
   LongAt : ℕ → Mark
   Reserved : Keyword → Mark
@@ -40,6 +41,7 @@ sign_mark at s = Symbol s
 
 abbrev pub keyword_mark : ℕ → Keyword → Mark
 keyword_mark at keyword.Async = AsyncAt at
+keyword_mark at keyword.Clocked = ClockedAt at
 keyword_mark at keyword.Clock = ClockAt at
 keyword_mark at keyword.Long = LongAt at
 keyword_mark at k = Reserved k

@@ -18,6 +18,7 @@ front_number rule.Arity = 11
 front_number rule.SameClockTwice = 12
 front_number rule.Literal = 13
 front_number rule.Table = 14
+front_number rule.NoHiddenClock = 15
 
 abbrev pub front_name : FrontRule → List ℕ
 front_name rule.Token = codes "Token"
@@ -34,3 +35,4 @@ front_name rule.Arity = codes "Arity"
 front_name rule.SameClockTwice = codes "SameClockTwice"
 front_name rule.Literal = codes "Literal"
 front_name rule.Table = codes "Table"
+front_name rule.NoHiddenClock = codes "NoHiddenClock"

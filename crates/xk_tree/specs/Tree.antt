@@ -5,6 +5,7 @@ use Rattle.xk_types.specs.declared.instr.Comparison.{Comparison}
 use Rattle.xk_tree.specs.declared.tree.Operator.{Operator}
 use Rattle.xk_tree.specs.declared.tree.Number.{Number}
 use Rattle.xk_tree.specs.declared.tree.Binding.{Binding}
+use Rattle.xk_tree.specs.declared.tree.Written.{Written}
 use Rattle.xk_tree.specs.declared.tree.TypeName.{TypeName}
 use Rattle.xk_tree.specs.declared.tree.Verb.{Verb}
 use Rattle.xk_tree.specs.declared.tree.Name as name
@@ -52,9 +53,9 @@ abbrev pub top : Bound → ℤ
 top (UpTo n) = n.value
 top (Least x v e n) = n.value
 
--- `clocked (c, ..)`
+-- the clocks that an `async` registers its activity on
 pub record Clocks : Type 0 where
-  pub paren : ℕ
+  pub written : Written
   pub names : List Word
 
 mutual
@@ -127,7 +128,7 @@ bound (reach.UpTo n) = UpTo n
 bound (reach.Least x v e n) = Least (word x) v (expression e) n
 
 abbrev pub clock_list : clocks.ClockList → Clocks
-clock_list l = record { paren = l.paren; names = words l.names.items }
+clock_list l = record { written = l.written; names = words l.names.items }
 
 abbrev pub listed : List Statement → Statements
 listed [] = Done

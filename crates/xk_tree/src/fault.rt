@@ -6,7 +6,7 @@ ghost use Rattle.xk_tree.specs.Fault.{front_number, front_name};
 use std::alloc::{AllocError, AllocFailed};
 use thiserror::Error;
 
-/// A rule on source texts, F1 to F14.
+/// A rule on source texts, F1 to F15.
 #[derive(Clone, Copy, Debug, PartialEq, Eq)]
 pub enum FrontRule {
     /// F1: a character with which no token begins, or a comment that isn't closed.
@@ -25,7 +25,7 @@ pub enum FrontRule {
     WrongKind,
     /// F8: an `async` body uses a clock that it isn't given, or a `var` from outside.
     NotCaptured,
-    /// F9: there is no method `main`, or it has parameters.
+    /// F9: there is no method `main`, or a parameter of it is a clock.
     NoMain,
     /// F10: a method that is reached again from what it calls, or a call of `main`.
     Recursive,
@@ -37,10 +37,12 @@ pub enum FrontRule {
     Literal,
     /// F14: too many shared numbers, units, slots, instructions or arguments.
     Table,
+    /// F15: a `clocked async` where no clock is hidden.
+    NoHiddenClock,
 }
 
 impl FrontRule {
-    /// The number, from 1 to 14: `F10` is the rule with the number 10.
+    /// The number, from 1 to 15: `F10` is the rule with the number 10.
     pub fn number(self) -> u8
         ensures { result ≡ front_number self }
     {
@@ -59,6 +61,7 @@ impl FrontRule {
             FrontRule::SameClockTwice => 12,
             FrontRule::Literal => 13,
             FrontRule::Table => 14,
+            FrontRule::NoHiddenClock => 15,
         }
     }
 
@@ -81,6 +84,7 @@ impl FrontRule {
             FrontRule::SameClockTwice => "SameClockTwice",
             FrontRule::Literal => "Literal",
             FrontRule::Table => "Table",
+            FrontRule::NoHiddenClock => "NoHiddenClock",
         }
     }
 }

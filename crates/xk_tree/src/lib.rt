@@ -7,5 +7,5 @@ mod tree;
 pub use fault::{FrontError, FrontFault, FrontRule};
 pub use tree::{
     Binding, Bound, ClockList, Expr, Method, Name, Number, Operator, Param, Right, Shared, Stmt,
-    Tree, TypeName, Verb,
+    Tree, TypeName, Verb, Written,
 };

@@ -76,6 +76,8 @@ pub enum Binding {
     Val,
     /// `var`: it may be assigned to.
     Var,
+    /// The clock of a `clocked finish`, which has no name in the text: it stays.
+    Hidden,
 }
 
 /// What stands behind the `=` of a declaration.
@@ -108,12 +110,21 @@ impl Bound<'_> {
     }
 }
 
-/// The clocks that an `async` registers its activity on: `clocked (c, ..)`.
+/// How the clocks of an `async` are written.
+#[derive(Clone, Copy, Debug, PartialEq, Eq)]
+pub enum Written {
+    /// By name: `async clocked (c, ..)`, with the offset of the `(`.
+    Listed(usize),
+    /// `clocked async`, with the offset of `clocked`: the clock that is hidden there.
+    Ahead(usize),
+}
+
+/// The clocks that an `async` registers its activity on.
 #[derive(Drop)]
 pub struct ClockList<'t> {
-    /// The offset of its `(`.
-    pub paren: usize,
-    /// At least one.
+    /// How they are written.
+    pub written: Written,
+    /// At least one. Of `clocked async` the one that is hidden there, at the word `clocked`; a name without letters where none is.
     pub names: Vec<Name<'t>>,
 }
 
@@ -136,9 +147,9 @@ pub enum Stmt<'t> {
     IfElse(usize, Expr<'t>, Comparison, Expr<'t>, Box<Stmt<'t>>, Box<Stmt<'t>>),
     /// `for (i in a..b) s`, with the offset of its `(`.
     For(usize, Name<'t>, Number, Bound<'t>, Box<Stmt<'t>>),
-    /// `async s` or `async clocked (c, ..) s`, with the offset of `async`.
+    /// `async s`, `async clocked (c, ..) s` or `clocked async s`, with the offset of `async`.
     Async(usize, Option<ClockList<'t>>, Box<Stmt<'t>>),
-    /// `finish s`
+    /// `finish s`; and `clocked finish s`, which stands for `finish { val h = Clock.make(); s h.drop(); }` with a name h that no text has.
     Finish(Box<Stmt<'t>>),
     /// `f(e, ..);`, with the offset of its `(`.
     Call(Name<'t>, usize, Vec<Expr<'t>>),
