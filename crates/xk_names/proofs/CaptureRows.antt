@@ -5,8 +5,9 @@ use Rattle.xk_types.specs.declared.unit.ParamKind.TheVariants as param
 use Rattle.xk_tree.specs.declared.tree.Number.{Number}
 use Rattle.xk_tree.specs.declared.tree.Operator.TheVariants as operator
 use Rattle.xk_tree.specs.declared.tree.Binding.TheVariants as binding
+use Rattle.xk_tree.specs.declared.tree.Written.TheVariants as written
 use Rattle.xk_tree.specs.declared.tree.Verb.{Verb}
-use Rattle.xk_tree.specs.Tree.{Word, Expression, Named, Binary, Value, UpTo, Least, Statement, Done, More, Block, Declare, Assign, Atomic, For, Async, Call, Print}
+use Rattle.xk_tree.specs.Tree.{Word, Expression, Named, Binary, Value, Make, UpTo, Least, Statement, Done, More, Block, Declare, Assign, Atomic, For, Async, Finish, Call, Drop, Print}
 use Rattle.xk_names.specs.Uses.{Signatures}
 use Rattle.xk_names.specs.Captures.{captures}
 
@@ -41,7 +42,7 @@ abbrev val : Word → Expression → Statement
 val w e = Declare binding.Val w None (Value e)
 
 abbrev async : List Word → Statement → Statement
-async cs b = Async 0 (Some (record { paren = 0; names = cs })) b
+async cs b = Async 0 (Some (record { written = written.Listed 0; names = cs })) b
 
 -- `method` takes a clock and a number, and `s` is a shared number
 abbrev methods : Signatures
@@ -85,3 +86,19 @@ limit_words = refl
 -- `{ m(c, x); async clocked(c) m(c, y); }`: clocks stand in lists
 clocks_not : taken (Block (More (Call m 0 (Named c ∷ Named x ∷ [])) (More (async (c ∷ []) (Call m 0 (Named c ∷ Named y ∷ []))) Done))) ≡ codes "x" ∷ codes "y" ∷ []
 clocks_not = refl
+
+-- a clock that is hidden, with a name that no text has
+abbrev hidden : Word
+hidden = record { at = 0; text = codes " " }
+
+abbrev clocked_async : Statement → Statement
+clocked_async b = Async 0 (Some (record { written = written.Ahead 0; names = hidden ∷ [] })) b
+
+-- `clocked async println(x);`: nor is a hidden clock taken
+hidden_not : taken (clocked_async (print (Named x))) ≡ codes "x" ∷ []
+hidden_not = refl
+
+-- `clocked finish clocked async println(x);`
+hidden_within : taken (Finish (Block (More (Declare binding.Hidden hidden None (Make 0 verb)) (More (clocked_async (print (Named x))) (More (Drop hidden verb) Done)))))
+    ≡ codes "x" ∷ []
+hidden_within = refl

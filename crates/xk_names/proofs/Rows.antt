@@ -1,18 +1,22 @@
 -- Small programs, each with a fault of names that it has.
-use Rattle.std.proofs.Common.{◌≡◌, inl, inr, ℕ, ◌+◌, true, false, pos, List, [], ◌∷◌, refl, Option, Some, None, arith}
+use Rattle.std.proofs.Common.{◌≡◌, inl, inr, ℕ, ◌+◌, true, false, pos, List, [], ◌∷◌, refl, subst, Option, Some, None, arith}
 use Rattle.std.specs.Prelude.{codes}
 use Rattle.xk_types.specs.declared.unit.ParamKind.{ParamKind}
 use Rattle.xk_types.specs.declared.unit.ParamKind.TheVariants as param
 use Rattle.xk_tree.specs.declared.fault.FrontRule.TheVariants as rule
+use Rattle.xk_tree.specs.declared.fault.FrontFault.{FrontFault}
 use Rattle.xk_tree.specs.declared.tree.Binding.TheVariants as binding
+use Rattle.xk_tree.specs.declared.tree.Written.TheVariants as written
 use Rattle.xk_tree.specs.declared.tree.Verb.{Verb}
-use Rattle.xk_tree.specs.Tree.{Word, Clocks, Expression, Literal, Named, Paren, Make, Value, Least, ParamValue, MethodValue, SharedValue, TreeValue, Statement, Statements, Done, More, Block, Empty, Declare, Assign, For, Async, Call, Resume, Print}
+use Rattle.xk_tree.specs.Tree.{Word, Clocks, Expression, Literal, Named, Paren, Make, Value, Least, ParamValue, MethodValue, SharedValue, TreeValue, Statement, Statements, Done, More, Block, Empty, Declare, Assign, For, Async, Finish, Call, Resume, Drop, Print}
 use Rattle.xk_names.specs.declared.known.Kind.TheVariants as kind
 use Rattle.xk_names.specs.declared.known.Want.TheVariants as want
-use Rattle.xk_names.specs.Scope.{known}
+use Rattle.xk_names.specs.Scope.{Has, known}
 use Rattle.xk_names.specs.Uses.{use_as}
 use Rattle.xk_names.specs.Places.{Here, First, Later, Inside}
 use Rattle.xk_names.specs.Faults.{fault, NotVisible, OtherKind, NotSeen, DeclaredAgain, Misfit, NoMethod, OtherCount, ClockAgain, scope_in, HasNameFault, InMethods, InParams, InBody, HasFault, HasMain, no_main}
+use Rattle.xk_names.specs.Collected.{own, name_faults}
+use Rattle.xk_names.proofs.Whole.{fault_listed}
 
 abbrev named : ℕ → List ℕ → Word
 named at text = record { at = at; text = text }
@@ -243,6 +247,58 @@ param_again = InParams twice (inl refl) (record {
   again = refl;
   is = refl;
 })
+
+-- a clock that is hidden, with a name that no text has
+abbrev hidden : ℕ → Word
+hidden at = named at (codes " ")
+
+-- `clocked finish BODY`
+abbrev clocked_finish : ℕ → Statement → Statement
+clocked_finish at s = let verb : Verb = record { at = at; paren = at } in
+    Finish (Block (More (Declare binding.Hidden (hidden at) None (Make at verb)) (More s (More (Drop (hidden at) verb) Done))))
+
+-- `clocked async BODY`
+abbrev clocked_async : Word → Statement → Statement
+clocked_async clock s = Async (clock.at + 8) (Some (record { written = written.Ahead clock.at; names = clock ∷ [] })) s
+
+-- `clocked finish clocked async clocked async { }`: each body is given the hidden clock
+abbrev all_given : TreeValue
+all_given = alone (More (clocked_finish 13 (clocked_async (hidden 28) (clocked_async (hidden 42) (Block Done)))) Done)
+
+no_faults : name_faults all_given ≡ []
+unfolding own
+no_faults = refl
+
+hidden_given : (f : FrontFault) → HasFault all_given f → ⊥
+hidden_given f (inl h) = absurd (subst (λ fs. Has fs f) no_faults (fault_listed all_given f h))
+hidden_given f (inr h) = h.0 refl
+
+-- `clocked async { }`, where no clock is hidden
+abbrev none_hidden_body : Statements
+none_hidden_body = More (clocked_async (named 13 []) (Block Done)) Done
+
+none_hidden : HasNameFault (alone none_hidden_body) (fault rule.NoHiddenClock 13)
+none_hidden = InBody (main none_hidden_body) (inl refl) (record {
+  way = First Here;
+  statement = clocked_async (named 13 []) (Block Done);
+  stands = refl;
+  breaks = NotVisible (use_as want.Clock (named 13 [])) (inl refl) refl refl;
+})
+
+-- and it has no other fault
+none_hidden_alone : name_faults (alone none_hidden_body) ≡ fault rule.NoHiddenClock 13 ∷ []
+unfolding own
+none_hidden_alone = refl
+
+-- `clocked finish async clocked async { }`: the first body isn't given the hidden clock, so that none is hidden in it
+not_hidden_within : name_faults (alone (More (clocked_finish 13 (Async 28 None (clocked_async (named 34 []) (Block Done)))) Done)) ≡ fault rule.NoHiddenClock 34 ∷ []
+unfolding own
+not_hidden_within = refl
+
+-- a tree that no text spells: that body gives the clock which it isn't given itself
+hidden_not_seen : name_faults (alone (More (clocked_finish 13 (Async 28 None (clocked_async (hidden 34) (Block Done)))) Done)) ≡ fault rule.NotCaptured 34 ∷ []
+unfolding own
+hidden_not_seen = refl
 
 -- no method is called `main`, or it has a parameter that takes a clock
 no_method_main : HasFault (program [] (taker ∷ [])) no_main

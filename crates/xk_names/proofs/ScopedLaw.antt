@@ -9,7 +9,7 @@ use Rattle.xk_names.specs.declared.known.Known.{Known}
 use Rattle.xk_names.specs.Scope.{find, has, texts, Has, Declaration, Scope, sees, fits}
 use Rattle.xk_names.specs.Uses.{Use, Signatures, signatures, uses, declares, clocks_listed, calls}
 use Rattle.xk_names.specs.Places.{Way, Here, First, Later, Inside, Else, Stands, StandsAmong, behind}
-use Rattle.xk_names.specs.Faults.{fault, Breaks, NotVisible, OtherKind, NotSeen, DeclaredAgain, Misfit, NoMethod, OtherCount, ClockAgain, InMethods, InParams, InBody, HasFault, wants_clock, MayBegin, HasMain, no_main}
+use Rattle.xk_names.specs.Faults.{fault, invisible_rule, Breaks, NotVisible, OtherKind, NotSeen, DeclaredAgain, Misfit, NoMethod, OtherCount, ClockAgain, InMethods, InParams, InBody, HasFault, wants_clock, MayBegin, HasMain, no_main}
 use Rattle.xk_names.specs.Scoped.{IsRight, IsCallable, IsSound, IsSoundInside, AreSound, with_all, with_body, method_scope, IsScoped}
 use Rattle.xk_names.proofs.Walked.{scope_at, scope_among, among_once}
 use Rattle.xk_names.proofs.Whole.{seen_at}
@@ -30,7 +30,7 @@ right_use : (ms : Signatures) (sc : Scope) (t : Statement) → Unbroken ms sc t 
 right_use ms sc t none u among = go (find sc.names u.name.text) refl
   where
     go : (o : Option Known) → find sc.names u.name.text ≡ o → IsRight sc u
-    go None e = absurd (none (fault rule.UnknownName u.name.at) (NotVisible u among e refl))
+    go None e = absurd (none (fault (invisible_rule u.name.text) u.name.at) (NotVisible u among e refl))
     go (Some k) e = record {
       known = k;
       found = e;

@@ -11,7 +11,7 @@ use Rattle.xk_names.specs.declared.known.Want.TheVariants as want
 use Rattle.xk_names.specs.Scope.{Table, find, has, Declaration, Scope, sees, fits}
 use Rattle.xk_names.specs.Uses.{Use, use_as, Signatures, uses, declares, misfits, clocks_given, clocks_listed, calls}
 use Rattle.xk_names.specs.Places.{behind}
-use Rattle.xk_names.specs.Faults.{fault, shared_declaration, param_declaration}
+use Rattle.xk_names.specs.Faults.{fault, invisible_rule, shared_declaration, param_declaration}
 
 -- ---- what is visible, each name once
 
@@ -58,7 +58,7 @@ abbrev pub when : Bool → FrontRule → ℕ → List FrontFault
 when b r at = if b then fault r at ∷ [] else []
 
 abbrev pub known_use_faults : Scope → Use → Option Known → List FrontFault
-known_use_faults sc u None = fault rule.UnknownName u.name.at ∷ []
+known_use_faults sc u None = fault (invisible_rule u.name.text) u.name.at ∷ []
 known_use_faults sc u (Some k) = unless (fits u.want k.kind) rule.WrongKind u.name.at ++ unless (sees sc u.name.text k) rule.NotCaptured u.name.at
 
 abbrev pub use_faults : Scope → Use → List FrontFault

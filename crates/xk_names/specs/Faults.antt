@@ -18,10 +18,15 @@ use Rattle.xk_names.specs.Places.{Way, StandsAmong, declared_among, bodies_among
 abbrev pub fault : FrontRule → ℕ → FrontFault
 fault r at = record { rule = r; at = at }
 
+-- The rule against the use of a name that isn't visible. One without letters is used by a `clocked async` where no clock is hidden, and by nothing else.
+abbrev pub invisible_rule : List ℕ → FrontRule
+invisible_rule [] = rule.NoHiddenClock
+invisible_rule (letter ∷ letters) = rule.UnknownName
+
 -- a statement has the fault, apart from the statements that it holds
 pub data Breaks (ms : Signatures) (sc : Scope) (t : Statement) (f : FrontFault) : Type 0 where
-  -- a name is used that isn't visible
-  NotVisible : (u : Use) → Has (uses ms sc.names t) u → find sc.names u.name.text ≡ None → f ≡ fault rule.UnknownName u.name.at → Breaks ms sc t f
+  -- a name is used that isn't visible, or a hidden clock where there is none
+  NotVisible : (u : Use) → Has (uses ms sc.names t) u → find sc.names u.name.text ≡ None → f ≡ fault (invisible_rule u.name.text) u.name.at → Breaks ms sc t f
   -- a name is used as what it isn't
   OtherKind : (u : Use) (k : Known) → Has (uses ms sc.names t) u → find sc.names u.name.text ≡ Some k → fits u.want k.kind ≡ false → f ≡ fault rule.WrongKind u.name.at
       → Breaks ms sc t f
@@ -87,7 +92,7 @@ pub record BreaksInside (t : TreeValue) (m : MethodValue) (f : FrontFault) : Typ
   pub stands : StandsAmong m.body way statement
   pub breaks : Breaks (signatures t.methods) (scope_in t m way) statement f
 
--- the tree has the fault, one of F5, F6, F7, F8, F11 and F12
+-- the tree has the fault, one of F5, F6, F7, F8, F11, F12 and F15
 pub data HasNameFault (t : TreeValue) (f : FrontFault) : Type 0 where
   InShared : RepeatsName (map shared_declaration t.shared) f → HasNameFault t f
   InMethods : RepeatsMethod t.methods f → HasNameFault t f
@@ -118,7 +123,7 @@ HasFault t f = HasNameFault t f ⊎ ((HasMain t → ⊥) × (f ≡ no_main))
 abbrev pub IsNoLater : FrontFault → FrontFault → Type 0
 IsNoLater f g = (f.at < g.at) ⊎ ((f.at ≡ g.at) × (front_number f.rule ≤ front_number g.rule))
 
--- The fault is the one of the tree that is reported: the first of F5, F6, F7, F8, F11 and F12, and where there is none of them F9.
+-- The fault is the one of the tree that is reported: the first of F5, F6, F7, F8, F11, F12 and F15, and where there is none of them F9.
 pub record IsReported (t : TreeValue) (f : FrontFault) : Type 0 where
   pub there : HasFault t f
   pub first : (g : FrontFault) → HasNameFault t g → HasNameFault t f × IsNoLater f g

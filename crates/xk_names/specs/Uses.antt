@@ -134,6 +134,7 @@ abbrev pub kind_of : Binding → Source → Kind
 kind_of b (Make at v) = kind.Clock
 kind_of binding.Val (Value e) = kind.Val
 kind_of binding.Var (Value e) = kind.Var
+kind_of binding.Hidden (Value e) = kind.Val
 
 -- the name of a loop's limit
 abbrev pub bound_declares : ℕ → Bound → List Declaration
@@ -157,6 +158,7 @@ abbrev pub make_misfits : Binding → Source → List ℕ
 make_misfits binding.Var (Make at v) = at ∷ []
 make_misfits binding.Var (Value e) = []
 make_misfits binding.Val r = []
+make_misfits binding.Hidden r = []
 
 -- where a loop's limit has the loop's own name; those of texts never have
 abbrev pub bound_misfits : Word → Bound → List ℕ

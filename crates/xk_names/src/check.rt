@@ -24,6 +24,7 @@ fn kind_of(b: Binding, r: &Right<'_>) -> Kind
         Right::Expr(_) => match b {
             Binding::Val => Kind::Val,
             Binding::Var => Kind::Var,
+            Binding::Hidden => Kind::Val,
         },
     }
 }

@@ -16,7 +16,15 @@ pub fn check_use<'t>(worst: &mut Option<FrontFault>, scope: &Scope<'t>, name: Na
     ensures { worst.new ≡ least worst.old (use_faults scope.now (use_as want (word name.entry))) }
 {
     match scope.find(name.text) {
-        None => note(worst, FrontRule::UnknownName, name.at),
+        None => {
+            // Only a `clocked async` where no clock is hidden uses a name without letters.
+            let rule = if name.text.is_empty() {
+                FrontRule::NoHiddenClock
+            } else {
+                FrontRule::UnknownName
+            };
+            note(worst, rule, name.at);
+        }
         Some(known) => {
             let fits = known.kind.fits(want);
             note_if(!fits, worst, FrontRule::WrongKind, name.at);

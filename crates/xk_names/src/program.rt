@@ -214,7 +214,7 @@ fn has_main<'t>(methods: &Methods<'_, 't>) -> bool
     }
 }
 
-/// Looks for faults of names in a tree: F5 to F9, F11 and F12 of `docs/LANGUAGE.md`, rules that are this project's own. `Ok` means that the tree
+/// Looks for faults of names in a tree: F5 to F9, F11, F12 and F15 of `docs/LANGUAGE.md`, rules that are this project's own. `Ok` means that the tree
 /// has none, so that each name that is used is visible and is what is wanted. Otherwise the fault is told that has the least offset, and of
 /// those there the least number; F9 only where there is no other. `OutOfMemory` tells nothing of the tree.
 pub fn check_names(alloc: Global, tree: &Tree<'_>) -> Result<(), FrontError>

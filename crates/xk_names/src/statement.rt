@@ -65,6 +65,7 @@ fn check_make(worst: &mut Option<FrontFault>, b: Binding, r: &Right<'_>)
 {
     match b {
         Binding::Val => {}
+        Binding::Hidden => {}
         Binding::Var => match r {
             Right::Make(at, _) => note(worst, FrontRule::WrongKind, *at),
             Right::Expr(_) => {}
