@@ -18,7 +18,8 @@ use Rattle.xk_names.specs.Places.{Way, StandsAmong, declared_among, bodies_among
 abbrev pub fault : FrontRule → ℕ → FrontFault
 fault r at = record { rule = r; at = at }
 
--- The rule against the use of a name that isn't visible. One without letters is used by a `clocked async` where no clock is hidden, and by nothing else.
+-- The rule against the use of a name that isn't visible. No text has a name without letters: it stands for the clock of a `clocked async` where none is
+-- hidden.
 abbrev pub invisible_rule : List ℕ → FrontRule
 invisible_rule [] = rule.NoHiddenClock
 invisible_rule (letter ∷ letters) = rule.UnknownName

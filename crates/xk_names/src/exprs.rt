@@ -17,7 +17,7 @@ pub fn check_use<'t>(worst: &mut Option<FrontFault>, scope: &Scope<'t>, name: Na
 {
     match scope.find(name.text) {
         None => {
-            // Only a `clocked async` where no clock is hidden uses a name without letters.
+            // A name without letters stands for the clock of a `clocked async` where none is hidden.
             let rule = if name.text.is_empty() {
                 FrontRule::NoHiddenClock
             } else {
