@@ -34,7 +34,7 @@ abbrev pub loop_between : ℤ → ℤ → Loop
 loop_between lo hi = record { first = 0; last = 0; slot = 0; lo = lo; hi = hi; limit = None }
 
 -- How often the next instruction is carried out, cut, where this one is `here` times, and the list says it of those before:
--- behind a loop as often as its `for`.
+-- behind a loop as often as its head.
 abbrev pub visits_next : ℕ → List ℕ → ℕ → Instr → ℕ
 visits_next cut before here (instr.For k lo hi e) = min (here * turns (loop_between lo hi)) cut
 visits_next cut before here (instr.ForTo k lo x hi e) = min (here * turns (loop_between lo hi)) cut

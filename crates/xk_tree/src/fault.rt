@@ -25,7 +25,7 @@ pub enum FrontRule {
     WrongKind,
     /// F8: an `async` body uses a clock that it isn't given, or a `var` from outside.
     NotCaptured,
-    /// F9: there is no method `main`, or it has parameters.
+    /// F9: there is no method `main`, or a parameter of it is a clock.
     NoMain,
     /// F10: a method that is reached again from what it calls, or a call of `main`.
     Recursive,

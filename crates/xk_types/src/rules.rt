@@ -13,11 +13,11 @@ pub enum Rule {
     Block,
     /// V3: every slot that an instruction names is one of the unit's.
     Slot,
-    /// V4: unit 0 is the only main and has no parameters; a unit that is called or started fits.
+    /// V4: unit 0 is the only main and takes no clock; a unit that is called or started fits.
     Unit,
     /// V5: every shared number named exists.
     Cell,
-    /// V6: a loop's bounds are in order, and nothing inside it writes its slot.
+    /// V6: a loop's bounds are in order, its slot isn't its limit, and nothing inside it writes either.
     Loop,
     /// V7: the last instruction is `ret`, and no other is.
     End,
