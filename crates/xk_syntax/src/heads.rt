@@ -11,7 +11,9 @@ ghost use Rattle.xk_syntax.specs.Views.{head_value, clocks_value};
 
 use crate::bounds::bound;
 use crate::lists::names;
-use crate::parts::{after_keyword, comparison, name, need_keyword, need_open, need_sign, open_paren};
+use crate::parts::{
+    after_keyword, comparison, name, need_keyword, need_open, need_sign, open_paren,
+};
 use crate::simple::{advance_all, atomic, declaration, named, print};
 use std::alloc::Global;
 use xk_exprs::parts::{next, unexpected};
@@ -125,11 +127,7 @@ fn start<'s, 't>(
 }
 
 /// The clock of a `clocked async`, whose `clocked` stands at this offset: the hidden one of the place.
-fn hidden_list<'t>(
-    alloc: Global,
-    at: usize,
-    hidden: &'t [u8],
-) -> Result<ClockList<'t>, SyntaxError>
+fn hidden_list<'t>(alloc: Global, at: usize, hidden: &'t [u8]) -> Result<ClockList<'t>, SyntaxError>
     ensures { Gives clock_list result
         (Some (record { written = written.Ahead at; names = in_force at hidden.now ∷ [] })) }
 {

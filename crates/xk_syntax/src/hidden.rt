@@ -39,12 +39,7 @@ pub(crate) fn clocked_finish<'t>(
         paren: clock.at,
     };
     let mut stmts = Vec::new(alloc);
-    stmts.push(Stmt::Declare(
-        Binding::Hidden,
-        clock,
-        None,
-        Right::Make(clock.at, verb),
-    ))?;
+    stmts.push(Stmt::Declare(Binding::Hidden, clock, None, Right::Make(clock.at, verb)))?;
     stmts.push(stmt)?;
     stmts.push(Stmt::Drop(clock, verb))?;
     let block = Box::new(alloc, Stmt::Block(stmts))?;

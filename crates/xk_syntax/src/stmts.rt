@@ -281,7 +281,9 @@ fn rest_of<'s, 't>(
         Head::Whole(stmt) => Ok((stmt, tokens)),
         Head::Brace => block_stmt(alloc, levels, hidden, tokens, end),
         Head::Condition(paren, left, comparison, right) => {
-            if_stmt(alloc, levels, hidden, paren, left, comparison, right, tokens, end)
+            if_stmt(
+                alloc, levels, hidden, paren, left, comparison, right, tokens, end,
+            )
         }
         Head::Range(paren, name, lo, reach) => for_stmt(
             alloc, levels, hidden, paren, name, lo, reach, tokens, end,
