@@ -6,7 +6,7 @@ use Rattle.xk_tokens.specs.declared.token.Sign.TheVariants as sign
 use Rattle.xk_tree.specs.declared.tree.Operator.{Operator as Op}
 use Rattle.xk_tree.specs.declared.tree.Operator.TheVariants as operator
 use Rattle.xk_tree.specs.declared.tree.Number as number
-use Rattle.xk_exprs.specs.Marks.{Mark, Name, Number, Operator, Open, Symbol, Reserved, AsyncAt, ClockAt, LongAt, Unfit}
+use Rattle.xk_exprs.specs.Marks.{Mark, Name, Number, Operator, Open, Symbol, Reserved, AsyncAt, ClockedAt, ClockAt, LongAt, Unfit}
 use Rattle.xk_tree.specs.Tree.{Expression, Word, Literal, Named, Paren, Negation, Binary}
 use Rattle.xk_exprs.specs.Spelling.{minus_marks, spell, binds, level, depth, operators, IsNegatable, IsGrouped, Spells, SpellsTerm}
 use Rattle.xk_exprs.specs.Readers.{◌>>=◌, Fails, Goes, loop}
@@ -221,6 +221,7 @@ factor_sound (suc d) ops (Operator at operator.Minus ∷ ts) x e = by (factor_so
 factor_sound d ops (Symbol s ∷ ts) x e = absurd cc
 factor_sound d ops (Reserved k ∷ ts) x e = absurd cc
 factor_sound d ops (AsyncAt at ∷ ts) x e = absurd cc
+factor_sound d ops (ClockedAt at ∷ ts) x e = absurd cc
 factor_sound d ops (ClockAt at ∷ ts) x e = absurd cc
 factor_sound d ops (LongAt at ∷ ts) x e = absurd cc
 factor_sound d ops (Unfit ∷ ts) x e = absurd cc

@@ -13,15 +13,18 @@ use Rattle.xk_tokens.specs.Tokens as lexemes
 use Rattle.xk_tokens.specs.Pieces.{has_stray}
 use Rattle.xk_tokens.specs.Lexing.{lexed}
 use Rattle.xk_tokens.proofs.Texts.{spelled_lexed, spelled_from_none}
+use Rattle.xk_tree.specs.declared.tree.Binding.TheVariants as binding
+use Rattle.xk_tree.specs.declared.tree.Written.{Written}
+use Rattle.xk_tree.specs.declared.tree.Written.TheVariants as written
 use Rattle.xk_tree.specs.declared.tree.Number as tree
-use Rattle.xk_tree.specs.Tree.{Expression, Literal, Named, Paren, Negation, Binary, Make, Value, UpTo, Least, Statement, Statements, Done, More, Block, Empty, Declare, Assign, Atomic, If, IfElse, For, Async, Finish, Call, Resume, Drop, AdvanceAll, Print, TreeValue}
-use Rattle.xk_exprs.specs.Marks.{Mark, Name, Number, Operator, Open, Symbol, Reserved, AsyncAt, ClockAt, LongAt, Unfit, kind_mark, marks}
+use Rattle.xk_tree.specs.Tree.{Word, Clocks, Expression, Literal, Named, Paren, Negation, Binary, Make, Value, UpTo, Least, Statement, Statements, Done, More, Block, Empty, Declare, Assign, Atomic, If, IfElse, For, Async, Finish, Call, Resume, Drop, AdvanceAll, Print, TreeValue}
+use Rattle.xk_exprs.specs.Marks.{Mark, Name, Number, Operator, Open, Symbol, Reserved, AsyncAt, ClockedAt, ClockAt, LongAt, Unfit, mark, kind_mark, marks, kept}
 use Rattle.xk_exprs.specs.declared.fault.SyntaxError.{SyntaxError}
 use Rattle.xk_exprs.specs.declared.fault.SyntaxError.TheVariants as error
 use Rattle.xk_exprs.specs.Faults.{front_error}
 use Rattle.xk_exprs.specs.Readers.{Refuses}
 use Rattle.xk_exprs.specs.Spelling.{spell, minus_marks, number_marks}
-use Rattle.xk_syntax.specs.Spelling.{word, number, expr, comparison_sign, type_mark, type_name, type_part, source, bound, row, behind_comma, commas, clock_part, stmt, stmts, param, method, shared, program, lexeme_mark, token_mark, SpellsTree}
+use Rattle.xk_syntax.specs.Spelling.{word, number, expr, comparison_sign, type_mark, type_name, type_part, source, bound, row, behind_comma, commas, clocked_start, start, stmt, stmts, param, method, shared, program, lexeme_mark, token_mark, SpellsTree}
 use Rattle.xk_syntax.specs.Texts.{IsRefused}
 use Rattle.xk_syntax.specs.Readers.{program_at}
 use Rattle.xk_syntax.proofs.Programs.{program_found, program_again}
@@ -47,6 +50,7 @@ clean-append (Open at ∷ xs) ys h k = clean-append xs ys h k
 clean-append (Symbol s ∷ xs) ys h k = clean-append xs ys h k
 clean-append (Reserved w ∷ xs) ys h k = clean-append xs ys h k
 clean-append (AsyncAt at ∷ xs) ys h k = clean-append xs ys h k
+clean-append (ClockedAt at ∷ xs) ys h k = clean-append xs ys h k
 clean-append (ClockAt at ∷ xs) ys h k = clean-append xs ys h k
 clean-append (LongAt at ∷ xs) ys h k = clean-append xs ys h k
 clean-append (Unfit ∷ xs) ys h k = absurd h
@@ -103,9 +107,13 @@ commas_clean : {T : Type 0} (f : T → List Mark → List Mark) → KeepsClean f
 commas_clean f k [] after h = h
 commas_clean f k (x ∷ xs) after h = k x (row (behind_comma f) xs after) (row_clean (behind_comma f) k xs after h)
 
-clocks_clean : KeepsClean clock_part
-clocks_clean None after h = h
-clocks_clean (Some cs) after h = commas_clean word word_clean cs.names (Symbol sign.RightParen ∷ after) h
+clocks_clean : (at : ℕ) (w : Written) (ws : List Word) (after : List Mark) → Clean after → Clean (clocked_start at w ws after)
+clocks_clean at (written.Listed paren) ws after h = commas_clean word word_clean ws (Symbol sign.RightParen ∷ after) h
+clocks_clean at (written.Ahead clocked) ws after h = h
+
+start_clean : (at : ℕ) (cs : Option Clocks) (after : List Mark) → Clean after → Clean (start at cs after)
+start_clean at None after h = h
+start_clean at (Some cs) after h = clocks_clean at cs.written cs.names after h
 
 mutual
   stmt_clean : (s : Statement) (after : List Mark) → Clean after → Clean (stmt s after)
@@ -124,7 +132,8 @@ mutual
   stmt_clean (For at w lo b s) after h =
       let body = Symbol sign.RightParen ∷ stmt s after in
       number_clean lo (Symbol sign.DotDot ∷ bound b body) (bound_clean b body (stmt_clean s after h))
-  stmt_clean (Async at cs s) after h = clocks_clean cs (stmt s after) (stmt_clean s after h)
+  stmt_clean (Async at cs s) after h = start_clean at cs (stmt s after) (stmt_clean s after h)
+  stmt_clean (Finish (Block (More (Declare binding.Hidden b ty r) (More s (More (Drop g v) Done))))) after h = stmt_clean s after h
   stmt_clean (Finish s) after h = stmt_clean s after h
   stmt_clean (Call w at es) after h = commas_clean expr expr_clean es (Symbol sign.RightParen ∷ Symbol sign.Semicolon ∷ after) h
   stmt_clean (Resume w v) after h = h
@@ -160,9 +169,17 @@ kind_kept at kinds.BadNumber = refl
 kind_kept at (kinds.Sign s) = refl
 kind_kept at kinds.Stray = refl
 
-marks_kept : (ts : List Token) → marks ts ≡ map token_mark (map token_value ts)
-marks_kept [] = refl
-marks_kept (t ∷ ts) = ap (λ (m : Mark). m ∷ marks ts) (kind_kept t.at t.kind) ∙ ap (λ (l : List Mark). token_mark (token_value t) ∷ l) (marks_kept ts)
+each_kept : (ts : List Token) → map mark ts ≡ map token_mark (map token_value ts)
+each_kept [] = refl
+each_kept (t ∷ ts) = ap (λ (m : Mark). m ∷ map mark ts) (kind_kept t.at t.kind) ∙ ap (λ (l : List Mark). token_mark (token_value t) ∷ l) (each_kept ts)
+
+marks_kept : (ts : List Token) → marks ts ≡ kept (map token_mark (map token_value ts))
+marks_kept ts = ap kept (each_kept ts)
+
+kept_clean : (ms : List Mark) → Clean (kept ms) → Clean ms
+kept_clean [] h = tt
+kept_clean (Unfit ∷ ms) h = absurd h
+kept_clean (_ ∷ ms) h = kept_clean ms h
 
 first_clean : (m : Mark) (ts : List Mark) → Clean (m ∷ ts) → Clean ts
 first_clean Unfit ts h = absurd h
@@ -184,25 +201,25 @@ none_stray (t ∷ ts) h = by (none_stray ts) t.what h
 -- ---- texts
 
 -- the marks of these tokens, which are those of the text
-all_marks : (text : List ℕ) (ts : List Token) → map token_value ts ≡ lexed text → marks ts ≡ map token_mark (lexed text)
-all_marks text ts e = marks_kept ts ∙ ap (map token_mark) e
+all_marks : (text : List ℕ) (ts : List Token) → map token_value ts ≡ lexed text → marks ts ≡ kept (map token_mark (lexed text))
+all_marks text ts e = marks_kept ts ∙ ap (λ (l : List TokenValue). kept (map token_mark l)) e
 
-pub spelled_from_read : (text : List ℕ) (t : TreeValue) → length text ≤ 1048576 → program_at (map token_mark (lexed text)) ≡ Some t → SpellsTree text t
+pub spelled_from_read : (text : List ℕ) (t : TreeValue) → length text ≤ 1048576 → program_at (kept (map token_mark (lexed text))) ≡ Some t → SpellsTree text t
 spelled_from_read text t short r =
-    let f = program_found (map token_mark (lexed text)) t r in
-    let none = none_stray (lexed text) (subst Clean (sym f.0) (program_clean t)) in
+    let f = program_found (kept (map token_mark (lexed text))) t r in
+    let none = none_stray (lexed text) (kept_clean (map token_mark (lexed text)) (subst Clean (sym f.0) (program_clean t))) in
     record { short = short; spelled = (lexed text, spelled_from_none text none, f.0); fits = f.1 }
 
 pub tree_spelled : (text : List ℕ) (ts : List Token) (t : TreeValue)
     → length text ≤ 1048576 → map token_value ts ≡ lexed text → program_at (marks ts) ≡ Some t → SpellsTree text t
 tree_spelled text ts t short e r = spelled_from_read text t short (sym (ap program_at (all_marks text ts e)) ∙ r)
 
-tree_read : (text : List ℕ) (t : TreeValue) → SpellsTree text t → program_at (map token_mark (lexed text)) ≡ Some t
+tree_read : (text : List ℕ) (t : TreeValue) → SpellsTree text t → program_at (kept (map token_mark (lexed text))) ≡ Some t
 tree_read text t s =
-    let m : map token_mark (lexed text) ≡ program t = ap (map token_mark) (spelled_lexed text s.spelled.0 s.spelled.1) ∙ s.spelled.2 in
+    let m : kept (map token_mark (lexed text)) ≡ program t = ap (λ (l : List TokenValue). kept (map token_mark l)) (spelled_lexed text s.spelled.0 s.spelled.1) ∙ s.spelled.2 in
     ap program_at m ∙ program_again t s.fits
 
-pub none_from_read : (text : List ℕ) → program_at (map token_mark (lexed text)) ≡ None → (t : TreeValue) → ¬ SpellsTree text t
+pub none_from_read : (text : List ℕ) → program_at (kept (map token_mark (lexed text))) ≡ None → (t : TreeValue) → ¬ SpellsTree text t
 none_from_read text r t s = let p = tree_read text t s in absurd cc
 
 pub none_spelled : (text : List ℕ) (ts : List Token) → map token_value ts ≡ lexed text → program_at (marks ts) ≡ None → (t : TreeValue) → ¬ SpellsTree text t
