@@ -1,12 +1,12 @@
 -- Behind what was read stands no operator that would go on with it.
-use Rattle.std.proofs.Common.{◌≡◌, ℕ, zero, suc, ◌<◌, ◌==◌, Bool, true, false, cond, List, [], ◌∷◌, Option, Some, None, refl, sym, ap, subst, ◌∙◌, arith}
+use Rattle.std.proofs.Common.{◌≡◌, ℕ, suc, ◌-◌, ◌<◌, ◌==◌, Bool, true, false, cond, List, [], ◌∷◌, Option, Some, None, refl, sym, subst, arith}
 use Rattle.std.proofs.lemmas.Bool.{eqb-false}
 use Rattle.xk_tree.specs.declared.tree.Operator.{Operator as Op}
 use Rattle.xk_tree.specs.declared.tree.Operator.TheVariants as operator
 use Rattle.xk_exprs.specs.Marks.{Mark, Name, Number, Operator, Open, Symbol, Reserved, AsyncAt, ClockedAt, ClockAt, LongAt, Unfit}
 use Rattle.xk_tree.specs.Tree.{Expression}
 use Rattle.xk_exprs.specs.Spelling.{binds, Ends}
-use Rattle.xk_exprs.specs.Readers.{◌>>=◌, Turn, Fails, Stops, Goes, loop}
+use Rattle.xk_exprs.specs.Readers.{Fails, Stops, loop}
 use Rattle.xk_exprs.specs.Exprs.{Read, operator_at, operand, joined, another, chain_at, terms, sums, factor_at}
 use Rattle.xk_exprs.proofs.Loops.{bind_some, loop_keeps, loop_stopped}
 use Rattle.xk_exprs.proofs.Takes.{another_joins}
@@ -30,39 +30,39 @@ operand_stops item x (Some o) e = absurd (by (x.1 == 0) e)
 
 -- none that binds one less tight stands there either
 ends_more : (k : ℕ) (ts : List Mark) → Ends k ts → operator_at (suc k) ts ≡ None → Ends (suc k) ts
-ends_more k [] h e = ()
+ends_more k [] h e = tt
 ends_more k (Operator at o ∷ ts) h e = by (binds o == suc k) refl e
   where
-    by : (b : Bool) → (binds o == suc k) ≡ b → cond b (Some ((at, o), ts)) None ≡ None → suc k < binds o
+    by : (b : Bool) → (binds o == suc k) ≡ b → cond {A = Option ((ℕ × Op) × List Mark)} b (Some ((at, o), ts)) None ≡ None → suc k < binds o
     by true q e = absurd cc
     by false q e = let n = eqb-false (binds o) (suc k) q in omega arith
-ends_more k (Name at x ∷ ts) h e = ()
-ends_more k (Number at n ∷ ts) h e = ()
-ends_more k (Open at ∷ ts) h e = ()
-ends_more k (Symbol s ∷ ts) h e = ()
-ends_more k (AsyncAt at ∷ ts) h e = ()
-ends_more k (ClockedAt at ∷ ts) h e = ()
-ends_more k (ClockAt at ∷ ts) h e = ()
-ends_more k (LongAt at ∷ ts) h e = ()
-ends_more k (Reserved w ∷ ts) h e = ()
-ends_more k (Unfit ∷ ts) h e = ()
+ends_more k (Name at x ∷ ts) h e = tt
+ends_more k (Number at n ∷ ts) h e = tt
+ends_more k (Open at ∷ ts) h e = tt
+ends_more k (Symbol s ∷ ts) h e = tt
+ends_more k (AsyncAt at ∷ ts) h e = tt
+ends_more k (ClockedAt at ∷ ts) h e = tt
+ends_more k (ClockAt at ∷ ts) h e = tt
+ends_more k (LongAt at ∷ ts) h e = tt
+ends_more k (Reserved w ∷ ts) h e = tt
+ends_more k (Unfit ∷ ts) h e = tt
 
 -- every operator binds
 ends_least : (ts : List Mark) → Ends 0 ts
-ends_least [] = ()
+ends_least [] = tt
 ends_least (Operator at operator.Plus ∷ ts) = omega arith
 ends_least (Operator at operator.Minus ∷ ts) = omega arith
 ends_least (Operator at operator.Times ∷ ts) = omega arith
-ends_least (Name at x ∷ ts) = ()
-ends_least (Number at n ∷ ts) = ()
-ends_least (Open at ∷ ts) = ()
-ends_least (Symbol s ∷ ts) = ()
-ends_least (AsyncAt at ∷ ts) = ()
-ends_least (ClockedAt at ∷ ts) = ()
-ends_least (ClockAt at ∷ ts) = ()
-ends_least (LongAt at ∷ ts) = ()
-ends_least (Reserved w ∷ ts) = ()
-ends_least (Unfit ∷ ts) = ()
+ends_least (Name at x ∷ ts) = tt
+ends_least (Number at n ∷ ts) = tt
+ends_least (Open at ∷ ts) = tt
+ends_least (Symbol s ∷ ts) = tt
+ends_least (AsyncAt at ∷ ts) = tt
+ends_least (ClockedAt at ∷ ts) = tt
+ends_least (ClockAt at ∷ ts) = tt
+ends_least (LongAt at ∷ ts) = tt
+ends_least (Reserved w ∷ ts) = tt
+ends_least (Unfit ∷ ts) = tt
 
 chain_ends : (k : ℕ) (item : ℕ → List Mark → Read) → EndsAt k item → EndsAt (suc k) (chain_at (suc k) item)
 unfolding chain_at another
