@@ -19,7 +19,7 @@ use Rattle.xk_exprs.specs.Readers.{Refuses}
 use Rattle.xk_exprs.specs.Spelling.{IsNumber}
 use Rattle.xk_exprs.specs.Exprs.{whole_at}
 use Rattle.xk_exprs.proofs.Numbers.{number_found, number_again}
-use Rattle.xk_syntax.specs.Spelling.{word, number, expr, comparison_sign, bound, row, commas, hidden_text, hidden_clock, between, clocked_finish, in_force, inside, clocked_start, start, stmt, stmts, dangles, IsExpr, BoundFits, WrittenFits, ClocksFit, Fits, AllFit}
+use Rattle.xk_syntax.specs.Spelling.{word, number, expr, comparison_sign, bound, row, commas, hidden_text, hidden_clock, clocked_finish, inside, clocked_start, start, stmt, stmts, dangles, IsExpr, BoundFits, WrittenFits, ClocksFit, Fits, AllFit}
 use Rattle.xk_syntax.specs.Laws.{Settles, StatementFound, StatementAgain}
 use Rattle.xk_syntax.specs.Readers.{bind, sign_at, keyword_at, open_at, word_at, comparison_at, more_at, Read, call_at, undotted, named_or, named_at, flat_by, flat_at, Head, Whole, Brace, Condition, Range, Start, Wait, Hide, whole, condition_at, range_at, list_open_at, clocks_or, clocks_at, start_at, hiding_by, hiding_at, head_by, stmt_head_at, ahead_or, ahead_at, stmts_at, else_or, else_at, rest_at, stmt_at}
 use Rattle.xk_syntax.proofs.Turns.{Shortens, bind_some, some_is, word_takes, more_refused, no_more}

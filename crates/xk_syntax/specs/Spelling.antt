@@ -216,8 +216,8 @@ ClocksFit hidden (Some cs) = WrittenFits hidden cs.written cs.names
 abbrev mutual
   -- A statement fits where so many statements, parentheses and negations may still be in one another, and this is the hidden clock of the place: its
   -- expressions and numbers are within their limits, a list of clocks isn't empty, what is added by an `atomic` is a term, an `else` belongs to the
-  -- nearest `if`, and the name of a loop's limit is the hidden one of its level. What makes a hidden clock is what a `clocked finish` stands for, with
-  -- the hidden name of its level, and who is given one is given that of the place.
+  -- nearest `if`, and the name of a loop's limit is the hidden one of its level. A hidden clock is made only by what a `clocked finish` stands for, under
+  -- the hidden name of its level, and a `clocked async` hands on that of the place.
   pub Fits : ℕ → List ℕ → Statement → Type 0
   Fits zero hidden s = ⊥
   Fits (suc d) hidden (Block ss) = AllFit d hidden ss
