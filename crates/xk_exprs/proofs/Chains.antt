@@ -1,6 +1,7 @@
 -- What a loop over operands has read so far.
 use Rattle.std.proofs.Common.{◌≡◌, ℕ, zero, suc, ◌-◌, ◌<◌, ◌==◌, true, false, List, [], ◌∷◌, length, Some, None, refl, sym, ap, subst, ◌∙◌, arith}
 use Rattle.std.proofs.lemmas.Bool.{eq-eqb, ne_eqb}
+use Rattle.std.proofs.lemmas.List.{length-map}
 use Rattle.xk_tokens.specs.declared.token.Token.{Token}
 use Rattle.xk_tree.specs.declared.tree.Operator.{Operator as Op}
 use Rattle.xk_exprs.specs.declared.fault.SyntaxError.{SyntaxError}
@@ -9,11 +10,10 @@ use Rattle.xk_tokens.specs.declared.token.Sign.{Sign}
 use Rattle.xk_tokens.specs.declared.token.Sign.TheVariants as sign
 use Rattle.xk_tokens.specs.declared.token.Kind.{Kind}
 use Rattle.xk_tokens.specs.declared.token.Kind.TheVariants as kind
-use Rattle.xk_exprs.specs.Marks.{Mark, Open, kind_mark, kept_mark, marks}
+use Rattle.xk_exprs.specs.Marks.{Mark, Open, kind_mark, mark, marks}
 use Rattle.xk_tree.specs.Tree.{Expression, Paren, Binary}
 use Rattle.xk_exprs.specs.Readers.{Refuses, head_at, loop}
 use Rattle.xk_exprs.specs.Exprs.{Read, operator_at, joined, operand, another, chain_at, sums, close_at, factor_at}
-use Rattle.xk_exprs.proofs.Kept.{marks_length}
 use Rattle.xk_exprs.proofs.Loops.{loop_goes, loop_stops, loop_fails, Shrinks}
 
 abbrev pub Reader : Type 0
@@ -59,7 +59,7 @@ pub operand_shrinks : (k : ℕ) (item : Reader) → Shrinks (another k item)
     → item (x.1 - 1) o.1 ≡ Some (r, marks vs) → length vs < length us
 operand_shrinks k item s x us vs o r h ne e =
     let lt = s x (marks us) (Binary o.0.1 x.0 o.0.0 r.0, r.1) (marks vs) (turned_to k item x (marks us) o h ne ∙ ap (joined x.0 o.0) e) in
-    omega (arith, marks_length us, marks_length vs)
+    omega (arith, length-map us mark, length-map vs mark)
 
 pub no_more : (k : ℕ) (item : Reader) (x : Expression × ℕ) (us : List Mark) → None ≡ operator_at k us → loop (another k item) x us ≡ Some (x, us)
 unfolding another
@@ -75,11 +75,11 @@ operand_kept k item s x us o r l z h ne e made so_far =
 
 -- ---- parentheses
 
-pub open_is : (ts us : List Mark) (at : ℕ) (k : Kind) (s : Sign) → Some (kept_mark (kind_mark at k) us, us) ≡ head_at ts → k ≡ kind.Sign s → s ≡ sign.LeftParen → ts ≡ Open at ∷ us
+pub open_is : (ts us : List Mark) (at : ℕ) (k : Kind) (s : Sign) → Some (kind_mark at k, us) ≡ head_at ts → k ≡ kind.Sign s → s ≡ sign.LeftParen → ts ≡ Open at ∷ us
 open_is [] us at k s h e f = absurd cc
 open_is (m ∷ ts) us at k s h e f =
-    let q : (kept_mark (kind_mark at k) us, us) ≡ (m, ts) = cc in
-    let c : kept_mark (kind_mark at k) us ≡ Open at = ap (λ (z : Kind). kept_mark (kind_mark at z) us) (e ∙ ap kind.Sign f) in
+    let q : (kind_mark at k, us) ≡ (m, ts) = cc in
+    let c : kind_mark at k ≡ Open at = ap (kind_mark at) (e ∙ ap kind.Sign f) in
     ap (λ (z : Mark × List Mark). z.0 ∷ z.1) (sym q) ∙ ap (λ (z : Mark). z ∷ us) c
 
 pub paren_refused : (e : SyntaxError) (d ops at : ℕ) (ts us : List Mark) (x : (Expression × ℕ) × List Mark) → ts ≡ Open at ∷ us → (d ≡ 0 → ⊥)

@@ -1,4 +1,3 @@
-pub mod Kept
 pub mod Loops
 pub mod Numbers
 pub mod Takes

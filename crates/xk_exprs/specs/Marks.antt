@@ -1,5 +1,5 @@
 -- Tokens as a tree keeps them: with an offset only where a tree has it. This project's own.
-use Rattle.std.specs.Prelude.{ℕ, List, [], ◌∷◌, Option, Some, None, map}
+use Rattle.std.specs.Prelude.{ℕ, List, Option, Some, None, map}
 use Rattle.xk_tokens.specs.declared.token.Sign.{Sign}
 use Rattle.xk_tokens.specs.declared.token.Sign.TheVariants as sign
 use Rattle.xk_tokens.specs.declared.token.Keyword.{Keyword}
@@ -11,7 +11,7 @@ use Rattle.xk_tree.specs.declared.tree.Operator.{Operator as Op}
 use Rattle.xk_tree.specs.declared.tree.Operator.TheVariants as operator
 
 -- The numbers called `at` in what follows are offsets. `Unfit` is what no tree spells: bytes with which no token begins, and digits that are
--- no number of 64 bits or begin with a needless 0. `ClockedAt` is the word `clocked`, of which a tree doesn't always keep where it stands.
+-- no number of 64 bits or begin with a needless 0.
 pub data Mark : Type 0 where
   Name : ℕ → List ℕ → Mark
   Number : ℕ → ℕ → Mark
@@ -19,7 +19,7 @@ pub data Mark : Type 0 where
   Open : ℕ → Mark
   Symbol : Sign → Mark
   AsyncAt : ℕ → Mark
-  ClockedAt : Option ℕ → Mark
+  ClockedAt : ℕ → Mark
   ClockAt : ℕ → Mark
   LongAt : ℕ → Mark
   Reserved : Keyword → Mark
@@ -41,7 +41,7 @@ sign_mark at s = Symbol s
 
 abbrev pub keyword_mark : ℕ → Keyword → Mark
 keyword_mark at keyword.Async = AsyncAt at
-keyword_mark at keyword.Clocked = ClockedAt (Some at)
+keyword_mark at keyword.Clocked = ClockedAt at
 keyword_mark at keyword.Clock = ClockAt at
 keyword_mark at keyword.Long = LongAt at
 keyword_mark at k = Reserved k
@@ -57,19 +57,5 @@ kind_mark at kind.Stray = Unfit
 abbrev pub mark : Token → Mark
 mark t = kind_mark t.at t.kind
 
--- the offset of a `clocked`, if a tree keeps it, by the tokens behind it
-abbrev pub kept_place : Option ℕ → List Mark → Option ℕ
-kept_place at (Open paren ∷ after) = None
-kept_place at after = at
-
-abbrev pub kept_mark : Mark → List Mark → Mark
-kept_mark (ClockedAt at) after = ClockedAt (kept_place at after)
-kept_mark m after = m
-
--- A `clocked` in front of a `(` begins a list of clocks. Of a list a tree keeps only where the `(` stands.
-abbrev pub kept : List Mark → List Mark
-kept [] = []
-kept (m ∷ ms) = kept_mark m (kept ms) ∷ kept ms
-
 abbrev pub marks : List Token → List Mark
-marks ts = kept (map mark ts)
+marks ts = map mark ts

@@ -2,7 +2,7 @@
 
 ghost use Rattle.std.specs.Prelude.{◌≡◌, option_map};
 ghost use Rattle.xk_exprs.specs.declared.fault.SyntaxRule.TheVariants as rule;
-ghost use Rattle.xk_exprs.specs.Marks.{kept_mark, mark, marks, operator_of};
+ghost use Rattle.xk_exprs.specs.Marks.{mark, marks, operator_of};
 ghost use Rattle.xk_exprs.specs.Spelling.{binds};
 ghost use Rattle.xk_exprs.specs.Readers.{Gives, head_at, unexpected_rule, unexpected_fault};
 ghost use Rattle.xk_exprs.specs.Exprs.{close_at, operator_at, digits_at, minus_at};
@@ -13,8 +13,7 @@ use xk_tree::Operator;
 
 /// The next token, and those behind it.
 pub fn next<'s, 't>(tokens: &'s [Token<'t>]) -> Option<(Token<'t>, &'s [Token<'t>])>
-    ensures { option_map (λ x. (kept_mark (mark x.0) (marks x.1.now), marks x.1.now)) result
-        ≡ head_at (marks tokens.now) }
+    ensures { option_map (λ x. (mark x.0, marks x.1.now)) result ≡ head_at (marks tokens.now) }
 {
     match tokens {
         [] => None,

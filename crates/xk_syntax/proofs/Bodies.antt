@@ -20,7 +20,7 @@ use Rattle.xk_tree.specs.declared.tree.Written.TheVariants as written
 use Rattle.xk_tree.specs.declared.tree.Number as tree
 use Rattle.xk_tree.specs.Tree.{Word, Clocks, Expression, Literal, Named, Paren, Negation, Binary, Make, Value, UpTo, Least, Statement, Statements, Done, More, Block, Empty, Declare, Assign, Atomic, If, IfElse, For, Async, Finish, Call, Resume, Drop, AdvanceAll, Print, MethodValue, TreeValue}
 use Rattle.xk_tree.specs.Bodies.{asyncs, asyncs_in, asyncs_of_methods, HasBodiesApart}
-use Rattle.xk_exprs.specs.Marks.{Mark, Name, Number, Operator, Open, Symbol, Reserved, AsyncAt, ClockedAt, ClockAt, LongAt, Unfit, keyword_mark, sign_mark, kept}
+use Rattle.xk_exprs.specs.Marks.{Mark, Name, Number, Operator, Open, Symbol, Reserved, AsyncAt, ClockedAt, ClockAt, LongAt, Unfit, keyword_mark, sign_mark}
 use Rattle.xk_exprs.specs.Spelling.{spell, minus_marks, number_marks}
 use Rattle.xk_syntax.specs.Spelling.{word, number, expr, comparison_sign, type_mark, type_name, type_part, source, bound, row, behind_comma, commas, clocked_start, start, stmt, stmts, param, method, shared, program, lexeme_mark, token_mark, SpellsTree}
 
@@ -103,7 +103,7 @@ commas_none f k [] after = refl
 commas_none f k (x ∷ xs) after = k x (row (behind_comma f) xs after) ∙ row_none (behind_comma f) k xs after
 
 clocks_marked : (at : ℕ) (w : Written) (ws : List Word) (after : List Mark) → marked (clocked_start at w ws after) ≡ at ∷ marked after
-clocks_marked at (written.Listed paren) ws after = ap (λ (l : List ℕ). at ∷ l) (commas_none word word_none ws (Symbol sign.RightParen ∷ after))
+clocks_marked at (written.Listed clocked paren) ws after = ap (λ (l : List ℕ). at ∷ l) (commas_none word word_none ws (Symbol sign.RightParen ∷ after))
 clocks_marked at (written.Ahead clocked) ws after = refl
 
 start_marked : (at : ℕ) (cs : Option Clocks) (after : List Mark) → marked (start at cs after) ≡ at ∷ marked after
@@ -161,11 +161,6 @@ shared_none s after = number_none s.start (Symbol sign.Semicolon ∷ after)
 program_marked : (t : TreeValue) → marked (program t) ≡ asyncs_of_methods t.methods
 program_marked t = row_none shared shared_none t.shared (row method t.methods []) ∙ methods_marked t.methods
 
-kept_marked : (ms : List Mark) → marked (kept ms) ≡ marked ms
-kept_marked [] = refl
-kept_marked (AsyncAt at ∷ ms) = ap (λ (l : List ℕ). at ∷ l) (kept_marked ms)
-kept_marked (_ ∷ ms) = kept_marked ms
-
 -- ---- those of tokens rise, since the tokens' offsets do
 
 -- each is above those before it, and none is below this one
@@ -222,5 +217,5 @@ bodies_apart text t s =
     let ts = s.spelled.0 in
     let inc : IsStrictlyIncreasing (offsets ts) = subst (λ (l : List TokenValue). IsStrictlyIncreasing (offsets l)) (spelled_lexed text ts s.spelled.1) (lexed_increasing text) in
     let rise : Rises 0 (marked (map token_mark ts)) = tokens_rise 0 ts (increasing_rises (offsets ts) inc) in
-    let is = sym (kept_marked (map token_mark ts)) ∙ ap marked s.spelled.2 ∙ program_marked t in
+    let is = ap marked s.spelled.2 ∙ program_marked t in
     rises_increasing 0 (asyncs_of_methods t.methods) (subst (Rises 0) is rise)

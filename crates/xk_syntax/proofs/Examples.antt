@@ -13,7 +13,6 @@ use Rattle.xk_tree.specs.declared.tree.Binding.TheVariants as binding
 use Rattle.xk_tree.specs.declared.tree.Verb.{Verb}
 use Rattle.xk_tree.specs.Tree.{Word, Expression, Literal, Named, Binary, Make, UpTo, Least, Clocks, Statement, Statements, Done, More, Block, Empty, Declare, Assign, Atomic, If, IfElse, For, Async, Finish, Call, Resume, Drop, MethodValue, TreeValue}
 use Rattle.xk_tree.specs.Bodies.{asyncs_of_methods}
-use Rattle.xk_exprs.specs.Marks.{kept}
 use Rattle.xk_exprs.specs.Readers.{turns, loop}
 use Rattle.xk_exprs.specs.Exprs.{value_of, number_at, another, chain_at, terms, sums, factor_at, whole_at, whole_term_at}
 use Rattle.xk_syntax.specs.Spelling.{hidden_clock, clocked_finish, token_mark, SpellsTree}
@@ -44,7 +43,7 @@ SpellsNone text = (t : TreeValue) → ¬ SpellsTree text t
 
 -- a text spells no tree where its tokens aren't read
 abbrev reading : List ℕ → Option TreeValue
-reading text = program_at (kept (map token_mark (lexed text)))
+reading text = program_at (map token_mark (lexed text))
 
 unread : (texts : List (List ℕ)) → map reading texts ≡ map (λ text. None) texts → AllByRecursion SpellsNone texts
 unread [] e = tt
@@ -122,7 +121,7 @@ unfolding sign_of_one sign_of_two comment_at piece_at lexed_sign_at number_of ke
 drop_is_a_name = spelled_from_read _ _ (lit≤ tt) refl
 
 one_clock : SpellsTree (codes "def main(){async clocked(c);}")
-    (only_main (More (Async 11 (Some (record { written = written.Listed 24; names = name 25 (codes "c") ∷ [] })) Empty) Done))
+    (only_main (More (Async 11 (Some (record { written = written.Listed 17 24; names = name 25 (codes "c") ∷ [] })) Empty) Done))
 unfolding sign_of_one sign_of_two comment_at piece_at lexed_sign_at number_of keyword_of turns loop value_of number_at another chain_at terms sums factor_at whole_at
     whole_term_at bind sign_at keyword_at open_at plus_at word_at this_word_at comparison_at type_at clock_at next_item more_at commas_at listed_at verb_at bare_verb_at act_at
     type_part_at source_at declare_at atomic_at advance_at print_head_at print_at call_at dotted_at assign_at named_at flat_at condition_at range_at list_open_at clocks_at start_at
@@ -289,7 +288,7 @@ behind_an_async = spelled_from_read _ _ (lit≤ tt) refl
 
 -- or one with a list
 behind_a_list : SpellsTree (codes "def main(){clocked finish async clocked(c)clocked async;}") (only_main (More (clocked_finish (hidden_clock 64 11)
-    (Async 26 (Some (record { written = written.Listed 39; names = name 40 (codes "c") ∷ [] })) (Async 50 (no_clock_of 42) Empty))) Done))
+    (Async 26 (Some (record { written = written.Listed 32 39; names = name 40 (codes "c") ∷ [] })) (Async 50 (no_clock_of 42) Empty))) Done))
 unfolding sign_of_one sign_of_two comment_at piece_at lexed_sign_at number_of keyword_of turns loop value_of number_at another chain_at terms sums factor_at whole_at
     whole_term_at bind sign_at keyword_at open_at plus_at word_at this_word_at comparison_at type_at clock_at next_item more_at commas_at listed_at verb_at bare_verb_at act_at
     type_part_at source_at declare_at atomic_at advance_at print_head_at print_at call_at dotted_at assign_at named_at flat_at condition_at least_at bound_at range_at
@@ -311,9 +310,9 @@ unfolding sign_of_one sign_of_two comment_at piece_at lexed_sign_at number_of ke
     list_open_at clocks_at start_at hiding_at stmt_head_at ahead_at stmts_at else_at rest_at stmt_at param_at method_at shared_at program_at
 async_clocked_async = spelled_from_read _ _ (lit≤ tt) refl
 
--- where the `clocked` of a list stands makes no difference
+-- space may stand between `clocked` and `(`
 a_spaced_list : SpellsTree (codes "def main(){async clocked  (c);}")
-    (only_main (More (Async 11 (Some (record { written = written.Listed 26; names = name 27 (codes "c") ∷ [] })) Empty) Done))
+    (only_main (More (Async 11 (Some (record { written = written.Listed 17 26; names = name 27 (codes "c") ∷ [] })) Empty) Done))
 unfolding sign_of_one sign_of_two comment_at piece_at lexed_sign_at number_of keyword_of turns loop value_of number_at another chain_at terms sums factor_at whole_at
     whole_term_at bind sign_at keyword_at open_at plus_at word_at this_word_at comparison_at type_at clock_at next_item more_at commas_at listed_at verb_at bare_verb_at act_at
     type_part_at source_at declare_at atomic_at advance_at print_head_at print_at call_at dotted_at assign_at named_at flat_at condition_at least_at bound_at range_at

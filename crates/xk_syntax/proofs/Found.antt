@@ -78,7 +78,7 @@ keyword_is k plain (AsyncAt at ∷ ts) us e =
     absurd cc
 keyword_is k plain (ClockedAt at ∷ ts) us e =
     let g = guard_some (sameb keywords.the_type keyword.Clocked k) ts us e in
-    let q = other_word k keyword.Clocked (ClockedAt (Some 0)) refl plain g.0 in
+    let q = other_word k keyword.Clocked (ClockedAt 0) refl plain g.0 in
     absurd cc
 keyword_is k plain (ClockAt at ∷ ts) us e =
     let g = guard_some (sameb keywords.the_type keyword.Clock k) ts us e in

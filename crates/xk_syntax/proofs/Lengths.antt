@@ -48,7 +48,7 @@ commas_longer f l [] after = omega arith
 commas_longer f l (x ∷ xs) after = omega (arith, l x (row (behind_comma f) xs after), row_longer (behind_comma f) (λ y us. omega (arith, l y us)) xs after)
 
 clocks_longer : (at : ℕ) (w : Written) (ws : List Word) (after : List Mark) → length after < length (clocked_start at w ws after)
-clocks_longer at (written.Listed paren) ws after = omega (arith, commas_longer word word_longer ws (Symbol sign.RightParen ∷ after))
+clocks_longer at (written.Listed clocked paren) ws after = omega (arith, commas_longer word word_longer ws (Symbol sign.RightParen ∷ after))
 clocks_longer at (written.Ahead clocked) ws after = omega arith
 
 start_longer : (at : ℕ) (cs : Option Clocks) (after : List Mark) → length after < length (start at cs after)

@@ -39,7 +39,7 @@ head (Condition at l c r) after = Reserved keyword.If ∷ Open at ∷ expr l (Sy
 head (Range at w lo b) after = Reserved keyword.For ∷ Open at ∷ word w (Reserved keyword.In ∷ number lo (Symbol sign.DotDot ∷ bound b (Symbol sign.RightParen ∷ after)))
 head (Start at cs) after = start at cs after
 head Wait after = Reserved keyword.Finish ∷ after
-head (Hide at) after = ClockedAt (Some at) ∷ Reserved keyword.Finish ∷ after
+head (Hide at) after = ClockedAt at ∷ Reserved keyword.Finish ∷ after
 
 abbrev HeadFits : ℕ → List ℕ → Head → Type 0
 HeadFits d o (Whole s) = Fits (suc d) o s × (dangles s ≡ false)
@@ -129,11 +129,13 @@ range_found d o ts x e =
     let all = first ∙ ap (λ (z : List Mark). Open at.0.0 ∷ word w.0.0 (Reserved keyword.In ∷ z)) both in
     subst (IsHead d o (Reserved keyword.For ∷ ts)) (some_is _ x zs.2) (record { spelled = ap (λ (z : List Mark). Reserved keyword.For ∷ z) all; fits = (a.1, f.1) })
 
-list_open_is : (ts : List Mark) (x : ℕ × List Mark) → list_open_at ts ≡ Some x → ts ≡ ClockedAt None ∷ Open x.0 ∷ x.1
+list_open_is : (ts : List Mark) (x : (ℕ × ℕ) × List Mark) → list_open_at ts ≡ Some x → ts ≡ ClockedAt x.0.0 ∷ Open x.0.1 ∷ x.1
 unfolding list_open_at
 list_open_is [] x e = absurd cc
-list_open_is (ClockedAt None ∷ ts) x e = ap (λ (z : List Mark). ClockedAt None ∷ z) (open_is ts x e)
-list_open_is (ClockedAt (Some at) ∷ ts) x e = absurd cc
+list_open_is (ClockedAt at ∷ ts) x e =
+    let p = bind_some _ _ _ e in
+    let o = open_is ts p.0 p.1 in
+    subst (λ (z : (ℕ × ℕ) × List Mark). ClockedAt at ∷ ts ≡ ClockedAt z.0.0 ∷ Open z.0.1 ∷ z.1) (some_is _ x p.2) (ap (λ (z : List Mark). ClockedAt at ∷ z) o)
 list_open_is (_ ∷ ts) x e = absurd cc
 
 abbrev IsStart : ℕ → List ℕ → List Mark → Option Clocks × List Mark → Type 0
@@ -143,7 +145,7 @@ clocks_found : (at : ℕ) (o : List ℕ) (ts : List Mark) (x : Option Clocks × 
 unfolding clocks_at
 clocks_found at o ts x e = by (list_open_at ts) refl e
   where
-    by : (p : Option (ℕ × List Mark)) → list_open_at ts ≡ p → clocks_or ts p ≡ Some x → IsStart at o ts x
+    by : (p : Option ((ℕ × ℕ) × List Mark)) → list_open_at ts ≡ p → clocks_or ts p ≡ Some x → IsStart at o ts x
     by None h e = subst (IsStart at o ts) (some_is _ x e) (refl, tt)
     by (Some p) h e =
         let ws = bind_some _ _ _ e in
@@ -162,14 +164,14 @@ start_found d o at ts x e =
     subst (IsHead d o (AsyncAt at ∷ ts)) (some_is _ x cs.2) (record { spelled = f.0; fits = f.1 })
 
 hiding_by_found : (d : ℕ) (o : List ℕ) (at : ℕ) (m : Mark) (ts : List Mark) (x : Head × List Mark) → hiding_by o at m ts ≡ Some x
-    → IsHead d o (ClockedAt (Some at) ∷ m ∷ ts) x
+    → IsHead d o (ClockedAt at ∷ m ∷ ts) x
 hiding_by_found d o at (Reserved keyword.Finish) ts x e =
-    subst (IsHead d o (ClockedAt (Some at) ∷ Reserved keyword.Finish ∷ ts)) (some_is _ x e) (record { spelled = refl; fits = tt })
+    subst (IsHead d o (ClockedAt at ∷ Reserved keyword.Finish ∷ ts)) (some_is _ x e) (record { spelled = refl; fits = tt })
 hiding_by_found d o at (AsyncAt a) ts x e =
-    subst (IsHead d o (ClockedAt (Some at) ∷ AsyncAt a ∷ ts)) (some_is _ x e) (record { spelled = refl; fits = refl })
+    subst (IsHead d o (ClockedAt at ∷ AsyncAt a ∷ ts)) (some_is _ x e) (record { spelled = refl; fits = refl })
 hiding_by_found d o at _ ts x e = absurd cc
 
-hiding_found : (d : ℕ) (o : List ℕ) (at : ℕ) (ts : List Mark) (x : Head × List Mark) → hiding_at o at ts ≡ Some x → IsHead d o (ClockedAt (Some at) ∷ ts) x
+hiding_found : (d : ℕ) (o : List ℕ) (at : ℕ) (ts : List Mark) (x : Head × List Mark) → hiding_at o at ts ≡ Some x → IsHead d o (ClockedAt at ∷ ts) x
 unfolding hiding_at bind
 hiding_found d o at [] x e = absurd cc
 hiding_found d o at (m ∷ ts) x e = hiding_by_found d o at m ts x e
@@ -186,8 +188,7 @@ head_by_found d o (Reserved keyword.If) ts x e = condition_found d o ts x e
 head_by_found d o (Reserved keyword.For) ts x e = range_found d o ts x e
 head_by_found d o (AsyncAt at) ts x e = start_found d o at ts x e
 head_by_found d o (Reserved keyword.Finish) ts x e = subst (IsHead d o (Reserved keyword.Finish ∷ ts)) (some_is _ x e) (record { spelled = refl; fits = tt })
-head_by_found d o (ClockedAt (Some at)) ts x e = hiding_found d o at ts x e
-head_by_found d o (ClockedAt None) ts x e = absurd cc
+head_by_found d o (ClockedAt at) ts x e = hiding_found d o at ts x e
 head_by_found d o m ts x e = whole_found d o (m ∷ ts) x e
 
 head_found : (d : ℕ) (o : List ℕ) (ts : List Mark) (x : Head × List Mark) → stmt_head_at d o ts ≡ Some x → IsHead d o ts x
@@ -424,10 +425,11 @@ each_word : (ws : List Word) → AllByRecursion (λ w. Unit {0}) ws
 each_word [] = tt
 each_word (w ∷ ws) = (tt, each_word ws)
 
-clocks_again : (paren : ℕ) (ws : List Word) (after : List Mark) → ws ≢ []
-    → clocks_at (ClockedAt None ∷ Open paren ∷ commas word ws (Symbol sign.RightParen ∷ after)) ≡ Some (Some (record { written = written.Listed paren; names = ws }), after)
+clocks_again : (clocked paren : ℕ) (ws : List Word) (after : List Mark) → ws ≢ []
+    → clocks_at (ClockedAt clocked ∷ Open paren ∷ commas word ws (Symbol sign.RightParen ∷ after))
+    ≡ Some (Some (record { written = written.Listed clocked paren; names = ws }), after)
 unfolding clocks_at list_open_at open_at sign_at bind
-clocks_again paren ws after h = rw (commas_again word_at word (λ w. Unit {0}) word_takes word_again ws after (each_word ws) h) refl
+clocks_again clocked paren ws after h = rw (commas_again word_at word (λ w. Unit {0}) word_takes word_again ws after (each_word ws) h) refl
 
 no_clocks : (after : List Mark) → list_open_at after ≡ None → clocks_at after ≡ Some (None, after)
 unfolding clocks_at
@@ -435,7 +437,7 @@ no_clocks after none = ap (clocks_or after) none
 
 no_brace_in_start_written : (at : ℕ) (w : Written) (ws : List Word) (after : List Mark) → sign_at sign.RightBrace (clocked_start at w ws after) ≡ None
 unfolding sign_at
-no_brace_in_start_written at (written.Listed paren) ws after = refl
+no_brace_in_start_written at (written.Listed clocked paren) ws after = refl
 no_brace_in_start_written at (written.Ahead clocked) ws after = refl
 
 no_brace_in_start : (at : ℕ) (cs : Option Clocks) (after : List Mark) → sign_at sign.RightBrace (start at cs after) ≡ None
@@ -466,7 +468,7 @@ no_brace (Print at v e) after = refl
 
 no_else_in_start_written : (at : ℕ) (w : Written) (ws : List Word) (after : List Mark) → keyword_at keyword.Else (clocked_start at w ws after) ≡ None
 unfolding keyword_at
-no_else_in_start_written at (written.Listed paren) ws after = refl
+no_else_in_start_written at (written.Listed clocked paren) ws after = refl
 no_else_in_start_written at (written.Ahead clocked) ws after = refl
 
 no_else_in_start : (at : ℕ) (cs : Option Clocks) (after : List Mark) → keyword_at keyword.Else (start at cs after) ≡ None
@@ -496,8 +498,8 @@ no_else (AdvanceAll at v) after = refl
 no_else (Print at v e) after = refl
 
 no_list_in_start_written : (at : ℕ) (w : Written) (ws : List Word) (after : List Mark) → list_open_at (clocked_start at w ws after) ≡ None
-unfolding list_open_at
-no_list_in_start_written at (written.Listed paren) ws after = refl
+unfolding list_open_at open_at bind
+no_list_in_start_written at (written.Listed clocked paren) ws after = refl
 no_list_in_start_written at (written.Ahead clocked) ws after = refl
 
 no_list_in_start : (at : ℕ) (cs : Option Clocks) (after : List Mark) → list_open_at (start at cs after) ≡ None
@@ -506,7 +508,7 @@ no_list_in_start at None after = refl
 no_list_in_start at (Some cs) after = no_list_in_start_written at cs.written cs.names after
 
 no_list : (s : Statement) (after : List Mark) → list_open_at (stmt s after) ≡ None
-unfolding list_open_at
+unfolding list_open_at open_at bind
 no_list (Block ss) after = refl
 no_list Empty after = refl
 no_list (Declare binding.Val w ty r) after = refl
@@ -618,7 +620,7 @@ range_head d o at w lo b after fl fb = range_again d at w lo b after fl fb
 started : (d : ℕ) (o : List ℕ) (at : ℕ) (w : Written) (ws : List Word) (after : List Mark) → WrittenFits o w ws
     → stmt_head_at d o (clocked_start at w ws after) ≡ Some (Start at (Some (record { written = w; names = ws })), after)
 unfolding stmt_head_at start_at hiding_at bind
-started d o at (written.Listed paren) ws after h = rw (clocks_again paren ws after h) refl
+started d o at (written.Listed clocked paren) ws after h = rw (clocks_again clocked paren ws after h) refl
 started d o at (written.Ahead clocked) ws after h =
     ap (λ (z : List Word). Some (Start at (Some (record { written = written.Ahead clocked; names = z })), after)) (sym h)
 

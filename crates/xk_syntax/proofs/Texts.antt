@@ -18,7 +18,7 @@ use Rattle.xk_tree.specs.declared.tree.Written.{Written}
 use Rattle.xk_tree.specs.declared.tree.Written.TheVariants as written
 use Rattle.xk_tree.specs.declared.tree.Number as tree
 use Rattle.xk_tree.specs.Tree.{Word, Clocks, Expression, Literal, Named, Paren, Negation, Binary, Make, Value, UpTo, Least, Statement, Statements, Done, More, Block, Empty, Declare, Assign, Atomic, If, IfElse, For, Async, Finish, Call, Resume, Drop, AdvanceAll, Print, TreeValue}
-use Rattle.xk_exprs.specs.Marks.{Mark, Name, Number, Operator, Open, Symbol, Reserved, AsyncAt, ClockedAt, ClockAt, LongAt, Unfit, mark, kind_mark, marks, kept}
+use Rattle.xk_exprs.specs.Marks.{Mark, Name, Number, Operator, Open, Symbol, Reserved, AsyncAt, ClockedAt, ClockAt, LongAt, Unfit, kind_mark, marks}
 use Rattle.xk_exprs.specs.declared.fault.SyntaxError.{SyntaxError}
 use Rattle.xk_exprs.specs.declared.fault.SyntaxError.TheVariants as error
 use Rattle.xk_exprs.specs.Faults.{front_error}
@@ -108,7 +108,7 @@ commas_clean f k [] after h = h
 commas_clean f k (x ∷ xs) after h = k x (row (behind_comma f) xs after) (row_clean (behind_comma f) k xs after h)
 
 clocks_clean : (at : ℕ) (w : Written) (ws : List Word) (after : List Mark) → Clean after → Clean (clocked_start at w ws after)
-clocks_clean at (written.Listed paren) ws after h = commas_clean word word_clean ws (Symbol sign.RightParen ∷ after) h
+clocks_clean at (written.Listed clocked paren) ws after h = commas_clean word word_clean ws (Symbol sign.RightParen ∷ after) h
 clocks_clean at (written.Ahead clocked) ws after h = h
 
 start_clean : (at : ℕ) (cs : Option Clocks) (after : List Mark) → Clean after → Clean (start at cs after)
@@ -169,17 +169,9 @@ kind_kept at kinds.BadNumber = refl
 kind_kept at (kinds.Sign s) = refl
 kind_kept at kinds.Stray = refl
 
-each_kept : (ts : List Token) → map mark ts ≡ map token_mark (map token_value ts)
-each_kept [] = refl
-each_kept (t ∷ ts) = ap (λ (m : Mark). m ∷ map mark ts) (kind_kept t.at t.kind) ∙ ap (λ (l : List Mark). token_mark (token_value t) ∷ l) (each_kept ts)
-
-marks_kept : (ts : List Token) → marks ts ≡ kept (map token_mark (map token_value ts))
-marks_kept ts = ap kept (each_kept ts)
-
-kept_clean : (ms : List Mark) → Clean (kept ms) → Clean ms
-kept_clean [] h = tt
-kept_clean (Unfit ∷ ms) h = absurd h
-kept_clean (_ ∷ ms) h = kept_clean ms h
+marks_kept : (ts : List Token) → marks ts ≡ map token_mark (map token_value ts)
+marks_kept [] = refl
+marks_kept (t ∷ ts) = ap (λ (m : Mark). m ∷ marks ts) (kind_kept t.at t.kind) ∙ ap (λ (l : List Mark). token_mark (token_value t) ∷ l) (marks_kept ts)
 
 first_clean : (m : Mark) (ts : List Mark) → Clean (m ∷ ts) → Clean ts
 first_clean Unfit ts h = absurd h
@@ -201,25 +193,25 @@ none_stray (t ∷ ts) h = by (none_stray ts) t.what h
 -- ---- texts
 
 -- the marks of these tokens, which are those of the text
-all_marks : (text : List ℕ) (ts : List Token) → map token_value ts ≡ lexed text → marks ts ≡ kept (map token_mark (lexed text))
-all_marks text ts e = marks_kept ts ∙ ap (λ (l : List TokenValue). kept (map token_mark l)) e
+all_marks : (text : List ℕ) (ts : List Token) → map token_value ts ≡ lexed text → marks ts ≡ map token_mark (lexed text)
+all_marks text ts e = marks_kept ts ∙ ap (map token_mark) e
 
-pub spelled_from_read : (text : List ℕ) (t : TreeValue) → length text ≤ 1048576 → program_at (kept (map token_mark (lexed text))) ≡ Some t → SpellsTree text t
+pub spelled_from_read : (text : List ℕ) (t : TreeValue) → length text ≤ 1048576 → program_at (map token_mark (lexed text)) ≡ Some t → SpellsTree text t
 spelled_from_read text t short r =
-    let f = program_found (kept (map token_mark (lexed text))) t r in
-    let none = none_stray (lexed text) (kept_clean (map token_mark (lexed text)) (subst Clean (sym f.0) (program_clean t))) in
+    let f = program_found (map token_mark (lexed text)) t r in
+    let none = none_stray (lexed text) (subst Clean (sym f.0) (program_clean t)) in
     record { short = short; spelled = (lexed text, spelled_from_none text none, f.0); fits = f.1 }
 
 pub tree_spelled : (text : List ℕ) (ts : List Token) (t : TreeValue)
     → length text ≤ 1048576 → map token_value ts ≡ lexed text → program_at (marks ts) ≡ Some t → SpellsTree text t
 tree_spelled text ts t short e r = spelled_from_read text t short (sym (ap program_at (all_marks text ts e)) ∙ r)
 
-tree_read : (text : List ℕ) (t : TreeValue) → SpellsTree text t → program_at (kept (map token_mark (lexed text))) ≡ Some t
+tree_read : (text : List ℕ) (t : TreeValue) → SpellsTree text t → program_at (map token_mark (lexed text)) ≡ Some t
 tree_read text t s =
-    let m : kept (map token_mark (lexed text)) ≡ program t = ap (λ (l : List TokenValue). kept (map token_mark l)) (spelled_lexed text s.spelled.0 s.spelled.1) ∙ s.spelled.2 in
+    let m : map token_mark (lexed text) ≡ program t = ap (map token_mark) (spelled_lexed text s.spelled.0 s.spelled.1) ∙ s.spelled.2 in
     ap program_at m ∙ program_again t s.fits
 
-pub none_from_read : (text : List ℕ) → program_at (kept (map token_mark (lexed text))) ≡ None → (t : TreeValue) → ¬ SpellsTree text t
+pub none_from_read : (text : List ℕ) → program_at (map token_mark (lexed text)) ≡ None → (t : TreeValue) → ¬ SpellsTree text t
 none_from_read text r t s = let p = tree_read text t s in absurd cc
 
 pub none_spelled : (text : List ℕ) (ts : List Token) → map token_value ts ≡ lexed text → program_at (marks ts) ≡ None → (t : TreeValue) → ¬ SpellsTree text t

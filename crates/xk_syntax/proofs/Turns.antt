@@ -8,10 +8,10 @@ use denote.Enum.Bare.{sameb}
 use Rattle.xk_exprs.specs.declared.fault.SyntaxError.{SyntaxError}
 use Rattle.xk_exprs.specs.declared.fault.SyntaxError.TheVariants as error
 use Rattle.xk_tree.specs.Tree.{Word}
-use Rattle.xk_exprs.specs.Marks.{Mark, marks, Name}
+use Rattle.std.proofs.lemmas.List.{length-map}
+use Rattle.xk_exprs.specs.Marks.{Mark, mark, marks, Name}
 use Rattle.xk_exprs.specs.Readers.{Goes, Refuses, loop}
 use Rattle.xk_exprs.specs.Exprs.{whole_at}
-use Rattle.xk_exprs.proofs.Kept.{marks_length}
 use Rattle.xk_exprs.proofs.Loops.{loop_goes, loop_stops, loop_fails, Shrinks}
 use Rattle.xk_syntax.specs.Readers.{bind, sign_of, sign_by, sign_at, word_at, pushed, one_more, next_item, more_at, commas_at}
 use Rattle.xk_exprs.proofs.Takes.{expression_found}
@@ -80,7 +80,7 @@ no_more goes_on item xs ts h = loop_stops (next_item goes_on item) xs ts (ap (on
 
 pub shorter : {T : Type 0} (goes_on : List Mark → Option (List Mark)) (item : Reader T) → Shortens goes_on item → (ts us vs : List Token) (x : T)
     → Some (marks us) ≡ goes_on (marks ts) → item (marks us) ≡ Some (x, marks vs) → length vs < length ts
-shorter goes_on item s ts us vs x h r = let lt = s (marks ts) (marks us) (x, marks vs) (sym h) r in omega (arith, marks_length ts, marks_length us, marks_length vs)
+shorter goes_on item s ts us vs x h r = let lt = s (marks ts) (marks us) (x, marks vs) (sym h) r in omega (arith, length-map ts mark, length-map us mark, length-map vs mark)
 
 -- ---- commas
 

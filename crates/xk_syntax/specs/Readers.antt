@@ -385,21 +385,23 @@ range_at d ts = do
   zs ← sign_at sign.RightParen b.1
   Some (Range at.0 w.0 lo.0 b.0, zs)
 
-abbrev pub list_open_by : Mark → List Mark → Option (ℕ × List Mark)
-list_open_by (ClockedAt None) ts = open_at ts
+abbrev pub list_open_by : Mark → List Mark → Option ((ℕ × ℕ) × List Mark)
+list_open_by (ClockedAt at) ts = do
+  paren ← open_at ts
+  Some ((at, paren.0), paren.1)
 list_open_by _ ts = None
 
--- `clocked (`, and the offset of the `(`
-unfoldable pub list_open_at : List Mark → Option (ℕ × List Mark)
+-- `clocked (`, and the offsets of both
+unfoldable pub list_open_at : List Mark → Option ((ℕ × ℕ) × List Mark)
 list_open_at [] = None
 list_open_at (m ∷ ts) = list_open_by m ts
 
-abbrev pub clocks_or : List Mark → Option (ℕ × List Mark) → Option (Option Clocks × List Mark)
+abbrev pub clocks_or : List Mark → Option ((ℕ × ℕ) × List Mark) → Option (Option Clocks × List Mark)
 clocks_or ts None = Some (None, ts)
 clocks_or ts (Some at) = do
   ws ← commas_at word_at at.1
   us ← sign_at sign.RightParen ws.1
-  Some (Some (record { written = written.Listed at.0; names = ws.0 }), us)
+  Some (Some (record { written = written.Listed at.0.0 at.0.1; names = ws.0 }), us)
 
 -- a `clocked` list, if there is one
 unfoldable pub clocks_at : List Mark → Option (Option Clocks × List Mark)
@@ -421,17 +423,13 @@ hiding_at hidden at ts = do
   x ← head_at ts
   hiding_by hidden at x.0 x.1
 
-abbrev pub hiding_or : List ℕ → Option ℕ → List Mark → ReadHead
-hiding_or hidden (Some at) ts = hiding_at hidden at ts
-hiding_or hidden None ts = None
-
 abbrev pub head_by : ℕ → List ℕ → List Mark → Mark → List Mark → ReadHead
 head_by d hidden all (Symbol sign.LeftBrace) ts = Some (Brace, ts)
 head_by d hidden all (Reserved keyword.If) ts = condition_at d ts
 head_by d hidden all (Reserved keyword.For) ts = range_at d ts
 head_by d hidden all (AsyncAt at) ts = start_at at ts
 head_by d hidden all (Reserved keyword.Finish) ts = Some (Wait, ts)
-head_by d hidden all (ClockedAt at) ts = hiding_or hidden at ts
+head_by d hidden all (ClockedAt at) ts = hiding_at hidden at ts
 head_by d hidden all _ ts = whole (flat_at d all)
 
 -- what a statement begins with, where so many levels are left behind it, and this is the hidden clock of the place

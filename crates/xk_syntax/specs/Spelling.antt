@@ -21,7 +21,7 @@ use Rattle.xk_tree.specs.declared.tree.Verb.{Verb}
 use Rattle.xk_tree.specs.declared.tree.Written.{Written}
 use Rattle.xk_tree.specs.declared.tree.Written.TheVariants as written
 use Rattle.xk_tree.specs.Tree.{Word, Expression, Source, Make, Value, Bound, UpTo, Least, Clocks, Statement, Statements, Done, More, Block, Empty, Declare, Assign, Atomic, If, IfElse, For, Async, Finish, Call, Resume, Drop, AdvanceAll, Print, ParamValue, MethodValue, SharedValue, TreeValue}
-use Rattle.xk_exprs.specs.Marks.{Mark, Name, Number, Operator, Open, Symbol, Reserved, AsyncAt, ClockedAt, ClockAt, LongAt, Unfit, sign_mark, keyword_mark, kept}
+use Rattle.xk_exprs.specs.Marks.{Mark, Name, Number, Operator, Open, Symbol, Reserved, AsyncAt, ClockedAt, ClockAt, LongAt, Unfit, sign_mark, keyword_mark}
 use Rattle.xk_exprs.specs.Spelling.{spell, number_marks, IsNumber, Spells, SpellsTerm}
 
 -- ---- Names that no text has
@@ -50,7 +50,7 @@ in_force at hidden = record { at = at; text = hidden }
 
 -- the hidden clock in the body of an `async`
 abbrev pub written_inside : Written → List ℕ → List ℕ
-written_inside (written.Listed paren) hidden = []
+written_inside (written.Listed clocked paren) hidden = []
 written_inside (written.Ahead at) hidden = hidden
 
 abbrev pub inside : Option Clocks → List ℕ → List ℕ
@@ -120,13 +120,13 @@ commas f [] after = after
 commas f (x ∷ xs) after = f x (row (behind_comma f) xs after)
 
 -- `clocked (c, ..)`
-abbrev pub clock_part : ℕ → List Word → List Mark → List Mark
-clock_part paren ws after = ClockedAt None ∷ Open paren ∷ commas word ws (Symbol sign.RightParen ∷ after)
+abbrev pub clock_part : ℕ → ℕ → List Word → List Mark → List Mark
+clock_part clocked paren ws after = ClockedAt clocked ∷ Open paren ∷ commas word ws (Symbol sign.RightParen ∷ after)
 
 -- an `async` with clocks, up to its statement
 abbrev pub clocked_start : ℕ → Written → List Word → List Mark → List Mark
-clocked_start at (written.Listed paren) ws after = AsyncAt at ∷ clock_part paren ws after
-clocked_start at (written.Ahead clocked) ws after = ClockedAt (Some clocked) ∷ AsyncAt at ∷ after
+clocked_start at (written.Listed clocked paren) ws after = AsyncAt at ∷ clock_part clocked paren ws after
+clocked_start at (written.Ahead clocked) ws after = ClockedAt clocked ∷ AsyncAt at ∷ after
 
 abbrev pub start : ℕ → Option Clocks → List Mark → List Mark
 start at None after = AsyncAt at ∷ after
@@ -144,7 +144,7 @@ abbrev mutual
       (Symbol sign.RightParen ∷ stmt s (Reserved keyword.Else ∷ stmt t after)))
   stmt (For at w lo b s) after = Reserved keyword.For ∷ Open at ∷ word w (Reserved keyword.In ∷ number lo (Symbol sign.DotDot ∷ bound b (Symbol sign.RightParen ∷ stmt s after)))
   stmt (Async at cs s) after = start at cs (stmt s after)
-  stmt (Finish (Block (More (Declare binding.Hidden h ty r) (More s (More (Drop g v) Done))))) after = ClockedAt (Some h.at) ∷ Reserved keyword.Finish ∷ stmt s after
+  stmt (Finish (Block (More (Declare binding.Hidden h ty r) (More s (More (Drop g v) Done))))) after = ClockedAt h.at ∷ Reserved keyword.Finish ∷ stmt s after
   stmt (Finish s) after = Reserved keyword.Finish ∷ stmt s after
   stmt (Call w at es) after = word w (Open at ∷ commas expr es (Symbol sign.RightParen ∷ Symbol sign.Semicolon ∷ after))
   stmt (Resume w v) after = word w (Symbol sign.Dot ∷ verb (codes "resume") v (Symbol sign.RightParen ∷ Symbol sign.Semicolon ∷ after))
@@ -206,7 +206,7 @@ DeclareFits d b r = SourceFits d r
 
 -- where this is the hidden clock of the place
 abbrev pub WrittenFits : List ℕ → Written → List Word → Type 0
-WrittenFits hidden (written.Listed paren) ws = ws ≢ []
+WrittenFits hidden (written.Listed clocked paren) ws = ws ≢ []
 WrittenFits hidden (written.Ahead at) ws = ws ≡ in_force at hidden ∷ []
 
 abbrev pub ClocksFit : List ℕ → Option Clocks → Type 0
@@ -271,5 +271,5 @@ token_mark t = lexeme_mark t.at t.what
 -- the text spells this tree
 pub record SpellsTree (text : List ℕ) (t : TreeValue) : Type 0 where
   pub short : length text ≤ 1048576
-  pub spelled : (tokens : List TokenValue) × SpellsTokens text tokens × (kept (map token_mark tokens) ≡ program t)
+  pub spelled : (tokens : List TokenValue) × SpellsTokens text tokens × (map token_mark tokens ≡ program t)
   pub fits : TreeFits t

@@ -81,13 +81,22 @@ fn range<'s, 't>(
     Ok((Head::Range(paren, name, lo, bound), rest))
 }
 
-/// Past `clocked (`, if these come, and the offset of the `(`.
-#[tactic(auto, using(crate::proofs::Tokens::list_opens), unfolding(crate::specs::Readers::bind))]
-fn list_open<'s, 't>(tokens: &'s [Token<'t>]) -> Option<(usize, &'s [Token<'t>])>
+/// Past `clocked (`, if these come, and the offsets of both.
+#[tactic(auto, unfolding(crate::specs::Readers::bind, crate::specs::Readers::list_open_at))]
+fn list_open<'s, 't>(tokens: &'s [Token<'t>]) -> Option<((usize, usize), &'s [Token<'t>])>
     ensures { option_map (λ x. (x.0, marks x.1.now)) result ≡ list_open_at (marks tokens.now) }
 {
-    let rest = after_keyword(Keyword::Clocked, tokens)?;
-    open_paren(rest)
+    let (token, rest) = next(tokens)?;
+    match token.kind {
+        Kind::Keyword(word) => match word {
+            Keyword::Clocked => {
+                let (paren, rest) = open_paren(rest)?;
+                Some(((token.at, paren), rest))
+            }
+            _ => None,
+        },
+        _ => None,
+    }
 }
 
 /// A `clocked` list, if there is one.
@@ -102,10 +111,10 @@ fn clocks<'s, 't>(
 {
     match list_open(tokens) {
         None => Ok((None, tokens)),
-        Some((paren, rest)) => {
+        Some(((clocked, paren), rest)) => {
             let (names, rest) = names(alloc, rest, end)?;
             let rest = need_sign(Sign::RightParen, rest, end)?;
-            let written = Written::Listed(paren);
+            let written = Written::Listed(clocked, paren);
             Ok((Some(ClockList { written, names }), rest))
         }
     }
@@ -213,7 +222,7 @@ fn whole<'s, 't>(
 }
 
 /// What a statement begins with, where so many levels are left behind it, and this is the hidden clock of the place.
-#[tactic(auto, using(crate::proofs::Tokens::hiding_kept), unfolding(crate::specs::Readers::bind, crate::specs::Readers::stmt_head_at))]
+#[tactic(auto, unfolding(crate::specs::Readers::bind, crate::specs::Readers::stmt_head_at))]
 pub(crate) fn stmt_head<'s, 't>(
     alloc: Global,
     levels: u32,

@@ -66,7 +66,7 @@ fn hidden_inside<'t>(clocks: &Option<ClockList<'t>>, hidden: &'t [u8]) -> &'t [u
     match clocks {
         None => &[],
         Some(list) => match list.written {
-            Written::Listed(_) => &[],
+            Written::Listed(..) => &[],
             Written::Ahead(_) => hidden,
         },
     }
