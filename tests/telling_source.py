@@ -528,9 +528,9 @@ class Parser:
         return Finish(self.statement(), at) if word.text == "finish" else Async([], self.statement(), word.at, at)
 
     def start(self, at: int) -> Async:
-        """A `clocked` begins the list, but for one with which the statement itself begins."""
+        """A `clocked` begins the list where a `(` comes behind it, and else the statement."""
         clocks: list[Name] = []
-        if self.is_at("clocked") and self.tokens[self.next + 1].text not in ("finish", "async"):
+        if self.is_at("clocked") and self.tokens[self.next + 1].text == "(":
             self.took()
             self.want("(")
             clocks.append(self.name())
