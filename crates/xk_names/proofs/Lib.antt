@@ -20,3 +20,4 @@ pub mod ScopedLaw
 mod Rows
 mod CaptureRows
 pub mod Loops
+pub mod FreeWords
