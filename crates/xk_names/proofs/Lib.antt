@@ -21,3 +21,5 @@ mod Rows
 mod CaptureRows
 pub mod Loops
 pub mod FreeWords
+pub mod FreeRows
+pub mod FreeWalk
