@@ -23,3 +23,4 @@ pub mod Loops
 pub mod FreeWords
 pub mod FreeRows
 pub mod FreeWalk
+pub mod FreePlaces

@@ -1,6 +1,7 @@
 -- The law of the contract.
 use Rattle.xk_names.proofs.FreeWords.{used_alike}
 use Rattle.xk_names.proofs.FreeWalk.{free_same}
+use Rattle.xk_names.proofs.FreePlaces.{listed}
 use Rattle.xk_names.proofs.FreeRows.{some_is}
 use Rattle.xk_names.proofs.laws.takes_free_variables.Goals as goal
 
