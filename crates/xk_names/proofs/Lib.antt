@@ -24,3 +24,6 @@ pub mod FreeWords
 pub mod FreeRows
 pub mod FreeWalk
 pub mod FreePlaces
+pub mod FreeStart
+pub mod FreeLists
+pub mod FreeLaw
