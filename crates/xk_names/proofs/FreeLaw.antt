@@ -1,24 +1,24 @@
 -- A body of `async` takes its free variables, each once, in the order of their first occurrences.
-use Rattle.std.proofs.Common.{◌≡◌, inl, inr, ℕ, suc, not, nat_lt, ◌<◌, ◌≤◌, ◌↔◌, Bool, true, false, List, [], ◌∷◌, ◌++◌, length, Option, Some, None, refl, sym, ap, ◌∙◌, subst}
+use Rattle.std.proofs.Common.{◌≡◌, ℕ, not, nat_lt, ◌≤◌, Bool, true, false, List, ◌∷◌, ◌++◌, length, Option, Some, None, refl, sym, ap, ◌∙◌, subst}
 use Rattle.std.proofs.lemmas.Bool.{ltb-false, le-ltb}
-use Rattle.xk_tree.specs.Tree.{Word, Clocks, Statement, Statements, More, Block, If, IfElse, For, Async, Finish, MethodValue, TreeValue}
+use Rattle.xk_tree.specs.Tree.{Word, Statement, Statements, More, Block, If, IfElse, For, Async, Finish, MethodValue, TreeValue}
 use Rattle.xk_names.specs.declared.known.Known.{Known}
 use Rattle.xk_names.specs.declared.known.Kind.{Kind}
 use Rattle.xk_names.specs.declared.known.Kind.TheVariants as kind
-use Rattle.xk_names.specs.Scope.{Table, find, has, Has, Scope}
-use Rattle.xk_names.specs.Uses.{Use, Signatures, signatures, uses, declares, clocks_listed}
+use Rattle.xk_names.specs.Scope.{find, Has, Scope}
+use Rattle.xk_names.specs.Uses.{signatures, uses, declares, clocks_listed}
 use Rattle.xk_names.specs.Places.{Way, Here, First, Later, Inside, Else, Stands, StandsAmong, behind}
 use Rattle.xk_names.specs.Faults.{Breaks, scope_in, InBody}
 use Rattle.xk_names.specs.Scoped.{with_all, with_body, method_scope}
-use Rattle.xk_names.specs.Captures.{shared_texts, outer_words, captures}
-use Rattle.xk_names.specs.Free.{Body, onward, way_in, scope_of, Occurrence, IsFree, OccursFree, IsEarlier, ComesNext, captured, HasNoNameFault, TakesFree, TakesOnce, TakesInOrder}
+use Rattle.xk_names.specs.Captures.{shared_texts, outer_words}
+use Rattle.xk_names.specs.Free.{Body, onward, way_in, scope_of, Occurrence, IsFree, OccursFree, captured, HasNoNameFault, TakesFree, TakesOnce, TakesInOrder}
 use Rattle.xk_names.proofs.Walked.{scope_at, scope_among, among_once}
 use Rattle.xk_names.proofs.Whole.{seen_at}
 use Rattle.xk_names.proofs.ScopedLaw.{Unbroken, sound_alone, sound_inside}
 use Rattle.xk_names.proofs.FreeWords.{is_outer_kind, is_outer}
 use Rattle.xk_names.proofs.FreeWalk.{free_words, free_same}
 use Rattle.xk_names.proofs.FreeStart.{told_there}
-use Rattle.xk_names.proofs.FreeLists.{from_texts, put_in, from_put, apart_texts, apart_none, was_put}
+use Rattle.xk_names.proofs.FreeLists.{from_texts, put_in, from_put, put_once, was_put}
 use Rattle.xk_names.proofs.FreePlaces.{Takes, Place, listed, Leads, leads}
 
 -- ---- from the end of one way on another
@@ -162,7 +162,7 @@ takes_free t clean b x = (taken, given)
     taken : Has (captured t b) x → OccursFree t b x
     taken h =
         let r = from_texts (outer_words (signatures t.methods) (shared_texts t.shared) b.statement) x
-            (from_put (outer_words (signatures t.methods) (shared_texts t.shared) b.statement) x h) in
+        (from_put (outer_words (signatures t.methods) (shared_texts t.shared) b.statement) x h) in
         let led = leads_there t clean b r.0 r.1.0 r.1.1.0 r.1.1.1 in
         record { place = occurrence t b led.place; free = occurs_free t b led.place; name = ap (λ (k : Word). k.text) led.name ∙ r.1.1.2 }
 
@@ -175,7 +175,7 @@ takes_free t clean b x = (taken, given)
         (subst (λ k. Has k o.place.used.name) (sym (taken_same t clean b)) there))
 
 pub takes_once : TakesOnce
-takes_once ms shared s = apart_texts [] (outer_words ms shared s) apart_none
+takes_once ms shared s = put_once (outer_words ms shared s)
 
 pub takes_in_order : TakesInOrder
 takes_in_order t clean b before x after e =

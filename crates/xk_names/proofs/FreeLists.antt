@@ -1,11 +1,12 @@
 -- Lists that have each text once: what is put on them, and what was put before.
-use Rattle.std.proofs.Common.{◌≡◌, ◌⊎◌, inl, inr, ℕ, Bool, true, false, cond, ◌||◌, List, [], ◌∷◌, ◌++◌, refl, sym, ap, ◌∙◌, subst}
+use Rattle.std.proofs.Common.{◌≡◌, ◌⊎◌, inl, inr, ℕ, Bool, true, false, cond, ◌||◌, List, [], ◌∷◌, ◌++◌, refl, sym, ap, ◌∙◌, subst, append-nil}
 use Rattle.std.specs.Cmp.Lexicographic.{bytes_decides}
 use Rattle.xk_tree.specs.Tree.{Word}
 use Rattle.xk_names.specs.Scope.{has, is_text, texts, Has}
 use Rattle.xk_names.specs.Collected.{put_text, put_texts}
 use Rattle.xk_names.proofs.Agreement.{put_texts_same}
-use Rattle.xk_names.proofs.FreePlaces.{split}
+use Rattle.xk_names.proofs.Among.{has_left, has_right}
+use Rattle.xk_names.proofs.FreePlaces.{head_is, split, nothing_left}
 
 -- ---- elements, by the test
 
@@ -48,26 +49,10 @@ from_put ws x h = in_by (texts ws) x (sym (put_texts_same [] [] ws (λ y. refl) 
 abbrev AreApart : List (List ℕ) → Type 0
 AreApart ts = (before : List (List ℕ)) (x : List ℕ) (after : List (List ℕ)) → ts ≡ before ++ x ∷ after → has before x ≡ false
 
-nothing_in : {A : Type 0} (before : List A) (x : A) (after : List A) → [] ≡ before ++ x ∷ after → ⊥
-nothing_in [] x after e = cc
-nothing_in (y ∷ before) x after e = cc
-
 -- a list of one element
 one_in : {A : Type 0} (y : A) (before : List A) (x : A) (after : List A) → y ∷ [] ≡ before ++ x ∷ after → (before ≡ []) × (x ≡ y)
-one_in y [] x after e = (refl, sym (ap (λ l. head_of y l) e))
-  where
-    head_of : {A : Type 0} → A → List A → A
-    head_of d [] = d
-    head_of d (z ∷ zs) = z
-one_in y (z ∷ before) x after e = absurd (nothing_in before x after (ap tail_of e))
-  where
-    tail_of : {A : Type 0} → List A → List A
-    tail_of [] = []
-    tail_of (z ∷ zs) = zs
-
-no_more : {A : Type 0} (xs : List A) → xs ++ [] ≡ xs
-no_more [] = refl
-no_more (x ∷ xs) = ap (λ k. x ∷ k) (no_more xs)
+one_in y [] x after e = (refl, sym (head_is y x [] after e).0)
+one_in y (z ∷ before) x after e = absurd (nothing_left before x after (head_is y z [] (before ++ x ∷ after) e).1)
 
 apart_put : (ts : List (List ℕ)) (y : List ℕ) → AreApart ts → AreApart (put_text ts y)
 apart_put ts y apart = go (has ts y) refl
@@ -78,16 +63,18 @@ apart_put ts y apart = go (has ts y) refl
       | inl a ↦ apart before x a.0 a.1
       | inr r ↦
           let last = one_in y r.0 x after r.2 in
-          let whole : before ≡ ts = r.1 ∙ ap (λ k. ts ++ k) last.0 ∙ no_more ts in
+          let whole : before ≡ ts = r.1 ∙ ap (λ k. ts ++ k) last.0 ∙ append-nil ts in
           ap (λ k. has k x) whole ∙ ap (has ts) last.1 ∙ e
     ]
 
-pub apart_texts : (ts : List (List ℕ)) (ws : List Word) → AreApart ts → AreApart (put_texts ts ws)
+apart_texts : (ts : List (List ℕ)) (ws : List Word) → AreApart ts → AreApart (put_texts ts ws)
 apart_texts ts [] apart = apart
 apart_texts ts (w ∷ ws) apart = apart_texts (put_text ts w.text) ws (apart_put ts w.text apart)
 
-pub apart_none : AreApart []
-apart_none before x after e = absurd (nothing_in before x after e)
+pub put_once : (ws : List Word) (before : List (List ℕ)) (x : List ℕ) (after : List (List ℕ)) → put_texts [] ws ≡ before ++ x ∷ after → Has before x → ⊥
+put_once ws before x after e h =
+    let apart = apart_texts [] ws (λ front y back none. absurd (nothing_left front y back none)) before x after e in
+    let never : true ≡ false = sym (is_in before x h) ∙ apart in absurd cc
 
 -- ---- in their order
 
@@ -100,15 +87,6 @@ pub record WasPut (kept : List (List ℕ)) (ws : List Word) (before : List (List
   pub name : word.text ≡ x
   pub kept_before : (y : List ℕ) → Has kept y → Has before y
   pub put_before : (v : Word) → Has front v → Has before v.text
-
-has_front : {A : Type 0} (xs ys : List A) (x : A) → Has xs x → Has (xs ++ ys) x
-has_front [] ys x h = absurd h
-has_front (y ∷ xs) ys x (inl e) = inl e
-has_front (y ∷ xs) ys x (inr h) = inr (has_front xs ys x h)
-
-has_last : {A : Type 0} (xs : List A) (x : A) → Has (xs ++ x ∷ []) x
-has_last [] x = inl refl
-has_last (y ∷ xs) x = inr (has_last xs x)
 
 put_order : (kept : List (List ℕ)) (ws : List Word) (before : List (List ℕ)) (x : List ℕ) (after : List (List ℕ)) → put_texts kept ws ≡ before ++ x ∷ after
     → ((rest : List (List ℕ)) × (kept ≡ before ++ x ∷ rest)) ⊎ WasPut kept ws before x
@@ -137,7 +115,7 @@ put_order kept (w ∷ ws) before x after e = go (has kept w.text) refl (put_orde
       back = ws;
       stands = refl;
       name = sym same;
-      kept_before = λ y h. subst (λ k. Has k y) (sym is) (has_front kept more y h);
+      kept_before = λ y h. subst (λ k. Has k y) (sym is) (has_left kept more y h);
       put_before = λ v h. absurd h;
     }
 
@@ -149,10 +127,10 @@ put_order kept (w ∷ ws) before x after e = go (has kept w.text) refl (put_orde
       | inl b ↦ inl b
       | inr r ↦ let last = one_in w.text r.0 x a.0 r.2 in inr (first r.0 r.1 last.0 last.1)
     ]
-    go false is (inr r) = inr (later (kept ++ w.text ∷ []) (λ y h. has_front kept (w.text ∷ []) y h) (has_last kept w.text) r)
+    go false is (inr r) = inr (later (kept ++ w.text ∷ []) (λ y h. has_left kept (w.text ∷ []) y h) (has_right kept (w.text ∷ []) w.text (inl refl)) r)
 
 pub was_put : (ws : List Word) (before : List (List ℕ)) (x : List ℕ) (after : List (List ℕ)) → put_texts [] ws ≡ before ++ x ∷ after → WasPut [] ws before x
 was_put ws before x after e = elim (put_order [] ws before x after e) [
-  | inl a ↦ absurd (nothing_in before x a.0 a.1)
+  | inl a ↦ absurd (nothing_left before x a.0 a.1)
   | inr r ↦ r
 ]

@@ -1,6 +1,6 @@
 -- The list of what is taken within a statement, place by place: each use that means a number from outside is in it, and each word of it has a use
 -- before which only words that stand in front of it are used so.
-use Rattle.std.proofs.Common.{◌≡◌, ◌⊎◌, inl, inr, ℕ, zero, suc, ◌<◌, Bool, true, false, cond, List, [], ◌∷◌, ◌++◌, length, refl, sym, ap, ◌∙◌, subst, append_assoc, arith}
+use Rattle.std.proofs.Common.{◌≡◌, ◌⊎◌, inl, inr, ℕ, suc, ◌<◌, Bool, true, false, cond, List, [], ◌∷◌, ◌++◌, length, refl, sym, ap, ◌∙◌, subst, arith}
 use Rattle.xk_types.specs.declared.instr.Comparison.{Comparison}
 use Rattle.xk_tree.specs.Tree.{Word, Expression, Statement, Statements, Done, More, Block, If, IfElse, For, Async, Finish}
 use Rattle.xk_names.specs.declared.known.Known.{Known}
@@ -90,7 +90,7 @@ mutual
 
 -- ---- each word of the list has a first use
 
-head_is : {A : Type 0} (x y : A) (xs ys : List A) → x ∷ xs ≡ y ∷ ys → (x ≡ y) × (xs ≡ ys)
+pub head_is : {A : Type 0} (x y : A) (xs ys : List A) → x ∷ xs ≡ y ∷ ys → (x ≡ y) × (xs ≡ ys)
 head_is x y xs ys e = (ap (λ l. head_of x l) e, ap tail_of e)
   where
     head_of : {A : Type 0} → A → List A → A
@@ -347,7 +347,7 @@ later_leads ms n sc s ss more x r = record {
     go (Inside w) t st ts u vs h lt = absurd st
     go (Else w) t st ts u vs h lt = absurd st
 
-nothing_left : {A : Type 0} (front : List A) (x : A) (back : List A) → [] ≡ front ++ x ∷ back → ⊥
+pub nothing_left : {A : Type 0} (front : List A) (x : A) (back : List A) → [] ≡ front ++ x ∷ back → ⊥
 nothing_left [] x back e = cc
 nothing_left (f ∷ front) x back e = cc
 

@@ -1,20 +1,18 @@
 -- Small trees with bodies of `async`: what each takes, and the occurrences of names that are free in it and that aren't.
-use Rattle.std.proofs.Common.{◌≡◌, inl, inr, ℕ, ◌+◌, ◌≤◌, true, false, pos, List, [], ◌∷◌, refl, sym, subst, ap, ◌∙◌, Option, Some, None, arith}
+use Rattle.std.proofs.Common.{◌≡◌, inl, ℕ, ◌≤◌, pos, List, [], ◌∷◌, refl, sym, subst, ap, ◌∙◌, Some, None, arith}
 use Rattle.std.specs.Prelude.{codes}
 use Rattle.xk_types.specs.declared.unit.ParamKind.TheVariants as param
-use Rattle.xk_tree.specs.declared.fault.FrontRule.TheVariants as rule
 use Rattle.xk_tree.specs.declared.tree.Binding.TheVariants as binding
-use Rattle.xk_tree.specs.declared.tree.Operator.TheVariants as operator
-use Rattle.xk_tree.specs.declared.tree.Verb.{Verb}
-use Rattle.xk_tree.specs.Tree.{Word, Expression, Literal, Named, Binary, Value, ParamValue, MethodValue, SharedValue, TreeValue, Statement, Statements, Done, More, Block, Declare, Assign, Async, Print}
+use Rattle.xk_tree.specs.Tree.{Word, Expression, Literal, Named, Value, MethodValue, TreeValue, Statement, Statements, Done, More, Block, Declare, Assign, Async, Print}
 use Rattle.xk_names.specs.declared.known.Known.{Known}
 use Rattle.xk_names.specs.declared.known.Kind.TheVariants as kind
 use Rattle.xk_names.specs.declared.known.Want.TheVariants as want
-use Rattle.xk_names.specs.Scope.{known}
+use Rattle.xk_names.specs.Scope.{Has, known}
 use Rattle.xk_names.specs.Uses.{use_as}
 use Rattle.xk_names.specs.Places.{Here, First, Later, Inside}
 use Rattle.xk_names.specs.Collected.{own, name_faults}
-use Rattle.xk_names.specs.Free.{Body, Occurrence, IsFree, OccursFree, IsEarlier, captured}
+use Rattle.xk_names.specs.Free.{Body, Occurrence, IsFree, OccursFree, IsEarlier, captured, HasNoNameFault}
+use Rattle.xk_names.proofs.Whole.{fault_listed}
 
 abbrev word : ℕ → List ℕ → Word
 word at text = record { at = at; text = text }
@@ -57,9 +55,12 @@ declares_within = program (More (async within) Done)
 abbrev its_body : Body declares_within
 its_body = record { method = main (More (async within) Done); there = inl refl; way = First Here; at = 0; clocks = None; statement = Block within; stands = refl }
 
-no_faults : name_faults declares_within ≡ []
+nothing_listed : name_faults declares_within ≡ []
 unfolding own
-no_faults = refl
+nothing_listed = refl
+
+no_fault : HasNoNameFault declares_within
+no_fault f h = subst (λ k. Has k f) nothing_listed (fault_listed declares_within f h)
 
 -- the parameter is taken, and neither the shared number nor what is declared within
 takes_x : captured declares_within its_body ≡ codes "x" ∷ []
@@ -91,7 +92,7 @@ y_used = record {
   uses_are = refl;
 }
 
-pub some_is : (a b : Known) → Some a ≡ Some b → a ≡ b
+some_is : (a b : Known) → Some a ≡ Some b → a ≡ b
 some_is a b e = cc
 
 y_is_not : IsFree declares_within its_body y_used → ⊥
@@ -131,9 +132,12 @@ outer_body = record { method = main whole; there = inl refl; way = Later (First 
 abbrev inner_body : Body two_bodies
 inner_body = record { method = main whole; there = inl refl; way = Later (First (Inside (Inside (First Here)))); at = 0; clocks = None; statement = Block inner; stands = refl }
 
-no_faults_either : name_faults two_bodies ≡ []
+nothing_listed_either : name_faults two_bodies ≡ []
 unfolding own
-no_faults_either = refl
+nothing_listed_either = refl
+
+no_fault_either : HasNoNameFault two_bodies
+no_fault_either f h = subst (λ k. Has k f) nothing_listed_either (fault_listed two_bodies f h)
 
 -- what the inner body uses comes first
 takes_both : captured two_bodies outer_body ≡ codes "y" ∷ codes "x" ∷ []

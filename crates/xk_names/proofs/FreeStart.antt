@@ -1,16 +1,16 @@
 -- Where a body of `async` begins, what is found by a name of a shared number is shared, and all else is from as many bodies at most.
-use Rattle.std.proofs.Common.{◌≡◌, inl, inr, ℕ, zero, suc, nat_lt, ◌+◌, ◌<◌, ◌≤◌, Bool, true, false, cond, ◌||◌, List, [], ◌∷◌, ◌++◌, map, length, Option, Some, None, refl, sym, ap, ◌∙◌, subst, append-nil, arith}
+use Rattle.std.proofs.Common.{◌≡◌, ℕ, suc, nat_lt, ◌≤◌, Bool, true, false, cond, ◌||◌, List, [], ◌∷◌, ◌++◌, map, length, Option, Some, None, refl, sym, ◌∙◌, subst, append-nil, arith}
 use Rattle.std.proofs.lemmas.Bool.{le-ltb}
 use Rattle.xk_types.specs.declared.unit.ParamKind.{ParamKind}
 use Rattle.xk_types.specs.declared.unit.ParamKind.TheVariants as param
-use Rattle.xk_tree.specs.Tree.{Word, Source, Make, Value, Bound, UpTo, Least, Statement, Statements, Done, More, Block, Declare, If, IfElse, For, Async, Finish, SharedValue, ParamValue, MethodValue, TreeValue}
+use Rattle.xk_tree.specs.Tree.{Word, Source, Make, Value, Bound, UpTo, Least, Statement, Statements, More, Block, Declare, If, IfElse, For, Async, Finish, SharedValue, ParamValue, MethodValue, TreeValue}
 use Rattle.xk_tree.specs.declared.tree.Number.{Number}
 use Rattle.xk_tree.specs.declared.tree.Binding.{Binding}
 use Rattle.xk_tree.specs.declared.tree.Binding.TheVariants as binding
 use Rattle.xk_names.specs.declared.known.Known.{Known}
 use Rattle.xk_names.specs.declared.known.Kind.{Kind}
 use Rattle.xk_names.specs.declared.known.Kind.TheVariants as kind
-use Rattle.xk_names.specs.Scope.{Table, find, has, is_text, Has, Declaration, known, entry, entries, Scope, is_shared}
+use Rattle.xk_names.specs.Scope.{Table, find, has, is_text, Declaration, known, entry, entries, Scope, is_shared}
 use Rattle.xk_names.specs.Uses.{kind_of, declares, clocks_listed}
 use Rattle.xk_names.specs.Places.{Way, Here, First, Later, Inside, Else, behind}
 use Rattle.xk_names.specs.Faults.{shared_declaration, param_kind, param_declaration}

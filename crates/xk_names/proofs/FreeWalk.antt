@@ -1,10 +1,10 @@
 -- What is taken within a statement: the uses, in the order of the text, that mean a number from outside.
-use Rattle.std.proofs.Common.{◌≡◌, inl, inr, ℕ, suc, nat_lt, ◌+◌, ◌<◌, Bool, true, false, cond, ◌||◌, List, [], ◌∷◌, ◌++◌, map, length, Option, Some, None, refl, sym, ap, ◌∙◌, subst, append_assoc, append-nil, arith}
+use Rattle.std.proofs.Common.{◌≡◌, inl, inr, ℕ, nat_lt, ◌<◌, Bool, true, false, cond, ◌||◌, List, [], ◌∷◌, ◌++◌, length, Option, Some, None, refl, sym, ap, ◌∙◌, subst, append_assoc, append-nil, arith}
 use Rattle.std.proofs.lemmas.Bool.{lt-ltb}
 use Rattle.std.specs.Cmp.Lexicographic.{bytes_decides}
 use Rattle.std.proofs.lemmas.Option.{none-some}
 use Rattle.xk_tree.specs.declared.tree.Number.{Number}
-use Rattle.xk_tree.specs.Tree.{Word, Source, Make, Value, Bound, UpTo, Least, Clocks, Statement, Statements, Done, More, Block, Declare, If, IfElse, For, Async, Finish}
+use Rattle.xk_tree.specs.Tree.{Word, Source, Make, Value, Bound, UpTo, Least, Statement, Statements, Done, More, Block, Declare, If, IfElse, For, Async, Finish}
 use Rattle.xk_tree.specs.declared.tree.Binding.{Binding}
 use Rattle.xk_tree.specs.declared.tree.Binding.TheVariants as binding
 use Rattle.xk_names.specs.declared.known.Known.{Known}
@@ -16,7 +16,7 @@ use Rattle.xk_names.specs.Places.{behind}
 use Rattle.xk_names.specs.Scoped.{IsSound, IsSoundInside, AreSound, with_all, with_body}
 use Rattle.xk_names.specs.Collected.{put_text, put_texts}
 use Rattle.xk_names.specs.Captures.{loop_words, words_used, words_besides, own_behind, outer_inside, outer_among, outer_words}
-use Rattle.xk_names.proofs.Agreement.{or_entry, find_behind, has_put}
+use Rattle.xk_names.proofs.Agreement.{or_entry, find_behind, or_false, has_put}
 use Rattle.xk_names.proofs.FreeWords.{is_inner_kind, Tells, IsTold, free_of, used_alike}
 
 -- the same by places: what a statement itself uses, and then what those use that it holds
@@ -56,10 +56,6 @@ deeper_inner n k kind.Shared h deep = absurd cc
 or_true : (b : Bool) → (b || true) ≡ true
 or_true true = refl
 or_true false = refl
-
-or_false : (b : Bool) → (b || false) ≡ b
-or_false true = refl
-or_false false = refl
 
 tells_put : (n : ℕ) (names : Table Known) (own : List (List ℕ)) (y : List ℕ) (k : Known) → ((x : List ℕ) → Tells n (has own x) (find names x))
     → find names y ≡ None → IsDeeper n k → (x : List ℕ) → Tells n (has (put_text own y) x) (find (names ++ (y, k) ∷ []) x)

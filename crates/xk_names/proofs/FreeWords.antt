@@ -1,5 +1,5 @@
 -- What is taken of a statement's own uses: where it is known which names are declared within, these are those that mean a number from outside.
-use Rattle.std.proofs.Common.{◌≡◌, inl, inr, ℕ, suc, nat_eq, nat_lt, not, ◌<◌, Bool, true, false, cond, ◌||◌, List, [], ◌∷◌, ◌++◌, map, length, Option, Some, None, refl, sym, ap, ◌∙◌, subst, append_assoc, eqb-true}
+use Rattle.std.proofs.Common.{◌≡◌, inl, inr, ℕ, nat_lt, not, ◌<◌, Bool, true, false, cond, List, [], ◌∷◌, ◌++◌, map, length, Option, Some, None, refl, sym, ap, ◌∙◌, subst, append_assoc, eqb-true}
 use Rattle.std.proofs.lemmas.Bool.{lt-ltb}
 use Rattle.std.specs.List.{flat_map}
 use Rattle.xk_types.specs.declared.unit.ParamKind.TheVariants as param
@@ -9,12 +9,13 @@ use Rattle.xk_names.specs.declared.known.Kind.{Kind}
 use Rattle.xk_names.specs.declared.known.Kind.TheVariants as kind
 use Rattle.xk_names.specs.declared.known.Want.{Want}
 use Rattle.xk_names.specs.declared.known.Want.TheVariants as want
-use Rattle.xk_names.specs.Scope.{Table, find, has, Has, Scope, sees_as, is_clock, is_number, is_readable, is_assigned, is_shared}
+use Rattle.xk_names.specs.Scope.{Table, find, has, Has, Scope, sees_as, is_clock, is_shared}
 use Rattle.xk_names.specs.Uses.{Use, use_as, Signatures, numbers, values, start_of, argument_uses, argument_misfits, Given, given_to, source_uses, bound_uses, assigned_uses, is_var, uses, clocks_listed}
 use Rattle.xk_names.specs.Scoped.{IsRight, IsSound}
-use Rattle.xk_names.specs.Captures.{number_words, source_words, bound_words, argument_words, words_used, words_besides}
+use Rattle.xk_names.specs.Captures.{number_words, source_words, bound_words, words_used, words_besides}
 use Rattle.xk_names.proofs.Among.{has_left, has_right}
-use Rattle.xk_names.proofs.Outside.{AreRight}
+use Rattle.xk_names.proofs.Outside.{AreRight, number_kind, readable_kind, assigned_kind, all_uses, all_words}
+use Rattle.xk_names.proofs.Taken.{besides_append}
 
 -- a number that stays, from at most so many bodies
 abbrev pub is_outer_kind : Kind → Bool → Bool
@@ -54,12 +55,6 @@ free_append n names (u ∷ us) vs =
     let first : List Word = cond (is_outer n (find names u.name.text)) (u.name ∷ []) [] in
     ap (λ r. first ++ r) (free_append n names us vs) ∙ sym (append_assoc first (free_of n names us) (free_of n names vs))
 
-besides_append : (own : List (List ℕ)) (xs ys : List Word) → words_besides own (xs ++ ys) ≡ words_besides own xs ++ words_besides own ys
-besides_append own [] ys = refl
-besides_append own (x ∷ xs) ys =
-    let first : List Word = cond (has own x.text) [] (x ∷ []) in
-    ap (λ r. first ++ r) (besides_append own xs ys) ∙ sym (append_assoc first (words_besides own xs) (words_besides own ys))
-
 -- ---- one use
 
 -- what is known of a name that is seen as a number
@@ -83,24 +78,6 @@ shared_not kind.Shared b h = refl
 shared_not kind.Val b h = absurd cc
 shared_not kind.Var b h = absurd cc
 shared_not kind.Clock b h = absurd cc
-
-number_kind : (k : Kind) → is_number k ≡ true → is_clock k ≡ false
-number_kind kind.Val h = refl
-number_kind kind.Var h = refl
-number_kind kind.Shared h = refl
-number_kind kind.Clock h = absurd cc
-
-readable_kind : (k : Kind) → is_readable k ≡ true → is_clock k ≡ false
-readable_kind kind.Val h = refl
-readable_kind kind.Var h = refl
-readable_kind kind.Shared h = refl
-readable_kind kind.Clock h = absurd cc
-
-assigned_kind : (k : Kind) → is_assigned k ≡ true → is_clock k ≡ false
-assigned_kind kind.Val h = refl
-assigned_kind kind.Var h = refl
-assigned_kind kind.Shared h = refl
-assigned_kind kind.Clock h = absurd cc
 
 -- a word and a use that are taken alike
 abbrev Alike : ℕ → Scope → List (List ℕ) → List Word → List Use → Type 0
@@ -136,12 +113,6 @@ shared_none : (n : ℕ) (sc : Scope) (own : List (List ℕ)) (x : Word) → IsRi
 shared_none n sc own x r = one_none n sc own want.Shared x (ap (is_outer n) r.found ∙ shared_not r.known.kind (nat_lt n r.known.depth) r.right)
 
 -- ---- the parts of a statement
-
-abbrev all_uses : Given → List Use
-all_uses gs = flat_map (λ a. argument_uses a.0 a.1) gs
-
-abbrev all_words : Given → List Word
-all_words gs = flat_map (λ a. argument_words a.0 a.1) gs
 
 abbrev all_misfits : Given → List ℕ
 all_misfits gs = flat_map (λ a. argument_misfits a.0 a.1) gs

@@ -21,7 +21,7 @@ mod Rows
 mod CaptureRows
 pub mod Loops
 pub mod FreeWords
-pub mod FreeRows
+mod FreeRows
 pub mod FreeWalk
 pub mod FreePlaces
 pub mod FreeStart

@@ -1,10 +1,10 @@
 -- The free variables of the body of an `async`: the numbers that it uses and that are declared outside of it. This project's own.
-use Rattle.std.specs.Prelude.{◌≡◌, ◌↔◌, ℕ, ◌<◌, ◌≤◌, false, List, [], ◌∷◌, ◌++◌, length, Option, Some}
+use Rattle.std.specs.Prelude.{◌≡◌, ◌↔◌, ℕ, ◌<◌, ◌≤◌, List, ◌∷◌, ◌++◌, length, Option, Some}
 use Rattle.xk_tree.specs.declared.fault.FrontFault.{FrontFault}
 use Rattle.xk_tree.specs.Tree.{Clocks, Statement, Async, MethodValue, TreeValue}
 use Rattle.xk_names.specs.declared.known.Known.{Known}
 use Rattle.xk_names.specs.declared.known.Kind.TheVariants as kind
-use Rattle.xk_names.specs.Scope.{find, has, Has, Scope}
+use Rattle.xk_names.specs.Scope.{find, Has, Scope}
 use Rattle.xk_names.specs.Uses.{Use, Signatures, signatures, uses}
 use Rattle.xk_names.specs.Places.{Way, Here, First, Later, Inside, Else, StandsAmong}
 use Rattle.xk_names.specs.Faults.{scope_in, HasNameFault}
@@ -96,7 +96,7 @@ TakesFree = (t : TreeValue) → HasNoNameFault t → (b : Body t) (x : List ℕ)
 -- each once
 abbrev pub TakesOnce : Type 0
 TakesOnce = (ms : Signatures) (shared : List (List ℕ)) (s : Statement) (before : List (List ℕ)) (x : List ℕ) (after : List (List ℕ))
-    → captures ms shared s ≡ before ++ x ∷ after → has before x ≡ false
+    → captures ms shared s ≡ before ++ x ∷ after → Has before x → ⊥
 
 -- in the order of their first free occurrences
 abbrev pub TakesInOrder : Type 0

@@ -16,8 +16,7 @@ pub fn note(worst: &mut Option<FrontFault>, rule: FrontRule, at: usize)
             *worst = Some(found);
         }
         Some(least) => {
-            let is_earlier = at < least.at;
-            if is_earlier || at == least.at && rule.number() < least.rule.number() {
+            if at < least.at || at == least.at && rule.number() < least.rule.number() {
                 *worst = Some(found);
             }
         }
