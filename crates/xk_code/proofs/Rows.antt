@@ -7,6 +7,7 @@ use Rattle.xk_types.specs.declared.unit.UnitKind.TheVariants as unit_kind
 use Rattle.xk_types.specs.declared.unit.ParamKind.TheVariants as param
 use Rattle.xk_types.specs.Code.{UnitValue}
 use Rattle.xk_tree.specs.declared.tree.Binding.TheVariants as binding
+use Rattle.xk_tree.specs.declared.tree.Written.TheVariants as written
 use Rattle.xk_tree.specs.declared.tree.Operator.TheVariants as operator
 use Rattle.xk_tree.specs.declared.tree.Number.{Number}
 use Rattle.xk_tree.specs.declared.tree.Verb.{Verb}
@@ -42,7 +43,7 @@ abbrev print : Expression → Statement
 print e = Print 0 verb e
 
 abbrev clocked : List ℕ → Option Clocks
-clocked c = Some (record { paren = 0; names = w c ∷ [] })
+clocked c = Some (record { written = written.Listed 0; names = w c ∷ [] })
 
 abbrev main_unit : Setting → Statements → UnitValue
 main_unit cx ss = unit_of_method cx unit_kind.Main (record { name = w (codes "main"); paren = 0; params = []; body = ss })
@@ -161,7 +162,7 @@ times l r = Binary operator.Times l 0 r
 abbrev plus : Expression → Expression → Expression
 plus l r = Binary operator.Plus l 0 r
 
--- the name that the limit of a loop has, which no text has
+-- a name that no text has, as the limit of a loop and a hidden clock have
 abbrev hidden : Word
 hidden = w (32 ∷ [])
 
@@ -226,3 +227,74 @@ main_skips_limit : main_unit bare (More (For 0 (w (codes "i")) (number (pos 4)) 
     (More (val_is (codes "y") (lit (pos 3))) Done))
     ≡ record { kind = unit_kind.Main; params = []; slots = 3; code = instr.Lit 2 (pos 3) ∷ instr.Ret ∷ [] }
 main_skips_limit = refl
+
+-- ---- a hidden clock
+
+-- `clocked async BODY`, on the clock that is hidden under this name
+abbrev clocked_on : Word → Option Clocks
+clocked_on h = Some (record { written = written.Ahead 0; names = h ∷ [] })
+
+-- `clocked finish BODY`
+abbrev clocked_finish : Word → Statement → Statement
+clocked_finish h s = Finish (Block (More (Declare binding.Hidden h None (Make 0 verb)) (More s (More (Drop h verb) Done))))
+
+-- `clocked finish { clocked async { Clock.advanceAll(); println(2); } Clock.advanceAll(); println(1); } println(3);`
+abbrev hiding_main : Statements
+hiding_main = More (clocked_finish hidden (Block (More (Async 7 (clocked_on hidden) hands) (More (AdvanceAll 0 verb) (More (print (lit (pos 1))) Done)))))
+    (More (print (lit (pos 3))) Done)
+
+-- the clock is made behind the finish's beginning and dropped before its end
+main_hides : main_unit with_body hiding_main
+    ≡ record {
+      kind = unit_kind.Main;
+      params = [];
+      slots = 2;
+      code =
+          instr.Finish 7 ∷ instr.Make 0 ∷ instr.Spawn 1 (0 ∷ []) ∷ instr.Advance ∷ instr.Lit 1 (pos 1) ∷ instr.Print 1 ∷ instr.Drop 0 ∷ instr.EndFinish 0
+          ∷ instr.Lit 1 (pos 3) ∷ instr.Print 1 ∷ instr.Ret ∷ [];
+    }
+main_hides = refl
+
+-- the body takes it, as it would one with a name
+body_hidden : unit_of_body with_body 7 (clocked_on hidden) hands ≡ unit_of_body with_body 7 (clocked (codes "c")) hands
+body_hidden = refl
+
+hiding_is_covered : IsUnitCovered with_body [] (Block hiding_main)
+hiding_is_covered = record {
+  params = tt;
+  body = (((tt, refl), (((refl, All-from_recursion (IsFound ((hidden.text, 0) ∷ [])) (hidden.text ∷ []) (refl, tt)), (tt, (tt, tt))), (refl, tt))), (tt, tt));
+}
+
+-- the clock of one `clocked finish` within another has a name with fewer spaces
+abbrev outer : Word
+outer = w (32 ∷ 32 ∷ [])
+
+abbrev nesting : Setting
+nesting = record {
+  shared = [];
+  methods = [];
+  bodies = (7, record { unit = 1; captures = [] }) ∷ (8, record { unit = 2; captures = codes "b" ∷ [] }) ∷ [];
+}
+
+-- `val a = 1; clocked finish { val b = a; clocked finish clocked async { .. } clocked async println(b); } val z = 3;`: hidden clocks have slots
+-- among those of other names, in the order of the text, and each body is given its own
+main_hides_two : main_unit nesting (More (val_is (codes "a") (lit (pos 1)))
+    (More (clocked_finish outer (Block (More (val_is (codes "b") (var (codes "a")))
+    (More (clocked_finish hidden (Async 7 (clocked_on hidden) hands))
+    (More (Async 8 (clocked_on outer) (print (var (codes "b")))) Done)))))
+    (More (val_is (codes "z") (lit (pos 3))) Done)))
+    ≡ record {
+      kind = unit_kind.Main;
+      params = [];
+      slots = 5;
+      code =
+          instr.Lit 0 (pos 1) ∷ instr.Finish 11 ∷ instr.Make 1 ∷ instr.Copy 2 0
+          ∷ instr.Finish 8 ∷ instr.Make 3 ∷ instr.Spawn 1 (3 ∷ []) ∷ instr.Drop 3 ∷ instr.EndFinish 4
+          ∷ instr.Spawn 2 (1 ∷ 2 ∷ []) ∷ instr.Drop 1 ∷ instr.EndFinish 1 ∷ instr.Lit 4 (pos 3) ∷ instr.Ret ∷ [];
+    }
+main_hides_two = refl
+
+-- its clock stands before the numbers that a body takes
+body_hidden_takes : unit_of_body nesting 8 (clocked_on outer) (print (var (codes "b")))
+    ≡ record { kind = unit_kind.Body; params = param.Clock ∷ param.Number ∷ []; slots = 2; code = instr.Print 1 ∷ instr.Ret ∷ [] }
+body_hidden_takes = refl

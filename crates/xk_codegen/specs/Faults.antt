@@ -39,7 +39,7 @@ pub data IsTableFault (t : TreeValue) (f : FrontFault) : Type 0 where
   -- else a part that goes beyond a limit
   LargePart : length t.shared ≤ 256 → IsFirstLarge t f → IsTableFault t f
 
--- no fault of names, F5 to F9, F11 or F12
+-- no fault of names, F5 to F9, F11, F12 or F15
 abbrev pub IsClean : TreeValue → Type 0
 IsClean t = (g : FrontFault) → HasFault t g → ⊥
 
@@ -47,8 +47,9 @@ IsClean t = (g : FrontFault) → HasFault t g → ⊥
 abbrev pub IsFalling : TreeValue → Type 0
 IsFalling t = (g : FrontFault) → HasRecursion t g → ⊥
 
--- The program has the fault, one of F5 to F12 and F14, and it is the one that is told: of F5 to F8, F11 and F12 the first; F9 where there is none of
--- these; F10 where there is no fault of names; F14 where there is none of all those. Of several calls that are F10, which one is told is left open.
+-- The program has the fault, one of F5 to F12, F14 and F15, and it is the one that is told: of F5 to F8, F11, F12 and F15 the first; F9 where there is
+-- none of these; F10 where there is no fault of names; F14 where there is none of all those. Of several calls that are F10, which one is told is left
+-- open.
 pub data IsFaultOf (t : TreeValue) (f : FrontFault) : Type 0 where
   InNames : IsReported t f → IsFaultOf t f
   InCalls : IsClean t → HasRecursion t f → IsFaultOf t f

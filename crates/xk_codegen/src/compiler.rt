@@ -268,10 +268,10 @@ fn code(alloc: Global, tree: &Tree<'_>) -> Result<Module, FrontError>
     }
 }
 
-/// The module that is the code of a tree. Else a fault of the tree: F5 to F8, F11 and F12 first, at the least offset, of two there the one of the
-/// lesser number; then F9; then F10, at the least offset, which the contract leaves open; then F14, at the 257th shared number or else at the least
-/// offset. What the module means, and which fault comes first, is promised where the offsets of the words `async` rise, as in each tree that is
-/// parsed.
+/// The module that is the code of a tree. Else a fault of the tree: F5 to F8, F11, F12 and F15 first, at the least offset, of two there the one of
+/// the lesser number; then F9; then F10, at the least offset, which the contract leaves open; then F14, at the 257th shared number or else at the
+/// least offset. What the module means, and which fault comes first, is promised where the offsets of the words `async` rise, as in each tree that
+/// is parsed.
 pub fn compile(alloc: Global, tree: &Tree<'_>) -> Result<Module, FrontError>
     ensures clean { OnOk result ((f : Fault) → HasFault (tree_value tree.now) f → ⊥) }
     ensures scoped { OnOk result (IsScoped (tree_value tree.now)) }

@@ -7,10 +7,12 @@ use Rattle.xk_types.specs.declared.unit.ParamKind.TheVariants as param
 use Rattle.xk_types.specs.declared.names.Event.{Event}
 use Rattle.xk_types.specs.declared.names.Event.TheVariants as event
 use Rattle.xk_types.specs.declared.names.Standing.TheVariants as standing
+use Rattle.xk_types.specs.declared.names.Value.TheVariants as value
 use Rattle.xk_types.specs.Code.{ModuleValue, module_of}
 use Rattle.xk_types.specs.World.{opening}
 use Rattle.xk_types.specs.Step.{Blocked, Wrong, Stepped, ClockUse, step, under_within}
 use Rattle.xk_tree.specs.declared.tree.Binding.TheVariants as binding
+use Rattle.xk_tree.specs.declared.tree.Written.TheVariants as written
 use Rattle.xk_tree.specs.declared.tree.Operator.TheVariants as operator
 use Rattle.xk_tree.specs.declared.tree.Number.{Number}
 use Rattle.xk_tree.specs.declared.tree.Verb.{Verb}
@@ -18,7 +20,7 @@ use Rattle.xk_tree.specs.Tree.{Word, Clocks, Expression, Literal, Named, Paren, 
 use Rattle.xk_code.specs.CodeOf.{Setting}
 use Rattle.xk_source.specs.Parts.{OfMethod, parts}
 use Rattle.xk_source.specs.Compiled.{taken, unit_of_part}
-use Rattle.xk_source.specs.Source.{SourceWorld, SourceOutcome, source_step, source_opening}
+use Rattle.xk_source.specs.Source.{Do, Close, Doing, SourceWorld, SourceOutcome, source_step, source_opening}
 use Rattle.xk_source.specs.Meaning.{Moment, moments, have_ended}
 
 -- ---- trees, where offsets don't matter
@@ -60,7 +62,7 @@ abbrev advance : Statement
 advance = AdvanceAll 0 verb
 
 abbrev clocked : List ℕ → Option Clocks
-clocked c = Some (record { paren = 0; names = w c ∷ [] })
+clocked c = Some (record { written = written.Listed 0; names = w c ∷ [] })
 
 abbrev row_of : List Statement → Statements
 row_of [] = Done
@@ -99,6 +101,10 @@ world_after t (a ∷ list) v = on_from v (source_step t v a) (world_after t list
 
 abbrev after : TreeValue → List ℕ → SourceWorld
 after t list = world_after t list (source_opening t [])
+
+-- what each activity has in progress
+abbrev list_doing : SourceWorld → List Doing
+list_doing v = map (λ act. act.frame) v.activities
 
 -- ---- one activity
 
@@ -236,6 +242,116 @@ together_same = refl
 -- the one that has arrived waits for the other
 together_waits : source_step together (after together (0 ∷ 0 ∷ 1 ∷ [])) 1 ≡ Blocked
 together_waits = refl
+
+-- ---- a hidden clock
+
+-- the name of a clock that is hidden, which no text has
+abbrev hidden : Word
+hidden = w (32 ∷ [])
+
+-- `clocked async BODY`
+abbrev clocked_async : List Statement → Statement
+clocked_async ss = Async 0 (Some (record { written = written.Ahead 0; names = hidden ∷ [] })) (block ss)
+
+abbrev make_hidden : Statement
+make_hidden = Declare binding.Hidden hidden None (Make 0 verb)
+
+abbrev drop_hidden : Statement
+drop_hidden = Drop hidden verb
+
+-- `clocked finish BODY`
+abbrev clocked_finish : List Statement → Statement
+clocked_finish ss = Finish (block (make_hidden ∷ block ss ∷ drop_hidden ∷ []))
+
+abbrev second_goes : Statement
+second_goes = clocked_async (advance ∷ print (lit 2) ∷ [])
+
+-- `clocked finish { clocked async { Clock.advanceAll(); println(2); } Clock.advanceAll(); println(1); } println(3);`
+abbrev hiding : TreeValue
+hiding = program [] (main (
+    clocked_finish (second_goes ∷ advance ∷ print (lit 1) ∷ [])
+    ∷ print (lit 3)
+    ∷ []) ∷ [])
+
+abbrev hiding_code : ModuleValue
+hiding_code = module_of [] (
+    record {
+      kind = unit_kind.Main;
+      params = [];
+      slots = 2;
+      code =
+          instr.Finish 7 ∷ instr.Make 0 ∷ instr.Spawn 1 (0 ∷ []) ∷ instr.Advance ∷ instr.Lit 1 (pos 1) ∷ instr.Print 1 ∷ instr.Drop 0 ∷ instr.EndFinish 0
+          ∷ instr.Lit 1 (pos 3) ∷ instr.Print 1 ∷ instr.Ret ∷ [];
+    }
+    ∷ record {
+      kind = unit_kind.Body;
+      params = param.Clock ∷ [];
+      slots = 2;
+      code = instr.Advance ∷ instr.Lit 1 (pos 2) ∷ instr.Print 1 ∷ instr.Ret ∷ [];
+    }
+    ∷ [])
+
+-- what its code refers to: main, and the body of the `async`, which takes nothing from outside but its clock
+abbrev hiding_setting : Setting
+hiding_setting = record {
+  shared = [];
+  methods = (codes "main", 0) ∷ [];
+  bodies = (0, record { unit = 1; captures = taken hiding (block (advance ∷ print (lit 2) ∷ [])) }) ∷ [];
+}
+
+hiding_is : map (unit_of_part hiding_setting) (parts hiding) ≡ hiding_code.units
+hiding_is = refl
+
+-- one step opens the finish, and leaves to be done: making the clock, the body, the drop, and the finish's end
+hiding_opens : list_doing (after hiding (0 ∷ []))
+    ≡ record {
+      todo = Do make_hidden ∷ Do second_goes ∷ Do advance ∷ Do (print (lit 1)) ∷ Do drop_hidden ∷ Close ∷ Do (print (lit 3)) ∷ [];
+      names = [];
+    } ∷ []
+hiding_opens = refl
+
+-- a next one makes the clock, and its name stands for it
+hiding_makes : list_doing (after hiding (0 ∷ 0 ∷ []))
+    ≡ record {
+      todo = Do second_goes ∷ Do advance ∷ Do (print (lit 1)) ∷ Do drop_hidden ∷ Close ∷ Do (print (lit 3)) ∷ [];
+      names = (hidden.text, value.Clock 0) ∷ [];
+    } ∷ []
+hiding_makes = refl
+
+-- the finish opens before the clock is made, and closes behind its drop
+hiding_run : run_of hiding (0 ∷ 0 ∷ 0 ∷ 0 ∷ 1 ∷ 0 ∷ 0 ∷ 0 ∷ 1 ∷ 1 ∷ 1 ∷ 0 ∷ 0 ∷ 0 ∷ [])
+    ≡ record { activity = 0; event = event.Opened; after = record { clocks = []; cells = [] } }
+    ∷ record { activity = 0; event = event.Made; after = record { clocks = record { phase = 0; standings = standing.Open ∷ [] } ∷ []; cells = [] } }
+    ∷ record { activity = 0; event = event.Spawned; after = record { clocks = record { phase = 0; standings = standing.Open ∷ standing.Open ∷ [] } ∷ []; cells = [] } }
+    ∷ record { activity = 0; event = event.Arrived; after = record { clocks = record { phase = 0; standings = standing.Signalled ∷ standing.Open ∷ [] } ∷ []; cells = [] } }
+    ∷ record { activity = 1; event = event.Arrived; after = record { clocks = record { phase = 1; standings = standing.Ahead ∷ standing.Ahead ∷ [] } ∷ []; cells = [] } }
+    ∷ record { activity = 0; event = event.Passed; after = record { clocks = record { phase = 1; standings = standing.Open ∷ standing.Ahead ∷ [] } ∷ []; cells = [] } }
+    ∷ record { activity = 0; event = event.Printed (pos 1); after = record { clocks = record { phase = 1; standings = standing.Open ∷ standing.Ahead ∷ [] } ∷ []; cells = [] } }
+    ∷ record { activity = 0; event = event.Dropped; after = record { clocks = record { phase = 1; standings = standing.Apart ∷ standing.Ahead ∷ [] } ∷ []; cells = [] } }
+    ∷ record { activity = 1; event = event.Passed; after = record { clocks = record { phase = 1; standings = standing.Apart ∷ standing.Open ∷ [] } ∷ []; cells = [] } }
+    ∷ record { activity = 1; event = event.Printed (pos 2); after = record { clocks = record { phase = 1; standings = standing.Apart ∷ standing.Open ∷ [] } ∷ []; cells = [] } }
+    ∷ record { activity = 1; event = event.Ended; after = record { clocks = record { phase = 1; standings = standing.Apart ∷ standing.Apart ∷ [] } ∷ []; cells = [] } }
+    ∷ record { activity = 0; event = event.Closed; after = record { clocks = record { phase = 1; standings = standing.Apart ∷ standing.Apart ∷ [] } ∷ []; cells = [] } }
+    ∷ record { activity = 0; event = event.Printed (pos 3); after = record { clocks = record { phase = 1; standings = standing.Apart ∷ standing.Apart ∷ [] } ∷ []; cells = [] } }
+    ∷ record { activity = 0; event = event.Ended; after = record { clocks = record { phase = 1; standings = standing.Apart ∷ standing.Apart ∷ [] } ∷ []; cells = [] } }
+    ∷ []
+unfolding under_within
+hiding_run = refl
+
+-- the module's run, with a step more for each number that is printed
+hiding_same : moments (step hiding_code) (0 ∷ 0 ∷ 0 ∷ 0 ∷ 1 ∷ 0 ∷ 0 ∷ 0 ∷ 0 ∷ 1 ∷ 1 ∷ 1 ∷ 1 ∷ 0 ∷ 0 ∷ 0 ∷ 0 ∷ []) (opening hiding_code [])
+    ≡ run_of hiding (0 ∷ 0 ∷ 0 ∷ 0 ∷ 1 ∷ 0 ∷ 0 ∷ 0 ∷ 1 ∷ 1 ∷ 1 ∷ 0 ∷ 0 ∷ 0 ∷ [])
+unfolding under_within
+hiding_same = refl
+
+hiding_ends : have_ended (after hiding (0 ∷ 0 ∷ 0 ∷ 0 ∷ 1 ∷ 0 ∷ 0 ∷ 0 ∷ 1 ∷ 1 ∷ 1 ∷ 0 ∷ 0 ∷ 0 ∷ [])) ≡ true
+unfolding under_within
+hiding_ends = refl
+
+-- the finish waits for who goes on on its clock
+hiding_waits : source_step hiding (after hiding (0 ∷ 0 ∷ 0 ∷ 0 ∷ 1 ∷ 0 ∷ 0 ∷ 0 ∷ [])) 0 ≡ Blocked
+unfolding under_within
+hiding_waits = refl
 
 -- ---- a shared number
 

@@ -83,6 +83,7 @@ plain_kind : (b : Binding) (r : Source) → is_shared (kind_of b r) ≡ false
 plain_kind b (Make at v) = refl
 plain_kind binding.Val (Value e) = refl
 plain_kind binding.Var (Value e) = refl
+plain_kind binding.Hidden (Value e) = refl
 
 fits_same : (shared : Texts) (sc : Seen) (scope : Scope) (own : Texts) → Fits shared sc scope own → Fits shared (with_all sc []) scope own
 fits_same shared sc scope own fits =

@@ -3,6 +3,7 @@ use Rattle.std.proofs.Common.{◌≡◌, inl, inr, ℕ, pos, Bool, true, false, 
 use Rattle.std.specs.Prelude.{is_some}
 use Rattle.xk_types.specs.declared.unit.ParamKind.TheVariants as param
 use Rattle.xk_tree.specs.declared.tree.Binding.TheVariants as binding
+use Rattle.xk_tree.specs.declared.tree.Written.TheVariants as written
 use Rattle.xk_tree.specs.declared.tree.Number.{Number}
 use Rattle.xk_tree.specs.declared.tree.Verb.{Verb}
 use Rattle.xk_tree.specs.Tree.{Word, Clocks, Expression, Literal, Named, Make, Value, UpTo, Statement, Statements, Done, More, Block, Declare, For, Async, Call, Print, MethodValue, SharedValue, TreeValue}
@@ -27,7 +28,7 @@ abbrev verb : Verb
 verb = record { at = 0; paren = 0 }
 
 abbrev c : Option Clocks
-c = Some (record { paren = 0; names = w (codes "c") ∷ [] })
+c = Some (record { written = written.Listed 0; names = w (codes "c") ∷ [] })
 
 abbrev calls_m : Statement
 calls_m = Call (w (codes "m")) 0 (x ∷ [])
