@@ -6,16 +6,15 @@ shared c = 2;
 shared d = 1;
 
 def main() {
-    finish {
-        val step = Clock.make();
-        async clocked(step) for (round in 0..1) {
+    clocked finish {
+        clocked async for (round in 0..1) {
             val left = a;
             val right = b;
             if (left > right) { a = right; b = left; Console.OUT.println(200 * round + 10); }
             Clock.advanceAll();
             Clock.advanceAll();
         }
-        async clocked(step) for (round in 0..1) {
+        clocked async for (round in 0..1) {
             val left = c;
             val right = d;
             if (left > right) { c = right; d = left; Console.OUT.println(200 * round + 30); }
@@ -25,7 +24,6 @@ def main() {
             if (middle > next) { b = next; c = middle; Console.OUT.println(200 * round + 120); }
             Clock.advanceAll();
         }
-        step.drop();
     }
     val w = a; val x = b; val y = c; val z = d;
     Console.OUT.println(1000 * w + 100 * x + 10 * y + z);

@@ -6,15 +6,14 @@ shared c = 3;
 shared d = 4;
 
 def main(rounds: Long) {
-    finish {
-        val step = Clock.make();
-        async clocked(step) for (round in 1..Math.min(rounds, 1)) {
+    clocked finish {
+        clocked async for (round in 1..Math.min(rounds, 1)) {
             val own = b;
             val left = a;
             Clock.advanceAll();
             b = own + left;
         }
-        async clocked(step) for (round in 1..Math.min(rounds, 2)) {
+        clocked async for (round in 1..Math.min(rounds, 2)) {
             val own = c;
             var left = 0;
             if (round == 1) left = b; else left = a;
@@ -22,7 +21,7 @@ def main(rounds: Long) {
             c = own + left;
             Clock.advanceAll();
         }
-        async clocked(step) for (round in 1..Math.min(rounds, 2)) {
+        clocked async for (round in 1..Math.min(rounds, 2)) {
             val own = d;
             var left = 0;
             if (round == 1) left = c; else left = b;
@@ -30,7 +29,6 @@ def main(rounds: Long) {
             d = own + left;
             Clock.advanceAll();
         }
-        step.drop();
     }
     val w = a;
     val x = b;

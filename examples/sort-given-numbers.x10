@@ -10,16 +10,15 @@ def main(w: Long, x: Long, y: Long, z: Long) {
     b = x;
     c = y;
     d = z;
-    finish {
-        val step = Clock.make();
-        async clocked(step) for (round in 1..2) {
+    clocked finish {
+        clocked async for (round in 1..2) {
             val left = a;
             val right = b;
             if (left > right) { a = right; b = left; }
             Clock.advanceAll();
             Clock.advanceAll();
         }
-        async clocked(step) for (round in 1..2) {
+        clocked async for (round in 1..2) {
             val left = c;
             val right = d;
             if (left > right) { c = right; d = left; }
@@ -29,7 +28,6 @@ def main(w: Long, x: Long, y: Long, z: Long) {
             if (middle > next) { b = next; c = middle; }
             Clock.advanceAll();
         }
-        step.drop();
     }
     val first = a;
     val second = b;

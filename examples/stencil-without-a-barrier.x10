@@ -6,19 +6,20 @@ shared c = 0;
 shared d = 0;
 
 def main() {
-    val step = Clock.make();
-    async clocked(step) for (round in 1..4) {
-        val left = a;
-        val right = c;
-        b = left + right;
-        Console.OUT.println(2000 + 100 * round + left + right);
-        Clock.advanceAll();
-    }
-    async clocked(step) for (round in 1..4) {
-        val left = b;
-        val right = d;
-        c = left + right;
-        Console.OUT.println(3000 + 100 * round + left + right);
-        Clock.advanceAll();
+    clocked finish {
+        clocked async for (round in 1..4) {
+            val left = a;
+            val right = c;
+            b = left + right;
+            Console.OUT.println(2000 + 100 * round + left + right);
+            Clock.advanceAll();
+        }
+        clocked async for (round in 1..4) {
+            val left = b;
+            val right = d;
+            c = left + right;
+            Console.OUT.println(3000 + 100 * round + left + right);
+            Clock.advanceAll();
+        }
     }
 }

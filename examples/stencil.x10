@@ -6,21 +6,22 @@ shared c = 0;
 shared d = 0;
 
 def main() {
-    val step = Clock.make();
-    async clocked(step) for (round in 1..4) {
-        val left = a;
-        val right = c;
-        Clock.advanceAll();
-        b = left + right;
-        Console.OUT.println(2000 + 100 * round + left + right);
-        Clock.advanceAll();
-    }
-    async clocked(step) for (round in 1..4) {
-        val left = b;
-        val right = d;
-        Clock.advanceAll();
-        c = left + right;
-        Console.OUT.println(3000 + 100 * round + left + right);
-        Clock.advanceAll();
+    clocked finish {
+        clocked async for (round in 1..4) {
+            val left = a;
+            val right = c;
+            Clock.advanceAll();
+            b = left + right;
+            Console.OUT.println(2000 + 100 * round + left + right);
+            Clock.advanceAll();
+        }
+        clocked async for (round in 1..4) {
+            val left = b;
+            val right = d;
+            Clock.advanceAll();
+            c = left + right;
+            Console.OUT.println(3000 + 100 * round + left + right);
+            Clock.advanceAll();
+        }
     }
 }

@@ -12,7 +12,7 @@
 # alone for an empty text. Lines that begin with `#`, and empty ones, are between rows.
 #
 # In a file whose name begins with `sources` the texts are programs in the language, not modules. `x10clock compile` answers the same as
-# `check` where that is a fault of the text (F1 to F14); below a row there may be `compile: ` and the module that it is compiled to.
+# `check` where that is a fault of the text (F1 to F15); below a row there may be `compile: ` and the module that it is compiled to.
 set -eu
 cd "$(dirname "$0")/.."
 program=${X10CLOCK:-crates/x10clock/out/x10clock}

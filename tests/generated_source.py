@@ -46,12 +46,14 @@ class Known:
 
 @dataclass(eq=False)
 class Unit:
-    """The unit that is being written: for each clock that it sees, the ways in which the activity may stand on it (live, resumed, out)."""
+    """The unit that is being written: for each clock that it sees, the ways in which the activity may stand on it (live, resumed, out); and
+    whether a `clocked async` may stand here."""
 
     kind: str
     clocks: dict[Known, frozenset[str]] = field(default_factory=dict)
     block: int = 0
     blocks: int = 0
+    has_hidden: bool = False
 
 
 @dataclass(frozen=True)
@@ -247,7 +249,7 @@ class Writer:
         ways += [self.assign] * 8 if self.limiting else []
         ways += [] if alone else [self.make] * 3
         if self.depth < 5:
-            ways += [self.start] * 5 + [self.loop, self.branch, self.finish] * 2 + [self.nested]
+            ways += [self.start] * (10 if self.unit.has_hidden else 5) + [self.loop, self.branch, self.finish] * 2 + [self.nested]
         for _ in range(4):
             self.depth += 1
             done = self.rng.choice(ways)()
@@ -352,20 +354,23 @@ class Writer:
     def start(self) -> bool:
         if self.activities + self.times > self.places:
             return False
-        at_home = self.at_home()
-        clocks = self.rng.sample(at_home, self.rng.randint(1, len(at_home))) if at_home and self.rng.random() < 0.85 else []
-        self.emit("async")
+        at_home, is_hidden = self.at_home(), self.slips() or self.unit.has_hidden and self.rng.random() < 0.6
+        clocks = self.rng.sample(at_home, self.rng.randint(1, len(at_home))) if at_home and not is_hidden and self.rng.random() < 0.85 else []
+        self.emit(*["clocked", "async"] if is_hidden else ["async"])
         if clocks:
             names = [[self.name_of(known)] for known in clocks]
             self.emit("clocked", "(", *listed(names + ([self.rng.choice(names)] if self.slips() else [])), ")")
-        outer, self.unit = self.unit, Unit("body", {known: HELD for known in clocks})
+        outer, self.unit = self.unit, Unit("body", {known: HELD for known in clocks}, has_hidden=is_hidden)
         # At home in the whole unit, whatever finish they were made in further out.
         homes = {known: known.home for known in clocks}
         for known in clocks:
             known.home = 0
         self.activities += self.times
         self.spend(2)
-        self.inner(self.rng.randint(0, self.length))
+        if self.depth < 5 and self.rng.random() < 0.1:
+            self.finish()
+        else:
+            self.inner(self.rng.randint(0, self.length))
         self.unit = outer
         for known, home in homes.items():
             known.home = home
@@ -429,13 +434,16 @@ class Writer:
         return True
 
     def finish(self) -> bool:
-        outer = self.unit.block
+        outer = self.unit.block, self.unit.has_hidden
         self.unit.blocks += 1
-        self.unit.block = self.unit.blocks
-        self.emit("finish")
-        self.spend(2)
-        self.block(self.rng.randint(0, 4))
-        self.unit.block = outer
+        self.unit.block, self.unit.has_hidden = self.unit.blocks, self.rng.random() < 0.5
+        self.emit(*["clocked", "finish"] if self.unit.has_hidden else ["finish"])
+        self.spend(4 if self.unit.has_hidden else 2)
+        if self.unit.has_hidden and self.rng.random() < 0.2:
+            self.inner(1)
+        else:
+            self.block(self.rng.randint(0, 4))
+        self.unit.block, self.unit.has_hidden = outer
         return True
 
     def nested(self) -> bool:
@@ -515,9 +523,20 @@ def restated(rng: random.Random, tokens: Tokens) -> Tokens:
             begin = rng.choice(starts(tokens))
             name = rng.choice([token for token in tokens if is_name(token)])
             least = [f"for ( i9 in 1 .. Math . min ( {name} , {high} ) )" for high in (0, 2, 2)]
-            form = rng.choice(["async", "async", "finish", "finish", "if ( 1 < 2 )", "for ( i9 in 1 .. 2 )", "for ( i9 in 1 .. 0 )", *least])
-            tokens = tokens[:begin] + form.split() + tokens[begin:]
+            clocked = ["clocked finish", "clocked finish", "clocked async", "async clocked finish", "clocked finish clocked async"]
+            forms = ["async", "async", "finish", "finish", "if ( 1 < 2 )", "for ( i9 in 1 .. 2 )", "for ( i9 in 1 .. 0 )", *clocked, *least]
+            tokens = tokens[:begin] + rng.choice(forms).split() + tokens[begin:]
     return tokens
+
+
+def clocked_otherwise(rng: random.Random, tokens: Tokens) -> Tokens:
+    """A `finish` or an `async` with a `clocked` in front of it, or without the one that stands there; or one where it can't stand."""
+    words = [at for at, token in enumerate(tokens) if token in ("finish", "async")]
+    if not words or rng.random() < 0.15:
+        at = rng.choice(starts(tokens) or [len(tokens)])
+        return tokens[:at] + rng.choice(["clocked", "async clocked", "async clocked async", "clocked ( )", "finish clocked"]).split() + tokens[at:]
+    at = rng.choice(words)
+    return tokens[: at - 1] + tokens[at:] if tokens[at - 1] == "clocked" else tokens[:at] + ["clocked"] + tokens[at:]
 
 
 def recursive(rng: random.Random, tokens: Tokens) -> Tokens:
@@ -603,11 +622,14 @@ def deep(rng: random.Random) -> Tokens:
     levels, opened = near(rng, 64), []
     statements = max(0, rng.choice([0, 10, levels - 2, levels - 1, levels]))
     closed: Tokens = []
+    has_hidden, only = False, rng.choice([[], [], [], [], ["clocked finish"], ["clocked finish", "clocked async"]])
     for number in range(statements):
         loops = [f"for ( i{number} in 1 .. {bound} )" for bound in ("1", "Math . min ( 1 , 1 )")]
-        form = rng.choice(["{", "finish", "async", "if ( 1 < 2 )", *loops, "if ( 1 == 2 ) ; else"])
+        forms = only or ["{", "finish", "async", "if ( 1 < 2 )", *loops, "if ( 1 == 2 ) ; else", "clocked finish", "clocked async"]
+        form = rng.choice([form for form in forms if form != "clocked async" or has_hidden])
         opened += form.split()
         closed += ["}"] if form == "{" else []
+        has_hidden = form.startswith("clocked") or has_hidden and form not in ("finish", "async")
     declared = ONE if rng.random() < 0.7 else []
     if rng.random() < 0.5:
         return main_of(*declared, *opened, ";", *closed)
@@ -643,7 +665,9 @@ def long_expr(rng: random.Random) -> Tokens:
 
 
 def many_bodies(rng: random.Random) -> Tokens:
-    return main_of(*(token for _ in range(near(rng, 1023)) for token in rng.choice([["async", ";"], ["async", "{", "}"]])))
+    clocked = rng.choice([[], ["clocked"]])
+    bodies = [token for _ in range(near(rng, 1023)) for token in rng.choice([[*clocked, "async", ";"], [*clocked, "async", "{", "}"]])]
+    return main_of("clocked", "finish", "{", *bodies, "}") if clocked else main_of(*bodies)
 
 
 def many_methods(rng: random.Random) -> Tokens:
@@ -660,7 +684,8 @@ def many_slots(rng: random.Random) -> Tokens:
     count = near(rng, 64) - rng.choice([0, 0, 1, 2])
     declared = [token for number in range(count) for token in f"val x{number} = 1 ;".split()]
     loops = [f"for ( i in 1 .. Math . min ( {limit} ) ) ;".split() for limit in ("1 , 2", "x0 + 1 , 2", "1 + 2 * 3 , 1", "1 , 0")]
-    return main_of(*declared, *rng.choice([[], [*PRINT, "(", "1", ")", ";"], "if ( 1 < 2 ) ;".split(), *loops]))
+    clocked = [f"clocked finish {body}".split() for body in (";", "clocked finish ;", "clocked async val y = 1 ;")]
+    return main_of(*declared, *rng.choice([[], [*PRINT, "(", "1", ")", ";"], "if ( 1 < 2 ) ;".split(), *loops, *clocked]))
 
 
 def many_instructions(rng: random.Random) -> Tokens:
@@ -689,7 +714,7 @@ def many_steps(rng: random.Random) -> Tokens:
 
 def many_activities(rng: random.Random) -> Tokens:
     turns = rng.choice([99_998, 99_999, 100_000, 100_001])
-    body = rng.choice(["async ;", "{ val c = Clock . make ( ) ; c . drop ( ) ; }"])
+    body = rng.choice(["async ;", "{ val c = Clock . make ( ) ; c . drop ( ) ; }", "clocked finish ;", "clocked finish clocked async ;"])
     bound = rng.choice([f"{turns}", f"Math . min ( 3 , {turns} )"])
     return main_of(*f"for ( i in 1 .. {bound} ) {body}".split())
 
@@ -758,8 +783,10 @@ def case(rng: random.Random, seeds: list[bytes]) -> bytes:
         return text_of(rng, misnamed(rng, program(rng)))
     if way < 0.64:
         return text_of(rng, restated(rng, program(rng)))
-    if way < 0.67:
+    if way < 0.66:
         return text_of(rng, recursive(rng, program(rng)))
+    if way < 0.68:
+        return text_of(rng, clocked_otherwise(rng, program(rng)))
     if way < 0.75:
         return text_of(rng, jumbled(rng, program(rng)))
     if way < 0.77:
@@ -782,5 +809,5 @@ def changed(rng: random.Random, seeds: list[bytes]) -> bytes:
 def mostly_compiled(rng: random.Random) -> bytes:
     """A text that is mostly compiled, and whose module may be one that the verifier refuses."""
     tokens = program(rng)
-    change = rng.choice([None, None, None, restated, restated, misnamed, digits_changed])
+    change = rng.choice([None, None, None, restated, restated, misnamed, digits_changed, clocked_otherwise])
     return text_of(rng, change(rng, tokens) if change else tokens)

@@ -70,26 +70,32 @@ class Turn:
     last: int
 
 
-class Close(enum.Enum):
-    FINISH = "the end of a finish"
+class Rest(enum.Enum):
+    """What is left of a finish besides its statement."""
+
+    MAKE = "the clock of a clocked finish is made"
+    DROP = "it is dropped"
+    CLOSE = "the end of the finish"
 
 
-Todo = source.Stmt | Turn | Close
+Todo = source.Stmt | Turn | Rest
 
 
 @dataclass
 class Doing:
-    """A call in progress: what is left to do, the next one last, and what names stand for."""
+    """A call in progress: what is left to do, the next one last, and what names stand for; and of each finish that it has open, and of the
+    method or `async` around them, the clock that a `clocked async` is started on there."""
 
     names: dict[str, Value]
+    hidden: list[ClockName | None]
     todo: list[Todo] = field(default_factory=list)
 
-    def next_comes(self, *stmts: source.Stmt) -> None:
+    def next_comes(self, *stmts: source.Stmt | Rest) -> None:
         """These come next, without a step for blocks, and none for loops whose numbers allow no turn."""
         self.todo += reversed([one for stmt in stmts for one in unfolded(stmt)])
 
 
-def unfolded(stmt: source.Stmt) -> Iterator[source.Stmt]:
+def unfolded(stmt: source.Stmt | Rest) -> Iterator[source.Stmt | Rest]:
     match stmt:
         case source.Block(statements):
             for one in statements:
@@ -157,7 +163,7 @@ class Program:
         self.activities: list[Activity] = []
         main = self.methods["main"]
         given: dict[str, Value] = {param.name.text: number for param, number in zip(main.params, arguments, strict=True)}
-        self.begin(Activity([Doing(given)], Finish(None)), main.body)
+        self.begin(Activity([Doing(given, [None])], Finish(None)), main.body)
 
     def begin(self, activity: Activity, body: source.Stmt) -> None:
         activity.calls[-1].next_comes(body)
@@ -192,7 +198,9 @@ class Program:
 
     def clock(self, who: int, name: source.Expr) -> ClockName:
         """A clock that the activity is registered on."""
-        value = self.activities[who].calls[-1].names.get(name.text) if isinstance(name, source.Name) else None
+        return self.registered(who, self.activities[who].calls[-1].names.get(name.text) if isinstance(name, source.Name) else None)
+
+    def registered(self, who: int, value: Value | None) -> ClockName:
         if not isinstance(value, ClockName):
             raise Wrong("no clock")
         if who not in self.clocks[value.number].standings:
@@ -241,10 +249,18 @@ class Program:
             case Turn(loop, last):
                 doing.todo.pop()
                 return self.turn(doing, loop, self.number(doing.names, loop.name) + 1, last)
-            case Close.FINISH:
+            case Rest.MAKE:
+                doing.todo.pop()
+                doing.hidden[-1] = self.made(who)
+                return "Made"
+            case Rest.DROP:
+                doing.todo.pop()
+                return self.dropped(who, self.registered(who, doing.hidden[-1]))
+            case Rest.CLOSE:
                 if me.opened[-1].left:
                     return None
                 me.opened.pop()
+                doing.hidden.pop()
                 doing.todo.pop()
                 return "Closed"
             case stmt:
@@ -266,8 +282,7 @@ class Program:
         names = doing.names
         match stmt:
             case source.Declaration(_, name, _, source.NewClock()):
-                names[name.text] = ClockName(len(self.clocks))
-                self.clocks.append(Clock(standings={who: Standing.OPEN}))
+                names[name.text] = self.made(who)
                 return "Made"
             case source.Declaration(_, name, _, right):
                 return self.gives(names, name, right)
@@ -287,21 +302,23 @@ class Program:
                 return ""
             case source.Loop(_, low):
                 return self.turn(doing, stmt, low, self.last_turn(names, stmt))
-            case source.Finish(body):
+            case source.Finish(body, clocked):
                 me.opened.append(Finish(me.innermost))
-                doing.todo.append(Close.FINISH)
-                doing.next_comes(body)
+                doing.hidden.append(None)
+                doing.next_comes(*([body] if clocked is None else [Rest.MAKE, body, Rest.DROP]), Rest.CLOSE)
                 return "Opened"
-            case source.Async(clocks, body, _):
-                return self.start(who, me, clocks, body)
+            case source.Async(clocks, body, _, None):
+                return self.start(who, me, [self.clock(who, name) for name in clocks], None, body)
+            case source.Async(_, body, _, _):
+                clock = self.registered(who, doing.hidden[-1])
+                return self.start(who, me, [clock], clock, body)
             case source.Call(name, arguments):
                 return self.call(who, me, self.methods[name.text], arguments)
             case source.OnClock(name, "resume"):
                 self.clocks[self.clock(who, name).number].change(who, Standing.OPEN, Standing.SIGNALLED)
                 return "Resumed"
             case source.OnClock(name, "drop"):
-                del self.clocks[self.clock(who, name).number].standings[who]
-                return "Dropped"
+                return self.dropped(who, self.clock(who, name))
             case source.AdvanceAll():
                 for clock in self.clocks:
                     clock.change(who, Standing.OPEN, Standing.SIGNALLED)
@@ -309,6 +326,14 @@ class Program:
                 return "Arrived"
             case source.Print(value):
                 return f"Printed({self.number(names, value)})"
+
+    def made(self, who: int) -> ClockName:
+        self.clocks.append(Clock(standings={who: Standing.OPEN}))
+        return ClockName(len(self.clocks) - 1)
+
+    def dropped(self, who: int, clock: ClockName) -> str:
+        del self.clocks[clock.number].standings[who]
+        return "Dropped"
 
     def gives(self, names: dict[str, Value], name: source.Name, right: source.Expr) -> str:
         """A name of the activity's own gets a number, or a shared number that stands alone."""
@@ -318,12 +343,11 @@ class Program:
         names[name.text] = self.number(names, right)
         return ""
 
-    def start(self, who: int, me: Activity, clocks: list[source.Name], body: source.Stmt) -> str:
+    def start(self, who: int, me: Activity, given: list[ClockName], hidden: ClockName | None, body: source.Stmt) -> str:
         """The new activity knows what its starter knows, and stands on the clocks that it gets where its starter stands."""
-        given = [self.clocks[self.clock(who, name).number] for name in clocks]
-        for clock in given:
+        for clock in [self.clocks[name.number] for name in given]:
             clock.standings[len(self.activities)] = clock.standings[who]
-        self.begin(Activity([Doing(dict(me.calls[-1].names))], me.innermost), body)
+        self.begin(Activity([Doing(dict(me.calls[-1].names), [hidden])], me.innermost), body)
         return "Spawned"
 
     def call(self, who: int, me: Activity, method: source.Method, arguments: list[source.Expr]) -> str:
@@ -331,7 +355,7 @@ class Program:
         given: dict[str, Value] = {}
         for argument, param in zip(arguments, method.params, strict=True):
             given[param.name.text] = self.clock(who, argument) if param.type == "Clock" else self.number(names, argument)
-        me.calls.append(Doing(given))
+        me.calls.append(Doing(given, [None]))
         me.calls[-1].next_comes(method.body)
         return ""
 

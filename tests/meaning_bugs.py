@@ -114,6 +114,56 @@ class ClosesEarly(Coder):
             self.statement(body)
 
 
+class ForgetsDrops(Coder):
+    """Keeps the clock of a `clocked finish` at its end."""
+
+    def between(self, body: source.Stmt, slot: int) -> None:
+        super().between(body, slot)
+        self.code.pop()
+
+
+class DropsAtOnce(Coder):
+    """Drops the clock of a `clocked finish` in front of its statement."""
+
+    def between(self, body: source.Stmt, slot: int) -> None:
+        super().between(source.Block([]), slot)
+        self.statement(body)
+
+
+class MakesEarly(Coder):
+    """Makes the clock of a `clocked finish` before the finish opens."""
+
+    def around(self, opener: list, body: source.Stmt, closer: str) -> None:
+        super().around(opener, body, closer)
+        if isinstance(body, source.Between):
+            self.code.insert(self.code.index(opener), self.code.pop(self.code.index(opener) + 1))
+
+
+class DropsLate(Coder):
+    """Drops the clock of a `clocked finish` behind the finish."""
+
+    def around(self, opener: list, body: source.Stmt, closer: str) -> None:
+        super().around(opener, body, closer)
+        if isinstance(body, source.Between):
+            self.code[-2:] = self.code[:-3:-1]
+
+
+class HandsOnOuterClocks(Coder):
+    """Starts a `clocked async` on the clock of the outermost `clocked finish` around it."""
+
+    open: tuple[int, ...] = ()
+
+    def between(self, body: source.Stmt, slot: int) -> None:
+        self.open += (slot,)
+        super().between(body, slot)
+        self.open = self.open[:-1]
+
+    def statement(self, stmt: source.Stmt | source.Between) -> None:
+        super().statement(stmt)
+        if isinstance(stmt, source.Async) and stmt.clocked is not None and self.open:
+            self.code[-1][2][0] = self.open[0]
+
+
 @dataclass(frozen=True)
 class Again:
     """Takes the limit of a loop once more."""
@@ -173,7 +223,7 @@ class Swaps(Coder):
 
 WRONG = [
     LeavesPrintsOut, ReadsTwice, MistakesClocks, PutsElsewhere, JumpsShort, Overlaps, CapturesOthers, TurnsLess, AddsInTwoSteps, ClosesEarly, Swaps,
-    TakesLimitsAnew, LimitsByItself, LimitsByNames, ForgetsLimits,
+    TakesLimitsAnew, LimitsByItself, LimitsByNames, ForgetsLimits, ForgetsDrops, DropsAtOnce, MakesEarly, DropsLate, HandsOnOuterClocks,
 ]  # fmt: skip
 
 

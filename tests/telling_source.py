@@ -47,6 +47,7 @@ RULES = {
     12: "SameClockTwice",
     13: "Literal",
     14: "Table",
+    15: "NoHiddenClock",
 }
 
 
@@ -207,14 +208,20 @@ class Loop:
 
 @dataclass(frozen=True)
 class Async:
+    """Where it is a `clocked async`, `clocked` is the offset of that word, and there is no list."""
+
     clocks: list[Name]
     body: Stmt
     at: int
+    clocked: int | None = None
 
 
 @dataclass(frozen=True)
 class Finish:
+    """Where it is a `clocked finish`, `clocked` is the offset of that word."""
+
     body: Stmt
+    clocked: int | None = None
 
 
 @dataclass(frozen=True)
@@ -269,7 +276,7 @@ class Tree:
 
 COMPARISONS = {"==": "eq", "!=": "ne", "<": "lt", "<=": "le", ">": "gt", ">=": "ge"}
 OPERATIONS = {"+": "add", "-": "sub", "*": "mul"}
-STATEMENT_WORDS = frozenset(("val", "var", "atomic", "if", "for", "async", "finish", "Clock", "Console"))
+STATEMENT_WORDS = frozenset(("val", "var", "atomic", "if", "for", "async", "clocked", "finish", "Clock", "Console"))
 
 
 class Parser:
@@ -434,6 +441,8 @@ class Parser:
                 return self.loop()
             case "async":
                 return self.start(first.at)
+            case "clocked":
+                return self.clocked(first.at)
             case "finish":
                 return Finish(self.statement())
             case "Clock":
@@ -514,9 +523,15 @@ class Parser:
         self.want(",")
         return limit
 
+    def clocked(self, at: int) -> Stmt:
+        word = self.want("finish", "async")
+        return Finish(self.statement(), at) if word.text == "finish" else Async([], self.statement(), word.at, at)
+
     def start(self, at: int) -> Async:
+        """A `clocked` begins the list where a `(` comes behind it, and else the statement."""
         clocks: list[Name] = []
-        if self.has("clocked"):
+        if self.is_at("clocked") and self.tokens[self.next + 1].text == "(":
+            self.took()
             self.want("(")
             clocks.append(self.name())
             while self.want(",", ")").text == ",":
@@ -626,6 +641,9 @@ class Names:
         self.meanings: dict[int, Declared] = {}
         # What the limit of a loop comes to, by the offset of the loop's name.
         self.limits: dict[int, Declared] = {}
+        # The clock of each `clocked finish`, by the offset of its `clocked`; and the one that a `clocked async` here is started on.
+        self.hidden: dict[int, Declared] = {}
+        self.hidden_now: Declared | None = None
         # The body of each `async`, by the offset of its word; the first method of each name; and who calls whom, and where.
         self.bodies: dict[int, UnitForm] = {}
         self.methods: dict[str, Method] = {}
@@ -751,6 +769,12 @@ class Names:
         with self.scope():
             self.statement(unit, stmt)
 
+    def below(self, unit: UnitForm, stmt: Stmt, hidden: Declared | None) -> None:
+        """The statement of a finish or an `async`, in which this is the hidden clock, if there is one."""
+        around, self.hidden_now = self.hidden_now, hidden
+        self.alone(unit, stmt)
+        self.hidden_now = around
+
     def statement(self, unit: UnitForm, stmt: Stmt) -> None:
         match stmt:
             case Block(statements):
@@ -787,8 +811,12 @@ class Names:
                 self.loop(unit, stmt)
             case Async():
                 self.start(unit, stmt)
-            case Finish(body):
-                self.alone(unit, body)
+            case Finish(body, None):
+                self.below(unit, body, None)
+            case Finish(body, clocked):
+                clock = self.hidden[clocked] = Declared(Meaning.CLOCK, unit)
+                unit.own.append(clock)
+                self.below(unit, body, clock)
             case Call():
                 self.call(unit, stmt)
             case OnClock(name, _):
@@ -824,8 +852,13 @@ class Names:
             self.clock(unit, name)
         self.distinct(stmt.clocks)
         clocks = [self.visible[name.text] for name in stmt.clocks if name.text in self.visible]
+        hidden = self.hidden_now if stmt.clocked is not None else None
+        if hidden:
+            clocks.append(hidden)
+        elif stmt.clocked is not None:
+            self.faults.append((stmt.clocked, 15))
         body = self.bodies[stmt.at] = UnitForm("body", stmt.at, stmt.body, unit, clocks)
-        self.alone(body, stmt.body)
+        self.below(body, stmt.body, hidden)
 
     def call(self, unit: UnitForm, stmt: Call) -> None:
         self.calls_now.append(stmt.name)
@@ -877,6 +910,14 @@ def check_recursion(names: Names) -> None:
 # Code. Whom a `call` or a `spawn` means is put in when the units have their numbers.
 
 Instr = list
+
+
+@dataclass(frozen=True)
+class Between:
+    """What a `clocked finish` does between its two ends: its clock is made, and dropped behind the body."""
+
+    body: Stmt
+    clock: Declared
 
 
 class Coder:
@@ -937,7 +978,7 @@ class Coder:
 
     # Statements.
 
-    def statement(self, stmt: Stmt) -> None:
+    def statement(self, stmt: Stmt | Between) -> None:
         match stmt:
             case Block(statements):
                 for one in statements:
@@ -958,8 +999,10 @@ class Coder:
                 self.branch(stmt)
             case Loop():
                 self.loop(stmt)
-            case Finish(body):
-                self.around(["finish"], body, "endfinish")
+            case Finish(body, clocked):
+                self.around(["finish"], body if clocked is None else Between(body, self.names.hidden[clocked]), "endfinish")
+            case Between(body, clock):
+                self.between(body, self.slots[clock])
             case Async(_, _, at):
                 body = self.names.bodies[at]
                 self.mentioned.append(body)
@@ -981,12 +1024,18 @@ class Coder:
         else:
             self.write("get", slot, cell)
 
-    def around(self, opener: Instr, body: Stmt, closer: str) -> None:
+    def around(self, opener: Instr, body: Stmt | Between, closer: str) -> None:
         begin = len(self.code)
         self.code.append(opener)
         self.statement(body)
         opener.append(len(self.code))
         self.code.append([closer, begin])
+
+    def between(self, body: Stmt, slot: int) -> None:
+        """What stands in a `clocked finish`, whose clock has this slot."""
+        self.write("make", slot)
+        self.statement(body)
+        self.code.append(["drop", slot])
 
     def loop(self, stmt: Loop) -> None:
         """Nothing where the numbers of the text allow no turn."""

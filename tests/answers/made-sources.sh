@@ -32,6 +32,8 @@ row "$(repeated 99 'shared sNUMBER = 0; ')$(repeated 158 'shared tNUMBER = 0; ')
 row "def main() { $(repeated 1023 'async ; ')}" 'accepted steps 2047 activities 1024 clocks 0'
 row "def main() { $(repeated 1024 'async ; ')}" 'x10clock: F14 Table at 8197'
 row "def main() { for (i in 1..0) { $(repeated 2000 'async ; ')} async ; }" 'accepted steps 3 activities 2 clocks 0'
+row "def main() { clocked finish { $(repeated 1023 'clocked async ; ')} }" 'accepted steps 2051 activities 1024 clocks 1'
+row "def main() { clocked finish { $(repeated 1024 'clocked async ; ')} }" 'x10clock: F14 Table at 16406'
 row "$(repeated 1023 'def mNUMBER() { } ')def main() { $(repeated 1023 'mNUMBER(); ')}" 'accepted steps 2047 activities 1 clocks 0'
 row "$(repeated 2000 'def mNUMBER() { } ')def main() { $(repeated 1023 'mNUMBER(); ')}" 'accepted steps 2047 activities 1 clocks 0'
 row "$(repeated 1024 'def mNUMBER() { } ')def main() { $(repeated 1024 'mNUMBER(); ')}" 'x10clock: F14 Table at 15265'
@@ -45,6 +47,9 @@ row "def main() { val x = 1; async { $(repeated 4096 'Console.OUT.println(x); ')
 row "def main() { $(repeated 63 'val xNUMBER = 0; ') Console.OUT.println(1); }" 'accepted steps 66 activities 1 clocks 0'
 row "def main() { $(repeated 63 'val xNUMBER = 0; ') Console.OUT.println(1 + 2); }" 'x10clock: F14 Table at 4'
 row "def main() { $(repeated 63 'val xNUMBER = 0; ') Console.OUT.println(x1 + 2); }" 'accepted steps 67 activities 1 clocks 0'
+row "def main() { $(repeated 63 'val xNUMBER = 0; ') clocked finish ; }" 'accepted steps 68 activities 1 clocks 1'
+row "def main() { $(repeated 64 'val xNUMBER = 0; ') clocked finish ; }" 'x10clock: F14 Table at 4'
+row "def main() { $(repeated 65 'clocked finish ; ')}" 'x10clock: F14 Table at 4'
 row "def f() { $(repeated 65 'val xNUMBER = 0; ') } def main() { }" 'accepted steps 1 activities 1 clocks 0'
 row "def f() { $(repeated 65 'val xNUMBER = 0; ') } def main() { f(); }" 'x10clock: F14 Table at 4'
 row "def main() { $(repeated 33 'val xNUMBER = 0; ') async { Console.OUT.println(x1); $(repeated 64 'val yNUMBER = 0; ')} }" \

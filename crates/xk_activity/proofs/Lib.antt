@@ -3,6 +3,7 @@ pub mod Handed
 pub mod Safe
 pub mod Stacking
 pub mod Operands
+pub mod Limits
 pub mod Locals
 pub mod Turns
 pub mod Joined

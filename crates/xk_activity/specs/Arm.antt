@@ -1,5 +1,5 @@
 -- What the code answers that carries out one instruction on one frame.
-use Rattle.std.specs.Prelude.{◌≡◌, ℕ, Bool, true, false, List, [], Option, Some, None}
+use Rattle.std.specs.Prelude.{◌≡◌, ◌≤◌, ◌^◌, ℕ, Bool, true, false, List, [], Option, Some, None}
 use Rattle.xk_types.specs.declared.instr.Instr.{Instr}
 use Rattle.xk_types.specs.declared.names.Value.{Value}
 use Rattle.xk_activity.specs.Local.{OutcomeOf, Turn, Beyond, Wrong, Stepped, carried, spot_at}
@@ -18,3 +18,8 @@ is_beyond i = is_more (carried [] (spot_at 0 []) i)
 abbrev pub Answers : Turn → List Value → Option ℕ → List Value → Type 0
 Answers step old None new = (step ≡ Beyond) × (new ≡ old)
 Answers step old (Some p) new = step ≡ Stepped (spot_at p new)
+
+-- the next place, if there is one, is small
+abbrev pub IsNear : Option ℕ → Type 0
+IsNear None = Unit {0}
+IsNear (Some p) = p ≤ 2 ^ 16

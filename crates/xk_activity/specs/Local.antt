@@ -91,6 +91,10 @@ no_further f (Some x) hi go = number_at f x (λ n. go (int_min n hi))
 abbrev pub beginning : Spot → ℕ → ℤ → ℕ → ℤ → Turn
 beginning f k lo t top = if int_le lo top then writing f k lo else Stepped (record f { place = t })
 
+-- a loop with a limit in slot x that goes up to hi begins, or is passed over, to the place behind e
+abbrev pub limited : Spot → ℕ → ℤ → ℕ → ℤ → ℕ → Turn
+limited f k lo x hi e = no_further f (Some x) hi (beginning f k lo (e + 1))
+
 -- the loop's slot k has its next number, and the turn begins behind the head at place b; or the frame goes on
 abbrev pub turned : Spot → ℕ → ℕ → ℤ → ℤ → Turn
 turned f b k n top = if int_lt n top then Stepped (record { place = b + 1; slots = slice_set f.slots k (value.Number (n +ℤ pos 1)) }) else Stepped (onward f)
@@ -110,7 +114,7 @@ carried code f (instr.Mul d x y) = computing (int_wrapping_mul w64) f d x y
 carried code f (instr.Unless op x y t) = number_at f x (λ p. number_at f y (λ q. Stepped (if compares op p q then onward f else record f { place = t })))
 carried code f (instr.Jump t) = Stepped (record f { place = t })
 carried code f (instr.For k lo hi e) = writing f k lo
-carried code f (instr.ForTo k lo x hi e) = no_further f (Some x) hi (beginning f k lo (e + 1))
+carried code f (instr.ForTo k lo x hi e) = limited f k lo x hi e
 carried code f (instr.Next b) = turning f b (option_and_then (loop_head b) (slice_get code b))
 carried code f (instr.Finish e) = Beyond
 carried code f (instr.EndFinish b) = Beyond

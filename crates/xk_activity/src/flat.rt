@@ -3,8 +3,8 @@
 ghost use Rattle.std.specs.Prelude.{◌≡◌, ◌⊎◌, ◌+◌, ◌<◌, ◌≤◌, ◌^◌, length, not, Some, slice_set};
 ghost use Rattle.xk_types.specs.declared.names.Value.TheVariants as value;
 ghost use Rattle.xk_types.specs.Code.{loop_head};
-ghost use Rattle.xk_activity.specs.Local.{Beyond, Stepped, beginning, carried, turn, turning, ran, spot_at, IsSafe, IsRight};
-ghost use Rattle.xk_activity.specs.Arm.{Answers, is_beyond};
+ghost use Rattle.xk_activity.specs.Local.{Beyond, Stepped, carried, limited, turn, turning, ran, spot_at, IsSafe, IsRight};
+ghost use Rattle.xk_activity.specs.Arm.{Answers, IsNear, is_beyond};
 ghost use Rattle.xk_activity.specs.Slots.{values_of};
 
 use crate::marks::Marks;
@@ -13,7 +13,7 @@ use xk_types::Instr;
 
 /// Writes a number to a slot, and gives the next place.
 #[inline(always)]
-fn write(words: &mut [i64], marks: &mut Marks, d: u16, n: i64, place: u32) -> u32
+fn write(words: &mut [i64], marks: &mut Marks, d: u16, n: i64, place: usize) -> usize
     requires slot { d < length (values_of marks.old words.old) }
     requires few { length words.old ≤ 64 }
     requires place { place + 1 < 2 ^ 16 }
@@ -28,44 +28,59 @@ fn write(words: &mut [i64], marks: &mut Marks, d: u16, n: i64, place: u32) -> u3
 
 /// Ends a turn of the loop that begins at place b with this instruction, and gives the next place.
 #[inline(always)]
-#[tactic(auto, using(crate::proofs::Operands::number_there, crate::proofs::Operands::number_goes))]
-fn end_turn(head: &Instr, place: u32, words: &mut [i64], marks: Marks, b: u16) -> u32
+#[tactic(auto, using(crate::proofs::Operands::number_there, crate::proofs::Operands::number_goes, crate::proofs::Limits::lt_min))]
+fn end_turn(head: &Instr, place: usize, words: &mut [i64], marks: Marks, b: u16) -> usize
     requires place { place + 1 < 2 ^ 16 }
     requires right { IsRight (turning (spot_at place (values_of marks words.old)) b
         (loop_head b head.now)) }
     ensures turned { turning (spot_at place (values_of marks words.old)) b (loop_head b head.now)
         ≡ Stepped (spot_at result (values_of marks words.new)) }
+    ensures near { result ≤ 2 ^ 16 }
     ensures length { length words.new ≡ length words.old }
 {
-    let (k, top) = match head {
-        Instr::For { k, hi, .. } => (*k, *hi),
-        Instr::ForTo { k, x, hi, .. } => (*k, number(words, marks, *x).min(*hi)),
+    let (k, goes_on) = match head {
+        Instr::For { k, hi, .. } => (*k, number(words, marks, *k) < *hi),
+        Instr::ForTo { k, x, hi, .. } => {
+            let n = number(words, marks, *k);
+            (*k, n < *hi && n < number(words, marks, *x))
+        }
         _ => unreachable!(),
     };
-    let n = number(words, marks, k);
-    if n < top {
-        change(words, marks, k, n + 1);
-        b as u32 + 1
+    if goes_on {
+        change(words, marks, k, number(words, marks, k) + 1);
+        b as usize + 1
     } else {
         place + 1
     }
 }
 
-/// Begins the loop of slot k that goes from lo up to `top`, or passes over it, to the place behind e. Gives the next place.
+/// Begins the loop of slot k that goes from lo up to hi, and no further than the number in slot x; or passes over it, to the place behind e.
+/// Gives the next place.
 #[inline(always)]
-fn begin(words: &mut [i64], marks: &mut Marks, place: u32, k: u16, lo: i64, e: u16, top: i64) -> u32
+#[tactic(auto, using(crate::proofs::Operands::number_there, crate::proofs::Operands::number_goes, crate::proofs::Operands::slot_there, crate::proofs::Limits::le_min))]
+fn begin(
+    words: &mut [i64],
+    marks: &mut Marks,
+    place: usize,
+    k: u16,
+    lo: i64,
+    x: u16,
+    hi: i64,
+    e: u16,
+) -> usize
     requires place { place + 1 < 2 ^ 16 }
     requires few { length words.old ≤ 64 }
-    requires right { IsRight (beginning (spot_at place (values_of marks.old words.old)) k lo
-        (e + 1) top) }
-    ensures begun { beginning (spot_at place (values_of marks.old words.old)) k lo (e + 1) top
+    requires right { IsRight (limited (spot_at place (values_of marks.old words.old)) k lo x hi
+        e) }
+    ensures begun { limited (spot_at place (values_of marks.old words.old)) k lo x hi e
         ≡ Stepped (spot_at result (values_of marks.new words.new)) }
+    ensures near { result ≤ 2 ^ 16 }
     ensures length { length words.new ≡ length words.old }
 {
-    if lo <= top {
+    if lo <= hi && lo <= number(words, *marks, x) {
         write(words, marks, k, lo, place)
     } else {
-        e as u32 + 1
+        e as usize + 1
     }
 }
 
@@ -74,11 +89,11 @@ fn begin(words: &mut [i64], marks: &mut Marks, place: u32, k: u16, lo: i64, e: u
 #[tactic(auto, using(crate::proofs::Operands::number_there, crate::proofs::Operands::number_goes, crate::proofs::Operands::slot_there, crate::proofs::Operands::begin_there))]
 fn carry(
     code: &[Instr],
-    place: u32,
+    place: usize,
     words: &mut [i64],
     marks: &mut Marks,
     instr: &Instr,
-) -> Option<u32>
+) -> Option<usize>
     requires short { length code.now < 2 ^ 16 }
     requires place { place + 1 < 2 ^ 16 }
     requires few { length words.old ≤ 64 }
@@ -86,6 +101,7 @@ fn carry(
         instr.now) }
     ensures answers { Answers (carried code.now (spot_at place (values_of marks.old words.old))
         instr.now) (values_of marks.old words.old) result (values_of marks.new words.new) }
+    ensures near { IsNear result }
     ensures length { length words.new ≡ length words.old }
 {
     let next = match instr {
@@ -108,12 +124,9 @@ fn carry(
         }
         Instr::Unless { op, a, b, .. }
             if op.holds(number(words, *marks, *a), number(words, *marks, *b)) => { place + 1 }
-        Instr::Unless { t, .. } | Instr::Jump(t) => *t as u32,
+        Instr::Unless { t, .. } | Instr::Jump(t) => *t as usize,
         Instr::For { k, lo, .. } => write(words, marks, *k, *lo, place),
-        Instr::ForTo { k, lo, x, hi, e } => {
-            let top = number(words, *marks, *x).min(*hi);
-            begin(words, marks, place, *k, *lo, *e, top)
-        }
+        Instr::ForTo { k, lo, x, hi, e } => { begin(words, marks, place, *k, *lo, *x, *hi, *e) }
         Instr::Next(b) => end_turn(&code[*b as usize], place, words, *marks, *b),
         _ => return None,
     };
@@ -141,15 +154,21 @@ pub(crate) fn is_flat(instr: &Instr) -> bool
 
 /// The next instruction, if it concerns the frame alone, and the next place.
 #[inline(always)]
-pub(crate) fn one(code: &[Instr], place: u32, words: &mut [i64], marks: &mut Marks) -> Option<u32>
+pub(crate) fn one(
+    code: &[Instr],
+    place: usize,
+    words: &mut [i64],
+    marks: &mut Marks,
+) -> Option<usize>
     requires short { length code.now < 2 ^ 16 }
     requires few { length words.old ≤ 64 }
     requires right { IsRight (turn code.now (spot_at place (values_of marks.old words.old))) }
     ensures answers { Answers (turn code.now (spot_at place (values_of marks.old words.old)))
         (values_of marks.old words.old) result (values_of marks.new words.new) }
+    ensures near { IsNear result }
     ensures length { length words.new ≡ length words.old }
 {
-    carry(code, place, words, marks, &code[place as usize])
+    carry(code, place, words, marks, &code[place])
 }
 
 /// Up to max instructions that concern the frame alone: the place then, and how many they were.
@@ -171,18 +190,19 @@ pub(crate) fn run_flat(
         ⊎ (turn code.now (spot_at result.0 (values_of marks.new words.new)) ≡ Beyond) }
     ensures length { length words.new ≡ length words.old }
 {
-    let mut place = start;
+    let mut place = start as usize;
+    let mut left = max;
     // A copy, which can lie in a register while the loop runs.
     let mut now = *marks;
-    for n in 0..max {
+    while left > 0 {
         match one(code, place, words, &mut now) {
-            Some(next) => place = next,
-            None => {
-                *marks = now;
-                return (place, n);
+            Some(next) => {
+                place = next;
+                left -= 1;
             }
+            None => break,
         }
     }
     *marks = now;
-    (place, max)
+    (place as u32, max - left)
 }

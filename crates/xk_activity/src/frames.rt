@@ -89,7 +89,8 @@ fn step_top(
 {
     let words = stack.as_mut_slice();
     let slots = &mut words[base..];
-    one(code, place, slots, marks)
+    let next = one(code, place as usize, slots, marks)?;
+    Some(next as u32)
 }
 
 /// Up to max next instructions of the frame that lies on a stack from base on, while they concern that frame alone: the place then,

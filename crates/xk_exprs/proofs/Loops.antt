@@ -59,3 +59,19 @@ pub loop_keeps : {A : Type 0} (step : A → List Mark → Turn A) (P : A → Lis
     → loop step x ts ≡ Some r → P r.0 r.1
 unfolding loop
 loop_keeps step P each x ts r p e = turns_keep step P each (suc (length ts)) x ts r p e
+
+-- where turns come to an end, the step stops
+turns_stopped : {A : Type 0} (step : A → List Mark → Turn A) (n : ℕ) (x : A) (ts : List Mark) (r : A × List Mark) → turns step n x ts ≡ Some r → step r.0 r.1 ≡ Stops
+unfolding turns
+turns_stopped step zero x ts r e = absurd cc
+turns_stopped {A = A} step (suc n) x ts r e = by (λ y us. turns_stopped step n y us r) (step x ts) refl e
+  where
+    by : ((y : A) (us : List Mark) → turns step n y us ≡ Some r → step r.0 r.1 ≡ Stops) → (t : Turn A) → step x ts ≡ t → turned t x ts (turns step n) ≡ Some r
+        → step r.0 r.1 ≡ Stops
+    by ih Fails h e = absurd cc
+    by ih Stops h e = let q : (x, ts) ≡ r = cc in subst (λ (z : A × List Mark). step z.0 z.1 ≡ Stops) q h
+    by ih (Goes y us) h e = ih y us e
+
+pub loop_stopped : {A : Type 0} (step : A → List Mark → Turn A) (x : A) (ts : List Mark) (r : A × List Mark) → loop step x ts ≡ Some r → step r.0 r.1 ≡ Stops
+unfolding loop
+loop_stopped step x ts r e = turns_stopped step (suc (length ts)) x ts r e

@@ -6,12 +6,11 @@ use Rattle.xk_tokens.specs.declared.token.Sign.TheVariants as sign
 use Rattle.xk_tree.specs.declared.tree.Operator.{Operator as Op}
 use Rattle.xk_tree.specs.declared.tree.Operator.TheVariants as operator
 use Rattle.xk_tree.specs.declared.tree.Number as number
-use Rattle.xk_exprs.specs.Marks.{Mark, Name, Number, Operator, Open, Symbol, Reserved, AsyncAt, ClockAt, LongAt, Unfit}
+use Rattle.xk_exprs.specs.Marks.{Mark, Name, Number, Operator, Open, Symbol, Reserved, AsyncAt, ClockedAt, ClockAt, LongAt, Unfit}
 use Rattle.xk_tree.specs.Tree.{Expression, Word, Literal, Named, Paren, Negation, Binary}
 use Rattle.xk_exprs.specs.Spelling.{minus_marks, spell, binds, level, depth, operators, IsNegatable, IsGrouped, Spells, SpellsTerm}
 use Rattle.xk_exprs.specs.Readers.{◌>>=◌, Fails, Goes, loop}
 use Rattle.xk_exprs.specs.Exprs.{Read, close_at, joined, operand, another, chain_at, terms, sums, negated, digits_at, literal, number_of, valued, minus_or, factor_at, whole_at, whole_term_at}
-use Rattle.xk_exprs.specs.Laws.{ExpressionFound, TermFound}
 use Rattle.xk_exprs.proofs.Loops.{bind_some, Shrinks, loop_keeps}
 use Rattle.xk_exprs.proofs.Numbers.{digits_is, literal_found}
 
@@ -39,7 +38,7 @@ pub record Joins (k : ℕ) (item : ℕ → List Mark → Read) (x : Expression �
   pub made : y ≡ (Binary by x.0 at right.0.0, right.0.1)
   pub rest : vs ≡ right.1
 
-another_joins : (k : ℕ) (item : ℕ → List Mark → Read) (x : Expression × ℕ) (us : List Mark) (y : Expression × ℕ) (vs : List Mark)
+pub another_joins : (k : ℕ) (item : ℕ → List Mark → Read) (x : Expression × ℕ) (us : List Mark) (y : Expression × ℕ) (vs : List Mark)
     → another k item x us ≡ Goes y vs → Joins k item x us y vs
 unfolding another
 another_joins k item x [] y vs e = absurd cc
@@ -222,6 +221,7 @@ factor_sound (suc d) ops (Operator at operator.Minus ∷ ts) x e = by (factor_so
 factor_sound d ops (Symbol s ∷ ts) x e = absurd cc
 factor_sound d ops (Reserved k ∷ ts) x e = absurd cc
 factor_sound d ops (AsyncAt at ∷ ts) x e = absurd cc
+factor_sound d ops (ClockedAt at ∷ ts) x e = absurd cc
 factor_sound d ops (ClockAt at ∷ ts) x e = absurd cc
 factor_sound d ops (LongAt at ∷ ts) x e = absurd cc
 factor_sound d ops (Unfit ∷ ts) x e = absurd cc
@@ -236,7 +236,8 @@ sum_shrinks d = another_shrinks 1 d (terms (factor_at d)) (terms_sound d (factor
 
 -- ---- whole expressions and terms
 
-pub expression_found : ExpressionFound
+pub expression_found : (left : ℕ) (ts : List Mark) (e : Expression) (rest : List Mark)
+    → whole_at left ts ≡ Some (e, rest) → (front : List Mark) × (ts ≡ front ++ rest) × Spells left front e
 unfolding whole_at
 expression_found d ts e rest h =
     let b = bind_some (sums (factor_at d) 64 ts) (λ x. Some (x.0.0, x.1)) (e, rest) h in
@@ -247,7 +248,8 @@ expression_found d ts e rest h =
     subst (λ (z : Expression × List Mark). (front : List Mark) × (ts ≡ front ++ z.1) × Spells d front z.0) q
     (spell b.0.0.0, t.parts, record { spelled = refl; grouped = t.grouped; depth = m; operators = omega arith })
 
-pub term_found : TermFound
+pub term_found : (left : ℕ) (ts : List Mark) (e : Expression) (rest : List Mark)
+    → whole_term_at left ts ≡ Some (e, rest) → (front : List Mark) × (ts ≡ front ++ rest) × SpellsTerm left front e
 unfolding whole_term_at
 term_found d ts e rest h =
     let b = bind_some (terms (factor_at d) 64 ts) (λ x. Some (x.0.0, x.1)) (e, rest) h in

@@ -6,10 +6,10 @@ use Rattle.xk_exprs.specs.Marks.{Mark}
 use Rattle.xk_exprs.specs.Spelling.{number_marks, IsNumber, Spells, SpellsTerm, Ends}
 use Rattle.xk_exprs.specs.Exprs.{number_at, whole_at, whole_term_at}
 
--- an expression that is read is spelled by the tokens taken
+-- an expression that is read is spelled by the tokens taken, and no operator follows
 abbrev pub ExpressionFound : Type 0
 ExpressionFound = (left : ℕ) (ts : List Mark) (e : Expression) (rest : List Mark)
-    → whole_at left ts ≡ Some (e, rest) → (front : List Mark) × (ts ≡ front ++ rest) × Spells left front e
+    → whole_at left ts ≡ Some (e, rest) → (front : List Mark) × (ts ≡ front ++ rest) × Spells left front e × Ends 2 rest
 
 -- an expression is read from its spelling, where no operator follows
 abbrev pub ExpressionAgain : Type 0
@@ -23,7 +23,7 @@ ExpressionOnce = (left : ℕ) (ts : List Mark) (e f : Expression) → Spells lef
 -- reading terms, which no `*` may follow
 abbrev pub TermFound : Type 0
 TermFound = (left : ℕ) (ts : List Mark) (e : Expression) (rest : List Mark)
-    → whole_term_at left ts ≡ Some (e, rest) → (front : List Mark) × (ts ≡ front ++ rest) × SpellsTerm left front e
+    → whole_term_at left ts ≡ Some (e, rest) → (front : List Mark) × (ts ≡ front ++ rest) × SpellsTerm left front e × Ends 1 rest
 
 abbrev pub TermAgain : Type 0
 TermAgain = (left : ℕ) (front : List Mark) (e : Expression) (rest : List Mark)

@@ -6,7 +6,8 @@ ghost use Rattle.serde_json.specs.Data.{Data, string};
 ghost use Rattle.serde_json.specs.View.{view};
 ghost use Rattle.serde_json.specs.Written.{compact_text};
 ghost use Rattle.xk_module.specs.Operands.{operand_value};
-ghost use Rattle.xk_module.specs.ModuleText.{word, long, array_of, named, comparison_name, kind_value, letter, module_value, IsWord, IsInRange, IsModuleText};
+ghost use Rattle.xk_module.specs.ModuleText.{word, long, array_of, named, comparison_name, kind_value, letter, module_value, IsWord, IsInRange, IsModuleText, Names};
+ghost use Rattle.xk_types.specs.Code.{ModuleValue};
 
 use crate::version::version_of;
 use serde_json::{Value, json};
@@ -14,11 +15,13 @@ use std::alloc::{AllocError, Global};
 use xk_types::{Comparison, Instr, Module, ParamKind, Unit, UnitKind};
 
 /// Writes the text of a module, in the format that `read_module` reads: with no white space, and with the keys of each object in
-/// alphabetic order. `read_module` reads the text as that module. It is a text of version 2 where the module has a `forto` or its main
-/// has parameters, else of version 1.
+/// alphabetic order. `read_module` reads the text as that module: the value that is written names the module, and no other. It is a text of
+/// version 2 where the module has a `forto` or its main has parameters, else of version 1.
 pub fn write_module(alloc: Global, m: &Module) -> Result<String, AllocError>
     ensures text { IfOk result (λ text. string_bytes text ≡ compact_text (module_value m.now)) }
     ensures reads_back { IfOk result (λ text. IsModuleText (string_bytes text) m.now) }
+    ensures fits { OnOk result (Names (module_value m.now) m.now) }
+    ensures alone { OnOk result ((n : ModuleValue) → Names (module_value m.now) n → n ≡ m.now) }
 {
     let value = module_json(alloc, m)?;
     let text = value.to_string(alloc)?;

@@ -66,7 +66,7 @@ put_methods_same a b (m ∷ ms) same x =
 abbrev pub HasSame : List (List ℕ) → List (List ℕ) → Type 0
 HasSame a b = (x : List ℕ) → has a x ≡ has b x
 
-or_false : (b : Bool) → (b || false) ≡ b
+pub or_false : (b : Bool) → (b || false) ≡ b
 or_false true = refl
 or_false false = refl
 

@@ -42,7 +42,7 @@ abbrev val : Word → Expression → Statement
 val w e = Declare binding.Val w None (Value e)
 
 abbrev async : List Word → Statement → Statement
-async cs b = Async 0 (Some (record { written = written.Listed 0; names = cs })) b
+async cs b = Async 0 (Some (record { written = written.Listed 0 0; names = cs })) b
 
 -- `method` takes a clock and a number, and `s` is a shared number
 abbrev methods : Signatures

@@ -20,3 +20,10 @@ pub mod ScopedLaw
 mod Rows
 mod CaptureRows
 pub mod Loops
+pub mod FreeWords
+mod FreeRows
+pub mod FreeWalk
+pub mod FreePlaces
+pub mod FreeStart
+pub mod FreeLists
+pub mod FreeLaw

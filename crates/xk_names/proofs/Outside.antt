@@ -32,19 +32,19 @@ AreRight sc us = (u : Use) → Has us u → IsRight sc u
 abbrev pub AreNumbers : Scope → List Word → Type 0
 AreNumbers sc ws = (w : Word) → Has ws w → IsNumberAt sc.names w.text
 
-number_kind : (k : Kind) → is_number k ≡ true → is_clock k ≡ false
+pub number_kind : (k : Kind) → is_number k ≡ true → is_clock k ≡ false
 number_kind kind.Val h = refl
 number_kind kind.Var h = refl
 number_kind kind.Shared h = refl
 number_kind kind.Clock h = absurd cc
 
-readable_kind : (k : Kind) → is_readable k ≡ true → is_clock k ≡ false
+pub readable_kind : (k : Kind) → is_readable k ≡ true → is_clock k ≡ false
 readable_kind kind.Val h = refl
 readable_kind kind.Var h = refl
 readable_kind kind.Shared h = refl
 readable_kind kind.Clock h = absurd cc
 
-assigned_kind : (k : Kind) → is_assigned k ≡ true → is_clock k ≡ false
+pub assigned_kind : (k : Kind) → is_assigned k ≡ true → is_clock k ≡ false
 assigned_kind kind.Val h = refl
 assigned_kind kind.Var h = refl
 assigned_kind kind.Shared h = refl
@@ -103,10 +103,10 @@ both_numbers sc l r right w h = elim (has_either (number_words l) (number_words 
   | inr b ↦ expression_numbers sc r (λ u z. right u (has_right (numbers l) (numbers r) u z)) w b
 ]
 
-abbrev all_uses : Given → List Use
+abbrev pub all_uses : Given → List Use
 all_uses gs = flat_map (λ a. argument_uses a.0 a.1) gs
 
-abbrev all_words : Given → List Word
+abbrev pub all_words : Given → List Word
 all_words gs = flat_map (λ a. argument_words a.0 a.1) gs
 
 given_numbers : (sc : Scope) (gs : Given) → AreRight sc (all_uses gs) → AreNumbers sc (all_words gs)

@@ -23,7 +23,7 @@ is_false false h = refl
 is_false true h = absurd (h refl)
 
 -- no fault breaks the statement itself
-abbrev Unbroken : Signatures → Scope → Statement → Type 0
+abbrev pub Unbroken : Signatures → Scope → Statement → Type 0
 Unbroken ms sc t = (f : FrontFault) → Breaks ms sc t f → ⊥
 
 right_use : (ms : Signatures) (sc : Scope) (t : Statement) → Unbroken ms sc t → (u : Use) → Has (uses ms sc.names t) u → IsRight sc u
@@ -69,7 +69,7 @@ sound_alone ms sc t none = record {
 }
 
 -- nowhere in a statement
-abbrev Clean : Signatures → Scope → Statement → Type 0
+abbrev pub Clean : Signatures → Scope → Statement → Type 0
 Clean ms sc s = (w : Way) (t : Statement) → Stands s w t → Unbroken ms (scope_at sc s w) t
 
 abbrev CleanAmong : Signatures → Scope → Statements → Type 0
@@ -79,7 +79,7 @@ both_sound : (ms : Signatures) (sc : Scope) (s : Statement) → Clean ms sc s �
 both_sound ms sc s clean inner = (sound_alone ms sc s (clean Here s refl), inner clean)
 
 mutual
-  sound_inside : (ms : Signatures) (sc : Scope) (s : Statement) → Clean ms sc s → IsSoundInside ms sc s
+  pub sound_inside : (ms : Signatures) (sc : Scope) (s : Statement) → Clean ms sc s → IsSoundInside ms sc s
   sound_inside ms sc (Block ss) clean = sound_among ms sc ss (λ w t st. clean (Inside w) t st)
   sound_inside ms sc (If at l c r s) clean = both_sound ms sc s (λ w t st. clean (Inside w) t st) (λ k. sound_inside ms sc s k)
   sound_inside ms sc (IfElse at l c r s u) clean =

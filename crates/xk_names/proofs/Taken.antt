@@ -13,7 +13,7 @@ use Rattle.xk_names.specs.Captures.{argument_words, words_besides, words_used, o
 use Rattle.xk_names.specs.Collected.{put_text, put_texts}
 use Rattle.xk_names.proofs.Least.{put_texts_append}
 
-besides_append : (own : List (List ℕ)) (xs ys : List Word) → words_besides own (xs ++ ys) ≡ words_besides own xs ++ words_besides own ys
+pub besides_append : (own : List (List ℕ)) (xs ys : List Word) → words_besides own (xs ++ ys) ≡ words_besides own xs ++ words_besides own ys
 besides_append own [] ys = refl
 besides_append own (x ∷ xs) ys =
     let first : List Word = if has own x.text then [] else x ∷ [] in

@@ -6,3 +6,4 @@ pub mod Collected
 pub mod Given
 pub mod Scoped
 pub mod Captures
+pub mod Free

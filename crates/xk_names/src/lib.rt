@@ -5,6 +5,7 @@ mod arguments;
 mod check;
 mod exprs;
 mod known;
+pub mod laws;
 mod methods;
 mod outer;
 mod program;

@@ -2,15 +2,9 @@
 
 ghost use Rattle.std.specs.Prelude.{◌≡◌};
 ghost use Rattle.xk_names.specs.Faults.{fault};
-ghost use Rattle.xk_names.specs.Collected.{is_reported_before, least, lesser, when};
+ghost use Rattle.xk_names.specs.Collected.{least, lesser, when};
 
 use xk_tree::{FrontFault, FrontRule};
-
-fn is_reported_before(f: FrontFault, g: FrontFault) -> bool
-    ensures { result ≡ is_reported_before f g }
-{
-    f.at < g.at || f.at == g.at && f.rule.number() < g.rule.number()
-}
 
 // One fault more.
 pub fn note(worst: &mut Option<FrontFault>, rule: FrontRule, at: usize)
@@ -22,7 +16,7 @@ pub fn note(worst: &mut Option<FrontFault>, rule: FrontRule, at: usize)
             *worst = Some(found);
         }
         Some(least) => {
-            if is_reported_before(found, least) {
+            if at < least.at || at == least.at && rule.number() < least.rule.number() {
                 *worst = Some(found);
             }
         }

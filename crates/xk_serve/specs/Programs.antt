@@ -12,9 +12,8 @@ use Rattle.xk_tree.specs.declared.fault.FrontFault.{FrontFault}
 use Rattle.xk_tree.specs.declared.fault.FrontRule.TheVariants as rule
 use Rattle.xk_syntax.specs.Spelling.{SpellsTree}
 use Rattle.xk_syntax.specs.Texts.{IsTextRule}
-use Rattle.xk_names.specs.Scoped.{IsScoped}
 use Rattle.xk_source.specs.Compiled.{IsCompiled}
-use Rattle.xk_codegen.specs.Faults.{IsFaultOf}
+use Rattle.xk_codegen.specs.Faults.{IsFaultOf, IsClean, IsFalling}
 use Rattle.xk_words.specs.declared.job.Form.{Form}
 use Rattle.xk_words.specs.declared.job.Form.TheVariants as form
 
@@ -63,12 +62,13 @@ abbrev pub IsUnfit : List ℕ → FrontError → Type 0
 IsUnfit bytes (error.Fault f) = IsNoSource bytes f
 IsUnfit bytes error.OutOfMemory = ⊤
 
--- The bytes are compiled to the module: they are a source text of a tree without faults of names, and the module is its code, within the
--- limits.
+-- The bytes are compiled to the module: they are a source text of a tree without faults of names and without recursion, whether main comes to
+-- it or not, and the module is its code, within the limits.
 pub record IsCompiledTo (bytes : List ℕ) (m : ModuleValue) : Type 0 where
   pub tree : TreeValue
   pub spelled : IsSource bytes tree
-  pub scoped : IsScoped tree
+  pub clean : IsClean tree
+  pub falls : IsFalling tree
   pub code : IsCompiled tree m
   pub limits : IsWithinLimits m
 

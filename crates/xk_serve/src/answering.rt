@@ -26,7 +26,7 @@ use xk_replay::{chart, replay};
 use xk_types::{Module, Source};
 use xk_words::{Command, Drive, Job, Order, Workers};
 
-/// What the job on a file of these bytes comes to, or what stands against it: a fault of the text (F1 to F14, M1 to M3), of its module (V1 to
+/// What the job on a file of these bytes comes to, or what stands against it: a fault of the text (F1 to F15, M1 to M3), of its module (V1 to
 /// V17), of main's arguments where it is run (A1), or of the log where one is read, want of memory, or a read of the log that failed.
 pub(crate) fn answer<R: Threads + Wait + Sync, L: Source>(
     rt: &R,

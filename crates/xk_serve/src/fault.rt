@@ -21,7 +21,7 @@ pub enum Fault {
     #[error("{0}")]
     Text(ModuleFault),
     /// The source text in FILE has no module.
-    #[error("the text breaks rule F{number} {name} at {at}", number = .0.rule.number(), name = .0.rule.name(), at = .0.at)]
+    #[error("the text breaks rule F{number} {name} at {at}", number = .0.number(), name = .0.name(), at = .0.offset())]
     Front(FrontFault),
     /// The verifier refuses the module.
     #[error("{0}")]
@@ -272,9 +272,9 @@ fn line(alloc: Global, text: &str) -> Result<String, AllocError>
 fn front_text(alloc: Global, fault: FrontFault) -> Result<String, AllocError>
     ensures { IfOk result (λ text. string_bytes text ≡ front_text fault) }
 {
-    let number = fault.rule.number();
-    let name = fault.rule.name();
-    let at = fault.at;
+    let number = fault.number();
+    let name = fault.name();
+    let at = fault.offset();
     format!(in alloc; "F{number} {name} at {at}")
 }
 

@@ -2,7 +2,7 @@
 use Rattle.std.proofs.Common.{◌≡◌, ℕ, zero, suc, ◌+◌, ◌<◌, ◌≤◌, List, [], ◌∷◌, ◌++◌, map, Option, Some, None, refl, sym, ap, subst, ◌∙◌, arith}
 use Rattle.std.specs.List.{slice_index}
 use Rattle.std.specs.List.Sorted.{IsStrictlyIncreasing}
-use Rattle.std.proofs.lemmas.List.{append_assoc}
+use Rattle.std.proofs.lemmas.List.{append_assoc, append-nil}
 use Rattle.xk_types.specs.declared.unit.ParamKind.{ParamKind}
 use Rattle.xk_types.specs.declared.unit.ParamKind.TheVariants as kind
 use Rattle.xk_tokens.specs.declared.token.Sign.{Sign}
@@ -14,12 +14,15 @@ use Rattle.xk_tokens.specs.Tokens as lexemes
 use Rattle.xk_tokens.specs.Pieces.{offsets}
 use Rattle.xk_tokens.proofs.Texts.{spelled_lexed}
 use Rattle.xk_tokens.proofs.Offsets.{lexed_increasing}
+use Rattle.xk_tree.specs.declared.tree.Binding.TheVariants as binding
+use Rattle.xk_tree.specs.declared.tree.Written.{Written}
+use Rattle.xk_tree.specs.declared.tree.Written.TheVariants as written
 use Rattle.xk_tree.specs.declared.tree.Number as tree
-use Rattle.xk_tree.specs.Tree.{Expression, Literal, Named, Paren, Negation, Binary, Make, Value, UpTo, Least, Statement, Statements, Done, More, Block, Empty, Declare, Assign, Atomic, If, IfElse, For, Async, Finish, Call, Resume, Drop, AdvanceAll, Print, MethodValue, TreeValue}
+use Rattle.xk_tree.specs.Tree.{Word, Clocks, Expression, Literal, Named, Paren, Negation, Binary, Make, Value, UpTo, Least, Statement, Statements, Done, More, Block, Empty, Declare, Assign, Atomic, If, IfElse, For, Async, Finish, Call, Resume, Drop, AdvanceAll, Print, MethodValue, TreeValue}
 use Rattle.xk_tree.specs.Bodies.{asyncs, asyncs_in, asyncs_of_methods, HasBodiesApart}
-use Rattle.xk_exprs.specs.Marks.{Mark, Name, Number, Operator, Open, Symbol, Reserved, AsyncAt, ClockAt, LongAt, Unfit, keyword_mark, sign_mark}
+use Rattle.xk_exprs.specs.Marks.{Mark, Name, Number, Operator, Open, Symbol, Reserved, AsyncAt, ClockedAt, ClockAt, LongAt, Unfit, keyword_mark, sign_mark}
 use Rattle.xk_exprs.specs.Spelling.{spell, minus_marks, number_marks}
-use Rattle.xk_syntax.specs.Spelling.{word, number, expr, comparison_sign, type_mark, type_name, type_part, source, bound, row, behind_comma, commas, clock_part, stmt, stmts, param, method, shared, program, lexeme_mark, token_mark, SpellsTree}
+use Rattle.xk_syntax.specs.Spelling.{word, number, expr, comparison_sign, type_mark, type_name, type_part, source, bound, row, behind_comma, commas, clocked_start, start, stmt, stmts, param, method, shared, program, lexeme_mark, token_mark, SpellsTree}
 
 -- ---- the words `async` of a tree are those of its spelling
 
@@ -42,6 +45,7 @@ behind (Open at ∷ xs) ys h = behind xs ys h
 behind (Symbol s ∷ xs) ys h = behind xs ys h
 behind (Reserved w ∷ xs) ys h = behind xs ys h
 behind (AsyncAt at ∷ xs) ys h = absurd cc
+behind (ClockedAt at ∷ xs) ys h = behind xs ys h
 behind (ClockAt at ∷ xs) ys h = behind xs ys h
 behind (LongAt at ∷ xs) ys h = behind xs ys h
 behind (Unfit ∷ xs) ys h = behind xs ys h
@@ -98,9 +102,13 @@ commas_none : {T : Type 0} (f : T → List Mark → List Mark) → AddsNone f �
 commas_none f k [] after = refl
 commas_none f k (x ∷ xs) after = k x (row (behind_comma f) xs after) ∙ row_none (behind_comma f) k xs after
 
-clocks_none : AddsNone clock_part
-clocks_none None after = refl
-clocks_none (Some cs) after = commas_none word word_none cs.names (Symbol sign.RightParen ∷ after)
+clocks_marked : (at : ℕ) (w : Written) (ws : List Word) (after : List Mark) → marked (clocked_start at w ws after) ≡ at ∷ marked after
+clocks_marked at (written.Listed clocked paren) ws after = ap (λ (l : List ℕ). at ∷ l) (commas_none word word_none ws (Symbol sign.RightParen ∷ after))
+clocks_marked at (written.Ahead clocked) ws after = refl
+
+start_marked : (at : ℕ) (cs : Option Clocks) (after : List Mark) → marked (start at cs after) ≡ at ∷ marked after
+start_marked at None after = refl
+start_marked at (Some cs) after = clocks_marked at cs.written cs.names after
 
 mutual
   stmt_marked : (s : Statement) (after : List Mark) → marked (stmt s after) ≡ asyncs s ++ marked after
@@ -120,7 +128,9 @@ mutual
   stmt_marked (For at w lo b s) after =
       let body = Symbol sign.RightParen ∷ stmt s after in
       number_none lo (Symbol sign.DotDot ∷ bound b body) ∙ bound_none b body ∙ stmt_marked s after
-  stmt_marked (Async at cs s) after = ap (λ (l : List ℕ). at ∷ l) (clocks_none cs (stmt s after) ∙ stmt_marked s after)
+  stmt_marked (Async at cs s) after = start_marked at cs (stmt s after) ∙ ap (λ (l : List ℕ). at ∷ l) (stmt_marked s after)
+  stmt_marked (Finish (Block (More (Declare binding.Hidden h ty r) (More s (More (Drop g v) Done))))) after =
+      stmt_marked s after ∙ ap (λ (l : List ℕ). l ++ marked after) (sym (append-nil (asyncs s)))
   stmt_marked (Finish s) after = stmt_marked s after
   stmt_marked (Call w at es) after = commas_none expr expr_none es (Symbol sign.RightParen ∷ Symbol sign.Semicolon ∷ after)
   stmt_marked (Resume w v) after = refl

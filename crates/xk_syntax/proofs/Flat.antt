@@ -10,7 +10,7 @@ use Rattle.xk_tree.specs.declared.tree.Binding.TheVariants as binding
 use Rattle.xk_tree.specs.declared.tree.TypeName.{TypeName}
 use Rattle.xk_tree.specs.declared.tree.Verb.{Verb}
 use Rattle.xk_tree.specs.Tree.{Word, Expression, Literal, Named, Paren, Negation, Binary, Source, Make, Value, Statement, Empty, Declare, Assign, Atomic, Call, Resume, Drop, AdvanceAll, Print}
-use Rattle.xk_exprs.specs.Marks.{Mark, Name, Number, Operator, Open, Symbol, Reserved, AsyncAt, ClockAt, LongAt, Unfit}
+use Rattle.xk_exprs.specs.Marks.{Mark, Name, Number, Operator, Open, Symbol, Reserved, AsyncAt, ClockedAt, ClockAt, LongAt, Unfit}
 use Rattle.xk_exprs.specs.Spelling.{spell, minus_marks}
 use Rattle.xk_exprs.specs.Exprs.{whole_at}
 use Rattle.xk_exprs.proofs.Again.{expression_again, term_again}
@@ -37,6 +37,7 @@ begins-append (Open at ∷ xs) ys b = tt
 begins-append (Symbol s ∷ xs) ys b = absurd b
 begins-append (Reserved k ∷ xs) ys b = absurd b
 begins-append (AsyncAt at ∷ xs) ys b = absurd b
+begins-append (ClockedAt at ∷ xs) ys b = absurd b
 begins-append (ClockAt at ∷ xs) ys b = absurd b
 begins-append (LongAt at ∷ xs) ys b = absurd b
 begins-append (Unfit ∷ xs) ys b = absurd b
@@ -70,6 +71,7 @@ no_close (Open at ∷ ts) b = refl
 no_close (Symbol s ∷ ts) b = absurd b
 no_close (Reserved k ∷ ts) b = absurd b
 no_close (AsyncAt at ∷ ts) b = absurd b
+no_close (ClockedAt at ∷ ts) b = absurd b
 no_close (ClockAt at ∷ ts) b = absurd b
 no_close (LongAt at ∷ ts) b = absurd b
 no_close (Unfit ∷ ts) b = absurd b
@@ -171,19 +173,20 @@ HoldsNone (AdvanceAll at v) = Unit {0}
 HoldsNone (Print at v e) = Unit {0}
 HoldsNone _ = ⊥
 
-pub flat_again : (d : ℕ) (s : Statement) (after : List Mark) → HoldsNone s → Fits (suc d) s → flat_at d (stmt s after) ≡ Some (s, after)
+pub flat_again : (d : ℕ) (o : List ℕ) (s : Statement) (after : List Mark) → HoldsNone s → Fits (suc d) o s → flat_at d (stmt s after) ≡ Some (s, after)
 unfolding flat_at bind
-flat_again d Empty after f h = refl
-flat_again d (Declare binding.Val w ty r) after f h = declare_again d binding.Val w ty r after h
-flat_again d (Declare binding.Var w ty r) after f h = declare_again d binding.Var w ty r after h
-flat_again d (Assign w e) after f h = assign_again d w e after h
-flat_again d (Atomic w v at e) after f h = atomic_again d w v at e after h
-flat_again d (Call w at es) after f h = call_again d w at es after h
-flat_again d (Resume w v) after f h = resume_again d w v after
-flat_again d (Drop w v) after f h = drop_again d w v after
-flat_again d (AdvanceAll at v) after f h = advance_again at v after
-flat_again d (Print at v e) after f h = print_again d at v e after h
-flat_again d _ after f h = absurd f
+flat_again d o Empty after f h = refl
+flat_again d o (Declare binding.Val w ty r) after f h = declare_again d binding.Val w ty r after h
+flat_again d o (Declare binding.Var w ty r) after f h = declare_again d binding.Var w ty r after h
+flat_again d o (Declare binding.Hidden w ty r) after f h = absurd h
+flat_again d o (Assign w e) after f h = assign_again d w e after h
+flat_again d o (Atomic w v at e) after f h = atomic_again d w v at e after h
+flat_again d o (Call w at es) after f h = call_again d w at es after h
+flat_again d o (Resume w v) after f h = resume_again d w v after
+flat_again d o (Drop w v) after f h = drop_again d w v after
+flat_again d o (AdvanceAll at v) after f h = advance_again at v after
+flat_again d o (Print at v e) after f h = print_again d at v e after h
+flat_again d o _ after f h = absurd f
 
 -- ---- parameters
 

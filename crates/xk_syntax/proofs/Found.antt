@@ -15,11 +15,11 @@ use Rattle.xk_tree.specs.declared.tree.TypeName.{TypeName}
 use Rattle.xk_tree.specs.declared.tree.Verb.{Verb}
 use Rattle.xk_tree.specs.declared.tree.Binding.{Binding}
 use Rattle.xk_tree.specs.Tree.{Word, Expression, Source, Statement, ParamValue}
-use Rattle.xk_exprs.specs.Marks.{Mark, Name, Operator, Open, Symbol, Reserved, AsyncAt, ClockAt, LongAt, sign_mark, keyword_mark}
+use Rattle.xk_exprs.specs.Marks.{Mark, Name, Operator, Open, Symbol, Reserved, AsyncAt, ClockedAt, ClockAt, LongAt, sign_mark, keyword_mark}
 use Rattle.xk_exprs.specs.Spelling.{Spells, SpellsTerm}
 use Rattle.xk_exprs.specs.Exprs.{whole_at, whole_term_at}
 use Rattle.xk_exprs.proofs.Takes.{expression_found, term_found}
-use Rattle.xk_syntax.specs.Spelling.{word, expr, comparison_sign, binding_word, type_name, type_part, verb, source, stmt, param, IsExpr, IsTerm, SourceFits, Fits, dangles}
+use Rattle.xk_syntax.specs.Spelling.{word, expr, comparison_sign, binding_word, type_name, type_part, verb, source, stmt, param, IsExpr, IsTerm, SourceFits, DeclareFits, Fits, dangles}
 use Rattle.xk_syntax.specs.Readers.{bind, sign_at, keyword_at, open_at, plus_at, clock_at, word_at, this_word_at, comparison_at, type_at, verb_at, bare_verb_at, act_at, type_part_or, type_part_at, source_or, source_at, ended, declare_at, atomic_at, advance_at, print_head_at, print_at, dotted_or, dotted_at, assign_at, param_at}
 use Rattle.xk_syntax.proofs.Lengths.{type_longer}
 use Rattle.xk_syntax.proofs.Turns.{bind_some, some_is, guard_some, Takes}
@@ -75,6 +75,10 @@ keyword_is k plain (Reserved l ∷ ts) us e =
 keyword_is k plain (AsyncAt at ∷ ts) us e =
     let g = guard_some (sameb keywords.the_type keyword.Async k) ts us e in
     let q = other_word k keyword.Async (AsyncAt 0) refl plain g.0 in
+    absurd cc
+keyword_is k plain (ClockedAt at ∷ ts) us e =
+    let g = guard_some (sameb keywords.the_type keyword.Clocked k) ts us e in
+    let q = other_word k keyword.Clocked (ClockedAt 0) refl plain g.0 in
     absurd cc
 keyword_is k plain (ClockAt at ∷ ts) us e =
     let g = guard_some (sameb keywords.the_type keyword.Clock k) ts us e in
@@ -228,7 +232,7 @@ source_found d ts x e = by (clock_at ts) refl e
 -- a statement that holds none, behind the tokens in front of it
 pub record IsFlat (d : ℕ) (all : List Mark) (x : Statement × List Mark) : Type 0 where
   pub spelled : all ≡ stmt x.0 x.1
-  pub fits : Fits (suc d) x.0
+  pub fits : (hidden : List ℕ) → Fits (suc d) hidden x.0
   pub closed : dangles x.0 ≡ false
 
 -- with its `;`
@@ -238,9 +242,10 @@ flat_ended d all ts s x e f =
     let a = bind_some _ _ _ e in
     subst (IsFlat d all) (some_is _ x a.2) (f a.0 (sign_is sign.Semicolon refl ts a.0 a.1))
 
-pub declare_found : (d : ℕ) (b : Binding) (ts : List Mark) (x : Statement × List Mark) → declare_at d b ts ≡ Some x → IsFlat d (Reserved (binding_word b) ∷ ts) x
+pub declare_found : (d : ℕ) (b : Binding) → ((r : Source) → SourceFits d r → DeclareFits d b r) → (ts : List Mark) (x : Statement × List Mark) → declare_at d b ts ≡ Some x
+    → IsFlat d (Reserved (binding_word b) ∷ ts) x
 unfolding declare_at
-declare_found d b ts x e =
+declare_found d b fit ts x e =
     let w = bind_some _ _ _ e in
     let ty = bind_some _ _ _ w.2 in
     let us = bind_some _ _ _ ty.2 in
@@ -249,7 +254,7 @@ declare_found d b ts x e =
     let q = type_part_found w.0.1 ty.0 ty.1 in
     let s = sign_is sign.Assign refl ty.0.1 us.0 us.1 in
     let f = source_found d us.0 r.0 r.1 in
-    flat_ended d _ r.0.1 _ x r.2 (λ vs h. record { spelled = cc; fits = f.1; closed = refl })
+    flat_ended d _ r.0.1 _ x r.2 (λ vs h. record { spelled = cc; fits = λ o. fit r.0.0 f.1; closed = refl })
 
 pub atomic_found : (d : ℕ) (ts : List Mark) (x : Statement × List Mark) → atomic_at d ts ≡ Some x → IsFlat d (Reserved keyword.Atomic ∷ ts) x
 unfolding atomic_at
@@ -264,14 +269,14 @@ atomic_found d ts x e =
     let r = word_is us.0 v.0 v.1 in
     let s = plus_is v.0.1 at.0 at.1 in
     let f = term_is d at.0.1 t.0 t.1 in
-    flat_ended d _ t.0.1 _ x t.2 (λ vs h. record { spelled = cc; fits = f.1; closed = refl })
+    flat_ended d _ t.0.1 _ x t.2 (λ vs h. record { spelled = cc; fits = λ o. f.1; closed = refl })
 
 pub advance_found : (d at : ℕ) (ts : List Mark) (x : Statement × List Mark) → advance_at at ts ≡ Some x → IsFlat d (ClockAt at ∷ ts) x
 unfolding advance_at
 advance_found d at ts x e =
     let v = bind_some _ _ _ e in
     let p = act_found (codes "advanceAll") ts v.0 v.1 in
-    flat_ended d _ v.0.1 _ x v.2 (λ us h. record { spelled = cc; fits = tt; closed = refl })
+    flat_ended d _ v.0.1 _ x v.2 (λ us h. record { spelled = cc; fits = λ o. tt; closed = refl })
 
 print_head_found : (ts : List Mark) (x : (ℕ × Verb) × List Mark) → print_head_at ts ≡ Some x
     → ts ≡ Symbol sign.Dot ∷ Name x.0.0 (codes "OUT") ∷ Symbol sign.Dot ∷ verb (codes "println") x.0.1 x.1
@@ -296,7 +301,7 @@ print_found d ts x e =
     let p = print_head_found ts h.0 h.1 in
     let f = expr_is d h.0.1 t.0 t.1 in
     let q = sign_is sign.RightParen refl t.0.1 us.0 us.1 in
-    flat_ended d _ us.0 _ x us.2 (λ vs h. record { spelled = cc; fits = f.1; closed = refl })
+    flat_ended d _ us.0 _ x us.2 (λ vs h. record { spelled = cc; fits = λ o. f.1; closed = refl })
 
 pub dotted_found : (d : ℕ) (w : Word) (ts : List Mark) (x : Statement × List Mark) → dotted_at w ts ≡ Some x → IsFlat d (word w (Symbol sign.Dot ∷ ts)) x
 unfolding dotted_at
@@ -306,11 +311,11 @@ dotted_found d w ts x e = by (this_word_at (codes "resume") ts) e
     by (Some n) e =
         let v = bind_some _ _ _ e in
         let p = bare_verb_found (codes "resume") ts v.0 v.1 in
-        flat_ended d _ v.0.1 _ x v.2 (λ us h. record { spelled = cc; fits = tt; closed = refl })
+        flat_ended d _ v.0.1 _ x v.2 (λ us h. record { spelled = cc; fits = λ o. tt; closed = refl })
     by None e =
         let v = bind_some _ _ _ e in
         let p = bare_verb_found (codes "drop") ts v.0 v.1 in
-        flat_ended d _ v.0.1 _ x v.2 (λ us h. record { spelled = cc; fits = tt; closed = refl })
+        flat_ended d _ v.0.1 _ x v.2 (λ us h. record { spelled = cc; fits = λ o. tt; closed = refl })
 
 pub assign_found : (d : ℕ) (w : Word) (ts : List Mark) (x : Statement × List Mark) → assign_at d w ts ≡ Some x → IsFlat d (word w ts) x
 unfolding assign_at
@@ -319,4 +324,4 @@ assign_found d w ts x e =
     let t = bind_some _ _ _ us.2 in
     let p = sign_is sign.Assign refl ts us.0 us.1 in
     let f = expr_is d us.0 t.0 t.1 in
-    flat_ended d _ t.0.1 _ x t.2 (λ vs h. record { spelled = cc; fits = f.1; closed = refl })
+    flat_ended d _ t.0.1 _ x t.2 (λ vs h. record { spelled = cc; fits = λ o. f.1; closed = refl })

@@ -1,11 +1,14 @@
 -- Whatever is spelled has tokens.
-use Rattle.std.proofs.Common.{◌<◌, ◌≤◌, List, [], ◌∷◌, length, Some, None, arith, length-append}
+use Rattle.std.proofs.Common.{ℕ, ◌<◌, ◌≤◌, List, [], ◌∷◌, length, Option, Some, None, arith, length-append}
 use Rattle.xk_tokens.specs.declared.token.Sign.TheVariants as sign
 use Rattle.xk_tokens.specs.declared.token.Keyword.TheVariants as keyword
-use Rattle.xk_tree.specs.Tree.{Make, Value, UpTo, Least, Statement, Statements, Done, More, Block, Empty, Declare, Assign, Atomic, If, IfElse, For, Async, Finish, Call, Resume, Drop, AdvanceAll, Print}
+use Rattle.xk_tree.specs.declared.tree.Binding.TheVariants as binding
+use Rattle.xk_tree.specs.declared.tree.Written.{Written}
+use Rattle.xk_tree.specs.declared.tree.Written.TheVariants as written
+use Rattle.xk_tree.specs.Tree.{Word, Clocks, Make, Value, UpTo, Least, Statement, Statements, Done, More, Block, Empty, Declare, Assign, Atomic, If, IfElse, For, Async, Finish, Call, Resume, Drop, AdvanceAll, Print}
 use Rattle.xk_exprs.specs.Marks.{Mark, Symbol, Reserved}
 use Rattle.xk_exprs.specs.Spelling.{spell, number_marks}
-use Rattle.xk_syntax.specs.Spelling.{word, number, expr, comparison_sign, type_name, type_part, source, bound, row, behind_comma, commas, clock_part, stmt, stmts}
+use Rattle.xk_syntax.specs.Spelling.{word, number, expr, comparison_sign, type_name, type_part, source, bound, row, behind_comma, commas, clocked_start, start, stmt, stmts}
 
 abbrev pub Longer : {T : Type 0} → (T → List Mark → List Mark) → Type 0
 Longer {T = T} f = (x : T) (after : List Mark) → length after ≤ length (f x after)
@@ -44,9 +47,13 @@ pub commas_longer : {T : Type 0} (f : T → List Mark → List Mark) → Longer 
 commas_longer f l [] after = omega arith
 commas_longer f l (x ∷ xs) after = omega (arith, l x (row (behind_comma f) xs after), row_longer (behind_comma f) (λ y us. omega (arith, l y us)) xs after)
 
-clocks_longer : Longer clock_part
-clocks_longer None after = omega arith
-clocks_longer (Some cs) after = omega (arith, commas_longer word word_longer cs.names (Symbol sign.RightParen ∷ after))
+clocks_longer : (at : ℕ) (w : Written) (ws : List Word) (after : List Mark) → length after < length (clocked_start at w ws after)
+clocks_longer at (written.Listed clocked paren) ws after = omega (arith, commas_longer word word_longer ws (Symbol sign.RightParen ∷ after))
+clocks_longer at (written.Ahead clocked) ws after = omega arith
+
+start_longer : (at : ℕ) (cs : Option Clocks) (after : List Mark) → length after < length (start at cs after)
+start_longer at None after = omega arith
+start_longer at (Some cs) after = clocks_longer at cs.written cs.names after
 
 mutual
   pub stmt_longer : (s : Statement) (after : List Mark) → length after < length (stmt s after)
@@ -77,7 +84,8 @@ mutual
   stmt_longer (For at w lo b s) after =
       let body = Symbol sign.RightParen ∷ stmt s after in
       omega (arith, number_longer lo (Symbol sign.DotDot ∷ bound b body), bound_longer b body, stmt_longer s after)
-  stmt_longer (Async at cs s) after = omega (arith, clocks_longer cs (stmt s after), stmt_longer s after)
+  stmt_longer (Async at cs s) after = omega (arith, start_longer at cs (stmt s after), stmt_longer s after)
+  stmt_longer (Finish (Block (More (Declare binding.Hidden h ty r) (More s (More (Drop g v) Done))))) after = omega (arith, stmt_longer s after)
   stmt_longer (Finish s) after = omega (arith, stmt_longer s after)
   stmt_longer (Call w at es) after = omega (arith, commas_longer expr expr_longer es (Symbol sign.RightParen ∷ Symbol sign.Semicolon ∷ after))
   stmt_longer (Resume w v) after = omega arith

@@ -75,7 +75,7 @@ method_found ts us x h e =
     let r = open_is w.0.1 at.0 at.1 in
     let f = listed_found param_at param (λ m. Unit {0}) (λ ts x e. (param_found ts x e, tt)) at.0.1 ps.0 ps.1 in
     let s = sign_is sign.LeftBrace refl ps.0.1 vs.0 vs.1 in
-    let g = stmts_found 64 (stmt_at 64) (stmt_found 64) vs.0 ss.0 ss.1 in
+    let g = stmts_found 64 [] (stmt_at 64 []) (stmt_found 64 []) vs.0 ss.0 ss.1 in
     let first : ts ≡ Reserved keyword.Def ∷ word w.0.0 (Open at.0.0 ∷ at.0.1) = cc in
     let body : ps.0.1 ≡ Symbol sign.LeftBrace ∷ stmts (listed ss.0.0) (Symbol sign.RightBrace ∷ ss.0.1) = s ∙ ap (λ (z : List Mark). Symbol sign.LeftBrace ∷ z) g.0 in
     let rest : at.0.1 ≡ commas param ps.0.0 (Symbol sign.RightParen ∷ Symbol sign.LeftBrace ∷ stmts (listed ss.0.0) (Symbol sign.RightBrace ∷ ss.0.1)) = f.0
@@ -104,7 +104,7 @@ unfolding method_at word_at open_at sign_at bind
 method_again m after h =
     let body = stmts m.body (Symbol sign.RightBrace ∷ after) in
     let ps = listed_again param_at param (λ p. Unit {0}) param_takes param_again param_not_closing m.params (Symbol sign.LeftBrace ∷ body) (each_param m.params) in
-    let ss = stmts_again 64 (stmt_at 64) (stmt_again 64) (stmt_shortens 64) m.body after h in
+    let ss = stmts_again 64 [] (stmt_at 64 []) (stmt_again 64 []) (stmt_shortens 64 []) m.body after h in
     rw (ps, ss) (ap (λ (z : Statements). Some (record { name = m.name; paren = m.paren; params = m.params; body = z }, after)) (listed_unlisted m.body))
 
 each_method : (ms : List MethodValue) (after : List Mark) → AllByRecursion MethodFits ms → EachAgain (keyword_at keyword.Def) method_at method ms after

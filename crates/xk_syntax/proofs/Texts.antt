@@ -13,15 +13,18 @@ use Rattle.xk_tokens.specs.Tokens as lexemes
 use Rattle.xk_tokens.specs.Pieces.{has_stray}
 use Rattle.xk_tokens.specs.Lexing.{lexed}
 use Rattle.xk_tokens.proofs.Texts.{spelled_lexed, spelled_from_none}
+use Rattle.xk_tree.specs.declared.tree.Binding.TheVariants as binding
+use Rattle.xk_tree.specs.declared.tree.Written.{Written}
+use Rattle.xk_tree.specs.declared.tree.Written.TheVariants as written
 use Rattle.xk_tree.specs.declared.tree.Number as tree
-use Rattle.xk_tree.specs.Tree.{Expression, Literal, Named, Paren, Negation, Binary, Make, Value, UpTo, Least, Statement, Statements, Done, More, Block, Empty, Declare, Assign, Atomic, If, IfElse, For, Async, Finish, Call, Resume, Drop, AdvanceAll, Print, TreeValue}
-use Rattle.xk_exprs.specs.Marks.{Mark, Name, Number, Operator, Open, Symbol, Reserved, AsyncAt, ClockAt, LongAt, Unfit, kind_mark, marks}
+use Rattle.xk_tree.specs.Tree.{Word, Clocks, Expression, Literal, Named, Paren, Negation, Binary, Make, Value, UpTo, Least, Statement, Statements, Done, More, Block, Empty, Declare, Assign, Atomic, If, IfElse, For, Async, Finish, Call, Resume, Drop, AdvanceAll, Print, TreeValue}
+use Rattle.xk_exprs.specs.Marks.{Mark, Name, Number, Operator, Open, Symbol, Reserved, AsyncAt, ClockedAt, ClockAt, LongAt, Unfit, kind_mark, marks}
 use Rattle.xk_exprs.specs.declared.fault.SyntaxError.{SyntaxError}
 use Rattle.xk_exprs.specs.declared.fault.SyntaxError.TheVariants as error
 use Rattle.xk_exprs.specs.Faults.{front_error}
 use Rattle.xk_exprs.specs.Readers.{Refuses}
 use Rattle.xk_exprs.specs.Spelling.{spell, minus_marks, number_marks}
-use Rattle.xk_syntax.specs.Spelling.{word, number, expr, comparison_sign, type_mark, type_name, type_part, source, bound, row, behind_comma, commas, clock_part, stmt, stmts, param, method, shared, program, lexeme_mark, token_mark, SpellsTree}
+use Rattle.xk_syntax.specs.Spelling.{word, number, expr, comparison_sign, type_mark, type_name, type_part, source, bound, row, behind_comma, commas, clocked_start, start, stmt, stmts, param, method, shared, program, lexeme_mark, token_mark, SpellsTree}
 use Rattle.xk_syntax.specs.Texts.{IsRefused}
 use Rattle.xk_syntax.specs.Readers.{program_at}
 use Rattle.xk_syntax.proofs.Programs.{program_found, program_again}
@@ -47,6 +50,7 @@ clean-append (Open at ∷ xs) ys h k = clean-append xs ys h k
 clean-append (Symbol s ∷ xs) ys h k = clean-append xs ys h k
 clean-append (Reserved w ∷ xs) ys h k = clean-append xs ys h k
 clean-append (AsyncAt at ∷ xs) ys h k = clean-append xs ys h k
+clean-append (ClockedAt at ∷ xs) ys h k = clean-append xs ys h k
 clean-append (ClockAt at ∷ xs) ys h k = clean-append xs ys h k
 clean-append (LongAt at ∷ xs) ys h k = clean-append xs ys h k
 clean-append (Unfit ∷ xs) ys h k = absurd h
@@ -103,9 +107,13 @@ commas_clean : {T : Type 0} (f : T → List Mark → List Mark) → KeepsClean f
 commas_clean f k [] after h = h
 commas_clean f k (x ∷ xs) after h = k x (row (behind_comma f) xs after) (row_clean (behind_comma f) k xs after h)
 
-clocks_clean : KeepsClean clock_part
-clocks_clean None after h = h
-clocks_clean (Some cs) after h = commas_clean word word_clean cs.names (Symbol sign.RightParen ∷ after) h
+clocks_clean : (at : ℕ) (w : Written) (ws : List Word) (after : List Mark) → Clean after → Clean (clocked_start at w ws after)
+clocks_clean at (written.Listed clocked paren) ws after h = commas_clean word word_clean ws (Symbol sign.RightParen ∷ after) h
+clocks_clean at (written.Ahead clocked) ws after h = h
+
+start_clean : (at : ℕ) (cs : Option Clocks) (after : List Mark) → Clean after → Clean (start at cs after)
+start_clean at None after h = h
+start_clean at (Some cs) after h = clocks_clean at cs.written cs.names after h
 
 mutual
   stmt_clean : (s : Statement) (after : List Mark) → Clean after → Clean (stmt s after)
@@ -124,7 +132,8 @@ mutual
   stmt_clean (For at w lo b s) after h =
       let body = Symbol sign.RightParen ∷ stmt s after in
       number_clean lo (Symbol sign.DotDot ∷ bound b body) (bound_clean b body (stmt_clean s after h))
-  stmt_clean (Async at cs s) after h = clocks_clean cs (stmt s after) (stmt_clean s after h)
+  stmt_clean (Async at cs s) after h = start_clean at cs (stmt s after) (stmt_clean s after h)
+  stmt_clean (Finish (Block (More (Declare binding.Hidden b ty r) (More s (More (Drop g v) Done))))) after h = stmt_clean s after h
   stmt_clean (Finish s) after h = stmt_clean s after h
   stmt_clean (Call w at es) after h = commas_clean expr expr_clean es (Symbol sign.RightParen ∷ Symbol sign.Semicolon ∷ after) h
   stmt_clean (Resume w v) after h = h

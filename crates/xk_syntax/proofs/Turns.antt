@@ -1,6 +1,5 @@
 -- What loops over lists have read so far.
 use Rattle.std.proofs.Common.{◌≡◌, ℕ, suc, ◌<◌, ◌≤◌, List, [], ◌∷◌, ◌++◌, length, Option, Some, None, Bool, cond, true, false, refl, sym, ap, ◌∙◌, arith, length-append}
-use Rattle.std.proofs.lemmas.List.{length-map}
 use Rattle.xk_tokens.specs.declared.token.Token.{Token}
 use Rattle.xk_tokens.specs.declared.token.Sign.{Sign}
 use Rattle.xk_tokens.specs.declared.token.Sign.TheVariants as sign
@@ -9,6 +8,7 @@ use denote.Enum.Bare.{sameb}
 use Rattle.xk_exprs.specs.declared.fault.SyntaxError.{SyntaxError}
 use Rattle.xk_exprs.specs.declared.fault.SyntaxError.TheVariants as error
 use Rattle.xk_tree.specs.Tree.{Word}
+use Rattle.std.proofs.lemmas.List.{length-map}
 use Rattle.xk_exprs.specs.Marks.{Mark, mark, marks, Name}
 use Rattle.xk_exprs.specs.Readers.{Goes, Refuses, loop}
 use Rattle.xk_exprs.specs.Exprs.{whole_at}

@@ -12,13 +12,13 @@ Settles s rest = dangles s ≡ true → keyword_at keyword.Else rest ≡ None
 
 -- a statement that is read is spelled by the tokens taken
 abbrev pub StatementFound : Type 0
-StatementFound = (left : ℕ) (ts : List Mark) (s : Statement) (rest : List Mark)
-    → stmt_at left ts ≡ Some (s, rest) → (ts ≡ stmt s rest) × Fits left s × Settles s rest
+StatementFound = (left : ℕ) (hidden : List ℕ) (ts : List Mark) (s : Statement) (rest : List Mark)
+    → stmt_at left hidden ts ≡ Some (s, rest) → (ts ≡ stmt s rest) × Fits left hidden s × Settles s rest
 
 -- a statement is read from its spelling, where no `else` follows that it would take
 abbrev pub StatementAgain : Type 0
-StatementAgain = (left : ℕ) (s : Statement) (rest : List Mark)
-    → Fits left s → Settles s rest → stmt_at left (stmt s rest) ≡ Some (s, rest)
+StatementAgain = (left : ℕ) (hidden : List ℕ) (s : Statement) (rest : List Mark)
+    → Fits left hidden s → Settles s rest → stmt_at left hidden (stmt s rest) ≡ Some (s, rest)
 
 -- a program that is read is spelled by the tokens
 abbrev pub ProgramFound : Type 0

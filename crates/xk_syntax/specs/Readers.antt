@@ -19,11 +19,12 @@ use Rattle.xk_tree.specs.declared.tree.Binding.TheVariants as binding
 use Rattle.xk_tree.specs.declared.tree.TypeName.{TypeName}
 use Rattle.xk_tree.specs.declared.tree.Number as tree
 use Rattle.xk_tree.specs.declared.tree.Verb.{Verb}
+use Rattle.xk_tree.specs.declared.tree.Written.TheVariants as written
 use Rattle.xk_tree.specs.Tree.{Word, Expression, Source, Make, Value, Bound, UpTo, Least, Clocks, Statement, listed, Block, Empty, Declare, Assign, Atomic, If, IfElse, For, Async, Finish, Call, Resume, Drop, AdvanceAll, Print, ParamValue, MethodValue, SharedValue, TreeValue}
-use Rattle.xk_exprs.specs.Marks.{Mark, Name, Operator, Open, Symbol, Reserved, AsyncAt, ClockAt, LongAt}
+use Rattle.xk_exprs.specs.Marks.{Mark, Name, Operator, Open, Symbol, Reserved, AsyncAt, ClockedAt, ClockAt, LongAt}
 use Rattle.xk_exprs.specs.Readers.{Turn, Fails, Stops, Goes, loop, head_at}
 use Rattle.xk_exprs.specs.Exprs.{number_at, whole_at, whole_term_at}
-use Rattle.xk_syntax.specs.Spelling.{hidden_text}
+use Rattle.xk_syntax.specs.Spelling.{hidden_text, hidden_clock, clocked_finish, in_force, inside}
 
 -- first the one, then the other with what the one gave
 unfoldable pub bind : {A B : Type 0} → Option A → (A → Option B) → Option B
@@ -52,6 +53,7 @@ sign_of _ = None
 abbrev pub keyword_of : Mark → Option Keyword
 keyword_of (Reserved k) = Some k
 keyword_of (AsyncAt at) = Some keyword.Async
+keyword_of (ClockedAt at) = Some keyword.Clocked
 keyword_of (ClockAt at) = Some keyword.Clock
 keyword_of (LongAt at) = Some keyword.Long
 keyword_of _ = None
@@ -332,6 +334,7 @@ pub data Head : Type 0 where
   Range : ℕ → Word → tree.Number → Bound → Head
   Start : ℕ → Option Clocks → Head
   Wait : Head
+  Hide : ℕ → Head
 
 abbrev pub ReadHead : Type 0
 ReadHead = Option (Head × List Mark)
@@ -382,36 +385,58 @@ range_at d ts = do
   zs ← sign_at sign.RightParen b.1
   Some (Range at.0 w.0 lo.0 b.0, zs)
 
-abbrev pub clocks_or : List Mark → Option (List Mark) → Option (Option Clocks × List Mark)
+abbrev pub list_open_by : Mark → List Mark → Option ((ℕ × ℕ) × List Mark)
+list_open_by (ClockedAt at) ts = do
+  paren ← open_at ts
+  Some ((at, paren.0), paren.1)
+list_open_by _ ts = None
+
+-- `clocked (`, and the offsets of both
+unfoldable pub list_open_at : List Mark → Option ((ℕ × ℕ) × List Mark)
+list_open_at [] = None
+list_open_at (m ∷ ts) = list_open_by m ts
+
+abbrev pub clocks_or : List Mark → Option ((ℕ × ℕ) × List Mark) → Option (Option Clocks × List Mark)
 clocks_or ts None = Some (None, ts)
-clocks_or ts (Some us) = do
-  at ← open_at us
+clocks_or ts (Some at) = do
   ws ← commas_at word_at at.1
-  vs ← sign_at sign.RightParen ws.1
-  Some (Some (record { paren = at.0; names = ws.0 }), vs)
+  us ← sign_at sign.RightParen ws.1
+  Some (Some (record { written = written.Listed at.0.0 at.0.1; names = ws.0 }), us)
 
 -- a `clocked` list, if there is one
 unfoldable pub clocks_at : List Mark → Option (Option Clocks × List Mark)
-clocks_at ts = clocks_or ts (keyword_at keyword.Clocked ts)
+clocks_at ts = clocks_or ts (list_open_at ts)
 
 unfoldable pub start_at : ℕ → List Mark → ReadHead
 start_at at ts = do
   cs ← clocks_at ts
   Some (Start at cs.0, cs.1)
 
-abbrev pub head_by : ℕ → List Mark → Mark → List Mark → ReadHead
-head_by d all (Symbol sign.LeftBrace) ts = Some (Brace, ts)
-head_by d all (Reserved keyword.If) ts = condition_at d ts
-head_by d all (Reserved keyword.For) ts = range_at d ts
-head_by d all (AsyncAt at) ts = start_at at ts
-head_by d all (Reserved keyword.Finish) ts = Some (Wait, ts)
-head_by d all _ ts = whole (flat_at d all)
+abbrev pub hiding_by : List ℕ → ℕ → Mark → List Mark → ReadHead
+hiding_by hidden at (Reserved keyword.Finish) ts = Some (Hide at, ts)
+hiding_by hidden at (AsyncAt start) ts = Some (Start start (Some (record { written = written.Ahead at; names = in_force at hidden ∷ [] })), ts)
+hiding_by hidden at _ ts = None
 
--- what a statement begins with, where so many levels are left behind it
-unfoldable pub stmt_head_at : ℕ → List Mark → ReadHead
-stmt_head_at d ts = do
+-- behind a `clocked` that begins a statement and stands at this offset, where this is the hidden clock of the place
+unfoldable pub hiding_at : List ℕ → ℕ → List Mark → ReadHead
+hiding_at hidden at ts = do
   x ← head_at ts
-  head_by d ts x.0 x.1
+  hiding_by hidden at x.0 x.1
+
+abbrev pub head_by : ℕ → List ℕ → List Mark → Mark → List Mark → ReadHead
+head_by d hidden all (Symbol sign.LeftBrace) ts = Some (Brace, ts)
+head_by d hidden all (Reserved keyword.If) ts = condition_at d ts
+head_by d hidden all (Reserved keyword.For) ts = range_at d ts
+head_by d hidden all (AsyncAt at) ts = start_at at ts
+head_by d hidden all (Reserved keyword.Finish) ts = Some (Wait, ts)
+head_by d hidden all (ClockedAt at) ts = hiding_at hidden at ts
+head_by d hidden all _ ts = whole (flat_at d all)
+
+-- what a statement begins with, where so many levels are left behind it, and this is the hidden clock of the place
+unfoldable pub stmt_head_at : ℕ → List ℕ → List Mark → ReadHead
+stmt_head_at d hidden ts = do
+  x ← head_at ts
+  head_by d hidden ts x.0 x.1
 
 -- ---- statements
 
@@ -440,31 +465,35 @@ else_or inner at l c r s ts (Some us) = do
 unfoldable pub else_at : (List Mark → Read) → ℕ → Expression → Comparison → Expression → Statement → List Mark → Read
 else_at inner at l c r s ts = else_or inner at l c r s ts (keyword_at keyword.Else ts)
 
--- the rest of a statement that begins so
-unfoldable pub rest_at : (List Mark → Read) → Head → List Mark → Read
-rest_at inner (Whole s) ts = Some (s, ts)
-rest_at inner Brace ts = do
-  ss ← stmts_at inner ts
+-- The rest of a statement that begins so, where so many levels are left behind it, and this is the hidden clock of the place. Statements within are
+-- read by the hidden clock that they have.
+unfoldable pub rest_at : ℕ → (List ℕ → List Mark → Read) → List ℕ → Head → List Mark → Read
+rest_at d inner hidden (Whole s) ts = Some (s, ts)
+rest_at d inner hidden Brace ts = do
+  ss ← stmts_at (inner hidden) ts
   Some (Block (listed ss.0), ss.1)
-rest_at inner (Condition at l c r) ts = do
-  s ← inner ts
-  else_at inner at l c r s.0 s.1
-rest_at inner (Range at w lo b) ts = do
-  s ← inner ts
+rest_at d inner hidden (Condition at l c r) ts = do
+  s ← inner hidden ts
+  else_at (inner hidden) at l c r s.0 s.1
+rest_at d inner hidden (Range at w lo b) ts = do
+  s ← inner hidden ts
   Some (For at w lo b s.0, s.1)
-rest_at inner (Start at cs) ts = do
-  s ← inner ts
+rest_at d inner hidden (Start at cs) ts = do
+  s ← inner (inside cs hidden) ts
   Some (Async at cs s.0, s.1)
-rest_at inner Wait ts = do
-  s ← inner ts
+rest_at d inner hidden Wait ts = do
+  s ← inner [] ts
   Some (Finish s.0, s.1)
+rest_at d inner hidden (Hide at) ts = do
+  s ← inner (hidden_text (suc d)) ts
+  Some (clocked_finish (hidden_clock (suc d) at) s.0, s.1)
 
--- a statement, where so many levels are left, itself among them
-unfoldable pub stmt_at : ℕ → List Mark → Read
-stmt_at zero ts = None
-stmt_at (suc d) ts = do
-  h ← stmt_head_at d ts
-  rest_at (stmt_at d) h.0 h.1
+-- a statement, where so many levels are left, itself among them, and this is the hidden clock of the place
+unfoldable pub stmt_at : ℕ → List ℕ → List Mark → Read
+stmt_at zero hidden ts = None
+stmt_at (suc d) hidden ts = do
+  h ← stmt_head_at d hidden ts
+  rest_at d (stmt_at d) hidden h.0 h.1
 
 -- ---- methods and programs
 
@@ -482,7 +511,7 @@ method_at ts = do
   at ← open_at w.1
   ps ← listed_at param_at at.1
   us ← sign_at sign.LeftBrace ps.1
-  ss ← stmts_at (stmt_at 64) us
+  ss ← stmts_at (stmt_at 64 []) us
   Some (record { name = w.0; paren = at.0; params = ps.0; body = listed ss.0 }, ss.1)
 
 -- behind its `shared`

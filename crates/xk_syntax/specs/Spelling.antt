@@ -18,9 +18,44 @@ use Rattle.xk_tree.specs.declared.tree.Binding.TheVariants as binding
 use Rattle.xk_tree.specs.declared.tree.TypeName.{TypeName}
 use Rattle.xk_tree.specs.declared.tree.Number as tree
 use Rattle.xk_tree.specs.declared.tree.Verb.{Verb}
+use Rattle.xk_tree.specs.declared.tree.Written.{Written}
+use Rattle.xk_tree.specs.declared.tree.Written.TheVariants as written
 use Rattle.xk_tree.specs.Tree.{Word, Expression, Source, Make, Value, Bound, UpTo, Least, Clocks, Statement, Statements, Done, More, Block, Empty, Declare, Assign, Atomic, If, IfElse, For, Async, Finish, Call, Resume, Drop, AdvanceAll, Print, ParamValue, MethodValue, SharedValue, TreeValue}
-use Rattle.xk_exprs.specs.Marks.{Mark, Name, Number, Operator, Open, Symbol, Reserved, AsyncAt, ClockAt, LongAt, Unfit, sign_mark, keyword_mark}
+use Rattle.xk_exprs.specs.Marks.{Mark, Name, Number, Operator, Open, Symbol, Reserved, AsyncAt, ClockedAt, ClockAt, LongAt, Unfit, sign_mark, keyword_mark}
 use Rattle.xk_exprs.specs.Spelling.{spell, number_marks, IsNumber, Spells, SpellsTerm}
+
+-- ---- Names that no text has
+
+-- The letters of a name that stands for what a text has no name for: as many spaces as levels are left for the statement that needs it, itself among
+-- them. No token has such letters, and of statements in one another each has others. A method has 64 levels.
+abbrev pub hidden_text : ℕ → List ℕ
+hidden_text d = replicate (min d 64) 32
+
+-- the clock of a `clocked finish` whose `clocked` stands at this offset, where so many levels are left, itself among them
+abbrev pub hidden_clock : ℕ → ℕ → Word
+hidden_clock d at = record { at = at; text = hidden_text d }
+
+-- what stands in a row within `clocked finish s`: its clock is made, s, the clock is dropped
+abbrev pub between : Word → Statement → Statements
+between h s = let v : Verb = record { at = h.at; paren = h.at } in More (Declare binding.Hidden h None (Make h.at v)) (More s (More (Drop h v) Done))
+
+-- what `clocked finish s` stands for
+abbrev pub clocked_finish : Word → Statement → Statement
+clocked_finish h s = Finish (Block (between h s))
+
+-- The clock that `clocked async` hands on, where `clocked` stands at this offset, and this is the text of the hidden clock of the place. Where a place
+-- has none, that text is empty.
+abbrev pub in_force : ℕ → List ℕ → Word
+in_force at hidden = record { at = at; text = hidden }
+
+-- the hidden clock in the body of an `async`
+abbrev pub written_inside : Written → List ℕ → List ℕ
+written_inside (written.Listed clocked paren) hidden = []
+written_inside (written.Ahead at) hidden = hidden
+
+abbrev pub inside : Option Clocks → List ℕ → List ℕ
+inside None hidden = []
+inside (Some cs) hidden = written_inside cs.written hidden
 
 -- ---- Spelling. A function gives the tokens of a thing, and then those that come after it.
 
@@ -44,6 +79,7 @@ comparison_sign comparison.Ge = sign.GreaterEqual
 abbrev pub binding_word : Binding → Keyword
 binding_word binding.Val = keyword.Val
 binding_word binding.Var = keyword.Var
+binding_word binding.Hidden = keyword.Val
 
 abbrev pub type_mark : ℕ → ParamKind → Mark
 type_mark at kind.Clock = ClockAt at
@@ -83,9 +119,18 @@ abbrev pub commas : {T : Type 0} → (T → List Mark → List Mark) → List T 
 commas f [] after = after
 commas f (x ∷ xs) after = f x (row (behind_comma f) xs after)
 
-abbrev pub clock_part : Option Clocks → List Mark → List Mark
-clock_part None after = after
-clock_part (Some cs) after = Reserved keyword.Clocked ∷ Open cs.paren ∷ commas word cs.names (Symbol sign.RightParen ∷ after)
+-- `clocked (c, ..)`
+abbrev pub clock_part : ℕ → ℕ → List Word → List Mark → List Mark
+clock_part clocked paren ws after = ClockedAt clocked ∷ Open paren ∷ commas word ws (Symbol sign.RightParen ∷ after)
+
+-- an `async` with clocks, up to its statement
+abbrev pub clocked_start : ℕ → Written → List Word → List Mark → List Mark
+clocked_start at (written.Listed clocked paren) ws after = AsyncAt at ∷ clock_part clocked paren ws after
+clocked_start at (written.Ahead clocked) ws after = ClockedAt clocked ∷ AsyncAt at ∷ after
+
+abbrev pub start : ℕ → Option Clocks → List Mark → List Mark
+start at None after = AsyncAt at ∷ after
+start at (Some cs) after = clocked_start at cs.written cs.names after
 
 abbrev mutual
   pub stmt : Statement → List Mark → List Mark
@@ -98,7 +143,8 @@ abbrev mutual
   stmt (IfElse at l c r s t) after = Reserved keyword.If ∷ Open at ∷ expr l (Symbol (comparison_sign c) ∷ expr r
       (Symbol sign.RightParen ∷ stmt s (Reserved keyword.Else ∷ stmt t after)))
   stmt (For at w lo b s) after = Reserved keyword.For ∷ Open at ∷ word w (Reserved keyword.In ∷ number lo (Symbol sign.DotDot ∷ bound b (Symbol sign.RightParen ∷ stmt s after)))
-  stmt (Async at cs s) after = AsyncAt at ∷ clock_part cs (stmt s after)
+  stmt (Async at cs s) after = start at cs (stmt s after)
+  stmt (Finish (Block (More (Declare binding.Hidden h ty r) (More s (More (Drop g v) Done))))) after = ClockedAt h.at ∷ Reserved keyword.Finish ∷ stmt s after
   stmt (Finish s) after = Reserved keyword.Finish ∷ stmt s after
   stmt (Call w at es) after = word w (Open at ∷ commas expr es (Symbol sign.RightParen ∷ Symbol sign.Semicolon ∷ after))
   stmt (Resume w v) after = word w (Symbol sign.Dot ∷ verb (codes "resume") v (Symbol sign.RightParen ∷ Symbol sign.Semicolon ∷ after))
@@ -140,6 +186,7 @@ dangles (If at l c r s) = true
 dangles (IfElse at l c r s t) = dangles t
 dangles (For at w lo b s) = dangles s
 dangles (Async at cs s) = dangles s
+dangles (Finish (Block (More (Declare binding.Hidden h ty r) (More s (More (Drop g v) Done))))) = dangles s
 dangles (Finish s) = dangles s
 dangles _ = false
 
@@ -147,49 +194,57 @@ abbrev pub SourceFits : ℕ → Source → Type 0
 SourceFits d (Make at v) = Unit {0}
 SourceFits d (Value e) = IsExpr d e
 
--- The letters of a name that stands for what a text has no name for: as many spaces as levels are left for the statement that needs it, itself among
--- them. No token has such letters, and of statements in one another each has others. A method has 64 levels.
-abbrev pub hidden_text : ℕ → List ℕ
-hidden_text d = replicate (min d 64) 32
-
 -- where so many levels are left behind the loop
 abbrev pub BoundFits : ℕ → Bound → Type 0
 BoundFits d (UpTo n) = IsNumber n
 BoundFits d (Least x v e n) = (x.text ≡ hidden_text (suc d)) × IsExpr d e × IsNumber n
 
-abbrev pub ClocksFit : Option Clocks → Type 0
-ClocksFit None = Unit {0}
-ClocksFit (Some cs) = cs.names ≢ []
+-- a clock that has no name in the text is made by a `clocked finish` alone
+abbrev pub DeclareFits : ℕ → Binding → Source → Type 0
+DeclareFits d binding.Hidden r = ⊥
+DeclareFits d b r = SourceFits d r
+
+-- where this is the hidden clock of the place
+abbrev pub WrittenFits : List ℕ → Written → List Word → Type 0
+WrittenFits hidden (written.Listed clocked paren) ws = ws ≢ []
+WrittenFits hidden (written.Ahead at) ws = ws ≡ in_force at hidden ∷ []
+
+abbrev pub ClocksFit : List ℕ → Option Clocks → Type 0
+ClocksFit hidden None = Unit {0}
+ClocksFit hidden (Some cs) = WrittenFits hidden cs.written cs.names
 
 abbrev mutual
-  -- A statement fits where so many statements, parentheses and negations may still be in one another: its expressions and numbers are
-  -- within their limits, a list of clocks isn't empty, what is added by an `atomic` is a term, an `else` belongs to the nearest `if`, and the
-  -- name of a loop's limit is the hidden one of its level.
-  pub Fits : ℕ → Statement → Type 0
-  Fits zero s = ⊥
-  Fits (suc d) (Block ss) = AllFit d ss
-  Fits (suc d) Empty = Unit {0}
-  Fits (suc d) (Declare b w ty r) = SourceFits d r
-  Fits (suc d) (Assign w e) = IsExpr d e
-  Fits (suc d) (Atomic w v at e) = IsTerm d e
-  Fits (suc d) (If at l c r s) = IsExpr d l × IsExpr d r × Fits d s
-  Fits (suc d) (IfElse at l c r s t) = IsExpr d l × IsExpr d r × Fits d s × Fits d t × (dangles s ≡ false)
-  Fits (suc d) (For at w lo b s) = IsNumber lo × BoundFits d b × Fits d s
-  Fits (suc d) (Async at cs s) = ClocksFit cs × Fits d s
-  Fits (suc d) (Finish s) = Fits d s
-  Fits (suc d) (Call w at es) = AllByRecursion (IsExpr d) es
-  Fits (suc d) (Resume w v) = Unit {0}
-  Fits (suc d) (Drop w v) = Unit {0}
-  Fits (suc d) (AdvanceAll at v) = Unit {0}
-  Fits (suc d) (Print at v e) = IsExpr d e
+  -- A statement fits where so many statements, parentheses and negations may still be in one another, and this is the hidden clock of the place: its
+  -- expressions and numbers are within their limits, a list of clocks isn't empty, what is added by an `atomic` is a term, an `else` belongs to the
+  -- nearest `if`, and the name of a loop's limit is the hidden one of its level. A hidden clock is made only by what a `clocked finish` stands for, under
+  -- the hidden name of its level, and a `clocked async` hands on that of the place.
+  pub Fits : ℕ → List ℕ → Statement → Type 0
+  Fits zero hidden s = ⊥
+  Fits (suc d) hidden (Block ss) = AllFit d hidden ss
+  Fits (suc d) hidden Empty = Unit {0}
+  Fits (suc d) hidden (Declare b w ty r) = DeclareFits d b r
+  Fits (suc d) hidden (Assign w e) = IsExpr d e
+  Fits (suc d) hidden (Atomic w v at e) = IsTerm d e
+  Fits (suc d) hidden (If at l c r s) = IsExpr d l × IsExpr d r × Fits d hidden s
+  Fits (suc d) hidden (IfElse at l c r s t) = IsExpr d l × IsExpr d r × Fits d hidden s × Fits d hidden t × (dangles s ≡ false)
+  Fits (suc d) hidden (For at w lo b s) = IsNumber lo × BoundFits d b × Fits d hidden s
+  Fits (suc d) hidden (Async at cs s) = ClocksFit hidden cs × Fits d (inside cs hidden) s
+  Fits (suc d) hidden (Finish (Block (More (Declare binding.Hidden h ty r) (More s (More (Drop g v) Done))))) =
+      (More (Declare binding.Hidden h ty r) (More s (More (Drop g v) Done)) ≡ between (hidden_clock (suc d) h.at) s) × Fits d (hidden_text (suc d)) s
+  Fits (suc d) hidden (Finish s) = Fits d [] s
+  Fits (suc d) hidden (Call w at es) = AllByRecursion (IsExpr d) es
+  Fits (suc d) hidden (Resume w v) = Unit {0}
+  Fits (suc d) hidden (Drop w v) = Unit {0}
+  Fits (suc d) hidden (AdvanceAll at v) = Unit {0}
+  Fits (suc d) hidden (Print at v e) = IsExpr d e
 
-  pub AllFit : ℕ → Statements → Type 0
-  AllFit d Done = Unit {0}
-  AllFit d (More s ss) = Fits d s × AllFit d ss
+  pub AllFit : ℕ → List ℕ → Statements → Type 0
+  AllFit d hidden Done = Unit {0}
+  AllFit d hidden (More s ss) = Fits d hidden s × AllFit d hidden ss
 
--- a method's own block isn't counted
+-- a method's own block isn't counted, and no hidden clock is there
 abbrev pub MethodFits : MethodValue → Type 0
-MethodFits m = AllFit 64 m.body
+MethodFits m = AllFit 64 [] m.body
 
 abbrev pub SharedFits : SharedValue → Type 0
 SharedFits s = IsNumber s.start

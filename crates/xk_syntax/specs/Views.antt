@@ -4,7 +4,7 @@ use Rattle.xk_tree.specs.declared.tree.ClockList.{ClockList}
 use Rattle.xk_tree.specs.Tree.{Clocks, bound, expression, word, clock_list, statement}
 use Rattle.xk_syntax.specs.declared.heads.Head as code
 use Rattle.xk_syntax.specs.declared.heads.Head.TheVariants as head
-use Rattle.xk_syntax.specs.Readers.{Head, Whole, Brace, Condition, Range, Start, Wait}
+use Rattle.xk_syntax.specs.Readers.{Head, Whole, Brace, Condition, Range, Start, Wait, Hide}
 
 abbrev pub clocks_value : Option ClockList → Option Clocks
 clocks_value cs = option_map clock_list cs
@@ -16,3 +16,4 @@ head_value (head.Condition at l c r) = Condition at (expression l) c (expression
 head_value (head.Range at n lo b) = Range at (word n) lo (bound b)
 head_value (head.Start at cs) = Start at (clocks_value cs)
 head_value head.Wait = Wait
+head_value (head.Hide at) = Hide at

@@ -1,20 +1,25 @@
 //! What stands before the statement, or the statements, that a statement holds.
 
-ghost use Rattle.xk_tree.specs.Tree.{statement};
+ghost use Rattle.std.specs.Prelude.{◌≡◌, [], ◌∷◌, Some, option_map};
+ghost use Rattle.xk_tree.specs.declared.tree.Written.TheVariants as written;
+ghost use Rattle.xk_tree.specs.Tree.{clock_list, statement};
 ghost use Rattle.xk_exprs.specs.Marks.{marks};
 ghost use Rattle.xk_exprs.specs.Readers.{Gives};
-ghost use Rattle.xk_syntax.specs.Readers.{whole, condition_at, range_at, clocks_at, start_at, flat_at, stmt_head_at};
+ghost use Rattle.xk_syntax.specs.Readers.{whole, condition_at, range_at, list_open_at, clocks_at, start_at, flat_at, hiding_at, stmt_head_at};
+ghost use Rattle.xk_syntax.specs.Spelling.{in_force};
 ghost use Rattle.xk_syntax.specs.Views.{head_value, clocks_value};
 
 use crate::bounds::bound;
 use crate::lists::names;
-use crate::parts::{after_keyword, comparison, name, need_keyword, need_open, need_sign};
+use crate::parts::{
+    after_keyword, comparison, name, need_keyword, need_open, need_sign, open_paren,
+};
 use crate::simple::{advance_all, atomic, declaration, named, print};
 use std::alloc::Global;
 use xk_exprs::parts::{next, unexpected};
 use xk_exprs::{SyntaxError, read_expr, read_number};
 use xk_tokens::{Keyword, Kind, Sign, Token};
-use xk_tree::{Binding, Bound, ClockList, Expr, Name, Number, Stmt};
+use xk_tree::{Binding, Bound, ClockList, Expr, Name, Number, Stmt, Written};
 use xk_types::Comparison;
 
 /// A statement up to the statement that it holds, or up to the statements.
@@ -28,10 +33,12 @@ pub(crate) enum Head<'t> {
     Condition(usize, Expr<'t>, Comparison, Expr<'t>),
     /// `for (i in a..b)`, with the offset of its `(`.
     Range(usize, Name<'t>, Number, Bound<'t>),
-    /// `async`, with its offset, and a list of clocks.
+    /// `async`, with its offset, and its clocks.
     Start(usize, Option<ClockList<'t>>),
     /// `finish`
     Wait,
+    /// `clocked finish`, with the offset of `clocked`.
+    Hide(usize),
 }
 
 /// An `if`, behind that word, up to its statement.
@@ -74,6 +81,24 @@ fn range<'s, 't>(
     Ok((Head::Range(paren, name, lo, bound), rest))
 }
 
+/// Past `clocked (`, if these come, and the offsets of both.
+#[tactic(auto, unfolding(crate::specs::Readers::bind, crate::specs::Readers::list_open_at))]
+fn list_open<'s, 't>(tokens: &'s [Token<'t>]) -> Option<((usize, usize), &'s [Token<'t>])>
+    ensures { option_map (λ x. (x.0, marks x.1.now)) result ≡ list_open_at (marks tokens.now) }
+{
+    let (token, rest) = next(tokens)?;
+    match token.kind {
+        Kind::Keyword(word) => match word {
+            Keyword::Clocked => {
+                let (paren, rest) = open_paren(rest)?;
+                Some(((token.at, paren), rest))
+            }
+            _ => None,
+        },
+        _ => None,
+    }
+}
+
 /// A `clocked` list, if there is one.
 #[tactic(auto, unfolding(crate::specs::Readers::bind, crate::specs::Readers::clocks_at))]
 fn clocks<'s, 't>(
@@ -84,13 +109,13 @@ fn clocks<'s, 't>(
     ensures { Gives (λ x. (clocks_value x.0, marks x.1.now)) result
         (clocks_at (marks tokens.now)) }
 {
-    match after_keyword(Keyword::Clocked, tokens) {
+    match list_open(tokens) {
         None => Ok((None, tokens)),
-        Some(rest) => {
-            let (paren, rest) = need_open(rest, end)?;
+        Some(((clocked, paren), rest)) => {
             let (names, rest) = names(alloc, rest, end)?;
             let rest = need_sign(Sign::RightParen, rest, end)?;
-            Ok((Some(ClockList { paren, names }), rest))
+            let written = Written::Listed(clocked, paren);
+            Ok((Some(ClockList { written, names }), rest))
         }
     }
 }
@@ -108,6 +133,45 @@ fn start<'s, 't>(
 {
     let (clocks, rest) = clocks(alloc, tokens, end)?;
     Ok((Head::Start(at, clocks), rest))
+}
+
+/// The clock of a `clocked async`, whose `clocked` stands at this offset: the hidden one of the place.
+fn hidden_list<'t>(alloc: Global, at: usize, hidden: &'t [u8]) -> Result<ClockList<'t>, SyntaxError>
+    ensures { Gives clock_list result
+        (Some (record { written = written.Ahead at; names = in_force at hidden.now ∷ [] })) }
+{
+    let mut names = Vec::new(alloc);
+    names.push(Name { at, text: hidden })?;
+    let written = Written::Ahead(at);
+    Ok(ClockList { written, names })
+}
+
+/// A `clocked finish` or a `clocked async` behind its `clocked`, which stands at this offset, up to its statement.
+#[tactic(auto, unfolding(crate::specs::Readers::bind, crate::specs::Readers::hiding_at))]
+fn hiding<'s, 't>(
+    alloc: Global,
+    at: usize,
+    hidden: &'t [u8],
+    tokens: &'s [Token<'t>],
+    end: usize,
+) -> Result<(Head<'t>, &'s [Token<'t>]), SyntaxError>
+    ensures { Gives (λ x. (head_value x.0, marks x.1.now)) result
+        (hiding_at hidden.now at (marks tokens.now)) }
+{
+    let Some((token, rest)) = next(tokens) else {
+        return Err(SyntaxError::Fault(unexpected(tokens, end)));
+    };
+    match token.kind {
+        Kind::Keyword(word) => match word {
+            Keyword::Finish => Ok((Head::Hide(at), rest)),
+            Keyword::Async => {
+                let clocks = hidden_list(alloc, at, hidden)?;
+                Ok((Head::Start(token.at, Some(clocks)), rest))
+            }
+            _ => Err(SyntaxError::Fault(unexpected(tokens, end))),
+        },
+        _ => Err(SyntaxError::Fault(unexpected(tokens, end))),
+    }
 }
 
 /// A statement that holds none.
@@ -157,16 +221,17 @@ fn whole<'s, 't>(
     Ok((Head::Whole(stmt), rest))
 }
 
-/// What a statement begins with, where so many levels are left behind it.
+/// What a statement begins with, where so many levels are left behind it, and this is the hidden clock of the place.
 #[tactic(auto, unfolding(crate::specs::Readers::bind, crate::specs::Readers::stmt_head_at))]
 pub(crate) fn stmt_head<'s, 't>(
     alloc: Global,
     levels: u32,
+    hidden: &'t [u8],
     tokens: &'s [Token<'t>],
     end: usize,
 ) -> Result<(Head<'t>, &'s [Token<'t>]), SyntaxError>
     ensures { Gives (λ x. (head_value x.0, marks x.1.now)) result
-        (stmt_head_at levels (marks tokens.now)) }
+        (stmt_head_at levels hidden.now (marks tokens.now)) }
 {
     let Some((token, rest)) = next(tokens) else {
         return Err(SyntaxError::Fault(unexpected(tokens, end)));
@@ -181,6 +246,7 @@ pub(crate) fn stmt_head<'s, 't>(
             Keyword::For => range(alloc, levels, rest, end),
             Keyword::Async => start(alloc, token.at, rest, end),
             Keyword::Finish => Ok((Head::Wait, rest)),
+            Keyword::Clocked => hiding(alloc, token.at, hidden, rest, end),
             _ => whole(alloc, levels, tokens, end),
         },
         _ => whole(alloc, levels, tokens, end),

@@ -1,9 +1,11 @@
 //! Names that no text has.
 
-ghost use Rattle.std.specs.Prelude.{◌≡◌, suc};
-ghost use Rattle.xk_syntax.specs.Spelling.{hidden_text};
+ghost use Rattle.std.specs.Prelude.{◌≡◌, suc, IfOk};
+ghost use Rattle.xk_tree.specs.Tree.{statement, word};
+ghost use Rattle.xk_syntax.specs.Spelling.{clocked_finish, hidden_text};
 
-use xk_tree::Name;
+use std::alloc::{AllocError, Global};
+use xk_tree::{Binding, Name, Right, Stmt, Verb};
 
 /// As many spaces as a method has levels.
 static SPACES: [u8; 64] = [b' '; 64];
@@ -21,4 +23,25 @@ pub(crate) fn hidden_name<'t>(at: usize, levels: u32) -> Name<'t>
         at,
         text: &SPACES[..spaces],
     }
+}
+
+/// What a `clocked finish` of this statement stands for, with this name for its clock.
+pub(crate) fn clocked_finish<'t>(
+    alloc: Global,
+    clock: Name<'t>,
+    stmt: Stmt<'t>,
+) -> Result<Stmt<'t>, AllocError>
+    ensures { IfOk result (λ s. statement s ≡ clocked_finish (word clock.entry)
+        (statement stmt.entry)) }
+{
+    let verb = Verb {
+        at: clock.at,
+        paren: clock.at,
+    };
+    let mut stmts = Vec::new(alloc);
+    stmts.push(Stmt::Declare(Binding::Hidden, clock, None, Right::Make(clock.at, verb)))?;
+    stmts.push(stmt)?;
+    stmts.push(Stmt::Drop(clock, verb))?;
+    let block = Box::new(alloc, Stmt::Block(stmts))?;
+    Ok(Stmt::Finish(block))
 }

@@ -4,16 +4,18 @@ ghost use Rattle.std.specs.Prelude.{◌≡◌, [], map};
 ghost use Rattle.xk_tree.specs.Tree.{bound, expression, statement, word};
 ghost use Rattle.xk_exprs.specs.Marks.{marks};
 ghost use Rattle.xk_exprs.specs.Readers.{Gives};
-ghost use Rattle.xk_syntax.specs.Readers.{Brace, Condition, Range, Start, Wait, stmts_at, else_at, rest_at, stmt_at};
+ghost use Rattle.xk_syntax.specs.Readers.{Brace, Condition, Range, Start, Wait, Hide, stmts_at, else_at, rest_at, stmt_at};
+ghost use Rattle.xk_syntax.specs.Spelling.{inside};
 ghost use Rattle.xk_syntax.specs.Views.{clocks_value, head_value};
 
 use crate::heads::{Head, stmt_head};
+use crate::hidden::{clocked_finish, hidden_name};
 use crate::parts::{after_keyword, ahead, need_sign};
 use std::alloc::Global;
 use xk_exprs::parts::{next, unexpected};
 use xk_exprs::{SyntaxError, SyntaxFault, SyntaxRule};
 use xk_tokens::{Keyword, Kind, Sign, Token};
-use xk_tree::{Bound, ClockList, Expr, Name, Number, Stmt};
+use xk_tree::{Bound, ClockList, Expr, Name, Number, Stmt, Written};
 use xk_types::Comparison;
 
 /// Whether a statement can begin with a token of this kind.
@@ -29,6 +31,7 @@ fn begins_statement(kind: Kind) -> bool {
                 | Keyword::If
                 | Keyword::For
                 | Keyword::Async
+                | Keyword::Clocked
                 | Keyword::Finish
                 | Keyword::Clock
                 | Keyword::Console
@@ -56,21 +59,35 @@ fn no_stmts<'s, 't>(alloc: Global, tokens: &'s [Token<'t>]) -> (Vec<Stmt<'t>>, &
     (Vec::new(alloc), tokens)
 }
 
+/// The hidden clock in the body of an `async` with these clocks, by that of the place.
+fn hidden_inside<'t>(clocks: &Option<ClockList<'t>>, hidden: &'t [u8]) -> &'t [u8]
+    ensures { result.now ≡ inside (clocks_value clocks.now) hidden.now }
+{
+    match clocks {
+        None => &[],
+        Some(list) => match list.written {
+            Written::Listed(..) => &[],
+            Written::Ahead(_) => hidden,
+        },
+    }
+}
+
 /// Statements up to a `}`, and that.
 #[cycle(stmts)]
 #[tactic(auto, unfolding(crate::specs::Readers::bind, crate::specs::Readers::stmts_at))]
 pub(crate) fn read_stmts<'s, 't>(
     alloc: Global,
     levels: u32,
+    hidden: &'t [u8],
     tokens: &'s [Token<'t>],
     end: usize,
 ) -> Result<(Vec<Stmt<'t>>, &'s [Token<'t>]), SyntaxError>
     ensures { Gives (λ x. (map statement x.0.items, marks x.1.now)) result
-        (stmts_at (stmt_at levels) (marks tokens.now)) }
+        (stmts_at (stmt_at levels hidden.now) (marks tokens.now)) }
 {
     let (mut stmts, mut rest) = no_stmts(alloc, tokens);
     while let Some(here) = ahead(rest) {
-        let (stmt, left) = read_stmt(alloc, levels, here, end)?;
+        let (stmt, left) = read_stmt(alloc, levels, hidden, here, end)?;
         stmts.push(stmt)?;
         rest = left;
     }
@@ -84,13 +101,14 @@ pub(crate) fn read_stmts<'s, 't>(
 fn boxed_stmt<'s, 't>(
     alloc: Global,
     levels: u32,
+    hidden: &'t [u8],
     tokens: &'s [Token<'t>],
     end: usize,
 ) -> Result<(Box<Stmt<'t>>, &'s [Token<'t>]), SyntaxError>
     ensures { Gives (λ x. (statement x.0.value, marks x.1.now)) result
-        (stmt_at levels (marks tokens.now)) }
+        (stmt_at levels hidden.now (marks tokens.now)) }
 {
-    let (stmt, rest) = read_stmt(alloc, levels, tokens, end)?;
+    let (stmt, rest) = read_stmt(alloc, levels, hidden, tokens, end)?;
     let stmt = Box::new(alloc, stmt)?;
     Ok((stmt, rest))
 }
@@ -101,6 +119,7 @@ fn boxed_stmt<'s, 't>(
 fn else_part<'s, 't>(
     alloc: Global,
     levels: u32,
+    hidden: &'t [u8],
     paren: usize,
     left: Expr<'t>,
     comparison: Comparison,
@@ -110,13 +129,13 @@ fn else_part<'s, 't>(
     end: usize,
 ) -> Result<(Stmt<'t>, &'s [Token<'t>]), SyntaxError>
     ensures { Gives (λ x. (statement x.0, marks x.1.now)) result
-        (else_at (stmt_at levels) paren (expression left.entry) comparison
+        (else_at (stmt_at levels hidden.now) paren (expression left.entry) comparison
         (expression right.entry) (statement stmt.entry.value) (marks tokens.now)) }
 {
     match after_keyword(Keyword::Else, tokens) {
         None => Ok((Stmt::If(paren, left, comparison, right, stmt), tokens)),
         Some(rest) => {
-            let (other, rest) = boxed_stmt(alloc, levels, rest, end)?;
+            let (other, rest) = boxed_stmt(alloc, levels, hidden, rest, end)?;
             Ok((
                 Stmt::IfElse(paren, left, comparison, right, stmt, other),
                 rest,
@@ -131,6 +150,7 @@ fn else_part<'s, 't>(
 fn if_stmt<'s, 't>(
     alloc: Global,
     levels: u32,
+    hidden: &'t [u8],
     paren: usize,
     left: Expr<'t>,
     comparison: Comparison,
@@ -139,12 +159,12 @@ fn if_stmt<'s, 't>(
     end: usize,
 ) -> Result<(Stmt<'t>, &'s [Token<'t>]), SyntaxError>
     ensures { Gives (λ x. (statement x.0, marks x.1.now)) result
-        (rest_at (stmt_at levels) (Condition paren (expression left.entry) comparison
-        (expression right.entry)) (marks tokens.now)) }
+        (rest_at levels (stmt_at levels) hidden.now (Condition paren (expression left.entry)
+        comparison (expression right.entry)) (marks tokens.now)) }
 {
-    let (stmt, rest) = boxed_stmt(alloc, levels, tokens, end)?;
+    let (stmt, rest) = boxed_stmt(alloc, levels, hidden, tokens, end)?;
     else_part(
-        alloc, levels, paren, left, comparison, right, stmt, rest, end,
+        alloc, levels, hidden, paren, left, comparison, right, stmt, rest, end,
     )
 }
 
@@ -154,13 +174,14 @@ fn if_stmt<'s, 't>(
 fn block_stmt<'s, 't>(
     alloc: Global,
     levels: u32,
+    hidden: &'t [u8],
     tokens: &'s [Token<'t>],
     end: usize,
 ) -> Result<(Stmt<'t>, &'s [Token<'t>]), SyntaxError>
     ensures { Gives (λ x. (statement x.0, marks x.1.now)) result
-        (rest_at (stmt_at levels) Brace (marks tokens.now)) }
+        (rest_at levels (stmt_at levels) hidden.now Brace (marks tokens.now)) }
 {
-    let (stmts, rest) = read_stmts(alloc, levels, tokens, end)?;
+    let (stmts, rest) = read_stmts(alloc, levels, hidden, tokens, end)?;
     Ok((Stmt::Block(stmts), rest))
 }
 
@@ -170,6 +191,7 @@ fn block_stmt<'s, 't>(
 fn for_stmt<'s, 't>(
     alloc: Global,
     levels: u32,
+    hidden: &'t [u8],
     paren: usize,
     name: Name<'t>,
     lo: Number,
@@ -178,10 +200,10 @@ fn for_stmt<'s, 't>(
     end: usize,
 ) -> Result<(Stmt<'t>, &'s [Token<'t>]), SyntaxError>
     ensures { Gives (λ x. (statement x.0, marks x.1.now)) result
-        (rest_at (stmt_at levels) (Range paren (word name.entry) lo (bound reach.entry))
-        (marks tokens.now)) }
+        (rest_at levels (stmt_at levels) hidden.now (Range paren (word name.entry) lo
+        (bound reach.entry)) (marks tokens.now)) }
 {
-    let (stmt, rest) = boxed_stmt(alloc, levels, tokens, end)?;
+    let (stmt, rest) = boxed_stmt(alloc, levels, hidden, tokens, end)?;
     Ok((Stmt::For(paren, name, lo, reach, stmt), rest))
 }
 
@@ -191,15 +213,18 @@ fn for_stmt<'s, 't>(
 fn async_stmt<'s, 't>(
     alloc: Global,
     levels: u32,
+    hidden: &'t [u8],
     at: usize,
     clocks: Option<ClockList<'t>>,
     tokens: &'s [Token<'t>],
     end: usize,
 ) -> Result<(Stmt<'t>, &'s [Token<'t>]), SyntaxError>
     ensures { Gives (λ x. (statement x.0, marks x.1.now)) result
-        (rest_at (stmt_at levels) (Start at (clocks_value clocks.entry)) (marks tokens.now)) }
+        (rest_at levels (stmt_at levels) hidden.now (Start at (clocks_value clocks.entry))
+        (marks tokens.now)) }
 {
-    let (stmt, rest) = boxed_stmt(alloc, levels, tokens, end)?;
+    let hidden = hidden_inside(&clocks, hidden);
+    let (stmt, rest) = boxed_stmt(alloc, levels, hidden, tokens, end)?;
     Ok((Stmt::Async(at, clocks, stmt), rest))
 }
 
@@ -213,55 +238,79 @@ fn finish_stmt<'s, 't>(
     end: usize,
 ) -> Result<(Stmt<'t>, &'s [Token<'t>]), SyntaxError>
     ensures { Gives (λ x. (statement x.0, marks x.1.now)) result
-        (rest_at (stmt_at levels) Wait (marks tokens.now)) }
+        (rest_at levels (stmt_at levels) [] Wait (marks tokens.now)) }
 {
-    let (stmt, rest) = boxed_stmt(alloc, levels, tokens, end)?;
+    let (stmt, rest) = boxed_stmt(alloc, levels, &[], tokens, end)?;
     Ok((Stmt::Finish(stmt), rest))
 }
 
-/// The rest of a statement that begins with this head.
+/// The rest of a `clocked finish`, behind these words, whose `clocked` stands at this offset.
+#[cycle(stmts)]
+#[tactic(auto, unfolding(crate::specs::Readers::bind, crate::specs::Readers::rest_at))]
+fn hiding_stmt<'s, 't>(
+    alloc: Global,
+    levels: u32,
+    at: usize,
+    tokens: &'s [Token<'t>],
+    end: usize,
+) -> Result<(Stmt<'t>, &'s [Token<'t>]), SyntaxError>
+    ensures { Gives (λ x. (statement x.0, marks x.1.now)) result
+        (rest_at levels (stmt_at levels) [] (Hide at) (marks tokens.now)) }
+{
+    let clock = hidden_name(at, levels);
+    let (stmt, rest) = read_stmt(alloc, levels, clock.text, tokens, end)?;
+    let stmt = clocked_finish(alloc, clock, stmt)?;
+    Ok((stmt, rest))
+}
+
+/// The rest of a statement that begins with this head, where so many levels are left behind it, and this is the hidden clock of the place.
 #[cycle(stmts)]
 #[tactic(auto, unfolding(crate::specs::Readers::rest_at))]
 fn rest_of<'s, 't>(
     alloc: Global,
     levels: u32,
+    hidden: &'t [u8],
     head: Head<'t>,
     tokens: &'s [Token<'t>],
     end: usize,
 ) -> Result<(Stmt<'t>, &'s [Token<'t>]), SyntaxError>
     ensures { Gives (λ x. (statement x.0, marks x.1.now)) result
-        (rest_at (stmt_at levels) (head_value head.entry) (marks tokens.now)) }
+        (rest_at levels (stmt_at levels) hidden.now (head_value head.entry) (marks tokens.now)) }
 {
     match head {
         Head::Whole(stmt) => Ok((stmt, tokens)),
-        Head::Brace => block_stmt(alloc, levels, tokens, end),
+        Head::Brace => block_stmt(alloc, levels, hidden, tokens, end),
         Head::Condition(paren, left, comparison, right) => {
-            if_stmt(alloc, levels, paren, left, comparison, right, tokens, end)
+            if_stmt(
+                alloc, levels, hidden, paren, left, comparison, right, tokens, end,
+            )
         }
         Head::Range(paren, name, lo, reach) => for_stmt(
-            alloc, levels, paren, name, lo, reach, tokens, end,
+            alloc, levels, hidden, paren, name, lo, reach, tokens, end,
         ),
-        Head::Start(at, clocks) => async_stmt(alloc, levels, at, clocks, tokens, end),
+        Head::Start(at, clocks) => async_stmt(alloc, levels, hidden, at, clocks, tokens, end),
         Head::Wait => finish_stmt(alloc, levels, tokens, end),
+        Head::Hide(at) => hiding_stmt(alloc, levels, at, tokens, end),
     }
 }
 
-/// A statement, where so many levels are left, itself among them, and the tokens after it.
+/// A statement, where so many levels are left, itself among them, and this is the hidden clock of the place; and the tokens after it.
 #[cycle(stmts)]
 #[tactic(auto, unfolding(crate::specs::Readers::bind, crate::specs::Readers::stmt_at))]
 pub(crate) fn read_stmt<'s, 't>(
     alloc: Global,
     levels: u32,
+    hidden: &'t [u8],
     tokens: &'s [Token<'t>],
     end: usize,
 ) -> Result<(Stmt<'t>, &'s [Token<'t>]), SyntaxError>
     ensures { Gives (λ x. (statement x.0, marks x.1.now)) result
-        (stmt_at levels (marks tokens.now)) }
+        (stmt_at levels hidden.now (marks tokens.now)) }
 {
     if levels == 0 {
         return Err(SyntaxError::Fault(statement_too_deep(tokens, end)));
     }
     let levels = levels - 1;
-    let (head, rest) = stmt_head(alloc, levels, tokens, end)?;
-    rest_of(alloc, levels, head, rest, end)
+    let (head, rest) = stmt_head(alloc, levels, hidden, tokens, end)?;
+    rest_of(alloc, levels, hidden, head, rest, end)
 }

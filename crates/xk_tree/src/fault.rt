@@ -98,11 +98,34 @@ pub struct FrontFault {
     pub at: usize,
 }
 
+impl FrontFault {
+    /// The number of the rule, from 1 to 15.
+    pub fn number(self) -> u8
+        ensures { result ≡ front_number self.rule }
+    {
+        self.rule.number()
+    }
+
+    /// The name of the rule, as a refusal prints it.
+    pub fn name(self) -> &'static str
+        ensures { result.now ≡ front_name self.rule }
+    {
+        self.rule.name()
+    }
+
+    /// The offset in the text, in bytes.
+    pub fn offset(self) -> usize
+        ensures { result ≡ self.at }
+    {
+        self.at
+    }
+}
+
 /// Why there is no tree, or no module.
 #[derive(Clone, Copy, Debug, Error, PartialEq, Eq)]
 pub enum FrontError {
     /// A rule is broken.
-    #[error("the text breaks rule F{number} {name} at {at}", number = .0.rule.number(), name = .0.rule.name(), at = .0.at)]
+    #[error("the text breaks rule F{number} {name} at {at}", number = .0.number(), name = .0.name(), at = .0.offset())]
     Fault(FrontFault),
     /// Memory was refused.
     #[error("out of memory")]

@@ -113,8 +113,8 @@ impl Bound<'_> {
 /// How the clocks of an `async` are written.
 #[derive(Clone, Copy, Debug, PartialEq, Eq)]
 pub enum Written {
-    /// By name: `async clocked (c, ..)`, with the offset of the `(`.
-    Listed(usize),
+    /// By name: `async clocked (c, ..)`, with the offsets of `clocked` and of the `(`.
+    Listed(usize, usize),
     /// `clocked async`, with the offset of `clocked`: the clock that is hidden there.
     Ahead(usize),
 }

@@ -1,9 +1,9 @@
-use Rattle.xk_exprs.proofs.Takes.{expression_found}
+use Rattle.xk_exprs.proofs.Whole.{expressions}
 use Rattle.xk_exprs.proofs.Again.{expression_again, expression_once}
 use Rattle.xk_exprs.proofs.laws.expressions.Goals as goal
 
 pub returns-clause-found : goal.returns-clause-found
-returns-clause-found c = expression_found
+returns-clause-found c = expressions
 
 pub returns-clause-again : goal.returns-clause-again
 returns-clause-again c = expression_again

@@ -6,5 +6,5 @@ pub returns : goal.returns
 returns c = λ bytes m p accepted.
     record {
       schedules = c.every_accepted_module.ensures m p.limits accepted;
-      of_the_text = c.means_its_source.ensures p.tree m p.scoped (bodies_apart bytes p.tree p.spelled.1) p.limits.units p.code;
+      of_the_text = c.means_its_source.ensures p.tree m p.clean (bodies_apart bytes p.tree p.spelled.1) p.limits.units p.code;
     }

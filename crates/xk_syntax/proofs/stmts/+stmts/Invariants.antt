@@ -31,12 +31,15 @@ decreases-async_stmt l = 5 * l.levels + 2
 abbrev pub decreases-finish_stmt : goal.decreases-finish_stmt
 decreases-finish_stmt l = 5 * l.levels + 2
 
+abbrev pub decreases-hiding_stmt : goal.decreases-hiding_stmt
+decreases-hiding_stmt l = 5 * l.levels + 2
+
 abbrev pub decreases-rest_of : goal.decreases-rest_of
 decreases-rest_of l = 5 * l.levels + 4
 
 -- what is read from here on is what is read from the start
 abbrev pub invariant-read_stmts-loop-here : goal.invariant-read_stmts-loop-here
-invariant-read_stmts-loop-here l = more_at ahead_at (stmt_at l.levels) (map statement l.stmts.items) (marks l.rest) ≡ more_at ahead_at (stmt_at l.levels) [] (marks l.fn.tokens)
+invariant-read_stmts-loop-here l = more_at ahead_at (stmt_at l.levels l.hidden) (map statement l.stmts.items) (marks l.rest) ≡ more_at ahead_at (stmt_at l.levels l.hidden) [] (marks l.fn.tokens)
 
 abbrev pub decreases-read_stmts-loop-here : goal.decreases-read_stmts-loop-here
 decreases-read_stmts-loop-here l = length l.rest
