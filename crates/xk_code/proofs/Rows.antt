@@ -43,7 +43,7 @@ abbrev print : Expression → Statement
 print e = Print 0 verb e
 
 abbrev clocked : List ℕ → Option Clocks
-clocked c = Some (record { written = written.Listed 0; names = w c ∷ [] })
+clocked c = Some (record { written = written.Listed 0 0; names = w c ∷ [] })
 
 abbrev main_unit : Setting → Statements → UnitValue
 main_unit cx ss = unit_of_method cx unit_kind.Main (record { name = w (codes "main"); paren = 0; params = []; body = ss })

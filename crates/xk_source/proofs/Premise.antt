@@ -10,8 +10,10 @@ use Rattle.xk_names.specs.declared.known.Known.{Known}
 use Rattle.xk_names.specs.declared.known.Kind.TheVariants as kind
 use Rattle.xk_names.specs.Scope.{Has, has, find, is_text, texts, Declaration, known, Scope, sees, fits}
 use Rattle.xk_names.specs.Uses.{Use, Signatures, signatures, uses, declares, misfits, clocks_given, calls as names_calls}
-use Rattle.xk_names.specs.Faults.{RepeatsName, RepeatsMethod, declared_before}
-use Rattle.xk_names.specs.Scoped.{IsRight, IsSound, AreSound, method_scope, IsScoped}
+use Rattle.xk_names.specs.Faults.{HasFault}
+use Rattle.xk_names.specs.Collected.{own, name_faults}
+use Rattle.xk_names.proofs.Whole.{fault_listed}
+use Rattle.xk_names.proofs.ScopedLaw.{scoped_tree}
 use Rattle.xk_units.proofs.Listed.{has_at}
 use Rattle.xk_source.specs.Parts.{Part, Run, Starts, parts, part_runs}
 use Rattle.xk_source.specs.Graph.{graph}
@@ -130,108 +132,13 @@ reading_compiled = record {
 
 -- ---- it has no fault of names
 
-nothing : {A : Type 0} (before : List A) (x : A) (after : List A) → [] ≡ before ++ x ∷ after → ⊥
-nothing [] x after e = cc
-nothing (b ∷ bs) x after e = cc
+none_listed : name_faults reading ≡ []
+unfolding own
+none_listed = refl
 
--- a statement that is neither a call nor given a clock, and has no misfit
-sound : (ms : Signatures) (sc : Scope) (t : Statement) → ((u : Use) → Has (uses ms sc.names t) u → IsRight sc u)
-    → ((d : Declaration) → Has (declares (length sc.bodies) t) d → find sc.names d.name.text ≡ None) → misfits ms t ≡ [] → names_calls t ≡ None
-    → clocks_given ms t ≡ [] → IsSound ms sc t
-sound ms sc t used new fitting called clocks = record {
-  used = used;
-  new = new;
-  fitting = λ at h. subst (λ l. Has l at) fitting h;
-  callable = λ g es e. absurd (none_some g es (sym called ∙ e));
-  apart = λ before c after e. absurd (nothing before c after (sym clocks ∙ e));
-}
-  where
-    none_some : (g : Word) (es : List Expression) → ◌≡◌ {A = Option (Word × List Expression)} None (Some (g, es)) → ⊥
-    none_some g es e = cc
-
-one_right : (sc : Scope) (u v : Use) (k : Known) → find sc.names u.name.text ≡ Some k → fits u.want k.kind ≡ true → sees sc u.name.text k ≡ true
-    → Has (u ∷ []) v → IsRight sc v
-one_right sc u v k found right seen (inl e) = subst (IsRight sc) (sym e) (record { known = k; found = found; right = right; seen = seen })
-one_right sc u v k found right seen (inr none) = absurd none
-
-one_new : (sc : Scope) (d e : Declaration) → find sc.names d.name.text ≡ None → Has (d ∷ []) e → find sc.names e.name.text ≡ None
-one_new sc d e new (inl is) = subst (λ (x : Declaration). find sc.names x.name.text ≡ None) (sym is) new
-one_new sc d e new (inr none) = absurd none
-
-abbrev ms : Signatures
-ms = signatures reading.methods
-
--- what main sees, with so many of its names declared
-abbrev seen : List (List ℕ × Known) → Scope
-seen names = record { names = (codes "s", known kind.Shared 0) ∷ names; bodies = [] }
-
-abbrev seen_inside : Scope
-seen_inside = record { names = (codes "s", known kind.Shared 0) ∷ []; bodies = [] ∷ [] }
-
-abbrev r : List ℕ × Known
-r = (codes "r", known kind.Val 0)
-
-abbrev q : List ℕ × Known
-q = (codes "q", known kind.Val 0)
-
-assigns : IsSound ms seen_inside (Assign (w (codes "s")) (lit 5))
-assigns = sound ms seen_inside (Assign (w (codes "s")) (lit 5)) (λ u h. one_right seen_inside _ u _ refl refl refl h) (λ d h. absurd h) refl refl refl
-
-reads : (x : List ℕ) (names : List (List ℕ × Known)) → find (seen names).names x ≡ None → IsSound ms (seen names) (val_is x (var (codes "s")))
-reads x names new =
-    sound ms (seen names) (val_is x (var (codes "s"))) (λ u h. one_right (seen names) _ u _ refl refl refl h)
-    (λ d h. one_new (seen names) _ d new h) refl refl refl
-
-prints : (x : List ℕ) (names : List (List ℕ × Known)) → find (seen names).names x ≡ Some (known kind.Val 0) → IsSound ms (seen names) (print (var x))
-prints x names there =
-    sound ms (seen names) (print (var x)) (λ u h. one_right (seen names) _ u (known kind.Val 0) there refl refl h) (λ d h. absurd h) refl refl refl
-
-starts : IsSound ms (seen []) (Async 0 None (block (Assign (w (codes "s")) (lit 5) ∷ [])))
-starts = sound ms (seen []) (Async 0 None (block (Assign (w (codes "s")) (lit 5) ∷ []))) (λ u h. absurd h) (λ d h. absurd h) refl refl refl
-
-inside : IsSound ms seen_inside (block (Assign (w (codes "s")) (lit 5) ∷ []))
-inside = sound ms seen_inside (block (Assign (w (codes "s")) (lit 5) ∷ [])) (λ u h. absurd h) (λ d h. absurd h) refl refl refl
-
-body_sound : (m : MethodValue) → Has reading.methods m → AreSound ms (method_scope reading m) m.body
-body_sound m (inl is) = subst (λ (k : MethodValue). AreSound ms (method_scope reading k) k.body) (sym is) (
-  (starts, (inside, ((assigns, tt), tt))),
-  (
-    (reads (codes "r") [] refl, tt),
-    (
-      (reads (codes "q") (r ∷ []) refl, tt),
-      ((prints (codes "r") (r ∷ q ∷ []) refl, tt), ((prints (codes "q") (r ∷ q ∷ []) refl, tt), tt)),
-    ),
-  ),
-)
-body_sound m (inr none) = absurd none
-
-names_apart : (m : MethodValue) → Has reading.methods m → (f : FrontFault) → RepeatsName (declared_before reading m) f → ⊥
-names_apart m (inl is) f h = one_name (shared_names is) h.before h.stands h.again
-  where
-    shared_names : m ≡ reading_main → declared_before reading m ≡ declared_before reading reading_main
-    shared_names e = ap (declared_before reading) e
-
-    one_name : declared_before reading m ≡ declared_before reading reading_main → (before : List Declaration)
-        → declared_before reading m ≡ before ++ h.declaration ∷ h.after
-        → has (texts (map (λ (d : Declaration). d.name) before)) h.declaration.name.text ≡ true → ⊥
-    one_name e [] stands again = cc
-    one_name e (b ∷ bs) stands again =
-        nothing bs h.declaration h.after (let rest : ◌≡◌ {A = List Declaration} [] (bs ++ h.declaration ∷ h.after) = rest_of (sym e ∙ stands) in rest)
-      where
-        rest_of : declared_before reading reading_main ≡ (b ∷ bs) ++ h.declaration ∷ h.after → [] ≡ bs ++ h.declaration ∷ h.after
-        rest_of e = cc
-names_apart m (inr none) f h = absurd none
-
-methods_apart : (f : FrontFault) → RepeatsMethod reading.methods f → ⊥
-methods_apart f r = at r.before r.stands r.again
-  where
-    at : (before : List MethodValue) → reading.methods ≡ before ++ r.method ∷ r.after
-        → has (texts (map (λ m. m.name) before)) r.method.name.text ≡ true → ⊥
-    at [] e again = cc
-    at (b ∷ bs) e again = nothing bs r.method r.after (let rest : ◌≡◌ {A = List MethodValue} [] (bs ++ r.method ∷ r.after) = cc in rest)
-
-reading_scoped : IsScoped reading
-reading_scoped = record { bodies = body_sound; apart = names_apart; methods_apart = methods_apart; main = refl }
+reading_clean : (f : FrontFault) → HasFault reading f → ⊥
+reading_clean f (inl h) = absurd (subst (λ fs. Has fs f) none_listed (fault_listed reading f h))
+reading_clean f (inr h) = h.0 refl
 
 -- ---- so the law holds of it
 
@@ -242,4 +149,4 @@ few : length reading_code.units ≤ 1024
 few = let two : 2 ≤ 1024 = omega arith in two
 
 reading_means : Means reading reading_code
-reading_means = compiled_means reading reading_code reading_scoped one_body few reading_compiled
+reading_means = compiled_means reading reading_code (scoped_tree reading reading_clean) one_body few reading_compiled

@@ -62,7 +62,7 @@ abbrev advance : Statement
 advance = AdvanceAll 0 verb
 
 abbrev clocked : List ℕ → Option Clocks
-clocked c = Some (record { written = written.Listed 0; names = w c ∷ [] })
+clocked c = Some (record { written = written.Listed 0 0; names = w c ∷ [] })
 
 abbrev row_of : List Statement → Statements
 row_of [] = Done

@@ -28,7 +28,7 @@ abbrev verb : Verb
 verb = record { at = 0; paren = 0 }
 
 abbrev c : Option Clocks
-c = Some (record { written = written.Listed 0; names = w (codes "c") ∷ [] })
+c = Some (record { written = written.Listed 0 0; names = w (codes "c") ∷ [] })
 
 abbrev calls_m : Statement
 calls_m = Call (w (codes "m")) 0 (x ∷ [])
