@@ -250,7 +250,7 @@ def said(crate, bug, lines):
         stem = os.path.basename(file)[:-3]
         folder = "" if stem in ("lib", "main") else stem + "/"
         own_proof = re.compile(rf"proofs/{folder}{owner and owner + '/'}{name}(/|\.antt)", re.I)
-        cycle_proof = re.compile(rf"proofs/{folder}\+\w+/")
+        cycle_proof = re.compile(rf"proofs/{folder}(?:{owner}/)?\+\w+/")
         own_path = ([] if stem in ("lib", "main") else [stem]) + ([owner.lower()] if owner else []) + [name]
         for line in lines:
             if m := SAID.match(line):
