@@ -117,19 +117,19 @@ pub enum Instr {
     },
     /// `jump t`: goes to place t.
     Jump(u16),
-    /// `for k lo hi e`: begins a loop whose `next` stands at place e: slot k becomes lo.
-    For {
-        k: u16,
-        lo: i64,
-        hi: i64,
-        e: u16,
-    },
     /// `forto k lo x hi e`: begins a loop whose `next` stands at place e, and which goes no further up than the number in x and
     /// than hi: where lo is no more than the lesser of them slot k becomes lo; else it goes to place e + 1.
     ForTo {
         k: u16,
         lo: i64,
         x: u16,
+        hi: i64,
+        e: u16,
+    },
+    /// `for k lo hi e`: begins a loop whose `next` stands at place e: slot k becomes lo.
+    For {
+        k: u16,
+        lo: i64,
         hi: i64,
         e: u16,
     },
