@@ -1,3 +1,4 @@
 pub mod Again
 pub mod Lines
 pub mod ChartRows
+pub mod Written
