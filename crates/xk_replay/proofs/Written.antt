@@ -1,5 +1,5 @@
 -- The log of a run is a log: it has no more entries than a log may have, and both numbers of each are of 32 bits.
-use Rattle.std.proofs.Common.{◌≡◌, ◌∙◌, ℕ, zero, suc, ◌+◌, ◌<◌, ◌≤◌, List, [], ◌∷◌, ◌++◌, ℤ, length, replicate, refl, sym, ap, subst, arith, length-append}
+use Rattle.std.proofs.Common.{◌≡◌, ◌∙◌, ℕ, zero, suc, ◌<◌, ◌≤◌, List, [], ◌∷◌, ◌++◌, ℤ, length, replicate, refl, sym, ap, subst, arith, length-append}
 use Rattle.std.specs.List.{AllByRecursion}
 use Rattle.std.proofs.lemmas.List.{length-replicate}
 use Rattle.std.proofs.lemmas.List.Concat.{flat_map-cons}
@@ -8,7 +8,6 @@ use Rattle.xk_types.specs.Code.{ModuleValue, IsWithinLimits}
 use Rattle.xk_types.specs.World.{World, opening}
 use Rattle.xk_types.specs.Step.{step}
 use Rattle.xk_types.specs.Schedule.{Through, Leads, IsReached, run}
-use Rattle.xk_types.specs.Bound.{steps_bound}
 use Rattle.xk_types.specs.Accepted.{IsAccepted}
 use Rattle.xk_types.specs.Logs.{schedule_of}
 use Rattle.xk_laws.proofs.Reached.{first_step, run_counts, reached_room}
@@ -46,7 +45,6 @@ taker_there m (suc n) a w v some h =
     steps_within m w f.0 a f.1 f.2
 
 module _ (m : ModuleValue) (limits : IsWithinLimits m) (accepted : IsAccepted m) where
-
   -- an entry whose steps are taken from a world that is reached
   entry_fits : (e : Entry) (w v : World) → IsReached m w → run m (replicate e.steps e.act) w ≡ Through v → FitsEntry e
   entry_fits e w v r h =
@@ -62,8 +60,7 @@ module _ (m : ModuleValue) (limits : IsWithinLimits m) (accepted : IsAccepted m)
   entries_fit (e ∷ es) w v r h =
       let here = replicate e.steps e.act in
       let all : run m (here ++ schedule_of es) w ≡ Through v = ap (λ l. run m l w) (sym (schedule_first e es)) ∙ h in
-      let first = legal_front m here (schedule_of es) w v all in
-      (
+      let first = legal_front m here (schedule_of es) w v all in (
         entry_fits e w first.0 r first.1,
         entries_fit es first.0 v (reached_run m here w first.0 r first.1) (sym (run_then m here (schedule_of es) w first.0 first.1) ∙ all),
       )
