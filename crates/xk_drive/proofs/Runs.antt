@@ -1,15 +1,18 @@
--- A schedule goes on by a step, or by another schedule.
-use Rattle.std.proofs.Common.{◌≡◌, ℕ, ◌+◌, ◌<◌, Bool, true, false, not, List, [], ◌∷◌, ◌++◌, length, map, take, filter, get_or, Some, refl, sym, ap, ◌∙◌, add-one, slice_get}
+-- A schedule goes on by a step, or by another schedule, or it stops.
+use Rattle.std.proofs.Common.{◌≡◌, ℕ, zero, suc, ◌+◌, ◌<◌, Bool, true, false, not, List, [], ◌∷◌, ◌++◌, length, map, take, filter, get_or, Some, refl, sym, ap, ◌∙◌, add-one, slice_get, arith}
 use Rattle.std.proofs.Math.Seq.{take-suc}
-use Rattle.std.proofs.lemmas.List.{map-append}
+use Rattle.std.proofs.lemmas.Bool.{true≢false}
+use Rattle.std.proofs.lemmas.List.{map-append, take_all}
+use Rattle.std.proofs.lemmas.Option.{none-some, same_Some, slice_get_within}
 use Rattle.std.proofs.lemmas.List.Elements.{filter-append}
 use Rattle.xk_types.specs.declared.names.Event.{Event}
 use Rattle.xk_types.specs.Code.{ModuleValue}
 use Rattle.xk_types.specs.World.{World}
 use Rattle.xk_types.specs.Step.{Stepped, step}
-use Rattle.xk_types.specs.Schedule.{Through, run, is_local, events, events_on, seen}
+use Rattle.xk_types.specs.Schedule.{Through, run, is_step, is_enabled, is_local, events, events_on, seen}
 use Rattle.xk_laws.proofs.Reached.{same_through, first_step, run_more}
-use Rattle.xk_drive.specs.Schedules.{shown, events_seen, LeadsPart}
+use Rattle.xk_drive.specs.Schedules.{shown, events_seen, LeadsPart, StopsAt}
+use Rattle.xk_drive.proofs.Going.{run_then}
 
 -- ---- in two parts
 
@@ -65,3 +68,28 @@ shows_more m list w v x i d e lt h g =
 pub first_there : (list : List ℕ) → (length list ≡ 0 → ⊥) → (a : ℕ) × (slice_get list 0 ≡ Some a)
 first_there [] h = absurd (h refl)
 first_there (a ∷ list) h = (a, refl)
+
+-- ---- where it stops
+
+-- the first j of a list are what stands before place i, the element there, and a rest
+pub split_before : {X : Type 0} (xs : List X) (i j : ℕ) (x : X) → slice_get xs i ≡ Some x → i < j → (rest : List X) × (take j xs ≡ take i xs ++ x ∷ rest)
+split_before [] i j x h lt = absurd (none-some x h)
+split_before (y ∷ xs) i zero x h lt = absurd (omega (arith, lt))
+split_before (y ∷ xs) zero (suc j) x h lt = (take j xs, ap (λ z. z ∷ take j xs) (same_Some y x h))
+split_before (y ∷ xs) (suc i) (suc j) x h lt =
+    let s = split_before xs i j x h (omega (arith, lt)) in
+    (s.0, ap (λ l. y ∷ l) s.1)
+
+-- who isn't enabled takes no step of a legal list
+pub barred : (m : ModuleValue) (front more : List ℕ) (a : ℕ) (w v x : World) → run m front w ≡ Through v → is_enabled m v a ≡ false → run m (front ++ a ∷ more) w ≡ Through x → ⊥
+barred m front more a w v x leads blocked through =
+    let f = first_step v x (step m v a) (run m more) (sym (run_then m front (a ∷ more) w v leads) ∙ through) in
+    true≢false (sym (ap is_step f.2) ∙ blocked)
+
+-- a schedule that stops is not legal
+pub stop_not_legal : (m : ModuleValue) (list : List ℕ) (at : ℕ) (w v x : World) → StopsAt m list w at v → run m list w ≡ Through x → ⊥
+stop_not_legal m list at w v x stops through =
+    let within = slice_get_within list at stops.1 stops.2 in
+    let split = split_before list at (length list) stops.1 stops.2 within in
+    let all : list ≡ take at list ++ stops.1 ∷ split.0 = sym (take_all (length list) list (omega arith)) ∙ split.1 in
+    barred m (take at list) split.0 stops.1 w v x stops.0 stops.3 (ap (λ l. run m l w) (sym all) ∙ through)

@@ -1,5 +1,5 @@
 -- How far a schedule goes from a world, and what is seen on the way. This project's own.
-use Rattle.std.specs.Prelude.{◌≡◌, ℕ, ◌⊎◌, false, List, [], ◌∷◌, Some, map, take, slice_get, if◌then◌else◌}
+use Rattle.std.specs.Prelude.{◌≡◌, ℕ, ◌⊎◌, ⊤, false, List, [], ◌∷◌, Some, map, take, slice_get, if◌then◌else◌}
 use Rattle.xk_types.specs.declared.names.Event.{Event}
 use Rattle.xk_types.specs.Code.{ModuleValue}
 use Rattle.xk_types.specs.World.{World}
@@ -33,3 +33,8 @@ WantsMemoryAt m list w at v = LeadsPart m list w at v × (a : ℕ) × (slice_get
 abbrev pub IsHalt : CoreValue → List ℕ → Halt → Type 0
 IsHalt c list (halt.NotEnabled at d) = (d.module_run ≡ c.module_run) × StopsAt c.module_run list c.world at d.world
 IsHalt c list (halt.OutOfMemory at d) = (d.module_run ≡ c.module_run) × WantsMemoryAt c.module_run list c.world at d.world
+
+-- it was halted for want of memory
+abbrev pub IsOutOfMemory : Halt → Type 0
+IsOutOfMemory (halt.NotEnabled at d) = ⊥
+IsOutOfMemory (halt.OutOfMemory at d) = ⊤

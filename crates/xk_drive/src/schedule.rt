@@ -2,8 +2,9 @@
 
 ghost use Rattle.std.specs.Prelude.{◌≡◌, ◌+◌, ◌<◌, ◌≤◌, ◌++◌, IfOk, IfErr};
 ghost use Rattle.std.specs.Vec.{vec_len, vec_capacity};
+ghost use Rattle.xk_types.specs.World.{World};
 ghost use Rattle.xk_types.specs.Schedule.{Through, run, is_local};
-ghost use Rattle.xk_drive.specs.Schedules.{shown, events_seen, IsHalt};
+ghost use Rattle.xk_drive.specs.Schedules.{shown, events_seen, IsHalt, IsOutOfMemory};
 
 use std::alloc::Global;
 use xk_core::Core;
@@ -60,6 +61,10 @@ pub fn run_schedule<'m>(
         r.seen.items ≡ events_seen start.entry.module_run schedule.now start.entry.world) }
     ensures same_module { IfOk result (λ r. r.core.module_run ≡ start.entry.module_run) }
     ensures halted { IfErr result (IsHalt start.entry schedule.now) }
+    // A legal schedule is carried out, want of memory aside.
+    ensures never_wrongly { (w : World)
+        → run start.entry.module_run schedule.now start.entry.world ≡ Through w
+        → IfErr result IsOutOfMemory }
 {
     let mut core = start;
     let Ok(mut seen) = Vec::with_capacity(alloc, schedule.len()) else {

@@ -1,3 +1,5 @@
 pub mod Again
 pub mod Lines
 pub mod ChartRows
+pub mod Written
+pub mod Verdicts

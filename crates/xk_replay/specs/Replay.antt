@@ -1,5 +1,5 @@
 -- Logs that are played again. That a run is written down, and played again from what was written, is this project's own.
-use Rattle.std.specs.Prelude.{◌≡◌, ℕ, ℤ, ◌<◌, Bool, true, false, List, ◌++◌, replicate, take, Some, slice_get}
+use Rattle.std.specs.Prelude.{◌≡◌, ℕ, ℤ, ◌<◌, ◌⊎◌, Bool, true, false, List, ◌++◌, replicate, take, Some, slice_get, Result, Ok, Err}
 use Rattle.xk_types.specs.declared.names.Entry.{Entry}
 use Rattle.xk_types.specs.Code.{ModuleValue}
 use Rattle.xk_types.specs.World.{World, opening, AreArguments}
@@ -27,6 +27,30 @@ pub record IsUnfinished (m : ModuleValue) (args : List ℤ) (log : List Entry) :
   pub leads : Leads m (schedule_of log) last
   pub given : last.arguments ≡ args
   pub goes_on : all_ended last ≡ false
+
+-- the log is that of a whole run: it is legal, and behind its last step all have ended
+pub record IsWhole (m : ModuleValue) (args : List ℤ) (log : List Entry) : Type 0 where
+  pub last : World
+  pub leads : Leads m (schedule_of log) last
+  pub given : last.arguments ≡ args
+  pub over : all_ended last ≡ true
+
+-- what a log can be
+pub data Verdict : Type 0 where
+  Whole : Verdict
+  Stopped : ℕ → Verdict
+  Unfinished : Verdict
+
+-- what a verdict says of a log: it is that of a whole run, this entry is the first that holds a step which isn't enabled, it stops before the run does
+abbrev pub Says : ModuleValue → List ℤ → List Entry → Verdict → Type 0
+Says m args log Whole = IsWhole m args log
+Says m args log (Stopped i) = IsStoppedAt m args log i
+Says m args log Unfinished = IsUnfinished m args log
+
+-- the answer is this fault, or that memory was refused
+abbrev pub Fails : {X Y : Type 0} → ReplayFault → Result X (Y × ReplayFault) → Type 0
+Fails f (Ok x) = ⊥
+Fails f (Err e) = (e.1 ≡ f) ⊎ (e.1 ≡ fault.OutOfMemory)
 
 -- what is told of a log that isn't that of a whole run; of want of memory nothing is said
 abbrev pub IsFaultOf : ModuleValue → List ℤ → List Entry → ReplayFault → Type 0

@@ -3,6 +3,7 @@
 
 mod charting;
 mod fault;
+pub mod laws;
 mod replaying;
 mod writing;
 

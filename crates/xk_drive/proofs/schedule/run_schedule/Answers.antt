@@ -1,10 +1,11 @@
-use Rattle.std.proofs.Common.{◌≡◌, ◌++◌, ◌∙◌, refl, subst, sym, ap, get_or, arith, inl, inr}
+use Rattle.std.proofs.Common.{◌≡◌, ◌++◌, ◌∙◌, false, refl, subst, sym, ap, get_or, arith, inl, inr}
 use Rattle.std.proofs.lemmas.Bool.{false≢true}
 use Rattle.std.proofs.lemmas.Option.{slice_get-get_or}
 use Rattle.xk_types.specs.Step.{Stepped, step}
+use Rattle.xk_types.specs.Schedule.{is_enabled}
 use Rattle.xk_core.specs.Core.{CoreValue, IsAboutToGrow}
 use Rattle.xk_drive.specs.Schedules.{shown, LeadsPart}
-use Rattle.xk_drive.proofs.Runs.{leads_more, shows_more, first_there}
+use Rattle.xk_drive.proofs.Runs.{leads_more, shows_more, first_there, stop_not_legal}
 use Rattle.xk_drive.proofs.schedule.run_schedule.Goals as goal
 
 pub loop-at-preserved : goal.loop-at-preserved
@@ -41,3 +42,13 @@ returns-in_default-step-clause-halted c =
             (subst (λ m. IsAboutToGrow m c.loop-at.core.world a) before.0 c.in_default-step.ensures.only_where_it_grows)),
       ),
     )
+
+pub returns-then-not-enabled-clause-never_wrongly : goal.returns-then-not-enabled-clause-never_wrongly
+returns-then-not-enabled-clause-never_wrongly c w through =
+    let before = c.loop-at.invariant in
+    let m = c.args.start.module_run in
+    let list = c.args.schedule.now in
+    let a = get_or list c.loop-at.at 0 in
+    let there = slice_get-get_or list c.loop-at.at 0 (omega arith) in
+    let blocked = subst (λ k. is_enabled k c.loop-at.core.world a ≡ false) before.0 (sym c.enabled.ensures ∙ c.if-not-enabled.true) in
+    stop_not_legal m list c.loop-at.at c.args.start.world c.loop-at.core.world w (before.1, a, there, blocked) through
