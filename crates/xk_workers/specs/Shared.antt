@@ -1,7 +1,8 @@
 -- The machine that workers share, as each sees it who has the lock. This project's own.
-use Rattle.std.specs.Prelude.{◌≡◌, ℕ, Bool, true, false, List, Result, Ok, Err, slice_set}
+use Rattle.std.specs.Prelude.{◌≡◌, ◌⊎◌, ℕ, Bool, true, false, List, Result, Ok, Err, IfOk, IfErr, slice_set}
 use Rattle.xk_types.specs.Schedule.{is_enabled, all_ended}
-use Rattle.xk_drive.specs.Driving.{IsCommitted}
+use Rattle.xk_drive.specs.Driving.{IsCommitted, IsChosen, IsChosenSoFar}
+use Rattle.xk_drive.specs.declared.chooser.First.{First}
 use Rattle.xk_drive.specs.declared.logged.Ended.{Ended}
 use Rattle.xk_drive.specs.declared.logged.Partial.{Partial}
 use Rattle.xk_workers.specs.declared.shared.Take.{Take}
@@ -107,7 +108,17 @@ pub record AreAlike (c d : CoreValue) : Type 0 where
   pub same_module : c.module_run ≡ d.module_run
   pub same_arguments : c.world.arguments ≡ d.world.arguments
 
+-- The run of this core in which each step is one of the least activity that can take one, to its end or cut short. Who chooses so has no state: it is
+-- the same before and behind.
+pub record IsRunByFirst (c : CoreValue) (answer : Result Ended Partial) : Type 0 where
+  pub before : First
+  pub behind : First
+  pub ended : IfOk answer (λ e. IsChosen (λ s list. 0) (λ s list. s) c.module_run c.world.arguments before e.log.items behind)
+  pub cut_short : IfErr answer (λ p. IsChosenSoFar (λ s list. 0) (λ s list. s) c.module_run c.world.arguments before p.log.items p.core.world behind)
+
 -- Where the workers' run is one of this core's module with its arguments, and has come to its end, it is the answer; so it is where they were told to stop before.
+-- Where it is another's, or the workers left off without either, the answer is the core's run by the order `first`.
 pub record IsSettled (s : SharedValue) (c : CoreValue) (answer : Result Ended Partial) : Type 0 where
   pub finished : AreAlike s.run.core c → all_ended s.run.core.world ≡ true → IsEndOf s.run answer
   pub cut_short : AreAlike s.run.core c → all_ended s.run.core.world ≡ false → s.stopped ≡ true → IsCutShort s.run answer
+  pub else_first : ((AreAlike s.run.core c → ⊥) ⊎ GoesOn s) → IsRunByFirst c answer
