@@ -17,6 +17,7 @@ use crate::claims::Claims;
 use crate::run::Run;
 use std::alloc::{AllocError, Global};
 use std::marker::Model;
+use thiserror::Error;
 use xk_activity::{Frames, Ticket};
 use xk_core::Core;
 use xk_drive::{Ended, Partial};
@@ -38,11 +39,13 @@ pub enum Take {
 }
 
 /// Why the steps of a ticket weren't taken.
-#[derive(Clone, Copy, Debug)]
+#[derive(Clone, Copy, Debug, PartialEq, Eq, Error)]
 pub enum CommitFault {
     /// The activity doesn't run, or hasn't the frames any more that they were computed from.
+    #[error("the activity hasn't the frames any more that the steps were computed from")]
     Stale,
     /// Memory was refused for the entry, or for the log that begins with it.
+    #[error("out of memory")]
     OutOfMemory,
 }
 
