@@ -56,6 +56,12 @@ claims_release c a claims kept = record {
   local = λ b h. kept.local b (still_claimed claims a b h).1;
 }
 
+-- to release who isn't claimed changes nothing
+pub nobody_released : (claims : List Bool) (a : ℕ) → is_claimed claims a ≡ false → slice_set claims a false ≡ claims
+nobody_released [] a free = refl
+nobody_released (c ∷ cs) zero free = ap (λ (x : Bool). x ∷ cs) (sym free)
+nobody_released (c ∷ cs) (suc a) free = ap (λ (l : List Bool). c ∷ l) (nobody_released cs a free)
+
 -- who wasn't claimed, and is put and released, leaves the claims as they were
 pub put_back : (claims : List Bool) (a : ℕ) → is_claimed claims a ≡ false → slice_set (slice_set claims a true) a false ≡ claims
 put_back [] a free = refl

@@ -1,5 +1,5 @@
 -- What is taken, and what is claimed then.
-use Rattle.std.proofs.Common.{◌≡◌, ◌<◌, ◌≤◌, ◌+◌, ℕ, zero, suc, Bool, true, false, true≢false, cond, List, [], ◌∷◌, ◌++◌, length, filter, Option, Some, None, refl, sym, subst, ap, ◌∙◌, arith, slice_get, ◌⊎◌, inl, inr}
+use Rattle.std.proofs.Common.{◌≡◌, ◌<◌, ◌≤◌, ◌+◌, ℕ, zero, suc, Bool, true, false, true≢false, cond, List, [], ◌∷◌, ◌++◌, length, filter, Option, Some, None, Result, Ok, Err, OnErr, is_err, refl, sym, subst, ap, ◌∙◌, arith, slice_get, ◌⊎◌, inl, inr}
 use Rattle.std.specs.List.{All}
 use Rattle.std.proofs.lemmas.Bool.{cases_eq}
 use Rattle.std.proofs.lemmas.List.{length_push}
@@ -18,7 +18,8 @@ use Rattle.xk_drive.specs.Choosing.{enabled_in}
 use Rattle.xk_drive.proofs.Untouched.{grows_by_start, keeps_width}
 use Rattle.xk_workers.specs.declared.shared.Take.TheVariants as take
 use Rattle.xk_workers.specs.Claims.{is_claimed, claims_after, AreClaims}
-use Rattle.xk_workers.specs.Shared.{SharedValue, AreAllClaimed, Tells, given_up, told_to_stop}
+use Rattle.xk_workers.specs.Shared.{SharedValue, AreAllClaimed, Tells, ActsVisibly, IsShort, given_up, told_to_stop, in_room_of}
+use Rattle.xk_workers.specs.Turned.{IsRefusedAStep, IsRefusedACopy}
 use Rattle.xk_workers.proofs.Handing.{put_back}
 use Rattle.xk_workers.proofs.Local.{stays_local}
 
@@ -120,9 +121,25 @@ pub tells_idle : (s : SharedValue) (first : ℕ) → s.stopped ≡ false → Som
     → All (λ a. is_claimed s.claims a ≡ true) (enabled_in s.run.core.module_run s.run.core.world) → Tells s take.Idle s
 tells_idle s first on is all = (on, all_claimed s first is all, refl)
 
--- ---- memory that is refused for frames
+-- ---- memory that is refused
 
--- who was claimed, and is given up at once: the workers are told to stop, and nothing else has changed
-pub given_back : (s told t : SharedValue) (a : ℕ) → Tells s (take.Work a) told → t ≡ given_up a told → t ≡ told_to_stop s
-given_back s told t a (goes, free, local, put) gone =
-    gone ∙ ap (given_up a) put ∙ ap (λ (l : List Bool). told_to_stop (record s { claims = l })) (put_back s.claims a free.unclaimed)
+-- for a copy of frames: who was claimed is given up at once, the workers are told to stop, and nothing else has changed
+pub copy_refused : (s told t : SharedValue) (a : ℕ) → Tells s (take.Work a) told → t ≡ given_up a told → IsRefusedACopy s t
+copy_refused s told t a (goes, free, local, put) gone = record {
+  act = a;
+  free = free;
+  local = local;
+  stopped = gone ∙ ap (given_up a) put ∙ ap (λ (l : List Bool). told_to_stop (record s { claims = l })) (put_back s.claims a free.unclaimed);
+}
+
+-- for a step: the workers are told to stop
+pub step_refused : {A E : Type 0} (r : Result A E) (s told left t : SharedValue) (a : ℕ) → is_err r ≡ true → Tells s (take.Act a) told → ActsVisibly s (take.Act a)
+    → OnErr r (IsShort left a) → OnErr r (left ≡ in_room_of left told) → t ≡ told_to_stop left → IsRefusedAStep s t
+step_refused (Ok x) s told left t a h tells seen short kept gone = absurd (true≢false (sym h))
+step_refused (Err e) s told left t a h (goes, free, same) seen short kept gone = subst (IsRefusedAStep s) (sym gone) (record {
+  act = a;
+  free = free;
+  seen = seen;
+  short = short;
+  stopped = ap told_to_stop (kept ∙ ap (in_room_of left) same);
+})

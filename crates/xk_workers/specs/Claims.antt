@@ -1,5 +1,6 @@
 -- Claims: whose local steps somebody computes, so that nobody else takes a step of it. This project's own.
-use Rattle.std.specs.Prelude.{◌≡◌, ℕ, Bool, true, false, List, [], ◌∷◌, ◌++◌, length, slice_index_or}
+use Rattle.std.specs.Prelude.{◌≡◌, ℕ, suc, Bool, true, false, List, [], ◌∷◌, ◌++◌, length, slice_index_or}
+use Rattle.std.specs.Vec.{vec_capacity}
 use Rattle.xk_types.specs.declared.names.Event.{Event}
 use Rattle.xk_types.specs.declared.names.Event.TheVariants as event
 use Rattle.xk_core.specs.Core.{CoreValue, is_next_local}
@@ -8,6 +9,10 @@ use Rattle.xk_workers.specs.declared.claims.Claims.{Claims}
 -- who is claimed, by number
 abbrev pub claims_in : Claims → List Bool
 claims_in c = c.main ∷ c.children.items
+
+-- how many claims there is room for without more memory
+abbrev pub claims_room : Claims → ℕ
+claims_room c = suc (vec_capacity c.children)
 
 -- activity a is claimed
 abbrev pub is_claimed : List Bool → ℕ → Bool

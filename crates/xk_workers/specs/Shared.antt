@@ -1,7 +1,8 @@
 -- The machine that workers share, as each sees it who has the lock. This project's own.
-use Rattle.std.specs.Prelude.{◌≡◌, ℕ, Bool, true, false, List, Result, Ok, Err, slice_set}
+use Rattle.std.specs.Prelude.{◌≡◌, ◌⊎◌, ℕ, Bool, true, false, List, length, Result, Ok, Err, IfOk, IfErr, slice_set}
 use Rattle.xk_types.specs.Schedule.{is_enabled, all_ended}
-use Rattle.xk_drive.specs.Driving.{IsCommitted}
+use Rattle.xk_drive.specs.Driving.{IsCommitted, IsChosen, IsChosenSoFar}
+use Rattle.xk_drive.specs.declared.chooser.First.{First}
 use Rattle.xk_drive.specs.declared.logged.Ended.{Ended}
 use Rattle.xk_drive.specs.declared.logged.Partial.{Partial}
 use Rattle.xk_workers.specs.declared.shared.Take.{Take}
@@ -13,12 +14,13 @@ use Rattle.xk_core.specs.Stretch.{RunsTo, AreLocal}
 use Rattle.xk_workers.specs.declared.shared.CommitFault.{CommitFault}
 use Rattle.xk_workers.specs.declared.shared.CommitFault.TheVariants as fault
 use Rattle.xk_workers.specs.Claims.{is_claimed}
-use Rattle.xk_workers.specs.Run.{RunValue}
+use Rattle.xk_workers.specs.Run.{RunValue, in_room, IsLogFull, IsShortOf}
 
--- a run with its log, who is claimed by number, and whether the workers were told to stop
+-- a run with its log, who is claimed by number, how many claims there is room for without more memory, and whether the workers were told to stop
 pub record SharedValue : Type 0 where
   pub run : RunValue
   pub claims : List Bool
+  pub claims_room : ℕ
   pub stopped : Bool
 
 -- activity a can take a step, and nobody has claimed it
@@ -46,6 +48,14 @@ told_to_stop s = record s { stopped = true }
 -- activity a is given up: it isn't claimed any more, and the workers are told to stop
 abbrev pub given_up : ℕ → SharedValue → SharedValue
 given_up a s = told_to_stop (without_claim a s)
+
+-- s, with the room that there is in t
+abbrev pub in_room_of : SharedValue → SharedValue → SharedValue
+in_room_of t s = record s { run = in_room t.run.room s.run; claims_room = t.claims_room }
+
+-- what a step of activity a may want memory for: a claim of whom it starts, or what its run wants it for
+abbrev pub IsShort : SharedValue → ℕ → Type 0
+IsShort s a = (length s.claims ≡ s.claims_room) ⊎ IsShortOf s.run a
 
 -- What a worker is told to do, before s and then t: the local steps of an activity, which it has claimed now; one step of an activity; to wait
 -- until others have done something; or nothing more, since all have ended, or since the workers were told to stop.
@@ -79,11 +89,11 @@ pub record HasTaken (s : SharedValue) (t : TicketValue) (next : SharedValue) : T
   pub goes_on : next.stopped ≡ s.stopped
 
 -- What became of a ticket, before s and then next: its steps were taken; its activity hasn't the ticket's old frames, or doesn't run; or there
--- was no memory for the entry. Where they weren't taken its claim is released, and nothing else has changed.
+-- was no memory for the entry, and the log is full. Where they weren't taken its claim is released, and nothing has changed but that and room.
 abbrev pub Commits : SharedValue → TicketValue → Result (Unit {0}) CommitFault → SharedValue → Type 0
 Commits s t (Ok done) next = HasTaken s t next
 Commits s t (Err fault.Stale) next = (Accepts s.run.core t → ⊥) × (next ≡ without_claim t.act s)
-Commits s t (Err fault.OutOfMemory) next = Accepts s.run.core t × (next ≡ without_claim t.act s)
+Commits s t (Err fault.OutOfMemory) next = Accepts s.run.core t × IsLogFull next.run × (next ≡ without_claim t.act (in_room_of next s))
 
 -- ---- the answer
 
@@ -107,7 +117,17 @@ pub record AreAlike (c d : CoreValue) : Type 0 where
   pub same_module : c.module_run ≡ d.module_run
   pub same_arguments : c.world.arguments ≡ d.world.arguments
 
+-- The run of this core in which each step is one of the least activity that can take one, to its end or cut short. Who chooses so has no state: it is
+-- the same before and behind.
+pub record IsRunByFirst (c : CoreValue) (answer : Result Ended Partial) : Type 0 where
+  pub before : First
+  pub behind : First
+  pub ended : IfOk answer (λ e. IsChosen (λ s list. 0) (λ s list. s) c.module_run c.world.arguments before e.log.items behind)
+  pub cut_short : IfErr answer (λ p. IsChosenSoFar (λ s list. 0) (λ s list. s) c.module_run c.world.arguments before p.log.items p.core.world behind)
+
 -- Where the workers' run is one of this core's module with its arguments, and has come to its end, it is the answer; so it is where they were told to stop before.
+-- Where it is another's, or the workers left off without either, the answer is the core's run by the order `first`.
 pub record IsSettled (s : SharedValue) (c : CoreValue) (answer : Result Ended Partial) : Type 0 where
   pub finished : AreAlike s.run.core c → all_ended s.run.core.world ≡ true → IsEndOf s.run answer
   pub cut_short : AreAlike s.run.core c → all_ended s.run.core.world ≡ false → s.stopped ≡ true → IsCutShort s.run answer
+  pub else_first : ((AreAlike s.run.core c → ⊥) ⊎ GoesOn s) → IsRunByFirst c answer

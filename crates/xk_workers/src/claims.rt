@@ -2,7 +2,7 @@
 
 ghost use Rattle.std.specs.Prelude.{◌≡◌, ◌<◌, false, [], ◌∷◌, slice_set};
 ghost use Rattle.std.specs.Vec.{vec_len, vec_capacity};
-ghost use Rattle.xk_workers.specs.Claims.{claims_in, is_claimed, claims_after};
+ghost use Rattle.xk_workers.specs.Claims.{claims_in, claims_room, is_claimed, claims_after};
 
 use std::alloc::Global;
 use xk_types::{Act, Event};
@@ -18,7 +18,8 @@ pub struct Claims {
 impl Claims {
     /// Main alone is there, and not claimed.
     pub fn none(alloc: Global) -> Claims
-        ensures { claims_in result ≡ false ∷ [] }
+        ensures claims { claims_in result ≡ false ∷ [] }
+        ensures room { claims_room result ≡ 1 }
     {
         Claims {
             main: false,
@@ -38,7 +39,8 @@ impl Claims {
 
     /// Says whether the activity is claimed from now on. One that has no place is none.
     pub fn put(&mut self, act: Act, claimed: bool)
-        ensures { claims_in self.new ≡ slice_set (claims_in self.old) act claimed }
+        ensures claims { claims_in self.new ≡ slice_set (claims_in self.old) act claimed }
+        ensures room { claims_room self.new ≡ claims_room self.old }
     {
         match act.0.checked_sub(1) {
             None => self.main = claimed,

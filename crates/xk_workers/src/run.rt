@@ -11,7 +11,7 @@ ghost use Rattle.xk_core.specs.Handed.{Accepts};
 ghost use Rattle.xk_core.specs.Stretch.{RunsTo, AreLocal};
 ghost use Rattle.xk_drive.specs.Choosing.{enabled_in};
 ghost use Rattle.xk_drive.specs.Driving.{IsCommitted};
-ghost use Rattle.xk_workers.specs.Run.{fresh_run, run_at, IsStage, IsGoing, IsLegalRun};
+ghost use Rattle.xk_workers.specs.Run.{fresh_run, in_room, run_at, IsStage, IsGoing, IsLegalRun, IsLogFull, IsShortOf};
 
 use std::alloc::{AllocError, Global};
 use std::marker::Model;
@@ -52,9 +52,10 @@ impl<'m> Model for Run<'m> {
 /// The run with its log begun, or as it was where memory was refused for the list of those who can take a step.
 fn begun<'m>(alloc: Global, stage: Stage<'m>) -> (Stage<'m>, Result<(), AllocError>)
     requires { IsStage stage }
-    ensures same { run_at result.0 ≡ run_at stage.entry }
+    ensures same { run_at result.0 ≡ in_room (run_at result.0).room (run_at stage.entry) }
     ensures there { IsStage result.0 }
     ensures going { OnOk result.1 (IsGoing result.0) }
+    ensures full { OnErr result.1 (IsLogFull (run_at result.0)) }
 {
     match stage {
         Stage::Fresh(core) => match Logged::open(alloc, core) {
@@ -66,12 +67,13 @@ fn begun<'m>(alloc: Global, stage: Stage<'m>) -> (Stage<'m>, Result<(), AllocErr
     }
 }
 
-/// Begins the log. Where memory is refused nothing changes.
+/// Begins the log. Where memory is refused nothing changes: it has no room yet.
 fn begin_log(stage: &mut Stage<'_>, alloc: Global) -> Result<(), AllocError>
     requires { IsStage stage.old }
-    ensures same { run_at stage.new ≡ run_at stage.old }
+    ensures same { run_at stage.new ≡ in_room (run_at stage.new).room (run_at stage.old) }
     ensures there { IsStage stage.new }
     ensures going { OnOk result (IsGoing stage.new) }
+    ensures full { OnErr result (IsLogFull (run_at stage.new)) }
 {
     let (next, answer) = begun(alloc, mem::replace(stage, Stage::Between));
     drop(mem::replace(stage, next));
@@ -81,9 +83,10 @@ fn begin_log(stage: &mut Stage<'_>, alloc: Global) -> Result<(), AllocError>
 /// Begins the log, if it isn't begun. Where memory is refused nothing changes.
 fn begin(stage: &mut Stage<'_>, alloc: Global) -> Result<(), AllocError>
     requires { IsStage stage.old }
-    ensures same { run_at stage.new ≡ run_at stage.old }
+    ensures same { run_at stage.new ≡ in_room (run_at stage.new).room (run_at stage.old) }
     ensures there { IsStage stage.new }
     ensures going { OnOk result (IsGoing stage.new) }
+    ensures full { OnErr result (IsLogFull (run_at stage.new)) }
 {
     match stage {
         Stage::Going(_) => Ok(()),
@@ -158,13 +161,14 @@ impl<'m> Run<'m> {
         }
     }
 
-    /// One step of the activity, with its entry. Where memory is refused no step is taken, and nothing has changed.
+    /// One step of the activity, with its entry. Where memory is refused no step is taken, and nothing has changed but room.
     pub fn step(&mut self, act: Act) -> Result<Event, AllocError>
         requires { IsTrue (is_enabled self.old.core.module_run self.old.core.world act) }
         ensures stepped { IfOk result (StepsTo self.old.core act self.new.core) }
         ensures logged { OnOk result (self.new.log ≡ self.old.log ++ one_step_of act ∷ []) }
         ensures same_module { self.new.core.module_run ≡ self.old.core.module_run }
-        ensures refused { OnErr result (self.new ≡ self.old) }
+        ensures refused { OnErr result (self.new ≡ in_room self.new.room self.old) }
+        ensures only_where_it_grows { OnErr result (IsShortOf self.new act) }
         // The module is accepted, and every core is where a legal schedule of it leads.
         ensures core { IsCore self.old.core.module_run self.old.core.world }
     {
@@ -188,7 +192,7 @@ impl<'m> Run<'m> {
         core.frames(act).copy(self.alloc)
     }
 
-    /// The steps of a ticket, with one entry. Where memory is refused none is taken, and nothing has changed.
+    /// The steps of a ticket, with one entry. Where memory is refused none is taken, and nothing has changed but room.
     pub fn commit(&mut self, ticket: Ticket<'m>) -> Result<(), AllocError>
         requires { Accepts self.old.core ticket }
         ensures ran { OnOk result
@@ -199,7 +203,8 @@ impl<'m> Run<'m> {
             (IsCommitted self.old.log ticket.entry.act ticket.entry.steps self.new.log) }
         ensures printed { self.new.printed ≡ self.old.printed }
         ensures same_module { self.new.core.module_run ≡ self.old.core.module_run }
-        ensures refused { OnErr result (self.new ≡ self.old) }
+        ensures refused { OnErr result (self.new ≡ in_room self.new.room self.old) }
+        ensures only_where_it_grows { OnErr result (IsLogFull self.new) }
         // The module is accepted, and every core is where a legal schedule of it leads.
         ensures core { IsCore self.old.core.module_run self.old.core.world }
     {

@@ -11,12 +11,13 @@ ghost use Rattle.xk_core.specs.Core.{StepsTo, is_next_local};
 ghost use Rattle.xk_drive.specs.Choosing.{enabled_in};
 ghost use Rattle.xk_workers.specs.Claims.{claims_in, is_claimed, claims_after};
 ghost use Rattle.xk_workers.specs.Run.{fresh_run, IsLegalRun};
-ghost use Rattle.xk_workers.specs.Shared.{IsFree, Tells, ActsVisibly, Commits, GoesOn, given_up, without_claim};
+ghost use Rattle.xk_workers.specs.Shared.{IsFree, Tells, ActsVisibly, Commits, GoesOn, IsShort, given_up, in_room_of, told_to_stop, without_claim};
 
 use crate::claims::Claims;
 use crate::run::Run;
 use std::alloc::{AllocError, Global};
 use std::marker::Model;
+use thiserror::Error;
 use xk_activity::{Frames, Ticket};
 use xk_core::Core;
 use xk_drive::{Ended, Partial};
@@ -38,11 +39,13 @@ pub enum Take {
 }
 
 /// Why the steps of a ticket weren't taken.
-#[derive(Clone, Copy, Debug)]
+#[derive(Clone, Copy, Debug, PartialEq, Eq, Error)]
 pub enum CommitFault {
     /// The activity doesn't run, or hasn't the frames any more that they were computed from.
+    #[error("the activity hasn't the frames any more that the steps were computed from")]
     Stale,
     /// Memory was refused for the entry, or for the log that begins with it.
+    #[error("out of memory")]
     OutOfMemory,
 }
 
@@ -55,7 +58,7 @@ pub struct Shared<'m> {
 }
 
 impl<'m> Model for Shared<'m> {
-    ghost use Rattle.xk_workers.specs.Claims.{claims_in, AreClaims};
+    ghost use Rattle.xk_workers.specs.Claims.{claims_in, claims_room, AreClaims};
     ghost use Rattle.xk_workers.specs.Shared.{SharedValue};
 
     ghost Value = { SharedValue };
@@ -63,6 +66,7 @@ impl<'m> Model for Shared<'m> {
     ghost view = { λ s. record {
       run = s.run;
       claims = claims_in s.claims;
+      claims_room = claims_room s.claims;
       stopped = s.stopped;
     } };
 
@@ -95,6 +99,7 @@ impl<'m> Shared<'m> {
         requires { start.world.steps ≡ 0 }
         ensures run { result.run ≡ fresh_run start.entry }
         ensures unclaimed { result.claims ≡ false ∷ [] }
+        ensures room { result.claims_room ≡ 1 }
         ensures goes_on { result.stopped ≡ false }
     {
         Shared {
@@ -163,25 +168,27 @@ impl<'m> Shared<'m> {
         self.run.copy(act)
     }
 
-    /// Ends the claim of the activity, if it has one.
-    fn end_claim(&mut self, act: Act)
-        ensures { self.new ≡ without_claim act self.old }
-    {
-        self.claims.put(act, false);
-    }
-
     /// Ends the claim of the activity.
     pub fn release(&mut self, act: Act)
         requires { is_claimed self.old.claims act ≡ true }
         ensures { self.new ≡ without_claim act self.old }
     {
-        self.end_claim(act);
+        self.claims.put(act, false);
+    }
+
+    /// Ends the claim of the activity, if it has one.
+    fn end_claim(&mut self, act: Act)
+        ensures { self.new ≡ without_claim act self.old }
+    {
+        if self.claimed(act) {
+            self.release(act);
+        }
     }
 
     /// Hands in local steps of an activity that were computed outside the lock: they are taken at once, with one entry. `Stale` exactly
     /// where the activity doesn't run, or hasn't the ticket's old frames any more, which is looked at first; `OutOfMemory` where
-    /// memory is refused for the entry, or for the log that begins with it. However it goes, the activity isn't claimed any more, and
-    /// where it goes wrong nothing else has changed.
+    /// memory is refused for the entry, or for the log that begins with it: only a full log wants some. However it goes, the activity
+    /// isn't claimed any more, and where it goes wrong nothing else has changed but room.
     pub fn commit(&mut self, ticket: Ticket<'m>) -> Result<(), CommitFault>
         ensures { Commits self.old ticket.entry result self.new }
     {
@@ -196,7 +203,8 @@ impl<'m> Shared<'m> {
     }
 
     /// One step of the activity, with its entry in the log. The room for the entry, for a number that it may print and for the claim of
-    /// an activity that it may start is made first: where memory is refused no step is taken, and nothing has changed.
+    /// an activity that it may start is made first: where memory is refused no step is taken, and nothing has changed but room. None is
+    /// refused where each of these has room and the activity isn't about to start another.
     pub fn act(&mut self, act: Act) -> Result<Event, AllocError>
         requires { IsFree self.old act }
         ensures stepped { IfOk result (StepsTo self.old.run.core act self.new.run.core) }
@@ -205,7 +213,8 @@ impl<'m> Shared<'m> {
         ensures claims { IfOk result (λ e. self.new.claims ≡ claims_after e self.old.claims) }
         ensures same_module { self.new.run.core.module_run ≡ self.old.run.core.module_run }
         ensures goes_on { self.new.stopped ≡ self.old.stopped }
-        ensures refused { OnErr result (self.new ≡ self.old) }
+        ensures refused { OnErr result (self.new ≡ in_room_of self.new self.old) }
+        ensures only_where_it_grows { OnErr result (IsShort self.new act) }
     {
         self.claims.children.try_reserve(1)?;
         let event = self.run.step(act)?;
@@ -223,9 +232,7 @@ impl<'m> Shared<'m> {
 
     /// Tells the workers to stop.
     pub fn stop(&mut self)
-        ensures run { self.new.run ≡ self.old.run }
-        ensures claims { self.new.claims ≡ self.old.claims }
-        ensures stopped { self.new.stopped ≡ true }
+        ensures { self.new ≡ told_to_stop self.old }
     {
         self.stopped = true;
     }

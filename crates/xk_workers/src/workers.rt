@@ -2,6 +2,7 @@
 
 ghost use Rattle.std.specs.Prelude.{◌≡◌, ◌≤◌, true, false, IfOk, IfErr};
 ghost use Rattle.std.specs.Bool.{Decides};
+ghost use Rattle.xk_types.specs.Schedule.{all_ended};
 ghost use Rattle.xk_workers.specs.Shared.{AreAlike, IsSettled, GoesOn};
 ghost use Rattle.xk_workers.specs.Turned.{CanCompute, HandsIn, Turns};
 ghost use Rattle.xk_workers.specs.Workers.{most_workers};
@@ -150,6 +151,7 @@ fn is_same(shared: &Shared<'_>, core: &Core<'_>) -> bool
 /// to stop.
 fn is_answer(shared: &Shared<'_>, core: &Core<'_>) -> bool
     ensures same { result ≡ true → AreAlike shared.now.run.core core.now }
+    ensures left_off { result ≡ true → GoesOn shared.now → ⊥ }
     ensures none { result ≡ false → AreAlike shared.now.run.core core.now → GoesOn shared.now }
 {
     is_same(shared, core) && !shared.goes_on()
@@ -166,6 +168,8 @@ fn settle<'m>(alloc: Global, shared: Shared<'m>, aside: Core<'m>) -> Result<Ende
         (λ e. e.core.world.arguments ≡ aside.entry.world.arguments) }
     ensures partial_same_arguments { IfErr result
         (λ p. p.core.world.arguments ≡ aside.entry.world.arguments) }
+    // Somebody could still take a step.
+    ensures partial_goes_on { IfErr result (λ p. all_ended p.core.world ≡ false) }
     ensures settled { IsSettled shared.entry aside.entry result }
 {
     if is_answer(&shared, &aside) {
@@ -196,6 +200,8 @@ pub fn run_workers<'m, R: Threads + Wait + Sync, G: Gate + Sync>(
         (λ e. e.core.world.arguments ≡ start.entry.world.arguments) }
     ensures partial_same_arguments { IfErr result
         (λ p. p.core.world.arguments ≡ start.entry.world.arguments) }
+    // Somebody could still take a step.
+    ensures partial_goes_on { IfErr result (λ p. all_ended p.core.world ≡ false) }
 {
     let Ok(aside) = Core::open(alloc, start.module(), start.arguments()) else {
         return Err(unstarted(alloc, start));
