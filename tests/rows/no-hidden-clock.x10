@@ -1,0 +1,3 @@
+def main() {
+    clocked finish finish clocked async { }
+}
