@@ -2,9 +2,10 @@
 # Runs small programs by 1, 2 and 64 worker threads: two activities in step, a ring of three clocks, three activities that add to a shared
 # number, two that have long loops of their own, and as many on a clock as main is given. Each run has to end in as many steps as every run
 # of the program, and to print the same numbers, in whatever order; its log has to have the same entries, in whatever order, and to be that
-# of a run that prints just what it printed, and that can be charted. Five times each, also where no thread or few can be started. With the
-# word `stress` two hundred times each, and then the ring a thousand times by 64 workers on two processors, within five minutes; how long
-# that takes is told beside the same in the order `first`.
+# of a run that prints just what it printed, and that can be charted. Five times each, also where no thread or few can be started. Then a
+# storm: fifty runs by 4 workers of 57 activities that go through 25 phases of nine clocks, each within ten seconds; and a long run by 3
+# workers, which has to have three threads. With the word `stress` all but these two hundred times each, and then the ring a thousand times by
+# 64 workers on two processors, within five minutes; how long that takes is told beside the same in the order `first`.
 set -eu
 cd "$(dirname "$0")/.."
 program=${X10CLOCK:-crates/x10clock/out/x10clock}
@@ -61,6 +62,35 @@ often() {
     done
 }
 
+# storm: fifty runs of many phases by 4 workers.
+storm() {
+    printf '1200\nended steps 6240\n' > "$work/wanted"
+    at=0
+    while [ "$at" -lt 50 ]; do
+        timeout 10 "$program" run --workers 4 tests/logs/storm.x10 > "$work/out" 2> "$work/err" || fail "storm $at: status $?: $(cat "$work/err")"
+        cmp -s "$work/out" "$work/wanted" || fail "storm $at: $(cat "$work/out")"
+        at=$((at + 1))
+        runs=$((runs + 1))
+    done
+}
+
+# three_threads: a run by 3 workers that takes long has three threads within ten seconds, and is ended then.
+three_threads() {
+    "$program" run --workers 3 tests/logs/endless.x10 > "$work/out" 2> "$work/err" &
+    running=$!
+    threads=0
+    at=0
+    while [ "$threads" -ne 3 ] && [ "$at" -lt 100 ]; do
+        sleep 0.1
+        threads=$(awk '$1 == "Threads:" { print $2 }' "/proc/$running/status") || threads=0
+        at=$((at + 1))
+    done
+    kill "$running" || fail "three threads: no run any more"
+    wait "$running" || true
+    [ "$threads" -eq 3 ] || fail "three threads: there are $threads: $(cat "$work/out" "$work/err")"
+    runs=$((runs + 1))
+}
+
 # seconds WORDS..: how long a thousand runs of the ring with these words take on two processors.
 seconds() {
     begun=$(date +%s.%N)
@@ -79,6 +109,8 @@ times=5
 [ "${1:-}" != stress ] || times=200
 often "$times" unlimited
 often 5 60000000
+storm
+three_threads
 if [ "${1:-}" = stress ]; then
     two=$(python3 -c 'import os; print(*sorted(os.sched_getaffinity(0))[:2], sep=",")')
     echo "workers: a thousand rings on two processors: $(seconds --workers 64) s by 64 workers, $(seconds --order first) s in the order first"

@@ -81,3 +81,18 @@ echo 'accepted steps 132096 activities 1024 clocks 0'
 echo 'run: 2016,ended steps 132096'
 echo 'last: 2016,ended steps 132096'
 echo 'round: 2016,ended steps 132096'
+
+# 1,500 finishes one in another, of main, which starts one activity in the innermost; and a thousand activities, each of which starts the next
+# one in a finish.
+starts=$(awk 'BEGIN { for (k = 0; k < 1500; k++) printf "[\"finish\",%d],", 3000 - k }')
+ends=$(awk 'BEGIN { for (k = 1499; k >= 0; k--) printf "[\"endfinish\",%d],", k }')
+units 2 body 0 "$starts[\"spawn\",NEXT,[]],$ends[\"ret\"]" '["ret"]'
+echo 'accepted steps 3003 activities 2 clocks 0'
+echo 'every: ended steps 3003'
+units 1000 body 0 '["finish",2],["spawn",NEXT,[]],["endfinish",0],["ret"]' '["ret"]'
+echo 'accepted steps 3997 activities 1000 clocks 0'
+echo 'every: ended steps 3997'
+
+# A refusal whose walk has 403 places.
+units 1 main 2 '' "[\"finish\",402],[\"make\",0],$(repeated 400 '["lit",1,7]'),[\"endfinish\",0],[\"ret\"]"
+echo "x10clock: V12 Held unit 0 at 402 slot 0 live walk $(seq -s ' ' 0 402)"

@@ -1,0 +1,3 @@
+def main() {
+    for (i in 1..60000) async ;
+}
