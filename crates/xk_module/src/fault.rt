@@ -10,7 +10,7 @@ use thiserror::Error;
 /// Why bytes are no module.
 #[derive(Clone, Copy, Debug, PartialEq, Eq, Error)]
 pub enum ModuleFault {
-    /// M1: the bytes are no JSON text in UTF-8.
+    /// M1: the bytes are no JSON text in UTF-8 that is read: nested at most 127 deep, numbers within a float's range.
     #[error("the bytes are no JSON text")]
     NotJson,
     /// M2: they are, and the value names no module.

@@ -26,7 +26,7 @@ use xk_types::Module;
 /// Keys come in any order, and white space is free; of a key that comes twice the last value counts. `1.0`, `1e0` and `-0` are
 /// no whole numbers. The limits of a module count only where the whole value fits.
 ///
-/// What goes wrong is a `ModuleFault`. `OutOfMemory` comes where memory was refused and never else.
+/// What goes wrong is a `ModuleFault`. `OutOfMemory` is meant for a refused growth alone.
 pub fn read_module(alloc: Global, bytes: &[u8]) -> Result<Module, ModuleFault>
     ensures read { IfOk result (IsModuleText bytes.now) }
     ensures limits { IfOk result IsWithinLimits }
