@@ -14,17 +14,14 @@ use Rattle.xk_tree.specs.Tree.{TreeValue, shared_value}
 use Rattle.xk_tree.specs.Bodies.{HasBodiesApart}
 use Rattle.xk_names.specs.Faults.{fault}
 use Rattle.xk_names.specs.Scoped.{IsScoped}
-use Rattle.xk_units.specs.Recursion.{HasRecursion}
 use Rattle.xk_types.specs.Code.{UnitValue, IsUnitWithinLimits}
 use Rattle.xk_code.specs.CodeOf.{Setting}
 use Rattle.xk_codegen.specs.declared.parts.Part as declared
 use Rattle.xk_source.specs.Parts.{Part, OfMethod, OfBody}
-use Rattle.xk_codegen.specs.Named.{IsPartCovered}
+use Rattle.xk_codegen.specs.Named.{AreCovered, IsPartCovered}
 use Rattle.xk_codegen.specs.Views.{part}
-use Rattle.xk_codegen.specs.Places.{RunsItself}
 use Rattle.xk_source.specs.Compiled.{AreUnits, IsSetting, unit_of_part}
-use Rattle.xk_codegen.specs.Faults.{IsTableFault, IsLarge, ManyShared, Beyond, Large, offset}
-use Rattle.xk_codegen.proofs.Again.{never_again}
+use Rattle.xk_codegen.specs.Faults.{IsTableFault, IsFaultOf, IsClean, IsFalling, IsLarge, ManyShared, Beyond, Large, InTables, offset}
 use Rattle.xk_source.proofs.Units.Settled.{AreSettled}
 use Rattle.xk_source.proofs.Units.Covered.{entry_there, method_there, body_there}
 
@@ -51,14 +48,12 @@ many_shared t ss s f are at is =
 
 -- ---- units
 
--- a part stands there that goes beyond a limit, in each program that has these units
+-- where the code of each of these parts is covered, one stands there that goes beyond a limit
 abbrev pub IsBeyond : Setting → List declared.Part → ℕ → Type 0
-IsBeyond cx ps at =
-    (t : TreeValue) → IsScoped t → HasBodiesApart t → AreUnits t (map part ps) → IsSetting t (map part ps) cx
-    → (p : Part) × IsLarge (map part ps) cx p × (at ≡ offset p)
+IsBeyond cx ps at = AreCovered cx (map part ps) → (p : Part) × IsLarge (map part ps) cx p × (at ≡ offset p)
 
 pub many_units : (cx : Setting) (ps : List declared.Part) (at : ℕ) → option_map offset (slice_get (map part ps) 1024) ≡ Some at → IsBeyond cx ps at
-many_units cx ps at e t scoped apart are setting = go (slice_get (map part ps) 1024) refl e
+many_units cx ps at e names = go (slice_get (map part ps) 1024) refl e
   where
     go : (o : Option Part) → slice_get (map part ps) 1024 ≡ o → option_map offset o ≡ Some at → (p : Part) × IsLarge (map part ps) cx p × (at ≡ offset p)
     go None is h = absurd cc
@@ -88,18 +83,19 @@ pub beyond_none : (ps : List declared.Part) → length ps ≤ 1024 → None ≡ 
 beyond_none ps few =
     let same = length-map ps part in ap (option_map offset) (sym (slice_get_past (map part ps) 1024 (omega arith)))
 
--- the code of each unit needs no more names than there are
-covered : (t : TreeValue) (us : List Part) (cx : Setting) → IsScoped t → AreSettled t us cx → (k : ℕ) (p : Part) → slice_get us k ≡ Some p
-    → IsPartCovered cx p
+covered : (t : TreeValue) (us : List Part) (cx : Setting) → IsScoped t → AreSettled t us cx → AreCovered cx us
 covered t us cx scoped h k (OfMethod m) e = method_there t us cx h scoped k m e
 covered t us cx scoped h k (OfBody at cs s) e = (entry_there t us cx h k at cs s e, body_there t us cx h scoped k at cs s e)
 
+-- the code of each unit of a program needs no more names than there are
+pub all_covered : (t : TreeValue) (us : List Part) (cx : Setting) → IsScoped t → HasBodiesApart t → AreUnits t us → IsSetting t us cx → AreCovered cx us
+all_covered t us cx scoped apart are setting = covered t us cx scoped (record { apart = apart; are_units = are; is_setting = setting })
+
 pub large_unit : (cx : Setting) (ps : List declared.Part) (k : ℕ) (p : declared.Part) (at : ℕ) → slice_get ps k ≡ Some p
     → (IsPartCovered cx (part p) → IsUnitWithinLimits (unit_of_part cx (part p)) → ⊥) → at ≡ offset (part p) → IsBeyond cx ps at
-large_unit cx ps k p at stands none is t scoped apart are setting =
+large_unit cx ps k p at stands none is names =
     let there : slice_get (map part ps) k ≡ Some (part p) = slice_get-map part ps k ∙ ap (option_map part) stands in
-    let names = covered t (map part ps) cx scoped (record { apart = apart; are_units = are; is_setting = setting }) k (part p) there in
-    (part p, Large k there (none names), is)
+    (part p, Large k there (none (names k (part p) there)), is)
 
 -- the lesser of two is one of them
 pub either : (P : ℕ → Type 0) (worst : Option ℕ) (at : ℕ) → ((other : ℕ) → worst ≡ Some other → P other) → P at → P (option_map_or (min at) worst at)
@@ -185,7 +181,8 @@ least_of_all cx ps k worst at end h is q (Large i e none) =
     let less : i < k = omega arith in
     subst (λ o. IsNoMore o (offset q)) is (h.large i q less e none)
 
--- ---- parts that are run again
+-- ---- programs
 
-pub none_again : (t : TreeValue) (f : FrontFault) → IsScoped t → ((g : FrontFault) → HasRecursion t g → ⊥) → HasBodiesApart t → RunsItself t f → ⊥
-none_again t f scoped none apart r = never_again t apart scoped none r.place r.call r.again
+-- what is told where there is neither a fault of names nor a recursive call
+pub in_tables : (t : TreeValue) (f : FrontFault) → IsClean t → IsFalling t → IsTableFault t f → IsFaultOf t f
+in_tables t f clean falls table = InTables clean falls table

@@ -21,23 +21,27 @@ pub data IsLarge (units : List Part) (cx : Setting) (p : Part) : Type 0 where
   Beyond : slice_get units 1024 ≡ Some p → IsLarge units cx p
   Large : (k : ℕ) → slice_get units k ≡ Some p → (IsUnitWithinLimits (unit_of_part cx p) → ⊥) → IsLarge units cx p
 
--- the fault F14 at the least offset of a part that goes beyond a limit
-pub record IsFirstLarge (t : TreeValue) (f : FrontFault) : Type 0 where
+-- the fault F14 at the least offset of a part of these units that goes beyond a limit
+pub record IsFirstLarge (units : List Part) (cx : Setting) (f : FrontFault) : Type 0 where
+  pub part : Part
+  pub large : IsLarge units cx part
+  pub is : f ≡ fault rule.Table (offset part)
+  pub first : (q : Part) → IsLarge units cx q → offset part ≤ offset q
+
+-- the same of the units that a program has
+pub record HasLargePart (t : TreeValue) (f : FrontFault) : Type 0 where
   pub units : List Part
   pub setting : Setting
   pub are_units : AreUnits t units
   pub is_setting : IsSetting t units setting
-  pub part : Part
-  pub large : IsLarge units setting part
-  pub is : f ≡ fault rule.Table (offset part)
-  pub first : (q : Part) → IsLarge units setting q → offset part ≤ offset q
+  pub first : IsFirstLarge units setting f
 
 -- A table goes over its limit, and the fault is the one that is told.
 pub data IsTableFault (t : TreeValue) (f : FrontFault) : Type 0 where
   -- more than 256 shared numbers: at the 257th
   ManyShared : (s : SharedValue) → slice_get t.shared 256 ≡ Some s → f ≡ fault rule.Table s.name.at → IsTableFault t f
   -- else a part that goes beyond a limit
-  LargePart : length t.shared ≤ 256 → IsFirstLarge t f → IsTableFault t f
+  LargePart : length t.shared ≤ 256 → HasLargePart t f → IsTableFault t f
 
 -- no fault of names, F5 to F9, F11, F12 or F15
 abbrev pub IsClean : TreeValue → Type 0

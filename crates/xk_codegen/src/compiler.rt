@@ -4,14 +4,14 @@ ghost use Rattle.std.specs.Prelude.{◌≡◌, ◌≤◌, All, Ok, Err, Some, No
 ghost use Rattle.std.specs.Option.{option_map_or};
 ghost use Rattle.xk_types.specs.Code.{IsUnitWithinLimits, IsWithinLimits, module_of};
 ghost use Rattle.xk_tree.specs.declared.fault.FrontFault.{FrontFault as Fault};
-ghost use Rattle.xk_tree.specs.Bodies.{HasBodiesApart};
-ghost use Rattle.xk_tree.specs.Tree.{TreeValue, method_value, shared_value, tree_value};
+ghost use Rattle.xk_tree.specs.Tree.{method_value, shared_value};
+ghost use Rattle.xk_tree.specs.Program.{tree_value};
 ghost use Rattle.xk_code.specs.Room.{Denies};
 ghost use Rattle.xk_names.specs.Faults.{HasFault};
 ghost use Rattle.xk_names.specs.Scoped.{IsScoped};
 ghost use Rattle.xk_units.specs.Recursion.{HasRecursion};
 ghost use Rattle.xk_codegen.specs.Views.{part};
-ghost use Rattle.xk_codegen.specs.Named.{IsPartCovered};
+ghost use Rattle.xk_codegen.specs.Named.{AreCovered, IsPartCovered};
 ghost use Rattle.xk_source.specs.Meaning.{Means};
 ghost use Rattle.xk_source.specs.Compiled.{AreUnits, IsCompiled, IsSetting, method_kind, unit_of_part};
 ghost use Rattle.xk_codegen.specs.Faults.{IsFaultOf, IsFirstLarge, IsTableFault, offset};
@@ -113,9 +113,9 @@ fn units_of<'t>(
         ≡ map (unit_of_part setting.now) (map part parts.now)) }
     ensures count { OnOk result (length parts.now ≤ 1024) }
     ensures limits { IfOk result (λ units. All IsUnitWithinLimits units.items) }
-    ensures fault { (f : Fault) (t : TreeValue) → result ≡ Err (FrontError.Fault f)
-        → IsScoped t → HasBodiesApart t → AreUnits t (map part parts.now)
-        → IsSetting t (map part parts.now) setting.now → IsFirstLarge t f }
+    ensures fault { (f : Fault) → result ≡ Err (FrontError.Fault f)
+        → AreCovered setting.now (map part parts.now)
+        → IsFirstLarge (map part parts.now) setting.now f }
 {
     let mut worst = beyond(parts);
     let mut units = Vec::new(alloc);
@@ -217,11 +217,10 @@ fn module_in<'a, 't>(
     requires setting { IsSetting (tree_value tree.now) (map part parts.now) setting.now }
     ensures compiled { IfOk result (λ m. IsCompiled (tree_value tree.now) m) }
     ensures limits { IfOk result IsWithinLimits }
-    ensures keeps { IfOk result (λ m. HasBodiesApart (tree_value tree.now) → KeepsShape m) }
-    ensures means { IfOk result (λ m. HasBodiesApart (tree_value tree.now)
-        → Means (tree_value tree.now) m) }
+    ensures keeps { IfOk result KeepsShape }
+    ensures means { IfOk result (λ m. Means (tree_value tree.now) m) }
     ensures fault { (f : Fault) → result ≡ Err (FrontError.Fault f)
-        → HasBodiesApart (tree_value tree.now) → IsTableFault (tree_value tree.now) f }
+        → IsTableFault (tree_value tree.now) f }
 {
     let units = units_of(alloc, setting, parts)?;
     let module = module(alloc, tree, units)?;
@@ -239,11 +238,10 @@ fn module_of_parts<'a, 't>(
     requires units { AreUnits (tree_value tree.now) (map part parts.now) }
     ensures compiled { IfOk result (λ m. IsCompiled (tree_value tree.now) m) }
     ensures limits { IfOk result IsWithinLimits }
-    ensures keeps { IfOk result (λ m. HasBodiesApart (tree_value tree.now) → KeepsShape m) }
-    ensures means { IfOk result (λ m. HasBodiesApart (tree_value tree.now)
-        → Means (tree_value tree.now) m) }
+    ensures keeps { IfOk result KeepsShape }
+    ensures means { IfOk result (λ m. Means (tree_value tree.now) m) }
     ensures fault { (f : Fault) → result ≡ Err (FrontError.Fault f)
-        → HasBodiesApart (tree_value tree.now) → IsTableFault (tree_value tree.now) f }
+        → IsTableFault (tree_value tree.now) f }
 {
     let setting = settle(alloc, tree, parts)?;
     module_in(alloc, tree, &setting, parts)
@@ -255,34 +253,30 @@ fn code(alloc: Global, tree: &Tree<'_>) -> Result<Module, FrontError>
     requires falls { (f : Fault) → HasRecursion (tree_value tree.now) f → ⊥ }
     ensures compiled { IfOk result (λ m. IsCompiled (tree_value tree.now) m) }
     ensures limits { IfOk result IsWithinLimits }
-    ensures keeps { IfOk result (λ m. HasBodiesApart (tree_value tree.now) → KeepsShape m) }
-    ensures means { IfOk result (λ m. HasBodiesApart (tree_value tree.now)
-        → Means (tree_value tree.now) m) }
+    ensures keeps { IfOk result KeepsShape }
+    ensures means { IfOk result (λ m. Means (tree_value tree.now) m) }
     ensures fault { (f : Fault) → result ≡ Err (FrontError.Fault f)
-        → HasBodiesApart (tree_value tree.now) → IsTableFault (tree_value tree.now) f }
+        → IsTableFault (tree_value tree.now) f }
 {
     check_shared(tree)?;
-    match units_in_order(alloc, tree) {
-        Ok(parts) => module_of_parts(alloc, tree, &parts),
-        Err(e) => Err(e),
-    }
+    let parts = units_in_order(alloc, tree)?;
+    module_of_parts(alloc, tree, &parts)
 }
 
 /// The module that is the code of a tree. Else a fault of the tree: F5 to F8, F11, F12 and F15 first, at the least offset, of two there the one of
 /// the lesser number; then F9; then F10, at the least offset, which the contract leaves open; then F14, at the 257th shared number or else at the
-/// least offset. What the module means, and which fault comes first, is promised where the offsets of the words `async` rise, as in each tree that
-/// is parsed.
+/// least offset.
+#[tactic(auto, using(crate::proofs::Faults::in_tables))]
 pub fn compile(alloc: Global, tree: &Tree<'_>) -> Result<Module, FrontError>
     ensures clean { OnOk result ((f : Fault) → HasFault (tree_value tree.now) f → ⊥) }
     ensures scoped { OnOk result (IsScoped (tree_value tree.now)) }
     ensures falls { OnOk result ((f : Fault) → HasRecursion (tree_value tree.now) f → ⊥) }
     ensures compiled { IfOk result (λ m. IsCompiled (tree_value tree.now) m) }
     ensures limits { IfOk result IsWithinLimits }
-    ensures keeps { IfOk result (λ m. HasBodiesApart (tree_value tree.now) → KeepsShape m) }
-    ensures means { IfOk result (λ m. HasBodiesApart (tree_value tree.now)
-        → Means (tree_value tree.now) m) }
+    ensures keeps { IfOk result KeepsShape }
+    ensures means { IfOk result (λ m. Means (tree_value tree.now) m) }
     ensures fault { (f : Fault) → result ≡ Err (FrontError.Fault f)
-        → HasBodiesApart (tree_value tree.now) → IsFaultOf (tree_value tree.now) f }
+        → IsFaultOf (tree_value tree.now) f }
 {
     match check(alloc, tree) {
         Ok(()) => code(alloc, tree),

@@ -1,21 +1,21 @@
 //! Which parts of a program have units, and in which order.
 
-ghost use Rattle.std.specs.Prelude.{◌≡◌, ◌<◌, ℕ, Err, Some, length, map, slice_get, IfOk};
-ghost use Rattle.xk_tree.specs.declared.fault.FrontFault.{FrontFault as Fault};
-ghost use Rattle.xk_tree.specs.Tree.{tree_value};
+ghost use Rattle.std.specs.Prelude.{◌≡◌, ◌<◌, ℕ, Some, length, map, slice_get, IfOk};
+ghost use Rattle.xk_tree.specs.Program.{tree_value};
 ghost use Rattle.xk_names.specs.Scoped.{IsScoped};
 ghost use Rattle.xk_codegen.specs.Views.{part};
 ghost use Rattle.xk_source.specs.Parts.{opening, parts, place_of};
 ghost use Rattle.xk_source.specs.Graph.{IsOrder, graph};
 ghost use Rattle.xk_calls.specs.Calls.{rows};
-ghost use Rattle.xk_codegen.specs.Places.{ArePlaces, IsRunAgain, RunsItself};
+ghost use Rattle.xk_codegen.specs.Faults.{IsFalling};
+ghost use Rattle.xk_codegen.specs.Places.{ArePlaces};
 ghost use Rattle.xk_source.specs.Compiled.{AreUnits};
 
 use crate::parts::{Part, add_part, parts};
 use crate::runs::Places;
 use std::alloc::{AllocError, Global};
 use xk_calls::order_from;
-use xk_tree::{FrontError, FrontFault, FrontRule, Tree};
+use xk_tree::Tree;
 
 /// The parts at these places.
 fn parts_at<'a, 't>(
@@ -34,43 +34,26 @@ fn parts_at<'a, 't>(
     Ok(units)
 }
 
-/// F10 there, where a part is run again.
-fn run_again(found: &[Part<'_, '_>], place: usize) -> FrontError
-    ensures { (f : Fault) → result ≡ FrontError.Fault f
-        → IsRunAgain (map part found.now) place f }
-{
-    let at = match found.get(place) {
-        Some(part) => part.offset(),
-        None => 0,
-    };
-    FrontError::Fault(FrontFault {
-        rule: FrontRule::Recursive,
-        at,
-    })
-}
-
 /// The places of the parts that have units, in the order of these, where `main` is the part at this place, and these are the places of what each
 /// part runs.
 fn order_by<'t>(
     alloc: Global,
     tree: &Tree<'t>,
-    found: &[Part<'_, 't>],
     lists: &[Vec<usize>],
     main: usize,
-) -> Result<Vec<usize>, FrontError>
-    requires parts { map part found.now ≡ parts (tree_value tree.now) }
+) -> Result<Vec<usize>, AllocError>
+    requires scoped { IsScoped (tree_value tree.now) }
+    requires falls { IsFalling (tree_value tree.now) }
     requires graph { rows lists.now ≡ graph (parts (tree_value tree.now)) }
     requires begins { place_of (parts (tree_value tree.now)) opening ≡ Some main }
     ensures order { IfOk result (λ order. IsOrder (tree_value tree.now) order.items) }
-    ensures fault { (f : Fault) → result ≡ Err (FrontError.Fault f)
-        → RunsItself (tree_value tree.now) f }
 {
     let _tree = tree;
     let order = order_from(alloc, lists, main)?;
     match order {
         Ok(order) => Ok(order),
-        // Never so for a tree that was parsed and has no recursive call: a body stands within what starts it.
-        Err(place) => Err(run_again(found, place.caller)),
+        // No call is recursive, and a body stands within what starts it: so no part is run again.
+        Err(_) => unreachable!(),
     }
 }
 
@@ -80,16 +63,15 @@ fn order_among<'t>(
     tree: &Tree<'t>,
     found: &[Part<'_, 't>],
     places: &Places<'t>,
-) -> Result<Vec<usize>, FrontError>
+) -> Result<Vec<usize>, AllocError>
     requires scoped { IsScoped (tree_value tree.now) }
+    requires falls { IsFalling (tree_value tree.now) }
     requires parts { map part found.now ≡ parts (tree_value tree.now) }
     requires places { ArePlaces (map part found.now) places.now }
     ensures order { IfOk result (λ order. IsOrder (tree_value tree.now) order.items) }
-    ensures fault { (f : Fault) → result ≡ Err (FrontError.Fault f)
-        → RunsItself (tree_value tree.now) f }
 {
     let lists = places.graph(alloc, found)?;
-    order_by(alloc, tree, found, &lists, places.method(b"main"))
+    order_by(alloc, tree, &lists, places.method(b"main"))
 }
 
 /// The same for all parts of a program.
@@ -97,12 +79,11 @@ fn order_of<'t>(
     alloc: Global,
     tree: &Tree<'t>,
     found: &[Part<'_, 't>],
-) -> Result<Vec<usize>, FrontError>
+) -> Result<Vec<usize>, AllocError>
     requires scoped { IsScoped (tree_value tree.now) }
+    requires falls { IsFalling (tree_value tree.now) }
     requires parts { map part found.now ≡ parts (tree_value tree.now) }
     ensures order { IfOk result (λ order. IsOrder (tree_value tree.now) order.items) }
-    ensures fault { (f : Fault) → result ≡ Err (FrontError.Fault f)
-        → RunsItself (tree_value tree.now) f }
 {
     let places = Places::new(alloc, found)?;
     order_among(alloc, tree, found, &places)
@@ -114,12 +95,11 @@ fn units_among<'a, 't>(
     alloc: Global,
     tree: &Tree<'t>,
     found: &[Part<'a, 't>],
-) -> Result<Vec<Part<'a, 't>>, FrontError>
+) -> Result<Vec<Part<'a, 't>>, AllocError>
     requires scoped { IsScoped (tree_value tree.now) }
+    requires falls { IsFalling (tree_value tree.now) }
     requires parts { map part found.now ≡ parts (tree_value tree.now) }
     ensures units { IfOk result (λ units. AreUnits (tree_value tree.now) (map part units.items)) }
-    ensures fault { (f : Fault) → result ≡ Err (FrontError.Fault f)
-        → RunsItself (tree_value tree.now) f }
 {
     let order = order_of(alloc, tree, found)?;
     let units = parts_at(alloc, found, &order)?;
@@ -131,11 +111,10 @@ fn units_among<'a, 't>(
 pub(crate) fn units_in_order<'a, 't>(
     alloc: Global,
     tree: &'a Tree<'t>,
-) -> Result<Vec<Part<'a, 't>>, FrontError>
+) -> Result<Vec<Part<'a, 't>>, AllocError>
     requires scoped { IsScoped (tree_value tree.now) }
+    requires falls { IsFalling (tree_value tree.now) }
     ensures units { IfOk result (λ units. AreUnits (tree_value tree.now) (map part units.items)) }
-    ensures fault { (f : Fault) → result ≡ Err (FrontError.Fault f)
-        → RunsItself (tree_value tree.now) f }
 {
     let parts = parts(alloc, tree)?;
     units_among(alloc, tree, &parts)

@@ -1,7 +1,8 @@
 //! The parts of a program that have code of their own.
 
 ghost use Rattle.std.specs.Prelude.{◌≡◌, [], ◌∷◌, ◌++◌, map, option_map, OnOk, IfOk};
-ghost use Rattle.xk_tree.specs.Tree.{clock_list, method_value, statement, statements, tree_value};
+ghost use Rattle.xk_tree.specs.Tree.{clock_list, method_value, statement, statements};
+ghost use Rattle.xk_tree.specs.Program.{tree_value};
 ghost use Rattle.xk_source.specs.Parts.{OfBody, bodies, bodies_all, method_parts, parts};
 ghost use Rattle.xk_codegen.specs.Views.{part};
 

@@ -3,7 +3,8 @@
 ghost use Rattle.std.specs.Prelude.{◌≡◌, ◌≤◌, ◌+◌, ℕ, List, [], ◌∷◌, Option, Some, is_some, false, length, map, nat_eq, option_map, if◌then◌else◌, IfOk, OnOk};
 ghost use Rattle.std.specs.Map.{lookup};
 ghost use Rattle.std.specs.Option.{option_or};
-ghost use Rattle.xk_tree.specs.Tree.{shared_value, statement, tree_value};
+ghost use Rattle.xk_tree.specs.Tree.{shared_value, statement};
+ghost use Rattle.xk_tree.specs.Program.{tree_value};
 ghost use Rattle.xk_names.specs.Scope.{find};
 ghost use Rattle.xk_names.specs.Uses.{signatures};
 ghost use Rattle.xk_names.specs.Scoped.{IsScoped};

@@ -1,7 +1,8 @@
 //! Whole programs.
 
 ghost use Rattle.std.specs.Prelude.{◌≡◌, ◌↔◌, [], ◌∷◌, Err, None, Some, codes, map, IsTrue, OnOk, IfOk};
-ghost use Rattle.xk_tree.specs.Tree.{method_value, param_value, shared_value, tree_value, word};
+ghost use Rattle.xk_tree.specs.Tree.{method_value, param_value, shared_value, word};
+ghost use Rattle.xk_tree.specs.Program.{tree_value};
 ghost use Rattle.std.specs.List.{flat_map, list_any};
 ghost use Rattle.xk_names.specs.Scope.{declared, find};
 ghost use Rattle.xk_names.specs.Faults.{HasFault, IsReported, MayBegin, param_declaration, param_kind, shared_declaration, wants_clock};

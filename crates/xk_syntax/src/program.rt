@@ -5,8 +5,8 @@ ghost use Rattle.xk_tokens.specs.declared.token.Keyword.TheVariants as words;
 ghost use Rattle.xk_tree.specs.declared.fault.FrontRule.TheVariants as rule;
 ghost use Rattle.xk_tree.specs.declared.fault.FrontFault.{FrontFault as Fault};
 ghost use Rattle.xk_tree.specs.declared.fault.FrontError.TheVariants as error;
-ghost use Rattle.xk_tree.specs.Tree.{method_value, shared_value, tree_value};
-ghost use Rattle.xk_tree.specs.Bodies.{HasBodiesApart};
+ghost use Rattle.xk_tree.specs.Tree.{method_value, program_value, shared_value};
+ghost use Rattle.xk_tree.specs.Program.{tree_value};
 ghost use Rattle.xk_exprs.specs.Marks.{marks};
 ghost use Rattle.xk_exprs.specs.Readers.{Gives};
 ghost use Rattle.xk_syntax.specs.Spelling.{SpellsTree};
@@ -122,20 +122,25 @@ fn methods<'s, 't>(
     Ok((methods, rest))
 }
 
-/// A program, which takes all the tokens.
+/// The shared numbers and the methods of a program, which takes all the tokens.
 #[tactic(auto, unfolding(crate::specs::Readers::bind, crate::specs::Readers::program_at))]
-fn program<'t>(alloc: Global, tokens: &[Token<'t>], end: usize) -> Result<Tree<'t>, SyntaxError>
-    ensures { Gives tree_value result (program_at (marks tokens.now)) }
+fn program<'t>(
+    alloc: Global,
+    tokens: &[Token<'t>],
+    end: usize,
+) -> Result<(Vec<Shared<'t>>, Vec<Method<'t>>), SyntaxError>
+    ensures { Gives (λ x. program_value x.0.items x.1.items) result
+        (program_at (marks tokens.now)) }
 {
     let (shared, rest) = shared_numbers(alloc, tokens, end)?;
     let (methods, rest) = methods(alloc, rest, end)?;
     match rest {
-        [] => Ok(Tree { shared, methods }),
+        [] => Ok((shared, methods)),
         [..] => Err(SyntaxError::Fault(unexpected(rest, end))),
     }
 }
 
-/// The tree that a text spells, within the limits. The words `async` in it stand at offsets that differ.
+/// The tree that a text spells, within the limits.
 ///
 /// A fault means that the text spells no tree. Its rule is one of F1 to F4 and F13 of `docs/LANGUAGE.md`, rules that are this project's own; it is
 /// F4 exactly where the text has more than 1,048,576 bytes. Which of the others is told, and at which offset, no clause says. `OutOfMemory` tells
@@ -148,7 +153,6 @@ pub fn parse<'t>(alloc: Global, text: &'t str) -> Result<Tree<'t>, FrontError>
         → result ≡ Err (error.Fault (record { rule = rule.TooLong; at = 0 })) }
     ensures only_too_long { (f : Fault) → result ≡ Err (error.Fault f)
         → f.rule ≡ rule.TooLong → 1048576 < length text.now }
-    ensures apart { IfOk result (λ tree. HasBodiesApart (tree_value tree)) }
 {
     let bytes = text.as_bytes();
     if bytes.len() > MAX_TEXT {
@@ -158,6 +162,6 @@ pub fn parse<'t>(alloc: Global, text: &'t str) -> Result<Tree<'t>, FrontError>
         }));
     }
     let tokens = tokens(alloc, bytes)?;
-    let tree = program(alloc, &tokens, bytes.len())?;
-    Ok(tree)
+    let (shared, methods) = program(alloc, &tokens, bytes.len())?;
+    Ok(Tree { shared, methods })
 }

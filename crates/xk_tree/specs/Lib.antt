@@ -1,3 +1,4 @@
 pub mod Tree
 pub mod Fault
 pub mod Bodies
+pub mod Program

@@ -13,7 +13,6 @@ use Rattle.xk_tree.specs.declared.tree.ClockList as clocks
 use Rattle.xk_tree.specs.declared.tree.Param as param
 use Rattle.xk_tree.specs.declared.tree.Shared as shared
 use Rattle.xk_tree.specs.declared.tree.Method as method
-use Rattle.xk_tree.specs.declared.tree.Tree as tree
 use Rattle.xk_tree.specs.declared.tree.Expr.{Expr}
 use Rattle.xk_tree.specs.declared.tree.Expr.TheVariants as expr
 use Rattle.xk_tree.specs.declared.tree.Right.{Right}
@@ -167,6 +166,6 @@ shared_value s = record { name = word s.name; start = s.start }
 abbrev pub method_value : method.Method → MethodValue
 method_value m = record { name = word m.name; paren = m.paren; params = map param_value m.params.items; body = statements m.body.items }
 
--- a program
-abbrev pub tree_value : tree.Tree → TreeValue
-tree_value t = record { shared = map shared_value t.shared.items; methods = map method_value t.methods.items }
+-- a program of these shared numbers and methods
+abbrev pub program_value : List shared.Shared → List method.Method → TreeValue
+program_value ss ms = record { shared = map shared_value ss; methods = map method_value ms }

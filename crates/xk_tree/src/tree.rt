@@ -1,7 +1,8 @@
 //! Trees. They keep where in the text their names, numbers, types, parentheses and `-` stand, as offsets in bytes.
 
 ghost use Rattle.std.specs.Prelude.{◌≡◌};
-ghost use Rattle.xk_tree.specs.Tree.{bound, top};
+ghost use Rattle.xk_tree.specs.Tree.{bound, program_value, top};
+ghost use Rattle.xk_tree.specs.Bodies.{HasBodiesApart};
 
 use xk_types::{Comparison, ParamKind};
 
@@ -201,4 +202,6 @@ pub struct Tree<'t> {
     pub shared: Vec<Shared<'t>>,
     /// The methods; the program begins with the one called `main`.
     pub methods: Vec<Method<'t>>,
+    /// The offsets of the words `async` in them rise, so that each body of an `async` is told by its offset.
+    pub ghost apart: { HasBodiesApart (program_value shared.items methods.items) },
 }

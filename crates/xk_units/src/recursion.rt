@@ -3,7 +3,8 @@
 ghost use Rattle.std.specs.Prelude.{◌≡◌, ◌⊎◌, ◌<◌, ◌≤◌, List, map, length, slice_get, None, Some, Ok, Err, IfOk, IfSome, MatchOption, OnOk};
 ghost use Rattle.xk_tree.specs.declared.fault.FrontFault.{FrontFault as Fault};
 ghost use Rattle.xk_calls.specs.Calls.{rows};
-ghost use Rattle.xk_tree.specs.Tree.{Word, method_value, tree_value, words};
+ghost use Rattle.xk_tree.specs.Tree.{Word, method_value, words};
+ghost use Rattle.xk_tree.specs.Program.{tree_value};
 ghost use Rattle.xk_names.specs.Faults.{fault};
 ghost use Rattle.xk_units.specs.Recursion.{ComesBack, HasRecursion};
 ghost use Rattle.xk_units.specs.Callees.{all_callees, graph, main_among, main_in};

@@ -1,7 +1,8 @@
 use Rattle.std.proofs.Common.{length, map, refl, sym, ap}
 use Rattle.std.proofs.lemmas.Option.{slice_get_read}
 use Rattle.xk_tree.specs.declared.fault.FrontRule.TheVariants as rule
-use Rattle.xk_tree.specs.Tree.{shared_value, tree_value}
+use Rattle.xk_tree.specs.Tree.{shared_value}
+use Rattle.xk_tree.specs.Program.{tree_value}
 use Rattle.xk_names.specs.Faults.{fault}
 use Rattle.xk_codegen.proofs.Faults.{told, many_shared}
 use Rattle.xk_codegen.proofs.compiler.check_shared.Goals as goal

@@ -54,18 +54,14 @@ returns-in-None-worst-clause-made c =
     all_made c.args.setting.now c.args.parts.now c.loop-p.p-index c.loop-p.units.items (let e = c.loop-p-test.false in omega arith) (c.loop-p.invariant.0 c.in-None-worst.is)
 
 pub returns-in-Some-worst-clause-fault : goal.returns-in-Some-worst-clause-fault
-returns-in-Some-worst-clause-fault c = λ f t e scoped apart are setting.
+returns-in-Some-worst-clause-fault c = λ f e names.
     let cx = c.args.setting.now in
     let ps = c.args.parts.now in
     let at = c.in-Some-worst.at in
-    let found = c.loop-p.invariant.1 at c.in-Some-worst.is t scoped apart are setting in
+    let found = c.loop-p.invariant.1 at c.in-Some-worst.is names in
     let end : length ps ≤ c.loop-p.p-index = let e = c.loop-p-test.false in omega arith in
     let told_is = sym (told (fault rule.Table at) f c.table_fault.result c.table_fault.ensures e) in
     record {
-      units = map part ps;
-      setting = cx;
-      are_units = are;
-      is_setting = setting;
       part = found.0;
       large = found.1;
       is = told_is ∙ ap (fault rule.Table) found.2;

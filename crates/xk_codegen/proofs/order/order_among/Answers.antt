@@ -1,6 +1,6 @@
 use Rattle.std.proofs.Common.{◌∙◌, map, ap}
 use Rattle.xk_calls.specs.Calls.{rows}
-use Rattle.xk_tree.specs.Tree.{tree_value}
+use Rattle.xk_tree.specs.Program.{tree_value}
 use Rattle.xk_codegen.specs.Views.{part}
 use Rattle.xk_codegen.proofs.Placed.{is_graph, main_there}
 use Rattle.xk_codegen.proofs.order.order_among.Goals as goal

@@ -2,11 +2,9 @@ use Rattle.std.proofs.Common.{ℕ, List, sym, subst, arith}
 use Rattle.std.proofs.lemmas.List.{length-map}
 use Rattle.xk_calls.specs.Calls.{AreWithin, AreReached, IsRecursive}
 use Rattle.xk_calls.specs.Order.{AreLeast, IsInOrder}
-use Rattle.xk_tree.specs.declared.fault.FrontError.TheVariants as error
-use Rattle.xk_tree.specs.Tree.{tree_value}
-use Rattle.xk_source.specs.Parts.{Part, parts}
-use Rattle.xk_codegen.specs.Places.{IsRunAgain}
-use Rattle.xk_codegen.proofs.Faults.{same_error}
+use Rattle.xk_tree.specs.Program.{tree_value}
+use Rattle.xk_source.specs.Parts.{parts}
+use Rattle.xk_codegen.proofs.Again.{never_again}
 use Rattle.xk_codegen.proofs.Ordered.{within}
 use Rattle.xk_codegen.proofs.Placed.{main_within}
 use Rattle.xk_codegen.proofs.order.order_by.Goals as goal
@@ -33,14 +31,8 @@ returns-in-Ok-clause-order c =
       least = subst (λ (r : List (List ℕ)). AreLeast r c.args.main c.in-Ok.order.items) same (rw c.in-Ok.is at c.in_ok-order.ensures.least);
     }
 
-pub returns-in-Err-clause-fault : goal.returns-in-Err-clause-fault
-returns-in-Err-clause-fault c = λ f e. record {
-  place = c.in-Err.place.caller;
-  call = c.in-Err.place.index;
-  again =
-      subst (λ (r : List (List ℕ)). IsRecursive r c.in-Err.place.caller c.in-Err.place.index) c.requires.graph
-      (rw c.in-Err.is at c.in_ok-order.ensures.found);
-  fault =
-      subst (λ (ps : List Part). IsRunAgain ps c.in-Err.place.caller f) c.requires.parts
-      (c.run_again.ensures f (same_error c.run_again.result (error.Fault f) e));
-}
+pub unreachable-requires : goal.unreachable-in-Err
+unreachable-requires c =
+    never_again (tree_value c.args.tree.now) c.args.tree.now.apart c.requires.scoped c.requires.falls c.in-Err.place.caller c.in-Err.place.index
+    (subst (λ (r : List (List ℕ)). IsRecursive r c.in-Err.place.caller c.in-Err.place.index) c.requires.graph
+    (rw c.in-Err.is at c.in_ok-order.ensures.found))

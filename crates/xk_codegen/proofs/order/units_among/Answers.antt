@@ -1,5 +1,5 @@
 use Rattle.std.proofs.Common.{ℕ, List, slice_get, ap, sym, ◌∙◌}
-use Rattle.xk_tree.specs.Tree.{tree_value}
+use Rattle.xk_tree.specs.Program.{tree_value}
 use Rattle.xk_codegen.proofs.Placed.{order_within}
 use Rattle.xk_codegen.proofs.order.units_among.Goals as goal
 

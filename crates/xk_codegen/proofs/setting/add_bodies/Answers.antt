@@ -2,7 +2,7 @@ use Rattle.std.proofs.Common.{◌+◌, List, map, drop, ap, sym, ◌∙◌, refl
 use Rattle.std.specs.Prelude.{nat_eq}
 use Rattle.std.specs.Map.{lookup}
 use Rattle.std.specs.Option.{option_or}
-use Rattle.xk_tree.specs.Tree.{tree_value}
+use Rattle.xk_tree.specs.Program.{tree_value}
 use Rattle.xk_source.specs.Parts.{Part}
 use Rattle.xk_source.specs.Compiled.{settled_body}
 use Rattle.xk_codegen.specs.Views.{part}

@@ -1,5 +1,5 @@
 use Rattle.std.proofs.Common.{◌≡◌, [], true, false, refl, sym, ◌∙◌, subst}
-use Rattle.xk_tree.specs.Tree.{tree_value}
+use Rattle.xk_tree.specs.Program.{tree_value}
 use Rattle.xk_names.specs.Faults.{IsReported, no_main}
 use Rattle.xk_names.specs.Collected.{put_methods}
 use Rattle.xk_names.proofs.Answered.{one_reported, clean_tree, no_main_reported}

@@ -2,7 +2,8 @@ use Rattle.std.proofs.Common.{◌≡◌, ℕ, ◌<◌, ◌≤◌, List, length, 
 use Rattle.std.proofs.lemmas.Result.{err_from_is_err_and}
 use Rattle.std.specs.Prelude.{IsUtf8}
 use Rattle.xk_types.specs.declared.unit.Module.{Module}
-use Rattle.xk_tree.specs.Tree.{TreeValue, tree_value}
+use Rattle.xk_tree.specs.Tree.{TreeValue}
+use Rattle.xk_tree.specs.Program.{tree_value}
 use Rattle.xk_tree.specs.declared.fault.FrontFault.{FrontFault}
 use Rattle.xk_tree.specs.declared.fault.FrontRule.TheVariants as rule
 use Rattle.xk_tree.specs.declared.fault.FrontError.{FrontError}
@@ -47,4 +48,4 @@ pub returns-clause-fault : goal.returns-clause-fault
 returns-clause-fault c =
     let tree = tree_value c.in_ok-tree.tree in
     let spelled = subst (λ b. SpellsTree b tree) c.in_ok-text.ensures.text c.in_ok-tree.ensures.spelled in
-    unfit c.args.bytes.now tree c.compile.result (c.in_ok-text.ensures.utf8, spelled) (λ f e. c.compile.ensures.fault f e c.in_ok-tree.ensures.apart)
+    unfit c.args.bytes.now tree c.compile.result (c.in_ok-text.ensures.utf8, spelled) c.compile.ensures.fault

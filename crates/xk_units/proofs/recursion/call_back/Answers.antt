@@ -2,7 +2,8 @@ use Rattle.std.proofs.Common.{◌∙◌, ap, sym, subst, map, List, ℕ, arith}
 use Rattle.std.proofs.lemmas.List.{length-map}
 use Rattle.xk_calls.specs.Calls.{rows, AreWithin, IsRecursive}
 use Rattle.xk_tree.specs.declared.fault.FrontRule.TheVariants as rule
-use Rattle.xk_tree.specs.Tree.{tree_value, words}
+use Rattle.xk_tree.specs.Tree.{words}
+use Rattle.xk_tree.specs.Program.{tree_value}
 use Rattle.xk_names.specs.Faults.{fault}
 use Rattle.xk_units.specs.Recursion.{ComesBack}
 use Rattle.xk_units.proofs.Graph.{within, is_recursive, Found, found, is_within, within_list}

@@ -3,7 +3,8 @@ use Rattle.xk_tree.specs.declared.fault.FrontError.{FrontError}
 use Rattle.xk_tree.specs.declared.fault.FrontError.TheVariants as error
 use Rattle.xk_tree.specs.declared.fault.FrontRule.TheVariants as rule
 use Rattle.xk_tree.specs.declared.fault.FrontFault.{FrontFault}
-use Rattle.xk_tree.specs.Tree.{method_value, tree_value, words}
+use Rattle.xk_tree.specs.Tree.{method_value, words}
+use Rattle.xk_tree.specs.Program.{tree_value}
 use Rattle.xk_names.specs.Faults.{fault}
 use Rattle.xk_units.specs.Recursion.{HasRecursion}
 use Rattle.xk_units.specs.Callees.{all_callees, main_in}
