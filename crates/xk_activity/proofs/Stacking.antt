@@ -1,5 +1,5 @@
 -- Frames on one stack: what a write, a call and a return leave.
-use Rattle.std.specs.Prelude.{reverse, nat_eq, slice_set}
+use Rattle.std.specs.Prelude.{reverse, nat_eq, slice_set, max}
 use Rattle.std.specs.Option.{option_map_or, option_and_then}
 use Rattle.std.proofs.Common.{◌≡◌, Bool, not, replicate, ℕ, zero, suc, ℤ, pos, ◌+◌, ◌-◌, ◌≤◌, ◌<◌, ◌^◌, List, [], ◌∷◌, ◌++◌, length, take, drop, refl, sym, ap, subst, ◌∙◌, arith, Option, Some, None, slice_get, All}
 use Rattle.std.proofs.lemmas.Grind.{common_steps}
@@ -113,10 +113,34 @@ own_room m unit shape lt = go (slice_there m.units unit lt)
 
 -- before its first instruction
 pub start_stacked : (m : ModuleValue) (unit long slots frames : ℕ) (cs : List Caller) → IsWithinLimits m → HasShape m → unit < length m.units → cs ≡ []
-    → long ≡ slots_of m unit → stack_of m unit ≤ slots → frames + 1 ≡ frames_of m unit → IsStacked m unit 0 cs long slots frames
+    → long ≡ slots_of m unit → slots ≡ max 2 (stack_of m unit) → frames + 1 ≡ frames_of m unit → IsStacked m unit 0 cs long slots frames
 start_stacked m unit long slots frames cs limits shape lt none top s f =
     subst (λ (ds : List Caller). IsStacked m unit 0 ds long slots frames) (sym none)
-    (record { limits = limits; shape = shape; top = omega arith; room = record { slots_fit = omega arith; frames_fit = omega arith }; stacked = refl })
+    (record {
+      limits = limits;
+      shape = shape;
+      top = omega arith;
+      room = record { slots_fit = omega arith; frames_fit = omega arith };
+      stacked = refl;
+      whole = s;
+      all = f;
+    })
+
+-- Where nobody waits for the present frame, and it has two slots at most and calls nothing, there is room for no more than these.
+pub room_alone : (m : ModuleValue) (unit place : ℕ) (marks : Marks) (base long : ℕ) (stack : List ℤ) (cs : List Caller) (slots frames : ℕ) (now : FramesValue)
+    → IsStacked m unit base cs long slots frames → frames_on m unit place marks base stack cs ≡ now → now.callers ≡ []
+    → stack_of now.module_run now.frame.unit ≤ 2 → frames_of now.module_run now.frame.unit ≡ 1 → (slots ≤ 2) × (frames ≡ 0)
+room_alone m unit place marks base long stack cs slots frames now s view none few one =
+    go cs s (ap (λ (f : FramesValue). f.callers) view ∙ none)
+    (subst (λ (f : FramesValue). stack_of f.module_run f.frame.unit ≤ 2) (sym view) few)
+    (subst (λ (f : FramesValue). frames_of f.module_run f.frame.unit ≡ 1) (sym view) one)
+  where
+    go : (ds : List Caller) → IsStacked m unit base ds long slots frames → waiting stack base ds ≡ [] → stack_of m unit ≤ 2 → frames_of m unit ≡ 1 → (slots ≤ 2) × (frames ≡ 0)
+    go [] r e f o =
+        let w : slots ≡ max 2 (stack_of m unit) = r.whole in
+        let a : frames + 1 ≡ frames_of m unit = r.all in
+        (omega arith, omega arith)
+    go (c ∷ ds) r e f o = cc
 
 -- ---- a call
 
@@ -152,6 +176,8 @@ call_fits m unit place marks base t args cs long slots frames xs s e lt =
         top = refl;
         room = record { slots_fit = omega arith; frames_fit = omega arith };
         stacked = (sym s.top, s.room, s.stacked);
+        whole = s.whole;
+        all = s.all;
       };
     }
 

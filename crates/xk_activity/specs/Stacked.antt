@@ -1,5 +1,5 @@
 -- How the frames of an activity lie on one stack of words, and the room that they keep. This project's own.
-use Rattle.std.specs.Prelude.{ℕ, ℤ, ◌≡◌, ◌+◌, ◌<◌, ◌≤◌, List, [], ◌∷◌, length, take, drop, map, All, Some, slice_get, slice_index_or, slice_set}
+use Rattle.std.specs.Prelude.{ℕ, ℤ, ◌≡◌, ◌+◌, ◌<◌, ◌≤◌, List, [], ◌∷◌, length, max, take, drop, map, All, Some, slice_get, slice_index_or, slice_set}
 use Rattle.xk_types.specs.declared.names.Value.{Value}
 use Rattle.xk_types.specs.declared.names.Value.TheVariants as value
 use Rattle.xk_types.specs.declared.instr.Instr.TheVariants as instr
@@ -43,13 +43,21 @@ abbrev pub AreBelow : ℕ → ℕ → List Caller → Type 0
 AreBelow long top [] = top ≤ long
 AreBelow long top (c ∷ cs) = (c.base ≤ top) × (top ≤ long) × (top ≤ c.base + 64) × AreBelow long c.base cs
 
--- the present frame is the uppermost, and there is room for all that it and those that wait may call
+-- the unit of the undermost frame, from which all others were called
+abbrev pub undermost : ℕ → List Caller → ℕ
+undermost unit [] = unit
+undermost unit (c ∷ cs) = undermost c.unit cs
+
+-- The present frame is the uppermost, and there is room for all that it and those that wait may call: as much as the undermost one needs,
+-- and no less than two slots.
 pub record IsStacked (m : ModuleValue) (unit base : ℕ) (below : List Caller) (long slots frames : ℕ) : Type 0 where
   pub limits : IsWithinLimits m
   pub shape : HasShape m
   pub top : long ≡ base + slots_of m unit
   pub room : HasRoom m slots frames base unit below
   pub stacked : AreStacked m slots frames base below
+  pub whole : slots ≡ max 2 (stack_of m (undermost unit below))
+  pub all : frames + 1 ≡ frames_of m (undermost unit below)
 
 -- what a slot holds, and nothing where there is no such slot
 abbrev pub value_at : List Value → ℕ → Value

@@ -1,6 +1,6 @@
 //! Words put on a stack that has room for them.
 
-ghost use Rattle.std.specs.Prelude.{◌≡◌, ◌<◌, ◌≤◌, [], ◌+◌, ◌++◌, drop, length, replicate, pos, slice_index_or, All, IfOk, IsOk};
+ghost use Rattle.std.specs.Prelude.{◌≡◌, ◌<◌, ◌≤◌, [], ◌+◌, ◌++◌, drop, length, max, replicate, pos, slice_index_or, All, IfOk, IsOk};
 ghost use Rattle.std.specs.Vec.{vec_capacity};
 ghost use Rattle.smallvec.specs.SmallVec.{small_vec_len, HasRoomFor};
 ghost use Rattle.xk_activity.specs.Stacked.{values_at};
@@ -17,10 +17,10 @@ use xk_types::Value;
 /// of its own.
 pub(crate) type Stack = SmallVec<i64, 2>;
 
-/// No words, and room for at least so many.
+/// No words, and room for so many, or for two.
 pub(crate) fn empty(alloc: Global, room: u32) -> Result<Stack, AllocError>
     ensures none { IfOk result (λ s. s.items ≡ []) }
-    ensures room { IfOk result (λ s. room ≤ s.capacity) }
+    ensures room { IfOk result (λ s. s.capacity ≡ max 2 room) }
     // Two words lie in the stack itself.
     ensures two { room ≤ 2 → IsOk result }
 {
@@ -86,6 +86,7 @@ pub(crate) fn put(stack: &mut Stack, values: &[Value]) -> Marks
 pub(crate) fn copy_words(alloc: Global, stack: &Stack) -> Result<Stack, AllocError>
     ensures items { IfOk result (λ v. v.items ≡ stack.now.items) }
     ensures capacity { IfOk result (λ v. v.capacity ≡ stack.now.capacity) }
+    ensures succeeds { stack.now.capacity ≤ 2 → IsOk result }
 {
     // No more words than there is room for.
     let _len = stack.len();
@@ -100,6 +101,7 @@ pub(crate) fn copy_words(alloc: Global, stack: &Stack) -> Result<Stack, AllocErr
 pub(crate) fn copy_callers(alloc: Global, callers: &Vec<Caller>) -> Result<Vec<Caller>, AllocError>
     ensures items { IfOk result (λ v. v.items ≡ callers.now.items) }
     ensures capacity { IfOk result (λ v. vec_capacity v ≡ vec_capacity callers.now) }
+    ensures succeeds { vec_capacity callers.now ≡ 0 → IsOk result }
 {
     let mut copy = Vec::with_capacity(alloc, callers.capacity())?;
     for caller in callers {

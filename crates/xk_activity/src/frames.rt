@@ -1,12 +1,13 @@
 //! The frames of one activity.
 
-ghost use Rattle.std.specs.Prelude.{◌≡◌, ◌⊎◌, ℕ, ◌+◌, ◌<◌, ◌≤◌, ◌^◌, length, take, drop, Some, IfOk, MatchResult, slice_get, slice_set, All};
+ghost use Rattle.std.specs.Prelude.{◌≡◌, ◌⊎◌, ℕ, ◌+◌, ◌<◌, ◌≤◌, ◌^◌, [], length, take, drop, Some, IfOk, IsOk, MatchResult, slice_get, slice_set, All};
 ghost use Rattle.std.specs.Bool.{Decides};
 ghost use Rattle.std.specs.Vec.{vec_capacity};
 ghost use Rattle.xk_types.specs.declared.instr.Instr.{Instr};
 ghost use Rattle.xk_types.specs.Code.{IsWithinLimits};
 ghost use Rattle.xk_types.specs.Shape.{HasShape};
 ghost use Rattle.xk_types.specs.World.{instruction_at, slots_of};
+ghost use Rattle.xk_types.specs.Bound.{stack_of, frames_of};
 ghost use Rattle.xk_activity.specs.Local.{Beyond, Stepped, IsRight, IsSafe, local, ran, turn, code_of, spot_of, spot_at, begun, called, returning, is_stepped};
 ghost use Rattle.xk_activity.specs.Arm.{Answers};
 ghost use Rattle.xk_activity.specs.Stacked.{CanCall, Does, values_at, placed, with_slot};
@@ -161,7 +162,10 @@ impl<'m> Frames<'m> {
     ) -> Result<Frames<'m>, AllocError>
         requires unit { unit < length verified.now.units }
         requires fits { length values.now ≤ slots_of verified.now unit }
-        ensures { IfOk result (λ f. f ≡ begun verified.now unit values.now) }
+        ensures begun { IfOk result (λ f. f ≡ begun verified.now unit values.now) }
+        // Two slots lie in the frames themselves, and who calls nothing never waits.
+        ensures succeeds { stack_of verified.now unit ≤ 2
+            → frames_of verified.now unit ≡ 1 → IsOk result }
     {
         let size = size_of(verified, unit);
         let room = verified.room(unit);
@@ -180,9 +184,23 @@ impl<'m> Frames<'m> {
         })
     }
 
+    /// The same frames, with room of their own, from the memory that these are in.
+    pub fn copy(&self) -> Result<Frames<'m>, AllocError>
+        ensures same { IfOk result (λ f. f ≡ self.now) }
+        // As for frames that begin.
+        ensures succeeds { self.now.callers ≡ []
+            → stack_of self.now.module_run self.now.frame.unit ≤ 2
+            → frames_of self.now.module_run self.now.frame.unit ≡ 1 → IsOk result }
+    {
+        self.copy_in(*self.callers.allocator())
+    }
+
     /// The same frames, with room of their own.
-    pub fn copy(&self, alloc: Global) -> Result<Frames<'m>, AllocError>
-        ensures { IfOk result (λ f. f ≡ self.now) }
+    pub(crate) fn copy_in(&self, alloc: Global) -> Result<Frames<'m>, AllocError>
+        ensures same { IfOk result (λ f. f ≡ self.now) }
+        ensures succeeds { self.now.callers ≡ []
+            → stack_of self.now.module_run self.now.frame.unit ≤ 2
+            → frames_of self.now.module_run self.now.frame.unit ≡ 1 → IsOk result }
     {
         let stack = copy_words(alloc, &self.stack)?;
         let callers = copy_callers(alloc, &self.callers)?;

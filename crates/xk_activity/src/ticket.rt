@@ -77,7 +77,7 @@ pub fn run_local<'m>(
     ensures walked { IfOk result (λ t. IsWalked t.old t.steps t.new) }
     ensures back { IfErr result (λ e. e.0 ≡ old.entry) }
 {
-    match old.copy(alloc) {
+    match old.copy_in(alloc) {
         Ok(mut new) => {
             let steps = new.run(max);
             Ok(Ticket {

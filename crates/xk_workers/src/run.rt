@@ -189,7 +189,7 @@ impl<'m> Run<'m> {
     {
         let core = self.core();
         let _everybody = core.activities();
-        core.frames(act).copy(self.alloc)
+        core.frames(act).copy()
     }
 
     /// The steps of a ticket, with one entry. Where memory is refused none is taken, and nothing has changed but room.

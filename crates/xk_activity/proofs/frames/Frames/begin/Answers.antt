@@ -55,8 +55,8 @@ invariant_of-result c =
     (let e = c.fill.ensures.capacity in let d = c.put-marks.ensures.capacity in let f = c.in_ok-stack.ensures.room in let g = c.room-room.ensures.slots in omega arith)
     (let e = c.in_ok-callers.ensures.exact in let f = c.room-room.ensures.frames in omega (arith, o.1))
 
-pub returns : goal.returns
-returns c =
+pub returns-clause-begun : goal.returns-clause-begun
+returns-clause-begun c =
     let few = few_slots c.args.verified.now c.args.unit c.size_of-size.ensures.limits in
     let fits = c.requires.fits in
     let size = c.size_of-size.ensures.size in
