@@ -1,5 +1,6 @@
 -- A log has one verdict at most: a legal one holds no step that isn't enabled, and leads to one world.
 use Rattle.std.proofs.Common.{◌≡◌, ◌∙◌, ℕ, ℤ, suc, ◌+◌, ◌-◌, ◌<◌, List, ◌∷◌, ◌++◌, length, replicate, take, refl, sym, ap, subst, arith, inl, inr}
+use Rattle.std.specs.Prelude.{◌⊎◌, Result, Ok, Err, IfOk, IfErr}
 use Rattle.std.proofs.lemmas.Bool.{true≢false}
 use Rattle.std.proofs.lemmas.List.{append_assoc, replicate-append-replicate, take_all}
 use Rattle.std.proofs.lemmas.List.Concat.{flat_map-append, flat_map-cons}
@@ -11,7 +12,9 @@ use Rattle.xk_types.specs.Schedule.{Through, Leads, run, all_ended}
 use Rattle.xk_types.specs.Logs.{schedule_of}
 use Rattle.xk_laws.proofs.Reached.{same_through}
 use Rattle.xk_drive.proofs.Runs.{split_before, barred}
-use Rattle.xk_replay.specs.Replay.{IsStoppedAt, IsUnfinished, IsWhole, Verdict, Whole, Stopped, Unfinished, Says}
+use Rattle.xk_replay.specs.declared.fault.ReplayFault.{ReplayFault}
+use Rattle.xk_replay.specs.declared.fault.ReplayFault.TheVariants as fault
+use Rattle.xk_replay.specs.Replay.{IsStoppedAt, IsUnfinished, IsWhole, Verdict, Whole, Stopped, Unfinished, Says, Fails, IsStop, IsFaultOf}
 use Rattle.xk_replay.proofs.Lines.{legal_front}
 
 -- the schedule of a log in three parts: what stands before an entry, some steps of it, and what begins with its next step
@@ -86,3 +89,43 @@ module _ (m : ModuleValue) (args : List ℤ) (log : List Entry) where
   one_verdict Unfinished Whole p q = absurd (whole_not_unfinished q p)
   one_verdict Unfinished (Stopped j) p q = absurd (unfinished_not_stopped j p q)
   one_verdict Unfinished Unfinished p q = refl
+
+  -- ---- what is told
+
+  -- what stops a log is a fault of it
+  pub stop_told : (f : ReplayFault) → IsStop m args log f → IsFaultOf m args log f
+  stop_told (fault.NotEnabled i) s = s
+  stop_told fault.NotEnded s = absurd s
+  stop_told fault.OutOfMemory s = s
+
+  pub fault_of_whole : (f : ReplayFault) → IsFaultOf m args log f → IsWhole m args log → f ≡ fault.OutOfMemory
+  fault_of_whole (fault.NotEnabled i) told r = absurd (whole_not_stopped i r told)
+  fault_of_whole fault.NotEnded told r = absurd (whole_not_unfinished r told)
+  fault_of_whole fault.OutOfMemory told r = refl
+
+  pub fault_of_stopped : (i : ℕ) (f : ReplayFault) → IsFaultOf m args log f → IsStoppedAt m args log i → (f ≡ fault.NotEnabled i) ⊎ (f ≡ fault.OutOfMemory)
+  fault_of_stopped i (fault.NotEnabled j) told s = inl (ap fault.NotEnabled (stopped_once j i told s))
+  fault_of_stopped i fault.NotEnded told s = absurd (unfinished_not_stopped i told s)
+  fault_of_stopped i fault.OutOfMemory told s = inr refl
+
+  pub fault_of_unfinished : (f : ReplayFault) → IsFaultOf m args log f → IsUnfinished m args log → (f ≡ fault.NotEnded) ⊎ (f ≡ fault.OutOfMemory)
+  fault_of_unfinished (fault.NotEnabled j) told u = absurd (unfinished_not_stopped j u told)
+  fault_of_unfinished fault.NotEnded told u = inl refl
+  fault_of_unfinished fault.OutOfMemory told u = inr refl
+
+  -- the log of a whole run is refused for want of memory alone
+  pub answer_whole : {X Y : Type 0} (r : Result X (Y × ReplayFault)) → IfErr r (λ f. IsFaultOf m args log f.1) → IsWhole m args log → IfErr r (λ f. f.1 ≡ fault.OutOfMemory)
+  answer_whole (Ok x) told p = tt
+  answer_whole (Err f) told p = fault_of_whole f.1 told p
+
+  -- where an entry is the first that holds a step which isn't enabled, it is told
+  pub answer_stopped : {X Y : Type 0} (i : ℕ) (r : Result X (Y × ReplayFault)) → IfOk r (λ x. IsWhole m args log) → IfErr r (λ f. IsFaultOf m args log f.1)
+      → IsStoppedAt m args log i → Fails (fault.NotEnabled i) r
+  answer_stopped i (Ok x) ok told s = whole_not_stopped i ok s
+  answer_stopped i (Err f) ok told s = fault_of_stopped i f.1 told s
+
+  -- where the log stops before the run does, that is told
+  pub answer_unfinished : {X Y : Type 0} (r : Result X (Y × ReplayFault)) → IfOk r (λ x. IsWhole m args log) → IfErr r (λ f. IsFaultOf m args log f.1)
+      → IsUnfinished m args log → Fails fault.NotEnded r
+  answer_unfinished (Ok x) ok told u = whole_not_unfinished ok u
+  answer_unfinished (Err f) ok told u = fault_of_unfinished f.1 told u

@@ -1,5 +1,5 @@
 -- Logs that are played again. That a run is written down, and played again from what was written, is this project's own.
-use Rattle.std.specs.Prelude.{◌≡◌, ℕ, ℤ, ◌<◌, ◌⊎◌, Bool, true, false, List, ◌++◌, replicate, take, Some, slice_get}
+use Rattle.std.specs.Prelude.{◌≡◌, ℕ, ℤ, ◌<◌, ◌⊎◌, Bool, true, false, List, ◌++◌, replicate, take, Some, slice_get, Result, Ok, Err}
 use Rattle.xk_types.specs.declared.names.Entry.{Entry}
 use Rattle.xk_types.specs.Code.{ModuleValue}
 use Rattle.xk_types.specs.World.{World, opening, AreArguments}
@@ -46,6 +46,11 @@ abbrev pub Says : ModuleValue → List ℤ → List Entry → Verdict → Type 0
 Says m args log Whole = IsWhole m args log
 Says m args log (Stopped i) = IsStoppedAt m args log i
 Says m args log Unfinished = IsUnfinished m args log
+
+-- the answer is this fault, or that memory was refused
+abbrev pub Fails : {X Y : Type 0} → ReplayFault → Result X (Y × ReplayFault) → Type 0
+Fails f (Ok x) = ⊥
+Fails f (Err e) = (e.1 ≡ f) ⊎ (e.1 ≡ fault.OutOfMemory)
 
 -- what is told of a log that isn't that of a whole run; of want of memory nothing is said
 abbrev pub IsFaultOf : ModuleValue → List ℤ → List Entry → ReplayFault → Type 0

@@ -1,9 +1,10 @@
 //! A log is played again.
 
-ghost use Rattle.std.specs.Prelude.{◌≡◌, IfOk, IfErr};
+ghost use Rattle.std.specs.Prelude.{◌≡◌, ℕ, IfOk, IfErr};
 ghost use Rattle.xk_types.specs.World.{AreArguments};
 ghost use Rattle.xk_drive.specs.Driving.{IsRunOf};
-ghost use Rattle.xk_replay.specs.Replay.{IsFaultOf, IsStop, IsRepeated};
+ghost use Rattle.xk_replay.specs.declared.fault.ReplayFault.TheVariants as fault;
+ghost use Rattle.xk_replay.specs.Replay.{Fails, IsFaultOf, IsRepeated, IsStop, IsStoppedAt, IsUnfinished, IsWhole};
 
 use crate::fault::ReplayFault;
 use std::alloc::{AllocError, Global};
@@ -34,8 +35,17 @@ pub fn replay<'m>(
     ensures same_arguments { IfOk result (λ e. e.core.world.arguments ≡ arguments.now) }
     ensures same_log { IfOk result (λ e. e.log.items ≡ log) }
     ensures log_back { IfErr result (λ f. f.0 ≡ log) }
+    // What is played to its end is the log of a whole run; and each such log is, want of memory aside.
+    ensures whole { IfOk result (λ _. IsWhole verified.now arguments.now log) }
+    ensures never_wrongly { IsWhole verified.now arguments.now log
+        → IfErr result (λ f. f.1 ≡ fault.OutOfMemory) }
     // A log of which a fault is told is none of a whole run.
     ensures fault { IfErr result (λ f. IsFaultOf verified.now arguments.now log f.1) }
+    // And the fault that a log has is told, want of memory aside.
+    ensures stopped { (i : ℕ) → IsStoppedAt verified.now arguments.now log i
+        → Fails (fault.NotEnabled i) result }
+    ensures unfinished { IsUnfinished verified.now arguments.now log
+        → Fails fault.NotEnded result }
 {
     let entries = log.into_entries();
     match carry_out(alloc, verified, arguments, &entries) {
@@ -57,6 +67,7 @@ fn close<'m>(
     ensures same_arguments { IfOk result (λ e. e.core.world.arguments ≡ arguments.now) }
     ensures same_log { IfOk result (λ e. e.log.items ≡ entries.items) }
     ensures log_back { IfErr result (λ f. f.0 ≡ entries.items) }
+    ensures whole { IfOk result (λ _. IsWhole verified.now arguments.now entries.items) }
     ensures fault { IfErr result (λ f. IsFaultOf verified.now arguments.now entries.items f.1) }
 {
     let over = led.core.ended();

@@ -1,4 +1,9 @@
 pub mod Kept
+pub mod OneAnswer
+pub mod OneLog
+pub mod OneRefusal
+pub mod OneRun
 pub mod OrderedRuns
 pub mod Replies
+pub mod RunLogs
 pub mod Tasks

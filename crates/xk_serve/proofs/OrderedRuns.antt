@@ -153,7 +153,7 @@ follows_any place m s [] w h = tt
 follows_any place m s (a ∷ list) w h = (h.0, goes_on_weaker (step m w a) _ _ (λ v k. follows_any place m s list v k) h.1)
 
 -- a run that follows what follows from something else
-run_weaker : (P Q : List ℕ → Type 0) (m : ModuleValue) (args numbers : List ℤ) (steps : ℕ) → ((list : List ℕ) → P list → Q list)
+pub run_weaker : (P Q : List ℕ → Type 0) (m : ModuleValue) (args numbers : List ℤ) (steps : ℕ) → ((list : List ℕ) → P list → Q list)
     → IsRunThat P m args numbers steps → IsRunThat Q m args numbers steps
 run_weaker P Q m args numbers steps f r = record {
   list = r.list;

@@ -1,6 +1,7 @@
 -- From what is said of a module to what is said of the task on the bytes that give it.
 use Rattle.std.proofs.Common.{◌≡◌, ◌≢◌, ◌∙◌, ℕ, ℤ, List, [], true, Option, Some, None, Result, Ok, Err, IfOk, IfErr, if◌then◌else◌, inl, inr, refl, ap, sym, subst}
 use Rattle.std.specs.Prelude.{IfSome}
+use Rattle.xk_types.specs.declared.names.Entry.{Entry}
 use Rattle.xk_types.specs.Accepted.{IsAccepted}
 use Rattle.xk_types.specs.Code.{ModuleValue}
 use Rattle.xk_types.specs.World.{AreArguments}
@@ -8,6 +9,7 @@ use Rattle.xk_log.specs.declared.fault.LogFault.{LogFault}
 use Rattle.xk_log.specs.declared.fault.LogFault.TheVariants as log
 use Rattle.xk_replay.specs.declared.fault.ReplayFault.{ReplayFault}
 use Rattle.xk_replay.specs.declared.fault.ReplayFault.TheVariants as replay
+use Rattle.xk_replay.specs.Replay.{IsFaultOf}
 use Rattle.xk_words.specs.Status.{status_program}
 use Rattle.xk_bounds.specs.Refused.{Refuses}
 use Rattle.xk_bounds.specs.declared.refusal.Refusal.{Refusal}
@@ -15,7 +17,7 @@ use Rattle.xk_bounds.specs.declared.refusal.Refusal.TheVariants as refusal
 use Rattle.xk_serve.specs.declared.done.Done.{Done}
 use Rattle.xk_serve.specs.declared.fault.Fault.{Fault}
 use Rattle.xk_serve.specs.declared.fault.Fault.TheVariants as fault
-use Rattle.xk_serve.specs.Answer.{Chart, Check, ComesTo, Compile, Doing, FailsBy, IsNoRun, IsNotRun, IsRefusal, Replay, Run, Succeeds, Task, reads_log, runs}
+use Rattle.xk_serve.specs.Answer.{Chart, Check, ComesTo, Compile, Doing, FailsBy, IsLogText, IsNoRun, IsNotRun, IsRefusal, Replay, Run, Succeeds, Task, reads_log, runs}
 use Rattle.xk_serve.specs.Faults.{of_log, of_refusal, of_replay}
 use Rattle.xk_serve.specs.Lines.{status_of}
 use Rattle.std.proofs.lemmas.Result.{IfOk-weaker}
@@ -228,6 +230,13 @@ pub run_wants : (m : ModuleValue) (args : List ℤ) (known : Option (List ℕ)) 
     → IfErr r (AgainstRun m args known old new)
 run_wants m args known old new (Ok d) e h = tt
 run_wants m args known old new (Err f) e h = subst (AgainstRun m args known old new) (sym h) (e, of_any _ known (λ logged. tt))
+
+-- a log that was read, and is none of a whole run
+pub replay_stands : (m : ModuleValue) (args : List ℤ) (known : Option (List ℕ)) (old new : ℕ) (es : List Entry) (f : ReplayFault) → new ≡ old
+    → IfSome known (λ logged. IsLogText logged es) → IsFaultOf m args es f → AgainstRun m args known old new (of_replay f)
+replay_stands m args known old new es (replay.NotEnabled i) e text h = (e, of_each _ _ known (λ logged t. (es, t, h)) text)
+replay_stands m args known old new es replay.NotEnded e text h = (e, of_each _ _ known (λ logged t. (es, t, h)) text)
+replay_stands m args known old new es replay.OutOfMemory e text h = (e, of_any _ known (λ logged. tt))
 
 -- what the verifier says of a module that is to be run
 pub not_run : (m : ModuleValue) (args : List ℤ) (f : Fault) → IsRefusal m f → IsNotRun m args f

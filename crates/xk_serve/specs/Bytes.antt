@@ -1,5 +1,5 @@
 -- What reading to the end does to devices, and what is kept of a file. This project's own.
-use Rattle.std.specs.Prelude.{◌≡◌, ℕ, ◌+◌, List, take}
+use Rattle.std.specs.Prelude.{◌≡◌, ◌≤◌, ℕ, ⊤, ◌+◌, List, length, take, Option, Some, None}
 use Rattle.xk_types.specs.Device.{Rose}
 use Rattle.xk_words.specs.declared.job.Form.{Form}
 use Rattle.xk_words.specs.declared.job.Form.TheVariants as form
@@ -17,3 +17,14 @@ FailsRead old new _ = ⊥
 abbrev pub kept : Form → List ℕ → List ℕ
 kept form.Module bytes = bytes
 kept form.Source bytes = take (longest_source + 1) bytes
+
+-- of known bytes at most so many were read, since no more of them are gone
+abbrev pub LosesAtMost : ℕ → Option (List ℕ) → Option (List ℕ) → Type 0
+LosesAtMost most None new = ⊤
+LosesAtMost most (Some known) None = ⊥
+LosesAtMost most (Some known) (Some rest) = length known ≤ most + length rest
+
+-- of a file with a source text one byte more than it may have was read, at most, however long the file is
+abbrev pub IsReadToLimit : Form → Option (List ℕ) → Option (List ℕ) → Type 0
+IsReadToLimit form.Module old new = ⊤
+IsReadToLimit form.Source old new = LosesAtMost (longest_source + 1) old new

@@ -1,5 +1,6 @@
 pub mod Faults
 pub mod Lines
+pub mod OneAnswer
 pub mod Programs
 pub mod Bytes
 pub mod OrderedRun

@@ -1,7 +1,7 @@
 //! Reading to the end, or no further than is wanted.
 
 ghost use Rattle.std.specs.Prelude.{◌≡◌, take, IfOk, IfErr, IfSome, OnOk};
-ghost use Rattle.xk_serve.specs.Bytes.{FailsRead};
+ghost use Rattle.xk_serve.specs.Bytes.{FailsRead, LosesAtMost};
 
 use crate::fault::Fault;
 use std::alloc::Global;
@@ -30,7 +30,7 @@ pub(crate) fn read_all<R: Source>(alloc: Global, source: &mut R) -> Result<Vec<u
     }
 }
 
-/// The first bytes that the source has left, so many at most, and no others are read. The faults are those of `read_all`.
+/// The first bytes that the source has left, so many at most, and no others are read, however it goes. The faults are those of `read_all`.
 pub(crate) fn read_front<R: Source>(
     alloc: Global,
     source: &mut R,
@@ -38,6 +38,7 @@ pub(crate) fn read_front<R: Source>(
 ) -> Result<Vec<u8>, Fault>
     ensures front { IfOk result (λ bytes.
         IfSome (R.remaining source.old) (λ known. bytes.items ≡ take most known)) }
+    ensures no_more { LosesAtMost most (R.remaining source.old) (R.remaining source.new) }
     ensures no_fault { OnOk result (R.fault_count source.new ≡ R.fault_count source.old) }
     ensures failed { IfErr result
         (FailsRead (R.fault_count source.old) (R.fault_count source.new)) }

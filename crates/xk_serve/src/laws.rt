@@ -1,10 +1,17 @@
-//! What holds of every program that is accepted.
+//! What holds of every program that is accepted, and of all answers: nothing here is computed.
 
-ghost use Rattle.std.specs.Prelude.{ℕ, List};
+ghost use Rattle.std.specs.Prelude.{◌≡◌, ◌≢◌, ℕ, ℤ, List, true};
+ghost use Rattle.xk_serve.specs.declared.done.Done.{Done};
+ghost use Rattle.xk_serve.specs.Answer.{Answers, ComesTo, Doing, Reply, Run, Task};
 ghost use Rattle.xk_serve.specs.EveryRun.{EveryRun};
+ghost use Rattle.xk_serve.specs.Lines.{done_log, done_text};
+ghost use Rattle.xk_serve.specs.OneAnswer.{IsCharted, IsSameReply, IsWithoutWorkers, MayChart, charting, done_with, replaying};
 ghost use Rattle.xk_serve.specs.Programs.{IsCompiledTo};
 ghost use Rattle.xk_types.specs.Accepted.{IsAccepted};
 ghost use Rattle.xk_types.specs.Code.{ModuleValue};
+ghost use Rattle.xk_words.specs.declared.job.Form.TheVariants as form;
+ghost use Rattle.xk_words.specs.Line.{Way};
+ghost use Rattle.xk_words.specs.Status.{status_done, status_memory};
 
 use xk_laws::every_accepted_module;
 use xk_source::laws::means_its_source;
@@ -21,3 +28,37 @@ pub fn every_accepted_text()
     every_accepted_module();
     means_its_source();
 }
+
+/// To a job on a module text there is one answer, want of memory aside: the same status, and the same bytes on every device. What is left open is
+/// which walk is told of a refusal of kinds, one of the shortest, and, where workers take the steps, which run they take: then standard output and
+/// the log are those of some run, but the status and the line of a fault are determined still. And what a job on a module comes to where nothing
+/// stands against it is one, also where the module was compiled from a source text.
+pub fn one_answer()
+    ensures answer { (t : Task) (bytes logged : List ℕ) (r s : Reply) → t.form ≡ form.Module
+        → Answers t bytes logged r → Answers t bytes logged s
+        → r.status ≢ status_memory → s.status ≢ status_memory → IsSameReply t.doing r s }
+    ensures done { (what : Doing) (m : ModuleValue) (args : List ℤ) (logged : List ℕ) (d e : Done)
+        → IsWithoutWorkers what → ComesTo what m args logged d → ComesTo what m args logged e
+        → (done_text d ≡ done_text e) × (done_log d ≡ done_log e) }
+{}
+
+/// The log that `run` has written tells that run. Of the same FILE, the same arguments and that log `replay` may print what the run printed, with
+/// the same number of steps, and `chart` the chart of that run; and where FILE is a module text, they answer nothing else, want of memory aside.
+pub fn a_log_tells_its_run()
+    ensures replayed { (t : Task) (way : Way) (bytes logged : List ℕ) (r : Reply)
+        → t.doing ≡ Run way true → Answers t bytes logged r → r.status ≡ status_done
+        → Answers (replaying t) bytes r.log (done_with r.out) }
+    ensures replayed_alone { (t : Task) (way : Way) (bytes logged : List ℕ) (r s : Reply)
+        → t.form ≡ form.Module → t.doing ≡ Run way true
+        → Answers t bytes logged r → r.status ≡ status_done
+        → Answers (replaying t) bytes r.log s → s.status ≢ status_memory
+        → s ≡ done_with r.out }
+    ensures charted { (t : Task) (way : Way) (bytes logged : List ℕ) (r : Reply)
+        → t.doing ≡ Run way true → Answers t bytes logged r → r.status ≡ status_done
+        → MayChart t bytes r.log }
+    ensures charted_alone { (t : Task) (way : Way) (bytes logged : List ℕ) (r s : Reply)
+        → t.form ≡ form.Module → t.doing ≡ Run way true
+        → Answers t bytes logged r → r.status ≡ status_done
+        → Answers (charting t) bytes r.log s → s.status ≢ status_memory
+        → IsCharted t bytes r.log s }
+{}

@@ -6,7 +6,7 @@ ghost use Rattle.xk_types.specs.Device.{Rose};
 ghost use Rattle.xk_log.specs.Writing.{AppendsBeginning};
 ghost use Rattle.xk_words.specs.Status.{status_device, status_done, status_memory, status_program};
 ghost use Rattle.xk_serve.specs.Answer.{Succeeds, reads_log, task_of};
-ghost use Rattle.xk_serve.specs.Bytes.{FailsRead, kept};
+ghost use Rattle.xk_serve.specs.Bytes.{FailsRead, IsReadToLimit, kept};
 ghost use Rattle.xk_serve.specs.Lines.{device_line, done_log, done_text, memory_line, status_of};
 ghost use Rattle.xk_serve.specs.Serving.{Answered, ErrBegins, IfKnown, IsBegun, IsWritten, OutBegins, Reports, StandsAgainst, Tells, TellsWords};
 
@@ -73,9 +73,11 @@ pub fn serve<R: Threads + Wait + Sync, P: Source, L: Source, O: Sink, E: Sink, K
         → Appends (E.contents err.old) (E.contents err.new) device_line
         ⊎ Rose (E.fault_count err.old) (E.fault_count err.new) }
 
-    // No log is read where the job is on none, nor where the program is refused.
+    // No log is read where the job is on none, nor where the program is refused; of a source text no more than one byte too many.
     ensures log_in { reads_log (task_of job.now).doing ≡ false → log_in.new ≡ log_in.old }
     ensures log_unread { result ≡ status_program → log_in.new ≡ log_in.old }
+    ensures no_further { IsReadToLimit (task_of job.now).form
+        (P.remaining program.old) (P.remaining program.new) }
 {
     match outcome(rt, alloc, job, program, log_in) {
         Ok((done, text)) => print(alloc, &done, text.as_str(), out, err, log_out),
@@ -108,6 +110,8 @@ fn outcome<R: Threads + Wait + Sync, P: Source, L: Source>(
     ensures unread { reads_log (task_of job.now).doing ≡ false → log_in.new ≡ log_in.old }
     ensures refused { IfErr result
         (λ f. status_of f ≡ status_program → log_in.new ≡ log_in.old) }
+    ensures no_further { IsReadToLimit (task_of job.now).form
+        (P.remaining program.old) (P.remaining program.new) }
 {
     let bytes = read_program(alloc, job.form, program)?;
     let done = answer(rt, alloc, job, &bytes, log_in)?;
@@ -115,10 +119,11 @@ fn outcome<R: Threads + Wait + Sync, P: Source, L: Source>(
     Ok((done, text))
 }
 
-/// All that counts of the bytes in FILE: of a source text one byte more than it may have, at most.
+/// All that counts of the bytes in FILE: of a source text one byte more than it may have, at most, and no others are read then.
 fn read_program<P: Source>(alloc: Global, form: Form, program: &mut P) -> Result<Vec<u8>, Fault>
     ensures kept { IfOk result (λ bytes.
         IfSome (P.remaining program.old) (λ known. bytes.items ≡ kept form known)) }
+    ensures no_further { IsReadToLimit form (P.remaining program.old) (P.remaining program.new) }
     ensures no_fault { OnOk result (P.fault_count program.new ≡ P.fault_count program.old) }
     ensures failed { IfErr result
         (FailsRead (P.fault_count program.old) (P.fault_count program.new)) }

@@ -1,0 +1,8 @@
+use Rattle.xk_serve.proofs.OneAnswer.{done_once, one_answer}
+use Rattle.xk_serve.proofs.laws.one_answer.Goals as goal
+
+pub returns-clause-answer : goal.returns-clause-answer
+returns-clause-answer c = one_answer
+
+pub returns-clause-done : goal.returns-clause-done
+returns-clause-done c = done_once

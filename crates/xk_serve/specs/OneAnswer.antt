@@ -1,0 +1,75 @@
+-- When two answers to one job are the same. Which walk to a refusal of kinds is told is left open, and so is which run workers take. This
+-- project's own.
+use Rattle.std.specs.Prelude.{◌≡◌, ℕ, ⊤, ◌⊎◌, List, [], length, string_bytes}
+use Rattle.xk_types.specs.declared.names.Entry.{Entry}
+use Rattle.xk_types.specs.Code.{ModuleValue}
+use Rattle.xk_typestate.specs.declared.refusal.KindFault.{KindFault}
+use Rattle.xk_words.specs.Line.{By}
+use Rattle.xk_words.specs.Status.{status_done}
+use Rattle.xk_replay.specs.Chart.{chart_text}
+use Rattle.xk_serve.specs.declared.done.Done.{Done}
+use Rattle.xk_serve.specs.declared.done.Done.TheVariants as done
+use Rattle.xk_serve.specs.Answer.{Answers, Chart, Doing, IsLogText, Reply, Replay, Run, Task, done_reply}
+use Rattle.xk_serve.specs.Lines.{kind_text, line}
+use Rattle.xk_serve.specs.Programs.{Gives}
+
+-- one slot is refused at one place, where it is of one kind, by one rule, and neither fault has a longer walk there
+pub record IsSameRefusal (f g : KindFault) : Type 0 where
+  pub rule : f.rule ≡ g.rule
+  pub unit : f.unit ≡ g.unit
+  pub at : f.at ≡ g.at
+  pub slot : f.slot ≡ g.slot
+  pub kind : f.kind ≡ g.kind
+  pub as_long : length f.walk.items ≡ length g.walk.items
+
+-- both lines tell one refusal of kinds, maybe with different walks to it
+pub record TellWalks (a b : List ℕ) : Type 0 where
+  pub here : KindFault
+  pub there : KindFault
+  pub same : IsSameRefusal here there
+  pub told_here : a ≡ line (kind_text here)
+  pub told_there : b ≡ line (kind_text there)
+
+-- the lines are one, but for the walk to a refusal of kinds
+abbrev pub IsSameLine : List ℕ → List ℕ → Type 0
+IsSameLine a b = (a ≡ b) ⊎ TellWalks a b
+
+-- no workers take the steps
+abbrev pub IsWithoutWorkers : Doing → Type 0
+IsWithoutWorkers (Run (By n) kept) = ⊥
+IsWithoutWorkers _ = ⊤
+
+-- Two replies to a job are one, but for the walk to a refusal of kinds; where workers take the steps, but for the numbers and the log of the run.
+pub record IsSameReply (what : Doing) (r s : Reply) : Type 0 where
+  pub status : r.status ≡ s.status
+  pub err : IsSameLine r.err s.err
+  pub out : IsWithoutWorkers what → r.out ≡ s.out
+  pub log : IsWithoutWorkers what → r.log ≡ s.log
+
+-- ---- the log of a run
+
+-- the same job with the log of a run in place of the run
+abbrev pub replaying : Task → Task
+replaying t = record { doing = Replay; form = t.form; arguments = t.arguments }
+
+abbrev pub charting : Task → Task
+charting t = record { doing = Chart; form = t.form; arguments = t.arguments }
+
+-- the job is done, and this is printed
+abbrev pub done_with : List ℕ → Reply
+done_with out = record { status = status_done; out = out; err = []; log = [] }
+
+-- it is a chart, and has these bytes
+abbrev pub IsChartOf : List ℕ → Done → Type 0
+IsChartOf text (done.Charted found) = string_bytes found ≡ text
+IsChartOf text _ = ⊥
+
+-- the bytes of a log are the text of one, and whatever has the chart of its run may be the answer of `chart`
+abbrev pub MayChart : Task → List ℕ → List ℕ → Type 0
+MayChart t bytes logged = (m : ModuleValue) × (es : List Entry) × Gives t.form bytes m × IsLogText logged es
+    × ((d : Done) → IsChartOf (chart_text m t.arguments es) d → Answers (charting t) bytes logged (done_reply d))
+
+-- the reply is the chart of the run that the log has in these bytes
+abbrev pub IsCharted : Task → List ℕ → List ℕ → Reply → Type 0
+IsCharted t bytes logged s =
+    (m : ModuleValue) × (es : List Entry) × Gives t.form bytes m × IsLogText logged es × (s ≡ done_with (chart_text m t.arguments es))
