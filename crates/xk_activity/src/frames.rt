@@ -440,15 +440,8 @@ impl<'m> Frames<'m> {
     {
         match self.next() {
             Instr::Call { .. } => true,
-            Instr::Ret => self.waits(),
+            Instr::Ret => !self.callers.is_empty(),
             instr => is_flat(instr),
         }
-    }
-
-    /// Whether a frame waits for the present one to return.
-    fn waits(&self) -> bool
-        ensures { result ≡ is_stepped (returning self.now self.now.callers) }
-    {
-        !self.callers.is_empty()
     }
 }
