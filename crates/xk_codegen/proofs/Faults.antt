@@ -21,7 +21,7 @@ use Rattle.xk_source.specs.Parts.{Part, OfMethod, OfBody}
 use Rattle.xk_codegen.specs.Named.{AreCovered, IsPartCovered}
 use Rattle.xk_codegen.specs.Views.{part}
 use Rattle.xk_source.specs.Compiled.{AreUnits, IsSetting, unit_of_part}
-use Rattle.xk_codegen.specs.Faults.{IsTableFault, IsFaultOf, IsClean, IsFalling, IsLarge, ManyShared, Beyond, Large, InTables, offset}
+use Rattle.xk_codegen.specs.Faults.{IsTableFault, IsLarge, ManyShared, Beyond, Large, offset}
 use Rattle.xk_source.proofs.Units.Settled.{AreSettled}
 use Rattle.xk_source.proofs.Units.Covered.{entry_there, method_there, body_there}
 
@@ -180,9 +180,3 @@ least_of_all cx ps k worst at end h is q (Large i e none) =
     let same = length-map ps part in
     let less : i < k = omega arith in
     subst (λ o. IsNoMore o (offset q)) is (h.large i q less e none)
-
--- ---- programs
-
--- what is told where there is neither a fault of names nor a recursive call
-pub in_tables : (t : TreeValue) (f : FrontFault) → IsClean t → IsFalling t → IsTableFault t f → IsFaultOf t f
-in_tables t f clean falls table = InTables clean falls table

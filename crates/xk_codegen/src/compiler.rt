@@ -266,7 +266,6 @@ fn code(alloc: Global, tree: &Tree<'_>) -> Result<Module, FrontError>
 /// The module that is the code of a tree. Else a fault of the tree: F5 to F8, F11, F12 and F15 first, at the least offset, of two there the one of
 /// the lesser number; then F9; then F10, at the least offset, which the contract leaves open; then F14, at the 257th shared number or else at the
 /// least offset.
-#[tactic(auto, using(crate::proofs::Faults::in_tables))]
 pub fn compile(alloc: Global, tree: &Tree<'_>) -> Result<Module, FrontError>
     ensures clean { OnOk result ((f : Fault) → HasFault (tree_value tree.now) f → ⊥) }
     ensures scoped { OnOk result (IsScoped (tree_value tree.now)) }

@@ -3,6 +3,7 @@ use Rattle.std.proofs.lemmas.List.{length-map}
 use Rattle.xk_calls.specs.Calls.{AreWithin, AreReached, IsRecursive}
 use Rattle.xk_calls.specs.Order.{AreLeast, IsInOrder}
 use Rattle.xk_tree.specs.Program.{tree_value}
+use Rattle.xk_source.specs.Graph.{IsOrder}
 use Rattle.xk_source.specs.Parts.{parts}
 use Rattle.xk_codegen.proofs.Again.{never_again}
 use Rattle.xk_codegen.proofs.Ordered.{within}
@@ -18,10 +19,10 @@ order_from-requires-clause-start c =
     let long = length-map c.args.lists.now (λ v. v.items) in
     omega arith
 
-pub returns-in-Ok-clause-order : goal.returns-in-Ok-clause-order
-returns-in-Ok-clause-order c =
+pub returns : goal.returns
+returns c =
     let same = c.requires.graph in
-    record {
+    let order : IsOrder (tree_value c.args.tree.now) c.in-Ok.order.items = record {
       start = c.args.main;
       begins = c.requires.begins;
       first = rw c.in-Ok.is at c.in_ok-order.ensures.first;
@@ -29,10 +30,10 @@ returns-in-Ok-clause-order c =
       later = subst (λ (r : List (List ℕ)). IsInOrder r c.in-Ok.order.items) same (rw c.in-Ok.is at c.in_ok-order.ensures.later);
       once = rw c.in-Ok.is at c.in_ok-order.ensures.once;
       least = subst (λ (r : List (List ℕ)). AreLeast r c.args.main c.in-Ok.order.items) same (rw c.in-Ok.is at c.in_ok-order.ensures.least);
-    }
+    } in record { order = order }
 
-pub unreachable-requires : goal.unreachable-in-Err
+pub unreachable-requires : goal.unreachable-requires
 unreachable-requires c =
-    never_again (tree_value c.args.tree.now) c.args.tree.now.apart c.requires.scoped c.requires.falls c.in-Err.place.caller c.in-Err.place.index
-    (subst (λ (r : List (List ℕ)). IsRecursive r c.in-Err.place.caller c.in-Err.place.index) c.requires.graph
-    (rw c.in-Err.is at c.in_ok-order.ensures.found))
+    let place = c.in-Err.field-0 in
+    never_again (tree_value c.args.tree.now) c.args.tree.now.apart c.requires.scoped c.requires.falls place.caller place.index
+    (subst (λ (r : List (List ℕ)). IsRecursive r place.caller place.index) c.requires.graph (rw c.in-Err.is at c.in_ok-order.ensures.found))
