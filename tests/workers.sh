@@ -86,7 +86,7 @@ three_threads() {
         at=$((at + 1))
     done
     kill "$running" || fail "three threads: no run any more"
-    wait "$running" || true
+    wait "$running" 2> "$work/ended" || true
     [ "$threads" -eq 3 ] || fail "three threads: there are $threads: $(cat "$work/out" "$work/err")"
     runs=$((runs + 1))
 }
