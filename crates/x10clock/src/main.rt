@@ -1,14 +1,18 @@
 //! The program: words to a job, files and streams to devices, and the status that serving it answers.
 #![tactic(auto)]
 
-ghost use Rattle.std.specs.Prelude.{◌≡◌, ◌≢◌, []};
+ghost use Rattle.std.specs.Prelude.{◌≡◌, ◌≢◌, ◌⊎◌, false, [], map, string_bytes, IfOk};
 ghost use Rattle.std.specs.Io.KnownBytes.{Appends};
-ghost use Rattle.xk_words.specs.Status.{status_device, status_memory};
-ghost use Rattle.xk_serve.specs.Answer.{task_of};
-ghost use Rattle.xk_serve.specs.Lines.{memory_line};
-ghost use Rattle.xk_serve.specs.Serving.{Answered, ErrBegins, IfKnown, OutBegins};
+ghost use Rattle.xk_types.specs.Device.{Rose};
+ghost use Rattle.xk_words.specs.Line.{texts};
+ghost use Rattle.xk_words.specs.Status.{status_device, status_memory, status_program, status_words};
+ghost use Rattle.xk_serve.specs.Answer.{reads_log, task_of};
+ghost use Rattle.xk_serve.specs.Lines.{device_line, memory_line};
+ghost use Rattle.xk_serve.specs.Serving.{Answered, ErrBegins, IfKnown, OutBegins, Reports, Tells, TellsWords};
+ghost use Rattle.xk_serve.specs.declared.fault.Fault.TheVariants as fault;
+ghost use Rattle.x10clock.specs.Told.{AreTold, IsWantOfMemory, no_text_line};
 
-use std::alloc::AllocGlobal;
+use std::alloc::{AllocError, AllocGlobal, Global};
 use std::fs::Files;
 use std::io::{ErrorKind, Input, Read};
 use std::process::ExitCode;
@@ -17,7 +21,7 @@ use std::thread::Threads;
 use std::{env, fs, io};
 use xk_serve::{Fault, report, serve, tell, tell_words};
 use xk_types::{Counted, Sink, Source};
-use xk_words::{Command, Job, read_job, status};
+use xk_words::{Command, Job, WordsFault, read_job, status};
 
 /// What a job may want of the runtime: memory, files, standard input, and threads that wait for one another.
 trait Runtime: AllocGlobal + Files + Input + Threads + Wait + Sync {}
@@ -29,14 +33,7 @@ fn main(rt: HostRuntime) -> ExitCode {
     let mut err = Counted::new(rt.stderr());
     let status = match words(&rt) {
         Ok(words) => on_words(&rt, &words, &mut out, &mut err),
-        Err(e) if e.kind() == ErrorKind::OutOfMemory => {
-            report(rt.alloc(), &Fault::OutOfMemory, &mut err)
-        }
-        Err(_) => tell(
-            "x10clock: a word is not in UTF-8\n",
-            status::WORDS,
-            &mut err,
-        ),
+        Err(e) => no_words(rt.alloc(), &e, &mut err),
     };
     ExitCode::from(status)
 }
@@ -46,16 +43,40 @@ fn words(rt: &HostRuntime) -> io::Result<Vec<String>> {
     Ok(env::args(rt)?.collect(rt.alloc())?)
 }
 
-/// Does what the words ask for.
-fn on_words<R: Runtime, O: Sink, E: Sink>(
-    rt: &R,
-    words: &[String],
-    out: &mut O,
-    err: &mut E,
-) -> u8 {
-    let texts: Vec<&str> = match words.iter().map(|word| word.as_str()).collect(rt.alloc()) {
-        Ok(texts) => texts,
-        Err(_) => return report(rt.alloc(), &Fault::OutOfMemory, err),
+/// Says that a word isn't text, or that memory was wanting for the words.
+fn no_words<E: Sink>(alloc: Global, e: &io::Error, err: &mut E) -> u8
+    ensures memory { IsWantOfMemory e.now → Reports fault.OutOfMemory
+        (E.contents err.old) (E.contents err.new)
+        (E.fault_count err.old) (E.fault_count err.new) result }
+    ensures no_text { ¬ IsWantOfMemory e.now → Tells no_text_line status_words
+        (E.contents err.old) (E.contents err.new)
+        (E.fault_count err.old) (E.fault_count err.new) result }
+{
+    if e.kind() == ErrorKind::OutOfMemory {
+        return report(alloc, &Fault::OutOfMemory, err);
+    }
+    tell("x10clock: a word is not in UTF-8\n", status::WORDS, err)
+}
+
+/// Does what the words ask for, or says why they ask for nothing.
+fn on_words<R: Runtime, O: Sink, E: Sink>(rt: &R, words: &[String], out: &mut O, err: &mut E) -> u8
+    ensures told { AreTold (map string_bytes words.now) (λ f. TellsWords f
+        (λ text status. (err.new ≡ err.old)
+        × Tells text status (O.contents out.old) (O.contents out.new)
+        (O.fault_count out.old) (O.fault_count out.new) result)
+        (λ text status. (out.new ≡ out.old)
+        × Tells text status (E.contents err.old) (E.contents err.new)
+        (E.fault_count err.old) (E.fault_count err.new) result)) }
+    ensures memory_out { result ≡ status_memory
+        → Appends (O.contents out.old) (O.contents out.new) [] }
+    ensures memory_err { result ≡ status_memory
+        → Appends (E.contents err.old) (E.contents err.new) memory_line }
+    ensures faults { result ≢ status_device
+        → (O.fault_count out.new ≡ O.fault_count out.old)
+        × (E.fault_count err.new ≡ E.fault_count err.old) }
+{
+    let Ok(texts) = texts_of(rt.alloc(), words) else {
+        return tell_words(&WordsFault::OutOfMemory, out, err);
     };
     match read_job(rt.alloc(), &texts) {
         Ok(job) => on_job(rt, &job, out, err),
@@ -63,8 +84,30 @@ fn on_words<R: Runtime, O: Sink, E: Sink>(
     }
 }
 
+/// The words as texts.
+fn texts_of<'a>(alloc: Global, words: &'a [String]) -> Result<Vec<&'a str>, AllocError>
+    ensures same { IfOk result (λ found. texts found.items ≡ map string_bytes words.now) }
+{
+    let mut found = Vec::new(alloc);
+    for word in words {
+        found.push(word.as_str())?;
+    }
+    Ok(found)
+}
+
 /// Opens FILE, and does the job.
-fn on_job<R: Runtime, O: Sink, E: Sink>(rt: &R, job: &Job<'_>, out: &mut O, err: &mut E) -> u8 {
+fn on_job<R: Runtime, O: Sink, E: Sink>(rt: &R, job: &Job<'_>, out: &mut O, err: &mut E) -> u8
+    ensures memory_out { result ≡ status_memory
+        → Appends (O.contents out.old) (O.contents out.new) [] }
+    ensures memory_err { result ≡ status_memory
+        → Appends (E.contents err.old) (E.contents err.new) memory_line }
+    ensures faults { result ≢ status_device
+        → (O.fault_count out.new ≡ O.fault_count out.old)
+        × (E.fault_count err.new ≡ E.fault_count err.old) }
+    ensures device_err { result ≡ status_device
+        → Appends (E.contents err.old) (E.contents err.new) device_line
+        ⊎ Rose (E.fault_count err.old) (E.fault_count err.new) }
+{
     if job.file == "-" {
         return on_program(rt, job, rt.reader(), out, err);
     }
@@ -81,7 +124,18 @@ fn on_program<R: Runtime, P: Read + Drop, O: Sink, E: Sink>(
     program: P,
     out: &mut O,
     err: &mut E,
-) -> u8 {
+) -> u8
+    ensures memory_out { result ≡ status_memory
+        → Appends (O.contents out.old) (O.contents out.new) [] }
+    ensures memory_err { result ≡ status_memory
+        → Appends (E.contents err.old) (E.contents err.new) memory_line }
+    ensures faults { result ≢ status_device
+        → (O.fault_count out.new ≡ O.fault_count out.old)
+        × (E.fault_count err.new ≡ E.fault_count err.old) }
+    ensures device_err { result ≡ status_device
+        → Appends (E.contents err.old) (E.contents err.new) device_line
+        ⊎ Rose (E.fault_count err.old) (E.fault_count err.new) }
+{
     let (Command::Replay { log: path } | Command::Chart { log: path }) = job.command else {
         return on_log(rt, job, program, &mut Counted::new(io::empty()), out, err);
     };
@@ -99,7 +153,21 @@ fn on_log<R: Runtime, P: Read + Drop, L: Source, O: Sink, E: Sink>(
     log_in: &mut L,
     out: &mut O,
     err: &mut E,
-) -> u8 {
+) -> u8
+    ensures memory_out { result ≡ status_memory
+        → Appends (O.contents out.old) (O.contents out.new) [] }
+    ensures memory_err { result ≡ status_memory
+        → Appends (E.contents err.old) (E.contents err.new) memory_line }
+    ensures faults { result ≢ status_device
+        → (L.fault_count log_in.new ≡ L.fault_count log_in.old)
+        × (O.fault_count out.new ≡ O.fault_count out.old)
+        × (E.fault_count err.new ≡ E.fault_count err.old) }
+    ensures device_err { result ≡ status_device
+        → Appends (E.contents err.old) (E.contents err.new) device_line
+        ⊎ Rose (E.fault_count err.old) (E.fault_count err.new) }
+    ensures log_in { reads_log (task_of job.now).doing ≡ false → log_in.new ≡ log_in.old }
+    ensures log_unread { result ≡ status_program → log_in.new ≡ log_in.old }
+{
     let Command::Run {
         log: Some(path),
         ..
@@ -115,7 +183,20 @@ fn on_log<R: Runtime, P: Read + Drop, L: Source, O: Sink, E: Sink>(
 }
 
 /// Says that a file can't be opened, or that memory was wanting for that.
-fn not_opened<R: AllocGlobal, E: Sink>(rt: &R, e: &io::Error, err: &mut E) -> u8 {
+fn not_opened<R: AllocGlobal, E: Sink>(rt: &R, e: &io::Error, err: &mut E) -> u8
+    ensures memory { IsWantOfMemory e.now → Reports fault.OutOfMemory
+        (E.contents err.old) (E.contents err.new)
+        (E.fault_count err.old) (E.fault_count err.new) result }
+    ensures device { ¬ IsWantOfMemory e.now → Reports fault.Device
+        (E.contents err.old) (E.contents err.new)
+        (E.fault_count err.old) (E.fault_count err.new) result }
+    ensures memory_err { result ≡ status_memory
+        → Appends (E.contents err.old) (E.contents err.new) memory_line }
+    ensures faults { result ≢ status_device → E.fault_count err.new ≡ E.fault_count err.old }
+    ensures device_err { result ≡ status_device
+        → Appends (E.contents err.old) (E.contents err.new) device_line
+        ⊎ Rose (E.fault_count err.old) (E.fault_count err.new) }
+{
     if e.kind() == ErrorKind::OutOfMemory {
         return report(rt.alloc(), &Fault::OutOfMemory, err);
     }
@@ -157,6 +238,16 @@ fn on_devices<
         → Appends (K.contents log_out.old) (K.contents log_out.new) [] }
     ensures memory_err { result ≡ status_memory
         → Appends (E.contents err.old) (E.contents err.new) memory_line }
+    ensures faults { result ≢ status_device
+        → (L.fault_count log_in.new ≡ L.fault_count log_in.old)
+        × (O.fault_count out.new ≡ O.fault_count out.old)
+        × (E.fault_count err.new ≡ E.fault_count err.old)
+        × (K.fault_count log_out.new ≡ K.fault_count log_out.old) }
+    ensures device_err { result ≡ status_device
+        → Appends (E.contents err.old) (E.contents err.new) device_line
+        ⊎ Rose (E.fault_count err.old) (E.fault_count err.new) }
+    ensures log_in { reads_log (task_of job.now).doing ≡ false → log_in.new ≡ log_in.old }
+    ensures log_unread { result ≡ status_program → log_in.new ≡ log_in.old }
 {
     let mut source = Counted::new(program);
     serve(rt, rt.alloc(), job, &mut source, log_in, out, err, log_out)

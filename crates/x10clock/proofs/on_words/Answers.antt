@@ -1,0 +1,13 @@
+use Rattle.std.proofs.Common.{◌∙◌, ap, inl, inr}
+use Rattle.xk_words.specs.Line.{asked_value, texts}
+use Rattle.x10clock.proofs.GivenWords.{asked, refused}
+use Rattle.x10clock.proofs.on_words.Goals as goal
+
+pub returns-in-Ok-read_job-clause-told : goal.returns-in-Ok-read_job-clause-told
+returns-in-Ok-read_job-clause-told g c =
+    inl (asked (texts c.deref.result.now) _ (asked_value c.in-Ok-read_job.job) (ap texts c.deref.ensures.value ∙ c.in-Ok.ensures.same) c.in-Ok-read_job.ensures.job)
+
+pub returns-clause-told : goal.returns-clause-told
+returns-clause-told g c =
+    let same = ap texts c.deref.ensures.value ∙ c.in-Ok.ensures.same in
+    inr (inl (c.in-Err.fault, refused (texts c.deref.result.now) _ c.in-Err.fault same c.in-Err.ensures.refused, c.tell_words-in-Err.ensures))
