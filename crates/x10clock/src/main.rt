@@ -12,6 +12,9 @@ ghost use Rattle.xk_serve.specs.Serving.{Answered, ErrBegins, IfKnown, OutBegins
 ghost use Rattle.xk_serve.specs.declared.fault.Fault.TheVariants as fault;
 ghost use Rattle.x10clock.specs.Told.{AreTold, IsWantOfMemory, no_text_line};
 
+mod files;
+
+use files::{hold_streams, is_same_file};
 use std::alloc::{AllocError, AllocGlobal, Global};
 use std::fs::Files;
 use std::io::{ErrorKind, Input, Read};
@@ -29,6 +32,7 @@ trait Runtime: AllocGlobal + Files + Input + Threads + Wait + Sync {}
 impl<R: AllocGlobal + Files + Input + Threads + Wait + Sync> Runtime for R {}
 
 fn main(rt: HostRuntime) -> ExitCode {
+    let _held = hold_streams(&rt);
     let mut out = Counted::new(rt.stdout());
     let mut err = Counted::new(rt.stderr());
     let status = match words(&rt) {
@@ -176,10 +180,22 @@ fn on_log<R: Runtime, P: Read + Drop, L: Source, O: Sink, E: Sink>(
         let mut log_out = Counted::new(io::sink());
         return on_devices(rt, job, program, log_in, out, err, &mut log_out);
     };
-    match fs::create(rt, path) {
-        Ok(file) => on_devices(rt, job, program, log_in, out, err, &mut Counted::new(file)),
+    match log_file(rt, path, job.file) {
+        Ok(Some(file)) => on_devices(rt, job, program, log_in, out, err, &mut Counted::new(file)),
+        Ok(None) => tell(OVER_FILE, status::WORDS, err),
         Err(e) => not_opened(rt, &e, err),
     }
+}
+
+/// What is told where the run's log would be written over the program.
+const OVER_FILE: &str = "x10clock: --log would write over FILE\n";
+
+/// The file of the run's log, made or emptied; `None`, and nothing is emptied, where that is FILE itself.
+fn log_file<R: Files>(rt: &R, path: &str, file: &str) -> io::Result<Option<R::File>> {
+    if is_same_file(rt, path, file)? {
+        return Ok(None);
+    }
+    Ok(Some(fs::create(rt, path)?))
 }
 
 /// Says that a file can't be opened, or that memory was wanting for that.

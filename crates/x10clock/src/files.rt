@@ -1,0 +1,47 @@
+//! What the program asks of the files and streams that it is given, before it opens any.
+
+use std::fs::{Files, Metadata, OpenOptions, metadata};
+use std::io::{ErrorKind, Result};
+use std::os::unix::fs::MetadataExt;
+
+/// Holds the places of the standard streams that the caller closed, as long as they are kept: so no file that is opened takes such a place, and what is
+/// written to standard output can't get into a log. To read from a closed standard input fails, and so does to write to the others. A place that can't
+/// be held, as where no file may be opened, is left.
+pub fn hold_streams<R: Files>(rt: &R) -> [Option<R::File>; 3] {
+    let mut writing = OpenOptions::new();
+    writing.write(true);
+    let mut reading = OpenOptions::new();
+    reading.read(true);
+    [
+        hold(rt, "/dev/fd/0", &writing),
+        hold(rt, "/dev/fd/1", &reading),
+        hold(rt, "/dev/fd/2", &reading),
+    ]
+}
+
+/// Holds the place of a stream where it is closed, by a device that is opened so: the least free place is taken.
+fn hold<R: Files>(rt: &R, stream: &str, how: &OpenOptions) -> Option<R::File> {
+    match metadata(rt, stream) {
+        Ok(_) => None,
+        Err(_) => how.open(rt, "/dev/null").ok(),
+    }
+}
+
+/// Whether PATH names the very file that FILE names, so that to empty the one would lose the other; a FILE `-` is standard input. Only of a file that
+/// holds its bytes this can be so: a terminal, a pipe or a device may be both.
+pub fn is_same_file<R: Files>(rt: &R, path: &str, file: &str) -> Result<bool> {
+    let file = if file == "-" { "/dev/fd/0" } else { file };
+    match (found(rt, path)?, found(rt, file)?) {
+        (Some(a), Some(b)) => Ok(a.is_file() && a.dev() == b.dev() && a.ino() == b.ino()),
+        (_, _) => Ok(false),
+    }
+}
+
+/// What the system says of a file, or `None` where it can't say it for another reason than want of memory.
+fn found<R: Files>(rt: &R, path: &str) -> Result<Option<Metadata>> {
+    match metadata(rt, path) {
+        Ok(data) => Ok(Some(data)),
+        Err(e) if e.kind() == ErrorKind::OutOfMemory => Err(e),
+        Err(_) => Ok(None),
+    }
+}
