@@ -73,6 +73,12 @@ def ran(judged: Accepted, order: Order, log: pathlib.Path | None, arguments: Arg
     return status
 
 
+def is_over(log: pathlib.Path, file: str) -> bool:
+    """Whether the log would be written over the program."""
+    program = pathlib.Path("/dev/stdin" if file == "-" else file)
+    return log.is_file() and program.exists() and log.samefile(program)
+
+
 def is_too_long(judged: Accepted, order: Order, arguments: Arguments) -> bool:
     if judged.bounds.steps <= TOO_LONG:
         return False
@@ -80,6 +86,9 @@ def is_too_long(judged: Accepted, order: Order, arguments: Arguments) -> bool:
 
 
 def said(given: argparse.Namespace) -> int:
+    if given.command == "run" and given.log and is_over(given.log, given.file):
+        print("x10clock: --log would write over FILE", file=sys.stderr)
+        return 2
     data = sys.stdin.buffer.read() if given.file == "-" else read(pathlib.Path(given.file))
     if given.command == "compile":
         return telling_source.answer_compile(data)
