@@ -1,5 +1,5 @@
 -- What is taken from outside, one word after another.
-use Rattle.std.proofs.Common.{◌≡◌, ℕ, zero, suc, ◌+◌, ◌<◌, Bool, true, false, cond, Bor, List, [], ◌∷◌, ◌++◌, map, take, drop, length, get_or, refl, sym, ap, ◌∙◌, append_assoc, drop-cons, add-one, append-nil}
+use Rattle.std.proofs.Common.{◌≡◌, ℕ, ◌+◌, ◌<◌, Bool, true, false, cond, List, [], ◌∷◌, ◌++◌, map, take, drop, length, get_or, refl, sym, ap, ◌∙◌, append_assoc, drop-cons, add-one, append-nil}
 use Rattle.std.specs.Prelude.{if◌then◌else◌}
 use Rattle.std.specs.List.{flat_map}
 use Rattle.xk_tree.specs.declared.tree.Stmt.{Stmt}
@@ -70,11 +70,6 @@ after_grows own (More s ss) =
 
 pub cut_own : (before kept : List (List ℕ)) (ss : Statements) (n : ℕ) → kept ≡ own_after before ss → n ≡ length before → take n kept ≡ before
 cut_own before kept ss n e h = let g = after_grows before ss in ap (λ k. take k kept) h ∙ ap (take (length before)) (e ∙ g.1) ∙ take_front before g.0
-
-pub take_texts : (n : ℕ) (ks : List (Bor (List ℕ))) → map (λ k. k.now) (take n ks) ≡ take n (map (λ k. k.now) ks)
-take_texts zero ks = refl
-take_texts (suc n) [] = refl
-take_texts (suc n) (k ∷ ks) = ap (λ r. k.now ∷ r) (take_texts n ks)
 
 -- ---- statements, one after another
 

@@ -7,3 +7,4 @@ pub mod Given
 pub mod Scoped
 pub mod Captures
 pub mod Free
+pub mod Placed

@@ -5,21 +5,26 @@ ghost use Rattle.xk_names.specs.Scope.{Table as Entries, find, has};
 ghost use Rattle.xk_tree.specs.Tree.{Statements, Word};
 ghost use Rattle.xk_names.specs.Captures.{own_after};
 ghost use Rattle.xk_names.specs.Collected.{put, put_text, put_texts};
+ghost use Rattle.xk_names.specs.Placed.{ArePlaces};
 
-use indexmap::{IndexMap, IndexSet};
 use std::alloc::{AllocError, Global};
+use std::collections::BTreeMap;
 use std::marker::Model;
 
 /// What names stand for, in the order in which they were put in. No name is there twice.
 #[derive(Drop)]
 pub struct Table<'t, A: Copy> {
-    entries: IndexMap<&'t [u8], A>,
+    entries: Vec<(&'t [u8], A)>,
+    // where each name stands among them; ordered, so that no choice of names makes it slow
+    places: BTreeMap<&'t [u8], usize>,
 }
 
 impl<'t, A: Copy> Model for Table<'t, A> {
     ghost Value = { Entries A };
 
-    ghost view = { λ t. map (λ e. (e.0.now, e.1)) t.entries.entries };
+    ghost view = { λ t. map (λ e. (e.0.now, e.1)) t.entries.items };
+
+    ghost invariant = { λ t. ArePlaces (map (λ e. (e.0.now, e.1)) t.entries.items) t.places };
 }
 
 impl<'t, A: Copy> Table<'t, A> {
@@ -28,7 +33,8 @@ impl<'t, A: Copy> Table<'t, A> {
         ensures { result ≡ [] }
     {
         Table {
-            entries: IndexMap::new(alloc),
+            entries: Vec::new(alloc),
+            places: BTreeMap::new(alloc),
         }
     }
 
@@ -43,7 +49,8 @@ impl<'t, A: Copy> Table<'t, A> {
     pub fn find(&self, text: &'t [u8]) -> Option<A>
         ensures { result ≡ find self.now text.now }
     {
-        self.entries.get(&text).copied()
+        let place = *self.places.get(text)?;
+        Some(self.entries[place].1)
     }
 
     /// Adds an entry behind the others, unless the name has one, which stays then. Where memory is wanting nothing changes.
@@ -51,31 +58,38 @@ impl<'t, A: Copy> Table<'t, A> {
         ensures entry { OnOk result (self.new ≡ put self.old text.now a) }
         ensures same { OnErr result (self.new ≡ self.old) }
     {
-        if !self.entries.contains_key(&text) {
-            self.entries.insert(text, a)?;
+        if self.places.contains_key(text) {
+            return Ok(());
         }
+        // Room first: behind this, only the map can be refused memory, and it changes nothing then.
+        self.entries.reserve(1)?;
+        self.places.insert(text, self.entries.len())?;
+        self.entries.push((text, a))?;
         Ok(())
     }
 
     /// Forgets all but the first `len` entries.
-    #[tactic(auto, using(crate::proofs::Tables::take_shown))]
     pub fn truncate(&mut self, len: usize)
         ensures { self.new ≡ take len self.old }
     {
-        self.entries.truncate(len);
+        while len < self.entries.len() {
+            if let Some((text, _)) = self.entries.pop() {
+                self.places.remove(text);
+            }
+        }
     }
 }
 
 // Names, each once.
 #[derive(Drop)]
 pub struct Texts<'t> {
-    keys: IndexSet<&'t [u8]>,
+    names: Table<'t, ()>,
 }
 
 impl<'t> Model for Texts<'t> {
     ghost Value = { List (List ℕ) };
 
-    ghost view = { λ t. map (λ k. k.now) t.keys.keys };
+    ghost view = { λ t. map (λ e. e.0) t.names };
 }
 
 impl<'t> Texts<'t> {
@@ -83,14 +97,14 @@ impl<'t> Texts<'t> {
         ensures { result ≡ [] }
     {
         Texts {
-            keys: IndexSet::new(alloc),
+            names: Table::new(alloc),
         }
     }
 
     pub fn contains(&self, text: &'t [u8]) -> bool
         ensures { result ≡ has self.now text.now }
     {
-        self.keys.contains(&text)
+        self.names.find(text).is_some()
     }
 
     // Adds a name, and says whether it is new. Where memory is wanting nothing changes.
@@ -99,15 +113,16 @@ impl<'t> Texts<'t> {
         ensures texts { OnOk result (self.new ≡ put_text self.old text.now) }
         ensures same { OnErr result (self.new ≡ self.old) }
     {
-        let new = self.keys.insert(text)?;
-        Ok(new)
+        let before = self.names.len();
+        self.names.put(text, ())?;
+        Ok(before < self.names.len())
     }
 
     // How many names there are.
     pub fn len(&self) -> usize
         ensures { result ≡ length self.now }
     {
-        self.keys.len()
+        self.names.len()
     }
 
     // Forgets what was added since there were so many.
@@ -117,14 +132,17 @@ impl<'t> Texts<'t> {
         ensures after { (before : List (List ℕ)) (ss : Statements) → self.old ≡ own_after before ss
             → len ≡ length before → self.new ≡ before }
     {
-        self.keys.truncate(len);
+        self.names.truncate(len);
     }
 
     // The names, in the order in which they were added.
     pub fn to_vec(&self, alloc: Global) -> Result<Vec<&'t [u8]>, AllocError>
         ensures { IfOk result (λ names. map (λ x. x.now) names.items ≡ self.now) }
     {
-        let names = Vec::from_slice(alloc, self.keys.as_slice())?;
+        let mut names = Vec::with_capacity(alloc, self.names.len())?;
+        for (name, _) in &self.names.entries {
+            names.push(*name)?;
+        }
         Ok(names)
     }
 }
