@@ -6,3 +6,4 @@ pub mod Inside
 pub mod Again
 pub mod Keeps
 pub mod Faults
+pub mod OneFault

@@ -1,5 +1,5 @@
 -- Which faults a program has. This project's own.
-use Rattle.std.specs.Prelude.{◌≡◌, ◌≤◌, ℕ, List, Some, length, slice_get}
+use Rattle.std.specs.Prelude.{◌≡◌, ◌≤◌, ◌⊎◌, ℕ, List, Some, length, slice_get}
 use Rattle.xk_types.specs.Code.{IsUnitWithinLimits}
 use Rattle.xk_tree.specs.declared.fault.FrontRule.TheVariants as rule
 use Rattle.xk_tree.specs.declared.fault.FrontFault.{FrontFault}
@@ -58,3 +58,11 @@ pub data IsFaultOf (t : TreeValue) (f : FrontFault) : Type 0 where
   InNames : IsReported t f → IsFaultOf t f
   InCalls : IsClean t → HasRecursion t f → IsFaultOf t f
   InTables : IsClean t → IsFalling t → IsTableFault t f → IsFaultOf t f
+
+-- both are recursive calls of one program
+abbrev pub AreRecursive : TreeValue → FrontFault → FrontFault → Type 0
+AreRecursive t f g = HasRecursion t f × HasRecursion t g
+
+-- two faults that may be told of one program are the same, or both are recursive calls
+abbrev pub IsToldOnce : TreeValue → FrontFault → FrontFault → Type 0
+IsToldOnce t f g = (f ≡ g) ⊎ AreRecursive t f g

@@ -2,6 +2,7 @@
 #![tactic(auto, using(crate::proofs::Lists::part_push, crate::proofs::Lists::rows_push))]
 
 mod compiler;
+pub mod laws;
 mod order;
 mod parts;
 mod runs;

@@ -7,3 +7,4 @@ pub mod OrderedRuns
 pub mod Replies
 pub mod RunLogs
 pub mod Tasks
+pub mod OneText

@@ -1,5 +1,6 @@
--- The answer to a job on a module text is one.
+-- The answer to a job is one.
 use Rattle.std.proofs.Common.{◌≡◌, ◌≢◌, ◌∙◌, ℕ, ℤ, true, false, List, [], ◌++◌, codes, None, Some, inl, inr, refl, sym, ap, subst}
+use Rattle.std.specs.Prelude.{◌⊎◌}
 use Rattle.std.proofs.lemmas.Bool.{false≢true}
 use Rattle.serde_json.specs.Written.{compact_text}
 use Rattle.xk_types.specs.declared.names.Entry.{Entry}
@@ -19,6 +20,8 @@ use Rattle.xk_module.specs.ModuleText.{IsJson, IsModuleText, module_value}
 use Rattle.xk_module.proofs.Texts.{one_module}
 use Rattle.xk_replay.specs.Chart.{chart_text}
 use Rattle.xk_replay.specs.Replay.{IsWhole}
+use Rattle.xk_tree.specs.declared.fault.FrontFault.{FrontFault}
+use Rattle.xk_words.specs.declared.job.Form.{Form}
 use Rattle.xk_words.specs.declared.job.Form.TheVariants as form
 use Rattle.xk_words.specs.Line.{By, In}
 use Rattle.xk_serve.specs.declared.done.Done.{Done}
@@ -27,12 +30,13 @@ use Rattle.xk_serve.specs.declared.fault.Fault.{Fault}
 use Rattle.xk_serve.specs.declared.fault.Fault.TheVariants as fault
 use Rattle.xk_serve.specs.Answer.{Answers, Chart, Check, ComesTo, Compile, Doing, IsLogText, IsMisfit, IsNoRun, Replay, Reply, Run, Task, fault_reply, reads_log, runs}
 use Rattle.xk_serve.specs.Lines.{accepted_line, arguments_line, done_log, done_text, ended_line, fault_line, number_lines, refusal_status, status_of}
-use Rattle.xk_serve.specs.OneAnswer.{IsSameLine, IsSameReply, IsWithoutWorkers}
+use Rattle.xk_serve.specs.OneAnswer.{IsLeftOpen, IsSameLine, IsSameReply, IsWithoutWorkers, TellFaults}
 use Rattle.xk_serve.specs.OrderedRun.{IsLoggedRun, IsOrderedRun, IsReplay, IsWholeRun}
-use Rattle.xk_serve.specs.Programs.{Gives, IsNoModule}
+use Rattle.xk_serve.specs.Programs.{Gives, IsCompiledTo, IsNoModule, IsNoSource}
 use Rattle.xk_serve.proofs.OneLog.{no_run_once, text_once, whole_not_refused}
 use Rattle.xk_serve.proofs.OneRefusal.{not_accepted, refusal_once, refused_status}
 use Rattle.xk_serve.proofs.OneRun.{list_once, logged_once, ordered_once, run_taken}
+use Rattle.xk_serve.proofs.OneText.{one_text, unfit_none, unfit_once}
 
 -- ---- what is printed where nothing stands against the job
 
@@ -182,9 +186,10 @@ same_said what m args logged r s (Does zero quiet p) (Does none silent q) = reco
 
 -- ---- what is said of bytes
 
--- the bytes are no module text, or they are one, and this is said of the module
+-- the bytes are no module text, or no source text of a program without faults, or they give a module, of which this is said
 data Case (t : Task) (bytes logged : List ℕ) (r : Reply) : Type 0 where
-  Unread : (f : ModuleFault) → IsNoModule bytes f → r ≡ fault_reply (fault.Text f) → Case t bytes logged r
+  Unread : (f : ModuleFault) → t.form ≡ form.Module → IsNoModule bytes f → r ≡ fault_reply (fault.Text f) → Case t bytes logged r
+  Unfit : (f : FrontFault) → t.form ≡ form.Source → IsNoSource bytes f → r ≡ fault_reply (fault.Front f) → Case t bytes logged r
   Read : (m : ModuleValue) → Gives t.form bytes m → Said t.doing m t.arguments logged r → Case t bytes logged r
 
 -- of a fault that is told where a module is given
@@ -194,29 +199,29 @@ status_not r f e not4 = λ is. not4 (ap (λ (z : Reply). z.status) e ∙ is)
 no_source : (t : Task) → t.form ≡ form.Module → t.form ≡ form.Source → ⊥
 no_source t e d = let both : form.Module ≡ form.Source = sym e ∙ d in cc
 
-case_of : (t : Task) (bytes logged : List ℕ) (r : Reply) → t.form ≡ form.Module → r.status ≢ 4 → Answers t bytes logged r → Case t bytes logged r
-case_of t bytes logged r of not4 (inl (d, s, e)) = Read s.of s.given (Does (ap (λ (z : Reply). z.status) e) (ap (λ (z : Reply). z.err) e)
+case_of : (t : Task) (bytes logged : List ℕ) (r : Reply) → r.status ≢ 4 → Answers t bytes logged r → Case t bytes logged r
+case_of t bytes logged r not4 (inl (d, s, e)) = Read s.of s.given (Does (ap (λ (z : Reply). z.status) e) (ap (λ (z : Reply). z.err) e)
     (subst (λ (z : Reply). Prints t.doing s.of t.arguments logged z.out z.log) (sym e) (prints t.doing s.of t.arguments logged d s.done)))
-case_of t bytes logged r of not4 (inr (fault.Text f, h, e)) = Unread f h.1 e
-case_of t bytes logged r of not4 (inr (fault.Front f, h, e)) = absurd (no_source t of h.0)
-case_of t bytes logged r of not4 (inr (fault.Refused (refusal.Shape f), h, e)) =
+case_of t bytes logged r not4 (inr (fault.Text f, h, e)) = Unread f h.0 h.1 e
+case_of t bytes logged r not4 (inr (fault.Front f, h, e)) = Unfit f h.0 h.1 e
+case_of t bytes logged r not4 (inr (fault.Refused (refusal.Shape f), h, e)) =
     Read h.1.0 h.1.1 (Refusing (refusal.Shape f) h.0 h.1.2 (status_not r (fault.Refused (refusal.Shape f)) e not4) e)
-case_of t bytes logged r of not4 (inr (fault.Refused (refusal.Kind f), h, e)) =
+case_of t bytes logged r not4 (inr (fault.Refused (refusal.Kind f), h, e)) =
     Read h.1.0 h.1.1 (Refusing (refusal.Kind f) h.0 h.1.2 (status_not r (fault.Refused (refusal.Kind f)) e not4) e)
-case_of t bytes logged r of not4 (inr (fault.Refused (refusal.Bound f), h, e)) =
+case_of t bytes logged r not4 (inr (fault.Refused (refusal.Bound f), h, e)) =
     Read h.1.0 h.1.1 (Refusing (refusal.Bound f) h.0 h.1.2 (status_not r (fault.Refused (refusal.Bound f)) e not4) e)
-case_of t bytes logged r of not4 (inr (fault.Refused refusal.OutOfMemory, h, e)) = absurd h
-case_of t bytes logged r of not4 (inr (fault.Arguments wants has, h, e)) = Read h.1.0 h.1.1 (Misfit wants has h.0 h.1.2 h.1.3 e)
-case_of t bytes logged r of not4 (inr (fault.Grammar line, h, e)) =
+case_of t bytes logged r not4 (inr (fault.Refused refusal.OutOfMemory, h, e)) = absurd h
+case_of t bytes logged r not4 (inr (fault.Arguments wants has, h, e)) = Read h.1.0 h.1.1 (Misfit wants has h.0 h.1.2 h.1.3 e)
+case_of t bytes logged r not4 (inr (fault.Grammar line, h, e)) =
     Read h.1.0 h.1.1 (NoRun (fault.Grammar line) h.0 h.1.2 h.1.3.0 h.1.3.1 (status_not r (fault.Grammar line) e not4) e)
-case_of t bytes logged r of not4 (inr (fault.Truncated, h, e)) =
+case_of t bytes logged r not4 (inr (fault.Truncated, h, e)) =
     Read h.1.0 h.1.1 (NoRun fault.Truncated h.0 h.1.2 h.1.3.0 h.1.3.1 (status_not r fault.Truncated e not4) e)
-case_of t bytes logged r of not4 (inr (fault.NotEnabled i, h, e)) =
+case_of t bytes logged r not4 (inr (fault.NotEnabled i, h, e)) =
     Read h.1.0 h.1.1 (NoRun (fault.NotEnabled i) h.0 h.1.2 h.1.3.0 h.1.3.1 (status_not r (fault.NotEnabled i) e not4) e)
-case_of t bytes logged r of not4 (inr (fault.NotEnded, h, e)) =
+case_of t bytes logged r not4 (inr (fault.NotEnded, h, e)) =
     Read h.1.0 h.1.1 (NoRun fault.NotEnded h.0 h.1.2 h.1.3.0 h.1.3.1 (status_not r fault.NotEnded e not4) e)
-case_of t bytes logged r of not4 (inr (fault.OutOfMemory, h, e)) = absurd (not4 (ap (λ (z : Reply). z.status) e))
-case_of t bytes logged r of not4 (inr (fault.Device, h, e)) = absurd h
+case_of t bytes logged r not4 (inr (fault.OutOfMemory, h, e)) = absurd (not4 (ap (λ (z : Reply). z.status) e))
+case_of t bytes logged r not4 (inr (fault.Device, h, e)) = absurd h
 
 -- a text of a module is JSON
 text_json : (bytes : List ℕ) (m : ModuleValue) → IsModuleText bytes m → IsJson bytes
@@ -247,24 +252,53 @@ unread_none bytes text.OutOfMemory m p q = p
 given_text : (t : Task) (bytes : List ℕ) (m : ModuleValue) → t.form ≡ form.Module → Gives t.form bytes m → IsModuleText bytes m × IsWithinLimits m
 given_text t bytes m of given = subst (λ f. Gives f bytes m) of given
 
+given_source : (t : Task) (bytes : List ℕ) (m : ModuleValue) → t.form ≡ form.Source → Gives t.form bytes m → IsCompiledTo bytes m
+given_source t bytes m of given = subst (λ f. Gives f bytes m) of given
+
+-- bytes give one module
+given_once : (kind : Form) (bytes : List ℕ) (m n : ModuleValue) → Gives kind bytes m → Gives kind bytes n → m ≡ n
+given_once form.Module bytes m n p q = one_module bytes m n p.0 q.0
+given_once form.Source bytes m n p q = one_text bytes m n p q
+
 -- an answer, where the bytes give this module
-said_of : (t : Task) (bytes logged : List ℕ) (r : Reply) (m : ModuleValue) → t.form ≡ form.Module → Gives t.form bytes m → Case t bytes logged r
-    → Said t.doing m t.arguments logged r
-said_of t bytes logged r m of given (Unread f p e) = absurd (unread_none bytes f m p (given_text t bytes m of given))
-said_of t bytes logged r m of given (Read n found told) =
-    let same = one_module bytes n m (given_text t bytes n of found).0 (given_text t bytes m of given).0 in
-    subst (λ k. Said t.doing k t.arguments logged r) same told
+said_of : (t : Task) (bytes logged : List ℕ) (r : Reply) (m : ModuleValue) → Gives t.form bytes m → Case t bytes logged r → Said t.doing m t.arguments logged r
+said_of t bytes logged r m given (Unread f of p e) = absurd (unread_none bytes f m p (given_text t bytes m of given))
+said_of t bytes logged r m given (Unfit f of p e) = absurd (unfit_none bytes f m p (given_source t bytes m of given))
+said_of t bytes logged r m given (Read n found told) =
+    subst (λ k. Said t.doing k t.arguments logged r) (given_once t.form bytes n m found given) told
 
 same_case : (t : Task) (bytes logged : List ℕ) (r s : Reply) → t.form ≡ form.Module → Case t bytes logged r → Case t bytes logged s → IsSameReply t.doing r s
-same_case t bytes logged r s of (Unread f p e) (Unread g q d) =
+same_case t bytes logged r s of (Unread f is p e) (Unread g text q d) =
     let same = unread_once bytes f g p q in
     same_faults t.doing r s (fault.Text f) (fault.Text g) e d (ap (λ k. status_of (fault.Text k)) same) (inl (ap (λ k. fault_line (fault.Text k)) same))
-same_case t bytes logged r s of (Unread f p e) (Read m given said) = absurd (unread_none bytes f m p (given_text t bytes m of given))
-same_case t bytes logged r s of (Read m given said) other = same_said t.doing m t.arguments logged r s said (said_of t bytes logged s m of given other)
+same_case t bytes logged r s of (Unread f is p e) (Unfit g source q d) = absurd (no_source t of source)
+same_case t bytes logged r s of (Unread f is p e) (Read m given said) = absurd (unread_none bytes f m p (given_text t bytes m of given))
+same_case t bytes logged r s of (Unfit f source p e) other = absurd (no_source t of source)
+same_case t bytes logged r s of (Read m given said) other = same_said t.doing m t.arguments logged r s said (said_of t bytes logged s m given other)
 
 pub one_answer : (t : Task) (bytes logged : List ℕ) (r s : Reply) → t.form ≡ form.Module → Answers t bytes logged r → Answers t bytes logged s → r.status ≢ 4 → s.status ≢ 4
     → IsSameReply t.doing r s
-one_answer t bytes logged r s of p q n k = same_case t bytes logged r s of (case_of t bytes logged r of n p) (case_of t bytes logged s of k q)
+one_answer t bytes logged r s of p q n k = same_case t bytes logged r s of (case_of t bytes logged r n p) (case_of t bytes logged s k q)
+
+-- ---- source texts
+
+same_unfit : (t : Task) (bytes : List ℕ) (r s : Reply) (f g : FrontFault) → r ≡ fault_reply (fault.Front f) → s ≡ fault_reply (fault.Front g)
+    → (f ≡ g) ⊎ IsLeftOpen bytes f g → IsSameReply t.doing r s ⊎ TellFaults bytes r s
+same_unfit t bytes r s f g e d (inl same) =
+    inl (same_faults t.doing r s (fault.Front f) (fault.Front g) e d (ap (λ k. status_of (fault.Front k)) same) (inl (ap (λ k. fault_line (fault.Front k)) same)))
+same_unfit t bytes r s f g e d (inr left) = inr (record { here = f; there = g; left = left; told_here = e; told_there = d })
+
+same_source : (t : Task) (bytes logged : List ℕ) (r s : Reply) → t.form ≡ form.Source → Case t bytes logged r → Case t bytes logged s
+    → IsSameReply t.doing r s ⊎ TellFaults bytes r s
+same_source t bytes logged r s of (Unread f text p e) other = absurd (no_source t text of)
+same_source t bytes logged r s of (Unfit f is p e) (Unread g text q d) = absurd (no_source t text of)
+same_source t bytes logged r s of (Unfit f is p e) (Unfit g source q d) = same_unfit t bytes r s f g e d (unfit_once bytes f g p q)
+same_source t bytes logged r s of (Unfit f is p e) (Read m given said) = absurd (unfit_none bytes f m p (given_source t bytes m of given))
+same_source t bytes logged r s of (Read m given said) other = inl (same_said t.doing m t.arguments logged r s said (said_of t bytes logged s m given other))
+
+pub one_source_answer : (t : Task) (bytes logged : List ℕ) (r s : Reply) → t.form ≡ form.Source → Answers t bytes logged r → Answers t bytes logged s
+    → r.status ≢ 4 → s.status ≢ 4 → IsSameReply t.doing r s ⊎ TellFaults bytes r s
+one_source_answer t bytes logged r s of p q n k = same_source t bytes logged r s of (case_of t bytes logged r n p) (case_of t bytes logged s k q)
 
 -- ---- logs of whole runs
 
@@ -276,9 +310,9 @@ whole_does what m args logged es s ok taken text whole (Misfit wants has run fin
 whole_does what m args logged es s ok taken text whole (NoRun f reads fine fits p n e) = absurd (whole_not_refused m args logged f es p n text whole)
 whole_does what m args logged es s ok taken text whole (Does zero quiet p) = (zero, quiet, p)
 
-pub whole_prints : (t : Task) (bytes logged : List ℕ) (s : Reply) (m : ModuleValue) (out log : List ℕ) → t.form ≡ form.Module → Gives t.form bytes m
+pub whole_prints : (t : Task) (bytes logged : List ℕ) (s : Reply) (m : ModuleValue) (out log : List ℕ) → Gives t.form bytes m
     → Prints Replay m t.arguments logged out log → s.status ≢ 4 → Answers t bytes logged s → (s.status ≡ 0) × (s.err ≡ []) × Prints t.doing m t.arguments logged s.out s.log
-whole_prints t bytes logged s m out log of given p not4 answers =
+whole_prints t bytes logged s m out log given p not4 answers =
     let whole = prints_whole Replay m t.arguments logged out log refl p in
     whole_does t.doing m t.arguments logged whole.0 s (prints_accepted Replay m t.arguments logged out log (λ e. cc) p)
-    (prints_taken Replay m t.arguments logged out log refl p) whole.1 whole.2 (said_of t bytes logged s m of given (case_of t bytes logged s of not4 answers))
+    (prints_taken Replay m t.arguments logged out log refl p) whole.1 whole.2 (said_of t bytes logged s m given (case_of t bytes logged s not4 answers))

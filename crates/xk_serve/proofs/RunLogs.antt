@@ -124,11 +124,11 @@ module _ (t : Task) (way : Way) (bytes logged : List ℕ) (r : Reply) (is : t.do
       )
 
   -- and prints nothing else
-  pub replayed_alone : (s : Reply) → t.form ≡ form.Module → Answers (replaying t) bytes r.log s → s.status ≢ 4 → s ≡ done_with r.out
-  replayed_alone s of again not4 =
+  pub replayed_alone : (s : Reply) → Answers (replaying t) bytes r.log s → s.status ≢ 4 → s ≡ done_with r.out
+  replayed_alone s again not4 =
       let w = written_of t way bytes logged r is answers zero in
       let p = prints Replay w.of t.arguments r.log w.again w.comes in
-      let q = whole_prints (replaying t) bytes r.log s w.of (done_text w.again) (done_log w.again) of w.given p not4 again in
+      let q = whole_prints (replaying t) bytes r.log s w.of (done_text w.again) (done_log w.again) w.given p not4 again in
       let same = prints_once Replay w.of t.arguments r.log s.out s.log (done_text w.again) (done_log w.again) tt q.2 p in
       reply_is s r.out q.0 (same.0 ∙ sym w.out) q.1 (same.1 ∙ p.7)
 
@@ -140,10 +140,10 @@ module _ (t : Task) (way : Way) (bytes logged : List ℕ) (r : Reply) (is : t.do
       (w.of, p.3, w.given, p.4, λ d chart. charts t bytes r.log w.of p.3 w.given p.0 p.4 (whole_run w.of t.arguments p.1 p.2 p.3 p.5) d chart)
 
   -- and prints nothing else
-  pub charted_alone : (s : Reply) → t.form ≡ form.Module → Answers (charting t) bytes r.log s → s.status ≢ 4 → IsCharted t bytes r.log s
-  charted_alone s of again not4 =
+  pub charted_alone : (s : Reply) → Answers (charting t) bytes r.log s → s.status ≢ 4 → IsCharted t bytes r.log s
+  charted_alone s again not4 =
       let w = written_of t way bytes logged r is answers zero in
       let p = prints Replay w.of t.arguments r.log w.again w.comes in
-      let q = whole_prints (charting t) bytes r.log s w.of (done_text w.again) (done_log w.again) of w.given p not4 again in
+      let q = whole_prints (charting t) bytes r.log s w.of (done_text w.again) (done_log w.again) w.given p not4 again in
       let c = q.2 in
       (w.of, c.1, w.given, c.2, reply_is s _ q.0 c.4 q.1 c.5)

@@ -1,17 +1,21 @@
--- When two answers to one job are the same. Which walk to a refusal of kinds is told is left open, and so is which run workers take. This
--- project's own.
+-- When two answers to one job are the same. Which walk to a refusal of kinds is told is left open, and so is which run workers take, and which fault
+-- is told of a source text that spells no tree, or has several recursive calls. This project's own.
 use Rattle.std.specs.Prelude.{◌≡◌, ℕ, ⊤, ◌⊎◌, List, [], length, string_bytes}
 use Rattle.xk_types.specs.declared.names.Entry.{Entry}
 use Rattle.xk_types.specs.Code.{ModuleValue}
+use Rattle.xk_tree.specs.Tree.{TreeValue}
+use Rattle.xk_tree.specs.declared.fault.FrontFault.{FrontFault}
+use Rattle.xk_codegen.specs.Faults.{AreRecursive}
 use Rattle.xk_typestate.specs.declared.refusal.KindFault.{KindFault}
 use Rattle.xk_words.specs.Line.{By}
 use Rattle.xk_words.specs.Status.{status_done}
 use Rattle.xk_replay.specs.Chart.{chart_text}
 use Rattle.xk_serve.specs.declared.done.Done.{Done}
 use Rattle.xk_serve.specs.declared.done.Done.TheVariants as done
-use Rattle.xk_serve.specs.Answer.{Answers, Chart, Doing, IsLogText, Reply, Replay, Run, Task, done_reply}
+use Rattle.xk_serve.specs.declared.fault.Fault.TheVariants as fault
+use Rattle.xk_serve.specs.Answer.{Answers, Chart, Doing, IsLogText, Reply, Replay, Run, Task, done_reply, fault_reply}
 use Rattle.xk_serve.specs.Lines.{kind_text, line}
-use Rattle.xk_serve.specs.Programs.{Gives}
+use Rattle.xk_serve.specs.Programs.{Gives, IsSource, SpellsNone}
 
 -- one slot is refused at one place, where it is of one kind, by one rule, and neither fault has a longer walk there
 pub record IsSameRefusal (f g : KindFault) : Type 0 where
@@ -45,6 +49,20 @@ pub record IsSameReply (what : Doing) (r s : Reply) : Type 0 where
   pub err : IsSameLine r.err s.err
   pub out : IsWithoutWorkers what → r.out ≡ s.out
   pub log : IsWithoutWorkers what → r.log ≡ s.log
+
+-- ---- source texts
+
+-- which of two faults of a source text is told is left open: the bytes spell no tree, or both are recursive calls of the tree that they spell
+abbrev pub IsLeftOpen : List ℕ → FrontFault → FrontFault → Type 0
+IsLeftOpen bytes f g = (SpellsNone bytes f × SpellsNone bytes g) ⊎ ((tree : TreeValue) × IsSource bytes tree × AreRecursive tree f g)
+
+-- both replies refuse the source text, each by a fault of which that is left open
+pub record TellFaults (bytes : List ℕ) (r s : Reply) : Type 0 where
+  pub here : FrontFault
+  pub there : FrontFault
+  pub left : IsLeftOpen bytes here there
+  pub told_here : r ≡ fault_reply (fault.Front here)
+  pub told_there : s ≡ fault_reply (fault.Front there)
 
 -- ---- the log of a run
 

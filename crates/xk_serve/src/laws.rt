@@ -1,11 +1,11 @@
 //! What holds of every program that is accepted, and of all answers: nothing here is computed.
 
-ghost use Rattle.std.specs.Prelude.{◌≡◌, ◌≢◌, ℕ, ℤ, List, true};
+ghost use Rattle.std.specs.Prelude.{◌≡◌, ◌≢◌, ◌⊎◌, ℕ, ℤ, List, true};
 ghost use Rattle.xk_serve.specs.declared.done.Done.{Done};
 ghost use Rattle.xk_serve.specs.Answer.{Answers, ComesTo, Doing, Reply, Run, Task};
 ghost use Rattle.xk_serve.specs.EveryRun.{EveryRun};
 ghost use Rattle.xk_serve.specs.Lines.{done_log, done_text};
-ghost use Rattle.xk_serve.specs.OneAnswer.{IsCharted, IsSameReply, IsWithoutWorkers, MayChart, charting, done_with, replaying};
+ghost use Rattle.xk_serve.specs.OneAnswer.{IsCharted, IsSameReply, IsWithoutWorkers, MayChart, TellFaults, charting, done_with, replaying};
 ghost use Rattle.xk_serve.specs.Programs.{IsCompiledTo};
 ghost use Rattle.xk_types.specs.Accepted.{IsAccepted};
 ghost use Rattle.xk_types.specs.Code.{ModuleValue};
@@ -31,25 +31,30 @@ pub fn every_accepted_text()
 
 /// To a job on a module text there is one answer, want of memory aside: the same status, and the same bytes on every device. What is left open is
 /// which walk is told of a refusal of kinds, one of the shortest, and, where workers take the steps, which run they take: then standard output and
-/// the log are those of some run, but the status and the line of a fault are determined still. And what a job on a module comes to where nothing
-/// stands against it is one, also where the module was compiled from a source text.
+/// the log are those of some run, but the status and the line of a fault are determined still. To a job on a source text there is one answer in the
+/// same sense, but that of a text which spells no tree, or has several recursive calls, it is left open which fault is told: the status and the other
+/// devices are the same then too. And what a job on a module comes to where nothing stands against it is one.
 pub fn one_answer()
     ensures answer { (t : Task) (bytes logged : List ℕ) (r s : Reply) → t.form ≡ form.Module
         → Answers t bytes logged r → Answers t bytes logged s
         → r.status ≢ status_memory → s.status ≢ status_memory → IsSameReply t.doing r s }
+    ensures source { (t : Task) (bytes logged : List ℕ) (r s : Reply) → t.form ≡ form.Source
+        → Answers t bytes logged r → Answers t bytes logged s
+        → r.status ≢ status_memory → s.status ≢ status_memory
+        → IsSameReply t.doing r s ⊎ TellFaults bytes r s }
     ensures done { (what : Doing) (m : ModuleValue) (args : List ℤ) (logged : List ℕ) (d e : Done)
         → IsWithoutWorkers what → ComesTo what m args logged d → ComesTo what m args logged e
         → (done_text d ≡ done_text e) × (done_log d ≡ done_log e) }
 {}
 
 /// The log that `run` has written tells that run. Of the same FILE, the same arguments and that log `replay` may print what the run printed, with
-/// the same number of steps, and `chart` the chart of that run; and where FILE is a module text, they answer nothing else, want of memory aside.
+/// the same number of steps, and `chart` the chart of that run; and they answer nothing else, want of memory aside.
 pub fn a_log_tells_its_run()
     ensures replayed { (t : Task) (way : Way) (bytes logged : List ℕ) (r : Reply)
         → t.doing ≡ Run way true → Answers t bytes logged r → r.status ≡ status_done
         → Answers (replaying t) bytes r.log (done_with r.out) }
     ensures replayed_alone { (t : Task) (way : Way) (bytes logged : List ℕ) (r s : Reply)
-        → t.form ≡ form.Module → t.doing ≡ Run way true
+        → t.doing ≡ Run way true
         → Answers t bytes logged r → r.status ≡ status_done
         → Answers (replaying t) bytes r.log s → s.status ≢ status_memory
         → s ≡ done_with r.out }
@@ -57,7 +62,7 @@ pub fn a_log_tells_its_run()
         → t.doing ≡ Run way true → Answers t bytes logged r → r.status ≡ status_done
         → MayChart t bytes r.log }
     ensures charted_alone { (t : Task) (way : Way) (bytes logged : List ℕ) (r s : Reply)
-        → t.form ≡ form.Module → t.doing ≡ Run way true
+        → t.doing ≡ Run way true
         → Answers t bytes logged r → r.status ≡ status_done
         → Answers (charting t) bytes r.log s → s.status ≢ status_memory
         → IsCharted t bytes r.log s }

@@ -10,3 +10,6 @@ pub mod Law
 pub mod Compiled
 pub mod Rows
 pub mod Premise
+pub mod OneOrder
+pub mod OneSetting
+pub mod OneModule

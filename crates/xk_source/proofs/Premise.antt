@@ -1,15 +1,11 @@
 -- The premise of the law is met: a small program, and the module that is its code.
-use Rattle.std.proofs.Common.{◌≡◌, inl, inr, ℕ, zero, suc, ◌+◌, ◌≤◌, Bool, true, false, cond, List, [], ◌∷◌, ◌++◌, ◌<◌, length, map, codes, Option, Some, None, slice_get, refl, sym, ap, ◌∙◌, subst, arith}
+use Rattle.std.proofs.Common.{◌≡◌, inl, inr, ℕ, zero, suc, ◌+◌, ◌≤◌, Bool, true, false, cond, List, [], ◌∷◌, ◌<◌, length, codes, Option, Some, None, slice_get, refl, sym, ap, subst, arith}
 use Rattle.std.specs.Prelude.{option_map}
 use Rattle.xk_calls.specs.Calls.{IsCall, Reaches}
 use Rattle.xk_calls.specs.Order.{IsReady}
 use Rattle.xk_tree.specs.declared.fault.FrontFault.{FrontFault}
-use Rattle.xk_tree.specs.Tree.{Word, Expression, Statement, Assign, Async, MethodValue}
 use Rattle.xk_tree.specs.Bodies.{HasBodiesApart}
-use Rattle.xk_names.specs.declared.known.Known.{Known}
-use Rattle.xk_names.specs.declared.known.Kind.TheVariants as kind
-use Rattle.xk_names.specs.Scope.{Has, has, find, is_text, texts, Declaration, known, Scope, sees, fits}
-use Rattle.xk_names.specs.Uses.{Use, Signatures, signatures, uses, declares, misfits, clocks_given, calls as names_calls}
+use Rattle.xk_names.specs.Scope.{Has, is_text}
 use Rattle.xk_names.specs.Faults.{HasFault}
 use Rattle.xk_names.specs.Collected.{own, name_faults}
 use Rattle.xk_names.proofs.Whole.{fault_listed}
@@ -20,7 +16,7 @@ use Rattle.xk_source.specs.Graph.{graph}
 use Rattle.xk_source.specs.Compiled.{AreUnits, HasLater, IsCompiled, unit_number}
 use Rattle.xk_source.specs.Meaning.{Means}
 use Rattle.xk_source.proofs.Compiled.{compiled_means}
-use Rattle.xk_source.proofs.Rows.{w, lit, var, val_is, print, block, reading, reading_main, reading_code, reading_setting, reading_is}
+use Rattle.xk_source.proofs.Rows.{reading, reading_code, reading_setting, reading_is}
 
 abbrev order : List ℕ
 order = 0 ∷ 1 ∷ []

@@ -1,6 +1,6 @@
 //! That compiled programs mean their source.
 
-ghost use Rattle.std.specs.Prelude.{length, ◌≤◌};
+ghost use Rattle.std.specs.Prelude.{length, ◌≤◌, ◌≡◌};
 ghost use Rattle.xk_names.specs.Faults.{HasFault};
 ghost use Rattle.xk_source.specs.Compiled.{IsCompiled};
 ghost use Rattle.xk_source.specs.Meaning.{Means};
@@ -16,4 +16,9 @@ ghost use Rattle.xk_types.specs.Code.{ModuleValue};
 pub fn means_its_source()
     ensures { (t : TreeValue) (m : ModuleValue) → ((f : FrontFault) → HasFault t f → ⊥)
         → HasBodiesApart t → length m.units ≤ 1024 → IsCompiled t m → Means t m }
+{}
+
+/// A tree is compiled to one module at most. The call does nothing; its contract is the law.
+pub fn compiled_once()
+    ensures { (t : TreeValue) (m n : ModuleValue) → IsCompiled t m → IsCompiled t n → m ≡ n }
 {}
