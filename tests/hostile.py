@@ -134,6 +134,7 @@ def strange_files(tried: Tried) -> None:
     tried.answers("exec $x check /dev/null", 1, err="x10clock: F9 NoMain at 0\n")
     tried.answers("exec $x check --module /dev/null", 1, err="x10clock: M1 NotJson\n")
     tried.answers("exec $x check /dev/zero", 1, err="x10clock: F4 TooLong at 0\n")
+    tried.answers("exec $x check --module /dev/zero", 1, err="x10clock: M3 Limit\n")
     for command in ("replay", "chart"):
         tried.answers(f"exec $x {command} in-step.x10 .", 5, err=DEVICE)
         tried.answers(f"exec $x {command} in-step.x10 no-such-file", 5, err=DEVICE)

@@ -421,7 +421,12 @@ def is_within_limits(module: Module) -> bool:
     )
 
 
+LONGEST_TEXT = 1 << 28
+
+
 def read_module(data: bytes) -> Module:
+    if len(data) > LONGEST_TEXT:
+        raise Unread("M3 Limit")
     try:
         text = data.decode("utf-8", "strict")
     except UnicodeDecodeError:

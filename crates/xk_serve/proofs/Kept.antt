@@ -1,4 +1,4 @@
--- Of a source text that is too long no more than one byte too many is kept: what stands against that stands against the whole text.
+-- Of a text that is too long no more than one byte too many is kept: what stands against that stands against the whole text.
 use Rattle.std.proofs.Common.{◌≡◌, ◌+◌, ◌<◌, ◌≤◌, ℕ, List, length, take, min, Option, Some, None, inl, inr, arith, ap, ◌∙◌, subst}
 use Rattle.std.proofs.lemmas.List.{length-take, take_all}
 use Rattle.std.specs.Prelude.{IfSome}
@@ -10,7 +10,8 @@ use Rattle.xk_bounds.specs.declared.refusal.Refusal.TheVariants as refusal
 use Rattle.xk_serve.specs.declared.done.Done.{Done}
 use Rattle.xk_serve.specs.declared.fault.Fault.{Fault}
 use Rattle.xk_serve.specs.declared.fault.Fault.TheVariants as fault
-use Rattle.xk_serve.specs.Programs.{Gives, IsNoModule, IsNoSource, longest_source}
+use Rattle.xk_module.specs.declared.fault.ModuleFault.{ModuleFault}
+use Rattle.xk_serve.specs.Programs.{Gives, IsNoModule, IsNoSource, longest_module, longest_source}
 use Rattle.xk_serve.specs.Bytes.{kept}
 use Rattle.xk_serve.specs.Answer.{FailsBy, GivesAccepted, Succeeds, Task}
 use Rattle.xk_serve.specs.Serving.{AgainstLog, IfKnown, IsRead, Reads, StandsAgainst, read_of}
@@ -30,7 +31,7 @@ longer n bytes known e long =
     omega arith
 
 kept_gives : (what : Form) (bytes known : List ℕ) (m : ModuleValue) → bytes ≡ kept what known → Gives what bytes m → Gives what known m
-kept_gives form.Module bytes known m e h = subst (λ b. Gives form.Module b m) e h
+kept_gives form.Module bytes known m e h = subst (λ b. Gives form.Module b m) (whole longest_module bytes known e h.0) h
 kept_gives form.Source bytes known m e h = subst (λ b. Gives form.Source b m) (whole longest_source bytes known e h.spelled.1.short) h
 
 kept_source : (bytes known : List ℕ) (f : FrontFault) → bytes ≡ kept form.Source known → IsNoSource bytes f → IsNoSource known f
@@ -39,12 +40,16 @@ kept_source bytes known f e (inr (inl h)) = subst (λ b. IsNoSource b f) (whole 
 kept_source bytes known f e (inr (inr (inl h))) = subst (λ b. IsNoSource b f) (whole longest_source bytes known e h.0) (inr (inr (inl h)))
 kept_source bytes known f e (inr (inr (inr h))) = subst (λ b. IsNoSource b f) (whole longest_source bytes known e h.1.1.short) (inr (inr (inr h)))
 
+kept_module : (bytes known : List ℕ) (f : ModuleFault) → bytes ≡ kept form.Module known → IsNoModule bytes f → IsNoModule known f
+kept_module bytes known f e (inl h) = inl (longer longest_module bytes known e h.0, h.1)
+kept_module bytes known f e (inr h) = subst (λ b. IsNoModule b f) (whole longest_module bytes known e h.0) (inr h)
+
 kept_accepted : (t : Task) (bytes known : List ℕ) (P : ModuleValue → Type 0) → bytes ≡ kept t.form known → GivesAccepted t bytes P → GivesAccepted t known P
 kept_accepted t bytes known P e h = (h.0, kept_gives t.form bytes known h.0 e h.1, h.2, h.3)
 
 kept_fails : (t : Task) (bytes known logged : List ℕ) (f : Fault) → bytes ≡ kept t.form known → FailsBy t bytes logged f → FailsBy t known logged f
 kept_fails t bytes known logged (fault.Text f) e h =
-    (h.0, subst (λ b. IsNoModule b f) (subst (λ what. bytes ≡ kept what known) h.0 e) h.1)
+    (h.0, kept_module bytes known f (subst (λ what. bytes ≡ kept what known) h.0 e) h.1)
 kept_fails t bytes known logged (fault.Front f) e h = (h.0, kept_source bytes known f (subst (λ what. bytes ≡ kept what known) h.0 e) h.1)
 kept_fails t bytes known logged (fault.Refused (refusal.Shape r)) e h = (h.0, (h.1.0, kept_gives t.form bytes known h.1.0 e h.1.1, h.1.2))
 kept_fails t bytes known logged (fault.Refused (refusal.Kind r)) e h = (h.0, (h.1.0, kept_gives t.form bytes known h.1.0 e h.1.1, h.1.2))

@@ -1,5 +1,5 @@
 -- The answer to a job is one.
-use Rattle.std.proofs.Common.{◌≡◌, ◌≢◌, ◌∙◌, ℕ, ℤ, true, false, List, [], ◌++◌, codes, None, Some, inl, inr, refl, sym, ap, subst}
+use Rattle.std.proofs.Common.{◌≡◌, ◌≢◌, ◌<◌, ◌≤◌, ◌∙◌, ℕ, ℤ, true, false, List, [], ◌++◌, length, codes, None, Some, inl, inr, refl, sym, ap, subst, arith}
 use Rattle.std.specs.Prelude.{◌⊎◌}
 use Rattle.std.proofs.lemmas.Bool.{false≢true}
 use Rattle.serde_json.specs.Written.{compact_text}
@@ -32,7 +32,7 @@ use Rattle.xk_serve.specs.Answer.{Answers, Chart, Check, ComesTo, Compile, Doing
 use Rattle.xk_serve.specs.Lines.{accepted_line, arguments_line, done_log, done_text, ended_line, fault_line, number_lines, refusal_status, status_of}
 use Rattle.xk_serve.specs.OneAnswer.{IsLeftOpen, IsSameLine, IsSameReply, IsWithoutWorkers, TellFaults}
 use Rattle.xk_serve.specs.OrderedRun.{IsLoggedRun, IsOrderedRun, IsReplay, IsWholeRun}
-use Rattle.xk_serve.specs.Programs.{Gives, IsCompiledTo, IsNoModule, IsNoSource}
+use Rattle.xk_serve.specs.Programs.{Gives, IsCompiledTo, IsNoModule, IsNoSource, IsUnread, longest_module}
 use Rattle.xk_serve.proofs.OneLog.{no_run_once, text_once, whole_not_refused}
 use Rattle.xk_serve.proofs.OneRefusal.{not_accepted, refusal_once, refused_status}
 use Rattle.xk_serve.proofs.OneRun.{list_once, logged_once, ordered_once, run_taken}
@@ -227,29 +227,42 @@ case_of t bytes logged r not4 (inr (fault.Device, h, e)) = absurd h
 text_json : (bytes : List ℕ) (m : ModuleValue) → IsModuleText bytes m → IsJson bytes
 text_json bytes m p = (p.0, p.1)
 
-unread_once : (bytes : List ℕ) (f g : ModuleFault) → IsNoModule bytes f → IsNoModule bytes g → f ≡ g
-unread_once bytes text.NotJson text.NotJson p q = refl
-unread_once bytes text.NotJson text.NotAModule p q = absurd (p q.0)
-unread_once bytes text.NotJson text.Limit p q = absurd (p (text_json bytes q.0 q.1))
-unread_once bytes text.NotJson text.OutOfMemory p q = absurd q
-unread_once bytes text.NotAModule text.NotJson p q = absurd (q p.0)
-unread_once bytes text.NotAModule text.NotAModule p q = refl
-unread_once bytes text.NotAModule text.Limit p q = absurd (p.1 q.0 q.1)
-unread_once bytes text.NotAModule text.OutOfMemory p q = absurd q
-unread_once bytes text.Limit text.NotJson p q = absurd (q (text_json bytes p.0 p.1))
-unread_once bytes text.Limit text.NotAModule p q = absurd (q.1 p.0 p.1)
-unread_once bytes text.Limit text.Limit p q = refl
-unread_once bytes text.Limit text.OutOfMemory p q = absurd q
-unread_once bytes text.OutOfMemory g p q = absurd p
+read_once : (bytes : List ℕ) (f g : ModuleFault) → IsUnread bytes f → IsUnread bytes g → f ≡ g
+read_once bytes text.NotJson text.NotJson p q = refl
+read_once bytes text.NotJson text.NotAModule p q = absurd (p q.0)
+read_once bytes text.NotJson text.Limit p q = absurd (p (text_json bytes q.0 q.1))
+read_once bytes text.NotJson text.OutOfMemory p q = absurd q
+read_once bytes text.NotAModule text.NotJson p q = absurd (q p.0)
+read_once bytes text.NotAModule text.NotAModule p q = refl
+read_once bytes text.NotAModule text.Limit p q = absurd (p.1 q.0 q.1)
+read_once bytes text.NotAModule text.OutOfMemory p q = absurd q
+read_once bytes text.Limit text.NotJson p q = absurd (q (text_json bytes p.0 p.1))
+read_once bytes text.Limit text.NotAModule p q = absurd (q.1 p.0 p.1)
+read_once bytes text.Limit text.Limit p q = refl
+read_once bytes text.Limit text.OutOfMemory p q = absurd q
+read_once bytes text.OutOfMemory g p q = absurd p
 
 -- bytes that are no module text give none
-unread_none : (bytes : List ℕ) (f : ModuleFault) (m : ModuleValue) → IsNoModule bytes f → IsModuleText bytes m × IsWithinLimits m → ⊥
-unread_none bytes text.NotJson m p q = p (text_json bytes m q.0)
-unread_none bytes text.NotAModule m p q = p.1 m q.0
-unread_none bytes text.Limit m p q = p.2 (subst IsWithinLimits (one_module bytes m p.0 q.0 p.1) q.1)
-unread_none bytes text.OutOfMemory m p q = p
+read_none : (bytes : List ℕ) (f : ModuleFault) (m : ModuleValue) → IsUnread bytes f → IsModuleText bytes m × IsWithinLimits m → ⊥
+read_none bytes text.NotJson m p q = p (text_json bytes m q.0)
+read_none bytes text.NotAModule m p q = p.1 m q.0
+read_none bytes text.Limit m p q = p.2 (subst IsWithinLimits (one_module bytes m p.0 q.0 p.1) q.1)
+read_none bytes text.OutOfMemory m p q = p
 
-given_text : (t : Task) (bytes : List ℕ) (m : ModuleValue) → t.form ≡ form.Module → Gives t.form bytes m → IsModuleText bytes m × IsWithinLimits m
+too_many : (bytes : List ℕ) → longest_module < length bytes → length bytes ≤ longest_module → ⊥
+too_many bytes more less = omega (arith, more, less)
+
+unread_once : (bytes : List ℕ) (f g : ModuleFault) → IsNoModule bytes f → IsNoModule bytes g → f ≡ g
+unread_once bytes f g (inl p) (inl q) = p.1 ∙ sym q.1
+unread_once bytes f g (inl p) (inr q) = absurd (too_many bytes p.0 q.0)
+unread_once bytes f g (inr p) (inl q) = absurd (too_many bytes q.0 p.0)
+unread_once bytes f g (inr p) (inr q) = read_once bytes f g p.1 q.1
+
+unread_none : (bytes : List ℕ) (f : ModuleFault) (m : ModuleValue) → IsNoModule bytes f → Gives form.Module bytes m → ⊥
+unread_none bytes f m (inl p) q = too_many bytes p.0 q.0
+unread_none bytes f m (inr p) q = read_none bytes f m p.1 (q.1, q.2)
+
+given_text : (t : Task) (bytes : List ℕ) (m : ModuleValue) → t.form ≡ form.Module → Gives t.form bytes m → Gives form.Module bytes m
 given_text t bytes m of given = subst (λ f. Gives f bytes m) of given
 
 given_source : (t : Task) (bytes : List ℕ) (m : ModuleValue) → t.form ≡ form.Source → Gives t.form bytes m → IsCompiledTo bytes m
@@ -257,7 +270,7 @@ given_source t bytes m of given = subst (λ f. Gives f bytes m) of given
 
 -- bytes give one module
 given_once : (kind : Form) (bytes : List ℕ) (m n : ModuleValue) → Gives kind bytes m → Gives kind bytes n → m ≡ n
-given_once form.Module bytes m n p q = one_module bytes m n p.0 q.0
+given_once form.Module bytes m n p q = one_module bytes m n p.1 q.1
 given_once form.Source bytes m n p q = one_text bytes m n p q
 
 -- an answer, where the bytes give this module

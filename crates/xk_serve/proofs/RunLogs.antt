@@ -27,7 +27,7 @@ use Rattle.xk_serve.proofs.OrderedRuns.{run_weaker}
 -- ---- what was written
 
 given_limits : (f : Form) (bytes : List ℕ) (m : ModuleValue) → Gives f bytes m → IsWithinLimits m
-given_limits form.Module bytes m h = h.1
+given_limits form.Module bytes m h = h.2
 given_limits form.Source bytes m h = h.limits
 
 -- a run by a log is had by the text of that log

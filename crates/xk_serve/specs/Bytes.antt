@@ -5,7 +5,7 @@ use Rattle.xk_words.specs.declared.job.Form.{Form}
 use Rattle.xk_words.specs.declared.job.Form.TheVariants as form
 use Rattle.xk_serve.specs.declared.fault.Fault.{Fault}
 use Rattle.xk_serve.specs.declared.fault.Fault.TheVariants as fault
-use Rattle.xk_serve.specs.Programs.{longest_source}
+use Rattle.xk_serve.specs.Programs.{longest_module, longest_source}
 
 -- reading failed for want of memory, and then no read failed, or because the device did
 abbrev pub FailsRead : ℕ → ℕ → Fault → Type 0
@@ -13,10 +13,14 @@ FailsRead old new fault.OutOfMemory = new ≡ old
 FailsRead old new fault.Device = Rose old new
 FailsRead old new _ = ⊥
 
--- the bytes that are kept of a file: of a source text one more than it may have, at most
+-- the most bytes that a text of this form has
+abbrev pub longest : Form → ℕ
+longest form.Module = longest_module
+longest form.Source = longest_source
+
+-- the bytes that are kept of a file: one more than its text may have, at most
 abbrev pub kept : Form → List ℕ → List ℕ
-kept form.Module bytes = bytes
-kept form.Source bytes = take (longest_source + 1) bytes
+kept what bytes = take (longest what + 1) bytes
 
 -- of known bytes at most so many were read, since no more of them are gone
 abbrev pub LosesAtMost : ℕ → Option (List ℕ) → Option (List ℕ) → Type 0
@@ -24,7 +28,6 @@ LosesAtMost most None new = ⊤
 LosesAtMost most (Some known) None = ⊥
 LosesAtMost most (Some known) (Some rest) = length known ≤ most + length rest
 
--- of a file with a source text one byte more than it may have was read, at most, however long the file is
+-- of a file one byte more than its text may have was read, at most, however long the file is
 abbrev pub IsReadToLimit : Form → Option (List ℕ) → Option (List ℕ) → Type 0
-IsReadToLimit form.Module old new = ⊤
-IsReadToLimit form.Source old new = LosesAtMost (longest_source + 1) old new
+IsReadToLimit what old new = LosesAtMost (longest what + 1) old new

@@ -19,12 +19,20 @@ use Rattle.xk_words.specs.declared.job.Form.TheVariants as form
 
 -- ---- module texts
 
--- why bytes are no module within the limits; want of memory is no reason
+-- the most bytes that a module's text has: more than twice what the greatest module's text has without white space
+abbrev pub longest_module : ℕ
+longest_module = 268435456
+
+-- why bytes, which aren't too many, are no module within the limits; want of memory is no reason
+abbrev pub IsUnread : List ℕ → ModuleFault → Type 0
+IsUnread bytes text.NotJson = ¬ IsJson bytes
+IsUnread bytes text.NotAModule = IsJson bytes × ((m : ModuleValue) → ¬ IsModuleText bytes m)
+IsUnread bytes text.Limit = (m : ModuleValue) × IsModuleText bytes m × ¬ IsWithinLimits m
+IsUnread bytes text.OutOfMemory = ⊥
+
+-- why bytes give no module: they are too many, which counts as beyond the limits (M3), or they are none within the limits
 abbrev pub IsNoModule : List ℕ → ModuleFault → Type 0
-IsNoModule bytes text.NotJson = ¬ IsJson bytes
-IsNoModule bytes text.NotAModule = IsJson bytes × ((m : ModuleValue) → ¬ IsModuleText bytes m)
-IsNoModule bytes text.Limit = (m : ModuleValue) × IsModuleText bytes m × ¬ IsWithinLimits m
-IsNoModule bytes text.OutOfMemory = ⊥
+IsNoModule bytes f = ((longest_module < length bytes) × (f ≡ text.Limit)) ⊎ ((length bytes ≤ longest_module) × IsUnread bytes f)
 
 -- ---- source texts
 
@@ -74,7 +82,7 @@ pub record IsCompiledTo (bytes : List ℕ) (m : ModuleValue) : Type 0 where
 
 -- ---- both
 
--- the bytes give this module: they are a text of it, or a source text that is compiled to it
+-- the bytes give this module: they are a text of it, and not too many, or a source text that is compiled to it
 abbrev pub Gives : Form → List ℕ → ModuleValue → Type 0
-Gives form.Module bytes m = IsModuleText bytes m × IsWithinLimits m
+Gives form.Module bytes m = (length bytes ≤ longest_module) × IsModuleText bytes m × IsWithinLimits m
 Gives form.Source bytes m = IsCompiledTo bytes m

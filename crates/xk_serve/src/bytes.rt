@@ -1,4 +1,4 @@
-//! Reading to the end, or no further than is wanted.
+//! Reading no further than is wanted.
 
 ghost use Rattle.std.specs.Prelude.{◌≡◌, take, IfOk, IfErr, IfSome, OnOk};
 ghost use Rattle.xk_serve.specs.Bytes.{FailsRead, LosesAtMost};
@@ -10,27 +10,8 @@ use xk_types::Source;
 /// How many bytes one read asks for.
 const PIECE: usize = 4096;
 
-/// All that the source has left. The only faults are `Device`, where a read failed, and `OutOfMemory`. The memory that it
-/// takes is in proportion to what was read.
-pub(crate) fn read_all<R: Source>(alloc: Global, source: &mut R) -> Result<Vec<u8>, Fault>
-    ensures all { IfOk result (λ bytes.
-        IfSome (R.remaining source.old) (λ known. bytes.items ≡ known)) }
-    ensures no_fault { OnOk result (R.fault_count source.new ≡ R.fault_count source.old) }
-    ensures failed { IfErr result
-        (FailsRead (R.fault_count source.old) (R.fault_count source.new)) }
-{
-    let mut found = Vec::new(alloc);
-    let mut piece = [0u8; PIECE];
-    loop {
-        let count = source.read(&mut piece)?;
-        if count == 0 {
-            return Ok(found);
-        }
-        found.extend_from_slice(&piece[..count])?;
-    }
-}
-
-/// The first bytes that the source has left, so many at most, and no others are read, however it goes. The faults are those of `read_all`.
+/// The first bytes that the source has left, so many at most, and no others are read, however it goes. The only faults are `Device`, where a read
+/// failed, and `OutOfMemory`. The memory that it takes is in proportion to what was read.
 pub(crate) fn read_front<R: Source>(
     alloc: Global,
     source: &mut R,

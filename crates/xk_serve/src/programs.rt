@@ -8,7 +8,7 @@ ghost use Rattle.xk_words.specs.declared.job.Form.TheVariants as form;
 use crate::fault::Fault;
 use std::alloc::Global;
 use xk_codegen::compile;
-use xk_module::read_module;
+use xk_module::{ModuleFault, read_module};
 use xk_syntax::parse;
 use xk_tree::{FrontError, FrontFault, FrontRule};
 use xk_types::Module;
@@ -17,6 +17,9 @@ use xk_words::{Form, Job};
 /// The most bytes that a source text has.
 pub(crate) const LONGEST_SOURCE: usize = 1_048_576;
 
+/// The most bytes that a module's text has: more than twice what the greatest module's text has without white space.
+pub(crate) const LONGEST_MODULE: usize = 268_435_456;
+
 /// The module that these bytes give, as a source text or as a module text.
 pub(crate) fn module_in(alloc: Global, job: &Job<'_>, bytes: &[u8]) -> Result<Module, Fault>
     ensures module { IfOk result (Gives job.now.form bytes.now) }
@@ -24,7 +27,12 @@ pub(crate) fn module_in(alloc: Global, job: &Job<'_>, bytes: &[u8]) -> Result<Mo
         → FailsBy (task_of job.now) bytes.now logged f) }
 {
     match job.form {
-        Form::Module => Ok(read_module(alloc, bytes)?),
+        Form::Module => {
+            if bytes.len() > LONGEST_MODULE {
+                return Err(Fault::Text(ModuleFault::Limit));
+            }
+            Ok(read_module(alloc, bytes)?)
+        }
         Form::Source => Ok(compiled(alloc, bytes)?),
     }
 }

@@ -11,10 +11,10 @@ ghost use Rattle.xk_serve.specs.Lines.{device_line, done_log, done_text, memory_
 ghost use Rattle.xk_serve.specs.Serving.{Answered, ErrBegins, IfKnown, IsBegun, IsWritten, OutBegins, Reports, StandsAgainst, Tells, TellsWords};
 
 use crate::answering::answer;
-use crate::bytes::{read_all, read_front};
+use crate::bytes::read_front;
 use crate::done::Done;
 use crate::fault::{DEVICE_LINE, EXCLUDED_LINE, Fault, MEMORY_LINE};
-use crate::programs::LONGEST_SOURCE;
+use crate::programs::{LONGEST_MODULE, LONGEST_SOURCE};
 use std::alloc::Global;
 use std::sync::Wait;
 use std::thread::Threads;
@@ -119,7 +119,7 @@ fn outcome<R: Threads + Wait + Sync, P: Source, L: Source>(
     Ok((done, text))
 }
 
-/// All that counts of the bytes in FILE: of a source text one byte more than it may have, at most, and no others are read then.
+/// All that counts of the bytes in FILE: one byte more than its text may have, at most, and no others are read then.
 fn read_program<P: Source>(alloc: Global, form: Form, program: &mut P) -> Result<Vec<u8>, Fault>
     ensures kept { IfOk result (λ bytes.
         IfSome (P.remaining program.old) (λ known. bytes.items ≡ kept form known)) }
@@ -129,7 +129,7 @@ fn read_program<P: Source>(alloc: Global, form: Form, program: &mut P) -> Result
         (FailsRead (P.fault_count program.old) (P.fault_count program.new)) }
 {
     match form {
-        Form::Module => read_all(alloc, program),
+        Form::Module => read_front(alloc, program, LONGEST_MODULE + 1),
         Form::Source => read_front(alloc, program, LONGEST_SOURCE + 1),
     }
 }
