@@ -13,14 +13,10 @@ FailsRead old new fault.OutOfMemory = new ≡ old
 FailsRead old new fault.Device = Rose old new
 FailsRead old new _ = ⊥
 
--- the most bytes that a text of this form has
-abbrev pub longest : Form → ℕ
-longest form.Module = longest_module
-longest form.Source = longest_source
-
 -- the bytes that are kept of a file: one more than its text may have, at most
 abbrev pub kept : Form → List ℕ → List ℕ
-kept what bytes = take (longest what + 1) bytes
+kept form.Module bytes = take (longest_module + 1) bytes
+kept form.Source bytes = take (longest_source + 1) bytes
 
 -- of known bytes at most so many were read, since no more of them are gone
 abbrev pub LosesAtMost : ℕ → Option (List ℕ) → Option (List ℕ) → Type 0
@@ -30,4 +26,5 @@ LosesAtMost most (Some known) (Some rest) = length known ≤ most + length rest
 
 -- of a file one byte more than its text may have was read, at most, however long the file is
 abbrev pub IsReadToLimit : Form → Option (List ℕ) → Option (List ℕ) → Type 0
-IsReadToLimit what old new = LosesAtMost (longest what + 1) old new
+IsReadToLimit form.Module old new = LosesAtMost (longest_module + 1) old new
+IsReadToLimit form.Source old new = LosesAtMost (longest_source + 1) old new
