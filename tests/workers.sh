@@ -3,8 +3,8 @@
 # number, two that have long loops of their own, and as many on a clock as main is given. Each run has to end in as many steps as every run
 # of the program, and to print the same numbers, in whatever order; its log has to have the same entries, in whatever order, and to be that
 # of a run that prints just what it printed, and that can be charted. Five times each, also where no thread or few can be started. Then a
-# storm: fifty runs by 4 workers of 57 activities that go through 25 phases of nine clocks, each within ten seconds; and a long run by 3
-# workers, which has to have three threads. With the word `stress` all but these two hundred times each, and then the ring a thousand times by
+# storm: fifty runs by 4 workers of 57 activities that go through 25 phases of nine clocks, each within ten seconds; two programs whose workers get in
+# one another's way; and a long run by 3 workers, which has to have three threads. With the word `stress` all but these two hundred times each, and then the ring a thousand times by
 # 64 workers on two processors, within five minutes; how long that takes is told beside the same in the order `first`.
 set -eu
 cd "$(dirname "$0")/.."
@@ -74,6 +74,31 @@ storm() {
     done
 }
 
+# crossing TIMES: each of two programs so often by 2, 8 and 64 workers, whose activities reckon for long between steps that others see, so that the workers get in
+# one another's way: its log is that of a run that prints just what it printed. How many different logs there were is told.
+crossing() {
+    for row in adders crossing; do
+        "$program" run "tests/logs/$row.x10" > "$work/wanted"
+        sort "$work/wanted" > "$work/wanted-sorted"
+        : > "$work/sums"
+        at=0
+        while [ "$at" -lt "$1" ]; do
+            for workers in 2 8 64; do
+                what="$row by $workers workers"
+                timeout 20 "$program" run --workers "$workers" --log "$work/log" "tests/logs/$row.x10" > "$work/out" 2> "$work/err" || fail "$what: status $?: $(cat "$work/err")"
+                sort "$work/out" > "$work/sorted"
+                cmp -s "$work/sorted" "$work/wanted-sorted" || fail "$what: $(cat "$work/out")"
+                "$program" replay "tests/logs/$row.x10" "$work/log" > "$work/again" || fail "$what: its log isn't replayed"
+                cmp -s "$work/again" "$work/out" || fail "$what: its log prints $(cat "$work/again")"
+                cksum < "$work/log" >> "$work/sums"
+                runs=$((runs + 1))
+            done
+            at=$((at + 1))
+        done
+        echo "workers: $row: $(sort -u "$work/sums" | wc -l) different logs in $(wc -l < "$work/sums") runs"
+    done
+}
+
 # three_threads: a run by 3 workers that takes long has three threads within ten seconds, and is ended then.
 three_threads() {
     "$program" run --workers 3 tests/logs/endless.x10 > "$work/out" 2> "$work/err" &
@@ -110,6 +135,7 @@ times=5
 often "$times" unlimited
 often 5 60000000
 storm
+crossing $((times * 2))
 three_threads
 if [ "${1:-}" = stress ]; then
     two=$(python3 -c 'import os; print(*sorted(os.sched_getaffinity(0))[:2], sep=",")')
