@@ -12,4 +12,5 @@ pub mod Beyond
 pub mod Reserving
 pub mod Stretch
 pub mod Ahead
+pub mod AtRet
 pub mod Handing

@@ -273,16 +273,18 @@ impl<'m> Core<'m> {
         }
     }
 
-    /// Whether the ticket's activity exists and runs, and has the ticket's old frames: then its steps can be taken.
+    /// Whether the ticket's activity exists, and has the ticket's old frames: then its steps can be taken.
     pub fn accepts(&self, ticket: &Ticket<'m>) -> bool
         ensures { Decides result (Accepts self.now ticket.now) }
     {
-        self.state.runs(ticket.act().0 as usize) && self.state.accepts(ticket)
+        self.state.accepts(ticket)
     }
 
     /// The steps of a ticket, which nobody else can see. Takes no memory.
     pub fn apply(&mut self, ticket: Ticket<'m>)
         requires { Accepts self.old ticket }
+        // Only one that runs has a ticket's old frames: a local step is next from there.
+        ensures runs { is_running self.old.world ticket.entry.act ≡ true }
         ensures ran { RunsTo self.old ticket.entry.act ticket.entry.steps self.new }
         ensures local { AreLocal self.old ticket.entry.act ticket.entry.steps }
         ensures unseen { IsUnseen self.old ticket.entry.act ticket.entry.steps }
@@ -292,6 +294,8 @@ impl<'m> Core<'m> {
         ensures changed { self.new ≡ with_world self.old (after_steps self.old.world
             ticket.entry.act ticket.entry.new ticket.entry.steps) }
     {
+        // A ticket has a local step or more.
+        let _walked = ticket.steps();
         self.state.apply(ticket)
     }
 

@@ -14,7 +14,7 @@ ghost use Rattle.xk_activity.specs.Local.{IsRight, IsSafe, local, is_stepped};
 ghost use Rattle.xk_activity.specs.Joined.{frames_in};
 ghost use Rattle.xk_rooms.specs.Rooms.{HasRoomLeft};
 ghost use Rattle.xk_core.specs.Stretch.{after_steps, HasRoomForSteps, TakesSteps};
-ghost use Rattle.xk_core.specs.Handed.{IsAsBefore};
+ghost use Rattle.xk_core.specs.Handed.{Accepts};
 ghost use Rattle.xk_core.specs.Able.{is_able};
 ghost use Rattle.xk_core.specs.State.{core_of, IsReady};
 ghost use Rattle.xk_core.specs.Core.{is_quiet, advanced_now, is_held_back_by, is_running, is_waiting, next_instruction, with_world, TakesStep};
@@ -604,14 +604,14 @@ impl<'m> State<'m> {
 
     /// Whether a ticket's activity is there, and has the ticket's old frames.
     pub fn accepts(&self, ticket: &Ticket<'m>) -> bool
-        ensures { Decides result (IsAsBefore (core_of self.now) ticket.now) }
+        ensures { Decides result (Accepts (core_of self.now) ticket.now) }
     {
         self.activities.accepts(ticket)
     }
 
     /// The steps of a ticket, whose activity runs. No clock is ready to advance, and none becomes so. Takes no memory.
     pub fn apply(&mut self, ticket: Ticket<'m>)
-        requires before { IsAsBefore (core_of self.old) ticket }
+        requires before { Accepts (core_of self.old) ticket }
         requires steps { HasRoomForSteps (core_of self.old) ticket.act }
         ensures runs { TakesSteps (core_of self.old) ticket.entry.act ticket.entry.steps
             ticket.entry.steps (core_of self.new) }

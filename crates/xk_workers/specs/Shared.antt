@@ -88,8 +88,8 @@ pub record HasTaken (s : SharedValue) (t : TicketValue) (next : SharedValue) : T
   pub claims : next.claims ≡ slice_set s.claims t.act false
   pub goes_on : next.stopped ≡ s.stopped
 
--- What became of a ticket, before s and then next: its steps were taken; its activity hasn't the ticket's old frames, or doesn't run; or there
--- was no memory for the entry, and the log is full. Where they weren't taken its claim is released, and nothing has changed but that and room.
+-- What became of a ticket, before s and then next: its steps were taken; the core hasn't the ticket's old frames for its activity; or there was
+-- no memory for the entry, and the log is full. Where they weren't taken its claim is released, and nothing has changed but that and room.
 abbrev pub Commits : SharedValue → TicketValue → Result (Unit {0}) CommitFault → SharedValue → Type 0
 Commits s t (Ok done) next = HasTaken s t next
 Commits s t (Err fault.Stale) next = (Accepts s.run.core t → ⊥) × (next ≡ without_claim t.act s)

@@ -41,7 +41,7 @@ pub enum Take {
 /// Why the steps of a ticket weren't taken.
 #[derive(Clone, Copy, Debug, PartialEq, Eq, Error)]
 pub enum CommitFault {
-    /// The activity doesn't run, or hasn't the frames any more that they were computed from.
+    /// The activity hasn't the frames any more that they were computed from.
     #[error("the activity hasn't the frames any more that the steps were computed from")]
     Stale,
     /// Memory was refused for the entry, or for the log that begins with it.
@@ -186,9 +186,9 @@ impl<'m> Shared<'m> {
     }
 
     /// Hands in local steps of an activity that were computed outside the lock: they are taken at once, with one entry. `Stale` exactly
-    /// where the activity doesn't run, or hasn't the ticket's old frames any more, which is looked at first; `OutOfMemory` where
-    /// memory is refused for the entry, or for the log that begins with it: only a full log wants some. However it goes, the activity
-    /// isn't claimed any more, and where it goes wrong nothing else has changed but room.
+    /// where the core hasn't the ticket's old frames for its activity, which is looked at first; `OutOfMemory` where memory is
+    /// refused for the entry, or for the log that begins with it: only a full log wants some. However it goes, the activity isn't
+    /// claimed any more, and where it goes wrong nothing else has changed but room.
     pub fn commit(&mut self, ticket: Ticket<'m>) -> Result<(), CommitFault>
         ensures { Commits self.old ticket.entry result self.new }
     {

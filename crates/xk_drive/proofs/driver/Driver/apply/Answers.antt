@@ -1,5 +1,4 @@
-use Rattle.std.proofs.Common.{◌≡◌, true, sym, subst, arith}
-use Rattle.xk_core.specs.Core.{CoreValue, is_running}
+use Rattle.std.proofs.Common.{◌≡◌, subst, arith}
 use Rattle.std.specs.Vec.{vec_capacity}
 use Rattle.xk_drive.specs.Listing.{with_or_without}
 use Rattle.xk_drive.proofs.Listing.{core_few}
@@ -10,8 +9,13 @@ pub list_one-requires : goal.list_one-requires
 list_one-requires c =
     let d = c.self.inside in
     let t = c.args.ticket in
-    let runs = subst (λ (v : CoreValue). is_running v.world t.act ≡ true) (sym c.self.view_is) c.requires.0 in
-    omega (arith, c.act-act.ensures, runs_within d.core.world t.act runs, core_few d.core.module_run d.core.world c.self.invariant.core, c.self.invariant.roomy)
+    omega (
+      arith,
+      c.act-act.ensures,
+      runs_within d.core.world t.act c.apply.ensures.runs,
+      core_few d.core.module_run d.core.world c.self.invariant.core,
+      c.self.invariant.roomy,
+    )
 
 pub invariant_of-self : goal.invariant_of-self
 invariant_of-self c =
@@ -19,7 +23,6 @@ invariant_of-self c =
     let t = c.args.ticket in
     let v = c.apply.new.self in
     let next = c.list_one.new.enabled in
-    let runs = subst (λ (v : CoreValue). is_running v.world t.act ≡ true) (sym c.self.view_is) c.requires.0 in
     let members = subst (λ a. next.members ≡ with_or_without v a d.enabled.members) c.act-act.ensures c.list_one.ensures.members in
-    driver_handed d.core v t.act t.new t.steps d.enabled next d.waiting (vec_capacity d.shown) (vec_capacity d.advanced) runs c.apply.ensures.changed c.activities-there.ensures.core
-    c.self.invariant members c.list_one.ensures.room
+    driver_handed d.core v t.act t.new t.steps d.enabled next d.waiting (vec_capacity d.shown) (vec_capacity d.advanced) c.apply.ensures.runs
+    c.apply.ensures.changed c.activities-there.ensures.core c.self.invariant members c.list_one.ensures.room
