@@ -9,12 +9,12 @@ use xk_bounds::Verified;
 use xk_drive::Ended;
 use xk_log::{Log, LogFault, read_log};
 use xk_replay::{ReplayFault, chart, replay, write_log};
-use xk_types::Counted;
+use xk_types::{Counted, Tape};
 
 /// The log that a text is, at the second try where memory was refused.
-fn read(alloc: Global, text: &str) -> Result<Log, LogFault> {
-    match read_log(alloc, &mut Counted::new(text.as_bytes())) {
-        Err(LogFault::OutOfMemory) => read_log(alloc, &mut Counted::new(text.as_bytes())),
+fn read(alloc: Global, text: &[u8]) -> Result<Log, LogFault> {
+    match read_log(alloc, &mut Counted::new(text)) {
+        Err(LogFault::OutOfMemory) => read_log(alloc, &mut Counted::new(text)),
         answer => answer,
     }
 }
@@ -71,6 +71,23 @@ fn is_replayed(
     is_right(alloc, &answer, is_whole)
 }
 
+/// A text is the log of a whole run of a module with these arguments, or is refused for not being one.
+fn is_taken(
+    alloc: Global,
+    verified: &Verified,
+    arguments: &[i64],
+    text: &[u8],
+    is_whole: bool,
+) -> Result<(), Wrong> {
+    match read(alloc, text) {
+        Ok(log) => is_replayed(alloc, verified, arguments, log, is_whole),
+        Err(fault) => holds(
+            !is_whole && fault != LogFault::OutOfMemory,
+            "a log isn't read at the second try",
+        ),
+    }
+}
+
 /// A text is the log of a whole run of a program with these arguments, or is refused for not being one.
 pub fn is_answered(
     alloc: Global,
@@ -80,11 +97,24 @@ pub fn is_answered(
     is_whole: bool,
 ) -> Result<(), Wrong> {
     let verified = accepted(alloc, program)?;
-    match read(alloc, text) {
-        Ok(log) => is_replayed(alloc, &verified, arguments, log, is_whole),
-        Err(fault) => holds(
-            !is_whole && fault != LogFault::OutOfMemory,
-            "a log isn't read at the second try",
-        ),
+    is_taken(alloc, &verified, arguments, text.as_bytes(), is_whole)
+}
+
+/// The log of a run on a tape, or nothing where memory was refused.
+fn on_tape(alloc: Global, ended: &Ended<'_>) -> Option<Tape> {
+    let mut tape = Tape::new(alloc, b"").ok()?;
+    let is_written = write_log(ended, &mut tape).is_ok();
+    if is_written { Some(tape) } else { None }
+}
+
+/// The log of a run to whose main nothing was given is written, at the second try where memory was refused, read and played again.
+pub fn is_kept(alloc: Global, verified: &Verified, ended: &Ended<'_>) -> Result<(), Wrong> {
+    let written = match on_tape(alloc, ended) {
+        None => on_tape(alloc, ended),
+        tape => tape,
+    };
+    match written {
+        Some(tape) => is_taken(alloc, verified, &[], tape.written(), true),
+        None => Err(Wrong("a log isn't written at the second try")),
     }
 }

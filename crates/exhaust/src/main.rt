@@ -3,6 +3,8 @@
 //! contracts say. Run it with growths refused, one at a time: `tests/refused_growths.py` does.
 #![tactic(auto)]
 
+mod ends;
+mod handed;
 mod logs;
 mod rows;
 mod runs;
@@ -11,9 +13,11 @@ mod tries;
 
 use std::alloc::Global;
 use std::process::ExitCode;
+use std::sync::Wait;
+use std::thread::Threads;
 use tries::Wrong;
 
-fn every_call(alloc: Global) -> Result<(), Wrong> {
+fn every_call<R: Threads + Wait + Sync>(rt: &R, alloc: Global) -> Result<(), Wrong> {
     for text in rows::accepted() {
         let verified = tries::accepted(alloc, text)?;
         runs::on_verified(alloc, &verified, &[])?;
@@ -22,6 +26,14 @@ fn every_call(alloc: Global) -> Result<(), Wrong> {
         let verified = tries::accepted(alloc, text)?;
         runs::on_verified(alloc, &verified, arguments)?;
     }
+    for (text, printed) in rows::sources() {
+        let verified = sources::accepted(alloc, text)?;
+        runs::on_verified(alloc, &verified, &[])?;
+        ends::is_run(rt, alloc, &verified, printed)?;
+        handed::is_shared(alloc, &verified)?;
+    }
+    handed::is_shared(alloc, &tries::accepted(alloc, rows::SUM_AND_PHASE)?)?;
+    ends::is_run(rt, alloc, &sources::accepted(alloc, rows::FIFTY)?, &[])?;
     for text in rows::refused() {
         tries::is_refused(alloc, text)?;
     }
@@ -41,7 +53,7 @@ fn every_call(alloc: Global) -> Result<(), Wrong> {
 }
 
 fn main(rt: HostRuntime) -> ExitCode {
-    match every_call(rt.alloc()) {
+    match every_call(&rt, rt.alloc()) {
         Ok(()) => {
             let _ = rt.println("every call answered as it must");
             ExitCode::SUCCESS

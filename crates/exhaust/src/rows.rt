@@ -1,5 +1,9 @@
 //! Small programs as module text, and as source text, and logs.
 
+/// A sum of two numbers, and a phase of a clock on which main is alone.
+pub const SUM_AND_PHASE: &str =
+    r#"{"version":1,"shared":[],"units":[{"kind":"main","params":"","slots":3,"code":[["lit",0,2],["lit",1,3],["add",0,0,1],["make",2],["advance"],["print",0],["ret"]]}]}"#;
+
 /// Two activities on a clock.
 const PAIR: &str =
     r#"{"version":1,"shared":[],"units":[{"kind":"main","params":"","slots":2,"code":[["make",0],["spawn",1,[0]],["advance"],["lit",1,1],["print",1],["ret"]]},{"kind":"body","params":"c","slots":2,"code":[["advance"],["lit",1,2],["print",1],["ret"]]}]}"#;
@@ -34,7 +38,7 @@ pub fn given() -> [(&'static str, &'static [i64]); 4] {
 /// of some thousand steps.
 pub fn accepted() -> [&'static str; 19] {
     [
-        r#"{"version":1,"shared":[],"units":[{"kind":"main","params":"","slots":3,"code":[["lit",0,2],["lit",1,3],["add",0,0,1],["make",2],["advance"],["print",0],["ret"]]}]}"#,
+        SUM_AND_PHASE,
         r#"{"version":1,"shared":[7,-7],"units":[{"kind":"main","params":"","slots":1,"code":[["make",0],["resume",0],["resume",0],["advance"],["drop",0],["ret"]]}]}"#,
         r#"{"version":1,"shared":[],"units":[{"kind":"main","params":"","slots":1,"code":[["advance"],["lit",0,7],["print",0],["ret"]]}]}"#,
         r#"{"version":1,"shared":[],"units":[{"kind":"main","params":"","slots":2,"code":[["make",0],["make",1],["resume",1],["call",1,[0]],["resume",1],["ret"]]},{"kind":"method","params":"c","slots":1,"code":[["advance"],["ret"]]}]}"#,
@@ -100,6 +104,36 @@ pub fn compiled() -> [&'static str; 6] {
         "def main(n: Long, k: Long) { var t = n; for (i in 1..Math.min(t * k, 9)) { for (j in 0..Math.min(i, 3)) t = t - j; async { Console.OUT.println(i); } } Console.OUT.println(t); }",
     ]
 }
+
+/// Source texts to be run, and the numbers that each prints where always the least activity goes first: two activities on a clock; three, each
+/// on two of three clocks; a method that goes a phase on; a shared sum; a finish with a clock.
+pub fn sources() -> [(&'static str, &'static [i64]); 5] {
+    [
+        (
+            "def main() { val c = Clock.make(); async clocked(c) { Clock.advanceAll(); Console.OUT.println(2); } Clock.advanceAll(); Console.OUT.println(1); }",
+            &[1, 2],
+        ),
+        (
+            "def main() { val c = Clock.make(); val d = Clock.make(); val e = Clock.make(); async clocked(c, d) { Clock.advanceAll(); Clock.advanceAll(); } async clocked(d, e) { Clock.advanceAll(); Clock.advanceAll(); } async clocked(e, c) { Clock.advanceAll(); Clock.advanceAll(); } }",
+            &[],
+        ),
+        (
+            "def step(c: Clock) { Clock.advanceAll(); } def main() { val a = Clock.make(); val b = Clock.make(); b.resume(); step(a); b.resume(); }",
+            &[],
+        ),
+        (
+            "shared s = 0; def main() { finish { for (i in 1..3) async { atomic s = s + i; } } val r = s; Console.OUT.println(r); }",
+            &[6],
+        ),
+        (
+            "def main() { clocked finish { clocked async { Clock.advanceAll(); Console.OUT.println(12); } Clock.advanceAll(); Console.OUT.println(11); } Console.OUT.println(3); }",
+            &[11, 12, 3],
+        ),
+    ]
+}
+
+/// Fifty activities that a loop starts.
+pub const FIFTY: &str = "def main() { for (i in 1..50) async { } }";
 
 /// Source texts that break a rule: on tokens, on syntax, on names, on `main`, on recursion, on tables.
 pub fn faulty() -> [&'static str; 8] {

@@ -9,7 +9,7 @@ use xk_core::Core;
 use xk_drive::{
     Chooser, Driver, Ended, First, Halt, Last, Partial, Ran, Round, drive, run_schedule,
 };
-use xk_types::Act;
+use xk_types::{Act, Event};
 
 /// A module is run in each way, its main being given these numbers.
 pub fn on_verified(alloc: Global, verified: &Verified, arguments: &[i64]) -> Result<(), Wrong> {
@@ -21,7 +21,11 @@ pub fn on_verified(alloc: Global, verified: &Verified, arguments: &[i64]) -> Res
 }
 
 /// A core, at the second try where memory was refused.
-fn opened<'m>(alloc: Global, verified: &'m Verified, arguments: &[i64]) -> Result<Core<'m>, Wrong>
+pub fn opened<'m>(
+    alloc: Global,
+    verified: &'m Verified,
+    arguments: &[i64],
+) -> Result<Core<'m>, Wrong>
     ensures unstarted { IfOk result (λ c. c.world.steps ≡ 0) }
 {
     fits(verified, arguments)?;
@@ -34,20 +38,20 @@ fn opened<'m>(alloc: Global, verified: &'m Verified, arguments: &[i64]) -> Resul
     }
 }
 
-/// One step of an activity that can take it, at the second try where memory was refused. No step asks for memory where a program starts
-/// nobody.
-fn stepped(core: &mut Core, act: Act) -> Result<(), Wrong> {
+/// One step of an activity that can take it, at the second try where memory was refused, and what it does. No step asks for memory where a
+/// program starts nobody.
+pub fn stepped(core: &mut Core, act: Act) -> Result<Event, Wrong> {
     if !core.enabled(act) {
         return Err(Wrong("a step isn't enabled"));
     }
-    if let Ok(_) = core.step(act) {
-        return Ok(());
+    if let Ok(event) = core.step(act) {
+        return Ok(event);
     }
     if core.module().activities() == 1 {
         return Err(Wrong("a step asks for memory though nobody is started"));
     }
     match core.step(act) {
-        Ok(_) => Ok(()),
+        Ok(event) => Ok(event),
         Err(_) => Err(Wrong("a step is refused at the second try")),
     }
 }

@@ -1,7 +1,8 @@
 //! Parsing and compiling, each tried again where memory was refused.
 
-use crate::tries::{Wrong, holds};
+use crate::tries::{Wrong, checked, holds};
 use std::alloc::Global;
+use xk_bounds::Verified;
 use xk_codegen::compile;
 use xk_module::write_module;
 use xk_syntax::parse;
@@ -34,6 +35,17 @@ pub fn is_compiled(alloc: Global, text: &str) -> Result<(), Wrong> {
     match compiled(alloc, text) {
         Ok(module) => is_written(alloc, &module),
         Err(_) => Err(Wrong("a source text isn't compiled at the second try")),
+    }
+}
+
+/// The module of a source text, verified.
+pub fn accepted(alloc: Global, text: &str) -> Result<Verified, Wrong> {
+    let Ok(module) = compiled(alloc, text) else {
+        return Err(Wrong("a source text isn't compiled at the second try"));
+    };
+    match checked(alloc, module) {
+        Ok(verified) => Ok(verified),
+        Err(_) => Err(Wrong("a source text isn't accepted at the second try")),
     }
 }
 

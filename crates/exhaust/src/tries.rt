@@ -44,7 +44,7 @@ fn module(alloc: Global, text: &str) -> Result<Module, Wrong> {
 }
 
 /// Verifies a module, at the second try, with what came back, where memory was refused.
-fn checked(alloc: Global, program: Module) -> Result<Verified, (Module, Refusal)> {
+pub fn checked(alloc: Global, program: Module) -> Result<Verified, (Module, Refusal)> {
     match verify(alloc, program) {
         Err((same, Refusal::OutOfMemory)) => verify(alloc, same),
         answer => answer,
