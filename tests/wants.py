@@ -66,7 +66,12 @@ def to_log(entries: int) -> int:
 
 
 def to_print(numbers: int) -> int:
-    return 44 * numbers
+    return 16 * numbers
+
+
+def to_chart(advances: int) -> int:
+    """Twice the text, of which a line has some 38 bytes here."""
+    return 2 * 40 * advances
 
 
 # The programs.
@@ -166,13 +171,14 @@ class Calls:
         small = to_read(text.encode()) + to_run(judged(text).bounds)
         yield Call("run --log, three million steps", ["run", "--log", log, self.file(text)], small + to_log(3_000_002))
         yield Call("replay, three million steps", ["replay", self.file(text), log], small + to_log(3_000_002))
-        text = "def main(){for(i in 1..1000000)Console.OUT.println(0-9223372036854775807);}"
+        # Somewhat more than a power of two, so that half of the room is empty.
+        text = "def main(){for(i in 1..1050000)Console.OUT.println(0-9223372036854775807);}"
         small = to_read(text.encode()) + to_run(judged(text).bounds)
-        yield Call("run, a million numbers", ["run", self.file(text)], small + to_print(1_000_000))
-        text = "def main(){" + "".join(f"val c{k}=Clock.make();" for k in range(60)) + "for(i in 1..20000)Clock.advanceAll();}"
+        yield Call("run, 1,050,000 numbers", ["run", self.file(text)], small + to_print(1_050_000))
+        text = "def main(){" + "".join(f"val c{k}=Clock.make();" for k in range(60)) + "for(i in 1..15000)Clock.advanceAll();}"
         small = to_read(text.encode()) + to_run(judged(text).bounds)
-        yield Call("run --log, 1,200,000 advances", ["run", "--log", log, self.file(text)], small + to_log(60_062))
-        yield Call("chart, 1,200,000 advances", ["chart", self.file(text), log], small + to_log(60_062) + 110 * 1_200_000)
+        yield Call("run --log, 900,000 advances", ["run", "--log", log, self.file(text)], small + to_log(45_062))
+        yield Call("chart, 900,000 advances", ["chart", self.file(text), log], small + to_log(45_062) + to_chart(900_000))
 
 
 def ask(program: pathlib.Path, call: Call, most: int | None) -> tuple[int, bytes, bytes]:

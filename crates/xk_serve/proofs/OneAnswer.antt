@@ -29,7 +29,8 @@ use Rattle.xk_serve.specs.declared.done.Done.TheVariants as done
 use Rattle.xk_serve.specs.declared.fault.Fault.{Fault}
 use Rattle.xk_serve.specs.declared.fault.Fault.TheVariants as fault
 use Rattle.xk_serve.specs.Answer.{Answers, Chart, Check, ComesTo, Compile, Doing, IsLogText, IsMisfit, IsNoRun, Replay, Reply, Run, Task, fault_reply, reads_log, runs}
-use Rattle.xk_serve.specs.Lines.{accepted_line, arguments_line, done_log, done_text, ended_line, fault_line, number_lines, refusal_status, status_of}
+use Rattle.xk_lines.specs.Lines.{number_lines}
+use Rattle.xk_serve.specs.Lines.{accepted_line, arguments_line, done_log, done_text, ended_line, fault_line, refusal_status, status_of}
 use Rattle.xk_serve.specs.OneAnswer.{IsLeftOpen, IsSameLine, IsSameReply, IsWithoutWorkers, TellFaults}
 use Rattle.xk_serve.specs.OrderedRun.{IsLoggedRun, IsOrderedRun, IsReplay, IsWholeRun}
 use Rattle.xk_serve.specs.Programs.{Gives, IsCompiledTo, IsNoModule, IsNoSource, IsUnread, longest_module}

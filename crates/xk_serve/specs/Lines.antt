@@ -1,10 +1,10 @@
 -- The lines that the program prints, each with a line feed at its end, and its statuses. This project's own.
-use Rattle.std.specs.Prelude.{ℕ, ℤ, List, [], ◌++◌, flat_map, codes, decimal, Option, Some, None, string_bytes}
-use Rattle.std.specs.Fmt.{signed_decimal}
+use Rattle.std.specs.Prelude.{ℕ, List, [], ◌++◌, flat_map, codes, decimal, Option, Some, None, string_bytes}
 use Rattle.xk_types.specs.declared.rules.Rule.{Rule}
 use Rattle.xk_types.specs.declared.rules.Visit.{Visit}
 use Rattle.xk_types.specs.Names.{rule_number, rule_name, kind_name}
 use Rattle.xk_log.specs.LogText.{log_text}
+use Rattle.xk_lines.specs.Lines.{number_lines}
 use Rattle.xk_words.specs.Status.{status_device, status_log, status_memory, status_program}
 use Rattle.xk_module.specs.Faults.{fault_label}
 use Rattle.xk_tree.specs.declared.fault.FrontFault.{FrontFault}
@@ -25,10 +25,6 @@ abbrev pub accepted_line : ℕ → ℕ → ℕ → List ℕ
 accepted_line steps activities clocks =
     codes "accepted steps " ++ (decimal steps ++ (codes " activities " ++ (decimal activities ++ (codes " clocks " ++ (decimal clocks ++ codes "\n")))))
 
--- each number on a line of its own
-abbrev pub number_lines : List ℤ → List ℕ
-number_lines numbers = flat_map (λ n. signed_decimal n ++ codes "\n") numbers
-
 -- a run that came to its end: `ended steps 8`
 abbrev pub ended_line : ℕ → List ℕ
 ended_line steps = codes "ended steps " ++ (decimal steps ++ codes "\n")
@@ -38,6 +34,19 @@ done_text (done.Compiled text) = string_bytes text ++ codes "\n"
 done_text (done.Accepted steps activities clocks) = accepted_line steps activities clocks
 done_text (done.Charted text) = string_bytes text
 done_text (done.Ended printed steps log) = number_lines printed.items ++ ended_line steps
+
+-- its front, of what is there before anything is written, and what stands behind that
+abbrev pub done_front : Done → List ℕ
+done_front (done.Compiled text) = string_bytes text
+done_front (done.Accepted steps activities clocks) = []
+done_front (done.Charted text) = string_bytes text
+done_front (done.Ended printed steps log) = number_lines printed.items
+
+abbrev pub done_ending : Done → List ℕ
+done_ending (done.Compiled text) = codes "\n"
+done_ending (done.Accepted steps activities clocks) = accepted_line steps activities clocks
+done_ending (done.Charted text) = []
+done_ending (done.Ended printed steps log) = ended_line steps
 
 -- ---- the log
 

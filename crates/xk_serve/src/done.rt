@@ -1,12 +1,17 @@
 //! What a job comes to.
 
-ghost use Rattle.std.specs.Prelude.{◌≡◌, [], IfOk, string_bytes};
+ghost use Rattle.std.specs.Prelude.{◌≡◌, [], IfOk, OnErr, OnOk, string_bytes};
+ghost use Rattle.std.specs.Io.KnownBytes.{Appends};
 ghost use Rattle.std.specs.Option.{option_map_or};
+ghost use Rattle.xk_types.specs.Device.{Rose};
 ghost use Rattle.xk_log.specs.LogText.{log_text};
-ghost use Rattle.xk_serve.specs.Lines.{accepted_line, done_log, done_text, ended_line, number_lines};
+ghost use Rattle.xk_log.specs.Writing.{AppendsBeginning};
+ghost use Rattle.xk_serve.specs.Lines.{accepted_line, done_ending, done_front, done_log, done_text, ended_line};
 
 use std::alloc::{AllocError, Global};
-use xk_types::Entry;
+use xk_lines::write_numbers;
+use xk_log::{Device, write_all};
+use xk_types::{Entry, Sink};
 
 /// What a job comes to where nothing stands against it.
 #[derive(Debug, Drop)]
@@ -44,23 +49,51 @@ impl Done {
         }
     }
 
-    /// What goes to standard output.
-    pub(crate) fn text(&self, alloc: Global) -> Result<String, AllocError>
-        ensures { IfOk result (λ text. string_bytes text ≡ done_text self.now) }
+    /// What stands behind the numbers or the text that it has: the last line, or the end of one. All memory that writing wants is taken here.
+    pub(crate) fn ending(&self, alloc: Global) -> Result<String, AllocError>
+        ensures { IfOk result (λ ending. string_bytes ending ≡ done_ending self.now) }
     {
         match self {
-            Done::Compiled(text) => format!(in alloc; "{text}\n"),
+            Done::Compiled(_) => String::from_str(alloc, "\n"),
             Done::Accepted {
                 steps,
                 activities,
                 clocks,
             } => accepted_line(alloc, *steps, *activities, *clocks),
-            Done::Charted(text) => String::from_str(alloc, text.as_str()),
-            Done::Ended { printed, steps, .. } => {
-                let mut text = number_lines(alloc, printed)?;
-                text.push_str(ended_line(alloc, *steps)?.as_str())?;
-                Ok(text)
-            }
+            Done::Charted(_) => Ok(String::new(alloc)),
+            Done::Ended { steps, .. } => ended_line(alloc, *steps),
+        }
+    }
+
+    /// Writes what goes to standard output, of which the ending was made, and takes no memory. Where a write fails, a beginning of it was
+    /// written.
+    pub(crate) fn write<O: Sink>(&self, ending: &str, out: &mut O) -> Result<(), Device>
+        requires { ending.now ≡ done_ending self.now }
+        ensures all { OnOk result
+            (Appends (O.contents out.old) (O.contents out.new) (done_text self.now)) }
+        ensures beginning { AppendsBeginning
+            (O.contents out.old) (O.contents out.new) (done_text self.now) }
+        ensures no_fault { OnOk result (O.fault_count out.new ≡ O.fault_count out.old) }
+        ensures failed { OnErr result (Rose (O.fault_count out.old) (O.fault_count out.new)) }
+    {
+        self.write_front(out)?;
+        write_all(out, ending.as_bytes())
+    }
+
+    /// Writes its numbers, each on a line of its own, or its text.
+    fn write_front<O: Sink>(&self, out: &mut O) -> Result<(), Device>
+        ensures all { OnOk result
+            (Appends (O.contents out.old) (O.contents out.new) (done_front self.now)) }
+        ensures beginning { AppendsBeginning
+            (O.contents out.old) (O.contents out.new) (done_front self.now) }
+        ensures no_fault { OnOk result (O.fault_count out.new ≡ O.fault_count out.old) }
+        ensures failed { OnErr result (Rose (O.fault_count out.old) (O.fault_count out.new)) }
+    {
+        match self {
+            Done::Compiled(text) => write_all(out, text.as_bytes()),
+            Done::Accepted { .. } => Ok(()),
+            Done::Charted(text) => write_all(out, text.as_bytes()),
+            Done::Ended { printed, .. } => write_numbers(printed, out),
         }
     }
 }
@@ -75,17 +108,6 @@ fn accepted_line(
     ensures { IfOk result (λ text. string_bytes text ≡ accepted_line steps activities clocks) }
 {
     format!(in alloc; "accepted steps {steps} activities {activities} clocks {clocks}\n")
-}
-
-/// Each number on a line of its own.
-fn number_lines(alloc: Global, numbers: &[i64]) -> Result<String, AllocError>
-    ensures { IfOk result (λ text. string_bytes text ≡ number_lines numbers.now) }
-{
-    let mut text = String::new(alloc);
-    for number in numbers {
-        text.push_str(format!(in alloc; "{number}\n")?.as_str())?;
-    }
-    Ok(text)
 }
 
 /// `ended steps 8`.

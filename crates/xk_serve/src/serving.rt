@@ -7,7 +7,7 @@ ghost use Rattle.xk_log.specs.Writing.{AppendsBeginning};
 ghost use Rattle.xk_words.specs.Status.{status_device, status_done, status_memory, status_program};
 ghost use Rattle.xk_serve.specs.Answer.{Succeeds, reads_log, task_of};
 ghost use Rattle.xk_serve.specs.Bytes.{FailsRead, IsReadToLimit, kept};
-ghost use Rattle.xk_serve.specs.Lines.{device_line, done_log, done_text, memory_line, status_of};
+ghost use Rattle.xk_serve.specs.Lines.{device_line, done_ending, done_log, memory_line, status_of};
 ghost use Rattle.xk_serve.specs.Serving.{Answered, ErrBegins, IfKnown, IsBegun, IsWritten, OutBegins, Reports, StandsAgainst, Tells, TellsWords};
 
 use crate::answering::answer;
@@ -25,8 +25,8 @@ use xk_words::{Form, Job, WordsFault, status};
 /// Reads the program, does the job, and writes what comes of it: its result to `out` and then the log of a run that is to have one
 /// to `log_out`, or one line to `err`. The answer is the exit status: 0 where the job is done, 1 where the program is refused, or is to be run and its
 /// main takes another number of arguments than it is given, 3 where the log is refused, 4 where memory ran out, 5 where a device failed. A run by workers is some run of the program: a call with such a job may wait for them, and
-/// what is said here holds where it returns. Whatever the answer but 5, no read or write failed. The result is written once it
-/// is whole, so `out` and `log_out` stay empty but at 0 and 5, and `err` never gets more than one line.
+/// what is said here holds where it returns. Whatever the answer but 5, no read or write failed. The result is written piece by piece, once
+/// all is known and no more memory is wanted, so `out` and `log_out` stay empty but at 0 and 5, and `err` never gets more than one line.
 pub fn serve<R: Threads + Wait + Sync, P: Source, L: Source, O: Sink, E: Sink, K: Sink>(
     rt: &R,
     alloc: Global,
@@ -80,12 +80,12 @@ pub fn serve<R: Threads + Wait + Sync, P: Source, L: Source, O: Sink, E: Sink, K
         (P.remaining program.old) (P.remaining program.new) }
 {
     match outcome(rt, alloc, job, program, log_in) {
-        Ok((done, text)) => print(alloc, &done, text.as_str(), out, err, log_out),
+        Ok((done, ending)) => print(alloc, &done, ending.as_str(), out, err, log_out),
         Err(fault) => report(alloc, &fault, err),
     }
 }
 
-/// What the job comes to, and what is printed of it.
+/// What the job comes to, and what is printed behind the numbers or the text that it has: no more memory is wanted to print it.
 fn outcome<R: Threads + Wait + Sync, P: Source, L: Source>(
     rt: &R,
     alloc: Global,
@@ -96,7 +96,7 @@ fn outcome<R: Threads + Wait + Sync, P: Source, L: Source>(
     ensures done { IfOk result (λ r.
         IfKnown (task_of job.now) (P.remaining program.old) (L.remaining log_in.old)
         (λ bytes logged. Succeeds (task_of job.now) bytes logged r.0)) }
-    ensures text { IfOk result (λ r. string_bytes r.1 ≡ done_text r.0) }
+    ensures ending { IfOk result (λ r. string_bytes r.1 ≡ done_ending r.0) }
     ensures no_fault { OnOk result ((P.fault_count program.new ≡ P.fault_count program.old)
         × (L.fault_count log_in.new ≡ L.fault_count log_in.old)) }
     ensures fault { IfErr result (λ f.
@@ -115,8 +115,8 @@ fn outcome<R: Threads + Wait + Sync, P: Source, L: Source>(
 {
     let bytes = read_program(alloc, job.form, program)?;
     let done = answer(rt, alloc, job, &bytes, log_in)?;
-    let text = done.text(alloc)?;
-    Ok((done, text))
+    let ending = done.ending(alloc)?;
+    Ok((done, ending))
 }
 
 /// All that counts of the bytes in FILE: one byte more than its text may have, at most, and no others are read then.
@@ -138,12 +138,12 @@ fn read_program<P: Source>(alloc: Global, form: Form, program: &mut P) -> Result
 fn print<O: Sink, E: Sink, K: Sink>(
     alloc: Global,
     done: &Done,
-    text: &str,
+    ending: &str,
     out: &mut O,
     err: &mut E,
     log_out: &mut K,
 ) -> u8
-    requires { text.now ≡ done_text done.now }
+    requires { ending.now ≡ done_ending done.now }
     ensures printed { ((result ≡ status_done)
         × IsWritten done.now (O.contents out.old) (O.contents out.new)
         (K.contents log_out.old) (K.contents log_out.new)
@@ -160,7 +160,7 @@ fn print<O: Sink, E: Sink, K: Sink>(
         × (E.fault_count err.new ≡ E.fault_count err.old)
         × (K.fault_count log_out.new ≡ K.fault_count log_out.old) }
 {
-    match write_result(done, text, out, log_out) {
+    match write_result(done, ending, out, log_out) {
         Ok(()) => status::DONE,
         Err(_) => report(alloc, &Fault::Device, err),
     }
@@ -169,11 +169,11 @@ fn print<O: Sink, E: Sink, K: Sink>(
 /// Writes the result to `out`, and then the log of a run that is to have one.
 fn write_result<O: Sink, K: Sink>(
     done: &Done,
-    text: &str,
+    ending: &str,
     out: &mut O,
     log_out: &mut K,
 ) -> Result<(), Device>
-    requires { text.now ≡ done_text done.now }
+    requires { ending.now ≡ done_ending done.now }
     ensures all { OnOk result (IsWritten done.now (O.contents out.old) (O.contents out.new)
         (K.contents log_out.old) (K.contents log_out.new)) }
     ensures begun { IsBegun done.now (O.contents out.old) (O.contents out.new)
@@ -183,7 +183,7 @@ fn write_result<O: Sink, K: Sink>(
     ensures failed { OnErr result (Rose (O.fault_count out.old) (O.fault_count out.new)
         ⊎ Rose (K.fault_count log_out.old) (K.fault_count log_out.new)) }
 {
-    write_all(out, text.as_bytes())?;
+    done.write(ending, out)?;
     write_log(done, log_out)
 }
 
