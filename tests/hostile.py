@@ -86,7 +86,7 @@ def full_devices(tried: Tried) -> None:
     tried.answers("exec $x run in-step.x10 > /dev/full 2> /dev/full", 5)
     tried.answers("exec $x run --log /dev/full in-step.x10", 5, PRINTED, DEVICE)
     tried.answers("exec $x run --log no-folder/log in-step.x10", 5, err=DEVICE)
-    tried.answers("{ $x run in-step.x10; echo $? >&2; } | true; sleep 0.1", 0, err=f"{DEVICE}5\n")
+    tried.answers("{ sleep 0.3; $x run in-step.x10; echo $? >&2; } | true; sleep 0.1", 0, err=f"{DEVICE}5\n")
 
 
 def streams(tried: Tried) -> None:
@@ -173,7 +173,8 @@ def growing(tried: Tried) -> None:
 
     writer = threading.Thread(target=grow)
     writer.start()
-    time.sleep(0.05)
+    while path.stat().st_size < 1 << 21:
+        time.sleep(0.01)
     tried.answers("exec $x check growing.x10", 1, err="x10clock: F4 TooLong at 0\n")
     stop.set()
     writer.join()
@@ -215,10 +216,12 @@ def few_files(tried: Tried) -> None:
 
 
 def few_threads(tried: Tried) -> None:
-    """Where no thread can be started, the calling one does it all. Root has no such limit."""
+    """Where no thread can be started, the calling one does it all. Root has no such limit. Two may print in either order."""
     nobody = "exec setpriv --reuid 65534 --clear-groups" if os.getuid() == 0 else "exec"
     for most in (1, 2, 4):
-        tried.answers(f"{nobody} $x run --workers 8 in-step.x10", 0, PRINTED, limits=limited(resource.RLIMIT_NPROC, most))
+        ran = tried.shell(f"{nobody} $x run --workers 8 in-step.x10", limits=limited(resource.RLIMIT_NPROC, most))
+        ran.out = "".join(sorted(ran.out.splitlines(keepends=True)))
+        tried.wants(f"workers with {most} threads", ran, Ended(0, PRINTED, ""))
 
 
 def small_stack(tried: Tried) -> None:

@@ -62,7 +62,7 @@ def to_run(bounds: telling.Bounds) -> int:
 
 
 def to_log(entries: int) -> int:
-    return 12 * entries
+    return 16 * entries
 
 
 def to_print(numbers: int) -> int:
@@ -167,10 +167,10 @@ class Calls:
 
     def of_logs(self) -> Iterator[Call]:
         log = self.folder / "log"
-        text = "def main(){for(i in 1..3000000);}"
+        text = "def main(){for(i in 1..2200000);}"
         small = to_read(text.encode()) + to_run(judged(text).bounds)
-        yield Call("run --log, three million steps", ["run", "--log", log, self.file(text)], small + to_log(3_000_002))
-        yield Call("replay, three million steps", ["replay", self.file(text), log], small + to_log(3_000_002))
+        yield Call("run --log, 2,200,000 steps", ["run", "--log", log, self.file(text)], small + to_log(2_200_002))
+        yield Call("replay, 2,200,000 steps", ["replay", self.file(text), log], small + to_log(2_200_002))
         # Somewhat more than a power of two, so that half of the room is empty.
         text = "def main(){for(i in 1..1050000)Console.OUT.println(0-9223372036854775807);}"
         small = to_read(text.encode()) + to_run(judged(text).bounds)
