@@ -1,1 +1,2 @@
 pub mod GivenWords
+pub mod Answering

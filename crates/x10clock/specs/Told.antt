@@ -15,6 +15,10 @@ IsWantOfMemory e = error_kind e ≡ kind.OutOfMemory
 abbrev pub no_text_line : List ℕ
 no_text_line = codes "x10clock: a word is not in UTF-8\n"
 
+-- the line where the log of a run would be written over the program
+abbrev pub over_file_line : List ℕ
+over_file_line = codes "x10clock: --log would write over FILE\n"
+
 -- these words ask for a job
 abbrev pub AskForJob : List (List ℕ) → Type 0
 AskForJob given = WithOrders (λ names. (job : Asked) × (job_of names given ≡ Some job))

@@ -1,7 +1,7 @@
 //! The program: words to a job, files and streams to devices, and the status that serving it answers.
 #![tactic(auto)]
 
-ghost use Rattle.std.specs.Prelude.{◌≡◌, ◌≢◌, ◌⊎◌, false, [], map, string_bytes, IfOk};
+ghost use Rattle.std.specs.Prelude.{◌≡◌, ◌≢◌, ◌⊎◌, false, [], None, map, string_bytes, IfOk};
 ghost use Rattle.std.specs.Io.KnownBytes.{Appends};
 ghost use Rattle.xk_types.specs.Device.{Rose};
 ghost use Rattle.xk_words.specs.Line.{texts};
@@ -10,7 +10,7 @@ ghost use Rattle.xk_serve.specs.Answer.{reads_log, task_of};
 ghost use Rattle.xk_serve.specs.Lines.{device_line, memory_line};
 ghost use Rattle.xk_serve.specs.Serving.{Answered, ErrBegins, IfKnown, OutBegins, Reports, Tells, TellsWords};
 ghost use Rattle.xk_serve.specs.declared.fault.Fault.TheVariants as fault;
-ghost use Rattle.x10clock.specs.Told.{AreTold, IsWantOfMemory, no_text_line};
+ghost use Rattle.x10clock.specs.Told.{AreTold, IsWantOfMemory, no_text_line, over_file_line};
 
 mod files;
 
@@ -129,6 +129,12 @@ fn on_program<R: Runtime, P: Read + Drop, O: Sink, E: Sink>(
     out: &mut O,
     err: &mut E,
 ) -> u8
+    ensures answered { IfKnown (task_of job.now) (P.remaining program) None
+        (λ bytes logged. result ≢ status_memory → result ≢ status_device
+        → Answered (task_of job.now) bytes logged result (O.contents out.old)
+        (O.contents out.new) (E.contents err.old) (E.contents err.new) None None
+        ⊎ Tells over_file_line status_words (E.contents err.old) (E.contents err.new)
+        (E.fault_count err.old) (E.fault_count err.new) result) }
     ensures memory_out { result ≡ status_memory
         → Appends (O.contents out.old) (O.contents out.new) [] }
     ensures memory_err { result ≡ status_memory
@@ -158,6 +164,12 @@ fn on_log<R: Runtime, P: Read + Drop, L: Source, O: Sink, E: Sink>(
     out: &mut O,
     err: &mut E,
 ) -> u8
+    ensures answered { IfKnown (task_of job.now) (P.remaining program) (L.remaining log_in.old)
+        (λ bytes logged. result ≢ status_memory → result ≢ status_device
+        → Answered (task_of job.now) bytes logged result (O.contents out.old)
+        (O.contents out.new) (E.contents err.old) (E.contents err.new) None None
+        ⊎ Tells over_file_line status_words (E.contents err.old) (E.contents err.new)
+        (E.fault_count err.old) (E.fault_count err.new) result) }
     ensures memory_out { result ≡ status_memory
         → Appends (O.contents out.old) (O.contents out.new) [] }
     ensures memory_err { result ≡ status_memory
@@ -182,13 +194,14 @@ fn on_log<R: Runtime, P: Read + Drop, L: Source, O: Sink, E: Sink>(
     };
     match log_file(rt, path, job.file) {
         Ok(Some(file)) => on_devices(rt, job, program, log_in, out, err, &mut Counted::new(file)),
-        Ok(None) => tell(OVER_FILE, status::WORDS, err),
+        Ok(None) => tell(
+            "x10clock: --log would write over FILE\n",
+            status::WORDS,
+            err,
+        ),
         Err(e) => not_opened(rt, &e, err),
     }
 }
-
-/// What is told where the run's log would be written over the program.
-const OVER_FILE: &str = "x10clock: --log would write over FILE\n";
 
 /// The file of the run's log, made or emptied; `None`, and nothing is emptied, where that is FILE itself.
 fn log_file<R: Files>(rt: &R, path: &str, file: &str) -> io::Result<Option<R::File>> {
@@ -200,6 +213,7 @@ fn log_file<R: Files>(rt: &R, path: &str, file: &str) -> io::Result<Option<R::Fi
 
 /// Says that a file can't be opened, or that memory was wanting for that.
 fn not_opened<R: AllocGlobal, E: Sink>(rt: &R, e: &io::Error, err: &mut E) -> u8
+    ensures status { (result ≡ status_memory) ⊎ (result ≡ status_device) }
     ensures memory { IsWantOfMemory e.now → Reports fault.OutOfMemory
         (E.contents err.old) (E.contents err.new)
         (E.fault_count err.old) (E.fault_count err.new) result }
