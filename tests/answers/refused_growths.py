@@ -1,5 +1,5 @@
 #!/usr/bin/env python3
-"""Refuses each growth of memory in turn, the first, the second and so on, until a run ends without a refusal: in `exhaust`, which makes each
+"""Refuses each growth of memory in turn, the first, the second and so on, until a run ends without a refusal: in `xk_exhaust`, which makes each
 library call again where it was refused memory, and in `x10clock` itself on small programs, modules and source texts, and on words that are no
 job, which has to answer as it does with ample memory, or with status 4, an empty standard output, nothing in the log that it was to write, and
 its line.
@@ -27,7 +27,7 @@ TOP = pathlib.Path(__file__).resolve().parents[2]
 ROWS = TOP / "tests/answers/rows"
 LOGS = TOP / "tests/answers/logs"
 PROGRAM = str(TOP / "crates/x10clock/out/x10clock")
-EXHAUST = str(TOP / "crates/exhaust/out/exhaust")
+EXHAUST = str(TOP / "crates/xk_exhaust/out/xk_exhaust")
 
 MEMORY = b"x10clock: out of memory\n"
 # A word that stands for the file of the log that a run is to write.
@@ -172,8 +172,8 @@ class Calls:
         return told
 
     def exhaust(self) -> None:
-        """Adds `exhaust`, which answers the same whatever growth is refused."""
-        wanted = Answer(0, (TOP / "crates/exhaust/stdout").read_bytes(), b"", None)
+        """Adds `xk_exhaust`, which answers the same whatever growth is refused."""
+        wanted = Answer(0, (TOP / "crates/xk_exhaust/stdout").read_bytes(), b"", None)
         for part in range(PARTS):
             self.calls.append(Call("exhaust", [EXHAUST], b"", wanted, first=part + 1, step=PARTS))
 
@@ -298,7 +298,7 @@ def tried(number: int) -> tuple[int, int, float, str]:
 
 def built() -> None:
     """Builds the two programs where they aren't built yet."""
-    for name in ("exhaust", "x10clock"):
+    for name in ("xk_exhaust", "x10clock"):
         if not (TOP / f"crates/{name}/out/{name}").exists():
             with (TOP / "crates/x10clock/stdin").open("rb") as stdin:
                 subprocess.run(["rt", "run", "--", "run", "--module", "-"], cwd=TOP / f"crates/{name}", stdin=stdin,

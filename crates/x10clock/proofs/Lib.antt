@@ -1,2 +1,2 @@
-pub mod GivenWords
-pub mod Answering
+pub mod WordLemmas
+pub mod AnswerLemmas

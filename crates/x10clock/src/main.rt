@@ -4,13 +4,13 @@
 ghost use Rattle.std.specs.Prelude.{◌≡◌, ◌≢◌, ◌⊎◌, false, [], None, map, string_bytes, IfOk};
 ghost use Rattle.std.specs.Io.KnownBytes.{Appends};
 ghost use Rattle.xk_types.specs.Device.{Rose};
-ghost use Rattle.xk_words.specs.Line.{texts};
-ghost use Rattle.xk_words.specs.Status.{status_device, status_memory, status_program, status_words};
+ghost use Rattle.xk_cli.specs.CommandLine.{texts};
+ghost use Rattle.xk_cli.specs.Status.{status_device, status_memory, status_program, status_words};
 ghost use Rattle.xk_serve.specs.Answer.{reads_log, task_of};
 ghost use Rattle.xk_serve.specs.Lines.{device_line, memory_line};
-ghost use Rattle.xk_serve.specs.Serving.{Answered, ErrBegins, IfKnown, OutBegins, Reports, Tells, TellsWords};
+ghost use Rattle.xk_serve.specs.Devices.{Answered, ErrBegins, IfKnown, OutBegins, Reports, Tells, TellsWords};
 ghost use Rattle.xk_serve.specs.declared.fault.Fault.TheVariants as fault;
-ghost use Rattle.x10clock.specs.Told.{AreTold, IsWantOfMemory, no_text_line, over_file_line};
+ghost use Rattle.x10clock.specs.CommandLine.{AreTold, IsWantOfMemory, no_text_line, over_file_line};
 
 mod files;
 
@@ -24,7 +24,7 @@ use std::thread::Threads;
 use std::{env, fs, io};
 use xk_serve::{Fault, report, serve, tell, tell_words};
 use xk_types::{Counted, Sink, Source};
-use xk_words::{Command, Job, WordsFault, read_job, status};
+use xk_cli::{Command, Job, WordsFault, read_job, status};
 
 /// What a job may want of the runtime: memory, files, standard input, and threads that wait for one another.
 trait Runtime: AllocGlobal + Files + Input + Threads + Wait + Sync {}

@@ -1,13 +1,13 @@
 -- The activities of a world, but for their finishes, as the code keeps them. This project's own.
 use Rattle.std.specs.Prelude.{◌≡◌, ◌⊎◌, ℕ, List, [], map, Some, slice_index_or, slice_set}
-use Rattle.xk_types.specs.declared.names.Status.TheVariants as status
+use Rattle.xk_types.specs.declared.world.Status.TheVariants as status
 use Rattle.xk_types.specs.declared.instr.Instr.{Instr}
 use Rattle.xk_types.specs.Code.{ModuleValue}
 use Rattle.xk_types.specs.World.{Activity, root, instruction_at}
 use Rattle.xk_activity.specs.declared.frames.Next.{Next}
 use Rattle.xk_activity.specs.declared.frames.Next.TheVariants as next
 use Rattle.xk_activity.specs.Local.{FramesValue, Beyond, Stepped, local, ran}
-use Rattle.xk_activity.specs.Joined.{frames_in, with_frames}
+use Rattle.xk_activity.specs.StepAgreement.{frames_in, with_frames}
 
 -- an activity, and the module that it runs
 pub record ActivityValue : Type 0 where

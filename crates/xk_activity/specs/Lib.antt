@@ -1,7 +1,7 @@
 pub mod Local
 pub mod Slots
-pub mod Arm
-pub mod Stacked
-pub mod Joined
+pub mod Interpreter
+pub mod FrameStack
+pub mod StepAgreement
 pub mod Activities
 pub mod Ticket

@@ -1,12 +1,12 @@
 -- What an activity does that nobody else can see, told of its frames alone: steps whose event is `Local`, one after the other. The
--- rules are those of a step of the world (`Rattle.xk_types.specs.Step`); `proofs/Joined.antt` shows that the two agree.
+-- rules are those of a step of the world (`Rattle.xk_types.specs.Step`); `proofs/StepAgreementLemmas.antt` shows that the two agree.
 use Rattle.std.specs.Prelude.{ℕ, zero, suc, ℤ, pos, ◌+ℤ◌, ◌+◌, int_lt, int_le, Bool, true, false, List, [], ◌∷◌, slice_get, slice_set, Option, Some, None, if◌then◌else◌}
 use Rattle.std.specs.Option.{option_map_or, option_and_then}
 use Rattle.std.specs.Int.{w64, int_min, int_wrapping_add, int_wrapping_sub, int_wrapping_mul}
 use Rattle.xk_types.specs.declared.instr.Instr.{Instr}
 use Rattle.xk_types.specs.declared.instr.Instr.TheVariants as instr
-use Rattle.xk_types.specs.declared.names.Value.{Value}
-use Rattle.xk_types.specs.declared.names.Value.TheVariants as value
+use Rattle.xk_types.specs.declared.world.Value.{Value}
+use Rattle.xk_types.specs.declared.world.Value.TheVariants as value
 use Rattle.xk_types.specs.declared.unit.ParamKind.{ParamKind}
 use Rattle.xk_types.specs.declared.unit.ParamKind.TheVariants as param
 use Rattle.xk_types.specs.Code.{UnitValue, ModuleValue, Loop, loop_head, is_method, compares}

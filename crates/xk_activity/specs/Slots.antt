@@ -1,8 +1,8 @@
 -- How the slots of a frame are kept: a word for each, and a mark for each that has a number. This project's own.
 use Rattle.std.specs.Prelude.{ℕ, zero, suc, ℤ, pos, ◌-ℤ◌, ◌≡◌, ◌≤◌, ◌<◌, ◌==◌, ◌++◌, ◌&&◌, int_le, nat_abs, Bool, true, false, List, [], ◌∷◌, length, if◌then◌else◌}
 use Rattle.std.specs.Int.{bit_at}
-use Rattle.xk_types.specs.declared.names.Value.{Value}
-use Rattle.xk_types.specs.declared.names.Value.TheVariants as value
+use Rattle.xk_types.specs.declared.world.Value.{Value}
+use Rattle.xk_types.specs.declared.world.Value.TheVariants as value
 use Rattle.xk_activity.specs.declared.marks.Marks.{Marks}
 
 -- slot s is marked

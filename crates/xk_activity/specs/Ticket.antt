@@ -1,7 +1,7 @@
 -- Local steps of an activity that were computed apart from the others. This project's own.
 use Rattle.std.specs.Prelude.{ℕ, ◌≡◌, ◌⊎◌, ◌<◌, ◌≤◌, length}
 use Rattle.xk_activity.specs.Local.{FramesValue, Beyond, Stepped, local, ran}
-use Rattle.xk_activity.specs.Joined.{frames_in, with_frames}
+use Rattle.xk_activity.specs.StepAgreement.{frames_in, with_frames}
 use Rattle.xk_activity.specs.Activities.{ActivitiesValue, act_at, with_act_at}
 
 -- whose steps they are, which frames it had before them, how many they are, and which frames it has behind them

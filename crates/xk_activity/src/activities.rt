@@ -4,11 +4,11 @@ ghost use Rattle.std.specs.Prelude.{◌≡◌, ℤ, ℕ, ◌<◌, ◌≤◌, [],
 ghost use Rattle.std.specs.Bool.{Decides};
 ghost use Rattle.std.specs.List.{list_all};
 ghost use Rattle.std.specs.Vec.{vec_capacity};
-ghost use Rattle.xk_types.specs.declared.names.Value.TheVariants as value;
+ghost use Rattle.xk_types.specs.declared.world.Value.TheVariants as value;
 ghost use Rattle.xk_types.specs.World.{instruction_at, slots_of, AreArguments, main_of, is_ended, root};
 ghost use Rattle.xk_types.specs.Step.{governing, child, slot_at, onward, with_slots, arrived, ended, past};
 ghost use Rattle.xk_activity.specs.Local.{IsRight, IsSafe, local, is_stepped};
-ghost use Rattle.xk_activity.specs.Joined.{frames_in};
+ghost use Rattle.xk_activity.specs.StepAgreement.{frames_in};
 ghost use Rattle.xk_activity.specs.Activities.{act_at, with_act_at, Stands, Takes, Runs};
 ghost use Rattle.xk_activity.specs.Ticket.{Fits, handed_in};
 

@@ -1,11 +1,11 @@
 //! One activity, but for its finishes.
 
 ghost use Rattle.std.specs.Prelude.{◌≡◌, ℤ, ℕ, ◌<◌, ◌≤◌, length, Some, slice_set};
-ghost use Rattle.xk_types.specs.declared.names.Value.TheVariants as value;
+ghost use Rattle.xk_types.specs.declared.world.Value.TheVariants as value;
 ghost use Rattle.xk_types.specs.World.{instruction_at, is_ended, root};
 ghost use Rattle.xk_types.specs.Step.{governing, slot_at, onward, with_slots, arrived, ended, past};
 ghost use Rattle.xk_activity.specs.Local.{IsRight, IsSafe, local, is_stepped};
-ghost use Rattle.xk_activity.specs.Joined.{frames_in, with_frames};
+ghost use Rattle.xk_activity.specs.StepAgreement.{frames_in, with_frames};
 ghost use Rattle.xk_activity.specs.Activities.{fresh, with_act, Stands, Takes, Runs};
 
 use crate::frames::{Frames, Next};

@@ -9,21 +9,20 @@ ghost use Rattle.xk_types.specs.Shape.{HasShape};
 ghost use Rattle.xk_types.specs.World.{instruction_at, slots_of};
 ghost use Rattle.xk_types.specs.Bound.{stack_of, frames_of};
 ghost use Rattle.xk_activity.specs.Local.{Beyond, Stepped, IsRight, IsSafe, local, ran, turn, code_of, spot_of, spot_at, begun, called, returning, is_stepped};
-ghost use Rattle.xk_activity.specs.Arm.{Answers};
-ghost use Rattle.xk_activity.specs.Stacked.{CanCall, Does, values_at, placed, with_slot};
+ghost use Rattle.xk_activity.specs.Interpreter.{Answers};
+ghost use Rattle.xk_activity.specs.FrameStack.{CanCall, Does, values_at, placed, with_slot};
 ghost use Rattle.xk_activity.specs.Slots.{values_of};
 
-use crate::alike::are_same_waiting;
+use crate::equality::are_same_waiting;
 use crate::caller::Caller;
-use crate::fill::{Stack, copy_callers, copy_words, empty, fill, hand, put};
-use crate::flat::{is_flat, one, run_flat};
+use crate::stack::{Stack, copy_callers, copy_words, empty, fill, hand, put};
+use crate::interpreter::{is_flat, one, run_flat};
 use crate::marks::Marks;
 use crate::slots::{are_same_slots, part, set, value};
 use std::alloc::{AllocError, Global};
 use std::marker::Model;
 use xk_bounds::Verified;
-use xk_same::is_same_module;
-use xk_types::{Instr, Value};
+use xk_types::{Instr, Value, is_same_module};
 
 /// What a call for one local step did.
 #[derive(Clone, Copy, Debug, PartialEq, Eq)]
@@ -55,7 +54,7 @@ impl<'m> Model for Frames<'m> {
     ghost use Rattle.std.specs.Prelude.{length, reverse};
     ghost use Rattle.std.specs.Vec.{vec_capacity};
     ghost use Rattle.xk_activity.specs.Local.{FramesValue};
-    ghost use Rattle.xk_activity.specs.Stacked.{frames_on, IsStacked};
+    ghost use Rattle.xk_activity.specs.FrameStack.{frames_on, IsStacked};
 
     ghost Value = { FramesValue };
 

@@ -1,14 +1,14 @@
 //! What frames alone tell of a step is what the world does.
 
 ghost use Rattle.std.specs.Prelude.{◌≡◌, ℕ, Some, slice_get};
-ghost use Rattle.xk_types.specs.declared.names.Status.TheVariants as status;
+ghost use Rattle.xk_types.specs.declared.world.Status.TheVariants as status;
 ghost use Rattle.xk_types.specs.Code.{IsWithinLimits, ModuleValue};
 ghost use Rattle.xk_types.specs.World.{Activity, World};
 ghost use Rattle.xk_types.specs.Step.{step};
 ghost use Rattle.xk_types.specs.Schedule.{IsReached};
-ghost use Rattle.xk_types.specs.Accepted.{IsAccepted};
+ghost use Rattle.xk_types.specs.Acceptance.{IsAccepted};
 ghost use Rattle.xk_activity.specs.Local.{IsSafe, local};
-ghost use Rattle.xk_activity.specs.Joined.{frames_in, Agrees};
+ghost use Rattle.xk_activity.specs.StepAgreement.{frames_in, Agrees};
 
 /// A running activity's step: where its frames alone tell what they are then, the world's step changes those frames and nothing
 /// else, or is wrong; where they tell that it is wrong, so it is; and else others can see it.

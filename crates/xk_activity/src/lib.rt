@@ -3,10 +3,10 @@
 
 mod activities;
 mod activity;
-mod alike;
+mod equality;
 mod caller;
-mod fill;
-mod flat;
+mod stack;
+mod interpreter;
 mod frames;
 pub mod laws;
 mod marks;

@@ -3,7 +3,7 @@
 
 ghost use Rattle.std.specs.Prelude.{◌≡◌, ℤ, ◌<◌, ◌≤◌, drop, length, take, Some, slice_get, slice_set};
 ghost use Rattle.std.specs.Bool.{Decides};
-ghost use Rattle.xk_types.specs.declared.names.Value.TheVariants as value;
+ghost use Rattle.xk_types.specs.declared.world.Value.TheVariants as value;
 ghost use Rattle.xk_activity.specs.Slots.{unmarked, value_of, values_of};
 
 use crate::marks::Marks;

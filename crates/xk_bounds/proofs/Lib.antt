@@ -1,7 +1,7 @@
-pub mod Cuts
-pub mod Visits
-pub mod Measured
-pub mod Totals
-pub mod Chains
-pub mod Rooms
-pub mod Refusals
+pub mod CutLemmas
+pub mod VisitLemmas
+pub mod WeightSumLemmas
+pub mod TotalLemmas
+pub mod CallChainLemmas
+pub mod RoomLemmas
+pub mod RefusalLemmas

@@ -1,3 +1,3 @@
-pub mod Refused
+pub mod Refusals
 pub mod Rooms
 pub mod Measure

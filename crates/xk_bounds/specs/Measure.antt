@@ -5,7 +5,7 @@ use Rattle.xk_types.specs.declared.instr.Instr.{Instr}
 use Rattle.xk_types.specs.declared.instr.Instr.TheVariants as instr
 use Rattle.xk_types.specs.Code.{UnitValue, ModuleValue, IsWithinLimits, unit_run, Loop, turns}
 use Rattle.xk_types.specs.Bound.{visits, sum_from, total, steps_weight, activities_weight, clocks_weight, steps_bound, activities_bound, clocks_bound, stack_bound}
-use Rattle.xk_types.specs.Accepted.{IsAccepted}
+use Rattle.xk_types.specs.Acceptance.{IsAccepted}
 use Rattle.xk_bounds.specs.declared.bounds.Bounds.{Bounds}
 use Rattle.xk_bounds.specs.declared.bounds.Quantity.{Quantity}
 use Rattle.xk_bounds.specs.declared.bounds.Quantity.TheVariants as quantity

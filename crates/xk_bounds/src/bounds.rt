@@ -6,7 +6,7 @@ ghost use Rattle.xk_types.specs.Code.{ModuleValue, unit_run, turns};
 ghost use Rattle.xk_types.specs.Shape.{HasShape};
 ghost use Rattle.xk_types.specs.Bound.{total, IsWithinBounds};
 ghost use Rattle.xk_shape.specs.Blocks.{IsOrderly};
-ghost use Rattle.xk_bounds.specs.Refused.{IsBoundFault};
+ghost use Rattle.xk_bounds.specs.Refusals.{IsBoundFault};
 ghost use Rattle.xk_bounds.specs.Measure.{AreBounds, AreCut, added, added_by, weight_of, visits_next, loop_between};
 
 use crate::refusal::BoundFault;

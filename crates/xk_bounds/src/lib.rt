@@ -5,10 +5,10 @@
 mod bounds;
 mod refusal;
 mod room;
-mod verified;
+mod verifier;
 
 pub use refusal::{BoundFault, Refusal};
 pub use room::Room;
-pub use verified::{Verified, verify};
+pub use verifier::{Verified, verify};
 pub use xk_shape::ShapeFault;
 pub use xk_typestate::{KindFault, KindSet};

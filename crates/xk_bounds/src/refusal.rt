@@ -1,7 +1,7 @@
 //! Why the verifier refuses a module.
 
 ghost use Rattle.std.specs.Prelude.{◌≡◌};
-ghost use Rattle.xk_bounds.specs.Refused.{of_shape, of_kinds};
+ghost use Rattle.xk_bounds.specs.Refusals.{of_shape, of_kinds};
 ghost use Rattle.xk_bounds.specs.declared.refusal.Refusal.TheVariants.{OutOfMemory};
 
 use std::alloc::AllocError;

@@ -1,3 +1,3 @@
-pub mod Tallies
-pub mod Kept
-pub mod Rows
+pub mod TallyLemmas
+pub mod CountStepLemmas
+pub mod Examples

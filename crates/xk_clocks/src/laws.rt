@@ -2,10 +2,10 @@
 
 ghost use Rattle.std.specs.Prelude.{◌≡◌, ◌<◌, ◌≤◌, ℕ, true, false};
 ghost use Rattle.xk_types.specs.World.{Clock, standing_of};
-ghost use Rattle.xk_types.specs.declared.names.Standing.TheVariants as standing;
+ghost use Rattle.xk_types.specs.declared.world.Standing.TheVariants as standing;
 ghost use Rattle.xk_types.specs.Step.{is_registered, is_pending, is_signalled, is_ready, settled_clock, moved_on, joined_on, new_clock, resumed, passed, dropped};
 ghost use Rattle.xk_clocks.specs.Table.{CountValue, new_count, is_ready_count, count_settled, count_registered, count_resumed, count_dropped, one_if};
-ghost use Rattle.xk_clocks.specs.Standings.{IsCountOf};
+ghost use Rattle.xk_clocks.specs.StandingCounts.{IsCountOf};
 
 /// Where the numbers are those of a clock of the definition of a step, they say of it what the definition does: whether it
 /// is ready, and what it is once it has advanced. They stay those of the clock at each change of one standing: at a `make`, for

@@ -5,10 +5,10 @@ use Rattle.xk_tree.specs.declared.fault.FrontRule.TheVariants as rule
 use Rattle.xk_tree.specs.declared.fault.FrontFault.{FrontFault}
 use Rattle.xk_tree.specs.Tree.{SharedValue, TreeValue}
 use Rattle.xk_names.specs.Faults.{HasFault, IsReported, fault}
-use Rattle.xk_units.specs.Recursion.{HasRecursion}
-use Rattle.xk_code.specs.CodeOf.{Setting}
-use Rattle.xk_source.specs.Parts.{Part, OfMethod, OfBody}
-use Rattle.xk_source.specs.Compiled.{AreUnits, IsSetting, unit_of_part}
+use Rattle.xk_callgraph.specs.Recursion.{HasRecursion}
+use Rattle.xk_emit.specs.CodeOf.{Setting}
+use Rattle.xk_semantics.specs.Parts.{Part, OfMethod, OfBody}
+use Rattle.xk_semantics.specs.Compilation.{AreUnits, IsSetting, unit_of_part}
 
 -- where a part stands: the name of a method, or the `async` of a body
 abbrev pub offset : Part → ℕ

@@ -1,5 +1,5 @@
 pub mod Views
-pub mod Named
-pub mod Places
-pub mod Keeps
+pub mod PartCoverage
+pub mod PartPlaces
+pub mod ShapeRules
 pub mod Faults

@@ -6,26 +6,26 @@ ghost use Rattle.xk_types.specs.Code.{IsUnitWithinLimits, IsWithinLimits, module
 ghost use Rattle.xk_tree.specs.declared.fault.FrontFault.{FrontFault as Fault};
 ghost use Rattle.xk_tree.specs.Tree.{method_value, shared_value};
 ghost use Rattle.xk_tree.specs.Program.{tree_value};
-ghost use Rattle.xk_code.specs.Room.{Denies};
+ghost use Rattle.xk_emit.specs.Room.{Denies};
 ghost use Rattle.xk_names.specs.Faults.{HasFault};
-ghost use Rattle.xk_names.specs.Scoped.{IsScoped};
-ghost use Rattle.xk_units.specs.Recursion.{HasRecursion};
+ghost use Rattle.xk_names.specs.WellScoped.{IsScoped};
+ghost use Rattle.xk_callgraph.specs.Recursion.{HasRecursion};
 ghost use Rattle.xk_codegen.specs.Views.{part};
-ghost use Rattle.xk_codegen.specs.Named.{AreCovered, IsPartCovered};
-ghost use Rattle.xk_source.specs.Meaning.{Means};
-ghost use Rattle.xk_source.specs.Compiled.{AreUnits, IsCompiled, IsSetting, method_kind, unit_of_part};
+ghost use Rattle.xk_codegen.specs.PartCoverage.{AreCovered, IsPartCovered};
+ghost use Rattle.xk_semantics.specs.Meaning.{Means};
+ghost use Rattle.xk_semantics.specs.Compilation.{AreUnits, IsCompiled, IsSetting, method_kind, unit_of_part};
 ghost use Rattle.xk_codegen.specs.Faults.{IsFaultOf, IsFirstLarge, IsTableFault, offset};
-ghost use Rattle.xk_codegen.specs.Keeps.{KeepsShape};
+ghost use Rattle.xk_codegen.specs.ShapeRules.{KeepsShape};
 
-use crate::order::units_in_order;
+use crate::unit_order::units_in_order;
 use crate::parts::Part;
 use crate::setting::settle;
 use std::alloc::{AllocError, Global};
-use xk_code::{CodeError, Setting, body_unit, method_unit};
+use xk_emit::{CodeError, Setting, body_unit, method_unit};
 use xk_names::check_names;
 use xk_tree::{FrontError, FrontFault, FrontRule, Method, Shared, Tree};
 use xk_types::{MAX_SHARED, MAX_UNITS, Module, Unit, UnitKind};
-use xk_units::check_recursion;
+use xk_callgraph::check_recursion;
 
 const MAIN: &[u8] = b"main";
 

@@ -1,11 +1,11 @@
 //! Source trees to modules: which parts have units, in which order, and what their code refers to.
-#![tactic(auto, using(crate::proofs::Lists::part_push, crate::proofs::Lists::rows_push))]
+#![tactic(auto, using(crate::proofs::ListLemmas::part_push, crate::proofs::ListLemmas::rows_push))]
 
 mod compiler;
 pub mod laws;
-mod order;
+mod unit_order;
 mod parts;
-mod runs;
+mod part_graph;
 mod setting;
 
 pub use compiler::compile;

@@ -1,11 +1,11 @@
 -- What a step does to the standings of its activity.
 use Rattle.std.specs.Prelude.{◌≡◌, ℕ, false, List}
 use Rattle.std.specs.List.{list_any}
-use Rattle.xk_types.specs.declared.names.Standing.{Standing}
+use Rattle.xk_types.specs.declared.world.Standing.{Standing}
 use Rattle.xk_types.specs.World.{Clock, standing_of}
 use Rattle.xk_types.specs.Step.{is_signalled, resumed, passed, dropped, none, only, all}
-use Rattle.xk_standings.specs.declared.which.Which.{Which}
-use Rattle.xk_standings.specs.declared.which.Which.TheVariants as which
+use Rattle.xk_registrations.specs.declared.affected_clocks.Which.{Which}
+use Rattle.xk_registrations.specs.declared.affected_clocks.Which.TheVariants as which
 use Rattle.xk_core.specs.declared.change.StandingChange.{StandingChange}
 use Rattle.xk_core.specs.declared.change.StandingChange.TheVariants as standing_change
 use Rattle.xk_core.specs.declared.change.StepChange.{StepChange}

@@ -3,22 +3,22 @@ use Rattle.std.specs.Prelude.{◌≡◌, ℕ, ℤ, ◌<◌, ◌==◌, Bool, true
 use Rattle.std.specs.List.{list_all}
 use Rattle.std.specs.Option.{option_map_or}
 use Rattle.xk_types.specs.declared.instr.Instr.{Instr}
-use Rattle.xk_types.specs.declared.names.Event.{Event}
-use Rattle.xk_types.specs.declared.names.Event.TheVariants as event
-use Rattle.xk_types.specs.declared.names.Status.{Status}
-use Rattle.xk_types.specs.declared.names.Status.TheVariants as status
+use Rattle.xk_types.specs.declared.world.Event.{Event}
+use Rattle.xk_types.specs.declared.world.Event.TheVariants as event
+use Rattle.xk_types.specs.declared.world.Status.{Status}
+use Rattle.xk_types.specs.declared.world.Status.TheVariants as status
 use Rattle.xk_types.specs.Code.{ModuleValue, IsWithinLimits}
 use Rattle.xk_types.specs.World.{Activity, World, instruction_at, opening, standing_of}
 use Rattle.xk_types.specs.Step.{Outcome, Blocked, Wrong, Stepped, step, is_registered, is_signalled, settled, moved, none}
 use Rattle.xk_types.specs.Schedule.{IsReached, is_enabled, is_local}
-use Rattle.xk_types.specs.Accepted.{IsAccepted}
-use Rattle.xk_members.specs.Members.{numbers_from}
+use Rattle.xk_types.specs.Acceptance.{IsAccepted}
+use Rattle.xk_collections.specs.NumberSets.{numbers_from}
 use Rattle.xk_activity.specs.declared.frames.Next.{Next}
 use Rattle.xk_activity.specs.declared.frames.Next.TheVariants as next
 use Rattle.xk_activity.specs.Local as frames
-use Rattle.xk_activity.specs.Joined.{frames_in, with_frames}
+use Rattle.xk_activity.specs.StepAgreement.{frames_in, with_frames}
 use Rattle.xk_activity.specs.Activities.{act_at}
-use Rattle.xk_core.specs.Arm.{starts}
+use Rattle.xk_core.specs.InstructionEffect.{starts}
 
 pub record CoreValue : Type 0 where
   pub module_run : ModuleValue

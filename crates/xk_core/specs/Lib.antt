@@ -1,9 +1,9 @@
 pub mod Change
-pub mod Arm
-pub mod Able
+pub mod InstructionEffect
+pub mod Enabledness
 pub mod Core
 pub mod State
-pub mod Stretch
-pub mod Told
-pub mod Reserved
-pub mod Handed
+pub mod LocalRun
+pub mod FinishView
+pub mod Reservation
+pub mod TicketAcceptance

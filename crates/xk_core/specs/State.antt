@@ -1,17 +1,17 @@
 -- The world but for its finishes, as the clauses of its calls see it, and an activity that is to begin in it.
 use Rattle.std.specs.Prelude.{◌≡◌, ℕ, ◌<◌, ◌≤◌, true, List, length}
 use Rattle.xk_types.specs.declared.instr.Instr.TheVariants as instr
-use Rattle.xk_types.specs.declared.names.Value.{Value}
+use Rattle.xk_types.specs.declared.world.Value.{Value}
 use Rattle.xk_types.specs.Code.{ModuleValue}
 use Rattle.xk_types.specs.World.{Activity, World}
 use Rattle.xk_types.specs.Step.{child, is_given}
 use Rattle.xk_types.specs.Schedule.{is_step}
 use Rattle.xk_activity.specs.Activities.{act_at}
-use Rattle.xk_activity.specs.Stacked.{values_at}
-use Rattle.xk_rooms.specs.Rooms.{places_of}
-use Rattle.xk_standings.specs.View.{Registration, held}
-use Rattle.xk_standings.specs.Calls.{IsGiven}
-use Rattle.xk_core.specs.Arm.{carried}
+use Rattle.xk_activity.specs.FrameStack.{values_at}
+use Rattle.xk_laws.specs.ClockRoom.{places_of}
+use Rattle.xk_registrations.specs.View.{Registration, held}
+use Rattle.xk_registrations.specs.RegistrationChanges.{IsGiven}
+use Rattle.xk_core.specs.InstructionEffect.{carried}
 use Rattle.xk_core.specs.Core.{CoreValue}
 
 -- the module, and the world without finishes; what each activity is registered on, and how many activities there is room for

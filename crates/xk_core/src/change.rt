@@ -2,10 +2,10 @@
 
 ghost use Rattle.std.specs.Prelude.{◌≡◌, ◌+◌, ◌<◌, ◌^◌, length, map, All};
 ghost use Rattle.xk_types.specs.Step.{is_registered, settled_clock, moved};
-ghost use Rattle.xk_standings.specs.Told.{told_of, rooms_of, change_on};
+ghost use Rattle.xk_registrations.specs.Standings.{told_of, rooms_of, change_on};
 ghost use Rattle.xk_core.specs.Change.{standing_after, standing_after_step, AllowsChangeOn, AllowsChange};
 
-use xk_standings::{Standings, Which};
+use xk_registrations::{Standings, Which};
 use xk_types::{ClockId, Standing};
 
 /// A change of where an activity stands on one clock.

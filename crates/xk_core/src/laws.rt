@@ -1,6 +1,6 @@
 //! What holds of every schedule of a module that the verifier accepted.
 
-ghost use Rattle.xk_types.specs.Accepted.{EverySchedule};
+ghost use Rattle.xk_types.specs.Acceptance.{EverySchedule};
 ghost use Rattle.xk_types.specs.Kinds.{KindsAreSound};
 
 use xk_bounds::Verified;

@@ -7,13 +7,13 @@ ghost use Rattle.xk_types.specs.Step.{Stepped, step, waits};
 ghost use Rattle.xk_types.specs.Schedule.{IsReached, is_enabled, all_ended};
 ghost use Rattle.xk_types.specs.Bound.{steps_bound};
 ghost use Rattle.xk_core.specs.Core.{is_running, IsBeyond, Locally, next_instruction, next_of, governor, opening_core, StepsTo, WantsMemory, IsCore, IsLeastEnabled, is_quiet, advanced_now, is_held_back_by, is_registered_on, is_next_local, with_world, is_waiting};
-ghost use Rattle.xk_core.specs.Stretch.{RunsTo, AreLocal, IsUnseen, after_steps};
-ghost use Rattle.xk_core.specs.Handed.{Accepts};
+ghost use Rattle.xk_core.specs.LocalRun.{RunsTo, AreLocal, IsUnseen, after_steps};
+ghost use Rattle.xk_core.specs.TicketAcceptance.{Accepts};
 ghost use Rattle.xk_activity.specs.Activities.{act_at};
-ghost use Rattle.xk_activity.specs.Joined.{frames_in};
-ghost use Rattle.xk_core.specs.Able.{is_kept};
-ghost use Rattle.xk_core.specs.Told.{is_end};
-ghost use Rattle.xk_core.specs.Arm.{concerns_finishes, is_visible, IsLast};
+ghost use Rattle.xk_activity.specs.StepAgreement.{frames_in};
+ghost use Rattle.xk_core.specs.Enabledness.{is_kept};
+ghost use Rattle.xk_core.specs.FinishView.{is_end};
+ghost use Rattle.xk_core.specs.InstructionEffect.{concerns_finishes, is_visible, IsLast};
 ghost use Rattle.xk_types.specs.declared.instr.Instr.TheVariants as instruction;
 
 use crate::change::is_registered;
@@ -35,7 +35,7 @@ pub struct Core<'m> {
 
 impl<'m> Model for Core<'m> {
     ghost use Rattle.xk_core.specs.Core.{CoreValue, IsCore};
-    ghost use Rattle.xk_core.specs.Told.{with_finishes, AreTold};
+    ghost use Rattle.xk_core.specs.FinishView.{with_finishes, AreTold};
 
     ghost Value = { CoreValue };
 

@@ -2,7 +2,7 @@
 
 ghost use Rattle.std.specs.Prelude.{◌≡◌, ℕ, ℤ, ◌+◌, ◌<◌, ◌≤◌, ◌^◌, min, true, false, List, Some, length, slice_get, slice_set, option_copied, option_map, is_some, vec_capacity, IfOk, IfSome, OnOk, OnErr, All};
 ghost use Rattle.std.specs.Bool.{Decides};
-ghost use Rattle.xk_types.specs.declared.names.Value.TheVariants as value;
+ghost use Rattle.xk_types.specs.declared.world.Value.TheVariants as value;
 ghost use Rattle.xk_types.specs.declared.instr.Instr.TheVariants as instruction;
 ghost use Rattle.xk_types.specs.Code.{IsWithinLimits};
 ghost use Rattle.xk_types.specs.World.{AreArguments, standing_of, opening};
@@ -11,15 +11,15 @@ ghost use Rattle.xk_types.specs.Schedule.{is_step, all_ended};
 ghost use Rattle.xk_types.specs.Bound.{clocks_bound, stack_of};
 ghost use Rattle.xk_activity.specs.Activities.{act_at, Stands, Takes};
 ghost use Rattle.xk_activity.specs.Local.{IsRight, IsSafe, local, is_stepped};
-ghost use Rattle.xk_activity.specs.Joined.{frames_in};
-ghost use Rattle.xk_rooms.specs.Rooms.{HasRoomLeft};
-ghost use Rattle.xk_core.specs.Stretch.{after_steps, HasRoomForSteps, TakesSteps};
-ghost use Rattle.xk_core.specs.Handed.{Accepts};
-ghost use Rattle.xk_core.specs.Able.{is_able};
+ghost use Rattle.xk_activity.specs.StepAgreement.{frames_in};
+ghost use Rattle.xk_laws.specs.ClockRoom.{HasRoomLeft};
+ghost use Rattle.xk_core.specs.LocalRun.{after_steps, HasRoomForSteps, TakesSteps};
+ghost use Rattle.xk_core.specs.TicketAcceptance.{Accepts};
+ghost use Rattle.xk_core.specs.Enabledness.{is_able};
 ghost use Rattle.xk_core.specs.State.{core_of, IsReady};
 ghost use Rattle.xk_core.specs.Core.{is_quiet, advanced_now, is_held_back_by, is_running, is_waiting, next_instruction, with_world, TakesStep};
 ghost use Rattle.xk_core.specs.Change.{standing_after_step, AllowsChange};
-ghost use Rattle.xk_core.specs.Arm.{concerns_finishes, is_visible, carried, CarriesOut, passed_on, IsRoomy, IsLast};
+ghost use Rattle.xk_core.specs.InstructionEffect.{concerns_finishes, is_visible, carried, CarriesOut, passed_on, IsRoomy, IsLast};
 ghost use Rattle.xk_types.specs.World as world;
 
 use crate::change::{StandingChange, StepChange};
@@ -27,7 +27,7 @@ use std::alloc::{AllocError, Global};
 use std::marker::Model;
 use xk_activity::{Activities, Activity, Frames, Next, Ticket};
 use xk_bounds::Verified;
-use xk_standings::{Registrations, Standings};
+use xk_registrations::{Registrations, Standings};
 use xk_types::{ClockId, Event, Instr, Standing, Status, Value};
 
 /// The module that is run, and the world but for its finishes: activities by their numbers, where they stand on clocks, the shared
@@ -48,8 +48,8 @@ pub struct State<'m> {
 impl<'m> Model for State<'m> {
     ghost use Rattle.std.specs.Prelude.{◌≡◌, length, min};
     ghost use Rattle.xk_core.specs.State.{StateValue};
-    ghost use Rattle.xk_core.specs.Reserved.{AreReserved};
-    ghost use Rattle.xk_standings.specs.Told.{told_of, rooms_of};
+    ghost use Rattle.xk_core.specs.Reservation.{AreReserved};
+    ghost use Rattle.xk_registrations.specs.Standings.{told_of, rooms_of};
 
     ghost Value = { StateValue };
 

@@ -1,8 +1,8 @@
-pub mod Loops
-pub mod Numbers
-pub mod Takes
-pub mod Chains
-pub mod Again
-mod Ended
-mod Whole
-mod Rows
+pub mod LoopLemmas
+pub mod NumberLemmas
+pub mod SoundnessLemmas
+pub mod OperandLoopLemmas
+pub mod CompletenessLemmas
+mod LongestMatchLemmas
+mod ExpressionLemmas
+mod Examples

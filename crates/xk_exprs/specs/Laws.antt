@@ -4,7 +4,7 @@ use Rattle.xk_tree.specs.declared.tree.Number as number
 use Rattle.xk_tree.specs.Tree.{Expression}
 use Rattle.xk_exprs.specs.Marks.{Mark}
 use Rattle.xk_exprs.specs.Spelling.{number_marks, IsNumber, Spells, SpellsTerm, Ends}
-use Rattle.xk_exprs.specs.Exprs.{number_at, whole_at, whole_term_at}
+use Rattle.xk_exprs.specs.ExprReaders.{number_at, whole_at, whole_term_at}
 
 -- an expression that is read is spelled by the tokens taken, and no operator follows
 abbrev pub ExpressionFound : Type 0

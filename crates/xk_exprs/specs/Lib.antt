@@ -1,6 +1,6 @@
 pub mod Marks
 pub mod Faults
-pub mod Readers
+pub mod ReaderCombinators
 pub mod Spelling
-pub mod Exprs
+pub mod ExprReaders
 pub mod Laws

@@ -1,12 +1,12 @@
 -- Tokens as a tree keeps them: with an offset only where a tree has it. This project's own.
 use Rattle.std.specs.Prelude.{ℕ, List, Option, Some, None, map}
-use Rattle.xk_tokens.specs.declared.token.Sign.{Sign}
-use Rattle.xk_tokens.specs.declared.token.Sign.TheVariants as sign
-use Rattle.xk_tokens.specs.declared.token.Keyword.{Keyword}
-use Rattle.xk_tokens.specs.declared.token.Keyword.TheVariants as keyword
-use Rattle.xk_tokens.specs.declared.token.Kind.{Kind}
-use Rattle.xk_tokens.specs.declared.token.Kind.TheVariants as kind
-use Rattle.xk_tokens.specs.declared.token.Token.{Token}
+use Rattle.xk_lexer.specs.declared.token.Sign.{Sign}
+use Rattle.xk_lexer.specs.declared.token.Sign.TheVariants as sign
+use Rattle.xk_lexer.specs.declared.token.Keyword.{Keyword}
+use Rattle.xk_lexer.specs.declared.token.Keyword.TheVariants as keyword
+use Rattle.xk_lexer.specs.declared.token.TokenKind.{TokenKind}
+use Rattle.xk_lexer.specs.declared.token.TokenKind.TheVariants as kind
+use Rattle.xk_lexer.specs.declared.token.Token.{Token}
 use Rattle.xk_tree.specs.declared.tree.Operator.{Operator as Op}
 use Rattle.xk_tree.specs.declared.tree.Operator.TheVariants as operator
 
@@ -46,7 +46,7 @@ keyword_mark at keyword.Clock = ClockAt at
 keyword_mark at keyword.Long = LongAt at
 keyword_mark at k = Reserved k
 
-abbrev pub kind_mark : ℕ → Kind → Mark
+abbrev pub kind_mark : ℕ → TokenKind → Mark
 kind_mark at (kind.Name text) = Name at text.now
 kind_mark at (kind.Keyword k) = keyword_mark at k
 kind_mark at (kind.Number n) = Number at n

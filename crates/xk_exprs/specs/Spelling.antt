@@ -1,6 +1,6 @@
 -- How numbers and expressions are spelled, and within which limits. The numbers called `at` are offsets. Grammar and limits are this project's own.
 use Rattle.std.specs.Prelude.{◌≡◌, ℕ, suc, ◌+◌, ◌^◌, ◌<◌, ◌≤◌, ℤ, pos, neg_ℤ, ◌≤ℤ◌, ◌<ℤ◌, unsigned_abs, List, [], ◌∷◌, ◌++◌, max, Option, Some, None, IsSome}
-use Rattle.xk_tokens.specs.declared.token.Sign.TheVariants as sign
+use Rattle.xk_lexer.specs.declared.token.Sign.TheVariants as sign
 use Rattle.xk_tree.specs.declared.tree.Operator.{Operator as Op}
 use Rattle.xk_tree.specs.declared.tree.Operator.TheVariants as operator
 use Rattle.xk_tree.specs.declared.tree.Number as number

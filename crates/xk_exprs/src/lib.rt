@@ -3,8 +3,8 @@
 
 mod fault;
 pub mod laws;
-pub mod parts;
-mod reading;
+pub mod token_readers;
+mod expressions;
 
 pub use fault::{SyntaxError, SyntaxFault, SyntaxRule};
-pub use reading::{read_expr, read_number, read_term};
+pub use expressions::{read_expr, read_number, read_term};

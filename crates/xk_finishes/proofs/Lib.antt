@@ -1,6 +1,6 @@
-pub mod Activities
-pub mod Counting
-pub mod Kept
-pub mod Open
-pub mod Owners
-pub mod Places
+pub mod ActivityLemmas
+pub mod CounterLemmas
+pub mod CounterStepLemmas
+pub mod OpenFinishLemmas
+pub mod OwnerLemmas
+pub mod CounterListLemmas

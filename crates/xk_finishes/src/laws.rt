@@ -1,7 +1,7 @@
 //! The tree and the steps of a world.
 
 ghost use Rattle.std.specs.Prelude.{◌≡◌, ℕ, ℤ, suc, List, [], ◌∷◌, ◌++◌, Some, slice_get, slice_set};
-ghost use Rattle.xk_types.specs.declared.names.Value.{Value};
+ghost use Rattle.xk_types.specs.declared.world.Value.{Value};
 ghost use Rattle.xk_types.specs.Code.{ModuleValue};
 ghost use Rattle.xk_types.specs.World.{Activity, Finish, root, main_of, is_ended};
 ghost use Rattle.xk_types.specs.Step as step;

@@ -3,12 +3,12 @@ use Rattle.std.specs.Prelude.{◌≡◌, ℕ, ◌+◌, ◌<◌, ◌≤◌, ◌�
 use Rattle.std.specs.Option.{option_map_or}
 use Rattle.xk_types.specs.declared.instr.Instr.{Instr}
 use Rattle.xk_types.specs.declared.instr.Instr.TheVariants as instr
-use Rattle.xk_types.specs.declared.names.Value.{Value}
-use Rattle.xk_types.specs.declared.names.Value.TheVariants as value
-use Rattle.xk_types.specs.declared.names.Status.{Status}
-use Rattle.xk_types.specs.declared.names.Status.TheVariants as status
-use Rattle.xk_types.specs.declared.names.Standing.{Standing}
-use Rattle.xk_types.specs.declared.names.Standing.TheVariants as standing
+use Rattle.xk_types.specs.declared.world.Value.{Value}
+use Rattle.xk_types.specs.declared.world.Value.TheVariants as value
+use Rattle.xk_types.specs.declared.world.Status.{Status}
+use Rattle.xk_types.specs.declared.world.Status.TheVariants as status
+use Rattle.xk_types.specs.declared.world.Standing.{Standing}
+use Rattle.xk_types.specs.declared.world.Standing.TheVariants as standing
 use Rattle.xk_types.specs.declared.rules.Kind.{Kind}
 use Rattle.xk_types.specs.declared.rules.Kind.TheVariants as kind
 use Rattle.xk_types.specs.declared.unit.ParamKind.{ParamKind}
@@ -18,8 +18,8 @@ use Rattle.xk_types.specs.World.{Frame, Activity, Clock, World, standing_of, is_
 use Rattle.xk_types.specs.Step.{is_ready}
 use Rattle.xk_types.specs.Walk.{IsVisited, awake, is_lent}
 pub use Rattle.xk_types.specs.Kinds.{stands_on, kind_by, kind_of}
-pub use Rattle.xk_types.proofs.Lists.{Each}
-use Rattle.xk_laws.proofs.Bound.Turns.{due}
+pub use Rattle.xk_types.proofs.ListLemmas.{Each}
+use Rattle.xk_laws.proofs.BoundLemmas.LoopTurnLemmas.{due}
 use Rattle.xk_types.specs.Bound.{steps_weight, activities_weight, clocks_weight, total, steps_bound, activities_bound, clocks_bound, stack_of, stack_bound}
 
 -- ---- clocks

@@ -1,8 +1,8 @@
-pub mod Devices
-pub mod Texts
-pub mod Lines
-pub mod Numbers
-pub mod Verdicts
-pub mod Taking
-pub mod Reader
-pub mod Rows
+pub mod DeviceLemmas
+pub mod TextLemmas
+pub mod LineLemmas
+pub mod NumberLemmas
+pub mod VerdictLemmas
+pub mod LineReaderLemmas
+pub mod ReaderLemmas
+pub mod Examples

@@ -1,5 +1,5 @@
 pub mod LogText
-pub mod Places
+pub mod Verdicts
 pub mod Writing
 pub mod Numbers
 pub mod Reading

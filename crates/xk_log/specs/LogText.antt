@@ -1,7 +1,7 @@
 -- The text of a log. The format is this project's own.
 use Rattle.std.specs.Prelude.{ℕ, ◌^◌, ◌<◌, ◌≤◌, ◌==◌, Bool, not, IsTrue, List, [], ◌∷◌, ◌++◌, length, flat_map, codes, decimal}
 use Rattle.std.specs.List.{AllByRecursion, list_all}
-use Rattle.xk_types.specs.declared.names.Entry.{Entry}
+use Rattle.xk_types.specs.declared.world.Entry.{Entry}
 
 -- ---- bytes
 

@@ -1,6 +1,6 @@
 -- What reading a log answers. This project's own, as the format is.
 use Rattle.std.specs.Prelude.{◌≡◌, ℕ, ◌<◌, ⊤, List, [], ◌++◌, Result, Ok, Err}
-use Rattle.xk_types.specs.declared.names.Entry.{Entry}
+use Rattle.xk_types.specs.declared.world.Entry.{Entry}
 use Rattle.xk_types.specs.Device.{Rose}
 use Rattle.xk_log.specs.declared.fault.LogFault.{LogFault}
 use Rattle.xk_log.specs.declared.fault.LogFault.TheVariants as fault
@@ -8,7 +8,7 @@ use Rattle.xk_log.specs.declared.progress.Stage.{Stage}
 use Rattle.xk_log.specs.declared.progress.Stage.TheVariants as stage
 use Rattle.xk_log.specs.declared.progress.Progress.{Progress}
 use Rattle.xk_log.specs.LogText.{head_line, entry_line, ended, FitsEntry, IsLog}
-use Rattle.xk_log.specs.Places.{Place, Start, Within, Behind, line_at, Fits, IsWrongAt, Verdict, Whole, Wrong, Cut, Says}
+use Rattle.xk_log.specs.Verdicts.{Place, Start, Within, Behind, line_at, Fits, IsWrongAt, Verdict, Whole, Wrong, Cut, Says}
 
 -- ---- of a text
 

@@ -1,9 +1,9 @@
 //! What is so of the texts of logs: nothing here is computed.
 
 ghost use Rattle.std.specs.Prelude.{◌≡◌, ◌++◌, ℕ, List};
-ghost use Rattle.xk_types.specs.declared.names.Entry.{Entry};
+ghost use Rattle.xk_types.specs.declared.world.Entry.{Entry};
 ghost use Rattle.xk_log.specs.LogText.{log_text, IsLog};
-ghost use Rattle.xk_log.specs.Places.{Verdict, Says};
+ghost use Rattle.xk_log.specs.Verdicts.{Verdict, Says};
 
 /// A text is one log's, or has one first wrong line, or ends too early: never two of these.
 pub fn one_verdict()

@@ -3,14 +3,14 @@
 
 mod fault;
 pub mod laws;
-mod listing;
-mod number;
+mod log;
+mod lines;
 mod page;
 mod progress;
 mod reading;
 mod writing;
 
 pub use fault::{Device, LogFault};
-pub use listing::Log;
+pub use log::Log;
 pub use reading::read_log;
 pub use writing::{write_all, write_entries};

@@ -2,12 +2,12 @@
 
 ghost use Rattle.std.specs.Prelude.{◌≡◌, ◌-◌, ◌≤◌, ◌++◌, length, drop, IsTrue, ◌↔◌, OnOk, IfOk, IfErr};
 ghost use Rattle.xk_log.specs.LogText.{ended};
-ghost use Rattle.xk_log.specs.Places.{Start, before, line_at, IsOneLine};
+ghost use Rattle.xk_log.specs.Verdicts.{Start, before, line_at, IsOneLine};
 ghost use Rattle.xk_log.specs.Reading.{place, Finishes, HasSurplus, IsReady, Refuses, StopsAt};
 
 use crate::fault::LogFault;
-use crate::listing::Log;
-use crate::number::{entry_of, is_end, until};
+use crate::log::Log;
+use crate::lines::{entry_of, is_end, until};
 use std::alloc::Global;
 use xk_types::Entry;
 

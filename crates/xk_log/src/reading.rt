@@ -1,11 +1,11 @@
 //! Reading a log.
 
 ghost use Rattle.std.specs.Prelude.{◌≡◌, ◌≤◌, ◌++◌, length, take, IfOk, IfErr, IfSome, OnOk};
-ghost use Rattle.xk_log.specs.Places.{Verdict, before, IsOneLine, longest_line, Says};
+ghost use Rattle.xk_log.specs.Verdicts.{Verdict, before, IsOneLine, longest_line, Says};
 ghost use Rattle.xk_log.specs.Reading.{place, Answers, CountsDevice, IsNoneBehind, IsReady, StopsAt, Tells};
 
 use crate::fault::LogFault;
-use crate::listing::Log;
+use crate::log::Log;
 use crate::progress::{LONGEST_LINE, Progress};
 use std::alloc::Global;
 use xk_types::Source;

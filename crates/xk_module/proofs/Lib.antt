@@ -1,8 +1,8 @@
-pub mod Lists
-pub mod Loop
-pub mod Parts
-pub mod Instrs
-pub mod Modules
-pub mod Texts
-pub mod Values
-pub mod Vectors
+pub mod JsonListLemmas
+pub mod LoopLemmas
+pub mod ReaderLemmas
+pub mod InstrLemmas
+pub mod ModuleLemmas
+pub mod TextLemmas
+pub mod JsonValueLemmas
+pub mod Examples

@@ -1,4 +1,4 @@
 pub mod Faults
 pub mod ModuleText
-pub mod Named
+pub mod ModuleReader
 pub mod Operands

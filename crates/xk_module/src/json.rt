@@ -2,7 +2,7 @@
 
 ghost use Rattle.std.specs.Prelude.{◌≡◌, option_map};
 ghost use Rattle.serde_json.specs.View.{view};
-ghost use Rattle.xk_module.specs.Named.{views, member_views, array_at, object_at, field_at, end_at, word_at, long_at};
+ghost use Rattle.xk_module.specs.ModuleReader.{views, member_views, array_at, object_at, field_at, end_at, word_at, long_at};
 
 use serde_json::Value;
 use std::collections::btree_map::Iter;
@@ -11,7 +11,7 @@ use std::collections::btree_map::Iter;
 pub(crate) type Members<'a> = Iter<'a, String, Value>;
 
 /// The elements of an array.
-#[tactic(auto, using(crate::proofs::Lists::array_views))]
+#[tactic(auto, using(crate::proofs::JsonListLemmas::array_views))]
 pub(crate) fn array(value: &Value) -> Option<&[Value]>
     ensures { option_map (λ values. views values.now) result ≡ array_at (view value.now) }
 {
@@ -22,7 +22,7 @@ pub(crate) fn array(value: &Value) -> Option<&[Value]>
 }
 
 /// The members of an object.
-#[tactic(auto, using(crate::proofs::Lists::object_views))]
+#[tactic(auto, using(crate::proofs::JsonListLemmas::object_views))]
 pub(crate) fn object(value: &Value) -> Option<Members<'_>>
     ensures { option_map (λ members. member_views members) result ≡ object_at (view value.now) }
 {
@@ -54,7 +54,7 @@ pub(crate) fn end(mut members: Members<'_>) -> Option<()>
 }
 
 /// A whole number from 0 to 65,535.
-#[tactic(auto, unfolding(crate::specs::Named::word_at))]
+#[tactic(auto, unfolding(crate::specs::ModuleReader::word_at))]
 pub(crate) fn word(value: &Value) -> Option<u16>
     ensures { result ≡ word_at (view value.now) }
 {
@@ -65,7 +65,7 @@ pub(crate) fn word(value: &Value) -> Option<u16>
 }
 
 /// A whole number of 64 bits, signed.
-#[tactic(auto, unfolding(crate::specs::Named::long_at))]
+#[tactic(auto, unfolding(crate::specs::ModuleReader::long_at))]
 pub(crate) fn long(value: &Value) -> Option<i64>
     ensures { result ≡ long_at (view value.now) }
 {

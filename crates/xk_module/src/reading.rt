@@ -4,7 +4,7 @@ ghost use Rattle.std.specs.Prelude.{◌≡◌, ◌⊎◌, IsErrOf, Option, codes
 ghost use Rattle.serde_json.specs.Data.{Data};
 ghost use Rattle.serde_json.specs.View.{view};
 ghost use Rattle.xk_types.specs.Code.{module_of};
-ghost use Rattle.xk_module.specs.Named.{Gives, views, each, elements_at, name_and_operands_at, lit_at, comparison_at, unless_at, for_at, forto_at, run_at, instr_of, instr_without_args, instr_of_words, instr_of_none, instr_of_one, instr_of_two, instr_of_three, kind_at, param_at, params_at, unit_members_at, version_at, module_members_at, module_at};
+ghost use Rattle.xk_module.specs.ModuleReader.{Gives, views, each, elements_at, name_and_operands_at, lit_at, comparison_at, unless_at, for_at, forto_at, run_at, instr_of, instr_without_args, instr_of_words, instr_of_none, instr_of_one, instr_of_two, instr_of_three, kind_at, param_at, params_at, unit_members_at, version_at, module_members_at, module_at};
 
 use crate::fault::Refusal;
 use crate::json::{array, end, field, long, object, word};
@@ -42,7 +42,7 @@ fn elements<T: Named>(alloc: Global, value: &Value) -> Result<Vec<T>, Refusal>
 }
 
 impl Named for i64 {
-    ghost use Rattle.xk_module.specs.Named.{long_at};
+    ghost use Rattle.xk_module.specs.ModuleReader.{long_at};
 
     ghost named = { long_at };
 
@@ -52,7 +52,7 @@ impl Named for i64 {
 }
 
 impl Named for u16 {
-    ghost use Rattle.xk_module.specs.Named.{word_at};
+    ghost use Rattle.xk_module.specs.ModuleReader.{word_at};
 
     ghost named = { word_at };
 
@@ -62,11 +62,11 @@ impl Named for u16 {
 }
 
 impl Named for Instr {
-    ghost use Rattle.xk_module.specs.Named.{instr_at};
+    ghost use Rattle.xk_module.specs.ModuleReader.{instr_at};
 
     ghost named = { instr_at };
 
-    #[tactic(auto, unfolding(crate::specs::Named::instr_at))]
+    #[tactic(auto, unfolding(crate::specs::ModuleReader::instr_at))]
     fn read(alloc: Global, value: &Value) -> Result<Instr, Refusal> {
         let (name, operands) = name_and_operands(value).ok_or(Refusal::Unfit)?;
         instr(alloc, name, operands)
@@ -74,11 +74,11 @@ impl Named for Instr {
 }
 
 impl Named for Unit {
-    ghost use Rattle.xk_module.specs.Named.{unit_at};
+    ghost use Rattle.xk_module.specs.ModuleReader.{unit_at};
 
     ghost named = { unit_at };
 
-    #[tactic(auto, unfolding(crate::specs::Named::unit_at, crate::specs::Named::code_at))]
+    #[tactic(auto, unfolding(crate::specs::ModuleReader::unit_at, crate::specs::ModuleReader::code_at))]
     fn read(alloc: Global, value: &Value) -> Result<Unit, Refusal> {
         let (code, kind, params, slots) = unit_members(value).ok_or(Refusal::Unfit)?;
         let kind = unit_kind(kind).ok_or(Refusal::Unfit)?;
@@ -95,7 +95,7 @@ impl Named for Unit {
 }
 
 /// What an instruction's array has inside.
-#[tactic(auto, unfolding(crate::specs::Named::name_and_operands_at))]
+#[tactic(auto, unfolding(crate::specs::ModuleReader::name_and_operands_at))]
 fn name_and_operands(value: &Value) -> Option<(&str, &[Value])>
     ensures { option_map (λ parts. (parts.0.now, views parts.1.now)) result ≡
         name_and_operands_at (view value.now) }
@@ -105,7 +105,7 @@ fn name_and_operands(value: &Value) -> Option<(&str, &[Value])>
 }
 
 /// The instruction of this name with these operands.
-#[tactic(auto, unfolding(crate::specs::Named::instr_of))]
+#[tactic(auto, unfolding(crate::specs::ModuleReader::instr_of))]
 fn instr(alloc: Global, name: &str, operands: &[Value]) -> Result<Instr, Refusal>
     ensures given { Gives (λ x. x) result (instr_of name.now (views operands.now)) }
     ensures memory { IsErrOf result Refusal.Memory
@@ -119,7 +119,7 @@ fn instr(alloc: Global, name: &str, operands: &[Value]) -> Result<Instr, Refusal
 }
 
 /// The same of an instruction that runs no unit.
-#[tactic(auto, unfolding(crate::specs::Named::instr_without_args))]
+#[tactic(auto, unfolding(crate::specs::ModuleReader::instr_without_args))]
 fn instr_without_args(name: &str, operands: &[Value]) -> Option<Instr>
     ensures { result ≡ instr_without_args name.now (views operands.now) }
 {
@@ -139,7 +139,7 @@ fn instr_without_args(name: &str, operands: &[Value]) -> Option<Instr>
 }
 
 /// The same of an instruction whose operands are all slots, shared numbers or places.
-#[tactic(auto, unfolding(crate::specs::Named::instr_of_words))]
+#[tactic(auto, unfolding(crate::specs::ModuleReader::instr_of_words))]
 fn instr_of_words(name: &str, operands: &[Value]) -> Option<Instr>
     ensures { result ≡ instr_of_words name.now (views operands.now) }
 {
@@ -153,7 +153,7 @@ fn instr_of_words(name: &str, operands: &[Value]) -> Option<Instr>
 }
 
 /// The instruction of this name that has no operand.
-#[tactic(auto, unfolding(crate::specs::Named::instr_of_none))]
+#[tactic(auto, unfolding(crate::specs::ModuleReader::instr_of_none))]
 fn instr_of_none(name: &str) -> Option<Instr>
     ensures { result ≡ instr_of_none name.now }
 {
@@ -165,7 +165,7 @@ fn instr_of_none(name: &str) -> Option<Instr>
 }
 
 /// The instruction of this name with this slot or place.
-#[tactic(auto, unfolding(crate::specs::Named::instr_of_one))]
+#[tactic(auto, unfolding(crate::specs::ModuleReader::instr_of_one))]
 fn instr_of_one(name: &str, x: u16) -> Option<Instr>
     ensures { result ≡ instr_of_one name.now x }
 {
@@ -183,7 +183,7 @@ fn instr_of_one(name: &str, x: u16) -> Option<Instr>
 }
 
 /// The instruction of this name with these two slots, or with a slot and a shared number.
-#[tactic(auto, unfolding(crate::specs::Named::instr_of_two))]
+#[tactic(auto, unfolding(crate::specs::ModuleReader::instr_of_two))]
 fn instr_of_two(name: &str, x: u16, y: u16) -> Option<Instr>
     ensures { result ≡ instr_of_two name.now x y }
 {
@@ -197,7 +197,7 @@ fn instr_of_two(name: &str, x: u16, y: u16) -> Option<Instr>
 }
 
 /// The instruction of this name with these slots.
-#[tactic(auto, unfolding(crate::specs::Named::instr_of_three))]
+#[tactic(auto, unfolding(crate::specs::ModuleReader::instr_of_three))]
 fn instr_of_three(name: &str, d: u16, a: u16, b: u16) -> Option<Instr>
     ensures { result ≡ instr_of_three name.now d a b }
 {
@@ -209,7 +209,7 @@ fn instr_of_three(name: &str, d: u16, a: u16, b: u16) -> Option<Instr>
     }
 }
 
-#[tactic(auto, unfolding(crate::specs::Named::lit_at))]
+#[tactic(auto, unfolding(crate::specs::ModuleReader::lit_at))]
 fn slot_and_number(operands: &[Value]) -> Option<(u16, i64)>
     ensures { result ≡ lit_at (views operands.now) }
 {
@@ -219,7 +219,7 @@ fn slot_and_number(operands: &[Value]) -> Option<(u16, i64)>
     }
 }
 
-#[tactic(auto, unfolding(crate::specs::Named::comparison_at))]
+#[tactic(auto, unfolding(crate::specs::ModuleReader::comparison_at))]
 fn comparison(value: &Value) -> Option<Comparison>
     ensures { result ≡ comparison_at (view value.now) }
 {
@@ -235,7 +235,7 @@ fn comparison(value: &Value) -> Option<Comparison>
 }
 
 /// A comparison, two slots and a place.
-#[tactic(auto, unfolding(crate::specs::Named::unless_at))]
+#[tactic(auto, unfolding(crate::specs::ModuleReader::unless_at))]
 fn compared_slots(operands: &[Value]) -> Option<(Comparison, u16, u16, u16)>
     ensures { result ≡ unless_at (views operands.now) }
 {
@@ -246,7 +246,7 @@ fn compared_slots(operands: &[Value]) -> Option<(Comparison, u16, u16, u16)>
 }
 
 /// A slot, two bounds and a place.
-#[tactic(auto, unfolding(crate::specs::Named::for_at))]
+#[tactic(auto, unfolding(crate::specs::ModuleReader::for_at))]
 fn slot_and_bounds(operands: &[Value]) -> Option<(u16, i64, i64, u16)>
     ensures { result ≡ for_at (views operands.now) }
 {
@@ -257,7 +257,7 @@ fn slot_and_bounds(operands: &[Value]) -> Option<(u16, i64, i64, u16)>
 }
 
 /// A slot, a bound, the slot of a limit, a bound and a place.
-#[tactic(auto, unfolding(crate::specs::Named::forto_at))]
+#[tactic(auto, unfolding(crate::specs::ModuleReader::forto_at))]
 fn slot_bounds_and_limit(operands: &[Value]) -> Option<(u16, i64, u16, i64, u16)>
     ensures { result ≡ forto_at (views operands.now) }
 {
@@ -268,7 +268,7 @@ fn slot_bounds_and_limit(operands: &[Value]) -> Option<(u16, i64, u16, i64, u16)
 }
 
 /// A unit that is run, and its arguments.
-#[tactic(auto, unfolding(crate::specs::Named::run_at))]
+#[tactic(auto, unfolding(crate::specs::ModuleReader::run_at))]
 fn unit_and_args(alloc: Global, operands: &[Value]) -> Result<(u16, Args), Refusal>
     ensures given { Gives (λ x. x) result (run_at (views operands.now)) }
     ensures memory { IsErrOf result Refusal.Memory → length operands.now ≡ 2 }
@@ -282,7 +282,7 @@ fn unit_and_args(alloc: Global, operands: &[Value]) -> Result<(u16, Args), Refus
     }
 }
 
-#[tactic(auto, unfolding(crate::specs::Named::kind_at))]
+#[tactic(auto, unfolding(crate::specs::ModuleReader::kind_at))]
 fn unit_kind(value: &Value) -> Option<UnitKind>
     ensures { result ≡ kind_at (view value.now) }
 {
@@ -295,7 +295,7 @@ fn unit_kind(value: &Value) -> Option<UnitKind>
 }
 
 /// The kinds of parameters that a text's letters stand for.
-#[tactic(auto, unfolding(crate::specs::Named::params_at))]
+#[tactic(auto, unfolding(crate::specs::ModuleReader::params_at))]
 fn param_kinds(alloc: Global, value: &Value) -> Result<Vec<ParamKind>, Refusal>
     ensures { Gives (λ kinds. kinds.items) result (params_at (view value.now)) }
 {
@@ -318,7 +318,7 @@ fn param_kind(letter: u8) -> Option<ParamKind>
 }
 
 /// The values of a unit's members, in the order of their keys.
-#[tactic(auto, unfolding(crate::specs::Named::unit_members_at))]
+#[tactic(auto, unfolding(crate::specs::ModuleReader::unit_members_at))]
 fn unit_members(value: &Value) -> Option<(&Value, &Value, &Value, &Value)>
     ensures { option_map (λ m. (view m.0.now, view m.1.now, view m.2.now, view m.3.now)) result ≡
         unit_members_at (view value.now) }
@@ -333,7 +333,7 @@ fn unit_members(value: &Value) -> Option<(&Value, &Value, &Value, &Value)>
 }
 
 /// The version of this number.
-#[tactic(auto, unfolding(crate::specs::Named::version_at))]
+#[tactic(auto, unfolding(crate::specs::ModuleReader::version_at))]
 fn version(value: &Value) -> Option<Version>
     ensures { result ≡ version_at (view value.now) }
 {
@@ -345,7 +345,7 @@ fn version(value: &Value) -> Option<Version>
 }
 
 /// The values of a module's members, the version as what it is.
-#[tactic(auto, unfolding(crate::specs::Named::module_members_at))]
+#[tactic(auto, unfolding(crate::specs::ModuleReader::module_members_at))]
 fn module_members(value: &Value) -> Option<(&Value, &Value, Version)>
     ensures { option_map (λ m. (view m.0.now, view m.1.now, m.2)) result ≡
         module_members_at (view value.now) }
@@ -359,7 +359,7 @@ fn module_members(value: &Value) -> Option<(&Value, &Value, Version)>
 }
 
 /// The shared numbers and the units of a module.
-#[tactic(auto, unfolding(crate::specs::Named::module_at, crate::specs::Named::shared_at, crate::specs::Named::units_at))]
+#[tactic(auto, unfolding(crate::specs::ModuleReader::module_at, crate::specs::ModuleReader::shared_at, crate::specs::ModuleReader::units_at))]
 pub(crate) fn module(alloc: Global, value: &Value) -> Result<(Vec<i64>, Vec<Unit>), Refusal>
     ensures { Gives (λ x. module_of x.0.items x.1.items) result (module_at (view value.now)) }
 {

@@ -1,29 +1,29 @@
-pub mod Tables
-pub mod Least
-pub mod Taken
-pub mod Turns
-pub mod Calls
-pub mod Cuts
-pub mod Steps
-pub mod Among
-pub mod Agreement
-pub mod Captured
-pub mod Own
-pub mod OwnSame
-pub mod Walked
-pub mod Whole
-pub mod Called
-pub mod Outside
-pub mod Reported
-pub mod Answered
-pub mod ScopedLaw
-mod Rows
-mod CaptureRows
-pub mod Loops
-pub mod FreeWords
-mod FreeRows
-pub mod FreeWalk
-pub mod FreePlaces
-pub mod FreeStart
-pub mod FreeLists
-pub mod FreeLaw
+pub mod TableLemmas
+pub mod FaultAppendLemmas
+pub mod CaptureStepLemmas
+pub mod ArgumentLoopLemmas
+pub mod CallFaultLemmas
+pub mod ScopeCutLemmas
+pub mod StatementSequenceLemmas
+pub mod MembershipLemmas
+pub mod TableAgreementLemmas
+pub mod CaptureLemmas
+pub mod StatementFaultLemmas
+pub mod StatementAgreementLemmas
+pub mod MethodFaultLemmas
+pub mod TreeFaultLemmas
+pub mod SignatureLemmas
+pub mod CaptureVisibilityLemmas
+pub mod LeastFaultLemmas
+pub mod ProgramFaultLemmas
+pub mod WellScopedLaw
+mod Examples
+mod CaptureExamples
+pub mod LoopScopeLemmas
+pub mod FreeUseLemmas
+mod FreeVariableExamples
+pub mod FreeStatementLemmas
+pub mod FreePlaceLemmas
+pub mod FreeBodyStartLemmas
+pub mod TextSetLemmas
+pub mod FreeVariablesLaw

@@ -8,7 +8,7 @@ use Rattle.xk_tree.specs.Tree.{Word, Expression, Literal, Named, Paren, Negation
 use Rattle.xk_names.specs.Scope.{find, has}
 use Rattle.xk_names.specs.Uses.{Signatures, given_to}
 use Rattle.xk_names.specs.Places.{behind}
-use Rattle.xk_names.specs.Collected.{put_texts}
+use Rattle.xk_names.specs.FaultList.{put_texts}
 
 -- the names of an expression, in the order of the text
 abbrev pub number_words : Expression → List Word

@@ -8,9 +8,9 @@ use Rattle.xk_tree.specs.declared.fault.FrontRule.TheVariants as rule
 use Rattle.xk_tree.specs.declared.fault.FrontFault.{FrontFault}
 use Rattle.xk_tree.specs.Fault.{front_number}
 use Rattle.xk_tree.specs.Tree.{Word, Expression, Statement, ParamValue, MethodValue, SharedValue, TreeValue}
-use Rattle.xk_names.specs.declared.known.Known.{Known}
-use Rattle.xk_names.specs.declared.known.Kind.{Kind}
-use Rattle.xk_names.specs.declared.known.Kind.TheVariants as kind
+use Rattle.xk_names.specs.declared.binding.Known.{Known}
+use Rattle.xk_names.specs.declared.binding.NameKind.{NameKind}
+use Rattle.xk_names.specs.declared.binding.NameKind.TheVariants as kind
 use Rattle.xk_names.specs.Scope.{find, has, texts, Has, Declaration, declared, entries, Scope, sees, fits}
 use Rattle.xk_names.specs.Uses.{Use, Signatures, signatures, uses, declares, misfits, clocks_given, calls}
 use Rattle.xk_names.specs.Places.{Way, StandsAmong, declared_among, bodies_among}
@@ -53,7 +53,7 @@ pub data Breaks (ms : Signatures) (sc : Scope) (t : Statement) (f : FrontFault) 
 abbrev pub shared_declaration : SharedValue → Declaration
 shared_declaration s = declared s.name kind.Shared 0
 
-abbrev pub param_kind : ParamKind → Kind
+abbrev pub param_kind : ParamKind → NameKind
 param_kind param.Number = kind.Val
 param_kind param.Clock = kind.Clock
 

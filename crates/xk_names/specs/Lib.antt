@@ -2,9 +2,9 @@ pub mod Scope
 pub mod Uses
 pub mod Places
 pub mod Faults
-pub mod Collected
-pub mod Given
-pub mod Scoped
+pub mod FaultList
+pub mod StatementParts
+pub mod WellScoped
 pub mod Captures
-pub mod Free
-pub mod Placed
+pub mod FreeVariables
+pub mod TablePlaces

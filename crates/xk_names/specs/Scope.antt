@@ -3,11 +3,11 @@ use Rattle.std.specs.Prelude.{◌≡◌, ◌⊎◌, ℕ, nat_eq, Bool, true, fal
 use Rattle.std.specs.List.{list_any}
 use Rattle.std.specs.Cmp.Lexicographic.{pointwise}
 use Rattle.std.specs.Map.{lookup}
-use Rattle.xk_names.specs.declared.known.Known.{Known}
-use Rattle.xk_names.specs.declared.known.Kind.{Kind}
-use Rattle.xk_names.specs.declared.known.Kind.TheVariants as kind
-use Rattle.xk_names.specs.declared.known.Want.{Want}
-use Rattle.xk_names.specs.declared.known.Want.TheVariants as want
+use Rattle.xk_names.specs.declared.binding.Known.{Known}
+use Rattle.xk_names.specs.declared.binding.NameKind.{NameKind}
+use Rattle.xk_names.specs.declared.binding.NameKind.TheVariants as kind
+use Rattle.xk_names.specs.declared.binding.Want.{Want}
+use Rattle.xk_names.specs.declared.binding.Want.TheVariants as want
 use Rattle.xk_tree.specs.Tree.{Word}
 
 -- two texts are the same
@@ -36,10 +36,10 @@ pub record Declaration : Type 0 where
   pub name : Word
   pub known : Known
 
-abbrev pub known : Kind → ℕ → Known
+abbrev pub known : NameKind → ℕ → Known
 known k n = record { kind = k; depth = n }
 
-abbrev pub declared : Word → Kind → ℕ → Declaration
+abbrev pub declared : Word → NameKind → ℕ → Declaration
 declared w k n = record { name = w; known = known k n }
 
 abbrev pub entry : Declaration → List ℕ × Known
@@ -71,7 +71,7 @@ abbrev pub is_given : Scope → List ℕ → Bool
 is_given sc = has_first sc.bodies
 
 -- Numbers that stay, and shared numbers, are seen in all bodies further in, a `var` only in its own; a clock also where it is given.
-abbrev pub sees_as : Kind → Scope → List ℕ → Known → Bool
+abbrev pub sees_as : NameKind → Scope → List ℕ → Known → Bool
 sees_as kind.Shared sc x k = true
 sees_as kind.Val sc x k = true
 sees_as kind.Var sc x k = is_own sc k
@@ -80,38 +80,38 @@ sees_as kind.Clock sc x k = is_own sc k || is_given sc x
 abbrev pub sees : Scope → List ℕ → Known → Bool
 sees sc x k = sees_as k.kind sc x k
 
-abbrev pub is_number : Kind → Bool
+abbrev pub is_number : NameKind → Bool
 is_number kind.Val = true
 is_number kind.Var = true
 is_number kind.Shared = false
 is_number kind.Clock = false
 
-abbrev pub is_readable : Kind → Bool
+abbrev pub is_readable : NameKind → Bool
 is_readable kind.Val = true
 is_readable kind.Var = true
 is_readable kind.Shared = true
 is_readable kind.Clock = false
 
-abbrev pub is_clock : Kind → Bool
+abbrev pub is_clock : NameKind → Bool
 is_clock kind.Clock = true
 is_clock kind.Val = false
 is_clock kind.Var = false
 is_clock kind.Shared = false
 
-abbrev pub is_assigned : Kind → Bool
+abbrev pub is_assigned : NameKind → Bool
 is_assigned kind.Var = true
 is_assigned kind.Shared = true
 is_assigned kind.Val = false
 is_assigned kind.Clock = false
 
-abbrev pub is_shared : Kind → Bool
+abbrev pub is_shared : NameKind → Bool
 is_shared kind.Shared = true
 is_shared kind.Val = false
 is_shared kind.Var = false
 is_shared kind.Clock = false
 
 -- a name of this kind may stand where that is wanted
-abbrev pub fits : Want → Kind → Bool
+abbrev pub fits : Want → NameKind → Bool
 fits want.Number = is_number
 fits want.Readable = is_readable
 fits want.Clock = is_clock

@@ -9,11 +9,11 @@ use Rattle.xk_tree.specs.declared.tree.Binding.TheVariants as binding
 use Rattle.xk_tree.specs.declared.tree.TypeName.{TypeName}
 use Rattle.xk_tree.specs.declared.tree.Number.{Number}
 use Rattle.xk_tree.specs.Tree.{Word, Clocks, Expression, Literal, Named, Paren, Negation, Binary, Source, Make, Value, Bound, UpTo, Least, ParamValue, MethodValue, Statement, Declare, Assign, Atomic, If, IfElse, For, Async, Call, Resume, Drop, Print}
-use Rattle.xk_names.specs.declared.known.Known.{Known}
-use Rattle.xk_names.specs.declared.known.Kind.{Kind}
-use Rattle.xk_names.specs.declared.known.Kind.TheVariants as kind
-use Rattle.xk_names.specs.declared.known.Want.{Want}
-use Rattle.xk_names.specs.declared.known.Want.TheVariants as want
+use Rattle.xk_names.specs.declared.binding.Known.{Known}
+use Rattle.xk_names.specs.declared.binding.NameKind.{NameKind}
+use Rattle.xk_names.specs.declared.binding.NameKind.TheVariants as kind
+use Rattle.xk_names.specs.declared.binding.Want.{Want}
+use Rattle.xk_names.specs.declared.binding.Want.TheVariants as want
 use Rattle.xk_names.specs.Scope.{Table, find, is_text, Declaration, declared}
 
 -- a name that is used, and what it is used as
@@ -130,7 +130,7 @@ uses ms names (Drop c v) = use_as want.Clock c ∷ []
 uses ms names (Print at v e) = numbers e
 uses ms names _ = []
 
-abbrev pub kind_of : Binding → Source → Kind
+abbrev pub kind_of : Binding → Source → NameKind
 kind_of b (Make at v) = kind.Clock
 kind_of binding.Val (Value e) = kind.Val
 kind_of binding.Var (Value e) = kind.Var

@@ -6,15 +6,15 @@ ghost use Rattle.xk_tree.specs.Tree.{expression, expressions, param_value, word,
 ghost use Rattle.xk_names.specs.Faults.{fault};
 ghost use Rattle.xk_names.specs.Scope.{find, has};
 ghost use Rattle.xk_names.specs.Uses.{argument_clocks, argument_misfits, argument_uses, given, use_as};
-ghost use Rattle.xk_names.specs.Collected.{least, put_text, put_texts, repeats, use_faults, when};
-ghost use Rattle.xk_names.specs.Given.{arguments, call_all};
+ghost use Rattle.xk_names.specs.FaultList.{least, put_text, put_texts, repeats, use_faults, when};
+ghost use Rattle.xk_names.specs.StatementParts.{arguments, call_all};
 
 use crate::exprs::{check_numbers, check_use, start_of};
-use crate::known::Want;
+use crate::binding::Want;
 use crate::methods::Methods;
 use crate::scope::Scope;
 use crate::table::Texts;
-use crate::worst::{note, note_if};
+use crate::least_fault::{note, note_if};
 use std::alloc::{AllocError, Global};
 use xk_tree::{Expr, FrontFault, FrontRule, Name, Param};
 use xk_types::ParamKind;

@@ -4,11 +4,11 @@ ghost use Rattle.std.specs.Prelude.{◌≡◌};
 ghost use Rattle.std.specs.List.{flat_map};
 ghost use Rattle.xk_tree.specs.Tree.{expression, word};
 ghost use Rattle.xk_names.specs.Uses.{numbers, start_of, use_as, values};
-ghost use Rattle.xk_names.specs.Collected.{least, use_faults};
+ghost use Rattle.xk_names.specs.FaultList.{least, use_faults};
 
-use crate::known::Want;
+use crate::binding::Want;
 use crate::scope::Scope;
-use crate::worst::{note, note_if};
+use crate::least_fault::{note, note_if};
 use xk_tree::{Expr, FrontFault, FrontRule, Name};
 
 // A name that is used.

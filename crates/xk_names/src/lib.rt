@@ -1,21 +1,21 @@
 //! The faults of names that a source tree may have.
-#![tactic(auto, using(crate::proofs::Least::least_append, crate::proofs::Least::least_uses, crate::proofs::Least::least_misfits, crate::proofs::Least::least_repeats, crate::proofs::Least::put_texts_append))]
+#![tactic(auto, using(crate::proofs::FaultAppendLemmas::least_append, crate::proofs::FaultAppendLemmas::least_uses, crate::proofs::FaultAppendLemmas::least_misfits, crate::proofs::FaultAppendLemmas::least_repeats, crate::proofs::FaultAppendLemmas::put_texts_append))]
 
 mod arguments;
-mod check;
+mod statement_walk;
 mod exprs;
-mod known;
+mod binding;
 pub mod laws;
 mod methods;
-mod outer;
+mod capture;
 mod program;
 mod scope;
-mod statement;
+mod statement_rules;
 mod table;
-mod worst;
+mod least_fault;
 
-pub use known::{Kind, Known, Want};
+pub use binding::{NameKind, Known, Want};
 pub use methods::Methods;
-pub use outer::captures;
+pub use capture::captures;
 pub use program::{check_names, methods_of};
 pub use table::Table;

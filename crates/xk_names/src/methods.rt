@@ -4,7 +4,7 @@ ghost use Rattle.std.specs.Prelude.{◌≡◌, [], map, option_map, OnErr, OnOk}
 ghost use Rattle.xk_tree.specs.Tree.{param_value};
 ghost use Rattle.xk_names.specs.Scope.{find};
 ghost use Rattle.xk_names.specs.Uses.{Signatures};
-ghost use Rattle.xk_names.specs.Collected.{put};
+ghost use Rattle.xk_names.specs.FaultList.{put};
 
 use crate::table::Table;
 use std::alloc::{AllocError, Global};

@@ -6,16 +6,16 @@ ghost use Rattle.xk_tree.specs.Program.{tree_value};
 ghost use Rattle.std.specs.List.{flat_map, list_any};
 ghost use Rattle.xk_names.specs.Scope.{declared, find};
 ghost use Rattle.xk_names.specs.Faults.{HasFault, IsReported, MayBegin, param_declaration, param_kind, shared_declaration, wants_clock};
-ghost use Rattle.xk_names.specs.Scoped.{IsScoped};
+ghost use Rattle.xk_names.specs.WellScoped.{IsScoped};
 ghost use Rattle.xk_names.specs.Uses.{signatures};
-ghost use Rattle.xk_names.specs.Collected.{again, declared_again, least, method_faults, methods_again, name_faults, put_methods, with_declared};
+ghost use Rattle.xk_names.specs.FaultList.{again, declared_again, least, method_faults, methods_again, name_faults, put_methods, with_declared};
 
-use crate::check::check_block;
-use crate::known::Kind;
+use crate::statement_walk::check_block;
+use crate::binding::NameKind;
 use crate::methods::Methods;
 use crate::scope::Scope;
-use crate::statement::check_new;
-use crate::worst::note_if;
+use crate::statement_rules::check_new;
+use crate::least_fault::note_if;
 use std::alloc::{AllocError, Global};
 use xk_tree::{FrontError, FrontFault, FrontRule, Method, Name, Param, Shared, Tree};
 use xk_types::ParamKind;
@@ -25,7 +25,7 @@ fn declare_outside<'t>(
     worst: &mut Option<FrontFault>,
     scope: &mut Scope<'t>,
     name: Name<'t>,
-    kind: Kind,
+    kind: NameKind,
 ) -> Result<(), AllocError>
     requires { scope.old.bodies ≡ [] }
     ensures faults { OnOk result (worst.new ≡ least worst.old
@@ -50,17 +50,17 @@ fn declare_shared<'t>(
         (map shared_declaration (map shared_value shared.now))) }
 {
     for number in shared {
-        declare_outside(worst, scope, number.name, Kind::Shared)?;
+        declare_outside(worst, scope, number.name, NameKind::Shared)?;
     }
     Ok(())
 }
 
-fn kind_of(takes: ParamKind) -> Kind
+fn kind_of(takes: ParamKind) -> NameKind
     ensures { result ≡ param_kind takes }
 {
     match takes {
-        ParamKind::Number => Kind::Val,
-        ParamKind::Clock => Kind::Clock,
+        ParamKind::Number => NameKind::Val,
+        ParamKind::Clock => NameKind::Clock,
     }
 }
 

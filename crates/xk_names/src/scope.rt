@@ -3,26 +3,26 @@
 ghost use Rattle.std.specs.Prelude.{◌≡◌, ℕ, List, [], ◌∷◌, length, OnOk};
 ghost use Rattle.xk_tree.specs.Tree.{Statements, word};
 ghost use Rattle.xk_names.specs.Scope.{Declaration, Scope as Seen, declared, find, fits, is_given, sees};
-ghost use Rattle.xk_names.specs.Collected.{after, with_clocks, with_declared};
+ghost use Rattle.xk_names.specs.FaultList.{after, with_clocks, with_declared};
 
-use crate::known::{Kind, Known, Want};
+use crate::binding::{NameKind, Known, Want};
 use crate::table::{Table, Texts};
 use std::alloc::{AllocError, Global};
 use std::collections::VecDeque;
 use std::marker::Model;
 use xk_tree::Name;
 
-impl Kind {
+impl NameKind {
     // Whether a name of this kind may stand where that is wanted.
     pub fn fits(self, want: Want) -> bool
         ensures { result ≡ fits want self }
     {
         match want {
-            Want::Number => matches!(self, Kind::Val | Kind::Var),
-            Want::Readable => !matches!(self, Kind::Clock),
-            Want::Clock => matches!(self, Kind::Clock),
-            Want::Assigned => matches!(self, Kind::Var | Kind::Shared),
-            Want::Shared => matches!(self, Kind::Shared),
+            Want::Number => matches!(self, NameKind::Val | NameKind::Var),
+            Want::Readable => !matches!(self, NameKind::Clock),
+            Want::Clock => matches!(self, NameKind::Clock),
+            Want::Assigned => matches!(self, NameKind::Var | NameKind::Shared),
+            Want::Shared => matches!(self, NameKind::Shared),
         }
     }
 }
@@ -77,15 +77,15 @@ impl<'t> Scope<'t> {
         ensures { result ≡ sees self.now text.now known }
     {
         match known.kind {
-            Kind::Shared => true,
-            Kind::Val => true,
-            Kind::Var => known.depth == self.bodies.len(),
-            Kind::Clock => known.depth == self.bodies.len() || self.is_given(text),
+            NameKind::Shared => true,
+            NameKind::Val => true,
+            NameKind::Var => known.depth == self.bodies.len(),
+            NameKind::Clock => known.depth == self.bodies.len() || self.is_given(text),
         }
     }
 
     // Declares a name, unless one of the same text is visible.
-    pub fn declare(&mut self, name: Name<'t>, kind: Kind) -> Result<(), AllocError>
+    pub fn declare(&mut self, name: Name<'t>, kind: NameKind) -> Result<(), AllocError>
         ensures { OnOk result (self.new ≡ with_declared self.old
             (declared (word name.entry) kind (length self.old.bodies) ∷ [])) }
     {

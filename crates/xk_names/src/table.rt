@@ -4,8 +4,8 @@ ghost use Rattle.std.specs.Prelude.{◌≡◌, ℕ, List, [], map, take, length,
 ghost use Rattle.xk_names.specs.Scope.{Table as Entries, find, has};
 ghost use Rattle.xk_tree.specs.Tree.{Statements, Word};
 ghost use Rattle.xk_names.specs.Captures.{own_after};
-ghost use Rattle.xk_names.specs.Collected.{put, put_text, put_texts};
-ghost use Rattle.xk_names.specs.Placed.{ArePlaces};
+ghost use Rattle.xk_names.specs.FaultList.{put, put_text, put_texts};
+ghost use Rattle.xk_names.specs.TablePlaces.{ArePlaces};
 
 use std::alloc::{AllocError, Global};
 use std::collections::BTreeMap;

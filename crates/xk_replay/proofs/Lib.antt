@@ -1,5 +1,5 @@
-pub mod Again
-pub mod Lines
-pub mod ChartRows
-pub mod Written
-pub mod Verdicts
+pub mod ReplayLemmas
+pub mod ChartLineLemmas
+pub mod ChartExamples
+pub mod RunLogLemmas
+pub mod VerdictLemmas

@@ -2,14 +2,14 @@
 -- own.
 use Rattle.std.specs.Prelude.{◌≡◌, ℕ, ℤ, List, [], ◌∷◌, ◌++◌, length, map, filter, flat_map, slice_get, codes, decimal}
 use Rattle.std.specs.Option.{option_map_or}
-use Rattle.xk_types.specs.declared.names.Entry.{Entry}
+use Rattle.xk_types.specs.declared.world.Entry.{Entry}
 use Rattle.xk_types.specs.Code.{ModuleValue}
 use Rattle.xk_types.specs.World.{World, opening}
 use Rattle.xk_types.specs.Step.{Outcome, Blocked, Wrong, Stepped, step}
 use Rattle.xk_types.specs.Schedule.{Through, run}
 use Rattle.xk_types.specs.Logs.{schedule_of}
 use Rattle.xk_core.specs.Core.{CoreValue, advanced_now, is_registered_on}
-use Rattle.xk_members.specs.Members.{numbers_from}
+use Rattle.xk_collections.specs.NumberSets.{numbers_from}
 
 -- an advance of a clock: the step in which it came, counted from 1, the clock, its phase from then on, and who is registered on it behind
 -- that step, rising

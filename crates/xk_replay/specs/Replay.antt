@@ -1,6 +1,6 @@
 -- Logs that are played again. That a run is written down, and played again from what was written, is this project's own.
 use Rattle.std.specs.Prelude.{◌≡◌, ℕ, ℤ, ◌<◌, ◌⊎◌, Bool, true, false, List, ◌++◌, replicate, take, Some, slice_get, Result, Ok, Err}
-use Rattle.xk_types.specs.declared.names.Entry.{Entry}
+use Rattle.xk_types.specs.declared.world.Entry.{Entry}
 use Rattle.xk_types.specs.Code.{ModuleValue}
 use Rattle.xk_types.specs.World.{World, opening, AreArguments}
 use Rattle.xk_types.specs.Schedule.{Through, Leads, run, is_enabled, all_ended, printed}

@@ -1,7 +1,7 @@
 //! What is so of logs that are played again: nothing here is computed.
 
 ghost use Rattle.std.specs.Prelude.{◌≡◌, List, ℤ};
-ghost use Rattle.xk_types.specs.declared.names.Entry.{Entry};
+ghost use Rattle.xk_types.specs.declared.world.Entry.{Entry};
 ghost use Rattle.xk_types.specs.Code.{ModuleValue};
 ghost use Rattle.xk_replay.specs.Replay.{Verdict, Says};
 

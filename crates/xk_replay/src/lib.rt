@@ -1,13 +1,13 @@
 //! The log of a run is written, and played again, and the phases of its clocks are told.
 #![tactic(auto)]
 
-mod charting;
+mod clock_chart;
 mod fault;
 pub mod laws;
-mod replaying;
-mod writing;
+mod log_replay;
+mod log_writer;
 
-pub use charting::chart;
+pub use clock_chart::chart;
 pub use fault::ReplayFault;
-pub use replaying::replay;
-pub use writing::write_log;
+pub use log_replay::replay;
+pub use log_writer::write_log;

@@ -4,25 +4,25 @@ use Rattle.serde_json.specs.Written.{compact_text}
 use Rattle.xk_types.specs.Code.{ModuleValue, params_of}
 use Rattle.xk_types.specs.World.{AreArguments}
 use Rattle.xk_types.specs.Bound.{steps_bound, activities_bound, clocks_bound}
-use Rattle.xk_types.specs.Accepted.{IsAccepted}
-use Rattle.xk_words.specs.declared.job.Command.{Command}
-use Rattle.xk_words.specs.declared.job.Command.TheVariants as command
-use Rattle.xk_words.specs.declared.job.Drive.{Drive}
-use Rattle.xk_words.specs.declared.job.Form.{Form}
-use Rattle.xk_words.specs.declared.job.Form.TheVariants as form
-use Rattle.xk_words.specs.declared.job.Job.{Job}
-use Rattle.xk_words.specs.declared.job.Order.TheVariants as order
-use Rattle.xk_words.specs.Line.{By, In, Way, way_value}
-use Rattle.xk_words.specs.Status.{status_done}
+use Rattle.xk_types.specs.Acceptance.{IsAccepted}
+use Rattle.xk_cli.specs.declared.job.Command.{Command}
+use Rattle.xk_cli.specs.declared.job.Command.TheVariants as command
+use Rattle.xk_cli.specs.declared.job.Drive.{Drive}
+use Rattle.xk_cli.specs.declared.job.Form.{Form}
+use Rattle.xk_cli.specs.declared.job.Form.TheVariants as form
+use Rattle.xk_cli.specs.declared.job.Job.{Job}
+use Rattle.xk_cli.specs.declared.job.Order.TheVariants as order
+use Rattle.xk_cli.specs.CommandLine.{By, In, Way, way_value}
+use Rattle.xk_cli.specs.Status.{status_done}
 use Rattle.xk_module.specs.ModuleText.{module_value}
-use Rattle.xk_bounds.specs.Refused.{Refuses}
+use Rattle.xk_bounds.specs.Refusals.{Refuses}
 use Rattle.xk_bounds.specs.declared.refusal.Refusal.TheVariants as refusal
-use Rattle.xk_serve.specs.declared.done.Done.{Done}
-use Rattle.xk_serve.specs.declared.done.Done.TheVariants as done
+use Rattle.xk_serve.specs.declared.job_result.Done.{Done}
+use Rattle.xk_serve.specs.declared.job_result.Done.TheVariants as done
 use Rattle.xk_serve.specs.declared.fault.Fault.{Fault}
 use Rattle.xk_serve.specs.declared.fault.Fault.TheVariants as fault
-use Rattle.xk_types.specs.declared.names.Entry.{Entry}
-use Rattle.xk_log.specs.Places.{IsTruncated, IsWrongAt, Says, Whole}
+use Rattle.xk_types.specs.declared.world.Entry.{Entry}
+use Rattle.xk_log.specs.Verdicts.{IsTruncated, IsWrongAt, Says, Whole}
 use Rattle.xk_replay.specs.Chart.{chart_text}
 use Rattle.xk_replay.specs.Replay.{IsStoppedAt, IsUnfinished}
 use Rattle.xk_serve.specs.OrderedRun.{IsLoggedRun, IsOrderedRun, IsReplay, IsSomeRun, IsWholeRun}

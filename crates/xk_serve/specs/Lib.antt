@@ -5,5 +5,5 @@ pub mod Programs
 pub mod Bytes
 pub mod OrderedRun
 pub mod Answer
-pub mod Serving
+pub mod Devices
 pub mod EveryRun

@@ -2,19 +2,19 @@
 use Rattle.std.specs.Prelude.{ℕ, List, [], ◌++◌, flat_map, codes, decimal, Option, Some, None, string_bytes}
 use Rattle.xk_types.specs.declared.rules.Rule.{Rule}
 use Rattle.xk_types.specs.declared.rules.Visit.{Visit}
-use Rattle.xk_types.specs.Names.{rule_number, rule_name, kind_name}
+use Rattle.xk_types.specs.RuleNames.{rule_number, rule_name, kind_name}
 use Rattle.xk_log.specs.LogText.{log_text}
-use Rattle.xk_lines.specs.Lines.{number_lines}
-use Rattle.xk_words.specs.Status.{status_device, status_log, status_memory, status_program}
+use Rattle.xk_output.specs.Lines.{number_lines}
+use Rattle.xk_cli.specs.Status.{status_device, status_log, status_memory, status_program}
 use Rattle.xk_module.specs.Faults.{fault_label}
 use Rattle.xk_tree.specs.declared.fault.FrontFault.{FrontFault}
 use Rattle.xk_tree.specs.Fault.{front_number, front_name}
-use Rattle.xk_typestate.specs.declared.refusal.KindFault.{KindFault}
+use Rattle.xk_typestate.specs.declared.fault.KindFault.{KindFault}
 use Rattle.xk_bounds.specs.declared.refusal.BoundFault.{BoundFault}
 use Rattle.xk_bounds.specs.declared.refusal.Refusal.{Refusal}
 use Rattle.xk_bounds.specs.declared.refusal.Refusal.TheVariants as refusal
-use Rattle.xk_serve.specs.declared.done.Done.{Done}
-use Rattle.xk_serve.specs.declared.done.Done.TheVariants as done
+use Rattle.xk_serve.specs.declared.job_result.Done.{Done}
+use Rattle.xk_serve.specs.declared.job_result.Done.TheVariants as done
 use Rattle.xk_serve.specs.declared.fault.Fault.{Fault}
 use Rattle.xk_serve.specs.declared.fault.Fault.TheVariants as fault
 

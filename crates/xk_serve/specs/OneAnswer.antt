@@ -1,17 +1,17 @@
 -- When two answers to one job are the same. Which walk to a refusal of kinds is told is left open, and so is which run workers take, and which fault
 -- is told of a source text that spells no tree, or has several recursive calls. This project's own.
 use Rattle.std.specs.Prelude.{◌≡◌, ℕ, ⊤, ◌⊎◌, List, [], length, string_bytes}
-use Rattle.xk_types.specs.declared.names.Entry.{Entry}
+use Rattle.xk_types.specs.declared.world.Entry.{Entry}
 use Rattle.xk_types.specs.Code.{ModuleValue}
 use Rattle.xk_tree.specs.Tree.{TreeValue}
 use Rattle.xk_tree.specs.declared.fault.FrontFault.{FrontFault}
 use Rattle.xk_codegen.specs.Faults.{AreRecursive}
-use Rattle.xk_typestate.specs.declared.refusal.KindFault.{KindFault}
-use Rattle.xk_words.specs.Line.{By}
-use Rattle.xk_words.specs.Status.{status_done}
+use Rattle.xk_typestate.specs.declared.fault.KindFault.{KindFault}
+use Rattle.xk_cli.specs.CommandLine.{By}
+use Rattle.xk_cli.specs.Status.{status_done}
 use Rattle.xk_replay.specs.Chart.{chart_text}
-use Rattle.xk_serve.specs.declared.done.Done.{Done}
-use Rattle.xk_serve.specs.declared.done.Done.TheVariants as done
+use Rattle.xk_serve.specs.declared.job_result.Done.{Done}
+use Rattle.xk_serve.specs.declared.job_result.Done.TheVariants as done
 use Rattle.xk_serve.specs.declared.fault.Fault.TheVariants as fault
 use Rattle.xk_serve.specs.Answer.{Answers, Chart, Doing, IsLogText, Reply, Replay, Run, Task, done_reply, fault_reply}
 use Rattle.xk_serve.specs.Lines.{kind_text, line}

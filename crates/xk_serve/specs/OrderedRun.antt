@@ -1,20 +1,20 @@
--- Runs of a module to its end, each step taken in an order, or by whom it may be. X10 leaves the order open (`xk_drive`, `Choosing.antt`);
+-- Runs of a module to its end, each step taken in an order, or by whom it may be. X10 leaves the order open (`xk_scheduler`, `Choosing.antt`);
 -- the orders are this project's own.
 use Rattle.std.specs.Prelude.{◌≡◌, ℕ, ℤ, ◌-◌, ◌≤◌, ⊤, Bool, true, false, All, List, ◌++◌, length, None}
 use Rattle.std.specs.Option.{option_to_list}
-use Rattle.xk_types.specs.declared.names.Entry.{Entry}
-use Rattle.xk_types.specs.declared.names.Event.{Event}
+use Rattle.xk_types.specs.declared.world.Entry.{Entry}
+use Rattle.xk_types.specs.declared.world.Event.{Event}
 use Rattle.xk_types.specs.Bound.{steps_bound}
 use Rattle.xk_types.specs.Code.{ModuleValue}
 use Rattle.xk_types.specs.World.{World, opening}
 use Rattle.xk_types.specs.Schedule.{Leads, all_ended, number_printed, printed}
 use Rattle.xk_types.specs.Logs.{schedule_of}
-use Rattle.xk_words.specs.declared.job.Order.{Order}
-use Rattle.xk_words.specs.declared.job.Order.TheVariants as order
+use Rattle.xk_cli.specs.declared.job.Order.{Order}
+use Rattle.xk_cli.specs.declared.job.Order.TheVariants as order
 use Rattle.xk_core.specs.Core.{CoreValue}
-use Rattle.xk_drive.specs.Choosing.{Follows, turn_of, turn_after}
-use Rattle.xk_drive.specs.Driving.{IsTurn}
-use Rattle.xk_drive.specs.Stretches.{IsStretch}
+use Rattle.xk_scheduler.specs.Choosers.{Follows, turn_of, turn_after}
+use Rattle.xk_scheduler.specs.LoggedRuns.{IsTurn}
+use Rattle.xk_scheduler.specs.LocalRuns.{IsStretch}
 
 -- Each step of the list, from the opening world with these arguments on, is one of the enabled activity that has its turn: the least; the
 -- greatest; the least of greater number than the one taken before, else the least.

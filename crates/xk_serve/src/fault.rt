@@ -12,7 +12,7 @@ use xk_module::ModuleFault;
 use xk_replay::ReplayFault;
 use xk_tree::{FrontError, FrontFault};
 use xk_types::{Failed, Module, Rule, Visit};
-use xk_words::status;
+use xk_cli::status;
 
 /// What stands against a job.
 #[derive(Debug, Drop, Error)]

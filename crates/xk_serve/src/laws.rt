@@ -1,20 +1,20 @@
 //! What holds of every program that is accepted, and of all answers: nothing here is computed.
 
 ghost use Rattle.std.specs.Prelude.{◌≡◌, ◌≢◌, ◌⊎◌, ℕ, ℤ, List, true};
-ghost use Rattle.xk_serve.specs.declared.done.Done.{Done};
+ghost use Rattle.xk_serve.specs.declared.job_result.Done.{Done};
 ghost use Rattle.xk_serve.specs.Answer.{Answers, ComesTo, Doing, Reply, Run, Task};
 ghost use Rattle.xk_serve.specs.EveryRun.{EveryRun};
 ghost use Rattle.xk_serve.specs.Lines.{done_log, done_text};
 ghost use Rattle.xk_serve.specs.OneAnswer.{IsCharted, IsSameReply, IsWithoutWorkers, MayChart, TellFaults, charting, done_with, replaying};
 ghost use Rattle.xk_serve.specs.Programs.{IsCompiledTo};
-ghost use Rattle.xk_types.specs.Accepted.{IsAccepted};
+ghost use Rattle.xk_types.specs.Acceptance.{IsAccepted};
 ghost use Rattle.xk_types.specs.Code.{ModuleValue};
-ghost use Rattle.xk_words.specs.declared.job.Form.TheVariants as form;
-ghost use Rattle.xk_words.specs.Line.{Way};
-ghost use Rattle.xk_words.specs.Status.{status_done, status_memory};
+ghost use Rattle.xk_cli.specs.declared.job.Form.TheVariants as form;
+ghost use Rattle.xk_cli.specs.CommandLine.{Way};
+ghost use Rattle.xk_cli.specs.Status.{status_done, status_memory};
 
 use xk_laws::every_accepted_module;
-use xk_source::laws::means_its_source;
+use xk_simulation::laws::means_its_source;
 
 /// What holds of every source text that is compiled to a module which is accepted, of all arguments that its main may be given, and of
 /// every schedule of its activity steps. No step raises ClockUseException or meets a missing or wrong operand. A run has at most the

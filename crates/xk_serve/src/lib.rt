@@ -1,15 +1,15 @@
 //! What the program answers: a job and the bytes of its files to a status, two texts and a log.
 #![tactic(auto)]
 
-mod answering;
-mod bytes;
-mod done;
+mod commands;
+mod bounded_read;
+mod job_result;
 mod fault;
 pub mod laws;
 mod logged_run;
 mod ordered_run;
-mod programs;
-mod serving;
+mod program_loader;
+mod devices;
 
 pub use fault::Fault;
-pub use serving::{report, serve, tell, tell_words};
+pub use devices::{report, serve, tell, tell_words};

@@ -2,7 +2,7 @@
 
 ghost use Rattle.std.specs.Prelude.{◌≡◌, IfOk};
 ghost use Rattle.xk_types.specs.World.{AreArguments, opening};
-ghost use Rattle.xk_drive.specs.Choosing.{Follows};
+ghost use Rattle.xk_scheduler.specs.Choosers.{Follows};
 ghost use Rattle.xk_serve.specs.OrderedRun.{IsLogThat, IsLoggedRun, IsReplay, IsRunThat};
 
 use std::alloc::{AllocError, Global};
@@ -10,9 +10,9 @@ use std::sync::Wait;
 use std::thread::Threads;
 use xk_bounds::Verified;
 use xk_core::Core;
-use xk_drive::{Chooser, Ended, First, Last, Partial, Round, drive};
+use xk_scheduler::{Chooser, Ended, First, Last, Partial, Round, drive};
 use xk_types::Entry;
-use xk_words::{Order, Workers};
+use xk_cli::{Order, Workers};
 use xk_workers::{Direct, run_workers};
 
 /// A run that came to its end.

@@ -2,7 +2,7 @@
 use Rattle.std.specs.Prelude.{◌≡◌, ℕ, ◌<◌, Bool, true, false, [], ◌∷◌, Option, Some, None}
 use Rattle.xk_types.specs.declared.rules.Rule.{Rule}
 use Rattle.xk_types.specs.Code.{UnitValue, ModuleValue}
-use Rattle.xk_types.specs.Names.{rule_number}
+use Rattle.xk_types.specs.RuleNames.{rule_number}
 use Rattle.xk_types.specs.Order.{NotAfter}
 use Rattle.xk_types.specs.Shape.{breaks, breaks_in}
 use Rattle.xk_shape.specs.declared.fault.ShapeFault.{ShapeFault}

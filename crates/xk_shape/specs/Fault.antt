@@ -2,7 +2,7 @@
 use Rattle.std.specs.Prelude.{◌≡◌, ℕ, ◌<◌, true, false, [], ◌∷◌}
 use Rattle.xk_types.specs.declared.rules.Rule.{Rule}
 use Rattle.xk_types.specs.Code.{ModuleValue}
-use Rattle.xk_types.specs.Names.{rule_number}
+use Rattle.xk_types.specs.RuleNames.{rule_number}
 use Rattle.xk_types.specs.Order.{NotAfter}
 use Rattle.xk_types.specs.Shape.{breaks}
 use Rattle.xk_shape.specs.declared.fault.ShapeFault.{ShapeFault}

@@ -2,7 +2,7 @@
 use Rattle.std.specs.Prelude.{◌≡◌, ℕ, List, length, slice_get, Some}
 use Rattle.xk_types.specs.Code.{UnitValue, ModuleValue}
 use Rattle.xk_types.specs.Shape.{spans}
-use Rattle.xk_shape.specs.Nests.{AreNested}
+use Rattle.xk_shape.specs.Nesting.{AreNested}
 use Rattle.xk_shape.specs.Tables.{AreTables}
 use Rattle.xk_shape.specs.declared.layout.Layout.{Layout}
 use Rattle.xk_shape.specs.declared.layout.Layout.TheVariants as layout

@@ -1,7 +1,7 @@
-pub mod Shaped
+pub mod ShapeCheck
 pub mod Fault
 pub mod Breach
-pub mod Nests
+pub mod Nesting
 pub mod Places
 pub mod Blocks
 pub mod Tables

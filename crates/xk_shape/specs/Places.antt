@@ -6,7 +6,7 @@ use Rattle.xk_types.specs.Order.{Has}
 use Rattle.xk_types.specs.Code.{UnitValue, loops, is_round}
 use Rattle.xk_types.specs.Blocks.{Span, is_inside, block_at, depth_at}
 use Rattle.xk_types.specs.Shape.{spans, counts_by}
-use Rattle.xk_shape.specs.Nests.{IsInNoneBehind}
+use Rattle.xk_shape.specs.Nesting.{IsInNoneBehind}
 use Rattle.xk_shape.specs.declared.places.Place.{Place}
 
 -- the finish of a block itself: the last of those around it

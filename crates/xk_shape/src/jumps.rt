@@ -6,7 +6,7 @@ ghost use Rattle.xk_types.specs.Code.{loops, is_within};
 ghost use Rattle.xk_types.specs.Shape.{spans, lies_ahead, aims_well, breaks_target, overlaps, is_crossing, breaks_block, slot_written, begins_backward, spoils, breaks_loop};
 ghost use Rattle.xk_shape.specs.Blocks.{IsOrderly};
 ghost use Rattle.xk_shape.specs.Layout.{IsLayout};
-ghost use Rattle.xk_shape.specs.Nests.{AreNested};
+ghost use Rattle.xk_shape.specs.Nesting.{AreNested};
 ghost use Rattle.xk_shape.specs.Tables.{AreTables};
 
 use crate::layout::Layout;

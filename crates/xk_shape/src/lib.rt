@@ -11,11 +11,11 @@ mod layout;
 mod nesting;
 mod places;
 mod rules;
-mod shaped;
+mod shape_check;
 mod tables;
 
 pub use arguments::Arguments;
 pub use blocks::Blocks;
 pub use fault::{ShapeError, ShapeFault};
 pub use rules::params_of;
-pub use shaped::{Shaped, shape};
+pub use shape_check::{Shaped, shape};

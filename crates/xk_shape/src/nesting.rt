@@ -5,7 +5,7 @@ ghost use Rattle.std.specs.List.{list_any};
 ghost use Rattle.xk_types.specs.Code.{loop_begun, loops};
 ghost use Rattle.xk_types.specs.Blocks.{finish_opened, finishes, is_inside};
 ghost use Rattle.xk_types.specs.Shape.{span_of, span_begun, span_ended, spans, overlaps, crosses};
-ghost use Rattle.xk_shape.specs.Nests.{begins_behind, ends_behind};
+ghost use Rattle.xk_shape.specs.Nesting.{begins_behind, ends_behind};
 
 use std::alloc::{AllocError, Global};
 use std::marker::Model;

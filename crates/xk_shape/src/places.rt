@@ -1,7 +1,7 @@
 //! How the places of a unit lie to its loops and finishes.
 
 ghost use Rattle.std.specs.Prelude.{◌≡◌, ℕ, ◌+◌, ◌<◌, ◌≤◌, ◌||◌, ◌==◌, length, IfOk, MatchOption};
-ghost use Rattle.xk_shape.specs.Nests.{AreNested, AreNestedBelow};
+ghost use Rattle.xk_shape.specs.Nesting.{AreNested, AreNestedBelow};
 ghost use Rattle.xk_shape.specs.Places.{has_slot, LiesSo, AreFirstPlaces, ArePlaces};
 
 use crate::nesting::{begins_span, ends_span};

@@ -7,7 +7,7 @@ ghost use Rattle.xk_types.specs.Code.{UnitValue};
 ghost use Rattle.xk_types.specs.Blocks.{block_at, takes_clock, makes, homes, is_here, is_inside, depth_at};
 ghost use Rattle.xk_types.specs.Bound.{nesting};
 ghost use Rattle.xk_types.specs.Shape.{spans, differ};
-ghost use Rattle.xk_shape.specs.Nests.{AreNested};
+ghost use Rattle.xk_shape.specs.Nesting.{AreNested};
 ghost use Rattle.xk_shape.specs.Places.{innermost, is_counter};
 ghost use Rattle.xk_shape.specs.Blocks.{IsOrderly, HasBlocks};
 ghost use Rattle.xk_shape.specs.Tables.{home_place, AreFirstHomes, AreTables, is_at_home_elsewhere, is_one_block};

@@ -3,21 +3,21 @@ use Rattle.std.proofs.Common.{◌≡◌, ℕ, zero, suc, ◌+◌, List, [], ◌�
 use Rattle.std.specs.Prelude.{pos, negsuc, replicate}
 use Rattle.std.specs.List.{AllByRecursion}
 use Rattle.xk_types.specs.declared.instr.Comparison.TheVariants as comparison
-use Rattle.xk_tokens.specs.Tokens.{keyword_of}
-use Rattle.xk_tokens.specs.Pieces.{number_of}
-use Rattle.xk_tokens.specs.Lexing.{lexed, sign_of_one, sign_of_two, comment_at, piece_at, sign_at as lexed_sign_at}
+use Rattle.xk_lexer.specs.Tokens.{keyword_of}
+use Rattle.xk_lexer.specs.Pieces.{number_of}
+use Rattle.xk_lexer.specs.Lexing.{lexed, sign_of_one, sign_of_two, comment_at, piece_at, sign_at as lexed_sign_at}
 use Rattle.xk_tree.specs.declared.tree.Operator.TheVariants as operator
 use Rattle.xk_tree.specs.declared.tree.Number as tree
 use Rattle.xk_tree.specs.declared.tree.Written.TheVariants as written
 use Rattle.xk_tree.specs.declared.tree.Binding.TheVariants as binding
 use Rattle.xk_tree.specs.declared.tree.Verb.{Verb}
 use Rattle.xk_tree.specs.Tree.{Word, Expression, Literal, Named, Binary, Make, UpTo, Least, Clocks, Statement, Statements, Done, More, Block, Empty, Declare, Assign, Atomic, If, IfElse, For, Async, Finish, Call, Resume, Drop, MethodValue, TreeValue}
-use Rattle.xk_tree.specs.Bodies.{asyncs_of_methods}
-use Rattle.xk_exprs.specs.Readers.{turns, loop}
-use Rattle.xk_exprs.specs.Exprs.{value_of, number_at, another, chain_at, terms, sums, factor_at, whole_at, whole_term_at}
+use Rattle.xk_tree.specs.AsyncOffsets.{asyncs_of_methods}
+use Rattle.xk_exprs.specs.ReaderCombinators.{turns, loop}
+use Rattle.xk_exprs.specs.ExprReaders.{value_of, number_at, another, chain_at, terms, sums, factor_at, whole_at, whole_term_at}
 use Rattle.xk_syntax.specs.Spelling.{hidden_clock, clocked_finish, token_mark, SpellsTree}
 use Rattle.xk_syntax.specs.Readers.{bind, sign_at, keyword_at, open_at, plus_at, word_at, this_word_at, comparison_at, type_at, clock_at, next_item, more_at, commas_at, listed_at, verb_at, bare_verb_at, act_at, type_part_at, source_at, declare_at, atomic_at, advance_at, print_head_at, print_at, call_at, dotted_at, assign_at, named_at, flat_at, condition_at, least_at, bound_at, range_at, list_open_at, clocks_at, start_at, hiding_at, stmt_head_at, ahead_at, stmts_at, else_at, rest_at, stmt_at, param_at, method_at, shared_at, program_at}
-use Rattle.xk_syntax.proofs.Texts.{spelled_from_read, none_from_read}
+use Rattle.xk_syntax.proofs.TextLemmas.{spelled_from_read, none_from_read}
 
 abbrev name : ℕ → List ℕ → Word
 name at text = record { at = at; text = text }

@@ -1,6 +1,6 @@
 -- What the readers give is what is spelled. This project's own.
 use Rattle.std.specs.Prelude.{◌≡◌, ℕ, true, List, Some, None}
-use Rattle.xk_tokens.specs.declared.token.Keyword.TheVariants as keyword
+use Rattle.xk_lexer.specs.declared.token.Keyword.TheVariants as keyword
 use Rattle.xk_tree.specs.Tree.{Statement, TreeValue}
 use Rattle.xk_exprs.specs.Marks.{Mark}
 use Rattle.xk_syntax.specs.Spelling.{stmt, program, dangles, Fits, TreeFits, SpellsTree}

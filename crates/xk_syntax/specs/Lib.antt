@@ -2,4 +2,4 @@ pub mod Spelling
 pub mod Readers
 pub mod Views
 pub mod Laws
-pub mod Texts
+pub mod Faults

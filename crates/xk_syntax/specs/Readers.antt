@@ -6,12 +6,12 @@ use denote.Enum.Bare.{sameb}
 use Rattle.xk_types.specs.declared.instr.Comparison.{Comparison}
 use Rattle.xk_types.specs.declared.instr.Comparison.TheVariants as comparison
 use Rattle.xk_types.specs.declared.unit.ParamKind.TheVariants as kind
-use Rattle.xk_tokens.specs.declared.token.Sign.{Sign}
-use Rattle.xk_tokens.specs.declared.token.Sign.TheVariants as sign
-use Rattle.xk_tokens.specs.contracts.token.Sign as signs
-use Rattle.xk_tokens.specs.declared.token.Keyword.{Keyword}
-use Rattle.xk_tokens.specs.declared.token.Keyword.TheVariants as keyword
-use Rattle.xk_tokens.specs.contracts.token.Keyword as keywords
+use Rattle.xk_lexer.specs.declared.token.Sign.{Sign}
+use Rattle.xk_lexer.specs.declared.token.Sign.TheVariants as sign
+use Rattle.xk_lexer.specs.contracts.token.Sign as signs
+use Rattle.xk_lexer.specs.declared.token.Keyword.{Keyword}
+use Rattle.xk_lexer.specs.declared.token.Keyword.TheVariants as keyword
+use Rattle.xk_lexer.specs.contracts.token.Keyword as keywords
 use Rattle.xk_tree.specs.declared.tree.Operator.{Operator as Op}
 use Rattle.xk_tree.specs.declared.tree.Operator.TheVariants as operator
 use Rattle.xk_tree.specs.declared.tree.Binding.{Binding}
@@ -22,8 +22,8 @@ use Rattle.xk_tree.specs.declared.tree.Verb.{Verb}
 use Rattle.xk_tree.specs.declared.tree.Written.TheVariants as written
 use Rattle.xk_tree.specs.Tree.{Word, Expression, Source, Make, Value, Bound, UpTo, Least, Clocks, Statement, listed, Block, Empty, Declare, Assign, Atomic, If, IfElse, For, Async, Finish, Call, Resume, Drop, AdvanceAll, Print, ParamValue, MethodValue, SharedValue, TreeValue}
 use Rattle.xk_exprs.specs.Marks.{Mark, Name, Operator, Open, Symbol, Reserved, AsyncAt, ClockedAt, ClockAt, LongAt}
-use Rattle.xk_exprs.specs.Readers.{Turn, Fails, Stops, Goes, loop, head_at}
-use Rattle.xk_exprs.specs.Exprs.{number_at, whole_at, whole_term_at}
+use Rattle.xk_exprs.specs.ReaderCombinators.{Turn, Fails, Stops, Goes, loop, head_at}
+use Rattle.xk_exprs.specs.ExprReaders.{number_at, whole_at, whole_term_at}
 use Rattle.xk_syntax.specs.Spelling.{hidden_text, hidden_clock, clocked_finish, in_force, inside}
 
 -- first the one, then the other with what the one gave

@@ -5,13 +5,13 @@ use Rattle.xk_types.specs.declared.instr.Comparison.{Comparison}
 use Rattle.xk_types.specs.declared.instr.Comparison.TheVariants as comparison
 use Rattle.xk_types.specs.declared.unit.ParamKind.{ParamKind}
 use Rattle.xk_types.specs.declared.unit.ParamKind.TheVariants as kind
-use Rattle.xk_tokens.specs.declared.token.Sign.{Sign}
-use Rattle.xk_tokens.specs.declared.token.Sign.TheVariants as sign
-use Rattle.xk_tokens.specs.declared.token.Keyword.{Keyword}
-use Rattle.xk_tokens.specs.declared.token.Keyword.TheVariants as keyword
-use Rattle.xk_tokens.specs.Tokens.{Lexeme, TokenValue}
-use Rattle.xk_tokens.specs.Tokens as lexeme
-use Rattle.xk_tokens.specs.Pieces.{SpellsTokens}
+use Rattle.xk_lexer.specs.declared.token.Sign.{Sign}
+use Rattle.xk_lexer.specs.declared.token.Sign.TheVariants as sign
+use Rattle.xk_lexer.specs.declared.token.Keyword.{Keyword}
+use Rattle.xk_lexer.specs.declared.token.Keyword.TheVariants as keyword
+use Rattle.xk_lexer.specs.Tokens.{Lexeme, TokenValue}
+use Rattle.xk_lexer.specs.Tokens as lexeme
+use Rattle.xk_lexer.specs.Pieces.{SpellsTokens}
 use Rattle.xk_tree.specs.declared.tree.Operator.TheVariants as operator
 use Rattle.xk_tree.specs.declared.tree.Binding.{Binding}
 use Rattle.xk_tree.specs.declared.tree.Binding.TheVariants as binding

@@ -2,8 +2,8 @@
 use Rattle.std.specs.Prelude.{Option, option_map}
 use Rattle.xk_tree.specs.declared.tree.ClockList.{ClockList}
 use Rattle.xk_tree.specs.Tree.{Clocks, bound, expression, word, clock_list, statement}
-use Rattle.xk_syntax.specs.declared.heads.Head as code
-use Rattle.xk_syntax.specs.declared.heads.Head.TheVariants as head
+use Rattle.xk_syntax.specs.declared.statement_heads.Head as code
+use Rattle.xk_syntax.specs.declared.statement_heads.Head.TheVariants as head
 use Rattle.xk_syntax.specs.Readers.{Head, Whole, Brace, Condition, Range, Start, Wait, Hide}
 
 abbrev pub clocks_value : Option ClockList → Option Clocks

@@ -1,14 +1,14 @@
 //! Source texts to trees.
 #![tactic(auto)]
 
-mod bounds;
-mod heads;
-mod hidden;
+mod loop_bounds;
+mod statement_heads;
+mod hidden_clocks;
 pub mod laws;
 mod lists;
-mod parts;
+mod token_readers;
 mod program;
-mod simple;
-mod stmts;
+mod leaf_statements;
+mod statements;
 
 pub use program::parse;

@@ -3,14 +3,14 @@
 ghost use Rattle.std.specs.Prelude.{map};
 ghost use Rattle.xk_tree.specs.Tree.{expressions, words, param_value};
 ghost use Rattle.xk_exprs.specs.Marks.{marks};
-ghost use Rattle.xk_exprs.specs.Readers.{Gives};
-ghost use Rattle.xk_exprs.specs.Exprs.{whole_at};
+ghost use Rattle.xk_exprs.specs.ReaderCombinators.{Gives};
+ghost use Rattle.xk_exprs.specs.ExprReaders.{whole_at};
 ghost use Rattle.xk_syntax.specs.Readers.{bind, commas_at, listed_at, word_at, param_at};
 
-use crate::parts::{after_sign, name, need_sign, type_name};
+use crate::token_readers::{after_sign, name, need_sign, type_name};
 use std::alloc::Global;
 use xk_exprs::{SyntaxError, read_expr};
-use xk_tokens::{Sign, Token};
+use xk_lexer::{Sign, Token};
 use xk_tree::{Expr, Name, Param};
 
 /// Names.

@@ -1,25 +1,25 @@
 //! Methods, shared numbers and programs.
 
 ghost use Rattle.std.specs.Prelude.{◌≡◌, ◌<◌, [], length, map, IfOk};
-ghost use Rattle.xk_tokens.specs.declared.token.Keyword.TheVariants as words;
+ghost use Rattle.xk_lexer.specs.declared.token.Keyword.TheVariants as words;
 ghost use Rattle.xk_tree.specs.declared.fault.FrontRule.TheVariants as rule;
 ghost use Rattle.xk_tree.specs.declared.fault.FrontFault.{FrontFault as Fault};
 ghost use Rattle.xk_tree.specs.declared.fault.FrontError.TheVariants as error;
 ghost use Rattle.xk_tree.specs.Tree.{method_value, program_value, shared_value};
 ghost use Rattle.xk_tree.specs.Program.{tree_value};
 ghost use Rattle.xk_exprs.specs.Marks.{marks};
-ghost use Rattle.xk_exprs.specs.Readers.{Gives};
+ghost use Rattle.xk_exprs.specs.ReaderCombinators.{Gives};
 ghost use Rattle.xk_syntax.specs.Spelling.{SpellsTree};
-ghost use Rattle.xk_syntax.specs.Texts.{IsRefused, IsTextRule};
+ghost use Rattle.xk_syntax.specs.Faults.{IsRefused, IsTextRule};
 ghost use Rattle.xk_syntax.specs.Readers.{keyword_at, more_at, method_at, shared_at, program_at};
 
 use crate::lists::params;
-use crate::parts::{after_keyword, name, need_open, need_sign};
-use crate::stmts::read_stmts;
+use crate::token_readers::{after_keyword, name, need_open, need_sign};
+use crate::statements::read_stmts;
 use std::alloc::Global;
-use xk_exprs::parts::unexpected;
+use xk_exprs::token_readers::unexpected;
 use xk_exprs::{SyntaxError, read_number};
-use xk_tokens::{Keyword, Sign, Token, tokens};
+use xk_lexer::{Keyword, Sign, Token, tokens};
 use xk_tree::{FrontError, FrontFault, FrontRule, Method, Shared, Tree};
 
 /// The longest text, in bytes.

@@ -1,4 +1,4 @@
 pub mod Tree
 pub mod Fault
-pub mod Bodies
+pub mod AsyncOffsets
 pub mod Program

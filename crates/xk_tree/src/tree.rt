@@ -2,7 +2,7 @@
 
 ghost use Rattle.std.specs.Prelude.{◌≡◌};
 ghost use Rattle.xk_tree.specs.Tree.{bound, program_value, top};
-ghost use Rattle.xk_tree.specs.Bodies.{HasBodiesApart};
+ghost use Rattle.xk_tree.specs.AsyncOffsets.{HasBodiesApart};
 
 use xk_types::{Comparison, ParamKind};
 

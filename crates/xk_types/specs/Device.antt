@@ -1,7 +1,7 @@
 -- Devices: what a program reads from and writes to, and the count of their failures. This project's own.
 use Rattle.std.specs.Prelude.{◌≡◌, ℕ, ◌+◌, ◌-◌, ◌^◌, ◌<◌, ◌≤◌, ◌==◌, min, List, [], length, Option, Some, None, option_and_then, Result, MatchResult, IfOk, if◌then◌else◌}
 use Rattle.xk_types.specs.declared.device.Failed.{Failed}
-use Rattle.xk_types.specs.declared.counted.Counted.{Counted}
+use Rattle.xk_types.specs.declared.std_devices.Counted.{Counted}
 
 -- the count after one failure more; at its greatest it stays
 abbrev pub after_failure : ℕ → ℕ

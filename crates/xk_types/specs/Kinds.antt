@@ -4,11 +4,11 @@
 -- registered on a clock or it isn't; one that is has resumed the clock in this phase or hasn't. What each kind says of that is this project's own, as kinds and walks are.
 use Rattle.std.specs.Prelude.{◌≡◌, ℕ, ◌<◌, List, length, Some, slice_get}
 use Rattle.std.specs.Option.{option_map_or}
-use Rattle.xk_types.specs.declared.names.Value.{Value}
-use Rattle.xk_types.specs.declared.names.Value.TheVariants as value
-use Rattle.xk_types.specs.declared.names.Status.TheVariants as status
-use Rattle.xk_types.specs.declared.names.Standing.{Standing}
-use Rattle.xk_types.specs.declared.names.Standing.TheVariants as standing
+use Rattle.xk_types.specs.declared.world.Value.{Value}
+use Rattle.xk_types.specs.declared.world.Value.TheVariants as value
+use Rattle.xk_types.specs.declared.world.Status.TheVariants as status
+use Rattle.xk_types.specs.declared.world.Standing.{Standing}
+use Rattle.xk_types.specs.declared.world.Standing.TheVariants as standing
 use Rattle.xk_types.specs.declared.rules.Kind.{Kind}
 use Rattle.xk_types.specs.declared.rules.Kind.TheVariants as kind
 use Rattle.xk_types.specs.Code.{UnitValue, ModuleValue}

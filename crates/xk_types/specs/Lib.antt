@@ -1,5 +1,5 @@
 pub mod Code
-pub mod Names
+pub mod RuleNames
 pub mod World
 pub mod Step
 pub mod Schedule
@@ -8,7 +8,7 @@ pub mod Blocks
 pub mod Walk
 pub mod Shape
 pub mod Bound
-pub mod Accepted
+pub mod Acceptance
 pub mod Kinds
 pub mod Device
 pub mod Logs

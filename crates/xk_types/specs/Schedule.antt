@@ -3,8 +3,8 @@
 -- that a list says whose, is this project's own.
 use Rattle.std.specs.Prelude.{◌≡◌, ℕ, ℤ, Bool, true, false, not, List, [], ◌∷◌, Option, Some, None, filter}
 use Rattle.std.specs.List.{list_all, filter_map}
-use Rattle.xk_types.specs.declared.names.Event.{Event}
-use Rattle.xk_types.specs.declared.names.Event.TheVariants as event
+use Rattle.xk_types.specs.declared.world.Event.{Event}
+use Rattle.xk_types.specs.declared.world.Event.TheVariants as event
 use Rattle.xk_types.specs.Code.{ModuleValue}
 use Rattle.xk_types.specs.World.{World, opening, AreArguments, is_ended}
 use Rattle.xk_types.specs.Step.{Cause, Outcome, Blocked, Wrong, Stepped, step}

@@ -24,14 +24,14 @@ use Rattle.std.specs.Option.{option_map_or}
 use Rattle.xk_types.specs.declared.instr.Instr.{Instr}
 use Rattle.xk_types.specs.declared.instr.Instr.TheVariants as instr
 use Rattle.xk_types.specs.declared.instr.Comparison.{Comparison}
-use Rattle.xk_types.specs.declared.names.Value.{Value}
-use Rattle.xk_types.specs.declared.names.Value.TheVariants as value
-use Rattle.xk_types.specs.declared.names.Status.{Status}
-use Rattle.xk_types.specs.declared.names.Status.TheVariants as status
-use Rattle.xk_types.specs.declared.names.Standing.{Standing}
-use Rattle.xk_types.specs.declared.names.Standing.TheVariants as standing
-use Rattle.xk_types.specs.declared.names.Event.{Event}
-use Rattle.xk_types.specs.declared.names.Event.TheVariants as event
+use Rattle.xk_types.specs.declared.world.Value.{Value}
+use Rattle.xk_types.specs.declared.world.Value.TheVariants as value
+use Rattle.xk_types.specs.declared.world.Status.{Status}
+use Rattle.xk_types.specs.declared.world.Status.TheVariants as status
+use Rattle.xk_types.specs.declared.world.Standing.{Standing}
+use Rattle.xk_types.specs.declared.world.Standing.TheVariants as standing
+use Rattle.xk_types.specs.declared.world.Event.{Event}
+use Rattle.xk_types.specs.declared.world.Event.TheVariants as event
 use Rattle.xk_types.specs.declared.unit.ParamKind.{ParamKind}
 use Rattle.xk_types.specs.declared.unit.ParamKind.TheVariants as param
 use Rattle.xk_types.specs.Code.{UnitValue, ModuleValue, is_method, is_body, compares, Loop, loop_head}

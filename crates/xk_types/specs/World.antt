@@ -6,12 +6,12 @@
 use Rattle.std.specs.Prelude.{◌≡◌, ℕ, ℤ, ◌-◌, List, [], ◌∷◌, ◌++◌, length, map, Bool, true, false, Option, None, replicate, slice_get, slice_index_or, option_and_then}
 use Rattle.std.specs.Option.{option_map_or}
 use Rattle.xk_types.specs.declared.instr.Instr.{Instr}
-use Rattle.xk_types.specs.declared.names.Value.{Value}
-use Rattle.xk_types.specs.declared.names.Value.TheVariants as value
-use Rattle.xk_types.specs.declared.names.Status.{Status}
-use Rattle.xk_types.specs.declared.names.Status.TheVariants as status
-use Rattle.xk_types.specs.declared.names.Standing.{Standing}
-use Rattle.xk_types.specs.declared.names.Standing.TheVariants as standing
+use Rattle.xk_types.specs.declared.world.Value.{Value}
+use Rattle.xk_types.specs.declared.world.Value.TheVariants as value
+use Rattle.xk_types.specs.declared.world.Status.{Status}
+use Rattle.xk_types.specs.declared.world.Status.TheVariants as status
+use Rattle.xk_types.specs.declared.world.Standing.{Standing}
+use Rattle.xk_types.specs.declared.world.Standing.TheVariants as standing
 use Rattle.xk_types.specs.Code.{ModuleValue, params_of}
 
 -- a unit in progress: its number, the instruction that it stands at, its slots

@@ -2,20 +2,22 @@
 //! the devices that a program reads from and writes to.
 #![tactic(auto)]
 
-mod counted;
 mod device;
+mod equality;
 mod instr;
-mod names;
 mod rules;
+mod std_devices;
 mod tape;
 mod unit;
+mod world;
 
-pub use counted::Counted;
 pub use device::{Failed, Sink, Source};
+pub use equality::is_same_module;
 pub use instr::{Args, Comparison, Instr};
-pub use names::{Act, ClockId, Entry, Event, Standing, Status, Value};
 pub use rules::{Kind, Rule, Visit};
+pub use std_devices::Counted;
 pub use tape::Tape;
 pub use unit::{
     Limit, MAX_ARGS, MAX_CODE, MAX_SHARED, MAX_SLOTS, MAX_UNITS, Module, ParamKind, Unit, UnitKind,
 };
+pub use world::{Act, ClockId, Entry, Event, Standing, Status, Value};

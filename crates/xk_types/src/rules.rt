@@ -1,7 +1,7 @@
 //! The verifier's rules, and the kinds that it follows slots by.
 
 ghost use Rattle.std.specs.Prelude.{◌≡◌};
-ghost use Rattle.xk_types.specs.Names.{rule_number, rule_name, kind_name};
+ghost use Rattle.xk_types.specs.RuleNames.{rule_number, rule_name, kind_name};
 
 /// A rule of the verifier. Rules are tried in the order of their numbers, V1 to V17; the first ten are about the shape
 /// of the code, the next three about the kinds of slots, the last four about bounds.

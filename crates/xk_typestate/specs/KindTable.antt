@@ -5,7 +5,7 @@ use Rattle.xk_types.specs.Code.{UnitValue, ModuleValue}
 use Rattle.xk_types.specs.Walk.{IsVisited}
 use Rattle.xk_typestate.specs.KindSet.{KindsValue, no_kinds}
 use Rattle.xk_typestate.specs.Search.{holds}
-use Rattle.xk_typestate.specs.Refused.{IsNeverRefused}
+use Rattle.xk_typestate.specs.LeastRefusal.{IsNeverRefused}
 
 -- one set for each instruction, with the kinds that walks of the slot have there
 pub record AreSlotKinds (m : ModuleValue) (u : UnitValue) (s : ℕ) (t : List KindsValue) : Type 0 where

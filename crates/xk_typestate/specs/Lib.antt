@@ -1,8 +1,8 @@
 pub mod KindSet
 pub mod Bits
 pub mod Place
-pub mod Rows
+pub mod Transfer
 pub mod Search
-pub mod Found
-pub mod Refused
+pub mod SearchStops
+pub mod LeastRefusal
 pub mod KindTable

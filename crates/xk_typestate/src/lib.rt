@@ -3,13 +3,13 @@
 
 mod kind_set;
 mod kind_table;
-mod refusal;
-mod refused;
-mod rows;
+mod fault;
+mod least_refusal;
+mod transfer;
 mod search;
-mod typed;
+mod kind_check;
 mod walk;
 
 pub use kind_set::KindSet;
-pub use refusal::{KindError, KindFault};
-pub use typed::{Typed, check_kinds};
+pub use fault::{KindError, KindFault};
+pub use kind_check::{Typed, check_kinds};

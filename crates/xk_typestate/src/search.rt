@@ -4,11 +4,11 @@ ghost use Rattle.std.specs.Prelude.{◌≡◌, ℕ, ◌+◌, ◌<◌, ◌≤◌,
 ghost use Rattle.xk_types.specs.Code.{UnitValue, ModuleValue};
 ghost use Rattle.xk_types.specs.Order.{Has};
 ghost use Rattle.xk_typestate.specs.KindSet.{no_kinds};
-ghost use Rattle.xk_typestate.specs.Rows.{places, way_kinds};
+ghost use Rattle.xk_typestate.specs.Transfer.{places, way_kinds};
 ghost use Rattle.xk_typestate.specs.Search.{IsClosed, IsSearched, IsComplete, IsPut, Extends, IsLatest, HasPut, CanCome};
 
 use crate::kind_set::{KINDS, KindSet};
-use crate::rows::{Successors, kinds_at_entry, kinds_left, successors_of, way};
+use crate::transfer::{Successors, kinds_at_entry, kinds_left, successors_of, way};
 use std::alloc::{AllocError, Global};
 use xk_shape::Blocks;
 use xk_types::{Instr, Kind, Module, Unit, Visit};

@@ -5,8 +5,8 @@ ghost use Rattle.xk_types.specs.declared.rules.Visit.{Visit};
 ghost use Rattle.xk_types.specs.Code.{UnitValue, ModuleValue};
 ghost use Rattle.xk_types.specs.Walk.{IsWalk, EndsAt, IsVisited};
 ghost use Rattle.xk_typestate.specs.Search.{IsClosed};
-ghost use Rattle.xk_typestate.specs.Refused.{IsShortest};
-ghost use Rattle.xk_typestate.specs.Found.{IsPlaceOf, IsFirstPlaceOf, IsNowhere, ComesFromBefore, HasCome, StopsBack};
+ghost use Rattle.xk_typestate.specs.LeastRefusal.{IsShortest};
+ghost use Rattle.xk_typestate.specs.SearchStops.{IsPlaceOf, IsFirstPlaceOf, IsNowhere, ComesFromBefore, HasCome, StopsBack};
 
 use crate::search::{Found, search_slot};
 use std::alloc::{AllocError, Global};

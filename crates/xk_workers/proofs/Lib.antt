@@ -1,6 +1,6 @@
-pub mod Runs
-pub mod Local
-pub mod Seeking
-pub mod Takes
-pub mod Ready
-pub mod Handing
+pub mod RunLemmas
+pub mod LocalStepLemmas
+pub mod UnclaimedSearchLemmas
+pub mod TakeLemmas
+pub mod NextLocalLemmas
+pub mod CommitLemmas

@@ -1,8 +1,8 @@
 -- Claims: whose local steps somebody computes, so that nobody else takes a step of it. This project's own.
 use Rattle.std.specs.Prelude.{◌≡◌, ℕ, suc, Bool, true, false, List, [], ◌∷◌, ◌++◌, length, slice_index_or}
 use Rattle.std.specs.Vec.{vec_capacity}
-use Rattle.xk_types.specs.declared.names.Event.{Event}
-use Rattle.xk_types.specs.declared.names.Event.TheVariants as event
+use Rattle.xk_types.specs.declared.world.Event.{Event}
+use Rattle.xk_types.specs.declared.world.Event.TheVariants as event
 use Rattle.xk_core.specs.Core.{CoreValue, is_next_local}
 use Rattle.xk_workers.specs.declared.claims.Claims.{Claims}
 

@@ -1,5 +1,5 @@
 pub mod Claims
 pub mod Run
-pub mod Shared
-pub mod Turned
+pub mod LockTable
+pub mod WorkerTurn
 pub mod Workers

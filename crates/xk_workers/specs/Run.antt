@@ -1,11 +1,11 @@
 -- A run with its log, before its first step and behind it. This project's own.
 use Rattle.std.specs.Prelude.{◌≡◌, ◌⊎◌, ℕ, ℤ, List, [], length}
 use Rattle.std.specs.Vec.{vec_capacity}
-use Rattle.xk_types.specs.declared.names.Entry.{Entry}
+use Rattle.xk_types.specs.declared.world.Entry.{Entry}
 use Rattle.xk_types.specs.World.{opening}
 use Rattle.xk_core.specs.Core.{CoreValue, IsCore, WantsMemory, opening_core}
 use Rattle.xk_types.specs.Code.{module_of}
-use Rattle.xk_drive.specs.Driving.{IsRunOf}
+use Rattle.xk_scheduler.specs.LoggedRuns.{IsRunOf}
 use Rattle.xk_workers.specs.declared.run.Stage.{Stage}
 use Rattle.xk_workers.specs.declared.run.Stage.TheVariants as stage
 

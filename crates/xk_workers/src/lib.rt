@@ -4,9 +4,9 @@
 mod claims;
 mod gate;
 mod run;
-mod shared;
+mod lock_table;
 mod workers;
 
 pub use gate::{Direct, Gate};
-pub use shared::{CommitFault, Shared, Take};
+pub use lock_table::{CommitFault, Shared, Take};
 pub use workers::run_workers;

@@ -3,14 +3,14 @@
 ghost use Rattle.std.specs.Prelude.{◌≡◌, ◌∷◌, ◌++◌, [], true, false, None, slice_get, IfOk, IfErr, OnOk, OnErr, IsTrue, length, ◌<◌};
 ghost use Rattle.xk_types.specs.Schedule.{is_enabled, all_ended};
 ghost use Rattle.xk_types.specs.Logs.{one_step_of};
-ghost use Rattle.xk_members.specs.Members.{place_above};
-ghost use Rattle.xk_activity.specs.Joined.{frames_in};
+ghost use Rattle.xk_collections.specs.NumberSets.{place_above};
+ghost use Rattle.xk_activity.specs.StepAgreement.{frames_in};
 ghost use Rattle.xk_activity.specs.Activities.{act_at};
 ghost use Rattle.xk_core.specs.Core.{StepsTo, IsCore};
-ghost use Rattle.xk_core.specs.Handed.{Accepts};
-ghost use Rattle.xk_core.specs.Stretch.{RunsTo, AreLocal};
-ghost use Rattle.xk_drive.specs.Choosing.{enabled_in};
-ghost use Rattle.xk_drive.specs.Driving.{IsCommitted};
+ghost use Rattle.xk_core.specs.TicketAcceptance.{Accepts};
+ghost use Rattle.xk_core.specs.LocalRun.{RunsTo, AreLocal};
+ghost use Rattle.xk_scheduler.specs.Choosers.{enabled_in};
+ghost use Rattle.xk_scheduler.specs.LoggedRuns.{IsCommitted};
 ghost use Rattle.xk_workers.specs.Run.{fresh_run, in_room, run_at, IsStage, IsGoing, IsLegalRun, IsLogFull, IsShortOf};
 
 use std::alloc::{AllocError, Global};
@@ -18,7 +18,7 @@ use std::marker::Model;
 use std::mem;
 use xk_activity::{Frames, Ticket};
 use xk_core::Core;
-use xk_drive::{Ended, Logged, Partial, unstarted};
+use xk_scheduler::{Ended, Logged, Partial, unstarted};
 use xk_types::{Act, Entry, Event};
 
 /// How far a run is.

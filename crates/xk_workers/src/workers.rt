@@ -3,21 +3,20 @@
 ghost use Rattle.std.specs.Prelude.{◌≡◌, ◌≤◌, true, false, IfOk, IfErr};
 ghost use Rattle.std.specs.Bool.{Decides};
 ghost use Rattle.xk_types.specs.Schedule.{all_ended};
-ghost use Rattle.xk_workers.specs.Shared.{AreAlike, IsSettled, GoesOn};
-ghost use Rattle.xk_workers.specs.Turned.{CanCompute, HandsIn, Turns};
+ghost use Rattle.xk_workers.specs.LockTable.{AreAlike, IsSettled, GoesOn};
+ghost use Rattle.xk_workers.specs.WorkerTurn.{CanCompute, HandsIn, Turns};
 ghost use Rattle.xk_workers.specs.Workers.{most_workers};
 
 use crate::gate::Gate;
-use crate::shared::{CommitFault, Shared, Take};
+use crate::lock_table::{CommitFault, Shared, Take};
 use std::alloc::{AllocError, Global};
 use std::sync::{Condvar, Mutex, Wait};
 use std::thread;
 use std::thread::Threads;
 use xk_activity::{Frames, Ticket};
 use xk_core::Core;
-use xk_drive::{Ended, First, Partial, drive, unstarted};
-use xk_same::is_same_module;
-use xk_types::Act;
+use xk_scheduler::{Ended, First, Partial, drive, unstarted};
+use xk_types::{Act, is_same_module};
 
 /// How many local steps a worker computes at once, at most.
 const MOST_LOCAL_STEPS: u32 = 65_536;

@@ -1,5 +1,5 @@
 use Rattle.xk_serve.specs.Answer.{task_of}
-use Rattle.x10clock.proofs.Answering.{unlogged}
+use Rattle.x10clock.proofs.AnswerLemmas.{unlogged}
 use Rattle.x10clock.proofs.on_log.Goals as goal
 
 pub returns-in-Ok-Some-clause-answered : goal.returns-in-Ok-Some-clause-answered

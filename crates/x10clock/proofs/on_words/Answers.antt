@@ -1,6 +1,6 @@
 use Rattle.std.proofs.Common.{◌∙◌, ap, inl, inr}
-use Rattle.xk_words.specs.Line.{asked_value, texts}
-use Rattle.x10clock.proofs.GivenWords.{asked, refused}
+use Rattle.xk_cli.specs.CommandLine.{asked_value, texts}
+use Rattle.x10clock.proofs.WordLemmas.{asked, refused}
 use Rattle.x10clock.proofs.on_words.Goals as goal
 
 pub returns-in-Ok-read_job-clause-told : goal.returns-in-Ok-read_job-clause-told

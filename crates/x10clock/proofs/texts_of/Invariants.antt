@@ -1,5 +1,5 @@
 use Rattle.std.proofs.Common.{◌≡◌, map, take, string_bytes}
-use Rattle.xk_words.specs.Line.{texts}
+use Rattle.xk_cli.specs.CommandLine.{texts}
 use Rattle.x10clock.proofs.texts_of.Given as goal
 
 -- the words so far are the texts found

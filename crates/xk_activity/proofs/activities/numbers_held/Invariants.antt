@@ -1,5 +1,5 @@
 use Rattle.std.proofs.Common.{◌≡◌, map, take}
-use Rattle.xk_types.specs.declared.names.Value.TheVariants as value
+use Rattle.xk_types.specs.declared.world.Value.TheVariants as value
 use Rattle.xk_activity.proofs.activities.numbers_held.Given as goal
 
 -- the first of the numbers

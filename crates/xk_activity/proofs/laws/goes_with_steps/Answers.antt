@@ -1,4 +1,4 @@
-use Rattle.xk_activity.proofs.Joined.{joined}
+use Rattle.xk_activity.proofs.StepAgreementLemmas.{joined}
 use Rattle.xk_activity.proofs.laws.goes_with_steps.Goals as goal
 
 pub returns : goal.returns

@@ -1,4 +1,4 @@
-use Rattle.xk_activity.proofs.Reached.{reached_safe}
+use Rattle.xk_activity.proofs.ReachabilityLemmas.{reached_safe}
 use Rattle.xk_activity.proofs.laws.reached_frames.Goals as goal
 
 pub returns : goal.returns

@@ -1,7 +1,7 @@
 use Rattle.std.proofs.Common.{sym, ap, ◌∙◌, arith, length, refl, rules}
 use Rattle.xk_activity.specs.Slots.{is_marked, values_of}
-use Rattle.xk_activity.proofs.Words.{length_by}
-use Rattle.xk_activity.proofs.Handed.{same_more, same_all}
+use Rattle.xk_activity.proofs.SlotWordLemmas.{length_by}
+use Rattle.xk_activity.proofs.ArgumentCopyLemmas.{same_more, same_all}
 use Rattle.xk_activity.proofs.slots.are_same_slots.Goals as goal
 
 pub returns-then-a-b : goal.returns-then-a-b

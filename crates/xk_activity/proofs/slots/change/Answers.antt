@@ -2,7 +2,7 @@ use Rattle.std.specs.Int.{w64}
 use Rattle.std.proofs.Common.{ap, ◌∙◌, slice_set}
 use Rattle.std.proofs.lemmas.Int.{to_z-of_z}
 use Rattle.xk_activity.specs.Slots.{values_of}
-use Rattle.xk_activity.proofs.Words.{number_within, change_ok}
+use Rattle.xk_activity.proofs.SlotWordLemmas.{number_within, change_ok}
 use Rattle.xk_activity.proofs.slots.change.Goals as goal
 
 pub bounds-words-k : goal.bounds-words-k

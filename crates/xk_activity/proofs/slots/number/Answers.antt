@@ -1,6 +1,6 @@
 use Rattle.std.proofs.Common.{rules, pos, refl}
 use Rattle.std.specs.Prelude.{slice_index_or}
-use Rattle.xk_activity.proofs.Words.{number_within, number_read}
+use Rattle.xk_activity.proofs.SlotWordLemmas.{number_within, number_read}
 use Rattle.xk_activity.proofs.slots.number.Goals as goal
 
 pub bounds-words-s : goal.bounds-words-s

@@ -1,7 +1,7 @@
 use Rattle.std.specs.Int.{w64}
 use Rattle.std.proofs.Common.{◌≡◌, rules, to_z, of_z, ap, ◌∙◌, arith, slice_set}
 use Rattle.xk_activity.specs.Slots.{is_marked, values_of}
-use Rattle.xk_activity.proofs.Words.{length_by, set_ok}
+use Rattle.xk_activity.proofs.SlotWordLemmas.{length_by, set_ok}
 use Rattle.xk_activity.proofs.slots.set.Goals as goal
 
 pub bounds-words-s : goal.bounds-words-s

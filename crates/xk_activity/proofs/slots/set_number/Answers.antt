@@ -2,7 +2,7 @@ use Rattle.std.specs.Int.{w64}
 use Rattle.std.proofs.Common.{ap, ◌∙◌, arith, true, slice_set}
 use Rattle.std.proofs.lemmas.Int.{to_z-of_z}
 use Rattle.xk_activity.specs.Slots.{is_marked, values_of}
-use Rattle.xk_activity.proofs.Words.{length_by, set_ok}
+use Rattle.xk_activity.proofs.SlotWordLemmas.{length_by, set_ok}
 use Rattle.xk_activity.proofs.slots.set_number.Goals as goal
 
 pub bounds-words-d : goal.bounds-words-d

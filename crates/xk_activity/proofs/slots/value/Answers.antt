@@ -1,8 +1,8 @@
 use Rattle.std.proofs.Common.{rules, pos, refl, sym, ◌∙◌, true, false}
 use Rattle.std.specs.Prelude.{slice_index_or}
-use Rattle.xk_types.specs.declared.names.Value.TheVariants as value
+use Rattle.xk_types.specs.declared.world.Value.TheVariants as value
 use Rattle.xk_activity.specs.Slots.{unmarked}
-use Rattle.xk_activity.proofs.Words.{value_read}
+use Rattle.xk_activity.proofs.SlotWordLemmas.{value_read}
 use Rattle.xk_activity.proofs.slots.value.Goals as goal
 
 pub returns-in-true : goal.returns-in-true

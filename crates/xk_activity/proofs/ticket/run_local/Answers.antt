@@ -1,6 +1,6 @@
 use Rattle.std.proofs.Common.{sym, ap, ◌∙◌}
 use Rattle.xk_activity.specs.Local.{FramesValue, local, ran}
-use Rattle.xk_activity.proofs.Safe.{some_steps}
+use Rattle.xk_activity.proofs.StepSequenceLemmas.{some_steps}
 use Rattle.xk_activity.proofs.ticket.run_local.Goals as goal
 
 pub invariant_of-result : goal.invariant_of-result

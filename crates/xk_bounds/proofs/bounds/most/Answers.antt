@@ -5,9 +5,9 @@ use Rattle.std.proofs.lemmas.Bool.{cases_lt}
 use Rattle.std.proofs.lemmas.Option.{slice_get_read}
 use Rattle.xk_types.specs.Bound.{total}
 use Rattle.xk_bounds.specs.declared.bounds.TheConstants.{CUT}
-use Rattle.xk_shape.proofs.Units.{blocks_of_shape}
+use Rattle.xk_shape.proofs.UnitLemmas.{blocks_of_shape}
 use Rattle.xk_bounds.specs.Measure.{added_by, weight_of}
-use Rattle.xk_bounds.proofs.Totals.{total_cut}
+use Rattle.xk_bounds.proofs.TotalLemmas.{total_cut}
 use Rattle.xk_bounds.proofs.bounds.most.Goals as goal
 
 pub most_of-requires : goal.most_of-requires

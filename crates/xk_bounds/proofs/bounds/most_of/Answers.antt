@@ -4,7 +4,7 @@ use Rattle.std.proofs.lemmas.Option.{slice_get_read}
 use Rattle.xk_types.specs.Code.{UnitValue}
 use Rattle.xk_bounds.specs.declared.bounds.TheConstants.{CUT}
 use Rattle.xk_bounds.specs.Measure.{weight_of, visits_next}
-use Rattle.xk_bounds.proofs.Measured.{IsMeasured, measured_start, measured_next}
+use Rattle.xk_bounds.proofs.WeightSumLemmas.{IsMeasured, measured_start, measured_next}
 use Rattle.xk_bounds.proofs.bounds.most_of.Goals as goal
 
 pub loop-instr-init : goal.loop-instr-init

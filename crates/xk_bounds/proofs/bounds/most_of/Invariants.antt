@@ -2,7 +2,7 @@
 use Rattle.std.proofs.Common.{slice_index}
 use Rattle.xk_bounds.specs.declared.bounds.TheConstants.{CUT}
 use Rattle.xk_bounds.specs.Measure.{weight_of}
-use Rattle.xk_bounds.proofs.Measured.{IsMeasured}
+use Rattle.xk_bounds.proofs.WeightSumLemmas.{IsMeasured}
 use Rattle.xk_bounds.proofs.bounds.most_of.Given as goal
 
 abbrev pub invariant-loop-instr : goal.invariant-loop-instr

@@ -2,10 +2,10 @@
 use Rattle.std.proofs.Common.{◌≡◌, ◌-◌, ◌<◌, List, length, refl, Some, slice_get, sym, ap, ◌∙◌, subst, arith}
 use Rattle.std.proofs.Math.ListN.{length-set}
 use Rattle.std.proofs.lemmas.Option.{slice_get_read}
-use Rattle.xk_shape.proofs.Units.{blocks_of_shape}
+use Rattle.xk_shape.proofs.UnitLemmas.{blocks_of_shape}
 use Rattle.xk_bounds.specs.declared.room.Room.{Room}
 use Rattle.xk_bounds.specs.Rooms.{nothing, IsSmall, IsRoomBy, IsRoom}
-use Rattle.xk_bounds.proofs.Rooms.{room_by, room_small, each_set}
+use Rattle.xk_bounds.proofs.RoomLemmas.{room_by, room_small, each_set}
 use Rattle.xk_bounds.proofs.room.rooms.Goals as goal
 
 pub of-requires-clause-blocks : goal.of-requires-clause-blocks

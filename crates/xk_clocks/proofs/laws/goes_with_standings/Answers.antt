@@ -1,4 +1,4 @@
-use Rattle.xk_clocks.proofs.Kept.{ready_is, settled_is, at_rest, made_is, given_is, not_given_is, resumed_is, dropped_is, passed_is, owed_is, owed_pending_is, owed_signalled_is, owed_by_rest_is}
+use Rattle.xk_clocks.proofs.CountStepLemmas.{ready_is, settled_is, at_rest, made_is, given_is, not_given_is, resumed_is, dropped_is, passed_is, owed_is, owed_pending_is, owed_signalled_is, owed_by_rest_is}
 use Rattle.xk_clocks.proofs.laws.goes_with_standings.Goals as goal
 
 pub returns-clause-ready : goal.returns-clause-ready

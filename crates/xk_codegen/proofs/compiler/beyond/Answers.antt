@@ -1,4 +1,4 @@
-use Rattle.xk_codegen.proofs.Faults.{beyond_none, beyond_there}
+use Rattle.xk_codegen.proofs.FaultLemmas.{beyond_none, beyond_there}
 use Rattle.xk_codegen.proofs.compiler.beyond.Goals as goal
 
 pub returns-in-None : goal.returns-in-None

@@ -4,7 +4,7 @@ use Rattle.xk_tree.specs.declared.fault.FrontRule.TheVariants as rule
 use Rattle.xk_tree.specs.Tree.{shared_value}
 use Rattle.xk_tree.specs.Program.{tree_value}
 use Rattle.xk_names.specs.Faults.{fault}
-use Rattle.xk_codegen.proofs.Faults.{told, many_shared}
+use Rattle.xk_codegen.proofs.FaultLemmas.{told, many_shared}
 use Rattle.xk_codegen.proofs.compiler.check_shared.Goals as goal
 
 pub returns-in-Some-clause-fault : goal.returns-in-Some-clause-fault

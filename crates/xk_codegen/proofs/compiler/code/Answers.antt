@@ -1,6 +1,6 @@
 use Rattle.std.proofs.Common.{Err, ap}
 use Rattle.std.proofs.lemmas.Result.{err_from_is_err_and}
-use Rattle.xk_codegen.proofs.Faults.{passed_on}
+use Rattle.xk_codegen.proofs.FaultLemmas.{passed_on}
 use Rattle.xk_codegen.proofs.compiler.code.Goals as goal
 
 pub returns-in_err-check_shared-clause-fault : goal.returns-in_err-check_shared-clause-fault

@@ -2,7 +2,7 @@ use Rattle.std.proofs.Common.{Err, ap, rules}
 use Rattle.xk_tree.specs.Program.{tree_value}
 use Rattle.xk_tree.specs.declared.fault.FrontError.TheVariants as error
 use Rattle.xk_codegen.specs.Faults.{InTables, IsFalling}
-use Rattle.xk_codegen.proofs.Faults.{same_error}
+use Rattle.xk_codegen.proofs.FaultLemmas.{same_error}
 use Rattle.xk_codegen.proofs.compiler.compile.Goals as goal
 
 pub returns-in-Ok-clause-fault : goal.returns-in-Ok-clause-fault

@@ -1,7 +1,7 @@
 use Rattle.std.proofs.Common.{◌∙◌, ◌++◌, ◌∷◌, [], ap}
 use Rattle.std.specs.Int.{w64}
 use Rattle.std.proofs.lemmas.Int.{to_z-of_z}
-use Rattle.xk_codegen.proofs.Lists.{starts_step}
+use Rattle.xk_codegen.proofs.ListLemmas.{starts_step}
 use Rattle.xk_codegen.proofs.compiler.starts.Goals as goal
 
 pub loop-number-preserved : goal.loop-number-preserved

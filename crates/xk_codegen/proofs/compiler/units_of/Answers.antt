@@ -3,8 +3,8 @@ use Rattle.std.proofs.lemmas.Option.{slice_get_read}
 use Rattle.xk_tree.specs.declared.fault.FrontRule.TheVariants as rule
 use Rattle.xk_names.specs.Faults.{fault}
 use Rattle.xk_codegen.specs.Faults.{offset}
-use Rattle.xk_codegen.proofs.Units.{none_made, one_more_unit, all_made}
-use Rattle.xk_codegen.proofs.Faults.{IsBeyond, IsLeast, either, few_units, large_unit, least_at_first, least_kept, least_of_all, least_taken, many_units, told}
+use Rattle.xk_codegen.proofs.UnitLemmas.{none_made, one_more_unit, all_made}
+use Rattle.xk_codegen.proofs.FaultLemmas.{IsBeyond, IsLeast, either, few_units, large_unit, least_at_first, least_kept, least_of_all, least_taken, many_units, told}
 use Rattle.xk_codegen.proofs.compiler.units_of.Goals as goal
 use Rattle.xk_codegen.proofs.compiler.units_of.Goals.{in-Some+in_ok-push-in-Some, in-None}
 

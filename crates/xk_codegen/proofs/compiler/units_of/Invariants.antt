@@ -1,6 +1,6 @@
 use Rattle.std.proofs.Common.{◌≡◌, ℕ, Some, None}
-use Rattle.xk_codegen.proofs.Units.{AreMade}
-use Rattle.xk_codegen.proofs.Faults.{IsBeyond, IsLeast}
+use Rattle.xk_codegen.proofs.UnitLemmas.{AreMade}
+use Rattle.xk_codegen.proofs.FaultLemmas.{IsBeyond, IsLeast}
 use Rattle.xk_codegen.proofs.compiler.units_of.Given as goal
 
 -- where no fault was found, and where one was; and that it is the least

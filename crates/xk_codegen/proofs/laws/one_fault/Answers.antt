@@ -1,4 +1,4 @@
-use Rattle.xk_codegen.proofs.OneFault.{not_faulty, told_once}
+use Rattle.xk_codegen.proofs.OneFaultLaw.{not_faulty, told_once}
 use Rattle.xk_codegen.proofs.laws.one_fault.Goals as goal
 
 pub returns-clause-told : goal.returns-clause-told

@@ -2,9 +2,9 @@ use Rattle.std.proofs.Common.{◌≡◌, ◌+◌, ◌<◌, ◌++◌, List, lengt
 use Rattle.std.specs.List.{flat_map}
 use Rattle.xk_tree.specs.declared.tree.Method.{Method}
 use Rattle.xk_tree.specs.Tree.{MethodValue, method_value}
-use Rattle.xk_source.specs.Parts.{Part, method_parts}
+use Rattle.xk_semantics.specs.Parts.{Part, method_parts}
 use Rattle.xk_codegen.specs.Views.{part}
-use Rattle.xk_codegen.proofs.Lists.{methods_left}
+use Rattle.xk_codegen.proofs.ListLemmas.{methods_left}
 use Rattle.xk_codegen.proofs.parts.parts.Goals as goal
 
 pub loop-method-preserved : goal.loop-method-preserved

@@ -3,10 +3,10 @@ use Rattle.std.specs.Prelude.{nat_eq}
 use Rattle.std.specs.Map.{lookup}
 use Rattle.std.specs.Option.{option_or}
 use Rattle.xk_tree.specs.Program.{tree_value}
-use Rattle.xk_source.specs.Parts.{Part}
-use Rattle.xk_source.specs.Compiled.{settled_body}
+use Rattle.xk_semantics.specs.Parts.{Part}
+use Rattle.xk_semantics.specs.Compilation.{settled_body}
 use Rattle.xk_codegen.specs.Views.{part}
-use Rattle.xk_codegen.proofs.Lists.{parts_left}
+use Rattle.xk_codegen.proofs.ListLemmas.{parts_left}
 use Rattle.xk_codegen.proofs.setting.add_bodies.Goals as goal
 
 pub loop-i-preserved : goal.loop-i-preserved

@@ -2,12 +2,12 @@ use Rattle.std.proofs.Common.{ℕ, ◌+◌, Some, cond, ◌∷◌, Option, optio
 use Rattle.std.proofs.lemmas.Result.{on_ok_weaker}
 use Rattle.std.specs.Option.{option_or}
 use Rattle.xk_names.specs.Scope.{find, is_text}
-use Rattle.xk_names.specs.Collected.{put}
-use Rattle.xk_units.proofs.Collecting.{put_number}
-use Rattle.xk_source.specs.Parts.{Part, method_among}
-use Rattle.xk_source.specs.Compiled.{unit_number}
+use Rattle.xk_names.specs.FaultList.{put}
+use Rattle.xk_callgraph.proofs.NameNumberLemmas.{put_number}
+use Rattle.xk_semantics.specs.Parts.{Part, method_among}
+use Rattle.xk_semantics.specs.Compilation.{unit_number}
 use Rattle.xk_codegen.specs.Views.{part}
-use Rattle.xk_codegen.proofs.Lists.{numbered_or}
+use Rattle.xk_codegen.proofs.ListLemmas.{numbered_or}
 use Rattle.xk_codegen.proofs.setting.add_method.Goals as goal
 
 pub returns-in-Method : goal.returns-in-Method

@@ -1,5 +1,5 @@
 use Rattle.std.proofs.Common.{◌∙◌}
-use Rattle.xk_codegen.proofs.Lists.{shared_step}
+use Rattle.xk_codegen.proofs.ListLemmas.{shared_step}
 use Rattle.xk_codegen.proofs.setting.add_shared.Goals as goal
 
 pub loop-i-preserved : goal.loop-i-preserved

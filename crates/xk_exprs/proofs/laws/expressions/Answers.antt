@@ -1,5 +1,5 @@
-use Rattle.xk_exprs.proofs.Whole.{expressions}
-use Rattle.xk_exprs.proofs.Again.{expression_again, expression_once}
+use Rattle.xk_exprs.proofs.ExpressionLemmas.{expressions}
+use Rattle.xk_exprs.proofs.CompletenessLemmas.{expression_again, expression_once}
 use Rattle.xk_exprs.proofs.laws.expressions.Goals as goal
 
 pub returns-clause-found : goal.returns-clause-found

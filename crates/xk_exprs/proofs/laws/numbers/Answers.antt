@@ -1,4 +1,4 @@
-use Rattle.xk_exprs.proofs.Numbers.{number_found, number_again}
+use Rattle.xk_exprs.proofs.NumberLemmas.{number_found, number_again}
 use Rattle.xk_exprs.proofs.laws.numbers.Goals as goal
 
 pub returns-clause-found : goal.returns-clause-found

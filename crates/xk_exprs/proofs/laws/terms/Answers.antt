@@ -1,5 +1,5 @@
-use Rattle.xk_exprs.proofs.Whole.{terms_whole}
-use Rattle.xk_exprs.proofs.Again.{term_again}
+use Rattle.xk_exprs.proofs.ExpressionLemmas.{terms_whole}
+use Rattle.xk_exprs.proofs.CompletenessLemmas.{term_again}
 use Rattle.xk_exprs.proofs.laws.terms.Goals as goal
 
 pub returns-clause-found : goal.returns-clause-found

@@ -1,4 +1,4 @@
-use Rattle.xk_finishes.proofs.Activities.{awaits_same, nodes_kept, entered_nodes, left_nodes, spawned_nodes, ended_nodes}
+use Rattle.xk_finishes.proofs.ActivityLemmas.{awaits_same, nodes_kept, entered_nodes, left_nodes, spawned_nodes, ended_nodes}
 use Rattle.xk_finishes.proofs.laws.goes_with_steps.Goals as goal
 
 pub returns-clause-awaited : goal.returns-clause-awaited

@@ -1,8 +1,8 @@
 use Rattle.std.proofs.Common.{◌<◌, ◌≤◌, length, ap, sym, ◌∙◌, subst, arith}
 use Rattle.std.specs.Io.KnownBytes.{Consumes}
-use Rattle.xk_log.specs.Places.{before}
+use Rattle.xk_log.specs.Verdicts.{before}
 use Rattle.xk_log.specs.Reading.{place}
-use Rattle.xk_log.proofs.Reader.{tells_stopped, counts_stopped, tells_finished, read_joined, read_grows, read_nothing, falls, held_short}
+use Rattle.xk_log.proofs.ReaderLemmas.{tells_stopped, counts_stopped, tells_finished, read_joined, read_grows, read_nothing, falls, held_short}
 use Rattle.xk_log.proofs.reading.read_lines.Goals as goal
 
 pub returns-in-Err-clause-told : goal.returns-in-Err-clause-told

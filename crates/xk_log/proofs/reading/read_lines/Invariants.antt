@@ -1,6 +1,6 @@
 use Rattle.std.proofs.Common.{◌≡◌, ◌-◌, ◌≤◌, ◌++◌, length, take}
 use Rattle.std.specs.Io.KnownBytes.{Consumes}
-use Rattle.xk_log.specs.Places.{before, IsOneLine, longest_line}
+use Rattle.xk_log.specs.Verdicts.{before, IsOneLine, longest_line}
 use Rattle.xk_log.specs.Reading.{place, IsReady, IsNoneBehind}
 use Rattle.xk_log.proofs.reading.read_lines.Given as goal
 

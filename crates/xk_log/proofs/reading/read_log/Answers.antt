@@ -1,4 +1,4 @@
-use Rattle.xk_log.proofs.Reader.{answers_told}
+use Rattle.xk_log.proofs.ReaderLemmas.{answers_told}
 use Rattle.xk_log.proofs.reading.read_log.Goals as goal
 
 pub returns-clause-exactly : goal.returns-clause-exactly

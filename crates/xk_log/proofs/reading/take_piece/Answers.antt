@@ -1,7 +1,7 @@
 use Rattle.std.proofs.Common.{◌≡◌, ◌-◌, ◌<◌, ◌≤◌, ◌++◌, length, take, drop, ap, sym, ◌∙◌, subst, arith, length-take}
-use Rattle.xk_log.specs.Places.{before, IsOneLine, longest_line}
+use Rattle.xk_log.specs.Verdicts.{before, IsOneLine, longest_line}
 use Rattle.xk_log.specs.Reading.{place, HasSurplus}
-use Rattle.xk_log.proofs.Reader.{stops_long, stops_surplus, kept_front, left_size}
+use Rattle.xk_log.proofs.ReaderLemmas.{stops_long, stops_surplus, kept_front, left_size}
 use Rattle.xk_log.proofs.reading.take_piece.Goals as goal
 
 pub returns-then-left-gt-LONGEST_LINE-clause-stopped : goal.returns-then-left-gt-LONGEST_LINE-clause-stopped

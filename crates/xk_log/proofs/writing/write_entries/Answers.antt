@@ -3,8 +3,8 @@ use Rattle.std.proofs.lemmas.List.{take_all}
 use Rattle.std.specs.Io.KnownBytes.{Appends}
 use Rattle.xk_log.specs.LogText.{head_line, ended, end_line, entry_lines, log_text}
 use Rattle.xk_log.specs.Writing.{AppendsBeginning}
-use Rattle.xk_log.proofs.Devices.{appends_then, beginning_more, beginning_then}
-use Rattle.xk_log.proofs.Texts.{lines_then, log_at}
+use Rattle.xk_log.proofs.DeviceLemmas.{appends_then, beginning_more, beginning_then}
+use Rattle.xk_log.proofs.TextLemmas.{lines_then, log_at}
 use Rattle.xk_log.proofs.writing.write_entries.Goals as goal
 
 pub returns-in_err-write_all-clause-beginning : goal.returns-in_err-write_all-clause-beginning

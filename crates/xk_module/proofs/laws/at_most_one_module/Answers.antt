@@ -1,5 +1,5 @@
-use Rattle.xk_module.proofs.Modules.{named_once}
-use Rattle.xk_module.proofs.Texts.{one_module}
+use Rattle.xk_module.proofs.ModuleLemmas.{named_once}
+use Rattle.xk_module.proofs.TextLemmas.{one_module}
 use Rattle.xk_module.proofs.laws.at_most_one_module.Goals as goal
 
 pub returns-clause-value : goal.returns-clause-value

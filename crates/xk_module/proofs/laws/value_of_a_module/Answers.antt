@@ -1,4 +1,4 @@
-use Rattle.xk_module.proofs.Values.{value_named, named_alone}
+use Rattle.xk_module.proofs.JsonValueLemmas.{value_named, named_alone}
 use Rattle.xk_module.proofs.laws.value_of_a_module.Goals as goal
 
 pub returns-clause-named : goal.returns-clause-named

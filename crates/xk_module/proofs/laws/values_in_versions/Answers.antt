@@ -1,8 +1,8 @@
 use Rattle.std.proofs.Common.{refl, ap}
 use Rattle.std.specs.Prelude.{not}
 use Rattle.xk_module.specs.declared.version.Version.TheVariants as version
-use Rattle.xk_module.proofs.Modules.{value_unknown}
-use Rattle.xk_module.proofs.Values.{known_without}
+use Rattle.xk_module.proofs.ModuleLemmas.{value_unknown}
+use Rattle.xk_module.proofs.JsonValueLemmas.{known_without}
 use Rattle.xk_module.proofs.laws.values_in_versions.Goals as goal
 
 pub returns-clause-without : goal.returns-clause-without

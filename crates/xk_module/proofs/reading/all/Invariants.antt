@@ -1,6 +1,6 @@
 use Rattle.std.proofs.Common.{◌≡◌, drop}
-use Rattle.xk_module.specs.Named.{views, each}
-use Rattle.xk_module.proofs.Loop.{with_front}
+use Rattle.xk_module.specs.ModuleReader.{views, each}
+use Rattle.xk_module.proofs.LoopLemmas.{with_front}
 use Rattle.xk_module.proofs.reading.all.Given as goal
 
 -- those read so far and those of what is left are those of all

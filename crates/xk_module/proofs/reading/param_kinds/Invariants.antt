@@ -1,6 +1,6 @@
 use Rattle.std.proofs.Common.{◌≡◌, drop}
-use Rattle.xk_module.specs.Named.{each, param_at}
-use Rattle.xk_module.proofs.Loop.{with_front}
+use Rattle.xk_module.specs.ModuleReader.{each, param_at}
+use Rattle.xk_module.proofs.LoopLemmas.{with_front}
 use Rattle.xk_module.proofs.reading.param_kinds.Given as goal
 
 -- those read so far and those of what is left are those of all

@@ -3,7 +3,7 @@ use Rattle.std.proofs.lemmas.Result.{err_from_is_err_and}
 use Rattle.serde_json.specs.View.{view}
 use Rattle.xk_types.specs.Code.{module_of}
 use Rattle.xk_module.specs.ModuleText.{IsModuleText}
-use Rattle.xk_module.proofs.Texts.{refused, not_empty, is_named, is_err}
+use Rattle.xk_module.proofs.TextLemmas.{refused, not_empty, is_named, is_err}
 use Rattle.xk_module.proofs.text.read_module.Goals as goal
 
 pub returns-in_err-shared-clause-not_a_module : goal.returns-in_err-shared-clause-not_a_module

@@ -1,5 +1,5 @@
 use Rattle.std.proofs.Common.{drop}
-use Rattle.xk_module.proofs.Values.{AreWritten}
+use Rattle.xk_module.proofs.JsonValueLemmas.{AreWritten}
 use Rattle.xk_module.proofs.writing.array.Given as goal
 
 abbrev pub invariant-loop-item : goal.invariant-loop-item

@@ -1,7 +1,7 @@
 use Rattle.std.proofs.Common.{◌≡◌, ◌++◌, ◌∷◌, map, drop}
 use Rattle.serde_json.specs.Data.{string}
 use Rattle.xk_module.specs.Operands.{operand_value}
-use Rattle.xk_module.specs.Named.{views}
+use Rattle.xk_module.specs.ModuleReader.{views}
 use Rattle.xk_module.proofs.writing.operation.Given as goal
 
 -- the values so far and those of what is left are those of all

@@ -1,5 +1,5 @@
 use Rattle.serde_json.specs.View.{view}
-use Rattle.xk_module.proofs.Values.{compact_of, written_text, value_named, named_alone}
+use Rattle.xk_module.proofs.JsonValueLemmas.{compact_of, written_text, value_named, named_alone}
 use Rattle.xk_module.proofs.writing.write_module.Goals as goal
 
 pub returns-clause-text : goal.returns-clause-text

@@ -1,6 +1,6 @@
 use Rattle.std.proofs.Common.{◌≤◌, ◌∙◌, ◌++◌, min, length, sym, ap, append-nil, arith}
-use Rattle.xk_names.specs.Given.{arguments}
-use Rattle.xk_names.proofs.Turns.{given_end}
+use Rattle.xk_names.specs.StatementParts.{arguments}
+use Rattle.xk_names.proofs.ArgumentLoopLemmas.{given_end}
 use Rattle.xk_names.proofs.arguments.arguments.Goals as goal
 use Rattle.xk_names.proofs.arguments.arguments.Goals.{then-params-values, else-params-values}
 

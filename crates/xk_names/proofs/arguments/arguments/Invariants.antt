@@ -1,7 +1,7 @@
 use Rattle.std.proofs.Common.{◌≡◌, ◌++◌, drop, map}
 use Rattle.xk_tree.specs.Tree.{param_value, expressions}
 use Rattle.xk_names.specs.Uses.{given}
-use Rattle.xk_names.specs.Given.{arguments}
+use Rattle.xk_names.specs.StatementParts.{arguments}
 use Rattle.xk_names.proofs.arguments.arguments.Given as goal
 
 abbrev pub invariant-loop-i : goal.invariant-loop-i

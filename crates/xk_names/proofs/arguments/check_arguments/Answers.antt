@@ -3,9 +3,9 @@ use Rattle.std.proofs.lemmas.Result.{on_ok_weaker}
 use Rattle.std.specs.List.{flat_map}
 use Rattle.xk_tree.specs.Tree.{word}
 use Rattle.xk_names.specs.Uses.{argument_clocks}
-use Rattle.xk_names.specs.Given.{arguments}
-use Rattle.xk_names.specs.Collected.{least, repeats}
-use Rattle.xk_names.proofs.Calls.{call_found, count_told}
+use Rattle.xk_names.specs.StatementParts.{arguments}
+use Rattle.xk_names.specs.FaultList.{least, repeats}
+use Rattle.xk_names.proofs.CallFaultLemmas.{call_found, count_told}
 use Rattle.xk_names.proofs.arguments.check_arguments.Goals as goal
 
 pub returns : goal.returns

@@ -1,9 +1,9 @@
 use Rattle.std.proofs.Common.{◌≡◌, drop, map}
 use Rattle.std.specs.List.{flat_map}
 use Rattle.xk_tree.specs.Tree.{words}
-use Rattle.xk_names.specs.declared.known.Want.TheVariants as want
+use Rattle.xk_names.specs.declared.binding.Want.TheVariants as want
 use Rattle.xk_names.specs.Uses.{use_as}
-use Rattle.xk_names.specs.Collected.{least, use_faults}
+use Rattle.xk_names.specs.FaultList.{least, use_faults}
 use Rattle.xk_names.proofs.arguments.check_listed.Given as goal
 
 abbrev pub invariant-loop-name : goal.invariant-loop-name

@@ -3,8 +3,8 @@ use Rattle.std.specs.List.{flat_map}
 use Rattle.xk_tree.specs.declared.fault.FrontRule.TheVariants as rule
 use Rattle.xk_names.specs.Faults.{fault}
 use Rattle.xk_names.specs.Uses.{argument_misfits}
-use Rattle.xk_names.specs.Given.{arguments}
-use Rattle.xk_names.specs.Collected.{least}
+use Rattle.xk_names.specs.StatementParts.{arguments}
+use Rattle.xk_names.specs.FaultList.{least}
 use Rattle.xk_names.proofs.arguments.check_misfits.Given as goal
 
 abbrev pub invariant-loop-argument : goal.invariant-loop-argument

@@ -1,5 +1,5 @@
 use Rattle.std.proofs.Common.{◌∙◌, arith}
-use Rattle.xk_names.proofs.Turns.{uses_turn}
+use Rattle.xk_names.proofs.ArgumentLoopLemmas.{uses_turn}
 use Rattle.xk_names.proofs.arguments.check_uses.Goals as goal
 
 pub loop-argument-preserved : goal.loop-argument-preserved

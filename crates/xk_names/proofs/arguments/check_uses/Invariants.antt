@@ -1,8 +1,8 @@
 use Rattle.std.proofs.Common.{◌≡◌, drop}
 use Rattle.std.specs.List.{flat_map}
 use Rattle.xk_names.specs.Uses.{argument_uses}
-use Rattle.xk_names.specs.Given.{arguments}
-use Rattle.xk_names.specs.Collected.{least, use_faults}
+use Rattle.xk_names.specs.StatementParts.{arguments}
+use Rattle.xk_names.specs.FaultList.{least, use_faults}
 use Rattle.xk_names.proofs.arguments.check_uses.Given as goal
 
 abbrev pub invariant-loop-argument : goal.invariant-loop-argument

@@ -1,6 +1,6 @@
 use Rattle.std.proofs.Common.{◌≡◌, [], drop}
 use Rattle.xk_tree.specs.Tree.{words}
-use Rattle.xk_names.specs.Collected.{put_texts}
+use Rattle.xk_names.specs.FaultList.{put_texts}
 use Rattle.xk_names.proofs.arguments.clocks_of.Given as goal
 
 abbrev pub invariant-loop-name : goal.invariant-loop-name

@@ -1,5 +1,5 @@
 -- The laws of the contract.
-use Rattle.xk_names.proofs.FreeLaw.{takes_free, takes_once, takes_in_order}
+use Rattle.xk_names.proofs.FreeVariablesLaw.{takes_free, takes_once, takes_in_order}
 use Rattle.xk_names.proofs.laws.takes_free_variables.Goals as goal
 
 pub returns-clause-free : goal.returns-clause-free

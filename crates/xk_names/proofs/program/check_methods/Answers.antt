@@ -1,6 +1,6 @@
 use Rattle.std.proofs.Common.{◌∙◌, ap, arith}
 use Rattle.xk_names.specs.Scope.{Scope}
-use Rattle.xk_names.proofs.Steps.{methods_turn}
+use Rattle.xk_names.proofs.StatementSequenceLemmas.{methods_turn}
 use Rattle.xk_names.proofs.program.check_methods.Goals as goal
 
 pub loop-method-preserved : goal.loop-method-preserved

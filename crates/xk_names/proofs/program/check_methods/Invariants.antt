@@ -1,7 +1,7 @@
 use Rattle.std.proofs.Common.{◌≡◌, drop, map}
 use Rattle.std.specs.List.{flat_map}
 use Rattle.xk_tree.specs.Tree.{method_value}
-use Rattle.xk_names.specs.Collected.{least, method_faults}
+use Rattle.xk_names.specs.FaultList.{least, method_faults}
 use Rattle.xk_names.proofs.program.check_methods.Given as goal
 
 abbrev pub invariant-loop-method : goal.invariant-loop-method

@@ -1,9 +1,9 @@
 use Rattle.std.proofs.Common.{◌≡◌, [], true, false, refl, sym, ◌∙◌, subst}
 use Rattle.xk_tree.specs.Program.{tree_value}
 use Rattle.xk_names.specs.Faults.{IsReported, no_main}
-use Rattle.xk_names.specs.Collected.{put_methods}
-use Rattle.xk_names.proofs.Answered.{one_reported, clean_tree, no_main_reported}
-use Rattle.xk_names.proofs.ScopedLaw.{scoped_tree}
+use Rattle.xk_names.specs.FaultList.{put_methods}
+use Rattle.xk_names.proofs.ProgramFaultLemmas.{one_reported, clean_tree, no_main_reported}
+use Rattle.xk_names.proofs.WellScopedLaw.{scoped_tree}
 use Rattle.xk_names.proofs.program.check_names.Goals as goal
 
 pub returns-in-Some-clause-fault : goal.returns-in-Some-clause-fault

@@ -1,7 +1,7 @@
 use Rattle.std.proofs.Common.{◌≡◌, [], drop, map}
 use Rattle.xk_tree.specs.Tree.{param_value}
 use Rattle.xk_names.specs.Faults.{param_declaration}
-use Rattle.xk_names.specs.Collected.{least, declared_again, with_declared}
+use Rattle.xk_names.specs.FaultList.{least, declared_again, with_declared}
 use Rattle.xk_names.proofs.program.declare_params.Given as goal
 
 abbrev pub invariant-loop-param : goal.invariant-loop-param

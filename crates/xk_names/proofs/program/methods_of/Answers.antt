@@ -2,8 +2,8 @@ use Rattle.std.proofs.Common.{List, [], map, ap, ◌∙◌}
 use Rattle.xk_tree.specs.declared.tree.Method.{Method}
 use Rattle.xk_tree.specs.Tree.{method_value}
 use Rattle.xk_tree.specs.Program.{tree_value}
-use Rattle.xk_names.specs.Collected.{put_methods}
-use Rattle.xk_names.proofs.Called.{scoped_signatures}
+use Rattle.xk_names.specs.FaultList.{put_methods}
+use Rattle.xk_names.proofs.SignatureLemmas.{scoped_signatures}
 use Rattle.xk_names.proofs.program.methods_of.Goals as goal
 
 pub returns-clause-scoped : goal.returns-clause-scoped

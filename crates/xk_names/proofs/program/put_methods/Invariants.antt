@@ -1,6 +1,6 @@
 use Rattle.std.proofs.Common.{◌≡◌, drop, map}
 use Rattle.xk_tree.specs.Tree.{method_value}
-use Rattle.xk_names.specs.Collected.{least, methods_again, put_methods}
+use Rattle.xk_names.specs.FaultList.{least, methods_again, put_methods}
 use Rattle.xk_names.proofs.program.put_methods.Given as goal
 
 abbrev pub invariant-loop-method : goal.invariant-loop-method

@@ -1,4 +1,4 @@
-use Rattle.xk_replay.proofs.Verdicts.{one_verdict}
+use Rattle.xk_replay.proofs.VerdictLemmas.{one_verdict}
 use Rattle.xk_replay.proofs.laws.one_verdict.Goals as goal
 
 pub returns : goal.returns

@@ -1,4 +1,4 @@
-use Rattle.xk_serve.proofs.RunLogs.{charted, charted_alone, replayed, replayed_alone}
+use Rattle.xk_serve.proofs.RunLogLemmas.{charted, charted_alone, replayed, replayed_alone}
 use Rattle.xk_serve.proofs.laws.a_log_tells_its_run.Goals as goal
 
 pub returns-clause-replayed : goal.returns-clause-replayed

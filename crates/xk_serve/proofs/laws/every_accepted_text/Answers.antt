@@ -1,5 +1,5 @@
 -- The law over every schedule, and that a compiled program means its source.
-use Rattle.xk_syntax.proofs.Bodies.{bodies_apart}
+use Rattle.xk_syntax.proofs.AsyncOffsetLemmas.{bodies_apart}
 use Rattle.xk_serve.proofs.laws.every_accepted_text.Goals as goal
 
 pub returns : goal.returns

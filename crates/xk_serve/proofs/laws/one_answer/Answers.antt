@@ -1,4 +1,4 @@
-use Rattle.xk_serve.proofs.OneAnswer.{done_once, one_answer, one_source_answer}
+use Rattle.xk_serve.proofs.AnswerUniquenessLemmas.{done_once, one_answer, one_source_answer}
 use Rattle.xk_serve.proofs.laws.one_answer.Goals as goal
 
 pub returns-clause-answer : goal.returns-clause-answer

@@ -1,6 +1,6 @@
 use Rattle.std.proofs.Common.{◌-◌, length}
 use Rattle.std.proofs.lemmas.Result.{IfOk-weaker}
-use Rattle.xk_serve.proofs.OrderedRuns.{log_without_state}
+use Rattle.xk_serve.proofs.OrderedRunLemmas.{log_without_state}
 use Rattle.xk_serve.proofs.logged_run.run_with_log.Goals as goal
 
 pub returns-in-First : goal.returns-in-First

@@ -1,6 +1,6 @@
 use Rattle.std.proofs.Common.{◌-◌, length}
 use Rattle.std.proofs.lemmas.Result.{IfOk-weaker}
-use Rattle.xk_serve.proofs.OrderedRuns.{without_state}
+use Rattle.xk_serve.proofs.OrderedRunLemmas.{without_state}
 use Rattle.xk_serve.proofs.ordered_run.run_in_order.Goals as goal
 
 pub returns-in-First : goal.returns-in-First

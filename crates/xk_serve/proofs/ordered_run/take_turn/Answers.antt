@@ -1,7 +1,7 @@
 use Rattle.std.proofs.Common.{◌≤◌, subst}
 use Rattle.std.specs.Prelude.{IfSome}
 use Rattle.xk_types.specs.Bound.{steps_bound}
-use Rattle.xk_drive.specs.Stretches.{IsGone}
+use Rattle.xk_scheduler.specs.LocalRuns.{IsGone}
 use Rattle.xk_serve.proofs.ordered_run.take_turn.Goals as goal
 
 pub returns : goal.returns

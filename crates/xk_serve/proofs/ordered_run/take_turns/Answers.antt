@@ -1,5 +1,5 @@
 use Rattle.std.proofs.Common.{refl, subst, sym}
-use Rattle.xk_serve.proofs.OrderedRuns.{IsFront, front_ends, front_goes, front_opens, goes_less}
+use Rattle.xk_serve.proofs.OrderedRunLemmas.{IsFront, front_ends, front_goes, front_opens, goes_less}
 use Rattle.xk_serve.proofs.ordered_run.take_turns.Goals as goal
 
 pub loop-init : goal.loop-init

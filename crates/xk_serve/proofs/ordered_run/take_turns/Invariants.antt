@@ -1,6 +1,6 @@
 use Rattle.std.proofs.Common.{◌≡◌, ◌+◌, ◌-◌}
 use Rattle.xk_types.specs.Bound.{steps_bound}
-use Rattle.xk_serve.proofs.OrderedRuns.{IsFront}
+use Rattle.xk_serve.proofs.OrderedRunLemmas.{IsFront}
 use Rattle.xk_serve.proofs.ordered_run.take_turns.Given as goal
 
 -- the core stands where a list that follows the chooser leads, and what that printed was kept

@@ -4,7 +4,7 @@ use Rattle.std.specs.List.{position}
 use Rattle.std.specs.Option.{option_map_or}
 use Rattle.std.proofs.lemmas.Option.{slice_get_past}
 use Rattle.xk_types.specs.Blocks.{block_at, same_block, makes, takes_clock}
-use Rattle.xk_shape.proofs.TableHomes.{moved}
+use Rattle.xk_shape.proofs.HomeTableLemmas.{moved}
 use Rattle.xk_shape.proofs.homes.is_made_elsewhere.Goals as goal
 
 pub returns : goal.returns

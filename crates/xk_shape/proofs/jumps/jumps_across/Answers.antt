@@ -2,9 +2,9 @@
 use Rattle.std.proofs.Common.{sym, ap, ◌∙◌}
 use Rattle.std.proofs.lemmas.Option.{slice_get_within}
 use Rattle.xk_types.specs.Shape.{aims_well, is_crossing}
-use Rattle.xk_types.proofs.Shape.Spans.{ahead}
-use Rattle.xk_shape.specs.Nests.{begin_named}
-use Rattle.xk_shape.proofs.LoopSlots.{crossed}
+use Rattle.xk_types.proofs.ShapeLemmas.SpanLemmas.{ahead}
+use Rattle.xk_shape.specs.Nesting.{begin_named}
+use Rattle.xk_shape.proofs.LoopSlotLemmas.{crossed}
 use Rattle.xk_shape.proofs.jumps.jumps_across.Goals as goal
 
 pub returns-in-Unless : goal.returns-in-Unless

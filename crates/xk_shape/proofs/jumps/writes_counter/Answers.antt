@@ -1,7 +1,7 @@
 -- what writes a slot is no end of a loop; what writes none writes no slot of a loop
 use Rattle.std.proofs.Common.{sym, ◌∙◌}
 use Rattle.std.proofs.lemmas.Option.{slice_get_within}
-use Rattle.xk_shape.proofs.LoopSlots.{nothing_written, written_in}
+use Rattle.xk_shape.proofs.LoopSlotLemmas.{nothing_written, written_in}
 use Rattle.xk_shape.proofs.jumps.writes_counter.Goals as goal
 
 pub returns-in-Some : goal.returns-in-Some

@@ -1,10 +1,10 @@
 -- how the place behind lies, by what stands at this one
 use Rattle.std.proofs.Common.{None, sym, ap, ◌∙◌, arith}
 use Rattle.xk_shape.specs.declared.places.Place.{Place}
-use Rattle.xk_shape.specs.Nests.{end_named}
-use Rattle.xk_shape.proofs.Around.{depth_few}
-use Rattle.xk_shape.proofs.Nested.{ended_behind}
-use Rattle.xk_shape.proofs.RoundPlaces.{found_at, place_known, names_begin, names_no_end, names_no_begin, behind_for, behind_forto, behind_finish, behind_end, behind_other, amiss_begin, amiss_end, amiss_within}
+use Rattle.xk_shape.specs.Nesting.{end_named}
+use Rattle.xk_shape.proofs.EnclosingFinishLemmas.{depth_few}
+use Rattle.xk_shape.proofs.NestingLemmas.{ended_behind}
+use Rattle.xk_shape.proofs.PlaceLemmas.{found_at, place_known, names_begin, names_no_end, names_no_begin, behind_for, behind_forto, behind_finish, behind_end, behind_other, amiss_begin, amiss_end, amiss_within}
 use Rattle.xk_shape.proofs.places.behind.Goals as goal
 use Rattle.xk_shape.proofs.places.behind.Goals.{else-ends_span-via-then-ends_span+else-eq, else-ends_span-via-else-ends_span}
 

@@ -1,11 +1,11 @@
 -- one place more
 use Rattle.std.proofs.Common.{◌≡◌, length, ap, ◌∙◌, arith, subst}
 use Rattle.xk_types.specs.Code.{UnitValue}
-use Rattle.xk_shape.specs.Nests.{AreNestedBelow}
+use Rattle.xk_shape.specs.Nesting.{AreNestedBelow}
 use Rattle.xk_shape.specs.Places.{LiesSo}
-use Rattle.xk_shape.proofs.Nested.{nested_all}
-use Rattle.xk_shape.proofs.RoundPlaces.{place_first, below_none}
-use Rattle.xk_shape.proofs.TableLists.{each_of_none, each_more, long_more}
+use Rattle.xk_shape.proofs.NestingLemmas.{nested_all}
+use Rattle.xk_shape.proofs.PlaceLemmas.{place_first, below_none}
+use Rattle.xk_shape.proofs.TableListLemmas.{each_of_none, each_more, long_more}
 use Rattle.xk_shape.proofs.places.places.Goals as goal
 
 pub loop-at-init : goal.loop-at-init

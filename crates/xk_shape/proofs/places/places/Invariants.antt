@@ -1,6 +1,6 @@
 -- the places so far are known, how the next one lies, and what stands before it nests
 use Rattle.std.proofs.Common.{◌≡◌, length}
-use Rattle.xk_shape.specs.Nests.{AreNestedBelow}
+use Rattle.xk_shape.specs.Nesting.{AreNestedBelow}
 use Rattle.xk_shape.specs.Places.{LiesSo, AreFirstPlaces}
 use Rattle.xk_shape.proofs.places.places.Given as goal
 

@@ -1,9 +1,9 @@
 -- what no place of the unit breaks by now
 use Rattle.std.proofs.Common.{◌<◌, sym, ap, ◌∙◌, subst, lit<}
 use Rattle.xk_types.specs.declared.rules.Rule.TheVariants as rule
-use Rattle.xk_types.specs.Names.{rule_number}
+use Rattle.xk_types.specs.RuleNames.{rule_number}
 use Rattle.xk_types.specs.Shape.{breaks_in}
-use Rattle.xk_shape.proofs.Units.{nested_of, is_nested, orderly_in, blocks_in}
+use Rattle.xk_shape.proofs.UnitLemmas.{nested_of, is_nested, orderly_in, blocks_in}
 use Rattle.xk_shape.proofs.rules.breaks_rule.Goals as goal
 
 pub crosses_edge-requires-clause-targets : goal.crosses_edge-requires-clause-targets

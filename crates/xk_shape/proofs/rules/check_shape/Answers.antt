@@ -1,6 +1,6 @@
 -- the first rule that is broken
 use Rattle.std.proofs.Common.{arith}
-use Rattle.xk_shape.proofs.Breaches.{number_at, first_fault}
+use Rattle.xk_shape.proofs.BreachLemmas.{number_at, first_fault}
 use Rattle.xk_shape.proofs.rules.check_shape.Goals as goal
 
 pub returns-in-Some : goal.returns-in-Some

@@ -1,7 +1,7 @@
 -- the rules so far are broken nowhere
 use Rattle.std.proofs.Common.{◌≤◌}
 use Rattle.xk_types.specs.declared.rules.Rule.{Rule}
-use Rattle.xk_types.specs.Names.{rule_number}
+use Rattle.xk_types.specs.RuleNames.{rule_number}
 use Rattle.xk_shape.specs.Breach.{IsNowhereBroken}
 use Rattle.xk_shape.proofs.rules.check_shape.Given as goal
 

@@ -1,8 +1,8 @@
 -- unit after unit
 use Rattle.std.proofs.Common.{◌≡◌, ℕ, false, length, Some, slice_get, sym, ap, subst, arith}
 use Rattle.xk_types.specs.Shape.{breaks_in}
-use Rattle.xk_shape.proofs.Units.{unit_at, unbroken_in}
-use Rattle.xk_shape.proofs.Breaches.{AreUnbroken, units_more, units_all, least_in}
+use Rattle.xk_shape.proofs.UnitLemmas.{unit_at, unbroken_in}
+use Rattle.xk_shape.proofs.BreachLemmas.{AreUnbroken, units_more, units_all, least_in}
 use Rattle.xk_shape.proofs.rules.least_breach.Goals as goal
 
 pub first_place-requires-clause-earlier : goal.first_place-requires-clause-earlier

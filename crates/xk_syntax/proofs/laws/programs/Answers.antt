@@ -1,4 +1,4 @@
-use Rattle.xk_syntax.proofs.Programs.{program_found, program_again}
+use Rattle.xk_syntax.proofs.ProgramLemmas.{program_found, program_again}
 use Rattle.xk_syntax.proofs.laws.programs.Goals as goal
 
 pub returns-clause-found : goal.returns-clause-found

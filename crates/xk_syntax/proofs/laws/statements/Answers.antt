@@ -1,4 +1,4 @@
-use Rattle.xk_syntax.proofs.Statements.{statement_found, statement_again}
+use Rattle.xk_syntax.proofs.StatementLemmas.{statement_found, statement_again}
 use Rattle.xk_syntax.proofs.laws.statements.Goals as goal
 
 pub returns-clause-found : goal.returns-clause-found

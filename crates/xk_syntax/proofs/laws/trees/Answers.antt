@@ -1,4 +1,4 @@
-use Rattle.xk_syntax.proofs.Texts.{one_tree}
+use Rattle.xk_syntax.proofs.TextLemmas.{one_tree}
 use Rattle.xk_syntax.proofs.laws.trees.Goals as goal
 
 pub returns : goal.returns

@@ -1,14 +1,14 @@
 use Rattle.std.proofs.Common.{List, [], ◌∷◌, ◌++◌, map, sym, ap, subst, ◌∙◌}
 use Rattle.std.proofs.lemmas.Result.{err_from_is_err_and}
 use Rattle.std.proofs.lemmas.List.{map_push}
-use Rattle.xk_tokens.specs.declared.token.Sign.TheVariants as sign
+use Rattle.xk_lexer.specs.declared.token.Sign.TheVariants as sign
 use Rattle.xk_tree.specs.Tree.{expression}
 use Rattle.xk_tree.specs.declared.tree.Expr.{Expr}
-use Rattle.xk_exprs.specs.Exprs.{whole_at}
+use Rattle.xk_exprs.specs.ExprReaders.{whole_at}
 use Rattle.xk_exprs.specs.Marks.{marks}
-use Rattle.xk_exprs.specs.Readers.{Refuses}
+use Rattle.xk_exprs.specs.ReaderCombinators.{Refuses}
 use Rattle.xk_syntax.specs.Readers.{sign_at}
-use Rattle.xk_syntax.proofs.Turns.{comma_shortens, first_refused, first_read, more_refused, more_read, no_more, shorter, expr_takes}
+use Rattle.xk_syntax.proofs.ListLoopLemmas.{comma_shortens, first_refused, first_read, more_refused, more_read, no_more, shorter, expr_takes}
 use Rattle.xk_syntax.proofs.lists.exprs.Goals as goal
 
 pub returns-in_err-first : goal.returns-in_err-first

@@ -1,7 +1,7 @@
 use Rattle.std.proofs.Common.{◌≡◌, length}
-use Rattle.xk_tokens.specs.declared.token.Sign.TheVariants as sign
+use Rattle.xk_lexer.specs.declared.token.Sign.TheVariants as sign
 use Rattle.xk_tree.specs.Tree.{expressions}
-use Rattle.xk_exprs.specs.Exprs.{whole_at}
+use Rattle.xk_exprs.specs.ExprReaders.{whole_at}
 use Rattle.xk_exprs.specs.Marks.{marks}
 use Rattle.xk_syntax.specs.Readers.{sign_at, more_at, commas_at}
 use Rattle.xk_syntax.proofs.lists.exprs.Given as goal

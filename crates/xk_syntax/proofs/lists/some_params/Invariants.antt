@@ -1,5 +1,5 @@
 use Rattle.std.proofs.Common.{◌≡◌, length, map}
-use Rattle.xk_tokens.specs.declared.token.Sign.TheVariants as sign
+use Rattle.xk_lexer.specs.declared.token.Sign.TheVariants as sign
 use Rattle.xk_tree.specs.Tree.{param_value}
 use Rattle.xk_exprs.specs.Marks.{marks}
 use Rattle.xk_syntax.specs.Readers.{param_at, sign_at, more_at, commas_at}

@@ -1,13 +1,13 @@
 use Rattle.std.proofs.Common.{map, sym, ap, subst, ◌∙◌}
 use Rattle.std.proofs.lemmas.Result.{err_from_is_err_and}
 use Rattle.std.proofs.lemmas.List.{map_push}
-use Rattle.xk_tokens.specs.declared.token.Keyword.TheVariants as keyword
+use Rattle.xk_lexer.specs.declared.token.Keyword.TheVariants as keyword
 use Rattle.xk_tree.specs.Tree.{method_value}
 use Rattle.xk_exprs.specs.Marks.{marks}
-use Rattle.xk_exprs.specs.Readers.{Refuses}
+use Rattle.xk_exprs.specs.ReaderCombinators.{Refuses}
 use Rattle.xk_syntax.specs.Readers.{keyword_at, method_at}
-use Rattle.xk_syntax.proofs.Turns.{more_refused, more_read, no_more, shorter}
-use Rattle.xk_syntax.proofs.Programs.{method_shortens}
+use Rattle.xk_syntax.proofs.ListLoopLemmas.{more_refused, more_read, no_more, shorter}
+use Rattle.xk_syntax.proofs.ProgramLemmas.{method_shortens}
 use Rattle.xk_syntax.proofs.program.methods.Goals as goal
 
 pub returns-in_err-method : goal.returns-in_err-method

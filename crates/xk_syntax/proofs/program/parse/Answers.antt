@@ -1,10 +1,10 @@
 use Rattle.std.proofs.Common.{ℕ, ◌≤◌, List, length, map, ap, subst, ◌∙◌}
 use Rattle.std.proofs.lemmas.Result.{err_from_is_err_and}
-use Rattle.xk_tokens.specs.Tokens.{token_value}
-use Rattle.xk_tokens.specs.Lexing.{lexed}
+use Rattle.xk_lexer.specs.Tokens.{token_value}
+use Rattle.xk_lexer.specs.Lexing.{lexed}
 use Rattle.xk_tree.specs.Tree.{program_value}
-use Rattle.xk_syntax.proofs.Texts.{tree_spelled, error_refused}
-use Rattle.xk_syntax.proofs.Bodies.{bodies_apart}
+use Rattle.xk_syntax.proofs.TextLemmas.{tree_spelled, error_refused}
+use Rattle.xk_syntax.proofs.AsyncOffsetLemmas.{bodies_apart}
 use Rattle.xk_syntax.proofs.program.parse.Goals as goal
 
 pub returns-in_err-shared-clause-none_spelled : goal.returns-in_err-shared-clause-none_spelled

@@ -1,5 +1,5 @@
 use Rattle.std.proofs.Common.{◌≡◌, [], length, map}
-use Rattle.xk_tokens.specs.declared.token.Keyword.TheVariants as keyword
+use Rattle.xk_lexer.specs.declared.token.Keyword.TheVariants as keyword
 use Rattle.xk_tree.specs.Tree.{shared_value}
 use Rattle.xk_exprs.specs.Marks.{marks}
 use Rattle.xk_syntax.specs.Readers.{keyword_at, more_at, shared_at}

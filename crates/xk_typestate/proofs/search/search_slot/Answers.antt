@@ -3,7 +3,7 @@ use Rattle.std.proofs.Common.{◌≡◌, None, length, replicate, refl, ap, ◌�
 use Rattle.xk_types.specs.Code.{UnitValue}
 use Rattle.xk_typestate.specs.KindSet.{no_kinds}
 use Rattle.xk_typestate.specs.Search.{IsLatest, HasEntries}
-use Rattle.xk_typestate.proofs.Searches.{searched_none, none_latest, begun_at_first}
+use Rattle.xk_typestate.proofs.SearchLemmas.{searched_none, none_latest, begun_at_first}
 use Rattle.xk_typestate.proofs.search.search_slot.Goals as goal
 
 pub loop-done-init : goal.loop-done-init

@@ -8,7 +8,7 @@ use Rattle.xk_types.specs.declared.rules.Kind.{Kind}
 use Rattle.xk_types.specs.declared.rules.Kind.TheVariants as kind
 use Rattle.xk_types.specs.declared.rules.Visit.{Visit}
 use Rattle.xk_typestate.specs.Place.{visit}
-use Rattle.xk_typestate.proofs.WalkBack.{nowhere_more}
+use Rattle.xk_typestate.proofs.WalkBackLemmas.{nowhere_more}
 use Rattle.xk_typestate.proofs.walk.place_of.Goals as goal
 
 kind_same : (k : Kind) → sameb the_type k k ≡ true

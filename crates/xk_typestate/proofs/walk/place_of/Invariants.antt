@@ -1,6 +1,6 @@
 -- it stands nowhere so far
 use Rattle.std.proofs.Common.{ℕ, ◌<◌}
-use Rattle.xk_typestate.specs.Found.{IsPlaceOf}
+use Rattle.xk_typestate.specs.SearchStops.{IsPlaceOf}
 use Rattle.xk_typestate.proofs.walk.place_of.Given as goal
 
 abbrev pub invariant-loop-i : goal.invariant-loop-i

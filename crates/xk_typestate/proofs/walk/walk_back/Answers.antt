@@ -4,9 +4,9 @@ use Rattle.std.proofs.lemmas.List.{length-reverse}
 use Rattle.std.proofs.lemmas.Option.{slice_get-get_or}
 use Rattle.xk_types.specs.declared.rules.Kind.TheVariants as kind
 use Rattle.xk_typestate.specs.Place.{visit}
-use Rattle.xk_typestate.specs.Found.{StopsBack}
+use Rattle.xk_typestate.specs.SearchStops.{StopsBack}
 use Rattle.xk_typestate.specs.declared.search.Found.{Found}
-use Rattle.xk_typestate.proofs.WalkBack.{IsBack, back_more}
+use Rattle.xk_typestate.proofs.WalkBackLemmas.{IsBack, back_more}
 use Rattle.xk_typestate.proofs.walk.walk_back.Goals as goal
 
 pub loop-next-preserved : goal.loop-next-preserved

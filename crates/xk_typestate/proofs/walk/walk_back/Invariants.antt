@@ -2,8 +2,8 @@
 use Rattle.std.proofs.Common.{◌≡◌, ℕ, ◌+◌, ◌<◌, length, Some}
 use Rattle.std.specs.Option.{option_map_or}
 use Rattle.xk_types.specs.Code.{UnitValue, ModuleValue}
-use Rattle.xk_typestate.specs.Found.{HasCome, StopsBack}
-use Rattle.xk_typestate.proofs.WalkBack.{IsBack}
+use Rattle.xk_typestate.specs.SearchStops.{HasCome, StopsBack}
+use Rattle.xk_typestate.proofs.WalkBackLemmas.{IsBack}
 use Rattle.xk_typestate.proofs.walk.walk_back.Given as goal
 
 abbrev pub invariant-loop-next : goal.invariant-loop-next

@@ -1,11 +1,11 @@
 -- what is visited is found
 use Rattle.std.proofs.Common.{length, Some, sym, ◌∙◌, subst}
 use Rattle.xk_types.specs.Walk.{IsWalk, EndsAt}
-use Rattle.xk_typestate.specs.Found.{IsPlaceOf, IsFirstPlaceOf, HasCome, StopsBack}
-use Rattle.xk_typestate.specs.Refused.{IsShortest}
-use Rattle.xk_typestate.proofs.Shortest.{shortest}
-use Rattle.xk_typestate.proofs.Results.{ok_then}
-use Rattle.xk_typestate.proofs.Searches.{visited_seen}
+use Rattle.xk_typestate.specs.SearchStops.{IsPlaceOf, IsFirstPlaceOf, HasCome, StopsBack}
+use Rattle.xk_typestate.specs.LeastRefusal.{IsShortest}
+use Rattle.xk_typestate.proofs.ShortestWalkLemmas.{shortest}
+use Rattle.xk_typestate.proofs.ResultLemmas.{ok_then}
+use Rattle.xk_typestate.proofs.SearchLemmas.{visited_seen}
 use Rattle.xk_typestate.proofs.walk.walk_to.Goals as goal
 
 pub unreachable-requires : goal.unreachable-requires

@@ -1,5 +1,5 @@
 use Rattle.std.proofs.Common.{◌∙◌, sym, inl, inr, rules}
-use Rattle.xk_workers.proofs.Takes.{copy_refused, step_refused}
+use Rattle.xk_workers.proofs.TakeLemmas.{copy_refused, step_refused}
 use Rattle.xk_workers.proofs.workers.turn.Goals as goal
 use Rattle.xk_workers.proofs.workers.turn.Goals.{then-is_err, else-is_err}
 

@@ -1,9 +1,9 @@
 use Rattle.std.proofs.Common.{◌≡◌, ℕ, ◌<◌, length, ap, subst, sym, ◌∙◌}
 use Rattle.std.specs.Vec.{vec_capacity}
-use Rattle.xk_activity.specs.Joined.{with_frames}
+use Rattle.xk_activity.specs.StepAgreement.{with_frames}
 use Rattle.xk_types.specs.World.{Activity}
 use Rattle.xk_activity.specs.Activities.{act_at, with_act_at}
-use Rattle.xk_activity.proofs.Acts.{at_is, changed}
+use Rattle.xk_activity.proofs.ActivityListLemmas.{at_is, changed}
 use Rattle.xk_activity.proofs.activities.Activities.apply.Goals as goal
 
 pub returns : goal.returns

@@ -1,6 +1,6 @@
 use Rattle.std.specs.Vec.{vec_capacity}
 use Rattle.xk_types.specs.Step.{onward}
-use Rattle.xk_activity.proofs.Acts.{changed_by}
+use Rattle.xk_activity.proofs.ActivityListLemmas.{changed_by}
 use Rattle.xk_activity.proofs.activities.Activities.go_on.Goals as goal
 
 pub returns : goal.returns

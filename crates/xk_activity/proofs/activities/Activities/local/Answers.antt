@@ -1,6 +1,6 @@
 use Rattle.std.specs.Vec.{vec_capacity}
 use Rattle.xk_activity.specs.Activities.{Takes}
-use Rattle.xk_activity.proofs.Acts.{at_both, changed_itself}
+use Rattle.xk_activity.proofs.ActivityListLemmas.{at_both, changed_itself}
 use Rattle.xk_activity.proofs.activities.Activities.local.Goals as goal
 
 pub returns-clause-takes : goal.returns-clause-takes

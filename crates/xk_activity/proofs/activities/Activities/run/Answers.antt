@@ -1,8 +1,8 @@
 use Rattle.std.specs.Vec.{vec_capacity}
 use Rattle.xk_activity.specs.Local.{IsSafe, local}
-use Rattle.xk_activity.specs.Joined.{frames_in}
+use Rattle.xk_activity.specs.StepAgreement.{frames_in}
 use Rattle.xk_activity.specs.Activities.{Runs}
-use Rattle.xk_activity.proofs.Acts.{at_read, at_both, changed_itself}
+use Rattle.xk_activity.proofs.ActivityListLemmas.{at_read, at_both, changed_itself}
 use Rattle.xk_activity.proofs.activities.Activities.run.Goals as goal
 
 pub run-requires : goal.run-requires

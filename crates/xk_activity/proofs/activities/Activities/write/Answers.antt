@@ -1,7 +1,7 @@
 use Rattle.std.specs.Prelude.{slice_set}
 use Rattle.std.specs.Vec.{vec_capacity}
 use Rattle.xk_types.specs.Step.{onward, with_slots}
-use Rattle.xk_activity.proofs.Acts.{changed_by}
+use Rattle.xk_activity.proofs.ActivityListLemmas.{changed_by}
 use Rattle.xk_activity.proofs.activities.Activities.write.Goals as goal
 
 pub returns : goal.returns

@@ -1,7 +1,7 @@
 use Rattle.std.proofs.Common.{subst, refl}
-use Rattle.xk_activity.specs.Joined.{with_frames}
+use Rattle.xk_activity.specs.StepAgreement.{with_frames}
 use Rattle.xk_activity.specs.Activities.{ActivityValue, Takes, fresh}
-use Rattle.xk_activity.proofs.Acts.{taken}
+use Rattle.xk_activity.proofs.ActivityListLemmas.{taken}
 use Rattle.xk_activity.proofs.activity.Activity.local.Goals as goal
 
 pub returns-clause-takes : goal.returns-clause-takes

@@ -1,6 +1,6 @@
 use Rattle.std.proofs.Common.{subst, sym}
 use Rattle.xk_activity.specs.Local.{IsSafe, local}
-use Rattle.xk_activity.specs.Joined.{frames_in}
+use Rattle.xk_activity.specs.StepAgreement.{frames_in}
 use Rattle.xk_activity.specs.Activities.{ActivityValue}
 use Rattle.xk_activity.proofs.activity.Activity.run.Goals as goal
 

@@ -2,8 +2,8 @@ use Rattle.std.proofs.Common.{subst, sym, ap, ◌∙◌, refl, Some}
 use Rattle.xk_types.specs.Code.{IsWithinLimits}
 use Rattle.xk_types.specs.declared.instr.Instr.TheVariants as instr
 use Rattle.xk_activity.specs.Local.{FramesValue, Stepped}
-use Rattle.xk_activity.specs.Stacked.{Does}
-use Rattle.xk_activity.proofs.Locals.{reads, call_there, local_is, others}
+use Rattle.xk_activity.specs.FrameStack.{Does}
+use Rattle.xk_activity.proofs.LocalStepLemmas.{reads, call_there, local_is, others}
 use Rattle.xk_activity.proofs.frames.Frames.across.Goals as goal
 
 pub call-requires : goal.call-requires

@@ -1,8 +1,8 @@
 use Rattle.std.proofs.Common.{length, ap, ◌∙◌, arith, rules, replicate, pos, ◌-◌}
 use Rattle.std.specs.Prelude.{reverse}
 use Rattle.std.proofs.lemmas.List.{length-append, length-replicate}
-use Rattle.xk_activity.proofs.Stacking.{own_room, start_stacked, begin_gives, few_slots}
-use Rattle.xk_activity.proofs.Words.{laid_length}
+use Rattle.xk_activity.proofs.FrameStackLemmas.{own_room, start_stacked, begin_gives, few_slots}
+use Rattle.xk_activity.proofs.SlotWordLemmas.{laid_length}
 use Rattle.xk_activity.proofs.frames.Frames.begin.Goals as goal
 
 pub put-marks-requires-clause-room : goal.put-marks-requires-clause-room

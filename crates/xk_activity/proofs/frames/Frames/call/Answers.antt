@@ -1,9 +1,9 @@
 use Rattle.std.proofs.Common.{arith, ◌≡◌, ◌+◌, ◌-◌, length, drop, pos, ap, ◌∙◌}
 use Rattle.std.proofs.lemmas.List.{length-reverse, length-map, length-append, length-replicate, length-drop}
 use Rattle.xk_activity.specs.Slots.{values_of}
-use Rattle.xk_activity.specs.Stacked.{value_at}
-use Rattle.xk_activity.proofs.Stacking.{call_ready, call_stacked, call_gives, few_slots}
-use Rattle.xk_activity.proofs.Words.{laid_length}
+use Rattle.xk_activity.specs.FrameStack.{value_at}
+use Rattle.xk_activity.proofs.FrameStackLemmas.{call_ready, call_stacked, call_gives, few_slots}
+use Rattle.xk_activity.proofs.SlotWordLemmas.{laid_length}
 use Rattle.xk_activity.proofs.frames.Frames.call.Goals as goal
 
 pub hand-marks-requires-clause-room : goal.hand-marks-requires-clause-room

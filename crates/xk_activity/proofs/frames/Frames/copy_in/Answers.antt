@@ -1,5 +1,5 @@
 use Rattle.std.specs.Prelude.{reverse}
-use Rattle.xk_activity.proofs.Stacking.{room_alone}
+use Rattle.xk_activity.proofs.FrameStackLemmas.{room_alone}
 use Rattle.xk_activity.proofs.frames.Frames.copy_in.Goals as goal
 
 pub returns-in_err-stack-clause-succeeds : goal.returns-in_err-stack-clause-succeeds

@@ -1,6 +1,6 @@
 use Rattle.std.proofs.Common.{arith, ◌<◌, subst, sym}
 use Rattle.xk_activity.specs.Local.{FramesValue}
-use Rattle.xk_activity.proofs.Stacking.{place_within}
+use Rattle.xk_activity.proofs.FrameStackLemmas.{place_within}
 use Rattle.xk_types.specs.Code.{IsWithinLimits}
 use Rattle.xk_activity.proofs.frames.Frames.go.Goals as goal
 

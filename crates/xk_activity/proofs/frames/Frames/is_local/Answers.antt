@@ -1,8 +1,8 @@
 use Rattle.std.proofs.Common.{rules, sym, ap, ◌∙◌, Some}
 use Rattle.xk_types.specs.declared.instr.Instr.TheVariants as instr
 use Rattle.xk_activity.specs.Local.{is_stepped}
-use Rattle.xk_activity.proofs.Locals.{call_steps, local_is}
-use Rattle.xk_activity.proofs.Stacking.{waits_ok}
+use Rattle.xk_activity.proofs.LocalStepLemmas.{call_steps, local_is}
+use Rattle.xk_activity.proofs.FrameStackLemmas.{waits_ok}
 use Rattle.xk_activity.proofs.frames.Frames.is_local.Goals as goal
 
 pub returns-in-Call : goal.returns-in-Call

@@ -1,4 +1,4 @@
-use Rattle.xk_activity.proofs.Stacking.{left_steps}
+use Rattle.xk_activity.proofs.FrameStackLemmas.{left_steps}
 use Rattle.xk_activity.proofs.frames.Frames.leave.Goals as goal
 
 pub returns-in-Some-clause-does : goal.returns-in-Some-clause-does

@@ -1,9 +1,9 @@
 use Rattle.std.proofs.Common.{List, subst, sym, ap, ◌∙◌}
 use Rattle.xk_types.specs.declared.instr.Instr.{Instr}
 use Rattle.xk_activity.specs.Local.{FramesValue, Stepped, IsRight, local, turn, spot_at, spot_of}
-use Rattle.xk_activity.specs.Stacked.{Does}
-use Rattle.xk_activity.proofs.Stacking.{kept, top_ok}
-use Rattle.xk_activity.proofs.Locals.{turn_steps}
+use Rattle.xk_activity.specs.FrameStack.{Does}
+use Rattle.xk_activity.proofs.FrameStackLemmas.{kept, top_ok}
+use Rattle.xk_activity.proofs.LocalStepLemmas.{turn_steps}
 use Rattle.xk_activity.proofs.frames.Frames.local.Goals as goal
 
 pub across-requires-clause-right : goal.across-requires-clause-right

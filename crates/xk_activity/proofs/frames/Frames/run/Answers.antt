@@ -1,6 +1,6 @@
 use Rattle.std.proofs.Common.{◌+◌, ap, sym, ◌∙◌, arith}
 use Rattle.xk_activity.specs.Local.{Stepped, local}
-use Rattle.xk_activity.proofs.Safe.{safe_here, safe_on, ran_more, ran_on}
+use Rattle.xk_activity.proofs.StepSequenceLemmas.{safe_here, safe_on, ran_more, ran_on}
 use Rattle.xk_activity.proofs.frames.Frames.run.Goals as goal
 
 pub run_frame-done-requires : goal.run_frame-done-requires

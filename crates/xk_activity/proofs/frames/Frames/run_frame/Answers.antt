@@ -2,9 +2,9 @@ use Rattle.std.proofs.Common.{List, drop, subst, sym, ap, ◌∙◌}
 use Rattle.xk_types.specs.declared.instr.Instr.{Instr}
 use Rattle.xk_activity.specs.Local.{FramesValue, Stepped, IsSafe, ran, turn, spot_of, spot_at, code_of}
 use Rattle.xk_activity.specs.Slots.{values_of}
-use Rattle.xk_activity.proofs.Stacking.{unit_within, top_ok}
-use Rattle.xk_activity.proofs.Locals.{next_there}
-use Rattle.xk_activity.proofs.Turns.{turns_safe, turns_ran}
+use Rattle.xk_activity.proofs.FrameStackLemmas.{unit_within, top_ok}
+use Rattle.xk_activity.proofs.LocalStepLemmas.{next_there}
+use Rattle.xk_activity.proofs.FrameRunLemmas.{turns_safe, turns_ran}
 use Rattle.xk_activity.proofs.frames.Frames.run_frame.Goals as goal
 
 pub code-code-requires : goal.code-code-requires

@@ -1,8 +1,8 @@
 use Rattle.std.proofs.Common.{ℤ, List, sym, arith, subst, length}
 use Rattle.std.specs.Prelude.{reverse}
 use Rattle.xk_activity.specs.declared.caller.Caller.{Caller}
-use Rattle.xk_activity.specs.Stacked.{AreBelow}
-use Rattle.xk_activity.proofs.Stacking.{are_below}
+use Rattle.xk_activity.specs.FrameStack.{AreBelow}
+use Rattle.xk_activity.proofs.FrameStackLemmas.{are_below}
 use Rattle.xk_activity.proofs.frames.Frames.same.Goals as goal
 
 pub are_same_waiting-requires-clause-stacked : goal.are_same_waiting-requires-clause-stacked

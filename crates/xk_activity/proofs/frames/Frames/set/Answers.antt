@@ -1,6 +1,6 @@
 use Rattle.std.proofs.Common.{◌<◌, sym, length, subst}
 use Rattle.xk_activity.specs.Local.{FramesValue}
-use Rattle.xk_activity.proofs.Stacking.{set_gives, top_few}
+use Rattle.xk_activity.proofs.FrameStackLemmas.{set_gives, top_few}
 use Rattle.xk_activity.proofs.frames.Frames.set.Goals as goal
 
 pub set_on_top-requires-clause-slot : goal.set_on_top-requires-clause-slot

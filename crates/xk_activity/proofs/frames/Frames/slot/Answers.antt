@@ -2,8 +2,8 @@ use Rattle.std.proofs.Common.{◌≡◌, ◌<◌, ◌≤◌, ℕ, ap, ◌∙◌,
 use Rattle.std.proofs.Math.Seq.{take-length}
 use Rattle.xk_activity.specs.Local.{FramesValue}
 use Rattle.xk_activity.specs.Slots.{is_marked, values_of}
-use Rattle.xk_activity.proofs.Words.{length_by}
-use Rattle.xk_activity.proofs.Stacking.{top_few}
+use Rattle.xk_activity.proofs.SlotWordLemmas.{length_by}
+use Rattle.xk_activity.proofs.FrameStackLemmas.{top_few}
 use Rattle.xk_activity.proofs.frames.Frames.slot.Goals as goal
 
 pub value-requires-clause-slot : goal.value-requires-clause-slot

@@ -1,5 +1,5 @@
 use Rattle.std.proofs.Common.{sym, ap, ◌∙◌, ◌++◌, ◌∷◌, [], arith}
-use Rattle.xk_activity.proofs.Locals.{values_more}
+use Rattle.xk_activity.proofs.LocalStepLemmas.{values_more}
 use Rattle.xk_activity.proofs.frames.Frames.values.Goals as goal
 
 pub loop-s-preserved : goal.loop-s-preserved

@@ -1,5 +1,5 @@
 use Rattle.std.proofs.Common.{◌≡◌, take}
-use Rattle.xk_activity.specs.Stacked.{values_at}
+use Rattle.xk_activity.specs.FrameStack.{values_at}
 use Rattle.xk_activity.proofs.frames.Frames.values.Given as goal
 
 -- the values of the slots passed

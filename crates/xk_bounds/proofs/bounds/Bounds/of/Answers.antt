@@ -3,7 +3,7 @@ use Rattle.std.proofs.Common.{◌+◌, List, length, ap, ◌∙◌}
 use Rattle.xk_types.specs.Bound.{greatest_below}
 use Rattle.xk_bounds.specs.declared.room.Room.{Room}
 use Rattle.xk_bounds.specs.Rooms.{slots_in}
-use Rattle.xk_bounds.proofs.Rooms.{deepest_is}
+use Rattle.xk_bounds.proofs.RoomLemmas.{deepest_is}
 use Rattle.xk_bounds.proofs.bounds.Bounds.of.Goals as goal
 
 pub returns : goal.returns

@@ -1,5 +1,5 @@
-use Rattle.xk_standings.specs.Told.{told_of}
-use Rattle.xk_core.proofs.Changing.{pass_told}
+use Rattle.xk_registrations.specs.Standings.{told_of}
+use Rattle.xk_core.proofs.StandingChangeLemmas.{pass_told}
 use Rattle.xk_core.proofs.change.StandingChange.make.Goals as goal
 
 pub returns-in-Pass-clause-told : goal.returns-in-Pass-clause-told

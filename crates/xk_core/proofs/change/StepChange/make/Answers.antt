@@ -1,6 +1,6 @@
 use Rattle.std.proofs.Common.{◌≡◌, map, sym, subst}
 use Rattle.xk_types.specs.Step.{settled_clock, moved}
-use Rattle.xk_standings.specs.Told.{told_of}
+use Rattle.xk_registrations.specs.Standings.{told_of}
 use Rattle.xk_core.specs.declared.change.StepChange.{StepChange}
 use Rattle.xk_core.specs.Change.{standing_after_step}
 use Rattle.xk_core.proofs.change.StepChange.make.Goals as goal

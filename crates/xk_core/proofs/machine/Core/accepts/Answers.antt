@@ -1,5 +1,5 @@
-use Rattle.xk_core.proofs.Finishing.{held}
-use Rattle.xk_core.proofs.Handing.{decided}
+use Rattle.xk_core.proofs.FinishTreeLemmas.{held}
+use Rattle.xk_core.proofs.TicketLemmas.{decided}
 use Rattle.xk_core.proofs.machine.Core.accepts.Goals as goal
 
 pub returns : goal.returns

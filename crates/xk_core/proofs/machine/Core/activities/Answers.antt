@@ -1,8 +1,8 @@
 use Rattle.std.proofs.Common.{◌≡◌, length, ◌∙◌, sym, subst, arith}
 use Rattle.xk_core.specs.Core.{CoreValue, IsCore}
-use Rattle.xk_core.specs.Told.{with_finishes}
-use Rattle.xk_core.proofs.Cores.{core_names}
-use Rattle.xk_core.proofs.Told.{length_told}
+use Rattle.xk_core.specs.FinishView.{with_finishes}
+use Rattle.xk_core.proofs.CoreLemmas.{core_names}
+use Rattle.xk_core.proofs.FinishViewLemmas.{length_told}
 use Rattle.xk_core.proofs.machine.Core.activities.Goals as goal
 
 pub overflow_cast-result : goal.overflow_cast-result

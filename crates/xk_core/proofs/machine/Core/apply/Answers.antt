@@ -2,11 +2,11 @@ use Rattle.std.proofs.Common.{◌≡◌, ◌∙◌, true, ap, sym, subst}
 use Rattle.xk_types.specs.World.{World}
 use Rattle.xk_core.specs.Core.{CoreValue, is_running, with_world}
 use Rattle.xk_core.specs.State.{core_of}
-use Rattle.xk_core.specs.Stretch.{after_steps, RunsTo, AreLocal, IsUnseen}
-use Rattle.xk_core.specs.Told.{with_finishes}
-use Rattle.xk_core.proofs.Finishing.{held, parts}
-use Rattle.xk_core.proofs.Ahead.{runner_room, runner_ran, steps_told}
-use Rattle.xk_core.proofs.Handing.{runs_told, as_before}
+use Rattle.xk_core.specs.LocalRun.{after_steps, RunsTo, AreLocal, IsUnseen}
+use Rattle.xk_core.specs.FinishView.{with_finishes}
+use Rattle.xk_core.proofs.FinishTreeLemmas.{held, parts}
+use Rattle.xk_core.proofs.NextLocalLemmas.{runner_room, runner_ran, steps_told}
+use Rattle.xk_core.proofs.TicketLemmas.{runs_told, as_before}
 use Rattle.xk_core.proofs.machine.Core.apply.Goals as goal
 
 pub apply-requires-clause-before : goal.apply-requires-clause-before

@@ -2,12 +2,12 @@ use Rattle.std.proofs.Common.{◌≡◌, true, Some, ◌∙◌, ap, sym, subst}
 use Rattle.xk_types.specs.Step.{Stepped, step}
 use Rattle.xk_types.specs.Schedule.{is_enabled}
 use Rattle.xk_finishes.specs.Tree.{node_ended, changed_at}
-use Rattle.xk_core.specs.Arm.{carried, IsLast}
+use Rattle.xk_core.specs.InstructionEffect.{carried, IsLast}
 use Rattle.xk_core.specs.Core.{CoreValue, next_instruction}
-use Rattle.xk_core.specs.Told.{with_finishes}
-use Rattle.xk_core.proofs.Finishing.{held, held_on, parts_in, parts_roomy, last_told, runs, exists, alive, carry_enabled, carry_stepped, carry_closed, carry_ended}
-use Rattle.xk_rooms.specs.Rooms.{HasRoomLeft}
-use Rattle.xk_core.proofs.Reserving.{make_left}
+use Rattle.xk_core.specs.FinishView.{with_finishes}
+use Rattle.xk_core.proofs.FinishTreeLemmas.{held, held_on, parts_in, parts_roomy, last_told, runs, exists, alive, carry_enabled, carry_stepped, carry_closed, carry_ended}
+use Rattle.xk_laws.specs.ClockRoom.{HasRoomLeft}
+use Rattle.xk_core.proofs.ReservationLemmas.{make_left}
 use Rattle.xk_core.proofs.machine.Core.carry_out.Goals as goal
 
 pub carry_out-event-requires-clause-enabled : goal.carry_out-event-requires-clause-enabled

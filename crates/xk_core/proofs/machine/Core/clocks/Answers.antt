@@ -1,6 +1,6 @@
 use Rattle.std.proofs.Common.{arith}
-use Rattle.xk_core.specs.Told.{with_finishes}
-use Rattle.xk_core.proofs.Cores.{core_clocks}
+use Rattle.xk_core.specs.FinishView.{with_finishes}
+use Rattle.xk_core.proofs.CoreLemmas.{core_clocks}
 use Rattle.xk_core.proofs.machine.Core.clocks.Goals as goal
 
 pub overflow_cast-result : goal.overflow_cast-result

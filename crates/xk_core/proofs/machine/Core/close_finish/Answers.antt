@@ -7,9 +7,9 @@ use Rattle.xk_types.specs.Step.{Stepped, step, settled, onward, moved, none}
 use Rattle.xk_types.specs.Schedule.{is_enabled}
 use Rattle.xk_finishes.specs.Tree.{node_left, changed_at}
 use Rattle.xk_core.specs.Core.{CoreValue, next_instruction}
-use Rattle.xk_core.specs.Told.{with_finishes}
-use Rattle.xk_core.proofs.Finishing.{held, held_on, parts_in, parts_roomy, runs, exists, close_open, close_empty, close_stepped, close_are}
-use Rattle.xk_types.specs.declared.names.Event.TheVariants as event
+use Rattle.xk_core.specs.FinishView.{with_finishes}
+use Rattle.xk_core.proofs.FinishTreeLemmas.{held, held_on, parts_in, parts_roomy, runs, exists, close_open, close_empty, close_stepped, close_are}
+use Rattle.xk_types.specs.declared.world.Event.TheVariants as event
 use Rattle.xk_core.proofs.machine.Core.close_finish.Goals as goal
 
 pub leave-requires-clause-exists : goal.leave-requires-clause-exists

@@ -1,9 +1,9 @@
 use Rattle.std.proofs.Common.{◌≡◌, true, false, not, ◌&&◌, ◌∙◌, sym, subst, ap}
 use Rattle.xk_types.specs.Schedule.{is_enabled}
-use Rattle.xk_core.specs.Able.{is_able, is_kept}
+use Rattle.xk_core.specs.Enabledness.{is_able, is_kept}
 use Rattle.xk_core.specs.Core.{CoreValue}
-use Rattle.xk_core.specs.Told.{with_finishes}
-use Rattle.xk_core.proofs.Finishing.{held, parts_able}
+use Rattle.xk_core.specs.FinishView.{with_finishes}
+use Rattle.xk_core.proofs.FinishTreeLemmas.{held, parts_able}
 use Rattle.xk_core.proofs.machine.Core.enabled.Goals as goal
 
 pub returns-then-is_able : goal.returns-then-is_able

@@ -1,7 +1,7 @@
 use Rattle.std.proofs.Common.{◌≡◌, ◌∙◌, sym, subst}
 use Rattle.xk_types.specs.Schedule.{all_ended}
 use Rattle.xk_core.specs.Core.{CoreValue}
-use Rattle.xk_core.proofs.Finishing.{ended_told}
+use Rattle.xk_core.proofs.FinishTreeLemmas.{ended_told}
 use Rattle.xk_core.proofs.machine.Core.ended.Goals as goal
 
 pub returns : goal.returns

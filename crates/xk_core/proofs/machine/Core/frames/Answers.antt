@@ -1,9 +1,9 @@
 use Rattle.std.proofs.Common.{◌≡◌, ◌<◌, length, ◌∙◌, sym, subst, ap, arith}
 use Rattle.xk_activity.specs.Activities.{act_at}
-use Rattle.xk_activity.specs.Joined.{frames_in}
+use Rattle.xk_activity.specs.StepAgreement.{frames_in}
 use Rattle.xk_core.specs.Core.{CoreValue}
-use Rattle.xk_core.proofs.Ahead.{frames_told}
-use Rattle.xk_core.proofs.Told.{length_told}
+use Rattle.xk_core.proofs.NextLocalLemmas.{frames_told}
+use Rattle.xk_core.proofs.FinishViewLemmas.{length_told}
 use Rattle.xk_core.proofs.machine.Core.frames.Goals as goal
 
 pub frames-requires : goal.frames-requires

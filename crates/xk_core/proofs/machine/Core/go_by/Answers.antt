@@ -1,4 +1,4 @@
-use Rattle.xk_core.proofs.Locally.{beyond_visible, beyond_last}
+use Rattle.xk_core.proofs.LocalStepLemmas.{beyond_visible, beyond_last}
 use Rattle.xk_core.proofs.machine.Core.go_by.Goals as goal
 
 pub carry_out-requires-clause-visible : goal.carry_out-requires-clause-visible

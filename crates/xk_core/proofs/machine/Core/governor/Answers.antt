@@ -1,7 +1,7 @@
 use Rattle.std.proofs.Common.{◌≡◌, ◌<◌, length, ◌∙◌, subst, sym, arith}
 use Rattle.xk_core.specs.Core.{CoreValue, governor}
-use Rattle.xk_core.proofs.Told.{length_told}
-use Rattle.xk_core.proofs.Governing.{governor_told}
+use Rattle.xk_core.proofs.FinishViewLemmas.{length_told}
+use Rattle.xk_core.proofs.GovernorLemmas.{governor_told}
 use Rattle.xk_core.proofs.machine.Core.governor.Goals as goal
 
 pub governor-requires : goal.governor-requires

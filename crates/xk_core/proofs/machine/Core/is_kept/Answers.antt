@@ -2,11 +2,11 @@ use Rattle.std.proofs.Common.{◌≡◌, not, Some, ◌∙◌, sym, subst, ap}
 use Rattle.std.specs.Option.{option_copied}
 use Rattle.xk_types.specs.declared.instr.Instr.TheVariants as instruction
 use Rattle.xk_finishes.specs.Tree.{awaits_innermost}
-use Rattle.xk_core.specs.Able.{is_kept}
+use Rattle.xk_core.specs.Enabledness.{is_kept}
 use Rattle.xk_core.specs.Core.{CoreValue, next_instruction}
-use Rattle.xk_core.specs.Told.{with_finishes}
-use Rattle.xk_core.proofs.Finishing.{held, runs, exists, close_open, kept_told}
-use Rattle.xk_core.proofs.Finishing.{twice}
+use Rattle.xk_core.specs.FinishView.{with_finishes}
+use Rattle.xk_core.proofs.FinishTreeLemmas.{held, runs, exists, close_open, kept_told}
+use Rattle.xk_core.proofs.FinishTreeLemmas.{twice}
 use Rattle.xk_core.proofs.machine.Core.is_kept.Goals as goal
 
 pub empty-requires-clause-exists : goal.empty-requires-clause-exists

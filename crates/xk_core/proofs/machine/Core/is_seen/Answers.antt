@@ -1,12 +1,12 @@
 use Rattle.std.specs.Bool.{Decides}
 use Rattle.std.proofs.Common.{◌≡◌, true, not, sym, subst, ap, ◌∙◌}
 use Rattle.xk_activity.specs.Local.{is_stepped, local}
-use Rattle.xk_activity.specs.Joined.{frames_in}
+use Rattle.xk_activity.specs.StepAgreement.{frames_in}
 use Rattle.xk_activity.specs.Activities.{act_at}
 use Rattle.xk_core.specs.Core.{CoreValue, IsBeyond, is_running}
-use Rattle.xk_core.specs.Told.{with_finishes}
-use Rattle.xk_core.proofs.Finishing.{held}
-use Rattle.xk_core.proofs.Locally.{local_there, local_right, seen_decides}
+use Rattle.xk_core.specs.FinishView.{with_finishes}
+use Rattle.xk_core.proofs.FinishTreeLemmas.{held}
+use Rattle.xk_core.proofs.LocalStepLemmas.{local_there, local_right, seen_decides}
 use Rattle.xk_core.proofs.machine.Core.is_seen.Goals as goal
 
 pub is_local-requires-clause-there : goal.is_local-requires-clause-there

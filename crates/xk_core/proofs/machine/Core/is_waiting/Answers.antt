@@ -1,6 +1,6 @@
 use Rattle.std.proofs.Common.{◌≡◌, ◌∙◌, sym, ap, subst}
 use Rattle.xk_core.specs.Core.{CoreValue, is_waiting}
-use Rattle.xk_core.proofs.Locally.{waiting_told}
+use Rattle.xk_core.proofs.LocalStepLemmas.{waiting_told}
 use Rattle.xk_core.proofs.machine.Core.is_waiting.Goals as goal
 
 pub returns : goal.returns

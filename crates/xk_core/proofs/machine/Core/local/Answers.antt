@@ -2,9 +2,9 @@ use Rattle.std.proofs.Common.{◌≡◌, true, sym, subst}
 use Rattle.xk_types.specs.Schedule.{is_enabled}
 use Rattle.xk_core.specs.Core.{CoreValue, TakesStep, Locally, is_running}
 use Rattle.xk_core.specs.State.{core_of}
-use Rattle.xk_core.specs.Told.{with_finishes}
-use Rattle.xk_core.proofs.Finishing.{held, parts, parts_roomy}
-use Rattle.xk_core.proofs.Locally.{local_there, local_right, local_told}
+use Rattle.xk_core.specs.FinishView.{with_finishes}
+use Rattle.xk_core.proofs.FinishTreeLemmas.{held, parts, parts_roomy}
+use Rattle.xk_core.proofs.LocalStepLemmas.{local_there, local_right, local_told}
 use Rattle.xk_core.proofs.machine.Core.local.Goals as goal
 
 pub local-requires-clause-there : goal.local-requires-clause-there

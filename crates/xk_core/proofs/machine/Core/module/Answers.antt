@@ -1,8 +1,8 @@
 use Rattle.std.proofs.Common.{◌≡◌, subst}
 use Rattle.xk_types.specs.World.{AreArguments, opening}
 use Rattle.xk_core.specs.Core.{CoreValue}
-use Rattle.xk_core.specs.Told.{with_finishes}
-use Rattle.xk_core.proofs.Cores.{core_fresh}
+use Rattle.xk_core.specs.FinishView.{with_finishes}
+use Rattle.xk_core.proofs.CoreLemmas.{core_fresh}
 use Rattle.xk_core.proofs.machine.Core.module.Goals as goal
 
 pub returns-clause-opening : goal.returns-clause-opening

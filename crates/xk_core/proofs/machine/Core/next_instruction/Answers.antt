@@ -1,7 +1,7 @@
 use Rattle.std.proofs.Common.{◌≡◌, ◌∙◌, sym, subst}
 use Rattle.std.specs.Option.{option_copied}
 use Rattle.xk_core.specs.Core.{CoreValue, next_instruction}
-use Rattle.xk_core.proofs.Finishing.{held, parts_roomy, next_told}
+use Rattle.xk_core.proofs.FinishTreeLemmas.{held, parts_roomy, next_told}
 use Rattle.xk_core.proofs.machine.Core.next_instruction.Goals as goal
 
 pub next_instruction-requires : goal.next_instruction-requires

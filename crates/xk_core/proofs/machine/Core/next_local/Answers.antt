@@ -1,12 +1,12 @@
 use Rattle.std.proofs.Common.{◌≡◌, true, false, ◌∙◌, sym, subst, ap}
 use Rattle.xk_activity.specs.Local.{is_stepped, local}
-use Rattle.xk_activity.specs.Joined.{frames_in}
+use Rattle.xk_activity.specs.StepAgreement.{frames_in}
 use Rattle.xk_activity.specs.Activities.{act_at}
 use Rattle.xk_core.specs.Core.{CoreValue, is_running, is_next_local}
-use Rattle.xk_core.specs.Told.{with_finishes}
-use Rattle.xk_core.proofs.Finishing.{held}
-use Rattle.xk_core.proofs.Locally.{running_told}
-use Rattle.xk_core.proofs.Ahead.{unless_running, runner_safe, runner_next}
+use Rattle.xk_core.specs.FinishView.{with_finishes}
+use Rattle.xk_core.proofs.FinishTreeLemmas.{held}
+use Rattle.xk_core.proofs.LocalStepLemmas.{running_told}
+use Rattle.xk_core.proofs.NextLocalLemmas.{unless_running, runner_safe, runner_next}
 use Rattle.xk_core.proofs.machine.Core.next_local.Goals as goal
 
 pub is_local-requires-clause-right : goal.is_local-requires-clause-right

@@ -1,7 +1,7 @@
 use Rattle.std.proofs.Common.{ap, ◌∙◌, [], ◌∷◌}
 use Rattle.xk_types.specs.World.{root}
 use Rattle.xk_finishes.specs.Tree.{fresh_node}
-use Rattle.xk_core.proofs.Finishing.{opened}
+use Rattle.xk_core.proofs.FinishTreeLemmas.{opened}
 use Rattle.xk_core.proofs.machine.Core.open.Goals as goal
 
 pub invariant_of-result : goal.invariant_of-result

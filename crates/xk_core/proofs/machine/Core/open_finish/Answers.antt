@@ -6,9 +6,9 @@ use Rattle.xk_activity.specs.Activities.{act_at, nobody}
 use Rattle.xk_types.specs.Step.{Stepped, step, settled, onward, moved, none}
 use Rattle.xk_finishes.specs.Tree.{node_entered, changed_at}
 use Rattle.xk_core.specs.Core.{CoreValue, next_instruction}
-use Rattle.xk_core.specs.Told.{with_finishes}
-use Rattle.xk_core.proofs.Finishing.{held, held_on, parts_in, parts_roomy, runs, exists, alive, open_room, open_stepped, open_are}
-use Rattle.xk_types.specs.declared.names.Event.TheVariants as event
+use Rattle.xk_core.specs.FinishView.{with_finishes}
+use Rattle.xk_core.proofs.FinishTreeLemmas.{held, held_on, parts_in, parts_roomy, runs, exists, alive, open_room, open_stepped, open_are}
+use Rattle.xk_types.specs.declared.world.Event.TheVariants as event
 use Rattle.xk_core.proofs.machine.Core.open_finish.Goals as goal
 
 pub enter-requires-clause-exists : goal.enter-requires-clause-exists

@@ -1,10 +1,10 @@
 use Rattle.std.proofs.Common.{◌≡◌, true, None, sym, subst}
 use Rattle.xk_types.specs.Step.{Stepped, step}
 use Rattle.xk_types.specs.Schedule.{is_enabled}
-use Rattle.xk_core.specs.Arm.{passed_on}
+use Rattle.xk_core.specs.InstructionEffect.{passed_on}
 use Rattle.xk_core.specs.Core.{CoreValue, next_instruction}
-use Rattle.xk_core.specs.Told.{with_finishes}
-use Rattle.xk_core.proofs.Finishing.{held, held_on, parts_in, parts_roomy, pass_within, pass_enabled, pass_stepped, pass_are}
+use Rattle.xk_core.specs.FinishView.{with_finishes}
+use Rattle.xk_core.proofs.FinishTreeLemmas.{held, held_on, parts_in, parts_roomy, pass_within, pass_enabled, pass_stepped, pass_are}
 use Rattle.xk_core.proofs.machine.Core.pass.Goals as goal
 
 pub pass-requires-clause-enabled : goal.pass-requires-clause-enabled

@@ -1,9 +1,9 @@
 use Rattle.std.proofs.Common.{◌≡◌, true, false, sym, subst, arith}
 use Rattle.xk_types.specs.Schedule.{is_enabled, all_ended}
 use Rattle.xk_core.specs.Core.{CoreValue}
-use Rattle.xk_core.specs.Told.{with_finishes}
-use Rattle.xk_core.proofs.Cores.{core_names, core_ends}
-use Rattle.xk_core.proofs.Told.{length_told}
+use Rattle.xk_core.specs.FinishView.{with_finishes}
+use Rattle.xk_core.proofs.CoreLemmas.{core_names, core_ends}
+use Rattle.xk_core.proofs.FinishViewLemmas.{length_told}
 use Rattle.xk_core.proofs.machine.Core.pick.Goals as goal
 
 pub overflow_cast-act : goal.overflow_cast-act

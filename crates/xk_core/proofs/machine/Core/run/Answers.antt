@@ -1,11 +1,11 @@
 use Rattle.std.proofs.Common.{◌≡◌, inr, true, false, ◌∙◌, sym, subst, ap}
 use Rattle.xk_core.specs.Core.{CoreValue, is_running, is_next_local}
 use Rattle.xk_core.specs.State.{core_of}
-use Rattle.xk_core.specs.Stretch.{HasRoomForSteps, TakesSteps, RunsTo, AreLocal, IsUnseen}
-use Rattle.xk_core.specs.Told.{with_finishes}
-use Rattle.xk_core.proofs.Finishing.{held, parts}
-use Rattle.xk_core.proofs.Locally.{running_told}
-use Rattle.xk_core.proofs.Ahead.{unless_running, runner_safe, runner_room, runner_ran}
+use Rattle.xk_core.specs.LocalRun.{HasRoomForSteps, TakesSteps, RunsTo, AreLocal, IsUnseen}
+use Rattle.xk_core.specs.FinishView.{with_finishes}
+use Rattle.xk_core.proofs.FinishTreeLemmas.{held, parts}
+use Rattle.xk_core.proofs.LocalStepLemmas.{running_told}
+use Rattle.xk_core.proofs.NextLocalLemmas.{unless_running, runner_safe, runner_room, runner_ran}
 use Rattle.xk_core.proofs.machine.Core.run.Goals as goal
 
 pub run-requires-clause-safe : goal.run-requires-clause-safe

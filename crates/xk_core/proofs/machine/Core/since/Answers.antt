@@ -4,8 +4,8 @@ use Rattle.std.proofs.lemmas.Option.{slice_get-get_or}
 use Rattle.xk_types.specs.World.{Activity}
 use Rattle.xk_activity.specs.Activities.{act_at, nobody}
 use Rattle.xk_core.specs.Core.{CoreValue}
-use Rattle.xk_core.proofs.Finishing.{since_told}
-use Rattle.xk_core.proofs.Told.{length_told}
+use Rattle.xk_core.proofs.FinishTreeLemmas.{since_told}
+use Rattle.xk_core.proofs.FinishViewLemmas.{length_told}
 use Rattle.xk_core.proofs.machine.Core.since.Goals as goal
 
 pub since-requires : goal.since-requires

@@ -3,12 +3,12 @@ use Rattle.xk_types.specs.declared.instr.Instr.TheVariants as instruction
 use Rattle.xk_types.specs.Step.{Stepped, step}
 use Rattle.xk_types.specs.Schedule.{is_enabled}
 use Rattle.xk_types.specs.Bound.{room_of}
-use Rattle.xk_core.specs.Arm.{carried, IsRoomy}
+use Rattle.xk_core.specs.InstructionEffect.{carried, IsRoomy}
 use Rattle.xk_core.specs.Core.{CoreValue, next_instruction}
-use Rattle.xk_core.specs.Told.{with_finishes}
-use Rattle.xk_core.proofs.Cores.{core_names}
-use Rattle.xk_core.proofs.Finishing.{held, parts_in, parts_roomy, runs, exists, alive, spawn_enabled, started_held}
-use Rattle.xk_core.proofs.Told.{length_told}
+use Rattle.xk_core.specs.FinishView.{with_finishes}
+use Rattle.xk_core.proofs.CoreLemmas.{core_names}
+use Rattle.xk_core.proofs.FinishTreeLemmas.{held, parts_in, parts_roomy, runs, exists, alive, spawn_enabled, started_held}
+use Rattle.xk_core.proofs.FinishViewLemmas.{length_told}
 use Rattle.xk_core.proofs.machine.Core.start.Goals as goal
 
 pub prepare-requires-clause-enabled : goal.prepare-requires-clause-enabled

@@ -1,6 +1,6 @@
 use Rattle.std.proofs.Common.{subst}
 use Rattle.xk_core.specs.Core.{CoreValue, IsCore}
-use Rattle.xk_core.proofs.Finishing.{taken_counts, taken_bound}
+use Rattle.xk_core.proofs.FinishTreeLemmas.{taken_counts, taken_bound}
 use Rattle.xk_core.proofs.machine.Core.step.Goals as goal
 
 pub returns-clause-counted : goal.returns-clause-counted

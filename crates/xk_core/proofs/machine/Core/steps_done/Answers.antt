@@ -2,8 +2,8 @@ use Rattle.std.proofs.Common.{◌≡◌, ◌≤◌, subst, sym, ◌∙◌}
 use Rattle.xk_types.specs.World.{opening}
 use Rattle.xk_types.specs.Bound.{steps_bound}
 use Rattle.xk_core.specs.Core.{CoreValue}
-use Rattle.xk_core.specs.Told.{with_finishes}
-use Rattle.xk_core.proofs.Cores.{core_bound, core_fresh}
+use Rattle.xk_core.specs.FinishView.{with_finishes}
+use Rattle.xk_core.proofs.CoreLemmas.{core_bound, core_fresh}
 use Rattle.xk_core.proofs.machine.Core.steps_done.Goals as goal
 
 pub returns-clause-bound : goal.returns-clause-bound

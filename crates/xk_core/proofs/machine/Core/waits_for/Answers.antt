@@ -1,6 +1,6 @@
 use Rattle.std.proofs.Common.{◌<◌, length, sym, subst, arith}
 use Rattle.xk_core.specs.Core.{CoreValue}
-use Rattle.xk_core.proofs.Told.{length_told}
+use Rattle.xk_core.proofs.FinishViewLemmas.{length_told}
 use Rattle.xk_core.proofs.machine.Core.waits_for.Goals as goal
 
 pub waits_for-requires : goal.waits_for-requires

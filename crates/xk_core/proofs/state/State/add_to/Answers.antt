@@ -2,17 +2,17 @@ use Rattle.std.proofs.Common.{◌≡◌, true, refl, subst, sym, ap, ◌∙◌, 
 use Rattle.std.specs.Int.{w64, int_wrapping_add}
 use Rattle.std.proofs.lemmas.Option.{slice_get_within, get_or_from_slice_get}
 use Rattle.xk_types.specs.declared.instr.Instr.TheVariants as instruction
-use Rattle.xk_types.specs.declared.names.Event.TheVariants as event
+use Rattle.xk_types.specs.declared.world.Event.TheVariants as event
 use Rattle.xk_types.specs.World.{World}
 use Rattle.xk_types.specs.Step.{Stepped, settled, moved, none, stored}
 use Rattle.xk_types.specs.Schedule.{is_step}
-use Rattle.xk_standings.specs.Told.{told_of, rooms_of}
+use Rattle.xk_registrations.specs.Standings.{told_of, rooms_of}
 use Rattle.xk_activity.specs.Activities.{ActivitiesValue, act_at}
-use Rattle.xk_core.specs.Arm.{carried}
+use Rattle.xk_core.specs.InstructionEffect.{carried}
 use Rattle.xk_core.specs.Core.{CoreValue}
 use Rattle.xk_core.specs.State.{StateValue}
-use Rattle.xk_core.proofs.Visible.{store_here, same_number}
-use Rattle.xk_core.proofs.Reserving.{kept_on}
+use Rattle.xk_core.proofs.VisibleStepLemmas.{store_here, same_number}
+use Rattle.xk_core.proofs.ReservationLemmas.{kept_on}
 use Rattle.xk_core.proofs.state.State.add_to.Goals as goal
 
 pub number-n-requires-clause-number : goal.number-n-requires-clause-number

@@ -1,19 +1,19 @@
 use Rattle.std.proofs.Common.{◌≡◌, ◌+◌, ◌<◌, ap, sym, subst, ◌∙◌, refl, arith, length, length-set, slice_set, [], ◌∷◌, ◌++◌, map, List}
 use Rattle.std.proofs.lemmas.List.{length_push}
 use Rattle.xk_types.specs.declared.instr.Instr.TheVariants as instruction
-use Rattle.xk_types.specs.declared.names.Event.TheVariants as event
+use Rattle.xk_types.specs.declared.world.Event.TheVariants as event
 use Rattle.xk_types.specs.World.{Activity, Clock, World}
 use Rattle.xk_types.specs.Step.{Stepped, child, is_given, joined, onward, settled_clock}
 use Rattle.xk_activity.specs.Activities.{ActivitiesValue, act_at}
-use Rattle.xk_activity.specs.Stacked.{values_at}
-use Rattle.xk_standings.specs.Told.{told_of, rooms_of}
-use Rattle.xk_core.specs.Arm.{carried}
-use Rattle.xk_core.specs.Reserved.{AreReserved}
+use Rattle.xk_activity.specs.FrameStack.{values_at}
+use Rattle.xk_registrations.specs.Standings.{told_of, rooms_of}
+use Rattle.xk_core.specs.InstructionEffect.{carried}
+use Rattle.xk_core.specs.Reservation.{AreReserved}
 use Rattle.xk_core.specs.State.{StateValue, NewcomerValue, IsReady}
-use Rattle.xk_core.proofs.Starting.{newcomer_of}
-use Rattle.xk_core.proofs.Arms.{carried_within}
-use Rattle.xk_core.proofs.Visible.{spawn_here}
-use Rattle.xk_core.proofs.Reserving.{reserved_more, onward_base}
+use Rattle.xk_core.proofs.NewActivityLemmas.{newcomer_of}
+use Rattle.xk_core.proofs.OperandLemmas.{carried_within}
+use Rattle.xk_core.proofs.VisibleStepLemmas.{spawn_here}
+use Rattle.xk_core.proofs.ReservationLemmas.{reserved_more, onward_base}
 use Rattle.xk_core.proofs.state.State.admit.Goals as goal
 
 pub admit-requires-clause-room : goal.admit-requires-clause-room

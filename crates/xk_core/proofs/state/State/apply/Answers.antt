@@ -1,11 +1,11 @@
 use Rattle.std.proofs.Common.{◌≡◌, inl, length, refl, sym, subst}
 use Rattle.xk_activity.specs.Local.{FramesValue, Stepped, local, ran}
-use Rattle.xk_activity.specs.Joined.{frames_in, with_frames}
+use Rattle.xk_activity.specs.StepAgreement.{frames_in, with_frames}
 use Rattle.xk_activity.specs.Activities.{act_at}
 use Rattle.xk_core.specs.State.{StateValue, core_of}
-use Rattle.xk_core.specs.Handed.{HasOldFrames}
-use Rattle.xk_standings.specs.Told.{rooms_of}
-use Rattle.xk_core.proofs.Reserving.{kept_by, runs_base}
+use Rattle.xk_core.specs.TicketAcceptance.{HasOldFrames}
+use Rattle.xk_registrations.specs.Standings.{rooms_of}
+use Rattle.xk_core.proofs.ReservationLemmas.{kept_by, runs_base}
 use Rattle.xk_core.proofs.state.State.apply.Goals as goal
 
 pub invariant_of-self : goal.invariant_of-self

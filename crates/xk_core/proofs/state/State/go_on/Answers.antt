@@ -1,8 +1,8 @@
 use Rattle.std.proofs.Common.{subst, sym, length, refl}
 use Rattle.xk_activity.specs.Activities.{Stands, act_at}
 use Rattle.xk_core.specs.State.{StateValue}
-use Rattle.xk_core.proofs.Reserving.{kept_on}
-use Rattle.xk_standings.specs.Told.{rooms_of}
+use Rattle.xk_core.proofs.ReservationLemmas.{kept_on}
+use Rattle.xk_registrations.specs.Standings.{rooms_of}
 use Rattle.xk_core.proofs.state.State.go_on.Goals as goal
 
 pub go_on-requires-clause-stands : goal.go_on-requires-clause-stands

@@ -1,16 +1,16 @@
 use Rattle.std.proofs.Common.{◌≡◌, true, subst, sym, ap, ◌∙◌, length, refl}
 use Rattle.xk_types.specs.declared.instr.Instr.TheVariants as instruction
-use Rattle.xk_types.specs.declared.names.Event.TheVariants as event
+use Rattle.xk_types.specs.declared.world.Event.TheVariants as event
 use Rattle.xk_types.specs.World.{World}
 use Rattle.xk_types.specs.Step.{Stepped, settled, moved, only, dropped}
 use Rattle.xk_types.specs.Schedule.{is_step}
-use Rattle.xk_standings.specs.Told.{told_of, rooms_of}
+use Rattle.xk_registrations.specs.Standings.{told_of, rooms_of}
 use Rattle.xk_activity.specs.Activities.{ActivitiesValue, Stands, act_at}
-use Rattle.xk_core.specs.Arm.{carried}
+use Rattle.xk_core.specs.InstructionEffect.{carried}
 use Rattle.xk_core.specs.Core.{CoreValue}
 use Rattle.xk_core.specs.State.{StateValue}
-use Rattle.xk_core.proofs.Visible.{drop_clock, drop_done}
-use Rattle.xk_core.proofs.Reserving.{kept_on}
+use Rattle.xk_core.proofs.VisibleStepLemmas.{drop_clock, drop_done}
+use Rattle.xk_core.proofs.ReservationLemmas.{kept_on}
 use Rattle.xk_core.proofs.state.State.leave_clock.Goals as goal
 
 pub clock-c-requires-clause-clock : goal.clock-c-requires-clause-clock

@@ -1,7 +1,7 @@
 use Rattle.std.proofs.Common.{length, refl}
 use Rattle.xk_activity.specs.Activities.{act_at}
-use Rattle.xk_standings.specs.Told.{rooms_of}
-use Rattle.xk_core.proofs.Reserving.{kept_by, takes_base}
+use Rattle.xk_registrations.specs.Standings.{rooms_of}
+use Rattle.xk_core.proofs.ReservationLemmas.{kept_by, takes_base}
 use Rattle.xk_core.proofs.state.State.local.Goals as goal
 
 pub invariant_of-self : goal.invariant_of-self

@@ -1,18 +1,18 @@
 use Rattle.std.proofs.Common.{◌≡◌, ◌+◌, true, [], ◌∷◌, ◌++◌, length, map, subst, sym, refl, ap, ◌∙◌, slice_set, List}
 use Rattle.xk_types.specs.declared.instr.Instr.TheVariants as instruction
-use Rattle.xk_types.specs.declared.names.Event.TheVariants as event
-use Rattle.xk_types.specs.declared.names.Value.TheVariants as value
+use Rattle.xk_types.specs.declared.world.Event.TheVariants as event
+use Rattle.xk_types.specs.declared.world.Value.TheVariants as value
 use Rattle.xk_types.specs.World.{Activity, Clock, World}
 use Rattle.xk_types.specs.Step.{Stepped, settled_clock, new_clock, onward, with_slots}
 use Rattle.xk_types.specs.Schedule.{is_step}
-use Rattle.xk_rooms.specs.Rooms.{HasRoomLeft}
-use Rattle.xk_standings.specs.Told.{told_of, rooms_of}
+use Rattle.xk_laws.specs.ClockRoom.{HasRoomLeft}
+use Rattle.xk_registrations.specs.Standings.{told_of, rooms_of}
 use Rattle.xk_activity.specs.Activities.{ActivitiesValue, act_at}
-use Rattle.xk_core.specs.Arm.{carried}
+use Rattle.xk_core.specs.InstructionEffect.{carried}
 use Rattle.xk_core.specs.State.{StateValue}
-use Rattle.xk_core.proofs.Arms.{carried_within}
-use Rattle.xk_core.proofs.Reserving.{kept_by, onward_base, room_to_make}
-use Rattle.xk_core.proofs.Visible.{make_here}
+use Rattle.xk_core.proofs.OperandLemmas.{carried_within}
+use Rattle.xk_core.proofs.ReservationLemmas.{kept_by, onward_base, room_to_make}
+use Rattle.xk_core.proofs.VisibleStepLemmas.{make_here}
 use Rattle.xk_core.proofs.state.State.make.Goals as goal
 
 pub make-name-requires-clause-room : goal.make-name-requires-clause-room

@@ -1,6 +1,6 @@
 use Rattle.std.proofs.Common.{length, refl}
-use Rattle.xk_standings.specs.Told.{rooms_of}
-use Rattle.xk_core.proofs.Reserving.{kept_on}
+use Rattle.xk_registrations.specs.Standings.{rooms_of}
+use Rattle.xk_core.proofs.ReservationLemmas.{kept_on}
 use Rattle.xk_core.proofs.state.State.pass.Goals as goal
 
 pub invariant_of-self : goal.invariant_of-self

@@ -2,7 +2,7 @@ use Rattle.std.proofs.Common.{◌≡◌, ◌<◌, ◌≤◌, min, true, subst, s
 use Rattle.std.proofs.lemmas.List.{length-map}
 use Rattle.std.proofs.lemmas.Option.{slice_get_within}
 use Rattle.xk_types.specs.declared.instr.Instr.TheVariants as instruction
-use Rattle.xk_types.specs.declared.names.Value.{Value}
+use Rattle.xk_types.specs.declared.world.Value.{Value}
 use Rattle.xk_types.specs.Code.{IsWithinLimits}
 use Rattle.xk_types.specs.World.{Activity, World}
 use Rattle.xk_types.specs.Step.{is_given, child}
@@ -10,15 +10,15 @@ use Rattle.xk_types.specs.Schedule.{is_step}
 use Rattle.xk_types.specs.Bound.{clocks_bound, stack_of}
 use Rattle.xk_activity.specs.Activities.{act_at}
 use Rattle.xk_activity.specs.Local.{FramesValue}
-use Rattle.xk_activity.specs.Stacked.{values_at, value_at}
-use Rattle.xk_rooms.specs.Rooms.{places_of}
-use Rattle.xk_standings.specs.View.{held}
-use Rattle.xk_standings.specs.Calls.{IsGiven}
-use Rattle.xk_standings.specs.Told.{told_of}
-use Rattle.xk_core.specs.Arm.{carried}
+use Rattle.xk_activity.specs.FrameStack.{values_at, value_at}
+use Rattle.xk_laws.specs.ClockRoom.{places_of}
+use Rattle.xk_registrations.specs.View.{held}
+use Rattle.xk_registrations.specs.RegistrationChanges.{IsGiven}
+use Rattle.xk_registrations.specs.Standings.{told_of}
+use Rattle.xk_core.specs.InstructionEffect.{carried}
 use Rattle.xk_core.specs.State.{StateValue}
-use Rattle.xk_core.proofs.Visible.{spawn_here, spawn_fits}
-use Rattle.xk_core.proofs.Starting.{made_ready}
+use Rattle.xk_core.proofs.VisibleStepLemmas.{spawn_here, spawn_fits}
+use Rattle.xk_core.proofs.NewActivityLemmas.{made_ready}
 use Rattle.xk_core.proofs.state.State.prepare.Goals as goal
 
 pub values-requires : goal.values-requires

@@ -2,17 +2,17 @@ use Rattle.std.proofs.Common.{◌≡◌, true, subst, sym, ap, ◌∙◌, length
 use Rattle.std.specs.Int.{w64}
 use Rattle.std.proofs.lemmas.Int.{to_z-of_z}
 use Rattle.xk_types.specs.declared.instr.Instr.TheVariants as instruction
-use Rattle.xk_types.specs.declared.names.Event.TheVariants as event
+use Rattle.xk_types.specs.declared.world.Event.TheVariants as event
 use Rattle.xk_types.specs.World.{World}
 use Rattle.xk_types.specs.Step.{Stepped, settled, moved, none}
 use Rattle.xk_types.specs.Schedule.{is_step}
-use Rattle.xk_standings.specs.Told.{told_of, rooms_of}
+use Rattle.xk_registrations.specs.Standings.{told_of, rooms_of}
 use Rattle.xk_activity.specs.Activities.{ActivitiesValue, Stands, act_at}
-use Rattle.xk_core.specs.Arm.{carried}
+use Rattle.xk_core.specs.InstructionEffect.{carried}
 use Rattle.xk_core.specs.Core.{CoreValue}
 use Rattle.xk_core.specs.State.{StateValue}
-use Rattle.xk_core.proofs.Visible.{print_number, print_done}
-use Rattle.xk_core.proofs.Reserving.{kept_on}
+use Rattle.xk_core.proofs.VisibleStepLemmas.{print_number, print_done}
+use Rattle.xk_core.proofs.ReservationLemmas.{kept_on}
 use Rattle.xk_core.proofs.state.State.print.Goals as goal
 
 pub number-n-requires-clause-number : goal.number-n-requires-clause-number

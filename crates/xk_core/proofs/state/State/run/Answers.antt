@@ -1,11 +1,11 @@
 use Rattle.std.proofs.Common.{length, refl, sym, subst, arith}
 use Rattle.xk_activity.specs.Local.{IsSafe, local}
-use Rattle.xk_activity.specs.Joined.{frames_in}
+use Rattle.xk_activity.specs.StepAgreement.{frames_in}
 use Rattle.xk_activity.specs.Activities.{act_at}
 use Rattle.xk_core.specs.State.{StateValue, core_of}
-use Rattle.xk_core.specs.Stretch.{HasRoomForSteps}
-use Rattle.xk_standings.specs.Told.{rooms_of}
-use Rattle.xk_core.proofs.Reserving.{kept_by, runs_base}
+use Rattle.xk_core.specs.LocalRun.{HasRoomForSteps}
+use Rattle.xk_registrations.specs.Standings.{rooms_of}
+use Rattle.xk_core.proofs.ReservationLemmas.{kept_by, runs_base}
 use Rattle.xk_core.proofs.state.State.run.Goals as goal
 
 pub run-n-requires-clause-safe : goal.run-n-requires-clause-safe

@@ -1,6 +1,6 @@
 use Rattle.std.proofs.Common.{◌≡◌, ◌<◌, ℕ, List, Some, length, sym, ap, ◌∙◌, subst, arith}
 use Rattle.xk_finishes.specs.Counters.{count_in}
-use Rattle.xk_finishes.proofs.Places.{there_some, own_some}
+use Rattle.xk_finishes.proofs.CounterListLemmas.{there_some, own_some}
 use Rattle.xk_finishes.proofs.counters.Counters.take.Goals as goal
 
 pub index_mut-requires : goal.index_mut-requires

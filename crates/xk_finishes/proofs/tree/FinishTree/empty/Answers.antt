@@ -1,7 +1,7 @@
 use Rattle.std.proofs.Common.{◌≡◌, ◌<◌, ◌==◌, not, List, length, get_or, ap, ◌∙◌, subst, arith}
 use Rattle.xk_finishes.specs.Tree.{NodeValue, awaits_innermost}
-use Rattle.xk_finishes.proofs.Activities.{awaits_innermost_same}
-use Rattle.xk_finishes.proofs.Kept.{empty_counted}
+use Rattle.xk_finishes.proofs.ActivityLemmas.{awaits_innermost_same}
+use Rattle.xk_finishes.proofs.CounterStepLemmas.{empty_counted}
 use Rattle.xk_finishes.proofs.tree.FinishTree.empty.Goals as goal
 
 pub returns-clause-waits : goal.returns-clause-waits

@@ -2,8 +2,8 @@ use Rattle.std.proofs.Common.{◌≡◌, ◌<◌, List, length, set, sym, ap, �
 use Rattle.xk_types.specs.World.{Finish}
 use Rattle.xk_finishes.specs.Tree.{NodeValue, node_at, node_ended}
 use Rattle.xk_finishes.specs.Counters.{CountIs, CountsOneMore, IsCounting}
-use Rattle.xk_finishes.proofs.Places.{read_any}
-use Rattle.xk_finishes.proofs.Kept.{counted_until, counting_ended}
+use Rattle.xk_finishes.proofs.CounterListLemmas.{read_any}
+use Rattle.xk_finishes.proofs.CounterStepLemmas.{counted_until, counting_ended}
 use Rattle.xk_finishes.proofs.tree.FinishTree.ended.Goals as goal
 
 pub take-requires : goal.take-requires

@@ -1,8 +1,8 @@
 use Rattle.std.proofs.Common.{◌<◌, length, set, sym, ap, ◌∙◌, subst, arith}
 use Rattle.xk_finishes.specs.Tree.{NodeValue, node_entered}
 use Rattle.xk_finishes.specs.Counters.{IsCounting}
-use Rattle.xk_finishes.proofs.Places.{read_any}
-use Rattle.xk_finishes.proofs.Kept.{counting_entered}
+use Rattle.xk_finishes.proofs.CounterListLemmas.{read_any}
+use Rattle.xk_finishes.proofs.CounterStepLemmas.{counting_entered}
 use Rattle.xk_finishes.proofs.tree.FinishTree.enter.Goals as goal
 
 pub invariant_of-self : goal.invariant_of-self

@@ -2,8 +2,8 @@ use Rattle.std.proofs.Common.{◌≡◌, ◌<◌, ◌^◌, List, [], ◌∷◌, 
 use Rattle.xk_types.specs.World.{Finish}
 use Rattle.xk_finishes.specs.Tree.{NodeValue, fresh_node, node_at, governing_of}
 use Rattle.xk_finishes.specs.Counters.{CountsOneMore, IsCounting}
-use Rattle.xk_finishes.proofs.Places.{read_any}
-use Rattle.xk_finishes.proofs.Kept.{counting_same, counts_fit, counting_spawned}
+use Rattle.xk_finishes.proofs.CounterListLemmas.{read_any}
+use Rattle.xk_finishes.proofs.CounterStepLemmas.{counting_same, counts_fit, counting_spawned}
 use Rattle.xk_finishes.proofs.tree.FinishTree.spawned.Goals as goal
 
 pub invariant_of-self-in_err-push : goal.invariant_of-self-in_err-push

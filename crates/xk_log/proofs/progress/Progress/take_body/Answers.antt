@@ -1,6 +1,6 @@
 use Rattle.std.proofs.Common.{◌+◌, arith}
 use Rattle.std.proofs.lemmas.Result.{err_from_is_err_and}
-use Rattle.xk_log.proofs.Taking.{refused_full, refused_memory}
+use Rattle.xk_log.proofs.LineReaderLemmas.{refused_full, refused_memory}
 use Rattle.xk_log.proofs.progress.Progress.take_body.Goals as goal
 
 pub returns-then-count-ge-MOST_ENTRIES-clause-refused : goal.returns-then-count-ge-MOST_ENTRIES-clause-refused

@@ -4,9 +4,9 @@ use Rattle.std.proofs.lemmas.List.Sums.{prefix_len-le-length}
 use Rattle.std.proofs.lemmas.List.{take_rest, drop-drop}
 use Rattle.std.proofs.lemmas.Result.{err_from_is_err_and}
 use Rattle.xk_log.specs.LogText.{isnt, line_feed, ended}
-use Rattle.xk_log.specs.Places.{before, IsOneLine}
+use Rattle.xk_log.specs.Verdicts.{before, IsOneLine}
 use Rattle.xk_log.specs.Reading.{place}
-use Rattle.xk_log.proofs.Reader.{taken_one, line_here, all_here, refused_at}
+use Rattle.xk_log.proofs.ReaderLemmas.{taken_one, line_here, all_here, refused_at}
 use Rattle.xk_log.proofs.progress.Progress.take_lines.Goals as goal
 
 pub overflow_add-from : goal.overflow_add-from

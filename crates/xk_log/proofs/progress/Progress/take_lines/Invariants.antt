@@ -1,7 +1,7 @@
 use Rattle.std.proofs.Common.{◌≡◌, ◌-◌, ◌≤◌, ◌++◌, length, drop}
 use Rattle.std.specs.List.{prefix_len}
 use Rattle.xk_log.specs.LogText.{isnt, line_feed}
-use Rattle.xk_log.specs.Places.{before}
+use Rattle.xk_log.specs.Verdicts.{before}
 use Rattle.xk_log.specs.Reading.{place, IsReady}
 use Rattle.xk_log.proofs.progress.Progress.take_lines.Given as goal
 

@@ -1,7 +1,7 @@
 use Rattle.std.proofs.Common.{◌∙◌, ap, map}
 use Rattle.xk_tree.specs.Tree.{param_value}
-use Rattle.xk_names.specs.Collected.{put}
-use Rattle.xk_names.proofs.Tables.{put_values, valued}
+use Rattle.xk_names.specs.FaultList.{put}
+use Rattle.xk_names.proofs.TableLemmas.{put_values, valued}
 use Rattle.xk_names.proofs.methods.Methods.put.Goals as goal
 
 pub returns-clause-entry : goal.returns-clause-entry

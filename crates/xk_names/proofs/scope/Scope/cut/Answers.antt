@@ -1,6 +1,6 @@
 use Rattle.std.proofs.Common.{◌∙◌, ap}
 use Rattle.xk_names.specs.Scope.{Scope}
-use Rattle.xk_names.proofs.Cuts.{cut_scope, cut_behind, cut_after}
+use Rattle.xk_names.proofs.ScopeCutLemmas.{cut_scope, cut_behind, cut_after}
 use Rattle.xk_names.proofs.scope.Scope.cut.Goals as goal
 
 pub returns-clause-behind : goal.returns-clause-behind

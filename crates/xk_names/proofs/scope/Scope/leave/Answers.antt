@@ -1,6 +1,6 @@
 use Rattle.std.proofs.Common.{◌∙◌, ap, take}
 use Rattle.xk_names.specs.Scope.{Scope}
-use Rattle.xk_names.proofs.Cuts.{left_scope, left}
+use Rattle.xk_names.proofs.ScopeCutLemmas.{left_scope, left}
 use Rattle.xk_names.proofs.scope.Scope.leave.Goals as goal
 
 pub returns : goal.returns

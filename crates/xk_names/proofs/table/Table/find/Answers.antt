@@ -1,6 +1,6 @@
 use Rattle.std.proofs.Common.{◌∙◌, ap, sym, arith}
 use Rattle.xk_names.specs.Scope.{find}
-use Rattle.xk_names.proofs.Tables.{shown, not_found, found_within, found_item}
+use Rattle.xk_names.proofs.TableLemmas.{shown, not_found, found_within, found_item}
 use Rattle.xk_names.proofs.table.Table.find.Goals as goal
 
 pub returns-in_err-place : goal.returns-in_err-place

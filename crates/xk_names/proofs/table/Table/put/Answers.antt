@@ -1,6 +1,6 @@
 use Rattle.std.proofs.Common.{◌∙◌, ◌++◌, ◌∷◌, [], ap, sym}
-use Rattle.xk_names.specs.Collected.{put}
-use Rattle.xk_names.proofs.Tables.{put_placed, put_shown}
+use Rattle.xk_names.specs.FaultList.{put}
+use Rattle.xk_names.proofs.TableLemmas.{put_placed, put_shown}
 use Rattle.xk_names.proofs.table.Table.put.Goals as goal
 
 pub invariant_of-self-2 : goal.invariant_of-self-2

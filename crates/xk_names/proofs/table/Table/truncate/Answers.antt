@@ -1,5 +1,5 @@
 use Rattle.std.proofs.Common.{◌∙◌, ◌≤◌, length, arith}
-use Rattle.xk_names.proofs.Tables.{pop_placed, pop_shown}
+use Rattle.xk_names.proofs.TableLemmas.{pop_placed, pop_shown}
 use Rattle.xk_names.proofs.table.Table.truncate.Goals as goal
 
 pub loop-self-preserved-in-Some : goal.loop-self-preserved-in-Some

@@ -1,6 +1,6 @@
 use Rattle.std.proofs.Common.{◌≡◌, take, length}
-use Rattle.xk_names.specs.Placed.{ArePlaces}
-use Rattle.xk_names.proofs.Tables.{shown}
+use Rattle.xk_names.specs.TablePlaces.{ArePlaces}
+use Rattle.xk_names.proofs.TableLemmas.{shown}
 use Rattle.xk_names.proofs.table.Table.truncate.Given as goal
 
 abbrev pub invariant-loop-self : goal.invariant-loop-self

@@ -1,7 +1,7 @@
 use Rattle.std.proofs.Common.{◌∙◌, ap}
 use Rattle.std.specs.Prelude.{is_some}
 use Rattle.xk_names.specs.Scope.{has}
-use Rattle.xk_names.proofs.Tables.{has_names}
+use Rattle.xk_names.proofs.TableLemmas.{has_names}
 use Rattle.xk_names.proofs.table.Texts.contains.Goals as goal
 
 pub returns : goal.returns

@@ -1,7 +1,7 @@
 use Rattle.std.proofs.Common.{◌∙◌, ap, sym, take}
 use Rattle.std.proofs.lemmas.List.{take-map}
-use Rattle.xk_names.proofs.Tables.{names}
-use Rattle.xk_names.proofs.Taken.{cut_texts, cut_own}
+use Rattle.xk_names.proofs.TableLemmas.{names}
+use Rattle.xk_names.proofs.CaptureStepLemmas.{cut_texts, cut_own}
 use Rattle.xk_names.proofs.table.Texts.cut.Goals as goal
 
 pub returns-clause-behind : goal.returns-clause-behind

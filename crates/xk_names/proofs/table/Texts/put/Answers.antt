@@ -1,8 +1,8 @@
 use Rattle.std.proofs.Common.{◌∙◌, ap, length}
 use Rattle.std.specs.Prelude.{not, nat_lt}
 use Rattle.xk_names.specs.Scope.{has}
-use Rattle.xk_names.specs.Collected.{put_text}
-use Rattle.xk_names.proofs.Tables.{names, put_grows, put_names}
+use Rattle.xk_names.specs.FaultList.{put_text}
+use Rattle.xk_names.proofs.TableLemmas.{names, put_grows, put_names}
 use Rattle.xk_names.proofs.table.Texts.put.Goals as goal
 
 pub returns-clause-new : goal.returns-clause-new

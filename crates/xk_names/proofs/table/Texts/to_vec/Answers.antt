@@ -1,6 +1,6 @@
 use Rattle.std.proofs.Common.{◌∙◌, ◌≤◌, ap, length, arith}
 use Rattle.std.proofs.lemmas.List.{take_all}
-use Rattle.xk_names.proofs.Tables.{listed, listed_names, names}
+use Rattle.xk_names.proofs.TableLemmas.{listed, listed_names, names}
 use Rattle.xk_names.proofs.table.Texts.to_vec.Goals as goal
 
 pub returns : goal.returns

@@ -1,5 +1,5 @@
 use Rattle.std.proofs.Common.{◌≡◌, map, take}
-use Rattle.xk_names.proofs.Tables.{listed}
+use Rattle.xk_names.proofs.TableLemmas.{listed}
 use Rattle.xk_names.proofs.table.Texts.to_vec.Given as goal
 
 abbrev pub invariant-loop-name : goal.invariant-loop-name

@@ -1,6 +1,6 @@
 -- behind the last place none is open
 use Rattle.std.proofs.Common.{length, sym, ap, arith}
-use Rattle.xk_shape.proofs.Around.{block_past}
+use Rattle.xk_shape.proofs.EnclosingFinishLemmas.{block_past}
 use Rattle.xk_shape.proofs.tables.Tables.depth_at.Goals as goal
 
 pub returns-in-None : goal.returns-in-None

@@ -1,7 +1,7 @@
 -- behind the last place there is no finish
 use Rattle.std.proofs.Common.{length, sym, ap, arith}
 use Rattle.xk_shape.specs.Places.{innermost}
-use Rattle.xk_shape.proofs.Around.{block_past}
+use Rattle.xk_shape.proofs.EnclosingFinishLemmas.{block_past}
 use Rattle.xk_shape.proofs.tables.Tables.finish_of.Goals as goal
 
 pub returns-in-None : goal.returns-in-None

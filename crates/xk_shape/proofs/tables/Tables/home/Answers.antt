@@ -1,6 +1,6 @@
 -- the unit doesn't have the slot
 use Rattle.std.proofs.Common.{length, sym, ap, arith}
-use Rattle.xk_shape.proofs.TableHomes.{home_past}
+use Rattle.xk_shape.proofs.HomeTableLemmas.{home_past}
 use Rattle.xk_shape.proofs.tables.Tables.home.Goals as goal
 
 pub returns-in-None : goal.returns-in-None

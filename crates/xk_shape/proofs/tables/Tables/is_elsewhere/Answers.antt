@@ -1,7 +1,7 @@
 -- the one home decides
 use Rattle.std.proofs.Common.{ℕ, not, Bool, List, sym, ◌∙◌}
 use Rattle.xk_types.specs.Blocks.{block_at, same_block}
-use Rattle.xk_shape.proofs.TableHomes.{homes_any}
+use Rattle.xk_shape.proofs.HomeTableLemmas.{homes_any}
 use Rattle.xk_shape.proofs.tables.Tables.is_elsewhere.Goals as goal
 
 pub returns : goal.returns

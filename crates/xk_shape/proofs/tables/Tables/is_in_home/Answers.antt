@@ -2,8 +2,8 @@
 use Rattle.std.proofs.Common.{ℕ, false, Bool, Option, sym, ap, ◌∙◌}
 use Rattle.std.specs.Option.{option_map_or}
 use Rattle.xk_types.specs.Blocks.{block_at, same_block}
-use Rattle.xk_shape.proofs.TableHomes.{homes_any}
-use Rattle.xk_shape.proofs.Units.{nested_of}
+use Rattle.xk_shape.proofs.HomeTableLemmas.{homes_any}
+use Rattle.xk_shape.proofs.UnitLemmas.{nested_of}
 use Rattle.xk_shape.proofs.tables.Tables.is_in_home.Goals as goal
 
 pub returns-in-Some : goal.returns-in-Some

@@ -4,7 +4,7 @@ use Rattle.std.specs.Option.{option_eq}
 use Rattle.std.proofs.lemmas.Bool.Decides.{same_from_decides}
 use Rattle.xk_types.specs.Blocks.{block_at, same_block}
 use Rattle.xk_shape.specs.Places.{innermost}
-use Rattle.xk_shape.proofs.OneBlock.{decides_option, decides_place}
+use Rattle.xk_shape.proofs.BlockLemmas.{decides_option, decides_place}
 use Rattle.xk_shape.proofs.tables.Tables.is_one_block.Goals as goal
 
 pub returns : goal.returns

@@ -2,7 +2,7 @@
 use Rattle.std.proofs.Common.{◌≡◌, ℕ, ◌<◌, List, length, get_or, Some, slice_get, sym, ap, ◌∙◌}
 use Rattle.std.proofs.lemmas.Option.{slice_get-get_or}
 use Rattle.xk_shape.specs.declared.places.Place.{Place}
-use Rattle.xk_shape.proofs.RoundPlaces.{parted}
+use Rattle.xk_shape.proofs.PlaceLemmas.{parted}
 use Rattle.xk_shape.proofs.tables.Tables.is_parted.Goals as goal
 
 looked_up : (xs ys : List Place) (at : ℕ) (p : Place) → xs ≡ ys → at < length xs → p ≡ get_or xs at p → slice_get ys at ≡ Some p

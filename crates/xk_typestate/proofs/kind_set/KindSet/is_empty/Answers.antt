@@ -1,5 +1,5 @@
 -- no kind is one of the set where no bit is on
-use Rattle.xk_typestate.proofs.KindBits.{empty_is_0}
+use Rattle.xk_typestate.proofs.KindBitLemmas.{empty_is_0}
 use Rattle.xk_typestate.proofs.kind_set.KindSet.is_empty.Goals as goal
 
 pub returns : goal.returns

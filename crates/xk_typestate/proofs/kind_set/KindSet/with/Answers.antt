@@ -1,7 +1,7 @@
 -- one bit more
 use Rattle.std.proofs.Common.{◌<◌, sym, subst}
 use Rattle.std.proofs.lemmas.Nat.{or_lt}
-use Rattle.xk_typestate.proofs.KindBits.{bit_small, with_bit, has_with}
+use Rattle.xk_typestate.proofs.KindBitLemmas.{bit_small, with_bit, has_with}
 use Rattle.xk_typestate.proofs.kind_set.KindSet.with.Goals as goal
 
 pub invariant_of-result : goal.invariant_of-result

@@ -1,7 +1,7 @@
 -- slot after slot
 use Rattle.std.proofs.Common.{[], ◌∷◌, length, length-append, ap, arith}
 use Rattle.xk_typestate.specs.KindTable.{AreSlotKinds}
-use Rattle.xk_typestate.proofs.Lists.{each_more}
+use Rattle.xk_typestate.proofs.ListLemmas.{each_more}
 use Rattle.xk_typestate.proofs.kind_table.KindTable.follow.Goals as goal
 
 pub loop-slot-preserved : goal.loop-slot-preserved

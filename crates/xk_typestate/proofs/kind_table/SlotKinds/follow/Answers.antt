@@ -1,5 +1,5 @@
 -- what a whole search has seen
-use Rattle.xk_typestate.proofs.Searches.{seen_visited, visited_seen}
+use Rattle.xk_typestate.proofs.SearchLemmas.{seen_visited, visited_seen}
 use Rattle.xk_typestate.proofs.kind_table.SlotKinds.follow.Goals as goal
 
 pub returns : goal.returns

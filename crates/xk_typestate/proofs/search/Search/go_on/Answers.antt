@@ -3,12 +3,12 @@ use Rattle.std.proofs.Common.{◌≡◌, ℕ, length, Some, refl, ap, arith}
 use Rattle.std.proofs.lemmas.Option.{slice_get_read}
 use Rattle.xk_types.specs.Code.{UnitValue}
 use Rattle.xk_types.specs.Order.{Has}
-use Rattle.xk_typestate.specs.Rows.{places, way_kinds}
+use Rattle.xk_typestate.specs.Transfer.{places, way_kinds}
 use Rattle.xk_types.specs.Walk.{after}
 use Rattle.xk_typestate.specs.Search.{CanCome}
-use Rattle.xk_typestate.proofs.Edges.{way_may, edge_of, edge_place, edge_kind, found_read}
-use Rattle.xk_typestate.proofs.Searches.{searched_done, came_inside, not_behind}
-use Rattle.xk_typestate.proofs.Results.{ok_by_three}
+use Rattle.xk_typestate.proofs.EdgeLemmas.{way_may, edge_of, edge_place, edge_kind, found_read}
+use Rattle.xk_typestate.proofs.SearchLemmas.{searched_done, came_inside, not_behind}
+use Rattle.xk_typestate.proofs.ResultLemmas.{ok_by_three}
 use Rattle.xk_typestate.proofs.search.Search.go_on.Goals as goal
 
 pub returns-clause-searched : goal.returns-clause-searched

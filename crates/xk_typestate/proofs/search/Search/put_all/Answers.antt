@@ -1,6 +1,6 @@
 -- kind after kind
 use Rattle.std.proofs.Common.{◌+◌, sym, subst, arith}
-use Rattle.xk_typestate.proofs.Searches.{ArePut, are_put_none, are_put_skip, are_put_more, kind_place-lt}
+use Rattle.xk_typestate.proofs.SearchLemmas.{ArePut, are_put_none, are_put_skip, are_put_more, kind_place-lt}
 use Rattle.xk_typestate.specs.declared.search.Search.{Search}
 use Rattle.xk_typestate.proofs.search.Search.put_all.Goals as goal
 use Rattle.xk_typestate.proofs.search.Search.put_all.Goals.{then-contains+in_ok-put, else-contains}

@@ -1,5 +1,5 @@
 -- the kinds so far are put
-use Rattle.xk_typestate.proofs.Searches.{ArePut}
+use Rattle.xk_typestate.proofs.SearchLemmas.{ArePut}
 use Rattle.xk_typestate.proofs.search.Search.put_all.Given as goal
 
 abbrev pub invariant-loop-kind : goal.invariant-loop-kind

@@ -1,12 +1,12 @@
 -- way after way
 use Rattle.std.proofs.Common.{ℕ, inl, inr, sym, subst, arith}
 use Rattle.xk_types.specs.Order.{Has}
-use Rattle.xk_typestate.specs.Rows.{places, way_kinds}
+use Rattle.xk_typestate.specs.Transfer.{places, way_kinds}
 use Rattle.xk_typestate.specs.KindSet.{KindsValue}
 use Rattle.xk_typestate.specs.Search.{HasPut, CanCome}
-use Rattle.xk_typestate.proofs.Searches.{can_come_on, has_put_on}
-use Rattle.xk_typestate.proofs.Results.{ok_by_two}
-use Rattle.xk_typestate.proofs.SuccessorsOf.{has_one, has_first, has_second, one_of_two}
+use Rattle.xk_typestate.proofs.SearchLemmas.{can_come_on, has_put_on}
+use Rattle.xk_typestate.proofs.ResultLemmas.{ok_by_two}
+use Rattle.xk_typestate.proofs.SuccessorLemmas.{has_one, has_first, has_second, one_of_two}
 use Rattle.xk_typestate.proofs.search.Search.put_successors.Goals as goal
 
 pub put_all-requires : goal.put_all-requires

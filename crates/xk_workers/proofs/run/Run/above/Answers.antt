@@ -1,8 +1,8 @@
 use Rattle.std.proofs.Common.{◌≡◌, None, slice_get, subst}
-use Rattle.xk_members.specs.Members.{place_above}
-use Rattle.xk_drive.specs.Choosing.{enabled_in}
+use Rattle.xk_collections.specs.NumberSets.{place_above}
+use Rattle.xk_scheduler.specs.Choosers.{enabled_in}
 use Rattle.xk_workers.specs.Run.{RunValue}
-use Rattle.xk_workers.proofs.Runs.{alone_fresh}
+use Rattle.xk_workers.proofs.RunLemmas.{alone_fresh}
 use Rattle.xk_workers.proofs.run.Run.above.Goals as goal
 
 pub returns-in-Fresh : goal.returns-in-Fresh

@@ -1,6 +1,6 @@
 use Rattle.std.proofs.Common.{◌∙◌, List, OnOk, ap, sym, subst}
-use Rattle.xk_types.specs.declared.names.Entry.{Entry}
-use Rattle.xk_drive.specs.Driving.{IsCommitted}
+use Rattle.xk_types.specs.declared.world.Entry.{Entry}
+use Rattle.xk_scheduler.specs.LoggedRuns.{IsCommitted}
 use Rattle.xk_workers.specs.Run.{RunValue, run_at}
 use Rattle.xk_workers.proofs.run.Run.commit.Goals as goal
 

@@ -1,7 +1,7 @@
 use Rattle.std.proofs.Common.{◌≡◌, true, sym, subst, ◌∙◌}
 use Rattle.xk_types.specs.Schedule.{all_ended}
 use Rattle.xk_workers.specs.Run.{RunValue}
-use Rattle.xk_workers.proofs.Runs.{over_fresh, over_going}
+use Rattle.xk_workers.proofs.RunLemmas.{over_fresh, over_going}
 use Rattle.xk_workers.proofs.run.Run.first.Goals as goal
 
 pub returns-else-enabled-clause-over : goal.returns-else-enabled-clause-over

@@ -1,5 +1,5 @@
-use Rattle.xk_core.proofs.Cores.{core_fresh}
-use Rattle.xk_workers.proofs.Runs.{fresh_is}
+use Rattle.xk_core.proofs.CoreLemmas.{core_fresh}
+use Rattle.xk_workers.proofs.RunLemmas.{fresh_is}
 use Rattle.xk_workers.proofs.run.Run.open.Goals as goal
 
 pub invariant_of-result : goal.invariant_of-result

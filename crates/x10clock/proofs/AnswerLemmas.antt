@@ -1,0 +1,14 @@
+-- An answer on open devices, told where the run's log isn't.
+use Rattle.std.proofs.Common.{◌≢◌, ℕ, List, Option, None, inl}
+use Rattle.std.specs.Prelude.{◌⊎◌}
+use Rattle.xk_serve.specs.Answer.{Task}
+use Rattle.xk_serve.specs.Devices.{Answered, IfKnown, read_of}
+use Rattle.xk_serve.proofs.TaskLemmas.{of_each}
+
+-- whatever became of the log, what was answered is so
+pub unlogged : (t : Task) (p l : Option (List ℕ)) (s : ℕ) (out out_new err err_new log log_new : Option (List ℕ)) (Told : Type 0)
+    → IfKnown t p l (λ bytes logged. s ≢ 4 → s ≢ 5 → Answered t bytes logged s out out_new err err_new log log_new)
+    → IfKnown t p l (λ bytes logged. s ≢ 4 → s ≢ 5 → Answered t bytes logged s out out_new err err_new None None ⊎ Told)
+unlogged t p l s out out_new err err_new log log_new Told h =
+    of_each _ _ p (λ bytes q. of_each _ _ (read_of t l) (λ logged answer memory device. let a = answer memory device in
+    inl (record { reply = a.reply; answers = a.answers; status_is = a.status_is; out_is = a.out_is; err_is = a.err_is; log_is = tt })) q) h

@@ -1,0 +1,16 @@
+-- Words that were read are those that were given.
+use Rattle.std.proofs.Common.{◌≡◌, ℕ, List, Some, subst}
+use Rattle.xk_cli.specs.CommandLine.{Asked, IsRefused, WithOrders, excludes_in, faults_in, job_of}
+use Rattle.xk_cli.specs.declared.words_fault.WordsFault.{WordsFault}
+use Rattle.x10clock.specs.CommandLine.{AreNoJob, AskForJob}
+
+-- they ask for a job
+pub asked : (found given : List (List ℕ)) (job : Asked) → found ≡ given → WithOrders (λ names. job_of names found ≡ Some job) → AskForJob given
+asked found given job e h =
+    let said = subst (λ words. WithOrders (λ names. job_of names words ≡ Some job)) e h in
+    (said.0, said.1, (job, said.2))
+
+-- they are no job for this reason
+pub refused : (found given : List (List ℕ)) (f : WordsFault) → found ≡ given
+    → WithOrders (λ names. IsRefused (faults_in names found) (job_of names found) (excludes_in names found) f) → AreNoJob given f
+refused found given f e h = subst (λ words. AreNoJob words f) e h

@@ -1,0 +1,32 @@
+-- What the program makes of words, and of files that it can't open. This project's own.
+use Rattle.std.specs.Prelude.{◌≡◌, ◌⊎◌, ℕ, List, Some, codes}
+use Rattle.std.specs.IoError.{error_kind}
+use Rattle.std.specs.declared.io.Error.{Error}
+use Rattle.std.specs.declared.io.ErrorKind.TheVariants as kind
+use Rattle.xk_cli.specs.CommandLine.{Asked, IsRefused, WithOrders, excludes_in, faults_in, job_of}
+use Rattle.xk_cli.specs.declared.words_fault.WordsFault.{WordsFault}
+use Rattle.xk_cli.specs.declared.words_fault.WordsFault.TheVariants as words
+
+-- the system had no memory for what was asked of it
+abbrev pub IsWantOfMemory : Error → Type 0
+IsWantOfMemory e = error_kind e ≡ kind.OutOfMemory
+
+-- the line where a word is no text
+abbrev pub no_text_line : List ℕ
+no_text_line = codes "x10clock: a word is not in UTF-8\n"
+
+-- the line where the log of a run would be written over the program
+abbrev pub over_file_line : List ℕ
+over_file_line = codes "x10clock: --log would write over FILE\n"
+
+-- these words ask for a job
+abbrev pub AskForJob : List (List ℕ) → Type 0
+AskForJob given = WithOrders (λ names. (job : Asked) × (job_of names given ≡ Some job))
+
+-- they are no job, for this reason
+abbrev pub AreNoJob : List (List ℕ) → WordsFault → Type 0
+AreNoJob given f = WithOrders (λ names. IsRefused (faults_in names given) (job_of names given) (excludes_in names given) f)
+
+-- words that ask for no job are told as that, for a reason that they have, or as want of memory
+abbrev pub AreTold : List (List ℕ) → (WordsFault → Type 0) → Type 0
+AreTold given Told = AskForJob given ⊎ (((f : WordsFault) × AreNoJob given f × Told f) ⊎ Told words.OutOfMemory)

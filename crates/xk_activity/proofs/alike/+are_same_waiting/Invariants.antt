@@ -1,6 +1,0 @@
-use Rattle.std.proofs.Common.{length}
-use Rattle.xk_activity.proofs.alike.+are_same_waiting.Given as goal
-
--- one frame fewer
-abbrev pub decreases-are_same_waiting : goal.decreases-are_same_waiting
-decreases-are_same_waiting l = length l.callers.now

@@ -1,0 +1,4 @@
+pub mod CallGraph
+pub mod TopologicalOrder
+pub mod Recursion
+pub mod Callees

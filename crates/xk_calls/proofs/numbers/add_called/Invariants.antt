@@ -1,7 +1,0 @@
-use Rattle.std.proofs.Common.{ℕ}
-use Rattle.xk_calls.specs.Calls.{rows, AreReached, Reaches}
-use Rattle.xk_calls.proofs.numbers.add_called.Given as goal
-
-abbrev pub invariant-loop-k : goal.invariant-loop-k
-invariant-loop-k l =
-    (start : ℕ) → AreReached (rows l.calls) start l.fn.reached.items → Reaches (rows l.calls) start l.from → AreReached (rows l.calls) start l.reached.items

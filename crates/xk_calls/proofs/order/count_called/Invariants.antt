@@ -1,6 +1,0 @@
-use Rattle.std.proofs.Common.{◌≡◌, ℕ, ◌+◌, slice_index}
-use Rattle.xk_calls.specs.Order.{times}
-use Rattle.xk_calls.proofs.order.count_called.Given as goal
-
-abbrev pub invariant-loop-k : goal.invariant-loop-k
-invariant-loop-k l = (j : ℕ) → slice_index l.waits j ≡ slice_index l.fn.waits j + times l.k l.called j

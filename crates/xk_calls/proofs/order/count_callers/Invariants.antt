@@ -1,7 +1,0 @@
-use Rattle.std.proofs.Common.{◌≡◌, ◌≤◌, ◌*◌, ℕ, slice_index}
-use Rattle.xk_calls.specs.Calls.{rows}
-use Rattle.xk_calls.specs.Order.{pending}
-use Rattle.xk_calls.proofs.order.count_callers.Given as goal
-
-abbrev pub invariant-loop-i : goal.invariant-loop-i
-invariant-loop-i l = (j : ℕ) → (slice_index l.waits j ≡ pending l.i (rows l.calls) l.left j) × (slice_index l.waits j ≤ l.i * 18446744073709551616)

@@ -1,0 +1,2 @@
+mod WorkerCountLemmas
+mod NumeralLemmas

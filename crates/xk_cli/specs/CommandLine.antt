@@ -1,0 +1,279 @@
+-- The program's command line in the terms of `clap`, and what its words ask for. This project's own.
+use Rattle.std.specs.Prelude.{ℕ, ℤ, ◌≡◌, ◌≢◌, ◌⊎◌, ⊤, ◌&&◌, Bool, true, false, List, [], ◌∷◌, map, Option, Some, None, is_some, option_and_then, option_map, codes, if◌then◌else◌}
+use Rattle.std.specs.Option.{option_map_or}
+use Rattle.std.specs.Borrow.{Bor}
+use Rattle.std.specs.Str.{bytes_eq}
+use Rattle.std.specs.Str.Parse.{digits_value, without_leading_plus}
+use Rattle.clap.specs.Words.{App, IsAmong, Kinds, Row, Rule, Text, all_of, fault_of, first_of, new_app, new_rule, subcommand_of, with_rule, with_subcommand}
+use Rattle.clap.specs.declared.builder.command.Command.{Command as clap_Command}
+use Rattle.clap.specs.declared.builder.command.Command.TheViews.{out-Command}
+use Rattle.clap.specs.declared.builder.action.ArgAction.TheVariants as action
+use Rattle.clap.specs.declared.builder.value_parser.ValueParser.TheVariants as parser
+use Rattle.clap.specs.declared.error.kind.ErrorKind.{ErrorKind}
+use Rattle.clap.specs.declared.error.kind.ErrorKind.TheVariants as kind
+use Rattle.xk_cli.specs.WorkerCount.{count_within, most_workers}
+use Rattle.xk_cli.specs.Numbers.{is_numeral, least_number, most_number, numbers_named}
+use Rattle.xk_cli.specs.Status.{status_done, status_memory, status_words}
+use Rattle.xk_cli.specs.declared.job.Command.{Command}
+use Rattle.xk_cli.specs.declared.job.Command.TheVariants as command
+use Rattle.xk_cli.specs.declared.job.Drive.{Drive}
+use Rattle.xk_cli.specs.declared.job.Drive.TheVariants as drive
+use Rattle.xk_cli.specs.declared.job.Form.{Form}
+use Rattle.xk_cli.specs.declared.job.Form.TheVariants as form
+use Rattle.xk_cli.specs.declared.job.Job.{Job}
+use Rattle.xk_cli.specs.declared.job.Order.{Order}
+use Rattle.xk_cli.specs.declared.job.Order.TheVariants as order
+use Rattle.xk_cli.specs.declared.words_fault.WordsFault.{WordsFault}
+use Rattle.xk_cli.specs.declared.words_fault.WordsFault.TheVariants as fault
+
+-- ---- the command line
+
+-- an argument without a long name, which has to be there
+abbrev pub place : Text → Rule
+place name = record (new_rule name) { required = true; action = Some action.Set }
+
+-- an option of a long name that takes a value
+abbrev pub option : Text → Text → Rule
+option name long = record (new_rule name) { long = Some long; action = Some action.Set }
+
+-- FILE, which has to be there
+abbrev pub file_place : Rule
+file_place = place (codes "FILE")
+
+-- `--module`
+abbrev pub module_flag : Rule
+module_flag = record (new_rule (codes "module")) { long = Some (codes "module"); action = Some action.SetTrue }
+
+-- a command on FILE
+abbrev pub on_file : Text → App
+on_file name = with_rule (new_app name) file_place
+
+-- a command on FILE that may be a module text
+abbrev pub on_either : Text → App
+on_either name = with_rule (on_file name) module_flag
+
+-- LOG, which has to be there
+abbrev pub log_place : Rule
+log_place = place (codes "LOG")
+
+-- `--arg N`, once for each number, which is one of 64 bits
+abbrev pub arg_option : Rule
+arg_option = record (new_rule (codes "ARG")) {
+  long = Some (codes "arg");
+  action = Some action.Append;
+  value_names = 1;
+  parser = Some (parser.Signed least_number most_number);
+}
+
+-- a command on FILE and LOG
+abbrev pub on_log : Text → App
+on_log name = with_rule (on_either name) log_place
+
+-- the same, whose main may be given numbers
+abbrev pub on_run : Text → App
+on_run name = with_rule (on_log name) arg_option
+
+-- `--log PATH`
+abbrev pub log_option : Rule
+log_option = option (codes "PATH") (codes "log")
+
+-- texts that stand somewhere in memory
+abbrev pub Names : Type 0
+Names = Bor (List (Bor Text))
+
+-- `--order ORDER`, which takes one of these names
+abbrev pub order_option : Names → Rule
+order_option names = record (option (codes "ORDER") (codes "order")) { parser = Some (parser.Names names) }
+
+-- the command on FILE whose steps are taken in an order
+abbrev pub by_order : Names → App
+by_order names = with_rule (on_either (codes "run")) (order_option names)
+
+-- `--workers N`, which takes a whole number from 1 to 64
+abbrev pub workers_option : Rule
+workers_option = record (option (codes "N") (codes "workers")) { parser = Some (parser.Unsigned 1 most_workers) }
+
+-- the same, whose steps may be taken by workers
+abbrev pub by_workers : Names → App
+by_workers names = with_rule (by_order names) workers_option
+
+-- the same, whose log may be written
+abbrev pub with_log : Names → App
+with_log names = with_rule (by_workers names) log_option
+
+-- the same, whose main may be given numbers
+abbrev pub run_line : Names → App
+run_line names = with_rule (with_log names) arg_option
+
+-- the program with a command that has to be there
+abbrev pub program : App
+program = record (new_app (codes "x10clock")) { top = record (new_app (codes "x10clock")).top { subcommand_required = true } }
+
+abbrev pub command_line : Names → App
+command_line names =
+    with_subcommand (with_subcommand (with_subcommand (with_subcommand (with_subcommand program
+    (on_either (codes "check")).top) (on_file (codes "compile")).top) (run_line names).top) (on_run (codes "replay")).top) (on_run (codes "chart")).top
+
+-- no argument of the command is one of its subcommands too
+abbrev pub HasNoGlobals : clap_Command → Type 0
+HasNoGlobals c = (out-Command c).has_globals ≡ false
+
+-- the words without where they lie in memory
+abbrev pub texts : List (Bor Text) → List Text
+texts words = map (λ w. w.now) words
+
+-- the names of the orders
+abbrev pub AreOrders : Names → Type 0
+AreOrders names = texts names.now ≡ codes "first" ∷ codes "last" ∷ codes "round" ∷ []
+
+-- This holds of the names of the orders. `clap` is told of a list of names by where it lies in memory; nothing that is said here looks at
+-- that.
+abbrev pub WithOrders : (Names → Type 0) → Type 0
+WithOrders P = (names : Names) × AreOrders names × P names
+
+-- the kinds of mistake, or requests for help, that `clap` finds in the words
+unfoldable pub faults_in : Names → List Text → Kinds
+faults_in names words = fault_of (command_line names) words
+
+-- ---- what the words ask for
+
+-- who takes the steps of a run: whom an order names, or so many workers
+pub data Way : Type 0 where
+  In : Order → Way
+  By : ℕ → Way
+
+abbrev pub way_value : Drive → Way
+way_value (drive.Order o) = In o
+way_value (drive.Workers w) = By w.count
+
+-- A command without where its texts lie in memory. A run has who takes its steps, and the log's path, where they were given; the others on
+-- a log have its path.
+pub data Task : Type 0 where
+  Check : Task
+  Compile : Task
+  Run : Option Way → Option Text → Task
+  Replay : Text → Task
+  Chart : Text → Task
+
+abbrev pub task_value : Command → Task
+task_value command.Check = Check
+task_value command.Compile = Compile
+task_value (command.Run given log) = Run (option_map way_value given) (option_map (λ s. s.now) log)
+task_value (command.Replay log) = Replay log.now
+task_value (command.Chart log) = Chart log.now
+
+-- a job without where its texts and numbers lie in memory
+pub record Asked : Type 0 where
+  pub task : Task
+  pub form : Form
+  pub file : Text
+  pub arguments : List ℤ
+
+abbrev pub asked_value : Job → Asked
+asked_value job = record { task = task_value job.command; form = job.form; file = job.file.now; arguments = job.arguments.items }
+
+-- the value of `--module` is `true` where it was given
+abbrev pub form_named : Text → Form
+form_named value = if bytes_eq value (codes "true") then form.Module else form.Source
+
+-- what stands in FILE
+abbrev pub form_in : List Row → Form
+form_in given = option_map_or form_named (first_of (codes "module") given) form.Source
+
+abbrev pub order_named : Text → Option Order
+order_named name =
+    if bytes_eq name (codes "first") then Some order.First
+    else (if bytes_eq name (codes "last") then Some order.Last else (if bytes_eq name (codes "round") then Some order.Round else None))
+
+-- the order that was given
+abbrev pub order_in : List Row → Option Order
+order_in given = option_and_then order_named (first_of (codes "ORDER") given)
+
+-- so many workers as a numeral says, before which a plus may stand
+abbrev pub workers_named : Text → Option ℕ
+workers_named text = let ds = without_leading_plus text in if is_numeral ds then count_within (digits_value 10 ds) else None
+
+-- the workers that were given
+abbrev pub workers_in : List Row → Option ℕ
+workers_in given = option_and_then workers_named (first_of (codes "N") given)
+
+-- the numbers that were given, one for each `--arg`, in their order
+abbrev pub arguments_in : List Row → Option (List ℤ)
+arguments_in given = option_map_or numbers_named (all_of (codes "ARG") given) (Some [])
+
+-- both an order and workers were given
+abbrev pub is_both : List Row → Bool
+is_both given = is_some (first_of (codes "ORDER") given) && is_some (first_of (codes "N") given)
+
+-- the way of an order, or else that of workers
+abbrev pub way_of : Option Order → Option ℕ → Option Way
+way_of (Some o) n = Some (In o)
+way_of None n = option_map By n
+
+-- who takes the steps, where that was given
+abbrev pub drive_in : List Row → Option Way
+drive_in given = way_of (order_in given) (workers_in given)
+
+-- `run` with what was given to it; an order and workers exclude each other
+abbrev pub run_by : List Row → Option Task
+run_by given = if is_both given then None else Some (Run (drive_in given) (first_of (codes "PATH") given))
+
+-- the command of a name, with what else was given to it
+abbrev pub command_by : Text → List Row → Option Task
+command_by name given =
+    if bytes_eq name (codes "check") then Some Check
+    else (if bytes_eq name (codes "compile") then Some Compile
+    else (if bytes_eq name (codes "run") then run_by given
+    else (if bytes_eq name (codes "replay") then option_map Replay (first_of (codes "LOG") given)
+    else (if bytes_eq name (codes "chart") then option_map Chart (first_of (codes "LOG") given) else None))))
+
+-- this command on this file, with what else was given to it
+abbrev pub asked_of : Task → Text → List Row → Option Asked
+asked_of t file given = option_map (λ args. record { task = t; form = form_in given; file = file; arguments = args }) (arguments_in given)
+
+-- the job of a command's name and what was given with it
+abbrev pub asked_by : Text → List Row → Option Asked
+asked_by name given = option_and_then (λ t. option_and_then (λ file. asked_of t file given) (first_of (codes "FILE") given)) (command_by name given)
+
+abbrev pub asked_in : Option (Text × List Row) → Option Asked
+asked_in found = option_and_then (λ p. asked_by p.0 p.1) found
+
+-- the job that the words ask for, as `clap` takes them apart
+unfoldable pub job_of : Names → List Text → Option Asked
+job_of names words = asked_in (subcommand_of (command_line names) words)
+
+-- both an order and workers were given to the command that was found
+abbrev pub excludes_by : Option (Text × List Row) → Bool
+excludes_by found = option_map_or (λ p. is_both p.1) found false
+
+-- the words have an order beside workers, as `clap` takes them apart
+unfoldable pub excludes_in : Names → List Text → Bool
+excludes_in names words = excludes_by (subcommand_of (command_line names) words)
+
+-- ---- why words are refused
+
+-- the fault fits the kind of `clap`'s error
+abbrev pub FitsKind : ErrorKind → WordsFault → Type 0
+FitsKind k (fault.Help text) = (k ≡ kind.DisplayHelp) ⊎ (k ≡ kind.DisplayVersion)
+FitsKind k (fault.NotUnderstood text) = (k ≢ kind.DisplayHelp) × (k ≢ kind.DisplayVersion) × (k ≢ kind.OutOfMemory)
+FitsKind k fault.OrderAndWorkers = ⊥
+FitsKind k fault.OutOfMemory = ⊤
+
+-- a mistake is among the kinds: one that is no request for help or for the version
+abbrev pub HasMistake : Kinds → Type 0
+HasMistake kinds = (k : ErrorKind) × IsAmong k kinds × (k ≢ kind.DisplayHelp) × (k ≢ kind.DisplayVersion)
+
+-- Help is told only where it was asked for, words are called not understood only where `clap` finds a mistake in them, or where it finds
+-- nothing wrong and no job, and the order and the workers are called to exclude each other only where both were given and nothing is wrong else.
+abbrev pub IsRefused : Kinds → Option Asked → Bool → WordsFault → Type 0
+IsRefused kinds asked both (fault.Help text) = IsAmong kind.DisplayHelp kinds ⊎ IsAmong kind.DisplayVersion kinds
+IsRefused kinds asked both (fault.NotUnderstood text) = HasMistake kinds ⊎ ((kinds ≡ []) × (asked ≡ None) × (both ≡ false))
+IsRefused kinds asked both fault.OrderAndWorkers = (kinds ≡ []) × (both ≡ true)
+IsRefused kinds asked both fault.OutOfMemory = ⊤
+
+-- the status that the program ends with
+abbrev pub status_of : WordsFault → ℕ
+status_of (fault.Help text) = status_done
+status_of (fault.NotUnderstood text) = status_words
+status_of fault.OrderAndWorkers = status_words
+status_of fault.OutOfMemory = status_memory

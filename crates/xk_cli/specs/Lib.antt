@@ -1,0 +1,4 @@
+pub mod WorkerCount
+pub mod Numbers
+pub mod CommandLine
+pub mod Status

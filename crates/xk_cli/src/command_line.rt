@@ -1,0 +1,482 @@
+//! The command line, as `clap` reads it.
+
+ghost use Rattle.std.specs.Prelude.{◌≡◌, [], false, Some, None, IfOk, OnOk, IfErr, IsOkAnd, option_map};
+ghost use Rattle.clap.specs.Words.{app_of, first_of, found_of, kind_of, rows_of, rule_of, subcommand_rows_of, with_subcommand};
+ghost use Rattle.xk_cli.specs.CommandLine.{FitsKind, HasNoGlobals, IsRefused, WithOrders, arg_option, arguments_in, asked_by, asked_in, asked_of, asked_value, by_order, by_workers, command_by, command_line, drive_in, excludes_by, excludes_in, faults_in, form_in, form_named, is_both, job_of, log_option, module_flag, on_either, on_file, on_log, on_run, option, order_in, order_named, order_option, place, program, run_by, run_line, task_value, texts, way_value, with_log, workers_in, workers_named, workers_option};
+
+use crate::job::{Command, Drive, Form, Job, MOST_WORKERS, Order, Workers};
+use crate::numbers::numbers_named;
+use crate::words_fault::WordsFault;
+use clap::builder::ValueParser;
+use clap::error::ErrorKind;
+use clap::{Arg, ArgAction, ArgMatches};
+use std::alloc::{AllocError, Global};
+
+/// The names of the orders.
+static ORDERS: [&str; 3] = ["first", "last", "round"];
+
+/// The job that the words ask for; the first word is the program's name. Where they ask for help or aren't understood,
+/// the fault has `clap`'s text.
+pub fn read_job<'a>(alloc: Global, words: &'a [&'a str]) -> Result<Job<'a>, WordsFault>
+    ensures job { IfOk result (λ job. WithOrders (λ names.
+        job_of names (texts words.entry.now) ≡ Some (asked_value job))) }
+    ensures understood { OnOk result (WithOrders (λ names.
+        faults_in names (texts words.entry.now) ≡ [])) }
+    ensures refused { IfErr result (λ fault. WithOrders (λ names. IsRefused
+        (faults_in names (texts words.entry.now)) (job_of names (texts words.entry.now))
+        (excludes_in names (texts words.entry.now)) fault)) }
+{
+    let command_line = line(alloc)?;
+    match command_line.try_get_matches_from(words) {
+        Ok(matches) => asked(alloc, &matches),
+        Err(error) => Err(words_fault(alloc, &error)),
+    }
+}
+
+/// The program's command line.
+fn line<'a>(alloc: Global) -> Result<clap::Command<'a>, AllocError>
+    ensures { IfOk result (λ c. WithOrders (λ names. app_of c ≡ command_line names)) }
+{
+    let check = on_either(alloc, "check", "Says whether a program is accepted.");
+    let checks = add(program(alloc), check)?;
+    let compile = on_file(
+        alloc,
+        "compile",
+        "Compiles a program and prints its module.",
+    );
+    let compiles = add(checks, compile)?;
+    let runs = add(compiles, run_line(alloc))?;
+    let replay = on_run(
+        alloc,
+        "replay",
+        "Runs a program again as a log has it, and prints what it prints.",
+    );
+    let replays = add(runs, replay)?;
+    let chart = on_run(
+        alloc,
+        "chart",
+        "Prints when the clocks advanced in the run that a log has.",
+    );
+    add(replays, chart)
+}
+
+/// The program without its commands, of which one has to be there.
+fn program<'a>(alloc: Global) -> clap::Command<'a>
+    ensures { app_of result ≡ program }
+{
+    clap::Command::new(alloc, "x10clock")
+        .about("Verifies and runs clocked programs.")
+        .subcommand_required(true)
+}
+
+/// The line with a further command, where there was memory for it.
+fn add<'a>(
+    line: clap::Command<'a>,
+    command: Result<clap::Command<'a>, AllocError>,
+) -> Result<clap::Command<'a>, AllocError>
+    ensures { IfOk result (λ c. IsOkAnd command.entry (λ d.
+        HasNoGlobals d → app_of c ≡ with_subcommand (app_of line.entry) (app_of d).top)) }
+{
+    match command {
+        Ok(command) => line.subcommand(command),
+        Err(error) => Err(error),
+    }
+}
+
+/// The command `run`.
+fn run_line<'a>(alloc: Global) -> Result<clap::Command<'a>, AllocError>
+    ensures shape { IfOk result (λ c. WithOrders (λ names. app_of c ≡ run_line names)) }
+    ensures local { IfOk result HasNoGlobals }
+{
+    let command = with_log(alloc)?;
+    command.arg(arg_option(alloc))
+}
+
+/// The command `run` without `--arg`.
+fn with_log<'a>(alloc: Global) -> Result<clap::Command<'a>, AllocError>
+    ensures shape { IfOk result (λ c. WithOrders (λ names. app_of c ≡ with_log names)) }
+    ensures local { IfOk result HasNoGlobals }
+{
+    let command = by_workers(alloc)?;
+    command.arg(log_option(alloc))
+}
+
+/// The command `run` without `--log` and `--arg`.
+fn by_workers<'a>(alloc: Global) -> Result<clap::Command<'a>, AllocError>
+    ensures shape { IfOk result (λ c. WithOrders (λ names. app_of c ≡ by_workers names)) }
+    ensures local { IfOk result HasNoGlobals }
+{
+    let command = by_order(alloc)?;
+    command.arg(workers_option(alloc))
+}
+
+/// The command `run` without `--workers`, `--log` and `--arg`.
+fn by_order<'a>(alloc: Global) -> Result<clap::Command<'a>, AllocError>
+    ensures shape { IfOk result (λ c. WithOrders (λ names. app_of c ≡ by_order names)) }
+    ensures local { IfOk result HasNoGlobals }
+{
+    let command = on_either(alloc, "run", "Runs a program and prints what it prints.")?;
+    command.arg(order_option(alloc))
+}
+
+/// A command on FILE and on LOG, which is the log of a run of it with these arguments.
+fn on_run<'a>(alloc: Global, name: &'a str, about: &'a str) -> Result<clap::Command<'a>, AllocError>
+    ensures shape { IfOk result (λ c. app_of c ≡ on_run name.entry.now) }
+    ensures local { IfOk result HasNoGlobals }
+{
+    let command = on_log(alloc, name, about)?;
+    command.arg(arg_option(alloc))
+}
+
+/// A command on FILE and on LOG, which is the log of a run of it.
+fn on_log<'a>(alloc: Global, name: &'a str, about: &'a str) -> Result<clap::Command<'a>, AllocError>
+    ensures shape { IfOk result (λ c. app_of c ≡ on_log name.entry.now) }
+    ensures local { IfOk result HasNoGlobals }
+{
+    let command = on_either(alloc, name, about)?;
+    command.arg(place(alloc, "LOG", "The log of a run of FILE"))
+}
+
+/// A command on FILE, which is a source text, or a module where the words say so.
+fn on_either<'a>(
+    alloc: Global,
+    name: &'a str,
+    about: &'a str,
+) -> Result<clap::Command<'a>, AllocError>
+    ensures shape { IfOk result (λ c. app_of c ≡ on_either name.entry.now) }
+    ensures local { IfOk result HasNoGlobals }
+{
+    let command = on_file(alloc, name, about)?;
+    command.arg(module_flag(alloc))
+}
+
+/// A command on FILE.
+fn on_file<'a>(
+    alloc: Global,
+    name: &'a str,
+    about: &'a str,
+) -> Result<clap::Command<'a>, AllocError>
+    ensures shape { IfOk result (λ c. app_of c ≡ on_file name.entry.now) }
+    ensures local { IfOk result HasNoGlobals }
+{
+    let file = place(alloc, "FILE", "The program; - is standard input");
+    clap::Command::new(alloc, name).about(about).arg(file)
+}
+
+/// `--arg N`, once for each number.
+fn arg_option<'a>(alloc: Global) -> Arg<'a>
+    ensures rule { rule_of result ≡ arg_option }
+    ensures local { result.global ≡ false }
+{
+    Arg::new(alloc, "ARG")
+        .long("arg")
+        .value_name("N")
+        .help("A number that main is given: once for each that it takes, in their order")
+        .action(ArgAction::Append)
+        .value_parser(ValueParser::signed(i64::MIN, i64::MAX))
+}
+
+/// `--log PATH`.
+fn log_option<'a>(alloc: Global) -> Arg<'a>
+    ensures rule { rule_of result ≡ log_option }
+    ensures local { result.global ≡ false }
+{
+    option(
+        alloc,
+        "PATH",
+        "log",
+        "The file that the log of the run goes to",
+    )
+}
+
+/// `--workers N`.
+fn workers_option<'a>(alloc: Global) -> Arg<'a>
+    ensures rule { rule_of result ≡ workers_option }
+    ensures local { result.global ≡ false }
+{
+    let workers = option(
+        alloc,
+        "N",
+        "workers",
+        "Run by so many worker threads, 1 to 64: whoever comes first takes the next step",
+    );
+    workers.value_parser(ValueParser::unsigned(1, u64::from(MOST_WORKERS)))
+}
+
+/// `--order ORDER`.
+fn order_option<'a>(alloc: Global) -> Arg<'a>
+    ensures rule { WithOrders (λ names. rule_of result ≡ order_option names) }
+    ensures local { result.global ≡ false }
+{
+    let order = option(
+        alloc,
+        "ORDER",
+        "order",
+        "Who takes the next step: the least activity that can (the default), the greatest, or each in turn",
+    );
+    order.value_parser(ORDERS.as_slice())
+}
+
+/// `--module`.
+fn module_flag<'a>(alloc: Global) -> Arg<'a>
+    ensures rule { rule_of result ≡ module_flag }
+    ensures local { result.global ≡ false }
+{
+    Arg::new(alloc, "module")
+        .long("module")
+        .help("FILE is a module text")
+        .action(ArgAction::SetTrue)
+}
+
+/// An option of this long name that takes a value.
+fn option<'a>(alloc: Global, name: &'a str, long: &'a str, help: &'a str) -> Arg<'a>
+    ensures rule { rule_of result ≡ option name.entry.now long.entry.now }
+    ensures local { result.global ≡ false }
+{
+    Arg::new(alloc, name)
+        .long(long)
+        .help(help)
+        .action(ArgAction::Set)
+}
+
+/// An argument without a long name, which has to be there.
+fn place<'a>(alloc: Global, name: &'a str, help: &'a str) -> Arg<'a>
+    ensures rule { rule_of result ≡ place name.entry.now }
+    ensures local { result.global ≡ false }
+{
+    Arg::new(alloc, name)
+        .help(help)
+        .required(true)
+        .action(ArgAction::Set)
+}
+
+/// The job in what `clap` found, or why there is none.
+fn asked<'a>(alloc: Global, matches: &ArgMatches<'a>) -> Result<Job<'a>, WordsFault>
+    ensures job { IfOk result
+        (λ job. asked_in (subcommand_rows_of matches.now) ≡ Some (asked_value job)) }
+    ensures refused { IfErr result (IsRefused [] (asked_in (subcommand_rows_of matches.now))
+        (excludes_by (subcommand_rows_of matches.now))) }
+{
+    match job_in(alloc, matches)? {
+        Some(job) => Ok(job),
+        None => Err(no_job(alloc, matches)),
+    }
+}
+
+/// The job in what `clap` found.
+fn job_in<'a>(alloc: Global, matches: &ArgMatches<'a>) -> Result<Option<Job<'a>>, AllocError>
+    ensures { IfOk result
+        (λ job. option_map asked_value job ≡ asked_in (subcommand_rows_of matches.now)) }
+{
+    match matches.subcommand() {
+        Some((name, given)) => job_by(alloc, name, given),
+        None => Ok(None),
+    }
+}
+
+/// The job of a command's name and what was given with it.
+fn job_by<'a>(
+    alloc: Global,
+    name: &str,
+    given: &ArgMatches<'a>,
+) -> Result<Option<Job<'a>>, AllocError>
+    ensures { IfOk result
+        (λ job. option_map asked_value job ≡ asked_by name.now (rows_of (found_of given.now))) }
+{
+    let Some(command) = command_by(name, given) else {
+        return Ok(None);
+    };
+    match given_in(given, "FILE") {
+        Some(file) => job_of(alloc, command, file, given),
+        None => Ok(None),
+    }
+}
+
+/// This command on this file, with what else was given to it.
+fn job_of<'a>(
+    alloc: Global,
+    command: Command<'a>,
+    file: &'a str,
+    given: &ArgMatches<'a>,
+) -> Result<Option<Job<'a>>, AllocError>
+    ensures { IfOk result (λ job. option_map asked_value job
+        ≡ asked_of (task_value command.entry) file.entry.now (rows_of (found_of given.now))) }
+{
+    match arguments_in(alloc, given)? {
+        Some(arguments) => Ok(Some(Job {
+            command,
+            form: form_in(given),
+            file,
+            arguments,
+        })),
+        None => Ok(None),
+    }
+}
+
+/// The numbers that were given, one for each `--arg`, in their order.
+fn arguments_in(alloc: Global, given: &ArgMatches<'_>) -> Result<Option<Vec<i64>>, AllocError>
+    ensures { IfOk result (λ found.
+        option_map (λ numbers. numbers.items) found ≡ arguments_in (rows_of (found_of given.now))) }
+{
+    match given.get_strs("ARG") {
+        Some(texts) => numbers_named(alloc, texts),
+        None => Ok(Some(Vec::new(alloc))),
+    }
+}
+
+/// The command of this name, with what else was given to it.
+fn command_by<'a>(name: &str, given: &ArgMatches<'a>) -> Option<Command<'a>>
+    ensures { option_map task_value result ≡ command_by name.now (rows_of (found_of given.now)) }
+{
+    match name {
+        "check" => Some(Command::Check),
+        "compile" => Some(Command::Compile),
+        "run" => run_by(given),
+        "replay" => Some(Command::Replay {
+            log: given_in(given, "LOG")?,
+        }),
+        "chart" => Some(Command::Chart {
+            log: given_in(given, "LOG")?,
+        }),
+        _ => None,
+    }
+}
+
+/// The command `run` with what was given to it. None where both an order and workers were.
+fn run_by<'a>(given: &ArgMatches<'a>) -> Option<Command<'a>>
+    ensures { option_map task_value result ≡ run_by (rows_of (found_of given.now)) }
+{
+    if is_both(given) {
+        return None;
+    }
+    Some(Command::Run {
+        drive: drive_in(given),
+        log: given_in(given, "PATH"),
+    })
+}
+
+/// Whether both an order and workers were given.
+fn is_both(given: &ArgMatches<'_>) -> bool
+    ensures { result ≡ is_both (rows_of (found_of given.now)) }
+{
+    given_in(given, "ORDER").is_some() && given_in(given, "N").is_some()
+}
+
+/// Who takes the steps, where that was given.
+fn drive_in(given: &ArgMatches<'_>) -> Option<Drive>
+    ensures { option_map way_value result ≡ drive_in (rows_of (found_of given.now)) }
+{
+    match order_in(given) {
+        Some(order) => Some(Drive::Order(order)),
+        None => Some(Drive::Workers(workers_in(given)?)),
+    }
+}
+
+/// The workers that were given.
+fn workers_in(given: &ArgMatches<'_>) -> Option<Workers>
+    ensures { option_map (λ w. w.count) result ≡ workers_in (rows_of (found_of given.now)) }
+{
+    let text = given_in(given, "N")?;
+    workers_named(text)
+}
+
+/// So many workers as a numeral says.
+fn workers_named(text: &str) -> Option<Workers>
+    ensures { option_map (λ w. w.count) result ≡ workers_named text.now }
+{
+    match text.parse::<u32>() {
+        Ok(count) => Workers::new(count),
+        Err(_) => None,
+    }
+}
+
+/// What was given under this name.
+fn given_in<'a>(given: &ArgMatches<'a>, name: &str) -> Option<&'a str>
+    ensures { option_map (λ s. s.now) result ≡ first_of name.now (rows_of (found_of given.now)) }
+{
+    given.get_str(name)
+}
+
+/// What stands in FILE.
+fn form_in(given: &ArgMatches<'_>) -> Form
+    ensures { result ≡ form_in (rows_of (found_of given.now)) }
+{
+    match given_in(given, "module") {
+        Some(value) => form_named(value),
+        None => Form::Source,
+    }
+}
+
+/// What stands in FILE, by the value of `--module`.
+fn form_named(value: &str) -> Form
+    ensures { result ≡ form_named value.now }
+{
+    match value {
+        "true" => Form::Module,
+        _ => Form::Source,
+    }
+}
+
+/// The order that was given.
+fn order_in(given: &ArgMatches<'_>) -> Option<Order>
+    ensures { result ≡ order_in (rows_of (found_of given.now)) }
+{
+    let name = given_in(given, "ORDER")?;
+    order_named(name)
+}
+
+/// The order of a name.
+fn order_named(name: &str) -> Option<Order>
+    ensures { result ≡ order_named name.now }
+{
+    match name {
+        "first" => Some(Order::First),
+        "last" => Some(Order::Last),
+        "round" => Some(Order::Round),
+        _ => None,
+    }
+}
+
+/// What is said where `clap` took the words and they name no job: they have both an order and workers.
+fn no_job(alloc: Global, matches: &ArgMatches<'_>) -> WordsFault
+    ensures { IsRefused [] None (excludes_by (subcommand_rows_of matches.now)) result }
+{
+    if excludes(matches) {
+        return WordsFault::OrderAndWorkers;
+    }
+    not_a_job(alloc)
+}
+
+/// Whether both an order and workers were given to the command.
+fn excludes(matches: &ArgMatches<'_>) -> bool
+    ensures { result ≡ excludes_by (subcommand_rows_of matches.now) }
+{
+    match matches.subcommand() {
+        Some((_, given)) => is_both(given),
+        None => false,
+    }
+}
+
+/// What is said where `clap` took the words, they name no job, and that isn't for an order beside workers. It doesn't come to that.
+fn not_a_job(alloc: Global) -> WordsFault
+    ensures { IsRefused [] None false result }
+{
+    match String::from_str(alloc, "error: no command on a file was given\n") {
+        Ok(text) => WordsFault::NotUnderstood(text),
+        Err(_) => WordsFault::OutOfMemory,
+    }
+}
+
+/// `clap`'s answer where it doesn't take the words.
+fn words_fault(alloc: Global, error: &clap::Error) -> WordsFault
+    ensures { FitsKind (kind_of error.now) result }
+{
+    if error.kind() == ErrorKind::OutOfMemory {
+        return WordsFault::OutOfMemory;
+    }
+    match error.to_string(alloc) {
+        Ok(text) if error.use_stderr() => WordsFault::NotUnderstood(text),
+        Ok(text) => WordsFault::Help(text),
+        Err(_) => WordsFault::OutOfMemory,
+    }
+}

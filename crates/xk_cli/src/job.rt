@@ -1,0 +1,102 @@
+//! What the words ask for.
+
+ghost use Rattle.std.specs.Prelude.{◌≡◌, ◌≤◌, option_map};
+ghost use Rattle.xk_cli.specs.WorkerCount.{count_within, most_workers};
+
+/// What is to be done with FILE.
+#[derive(Clone, Copy, Debug, PartialEq, Eq)]
+pub enum Command<'a> {
+    /// `check`: say whether FILE is accepted, and with which bounds.
+    Check,
+    /// `compile`: print the text of the module that FILE gives, accepted or not.
+    Compile,
+    /// `run`: run FILE, and print what it prints.
+    Run {
+        /// Who takes the run's steps, where that was given.
+        drive: Option<Drive>,
+        /// Where the run's log goes, if anywhere: a file's path.
+        log: Option<&'a str>,
+    },
+    /// `replay`: run FILE again as a log has it, and print what it prints.
+    Replay {
+        /// The log's path.
+        log: &'a str,
+    },
+    /// `chart`: print when the clocks advanced, and who was registered on them, in the run of FILE that a log has.
+    Chart {
+        /// The log's path.
+        log: &'a str,
+    },
+}
+
+/// What stands in FILE.
+#[derive(Clone, Copy, Debug, PartialEq, Eq)]
+pub enum Form {
+    /// A source text.
+    Source,
+    /// `--module`: a module text.
+    Module,
+}
+
+/// Who takes the steps of a run.
+#[derive(Clone, Copy, Debug, PartialEq, Eq)]
+pub enum Drive {
+    /// `--order`: whom the order names.
+    Order(Order),
+    /// `--workers`: worker threads, whoever comes first.
+    Workers(Workers),
+}
+
+/// Who takes the next step of a run.
+#[derive(Clone, Copy, Debug, PartialEq, Eq)]
+pub enum Order {
+    /// `first`: the least enabled activity.
+    First,
+    /// `last`: the greatest.
+    Last,
+    /// `round`: the least of greater number than the one taken before, else the least of all.
+    Round,
+}
+
+/// The most worker threads.
+pub const MOST_WORKERS: u32 = 64;
+
+/// A number of worker threads, from 1 to 64.
+#[derive(Clone, Copy, Debug, PartialEq, Eq)]
+pub struct Workers {
+    count: u32,
+    ghost some: { 1 ≤ count },
+    ghost few: { count ≤ most_workers },
+}
+
+impl Workers {
+    /// So many workers. None where that isn't from 1 to 64.
+    pub fn new(count: u32) -> Option<Workers>
+        ensures { option_map (λ w. w.count) result ≡ count_within count }
+    {
+        if count < 1 || MOST_WORKERS < count {
+            return None;
+        }
+        Some(Workers { count })
+    }
+
+    /// How many they are.
+    pub fn count(self) -> u32
+        ensures same { result ≡ self.count }
+        ensures some { 1 ≤ result }
+        ensures few { result ≤ most_workers }
+    {
+        self.count
+    }
+}
+
+/// One command on one file.
+#[derive(Debug, Drop)]
+pub struct Job<'a> {
+    pub command: Command<'a>,
+    pub form: Form,
+    /// The file's path; `-` is standard input.
+    pub file: &'a str,
+    /// `--arg`: the numbers that main is given, in order. `check` and `compile` are given none.
+    pub arguments: Vec<i64>,
+}

@@ -1,9 +1,0 @@
-use Rattle.std.proofs.Common.{◌≡◌, ◌++◌, drop}
-use Rattle.xk_tree.specs.Tree.{words}
-use Rattle.xk_names.specs.Scope.{texts}
-use Rattle.xk_code.specs.CodeOf.{slots_of}
-use Rattle.xk_code.proofs.statements.push_names.Given as goal
-
--- the slots so far and those of the names that are left are those of all
-abbrev pub invariant-loop-name : goal.invariant-loop-name
-invariant-loop-name l = l.slots.items ++ slots_of l.scope (texts (words (drop l.name-index l.names))) ≡ l.initial.slots.items ++ slots_of l.scope (texts (words l.names))

@@ -1,0 +1,4 @@
+pub mod NumberSets
+pub mod BitWords
+pub mod Chains
+pub mod WaitingLists

@@ -1,6 +1,0 @@
-use Rattle.std.proofs.Common.{length, ◌-◌}
-use Rattle.xk_drive.proofs.Answered.{at_place}
-use Rattle.xk_drive.proofs.chooser.LastChooser.pick.Goals as goal
-
-pub returns-clause-picked : goal.returns-clause-picked
-returns-clause-picked c = (let xs = c.args.enabled.now.members in at_place xs (length xs - 1) c.greatest.result c.greatest.ensures)

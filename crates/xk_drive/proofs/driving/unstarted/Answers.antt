@@ -1,7 +1,0 @@
-use Rattle.std.proofs.Common.{sym}
-use Rattle.xk_drive.proofs.Turns.{run_starts}
-use Rattle.xk_drive.proofs.driving.unstarted.Goals as goal
-
-pub invariant_of-result : goal.invariant_of-result
-invariant_of-result c = rw (c.new.ensures.items, c.new-2.ensures.items)
-    (record { run = run_starts c.module.result.now c.args.core (sym c.module.ensures.same) c.module.ensures.taken (c.module.ensures.opening c.requires) })

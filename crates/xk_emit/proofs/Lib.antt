@@ -1,0 +1,10 @@
+pub mod Examples
+pub mod ScopeLemmas
+pub mod BackpatchLemmas
+pub mod SlotLemmas
+pub mod UnitLemmas
+pub mod RoomLemmas
+pub mod CodeErrorLemmas
+pub mod ShapeLemmas
+pub mod CoverageLemmas
+pub mod CoverageLaw

@@ -1,0 +1,19 @@
+-- The units that the compiler makes break none of the rules V1 to V7 and V10, nor V8 where a method drops no clock that it is lent.
+pub mod PositionLemmas
+pub mod StructureLemmas
+pub mod JumpTargetLemmas
+pub mod BlockPairLemmas
+pub mod SpanLemmas
+pub mod InstructionLemmas
+pub mod SlotLemmas
+pub mod LoopCounterLemmas
+pub mod UnitStructureLemmas
+pub mod SharedNumberLemmas
+pub mod CallTargetLemmas
+pub mod ClockHomeLemmas
+pub mod ClockArgumentLemmas
+pub mod UnitLemmas
+pub mod NameLemmas
+pub mod ModuleLemmas
+pub mod TreeLemmas
+pub mod Examples

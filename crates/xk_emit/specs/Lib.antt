@@ -1,0 +1,6 @@
+pub mod CodeOf
+pub mod Unit
+pub mod NameCoverage
+pub mod CodeReferences
+pub mod Room
+pub mod LeafStatements

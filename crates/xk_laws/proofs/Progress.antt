@@ -1,3 +1,0 @@
--- Where nobody can step, everybody has ended.
-pub mod HeldBack
-pub mod Ends

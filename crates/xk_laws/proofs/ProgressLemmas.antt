@@ -1,0 +1,3 @@
+-- Where nobody can step, everybody has ended.
+pub mod WaitLemmas
+pub mod DeadlockLemmas

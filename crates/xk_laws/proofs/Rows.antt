@@ -1,9 +1,0 @@
--- Modules that are shown accepted, and what the laws say of them; and why the laws need their premises.
-pub mod Fresh
-pub mod Checked
-pub mod Sum
-pub mod Pair
-pub mod Phases
-pub mod Kinds
-pub mod Finish
-pub mod Needed

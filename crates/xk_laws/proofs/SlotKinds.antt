@@ -1,3 +1,0 @@
--- The kinds of slots: walks, and the table that they follow.
-pub mod Walks
-pub mod Table

@@ -1,0 +1,17 @@
+pub mod StandingChangeLemmas
+pub mod StandingLemmas
+pub mod TableCallLemmas
+pub mod StepLemmas
+pub mod NewActivityLemmas
+pub mod NewClockLemmas
+pub mod CallSequenceLemmas
+pub mod StepLaw
+pub mod CallPreconditionLemmas
+pub mod RegistrationListLemmas
+pub mod LastAdvanceLemmas
+pub mod InheritanceLemmas
+pub mod Examples
+pub mod AllRegistrationsLemmas
+pub mod SignalLemmas
+pub mod RegistrationCountLemmas
+pub mod PartLemmas

@@ -1,0 +1,5 @@
+pub mod View
+pub mod RegistrationChanges
+pub mod Standings
+pub mod ResumePhase
+pub mod ResumePhaseLaw

@@ -1,7 +1,0 @@
-use Rattle.std.proofs.Common.{◌≡◌, take}
-use Rattle.xk_drive.specs.Driving.{IsRunOf}
-use Rattle.xk_replay.proofs.replaying.carry_out.Given as goal
-
--- the entries before this one were carried out, and main was given the numbers
-abbrev pub invariant-loop-i : goal.invariant-loop-i
-invariant-loop-i l = IsRunOf l.verified (take l.i l.log) l.printed.items l.core × (l.core.world.arguments ≡ l.arguments)

@@ -1,0 +1,15 @@
+pub mod ScheduleLemmas
+pub mod FinishOwnerLemmas
+pub mod AwaitIndependenceLemmas
+pub mod IndependenceLemmas
+pub mod EnabledSetLemmas
+pub mod TicketLemmas
+pub mod ChooserAnswerLemmas
+pub mod TurnLemmas
+pub mod ChooserScheduleLemmas
+pub mod ChooserExamples
+pub mod LocalRunLemmas
+pub mod RunSequenceLemmas
+pub mod BlockingClockLemmas
+pub mod WaiterUpdateLemmas
+pub mod WakeLemmas

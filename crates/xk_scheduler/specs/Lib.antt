@@ -1,0 +1,6 @@
+pub mod Schedules
+pub mod Choosers
+pub mod EnabledSet
+pub mod LoggedRuns
+pub mod LocalRuns
+pub mod Waiters

@@ -1,0 +1,14 @@
+//! Runs of a core: by single steps, by a chooser, by a given schedule; and what is written down of them.
+#![tactic(auto)]
+
+mod chooser;
+mod driver;
+mod whole_run;
+mod logged_run;
+mod schedule;
+
+pub use chooser::{Chooser, First, Last, Round};
+pub use driver::{Driver, Turn};
+pub use whole_run::{drive, unstarted};
+pub use logged_run::{Ended, Logged, Partial, keep_printed};
+pub use schedule::{Halt, Ran, run_schedule};

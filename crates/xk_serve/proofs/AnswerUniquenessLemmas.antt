@@ -1,0 +1,332 @@
+-- The answer to a job is one.
+use Rattle.std.proofs.Common.{◌≡◌, ◌≢◌, ◌<◌, ◌≤◌, ◌∙◌, ℕ, ℤ, true, false, List, [], ◌++◌, length, codes, None, Some, inl, inr, refl, sym, ap, subst, arith}
+use Rattle.std.specs.Prelude.{◌⊎◌}
+use Rattle.std.proofs.lemmas.Bool.{false≢true}
+use Rattle.serde_json.specs.Written.{compact_text}
+use Rattle.xk_types.specs.declared.world.Entry.{Entry}
+use Rattle.xk_types.specs.Acceptance.{IsAccepted}
+use Rattle.xk_types.specs.Bound.{steps_bound, activities_bound, clocks_bound}
+use Rattle.xk_types.specs.Code.{ModuleValue, IsWithinLimits}
+use Rattle.xk_types.specs.Logs.{schedule_of}
+use Rattle.xk_types.specs.Schedule.{Leads}
+use Rattle.xk_types.specs.World.{AreArguments}
+use Rattle.xk_bounds.specs.declared.refusal.Refusal.{Refusal}
+use Rattle.xk_bounds.specs.declared.refusal.Refusal.TheVariants as refusal
+use Rattle.xk_bounds.specs.Refusals.{Refuses}
+use Rattle.xk_log.specs.LogText.{log_text}
+use Rattle.xk_module.specs.declared.fault.ModuleFault.{ModuleFault}
+use Rattle.xk_module.specs.declared.fault.ModuleFault.TheVariants as text
+use Rattle.xk_module.specs.ModuleText.{IsJson, IsModuleText, module_value}
+use Rattle.xk_module.proofs.TextLemmas.{one_module}
+use Rattle.xk_replay.specs.Chart.{chart_text}
+use Rattle.xk_replay.specs.Replay.{IsWhole}
+use Rattle.xk_tree.specs.declared.fault.FrontFault.{FrontFault}
+use Rattle.xk_cli.specs.declared.job.Form.{Form}
+use Rattle.xk_cli.specs.declared.job.Form.TheVariants as form
+use Rattle.xk_cli.specs.CommandLine.{By, In}
+use Rattle.xk_serve.specs.declared.job_result.Done.{Done}
+use Rattle.xk_serve.specs.declared.job_result.Done.TheVariants as done
+use Rattle.xk_serve.specs.declared.fault.Fault.{Fault}
+use Rattle.xk_serve.specs.declared.fault.Fault.TheVariants as fault
+use Rattle.xk_serve.specs.Answer.{Answers, Chart, Check, ComesTo, Compile, Doing, IsLogText, IsMisfit, IsNoRun, Replay, Reply, Run, Task, fault_reply, reads_log, runs}
+use Rattle.xk_output.specs.Lines.{number_lines}
+use Rattle.xk_serve.specs.Lines.{accepted_line, arguments_line, done_log, done_text, ended_line, fault_line, refusal_status, status_of}
+use Rattle.xk_serve.specs.OneAnswer.{IsLeftOpen, IsSameLine, IsSameReply, IsWithoutWorkers, TellFaults}
+use Rattle.xk_serve.specs.OrderedRun.{IsLoggedRun, IsOrderedRun, IsReplay, IsWholeRun}
+use Rattle.xk_serve.specs.Programs.{Gives, IsCompiledTo, IsNoModule, IsNoSource, IsUnread, longest_module}
+use Rattle.xk_serve.proofs.LogUniquenessLemmas.{no_run_once, text_once, whole_not_refused}
+use Rattle.xk_serve.proofs.RefusalUniquenessLemmas.{not_accepted, refusal_once, refused_status}
+use Rattle.xk_serve.proofs.RunUniquenessLemmas.{list_once, logged_once, ordered_once, run_taken}
+use Rattle.xk_serve.proofs.TextUniquenessLemmas.{one_text, unfit_none, unfit_once}
+
+-- ---- what is printed where nothing stands against the job
+
+-- what goes to standard output and to the log
+abbrev pub Prints : Doing → ModuleValue → List ℤ → List ℕ → List ℕ → List ℕ → Type 0
+Prints Compile m args logged out log = (out ≡ compact_text (module_value m) ++ codes "\n") × (log ≡ [])
+Prints Check m args logged out log = IsAccepted m × (out ≡ accepted_line (steps_bound m) (activities_bound m) (clocks_bound m)) × (log ≡ [])
+Prints (Run (In o) false) m args logged out log =
+    IsAccepted m × (numbers : List ℤ) × (steps : ℕ) × IsOrderedRun o m args numbers steps × (out ≡ number_lines numbers ++ ended_line steps) × (log ≡ [])
+Prints (Run (In o) true) m args logged out log =
+    IsAccepted m × (numbers : List ℤ) × (steps : ℕ) × (es : List Entry) × IsLoggedRun o m args numbers steps es × (out ≡ number_lines numbers ++ ended_line steps) × (log ≡ log_text es)
+Prints (Run (By n) kept) m args logged out log = IsAccepted m × AreArguments m args
+Prints Replay m args logged out log =
+    IsAccepted m × (numbers : List ℤ) × (steps : ℕ) × (es : List Entry) × IsLogText logged es × IsReplay m args es numbers steps × (out ≡ number_lines numbers ++ ended_line steps) × (log ≡ [])
+Prints Chart m args logged out log = IsAccepted m × (es : List Entry) × IsLogText logged es × IsWholeRun m args es × (out ≡ chart_text m args es) × (log ≡ [])
+
+pub prints : (what : Doing) (m : ModuleValue) (args : List ℤ) (logged : List ℕ) (d : Done) → ComesTo what m args logged d → Prints what m args logged (done_text d) (done_log d)
+prints Compile m args logged (done.Compiled t) h = (ap (λ bytes. bytes ++ codes "\n") h, refl)
+prints Compile m args logged _ h = absurd h
+prints Check m args logged (done.Accepted steps activities clocks) h =
+    (h.0, ap (λ n. accepted_line n activities clocks) h.1 ∙ ap (λ n. accepted_line (steps_bound m) n clocks) h.2 ∙ ap (accepted_line (steps_bound m) (activities_bound m)) h.3, refl)
+prints Check m args logged _ h = absurd h
+prints (Run (In o) false) m args logged (done.Ended numbers steps None) h = (h.0, numbers.items, steps, h.1, refl, refl)
+prints (Run (In o) false) m args logged _ h = absurd h
+prints (Run (In o) true) m args logged (done.Ended numbers steps (Some es)) h = (h.0, numbers.items, steps, es.items, h.1, refl, refl)
+prints (Run (In o) true) m args logged _ h = absurd h
+prints (Run (By n) false) m args logged (done.Ended numbers steps None) h = (h.0, run_taken _ m args numbers.items steps h.1)
+prints (Run (By n) false) m args logged _ h = absurd h
+prints (Run (By n) true) m args logged (done.Ended numbers steps (Some es)) h = (h.0, run_taken _ m args numbers.items steps h.1)
+prints (Run (By n) true) m args logged _ h = absurd h
+prints Replay m args logged (done.Ended numbers steps None) h = (h.0, numbers.items, steps, h.1.0, h.1.1, h.1.2, refl, refl)
+prints Replay m args logged _ h = absurd h
+prints Chart m args logged (done.Charted t) h = (h.0, h.1.0, h.1.1, h.1.2, h.1.3, refl)
+prints Chart m args logged _ h = absurd h
+
+-- all but `compile` asks the verifier
+prints_accepted : (what : Doing) (m : ModuleValue) (args : List ℤ) (logged out log : List ℕ) → what ≢ Compile → Prints what m args logged out log → IsAccepted m
+prints_accepted Compile m args logged out log asks h = absurd (asks refl)
+prints_accepted Check m args logged out log asks h = h.0
+prints_accepted (Run (In o) false) m args logged out log asks h = h.0
+prints_accepted (Run (In o) true) m args logged out log asks h = h.0
+prints_accepted (Run (By n) kept) m args logged out log asks h = h.0
+prints_accepted Replay m args logged out log asks h = h.0
+prints_accepted Chart m args logged out log asks h = h.0
+
+-- main of a run takes as many numbers as it is given
+prints_taken : (what : Doing) (m : ModuleValue) (args : List ℤ) (logged out log : List ℕ) → runs what ≡ true → Prints what m args logged out log → AreArguments m args
+prints_taken Compile m args logged out log run h = absurd (false≢true run)
+prints_taken Check m args logged out log run h = absurd (false≢true run)
+prints_taken (Run (In o) false) m args logged out log run h = run_taken _ m args h.1 h.2 h.3
+prints_taken (Run (In o) true) m args logged out log run h = run_taken _ m args h.1 h.2 h.4
+prints_taken (Run (By n) kept) m args logged out log run h = h.1
+prints_taken Replay m args logged out log run h = run_taken _ m args h.1 h.2 h.5
+prints_taken Chart m args logged out log run h = subst (AreArguments m) h.3.given h.3.leads.0
+
+replay_whole : (m : ModuleValue) (args numbers : List ℤ) (steps : ℕ) (es : List Entry) → IsReplay m args es numbers steps → IsWhole m args es
+replay_whole m args numbers steps es r = record { last = r.last; leads = subst (λ l. Leads m l r.last) r.follows r.leads; given = r.given; over = r.over }
+
+-- the log that is read is that of a whole run
+prints_whole : (what : Doing) (m : ModuleValue) (args : List ℤ) (logged out log : List ℕ) → reads_log what ≡ true → Prints what m args logged out log
+    → (es : List Entry) × IsLogText logged es × IsWhole m args es
+prints_whole Compile m args logged out log reads h = absurd (false≢true reads)
+prints_whole Check m args logged out log reads h = absurd (false≢true reads)
+prints_whole (Run way kept) m args logged out log reads h = absurd (false≢true reads)
+prints_whole Replay m args logged out log reads h = (h.3, h.4, replay_whole m args h.1 h.2 h.3 h.5)
+prints_whole Chart m args logged out log reads h = (h.1, h.2, record { last = h.3.last; leads = h.3.leads; given = h.3.given; over = h.3.over })
+
+-- the lines of a run
+same_lines : (numbers others : List ℤ) (n k : ℕ) → numbers ≡ others → n ≡ k → number_lines numbers ++ ended_line n ≡ number_lines others ++ ended_line k
+same_lines numbers others n k e d = ap (λ xs. number_lines xs ++ ended_line n) e ∙ ap (λ j. number_lines others ++ ended_line j) d
+
+-- one thing is printed, and one log
+pub prints_once : (what : Doing) (m : ModuleValue) (args : List ℤ) (logged out log other kept : List ℕ) → IsWithoutWorkers what → Prints what m args logged out log
+    → Prints what m args logged other kept → (out ≡ other) × (log ≡ kept)
+prints_once Compile m args logged out log other kept none p q = (p.0 ∙ sym q.0, p.1 ∙ sym q.1)
+prints_once Check m args logged out log other kept none p q = (p.1 ∙ sym q.1, p.2 ∙ sym q.2)
+prints_once (Run (In o) false) m args logged out log other kept none p q =
+    let same = ordered_once o m args p.1 q.1 p.2 q.2 p.3 q.3 in
+    (p.4 ∙ same_lines p.1 q.1 p.2 q.2 same.0 same.1 ∙ sym q.4, p.5 ∙ sym q.5)
+prints_once (Run (In o) true) m args logged out log other kept none p q =
+    let same = logged_once o m args p.1 q.1 p.2 q.2 p.3 q.3 p.4 q.4 in
+    (p.5 ∙ same_lines p.1 q.1 p.2 q.2 same.0 same.1 ∙ sym q.5, p.6 ∙ ap log_text same.2 ∙ sym q.6)
+prints_once (Run (By n) kept) m args logged out log other written none p q = absurd none
+prints_once Replay m args logged out log other kept none p q =
+    let es = text_once logged p.3 q.3 p.4 q.4 in
+    let same = list_once _ _ m args p.1 q.1 p.2 q.2 p.5 q.5 (p.5.follows ∙ ap schedule_of es ∙ sym q.5.follows) in
+    (p.6 ∙ same_lines p.1 q.1 p.2 q.2 same.0 same.1 ∙ sym q.6, p.7 ∙ sym q.7)
+prints_once Chart m args logged out log other kept none p q = (p.4 ∙ ap (chart_text m args) (text_once logged p.1 q.1 p.2 q.2) ∙ sym q.4, p.5 ∙ sym q.5)
+
+pub done_once : (what : Doing) (m : ModuleValue) (args : List ℤ) (logged : List ℕ) (d e : Done) → IsWithoutWorkers what → ComesTo what m args logged d
+    → ComesTo what m args logged e → (done_text d ≡ done_text e) × (done_log d ≡ done_log e)
+done_once what m args logged d e none p q =
+    prints_once what m args logged (done_text d) (done_log d) (done_text e) (done_log e) none (prints what m args logged d p) (prints what m args logged e q)
+
+-- ---- what is said of a module
+
+-- The reply is that of a refusal, of arguments that aren't as many as main takes, of a log of no run, or of what the job comes to.
+data Said (what : Doing) (m : ModuleValue) (args : List ℤ) (logged : List ℕ) (r : Reply) : Type 0 where
+  Refusing : (f : Refusal) → what ≢ Compile → Refuses m f → refusal_status f ≢ 4 → r ≡ fault_reply (fault.Refused f) → Said what m args logged r
+  Misfit : (wants has : ℕ) → runs what ≡ true → IsAccepted m → IsMisfit m args wants has → r ≡ fault_reply (fault.Arguments wants has) → Said what m args logged r
+  NoRun : (f : Fault) → reads_log what ≡ true → IsAccepted m → AreArguments m args → IsNoRun m args logged f → status_of f ≢ 4 → r ≡ fault_reply f → Said what m args logged r
+  Does : r.status ≡ 0 → r.err ≡ [] → Prints what m args logged r.out r.log → Said what m args logged r
+
+-- the replies of two faults that have one line, but for a walk
+same_faults : (what : Doing) (r s : Reply) (f g : Fault) → r ≡ fault_reply f → s ≡ fault_reply g → status_of f ≡ status_of g → IsSameLine (fault_line f) (fault_line g)
+    → IsSameReply what r s
+same_faults what r s f g e d same lines = record {
+  status = ap (λ (z : Reply). z.status) e ∙ same ∙ sym (ap (λ (z : Reply). z.status) d);
+  err = subst (λ (z : Reply). IsSameLine z.err s.err) (sym e) (subst (λ (z : Reply). IsSameLine (fault_line f) z.err) (sym d) lines);
+  out = λ none. ap (λ (z : Reply). z.out) e ∙ sym (ap (λ (z : Reply). z.out) d);
+  log = λ none. ap (λ (z : Reply). z.log) e ∙ sym (ap (λ (z : Reply). z.log) d);
+}
+
+same_misfits : (m : ModuleValue) (args : List ℤ) (wants has other given : ℕ) → IsMisfit m args wants has → IsMisfit m args other given
+    → arguments_line wants has ≡ arguments_line other given
+same_misfits m args wants has other given p q =
+    ap (λ n. arguments_line n has) (p.wants_are ∙ sym q.wants_are) ∙ ap (arguments_line other) (p.has_are ∙ sym q.has_are)
+
+same_said : (what : Doing) (m : ModuleValue) (args : List ℤ) (logged : List ℕ) (r s : Reply) → Said what m args logged r → Said what m args logged s → IsSameReply what r s
+same_said what m args logged r s (Refusing f asks p n e) (Refusing g again q k d) =
+    same_faults what r s (fault.Refused f) (fault.Refused g) e d (refused_status f n ∙ sym (refused_status g k)) (refusal_once m f g p q n k)
+same_said what m args logged r s (Refusing f asks p n e) (Misfit wants has run ok q d) = absurd (not_accepted m f ok p n)
+same_said what m args logged r s (Refusing f asks p n e) (NoRun g reads ok taken q k d) = absurd (not_accepted m f ok p n)
+same_said what m args logged r s (Refusing f asks p n e) (Does zero quiet q) = absurd (not_accepted m f (prints_accepted what m args logged s.out s.log asks q) p n)
+same_said what m args logged r s (Misfit wants has run ok p e) (Refusing g again q k d) = absurd (not_accepted m g ok q k)
+same_said what m args logged r s (Misfit wants has run ok p e) (Misfit other given again fine q d) =
+    same_faults what r s (fault.Arguments wants has) (fault.Arguments other given) e d refl (inl (same_misfits m args wants has other given p q))
+same_said what m args logged r s (Misfit wants has run ok p e) (NoRun g reads fine taken q k d) = absurd (p.misfit taken)
+same_said what m args logged r s (Misfit wants has run ok p e) (Does zero quiet q) = absurd (p.misfit (prints_taken what m args logged s.out s.log run q))
+same_said what m args logged r s (NoRun f reads ok taken p n e) (Refusing g again q k d) = absurd (not_accepted m g ok q k)
+same_said what m args logged r s (NoRun f reads ok taken p n e) (Misfit wants has run fine q d) = absurd (q.misfit taken)
+same_said what m args logged r s (NoRun f reads ok taken p n e) (NoRun g again fine fits q k d) =
+    let same = no_run_once m args logged f g p q n k in
+    same_faults what r s f g e d (ap status_of same) (inl (ap fault_line same))
+same_said what m args logged r s (NoRun f reads ok taken p n e) (Does zero quiet q) =
+    let whole = prints_whole what m args logged s.out s.log reads q in absurd (whole_not_refused m args logged f whole.0 p n whole.1 whole.2)
+same_said what m args logged r s (Does zero quiet p) (Refusing g again q k d) = absurd (not_accepted m g (prints_accepted what m args logged r.out r.log again p) q k)
+same_said what m args logged r s (Does zero quiet p) (Misfit wants has run ok q d) = absurd (q.misfit (prints_taken what m args logged r.out r.log run p))
+same_said what m args logged r s (Does zero quiet p) (NoRun g reads ok taken q k d) =
+    let whole = prints_whole what m args logged r.out r.log reads p in absurd (whole_not_refused m args logged g whole.0 q k whole.1 whole.2)
+same_said what m args logged r s (Does zero quiet p) (Does none silent q) = record {
+  status = zero ∙ sym none;
+  err = inl (quiet ∙ sym silent);
+  out = λ orders. (prints_once what m args logged r.out r.log s.out s.log orders p q).0;
+  log = λ orders. (prints_once what m args logged r.out r.log s.out s.log orders p q).1;
+}
+
+-- ---- what is said of bytes
+
+-- the bytes are no module text, or no source text of a program without faults, or they give a module, of which this is said
+data Case (t : Task) (bytes logged : List ℕ) (r : Reply) : Type 0 where
+  Unread : (f : ModuleFault) → t.form ≡ form.Module → IsNoModule bytes f → r ≡ fault_reply (fault.Text f) → Case t bytes logged r
+  Unfit : (f : FrontFault) → t.form ≡ form.Source → IsNoSource bytes f → r ≡ fault_reply (fault.Front f) → Case t bytes logged r
+  Read : (m : ModuleValue) → Gives t.form bytes m → Said t.doing m t.arguments logged r → Case t bytes logged r
+
+-- of a fault that is told where a module is given
+status_not : (r : Reply) (f : Fault) → r ≡ fault_reply f → r.status ≢ 4 → status_of f ≢ 4
+status_not r f e not4 = λ is. not4 (ap (λ (z : Reply). z.status) e ∙ is)
+
+no_source : (t : Task) → t.form ≡ form.Module → t.form ≡ form.Source → ⊥
+no_source t e d = let both : form.Module ≡ form.Source = sym e ∙ d in cc
+
+case_of : (t : Task) (bytes logged : List ℕ) (r : Reply) → r.status ≢ 4 → Answers t bytes logged r → Case t bytes logged r
+case_of t bytes logged r not4 (inl (d, s, e)) = Read s.of s.given (Does (ap (λ (z : Reply). z.status) e) (ap (λ (z : Reply). z.err) e)
+    (subst (λ (z : Reply). Prints t.doing s.of t.arguments logged z.out z.log) (sym e) (prints t.doing s.of t.arguments logged d s.done)))
+case_of t bytes logged r not4 (inr (fault.Text f, h, e)) = Unread f h.0 h.1 e
+case_of t bytes logged r not4 (inr (fault.Front f, h, e)) = Unfit f h.0 h.1 e
+case_of t bytes logged r not4 (inr (fault.Refused (refusal.Shape f), h, e)) =
+    Read h.1.0 h.1.1 (Refusing (refusal.Shape f) h.0 h.1.2 (status_not r (fault.Refused (refusal.Shape f)) e not4) e)
+case_of t bytes logged r not4 (inr (fault.Refused (refusal.Kind f), h, e)) =
+    Read h.1.0 h.1.1 (Refusing (refusal.Kind f) h.0 h.1.2 (status_not r (fault.Refused (refusal.Kind f)) e not4) e)
+case_of t bytes logged r not4 (inr (fault.Refused (refusal.Bound f), h, e)) =
+    Read h.1.0 h.1.1 (Refusing (refusal.Bound f) h.0 h.1.2 (status_not r (fault.Refused (refusal.Bound f)) e not4) e)
+case_of t bytes logged r not4 (inr (fault.Refused refusal.OutOfMemory, h, e)) = absurd h
+case_of t bytes logged r not4 (inr (fault.Arguments wants has, h, e)) = Read h.1.0 h.1.1 (Misfit wants has h.0 h.1.2 h.1.3 e)
+case_of t bytes logged r not4 (inr (fault.Grammar line, h, e)) =
+    Read h.1.0 h.1.1 (NoRun (fault.Grammar line) h.0 h.1.2 h.1.3.0 h.1.3.1 (status_not r (fault.Grammar line) e not4) e)
+case_of t bytes logged r not4 (inr (fault.Truncated, h, e)) =
+    Read h.1.0 h.1.1 (NoRun fault.Truncated h.0 h.1.2 h.1.3.0 h.1.3.1 (status_not r fault.Truncated e not4) e)
+case_of t bytes logged r not4 (inr (fault.NotEnabled i, h, e)) =
+    Read h.1.0 h.1.1 (NoRun (fault.NotEnabled i) h.0 h.1.2 h.1.3.0 h.1.3.1 (status_not r (fault.NotEnabled i) e not4) e)
+case_of t bytes logged r not4 (inr (fault.NotEnded, h, e)) =
+    Read h.1.0 h.1.1 (NoRun fault.NotEnded h.0 h.1.2 h.1.3.0 h.1.3.1 (status_not r fault.NotEnded e not4) e)
+case_of t bytes logged r not4 (inr (fault.OutOfMemory, h, e)) = absurd (not4 (ap (λ (z : Reply). z.status) e))
+case_of t bytes logged r not4 (inr (fault.Device, h, e)) = absurd h
+
+-- a text of a module is JSON
+text_json : (bytes : List ℕ) (m : ModuleValue) → IsModuleText bytes m → IsJson bytes
+text_json bytes m p = (p.0, p.1)
+
+read_once : (bytes : List ℕ) (f g : ModuleFault) → IsUnread bytes f → IsUnread bytes g → f ≡ g
+read_once bytes text.NotJson text.NotJson p q = refl
+read_once bytes text.NotJson text.NotAModule p q = absurd (p q.0)
+read_once bytes text.NotJson text.Limit p q = absurd (p (text_json bytes q.0 q.1))
+read_once bytes text.NotJson text.OutOfMemory p q = absurd q
+read_once bytes text.NotAModule text.NotJson p q = absurd (q p.0)
+read_once bytes text.NotAModule text.NotAModule p q = refl
+read_once bytes text.NotAModule text.Limit p q = absurd (p.1 q.0 q.1)
+read_once bytes text.NotAModule text.OutOfMemory p q = absurd q
+read_once bytes text.Limit text.NotJson p q = absurd (q (text_json bytes p.0 p.1))
+read_once bytes text.Limit text.NotAModule p q = absurd (q.1 p.0 p.1)
+read_once bytes text.Limit text.Limit p q = refl
+read_once bytes text.Limit text.OutOfMemory p q = absurd q
+read_once bytes text.OutOfMemory g p q = absurd p
+
+-- bytes that are no module text give none
+read_none : (bytes : List ℕ) (f : ModuleFault) (m : ModuleValue) → IsUnread bytes f → IsModuleText bytes m × IsWithinLimits m → ⊥
+read_none bytes text.NotJson m p q = p (text_json bytes m q.0)
+read_none bytes text.NotAModule m p q = p.1 m q.0
+read_none bytes text.Limit m p q = p.2 (subst IsWithinLimits (one_module bytes m p.0 q.0 p.1) q.1)
+read_none bytes text.OutOfMemory m p q = p
+
+too_many : (bytes : List ℕ) → longest_module < length bytes → length bytes ≤ longest_module → ⊥
+too_many bytes more less = omega (arith, more, less)
+
+unread_once : (bytes : List ℕ) (f g : ModuleFault) → IsNoModule bytes f → IsNoModule bytes g → f ≡ g
+unread_once bytes f g (inl p) (inl q) = p.1 ∙ sym q.1
+unread_once bytes f g (inl p) (inr q) = absurd (too_many bytes p.0 q.0)
+unread_once bytes f g (inr p) (inl q) = absurd (too_many bytes q.0 p.0)
+unread_once bytes f g (inr p) (inr q) = read_once bytes f g p.1 q.1
+
+unread_none : (bytes : List ℕ) (f : ModuleFault) (m : ModuleValue) → IsNoModule bytes f → Gives form.Module bytes m → ⊥
+unread_none bytes f m (inl p) q = too_many bytes p.0 q.0
+unread_none bytes f m (inr p) q = read_none bytes f m p.1 (q.1, q.2)
+
+given_text : (t : Task) (bytes : List ℕ) (m : ModuleValue) → t.form ≡ form.Module → Gives t.form bytes m → Gives form.Module bytes m
+given_text t bytes m of given = subst (λ f. Gives f bytes m) of given
+
+given_source : (t : Task) (bytes : List ℕ) (m : ModuleValue) → t.form ≡ form.Source → Gives t.form bytes m → IsCompiledTo bytes m
+given_source t bytes m of given = subst (λ f. Gives f bytes m) of given
+
+-- bytes give one module
+given_once : (kind : Form) (bytes : List ℕ) (m n : ModuleValue) → Gives kind bytes m → Gives kind bytes n → m ≡ n
+given_once form.Module bytes m n p q = one_module bytes m n p.1 q.1
+given_once form.Source bytes m n p q = one_text bytes m n p q
+
+-- an answer, where the bytes give this module
+said_of : (t : Task) (bytes logged : List ℕ) (r : Reply) (m : ModuleValue) → Gives t.form bytes m → Case t bytes logged r → Said t.doing m t.arguments logged r
+said_of t bytes logged r m given (Unread f of p e) = absurd (unread_none bytes f m p (given_text t bytes m of given))
+said_of t bytes logged r m given (Unfit f of p e) = absurd (unfit_none bytes f m p (given_source t bytes m of given))
+said_of t bytes logged r m given (Read n found told) =
+    subst (λ k. Said t.doing k t.arguments logged r) (given_once t.form bytes n m found given) told
+
+same_case : (t : Task) (bytes logged : List ℕ) (r s : Reply) → t.form ≡ form.Module → Case t bytes logged r → Case t bytes logged s → IsSameReply t.doing r s
+same_case t bytes logged r s of (Unread f is p e) (Unread g text q d) =
+    let same = unread_once bytes f g p q in
+    same_faults t.doing r s (fault.Text f) (fault.Text g) e d (ap (λ k. status_of (fault.Text k)) same) (inl (ap (λ k. fault_line (fault.Text k)) same))
+same_case t bytes logged r s of (Unread f is p e) (Unfit g source q d) = absurd (no_source t of source)
+same_case t bytes logged r s of (Unread f is p e) (Read m given said) = absurd (unread_none bytes f m p (given_text t bytes m of given))
+same_case t bytes logged r s of (Unfit f source p e) other = absurd (no_source t of source)
+same_case t bytes logged r s of (Read m given said) other = same_said t.doing m t.arguments logged r s said (said_of t bytes logged s m given other)
+
+pub one_answer : (t : Task) (bytes logged : List ℕ) (r s : Reply) → t.form ≡ form.Module → Answers t bytes logged r → Answers t bytes logged s → r.status ≢ 4 → s.status ≢ 4
+    → IsSameReply t.doing r s
+one_answer t bytes logged r s of p q n k = same_case t bytes logged r s of (case_of t bytes logged r n p) (case_of t bytes logged s k q)
+
+-- ---- source texts
+
+same_unfit : (t : Task) (bytes : List ℕ) (r s : Reply) (f g : FrontFault) → r ≡ fault_reply (fault.Front f) → s ≡ fault_reply (fault.Front g)
+    → (f ≡ g) ⊎ IsLeftOpen bytes f g → IsSameReply t.doing r s ⊎ TellFaults bytes r s
+same_unfit t bytes r s f g e d (inl same) =
+    inl (same_faults t.doing r s (fault.Front f) (fault.Front g) e d (ap (λ k. status_of (fault.Front k)) same) (inl (ap (λ k. fault_line (fault.Front k)) same)))
+same_unfit t bytes r s f g e d (inr left) = inr (record { here = f; there = g; left = left; told_here = e; told_there = d })
+
+same_source : (t : Task) (bytes logged : List ℕ) (r s : Reply) → t.form ≡ form.Source → Case t bytes logged r → Case t bytes logged s
+    → IsSameReply t.doing r s ⊎ TellFaults bytes r s
+same_source t bytes logged r s of (Unread f text p e) other = absurd (no_source t text of)
+same_source t bytes logged r s of (Unfit f is p e) (Unread g text q d) = absurd (no_source t text of)
+same_source t bytes logged r s of (Unfit f is p e) (Unfit g source q d) = same_unfit t bytes r s f g e d (unfit_once bytes f g p q)
+same_source t bytes logged r s of (Unfit f is p e) (Read m given said) = absurd (unfit_none bytes f m p (given_source t bytes m of given))
+same_source t bytes logged r s of (Read m given said) other = inl (same_said t.doing m t.arguments logged r s said (said_of t bytes logged s m given other))
+
+pub one_source_answer : (t : Task) (bytes logged : List ℕ) (r s : Reply) → t.form ≡ form.Source → Answers t bytes logged r → Answers t bytes logged s
+    → r.status ≢ 4 → s.status ≢ 4 → IsSameReply t.doing r s ⊎ TellFaults bytes r s
+one_source_answer t bytes logged r s of p q n k = same_source t bytes logged r s of (case_of t bytes logged r n p) (case_of t bytes logged s k q)
+
+-- ---- logs of whole runs
+
+-- where the log that is read is that of a whole run, nothing stands against the job
+whole_does : (what : Doing) (m : ModuleValue) (args : List ℤ) (logged : List ℕ) (es : List Entry) (s : Reply) → IsAccepted m → AreArguments m args → IsLogText logged es
+    → IsWhole m args es → Said what m args logged s → (s.status ≡ 0) × (s.err ≡ []) × Prints what m args logged s.out s.log
+whole_does what m args logged es s ok taken text whole (Refusing f asks p n e) = absurd (not_accepted m f ok p n)
+whole_does what m args logged es s ok taken text whole (Misfit wants has run fine p e) = absurd (p.misfit taken)
+whole_does what m args logged es s ok taken text whole (NoRun f reads fine fits p n e) = absurd (whole_not_refused m args logged f es p n text whole)
+whole_does what m args logged es s ok taken text whole (Does zero quiet p) = (zero, quiet, p)
+
+pub whole_prints : (t : Task) (bytes logged : List ℕ) (s : Reply) (m : ModuleValue) (out log : List ℕ) → Gives t.form bytes m
+    → Prints Replay m t.arguments logged out log → s.status ≢ 4 → Answers t bytes logged s → (s.status ≡ 0) × (s.err ≡ []) × Prints t.doing m t.arguments logged s.out s.log
+whole_prints t bytes logged s m out log given p not4 answers =
+    let whole = prints_whole Replay m t.arguments logged out log refl p in
+    whole_does t.doing m t.arguments logged whole.0 s (prints_accepted Replay m t.arguments logged out log (λ e. cc) p)
+    (prints_taken Replay m t.arguments logged out log refl p) whole.1 whole.2 (said_of t bytes logged s m given (case_of t bytes logged s not4 answers))

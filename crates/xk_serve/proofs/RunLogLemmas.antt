@@ -1,0 +1,149 @@
+-- The log that a run has written tells that run: `replay` and `chart` take it.
+use Rattle.std.proofs.Common.{◌≡◌, ◌≢◌, ◌∙◌, ℕ, ℤ, true, List, [], Some, None, inl, inr, refl, sym, ap, subst}
+use Rattle.xk_types.specs.declared.world.Entry.{Entry}
+use Rattle.xk_types.specs.Acceptance.{IsAccepted}
+use Rattle.xk_types.specs.Code.{ModuleValue, IsWithinLimits}
+use Rattle.xk_types.specs.Schedule.{Leads}
+use Rattle.xk_log.specs.LogText.{log_text}
+use Rattle.xk_module.specs.declared.fault.ModuleFault.TheVariants as text
+use Rattle.xk_bounds.specs.declared.refusal.Refusal.TheVariants as refusal
+use Rattle.xk_replay.specs.Chart.{chart_text}
+use Rattle.xk_replay.proofs.RunLogLemmas.{run_is_log}
+use Rattle.xk_cli.specs.declared.job.Form.{Form}
+use Rattle.xk_cli.specs.declared.job.Form.TheVariants as form
+use Rattle.xk_cli.specs.CommandLine.{By, In, Way}
+use Rattle.xk_serve.specs.declared.job_result.Done.{Done}
+use Rattle.xk_serve.specs.declared.job_result.Done.TheVariants as done
+use Rattle.xk_serve.specs.declared.fault.Fault.{Fault}
+use Rattle.xk_serve.specs.declared.fault.Fault.TheVariants as fault
+use Rattle.xk_serve.specs.Answer.{Answers, ComesTo, IsLogText, Replay, Replays, Reply, Run, Task, done_reply}
+use Rattle.xk_serve.specs.Lines.{done_log, done_text, status_of}
+use Rattle.xk_serve.specs.OneAnswer.{IsChartOf, IsCharted, MayChart, charting, done_with, replaying}
+use Rattle.xk_serve.specs.OrderedRun.{IsReplay, IsWholeRun}
+use Rattle.xk_serve.specs.Programs.{Gives}
+use Rattle.xk_serve.proofs.AnswerUniquenessLemmas.{prints, prints_once, whole_prints}
+use Rattle.xk_serve.proofs.OrderedRunLemmas.{run_weaker}
+
+-- ---- what was written
+
+given_limits : (f : Form) (bytes : List ℕ) (m : ModuleValue) → Gives f bytes m → IsWithinLimits m
+given_limits form.Module bytes m h = h.2
+given_limits form.Source bytes m h = h.limits
+
+-- a run by a log is had by the text of that log
+text_replays : (f : Form) (bytes logged : List ℕ) (m : ModuleValue) (args numbers : List ℤ) (steps : ℕ) (es : List Entry) → Gives f bytes m → IsAccepted m → logged ≡ log_text es
+    → IsReplay m args es numbers steps → Replays m args logged numbers steps
+text_replays f bytes logged m args numbers steps es given accepted e r =
+    let leads = subst (λ l. Leads m l r.last) r.follows r.leads in
+    (es, (run_is_log m (given_limits f bytes m given) accepted es r.last leads, e), r)
+
+-- a run was done, and what it wrote for a log has that run
+record IsWritten (t : Task) (bytes : List ℕ) (r : Reply) : Type 0 where
+  of : ModuleValue
+  given : Gives t.form bytes of
+  again : Done
+  comes : ComesTo Replay of t.arguments r.log again
+  out : r.out ≡ done_text again
+
+written : (t : Task) (way : Way) (bytes logged : List ℕ) (r : Reply) (d : Done) (m : ModuleValue) → Gives t.form bytes m
+    → ComesTo (Run way true) m t.arguments logged d → r ≡ done_reply d → IsWritten t bytes r
+written t (In o) bytes logged r (done.Ended numbers steps (Some log)) m given h e = record {
+  of = m;
+  given = given;
+  again = done.Ended numbers steps None;
+  comes = (
+    h.0,
+    text_replays t.form bytes r.log m t.arguments numbers.items steps log.items given h.0 (ap (λ (z : Reply). z.log) e)
+        (run_weaker _ _ m t.arguments numbers.items steps (λ list f. f.stands_for) h.1),
+  );
+  out = ap (λ (z : Reply). z.out) e;
+}
+written t (In o) bytes logged r _ m given h e = absurd h
+written t (By n) bytes logged r (done.Ended numbers steps (Some log)) m given h e = record {
+  of = m;
+  given = given;
+  again = done.Ended numbers steps None;
+  comes = (h.0, text_replays t.form bytes r.log m t.arguments numbers.items steps log.items given h.0 (ap (λ (z : Reply). z.log) e) h.1);
+  out = ap (λ (z : Reply). z.out) e;
+}
+written t (By n) bytes logged r _ m given h e = absurd h
+
+-- no fault has the status of what is done
+never_done : (f : Fault) → status_of f ≡ 0 → ⊥
+never_done (fault.Text text.NotJson) e = cc
+never_done (fault.Text text.NotAModule) e = cc
+never_done (fault.Text text.Limit) e = cc
+never_done (fault.Text text.OutOfMemory) e = cc
+never_done (fault.Front f) e = cc
+never_done (fault.Refused (refusal.Shape f)) e = cc
+never_done (fault.Refused (refusal.Kind f)) e = cc
+never_done (fault.Refused (refusal.Bound f)) e = cc
+never_done (fault.Refused refusal.OutOfMemory) e = cc
+never_done (fault.Arguments wants has) e = cc
+never_done (fault.Grammar line) e = cc
+never_done fault.Truncated e = cc
+never_done (fault.NotEnabled i) e = cc
+never_done fault.NotEnded e = cc
+never_done fault.OutOfMemory e = cc
+never_done fault.Device e = cc
+
+written_of : (t : Task) (way : Way) (bytes logged : List ℕ) (r : Reply) → t.doing ≡ Run way true → Answers t bytes logged r → r.status ≡ 0 → IsWritten t bytes r
+written_of t way bytes logged r is (inl (d, s, e)) zero =
+    written t way bytes logged r d s.of s.given (subst (λ what. ComesTo what s.of t.arguments logged d) is s.done) e
+written_of t way bytes logged r is (inr (f, h, e)) zero = absurd (never_done f (sym (ap (λ (z : Reply). z.status) e) ∙ zero))
+
+-- ---- and read again
+
+abbrev reply : ℕ → List ℕ → List ℕ → List ℕ → Reply
+reply status out err log = record { status = status; out = out; err = err; log = log }
+
+reply_is : (s : Reply) (out : List ℕ) → s.status ≡ 0 → s.out ≡ out → s.err ≡ [] → s.log ≡ [] → s ≡ done_with out
+reply_is s out zero same quiet none =
+    ap (λ n. reply n s.out s.err s.log) zero ∙ ap (λ o. reply 0 o s.err s.log) same ∙ ap (λ e. reply 0 out e s.log) quiet ∙ ap (λ l. reply 0 out [] l) none
+
+-- the log of a run that is had again is that of a whole run
+whole_run : (m : ModuleValue) (args numbers : List ℤ) (steps : ℕ) (es : List Entry) → IsReplay m args es numbers steps → IsWholeRun m args es
+whole_run m args numbers steps es r = record { last = r.last; leads = subst (λ l. Leads m l r.last) r.follows r.leads; given = r.given; over = r.over }
+
+charts : (t : Task) (bytes logged : List ℕ) (m : ModuleValue) (es : List Entry) → Gives t.form bytes m → IsAccepted m → IsLogText logged es → IsWholeRun m t.arguments es
+    → (d : Done) → IsChartOf (chart_text m t.arguments es) d → Answers (charting t) bytes logged (done_reply d)
+charts t bytes logged m es given accepted log whole (done.Charted found) is =
+    inl (done.Charted found, record { of = m; given = given; done = (accepted, (es, log, whole, is)) }, refl)
+charts t bytes logged m es given accepted log whole _ is = absurd is
+
+module _ (t : Task) (way : Way) (bytes logged : List ℕ) (r : Reply) (is : t.doing ≡ Run way true) (answers : Answers t bytes logged r) (zero : r.status ≡ 0) where
+  -- `replay` may print the same
+  pub replayed : Answers (replaying t) bytes r.log (done_with r.out)
+  replayed =
+      let w = written_of t way bytes logged r is answers zero in
+      let p = prints Replay w.of t.arguments r.log w.again w.comes in
+      inl (
+        w.again,
+        record { of = w.of; given = w.given; done = w.comes },
+        ap (λ o. done_with o) w.out ∙ ap (λ l. reply 0 (done_text w.again) [] l) (sym p.7),
+      )
+
+  -- and prints nothing else
+  pub replayed_alone : (s : Reply) → Answers (replaying t) bytes r.log s → s.status ≢ 4 → s ≡ done_with r.out
+  replayed_alone s again not4 =
+      let w = written_of t way bytes logged r is answers zero in
+      let p = prints Replay w.of t.arguments r.log w.again w.comes in
+      let q = whole_prints (replaying t) bytes r.log s w.of (done_text w.again) (done_log w.again) w.given p not4 again in
+      let same = prints_once Replay w.of t.arguments r.log s.out s.log (done_text w.again) (done_log w.again) tt q.2 p in
+      reply_is s r.out q.0 (same.0 ∙ sym w.out) q.1 (same.1 ∙ p.7)
+
+  -- `chart` may print the chart of that run
+  pub charted : MayChart t bytes r.log
+  charted =
+      let w = written_of t way bytes logged r is answers zero in
+      let p = prints Replay w.of t.arguments r.log w.again w.comes in
+      (w.of, p.3, w.given, p.4, λ d chart. charts t bytes r.log w.of p.3 w.given p.0 p.4 (whole_run w.of t.arguments p.1 p.2 p.3 p.5) d chart)
+
+  -- and prints nothing else
+  pub charted_alone : (s : Reply) → Answers (charting t) bytes r.log s → s.status ≢ 4 → IsCharted t bytes r.log s
+  charted_alone s again not4 =
+      let w = written_of t way bytes logged r is answers zero in
+      let p = prints Replay w.of t.arguments r.log w.again w.comes in
+      let q = whole_prints (charting t) bytes r.log s w.of (done_text w.again) (done_log w.again) w.given p not4 again in
+      let c = q.2 in
+      (w.of, c.1, w.given, c.2, reply_is s _ q.0 c.4 q.1 c.5)

@@ -1,0 +1,266 @@
+-- From what is said of a module to what is said of the task on the bytes that give it.
+use Rattle.std.proofs.Common.{◌≡◌, ◌≢◌, ◌∙◌, ℕ, ℤ, List, [], true, Option, Some, None, Result, Ok, Err, IfOk, IfErr, if◌then◌else◌, inl, inr, refl, ap, sym, subst}
+use Rattle.std.specs.Prelude.{IfSome}
+use Rattle.xk_types.specs.declared.world.Entry.{Entry}
+use Rattle.xk_types.specs.Acceptance.{IsAccepted}
+use Rattle.xk_types.specs.Code.{ModuleValue}
+use Rattle.xk_types.specs.World.{AreArguments}
+use Rattle.xk_log.specs.declared.fault.LogFault.{LogFault}
+use Rattle.xk_log.specs.declared.fault.LogFault.TheVariants as log
+use Rattle.xk_replay.specs.declared.fault.ReplayFault.{ReplayFault}
+use Rattle.xk_replay.specs.declared.fault.ReplayFault.TheVariants as replay
+use Rattle.xk_replay.specs.Replay.{IsFaultOf}
+use Rattle.xk_cli.specs.Status.{status_program}
+use Rattle.xk_bounds.specs.Refusals.{Refuses}
+use Rattle.xk_bounds.specs.declared.refusal.Refusal.{Refusal}
+use Rattle.xk_bounds.specs.declared.refusal.Refusal.TheVariants as refusal
+use Rattle.xk_serve.specs.declared.job_result.Done.{Done}
+use Rattle.xk_serve.specs.declared.fault.Fault.{Fault}
+use Rattle.xk_serve.specs.declared.fault.Fault.TheVariants as fault
+use Rattle.xk_serve.specs.Answer.{Chart, Check, ComesTo, Compile, Doing, FailsBy, IsLogText, IsNoRun, IsNotRun, IsRefusal, Replay, Run, Succeeds, Task, reads_log, runs}
+use Rattle.xk_serve.specs.Faults.{of_log, of_refusal, of_replay}
+use Rattle.xk_serve.specs.Lines.{status_of}
+use Rattle.std.proofs.lemmas.Result.{IfOk-weaker}
+use Rattle.std.proofs.lemmas.Bool.{false≢true}
+use Rattle.xk_serve.specs.Programs.{Gives}
+use Rattle.xk_serve.specs.Devices.{AgainstLog, AgainstModule, AgainstRun, read_of}
+
+-- ---- logs that may be known
+
+-- what holds of each list holds of the one that is known, if any is
+of_any : (P : List ℕ → Type 0) (known : Option (List ℕ)) → ((xs : List ℕ) → P xs) → IfSome known P
+of_any P None h = tt
+of_any P (Some xs) h = h xs
+
+-- what follows for each list follows for the one that is known
+pub of_each : (P Q : List ℕ → Type 0) (known : Option (List ℕ)) → ((xs : List ℕ) → P xs → Q xs) → IfSome known P → IfSome known Q
+of_each P Q None f h = tt
+of_each P Q (Some xs) f h = f xs h
+
+-- a task that reads a log reads the one that is known
+read_known : (t : Task) (known : Option (List ℕ)) → reads_log t.doing ≡ true → read_of t known ≡ known
+read_known t known reads = ap (λ b. if b then known else Some []) reads
+
+of_read : (t : Task) (P Q : List ℕ → Type 0) (known : Option (List ℕ)) → reads_log t.doing ≡ true → ((xs : List ℕ) → P xs → Q xs)
+    → IfSome known P → IfSome (read_of t known) Q
+of_read t P Q known reads f h = subst (λ o. IfSome o Q) (sym (read_known t known reads)) (of_each P Q known f h)
+
+-- ---- what a module comes to
+
+succeeds : (t : Task) (bytes logged : List ℕ) (m : ModuleValue) (what : Doing) (args : List ℤ) (d : Done) → t.doing ≡ what → args ≡ t.arguments → Gives t.form bytes m
+    → ComesTo what m args logged d → Succeeds t bytes logged d
+succeeds t bytes logged m what args d is told given done =
+    record { of = m; given = given; done = subst (λ x. ComesTo x m t.arguments logged d) (sym is) (subst (λ xs. ComesTo what m xs logged d) told done) }
+
+-- whatever log there is
+pub done_of_any : (t : Task) (bytes : List ℕ) (known : Option (List ℕ)) (m : ModuleValue) (what : Doing) (args : List ℤ) (r : Result Done Fault) → t.doing ≡ what
+    → args ≡ t.arguments → Gives t.form bytes m → IfOk r (λ d. (logged : List ℕ) → ComesTo what m args logged d)
+    → IfOk r (λ d. IfSome (read_of t known) (λ logged. Succeeds t bytes logged d))
+done_of_any t bytes known m what args (Ok d) is told given h = of_any _ (read_of t known) (λ logged. succeeds t bytes logged m what args d is told given (h logged))
+done_of_any t bytes known m what args (Err f) is told given h = tt
+
+-- and whatever main would be given
+pub done_of_none : (t : Task) (bytes : List ℕ) (known : Option (List ℕ)) (m : ModuleValue) (what : Doing) (r : Result Done Fault) → t.doing ≡ what
+    → Gives t.form bytes m → IfOk r (λ d. (args : List ℤ) (logged : List ℕ) → ComesTo what m args logged d)
+    → IfOk r (λ d. IfSome (read_of t known) (λ logged. Succeeds t bytes logged d))
+done_of_none t bytes known m what r is given h =
+    done_of_any t bytes known m what t.arguments r is refl given (IfOk-weaker r _ (λ d. (logged : List ℕ) → ComesTo what m t.arguments logged d) (λ d done. done t.arguments) h)
+
+-- with the log that is read
+pub done_of_log : (t : Task) (bytes : List ℕ) (known : Option (List ℕ)) (m : ModuleValue) (what : Doing) (args : List ℤ) (r : Result Done Fault) → t.doing ≡ what
+    → args ≡ t.arguments → reads_log what ≡ true → Gives t.form bytes m → IfOk r (λ d. IfSome known (λ logged. ComesTo what m args logged d))
+    → IfOk r (λ d. IfSome (read_of t known) (λ logged. Succeeds t bytes logged d))
+done_of_log t bytes known m what args (Ok d) is told reads given h =
+    of_read t _ _ known (ap reads_log is ∙ reads) (λ logged done. succeeds t bytes logged m what args d is told given done) h
+done_of_log t bytes known m what args (Err f) is told reads given h = tt
+
+-- ---- what stands against it
+
+-- what stands against the task whatever log there is stands against it where no read failed
+pub against_any : (t : Task) (bytes : List ℕ) (known : Option (List ℕ)) (old new : ℕ) (f : Fault) → new ≡ old → ((logged : List ℕ) → FailsBy t bytes logged f)
+    → AgainstLog t bytes known old new f
+against_any t bytes known old new (fault.Text f) e h = (e, of_any _ (read_of t known) h)
+against_any t bytes known old new (fault.Front f) e h = (e, of_any _ (read_of t known) h)
+against_any t bytes known old new (fault.Refused r) e h = (e, of_any _ (read_of t known) h)
+against_any t bytes known old new (fault.Arguments wants has) e h = (e, of_any _ (read_of t known) h)
+against_any t bytes known old new (fault.Grammar line) e h = (e, of_any _ (read_of t known) h)
+against_any t bytes known old new fault.Truncated e h = (e, of_any _ (read_of t known) h)
+against_any t bytes known old new (fault.NotEnabled i) e h = (e, of_any _ (read_of t known) h)
+against_any t bytes known old new fault.NotEnded e h = (e, of_any _ (read_of t known) h)
+against_any t bytes known old new fault.OutOfMemory e h = (e, of_any _ (read_of t known) h)
+against_any t bytes known old new fault.Device e h = absurd (h [])
+
+-- want of memory
+pub against_memory : (t : Task) (bytes : List ℕ) (known : Option (List ℕ)) (n : ℕ) (r : Result Done Fault) → IfErr r (λ f. f ≡ fault.OutOfMemory)
+    → IfErr r (AgainstLog t bytes known n n)
+against_memory t bytes known n (Ok d) h = tt
+against_memory t bytes known n (Err f) h =
+    subst (AgainstLog t bytes known n n) (sym h) (against_any t bytes known n n fault.OutOfMemory refl (λ logged. tt))
+
+-- all but `compile` asks the verifier
+abbrev AsksVerifier : Doing → Type 0
+AsksVerifier Compile = ⊥
+AsksVerifier _ = Unit {0}
+
+refusal_fails : (t : Task) (bytes logged : List ℕ) (m : ModuleValue) (f : Fault) → t.doing ≢ Compile → Gives t.form bytes m → IsRefusal m f → FailsBy t bytes logged f
+refusal_fails t bytes logged m (fault.Text f) asks given h = absurd h
+refusal_fails t bytes logged m (fault.Front f) asks given h = absurd h
+refusal_fails t bytes logged m (fault.Refused (refusal.Shape r)) asks given h = (asks, (m, given, h))
+refusal_fails t bytes logged m (fault.Refused (refusal.Kind r)) asks given h = (asks, (m, given, h))
+refusal_fails t bytes logged m (fault.Refused (refusal.Bound r)) asks given h = (asks, (m, given, h))
+refusal_fails t bytes logged m (fault.Refused refusal.OutOfMemory) asks given h = absurd h
+refusal_fails t bytes logged m (fault.Arguments wants has) asks given h = absurd h
+refusal_fails t bytes logged m (fault.Grammar line) asks given h = absurd h
+refusal_fails t bytes logged m fault.Truncated asks given h = absurd h
+refusal_fails t bytes logged m (fault.NotEnabled i) asks given h = absurd h
+refusal_fails t bytes logged m fault.NotEnded asks given h = absurd h
+refusal_fails t bytes logged m fault.OutOfMemory asks given h = tt
+refusal_fails t bytes logged m fault.Device asks given h = absurd h
+
+asks_verifier : (t : Task) (what : Doing) → t.doing ≡ what → AsksVerifier what → t.doing ≢ Compile
+asks_verifier t what is asks = λ e. subst AsksVerifier (sym is ∙ e) asks
+
+-- a refusal
+pub against_refused : (t : Task) (bytes : List ℕ) (known : Option (List ℕ)) (n : ℕ) (m : ModuleValue) (what : Doing) (r : Result Done Fault) → t.doing ≡ what
+    → AsksVerifier what → Gives t.form bytes m → IfErr r (IsRefusal m) → IfErr r (AgainstLog t bytes known n n)
+against_refused t bytes known n m what (Ok d) is asks given h = tt
+against_refused t bytes known n m what (Err f) is asks given h =
+    against_any t bytes known n n f refl (λ logged. refusal_fails t bytes logged m f (asks_verifier t what is asks) given h)
+
+-- a module that isn't run
+not_run_fails : (t : Task) (bytes logged : List ℕ) (m : ModuleValue) (f : Fault) → runs t.doing ≡ true → t.doing ≢ Compile → Gives t.form bytes m → IsNotRun m t.arguments f
+    → FailsBy t bytes logged f
+not_run_fails t bytes logged m (fault.Text f) runs asks given h = absurd h
+not_run_fails t bytes logged m (fault.Front f) runs asks given h = absurd h
+not_run_fails t bytes logged m (fault.Refused r) runs asks given h = refusal_fails t bytes logged m (fault.Refused r) asks given h
+not_run_fails t bytes logged m (fault.Arguments wants has) runs asks given h = (runs, (m, given, h.0, h.1))
+not_run_fails t bytes logged m (fault.Grammar line) runs asks given h = absurd h
+not_run_fails t bytes logged m fault.Truncated runs asks given h = absurd h
+not_run_fails t bytes logged m (fault.NotEnabled i) runs asks given h = absurd h
+not_run_fails t bytes logged m fault.NotEnded runs asks given h = absurd h
+not_run_fails t bytes logged m fault.OutOfMemory runs asks given h = tt
+not_run_fails t bytes logged m fault.Device runs asks given h = absurd h
+
+-- what is run asks the verifier
+runs_asks : (what : Doing) → runs what ≡ true → what ≢ Compile
+runs_asks what h = λ e. false≢true (sym (ap runs e) ∙ h)
+
+against_not_run : (t : Task) (bytes : List ℕ) (known : Option (List ℕ)) (old new : ℕ) (m : ModuleValue) (f : Fault) → new ≡ old → runs t.doing ≡ true
+    → Gives t.form bytes m → IsNotRun m t.arguments f → AgainstLog t bytes known old new f
+against_not_run t bytes known old new m f same runs given h =
+    against_any t bytes known old new f same (λ logged. not_run_fails t bytes logged m f runs (runs_asks t.doing runs) given h)
+
+-- a run without a log
+pub against_run_of : (t : Task) (bytes : List ℕ) (known : Option (List ℕ)) (n : ℕ) (m : ModuleValue) (what : Doing) (args : List ℤ) (r : Result Done Fault) → t.doing ≡ what
+    → args ≡ t.arguments → runs what ≡ true → Gives t.form bytes m → IfErr r (IsNotRun m args) → IfErr r (AgainstLog t bytes known n n)
+against_run_of t bytes known n m what args (Ok d) is told runs_it given h = tt
+against_run_of t bytes known n m what args (Err f) is told runs_it given h =
+    against_not_run t bytes known n n m f refl (ap runs is ∙ runs_it) given (subst (λ xs. IsNotRun m xs f) told h)
+
+no_run_fails : (t : Task) (bytes logged : List ℕ) (m : ModuleValue) (f : Fault) → reads_log t.doing ≡ true → Gives t.form bytes m → IsAccepted m → AreArguments m t.arguments
+    → IsNoRun m t.arguments logged f → FailsBy t bytes logged f
+no_run_fails t bytes logged m (fault.Text f) reads given accepted taken h = absurd h
+no_run_fails t bytes logged m (fault.Front f) reads given accepted taken h = absurd h
+no_run_fails t bytes logged m (fault.Refused r) reads given accepted taken h = absurd h
+no_run_fails t bytes logged m (fault.Arguments wants has) reads given accepted taken h = absurd h
+no_run_fails t bytes logged m (fault.Grammar line) reads given accepted taken h = (reads, (m, given, accepted, (taken, h)))
+no_run_fails t bytes logged m fault.Truncated reads given accepted taken h = (reads, (m, given, accepted, (taken, h)))
+no_run_fails t bytes logged m (fault.NotEnabled i) reads given accepted taken h = (reads, (m, given, accepted, (taken, h)))
+no_run_fails t bytes logged m fault.NotEnded reads given accepted taken h = (reads, (m, given, accepted, (taken, h)))
+no_run_fails t bytes logged m fault.OutOfMemory reads given accepted taken h = tt
+no_run_fails t bytes logged m fault.Device reads given accepted taken h = absurd h
+
+-- what stands against a log, and is no device's, stands against the task
+no_run_stands : (t : Task) (bytes : List ℕ) (known : Option (List ℕ)) (old new : ℕ) (m : ModuleValue) (f : Fault) → reads_log t.doing ≡ true
+    → Gives t.form bytes m → IsAccepted m → AreArguments m t.arguments → (new ≡ old) × IfSome known (λ logged. IsNoRun m t.arguments logged f)
+    → (new ≡ old) × IfSome (read_of t known) (λ logged. FailsBy t bytes logged f)
+no_run_stands t bytes known old new m f reads given accepted taken h =
+    (h.0, of_read t _ _ known reads (λ logged none. no_run_fails t bytes logged m f reads given accepted taken none) h.1)
+
+against_run : (t : Task) (bytes : List ℕ) (known : Option (List ℕ)) (old new : ℕ) (m : ModuleValue) (f : Fault) → reads_log t.doing ≡ true
+    → Gives t.form bytes m → IsAccepted m → AreArguments m t.arguments → AgainstRun m t.arguments known old new f → AgainstLog t bytes known old new f
+against_run t bytes known old new m (fault.Text f) reads given accepted taken h = no_run_stands t bytes known old new m (fault.Text f) reads given accepted taken h
+against_run t bytes known old new m (fault.Front f) reads given accepted taken h = no_run_stands t bytes known old new m (fault.Front f) reads given accepted taken h
+against_run t bytes known old new m (fault.Refused r) reads given accepted taken h = no_run_stands t bytes known old new m (fault.Refused r) reads given accepted taken h
+against_run t bytes known old new m (fault.Arguments wants has) reads given accepted taken h = no_run_stands t bytes known old new m (fault.Arguments wants has) reads given accepted taken h
+against_run t bytes known old new m (fault.Grammar line) reads given accepted taken h = no_run_stands t bytes known old new m (fault.Grammar line) reads given accepted taken h
+against_run t bytes known old new m fault.Truncated reads given accepted taken h = no_run_stands t bytes known old new m fault.Truncated reads given accepted taken h
+against_run t bytes known old new m (fault.NotEnabled i) reads given accepted taken h = no_run_stands t bytes known old new m (fault.NotEnabled i) reads given accepted taken h
+against_run t bytes known old new m fault.NotEnded reads given accepted taken h = no_run_stands t bytes known old new m fault.NotEnded reads given accepted taken h
+against_run t bytes known old new m fault.OutOfMemory reads given accepted taken h = no_run_stands t bytes known old new m fault.OutOfMemory reads given accepted taken h
+against_run t bytes known old new m fault.Device reads given accepted taken h = h
+
+-- what reads a log is run
+reads_runs : (what : Doing) → reads_log what ≡ true → runs what ≡ true
+reads_runs Check h = absurd (false≢true h)
+reads_runs Compile h = absurd (false≢true h)
+reads_runs (Run way kept) h = refl
+reads_runs Replay h = refl
+reads_runs Chart h = refl
+
+against_either : (t : Task) (bytes : List ℕ) (known : Option (List ℕ)) (old new : ℕ) (m : ModuleValue) (f : Fault) → reads_log t.doing ≡ true
+    → Gives t.form bytes m → AgainstModule m t.arguments known old new f → AgainstLog t bytes known old new f
+against_either t bytes known old new m f reads given (inl h) = against_not_run t bytes known old new m f h.0 (reads_runs t.doing reads) given h.1
+against_either t bytes known old new m f reads given (inr h) = against_run t bytes known old new m f reads given h.0 h.1 h.2
+
+-- a module that isn't run, or a log that is none of its run
+pub against_log : (t : Task) (bytes : List ℕ) (known : Option (List ℕ)) (old new : ℕ) (m : ModuleValue) (what : Doing) (args : List ℤ) (r : Result Done Fault) → t.doing ≡ what
+    → args ≡ t.arguments → reads_log what ≡ true → Gives t.form bytes m → IfErr r (AgainstModule m args known old new) → IfErr r (AgainstLog t bytes known old new)
+against_log t bytes known old new m what args (Ok d) is told reads given h = tt
+against_log t bytes known old new m what args (Err f) is told reads given h =
+    against_either t bytes known old new m f (ap reads_log is ∙ reads) given (subst (λ xs. AgainstModule m xs known old new f) told h)
+
+-- ---- the verifier
+
+-- what it says where it accepts no module
+pub refusal_of : (m : ModuleValue) (r : Refusal) → Refuses m r → IsRefusal m (of_refusal r)
+refusal_of m (refusal.Shape f) h = h
+refusal_of m (refusal.Kind f) h = h
+refusal_of m (refusal.Bound f) h = h
+refusal_of m refusal.OutOfMemory h = tt
+
+-- what stands against a run by a log of the module that it accepted
+pub run_stands : (m v : ModuleValue) (args : List ℤ) (known : Option (List ℕ)) (old new : ℕ) (r : Result Done Fault) → v ≡ m → IsAccepted m → AreArguments m args
+    → IfErr r (AgainstRun v args known old new) → IfErr r (AgainstModule m args known old new)
+run_stands m v args known old new (Ok d) is accepted taken h = tt
+run_stands m v args known old new (Err f) is accepted taken h = inr (accepted, taken, subst (λ x. AgainstRun x args known old new f) is h)
+
+-- want of memory where no read failed
+pub run_wants : (m : ModuleValue) (args : List ℤ) (known : Option (List ℕ)) (old new : ℕ) (r : Result Done Fault) → new ≡ old → IfErr r (λ f. f ≡ fault.OutOfMemory)
+    → IfErr r (AgainstRun m args known old new)
+run_wants m args known old new (Ok d) e h = tt
+run_wants m args known old new (Err f) e h = subst (AgainstRun m args known old new) (sym h) (e, of_any _ known (λ logged. tt))
+
+-- a log that was read, and is none of a whole run
+pub replay_stands : (m : ModuleValue) (args : List ℤ) (known : Option (List ℕ)) (old new : ℕ) (es : List Entry) (f : ReplayFault) → new ≡ old
+    → IfSome known (λ logged. IsLogText logged es) → IsFaultOf m args es f → AgainstRun m args known old new (of_replay f)
+replay_stands m args known old new es (replay.NotEnabled i) e text h = (e, of_each _ _ known (λ logged t. (es, t, h)) text)
+replay_stands m args known old new es replay.NotEnded e text h = (e, of_each _ _ known (λ logged t. (es, t, h)) text)
+replay_stands m args known old new es replay.OutOfMemory e text h = (e, of_any _ known (λ logged. tt))
+
+-- what the verifier says of a module that is to be run
+pub not_run : (m : ModuleValue) (args : List ℤ) (f : Fault) → IsRefusal m f → IsNotRun m args f
+not_run m args (fault.Text f) h = h
+not_run m args (fault.Front f) h = h
+not_run m args (fault.Refused r) h = h
+not_run m args (fault.Arguments wants has) h = absurd h
+not_run m args (fault.Grammar line) h = h
+not_run m args fault.Truncated h = h
+not_run m args (fault.NotEnabled i) h = h
+not_run m args fault.NotEnded h = h
+not_run m args fault.OutOfMemory h = h
+not_run m args fault.Device h = h
+
+-- ---- a log that was read
+
+-- what is said of a log is no refusal of the program
+pub log_status : (f : LogFault) → status_of (of_log f) ≢ status_program
+log_status log.Device = λ e. cc
+log_status log.OutOfMemory = λ e. cc
+log_status (log.Grammar line) = λ e. cc
+log_status log.Truncated = λ e. cc
+
+pub replay_status : (f : ReplayFault) → status_of (of_replay f) ≢ status_program
+replay_status replay.OutOfMemory = λ e. cc
+replay_status (replay.NotEnabled entry) = λ e. cc
+replay_status replay.NotEnded = λ e. cc

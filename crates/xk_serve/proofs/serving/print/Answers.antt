@@ -1,5 +1,0 @@
-use Rattle.xk_serve.proofs.Replies.{device_begins}
-use Rattle.xk_serve.proofs.serving.print.Goals as goal
-
-pub returns-in-Err-clause-err_beginning : goal.returns-in-Err-clause-err_beginning
-returns-in-Err-clause-err_beginning g c = device_begins _ _ _ _ _ c.report.ensures

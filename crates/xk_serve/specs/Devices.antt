@@ -1,0 +1,112 @@
+-- What the program does with its devices. This project's own.
+use Rattle.std.specs.Prelude.{◌≡◌, ◌≢◌, ℕ, ℤ, ◌⊎◌, List, [], Option, Some, IfSome, string_bytes, if◌then◌else◌}
+use Rattle.std.specs.Io.KnownBytes.{Appends}
+use Rattle.xk_types.specs.Acceptance.{IsAccepted}
+use Rattle.xk_types.specs.Code.{ModuleValue}
+use Rattle.xk_types.specs.Device.{Rose}
+use Rattle.xk_types.specs.World.{AreArguments}
+use Rattle.xk_cli.specs.Status.{status_device, status_done, status_memory, status_words}
+use Rattle.xk_cli.specs.declared.words_fault.WordsFault.{WordsFault}
+use Rattle.xk_cli.specs.declared.words_fault.WordsFault.TheVariants as words
+use Rattle.xk_serve.specs.declared.job_result.Done.{Done}
+use Rattle.xk_serve.specs.declared.fault.Fault.{Fault}
+use Rattle.xk_serve.specs.declared.fault.Fault.TheVariants as fault
+use Rattle.xk_log.specs.Writing.{AppendsBeginning}
+use Rattle.xk_serve.specs.Answer.{Answers, FailsBy, IsNoRun, IsNotRun, Reply, Succeeds, Task, reads_log}
+use Rattle.xk_serve.specs.Lines.{done_log, done_text, excluded_line, fault_line, memory_line, status_of}
+
+-- all that is printed of it went to standard output, and its log to the log's device
+abbrev pub IsWritten : Done → Option (List ℕ) → Option (List ℕ) → Option (List ℕ) → Option (List ℕ) → Type 0
+IsWritten d out_old out_new log_old log_new = Appends out_old out_new (done_text d) × Appends log_old log_new (done_log d)
+
+-- standard output got a beginning of what is printed of it, and the log's device nothing; or the one got all, and the other a beginning
+abbrev pub IsBegun : Done → Option (List ℕ) → Option (List ℕ) → Option (List ℕ) → Option (List ℕ) → Type 0
+IsBegun d out_old out_new log_old log_new = (AppendsBeginning out_old out_new (done_text d) × Appends log_old log_new [])
+    ⊎ (Appends out_old out_new (done_text d) × AppendsBeginning log_old log_new (done_log d))
+
+-- the bytes of the log that a task reads, where they are known; none where it reads no log
+abbrev pub read_of : Task → Option (List ℕ) → Option (List ℕ)
+read_of t known = if reads_log t.doing then known else Some []
+
+-- the bytes of FILE and those of the log that is read are known, and this holds of them
+abbrev pub IfKnown : Task → Option (List ℕ) → Option (List ℕ) → (List ℕ → List ℕ → Type 0) → Type 0
+IfKnown t program logged P = IfSome program (λ bytes. IfSome (read_of t logged) (λ log. P bytes log))
+
+-- how often the two sources failed, before and after
+pub record Reads : Type 0 where
+  pub program_old : ℕ
+  pub program_new : ℕ
+  pub log_old : ℕ
+  pub log_new : ℕ
+
+-- neither failed
+abbrev pub IsRead : Reads → Type 0
+IsRead n = (n.program_new ≡ n.program_old) × (n.log_new ≡ n.log_old)
+
+-- one of them failed
+abbrev pub FailsToRead : Reads → Type 0
+FailsToRead n = Rose n.program_old n.program_new ⊎ Rose n.log_old n.log_new
+
+-- The fault is one of the task on the known bytes, or want of memory, and then no source failed; or one failed.
+abbrev pub StandsAgainst : Task → Option (List ℕ) → Option (List ℕ) → Reads → Fault → Type 0
+StandsAgainst t known logged n fault.Device = FailsToRead n
+StandsAgainst t known logged n f = IsRead n × IfKnown t known logged (λ bytes log. FailsBy t bytes log f)
+
+-- What stands against a task on these bytes, of which the log may still have been read: the numbers are the failures of the log's source.
+abbrev pub AgainstLog : Task → List ℕ → Option (List ℕ) → ℕ → ℕ → Fault → Type 0
+AgainstLog t bytes known old new fault.Device = Rose old new
+AgainstLog t bytes known old new f = (new ≡ old) × IfSome (read_of t known) (λ logged. FailsBy t bytes logged f)
+
+-- the same of a log of a run of the module with these arguments
+abbrev pub AgainstRun : ModuleValue → List ℤ → Option (List ℕ) → ℕ → ℕ → Fault → Type 0
+AgainstRun m args known old new fault.Device = Rose old new
+AgainstRun m args known old new f = (new ≡ old) × IfSome known (λ logged. IsNoRun m args logged f)
+
+-- What stands against a run of a module by a log: the module isn't run with these arguments, and no log was read; or it is accepted, main
+-- takes as many, and the log is none of such a run.
+abbrev pub AgainstModule : ModuleValue → List ℤ → Option (List ℕ) → ℕ → ℕ → Fault → Type 0
+AgainstModule m args known old new f =
+    ((new ≡ old) × IsNotRun m args f) ⊎ (IsAccepted m × AreArguments m args × AgainstRun m args known old new f)
+
+-- The line was written, the sink didn't fail and the status is this one; or a beginning of the line was written, the sink
+-- failed and the status is that of a device.
+abbrev pub Tells : List ℕ → ℕ → Option (List ℕ) → Option (List ℕ) → ℕ → ℕ → ℕ → Type 0
+Tells line status old new faults_old faults_new result =
+    ((result ≡ status) × Appends old new line × (faults_new ≡ faults_old))
+    ⊎ ((result ≡ status_device) × AppendsBeginning old new line × Rose faults_old faults_new)
+
+-- the fault is told, or, where its line couldn't be made, want of memory
+abbrev pub Reports : Fault → Option (List ℕ) → Option (List ℕ) → ℕ → ℕ → ℕ → Type 0
+Reports f old new faults_old faults_new result =
+    Tells (fault_line f) (status_of f) old new faults_old faults_new result
+    ⊎ ((f ≢ fault.Device) × Tells memory_line status_memory old new faults_old faults_new result)
+
+-- status and texts are an answer to the task on these bytes
+pub record Answered (t : Task) (bytes logged : List ℕ) (status : ℕ) (out_old out_new err_old err_new log_old log_new : Option (List ℕ)) : Type 0 where
+  pub reply : Reply
+  pub answers : Answers t bytes logged reply
+  pub status_is : status ≡ reply.status
+  pub out_is : Appends out_old out_new reply.out
+  pub err_is : Appends err_old err_new reply.err
+  pub log_is : Appends log_old log_new reply.log
+
+-- nothing was written to standard output and to the log, or a beginning of what a success of the task gives
+abbrev pub OutBegins : Task → List ℕ → List ℕ → Option (List ℕ) → Option (List ℕ) → Option (List ℕ) → Option (List ℕ) → Type 0
+OutBegins t bytes logged out_old out_new log_old log_new = (Appends out_old out_new [] × Appends log_old log_new [])
+    ⊎ ((d : Done) × Succeeds t bytes logged d × IsBegun d out_old out_new log_old log_new)
+
+-- the line of this fault may be told: a device failed, or the fault is one of the bytes
+abbrev pub IsTold : Task → List ℕ → List ℕ → Fault → Type 0
+IsTold t bytes logged f = (f ≡ fault.Device) ⊎ FailsBy t bytes logged f
+
+-- standard error got a beginning of one such line
+abbrev pub ErrBegins : Task → List ℕ → List ℕ → Option (List ℕ) → Option (List ℕ) → Type 0
+ErrBegins t bytes logged old new = (f : Fault) × IsTold t bytes logged f × AppendsBeginning old new (fault_line f)
+
+-- How words that are no job are told, where the first predicate says what standard output got and with which status,
+-- and the second one the same of standard error: help goes to the one, all else to the other.
+abbrev pub TellsWords : WordsFault → (List ℕ → ℕ → Type 0) → (List ℕ → ℕ → Type 0) → Type 0
+TellsWords (words.Help text) On_out On_err = On_out (string_bytes text) status_done
+TellsWords (words.NotUnderstood text) On_out On_err = On_err (string_bytes text) status_words
+TellsWords words.OrderAndWorkers On_out On_err = On_err excluded_line status_words
+TellsWords words.OutOfMemory On_out On_err = On_err memory_line status_memory

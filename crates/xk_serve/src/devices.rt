@@ -1,0 +1,257 @@
+//! The program between its devices.
+
+ghost use Rattle.std.specs.Prelude.{◌≡◌, ◌≢◌, ◌⊎◌, false, [], IfOk, IfErr, IfSome, OnOk, OnErr, string_bytes};
+ghost use Rattle.std.specs.Io.KnownBytes.{Appends};
+ghost use Rattle.xk_types.specs.Device.{Rose};
+ghost use Rattle.xk_log.specs.Writing.{AppendsBeginning};
+ghost use Rattle.xk_cli.specs.Status.{status_device, status_done, status_memory, status_program};
+ghost use Rattle.xk_serve.specs.Answer.{Succeeds, reads_log, task_of};
+ghost use Rattle.xk_serve.specs.Bytes.{FailsRead, IsReadToLimit, kept};
+ghost use Rattle.xk_serve.specs.Lines.{device_line, done_ending, done_log, memory_line, status_of};
+ghost use Rattle.xk_serve.specs.Devices.{Answered, ErrBegins, IfKnown, IsBegun, IsWritten, OutBegins, Reports, StandsAgainst, Tells, TellsWords};
+
+use crate::commands::answer;
+use crate::bounded_read::read_front;
+use crate::job_result::Done;
+use crate::fault::{DEVICE_LINE, EXCLUDED_LINE, Fault, MEMORY_LINE};
+use crate::program_loader::{LONGEST_MODULE, LONGEST_SOURCE};
+use std::alloc::Global;
+use std::sync::Wait;
+use std::thread::Threads;
+use xk_log::{Device, write_all, write_entries};
+use xk_types::{Sink, Source};
+use xk_cli::{Form, Job, WordsFault, status};
+
+/// Reads the program, does the job, and writes what comes of it: its result to `out` and then the log of a run that is to have one
+/// to `log_out`, or one line to `err`. The answer is the exit status: 0 where the job is done, 1 where the program is refused, or is to be run and its
+/// main takes another number of arguments than it is given, 3 where the log is refused, 4 where memory ran out, 5 where a device failed. A run by workers is some run of the program: a call with such a job may wait for them, and
+/// what is said here holds where it returns. Whatever the answer but 5, no read or write failed. The result is written piece by piece, once
+/// all is known and no more memory is wanted, so `out` and `log_out` stay empty but at 0 and 5, and `err` never gets more than one line.
+pub fn serve<R: Threads + Wait + Sync, P: Source, L: Source, O: Sink, E: Sink, K: Sink>(
+    rt: &R,
+    alloc: Global,
+    job: &Job<'_>,
+    program: &mut P,
+    log_in: &mut L,
+    out: &mut O,
+    err: &mut E,
+    log_out: &mut K,
+) -> u8
+    ensures answered { IfKnown (task_of job.now) (P.remaining program.old) (L.remaining log_in.old)
+        (λ bytes logged. result ≢ status_memory → result ≢ status_device
+        → Answered (task_of job.now) bytes logged result
+        (O.contents out.old) (O.contents out.new) (E.contents err.old) (E.contents err.new)
+        (K.contents log_out.old) (K.contents log_out.new)) }
+
+    // Memory and devices.
+    ensures out_begins { IfKnown (task_of job.now) (P.remaining program.old) (L.remaining log_in.old)
+        (λ bytes logged. OutBegins (task_of job.now) bytes logged
+        (O.contents out.old) (O.contents out.new)
+        (K.contents log_out.old) (K.contents log_out.new)) }
+    ensures err_begins { IfKnown (task_of job.now) (P.remaining program.old) (L.remaining log_in.old)
+        (λ bytes logged. ErrBegins (task_of job.now) bytes logged
+        (E.contents err.old) (E.contents err.new)) }
+    ensures memory_out { result ≡ status_memory
+        → Appends (O.contents out.old) (O.contents out.new) [] }
+    ensures memory_log { result ≡ status_memory
+        → Appends (K.contents log_out.old) (K.contents log_out.new) [] }
+    ensures memory_err { result ≡ status_memory
+        → Appends (E.contents err.old) (E.contents err.new) memory_line }
+    ensures faults { result ≢ status_device
+        → (P.fault_count program.new ≡ P.fault_count program.old)
+        × (L.fault_count log_in.new ≡ L.fault_count log_in.old)
+        × (O.fault_count out.new ≡ O.fault_count out.old)
+        × (E.fault_count err.new ≡ E.fault_count err.old)
+        × (K.fault_count log_out.new ≡ K.fault_count log_out.old) }
+    ensures device { result ≡ status_device
+        → Rose (P.fault_count program.old) (P.fault_count program.new)
+        ⊎ (Rose (L.fault_count log_in.old) (L.fault_count log_in.new)
+        ⊎ (Rose (O.fault_count out.old) (O.fault_count out.new)
+        ⊎ (Rose (E.fault_count err.old) (E.fault_count err.new)
+        ⊎ Rose (K.fault_count log_out.old) (K.fault_count log_out.new)))) }
+    ensures device_err { result ≡ status_device
+        → Appends (E.contents err.old) (E.contents err.new) device_line
+        ⊎ Rose (E.fault_count err.old) (E.fault_count err.new) }
+
+    // No log is read where the job is on none, nor where the program is refused; of a source text no more than one byte too many.
+    ensures log_in { reads_log (task_of job.now).doing ≡ false → log_in.new ≡ log_in.old }
+    ensures log_unread { result ≡ status_program → log_in.new ≡ log_in.old }
+    ensures no_further { IsReadToLimit (task_of job.now).form
+        (P.remaining program.old) (P.remaining program.new) }
+{
+    match outcome(rt, alloc, job, program, log_in) {
+        Ok((done, ending)) => print(alloc, &done, ending.as_str(), out, err, log_out),
+        Err(fault) => report(alloc, &fault, err),
+    }
+}
+
+/// What the job comes to, and what is printed behind the numbers or the text that it has: no more memory is wanted to print it.
+fn outcome<R: Threads + Wait + Sync, P: Source, L: Source>(
+    rt: &R,
+    alloc: Global,
+    job: &Job<'_>,
+    program: &mut P,
+    log_in: &mut L,
+) -> Result<(Done, String), Fault>
+    ensures done { IfOk result (λ r.
+        IfKnown (task_of job.now) (P.remaining program.old) (L.remaining log_in.old)
+        (λ bytes logged. Succeeds (task_of job.now) bytes logged r.0)) }
+    ensures ending { IfOk result (λ r. string_bytes r.1 ≡ done_ending r.0) }
+    ensures no_fault { OnOk result ((P.fault_count program.new ≡ P.fault_count program.old)
+        × (L.fault_count log_in.new ≡ L.fault_count log_in.old)) }
+    ensures fault { IfErr result (λ f.
+        StandsAgainst (task_of job.now) (P.remaining program.old) (L.remaining log_in.old)
+        (record {
+          program_old = P.fault_count program.old;
+          program_new = P.fault_count program.new;
+          log_old = L.fault_count log_in.old;
+          log_new = L.fault_count log_in.new;
+        }) f) }
+    ensures unread { reads_log (task_of job.now).doing ≡ false → log_in.new ≡ log_in.old }
+    ensures refused { IfErr result
+        (λ f. status_of f ≡ status_program → log_in.new ≡ log_in.old) }
+    ensures no_further { IsReadToLimit (task_of job.now).form
+        (P.remaining program.old) (P.remaining program.new) }
+{
+    let bytes = read_program(alloc, job.form, program)?;
+    let done = answer(rt, alloc, job, &bytes, log_in)?;
+    let ending = done.ending(alloc)?;
+    Ok((done, ending))
+}
+
+/// All that counts of the bytes in FILE: one byte more than its text may have, at most, and no others are read then.
+fn read_program<P: Source>(alloc: Global, form: Form, program: &mut P) -> Result<Vec<u8>, Fault>
+    ensures kept { IfOk result (λ bytes.
+        IfSome (P.remaining program.old) (λ known. bytes.items ≡ kept form known)) }
+    ensures no_further { IsReadToLimit form (P.remaining program.old) (P.remaining program.new) }
+    ensures no_fault { OnOk result (P.fault_count program.new ≡ P.fault_count program.old) }
+    ensures failed { IfErr result
+        (FailsRead (P.fault_count program.old) (P.fault_count program.new)) }
+{
+    match form {
+        Form::Module => read_front(alloc, program, LONGEST_MODULE + 1),
+        Form::Source => read_front(alloc, program, LONGEST_SOURCE + 1),
+    }
+}
+
+/// Writes the result, and then the log of a run that is to have one. Where that fails, says so.
+fn print<O: Sink, E: Sink, K: Sink>(
+    alloc: Global,
+    done: &Done,
+    ending: &str,
+    out: &mut O,
+    err: &mut E,
+    log_out: &mut K,
+) -> u8
+    requires { ending.now ≡ done_ending done.now }
+    ensures printed { ((result ≡ status_done)
+        × IsWritten done.now (O.contents out.old) (O.contents out.new)
+        (K.contents log_out.old) (K.contents log_out.new)
+        × Appends (E.contents err.old) (E.contents err.new) [])
+        ⊎ ((result ≡ status_device) × (Rose (O.fault_count out.old) (O.fault_count out.new)
+        ⊎ Rose (K.fault_count log_out.old) (K.fault_count log_out.new))) }
+    ensures told { result ≡ status_device
+        → Appends (E.contents err.old) (E.contents err.new) device_line
+        ⊎ Rose (E.fault_count err.old) (E.fault_count err.new) }
+    ensures begun { IsBegun done.now (O.contents out.old) (O.contents out.new)
+        (K.contents log_out.old) (K.contents log_out.new) }
+    ensures err_beginning { AppendsBeginning (E.contents err.old) (E.contents err.new) device_line }
+    ensures faults { result ≢ status_device → (O.fault_count out.new ≡ O.fault_count out.old)
+        × (E.fault_count err.new ≡ E.fault_count err.old)
+        × (K.fault_count log_out.new ≡ K.fault_count log_out.old) }
+{
+    match write_result(done, ending, out, log_out) {
+        Ok(()) => status::DONE,
+        Err(_) => report(alloc, &Fault::Device, err),
+    }
+}
+
+/// Writes the result to `out`, and then the log of a run that is to have one.
+fn write_result<O: Sink, K: Sink>(
+    done: &Done,
+    ending: &str,
+    out: &mut O,
+    log_out: &mut K,
+) -> Result<(), Device>
+    requires { ending.now ≡ done_ending done.now }
+    ensures all { OnOk result (IsWritten done.now (O.contents out.old) (O.contents out.new)
+        (K.contents log_out.old) (K.contents log_out.new)) }
+    ensures begun { IsBegun done.now (O.contents out.old) (O.contents out.new)
+        (K.contents log_out.old) (K.contents log_out.new) }
+    ensures no_fault { OnOk result ((O.fault_count out.new ≡ O.fault_count out.old)
+        × (K.fault_count log_out.new ≡ K.fault_count log_out.old)) }
+    ensures failed { OnErr result (Rose (O.fault_count out.old) (O.fault_count out.new)
+        ⊎ Rose (K.fault_count log_out.old) (K.fault_count log_out.new)) }
+{
+    done.write(ending, out)?;
+    write_log(done, log_out)
+}
+
+/// Writes the log of a run that is to have one, and nothing else.
+fn write_log<K: Sink>(done: &Done, log_out: &mut K) -> Result<(), Device>
+    ensures all { OnOk result
+        (Appends (K.contents log_out.old) (K.contents log_out.new) (done_log done.now)) }
+    ensures beginning { AppendsBeginning
+        (K.contents log_out.old) (K.contents log_out.new) (done_log done.now) }
+    ensures no_fault { OnOk result (K.fault_count log_out.new ≡ K.fault_count log_out.old) }
+    ensures failed { OnErr result
+        (Rose (K.fault_count log_out.old) (K.fault_count log_out.new)) }
+{
+    let Some(log) = done.log() else {
+        return Ok(());
+    };
+    write_entries(log, log_out)
+}
+
+/// Writes the line of a fault, and gives the status: the fault's, or 4 where memory for the line ran out, or 5 where it can't
+/// be written. The lines of want of memory and of devices take no memory.
+pub fn report<E: Sink>(alloc: Global, fault: &Fault, err: &mut E) -> u8
+    ensures { Reports fault.now (E.contents err.old) (E.contents err.new)
+        (E.fault_count err.old) (E.fault_count err.new) result }
+{
+    match fault {
+        Fault::OutOfMemory => tell(MEMORY_LINE, status::MEMORY, err),
+        Fault::Device => tell(DEVICE_LINE, status::DEVICE, err),
+        Fault::Text(_)
+        | Fault::Front(_)
+        | Fault::Refused(_)
+        | Fault::Arguments { .. }
+        | Fault::Grammar(_)
+        | Fault::Truncated
+        | Fault::NotEnabled(_)
+        | Fault::NotEnded => match fault.line(alloc) {
+            Ok(line) => tell(line.as_str(), fault.status(), err),
+            Err(_) => tell(MEMORY_LINE, status::MEMORY, err),
+        },
+    }
+}
+
+/// Writes a line, and gives the status, or 5 where it can't be written: then a beginning of it was.
+pub fn tell<E: Sink>(line: &str, status: u8, err: &mut E) -> u8
+    ensures { Tells line.now status (E.contents err.old) (E.contents err.new)
+        (E.fault_count err.old) (E.fault_count err.new) result }
+{
+    match write_all(err, line.as_bytes()) {
+        Ok(()) => status,
+        Err(_) => status::DEVICE,
+    }
+}
+
+/// Says why words are no job: help on `out`, with status 0, and all else on `err`, with status 2, or 4 where memory ran out. The
+/// status is 5 where the text can't be written.
+pub fn tell_words<O: Sink, E: Sink>(fault: &WordsFault, out: &mut O, err: &mut E) -> u8
+    ensures { TellsWords fault.now
+        (λ text status. (err.new ≡ err.old)
+        × Tells text status (O.contents out.old) (O.contents out.new)
+        (O.fault_count out.old) (O.fault_count out.new) result)
+        (λ text status. (out.new ≡ out.old)
+        × Tells text status (E.contents err.old) (E.contents err.new)
+        (E.fault_count err.old) (E.fault_count err.new) result) }
+{
+    match fault {
+        WordsFault::Help(text) => tell(text.as_str(), status::DONE, out),
+        WordsFault::NotUnderstood(text) => tell(text.as_str(), status::WORDS, err),
+        WordsFault::OrderAndWorkers => tell(EXCLUDED_LINE, status::WORDS, err),
+        WordsFault::OutOfMemory => tell(MEMORY_LINE, status::MEMORY, err),
+    }
+}

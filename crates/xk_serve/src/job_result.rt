@@ -1,0 +1,118 @@
+//! What a job comes to.
+
+ghost use Rattle.std.specs.Prelude.{◌≡◌, [], IfOk, OnErr, OnOk, string_bytes};
+ghost use Rattle.std.specs.Io.KnownBytes.{Appends};
+ghost use Rattle.std.specs.Option.{option_map_or};
+ghost use Rattle.xk_types.specs.Device.{Rose};
+ghost use Rattle.xk_log.specs.LogText.{log_text};
+ghost use Rattle.xk_log.specs.Writing.{AppendsBeginning};
+ghost use Rattle.xk_serve.specs.Lines.{accepted_line, done_ending, done_front, done_log, done_text, ended_line};
+
+use std::alloc::{AllocError, Global};
+use xk_output::write_numbers;
+use xk_log::{Device, write_all};
+use xk_types::{Entry, Sink};
+
+/// What a job comes to where nothing stands against it.
+#[derive(Debug, Drop)]
+pub(crate) enum Done {
+    /// `compile`: the module has this text.
+    Compiled(String),
+    /// `check`: the module is accepted, with these bounds on its runs.
+    Accepted {
+        steps: u64,
+        activities: u32,
+        clocks: u32,
+    },
+    /// `run`, `replay`: the module ran to its end, and printed these numbers.
+    Ended {
+        printed: Vec<i64>,
+        steps: u64,
+        /// Who took a step after whom, where that is to be kept.
+        log: Option<Vec<Entry>>,
+    },
+    /// `chart`: the run that the log has has this chart.
+    Charted(String),
+}
+
+impl Done {
+    /// The log of a run that is to have one.
+    pub(crate) fn log(&self) -> Option<&[Entry]>
+        ensures { option_map_or (λ log. log_text log.now) result [] ≡ done_log self.now }
+    {
+        match self {
+            Done::Ended { log: Some(log), .. } => Some(log),
+            Done::Ended { log: None, .. }
+            | Done::Compiled(_)
+            | Done::Accepted { .. }
+            | Done::Charted(_) => None,
+        }
+    }
+
+    /// What stands behind the numbers or the text that it has: the last line, or the end of one. All memory that writing wants is taken here.
+    pub(crate) fn ending(&self, alloc: Global) -> Result<String, AllocError>
+        ensures { IfOk result (λ ending. string_bytes ending ≡ done_ending self.now) }
+    {
+        match self {
+            Done::Compiled(_) => String::from_str(alloc, "\n"),
+            Done::Accepted {
+                steps,
+                activities,
+                clocks,
+            } => accepted_line(alloc, *steps, *activities, *clocks),
+            Done::Charted(_) => Ok(String::new(alloc)),
+            Done::Ended { steps, .. } => ended_line(alloc, *steps),
+        }
+    }
+
+    /// Writes what goes to standard output, of which the ending was made, and takes no memory. Where a write fails, a beginning of it was
+    /// written.
+    pub(crate) fn write<O: Sink>(&self, ending: &str, out: &mut O) -> Result<(), Device>
+        requires { ending.now ≡ done_ending self.now }
+        ensures all { OnOk result
+            (Appends (O.contents out.old) (O.contents out.new) (done_text self.now)) }
+        ensures beginning { AppendsBeginning
+            (O.contents out.old) (O.contents out.new) (done_text self.now) }
+        ensures no_fault { OnOk result (O.fault_count out.new ≡ O.fault_count out.old) }
+        ensures failed { OnErr result (Rose (O.fault_count out.old) (O.fault_count out.new)) }
+    {
+        self.write_front(out)?;
+        write_all(out, ending.as_bytes())
+    }
+
+    /// Writes its numbers, each on a line of its own, or its text.
+    fn write_front<O: Sink>(&self, out: &mut O) -> Result<(), Device>
+        ensures all { OnOk result
+            (Appends (O.contents out.old) (O.contents out.new) (done_front self.now)) }
+        ensures beginning { AppendsBeginning
+            (O.contents out.old) (O.contents out.new) (done_front self.now) }
+        ensures no_fault { OnOk result (O.fault_count out.new ≡ O.fault_count out.old) }
+        ensures failed { OnErr result (Rose (O.fault_count out.old) (O.fault_count out.new)) }
+    {
+        match self {
+            Done::Compiled(text) => write_all(out, text.as_bytes()),
+            Done::Accepted { .. } => Ok(()),
+            Done::Charted(text) => write_all(out, text.as_bytes()),
+            Done::Ended { printed, .. } => write_numbers(printed, out),
+        }
+    }
+}
+
+/// `accepted steps 8 activities 1 clocks 1`.
+fn accepted_line(
+    alloc: Global,
+    steps: u64,
+    activities: u32,
+    clocks: u32,
+) -> Result<String, AllocError>
+    ensures { IfOk result (λ text. string_bytes text ≡ accepted_line steps activities clocks) }
+{
+    format!(in alloc; "accepted steps {steps} activities {activities} clocks {clocks}\n")
+}
+
+/// `ended steps 8`.
+fn ended_line(alloc: Global, steps: u64) -> Result<String, AllocError>
+    ensures { IfOk result (λ text. string_bytes text ≡ ended_line steps) }
+{
+    format!(in alloc; "ended steps {steps}\n")
+}

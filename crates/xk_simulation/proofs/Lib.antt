@@ -1,0 +1,14 @@
+pub mod UnitLemmas
+pub mod ExpressionLemmas
+pub mod PairwiseLemmas
+pub mod WorldLemmas
+pub mod RunLemmas
+pub mod RelationLemmas
+pub mod UnitEntryLemmas
+pub mod StepLemmas
+pub mod SimulationLaw
+pub mod MeansItsSourceLaw
+pub mod PremiseExample
+pub mod OrderUniquenessLemmas
+pub mod SettingLookupLemmas
+pub mod CompiledOnceLaw

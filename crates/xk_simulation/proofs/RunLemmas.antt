@@ -1,0 +1,98 @@
+-- A run of the module is followed by one of the source.
+use Rattle.std.proofs.Common.{◌≡◌, ℕ, Bool, cond, ◌&&◌, List, [], ◌∷◌, map, refl, sym, ap, ◌∙◌, subst, arith, inl, inr}
+use Rattle.std.specs.List.{list_all}
+use Rattle.xk_types.specs.declared.world.Event.{Event}
+use Rattle.xk_types.specs.Code.{ModuleValue}
+use Rattle.xk_types.specs.World.{Activity, Clock, World, is_ended}
+use Rattle.xk_types.specs.Step.{Outcome, Blocked, Wrong, Stepped, step}
+use Rattle.xk_types.specs.Schedule.{Course, Through, run, run_on, is_local}
+use Rattle.xk_tree.specs.Tree.{TreeValue}
+use Rattle.xk_semantics.specs.Source.{SourceActivity, SourceWorld, source_step}
+use Rattle.xk_semantics.specs.Meaning.{Stand, shown, Moment, moments_on, moments, Goes, have_ended}
+use Rattle.xk_simulation.proofs.PairwiseLemmas.{Pairs}
+use Rattle.xk_simulation.proofs.WorldLemmas.{IsAlike, AreRelated, Follows}
+
+-- what all share is the same
+clocks_shown : (cs ds : List Clock) → Pairs IsAlike cs ds
+    → ◌≡◌ {A = List Stand} (map (λ c. record { phase = c.phase; standings = c.standings }) cs) (map (λ c. record { phase = c.phase; standings = c.standings }) ds)
+clocks_shown [] [] h = refl
+clocks_shown [] (d ∷ ds) h = absurd h
+clocks_shown (c ∷ cs) [] h = absurd h
+clocks_shown (c ∷ cs) (d ∷ ds) h =
+    let rest = clocks_shown cs ds h.1 in
+    λ i. record { phase = h.0.phase i; standings = h.0.standings i } ∷ rest i
+
+shown_same : (R : Activity → SourceActivity → Type 0) (w : World) (v : SourceWorld) → AreRelated R w v → shown w ≡ shown v
+shown_same R w v rel = let cs = clocks_shown w.clocks v.clocks rel.clocks in let ns = rel.cells in λ i. record { clocks = cs i; cells = ns i }
+
+ended_same : (R : Activity → SourceActivity → Type 0) → ((x : Activity) (y : SourceActivity) → R x y → x.status ≡ y.status)
+    → (xs : List Activity) (ys : List SourceActivity) → Pairs R xs ys
+    → list_all (λ act. is_ended act.status) xs ≡ list_all (λ act. is_ended act.status) ys
+ended_same R k [] [] h = refl
+ended_same R k [] (y ∷ ys) h = absurd h
+ended_same R k (x ∷ xs) [] h = absurd h
+ended_same R k (x ∷ xs) (y ∷ ys) h =
+    ap (λ s. is_ended s && list_all (λ act. is_ended act.status) xs) (k x y h.0) ∙ ap (λ b. is_ended y.status && b) (ended_same R k xs ys h.1)
+
+same_through : (w v : World) → Through w ≡ Through v → w ≡ v
+same_through w v e = cc
+
+-- a run that comes through took its first step
+first_step : (w v : World) (o : Outcome) (go : World → Course) → run_on w o go ≡ Through v
+    → (x : World) × (e : Event) × (o ≡ Stepped x e) × (go x ≡ Through v)
+first_step w v Blocked go h = absurd (grind arith)
+first_step w v (Wrong c) go h = absurd (grind arith)
+first_step w v (Stepped x e) go h = (x, e, refl, h)
+
+-- the source goes on from a world with these moments, and has ended where the module has
+pub record GoesOn (t : TreeValue) (v : SourceWorld) (seen : List Moment) (over : Bool) : Type 0 where
+  pub list : List ℕ
+  pub last : SourceWorld
+  pub goes : Goes (source_step t) list v last
+  pub same : moments (source_step t) list v ≡ seen
+  pub ends : have_ended last ≡ over
+
+-- a run from related worlds is followed
+pub run_follows : (t : TreeValue) (R : Activity → SourceActivity → Type 0) (m : ModuleValue)
+    → ((w : World) (v : SourceWorld) (a : ℕ) → AreRelated R w v → Follows t R v a (step m w a))
+    → ((x : Activity) (y : SourceActivity) → R x y → x.status ≡ y.status)
+    → (list : List ℕ) (w after : World) (v : SourceWorld) → AreRelated R w v → run m list w ≡ Through after
+    → GoesOn t v (moments (step m) list w) (have_ended after)
+run_follows t R m follows same [] w after v rel h = record {
+  list = [];
+  last = v;
+  goes = refl;
+  same = refl;
+  ends = sym (ap have_ended (sym (same_through w after h)) ∙ ended_same R same w.activities v.activities rel.activities);
+}
+run_follows t R m follows same (a ∷ list) w after v rel h =
+    let f = first_step w after (step m w a) (run m list) h in
+    by f.0 f.1 f.2 (subst (Follows t R v a) f.2 (follows w v a rel)) (λ u r. run_follows t R m follows same list f.0 after u r f.3)
+  where
+    by : (next : World) (e : Event) → step m w a ≡ Stepped next e → Follows t R v a (Stepped next e)
+        → ((u : SourceWorld) → AreRelated R next u → GoesOn t u (moments (step m) list next) (have_ended after))
+        → GoesOn t v (moments (step m) (a ∷ list) w) (have_ended after)
+    by next e st (inl q) later =
+        let r = later v q.1 in
+        record {
+          list = r.list;
+          last = r.last;
+          goes = r.goes;
+          same = r.same
+              ∙ sym (ap (λ o. moments_on a o (moments (step m) list)) st
+              ∙ ap (λ b. cond b (moments (step m) list next) (record { activity = a; event = e; after = shown next } ∷ moments (step m) list next)) q.0);
+          ends = r.ends;
+        }
+    by next e st (inr q) later =
+        let r = later q.0 q.2 in
+        record {
+          list = a ∷ r.list;
+          last = r.last;
+          goes = (q.0, e, q.1, r.goes);
+          same = sym (ap (λ o. moments_on a o (moments (step m) list)) st
+              ∙ (ap (λ s. cond (is_local e) (moments (step m) list next) (record { activity = a; event = e; after = s } ∷ moments (step m) list next))
+              (shown_same R next q.0 q.2)
+              ∙ (ap (λ rest. cond (is_local e) rest (record { activity = a; event = e; after = shown q.0 } ∷ rest)) (sym r.same)
+              ∙ ap (λ o. moments_on a o (moments (source_step t) r.list)) (sym q.1))));
+          ends = r.ends;
+        }

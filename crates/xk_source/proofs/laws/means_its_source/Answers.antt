@@ -1,7 +1,0 @@
--- The law of the contract.
-use Rattle.xk_names.proofs.ScopedLaw.{scoped_tree}
-use Rattle.xk_source.proofs.Compiled.{compiled_means}
-use Rattle.xk_source.proofs.laws.means_its_source.Goals as goal
-
-pub returns : goal.returns
-returns c = λ t m clean apart few made. compiled_means t m (scoped_tree t clean) apart few made

@@ -1,7 +1,0 @@
-use Rattle.std.proofs.Common.{◌≡◌, drop}
-use Rattle.xk_standings.specs.View.{reg_on}
-use Rattle.xk_standings.proofs.each.find_on.Given as goal
-
--- those before aren't on the clock
-abbrev pub invariant-loop-registration : goal.invariant-loop-registration
-invariant-loop-registration l = reg_on (drop l.registration-index l.registrations) l.fn.clock ≡ reg_on l.registrations l.fn.clock

@@ -1,7 +1,0 @@
-use Rattle.std.proofs.Common.{◌≡◌, take, drop, ◌++◌}
-use Rattle.xk_standings.specs.Calls.{regs_passed}
-use Rattle.xk_standings.proofs.each.pass_each.Given as goal
-
--- a pass of those that are left leads to a pass of all
-abbrev pub invariant-loop-i : goal.invariant-loop-i
-invariant-loop-i l = take l.i l.registrations ++ regs_passed (drop l.i l.registrations) ≡ regs_passed l.initial.registrations

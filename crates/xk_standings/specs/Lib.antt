@@ -1,5 +1,0 @@
-pub mod View
-pub mod Calls
-pub mod Told
-pub mod Resumed
-pub mod ResumedLaw

@@ -1,0 +1,37 @@
+use Rattle.std.proofs.Common.{map, ap, ◌∙◌}
+use Rattle.std.proofs.lemmas.Result.{err_from_is_err_and}
+use Rattle.std.proofs.lemmas.List.{map_push}
+use Rattle.xk_tree.specs.Tree.{statement}
+use Rattle.xk_exprs.specs.Marks.{marks}
+use Rattle.xk_syntax.specs.Readers.{ahead_at, stmt_at}
+use Rattle.xk_syntax.proofs.ListLoopLemmas.{more_read, shorter}
+use Rattle.xk_syntax.proofs.StatementLemmas.{stmt_shortens, stmts_refused, stmts_unended, stmts_read}
+use Rattle.xk_syntax.proofs.statements.+stmts.Goals as goal
+
+pub read_stmts-returns-in_err-stmt : goal.read_stmts-returns-in_err-stmt
+read_stmts-returns-in_err-stmt t c =
+    let p = err_from_is_err_and c.from_residual.result c.from_residual.ensures.1 in
+    rw (p.1, p.2) (stmts_refused c.in_err-stmt.field-0.0 (stmt_at c.args.levels c.args.hidden.now) (map statement c.loop-here.stmts.items) (marks c.loop-here.rest.now)
+    (marks c.in-Some.here.now) (marks c.args.tokens.now) c.loop-here.invariant c.in-Some.ensures c.in_err-stmt.ensures)
+
+pub read_stmts-loop-here-smaller : goal.read_stmts-loop-here-smaller
+read_stmts-loop-here-smaller t c =
+    shorter ahead_at (stmt_at c.args.levels c.args.hidden.now) (stmt_shortens c.args.levels c.args.hidden.now) c.loop-here.rest.now c.in-Some.here.now c.in_ok-stmt.left.now
+    (statement c.in_ok-stmt.stmt) c.in-Some.ensures c.in_ok-stmt.ensures
+
+pub read_stmts-loop-here-preserved : goal.read_stmts-loop-here-preserved
+read_stmts-loop-here-preserved t c =
+    let items = ap (map statement) c.in_ok-push.ensures.items ∙ map_push statement c.loop-here.stmts.items c.in_ok-stmt.stmt in
+    more_read ahead_at (stmt_at c.args.levels c.args.hidden.now) (stmt_shortens c.args.levels c.args.hidden.now) (map statement c.loop-here.stmts.items) (marks c.loop-here.rest.now) (marks c.in-Some.here.now)
+    (statement c.in_ok-stmt.stmt, marks c.in_ok-stmt.left.now) (map statement c.push.new.self.items) _ c.in-Some.ensures c.in_ok-stmt.ensures items c.loop-here.invariant
+
+pub read_stmts-returns-in_err-after : goal.read_stmts-returns-in_err-after
+read_stmts-returns-in_err-after t c =
+    let p = err_from_is_err_and c.from_residual-in_err-after.result c.from_residual-in_err-after.ensures.1 in
+    rw (p.1, p.2) (stmts_unended c.in_err-after.field-0.0 (stmt_at c.args.levels c.args.hidden.now) (map statement c.loop-here.stmts.items) (marks c.loop-here.rest.now)
+    (marks c.args.tokens.now) c.loop-here.invariant c.in_default.ensures c.in_err-after.ensures)
+
+pub read_stmts-returns : goal.read_stmts-returns
+read_stmts-returns t c =
+    stmts_read (stmt_at c.args.levels c.args.hidden.now) (map statement c.loop-here.stmts.items) (marks c.loop-here.rest.now) (marks c.args.tokens.now)
+    (marks c.in_ok-after.after.now) c.loop-here.invariant c.in_default.ensures c.in_ok-after.ensures

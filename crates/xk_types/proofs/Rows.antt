@@ -1,9 +1,0 @@
--- Small programs of which the definitions give the stated answers by evaluation alone.
-pub mod Parts
-pub mod OneUnit
-pub mod Activities
-pub mod Kinds
-pub mod Loops
-pub mod Finishes
-pub mod Shared
-pub mod Methods

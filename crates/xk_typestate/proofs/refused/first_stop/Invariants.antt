@@ -1,6 +1,0 @@
--- nothing before this instruction is refused
-use Rattle.xk_typestate.proofs.LeastStop.{IsUnrefusedBefore}
-use Rattle.xk_typestate.proofs.refused.first_stop.Given as goal
-
-abbrev pub invariant-loop-at : goal.invariant-loop-at
-invariant-loop-at l = IsUnrefusedBefore l.m l.u l.at

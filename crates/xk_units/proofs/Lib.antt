@@ -1,4 +1,0 @@
-pub mod Collecting
-pub mod Listed
-pub mod Graph
-mod Rows

@@ -1,2 +1,0 @@
-mod Counts
-mod Numerals

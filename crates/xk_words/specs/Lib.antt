@@ -1,4 +1,0 @@
-pub mod Counts
-pub mod Numbers
-pub mod Line
-pub mod Status

@@ -1,0 +1,57 @@
+-- The search for one who can take a step and isn't claimed.
+use Rattle.std.proofs.Common.{◌≡◌, ◌∙◌, ℕ, zero, suc, ◌-◌, ◌<◌, ◌≤◌, Bool, true, List, [], ◌∷◌, length, get_or, All, Option, Some, None, slice_get, ◌⊎◌, inl, inr, sym, ap, arith}
+use Rattle.std.proofs.lemmas.Bool.{cases_eq}
+use Rattle.std.proofs.lemmas.Option.{same_Some, slice_get-get_or, slice_get_within}
+use Rattle.std.proofs.lemmas.List.Elements.{All-from_get_or}
+use Rattle.xk_collections.specs.NumberSets.{IsRising, place_above}
+use Rattle.xk_collections.proofs.MemberListLemmas.{place_behind}
+use Rattle.xk_workers.specs.Claims.{is_claimed}
+
+-- the next to look at stands at a place of the list, and all before it are claimed
+pub record IsSeeking (claims : List Bool) (list : List ℕ) (next : Option ℕ) : Type 0 where
+  pub place : ℕ
+  pub next_is : next ≡ slice_get list place
+  pub behind : (i x : ℕ) → i < place → slice_get list i ≡ Some x → is_claimed claims x ≡ true
+
+pub seeks_on : (claims : List Bool) (list : List ℕ) (k : ℕ) (next : Option ℕ) → IsRising list → IsSeeking claims list (Some k) → is_claimed claims k ≡ true
+    → next ≡ slice_get list (place_above k list) → IsSeeking claims list next
+seeks_on claims list k next up h claimed e = record {
+  place = suc h.place;
+  next_is = e ∙ ap (slice_get list) (place_behind list h.place k up (sym h.next_is));
+  behind = λ i x below at. here_or_before i x (cases_eq i h.place) below at;
+}
+  where
+    here_or_before : (i x : ℕ) → (i ≡ h.place) ⊎ (i ≡ h.place → ⊥) → i < suc h.place → slice_get list i ≡ Some x → is_claimed claims x ≡ true
+    here_or_before i x (inl s) below at = ap (is_claimed claims) (same_Some x k (sym at ∙ ap (slice_get list) s ∙ sym h.next_is)) ∙ claimed
+    here_or_before i x (inr ne) below at = h.behind i x (omega arith) at
+
+past : (xs : List ℕ) (i : ℕ) → slice_get xs i ≡ None → length xs ≤ i
+past [] i e = omega arith
+past (x ∷ xs) zero e = cc
+past (x ∷ xs) (suc i) e = let h : length xs ≤ i = past xs i e in omega arith
+
+-- where there is nobody more to look at, all are claimed
+pub seeks_no_more : (claims : List Bool) (list : List ℕ) → IsSeeking claims list None → All (λ a. is_claimed claims a ≡ true) list
+seeks_no_more claims list h =
+    let end : length list ≤ h.place = past list h.place (sym h.next_is) in
+    All-from_get_or (λ a. is_claimed claims a ≡ true) list 0
+    (λ i inside. h.behind i (get_or list i 0) (omega arith) (slice_get-get_or list i 0 inside))
+
+-- how many are still to be looked at
+abbrev pub left_of : Option ℕ → List ℕ → ℕ
+left_of None list = 0
+left_of (Some k) list = suc (length list) - place_above k list
+
+pub less_left : (claims : List Bool) (list : List ℕ) (k : ℕ) (next : Option ℕ) → IsRising list → IsSeeking claims list (Some k)
+    → next ≡ slice_get list (place_above k list) → left_of next list < left_of (Some k) list
+less_left claims list k next up h e = of next e
+  where
+    inside : h.place < length list
+    inside = slice_get_within list h.place k (sym h.next_is)
+
+    here : place_above k list ≡ suc h.place
+    here = place_behind list h.place k up (sym h.next_is)
+
+    of : (o : Option ℕ) → o ≡ slice_get list (place_above k list) → left_of o list < left_of (Some k) list
+    of None f = omega (arith, inside, here)
+    of (Some x) f = omega (arith, inside, here, place_behind list (place_above k list) x up (sym f))
