@@ -22,9 +22,9 @@ use std::process::ExitCode;
 use std::sync::Wait;
 use std::thread::Threads;
 use std::{env, fs, io};
+use xk_cli::{Command, Job, WordsFault, read_job, status};
 use xk_serve::{Fault, report, serve, tell, tell_words};
 use xk_types::{Counted, Sink, Source};
-use xk_cli::{Command, Job, WordsFault, read_job, status};
 
 /// What a job may want of the runtime: memory, files, standard input, and threads that wait for one another.
 trait Runtime: AllocGlobal + Files + Input + Threads + Wait + Sync {}

@@ -13,12 +13,12 @@ ghost use Rattle.xk_activity.specs.Interpreter.{Answers};
 ghost use Rattle.xk_activity.specs.FrameStack.{CanCall, Does, values_at, placed, with_slot};
 ghost use Rattle.xk_activity.specs.Slots.{values_of};
 
-use crate::equality::are_same_waiting;
 use crate::caller::Caller;
-use crate::stack::{Stack, copy_callers, copy_words, empty, fill, hand, put};
+use crate::equality::are_same_waiting;
 use crate::interpreter::{is_flat, one, run_flat};
 use crate::marks::Marks;
 use crate::slots::{are_same_slots, part, set, value};
+use crate::stack::{Stack, copy_callers, copy_words, empty, fill, hand, put};
 use std::alloc::{AllocError, Global};
 use std::marker::Model;
 use xk_bounds::Verified;

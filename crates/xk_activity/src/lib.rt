@@ -3,14 +3,14 @@
 
 mod activities;
 mod activity;
-mod equality;
 mod caller;
-mod stack;
-mod interpreter;
+mod equality;
 mod frames;
+mod interpreter;
 pub mod laws;
 mod marks;
 mod slots;
+mod stack;
 mod ticket;
 
 pub use activities::Activities;

@@ -9,8 +9,8 @@ ghost use Rattle.xk_names.specs.Faults.{fault};
 ghost use Rattle.xk_callgraph.specs.Recursion.{ComesBack, HasRecursion};
 ghost use Rattle.xk_callgraph.specs.Callees.{all_callees, graph, main_among, main_in};
 
-use crate::numbering::{CallPlace, numbers_by_calls};
 use crate::callees::{called_numbers, callees, numbers_by_name};
+use crate::numbering::{CallPlace, numbers_by_calls};
 use std::alloc::{AllocError, Global};
 use xk_tree::{FrontError, FrontFault, FrontRule, Name, Tree};
 

@@ -17,15 +17,15 @@ ghost use Rattle.xk_semantics.specs.Compilation.{AreUnits, IsCompiled, IsSetting
 ghost use Rattle.xk_codegen.specs.Faults.{IsFaultOf, IsFirstLarge, IsTableFault, offset};
 ghost use Rattle.xk_codegen.specs.ShapeRules.{KeepsShape};
 
-use crate::unit_order::units_in_order;
 use crate::parts::Part;
 use crate::setting::settle;
+use crate::unit_order::units_in_order;
 use std::alloc::{AllocError, Global};
+use xk_callgraph::check_recursion;
 use xk_emit::{CodeError, Setting, body_unit, method_unit};
 use xk_names::check_names;
 use xk_tree::{FrontError, FrontFault, FrontRule, Method, Shared, Tree};
 use xk_types::{MAX_SHARED, MAX_UNITS, Module, Unit, UnitKind};
-use xk_callgraph::check_recursion;
 
 const MAIN: &[u8] = b"main";
 

@@ -3,9 +3,9 @@
 
 mod compiler;
 pub mod laws;
-mod unit_order;
-mod parts;
 mod part_graph;
+mod parts;
 mod setting;
+mod unit_order;
 
 pub use compiler::compile;

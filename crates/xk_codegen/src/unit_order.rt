@@ -11,8 +11,8 @@ ghost use Rattle.xk_codegen.specs.Faults.{IsFalling};
 ghost use Rattle.xk_codegen.specs.PartPlaces.{ArePlaces};
 ghost use Rattle.xk_semantics.specs.Compilation.{AreUnits};
 
-use crate::parts::{Part, add_part, parts};
 use crate::part_graph::Places;
+use crate::parts::{Part, add_part, parts};
 use std::alloc::{AllocError, Global};
 use xk_callgraph::order_from;
 use xk_tree::Tree;

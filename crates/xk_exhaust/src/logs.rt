@@ -6,9 +6,9 @@ use crate::modules::{Wrong, accepted, fits, holds};
 use std::alloc::Global;
 use std::io;
 use xk_bounds::Verified;
-use xk_scheduler::Ended;
 use xk_log::{Log, LogFault, read_log};
 use xk_replay::{ReplayFault, chart, replay, write_log};
+use xk_scheduler::Ended;
 use xk_types::{Counted, Tape};
 
 /// The log that a text is, at the second try where memory was refused.

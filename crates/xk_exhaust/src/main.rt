@@ -4,19 +4,19 @@
 //! they are handed in change nothing. Run it with growths refused, one at a time: `tests/answers/refused_growths.py` does.
 #![tactic(auto)]
 
-mod partial_runs;
-mod shared_run;
-mod logs;
 mod fixtures;
-mod runs;
-mod sources;
+mod logs;
 mod modules;
+mod partial_runs;
+mod runs;
+mod shared_run;
+mod sources;
 
+use modules::Wrong;
 use std::alloc::Global;
 use std::process::ExitCode;
 use std::sync::Wait;
 use std::thread::Threads;
-use modules::Wrong;
 
 fn every_call<R: Threads + Wait + Sync>(rt: &R, alloc: Global) -> Result<(), Wrong> {
     for text in fixtures::accepted() {

@@ -2,8 +2,8 @@
 //! and ends when it is made again.
 
 use crate::logs::is_kept;
-use crate::runs::{opened, stepped};
 use crate::modules::{Wrong, holds};
+use crate::runs::{opened, stepped};
 use std::alloc::Global;
 use std::sync::Wait;
 use std::thread::Threads;

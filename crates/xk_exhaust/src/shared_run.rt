@@ -1,8 +1,8 @@
 //! A run that workers share, taken to its end by one hand: local steps are computed from a copy and handed in, each call tried again where memory
 //! was refused.
 
-use crate::runs::opened;
 use crate::modules::{Wrong, holds};
+use crate::runs::opened;
 use std::alloc::Global;
 use xk_activity::{Ticket, run_local};
 use xk_bounds::Verified;

@@ -7,9 +7,11 @@ ghost use Rattle.xk_exprs.specs.ReaderCombinators.{Gives};
 ghost use Rattle.xk_exprs.specs.ExprReaders.{value_of, literal, number_from, number_at, factor_at, terms, sums, whole_at, whole_term_at};
 
 use crate::fault::{SyntaxError, SyntaxFault};
-use crate::token_readers::{close, depth_fault, digits, literal_fault, minus, next, operator, unexpected};
+use crate::token_readers::{
+    close, depth_fault, digits, literal_fault, minus, next, operator, unexpected,
+};
 use std::alloc::Global;
-use xk_lexer::{TokenKind, Sign, Token};
+use xk_lexer::{Sign, Token, TokenKind};
 use xk_tree::{Expr, Name, Number, Operator};
 
 /// How many operators an expression may have.

@@ -8,7 +8,7 @@ ghost use Rattle.xk_exprs.specs.ReaderCombinators.{Gives, head_at, unexpected_ru
 ghost use Rattle.xk_exprs.specs.ExprReaders.{close_at, operator_at, digits_at, minus_at};
 
 use crate::fault::{SyntaxError, SyntaxFault, SyntaxRule};
-use xk_lexer::{TokenKind, Sign, Token};
+use xk_lexer::{Sign, Token, TokenKind};
 use xk_tree::Operator;
 
 /// The next token, and those behind it.

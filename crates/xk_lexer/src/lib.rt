@@ -6,4 +6,4 @@ mod scan;
 mod token;
 
 pub use scan::tokens;
-pub use token::{Keyword, TokenKind, Sign, Token};
+pub use token::{Keyword, Sign, Token, TokenKind};

@@ -8,7 +8,7 @@ ghost use Rattle.xk_lexer.specs.Pieces.{IsReadAs, is_blank, is_letter, is_digit,
 ghost use Rattle.xk_lexer.specs.Lexing.{closing, comment_at, front_at, lexed, piece_at, sign_at, sign_of_one, sign_of_two, value_of};
 ghost use Rattle.xk_lexer.specs.Views.{piece_value};
 
-use crate::token::{Keyword, TokenKind, Sign, Token};
+use crate::token::{Keyword, Sign, Token, TokenKind};
 use std::alloc::{AllocError, Global};
 
 fn is_blank(b: u8) -> bool

@@ -3,8 +3,8 @@
 
 mod fault;
 pub mod laws;
-mod log;
 mod lines;
+mod log;
 mod page;
 mod progress;
 mod reading;

@@ -6,8 +6,8 @@ ghost use Rattle.xk_log.specs.Verdicts.{Start, before, line_at, IsOneLine};
 ghost use Rattle.xk_log.specs.Reading.{place, Finishes, HasSurplus, IsReady, Refuses, StopsAt};
 
 use crate::fault::LogFault;
-use crate::log::Log;
 use crate::lines::{entry_of, is_end, until};
+use crate::log::Log;
 use std::alloc::Global;
 use xk_types::Entry;
 

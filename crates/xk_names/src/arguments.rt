@@ -9,12 +9,12 @@ ghost use Rattle.xk_names.specs.Uses.{argument_clocks, argument_misfits, argumen
 ghost use Rattle.xk_names.specs.FaultList.{least, put_text, put_texts, repeats, use_faults, when};
 ghost use Rattle.xk_names.specs.StatementParts.{arguments, call_all};
 
-use crate::exprs::{check_numbers, check_use, start_of};
 use crate::binding::Want;
+use crate::exprs::{check_numbers, check_use, start_of};
+use crate::least_fault::{note, note_if};
 use crate::methods::Methods;
 use crate::scope::Scope;
 use crate::table::Texts;
-use crate::least_fault::{note, note_if};
 use std::alloc::{AllocError, Global};
 use xk_tree::{Expr, FrontFault, FrontRule, Name, Param};
 use xk_types::ParamKind;

@@ -7,8 +7,8 @@ ghost use Rattle.xk_names.specs.Uses.{numbers, start_of, use_as, values};
 ghost use Rattle.xk_names.specs.FaultList.{least, use_faults};
 
 use crate::binding::Want;
-use crate::scope::Scope;
 use crate::least_fault::{note, note_if};
+use crate::scope::Scope;
 use xk_tree::{Expr, FrontFault, FrontRule, Name};
 
 // A name that is used.

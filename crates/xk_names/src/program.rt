@@ -10,12 +10,12 @@ ghost use Rattle.xk_names.specs.WellScoped.{IsScoped};
 ghost use Rattle.xk_names.specs.Uses.{signatures};
 ghost use Rattle.xk_names.specs.FaultList.{again, declared_again, least, method_faults, methods_again, name_faults, put_methods, with_declared};
 
-use crate::statement_walk::check_block;
 use crate::binding::NameKind;
+use crate::least_fault::note_if;
 use crate::methods::Methods;
 use crate::scope::Scope;
 use crate::statement_rules::check_new;
-use crate::least_fault::note_if;
+use crate::statement_walk::check_block;
 use std::alloc::{AllocError, Global};
 use xk_tree::{FrontError, FrontFault, FrontRule, Method, Name, Param, Shared, Tree};
 use xk_types::ParamKind;

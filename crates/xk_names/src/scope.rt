@@ -5,7 +5,7 @@ ghost use Rattle.xk_tree.specs.Tree.{Statements, word};
 ghost use Rattle.xk_names.specs.Scope.{Declaration, Scope as Seen, declared, find, fits, is_given, sees};
 ghost use Rattle.xk_names.specs.FaultList.{after, with_clocks, with_declared};
 
-use crate::binding::{NameKind, Known, Want};
+use crate::binding::{Known, NameKind, Want};
 use crate::table::{Table, Texts};
 use std::alloc::{AllocError, Global};
 use std::collections::VecDeque;

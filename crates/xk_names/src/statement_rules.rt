@@ -10,12 +10,12 @@ ghost use Rattle.xk_names.specs.StatementParts.{atomic_faults, declaration_fault
 ghost use Rattle.xk_names.specs.FaultList.{least, list_faults, own, use_faults, when};
 
 use crate::arguments::{check_call, check_list, check_listed};
+use crate::binding::{Known, NameKind, Want};
 use crate::exprs::{check_numbers, check_use, check_values};
-use crate::binding::{NameKind, Known, Want};
+use crate::least_fault::{note, note_if};
 use crate::methods::Methods;
 use crate::scope::Scope;
 use crate::table::Texts;
-use crate::least_fault::{note, note_if};
 use std::alloc::{AllocError, Global};
 use xk_tree::{
     Binding, Bound, ClockList, Expr, FrontFault, FrontRule, Name, Right, Stmt, TypeName,

@@ -5,9 +5,9 @@ ghost use Rattle.std.specs.List.{find};
 ghost use Rattle.xk_registrations.specs.View.{AreDistinct, reg_on};
 ghost use Rattle.xk_registrations.specs.RegistrationChanges.{concerns, calls, call_resume, call_drop, call_register, regs_open, regs_on, regs_resumed, regs_passed, reg_resumed, phase_at, is_signalled_in, OwesResume, OwesDrop, OwesRegister, AreAllowed, AreAllowedInTurn};
 
+use crate::affected_clocks::Which;
 use crate::clocks::Clocks;
 use crate::registration::Registration;
-use crate::affected_clocks::Which;
 use xk_types::{ClockId, Standing};
 
 /// Resumes one registration in the step of this number, if it is open and on a clock that the step concerns.

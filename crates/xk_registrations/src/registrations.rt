@@ -5,10 +5,10 @@ ghost use Rattle.xk_types.specs.Step.{is_given};
 ghost use Rattle.xk_registrations.specs.View.{reg_on, AreDistinct};
 ghost use Rattle.xk_registrations.specs.RegistrationChanges.{concerns, calls, call_resume, call_drop, call_register, regs_open, regs_on, regs_resumed, regs_passed, phase_at, others, with_taken, made_clocks, IsGiven, OwesResume, OwesDrop, OwesRegister, AreAllowed};
 
+use crate::affected_clocks::Which;
 use crate::clocks::Clocks;
 use crate::each_registration::{drop_each, find_on, pass_each, register_each, resume_each};
 use crate::registration::Registration;
-use crate::affected_clocks::Which;
 use smallvec::SmallVec;
 use std::alloc::{AllocError, Global};
 use std::marker::Model;

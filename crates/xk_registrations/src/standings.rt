@@ -8,10 +8,10 @@ ghost use Rattle.xk_registrations.specs.View.{held};
 ghost use Rattle.xk_registrations.specs.RegistrationChanges.{IsGiven};
 ghost use Rattle.xk_registrations.specs.Standings.{told_of, rooms_of, change_on, is_held_by, advanced_in, AreHandedOn, HasRoomToMake};
 
+use crate::affected_clocks::Which;
 use crate::clocks::Clocks;
 use crate::each_registration::{find_on, find_signalled};
 use crate::registrations::Registrations;
-use crate::affected_clocks::Which;
 use std::alloc::{AllocError, Global};
 use std::marker::Model;
 use xk_types::{ClockId, Standing, Value};

@@ -10,8 +10,8 @@ use crate::fault::ReplayFault;
 use std::alloc::{AllocError, Global};
 use xk_bounds::Verified;
 use xk_core::Core;
-use xk_scheduler::{Ended, keep_printed};
 use xk_log::Log;
+use xk_scheduler::{Ended, keep_printed};
 use xk_types::{Act, Entry};
 
 /// Where a log leads, and what it prints on the way.

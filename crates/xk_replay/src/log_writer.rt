@@ -7,8 +7,8 @@ ghost use Rattle.xk_types.specs.Device.{Rose};
 ghost use Rattle.xk_log.specs.LogText.{log_text, IsLog};
 ghost use Rattle.xk_log.specs.Writing.{AppendsBeginning};
 
-use xk_scheduler::Ended;
 use xk_log::{Device, write_entries};
+use xk_scheduler::Ended;
 use xk_types::Sink;
 
 /// Writes the text of a run's log. Where a write fails, a beginning of it was written. It takes no memory.

@@ -20,8 +20,8 @@ use crate::chooser::Chooser;
 use std::alloc::{AllocError, Global};
 use std::marker::Model;
 use xk_activity::Ticket;
-use xk_core::Core;
 use xk_collections::{NumberSet, WaitingLists};
+use xk_core::Core;
 use xk_types::{Act, Event};
 
 /// Whose step it was, and what it was seen to do.

@@ -3,12 +3,12 @@
 
 mod chooser;
 mod driver;
-mod whole_run;
 mod logged_run;
 mod schedule;
+mod whole_run;
 
 pub use chooser::{Chooser, First, Last, Round};
 pub use driver::{Driver, Turn};
-pub use whole_run::{drive, unstarted};
 pub use logged_run::{Ended, Logged, Partial, keep_printed};
 pub use schedule::{Halt, Ran, run_schedule};
+pub use whole_run::{drive, unstarted};

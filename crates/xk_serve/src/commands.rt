@@ -10,8 +10,8 @@ ghost use Rattle.xk_serve.specs.Lines.{status_of};
 ghost use Rattle.xk_serve.specs.Devices.{AgainstLog, AgainstModule, AgainstRun, read_of};
 ghost use Rattle.xk_serve.specs.declared.fault.Fault.TheVariants.{OutOfMemory};
 
-use crate::job_result::Done;
 use crate::fault::Fault;
+use crate::job_result::Done;
 use crate::logged_run::{run_by_workers, run_with_log, steps_of};
 use crate::ordered_run::run_in_order;
 use crate::program_loader::module_in;
@@ -19,12 +19,12 @@ use std::alloc::{AllocError, Global};
 use std::sync::Wait;
 use std::thread::Threads;
 use xk_bounds::{Verified, verify};
-use xk_scheduler::Ended;
+use xk_cli::{Command, Drive, Job, Order, Workers};
 use xk_log::read_log;
 use xk_module::write_module;
 use xk_replay::{chart, replay};
+use xk_scheduler::Ended;
 use xk_types::{Module, Source};
-use xk_cli::{Command, Drive, Job, Order, Workers};
 
 /// What the job on a file of these bytes comes to, or what stands against it: a fault of the text (F1 to F15, M1 to M3), of its module (V1 to
 /// V17), of main's arguments where it is run (A1), or of the log where one is read, want of memory, or a read of the log that failed.

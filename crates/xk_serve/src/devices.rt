@@ -10,17 +10,17 @@ ghost use Rattle.xk_serve.specs.Bytes.{FailsRead, IsReadToLimit, kept};
 ghost use Rattle.xk_serve.specs.Lines.{device_line, done_ending, done_log, memory_line, status_of};
 ghost use Rattle.xk_serve.specs.Devices.{Answered, ErrBegins, IfKnown, IsBegun, IsWritten, OutBegins, Reports, StandsAgainst, Tells, TellsWords};
 
-use crate::commands::answer;
 use crate::bounded_read::read_front;
-use crate::job_result::Done;
+use crate::commands::answer;
 use crate::fault::{DEVICE_LINE, EXCLUDED_LINE, Fault, MEMORY_LINE};
+use crate::job_result::Done;
 use crate::program_loader::{LONGEST_MODULE, LONGEST_SOURCE};
 use std::alloc::Global;
 use std::sync::Wait;
 use std::thread::Threads;
+use xk_cli::{Form, Job, WordsFault, status};
 use xk_log::{Device, write_all, write_entries};
 use xk_types::{Sink, Source};
-use xk_cli::{Form, Job, WordsFault, status};
 
 /// Reads the program, does the job, and writes what comes of it: its result to `out` and then the log of a run that is to have one
 /// to `log_out`, or one line to `err`. The answer is the exit status: 0 where the job is done, 1 where the program is refused, or is to be run and its

@@ -7,12 +7,12 @@ ghost use Rattle.xk_serve.specs.Lines.{arguments_line, bound_text, fault_line, f
 use std::alloc::{AllocError, Global};
 use thiserror::Error;
 use xk_bounds::{BoundFault, KindFault, Refusal};
+use xk_cli::status;
 use xk_log::{Log, LogFault};
 use xk_module::ModuleFault;
 use xk_replay::ReplayFault;
 use xk_tree::{FrontError, FrontFault};
 use xk_types::{Failed, Module, Rule, Visit};
-use xk_cli::status;
 
 /// What stands against a job.
 #[derive(Debug, Drop, Error)]

@@ -9,8 +9,8 @@ ghost use Rattle.xk_log.specs.Writing.{AppendsBeginning};
 ghost use Rattle.xk_serve.specs.Lines.{accepted_line, done_ending, done_front, done_log, done_text, ended_line};
 
 use std::alloc::{AllocError, Global};
-use xk_output::write_numbers;
 use xk_log::{Device, write_all};
+use xk_output::write_numbers;
 use xk_types::{Entry, Sink};
 
 /// What a job comes to where nothing stands against it.

@@ -9,10 +9,10 @@ use std::alloc::{AllocError, Global};
 use std::sync::Wait;
 use std::thread::Threads;
 use xk_bounds::Verified;
+use xk_cli::{Order, Workers};
 use xk_core::Core;
 use xk_scheduler::{Chooser, Ended, First, Last, Partial, Round, drive};
 use xk_types::Entry;
-use xk_cli::{Order, Workers};
 use xk_workers::{Direct, run_workers};
 
 /// A run that came to its end.

@@ -8,9 +8,9 @@ ghost use Rattle.xk_serve.specs.OrderedRun.{GoesOn, IsOrderedRun, IsRunBy};
 use crate::logged_run::steps_of;
 use std::alloc::{AllocError, Global};
 use xk_bounds::Verified;
+use xk_cli::Order;
 use xk_core::Core;
 use xk_scheduler::{Chooser, Driver, First, Last, Round, keep_printed};
-use xk_cli::Order;
 
 /// Runs the module to its end, with these arguments, in this order, and gives the numbers that it prints and how many steps it takes.
 pub(crate) fn run_in_order(

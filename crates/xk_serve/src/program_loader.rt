@@ -7,12 +7,12 @@ ghost use Rattle.xk_cli.specs.declared.job.Form.TheVariants as form;
 
 use crate::fault::Fault;
 use std::alloc::Global;
+use xk_cli::{Form, Job};
 use xk_codegen::compile;
 use xk_module::{ModuleFault, read_module};
 use xk_syntax::parse;
 use xk_tree::{FrontError, FrontFault, FrontRule};
 use xk_types::Module;
-use xk_cli::{Form, Job};
 
 /// The most bytes that a source text has.
 pub(crate) const LONGEST_SOURCE: usize = 1_048_576;

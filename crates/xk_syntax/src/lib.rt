@@ -1,14 +1,14 @@
 //! Source texts to trees.
 #![tactic(auto)]
 
-mod loop_bounds;
-mod statement_heads;
 mod hidden_clocks;
 pub mod laws;
-mod lists;
-mod token_readers;
-mod program;
 mod leaf_statements;
+mod lists;
+mod loop_bounds;
+mod program;
+mod statement_heads;
 mod statements;
+mod token_readers;
 
 pub use program::parse;

@@ -6,8 +6,8 @@ ghost use Rattle.xk_exprs.specs.ReaderCombinators.{Gives};
 ghost use Rattle.xk_syntax.specs.Readers.{least_at, bound_at};
 
 use crate::hidden_clocks::hidden_name;
-use crate::token_readers::{need_sign, this_word};
 use crate::leaf_statements::verb;
+use crate::token_readers::{need_sign, this_word};
 use std::alloc::Global;
 use xk_exprs::{SyntaxError, read_expr, read_number};
 use xk_lexer::{Sign, Token};

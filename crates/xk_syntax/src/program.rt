@@ -14,8 +14,8 @@ ghost use Rattle.xk_syntax.specs.Faults.{IsRefused, IsTextRule};
 ghost use Rattle.xk_syntax.specs.Readers.{keyword_at, more_at, method_at, shared_at, program_at};
 
 use crate::lists::params;
-use crate::token_readers::{after_keyword, name, need_open, need_sign};
 use crate::statements::read_stmts;
+use crate::token_readers::{after_keyword, name, need_open, need_sign};
 use std::alloc::Global;
 use xk_exprs::token_readers::unexpected;
 use xk_exprs::{SyntaxError, read_number};

@@ -9,16 +9,16 @@ ghost use Rattle.xk_syntax.specs.Readers.{whole, condition_at, range_at, list_op
 ghost use Rattle.xk_syntax.specs.Spelling.{in_force};
 ghost use Rattle.xk_syntax.specs.Views.{head_value, clocks_value};
 
-use crate::loop_bounds::bound;
+use crate::leaf_statements::{advance_all, atomic, declaration, named, print};
 use crate::lists::names;
+use crate::loop_bounds::bound;
 use crate::token_readers::{
     after_keyword, comparison, name, need_keyword, need_open, need_sign, open_paren,
 };
-use crate::leaf_statements::{advance_all, atomic, declaration, named, print};
 use std::alloc::Global;
 use xk_exprs::token_readers::{next, unexpected};
 use xk_exprs::{SyntaxError, read_expr, read_number};
-use xk_lexer::{Keyword, TokenKind, Sign, Token};
+use xk_lexer::{Keyword, Sign, Token, TokenKind};
 use xk_tree::{Binding, Bound, ClockList, Expr, Name, Number, Stmt, Written};
 use xk_types::Comparison;
 

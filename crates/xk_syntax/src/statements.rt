@@ -8,13 +8,13 @@ ghost use Rattle.xk_syntax.specs.Readers.{Brace, Condition, Range, Start, Wait, 
 ghost use Rattle.xk_syntax.specs.Spelling.{inside};
 ghost use Rattle.xk_syntax.specs.Views.{clocks_value, head_value};
 
-use crate::statement_heads::{Head, stmt_head};
 use crate::hidden_clocks::{clocked_finish, hidden_name};
+use crate::statement_heads::{Head, stmt_head};
 use crate::token_readers::{after_keyword, ahead, need_sign};
 use std::alloc::Global;
 use xk_exprs::token_readers::{next, unexpected};
 use xk_exprs::{SyntaxError, SyntaxFault, SyntaxRule};
-use xk_lexer::{Keyword, TokenKind, Sign, Token};
+use xk_lexer::{Keyword, Sign, Token, TokenKind};
 use xk_tree::{Bound, ClockList, Expr, Name, Number, Stmt, Written};
 use xk_types::Comparison;
 

@@ -9,7 +9,7 @@ ghost use Rattle.xk_syntax.specs.Readers.{sign_at, keyword_at, open_at, plus_at,
 
 use xk_exprs::SyntaxError;
 use xk_exprs::token_readers::{next, unexpected};
-use xk_lexer::{Keyword, TokenKind, Sign, Token};
+use xk_lexer::{Keyword, Sign, Token, TokenKind};
 use xk_tree::{Name, TypeName};
 use xk_types::{Comparison, ParamKind};
 

@@ -4,6 +4,7 @@ use std::alloc::Global;
 use std::fmt::Display;
 use std::test::Fail;
 use xk_bounds::{BoundFault, KindFault, Refusal, ShapeFault};
+use xk_cli::WordsFault;
 use xk_log::{Device, LogFault};
 use xk_module::ModuleFault;
 use xk_replay::ReplayFault;
@@ -12,7 +13,6 @@ use xk_shape::ShapeError;
 use xk_tree::{FrontError, FrontFault, FrontRule};
 use xk_types::{Kind, Rule};
 use xk_typestate::KindError;
-use xk_cli::WordsFault;
 use xk_workers::CommitFault;
 
 const SHAPE: ShapeFault = ShapeFault {

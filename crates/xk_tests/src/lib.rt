@@ -3,17 +3,17 @@
 #![tactic(auto)]
 
 #[cfg(test)]
+mod custom_choosers;
+#[cfg(test)]
 mod devices;
 #[cfg(test)]
-mod custom_choosers;
+mod fault_messages;
 #[cfg(test)]
 mod programs;
 #[cfg(test)]
 mod runs;
 #[cfg(test)]
 mod serve_failures;
-#[cfg(test)]
-mod fault_messages;
 #[cfg(test)]
 mod verifier;
 #[cfg(test)]

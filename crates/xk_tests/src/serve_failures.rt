@@ -6,10 +6,10 @@ use std::io;
 use std::io::{ErrorKind, Read, Write};
 use std::sync::Wait;
 use std::thread::Threads;
+use xk_cli::{Command, Form, Job};
 use xk_log::{LogFault, read_log};
 use xk_serve::serve;
 use xk_types::Counted;
-use xk_cli::{Command, Form, Job};
 
 const RUN: Command<'static> = Command::Run {
     drive: None,

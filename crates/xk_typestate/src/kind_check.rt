@@ -11,9 +11,9 @@ ghost use Rattle.xk_typestate.specs.LeastRefusal.{IsNeverRefused, IsNeverRefused
 ghost use Rattle.xk_typestate.specs.Search.{IsClosed};
 ghost use Rattle.xk_typestate.specs.KindTable.{IsKindTable, IsTyped};
 
+use crate::fault::{KindError, KindFault};
 use crate::kind_set::KindSet;
 use crate::kind_table::KindTable;
-use crate::fault::{KindError, KindFault};
 use crate::least_refusal::first_stop;
 use crate::walk::walk_to;
 use std::alloc::{AllocError, Global};

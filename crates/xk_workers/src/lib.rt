@@ -3,8 +3,8 @@
 
 mod claims;
 mod gate;
-mod run;
 mod lock_table;
+mod run;
 mod workers;
 
 pub use gate::{Direct, Gate};
