@@ -1,11 +1,11 @@
 #!/usr/bin/env python3
-"""Whether the machine in bench/plain prints what the program prints: on the modules of tests/rows, the accepted rows of tests/answers, and
-modules that nobody wrote (tests/generated.py), in each order, byte for byte.
+"""Whether the machine in bench/plain prints what the program prints: on the modules of tests/answers/rows, the accepted rows of
+tests/answers/programs, and modules that nobody wrote (tests/generated/generated.py), in each order, byte for byte.
 
     python3 bench/same.py [CASES] [SEED] [--program PATH]
 
 400 cases and seed 1 where nothing else is said. The built program is asked where PATH is given; else the second telling of the rules is
-(tests/telling.py).
+(tests/reference/telling.py).
 """
 import argparse
 import collections
@@ -17,7 +17,7 @@ import tempfile
 
 from by_hand import ORDERS, TOP, built
 
-sys.path.insert(0, str(TOP / "tests"))
+sys.path[:0] = [str(TOP / "tests/reference"), str(TOP / "tests/generated")]
 import generated
 import mutations
 import telling
@@ -27,7 +27,7 @@ MOST_STEPS, MOST_WORK = 20_000, 2_000_000
 
 def row_texts():
     """The texts of the rows of modules."""
-    for path in sorted((TOP / "tests/answers").glob("*.rows")):
+    for path in sorted((TOP / "tests/answers/programs").glob("*.rows")):
         if not path.name.startswith("sources"):
             yield from mutations.row_texts(path)
 

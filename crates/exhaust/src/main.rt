@@ -1,7 +1,7 @@
 //! Makes each public call that can want memory, over small programs, and prints one line. A call that is refused memory has to succeed when
 //! it is made again: so it asks for memory in vain only where a growth was refused. What the calls answer, and what they leave as it was, their
 //! contracts say. Of a few source texts it looks at that too: what they print, where a run was cut short, and that steps which are refused when
-//! they are handed in change nothing. Run it with growths refused, one at a time: `tests/refused_growths.py` does.
+//! they are handed in change nothing. Run it with growths refused, one at a time: `tests/answers/refused_growths.py` does.
 #![tactic(auto)]
 
 mod ends;

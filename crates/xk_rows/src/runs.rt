@@ -1,5 +1,5 @@
-//! Schedules that are carried out by `run_schedule`, what is left of a core then, and the laws. Of many more, in `tests/schedules.rows`, the
-//! program is asked.
+//! Schedules that are carried out by `run_schedule`, what is left of a core then, and the laws. Of many more, in `tests/answers/schedules.rows`,
+//! the program is asked.
 
 use crate::programs::{IN_STEP, LATE_CHILD, SUM_TO_SQUARE, accepted, opened};
 use std::alloc::Global;

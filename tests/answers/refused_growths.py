@@ -1,0 +1,337 @@
+#!/usr/bin/env python3
+"""Refuses each growth of memory in turn, the first, the second and so on, until a run ends without a refusal: in `exhaust`, which makes each
+library call again where it was refused memory, and in `x10clock` itself on small programs, modules and source texts, and on words that are no
+job, which has to answer as it does with ample memory, or with status 4, an empty standard output, nothing in the log that it was to write, and
+its line.
+
+    tests/answers/refused_growths.py [--counts]
+
+The calls are tried on all processors at once, each call's growths one after another. With `--counts` it tells how many each call has, and how
+long they took.
+"""
+
+from __future__ import annotations
+
+import argparse
+import multiprocessing
+import os
+import pathlib
+import select
+import subprocess
+import sys
+import tempfile
+import time
+from dataclasses import dataclass
+
+TOP = pathlib.Path(__file__).resolve().parents[2]
+ROWS = TOP / "tests/answers/rows"
+LOGS = TOP / "tests/answers/logs"
+PROGRAM = str(TOP / "crates/x10clock/out/x10clock")
+EXHAUST = str(TOP / "crates/exhaust/out/exhaust")
+
+MEMORY = b"x10clock: out of memory\n"
+# A word that stands for the file of the log that a run is to write.
+LOG = "the log"
+# In how many parts the growths of one call are tried beside each other, where it has thousands.
+PARTS = 8
+SECONDS = 60
+
+
+class Wrong(Exception):
+    """What was answered isn't what has to be."""
+
+
+@dataclass(frozen=True)
+class Answer:
+    """What comes of a call: its status, what it wrote, and its log, if it made one."""
+
+    status: int
+    out: bytes
+    err: bytes
+    log: bytes | None
+
+
+@dataclass(frozen=True)
+class Call:
+    """A call of a program with its words and standard input, and what it answers with ample memory."""
+
+    name: str
+    words: list[str]
+    input: bytes
+    wanted: Answer
+    first: int = 1
+    step: int = 1
+
+
+class Place:
+    """A folder for the files of one call at a time."""
+
+    def __init__(self, folder: str, preloaded: str) -> None:
+        self.folder = pathlib.Path(tempfile.mkdtemp(dir=folder))
+        self.input, self.out, self.err, self.log, self.mark = (
+            str(self.folder / name) for name in ("in", "out", "err", "log", "mark"))
+        self.environment = {**os.environ, "LD_PRELOAD": preloaded, "REFUSE_MARK": self.mark}
+        self.give(b"")
+
+    def give(self, text: bytes) -> None:
+        """What the next calls read from standard input."""
+        pathlib.Path(self.input).write_bytes(text)
+
+    def answer(self, words: list[str], refused: int) -> tuple[Answer, bool]:
+        """What comes of the call where its growth of this number is refused, 0 being none, and whether one was."""
+        for path in (self.log, self.mark):
+            if os.path.exists(path):
+                os.unlink(path)
+        self.environment["REFUSE_AT"] = str(refused)
+        words = [self.log if word == LOG else word for word in words]
+        made = os.O_WRONLY | os.O_CREAT | os.O_TRUNC
+        child = os.posix_spawn(words[0], words, self.environment, file_actions=[
+            (os.POSIX_SPAWN_OPEN, 0, self.input, os.O_RDONLY, 0),
+            (os.POSIX_SPAWN_OPEN, 1, self.out, made, 0o600),
+            (os.POSIX_SPAWN_OPEN, 2, self.err, made, 0o600)])
+        status = ended(child)
+        log = contents(self.log) if os.path.exists(self.log) else None
+        return Answer(status, contents(self.out), contents(self.err), log), os.path.exists(self.mark)
+
+
+def contents(path: str) -> bytes:
+    with open(path, "rb") as file:
+        return file.read()
+
+
+def ended(child: int) -> int:
+    """The status that the process ends with, within a minute."""
+    handle = os.pidfd_open(child)
+    try:
+        if not select.select([handle], [], [], SECONDS)[0]:
+            os.kill(child, 9)
+            os.waitpid(child, 0)
+            raise Wrong(f"no end within {SECONDS} seconds")
+        return os.waitstatus_to_exitcode(os.waitpid(child, 0)[1])
+    finally:
+        os.close(handle)
+
+
+def judge(call: Call, growth: int, told: Answer, is_refused: bool) -> None:
+    """Says where this isn't what has to be answered with this growth refused."""
+    if told == call.wanted:
+        return
+    where = f"{call.name}, growth {growth}"
+    if told.status != 4:
+        raise Wrong(f"{where}: {told}, not {call.wanted}")
+    if not is_refused:
+        raise Wrong(f"{where}: out of memory without a refused growth")
+    if told.out or told.err != MEMORY or told.log:
+        raise Wrong(f"{where}: {told} with status 4")
+
+
+def each_growth(place: Place, call: Call) -> int:
+    """How many growths of the call were refused."""
+    place.give(call.input)
+    growth = call.first
+    refused = 0
+    while True:
+        told, is_refused = place.answer(call.words, growth)
+        judge(call, growth, told, is_refused)
+        if not is_refused:
+            break
+        refused += 1
+        growth += call.step
+    if not refused:
+        raise Wrong(f"{call.name}: no growth was refused")
+    return refused
+
+
+class Calls:
+    """The calls that are to be tried, each asked once with ample memory."""
+
+    def __init__(self, place: Place) -> None:
+        self.place = place
+        self.calls: list[Call] = []
+
+    def ask(self, name: str, words: list[str], text: bytes = b"") -> Answer:
+        """Adds a call of the program, and what it answers."""
+        self.place.give(text)
+        wanted, _ = self.place.answer([PROGRAM, *words], 0)
+        self.calls.append(Call(name, [PROGRAM, *words], text, wanted))
+        return wanted
+
+    def need(self, name: str, words: list[str], text: bytes, status: int, out: bytes, err: bytes) -> Answer:
+        """The same of one that has to answer so."""
+        told = self.ask(name, words, text)
+        if (told.status, told.out, told.err) != (status, out, err):
+            raise Wrong(f"{name}: {told}")
+        return told
+
+    def begins(self, name: str, words: list[str], status: int, out: str, err: str) -> Answer:
+        """The same of one whose texts have to begin with these lines; an empty one stands for an empty text."""
+        told = self.ask(name, words)
+        firsts = [text.decode("utf-8").split("\n")[0] for text in (told.out, told.err)]
+        if (told.status, firsts) != (status, [out, err]) or any(text and not line for text, line in zip((told.out, told.err), firsts)):
+            raise Wrong(f"{name}: {told}")
+        return told
+
+    def exhaust(self) -> None:
+        """Adds `exhaust`, which answers the same whatever growth is refused."""
+        wanted = Answer(0, (TOP / "crates/exhaust/stdout").read_bytes(), b"", None)
+        for part in range(PARTS):
+            self.calls.append(Call("exhaust", [EXHAUST], b"", wanted, first=part + 1, step=PARTS))
+
+
+def given(row: pathlib.Path) -> list[str]:
+    """The words of a row: `--module` where it is a module, and `--arg` for each number that its main is given."""
+    words = ["--module"] if row.suffix == ".json" else []
+    numbers = row.with_suffix(".args")
+    return words + [f"--arg={number}" for number in numbers.read_text().split()] if numbers.exists() else words
+
+
+def each_row(calls: Calls) -> None:
+    for row in sorted([*ROWS.glob("*.json"), *ROWS.glob("*.x10")]):
+        text = row.read_bytes()
+        out, err = (row.with_suffix(end).read_bytes() for end in (".stdout", ".stderr"))
+        calls.ask(f"{row.name}, checked", ["check", *given(row)[:row.suffix == ".json"], "-"], text)
+        calls.need(row.name, ["run", *given(row), "-"], text, 1 if err else 0, out, err)
+        for order in ("first", "last", "round"):
+            printed = row.with_suffix(f".{order}.stdout")
+            if printed.exists():
+                words = ["run", *given(row), "--order", order, "-"]
+                calls.need(f"{row.name}, order {order}", words, text, 0, printed.read_bytes(), b"")
+        if row.suffix == ".x10":
+            calls.ask(f"{row.name}, compiled", ["compile", "-"], text)
+
+
+def each_log(calls: Calls, folder: str) -> None:
+    """Runs with their logs; the logs' replay and chart; and logs that are refused."""
+    for name in ("in-step.x10", "ring.json", "method-waits.x10", "shared-sum.x10", "sum-to-square.json", "as-many.x10"):
+        row = ROWS / name
+        text, words = row.read_bytes(), given(row)
+        ran = calls.ask(f"{name}, with a log", ["run", *words, "--log", LOG, "-"], text)
+        last = ran.out.splitlines()[-1].replace(b"ended steps ", b"end ")
+        if ran.status or not ran.log or ran.log.splitlines()[-1] != last:
+            raise Wrong(f"{name}, the log: {ran}")
+        kept = pathlib.Path(folder) / f"{name}.log"
+        kept.write_bytes(ran.log)
+        calls.need(f"{name}, replay", ["replay", *words, "-", str(kept)], text, 0, ran.out, b"")
+        charted = calls.ask(f"{name}, chart", ["chart", *words, "-", str(kept)], text)
+        if charted.status:
+            raise Wrong(f"{name}, chart: {charted}")
+    text = (ROWS / "in-step.x10").read_bytes()
+    for log, line in (("zero-steps", "L1 Grammar line 2"), ("no-end", "L2 Truncated"),
+                      ("waits", "L4 NotEnabled entry 3"), ("stops", "L5 NotEnded")):
+        for command in ("replay", "chart"):
+            err = f"x10clock: {line}\n".encode()
+            calls.need(f"{command}, {log}", [command, "-", str(LOGS / f"{log}.log")], text, 3, b"", err)
+
+
+def each_mismatch(calls: Calls, folder: str) -> None:
+    """Too few arguments, and too many."""
+    text = (ROWS / "as-many.x10").read_bytes()
+    few, many = (f"x10clock: A1 Arguments wants 1 has {has}\n".encode() for has in (0, 2))
+    calls.need("no argument, run", ["run", "-"], text, 1, b"", few)
+    calls.need("no argument, chart", ["chart", "-", f"{folder}/as-many.x10.log"], text, 1, b"", few)
+    calls.need("two arguments", ["run", "--arg", "1", "--arg", "1", "-"], text, 1, b"", many)
+
+
+def each_worker(calls: Calls) -> None:
+    """Runs by one worker, which takes the steps as in the order `first`; and fifty activities."""
+    for name in ("in-step.x10", "ring.json", "shared-sum.x10", "two-loops.x10", "as-many.x10"):
+        row = ROWS / name
+        text, words, out = row.read_bytes(), given(row), row.with_suffix(".stdout").read_bytes()
+        calls.need(f"{name}, by a worker", ["run", *words, "--workers", "1", "-"], text, 0, out, b"")
+        logged = ["run", *words, "--workers", "1", "--log", LOG, "-"]
+        calls.need(f"{name}, by a worker with a log", logged, text, 0, out, b"")
+    fifty = b"def main() { for (i in 1..50) async { } }\n"
+    calls.ask("fifty activities, with a log", ["run", "--log", LOG, "-"], fifty)
+    calls.ask("fifty activities, by a worker", ["run", "--workers", "1", "-"], fifty)
+
+
+def each_mistake(calls: Calls) -> None:
+    """Words that are no job."""
+    for name, words, err in (
+            ("no words", [], "error: 'x10clock' requires a subcommand but one was not provided"),
+            ("walk", ["walk"], "error: unrecognized subcommand 'walk'"),
+            ("an unknown order", ["run", "--module", "--order", "least", "-"], "error: invalid value 'least' for '--order <ORDER>'"),
+            ("an order for check", ["check", "--module", "--order", "first", "-"], "error: unexpected argument '--order' found"),
+            ("no workers", ["run", "--module", "--workers", "0", "-"],
+             "error: invalid value '0' for '--workers <N>': 0 is not in 1..=64"),
+            ("an argument that is no number", ["run", "--arg", "x", "-"],
+             "error: invalid value 'x' for '--arg <N>': invalid digit found in string"),
+            ("an argument for check", ["check", "--arg", "1", "-"], "error: unexpected argument '--arg' found"),
+            ("workers beside an order", ["run", "--module", "--workers", "2", "--order", "first", "-"],
+             "x10clock: --workers and --order exclude each other")):
+        calls.begins(name, words, 2, "", err)
+    calls.begins("--help", ["--help"], 0, "Verifies and runs clocked programs.", "")
+    told = calls.begins("a word not in UTF-8", ["run", "--module", "\udcff"], 2, "", "x10clock: a word is not in UTF-8")
+    if told.err.count(b"\n") != 1:
+        raise Wrong(f"a word not in UTF-8: {told}")
+
+
+def all_calls(folder: str, preloaded: str) -> list[Call]:
+    calls = Calls(Place(folder, preloaded))
+    calls.exhaust()
+    each_log(calls, folder)
+    each_mismatch(calls, folder)
+    each_row(calls)
+    each_worker(calls)
+    each_mistake(calls)
+    return calls.calls
+
+
+# What a process that tries calls has: its place, and the calls.
+PLACE: Place
+CALLS: list[Call]
+
+
+def begin(folder: str, preloaded: str, calls: list[Call]) -> None:
+    global PLACE, CALLS
+    PLACE, CALLS = Place(folder, preloaded), calls
+
+
+def tried(number: int) -> tuple[int, int, float, str]:
+    """Which call it was, how many growths were refused, how long that took, and what was wrong."""
+    begun = time.monotonic()
+    try:
+        return number, each_growth(PLACE, CALLS[number]), time.monotonic() - begun, ""
+    except Wrong as wrong:
+        return number, 0, time.monotonic() - begun, str(wrong)
+
+
+def built() -> None:
+    """Builds the two programs where they aren't built yet."""
+    for name in ("exhaust", "x10clock"):
+        if not (TOP / f"crates/{name}/out/{name}").exists():
+            with (TOP / "crates/x10clock/stdin").open("rb") as stdin:
+                subprocess.run(["rt", "run", "--", "run", "--module", "-"], cwd=TOP / f"crates/{name}", stdin=stdin,
+                               stdout=subprocess.DEVNULL, check=True)
+
+
+def main() -> int:
+    parser = argparse.ArgumentParser()
+    parser.add_argument("--counts", action="store_true")
+    options = parser.parse_args()
+    built()
+    with tempfile.TemporaryDirectory() as folder:
+        preloaded = f"{folder}/refuse.so"
+        subprocess.run(["gcc", "-shared", "-fPIC", "-O2", "-o", preloaded, TOP / "tests/answers/refuse.c"], check=True)
+        try:
+            calls = all_calls(folder, preloaded)
+        except Wrong as wrong:
+            print(f"refused growths: {wrong}", file=sys.stderr)
+            return 1
+        total = 0
+        processors = len(os.sched_getaffinity(0))
+        with multiprocessing.Pool(processors, begin, (folder, preloaded, calls)) as pool:
+            for number, refused, seconds, wrong in pool.imap_unordered(tried, range(len(calls))):
+                if wrong:
+                    print(f"refused growths: {wrong}", file=sys.stderr)
+                    pool.terminate()
+                    return 1
+                if options.counts:
+                    print(f"{refused:6} {seconds:7.2f} s {calls[number].name}", flush=True)
+                total += refused
+    print(f"refused growths: {total} refused, all answered as they must")
+    return 0
+
+
+if __name__ == "__main__":
+    sys.exit(main())

@@ -1,0 +1,251 @@
+#!/usr/bin/env python3
+"""Schedules of small modules: whether the second telling of the rules (tests/reference/telling.py, telling_log.py) says of them what the rows of
+tests/answers/schedules.rows want, and whether the program says the same of their logs.
+
+    python3 tests/answers/schedules.py [--program PATH]
+
+The telling knows no phases and no numbers of steps: they are counted here. Where all schedules of a module are known, the program replays and
+charts the log of each, or, where there are more than 100, of 60 that are spread evenly among them. The rows of tests/answers/texts.rows are of
+programs as texts, which are carried out by tests/reference/meaning.py and by their modules.
+"""
+from __future__ import annotations
+
+import argparse
+import pathlib
+import re
+import sys
+import tempfile
+from collections import Counter
+from dataclasses import dataclass, field
+
+TESTS = pathlib.Path(__file__).resolve().parent.parent
+sys.path += [str(TESTS / "reference"), str(TESTS / "generated")]
+import logs
+import meaning
+import telling
+import telling_log
+import telling_source
+from logs import Program, Text, Told
+from telling import World, Wrong
+
+PROGRAM = TESTS.parent / "crates/x10clock/out/x10clock"
+MOST, SOME = 100, 60
+
+PRINTED = re.compile(r"(\d+) print((?: -?\d+)*)")
+KNOWN = re.compile(r"(?:halted at (\d+): |.*)clocks.* since(.*?) (?:able(.*)|over)")
+
+
+@dataclass
+class Asked:
+    """How much was asked, and how much of it was told otherwise."""
+
+    count: int = 0
+    wrong: int = 0
+
+    def said(self, question: str, row: object, got: object) -> None:
+        self.count += 1
+        if got != row:
+            self.wrong += 1
+            print(f"{question}\n    row:  {row}\n    told: {got}", file=sys.stderr)
+
+
+# One schedule.
+
+
+@dataclass
+class Known:
+    """What is known of a run, as a row has it."""
+
+    module: telling.Module
+    world: World
+    seen: list[str] = field(default_factory=list)
+    phases: list[int] = field(default_factory=list)
+    last: list[int] = field(default_factory=list)
+    since: list[int] = field(default_factory=lambda: [0])
+
+    def step(self, who: int, number: int) -> bool:
+        """The step of this number is one of this activity, if it can step."""
+        taken = telling.step(self.module, self.world, who)
+        if taken is None:
+            return False
+        if taken.event:
+            self.seen.append(taken.event)
+        match taken.event:
+            case "Passed":
+                self.since[who] = number
+            case "Spawned":
+                self.since.append(self.since[who])
+            case "Made":
+                self.phases.append(0)
+                self.last.append(0)
+        for clock in taken.advanced:
+            self.phases[clock] += 1
+            self.last[clock] = number
+        self.world = taken.world
+        return True
+
+    def text(self, begin: str) -> str:
+        able = [who for who in range(len(self.world.activities)) if telling.step(self.module, self.world, who)]
+        clocks = "".join(f" {phase}@{last}" for phase, last in zip(self.phases, self.last))
+        since = "".join(f" {step}" for step in self.since)
+        end = " over" if self.world.has_ended else " able" + "".join(f" {who}" for who in able)
+        return f"{begin}clocks{clocks} since{since}{end}"
+
+
+def known_of(text: Text, schedule: list[int]) -> str:
+    module = text.judged().module
+    known = Known(module, telling.opening(module, text.arguments))
+    for at, who in enumerate(schedule):
+        if not known.step(who, at + 1):
+            return known.text(f"halted at {at}: ")
+    return known.text("".join(f"{event} " for event in known.seen))
+
+
+def log_of(schedule: list[int]) -> bytes:
+    """The log with an entry for each step."""
+    return telling_log.text_of([telling_log.Entry(who, 1) for who in schedule])
+
+
+def ask_able(asked: Asked, program: Program, text: Text, schedule: list[int], known: str) -> None:
+    """Whether those can step behind a schedule, or where it is halted, of whom a row says so: by the log with a step of each."""
+    at, since, able = KNOWN.fullmatch(known).groups()
+    done = schedule if at is None else schedule[: int(at)]
+    for who in range(len(since.split())):
+        can_step = str(who) in (able or "").split()
+        line = "x10clock: L5 NotEnded" if can_step else f"x10clock: L4 NotEnabled entry {len(done)}"
+        given = log_of([*done, who])
+        asked.said(f"{text}\n    replay {given!r}", logs.wanted(line, "replay"), program.answer(text, given, "replay"))
+
+
+# All schedules.
+
+
+@dataclass
+class Every:
+    """All schedules of a module that come to the end, in the order of the numbers that they have, and the world in which they begin."""
+
+    module: telling.Module
+    start: World
+    known: dict[World, Counter[str]] = field(default_factory=dict)
+
+    def steps(self, world: World) -> list[tuple[int, telling.Step]]:
+        """The steps that can be taken, and who takes them."""
+        return [(who, taken) for who in range(len(world.activities)) if (taken := telling.step(self.module, world, who))]
+
+    def printed(self, world: World) -> Counter[str]:
+        """What the schedules from here print, and how many of them do."""
+        if world not in self.known:
+            steps = self.steps(world)
+            printed: Counter[str] = Counter() if steps else Counter({"": 1})
+            for _, taken in steps:
+                begin = "" if taken.printed is None else f" {taken.printed}"
+                printed.update({begin + rest: count for rest, count in self.printed(taken.world).items()})
+            self.known[world] = printed
+        return self.known[world]
+
+    def schedule(self, place: int) -> list[int]:
+        """The one in this place."""
+        world, schedule = self.start, []
+        while steps := self.steps(world):
+            for who, taken in steps:
+                count = self.printed(taken.world).total()
+                if place < count:
+                    break
+                place -= count
+            schedule.append(who)
+            world = taken.world
+        return schedule
+
+
+def ask_every(asked: Asked, program: Program, text: Text, row: str) -> None:
+    """How many schedules print what; and some of them, or all, are replayed and charted."""
+    module = text.judged().module
+    every = Every(module, telling.opening(module, text.arguments))
+    printed = every.printed(every.start)
+    asked.said(f"{text}\n    every", {numbers: int(count) for count, numbers in PRINTED.findall(row)}, dict(printed))
+    total = printed.total()
+    count = total if total <= MOST else SOME
+    for place in (at * total // count for at in range(count)):
+        given = log_of(every.schedule(place))
+        for command in ("replay", "chart"):
+            asked.said(f"{text}\n    {command} {given!r}", Told().answer(text, given, command), program.answer(text, given, command))
+
+
+# The rows.
+
+
+def ask_rows(asked: Asked, program: Program) -> None:
+    """The rows of modules."""
+    text, schedule = Text(b""), []
+    for line in (TESTS / "answers/schedules.rows").read_text().splitlines():
+        if line.startswith("{"):
+            text = Text(line.encode(), is_module=True)
+        if not line or line[0] in "{#":
+            continue
+        name, row = line.split(":", 1)
+        row = row.strip()
+        match name:
+            case "every":
+                ask_every(asked, program, text, row)
+            case "args":
+                text = text.given(*map(int, row.split()))
+            case "by":
+                schedule = [int(who) for who in row.split()]
+            case "known":
+                asked.said(f"{text}\n    by {schedule}", row, known_of(text, schedule))
+                ask_able(asked, program, text, schedule, row)
+            case _:
+                for command in ("replay", "chart") if name == "refused" else (name,):
+                    for who in (Told(), program):
+                        question = f"{text}\n    {command} of {schedule}, {type(who).__name__}"
+                        asked.said(question, logs.wanted(row, command), who.answer(text, log_of(schedule), command))
+
+
+def seen_of(world: meaning.World, schedule: str) -> str:
+    """What others see of a schedule, as a row of a text has it."""
+    seen, places = [], [int(place) for place in schedule.split()]
+    for at, who in enumerate(places):
+        try:
+            event = world.take(who) if who < world.count() else None
+        except Wrong:
+            event = "wrong"
+        if event:
+            seen.append(event)
+        if event in (None, "wrong"):
+            seen += ["halted"] if event is None else []
+            return " ".join(seen) + ("" if at == len(places) - 1 else f" at {at}")
+    return " ".join(seen + ["over"] if world.shown()[2] else seen)
+
+
+def texts() -> list[tuple[str, str, str, str, str]]:
+    """The rows of texts: the text, the numbers that it is given, its schedule, its module's schedule, what is seen."""
+    row = r"^(.+)\n(?:args: (.*)\n)?text: (.*)\nmodule: (.*)\nseen: (.*)$"
+    return re.findall(row, (TESTS / "answers/texts.rows").read_text(), re.MULTILINE)
+
+
+def ask_texts(asked: Asked) -> None:
+    """The rows of texts, of the telling alone."""
+    for text, args, own, compiled, seen in texts():
+        tree, arguments = telling_source.parse(text.encode()), tuple(map(int, args.split()))
+        module = telling.read_module(telling_source.module_text(text.encode()).encode())
+        asked.said(f"{text}\n    text: {own}", seen, seen_of(meaning.Program(tree, arguments), own))
+        asked.said(f"{text}\n    module: {compiled}", seen, seen_of(meaning.Machine(module, arguments), compiled))
+
+
+def words() -> argparse.Namespace:
+    parser = argparse.ArgumentParser(description="Compares what is known of schedules with a second telling, and asks the program.")
+    parser.add_argument("--program", type=pathlib.Path, default=PROGRAM)
+    return parser.parse_args()
+
+
+def main() -> int:
+    program, asked = words().program.resolve(), Asked()
+    ask_texts(asked)
+    with tempfile.TemporaryDirectory() as folder:
+        ask_rows(asked, Program(program, folder))
+    print(f"schedules: {asked.count} rows, {asked.wrong} told otherwise")
+    return 1 if asked.wrong or not asked.count else 0
+
+
+if __name__ == "__main__":
+    sys.exit(main())

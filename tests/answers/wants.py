@@ -1,0 +1,226 @@
+#!/usr/bin/env python3
+"""Whether the program gets along with the memory that docs/RELIABILITY.md says it can want at most, on the worst programs that are known.
+
+    python3 tests/answers/wants.py [--program PATH] [--least]
+
+crates/x10clock/out/x10clock where nothing else is said. Each call has an address space of no more than what the formula says of it, and has to be answered
+as with ample memory. With `--least` the least address space in which it is answered so is told beside it, found by halving.
+"""
+
+from __future__ import annotations
+
+import argparse
+import json
+import pathlib
+import resource
+import subprocess
+import sys
+import tempfile
+from collections.abc import Iterator
+from dataclasses import dataclass
+
+TESTS = pathlib.Path(__file__).resolve().parent.parent
+sys.path.append(str(TESTS / "reference"))
+import telling
+import telling_source
+
+MEGABYTE = 1_000_000
+# What the program takes before it looks at anything.
+START = 6 * MEGABYTE
+LONGEST_TEXT = 1 << 20
+SECONDS = 120
+
+
+@dataclass(frozen=True)
+class Call:
+    """A call of the program, and how many bytes it can want."""
+
+    name: str
+    words: list[object]
+    most: int
+
+
+# The formulas.
+
+
+def to_read(text: bytes) -> int:
+    """What reading and compiling a source text can want."""
+    return START + 260 * len(text)
+
+
+def to_read_module(text: bytes) -> int:
+    return START + 140 * len(text)
+
+
+def to_verify(module: telling.Module) -> int:
+    """What the verifier can want: each unit is looked at with all of its slots at all of its instructions."""
+    return sum(8 * len(unit.code) * max(unit.slots, 4) for unit in module.units)
+
+
+def to_run(bounds: telling.Bounds) -> int:
+    activity = 210 + 9 * bounds.stack + 16 * min(bounds.stack, bounds.clocks)
+    return bounds.activities * activity + 48 * bounds.clocks
+
+
+def to_log(entries: int) -> int:
+    return 16 * entries
+
+
+def to_print(numbers: int) -> int:
+    return 16 * numbers
+
+
+def to_chart(advances: int) -> int:
+    """Twice the text, of which a line has some 38 bytes here."""
+    return 2 * 40 * advances
+
+
+# The programs.
+
+
+def filled(piece: str, before: str = "def main(){", behind: str = "}") -> str:
+    """A text as long as it may be."""
+    return before + piece * ((LONGEST_TEXT - len(before) - len(behind)) // len(piece)) + behind
+
+
+def chain(depth: int) -> str:
+    """Methods of sixty slots, each of which calls the next one."""
+    slots = "".join(f"var v{k}=0;" for k in range(60))
+    return "".join(f"def m{i}(){{{slots}{f'm{i + 1}();' if i + 1 < depth else ''}}}" for i in range(depth))
+
+
+def texts() -> Iterator[tuple[str, str]]:
+    """Texts that are large in each way."""
+    yield "statements of one sign", filled(";")
+    yield "activities", filled("async;")
+    yield "blocks", filled("{}")
+    yield "hidden clocks", filled("clocked finish;")
+    yield "nested activities", filled("async " * 60 + ";")
+    yield "calls", filled("f();", "def f(){}def main(){")
+    yield "methods", "".join(f"def f{i}(){{}}" for i in range(70_000)) + "def main(){}"
+    yield "names", "def main(){" + "".join(f"val a{i}=1;" for i in range(70_000)) + "}"
+    resumes = "".join(f"val c{k}=Clock.make();" for k in range(60)) + "if(1==1)c0.resume();" * 1_000
+    yield "clocks at all places", "".join(f"def m{i}(){{{resumes}}}" for i in range(40)) + "def main(){}"
+
+
+def modules() -> Iterator[tuple[str, object]]:
+    """Module texts that are large: values that are none, and units in which all slots may be of all kinds."""
+    yield "objects of nothing", "[" + ",".join(['{"":0}'] * 100_000) + "]"
+    yield "brackets", "[" + ",".join(["[]"] * 300_000) + "]"
+    # Each clock is resumed, or dropped, or neither, on some way to each place.
+    code = [["lit", 63, 0]] + [["make", slot] for slot in range(63)]
+    for slot in range(63):
+        at = len(code)
+        code += [["unless", "eq", 63, 63, at + 3], ["resume", slot], ["unless", "eq", 63, 63, at + 4], ["drop", slot]]
+    code += [["unless", "eq", 63, 63, min(place + 2, 4_095)] for place in range(len(code), 4_095)] + [["ret"]]
+    unit = {"kind": "body", "params": "", "slots": 64, "code": code}
+    main = {"kind": "main", "params": "", "slots": 0, "code": [["ret"]]}
+    yield "units of all kinds", {"version": 1, "shared": [], "units": [main] + [unit] * 8}
+
+
+def runs() -> Iterator[tuple[str, list[str], str]]:
+    """Programs whose runs want much, and the words for that."""
+    deep, wide = chain(62), "for(i in 1..5000){val c=Clock.make();c.drop();}"
+    yield "deep stacks", ["--order", "last"], deep + "def main(){for(i in 1..3000)async m0();}"
+    yield "deep stacks and clocks", ["--order", "last"], f"{deep}def main(){{{wide}for(i in 1..3000)async m0();}}"
+    yield "activities", [], "def main(){for(i in 1..99999)async;}"
+    yield "activities on a clock", [], "def main(){val c=Clock.make();for(i in 1..99999)async clocked(c)Clock.advanceAll();Clock.advanceAll();}"
+    yield "clocks", [], "def main(){for(i in 1..100000){val c=Clock.make();c.drop();}}"
+    yield "clocks at once", [], "def main(){for(i in 1..50000)async{val c=Clock.make();Clock.advanceAll();}}"
+    yield "workers", ["--workers", "4"], "def main(){for(i in 1..99999)async;}"
+
+
+def judged(text: str) -> telling.Accepted:
+    found = telling_source.judge(text.encode())
+    assert isinstance(found, telling.Accepted), found
+    return found
+
+
+class Calls:
+    """The calls, their texts in a folder."""
+
+    def __init__(self, folder: pathlib.Path) -> None:
+        self.folder = folder
+
+    def file(self, text: str) -> pathlib.Path:
+        path = self.folder / "text"
+        path.write_text(text)
+        return path
+
+    def of_texts(self) -> Iterator[Call]:
+        for name, text in texts():
+            verify = 8 * 1_100 * 64 * 41 if "places" in name else 0
+            for command in ("check", "compile"):
+                yield Call(f"{command}, {name}", [command, self.file(text)], to_read(text.encode()) + verify)
+
+    def of_modules(self) -> Iterator[Call]:
+        for name, value in modules():
+            text = value if isinstance(value, str) else json.dumps(value, separators=(",", ":"))
+            verify = 0 if isinstance(value, str) else to_verify(telling.read_module(text.encode()))
+            yield Call(f"check --module, {name}", ["check", "--module", self.file(text)], to_read_module(text.encode()) + verify)
+
+    def of_runs(self) -> Iterator[Call]:
+        for name, words, text in runs():
+            found = judged(text)
+            most = to_read(text.encode()) + to_verify(found.module) + to_run(found.bounds)
+            threads = 4 * 12 * MEGABYTE if "--workers" in words else 0
+            yield Call(f"run, {name}", ["run", *words, self.file(text)], most + threads)
+
+    def of_logs(self) -> Iterator[Call]:
+        log = self.folder / "log"
+        text = "def main(){for(i in 1..2200000);}"
+        small = to_read(text.encode()) + to_run(judged(text).bounds)
+        yield Call("run --log, 2,200,000 steps", ["run", "--log", log, self.file(text)], small + to_log(2_200_002))
+        yield Call("replay, 2,200,000 steps", ["replay", self.file(text), log], small + to_log(2_200_002))
+        # Somewhat more than a power of two, so that half of the room is empty.
+        text = "def main(){for(i in 1..1050000)Console.OUT.println(0-9223372036854775807);}"
+        small = to_read(text.encode()) + to_run(judged(text).bounds)
+        yield Call("run, 1,050,000 numbers", ["run", self.file(text)], small + to_print(1_050_000))
+        text = "def main(){" + "".join(f"val c{k}=Clock.make();" for k in range(60)) + "for(i in 1..15000)Clock.advanceAll();}"
+        small = to_read(text.encode()) + to_run(judged(text).bounds)
+        yield Call("run --log, 900,000 advances", ["run", "--log", log, self.file(text)], small + to_log(45_062))
+        yield Call("chart, 900,000 advances", ["chart", self.file(text), log], small + to_log(45_062) + to_chart(900_000))
+
+
+def ask(program: pathlib.Path, call: Call, most: int | None) -> tuple[int, bytes, bytes]:
+    limit = (lambda: resource.setrlimit(resource.RLIMIT_AS, (most, most))) if most else None
+    ran = subprocess.run([program, *map(str, call.words)], capture_output=True, timeout=SECONDS, preexec_fn=limit, check=False)
+    return ran.returncode, ran.stdout, ran.stderr
+
+
+def least(program: pathlib.Path, call: Call, whole: tuple[int, bytes, bytes]) -> int:
+    """The least address space in which the call is answered, to a hundredth."""
+    low, high = 0, 4 * call.most
+    while high - low > max(high // 100, 10_000):
+        middle = (low + high) // 2
+        low, high = (low, middle) if ask(program, call, middle) == whole else (middle, high)
+    return high
+
+
+def main() -> int:
+    parser = argparse.ArgumentParser(description="Tries x10clock in the memory that it can want at most.")
+    parser.add_argument("--program", type=pathlib.Path, default=TESTS.parent / "crates/x10clock/out/x10clock")
+    parser.add_argument("--least", action="store_true")
+    given = parser.parse_args()
+    program, wrong, count = given.program.resolve(), [], 0
+    with tempfile.TemporaryDirectory() as folder:
+        calls = Calls(pathlib.Path(folder))
+        for kind in (calls.of_texts, calls.of_modules, calls.of_runs, calls.of_logs):
+            for call in kind():
+                count += 1
+                whole = ask(program, call, None)
+                if whole[0] not in (0, 1):
+                    wrong.append(f"{call.name}: {whole[0]} {whole[2]!r} with ample memory")
+                if given.least:
+                    needed = least(program, call, whole)
+                    ask(program, call, None)
+                    print(f"{needed / MEGABYTE:8.1f} of {call.most / MEGABYTE:8.1f} MB, {needed / call.most:5.2f}: {call.name}", flush=True)
+                elif (limited := ask(program, call, call.most)) != whole:
+                    wrong.append(f"{call.name} in {call.most / MEGABYTE:.1f} MB: {limited[0]} {limited[2]!r}")
+    print(*wrong, sep="\n", end="\n" if wrong else "", file=sys.stderr)
+    print(f"wants: {count} calls, {len(wrong)} that want more")
+    return 1 if wrong or not count else 0
+
+
+if __name__ == "__main__":
+    sys.exit(main())

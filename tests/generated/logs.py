@@ -1,0 +1,401 @@
+#!/usr/bin/env python3
+"""Logs, replay and charts: whether a second telling of them (tests/reference/telling_log.py) says what the rows of tests/answers/logs.rows want,
+and, with `--program`, whether the program says the same of these rows, and of logs that nobody wrote.
+
+    python3 tests/generated/logs.py [CASES] [SEED] [--program PATH] [--jobs N]
+
+2,000 cases, seed 1 and 2 jobs where nothing else is said. A case is a program, as a source text or a module, and the log of a run by an order
+or by chance, which may be changed: an entry, a line, or a byte. Five cases in a row have the same program, which is run with `--log` in some
+order; the program replays each log and charts it. The telling is held against itself, too: what is written is read back, no beginning of a
+text is a text, and entries that are joined give the same run. The rows are asked of the program twice: as they are, and of the modules that
+their programs are compiled to.
+"""
+
+from __future__ import annotations
+
+import argparse
+import concurrent.futures
+import functools
+import itertools
+import pathlib
+import random
+import re
+import subprocess
+import sys
+import tempfile
+from collections.abc import Callable, Iterator
+from dataclasses import dataclass, replace
+
+TESTS = pathlib.Path(__file__).resolve().parent.parent
+sys.path.append(str(TESTS / "reference"))
+import generated
+import generated_source
+import telling
+import telling_log
+import telling_source
+from telling import Accepted, Arguments, Order, Refused
+from telling_log import Answer, Entry, Fault, Log
+
+ROWS = TESTS / "answers/logs.rows"
+IN_STEP = TESTS / "answers/rows/in-step.x10"
+NEW_LINE = b"\n"
+MOST_STEPS = 600
+CHUNK = 100
+LOGS_OF_A_PROGRAM = 5
+SHOWN = 5
+SECONDS = 60
+
+ASKED = re.compile(r"(log|chart)(?: (last|round))?:(?: (.*))?|(replay|chart) (.*?): ?(.*)")
+ORDERS = {None: Order.FIRST, "last": Order.LAST, "round": Order.ROUND}
+# The numbers that a program is given in the rows behind this one.
+GIVEN = "args:"
+
+
+# Programs.
+
+
+@dataclass(frozen=True)
+class Text:
+    """The text of a program, and the numbers that it is given."""
+
+    data: bytes
+    is_module: bool = False
+    arguments: Arguments = ()
+
+    @functools.lru_cache(maxsize=4)
+    def judged(self) -> Accepted | Refused:
+        return telling.judge(self.data) if self.is_module else telling_source.judge(self.data)
+
+    def words(self) -> list[str]:
+        return [*(["--module"] if self.is_module else []), *(f"--arg={number}" for number in self.arguments)]
+
+    def given(self, *arguments: int) -> Text:
+        """The same program with these numbers."""
+        return replace(self, arguments=arguments)
+
+    def compiled(self) -> Text:
+        return Text(telling_source.module_text(self.data).encode(), True, self.arguments)
+
+
+# Who answers.
+
+
+class Told:
+    """The telling."""
+
+    def run(self, text: Text, order: Order) -> tuple[Answer, bytes]:
+        """What a run prints, and its log."""
+        module = text.judged().module
+        log = telling_log.log_of(module, order, text.arguments)
+        return (0, telling.run(module, order, text.arguments).text(), ""), telling_log.text_of(log)
+
+    def answer(self, text: Text, log: bytes, command: str) -> Answer:
+        return telling_log.answer(text.judged(), log, command, text.arguments)
+
+
+class Program:
+    """The built program, with files in a folder of its own."""
+
+    def __init__(self, program: pathlib.Path, folder: str) -> None:
+        self.program, self.folder = program, pathlib.Path(folder)
+
+    def call(self, *words: object) -> Answer:
+        try:
+            ran = subprocess.run([self.program, *map(str, words)], capture_output=True, timeout=SECONDS, check=False)
+        except subprocess.TimeoutExpired:
+            return -1, "", "no answer in time"
+        return ran.returncode, ran.stdout.decode("utf-8", "replace"), ran.stderr.decode("utf-8", "replace")
+
+    def run(self, text: Text, order: Order) -> tuple[Answer, bytes]:
+        file, log = self.folder / "text", self.folder / "made"
+        file.write_bytes(text.data)
+        log.write_bytes(b"something that was there before")
+        answer = self.call("run", *text.words(), "--order", order.value, "--log", log, file)
+        return answer, log.read_bytes()
+
+    def answer(self, text: Text, log: bytes, command: str) -> Answer:
+        file, given = self.folder / "text", self.folder / "log"
+        file.write_bytes(text.data)
+        given.write_bytes(log)
+        return self.call(command, *text.words(), file, given)
+
+
+class ProgramOnModules(Program):
+    """The same, asked about the module that a source text is compiled to."""
+
+    def run(self, text: Text, order: Order) -> tuple[Answer, bytes]:
+        return super().run(text.compiled(), order)
+
+    def answer(self, text: Text, log: bytes, command: str) -> Answer:
+        return super().answer(text.compiled(), log, command)
+
+
+# Rows.
+
+
+def wanted(line: str, command: str) -> Answer:
+    """The answer that a row has."""
+    if line.startswith("x10clock: "):
+        return 3 if line.startswith("x10clock: L") else 1, "", line + "\n"
+    return 0, "".join(f"{part}\n" for part in line.split(",")) if line or command != "chart" else "", ""
+
+
+def row_differences(who: Told | Program) -> tuple[int, list[str]]:
+    """How many questions the rows have, and which are answered otherwise."""
+    count, differing, text = 0, [], Text(b"")
+
+    def said(question: str, row: object, got: object) -> None:
+        nonlocal count
+        count += 1
+        if row != got:
+            differing.append(f"{text.data.decode()}\n    {question}\n    row: {row}\n    {type(who).__name__}: {got}")
+
+    for line in ROWS.read_text().split("\n"):
+        if not line or line.startswith("#"):
+            continue
+        if line.startswith(GIVEN):
+            text = text.given(*map(int, line.removeprefix(GIVEN).split()))
+            continue
+        asked = ASKED.fullmatch(line)
+        if not asked:
+            text = Text(line.encode())
+            continue
+        made, order, line_wanted, command, log, answer = asked.groups()
+        if made == "log":
+            entries = [Entry(int(activity), 1) for activity in line_wanted.split()]
+            said(line, telling_log.text_of(entries), who.run(text, ORDERS[order])[1])
+        elif made:
+            said(line, wanted(line_wanted or "", "chart"), who.answer(text, who.run(text, ORDERS[order])[1], "chart"))
+        else:
+            said(line, wanted(answer, command), who.answer(text, log.replace("|", "\n").encode(), command))
+    return count, differing
+
+
+def edge_differences(who: Told | Program) -> tuple[int, list[str]]:
+    """The same of each beginning of a log, and of a log with one byte more, whichever it is."""
+    text = Text(IN_STEP.read_bytes())
+    log = who.run(text, Order.FIRST)[1]
+    asked = [(log[:end], "x10clock: L2 Truncated") for end in range(len(log))]
+    behind = f"x10clock: L1 Grammar line {log.count(NEW_LINE) + 1}"
+    asked += [(log + bytes([more]), behind) for more in range(256)]
+    differing = []
+    for (given, line), command in itertools.product(asked, ("replay", "chart")):
+        got = who.answer(text, given, command)
+        if got != wanted(line, command):
+            differing.append(f"{command} {given!r}\n    wanted: {line}\n    {type(who).__name__}: {got}")
+    return 2 * len(asked), differing
+
+
+# Logs that nobody wrote.
+
+
+def any_text(rng: random.Random) -> Text:
+    """A program, as a source text or as a module."""
+    if rng.random() < 0.3:
+        return Text(generated.text_of(rng, generated.program(rng)), is_module=True)
+    return Text(generated_source.text_of(rng, generated_source.program(rng)))
+
+
+def accepted_text(rng: random.Random) -> tuple[Text, Accepted]:
+    """A program that is accepted, and isn't long, with as many numbers as it wants."""
+    while True:
+        text = any_text(rng)
+        judged = text.judged()
+        if isinstance(judged, Accepted) and judged.bounds.steps <= MOST_STEPS:
+            return text.given(*generated.arguments(rng, judged.module.wants)), judged
+
+
+def by_chance(rng: random.Random, module: telling.Module, arguments: Arguments) -> Log:
+    """The log of a run in which whoever can step may be next, and stays so for a while."""
+    played, log = telling_log.Played.opening(module, arguments), []
+    stay = rng.choice([0.0, 0.5, 0.9])
+    while not played.world.has_ended:
+        everybody = range(len(played.world.activities))
+        before = log[-1:] if rng.random() < stay else []
+        who = next(who for who in [*(entry.activity for entry in before), *rng.sample(everybody, len(everybody))] if played.step(who))
+        log.append(Entry(who, 1))
+    return log
+
+
+def joined(rng: random.Random, log: Log) -> Log:
+    """The same schedule, with some entries made one."""
+    made: Log = []
+    for entry in log:
+        if made and made[-1].activity == entry.activity and rng.random() < 0.8:
+            made[-1] = Entry(entry.activity, made[-1].steps + entry.steps)
+        else:
+            made.append(entry)
+    return made
+
+
+EDGES = (0, 1, 2, 3, telling_log.GREATEST - 1, telling_log.GREATEST, telling_log.GREATEST + 1)
+
+
+def changed_entries(rng: random.Random, log: Log) -> Log:
+    """An entry dropped, doubled, put in, of more steps or another one; two in another order; or the rest gone."""
+    log, at = list(log), rng.randrange(len(log))
+    entry = log[at]
+    other = Entry(rng.choice([entry.activity, rng.randrange(4), rng.choice(EDGES)]), rng.choice([1, entry.steps + 1, rng.choice(EDGES)]))
+    match rng.randrange(7):
+        case 0:
+            del log[at]
+        case 1:
+            log.insert(at, entry)
+        case 2:
+            log.insert(at, other)
+        case 3:
+            log[at] = Entry(entry.activity, entry.steps + rng.choice([1, 1, 2, 100, telling_log.GREATEST - entry.steps]))
+        case 4:
+            log[at] = other
+        case 5:
+            to = rng.randrange(len(log))
+            log[at], log[to] = log[to], log[at]
+        case _:
+            del log[at:]
+    return log
+
+
+def changed_lines(rng: random.Random, text: bytes) -> bytes:
+    lines = text.splitlines(keepends=True)
+    at = rng.randrange(len(lines))
+    match rng.randrange(6):
+        case 0:
+            del lines[at]
+        case 1:
+            lines.insert(at, rng.choice(lines))
+        case 2:
+            lines[at] = rng.choice([b"\n", b" \n", b"end 0\n", b"0 1", b"x10log 1\n", b"end\n", b"0 1\r\n", b"1" * 21 + b"\n", b"1" * 22])
+        case 3:
+            lines[at] = lines[at].replace(b" ", rng.choice([b"  ", b"\t", b" 0", b" +", b" -", b""]), 1)
+        case 4:
+            lines[-1] = b"end %d\n" % (len(lines) - 2 + rng.choice([-1, 0, 1, 10]))
+        case _:
+            return text[: rng.randrange(len(text))]
+    return b"".join(lines)
+
+
+def changed_byte(rng: random.Random, text: bytes) -> bytes:
+    """Another byte in one place: mostly one that logs have."""
+    at = rng.randrange(len(text))
+    return text[:at] + bytes([rng.choice(b"0123456789 \n") if rng.random() < 0.8 else rng.randrange(256)]) + text[at + 1 :]
+
+
+SPOILS = [bytes([sign]) for sign in b"0123456789 endx\n\r\t+-.\x00\xff"] + [b"end ", b"00", b"\n\n"]
+
+
+def log_of_case(rng: random.Random, module: telling.Module, arguments: Arguments) -> bytes:
+    """The log of a run, as it is or changed."""
+    in_order = rng.random() < 0.4
+    log = telling_log.log_of(module, rng.choice(list(Order)), arguments) if in_order else by_chance(rng, module, arguments)
+    log = joined(rng, log) if rng.random() < 0.6 else log
+    way = rng.random()
+    if way < 0.3:
+        log = changed_entries(rng, log)
+    text = telling_log.text_of(log)
+    changes: list[Callable[[], bytes]] = [
+        lambda: changed_lines(rng, text),
+        lambda: changed_byte(rng, text),
+        lambda: generated.changed_bytes(rng, text, SPOILS),
+    ]
+    return text if way < 0.6 else rng.choice(changes)()
+
+
+def differences(rng: random.Random, program: Program | None, cases: int) -> Iterator[str]:
+    """What differs in a run of a program, and in so many cases of it."""
+    text, judged = accepted_text(rng)
+    order = rng.choice(list(Order))
+    right = Told().run(text, order)
+    yield from against_itself(rng, text, right[1], order)
+    if program and (got := program.run(text, order)) != right:
+        yield shown(text, f"run --order {order.value} --log", right, got)
+    for _ in range(cases):
+        # Now and then with other numbers than those of the run, or another count of them.
+        other = text.given(*generated.arguments(rng, judged.module.wants + rng.choice([0, 0, 0, 1])))
+        yield from log_differences(other if rng.random() < 0.1 else text, log_of_case(rng, judged.module, text.arguments), program)
+
+
+def log_differences(text: Text, given: bytes, program: Program | None) -> Iterator[str]:
+    """What the program says otherwise of a log."""
+    for command in ("replay", "chart"):
+        right = Told().answer(text, given, command)
+        if program and (got := program.answer(text, given, command)) != right:
+            yield shown(text, f"{command} {given!r}", right, got)
+
+
+def shown(text: Text, question: str, right: object, got: object) -> str:
+    return f"{text}\n    {question}\n    telling: {right}\n    program: {got}"
+
+
+def against_itself(rng: random.Random, text: Text, written: bytes, order: Order) -> Iterator[str]:
+    """What has to hold of the telling alone, of the log that was written of a run."""
+    module, log = text.judged().module, telling_log.read(written)
+    played = telling_log.replay(module, log, text.arguments)
+    if played.output() != telling.run(module, order, text.arguments).text():
+        yield f"another run: {written!r}"
+    again = telling_log.replay(module, joined(rng, log), text.arguments)
+    if (again.output(), again.chart()) != (played.output(), played.chart()):
+        yield f"joined entries give another run: {written!r}"
+    for end in (0, 1, len(written) - 1, *(rng.randrange(len(written)) for _ in range(3))):
+        yield from refused_so(written[:end], "L2 Truncated")
+    yield from refused_so(written + bytes([rng.randrange(256)]), f"L1 Grammar line {len(log) + 3}")
+
+
+def refused_so(text: bytes, line: str) -> Iterator[str]:
+    try:
+        telling_log.read(text)
+        yield f"not refused: {text!r}"
+    except Fault as fault:
+        if str(fault) != line:
+            yield f"{fault}, and not {line}: {text!r}"
+
+
+@dataclass(frozen=True)
+class Job:
+    seed: int
+    program: pathlib.Path | None
+
+    def of_cases(self, cases: range) -> list[tuple[int, str]]:
+        with tempfile.TemporaryDirectory() as folder:
+            program = self.program and Program(self.program, folder)
+            firsts = range(cases.start, cases.stop, LOGS_OF_A_PROGRAM)
+            return [
+                (first, what)
+                for first in firsts
+                for what in differences(random.Random(f"{self.seed} {first}"), program, min(LOGS_OF_A_PROGRAM, cases.stop - first))
+            ]
+
+
+def words() -> argparse.Namespace:
+    parser = argparse.ArgumentParser(description="Compares what is said of logs with a second telling.")
+    parser.add_argument("cases", nargs="?", type=int, default=2_000)
+    parser.add_argument("seed", nargs="?", type=int, default=1)
+    parser.add_argument("--jobs", type=int, default=2)
+    parser.add_argument("--program", type=pathlib.Path)
+    return parser.parse_args()
+
+
+def asked_of(who: Told | Program) -> tuple[int, list[str]]:
+    count, differing = row_differences(who)
+    more, others = edge_differences(who)
+    return count + more, differing + others
+
+
+def main() -> int:
+    given = words()
+    program = given.program and given.program.resolve()
+    count, differing = asked_of(Told())
+    for form in (Program, ProgramOnModules) if program else ():
+        with tempfile.TemporaryDirectory() as folder:
+            more, others = asked_of(form(program, folder))
+        count, differing = count + more, differing + others
+    chunks = [range(start, min(start + CHUNK, given.cases)) for start in range(0, given.cases, CHUNK)]
+    with concurrent.futures.ProcessPoolExecutor(given.jobs) as pool:
+        for found in pool.map(Job(given.seed, program).of_cases, chunks):
+            differing += [f"case {case}: {what}" for case, what in found]
+    print(*differing[:SHOWN], sep="\n", end="\n" if differing else "", file=sys.stderr)
+    print(f"logs: {count} rows, {given.cases} cases, {len(differing)} told otherwise")
+    return 1 if differing or not count else 0
+
+
+if __name__ == "__main__":
+    sys.exit(main())

@@ -1,0 +1,452 @@
+#!/usr/bin/env python3
+"""Feeds the built program modules that nobody wrote, and compares each answer with a second telling of it (tests/reference/telling.py).
+
+The modules are those of tests/answers/rows and whole programs that are made up here, as they are, with a rule broken, or changed operand by
+operand and byte by byte (tests/generated/generated.py). `check` and `run`, the latter in each order and with numbers by chance where main takes
+some, have to answer what the telling answers, byte for byte; where there are several walks to what is refused, another shortest one is taken
+too, and counted. Of an accepted module with few worlds the telling goes through all schedules, and looks whether the promises hold.
+With `--source` the texts are programs in the language (tests/generated/generated_source.py) and those of tests/answers/programs/sources*.rows
+and of examples, and `compile` is compared too, with what tests/reference/telling_source.py makes of them. Some runs of the module are compared
+with what the text means (tests/reference/meaning.py).
+Needs the built program and python3. The gate runs it with 2,000 cases.
+
+    python3 tests/generated/mutations.py [CASES] [SEED] [--source [--changed]] [--jobs N] [--program PATH] [--worlds N] [--only CASE]
+
+20,000 cases, seed 1, 2 jobs, crates/x10clock/out/x10clock and 1,000 worlds where nothing else is said. With `--changed` all texts but the first
+ones are changed byte by byte. `--only` prints one case alone.
+"""
+
+from __future__ import annotations
+
+import argparse
+import collections
+import concurrent.futures
+import itertools
+import json
+import pathlib
+import random
+import re
+import subprocess
+import sys
+import zlib
+from collections.abc import Iterable, Iterator
+from dataclasses import dataclass, field
+from functools import cached_property
+
+TOP = pathlib.Path(__file__).resolve().parents[2]
+TESTS = TOP / "tests"
+sys.path.append(str(TESTS / "reference"))
+import generated
+import generated_source
+import meaning
+import telling
+import telling_log
+import telling_source
+from telling import Accepted, Arguments, Order, Refused
+
+SECONDS = 60
+# Runs of more steps than this are not made at all; those of more steps, or of more steps times activities and clocks, than these are
+# looked at for their form alone; and schedules are followed where there are no more activities than this.
+LONGEST_RUN, LONGEST_COMPARED, MOST_WORK, MOST_ACTIVITIES = 2_000_000, 20_000, 2_000_000, 64
+# Runs that may be longer, by loops with a limit, are compared where they aren't longer than this.
+SHORT = 500
+# So many runs of each text are compared with what it means.
+RUNS_MEANT = 3
+CHUNK = 100
+SHOWN = 5
+
+LATE = "no answer in time"
+ENDED = re.compile(r"((?:-?\d+\n)*)ended steps (\d+)\n")
+WALK = re.compile(r"x10clock: (?P<refused>.* walk )(?P<places>\d+(?: \d+)*)\n")
+
+# Modules with shared numbers, each of which is accepted: their numbers, and their units with kind, parameters, slots and code.
+SHARING = [
+    (
+        [0],
+        ("main", "", 2, [["finish", 4], ["for", 0, 1, 3, 3], ["spawn", 1, [0]], ["next", 1], ["endfinish", 0], ["get", 1, 0], ["print", 1], ["ret"]]),
+        ("body", "n", 1, [["addto", 0, 0], ["ret"]]),
+    ),
+    (
+        [0],
+        ("main", "", 1, [["finish", 3], ["spawn", 1, []], ["spawn", 1, []], ["endfinish", 0], ["get", 0, 0], ["print", 0], ["ret"]]),
+        ("body", "", 2, [["get", 0, 0], ["lit", 1, 1], ["add", 0, 0, 1], ["put", 0, 0], ["ret"]]),
+    ),
+    (
+        [2**63 - 1, -5, 0],
+        ("main", "", 3, [["make", 0], ["spawn", 1, [0]], ["get", 1, 0], ["put", 2, 1], ["advance"], ["call", 2, [1]], ["advance"], ["get", 2, 1], ["print", 2], ["ret"]]),
+        ("body", "c", 2, [["advance"], ["get", 1, 2], ["addto", 0, 1], ["print", 1], ["advance"], ["ret"]]),
+        ("method", "n", 1, [["addto", 1, 0], ["ret"]]),
+    ),
+]
+
+
+def sharing(numbers: list[int], *units: tuple) -> bytes:
+    """The text of a module with these shared numbers."""
+    forms = [generated.unit_form(*form) for form in units]
+    return json.dumps(generated.module_form(*forms, shared=tuple(numbers)), separators=(",", ":")).encode()
+
+
+def row_text(row: str) -> bytes:
+    """What a row's text stands for, with its escapes."""
+    if row == "\\c":
+        return b""
+    byte = lambda found: bytes([int(found[1], 8)]) if found[1] else {b"n": b"\n", b"t": b"\t", b"r": b"\r", b"\\": b"\\"}[found[2]]
+    return re.sub(rb"\\(?:0([0-7]{3})|([ntr\\]))", byte, row.encode())
+
+
+def row_texts(path: pathlib.Path) -> list[bytes]:
+    """The texts of a file of rows: each stands above the line that `check` answers, and that above what runs print."""
+    rows = [line for line in path.read_text().split("\n") if line and not re.match("#|(run|last|round|every|not run|compile): |args:", line)]
+    return [row_text(row) for row in rows[::2]]
+
+
+def source_texts() -> list[bytes]:
+    """The texts of the rows of sources, and of the examples."""
+    found = [text for path in sorted((TESTS / "answers/programs").glob("sources*.rows")) for text in row_texts(path)]
+    return found + [path.read_bytes() for path in sorted((TOP / "examples").glob("*.x10"))]
+
+
+def seed_texts(source: bool) -> list[bytes]:
+    if source:
+        return source_texts()
+    return [path.read_bytes() for path in sorted((TESTS / "answers/rows").glob("*.json"))] + [sharing(*form) for form in SHARING]
+
+
+@dataclass(frozen=True)
+class Answer:
+    status: int
+    out: str
+    err: str
+
+
+def refused(line: str) -> Answer:
+    return Answer(1, "", f"x10clock: {line}\n")
+
+
+def done(text: str) -> Answer:
+    return Answer(0, text, "")
+
+
+@dataclass
+class Outcome:
+    """What became of one text: its label, what was counted, and what differs, if anything does."""
+
+    label: str
+    counts: collections.Counter = field(default_factory=collections.Counter)
+    differences: list[str] = field(default_factory=list)
+
+    def differ(self, words: str, wanted: object, got: Answer) -> None:
+        if got.err == LATE:
+            self.counts["answers that didn't come in time"] += 1
+        self.differences.append(f"{words}\n      telling: {wanted}\n      program: {got}")
+
+
+def words_of(arguments: Arguments) -> list[str]:
+    """The words by which a program is given these numbers: one of a negative number stands in one with it."""
+    return [f"--arg={number}" for number in arguments]
+
+
+def given_in_orders(text: bytes, judged: Accepted) -> list[Arguments]:
+    """The numbers that a program is given in each order, by its text alone."""
+    rng = random.Random(text)
+    return [generated.arguments(rng, judged.module.wants) for _ in Order]
+
+
+def is_short(text: bytes, judged: Accepted) -> bool:
+    """Whether the runs of a program are compared: by its bounds, or as it goes where loops may end sooner than they could."""
+    bounds = judged.bounds
+    if bounds.steps <= LONGEST_COMPARED:
+        return bounds.steps * (bounds.activities + bounds.clocks) <= MOST_WORK
+    if not any(instr.name == "forto" for unit in judged.module.units for instr in unit.code):
+        return False
+    runs = (telling_log.driven(judged.module, *how) for how in zip(Order, given_in_orders(text, judged)))
+    return all(next(itertools.islice(run, SHORT, None), None) is None for run in runs)
+
+
+def is_sampled(text: bytes) -> bool:
+    """One text in four, in which `run` is tried too where it has to say what is known already."""
+    return zlib.crc32(text) % 4 == 0
+
+
+@dataclass(frozen=True)
+class Comparer:
+    """Asks the program and the telling, and compares."""
+
+    program: pathlib.Path
+    worlds: int
+    source: bool
+
+    def ask(self, text: bytes, command: str, *more: str) -> Answer:
+        form = [] if self.source else ["--module"]
+        words = [self.program, command, *more, *form, "-"]
+        try:
+            ran = subprocess.run(words, input=text, capture_output=True, timeout=SECONDS, check=False)
+        except subprocess.TimeoutExpired:
+            return Answer(-1, "", LATE)
+        return Answer(ran.returncode, ran.stdout.decode("utf-8", "replace"), ran.stderr.decode("utf-8", "replace"))
+
+    def outcome(self, text: bytes) -> Outcome:
+        judged = telling_source.judge(text) if self.source else telling.judge(text)
+        outcome = self.of_refused(text, judged) if isinstance(judged, Refused) else self.of_accepted(text, judged)
+        if self.source:
+            self.compiles(text, outcome)
+        return outcome
+
+    def compiles(self, text: bytes, outcome: Outcome) -> None:
+        try:
+            module = telling_source.module_text(text)
+            self.means(text, module, outcome)
+            told = done(module + "\n")
+            outcome.counts["texts that are compiled"] += 1
+        except telling_source.Fault as fault:
+            told = refused(str(fault))
+        answer = self.ask(text, "compile")
+        if answer != told:
+            outcome.differ("compile", told, answer)
+
+    def means(self, text: bytes, module: str, outcome: Outcome) -> None:
+        """Whether some runs of the module are runs of the text, and the reverse."""
+        try:
+            counts = meaning.compare_runs(text, telling.read_module(module.encode()), RUNS_MEANT)
+            outcome.counts["runs compared with what the text means"] += counts["runs"]
+        except meaning.Differs as differs:
+            outcome.differences.append(f"the module isn't the text's: {differs}")
+
+    def of_accepted(self, text: bytes, judged: Accepted) -> Outcome:
+        outcome = Outcome("accepted")
+        told = done(judged.bounds.line() + "\n")
+        answer = self.ask(text, "check")
+        if answer != told:
+            outcome.differ("check", told, answer)
+        elif is_short(text, judged):
+            self.runs(text, judged, True, outcome)
+        elif judged.bounds.steps <= LONGEST_RUN:
+            self.runs(text, judged, False, outcome)
+        else:
+            outcome.counts["accepted modules that were not run"] += 1
+        if is_sampled(text):
+            self.misgiven(text, judged, outcome)
+        self.schedules(text, judged, outcome)
+        return outcome
+
+    def of_refused(self, text: bytes, judged: Refused) -> Outcome:
+        """`check` and `run` have to give the same line."""
+        outcome = Outcome(judged.label)
+        told = refused(judged.line)
+        answer = self.ask(text, "check")
+        if answer != told:
+            if self.is_other_walk(judged, told, answer):
+                outcome.counts["refusals with another shortest walk"] += 1
+            else:
+                outcome.differ("check", told, answer)
+        if is_sampled(text):
+            rng = random.Random(text)
+            again = self.ask(text, "run", *words_of(generated.arguments(rng, rng.choice([0, 0, 1, 2]))))
+            if again != answer:
+                outcome.differ("run after check", answer, again)
+        return outcome
+
+    def is_other_walk(self, judged: Refused, told: Answer, answer: Answer) -> bool:
+        """Whether the answer is the telling's, but for the walk, which is another shortest one."""
+        found = WALK.fullmatch(answer.err)
+        if not judged.by_kind or not found or answer != Answer(told.status, told.out, answer.err):
+            return False
+        fault = judged.by_kind
+        places = [int(place) for place in found["places"].split()]
+        walks = judged.kinds.slots[fault.unit][fault.slot]
+        same = f"x10clock: {fault.line(places)}\n" == answer.err
+        return same and len(places) == len(fault.walk) and walks.is_walk(places, (fault.place, fault.kind))
+
+    def misgiven(self, text: bytes, judged: Accepted, outcome: Outcome) -> None:
+        """A program that is given another count of numbers than it wants isn't run."""
+        rng = random.Random(text)
+        given = generated.arguments(rng, rng.choice([count for count in range(5) if count != judged.module.wants]))
+        answer = self.ask(text, "run", *words_of(given))
+        told = refused(telling.misgiven(judged.module, given))
+        outcome.counts["runs that aren't given what they want"] += 1
+        if answer != told:
+            outcome.differ(f"run {' '.join(words_of(given))}", told, answer)
+
+    def runs(self, text: bytes, judged: Accepted, exact: bool, outcome: Outcome) -> None:
+        for order, given in zip(Order, given_in_orders(text, judged)):
+            question = ["run", "--order", order.value, *words_of(given)]
+            answer = self.ask(text, *question)
+            if order is Order.FIRST and is_sampled(text):
+                usual = self.ask(text, "run", *words_of(given))
+                if answer != usual:
+                    outcome.differ("run, with --order first and without", answer, usual)
+            if exact:
+                self.compare_run(" ".join(question), judged, (order, given), answer, outcome)
+                continue
+            outcome.counts["runs looked at for their form"] += 1
+            ended = ENDED.fullmatch(answer.out)
+            if answer != done(answer.out) or not ended or int(ended[2]) > judged.bounds.steps:
+                outcome.differ(" ".join(question), f"ended within {judged.bounds.steps} steps", answer)
+
+    def compare_run(self, question: str, judged: Accepted, how: tuple[Order, Arguments], answer: Answer, outcome: Outcome) -> None:
+        outcome.counts["runs compared"] += 1
+        outcome.counts["of them with numbers given"] += 1 if how[1] else 0
+        try:
+            ran = telling.run(judged.module, *how)
+        except telling.Wrong as wrong:
+            outcome.differ(question, f"a wrong step: {wrong}", answer)
+            return
+        told = done(ran.text())
+        if answer != told or not ran.ended or ran.steps > judged.bounds.steps:
+            outcome.differ(question, told if ran.ended else "nobody can step", answer)
+
+    def schedules(self, text: bytes, judged: Accepted, outcome: Outcome) -> None:
+        few = judged.bounds.activities <= MOST_ACTIVITIES and judged.bounds.steps <= LONGEST_COMPARED
+        try:
+            worlds = telling.Schedules(judged, self.worlds, given_in_orders(text, judged)[0]).walk() if few else None
+        except telling.Broken as broken:
+            outcome.differences.append(f"a promise is broken: {broken}")
+            return
+        if worlds is None:
+            outcome.counts["accepted modules with too many worlds"] += 1
+            return
+        outcome.counts["modules taken through all schedules"] += 1
+        outcome.counts["worlds in them"] += worlds
+        if judged.bounds.activities > 1:
+            outcome.counts["of them with several activities"] += 1
+
+
+# Smaller texts with the same fault.
+
+
+def shorter(text: bytes) -> Iterator[bytes]:
+    """A source text without a piece of it, large ones first."""
+    size = len(text) // 2
+    while size:
+        for at in range(0, len(text), size):
+            yield text[:at] + text[at + size :]
+        size //= 2
+
+
+def smaller(text: bytes, source: bool) -> Iterable[bytes]:
+    """Texts that have a little less than this one."""
+    if source:
+        return itertools.islice(shorter(text), 400)
+    try:
+        value = json.loads(text)
+        units = [unit["code"] for unit in value["units"]]
+        found = []
+        if len(units) > 1:
+            found.append({**value, "units": value["units"][:-1]})
+        for number, code in enumerate(units):
+            for place in range(len(code)):
+                changed = json.loads(text)
+                changed["units"][number]["code"] = generated.without(code, place)
+                found.append(changed)
+        return [json.dumps(value, separators=(",", ":")).encode() for value in found]
+    except (ValueError, TypeError, KeyError, IndexError, AttributeError):
+        return [text[:at] + text[at + 1 :] for at in range(min(len(text), 400))]
+
+
+def shrunk(comparer: Comparer, text: bytes) -> bytes:
+    """A smaller text that is answered differently too, if one is found soon."""
+    for _ in range(100):
+        better = next((one for one in smaller(text, comparer.source) if comparer.outcome(one).differences), None)
+        if better is None:
+            return text
+        text = better
+    return text
+
+
+# Cases.
+
+
+@dataclass
+class Summary:
+    cases: int = 0
+    labels: collections.Counter = field(default_factory=collections.Counter)
+    counts: collections.Counter = field(default_factory=collections.Counter)
+    differing: list[tuple[int, bytes, list[str]]] = field(default_factory=list)
+
+    def add(self, case: int, text: bytes, outcome: Outcome) -> None:
+        self.cases += 1
+        self.labels[outcome.label] += 1
+        self.counts += outcome.counts
+        if outcome.differences:
+            self.differing.append((case, text, outcome.differences))
+
+    def join(self, other: Summary) -> None:
+        self.cases += other.cases
+        self.labels += other.labels
+        self.counts += other.counts
+        self.differing += other.differing
+
+
+@dataclass(frozen=True)
+class Maker:
+    """Makes cases by their numbers alone; the first ones are texts that somebody wrote."""
+
+    seed: int
+    source: bool
+    changed: bool
+
+    @cached_property
+    def seeds(self) -> list[bytes]:
+        return seed_texts(self.source)
+
+    def text_of(self, case: int) -> bytes:
+        made = generated_source.changed if self.changed else generated_source.case if self.source else generated.case
+        return self.seeds[case] if case < len(self.seeds) else made(random.Random(f"{self.seed} {case}"), self.seeds)
+
+
+def compared(comparer: Comparer, maker: Maker, cases: range) -> Summary:
+    summary = Summary()
+    for case in cases:
+        text = maker.text_of(case)
+        try:
+            outcome = comparer.outcome(text)
+        except Exception as fault:  # A fault of the telling is a difference like any other.
+            outcome = Outcome("?", differences=[f"the telling failed: {fault!r}"])
+        summary.add(case, text, outcome)
+    return summary
+
+
+def in_order(label: str) -> tuple[str, int]:
+    return (label[0], int(label[1:])) if label[1:].isdigit() else ("~", 0)
+
+
+def words() -> argparse.Namespace:
+    parser = argparse.ArgumentParser(description="Compares what x10clock answers with a second telling.")
+    parser.add_argument("cases", nargs="?", type=int, default=20_000)
+    parser.add_argument("seed", nargs="?", type=int, default=1)
+    parser.add_argument("--source", action="store_true")
+    parser.add_argument("--changed", action="store_true")
+    parser.add_argument("--jobs", type=int, default=2)
+    parser.add_argument("--program", type=pathlib.Path, default=TOP / "crates/x10clock/out/x10clock")
+    parser.add_argument("--worlds", type=int, default=1_000)
+    parser.add_argument("--only", type=int)
+    given = parser.parse_args()
+    if given.changed and not given.source:
+        parser.error("--changed is for --source")
+    return given
+
+
+def main() -> int:
+    given = words()
+    comparer = Comparer(given.program.resolve(), given.worlds, given.source)
+    maker = Maker(given.seed, given.source, given.changed)
+    if given.only is not None:
+        sys.stdout.buffer.write(maker.text_of(given.only) + b"\n")
+        return 0
+    summary = Summary()
+    chunks = [range(start, min(start + CHUNK, given.cases)) for start in range(0, given.cases, CHUNK)]
+    with concurrent.futures.ProcessPoolExecutor(given.jobs) as pool:
+        for part in concurrent.futures.as_completed([pool.submit(compared, comparer, maker, chunk) for chunk in chunks]):
+            summary.join(part.result())
+    for label in sorted(summary.labels, key=in_order):
+        print(f"{summary.labels[label]:8} {label}")
+    for name, count in sorted(summary.counts.items()):
+        print(f"{count:8} {name}")
+    for case, text, differences in sorted(summary.differing)[:SHOWN]:
+        print(f"case {case}: {text!r}", *differences, f"smaller: {shrunk(comparer, text)!r}", sep="\n    ", file=sys.stderr)
+    print(f"{summary.cases} cases, {len(summary.differing)} with a difference")
+    return 1 if summary.differing else 0
+
+
+if __name__ == "__main__":
+    sys.exit(main())

@@ -1,0 +1,104 @@
+#!/usr/bin/env python3
+"""Asks the prover whether the law that a compiled program means its source refuses wrong compilers.
+
+    tests/prover/wrong_code.py [BUG ..]
+
+They stand in tests/prover/bugs/xk_source.bugs, in the form that tests/prover/bugs.py tells; each changes the definition of the code of
+statements (crates/xk_code/specs) or of what a text means (crates/xk_source/specs), which the law is about. The functions of `xk_code` would be
+refused first, by the contract that names the definition; so in a copy of the crates below that one is left with its definitions and what the
+law's proof cites of its lemmas, and `xk_source` is checked over it: as it is, where it has to be proved, and with each change, where it must not
+be.
+"""
+import os
+import re
+import shutil
+import subprocess
+import sys
+import tempfile
+
+from bugs import read_bugs
+
+TOP = os.path.normpath(os.path.join(os.path.dirname(os.path.abspath(__file__)), "../.."))
+BELOW = ["xk_types", "xk_tree", "xk_names", "xk_calls", "xk_units"]
+KEPT_PROOFS = ["Scopes", "Covered", "CoveredLaw"]
+
+
+def with_definitions_alone(folder):
+    """Leaves the definitions of xk_code in this folder, and the lemmas that the law's proof cites."""
+    shutil.rmtree(os.path.join(folder, "out"), ignore_errors=True)
+    for file in os.listdir(os.path.join(folder, "src")):
+        os.remove(os.path.join(folder, "src", file))
+    with open(os.path.join(folder, "src", "lib.rt"), "w", encoding="utf-8") as f:
+        f.write("//! The code of source trees.\n#![tactic(auto)]\n")
+    specs = [file[:-5] for file in sorted(os.listdir(os.path.join(folder, "specs"))) if file not in ("Lib.antt", "Room.antt")]
+    os.remove(os.path.join(folder, "specs", "Room.antt"))
+    proofs = os.path.join(folder, "proofs")
+    for name in os.listdir(proofs):
+        path = os.path.join(proofs, name)
+        if name.removesuffix(".antt") not in KEPT_PROOFS:
+            shutil.rmtree(path) if os.path.isdir(path) else os.remove(path)
+    for where, names in (("specs", specs), ("proofs", KEPT_PROOFS)):
+        with open(os.path.join(folder, where, "Lib.antt"), "w", encoding="utf-8") as f:
+            f.write("".join(f"pub mod {name}\n" for name in names))
+
+
+def copied(folder):
+    """Makes a copy of the crates that the law needs."""
+    crates = os.path.join(folder, "crates")
+    for name in BELOW + ["xk_code", "xk_source"]:
+        shutil.copytree(os.path.join(TOP, "crates", name), os.path.join(crates, name))
+    shutil.copy(os.path.join(TOP, "HANDLES"), folder)
+    lines = open(os.path.join(TOP, "crates.txt"), encoding="utf-8").read().splitlines()
+    wanted = [line for line in lines if line.split(":")[0] in BELOW + ["xk_code", "xk_source"]]
+    with open(os.path.join(folder, "crates.txt"), "w", encoding="utf-8") as f:
+        f.write("".join(line + "\n" for line in wanted))
+    with_definitions_alone(os.path.join(crates, "xk_code"))
+
+
+def says(folder):
+    """What the check of xk_source comes to: proved, refused, or a word on what went wrong before; and a line that says so."""
+    call = ["rt", "check", "--jobs", "1"]
+    ran = subprocess.run(
+        call, cwd=os.path.join(folder, "crates", "xk_source"), stdout=subprocess.PIPE, stderr=subprocess.STDOUT, text=True, errors="replace", check=False
+    )
+    lines = ran.stdout.splitlines()
+    if ran.returncode == 0 and any(line.startswith("logic=proved functions=2 ") for line in lines[-8:]):
+        return "proved", ""
+    # neither what is said of rows of texts nor that a tree has one module is the law's
+    refused = [line for line in lines if re.match(r"(\./)?proofs/(?!Rows|One)\S+: error", line)]
+    if refused and any(line.startswith("fn xk_source::laws::means_its_source: not proved") for line in lines):
+        return "refused", refused[0]
+    return "not tried", lines[-1] if lines else ""
+
+
+def main():
+    bugs = read_bugs(os.path.join(TOP, "tests", "prover", "bugs", "xk_source.bugs"))
+    bugs = [b for b in bugs if not sys.argv[1:] or b.name in sys.argv[1:]]
+    wrong = []
+    with tempfile.TemporaryDirectory() as folder:
+        copied(folder)
+        first, line = says(folder)
+        print(f"as it is: {first} {line}", flush=True)
+        if first != "proved":
+            sys.exit(1)
+        for bug in bugs:
+            path = os.path.join(folder, "crates", "xk_source", bug.file)
+            right = open(path, encoding="utf-8").read()
+            text = right
+            for old, new in bug.pairs:
+                if text.count(old) != 1:
+                    sys.exit(f"{bug.name}: not once in {bug.file}: {old}")
+                text = text.replace(old, new)
+            with open(path, "w", encoding="utf-8") as f:
+                f.write(text)
+            word, line = says(folder)
+            print(f"  {bug.name:34} {word:10} {line[:150]}", flush=True)
+            wrong += [bug.name] if word != "refused" else []
+            with open(path, "w", encoding="utf-8") as f:
+                f.write(right)
+    print(f"{len(bugs)} wrong compilers, {len(bugs) - len(wrong)} refused")
+    sys.exit(1 if wrong else 0)
+
+
+if __name__ == "__main__":
+    main()
