@@ -1,0 +1,9 @@
+//! Where something stands in a text: its line and column, and the line with a caret under it.
+#![tactic(auto)]
+
+mod excerpts;
+mod lines;
+mod signs;
+
+pub use lines::{LineStarts, Position};
+pub use signs::shown;
