@@ -1,12 +1,13 @@
 -- The signs of a text, one after another.
 use Rattle.std.proofs.Common.{◌≡◌, ℕ, zero, suc, ◌+◌, ◌-◌, ◌<◌, ◌≤◌, Bool, true, false, List, [], ◌∷◌, ◌++◌, length, take, drop, refl, ap, sym, ◌∙◌, subst, arith, min}
-use Rattle.std.proofs.lemmas.List.{take_all, length-drop, flat_map_more}
-use Rattle.std.specs.Prelude.{Result, Ok, Err, MatchResult, is_ok, count_by}
-use Rattle.std.specs.Str.{IsUtf8, is_utf8}
+use Rattle.std.proofs.lemmas.List.{take_all, length-drop, flat_map_more, take-append-drop}
+use Rattle.std.specs.Prelude.{Result, Ok, Err, MatchResult, is_ok, count_by, flat_map}
+use Rattle.std.specs.Str.{IsUtf8, continuation_len, is_utf8}
 use Rattle.std.proofs.lemmas.Str.{IsUtf8-from_is_utf8, is_utf8-from_IsUtf8}
+use Rattle.std.proofs.lemmas.Bool.{cond_both}
 use Rattle.xk_positions.specs.Excerpts.{cut, excerpt, framed, shown_before, window}
 use Rattle.xk_positions.specs.Lines.{first_line, is_line_feed, line_at, line_start, position_of}
-use Rattle.xk_positions.specs.Signs.{signs, signs_behind, sign_len, shown_sign, shown_signs}
+use Rattle.xk_positions.specs.Signs.{front, is_character, signs, signs_behind, sign_len, shown_sign, shown_signs}
 
 -- ---- UTF-8
 
@@ -53,6 +54,30 @@ signs_behind_short (suc k) (b ∷ bs) = let rest = signs_behind_short k bs in om
 pub all_signs : (text : List ℕ) → take (length text) (signs text) ≡ signs text
 unfolding signs
 all_signs text = take_all (length text) (signs_behind 0 text) (signs_behind_short 0 text)
+
+sign_len_some : (b : ℕ) (bs : List ℕ) → 0 < sign_len (b ∷ bs)
+sign_len_some b bs =
+    let first : front (b ∷ bs) ≡ b ∷ take (continuation_len b) bs =
+    ap (λ k. take k (b ∷ bs)) (let n : continuation_len b + 1 ≡ suc (continuation_len b) = omega arith in n) in
+    let some : 0 < length (front (b ∷ bs)) = let l = ap length first in omega (arith, l) in
+    cond_both (is_character (front (b ∷ bs))) (length (front (b ∷ bs))) 1 (λ n. 0 < n) (λ yes. some) (λ no. omega arith)
+
+drop_first : (b : ℕ) (bs : List ℕ) (n : ℕ) → 0 < n → drop (n - 1) bs ≡ drop n (b ∷ bs)
+drop_first b bs zero h = absurd (omega (arith, h))
+drop_first b bs (suc n) h = let e : suc n - 1 ≡ n = omega arith in ap (λ k. drop k bs) e
+
+joined : (k : ℕ) (text : List ℕ) → flat_map (λ sign. sign) (signs_behind k text) ≡ drop k text
+joined zero [] = refl
+joined (suc k) [] = refl
+joined zero (b ∷ bs) =
+    let n = sign_len (b ∷ bs) in
+    ap (λ l. take n (b ∷ bs) ++ l) (joined (n - 1) bs ∙ drop_first b bs n (sign_len_some b bs)) ∙ take-append-drop n (b ∷ bs)
+joined (suc k) (b ∷ bs) = joined k bs
+
+-- nothing is left out
+pub joined_signs : (text : List ℕ) → flat_map (λ sign. sign) (signs text) ≡ text
+unfolding signs
+joined_signs text = joined 0 text
 
 -- ---- lists that are gone through
 

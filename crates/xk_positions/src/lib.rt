@@ -2,6 +2,7 @@
 #![tactic(auto)]
 
 mod excerpts;
+pub mod laws;
 mod lines;
 mod signs;
 

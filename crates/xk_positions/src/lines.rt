@@ -134,8 +134,13 @@ impl<'t> LineStarts<'t> {
         }
     }
 
-    /// The excerpt of the line of an offset, as much of it as stands near: the line with its number, and below it a caret for each column of
-    /// so many signs from the offset on, one at least. Words may follow behind the last caret. Err where memory was refused.
+    /// The excerpt of the line of an offset, three lines: `   |`, ` 8 | ` and the line, `   | ` and carets.
+    ///
+    /// Of the line no more is shown than 80 signs before the offset and 80 from it on, with `..` for what is left out. A sign is a
+    /// character, or a byte that belongs to none. A tab is one blank, and control signs and such bytes are told by their numbers, as
+    /// `\x1b`. The carets stand under so many signs from the offset on, under one column at least: where a terminal makes each
+    /// character one column wide, so not where it makes two of one. No line feed is behind the last caret, so words may follow.
+    /// Err where memory was refused.
     pub fn excerpt(
         &self,
         alloc: Global,
