@@ -1,0 +1,4 @@
+pub mod Starts
+pub mod Fronts
+pub mod Parts
+pub mod Examples

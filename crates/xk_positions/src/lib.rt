@@ -1,0 +1,10 @@
+//! Where something stands in a text: its line and column, and the line with a caret under it.
+#![tactic(auto)]
+
+mod excerpts;
+pub mod laws;
+mod lines;
+mod signs;
+
+pub use lines::{LineStarts, Position};
+pub use signs::shown;
