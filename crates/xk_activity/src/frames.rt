@@ -22,7 +22,7 @@ use crate::stack::{Stack, copy_callers, copy_words, empty, fill, hand, put};
 use std::alloc::{AllocError, Global};
 use std::marker::Model;
 use xk_bounds::Verified;
-use xk_types::{Instr, Value, is_same_module};
+use xk_types::{Instr, Value};
 
 /// What a call for one local step did.
 #[derive(Clone, Copy, Debug, PartialEq, Eq)]
@@ -237,7 +237,7 @@ impl<'m> Frames<'m> {
         {
             return false;
         }
-        is_same_module(self.verified.module(), other.verified.module())
+        self.verified.module() == other.verified.module()
     }
 
     /// The code of the present frame's unit.

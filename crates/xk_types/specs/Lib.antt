@@ -12,3 +12,4 @@ pub mod Acceptance
 pub mod Kinds
 pub mod Device
 pub mod Logs
+pub mod Equality

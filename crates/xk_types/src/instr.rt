@@ -1,6 +1,9 @@
 //! The bytecode's instructions.
 
-ghost use Rattle.std.specs.Prelude.{◌≡◌, length};
+ghost use Rattle.std.specs.Prelude.{◌≡◌, ◌==◌, length};
+ghost use Rattle.std.proofs.Common.{rules};
+ghost use Rattle.std.specs.Cmp.Lexicographic.{pointwise};
+ghost use Rattle.std.specs.Cmp.Rules.{comparing};
 ghost use Rattle.xk_types.specs.Code.{arguments_of, compares};
 
 use std::marker::Model;
@@ -18,6 +21,16 @@ impl Model for Args {
     ghost Value = { List ℕ };
 
     ghost view = { λ a. a.slots.items };
+}
+
+impl PartialEq for Args {
+    ghost eq = { pointwise ◌==◌ };
+
+    ghost laws = { Prim.search (comparing, rules) };
+
+    fn eq(&self, other: &Args) -> bool {
+        self.slots() == other.slots()
+    }
 }
 
 impl Args {
@@ -78,7 +91,7 @@ impl Comparison {
 
 /// One instruction of a unit's code. Slots, units and places in the code are named by number, from 0; an instruction goes on
 /// to the next, where nothing else is said.
-#[derive(Drop)]
+#[derive(PartialEq, Drop)]
 pub enum Instr {
     /// `lit d n`: slot d becomes the number n.
     Lit {

@@ -3,7 +3,6 @@
 #![tactic(auto)]
 
 mod device;
-mod equality;
 mod instr;
 mod rules;
 mod std_devices;
@@ -12,7 +11,6 @@ mod unit;
 mod world;
 
 pub use device::{Failed, Sink, Source};
-pub use equality::is_same_module;
 pub use instr::{Args, Comparison, Instr};
 pub use rules::{Kind, Rule, Visit};
 pub use std_devices::Counted;

@@ -52,6 +52,21 @@ impl Model for Unit {
     } };
 }
 
+impl PartialEq for Unit {
+    ghost use Rattle.xk_types.specs.Equality.{laws, units};
+
+    ghost eq = { units.answer };
+
+    ghost laws = { laws units };
+
+    fn eq(&self, other: &Unit) -> bool {
+        self.kind == other.kind
+            && self.params.as_slice() == other.params.as_slice()
+            && self.slots == other.slots
+            && self.code.as_slice() == other.code.as_slice()
+    }
+}
+
 /// A program: its shared numbers as they are at the start, and its units, of which unit 0 is main.
 #[derive(Drop)]
 pub struct Module {
@@ -68,6 +83,24 @@ impl Model for Module {
 
     ghost invariant = { λ m. IsWithinLimits
         (record { shared = m.shared.items; units = m.units.items }) };
+}
+
+impl PartialEq for Module {
+    ghost use Rattle.std.specs.Prelude.{◌≡◌};
+    ghost use Rattle.std.specs.Bool.{Decides};
+    ghost use Rattle.xk_types.specs.Equality.{laws, modules};
+
+    ghost eq = { modules.answer };
+
+    ghost laws = { laws modules };
+
+    /// Whether they have the same shared numbers and the same units.
+    fn eq(&self, other: &Module) -> bool
+        ensures answer { result ≡ modules.answer self.now other.now }
+        ensures same { Decides result (self.now ≡ other.now) }
+    {
+        self.shared() == other.shared() && self.units() == other.units()
+    }
 }
 
 /// A module goes beyond a limit.

@@ -16,7 +16,7 @@ use std::thread::Threads;
 use xk_activity::{Frames, Ticket};
 use xk_core::Core;
 use xk_scheduler::{Ended, First, Partial, drive, unstarted};
-use xk_types::{Act, is_same_module};
+use xk_types::Act;
 
 /// How many local steps a worker computes at once, at most.
 const MOST_LOCAL_STEPS: u32 = 65_536;
@@ -142,7 +142,7 @@ fn are_same_numbers(a: &[i64], b: &[i64]) -> bool
 fn is_same(shared: &Shared<'_>, core: &Core<'_>) -> bool
     ensures { Decides result (AreAlike shared.now.run.core core.now) }
 {
-    is_same_module(shared.core().module().module(), core.module().module())
+    shared.core().module().module() == core.module().module()
         && are_same_numbers(shared.core().arguments(), core.arguments())
 }
 
