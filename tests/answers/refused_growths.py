@@ -4,9 +4,9 @@ library call again where it was refused memory, and in `x10clock` itself on smal
 job, which has to answer as it does with ample memory, or with status 4, an empty standard output, nothing in the log that it was to write, and
 its line.
 
-    tests/answers/refused_growths.py [--counts]
+    tests/answers/refused_growths.py [--counts] [--program PATH] [--exhaust PATH]
 
-The calls are tried on all processors at once, each call's growths one after another. With `--counts` it tells how many each call has, and how
+crates/x10clock/out/x10clock and crates/xk_exhaust/out/exhaust where nothing else is said. The calls are tried on all processors at once, each call's growths one after another. With `--counts` it tells how many each call has, and how
 long they took.
 """
 
@@ -26,8 +26,8 @@ from dataclasses import dataclass
 TOP = pathlib.Path(__file__).resolve().parents[2]
 ROWS = TOP / "tests/answers/rows"
 LOGS = TOP / "tests/answers/logs"
-PROGRAM = str(TOP / "crates/x10clock/out/x10clock")
-EXHAUST = str(TOP / "crates/xk_exhaust/out/xk_exhaust")
+PROGRAM = TOP / "crates/x10clock/out/x10clock"
+EXHAUST = TOP / "crates/xk_exhaust/out/xk_exhaust"
 
 MEMORY = b"x10clock: out of memory\n"
 # A word that stands for the file of the log that a run is to write.
@@ -145,15 +145,15 @@ def each_growth(place: Place, call: Call) -> int:
 class Calls:
     """The calls that are to be tried, each asked once with ample memory."""
 
-    def __init__(self, place: Place) -> None:
-        self.place = place
+    def __init__(self, place: Place, program: pathlib.Path) -> None:
+        self.place, self.program = place, str(program.resolve())
         self.calls: list[Call] = []
 
     def ask(self, name: str, words: list[str], text: bytes = b"") -> Answer:
         """Adds a call of the program, and what it answers."""
         self.place.give(text)
-        wanted, _ = self.place.answer([PROGRAM, *words], 0)
-        self.calls.append(Call(name, [PROGRAM, *words], text, wanted))
+        wanted, _ = self.place.answer([self.program, *words], 0)
+        self.calls.append(Call(name, [self.program, *words], text, wanted))
         return wanted
 
     def need(self, name: str, words: list[str], text: bytes, status: int, out: bytes, err: bytes) -> Answer:
@@ -171,11 +171,11 @@ class Calls:
             raise Wrong(f"{name}: {told}")
         return told
 
-    def exhaust(self) -> None:
+    def exhaust(self, program: pathlib.Path) -> None:
         """Adds `xk_exhaust`, which answers the same whatever growth is refused."""
         wanted = Answer(0, (TOP / "crates/xk_exhaust/stdout").read_bytes(), b"", None)
         for part in range(PARTS):
-            self.calls.append(Call("exhaust", [EXHAUST], b"", wanted, first=part + 1, step=PARTS))
+            self.calls.append(Call("exhaust", [str(program.resolve())], b"", wanted, first=part + 1, step=PARTS))
 
 
 def given(row: pathlib.Path) -> list[str]:
@@ -266,9 +266,9 @@ def each_mistake(calls: Calls) -> None:
         raise Wrong(f"a word not in UTF-8: {told}")
 
 
-def all_calls(folder: str, preloaded: str) -> list[Call]:
-    calls = Calls(Place(folder, preloaded))
-    calls.exhaust()
+def all_calls(folder: str, preloaded: str, given: argparse.Namespace) -> list[Call]:
+    calls = Calls(Place(folder, preloaded), given.program)
+    calls.exhaust(given.exhaust)
     each_log(calls, folder)
     each_mismatch(calls, folder)
     each_row(calls)
@@ -296,25 +296,27 @@ def tried(number: int) -> tuple[int, int, float, str]:
         return number, 0, time.monotonic() - begun, str(wrong)
 
 
-def built() -> None:
-    """Builds the two programs where they aren't built yet."""
-    for name in ("xk_exhaust", "x10clock"):
-        if not (TOP / f"crates/{name}/out/{name}").exists():
+def built(paths: list[pathlib.Path]) -> None:
+    """Builds the two programs where they are asked and aren't built yet."""
+    for path in (EXHAUST, PROGRAM):
+        if path in paths and not path.exists():
             with (TOP / "crates/x10clock/stdin").open("rb") as stdin:
-                subprocess.run(["rt", "run", "--", "run", "--module", "-"], cwd=TOP / f"crates/{name}", stdin=stdin,
+                subprocess.run(["rt", "run", "--", "run", "--module", "-"], cwd=TOP / f"crates/{path.name}", stdin=stdin,
                                stdout=subprocess.DEVNULL, check=True)
 
 
 def main() -> int:
     parser = argparse.ArgumentParser()
     parser.add_argument("--counts", action="store_true")
+    parser.add_argument("--program", type=pathlib.Path, default=PROGRAM)
+    parser.add_argument("--exhaust", type=pathlib.Path, default=EXHAUST)
     options = parser.parse_args()
-    built()
+    built([options.program, options.exhaust])
     with tempfile.TemporaryDirectory() as folder:
         preloaded = f"{folder}/refuse.so"
         subprocess.run(["gcc", "-shared", "-fPIC", "-O2", "-o", preloaded, TOP / "tests/answers/refuse.c"], check=True)
         try:
-            calls = all_calls(folder, preloaded)
+            calls = all_calls(folder, preloaded, options)
         except Wrong as wrong:
             print(f"refused growths: {wrong}", file=sys.stderr)
             return 1

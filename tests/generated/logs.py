@@ -2,18 +2,19 @@
 """Logs, replay and charts: whether a second telling of them (tests/reference/telling_log.py) says what the rows of tests/answers/logs.rows want,
 and, with `--program`, whether the program says the same of these rows, and of logs that nobody wrote.
 
-    python3 tests/generated/logs.py [CASES] [SEED] [--program PATH] [--jobs N]
+    python3 tests/generated/logs.py [CASES] [SEED] [--program PATH] [--jobs N] [--tally]
 
 2,000 cases, seed 1 and 2 jobs where nothing else is said. A case is a program, as a source text or a module, and the log of a run by an order
 or by chance, which may be changed: an entry, a line, or a byte. Five cases in a row have the same program, which is run with `--log` in some
 order; the program replays each log and charts it. The telling is held against itself, too: what is written is read back, no beginning of a
 text is a text, and entries that are joined give the same run. The rows are asked of the program twice: as they are, and of the modules that
-their programs are compiled to.
+their programs are compiled to. `--tally` tells how often the program gave each answer.
 """
 
 from __future__ import annotations
 
 import argparse
+import collections
 import concurrent.futures
 import functools
 import itertools
@@ -30,6 +31,7 @@ TESTS = pathlib.Path(__file__).resolve().parent.parent
 sys.path.append(str(TESTS / "reference"))
 import generated
 import generated_source
+import tally
 import telling
 import telling_log
 import telling_source
@@ -98,13 +100,16 @@ class Program:
 
     def __init__(self, program: pathlib.Path, folder: str) -> None:
         self.program, self.folder = program, pathlib.Path(folder)
+        self.answers: collections.Counter[str] = collections.Counter()
 
     def call(self, *words: object) -> Answer:
         try:
             ran = subprocess.run([self.program, *map(str, words)], capture_output=True, timeout=SECONDS, check=False)
+            answer = ran.returncode, ran.stdout.decode("utf-8", "replace"), ran.stderr.decode("utf-8", "replace")
         except subprocess.TimeoutExpired:
-            return -1, "", "no answer in time"
-        return ran.returncode, ran.stdout.decode("utf-8", "replace"), ran.stderr.decode("utf-8", "replace")
+            answer = -1, "", "no answer in time"
+        self.answers[tally.label(answer[0], answer[2])] += 1
+        return answer
 
     def run(self, text: Text, order: Order) -> tuple[Answer, bytes]:
         file, log = self.folder / "text", self.folder / "made"
@@ -354,15 +359,16 @@ class Job:
     seed: int
     program: pathlib.Path | None
 
-    def of_cases(self, cases: range) -> list[tuple[int, str]]:
+    def of_cases(self, cases: range) -> tuple[collections.Counter[str], list[tuple[int, str]]]:
         with tempfile.TemporaryDirectory() as folder:
             program = self.program and Program(self.program, folder)
             firsts = range(cases.start, cases.stop, LOGS_OF_A_PROGRAM)
-            return [
+            found = [
                 (first, what)
                 for first in firsts
                 for what in differences(random.Random(f"{self.seed} {first}"), program, min(LOGS_OF_A_PROGRAM, cases.stop - first))
             ]
+            return program.answers if program else collections.Counter(), found
 
 
 def words() -> argparse.Namespace:
@@ -371,6 +377,7 @@ def words() -> argparse.Namespace:
     parser.add_argument("seed", nargs="?", type=int, default=1)
     parser.add_argument("--jobs", type=int, default=2)
     parser.add_argument("--program", type=pathlib.Path)
+    parser.add_argument("--tally", action="store_true")
     return parser.parse_args()
 
 
@@ -383,15 +390,21 @@ def asked_of(who: Told | Program) -> tuple[int, list[str]]:
 def main() -> int:
     given = words()
     program = given.program and given.program.resolve()
+    answers: collections.Counter[str] = collections.Counter()
     count, differing = asked_of(Told())
     for form in (Program, ProgramOnModules) if program else ():
         with tempfile.TemporaryDirectory() as folder:
-            more, others = asked_of(form(program, folder))
+            asked = form(program, folder)
+            more, others = asked_of(asked)
+        answers += asked.answers
         count, differing = count + more, differing + others
     chunks = [range(start, min(start + CHUNK, given.cases)) for start in range(0, given.cases, CHUNK)]
     with concurrent.futures.ProcessPoolExecutor(given.jobs) as pool:
-        for found in pool.map(Job(given.seed, program).of_cases, chunks):
+        for counted, found in pool.map(Job(given.seed, program).of_cases, chunks):
+            answers += counted
             differing += [f"case {case}: {what}" for case, what in found]
+    if given.tally:
+        tally.show(answers)
     print(*differing[:SHOWN], sep="\n", end="\n" if differing else "", file=sys.stderr)
     print(f"logs: {count} rows, {given.cases} cases, {len(differing)} told otherwise")
     return 1 if differing or not count else 0

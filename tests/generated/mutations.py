@@ -10,10 +10,10 @@ and of examples, and `compile` is compared too, with what tests/reference/tellin
 with what the text means (tests/reference/meaning.py).
 Needs the built program and python3. The gate runs it with 2,000 cases.
 
-    python3 tests/generated/mutations.py [CASES] [SEED] [--source [--changed]] [--jobs N] [--program PATH] [--worlds N] [--only CASE]
+    python3 tests/generated/mutations.py [CASES] [SEED] [--source [--changed]] [--jobs N] [--program PATH] [--worlds N] [--tally] [--only CASE]
 
 20,000 cases, seed 1, 2 jobs, crates/x10clock/out/x10clock and 1,000 worlds where nothing else is said. With `--changed` all texts but the first
-ones are changed byte by byte. `--only` prints one case alone.
+ones are changed byte by byte. `--tally` tells how often the program gave each answer; `--only` prints one case alone.
 """
 
 from __future__ import annotations
@@ -39,6 +39,7 @@ sys.path.append(str(TESTS / "reference"))
 import generated
 import generated_source
 import meaning
+import tally
 import telling
 import telling_log
 import telling_source
@@ -175,15 +176,18 @@ class Comparer:
     program: pathlib.Path
     worlds: int
     source: bool
+    answers: collections.Counter = field(default_factory=collections.Counter)
 
     def ask(self, text: bytes, command: str, *more: str) -> Answer:
         form = [] if self.source else ["--module"]
         words = [self.program, command, *more, *form, "-"]
         try:
             ran = subprocess.run(words, input=text, capture_output=True, timeout=SECONDS, check=False)
+            answer = Answer(ran.returncode, ran.stdout.decode("utf-8", "replace"), ran.stderr.decode("utf-8", "replace"))
         except subprocess.TimeoutExpired:
-            return Answer(-1, "", LATE)
-        return Answer(ran.returncode, ran.stdout.decode("utf-8", "replace"), ran.stderr.decode("utf-8", "replace"))
+            answer = Answer(-1, "", LATE)
+        self.answers[tally.label(answer.status, answer.err)] += 1
+        return answer
 
     def outcome(self, text: bytes) -> Outcome:
         judged = telling_source.judge(text) if self.source else telling.judge(text)
@@ -361,6 +365,7 @@ class Summary:
     cases: int = 0
     labels: collections.Counter = field(default_factory=collections.Counter)
     counts: collections.Counter = field(default_factory=collections.Counter)
+    answers: collections.Counter = field(default_factory=collections.Counter)
     differing: list[tuple[int, bytes, list[str]]] = field(default_factory=list)
 
     def add(self, case: int, text: bytes, outcome: Outcome) -> None:
@@ -374,6 +379,7 @@ class Summary:
         self.cases += other.cases
         self.labels += other.labels
         self.counts += other.counts
+        self.answers += other.answers
         self.differing += other.differing
 
 
@@ -403,6 +409,7 @@ def compared(comparer: Comparer, maker: Maker, cases: range) -> Summary:
         except Exception as fault:  # A fault of the telling is a difference like any other.
             outcome = Outcome("?", differences=[f"the telling failed: {fault!r}"])
         summary.add(case, text, outcome)
+    summary.answers += comparer.answers
     return summary
 
 
@@ -419,6 +426,7 @@ def words() -> argparse.Namespace:
     parser.add_argument("--jobs", type=int, default=2)
     parser.add_argument("--program", type=pathlib.Path, default=TOP / "crates/x10clock/out/x10clock")
     parser.add_argument("--worlds", type=int, default=1_000)
+    parser.add_argument("--tally", action="store_true")
     parser.add_argument("--only", type=int)
     given = parser.parse_args()
     if given.changed and not given.source:
@@ -442,6 +450,8 @@ def main() -> int:
         print(f"{summary.labels[label]:8} {label}")
     for name, count in sorted(summary.counts.items()):
         print(f"{count:8} {name}")
+    if given.tally:
+        tally.show(summary.answers)
     for case, text, differences in sorted(summary.differing)[:SHOWN]:
         print(f"case {case}: {text!r}", *differences, f"smaller: {shrunk(comparer, text)!r}", sep="\n    ", file=sys.stderr)
     print(f"{summary.cases} cases, {len(summary.differing)} with a difference")

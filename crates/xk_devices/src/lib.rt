@@ -1,0 +1,10 @@
+//! Tests of what is answered between devices of which one read or write fails, each in its turn, and between such as move
+//! one byte at a time.
+#![tactic(auto)]
+
+#[cfg(test)]
+mod device;
+#[cfg(test)]
+mod rows;
+#[cfg(test)]
+mod serving;

@@ -1,0 +1,146 @@
+//! Jobs, and what they are answered.
+
+use std::alloc::Global;
+use xk_cli::{Command, Drive, Form, Job, Workers};
+
+/// A command on a program and perhaps a log, and what is answered where no device fails.
+#[derive(Clone, Copy)]
+pub struct Row {
+    pub name: &'static str,
+    pub command: Command<'static>,
+    pub program: &'static str,
+    pub log: &'static str,
+    pub status: u8,
+    pub out: &'static str,
+    pub err: &'static str,
+    pub log_out: &'static str,
+}
+
+impl Row {
+    /// The job, on a source text.
+    pub fn job(&self, alloc: Global) -> Job<'static> {
+        Job {
+            command: self.command,
+            form: Form::Source,
+            file: "-",
+            arguments: Vec::new(alloc),
+        }
+    }
+}
+
+/// Main and an activity, in step.
+const IN_STEP: &str =
+    "def main() { val c = Clock.make(); async clocked(c) { Clock.advanceAll(); Console.OUT.println(2); } Clock.advanceAll(); Console.OUT.println(1); }";
+
+const PRINTED: &str = "1\n2\nended steps 12\n";
+
+const LOG: &str = "x10log 1\n0 1\n0 1\n0 1\n1 1\n0 1\n0 1\n0 1\n0 1\n1 1\n1 1\n1 1\n1 1\nend 12\n";
+
+const CHARTED: &str = "step 4 clock 0 phase 1 acts 0 1\n";
+
+const MODULE: &str =
+    r#"{"shared":[],"units":[{"code":[["make",0],["spawn",1,[0]],["advance"],["lit",1,1],["print",1],["ret"]],"kind":"main","params":"","slots":2},{"code":[["advance"],["lit",1,2],["print",1],["ret"]],"kind":"body","params":"c","slots":2}],"version":1}
+"#;
+
+const TRUNCATED: &str = "x10clock: L2 Truncated\n";
+
+/// A row of the program in step, which is accepted.
+fn done(
+    name: &'static str,
+    command: Command<'static>,
+    log: &'static str,
+    out: &'static str,
+    log_out: &'static str,
+) -> Row {
+    Row {
+        name,
+        command,
+        program: IN_STEP,
+        log,
+        status: 0,
+        out,
+        err: "",
+        log_out,
+    }
+}
+
+/// A row that is refused.
+fn refused(
+    name: &'static str,
+    command: Command<'static>,
+    program: &'static str,
+    log: &'static str,
+    status: u8,
+    err: &'static str,
+) -> Row {
+    Row {
+        name,
+        command,
+        program,
+        log,
+        status,
+        out: "",
+        err,
+        log_out: "",
+    }
+}
+
+/// Each command, and texts and a log that are refused.
+pub fn rows() -> [Row; 10] {
+    let run = Command::Run {
+        drive: None,
+        log: Some("log"),
+    };
+    let by_worker = Command::Run {
+        drive: Workers::new(1).map(Drive::Workers),
+        log: Some("log"),
+    };
+    let replay = Command::Replay { log: "log" };
+    let chart = Command::Chart { log: "log" };
+    [
+        done(
+            "check",
+            Command::Check,
+            "",
+            "accepted steps 12 activities 2 clocks 1\n",
+            "",
+        ),
+        done("compile", Command::Compile, "", MODULE, ""),
+        done("run", run, "", PRINTED, LOG),
+        done("run by a worker", by_worker, "", PRINTED, LOG),
+        done("replay", replay, LOG, PRINTED, ""),
+        done("chart", chart, LOG, CHARTED, ""),
+        refused(
+            "check of no program",
+            Command::Check,
+            "main",
+            "",
+            1,
+            "x10clock: F2 Syntax at 0\n",
+        ),
+        refused(
+            "run of a method that calls itself",
+            run,
+            "def main() { main(); }",
+            "",
+            1,
+            "x10clock: F10 Recursive at 13\n",
+        ),
+        refused(
+            "replay of a beginning",
+            replay,
+            IN_STEP,
+            "x10log 1\n0 1\n",
+            3,
+            TRUNCATED,
+        ),
+        refused(
+            "chart of another log",
+            chart,
+            IN_STEP,
+            "x10log 1\n1 1\nend 1\n",
+            3,
+            "x10clock: L4 NotEnabled entry 0\n",
+        ),
+    ]
+}

@@ -1,0 +1,360 @@
+"""A second telling of the command line, in Python: what words ask for, or why they are no job; and what a job on files is answered.
+
+Of clap's texts it tells the first line, and help by its place in tests/answers/words.txt. The words are taken one after another, and the first that is wrong
+is told; what an option is given is looked at when the next argument begins, and what is missing at the end. Files are opened, in this order: FILE, LOG,
+and PATH of `--log`, which is emptied; then FILE is read.
+"""
+
+from __future__ import annotations
+
+import itertools
+import os
+import pathlib
+import re
+from dataclasses import dataclass, field
+from typing import BinaryIO
+
+import telling
+import telling_log
+import telling_source
+from telling import Accepted, Arguments, Order, Refused
+
+TESTS = pathlib.Path(__file__).resolve().parent.parent
+# A number's digits are read one after another, up to the first that makes it too large.
+SIGNED, UNSIGNED = range(-(2**63), 2**63), range(2**64)
+WORKERS = range(1, 65)
+# A run of more steps than this is too long for Python; runs are counted, for a bound says only how long they may become.
+TOO_LONG = 100_000
+# What is behind these bytes of a file isn't looked at: some files have no end.
+MOST_BYTES = 1 << 25
+DEVICE = "x10clock: device"
+NO_TEXT = "x10clock: a word is not in UTF-8"
+EXCLUDED = "x10clock: --workers and --order exclude each other"
+OVER_FILE = "x10clock: --log would write over FILE"
+
+
+class Mistake(Exception):
+    """The words are no job; the message is the first line that is told."""
+
+
+class Help(Exception):
+    """The words ask for help, of this command or, where it is empty, of the program."""
+
+
+class Device(Exception):
+    """A file failed."""
+
+
+class TooLong(Exception):
+    """A run has too many steps to be told."""
+
+
+# What there is.
+
+
+@dataclass(frozen=True)
+class Option:
+    """An option that takes a value: what it is called where it is told, and whether it may come again."""
+
+    told: str
+    is_list: bool = False
+
+
+OPTIONS = {"order": Option("--order <ORDER>"), "workers": Option("--workers <N>"), "log": Option("--log <PATH>"), "arg": Option("--arg <N>", True)}
+# For each command its options, those that take no value, and its places.
+COMMANDS: dict[str, tuple[set[str], set[str], list[str]]] = {
+    "check": (set(), {"module"}, ["FILE"]),
+    "compile": (set(), set(), ["FILE"]),
+    "run": (set(OPTIONS), {"module"}, ["FILE"]),
+    "replay": ({"arg"}, {"module"}, ["FILE", "LOG"]),
+    "chart": ({"arg"}, {"module"}, ["FILE", "LOG"]),
+}
+
+
+@dataclass
+class Job:
+    """What is asked for."""
+
+    command: str
+    flags: set[str] = field(default_factory=set)
+    values: dict[str, str] = field(default_factory=dict)
+    numbers: list[int] = field(default_factory=list)
+
+
+# Numbers.
+
+
+def number(text: str, within: range) -> int:
+    """The number that a text names; the message of the fault is what is wrong with it."""
+    sign = text[:1] if text[:1] == "+" or text[:1] == "-" and within.start < 0 else ""
+    digits = text.removeprefix(sign)
+    if not digits:
+        raise ValueError("invalid digit found in string" if text else "cannot parse integer from empty string")
+    found = 0
+    for digit in digits:
+        if digit not in "0123456789":
+            raise ValueError("invalid digit found in string")
+        found = 10 * found + (-int(digit) if sign == "-" else int(digit))
+        if found not in within:
+            raise ValueError(f"number too {'small' if found < 0 else 'large'} to fit in target type")
+    return found
+
+
+def looked_at(name: str, value: str) -> None:
+    """Raises what there is to say of an option's value."""
+    told = OPTIONS[name].told
+    try:
+        if name == "order" and value not in [order.value for order in Order]:
+            raise Mistake(f"error: invalid value '{value}' for '{told}'" if value else f"error: a value is required for '{told}' but none was supplied")
+        if name == "arg":
+            number(value, SIGNED)
+        if name == "workers" and (count := number(value, UNSIGNED)) not in WORKERS:
+            raise ValueError(f"{count} is not in 1..=64")
+    except ValueError as fault:
+        raise Mistake(f"error: invalid value '{value}' for '{told}': {fault}") from None
+
+
+# Words.
+
+
+def unexpected(word: str) -> Mistake:
+    return Mistake(f"error: unexpected argument '{word}' found")
+
+
+def unrecognized(word: str) -> Mistake:
+    return Mistake(f"error: unrecognized subcommand '{word}'")
+
+
+class Reader:
+    """Reads the words behind a command."""
+
+    def __init__(self, command: str) -> None:
+        self.job = Job(command)
+        self.options, self.flags, self.places = COMMANDS[command]
+        # The option or place that was met last, with the value that it was given.
+        self.name: str | None = None
+        self.value: str | None = None
+
+    def read(self, words: list[str]) -> Job:
+        at = 0
+        while at < len(words) and words[at] != "--":
+            self.take(words[at])
+            at += 1
+        for word in words[at + 1 :]:
+            self.place(word)
+        self.settle()
+        if any(place not in self.job.values for place in self.places):
+            raise Mistake("error: the following required arguments were not provided:")
+        return self.job
+
+    def take(self, word: str) -> None:
+        if word.startswith("--"):
+            name, equals, value = word[2:].partition("=")
+            self.long(name, value if equals else None)
+        elif word.startswith("-") and word != "-":
+            self.short(word[1])
+        elif self.name in OPTIONS and self.value is None:
+            self.value = word
+        else:
+            self.place(word)
+
+    def long(self, name: str, value: str | None) -> None:
+        if name in self.options:
+            self.settle()
+            self.name, self.value = name, value
+            if value is not None:
+                self.settle()
+        elif name not in self.flags | {"help"}:
+            raise unexpected(f"--{name}")
+        elif value is not None:
+            raise Mistake(f"error: unexpected value '{value}' for '--{name}' found; no more were expected")
+        else:
+            self.settle()
+            self.flag(name)
+
+    def flag(self, name: str) -> None:
+        if name == "help":
+            raise Help(self.job.command)
+        if name in self.job.flags:
+            raise Mistake(f"error: the argument '--{name}' cannot be used multiple times")
+        self.job.flags.add(name)
+
+    def short(self, letter: str) -> None:
+        if letter != "h":
+            raise unexpected(f"-{letter}")
+        self.settle()
+        raise Help(self.job.command)
+
+    def place(self, word: str) -> None:
+        taken = sum(place in self.job.values or place == self.name for place in self.places)
+        if taken == len(self.places):
+            raise unexpected(word)
+        self.settle()
+        self.name, self.value = self.places[taken], word
+
+    def settle(self) -> None:
+        """What was met last is done with: its value is looked at, and kept."""
+        name, value, self.name, self.value = self.name, self.value, None, None
+        if name is None:
+            return
+        if name not in OPTIONS:
+            self.job.values[name] = value
+            return
+        if value is None:
+            raise Mistake(f"error: a value is required for '{OPTIONS[name].told}' but none was supplied")
+        if name in self.job.values and not OPTIONS[name].is_list:
+            raise Mistake(f"error: the argument '{OPTIONS[name].told}' cannot be used multiple times")
+        looked_at(name, value)
+        self.job.values[name] = value
+        if name == "arg":
+            self.job.numbers.append(int(value))
+
+
+def helped(words: list[str]) -> Exception:
+    """What `help` says of the words behind it."""
+    if not words:
+        return Help("")
+    if words[0] not in COMMANDS:
+        return unrecognized(words[0])
+    return unrecognized(words[1]) if len(words) > 1 else Help(words[0])
+
+
+def read(words: list[str]) -> Job:
+    """The job that the words ask for."""
+    if any("\udc80" <= sign <= "\udcff" for word in words for sign in word):
+        raise Mistake(NO_TEXT)
+    if not words or words == ["--"]:
+        raise Mistake("error: 'x10clock' requires a subcommand but one was not provided")
+    first, rest = words[0], words[1:]
+    if first in COMMANDS:
+        job = Reader(first).read(rest)
+        if "order" in job.values and "workers" in job.values:
+            raise Mistake(EXCLUDED)
+        return job
+    if first == "help":
+        raise helped(rest)
+    if first == "--":
+        raise unexpected(rest[0]) if rest[0] in {*COMMANDS, "help"} else unrecognized(rest[0])
+    if first == "-" or not first.startswith("-"):
+        raise unrecognized(first)
+    name, equals, value = first[2:].partition("=") if first.startswith("--") else (first[1], "", "")
+    if name not in ("help", "h") or first.startswith("--h") and name == "h":
+        raise unexpected(f"--{name}" if first.startswith("--") else f"-{name}")
+    raise Mistake(f"error: unexpected value '{value}' for '--help' found; no more were expected") if equals else Help("")
+
+
+def help_text(command: str) -> str:
+    """The text of help, which stands in tests/answers/words.txt."""
+    call = f"$ x10clock {command} --help\n".replace("  ", " ")
+    return re.split(r"^\$ ", (TESTS / "answers/words.txt").read_text().partition(call)[2], maxsplit=1, flags=re.MULTILINE)[0]
+
+
+# Jobs.
+
+
+@dataclass(frozen=True)
+class Told:
+    """What a call answers: its status, standard output, and the first line of standard error."""
+
+    status: int
+    out: str = ""
+    err: str = ""
+
+
+def opened(path: str, mode: str) -> BinaryIO | None:
+    """The file, or None for a folder, which can be opened and not be read."""
+    if mode == "rb" and path and os.path.isdir(path):
+        return None
+    try:
+        return open(path, mode)
+    except OSError:
+        raise Device from None
+
+
+def contents(file: BinaryIO | None) -> bytes:
+    if file is None:
+        raise Device
+    try:
+        return file.read(MOST_BYTES)
+    except OSError:
+        raise Device from None
+
+
+def is_same(path: str, file: BinaryIO | None) -> bool:
+    """Whether the log would be written over the program."""
+    if file is None or not os.path.isfile(path):
+        return False
+    return os.path.samestat(os.stat(path), os.fstat(file.fileno()))
+
+
+def judge(job: Job, data: bytes) -> Accepted | Refused:
+    return telling.judge(data) if "module" in job.flags else telling_source.judge(data)
+
+
+def compiled(data: bytes) -> Told:
+    try:
+        return Told(0, telling_source.module_text(data) + "\n")
+    except telling_source.Fault as fault:
+        return Told(1, "", f"x10clock: {fault}")
+
+
+def ran(job: Job, judged: Accepted, log: BinaryIO | None) -> Told:
+    """What a run prints; by workers as by one of them, and such a run's log isn't told."""
+    order, given = Order(job.values.get("order", "first")), tuple(job.numbers)
+    if is_too_long(judged, order, given):
+        raise TooLong
+    if log and "workers" not in job.values:
+        log.write(telling_log.text_of(telling_log.log_of(judged.module, order, given)))
+    return Told(0, telling.run(judged.module, order, given).text())
+
+
+def is_too_long(judged: Accepted, order: Order, arguments: Arguments) -> bool:
+    if judged.bounds.steps <= TOO_LONG:
+        return False
+    return next(itertools.islice(telling_log.driven(judged.module, order, arguments), TOO_LONG, None), None) is not None
+
+
+def answered(job: Job, data: bytes, log_in: BinaryIO | None, log_out: BinaryIO | None) -> Told:
+    """What is said of a program's bytes."""
+    if job.command == "compile":
+        return compiled(data)
+    judged = judge(job, data)
+    line = telling.refusal(job.command, judged, tuple(job.numbers))
+    if line:
+        return Told(1, "", f"x10clock: {line}")
+    if job.command == "check":
+        return Told(0, judged.bounds.line() + "\n")
+    if job.command == "run":
+        return ran(job, judged, log_out)
+    status, out, err = telling_log.answer(judged, contents(log_in), job.command, tuple(job.numbers))
+    return Told(status, out, err.removesuffix("\n"))
+
+
+def done(job: Job, given: BinaryIO) -> Told:
+    """What a job is answered, with this standard input. The files are those of the folder that the caller is in."""
+    file, log_in, log_out = job.values["FILE"], None, None
+    program = given if file == "-" else opened(file, "rb")
+    try:
+        if "LOG" in job.values:
+            log_in = opened(job.values["LOG"], "rb")
+        if "log" in job.values:
+            if is_same(job.values["log"], program):
+                return Told(2, "", OVER_FILE)
+            log_out = opened(job.values["log"], "wb")
+        return answered(job, contents(program), log_in, log_out)
+    finally:
+        for opened_file in (log_in, log_out, program if file != "-" else None):
+            if opened_file:
+                opened_file.close()
+
+
+def told(words: list[str], given: BinaryIO) -> Told:
+    """What the words are answered, with this standard input."""
+    try:
+        return done(read(words), given)
+    except Help as asked:
+        return Told(0, help_text(str(asked)))
+    except Mistake as mistake:
+        return Told(2, "", str(mistake))
+    except Device:
+        return Told(5, "", DEVICE)
