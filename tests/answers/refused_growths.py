@@ -6,7 +6,7 @@ its line.
 
     tests/answers/refused_growths.py [--counts] [--program PATH] [--exhaust PATH]
 
-crates/x10clock/out/x10clock and crates/xk_exhaust/out/exhaust where nothing else is said. The calls are tried on all processors at once, each call's growths one after another. With `--counts` it tells how many each call has, and how
+crates/x10clock/out/x10clock and crates/xk_exhaust/out/xk_exhaust where nothing else is said. The calls are tried on all processors at once, each call's growths one after another. With `--counts` it tells how many each call has, and how
 long they took.
 """
 
