@@ -237,7 +237,7 @@ impl<'m> Frames<'m> {
         {
             return false;
         }
-        self.verified.module() == other.verified.module()
+        *self.verified.module() == *other.verified.module()
     }
 
     /// The code of the present frame's unit.

@@ -16,12 +16,12 @@ use Rattle.xk_names.specs.Faults.{fault}
 use Rattle.xk_names.specs.WellScoped.{IsScoped}
 use Rattle.xk_types.specs.Code.{UnitValue, IsUnitWithinLimits}
 use Rattle.xk_emit.specs.CodeOf.{Setting}
-use Rattle.xk_codegen.specs.declared.parts.Part as declared
+use Rattle.xk_numbering.specs.declared.parts.Part as declared
 use Rattle.xk_semantics.specs.Parts.{Part, OfMethod, OfBody}
 use Rattle.xk_codegen.specs.PartCoverage.{AreCovered, IsPartCovered}
-use Rattle.xk_codegen.specs.Views.{part}
+use Rattle.xk_numbering.specs.Views.{offset, part}
 use Rattle.xk_semantics.specs.Compilation.{AreUnits, IsSetting, unit_of_part}
-use Rattle.xk_codegen.specs.Faults.{IsTableFault, IsLarge, ManyShared, Beyond, Large, offset}
+use Rattle.xk_codegen.specs.Faults.{IsTableFault, IsLarge, ManyShared, Beyond, Large}
 use Rattle.xk_simulation.proofs.UnitLemmas.SettingLemmas.{AreSettled}
 use Rattle.xk_simulation.proofs.UnitLemmas.CoverageLemmas.{entry_there, method_there, body_there}
 

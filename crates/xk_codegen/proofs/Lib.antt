@@ -1,9 +1,5 @@
 pub mod ListLemmas
-pub mod UnitOrderLemmas
-pub mod PartGraphLemmas
 pub mod UnitLemmas
-pub mod PartBodyLemmas
-pub mod PartRecursionLemmas
 pub mod ShapeRuleLemmas
 pub mod FaultLemmas
 pub mod OneFaultLaw

@@ -15,7 +15,8 @@ use Rattle.xk_semantics.specs.Parts.{Part}
 use Rattle.xk_semantics.specs.Compilation.{IsCompiled, unit_of_part}
 use Rattle.xk_simulation.proofs.CompiledOnceLaw.{alike, one_units}
 use Rattle.xk_simulation.proofs.SettingLookupLemmas.{IsAlike, same_part}
-use Rattle.xk_codegen.specs.Faults.{Beyond, HasLargePart, InCalls, InNames, InTables, IsClean, IsFalling, IsFaultOf, IsLarge, IsTableFault, IsToldOnce, Large, LargePart, ManyShared, offset}
+use Rattle.xk_codegen.specs.Faults.{Beyond, HasLargePart, InCalls, InNames, InTables, IsClean, IsFalling, IsFaultOf, IsLarge, IsTableFault, IsToldOnce, Large, LargePart, ManyShared}
+use Rattle.xk_numbering.specs.Views.{offset}
 
 -- ---- faults
 

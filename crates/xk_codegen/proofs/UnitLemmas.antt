@@ -4,10 +4,10 @@ use Rattle.std.proofs.lemmas.List.Elements.{All-append}
 use Rattle.std.proofs.Math.ListN.{drop_of_length-le}
 use Rattle.xk_types.specs.Code.{UnitValue, IsUnitWithinLimits}
 use Rattle.xk_emit.specs.CodeOf.{Setting}
-use Rattle.xk_codegen.specs.declared.parts.Part as declared
+use Rattle.xk_numbering.specs.declared.parts.Part as declared
 use Rattle.xk_semantics.specs.Compilation.{unit_of_part}
-use Rattle.xk_codegen.specs.Views.{part}
-use Rattle.xk_codegen.proofs.ListLemmas.{parts_left}
+use Rattle.xk_numbering.specs.Views.{part}
+use Rattle.xk_numbering.proofs.ListLemmas.{parts_left}
 
 one : (P : UnitValue → Type 0) (u : UnitValue) → P u → All P (u ∷ [])
 one P u p zero d h = p

@@ -7,13 +7,10 @@ use Rattle.xk_tree.specs.Tree.{SharedValue, TreeValue}
 use Rattle.xk_names.specs.Faults.{HasFault, IsReported, fault}
 use Rattle.xk_callgraph.specs.Recursion.{HasRecursion}
 use Rattle.xk_emit.specs.CodeOf.{Setting}
-use Rattle.xk_semantics.specs.Parts.{Part, OfMethod, OfBody}
+use Rattle.xk_semantics.specs.Parts.{Part}
+use Rattle.xk_numbering.specs.Views.{offset}
+pub use Rattle.xk_numbering.specs.Recursion.{IsFalling}
 use Rattle.xk_semantics.specs.Compilation.{AreUnits, IsSetting, unit_of_part}
-
--- where a part stands: the name of a method, or the `async` of a body
-abbrev pub offset : Part → ℕ
-offset (OfMethod m) = m.name.at
-offset (OfBody at cs s) = at
 
 -- a part of these units goes beyond a limit: the 1,025th, or one whose unit has too many slots or instructions, or an instruction with too many
 -- arguments
@@ -46,10 +43,6 @@ pub data IsTableFault (t : TreeValue) (f : FrontFault) : Type 0 where
 -- no fault of names, F5 to F9, F11, F12 or F15
 abbrev pub IsClean : TreeValue → Type 0
 IsClean t = (g : FrontFault) → HasFault t g → ⊥
-
--- no recursive call, F10
-abbrev pub IsFalling : TreeValue → Type 0
-IsFalling t = (g : FrontFault) → HasRecursion t g → ⊥
 
 -- The program has the fault, one of F5 to F12, F14 and F15, and it is the one that is told: of F5 to F8, F11, F12 and F15 the first; F9 where there is
 -- none of these; F10 where there is no fault of names; F14 where there is none of all those. Of several calls that are F10, which one is told is left

@@ -10,20 +10,19 @@ ghost use Rattle.xk_emit.specs.Room.{Denies};
 ghost use Rattle.xk_names.specs.Faults.{HasFault};
 ghost use Rattle.xk_names.specs.WellScoped.{IsScoped};
 ghost use Rattle.xk_callgraph.specs.Recursion.{HasRecursion};
-ghost use Rattle.xk_codegen.specs.Views.{part};
+ghost use Rattle.xk_numbering.specs.Views.{offset, part};
 ghost use Rattle.xk_codegen.specs.PartCoverage.{AreCovered, IsPartCovered};
 ghost use Rattle.xk_semantics.specs.Meaning.{Means};
 ghost use Rattle.xk_semantics.specs.Compilation.{AreUnits, IsCompiled, IsSetting, method_kind, unit_of_part};
-ghost use Rattle.xk_codegen.specs.Faults.{IsFaultOf, IsFirstLarge, IsTableFault, offset};
+ghost use Rattle.xk_codegen.specs.Faults.{IsFaultOf, IsFirstLarge, IsTableFault};
 ghost use Rattle.xk_codegen.specs.ShapeRules.{KeepsShape};
 
-use crate::parts::Part;
 use crate::setting::settle;
-use crate::unit_order::units_in_order;
 use std::alloc::{AllocError, Global};
 use xk_callgraph::check_recursion;
 use xk_emit::{CodeError, Setting, body_unit, method_unit};
 use xk_names::check_names;
+use xk_numbering::{Part, units_in_order};
 use xk_tree::{FrontError, FrontFault, FrontRule, Method, Shared, Tree};
 use xk_types::{MAX_SHARED, MAX_UNITS, Module, Unit, UnitKind};
 

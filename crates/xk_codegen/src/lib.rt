@@ -1,11 +1,8 @@
-//! Source trees to modules: which parts have units, in which order, and what their code refers to.
-#![tactic(auto, using(crate::proofs::ListLemmas::part_push, crate::proofs::ListLemmas::rows_push))]
+//! Source trees to modules: the units of their parts, and what the code of these refers to.
+#![tactic(auto)]
 
 mod compiler;
 pub mod laws;
-mod part_graph;
-mod parts;
 mod setting;
-mod unit_order;
 
 pub use compiler::compile;

@@ -10,14 +10,14 @@ ghost use Rattle.xk_names.specs.Uses.{signatures};
 ghost use Rattle.xk_names.specs.WellScoped.{IsScoped};
 ghost use Rattle.xk_emit.specs.CodeOf.{Body as BodyValue};
 ghost use Rattle.xk_semantics.specs.Parts.{Part as PartValue, method_among};
-ghost use Rattle.xk_codegen.specs.Views.{part};
+ghost use Rattle.xk_numbering.specs.Views.{part};
 ghost use Rattle.xk_semantics.specs.Compilation.{IsSetting, settled_body, shared_among, taken, unit_number};
 
-use crate::parts::Part;
 use indexmap::IndexMap;
 use std::alloc::{AllocError, Global};
 use xk_emit::{Body, Setting};
 use xk_names::{Methods, Table, captures, methods_of};
+use xk_numbering::Part;
 use xk_tree::{Shared, Stmt, Tree};
 use xk_types::MAX_UNITS;
 

@@ -142,7 +142,7 @@ fn are_same_numbers(a: &[i64], b: &[i64]) -> bool
 fn is_same(shared: &Shared<'_>, core: &Core<'_>) -> bool
     ensures { Decides result (AreAlike shared.now.run.core core.now) }
 {
-    shared.core().module().module() == core.module().module()
+    *shared.core().module().module() == *core.module().module()
         && are_same_numbers(shared.core().arguments(), core.arguments())
 }
 

@@ -18,8 +18,8 @@ use Rattle.xk_emit.proofs.ShapeLemmas.NameLemmas.{body_count}
 use Rattle.xk_emit.proofs.ShapeLemmas.ModuleLemmas.{IsCompiled as IsUnitCompiled, is_left, compiled_soundly, module_keeps}
 use Rattle.xk_emit.proofs.ShapeLemmas.TreeLemmas.{compiled_method}
 use Rattle.xk_semantics.specs.Parts.{Part, OfMethod, OfBody}
-use Rattle.xk_codegen.specs.declared.parts.Part as declared
-use Rattle.xk_codegen.specs.Views.{part}
+use Rattle.xk_numbering.specs.declared.parts.Part as declared
+use Rattle.xk_numbering.specs.Views.{part}
 use Rattle.xk_semantics.specs.Meaning.{Means}
 use Rattle.xk_simulation.proofs.MeansItsSourceLaw.{compiled_means}
 use Rattle.xk_semantics.specs.Compilation.{AreUnits, IsSetting, IsCompiled, method_kind, unit_of_part}

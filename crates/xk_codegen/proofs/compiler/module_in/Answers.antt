@@ -2,7 +2,7 @@ use Rattle.std.proofs.Common.{Err, ap, map}
 use Rattle.std.proofs.lemmas.Result.{err_from_is_err_and}
 use Rattle.xk_tree.specs.Program.{tree_value}
 use Rattle.xk_codegen.specs.Faults.{LargePart}
-use Rattle.xk_codegen.specs.Views.{part}
+use Rattle.xk_numbering.specs.Views.{part}
 use Rattle.xk_codegen.proofs.FaultLemmas.{all_covered, passed_on}
 use Rattle.xk_codegen.proofs.ShapeRuleLemmas.Law.{code_keeps, code_means}
 use Rattle.xk_codegen.proofs.compiler.module_in.Goals as goal

@@ -2,7 +2,7 @@ use Rattle.std.proofs.Common.{◌≡◌, ◌≤◌, ◌+◌, ◌∙◌, None, So
 use Rattle.std.proofs.lemmas.Option.{slice_get_read}
 use Rattle.xk_tree.specs.declared.fault.FrontRule.TheVariants as rule
 use Rattle.xk_names.specs.Faults.{fault}
-use Rattle.xk_codegen.specs.Faults.{offset}
+use Rattle.xk_numbering.specs.Views.{offset}
 use Rattle.xk_codegen.proofs.UnitLemmas.{none_made, one_more_unit, all_made}
 use Rattle.xk_codegen.proofs.FaultLemmas.{IsBeyond, IsLeast, either, few_units, large_unit, least_at_first, least_kept, least_of_all, least_taken, many_units, told}
 use Rattle.xk_codegen.proofs.compiler.units_of.Goals as goal
