@@ -1,4 +1,5 @@
 pub mod Tree
 pub mod Fault
+pub mod Gather
 pub mod AsyncOffsets
 pub mod Program

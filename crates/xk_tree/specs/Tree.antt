@@ -1,6 +1,6 @@
 -- Trees, apart from where they lie in memory. Numbers called `at`, `paren` or `minus` are offsets in the text.
 -- The language is this project's own, in the manner of X10.
-use Rattle.std.specs.Prelude.{ℕ, ℤ, List, [], ◌∷◌, map, Option, option_map}
+use Rattle.std.specs.Prelude.{ℕ, ℤ, Bool, int_le, List, [], ◌∷◌, map, Option, option_map}
 use Rattle.xk_types.specs.declared.instr.Comparison.{Comparison}
 use Rattle.xk_tree.specs.declared.tree.Operator.{Operator}
 use Rattle.xk_tree.specs.declared.tree.Number.{Number}
@@ -51,6 +51,10 @@ pub data Bound : Type 0 where
 abbrev pub top : Bound → ℤ
 top (UpTo n) = n.value
 top (Least x v e n) = n.value
+
+-- a loop from the first number has a turn, unless the expression comes to too little
+abbrev pub has_turns : Number → Bound → Bool
+has_turns lo b = int_le lo.value (top b)
 
 -- the clocks that an `async` registers its activity on
 pub record Clocks : Type 0 where

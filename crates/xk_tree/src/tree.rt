@@ -1,7 +1,7 @@
 //! Trees. They keep where in the text their names, numbers, types, parentheses and `-` stand, as offsets in bytes.
 
 ghost use Rattle.std.specs.Prelude.{◌≡◌};
-ghost use Rattle.xk_tree.specs.Tree.{bound, program_value, top};
+ghost use Rattle.xk_tree.specs.Tree.{bound, has_turns, program_value, top};
 ghost use Rattle.xk_tree.specs.AsyncOffsets.{HasBodiesApart};
 
 use xk_types::{Comparison, ParamKind};
@@ -108,6 +108,13 @@ impl Bound<'_> {
             Bound::UpTo(n) => n.value,
             Bound::Least(_, _, _, n) => n.value,
         }
+    }
+
+    /// Whether a loop that begins with `lo` has a turn, unless the expression comes to too little.
+    pub fn has_turns(&self, lo: Number) -> bool
+        ensures { result ≡ has_turns lo (bound self.now) }
+    {
+        lo.value <= self.top()
     }
 }
 
