@@ -57,9 +57,11 @@ def to_verify(module: telling.Module) -> int:
     return sum(8 * len(unit.code) * max(unit.slots, 4) for unit in module.units)
 
 
-def to_run(bounds: telling.Bounds) -> int:
-    activity = 210 + 9 * bounds.stack + 16 * min(bounds.stack, bounds.clocks)
-    return bounds.activities * activity + 48 * bounds.clocks
+def to_run(found: telling.Accepted) -> int:
+    """A clock has two numbers and a place in the list of one that is registered on it: who makes it, or who is given it at a start."""
+    given = max(unit.params.count("c") for unit in found.module.units)
+    activity = 210 + 9 * found.bounds.stack + 16 * given
+    return found.bounds.activities * activity + 64 * found.bounds.clocks
 
 
 def to_log(entries: int) -> int:
@@ -87,6 +89,12 @@ def chain(depth: int) -> str:
     """Methods of sixty slots, each of which calls the next one."""
     slots = "".join(f"var v{k}=0;" for k in range(60))
     return "".join(f"def m{i}(){{{slots}{f'm{i + 1}();' if i + 1 < depth else ''}}}" for i in range(depth))
+
+
+def chain_of_clocks(depth: int) -> str:
+    """The same, but that the slots have clocks."""
+    makes, drops = "".join(f"val c{k}=Clock.make();" for k in range(60)), "".join(f"c{k}.drop();" for k in range(60))
+    return "".join(f"def m{i}(){{{makes}{f'm{i + 1}();' if i + 1 < depth else ''}{drops}}}" for i in range(depth))
 
 
 def texts() -> Iterator[tuple[str, str]]:
@@ -121,8 +129,11 @@ def modules() -> Iterator[tuple[str, object]]:
 def runs() -> Iterator[tuple[str, list[str], str]]:
     """Programs whose runs want much, and the words for that."""
     deep, wide = chain(62), "for(i in 1..5000){val c=Clock.make();c.drop();}"
+    makes, clocks = "".join(f"val c{k}=Clock.make();" for k in range(60)), ",".join(f"c{k}" for k in range(60))
     yield "deep stacks", ["--order", "last"], deep + "def main(){for(i in 1..3000)async m0();}"
     yield "deep stacks and clocks", ["--order", "last"], f"{deep}def main(){{{wide}for(i in 1..3000)async m0();}}"
+    yield "clocks in deep stacks", ["--order", "last"], chain_of_clocks(62) + "def main(){for(i in 1..26)async m0();}"
+    yield "activities on many clocks", [], f"def main(){{{makes}for(i in 1..20000)async clocked({clocks});}}"
     yield "activities", [], "def main(){for(i in 1..99999)async;}"
     yield "activities on a clock", [], "def main(){val c=Clock.make();for(i in 1..99999)async clocked(c)Clock.advanceAll();Clock.advanceAll();}"
     yield "clocks", [], "def main(){for(i in 1..100000){val c=Clock.make();c.drop();}}"
@@ -162,22 +173,22 @@ class Calls:
     def of_runs(self) -> Iterator[Call]:
         for name, words, text in runs():
             found = judged(text)
-            most = to_read(text.encode()) + to_verify(found.module) + to_run(found.bounds)
+            most = to_read(text.encode()) + to_verify(found.module) + to_run(found)
             threads = 4 * 12 * MEGABYTE if "--workers" in words else 0
             yield Call(f"run, {name}", ["run", *words, self.file(text)], most + threads)
 
     def of_logs(self) -> Iterator[Call]:
         log = self.folder / "log"
         text = "def main(){for(i in 1..2200000);}"
-        small = to_read(text.encode()) + to_run(judged(text).bounds)
+        small = to_read(text.encode()) + to_run(judged(text))
         yield Call("run --log, 2,200,000 steps", ["run", "--log", log, self.file(text)], small + to_log(2_200_002))
         yield Call("replay, 2,200,000 steps", ["replay", self.file(text), log], small + to_log(2_200_002))
         # Somewhat more than a power of two, so that half of the room is empty.
         text = "def main(){for(i in 1..1050000)Console.OUT.println(0-9223372036854775807);}"
-        small = to_read(text.encode()) + to_run(judged(text).bounds)
+        small = to_read(text.encode()) + to_run(judged(text))
         yield Call("run, 1,050,000 numbers", ["run", self.file(text)], small + to_print(1_050_000))
         text = "def main(){" + "".join(f"val c{k}=Clock.make();" for k in range(60)) + "for(i in 1..15000)Clock.advanceAll();}"
-        small = to_read(text.encode()) + to_run(judged(text).bounds)
+        small = to_read(text.encode()) + to_run(judged(text))
         yield Call("run --log, 900,000 advances", ["run", "--log", log, self.file(text)], small + to_log(45_062))
         yield Call("chart, 900,000 advances", ["chart", self.file(text), log], small + to_log(45_062) + to_chart(900_000))
 

@@ -779,6 +779,8 @@ class Bounds:
     activities: int
     clocks: int
     stack: int
+    # The most clocks that one activity is registered on at once.
+    registrations: int
 
     def line(self) -> str:
         return f"accepted steps {self.steps} activities {self.activities} clocks {self.clocks}"
@@ -798,20 +800,22 @@ def turns(unit: Unit) -> list[int]:
 
 def bounds(module: Module) -> Bounds:
     """The sums of a module that no rule on places refuses: units start and call greater ones alone, so they are told from the last one up."""
-    steps, started, clocks, stacks = ({} for _ in range(4))
+    steps, started, clocks, stacks, made = ({} for _ in range(5))
     for number in reversed(range(len(module.units))):
         unit = module.units[number]
         steps[number] = started[number] = clocks[number] = 0
-        called = [0]
+        called = []
         for instr, times in zip(unit.code, turns(unit)):
             below = instr.callee if instr.name in ("call", "spawn") else None
             steps[number] += times * ((2 if instr.name == "advance" else 1) + (0 if below is None else steps[below]))
             started[number] += times * ((1 if instr.name == "spawn" else 0) + (0 if below is None else started[below]))
             clocks[number] += times * ((1 if instr.name == "make" else 0) + (0 if below is None else clocks[below]))
             if instr.name == "call":
-                called.append(stacks[below])
-        stacks[number] = unit.slots + max(called)
-    return Bounds(steps[0], started[0] + 1, clocks[0], max(stacks.values()))
+                called.append(below)
+        stacks[number] = unit.slots + max((stacks[below] for below in called), default=0)
+        made[number] = len({instr.operands for instr in unit.code if instr.name == "make"}) + max((made[below] for below in called), default=0)
+    kept = max(unit.params.count("c") + made[number] for number, unit in enumerate(module.units) if unit.kind is not UnitKind.METHOD)
+    return Bounds(steps[0], started[0] + 1, clocks[0], max(stacks.values()), min(kept, clocks[0]))
 
 
 # The verifier's answer.
@@ -1334,7 +1338,10 @@ class Schedules:
     def look(self, world: World) -> None:
         """Looks at one world: its sizes, and the kinds of what the slots hold."""
         stack = max(sum(len(frame.slots) for frame in activity.frames) for activity in world.activities)
-        if len(world.activities) > self.bounds.activities or len(world.clocks) > self.bounds.clocks or stack > self.bounds.stack:
+        registrations = max(sum(who in clock.registered for clock in world.clocks) for who in range(len(world.activities)))
+        sizes = (len(world.activities), len(world.clocks), stack, registrations)
+        bounds = (self.bounds.activities, self.bounds.clocks, self.bounds.stack, self.bounds.registrations)
+        if any(size > bound for size, bound in zip(sizes, bounds)):
             raise self.broken("more than was verified")
         for who, activity in enumerate(world.activities):
             if activity.status is not Status.RUNNING:

@@ -1,5 +1,5 @@
 -- A number of a unit with the most of those that it calls: what it is by the units of greater number, and how great it grows.
-use Rattle.std.proofs.Common.{◌≡◌, ℕ, zero, suc, ◌+◌, ◌*◌, ◌<◌, ◌≤◌, max, List, [], ◌∷◌, length, map, fold, filter, Option, Some, None, slice_get, refl, sym, ap, ◌∙◌, arith}
+use Rattle.std.proofs.Common.{◌≡◌, ℕ, zero, suc, ◌+◌, ◌*◌, ◌<◌, ◌≤◌, max, Bool, true, false, cond, List, [], ◌∷◌, length, map, fold, filter, Option, Some, None, slice_get, refl, sym, ap, ◌∙◌, arith}
 use Rattle.std.specs.Option.{option_map_or}
 use Rattle.std.proofs.Math.Nat.{mul-suc}
 use Rattle.std.proofs.lemmas.List.{length-map}
@@ -10,7 +10,7 @@ use Rattle.xk_types.specs.declared.instr.Instr.TheVariants as instr
 use Rattle.xk_types.specs.Code.{UnitValue, ModuleValue, unit_called, unit_run, begun_from}
 use Rattle.xk_types.specs.Blocks.{Span, finish_opened, finishes, is_inside, depth_at}
 use Rattle.xk_types.specs.Shape.{HasShape}
-use Rattle.xk_types.specs.Bound.{chain_within, chain_of, greatest_below, nesting}
+use Rattle.xk_types.specs.Bound.{chain_within, chain_of, greatest_below, nesting, count_below}
 use Rattle.xk_bounds.specs.Rooms.{called_by, most_called}
 use Rattle.xk_bounds.proofs.TotalLemmas.{run_is}
 
@@ -39,6 +39,15 @@ below_small f bound (suc n) small =
     let here = small n in
     let rest = below_small f bound n small in
     omega arith
+
+-- no more of the first n pass than there are
+pub count_small : (p : ℕ → Bool) (n : ℕ) → count_below p n ≤ n
+count_small p zero = omega arith
+count_small p (suc n) = go (p n) (count_small p n)
+  where
+    go : (b : Bool) → count_below p n ≤ n → cond b 1 0 + count_below p n ≤ n + 1
+    go true le = omega arith
+    go false le = omega arith
 
 -- what is called is run
 called_run : (i : Instr) (t : ℕ) → unit_called i ≡ Some t → unit_run i ≡ Some t

@@ -6,10 +6,10 @@ use Rattle.std.proofs.lemmas.List.Elements.{All-get_or}
 use Rattle.std.proofs.lemmas.Option.{get_or_from_slice_get, slice_get_within}
 use Rattle.xk_types.specs.Code.{UnitValue, ModuleValue, IsUnitWithinLimits, IsWithinLimits}
 use Rattle.xk_types.specs.Shape.{HasShape}
-use Rattle.xk_types.specs.Bound.{stack_of, stack_bound, greatest_below, nesting}
+use Rattle.xk_types.specs.Bound.{stack_of, stack_bound, greatest_below, nesting, is_made, slots_made}
 use Rattle.xk_bounds.specs.declared.room.Room.{Room}
-use Rattle.xk_bounds.specs.Rooms.{nothing, slots_in, frames_in, finishes_in, IsRoomBy, IsSmall, IsRoom, AreRooms}
-use Rattle.xk_bounds.proofs.CallChainLemmas.{below_same, chain_is, chain_small, nesting_small}
+use Rattle.xk_bounds.specs.Rooms.{nothing, slots_in, frames_in, finishes_in, made_in, IsRoomBy, IsSmall, IsRoom, AreRooms}
+use Rattle.xk_bounds.proofs.CallChainLemmas.{below_same, count_small, chain_is, chain_small, nesting_small}
 
 module _ (m : ModuleValue) where
   -- a room is reckoned from those of the units of greater number
@@ -22,6 +22,7 @@ module _ (m : ModuleValue) where
         slots = by.slots ∙ chain_is (λ v. v.slots) m shape (slots_in table) unit u found (λ t lt inside. (greater t lt inside).slots);
         frames = by.frames ∙ chain_is (λ v. 1) m shape (frames_in table) unit u found (λ t lt inside. (greater t lt inside).frames);
         finishes = by.finishes ∙ chain_is nesting m shape (finishes_in table) unit u found (λ t lt inside. (greater t lt inside).finishes);
+        made = by.made ∙ chain_is slots_made m shape (made_in table) unit u found (λ t lt inside. (greater t lt inside).made);
       }
 
   module _ (limits : IsWithinLimits m) where
@@ -46,6 +47,10 @@ module _ (m : ModuleValue) where
           finishes =
               let told = is.finishes in
               let h = chain_small nesting m 4096 (λ k u found. let a = nesting_small u in let b = (within k u found).code in omega arith) most unit in
+              omega arith;
+          made =
+              let told = is.made in
+              let h = chain_small slots_made m 64 (λ k u found. let a = count_small (is_made u) u.slots in let b = (within k u found).slots in omega arith) most unit in
               omega arith;
         }
 

@@ -1,8 +1,9 @@
 //! What an activity needs to run a unit.
 
-ghost use Rattle.std.specs.Prelude.{◌≡◌, ℕ, length, max, IfOk, slice_index_or};
+ghost use Rattle.std.specs.Prelude.{◌≡◌, ◌≤◌, ℕ, length, max, IfOk, slice_index_or};
 ghost use Rattle.xk_types.specs.Shape.{HasShape};
-ghost use Rattle.xk_types.specs.Bound.{greatest_below};
+ghost use Rattle.xk_types.specs.Blocks.{makes};
+ghost use Rattle.xk_types.specs.Bound.{greatest_below, is_made, slots_made};
 ghost use Rattle.xk_shape.specs.Blocks.{HasBlocks};
 ghost use Rattle.xk_bounds.specs.Rooms.{nothing, IsSmall, AreRooms, IsRoomBy, IsGreatest, IsCalled, slots_in};
 
@@ -20,6 +21,8 @@ pub struct Room {
     pub frames: u32,
     /// The finishes that are open: at most 4,096 in each frame.
     pub finishes: u32,
+    /// The slots in its frames in which it makes clocks.
+    pub made: u32,
 }
 
 /// No room at all.
@@ -27,6 +30,7 @@ const NOTHING: Room = Room {
     slots: 0,
     frames: 0,
     finishes: 0,
+    made: 0,
 };
 
 /// The rooms of all units of a module. A unit calls only units of greater number, so that the table is filled from the last unit
@@ -55,6 +59,37 @@ pub(crate) fn deepest(rooms: &[Room]) -> u32
     most
 }
 
+/// In how many of its slots a unit makes clocks.
+fn slots_made(u: &Unit) -> u32
+    ensures is { result ≡ slots_made u.now }
+    ensures few { result ≤ u.now.slots }
+{
+    let mut made = 0;
+    for slot in 0..u.slots {
+        if is_made(u, slot) {
+            made += 1;
+        }
+    }
+    made
+}
+
+/// Whether a unit makes clocks in the slot.
+fn is_made(u: &Unit, slot: u16) -> bool
+    ensures { result ≡ is_made u.now slot }
+{
+    u.code.iter().any(|instr| makes(instr, slot))
+}
+
+/// Whether the instruction makes the clock of the slot.
+fn makes(instr: &Instr, slot: u16) -> bool
+    ensures { result ≡ makes slot instr.now }
+{
+    match instr {
+        Instr::Make(made) => *made == slot,
+        _ => false,
+    }
+}
+
 impl Room {
     /// The room of a unit, where the table says those of the units that it calls.
     fn of(alloc: Global, u: &Unit, table: &[Room]) -> Result<Room, AllocError>
@@ -68,6 +103,7 @@ impl Room {
             slots: u32::from(u.slots) + called.slots,
             frames: 1 + called.frames,
             finishes: u32::from(nesting) + called.finishes,
+            made: slots_made(u) + called.made,
         })
     }
 
@@ -99,11 +135,13 @@ impl Room {
         ensures slots { result.slots ≡ max self.slots other.slots }
         ensures frames { result.frames ≡ max self.frames other.frames }
         ensures finishes { result.finishes ≡ max self.finishes other.finishes }
+        ensures made { result.made ≡ max self.made other.made }
     {
         Room {
             slots: u32::max(self.slots, other.slots),
             frames: u32::max(self.frames, other.frames),
             finishes: u32::max(self.finishes, other.finishes),
+            made: u32::max(self.made, other.made),
         }
     }
 }

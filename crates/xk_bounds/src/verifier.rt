@@ -1,10 +1,12 @@
 //! Modules that were accepted.
 
-ghost use Rattle.std.specs.Prelude.{◌≡◌, ◌↔◌, ◌<◌, length, IsTrue, IfOk, IfErr};
+ghost use Rattle.std.specs.Prelude.{◌≡◌, ◌↔◌, ◌<◌, ◌≤◌, length, Some, IsTrue, IfOk, IfErr};
+ghost use Rattle.std.specs.List.{count_by};
 ghost use Rattle.xk_types.specs.declared.rules.Kind.{Kind};
+ghost use Rattle.xk_types.specs.Blocks.{takes_clock};
 ghost use Rattle.xk_types.specs.Code.{IsWithinLimits, params_of};
 ghost use Rattle.xk_types.specs.Shape.{HasShape};
-ghost use Rattle.xk_types.specs.Bound.{steps_bound, activities_bound, clocks_bound, stack_of, stack_bound, frames_of, room_of, IsWithinBounds};
+ghost use Rattle.xk_types.specs.Bound.{steps_bound, activities_bound, clocks_bound, stack_of, stack_bound, frames_of, room_of, made_of, places_from, IsWithinBounds};
 ghost use Rattle.xk_types.specs.Acceptance.{IsAccepted};
 ghost use Rattle.xk_typestate.specs.KindSet.{kinds_have};
 ghost use Rattle.xk_typestate.specs.Place.{visit, HasPlace, IsVisitedIn};
@@ -18,7 +20,7 @@ use crate::room::Room;
 use std::alloc::Global;
 use std::marker::Model;
 use xk_shape::shape;
-use xk_types::Module;
+use xk_types::{Module, ParamKind, Unit};
 use xk_typestate::{KindSet, Typed, check_kinds};
 
 /// A module that the verifier accepted.
@@ -135,7 +137,34 @@ impl Verified {
         ensures slots { result.slots ≡ stack_of self.now unit }
         ensures frames { result.frames ≡ frames_of self.now unit }
         ensures finishes { result.finishes ≡ room_of self.now unit }
+        ensures made { result.made ≡ made_of self.now unit }
     {
         self.bounds.rooms[unit as usize]
     }
+
+    /// An activity that begins with this unit is registered on at most so many clocks at once.
+    pub fn places(&self, unit: u16) -> u32
+        requires { unit < length self.now.units }
+        ensures { result ≡ places_from self.now unit }
+    {
+        let given = clocks_given(&self.module().units()[unit as usize]);
+        let most = given + self.room(unit).made;
+        most.min(self.clocks())
+    }
+}
+
+/// How many clocks a unit is given.
+fn clocks_given(u: &Unit) -> u32
+    requires { length u.now.params ≤ 64 }
+    ensures given { result ≡ count_by (λ p. takes_clock (Some p)) u.now.params }
+    ensures few { result ≤ 64 }
+{
+    u.params.iter().filter(|kind| takes_clock(kind)).count() as u32
+}
+
+/// Whether the parameter takes a clock.
+fn takes_clock(kind: &ParamKind) -> bool
+    ensures { result ≡ takes_clock (Some kind.now) }
+{
+    matches!(kind, ParamKind::Clock)
 }

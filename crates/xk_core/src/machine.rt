@@ -439,7 +439,7 @@ impl<'m> Core<'m> {
     {
         let a = act.0 as usize;
         let most = self.state.verified().room(unit);
-        let newcomer = self.state.prepare(a, unit, args.slots(), most.slots)?;
+        let newcomer = self.state.prepare(a, unit, args.slots())?;
         self.finishes.spawned(act, most.finishes)?;
         Ok(self.state.admit(a, newcomer))
     }

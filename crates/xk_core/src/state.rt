@@ -1,6 +1,6 @@
 //! The world of a running program, but for its finishes, and the arms of its steps.
 
-ghost use Rattle.std.specs.Prelude.{◌≡◌, ℕ, ℤ, ◌+◌, ◌<◌, ◌≤◌, ◌^◌, min, true, false, List, Some, length, slice_get, slice_set, option_copied, option_map, is_some, vec_capacity, IfOk, IfSome, OnOk, OnErr, All};
+ghost use Rattle.std.specs.Prelude.{◌≡◌, ℕ, ℤ, ◌+◌, ◌<◌, ◌≤◌, ◌^◌, true, false, List, Some, length, slice_get, slice_set, option_copied, option_map, is_some, vec_capacity, IfOk, IfSome, OnOk, OnErr, All};
 ghost use Rattle.std.specs.Bool.{Decides};
 ghost use Rattle.xk_types.specs.declared.world.Value.TheVariants as value;
 ghost use Rattle.xk_types.specs.declared.instr.Instr.TheVariants as instruction;
@@ -8,7 +8,6 @@ ghost use Rattle.xk_types.specs.Code.{IsWithinLimits};
 ghost use Rattle.xk_types.specs.World.{AreArguments, standing_of, opening};
 ghost use Rattle.xk_types.specs.Step.{Stepped, settled, moved, waits, onward, none};
 ghost use Rattle.xk_types.specs.Schedule.{is_step, all_ended};
-ghost use Rattle.xk_types.specs.Bound.{clocks_bound, stack_of};
 ghost use Rattle.xk_activity.specs.Activities.{act_at, Stands, Takes};
 ghost use Rattle.xk_activity.specs.Local.{IsRight, IsSafe, local, is_stepped};
 ghost use Rattle.xk_activity.specs.StepAgreement.{frames_in};
@@ -106,14 +105,6 @@ fn set_cell(cells: &mut Vec<i64>, s: u16, n: i64)
     cells[s as usize] = n;
 }
 
-/// Room for what an activity is registered on whose frames may have this many slots: a place for each clock that one of them
-/// may name, and no more than the run may have clocks.
-fn places(verified: &Verified, slots: u32) -> usize
-    ensures { result ≡ min slots (clocks_bound verified.now) }
-{
-    slots.min(verified.clocks()) as usize
-}
-
 impl<'m> State<'m> {
     /// A world with main alone, before its first step, given these numbers.
     pub fn open(
@@ -127,7 +118,7 @@ impl<'m> State<'m> {
     {
         let program = verified.module();
         let _main = &program.units()[0];
-        let places = places(verified, verified.room(0).slots);
+        let places = verified.places(0) as usize;
         Ok(State {
             activities: Activities::open(alloc, verified, arguments)?,
             standings: Standings::open(alloc, verified.clocks(), places)?,
@@ -362,27 +353,25 @@ impl<'m> State<'m> {
         self.end_step(a, StepChange::Nothing);
     }
 
-    /// The activity that activity a is about to start, which runs this unit with the values of these slots, and whose frames may
-    /// have this many slots. Takes all memory that a state needs for it. The world stays as it is, also where memory is refused.
+    /// The activity that activity a is about to start, which runs this unit with the values of these slots. Takes all memory that
+    /// a state needs for it. The world stays as it is, also where memory is refused.
     #[inline(always)]
     pub fn prepare(
         &mut self,
         a: usize,
         unit: u16,
         args: &[u16],
-        slots: u32,
     ) -> Result<Newcomer<'m>, AllocError>
         requires enabled { is_step (carried self.old.module_run self.old.world a
             (instruction.Spawn unit args.now)) ≡ true }
         requires limits { IsWithinLimits self.old.module_run }
-        requires places { stack_of self.old.module_run unit ≤ slots }
         ensures ready { IfOk result (IsReady self.new a unit args.now) }
         ensures same { core_of self.new ≡ core_of self.old }
     {
         let alloc = self.activities.allocator();
         self.activities.frames(a).values(args, &mut self.handed)?;
         let activity = self.activities.begin(alloc, a, unit, &self.handed)?;
-        let places = places(self.activities.verified(), slots);
+        let places = self.activities.verified().places(unit) as usize;
         let registrations = self.standings.child(alloc, a, places, &self.handed)?;
         self.activities.reserve()?;
         self.standings.reserve()?;

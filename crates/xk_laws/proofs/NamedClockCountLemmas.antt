@@ -4,12 +4,22 @@ use Rattle.std.proofs.lemmas.Bool.{false≢true}
 use Rattle.std.proofs.lemmas.Option.{none-some, same_Some}
 use Rattle.xk_types.specs.declared.world.Value.{Value}
 use Rattle.xk_types.specs.declared.world.Value.TheVariants as value
+use Rattle.xk_types.specs.Bound.{count_below}
 use Rattle.xk_laws.proofs.Invariant.{Names}
 
 -- how many of the first n numbers pass the test
 abbrev pub how_many : (ℕ → Bool) → ℕ → ℕ
 how_many p zero = 0
 how_many p (suc n) = cond (p 0) 1 0 + how_many (λ k. p (suc k)) n
+
+-- they are as many, counted from the last one
+last_one : (p : ℕ → Bool) (n : ℕ) → how_many p (suc n) ≡ cond (p n) 1 0 + how_many p n
+last_one p zero = refl
+last_one p (suc n) = let rest = last_one (λ k. p (suc k)) n in omega arith
+
+pub below_is : (p : ℕ → Bool) (n : ℕ) → count_below p n ≡ how_many p n
+below_is p zero = refl
+below_is p (suc n) = let rest = below_is p n in let last = last_one p n in omega arith
 
 -- the test, but for number c
 abbrev without : (ℕ → Bool) → ℕ → ℕ → Bool
@@ -40,7 +50,7 @@ one_less p zero (suc n) = go (p 0)
     go false = omega arith
 one_less p (suc c) (suc n) = let later = one_less (λ k. p (suc k)) c n in omega arith
 
-none : (p : ℕ → Bool) (n : ℕ) → ((k : ℕ) → p k ≡ true → ⊥) → how_many p n ≡ 0
+pub none : (p : ℕ → Bool) (n : ℕ) → ((k : ℕ) → p k ≡ true → ⊥) → how_many p n ≡ 0
 none p zero never = refl
 none p (suc n) never = go (p 0) (never 0) (none (λ k. p (suc k)) n (λ k. never (suc k)))
   where

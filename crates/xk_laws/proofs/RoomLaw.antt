@@ -1,43 +1,50 @@
 -- In a world that is reached there is room for clocks and registrations; and where an activity makes a clock, there is in the world behind.
-use Rattle.std.proofs.Common.{◌≡◌, ℕ, ◌+◌, ◌<◌, ◌≤◌, [], ◌∷◌, ◌++◌, map, length, Some, None, Option, set, refl, ap, ◌∙◌, subst, arith, slice_get}
+use Rattle.std.proofs.Common.{◌≡◌, ℕ, ◌+◌, ◌<◌, ◌≤◌, [], ◌∷◌, ◌++◌, map, length, Some, None, Option, set, refl, ap, ◌∙◌, subst, arith, List, slice_get}
 use Rattle.std.proofs.lemmas.Option.{slice_get_within}
 use Rattle.std.proofs.lemmas.List.{length-append, length-map}
 use Rattle.std.proofs.lemmas.List.Sums.{count_by-le-length}
 use Rattle.xk_types.specs.declared.world.Value.{Value}
 use Rattle.xk_types.specs.declared.world.Value.TheVariants as value
 use Rattle.xk_types.specs.declared.world.Event.TheVariants as event
+use Rattle.xk_types.specs.declared.rules.Kind.{Kind}
 use Rattle.xk_types.specs.Code.{ModuleValue, IsWithinLimits}
-use Rattle.xk_types.specs.World.{Activity, World, base_of, standing_of}
+use Rattle.xk_types.specs.World.{Finish, Activity, World, base_of, base_unit, standing_of}
 use Rattle.xk_types.specs.Step.{is_registered, step, step_of, step_by, run_at, put_in, made, settled, settled_clock, new_clock, onward, with_slots}
 use Rattle.xk_types.specs.Schedule.{IsReached}
 use Rattle.xk_types.specs.Acceptance.{IsAccepted}
+use Rattle.xk_types.specs.Bound.{made_of, given_to, places_from}
+use Rattle.xk_types.specs.Shape.{HasShape}
 use Rattle.xk_types.proofs.ListLemmas.{get-set_same, get_once}
-use Rattle.xk_laws.proofs.Invariant.{IsActivitySound, looks, is_held, slots_in}
+use Rattle.xk_laws.proofs.Invariant.{IsActivitySound, looks, is_held}
 use Rattle.xk_laws.proofs.SafetyLemmas.StepLemmas.{Keeps, step_keeps}
-use Rattle.xk_laws.proofs.ScopeLemmas.Invariant.{based}
+use Rattle.xk_laws.proofs.ScopeLemmas.Invariant.{IsScopedIn, based}
 use Rattle.xk_laws.proofs.ReachabilityLemmas.{reached_step, reached_sound, reached_scoped, reached_room}
-use Rattle.xk_laws.specs.ClockRoom.{registrations, places_from, places_of, HasRoom, HasRoomLeft, IsAboutToMake}
+use Rattle.xk_laws.specs.ClockRoom.{registrations, places_of, HasRoom, HasRoomLeft, IsAboutToMake}
 use Rattle.xk_laws.proofs.NamedClockCountLemmas.{named_by}
-use Rattle.xk_laws.proofs.FrameSlotLemmas.{slots_of_all, length-slots, named_in_all}
+use Rattle.xk_laws.proofs.FrameSlotLemmas.{kept, kept_named}
 use Rattle.xk_laws.proofs.StackLemmas.{stacked}
 use Rattle.xk_laws.proofs.RegistrationCountLemmas.{registered_by_kind, made_more}
 
--- an activity is registered on no more clocks than its frames have slots
-in_slots : (m : ModuleValue) (w : World) (a : ℕ) (act : Activity) → IsActivitySound m (looks w.clocks a) (length w.clocks) w.steps act
-    → registrations w.clocks a ≤ slots_in (act.frame ∷ act.callers)
-in_slots m w a act s =
-    let all = slots_of_all (act.frame ∷ act.callers) in
-    let h = named_by all (λ k. is_held (looks w.clocks a k)) (length w.clocks) (λ k held. named_in_all (act.frame ∷ act.callers) k (s.held k held)) in
-    omega (arith, h, registered_by_kind w.clocks a, length-slots (act.frame ∷ act.callers))
+-- an activity is registered on no more clocks than it was given, and makes in slots of its frames
+in_places : (m : ModuleValue) → HasShape m → (scopes : List Finish) (w : World) (a : ℕ) (act : Activity) → IsActivitySound m (looks w.clocks a) (length w.clocks) w.steps act
+    → IsScopedIn m scopes (looks w.clocks a) a act → registrations w.clocks a ≤ given_to m (base_unit act) + made_of m (base_unit act)
+in_places m shape scopes w a act s scoped =
+    let look : ℕ → Kind = looks w.clocks a in
+    let all = kept m act.frame act.callers in
+    let named = kept_named m a act.governed scopes look act.status (length w.clocks) act.frame act.callers s.waiting scoped.homes in
+    let few = named_by all (λ k. is_held (look k)) (length w.clocks) (λ k held. named k held (s.held k held)) in
+    omega (arith, few, registered_by_kind w.clocks a, stacked m shape look (length w.clocks) w.steps act s)
 
 pub reached_has_room : (m : ModuleValue) (w : World) → IsWithinLimits m → IsAccepted m → IsReached m w → HasRoom m w
 reached_has_room m w limits ok r = record {
   clocks = (reached_room m limits ok w r).clocks;
   places = λ a act there.
       (let s = (reached_sound m limits ok w r).activities a act there in
+      let known = reached_scoped m limits ok w r in
+      let some = in_places m ok.shape known.scopes w a act s (known.activities a act there) in
       let few = count_by-le-length (λ c. is_registered (standing_of c a)) w.clocks in
       let clocks = (reached_room m limits ok w r).clocks in
-      omega (arith, in_slots m w a act s, stacked m ok.shape (looks w.clocks a) (length w.clocks) w.steps act s, few, clocks));
+      omega (arith, some, few, clocks));
 }
 
 -- the world behind a `make`

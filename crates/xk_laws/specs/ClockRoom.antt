@@ -1,22 +1,18 @@
 -- How much room a world's clocks want, and what its activities are registered on.
-use Rattle.std.specs.Prelude.{◌≡◌, ℕ, ◌<◌, ◌≤◌, min, List, length, Some, slice_get}
+use Rattle.std.specs.Prelude.{◌≡◌, ℕ, ◌<◌, ◌≤◌, List, length, Some, slice_get}
 use Rattle.std.specs.List.{count_by}
 use Rattle.xk_types.specs.declared.instr.Instr.TheVariants as instr
 use Rattle.xk_types.specs.declared.world.Status.TheVariants as status
 use Rattle.xk_types.specs.Code.{ModuleValue}
 use Rattle.xk_types.specs.World.{Activity, Clock, World, standing_of, base_unit, instruction_at}
 use Rattle.xk_types.specs.Step.{is_registered}
-use Rattle.xk_types.specs.Bound.{clocks_bound, stack_of}
+use Rattle.xk_types.specs.Bound.{clocks_bound, places_from}
 
 -- on how many of these clocks activity a is registered
 abbrev pub registrations : List Clock → ℕ → ℕ
 registrations clocks a = count_by (λ c. is_registered (standing_of c a)) clocks
 
--- on how many an activity may be that begins with this unit: as many as its frames may have slots from there on, and no more than there
--- may be clocks
-abbrev pub places_from : ModuleValue → ℕ → ℕ
-places_from m unit = min (stack_of m unit) (clocks_bound m)
-
+-- on how many it may be, by the unit that it began with
 abbrev pub places_of : ModuleValue → Activity → ℕ
 places_of m act = places_from m (base_unit act)
 

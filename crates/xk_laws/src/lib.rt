@@ -25,9 +25,10 @@ pub fn kind_soundness()
 {}
 
 /// In each world that a legal schedule of an accepted module leads to, there are no more clocks than verified, and an activity
-/// is registered on no more of them than its frames may have slots, from the unit on that it began with. For each of them is
-/// named by a slot, and a slot names one. So where an activity is about to make a clock, there is one clock less than verified
-/// at least, and the activity is registered on one less than its frames may have slots and than may be made.
+/// is registered on no more of them than it was given, and than there are slots in its frames in which clocks are made, from the
+/// unit on that it began with. For each of them is named in such a slot, and a slot names one: what is named in a parameter of a
+/// method is named by who called it, too. So where an activity is about to make a clock, there is one clock less than verified
+/// at least, and the activity is registered on one less than it may be.
 pub fn room_for_clocks()
     ensures reached { (m : ModuleValue) (w : World) → IsWithinLimits m → IsAccepted m
         → IsReached m w → HasRoom m w }

@@ -1,13 +1,14 @@
--- How many steps, activities and clocks a run of a module can take, as sums over its instructions, and how many slots, frames and
--- open finishes an activity. The bounds and their limits are this project's own.
-use Rattle.std.specs.Prelude.{ℕ, zero, suc, ◌+◌, ◌*◌, ◌≤◌, max, List, [], ◌∷◌, length, slice_get, fold, map, filter}
+-- How many steps, activities and clocks a run of a module can take, as sums over its instructions, and how many slots, frames, open
+-- finishes and registrations an activity. The bounds and their limits are this project's own.
+use Rattle.std.specs.Prelude.{ℕ, zero, suc, ◌+◌, ◌*◌, ◌≤◌, min, max, Bool, List, [], ◌∷◌, length, Some, slice_get, fold, map, filter, if◌then◌else◌}
+use Rattle.std.specs.List.{list_any, count_by}
 use Rattle.std.specs.Option.{option_map_or}
 use Rattle.xk_types.specs.declared.instr.Instr.{Instr}
 use Rattle.xk_types.specs.declared.instr.Instr.TheVariants as instr
 use Rattle.xk_types.specs.declared.rules.Rule.{Rule}
 use Rattle.xk_types.specs.declared.rules.Rule.TheVariants as rule
-use Rattle.xk_types.specs.Code.{UnitValue, ModuleValue, unit_called, unit_run, Loop, loops, is_round, turns}
-use Rattle.xk_types.specs.Blocks.{depth_at}
+use Rattle.xk_types.specs.Code.{UnitValue, ModuleValue, unit_called, unit_run, params_of, Loop, loops, is_round, turns}
+use Rattle.xk_types.specs.Blocks.{depth_at, takes_clock, makes}
 
 -- the steps of an instruction itself
 abbrev pub steps_weight : Instr → ℕ
@@ -108,6 +109,34 @@ nesting u = greatest_below (depth_at u) (length u.code)
 -- unit, with the greatest among those that it calls, wherever it calls them.
 abbrev pub room_of : ModuleValue → ℕ → ℕ
 room_of m unit = chain_of nesting m unit
+
+-- ---- the clocks that an activity is registered on
+
+-- how many of the first n pass
+abbrev pub count_below : (ℕ → Bool) → ℕ → ℕ
+count_below p zero = 0
+count_below p (suc n) = (if p n then 1 else 0) + count_below p n
+
+-- the unit makes clocks in this slot
+abbrev pub is_made : UnitValue → ℕ → Bool
+is_made u s = list_any (makes s) u.code
+
+-- in how many of its slots it does
+abbrev pub slots_made : UnitValue → ℕ
+slots_made u = count_below (is_made u) u.slots
+
+-- in how many slots of its frames an activity makes clocks at most, from the frame of this unit on
+abbrev pub made_of : ModuleValue → ℕ → ℕ
+made_of m unit = chain_of slots_made m unit
+
+-- how many clocks a unit is given
+abbrev pub given_to : ModuleValue → ℕ → ℕ
+given_to m unit = count_by (λ p. takes_clock (Some p)) (params_of m unit)
+
+-- On no more clocks an activity is registered that begins with this unit: those that it is given there, one for each slot in which it
+-- makes clocks, and no more than there may be.
+abbrev pub places_from : ModuleValue → ℕ → ℕ
+places_from m unit = min (given_to m unit + made_of m unit) (clocks_bound m)
 
 -- V14 to V17: what each of them limits; nothing for any other rule
 abbrev pub bound_of : ModuleValue → Rule → ℕ

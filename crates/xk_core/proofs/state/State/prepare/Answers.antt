@@ -7,7 +7,7 @@ use Rattle.xk_types.specs.Code.{IsWithinLimits}
 use Rattle.xk_types.specs.World.{Activity, World}
 use Rattle.xk_types.specs.Step.{is_given, child}
 use Rattle.xk_types.specs.Schedule.{is_step}
-use Rattle.xk_types.specs.Bound.{clocks_bound, stack_of}
+use Rattle.xk_types.specs.Bound.{places_from}
 use Rattle.xk_activity.specs.Activities.{act_at}
 use Rattle.xk_activity.specs.Local.{FramesValue}
 use Rattle.xk_activity.specs.FrameStack.{values_at, value_at}
@@ -68,15 +68,14 @@ returns-clause-ready c =
     let act : Activity = act_at w.activities c.args.a in
     let values : List Value = values_at act.frame.slots c.args.args.now in
     let can = subst (λ (v : StateValue). is_step (carried v.module_run v.world c.args.a (instruction.Spawn c.args.unit c.args.args.now)) ≡ true) (sym c.self.view_is) c.requires.enabled in
-    let most : stack_of m c.args.unit ≤ c.args.slots = subst (λ (v : StateValue). stack_of v.module_run c.args.unit ≤ c.args.slots) (sym c.self.view_is) c.requires.places in
-    let bound = subst (λ k. c.places-places.result ≡ min c.args.slots (clocks_bound k)) c.verified.ensures c.places-places.ensures in
+    let most = subst (λ k. c.places-places.result ≡ places_from k c.args.unit) c.verified.ensures c.places-places.ensures in
     let listed = c.in_ok-values.ensures ∙ ap (λ (f : FramesValue). values_at f.frame.slots c.args.args.now) c.frames.ensures in
     let is : c.in_ok-activity.activity.act ≡ child m c.args.a act c.args.unit values =
     c.in_ok-activity.ensures.activity c.args.a ∙ ap (λ (l : List Value). child m c.args.a act c.args.unit l) (c.deref.ensures.value ∙ listed) in
     let given = subst (λ (l : List Value). IsGiven (is_given l) (held c.self.inside.standings.held c.args.a) c.in_ok-registrations.registrations.list)
     (c.deref-2.ensures.value ∙ listed) c.in_ok-registrations.ensures.given in
     let fits : places_of m c.in_ok-activity.activity.act ≤ c.in_ok-registrations.registrations.room =
-    rw is (omega (arith, most, bound, c.in_ok-registrations.ensures.places)) in
+    rw is (omega (arith, most, c.in_ok-registrations.ensures.places)) in
     let room : length w.activities < min c.reserve.new.self.room c.reserve-2.new.self.room = omega (
       arith,
       c.in_ok-reserve.ensures.reserved,
