@@ -356,12 +356,7 @@ impl<'m> State<'m> {
     /// The activity that activity a is about to start, which runs this unit with the values of these slots. Takes all memory that
     /// a state needs for it. The world stays as it is, also where memory is refused.
     #[inline(always)]
-    pub fn prepare(
-        &mut self,
-        a: usize,
-        unit: u16,
-        args: &[u16],
-    ) -> Result<Newcomer<'m>, AllocError>
+    pub fn prepare(&mut self, a: usize, unit: u16, args: &[u16]) -> Result<Newcomer<'m>, AllocError>
         requires enabled { is_step (carried self.old.module_run self.old.world a
             (instruction.Spawn unit args.now)) ≡ true }
         requires limits { IsWithinLimits self.old.module_run }

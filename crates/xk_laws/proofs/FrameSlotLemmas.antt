@@ -114,8 +114,8 @@ module _ (m : ModuleValue) (a : ℕ) (governed : Finish) (scopes : List Finish) 
       ]
   kept_named g (f ∷ fs) waiting home c held named =
       go (λ there.
-          let t = kept_named f fs waiting.1 home.1 c held there in
-          behind (picked (made_in m g) g.slots) (kept m f fs) t.0 c t.1)
+      let t = kept_named f fs waiting.1 home.1 c held there in
+      behind (picked (made_in m g) g.slots) (kept m f fs) t.0 c t.1)
     where
       lent : (v : UnitValue) (args : List ℕ) (s : ℕ) → takes_clock (slice_get v.params s) ≡ true → IsShared v.params args s c f fs
           → (NamedIn (f ∷ fs) c → (t : ℕ) × Names (kept m g (f ∷ fs)) t c) → (t : ℕ) × Names (kept m g (f ∷ fs)) t c

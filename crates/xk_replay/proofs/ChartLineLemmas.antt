@@ -1,11 +1,13 @@
 -- The lines of a chart, step by step, entry by entry and clock by clock.
-use Rattle.std.proofs.Common.{◌≡◌, ◌∙◌, ℕ, zero, suc, ◌+◌, ◌<◌, ◌==◌, ◌&&◌, Bool, true, false, not, List, [], ◌∷◌, ◌++◌, length, map, filter, replicate, drop, get_or, refl, sym, ap, subst, arith, slice_get}
+use Rattle.std.proofs.Common.{◌≡◌, ◌∙◌, ℕ, zero, suc, ◌+◌, ◌<◌, ◌≤◌, ◌==◌, ◌&&◌, Bool, true, false, not, cond, List, [], ◌∷◌, ◌++◌, length, map, filter, replicate, take, drop, get_or, refl, sym, ap, subst, arith, slice_get}
 use Rattle.std.specs.Prelude.{ℤ, flat_map}
 use Rattle.std.specs.List.{list_all}
 use Rattle.std.specs.Option.{option_map_or}
-use Rattle.std.proofs.Math.Seq.{drop-cons}
-use Rattle.std.proofs.lemmas.List.{append_assoc, append-nil, map-append}
+use Rattle.std.proofs.Math.Seq.{drop-cons, take-suc}
+use Rattle.std.proofs.lemmas.List.{append_assoc, append-nil, map-append, take_all}
 use Rattle.std.proofs.lemmas.List.Concat.{flat_map-append, flat_map-cons}
+use Rattle.std.proofs.lemmas.List.Elements.{filter-append}
+use Rattle.std.proofs.lemmas.Option.{slice_get-get_or}
 use Rattle.xk_types.specs.declared.world.Entry.{Entry}
 use Rattle.xk_types.specs.declared.world.Event.{Event}
 use Rattle.xk_types.specs.Code.{ModuleValue}
@@ -14,12 +16,13 @@ use Rattle.xk_types.specs.Step.{Stepped, step}
 use Rattle.xk_types.specs.Schedule.{Course, Through, run, run_on}
 use Rattle.xk_types.specs.Logs.{schedule_of}
 use Rattle.xk_laws.proofs.ReachabilityLemmas.{same_through, first_step}
-use Rattle.xk_core.specs.Core.{CoreValue, has_advanced, is_quiet, opening_core}
+use Rattle.xk_core.specs.Core.{CoreValue, IsCore, advanced_now, has_advanced, is_quiet, is_registered_on, opening_core}
 use Rattle.xk_collections.specs.NumberSets.{numbers_from}
+use Rattle.xk_collections.proofs.RisingListLemmas.{member_passes}
 use Rattle.xk_scheduler.specs.LoggedRuns.{IsRunOf}
 use Rattle.xk_scheduler.proofs.RunSequenceLemmas.{run_then}
-use Rattle.xk_scheduler.proofs.EnabledSetLemmas.{one_more, one_not}
-use Rattle.xk_replay.specs.Chart.{advance_in, advances_in, advances_on, advances, act_text, acts_text, advance_line, chart_lines, chart_text}
+use Rattle.xk_replay.specs.Chart.{advance_in, advances_in, advances_on, advances, act_text, acts_text, advance_line, chart_lines, chart_text, lives, living_in, registered_in}
+use Rattle.xk_replay.proofs.LivingLemmas.{registered_among}
 
 -- ---- runs in two parts
 
@@ -140,39 +143,71 @@ quiet_lines w text h =
     ∙ ap (λ l. text ++ flat_map advance_line (map (advance_in w) l))
     (sym (filter_none (has_advanced w) (numbers_from 0 (length w.clocks)) (λ c. quiet_at w.steps w.clocks c h)))
 
--- the lines of the clocks of smaller number
-abbrev pub lines_below : World → ℕ → List ℕ
-lines_below w c = flat_map advance_line (map (advance_in w) (filter (has_advanced w) (numbers_from 0 c)))
+-- the lines of these clocks
+abbrev pub lines_of : World → List ℕ → List ℕ
+lines_of w clocks = flat_map advance_line (map (advance_in w) clocks)
 
--- one clock more
-pub clock_more : (w : World) (c : ℕ) (text line more first : List ℕ) → text ≡ first ++ lines_below w c → has_advanced w c ≡ true → line ≡ advance_line (advance_in w c)
-    → more ≡ text ++ line → more ≡ first ++ lines_below w (c + 1)
-clock_more w c text line more first is h one grown =
-    let listed = filter (has_advanced w) (numbers_from 0 c) in
-    grown ∙ ap (λ l. l ++ line) is ∙ append_assoc first (lines_below w c) line
+-- one clock more of a list
+pub clock_more : (w : World) (clocks : List ℕ) (i : ℕ) (text line more first : List ℕ) → i < length clocks → text ≡ first ++ lines_of w (take i clocks)
+    → line ≡ advance_line (advance_in w (get_or clocks i 0)) → more ≡ text ++ line → more ≡ first ++ lines_of w (take (i + 1) clocks)
+clock_more w clocks i text line more first inside is one grown =
+    let c = get_or clocks i 0 in
+    let listed = take i clocks in
+    let next : suc i ≡ i + 1 = omega arith in
+    grown ∙ ap (λ l. l ++ line) is ∙ append_assoc first (lines_of w listed) line
     ∙ ap (λ l. first ++ l) (
-    ap (λ l. lines_below w c ++ l) (one ∙ sym (flat_map-cons advance_line (advance_in w c) [] ∙ append-nil (advance_line (advance_in w c))))
+    ap (λ l. lines_of w listed ++ l) (one ∙ sym (flat_map-cons advance_line (advance_in w c) [] ∙ append-nil (advance_line (advance_in w c))))
     ∙ sym (flat_map-append advance_line (map (advance_in w) listed) (advance_in w c ∷ []))
     ∙ ap (flat_map advance_line) (sym (map-append (advance_in w) listed (c ∷ [])))
-    ∙ ap (λ l. flat_map advance_line (map (advance_in w) l)) (one_more (has_advanced w) c listed refl h))
+    ∙ ap (lines_of w) (sym (take-suc clocks i 0 inside) ∙ ap (λ k. take k clocks) next))
 
--- one that did not advance
-pub clock_not : (w : World) (c : ℕ) (text first : List ℕ) → text ≡ first ++ lines_below w c → has_advanced w c ≡ false → text ≡ first ++ lines_below w (c + 1)
-clock_not w c text first is h =
-    is ∙ ap (λ l. first ++ flat_map advance_line (map (advance_in w) l)) (one_not (has_advanced w) c (filter (has_advanced w) (numbers_from 0 c)) refl h)
+-- all of them
+pub clocks_all : (w : World) (clocks : List ℕ) (n : ℕ) (text first : List ℕ) → length clocks ≤ n → clocks ≡ advanced_now w → text ≡ first ++ lines_of w (take n clocks)
+    → text ≡ first ++ flat_map advance_line (advances_in w)
+clocks_all w clocks n text first end listed is = is ∙ ap (λ l. first ++ lines_of w l) (take_all n clocks end ∙ listed)
+
+-- a clock that advanced is there
+pub clock_there : (w : World) (clocks : List ℕ) (i : ℕ) → i < length clocks → clocks ≡ advanced_now w → get_or clocks i 0 < length w.clocks
+clock_there w clocks i inside listed =
+    (member_passes (has_advanced w) (length w.clocks) i (get_or clocks i 0) (ap (λ l. slice_get l i) (sym listed) ∙ slice_get-get_or clocks i 0 inside)).1
 
 -- ---- by an activity
 
--- one activity more
-pub act_more : (p : ℕ → Bool) (a : ℕ) (text one more : List ℕ) → text ≡ acts_text (filter p (numbers_from 0 a)) → p a ≡ true → one ≡ act_text a → more ≡ text ++ one
-    → more ≡ acts_text (filter p (numbers_from 0 (a + 1)))
-act_more p a text one more is h text_is grown =
-    let listed = filter p (numbers_from 0 a) in
-    grown ∙ ap (λ l. l ++ one) is
-    ∙ ap (λ l. acts_text listed ++ l) (text_is ∙ sym (flat_map-cons act_text a [] ∙ append-nil (act_text a)))
-    ∙ sym (flat_map-append act_text listed (a ∷ []))
-    ∙ ap acts_text (one_more p a listed refl h)
+-- those of the first i that pass a test
+abbrev among : (ℕ → Bool) → List ℕ → ℕ → List ℕ
+among p xs i = filter p (take i xs)
 
--- one that isn't registered
-pub act_not : (p : ℕ → Bool) (a : ℕ) (text : List ℕ) → text ≡ acts_text (filter p (numbers_from 0 a)) → p a ≡ false → text ≡ acts_text (filter p (numbers_from 0 (a + 1)))
-act_not p a text is h = is ∙ ap acts_text (one_not p a (filter p (numbers_from 0 a)) refl h)
+-- one more of a list
+among_more : (p : ℕ → Bool) (xs : List ℕ) (i : ℕ) → i < length xs → among p xs (i + 1) ≡ among p xs i ++ cond (p (get_or xs i 0)) (get_or xs i 0 ∷ []) []
+among_more p xs i inside =
+    let next : i + 1 ≡ suc i = omega arith in
+    ap (λ k. filter p (take k xs)) next ∙ ap (filter p) (take-suc xs i 0 inside) ∙ filter-append p (take i xs) (get_or xs i 0 ∷ [])
+
+-- one that passes
+pub act_more : (p : ℕ → Bool) (xs : List ℕ) (i : ℕ) (text one more : List ℕ) → i < length xs → text ≡ acts_text (filter p (take i xs)) → p (get_or xs i 0) ≡ true
+    → one ≡ act_text (get_or xs i 0) → more ≡ text ++ one → more ≡ acts_text (filter p (take (i + 1) xs))
+act_more p xs i text one more inside is h text_is grown =
+    let a = get_or xs i 0 in
+    grown ∙ ap (λ l. l ++ one) is
+    ∙ ap (λ l. acts_text (among p xs i) ++ l) (text_is ∙ sym (flat_map-cons act_text a [] ∙ append-nil (act_text a)))
+    ∙ sym (flat_map-append act_text (among p xs i) (a ∷ []))
+    ∙ ap (λ b. acts_text (among p xs i ++ cond b (a ∷ []) [])) (sym h)
+    ∙ ap acts_text (sym (among_more p xs i inside))
+
+-- one that doesn't
+pub act_not : (p : ℕ → Bool) (xs : List ℕ) (i : ℕ) (text : List ℕ) → i < length xs → text ≡ acts_text (filter p (take i xs)) → p (get_or xs i 0) ≡ false
+    → text ≡ acts_text (filter p (take (i + 1) xs))
+act_not p xs i text inside is h =
+    let a = get_or xs i 0 in
+    is ∙ ap acts_text (sym (append-nil (among p xs i)) ∙ ap (λ b. among p xs i ++ cond b (a ∷ []) []) (sym h) ∙ sym (among_more p xs i inside))
+
+-- who lives is there
+pub act_there : (w : World) (xs : List ℕ) (i : ℕ) → i < length xs → xs ≡ living_in w → get_or xs i 0 < length w.activities
+act_there w xs i inside listed =
+    (member_passes (lives w) (length w.activities) i (get_or xs i 0) (ap (λ l. slice_get l i) (sym listed) ∙ slice_get-get_or xs i 0 inside)).1
+
+-- of those who live, those who are registered on a clock are all who are
+pub acts_all : (m : ModuleValue) (w : World) (xs : List ℕ) (n c : ℕ) (text : List ℕ) → IsCore m w → length xs ≤ n → xs ≡ living_in w
+    → text ≡ acts_text (filter (λ a. is_registered_on w a c) (take n xs)) → text ≡ acts_text (registered_in w c)
+acts_all m w xs n c text core end listed is =
+    is ∙ ap (λ l. acts_text (filter (λ a. is_registered_on w a c) l)) (take_all n xs end ∙ listed) ∙ ap acts_text (registered_among m w core c)

@@ -1,15 +1,18 @@
 -- The chart of a run: all advances of its clocks. What an advance is, `xk_types` says in `Step.antt`; that they are told so is this project's
 -- own.
-use Rattle.std.specs.Prelude.{◌≡◌, ℕ, ℤ, List, [], ◌∷◌, ◌++◌, length, map, filter, flat_map, slice_get, codes, decimal}
+use Rattle.std.specs.Prelude.{◌≡◌, ℕ, ℤ, ◌-◌, ◌≤◌, Bool, true, false, not, List, [], ◌∷◌, ◌++◌, length, map, filter, flat_map, slice_get, codes, decimal}
 use Rattle.std.specs.Option.{option_map_or}
 use Rattle.xk_types.specs.declared.world.Entry.{Entry}
+use Rattle.xk_types.specs.declared.world.Event.{Event}
+use Rattle.xk_types.specs.declared.world.Event.TheVariants as event
 use Rattle.xk_types.specs.Code.{ModuleValue}
-use Rattle.xk_types.specs.World.{World, opening}
+use Rattle.xk_types.specs.World.{World, opening, is_ended}
 use Rattle.xk_types.specs.Step.{Outcome, Blocked, Wrong, Stepped, step}
 use Rattle.xk_types.specs.Schedule.{Through, run}
+use Rattle.xk_types.specs.Bound.{activities_bound}
 use Rattle.xk_types.specs.Logs.{schedule_of}
-use Rattle.xk_core.specs.Core.{CoreValue, advanced_now, is_registered_on}
-use Rattle.xk_collections.specs.NumberSets.{numbers_from}
+use Rattle.xk_core.specs.Core.{CoreValue, IsCore, advanced_now, is_registered_on}
+use Rattle.xk_collections.specs.NumberSets.{SetValue, numbers_from, with_member}
 
 -- an advance of a clock: the step in which it came, counted from 1, the clock, its phase from then on, and who is registered on it behind
 -- that step, rising
@@ -70,3 +73,25 @@ chart_text m args log = chart_lines m (schedule_of log) (opening m args)
 -- the list is legal from the core's world
 abbrev pub IsLegalFrom : CoreValue → List ℕ → Type 0
 IsLegalFrom c list = (w : World) × (run c.module_run list c.world ≡ Through w)
+
+-- ---- who is looked at
+
+-- activity a was started and hasn't ended
+abbrev pub lives : World → ℕ → Bool
+lives w a = option_map_or (λ act. not (is_ended act.status)) (slice_get w.activities a) false
+
+-- those of whom that holds, rising
+abbrev pub living_in : World → List ℕ
+living_in w = filter (lives w) (numbers_from 0 (length w.activities))
+
+-- those of whom it holds in a world to which a step of activity a led that was seen so, where it held of these before
+abbrev pub living_after : World → ℕ → Event → List ℕ → List ℕ
+living_after w a event.Spawned xs = with_member (length w.activities - 1) true xs
+living_after w a event.Ended xs = with_member a false xs
+living_after w a _ xs = xs
+
+-- a set with room for all activities that there can be has those of a core that live
+pub record AreLiving (c : CoreValue) (set : SetValue) : Type 0 where
+  pub core : IsCore c.module_run c.world
+  pub room : activities_bound c.module_run ≤ set.room
+  pub members : set.members ≡ living_in c.world

@@ -1,6 +1,7 @@
 //! The log of a run is written, and played again, and the phases of its clocks are told.
 #![tactic(auto)]
 
+mod chart_lists;
 mod clock_chart;
 mod fault;
 pub mod laws;
