@@ -4,7 +4,7 @@ use Rattle.std.specs.Prelude.{is_some}
 use Rattle.std.specs.declared.alloc.Global.{Global}
 use Rattle.std.specs.Cmp.Lexicographic.{bytes_decides}
 use Rattle.std.specs.Option.{option_or}
-use Rattle.xk_callgraph.specs.CallGraph.{rows}
+use Rattle.xk_callgraph.specs.CallGraph.{adjacency}
 use Rattle.xk_tree.specs.Tree.{Word, method_value, word, words}
 use Rattle.xk_tree.specs.declared.tree.Method.{Method}
 use Rattle.xk_tree.specs.declared.tree.Name.{Name}
@@ -20,9 +20,9 @@ pub lists_push : (vs : List (Vec Name Global)) (v : Vec Name Global) → map (λ
 lists_push [] v = refl
 lists_push (w ∷ vs) v = ap (λ r. words w.items ∷ r) (lists_push vs v)
 
-pub rows_push : (vs : List (Vec ℕ Global)) (v : Vec ℕ Global) → rows (vs ++ v ∷ []) ≡ rows vs ++ v.items ∷ []
-rows_push [] v = refl
-rows_push (w ∷ vs) v = ap (λ r. w.items ∷ r) (rows_push vs v)
+pub adjacency_push : (vs : List (Vec ℕ Global)) (v : Vec ℕ Global) → adjacency (vs ++ v ∷ []) ≡ adjacency vs ++ v.items ∷ []
+adjacency_push [] v = refl
+adjacency_push (w ∷ vs) v = ap (λ r. w.items ∷ r) (adjacency_push vs v)
 
 -- ---- texts that are the same
 
@@ -84,9 +84,9 @@ left_names f (w ∷ vs) (suc k) v h e = left_names f vs k v (omega arith) e
 pub rows_step : (f : List Word → List ℕ) (rs : List (Vec ℕ Global)) (r : Vec ℕ Global) (vs : List (Vec Name Global)) (k : ℕ) (v : Vec Name Global) → k < length vs
     → v ≡ get_or vs k v
     → r.items ≡ f (words v.items)
-    → rows (rs ++ r ∷ []) ++ map f (map (λ ns. words ns.items) (drop (suc k) vs)) ≡ rows rs ++ map f (map (λ ns. words ns.items) (drop k vs))
+    → adjacency (rs ++ r ∷ []) ++ map f (map (λ ns. words ns.items) (drop (suc k) vs)) ≡ adjacency rs ++ map f (map (λ ns. words ns.items) (drop k vs))
 rows_step f rs r vs k v h e is =
-    ap (λ (l : List (List ℕ)). l ++ map f (map (λ ns. words ns.items) (drop (suc k) vs))) (rows_push rs r)
-    ∙ append_assoc (rows rs) (r.items ∷ []) (map f (map (λ ns. words ns.items) (drop (suc k) vs)))
-    ∙ ap (λ (l : List ℕ). rows rs ++ l ∷ map f (map (λ ns. words ns.items) (drop (suc k) vs))) is
-    ∙ ap (λ l. rows rs ++ l) (sym (left_names f vs k v h e))
+    ap (λ (l : List (List ℕ)). l ++ map f (map (λ ns. words ns.items) (drop (suc k) vs))) (adjacency_push rs r)
+    ∙ append_assoc (adjacency rs) (r.items ∷ []) (map f (map (λ ns. words ns.items) (drop (suc k) vs)))
+    ∙ ap (λ (l : List ℕ). adjacency rs ++ l ∷ map f (map (λ ns. words ns.items) (drop (suc k) vs))) is
+    ∙ ap (λ l. adjacency rs ++ l) (sym (left_names f vs k v h e))

@@ -2,17 +2,17 @@
 use Rattle.std.proofs.Common.{◌≡◌, ◌≢◌, ℕ, zero, suc, ◌+◌, ◌<◌, ◌≤◌, inl, inr, Bool, true, false, cond, nat_eq, Vec, List, [], ◌∷◌, ◌++◌, length, ◌-◌, replicate, set, get_or, slice_get, slice_index, Some, refl, sym, ap, ◌∙◌, subst, arith, get_or-set_other, get_or-set_same, ne_eqb, eq-eqb}
 use Rattle.std.proofs.lemmas.Bool.Decides.{eqb_tells}
 use Rattle.std.specs.declared.alloc.Global.{Global}
-use Rattle.xk_callgraph.specs.CallGraph.{rows, called_by, IsCall, Path, Reaches, AreReached, IsRecursive, IsNumbered, AtMost, Falls, zeros}
+use Rattle.xk_callgraph.specs.CallGraph.{adjacency, called_by, IsCall, Path, Reaches, AreReached, IsRecursive, IsNumbered, AtMost, Falls, zeros}
 
 -- a row, as code reads it
-pub row_at : (vs : List (Vec ℕ Global)) (i : ℕ) (v : Vec ℕ Global) → i < length vs → v ≡ get_or vs i v → v.items ≡ called_by (rows vs) i
+pub row_at : (vs : List (Vec ℕ Global)) (i : ℕ) (v : Vec ℕ Global) → i < length vs → v ≡ get_or vs i v → v.items ≡ called_by (adjacency vs) i
 row_at [] i v h e = absurd (omega arith)
 row_at (x ∷ vs) zero v h e = ap (λ (w : Vec ℕ Global). w.items) e
 row_at (x ∷ vs) (suc i) v h e = row_at vs i v (omega arith) e
 
-pub length-rows : (vs : List (Vec ℕ Global)) → length (rows vs) ≡ length vs
-length-rows [] = refl
-length-rows (v ∷ vs) = ap suc (length-rows vs)
+pub length-adjacency : (vs : List (Vec ℕ Global)) → length (adjacency vs) ≡ length vs
+length-adjacency [] = refl
+length-adjacency (v ∷ vs) = ap suc (length-adjacency vs)
 
 falls_along : (calls : List (List ℕ)) (numbers : List ℕ) → Falls calls numbers → (ns : List ℕ) (i j : ℕ) → Path calls ns i j → slice_index numbers j ≤ slice_index numbers i
 falls_along calls numbers falls [] i j p = let e = ap (slice_index numbers) p in omega arith
@@ -90,10 +90,10 @@ pub lead_on : (calls : List (List ℕ)) (seen : List ℕ) (here next k : ℕ) �
 lead_on calls seen here next k call lead j full = reaches_on calls j here next k (lead j full) call
 
 -- what stands at a place, read as a number
-pub waits_at : (xs : List ℕ) (k j : ℕ) → slice_get xs k ≡ Some j → slice_index xs k ≡ j
-waits_at [] k j e = absurd cc
-waits_at (x ∷ xs) zero j e = cc
-waits_at (x ∷ xs) (suc k) j e = waits_at xs k j e
+pub pending_at : (xs : List ℕ) (k j : ℕ) → slice_get xs k ≡ Some j → slice_index xs k ≡ j
+pending_at [] k j e = absurd cc
+pending_at (x ∷ xs) zero j e = cc
+pending_at (x ∷ xs) (suc k) j e = pending_at xs k j e
 
 -- what stands at a place within
 pub here_is : (xs : List ℕ) (k : ℕ) → k < length xs → slice_get xs k ≡ Some (slice_index xs k)

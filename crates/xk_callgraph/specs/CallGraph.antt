@@ -5,8 +5,8 @@ use Rattle.std.specs.Option.{option_map_or}
 use Rattle.std.specs.declared.alloc.Global.{Global}
 
 -- the lists that vectors hold
-abbrev pub rows : List (Vec ℕ Global) → List (List ℕ)
-rows vs = map (λ v. v.items) vs
+abbrev pub adjacency : List (Vec ℕ Global) → List (List ℕ)
+adjacency vs = map (λ v. v.items) vs
 
 -- whom method i calls
 abbrev pub called_by : List (List ℕ) → ℕ → List ℕ
@@ -60,7 +60,7 @@ Waits calls numbers i k = (j : ℕ) × IsCall calls i k j × (slice_index number
 
 -- each of the first methods that has no number waits at the call that is noted for it
 abbrev pub AreStuck : List (List ℕ) → List ℕ → List ℕ → ℕ → Type 0
-AreStuck calls numbers waits count = (i : ℕ) → i < count → slice_index numbers i ≡ 0 → Waits calls numbers i (slice_index waits i)
+AreStuck calls numbers pending count = (i : ℕ) → i < count → slice_index numbers i ≡ 0 → Waits calls numbers i (slice_index pending i)
 
 -- how many have no number
 abbrev pub zeros : List ℕ → ℕ

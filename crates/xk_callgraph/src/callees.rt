@@ -1,7 +1,7 @@
 //! The calls of methods, in the order of the text.
 
 ghost use Rattle.std.specs.Prelude.{◌≡◌, ℕ, List, [], ◌∷◌, ◌++◌, map, length, unwrap_or, IfOk, OnOk};
-ghost use Rattle.xk_callgraph.specs.CallGraph.{rows};
+ghost use Rattle.xk_callgraph.specs.CallGraph.{adjacency};
 ghost use Rattle.xk_tree.specs.Tree.{method_value, statement, statements, words};
 ghost use Rattle.xk_names.specs.Scope.{find};
 ghost use Rattle.xk_callgraph.specs.Recursion.{number_among};
@@ -109,7 +109,7 @@ pub(crate) fn called_numbers<'t>(
     table: &Table<'t, usize>,
     called: &[Vec<Name<'t>>],
 ) -> Result<Vec<Vec<usize>>, AllocError>
-    ensures { IfOk result (λ numbers. rows numbers.items
+    ensures { IfOk result (λ numbers. adjacency numbers.items
         ≡ map (λ gs. map (λ g. unwrap_or (find table.now g.text) (length called.now)) gs)
         (map (λ names. words names.items) called.now) ++ [] ∷ []) }
 {

@@ -1,5 +1,5 @@
 //! Calls among methods: the recursive ones of a source tree, and numbers and places in the order of calls.
-#![tactic(auto, using(crate::proofs::NameNumberLemmas::words_push, crate::proofs::NameNumberLemmas::lists_push, crate::proofs::NameNumberLemmas::rows_push, crate::proofs::NameNumberLemmas::put_number))]
+#![tactic(auto, using(crate::proofs::NameNumberLemmas::words_push, crate::proofs::NameNumberLemmas::lists_push, crate::proofs::NameNumberLemmas::adjacency_push, crate::proofs::NameNumberLemmas::put_number))]
 
 mod callees;
 mod numbering;

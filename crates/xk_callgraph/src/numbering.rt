@@ -1,7 +1,7 @@
 //! Numbers for methods in the order of their calls, or a recursive call.
 
 ghost use Rattle.std.specs.Prelude.{◌≡◌, List, ◌<◌, ◌+◌, ℕ, true, false, length, slice_get, slice_index, vec_len, IfErr, IfOk, OnOk, MatchOption, IfSome, Ok, Some, None};
-ghost use Rattle.xk_callgraph.specs.CallGraph.{AreReached, AreStuck, AreWithin, AtMost, called_by, Falls, IsNumbered, IsRecursive, Reaches, Waits, rows, zeros};
+ghost use Rattle.xk_callgraph.specs.CallGraph.{AreReached, AreStuck, AreWithin, AtMost, called_by, Falls, IsNumbered, IsRecursive, Reaches, Waits, adjacency, zeros};
 
 use crate::strong_components::search;
 use std::alloc::{AllocError, Global};
@@ -18,7 +18,7 @@ pub struct CallPlace {
 /// Whom a method calls.
 pub(crate) fn called_by(calls: &[Vec<usize>], i: usize) -> &[usize]
     requires { i < length calls.now }
-    ensures { result.now ≡ called_by (rows calls.now) i }
+    ensures { result.now ≡ called_by (adjacency calls.now) i }
 {
     &calls[i]
 }
@@ -45,17 +45,18 @@ fn place(
     placed: &mut Vec<usize>,
     i: usize,
 ) -> Result<Option<usize>, AllocError>
-    requires within { AreWithin (rows calls.now) }
+    requires within { AreWithin (adjacency calls.now) }
     requires all { length numbers.old ≡ length calls.now }
     requires method { i < length numbers.old }
     requires none { slice_index numbers.old i ≡ 0 }
-    requires numbered { IsNumbered (rows calls.now) numbers.old }
+    requires numbered { IsNumbered (adjacency calls.now) numbers.old }
     requires top { AtMost numbers.old (vec_len placed.old) }
-    ensures numbered { OnOk result (IsNumbered (rows calls.now) numbers.new) }
+    ensures numbered { OnOk result (IsNumbered (adjacency calls.now) numbers.new) }
     ensures top { OnOk result (AtMost numbers.new (vec_len placed.new)) }
     ensures less { result ≡ Ok None → zeros numbers.new + 1 ≡ zeros numbers.old }
     ensures same { IfOk result (λ o. IfSome o (λ k. numbers.new ≡ numbers.old)) }
-    ensures waits { IfOk result (λ o. IfSome o (λ k. Waits (rows calls.now) numbers.old i k)) }
+    ensures pending { IfOk result (λ o. IfSome o (λ k. Waits (adjacency calls.now) numbers.old i
+        k)) }
 {
     match keeps_waiting(called_by(calls, i), numbers) {
         Some(k) => Ok(Some(k)),
@@ -74,11 +75,11 @@ fn place_in_order(
     placed: &mut Vec<usize>,
     order: &[usize],
 ) -> Result<(), AllocError>
-    requires within { AreWithin (rows calls.now) }
+    requires within { AreWithin (adjacency calls.now) }
     requires all { length numbers.old ≡ length calls.now }
-    requires numbered { IsNumbered (rows calls.now) numbers.old }
+    requires numbered { IsNumbered (adjacency calls.now) numbers.old }
     requires top { AtMost numbers.old (vec_len placed.old) }
-    ensures numbered { OnOk result (IsNumbered (rows calls.now) numbers.new) }
+    ensures numbered { OnOk result (IsNumbered (adjacency calls.now) numbers.new) }
     ensures top { OnOk result (AtMost numbers.new (vec_len placed.new)) }
 {
     for i in order {
@@ -94,24 +95,24 @@ fn place_next(
     calls: &[Vec<usize>],
     numbers: &mut [usize],
     placed: &mut Vec<usize>,
-    waits: &mut [usize],
+    pending: &mut [usize],
 ) -> Result<bool, AllocError>
-    requires within { AreWithin (rows calls.now) }
+    requires within { AreWithin (adjacency calls.now) }
     requires all { length numbers.old ≡ length calls.now }
-    requires noted { length waits.old ≡ length calls.now }
-    requires numbered { IsNumbered (rows calls.now) numbers.old }
+    requires noted { length pending.old ≡ length calls.now }
+    requires numbered { IsNumbered (adjacency calls.now) numbers.old }
     requires top { AtMost numbers.old (vec_len placed.old) }
-    ensures numbered { OnOk result (IsNumbered (rows calls.now) numbers.new) }
+    ensures numbered { OnOk result (IsNumbered (adjacency calls.now) numbers.new) }
     ensures top { OnOk result (AtMost numbers.new (vec_len placed.new)) }
     ensures more { result ≡ Ok true → zeros numbers.new < zeros numbers.old }
     ensures stuck { result ≡ Ok false →
-        AreStuck (rows calls.now) numbers.new waits.new (length numbers.new) }
+        AreStuck (adjacency calls.now) numbers.new pending.new (length numbers.new) }
 {
     for i in 0..numbers.len() {
         if numbers[i] == 0 {
             match place(calls, numbers, placed, i)? {
                 None => return Ok(true),
-                Some(k) => waits[i] = k,
+                Some(k) => pending[i] = k,
             }
         }
     }
@@ -123,18 +124,18 @@ fn place_rest(
     calls: &[Vec<usize>],
     numbers: &mut [usize],
     placed: &mut Vec<usize>,
-    waits: &mut [usize],
+    pending: &mut [usize],
 ) -> Result<(), AllocError>
-    requires within { AreWithin (rows calls.now) }
+    requires within { AreWithin (adjacency calls.now) }
     requires all { length numbers.old ≡ length calls.now }
-    requires noted { length waits.old ≡ length calls.now }
-    requires numbered { IsNumbered (rows calls.now) numbers.old }
+    requires noted { length pending.old ≡ length calls.now }
+    requires numbered { IsNumbered (adjacency calls.now) numbers.old }
     requires top { AtMost numbers.old (vec_len placed.old) }
-    ensures numbered { OnOk result (IsNumbered (rows calls.now) numbers.new) }
+    ensures numbered { OnOk result (IsNumbered (adjacency calls.now) numbers.new) }
     ensures stuck { OnOk result
-        (AreStuck (rows calls.now) numbers.new waits.new (length numbers.new)) }
+        (AreStuck (adjacency calls.now) numbers.new pending.new (length numbers.new)) }
 {
-    while place_next(calls, numbers, placed, waits)? {}
+    while place_next(calls, numbers, placed, pending)? {}
     Ok(())
 }
 
@@ -156,24 +157,24 @@ fn unplaced(numbers: &[usize]) -> Option<usize>
 fn walk_round(
     calls: &[Vec<usize>],
     numbers: &[usize],
-    waits: &[usize],
+    pending: &[usize],
     seen: &mut [usize],
     start: usize,
 ) -> CallPlace
-    requires within { AreWithin (rows calls.now) }
+    requires within { AreWithin (adjacency calls.now) }
     requires all { length numbers.now ≡ length calls.now }
-    requires noted { length waits.now ≡ length calls.now }
+    requires noted { length pending.now ≡ length calls.now }
     requires unseen { length seen.old ≡ length calls.now }
-    requires stuck { AreStuck (rows calls.now) numbers.now waits.now (length numbers.now) }
+    requires stuck { AreStuck (adjacency calls.now) numbers.now pending.now (length numbers.now) }
     requires method { start < length numbers.now }
     requires none { slice_index numbers.now start ≡ 0 }
     requires fresh { (j : ℕ) → slice_index seen.old j ≡ 0 }
-    ensures { IsRecursive (rows calls.now) result.caller result.index }
+    ensures { IsRecursive (adjacency calls.now) result.caller result.index }
 {
     let mut here = start;
     loop {
         seen[here] = 1;
-        let index = waits[here];
+        let index = pending[here];
         let next = called_by(calls, here)[index];
         if seen[next] != 0 {
             return CallPlace {
@@ -190,25 +191,25 @@ fn number_each(
     alloc: Global,
     calls: &[Vec<usize>],
     numbers: &mut [usize],
-    waits: &mut [usize],
+    pending: &mut [usize],
     order: &[usize],
 ) -> Result<Option<CallPlace>, AllocError>
-    requires within { AreWithin (rows calls.now) }
+    requires within { AreWithin (adjacency calls.now) }
     requires all { length numbers.old ≡ length calls.now }
-    requires noted { length waits.old ≡ length calls.now }
+    requires noted { length pending.old ≡ length calls.now }
     requires fresh { (j : ℕ) → slice_index numbers.old j ≡ 0 }
-    ensures falls { result ≡ Ok None → Falls (rows calls.now) numbers.new }
+    ensures falls { result ≡ Ok None → Falls (adjacency calls.now) numbers.new }
     ensures found { IfOk result (λ o. IfSome o (λ p.
-        IsRecursive (rows calls.now) p.caller p.index)) }
+        IsRecursive (adjacency calls.now) p.caller p.index)) }
 {
     let mut placed = Vec::new(alloc);
     place_in_order(calls, numbers, &mut placed, order)?;
-    place_rest(calls, numbers, &mut placed, waits)?;
+    place_rest(calls, numbers, &mut placed, pending)?;
     match unplaced(numbers) {
         None => Ok(None),
         Some(start) => {
             let mut seen = vec![in alloc; 0usize; calls.len()]?;
-            Ok(Some(walk_round(calls, numbers, waits, &mut seen, start)))
+            Ok(Some(walk_round(calls, numbers, pending, &mut seen, start)))
         }
     }
 }
@@ -219,15 +220,16 @@ fn number_all(
     calls: &[Vec<usize>],
     order: &[usize],
 ) -> Result<Result<Vec<usize>, CallPlace>, AllocError>
-    requires { AreWithin (rows calls.now) }
-    ensures falls { IfOk result (λ r. IfOk r (λ numbers. Falls (rows calls.now) numbers.items)) }
+    requires { AreWithin (adjacency calls.now) }
+    ensures falls { IfOk result (λ r. IfOk r (λ numbers. Falls (adjacency calls.now)
+        numbers.items)) }
     ensures length { IfOk result (λ r. IfOk r (λ numbers. vec_len numbers ≡ length calls.now)) }
     ensures found { IfOk result (λ r. IfErr r (λ p.
-        IsRecursive (rows calls.now) p.caller p.index)) }
+        IsRecursive (adjacency calls.now) p.caller p.index)) }
 {
     let mut numbers = vec![in alloc; 0usize; calls.len()]?;
-    let mut waits = vec![in alloc; 0usize; calls.len()]?;
-    let found = number_each(alloc, calls, &mut numbers, &mut waits, order)?;
+    let mut pending = vec![in alloc; 0usize; calls.len()]?;
+    let found = number_each(alloc, calls, &mut numbers, &mut pending, order)?;
     match found {
         None => Ok(Ok(numbers)),
         Some(place) => Ok(Err(place)),
@@ -241,13 +243,14 @@ fn numbers_in_order(
     calls: &[Vec<usize>],
     order: &[usize],
 ) -> Result<Result<Vec<usize>, CallPlace>, AllocError>
-    requires { AreWithin (rows calls.now) }
-    ensures falls { IfOk result (λ r. IfOk r (λ numbers. Falls (rows calls.now) numbers.items)) }
+    requires { AreWithin (adjacency calls.now) }
+    ensures falls { IfOk result (λ r. IfOk r (λ numbers. Falls (adjacency calls.now)
+        numbers.items)) }
     ensures length { IfOk result (λ r. IfOk r (λ numbers. vec_len numbers ≡ length calls.now)) }
     ensures none { IfOk result (λ r. OnOk r
-        ((i k : ℕ) → IsRecursive (rows calls.now) i k → ⊥)) }
+        ((i k : ℕ) → IsRecursive (adjacency calls.now) i k → ⊥)) }
     ensures found { IfOk result (λ r. IfErr r (λ p.
-        IsRecursive (rows calls.now) p.caller p.index)) }
+        IsRecursive (adjacency calls.now) p.caller p.index)) }
 {
     let r = number_all(alloc, calls, order)?;
     match r {
@@ -262,13 +265,14 @@ pub fn numbers_by_calls(
     alloc: Global,
     calls: &[Vec<usize>],
 ) -> Result<Result<Vec<usize>, CallPlace>, AllocError>
-    requires { AreWithin (rows calls.now) }
-    ensures falls { IfOk result (λ r. IfOk r (λ numbers. Falls (rows calls.now) numbers.items)) }
+    requires { AreWithin (adjacency calls.now) }
+    ensures falls { IfOk result (λ r. IfOk r (λ numbers. Falls (adjacency calls.now)
+        numbers.items)) }
     ensures length { IfOk result (λ r. IfOk r (λ numbers. vec_len numbers ≡ length calls.now)) }
     ensures none { IfOk result (λ r. OnOk r
-        ((i k : ℕ) → IsRecursive (rows calls.now) i k → ⊥)) }
+        ((i k : ℕ) → IsRecursive (adjacency calls.now) i k → ⊥)) }
     ensures found { IfOk result (λ r. IfErr r (λ p.
-        IsRecursive (rows calls.now) p.caller p.index)) }
+        IsRecursive (adjacency calls.now) p.caller p.index)) }
 {
     let found = search(alloc, calls)?;
     let r = numbers_in_order(alloc, calls, &found.order)?;
@@ -303,11 +307,11 @@ fn add_called(
 ) -> Result<bool, AllocError>
     requires method { from < length calls.now }
     ensures within { OnOk result ((start : ℕ)
-        → AreReached (rows calls.now) start reached.old.items
-        → Reaches (rows calls.now) start from
-        → AreReached (rows calls.now) start reached.new.items) }
-    ensures found { result ≡ Ok true → (start : ℕ) → Reaches (rows calls.now) start from
-        → Reaches (rows calls.now) start wanted }
+        → AreReached (adjacency calls.now) start reached.old.items
+        → Reaches (adjacency calls.now) start from
+        → AreReached (adjacency calls.now) start reached.new.items) }
+    ensures found { result ≡ Ok true → (start : ℕ) → Reaches (adjacency calls.now) start from
+        → Reaches (adjacency calls.now) start wanted }
 {
     let called = called_by(calls, from);
     for k in 0..called.len() {
@@ -328,11 +332,12 @@ fn follow(
     seen: &mut [usize],
     wanted: usize,
 ) -> Result<bool, AllocError>
-    ensures within { OnOk result ((start : ℕ) → AreReached (rows calls.now) start reached.old.items
-        → AreReached (rows calls.now) start reached.new.items) }
+    ensures within { OnOk result ((start : ℕ) → AreReached (adjacency calls.now) start
+        reached.old.items
+        → AreReached (adjacency calls.now) start reached.new.items) }
     ensures found { result ≡ Ok true → (start : ℕ)
-        → AreReached (rows calls.now) start reached.old.items
-        → Reaches (rows calls.now) start wanted }
+        → AreReached (adjacency calls.now) start reached.old.items
+        → Reaches (adjacency calls.now) start wanted }
 {
     if at >= reached.len() || reached[at] >= calls.len() {
         return Ok(false);
@@ -349,7 +354,7 @@ fn comes_back(
     from: usize,
     wanted: usize,
 ) -> Result<bool, AllocError>
-    ensures { result ≡ Ok true → Reaches (rows calls.now) from wanted }
+    ensures { result ≡ Ok true → Reaches (adjacency calls.now) from wanted }
 {
     if from == wanted {
         return Ok(true);
@@ -373,9 +378,9 @@ fn first_recursive(
     components: &[usize],
     known: CallPlace,
 ) -> Result<CallPlace, AllocError>
-    requires within { AreWithin (rows calls.now) }
-    requires known { IsRecursive (rows calls.now) known.caller known.index }
-    ensures { IfOk result (λ p. IsRecursive (rows calls.now) p.caller p.index) }
+    requires within { AreWithin (adjacency calls.now) }
+    requires known { IsRecursive (adjacency calls.now) known.caller known.index }
+    ensures { IfOk result (λ p. IsRecursive (adjacency calls.now) p.caller p.index) }
 {
     for caller in 0..calls.len() {
         let own = components.get(caller);

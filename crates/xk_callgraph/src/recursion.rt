@@ -2,7 +2,7 @@
 
 ghost use Rattle.std.specs.Prelude.{◌≡◌, ◌⊎◌, ◌<◌, ◌≤◌, List, map, length, slice_get, None, Some, Ok, Err, IfOk, IfSome, MatchOption, OnOk};
 ghost use Rattle.xk_tree.specs.declared.fault.FrontFault.{FrontFault as Fault};
-ghost use Rattle.xk_callgraph.specs.CallGraph.{rows};
+ghost use Rattle.xk_callgraph.specs.CallGraph.{adjacency};
 ghost use Rattle.xk_tree.specs.Tree.{Word, method_value, words};
 ghost use Rattle.xk_tree.specs.Program.{tree_value};
 ghost use Rattle.xk_names.specs.Faults.{fault};
@@ -72,7 +72,7 @@ fn call_graph<'t>(
 ) -> Result<Vec<Vec<usize>>, AllocError>
     requires { map (λ names. words names.items) called.now
         ≡ all_callees (map method_value tree.now.methods.items) }
-    ensures { IfOk result (λ numbers. rows numbers.items
+    ensures { IfOk result (λ numbers. adjacency numbers.items
         ≡ graph (map method_value tree.now.methods.items)) }
 {
     let table = numbers_by_name(alloc, &tree.methods)?;

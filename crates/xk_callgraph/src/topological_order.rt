@@ -1,7 +1,7 @@
 //! The order of the methods that are reached from one.
 
 ghost use Rattle.std.specs.Prelude.{◌≡◌, List, ◌<◌, ◌≤◌, ◌+◌, ◌^◌, ℕ, length, set, slice_get, slice_index, vec_len, IfErr, IfOk, OnOk, Some};
-ghost use Rattle.xk_callgraph.specs.CallGraph.{AreReached, AreWithin, IsCall, IsRecursive, Reaches, rows, zeros};
+ghost use Rattle.xk_callgraph.specs.CallGraph.{AreReached, AreWithin, IsCall, IsRecursive, Reaches, adjacency, zeros};
 ghost use Rattle.xk_callgraph.specs.TopologicalOrder.{AreCounts, AreLeast, AreReady, CanFall, IsInOrder, IsOnce, IsSearch, MarksReached, times};
 
 use crate::numbering::{CallPlace, called_by, numbers_by_calls};
@@ -37,10 +37,10 @@ fn mark_called(
     reached: &mut Vec<usize>,
     seen: &mut [usize],
 ) -> Result<(), AllocError>
-    requires within { AreWithin (rows calls.now) }
+    requires within { AreWithin (adjacency calls.now) }
     requires all { length seen.old ≡ length calls.now }
     requires method { i < length calls.now }
-    ensures marked { OnOk result ((k j : ℕ) → IsCall (rows calls.now) i k j
+    ensures marked { OnOk result ((k j : ℕ) → IsCall (adjacency calls.now) i k j
         → 0 < slice_index seen.new j) }
     ensures more { OnOk result ((j : ℕ) → 0 < slice_index seen.old j → 0 < slice_index seen.new j) }
     ensures same { OnOk result ((n m : ℕ) → slice_get reached.old.items n ≡ Some m
@@ -49,9 +49,9 @@ fn mark_called(
         (zeros seen.new + vec_len reached.new ≡ zeros seen.old + vec_len reached.old) }
     ensures longer { OnOk result (vec_len reached.old ≤ vec_len reached.new) }
     ensures search { OnOk result ((start done : ℕ)
-        → IsSearch (rows calls.now) start seen.old reached.old.items done
-        → done ≤ vec_len reached.old → Reaches (rows calls.now) start i
-        → IsSearch (rows calls.now) start seen.new reached.new.items done) }
+        → IsSearch (adjacency calls.now) start seen.old reached.old.items done
+        → done ≤ vec_len reached.old → Reaches (adjacency calls.now) start i
+        → IsSearch (adjacency calls.now) start seen.new reached.new.items done) }
 {
     let called = called_by(calls, i);
     for k in 0..called.len() {
@@ -67,11 +67,11 @@ fn mark_all(
     seen: &mut [usize],
     start: usize,
 ) -> Result<(), AllocError>
-    requires within { AreWithin (rows calls.now) }
+    requires within { AreWithin (adjacency calls.now) }
     requires start { start < length calls.now }
     requires all { length seen.old ≡ length calls.now }
     requires fresh { (j : ℕ) → slice_index seen.old j ≡ 0 }
-    ensures { OnOk result (MarksReached (rows calls.now) start seen.new) }
+    ensures { OnOk result (MarksReached (adjacency calls.now) start seen.new) }
 {
     let mut reached = Vec::new(alloc);
     mark(&mut reached, seen, start)?;
@@ -86,9 +86,9 @@ fn mark_all(
 
 /// The methods that are reached from one, as those that have a mark.
 fn mark_reached(alloc: Global, calls: &[Vec<usize>], start: usize) -> Result<Vec<usize>, AllocError>
-    requires within { AreWithin (rows calls.now) }
+    requires within { AreWithin (adjacency calls.now) }
     requires start { start < length calls.now }
-    ensures marks { IfOk result (λ seen. MarksReached (rows calls.now) start seen.items) }
+    ensures marks { IfOk result (λ seen. MarksReached (adjacency calls.now) start seen.items) }
     ensures all { IfOk result (λ seen. vec_len seen ≡ length calls.now) }
 {
     let mut seen = vec![in alloc; 0usize; calls.len()]?;
@@ -98,28 +98,28 @@ fn mark_reached(alloc: Global, calls: &[Vec<usize>], start: usize) -> Result<Vec
 
 /// Counts the calls of each method that a list has.
 #[tactic(auto, using(crate::proofs::PendingCallLemmas::times_at_most))]
-fn count_called(called: &[usize], waits: &mut [u128])
-    requires within { (k j : ℕ) → slice_get called.now k ≡ Some j → j < length waits.old }
-    requires room { (j : ℕ) → slice_index waits.old j + length called.now < 2 ^ 128 }
-    ensures { (j : ℕ) → slice_index waits.new j
-        ≡ slice_index waits.old j + times (length called.now) called.now j }
+fn count_called(called: &[usize], pending: &mut [u128])
+    requires within { (k j : ℕ) → slice_get called.now k ≡ Some j → j < length pending.old }
+    requires room { (j : ℕ) → slice_index pending.old j + length called.now < 2 ^ 128 }
+    ensures { (j : ℕ) → slice_index pending.new j
+        ≡ slice_index pending.old j + times (length called.now) called.now j }
 {
     for k in 0..called.len() {
-        waits[called[k]] += 1;
+        pending[called[k]] += 1;
     }
 }
 
 /// Counts for each method the calls of it that those make that are left. Fewer than 2^64 lists of fewer than 2^64 calls fit in 128 bits.
-fn count_callers(calls: &[Vec<usize>], left: &[usize], waits: &mut [u128])
-    requires within { AreWithin (rows calls.now) }
+fn count_callers(calls: &[Vec<usize>], left: &[usize], pending: &mut [u128])
+    requires within { AreWithin (adjacency calls.now) }
     requires all { length left.now ≡ length calls.now }
-    requires counted { length waits.old ≡ length calls.now }
-    requires fresh { (j : ℕ) → slice_index waits.old j ≡ 0 }
-    ensures { AreCounts (rows calls.now) left.now waits.new }
+    requires counted { length pending.old ≡ length calls.now }
+    requires fresh { (j : ℕ) → slice_index pending.old j ≡ 0 }
+    ensures { AreCounts (adjacency calls.now) left.now pending.new }
 {
     for i in 0..calls.len() {
         if left[i] != 0 {
-            count_called(called_by(calls, i), waits);
+            count_called(called_by(calls, i), pending);
         }
     }
 }
@@ -127,21 +127,22 @@ fn count_callers(calls: &[Vec<usize>], left: &[usize], waits: &mut [u128])
 /// Takes calls off the counts. Who waits for no call any more becomes ready.
 fn release(
     called: &[usize],
-    waits: &mut [u128],
+    pending: &mut [u128],
     ready: &mut BTreeSet<usize>,
 ) -> Result<(), AllocError>
-    requires within { (k j : ℕ) → slice_get called.now k ≡ Some j → j < length waits.old }
-    requires counted { (j : ℕ) → times (length called.now) called.now j ≤ slice_index waits.old j }
-    ensures waits { OnOk result ((j : ℕ) → slice_index waits.new j
-        + times (length called.now) called.now j ≡ slice_index waits.old j) }
-    ensures ready { OnOk result ((left : List ℕ) → AreReady left waits.old ready.old
+    requires within { (k j : ℕ) → slice_get called.now k ≡ Some j → j < length pending.old }
+    requires counted { (j : ℕ) → times (length called.now) called.now j ≤ slice_index pending.old
+        j }
+    ensures pending { OnOk result ((j : ℕ) → slice_index pending.new j
+        + times (length called.now) called.now j ≡ slice_index pending.old j) }
+    ensures ready { OnOk result ((left : List ℕ) → AreReady left pending.old ready.old
         → ((k j : ℕ) → slice_get called.now k ≡ Some j → 0 < slice_index left j)
-        → AreReady left waits.new ready.new) }
+        → AreReady left pending.new ready.new) }
 {
     for k in 0..called.len() {
         let j = called[k];
-        waits[j] -= 1;
-        if waits[j] == 0 {
+        pending[j] -= 1;
+        if pending[j] == 0 {
             ready.insert(j)?;
         }
     }
@@ -152,24 +153,24 @@ fn release(
 fn place(
     calls: &[Vec<usize>],
     left: &mut [usize],
-    waits: &mut [u128],
+    pending: &mut [u128],
     ready: &mut BTreeSet<usize>,
     i: usize,
 ) -> Result<(), AllocError>
-    requires within { AreWithin (rows calls.now) }
+    requires within { AreWithin (adjacency calls.now) }
     requires all { length left.old ≡ length calls.now }
-    requires counted { length waits.old ≡ length calls.now }
+    requires counted { length pending.old ≡ length calls.now }
     requires left { 0 < slice_index left.old i }
-    requires counts { AreCounts (rows calls.now) left.old waits.old }
-    requires free { slice_index waits.old i ≡ 0 }
-    requires called { (k j : ℕ) → IsCall (rows calls.now) i k j → 0 < slice_index left.old j }
-    requires ready { AreReady (set left.old i 0) waits.old ready.old }
+    requires counts { AreCounts (adjacency calls.now) left.old pending.old }
+    requires free { slice_index pending.old i ≡ 0 }
+    requires called { (k j : ℕ) → IsCall (adjacency calls.now) i k j → 0 < slice_index left.old j }
+    requires ready { AreReady (set left.old i 0) pending.old ready.old }
     ensures left { OnOk result (left.new ≡ set left.old i 0) }
-    ensures counts { OnOk result (AreCounts (rows calls.now) left.new waits.new) }
-    ensures ready { OnOk result (AreReady left.new waits.new ready.new) }
+    ensures counts { OnOk result (AreCounts (adjacency calls.now) left.new pending.new) }
+    ensures ready { OnOk result (AreReady left.new pending.new ready.new) }
 {
     left[i] = 0;
-    release(called_by(calls, i), waits, ready)?;
+    release(called_by(calls, i), pending, ready)?;
     Ok(())
 }
 
@@ -178,28 +179,28 @@ fn place_all(
     alloc: Global,
     calls: &[Vec<usize>],
     left: &mut [usize],
-    waits: &mut [u128],
+    pending: &mut [u128],
     start: usize,
 ) -> Result<Vec<usize>, AllocError>
-    requires within { AreWithin (rows calls.now) }
-    requires falls { CanFall (rows calls.now) }
+    requires within { AreWithin (adjacency calls.now) }
+    requires falls { CanFall (adjacency calls.now) }
     requires all { length left.old ≡ length calls.now }
-    requires counted { length waits.old ≡ length calls.now }
-    requires left { MarksReached (rows calls.now) start left.old }
-    requires counts { AreCounts (rows calls.now) left.old waits.old }
+    requires counted { length pending.old ≡ length calls.now }
+    requires left { MarksReached (adjacency calls.now) start left.old }
+    requires counts { AreCounts (adjacency calls.now) left.old pending.old }
     ensures first { IfOk result (λ order. slice_get order.items 0 ≡ Some start) }
-    ensures reached { IfOk result (λ order. AreReached (rows calls.now) start order.items) }
-    ensures later { IfOk result (λ order. IsInOrder (rows calls.now) order.items) }
+    ensures reached { IfOk result (λ order. AreReached (adjacency calls.now) start order.items) }
+    ensures later { IfOk result (λ order. IsInOrder (adjacency calls.now) order.items) }
     ensures once { IfOk result (λ order. IsOnce order.items) }
-    ensures least { IfOk result (λ order. AreLeast (rows calls.now) start order.items) }
+    ensures least { IfOk result (λ order. AreLeast (adjacency calls.now) start order.items) }
 {
     let mut ready = BTreeSet::new(alloc);
     let mut order = Vec::new(alloc);
     order.push(start)?;
-    place(calls, left, waits, &mut ready, start)?;
+    place(calls, left, pending, &mut ready, start)?;
     while let Some(i) = ready.pop_first() {
         order.push(i)?;
-        place(calls, left, waits, &mut ready, i)?;
+        place(calls, left, pending, &mut ready, i)?;
     }
     Ok(order)
 }
@@ -211,27 +212,28 @@ pub fn order_from(
     calls: &[Vec<usize>],
     start: usize,
 ) -> Result<Result<Vec<usize>, CallPlace>, AllocError>
-    requires within { AreWithin (rows calls.now) }
+    requires within { AreWithin (adjacency calls.now) }
     requires start { start < length calls.now }
     ensures first { IfOk result (λ r. IfOk r (λ order. slice_get order.items 0 ≡ Some start)) }
     ensures reached { IfOk result (λ r. IfOk r (λ order.
-        AreReached (rows calls.now) start order.items)) }
-    ensures later { IfOk result (λ r. IfOk r (λ order. IsInOrder (rows calls.now) order.items)) }
+        AreReached (adjacency calls.now) start order.items)) }
+    ensures later { IfOk result (λ r. IfOk r (λ order. IsInOrder (adjacency calls.now)
+        order.items)) }
     ensures once { IfOk result (λ r. IfOk r (λ order. IsOnce order.items)) }
     ensures least { IfOk result (λ r. IfOk r (λ order.
-        AreLeast (rows calls.now) start order.items)) }
+        AreLeast (adjacency calls.now) start order.items)) }
     ensures none { IfOk result (λ r. OnOk r
-        ((i k : ℕ) → IsRecursive (rows calls.now) i k → ⊥)) }
+        ((i k : ℕ) → IsRecursive (adjacency calls.now) i k → ⊥)) }
     ensures found { IfOk result (λ r. IfErr r (λ p.
-        IsRecursive (rows calls.now) p.caller p.index)) }
+        IsRecursive (adjacency calls.now) p.caller p.index)) }
 {
     let r = numbers_by_calls(alloc, calls)?;
     match r {
         Ok(_) => {
             let mut left = mark_reached(alloc, calls, start)?;
-            let mut waits = vec![in alloc; 0u128; calls.len()]?;
-            count_callers(calls, &left, &mut waits);
-            let order = place_all(alloc, calls, &mut left, &mut waits, start)?;
+            let mut pending = vec![in alloc; 0u128; calls.len()]?;
+            count_callers(calls, &left, &mut pending);
+            let order = place_all(alloc, calls, &mut left, &mut pending, start)?;
             Ok(Ok(order))
         }
         Err(place) => Ok(Err(place)),

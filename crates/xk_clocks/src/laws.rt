@@ -20,7 +20,8 @@ pub fn goes_with_standings()
     ensures made { (n a : ℕ) → a < n → IsCountOf (new_clock n a) new_count }
     ensures given { (clock : Clock) (c : CountValue) → IsCountOf clock c
         → (a : ℕ) → is_registered (standing_of clock a) ≡ true
-        → IsCountOf (joined_on a true clock) (count_registered (is_pending (standing_of clock a)) c) }
+        → IsCountOf (joined_on a true clock)
+        (count_registered (is_pending (standing_of clock a)) c) }
     ensures not_given { (clock : Clock) (c : CountValue) → IsCountOf clock c
         → (a : ℕ) → IsCountOf (joined_on a false clock) c }
     ensures resumed { (clock : Clock) (c : CountValue) → IsCountOf clock c
@@ -28,7 +29,8 @@ pub fn goes_with_standings()
         → IsCountOf (moved_on a resumed clock) (count_resumed c) }
     ensures dropped { (clock : Clock) (c : CountValue) → IsCountOf clock c
         → (a : ℕ) → is_registered (standing_of clock a) ≡ true
-        → IsCountOf (moved_on a dropped clock) (count_dropped (is_pending (standing_of clock a)) c) }
+        → IsCountOf (moved_on a dropped clock)
+        (count_dropped (is_pending (standing_of clock a)) c) }
     ensures passed { (clock : Clock) (c : CountValue) → IsCountOf clock c
         → (a : ℕ) → is_signalled (standing_of clock a) ≡ false
         → IsCountOf (moved_on a passed clock) c }

@@ -79,7 +79,8 @@ impl ClockTable {
         requires phase { (count_at self.old.clocks clock).phase + 1 < 2 ^ 64 }
         ensures settled { self.new
             ≡ changed_at self.old clock (λ c. count_settled (count_resumed c)) }
-        ensures advanced { result ≡ is_ready_count (count_resumed (count_at self.old.clocks clock)) }
+        ensures advanced { result
+            ≡ is_ready_count (count_resumed (count_at self.old.clocks clock)) }
     {
         self.clocks[clock.0 as usize].resume()
     }
@@ -91,7 +92,8 @@ impl ClockTable {
         requires registered { 0 < (count_at self.old.clocks clock).registered }
         requires pending { one_if pending ≤ (count_at self.old.clocks clock).pending }
         requires signalled { pending ≡ false
-            → (count_at self.old.clocks clock).pending < (count_at self.old.clocks clock).registered }
+            → (count_at self.old.clocks clock).pending
+            < (count_at self.old.clocks clock).registered }
         requires phase { (count_at self.old.clocks clock).phase + 1 < 2 ^ 64 }
         ensures settled { self.new
             ≡ changed_at self.old clock (λ c. count_settled (count_dropped pending c)) }

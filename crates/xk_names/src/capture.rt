@@ -21,7 +21,8 @@ use xk_types::ParamKind;
 
 // A number that is used.
 fn take<'t>(own: &Texts<'t>, out: &mut Texts<'t>, x: Name<'t>) -> Result<(), AllocError>
-    ensures { OnOk result (out.new ≡ put_texts out.old (words_besides own.now (word x.entry ∷ []))) }
+    ensures { OnOk result (out.new
+        ≡ put_texts out.old (words_besides own.now (word x.entry ∷ []))) }
 {
     if !own.contains(x.text) {
         let _is_new = out.put(x.text)?;
@@ -54,7 +55,8 @@ fn take_both<'t>(
     r: &Expr<'t>,
 ) -> Result<(), AllocError>
     ensures { OnOk result (out.new ≡ put_texts out.old
-        (words_besides own.now (number_words (expression l.now) ++ number_words (expression r.now)))) }
+        (words_besides own.now
+        (number_words (expression l.now) ++ number_words (expression r.now)))) }
 {
     take_numbers(own, out, l)?;
     take_numbers(own, out, r)?;
@@ -135,7 +137,8 @@ fn take_call<'t>(
     values: &[Expr<'t>],
 ) -> Result<(), AllocError>
     ensures { OnOk result (out.new ≡ put_texts out.old (words_besides own.now
-        (flat_map (λ a. argument_words a.0 a.1) (given_to (find methods.now g.entry.text.now) (expressions values.now))))) }
+        (flat_map (λ a. argument_words a.0 a.1) (given_to (find methods.now g.entry.text.now)
+        (expressions values.now))))) }
 {
     match methods.find(g.text) {
         None => Ok(()),

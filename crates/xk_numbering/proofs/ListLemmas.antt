@@ -5,7 +5,7 @@ use Rattle.std.specs.declared.alloc.Global.{Global}
 use Rattle.std.specs.Prelude.{Option, Some}
 use Rattle.xk_tree.specs.declared.tree.Method.{Method}
 use Rattle.xk_tree.specs.Tree.{method_value}
-use Rattle.xk_callgraph.specs.CallGraph.{rows}
+use Rattle.xk_callgraph.specs.CallGraph.{adjacency}
 use Rattle.xk_semantics.specs.Parts.{Part as Value}
 use Rattle.xk_numbering.specs.declared.parts.Part.{Part}
 use Rattle.xk_numbering.specs.Views.{part}
@@ -14,9 +14,9 @@ pub part_push : (ps : List Part) (p : Part) → map part (ps ++ p ∷ []) ≡ ma
 part_push [] p = refl
 part_push (q ∷ ps) p = ap (λ r. part q ∷ r) (part_push ps p)
 
-pub rows_push : (vs : List (Vec ℕ Global)) (v : Vec ℕ Global) → rows (vs ++ v ∷ []) ≡ rows vs ++ v.items ∷ []
-rows_push [] v = refl
-rows_push (w ∷ vs) v = ap (λ r. w.items ∷ r) (rows_push vs v)
+pub adjacency_push : (vs : List (Vec ℕ Global)) (v : Vec ℕ Global) → adjacency (vs ++ v ∷ []) ≡ adjacency vs ++ v.items ∷ []
+adjacency_push [] v = refl
+adjacency_push (w ∷ vs) v = ap (λ r. w.items ∷ r) (adjacency_push vs v)
 
 -- the parts that are left begin with this one
 pub parts_left : (ps : List Part) (i : ℕ) (p : Part) (q : Value) → i < length ps → p ≡ get_or ps i p → part p ≡ q

@@ -24,11 +24,11 @@ same_map f g h [] = refl
 same_map f g h (x ∷ xs) = ap (λ y. y ∷ map f xs) (h x) ∙ ap (λ ys. g x ∷ ys) (same_map f g h xs)
 
 same_graph : (f g : Run → ℕ) → ((r : Run) → f r ≡ g r) → (ps : List Part) → graph_by f ps ≡ graph_by g ps
-same_graph f g h ps = ap (λ (rows : List (List ℕ)). rows ++ [] ∷ []) (same_map (λ p. map f (part_runs p)) (λ p. map g (part_runs p)) (λ p. same_map f g h (part_runs p)) ps)
+same_graph f g h ps = ap (λ (adjacency : List (List ℕ)). adjacency ++ [] ∷ []) (same_map (λ p. map f (part_runs p)) (λ p. map g (part_runs p)) (λ p. same_map f g h (part_runs p)) ps)
 
-pub is_graph : (t : TreeValue) (ps : List Part) (q : Places) (rows : List (List ℕ)) → ps ≡ parts t → ArePlaces ps q → rows ≡ graph_by (place_in q) ps
-    → rows ≡ graph (parts t)
-is_graph t ps q rows are places is =
+pub is_graph : (t : TreeValue) (ps : List Part) (q : Places) (adjacency : List (List ℕ)) → ps ≡ parts t → ArePlaces ps q → adjacency ≡ graph_by (place_in q) ps
+    → adjacency ≡ graph (parts t)
+is_graph t ps q adjacency are places is =
     is ∙ same_graph (place_in q) (place_or_last ps) (same_place ps q places) ps ∙ ap graph are
 
 -- the place that the table has for `main`
@@ -41,11 +41,11 @@ main_there t ps q n scoped are places is =
     let same : n ≡ m.0 = is ∙ ap (λ o. unwrap_or o q.other) (places.methods (codes "main") ∙ there) in
     m.1 ∙ ap Some (sym same)
 
-pub main_within : (t : TreeValue) (n : ℕ) (rows : List (List ℕ)) → place_of (parts t) opening ≡ Some n → rows ≡ graph (parts t) → n < length rows
-main_within t n rows e is =
+pub main_within : (t : TreeValue) (n : ℕ) (adjacency : List (List ℕ)) → place_of (parts t) opening ≡ Some n → adjacency ≡ graph (parts t) → n < length adjacency
+main_within t n adjacency e is =
     let f = fits_there (parts t) opening n e in
     let short = slice_get_within (parts t) n f.part f.stands in
-    let long : length rows ≡ suc (length (parts t)) = ap length is ∙ graph_length (place_or_last (parts t)) (parts t) in
+    let long : length adjacency ≡ suc (length (parts t)) = ap length is ∙ graph_length (place_or_last (parts t)) (parts t) in
     omega arith
 
 pub order_within : (t : TreeValue) (found : List declared.Part) (order : List ℕ) → IsScoped t → map part found ≡ parts t → IsOrder t order → (k i : ℕ)

@@ -2,7 +2,7 @@
 
 ghost use Rattle.std.specs.Prelude.{◌≡◌, ℕ, List, [], ◌∷◌, ◌++◌, map, nat_eq, unwrap_or, OnOk, IfOk};
 ghost use Rattle.std.specs.Map.{lookup};
-ghost use Rattle.xk_callgraph.specs.CallGraph.{rows};
+ghost use Rattle.xk_callgraph.specs.CallGraph.{adjacency};
 ghost use Rattle.xk_tree.specs.Tree.{statement, statements, word};
 ghost use Rattle.xk_names.specs.Scope.{find};
 ghost use Rattle.xk_semantics.specs.Parts.{Calls, Starts, body_among, method_among, part_runs, runs, runs_all};
@@ -186,8 +186,8 @@ impl<'t> Places<'t> {
         lists: &mut Vec<Vec<usize>>,
         p: &Part<'_, 't>,
     ) -> Result<(), AllocError>
-        ensures { OnOk result (rows lists.new.items
-            ≡ rows lists.old.items ++ map (place_in self.now) (part_runs (part p.now)) ∷ []) }
+        ensures { OnOk result (adjacency lists.new.items
+            ≡ adjacency lists.old.items ++ map (place_in self.now) (part_runs (part p.now)) ∷ []) }
     {
         lists.push(self.part_runs(alloc, p)?)?;
         Ok(())
@@ -199,7 +199,7 @@ impl<'t> Places<'t> {
         alloc: Global,
         parts: &[Part<'_, 't>],
     ) -> Result<Vec<Vec<usize>>, AllocError>
-        ensures { IfOk result (λ lists. rows lists.items
+        ensures { IfOk result (λ lists. adjacency lists.items
             ≡ graph_by (place_in self.now) (map part parts.now)) }
     {
         let mut lists = Vec::new(alloc);

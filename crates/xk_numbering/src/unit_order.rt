@@ -6,7 +6,7 @@ ghost use Rattle.xk_names.specs.WellScoped.{IsScoped};
 ghost use Rattle.xk_numbering.specs.Views.{part};
 ghost use Rattle.xk_semantics.specs.Parts.{opening, parts, place_of};
 ghost use Rattle.xk_semantics.specs.PartGraph.{IsOrder, graph};
-ghost use Rattle.xk_callgraph.specs.CallGraph.{rows};
+ghost use Rattle.xk_callgraph.specs.CallGraph.{adjacency};
 ghost use Rattle.xk_numbering.specs.Recursion.{IsFalling};
 ghost use Rattle.xk_numbering.specs.PartPlaces.{ArePlaces};
 ghost use Rattle.xk_semantics.specs.Compilation.{AreUnits};
@@ -44,7 +44,7 @@ fn order_by<'t>(
 ) -> Result<Vec<usize>, AllocError>
     requires scoped { IsScoped (tree_value tree.now) }
     requires falls { IsFalling (tree_value tree.now) }
-    requires graph { rows lists.now ≡ graph (parts (tree_value tree.now)) }
+    requires graph { adjacency lists.now ≡ graph (parts (tree_value tree.now)) }
     requires begins { place_of (parts (tree_value tree.now)) opening ≡ Some main }
     ensures order { IfOk result (λ order. IsOrder (tree_value tree.now) order.items) }
 {

@@ -59,7 +59,8 @@ pub fn goes_with_steps()
     ensures made { (now a : ℕ) (v : ClocksValue) (acts : List (List Registration))
         → IsKept v.lasts acts v.table.clocks → a < length acts
         → AreToldAs
-        (map (settled_clock now) (told v.lasts acts v.table.clocks ++ new_clock (length acts) a ∷ []))
+        (map (settled_clock now) (told v.lasts acts v.table.clocks ++ new_clock (length acts) a ∷
+        []))
         (made_clocks v)
         (slice_set acts a (held acts a ++ record {
           clock = length v.table.clocks;

@@ -44,11 +44,13 @@ pub fn serve<R: Threads + Wait + Sync, P: Source, L: Source, O: Sink, E: Sink, K
         (K.contents log_out.old) (K.contents log_out.new)) }
 
     // Memory and devices.
-    ensures out_begins { IfKnown (task_of job.now) (P.remaining program.old) (L.remaining log_in.old)
+    ensures out_begins { IfKnown (task_of job.now) (P.remaining program.old) (L.remaining
+        log_in.old)
         (λ bytes logged. OutBegins (task_of job.now) bytes logged
         (O.contents out.old) (O.contents out.new)
         (K.contents log_out.old) (K.contents log_out.new)) }
-    ensures err_begins { IfKnown (task_of job.now) (P.remaining program.old) (L.remaining log_in.old)
+    ensures err_begins { IfKnown (task_of job.now) (P.remaining program.old) (L.remaining
+        log_in.old)
         (λ bytes logged. ErrBegins (task_of job.now) bytes logged
         (E.contents err.old) (E.contents err.new)) }
     ensures memory_out { result ≡ status_memory

@@ -1,24 +1,24 @@
 use Rattle.std.proofs.Common.{◌≡◌, ◌<◌, vec_len, subst, sym, slice_get, Some, List, ℕ, arith}
-use Rattle.xk_callgraph.specs.CallGraph.{rows, IsCall}
-use Rattle.xk_callgraph.proofs.NumberingLemmas.{zeros_set, numbered_more, length-rows}
+use Rattle.xk_callgraph.specs.CallGraph.{adjacency, IsCall}
+use Rattle.xk_callgraph.proofs.NumberingLemmas.{zeros_set, numbered_more, length-adjacency}
 use Rattle.xk_callgraph.proofs.numbering.place.Goals as goal
 
 pub keeps_waiting-requires : goal.keeps_waiting-requires
 keeps_waiting-requires c = record {
   within = λ k j e.
-      let call : IsCall (rows c.args.calls.now) c.args.i k j = subst (λ (xs : List ℕ). slice_get xs k ≡ Some j) c.called_by.ensures e in
+      let call : IsCall (adjacency c.args.calls.now) c.args.i k j = subst (λ (xs : List ℕ). slice_get xs k ≡ Some j) c.called_by.ensures e in
       let h = c.requires.within c.args.i k j call in
-      omega (arith, h, length-rows c.args.calls.now, c.requires.all);
+      omega (arith, h, length-adjacency c.args.calls.now, c.requires.all);
 }
 
-pub returns-in-Some-clause-waits : goal.returns-in-Some-clause-waits
-returns-in-Some-clause-waits c =
+pub returns-in-Some-clause-pending : goal.returns-in-Some-clause-pending
+returns-in-Some-clause-pending c =
     let w = c.in-Some.ensures in
     (w.0, subst (λ (xs : List ℕ). slice_get xs c.in-Some.k ≡ Some w.0) c.called_by.ensures w.1.0, w.1.1)
 
 pub returns-in_ok-push-in-None-clause-numbered : goal.returns-in_ok-push-in-None-clause-numbered
 returns-in_ok-push-in-None-clause-numbered c =
-    numbered_more (rows c.args.calls.now) c.args.numbers.now c.args.i (vec_len c.args.placed.now) c.len.result c.requires.numbered c.requires.top c.requires.method
+    numbered_more (adjacency c.args.calls.now) c.args.numbers.now c.args.i (vec_len c.args.placed.now) c.len.result c.requires.numbered c.requires.top c.requires.method
     c.requires.none (omega (arith, c.len.ensures, c.in_ok-push-in-None.ensures.len))
     (λ k j call. c.in-None.ensures k j (subst (λ (xs : List ℕ). slice_get xs k ≡ Some j) (sym c.called_by.ensures) call))
 

@@ -1,10 +1,10 @@
 use Rattle.std.proofs.Common.{vec_len}
-use Rattle.xk_callgraph.specs.CallGraph.{IsNumbered, AtMost, zeros, rows}
+use Rattle.xk_callgraph.specs.CallGraph.{IsNumbered, AtMost, zeros, adjacency}
 use Rattle.xk_callgraph.proofs.numbering.place_rest.Given as goal
 
 abbrev pub invariant-loop : goal.invariant-loop
 invariant-loop l = record {
-  numbered : IsNumbered (rows l.calls) l.numbers;
+  numbered : IsNumbered (adjacency l.calls) l.numbers;
   top : AtMost l.numbers (vec_len l.placed);
 }
 

@@ -1,5 +1,5 @@
 use Rattle.std.proofs.Common.{◌≡◌, ◌<◌, length, slice_index}
-use Rattle.xk_callgraph.specs.CallGraph.{zeros, rows}
+use Rattle.xk_callgraph.specs.CallGraph.{zeros, adjacency}
 use Rattle.xk_callgraph.proofs.NumberingLemmas.{Lead}
 use Rattle.xk_callgraph.proofs.numbering.walk_round.Given as goal
 
@@ -8,7 +8,7 @@ invariant-loop-seen l = record {
   within : l.here < length l.numbers;
   none : slice_index l.numbers l.here ≡ 0;
   new : slice_index l.seen l.here ≡ 0;
-  lead : Lead (rows l.calls) l.seen l.here;
+  lead : Lead (adjacency l.calls) l.seen l.here;
 }
 
 abbrev pub decreases-loop-seen : goal.decreases-loop-seen

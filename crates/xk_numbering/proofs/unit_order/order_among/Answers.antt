@@ -1,5 +1,5 @@
 use Rattle.std.proofs.Common.{◌∙◌, map, ap}
-use Rattle.xk_callgraph.specs.CallGraph.{rows}
+use Rattle.xk_callgraph.specs.CallGraph.{adjacency}
 use Rattle.xk_tree.specs.Program.{tree_value}
 use Rattle.xk_numbering.specs.Views.{part}
 use Rattle.xk_numbering.proofs.PartGraphLemmas.{is_graph, main_there}
@@ -7,8 +7,8 @@ use Rattle.xk_numbering.proofs.unit_order.order_among.Goals as goal
 
 pub order_by-requires-clause-graph : goal.order_by-requires-clause-graph
 order_by-requires-clause-graph c =
-    is_graph (tree_value c.args.tree.now) (map part c.args.found.now) c.args.places.now (rows c.deref.result.now) c.requires.parts c.requires.places
-    (ap rows c.deref.ensures.value ∙ c.in_ok-lists.ensures)
+    is_graph (tree_value c.args.tree.now) (map part c.args.found.now) c.args.places.now (adjacency c.deref.result.now) c.requires.parts c.requires.places
+    (ap adjacency c.deref.ensures.value ∙ c.in_ok-lists.ensures)
 
 pub order_by-requires-clause-begins : goal.order_by-requires-clause-begins
 order_by-requires-clause-begins c =

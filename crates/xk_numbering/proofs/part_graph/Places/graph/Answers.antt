@@ -1,5 +1,5 @@
 use Rattle.std.proofs.Common.{◌+◌, ◌++◌, ◌∷◌, [], ℕ, List, map, drop, ap, sym, ◌∙◌, refl, append_assoc}
-use Rattle.xk_callgraph.specs.CallGraph.{rows}
+use Rattle.xk_callgraph.specs.CallGraph.{adjacency}
 use Rattle.xk_semantics.specs.Parts.{Part, part_runs}
 use Rattle.xk_semantics.specs.PartGraph.{graph_by}
 use Rattle.xk_numbering.specs.PartPlaces.{place_in}
@@ -13,7 +13,7 @@ loop-p-preserved c =
     let i = c.loop-p.p-index in
     let ps = c.args.parts.now in
     let p = c.p-item.result in
-    let before = rows c.loop-p.lists.items in
+    let before = adjacency c.loop-p.lists.items in
     let rest = graph_by place (map part (drop (i + 1) ps)) in
     ap (λ (l : List (List ℕ)). l ++ rest) c.in_ok-add_list.ensures
     ∙ append_assoc before (map place (part_runs (part p)) ∷ []) rest
