@@ -1,6 +1,6 @@
 -- The law of the contract, from the lemmas on worlds that are reached.
 use Rattle.xk_laws.proofs.RoomLaw.{reached_has_room, made_has_room}
-use Rattle.xk_laws.proofs.laws.room_for_clocks.Goals as goal
+use Rattle.xk_laws.proofs.room_for_clocks.Goals as goal
 
 pub returns-clause-reached : goal.returns-clause-reached
 returns-clause-reached c = reached_has_room
