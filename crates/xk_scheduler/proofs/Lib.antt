@@ -13,3 +13,4 @@ pub mod RunSequenceLemmas
 pub mod BlockingClockLemmas
 pub mod WaiterUpdateLemmas
 pub mod WakeLemmas
+pub mod UnloggedRunLemmas

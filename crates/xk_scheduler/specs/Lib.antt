@@ -4,3 +4,4 @@ pub mod EnabledSet
 pub mod LoggedRuns
 pub mod LocalRuns
 pub mod Waiters
+pub mod WholeRuns

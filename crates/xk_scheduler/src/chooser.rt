@@ -46,6 +46,7 @@ pub trait Chooser {
     fn is_steady(&self, enabled: &NumberSet) -> bool
         ensures { result ≡ true → IsSteadyOn after self.now enabled.now.members }
     {
+        // Who says no looks at nobody: `enabled` is there for the clause, and for those who override this.
         let _shown = enabled;
         false
     }

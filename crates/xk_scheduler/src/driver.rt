@@ -347,6 +347,7 @@ fn most_of(core: &Core<'_>) -> u32
     ensures there { length core.now.world.activities ≤ result }
 {
     let most = core.module().activities();
+    // For `core` and `there`: its clause `core` says that a legal schedule of an accepted module leads to the core.
     let _there = core.activities();
     most
 }
@@ -357,6 +358,7 @@ fn most_clocks_of(core: &Core<'_>) -> u32
     ensures there { length core.now.world.clocks ≤ result }
 {
     let most = core.module().clocks();
+    // For `there`: its clause `core` says that a legal schedule of an accepted module leads to the core.
     let _there = core.activities();
     most
 }
@@ -481,7 +483,7 @@ impl<'m> Driver<'m> {
     {
         let act = ticket.act();
         self.core.apply(ticket);
-        // Every core is where a legal schedule of its module leads.
+        // For the driver's invariant: its clause `core` says that a legal schedule leads to the core, and so behind the ticket.
         let _there = self.core.activities();
         list_one(&mut self.enabled, &self.core, act);
     }

@@ -11,4 +11,4 @@ pub use chooser::{Chooser, First, Last, Round};
 pub use driver::{Driver, Turn};
 pub use logged_run::{Ended, Logged, Partial, keep_printed};
 pub use schedule::{Halt, Ran, run_schedule};
-pub use whole_run::{drive, unstarted};
+pub use whole_run::{Summary, drive, drive_unlogged, unstarted};

@@ -1,14 +1,25 @@
-//! Whole runs that a chooser drives.
+//! Whole runs that a chooser drives, with a log and without.
 
 ghost use Rattle.std.specs.Prelude.{◌≡◌, ◌≤◌, true, false, [], IfOk, IfErr};
 ghost use Rattle.xk_types.specs.Schedule.{all_ended};
 ghost use Rattle.xk_types.specs.Bound.{steps_bound};
 ghost use Rattle.xk_scheduler.specs.LoggedRuns.{IsFull, IsShort, IsChosen, IsChosenSoFar, state_so_far};
+ghost use Rattle.xk_scheduler.specs.WholeRuns.{IsRunBy};
 
 use crate::chooser::Chooser;
-use crate::logged_run::{Ended, Logged, Partial};
-use std::alloc::Global;
+use crate::driver::Driver;
+use crate::logged_run::{Ended, Logged, Partial, keep_printed};
+use std::alloc::{AllocError, Global};
 use xk_core::Core;
+
+/// What is kept of a run that came to its end, and of which there is no log.
+#[derive(Debug, Drop)]
+pub struct Summary {
+    /// The numbers that it printed, in order.
+    pub printed: Vec<i64>,
+    /// How many steps it took.
+    pub steps: u64,
+}
 
 /// The answer where memory was refused before the first step.
 pub fn unstarted<'m>(alloc: Global, core: Core<'m>) -> Partial<'m>
@@ -66,4 +77,26 @@ pub fn drive<'m, C: Chooser>(
             Err(_) => return Err(run.cut_short()),
         }
     }
+}
+
+/// Runs a core, from before its first step, by a chooser, as `drive` does, and keeps no log. So a stretch of steps that nobody else can
+/// see needs no entries, and is taken in one turn.
+pub fn drive_unlogged<C: Chooser>(
+    alloc: Global,
+    start: Core<'_>,
+    chooser: &mut C,
+) -> Result<Summary, AllocError>
+    requires { start.world.steps ≡ 0 }
+    ensures { IfOk result (λ run. IsRunBy C.answer C.after start.entry.module_run
+        start.entry.world.arguments chooser.old run.printed.items run.steps) }
+{
+    let Ok(mut driver) = Driver::new(alloc, start) else {
+        return Err(AllocError);
+    };
+    let mut printed = Vec::new(alloc);
+    while let Some(turn) = driver.turns(chooser)? {
+        keep_printed(&mut printed, turn.event)?;
+    }
+    let steps = driver.into_core().steps_done();
+    Ok(Summary { printed, steps })
 }

@@ -7,8 +7,7 @@ mod devices;
 mod fault;
 mod job_result;
 pub mod laws;
-mod logged_run;
-mod ordered_run;
+mod module_run;
 mod program_loader;
 
 pub use devices::{report, serve, tell, tell_words};
