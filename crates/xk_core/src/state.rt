@@ -184,7 +184,7 @@ impl<'m> State<'m> {
 
     /// Activity a carries out an instruction that others can see, but that opens or closes no finish, and starts no activity.
     /// Takes no memory.
-    pub fn carry_out(&mut self, a: usize, instr: &Instr) -> Event
+    pub fn execute_visible(&mut self, a: usize, instr: &Instr) -> Event
         requires enabled { is_step (carried self.old.module_run self.old.world a instr.now)
             ≡ true }
         requires visible { is_visible instr.now ≡ true }
