@@ -320,19 +320,8 @@ impl<'m> Core<'m> {
         ensures refused { OnErr result (self.new ≡ self.old) }
         ensures only_where_it_grows { OnErr result (WantsMemory self.old act) }
     {
+        // For `bound`: that the world is one which a legal schedule reaches.
         let _state = &self.state;
-        self.take(act)
-    }
-
-    /// The activity takes its next step.
-    #[inline(always)]
-    fn take(&mut self, act: Act) -> Result<Event, AllocError>
-        requires { IsTrue (is_enabled self.old.module_run self.old.world act) }
-        ensures stepped { IfOk result (StepsTo self.old act self.new) }
-        ensures same_module { self.new.module_run ≡ self.old.module_run }
-        ensures refused { OnErr result (self.new ≡ self.old) }
-        ensures only_where_it_grows { OnErr result (WantsMemory self.old act) }
-    {
         match self.next_instruction(act.0 as usize) {
             Some(instr) => self.step_running(act, instr),
             None => Ok(self.pass(act)),
