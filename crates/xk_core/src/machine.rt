@@ -66,6 +66,7 @@ impl<'m> Core<'m> {
         ensures { IfOk result (λ c. c ≡ opening_core verified.now arguments.now) }
     {
         let program = verified.module();
+        // For the call with unit 0: main's unit is there.
         let _main = &program.units()[0];
         let state = State::open(alloc, verified, arguments)?;
         let finishes = FinishTree::open(alloc, verified.room(0).finishes)?;

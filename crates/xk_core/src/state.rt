@@ -126,6 +126,7 @@ impl<'m> State<'m> {
         ensures world { IfOk result (λ s. s.world ≡ opening verified.now arguments.now) }
     {
         let program = verified.module();
+        // For the call with unit 0: main's unit is there.
         let _main = &program.units()[0];
         let places = places(verified, verified.room(0).slots);
         Ok(State {
