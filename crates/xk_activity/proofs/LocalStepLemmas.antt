@@ -1,7 +1,8 @@
 -- A local step, by the instruction that the present frame stands at.
 use Rattle.std.specs.Prelude.{slice_index_or}
 use Rattle.std.proofs.lemmas.List.{map_more}
-use Rattle.std.proofs.Common.{get_or, take, ◌+◌, ◌++◌, ◌≡◌, ℕ, zero, suc, ℤ, ◌<◌, Bool, true, false, cond, List, [], ◌∷◌, length, refl, sym, ap, subst, ◌∙◌, arith, Option, Some, None, slice_get, All}
+use Rattle.std.proofs.lemmas.List.Elements.{All-cons}
+use Rattle.std.proofs.Common.{get_or, take, ◌+◌, ◌++◌, ◌≡◌, ℕ, suc, ℤ, ◌<◌, Bool, true, false, cond, List, [], ◌∷◌, length, refl, sym, ap, subst, ◌∙◌, arith, Option, Some, None, slice_get, All}
 use Rattle.std.proofs.lemmas.Option.{slice_get_within, get_or_from_slice_get}
 use Rattle.xk_types.specs.declared.world.Value.{Value}
 use Rattle.xk_types.specs.declared.world.Value.TheVariants as value
@@ -67,10 +68,6 @@ turn_steps fs s h e =
 
 -- ---- arguments
 
-all_cons : (P : ℕ → Type 0) (x : ℕ) (xs : List ℕ) → P x → All P xs → All P (x ∷ xs)
-all_cons P x xs p h zero d lt = p
-all_cons P x xs p h (suc k) d lt = h k d (omega arith)
-
 clock_there : {X : Type 0} (o : Option Value) (go : ℕ → OutcomeOf X) → IsRight (clock_in o go) → (c : ℕ) × (o ≡ Some (value.Clock c)) × IsRight (go c)
 clock_there None go h = absurd h
 clock_there (Some value.Unset) go h = absurd h
@@ -97,7 +94,7 @@ arguments_there {X} slots (param.Number ∷ ps) (x ∷ xs) go h =
     let n = number_there (slice_get slots x) after h in
     let r = arguments_there slots ps xs (λ values. go (value.Number n.0 ∷ values)) (number_goes (slice_get slots x) after n.0 h n.1) in (
       ap suc r.0,
-      all_cons (λ s. s < length slots) x xs (slice_get_within slots x _ n.1) r.1,
+      All-cons (λ s. s < length slots) x xs (slice_get_within slots x _ n.1) r.1,
       ap (λ o. number_in o (λ z. arguments_in slots ps xs (λ values. go (value.Number z ∷ values)))) n.1 ∙ r.2
           ∙ ap (λ v. go (v ∷ values_at slots xs)) (sym (value_there slots x _ n.1)),
     )
@@ -105,7 +102,7 @@ arguments_there slots (param.Clock ∷ ps) (x ∷ xs) go h =
     let c = clock_there (slice_get slots x) (λ z. arguments_in slots ps xs (λ values. go (value.Clock z ∷ values))) h in
     let r = arguments_there slots ps xs (λ values. go (value.Clock c.0 ∷ values)) c.2 in (
       ap suc r.0,
-      all_cons (λ s. s < length slots) x xs (slice_get_within slots x _ c.1) r.1,
+      All-cons (λ s. s < length slots) x xs (slice_get_within slots x _ c.1) r.1,
       ap (λ o. clock_in o (λ z. arguments_in slots ps xs (λ values. go (value.Clock z ∷ values)))) c.1 ∙ r.2
           ∙ ap (λ v. go (v ∷ values_at slots xs)) (sym (value_there slots x _ c.1)),
     )

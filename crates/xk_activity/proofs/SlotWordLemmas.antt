@@ -1,7 +1,7 @@
 -- The slots of a frame as words with marks: what is read, written and put behind others.
 use Rattle.std.proofs.Common.{◌≡◌, ℕ, zero, suc, ◌+◌, ◌<◌, ◌≤◌, ℤ, pos, Bool, true, false, cond, List, [], ◌∷◌, ◌++◌, length, replicate, drop, Some, refl, sym, ap, ◌∙◌, arith, slice_get, slice_set}
 use Rattle.std.specs.Prelude.{slice_index_or, int_le, ◌&&◌, ◌-ℤ◌, nat_abs}
-use Rattle.std.proofs.lemmas.List.{append_assoc, append-nil, length-append, get_or-drop}
+use Rattle.std.proofs.lemmas.List.{append_assoc, length-append, get_or-drop}
 use Rattle.std.proofs.Math.ListN.{get_or-append}
 use Rattle.std.proofs.lemmas.Option.{none-some, same_Some, slice_get-get_or, slice_get_within, get_or_from_slice_get}
 use Rattle.xk_types.specs.declared.world.Value.{Value}
@@ -102,11 +102,7 @@ zeros_by f (suc k) h =
     ap (λ b. value_of b (pos 0) ∷ values_by (λ s. f (suc s)) (replicate k (pos 0))) (h zero (omega arith))
     ∙ ap (λ vs. value.Unset ∷ vs) (zeros_by (λ s. f (suc s)) k (λ s lt. h (suc s) (omega arith)))
 
--- no words so far
-pub laid_none : (old : List ℤ) (marks : Marks) → ((s : ℕ) → is_marked marks s ≡ false) → AreLaid old old marks []
-laid_none old marks h = record { fresh = []; items = sym (append-nil old); hold = refl; above = λ s le lt. h s }
-
--- one more
+-- one more word
 pub laid_more : (old mid new : List ℤ) (marks next : Marks) (values : List Value) (i : ℕ) (w : ℤ) (b : Bool) → AreLaid old mid marks values → i ≡ length values → i < 64
     → new ≡ mid ++ w ∷ [] → (is_marked next i ≡ b) → ((k : ℕ) → k < 64 → (k ≡ i → ⊥) → is_marked next k ≡ is_marked marks k) → AreLaid old new next (values ++ value_of b w ∷ [])
 laid_more old mid new marks next values i w b l at few items here others =

@@ -73,6 +73,7 @@ impl<'m> Activities<'m> {
         ensures main { IfOk result (λ s. s.list ≡ main_of verified.now arguments.now ∷ []) }
     {
         let program = verified.module();
+        // For `unit` of `begin`: main's unit is there.
         let _main = &program.units()[0];
         let values = numbers_held(alloc, arguments)?;
         let main = Frames::begin(alloc, verified, 0, &values)?;

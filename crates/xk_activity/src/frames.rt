@@ -15,7 +15,7 @@ ghost use Rattle.xk_activity.specs.Slots.{values_of};
 
 use crate::caller::Caller;
 use crate::equality::are_same_waiting;
-use crate::interpreter::{is_flat, one, run_flat};
+use crate::interpreter::{execute_at, is_frame_local, run_instructions};
 use crate::marks::Marks;
 use crate::slots::{are_same_slots, part, set, value};
 use crate::stack::{Stack, copy_callers, copy_words, empty, fill, hand, put};
@@ -89,7 +89,7 @@ fn step_top(
 {
     let words = stack.as_mut_slice();
     let slots = &mut words[base..];
-    let next = one(code, place as usize, slots, marks)?;
+    let next = execute_at(code, place as usize, slots, marks)?;
     Some(next as u32)
 }
 
@@ -121,7 +121,7 @@ fn run_on_top(
 {
     let words = stack.as_mut_slice();
     let slots = &mut words[base..];
-    run_flat(code, start, slots, marks, max)
+    run_instructions(code, start, slots, marks, max)
 }
 
 /// Another value in a slot of the frame that lies on a stack from base on.
@@ -440,7 +440,7 @@ impl<'m> Frames<'m> {
         match self.next() {
             Instr::Call { .. } => true,
             Instr::Ret => !self.callers.is_empty(),
-            instr => is_flat(instr),
+            instr => is_frame_local(instr),
         }
     }
 }

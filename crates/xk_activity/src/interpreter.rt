@@ -87,7 +87,7 @@ fn begin(
 /// Carries out an instruction, and gives the next place; nothing where it concerns more than the frame.
 #[inline(always)]
 #[tactic(auto, using(crate::proofs::OperandLemmas::number_there, crate::proofs::OperandLemmas::number_goes, crate::proofs::OperandLemmas::slot_there, crate::proofs::OperandLemmas::begin_there))]
-fn carry(
+fn execute(
     code: &[Instr],
     place: usize,
     words: &mut [i64],
@@ -134,7 +134,7 @@ fn carry(
 }
 
 /// Whether an instruction concerns one frame alone.
-pub(crate) fn is_flat(instr: &Instr) -> bool
+pub(crate) fn is_frame_local(instr: &Instr) -> bool
     ensures { result ≡ not (is_beyond instr.now) }
 {
     match instr {
@@ -154,7 +154,7 @@ pub(crate) fn is_flat(instr: &Instr) -> bool
 
 /// The next instruction, if it concerns the frame alone, and the next place.
 #[inline(always)]
-pub(crate) fn one(
+pub(crate) fn execute_at(
     code: &[Instr],
     place: usize,
     words: &mut [i64],
@@ -168,12 +168,12 @@ pub(crate) fn one(
     ensures near { IsNear result }
     ensures length { length words.new ≡ length words.old }
 {
-    carry(code, place, words, marks, &code[place])
+    execute(code, place, words, marks, &code[place])
 }
 
 /// Up to max instructions that concern the frame alone: the place then, and how many they were.
 #[inline(never)]
-pub(crate) fn run_flat(
+pub(crate) fn run_instructions(
     code: &[Instr],
     start: u32,
     words: &mut [i64],
@@ -195,7 +195,7 @@ pub(crate) fn run_flat(
     // A copy, which can lie in a register while the loop runs.
     let mut now = *marks;
     while left > 0 {
-        match one(code, place, words, &mut now) {
+        match execute_at(code, place, words, &mut now) {
             Some(next) => {
                 place = next;
                 left -= 1;

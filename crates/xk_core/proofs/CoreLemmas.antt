@@ -1,5 +1,5 @@
 -- What holds of a core, by the law.
-use Rattle.std.proofs.Common.{◌≡◌, ℕ, ◌+◌, ◌<◌, ◌≤◌, ◌^◌, true, false, not, ◌&&◌, List, length, Option, Some, None, Result, Ok, Err, OnErr, slice_get, slice_index_or, All, arith, refl, ap, ◌∙◌}
+use Rattle.std.proofs.Common.{◌≡◌, ℕ, ◌+◌, ◌<◌, ◌≤◌, ◌^◌, true, false, not, ◌&&◌, List, length, Option, Some, None, slice_get, slice_index_or, All, arith, refl, ap, ◌∙◌}
 use Rattle.std.proofs.lemmas.Option.{slice_get-get_or, get_or_from_slice_get, slice_get_within}
 use Rattle.xk_types.specs.declared.world.Event.{Event}
 use Rattle.xk_types.specs.declared.world.Status.{Status}
@@ -100,8 +100,3 @@ core_fresh m w core h = opening_only m w core.reached h
 -- nor more clocks
 pub core_clocks : (m : ModuleValue) (w : World) → IsCore m w → length w.clocks < 2 ^ 32
 core_clocks m w core = omega (arith, (reached_room m core.limits core.accepted w core.reached).clocks, core.accepted.bounds.clocks)
-
--- what follows from what holds at Err
-pub err_on : {A E : Type 0} (P Q : Type 0) (r : Result A E) → (P → Q) → OnErr r P → OnErr r Q
-err_on P Q (Ok x) f h = tt
-err_on P Q (Err e) f h = f h

@@ -493,10 +493,6 @@ module _ (m : ModuleValue) (ns : List NodeValue) (w : World) (a : ℕ) (h : IsHe
         by (Wrong c) f = absurd (false≢true (ap is_step f ∙ enabled))
         by (Stepped v x) f = refl
 
-    -- the unit that is started
-    pub spawn_within : is_enabled m (with_finishes ns w) a ≡ true → t < length m.units
-    spawn_within enabled = (let u = spawn_by m w a s.x t args (slice_get m.units t) refl s.found (spawn_enabled enabled) in slice_get_within m.units t u.0 u.1)
-
     node_new : fresh_node (governing_of a (node_at ns a)) room ≡ new_node
     node_new = ap (λ z. fresh_node (governing_of a z) room) (node_is ns a s.n s.here)
 

@@ -2,7 +2,7 @@
 use Rattle.std.proofs.Common.{◌≡◌, ◌⊎◌, inl, inr, ℕ, ◌+◌, ◌<◌, Bool, true, false, not, cond, List, length, filter, refl, sym, ap, subst, ◌∙◌, Option, Some, None, slice_get, arith}
 use Rattle.std.specs.Option.{option_map_or}
 use Rattle.std.proofs.lemmas.Bool.{false≢true}
-use Rattle.std.proofs.lemmas.Option.{none-some, slice_get_within, get_or_from_slice_get}
+use Rattle.std.proofs.lemmas.Option.{none-some, get_or_from_slice_get}
 use Rattle.xk_types.specs.declared.world.Event.{Event}
 use Rattle.xk_types.specs.declared.world.Status.{Status}
 use Rattle.xk_types.specs.declared.world.Status.TheVariants as status
@@ -115,9 +115,6 @@ module _ (m : ModuleValue) (ns : List NodeValue) (w : World) (a : ℕ) (h : IsHe
 
     act_is : act_at w.activities a ≡ r.x
     act_is = get_or_from_slice_get w.activities a r.x nobody r.found
-
-    pub runner_there : a < length w.activities
-    runner_there = slice_get_within w.activities a r.x r.found
 
     pub runner_safe : frames.IsSafe frames.local (frames_in m (act_at w.activities a))
     runner_safe = subst (λ x. frames.IsSafe frames.local (frames_in m x)) (sym act_is)

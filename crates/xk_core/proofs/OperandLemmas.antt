@@ -1,7 +1,8 @@
 -- From a step of the definition to what the arms owe, and back.
-use Rattle.std.proofs.Common.{◌≡◌, ℕ, zero, suc, ℤ, ◌<◌, Bool, true, false, List, [], ◌∷◌, length, map, arith, Option, Some, None, slice_get, refl, ap, sym, cond, All, ◌∙◌}
+use Rattle.std.proofs.Common.{◌≡◌, ℕ, suc, ℤ, ◌<◌, Bool, true, false, List, [], ◌∷◌, length, map, arith, Option, Some, None, slice_get, refl, ap, sym, cond, All, ◌∙◌}
 use Rattle.std.proofs.lemmas.Option.{slice_get_within, get_or_from_slice_get}
 use Rattle.std.proofs.lemmas.Bool.{false≢true}
+use Rattle.std.proofs.lemmas.List.Elements.{All-cons}
 use Rattle.xk_types.specs.declared.instr.Instr.{Instr}
 use Rattle.xk_types.specs.declared.instr.Instr.TheVariants as instr
 use Rattle.xk_types.specs.declared.world.Value.{Value}
@@ -19,11 +20,6 @@ use Rattle.xk_core.specs.InstructionEffect.{value_at, carried, carried_by}
 value_there : (act : Activity) (s : ℕ) (v : Value) → slot_at act s ≡ Some v → value_at act s ≡ v
 value_there act s v e = get_or_from_slice_get act.frame.slots s v value.Unset e
 
--- what holds of the first and of all others holds of all
-all_cons : (P : ℕ → Type 0) (x : ℕ) (xs : List ℕ) → P x → All P xs → All P (x ∷ xs)
-all_cons P x xs p h zero d lt = p
-all_cons P x xs p h (suc k) d lt = h k d (omega arith)
-
 -- a step that reads a number has one
 number_there : (o : Option Value) (go : ℤ → Outcome) → is_step (number_in o go) ≡ true → (n : ℤ) × (o ≡ Some (value.Number n)) × (is_step (go n) ≡ true)
 number_there None go h = cc
@@ -39,7 +35,7 @@ clock_there w a (Some (value.Number n)) go h = cc
 clock_there w a (Some (value.Clock c)) go h = (c, refl)
 
 -- a registered clock goes on
-registered_step : (o : Option Clock) (a : ℕ) (go : Outcome) → is_step (registered_on o a go) ≡ true → registered_on o a go ≡ go
+pub registered_step : (o : Option Clock) (a : ℕ) (go : Outcome) → is_step (registered_on o a go) ≡ true → registered_on o a go ≡ go
 registered_step None a go h = cc
 registered_step (Some c) a go h = tested (is_registered (standing_of c a)) h
   where
@@ -59,7 +55,7 @@ arguments_there w a act (param.Number ∷ ps) (x ∷ xs) go h =
     let n = number_there (slot_at act x) (λ z. arguments_in w a act ps xs (λ values. go (value.Number z ∷ values))) h in
     let r = arguments_there w a act ps xs (λ values. go (value.Number n.0 ∷ values)) n.2 in (
       ap suc r.0,
-      all_cons (λ s. s < length act.frame.slots) x xs (slice_get_within act.frame.slots x _ n.1) r.1,
+      All-cons (λ s. s < length act.frame.slots) x xs (slice_get_within act.frame.slots x _ n.1) r.1,
       ap (λ o. number_in o (λ z. arguments_in w a act ps xs (λ values. go (value.Number z ∷ values)))) n.1 ∙ r.2
           ∙ ap (λ v. go (v ∷ map (value_at act) xs)) (sym (value_there act x _ n.1)),
     )
@@ -69,7 +65,7 @@ arguments_there w a act (param.Clock ∷ ps) (x ∷ xs) go h =
     let e = registered_step (slice_get w.clocks c.0) a (arguments_in w a act ps xs (λ values. go (value.Clock c.0 ∷ values))) g in
     let r = arguments_there w a act ps xs (λ values. go (value.Clock c.0 ∷ values)) (rw e at g) in (
       ap suc r.0,
-      all_cons (λ s. s < length act.frame.slots) x xs (slice_get_within act.frame.slots x _ c.1) r.1,
+      All-cons (λ s. s < length act.frame.slots) x xs (slice_get_within act.frame.slots x _ c.1) r.1,
       ap (λ o. clock_in w a o (λ k. arguments_in w a act ps xs (λ values. go (value.Clock k ∷ values)))) c.1 ∙ e ∙ r.2
           ∙ ap (λ v. go (v ∷ map (value_at act) xs)) (sym (value_there act x _ c.1)),
     )

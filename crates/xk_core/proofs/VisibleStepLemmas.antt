@@ -1,5 +1,5 @@
 -- From a step of the definition to what the arms of the state owe, and back.
-use Rattle.std.proofs.Common.{◌≡◌, ℕ, ℤ, ◌<◌, ◌≤◌, Bool, List, subst, arith, true, false, cond, length, Option, Some, None, slice_get, slice_set, refl, sym, ap, ◌∙◌}
+use Rattle.std.proofs.Common.{◌≡◌, ℕ, ℤ, ◌<◌, ◌≤◌, List, subst, arith, true, length, Option, Some, None, slice_get, slice_set, refl, sym, ap, ◌∙◌}
 use Rattle.std.proofs.lemmas.Option.{slice_get-get_or, slice_get_within, get_or_from_slice_get}
 use Rattle.std.proofs.lemmas.Bool.{false≢true}
 use Rattle.xk_types.specs.declared.instr.Instr.{Instr}
@@ -10,12 +10,12 @@ use Rattle.xk_types.specs.declared.world.Event.{Event}
 use Rattle.xk_types.specs.declared.world.Event.TheVariants as event
 use Rattle.std.specs.Option.{option_map_or}
 use Rattle.xk_types.specs.Code.{ModuleValue, UnitValue, IsWithinLimits, IsUnitWithinLimits}
-use Rattle.xk_types.specs.World.{Activity, Clock, World, standing_of, slots_of}
-use Rattle.xk_types.specs.Step.{Outcome, Wrong, ClockUse, carried_out, done, made, put_in, with_slots, number_in, clock_in, registered_on, is_registered, none, cell_in, stored, only, resumed, dropped, onward, slot_at}
+use Rattle.xk_types.specs.World.{Activity, Clock, World, slots_of}
+use Rattle.xk_types.specs.Step.{Outcome, carried_out, done, made, put_in, with_slots, number_in, clock_in, none, cell_in, stored, only, resumed, dropped, onward, slot_at}
 use Rattle.xk_types.specs.Schedule.{is_step}
 use Rattle.xk_activity.specs.Activities.{act_at, nobody}
 use Rattle.xk_core.specs.InstructionEffect.{carried, carried_by}
-use Rattle.xk_core.proofs.OperandLemmas.{carried_within, cell_there, IsStore, IsSpawn, spawn_by, spawning_there}
+use Rattle.xk_core.proofs.OperandLemmas.{registered_step, carried_within, cell_there, IsStore, IsSpawn, spawn_by, spawning_there}
 
 -- who takes a step at an instruction does what it does
 pub carried_here : (m : ModuleValue) (w : World) (a : ℕ) (i : Instr) → is_step (carried m w a i) ≡ true → carried m w a i ≡ carried_out m w a (act_at w.activities a) i
@@ -28,21 +28,12 @@ number_read (Some value.Unset) go h = absurd (false≢true h)
 number_read (Some (value.Number n)) go h = (n, refl, refl)
 number_read (Some (value.Clock c)) go h = absurd (false≢true h)
 
--- a clock that the activity is registered on
-registered : (o : Option Clock) (a : ℕ) (go : Outcome) → is_step (registered_on o a go) ≡ true → registered_on o a go ≡ go
-registered None a go h = absurd (false≢true h)
-registered (Some c) a go h = tested (is_registered (standing_of c a)) h
-  where
-    tested : (b : Bool) → is_step (cond b go (Wrong ClockUse)) ≡ true → cond b go (Wrong ClockUse) ≡ go
-    tested true k = refl
-    tested false k = absurd (false≢true k)
-
 pub clock_read : (w : World) (a : ℕ) (o : Option Value) (go : ℕ → Outcome) → is_step (clock_in w a o go) ≡ true
     → (c : ℕ) × (o ≡ Some (value.Clock c)) × (clock_in w a o go ≡ go c)
 clock_read w a None go h = absurd (false≢true h)
 clock_read w a (Some value.Unset) go h = absurd (false≢true h)
 clock_read w a (Some (value.Number n)) go h = absurd (false≢true h)
-clock_read w a (Some (value.Clock c)) go h = (c, refl, registered (slice_get w.clocks c) a (go c) h)
+clock_read w a (Some (value.Clock c)) go h = (c, refl, registered_step (slice_get w.clocks c) a (go c) h)
 
 pub same_number : (n k : ℤ) → Some (value.Number n) ≡ Some (value.Number k) → n ≡ k
 same_number n k e = cc

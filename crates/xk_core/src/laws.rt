@@ -14,6 +14,7 @@ pub fn every_schedule(verified: &Verified)
     ensures { EverySchedule verified.now }
 {
     every_accepted_module();
+    // For `accepted` and `limits` of `module`.
     let _accepted = verified.module();
 }
 
@@ -25,5 +26,6 @@ pub fn kinds_sound(verified: &Verified)
     ensures { KindsAreSound verified.now }
 {
     kind_soundness();
+    // For `accepted` and `limits` of `module`.
     let _checked = verified.module();
 }

@@ -66,6 +66,7 @@ impl<'m> Core<'m> {
         ensures { IfOk result (λ c. c ≡ opening_core verified.now arguments.now) }
     {
         let program = verified.module();
+        // For the call with unit 0: main's unit is there.
         let _main = &program.units()[0];
         let state = State::open(alloc, verified, arguments)?;
         let finishes = FinishTree::open(alloc, verified.room(0).finishes)?;
@@ -320,28 +321,17 @@ impl<'m> Core<'m> {
         ensures refused { OnErr result (self.new ≡ self.old) }
         ensures only_where_it_grows { OnErr result (WantsMemory self.old act) }
     {
+        // For `bound`: that the world is one which a legal schedule reaches.
         let _state = &self.state;
-        self.take(act)
-    }
-
-    /// The activity takes its next step.
-    #[inline(always)]
-    fn take(&mut self, act: Act) -> Result<Event, AllocError>
-        requires { IsTrue (is_enabled self.old.module_run self.old.world act) }
-        ensures stepped { IfOk result (StepsTo self.old act self.new) }
-        ensures same_module { self.new.module_run ≡ self.old.module_run }
-        ensures refused { OnErr result (self.new ≡ self.old) }
-        ensures only_where_it_grows { OnErr result (WantsMemory self.old act) }
-    {
         match self.next_instruction(act.0 as usize) {
-            Some(instr) => self.carry_on(act, instr),
+            Some(instr) => self.step_running(act, instr),
             None => Ok(self.pass(act)),
         }
     }
 
     /// A running activity carries out its next instruction.
     #[inline(always)]
-    fn carry_on(&mut self, act: Act, instr: &Instr) -> Result<Event, AllocError>
+    fn step_running(&mut self, act: Act, instr: &Instr) -> Result<Event, AllocError>
         requires enabled { IsTrue (is_enabled self.old.module_run self.old.world act) }
         requires here { next_of self.old act ≡ Some instr.now }
         ensures stepped { IfOk result (StepsTo self.old act self.new) }
@@ -353,13 +343,13 @@ impl<'m> Core<'m> {
             Instr::Finish(e) => Ok(self.open_finish(act, *e)),
             Instr::EndFinish(b) => Ok(self.close_finish(act, *b)),
             Instr::Spawn { unit, args } => self.start(act, *unit, args),
-            _ => Ok(self.go_by(act, instr)),
+            _ => Ok(self.step_plain(act, instr)),
         }
     }
 
     /// A running activity carries out its next instruction, which opens or closes no finish, and starts no activity.
     #[inline(always)]
-    fn go_by(&mut self, act: Act, instr: &Instr) -> Event
+    fn step_plain(&mut self, act: Act, instr: &Instr) -> Event
         requires enabled { is_enabled self.old.module_run self.old.world act ≡ true }
         requires here { next_of self.old act ≡ Some instr.now }
         requires plain { concerns_finishes instr.now ≡ false }
@@ -367,9 +357,9 @@ impl<'m> Core<'m> {
         ensures same_module { self.new.module_run ≡ self.old.module_run }
     {
         if self.is_seen(act) {
-            return self.carry_out(act, instr);
+            return self.step_visible(act, instr);
         }
-        match self.local(act) {
+        match self.step_local(act) {
             Next::Stepped => Event::Local,
             Next::Visible => unreachable!(),
         }
@@ -386,7 +376,7 @@ impl<'m> Core<'m> {
 
     /// One step of a running activity, if nobody else can see it.
     #[inline(always)]
-    fn local(&mut self, act: Act) -> Next
+    fn step_local(&mut self, act: Act) -> Next
         requires enabled { IsTrue (is_enabled self.old.module_run self.old.world act) }
         requires runs { is_running self.old.world act ≡ true }
         ensures stepped { Locally self.old act result self.new }
@@ -446,7 +436,7 @@ impl<'m> Core<'m> {
 
     /// The activity carries out an instruction that opens or closes no finish, and starts no activity.
     #[inline(always)]
-    fn carry_out(&mut self, act: Act, instr: &Instr) -> Event
+    fn step_visible(&mut self, act: Act, instr: &Instr) -> Event
         requires enabled { is_enabled self.old.module_run self.old.world act ≡ true }
         requires here { next_of self.old act ≡ Some instr.now }
         requires visible { is_visible instr.now ≡ true }
@@ -455,7 +445,7 @@ impl<'m> Core<'m> {
         ensures stepped { StepsTo self.old act self.new result }
         ensures same_module { self.new.module_run ≡ self.old.module_run }
     {
-        let event = self.state.carry_out(act.0 as usize, instr);
+        let event = self.state.execute_visible(act.0 as usize, instr);
         if is_end(event) {
             self.finishes.ended(act);
         }

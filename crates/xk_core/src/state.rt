@@ -117,6 +117,7 @@ impl<'m> State<'m> {
         ensures world { IfOk result (λ s. s.world ≡ opening verified.now arguments.now) }
     {
         let program = verified.module();
+        // For the call with unit 0: main's unit is there.
         let _main = &program.units()[0];
         let places = verified.places(0) as usize;
         Ok(State {
@@ -175,7 +176,7 @@ impl<'m> State<'m> {
 
     /// Activity a carries out an instruction that others can see, but that opens or closes no finish, and starts no activity.
     /// Takes no memory.
-    pub fn carry_out(&mut self, a: usize, instr: &Instr) -> Event
+    pub fn execute_visible(&mut self, a: usize, instr: &Instr) -> Event
         requires enabled { is_step (carried self.old.module_run self.old.world a instr.now)
             ≡ true }
         requires visible { is_visible instr.now ≡ true }

@@ -5,7 +5,7 @@ use Rattle.xk_core.specs.State.{core_of}
 use Rattle.xk_core.specs.FinishView.{with_finishes}
 use Rattle.xk_core.proofs.FinishTreeLemmas.{held, parts, parts_roomy}
 use Rattle.xk_core.proofs.LocalStepLemmas.{local_there, local_right, local_told}
-use Rattle.xk_core.proofs.machine.Core.local.Goals as goal
+use Rattle.xk_core.proofs.machine.Core.step_local.Goals as goal
 
 pub local-requires-clause-there : goal.local-requires-clause-there
 local-requires-clause-there c =

@@ -1,7 +1,7 @@
 use Rattle.std.proofs.Common.{◌≡◌, ◌≤◌, ◌<◌, ◌^◌, ◌-◌, length}
 use Rattle.xk_activity.specs.Local.{Stepped, ran, turn, spot_at}
 use Rattle.xk_activity.specs.Slots.{values_of}
-use Rattle.xk_activity.proofs.interpreter.run_flat.Given as goal
+use Rattle.xk_activity.proofs.interpreter.run_instructions.Given as goal
 
 abbrev pub invariant-loop-left : goal.invariant-loop-left
 invariant-loop-left l =
