@@ -45,7 +45,7 @@ pub count_small : (p : ℕ → Bool) (n : ℕ) → count_below p n ≤ n
 count_small p zero = omega arith
 count_small p (suc n) = go (p n) (count_small p n)
   where
-    go : (b : Bool) → count_below p n ≤ n → cond b 1 0 + count_below p n ≤ n + 1
+    go : (b : Bool) → count_below p n ≤ n → cond b 1 0 + count_below p n ≤ suc n
     go true le = omega arith
     go false le = omega arith
 
