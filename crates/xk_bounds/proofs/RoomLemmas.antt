@@ -1,12 +1,12 @@
 -- The rooms of units: one by those of the units of greater number, and how great they grow.
-use Rattle.std.proofs.Common.{◌≡◌, ℕ, ◌<◌, List, length, Some, slice_get, slice_index_or, get_or, inl, inr, sym, ap, ◌∙◌, subst, arith, get_or-set_other, get_or-set_same}
+use Rattle.std.proofs.Common.{◌≡◌, ℕ, ◌<◌, ◌≤◌, List, length, Some, slice_get, slice_index_or, get_or, inl, inr, sym, ap, ◌∙◌, subst, arith, get_or-set_other, get_or-set_same}
 use Rattle.std.proofs.Math.ListN.{set}
 use Rattle.std.proofs.lemmas.Bool.{cases_order}
 use Rattle.std.proofs.lemmas.List.Elements.{All-get_or}
 use Rattle.std.proofs.lemmas.Option.{get_or_from_slice_get, slice_get_within}
 use Rattle.xk_types.specs.Code.{UnitValue, ModuleValue, IsUnitWithinLimits, IsWithinLimits}
 use Rattle.xk_types.specs.Shape.{HasShape}
-use Rattle.xk_types.specs.Bound.{stack_of, stack_bound, greatest_below, nesting, is_made, slots_made}
+use Rattle.xk_types.specs.Bound.{stack_of, stack_bound, greatest_below, nesting, is_made, slots_made, made_of}
 use Rattle.xk_bounds.specs.declared.room.Room.{Room}
 use Rattle.xk_bounds.specs.Rooms.{nothing, slots_in, frames_in, finishes_in, made_in, IsRoomBy, IsSmall, IsRoom, AreRooms}
 use Rattle.xk_bounds.proofs.CallChainLemmas.{below_same, count_small, chain_is, chain_small, nesting_small}
@@ -30,6 +30,13 @@ module _ (m : ModuleValue) where
     within unit u found =
         subst IsUnitWithinLimits (get_or_from_slice_get m.units unit u u found) (All-get_or IsUnitWithinLimits m.units unit u (slice_get_within m.units unit u found) limits.each)
 
+    -- clocks are made in few slots
+    pub made_few : (unit : ℕ) → made_of m unit ≤ 65536
+    made_few unit =
+        let few = limits.units in
+        let h = chain_small slots_made m 64 (λ k u found. let a = count_small (is_made u) u.slots in let b = (within k u found).slots in omega arith) (length m.units) unit in
+        omega arith
+
     -- no room is great
     pub room_small : (unit : ℕ) (r : Room) → IsRoom m unit r → IsSmall r
     room_small unit r is =
@@ -50,7 +57,7 @@ module _ (m : ModuleValue) where
               omega arith;
           made =
               let told = is.made in
-              let h = chain_small slots_made m 64 (λ k u found. let a = count_small (is_made u) u.slots in let b = (within k u found).slots in omega arith) most unit in
+              let h = made_few unit in
               omega arith;
         }
 
