@@ -105,9 +105,9 @@ with_log names = with_rule (by_workers names) log_option
 abbrev pub run_line : Names → App
 run_line names = with_rule (with_log names) arg_option
 
--- the program with a command that has to be there
+-- the program with a command that has to be there, and a version that it tells
 abbrev pub program : App
-program = record (new_app (codes "x10clock")) { top = record (new_app (codes "x10clock")).top { subcommand_required = true } }
+program = record (new_app (codes "x10clock")) { top = record (new_app (codes "x10clock")).top { has_version = true; subcommand_required = true } }
 
 abbrev pub command_line : Names → App
 command_line names =

@@ -12,6 +12,9 @@ use clap::error::ErrorKind;
 use clap::{Arg, ArgAction, ArgMatches};
 use std::alloc::{AllocError, Global};
 
+/// What `--version` tells behind the program's name.
+const VERSION: &str = "1.0.0";
+
 /// The names of the orders.
 static ORDERS: [&str; 3] = ["first", "last", "round"];
 
@@ -66,6 +69,7 @@ fn program<'a>(alloc: Global) -> clap::Command<'a>
 {
     clap::Command::new(alloc, "x10clock")
         .about("Verifies and runs clocked programs.")
+        .version(VERSION)
         .subcommand_required(true)
 }
 
