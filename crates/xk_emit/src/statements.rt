@@ -823,7 +823,7 @@ impl<'a, 't> Emitter<'a, 't> {
 
     /// The code of a statement, and the slot behind those of its names. Its names are visible behind it.
     #[cycle(emit)]
-    pub(crate) fn emit(
+    fn emit(
         &self,
         code: &mut Vec<Instr>,
         scope: &mut Scope<'t>,
@@ -885,7 +885,7 @@ impl<'a, 't> Emitter<'a, 't> {
 
 /// The slot behind those of a statement's names, where n is the next.
 #[cycle(slots)]
-pub(crate) fn slots_behind(n: u16, s: &Stmt<'_>) -> Result<u16, CodeError>
+fn slots_behind(n: u16, s: &Stmt<'_>) -> Result<u16, CodeError>
     ensures next { IfOk result (λ m. m ≡ n + count (statement s.now)) }
     ensures refused { IfErr result (λ e. Denies e ⊤ (n + count (statement s.now) ≤ 64)) }
 {
