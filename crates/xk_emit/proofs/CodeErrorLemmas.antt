@@ -185,9 +185,6 @@ code_end err cx t scope n size long s h is = denies err h (λ k. tt) (λ m. let 
 
 -- ---- finishes
 
-pub finish_opened : (err : CodeError) (cx : Setting) (t : ℕ) (scope : Scope) (n size : ℕ) (s : Statement) → Denies err ⊤ (size < 4096) → DeniesCode err cx t scope n size (Finish s)
-finish_opened err cx t scope n size s h = denies err h (λ k. tt) (λ m. let whole = m.0.code in omega arith)
-
 pub finish_inner : (err : CodeError) (cx : Setting) (t : ℕ) (scope : Scope) (n size inner : ℕ) (s : Statement)
     → DeniesCode err cx t scope n inner s → inner ≡ size + 1 → DeniesCode err cx t scope n size (Finish s)
 finish_inner err cx t scope n size inner s h is =
