@@ -4,7 +4,7 @@ use Rattle.std.proofs.lemmas.List.Elements.{All-nil, All-cons, All-head, All-tai
 use Rattle.std.proofs.lemmas.List.{at_drop_more}
 use Rattle.xk_types.specs.Code.{arguments_of}
 use Rattle.xk_tree.specs.declared.tree.Expr.{Expr}
-use Rattle.std.specs.Prelude.{⊤}
+use Rattle.std.specs.Prelude.{⊤, Err}
 use Rattle.xk_types.specs.declared.instr.Instr.{Instr}
 use Rattle.xk_types.specs.declared.instr.Instr.TheVariants as instr
 use Rattle.xk_types.specs.declared.instr.Comparison.{Comparison}
@@ -16,6 +16,7 @@ use Rattle.xk_emit.specs.declared.error.CodeError.TheVariants as error
 use Rattle.xk_emit.specs.CodeOf.{Setting, Scope, behind, before_bound, before_into, both, head_of, loop_slots, within_loop, code_of, code_of_all, code_of_then, count, count_all, declared, eval, eval_all, last_into, second, slot_for}
 use Rattle.xk_emit.specs.NameCoverage.{AreNew, IsBoundKnown, IsKnown, IsLoopNew, IsCovered, AreCovered}
 use Rattle.xk_emit.specs.Room.{AreLow, Denies, HasRoom}
+use Rattle.xk_emit.specs.EmittedCode.{DeniesCode, Emits}
 use Rattle.xk_emit.proofs.RoomLemmas.{DeniesEval, arguments_append, room_behind, room_first, slots_append, temporary_written}
 
 pub denies : (err : CodeError) {K L R S : Type 0} → Denies err L S → (K → L) → (R → S) → Denies err K R
@@ -61,8 +62,10 @@ into_both err scope size t at d o l r h = denies err h (λ k. k) (λ m. room_fir
 
 -- ---- statements
 
-abbrev pub DeniesCode : CodeError → Setting → ℕ → Scope → ℕ → ℕ → Statement → Type 0
-DeniesCode err cx t scope n size s = Denies err (IsCovered cx scope n s) (HasRoom scope size (code_of cx t scope n size s) × (n + count s ≤ 64))
+-- a call that fails emits nothing that counts
+pub emits_not : {err : CodeError} {cx : Setting} {t : ℕ} {names : Scope} {n : ℕ} {s : Statement} {old new : List Instr} {seen : Scope}
+    → DeniesCode err cx t names n (length old) s → Emits cx t names n s old new seen (Err err)
+emits_not h = record { code = tt; scope = tt; slots = tt; refused = h }
 
 pub length_gap : (base first : List Instr) (i : Instr) → length (base ++ (first ++ i ∷ [])) ≡ length base + length first + 1
 length_gap base first i = omega (arith, length-append base (first ++ i ∷ []), length-append first (i ∷ []))
@@ -181,9 +184,6 @@ pub code_end : (err : CodeError) (cx : Setting) (t : ℕ) (scope : Scope) (n siz
 code_end err cx t scope n size long s h is = denies err h (λ k. tt) (λ m. let whole = m.0.code in omega arith)
 
 -- ---- finishes
-
-pub finish_opened : (err : CodeError) (cx : Setting) (t : ℕ) (scope : Scope) (n size : ℕ) (s : Statement) → Denies err ⊤ (size < 4096) → DeniesCode err cx t scope n size (Finish s)
-finish_opened err cx t scope n size s h = denies err h (λ k. tt) (λ m. let whole = m.0.code in omega arith)
 
 pub finish_inner : (err : CodeError) (cx : Setting) (t : ℕ) (scope : Scope) (n size inner : ℕ) (s : Statement)
     → DeniesCode err cx t scope n inner s → inner ≡ size + 1 → DeniesCode err cx t scope n size (Finish s)

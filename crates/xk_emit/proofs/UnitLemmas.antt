@@ -1,5 +1,5 @@
 -- Units that are put together.
-use Rattle.std.proofs.Common.{◌≡◌, ℕ, ◌+◌, ◌≤◌, max, All, List, [], ◌∷◌, ◌++◌, length, length-append, subst, sym, ap, ◌∙◌, arith}
+use Rattle.std.proofs.Common.{◌≡◌, ℕ, ◌+◌, ◌≤◌, max, All, List, [], ◌∷◌, ◌++◌, length, length-append, subst, sym, ap, ◌∙◌, arith, append-nil}
 use Rattle.std.specs.Prelude.{⊤}
 use Rattle.std.proofs.lemmas.List.Elements.{All-head, All-tail}
 use Rattle.xk_types.specs.declared.instr.Instr.{Instr}
@@ -7,12 +7,12 @@ use Rattle.xk_types.specs.declared.instr.Instr.TheVariants as instr
 use Rattle.xk_types.specs.declared.unit.ParamKind.{ParamKind}
 use Rattle.xk_types.specs.declared.unit.UnitKind.{UnitKind}
 use Rattle.xk_types.specs.Code.{UnitValue, IsUnitWithinLimits, arguments_of}
-use Rattle.xk_tree.specs.Tree.{Statement}
+use Rattle.xk_tree.specs.Tree.{Statement, Statements, Block, Done, More}
 use Rattle.xk_emit.specs.CodeOf.{Setting, Scope, count, code_of}
 use Rattle.xk_emit.specs.Unit.{scope_from, slots_used, unit_code, unit_of, written_slots}
 use Rattle.xk_emit.specs.declared.error.CodeError.{CodeError}
 use Rattle.xk_emit.specs.declared.error.CodeError.TheVariants as error
-use Rattle.xk_emit.specs.NameCoverage.{IsCovered}
+use Rattle.xk_emit.specs.NameCoverage.{IsCovered, IsUnitCovered}
 use Rattle.xk_emit.specs.Room.{AreLow, Denies, HasRoom, most_arguments}
 use Rattle.xk_emit.proofs.RoomLemmas.{slots_append}
 use Rattle.xk_emit.proofs.CodeErrorLemmas.{all_first}
@@ -32,6 +32,21 @@ unit_made cx kind ks kinds xs s scope n t made e1 e2 e3 e4 e5 =
     ap (λ (k : List ParamKind). unit_with kind k t (made ++ instr.Ret ∷ [])) e4
     ∙ ap (λ k. unit_with kind ks k (made ++ instr.Ret ∷ [])) sum
     ∙ ap (λ (c : List Instr). unit_with kind ks (length xs + count s) (c ++ instr.Ret ∷ [])) code
+
+-- ---- a statement alone in a block
+
+pub unit_alone : (cx : Setting) (kind : UnitKind) (xs : List (List ℕ)) (kinds : List ParamKind) (ss : Statements) (s : Statement)
+    → ss ≡ More s Done → unit_of cx kind xs kinds (Block ss) ≡ unit_of cx kind xs kinds s
+unit_alone cx kind xs kinds ss s is =
+    let n = length xs in
+    let scope = scope_from 0 xs in
+    let few : n + (count s + 0) ≡ n + count s = omega arith in
+    ap (λ (b : Statements). unit_of cx kind xs kinds (Block b)) is
+    ∙ ap (λ t. unit_with kind kinds t ((code_of cx t scope n 0 s ++ []) ++ instr.Ret ∷ [])) few
+    ∙ ap (λ (c : List Instr). unit_with kind kinds (n + count s) (c ++ instr.Ret ∷ [])) (append-nil (code_of cx (n + count s) scope n 0 s))
+
+pub covered_alone : (cx : Setting) (xs : List (List ℕ)) (ss : Statements) (s : Statement) → ss ≡ More s Done → IsUnitCovered cx xs s → IsUnitCovered cx xs (Block ss)
+covered_alone cx xs ss s is h = subst (λ (b : Statements). IsUnitCovered cx xs (Block b)) (sym is) (record { params = h.params; body = (h.body, tt) })
 
 -- ---- what is denied of a part, is denied of the unit
 

@@ -3,4 +3,5 @@ pub mod Unit
 pub mod NameCoverage
 pub mod CodeReferences
 pub mod Room
+pub mod EmittedCode
 pub mod LeafStatements

@@ -3,12 +3,13 @@
 ghost use Rattle.std.specs.Prelude.{◌≡◌, true, ℕ, ◌+◌, ◌<◌, ◌≤◌, List, [], ◌∷◌, ◌++◌, length, map, option_map, All, unwrap_or, IsSome, OnOk, IfOk, IfErr, ⊤};
 ghost use Rattle.xk_types.specs.declared.instr.Instr.{Instr as Instruction};
 ghost use Rattle.xk_types.specs.declared.instr.Instr.TheVariants as instr;
-ghost use Rattle.xk_tree.specs.Tree.{Bound as LoopBound, Statement, Statements, Finish, For, If, Word, bound, clock_list, word, words, expression, expressions, source, statement, statements};
+ghost use Rattle.xk_tree.specs.Tree.{Bound as LoopBound, Statement, Statements, Block, Finish, For, If, Word, bound, clock_list, word, words, expression, expressions, source, statement, statements};
 ghost use Rattle.xk_names.specs.Scope.{Table as Names, find, texts};
 ghost use Rattle.xk_names.specs.Uses.{clocks_listed};
 ghost use Rattle.xk_emit.specs.CodeOf.{argument_slots, before_assigned, before_bound, before_into, body_at, body_params, body_unit, both, code_of, code_of_all, code_of_source, code_of_then, count, count_all, declared, declared_by_all, eval, eval_all, head_of, last_assigned, last_value, loop_slots, number_of, second, shared_alone, slot_for, slots_of, within_loop};
 ghost use Rattle.xk_emit.specs.NameCoverage.{AreCovered, IsAssignable, IsBoundKnown, IsCovered, IsFound, IsKnown, IsLoopNew, IsNew, IsSourceKnown, IsValueKnown};
 ghost use Rattle.xk_emit.specs.Room.{Denies, HasRoom};
+ghost use Rattle.xk_emit.specs.EmittedCode.{DeniesCode, Emits};
 ghost use Rattle.xk_emit.specs.LeafStatements.{is_simple};
 
 use crate::error::CodeError;
@@ -594,16 +595,8 @@ impl<'a, 't> Emitter<'a, 't> {
         s: &Stmt<'t>,
     ) -> Result<u16, CodeError>
         requires { is_simple (statement s.now) ≡ true }
-        ensures code { OnOk result (code.new.items ≡ code.old.items
-            ++ code_of self.now.setting.now self.now.free scope.old n (length code.old.items)
-            (statement s.now)) }
-        ensures scope { OnOk result (scope.new ≡ declared scope.old n (statement s.now)) }
-        ensures slots { IfOk result (λ m. m ≡ n + count (statement s.now)) }
-        ensures refused { IfErr result (λ err. Denies err
-            (IsCovered self.now.setting.now scope.old n (statement s.now))
-            (HasRoom scope.old (length code.old.items)
-            (code_of self.now.setting.now self.now.free scope.old n (length code.old.items)
-            (statement s.now)) × (n + count (statement s.now) ≤ 64))) }
+        ensures { Emits self.now.setting.now self.now.free scope.old n (statement s.now)
+            code.old.items code.new.items scope.new result }
     {
         match s {
             Stmt::Empty => Ok(n),
@@ -654,18 +647,8 @@ impl<'a, 't> Emitter<'a, 't> {
         n: u16,
         ss: &[Stmt<'t>],
     ) -> Result<u16, CodeError>
-        ensures code { OnOk result (code.new.items ≡ code.old.items
-            ++ code_of_all self.now.setting.now self.now.free scope.old n (length code.old.items)
-            (statements ss.now)) }
-        ensures scope { OnOk result (scope.new ≡ scope.old) }
-        ensures slots { IfOk result (λ m. m ≡ n + count_all (statements ss.now)) }
-        ensures refused { IfErr result (λ err. Denies err
-            (AreCovered self.now.setting.now scope.old n
-            (statements ss.now))
-            (HasRoom scope.old (length code.old.items)
-            (code_of_all self.now.setting.now self.now.free scope.old n (length code.old.items)
-            (statements ss.now))
-            × (n + count_all (statements ss.now) ≤ 64))) }
+        ensures { Emits self.now.setting.now self.now.free scope.old n (Block (statements ss.now))
+            code.old.items code.new.items scope.new result }
     {
         let visible = scope.len();
         let m = self.emit_all(code, scope, n, ss)?;
@@ -685,18 +668,9 @@ impl<'a, 't> Emitter<'a, 't> {
         op: Comparison,
         r: &Expr<'t>,
     ) -> Result<u16, CodeError>
-        ensures code { OnOk result (code.new.items ≡ code.old.items
-            ++ code_of self.now.setting.now self.now.free scope.old n (length code.old.items)
-            (If 0 (expression l.now) op (expression r.now) (statement s.now))) }
-        ensures scope { OnOk result (scope.new ≡ scope.old) }
-        ensures slots { IfOk result (λ m. m ≡ n + count (statement s.now)) }
-        ensures refused { IfErr result (λ err. Denies err
-            (IsCovered self.now.setting.now scope.old n
-            (If 0 (expression l.now) op (expression r.now) (statement s.now)))
-            (HasRoom scope.old (length code.old.items)
-            (code_of self.now.setting.now self.now.free scope.old n (length code.old.items)
-            (If 0 (expression l.now) op (expression r.now) (statement s.now)))
-            × (n + count (statement s.now) ≤ 64))) }
+        ensures { Emits self.now.setting.now self.now.free scope.old n
+            (If 0 (expression l.now) op (expression r.now) (statement s.now))
+            code.old.items code.new.items scope.new result }
     {
         let visible = scope.len();
         let test = self.open_test(code, scope, l, op, r)?;
@@ -758,11 +732,8 @@ impl<'a, 't> Emitter<'a, 't> {
             (length code.old.items) (statement s.now)) }
         ensures scope { OnOk result (scope.new ≡ scope.old) }
         ensures slots { IfOk result (λ m. m ≡ n + count (statement s.now)) }
-        ensures refused { IfErr result (λ err. Denies err
-            (IsCovered self.now.setting.now scope.old n (statement s.now))
-            (HasRoom scope.old (length code.old.items)
-            (code_of self.now.setting.now self.now.free scope.old n (length code.old.items)
-            (statement s.now)) × (n + count (statement s.now) ≤ 64))) }
+        ensures refused { IfErr result (λ err. DeniesCode err self.now.setting.now self.now.free
+            scope.old n (length code.old.items) (statement s.now)) }
     {
         let visible = scope.len();
         let m = self.emit(code, scope, n, s)?;
@@ -815,19 +786,9 @@ impl<'a, 't> Emitter<'a, 't> {
         limit: &Bound<'t>,
         s: &Stmt<'t>,
     ) -> Result<u16, CodeError>
-        ensures code { OnOk result (code.new.items ≡ code.old.items
-            ++ code_of self.now.setting.now self.now.free scope.old n (length code.old.items)
-            (For 0 (word i.entry) lo (bound limit.now) (statement s.now))) }
-        ensures scope { OnOk result (scope.new ≡ scope.old) }
-        ensures slots { IfOk result
-            (λ m. m ≡ n + (count (statement s.now) + loop_slots (bound limit.now))) }
-        ensures refused { IfErr result (λ err. Denies err
-            (IsCovered self.now.setting.now scope.old n
-            (For 0 (word i.entry) lo (bound limit.now) (statement s.now)))
-            (HasRoom scope.old (length code.old.items)
-            (code_of self.now.setting.now self.now.free scope.old n (length code.old.items)
-            (For 0 (word i.entry) lo (bound limit.now) (statement s.now)))
-            × (n + (count (statement s.now) + loop_slots (bound limit.now)) ≤ 64))) }
+        ensures { Emits self.now.setting.now self.now.free scope.old n
+            (For 0 (word i.entry) lo (bound limit.now) (statement s.now))
+            code.old.items code.new.items scope.new result }
     {
         if lo.value > limit.top() {
             return slots_behind(behind_names(n, limit)?, s);
@@ -849,18 +810,8 @@ impl<'a, 't> Emitter<'a, 't> {
         n: u16,
         s: &Stmt<'t>,
     ) -> Result<u16, CodeError>
-        ensures code { OnOk result (code.new.items ≡ code.old.items
-            ++ code_of self.now.setting.now self.now.free scope.old n (length code.old.items)
-            (Finish (statement s.now))) }
-        ensures scope { OnOk result (scope.new ≡ scope.old) }
-        ensures slots { IfOk result (λ m. m ≡ n + count (statement s.now)) }
-        ensures refused { IfErr result (λ err. Denies err
-            (IsCovered self.now.setting.now scope.old n
-            (Finish (statement s.now)))
-            (HasRoom scope.old (length code.old.items)
-            (code_of self.now.setting.now self.now.free scope.old n (length code.old.items)
-            (Finish (statement s.now)))
-            × (n + count (statement s.now) ≤ 64))) }
+        ensures { Emits self.now.setting.now self.now.free scope.old n (Finish (statement s.now))
+            code.old.items code.new.items scope.new result }
     {
         let visible = scope.len();
         let first = gap(code)?;
@@ -872,23 +823,15 @@ impl<'a, 't> Emitter<'a, 't> {
 
     /// The code of a statement, and the slot behind those of its names. Its names are visible behind it.
     #[cycle(emit)]
-    pub(crate) fn emit(
+    fn emit(
         &self,
         code: &mut Vec<Instr>,
         scope: &mut Scope<'t>,
         n: u16,
         s: &Stmt<'t>,
     ) -> Result<u16, CodeError>
-        ensures code { OnOk result (code.new.items ≡ code.old.items
-            ++ code_of self.now.setting.now self.now.free scope.old n (length code.old.items)
-            (statement s.now)) }
-        ensures scope { OnOk result (scope.new ≡ declared scope.old n (statement s.now)) }
-        ensures slots { IfOk result (λ m. m ≡ n + count (statement s.now)) }
-        ensures refused { IfErr result (λ err. Denies err
-            (IsCovered self.now.setting.now scope.old n (statement s.now))
-            (HasRoom scope.old (length code.old.items)
-            (code_of self.now.setting.now self.now.free scope.old n (length code.old.items)
-            (statement s.now)) × (n + count (statement s.now) ≤ 64))) }
+        ensures { Emits self.now.setting.now self.now.free scope.old n (statement s.now)
+            code.old.items code.new.items scope.new result }
     {
         match s {
             Stmt::Block(ss) => self.emit_block(code, scope, n, ss),
@@ -942,7 +885,7 @@ impl<'a, 't> Emitter<'a, 't> {
 
 /// The slot behind those of a statement's names, where n is the next.
 #[cycle(slots)]
-pub(crate) fn slots_behind(n: u16, s: &Stmt<'_>) -> Result<u16, CodeError>
+fn slots_behind(n: u16, s: &Stmt<'_>) -> Result<u16, CodeError>
     ensures next { IfOk result (λ m. m ≡ n + count (statement s.now)) }
     ensures refused { IfErr result (λ e. Denies e ⊤ (n + count (statement s.now) ≤ 64)) }
 {

@@ -7,16 +7,17 @@ ghost use Rattle.xk_tree.specs.Tree.{Block, clock_list, method_value, param_valu
 ghost use Rattle.xk_names.specs.Scope.{texts};
 ghost use Rattle.xk_names.specs.Uses.{clocks_listed};
 ghost use Rattle.xk_emit.specs.Unit.{body_kinds, kinds_of_params, names_of_params, scope_from, slots_used, unit_of, unit_of_body, unit_of_method, written_slots};
-ghost use Rattle.xk_emit.specs.CodeOf.{body_at, body_params, code_of, code_of_all, count, count_all};
-ghost use Rattle.xk_emit.specs.NameCoverage.{AreCovered, AreNew, IsCovered, IsUnitCovered};
+ghost use Rattle.xk_emit.specs.CodeOf.{body_at, body_params, code_of_all, count_all};
+ghost use Rattle.xk_emit.specs.NameCoverage.{AreCovered, AreNew, IsUnitCovered};
 ghost use Rattle.xk_emit.specs.Room.{Denies, HasRoom};
 ghost use Rattle.xk_emit.specs.declared.error.CodeError.TheVariants as error;
 
 use crate::error::CodeError;
 use crate::expressions::{Scope, after, push};
 use crate::setting::Setting;
-use crate::statements::{Emitter, declare, slots_behind, slots_behind_all};
+use crate::statements::{Emitter, declare, slots_behind_all};
 use std::alloc::Global;
+use std::slice;
 use xk_names::Table;
 use xk_tree::{ClockList, Method, Name, Param, Stmt};
 use xk_types::{Instr, MAX_SLOTS, ParamKind, Unit, UnitKind};
@@ -92,8 +93,7 @@ fn block_unit<'t>(
     Ok(unit)
 }
 
-/// The same of a statement.
-#[tactic(auto, using(crate::proofs::UnitLemmas::unit_made))]
+/// The unit of a statement alone, which is that of a block of this one.
 fn stmt_unit<'t>(
     alloc: Global,
     setting: &Setting<'t>,
@@ -111,11 +111,7 @@ fn stmt_unit<'t>(
         → IsUnitWithinLimits (unit_of setting.now kind (map (λ x. x.now) names.now)
         kinds.items (statement s.now)) → ⊥) }
 {
-    let (mut scope, n) = param_scope(alloc, names)?;
-    let free = slots_behind(n, s)?;
-    let code = stmt_code(alloc, setting, free, &mut scope, n, s)?;
-    let unit = unit(kind, kinds, free, code)?;
-    Ok(unit)
+    block_unit(alloc, setting, kind, names, kinds, slice::from_ref(s))
 }
 
 /// The code of a block, where `free` is the first temporary and `n` the next slot.
@@ -141,32 +137,6 @@ fn block_code<'t>(
     };
     let mut code = Vec::new(alloc);
     emitter.emit_all(&mut code, scope, n, body)?;
-    Ok(code)
-}
-
-/// The code of a statement, likewise.
-fn stmt_code<'t>(
-    alloc: Global,
-    setting: &Setting<'t>,
-    free: u16,
-    scope: &mut Scope<'t>,
-    n: u16,
-    s: &Stmt<'t>,
-) -> Result<Vec<Instr>, CodeError>
-    ensures code { IfOk result (λ code. code.items
-        ≡ code_of setting.now free scope.old n 0 (statement s.now)) }
-    ensures refused { IfErr result (λ e. Denies e
-        (IsCovered setting.now scope.old n (statement s.now))
-        (HasRoom scope.old 0 (code_of setting.now free scope.old n 0 (statement s.now))
-        × (n + count (statement s.now) ≤ 64))) }
-{
-    let emitter = Emitter {
-        alloc,
-        setting,
-        free,
-    };
-    let mut code = Vec::new(alloc);
-    emitter.emit(&mut code, scope, n, s)?;
     Ok(code)
 }
 

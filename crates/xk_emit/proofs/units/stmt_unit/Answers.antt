@@ -1,24 +1,26 @@
-use Rattle.std.proofs.Common.{length, map, [], refl}
-use Rattle.std.proofs.lemmas.Result.{err_from_is_err_and}
-use Rattle.std.proofs.lemmas.List.{length-map}
-use Rattle.xk_tree.specs.Tree.{statement}
-use Rattle.xk_emit.proofs.UnitLemmas.{code_over, names_over, scope_over}
+use Rattle.std.proofs.Common.{map, subst, sym, ap, ◌∙◌}
+use Rattle.std.proofs.lemmas.Result.{IfErr-weaker, IfOk-weaker}
+use Rattle.xk_types.specs.Code.{IsUnitWithinLimits}
+use Rattle.xk_tree.specs.Tree.{statement, statements}
+use Rattle.xk_emit.proofs.UnitLemmas.{covered_alone, unit_alone}
 use Rattle.xk_emit.proofs.units.stmt_unit.Goals as goal
 
-pub returns-in_err-scope-clause-table : goal.returns-in_err-scope-clause-table
-returns-in_err-scope-clause-table c =
-    let p = err_from_is_err_and c.from_residual.result c.from_residual.ensures.1 in
-    rw (p.1, p.2) (scope_over c.args.setting.now c.args.kind (map (λ x. x.now) c.args.names.now) c.args.kinds.items (statement c.args.s.now) (length c.args.names.now) _ c.in_err-scope.field-0.0
-    c.in_err-scope.ensures.refused (length-map c.args.names.now (λ x. x.now)))
+pub returns-clause-made : goal.returns-clause-made
+returns-clause-made c =
+    let alone =
+    unit_alone c.args.setting.now c.args.kind (map (λ x. x.now) c.args.names.now) c.args.kinds.items
+    (statements c.from_ref.result.now) (statement c.args.s.now) (ap statements c.from_ref.ensures.value) in
+    IfOk-weaker c.block_unit.result _ _ (λ unit is. is ∙ alone) c.block_unit.ensures.made
 
-pub returns-in_err-free-clause-table : goal.returns-in_err-free-clause-table
-returns-in_err-free-clause-table c =
-    let p = err_from_is_err_and c.from_residual-in_err-free.result c.from_residual-in_err-free.ensures.1 in
-    rw (p.1, p.2) (names_over c.args.setting.now c.args.kind (map (λ x. x.now) c.args.names.now) c.args.kinds.items (statement c.args.s.now) c.in_ok-scope.n c.in_err-free.field-0.0
-    c.in_err-free.ensures.refused c.in_ok-scope.ensures.count)
+pub returns-clause-name : goal.returns-clause-name
+returns-clause-name c =
+    IfErr-weaker c.block_unit.result _ _ (λ e h name covered.
+    h name (covered_alone c.args.setting.now (map (λ x. x.now) c.args.names.now)
+    (statements c.from_ref.result.now) (statement c.args.s.now) (ap statements c.from_ref.ensures.value) covered)) c.block_unit.ensures.name
 
-pub returns-in_err-code-clause-table : goal.returns-in_err-code-clause-table
-returns-in_err-code-clause-table c =
-    let p = err_from_is_err_and c.from_residual-in_err-code.result c.from_residual-in_err-code.ensures.1 in
-    rw (p.1, p.2) (code_over c.args.setting.now c.args.kind (map (λ x. x.now) c.args.names.now) c.args.kinds.items (statement c.args.s.now) c.in_ok-scope.scope c.in_ok-scope.n
-    c.in_ok-free.free [] c.in_err-code.field-0.0 c.in_err-code.ensures.refused refl c.in_ok-scope.ensures.scope c.in_ok-scope.ensures.count c.in_ok-free.ensures.next)
+pub returns-clause-table : goal.returns-clause-table
+returns-clause-table c =
+    let alone =
+    unit_alone c.args.setting.now c.args.kind (map (λ x. x.now) c.args.names.now) c.args.kinds.items
+    (statements c.from_ref.result.now) (statement c.args.s.now) (ap statements c.from_ref.ensures.value) in
+    IfErr-weaker c.block_unit.result _ _ (λ e h table limits. h table (subst IsUnitWithinLimits (sym alone) limits)) c.block_unit.ensures.table

@@ -5,35 +5,54 @@ use Rattle.xk_tree.specs.declared.tree.Stmt.{the_lemmas}
 use Rattle.xk_tree.specs.Tree.{Statement, Statements, More, IfElse, bound, top, word, expression, statement, statements}
 use Rattle.xk_emit.specs.CodeOf.{before_bound, code_of}
 use Rattle.xk_emit.proofs.BackpatchLemmas.{AreEmitted, one_more, test_filled, then_filled, choice_filled, other_filled, loop_filled, finish_filled}
-use Rattle.xk_emit.proofs.CodeErrorLemmas.{DeniesCode, code_end, else_begun, else_other, finish_end, finish_inner, if_end, if_inner, if_tested, length_gap, loop_end, loop_inner, loop_opened, one_denied, then_end, then_inner, then_tested}
+use Rattle.xk_emit.specs.EmittedCode.{DeniesCode}
+use Rattle.xk_emit.proofs.CodeErrorLemmas.{code_end, else_begun, else_other, emits_not, finish_end, finish_inner, if_end, if_inner, if_tested, length_gap, loop_end, loop_inner, loop_opened, one_denied, then_end, then_inner, then_tested}
 use Rattle.xk_emit.proofs.statements.Emitter.+emit.Goals as goal
 
-pub emit_if-returns-clause-code : goal.emit_if-returns-clause-code
-emit_if-returns-clause-code t c =
+pub emit_if-returns : goal.emit_if-returns
+emit_if-returns t c =
     let base = c.args.code.now.items in
     let s = c.args.s.now in
     let e = c.in_ok-test.ensures in
-    test_filled _ _ _ _ 0 _ c.args.op _ (expression c.args.l.now) (expression c.args.r.now) _ _ (statement s) base _ _ _ _
-    e.code e.place e.comparison e.first e.second c.in_ok-m.ensures.code c.in_ok-close_test.ensures.code
+    record {
+      code =
+          test_filled _ _ _ _ 0 _ c.args.op _ (expression c.args.l.now) (expression c.args.r.now) _ _ (statement s) base _ _ _ _
+          e.code e.place e.comparison e.first e.second c.in_ok-m.ensures.code c.in_ok-close_test.ensures.code;
+      scope = search rules;
+      slots = search rules;
+      refused = tt;
+    }
 
-pub emit_for-returns-clause-code : goal.emit_for-returns-clause-code
-emit_for-returns-clause-code t c =
+pub emit_for-returns : goal.emit_for-returns
+emit_for-returns t c =
     let base = c.args.code.now.items in
     let s = c.args.s.now in
     let turns : int_le c.args.lo.value (top (bound c.args.limit.now)) ≡ true = search rules in
-    loop_filled _ _ _ _ _ 0 _ _ (word c.args.i) c.args.lo (bound c.args.limit.now) (statement s) base _ _ _ _ turns
-    c.in_ok-first.ensures.code c.in_ok-first.ensures.place c.in_ok-first.ensures.scope c.in_ok-first.ensures.next c.in_ok-m.ensures.code
-    c.in_ok-close_loop.ensures.code
+    record {
+      code =
+          loop_filled _ _ _ _ _ 0 _ _ (word c.args.i) c.args.lo (bound c.args.limit.now) (statement s) base _ _ _ _ turns
+          c.in_ok-first.ensures.code c.in_ok-first.ensures.place c.in_ok-first.ensures.scope c.in_ok-first.ensures.next c.in_ok-m.ensures.code
+          c.in_ok-close_loop.ensures.code;
+      scope = search rules;
+      slots = search rules;
+      refused = tt;
+    }
 
-pub emit_finish-returns-clause-code : goal.emit_finish-returns-clause-code
-emit_finish-returns-clause-code t c =
+pub emit_finish-returns : goal.emit_finish-returns
+emit_finish-returns t c =
     let base = c.args.code.now.items in
     let s = c.args.s.now in
-    finish_filled _ _ _ _ _ (statement s) base _ _ _ _
-    c.in_ok-first.ensures.place c.in_ok-first.ensures.code c.in_ok-m.ensures.code c.in_ok-close_finish.ensures.code
+    record {
+      code =
+          finish_filled _ _ _ _ _ (statement s) base _ _ _ _
+          c.in_ok-first.ensures.place c.in_ok-first.ensures.code c.in_ok-m.ensures.code c.in_ok-close_finish.ensures.code;
+      scope = search rules;
+      slots = search rules;
+      refused = tt;
+    }
 
-pub emit_if-returns-in_err-test-clause-refused : goal.emit_if-returns-in_err-test-clause-refused
-emit_if-returns-in_err-test-clause-refused t c =
+pub emit_if-returns-in_err-test : goal.emit_if-returns-in_err-test
+emit_if-returns-in_err-test t c =
     let p = err_from_is_err_and c.from_residual.result c.from_residual.ensures.1 in
     let err = c.in_err-test.field-0.0 in
     let cx = c.args.self.now.setting.now in
@@ -45,10 +64,10 @@ emit_if-returns-in_err-test-clause-refused t c =
     let l = expression c.args.l.now in
     let r = expression c.args.r.now in
     let s = statement c.args.s.now in
-    rw (p.1, p.2) (if_tested err cx free scope n (length base) 0 l c.args.op r s refused)
+    rw (p.1, p.2) (emits_not (if_tested err cx free scope n (length base) 0 l c.args.op r s refused))
 
-pub emit_if-returns-in_err-m-clause-refused : goal.emit_if-returns-in_err-m-clause-refused
-emit_if-returns-in_err-m-clause-refused t c =
+pub emit_if-returns-in_err-m : goal.emit_if-returns-in_err-m
+emit_if-returns-in_err-m t c =
     let p = err_from_is_err_and c.from_residual-in_err-m.result c.from_residual-in_err-m.ensures.1 in
     let err = c.in_err-m.field-0.0 in
     let cx = c.args.self.now.setting.now in
@@ -61,10 +80,10 @@ emit_if-returns-in_err-m-clause-refused t c =
     let r = expression c.args.r.now in
     let s = statement c.args.s.now in
     let opened = ap length c.in_ok-test.ensures.code ∙ length_gap base _ _ in
-    rw (p.1, p.2) (if_inner err cx free scope n (length base) _ 0 l c.args.op r s refused opened)
+    rw (p.1, p.2) (emits_not (if_inner err cx free scope n (length base) _ 0 l c.args.op r s refused opened))
 
-pub emit_if-returns-in_err-close_test-clause-refused : goal.emit_if-returns-in_err-close_test-clause-refused
-emit_if-returns-in_err-close_test-clause-refused t c =
+pub emit_if-returns-in_err-close_test : goal.emit_if-returns-in_err-close_test
+emit_if-returns-in_err-close_test t c =
     let p = err_from_is_err_and c.from_residual-in_err-close_test.result c.from_residual-in_err-close_test.ensures.1 in
     let err = c.in_err-close_test.field-0.0 in
     let cx = c.args.self.now.setting.now in
@@ -78,7 +97,7 @@ emit_if-returns-in_err-close_test-clause-refused t c =
     let s = statement c.args.s.now in
     let opened = ap length c.in_ok-test.ensures.code ∙ length_gap base _ _ in
     let made = ap length c.in_ok-m.ensures.code ∙ length-append _ _ in
-    rw (p.1, p.2) (if_end err cx free scope n (length base) _ _ 0 l c.args.op r s refused opened made)
+    rw (p.1, p.2) (emits_not (if_end err cx free scope n (length base) _ _ 0 l c.args.op r s refused opened made))
 
 -- ---- an `if` with an `else`
 
@@ -155,8 +174,8 @@ emit_else-returns-in_err-close_else-clause-refused t c =
     let made = ap length c.in_ok-m.ensures.code ∙ length-append _ _ in
     rw (p.1, p.2) (code_end err cx free scope n (length base) _ (statement c.args.s.now) refused made)
 
-pub emit-returns-in_err-m-in-IfElse-clause-refused : goal.emit-returns-in_err-m-in-IfElse-clause-refused
-emit-returns-in_err-m-in-IfElse-clause-refused t c =
+pub emit-returns-in_err-m-in-IfElse : goal.emit-returns-in_err-m-in-IfElse
+emit-returns-in_err-m-in-IfElse t c =
     let p = err_from_is_err_and c.from_residual.result c.from_residual.ensures.1 in
     let err = c.in_err-m-in-IfElse.field-0.0 in
     let cx = c.args.self.now.setting.now in
@@ -172,27 +191,11 @@ emit-returns-in_err-m-in-IfElse-clause-refused t c =
     let u = statement f.u.value in
     let seen : IfElse f.field-0 l f.op r s u ≡ statement c.args.s.now =
     ap (λ x. IfElse f.field-0 l f.op r (statement x) u) c.deref-in-IfElse.ensures ∙ rw f.is (search (rules, the_lemmas)) in
-    rw (p.1, p.2) (subst (λ (x : Statement). DeniesCode err cx free scope n (length base) x) seen
-    (else_begun err cx free scope n (length base) f.field-0 l f.op r s u refused))
+    rw (p.1, p.2) (emits_not (subst (λ (x : Statement). DeniesCode err cx free scope n (length base) x) seen
+    (else_begun err cx free scope n (length base) f.field-0 l f.op r s u refused)))
 
-pub emit-returns-in_ok-m-in-IfElse-clause-code : goal.emit-returns-in_ok-m-in-IfElse-clause-code
-emit-returns-in_ok-m-in-IfElse-clause-code t c =
-    let base = c.args.code.now.items in
-    let f = c.in-IfElse in
-    let s = c.deref-in-IfElse.result.now in
-    let u = c.deref-in-IfElse-2.result.now in
-    let e = c.in_ok-m-in-IfElse.ensures in
-    let l = expression f.l in
-    let r = expression f.r in
-    let seen : IfElse f.field-0 l f.op r (statement s) (statement u) ≡ statement c.args.s.now =
-    ap (λ x. IfElse f.field-0 l f.op r (statement x) (statement u)) c.deref-in-IfElse.ensures
-    ∙ ap (λ x. IfElse f.field-0 l f.op r (statement f.s.value) (statement x)) c.deref-in-IfElse-2.ensures ∙ rw f.is (search (rules, the_lemmas)) in
-    on_ok_weaker c.emit_else.result (λ fills.
-    choice_filled _ _ _ _ f.field-0 _ _ _ f.op l r (statement s) (statement u) base _ _ e.code e.place e.scope e.slots fills
-    ∙ ap (λ x. base ++ code_of c.args.self.now.setting.now c.args.self.now.free c.args.scope.now c.args.n (length base) x) seen) c.emit_else.ensures.code
-
-pub emit-returns-in_ok-m-in-IfElse-clause-refused : goal.emit-returns-in_ok-m-in-IfElse-clause-refused
-emit-returns-in_ok-m-in-IfElse-clause-refused t c =
+pub emit-returns-in_ok-m-in-IfElse : goal.emit-returns-in_ok-m-in-IfElse
+emit-returns-in_ok-m-in-IfElse t c =
     let cx = c.args.self.now.setting.now in
     let free = c.args.self.now.free in
     let scope = c.args.scope.now in
@@ -208,14 +211,21 @@ emit-returns-in_ok-m-in-IfElse-clause-refused t c =
     ap (λ x. IfElse f.field-0 l f.op r (statement x) u) c.deref-in-IfElse.ensures
     ∙ ap (λ x. IfElse f.field-0 l f.op r (statement f.s.value) (statement x)) c.deref-in-IfElse-2.ensures ∙ rw f.is (search (rules, the_lemmas)) in
     let from = ap length e.code ∙ length-append base _ in
-    IfErr-weaker c.emit_else.result _ _ (λ err refused.
-    subst (λ (x : Statement). DeniesCode err cx free scope n (length base) x) seen
-    (else_other err cx free scope _ n _ (length base) _ f.field-0 l f.op r s u refused e.scope e.slots from)) c.emit_else.ensures.refused
+    record {
+      code = on_ok_weaker c.emit_else.result (λ fills.
+          choice_filled _ _ _ _ f.field-0 _ _ _ f.op l r s u base _ _ e.code e.place e.scope e.slots fills
+          ∙ ap (λ x. base ++ code_of cx free scope n (length base) x) seen) c.emit_else.ensures.code;
+      scope = search (rules, the_lemmas);
+      slots = search (rules, the_lemmas);
+      refused = IfErr-weaker c.emit_else.result _ _ (λ err refused.
+          subst (λ (x : Statement). DeniesCode err cx free scope n (length base) x) seen
+          (else_other err cx free scope _ n _ (length base) _ f.field-0 l f.op r s u refused e.scope e.slots from)) c.emit_else.ensures.refused;
+    }
 
 -- ---- loops and finishes
 
-pub emit_for-returns-in_err-first-clause-refused : goal.emit_for-returns-in_err-first-clause-refused
-emit_for-returns-in_err-first-clause-refused t c =
+pub emit_for-returns-in_err-first : goal.emit_for-returns-in_err-first
+emit_for-returns-in_err-first t c =
     let p = err_from_is_err_and c.from_residual-in_err-first.result c.from_residual-in_err-first.ensures.1 in
     let err = c.in_err-first.field-0.0 in
     let cx = c.args.self.now.setting.now in
@@ -225,10 +235,10 @@ emit_for-returns-in_err-first-clause-refused t c =
     let b = bound c.args.limit.now in
     let turns : int_le c.args.lo.value (top b) ≡ true = search rules in
     let s = statement c.args.s.now in
-    rw (p.1, p.2) (loop_opened err cx free scope c.args.n (length base) 0 (word c.args.i) c.args.lo b s turns c.in_err-first.ensures.refused)
+    rw (p.1, p.2) (emits_not (loop_opened err cx free scope c.args.n (length base) 0 (word c.args.i) c.args.lo b s turns c.in_err-first.ensures.refused))
 
-pub emit_for-returns-in_err-m-clause-refused : goal.emit_for-returns-in_err-m-clause-refused
-emit_for-returns-in_err-m-clause-refused t c =
+pub emit_for-returns-in_err-m : goal.emit_for-returns-in_err-m
+emit_for-returns-in_err-m t c =
     let p = err_from_is_err_and c.from_residual-in_err-m.result c.from_residual-in_err-m.ensures.1 in
     let err = c.in_err-m.field-0.0 in
     let cx = c.args.self.now.setting.now in
@@ -242,10 +252,10 @@ emit_for-returns-in_err-m-clause-refused t c =
     let turns : int_le c.args.lo.value (top b) ≡ true = search rules in
     let e = c.in_ok-first.ensures in
     let opened = ap length e.code ∙ length_gap base (before_bound scope free n b) _ in
-    rw (p.1, p.2) (loop_inner err cx free scope _ n _ (length base) _ 0 (word c.args.i) c.args.lo b s turns refused e.scope e.next opened)
+    rw (p.1, p.2) (emits_not (loop_inner err cx free scope _ n _ (length base) _ 0 (word c.args.i) c.args.lo b s turns refused e.scope e.next opened))
 
-pub emit_for-returns-in_err-close_loop-clause-refused : goal.emit_for-returns-in_err-close_loop-clause-refused
-emit_for-returns-in_err-close_loop-clause-refused t c =
+pub emit_for-returns-in_err-close_loop : goal.emit_for-returns-in_err-close_loop
+emit_for-returns-in_err-close_loop t c =
     let p = err_from_is_err_and c.from_residual-in_err-close_loop.result c.from_residual-in_err-close_loop.ensures.1 in
     let err = c.in_err-close_loop.field-0.0 in
     let cx = c.args.self.now.setting.now in
@@ -260,10 +270,10 @@ emit_for-returns-in_err-close_loop-clause-refused t c =
     let e = c.in_ok-first.ensures in
     let opened = ap length e.code ∙ length_gap base (before_bound scope free n b) _ in
     let made = ap length c.in_ok-m.ensures.code ∙ length-append _ _ in
-    rw (p.1, p.2) (loop_end err cx free scope _ n _ (length base) _ _ 0 (word c.args.i) c.args.lo b s turns refused e.scope e.next opened made)
+    rw (p.1, p.2) (emits_not (loop_end err cx free scope _ n _ (length base) _ _ 0 (word c.args.i) c.args.lo b s turns refused e.scope e.next opened made))
 
-pub emit_finish-returns-in_err-m-clause-refused : goal.emit_finish-returns-in_err-m-clause-refused
-emit_finish-returns-in_err-m-clause-refused t c =
+pub emit_finish-returns-in_err-m : goal.emit_finish-returns-in_err-m
+emit_finish-returns-in_err-m t c =
     let p = err_from_is_err_and c.from_residual-in_err-m.result c.from_residual-in_err-m.ensures.1 in
     let err = c.in_err-m.field-0.0 in
     let cx = c.args.self.now.setting.now in
@@ -274,10 +284,10 @@ emit_finish-returns-in_err-m-clause-refused t c =
     let refused = c.in_err-m.ensures.refused in
     let s = statement c.args.s.now in
     let opened = ap length c.in_ok-first.ensures.code ∙ length-append base _ in
-    rw (p.1, p.2) (finish_inner err cx free scope n (length base) _ s refused opened)
+    rw (p.1, p.2) (emits_not (finish_inner err cx free scope n (length base) _ s refused opened))
 
-pub emit_finish-returns-in_err-close_finish-clause-refused : goal.emit_finish-returns-in_err-close_finish-clause-refused
-emit_finish-returns-in_err-close_finish-clause-refused t c =
+pub emit_finish-returns-in_err-close_finish : goal.emit_finish-returns-in_err-close_finish
+emit_finish-returns-in_err-close_finish t c =
     let p = err_from_is_err_and c.from_residual-in_err-close_finish.result c.from_residual-in_err-close_finish.ensures.1 in
     let err = c.in_err-close_finish.field-0.0 in
     let cx = c.args.self.now.setting.now in
@@ -289,7 +299,7 @@ emit_finish-returns-in_err-close_finish-clause-refused t c =
     let s = statement c.args.s.now in
     let opened = ap length c.in_ok-first.ensures.code ∙ length-append base _ in
     let made = ap length c.in_ok-m.ensures.code ∙ length-append _ _ in
-    rw (p.1, p.2) (finish_end err cx free scope n (length base) _ _ s refused opened made)
+    rw (p.1, p.2) (emits_not (finish_end err cx free scope n (length base) _ _ s refused opened made))
 
 -- ---- statements, one after another
 
