@@ -16,7 +16,7 @@ taken fs new act next.Stepped is d = (new, ap local is ∙ d, refl)
 taken fs new act next.Visible is d = (ap local is ∙ d.0, ap (with_frames act) (d.1 ∙ sym is))
 
 -- the activity that is read is the one of its number
-pub there : (items : List ActivityValue) (a : ℕ) (x : ActivityValue) → a < length (acts items) → x ≡ get_or items a x → act_at (acts items) a ≡ x.act
+there : (items : List ActivityValue) (a : ℕ) (x : ActivityValue) → a < length (acts items) → x ≡ get_or items a x → act_at (acts items) a ≡ x.act
 there [] a x lt e = absurd (omega arith)
 there (y ∷ ys) zero x lt e = ap (λ (v : ActivityValue). v.act) (sym e)
 there (y ∷ ys) (suc k) x lt e = there ys k x (omega arith) e

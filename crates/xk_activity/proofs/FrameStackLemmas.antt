@@ -23,13 +23,13 @@ use Rattle.xk_activity.proofs.SlotWordLemmas.{length_by, laid_filled}
 
 -- ---- those who wait see only what lies below
 
-pub less : (s : List ℤ) (m n : ℕ) → m ≤ n → take m (take n s) ≡ take m s
+less : (s : List ℤ) (m n : ℕ) → m ≤ n → take m (take n s) ≡ take m s
 less s m n le = grind (arith, common_steps)
 
 take_less : (s t : List ℤ) (m n : ℕ) → m ≤ n → take n s ≡ take n t → take m s ≡ take m t
 take_less s t m n le e = sym (less s m n le) ∙ (ap (take m) e ∙ less t m n le)
 
-pub waiting_same : (m : ModuleValue) (a b : ℕ) (s t : List ℤ) (top : ℕ) (cs : List Caller) → AreStacked m a b top cs → take top s ≡ take top t
+waiting_same : (m : ModuleValue) (a b : ℕ) (s t : List ℤ) (top : ℕ) (cs : List Caller) → AreStacked m a b top cs → take top s ≡ take top t
     → waiting s top cs ≡ waiting t top cs
 waiting_same m a b s t top [] h e = refl
 waiting_same m a b s t top (c ∷ cs) h e =
@@ -56,7 +56,7 @@ pub record StandsAt (m : ModuleValue) (f : Frame) (i : Instr) : Type 0 where
   pub found : slice_get m.units f.unit ≡ Some u
   pub there : slice_get u.code f.place ≡ Some i
 
-pub stands_at : (m : ModuleValue) (f : Frame) (i : Instr) → instruction_at m f ≡ Some i → StandsAt m f i
+stands_at : (m : ModuleValue) (f : Frame) (i : Instr) → instruction_at m f ≡ Some i → StandsAt m f i
 stands_at m f i e = go (slice_get m.units f.unit) refl e
   where
     go : (o : Option UnitValue) → slice_get m.units f.unit ≡ o → option_and_then (λ unit. slice_get unit.code f.place) o ≡ Some i → StandsAt m f i
@@ -76,10 +76,10 @@ place_within m f i limits e =
 pub unit_within : (m : ModuleValue) (f : Frame) (i : Instr) → instruction_at m f ≡ Some i → f.unit < length m.units
 unit_within m f i e = let s = stands_at m f i e in slice_get_within m.units f.unit s.u s.found
 
-pub code_found : (m : ModuleValue) (unit : ℕ) (u : UnitValue) → slice_get m.units unit ≡ Some u → code_of m unit ≡ u.code
+code_found : (m : ModuleValue) (unit : ℕ) (u : UnitValue) → slice_get m.units unit ≡ Some u → code_of m unit ≡ u.code
 code_found m unit u found = ap (λ o. option_map_or (λ (x : UnitValue). x.code) o []) found
 
-pub slots_found : (m : ModuleValue) (unit : ℕ) (u : UnitValue) → slice_get m.units unit ≡ Some u → slots_of m unit ≡ u.slots
+slots_found : (m : ModuleValue) (unit : ℕ) (u : UnitValue) → slice_get m.units unit ≡ Some u → slots_of m unit ≡ u.slots
 slots_found m unit u found = ap (λ o. option_map_or (λ (x : UnitValue). x.slots) o 0) found
 
 -- the instruction, read in the code of the unit
@@ -152,7 +152,7 @@ pub record CallFits (m : ModuleValue) (unit place : ℕ) (marks : Marks) (base t
   pub short : place < 2 ^ 16
   pub stacked : IsStacked m t long (record { unit = unit; place = place; marks = marks; base = base } ∷ cs) (long + slots_of m t) slots frames
 
-pub call_fits : (m : ModuleValue) (unit place : ℕ) (marks : Marks) (base t : ℕ) (args : List ℕ) (cs : List Caller) (long slots frames : ℕ) (xs : List Value)
+call_fits : (m : ModuleValue) (unit place : ℕ) (marks : Marks) (base t : ℕ) (args : List ℕ) (cs : List Caller) (long slots frames : ℕ) (xs : List Value)
     → IsStacked m unit base cs long slots frames → instruction_at m (record { unit = unit; place = place; slots = xs }) ≡ Some (instr.Call t args)
     → t < length m.units → CallFits m unit place marks base t cs long slots frames
 call_fits m unit place marks base t args cs long slots frames xs s e lt =

@@ -35,7 +35,7 @@ next_there fs h = go (instruction_at fs.module_run fs.frame) refl h
 pub local_is : (fs : FramesValue) (i : Instr) → instruction_at fs.module_run fs.frame ≡ Some i → local fs ≡ carried_on fs i
 local_is fs i e = ap (local_at fs) e
 
-pub turn_is : (fs : FramesValue) (i : Instr) → instruction_at fs.module_run fs.frame ≡ Some i → turn_now fs ≡ carried (code_now fs) (spot_of fs.frame) i
+turn_is : (fs : FramesValue) (i : Instr) → instruction_at fs.module_run fs.frame ≡ Some i → turn_now fs ≡ carried (code_now fs) (spot_of fs.frame) i
 turn_is fs i e = ap (carried_at (code_now fs) (spot_of fs.frame)) (code_at fs.module_run fs.frame i e)
 
 in_frame_right : (fs : FramesValue) (t : Turn) → IsRight (in_frame fs t) → IsRight t

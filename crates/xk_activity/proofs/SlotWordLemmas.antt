@@ -11,7 +11,7 @@ use Rattle.xk_activity.specs.Slots.{is_marked, unmarked, value_of, values_by, va
 
 -- ---- reading
 
-pub get_by : (f : ℕ → Bool) (ns : List ℤ) (i : ℕ) (n : ℤ) → slice_get ns i ≡ Some n → slice_get (values_by f ns) i ≡ Some (value_of (f i) n)
+get_by : (f : ℕ → Bool) (ns : List ℤ) (i : ℕ) (n : ℤ) → slice_get ns i ≡ Some n → slice_get (values_by f ns) i ≡ Some (value_of (f i) n)
 get_by f [] i n h = absurd (none-some n h)
 get_by f (x ∷ ns) zero n h = ap (λ z. Some (value_of (f zero) z)) (same_Some x n h)
 get_by f (x ∷ ns) (suc i) n h = get_by (λ s. f (suc s)) ns i n h
@@ -38,7 +38,7 @@ number_by f (x ∷ ns) zero n h = go (f zero) refl (same_Some (value_of (f zero)
     go false e q = absurd (no_number x n q)
 number_by f (x ∷ ns) (suc i) n h = number_by (λ s. f (suc s)) ns i n h
 
-pub number_word : (marks : Marks) (ns : List ℤ) (i : ℕ) (n : ℤ) → slice_get (values_of marks ns) i ≡ Some (value.Number n)
+number_word : (marks : Marks) (ns : List ℤ) (i : ℕ) (n : ℤ) → slice_get (values_of marks ns) i ≡ Some (value.Number n)
     → (slice_get ns i ≡ Some n) × (is_marked marks i ≡ true)
 number_word marks ns i n h = number_by (is_marked marks) ns i n h
 
@@ -59,7 +59,7 @@ value_read marks ns s b v lt e q =
 -- ---- writing
 
 -- where another test says the same of all words
-pub same_by : (f g : ℕ → Bool) (ns : List ℤ) → ((k : ℕ) → k < length ns → f k ≡ g k) → values_by f ns ≡ values_by g ns
+same_by : (f g : ℕ → Bool) (ns : List ℤ) → ((k : ℕ) → k < length ns → f k ≡ g k) → values_by f ns ≡ values_by g ns
 same_by f g [] h = refl
 same_by f g (x ∷ ns) h =
     ap (λ b. value_of b x ∷ values_by (λ s. f (suc s)) ns) (h zero (omega arith))

@@ -73,7 +73,7 @@ module _ (weight : Instr → ℕ) (m : ModuleValue) (shape : HasShape m) where
   one_more depth unit u found = ap (over_code (total_within weight m depth)) found
 
   -- the sum of a unit is that over its code, each instruction with the sum of the unit that it calls or starts
-  pub total_is : (unit : ℕ) (u : UnitValue) → slice_get m.units unit ≡ Some u → total weight m unit ≡ added_by weight (total weight m) u
+  total_is : (unit : ℕ) (u : UnitValue) → slice_get m.units unit ≡ Some u → total weight m unit ≡ added_by weight (total weight m) u
   total_is unit u found = stable (length m.units) unit (omega arith) ∙ one_more (length m.units) unit u found
 
   added_cut : (cut : ℕ) (below above : ℕ → ℕ) (i : Instr) (o : Option ℕ) → unit_run i ≡ o → ((t : ℕ) → o ≡ Some t → below t ≡ min (above t) cut)

@@ -152,7 +152,7 @@ module _ (u : UnitValue) where
         (entered (suc n) j is (from_next n x is from) found (omega arith))
 
   -- behind the head of a loop, each turn of it
-  pub enters : (at : ℕ) (i : Instr) (l : Loop) → IsOrderly u → slice_get u.code at ≡ Some i → loop_head at i ≡ Some l → visits u (suc at) ≡ turns l * visits u at
+  enters : (at : ℕ) (i : Instr) (l : Loop) → IsOrderly u → slice_get u.code at ≡ Some i → loop_head at i ≡ Some l → visits u (suc at) ≡ turns l * visits u at
   enters at i l blocks here head =
       let some = not_amiss u (option_map span_of (loop_begun u at i)) (sym (head_crossing u at at i l head) ∙ sym (ap (instr_is (is_crossing u at)) here) ∙ blocks.blocks at) in
       let is = of_loop (loop_begun u at i) some.0 some.1 in
@@ -228,7 +228,7 @@ module _ (u : UnitValue) where
       ]
       in (omega arith, omega arith))
 
-  pub leaves : (at first : ℕ) → IsOrderly u → slice_get u.code at ≡ Some (instr.Next first) → (first < at) × (visits u (suc at) ≡ visits u first)
+  leaves : (at first : ℕ) → IsOrderly u → slice_get u.code at ≡ Some (instr.Next first) → (first < at) × (visits u (suc at) ≡ visits u first)
   leaves at first blocks here =
       let i = instr.Next first in
       let some = not_amiss u (span_ended u at first (slice_get u.code first)) (sym (ap (instr_is (is_crossing u at)) here) ∙ blocks.blocks at) in

@@ -50,7 +50,7 @@ number_bound n (m ∷ ms) x j e = go (is_text x m.name.text) e (number_bound (su
     go true h later = let same : n ≡ j = cc in omega arith
     go false h later = let r = later h in omega arith
 
-pub past_end : {A : Type 0} (xs : List A) (x : A) → slice_get xs (length xs) ≡ Some x → ⊥
+past_end : {A : Type 0} (xs : List A) (x : A) → slice_get xs (length xs) ≡ Some x → ⊥
 past_end [] x e = cc
 past_end (y ∷ xs) x e = past_end xs x e
 
@@ -64,7 +64,7 @@ pub record Meant (t : TreeValue) (i k j : ℕ) : Type 0 where
   pub at : slice_get (callees_all method.body) k ≡ Some name
   pub number : number_or_last t.methods name ≡ j
 
-pub meant : (t : TreeValue) (i k j : ℕ) → IsCall (graph t.methods) i k j → Meant t i k j
+meant : (t : TreeValue) (i k j : ℕ) → IsCall (graph t.methods) i k j → Meant t i k j
 meant t i k j call =
     let r = row_of (map (numbers_called t.methods) (all_callees t.methods)) i k j call in
     let a = mapped_at (numbers_called t.methods) (all_callees t.methods) i r.0 r.1 in
@@ -72,7 +72,7 @@ meant t i k j call =
     let c = mapped_at (number_or_last t.methods) a.0 k j (subst (λ (q : List ℕ). slice_get q k ≡ Some j) (sym a.2) r.2) in
     record { method = b.0; is = b.1; name = c.0; at = subst (λ (q : List Word). slice_get q k ≡ Some c.0) (sym b.2) c.1; number = c.2 }
 
-pub has_call : (t : TreeValue) (i k j : ℕ) (m : Meant t i k j) → HasCall t i m.name
+has_call : (t : TreeValue) (i k j : ℕ) (m : Meant t i k j) → HasCall t i m.name
 has_call t i k j m =
     let q = stands_among m.method.body m.name (has_at (callees_all m.method.body) k m.name m.at) in
     record { method = m.method; is = m.is; way = q.way; paren = q.paren; arguments = q.arguments; stands = q.stands }
@@ -111,7 +111,7 @@ leads t (n ∷ ns) i d m is p =
     ((q.name, calls_by t i p.0.0 n s.0 s.1 q), leads t ns n d m is p.1)
 
 -- a recursive call in the graph is one of the tree
-pub comes_back : (t : TreeValue) (i k : ℕ) (r : IsRecursive (graph t.methods) i k) → ComesBack t (fault rule.Recursive (meant t i k r.called r.is_call).name.at)
+comes_back : (t : TreeValue) (i k : ℕ) (r : IsRecursive (graph t.methods) i k) → ComesBack t (fault rule.Recursive (meant t i k r.called r.is_call).name.at)
 comes_back t i k r =
     let m = meant t i k r.called r.is_call in
     let s = starts t r.comes_back.0 r.called i m.method m.is r.comes_back.1 in
@@ -175,7 +175,7 @@ main_none (y ∷ gs) g e h is = go (is_text y.text (codes "main")) refl e h (mai
 abbrev pub MainIn : List MethodValue → ℕ → Type 0
 MainIn ms at = (i : ℕ) × (m : MethodValue) × (g : Word) × (slice_get ms i ≡ Some m) × Has (callees_all m.body) g × (g.text ≡ codes "main") × (g.at ≡ at)
 
-pub main_called : (ms : List MethodValue) (at : ℕ) → main_in (all_callees ms) ≡ Some at → MainIn ms at
+main_called : (ms : List MethodValue) (at : ℕ) → main_in (all_callees ms) ≡ Some at → MainIn ms at
 main_called [] at e = absurd cc
 main_called (m ∷ ms) at e = go (main_among (callees_all m.body)) refl e (main_called ms at)
   where
@@ -188,7 +188,7 @@ first_none : (a b : Option ℕ) → option_or a b ≡ None → (a ≡ None) × (
 first_none (Some x) b e = cc
 first_none None b e = (refl, e)
 
-pub main_uncalled : (ms : List MethodValue) (i : ℕ) (m : MethodValue) (g : Word) → main_in (all_callees ms) ≡ None → slice_get ms i ≡ Some m → Has (callees_all m.body) g
+main_uncalled : (ms : List MethodValue) (i : ℕ) (m : MethodValue) (g : Word) → main_in (all_callees ms) ≡ None → slice_get ms i ≡ Some m → Has (callees_all m.body) g
     → g.text ≡ codes "main" → ⊥
 main_uncalled [] i m g e at h is = cc
 main_uncalled (n ∷ ms) zero m g e at h is =
@@ -222,22 +222,13 @@ names_at [] i v h e = absurd (omega arith)
 names_at (w ∷ vs) zero v h e = ap (λ (u : Vec Name Global). Some (words u.items)) (sym e)
 names_at (w ∷ vs) (suc i) v h e = names_at vs i v (omega arith) e
 
-pub word_at : (ns : List Name) (k : ℕ) (n : Name) → k < length ns → n ≡ get_or ns k n → slice_get (words ns) k ≡ Some (word n)
-word_at [] k n h e = absurd (omega arith)
-word_at (m ∷ ns) zero n h e = ap (λ (x : Name). Some (word x)) (sym e)
-word_at (m ∷ ns) (suc k) n h e = word_at ns k n (omega arith) e
-
-pub length-words : (ns : List Name) → length (words ns) ≡ length ns
-length-words [] = refl
-length-words (n ∷ ns) = ap suc (length-words ns)
-
 pub within_list : {A : Type 0} (xs : List A) (k : ℕ) (x : A) → slice_get xs k ≡ Some x → k < length xs
 within_list [] k x e = absurd cc
 within_list (y ∷ xs) zero x e = omega arith
 within_list (y ∷ xs) (suc k) x e = let h = within_list xs k x e in omega arith
 
 -- the names of the calls of the method that makes this one
-pub list_of : (t : TreeValue) (i k j : ℕ) (m : Meant t i k j) → slice_get (all_callees t.methods) i ≡ Some (callees_all m.method.body)
+list_of : (t : TreeValue) (i k j : ℕ) (m : Meant t i k j) → slice_get (all_callees t.methods) i ≡ Some (callees_all m.method.body)
 list_of t i k j m = at_mapped (λ (n : MethodValue). callees_all n.body) t.methods i m.method m.is
 
 -- the graph, as it is made from a table of numbers

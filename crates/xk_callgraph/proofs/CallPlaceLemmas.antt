@@ -30,7 +30,7 @@ pub record StandsInAll (ss : Statements) (g : Word) : Type 0 where
   pub stands : StandsAmong ss way (Call g paren arguments)
 
 mutual
-  pub is_listed : (s : Statement) (w : Way) (g : Word) (p : ℕ) (es : List Expression) → Stands s w (Call g p es) → Has (callees s) g
+  is_listed : (s : Statement) (w : Way) (g : Word) (p : ℕ) (es : List Expression) → Stands s w (Call g p es) → Has (callees s) g
   is_listed s Here g p es h = subst (λ (t : Statement). Has (callees t) g) (sym h) (inl refl)
   is_listed (Block ss) (Inside w) g p es h = is_listed_among ss w g p es h
   is_listed (If at l c r s) (Inside w) g p es h = is_listed s w g p es h
@@ -47,7 +47,7 @@ mutual
   is_listed_among _ _ g p es h = absurd h
 
 mutual
-  pub stands_there : (s : Statement) (g : Word) → Has (callees s) g → StandsIn s g
+  stands_there : (s : Statement) (g : Word) → Has (callees s) g → StandsIn s g
   stands_there (Block ss) g h = let r = stands_among ss g h in record { way = Inside r.way; paren = r.paren; arguments = r.arguments; stands = r.stands }
   stands_there (If at l c r s) g h = let q = stands_there s g h in record { way = Inside q.way; paren = q.paren; arguments = q.arguments; stands = q.stands }
   stands_there (IfElse at l c r s u) g h = elim (has_either (callees s) (callees u) g h) [

@@ -29,7 +29,7 @@ none_recursive calls numbers falls i k r =
     absurd (omega arith)
 
 -- a path goes on
-pub goes_on : (calls : List (List ℕ)) (ns : List ℕ) (i j n : ℕ) → Path calls ns i j → (k : ℕ) → IsCall calls j k n → Path calls (ns ++ n ∷ []) i n
+goes_on : (calls : List (List ℕ)) (ns : List ℕ) (i j n : ℕ) → Path calls ns i j → (k : ℕ) → IsCall calls j k n → Path calls (ns ++ n ∷ []) i n
 goes_on calls [] i j n p k c = ((k, subst (λ m. IsCall calls m k n) (sym p) c), refl)
 goes_on calls (x ∷ ns) i j n p k c = (p.0, goes_on calls ns x j n p.1 k c)
 
@@ -111,18 +111,7 @@ read_is (y ∷ xs) (suc k) x h e = read_is xs k x (omega arith) e
 pub call_at : (calls : List (List ℕ)) (i k : ℕ) (row : List ℕ) → row ≡ called_by calls i → k < length row → IsCall calls i k (slice_index row k)
 call_at calls i k row e h = subst (λ (xs : List ℕ). slice_get xs k ≡ Some (slice_index row k)) e (here_is row k h)
 
-pub reached_more : (calls : List (List ℕ)) (start : ℕ) (ms : List ℕ) (x : ℕ) → AreReached calls start ms → Reaches calls start x → AreReached calls start (ms ++ x ∷ [])
-reached_more calls start [] x old new zero m e = let same : x ≡ m = cc in subst (λ (k : ℕ). Reaches calls start k) same new
-reached_more calls start [] x old new (suc n) m e = absurd cc
-reached_more calls start (y ∷ ms) x old new zero m e = old zero m e
-reached_more calls start (y ∷ ms) x old new (suc n) m e = reached_more calls start ms x (λ k. old (suc k)) new n m e
-
 -- ---- at the start
-
-pub all_zero : (n i : ℕ) → slice_index (replicate n 0) i ≡ 0
-all_zero zero i = refl
-all_zero (suc n) zero = refl
-all_zero (suc n) (suc i) = all_zero n i
 
 -- a method that calls is one of those
 pub caller_within : (calls : List (List ℕ)) (i k j : ℕ) → IsCall calls i k j → i < length calls

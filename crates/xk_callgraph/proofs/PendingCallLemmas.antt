@@ -14,7 +14,7 @@ use Rattle.xk_callgraph.proofs.ReachabilityLemmas.{set_here, set_other, within_f
 
 -- ---- how often a number stands in a list
 
-pub times_some : (n : ℕ) (js : List ℕ) (k j : ℕ) → k < n → slice_index js k ≡ j → 0 < times n js j
+times_some : (n : ℕ) (js : List ℕ) (k j : ℕ) → k < n → slice_index js k ≡ j → 0 < times n js j
 times_some zero js k j h e = absurd (omega arith)
 times_some (suc n) js k j h e =
     elim (cases_eq k n) [
@@ -28,7 +28,7 @@ times_some (suc n) js k j h e =
     go true e = omega arith
     go false e = absurd cc
 
-pub times_who : (n : ℕ) (js : List ℕ) (j : ℕ) → 0 < times n js j → (k : ℕ) × (k < n) × (slice_index js k ≡ j)
+times_who : (n : ℕ) (js : List ℕ) (j : ℕ) → 0 < times n js j → (k : ℕ) × (k < n) × (slice_index js k ≡ j)
 times_who zero js j h = absurd (omega arith)
 times_who (suc n) js j h =
     elim (cases_eq (slice_index js n) j) [
@@ -43,12 +43,12 @@ times_who (suc n) js j h =
     go false e p = omega arith
 
 -- a list has what is counted in it
-pub times_in : (js : List ℕ) (j : ℕ) → 0 < times (length js) js j → (k : ℕ) × (slice_get js k ≡ Some j)
+times_in : (js : List ℕ) (j : ℕ) → 0 < times (length js) js j → (k : ℕ) × (slice_get js k ≡ Some j)
 times_in js j h =
     let w = times_who (length js) js j h in
     (w.0, here_is js w.0 w.1 ∙ ap Some w.2)
 
-pub times_has : (js : List ℕ) (k j : ℕ) → slice_get js k ≡ Some j → 0 < times (length js) js j
+times_has : (js : List ℕ) (k j : ℕ) → slice_get js k ≡ Some j → 0 < times (length js) js j
 times_has js k j e = times_some (length js) js k j (slice_get_within js k j e) (pending_at js k j e)
 
 times_suc_here : (n : ℕ) (js : List ℕ) (j : ℕ) → slice_index js n ≡ j → times (suc n) js j ≡ times n js j + 1
@@ -65,10 +65,10 @@ times_suc_other n js j other = go (nat_eq (slice_index js n) j) (ne_eqb (slice_i
     go true e = absurd cc
     go false e = omega arith
 
-pub times_here : (n : ℕ) (js : List ℕ) (j : ℕ) → slice_index js n ≡ j → times (n + 1) js j ≡ times n js j + 1
+times_here : (n : ℕ) (js : List ℕ) (j : ℕ) → slice_index js n ≡ j → times (n + 1) js j ≡ times n js j + 1
 times_here n js j same = rw add-one (times_suc_here n js j same)
 
-pub times_other : (n : ℕ) (js : List ℕ) (j : ℕ) → slice_index js n ≢ j → times (n + 1) js j ≡ times n js j
+times_other : (n : ℕ) (js : List ℕ) (j : ℕ) → slice_index js n ≢ j → times (n + 1) js j ≡ times n js j
 times_other n js j other = rw add-one (times_suc_other n js j other)
 
 -- one that is still to come is counted in the whole
@@ -202,7 +202,7 @@ pending_less (suc n) calls left i j h full =
 
 -- ---- a set of numbers
 
-pub at_other : (k q : ℕ) → q ≢ k → is_at (nat_cmp k) q ≡ false
+at_other : (k q : ℕ) → q ≢ k → is_at (nat_cmp k) q ≡ false
 at_other k q ne = go (nat_lt k q) (nat_eq k q) (ne_eqb k q (λ e. ne (sym e)))
   where
     go : (a b : Bool) → b ≡ false → is_eq (cond a Less (cond b Equal Greater)) ≡ false
@@ -210,7 +210,7 @@ at_other k q ne = go (nat_lt k q) (nat_eq k q) (ne_eqb k q (λ e. ne (sym e)))
     go false false e = refl
     go false true e = absurd cc
 
-pub kept : (s n : BTreeSet ℕ) (k : ℕ) (b : Bool) → Updates nat_cmp s n k b → (q : ℕ) → q ≢ k → contains nat_cmp n q ≡ contains nat_cmp s q
+kept : (s n : BTreeSet ℕ) (k : ℕ) (b : Bool) → Updates nat_cmp s n k b → (q : ℕ) → q ≢ k → contains nat_cmp n q ≡ contains nat_cmp s q
 kept s n k b u q ne = u.2 q (at_other k q ne)
 
 -- ---- the counts and the set, as calls are taken off

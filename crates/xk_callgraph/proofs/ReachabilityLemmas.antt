@@ -51,7 +51,7 @@ last_call calls (n ∷ ns) i j p =
     ]
 
 -- what holds at the start and goes on along calls holds of all that are reached
-pub all_along : (calls : List (List ℕ)) (P : ℕ → Type 0) → ((i k j : ℕ) → IsCall calls i k j → P i → P j) → (ns : List ℕ) (i j : ℕ) → Path calls ns i j → P i → P j
+all_along : (calls : List (List ℕ)) (P : ℕ → Type 0) → ((i k j : ℕ) → IsCall calls i k j → P i → P j) → (ns : List ℕ) (i j : ℕ) → Path calls ns i j → P i → P j
 all_along calls P on [] i j p h = subst P p h
 all_along calls P on (n ∷ ns) i j p h = all_along calls P on ns n j p.1 (on i p.0.0 n p.0.1 h)
 

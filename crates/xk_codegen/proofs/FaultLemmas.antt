@@ -25,9 +25,6 @@ use Rattle.xk_codegen.specs.Faults.{IsTableFault, IsLarge, ManyShared, Beyond, L
 use Rattle.xk_simulation.proofs.UnitLemmas.SettingLemmas.{AreSettled}
 use Rattle.xk_simulation.proofs.UnitLemmas.CoverageLemmas.{entry_there, method_there, body_there}
 
-pub fault_of : {A : Type 0} (f g : FrontFault) → ◌≡◌ {A = Result A FrontError} (Err (error.Fault f)) (Err (error.Fault g)) → f ≡ g
-fault_of f g e = cc
-
 pub told : {A : Type 0} (g f : FrontFault) (r : FrontError) → r ≡ error.Fault g → ◌≡◌ {A = Result A FrontError} (Err r) (Err (error.Fault f)) → g ≡ f
 told g f r is e = let same : r ≡ error.Fault f = cc in let both : error.Fault g ≡ error.Fault f = sym is ∙ same in cc
 

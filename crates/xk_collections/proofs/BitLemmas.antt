@@ -58,7 +58,7 @@ rest_low w k j lt le =
     none : (b : ℕ) → min b 0 ≡ 0
     none b = omega arith
 
-pub none_from : (w k : ℕ) → k < 64 → rest w k ≡ 0 → (j : ℕ) → k ≤ j → j < 64 → bit_at w j ≡ 0
+none_from : (w k : ℕ) → k < 64 → rest w k ≡ 0 → (j : ℕ) → k ≤ j → j < 64 → bit_at w j ≡ 0
 none_from w k lt e j le jl = sym (rest_high w k j lt le jl) ∙ (ap (λ x. bit_at x j) e ∙ bit_at-zero j)
 
 record IsLowest (w k z : ℕ) : Type 0 where

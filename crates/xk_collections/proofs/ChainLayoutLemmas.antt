@@ -21,7 +21,7 @@ same_lists next n (f ∷ first) (l ∷ lists) same chained short =
 list_once : (lists : List (List ℕ)) → ((a : ℕ) → times_in_all a lists ≤ 1) → (c a : ℕ) → times a (waiters lists c) ≤ 1
 list_once lists once c a = omega (arith, list_times a c lists, once a)
 
-pub short : (first next : List (Option ℕ)) (lists : List (List ℕ)) → AreLaid first next lists → (c : ℕ) → length (waiters lists c) ≤ length next
+short : (first next : List (Option ℕ)) (lists : List (List ℕ)) → AreLaid first next lists → (c : ℕ) → length (waiters lists c) ≤ length next
 short first next lists laid c =
     few (length next) (waiters lists c) (list_once lists laid.once c) (chain_within next (at first c) (waiters lists c) (laid.chained c))
 

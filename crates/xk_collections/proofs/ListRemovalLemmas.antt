@@ -10,7 +10,7 @@ append_times a [] ys = omega arith
 append_times a (x ∷ xs) ys = let later = append_times a xs ys in omega arith
 
 -- a list goes over into the list of those who are taken
-pub apart_taken : (room : ℕ) (acts : List ℕ) (lists : List (List ℕ)) (c : ℕ) → AreApart room acts lists → c < length lists
+apart_taken : (room : ℕ) (acts : List ℕ) (lists : List (List ℕ)) (c : ℕ) → AreApart room acts lists → c < length lists
     → AreApart room (acts ++ waiters lists c) (slice_set lists c [])
 apart_taken room acts lists c apart there = record {
   once = λ a. omega (arith, apart.once a, append_times a acts (waiters lists c), set_times a c lists [] there);
@@ -35,7 +35,7 @@ pub record IsTaking (before : List ℕ) (lists : List (List ℕ)) (clocks rest s
   pub lists_are : left now rest ≡ left lists clocks
   pub same : length now ≡ length lists
 
-pub taking_goes_on : (before : List ℕ) (lists : List (List ℕ)) (clocks rest shown : List ℕ) (now : List (List ℕ)) (c : ℕ) → IsTaking before lists clocks (c ∷ rest) shown now
+taking_goes_on : (before : List ℕ) (lists : List (List ℕ)) (clocks rest shown : List ℕ) (now : List (List ℕ)) (c : ℕ) → IsTaking before lists clocks (c ∷ rest) shown now
     → IsTaking before lists clocks rest (shown ++ waiters now c) (slice_set now c [])
 taking_goes_on before lists clocks rest shown now c h = record {
   shown_is = append_assoc shown (waiters now c) (taken (slice_set now c []) rest) ∙ h.shown_is;

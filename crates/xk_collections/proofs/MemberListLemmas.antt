@@ -12,13 +12,6 @@ pub record IsListing (members list : List ℕ) (room : ℕ) (next : Option ℕ) 
   pub next_is : next ≡ slice_get members (length list)
   pub roomy : length members ≤ room
 
-pub starts : (members : List ℕ) (room : ℕ) (next : Option ℕ) → next ≡ slice_get members 0 → length members ≤ room → IsListing members [] room next
-starts members room next e roomy = record { so_far = none members; next_is = e; roomy = roomy }
-  where
-    none : (xs : List ℕ) → [] ≡ take 0 xs
-    none [] = refl
-    none (x ∷ xs) = refl
-
 pub there : (xs : List ℕ) (i k : ℕ) → slice_get xs i ≡ Some k → i < length xs
 there [] i k e = absurd (none-some k e)
 there (x ∷ xs) zero k e = omega arith
@@ -37,7 +30,7 @@ place_behind xs i k up e =
     (λ j le j_inside. let h : get_or xs i 0 < get_or xs j 0 = rising_far xs up i j (omega arith) j_inside in lt-leb (get_or xs j 0) k (omega arith)))
     ∙ length-take-le (suc i) xs (omega arith)
 
-pub below : (members list : List ℕ) (room k : ℕ) → IsListing members list room (Some k) → length list < length members
+below : (members list : List ℕ) (room k : ℕ) → IsListing members list room (Some k) → length list < length members
 below members list room k h = there members (length list) k (sym h.next_is)
 
 pub goes_on : (members list : List ℕ) (room more k : ℕ) (next : Option ℕ) → IsRising members → IsListing members list room (Some k) → room ≤ more
@@ -60,7 +53,7 @@ nobody [] i e = omega arith
 nobody (x ∷ xs) zero e = cc
 nobody (x ∷ xs) (suc i) e = let h : length xs ≤ i = nobody xs i e in omega arith
 
-pub ends : (members list : List ℕ) (room : ℕ) → IsListing members list room None → list ≡ members
+ends : (members list : List ℕ) (room : ℕ) → IsListing members list room None → list ≡ members
 ends members list room h = h.so_far ∙ take_all (length list) members (nobody members (length list) (sym h.next_is))
 
 pub ends_where : (members list : List ℕ) (room : ℕ) (next : Option ℕ) → IsListing members list room next → ((k : ℕ) → next ≡ Some k → ⊥) → list ≡ members

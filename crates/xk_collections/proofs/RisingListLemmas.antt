@@ -102,11 +102,11 @@ more_at_place b xs i h =
     (λ k le inside. lt-ltb b (get_or xs k 0) (h.behind k le inside))
 
 -- who isn't there is put in
-pub member_put_in : (b : ℕ) (xs : List ℕ) (i : ℕ) → IsPlaceOf b xs i → insert xs i b ≡ with_member b true xs
+member_put_in : (b : ℕ) (xs : List ℕ) (i : ℕ) → IsPlaceOf b xs i → insert xs i b ≡ with_member b true xs
 member_put_in b xs i h = rw (less_at_place b xs i h, more_at_place b xs i h) refl
 
 -- or stays out
-pub member_stays_out : (b : ℕ) (xs : List ℕ) (i : ℕ) → IsPlaceOf b xs i → xs ≡ with_member b false xs
+member_stays_out : (b : ℕ) (xs : List ℕ) (i : ℕ) → IsPlaceOf b xs i → xs ≡ with_member b false xs
 member_stays_out b xs i h = rw (less_at_place b xs i h, more_at_place b xs i h) (sym (take-append-drop i xs))
 
 less_at : (b : ℕ) (xs : List ℕ) (i : ℕ) → IsRising xs → i < length xs → get_or xs i 0 ≡ b → filter (λ x. nat_lt x b) xs ≡ take i xs
@@ -127,12 +127,12 @@ cut_at (x ∷ xs) zero inside = refl
 cut_at (x ∷ xs) (suc i) inside = ap (λ l. x ∷ l) (cut_at xs i (omega arith))
 
 -- who is there stays in
-pub member_stays_in : (b : ℕ) (xs : List ℕ) (i : ℕ) → IsRising xs → i < length xs → get_or xs i 0 ≡ b → xs ≡ with_member b true xs
+member_stays_in : (b : ℕ) (xs : List ℕ) (i : ℕ) → IsRising xs → i < length xs → get_or xs i 0 ≡ b → xs ≡ with_member b true xs
 member_stays_in b xs i up inside is =
     rw (less_at b xs i up inside is, more_at b xs i up inside is) (sym (ap (λ c. take i xs ++ c ∷ drop (suc i) xs) (sym is) ∙ cut_at xs i inside))
 
 -- or is taken out
-pub member_taken_out : (b : ℕ) (xs : List ℕ) (i : ℕ) → IsRising xs → i < length xs → get_or xs i 0 ≡ b → remove xs i ≡ with_member b false xs
+member_taken_out : (b : ℕ) (xs : List ℕ) (i : ℕ) → IsRising xs → i < length xs → get_or xs i 0 ≡ b → remove xs i ≡ with_member b false xs
 member_taken_out b xs i up inside is = rw (less_at b xs i up inside is, more_at b xs i up inside is) refl
 
 -- ---- the place after a number

@@ -36,12 +36,12 @@ zero_at zero j = refl
 zero_at (suc k) zero = refl
 zero_at (suc k) (suc j) = zero_at k j
 
-pub same_word : (ws : List ℕ) (k j : ℕ) → slice_index_or (ws ++ zeros k) j 0 ≡ slice_index_or ws j 0
+same_word : (ws : List ℕ) (k j : ℕ) → slice_index_or (ws ++ zeros k) j 0 ≡ slice_index_or ws j 0
 same_word [] k j = zero_at k j
 same_word (w ∷ ws) k zero = refl
 same_word (w ∷ ws) k (suc j) = same_word ws k j
 
-pub has_same : (ws : List ℕ) (k j : ℕ) → has (ws ++ zeros k) j ≡ has ws j
+has_same : (ws : List ℕ) (k j : ℕ) → has (ws ++ zeros k) j ≡ has ws j
 has_same ws k j = ap (λ w. nat_eq (bit_at w (j % 64)) 1) (same_word ws k (j / 64))
 
 -- beyond the words nobody is a member
@@ -61,7 +61,7 @@ more_members : (ws : List ℕ) (k j : ℕ) → HasMember ws j → HasMember (ws 
 more_members ws k j m = (m.0, m.1, m.2, has_same ws k m.0 ∙ m.3)
 
 -- empty words are summed already
-pub sums_longer : (ws up : List ℕ) (k n : ℕ) → IsSumOf ws up → IsSumOf (ws ++ zeros k) (up ++ zeros n)
+sums_longer : (ws up : List ℕ) (k n : ℕ) → IsSumOf ws up → IsSumOf (ws ++ zeros k) (up ++ zeros n)
 sums_longer ws up k n s = record {
   none = λ j e. same_word ws k j ∙ s.none j (sym (has_same up n j) ∙ e);
   some = λ j e.

@@ -18,7 +18,7 @@ at_least xs up (suc i) inside =
     omega arith
 
 -- they are no more than the room
-pub few_members : (xs : List ℕ) (room : ℕ) → AreMembers xs room → length xs ≤ room
+few_members : (xs : List ℕ) (room : ℕ) → AreMembers xs room → length xs ≤ room
 few_members [] room h = omega arith
 few_members (x ∷ xs) room h =
     let last : length xs ≤ get_or (x ∷ xs) (length xs) 0 = at_least (x ∷ xs) h.rise (length xs) (omega arith) in
@@ -30,7 +30,7 @@ one_within room b true lt = All-cons (λ x. x < room) b [] lt (All-nil (λ x. x 
 one_within room b false lt = All-nil (λ x. x < room)
 
 -- with a number in it
-pub are_members_with : (b : ℕ) (xs : List ℕ) (room : ℕ) → b < room → AreMembers xs room → AreMembers (with_member b true xs) room
+are_members_with : (b : ℕ) (xs : List ℕ) (room : ℕ) → b < room → AreMembers xs room → AreMembers (with_member b true xs) room
 are_members_with b xs room lt h = record {
   rise = with_member_rises b true xs h.rise;
   within =
@@ -51,7 +51,7 @@ are_members_without b xs room h = record {
 }
 
 -- where one more can be put in there is room for it
-pub room_for_one : (b : ℕ) (xs : List ℕ) (i room : ℕ) → b < room → AreMembers xs room → i ≤ length xs → insert xs i b ≡ with_member b true xs → length xs < room
+room_for_one : (b : ℕ) (xs : List ℕ) (i room : ℕ) → b < room → AreMembers xs room → i ≤ length xs → insert xs i b ≡ with_member b true xs → length xs < room
 room_for_one b xs i room lt h inside is =
     omega (arith, length-insert xs i b inside, ap length is, few_members (with_member b true xs) room (are_members_with b xs room lt h))
 
@@ -93,10 +93,3 @@ below_last b xs last up is lt i x e =
     let inside : i < length xs = there xs i x e in
     let up_to_last : get_or xs i 0 ≤ get_or xs (length xs - 1) 0 = rising_up xs up i (length xs - 1) (omega arith) (omega arith) in
     omega (arith, up_to_last, at xs i x e, at xs (length xs - 1) last is, lt)
-
--- and where there is no last one
-pub below_nobody : (b : ℕ) (xs : List ℕ) → slice_get xs (length xs - 1) ≡ None → AreBelow b xs
-below_nobody b xs none i x e =
-    let inside : i < length xs = there xs i x e in
-    let short : length xs ≤ length xs - 1 = nobody xs (length xs - 1) none in
-    absurd (omega arith)

@@ -21,10 +21,6 @@ use Rattle.xk_core.specs.Enabledness.{is_able, is_kept}
 use Rattle.xk_core.specs.Core.{IsCore, instruction_by, instruction_of, next_instruction}
 use Rattle.xk_core.proofs.EnablednessLemmas.{able_enabled}
 
--- what holds of each element, at an element that is there
-all_at : {X : Type 0} (P : X → Type 0) (xs : List X) (i : ℕ) (x : X) → All P xs → slice_get xs i ≡ Some x → P x
-all_at P xs i x h e = rw (get_or_from_slice_get xs i x x e) at (h i x (slice_get_within xs i x e))
-
 -- one more of each number fits its type
 roomy : (m : ModuleValue) (w : World) (a : ℕ) → IsWithinLimits m → IsAccepted m → IsSound m w → HasRoom m w → a < length w.activities → IsRoomy m w a
 roomy m w a limits accepted sound room lt = record {

@@ -74,7 +74,7 @@ ended_told [] (x ∷ xs) h = absurd (omega arith)
 ended_told (n ∷ ns) [] h = refl
 ended_told (n ∷ ns) (x ∷ xs) h = ap (λ b. is_ended x.status && b) (ended_told ns xs (omega arith))
 
-pub able_told : (ns : List NodeValue) (w : World) → length ns ≡ length w.activities → (a : ℕ) → is_able (with_finishes ns w) a ≡ is_able w a
+able_told : (ns : List NodeValue) (w : World) → length ns ≡ length w.activities → (a : ℕ) → is_able (with_finishes ns w) a ≡ is_able w a
 able_told ns w width a = by (told_at ns w.activities width a)
   where
     by : At ns w.activities a → is_able (with_finishes ns w) a ≡ is_able w a
@@ -108,7 +108,7 @@ since_told ns w width a = by (told_at ns w.activities width a)
     by (Somebody n x h e g) = ap (option_map (λ (x : Activity). x.since)) g ∙ sym (ap (option_map (λ (x : Activity). x.since)) e)
 
 -- the tree tells of the activities as the definition has them
-pub nodes_told : (m : ModuleValue) (ns : List NodeValue) (xs : List Activity) → AreTold m ns xs → AreNodesOf (with_nodes ns xs) ns
+nodes_told : (m : ModuleValue) (ns : List NodeValue) (xs : List Activity) → AreTold m ns xs → AreNodesOf (with_nodes ns xs) ns
 nodes_told m ns xs t = from ns xs t.width (λ a n x h g. (t.each a n x h g).ended)
   where
     from : (ks : List NodeValue) (ys : List Activity) → length ks ≡ length ys
@@ -284,7 +284,7 @@ ended_same (k ∷ ns) (x ∷ xs) zero n h = ap (λ z. with_node (node_ended z) x
 ended_same (k ∷ ns) (x ∷ xs) (suc a) n h = ap (λ l. with_node k x ∷ l) (ended_same ns xs a n h)
 
 -- one step leads to one world
-pub same_world : (v u : World) (e f : Event) → Stepped v e ≡ Stepped u f → v ≡ u
+same_world : (v u : World) (e f : Event) → Stepped v e ≡ Stepped u f → v ≡ u
 same_world v u e f q = cc
 
 -- ---- one activity of a core
@@ -369,7 +369,7 @@ module _ (m : ModuleValue) (ns : List NodeValue) (w : World) (a : ℕ) (h : IsHe
       subst (λ (z : NodeValue). 0 < z.opened) (sym (node_is ns a r.n r.here)) (omega (arith, q))
 
   -- the tree awaits somebody where the definition does
-  pub awaits_told : (i : Instr) (r : Runs i) → awaits_innermost ns a ≡ awaits (with_finishes ns w).activities (innermost a (with_node r.n r.x))
+  awaits_told : (i : Instr) (r : Runs i) → awaits_innermost ns a ≡ awaits (with_finishes ns w).activities (innermost a (with_node r.n r.x))
   awaits_told i r = awaits_same (with_nodes ns w.activities) ns (nodes_told m ns w.activities h.are) (tree.innermost_of a (node_at ns a))
       ∙ ap (λ (z : NodeValue). awaits (with_finishes ns w).activities (record { owner = Some a; depth = z.opened })) (node_is ns a r.n r.here)
 

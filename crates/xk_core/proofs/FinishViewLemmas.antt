@@ -48,7 +48,7 @@ set_both (k ∷ ns) [] (suc a) n y = refl
 set_both (k ∷ ns) (x ∷ xs) zero n y = refl
 set_both (k ∷ ns) (x ∷ xs) (suc a) n y = ap (λ l. with_node k x ∷ l) (set_both ns xs a n y)
 
-pub push_told : (ns : List NodeValue) (xs : List Activity) (n : NodeValue) (x : Activity) → length ns ≡ length xs
+push_told : (ns : List NodeValue) (xs : List Activity) (n : NodeValue) (x : Activity) → length ns ≡ length xs
     → with_nodes (ns ++ n ∷ []) (xs ++ x ∷ []) ≡ with_nodes ns xs ++ with_node n x ∷ []
 push_told [] [] n x h = refl
 push_told [] (y ∷ xs) n x h = absurd (omega arith)

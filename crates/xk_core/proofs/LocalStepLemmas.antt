@@ -57,7 +57,7 @@ module _ (m : ModuleValue) (ns : List NodeValue) (w : World) (a : ℕ) (h : IsHe
     pub both : slice_get (with_nodes ns w.activities) a ≡ Some (with_node n x)
     pub running : x.status ≡ status.Running
 
-  pub running_there : is_running (with_finishes ns w) a ≡ true → Running
+  running_there : is_running (with_finishes ns w) a ≡ true → Running
   running_there q = by (told_at ns w.activities h.are.width a)
     where
       by : At ns w.activities a → Running

@@ -46,7 +46,7 @@ registered_step (Some c) a go h = tested (is_registered (standing_of c a)) h
 -- ---- arguments
 
 -- arguments of a step are there: as many as parameters, each in a slot, and the step goes on with their values
-pub arguments_there : (w : World) (a : ℕ) (act : Activity) (ps : List ParamKind) (xs : List ℕ) (go : List Value → Outcome) → is_step (arguments_in w a act ps xs go) ≡ true
+arguments_there : (w : World) (a : ℕ) (act : Activity) (ps : List ParamKind) (xs : List ℕ) (go : List Value → Outcome) → is_step (arguments_in w a act ps xs go) ≡ true
     → (length xs ≡ length ps) × All (λ s. s < length act.frame.slots) xs × (arguments_in w a act ps xs go ≡ go (map (value_at act) xs))
 arguments_there w a act [] [] go h = (refl, λ k d lt. absurd (omega arith), refl)
 arguments_there w a act [] (x ∷ xs) go h = cc
@@ -81,7 +81,7 @@ pub carried_within : (m : ModuleValue) (w : World) (a : ℕ) (i : Instr) → is_
 carried_within m w a i h = within_by m w a i (slice_get w.activities a) refl h
 
 -- the step of the activity there
-pub carried_there : (m : ModuleValue) (w : World) (a : ℕ) (i : Instr) (act : Activity) → slice_get w.activities a ≡ Some act → carried m w a i ≡ carried_out m w a act i
+carried_there : (m : ModuleValue) (w : World) (a : ℕ) (i : Instr) (act : Activity) → slice_get w.activities a ≡ Some act → carried m w a i ≡ carried_out m w a act i
 carried_there m w a i act e = ap (carried_by m w a i) e
 
 -- ---- starting an activity

@@ -25,7 +25,7 @@ use Rattle.xk_core.proofs.LocalRunLemmas.{StaysBy, local_stays, ran_stays}
 -- ---- what is reserved
 
 -- an activity that began with the same unit has the same places
-pub reserved_set : (m : ModuleValue) (acts : List Activity) (r q : Rooms) (a : ℕ) (y : Activity) → AreReserved m acts r → q ≡ r
+reserved_set : (m : ModuleValue) (acts : List Activity) (r q : Rooms) (a : ℕ) (y : Activity) → AreReserved m acts r → q ≡ r
     → base_unit y ≡ base_unit (act_at acts a) → AreReserved m (slice_set acts a y) q
 reserved_set m acts r q a y h same base = rw same (record {
   clocks = h.clocks;
@@ -44,7 +44,7 @@ reserved_set m acts r q a y h same base = rw same (record {
     by b z there (inr differs) = h.places b z (sym (get-set_other acts a b y differs) ∙ there)
 
 -- one more, with places of its own
-pub reserved_push : (m : ModuleValue) (acts : List Activity) (r q : Rooms) (n : ℕ) (y : Activity) → AreReserved m acts r → q.clocks ≡ r.clocks
+reserved_push : (m : ModuleValue) (acts : List Activity) (r q : Rooms) (n : ℕ) (y : Activity) → AreReserved m acts r → q.clocks ≡ r.clocks
     → q.places ≡ r.places ++ n ∷ [] → places_of m y ≤ n → AreReserved m (acts ++ y ∷ []) q
 reserved_push m acts r q n y h clocks places fits = record {
   clocks = omega (arith, h.clocks, clocks);

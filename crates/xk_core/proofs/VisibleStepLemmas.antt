@@ -18,17 +18,17 @@ use Rattle.xk_core.specs.InstructionEffect.{carried, carried_by}
 use Rattle.xk_core.proofs.OperandLemmas.{registered_step, carried_within, cell_there, IsStore, IsSpawn, spawn_by, spawning_there}
 
 -- who takes a step at an instruction does what it does
-pub carried_here : (m : ModuleValue) (w : World) (a : ℕ) (i : Instr) → is_step (carried m w a i) ≡ true → carried m w a i ≡ carried_out m w a (act_at w.activities a) i
+carried_here : (m : ModuleValue) (w : World) (a : ℕ) (i : Instr) → is_step (carried m w a i) ≡ true → carried m w a i ≡ carried_out m w a (act_at w.activities a) i
 carried_here m w a i h = ap (carried_by m w a i) (slice_get-get_or w.activities a nobody (carried_within m w a i h))
 
 -- a number that is read
-pub number_read : (o : Option Value) (go : ℤ → Outcome) → is_step (number_in o go) ≡ true → (n : ℤ) × (o ≡ Some (value.Number n)) × (number_in o go ≡ go n)
+number_read : (o : Option Value) (go : ℤ → Outcome) → is_step (number_in o go) ≡ true → (n : ℤ) × (o ≡ Some (value.Number n)) × (number_in o go ≡ go n)
 number_read None go h = absurd (false≢true h)
 number_read (Some value.Unset) go h = absurd (false≢true h)
 number_read (Some (value.Number n)) go h = (n, refl, refl)
 number_read (Some (value.Clock c)) go h = absurd (false≢true h)
 
-pub clock_read : (w : World) (a : ℕ) (o : Option Value) (go : ℕ → Outcome) → is_step (clock_in w a o go) ≡ true
+clock_read : (w : World) (a : ℕ) (o : Option Value) (go : ℕ → Outcome) → is_step (clock_in w a o go) ≡ true
     → (c : ℕ) × (o ≡ Some (value.Clock c)) × (clock_in w a o go ≡ go c)
 clock_read w a None go h = absurd (false≢true h)
 clock_read w a (Some value.Unset) go h = absurd (false≢true h)

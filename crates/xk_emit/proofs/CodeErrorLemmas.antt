@@ -71,7 +71,7 @@ pub length_gap : (base first : List Instr) (i : Instr) → length (base ++ (firs
 length_gap base first i = omega (arith, length-append base (first ++ i ∷ []), length-append first (i ∷ []))
 
 -- a gap needs no more room than the instruction that it is for
-pub room_gap : (scope : Scope) (size : ℕ) (a b : List Instr) (i : Instr) → HasRoom scope size (a ++ i ∷ b) → HasRoom scope size (a ++ instr.Jump 0 ∷ [])
+room_gap : (scope : Scope) (size : ℕ) (a b : List Instr) (i : Instr) → HasRoom scope size (a ++ i ∷ b) → HasRoom scope size (a ++ instr.Jump 0 ∷ [])
 room_gap scope size a b i m =
     let m1 = m.code in
     let m2 = m.slots in
@@ -84,7 +84,7 @@ room_gap scope size a b i m =
     }
 
 -- the same names, and the same code
-pub moved : (cx : Setting) (t n inner p : ℕ) (scope : Scope) (s : Statement)
+moved : (cx : Setting) (t n inner p : ℕ) (scope : Scope) (s : Statement)
     → inner ≡ p → HasRoom scope p (code_of cx t scope n p s) → HasRoom scope inner (code_of cx t scope n inner s)
 moved cx t n inner p scope s is m = subst (λ k. HasRoom scope k (code_of cx t scope n k s)) (sym is) m
 
@@ -204,7 +204,7 @@ finish_end err cx t scope n size inner long s h is is_long =
 
 -- ---- loops
 
-pub low_more : (scope : Scope) (x : List ℕ) (n : ℕ) → AreLow scope → n < 64 → AreLow (scope ++ (x, n) ∷ [])
+low_more : (scope : Scope) (x : List ℕ) (n : ℕ) → AreLow scope → n < 64 → AreLow (scope ++ (x, n) ∷ [])
 low_more [] x n low h = (h, tt)
 low_more (e ∷ scope) x n low h = (low.0, low_more scope x n low.1 h)
 
@@ -217,7 +217,7 @@ low_loop scope n i (UpTo hi) low h = low_more scope i.text n low (omega arith)
 low_loop scope n i (Least x v e hi) low h = low_more (scope ++ (i.text, n) ∷ []) x.text (n + 1) (low_more scope i.text n low (omega arith)) (omega arith)
 
 -- what a loop that has turns needs
-pub loop_room : (cx : Setting) (t : ℕ) (scope : Scope) (n size at : ℕ) (i : Word) (lo : Number) (b : Bound) (s : Statement)
+loop_room : (cx : Setting) (t : ℕ) (scope : Scope) (n size at : ℕ) (i : Word) (lo : Number) (b : Bound) (s : Statement)
     → int_le lo.value (top b) ≡ true → RoomOf cx t scope n size (For at i lo b s)
     → let q = size + length (before_bound scope t n b) in
     let body = code_of cx t (within_loop scope n i b) (n + loop_slots b) (q + 1) s in
@@ -311,7 +311,7 @@ args_turn scope size more next u x args i item lt is is_more is_x is_u m =
 
 -- ---- statements, one after another
 
-pub low_declared : (scope : Scope) (n : ℕ) (s : Statement) → AreLow scope → n + count s ≤ 64 → AreLow (declared scope n s)
+low_declared : (scope : Scope) (n : ℕ) (s : Statement) → AreLow scope → n + count s ≤ 64 → AreLow (declared scope n s)
 low_declared scope n (Declare b x ty r) low few = low_more scope x.text n low (omega arith)
 low_declared scope n _ low few = low
 

@@ -52,14 +52,14 @@ room_behind scope size a b more is r =
 -- ---- temporaries
 
 -- names have slots below 64
-pub low_found : (scope : Scope) (x : List ℕ) (n : ℕ) → AreLow scope → find scope x ≡ Some n → n < 64
+low_found : (scope : Scope) (x : List ℕ) (n : ℕ) → AreLow scope → find scope x ≡ Some n → n < 64
 low_found [] x n low is = absurd (cc)
 low_found (e ∷ scope) x n low is = elim (is_text x e.0) as (λ b. cond b (Some e.1) (find scope x) ≡ Some n → n < 64) [
   | true ↦ λ h. let k : e.1 ≡ n = cc in let b = low.0 in omega arith
   | false ↦ λ h. low_found scope x n low.1 h
 ] is
 
-pub low_number : (scope : Scope) (x : List ℕ) → AreLow scope → unwrap_or (find scope x) 0 < 64
+low_number : (scope : Scope) (x : List ℕ) → AreLow scope → unwrap_or (find scope x) 0 < 64
 low_number scope x low = elim (find scope x) as (λ o. find scope x ≡ o → unwrap_or o 0 < 64) [
   | None ↦ λ _. omega arith
   | Some n ↦ λ is. low_found scope x n low is

@@ -50,11 +50,11 @@ covered_alone cx xs ss s is h = subst (λ (b : Statements). IsUnitCovered cx xs 
 
 -- ---- what is denied of a part, is denied of the unit
 
-pub slots_more : (t : ℕ) (code : List Instr) → slots_used t code ≡ max t (slots_used 0 code)
+slots_more : (t : ℕ) (code : List Instr) → slots_used t code ≡ max t (slots_used 0 code)
 slots_more t [] = omega arith
 slots_more t (i ∷ is) = ap (max (written_slots i)) (slots_more t is) ∙ omega arith
 
-pub low_from : (n : ℕ) (xs : List (List ℕ)) → n + length xs ≤ 64 → AreLow (scope_from n xs)
+low_from : (n : ℕ) (xs : List (List ℕ)) → n + length xs ≤ 64 → AreLow (scope_from n xs)
 low_from n [] few = tt
 low_from n (x ∷ xs) few = (omega arith, low_from (n + 1) xs (omega arith))
 

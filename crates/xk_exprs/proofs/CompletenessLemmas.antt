@@ -39,7 +39,7 @@ abbrev pub Complete : ℕ → ℕ → (ℕ → List Mark → Read) → Type 0
 Complete k d item =
     (e : Expression) (ops : ℕ) (rest : List Mark) → IsGrouped e → level e ≤ k → depth e ≤ d → Ends k rest → item (operators e + ops) (spell e ++ rest) ≡ Some ((e, ops), rest)
 
-pub level_most : (e : Expression) → level e ≤ 2
+level_most : (e : Expression) → level e ≤ 2
 level_most (Binary operator.Plus l at r) = omega arith
 level_most (Binary operator.Minus l at r) = omega arith
 level_most (Binary operator.Times l at r) = omega arith
@@ -49,7 +49,7 @@ level_most (Paren at e) = omega arith
 level_most (Negation at e) = omega arith
 
 -- an operator and its operand are taken
-pub another_goes : (k : ℕ) (item : ℕ → List Mark → Read) (l r : Expression) (at ops : ℕ) (o : Op) (after rest : List Mark) → binds o ≡ k
+another_goes : (k : ℕ) (item : ℕ → List Mark → Read) (l r : Expression) (at ops : ℕ) (o : Op) (after rest : List Mark) → binds o ≡ k
     → item (operators r + ops) after ≡ Some ((r, ops), rest)
     → another k item (l, suc (operators r + ops)) (Operator at o ∷ after) ≡ Goes (Binary o l at r, ops) rest
 unfolding another
@@ -96,20 +96,20 @@ chain_reach k d item s c (Named w) ops rest g l h ends = chain_base k d item c (
 chain_reach k d item s c (Paren at e) ops rest g l h ends = chain_base k d item c (Paren at e) ops rest g (omega arith) h ends
 chain_reach k d item s c (Negation at e) ops rest g l h ends = chain_base k d item c (Negation at e) ops rest g (omega arith) h ends
 
-pub another_stops : (k : ℕ) (item : ℕ → List Mark → Read) (x : Expression × ℕ) (ts : List Mark) → operator_at k ts ≡ None → another k item x ts ≡ Stops
+another_stops : (k : ℕ) (item : ℕ → List Mark → Read) (x : Expression × ℕ) (ts : List Mark) → operator_at k ts ≡ None → another k item x ts ≡ Stops
 unfolding another
 another_stops k item x ts e = rw e refl
 
-pub chain_complete : (k d : ℕ) (item : ℕ → List Mark → Read) → Sound k d item → Complete k d item → Complete (suc k) d (chain_at (suc k) item)
+chain_complete : (k d : ℕ) (item : ℕ → List Mark → Read) → Sound k d item → Complete k d item → Complete (suc k) d (chain_at (suc k) item)
 chain_complete k d item s c e ops rest g l h ends =
     chain_reach k d item s c e ops rest g l h (ends_below (suc k) k rest ends (omega arith))
     ∙ loop_stops (another (suc k) item) (e, ops) rest (another_stops (suc k) item (e, ops) rest (ends_none (suc k) (suc k) rest ends (omega arith)))
 
-pub terms_complete : (d : ℕ) (item : ℕ → List Mark → Read) → Sound 0 d item → Complete 0 d item → Complete 1 d (terms item)
+terms_complete : (d : ℕ) (item : ℕ → List Mark → Read) → Sound 0 d item → Complete 0 d item → Complete 1 d (terms item)
 unfolding terms
 terms_complete d item s c = chain_complete 0 d item s c
 
-pub sums_complete : (d : ℕ) (item : ℕ → List Mark → Read) → Sound 0 d item → Complete 0 d item → Complete 2 d (sums item)
+sums_complete : (d : ℕ) (item : ℕ → List Mark → Read) → Sound 0 d item → Complete 0 d item → Complete 2 d (sums item)
 unfolding sums
 sums_complete d item s c = chain_complete 1 d (terms item) (terms_sound d item s) (terms_complete d item s c)
 
@@ -155,7 +155,7 @@ number_again d None at n ops rest r e = rw e refl
 number_again zero (Some k) at n ops rest r e = rw e refl
 number_again (suc d) (Some k) at n ops rest r e = rw e refl
 
-pub factor_complete : (d : ℕ) → Complete 0 d (factor_at d)
+factor_complete : (d : ℕ) → Complete 0 d (factor_at d)
 unfolding factor_at
 factor_complete d (Literal n) ops rest g l h ends =
     let z : 0 + ops ≡ ops = omega arith in

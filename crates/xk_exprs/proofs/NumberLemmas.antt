@@ -20,7 +20,7 @@ neg_range : (n : ℕ) → n ≤ 2 ^ 63 → (neg_ℤ (pos (2 ^ 63)) ≤ℤ neg_�
 neg_range n h = (omega (arith, ints), omega (arith, ints))
 
 -- a value that digits have is one of 64 bits, and they are its digits
-pub value_found : (m : Option ℕ) (n : ℕ) (v : ℤ) → value_of m n ≡ Some v → (unsigned_abs v ≡ n) × IsValue m v
+value_found : (m : Option ℕ) (n : ℕ) (v : ℤ) → value_of m n ≡ Some v → (unsigned_abs v ≡ n) × IsValue m v
 unfolding value_of
 value_found None n v e =
     let c = cond_some (ltb n (2 ^ 63)) (pos n) v e in
@@ -32,7 +32,7 @@ value_found (Some at) n v e =
     subst (λ (z : ℤ). (unsigned_abs z ≡ n) × IsValue (Some at) z) c.1 (abs_neg n, neg_range n h)
 
 -- a value of 64 bits is that of its digits
-pub value_again : (m : Option ℕ) (v : ℤ) → IsValue m v → value_of m (unsigned_abs v) ≡ Some v
+value_again : (m : Option ℕ) (v : ℤ) → IsValue m v → value_of m (unsigned_abs v) ≡ Some v
 unfolding value_of
 value_again None (pos n) h =
     let lt : n < 2 ^ 63 = let p = h.1 in omega (arith, ints) in

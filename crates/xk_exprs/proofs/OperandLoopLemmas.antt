@@ -49,7 +49,7 @@ pub operand_refused : (e : SyntaxError) (k : ℕ) (item : Reader) (x : Expressio
 operand_refused (error.Fault f) k item x us o h ne r = loop_fails (another k item) x us (turned_to k item x us o h ne ∙ ap (joined x.0 o.0) r)
 operand_refused error.OutOfMemory k item x us o h ne r = tt
 
-pub operand_read : (k : ℕ) (item : Reader) → Shrinks (another k item)
+operand_read : (k : ℕ) (item : Reader) → Shrinks (another k item)
     → (x : Expression × ℕ) (us : List Mark) (o : (ℕ × Op) × List Mark) (r : (Expression × ℕ) × List Mark) → Some o ≡ operator_at k us → (x.1 ≡ 0 → ⊥)
     → item (x.1 - 1) o.1 ≡ Some r → loop (another k item) x us ≡ loop (another k item) (Binary o.0.1 x.0 o.0.0 r.0.0, r.0.1) r.1
 operand_read k item s x us o r h ne e = loop_goes (another k item) s x us (Binary o.0.1 x.0 o.0.0 r.0.0, r.0.1) r.1 (turned_to k item x us o h ne ∙ ap (joined x.0 o.0) e)

@@ -99,7 +99,7 @@ goes_on k d ops item ts s x us y vs t j =
 raised : (k d ops : ℕ) (ts : List Mark) (x : (Expression × ℕ) × List Mark) → Took k d ops ts x → Took (suc k) d ops ts x
 raised k d ops ts x t = let h = t.level_le in record { parts = t.parts; grouped = t.grouped; level_le = omega arith; depth_le = t.depth_le; counted = t.counted }
 
-pub chain_sound : (k d : ℕ) (item : ℕ → List Mark → Read) → Sound k d item → Sound (suc k) d (chain_at (suc k) item)
+chain_sound : (k d : ℕ) (item : ℕ → List Mark → Read) → Sound k d item → Sound (suc k) d (chain_at (suc k) item)
 unfolding chain_at
 chain_sound k d item s ops ts x e =
     let b = bind_some (item ops ts) (λ first. loop (another (suc k) item) first.0 first.1) x e in
@@ -111,13 +111,13 @@ pub terms_sound : (d : ℕ) (item : ℕ → List Mark → Read) → Sound 0 d it
 unfolding terms
 terms_sound d item s = chain_sound 0 d item s
 
-pub sums_sound : (d : ℕ) (item : ℕ → List Mark → Read) → Sound 0 d item → Sound 2 d (sums item)
+sums_sound : (d : ℕ) (item : ℕ → List Mark → Read) → Sound 0 d item → Sound 2 d (sums item)
 unfolding sums
 sums_sound d item s = chain_sound 1 d (terms item) (terms_sound d item s)
 
 -- ---- factors
 
-pub close_is : (ts us : List Mark) → close_at ts ≡ Some us → ts ≡ Symbol sign.RightParen ∷ us
+close_is : (ts us : List Mark) → close_at ts ≡ Some us → ts ≡ Symbol sign.RightParen ∷ us
 close_is [] us e = absurd cc
 close_is (Symbol sign.RightParen ∷ ts) us e = let q : ts ≡ us = cc in ap (λ (z : List Mark). Symbol sign.RightParen ∷ z) q
 close_is (_ ∷ ts) us e = absurd cc

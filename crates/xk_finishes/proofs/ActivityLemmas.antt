@@ -26,7 +26,7 @@ alike_at (act ∷ acts) [] are b = absurd are
 alike_at (act ∷ acts) (node ∷ nodes) are zero = are.0
 alike_at (act ∷ acts) (node ∷ nodes) are (suc b) = alike_at acts nodes are.1 b
 
-pub length-nodes : (acts : List Activity) (nodes : List NodeValue) → AreNodesOf acts nodes → length nodes ≡ length acts
+length-nodes : (acts : List Activity) (nodes : List NodeValue) → AreNodesOf acts nodes → length nodes ≡ length acts
 length-nodes [] [] are = refl
 length-nodes [] (node ∷ nodes) are = absurd are
 length-nodes (act ∷ acts) [] are = absurd are
@@ -74,14 +74,14 @@ awaits_same acts nodes are f = awaits_from_same acts nodes f are 0 acts nodes ar
 -- ---- steps
 
 -- the node of an activity that is there
-pub node_is : (acts : List Activity) (nodes : List NodeValue) → AreNodesOf acts nodes → (a : ℕ) (act : Activity) → slice_get acts a ≡ Some act → IsNodeOf act (node_at nodes a)
+node_is : (acts : List Activity) (nodes : List NodeValue) → AreNodesOf acts nodes → (a : ℕ) (act : Activity) → slice_get acts a ≡ Some act → IsNodeOf act (node_at nodes a)
 node_is [] nodes are a act h = absurd (none-some act h)
 node_is (x ∷ xs) [] are a act h = absurd are
 node_is (x ∷ xs) (y ∷ ys) are zero act h = subst (λ z. IsNodeOf z y) (same_Some x act h) are.0
 node_is (x ∷ xs) (y ∷ ys) are (suc a) act h = node_is xs ys are.1 a act h
 
 -- one activity changes, and its node with it
-pub nodes_set : (acts : List Activity) (nodes : List NodeValue) → AreNodesOf acts nodes → (a : ℕ) (act : Activity) (node : NodeValue) → IsNodeOf act node
+nodes_set : (acts : List Activity) (nodes : List NodeValue) → AreNodesOf acts nodes → (a : ℕ) (act : Activity) (node : NodeValue) → IsNodeOf act node
     → AreNodesOf (set acts a act) (set nodes a node)
 nodes_set [] [] are a act node is = tt
 nodes_set [] (y ∷ ys) are a act node is = absurd are
@@ -90,7 +90,7 @@ nodes_set (x ∷ xs) (y ∷ ys) are zero act node is = (is, are.1)
 nodes_set (x ∷ xs) (y ∷ ys) are (suc a) act node is = (are.0, nodes_set xs ys are.1 a act node is)
 
 -- one activity more, and its node
-pub nodes_push : (acts : List Activity) (nodes : List NodeValue) → AreNodesOf acts nodes → (act : Activity) (node : NodeValue) → IsNodeOf act node
+nodes_push : (acts : List Activity) (nodes : List NodeValue) → AreNodesOf acts nodes → (act : Activity) (node : NodeValue) → IsNodeOf act node
     → AreNodesOf (acts ++ act ∷ []) (nodes ++ node ∷ [])
 nodes_push [] [] are act node is = (is, tt)
 nodes_push [] (y ∷ ys) are act node is = absurd are

@@ -63,7 +63,7 @@ node_there (x ∷ xs) (suc a) h = node_there xs a (omega arith)
 -- ---- who is under a finish, and hasn't ended
 
 -- leads up to one whom it governs itself and who hasn't ended
-pub under_counted : (nodes : List NodeValue) (f : Finish) → AreOpen nodes → (n b : ℕ) (node : NodeValue) → slice_get nodes b ≡ Some node → node.ended ≡ false
+under_counted : (nodes : List NodeValue) (f : Finish) → AreOpen nodes → (n b : ℕ) (node : NodeValue) → slice_get nodes b ≡ Some node → node.ended ≡ false
     → under_within nodes f n b ≡ true → 0 < counter f nodes
 unfolding under_within
 under_counted nodes f are zero b node at runs under = absurd (grind arith)

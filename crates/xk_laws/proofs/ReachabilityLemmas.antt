@@ -143,7 +143,7 @@ pub record HasRoom (m : ModuleValue) (w : World) : Type 0 where
   pub clocks : length w.clocks ≤ clocks_bound m
 
 -- a sound world is within the bounds
-pub sound_room : (m : ModuleValue) (w : World) → IsSound m w → HasRoom m w
+sound_room : (m : ModuleValue) (w : World) → IsSound m w → HasRoom m w
 sound_room m w s = record {
   steps = (let h = s.steps in omega arith);
   activities = (let h = s.started in omega arith);

@@ -30,7 +30,7 @@ closing_cut (b ∷ bs) n e = by (λ m. closing_cut bs m) e
         (λ h e. behind ih (closing bs) refl e)
 
 -- it isn't behind any other
-pub closing_least : (front back : List ℕ) → (m : ℕ) × (closing (front ++ star ∷ slash ∷ back) ≡ Some m) × (m ≤ length front)
+closing_least : (front back : List ℕ) → (m : ℕ) × (closing (front ++ star ∷ slash ∷ back) ≡ Some m) × (m ≤ length front)
 closing_least [] back = (0, refl, omega arith)
 closing_least (f ∷ fs) back = by (closing_least fs back)
   where

@@ -125,7 +125,7 @@ has_last : (ts : List TokenValue) (at : ℕ) → IsTrue (has_stray (ts ++ stray_
 has_last [] at = refl
 has_last (t ∷ ts) at = let ih = has_last ts at in rw ih (or_true (is_stray t.what))
 
-pub strayed_have_one : (text : List ℕ) (tokens : List TokenValue) → Strays text tokens → IsTrue (has_stray tokens)
+strayed_have_one : (text : List ℕ) (tokens : List TokenValue) → Strays text tokens → IsTrue (has_stray tokens)
 strayed_have_one text tokens h = ap has_stray h.5 ∙ has_last (tokens_at 0 h.0) (length text - length h.1)
 
 pub spelled_from_none : (text : List ℕ) → IsFalse (has_stray (lexed text)) → SpellsTokens text (lexed text)

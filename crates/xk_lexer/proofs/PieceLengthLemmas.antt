@@ -11,7 +11,7 @@ use Rattle.xk_lexer.specs.Lexing.{closing, two_at, one_at, sign_or, sign_at, val
 use Rattle.xk_lexer.proofs.CommentLemmas.{closing_cut}
 
 -- a greater front gives a greater number
-pub decimal_least : (v : ℕ) (ds : List ℕ) → v ≤ decimal v ds
+decimal_least : (v : ℕ) (ds : List ℕ) → v ≤ decimal v ds
 decimal_least v [] = omega arith
 decimal_least v (d ∷ ds) = let h = decimal_least (v * 10 + (d - 48)) ds in omega arith
 
@@ -50,7 +50,7 @@ comment_room b (c ∷ bs) =
         (omega (arith, e), omega (arith, e))
 
 -- a piece has a byte at least, and ends in the text
-pub piece_room : (b : ℕ) (bs : List ℕ) → Within (b ∷ bs) (piece_at b (b ∷ bs))
+piece_room : (b : ℕ) (bs : List ℕ) → Within (b ∷ bs) (piece_at b (b ∷ bs))
 unfolding piece_at
 piece_room b bs =
     let P = Within (b ∷ bs) in
@@ -62,13 +62,13 @@ piece_room b bs =
     counted p h = (rw h (omega arith), prefix_len-le-length p (b ∷ bs))
 
 -- bytes of the piece before
-pub lexed_skip : (k at : ℕ) (bs : List ℕ) → lexed_from k at bs ≡ lexed_from 0 (at + k) (drop k bs)
+lexed_skip : (k at : ℕ) (bs : List ℕ) → lexed_from k at bs ≡ lexed_from 0 (at + k) (drop k bs)
 lexed_skip zero at bs = ap (λ (n : ℕ). lexed_from 0 n bs) (omega arith)
 lexed_skip (suc k) at [] = refl
 lexed_skip (suc k) at (b ∷ bs) = lexed_skip k (suc at) bs ∙ ap (λ (n : ℕ). lexed_from 0 n (drop k bs)) (omega arith)
 
 -- one piece, and the pieces behind it
-pub lexed_next : (at b : ℕ) (bs : List ℕ) → let p = piece_at b (b ∷ bs) in lexed_from 0 at (b ∷ bs) ≡ with_token at p.0 (lexed_from 0 (at + p.1) (drop p.1 (b ∷ bs)))
+lexed_next : (at b : ℕ) (bs : List ℕ) → let p = piece_at b (b ∷ bs) in lexed_from 0 at (b ∷ bs) ≡ with_token at p.0 (lexed_from 0 (at + p.1) (drop p.1 (b ∷ bs)))
 lexed_next at b bs = by (piece_at b (b ∷ bs)) (piece_room b bs)
   where
     by : (p : Option Lexeme × ℕ) → Within (b ∷ bs) p → with_token at p.0 (lexed_from (p.1 - 1) (suc at) bs) ≡ with_token at p.0 (lexed_from 0 (at + p.1) (drop p.1 (b ∷ bs)))

@@ -6,7 +6,7 @@ use Rattle.std.proofs.lemmas.List.Folds.{list_all-append}
 use Rattle.xk_log.specs.LogText.{isnt, Lacks}
 
 -- the byte itself passes no such test
-pub isnt_self : (s : ℕ) → isnt s s ≡ false
+isnt_self : (s : ℕ) → isnt s s ≡ false
 isnt_self s = not_from_true (eqb s s) (eq-eqb s s refl)
 
 pub lacks_append : (s : ℕ) (a b : List ℕ) → Lacks s a → Lacks s b → Lacks s (a ++ b)

@@ -24,7 +24,7 @@ some_value n m e = cc
 pub none_some : (n : ℕ) → None ≡ Some n → ⊥
 none_some n e = cc
 
-pub read_found : (v : ℕ) (ds : List ℕ) (n : ℕ) → v < 2 ^ 32 → value_from v ds ≡ Some n
+read_found : (v : ℕ) (ds : List ℕ) (n : ℕ) → v < 2 ^ 32 → value_from v ds ≡ Some n
     → (all_ascii_digits ds ≡ true) × (read_on v ds ≡ n) × (n < 2 ^ 32)
 read_found v [] n = λ h e. (refl, some_value v n e, subst (λ k. k < 2 ^ 32) (some_value v n e) h)
 read_found v (d ∷ ds) n = λ h.
@@ -41,7 +41,7 @@ read_on-ge : (v : ℕ) (ds : List ℕ) → v ≤ read_on v ds
 read_on-ge v [] = omega arith
 read_on-ge v (d ∷ ds) = let rest : with_digit v d ≤ read_on (with_digit v d) ds = read_on-ge (with_digit v d) ds in omega (arith, rest)
 
-pub read_again : (v : ℕ) (ds : List ℕ) → all_ascii_digits ds ≡ true → read_on v ds < 2 ^ 32 → value_from v ds ≡ Some (read_on v ds)
+read_again : (v : ℕ) (ds : List ℕ) → all_ascii_digits ds ≡ true → read_on v ds < 2 ^ 32 → value_from v ds ≡ Some (read_on v ds)
 read_again v [] h small = refl
 read_again v (d ∷ ds) h small =
     let w = with_digit v d in

@@ -19,7 +19,7 @@ use Rattle.xk_log.proofs.LineLemmas.{lacks_parts, front_lacks, front_ends}
 use Rattle.xk_log.proofs.NumberLemmas.{number_short}
 use Rattle.xk_log.proofs.VerdictLemmas.{entry_short, one_verdict}
 
-pub place_ready : (s : Stage) (es : List Entry) → IsReadyAt s es → IsPlace (place_of s es)
+place_ready : (s : Stage) (es : List Entry) → IsReadyAt s es → IsPlace (place_of s es)
 place_ready stage.Start es h = tt
 place_ready stage.Within es h = h
 place_ready stage.Behind es h = h
@@ -45,7 +45,7 @@ has_entry (f ∷ fs) e line more text h fits is eq =
           ∙ ap (λ l. ended head_line ++ l) (append_assoc (ended (entry_line f)) (entry_lines fs) rest);
     }
 
-pub stops_refused : (s : Stage) (es : List Entry) (line more text : List ℕ) (f : LogFault) → IsReadyAt s es
+stops_refused : (s : Stage) (es : List Entry) (line more text : List ℕ) (f : LogFault) → IsReadyAt s es
     → before (place_of s es) ++ (line ++ line_feed ∷ more) ≡ text → IsOneLine line → Refuses (place_of s es) line f → StopsAt text f
 stops_refused s es line more text (fault.Grammar k) ready eq one h = record {
   place = place_of s es;
@@ -67,7 +67,7 @@ pub taken_one : (old new line rest more : List ℕ) → new ≡ old ++ ended lin
 taken_one old new line rest more h is =
     ap (λ l. l ++ more) h ∙ append_assoc old (ended line) more ∙ ap (λ l. old ++ l) (append_assoc line (line_feed ∷ []) more ∙ sym is)
 
-pub lacks_take : (s n : ℕ) (xs : List ℕ) → Lacks s xs → Lacks s (take n xs)
+lacks_take : (s n : ℕ) (xs : List ℕ) → Lacks s xs → Lacks s (take n xs)
 lacks_take s n xs h = (lacks_parts s (take n xs) (drop n xs) (subst (Lacks s) (sym (take-append-drop n xs)) h)).0
 
 -- ---- a rest that is wrong
@@ -95,11 +95,6 @@ stops_surplus stage.Behind es rest text k ready eq some number = record {
   number = number;
   wrong = Surplus es refl some;
 }
-
-pub none_behind : (s : Stage) (es : List Entry) (left : ℕ) → (HasSurplus s left → ⊥) → IsNoneBehind (place_of s es) left
-none_behind stage.Start es left h = tt
-none_behind stage.Within es left h = tt
-none_behind stage.Behind es left h = elim (cases_lt 0 left) [ inl some ↦ absurd (h some) | inr none ↦ omega (arith, none) ]
 
 -- ---- more of a text
 
@@ -193,7 +188,7 @@ lines_short (e ∷ es) h =
     let one = length-append (entry_line e) (line_feed ∷ []) in
     omega (arith, rest, line, size, one)
 
-pub place_short : (s : Stage) (es : List Entry) → IsReadyAt s es → length (before (place_of s es)) ≤ 22_000_000_050
+place_short : (s : Stage) (es : List Entry) → IsReadyAt s es → length (before (place_of s es)) ≤ 22_000_000_050
 place_short stage.Start es h = lit≤ tt
 place_short stage.Within es h =
     let lines = lines_short es h.each in
@@ -227,7 +222,7 @@ all_here rest n is all =
     let whole : length rest ≤ k = omega (arith, is, all) in
     subst IsOneLine (take_all k rest whole) (front_lacks line_feed rest)
 
-pub one_line_here : (rest : List ℕ) (n : ℕ) → n ≡ prefix_len (isnt line_feed) rest → IsOneLine (take n rest)
+one_line_here : (rest : List ℕ) (n : ℕ) → n ≡ prefix_len (isnt line_feed) rest → IsOneLine (take n rest)
 one_line_here rest n is = subst (λ k. IsOneLine (take k rest)) (sym is) (front_lacks line_feed rest)
 
 pub line_here : (rest : List ℕ) (n : ℕ) → n ≡ prefix_len (isnt line_feed) rest → n < length rest → rest ≡ take n rest ++ line_feed ∷ drop (n + 1) rest

@@ -37,7 +37,7 @@ pub entry_short : (e : Entry) → FitsEntry e → length (entry_line e) ≤ long
 entry_short e h = omega (arith, length-append (decimal e.act) (blank ∷ decimal e.steps), number_short e.act h.act, number_short e.steps h.steps)
 
 -- an entry's line is the line of that entry alone
-pub entry_line_unique : (e f : Entry) → FitsEntry e → FitsEntry f → entry_line e ≡ entry_line f → e ≡ f
+entry_line_unique : (e f : Entry) → FitsEntry e → FitsEntry f → entry_line e ≡ entry_line f → e ≡ f
 entry_line_unique e f h k eq =
     let u = split_unique blank (decimal e.act) (decimal e.steps) (decimal f.act) (decimal f.steps)
     (number_lacks blank e.act (lit< tt) h.act) (number_lacks blank f.act (lit< tt) k.act) eq in
@@ -81,7 +81,7 @@ front_of n a b h =
     let e : length a + suc m ≡ n = omega arith in
     subst (λ k. take k (a ++ line_feed ∷ b) ≡ a ++ line_feed ∷ take m b) e (take-append-add a (line_feed ∷ b) (suc m))
 
-pub no_line_wrong : (p : Place) (rest : List ℕ) → IsPlace p → IsWrong p rest → NoLine p rest
+no_line_wrong : (p : Place) (rest : List ℕ) → IsPlace p → IsWrong p rest → NoLine p rest
 no_line_wrong p rest h (Misfit bad others one is unfit) = record {
   refuted = λ line more single eq fits. let u = split_unique line_feed bad others line more one single (sym is
       ∙ eq) in unfit (subst (Fits p) (sym u.0) fits);
@@ -95,7 +95,7 @@ no_line_wrong p rest h (TooLong long one) = record {
 }
 no_line_wrong p rest h (Surplus es is some) = record { refuted = λ line more single eq fits. subst (λ q. Fits q line) is fits }
 
-pub no_line_open : (p : Place) (rest : List ℕ) → IsOneLine rest → NoLine p rest
+no_line_open : (p : Place) (rest : List ℕ) → IsOneLine rest → NoLine p rest
 no_line_open p rest one = record { refuted = λ line more single eq fits. lacks_none line_feed line more (subst (Lacks line_feed) eq one) }
 
 no_line_behind : (es : List Entry) (rest : List ℕ) → NoLine (Behind es) rest
@@ -172,7 +172,7 @@ behind_both es fs rest tail h i eq =
     (u.0, (split_unique line_feed first rest last tail (end_one_line (length es) h.short) (end_one_line (length fs) i.short) u.1).1)
 
 -- a text where no further line fits is left off at one place
-pub one_place : (p q : Place) (rest tail : List ℕ) → IsPlace p → IsPlace q → NoLine p rest → NoLine q tail
+one_place : (p q : Place) (rest tail : List ℕ) → IsPlace p → IsPlace q → NoLine p rest → NoLine q tail
     → before p ++ rest ≡ before q ++ tail → (p ≡ q) × (rest ≡ tail)
 one_place Start Start rest tail h i m n eq = (refl, eq)
 one_place Start (Within fs) rest tail h i m n eq = absurd (m.refuted head_line (entry_lines fs ++ tail) refl eq refl)

@@ -13,7 +13,7 @@ listed-items_of [] = refl
 listed-items_of (d ∷ ds) = ap (λ (xs : List Data). d ∷ xs) (listed-items_of ds)
 
 -- the members of an object, one after another
-pub listed_members-view : (ms : List (String Global × Value)) → listed_members (members_view ms) ≡ member_views ms
+listed_members-view : (ms : List (String Global × Value)) → listed_members (members_view ms) ≡ member_views ms
 listed_members-view [] = refl
 listed_members-view (m ∷ ms) = ap (λ (xs : List (List ℕ × Data)). (string_bytes m.0, view m.1) ∷ xs) (listed_members-view ms)
 

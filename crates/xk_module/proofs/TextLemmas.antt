@@ -23,7 +23,7 @@ pub is_named : (bytes : List ℕ) (d : Data) (m : ModuleValue) → IsText bytes 
 is_named bytes d m text e = (d, text, module_takes d m e)
 
 -- where the value names nothing, no module has the text
-pub not_named : (bytes : List ℕ) (d : Data) → IsText bytes d → module_at d ≡ None → (m : ModuleValue) → IsModuleText bytes m → ⊥
+not_named : (bytes : List ℕ) (d : Data) → IsText bytes d → module_at d ≡ None → (m : ModuleValue) → IsModuleText bytes m → ⊥
 not_named bytes d text e m q =
     let named : module_at d ≡ Some m = module_again d m (subst (λ (d : Data). Names d m) (one_value bytes q.0 d q.1 text) q.2) in
     absurd cc

@@ -59,7 +59,7 @@ mutual
       (besides_same a b same (words_used ms s)) (inside_same ms a b same s))
       (among_same ms (own_behind a s) (own_behind b s) (behind_both a b same s) ss)
 
-pub outer_same : (ms : Signatures) (a b : List (List ℕ)) → HasSame a b → (s : Statement) → outer_words ms a s ≡ outer_words ms b s
+outer_same : (ms : Signatures) (a b : List (List ℕ)) → HasSame a b → (s : Statement) → outer_words ms a s ≡ outer_words ms b s
 outer_same ms a b same s =
     append_both (words_besides a (words_used ms s)) (words_besides b (words_used ms s)) (outer_inside ms a s) (outer_inside ms b s)
     (besides_same a b same (words_used ms s)) (inside_same ms a b same s)

@@ -118,7 +118,7 @@ given_numbers sc ((param.Number, e) ∷ gs) right w h = elim (has_either (number
 given_numbers sc ((param.Clock, e) ∷ gs) right w h =
     given_numbers sc gs (λ u z. right u (has_right (argument_uses param.Clock e) (all_uses gs) u z)) w h
 
-pub used_numbers : (ms : Signatures) (sc : Scope) (s : Statement) → IsSound ms sc s → AreNumbers sc (words_used ms s)
+used_numbers : (ms : Signatures) (sc : Scope) (s : Statement) → IsSound ms sc s → AreNumbers sc (words_used ms s)
 used_numbers ms sc (Declare b x ty r) sound w h = source_numbers sc r sound.used w h
 used_numbers ms sc (Assign x e) sound w (inl i) =
     subst (λ (k : Word). IsNumberAt sc.names k.text) (sym i) (right_assigned sc x (sound.used (use_as want.Assigned x) (inl refl)))
@@ -149,7 +149,7 @@ one_of true b h = inl refl
 one_of false true h = inr refl
 one_of false false h = absurd cc
 
-pub from_besides : (own : List (List ℕ)) (ws : List Word) (w : Word) → Has (words_besides own ws) w → Has ws w × (has own w.text ≡ false)
+from_besides : (own : List (List ℕ)) (ws : List Word) (w : Word) → Has (words_besides own ws) w → Has ws w × (has own w.text ≡ false)
 from_besides own [] w h = absurd h
 from_besides own (v ∷ ws) w h = go (has own v.text) refl (from_besides own ws w) h
   where

@@ -91,7 +91,7 @@ mutual
   covered_at shared sc (Finish s) (Inside w) covered = covered_at shared sc s w covered
   covered_at shared sc _ _ covered = covered
 
-  pub covered_among : (shared : List (List ℕ)) (sc : Scope) (ss : Statements) (w : Way) → IsCovered shared sc → IsCovered shared (scope_among sc ss w)
+  covered_among : (shared : List (List ℕ)) (sc : Scope) (ss : Statements) (w : Way) → IsCovered shared sc → IsCovered shared (scope_among sc ss w)
   covered_among shared sc (More s ss) (First w) covered = covered_at shared sc s w covered
   covered_among shared sc (More s ss) (Later w) covered =
       let ds = behind (length sc.bodies) s in

@@ -79,7 +79,7 @@ mutual
   listed ms n sc (Finish s) (Inside w) t before u after st h = listed ms n sc s w t before u after st h
   listed ms n sc _ _ t before u after st h = absurd st
 
-  pub listed_among : (ms : Signatures) (n : ℕ) (sc : Scope) (ss : Statements) (w : Way) (t : Statement) (before : List Use) (u : Use) (after : List Use)
+  listed_among : (ms : Signatures) (n : ℕ) (sc : Scope) (ss : Statements) (w : Way) (t : Statement) (before : List Use) (u : Use) (after : List Use)
       → StandsAmong ss w t → Takes ms n (scope_among sc ss w) t before u after → Has (free_among ms n sc ss) u.name
   listed_among ms n sc (More s ss) (First w) t before u after st h =
       has_left (free_words ms n sc s) (free_among ms n (with_all sc (behind (length sc.bodies) s)) ss) u.name (listed ms n sc s w t before u after st h)

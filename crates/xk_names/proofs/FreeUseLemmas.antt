@@ -49,7 +49,7 @@ abbrev pub free_of : ℕ → Table Known → List Use → List Word
 free_of n names [] = []
 free_of n names (u ∷ us) = cond (is_outer n (find names u.name.text)) (u.name ∷ []) [] ++ free_of n names us
 
-pub free_append : (n : ℕ) (names : Table Known) (us vs : List Use) → free_of n names (us ++ vs) ≡ free_of n names us ++ free_of n names vs
+free_append : (n : ℕ) (names : Table Known) (us vs : List Use) → free_of n names (us ++ vs) ≡ free_of n names us ++ free_of n names vs
 free_append n names [] vs = refl
 free_append n names (u ∷ us) vs =
     let first : List Word = cond (is_outer n (find names u.name.text)) (u.name ∷ []) [] in

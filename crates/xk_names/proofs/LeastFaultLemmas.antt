@@ -8,10 +8,10 @@ use Rattle.xk_names.specs.Scope.{Has}
 use Rattle.xk_names.specs.Faults.{IsNoLater}
 use Rattle.xk_names.specs.FaultList.{is_reported_before, lesser, least}
 
-pub no_later_same : (f : FrontFault) → IsNoLater f f
+no_later_same : (f : FrontFault) → IsNoLater f f
 no_later_same f = inr (refl, omega arith)
 
-pub no_later_step : (f g h : FrontFault) → IsNoLater f g → IsNoLater g h → IsNoLater f h
+no_later_step : (f g h : FrontFault) → IsNoLater f g → IsNoLater g h → IsNoLater f h
 no_later_step f g h (inl a) (inl b) = inl (omega arith)
 no_later_step f g h (inl a) (inr b) = inl (omega (arith, b.0))
 no_later_step f g h (inr a) (inl b) = inl (omega (arith, a.0))
@@ -41,7 +41,7 @@ before_false f g h = go (nat_lt f.at g.at) refl (nat_eq f.at g.at) refl (nat_lt 
         apart l differ = elim (cases_lt g.at f.at) [ inl less ↦ less | inr more ↦ absurd (differ (omega arith)) ]
 
 -- what is kept of one more
-pub lesser_kept : (w : Option FrontFault) (f : FrontFault) → (r : FrontFault) × ((lesser w f ≡ Some r) × ((f ≡ r) ⊎ (w ≡ Some r)) × IsNoLater r f
+lesser_kept : (w : Option FrontFault) (f : FrontFault) → (r : FrontFault) × ((lesser w f ≡ Some r) × ((f ≡ r) ⊎ (w ≡ Some r)) × IsNoLater r f
     × ((g : FrontFault) → w ≡ Some g → IsNoLater r g))
 lesser_kept None f = (f, (refl, inl refl, no_later_same f, λ g e. absurd (none-some g e)))
 lesser_kept (Some g) f = go (is_reported_before f g) refl

@@ -12,7 +12,7 @@ put_all_append t [] es = refl
 put_all_append t (d ∷ ds) es = put_all_append (put t d.name.text d.known) ds es
 
 -- within
-pub loop_scope : (s a b : Scope) (i : Declaration) (k : Bound) → a ≡ with_declared s (i ∷ []) → b ≡ with_declared a (bound_declares (length a.bodies) k)
+loop_scope : (s a b : Scope) (i : Declaration) (k : Bound) → a ≡ with_declared s (i ∷ []) → b ≡ with_declared a (bound_declares (length a.bodies) k)
     → b ≡ with_declared s (i ∷ bound_declares (length s.bodies) k)
 loop_scope s a b i k e f = f ∙ ap (λ (z : Scope). with_declared z (bound_declares (length z.bodies) k)) e
 

@@ -55,7 +55,7 @@ agrees_behind a b ds same =
     subst (λ n. Agrees (with_declared a (ds (length a.bodies))) (with_all b (ds n))) same.depth (declared_agrees a b (ds (length a.bodies)) same)
 
 mutual
-  pub held : (ms ns : Signatures) (a b : Scope) (s : Statement) (f : FrontFault) → FindsSame ms ns → Agrees a b → Has (inside ms a s) f → Inward ns b s f
+  held : (ms ns : Signatures) (a b : Scope) (s : Statement) (f : FrontFault) → FindsSame ms ns → Agrees a b → Has (inside ms a s) f → Inward ns b s f
   held ms ns a b (Block ss) f one same h = let r = held_among ms ns a b ss f one same h in (Inside r.0, r.1)
   held ms ns a b (If at l c r s) f one same h = let q = or_here ms ns a b s f one same (λ z. held ms ns a b s f one same z) h in (Inside q.0, q.1)
   held ms ns a b (IfElse at l c r s u) f one same h = elim (has_either (faults ms a s) (faults ms a u) f h) [
@@ -87,7 +87,7 @@ mutual
 -- ---- what stands somewhere is in the list
 
 mutual
-  pub listed : (ms ns : Signatures) (a b : Scope) (s : Statement) (w : Way) (t : Statement) (f : FrontFault) → FindsSame ms ns → Agrees a b → Stands s w t
+  listed : (ms ns : Signatures) (a b : Scope) (s : Statement) (w : Way) (t : Statement) (f : FrontFault) → FindsSame ms ns → Agrees a b → Stands s w t
       → Breaks ns (scope_at b s w) t f → Has (faults ms a s) f
   listed ms ns a b s Here t f one same st br =
       has_left (own ms a s) (inside ms a s) f
@@ -147,7 +147,7 @@ stays_later sc (Block ss) w = stays sc
 stays_later sc _ w = stays sc
 
 mutual
-  pub at_once : (sc : Scope) (s : Statement) (w : Way) → scope_at sc s w ≡ scope_of (sc.names ++ entries (declared_at (length sc.bodies) s w)) (bodies_at sc.bodies s w)
+  at_once : (sc : Scope) (s : Statement) (w : Way) → scope_at sc s w ≡ scope_of (sc.names ++ entries (declared_at (length sc.bodies) s w)) (bodies_at sc.bodies s w)
   at_once sc s Here = stays_at sc s
   at_once sc s (First w) = stays_first sc s w
   at_once sc s (Later w) = stays_later sc s w

@@ -17,7 +17,7 @@ one_reported t w f is some =
     let listed : Has (name_faults t) f = elim kept.0 [ inl a ↦ a | inr e ↦ absurd (none-some f e) ] in
     record { there = inl (fault_there t f listed); first = λ g h. (fault_there t f listed, kept.1 g (fault_listed t g h)) }
 
-pub none_there : (t : TreeValue) (w : Option FrontFault) → w ≡ least None (name_faults t) → w ≡ None → (g : FrontFault) → HasNameFault t g → ⊥
+none_there : (t : TreeValue) (w : Option FrontFault) → w ≡ least None (name_faults t) → w ≡ None → (g : FrontFault) → HasNameFault t g → ⊥
 none_there t w is none g h = subst (λ k. Has k g) ((least_none None (name_faults t) (sym is ∙ none)).0) (fault_listed t g h)
 
 -- `main` is found where the tree has it

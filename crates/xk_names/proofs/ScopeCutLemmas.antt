@@ -18,14 +18,14 @@ put_grows names x k = go (is_some (find names x))
     go true = ([], sym (append-nil names))
     go false = ((x, k) ∷ [], refl)
 
-pub grows : (names : Table Known) (ds : List Declaration) → (more : Table Known) × (put_all names ds ≡ names ++ more)
+grows : (names : Table Known) (ds : List Declaration) → (more : Table Known) × (put_all names ds ≡ names ++ more)
 grows names [] = ([], sym (append-nil names))
 grows names (d ∷ ds) =
     let f = put_grows names d.name.text d.known in
     let g = grows (put names d.name.text d.known) ds in
     (f.0 ++ g.0, g.1 ∙ (ap (λ k. k ++ g.0) f.1 ∙ append_assoc names f.0 g.0))
 
-pub cut_names : (names : Table Known) (ds : List Declaration) (n : ℕ) → n ≡ length names → take n (put_all names ds) ≡ names
+cut_names : (names : Table Known) (ds : List Declaration) (n : ℕ) → n ≡ length names → take n (put_all names ds) ≡ names
 cut_names names ds n h = let g = grows names ds in ap (λ k. take k (put_all names ds)) h ∙ ap (take (length names)) g.1 ∙ take_front names g.0
 
 -- a scope with its names cut back

@@ -14,17 +14,14 @@ use Rattle.xk_names.specs.FaultList.{unless, when, known_use_faults, use_faults,
 use Rattle.xk_names.proofs.MembershipLemmas.{has_left, has_right, has_either, from_flat, to_flat, from_map, to_map}
 use Rattle.xk_names.proofs.TableAgreementLemmas.{HasSame, put_text_same, append_step}
 
-some_is : {A : Type 0} (x y : A) → Some x ≡ Some y → x ≡ y
-some_is x y e = cc
-
 -- ---- one test
 
-pub from_unless : (b : Bool) (r : FrontRule) (at : ℕ) (f : FrontFault) → Has (unless b r at) f → (b ≡ false) × (f ≡ fault r at)
+from_unless : (b : Bool) (r : FrontRule) (at : ℕ) (f : FrontFault) → Has (unless b r at) f → (b ≡ false) × (f ≡ fault r at)
 from_unless true r at f h = absurd h
 from_unless false r at f (inl e) = (refl, e)
 from_unless false r at f (inr h) = absurd h
 
-pub to_unless : (b : Bool) (r : FrontRule) (at : ℕ) (f : FrontFault) → b ≡ false → f ≡ fault r at → Has (unless b r at) f
+to_unless : (b : Bool) (r : FrontRule) (at : ℕ) (f : FrontFault) → b ≡ false → f ≡ fault r at → Has (unless b r at) f
 to_unless true r at f h e = cc
 to_unless false r at f h e = inl e
 
@@ -37,7 +34,7 @@ pub to_when : (b : Bool) (r : FrontRule) (at : ℕ) (f : FrontFault) → b ≡ t
 to_when false r at f h e = cc
 to_when true r at f h e = inl e
 
-pub some_of : {A : Type 0} (o : Option A) → is_some o ≡ true → (a : A) × (o ≡ Some a)
+some_of : {A : Type 0} (o : Option A) → is_some o ≡ true → (a : A) × (o ≡ Some a)
 some_of None h = cc
 some_of (Some a) h = (a, refl)
 

@@ -20,7 +20,7 @@ use Rattle.xk_names.proofs.TableAgreementLemmas.{or_entry, find_behind}
 abbrev pub shown : {A : Type 0} → List (Bor (List ℕ) × A) → Table A
 shown es = map (λ e. (e.0.now, e.1)) es
 
-pub append_shown : {A : Type 0} (es : List (Bor (List ℕ) × A)) (e : Bor (List ℕ) × A) → shown (es ++ e ∷ []) ≡ shown es ++ (e.0.now, e.1) ∷ []
+append_shown : {A : Type 0} (es : List (Bor (List ℕ) × A)) (e : Bor (List ℕ) × A) → shown (es ++ e ∷ []) ≡ shown es ++ (e.0.now, e.1) ∷ []
 append_shown [] e = refl
 append_shown {A} (d ∷ es) e = let first : List ℕ × A = (d.0.now, d.1) in ap (λ r. first ∷ r) (append_shown es e)
 
@@ -47,7 +47,7 @@ get_either {A} (x ∷ xs) y (suc i) e h = go (get_either xs y i e h)
 
 -- ---- where names stand
 
-pub placed_more : {A : Type 0} (t : Table A) (x : List ℕ) (a : A) (old new : BTreeMap (Bor (List ℕ)) ℕ) → ArePlaces t old → place old x ≡ None
+placed_more : {A : Type 0} (t : Table A) (x : List ℕ) (a : A) (old new : BTreeMap (Bor (List ℕ)) ℕ) → ArePlaces t old → place old x ≡ None
     → ((q : List ℕ) → place new q ≡ update is_text (place old) x (Some (length t)) q) → ArePlaces (t ++ (x, a) ∷ []) new
 placed_more {A} t x a old new is none has = record { each = λ i e h. each i e (get_either t (x, a) i e h); other = other }
   where
@@ -68,7 +68,7 @@ placed_more {A} t x a old new is none has = record { each = λ i e h. each i e (
     other : (q : List ℕ) → find (t ++ (x, a) ∷ []) q ≡ None → place new q ≡ None
     other q h = has q ∙ behind q (find t q) refl (is_text q x) refl (sym (find_behind t x a q) ∙ h)
 
-pub placed_less : {A : Type 0} (t : Table A) (x : List ℕ) (a : A) (old new : BTreeMap (Bor (List ℕ)) ℕ) → ArePlaces (t ++ (x, a) ∷ []) old
+placed_less : {A : Type 0} (t : Table A) (x : List ℕ) (a : A) (old new : BTreeMap (Bor (List ℕ)) ℕ) → ArePlaces (t ++ (x, a) ∷ []) old
     → ((q : List ℕ) → place new q ≡ update is_text (place old) x None q) → ArePlaces t new
 placed_less {A} t x a old new is has = record { each = λ i e h. has e.0 ∙ each i e h (is_text x e.0) refl; other = λ q h. has q ∙ other q (is_text x q) refl h }
   where
@@ -99,7 +99,7 @@ not_found {A} t places x is h = go (find t x) refl
     go None f = refl
     go (Some v) f = let p = there t places x v is f in absurd (none-some p.0 (sym h ∙ p.3))
 
-pub found : {A : Type 0} (t : Table A) (places : BTreeMap (Bor (List ℕ)) ℕ) (x : List ℕ) (i : ℕ) → ArePlaces t places → place places x ≡ Some i
+found : {A : Type 0} (t : Table A) (places : BTreeMap (Bor (List ℕ)) ℕ) (x : List ℕ) (i : ℕ) → ArePlaces t places → place places x ≡ Some i
     → (e : List ℕ × A) × (slice_get t i ≡ Some e) × (find t x ≡ Some e.1)
 found {A} t places x i is h = go (find t x) refl
   where
@@ -153,13 +153,6 @@ pub put_shown : {A : Type 0} (es more : List (Bor (List ℕ) × A)) (x : Bor (Li
 put_shown {A} es more x a places is none grown =
     let absent = not_found (shown es) places x.now is (is_none (place places x.now) none) in
     ap shown grown ∙ append_shown es (x, a) ∙ sym (ap (λ o. cond (is_some o) (shown es) (shown es ++ (x.now, a) ∷ [])) absent)
-
-pub put_present : {A : Type 0} (t : Table A) (x : List ℕ) (a : A) (places : BTreeMap (Bor (List ℕ)) ℕ) → ArePlaces t places → is_some (place places x) ≡ true → t ≡ put t x a
-put_present {A} t x a places is h = go (find t x) refl
-  where
-    go : (o : Option A) → find t x ≡ o → t ≡ cond (is_some o) t (t ++ (x, a) ∷ [])
-    go (Some v) f = refl
-    go None f = absurd (is_there (place places x) (is.other x f) h)
 
 pub pop_placed : {A : Type 0} (es less : List (Bor (List ℕ) × A)) (e : Bor (List ℕ) × A) (old new : BTreeMap (Bor (List ℕ)) ℕ)
     → ArePlaces (shown es) old → es ≡ less ++ e ∷ [] → Changes old new e.0.now None → ArePlaces (shown less) new

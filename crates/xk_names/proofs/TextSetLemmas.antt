@@ -10,7 +10,7 @@ use Rattle.xk_names.proofs.FreePlaceLemmas.{head_is, split, nothing_left}
 
 -- ---- elements, by the test
 
-pub is_in : (ts : List (List ℕ)) (x : List ℕ) → Has ts x → has ts x ≡ true
+is_in : (ts : List (List ℕ)) (x : List ℕ) → Has ts x → has ts x ≡ true
 is_in [] x h = absurd h
 is_in (t ∷ ts) x (inl e) = ap (λ b. b || has ts x) ((bytes_decides x t).1 e)
 is_in (t ∷ ts) x (inr h) = go (is_text x t) (is_in ts x h)
@@ -19,7 +19,7 @@ is_in (t ∷ ts) x (inr h) = go (is_text x t) (is_in ts x h)
     go true e = refl
     go false e = e
 
-pub in_by : (ts : List (List ℕ)) (x : List ℕ) → has ts x ≡ true → Has ts x
+in_by : (ts : List (List ℕ)) (x : List ℕ) → has ts x ≡ true → Has ts x
 in_by [] x h = absurd cc
 in_by (t ∷ ts) x h = go (is_text x t) refl (λ k. in_by ts x k) h
   where
@@ -27,7 +27,7 @@ in_by (t ∷ ts) x h = go (is_text x t) refl (λ k. in_by ts x k) h
     go true e later k = inl ((bytes_decides x t).0 e)
     go false e later k = inr (later k)
 
-pub to_texts : (ws : List Word) (w : Word) → Has ws w → Has (texts ws) w.text
+to_texts : (ws : List Word) (w : Word) → Has ws w → Has (texts ws) w.text
 to_texts [] w h = absurd h
 to_texts (v ∷ ws) w (inl e) = inl (ap (λ (k : Word). k.text) e)
 to_texts (v ∷ ws) w (inr h) = inr (to_texts ws w h)

@@ -8,11 +8,6 @@ use Rattle.std.proofs.lemmas.List.{append-nil, take-append-drop}
 use Rattle.std.proofs.lemmas.Grind.{flat_map-append}
 use Rattle.xk_output.specs.Lines.{number_lines}
 
--- nothing was written
-pub appends_none : (a : Option (List ℕ)) → Appends a a []
-appends_none None = tt
-appends_none (Some xs) = sym (append-nil xs)
-
 -- the lines of the first numbers, and those of some behind them
 pub lines_then : (d n : ℕ) (ns : List ℤ) → d ≤ n → number_lines (take d ns) ++ number_lines (take (n - d) (drop d ns)) ≡ number_lines (take n ns)
 lines_then d n ns h =

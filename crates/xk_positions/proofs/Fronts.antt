@@ -4,7 +4,7 @@ use Rattle.std.proofs.lemmas.Bool.{cond_both, cond-true}
 use Rattle.xk_positions.specs.Lines.{ends_line, first_line}
 
 -- the first line is at the front
-pub first_line_front : (text : List ℕ) → first_line text ≡ take (length (first_line text)) text
+first_line_front : (text : List ℕ) → first_line text ≡ take (length (first_line text)) text
 first_line_front [] = refl
 first_line_front (b ∷ bs) =
     cond_both (ends_line (b ∷ bs)) [] (b ∷ first_line bs) (λ l. l ≡ take (length l) (b ∷ bs)) (λ yes. refl)

@@ -46,7 +46,7 @@ signs_step (b ∷ bs) first rest n some is h f r =
     all ∙ ap (λ l. take n (b ∷ bs) ∷ l) (behind_first b bs n h ∙ ap (signs_behind 0) (sym r)) ∙ ap (λ l. l ∷ signs_behind 0 rest) (sym f)
 
 -- no more signs than bytes
-pub signs_behind_short : (k : ℕ) (text : List ℕ) → length (signs_behind k text) ≤ length text
+signs_behind_short : (k : ℕ) (text : List ℕ) → length (signs_behind k text) ≤ length text
 signs_behind_short k [] = omega arith
 signs_behind_short zero (b ∷ bs) = let rest = signs_behind_short (sign_len (b ∷ bs) - 1) bs in omega (arith, rest)
 signs_behind_short (suc k) (b ∷ bs) = let rest = signs_behind_short k bs in omega (arith, rest)
@@ -96,7 +96,7 @@ take_suc (suc k) (y ∷ ys) x rest e = ap (λ l. y ∷ l) (take_suc k ys x rest 
 pub drop_next : {X : Type 0} (k : ℕ) (xs : List X) (x : X) (rest : List X) → x ∷ rest ≡ drop k xs → rest ≡ drop (k + 1) xs
 drop_next k xs x rest e = subst (λ n. rest ≡ drop n xs) (let n : suc k ≡ k + 1 = omega arith in n) (drop_suc k xs x rest e)
 
-pub take_next : {X : Type 0} (k : ℕ) (xs : List X) (x : X) (rest : List X) → x ∷ rest ≡ drop k xs → take (k + 1) xs ≡ take k xs ++ x ∷ []
+take_next : {X : Type 0} (k : ℕ) (xs : List X) (x : X) (rest : List X) → x ∷ rest ≡ drop k xs → take (k + 1) xs ≡ take k xs ++ x ∷ []
 take_next k xs x rest e = subst (λ n. take n xs ≡ take k xs ++ x ∷ []) (let n : suc k ≡ k + 1 = omega arith in n) (take_suc k xs x rest e)
 
 pub drop_none : {X : Type 0} (k n : ℕ) (xs : List X) → [] ≡ drop k xs → k ≤ n → [] ≡ drop n xs
@@ -118,17 +118,17 @@ take_none (suc k) (suc n) (y ∷ ys) e h = ap (λ l. y ∷ l) (take_none k n ys 
 -- ---- the last ones of a list, and the first ones
 
 -- not more than n are left
-pub last_ones : {X : Type 0} (n : ℕ) (xs : List X) → take n (drop (length xs - n) xs) ≡ drop (length xs - n) xs
+last_ones : {X : Type 0} (n : ℕ) (xs : List X) → take n (drop (length xs - n) xs) ≡ drop (length xs - n) xs
 last_ones n xs = let left = length-drop (length xs - n) xs in take_all n (drop (length xs - n) xs) (omega (arith, left))
 
-pub take_up_to : {X : Type 0} (n : ℕ) (xs : List X) → take (min (length xs) n) xs ≡ take n xs
+take_up_to : {X : Type 0} (n : ℕ) (xs : List X) → take (min (length xs) n) xs ≡ take n xs
 take_up_to zero xs = let none : min (length xs) 0 ≡ 0 = omega arith in ap (λ k. take k xs) none
 take_up_to (suc n) [] = let none : min 0 (suc n) ≡ 0 = omega arith in ap (λ k. take k []) none
 take_up_to (suc n) (x ∷ xs) =
     let one : min (suc (length xs)) (suc n) ≡ suc (min (length xs) n) = omega arith in
     ap (λ k. take k (x ∷ xs)) one ∙ ap (λ l. x ∷ l) (take_up_to n xs)
 
-pub drop_up_to : {X : Type 0} (n : ℕ) (xs : List X) → drop (min (length xs) n) xs ≡ drop n xs
+drop_up_to : {X : Type 0} (n : ℕ) (xs : List X) → drop (min (length xs) n) xs ≡ drop n xs
 drop_up_to zero xs = let none : min (length xs) 0 ≡ 0 = omega arith in ap (λ k. drop k xs) none
 drop_up_to (suc n) [] = let none : min 0 (suc n) ≡ 0 = omega arith in ap (λ k. drop k []) none
 drop_up_to (suc n) (x ∷ xs) =

@@ -41,7 +41,7 @@ rising at (b ∷ bs) d i j h =
     (λ yes. rising_next (at + 1) d rest (λ k. above (at + 1) bs k d) (rising (at + 1) bs d) i j h)
     (λ no. rising (at + 1) bs d i j h)
 
-pub starts_rise : (text : List ℕ) → IsNonDecreasingBy (λ x. x) (line_starts text)
+starts_rise : (text : List ℕ) → IsNonDecreasingBy (λ x. x) (line_starts text)
 starts_rise text = λ i j d h l. rising_next 0 d (later_starts 0 text) (λ k. above 0 text k d) (rising 0 text d) i j h l
 
 -- ---- the last beginning up to a place

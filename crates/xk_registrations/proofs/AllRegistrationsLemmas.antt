@@ -29,7 +29,7 @@ held_item [] a x h is = absurd (omega arith)
 held_item (r ∷ rs) zero x h is = ap (λ (y : RegistrationsValue). y.list) (sym is)
 held_item (r ∷ rs) (suc a) x h is = held_item rs a x (omega arith) is
 
-pub lists_set : (rs : List RegistrationsValue) (a : ℕ) (y : RegistrationsValue) → lists (set rs a y) ≡ set (lists rs) a y.list
+lists_set : (rs : List RegistrationsValue) (a : ℕ) (y : RegistrationsValue) → lists (set rs a y) ≡ set (lists rs) a y.list
 lists_set rs a y = map-set (λ (r : RegistrationsValue). r.list) rs a y
 
 pub length-lists : (rs : List RegistrationsValue) → length (lists rs) ≡ length rs
@@ -59,7 +59,7 @@ each_at P [] k x all h = absurd (none-some x h)
 each_at P (y ∷ xs) zero x all h = subst P (same_Some y x h) (all 0 y (omega arith))
 each_at P (y ∷ xs) (suc k) x all h = each_at P xs k x (λ j d lt. all (suc j) d (omega arith)) h
 
-pub phases_left : (ls : List ℕ) (acts : List (List Registration)) (cs : List CountValue) → All (λ c. c.phase + 1 < 2 ^ 64) (told ls acts cs) → HavePhasesLeft cs
+phases_left : (ls : List ℕ) (acts : List (List Registration)) (cs : List CountValue) → All (λ c. c.phase + 1 < 2 ^ 64) (told ls acts cs) → HavePhasesLeft cs
 phases_left ls acts cs all k c at =
     each_at (λ c. c.phase + 1 < 2 ^ 64) (told ls acts cs) k (told_clock (λ j. slice_index_or ls j 0) acts k c) all
     (told_by_at (told_clock (λ j. slice_index_or ls j 0) acts) cs k c at)
@@ -67,7 +67,7 @@ phases_left ls acts cs all k c at =
 -- ---- one activity's registrations become others
 
 -- what a step tells of clocks and registrations, it tells of those that are kept in a list
-pub kept_as : (clocks : List Clock) (v w : ClocksValue) (acts : List (List Registration)) (rs : List RegistrationsValue) → v ≡ w → lists rs ≡ acts
+kept_as : (clocks : List Clock) (v w : ClocksValue) (acts : List (List Registration)) (rs : List RegistrationsValue) → v ≡ w → lists rs ≡ acts
     → AreToldAs clocks w acts → AreToldAs clocks v (lists rs)
 kept_as clocks v w acts rs e f h = rw (e, f) h
 

@@ -120,7 +120,7 @@ tally_most test (s ∷ ss) = go (test s) (tally_most test ss)
     go true h = omega (arith, h)
     go false h = omega (arith, h)
 
-pub given_from : (given : ℕ → Bool) (old new : List Registration) (k : ℕ) (r : Registration) → IsGiven given old new → reg_on new k ≡ Some r → reg_on old k ≡ Some r
+given_from : (given : ℕ → Bool) (old new : List Registration) (k : ℕ) (r : Registration) → IsGiven given old new → reg_on new k ≡ Some r → reg_on old k ≡ Some r
 given_from given old new k r is at = go (given k) (sym (is k) ∙ at)
   where
     go : (b : Bool) → cond b (reg_on old k) None ≡ Some r → reg_on old k ≡ Some r

@@ -10,7 +10,7 @@ use Rattle.xk_registrations.specs.RegistrationChanges.{ClocksValue, is_open, reg
 
 -- ---- the first one, then the others
 
-pub calls_more : (now : ℕ) (f : Registration → CountValue → CountValue) (t : Registration → Bool) (x : Registration) (rest : List Registration) (v : ClocksValue)
+calls_more : (now : ℕ) (f : Registration → CountValue → CountValue) (t : Registration → Bool) (x : Registration) (rest : List Registration) (v : ClocksValue)
     → calls now f (regs_where t (x ∷ rest)) v ≡ calls now f (regs_where t rest) (calls now f (regs_where t (x ∷ [])) v)
 calls_more now f t x rest v = go (t x)
   where
@@ -18,7 +18,7 @@ calls_more now f t x rest v = go (t x)
     go true = refl
     go false = refl
 
-pub allowed_more : (owes : Registration → CountValue → Type 0) (f : Registration → CountValue → CountValue) (t : Registration → Bool) (x : Registration) (rest : List Registration) (cs : List CountValue)
+allowed_more : (owes : Registration → CountValue → Type 0) (f : Registration → CountValue → CountValue) (t : Registration → Bool) (x : Registration) (rest : List Registration) (cs : List CountValue)
     → AreAllowedInTurn owes f (regs_where t (x ∷ rest)) cs
     → AreAllowedInTurn owes f (regs_where t (x ∷ [])) cs × AreAllowedInTurn owes f (regs_where t rest) (called f (regs_where t (x ∷ [])) cs)
 allowed_more owes f t x rest cs = go (t x)
@@ -30,7 +30,7 @@ allowed_more owes f t x rest cs = go (t x)
 
 -- ---- a call for one leaves the other clocks
 
-pub count_other : (f : Registration → CountValue → CountValue) (r : Registration) (cs : List CountValue) (k : ℕ) → (k ≡ r.clock → ⊥) → count_at (called f (r ∷ []) cs) k ≡ count_at cs k
+count_other : (f : Registration → CountValue → CountValue) (r : Registration) (cs : List CountValue) (k : ℕ) → (k ≡ r.clock → ⊥) → count_at (called f (r ∷ []) cs) k ≡ count_at cs k
 count_other f r cs k other = get_or-set_other cs r.clock k (count_settled (f r (count_at cs r.clock))) _ other
 
 -- so each call may be made in its turn, where each might be made first

@@ -40,7 +40,7 @@ reg_one (Some r) c k on = ap (λ n. cond (n == k) (Some r) None) (on r refl)
 
 -- ---- one value more
 
-pub taken_given : (from rs : List Registration) (before : ℕ → Bool) (v : Value) → IsGiven before from rs → IsGiven (λ k. before k || names_clock k v) from (with_taken from v rs)
+taken_given : (from rs : List Registration) (before : ℕ → Bool) (v : Value) → IsGiven before from rs → IsGiven (λ k. before k || names_clock k v) from (with_taken from v rs)
 taken_given from rs before value.Unset is k = is k ∙ nothing (before k)
   where
     nothing : (b : Bool) → cond b (reg_on from k) None ≡ cond (b || false) (reg_on from k) None

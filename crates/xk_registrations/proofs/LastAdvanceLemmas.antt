@@ -49,7 +49,7 @@ noted_none ls newest step all lt =
     ∙ none_pass (numbers_from 0 (length ls))
 
 -- a clock advances
-pub noted_set : (ls : List ℕ) (c now step : ℕ) → c < length ls → noted_in (set ls c now) step ≡ with_member c (now == step) (noted_in ls step)
+noted_set : (ls : List ℕ) (c now step : ℕ) → c < length ls → noted_in (set ls c now) step ≡ with_member c (now == step) (noted_in ls step)
 noted_set ls c now step lt =
     ap (λ n. filter (is_noted (set ls c now) step) (numbers_from 0 n)) (length-set ls c now)
     ∙ member_changed (is_noted ls step) (is_noted (set ls c now) step) (length ls) c lt (λ k below ne. ap (λ x. x == step) (get_or-set_other ls c k now 0 ne))
@@ -60,7 +60,7 @@ zero_first zero = refl
 zero_first (suc n) = ne_eqb 0 (suc n) (λ e. omega (arith, e)) ∙ sym (ne_eqb (suc n) 0 (λ e. omega (arith, e)))
 
 -- a clock is made
-pub noted_push : (ls : List ℕ) (step : ℕ) → noted_in (ls ++ 0 ∷ []) step ≡ with_member (length ls) (step == 0) (noted_in ls step)
+noted_push : (ls : List ℕ) (step : ℕ) → noted_in (ls ++ 0 ∷ []) step ≡ with_member (length ls) (step == 0) (noted_in ls step)
 noted_push ls step =
     ap (λ n. filter (is_noted (ls ++ 0 ∷ []) step) (numbers_from 0 n)) (length-append ls (0 ∷ []) ∙ add-one (length ls))
     ∙ member_added (is_noted ls step) (is_noted (ls ++ 0 ∷ []) step) (length ls) (λ k lt. ap (λ x. x == step) (get_or_append_left ls (0 ∷ []) 0 k lt))

@@ -48,7 +48,7 @@ each_push P (d ∷ cs) new all here zero c h = all zero c h
 each_push P (d ∷ cs) new all here (suc k) c h = each_push (λ j. P (suc j)) cs new (λ j. all (suc j)) here k c h
 
 -- with room for one more
-pub kept_more : (ls : List ℕ) (acts : List (List Registration)) (cs : List CountValue) → IsKept ls acts cs → IsKept (ls ++ 0 ∷ []) acts (cs ++ no_count ∷ [])
+kept_more : (ls : List ℕ) (acts : List (List Registration)) (cs : List CountValue) → IsKept ls acts cs → IsKept (ls ++ 0 ∷ []) acts (cs ++ no_count ∷ [])
 kept_more ls acts cs kept = record {
   fit = each_push (IsFit acts) cs no_count kept.fit (fit_none acts (length cs) (λ a. (kept.sound a).exist (length cs) (omega arith)));
   lasts = omega (arith, length-append ls (0 ∷ []), length-append cs (no_count ∷ []), kept.lasts);

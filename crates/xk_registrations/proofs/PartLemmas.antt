@@ -102,7 +102,7 @@ started_of now a given v v' items items' places room t x same kept is distinct c
 
 -- ---- room
 
-pub rooms_set : (items : List RegistrationsValue) (a : ℕ) (x y : RegistrationsValue) → x ≡ get_or items a x → y.room ≡ x.room → a < length items → rooms (set items a y) ≡ rooms items
+rooms_set : (items : List RegistrationsValue) (a : ℕ) (x y : RegistrationsValue) → x ≡ get_or items a x → y.room ≡ x.room → a < length items → rooms (set items a y) ≡ rooms items
 rooms_set [] a x y is same h = refl
 rooms_set (r ∷ items) zero x y is same h = ap (λ n. n ∷ rooms items) (same ∙ ap (λ (z : RegistrationsValue). z.room) is)
 rooms_set (r ∷ items) (suc a) x y is same h = ap (λ l. r.room ∷ l) (rooms_set items a x y is same (omega arith))

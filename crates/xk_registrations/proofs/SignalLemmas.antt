@@ -162,7 +162,7 @@ held_in ls acts cs a r kept is =
 
 -- ---- each is on a clock that exists
 
-pub all_exist : (n : ℕ) (rs : List Registration) → AreSound n rs → All (λ r. r.clock < n) rs
+all_exist : (n : ℕ) (rs : List Registration) → AreSound n rs → All (λ r. r.clock < n) rs
 all_exist n rs sound i d h = below (get_or rs i d).clock n (λ past. listed rs i d h (sound.exist (get_or rs i d).clock past))
   where
     below : (k n : ℕ) → (n ≤ k → ⊥) → k < n

@@ -20,7 +20,7 @@ row_at (rs ∷ acts) k p zero = refl
 row_at (rs ∷ acts) k p (suc a) = row_at acts k p a
 
 -- the row once the clock has advanced
-pub row_advanced : (acts : List (List Registration)) (k p q : ℕ) → p < q → ((a : ℕ) → WillAdvance (held acts a) k p) → row acts k q ≡ map advanced (row acts k p)
+row_advanced : (acts : List (List Registration)) (k p q : ℕ) → p < q → ((a : ℕ) → WillAdvance (held acts a) k p) → row acts k q ≡ map advanced (row acts k p)
 row_advanced [] k p q h ahead = refl
 row_advanced (rs ∷ acts) k p q h ahead = rw (ahead 0 q h, row_advanced acts k p q h (λ a. ahead (suc a))) refl
 
@@ -31,7 +31,7 @@ advanced_twice standing.Open = refl
 advanced_twice standing.Signalled = refl
 advanced_twice standing.Ahead = refl
 
-pub will_still : (rs : List Registration) (k p q : ℕ) → p < q → WillAdvance rs k p → WillAdvance rs k q
+will_still : (rs : List Registration) (k p q : ℕ) → p < q → WillAdvance rs k p → WillAdvance rs k q
 will_still rs k p q h ahead r g = ahead r (omega arith) ∙ sym (advanced_twice (stands rs k p)) ∙ ap advanced (sym (ahead q h))
 
 -- ---- the end of a step
@@ -42,7 +42,7 @@ unready_after zero = refl
 unready_after (suc r) = rw (suc_zero r) refl
 
 -- the view of a settled clock is the settled view
-pub told_settled : (acts : List (List Registration)) (k : ℕ) (c : CountValue) (now : ℕ) (last after : ℕ → ℕ) → IsNear acts k c → after k ≡ last_settled now c (last k)
+told_settled : (acts : List (List Registration)) (k : ℕ) (c : CountValue) (now : ℕ) (last after : ℕ → ℕ) → IsNear acts k c → after k ≡ last_settled now c (last k)
     → (told_clock after acts k (count_settled c) ≡ settled_clock now (told_clock last acts k c)) × IsFit acts k (count_settled c)
 told_settled acts k c now last after near step = go (is_ready_count c) refl
   where
@@ -119,7 +119,7 @@ told_by_moved now a h f g change [] each = refl
 told_by_moved now a h f g change (c ∷ cs) each =
     rw (each 0 c refl, told_by_moved now a (λ k. h (suc k)) (λ k. f (suc k)) (λ k. g (suc k)) (λ k. change (suc k)) cs (λ k. each (suc k))) refl
 
-pub each_changed : (P : ℕ → CountValue → Type 0) (change : ℕ → CountValue → CountValue) (cs : List CountValue)
+each_changed : (P : ℕ → CountValue → Type 0) (change : ℕ → CountValue → CountValue) (cs : List CountValue)
     → ((k : ℕ) (c : CountValue) → slice_get cs k ≡ Some c → P k (change k c))
     → (k : ℕ) (c : CountValue) → slice_get (changed_by change cs) k ≡ Some c → P k c
 each_changed P change [] each k c h = absurd (none-some c h)

@@ -12,7 +12,7 @@ use Rattle.xk_registrations.specs.View.{Registration, standing_at, stands, WillA
 use Rattle.xk_registrations.specs.RegistrationChanges.{marked, mark_resumed, regs_resumed, regs_passed, regs_on, regs_where, regs_open, is_open, call_resume, call_drop}
 
 -- where an activity stands that marks its registrations anew
-pub stands_marked : (f : ℕ → Option ℕ → Option ℕ) (h : Standing → Standing) (rs : List Registration) (k p : ℕ) → h standing.Apart ≡ standing.Apart
+stands_marked : (f : ℕ → Option ℕ → Option ℕ) (h : Standing → Standing) (rs : List Registration) (k p : ℕ) → h standing.Apart ≡ standing.Apart
     → ((m : Option ℕ) → stands rs k p ≡ standing_at p m → standing_at p (f k m) ≡ h (standing_at p m))
     → stands (marked f rs) k p ≡ h (stands rs k p)
 stands_marked f h [] k p apart each = sym apart
@@ -29,7 +29,7 @@ stands_marked f h (r ∷ rs) k p apart each = go (r.clock == k) refl each (stand
 abbrev pub WillBe : Option ℕ → ℕ → Type 0
 WillBe m p = (q : ℕ) → p < q → standing_at q m ≡ advanced (standing_at p m)
 
-pub ahead_marked : (f : ℕ → Option ℕ → Option ℕ) (rs : List Registration) (k p : ℕ) → ((m : Option ℕ) → WillBe m p → WillBe (f k m) p)
+ahead_marked : (f : ℕ → Option ℕ → Option ℕ) (rs : List Registration) (k p : ℕ) → ((m : Option ℕ) → WillBe m p → WillBe (f k m) p)
     → WillAdvance rs k p → WillAdvance (marked f rs) k p
 ahead_marked f [] k p each ahead = ahead
 ahead_marked f (r ∷ rs) k p each ahead = go (r.clock == k) refl ahead (ahead_marked f rs k p each)

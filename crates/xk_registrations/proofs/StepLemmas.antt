@@ -16,7 +16,7 @@ use Rattle.std.proofs.lemmas.Bool.{or_parts}
 use Rattle.xk_registrations.proofs.StandingLemmas.{stands_resumed, ahead_resumed, resumed_on, resume_between, left_on, leave_between, distinct_where, distinct_marked, reg_where, reg_marked, if_passes, stands_left, ahead_left, stands_passed, ahead_passed, count_same, same_numbers}
 
 -- a clock that isn't ready is settled
-pub settled_kept : (c : CountValue) → is_ready_count c ≡ false → count_settled c ≡ c
+settled_kept : (c : CountValue) → is_ready_count c ≡ false → count_settled c ≡ c
 settled_kept c e = rw e refl
 
 -- What a step owes on each clock: the registrations read as the definitions change them, will read rightly, and the calls change the counters by what
@@ -78,10 +78,10 @@ step_told now a h f calls new ls acts cs kept inside distinct sound works = (
 
 -- ---- what is left among n clocks
 
-pub sound_marked : (n : ℕ) (f : ℕ → Option ℕ → Option ℕ) (rs : List Registration) → AreSound n rs → AreSound n (marked f rs)
+sound_marked : (n : ℕ) (f : ℕ → Option ℕ → Option ℕ) (rs : List Registration) → AreSound n rs → AreSound n (marked f rs)
 sound_marked n f rs s = record { distinct = distinct_marked f rs s.distinct; exist = λ k h. reg_marked f rs k (s.exist k h) }
 
-pub sound_where : (n : ℕ) (test : Registration → Bool) (rs : List Registration) → AreSound n rs → AreSound n (regs_where test rs)
+sound_where : (n : ℕ) (test : Registration → Bool) (rs : List Registration) → AreSound n rs → AreSound n (regs_where test rs)
 sound_where n test rs s = record {
   distinct = distinct_where test rs s.distinct;
   exist = λ k h. reg_where test rs k s.distinct ∙ ap (if_passes test) (s.exist k h);

@@ -24,7 +24,7 @@ schedule_first : (e : Entry) (es : List Entry) → schedule_of (e ∷ es) ≡ re
 schedule_first e es = flat_map-cons (λ (x : Entry). replicate x.steps x.act) e es
 
 -- each entry has a step
-pub entries_few : (es : List Entry) → length es ≤ length (schedule_of es)
+entries_few : (es : List Entry) → length es ≤ length (schedule_of es)
 entries_few [] = omega arith
 entries_few (e ∷ es) =
     let later = entries_few es in

@@ -114,7 +114,7 @@ module _ (u : UnitValue) (nested : AreNested u) where
       around_both a b f at_b.has (omega (arith, at_a.first, at_b.first)) at_b.on
       (λ h has_h on_h. let le = at_a.last h has_h on_h in omega (arith, at_b.first)) g has on
 
-  pub same_innermost : (a b : ℕ) → innermost (block_at u a) ≡ innermost (block_at u b) → block_at u a ≡ block_at u b
+  same_innermost : (a b : ℕ) → innermost (block_at u a) ≡ innermost (block_at u b) → block_at u a ≡ block_at u b
   same_innermost a b e = go (innermost (block_at u a)) refl (sym e)
     where
       go : (o : Option ℕ) → innermost (block_at u a) ≡ o → innermost (block_at u b) ≡ innermost (block_at u a) → block_at u a ≡ block_at u b

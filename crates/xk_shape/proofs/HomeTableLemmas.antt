@@ -126,7 +126,7 @@ module _ (u : UnitValue) where
       both_ways (list_any test (made_from u s 0 (take k u.code))) none
       (made_some u s test 0 (take k u.code) p (take_get k u.code p lt ∙ at_p) (ap (λ n. test (block_at u n)) same ∙ on)))))
 
-  pub first_alike : (s p k : ℕ) → position (makes s) u.code ≡ Some p → Makes s u.code k → breaks_home u k ≡ false → block_at u k ≡ block_at u p
+  first_alike : (s p k : ℕ) → position (makes s) u.code ≡ Some p → Makes s u.code k → breaks_home u k ≡ false → block_at u k ≡ block_at u p
   first_alike s p k found made unbroken =
       let first = first_made s u.code p found in
       elim (cases_order k p) [

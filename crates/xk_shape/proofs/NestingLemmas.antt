@@ -81,7 +81,7 @@ ended_is u at b (Some i) s found h = go (span_begun u b i) refl h
         let same : l ≡ span b at = λ j. record { first = first j; last = last j } in
         subst (Has (spans u)) same (has_span u b i l found e)
 
-pub ended_span : (u : UnitValue) (at b : ℕ) → Has (spans u) (span b at) → span_ended u at b (slice_get u.code b) ≡ Some (span b at)
+ended_span : (u : UnitValue) (at b : ℕ) → Has (spans u) (span b at) → span_ended u at b (slice_get u.code b) ≡ Some (span b at)
 ended_span u at b has =
     let is = is_span u (span b at) has in
     ap (span_ended u at b) is.begins
@@ -142,13 +142,6 @@ module _ (u : UnitValue) (nested : AreNested u) where
       let test = begin_test u f.first f.last is.begin is.ahead in
       let alone : is_amiss u (Some f) ≡ false = ap (is_amiss u) (sym is.begun) ∙ sym test.1 ∙ nested.paired f.first is.begin is.begins test.0 in
       none_has (overlaps f) (spans u) g alone has_g
-
-  -- and each ends behind its beginning
-  pub nested_ahead : (f : Span) → Has (spans u) f → f.first < f.last
-  nested_ahead f has =
-      let is = is_span u f has in
-      let test = begin_test u f.first f.last is.begin is.ahead in
-      ltb-true f.first f.last (and_parts (nat_lt f.first f.last) (nat_lt f.last (length u.code)) (sym test.2 ∙ nested.aimed f.first is.begin is.begins test.0)).0
 
 -- ---- all of the code
 

@@ -65,7 +65,7 @@ module _ (u : UnitValue) where
       (λ l has. ap (λ t. t && counts_by s l) (same (span_of l) (loop_span u l has)))
 
   -- a place round which the same lie as round another lies as that one
-  pub lies_as : (a b : ℕ) (p : Place) → AreRoundBoth u a b → LiesSo u b p → LiesSo u a p
+  lies_as : (a b : ℕ) (p : Place) → AreRoundBoth u a b → LiesSo u b p → LiesSo u a p
   lies_as a b p same so = record {
     within = within_same a b p.within same so.within;
     finish = so.finish ∙ ap innermost (sym (block_same a b same));
@@ -157,15 +157,15 @@ module _ (u : UnitValue) where
   lies_next : (at : ℕ) (p : Place) → LiesSo u (suc at) p → LiesSo u (at + 1) p
   lies_next at p so = subst (λ n. LiesSo u n p) (next_is at) so
 
-  pub place_stays : (at : ℕ) (i : Instr) (p : Place) → slice_get u.code at ≡ Some i → end_named i ≡ None → begin_named i ≡ None → LiesSo u at p → LiesSo u (at + 1) p
+  place_stays : (at : ℕ) (i : Instr) (p : Place) → slice_get u.code at ≡ Some i → end_named i ≡ None → begin_named i ≡ None → LiesSo u at p → LiesSo u (at + 1) p
   place_stays at i p here no_e no_b so = lies_next at p (lies_as (suc at) at p (stays at i here no_e no_b) so)
 
-  pub place_leaves : (at b : ℕ) (i : Instr) (p : Place) → slice_get u.code at ≡ Some i → begin_named i ≡ Some b → AreNestedBelow u at → b < at → Has (spans u) (span b at)
+  place_leaves : (at b : ℕ) (i : Instr) (p : Place) → slice_get u.code at ≡ Some i → begin_named i ≡ Some b → AreNestedBelow u at → b < at → Has (spans u) (span b at)
       → IsInNoneBehind u at b
       → LiesSo u b p → LiesSo u (at + 1) p
   place_leaves at b i p here names below before has none so = lies_next at p (lies_as (suc at) b p (leaves at b i here names below before has none) so)
 
-  pub place_loops : (at e : ℕ) (i : Instr) (own : Loop) (p q : Place) → slice_get u.code at ≡ Some i → loop_head at i ≡ Some own → end_named i ≡ Some e → at < e
+  place_loops : (at e : ℕ) (i : Instr) (own : Loop) (p q : Place) → slice_get u.code at ≡ Some i → loop_head at i ≡ Some own → end_named i ≡ Some e → at < e
       → span_begun u at i ≡ Some (span at e) → LiesSo u at p
       → q.within ≡ Some at → q.finish ≡ p.finish → q.depth ≡ p.depth → ((s : ℕ) → s < 64 → has_slot q.counters s ≡ (counts_by s own || has_slot p.counters s))
       → LiesSo u (at + 1) q
@@ -184,7 +184,7 @@ module _ (u : UnitValue) where
         counters = λ s lt. counters s lt ∙ ap (λ b. counts_by s own || b) (so.counters s lt) ∙ sym (counter_loop at e i own here head names has_own (head_first at i own head) ahead s);
       })
 
-  pub place_finishes : (at e : ℕ) (p q : Place) → slice_get u.code at ≡ Some (instr.Finish e) → at < e → span_begun u at (instr.Finish e) ≡ Some (span at e) → LiesSo u at p
+  place_finishes : (at e : ℕ) (p q : Place) → slice_get u.code at ≡ Some (instr.Finish e) → at < e → span_begun u at (instr.Finish e) ≡ Some (span at e) → LiesSo u at p
       → q.within ≡ Some at → q.finish ≡ Some at → q.depth ≡ p.depth + 1 → q.counters ≡ p.counters
       → LiesSo u (at + 1) q
   place_finishes at e p q here ahead begun so within finish depth counters =
@@ -222,19 +222,19 @@ module _ (u : UnitValue) where
     ];
   }
 
-  pub below_begins : (at e : ℕ) (i : Instr) → slice_get u.code at ≡ Some i → end_named i ≡ Some e → AreNestedBelow u at → at < e → span_begun u at i ≡ Some (span at e)
+  below_begins : (at e : ℕ) (i : Instr) → slice_get u.code at ≡ Some i → end_named i ≡ Some e → AreNestedBelow u at → at < e → span_begun u at i ≡ Some (span at e)
       → AreNestedBelow u (at + 1)
   below_begins at e i here names below ahead begun = below_more at i here below
       (λ x named. subst (λ n. (at < n) × (span_begun u at i ≡ Some (span at n))) (same_Some e x (sym names ∙ named)) (ahead, begun))
       (λ b named. absurd (none-some b (sym (ends_none i e names) ∙ named)))
 
-  pub below_ends : (at b : ℕ) (i : Instr) → slice_get u.code at ≡ Some i → begin_named i ≡ Some b → AreNestedBelow u at → b < at → Has (spans u) (span b at)
+  below_ends : (at b : ℕ) (i : Instr) → slice_get u.code at ≡ Some i → begin_named i ≡ Some b → AreNestedBelow u at → b < at → Has (spans u) (span b at)
       → IsInNoneBehind u at b → AreNestedBelow u (at + 1)
   below_ends at b i here names below before has none = below_more at i here below
       (λ e named. absurd (none-some e (sym (begins_none i b names) ∙ named)))
       (λ x named. subst (λ n. (n < at) × Has (spans u) (span n at) × IsInNoneBehind u at n) (same_Some b x (sym names ∙ named)) (before, has, none))
 
-  pub below_stays : (at : ℕ) (i : Instr) → slice_get u.code at ≡ Some i → end_named i ≡ None → begin_named i ≡ None → AreNestedBelow u at → AreNestedBelow u (at + 1)
+  below_stays : (at : ℕ) (i : Instr) → slice_get u.code at ≡ Some i → end_named i ≡ None → begin_named i ≡ None → AreNestedBelow u at → AreNestedBelow u (at + 1)
   below_stays at i here no_e no_b below = below_more at i here below
       (λ e named. absurd (none-some e (sym no_e ∙ named)))
       (λ b named. absurd (none-some b (sym no_b ∙ named)))
@@ -256,7 +256,7 @@ module _ (u : UnitValue) where
 -- ---- where all nest
 
 -- the innermost at the end of one is that one
-pub within_ended : (u : UnitValue) → AreNested u → (at b : ℕ) (o : Option ℕ) → b < at → Has (spans u) (span b at) → LiesWithin u at o → o ≡ Some b
+within_ended : (u : UnitValue) → AreNested u → (at b : ℕ) (o : Option ℕ) → b < at → Has (spans u) (span b at) → LiesWithin u at o → o ≡ Some b
 within_ended u nested at b None before has none =
     absurd (both_ways (is_inside at (span b at)) (none (span b at) has) ((decides_inside at (span b at)).1 (before, omega arith)))
 within_ended u nested at b (Some m) before has is =
@@ -307,7 +307,7 @@ module _ (u : UnitValue) (at : ℕ) (i : Instr) (p : Place) (here : slice_get u.
   abbrev pub GoesOn : Place → Type 0
   GoesOn q = LiesSo u (at + 1) q × AreNestedBelow u (at + 1)
 
-  pub behind_loop : (e n : ℕ) (own : Loop) → loop_head at i ≡ Some own → end_named i ≡ Some e → begins_behind u at i ≡ true
+  behind_loop : (e n : ℕ) (own : Loop) → loop_head at i ≡ Some own → end_named i ≡ Some e → begins_behind u at i ≡ true
       → ((s : ℕ) → s < 64 → has_slot n s ≡ (counts_by s own || has_slot p.counters s))
       → GoesOn (record { within = Some at; finish = p.finish; depth = p.depth; counters = n })
   behind_loop e n own head named test counters =

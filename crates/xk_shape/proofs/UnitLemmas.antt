@@ -26,7 +26,7 @@ limits_of m u unit limits found =
     subst IsUnitWithinLimits (get_or_from_slice_get m.units unit u u found)
     (All-get_or IsUnitWithinLimits m.units unit u (slice_get_within m.units unit u found) limits.each)
 
-pub orderly_of : (m : ModuleValue) (u : UnitValue) (unit : ℕ) → IsWithinLimits m → IsNowhereBroken m rule.Target → IsNowhereBroken m rule.Block → IsNowhereBroken m rule.Slot
+orderly_of : (m : ModuleValue) (u : UnitValue) (unit : ℕ) → IsWithinLimits m → IsNowhereBroken m rule.Target → IsNowhereBroken m rule.Block → IsNowhereBroken m rule.Slot
     → slice_get m.units unit ≡ Some u
     → IsOrderly u
 orderly_of m u unit limits targets blocks slots found = record {
@@ -61,7 +61,7 @@ pub unit_at : (units : List UnitValue) (m : ModuleValue) (n : ℕ) (u : UnitValu
 unit_at units m n u listed inside is =
     ap (λ us. slice_get us n) (sym listed) ∙ slice_get-get_or units n u inside ∙ ap Some (sym is)
 
-pub blocks_of : (m : ModuleValue) (u : UnitValue) (unit : ℕ) → IsWithinLimits m → IsNowhereBroken m rule.Target → IsNowhereBroken m rule.Block → IsNowhereBroken m rule.Slot
+blocks_of : (m : ModuleValue) (u : UnitValue) (unit : ℕ) → IsWithinLimits m → IsNowhereBroken m rule.Target → IsNowhereBroken m rule.Block → IsNowhereBroken m rule.Slot
     → IsNowhereBroken m rule.Home
     → slice_get m.units unit ≡ Some u
     → HasBlocks u

@@ -103,15 +103,15 @@ loop_proper scope n i (Least x v e hi) p =
     (push_proper (scope ++ (i.text, n) ∷ []) x.text (n + 1) (push_proper scope i.text n p))
 
 -- a scope only grows
-pub grows : (scope : Scope) (n : ℕ) (s : Statement) → IsWithin scope (declared scope n s)
+grows : (scope : Scope) (n : ℕ) (s : Statement) → IsWithin scope (declared scope n s)
 grows scope n (Declare b x ty r) = push_within scope x.text n
 grows scope n s = λ x k h. h
 
-pub all_grow : (scope : Scope) (n : ℕ) (ss : Statements) → IsWithin scope (declared_by_all scope n ss)
+all_grow : (scope : Scope) (n : ℕ) (ss : Statements) → IsWithin scope (declared_by_all scope n ss)
 all_grow scope n Done = λ x k h. h
 all_grow scope n (More s ss) = λ x k h. all_grow (declared scope n s) (n + count s) ss x k (grows scope n s x k h)
 
-pub still_proper : (scope : Scope) (n : ℕ) (s : Statement) → IsProper scope n → IsProper (declared scope n s) (n + count s)
+still_proper : (scope : Scope) (n : ℕ) (s : Statement) → IsProper scope n → IsProper (declared scope n s) (n + count s)
 still_proper scope n (Declare b x ty r) p = push_proper scope x.text n p
 still_proper scope n s p = more_proper scope n _ (omega arith) p
 
@@ -255,7 +255,7 @@ mutual
           subst (λ q. Rest w t code scope q rest) same r
   rest_unfolded w t code scope n p s rest st r = rest_here w t code scope p (Do s ∷ rest) (n, tt, st, r)
 
-  pub rest_all : (w : Whole) (t : ℕ) (code : List Instr) (scope : Scope) (n p : ℕ) (ss : Statements) (rest : List Todo)
+  rest_all : (w : Whole) (t : ℕ) (code : List Instr) (scope : Scope) (n p : ℕ) (ss : Statements) (rest : List Todo)
       → StandAll w t code scope n p ss
       → Rest w t code (declared_by_all scope n ss) (p + length (code_of_all w.setting t scope n p ss)) rest
       → Rest w t code scope p (unfolded_all ss ++ rest)
@@ -337,7 +337,7 @@ code_split cx t scope n q s = (code_of cx t scope n q s, refl)
 
 -- ---- a name stands for another value
 
-pub matched_write : (scope more : Scope) (names : Names) (slots : List Held) (x : List ℕ) (d : ℕ) (old v : Held) → IsMatched scope names slots
+matched_write : (scope more : Scope) (names : Names) (slots : List Held) (x : List ℕ) (d : ℕ) (old v : Held) → IsMatched scope names slots
     → slice_get slots d ≡ Some old → ((y : List ℕ) (s : ℕ) → find more y ≡ Some s → is_text y x ≡ true → s ≡ d)
     → ((y : List ℕ) (s : ℕ) → find more y ≡ Some s → is_text y x ≡ false → (find scope y ≡ Some s) × (s ≡ d → ⊥))
     → IsMatched more ((x, v) ∷ names) (slice_set slots d v)

@@ -129,7 +129,7 @@ one_slot n (z ∷ zs) x y s f g = go (is_text x z) (is_text y z) refl refl f g (
     go false true d e p q later = let a = same_Some n s q in let b = between_slots (n + 1) zs x s p in let lo = b.0 in absurd (omega arith)
     go false false d e p q later = later p q
 
-pub params_proper : (xs : List (List ℕ)) → IsProper (scope_from 0 xs) (length xs)
+params_proper : (xs : List (List ℕ)) → IsProper (scope_from 0 xs) (length xs)
 params_proper xs = record {
   below = λ x s f. (let b = between_slots 0 xs x s f in let hi = b.1 in omega arith);
   apart = λ x y s f g. one_slot 0 xs x y s f g;

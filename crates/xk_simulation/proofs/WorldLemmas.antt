@@ -21,7 +21,7 @@ pub record IsAlike (c d : Clock) : Type 0 where
   pub phase : c.phase ≡ d.phase
   pub standings : c.standings ≡ d.standings
 
-pub alike_moved : (a : ℕ) (change : ℕ → Standing → Standing) (cs ds : List Clock) → Pairs IsAlike cs ds
+alike_moved : (a : ℕ) (change : ℕ → Standing → Standing) (cs ds : List Clock) → Pairs IsAlike cs ds
     → Pairs IsAlike (moved a change cs) (moved a change ds)
 alike_moved a change [] [] h = tt
 alike_moved a change [] (d ∷ ds) h = absurd h
@@ -42,10 +42,10 @@ alike_settled m n c d h =
     by true = record { phase = ap (λ p. p + 1) h.phase; standings = ap (map advanced) h.standings }
     by false = h
 
-pub alike_all : (m n : ℕ) (cs ds : List Clock) → Pairs IsAlike cs ds → Pairs IsAlike (map (settled_clock m) cs) (map (settled_clock n) ds)
+alike_all : (m n : ℕ) (cs ds : List Clock) → Pairs IsAlike cs ds → Pairs IsAlike (map (settled_clock m) cs) (map (settled_clock n) ds)
 alike_all m n cs ds h = pairs_map IsAlike IsAlike (settled_clock m) (settled_clock n) (alike_settled m n) cs ds h
 
-pub alike_joined : (a : ℕ) (given : ℕ → Bool) (cs ds : List Clock) → Pairs IsAlike cs ds → Pairs IsAlike (joined a given cs) (joined a given ds)
+alike_joined : (a : ℕ) (given : ℕ → Bool) (cs ds : List Clock) → Pairs IsAlike cs ds → Pairs IsAlike (joined a given cs) (joined a given ds)
 alike_joined a given [] [] h = tt
 alike_joined a given [] (d ∷ ds) h = absurd h
 alike_joined a given (c ∷ cs) [] h = absurd h
@@ -74,7 +74,7 @@ settled_quiet n c = by (is_ready c) refl
     by true e = ap (λ b. b && not (list_any is_pending (map advanced c.standings))) (none_signalled c.standings)
     by false e = e
 
-pub all_quiet : (n : ℕ) (cs : List Clock) → AreQuiet (map (settled_clock n) cs)
+all_quiet : (n : ℕ) (cs : List Clock) → AreQuiet (map (settled_clock n) cs)
 all_quiet n [] = tt
 all_quiet n (c ∷ cs) = (settled_quiet n c, all_quiet n cs)
 
@@ -84,7 +84,7 @@ set_own (x ∷ s) zero = refl
 set_own (x ∷ s) (suc a) = ap (λ r. x ∷ r) (set_own s a)
 
 -- where no standing changes, the clocks stay
-pub clocks_stay : (n a : ℕ) (change : ℕ → Standing → Standing) → ((k : ℕ) (s : Standing) → change k s ≡ s) → (cs ds : List Clock) → AreQuiet cs
+clocks_stay : (n a : ℕ) (change : ℕ → Standing → Standing) → ((k : ℕ) (s : Standing) → change k s ≡ s) → (cs ds : List Clock) → AreQuiet cs
     → Pairs IsAlike cs ds
     → Pairs IsAlike (map (settled_clock n) (moved a change cs)) ds
 clocks_stay n a change same [] [] q h = tt
@@ -222,7 +222,7 @@ together_at R (x ∷ xs) [] b h = absurd h
 together_at R (x ∷ xs) (y ∷ ys) zero h = h.0
 together_at R (x ∷ xs) (y ∷ ys) (suc b) h = together_at R xs ys b h.1
 
-pub under_kin : {F G : Type 0} (xs : List (ActivityOf F)) (ys : List (ActivityOf G)) (f : Finish) (n b : ℕ) → AreKin xs ys
+under_kin : {F G : Type 0} (xs : List (ActivityOf F)) (ys : List (ActivityOf G)) (f : Finish) (n b : ℕ) → AreKin xs ys
     → under_within xs f n b ≡ under_within ys f n b
 unfolding under_within
 under_kin xs ys f zero b kin = refl

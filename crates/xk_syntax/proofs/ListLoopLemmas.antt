@@ -24,7 +24,7 @@ guard_some true x y e = (refl, cc)
 guard_some false x y e = absurd cc
 
 -- a sign is one token
-pub sign_takes : (s : Sign) (ts us : List Mark) → sign_at s ts ≡ Some us → length us < length ts
+sign_takes : (s : Sign) (ts us : List Mark) → sign_at s ts ≡ Some us → length us < length ts
 unfolding sign_at
 sign_takes s [] us e = absurd cc
 sign_takes s (m ∷ ts) us e = by (sign_of m) e

@@ -96,7 +96,7 @@ open_is [] x e = absurd cc
 open_is (Open at ∷ ts) x e = rw (sym (some_is _ x e)) refl
 open_is (_ ∷ ts) x e = absurd cc
 
-pub plus_is : (ts : List Mark) (x : ℕ × List Mark) → plus_at ts ≡ Some x → ts ≡ Operator x.0 operator.Plus ∷ x.1
+plus_is : (ts : List Mark) (x : ℕ × List Mark) → plus_at ts ≡ Some x → ts ≡ Operator x.0 operator.Plus ∷ x.1
 unfolding plus_at
 plus_is [] x e = absurd cc
 plus_is (Operator at operator.Plus ∷ ts) x e = rw (sym (some_is _ x e)) refl
@@ -104,7 +104,7 @@ plus_is (Operator at operator.Minus ∷ ts) x e = absurd cc
 plus_is (Operator at operator.Times ∷ ts) x e = absurd cc
 plus_is (_ ∷ ts) x e = absurd cc
 
-pub clock_is : (ts : List Mark) (x : ℕ × List Mark) → clock_at ts ≡ Some x → ts ≡ ClockAt x.0 ∷ x.1
+clock_is : (ts : List Mark) (x : ℕ × List Mark) → clock_at ts ≡ Some x → ts ≡ ClockAt x.0 ∷ x.1
 unfolding clock_at
 clock_is [] x e = absurd cc
 clock_is (ClockAt at ∷ ts) x e = rw (sym (some_is _ x e)) refl
@@ -137,7 +137,7 @@ comparison_is (Symbol sign.GreaterEqual ∷ ts) x e = rw (sym (some_is _ x e)) r
 comparison_is (Symbol _ ∷ ts) x e = absurd cc
 comparison_is (_ ∷ ts) x e = absurd cc
 
-pub type_is : (ts : List Mark) (x : TypeName × List Mark) → type_at ts ≡ Some x → ts ≡ type_name x.0 x.1
+type_is : (ts : List Mark) (x : TypeName × List Mark) → type_at ts ≡ Some x → ts ≡ type_name x.0 x.1
 unfolding type_at
 type_is [] x e = absurd cc
 type_is (ClockAt at ∷ ts) x e = rw (sym (some_is _ x e)) refl
@@ -155,7 +155,7 @@ verb_found text ts x e =
     let q = open_is a.0.1 b.0 b.1 in
     rw (sym (some_is _ x b.2)) cc
 
-pub bare_verb_found : (text : List ℕ) (ts : List Mark) (x : Verb × List Mark) → bare_verb_at text ts ≡ Some x → ts ≡ verb text x.0 (Symbol sign.RightParen ∷ x.1)
+bare_verb_found : (text : List ℕ) (ts : List Mark) (x : Verb × List Mark) → bare_verb_at text ts ≡ Some x → ts ≡ verb text x.0 (Symbol sign.RightParen ∷ x.1)
 unfolding bare_verb_at
 bare_verb_found text ts x e =
     let a = bind_some _ _ _ e in
@@ -164,7 +164,7 @@ bare_verb_found text ts x e =
     let q = sign_is sign.RightParen refl a.0.1 b.0 b.1 in
     rw (sym (some_is _ x b.2)) cc
 
-pub act_found : (text : List ℕ) (ts : List Mark) (x : Verb × List Mark) → act_at text ts ≡ Some x → ts ≡ Symbol sign.Dot ∷ verb text x.0 (Symbol sign.RightParen ∷ x.1)
+act_found : (text : List ℕ) (ts : List Mark) (x : Verb × List Mark) → act_at text ts ≡ Some x → ts ≡ Symbol sign.Dot ∷ verb text x.0 (Symbol sign.RightParen ∷ x.1)
 unfolding act_at
 act_found text ts x e =
     let a = bind_some _ _ _ e in
@@ -197,13 +197,13 @@ expr_is d ts x e =
     let s = f.2.spelled in
     (f.1 ∙ ap (λ (z : List Mark). z ++ x.1) s, subst (λ (z : List Mark). Spells d z x.0) s f.2)
 
-pub term_is : (d : ℕ) (ts : List Mark) (x : Expression × List Mark) → whole_term_at d ts ≡ Some x → (ts ≡ expr x.0 x.1) × IsTerm d x.0
+term_is : (d : ℕ) (ts : List Mark) (x : Expression × List Mark) → whole_term_at d ts ≡ Some x → (ts ≡ expr x.0 x.1) × IsTerm d x.0
 term_is d ts x e =
     let f = term_found d ts x.0 x.1 e in
     let s = f.2.spells.spelled in
     (f.1 ∙ ap (λ (z : List Mark). z ++ x.1) s, subst (λ (z : List Mark). SpellsTerm d z x.0) s f.2)
 
-pub type_part_found : (ts : List Mark) (x : Option TypeName × List Mark) → type_part_at ts ≡ Some x → ts ≡ type_part x.0 x.1
+type_part_found : (ts : List Mark) (x : Option TypeName × List Mark) → type_part_at ts ≡ Some x → ts ≡ type_part x.0 x.1
 unfolding type_part_at
 type_part_found ts x e = by (sign_at sign.Colon ts) refl e
   where
@@ -215,7 +215,7 @@ type_part_found ts x e = by (sign_at sign.Colon ts) refl e
         let q = type_is us a.0 a.1 in
         rw (sym (some_is _ x a.2)) cc
 
-pub source_found : (d : ℕ) (ts : List Mark) (x : Source × List Mark) → source_at d ts ≡ Some x → (ts ≡ source x.0 x.1) × SourceFits d x.0
+source_found : (d : ℕ) (ts : List Mark) (x : Source × List Mark) → source_at d ts ≡ Some x → (ts ≡ source x.0 x.1) × SourceFits d x.0
 unfolding source_at
 source_found d ts x e = by (clock_at ts) refl e
   where

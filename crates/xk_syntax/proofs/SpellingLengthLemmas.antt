@@ -16,7 +16,7 @@ Longer {T = T} f = (x : T) (after : List Mark) → length after ≤ length (f x 
 expr_longer : Longer expr
 expr_longer e after = omega (arith, length-append (spell e) after)
 
-pub word_longer : Longer word
+word_longer : Longer word
 word_longer w after = omega arith
 
 pub type_longer : Longer type_name

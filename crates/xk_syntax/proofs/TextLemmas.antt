@@ -214,7 +214,7 @@ tree_read text t s =
 pub none_from_read : (text : List ℕ) → program_at (map token_mark (lexed text)) ≡ None → (t : TreeValue) → ¬ SpellsTree text t
 none_from_read text r t s = let p = tree_read text t s in absurd cc
 
-pub none_spelled : (text : List ℕ) (ts : List Token) → map token_value ts ≡ lexed text → program_at (marks ts) ≡ None → (t : TreeValue) → ¬ SpellsTree text t
+none_spelled : (text : List ℕ) (ts : List Token) → map token_value ts ≡ lexed text → program_at (marks ts) ≡ None → (t : TreeValue) → ¬ SpellsTree text t
 none_spelled text ts e r = none_from_read text (sym (ap program_at (all_marks text ts e)) ∙ r)
 
 pub one_tree : (text : List ℕ) (t u : TreeValue) → SpellsTree text t → SpellsTree text u → t ≡ u

@@ -18,7 +18,7 @@ use Rattle.xk_workers.proofs.LocalStepLemmas.{stays_local}
 -- ---- claims that are put and released
 
 -- who isn't put or released is claimed as before
-pub claimed_other : (claims : List Bool) (a b : ℕ) (x : Bool) → (b ≡ a → ⊥) → is_claimed (slice_set claims a x) b ≡ is_claimed claims b
+claimed_other : (claims : List Bool) (a b : ℕ) (x : Bool) → (b ≡ a → ⊥) → is_claimed (slice_set claims a x) b ≡ is_claimed claims b
 claimed_other [] a b x differs = refl
 claimed_other (c ∷ cs) zero zero x differs = absurd (differs refl)
 claimed_other (c ∷ cs) zero (suc b) x differs = refl
@@ -26,7 +26,7 @@ claimed_other (c ∷ cs) (suc a) zero x differs = refl
 claimed_other (c ∷ cs) (suc a) (suc b) x differs = claimed_other cs a b x (λ e. differs (ap (λ k. suc k) e))
 
 -- who is released isn't claimed
-pub released_not : (claims : List Bool) (a : ℕ) → is_claimed (slice_set claims a false) a ≡ false
+released_not : (claims : List Bool) (a : ℕ) → is_claimed (slice_set claims a false) a ≡ false
 released_not [] a = refl
 released_not (c ∷ cs) zero = refl
 released_not (c ∷ cs) (suc a) = released_not cs a
@@ -55,12 +55,6 @@ claims_release c a claims kept = record {
   wide = length-set claims a false ∙ kept.wide;
   local = λ b h. kept.local b (still_claimed claims a b h).1;
 }
-
--- to release who isn't claimed changes nothing
-pub nobody_released : (claims : List Bool) (a : ℕ) → is_claimed claims a ≡ false → slice_set claims a false ≡ claims
-nobody_released [] a free = refl
-nobody_released (c ∷ cs) zero free = ap (λ (x : Bool). x ∷ cs) (sym free)
-nobody_released (c ∷ cs) (suc a) free = ap (λ (l : List Bool). c ∷ l) (nobody_released cs a free)
 
 -- who wasn't claimed, and is put and released, leaves the claims as they were
 pub put_back : (claims : List Bool) (a : ℕ) → is_claimed claims a ≡ false → slice_set (slice_set claims a true) a false ≡ claims

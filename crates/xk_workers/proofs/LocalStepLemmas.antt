@@ -57,7 +57,7 @@ leaves m w a b differs inside = step_kind (Leaves w b) m w a tt (λ c. tt) (λ a
 })
 
 -- who is there whose next step is local
-pub local_within : (c : CoreValue) (b : ℕ) → is_next_local c b ≡ true → b < length c.world.activities
+local_within : (c : CoreValue) (b : ℕ) → is_next_local c b ≡ true → b < length c.world.activities
 local_within c b l = (let r = runs c.module_run c.world b l in slice_get_within c.world.activities b r.act r.there)
 
 -- what is local stays so by another's step: the frames alone tell of it, and they are as they were

@@ -14,7 +14,7 @@ use Rattle.xk_workers.proofs.LocalStepLemmas.{Runs, runs}
 abbrev pub frames_of : CoreValue → ℕ → frames.FramesValue
 frames_of c a = frames_in c.module_run (act_at c.world.activities a)
 
-pub ready : (c : CoreValue) (a : ℕ) → IsCore c.module_run c.world → is_next_local c a ≡ true
+ready : (c : CoreValue) (a : ℕ) → IsCore c.module_run c.world → is_next_local c a ≡ true
     → frames.IsSafe frames.local (frames_of c a) × (frames.is_stepped (frames.local (frames_of c a)) ≡ true)
 ready c a core l =
     subst (λ (x : Activity). frames.IsSafe frames.local (frames_in c.module_run x) × (frames.is_stepped (frames.local (frames_in c.module_run x)) ≡ true))

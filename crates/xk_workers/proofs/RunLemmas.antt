@@ -20,7 +20,7 @@ pub fresh_is : (c : CoreValue) → IsCore c.module_run c.world → c.world.steps
 fresh_is c core none = record { core = core; legal = run_starts c.module_run c refl core.reached.1.0 (core_fresh c.module_run c.world core none) }
 
 -- a run in which nobody can take a step is over
-pub run_over : (r : RunValue) → IsRun r → enabled_in r.core.module_run r.core.world ≡ [] → all_ended r.core.world ≡ true
+run_over : (r : RunValue) → IsRun r → enabled_in r.core.module_run r.core.world ≡ [] → all_ended r.core.world ≡ true
 run_over r is none = listed_over r.core.module_run r.core.world is.core none
 
 -- before the first step main alone is there

@@ -33,7 +33,7 @@ claimed_push (c ∷ cs) zero h = h
 claimed_push (c ∷ cs) (suc b) h = claimed_push cs b h
 
 -- who is claimed behind a step was claimed before
-pub claimed_before : (e : Event) (claims : List Bool) (b : ℕ) → is_claimed (claims_after e claims) b ≡ true → is_claimed claims b ≡ true
+claimed_before : (e : Event) (claims : List Bool) (b : ℕ) → is_claimed (claims_after e claims) b ≡ true → is_claimed claims b ≡ true
 claimed_before event.Spawned claims b h = claimed_push claims b h
 claimed_before event.Local claims b h = h
 claimed_before (event.Printed n) claims b h = h
@@ -107,7 +107,7 @@ some_first P [] x e all = absurd (none-some x (sym e))
 some_first P (y ∷ ys) x e all = (y, All-head P y ys all)
 
 -- where somebody can take a step, and all who can are claimed
-pub all_claimed : (s : SharedValue) (first : ℕ) → Some first ≡ slice_get (enabled_in s.run.core.module_run s.run.core.world) 0
+all_claimed : (s : SharedValue) (first : ℕ) → Some first ≡ slice_get (enabled_in s.run.core.module_run s.run.core.world) 0
     → All (λ a. is_claimed s.claims a ≡ true) (enabled_in s.run.core.module_run s.run.core.world) → AreAllClaimed s
 all_claimed s first is all = record {
   somebody = some_first (λ a. is_claimed s.claims a ≡ true) (enabled_in s.run.core.module_run s.run.core.world) first is all;

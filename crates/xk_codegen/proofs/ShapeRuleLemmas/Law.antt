@@ -71,7 +71,7 @@ not_left rule.SameClock h = refl
 not_left _ h = absurd cc
 
 -- the law
-pub keeps_shape : (t : TreeValue) (m : ModuleValue) → IsScoped t → HasBodiesApart t → length m.units ≤ 1024 → IsCompiled t m → KeepsShape m
+keeps_shape : (t : TreeValue) (m : ModuleValue) → IsScoped t → HasBodiesApart t → length m.units ≤ 1024 → IsCompiled t m → KeepsShape m
 keeps_shape t m scoped apart few c r kept =
     let long : length m.units ≡ length c.units = ap length c.code ∙ length-map c.units (unit_of_part c.setting) in
     let h : AreSettled t c.units c.setting = record { apart = apart; are_units = c.are_units; is_setting = c.is_setting } in

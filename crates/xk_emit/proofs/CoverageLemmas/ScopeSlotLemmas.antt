@@ -59,7 +59,7 @@ kinds_behind shared table y j plain kinds x = ap is_known_shared (find_behind ta
     go None true e = plain ∙ ap is_known_shared (sym e) ∙ kinds x
     go None false e = ap is_known_shared (sym e) ∙ kinds x
 
-pub fits_name : (shared : Texts) (sc : Seen) (scope : Scope) (own : Texts) (y : List ℕ) (k : NameKind) (n : ℕ) → is_shared k ≡ false → Fits shared sc scope own
+fits_name : (shared : Texts) (sc : Seen) (scope : Scope) (own : Texts) (y : List ℕ) (k : NameKind) (n : ℕ) → is_shared k ≡ false → Fits shared sc scope own
     → Fits shared (with_name sc y k) (scope ++ (y, n) ∷ []) (put_text own y)
 fits_name shared sc scope own y k n plain fits = record {
   kinds = kinds_behind shared sc.names y (known k (length sc.bodies)) plain fits.kinds;

@@ -95,7 +95,7 @@ expression_known shared sc scope own (Binary o l at r) fits right taken = (
 abbrev pub HasPlaces : Setting → Texts → Type 0
 HasPlaces cx shared = (x : List ℕ) → is_some (find cx.shared x) ≡ has shared x
 
-pub value_known : (cx : Setting) (shared : Texts) (sc : Seen) (scope : Scope) (own : Texts) (e : Expression) → HasPlaces cx shared → Fits shared sc scope own
+value_known : (cx : Setting) (shared : Texts) (sc : Seen) (scope : Scope) (own : Texts) (e : Expression) → HasPlaces cx shared → Fits shared sc scope own
     → AreRight sc (values e) → AreTaken own scope (number_words e) → IsValueKnown cx scope e
 value_known cx shared sc scope own (Named x) places fits right taken = go (find cx.shared x.text) refl
   where

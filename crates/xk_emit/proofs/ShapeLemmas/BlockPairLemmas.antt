@@ -33,7 +33,7 @@ plain_paired p code at (instr.EndFinish b) h = absurd (false≢true h)
 plain_paired p code at _ h = tt
 
 -- in more code
-pub paired_more : (p q : ℕ) (xs ys : List Instr) → ((at : ℕ) (i : Instr) → Stands p xs at i → Stands q ys at i) → (at : ℕ) (i : Instr) → Paired p xs at i → Paired q ys at i
+paired_more : (p q : ℕ) (xs ys : List Instr) → ((at : ℕ) (i : Instr) → Stands p xs at i → Stands q ys at i) → (at : ℕ) (i : Instr) → Paired p xs at i → Paired q ys at i
 paired_more p q xs ys more at (instr.For k lo hi e) h = more e (instr.Next at) h
 paired_more p q xs ys more at (instr.ForTo k lo x hi e) h = more e (instr.Next at) h
 paired_more p q xs ys more at (instr.Next b) h =

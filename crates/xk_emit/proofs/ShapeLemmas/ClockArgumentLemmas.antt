@@ -30,7 +30,7 @@ use Rattle.xk_emit.proofs.ShapeLemmas.LoopCounterLemmas.{find_more}
 abbrev pub AreApart : Scope → Type 0
 AreApart scope = (x y : List ℕ) (k : ℕ) → find scope x ≡ Some k → find scope y ≡ Some k → x ≡ y
 
-pub apart_more : (scope : Scope) (x : List ℕ) (n : ℕ) → ScopeBelow n scope → AreApart scope → AreApart (scope ++ (x, n) ∷ [])
+apart_more : (scope : Scope) (x : List ℕ) (n : ℕ) → ScopeBelow n scope → AreApart scope → AreApart (scope ++ (x, n) ∷ [])
 apart_more scope x n w h a b k f g = go (find_more scope x n a k f) (find_more scope x n b k g)
   where
     go : (find scope a ≡ Some k) ⊎ ((a ≡ x) × (n ≡ k)) → (find scope b ≡ Some k) ⊎ ((b ≡ x) × (n ≡ k)) → a ≡ b

@@ -92,7 +92,7 @@ rises_head lo hi n l (Least x v k h) e is r = (tt, r)
 
 mutual
   -- the slots of a statement's clocks
-  pub rises : (cx : Setting) (t : ℕ) (scope : Scope) (n p : ℕ) (s : Statement) → Rises n (n + count s) (code_of cx t scope n p s)
+  rises : (cx : Setting) (t : ℕ) (scope : Scope) (n p : ℕ) (s : Statement) → Rises n (n + count s) (code_of cx t scope n p s)
   rises cx t scope n p (Block ss) = all_rise cx t scope n p ss
   rises cx t scope n p (Declare b x ty (Make at v)) = (omega arith, omega arith)
   rises cx t scope n p (Declare b x ty (Value e)) =
@@ -159,7 +159,7 @@ mutual
   rises cx t scope n p (Print at v e) =
       rises_none n (n + 0) (code_of cx t scope n p (Print at v e)) (omega arith) (rows_of cx NoClock NoMake (make_leaves cx) t scope n (Print at v e) tt)
 
-  pub all_rise : (cx : Setting) (t : ℕ) (scope : Scope) (n p : ℕ) (ss : Statements) → Rises n (n + count_all ss) (code_of_all cx t scope n p ss)
+  all_rise : (cx : Setting) (t : ℕ) (scope : Scope) (n p : ℕ) (ss : Statements) → Rises n (n + count_all ss) (code_of_all cx t scope n p ss)
   all_rise cx t scope n p Done = omega arith
   all_rise cx t scope n p (More s ss) =
       let here = code_of cx t scope n p s in
@@ -265,7 +265,7 @@ slot_from xs m scope y h g other = go (find scope y) refl g
     go (Some k) q r = h y k q other
 
 mutual
-  pub drops_from : (cx : Setting) (xs : List (List ℕ)) (m t : ℕ) (scope : Scope) (n : ℕ) (s : Statement) → m ≤ n → OthersFrom xs m scope → IsCovered cx scope n s
+  drops_from : (cx : Setting) (xs : List (List ℕ)) (m t : ℕ) (scope : Scope) (n : ℕ) (s : Statement) → m ≤ n → OthersFrom xs m scope → IsCovered cx scope n s
       → EachInside (SparesClocks xs) s → EachRow (DropsFrom m) (nest_of cx t scope n s)
   drops_from cx xs m t scope n (Block ss) l o c h = all_drop_from cx xs m t scope n ss l o c h
   drops_from cx xs m t scope n (If at a op b s) l o c h = (each_both cx NoDrop (DropsFrom m) (drop_leaves cx m) scope t a b, drops_from cx xs m t scope n s l o c.2 h)
@@ -297,7 +297,7 @@ mutual
   drops_from cx xs m t scope n (AdvanceAll at v) l o c h = (tt, tt)
   drops_from cx xs m t scope n (Print at v e) l o c h = rows_of cx NoDrop (DropsFrom m) (drop_leaves cx m) t scope n (Print at v e) tt
 
-  pub all_drop_from : (cx : Setting) (xs : List (List ℕ)) (m t : ℕ) (scope : Scope) (n : ℕ) (ss : Statements) → m ≤ n → OthersFrom xs m scope → AreCovered cx scope n ss
+  all_drop_from : (cx : Setting) (xs : List (List ℕ)) (m t : ℕ) (scope : Scope) (n : ℕ) (ss : Statements) → m ≤ n → OthersFrom xs m scope → AreCovered cx scope n ss
       → EachOf (SparesClocks xs) ss → EachRow (DropsFrom m) (nest_of_all cx t scope n ss)
   all_drop_from cx xs m t scope n Done l o c h = tt
   all_drop_from cx xs m t scope n (More s ss) l o c h = (

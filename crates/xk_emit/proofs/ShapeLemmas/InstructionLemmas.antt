@@ -184,6 +184,6 @@ mutual
   each_inside Q h (AdvanceAll at v) = h (AdvanceAll at v)
   each_inside Q h (Print at v e) = h (Print at v e)
 
-  pub each_of : (Q : Statement → Type 0) → ((s : Statement) → Q s) → (ss : Statements) → EachOf Q ss
+  each_of : (Q : Statement → Type 0) → ((s : Statement) → Q s) → (ss : Statements) → EachOf Q ss
   each_of Q h Done = tt
   each_of Q h (More s ss) = (each_inside Q h s, each_of Q h ss)

@@ -38,7 +38,7 @@ Aims lo hi at (instr.Finish e) = (at < e) × (e < hi)
 Aims lo hi at (instr.EndFinish b) = (lo ≤ b) × (b < at)
 Aims lo hi at _ = Unit {0}
 
-pub plain_aims : (lo hi at : ℕ) (i : Instr) → Plain i → Aims lo hi at i
+plain_aims : (lo hi at : ℕ) (i : Instr) → Plain i → Aims lo hi at i
 plain_aims lo hi at (instr.Unless op x y t) h = absurd (false≢true h)
 plain_aims lo hi at (instr.Jump t) h = absurd (false≢true h)
 plain_aims lo hi at (instr.For k l g e) h = absurd (false≢true h)

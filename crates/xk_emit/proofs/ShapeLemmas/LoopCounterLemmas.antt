@@ -56,7 +56,7 @@ head_spares : (k d : ℕ) (lo : ℤ) (l : Option ℕ) (hi : ℤ) (e : ℕ) → (
 head_spares k d lo None hi e h = h
 head_spares k d lo (Some x) hi e h = h
 
-pub spared : (k p : ℕ) (x : Nest) → SparesSlot k x → Holds (Spares k) (lay p x)
+spared : (k p : ℕ) (x : Nest) → SparesSlot k x → Holds (Spares k) (lay p x)
 spared k p (Row is) h = h
 spared k p (Then a b) h = holds_both (Spares k) (lay p a) (lay (until p a) b) (spared k p a h.0) (spared k (until p a) b h.1)
 spared k p (Where op x y a) h = (refl, spared k (p + 1) a h)
@@ -472,7 +472,7 @@ mutual
   loops_kept cx t scope n (Finish s) w r c h = loops_kept cx t scope n s w r c h
   loops_kept cx t scope n _ w r c h = tt
 
-  pub all_loops_kept : (cx : Setting) (t : ℕ) (scope : Scope) (n : ℕ) (ss : Statements) → ScopeBelow n scope → n + count_all ss ≤ t → AreCovered cx scope n ss → AllKeepNames ss
+  all_loops_kept : (cx : Setting) (t : ℕ) (scope : Scope) (n : ℕ) (ss : Statements) → ScopeBelow n scope → n + count_all ss ≤ t → AreCovered cx scope n ss → AllKeepNames ss
       → LoopsKept (nest_of_all cx t scope n ss)
   all_loops_kept cx t scope n Done w r c h = tt
   all_loops_kept cx t scope n (More s ss) w r c h =

@@ -116,7 +116,7 @@ mutual
   keeps_names ms sc (Finish s) h g = keeps_names ms sc s g.0 g.1
   keeps_names ms sc _ h g = tt
 
-  pub keep_names : (ms : Signatures) (sc : Scope) (ss : Statements) → AreSound ms sc ss → AllKeepNames ss
+  keep_names : (ms : Signatures) (sc : Scope) (ss : Statements) → AreSound ms sc ss → AllKeepNames ss
   keep_names ms sc Done g = tt
   keep_names ms sc (More s ss) g = (keeps_names ms sc s g.0.0 g.0.1, keep_names ms (with_all sc (behind (length sc.bodies) s)) ss g.1)
 

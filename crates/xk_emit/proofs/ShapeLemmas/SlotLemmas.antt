@@ -50,7 +50,7 @@ found_below m (e ∷ es) x k h g = go (is_text x e.0) (found_below m es x k h.1)
     go true later q = subst (λ n. n < m) (same_Some e.1 k q) h.0
     go false later q = later q
 
-pub text_below : (m : ℕ) (scope : Scope) (x : List ℕ) → ScopeBelow m scope → IsFound scope x → unwrap_or (find scope x) 0 < m
+text_below : (m : ℕ) (scope : Scope) (x : List ℕ) → ScopeBelow m scope → IsFound scope x → unwrap_or (find scope x) 0 < m
 text_below m scope x h g = go (find scope x) refl g
   where
     go : (o : Option ℕ) → find scope x ≡ o → is_some o ≡ true → unwrap_or o 0 < m
@@ -309,7 +309,7 @@ mutual
   code_below m cx t scope n p (AdvanceAll at v) w r k h = (tt, tt)
   code_below m cx t scope n p (Print at v e) w r k h = evaluated_then m scope w t e (instr.Print (slot_for scope t e)) k (λ a. (a, tt)) h
 
-  pub all_code_below : (m : ℕ) (cx : Setting) (t : ℕ) (scope : Scope) (n p : ℕ) (ss : Statements) → ScopeBelow m scope → n + count_all ss ≤ m → AreCovered cx scope n ss
+  all_code_below : (m : ℕ) (cx : Setting) (t : ℕ) (scope : Scope) (n p : ℕ) (ss : Statements) → ScopeBelow m scope → n + count_all ss ≤ m → AreCovered cx scope n ss
       → Holds (WritesBelow m) (code_of_all cx t scope n p ss) → Holds (NamesBelow m) (code_of_all cx t scope n p ss)
   all_code_below m cx t scope n p Done w r k h = tt
   all_code_below m cx t scope n p (More s ss) w r k h =

@@ -60,7 +60,7 @@ span_within a e at f h g k = grind (arith, nat_tests)
 span_itself : (a e : ℕ) → overlaps (span a e) (span a e) ≡ false
 span_itself a e = grind (arith, nat_tests)
 
-pub respects_apart : (lo hi a e at : ℕ) (i : Instr) → a < e → lo ≤ at → Apart lo hi a e → Aims lo hi at i → Respects a e at i
+respects_apart : (lo hi a e at : ℕ) (i : Instr) → a < e → lo ≤ at → Apart lo hi a e → Aims lo hi at i → Respects a e at i
 respects_apart lo hi a e at (instr.Unless op x y t) o b d h = jump_apart lo hi a e at t o b h.0 h.1 d
 respects_apart lo hi a e at (instr.Jump t) o b d h = jump_apart lo hi a e at t o b h.0 h.1 d
 respects_apart lo hi a e at (instr.For k l g f) o b d h = span_apart lo hi a e at f o b h.0 h.1 d
@@ -70,7 +70,7 @@ respects_apart lo hi a e at _ o b d h = tt
 
 -- ---- what begins a span
 
-pub opens_aims : (lo hi a e : ℕ) (i : Instr) → Opens e i → Aims lo hi a i → (a < e) × (e < hi)
+opens_aims : (lo hi a e : ℕ) (i : Instr) → Opens e i → Aims lo hi a i → (a < e) × (e < hi)
 opens_aims lo hi a e (instr.For k l h f) o g = (omega (arith, o, g.0), omega (arith, o, g.1))
 opens_aims lo hi a e (instr.ForTo k l x h f) o g = (omega (arith, o, g.0), omega (arith, o, g.1))
 opens_aims lo hi a e (instr.Finish f) o g = (omega (arith, o, g.0), omega (arith, o, g.1))

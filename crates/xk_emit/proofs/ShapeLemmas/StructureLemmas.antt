@@ -157,7 +157,7 @@ mutual
   laid cx t scope n p (Finish s) = ap (λ b. instr.Finish (p + 1 + length b) ∷ (b ++ instr.EndFinish p ∷ [])) (laid cx t scope n (p + 1) s)
   laid cx t scope n p _ = refl
 
-  pub laid_all : (cx : Setting) (t : ℕ) (scope : Scope) (n p : ℕ) (ss : Statements) → code_of_all cx t scope n p ss ≡ lay p (nest_of_all cx t scope n ss)
+  laid_all : (cx : Setting) (t : ℕ) (scope : Scope) (n p : ℕ) (ss : Statements) → code_of_all cx t scope n p ss ≡ lay p (nest_of_all cx t scope n ss)
   laid_all cx t scope n p Done = refl
   laid_all cx t scope n p (More s ss) =
       ap (λ a. a ++ code_of_all cx t (declared scope n s) (n + count s) (p + length a) ss) (laid cx t scope n p s)

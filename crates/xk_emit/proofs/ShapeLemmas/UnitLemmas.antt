@@ -81,7 +81,7 @@ module _ (cx : Setting) (kind : UnitKind) (xs : List (List ℕ)) (kinds : List P
   plain : EachRow Plain nest
   plain = rows_of cx (λ q. Unit {0}) Plain (plain_leaves cx) (first_temporary xs s) (scope_from 0 xs) (length xs) s (each_inside (λ q. Unit {0}) (λ q. tt) s)
 
-  pub is_code : unit_code cx xs s ≡ lay 0 nest ++ instr.Ret ∷ []
+  is_code : unit_code cx xs s ≡ lay 0 nest ++ instr.Ret ∷ []
   is_code = ap (λ c. c ++ instr.Ret ∷ []) (laid cx (first_temporary xs s) (scope_from 0 xs) (length xs) 0 s)
 
   -- its instructions, those of its rows and those that make the structure

@@ -23,7 +23,7 @@ use Rattle.xk_emit.proofs.ShapeLemmas.SpanLemmas.{span, Opens, head_opens, Respe
 -- ---- lists
 
 -- a test that no element passes
-pub none_any : {X : Type 0} (test : X → Bool) (xs : List X) → ((x : X) → Has xs x → test x ≡ false) → list_any test xs ≡ false
+none_any : {X : Type 0} (test : X → Bool) (xs : List X) → ((x : X) → Has xs x → test x ≡ false) → list_any test xs ≡ false
 none_any test [] h = refl
 none_any test (x ∷ xs) h = rw (h x (inl refl)) (none_any test xs (λ y g. h y (inr g)))
 
@@ -76,7 +76,7 @@ module _ (u : UnitValue) (x : Nest) (plain : EachRow Plain x) (is : u.code ≡ l
   long = ap length is ∙ length-append (lay 0 x) (instr.Ret ∷ [])
 
   -- what stands at a place: one of the structure, or the `ret`
-  pub found : (at : ℕ) (i : Instr) → slice_get u.code at ≡ Some i → Stands 0 (lay 0 x) at i ⊎ ((at ≡ length (lay 0 x)) × (instr.Ret ≡ i))
+  found : (at : ℕ) (i : Instr) → slice_get u.code at ≡ Some i → Stands 0 (lay 0 x) at i ⊎ ((at ≡ length (lay 0 x)) × (instr.Ret ≡ i))
   found at i h = go (stands_in 0 (length (lay 0 x)) (lay 0 x) (instr.Ret ∷ []) at i (omega arith)
       (stands_at 0 at at (lay 0 x ++ instr.Ret ∷ []) i (omega arith) (sym (ap (λ c. slice_get c at) is) ∙ h)))
     where
@@ -85,11 +85,11 @@ module _ (u : UnitValue) (x : Nest) (plain : EachRow Plain x) (is : u.code ≡ l
       go (inr (inl g)) = inr g
       go (inr (inr g)) = absurd g
 
-  pub got : (at : ℕ) (i : Instr) → Stands 0 (lay 0 x) at i → slice_get u.code at ≡ Some i
+  got : (at : ℕ) (i : Instr) → Stands 0 (lay 0 x) at i → slice_get u.code at ≡ Some i
   got at i h = ap (λ c. slice_get c at) is ∙ stands_got 0 at at (lay 0 x ++ instr.Ret ∷ []) i (omega arith) (stands_left 0 (lay 0 x) (instr.Ret ∷ []) at i h)
 
   -- one of the structure, if it is no `ret`
-  pub found_inside : (at : ℕ) (i : Instr) → slice_get u.code at ≡ Some i → is_ret i ≡ false → Stands 0 (lay 0 x) at i
+  found_inside : (at : ℕ) (i : Instr) → slice_get u.code at ≡ Some i → is_ret i ≡ false → Stands 0 (lay 0 x) at i
   found_inside at i h other = go (found at i h)
     where
       go : Stands 0 (lay 0 x) at i ⊎ ((at ≡ length (lay 0 x)) × (instr.Ret ≡ i)) → Stands 0 (lay 0 x) at i
@@ -130,7 +130,7 @@ module _ (u : UnitValue) (x : Nest) (plain : EachRow Plain x) (is : u.code ≡ l
   finish_begins s h = let r = is_finish u s h in record { i = instr.Finish s.last; stands = found_inside s.first (instr.Finish s.last) r.begins refl; opens = refl }
 
   -- each span of the unit is begun
-  pub begun : (s : Span) → Has (spans u) s → Begins (lay 0 x) s
+  begun : (s : Span) → Has (spans u) s → Begins (lay 0 x) s
   begun s h = go (has_split (map span_of (loops u)) (finishes u) s h)
     where
       go : Has (map span_of (loops u)) s ⊎ Has (finishes u) s → Begins (lay 0 x) s
@@ -217,7 +217,7 @@ module _ (u : UnitValue) (x : Nest) (plain : EachRow Plain x) (is : u.code ≡ l
   some at = let l = long in grind (arith, nat_tests)
 
   -- V7
-  pub ends : (at : ℕ) → breaks_end u at ≡ false
+  ends : (at : ℕ) → breaks_end u at ≡ false
   ends at = rw (
     is_none (λ i. is_ret i && nat_lt (at + 1) (length u.code)) (slice_get u.code at) (λ i h. ends_late at i (found at i h)),
     is_none (λ i. not (is_ret i) && (at + 1 == length u.code)) (slice_get u.code at) (λ i h. ends_there_alone at i (found at i h)),

@@ -24,7 +24,7 @@ none_at test (x ∷ xs) zero d h g = (or_parts (test x) (list_any test xs) h).0
 none_at test (x ∷ xs) (suc i) d h g = none_at test xs i d (or_parts (test x) (list_any test xs) h).1 g
 
 -- some passes, at a place within the list
-pub some_at : {X : Type 0} (test : X → Bool) (xs : List X) (d : X) → list_any test xs ≡ true → (i : ℕ) × (i < length xs) × (test (get_or xs i d) ≡ true)
+some_at : {X : Type 0} (test : X → Bool) (xs : List X) (d : X) → list_any test xs ≡ true → (i : ℕ) × (i < length xs) × (test (get_or xs i d) ≡ true)
 some_at test [] d h = absurd (grind arith)
 some_at {X} test (x ∷ xs) d h = go (test x) refl (some_at test xs d) h
   where
@@ -34,7 +34,7 @@ some_at {X} test (x ∷ xs) d h = go (test x) refl (some_at test xs d) h
     go false e later g = let r = later g in (suc r.0, omega (arith, r.1), r.2)
 
 -- one place that passes is enough
-pub any_at : {X : Type 0} (test : X → Bool) (xs : List X) (i : ℕ) (d : X) → test d ≡ false → test (get_or xs i d) ≡ true → list_any test xs ≡ true
+any_at : {X : Type 0} (test : X → Bool) (xs : List X) (i : ℕ) (d : X) → test d ≡ false → test (get_or xs i d) ≡ true → list_any test xs ≡ true
 any_at test [] i d e h = absurd (grind arith)
 any_at test (x ∷ xs) zero d e h = rw h refl
 any_at {X} test (x ∷ xs) (suc i) d e h = go (test x) (any_at test xs i d e h)

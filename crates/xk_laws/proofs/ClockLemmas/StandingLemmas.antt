@@ -61,7 +61,7 @@ pub new_same : (n a : ℕ) → a < n → standing_of (new_clock n a) a ≡ stand
 new_same n a h = get_or-set_same (replicate n standing.Apart) a standing.Open standing.Apart (rw (length-replicate n standing.Apart) h)
 
 -- nobody has a standing beyond the list
-pub apart_all : (n b : ℕ) → get_or (replicate n standing.Apart) b standing.Apart ≡ standing.Apart
+apart_all : (n b : ℕ) → get_or (replicate n standing.Apart) b standing.Apart ≡ standing.Apart
 apart_all zero b = refl
 apart_all (suc n) zero = refl
 apart_all (suc n) (suc b) = apart_all n b

@@ -31,7 +31,7 @@ use Rattle.xk_laws.proofs.ShapeLemmas.UnitLemmas.{unit_fits}
 -- ---- limits
 
 -- a unit of a module within the limits is within them
-pub unit_limits : (m : ModuleValue) → IsWithinLimits m → (unit : ℕ) (u : UnitValue) → slice_get m.units unit ≡ Some u → IsUnitWithinLimits u
+unit_limits : (m : ModuleValue) → IsWithinLimits m → (unit : ℕ) (u : UnitValue) → slice_get m.units unit ≡ Some u → IsUnitWithinLimits u
 unit_limits m limits unit u found =
     subst IsUnitWithinLimits (get_or_from_slice_get m.units unit u u found)
     (All-get_or IsUnitWithinLimits m.units unit u (slice_get_within m.units unit u found) limits.each)

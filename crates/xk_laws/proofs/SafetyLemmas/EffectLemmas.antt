@@ -41,7 +41,7 @@ module _ (m : ModuleValue) (stands : ℕ → Standing) (clocks now : ℕ) (was :
   look k = kind_by (stands k)
 
   -- the unit is found
-  pub unit_found : slice_get m.units was.frame.unit ≡ Some u
+  unit_found : slice_get m.units was.frame.unit ≡ Some u
   unit_found = c.me.unit ∙ ap (λ x. Some x) c.unit
 
   -- a frame has its unit's number of slots
@@ -73,7 +73,7 @@ module _ (m : ModuleValue) (stands : ℕ → Standing) (clocks now : ℕ) (was :
   -- ---- on to the next instruction, with slots that came of the old ones
 
   -- an instruction that goes to the next place passes over nothing
-  pub on_next : passes_over i (was.frame.place + 1) ≡ false
+  on_next : passes_over i (was.frame.place + 1) ≡ false
   on_next = by i c.here
     where
       by : (j : Instr) → slice_get u.code was.frame.place ≡ Some j → passes_over j (was.frame.place + 1) ≡ false

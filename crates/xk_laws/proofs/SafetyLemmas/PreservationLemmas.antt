@@ -58,7 +58,7 @@ next_sound m old look before clocks then' now was act s n = record {
 -- ---- all others
 
 -- with more clocks and steps an activity stays sound
-pub sound_later : (m : ModuleValue) (look : ℕ → Kind) (before clocks then' now : ℕ) (act : Activity) → before ≤ clocks → then' ≤ now
+sound_later : (m : ModuleValue) (look : ℕ → Kind) (before clocks then' now : ℕ) (act : Activity) → before ≤ clocks → then' ≤ now
     → IsActivitySound m look before then' act → IsActivitySound m look clocks now act
 sound_later m look before clocks then' now act more later s = record {
   since = omega (arith, s.since);
@@ -105,7 +105,7 @@ left_near m w a was act clocks sound found l = record {
 }
 
 -- and at the end of the step sound
-pub left_sound : (m : ModuleValue) (w : World) (a : ℕ) (was act : Activity) (clocks : List Clock) (sound : IsSound m w) (found : slice_get w.activities a ≡ Some was)
+left_sound : (m : ModuleValue) (w : World) (a : ℕ) (was act : Activity) (clocks : List Clock) (sound : IsSound m w) (found : slice_get w.activities a ≡ Some was)
     → IsLeft m w a was act clocks → IsSound m (settled (left w a act clocks))
 left_sound m w a was act clocks sound found l = world_settled m (left w a act clocks) (left_near m w a was act clocks sound found l)
 

@@ -17,7 +17,7 @@ owner_is None (Some b) h = absurd (false≢true h)
 owner_is (Some a) None h = absurd (false≢true h)
 owner_is (Some a) (Some b) h = ap (λ n. Some n) (eqb-true a b h)
 
-pub finish_is : (f g : Finish) → same_finish f g ≡ true → f ≡ g
+finish_is : (f g : Finish) → same_finish f g ≡ true → f ≡ g
 finish_is f g h =
     let p = and_parts (same_owner f.owner g.owner) (f.depth == g.depth) h in
     ap (λ o. record { owner = o; depth = f.depth }) (owner_is f.owner g.owner p.0) ∙ ap (λ d. record { owner = g.owner; depth = d }) (eqb-true f.depth g.depth p.1)
@@ -26,7 +26,7 @@ owner_same : (p : Option ℕ) → same_owner p p ≡ true
 owner_same None = refl
 owner_same (Some a) = eq-eqb a a refl
 
-pub finish_same : (f : Finish) → same_finish f f ≡ true
+finish_same : (f : Finish) → same_finish f f ≡ true
 finish_same f = and_from (same_owner f.owner f.owner) (f.depth == f.depth) (owner_same f.owner) (eq-eqb f.depth f.depth refl)
 
 -- ---- under
@@ -65,7 +65,7 @@ module _ (acts : List Activity) (owned : AreOwned acts) (f : Finish) where
       by more (Some act) e = unfolded n b act e ∙ ap (λ x. same_finish act.governed f || x) (owner more act e act.governed.owner refl) ∙ sym (unfolded k b act e)
 
   -- an activity is under the finish where that governs it, or where the owner of what governs it is
-  pub under_is : (b : ℕ) (act : Activity) → slice_get acts b ≡ Some act
+  under_is : (b : ℕ) (act : Activity) → slice_get acts b ≡ Some act
       → is_under acts f b ≡ (same_finish act.governed f || option_map_or (is_under acts f) act.governed.owner false)
   under_is b act found = enough (length acts) (suc b) b (slice_get_within acts b act found) (omega arith) ∙ unfolded b b act found
       ∙ ap (λ x. same_finish act.governed f || x) (owner act.governed.owner refl)

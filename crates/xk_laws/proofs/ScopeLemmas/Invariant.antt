@@ -159,7 +159,7 @@ homes_kept m a g scopes more look new (f ∷ fs) keeps fewer h = (
 )
 
 -- an activity
-pub scoped_kept : (m : ModuleValue) (scopes more : List Finish) (look new : ℕ → Kind) (a : ℕ) (act : Activity) → Keeps scopes more
+scoped_kept : (m : ModuleValue) (scopes more : List Finish) (look new : ℕ → Kind) (a : ℕ) (act : Activity) → Keeps scopes more
     → ((c : ℕ) → NamedIn (act.frame ∷ act.callers) c → is_held (new c) ≡ true → is_held (look c) ≡ true) → IsScopedIn m scopes look a act → IsScopedIn m more new a act
 scoped_kept m scopes more look new a act keeps fewer s =
     record { opened = s.opened; rooms = s.rooms; owner = s.owner; homes = homes_kept m a act.governed scopes more look new (act.frame ∷ act.callers) keeps fewer s.homes }

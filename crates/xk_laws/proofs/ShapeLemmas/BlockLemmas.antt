@@ -80,7 +80,7 @@ is_border (instr.EndFinish b) = true
 is_border _ = false
 
 -- the head of a loop does neither
-pub head_plain : (n : ℕ) (i : Instr) (l : Loop) → loop_head n i ≡ Some l → is_border i ≡ false
+head_plain : (n : ℕ) (i : Instr) (l : Loop) → loop_head n i ≡ Some l → is_border i ≡ false
 head_plain n (instr.For k lo hi e) l h = refl
 head_plain n (instr.ForTo k lo x hi e) l h = refl
 head_plain n _ l h = absurd (none-some l h)

@@ -42,7 +42,7 @@ pub param_home : (u : UnitValue) (s : ℕ) → slice_get u.params s ≡ Some par
 param_home u s h = rw h (inl refl)
 
 -- what a parameter takes as a clock stands among the clocks that are handed on
-pub clock_has : (ps : List ParamKind) (xs : List ℕ) (s x : ℕ) → slice_get ps s ≡ Some param.Clock → slice_get xs s ≡ Some x → Has (clock_arguments ps xs) x
+clock_has : (ps : List ParamKind) (xs : List ℕ) (s x : ℕ) → slice_get ps s ≡ Some param.Clock → slice_get xs s ≡ Some x → Has (clock_arguments ps xs) x
 clock_has [] xs s x p o = absurd (none-some param.Clock p)
 clock_has (q ∷ ps) [] s x p o = absurd (none-some x o)
 clock_has (param.Number ∷ ps) (z ∷ xs) zero x p o = absurd (grind arith)

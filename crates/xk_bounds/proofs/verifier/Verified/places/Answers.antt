@@ -24,7 +24,7 @@ returns c =
     let inside : unit < length us = subst (λ vs. unit < length vs) (sym listed) c.requires in
     let found : slice_get m.units unit ≡ Some u = subst (λ vs. slice_get vs unit ≡ Some u) listed (slice_get_read us (length us) unit u refl inside c.index-units-unit.is) in
     let given : c.clocks_given-given.result ≡ given_to m unit =
-        c.clocks_given-given.ensures.given ∙ ap (λ o. count_by (λ p. takes_clock (Some p)) (option_map_or (λ v. v.params) o [])) (sym found) in
+    c.clocks_given-given.ensures.given ∙ ap (λ o. count_by (λ p. takes_clock (Some p)) (option_map_or (λ v. v.params) o [])) (sym found) in
     c.min.ensures
     ∙ ap (λ n. min (n + c.room.result.made) c.clocks.result) given
     ∙ ap (λ n. min (given_to m unit + n) c.clocks.result) c.room.ensures.made
