@@ -18,15 +18,15 @@ loop-printed-smaller g c =
     let after = c.turns.new.self in
     gone_less g.C.Chooser.answer g.C.Chooser.after c.args.start.module_run c.loop-printed.driver after c.loop-printed.chooser c.turns.new.chooser c.in-Some.turn
     c.loop-printed.invariant.same_module
-    (subst (IsGone g.C.Chooser.answer g.C.Chooser.after c.loop-printed.driver c.loop-printed.chooser after c.turns.new.chooser) c.in-Some.is c.in_ok-turns.ensures.gone)
-    (subst (λ o. IfSome o (λ turn. after.world.steps ≤ steps_bound after.module_run)) c.in-Some.is c.in_ok-turns.ensures.bound)
+    (subst (IsGone g.C.Chooser.answer g.C.Chooser.after c.loop-printed.driver c.loop-printed.chooser after c.turns.new.chooser) c.in-Some.is c.in_ok-turn.ensures.gone)
+    (subst (λ o. IfSome o (λ turn. after.world.steps ≤ steps_bound after.module_run)) c.in-Some.is c.in_ok-turn.ensures.bound)
 
 pub loop-printed-preserved : goal.loop-printed-preserved
 loop-printed-preserved g c =
     let on = front_gone g.C.Chooser.answer g.C.Chooser.after c.args.start.module_run c.args.start.world.arguments c.args.chooser.now c.loop-printed.driver c.turns.new.self
     c.loop-printed.chooser c.turns.new.chooser c.loop-printed.printed.items c.keep_printed.new.printed.items c.in-Some.turn c.loop-printed.invariant.same_module
     c.loop-printed.invariant.run
-    (subst (IsGone g.C.Chooser.answer g.C.Chooser.after c.loop-printed.driver c.loop-printed.chooser c.turns.new.self c.turns.new.chooser) c.in-Some.is c.in_ok-turns.ensures.gone)
+    (subst (IsGone g.C.Chooser.answer g.C.Chooser.after c.loop-printed.driver c.loop-printed.chooser c.turns.new.self c.turns.new.chooser) c.in-Some.is c.in_ok-turn.ensures.gone)
     c.in_ok-keep_printed.ensures in
     record { same_module = on.0; run = on.1 }
 
@@ -35,5 +35,5 @@ returns g c =
     front_ends g.C.Chooser.answer g.C.Chooser.after c.args.start.module_run c.args.start.world.arguments c.args.chooser.now c.loop-printed.driver c.turns.new.self
     c.loop-printed.chooser c.turns.new.chooser c.loop-printed.printed.items c.steps_done-steps.result c.loop-printed.invariant.same_module
     (subst (λ (x : CoreValue). AreArguments x.module_run x.world.arguments) c.in-Ok.ensures.same c.in-Ok.ensures.taken)
-    c.loop-printed.invariant.run c.in_ok-turns.field-0 c.in_default.not-Some c.in_ok-turns.ensures.gone
+    c.loop-printed.invariant.run c.in_ok-turn.field-0 c.in_default-2.not-Some c.in_ok-turn.ensures.gone
     (c.steps_done-steps.ensures.count ∙ ap (λ (x : CoreValue). x.world.steps) c.into_core.ensures)
