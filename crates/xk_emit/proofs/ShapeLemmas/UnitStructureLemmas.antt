@@ -217,7 +217,7 @@ module _ (u : UnitValue) (x : Nest) (plain : EachRow Plain x) (is : u.code ≡ l
   some at = let l = long in grind (arith, nat_tests)
 
   -- V7
-  ends : (at : ℕ) → breaks_end u at ≡ false
+  pub ends : (at : ℕ) → breaks_end u at ≡ false
   ends at = rw (
     is_none (λ i. is_ret i && nat_lt (at + 1) (length u.code)) (slice_get u.code at) (λ i h. ends_late at i (found at i h)),
     is_none (λ i. not (is_ret i) && (at + 1 == length u.code)) (slice_get u.code at) (λ i h. ends_there_alone at i (found at i h)),
