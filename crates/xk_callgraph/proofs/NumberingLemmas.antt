@@ -90,10 +90,10 @@ pub lead_on : (calls : List (List ℕ)) (seen : List ℕ) (here next k : ℕ) �
 lead_on calls seen here next k call lead j full = reaches_on calls j here next k (lead j full) call
 
 -- what stands at a place, read as a number
-pub pending_at : (xs : List ℕ) (k j : ℕ) → slice_get xs k ≡ Some j → slice_index xs k ≡ j
-pending_at [] k j e = absurd cc
-pending_at (x ∷ xs) zero j e = cc
-pending_at (x ∷ xs) (suc k) j e = pending_at xs k j e
+pub awaited_at : (xs : List ℕ) (k j : ℕ) → slice_get xs k ≡ Some j → slice_index xs k ≡ j
+awaited_at [] k j e = absurd cc
+awaited_at (x ∷ xs) zero j e = cc
+awaited_at (x ∷ xs) (suc k) j e = awaited_at xs k j e
 
 -- what stands at a place within
 pub here_is : (xs : List ℕ) (k : ℕ) → k < length xs → slice_get xs k ≡ Some (slice_index xs k)

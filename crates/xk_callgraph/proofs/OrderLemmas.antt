@@ -207,18 +207,18 @@ below_top (x ∷ xs) (suc i) = let h = below_top xs i in omega arith
 climb : (calls : List (List ℕ)) (numbers left : List ℕ) (top : ℕ) → Falls calls numbers → AtMost numbers top
     → ((j : ℕ) → 0 < slice_index left j → 0 < pending (length calls) calls left j)
     → (fuel j : ℕ) → top < slice_index numbers j + fuel → 0 < slice_index left j → ⊥
-climb calls numbers left top falls most pending zero j h m = let b = most j in absurd (omega arith)
-climb calls numbers left top falls most pending (suc fuel) j h m =
-    let w = pending_who (length calls) calls left j (pending j m) in
+climb calls numbers left top falls most awaited zero j h m = let b = most j in absurd (omega arith)
+climb calls numbers left top falls most awaited (suc fuel) j h m =
+    let w = pending_who (length calls) calls left j (awaited j m) in
     let up = falls w.0 w.2.0 j w.2.1 in
-    climb calls numbers left top falls most pending fuel w.0 (omega arith) w.1
+    climb calls numbers left top falls most awaited fuel w.0 (omega arith) w.1
 
 -- where nobody is left who waits for no call, nobody is left
 pub none_left : (calls : List (List ℕ)) (left : List ℕ) → CanFall calls → ((j : ℕ) → 0 < slice_index left j → 0 < pending (length calls) calls left j)
     → (j : ℕ) → slice_index left j ≡ 0
-none_left calls left falls pending j =
+none_left calls left falls awaited j =
     elim (cases_lt 0 (slice_index left j)) [
-      | inl m ↦ absurd (climb calls falls.0 left (top_of falls.0) falls.1 (below_top falls.0) pending (suc (top_of falls.0)) j (omega arith) m)
+      | inl m ↦ absurd (climb calls falls.0 left (top_of falls.0) falls.1 (below_top falls.0) awaited (suc (top_of falls.0)) j (omega arith) m)
       | inr z ↦ omega arith
     ]
 

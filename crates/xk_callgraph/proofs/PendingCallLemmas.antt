@@ -9,7 +9,7 @@ use Rattle.std.specs.Ordering.{nat_cmp, is_eq}
 use Rattle.std.specs.declared.cmp.Ordering.TheVariants.{Less, Equal, Greater}
 use Rattle.xk_callgraph.specs.CallGraph.{called_by, IsCall}
 use Rattle.xk_callgraph.specs.TopologicalOrder.{times, pending, AreReady}
-use Rattle.xk_callgraph.proofs.NumberingLemmas.{here_is, pending_at}
+use Rattle.xk_callgraph.proofs.NumberingLemmas.{here_is, awaited_at}
 use Rattle.xk_callgraph.proofs.ReachabilityLemmas.{set_here, set_other, within_full}
 
 -- ---- how often a number stands in a list
@@ -49,7 +49,7 @@ times_in js j h =
     (w.0, here_is js w.0 w.1 ∙ ap Some w.2)
 
 times_has : (js : List ℕ) (k j : ℕ) → slice_get js k ≡ Some j → 0 < times (length js) js j
-times_has js k j e = times_some (length js) js k j (slice_get_within js k j e) (pending_at js k j e)
+times_has js k j e = times_some (length js) js k j (slice_get_within js k j e) (awaited_at js k j e)
 
 times_suc_here : (n : ℕ) (js : List ℕ) (j : ℕ) → slice_index js n ≡ j → times (suc n) js j ≡ times n js j + 1
 times_suc_here n js j same = go (nat_eq (slice_index js n) j) (eq-eqb (slice_index js n) j same)
@@ -215,29 +215,29 @@ kept s n k b u q ne = u.2 q (at_other k q ne)
 
 -- ---- the counts and the set, as calls are taken off
 
-pub taken_off : (pending old called : List ℕ) (k : ℕ) → slice_index called k < length pending → 0 < slice_index pending (slice_index called k)
-    → ((j : ℕ) → slice_index pending j + times k called j ≡ slice_index old j)
-    → (j : ℕ) → slice_index (set pending (slice_index called k) (slice_index pending (slice_index called k) - 1)) j + times (k + 1) called j ≡ slice_index old j
-taken_off pending old called k h full counts j =
+pub taken_off : (awaited old called : List ℕ) (k : ℕ) → slice_index called k < length awaited → 0 < slice_index awaited (slice_index called k)
+    → ((j : ℕ) → slice_index awaited j + times k called j ≡ slice_index old j)
+    → (j : ℕ) → slice_index (set awaited (slice_index called k) (slice_index awaited (slice_index called k) - 1)) j + times (k + 1) called j ≡ slice_index old j
+taken_off awaited old called k h full counts j =
     let i = slice_index called k in
-    let v = slice_index pending i - 1 in
+    let v = slice_index awaited i - 1 in
     let c = counts j in
     elim (cases_eq j i) [
       | inl same ↦
-          let new : slice_index (set pending i v) j ≡ v = ap (slice_index (set pending i v)) same ∙ set_here pending i v h in
-          let was : slice_index pending j ≡ slice_index pending i = ap (slice_index pending) same in
+          let new : slice_index (set awaited i v) j ≡ v = ap (slice_index (set awaited i v)) same ∙ set_here awaited i v h in
+          let was : slice_index awaited j ≡ slice_index awaited i = ap (slice_index awaited) same in
           let t = times_here k called j (sym same) in
           omega arith
       | inr other ↦
-          let new = set_other pending i v j other in
+          let new = set_other awaited i v j other in
           let t = times_other k called j (λ e. other (sym e)) in
           omega arith
     ]
 
 -- one becomes ready
-pub ready_more : (left pending next : List ℕ) (s n : BTreeSet ℕ) (i : ℕ) → AreReady left pending s → Updates nat_cmp s n i true → 0 < slice_index left i
-    → slice_index next i ≡ 0 → ((j : ℕ) → j ≢ i → slice_index next j ≡ slice_index pending j) → AreReady left next n
-ready_more left pending next s n i old u there free same = record {
+pub ready_more : (left awaited next : List ℕ) (s n : BTreeSet ℕ) (i : ℕ) → AreReady left awaited s → Updates nat_cmp s n i true → 0 < slice_index left i
+    → slice_index next i ≡ 0 → ((j : ℕ) → j ≢ i → slice_index next j ≡ slice_index awaited j) → AreReady left next n
+ready_more left awaited next s n i old u there free same = record {
   unplaced = λ j m. elim (cases_eq j i) [
     | inl e ↦ subst (λ x. 0 < slice_index left x) (sym e) there
     | inr ne ↦ old.unplaced j (sym (kept s n i true u j ne) ∙ m)
@@ -253,12 +253,12 @@ ready_more left pending next s n i old u there free same = record {
 }
 
 -- one still waits
-pub ready_same : (left pending next : List ℕ) (s : BTreeSet ℕ) (i : ℕ) → AreReady left pending s → 0 < slice_index pending i
-    → slice_index next i ≢ 0 → ((j : ℕ) → j ≢ i → slice_index next j ≡ slice_index pending j) → AreReady left next s
-ready_same left pending next s i old full still same = record {
+pub ready_same : (left awaited next : List ℕ) (s : BTreeSet ℕ) (i : ℕ) → AreReady left awaited s → 0 < slice_index awaited i
+    → slice_index next i ≢ 0 → ((j : ℕ) → j ≢ i → slice_index next j ≡ slice_index awaited j) → AreReady left next s
+ready_same left awaited next s i old full still same = record {
   unplaced = old.unplaced;
   free = λ j m. elim (cases_eq j i) [
-    | inl e ↦ let z = old.free j m in let f = ap (slice_index pending) e in absurd (omega arith)
+    | inl e ↦ let z = old.free j m in let f = ap (slice_index awaited) e in absurd (omega arith)
     | inr ne ↦ same j ne ∙ old.free j m
   ];
   all = λ j m z. elim (cases_eq j i) [
@@ -276,9 +276,9 @@ no_keys [] h = refl
 no_keys (x ∷ ks) h = let e = h (omega arith) in absurd cc
 
 -- none but one waits for no call, and that one gets its place
-pub ready_none : (left pending : List ℕ) (s : BTreeSet ℕ) (i : ℕ) → s.keys ≡ [] → i < length left → ((j : ℕ) → 0 < slice_index left j → slice_index pending j ≡ 0 → i ≡ j)
-    → AreReady (set left i 0) pending s
-ready_none left pending s i e h only = record {
+pub ready_none : (left awaited : List ℕ) (s : BTreeSet ℕ) (i : ℕ) → s.keys ≡ [] → i < length left → ((j : ℕ) → 0 < slice_index left j → slice_index awaited j ≡ 0 → i ≡ j)
+    → AreReady (set left i 0) awaited s
+ready_none left awaited s i e h only = record {
   unplaced = λ j m. absurd (not_in_empty s j e m);
   free = λ j m. absurd (not_in_empty s j e m);
   all = λ j m z. elim (cases_eq j i) [

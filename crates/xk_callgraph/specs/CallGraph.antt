@@ -60,7 +60,7 @@ Waits calls numbers i k = (j : ℕ) × IsCall calls i k j × (slice_index number
 
 -- each of the first methods that has no number waits at the call that is noted for it
 abbrev pub AreStuck : List (List ℕ) → List ℕ → List ℕ → ℕ → Type 0
-AreStuck calls numbers pending count = (i : ℕ) → i < count → slice_index numbers i ≡ 0 → Waits calls numbers i (slice_index pending i)
+AreStuck calls numbers awaited count = (i : ℕ) → i < count → slice_index numbers i ≡ 0 → Waits calls numbers i (slice_index awaited i)
 
 -- how many have no number
 abbrev pub zeros : List ℕ → ℕ

@@ -55,13 +55,13 @@ pending (suc n) calls left j = (if slice_index left n == 0 then 0 else times (le
 
 -- the counts are right
 abbrev pub AreCounts : List (List ℕ) → List ℕ → List ℕ → Type 0
-AreCounts calls left pending = (j : ℕ) → slice_index pending j ≡ pending (length calls) calls left j
+AreCounts calls left awaited = (j : ℕ) → slice_index awaited j ≡ pending (length calls) calls left j
 
 -- the set has those that are left and wait for no call
-pub record AreReady (left pending : List ℕ) (ready : BTreeSet ℕ) : Type 0 where
+pub record AreReady (left awaited : List ℕ) (ready : BTreeSet ℕ) : Type 0 where
   pub unplaced : (j : ℕ) → IsTrue (contains nat_cmp ready j) → 0 < slice_index left j
-  pub free : (j : ℕ) → IsTrue (contains nat_cmp ready j) → slice_index pending j ≡ 0
-  pub all : (j : ℕ) → 0 < slice_index left j → slice_index pending j ≡ 0 → IsTrue (contains nat_cmp ready j)
+  pub free : (j : ℕ) → IsTrue (contains nat_cmp ready j) → slice_index awaited j ≡ 0
+  pub all : (j : ℕ) → 0 < slice_index left j → slice_index awaited j ≡ 0 → IsTrue (contains nat_cmp ready j)
 
 -- numbers fall along each call
 abbrev pub CanFall : List (List ℕ) → Type 0

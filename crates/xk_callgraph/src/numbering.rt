@@ -55,7 +55,7 @@ fn place(
     ensures top { OnOk result (AtMost numbers.new (vec_len placed.new)) }
     ensures less { result ≡ Ok None → zeros numbers.new + 1 ≡ zeros numbers.old }
     ensures same { IfOk result (λ o. IfSome o (λ k. numbers.new ≡ numbers.old)) }
-    ensures pending { IfOk result (λ o. IfSome o (λ k. Waits (adjacency calls.now) numbers.old i
+    ensures awaited { IfOk result (λ o. IfSome o (λ k. Waits (adjacency calls.now) numbers.old i
         k)) }
 {
     match keeps_waiting(called_by(calls, i), numbers) {
@@ -95,24 +95,24 @@ fn place_next(
     calls: &[Vec<usize>],
     numbers: &mut [usize],
     placed: &mut Vec<usize>,
-    pending: &mut [usize],
+    awaited: &mut [usize],
 ) -> Result<bool, AllocError>
     requires within { AreWithin (adjacency calls.now) }
     requires all { length numbers.old ≡ length calls.now }
-    requires noted { length pending.old ≡ length calls.now }
+    requires noted { length awaited.old ≡ length calls.now }
     requires numbered { IsNumbered (adjacency calls.now) numbers.old }
     requires top { AtMost numbers.old (vec_len placed.old) }
     ensures numbered { OnOk result (IsNumbered (adjacency calls.now) numbers.new) }
     ensures top { OnOk result (AtMost numbers.new (vec_len placed.new)) }
     ensures more { result ≡ Ok true → zeros numbers.new < zeros numbers.old }
     ensures stuck { result ≡ Ok false →
-        AreStuck (adjacency calls.now) numbers.new pending.new (length numbers.new) }
+        AreStuck (adjacency calls.now) numbers.new awaited.new (length numbers.new) }
 {
     for i in 0..numbers.len() {
         if numbers[i] == 0 {
             match place(calls, numbers, placed, i)? {
                 None => return Ok(true),
-                Some(k) => pending[i] = k,
+                Some(k) => awaited[i] = k,
             }
         }
     }
@@ -124,18 +124,18 @@ fn place_rest(
     calls: &[Vec<usize>],
     numbers: &mut [usize],
     placed: &mut Vec<usize>,
-    pending: &mut [usize],
+    awaited: &mut [usize],
 ) -> Result<(), AllocError>
     requires within { AreWithin (adjacency calls.now) }
     requires all { length numbers.old ≡ length calls.now }
-    requires noted { length pending.old ≡ length calls.now }
+    requires noted { length awaited.old ≡ length calls.now }
     requires numbered { IsNumbered (adjacency calls.now) numbers.old }
     requires top { AtMost numbers.old (vec_len placed.old) }
     ensures numbered { OnOk result (IsNumbered (adjacency calls.now) numbers.new) }
     ensures stuck { OnOk result
-        (AreStuck (adjacency calls.now) numbers.new pending.new (length numbers.new)) }
+        (AreStuck (adjacency calls.now) numbers.new awaited.new (length numbers.new)) }
 {
-    while place_next(calls, numbers, placed, pending)? {}
+    while place_next(calls, numbers, placed, awaited)? {}
     Ok(())
 }
 
@@ -157,15 +157,15 @@ fn unplaced(numbers: &[usize]) -> Option<usize>
 fn walk_round(
     calls: &[Vec<usize>],
     numbers: &[usize],
-    pending: &[usize],
+    awaited: &[usize],
     seen: &mut [usize],
     start: usize,
 ) -> CallPlace
     requires within { AreWithin (adjacency calls.now) }
     requires all { length numbers.now ≡ length calls.now }
-    requires noted { length pending.now ≡ length calls.now }
+    requires noted { length awaited.now ≡ length calls.now }
     requires unseen { length seen.old ≡ length calls.now }
-    requires stuck { AreStuck (adjacency calls.now) numbers.now pending.now (length numbers.now) }
+    requires stuck { AreStuck (adjacency calls.now) numbers.now awaited.now (length numbers.now) }
     requires method { start < length numbers.now }
     requires none { slice_index numbers.now start ≡ 0 }
     requires fresh { (j : ℕ) → slice_index seen.old j ≡ 0 }
@@ -174,7 +174,7 @@ fn walk_round(
     let mut here = start;
     loop {
         seen[here] = 1;
-        let index = pending[here];
+        let index = awaited[here];
         let next = called_by(calls, here)[index];
         if seen[next] != 0 {
             return CallPlace {
@@ -191,12 +191,12 @@ fn number_each(
     alloc: Global,
     calls: &[Vec<usize>],
     numbers: &mut [usize],
-    pending: &mut [usize],
+    awaited: &mut [usize],
     order: &[usize],
 ) -> Result<Option<CallPlace>, AllocError>
     requires within { AreWithin (adjacency calls.now) }
     requires all { length numbers.old ≡ length calls.now }
-    requires noted { length pending.old ≡ length calls.now }
+    requires noted { length awaited.old ≡ length calls.now }
     requires fresh { (j : ℕ) → slice_index numbers.old j ≡ 0 }
     ensures falls { result ≡ Ok None → Falls (adjacency calls.now) numbers.new }
     ensures found { IfOk result (λ o. IfSome o (λ p.
@@ -204,12 +204,12 @@ fn number_each(
 {
     let mut placed = Vec::new(alloc);
     place_in_order(calls, numbers, &mut placed, order)?;
-    place_rest(calls, numbers, &mut placed, pending)?;
+    place_rest(calls, numbers, &mut placed, awaited)?;
     match unplaced(numbers) {
         None => Ok(None),
         Some(start) => {
             let mut seen = vec![in alloc; 0usize; calls.len()]?;
-            Ok(Some(walk_round(calls, numbers, pending, &mut seen, start)))
+            Ok(Some(walk_round(calls, numbers, awaited, &mut seen, start)))
         }
     }
 }
@@ -228,8 +228,8 @@ fn number_all(
         IsRecursive (adjacency calls.now) p.caller p.index)) }
 {
     let mut numbers = vec![in alloc; 0usize; calls.len()]?;
-    let mut pending = vec![in alloc; 0usize; calls.len()]?;
-    let found = number_each(alloc, calls, &mut numbers, &mut pending, order)?;
+    let mut awaited = vec![in alloc; 0usize; calls.len()]?;
+    let found = number_each(alloc, calls, &mut numbers, &mut awaited, order)?;
     match found {
         None => Ok(Ok(numbers)),
         Some(place) => Ok(Err(place)),
@@ -332,8 +332,8 @@ fn follow(
     seen: &mut [usize],
     wanted: usize,
 ) -> Result<bool, AllocError>
-    ensures within { OnOk result ((start : ℕ) → AreReached (adjacency calls.now) start
-        reached.old.items
+    ensures within { OnOk result ((start : ℕ)
+        → AreReached (adjacency calls.now) start reached.old.items
         → AreReached (adjacency calls.now) start reached.new.items) }
     ensures found { result ≡ Ok true → (start : ℕ)
         → AreReached (adjacency calls.now) start reached.old.items

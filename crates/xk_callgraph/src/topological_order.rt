@@ -98,28 +98,28 @@ fn mark_reached(alloc: Global, calls: &[Vec<usize>], start: usize) -> Result<Vec
 
 /// Counts the calls of each method that a list has.
 #[tactic(auto, using(crate::proofs::PendingCallLemmas::times_at_most))]
-fn count_called(called: &[usize], pending: &mut [u128])
-    requires within { (k j : ℕ) → slice_get called.now k ≡ Some j → j < length pending.old }
-    requires room { (j : ℕ) → slice_index pending.old j + length called.now < 2 ^ 128 }
-    ensures { (j : ℕ) → slice_index pending.new j
-        ≡ slice_index pending.old j + times (length called.now) called.now j }
+fn count_called(called: &[usize], awaited: &mut [u128])
+    requires within { (k j : ℕ) → slice_get called.now k ≡ Some j → j < length awaited.old }
+    requires room { (j : ℕ) → slice_index awaited.old j + length called.now < 2 ^ 128 }
+    ensures { (j : ℕ) → slice_index awaited.new j
+        ≡ slice_index awaited.old j + times (length called.now) called.now j }
 {
     for k in 0..called.len() {
-        pending[called[k]] += 1;
+        awaited[called[k]] += 1;
     }
 }
 
 /// Counts for each method the calls of it that those make that are left. Fewer than 2^64 lists of fewer than 2^64 calls fit in 128 bits.
-fn count_callers(calls: &[Vec<usize>], left: &[usize], pending: &mut [u128])
+fn count_callers(calls: &[Vec<usize>], left: &[usize], awaited: &mut [u128])
     requires within { AreWithin (adjacency calls.now) }
     requires all { length left.now ≡ length calls.now }
-    requires counted { length pending.old ≡ length calls.now }
-    requires fresh { (j : ℕ) → slice_index pending.old j ≡ 0 }
-    ensures { AreCounts (adjacency calls.now) left.now pending.new }
+    requires counted { length awaited.old ≡ length calls.now }
+    requires fresh { (j : ℕ) → slice_index awaited.old j ≡ 0 }
+    ensures { AreCounts (adjacency calls.now) left.now awaited.new }
 {
     for i in 0..calls.len() {
         if left[i] != 0 {
-            count_called(called_by(calls, i), pending);
+            count_called(called_by(calls, i), awaited);
         }
     }
 }
@@ -127,22 +127,22 @@ fn count_callers(calls: &[Vec<usize>], left: &[usize], pending: &mut [u128])
 /// Takes calls off the counts. Who waits for no call any more becomes ready.
 fn release(
     called: &[usize],
-    pending: &mut [u128],
+    awaited: &mut [u128],
     ready: &mut BTreeSet<usize>,
 ) -> Result<(), AllocError>
-    requires within { (k j : ℕ) → slice_get called.now k ≡ Some j → j < length pending.old }
-    requires counted { (j : ℕ) → times (length called.now) called.now j ≤ slice_index pending.old
+    requires within { (k j : ℕ) → slice_get called.now k ≡ Some j → j < length awaited.old }
+    requires counted { (j : ℕ) → times (length called.now) called.now j ≤ slice_index awaited.old
         j }
-    ensures pending { OnOk result ((j : ℕ) → slice_index pending.new j
-        + times (length called.now) called.now j ≡ slice_index pending.old j) }
-    ensures ready { OnOk result ((left : List ℕ) → AreReady left pending.old ready.old
+    ensures awaited { OnOk result ((j : ℕ) → slice_index awaited.new j
+        + times (length called.now) called.now j ≡ slice_index awaited.old j) }
+    ensures ready { OnOk result ((left : List ℕ) → AreReady left awaited.old ready.old
         → ((k j : ℕ) → slice_get called.now k ≡ Some j → 0 < slice_index left j)
-        → AreReady left pending.new ready.new) }
+        → AreReady left awaited.new ready.new) }
 {
     for k in 0..called.len() {
         let j = called[k];
-        pending[j] -= 1;
-        if pending[j] == 0 {
+        awaited[j] -= 1;
+        if awaited[j] == 0 {
             ready.insert(j)?;
         }
     }
@@ -153,24 +153,24 @@ fn release(
 fn place(
     calls: &[Vec<usize>],
     left: &mut [usize],
-    pending: &mut [u128],
+    awaited: &mut [u128],
     ready: &mut BTreeSet<usize>,
     i: usize,
 ) -> Result<(), AllocError>
     requires within { AreWithin (adjacency calls.now) }
     requires all { length left.old ≡ length calls.now }
-    requires counted { length pending.old ≡ length calls.now }
+    requires counted { length awaited.old ≡ length calls.now }
     requires left { 0 < slice_index left.old i }
-    requires counts { AreCounts (adjacency calls.now) left.old pending.old }
-    requires free { slice_index pending.old i ≡ 0 }
+    requires counts { AreCounts (adjacency calls.now) left.old awaited.old }
+    requires free { slice_index awaited.old i ≡ 0 }
     requires called { (k j : ℕ) → IsCall (adjacency calls.now) i k j → 0 < slice_index left.old j }
-    requires ready { AreReady (set left.old i 0) pending.old ready.old }
+    requires ready { AreReady (set left.old i 0) awaited.old ready.old }
     ensures left { OnOk result (left.new ≡ set left.old i 0) }
-    ensures counts { OnOk result (AreCounts (adjacency calls.now) left.new pending.new) }
-    ensures ready { OnOk result (AreReady left.new pending.new ready.new) }
+    ensures counts { OnOk result (AreCounts (adjacency calls.now) left.new awaited.new) }
+    ensures ready { OnOk result (AreReady left.new awaited.new ready.new) }
 {
     left[i] = 0;
-    release(called_by(calls, i), pending, ready)?;
+    release(called_by(calls, i), awaited, ready)?;
     Ok(())
 }
 
@@ -179,15 +179,15 @@ fn place_all(
     alloc: Global,
     calls: &[Vec<usize>],
     left: &mut [usize],
-    pending: &mut [u128],
+    awaited: &mut [u128],
     start: usize,
 ) -> Result<Vec<usize>, AllocError>
     requires within { AreWithin (adjacency calls.now) }
     requires falls { CanFall (adjacency calls.now) }
     requires all { length left.old ≡ length calls.now }
-    requires counted { length pending.old ≡ length calls.now }
+    requires counted { length awaited.old ≡ length calls.now }
     requires left { MarksReached (adjacency calls.now) start left.old }
-    requires counts { AreCounts (adjacency calls.now) left.old pending.old }
+    requires counts { AreCounts (adjacency calls.now) left.old awaited.old }
     ensures first { IfOk result (λ order. slice_get order.items 0 ≡ Some start) }
     ensures reached { IfOk result (λ order. AreReached (adjacency calls.now) start order.items) }
     ensures later { IfOk result (λ order. IsInOrder (adjacency calls.now) order.items) }
@@ -197,10 +197,10 @@ fn place_all(
     let mut ready = BTreeSet::new(alloc);
     let mut order = Vec::new(alloc);
     order.push(start)?;
-    place(calls, left, pending, &mut ready, start)?;
+    place(calls, left, awaited, &mut ready, start)?;
     while let Some(i) = ready.pop_first() {
         order.push(i)?;
-        place(calls, left, pending, &mut ready, i)?;
+        place(calls, left, awaited, &mut ready, i)?;
     }
     Ok(order)
 }
@@ -231,9 +231,9 @@ pub fn order_from(
     match r {
         Ok(_) => {
             let mut left = mark_reached(alloc, calls, start)?;
-            let mut pending = vec![in alloc; 0u128; calls.len()]?;
-            count_callers(calls, &left, &mut pending);
-            let order = place_all(alloc, calls, &mut left, &mut pending, start)?;
+            let mut awaited = vec![in alloc; 0u128; calls.len()]?;
+            count_callers(calls, &left, &mut awaited);
+            let order = place_all(alloc, calls, &mut left, &mut awaited, start)?;
             Ok(Ok(order))
         }
         Err(place) => Ok(Err(place)),

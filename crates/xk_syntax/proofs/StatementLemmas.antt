@@ -528,7 +528,7 @@ no_list (Drop w v) after = refl
 no_list (AdvanceAll at v) after = refl
 no_list (Print at v e) after = refl
 
-unlisted : Statements → List Statement
+pub unlisted : Statements → List Statement
 unlisted Done = []
 unlisted (More s ss) = s ∷ unlisted ss
 

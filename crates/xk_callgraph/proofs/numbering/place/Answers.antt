@@ -11,8 +11,8 @@ keeps_waiting-requires c = record {
       omega (arith, h, length-adjacency c.args.calls.now, c.requires.all);
 }
 
-pub returns-in-Some-clause-pending : goal.returns-in-Some-clause-pending
-returns-in-Some-clause-pending c =
+pub returns-in-Some-clause-awaited : goal.returns-in-Some-clause-awaited
+returns-in-Some-clause-awaited c =
     let w = c.in-Some.ensures in
     (w.0, subst (λ (xs : List ℕ). slice_get xs c.in-Some.k ≡ Some w.0) c.called_by.ensures w.1.0, w.1.1)
 

@@ -6,5 +6,5 @@ abbrev pub invariant-loop-i : goal.invariant-loop-i
 invariant-loop-i l = record {
   same : l.numbers ≡ l.fn.numbers;
   top : AtMost l.numbers (vec_len l.placed);
-  stuck : AreStuck (adjacency l.calls) l.numbers l.pending l.i;
+  stuck : AreStuck (adjacency l.calls) l.numbers l.awaited l.i;
 }

@@ -2,7 +2,7 @@ use Rattle.std.proofs.Common.{◌≡◌, ◌<◌, ℕ, List, slice_get, slice_in
 use Rattle.std.proofs.lemmas.Bool.{cases_eq}
 use Rattle.std.proofs.lemmas.Option.{slice_get_within}
 use Rattle.xk_callgraph.specs.CallGraph.{adjacency}
-use Rattle.xk_callgraph.proofs.NumberingLemmas.{call_at, reaches_on, pending_at}
+use Rattle.xk_callgraph.proofs.NumberingLemmas.{call_at, reaches_on, awaited_at}
 use Rattle.xk_callgraph.proofs.topological_order.mark_called.Goals as goal
 
 pub loop-k-preserved : goal.loop-k-preserved
@@ -13,7 +13,7 @@ loop-k-preserved c =
     record {
       marked = λ k j below e. elim (cases_eq k c.loop-k.k) [
         | inl same ↦
-            let this : new ≡ j = ap (slice_index row) (sym same) ∙ pending_at row k j e in
+            let this : new ≡ j = ap (slice_index row) (sym same) ∙ awaited_at row k j e in
             subst (λ (x : ℕ). 0 < slice_index c.mark.new.seen x) this c.in_ok-mark.ensures.marked
         | inr other ↦ c.in_ok-mark.ensures.more j (c.loop-k.invariant.marked k j (omega arith) e)
       ];

@@ -22,7 +22,7 @@ returns-clause-counts c = λ j.
     let h : c.args.i < length calls = omega (arith, length-adjacency c.args.calls.now) in
     let less = pending_less (length calls) calls c.args.left.now c.args.i j h c.requires.left in
     let row = ap (λ (xs : List ℕ). times (length xs) xs j) c.called_by.ensures in
-    omega (arith, less, row, c.requires.counts j, c.in_ok-release.ensures.pending j)
+    omega (arith, less, row, c.requires.counts j, c.in_ok-release.ensures.awaited j)
 
 pub returns-clause-ready : goal.returns-clause-ready
 returns-clause-ready c =

@@ -26,7 +26,7 @@ place-requires-clause-called c =
 pub place-requires-clause-ready : goal.place-requires-clause-ready
 place-requires-clause-ready c =
     let calls = adjacency c.args.calls.now in
-    ready_none c.args.left.now c.args.pending.now c.new-ready.result c.args.start c.new-ready.ensures.empty
+    ready_none c.args.left.now c.args.awaited.now c.new-ready.result c.args.start c.new-ready.ensures.empty
     (within_full c.args.left.now c.args.start (first_left calls c.args.start c.args.left.now c.requires.left))
     (λ j m z. only_start calls c.args.start c.args.left.now c.requires.left j m (sym (c.requires.counts j) ∙ z))
 
@@ -93,7 +93,7 @@ returns-clause-later c =
     elim (cases_lt 0 (pending (length calls) calls left j)) [
       | inl full ↦ full
       | inr z ↦
-          let free : slice_index c.loop-i.pending j ≡ 0 = omega (arith, c.loop-i.invariant.counts j) in
+          let free : slice_index c.loop-i.awaited j ≡ 0 = omega (arith, c.loop-i.invariant.counts j) in
           absurd (not_in_empty c.loop-i.ready j (no_keys c.loop-i.ready.keys c.in_default.ensures.variant.1) (c.loop-i.invariant.ready.all j m free))
     ] in
     all_later calls c.args.start c.args.left.now left c.loop-i.order.items c.requires.left c.loop-i.invariant.begun (none_left calls left c.requires.falls waiting)

@@ -7,8 +7,8 @@ use Rattle.xk_callgraph.proofs.topological_order.place_all.Given as goal
 abbrev pub invariant-loop-i : goal.invariant-loop-i
 invariant-loop-i l = record {
   begun : IsBegun (adjacency l.calls) l.start l.fn.left l.left l.order.items;
-  counts : AreCounts (adjacency l.calls) l.left l.pending;
-  ready : AreReady l.left l.pending l.ready;
+  counts : AreCounts (adjacency l.calls) l.left l.awaited;
+  ready : AreReady l.left l.awaited l.ready;
   first : slice_get l.order.items 0 ≡ Some l.start;
 }
 

@@ -4,7 +4,7 @@ use Rattle.xk_callgraph.proofs.topological_order.release.Given as goal
 
 abbrev pub invariant-loop-k : goal.invariant-loop-k
 invariant-loop-k l = record {
-  pending : (j : ℕ) → slice_index l.pending j + times l.k l.called j ≡ slice_index l.fn.pending j;
-  ready : (left : List ℕ) → AreReady left l.fn.pending l.fn.ready → ((k j : ℕ) → slice_get l.called k ≡ Some j → 0 < slice_index left j)
-      → AreReady left l.pending l.ready;
+  awaited : (j : ℕ) → slice_index l.awaited j + times l.k l.called j ≡ slice_index l.fn.awaited j;
+  ready : (left : List ℕ) → AreReady left l.fn.awaited l.fn.ready → ((k j : ℕ) → slice_get l.called k ≡ Some j → 0 < slice_index left j)
+      → AreReady left l.awaited l.ready;
 }
