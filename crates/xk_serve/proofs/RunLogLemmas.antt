@@ -22,7 +22,7 @@ use Rattle.xk_serve.specs.OneAnswer.{IsChartOf, IsCharted, MayChart, charting, d
 use Rattle.xk_serve.specs.OrderedRun.{IsReplay, IsWholeRun}
 use Rattle.xk_serve.specs.Programs.{Gives}
 use Rattle.xk_serve.proofs.AnswerUniquenessLemmas.{prints, prints_once, whole_prints}
-use Rattle.xk_scheduler.proofs.UnloggedRunLemmas.{run_weaker}
+use Rattle.xk_serve.proofs.OrderedRunLemmas.{run_weaker}
 
 -- ---- what was written
 

@@ -18,8 +18,7 @@ use Rattle.xk_scheduler.specs.Choosers.{Follows, enabled_in, goes_on, turn_after
 use Rattle.xk_scheduler.proofs.EnabledSetLemmas.{going}
 use Rattle.xk_cli.specs.declared.job.Order.{Order}
 use Rattle.xk_cli.specs.declared.job.Order.TheVariants as order
-use Rattle.xk_scheduler.specs.WholeRuns.{IsRunThat}
-use Rattle.xk_serve.specs.OrderedRun.{FollowsOrder, IsLoggedRun, IsOrderedRun}
+use Rattle.xk_serve.specs.OrderedRun.{FollowsOrder, IsLoggedRun, IsOrderedRun, IsRunThat}
 
 -- ---- whoever chooses
 

@@ -4,6 +4,7 @@ ghost use Rattle.std.specs.Prelude.{◌≡◌, ◌≢◌, ℕ, ℤ, List, false,
 ghost use Rattle.xk_types.specs.Acceptance.{IsAccepted};
 ghost use Rattle.xk_types.specs.World.{AreArguments};
 ghost use Rattle.xk_serve.specs.Answer.{Chart, Check, ComesTo, Compile, IsLogText, IsNotRun, IsRefusal, Replay, Run, Succeeds, reads_log, task_of, way_given};
+ghost use Rattle.xk_cli.specs.CommandLine.{By, In};
 ghost use Rattle.xk_cli.specs.Status.{status_program};
 ghost use Rattle.xk_serve.specs.Lines.{status_of};
 ghost use Rattle.xk_serve.specs.Devices.{AgainstLog, AgainstModule, AgainstRun, read_of};
@@ -11,13 +12,14 @@ ghost use Rattle.xk_serve.specs.declared.fault.Fault.TheVariants.{OutOfMemory};
 
 use crate::fault::Fault;
 use crate::job_result::Done;
-use crate::module_run::run_module;
+use crate::logged_run::{run_by_workers, run_with_log, steps_of};
+use crate::ordered_run::run_in_order;
 use crate::program_loader::module_in;
-use std::alloc::Global;
+use std::alloc::{AllocError, Global};
 use std::sync::Wait;
 use std::thread::Threads;
 use xk_bounds::{Verified, verify};
-use xk_cli::{Command, Drive, Job};
+use xk_cli::{Command, Drive, Job, Order, Workers};
 use xk_log::read_log;
 use xk_module::write_module;
 use xk_replay::{chart, replay};
@@ -94,7 +96,7 @@ fn run_driven<R: Threads + Wait + Sync>(
     ensures fault { IfErr result (IsNotRun m arguments.now) }
 {
     let verified = runnable(alloc, m, arguments)?;
-    Ok(run_module(rt, alloc, drive, keeps_log, &verified, arguments)?)
+    Ok(ran(rt, alloc, drive, keeps_log, &verified, arguments)?)
 }
 
 /// What a module prints in the run with these arguments that the log has, if the module is accepted and main takes as many. Where it isn't
@@ -177,7 +179,7 @@ fn replayed_by<L: Source>(
     ensures of_log { IfErr result (λ f. status_of f ≢ status_program) }
 {
     let ended = run_again(alloc, verified, arguments, log_in)?;
-    Ok(Done::of_run(ended, false))
+    Ok(numbers_of(ended))
 }
 
 /// The chart of the run of an accepted module with these arguments that the log has.
@@ -198,6 +200,19 @@ fn charted_by<L: Source>(
 {
     let ended = run_again(alloc, verified, arguments, log_in)?;
     chart_of(alloc, &ended)
+}
+
+/// What a run printed that came to its end, and how many steps it took.
+fn numbers_of(ended: Ended<'_>) -> Done
+    requires { IsAccepted ended.module.now }
+    ensures { (logged : List ℕ) → IsLogText logged ended.entry.log.items
+        → ComesTo Replay ended.entry.module.now ended.entry.core.world.arguments logged result }
+{
+    Done::Ended {
+        printed: ended.printed,
+        steps: steps_of(ended.core),
+        log: None,
+    }
 }
 
 /// The chart of a run that came to its end.
@@ -229,4 +244,85 @@ fn run_again<'m, L: Source>(
 {
     let log = read_log(alloc, log_in)?;
     Ok(replay(alloc, verified, arguments, log)?)
+}
+
+/// The run of a module with these arguments as it is to be driven, with its log where that is to be kept.
+fn ran<R: Threads + Wait + Sync>(
+    rt: &R,
+    alloc: Global,
+    drive: Option<Drive>,
+    keeps_log: bool,
+    verified: &Verified,
+    arguments: &[i64],
+) -> Result<Done, AllocError>
+    requires accepted { IsAccepted verified.now }
+    requires taken { AreArguments verified.now arguments.now }
+    ensures { IfOk result (λ d. (logged : List ℕ)
+        → ComesTo (Run (way_given drive) keeps_log) verified.now arguments.now logged d) }
+{
+    match drive {
+        None => ran_in_order(alloc, Order::First, keeps_log, verified, arguments),
+        Some(Drive::Order(order)) => ran_in_order(alloc, order, keeps_log, verified, arguments),
+        Some(Drive::Workers(workers)) => {
+            ran_by(rt, alloc, workers, keeps_log, verified, arguments)
+        }
+    }
+}
+
+/// A run of a module with these arguments by workers, with its log where that is to be kept.
+fn ran_by<R: Threads + Wait + Sync>(
+    rt: &R,
+    alloc: Global,
+    workers: Workers,
+    keeps_log: bool,
+    verified: &Verified,
+    arguments: &[i64],
+) -> Result<Done, AllocError>
+    requires accepted { IsAccepted verified.now }
+    requires taken { AreArguments verified.now arguments.now }
+    ensures { IfOk result (λ d. (logged : List ℕ)
+        → ComesTo (Run (By workers.count) keeps_log) verified.now arguments.now logged d) }
+{
+    let run = run_by_workers(rt, alloc, workers, verified, arguments)?;
+    if keeps_log {
+        return Ok(Done::Ended {
+            printed: run.printed,
+            steps: run.steps,
+            log: Some(run.log),
+        });
+    }
+    Ok(Done::Ended {
+        printed: run.printed,
+        steps: run.steps,
+        log: None,
+    })
+}
+
+/// The run of a module with these arguments in this order, with its log where that is to be kept.
+fn ran_in_order(
+    alloc: Global,
+    order: Order,
+    keeps_log: bool,
+    verified: &Verified,
+    arguments: &[i64],
+) -> Result<Done, AllocError>
+    requires accepted { IsAccepted verified.now }
+    requires taken { AreArguments verified.now arguments.now }
+    ensures { IfOk result (λ d. (logged : List ℕ)
+        → ComesTo (Run (In order) keeps_log) verified.now arguments.now logged d) }
+{
+    if keeps_log {
+        let run = run_with_log(alloc, order, verified, arguments)?;
+        return Ok(Done::Ended {
+            printed: run.printed,
+            steps: run.steps,
+            log: Some(run.log),
+        });
+    }
+    let (printed, steps) = run_in_order(alloc, order, verified, arguments)?;
+    Ok(Done::Ended {
+        printed,
+        steps,
+        log: None,
+    })
 }

@@ -2,18 +2,15 @@
 
 ghost use Rattle.std.specs.Prelude.{◌≡◌, [], IfOk, OnErr, OnOk, string_bytes};
 ghost use Rattle.std.specs.Io.KnownBytes.{Appends};
-ghost use Rattle.std.specs.Bool.{then_some};
 ghost use Rattle.std.specs.Option.{option_map_or};
 ghost use Rattle.xk_types.specs.Device.{Rose};
 ghost use Rattle.xk_log.specs.LogText.{log_text};
 ghost use Rattle.xk_log.specs.Writing.{AppendsBeginning};
-ghost use Rattle.xk_serve.specs.declared.job_result.Done.TheVariants as done;
 ghost use Rattle.xk_serve.specs.Lines.{accepted_line, done_ending, done_front, done_log, done_text, ended_line};
 
 use std::alloc::{AllocError, Global};
 use xk_log::{Device, write_all};
 use xk_output::write_numbers;
-use xk_scheduler::Ended;
 use xk_types::{Entry, Sink};
 
 /// What a job comes to where nothing stands against it.
@@ -39,18 +36,6 @@ pub(crate) enum Done {
 }
 
 impl Done {
-    /// A run that came to its end, with its log where that is to be kept.
-    pub(crate) fn of_run(run: Ended<'_>, keeps_log: bool) -> Done
-        ensures { result ≡ done.Ended run.entry.printed run.entry.core.world.steps
-            (then_some keeps_log run.entry.log) }
-    {
-        Done::Ended {
-            printed: run.printed,
-            steps: run.core.steps_done(),
-            log: keeps_log.then_some(run.log),
-        }
-    }
-
     /// The log of a run that is to have one.
     pub(crate) fn log(&self) -> Option<&[Entry]>
         ensures { option_map_or (λ log. log_text log.now) result [] ≡ done_log self.now }

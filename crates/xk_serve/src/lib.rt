@@ -7,7 +7,8 @@ mod devices;
 mod fault;
 mod job_result;
 pub mod laws;
-mod module_run;
+mod logged_run;
+mod ordered_run;
 mod program_loader;
 
 pub use devices::{report, serve, tell, tell_words};

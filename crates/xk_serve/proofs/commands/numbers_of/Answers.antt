@@ -1,0 +1,10 @@
+use Rattle.std.proofs.Common.{refl}
+use Rattle.xk_serve.proofs.OrderedRunLemmas.{worked_run}
+use Rattle.xk_serve.proofs.commands.numbers_of.Goals as goal
+
+pub returns : goal.returns
+returns c = λ logged text.
+    let ended = c.args.ended in (
+      c.requires,
+      (ended.log.items, text, worked_run _ _ _ ended.log.items _ ended.core _ refl refl ended.run ended.over c.steps_of.ensures),
+    )

@@ -1,0 +1,15 @@
+use Rattle.std.proofs.Common.{◌-◌, length}
+use Rattle.std.proofs.lemmas.Result.{IfOk-weaker}
+use Rattle.xk_serve.proofs.OrderedRunLemmas.{log_without_state}
+use Rattle.xk_serve.proofs.logged_run.run_with_log.Goals as goal
+
+pub returns-in-First : goal.returns-in-First
+returns-in-First c =
+    IfOk-weaker c.log_by.result _ _
+    (λ run h. rw c.in-First.is (log_without_state (λ enabled. 0) c.args.verified.now c.args.arguments.now _ run.log.items run.printed.items run.steps h)) c.log_by.ensures
+
+pub returns-in-Last : goal.returns-in-Last
+returns-in-Last c =
+    IfOk-weaker c.log_by-in-Last.result _ _
+    (λ run h. rw c.in-Last.is (log_without_state (λ enabled. length enabled - 1) c.args.verified.now c.args.arguments.now _ run.log.items run.printed.items run.steps h))
+    c.log_by-in-Last.ensures
