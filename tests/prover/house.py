@@ -161,6 +161,14 @@ def imports(file: Path) -> Iterator[tuple[str, str, str]]:
             yield m.group(1), first.strip(), (alias or first).strip()
 
 
+def named_by_module(file: Path) -> Iterator[tuple[str, str]]:
+    """What a file names by a module that it has given a short name: `use M as m`, and then `m.lemma`."""
+    text = file.read_text(encoding="utf-8")
+    for m in re.finditer(r"^use (Rattle\.[\w.+\-]+) as (\w+)$", text, flags=re.M):
+        for name in re.findall(r"(?<![\w.])" + m.group(2) + r"\.([^\s(){}\[\];,.λ]+)", text):
+            yield m.group(1), name
+
+
 def without_imports(file: Path) -> str:
     """The text of a file but for comments and for what it takes from others."""
     text = re.sub(r"^use .*?\}$", "", file.read_text(encoding="utf-8"), flags=re.M)
@@ -173,8 +181,10 @@ class Citations:
     def __init__(self, found: list[Item], top: Path) -> None:
         self.importers: dict[tuple[str, str], list[tuple[Path, str]]] = collections.defaultdict(list)
         self.words: dict[Path, collections.Counter[str]] = {}
+        self.qualified: set[tuple[str, str]] = set()
         for file in dict.fromkeys(item.file for item in found):
             self.words[file] = collections.Counter(NAME.findall(without_imports(file)))
+            self.qualified |= set(named_by_module(file))
             for module, name, alias in imports(file):
                 self.importers[module, name].append((file, alias))
         self.code = "\n".join(p.read_text(encoding="utf-8") for p in (top / "crates").glob("*/src/**/*.rt"))
@@ -186,7 +196,7 @@ class Citations:
     def outside(self, item: Item) -> bool:
         """Whether another file cites it, or code does."""
         module = module_of(item.file)
-        if "::".join(module.split(".")[2:]) + "::" + item.name in self.code:
+        if (module, item.name) in self.qualified or "::".join(module.split(".")[2:]) + "::" + item.name in self.code:
             return True
         return any(self.words[file][alias] for file, alias in self.importers[module, item.name])
 
