@@ -188,7 +188,7 @@ def is_by_workers(words: list[str]) -> bool:
     """Whether words that are a job ask for a run by workers."""
     try:
         return "workers" in telling_words.read(words).values
-    except (telling_words.Mistake, telling_words.Help):
+    except (telling_words.Mistake, telling_words.Help, telling_words.Version):
         return False
 
 

@@ -31,6 +31,7 @@ DEVICE = "x10clock: device"
 NO_TEXT = "x10clock: a word is not in UTF-8"
 EXCLUDED = "x10clock: --workers and --order exclude each other"
 OVER_FILE = "x10clock: --log would write over FILE"
+VERSION = "x10clock 1.0.0\n"
 
 
 class Mistake(Exception):
@@ -39,6 +40,10 @@ class Mistake(Exception):
 
 class Help(Exception):
     """The words ask for help, of this command or, where it is empty, of the program."""
+
+
+class Version(Exception):
+    """The words ask for the program's version."""
 
 
 class Device(Exception):
@@ -237,10 +242,20 @@ def read(words: list[str]) -> Job:
         raise unexpected(rest[0]) if rest[0] in {*COMMANDS, "help"} else unrecognized(rest[0])
     if first == "-" or not first.startswith("-"):
         raise unrecognized(first)
-    name, equals, value = first[2:].partition("=") if first.startswith("--") else (first[1], "", "")
-    if name not in ("help", "h") or first.startswith("--h") and name == "h":
-        raise unexpected(f"--{name}" if first.startswith("--") else f"-{name}")
-    raise Mistake(f"error: unexpected value '{value}' for '--help' found; no more were expected") if equals else Help("")
+    raise of_all(first)
+
+
+def of_all(word: str) -> Exception:
+    """What an option says that stands before any command: `--help` and `--version` alone are known there."""
+    if word.startswith("--"):
+        name, equals, value = word[2:].partition("=")
+        if name not in ("help", "version"):
+            return unexpected(f"--{name}")
+        if equals:
+            return Mistake(f"error: unexpected value '{value}' for '--{name}' found; no more were expected")
+    elif (name := {"h": "help", "V": "version"}.get(word[1], "")) == "":
+        return unexpected(f"-{word[1]}")
+    return Version() if name == "version" else Help("")
 
 
 def help_text(command: str) -> str:
@@ -352,6 +367,8 @@ def told(words: list[str], given: BinaryIO) -> Told:
     """What the words are answered, with this standard input."""
     try:
         return done(read(words), given)
+    except Version:
+        return Told(0, VERSION)
     except Help as asked:
         return Told(0, help_text(str(asked)))
     except Mistake as mistake:
