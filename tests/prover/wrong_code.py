@@ -22,6 +22,8 @@ TOP = os.path.normpath(os.path.join(os.path.dirname(os.path.abspath(__file__)), 
 BELOW = ["xk_types", "xk_tree", "xk_names", "xk_callgraph"]
 LAW = ["xk_emit", "xk_semantics", "xk_simulation"]
 KEPT_PROOFS = ["ScopeLemmas", "CoverageLemmas", "CoverageLaw"]
+# what is said of the coder's answers, which the law doesn't ask
+OF_ANSWERS = ["Room", "EmittedCode"]
 
 
 def with_definitions_alone(folder):
@@ -31,8 +33,9 @@ def with_definitions_alone(folder):
         os.remove(os.path.join(folder, "src", file))
     with open(os.path.join(folder, "src", "lib.rt"), "w", encoding="utf-8") as f:
         f.write("//! The code of source trees.\n#![tactic(auto)]\n")
-    specs = [file[:-5] for file in sorted(os.listdir(os.path.join(folder, "specs"))) if file not in ("Lib.antt", "Room.antt")]
-    os.remove(os.path.join(folder, "specs", "Room.antt"))
+    specs = [file[:-5] for file in sorted(os.listdir(os.path.join(folder, "specs"))) if file[:-5] not in ["Lib", *OF_ANSWERS]]
+    for name in OF_ANSWERS:
+        os.remove(os.path.join(folder, "specs", f"{name}.antt"))
     proofs = os.path.join(folder, "proofs")
     for name in os.listdir(proofs):
         path = os.path.join(proofs, name)
