@@ -111,8 +111,9 @@ program = record (new_app (codes "x10clock")) { top = record (new_app (codes "x1
 
 abbrev pub command_line : Names → App
 command_line names =
-    with_subcommand (with_subcommand (with_subcommand (with_subcommand (with_subcommand program
-    (on_either (codes "check")).top) (on_file (codes "compile")).top) (run_line names).top) (on_run (codes "replay")).top) (on_run (codes "chart")).top
+    with_subcommand (with_subcommand (with_subcommand (with_subcommand (with_subcommand (with_subcommand program
+    (on_either (codes "check")).top) (on_either (codes "explain")).top) (on_file (codes "compile")).top)
+    (run_line names).top) (on_run (codes "replay")).top) (on_run (codes "chart")).top
 
 -- no argument of the command is one of its subcommands too
 abbrev pub HasNoGlobals : clap_Command → Type 0
@@ -151,6 +152,7 @@ way_value (drive.Workers w) = By w.count
 pub data Task : Type 0 where
   Check : Task
   Compile : Task
+  Explain : Task
   Run : Option Way → Option Text → Task
   Replay : Text → Task
   Chart : Text → Task
@@ -158,6 +160,7 @@ pub data Task : Type 0 where
 abbrev pub task_value : Command → Task
 task_value command.Check = Check
 task_value command.Compile = Compile
+task_value command.Explain = Explain
 task_value (command.Run given log) = Run (option_map way_value given) (option_map (λ s. s.now) log)
 task_value (command.Replay log) = Replay log.now
 task_value (command.Chart log) = Chart log.now
@@ -223,9 +226,10 @@ abbrev pub command_by : Text → List Row → Option Task
 command_by name given =
     if bytes_eq name (codes "check") then Some Check
     else (if bytes_eq name (codes "compile") then Some Compile
+    else (if bytes_eq name (codes "explain") then Some Explain
     else (if bytes_eq name (codes "run") then run_by given
     else (if bytes_eq name (codes "replay") then option_map Replay (first_of (codes "LOG") given)
-    else (if bytes_eq name (codes "chart") then option_map Chart (first_of (codes "LOG") given) else None))))
+    else (if bytes_eq name (codes "chart") then option_map Chart (first_of (codes "LOG") given) else None)))))
 
 -- this command on this file, with what else was given to it
 abbrev pub asked_of : Task → Text → List Row → Option Asked

@@ -42,12 +42,18 @@ fn line<'a>(alloc: Global) -> Result<clap::Command<'a>, AllocError>
 {
     let check = on_either(alloc, "check", "Says whether a program is accepted.");
     let checks = add(program(alloc), check)?;
+    let explain = on_either(
+        alloc,
+        "explain",
+        "Says where and why a program is refused.",
+    );
+    let explains = add(checks, explain)?;
     let compile = on_file(
         alloc,
         "compile",
         "Compiles a program and prints its module.",
     );
-    let compiles = add(checks, compile)?;
+    let compiles = add(explains, compile)?;
     let runs = add(compiles, run_line(alloc))?;
     let replay = on_run(
         alloc,
@@ -335,6 +341,7 @@ fn command_by<'a>(name: &str, given: &ArgMatches<'a>) -> Option<Command<'a>>
     match name {
         "check" => Some(Command::Check),
         "compile" => Some(Command::Compile),
+        "explain" => Some(Command::Explain),
         "run" => run_by(given),
         "replay" => Some(Command::Replay {
             log: given_in(given, "LOG")?,

@@ -44,6 +44,9 @@ const MODULE: &str =
 
 const TRUNCATED: &str = "x10clock: L2 Truncated\n";
 
+/// What is said of a text that is no program.
+const EXPLAINED: &str = "-:1:1: F2 Syntax: this can't stand here\n   |\n 1 | main\n   | ^^^^\n   = usual repair: look right before it for what is missing, as a `;`, a `)` or a `}`\n";
+
 /// A row of the program in step, which is accepted.
 fn done(
     name: &'static str,
@@ -86,7 +89,7 @@ fn refused(
 }
 
 /// Each command, and texts and a log that are refused.
-pub fn rows() -> [Row; 10] {
+pub fn rows() -> [Row; 12] {
     let run = Command::Run {
         drive: None,
         log: Some("log"),
@@ -118,6 +121,24 @@ pub fn rows() -> [Row; 10] {
             1,
             "x10clock: F2 Syntax at 0\n",
         ),
+        done(
+            "explain",
+            Command::Explain,
+            "",
+            "accepted steps 12 activities 2 clocks 1\n",
+            "",
+        ),
+        Row {
+            out: EXPLAINED,
+            ..refused(
+                "explain of no program",
+                Command::Explain,
+                "main",
+                "",
+                1,
+                "x10clock: F2 Syntax at 0\n",
+            )
+        },
         refused(
             "run of a method that calls itself",
             run,

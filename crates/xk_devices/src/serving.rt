@@ -108,7 +108,7 @@ impl Devices {
     }
 
     /// Whether a beginning of the result and of the log was written, where this device failed: no log before all of the result, and neither
-    /// where a text couldn't be read.
+    /// where a text couldn't be read. All that is said of a fault stands before its line.
     fn is_cut(&self, place: Place) -> bool {
         match place {
             Place::Program | Place::LogIn => {
@@ -116,7 +116,7 @@ impl Devices {
             }
             Place::Out => self.out.is_cut() && self.log_out.is_untouched(),
             Place::Err => {
-                self.out.is_untouched() && self.err.is_cut() && self.log_out.is_untouched()
+                self.out.is_whole() && self.err.is_cut() && self.log_out.is_untouched()
             }
             Place::LogOut => self.out.is_whole() && self.log_out.is_cut(),
         }

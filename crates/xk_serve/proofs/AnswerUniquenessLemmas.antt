@@ -28,10 +28,10 @@ use Rattle.xk_serve.specs.declared.job_result.Done.{Done}
 use Rattle.xk_serve.specs.declared.job_result.Done.TheVariants as done
 use Rattle.xk_serve.specs.declared.fault.Fault.{Fault}
 use Rattle.xk_serve.specs.declared.fault.Fault.TheVariants as fault
-use Rattle.xk_serve.specs.Answer.{Answers, Chart, Check, ComesTo, Compile, Doing, IsLogText, IsMisfit, IsNoRun, Replay, Reply, Run, Task, fault_reply, reads_log, runs}
+use Rattle.xk_serve.specs.Answer.{Answers, Chart, Check, ComesTo, Compile, Doing, Explain, IsLogText, IsMisfit, IsNoRun, IsSaidBy, IsSaidOf, Replay, Reply, Run, Task, fault_reply, reads_log, runs}
 use Rattle.xk_output.specs.Lines.{number_lines}
 use Rattle.xk_serve.specs.Lines.{accepted_line, arguments_line, done_log, done_text, ended_line, fault_line, refusal_status, status_of}
-use Rattle.xk_serve.specs.OneAnswer.{IsLeftOpen, IsSameLine, IsSameReply, IsWithoutWorkers, TellFaults}
+use Rattle.xk_serve.specs.OneAnswer.{IsDetermined, IsLeftOpen, IsSameLine, IsSameReply, IsWithoutWorkers, TellFaults}
 use Rattle.xk_serve.specs.OrderedRun.{IsLoggedRun, IsOrderedRun, IsReplay, IsWholeRun}
 use Rattle.xk_serve.specs.Programs.{Gives, IsCompiledTo, IsNoModule, IsNoSource, IsUnread, longest_module}
 use Rattle.xk_serve.proofs.LogUniquenessLemmas.{no_run_once, text_once, whole_not_refused}
@@ -45,6 +45,7 @@ use Rattle.xk_serve.proofs.TextUniquenessLemmas.{one_text, unfit_none, unfit_onc
 abbrev pub Prints : Doing → ModuleValue → List ℤ → List ℕ → List ℕ → List ℕ → Type 0
 Prints Compile m args logged out log = (out ≡ compact_text (module_value m) ++ codes "\n") × (log ≡ [])
 Prints Check m args logged out log = IsAccepted m × (out ≡ accepted_line (steps_bound m) (activities_bound m) (clocks_bound m)) × (log ≡ [])
+Prints Explain m args logged out log = IsAccepted m × (out ≡ accepted_line (steps_bound m) (activities_bound m) (clocks_bound m)) × (log ≡ [])
 Prints (Run (In o) false) m args logged out log =
     IsAccepted m × (numbers : List ℤ) × (steps : ℕ) × IsOrderedRun o m args numbers steps × (out ≡ number_lines numbers ++ ended_line steps) × (log ≡ [])
 Prints (Run (In o) true) m args logged out log =
@@ -60,6 +61,9 @@ prints Compile m args logged _ h = absurd h
 prints Check m args logged (done.Accepted steps activities clocks) h =
     (h.0, ap (λ n. accepted_line n activities clocks) h.1 ∙ ap (λ n. accepted_line (steps_bound m) n clocks) h.2 ∙ ap (accepted_line (steps_bound m) (activities_bound m)) h.3, refl)
 prints Check m args logged _ h = absurd h
+prints Explain m args logged (done.Accepted steps activities clocks) h =
+    (h.0, ap (λ n. accepted_line n activities clocks) h.1 ∙ ap (λ n. accepted_line (steps_bound m) n clocks) h.2 ∙ ap (accepted_line (steps_bound m) (activities_bound m)) h.3, refl)
+prints Explain m args logged _ h = absurd h
 prints (Run (In o) false) m args logged (done.Ended numbers steps None) h = (h.0, numbers.items, steps, h.1, refl, refl)
 prints (Run (In o) false) m args logged _ h = absurd h
 prints (Run (In o) true) m args logged (done.Ended numbers steps (Some es)) h = (h.0, numbers.items, steps, es.items, h.1, refl, refl)
@@ -77,6 +81,7 @@ prints Chart m args logged _ h = absurd h
 prints_accepted : (what : Doing) (m : ModuleValue) (args : List ℤ) (logged out log : List ℕ) → what ≢ Compile → Prints what m args logged out log → IsAccepted m
 prints_accepted Compile m args logged out log asks h = absurd (asks refl)
 prints_accepted Check m args logged out log asks h = h.0
+prints_accepted Explain m args logged out log asks h = h.0
 prints_accepted (Run (In o) false) m args logged out log asks h = h.0
 prints_accepted (Run (In o) true) m args logged out log asks h = h.0
 prints_accepted (Run (By n) kept) m args logged out log asks h = h.0
@@ -87,6 +92,7 @@ prints_accepted Chart m args logged out log asks h = h.0
 prints_taken : (what : Doing) (m : ModuleValue) (args : List ℤ) (logged out log : List ℕ) → runs what ≡ true → Prints what m args logged out log → AreArguments m args
 prints_taken Compile m args logged out log run h = absurd (false≢true run)
 prints_taken Check m args logged out log run h = absurd (false≢true run)
+prints_taken Explain m args logged out log run h = absurd (false≢true run)
 prints_taken (Run (In o) false) m args logged out log run h = run_taken _ m args h.1 h.2 h.3
 prints_taken (Run (In o) true) m args logged out log run h = run_taken _ m args h.1 h.2 h.4
 prints_taken (Run (By n) kept) m args logged out log run h = h.1
@@ -101,6 +107,7 @@ prints_whole : (what : Doing) (m : ModuleValue) (args : List ℤ) (logged out lo
     → (es : List Entry) × IsLogText logged es × IsWhole m args es
 prints_whole Compile m args logged out log reads h = absurd (false≢true reads)
 prints_whole Check m args logged out log reads h = absurd (false≢true reads)
+prints_whole Explain m args logged out log reads h = absurd (false≢true reads)
 prints_whole (Run way kept) m args logged out log reads h = absurd (false≢true reads)
 prints_whole Replay m args logged out log reads h = (h.3, h.4, replay_whole m args h.1 h.2 h.3 h.5)
 prints_whole Chart m args logged out log reads h = (h.1, h.2, record { last = h.3.last; leads = h.3.leads; given = h.3.given; over = h.3.over })
@@ -114,6 +121,7 @@ pub prints_once : (what : Doing) (m : ModuleValue) (args : List ℤ) (logged out
     → Prints what m args logged other kept → (out ≡ other) × (log ≡ kept)
 prints_once Compile m args logged out log other kept none p q = (p.0 ∙ sym q.0, p.1 ∙ sym q.1)
 prints_once Check m args logged out log other kept none p q = (p.1 ∙ sym q.1, p.2 ∙ sym q.2)
+prints_once Explain m args logged out log other kept none p q = (p.1 ∙ sym q.1, p.2 ∙ sym q.2)
 prints_once (Run (In o) false) m args logged out log other kept none p q =
     let same = ordered_once o m args p.1 q.1 p.2 q.2 p.3 q.3 in
     (p.4 ∙ same_lines p.1 q.1 p.2 q.2 same.0 same.1 ∙ sym q.4, p.5 ∙ sym q.5)
@@ -134,27 +142,57 @@ done_once what m args logged d e none p q =
 
 -- ---- what is said of a module
 
+-- The reply is that of a fault. Of a task whose standard output is determined nothing is said there.
+abbrev IsFaultReply : Doing → Fault → Reply → Type 0
+IsFaultReply what f r = (said : List ℕ) × (IsDetermined what → said ≡ []) × (r ≡ fault_reply said f)
+
+-- what is said of a fault
+said_determined : (what : Doing) (kind : Form) (file bytes said : List ℕ) (f : Fault) → IsSaidBy what kind file bytes f said → IsDetermined what → said ≡ []
+said_determined Explain kind file bytes said f h one = absurd one
+said_determined Check kind file bytes said f h one = h
+said_determined Compile kind file bytes said f h one = h
+said_determined (Run way kept) kind file bytes said f h one = h
+said_determined Replay kind file bytes said f h one = h
+said_determined Chart kind file bytes said f h one = h
+
+-- the reply of a task's fault
+abbrev IsReplyOf : Task → List ℕ → Fault → Reply → Type 0
+IsReplyOf t bytes f r = (said : List ℕ) × IsSaidOf t bytes f said × (r ≡ fault_reply said f)
+
+reply_of : (t : Task) (bytes : List ℕ) (r : Reply) (f : Fault) → IsReplyOf t bytes f r → IsFaultReply t.doing f r
+reply_of t bytes r f e = (e.0, said_determined t.doing t.form t.file bytes e.0 f e.1, e.2)
+
 -- The reply is that of a refusal, of arguments that aren't as many as main takes, of a log of no run, or of what the job comes to.
 data Said (what : Doing) (m : ModuleValue) (args : List ℤ) (logged : List ℕ) (r : Reply) : Type 0 where
-  Refusing : (f : Refusal) → what ≢ Compile → Refuses m f → refusal_status f ≢ 4 → r ≡ fault_reply (fault.Refused f) → Said what m args logged r
-  Misfit : (wants has : ℕ) → runs what ≡ true → IsAccepted m → IsMisfit m args wants has → r ≡ fault_reply (fault.Arguments wants has) → Said what m args logged r
-  NoRun : (f : Fault) → reads_log what ≡ true → IsAccepted m → AreArguments m args → IsNoRun m args logged f → status_of f ≢ 4 → r ≡ fault_reply f → Said what m args logged r
+  Refusing : (f : Refusal) → what ≢ Compile → Refuses m f → refusal_status f ≢ 4 → IsFaultReply what (fault.Refused f) r → Said what m args logged r
+  Misfit : (wants has : ℕ) → runs what ≡ true → IsAccepted m → IsMisfit m args wants has → IsFaultReply what (fault.Arguments wants has) r → Said what m args logged r
+  NoRun : (f : Fault) → reads_log what ≡ true → IsAccepted m → AreArguments m args → IsNoRun m args logged f → status_of f ≢ 4 → IsFaultReply what f r → Said what m args logged r
   Does : r.status ≡ 0 → r.err ≡ [] → Prints what m args logged r.out r.log → Said what m args logged r
 
 -- the replies of two faults that have one line, but for a walk
-same_faults : (what : Doing) (r s : Reply) (f g : Fault) → r ≡ fault_reply f → s ≡ fault_reply g → status_of f ≡ status_of g → IsSameLine (fault_line f) (fault_line g)
+same_faults : (what : Doing) (r s : Reply) (f g : Fault) → IsFaultReply what f r → IsFaultReply what g s → status_of f ≡ status_of g → IsSameLine (fault_line f) (fault_line g)
     → IsSameReply what r s
 same_faults what r s f g e d same lines = record {
-  status = ap (λ (z : Reply). z.status) e ∙ same ∙ sym (ap (λ (z : Reply). z.status) d);
-  err = subst (λ (z : Reply). IsSameLine z.err s.err) (sym e) (subst (λ (z : Reply). IsSameLine (fault_line f) z.err) (sym d) lines);
-  out = λ none. ap (λ (z : Reply). z.out) e ∙ sym (ap (λ (z : Reply). z.out) d);
-  log = λ none. ap (λ (z : Reply). z.log) e ∙ sym (ap (λ (z : Reply). z.log) d);
+  status = ap (λ (z : Reply). z.status) e.2 ∙ same ∙ sym (ap (λ (z : Reply). z.status) d.2);
+  err = subst (λ (z : Reply). IsSameLine z.err s.err) (sym e.2) (subst (λ (z : Reply). IsSameLine (fault_line f) z.err) (sym d.2) lines);
+  out = λ none. ap (λ (z : Reply). z.out) e.2 ∙ (e.1 none ∙ sym (d.1 none)) ∙ sym (ap (λ (z : Reply). z.out) d.2);
+  log = λ none. ap (λ (z : Reply). z.log) e.2 ∙ sym (ap (λ (z : Reply). z.log) d.2);
 }
 
 same_misfits : (m : ModuleValue) (args : List ℤ) (wants has other given : ℕ) → IsMisfit m args wants has → IsMisfit m args other given
     → arguments_line wants has ≡ arguments_line other given
 same_misfits m args wants has other given p q =
     ap (λ n. arguments_line n has) (p.wants_are ∙ sym q.wants_are) ∙ ap (arguments_line other) (p.has_are ∙ sym q.has_are)
+
+-- what is determined isn't run by workers
+determined : (what : Doing) → IsDetermined what → IsWithoutWorkers what
+determined Explain one = absurd one
+determined Check one = tt
+determined Compile one = tt
+determined (Run (In o) kept) one = tt
+determined (Run (By n) kept) one = absurd one
+determined Replay one = tt
+determined Chart one = tt
 
 same_said : (what : Doing) (m : ModuleValue) (args : List ℤ) (logged : List ℕ) (r s : Reply) → Said what m args logged r → Said what m args logged s → IsSameReply what r s
 same_said what m args logged r s (Refusing f asks p n e) (Refusing g again q k d) =
@@ -181,7 +219,7 @@ same_said what m args logged r s (Does zero quiet p) (NoRun g reads ok taken q k
 same_said what m args logged r s (Does zero quiet p) (Does none silent q) = record {
   status = zero ∙ sym none;
   err = inl (quiet ∙ sym silent);
-  out = λ orders. (prints_once what m args logged r.out r.log s.out s.log orders p q).0;
+  out = λ one. (prints_once what m args logged r.out r.log s.out s.log (determined what one) p q).0;
   log = λ orders. (prints_once what m args logged r.out r.log s.out s.log orders p q).1;
 }
 
@@ -189,13 +227,13 @@ same_said what m args logged r s (Does zero quiet p) (Does none silent q) = reco
 
 -- the bytes are no module text, or no source text of a program without faults, or they give a module, of which this is said
 data Case (t : Task) (bytes logged : List ℕ) (r : Reply) : Type 0 where
-  Unread : (f : ModuleFault) → t.form ≡ form.Module → IsNoModule bytes f → r ≡ fault_reply (fault.Text f) → Case t bytes logged r
-  Unfit : (f : FrontFault) → t.form ≡ form.Source → IsNoSource bytes f → r ≡ fault_reply (fault.Front f) → Case t bytes logged r
+  Unread : (f : ModuleFault) → t.form ≡ form.Module → IsNoModule bytes f → IsReplyOf t bytes (fault.Text f) r → Case t bytes logged r
+  Unfit : (f : FrontFault) → t.form ≡ form.Source → IsNoSource bytes f → IsReplyOf t bytes (fault.Front f) r → Case t bytes logged r
   Read : (m : ModuleValue) → Gives t.form bytes m → Said t.doing m t.arguments logged r → Case t bytes logged r
 
 -- of a fault that is told where a module is given
-status_not : (r : Reply) (f : Fault) → r ≡ fault_reply f → r.status ≢ 4 → status_of f ≢ 4
-status_not r f e not4 = λ is. not4 (ap (λ (z : Reply). z.status) e ∙ is)
+status_not : (r : Reply) (f : Fault) (said : List ℕ) → r ≡ fault_reply said f → r.status ≢ 4 → status_of f ≢ 4
+status_not r f said e not4 = λ is. not4 (ap (λ (z : Reply). z.status) e ∙ is)
 
 no_source : (t : Task) → t.form ≡ form.Module → t.form ≡ form.Source → ⊥
 no_source t e d = let both : form.Module ≡ form.Source = sym e ∙ d in cc
@@ -206,22 +244,22 @@ case_of t bytes logged r not4 (inl (d, s, e)) = Read s.of s.given (Does (ap (λ 
 case_of t bytes logged r not4 (inr (fault.Text f, h, e)) = Unread f h.0 h.1 e
 case_of t bytes logged r not4 (inr (fault.Front f, h, e)) = Unfit f h.0 h.1 e
 case_of t bytes logged r not4 (inr (fault.Refused (refusal.Shape f), h, e)) =
-    Read h.1.0 h.1.1 (Refusing (refusal.Shape f) h.0 h.1.2 (status_not r (fault.Refused (refusal.Shape f)) e not4) e)
+    Read h.1.0 h.1.1 (Refusing (refusal.Shape f) h.0 h.1.2 (status_not r (fault.Refused (refusal.Shape f)) e.0 e.2 not4) (reply_of t bytes r (fault.Refused (refusal.Shape f)) e))
 case_of t bytes logged r not4 (inr (fault.Refused (refusal.Kind f), h, e)) =
-    Read h.1.0 h.1.1 (Refusing (refusal.Kind f) h.0 h.1.2 (status_not r (fault.Refused (refusal.Kind f)) e not4) e)
+    Read h.1.0 h.1.1 (Refusing (refusal.Kind f) h.0 h.1.2 (status_not r (fault.Refused (refusal.Kind f)) e.0 e.2 not4) (reply_of t bytes r (fault.Refused (refusal.Kind f)) e))
 case_of t bytes logged r not4 (inr (fault.Refused (refusal.Bound f), h, e)) =
-    Read h.1.0 h.1.1 (Refusing (refusal.Bound f) h.0 h.1.2 (status_not r (fault.Refused (refusal.Bound f)) e not4) e)
+    Read h.1.0 h.1.1 (Refusing (refusal.Bound f) h.0 h.1.2 (status_not r (fault.Refused (refusal.Bound f)) e.0 e.2 not4) (reply_of t bytes r (fault.Refused (refusal.Bound f)) e))
 case_of t bytes logged r not4 (inr (fault.Refused refusal.OutOfMemory, h, e)) = absurd h
-case_of t bytes logged r not4 (inr (fault.Arguments wants has, h, e)) = Read h.1.0 h.1.1 (Misfit wants has h.0 h.1.2 h.1.3 e)
+case_of t bytes logged r not4 (inr (fault.Arguments wants has, h, e)) = Read h.1.0 h.1.1 (Misfit wants has h.0 h.1.2 h.1.3 (reply_of t bytes r (fault.Arguments wants has) e))
 case_of t bytes logged r not4 (inr (fault.Grammar line, h, e)) =
-    Read h.1.0 h.1.1 (NoRun (fault.Grammar line) h.0 h.1.2 h.1.3.0 h.1.3.1 (status_not r (fault.Grammar line) e not4) e)
+    Read h.1.0 h.1.1 (NoRun (fault.Grammar line) h.0 h.1.2 h.1.3.0 h.1.3.1 (status_not r (fault.Grammar line) e.0 e.2 not4) (reply_of t bytes r (fault.Grammar line) e))
 case_of t bytes logged r not4 (inr (fault.Truncated, h, e)) =
-    Read h.1.0 h.1.1 (NoRun fault.Truncated h.0 h.1.2 h.1.3.0 h.1.3.1 (status_not r fault.Truncated e not4) e)
+    Read h.1.0 h.1.1 (NoRun fault.Truncated h.0 h.1.2 h.1.3.0 h.1.3.1 (status_not r fault.Truncated e.0 e.2 not4) (reply_of t bytes r fault.Truncated e))
 case_of t bytes logged r not4 (inr (fault.NotEnabled i, h, e)) =
-    Read h.1.0 h.1.1 (NoRun (fault.NotEnabled i) h.0 h.1.2 h.1.3.0 h.1.3.1 (status_not r (fault.NotEnabled i) e not4) e)
+    Read h.1.0 h.1.1 (NoRun (fault.NotEnabled i) h.0 h.1.2 h.1.3.0 h.1.3.1 (status_not r (fault.NotEnabled i) e.0 e.2 not4) (reply_of t bytes r (fault.NotEnabled i) e))
 case_of t bytes logged r not4 (inr (fault.NotEnded, h, e)) =
-    Read h.1.0 h.1.1 (NoRun fault.NotEnded h.0 h.1.2 h.1.3.0 h.1.3.1 (status_not r fault.NotEnded e not4) e)
-case_of t bytes logged r not4 (inr (fault.OutOfMemory, h, e)) = absurd (not4 (ap (λ (z : Reply). z.status) e))
+    Read h.1.0 h.1.1 (NoRun fault.NotEnded h.0 h.1.2 h.1.3.0 h.1.3.1 (status_not r fault.NotEnded e.0 e.2 not4) (reply_of t bytes r fault.NotEnded e))
+case_of t bytes logged r not4 (inr (fault.OutOfMemory, h, e)) = absurd (not4 (ap (λ (z : Reply). z.status) e.2))
 case_of t bytes logged r not4 (inr (fault.Device, h, e)) = absurd h
 
 -- a text of a module is JSON
@@ -284,7 +322,7 @@ said_of t bytes logged r m given (Read n found told) =
 same_case : (t : Task) (bytes logged : List ℕ) (r s : Reply) → t.form ≡ form.Module → Case t bytes logged r → Case t bytes logged s → IsSameReply t.doing r s
 same_case t bytes logged r s of (Unread f is p e) (Unread g text q d) =
     let same = unread_once bytes f g p q in
-    same_faults t.doing r s (fault.Text f) (fault.Text g) e d (ap (λ k. status_of (fault.Text k)) same) (inl (ap (λ k. fault_line (fault.Text k)) same))
+    same_faults t.doing r s (fault.Text f) (fault.Text g) (reply_of t bytes r (fault.Text f) e) (reply_of t bytes s (fault.Text g) d) (ap (λ k. status_of (fault.Text k)) same) (inl (ap (λ k. fault_line (fault.Text k)) same))
 same_case t bytes logged r s of (Unread f is p e) (Unfit g source q d) = absurd (no_source t of source)
 same_case t bytes logged r s of (Unread f is p e) (Read m given said) = absurd (unread_none bytes f m p (given_text t bytes m of given))
 same_case t bytes logged r s of (Unfit f source p e) other = absurd (no_source t of source)
@@ -296,14 +334,24 @@ one_answer t bytes logged r s of p q n k = same_case t bytes logged r s of (case
 
 -- ---- source texts
 
-same_unfit : (t : Task) (bytes : List ℕ) (r s : Reply) (f g : FrontFault) → r ≡ fault_reply (fault.Front f) → s ≡ fault_reply (fault.Front g)
-    → (f ≡ g) ⊎ IsLeftOpen bytes f g → IsSameReply t.doing r s ⊎ TellFaults bytes r s
+same_unfit : (t : Task) (bytes : List ℕ) (r s : Reply) (f g : FrontFault) → IsReplyOf t bytes (fault.Front f) r
+    → IsReplyOf t bytes (fault.Front g) s → (f ≡ g) ⊎ IsLeftOpen bytes f g → IsSameReply t.doing r s ⊎ TellFaults t bytes r s
 same_unfit t bytes r s f g e d (inl same) =
-    inl (same_faults t.doing r s (fault.Front f) (fault.Front g) e d (ap (λ k. status_of (fault.Front k)) same) (inl (ap (λ k. fault_line (fault.Front k)) same)))
-same_unfit t bytes r s f g e d (inr left) = inr (record { here = f; there = g; left = left; told_here = e; told_there = d })
+    inl (same_faults t.doing r s (fault.Front f) (fault.Front g) (reply_of t bytes r (fault.Front f) e) (reply_of t bytes s (fault.Front g) d) (ap (λ k. status_of (fault.Front k)) same) (inl (ap (λ k. fault_line (fault.Front k)) same)))
+same_unfit t bytes r s f g e d (inr left) = inr (record {
+  here = f;
+  there = g;
+  left = left;
+  said_here = e.0;
+  said_there = d.0;
+  of_here = e.1;
+  of_there = d.1;
+  told_here = e.2;
+  told_there = d.2;
+})
 
 same_source : (t : Task) (bytes logged : List ℕ) (r s : Reply) → t.form ≡ form.Source → Case t bytes logged r → Case t bytes logged s
-    → IsSameReply t.doing r s ⊎ TellFaults bytes r s
+    → IsSameReply t.doing r s ⊎ TellFaults t bytes r s
 same_source t bytes logged r s of (Unread f text p e) other = absurd (no_source t text of)
 same_source t bytes logged r s of (Unfit f is p e) (Unread g text q d) = absurd (no_source t text of)
 same_source t bytes logged r s of (Unfit f is p e) (Unfit g source q d) = same_unfit t bytes r s f g e d (unfit_once bytes f g p q)
@@ -311,7 +359,7 @@ same_source t bytes logged r s of (Unfit f is p e) (Read m given said) = absurd 
 same_source t bytes logged r s of (Read m given said) other = inl (same_said t.doing m t.arguments logged r s said (said_of t bytes logged s m given other))
 
 pub one_source_answer : (t : Task) (bytes logged : List ℕ) (r s : Reply) → t.form ≡ form.Source → Answers t bytes logged r → Answers t bytes logged s
-    → r.status ≢ 4 → s.status ≢ 4 → IsSameReply t.doing r s ⊎ TellFaults bytes r s
+    → r.status ≢ 4 → s.status ≢ 4 → IsSameReply t.doing r s ⊎ TellFaults t bytes r s
 one_source_answer t bytes logged r s of p q n k = same_source t bytes logged r s of (case_of t bytes logged r n p) (case_of t bytes logged s k q)
 
 -- ---- logs of whole runs

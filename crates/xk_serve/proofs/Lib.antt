@@ -8,3 +8,4 @@ pub mod ReplyLemmas
 pub mod RunLogLemmas
 pub mod TaskLemmas
 pub mod TextUniquenessLemmas
+pub mod ExplanationLemmas

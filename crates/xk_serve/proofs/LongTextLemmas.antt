@@ -1,5 +1,6 @@
 -- Of a text that is too long no more than one byte too many is kept: what stands against that stands against the whole text.
-use Rattle.std.proofs.Common.{◌≡◌, ◌+◌, ◌<◌, ◌≤◌, ℕ, List, length, take, min, Option, Some, None, inl, inr, arith, ap, ◌∙◌, subst}
+use Rattle.std.proofs.Common.{◌≡◌, ◌≢◌, ◌+◌, ◌<◌, ◌≤◌, ℕ, Bool, true, false, if◌then◌else◌, List, [], length, take, min, Option, Some, None, inl, inr, refl, sym, arith, ap, ◌∙◌, subst}
+use Rattle.std.proofs.lemmas.Bool.{false≢true}
 use Rattle.std.proofs.lemmas.List.{length-take, take_all}
 use Rattle.std.specs.Prelude.{IfSome}
 use Rattle.xk_types.specs.Code.{ModuleValue}
@@ -13,8 +14,10 @@ use Rattle.xk_serve.specs.declared.fault.Fault.TheVariants as fault
 use Rattle.xk_module.specs.declared.fault.ModuleFault.{ModuleFault}
 use Rattle.xk_serve.specs.Programs.{Gives, IsNoModule, IsNoSource, longest_module, longest_source}
 use Rattle.xk_serve.specs.Bytes.{kept}
-use Rattle.xk_serve.specs.Answer.{FailsBy, GivesAccepted, Succeeds, Task}
-use Rattle.xk_serve.specs.Devices.{AgainstLog, IfKnown, IsRead, Reads, StandsAgainst, read_of}
+use Rattle.xk_serve.specs.Answer.{Chart, Check, Compile, Doing, Explain, FailsBy, GivesAccepted, IsExplanation, IsSaidBy, IsSaidOf, Replay, Run, Succeeds, Task}
+use Rattle.xk_serve.specs.Devices.{AgainstLog, IfKnown, IsRead, IsSaid, Reads, StandsAgainst, read_of}
+use Rattle.xk_explain.specs.Explanations.{front_explanation, has_place}
+use Rattle.xk_serve.proofs.ReplyLemmas.{of_known}
 use Rattle.xk_serve.proofs.TaskLemmas.{of_each}
 
 -- a front that is shorter than it may be is the whole
@@ -72,23 +75,110 @@ pub kept_done : (t : Task) (known logged : Option (List ℕ)) (bytes : List ℕ)
 kept_done t None logged bytes d e h = tt
 kept_done t (Some k) logged bytes d e h = of_each _ _ (read_of t logged) (λ log s. kept_succeeds t bytes k log d e s) h
 
+-- ---- what is said of a fault
+
+either_way : (b : Bool) (x y z : List ℕ) → b ≡ false → (if b then x else z) ≡ (if b then y else z)
+either_way true x y z e = absurd (false≢true (sym e))
+either_way false x y z e = refl
+
+-- of a text that is too long nothing is said that looks at it
+front_kept : (file bytes known : List ℕ) (f : FrontFault) → bytes ≡ kept form.Source known → IsNoSource bytes f
+    → front_explanation file bytes f ≡ front_explanation file known f
+front_kept file bytes known f e (inl h) = either_way (has_place f.rule) _ _ _ (ap has_place h.1)
+front_kept file bytes known f e (inr (inl h)) = ap (λ b. front_explanation file b f) (whole longest_source bytes known e h.0)
+front_kept file bytes known f e (inr (inr (inl h))) = ap (λ b. front_explanation file b f) (whole longest_source bytes known e h.0)
+front_kept file bytes known f e (inr (inr (inr h))) = ap (λ b. front_explanation file b f) (whole longest_source bytes known e h.1.1.short)
+
+explanation_kept : (t : Task) (bytes known logged said : List ℕ) (f : Fault) → bytes ≡ kept t.form known → FailsBy t bytes logged f
+    → IsExplanation t.form t.file bytes f said → IsExplanation t.form t.file known f said
+explanation_kept t bytes known logged said (fault.Text f) e h is = is
+explanation_kept t bytes known logged said (fault.Front f) e h is =
+    is ∙ front_kept t.file bytes known f (subst (λ what. bytes ≡ kept what known) h.0 e) h.1
+explanation_kept t bytes known logged said (fault.Refused r) e h is = is
+explanation_kept t bytes known logged said (fault.Arguments wants has) e h is = is
+explanation_kept t bytes known logged said (fault.Grammar line) e h is = is
+explanation_kept t bytes known logged said fault.Truncated e h is = is
+explanation_kept t bytes known logged said (fault.NotEnabled i) e h is = is
+explanation_kept t bytes known logged said fault.NotEnded e h is = is
+explanation_kept t bytes known logged said fault.OutOfMemory e h is = is
+explanation_kept t bytes known logged said fault.Device e h is = is
+
+same_said : (what : Doing) (kind : Form) (file bytes known said : List ℕ) (f : Fault)
+    → (IsExplanation kind file bytes f said → IsExplanation kind file known f said) → IsSaidBy what kind file bytes f said → IsSaidBy what kind file known f said
+same_said Explain kind file bytes known said f e h = e h
+same_said Check kind file bytes known said f e h = h
+same_said Compile kind file bytes known said f e h = h
+same_said (Run way kept) kind file bytes known said f e h = h
+same_said Replay kind file bytes known said f e h = h
+same_said Chart kind file bytes known said f e h = h
+
+said_kept : (t : Task) (bytes known logged said : List ℕ) (f : Fault) → bytes ≡ kept t.form known → FailsBy t bytes logged f → IsSaidOf t bytes f said → IsSaidOf t known f said
+said_kept t bytes known logged said f e h = same_said t.doing t.form t.file bytes known said f (explanation_kept t bytes known logged said f e h)
+
+-- of want of memory nothing is said
+memory_unsaid : (what : Doing) (kind : Form) (file bytes : List ℕ) → IsSaidBy what kind file bytes fault.OutOfMemory []
+memory_unsaid Explain kind file bytes = refl
+memory_unsaid Check kind file bytes = refl
+memory_unsaid Compile kind file bytes = refl
+memory_unsaid (Run way kept) kind file bytes = refl
+memory_unsaid Replay kind file bytes = refl
+memory_unsaid Chart kind file bytes = refl
+
+-- of devices nothing is said
+device_unsaid : (what : Doing) (kind : Form) (file bytes said : List ℕ) → IsSaidBy what kind file bytes fault.Device said → said ≡ []
+device_unsaid Explain kind file bytes said h = h
+device_unsaid Check kind file bytes said h = h
+device_unsaid Compile kind file bytes said h = h
+device_unsaid (Run way kept) kind file bytes said h = h
+device_unsaid Replay kind file bytes said h = h
+device_unsaid Chart kind file bytes said h = h
+
 -- the same of the faults that are no device's
-stands : (t : Task) (known logged : Option (List ℕ)) (bytes : List ℕ) (n : Reads) (f : Fault) → n.program_new ≡ n.program_old → n.log_new ≡ n.log_old
-    → IfSome known (λ k. bytes ≡ kept t.form k) → IfSome (read_of t logged) (λ log. FailsBy t bytes log f)
-    → IsRead n × IfKnown t known logged (λ k log. FailsBy t k log f)
-stands t None logged bytes n f s l e h = ((s, l), tt)
-stands t (Some k) logged bytes n f s l e h = ((s, l), of_each _ _ (read_of t logged) (λ log p. kept_fails t bytes k log f e p) h)
+stands : (t : Task) (known logged : Option (List ℕ)) (bytes : List ℕ) (n : Reads) (f : Fault) (said : List ℕ) → n.program_new ≡ n.program_old → n.log_new ≡ n.log_old
+    → IfSome known (λ k. bytes ≡ kept t.form k) → IfSome (read_of t logged) (λ log. FailsBy t bytes log f) → IsSaidOf t bytes f said
+    → IsRead n × IfKnown t known logged (λ k log. FailsBy t k log f × IsSaidOf t k f said)
+stands t None logged bytes n f said s l e h is = ((s, l), tt)
+stands t (Some k) logged bytes n f said s l e h is =
+    ((s, l), of_each _ _ (read_of t logged) (λ log p. (kept_fails t bytes k log f e p, said_kept t bytes k log said f e p is)) h)
 
 -- a fault with the bytes kept is one with those that are known
-pub kept_stands : (t : Task) (known logged : Option (List ℕ)) (bytes : List ℕ) (n : Reads) (f : Fault) → n.program_new ≡ n.program_old
-    → IfSome known (λ k. bytes ≡ kept t.form k) → AgainstLog t bytes logged n.log_old n.log_new f → StandsAgainst t known logged n f
-kept_stands t known logged bytes n (fault.Text f) s e h = stands t known logged bytes n (fault.Text f) s h.0 e h.1
-kept_stands t known logged bytes n (fault.Front f) s e h = stands t known logged bytes n (fault.Front f) s h.0 e h.1
-kept_stands t known logged bytes n (fault.Refused r) s e h = stands t known logged bytes n (fault.Refused r) s h.0 e h.1
-kept_stands t known logged bytes n (fault.Arguments wants has) s e h = stands t known logged bytes n (fault.Arguments wants has) s h.0 e h.1
-kept_stands t known logged bytes n (fault.Grammar line) s e h = stands t known logged bytes n (fault.Grammar line) s h.0 e h.1
-kept_stands t known logged bytes n fault.Truncated s e h = stands t known logged bytes n fault.Truncated s h.0 e h.1
-kept_stands t known logged bytes n (fault.NotEnabled i) s e h = stands t known logged bytes n (fault.NotEnabled i) s h.0 e h.1
-kept_stands t known logged bytes n fault.NotEnded s e h = stands t known logged bytes n fault.NotEnded s h.0 e h.1
-kept_stands t known logged bytes n fault.OutOfMemory s e h = stands t known logged bytes n fault.OutOfMemory s h.0 e h.1
-kept_stands t known logged bytes n fault.Device s e h = inr h
+told_stands : (t : Task) (known logged : Option (List ℕ)) (bytes : List ℕ) (n : Reads) (f : Fault) (said : List ℕ) → n.program_new ≡ n.program_old
+    → IfSome known (λ k. bytes ≡ kept t.form k) → AgainstLog t bytes logged n.log_old n.log_new f → IsSaidOf t bytes f said → StandsAgainst t known logged n f said
+told_stands t known logged bytes n (fault.Text f) said s e h is = stands t known logged bytes n (fault.Text f) said s h.0 e h.1 is
+told_stands t known logged bytes n (fault.Front f) said s e h is = stands t known logged bytes n (fault.Front f) said s h.0 e h.1 is
+told_stands t known logged bytes n (fault.Refused r) said s e h is = stands t known logged bytes n (fault.Refused r) said s h.0 e h.1 is
+told_stands t known logged bytes n (fault.Arguments wants has) said s e h is = stands t known logged bytes n (fault.Arguments wants has) said s h.0 e h.1 is
+told_stands t known logged bytes n (fault.Grammar line) said s e h is = stands t known logged bytes n (fault.Grammar line) said s h.0 e h.1 is
+told_stands t known logged bytes n fault.Truncated said s e h is = stands t known logged bytes n fault.Truncated said s h.0 e h.1 is
+told_stands t known logged bytes n (fault.NotEnabled i) said s e h is = stands t known logged bytes n (fault.NotEnabled i) said s h.0 e h.1 is
+told_stands t known logged bytes n fault.NotEnded said s e h is = stands t known logged bytes n fault.NotEnded said s h.0 e h.1 is
+told_stands t known logged bytes n fault.OutOfMemory said s e h is = stands t known logged bytes n fault.OutOfMemory said s h.0 e h.1 is
+told_stands t known logged bytes n fault.Device said s e h is = (inr h, device_unsaid t.doing t.form t.file bytes said is)
+
+-- what stands against a log that is no device's fault leaves the count of failures
+log_read : (t : Task) (bytes : List ℕ) (logged : Option (List ℕ)) (old new : ℕ) (f : Fault) → f ≢ fault.Device → AgainstLog t bytes logged old new f → new ≡ old
+log_read t bytes logged old new (fault.Text f) no h = h.0
+log_read t bytes logged old new (fault.Front f) no h = h.0
+log_read t bytes logged old new (fault.Refused r) no h = h.0
+log_read t bytes logged old new (fault.Arguments wants has) no h = h.0
+log_read t bytes logged old new (fault.Grammar line) no h = h.0
+log_read t bytes logged old new fault.Truncated no h = h.0
+log_read t bytes logged old new (fault.NotEnabled i) no h = h.0
+log_read t bytes logged old new fault.NotEnded no h = h.0
+log_read t bytes logged old new fault.OutOfMemory no h = h.0
+log_read t bytes logged old new fault.Device no h = absurd (no refl)
+
+-- want of memory stands where no source failed
+memory_stands : (t : Task) (known logged : Option (List ℕ)) (n : Reads) → n.program_new ≡ n.program_old → n.log_new ≡ n.log_old
+    → StandsAgainst t known logged n fault.OutOfMemory []
+memory_stands t known logged n s l = ((s, l), of_known t known logged (λ k log. FailsBy t k log fault.OutOfMemory × IsSaidOf t k fault.OutOfMemory [])
+    (λ k log. (tt, memory_unsaid t.doing t.form t.file k)))
+
+-- the same of a fault that is told with what is said of it, or as want of memory
+pub kept_stands : (t : Task) (known logged : Option (List ℕ)) (bytes : List ℕ) (n : Reads) (f told : Fault) (said : List ℕ) → n.program_new ≡ n.program_old
+    → IfSome known (λ k. bytes ≡ kept t.form k) → AgainstLog t bytes logged n.log_old n.log_new f → IsSaid t bytes f told said → StandsAgainst t known logged n told said
+kept_stands t known logged bytes n f told said s e h (inl is) =
+    subst (λ x. StandsAgainst t known logged n x said) (sym is.0) (told_stands t known logged bytes n f said s e h is.1)
+kept_stands t known logged bytes n f told said s e h (inr is) =
+    subst (λ x. StandsAgainst t known logged n x said) (sym is.1) (subst (StandsAgainst t known logged n fault.OutOfMemory) (sym is.2)
+    (memory_stands t known logged n s (log_read t bytes logged n.log_old n.log_new f is.0 h)))

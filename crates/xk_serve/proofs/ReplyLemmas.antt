@@ -1,5 +1,5 @@
 -- From a fault and how it was told to the clauses of the whole program.
-use Rattle.std.proofs.Common.{◌≡◌, ◌≢◌, ◌⊎◌, ℕ, List, [], length, Option, Some, None, inl, inr, refl, sym, subst, ◌∙◌}
+use Rattle.std.proofs.Common.{◌≡◌, ◌≢◌, ◌⊎◌, ℕ, zero, suc, List, [], length, take, Option, Some, None, inl, inr, refl, sym, ap, subst, ◌∙◌}
 use Rattle.std.proofs.Math.Seq.{take-length}
 use Rattle.std.proofs.lemmas.List.{append-nil}
 use Rattle.std.specs.Prelude.{IfSome, ◌++◌, string_bytes}
@@ -8,58 +8,20 @@ use Rattle.xk_serve.specs.declared.job_result.Done.{Done}
 use Rattle.xk_serve.specs.declared.job_result.Done.TheVariants as done
 use Rattle.xk_serve.specs.declared.fault.Fault.{Fault}
 use Rattle.xk_serve.specs.declared.fault.Fault.TheVariants as fault
-use Rattle.xk_serve.specs.Answer.{FailsBy, Succeeds, Task, done_reply, fault_reply}
+use Rattle.xk_serve.specs.Answer.{FailsBy, IsSaidOf, Succeeds, Task, done_reply, fault_reply}
 use Rattle.xk_log.specs.Writing.{AppendsBeginning}
 use Rattle.xk_serve.specs.Lines.{device_line, done_ending, done_front, done_text, fault_line, memory_line, status_of}
-use Rattle.xk_serve.specs.Devices.{Answered, ErrBegins, IfKnown, IsBegun, IsTold, IsWritten, OutBegins, Reads, Reports, StandsAgainst, Tells, read_of}
+use Rattle.xk_serve.specs.Devices.{Answered, ErrBegins, Explained, IfKnown, IsBegun, IsTold, IsWritten, OutBegins, Reads, Reports, StandsAgainst, Tells, read_of}
 
 -- nothing was written
 pub appends_none : (a : Option (List ℕ)) → Appends a a []
 appends_none None = tt
 appends_none (Some xs) = sym (append-nil xs)
 
--- a fault that isn't a device's is one of the bytes
-against_bytes : (t : Task) (bytes logged : List ℕ) (known : Option (List ℕ)) (n : Reads) (f : Fault) → read_of t known ≡ Some logged
-    → StandsAgainst t (Some bytes) known n f → status_of f ≢ 5 → FailsBy t bytes logged f
-against_bytes t bytes logged known n (fault.Text f) e h not5 = subst (λ o. IfSome o (λ log. FailsBy t bytes log (fault.Text f))) e h.1
-against_bytes t bytes logged known n (fault.Front f) e h not5 = subst (λ o. IfSome o (λ log. FailsBy t bytes log (fault.Front f))) e h.1
-against_bytes t bytes logged known n (fault.Refused r) e h not5 = subst (λ o. IfSome o (λ log. FailsBy t bytes log (fault.Refused r))) e h.1
-against_bytes t bytes logged known n (fault.Arguments wants has) e h not5 = subst (λ o. IfSome o (λ log. FailsBy t bytes log (fault.Arguments wants has))) e h.1
-against_bytes t bytes logged known n (fault.Grammar line) e h not5 = subst (λ o. IfSome o (λ log. FailsBy t bytes log (fault.Grammar line))) e h.1
-against_bytes t bytes logged known n fault.Truncated e h not5 = subst (λ o. IfSome o (λ log. FailsBy t bytes log (fault.Truncated))) e h.1
-against_bytes t bytes logged known n (fault.NotEnabled i) e h not5 = subst (λ o. IfSome o (λ log. FailsBy t bytes log (fault.NotEnabled i))) e h.1
-against_bytes t bytes logged known n fault.NotEnded e h not5 = subst (λ o. IfSome o (λ log. FailsBy t bytes log (fault.NotEnded))) e h.1
-against_bytes t bytes logged known n fault.OutOfMemory e h not5 = subst (λ o. IfSome o (λ log. FailsBy t bytes log (fault.OutOfMemory))) e h.1
-against_bytes t bytes logged known n fault.Device e h not5 = absurd (not5 refl)
-
--- a fault that was told is an answer
-pub told_answer : (t : Task) (bytes logged : List ℕ) (known : Option (List ℕ)) (n : Reads) (f : Fault) (out err_old err_new log : Option (List ℕ))
-    (faults_old faults_new result : ℕ) → read_of t known ≡ Some logged → StandsAgainst t (Some bytes) known n f
-    → Reports f err_old err_new faults_old faults_new result → result ≢ 4 → result ≢ 5 → Answered t bytes logged result out out err_old err_new log log
-told_answer t bytes logged known n f out err_old err_new log faults_old faults_new result e h (inl (inl p)) not4 not5 = record {
-  reply = fault_reply f;
-  answers = inr (f, against_bytes t bytes logged known n f e h (λ k. not5 (p.0 ∙ k)), refl);
-  status_is = p.0;
-  out_is = appends_none out;
-  err_is = p.1;
-  log_is = appends_none log;
-}
-told_answer t bytes logged known n f out err_old err_new log faults_old faults_new result e h (inl (inr p)) not4 not5 = absurd (not5 p.0)
-told_answer t bytes logged known n f out err_old err_new log faults_old faults_new result e h (inr (d, inl p)) not4 not5 = absurd (not4 p.0)
-told_answer t bytes logged known n f out err_old err_new log faults_old faults_new result e h (inr (d, inr p)) not4 not5 = absurd (not5 p.0)
-
 -- what holds of whatever list is known
 pub if_known : (known : Option (List ℕ)) (P : List ℕ → Type 0) → ((xs : List ℕ) → known ≡ Some xs → P xs) → IfSome known P
 if_known None P f = tt
 if_known (Some xs) P f = f xs refl
-
--- the same, whether the bytes are known or not
-pub told_answers : (t : Task) (program known : Option (List ℕ)) (n : Reads) (f : Fault) (out err_old err_new log : Option (List ℕ))
-    (faults_old faults_new result : ℕ) → StandsAgainst t program known n f → Reports f err_old err_new faults_old faults_new result
-    → IfKnown t program known (λ bytes logged. result ≢ 4 → result ≢ 5 → Answered t bytes logged result out out err_old err_new log log)
-told_answers t None known n f out err_old err_new log faults_old faults_new result h r = tt
-told_answers t (Some bytes) known n f out err_old err_new log faults_old faults_new result h r = if_known (read_of t known) _
-    (λ logged e. told_answer t bytes logged known n f out err_old err_new log faults_old faults_new result e h r)
 
 weaker : (known : Option (List ℕ)) (P Q : List ℕ → Type 0) → ((xs : List ℕ) → P xs → Q xs) → IfSome known P → IfSome known Q
 weaker None P Q f h = tt
@@ -111,7 +73,7 @@ parts_of_text (done.Ended printed steps log) = refl
 pub begun_known : (t : Task) (program known : Option (List ℕ)) (d : Done) (out_old out_new log_old log_new : Option (List ℕ))
     → IfKnown t program known (λ bytes logged. Succeeds t bytes logged d) → IsBegun d out_old out_new log_old log_new
     → IfKnown t program known (λ bytes logged. OutBegins t bytes logged out_old out_new log_old log_new)
-begun_known t program known d out_old out_new log_old log_new h b = known_weaker t program known _ _ (λ bytes logged s. inr (d, s, b)) h
+begun_known t program known d out_old out_new log_old log_new h b = known_weaker t program known _ _ (λ bytes logged s. inr (inl (d, s, b))) h
 
 -- ---- devices
 
@@ -119,39 +81,101 @@ begun_known t program known d out_old out_new log_old log_new h b = known_weaker
 pub begins_none : (a : Option (List ℕ)) (text : List ℕ) → AppendsBeginning a a text
 begins_none a text = (0, appends_none a)
 
+take_none : (k : ℕ) → take k [] ≡ []
+take_none zero = refl
+take_none (suc k) = refl
+
+-- a beginning of nothing is nothing
+nothing_begun : (old new : Option (List ℕ)) (text : List ℕ) → text ≡ [] → AppendsBeginning old new text → Appends old new []
+nothing_begun old new text e h = subst (Appends old new) (ap (take h.0) e ∙ take_none h.0) h.1
+
 -- of a line that was told a beginning was written
 pub tells_begins : (line : List ℕ) (status : ℕ) (old new : Option (List ℕ)) (faults_old faults_new result : ℕ)
     → Tells line status old new faults_old faults_new result → AppendsBeginning old new line
 tells_begins line status old new faults_old faults_new result (inl p) = (length line, rw (take-length line) p.1)
 tells_begins line status old new faults_old faults_new result (inr p) = p.1
 
--- a fault that stands against known bytes may be told
-told_of : (t : Task) (bytes logged : List ℕ) (known : Option (List ℕ)) (n : Reads) (f : Fault) → read_of t known ≡ Some logged
-    → StandsAgainst t (Some bytes) known n f → IsTold t bytes logged f
-told_of t bytes logged known n (fault.Text f) e h = inr (subst (λ o. IfSome o (λ log. FailsBy t bytes log (fault.Text f))) e h.1)
-told_of t bytes logged known n (fault.Front f) e h = inr (subst (λ o. IfSome o (λ log. FailsBy t bytes log (fault.Front f))) e h.1)
-told_of t bytes logged known n (fault.Refused r) e h = inr (subst (λ o. IfSome o (λ log. FailsBy t bytes log (fault.Refused r))) e h.1)
-told_of t bytes logged known n (fault.Arguments wants has) e h = inr (subst (λ o. IfSome o (λ log. FailsBy t bytes log (fault.Arguments wants has))) e h.1)
-told_of t bytes logged known n (fault.Grammar line) e h = inr (subst (λ o. IfSome o (λ log. FailsBy t bytes log (fault.Grammar line))) e h.1)
-told_of t bytes logged known n fault.Truncated e h = inr (subst (λ o. IfSome o (λ log. FailsBy t bytes log (fault.Truncated))) e h.1)
-told_of t bytes logged known n (fault.NotEnabled i) e h = inr (subst (λ o. IfSome o (λ log. FailsBy t bytes log (fault.NotEnabled i))) e h.1)
-told_of t bytes logged known n fault.NotEnded e h = inr (subst (λ o. IfSome o (λ log. FailsBy t bytes log (fault.NotEnded))) e h.1)
-told_of t bytes logged known n fault.OutOfMemory e h = inr (subst (λ o. IfSome o (λ log. FailsBy t bytes log (fault.OutOfMemory))) e h.1)
-told_of t bytes logged known n fault.Device e h = inl refl
+-- ---- faults
 
--- a fault that was reported was told by a beginning of a line
-report_begun : (t : Task) (bytes logged : List ℕ) (f : Fault) (err_old err_new : Option (List ℕ)) (faults_old faults_new result : ℕ)
-    → IsTold t bytes logged f → Reports f err_old err_new faults_old faults_new result → ErrBegins t bytes logged err_old err_new
-report_begun t bytes logged f err_old err_new faults_old faults_new result told (inl p) = (f, told, tells_begins (fault_line f) _ err_old err_new _ _ _ p)
-report_begun t bytes logged f err_old err_new faults_old faults_new result told (inr p) =
-    (fault.OutOfMemory, inr tt, tells_begins memory_line _ err_old err_new _ _ _ p.1)
+-- what stands against a task: a device's fault, of which nothing is said, or one of the bytes, with what is said of it
+either : (t : Task) (program known : Option (List ℕ)) (n : Reads) (f : Fault) (said : List ℕ) → StandsAgainst t program known n f said
+    → ((f ≡ fault.Device) × (said ≡ [])) ⊎ IfKnown t program known (λ bytes log. FailsBy t bytes log f × IsSaidOf t bytes f said)
+either t program known n (fault.Text f) said h = inr h.1
+either t program known n (fault.Front f) said h = inr h.1
+either t program known n (fault.Refused r) said h = inr h.1
+either t program known n (fault.Arguments wants has) said h = inr h.1
+either t program known n (fault.Grammar line) said h = inr h.1
+either t program known n fault.Truncated said h = inr h.1
+either t program known n (fault.NotEnabled i) said h = inr h.1
+either t program known n fault.NotEnded said h = inr h.1
+either t program known n fault.OutOfMemory said h = inr h.1
+either t program known n fault.Device said h = inl (refl, h.1)
 
-pub report_begins : (t : Task) (program known : Option (List ℕ)) (n : Reads) (f : Fault) (err_old err_new : Option (List ℕ)) (faults_old faults_new result : ℕ)
-    → StandsAgainst t program known n f → Reports f err_old err_new faults_old faults_new result
-    → IfKnown t program known (λ bytes logged. ErrBegins t bytes logged err_old err_new)
-report_begins t None known n f err_old err_new faults_old faults_new result h r = tt
-report_begins t (Some bytes) known n f err_old err_new faults_old faults_new result h r = if_known (read_of t known) _
-    (λ logged e. report_begun t bytes logged f err_old err_new faults_old faults_new result (told_of t bytes logged known n f e h) r)
+module _ (said : List ℕ) (f : Fault) (out_old out_new : Option (List ℕ)) (out_faults out_after : ℕ) (err_old err_new : Option (List ℕ)) (err_faults err_after result : ℕ) where
+  -- a device's fault has the status of a device
+  device_told : f ≡ fault.Device → Explained said f out_old out_new out_faults out_after err_old err_new err_faults err_after result → result ≡ 5
+  device_told e (inl (out, same, inl p)) = p.0 ∙ ap status_of e
+  device_told e (inl (out, same, inr p)) = p.0
+  device_told e (inr (inl (out, same, device, told))) = absurd (device e)
+  device_told e (inr (inr (out, rose, inl p))) = p.0
+  device_told e (inr (inr (out, rose, inr p))) = p.0
+
+  -- a fault that was told is an answer
+  explained_answer : (t : Task) (bytes logged : List ℕ) (log : Option (List ℕ)) → FailsBy t bytes logged f × IsSaidOf t bytes f said
+      → Explained said f out_old out_new out_faults out_after err_old err_new err_faults err_after result
+      → result ≢ 4 → result ≢ 5 → Answered t bytes logged result out_old out_new err_old err_new log log
+  explained_answer t bytes logged log h (inl (out, same, inl p)) not4 not5 = record {
+    reply = fault_reply said f;
+    answers = inr (f, h.0, (said, h.1, refl));
+    status_is = p.0;
+    out_is = out;
+    err_is = p.1;
+    log_is = appends_none log;
+  }
+  explained_answer t bytes logged log h (inl (out, same, inr p)) not4 not5 = absurd (not5 p.0)
+  explained_answer t bytes logged log h (inr (inl (out, same, device, inl p))) not4 not5 = absurd (not4 p.0)
+  explained_answer t bytes logged log h (inr (inl (out, same, device, inr p))) not4 not5 = absurd (not5 p.0)
+  explained_answer t bytes logged log h (inr (inr (out, rose, inl p))) not4 not5 = absurd (not5 p.0)
+  explained_answer t bytes logged log h (inr (inr (out, rose, inr p))) not4 not5 = absurd (not5 p.0)
+
+  -- standard output got a beginning of what is said
+  explained_begins : Explained said f out_old out_new out_faults out_after err_old err_new err_faults err_after result → AppendsBeginning out_old out_new said
+  explained_begins (inl (out, same, told)) = (length said, rw (take-length said) out)
+  explained_begins (inr (inl (out, same, device, told))) = (0, out)
+  explained_begins (inr (inr (out, rose, told))) = out
+
+  -- standard error got a beginning of a line
+  explained_line : (t : Task) (bytes logged : List ℕ) → IsTold t bytes logged f
+      → Explained said f out_old out_new out_faults out_after err_old err_new err_faults err_after result → ErrBegins t bytes logged err_old err_new
+  explained_line t bytes logged told (inl (out, same, p)) = (f, told, tells_begins (fault_line f) _ err_old err_new _ _ _ p)
+  explained_line t bytes logged told (inr (inl (out, same, device, p))) = (fault.OutOfMemory, inr tt, tells_begins memory_line _ err_old err_new _ _ _ p)
+  explained_line t bytes logged told (inr (inr (out, rose, p))) = (fault.Device, inl refl, tells_begins device_line _ err_old err_new _ _ _ p)
+
+  module _ (t : Task) (program known : Option (List ℕ)) (n : Reads) (stands : StandsAgainst t program known n f said)
+      (explained : Explained said f out_old out_new out_faults out_after err_old err_new err_faults err_after result) (log : Option (List ℕ)) where
+    -- the answer, whether the bytes are known or not
+    pub told_answers : IfKnown t program known (λ bytes logged. result ≢ 4 → result ≢ 5 → Answered t bytes logged result out_old out_new err_old err_new log log)
+    told_answers = elim (either t program known n f said stands) [
+      inl d ↦ of_known t program known (λ bytes logged. result ≢ 4 → result ≢ 5 → Answered t bytes logged result out_old out_new err_old err_new log log)
+          (λ bytes logged not4 not5. absurd (not5 (device_told d.0 explained)))
+      | inr k ↦ known_weaker t program known _ _ (λ bytes logged h not4 not5. explained_answer t bytes logged log h explained not4 not5) k
+    ]
+
+    -- standard output, and the log
+    pub said_begins : IfKnown t program known (λ bytes logged. OutBegins t bytes logged out_old out_new log log)
+    said_begins = elim (either t program known n f said stands) [
+      inl d ↦ of_known t program known (λ bytes logged. OutBegins t bytes logged out_old out_new log log)
+          (λ bytes logged. inl (nothing_begun out_old out_new said d.1 (explained_begins explained), appends_none log))
+      | inr k ↦ known_weaker t program known _ _
+          (λ bytes logged h. inr (inr (f, h.0, (said, h.1, explained_begins explained, appends_none log)))) k
+    ]
+
+    -- standard error
+    pub line_begins : IfKnown t program known (λ bytes logged. ErrBegins t bytes logged err_old err_new)
+    line_begins = elim (either t program known n f said stands) [
+      inl d ↦ of_known t program known (λ bytes logged. ErrBegins t bytes logged err_old err_new) (λ bytes logged. explained_line t bytes logged (inl d.0) explained)
+      | inr k ↦ known_weaker t program known _ _ (λ bytes logged h. explained_line t bytes logged (inr h.0) explained) k
+    ]
 
 -- a device's fault was told
 pub device_reports : (f : Fault) (line : List ℕ) (err_old err_new : Option (List ℕ)) (faults_old faults_new result : ℕ)

@@ -90,7 +90,7 @@ never_done fault.Device e = cc
 written_of : (t : Task) (way : Way) (bytes logged : List ℕ) (r : Reply) → t.doing ≡ Run way true → Answers t bytes logged r → r.status ≡ 0 → IsWritten t bytes r
 written_of t way bytes logged r is (inl (d, s, e)) zero =
     written t way bytes logged r d s.of s.given (subst (λ what. ComesTo what s.of t.arguments logged d) is s.done) e
-written_of t way bytes logged r is (inr (f, h, e)) zero = absurd (never_done f (sym (ap (λ (z : Reply). z.status) e) ∙ zero))
+written_of t way bytes logged r is (inr (f, h, e)) zero = absurd (never_done f (sym (ap (λ (z : Reply). z.status) e.2) ∙ zero))
 
 -- ---- and read again
 

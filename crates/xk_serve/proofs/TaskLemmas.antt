@@ -17,7 +17,7 @@ use Rattle.xk_bounds.specs.declared.refusal.Refusal.TheVariants as refusal
 use Rattle.xk_serve.specs.declared.job_result.Done.{Done}
 use Rattle.xk_serve.specs.declared.fault.Fault.{Fault}
 use Rattle.xk_serve.specs.declared.fault.Fault.TheVariants as fault
-use Rattle.xk_serve.specs.Answer.{Chart, Check, ComesTo, Compile, Doing, FailsBy, IsLogText, IsNoRun, IsNotRun, IsRefusal, Replay, Run, Succeeds, Task, reads_log, runs}
+use Rattle.xk_serve.specs.Answer.{Chart, Check, ComesTo, Compile, Doing, Explain, FailsBy, IsLogText, IsNoRun, IsNotRun, IsRefusal, Replay, Run, Succeeds, Task, reads_log, runs}
 use Rattle.xk_serve.specs.Faults.{of_log, of_refusal, of_replay}
 use Rattle.xk_serve.specs.Lines.{status_of}
 use Rattle.std.proofs.lemmas.Result.{IfOk-weaker}
@@ -193,6 +193,7 @@ against_run t bytes known old new m fault.Device reads given accepted taken h = 
 -- what reads a log is run
 reads_runs : (what : Doing) → reads_log what ≡ true → runs what ≡ true
 reads_runs Check h = absurd (false≢true h)
+reads_runs Explain h = absurd (false≢true h)
 reads_runs Compile h = absurd (false≢true h)
 reads_runs (Run way kept) h = refl
 reads_runs Replay h = refl

@@ -28,10 +28,14 @@ use Rattle.xk_replay.specs.Replay.{IsStoppedAt, IsUnfinished}
 use Rattle.xk_serve.specs.OrderedRun.{IsLoggedRun, IsOrderedRun, IsReplay, IsSomeRun, IsWholeRun}
 use Rattle.xk_serve.specs.Lines.{done_log, done_text, fault_line, status_of}
 use Rattle.xk_serve.specs.Programs.{Gives, IsNoModule, IsNoSource}
+use Rattle.xk_module.specs.Faults.{fault_label}
+use Rattle.xk_explain.specs.Explanations.{front_explanation, module_explanation, refusal_explanation}
+use Rattle.std.specs.Option.{option_map_or}
 
 -- what is to be done with a module; a run is in an order, or by workers, and has its log kept or not
 pub data Doing : Type 0 where
   Check : Doing
+  Explain : Doing
   Compile : Doing
   Run : Way → Bool → Doing
   Replay : Doing
@@ -40,6 +44,7 @@ pub data Doing : Type 0 where
 -- whether the module is run, and main given its arguments
 abbrev pub runs : Doing → Bool
 runs Check = false
+runs Explain = false
 runs Compile = false
 runs _ = true
 
@@ -56,19 +61,21 @@ way_given given = unwrap_or (option_map way_value given) (In order.First)
 -- a run's log is kept where there is a path for it
 abbrev pub doing_of : Command → Doing
 doing_of command.Check = Check
+doing_of command.Explain = Explain
 doing_of command.Compile = Compile
 doing_of (command.Run given path) = Run (way_given given) (is_some path)
 doing_of (command.Replay log) = Replay
 doing_of (command.Chart log) = Chart
 
--- what is to be done with a file, what stands in it, and what main is given where it is run
+-- what is to be done with a file, what it is called, what stands in it, and what main is given where it is run
 pub record Task : Type 0 where
   pub doing : Doing
+  pub file : List ℕ
   pub form : Form
   pub arguments : List ℤ
 
 abbrev pub task_of : Job → Task
-task_of job = record { doing = doing_of job.command; form = job.form; arguments = job.arguments.items }
+task_of job = record { doing = doing_of job.command; file = job.file.now; form = job.form; arguments = job.arguments.items }
 
 -- these bytes are the text of a log of these entries
 abbrev pub IsLogText : List ℕ → List Entry → Type 0
@@ -83,11 +90,13 @@ abbrev pub Charts : ModuleValue → List ℤ → List ℕ → List ℕ → Type 
 Charts m args logged text = (es : List Entry) × IsLogText logged es × IsWholeRun m args es × (text ≡ chart_text m args es)
 
 -- What is to be done with a module, whose main is given these arguments where it is run, and with the bytes of a log where one is read, comes
--- to this: for `compile` the text of the module; where the module is accepted, for `check` its bounds, for `run` its run in the order, or, by
+-- to this: for `compile` the text of the module; where the module is accepted, for `check` and `explain` its bounds, for `run` its run in the order, or, by
 -- workers, some run of it, for `replay` and `chart` the run that the log has.
 abbrev pub ComesTo : Doing → ModuleValue → List ℤ → List ℕ → Done → Type 0
 ComesTo Compile m args logged (done.Compiled text) = string_bytes text ≡ compact_text (module_value m)
 ComesTo Check m args logged (done.Accepted steps activities clocks) =
+    IsAccepted m × (steps ≡ steps_bound m) × (activities ≡ activities_bound m) × (clocks ≡ clocks_bound m)
+ComesTo Explain m args logged (done.Accepted steps activities clocks) =
     IsAccepted m × (steps ≡ steps_bound m) × (activities ≡ activities_bound m) × (clocks ≡ clocks_bound m)
 ComesTo (Run (In o) false) m args logged (done.Ended numbers steps None) = IsAccepted m × IsOrderedRun o m args numbers.items steps
 ComesTo (Run (In o) true) m args logged (done.Ended numbers steps (Some log)) = IsAccepted m × IsLoggedRun o m args numbers.items steps log.items
@@ -155,6 +164,21 @@ FailsBy t bytes logged fault.NotEnded = FailsByLog t bytes logged fault.NotEnded
 FailsBy t bytes logged fault.OutOfMemory = ⊤
 FailsBy t bytes logged fault.Device = ⊥
 
+-- What `explain` says of a fault on standard output, beside its line: of want of memory and of devices nothing.
+abbrev pub IsExplanation : Form → List ℕ → List ℕ → Fault → List ℕ → Type 0
+IsExplanation kind file bytes (fault.Text f) said = said ≡ option_map_or (λ title. module_explanation file title f) (fault_label f) []
+IsExplanation kind file bytes (fault.Front f) said = said ≡ front_explanation file bytes f
+IsExplanation kind file bytes (fault.Refused r) said = said ≡ refusal_explanation file r
+IsExplanation kind file bytes _ said = said ≡ []
+
+-- the same of any task: only `explain` says more than the line
+abbrev pub IsSaidBy : Doing → Form → List ℕ → List ℕ → Fault → List ℕ → Type 0
+IsSaidBy Explain kind file bytes f said = IsExplanation kind file bytes f said
+IsSaidBy _ kind file bytes f said = said ≡ []
+
+abbrev pub IsSaidOf : Task → List ℕ → Fault → List ℕ → Type 0
+IsSaidOf t bytes f said = IsSaidBy t.doing t.form t.file bytes f said
+
 -- a status, and what goes to standard output, to standard error and to the log
 pub record Reply : Type 0 where
   pub status : ℕ
@@ -165,10 +189,10 @@ pub record Reply : Type 0 where
 abbrev pub done_reply : Done → Reply
 done_reply d = record { status = status_done; out = done_text d; err = []; log = done_log d }
 
-abbrev pub fault_reply : Fault → Reply
-fault_reply f = record { status = status_of f; out = []; err = fault_line f; log = [] }
+abbrev pub fault_reply : List ℕ → Fault → Reply
+fault_reply said f = record { status = status_of f; out = said; err = fault_line f; log = [] }
 
 -- the program may answer so
 abbrev pub Answers : Task → List ℕ → List ℕ → Reply → Type 0
 Answers t bytes logged r =
-    ((d : Done) × Succeeds t bytes logged d × (r ≡ done_reply d)) ⊎ ((f : Fault) × FailsBy t bytes logged f × (r ≡ fault_reply f))
+    ((d : Done) × Succeeds t bytes logged d × (r ≡ done_reply d)) ⊎ ((f : Fault) × FailsBy t bytes logged f × ((said : List ℕ) × IsSaidOf t bytes f said × (r ≡ fault_reply said f)))

@@ -12,8 +12,8 @@ use Rattle.xk_serve.specs.declared.job_result.Done.{Done}
 use Rattle.xk_serve.specs.declared.fault.Fault.{Fault}
 use Rattle.xk_serve.specs.declared.fault.Fault.TheVariants as fault
 use Rattle.xk_log.specs.Writing.{AppendsBeginning}
-use Rattle.xk_serve.specs.Answer.{Answers, FailsBy, IsNoRun, IsNotRun, Reply, Succeeds, Task, reads_log}
-use Rattle.xk_serve.specs.Lines.{done_log, done_text, excluded_line, fault_line, memory_line, status_of}
+use Rattle.xk_serve.specs.Answer.{Answers, FailsBy, IsNoRun, IsNotRun, Reply, Succeeds, Task, IsSaidOf, reads_log}
+use Rattle.xk_serve.specs.Lines.{device_line, done_log, done_text, excluded_line, fault_line, memory_line, status_of}
 
 -- all that is printed of it went to standard output, and its log to the log's device
 abbrev pub IsWritten : Done → Option (List ℕ) → Option (List ℕ) → Option (List ℕ) → Option (List ℕ) → Type 0
@@ -47,10 +47,11 @@ IsRead n = (n.program_new ≡ n.program_old) × (n.log_new ≡ n.log_old)
 abbrev pub FailsToRead : Reads → Type 0
 FailsToRead n = Rose n.program_old n.program_new ⊎ Rose n.log_old n.log_new
 
--- The fault is one of the task on the known bytes, or want of memory, and then no source failed; or one failed.
-abbrev pub StandsAgainst : Task → Option (List ℕ) → Option (List ℕ) → Reads → Fault → Type 0
-StandsAgainst t known logged n fault.Device = FailsToRead n
-StandsAgainst t known logged n f = IsRead n × IfKnown t known logged (λ bytes log. FailsBy t bytes log f)
+-- The fault is one of the task on the known bytes, or want of memory, and then no source failed, and this is what is said of it on standard
+-- output; or a source failed, and nothing is said.
+abbrev pub StandsAgainst : Task → Option (List ℕ) → Option (List ℕ) → Reads → Fault → List ℕ → Type 0
+StandsAgainst t known logged n fault.Device said = FailsToRead n × (said ≡ [])
+StandsAgainst t known logged n f said = IsRead n × IfKnown t known logged (λ bytes log. FailsBy t bytes log f × IsSaidOf t bytes f said)
 
 -- What stands against a task on these bytes, of which the log may still have been read: the numbers are the failures of the log's source.
 abbrev pub AgainstLog : Task → List ℕ → Option (List ℕ) → ℕ → ℕ → Fault → Type 0
@@ -81,6 +82,23 @@ Reports f old new faults_old faults_new result =
     Tells (fault_line f) (status_of f) old new faults_old faults_new result
     ⊎ ((f ≢ fault.Device) × Tells memory_line status_memory old new faults_old faults_new result)
 
+-- All that is said of a fault was written to standard output, and then its line was told; or want of memory was, and nothing was written before;
+-- or a write failed: to standard output, which got a beginning, and then a device is told, or to standard error.
+abbrev pub Explained : List ℕ → Fault → Option (List ℕ) → Option (List ℕ) → ℕ → ℕ → Option (List ℕ) → Option (List ℕ) → ℕ → ℕ → ℕ → Type 0
+Explained said f out_old out_new out_faults out_after err_old err_new err_faults err_after result =
+    (Appends out_old out_new said × (out_after ≡ out_faults) × Tells (fault_line f) (status_of f) err_old err_new err_faults err_after result)
+    ⊎ ((Appends out_old out_new [] × (out_after ≡ out_faults) × (f ≢ fault.Device) × Tells memory_line status_memory err_old err_new err_faults err_after result)
+    ⊎ (AppendsBeginning out_old out_new said × Rose out_faults out_after × Tells device_line status_device err_old err_new err_faults err_after result))
+
+-- where a fault is want of memory or a device's, nothing is said
+abbrev pub IsQuiet : Fault → List ℕ → Type 0
+IsQuiet f said = (status_of f ≡ status_memory) ⊎ (status_of f ≡ status_device) → said ≡ []
+
+-- the fault is told with what the task says of it; or, where it is no device's, as want of memory, and nothing is said
+abbrev pub IsSaid : Task → List ℕ → Fault → Fault → List ℕ → Type 0
+IsSaid t bytes f told said =
+    ((told ≡ f) × IsSaidOf t bytes f said) ⊎ ((f ≢ fault.Device) × (told ≡ fault.OutOfMemory) × (said ≡ []))
+
 -- status and texts are an answer to the task on these bytes
 pub record Answered (t : Task) (bytes logged : List ℕ) (status : ℕ) (out_old out_new err_old err_new log_old log_new : Option (List ℕ)) : Type 0 where
   pub reply : Reply
@@ -90,10 +108,15 @@ pub record Answered (t : Task) (bytes logged : List ℕ) (status : ℕ) (out_old
   pub err_is : Appends err_old err_new reply.err
   pub log_is : Appends log_old log_new reply.log
 
--- nothing was written to standard output and to the log, or a beginning of what a success of the task gives
+-- standard output got a beginning of what is said of a fault that stands against the task, and the log nothing
+abbrev pub SaidBegins : Task → List ℕ → List ℕ → Option (List ℕ) → Option (List ℕ) → Option (List ℕ) → Option (List ℕ) → Type 0
+SaidBegins t bytes logged out_old out_new log_old log_new =
+    (f : Fault) × FailsBy t bytes logged f × ((said : List ℕ) × IsSaidOf t bytes f said × AppendsBeginning out_old out_new said × Appends log_old log_new [])
+
+-- Nothing was written to standard output and to the log, or a beginning of what a success of the task gives, or of what is said of a fault.
 abbrev pub OutBegins : Task → List ℕ → List ℕ → Option (List ℕ) → Option (List ℕ) → Option (List ℕ) → Option (List ℕ) → Type 0
 OutBegins t bytes logged out_old out_new log_old log_new = (Appends out_old out_new [] × Appends log_old log_new [])
-    ⊎ ((d : Done) × Succeeds t bytes logged d × IsBegun d out_old out_new log_old log_new)
+    ⊎ (((d : Done) × Succeeds t bytes logged d × IsBegun d out_old out_new log_old log_new) ⊎ SaidBegins t bytes logged out_old out_new log_old log_new)
 
 -- the line of this fault may be told: a device failed, or the fault is one of the bytes
 abbrev pub IsTold : Task → List ℕ → List ℕ → Fault → Type 0

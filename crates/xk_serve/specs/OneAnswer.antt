@@ -13,7 +13,7 @@ use Rattle.xk_replay.specs.Chart.{chart_text}
 use Rattle.xk_serve.specs.declared.job_result.Done.{Done}
 use Rattle.xk_serve.specs.declared.job_result.Done.TheVariants as done
 use Rattle.xk_serve.specs.declared.fault.Fault.TheVariants as fault
-use Rattle.xk_serve.specs.Answer.{Answers, Chart, Doing, IsLogText, Reply, Replay, Run, Task, done_reply, fault_reply}
+use Rattle.xk_serve.specs.Answer.{Answers, Chart, Doing, Explain, IsLogText, IsSaidOf, Reply, Replay, Run, Task, done_reply, fault_reply}
 use Rattle.xk_serve.specs.Lines.{kind_text, line}
 use Rattle.xk_serve.specs.Programs.{Gives, IsSource, SpellsNone}
 
@@ -43,11 +43,18 @@ abbrev pub IsWithoutWorkers : Doing → Type 0
 IsWithoutWorkers (Run (By n) kept) = ⊥
 IsWithoutWorkers _ = ⊤
 
+-- what goes to standard output is one: no workers take the steps, and no refusal is explained, to which there may be several walks
+abbrev pub IsDetermined : Doing → Type 0
+IsDetermined (Run (By n) kept) = ⊥
+IsDetermined Explain = ⊥
+IsDetermined _ = ⊤
+
 -- Two replies to a job are one, but for the walk to a refusal of kinds; where workers take the steps, but for the numbers and the log of the run.
+-- (What is said of a fault is `IsSaidOf`.)
 pub record IsSameReply (what : Doing) (r s : Reply) : Type 0 where
   pub status : r.status ≡ s.status
   pub err : IsSameLine r.err s.err
-  pub out : IsWithoutWorkers what → r.out ≡ s.out
+  pub out : IsDetermined what → r.out ≡ s.out
   pub log : IsWithoutWorkers what → r.log ≡ s.log
 
 -- ---- source texts
@@ -57,21 +64,25 @@ abbrev pub IsLeftOpen : List ℕ → FrontFault → FrontFault → Type 0
 IsLeftOpen bytes f g = (SpellsNone bytes f × SpellsNone bytes g) ⊎ ((tree : TreeValue) × IsSource bytes tree × AreRecursive tree f g)
 
 -- both replies refuse the source text, each by a fault of which that is left open
-pub record TellFaults (bytes : List ℕ) (r s : Reply) : Type 0 where
+pub record TellFaults (t : Task) (bytes : List ℕ) (r s : Reply) : Type 0 where
   pub here : FrontFault
   pub there : FrontFault
   pub left : IsLeftOpen bytes here there
-  pub told_here : r ≡ fault_reply (fault.Front here)
-  pub told_there : s ≡ fault_reply (fault.Front there)
+  pub said_here : List ℕ
+  pub said_there : List ℕ
+  pub of_here : IsSaidOf t bytes (fault.Front here) said_here
+  pub of_there : IsSaidOf t bytes (fault.Front there) said_there
+  pub told_here : r ≡ fault_reply said_here (fault.Front here)
+  pub told_there : s ≡ fault_reply said_there (fault.Front there)
 
 -- ---- the log of a run
 
 -- the same job with the log of a run in place of the run
 abbrev pub replaying : Task → Task
-replaying t = record { doing = Replay; form = t.form; arguments = t.arguments }
+replaying t = record { doing = Replay; file = t.file; form = t.form; arguments = t.arguments }
 
 abbrev pub charting : Task → Task
-charting t = record { doing = Chart; form = t.form; arguments = t.arguments }
+charting t = record { doing = Chart; file = t.file; form = t.form; arguments = t.arguments }
 
 -- the job is done, and this is printed
 abbrev pub done_with : List ℕ → Reply

@@ -3,7 +3,7 @@
 ghost use Rattle.std.specs.Prelude.{◌≡◌, ◌≢◌, ℕ, ℤ, List, false, IfOk, IfErr, IfSome, OnOk};
 ghost use Rattle.xk_types.specs.Acceptance.{IsAccepted};
 ghost use Rattle.xk_types.specs.World.{AreArguments};
-ghost use Rattle.xk_serve.specs.Answer.{Chart, Check, ComesTo, Compile, IsLogText, IsNotRun, IsRefusal, Replay, Run, Succeeds, reads_log, task_of, way_given};
+ghost use Rattle.xk_serve.specs.Answer.{Chart, Check, ComesTo, Compile, Explain, IsLogText, IsNotRun, IsRefusal, Replay, Run, Succeeds, reads_log, task_of, way_given};
 ghost use Rattle.xk_cli.specs.CommandLine.{By, In};
 ghost use Rattle.xk_cli.specs.Status.{status_program};
 ghost use Rattle.xk_serve.specs.Lines.{status_of};
@@ -50,6 +50,7 @@ pub(crate) fn answer<R: Threads + Wait + Sync, L: Source>(
     match job.command {
         Command::Compile => compiled(alloc, &module),
         Command::Check => checked(alloc, module),
+        Command::Explain => checked(alloc, module),
         Command::Run { drive, log } => {
             run_driven(rt, alloc, drive, log.is_some(), module, arguments)
         }
@@ -71,6 +72,8 @@ fn compiled(alloc: Global, m: &Module) -> Result<Done, Fault>
 fn checked(alloc: Global, m: Module) -> Result<Done, Fault>
     ensures done { IfOk result
         (λ d. (args : List ℤ) (logged : List ℕ) → ComesTo Check m args logged d) }
+    ensures explained { IfOk result
+        (λ d. (args : List ℤ) (logged : List ℕ) → ComesTo Explain m args logged d) }
     ensures fault { IfErr result (IsRefusal m) }
 {
     let verified = accepted(alloc, m)?;

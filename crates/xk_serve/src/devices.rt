@@ -8,10 +8,11 @@ ghost use Rattle.xk_cli.specs.Status.{status_device, status_done, status_memory,
 ghost use Rattle.xk_serve.specs.Answer.{Succeeds, reads_log, task_of};
 ghost use Rattle.xk_serve.specs.Bytes.{FailsRead, IsReadToLimit, kept};
 ghost use Rattle.xk_serve.specs.Lines.{device_line, done_ending, done_log, memory_line, status_of};
-ghost use Rattle.xk_serve.specs.Devices.{Answered, ErrBegins, IfKnown, IsBegun, IsWritten, OutBegins, Reports, StandsAgainst, Tells, TellsWords};
+ghost use Rattle.xk_serve.specs.Devices.{AgainstLog, Answered, ErrBegins, Explained, IfKnown, IsBegun, IsQuiet, IsWritten, OutBegins, Reports, StandsAgainst, Tells, TellsWords, read_of};
 
 use crate::bounded_read::read_front;
 use crate::commands::answer;
+use crate::explanation::{Refused, refused, unsaid};
 use crate::fault::{DEVICE_LINE, EXCLUDED_LINE, Fault, MEMORY_LINE};
 use crate::job_result::Done;
 use crate::program_loader::{LONGEST_MODULE, LONGEST_SOURCE};
@@ -83,40 +84,68 @@ pub fn serve<R: Threads + Wait + Sync, P: Source, L: Source, O: Sink, E: Sink, K
 {
     match outcome(rt, alloc, job, program, log_in) {
         Ok((done, ending)) => print(alloc, &done, ending.as_str(), out, err, log_out),
-        Err(fault) => report(alloc, &fault, err),
+        Err(refused) => refuse(alloc, &refused, out, err),
     }
 }
 
-/// What the job comes to, and what is printed behind the numbers or the text that it has: no more memory is wanted to print it.
+/// What the job comes to, and what is printed behind the numbers or the text that it has: no more memory is wanted to print it. Else what
+/// stands against it, with what is said of that.
 fn outcome<R: Threads + Wait + Sync, P: Source, L: Source>(
     rt: &R,
     alloc: Global,
     job: &Job<'_>,
     program: &mut P,
     log_in: &mut L,
-) -> Result<(Done, String), Fault>
+) -> Result<(Done, String), Refused>
     ensures done { IfOk result (λ r.
         IfKnown (task_of job.now) (P.remaining program.old) (L.remaining log_in.old)
         (λ bytes logged. Succeeds (task_of job.now) bytes logged r.0)) }
     ensures ending { IfOk result (λ r. string_bytes r.1 ≡ done_ending r.0) }
     ensures no_fault { OnOk result ((P.fault_count program.new ≡ P.fault_count program.old)
         × (L.fault_count log_in.new ≡ L.fault_count log_in.old)) }
-    ensures fault { IfErr result (λ f.
+    ensures fault { IfErr result (λ r.
         StandsAgainst (task_of job.now) (P.remaining program.old) (L.remaining log_in.old)
         (record {
           program_old = P.fault_count program.old;
           program_new = P.fault_count program.new;
           log_old = L.fault_count log_in.old;
           log_new = L.fault_count log_in.new;
-        }) f) }
+        }) r.fault r.said.items) }
+    ensures quiet { IfErr result (λ r. IsQuiet r.fault r.said.items) }
     ensures unread { reads_log (task_of job.now).doing ≡ false → log_in.new ≡ log_in.old }
     ensures refused { IfErr result
-        (λ f. status_of f ≡ status_program → log_in.new ≡ log_in.old) }
+        (λ r. status_of r.fault ≡ status_program → log_in.new ≡ log_in.old) }
     ensures no_further { IsReadToLimit (task_of job.now).form
         (P.remaining program.old) (P.remaining program.new) }
 {
-    let bytes = read_program(alloc, job.form, program)?;
-    let done = answer(rt, alloc, job, &bytes, log_in)?;
+    match read_program(alloc, job.form, program) {
+        Ok(bytes) => match done_on(rt, alloc, job, &bytes, log_in) {
+            Ok(done) => Ok(done),
+            Err(fault) => Err(refused(alloc, job, &bytes, fault)),
+        },
+        Err(fault) => Err(unsaid(alloc, fault)),
+    }
+}
+
+/// What the job on a file of these bytes comes to, and what is printed behind it.
+fn done_on<R: Threads + Wait + Sync, L: Source>(
+    rt: &R,
+    alloc: Global,
+    job: &Job<'_>,
+    bytes: &[u8],
+    log_in: &mut L,
+) -> Result<(Done, String), Fault>
+    ensures done { IfOk result (λ r. IfSome (read_of (task_of job.now) (L.remaining log_in.old))
+        (λ logged. Succeeds (task_of job.now) bytes.now logged r.0)) }
+    ensures ending { IfOk result (λ r. string_bytes r.1 ≡ done_ending r.0) }
+    ensures no_fault { OnOk result (L.fault_count log_in.new ≡ L.fault_count log_in.old) }
+    ensures fault { IfErr result (λ f. AgainstLog (task_of job.now) bytes.now
+        (L.remaining log_in.old) (L.fault_count log_in.old) (L.fault_count log_in.new) f) }
+    ensures unread { reads_log (task_of job.now).doing ≡ false → log_in.new ≡ log_in.old }
+    ensures refused { IfErr result
+        (λ f. status_of f ≡ status_program → log_in.new ≡ log_in.old) }
+{
+    let done = answer(rt, alloc, job, bytes, log_in)?;
     let ending = done.ending(alloc)?;
     Ok((done, ending))
 }
@@ -203,6 +232,27 @@ fn write_log<K: Sink>(done: &Done, log_out: &mut K) -> Result<(), Device>
         return Ok(());
     };
     write_entries(log, log_out)
+}
+
+/// Writes what is said of a fault to `out`, and then its line to `err`, and gives the status: the fault's, or 4 where memory for the line ran
+/// out, and then nothing was written before, or 5 where a write failed.
+fn refuse<O: Sink, E: Sink>(alloc: Global, refused: &Refused, out: &mut O, err: &mut E) -> u8
+    requires quiet { IsQuiet refused.now.fault refused.now.said.items }
+    ensures { Explained refused.now.said.items refused.now.fault
+        (O.contents out.old) (O.contents out.new) (O.fault_count out.old) (O.fault_count out.new)
+        (E.contents err.old) (E.contents err.new) (E.fault_count err.old) (E.fault_count err.new)
+        result }
+{
+    if refused.said.is_empty() {
+        return report(alloc, &refused.fault, err);
+    }
+    let Ok(line) = refused.fault.line(alloc) else {
+        return tell(MEMORY_LINE, status::MEMORY, err);
+    };
+    match write_all(out, &refused.said) {
+        Ok(()) => tell(line.as_str(), refused.fault.status(), err),
+        Err(_) => tell(DEVICE_LINE, status::DEVICE, err),
+    }
 }
 
 /// Writes the line of a fault, and gives the status: the fault's, or 4 where memory for the line ran out, or 5 where it can't

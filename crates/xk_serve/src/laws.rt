@@ -41,7 +41,7 @@ pub fn one_answer()
     ensures source { (t : Task) (bytes logged : List ℕ) (r s : Reply) → t.form ≡ form.Source
         → Answers t bytes logged r → Answers t bytes logged s
         → r.status ≢ status_memory → s.status ≢ status_memory
-        → IsSameReply t.doing r s ⊎ TellFaults bytes r s }
+        → IsSameReply t.doing r s ⊎ TellFaults t bytes r s }
     ensures done { (what : Doing) (m : ModuleValue) (args : List ℤ) (logged : List ℕ) (d e : Done)
         → IsWithoutWorkers what → ComesTo what m args logged d → ComesTo what m args logged e
         → (done_text d ≡ done_text e) × (done_log d ≡ done_log e) }

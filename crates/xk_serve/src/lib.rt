@@ -4,6 +4,7 @@
 mod bounded_read;
 mod commands;
 mod devices;
+mod explanation;
 mod fault;
 mod job_result;
 pub mod laws;

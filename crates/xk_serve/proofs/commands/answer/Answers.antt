@@ -1,6 +1,6 @@
 use Rattle.std.proofs.Common.{◌∙◌, refl, ap, sym}
 use Rattle.std.proofs.lemmas.Result.{err_from_is_err_and}
-use Rattle.xk_serve.specs.Answer.{Chart, Check, Compile, Replay, Run, doing_of, task_of, way_given}
+use Rattle.xk_serve.specs.Answer.{Chart, Check, Compile, Explain, Replay, Run, doing_of, task_of, way_given}
 use Rattle.xk_serve.proofs.TaskLemmas.{against_any, against_log, against_memory, against_refused, against_run_of, done_of_any, done_of_log, done_of_none}
 use Rattle.xk_serve.proofs.commands.answer.Goals as goal
 
@@ -25,6 +25,14 @@ returns-in-Check-clause-done g c =
 pub returns-in-Check-clause-fault : goal.returns-in-Check-clause-fault
 returns-in-Check-clause-fault g c =
     against_refused (task_of c.args.job.now) c.args.bytes.now (g.L.Source.remaining c.args.log_in.now) _ _ Check c.checked.result (ap doing_of c.in-Check.is) tt c.in_ok-module.ensures.module c.checked.ensures.fault
+
+pub returns-in-Explain-clause-done : goal.returns-in-Explain-clause-done
+returns-in-Explain-clause-done g c =
+    done_of_none (task_of c.args.job.now) c.args.bytes.now (g.L.Source.remaining c.args.log_in.now) _ Explain c.checked-2.result (ap doing_of c.in-Explain.is) c.in_ok-module.ensures.module c.checked-2.ensures.explained
+
+pub returns-in-Explain-clause-fault : goal.returns-in-Explain-clause-fault
+returns-in-Explain-clause-fault g c =
+    against_refused (task_of c.args.job.now) c.args.bytes.now (g.L.Source.remaining c.args.log_in.now) _ _ Explain c.checked-2.result (ap doing_of c.in-Explain.is) tt c.in_ok-module.ensures.module c.checked-2.ensures.fault
 
 pub returns-in-Run-clause-done : goal.returns-in-Run-clause-done
 returns-in-Run-clause-done g c =

@@ -1,0 +1,7 @@
+use Rattle.xk_explain.proofs.ExcerptLemmas.{excerpt_added}
+use Rattle.xk_explain.proofs.fronts.push_excerpt.Goals as goal
+
+pub returns : goal.returns
+returns c =
+    excerpt_added _ _ _ _ _ _ _ _ _ c.in_ok-push.ensures.items c.in_ok-extend_from_slice.ensures.items c.deref.ensures.value c.in_ok-excerpt.ensures
+    c.requires.same c.marked_at-marked.ensures

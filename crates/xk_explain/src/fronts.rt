@@ -1,0 +1,183 @@
+//! What is said of bytes that give no program.
+
+ghost use Rattle.std.specs.Prelude.{◌≡◌, ◌++◌, ◌≤◌, drop, length, IfOk, OnOk, string_bytes};
+ghost use Rattle.std.specs.List.{prefix_len};
+ghost use Rattle.xk_explain.specs.Explanations.{excerpt_lines, front_explanation, front_title, has_place, head_at, is_word_byte, marked_from, module_explanation, placed_explanation, shown_at, unplaced_explanation};
+
+use crate::lines::{push_head, push_repair, push_text};
+use crate::messages::{front_message, front_repair, module_message, module_repair};
+use std::alloc::{AllocError, Global};
+use xk_module::ModuleFault;
+use xk_positions::{LineStarts, Position};
+use xk_tree::{FrontFault, FrontRule};
+
+/// All that is said of a fault of the source text in FILE: `FILE:3:5: F2 Syntax: ..`, the line there with carets, and the usual repair. A fault
+/// that is said to lie behind the text's end is shown at that; a text that is too long, and a `main` that isn't there, have no place. Err where
+/// memory was refused.
+pub fn explain_front(
+    alloc: Global,
+    file: &str,
+    text: &[u8],
+    fault: FrontFault,
+) -> Result<Vec<u8>, AllocError>
+    ensures { IfOk result (λ v. v.items ≡ front_explanation file.now text.now fault) }
+{
+    if has_place(fault.rule) {
+        return explain_placed(alloc, file, text, fault);
+    }
+    explain_unplaced(alloc, file, fault.rule)
+}
+
+/// The same of a fault that has a place in the text.
+fn explain_placed(
+    alloc: Global,
+    file: &str,
+    text: &[u8],
+    fault: FrontFault,
+) -> Result<Vec<u8>, AllocError>
+    ensures { IfOk result (λ v. v.items ≡ placed_explanation file.now text.now fault) }
+{
+    let lines = LineStarts::new(alloc, text)?;
+    let at = shown_at(text, fault);
+    let title = front_title(alloc, fault.rule)?;
+    let mut out = Vec::new(alloc);
+    push_head_at(
+        alloc,
+        &mut out,
+        file,
+        lines.position(at),
+        title.as_str(),
+        front_message(fault.rule),
+    )?;
+    push_excerpt(alloc, &mut out, &lines, text, at)?;
+    push_repair(alloc, &mut out, front_repair(fault.rule))?;
+    Ok(out)
+}
+
+/// The same of a fault that has none.
+fn explain_unplaced(alloc: Global, file: &str, rule: FrontRule) -> Result<Vec<u8>, AllocError>
+    ensures { IfOk result (λ v. v.items ≡ unplaced_explanation file.now rule) }
+{
+    let title = front_title(alloc, rule)?;
+    let mut out = Vec::new(alloc);
+    push_head(alloc, &mut out, file, title.as_str(), front_message(rule))?;
+    push_repair(alloc, &mut out, front_repair(rule))?;
+    Ok(out)
+}
+
+/// All that is said of the bytes in FILE that are no module, by this title, as `M1 NotJson`. Err where memory was refused.
+pub fn explain_module(
+    alloc: Global,
+    file: &str,
+    title: &str,
+    fault: ModuleFault,
+) -> Result<Vec<u8>, AllocError>
+    ensures { IfOk result (λ v. v.items ≡ module_explanation file.now title.now fault) }
+{
+    let mut out = Vec::new(alloc);
+    push_head(alloc, &mut out, file, title, module_message(fault))?;
+    push_repair(alloc, &mut out, module_repair(fault))?;
+    Ok(out)
+}
+
+/// A rule with its number: `F2 Syntax`.
+fn front_title(alloc: Global, rule: FrontRule) -> Result<String, AllocError>
+    ensures { IfOk result (λ text. string_bytes text ≡ front_title rule) }
+{
+    let number = rule.number();
+    let name = rule.name();
+    format!(in alloc; "F{number} {name}")
+}
+
+/// Whether faults of this rule have a place in the text.
+fn has_place(rule: FrontRule) -> bool
+    ensures { result ≡ has_place rule }
+{
+    match rule {
+        FrontRule::TooLong | FrontRule::NoMain => false,
+        FrontRule::Token
+        | FrontRule::Syntax
+        | FrontRule::TooDeep
+        | FrontRule::UnknownName
+        | FrontRule::DuplicateName
+        | FrontRule::WrongKind
+        | FrontRule::NotCaptured
+        | FrontRule::Recursive
+        | FrontRule::Arity
+        | FrontRule::SameClockTwice
+        | FrontRule::Literal
+        | FrontRule::Table
+        | FrontRule::NoHiddenClock => true,
+    }
+}
+
+/// Where a fault is shown.
+fn shown_at(text: &[u8], fault: FrontFault) -> usize
+    ensures at { result ≡ shown_at text.now fault }
+    ensures within { result ≤ length text.now }
+{
+    fault.at.min(text.len())
+}
+
+/// Adds the first line of what has a place in the text: `FILE:3:5: F2 Syntax: ..`.
+#[tactic(auto, unfolding(crate::specs::Explanations::head_at))]
+fn push_head_at(
+    alloc: Global,
+    out: &mut Vec<u8>,
+    file: &str,
+    position: Position,
+    title: &str,
+    message: &str,
+) -> Result<(), AllocError>
+    ensures { OnOk result
+        (out.new.items ≡ out.old.items ++ head_at file.now position title.now message.now) }
+{
+    let line = position.line;
+    let column = position.column;
+    push_text(
+        out,
+        format!(in alloc; "{file}:{line}:{column}: {title}: {message}\n")?.as_str(),
+    )
+}
+
+/// A byte of names and numbers.
+fn is_word_byte(b: u8) -> bool
+    ensures { result ≡ is_word_byte b }
+{
+    b.is_ascii_alphanumeric() || b == b'_'
+}
+
+/// How many bytes of names and numbers stand at the front of a text.
+fn word_len(text: &[u8]) -> usize
+    ensures { result ≡ prefix_len is_word_byte text.now }
+{
+    text.iter().take_while(|&&b| is_word_byte(b)).count()
+}
+
+/// How many signs are marked from an offset on: the name or number there, and one where there is none.
+fn marked_at(text: &[u8], at: usize) -> usize
+    requires { at ≤ length text.now }
+    ensures { result ≡ marked_from (drop at text.now) }
+{
+    word_len(&text[at..]).max(1)
+}
+
+/// Adds the line of an offset with carets.
+#[tactic(auto, unfolding(crate::specs::Explanations::excerpt_lines))]
+fn push_excerpt(
+    alloc: Global,
+    out: &mut Vec<u8>,
+    lines: &LineStarts<'_>,
+    text: &[u8],
+    at: usize,
+) -> Result<(), AllocError>
+    requires same { lines.now ≡ text.now }
+    requires within { at ≤ length text.now }
+    ensures { OnOk result (out.new.items ≡ out.old.items ++ excerpt_lines text.now at) }
+{
+    let marked = marked_at(text, at);
+    let excerpt = lines.excerpt(alloc, at, marked)?;
+    out.extend_from_slice(&excerpt)?;
+    out.push(b'\n')?;
+    Ok(())
+}

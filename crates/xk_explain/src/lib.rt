@@ -1,0 +1,10 @@
+//! What `explain` says of what stands against a program: where it is, the line with carets, what is wrong, and how it is usually repaired.
+#![tactic(auto)]
+
+mod fronts;
+mod lines;
+mod messages;
+mod refusals;
+
+pub use fronts::{explain_front, explain_module};
+pub use refusals::explain_refusal;

@@ -1,0 +1,120 @@
+"""A second telling of what `explain` says on standard output, in Python, from docs/EXPLAIN.md: its rules in words, and its tables.
+
+    python3 tests/reference/telling_explain.py [--module] FILE
+"""
+
+from __future__ import annotations
+
+import pathlib
+import re
+import sys
+import unicodedata
+from functools import cache
+
+PAGE = pathlib.Path(__file__).resolve().parents[2] / "docs/EXPLAIN.md"
+ROW = re.compile(r"\| (?P<rule>[FMV]\d+) \w+ \| (?P<wrong>.*) \| (?P<repair>.*) \|")
+KIND = re.compile(r"\| (?P<kind>unset|number|live|resumed|out) \| (?P<holds>.*) \|")
+FRONT = re.compile(r"(?P<title>(?P<rule>F\d+) \w+) at (?P<at>\d+)")
+TEXT = re.compile(r"(?P<title>(?P<rule>M\d+) \w+)")
+PLACE = re.compile(r"(?P<title>(?P<rule>V\d+) \w+) (?P<place>unit \d+ at \d+)(?: slot (?P<slot>\d+) (?P<kind>\w+) walk (?P<walk>.*))?")
+BOUND = re.compile(r"(?P<title>(?P<rule>V\d+) \w+) over (?P<limit>\d+)")
+# So many signs are shown on either side of a place, at most.
+WINDOW = 80
+WORD = re.compile(rb"[0-9A-Za-z_]*")
+WITHOUT_PLACE = ("F4", "F9")
+
+
+@cache
+def tables() -> tuple[dict[str, tuple[str, str]], dict[str, str]]:
+    """What is wrong, and the usual repair, by rule; and what a slot holds, by kind."""
+    page = PAGE.read_text().splitlines()
+    rules = {found["rule"]: (found["wrong"], found["repair"]) for line in page if (found := ROW.fullmatch(line))}
+    return rules, {found["kind"]: found["holds"] for line in page if (found := KIND.fullmatch(line))}
+
+
+def signs(line: bytes) -> list[bytes]:
+    """The characters of a line, and single bytes that belong to none, or to a control sign."""
+    found = []
+    while line:
+        length = next((n for n in (1, 2, 3, 4) if is_character(line[:n])), 1)
+        found.append(line[:length])
+        line = line[length:]
+    return found
+
+
+def is_character(piece: bytes) -> bool:
+    try:
+        text = piece.decode()
+    except UnicodeDecodeError:
+        return False
+    return len(text) == 1 and not "\x80" <= text < "\xa0"
+
+
+def shown(sign: bytes) -> str:
+    if len(sign) > 1:
+        return sign.decode()
+    if sign == b"\t":
+        return " "
+    return sign.decode() if b" " <= sign <= b"~" else f"\\x{sign[0]:02x}"
+
+
+def columns(text: str | bytes) -> int:
+    """Bytes but those that go on a character of UTF-8."""
+    return sum(not 0x80 <= byte <= 0xBF for byte in (text if isinstance(text, bytes) else text.encode()))
+
+
+def position(text: bytes, at: int) -> tuple[int, int]:
+    start = text.rfind(b"\n", 0, at) + 1
+    return text.count(b"\n", 0, at) + 1, columns(text[start:at]) + 1
+
+
+def excerpt(text: bytes, at: int, marked: int) -> str:
+    start = text.rfind(b"\n", 0, at) + 1
+    end = text.find(b"\n", start)
+    line = text[start : end if end >= 0 else len(text)]
+    if end >= 0:
+        line = line.removesuffix(b"\r")
+    before, behind = signs(line[: at - start]), signs(line[at - start :])
+    left = (".." if len(before) > WINDOW else "") + "".join(map(shown, before[-WINDOW:]))
+    right = "".join(map(shown, behind[:WINDOW])) + (".." if len(behind) > WINDOW else "")
+    carets = max(1, columns("".join(map(shown, behind[: min(marked, WINDOW)]))))
+    number = str(position(text, at)[0])
+    margin = " " * (len(number) + 2)
+    return f"{margin}|\n {number} | {left}{right}\n{margin}| {' ' * columns(left)}{'^' * carets}\n"
+
+
+def repair(rule: str) -> str:
+    return f"   = usual repair: {tables()[0][rule][1]}\n"
+
+
+def front(file: str, text: bytes, found: re.Match[str]) -> str:
+    rule, wrong = found["rule"], tables()[0][found["rule"]][0]
+    if rule in WITHOUT_PLACE:
+        return f"{file}: {found['title']}: {wrong}\n{repair(rule)}"
+    at = min(int(found["at"]), len(text))
+    word = WORD.match(text, at)
+    line, column = position(text, at)
+    marked = max(1, len(word[0]) if word else 0)
+    return f"{file}:{line}:{column}: {found['title']}: {wrong}\n{excerpt(text, at, marked)}{repair(rule)}"
+
+
+def walk(slot: str, kinds: list[str], places: list[str]) -> str:
+    lines = [f"     at {place}  {kind}: {tables()[1][kind]}\n" for place, kind in zip(places, kinds, strict=True)]
+    return f"   = a way to it, and what slot {slot} holds before each instruction:\n{''.join(lines)}   = ways go round loops and into both branches, whatever the numbers are\n"
+
+
+def explained(file: str, text: bytes, line: str, kinds: list[str]) -> str:
+    """What is said where standard error gets this line; the kinds are those of the walk."""
+    said = line.removeprefix("x10clock: ").removesuffix("\n")
+    if found := FRONT.fullmatch(said):
+        return front(file, text, found)
+    if found := PLACE.fullmatch(said):
+        rule = found["rule"]
+        head = f"{file}: {found['title']}, {found['place']}: {tables()[0][rule][0]}\n"
+        return head + (walk(found["slot"], kinds, found["walk"].split()) if found["walk"] else "") + repair(rule)
+    if found := BOUND.fullmatch(said):
+        rule = found["rule"]
+        return f"{file}: {found['title']}: {tables()[0][rule][0]}\n   = at most {found['limit']} are allowed\n{repair(rule)}"
+    if found := TEXT.fullmatch(said):
+        return f"{file}: {found['title']}: {tables()[0][found['rule']][0]}\n{repair(found['rule'])}"
+    return ""
