@@ -598,6 +598,8 @@ class KindRefusal:
     slot: int
     kind: Kind
     walk: tuple[int, ...]
+    # What the slot holds before each stop of the walk.
+    kinds: tuple[Kind, ...]
 
     def line(self, walk: Iterable[int] | None = None) -> str:
         """The refusal as the program prints it, with another walk where one is given."""
@@ -727,14 +729,14 @@ class SlotWalks:
     def refused(self) -> list[Point]:
         return [point for point in self.found_from if self.refusal(*point)]
 
-    def walk_to(self, point: Point) -> tuple[int, ...]:
-        """The places of the first walk to a point that a search in breadth finds."""
-        places: list[int] = []
+    def walk_to(self, point: Point) -> tuple[Point, ...]:
+        """The first walk to a point that a search in breadth finds."""
+        points: list[Point] = []
         before: Point | None = point
         while before is not None:
-            places.append(before[0])
+            points.append(before)
             before = self.found_from[before]
-        return tuple(reversed(places))
+        return tuple(reversed(points))
 
     def is_walk(self, places: list[int], last: Point) -> bool:
         """Whether a walk over these places ends at this point."""
@@ -766,7 +768,8 @@ class Kinds:
                 place, slot, kind = min(refused)
                 walks = slots[slot]
                 rule = walks.refusal(place, kind)
-                return KindRefusal(rule, number, place, slot, kind, walks.walk_to((place, kind)))
+                places, kinds = zip(*walks.walk_to((place, kind)))
+                return KindRefusal(rule, number, place, slot, kind, places, kinds)
         return None
 
 
@@ -1418,10 +1421,10 @@ class Schedules:
 
 
 def refusal(command: str, judged: Accepted | Refused, arguments: Arguments) -> str | None:
-    """The line on a program that is refused: all but `check` also look at how many numbers are given."""
+    """The line on a program that is refused: all but `check` and `explain` also look at how many numbers are given."""
     if isinstance(judged, Refused):
         return judged.line
-    return None if command == "check" else misgiven(judged.module, arguments)
+    return None if command in ("check", "explain") else misgiven(judged.module, arguments)
 
 
 def answer_walk(schedules: Schedules) -> None:

@@ -15,6 +15,7 @@ from dataclasses import dataclass, field
 from typing import BinaryIO
 
 import telling
+import telling_explain
 import telling_log
 import telling_source
 from telling import Accepted, Arguments, Order, Refused
@@ -69,6 +70,7 @@ OPTIONS = {"order": Option("--order <ORDER>"), "workers": Option("--workers <N>"
 # For each command its options, those that take no value, and its places.
 COMMANDS: dict[str, tuple[set[str], set[str], list[str]]] = {
     "check": (set(), {"module"}, ["FILE"]),
+    "explain": (set(), {"module"}, ["FILE"]),
     "compile": (set(), set(), ["FILE"]),
     "run": (set(OPTIONS), {"module"}, ["FILE"]),
     "replay": ({"arg"}, {"module"}, ["FILE", "LOG"]),
@@ -313,6 +315,12 @@ def compiled(data: bytes) -> Told:
         return Told(1, "", f"x10clock: {fault}")
 
 
+def explained(job: Job, data: bytes, judged: Refused) -> str:
+    """What is said of a program that is refused."""
+    kinds = [kind.name.lower() for kind in judged.by_kind.kinds] if judged.by_kind else []
+    return telling_explain.explained(job.values["FILE"], data, judged.line, kinds)
+
+
 def ran(job: Job, judged: Accepted, log: BinaryIO | None) -> Told:
     """What a run prints; by workers as by one of them, and such a run's log isn't told."""
     order, given = Order(job.values.get("order", "first")), tuple(job.numbers)
@@ -336,8 +344,8 @@ def answered(job: Job, data: bytes, log_in: BinaryIO | None, log_out: BinaryIO |
     judged = judge(job, data)
     line = telling.refusal(job.command, judged, tuple(job.numbers))
     if line:
-        return Told(1, "", f"x10clock: {line}")
-    if job.command == "check":
+        return Told(1, explained(job, data, judged) if job.command == "explain" else "", f"x10clock: {line}")
+    if job.command in ("check", "explain"):
         return Told(0, judged.bounds.line() + "\n")
     if job.command == "run":
         return ran(job, judged, log_out)

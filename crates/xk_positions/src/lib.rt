@@ -7,4 +7,4 @@ mod lines;
 mod signs;
 
 pub use lines::{LineStarts, Position};
-pub use signs::shown;
+pub use signs::{shown, shown_front};

@@ -2,7 +2,7 @@
 
 ghost use Rattle.std.specs.Prelude.{◌≡◌, ◌+◌, ◌≤◌, IfOk, length, take, count_by};
 ghost use Rattle.xk_positions.specs.Excerpts.{excerpt};
-ghost use Rattle.xk_positions.specs.Lines.{columns, ends_line, first_line, is_line_feed, line_start, line_starts, position_of};
+ghost use Rattle.xk_positions.specs.Lines.{columns, ends_line, first_line, is_line_feed, line_at, line_start, line_starts, position_of};
 
 use crate::excerpts::framed;
 use std::alloc::{AllocError, Global};
@@ -132,6 +132,14 @@ impl<'t> LineStarts<'t> {
             line: line.number,
             column: columns(&self.text[line.start..offset]) + 1,
         }
+    }
+
+    /// The line of an offset, without its end.
+    pub fn text_at(&self, offset: usize) -> &'t [u8]
+        requires { offset ≤ length self.now }
+        ensures { result.now ≡ line_at self.now offset }
+    {
+        first_line(&self.text[self.line(offset).start..])
     }
 
     /// The excerpt of the line of an offset, three lines: `   |`, ` 8 | ` and the line, `   | ` and carets.

@@ -147,6 +147,15 @@ pub(crate) fn push_signs(shown: &mut Vec<u8>, text: &[u8], count: usize) -> Resu
     Ok(())
 }
 
+/// The first signs of a text of one line as they are shown, so many at most. Err where memory was refused.
+pub fn shown_front(alloc: Global, text: &[u8], count: usize) -> Result<Vec<u8>, AllocError>
+    ensures { IfOk result (λ v. v.items ≡ shown_signs (take count (signs text.now))) }
+{
+    let mut shown = Vec::new(alloc);
+    push_signs(&mut shown, text, count)?;
+    Ok(shown)
+}
+
 /// A text of one line as it is shown. A tab is a blank; control signs, and bytes that aren't UTF-8, are told by their numbers, as `\x1b`.
 /// Err where memory was refused.
 pub fn shown(alloc: Global, text: &[u8]) -> Result<Vec<u8>, AllocError>

@@ -1,0 +1,113 @@
+-- What `explain` says of a source text that the verifier refuses: in the text's own lines and names. This project's own.
+use Rattle.std.specs.Prelude.{ℕ, nat_eq, nat_le, Bool, false, not, ◌||◌, ◌&&◌, List, [], ◌∷◌, ◌++◌, length, take, drop, min, Option, Some, None, slice_get, unwrap_or, codes, decimal, if◌then◌else◌}
+use Rattle.std.specs.List.{list_any, prefix_len}
+use Rattle.std.specs.Option.{option_map_or}
+use Rattle.xk_types.specs.declared.rules.Rule.{Rule}
+use Rattle.xk_types.specs.declared.rules.Kind.{Kind}
+use Rattle.xk_types.specs.declared.rules.Visit.{Visit}
+use Rattle.xk_shape.specs.declared.fault.ShapeFault.{ShapeFault}
+use Rattle.xk_typestate.specs.declared.fault.KindFault.{KindFault}
+use Rattle.xk_bounds.specs.declared.refusal.Refusal.{Refusal}
+use Rattle.xk_bounds.specs.declared.refusal.Refusal.TheVariants as refusal
+use Rattle.xk_positions.specs.declared.lines.Position.{Position}
+use Rattle.xk_positions.specs.Lines.{line_at, position_of}
+use Rattle.xk_positions.specs.Signs.{signs, shown_signs}
+use Rattle.xk_origins.specs.UnitOrigins.{Head, UnitOrigins}
+use Rattle.xk_explain.specs.Messages.{kind_message, rule_message, rule_repair}
+use Rattle.xk_explain.specs.Explanations.{bound_explanation, excerpt_lines, head_at, kind_explanation, repair_line, rule_title, shape_explanation, ways_line}
+
+-- ---- places and names
+
+-- the offset that an instruction of a unit comes from, no further than where the text ends
+abbrev pub origin_at : List ℕ → UnitOrigins → ℕ → ℕ
+origin_at text u at = min (unwrap_or (slice_get u.offsets at) 0) (length text)
+
+-- `3:5`
+abbrev pub place_title : Position → List ℕ
+place_title p = decimal p.line ++ (codes ":" ++ decimal p.column)
+
+-- `in main`, `in f`, ``in the `async` at 3:5``
+unfoldable pub unit_title : List ℕ → Head → List ℕ
+unit_title text h =
+    option_map_or (λ name. codes "in " ++ name) h.name (codes "in the `async` at " ++ place_title (position_of text (min h.at (length text))))
+
+-- a name of the text, and none of those that no text has, which are of blanks
+abbrev pub is_name : List ℕ → Bool
+is_name name = list_any (λ b. not (nat_eq b 32)) name
+
+-- a slot by its name, in quotes, or by its number where the text has no name for it
+unfoldable pub slot_title : List (List ℕ) → ℕ → List ℕ
+slot_title names slot =
+    let name = unwrap_or (slice_get names slot) [] in
+    if is_name name then codes "`" ++ (name ++ codes "`") else codes "slot " ++ decimal slot
+
+-- a rule, and the unit in which it is broken: `V11 Use, in main`
+abbrev pub title_in : List ℕ → Rule → Head → List ℕ
+title_in text r h = rule_title r ++ (codes ", " ++ unit_title text h)
+
+-- ---- walks
+
+abbrev pub is_blank : ℕ → Bool
+is_blank b = nat_eq b 32 || nat_eq b 9
+
+-- the line of an offset as it is shown, without the blanks that it begins with, and no more than 60 signs of it
+unfoldable pub line_text : List ℕ → ℕ → List ℕ
+line_text text at = let line = line_at text at in shown_signs (take 60 (signs (drop (prefix_len is_blank line) line)))
+
+-- what is said of one stop: `     8:9  a clock, dropped: c.drop();`
+unfoldable pub stop_line : List ℕ → ℕ → Kind → List ℕ
+stop_line text at k =
+    codes "     " ++ (place_title (position_of text at) ++ (codes "  " ++ (kind_message k ++ (codes ": " ++ (line_text text at ++ codes "\n")))))
+
+-- of one behind which a loop begins again: `     9:5  a clock, dropped, and then the next turn`
+unfoldable pub turn_line : List ℕ → ℕ → Kind → List ℕ
+turn_line text at k = codes "     " ++ (place_title (position_of text at) ++ (codes "  " ++ (kind_message k ++ codes ", and then the next turn\n")))
+
+-- a walk goes back from a stop to the one behind it: that is the next turn of a loop
+abbrev pub goes_back : Visit → List Visit → Bool
+goes_back v [] = false
+goes_back v (w ∷ vs) = nat_le w.at v.at
+
+-- a stop at the statement that was told last isn't told again
+abbrev pub is_told : Option ℕ → ℕ → Bool
+is_told None at = false
+is_told (Some told) at = nat_eq told at
+
+abbrev pub one_stop : List ℕ → Option ℕ → ℕ → Visit → List Visit → List ℕ
+one_stop text told at v vs = if goes_back v vs then turn_line text at v.kind else (if is_told told at then [] else stop_line text at v.kind)
+
+-- the stops of a walk, statement by statement, where this was told last
+abbrev pub stops : List ℕ → UnitOrigins → Option ℕ → List Visit → List ℕ
+stops text u told [] = []
+stops text u told (v ∷ vs) = one_stop text told (origin_at text u v.at) v vs ++ stops text u (Some (origin_at text u v.at)) vs
+
+-- the line before them
+unfoldable pub stops_head : List (List ℕ) → ℕ → List ℕ
+stops_head names slot = codes "   = a way to it, and what " ++ (slot_title names slot ++ codes " holds before each statement:\n")
+
+-- what the slot may hold at the place refused
+unfoldable pub holds_line : List (List ℕ) → ℕ → Kind → List ℕ
+holds_line names slot k = codes "   = " ++ (slot_title names slot ++ (codes " may hold here: " ++ (kind_message k ++ codes "\n")))
+
+-- ---- refusals
+
+-- a place of a unit that breaks a rule, up to the line with carets
+abbrev pub place_lines : List ℕ → List ℕ → UnitOrigins → Rule → ℕ → List ℕ
+place_lines file text u r at =
+    head_at file (position_of text (origin_at text u at)) (title_in text r u.head) (rule_message r) ++ excerpt_lines text (origin_at text u at)
+
+abbrev pub shape_in_source : List ℕ → List ℕ → ShapeFault → UnitOrigins → List ℕ
+shape_in_source file text f u = place_lines file text u f.rule f.at ++ repair_line (rule_repair f.rule)
+
+abbrev pub kind_in_source : List ℕ → List ℕ → KindFault → UnitOrigins → List ℕ
+kind_in_source file text f u =
+    ((((place_lines file text u f.rule f.at ++ holds_line u.slots f.slot f.kind) ++ stops_head u.slots f.slot) ++ stops text u None f.walk.items)
+    ++ ways_line) ++ repair_line (rule_repair f.rule)
+
+-- All that is said of what the verifier has against the module of a source text, whose units have these origins. (Each unit has some; of one that
+-- hadn't, the refusal would be told by its number.)
+abbrev pub source_explanation : List ℕ → List ℕ → List UnitOrigins → Refusal → List ℕ
+source_explanation file text origins (refusal.Shape f) = option_map_or (shape_in_source file text f) (slice_get origins f.unit) (shape_explanation file f)
+source_explanation file text origins (refusal.Kind f) = option_map_or (kind_in_source file text f) (slice_get origins f.unit) (kind_explanation file f)
+source_explanation file text origins (refusal.Bound f) = bound_explanation file f
+source_explanation file text origins refusal.OutOfMemory = []
