@@ -4,7 +4,7 @@ use Rattle.std.specs.List.{AllByRecursion}
 use Rattle.xk_lexer.specs.declared.token.Sign.TheVariants as sign
 use Rattle.xk_lexer.specs.declared.token.Keyword.TheVariants as keyword
 use Rattle.xk_tree.specs.Tree.{Statements, listed, ParamValue, MethodValue, SharedValue, TreeValue}
-use Rattle.xk_exprs.specs.Marks.{Mark, Open, Symbol, Reserved}
+use Rattle.xk_exprs.specs.Marks.{Mark, Open, CloseAt, Symbol, Reserved}
 use Rattle.xk_exprs.specs.Spelling.{number_marks}
 use Rattle.xk_exprs.proofs.NumberLemmas.{number_found, number_again}
 use Rattle.xk_syntax.specs.Spelling.{word, number, row, commas, stmts, param, method, shared, program, SharedFits, MethodFits, TreeFits}
