@@ -32,13 +32,13 @@ pub record StandsInAll (ss : Statements) (g : Word) : Type 0 where
 mutual
   is_listed : (s : Statement) (w : Way) (g : Word) (p : ℕ) (es : List Expression) → Stands s w (Call g p es) → Has (callees s) g
   is_listed s Here g p es h = subst (λ (t : Statement). Has (callees t) g) (sym h) (inl refl)
-  is_listed (Block ss) (Inside w) g p es h = is_listed_among ss w g p es h
+  is_listed (Block close ss) (Inside w) g p es h = is_listed_among ss w g p es h
   is_listed (If at l c r s) (Inside w) g p es h = is_listed s w g p es h
   is_listed (IfElse at l c r s u) (Inside w) g p es h = has_left (callees s) (callees u) g (is_listed s w g p es h)
   is_listed (IfElse at l c r s u) (Else w) g p es h = has_right (callees s) (callees u) g (is_listed u w g p es h)
   is_listed (For at i lo hi s) (Inside w) g p es h = is_listed s w g p es h
   is_listed (Async at cs s) (Inside w) g p es h = is_listed s w g p es h
-  is_listed (Finish s) (Inside w) g p es h = is_listed s w g p es h
+  is_listed (Finish at s) (Inside w) g p es h = is_listed s w g p es h
   is_listed _ _ g p es h = absurd h
 
   pub is_listed_among : (ss : Statements) (w : Way) (g : Word) (p : ℕ) (es : List Expression) → StandsAmong ss w (Call g p es) → Has (callees_all ss) g
@@ -48,7 +48,7 @@ mutual
 
 mutual
   stands_there : (s : Statement) (g : Word) → Has (callees s) g → StandsIn s g
-  stands_there (Block ss) g h = let r = stands_among ss g h in record { way = Inside r.way; paren = r.paren; arguments = r.arguments; stands = r.stands }
+  stands_there (Block close ss) g h = let r = stands_among ss g h in record { way = Inside r.way; paren = r.paren; arguments = r.arguments; stands = r.stands }
   stands_there (If at l c r s) g h = let q = stands_there s g h in record { way = Inside q.way; paren = q.paren; arguments = q.arguments; stands = q.stands }
   stands_there (IfElse at l c r s u) g h = elim (has_either (callees s) (callees u) g h) [
     | inl x ↦ let q = stands_there s g x in record { way = Inside q.way; paren = q.paren; arguments = q.arguments; stands = q.stands }
@@ -56,7 +56,7 @@ mutual
   ]
   stands_there (For at i lo hi s) g h = let q = stands_there s g h in record { way = Inside q.way; paren = q.paren; arguments = q.arguments; stands = q.stands }
   stands_there (Async at cs s) g h = let q = stands_there s g h in record { way = Inside q.way; paren = q.paren; arguments = q.arguments; stands = q.stands }
-  stands_there (Finish s) g h = let q = stands_there s g h in record { way = Inside q.way; paren = q.paren; arguments = q.arguments; stands = q.stands }
+  stands_there (Finish at s) g h = let q = stands_there s g h in record { way = Inside q.way; paren = q.paren; arguments = q.arguments; stands = q.stands }
   stands_there (Call f at es) g (inl e) = record { way = Here; paren = at; arguments = es; stands = ap (λ (n : Word). Call n at es) (sym e) }
   stands_there (Call f at es) g (inr h) = absurd h
   stands_there _ g h = absurd h

@@ -31,7 +31,7 @@ abbrev call : Word → ℕ → Statement
 call name paren = Call name paren []
 
 abbrev method : Word → Statements → MethodValue
-method name body = record { name = name; paren = name.at + 1; params = []; body = body }
+method name body = record { name = name; paren = name.at + 1; params = []; body = body; close = 0 }
 
 abbrev program : List MethodValue → TreeValue
 program methods = record { shared = []; methods = methods }

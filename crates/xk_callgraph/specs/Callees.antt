@@ -8,12 +8,12 @@ use Rattle.xk_callgraph.specs.Recursion.{number_among}
 -- the names that the calls have
 abbrev mutual
   pub callees : Statement → List Word
-  callees (Block ss) = callees_all ss
+  callees (Block close ss) = callees_all ss
   callees (If at l c r s) = callees s
   callees (IfElse at l c r s u) = callees s ++ callees u
   callees (For at i lo hi s) = callees s
   callees (Async at cs s) = callees s
-  callees (Finish s) = callees s
+  callees (Finish at s) = callees s
   callees (Call g at es) = g ∷ []
   callees _ = []
 

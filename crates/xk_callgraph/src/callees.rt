@@ -18,7 +18,7 @@ fn collect<'t>(names: &mut Vec<Name<'t>>, s: &Stmt<'t>) -> Result<(), AllocError
         ≡ words names.old.items ++ callees (statement s.now)) }
 {
     match s {
-        Stmt::Block(ss) => collect_all(names, ss),
+        Stmt::Block(_, ss) => collect_all(names, ss),
         Stmt::If(_, _, _, _, s) => collect(names, s),
         Stmt::IfElse(_, _, _, _, s, u) => {
             collect(names, s)?;
@@ -26,7 +26,7 @@ fn collect<'t>(names: &mut Vec<Name<'t>>, s: &Stmt<'t>) -> Result<(), AllocError
         }
         Stmt::For(_, _, _, _, s) => collect(names, s),
         Stmt::Async(_, _, s) => collect(names, s),
-        Stmt::Finish(s) => collect(names, s),
+        Stmt::Finish(_, s) => collect(names, s),
         Stmt::Call(name, _, _) => {
             names.push(*name)?;
             Ok(())

@@ -8,7 +8,7 @@ use Rattle.xk_semantics.specs.Parts.{Part, OfMethod, OfBody}
 
 -- the code of a part needs no more names than there are
 abbrev pub IsPartCovered : Setting → Part → Type 0
-IsPartCovered cx (OfMethod m) = IsUnitCovered cx (names_of_params m.params) (Block m.body)
+IsPartCovered cx (OfMethod m) = IsUnitCovered cx (names_of_params m.params) (Block m.close m.body)
 IsPartCovered cx (OfBody at cs s) = IsSome (body_at cx at) × IsUnitCovered cx (body_params cx at cs) s
 
 -- that of each of these parts does

@@ -66,7 +66,7 @@ filled base c1 c2 c3 body at gap filler more place e1 e2 fills =
 
 pub finish_filled : (cx : Setting) (t n at : ℕ) (scope : Scope) (s : Statement) (base c1 c2 c3 : List Instr) (gap : Instr)
     → at ≡ length base → c1 ≡ base ++ gap ∷ [] → c2 ≡ c1 ++ code_of cx t scope n (length c1) s → Fills c2 at (λ p k. instr.Finish (p + 1 + k)) (λ p. instr.EndFinish p ∷ []) c3
-    → c3 ≡ base ++ code_of cx t scope n (length base) (Finish s)
+    → c3 ≡ base ++ code_of cx t scope n (length base) (Finish 0 s)
 finish_filled cx t n at scope s base c1 c2 c3 gap place e1 e2 fills =
     let long : length c1 ≡ length base + 1 = ap length e1 ∙ length-append base (gap ∷ []) in
     filled base c1 c2 c3 (code_of cx t scope n (length base + 1) s) at gap (λ p k. instr.Finish (p + 1 + k)) (λ p. instr.EndFinish p ∷ []) place e1

@@ -186,7 +186,7 @@ code_end err cx t scope n size long s h is = denies err h (λ k. tt) (λ m. let 
 -- ---- finishes
 
 pub finish_inner : (err : CodeError) (cx : Setting) (t : ℕ) (scope : Scope) (n size inner : ℕ) (s : Statement)
-    → DeniesCode err cx t scope n inner s → inner ≡ size + 1 → DeniesCode err cx t scope n size (Finish s)
+    → DeniesCode err cx t scope n inner s → inner ≡ size + 1 → DeniesCode err cx t scope n size (Finish 0 s)
 finish_inner err cx t scope n size inner s h is =
     let body = code_of cx t scope n (size + 1) s in
     denies err h (λ k. k) (λ m. (
@@ -196,7 +196,7 @@ finish_inner err cx t scope n size inner s h is =
     ))
 
 pub finish_end : (err : CodeError) (cx : Setting) (t : ℕ) (scope : Scope) (n size inner long : ℕ) (s : Statement)
-    → Denies err ⊤ (long < 4096) → inner ≡ size + 1 → long ≡ inner + length (code_of cx t scope n inner s) → DeniesCode err cx t scope n size (Finish s)
+    → Denies err ⊤ (long < 4096) → inner ≡ size + 1 → long ≡ inner + length (code_of cx t scope n inner s) → DeniesCode err cx t scope n size (Finish 0 s)
 finish_end err cx t scope n size inner long s h is is_long =
     let body = code_of cx t scope n (size + 1) s in
     let same : length (code_of cx t scope n inner s) ≡ length body = ap (λ k. length (code_of cx t scope n k s)) is in

@@ -150,7 +150,7 @@ params_differ seen (p ∷ ps) apart = (
 -- ---- the law
 
 method_and_bodies : (cx : Setting) (t : TreeValue) (m : MethodValue) → IsScoped t → Has t.methods m → IsSettingFor cx t m
-    → IsUnitCovered cx (names_of_params m.params) (Block m.body) × AreBodiesCovered cx (bodies_in_all m.body)
+    → IsUnitCovered cx (names_of_params m.params) (Block m.close m.body) × AreBodiesCovered cx (bodies_in_all m.body)
 method_and_bodies cx t m scoped there setting =
     let all = all_covered cx (signatures t.methods) (shared_texts t.shared) setting.shared (method_scope t m) (scope_from 0 (names_of_params m.params))
     (names_before t.shared m.params) (length (names_of_params m.params)) m.body (fits_method t m) (scoped.bodies m there) (nothing_taken t m scoped there)
@@ -165,7 +165,7 @@ method_and_bodies cx t m scoped there setting =
 
 -- a method's code needs no more names than there are
 pub method_covered : (cx : Setting) (t : TreeValue) (m : MethodValue) → IsScoped t → Has t.methods m → IsSettingFor cx t m
-    → IsUnitCovered cx (names_of_params m.params) (Block m.body)
+    → IsUnitCovered cx (names_of_params m.params) (Block m.close m.body)
 method_covered cx t m scoped there setting = (method_and_bodies cx t m scoped there setting).0
 
 -- nor does that of a body of `async` which the method leads to

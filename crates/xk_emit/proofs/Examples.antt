@@ -46,7 +46,7 @@ abbrev clocked : List ℕ → Option Clocks
 clocked c = Some (record { written = written.Listed 0 0; names = w c ∷ [] })
 
 abbrev main_unit : Setting → Statements → UnitValue
-main_unit cx ss = unit_of_method cx unit_kind.Main (record { name = w (codes "main"); paren = 0; params = []; body = ss })
+main_unit cx ss = unit_of_method cx unit_kind.Main (record { name = w (codes "main"); paren = 0; params = []; body = ss; close = 0 })
 
 -- ---- an activity that is handed a clock
 
@@ -54,7 +54,7 @@ abbrev with_body : Setting
 with_body = record { shared = []; methods = []; bodies = (7, record { unit = 1; captures = [] }) ∷ [] }
 
 abbrev hands : Statement
-hands = Block (More (AdvanceAll 0 verb) (More (print (lit (pos 2))) Done))
+hands = Block 0 (More (AdvanceAll 0 verb) (More (print (lit (pos 2))) Done))
 
 main_hands : main_unit with_body (More (val_makes (codes "c")) (More (Async 7 (clocked (codes "c")) hands) (More (AdvanceAll 0 verb) (More (print (lit (pos 1))) Done))))
     ≡ record {
@@ -76,7 +76,7 @@ abbrev bare : Setting
 bare = record { shared = []; methods = []; bodies = [] }
 
 main_compares : main_unit bare (More (val_makes (codes "c")) (More (val_is (codes "n") (lit (pos 1)))
-    (More (If 0 (var (codes "n")) comparison.Eq (lit (pos 1)) (Block (More (Drop (w (codes "c")) verb) Done))) (More (Resume (w (codes "c")) verb) Done))))
+    (More (If 0 (var (codes "n")) comparison.Eq (lit (pos 1)) (Block 0 (More (Drop (w (codes "c")) verb) Done))) (More (Resume (w (codes "c")) verb) Done))))
     ≡ record {
       kind = unit_kind.Main;
       params = [];
@@ -88,7 +88,7 @@ main_compares = refl
 
 -- the same with an `else`
 main_chooses : main_unit bare (More (val_is (codes "n") (lit (pos 2)))
-    (More (IfElse 0 (var (codes "n")) comparison.Eq (lit (pos 1)) (Block (More (print (lit (pos 1))) Done)) (Block (More (print (lit (pos 0))) Done))) Done))
+    (More (IfElse 0 (var (codes "n")) comparison.Eq (lit (pos 1)) (Block 0 (More (print (lit (pos 1))) Done)) (Block 0 (More (print (lit (pos 0))) Done))) Done))
     ≡ record {
       kind = unit_kind.Main;
       params = [];
@@ -105,10 +105,10 @@ abbrev adding : Setting
 adding = record { shared = (codes "s", 0) ∷ []; methods = []; bodies = (9, record { unit = 1; captures = codes "i" ∷ [] }) ∷ [] }
 
 abbrev adds : Statement
-adds = Block (More (Atomic (w (codes "s")) (w (codes "s")) 0 (var (codes "i"))) Done)
+adds = Block 0 (More (Atomic (w (codes "s")) (w (codes "s")) 0 (var (codes "i"))) Done)
 
 abbrev adding_main : Statements
-adding_main = More (Finish (Block (More (For 0 (w (codes "i")) (number (pos 1)) (UpTo (number (pos 3))) (Async 9 None adds)) Done)))
+adding_main = More (Finish 0 (Block 0 (More (For 0 (w (codes "i")) (number (pos 1)) (UpTo (number (pos 3))) (Async 9 None adds)) Done)))
     (More (val_is (codes "r") (var (codes "s"))) (More (print (var (codes "r"))) Done))
 
 main_adds : main_unit adding adding_main
@@ -122,7 +122,7 @@ main_adds : main_unit adding adding_main
 main_adds = refl
 
 -- every name that it needs is found, and every name that it declares is new
-main_is_covered : IsUnitCovered adding [] (Block adding_main)
+main_is_covered : IsUnitCovered adding [] (Block 0 adding_main)
 main_is_covered = record {
   params = tt;
   body = ((λ _. (tt, refl, (refl, All-from_recursion (IsFound ((codes "i", 0) ∷ [])) (codes "i" ∷ []) (refl, tt))), tt), ((tt, refl), (refl, tt)));
@@ -174,7 +174,7 @@ least e n = Least hidden verb e (number n)
 abbrev squares_main : Statements
 squares_main = More (Declare binding.Var (w (codes "t")) None (Value (lit (pos 0))))
     (More (For 0 (w (codes "i")) (number (pos 1)) (least (times (var (codes "n")) (var (codes "n"))) (pos 10))
-    (Block (More (Assign (w (codes "t")) (plus (var (codes "t")) (var (codes "i")))) Done)))
+    (Block 0 (More (Assign (w (codes "t")) (plus (var (codes "t")) (var (codes "i")))) Done)))
     (More (print (var (codes "t"))) Done))
 
 -- its limit is brought to the slot behind that of its name, once, before the loop begins
@@ -192,7 +192,7 @@ main_squares : unit_of_method bare unit_kind.Main (record {
 }
 main_squares = refl
 
-squares_is_covered : IsUnitCovered bare (codes "n" ∷ []) (Block squares_main)
+squares_is_covered : IsUnitCovered bare (codes "n" ∷ []) (Block 0 squares_main)
 squares_is_covered = record {
   params = (refl, tt);
   body = ((tt, refl), ((λ _. ((refl, refl), (refl, refl), ((refl, (refl, refl)), tt))), (refl, tt)));
@@ -236,11 +236,11 @@ clocked_on h = Some (record { written = written.Ahead 0; names = h ∷ [] })
 
 -- `clocked finish BODY`
 abbrev clocked_finish : Word → Statement → Statement
-clocked_finish h s = Finish (Block (More (Declare binding.Hidden h None (Make 0 verb)) (More s (More (Drop h verb) Done))))
+clocked_finish h s = Finish 0 (Block 0 (More (Declare binding.Hidden h None (Make 0 verb)) (More s (More (Drop h verb) Done))))
 
 -- `clocked finish { clocked async { Clock.advanceAll(); println(2); } Clock.advanceAll(); println(1); } println(3);`
 abbrev hiding_main : Statements
-hiding_main = More (clocked_finish hidden (Block (More (Async 7 (clocked_on hidden) hands) (More (AdvanceAll 0 verb) (More (print (lit (pos 1))) Done)))))
+hiding_main = More (clocked_finish hidden (Block 0 (More (Async 7 (clocked_on hidden) hands) (More (AdvanceAll 0 verb) (More (print (lit (pos 1))) Done)))))
     (More (print (lit (pos 3))) Done)
 
 -- the clock is made behind the finish's beginning and dropped before its end
@@ -259,7 +259,7 @@ main_hides = refl
 body_hidden : unit_of_body with_body 7 (clocked_on hidden) hands ≡ unit_of_body with_body 7 (clocked (codes "c")) hands
 body_hidden = refl
 
-hiding_is_covered : IsUnitCovered with_body [] (Block hiding_main)
+hiding_is_covered : IsUnitCovered with_body [] (Block 0 hiding_main)
 hiding_is_covered = record {
   params = tt;
   body = (((tt, refl), (((refl, All-from_recursion (IsFound ((hidden.text, 0) ∷ [])) (hidden.text ∷ []) (refl, tt)), (tt, (tt, tt))), (refl, tt))), (tt, tt));
@@ -279,7 +279,7 @@ nesting = record {
 -- `val a = 1; clocked finish { val b = a; clocked finish clocked async { .. } clocked async println(b); } val z = 3;`: hidden clocks have slots
 -- among those of other names, in the order of the text, and each body is given its own
 main_hides_two : main_unit nesting (More (val_is (codes "a") (lit (pos 1)))
-    (More (clocked_finish outer (Block (More (val_is (codes "b") (var (codes "a")))
+    (More (clocked_finish outer (Block 0 (More (val_is (codes "b") (var (codes "a")))
     (More (clocked_finish hidden (Async 7 (clocked_on hidden) hands))
     (More (Async 8 (clocked_on outer) (print (var (codes "b")))) Done)))))
     (More (val_is (codes "z") (lit (pos 3))) Done)))

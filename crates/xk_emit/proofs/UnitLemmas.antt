@@ -33,20 +33,25 @@ unit_made cx kind ks kinds xs s scope n t made e1 e2 e3 e4 e5 =
     ∙ ap (λ k. unit_with kind ks k (made ++ instr.Ret ∷ [])) sum
     ∙ ap (λ (c : List Instr). unit_with kind ks (length xs + count s) (c ++ instr.Ret ∷ [])) code
 
+-- ---- a block, wherever its brace stands
+
+pub covered_block : (cx : Setting) (xs : List (List ℕ)) (close : ℕ) (ss : Statements) → IsUnitCovered cx xs (Block close ss) → IsUnitCovered cx xs (Block 0 ss)
+covered_block cx xs close ss h = record { params = h.params; body = h.body }
+
 -- ---- a statement alone in a block
 
 pub unit_alone : (cx : Setting) (kind : UnitKind) (xs : List (List ℕ)) (kinds : List ParamKind) (ss : Statements) (s : Statement)
-    → ss ≡ More s Done → unit_of cx kind xs kinds (Block ss) ≡ unit_of cx kind xs kinds s
+    → ss ≡ More s Done → unit_of cx kind xs kinds (Block 0 ss) ≡ unit_of cx kind xs kinds s
 unit_alone cx kind xs kinds ss s is =
     let n = length xs in
     let scope = scope_from 0 xs in
     let few : n + (count s + 0) ≡ n + count s = omega arith in
-    ap (λ (b : Statements). unit_of cx kind xs kinds (Block b)) is
+    ap (λ (b : Statements). unit_of cx kind xs kinds (Block 0 b)) is
     ∙ ap (λ t. unit_with kind kinds t ((code_of cx t scope n 0 s ++ []) ++ instr.Ret ∷ [])) few
     ∙ ap (λ (c : List Instr). unit_with kind kinds (n + count s) (c ++ instr.Ret ∷ [])) (append-nil (code_of cx (n + count s) scope n 0 s))
 
-pub covered_alone : (cx : Setting) (xs : List (List ℕ)) (ss : Statements) (s : Statement) → ss ≡ More s Done → IsUnitCovered cx xs s → IsUnitCovered cx xs (Block ss)
-covered_alone cx xs ss s is h = subst (λ (b : Statements). IsUnitCovered cx xs (Block b)) (sym is) (record { params = h.params; body = (h.body, tt) })
+pub covered_alone : (cx : Setting) (xs : List (List ℕ)) (ss : Statements) (s : Statement) → ss ≡ More s Done → IsUnitCovered cx xs s → IsUnitCovered cx xs (Block 0 ss)
+covered_alone cx xs ss s is h = subst (λ (b : Statements). IsUnitCovered cx xs (Block 0 b)) (sym is) (record { params = h.params; body = (h.body, tt) })
 
 -- ---- what is denied of a part, is denied of the unit
 

@@ -167,12 +167,12 @@ head_of n lo (Least x v e hi) q = instr.ForTo n lo (n + 1) hi.value q
 -- how many slots the names of a statement take, those in the bodies of `async` left out
 abbrev mutual
   pub count : Statement → ℕ
-  count (Block ss) = count_all ss
+  count (Block close ss) = count_all ss
   count (Declare b x ty r) = 1
   count (If at l op r s) = count s
   count (IfElse at l op r s u) = count s + count u
   count (For at i lo b s) = count s + loop_slots b
-  count (Finish s) = count s
+  count (Finish at s) = count s
   count _ = 0
 
   pub count_all : Statements → ℕ
@@ -203,7 +203,7 @@ before cx scope t n _ = []
 -- the code of a statement: t is the first temporary, n the next slot, and the first instruction stands at place p
 abbrev mutual
   pub code_of : Setting → ℕ → Scope → ℕ → ℕ → Statement → List Instr
-  code_of cx t scope n p (Block ss) = code_of_all cx t scope n p ss
+  code_of cx t scope n p (Block close ss) = code_of_all cx t scope n p ss
   code_of cx t scope n p Empty = []
   code_of cx t scope n p (Declare b x ty r) = code_of_source cx t scope n r
   code_of cx t scope n p (Assign x e) = before_assigned scope t e (find cx.shared x.text) ++ last_assigned cx scope t x e (find cx.shared x.text) ∷ []
@@ -223,7 +223,7 @@ abbrev mutual
       let body = code_of cx t (within_loop scope n i b) (n + loop_slots b) (q + 1) s in
       if int_le lo.value (top b) then before_bound scope t n b ++ head_of n lo.value b (q + 1 + length body) ∷ (body ++ instr.Next q ∷ []) else []
   code_of cx t scope n p (Async at cs s) = instr.Spawn (body_unit cx at) (slots_of scope (body_params cx at cs)) ∷ []
-  code_of cx t scope n p (Finish s) =
+  code_of cx t scope n p (Finish at s) =
       let body = code_of cx t scope n (p + 1) s in
       instr.Finish (p + 1 + length body) ∷ (body ++ instr.EndFinish p ∷ [])
   code_of cx t scope n p (Call f at es) = eval_all scope t es ++ instr.Call (number_of cx.methods f) (argument_slots scope t es) ∷ []

@@ -17,12 +17,12 @@ pub record AsyncBody : Type 0 where
 -- the bodies of `async` in a statement, in the order of the text, those within bodies behind the ones that hold them
 abbrev mutual
   pub bodies_in : Statement → List AsyncBody
-  bodies_in (Block ss) = bodies_in_all ss
+  bodies_in (Block close ss) = bodies_in_all ss
   bodies_in (If at l op r s) = bodies_in s
   bodies_in (IfElse at l op r s u) = bodies_in s ++ bodies_in u
   bodies_in (For at i lo b s) = if int_le lo.value (top b) then bodies_in s else []
   bodies_in (Async at cs s) = record { at = at; clocks = cs; body = s } ∷ bodies_in s
-  bodies_in (Finish s) = bodies_in s
+  bodies_in (Finish at s) = bodies_in s
   bodies_in _ = []
 
   pub bodies_in_all : Statements → List AsyncBody
@@ -32,12 +32,12 @@ abbrev mutual
 -- the names that its calls have, those in bodies of `async` included
 abbrev mutual
   pub calls_in : Statement → List Word
-  calls_in (Block ss) = calls_in_all ss
+  calls_in (Block close ss) = calls_in_all ss
   calls_in (If at l op r s) = calls_in s
   calls_in (IfElse at l op r s u) = calls_in s ++ calls_in u
   calls_in (For at i lo b s) = if int_le lo.value (top b) then calls_in s else []
   calls_in (Async at cs s) = calls_in s
-  calls_in (Finish s) = calls_in s
+  calls_in (Finish at s) = calls_in s
   calls_in (Call f at es) = f ∷ []
   calls_in _ = []
 

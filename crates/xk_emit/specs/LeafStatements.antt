@@ -3,9 +3,9 @@ use Rattle.std.specs.Prelude.{Bool, true, false}
 use Rattle.xk_tree.specs.Tree.{Statement, Block, If, IfElse, For, Finish}
 
 abbrev pub is_simple : Statement → Bool
-is_simple (Block ss) = false
+is_simple (Block close ss) = false
 is_simple (If at l op r s) = false
 is_simple (IfElse at l op r s u) = false
 is_simple (For at i lo hi s) = false
-is_simple (Finish s) = false
+is_simple (Finish at s) = false
 is_simple _ = true

@@ -51,7 +51,7 @@ IsLoopNew scope n i (Least x v e hi) = IsNew scope i.text × IsNew (scope ++ (i.
 abbrev mutual
   -- a statement's code needs no more names than there are; n is the next slot
   pub IsCovered : Setting → Scope → ℕ → Statement → Type 0
-  IsCovered cx scope n (Block ss) = AreCovered cx scope n ss
+  IsCovered cx scope n (Block close ss) = AreCovered cx scope n ss
   IsCovered cx scope n Empty = ⊤
   IsCovered cx scope n (Declare b x ty r) = IsSourceKnown cx scope r × IsNew scope x.text
   IsCovered cx scope n (Assign x e) = IsAssignable cx scope x e (find cx.shared x.text)
@@ -62,7 +62,7 @@ abbrev mutual
   IsCovered cx scope n (For at i lo b s) =
       IsTrue (int_le lo.value (top b)) → IsBoundKnown scope b × IsLoopNew scope n i b × IsCovered cx (within_loop scope n i b) (n + loop_slots b) s
   IsCovered cx scope n (Async at cs s) = IsSome (body_at cx at) × All (IsFound scope) (body_params cx at cs)
-  IsCovered cx scope n (Finish s) = IsCovered cx scope n s
+  IsCovered cx scope n (Finish at s) = IsCovered cx scope n s
   IsCovered cx scope n (Call f at es) = IsFound cx.methods f.text × All (IsKnown scope) es
   IsCovered cx scope n (Resume c v) = IsFound scope c.text
   IsCovered cx scope n (Drop c v) = IsFound scope c.text

@@ -53,7 +53,7 @@ kinds_of_params ps = map (λ p. p.takes.kind) ps
 
 -- the unit of a method
 abbrev pub unit_of_method : Setting → UnitKind → MethodValue → UnitValue
-unit_of_method cx kind m = unit_of cx kind (names_of_params m.params) (kinds_of_params m.params) (Block m.body)
+unit_of_method cx kind m = unit_of cx kind (names_of_params m.params) (kinds_of_params m.params) (Block m.close m.body)
 
 -- what the parameters of the body of an `async` take: its clocks, and then numbers
 abbrev pub body_kinds : Setting → ℕ → Option Clocks → List ParamKind

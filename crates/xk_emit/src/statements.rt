@@ -633,7 +633,7 @@ impl<'a, 't> Emitter<'a, 't> {
                 self.emit_print(code, scope, e)?;
                 Ok(n)
             }
-            Stmt::Block(_) | Stmt::If(..) | Stmt::IfElse(..) | Stmt::For(..) | Stmt::Finish(_) =>
+            Stmt::Block(..) | Stmt::If(..) | Stmt::IfElse(..) | Stmt::For(..) | Stmt::Finish(..) =>
                 unreachable!(),
         }
     }
@@ -647,7 +647,7 @@ impl<'a, 't> Emitter<'a, 't> {
         n: u16,
         ss: &[Stmt<'t>],
     ) -> Result<u16, CodeError>
-        ensures { Emits self.now.setting.now self.now.free scope.old n (Block (statements ss.now))
+        ensures { Emits self.now.setting.now self.now.free scope.old n (Block 0 (statements ss.now))
             code.old.items code.new.items scope.new result }
     {
         let visible = scope.len();
@@ -810,7 +810,7 @@ impl<'a, 't> Emitter<'a, 't> {
         n: u16,
         s: &Stmt<'t>,
     ) -> Result<u16, CodeError>
-        ensures { Emits self.now.setting.now self.now.free scope.old n (Finish (statement s.now))
+        ensures { Emits self.now.setting.now self.now.free scope.old n (Finish 0 (statement s.now))
             code.old.items code.new.items scope.new result }
     {
         let visible = scope.len();
@@ -834,14 +834,14 @@ impl<'a, 't> Emitter<'a, 't> {
             code.old.items code.new.items scope.new result }
     {
         match s {
-            Stmt::Block(ss) => self.emit_block(code, scope, n, ss),
+            Stmt::Block(_, ss) => self.emit_block(code, scope, n, ss),
             Stmt::If(_, l, op, r, s) => self.emit_if(code, scope, n, s, l, *op, r),
             Stmt::IfElse(_, l, op, r, s, u) => {
                 let (m, jump) = self.emit_then(code, scope, n, s, l, *op, r)?;
                 self.emit_else(code, scope, m, u, jump)
             }
             Stmt::For(_, i, lo, limit, s) => self.emit_for(code, scope, n, *i, *lo, limit, s),
-            Stmt::Finish(s) => self.emit_finish(code, scope, n, s),
+            Stmt::Finish(_, s) => self.emit_finish(code, scope, n, s),
             Stmt::Empty
             | Stmt::Declare(..)
             | Stmt::Assign(..)
@@ -890,12 +890,12 @@ fn slots_behind(n: u16, s: &Stmt<'_>) -> Result<u16, CodeError>
     ensures refused { IfErr result (λ e. Denies e ⊤ (n + count (statement s.now) ≤ 64)) }
 {
     match s {
-        Stmt::Block(ss) => slots_behind_all(n, ss),
+        Stmt::Block(_, ss) => slots_behind_all(n, ss),
         Stmt::Declare(..) => after(n),
         Stmt::If(_, _, _, _, s) => slots_behind(n, s),
         Stmt::IfElse(_, _, _, _, s, u) => slots_behind(slots_behind(n, s)?, u),
         Stmt::For(_, _, _, limit, s) => slots_behind(behind_names(n, limit)?, s),
-        Stmt::Finish(s) => slots_behind(n, s),
+        Stmt::Finish(_, s) => slots_behind(n, s),
         Stmt::Empty => Ok(n),
         Stmt::Assign(..) => Ok(n),
         Stmt::Atomic(..) => Ok(n),

@@ -24,6 +24,7 @@ use xk_types::{Instr, MAX_SLOTS, ParamKind, Unit, UnitKind};
 
 /// The unit of a method, or of `main`. It has none where a name that its code needs is unknown, or one that it declares is known
 /// already; nor where its unit would go beyond a limit.
+#[tactic(auto, using(crate::proofs::UnitLemmas::covered_block))]
 pub fn method_unit<'t>(
     alloc: Global,
     setting: &Setting<'t>,
@@ -35,7 +36,8 @@ pub fn method_unit<'t>(
     ensures limits { IfOk result IsUnitWithinLimits }
     ensures name { IfErr result (λ e. e ≡ error.Name → IsUnitCovered setting.now
         (names_of_params (method_value method.now).params)
-        (Block (method_value method.now).body) → ⊥) }
+        (Block (method_value method.now).close
+        (method_value method.now).body) → ⊥) }
     ensures table { IfErr result (λ e. e ≡ error.Table
         → IsUnitWithinLimits (unit_of_method setting.now kind (method_value method.now)) → ⊥) }
 {
@@ -78,13 +80,13 @@ fn block_unit<'t>(
     body: &[Stmt<'t>],
 ) -> Result<Unit, CodeError>
     ensures made { IfOk result (λ unit. unit ≡ unit_of setting.now kind
-        (map (λ x. x.now) names.now) kinds.items (Block (statements body.now))) }
+        (map (λ x. x.now) names.now) kinds.items (Block 0 (statements body.now))) }
     ensures limits { IfOk result IsUnitWithinLimits }
     ensures name { IfErr result (λ e. e ≡ error.Name → IsUnitCovered setting.now
-        (map (λ x. x.now) names.now) (Block (statements body.now)) → ⊥) }
+        (map (λ x. x.now) names.now) (Block 0 (statements body.now)) → ⊥) }
     ensures table { IfErr result (λ e. e ≡ error.Table
         → IsUnitWithinLimits (unit_of setting.now kind (map (λ x. x.now) names.now)
-        kinds.items (Block (statements body.now))) → ⊥) }
+        kinds.items (Block 0 (statements body.now))) → ⊥) }
 {
     let (mut scope, n) = param_scope(alloc, names)?;
     let free = slots_behind_all(n, body)?;

@@ -3,7 +3,7 @@ use Rattle.std.proofs.Common.{◌≡◌, ℕ, suc, ◌-◌, ◌<◌, ◌==◌, B
 use Rattle.std.proofs.lemmas.Bool.{eqb-false}
 use Rattle.xk_tree.specs.declared.tree.Operator.{Operator as Op}
 use Rattle.xk_tree.specs.declared.tree.Operator.TheVariants as operator
-use Rattle.xk_exprs.specs.Marks.{Mark, Name, Number, Operator, Open, Symbol, Reserved, AsyncAt, ClockedAt, ClockAt, LongAt, Unfit}
+use Rattle.xk_exprs.specs.Marks.{Mark, Name, Number, Operator, Open, CloseAt, Symbol, Reserved, AsyncAt, FinishAt, ClockedAt, ClockAt, LongAt, Unfit}
 use Rattle.xk_tree.specs.Tree.{Expression}
 use Rattle.xk_exprs.specs.Spelling.{binds, Ends}
 use Rattle.xk_exprs.specs.ReaderCombinators.{Fails, Stops, loop}
@@ -39,8 +39,10 @@ ends_more k (Operator at o ∷ ts) h e = by (binds o == suc k) refl e
 ends_more k (Name at x ∷ ts) h e = tt
 ends_more k (Number at n ∷ ts) h e = tt
 ends_more k (Open at ∷ ts) h e = tt
+ends_more k (CloseAt at ∷ ts) h e = tt
 ends_more k (Symbol s ∷ ts) h e = tt
 ends_more k (AsyncAt at ∷ ts) h e = tt
+ends_more k (FinishAt at ∷ ts) h e = tt
 ends_more k (ClockedAt at ∷ ts) h e = tt
 ends_more k (ClockAt at ∷ ts) h e = tt
 ends_more k (LongAt at ∷ ts) h e = tt
@@ -56,8 +58,10 @@ ends_least (Operator at operator.Times ∷ ts) = omega arith
 ends_least (Name at x ∷ ts) = tt
 ends_least (Number at n ∷ ts) = tt
 ends_least (Open at ∷ ts) = tt
+ends_least (CloseAt at ∷ ts) = tt
 ends_least (Symbol s ∷ ts) = tt
 ends_least (AsyncAt at ∷ ts) = tt
+ends_least (FinishAt at ∷ ts) = tt
 ends_least (ClockedAt at ∷ ts) = tt
 ends_least (ClockAt at ∷ ts) = tt
 ends_least (LongAt at ∷ ts) = tt

@@ -6,7 +6,7 @@ use Rattle.xk_lexer.specs.declared.token.Sign.TheVariants as sign
 use Rattle.xk_tree.specs.declared.tree.Operator.{Operator as Op}
 use Rattle.xk_tree.specs.declared.tree.Operator.TheVariants as operator
 use Rattle.xk_tree.specs.declared.tree.Number as number
-use Rattle.xk_exprs.specs.Marks.{Mark, Name, Number, Operator, Open, Symbol, Reserved, AsyncAt, ClockedAt, ClockAt, LongAt, Unfit}
+use Rattle.xk_exprs.specs.Marks.{Mark, Name, Number, Operator, Open, CloseAt, Symbol, Reserved, AsyncAt, FinishAt, ClockedAt, ClockAt, LongAt, Unfit}
 use Rattle.xk_tree.specs.Tree.{Expression, Word, Literal, Named, Paren, Negation, Binary}
 use Rattle.xk_exprs.specs.Spelling.{minus_marks, spell, binds, level, depth, operators, IsNegatable, IsGrouped, Spells, SpellsTerm}
 use Rattle.xk_exprs.specs.ReaderCombinators.{◌>>=◌, Fails, Goes, loop}
@@ -219,8 +219,10 @@ factor_sound (suc d) ops (Operator at operator.Minus ∷ ts) x e = by (factor_so
     by ih None h e = negation_took d at ops ts x ih h e
     by ih (Some n) h e = minus_took (suc d) at ops ts n x h e
 factor_sound d ops (Symbol s ∷ ts) x e = absurd cc
+factor_sound d ops (CloseAt at ∷ ts) x e = absurd cc
 factor_sound d ops (Reserved k ∷ ts) x e = absurd cc
 factor_sound d ops (AsyncAt at ∷ ts) x e = absurd cc
+factor_sound d ops (FinishAt at ∷ ts) x e = absurd cc
 factor_sound d ops (ClockedAt at ∷ ts) x e = absurd cc
 factor_sound d ops (ClockAt at ∷ ts) x e = absurd cc
 factor_sound d ops (LongAt at ∷ ts) x e = absurd cc

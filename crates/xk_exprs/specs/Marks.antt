@@ -10,15 +10,17 @@ use Rattle.xk_lexer.specs.declared.token.Token.{Token}
 use Rattle.xk_tree.specs.declared.tree.Operator.{Operator as Op}
 use Rattle.xk_tree.specs.declared.tree.Operator.TheVariants as operator
 
--- The numbers called `at` in what follows are offsets. `Unfit` is what no tree spells: bytes with which no token begins, and digits that are
--- no number of 64 bits or begin with a needless 0.
+-- The numbers called `at` in what follows are offsets. `Open` is a `(`, and `CloseAt` a `}`. `Unfit` is what no tree spells: bytes with which no
+-- token begins, and digits that are no number of 64 bits or begin with a needless 0.
 pub data Mark : Type 0 where
   Name : ℕ → List ℕ → Mark
   Number : ℕ → ℕ → Mark
   Operator : ℕ → Op → Mark
   Open : ℕ → Mark
+  CloseAt : ℕ → Mark
   Symbol : Sign → Mark
   AsyncAt : ℕ → Mark
+  FinishAt : ℕ → Mark
   ClockedAt : ℕ → Mark
   ClockAt : ℕ → Mark
   LongAt : ℕ → Mark
@@ -37,10 +39,12 @@ sign_mark at sign.Plus = Operator at operator.Plus
 sign_mark at sign.Minus = Operator at operator.Minus
 sign_mark at sign.Star = Operator at operator.Times
 sign_mark at sign.LeftParen = Open at
+sign_mark at sign.RightBrace = CloseAt at
 sign_mark at s = Symbol s
 
 abbrev pub keyword_mark : ℕ → Keyword → Mark
 keyword_mark at keyword.Async = AsyncAt at
+keyword_mark at keyword.Finish = FinishAt at
 keyword_mark at keyword.Clocked = ClockedAt at
 keyword_mark at keyword.Clock = ClockAt at
 keyword_mark at keyword.Long = LongAt at

@@ -52,29 +52,29 @@ abbrev taken : Statement → List (List ℕ)
 taken b = captures methods (codes "s" ∷ []) b
 
 -- `{ println(y + x); println(y); }`: each once, in the order of first use
-once_each : taken (Block (More (print (Binary operator.Plus (Named y) 0 (Named x))) (More (print (Named y)) Done))) ≡ codes "y" ∷ codes "x" ∷ []
+once_each : taken (Block 0 (More (print (Binary operator.Plus (Named y) 0 (Named x))) (More (print (Named y)) Done))) ≡ codes "y" ∷ codes "x" ∷ []
 once_each = refl
 
 -- `{ async { async { println(x); } } println(y); println(x); }`: what an inner body uses is taken where that body stands
-inner_bodies : taken (Block (More (async [] (Block (More (async [] (Block (More (print (Named x)) Done))) Done)))
+inner_bodies : taken (Block 0 (More (async [] (Block 0 (More (async [] (Block 0 (More (print (Named x)) Done))) Done)))
     (More (print (Named y)) (More (print (Named x)) Done)))) ≡ codes "x" ∷ codes "y" ∷ []
 inner_bodies = refl
 
 -- `{ val z = s; atomic s = s + x; s = y; }` with a shared number `s`
-shared_not : taken (Block (More (val z (Named s)) (More (Atomic s s 0 (Named x)) (More (Assign s (Named y)) Done)))) ≡ codes "x" ∷ codes "y" ∷ []
+shared_not : taken (Block 0 (More (val z (Named s)) (More (Atomic s s 0 (Named x)) (More (Assign s (Named y)) Done)))) ≡ codes "x" ∷ codes "y" ∷ []
 shared_not = refl
 
 -- `{ val z = x; println(z); async { println(z + y); } }`: what the body declares isn't taken, and not by bodies within either
-own_not : taken (Block (More (val z (Named x)) (More (print (Named z)) (More (async [] (Block (More (print (Binary operator.Plus (Named z) 0 (Named y))) Done))) Done))))
+own_not : taken (Block 0 (More (val z (Named x)) (More (print (Named z)) (More (async [] (Block 0 (More (print (Binary operator.Plus (Named z) 0 (Named y))) Done))) Done))))
     ≡ codes "x" ∷ codes "y" ∷ []
 own_not = refl
 
 -- `{ { val z = x; } println(z); }`: behind the inner block its `z` is gone, and the other `z` is one from outside
-out_of_scope : taken (Block (More (Block (More (val z (Named x)) Done)) (More (print (Named z)) Done))) ≡ codes "x" ∷ codes "z" ∷ []
+out_of_scope : taken (Block 0 (More (Block 0 (More (val z (Named x)) Done)) (More (print (Named z)) Done))) ≡ codes "x" ∷ codes "z" ∷ []
 out_of_scope = refl
 
 -- `{ for (z in 2..1) println(z + x); println(z); }`: a loop's name isn't taken, and is gone behind the loop; a loop without a turn counts
-loop_name : taken (Block (More (For 0 z (number 2) (UpTo (number 1)) (print (Binary operator.Plus (Named z) 0 (Named x)))) (More (print (Named z)) Done)))
+loop_name : taken (Block 0 (More (For 0 z (number 2) (UpTo (number 1)) (print (Binary operator.Plus (Named z) 0 (Named x)))) (More (print (Named z)) Done)))
     ≡ codes "x" ∷ codes "z" ∷ []
 loop_name = refl
 
@@ -84,7 +84,7 @@ limit_words : taken (For 0 z (number 1) (Least (record { at = 0; text = codes " 
 limit_words = refl
 
 -- `{ m(c, x); async clocked(c) m(c, y); }`: clocks stand in lists
-clocks_not : taken (Block (More (Call m 0 (Named c ∷ Named x ∷ [])) (More (async (c ∷ []) (Call m 0 (Named c ∷ Named y ∷ []))) Done))) ≡ codes "x" ∷ codes "y" ∷ []
+clocks_not : taken (Block 0 (More (Call m 0 (Named c ∷ Named x ∷ [])) (More (async (c ∷ []) (Call m 0 (Named c ∷ Named y ∷ []))) Done))) ≡ codes "x" ∷ codes "y" ∷ []
 clocks_not = refl
 
 -- a clock that is hidden, with a name that no text has
@@ -99,6 +99,6 @@ hidden_not : taken (clocked_async (print (Named x))) ≡ codes "x" ∷ []
 hidden_not = refl
 
 -- `clocked finish clocked async println(x);`
-hidden_within : taken (Finish (Block (More (Declare binding.Hidden hidden None (Make 0 verb)) (More (clocked_async (print (Named x))) (More (Drop hidden verb) Done)))))
+hidden_within : taken (Finish 0 (Block 0 (More (Declare binding.Hidden hidden None (Make 0 verb)) (More (clocked_async (print (Named x))) (More (Drop hidden verb) Done)))))
     ≡ codes "x" ∷ []
 hidden_within = refl

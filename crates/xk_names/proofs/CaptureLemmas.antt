@@ -27,7 +27,7 @@ append_both ws xs ys zs e f = ap (λ k. k ++ ys) e ∙ ap (λ k. xs ++ k) f
 
 mutual
   inside_same : (ms : Signatures) (a b : List (List ℕ)) → HasSame a b → (s : Statement) → outer_inside ms a s ≡ outer_inside ms b s
-  inside_same ms a b same (Block ss) = among_same ms a b same ss
+  inside_same ms a b same (Block close ss) = among_same ms a b same ss
   inside_same ms a b same (If at l c r s) =
       append_both (words_besides a (words_used ms s)) (words_besides b (words_used ms s)) (outer_inside ms a s) (outer_inside ms b s)
       (besides_same a b same (words_used ms s)) (inside_same ms a b same s)
@@ -46,7 +46,7 @@ mutual
   inside_same ms a b same (Async at cs s) =
       append_both (words_besides a (words_used ms s)) (words_besides b (words_used ms s)) (outer_inside ms a s) (outer_inside ms b s)
       (besides_same a b same (words_used ms s)) (inside_same ms a b same s)
-  inside_same ms a b same (Finish s) =
+  inside_same ms a b same (Finish at s) =
       append_both (words_besides a (words_used ms s)) (words_besides b (words_used ms s)) (outer_inside ms a s) (outer_inside ms b s)
       (besides_same a b same (words_used ms s)) (inside_same ms a b same s)
   inside_same ms a b same _ = refl

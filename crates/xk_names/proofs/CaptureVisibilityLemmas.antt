@@ -128,11 +128,11 @@ used_numbers ms sc (If at l c r s) sound w h = both_numbers sc l r sound.used w 
 used_numbers ms sc (IfElse at l c r s u) sound w h = both_numbers sc l r sound.used w h
 used_numbers ms sc (Call g at es) sound w h = given_numbers sc (given_to (find ms g.text) es) sound.used w h
 used_numbers ms sc (Print at v e) sound w h = expression_numbers sc e sound.used w h
-used_numbers ms sc (Block ss) sound w h = absurd h
+used_numbers ms sc (Block close ss) sound w h = absurd h
 used_numbers ms sc Empty sound w h = absurd h
 used_numbers ms sc (For at i lo b s) sound w h = bound_numbers sc b sound.used w h
 used_numbers ms sc (Async at cs s) sound w h = absurd h
-used_numbers ms sc (Finish s) sound w h = absurd h
+used_numbers ms sc (Finish at s) sound w h = absurd h
 used_numbers ms sc (Resume c v) sound w h = absurd h
 used_numbers ms sc (Drop c v) sound w h = absurd h
 used_numbers ms sc (AdvanceAll at v) sound w h = absurd h
@@ -230,7 +230,7 @@ statement_outer ms names before sc own s since sound w later h = elim (has_eithe
 mutual
   inside_outer : (ms : Signatures) (names : Table Known) (before : List (List ℕ)) (sc : Scope) (own : List (List ℕ)) (s : Statement) → IsSince names before sc.names own
       → IsSoundInside ms sc s → (w : Word) → Has (outer_inside ms own s) w → IsOuter names before w
-  inside_outer ms names before sc own (Block ss) since sound w h = among_outer ms names before sc own ss since sound w h
+  inside_outer ms names before sc own (Block close ss) since sound w h = among_outer ms names before sc own ss since sound w h
   inside_outer ms names before sc own (If at l c r s) since sound w h =
       statement_outer ms names before sc own s since sound.0 w (λ k. inside_outer ms names before sc own s since sound.1 w k) h
   inside_outer ms names before sc own (IfElse at l c r s u) since sound w h = elim (has_either (outer_words ms own s) (outer_words ms own u) w h) [
@@ -245,7 +245,7 @@ mutual
   inside_outer ms names before sc own (Async at cs s) since sound w h =
       let there = with_body sc (clocks_listed cs) in
       statement_outer ms names before there own s since sound.0 w (λ k. inside_outer ms names before there own s since sound.1 w k) h
-  inside_outer ms names before sc own (Finish s) since sound w h =
+  inside_outer ms names before sc own (Finish at s) since sound w h =
       statement_outer ms names before sc own s since sound.0 w (λ k. inside_outer ms names before sc own s since sound.1 w k) h
   inside_outer ms names before sc own _ since sound w h = absurd h
 
@@ -316,7 +316,7 @@ statement_kept ms these a b s w fewer other later h = elim (has_either (words_be
 mutual
   inside_kept : (ms : Signatures) (these a b : List (List ℕ)) (s : Statement) (w : Word) → HasNoMore these a b → has these w.text ≡ false
       → Has (outer_inside ms a s) w → Has (outer_inside ms b s) w
-  inside_kept ms these a b (Block ss) w fewer other h = among_kept ms these a b ss w fewer other h
+  inside_kept ms these a b (Block close ss) w fewer other h = among_kept ms these a b ss w fewer other h
   inside_kept ms these a b (If at l c r s) w fewer other h = statement_kept ms these a b s w fewer other (λ k. inside_kept ms these a b s w fewer other k) h
   inside_kept ms these a b (IfElse at l c r s u) w fewer other h = elim (has_either (outer_words ms a s) (outer_words ms a u) w h) [
     | inl k ↦ has_left (outer_words ms b s) (outer_words ms b u) w (statement_kept ms these a b s w fewer other (λ j. inside_kept ms these a b s w fewer other j) k)
@@ -328,7 +328,7 @@ mutual
       let d : List (List ℕ) = put_texts b (loop_words i k) in
       statement_kept ms these c d s w more other (λ k. inside_kept ms these c d s w more other k) h
   inside_kept ms these a b (Async at cs s) w fewer other h = statement_kept ms these a b s w fewer other (λ k. inside_kept ms these a b s w fewer other k) h
-  inside_kept ms these a b (Finish s) w fewer other h = statement_kept ms these a b s w fewer other (λ k. inside_kept ms these a b s w fewer other k) h
+  inside_kept ms these a b (Finish at s) w fewer other h = statement_kept ms these a b s w fewer other (λ k. inside_kept ms these a b s w fewer other k) h
   inside_kept ms these a b _ w fewer other h = absurd h
 
   among_kept : (ms : Signatures) (these a b : List (List ℕ)) (ss : Statements) (w : Word) → HasNoMore these a b → has these w.text ≡ false

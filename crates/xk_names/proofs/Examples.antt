@@ -34,7 +34,7 @@ abbrev one : ℕ → Expression
 one at = Literal (record { minus = None; at = at; value = pos 1 })
 
 abbrev method : Word → List ParamValue → Statements → MethodValue
-method name params body = record { name = name; paren = 0; params = params; body = body }
+method name params body = record { name = name; paren = 0; params = params; body = body; close = 0 }
 
 abbrev main : Statements → MethodValue
 main body = method (named 4 (codes "main")) [] body
@@ -64,7 +64,7 @@ other_kind = InBody (main other_kind_body) (inl refl) (record {
 
 -- `var x = 1; async { x = 2; }`
 abbrev not_seen_body : Statements
-not_seen_body = More (Declare binding.Var (x 17) None (Value (one 21))) (More (Async 24 None (Block (More (Assign (x 32) (one 36)) Done))) Done)
+not_seen_body = More (Declare binding.Var (x 17) None (Value (one 21))) (More (Async 24 None (Block 0 (More (Assign (x 32) (one 36)) Done))) Done)
 
 not_seen : HasNameFault (alone not_seen_body) (fault rule.NotCaptured 32)
 not_seen = InBody (main not_seen_body) (inl refl) (record {
@@ -81,7 +81,7 @@ not_seen_scope = refl
 
 -- `val c = Clock.make(); async { c.resume(); }`: the body isn't given the clock
 abbrev clock_body : Option Clocks → Statements
-clock_body cs = More (Declare binding.Val (c 17) None (Make 21 (verb 27))) (More (Async 35 cs (Block (More (Resume (c 43) (verb 45)) Done))) Done)
+clock_body cs = More (Declare binding.Val (c 17) None (Make 21 (verb 27))) (More (Async 35 cs (Block 0 (More (Resume (c 43) (verb 45)) Done))) Done)
 
 clock_not_seen : HasNameFault (alone (clock_body None)) (fault rule.NotCaptured 43)
 clock_not_seen = InBody (main (clock_body None)) (inl refl) (record {
@@ -93,7 +93,7 @@ clock_not_seen = InBody (main (clock_body None)) (inl refl) (record {
 
 -- `val x = 1; async { val x = 2; }`: a name that is visible isn't declared anew, in a body of `async` neither
 abbrev again_body : Statements
-again_body = More (Declare binding.Val (x 17) None (Value (one 21))) (More (Async 24 None (Block (More (Declare binding.Val (x 36) None (Value (one 40))) Done))) Done)
+again_body = More (Declare binding.Val (x 17) None (Value (one 21))) (More (Async 24 None (Block 0 (More (Declare binding.Val (x 36) None (Value (one 40))) Done))) Done)
 
 declared_again : HasNameFault (alone again_body) (fault rule.DuplicateName 36)
 declared_again = InBody (main again_body) (inl refl) (record {
@@ -105,7 +105,7 @@ declared_again = InBody (main again_body) (inl refl) (record {
 
 -- `{ val x = 1; } println(x);`: the scope of a declaration ends with its block
 abbrev ended_body : Statements
-ended_body = More (Block (More (Declare binding.Val (x 19) None (Value (one 23))) Done)) (More (Print 28 (verb 40) (Named (x 48))) Done)
+ended_body = More (Block 0 (More (Declare binding.Val (x 19) None (Value (one 23))) Done)) (More (Print 28 (verb 40) (Named (x 48))) Done)
 
 ended_scope : HasNameFault (alone ended_body) (fault rule.UnknownName 48)
 ended_scope = InBody (main ended_body) (inl refl) (record {
@@ -255,7 +255,7 @@ hidden at = named at (codes " ")
 -- `clocked finish BODY`
 abbrev clocked_finish : ℕ → Statement → Statement
 clocked_finish at s = let verb : Verb = record { at = at; paren = at } in
-    Finish (Block (More (Declare binding.Hidden (hidden at) None (Make at verb)) (More s (More (Drop (hidden at) verb) Done))))
+    Finish (at + 8) (Block (at + 8) (More (Declare binding.Hidden (hidden at) None (Make at verb)) (More s (More (Drop (hidden at) verb) Done))))
 
 -- `clocked async BODY`
 abbrev clocked_async : Word → Statement → Statement
@@ -263,7 +263,7 @@ clocked_async clock s = Async (clock.at + 8) (Some (record { written = written.A
 
 -- `clocked finish clocked async clocked async { }`: each body is given the hidden clock
 abbrev all_given : TreeValue
-all_given = alone (More (clocked_finish 13 (clocked_async (hidden 28) (clocked_async (hidden 42) (Block Done)))) Done)
+all_given = alone (More (clocked_finish 13 (clocked_async (hidden 28) (clocked_async (hidden 42) (Block 0 Done)))) Done)
 
 no_faults : name_faults all_given ≡ []
 unfolding own
@@ -275,12 +275,12 @@ hidden_given f (inr h) = h.0 refl
 
 -- `clocked async { }`, where no clock is hidden
 abbrev none_hidden_body : Statements
-none_hidden_body = More (clocked_async (named 13 []) (Block Done)) Done
+none_hidden_body = More (clocked_async (named 13 []) (Block 0 Done)) Done
 
 none_hidden : HasNameFault (alone none_hidden_body) (fault rule.NoHiddenClock 13)
 none_hidden = InBody (main none_hidden_body) (inl refl) (record {
   way = First Here;
-  statement = clocked_async (named 13 []) (Block Done);
+  statement = clocked_async (named 13 []) (Block 0 Done);
   stands = refl;
   breaks = NotVisible (use_as want.Clock (named 13 [])) (inl refl) refl refl;
 })
@@ -291,12 +291,12 @@ unfolding own
 none_hidden_alone = refl
 
 -- `clocked finish async clocked async { }`: the first body isn't given the hidden clock, so that none is hidden in it
-not_hidden_within : name_faults (alone (More (clocked_finish 13 (Async 28 None (clocked_async (named 34 []) (Block Done)))) Done)) ≡ fault rule.NoHiddenClock 34 ∷ []
+not_hidden_within : name_faults (alone (More (clocked_finish 13 (Async 28 None (clocked_async (named 34 []) (Block 0 Done)))) Done)) ≡ fault rule.NoHiddenClock 34 ∷ []
 unfolding own
 not_hidden_within = refl
 
 -- a tree that no text spells: that body gives the clock which it isn't given itself
-hidden_not_seen : name_faults (alone (More (clocked_finish 13 (Async 28 None (clocked_async (hidden 34) (Block Done)))) Done)) ≡ fault rule.NotCaptured 34 ∷ []
+hidden_not_seen : name_faults (alone (More (clocked_finish 13 (Async 28 None (clocked_async (hidden 34) (Block 0 Done)))) Done)) ≡ fault rule.NotCaptured 34 ∷ []
 unfolding own
 hidden_not_seen = refl
 

@@ -80,7 +80,7 @@ loop_plain n at i lo (Least x v e hi) s = ((refl, omega arith), ((refl, omega ar
 mutual
   covered_at : (shared : List (List ℕ)) (sc : Scope) (s : Statement) (w : Way) → IsCovered shared sc → IsCovered shared (scope_at sc s w)
   covered_at shared sc s Here covered = covered
-  covered_at shared sc (Block ss) (Inside w) covered = covered_among shared sc ss w covered
+  covered_at shared sc (Block close ss) (Inside w) covered = covered_among shared sc ss w covered
   covered_at shared sc (If at l c r s) (Inside w) covered = covered_at shared sc s w covered
   covered_at shared sc (IfElse at l c r s u) (Inside w) covered = covered_at shared sc s w covered
   covered_at shared sc (IfElse at l c r s u) (Else w) covered = covered_at shared sc u w covered
@@ -88,7 +88,7 @@ mutual
       let ds = declares (length sc.bodies) (For at i lo b s) in
       covered_at shared (with_all sc ds) s w (covered_more shared sc ds covered (loop_plain (length sc.bodies) at i lo b s))
   covered_at shared sc (Async at cs s) (Inside w) covered = covered_at shared (with_body sc (clocks_listed cs)) s w (covered_body shared sc (clocks_listed cs) covered)
-  covered_at shared sc (Finish s) (Inside w) covered = covered_at shared sc s w covered
+  covered_at shared sc (Finish at s) (Inside w) covered = covered_at shared sc s w covered
   covered_at shared sc _ _ covered = covered
 
   covered_among : (shared : List (List ℕ)) (sc : Scope) (ss : Statements) (w : Way) → IsCovered shared sc → IsCovered shared (scope_among sc ss w)

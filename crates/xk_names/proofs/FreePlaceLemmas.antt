@@ -61,7 +61,7 @@ mutual
       → Takes ms n (scope_at sc s w) t before u after → Has (free_words ms n sc s) u.name
   listed ms n sc s Here t before u after st h =
       has_left (free_of n sc.names (uses ms sc.names s)) (free_inside ms n sc s) u.name (here_listed ms n sc s t before u after st h)
-  listed ms n sc (Block ss) (Inside w) t before u after st h = listed_among ms n sc ss w t before u after st h
+  listed ms n sc (Block close ss) (Inside w) t before u after st h = listed_among ms n sc ss w t before u after st h
   listed ms n sc (If at l c r s) (Inside w) t before u after st h =
       has_right (free_of n sc.names (uses ms sc.names (If at l c r s))) (free_words ms n sc s) u.name (listed ms n sc s w t before u after st h)
   listed ms n sc (IfElse at l c r s o) (Inside w) t before u after st h =
@@ -76,7 +76,7 @@ mutual
   listed ms n sc (Async at cs s) (Inside w) t before u after st h =
       let there = with_body sc (clocks_listed cs) in
       has_right (free_of n sc.names (uses ms sc.names (Async at cs s))) (free_words ms n there s) u.name (listed ms n there s w t before u after st h)
-  listed ms n sc (Finish s) (Inside w) t before u after st h = listed ms n sc s w t before u after st h
+  listed ms n sc (Finish at s) (Inside w) t before u after st h = listed ms n sc s w t before u after st h
   listed ms n sc _ _ t before u after st h = absurd st
 
   listed_among : (ms : Signatures) (n : ℕ) (sc : Scope) (ss : Statements) (w : Way) (t : Statement) (before : List Use) (u : Use) (after : List Use)
@@ -273,8 +273,9 @@ else_leads ms n sc at l c r s o more x led = record {
     go (Later w) t st ts u vs h lt = absurd lt
 
 -- statements in a block
-block_leads : (ms : Signatures) (n : ℕ) (sc : Scope) (ss : Statements) (front : List Word) (x : Word) → LeadsAmong ms n sc ss front x → Leads ms n sc (Block ss) front x
-block_leads ms n sc ss front x r = record {
+block_leads : (ms : Signatures) (n : ℕ) (sc : Scope) (close : ℕ) (ss : Statements) (front : List Word) (x : Word) → LeadsAmong ms n sc ss front x
+    → Leads ms n sc (Block close ss) front x
+block_leads ms n sc close ss front x r = record {
   place = record {
     way = Inside r.place.way;
     statement = r.place.statement;
@@ -288,9 +289,9 @@ block_leads ms n sc ss front x r = record {
   earlier = λ q. go q.way q.statement q.stands q.before q.used q.after q.takes;
 }
   where
-    go : (w : Way) (t : Statement) → Stands (Block ss) w t → (ts : List Use) (u : Use) (vs : List Use) → Takes ms n (scope_at sc (Block ss) w) t ts u vs
+    go : (w : Way) (t : Statement) → Stands (Block close ss) w t → (ts : List Use) (u : Use) (vs : List Use) → Takes ms n (scope_at sc (Block close ss) w) t ts u vs
         → StandsBefore w (length ts) (Inside r.place.way) (length r.place.before) → Has front u.name
-    go Here t st ts u vs h lt = absurd (here_listed ms n sc (Block ss) t ts u vs st h)
+    go Here t st ts u vs h lt = absurd (here_listed ms n sc (Block close ss) t ts u vs st h)
     go (Inside w) t st ts u vs h lt = r.earlier (record { way = w; statement = t; stands = st; before = ts; used = u; after = vs; takes = h }) lt
     go (Else w) t st ts u vs h lt = absurd lt
     go (First w) t st ts u vs h lt = absurd lt
@@ -363,7 +364,7 @@ or_leads ms n sc s front x back later e =
 mutual
   inside_leads : (ms : Signatures) (n : ℕ) (sc : Scope) (s : Statement) (more : List Word) (x : Word) (back : List Word) → free_inside ms n sc s ≡ more ++ x ∷ back
       → Leads ms n sc s (free_of n sc.names (uses ms sc.names s) ++ more) x
-  inside_leads ms n sc (Block ss) more x back e = block_leads ms n sc ss more x (among_leads ms n sc ss more x back e)
+  inside_leads ms n sc (Block close ss) more x back e = block_leads ms n sc close ss more x (among_leads ms n sc ss more x back e)
   inside_leads ms n sc (If at l c r s) more x back e =
       held_leads ms n sc sc (If at l c r s) s (λ w. refl) (λ w t. refl) more x (or_leads ms n sc s more x back (λ k g. inside_leads ms n sc s k x back g) e)
   inside_leads ms n sc (IfElse at l c r s o) more x back e =
@@ -379,8 +380,8 @@ mutual
   inside_leads ms n sc (Async at cs s) more x back e =
       let there = with_body sc (clocks_listed cs) in
       held_leads ms n sc there (Async at cs s) s (λ w. refl) (λ w t. refl) more x (or_leads ms n there s more x back (λ k g. inside_leads ms n there s k x back g) e)
-  inside_leads ms n sc (Finish s) more x back e =
-      held_leads ms n sc sc (Finish s) s (λ w. refl) (λ w t. refl) more x (or_leads ms n sc s more x back (λ k g. inside_leads ms n sc s k x back g) e)
+  inside_leads ms n sc (Finish at s) more x back e =
+      held_leads ms n sc sc (Finish at s) s (λ w. refl) (λ w t. refl) more x (or_leads ms n sc s more x back (λ k g. inside_leads ms n sc s k x back g) e)
   inside_leads ms n sc _ more x back e = absurd (nothing_left more x back e)
 
   among_leads : (ms : Signatures) (n : ℕ) (sc : Scope) (ss : Statements) (front : List Word) (x : Word) (back : List Word) → free_among ms n sc ss ≡ front ++ x ∷ back

@@ -22,7 +22,7 @@ use Rattle.xk_names.proofs.FreeUseLemmas.{is_inner_kind, Tells, IsTold, free_of,
 -- the same by places: what a statement itself uses, and then what those use that it holds
 abbrev mutual
   pub free_inside : Signatures → ℕ → Scope → Statement → List Word
-  free_inside ms n sc (Block ss) = free_among ms n sc ss
+  free_inside ms n sc (Block close ss) = free_among ms n sc ss
   free_inside ms n sc (If at l c r s) = free_of n sc.names (uses ms sc.names s) ++ free_inside ms n sc s
   free_inside ms n sc (IfElse at l c r s t) =
       (free_of n sc.names (uses ms sc.names s) ++ free_inside ms n sc s) ++ (free_of n sc.names (uses ms sc.names t) ++ free_inside ms n sc t)
@@ -30,7 +30,7 @@ abbrev mutual
       let there = with_all sc (declares (length sc.bodies) (For at i lo b s)) in free_of n there.names (uses ms there.names s) ++ free_inside ms n there s
   free_inside ms n sc (Async at cs s) =
       let there = with_body sc (clocks_listed cs) in free_of n there.names (uses ms there.names s) ++ free_inside ms n there s
-  free_inside ms n sc (Finish s) = free_of n sc.names (uses ms sc.names s) ++ free_inside ms n sc s
+  free_inside ms n sc (Finish at s) = free_of n sc.names (uses ms sc.names s) ++ free_inside ms n sc s
   free_inside ms n sc _ = []
 
   pub free_among : Signatures → ℕ → Scope → Statements → List Word
@@ -132,7 +132,7 @@ one_same ms n sc own s told sound inner =
 mutual
   inside_same : (ms : Signatures) (n : ℕ) (sc : Scope) (own : List (List ℕ)) (s : Statement) → IsTold n sc own → IsSound ms sc s → IsSoundInside ms sc s
       → outer_inside ms own s ≡ free_inside ms n sc s
-  inside_same ms n sc own (Block ss) told sound inner = among_same ms n sc own ss told inner
+  inside_same ms n sc own (Block close ss) told sound inner = among_same ms n sc own ss told inner
   inside_same ms n sc own (If at l c r s) told sound inner = one_same ms n sc own s told inner.0 (inside_same ms n sc own s told inner.0 inner.1)
   inside_same ms n sc own (IfElse at l c r s t) told sound inner =
       joined (outer_words ms own s) (free_words ms n sc s) (outer_words ms own t) (free_words ms n sc t)
@@ -147,7 +147,7 @@ mutual
       let there = with_body sc (clocks_listed cs) in
       let more = told_body n sc own (clocks_listed cs) told in
       one_same ms n there own s more inner.0 (inside_same ms n there own s more inner.0 inner.1)
-  inside_same ms n sc own (Finish s) told sound inner = one_same ms n sc own s told inner.0 (inside_same ms n sc own s told inner.0 inner.1)
+  inside_same ms n sc own (Finish at s) told sound inner = one_same ms n sc own s told inner.0 (inside_same ms n sc own s told inner.0 inner.1)
   inside_same ms n sc own _ told sound inner = refl
 
   among_same : (ms : Signatures) (n : ℕ) (sc : Scope) (own : List (List ℕ)) (ss : Statements) → IsTold n sc own → AreSound ms sc ss

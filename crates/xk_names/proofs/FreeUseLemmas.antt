@@ -208,11 +208,11 @@ module _ (n : ℕ) (sc : Scope) (own : List (List ℕ)) (told : IsTold n sc own)
   used_alike ms (IfElse at l c r s u) sound = both_alike l r sound.used
   used_alike ms (Call g at es) sound = given_alike (given_to (find ms g.text) es) sound.used sound.fitting
   used_alike ms (Print at v e) sound = expression_alike e sound.used
-  used_alike ms (Block ss) sound = refl
+  used_alike ms (Block close ss) sound = refl
   used_alike ms Empty sound = refl
   used_alike ms (For at i lo b s) sound = bound_alike b sound.used
   used_alike ms (Async at cs s) sound = clocks_alike (clocks_listed cs) sound.used
-  used_alike ms (Finish s) sound = refl
+  used_alike ms (Finish at s) sound = refl
   used_alike ms (Resume c v) sound = clock_none n sc own c (sound.used (use_as want.Clock c) (inl refl))
   used_alike ms (Drop c v) sound = clock_none n sc own c (sound.used (use_as want.Clock c) (inl refl))
   used_alike ms (AdvanceAll at v) sound = refl

@@ -36,11 +36,11 @@ abbrev val : Word → Expression → Statement
 val w e = Declare binding.Val w None (Value e)
 
 abbrev async : Statements → Statement
-async ss = Async 0 None (Block ss)
+async ss = Async 0 None (Block 0 ss)
 
 -- a number parameter `x` of main, and a shared number `s`
 abbrev main : Statements → MethodValue
-main body = record { name = word 0 (codes "main"); paren = 0; params = record { name = x 1; takes = record { kind = param.Number; at = 0 } } ∷ []; body = body }
+main body = record { name = word 0 (codes "main"); paren = 0; params = record { name = x 1; takes = record { kind = param.Number; at = 0 } } ∷ []; body = body; close = 0 }
 
 abbrev program : Statements → TreeValue
 program body = record { shared = record { name = s 0; start = record { minus = None; at = 0; value = pos 1 } } ∷ []; methods = main body ∷ [] }
@@ -53,7 +53,7 @@ abbrev declares_within : TreeValue
 declares_within = program (More (async within) Done)
 
 abbrev its_body : Body declares_within
-its_body = record { method = main (More (async within) Done); there = inl refl; way = First Here; at = 0; clocks = None; statement = Block within; stands = refl }
+its_body = record { method = main (More (async within) Done); there = inl refl; way = First Here; at = 0; clocks = None; statement = Block 0 within; stands = refl }
 
 nothing_listed : name_faults declares_within ≡ []
 unfolding own
@@ -127,10 +127,10 @@ abbrev two_bodies : TreeValue
 two_bodies = program whole
 
 abbrev outer_body : Body two_bodies
-outer_body = record { method = main whole; there = inl refl; way = Later (First Here); at = 0; clocks = None; statement = Block outer; stands = refl }
+outer_body = record { method = main whole; there = inl refl; way = Later (First Here); at = 0; clocks = None; statement = Block 0 outer; stands = refl }
 
 abbrev inner_body : Body two_bodies
-inner_body = record { method = main whole; there = inl refl; way = Later (First (Inside (Inside (First Here)))); at = 0; clocks = None; statement = Block inner; stands = refl }
+inner_body = record { method = main whole; there = inl refl; way = Later (First (Inside (Inside (First Here)))); at = 0; clocks = None; statement = Block 0 inner; stands = refl }
 
 nothing_listed_either : name_faults two_bodies ≡ []
 unfolding own

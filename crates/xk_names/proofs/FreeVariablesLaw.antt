@@ -26,13 +26,13 @@ use Rattle.xk_names.proofs.FreePlaceLemmas.{Takes, Place, listed, Leads, leads}
 mutual
   stands_at : (s : Statement) (w v : Way) (t u : Statement) → Stands s w t → Stands s (onward w v) u ≡ Stands t v u
   stands_at s Here v t u st = ap (λ (k : Statement). Stands k v u) st
-  stands_at (Block ss) (Inside w) v t u st = stands_among ss w v t u st
+  stands_at (Block close ss) (Inside w) v t u st = stands_among ss w v t u st
   stands_at (If at l c r s) (Inside w) v t u st = stands_at s w v t u st
   stands_at (IfElse at l c r s o) (Inside w) v t u st = stands_at s w v t u st
   stands_at (IfElse at l c r s o) (Else w) v t u st = stands_at o w v t u st
   stands_at (For at i lo b s) (Inside w) v t u st = stands_at s w v t u st
   stands_at (Async at cs s) (Inside w) v t u st = stands_at s w v t u st
-  stands_at (Finish s) (Inside w) v t u st = stands_at s w v t u st
+  stands_at (Finish at s) (Inside w) v t u st = stands_at s w v t u st
   stands_at _ _ v t u st = absurd st
 
   stands_among : (ss : Statements) (w v : Way) (t u : Statement) → StandsAmong ss w t → StandsAmong ss (onward w v) u ≡ Stands t v u
@@ -43,13 +43,13 @@ mutual
 mutual
   scope_on : (sc : Scope) (s : Statement) (w v : Way) (t : Statement) → Stands s w t → scope_at sc s (onward w v) ≡ scope_at (scope_at sc s w) t v
   scope_on sc s Here v t st = ap (λ (k : Statement). scope_at sc k v) st
-  scope_on sc (Block ss) (Inside w) v t st = scope_on_among sc ss w v t st
+  scope_on sc (Block close ss) (Inside w) v t st = scope_on_among sc ss w v t st
   scope_on sc (If at l c r s) (Inside w) v t st = scope_on sc s w v t st
   scope_on sc (IfElse at l c r s o) (Inside w) v t st = scope_on sc s w v t st
   scope_on sc (IfElse at l c r s o) (Else w) v t st = scope_on sc o w v t st
   scope_on sc (For at i lo b s) (Inside w) v t st = scope_on (with_all sc (declares (length sc.bodies) (For at i lo b s))) s w v t st
   scope_on sc (Async at cs s) (Inside w) v t st = scope_on (with_body sc (clocks_listed cs)) s w v t st
-  scope_on sc (Finish s) (Inside w) v t st = scope_on sc s w v t st
+  scope_on sc (Finish at s) (Inside w) v t st = scope_on sc s w v t st
   scope_on sc _ _ v t st = absurd st
 
   scope_on_among : (sc : Scope) (ss : Statements) (w v : Way) (t : Statement) → StandsAmong ss w t → scope_among sc ss (onward w v) ≡ scope_at (scope_among sc ss w) t v

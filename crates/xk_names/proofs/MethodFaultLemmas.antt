@@ -19,13 +19,13 @@ use Rattle.xk_names.proofs.StatementAgreementLemmas.{own_same}
 abbrev mutual
   pub scope_at : Scope → Statement → Way → Scope
   scope_at sc s Here = sc
-  scope_at sc (Block ss) (Inside w) = scope_among sc ss w
+  scope_at sc (Block close ss) (Inside w) = scope_among sc ss w
   scope_at sc (If at l c r s) (Inside w) = scope_at sc s w
   scope_at sc (IfElse at l c r s u) (Inside w) = scope_at sc s w
   scope_at sc (IfElse at l c r s u) (Else w) = scope_at sc u w
   scope_at sc (For at i lo hi s) (Inside w) = scope_at (with_all sc (declares (length sc.bodies) (For at i lo hi s))) s w
   scope_at sc (Async at cs s) (Inside w) = scope_at (with_body sc (clocks_listed cs)) s w
-  scope_at sc (Finish s) (Inside w) = scope_at sc s w
+  scope_at sc (Finish at s) (Inside w) = scope_at sc s w
   scope_at sc _ _ = sc
 
   pub scope_among : Scope → Statements → Way → Scope
@@ -56,7 +56,7 @@ agrees_behind a b ds same =
 
 mutual
   held : (ms ns : Signatures) (a b : Scope) (s : Statement) (f : FrontFault) → FindsSame ms ns → Agrees a b → Has (inside ms a s) f → Inward ns b s f
-  held ms ns a b (Block ss) f one same h = let r = held_among ms ns a b ss f one same h in (Inside r.0, r.1)
+  held ms ns a b (Block close ss) f one same h = let r = held_among ms ns a b ss f one same h in (Inside r.0, r.1)
   held ms ns a b (If at l c r s) f one same h = let q = or_here ms ns a b s f one same (λ z. held ms ns a b s f one same z) h in (Inside q.0, q.1)
   held ms ns a b (IfElse at l c r s u) f one same h = elim (has_either (faults ms a s) (faults ms a u) f h) [
     | inl x ↦ let q = or_here ms ns a b s f one same (λ z. held ms ns a b s f one same z) x in (Inside q.0, q.1)
@@ -72,7 +72,7 @@ mutual
       let c = body_of a (clocks_listed cs) in
       let d = with_body b (clocks_listed cs) in
       let q = or_here ms ns c d s f one more (λ z. held ms ns c d s f one more z) h in (Inside q.0, q.1)
-  held ms ns a b (Finish s) f one same h = let q = or_here ms ns a b s f one same (λ z. held ms ns a b s f one same z) h in (Inside q.0, q.1)
+  held ms ns a b (Finish at s) f one same h = let q = or_here ms ns a b s f one same (λ z. held ms ns a b s f one same z) h in (Inside q.0, q.1)
   held ms ns a b _ f one same h = absurd h
 
   pub held_among : (ms ns : Signatures) (a b : Scope) (ss : Statements) (f : FrontFault) → FindsSame ms ns → Agrees a b → Has (among ms a ss) f → InwardAmong ns b ss f
@@ -92,7 +92,7 @@ mutual
   listed ms ns a b s Here t f one same st br =
       has_left (own ms a s) (inside ms a s) f
       (subst (λ k. Has k f) (sym (own_same ms ns a b s one same)) (breaks_own ns b s f (subst (λ (r : Statement). Breaks ns b r f) (sym st) br)))
-  listed ms ns a b (Block ss) (Inside w) t f one same st br = has_right (own ms a (Block ss)) (among ms a ss) f (listed_among ms ns a b ss w t f one same st br)
+  listed ms ns a b (Block close ss) (Inside w) t f one same st br = has_right (own ms a (Block close ss)) (among ms a ss) f (listed_among ms ns a b ss w t f one same st br)
   listed ms ns a b (If at l c r s) (Inside w) t f one same st br = has_right (own ms a (If at l c r s)) (faults ms a s) f (listed ms ns a b s w t f one same st br)
   listed ms ns a b (IfElse at l c r s u) (Inside w) t f one same st br =
       has_right (own ms a (IfElse at l c r s u)) (faults ms a s ++ faults ms a u) f (has_left (faults ms a s) (faults ms a u) f (listed ms ns a b s w t f one same st br))
@@ -105,7 +105,7 @@ mutual
   listed ms ns a b (Async at cs s) (Inside w) t f one same st br =
       has_right (own ms a (Async at cs s)) (faults ms (body_of a (clocks_listed cs)) s) f
       (listed ms ns (body_of a (clocks_listed cs)) (with_body b (clocks_listed cs)) s w t f one (body_agrees a b (clocks_listed cs) same) st br)
-  listed ms ns a b (Finish s) (Inside w) t f one same st br = has_right (own ms a (Finish s)) (faults ms a s) f (listed ms ns a b s w t f one same st br)
+  listed ms ns a b (Finish at s) (Inside w) t f one same st br = has_right (own ms a (Finish at s)) (faults ms a s) f (listed ms ns a b s w t f one same st br)
   listed ms ns a b _ _ t f one same st br = absurd st
 
   pub listed_among : (ms ns : Signatures) (a b : Scope) (ss : Statements) (w : Way) (t : Statement) (f : FrontFault) → FindsSame ms ns → Agrees a b → StandsAmong ss w t
@@ -133,17 +133,17 @@ stays : (sc : Scope) → sc ≡ scope_of (sc.names ++ entries []) sc.bodies
 stays sc = ap (λ k. scope_of k sc.bodies) (sym (append-nil sc.names))
 
 stays_at : (sc : Scope) (s : Statement) → sc ≡ scope_of (sc.names ++ entries (declared_at (length sc.bodies) s Here)) (bodies_at sc.bodies s Here)
-stays_at sc (Block ss) = stays sc
+stays_at sc (Block close ss) = stays sc
 stays_at sc _ = stays sc
 
 stays_first : (sc : Scope) (s : Statement) (w : Way) → scope_at sc s (First w) ≡ scope_of (sc.names ++ entries (declared_at (length sc.bodies) s (First w)))
     (bodies_at sc.bodies s (First w))
-stays_first sc (Block ss) w = stays sc
+stays_first sc (Block close ss) w = stays sc
 stays_first sc _ w = stays sc
 
 stays_later : (sc : Scope) (s : Statement) (w : Way) → scope_at sc s (Later w) ≡ scope_of (sc.names ++ entries (declared_at (length sc.bodies) s (Later w)))
     (bodies_at sc.bodies s (Later w))
-stays_later sc (Block ss) w = stays sc
+stays_later sc (Block close ss) w = stays sc
 stays_later sc _ w = stays sc
 
 mutual
@@ -151,7 +151,7 @@ mutual
   at_once sc s Here = stays_at sc s
   at_once sc s (First w) = stays_first sc s w
   at_once sc s (Later w) = stays_later sc s w
-  at_once sc (Block ss) (Inside w) = among_once sc ss w
+  at_once sc (Block close ss) (Inside w) = among_once sc ss w
   at_once sc (If at l c r s) (Inside w) = at_once sc s w
   at_once sc (IfElse at l c r s u) (Inside w) = at_once sc s w
   at_once sc (IfElse at l c r s u) (Else w) = at_once sc u w
@@ -159,7 +159,7 @@ mutual
       let ds = declares (length sc.bodies) (For at i lo hi s) in
       at_once (with_all sc ds) s w ∙ joined sc.names (bodies_at sc.bodies s w) ds (declared_at (length sc.bodies) s w)
   at_once sc (Async at cs s) (Inside w) = at_once (with_body sc (clocks_listed cs)) s w
-  at_once sc (Finish s) (Inside w) = at_once sc s w
+  at_once sc (Finish at s) (Inside w) = at_once sc s w
   at_once sc _ _ = stays sc
 
   pub among_once : (sc : Scope) (ss : Statements) (w : Way) → scope_among sc ss w ≡ scope_of (sc.names ++ entries (declared_among (length sc.bodies) ss w))

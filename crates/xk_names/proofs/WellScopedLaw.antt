@@ -80,7 +80,7 @@ both_sound ms sc s clean inner = (sound_alone ms sc s (clean Here s refl), inner
 
 mutual
   pub sound_inside : (ms : Signatures) (sc : Scope) (s : Statement) → Clean ms sc s → IsSoundInside ms sc s
-  sound_inside ms sc (Block ss) clean = sound_among ms sc ss (λ w t st. clean (Inside w) t st)
+  sound_inside ms sc (Block close ss) clean = sound_among ms sc ss (λ w t st. clean (Inside w) t st)
   sound_inside ms sc (If at l c r s) clean = both_sound ms sc s (λ w t st. clean (Inside w) t st) (λ k. sound_inside ms sc s k)
   sound_inside ms sc (IfElse at l c r s u) clean =
       (both_sound ms sc s (λ w t st. clean (Inside w) t st) (λ k. sound_inside ms sc s k), both_sound ms sc u (λ w t st. clean (Else w) t st) (λ k. sound_inside ms sc u k))
@@ -90,7 +90,7 @@ mutual
   sound_inside ms sc (Async at cs s) clean =
       let there = with_body sc (clocks_listed cs) in
       both_sound ms there s (λ w t st. clean (Inside w) t st) (λ k. sound_inside ms there s k)
-  sound_inside ms sc (Finish s) clean = both_sound ms sc s (λ w t st. clean (Inside w) t st) (λ k. sound_inside ms sc s k)
+  sound_inside ms sc (Finish at s) clean = both_sound ms sc s (λ w t st. clean (Inside w) t st) (λ k. sound_inside ms sc s k)
   sound_inside ms sc _ clean = tt
 
   sound_among : (ms : Signatures) (sc : Scope) (ss : Statements) → CleanAmong ms sc ss → AreSound ms sc ss

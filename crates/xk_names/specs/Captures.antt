@@ -63,13 +63,13 @@ own_after own (More s ss) = own_after (own_behind own s) ss
 -- the numbers from outside that are used in the statements that a statement holds, in the order of the text
 abbrev mutual
   pub outer_inside : Signatures → List (List ℕ) → Statement → List Word
-  outer_inside ms own (Block ss) = outer_among ms own ss
+  outer_inside ms own (Block close ss) = outer_among ms own ss
   outer_inside ms own (If at l c r s) = words_besides own (words_used ms s) ++ outer_inside ms own s
   outer_inside ms own (IfElse at l c r s t) =
       (words_besides own (words_used ms s) ++ outer_inside ms own s) ++ (words_besides own (words_used ms t) ++ outer_inside ms own t)
   outer_inside ms own (For at i lo b s) = let there = put_texts own (loop_words i b) in words_besides there (words_used ms s) ++ outer_inside ms there s
   outer_inside ms own (Async at cs s) = words_besides own (words_used ms s) ++ outer_inside ms own s
-  outer_inside ms own (Finish s) = words_besides own (words_used ms s) ++ outer_inside ms own s
+  outer_inside ms own (Finish at s) = words_besides own (words_used ms s) ++ outer_inside ms own s
   outer_inside ms own _ = []
 
   pub outer_among : Signatures → List (List ℕ) → Statements → List Word

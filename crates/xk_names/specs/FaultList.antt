@@ -96,13 +96,13 @@ own ms sc t =
 
 abbrev mutual
   pub inside : Signatures → Scope → Statement → List FrontFault
-  inside ms sc (Block ss) = among ms sc ss
+  inside ms sc (Block close ss) = among ms sc ss
   inside ms sc (If at l c r s) = own ms sc s ++ inside ms sc s
   inside ms sc (IfElse at l c r s t) = (own ms sc s ++ inside ms sc s) ++ (own ms sc t ++ inside ms sc t)
   inside ms sc (For at i lo hi s) =
       let there = with_declared sc (declares (length sc.bodies) (For at i lo hi s)) in own ms there s ++ inside ms there s
   inside ms sc (Async at cs s) = let there = body_of sc (clocks_listed cs) in own ms there s ++ inside ms there s
-  inside ms sc (Finish s) = own ms sc s ++ inside ms sc s
+  inside ms sc (Finish at s) = own ms sc s ++ inside ms sc s
   inside ms sc _ = []
 
   pub among : Signatures → Scope → Statements → List FrontFault

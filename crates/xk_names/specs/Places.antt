@@ -16,13 +16,13 @@ abbrev mutual
   -- statement t stands at the end of the way
   pub Stands : Statement → Way → Statement → Type 0
   Stands s Here t = s ≡ t
-  Stands (Block ss) (Inside w) t = StandsAmong ss w t
+  Stands (Block close ss) (Inside w) t = StandsAmong ss w t
   Stands (If at l c r s) (Inside w) t = Stands s w t
   Stands (IfElse at l c r s u) (Inside w) t = Stands s w t
   Stands (IfElse at l c r s u) (Else w) t = Stands u w t
   Stands (For at i lo hi s) (Inside w) t = Stands s w t
   Stands (Async at cs s) (Inside w) t = Stands s w t
-  Stands (Finish s) (Inside w) t = Stands s w t
+  Stands (Finish at s) (Inside w) t = Stands s w t
   Stands _ _ t = ⊥
 
   pub StandsAmong : Statements → Way → Statement → Type 0
@@ -39,13 +39,13 @@ behind n _ = []
 -- it in its list of statements, and that of a loop's name is the loop's body.
 abbrev mutual
   pub declared_at : ℕ → Statement → Way → List Declaration
-  declared_at n (Block ss) (Inside w) = declared_among n ss w
+  declared_at n (Block close ss) (Inside w) = declared_among n ss w
   declared_at n (If at l c r s) (Inside w) = declared_at n s w
   declared_at n (IfElse at l c r s u) (Inside w) = declared_at n s w
   declared_at n (IfElse at l c r s u) (Else w) = declared_at n u w
   declared_at n (For at i lo hi s) (Inside w) = declares n (For at i lo hi s) ++ declared_at n s w
   declared_at n (Async at cs s) (Inside w) = declared_at (suc n) s w
-  declared_at n (Finish s) (Inside w) = declared_at n s w
+  declared_at n (Finish at s) (Inside w) = declared_at n s w
   declared_at n _ _ = []
 
   pub declared_among : ℕ → Statements → Way → List Declaration
@@ -59,13 +59,13 @@ Bodies = List (List (List ℕ))
 -- the bodies of `async` that hold the place, the innermost first, where these hold the whole
 abbrev mutual
   pub bodies_at : Bodies → Statement → Way → Bodies
-  bodies_at bs (Block ss) (Inside w) = bodies_among bs ss w
+  bodies_at bs (Block close ss) (Inside w) = bodies_among bs ss w
   bodies_at bs (If at l c r s) (Inside w) = bodies_at bs s w
   bodies_at bs (IfElse at l c r s u) (Inside w) = bodies_at bs s w
   bodies_at bs (IfElse at l c r s u) (Else w) = bodies_at bs u w
   bodies_at bs (For at i lo hi s) (Inside w) = bodies_at bs s w
   bodies_at bs (Async at cs s) (Inside w) = bodies_at (texts (clocks_listed cs) ∷ bs) s w
-  bodies_at bs (Finish s) (Inside w) = bodies_at bs s w
+  bodies_at bs (Finish at s) (Inside w) = bodies_at bs s w
   bodies_at bs _ _ = bs
 
   pub bodies_among : Bodies → Statements → Way → Bodies

@@ -40,13 +40,13 @@ with_body sc cs = record { names = sc.names; bodies = texts cs ∷ sc.bodies }
 abbrev mutual
   -- so is what the statements do that it holds
   pub IsSoundInside : Signatures → Scope → Statement → Type 0
-  IsSoundInside ms sc (Block ss) = AreSound ms sc ss
+  IsSoundInside ms sc (Block close ss) = AreSound ms sc ss
   IsSoundInside ms sc (If at l c r s) = IsSound ms sc s × IsSoundInside ms sc s
   IsSoundInside ms sc (IfElse at l c r s t) = (IsSound ms sc s × IsSoundInside ms sc s) × (IsSound ms sc t × IsSoundInside ms sc t)
   IsSoundInside ms sc (For at i lo hi s) =
       let there = with_all sc (declares (length sc.bodies) (For at i lo hi s)) in IsSound ms there s × IsSoundInside ms there s
   IsSoundInside ms sc (Async at cs s) = let there = with_body sc (clocks_listed cs) in IsSound ms there s × IsSoundInside ms there s
-  IsSoundInside ms sc (Finish s) = IsSound ms sc s × IsSoundInside ms sc s
+  IsSoundInside ms sc (Finish at s) = IsSound ms sc s × IsSoundInside ms sc s
   IsSoundInside ms sc _ = Unit {0}
 
   -- so are statements one after another

@@ -172,11 +172,11 @@ fn take_own<'t>(
         Stmt::IfElse(_, l, _, r, _, _) => take_both(own, out, l, r),
         Stmt::Call(g, _, values) => take_call(alloc, own, out, methods, *g, values.as_slice()),
         Stmt::Print(_, _, e) => take_numbers(own, out, e),
-        Stmt::Block(_) => Ok(()),
+        Stmt::Block(..) => Ok(()),
         Stmt::Empty => Ok(()),
         Stmt::For(_, _, _, limit, _) => take_bound(own, out, limit),
         Stmt::Async(_, _, _) => Ok(()),
-        Stmt::Finish(_) => Ok(()),
+        Stmt::Finish(..) => Ok(()),
         Stmt::Resume(_, _) => Ok(()),
         Stmt::Drop(_, _) => Ok(()),
         Stmt::AdvanceAll(_, _) => Ok(()),
@@ -202,7 +202,7 @@ fn take_all<'t>(
             let _is_new = own.put(x.text)?;
             Ok(())
         }
-        Stmt::Block(ss) => take_block(alloc, own, out, methods, ss.as_slice()),
+        Stmt::Block(_, ss) => take_block(alloc, own, out, methods, ss.as_slice()),
         Stmt::If(_, _, _, _, s) => take_held(alloc, own, out, methods, s),
         Stmt::IfElse(_, _, _, _, s, t) => {
             take_held(alloc, own, out, methods, s)?;
@@ -210,7 +210,7 @@ fn take_all<'t>(
         }
         Stmt::For(_, x, _, limit, s) => take_loop(alloc, own, out, methods, *x, limit, s),
         Stmt::Async(_, _, body) => take_held(alloc, own, out, methods, body),
-        Stmt::Finish(s) => take_held(alloc, own, out, methods, s),
+        Stmt::Finish(_, s) => take_held(alloc, own, out, methods, s),
         Stmt::Empty => Ok(()),
         Stmt::Assign(_, _) => Ok(()),
         Stmt::Atomic(_, _, _, _) => Ok(()),

@@ -236,9 +236,9 @@ pub fn check_own<'t>(
             check_numbers(worst, scope, e);
             Ok(())
         }
-        Stmt::Block(_) => Ok(()),
+        Stmt::Block(..) => Ok(()),
         Stmt::Empty => Ok(()),
-        Stmt::Finish(_) => Ok(()),
+        Stmt::Finish(..) => Ok(()),
         Stmt::AdvanceAll(_, _) => Ok(()),
     }
 }

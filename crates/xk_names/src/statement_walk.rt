@@ -67,7 +67,7 @@ fn check<'t>(
     check_own(alloc, worst, scope, methods, s)?;
     match s {
         Stmt::Declare(b, x, _, r) => scope.declare(*x, kind_of(*b, r)),
-        Stmt::Block(ss) => check_block(alloc, worst, scope, methods, ss.as_slice()),
+        Stmt::Block(_, ss) => check_block(alloc, worst, scope, methods, ss.as_slice()),
         Stmt::If(_, _, _, _, s) => check_held(alloc, worst, scope, methods, s),
         Stmt::IfElse(_, _, _, _, s, t) => {
             check_held(alloc, worst, scope, methods, s)?;
@@ -78,7 +78,7 @@ fn check<'t>(
             let clocks = given(alloc, clocks)?;
             check_body(alloc, worst, scope, methods, clocks, s)
         }
-        Stmt::Finish(s) => check_held(alloc, worst, scope, methods, s),
+        Stmt::Finish(_, s) => check_held(alloc, worst, scope, methods, s),
         Stmt::Empty => Ok(()),
         Stmt::Assign(_, _) => Ok(()),
         Stmt::Atomic(_, _, _, _) => Ok(()),

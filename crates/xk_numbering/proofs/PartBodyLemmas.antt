@@ -60,7 +60,7 @@ held_right gs hs xs ys (Starts at) h = has_right xs ys at h
 
 mutual
   run_held : (s : Statement) (r : Run) → Has (runs s) r → Held (callees s) (asyncs s) r
-  run_held (Block ss) r h = run_held_all ss r h
+  run_held (Block close ss) r h = run_held_all ss r h
   run_held (If p l c q s) r h = run_held s r h
   run_held (IfElse p l c q s u) r h = elim (has_either (runs s) (runs u) r h) [
     | inl x ↦ held_left (callees s) (callees u) (asyncs s) (asyncs u) r (run_held s r x)
@@ -69,7 +69,7 @@ mutual
   run_held (For p i lo b s) r h = run_held s r (of_some (int_le lo.value (top b)) (runs s) r h)
   run_held (Async a cs s) r (inl e) = subst (λ (q : Run). Held (callees s) (a ∷ asyncs s) q) (sym e) (inl refl)
   run_held (Async a cs s) r (inr h) = absurd h
-  run_held (Finish s) r h = run_held s r h
+  run_held (Finish at s) r h = run_held s r h
   run_held (Call g p es) r (inl e) = subst (λ (q : Run). Held (g ∷ []) [] q) (sym e) (inl refl)
   run_held (Call g p es) r (inr h) = absurd h
   run_held _ r h = absurd h
@@ -100,7 +100,7 @@ inside_right gs hs xs ys (OfBody at cs s) h =
 
 mutual
   inside : (s : Statement) (p : Part) → Has (bodies s) p → IsInside (callees s) (asyncs s) p
-  inside (Block ss) p h = inside_all ss p h
+  inside (Block close ss) p h = inside_all ss p h
   inside (If a l c r s) p h = inside s p h
   inside (IfElse a l c r s u) p h = elim (has_either (bodies s) (bodies u) p h) [
     | inl x ↦ inside_left (callees s) (callees u) (asyncs s) (asyncs u) p (inside s p x)
@@ -110,7 +110,7 @@ mutual
   inside (Async a cs s) p (inl e) = subst (IsInside (callees s) (a ∷ asyncs s)) (sym e)
       (inl refl, λ r x. held_right [] (callees s) (a ∷ []) (asyncs s) r x, λ rising. rising.0)
   inside (Async a cs s) p (inr h) = inside_right [] (callees s) (a ∷ []) (asyncs s) p (inside s p h)
-  inside (Finish s) p h = inside s p h
+  inside (Finish at s) p h = inside s p h
   inside _ p h = absurd h
 
   inside_all : (ss : Statements) (p : Part) → Has (bodies_all ss) p → IsInside (callees_all ss) (asyncs_in ss) p

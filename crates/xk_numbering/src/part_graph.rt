@@ -119,7 +119,7 @@ impl<'t> Places<'t> {
             ≡ found.old.items ++ map (place_in self.now) (runs (statement s.now))) }
     {
         match s {
-            Stmt::Block(ss) => self.add_all_runs(found, ss),
+            Stmt::Block(_, ss) => self.add_all_runs(found, ss),
             Stmt::If(_, _, _, _, s) => self.add_runs(found, s),
             Stmt::IfElse(_, _, _, _, s, u) => {
                 self.add_runs(found, s)?;
@@ -133,7 +133,7 @@ impl<'t> Places<'t> {
                 }
             }
             Stmt::Async(at, _, _) => add_place(found, self.started(*at)),
-            Stmt::Finish(s) => self.add_runs(found, s),
+            Stmt::Finish(_, s) => self.add_runs(found, s),
             Stmt::Call(g, _, _) => add_place(found, self.called(*g)),
             Stmt::Empty
             | Stmt::Declare(..)

@@ -68,10 +68,10 @@ fn add_bodies<'a, 't>(found: &mut Vec<Part<'a, 't>>, s: &'a Stmt<'t>) -> Result<
         ≡ map part found.old.items ++ bodies (statement s.now)) }
 {
     match s {
-        Stmt::Block(ss) => add_bodies_all(found, ss),
+        Stmt::Block(_, ss) => add_bodies_all(found, ss),
         Stmt::If(_, _, _, _, s) => add_bodies(found, s),
         Stmt::For(_, _, _, _, s) => add_bodies(found, s),
-        Stmt::Finish(s) => add_bodies(found, s),
+        Stmt::Finish(_, s) => add_bodies(found, s),
         Stmt::IfElse(_, _, _, _, s, u) => {
             add_bodies(found, s)?;
             add_bodies(found, u)

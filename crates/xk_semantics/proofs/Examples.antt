@@ -69,10 +69,10 @@ row_of [] = Done
 row_of (s ∷ ss) = More s (row_of ss)
 
 abbrev pub block : List Statement → Statement
-block ss = Block (row_of ss)
+block ss = Block 0 (row_of ss)
 
 abbrev method : List ℕ → List ParamValue → List Statement → MethodValue
-method f ps ss = record { name = w f; paren = 0; params = ps; body = row_of ss }
+method f ps ss = record { name = w f; paren = 0; params = ps; body = row_of ss; close = 0 }
 
 abbrev shared : List ℕ → ℕ → SharedValue
 shared s n = record { name = w s; start = number (pos n) }
@@ -261,7 +261,7 @@ drop_hidden = Drop hidden verb
 
 -- `clocked finish BODY`
 abbrev clocked_finish : List Statement → Statement
-clocked_finish ss = Finish (block (make_hidden ∷ block ss ∷ drop_hidden ∷ []))
+clocked_finish ss = Finish 0 (block (make_hidden ∷ block ss ∷ drop_hidden ∷ []))
 
 abbrev second_goes : Statement
 second_goes = clocked_async (advance ∷ print (lit 2) ∷ [])
@@ -358,7 +358,7 @@ hiding_waits = refl
 -- `finish { async s = 5; } val x = s; atomic s = s + x; println(x);`, behind `shared r = 7; shared s = 0;`
 abbrev sharing : TreeValue
 sharing = program (shared (codes "r") 7 ∷ shared (codes "s") 0 ∷ []) (main (
-    Finish (block (Async 0 None (Assign (w (codes "s")) (lit 5)) ∷ []))
+    Finish 0 (block (Async 0 None (Assign (w (codes "s")) (lit 5)) ∷ []))
     ∷ val_is (codes "x") (var (codes "s"))
     ∷ Atomic (w (codes "s")) (w (codes "s")) 0 (var (codes "x"))
     ∷ print (var (codes "x"))

@@ -12,12 +12,12 @@ pub data Part : Type 0 where
 -- the bodies of `async` in a statement, in the order of the text
 abbrev mutual
   pub bodies : Statement → List Part
-  bodies (Block ss) = bodies_all ss
+  bodies (Block close ss) = bodies_all ss
   bodies (If at l c r s) = bodies s
   bodies (IfElse at l c r s u) = bodies s ++ bodies u
   bodies (For at i lo b s) = bodies s
   bodies (Async at cs s) = OfBody at cs s ∷ bodies s
-  bodies (Finish s) = bodies s
+  bodies (Finish at s) = bodies s
   bodies _ = []
 
   pub bodies_all : Statements → List Part
@@ -42,12 +42,12 @@ pub data Run : Type 0 where
 -- what a statement's code runs: nothing for a loop without a turn, and nothing of what the bodies in it run
 abbrev mutual
   pub runs : Statement → List Run
-  runs (Block ss) = runs_all ss
+  runs (Block close ss) = runs_all ss
   runs (If at l c r s) = runs s
   runs (IfElse at l c r s u) = runs s ++ runs u
   runs (For at i lo b s) = if int_le lo.value (top b) then runs s else []
   runs (Async at cs s) = Starts at ∷ []
-  runs (Finish s) = runs s
+  runs (Finish at s) = runs s
   runs (Call g at es) = Calls g ∷ []
   runs _ = []
 

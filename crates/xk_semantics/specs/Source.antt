@@ -98,7 +98,7 @@ taken names (Binary o l at r) go = taken names l (λ p. taken names r (λ q. go 
 -- the statements that a statement unfolds into: those of a block; none for `;`, nor for a loop that takes no turn
 abbrev mutual
   pub unfolded : Statement → List Todo
-  unfolded (Block ss) = unfolded_all ss
+  unfolded (Block close ss) = unfolded_all ss
   unfolded Empty = []
   unfolded (For at i lo b s) = if int_le lo.value (top b) then Do (For at i lo b s) ∷ [] else []
   unfolded s = Do s ∷ []
@@ -219,7 +219,7 @@ performed t w a act rest (IfElse at l op r s u) =
     done w a (left_with act (if compares op p q then unfolded s ++ rest else unfolded u ++ rest)) none event.Local))
 performed t w a act rest (For at i lo b s) = looped w a act rest i lo.value b s
 performed t w a act rest (Async at cs s) = handed w a act.frame.names (clocks_listed cs) (starting w a act rest s)
-performed t w a act rest (Finish s) =
+performed t w a act rest (Finish at s) =
     done w a (record (left_with act (unfolded s ++ Close ∷ rest)) { opened = act.opened + 1 }) none event.Opened
 performed t w a act rest (Call f at es) = invoking w a act rest es (method_of t f.text)
 performed t w a act rest (Resume c v) =

@@ -87,7 +87,7 @@ module _ (t : TreeValue) (scoped : IsScoped t) (units : List Part) (cx : Setting
 
   mutual
     linked : (k : ℕ) (s : Statement) → AreParts t (bodies s) → ((r : Run) → Has (runs s) r → HasLater t units k r) → IsLinked whole s
-    linked k (Block ss) among later = all_linked k ss among later
+    linked k (Block close ss) among later = all_linked k ss among later
     linked k (If at l op r s) among later = linked k s among later
     linked k (IfElse at l op r s u) among later = (
       linked k s (λ p i. among p (has_left (bodies s) (bodies u) p i)) (λ r i. later r (has_left (runs s) (runs u) r i)),
@@ -103,7 +103,7 @@ module _ (t : TreeValue) (scoped : IsScoped t) (units : List Part) (cx : Setting
           body_there t units cx h scoped l.number at cs s u.stands,
           linked l.number s (λ p i. among p (inr i)) (λ r j. h.are_units.closed l.number (OfBody at cs s) r u.stands j),
         )
-    linked k (Finish s) among later = linked k s among later
+    linked k (Finish at s) among later = linked k s among later
     linked k (Call f at es) among later =
         let l = later (Calls f) (inl refl) in
         let g = fits_there units (Calls f) l.number l.place in

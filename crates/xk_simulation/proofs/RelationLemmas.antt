@@ -127,13 +127,13 @@ pub record Whole : Type 0 where
 abbrev mutual
   -- what a statement's code calls and starts has its unit, and so has what the bodies in it call and start
   pub IsLinked : Whole → Statement → Type 0
-  IsLinked w (Block ss) = AreLinked w ss
+  IsLinked w (Block close ss) = AreLinked w ss
   IsLinked w (If at l op r s) = IsLinked w s
   IsLinked w (IfElse at l op r s u) = IsLinked w s × IsLinked w u
   IsLinked w (For at i lo b s) = int_le lo.value (top b) ≡ true → IsLinked w s
   IsLinked w (Async at cs s) =
       (slice_get w.m.units (body_unit w.setting at) ≡ Some (unit_of_body w.setting at cs s)) × IsUnitCovered w.setting (body_params w.setting at cs) s × IsLinked w s
-  IsLinked w (Finish s) = IsLinked w s
+  IsLinked w (Finish at s) = IsLinked w s
   IsLinked w (Call f at es) = (d : MethodValue) × (method_of w.tree f.text ≡ Some d) × (slice_get w.units (number_of w.setting.methods f) ≡ Some (OfMethod d))
   IsLinked w _ = ⊤
 
@@ -197,7 +197,7 @@ pub record StandsTurn (w : Whole) (t : ℕ) (code : List Instr) (scope : Scope) 
 
 -- a statement that is done in one step, and not one that unfolds
 abbrev pub IsSimple : Statement → Type 0
-IsSimple (Block ss) = ⊥
+IsSimple (Block close ss) = ⊥
 IsSimple Empty = ⊥
 IsSimple (For at i lo b s) = int_le lo.value (top b) ≡ true
 IsSimple _ = ⊤
@@ -239,7 +239,7 @@ mutual
       → Stands w t code scope n p s
       → Rest w t code (declared scope n s) (p + length (code_of w.setting t scope n p s)) rest → Rest w t code scope p (unfolded s ++ rest)
   rest_unfolded w t code scope n p Empty rest st r = let e : p + 0 ≡ p = omega arith in subst (λ q. Rest w t code scope q rest) e r
-  rest_unfolded w t code scope n p (Block ss) rest st r =
+  rest_unfolded w t code scope n p (Block close ss) rest st r =
       rest_all w t code scope n p ss rest (record { holds = st.holds; covered = st.covered; linked = st.linked; proper = st.proper; room = st.room })
       (rest_wider w t code scope (declared_by_all scope n ss) (p + length (code_of_all w.setting t scope n p ss)) rest (all_grow scope n ss) r)
   rest_unfolded w t code scope n p (For at i lo b s) rest st r = by (int_le lo.value (top b)) refl

@@ -54,7 +54,7 @@ module _ (cx dx : Setting) (h : IsAlike cx dx) where
 
   mutual
     same_code : (t : ℕ) (scope : Scope) (n p : ℕ) (s : Statement) → code_of cx t scope n p s ≡ code_of dx t scope n p s
-    same_code t scope n p (Block ss) = same_code_all t scope n p ss
+    same_code t scope n p (Block close ss) = same_code_all t scope n p ss
     same_code t scope n p Empty = refl
     same_code t scope n p (Declare b x ty r) = same_source t scope n r
     same_code t scope n p (Assign x e) =
@@ -83,7 +83,7 @@ module _ (cx dx : Setting) (h : IsAlike cx dx) where
         (same_code t (within_loop scope n i b) (n + loop_slots b) (q + 1) s)
     same_code t scope n p (Async at cs s) =
         ap (λ (o : Option Body). instr.Spawn (unit_in o) (slots_of scope (texts (clocks_listed cs) ++ taken_in o)) ∷ []) (h.bodies at)
-    same_code t scope n p (Finish s) =
+    same_code t scope n p (Finish at s) =
         ap (λ (body : List Instr). instr.Finish (p + 1 + length body) ∷ (body ++ instr.EndFinish p ∷ [])) (same_code t scope n (p + 1) s)
     same_code t scope n p (Call f at es) =
         ap (λ (o : Option ℕ). eval_all scope t es ++ instr.Call (unwrap_or o 0) (argument_slots scope t es) ∷ []) (h.methods f.text)
@@ -110,7 +110,7 @@ module _ (cx dx : Setting) (h : IsAlike cx dx) where
       (same_unit_code xs s)
 
   pub same_part : (p : Part) → unit_of_part cx p ≡ unit_of_part dx p
-  same_part (OfMethod m) = same_unit (method_kind m) (names_of_params m.params) (kinds_of_params m.params) (Block m.body)
+  same_part (OfMethod m) = same_unit (method_kind m) (names_of_params m.params) (kinds_of_params m.params) (Block m.close m.body)
   same_part (OfBody at cs s) =
       ap (λ (o : Option Body). unit_of cx unit_kind.Body (texts (clocks_listed cs) ++ taken_in o)
       (map (λ _. param.Clock) (texts (clocks_listed cs)) ++ map (λ _. param.Number) (taken_in o)) s) (h.bodies at)

@@ -38,7 +38,7 @@ made_means cx c list w h =
     vals = map value.Number w.arguments
 
     code : List Instr
-    code = unit_code cx.setting xs (Block c.main.body)
+    code = unit_code cx.setting xs (Block c.main.close c.main.body)
 
     -- as many as there are parameters
     long : length vals ≡ length c.main.params
@@ -48,11 +48,11 @@ made_means cx c list w h =
 
     begins : Between cx code 0 (vals ++ replicate (slots_of cx.m 0 - length vals) value.Unset) (unfolded_all c.main.body) (named c.main.params vals)
     begins = record {
-      t = first_temporary xs (Block c.main.body);
+      t = first_temporary xs (Block c.main.close c.main.body);
       scope = scope_from 0 xs;
       matched = matched_known xs vals (replicate (slots_of cx.m 0 - length vals) value.Unset) (named c.main.params vals)
           (known_named [] 0 c.main.params vals long c.first.covered.params);
-      rest = unit_rest cx xs (Block c.main.body) c.first.covered c.first.linked;
+      rest = unit_rest cx xs (Block c.main.close c.main.body) c.first.covered c.first.linked;
     }
 
     start : AreRelated (IsAs cx) (opening cx.m w.arguments) (source_opening cx.tree w.arguments)

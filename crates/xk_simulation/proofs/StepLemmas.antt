@@ -844,9 +844,9 @@ module _ (cx : Whole) (built : AreBuilt cx) (w : World) (v : SourceWorld) (a : �
         after = after;
       }) (source_runs (Do s' ∷ rest) e)
 
-  decide_finish : (s : Statement) (rest : List Todo) → call.frame.todo ≡ Do (Finish s) ∷ rest → Ready (Finish s) rest
+  decide_finish : (at : ℕ) (s : Statement) (rest : List Todo) → call.frame.todo ≡ Do (Finish at s) ∷ rest → Ready (Finish at s) rest
       → Good (run_at cx.m w a act (instruction_at cx.m act.frame))
-  decide_finish s rest e r =
+  decide_finish at s rest e r =
       let body = code_of cx.setting r.t r.scope r.n (r.first + 1) s in
       let q = r.first + 1 + length body in
       let i = instr.Finish q in
@@ -863,13 +863,13 @@ module _ (cx : Whole) (built : AreBuilt cx) (w : World) (v : SourceWorld) (a : �
         proper = r.stands.proper;
         room = omega arith;
       } in
-      at_place i (ready_at (Finish s) rest r i tail refl)
-      (both_move cx.tree (IsAs cx) w v a rel (entered act) _ none event.Opened (source_runs (Do (Finish s) ∷ rest) e)
+      at_place i (ready_at (Finish at s) rest r i tail refl)
+      (both_move cx.tree (IsAs cx) w v a rel (entered act) _ none event.Opened (source_runs (Do (Finish at s) ∷ rest) e)
       (goes_open (act.frame.place + 1) act.frame.slots (unfolded s ++ Close ∷ rest) call.frame.names (act.opened + 1) (call.opened + 1) (ap (λ n. n + 1) like.opened)
       (inl (record {
         t = r.t;
         scope = r.scope;
-        matched = ready_matched (Finish s) rest r (nothing_ran r.start r.ran r.t);
+        matched = ready_matched (Finish at s) rest r (nothing_ran r.start r.ran r.t);
         rest = subst (λ p. Rest cx r.t like.unit.code r.scope (p + 1) (unfolded s ++ Close ∷ rest)) here_at
             (rest_scope cx r.t like.unit.code r.scope r.n (r.first + 1) q s (Close ∷ rest) stands refl
             (rest_here cx r.t like.unit.code r.scope q (Close ∷ rest) (r.first, end.0, last)));
@@ -945,13 +945,13 @@ module _ (cx : Whole) (built : AreBuilt cx) (w : World) (v : SourceWorld) (a : �
         governed = like.governed;
         unit = unit_of_method cx.setting unit.kind d;
         found = unit.found;
-        stage = stage_of (unit_code cx.setting xs (Block d.body)) act.status (frame_with cx.m u vals) (record { todo = unfolded_all d.body; names = named d.params vals }) running
+        stage = stage_of (unit_code cx.setting xs (Block d.close d.body)) act.status (frame_with cx.m u vals) (record { todo = unfolded_all d.body; names = named d.params vals }) running
             (inl (record {
-              t = first_temporary xs (Block d.body);
+              t = first_temporary xs (Block d.close d.body);
               scope = scope_from 0 xs;
               matched = matched_known xs vals (replicate (slots_of cx.m u - length vals) value.Unset) (named d.params vals)
                   (known_named [] 0 d.params vals (args_length d.params args vals are) unit.covered.params);
-              rest = unit_rest cx xs (Block d.body) unit.covered unit.linked;
+              rest = unit_rest cx xs (Block d.close d.body) unit.covered unit.linked;
             }));
         callers = (record { unit = like.unit; found = like.found; between = back }, like.callers);
       }))))
@@ -994,7 +994,7 @@ module _ (cx : Whole) (built : AreBuilt cx) (w : World) (v : SourceWorld) (a : �
 
   decide : (s : Statement) (rest : List Todo) → call.frame.todo ≡ Do s ∷ rest → Ready s rest
       → Good (run_at cx.m w a act (instruction_at cx.m act.frame))
-  decide (Block ss) rest e r = absurd r.simple
+  decide (Block close ss) rest e r = absurd r.simple
   decide Empty rest e r = absurd r.simple
   decide (Declare b x ty (Make at vb)) rest e r = decide_make b x ty at vb rest e r
   decide (Declare b x ty (Value ex)) rest e r = decide_value b x ty ex rest e r
@@ -1003,7 +1003,7 @@ module _ (cx : Whole) (built : AreBuilt cx) (w : World) (v : SourceWorld) (a : �
   decide (If at l op r' s) rest e r = decide_if at l op r' s rest e r
   decide (IfElse at l op r' s u) rest e r = decide_if_else at l op r' s u rest e r
   decide (For at i lo b s) rest e r = decide_for at i lo b s rest e r
-  decide (Finish s) rest e r = decide_finish s rest e r
+  decide (Finish at s) rest e r = decide_finish at s rest e r
   decide (Resume c vb) rest e r = decide_resume c vb rest e r
   decide (Drop c vb) rest e r = decide_drop c vb rest e r
   decide (AdvanceAll at vb) rest e r = decide_advance at vb rest e r

@@ -24,7 +24,7 @@ use Rattle.xk_simulation.proofs.RelationLemmas.{holds_front, holds_back, holds_a
 pub record IsBuilt (cx : Whole) (k : ℕ) (d : MethodValue) : Type 0 where
   pub kind : UnitKind
   pub found : slice_get cx.m.units k ≡ Some (unit_of_method cx.setting kind d)
-  pub covered : IsUnitCovered cx.setting (names_of_params d.params) (Block d.body)
+  pub covered : IsUnitCovered cx.setting (names_of_params d.params) (Block d.close d.body)
   pub linked : AreLinked cx d.body
 
 -- the shared numbers have their places, and each method that has a unit has it

@@ -20,7 +20,7 @@ use Rattle.xk_tree.specs.declared.tree.Written.TheVariants as written
 use Rattle.xk_tree.specs.declared.tree.Number as tree
 use Rattle.xk_tree.specs.Tree.{Word, Clocks, Expression, Literal, Named, Paren, Negation, Binary, Make, Value, UpTo, Least, Statement, Statements, Done, More, Block, Empty, Declare, Assign, Atomic, If, IfElse, For, Async, Finish, Call, Resume, Drop, AdvanceAll, Print, MethodValue, TreeValue}
 use Rattle.xk_tree.specs.AsyncOffsets.{asyncs, asyncs_in, asyncs_of_methods, HasBodiesApart}
-use Rattle.xk_exprs.specs.Marks.{Mark, Name, Number, Operator, Open, Symbol, Reserved, AsyncAt, ClockedAt, ClockAt, LongAt, Unfit, keyword_mark, sign_mark}
+use Rattle.xk_exprs.specs.Marks.{Mark, Name, Number, Operator, Open, CloseAt, Symbol, Reserved, AsyncAt, FinishAt, ClockedAt, ClockAt, LongAt, Unfit, keyword_mark, sign_mark}
 use Rattle.xk_exprs.specs.Spelling.{spell, minus_marks, number_marks}
 use Rattle.xk_syntax.specs.Spelling.{word, number, expr, comparison_sign, type_mark, type_name, type_part, source, bound, row, behind_comma, commas, clocked_start, start, stmt, stmts, param, method, shared, program, lexeme_mark, token_mark, SpellsTree}
 
@@ -42,9 +42,11 @@ behind (Name at text ∷ xs) ys h = behind xs ys h
 behind (Number at n ∷ xs) ys h = behind xs ys h
 behind (Operator at o ∷ xs) ys h = behind xs ys h
 behind (Open at ∷ xs) ys h = behind xs ys h
+behind (CloseAt at ∷ xs) ys h = behind xs ys h
 behind (Symbol s ∷ xs) ys h = behind xs ys h
 behind (Reserved w ∷ xs) ys h = behind xs ys h
 behind (AsyncAt at ∷ xs) ys h = absurd cc
+behind (FinishAt at ∷ xs) ys h = behind xs ys h
 behind (ClockedAt at ∷ xs) ys h = behind xs ys h
 behind (ClockAt at ∷ xs) ys h = behind xs ys h
 behind (LongAt at ∷ xs) ys h = behind xs ys h
@@ -112,7 +114,7 @@ start_marked at (Some cs) after = clocks_marked at cs.written cs.names after
 
 mutual
   stmt_marked : (s : Statement) (after : List Mark) → marked (stmt s after) ≡ asyncs s ++ marked after
-  stmt_marked (Block ss) after = stmts_marked ss (Symbol sign.RightBrace ∷ after)
+  stmt_marked (Block close ss) after = stmts_marked ss (CloseAt close ∷ after)
   stmt_marked Empty after = refl
   stmt_marked (Declare b w ty r) after = type_part_none ty (Symbol sign.Assign ∷ source r (Symbol sign.Semicolon ∷ after)) ∙ source_none r (Symbol sign.Semicolon ∷ after)
   stmt_marked (Assign w e) after = expr_none e (Symbol sign.Semicolon ∷ after)
@@ -129,9 +131,9 @@ mutual
       let body = Symbol sign.RightParen ∷ stmt s after in
       number_none lo (Symbol sign.DotDot ∷ bound b body) ∙ bound_none b body ∙ stmt_marked s after
   stmt_marked (Async at cs s) after = start_marked at cs (stmt s after) ∙ ap (λ (l : List ℕ). at ∷ l) (stmt_marked s after)
-  stmt_marked (Finish (Block (More (Declare binding.Hidden h ty r) (More s (More (Drop g v) Done))))) after =
+  stmt_marked (Finish at (Block close (More (Declare binding.Hidden h ty r) (More s (More (Drop g v) Done))))) after =
       stmt_marked s after ∙ ap (λ (l : List ℕ). l ++ marked after) (sym (append-nil (asyncs s)))
-  stmt_marked (Finish s) after = stmt_marked s after
+  stmt_marked (Finish at s) after = stmt_marked s after
   stmt_marked (Call w at es) after = commas_none expr expr_none es (Symbol sign.RightParen ∷ Symbol sign.Semicolon ∷ after)
   stmt_marked (Resume w v) after = refl
   stmt_marked (Drop w v) after = refl
@@ -148,8 +150,8 @@ param_none p after = type_none p.takes after
 
 method_marked : (m : MethodValue) (after : List Mark) → marked (method m after) ≡ asyncs_in m.body ++ marked after
 method_marked m after =
-    let body = stmts m.body (Symbol sign.RightBrace ∷ after) in
-    commas_none param param_none m.params (Symbol sign.RightParen ∷ Symbol sign.LeftBrace ∷ body) ∙ stmts_marked m.body (Symbol sign.RightBrace ∷ after)
+    let body = stmts m.body (CloseAt m.close ∷ after) in
+    commas_none param param_none m.params (Symbol sign.RightParen ∷ Symbol sign.LeftBrace ∷ body) ∙ stmts_marked m.body (CloseAt m.close ∷ after)
 
 methods_marked : (ms : List MethodValue) → marked (row method ms []) ≡ asyncs_of_methods ms
 methods_marked [] = refl

@@ -10,7 +10,7 @@ use Rattle.xk_tree.specs.declared.tree.Binding.TheVariants as binding
 use Rattle.xk_tree.specs.declared.tree.TypeName.{TypeName}
 use Rattle.xk_tree.specs.declared.tree.Verb.{Verb}
 use Rattle.xk_tree.specs.Tree.{Word, Expression, Literal, Named, Paren, Negation, Binary, Source, Make, Value, Statement, Empty, Declare, Assign, Atomic, Call, Resume, Drop, AdvanceAll, Print}
-use Rattle.xk_exprs.specs.Marks.{Mark, Name, Number, Operator, Open, Symbol, Reserved, AsyncAt, ClockedAt, ClockAt, LongAt, Unfit}
+use Rattle.xk_exprs.specs.Marks.{Mark, Name, Number, Operator, Open, CloseAt, Symbol, Reserved, AsyncAt, FinishAt, ClockedAt, ClockAt, LongAt, Unfit}
 use Rattle.xk_exprs.specs.Spelling.{spell, minus_marks}
 use Rattle.xk_exprs.specs.ExprReaders.{whole_at}
 use Rattle.xk_exprs.proofs.CompletenessLemmas.{expression_again, term_again}
@@ -37,6 +37,8 @@ begins-append (Open at ∷ xs) ys b = tt
 begins-append (Symbol s ∷ xs) ys b = absurd b
 begins-append (Reserved k ∷ xs) ys b = absurd b
 begins-append (AsyncAt at ∷ xs) ys b = absurd b
+begins-append (FinishAt at ∷ xs) ys b = absurd b
+begins-append (CloseAt at ∷ xs) ys b = absurd b
 begins-append (ClockedAt at ∷ xs) ys b = absurd b
 begins-append (ClockAt at ∷ xs) ys b = absurd b
 begins-append (LongAt at ∷ xs) ys b = absurd b
@@ -71,6 +73,8 @@ no_close (Open at ∷ ts) b = refl
 no_close (Symbol s ∷ ts) b = absurd b
 no_close (Reserved k ∷ ts) b = absurd b
 no_close (AsyncAt at ∷ ts) b = absurd b
+no_close (FinishAt at ∷ ts) b = absurd b
+no_close (CloseAt at ∷ ts) b = absurd b
 no_close (ClockedAt at ∷ ts) b = absurd b
 no_close (ClockAt at ∷ ts) b = absurd b
 no_close (LongAt at ∷ ts) b = absurd b

@@ -4,7 +4,7 @@ use Rattle.std.specs.List.{AllByRecursion}
 use Rattle.xk_lexer.specs.declared.token.Sign.TheVariants as sign
 use Rattle.xk_lexer.specs.declared.token.Keyword.TheVariants as keyword
 use Rattle.xk_tree.specs.Tree.{Statements, listed, ParamValue, MethodValue, SharedValue, TreeValue}
-use Rattle.xk_exprs.specs.Marks.{Mark, Open, Symbol, Reserved}
+use Rattle.xk_exprs.specs.Marks.{Mark, Open, CloseAt, Symbol, Reserved}
 use Rattle.xk_exprs.specs.Spelling.{number_marks}
 use Rattle.xk_exprs.proofs.NumberLemmas.{number_found, number_again}
 use Rattle.xk_syntax.specs.Spelling.{word, number, row, commas, stmts, param, method, shared, program, SharedFits, MethodFits, TreeFits}
@@ -77,8 +77,8 @@ method_found ts us x h e =
     let s = sign_is sign.LeftBrace refl ps.0.1 vs.0 vs.1 in
     let g = stmts_found 64 [] (stmt_at 64 []) (stmt_found 64 []) vs.0 ss.0 ss.1 in
     let first : ts ≡ Reserved keyword.Def ∷ word w.0.0 (Open at.0.0 ∷ at.0.1) = cc in
-    let body : ps.0.1 ≡ Symbol sign.LeftBrace ∷ stmts (listed ss.0.0) (Symbol sign.RightBrace ∷ ss.0.1) = s ∙ ap (λ (z : List Mark). Symbol sign.LeftBrace ∷ z) g.0 in
-    let rest : at.0.1 ≡ commas param ps.0.0 (Symbol sign.RightParen ∷ Symbol sign.LeftBrace ∷ stmts (listed ss.0.0) (Symbol sign.RightBrace ∷ ss.0.1)) = f.0
+    let body : ps.0.1 ≡ Symbol sign.LeftBrace ∷ stmts (listed ss.0.0.0) (CloseAt ss.0.0.1 ∷ ss.0.1) = s ∙ ap (λ (z : List Mark). Symbol sign.LeftBrace ∷ z) g.0 in
+    let rest : at.0.1 ≡ commas param ps.0.0 (Symbol sign.RightParen ∷ Symbol sign.LeftBrace ∷ stmts (listed ss.0.0.0) (CloseAt ss.0.0.1 ∷ ss.0.1)) = f.0
     ∙ ap (λ (z : List Mark). commas param ps.0.0 (Symbol sign.RightParen ∷ z)) body in
     subst (λ (z : MethodValue × List Mark). (ts ≡ method z.0 z.1) × MethodFits z.0) (some_is _ x ss.2)
     (first ∙ ap (λ (z : List Mark). Reserved keyword.Def ∷ word w.0.0 (Open at.0.0 ∷ z)) rest, g.1)
@@ -88,8 +88,8 @@ param_longer p after = omega arith
 
 method_longer : (m : MethodValue) (after : List Mark) → length after < length (method m after)
 method_longer m after =
-    let body = stmts m.body (Symbol sign.RightBrace ∷ after) in
-    omega (arith, commas_longer param param_longer m.params (Symbol sign.RightParen ∷ Symbol sign.LeftBrace ∷ body), stmts_longer m.body (Symbol sign.RightBrace ∷ after))
+    let body = stmts m.body (CloseAt m.close ∷ after) in
+    omega (arith, commas_longer param param_longer m.params (Symbol sign.RightParen ∷ Symbol sign.LeftBrace ∷ body), stmts_longer m.body (CloseAt m.close ∷ after))
 
 pub method_shortens : Shortens (keyword_at keyword.Def) method_at
 method_shortens ts us x h e = let f = method_found ts us x h e in omega (arith, ap length f.0, method_longer x.0 x.1)
@@ -99,13 +99,13 @@ each_param [] = tt
 each_param (p ∷ ps) = (tt, each_param ps)
 
 method_again : (m : MethodValue) (after : List Mark) → MethodFits m → method_at (word m.name
-    (Open m.paren ∷ commas param m.params (Symbol sign.RightParen ∷ Symbol sign.LeftBrace ∷ stmts m.body (Symbol sign.RightBrace ∷ after)))) ≡ Some (m, after)
+    (Open m.paren ∷ commas param m.params (Symbol sign.RightParen ∷ Symbol sign.LeftBrace ∷ stmts m.body (CloseAt m.close ∷ after)))) ≡ Some (m, after)
 unfolding method_at word_at open_at sign_at bind
 method_again m after h =
-    let body = stmts m.body (Symbol sign.RightBrace ∷ after) in
+    let body = stmts m.body (CloseAt m.close ∷ after) in
     let ps = listed_again param_at param (λ p. Unit {0}) param_takes param_again param_not_closing m.params (Symbol sign.LeftBrace ∷ body) (each_param m.params) in
-    let ss = stmts_again 64 [] (stmt_at 64 []) (stmt_again 64 []) (stmt_shortens 64 []) m.body after h in
-    rw (ps, ss) (ap (λ (z : Statements). Some (record { name = m.name; paren = m.paren; params = m.params; body = z }, after)) (listed_unlisted m.body))
+    let ss = stmts_again 64 [] (stmt_at 64 []) (stmt_again 64 []) (stmt_shortens 64 []) m.body m.close after h in
+    rw (ps, ss) (ap (λ (z : Statements). Some (record { name = m.name; paren = m.paren; params = m.params; body = z; close = m.close }, after)) (listed_unlisted m.body))
 
 each_method : (ms : List MethodValue) (after : List Mark) → AllByRecursion MethodFits ms → EachAgain (keyword_at keyword.Def) method_at method ms after
 unfolding keyword_at
@@ -113,7 +113,7 @@ each_method [] after h = tt
 each_method (m ∷ ms) after h =
     let rest = row method ms after in (
       (
-        word m.name (Open m.paren ∷ commas param m.params (Symbol sign.RightParen ∷ Symbol sign.LeftBrace ∷ stmts m.body (Symbol sign.RightBrace ∷ rest))),
+        word m.name (Open m.paren ∷ commas param m.params (Symbol sign.RightParen ∷ Symbol sign.LeftBrace ∷ stmts m.body (CloseAt m.close ∷ rest))),
         refl,
         method_again m
             rest h.0,

@@ -15,12 +15,12 @@ use Rattle.xk_tree.specs.declared.tree.TypeName.{TypeName}
 use Rattle.xk_tree.specs.declared.tree.Verb.{Verb}
 use Rattle.xk_tree.specs.declared.tree.Binding.{Binding}
 use Rattle.xk_tree.specs.Tree.{Word, Expression, Source, Statement, ParamValue}
-use Rattle.xk_exprs.specs.Marks.{Mark, Name, Operator, Open, Symbol, Reserved, AsyncAt, ClockedAt, ClockAt, LongAt, sign_mark, keyword_mark}
+use Rattle.xk_exprs.specs.Marks.{Mark, Name, Operator, Open, CloseAt, Symbol, Reserved, AsyncAt, FinishAt, ClockedAt, ClockAt, LongAt, sign_mark, keyword_mark}
 use Rattle.xk_exprs.specs.Spelling.{Spells, SpellsTerm}
 use Rattle.xk_exprs.specs.ExprReaders.{whole_at, whole_term_at}
 use Rattle.xk_exprs.proofs.SoundnessLemmas.{expression_found, term_found}
 use Rattle.xk_syntax.specs.Spelling.{word, expr, comparison_sign, binding_word, type_name, type_part, verb, source, stmt, param, IsExpr, IsTerm, SourceFits, DeclareFits, Fits, dangles}
-use Rattle.xk_syntax.specs.Readers.{bind, sign_at, keyword_at, open_at, plus_at, clock_at, word_at, this_word_at, comparison_at, type_at, verb_at, bare_verb_at, act_at, type_part_or, type_part_at, source_or, source_at, ended, declare_at, atomic_at, advance_at, print_head_at, print_at, dotted_or, dotted_at, assign_at, param_at}
+use Rattle.xk_syntax.specs.Readers.{bind, sign_at, keyword_at, open_at, close_at, plus_at, clock_at, word_at, this_word_at, comparison_at, type_at, verb_at, bare_verb_at, act_at, type_part_or, type_part_at, source_or, source_at, ended, declare_at, atomic_at, advance_at, print_head_at, print_at, dotted_or, dotted_at, assign_at, param_at}
 use Rattle.xk_syntax.proofs.SpellingLengthLemmas.{type_longer}
 use Rattle.xk_syntax.proofs.ListLoopLemmas.{bind_some, some_is, guard_some, Takes}
 
@@ -43,6 +43,10 @@ sign_is s plain (Symbol t ∷ ts) us e =
 sign_is s plain (Open at ∷ ts) us e =
     let g = guard_some (sameb signs.the_type sign.LeftParen s) ts us e in
     let q = other_sign s sign.LeftParen (Open 0) refl plain g.0 in
+    absurd cc
+sign_is s plain (CloseAt at ∷ ts) us e =
+    let g = guard_some (sameb signs.the_type sign.RightBrace s) ts us e in
+    let q = other_sign s sign.RightBrace (CloseAt 0) refl plain g.0 in
     absurd cc
 sign_is s plain (Operator at operator.Plus ∷ ts) us e =
     let g = guard_some (sameb signs.the_type sign.Plus s) ts us e in
@@ -76,6 +80,10 @@ keyword_is k plain (AsyncAt at ∷ ts) us e =
     let g = guard_some (sameb keywords.the_type keyword.Async k) ts us e in
     let q = other_word k keyword.Async (AsyncAt 0) refl plain g.0 in
     absurd cc
+keyword_is k plain (FinishAt at ∷ ts) us e =
+    let g = guard_some (sameb keywords.the_type keyword.Finish k) ts us e in
+    let q = other_word k keyword.Finish (FinishAt 0) refl plain g.0 in
+    absurd cc
 keyword_is k plain (ClockedAt at ∷ ts) us e =
     let g = guard_some (sameb keywords.the_type keyword.Clocked k) ts us e in
     let q = other_word k keyword.Clocked (ClockedAt 0) refl plain g.0 in
@@ -95,6 +103,12 @@ unfolding open_at
 open_is [] x e = absurd cc
 open_is (Open at ∷ ts) x e = rw (sym (some_is _ x e)) refl
 open_is (_ ∷ ts) x e = absurd cc
+
+pub close_is : (ts : List Mark) (x : ℕ × List Mark) → close_at ts ≡ Some x → ts ≡ CloseAt x.0 ∷ x.1
+unfolding close_at
+close_is [] x e = absurd cc
+close_is (CloseAt at ∷ ts) x e = rw (sym (some_is _ x e)) refl
+close_is (_ ∷ ts) x e = absurd cc
 
 plus_is : (ts : List Mark) (x : ℕ × List Mark) → plus_at ts ≡ Some x → ts ≡ Operator x.0 operator.Plus ∷ x.1
 unfolding plus_at

@@ -6,7 +6,7 @@ use Rattle.xk_tree.specs.declared.tree.Binding.TheVariants as binding
 use Rattle.xk_tree.specs.declared.tree.Written.{Written}
 use Rattle.xk_tree.specs.declared.tree.Written.TheVariants as written
 use Rattle.xk_tree.specs.Tree.{Word, Clocks, Make, Value, UpTo, Least, Statement, Statements, Done, More, Block, Empty, Declare, Assign, Atomic, If, IfElse, For, Async, Finish, Call, Resume, Drop, AdvanceAll, Print}
-use Rattle.xk_exprs.specs.Marks.{Mark, Symbol, Reserved}
+use Rattle.xk_exprs.specs.Marks.{Mark, Symbol, Reserved, CloseAt}
 use Rattle.xk_exprs.specs.Spelling.{spell, number_marks}
 use Rattle.xk_syntax.specs.Spelling.{word, number, expr, comparison_sign, type_name, type_part, source, bound, row, behind_comma, commas, clocked_start, start, stmt, stmts}
 
@@ -57,7 +57,7 @@ start_longer at (Some cs) after = clocks_longer at cs.written cs.names after
 
 mutual
   pub stmt_longer : (s : Statement) (after : List Mark) → length after < length (stmt s after)
-  stmt_longer (Block ss) after = omega (arith, stmts_longer ss (Symbol sign.RightBrace ∷ after))
+  stmt_longer (Block close ss) after = omega (arith, stmts_longer ss (CloseAt close ∷ after))
   stmt_longer Empty after = omega arith
   stmt_longer (Declare b w ty r) after = omega (
     arith,
@@ -85,8 +85,8 @@ mutual
       let body = Symbol sign.RightParen ∷ stmt s after in
       omega (arith, number_longer lo (Symbol sign.DotDot ∷ bound b body), bound_longer b body, stmt_longer s after)
   stmt_longer (Async at cs s) after = omega (arith, start_longer at cs (stmt s after), stmt_longer s after)
-  stmt_longer (Finish (Block (More (Declare binding.Hidden h ty r) (More s (More (Drop g v) Done))))) after = omega (arith, stmt_longer s after)
-  stmt_longer (Finish s) after = omega (arith, stmt_longer s after)
+  stmt_longer (Finish at (Block close (More (Declare binding.Hidden h ty r) (More s (More (Drop g v) Done))))) after = omega (arith, stmt_longer s after)
+  stmt_longer (Finish at s) after = omega (arith, stmt_longer s after)
   stmt_longer (Call w at es) after = omega (arith, commas_longer expr expr_longer es (Symbol sign.RightParen ∷ Symbol sign.Semicolon ∷ after))
   stmt_longer (Resume w v) after = omega arith
   stmt_longer (Drop w v) after = omega arith

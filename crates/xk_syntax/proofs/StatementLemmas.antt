@@ -12,7 +12,7 @@ use Rattle.xk_tree.specs.declared.tree.TypeName.{TypeName}
 use Rattle.xk_tree.specs.declared.tree.Verb.{Verb}
 use Rattle.xk_tree.specs.declared.tree.Number as tree
 use Rattle.xk_tree.specs.Tree.{Word, Expression, Source, Bound, Clocks, Statement, Statements, Done, More, listed, Block, Empty, Declare, Assign, Atomic, If, IfElse, For, Async, Finish, Call, Resume, Drop, AdvanceAll, Print}
-use Rattle.xk_exprs.specs.Marks.{Mark, Name, Open, Symbol, Reserved, AsyncAt, ClockedAt, ClockAt}
+use Rattle.xk_exprs.specs.Marks.{Mark, Name, Open, CloseAt, Symbol, Reserved, AsyncAt, FinishAt, ClockedAt, ClockAt}
 use Rattle.xk_exprs.specs.declared.fault.SyntaxError.{SyntaxError}
 use Rattle.xk_exprs.specs.declared.fault.SyntaxError.TheVariants as error
 use Rattle.xk_exprs.specs.ReaderCombinators.{Refuses}
@@ -21,9 +21,9 @@ use Rattle.xk_exprs.specs.ExprReaders.{whole_at}
 use Rattle.xk_exprs.proofs.NumberLemmas.{number_found, number_again}
 use Rattle.xk_syntax.specs.Spelling.{word, number, expr, comparison_sign, bound, row, commas, hidden_text, hidden_clock, clocked_finish, inside, clocked_start, start, stmt, stmts, dangles, IsExpr, BoundFits, WrittenFits, ClocksFit, Fits, AllFit}
 use Rattle.xk_syntax.specs.Laws.{Settles, StatementFound, StatementAgain}
-use Rattle.xk_syntax.specs.Readers.{bind, sign_at, keyword_at, open_at, word_at, comparison_at, more_at, Read, call_at, undotted, named_or, named_at, flat_by, flat_at, Head, Whole, Brace, Condition, Range, Start, Wait, Hide, whole, condition_at, range_at, list_open_at, clocks_or, clocks_at, start_at, hiding_by, hiding_at, head_by, stmt_head_at, ahead_or, ahead_at, stmts_at, else_or, else_at, rest_at, stmt_at}
+use Rattle.xk_syntax.specs.Readers.{bind, sign_at, keyword_at, open_at, close_at, word_at, comparison_at, more_at, Read, call_at, undotted, named_or, named_at, flat_by, flat_at, Head, Whole, Brace, Condition, Range, Start, Wait, Hide, whole, condition_at, range_at, list_open_at, clocks_or, clocks_at, start_at, hiding_by, hiding_at, head_by, stmt_head_at, ahead_or, ahead_at, stmts_at, else_or, else_at, rest_at, stmt_at}
 use Rattle.xk_syntax.proofs.ListLoopLemmas.{Shortens, bind_some, some_is, word_takes, more_refused, no_more}
-use Rattle.xk_syntax.proofs.SoundnessLemmas.{sign_is, keyword_is, open_is, word_is, comparison_is, expr_is, IsFlat, flat_ended, declare_found, atomic_found, advance_found, print_found, dotted_found, assign_found}
+use Rattle.xk_syntax.proofs.SoundnessLemmas.{sign_is, keyword_is, open_is, close_is, word_is, comparison_is, expr_is, IsFlat, flat_ended, declare_found, atomic_found, advance_found, print_found, dotted_found, assign_found}
 use Rattle.xk_syntax.proofs.SpellingLengthLemmas.{stmt_longer}
 use Rattle.xk_syntax.proofs.LoopBoundLemmas.{bound_found, bound_again}
 use Rattle.xk_syntax.proofs.ListSpellingLemmas.{listed_found, EachFound, more_found, EachAgain, more_again, ItemAgain, commas_found, commas_again}
@@ -38,8 +38,8 @@ head Brace after = Symbol sign.LeftBrace ∷ after
 head (Condition at l c r) after = Reserved keyword.If ∷ Open at ∷ expr l (Symbol (comparison_sign c) ∷ expr r (Symbol sign.RightParen ∷ after))
 head (Range at w lo b) after = Reserved keyword.For ∷ Open at ∷ word w (Reserved keyword.In ∷ number lo (Symbol sign.DotDot ∷ bound b (Symbol sign.RightParen ∷ after)))
 head (Start at cs) after = start at cs after
-head Wait after = Reserved keyword.Finish ∷ after
-head (Hide at) after = ClockedAt at ∷ Reserved keyword.Finish ∷ after
+head (Wait at) after = FinishAt at ∷ after
+head (Hide at finish) after = ClockedAt at ∷ FinishAt finish ∷ after
 
 abbrev HeadFits : ℕ → List ℕ → Head → Type 0
 HeadFits d o (Whole s) = Fits (suc d) o s × (dangles s ≡ false)
@@ -47,8 +47,8 @@ HeadFits d o Brace = Unit {0}
 HeadFits d o (Condition at l c r) = IsExpr d l × IsExpr d r
 HeadFits d o (Range at w lo b) = IsNumber lo × BoundFits d b
 HeadFits d o (Start at cs) = ClocksFit o cs
-HeadFits d o Wait = Unit {0}
-HeadFits d o (Hide at) = Unit {0}
+HeadFits d o (Wait at) = Unit {0}
+HeadFits d o (Hide at finish) = Unit {0}
 
 -- these tokens are such a head, and others
 record IsHead (d : ℕ) (o : List ℕ) (all : List Mark) (x : Head × List Mark) : Type 0 where
@@ -165,8 +165,8 @@ start_found d o at ts x e =
 
 hiding_by_found : (d : ℕ) (o : List ℕ) (at : ℕ) (m : Mark) (ts : List Mark) (x : Head × List Mark) → hiding_by o at m ts ≡ Some x
     → IsHead d o (ClockedAt at ∷ m ∷ ts) x
-hiding_by_found d o at (Reserved keyword.Finish) ts x e =
-    subst (IsHead d o (ClockedAt at ∷ Reserved keyword.Finish ∷ ts)) (some_is _ x e) (record { spelled = refl; fits = tt })
+hiding_by_found d o at (FinishAt finish) ts x e =
+    subst (IsHead d o (ClockedAt at ∷ FinishAt finish ∷ ts)) (some_is _ x e) (record { spelled = refl; fits = tt })
 hiding_by_found d o at (AsyncAt a) ts x e =
     subst (IsHead d o (ClockedAt at ∷ AsyncAt a ∷ ts)) (some_is _ x e) (record { spelled = refl; fits = refl })
 hiding_by_found d o at _ ts x e = absurd cc
@@ -187,7 +187,7 @@ head_by_found d o (Symbol sign.LeftBrace) ts x e = subst (IsHead d o (Symbol sig
 head_by_found d o (Reserved keyword.If) ts x e = condition_found d o ts x e
 head_by_found d o (Reserved keyword.For) ts x e = range_found d o ts x e
 head_by_found d o (AsyncAt at) ts x e = start_found d o at ts x e
-head_by_found d o (Reserved keyword.Finish) ts x e = subst (IsHead d o (Reserved keyword.Finish ∷ ts)) (some_is _ x e) (record { spelled = refl; fits = tt })
+head_by_found d o (FinishAt at) ts x e = subst (IsHead d o (FinishAt at ∷ ts)) (some_is _ x e) (record { spelled = refl; fits = tt })
 head_by_found d o (ClockedAt at) ts x e = hiding_found d o at ts x e
 head_by_found d o m ts x e = whole_found d o (m ∷ ts) x e
 
@@ -206,18 +206,19 @@ record IsHiding (s : Statement) : Type 0 where
   inner : Statement
   again : Word
   verb : Verb
-  is : s ≡ Block (More (Declare binding.Hidden clock type made) (More inner (More (Drop again verb) Done)))
+  close : ℕ
+  is : s ≡ Block close (More (Declare binding.Hidden clock type made) (More inner (More (Drop again verb) Done)))
 
 -- or the `finish` is a plain one
 record IsPlain (s : Statement) : Type 0 where
-  spelled : (after : List Mark) → stmt (Finish s) after ≡ Reserved keyword.Finish ∷ stmt s after
-  ends : dangles (Finish s) ≡ dangles s
-  fits : (d : ℕ) (o : List ℕ) → Fits d [] s → Fits (suc d) o (Finish s)
+  spelled : (at : ℕ) (after : List Mark) → stmt (Finish at s) after ≡ FinishAt at ∷ stmt s after
+  ends : (at : ℕ) → dangles (Finish at s) ≡ dangles s
+  fits : (d : ℕ) (o : List ℕ) (at : ℕ) → Fits d [] s → Fits (suc d) o (Finish at s)
 
 view : (s : Statement) → IsHiding s ⊎ IsPlain s
-view (Block (More (Declare binding.Hidden h ty r) (More s (More (Drop g v) Done)))) =
-    inl (record { clock = h; type = ty; made = r; inner = s; again = g; verb = v; is = refl })
-view s = inr (record { spelled = λ after. refl; ends = refl; fits = λ d o h. h })
+view (Block close (More (Declare binding.Hidden h ty r) (More s (More (Drop g v) Done)))) =
+    inl (record { clock = h; type = ty; made = r; inner = s; again = g; verb = v; close = close; is = refl })
+view s = inr (record { spelled = λ at after. refl; ends = λ at. refl; fits = λ d o at h. h })
 
 -- no block of a text makes a hidden clock
 not_hiding : (d : ℕ) (o : List ℕ) (s : Statement) → IsHiding s → Fits d o s → ⊥
@@ -254,14 +255,14 @@ all_fit d o (s ∷ ss) h = (h.0, all_fit d o ss h.1)
 
 ahead_is : (ts us : List Mark) → ahead_at ts ≡ Some us → ts ≡ us
 unfolding ahead_at
-ahead_is ts us e = by (sign_at sign.RightBrace ts) e
+ahead_is ts us e = by (close_at ts) e
   where
-    by : (o : Option (List Mark)) → ahead_or ts o ≡ Some us → ts ≡ us
+    by : (o : Option (ℕ × List Mark)) → ahead_or ts o ≡ Some us → ts ≡ us
     by None e = some_is ts us e
-    by (Some vs) e = absurd cc
+    by (Some close) e = absurd cc
 
-pub stmts_found : (d : ℕ) (o : List ℕ) (inner : List Mark → Read) → FoundAt d o inner → (ts : List Mark) (x : List Statement × List Mark) → stmts_at inner ts ≡ Some x
-    → (ts ≡ stmts (listed x.0) (Symbol sign.RightBrace ∷ x.1)) × AllFit d o (listed x.0)
+pub stmts_found : (d : ℕ) (o : List ℕ) (inner : List Mark → Read) → FoundAt d o inner → (ts : List Mark) (x : (List Statement × ℕ) × List Mark) → stmts_at inner ts ≡ Some x
+    → (ts ≡ stmts (listed x.0.0) (CloseAt x.0.1 ∷ x.1)) × AllFit d o (listed x.0.0)
 unfolding stmts_at
 stmts_found d o inner f ts x e =
     let ss = bind_some _ _ _ e in
@@ -269,11 +270,11 @@ stmts_found d o inner f ts x e =
     let each : EachFound ahead_at inner stmt (Fits d o) = λ ts us x h k. let i = f us x k in (ahead_is ts us h ∙ i.spelled, i.fits) in
     let m = more_found ahead_at inner stmt (Fits d o) each [] ts ss.0 ss.1 in
     let all : ss.0.0 ≡ m.others = m.all in
-    let q = sign_is sign.RightBrace refl ss.0.1 us.0 us.1 in
-    let p : ts ≡ stmts (listed ss.0.0) (Symbol sign.RightBrace ∷ us.0) =
+    let q = close_is ss.0.1 us.0 us.1 in
+    let p : ts ≡ stmts (listed ss.0.0) (CloseAt us.0.0 ∷ us.0.1) =
     m.spelled ∙ ap (λ (l : List Statement). row stmt l ss.0.1) (sym all) ∙ stmts_row ss.0.0 ss.0.1 ∙ ap (stmts (listed ss.0.0)) q in
-    subst (λ (z : List Statement × List Mark). (ts ≡ stmts (listed z.0) (Symbol sign.RightBrace ∷ z.1))
-    × AllFit d o (listed z.0)) (some_is _ x us.2) (p, all_fit d o ss.0.0 (subst (AllByRecursion (Fits d o)) (sym all) m.each))
+    subst (λ (z : (List Statement × ℕ) × List Mark). (ts ≡ stmts (listed z.0.0) (CloseAt z.0.1 ∷ z.1))
+    × AllFit d o (listed z.0.0)) (some_is _ x us.2) (p, all_fit d o ss.0.0 (subst (AllByRecursion (Fits d o)) (sym all) m.each))
 
 apart : (b : Bool) → b ≡ false → b ≡ true → ⊥
 apart b f t = cc
@@ -332,19 +333,19 @@ rest_found d o inner f (Start at cs) ts x k e =
     let s = bind_some _ _ _ e in
     let i = f (inside cs o) ts s.0 s.1 in
     subst (IsStmt (suc d) o (head (Start at cs) ts)) (some_is _ x s.2) (record { spelled = ap (head (Start at cs)) i.spelled; fits = (k, i.fits); settles = i.settles })
-rest_found d o inner f Wait ts x k e =
+rest_found d o inner f (Wait at) ts x k e =
     let s = bind_some _ _ _ e in
     let i = f [] ts s.0 s.1 in
     let p = plain d [] s.0.0 i.fits in
-    subst (IsStmt (suc d) o (head Wait ts)) (some_is _ x s.2) (record {
-      spelled = ap (head Wait) i.spelled ∙ sym (p.spelled s.0.1);
-      fits = p.fits d o i.fits;
-      settles = λ t. i.settles (sym p.ends ∙ t);
+    subst (IsStmt (suc d) o (head (Wait at) ts)) (some_is _ x s.2) (record {
+      spelled = ap (head (Wait at)) i.spelled ∙ sym (p.spelled at s.0.1);
+      fits = p.fits d o at i.fits;
+      settles = λ t. i.settles (sym (p.ends at) ∙ t);
     })
-rest_found d o inner f (Hide at) ts x k e =
+rest_found d o inner f (Hide at finish) ts x k e =
     let s = bind_some _ _ _ e in
     let i = f (hidden_text (suc d)) ts s.0 s.1 in
-    subst (IsStmt (suc d) o (head (Hide at) ts)) (some_is _ x s.2) (record { spelled = ap (head (Hide at)) i.spelled; fits = (refl, i.fits); settles = i.settles })
+    subst (IsStmt (suc d) o (head (Hide at finish) ts)) (some_is _ x s.2) (record { spelled = ap (head (Hide at finish)) i.spelled; fits = (refl, i.fits); settles = i.settles })
 
 pub stmt_found : (d : ℕ) → Found d (stmt_at d)
 unfolding stmt_at
@@ -374,15 +375,15 @@ stmts_end : (inner : List Mark → Read) (ss : List Statement) (ts all : List Ma
 stmts_end inner ss ts all so_far h = sym so_far ∙ no_more ahead_at inner ss ts h
 
 pub stmts_unended : (e : SyntaxError) (inner : List Mark → Read) (ss : List Statement) (ts all : List Mark) → more_at ahead_at inner ss ts ≡ more_at ahead_at inner [] all
-    → None ≡ ahead_at ts → Refuses e (sign_at sign.RightBrace ts) → Refuses e (stmts_at inner all)
+    → None ≡ ahead_at ts → Refuses e (close_at ts) → Refuses e (stmts_at inner all)
 unfolding stmts_at bind
 stmts_unended (error.Fault f) inner ss ts all so_far h r = rw (stmts_end inner ss ts all so_far h, r) refl
 stmts_unended error.OutOfMemory inner ss ts all so_far h r = tt
 
-pub stmts_read : (inner : List Mark → Read) (ss : List Statement) (ts all rest : List Mark) → more_at ahead_at inner ss ts ≡ more_at ahead_at inner [] all
-    → None ≡ ahead_at ts → sign_at sign.RightBrace ts ≡ Some rest → stmts_at inner all ≡ Some (ss, rest)
+pub stmts_read : (inner : List Mark → Read) (ss : List Statement) (ts all : List Mark) (close : ℕ × List Mark) → more_at ahead_at inner ss ts ≡ more_at ahead_at inner [] all
+    → None ≡ ahead_at ts → close_at ts ≡ Some close → stmts_at inner all ≡ Some ((ss, close.0), close.1)
 unfolding stmts_at bind
-stmts_read inner ss ts all rest so_far h r = rw (stmts_end inner ss ts all so_far h, r) refl
+stmts_read inner ss ts all close so_far h r = rw (stmts_end inner ss ts all so_far h, r) refl
 
 pub statement_found : StatementFound
 statement_found d o ts s rest e = let i = stmt_found d o ts (s, rest) e in (i.spelled, i.fits, i.settles)
@@ -435,19 +436,19 @@ no_clocks : (after : List Mark) → list_open_at after ≡ None → clocks_at af
 unfolding clocks_at
 no_clocks after none = ap (clocks_or after) none
 
-no_brace_in_start_written : (at : ℕ) (w : Written) (ws : List Word) (after : List Mark) → sign_at sign.RightBrace (clocked_start at w ws after) ≡ None
-unfolding sign_at
+no_brace_in_start_written : (at : ℕ) (w : Written) (ws : List Word) (after : List Mark) → close_at (clocked_start at w ws after) ≡ None
+unfolding close_at
 no_brace_in_start_written at (written.Listed clocked paren) ws after = refl
 no_brace_in_start_written at (written.Ahead clocked) ws after = refl
 
-no_brace_in_start : (at : ℕ) (cs : Option Clocks) (after : List Mark) → sign_at sign.RightBrace (start at cs after) ≡ None
-unfolding sign_at
+no_brace_in_start : (at : ℕ) (cs : Option Clocks) (after : List Mark) → close_at (start at cs after) ≡ None
+unfolding close_at
 no_brace_in_start at None after = refl
 no_brace_in_start at (Some cs) after = no_brace_in_start_written at cs.written cs.names after
 
-no_brace : (s : Statement) (after : List Mark) → sign_at sign.RightBrace (stmt s after) ≡ None
-unfolding sign_at
-no_brace (Block ss) after = refl
+no_brace : (s : Statement) (after : List Mark) → close_at (stmt s after) ≡ None
+unfolding close_at
+no_brace (Block close ss) after = refl
 no_brace Empty after = refl
 no_brace (Declare binding.Val w ty r) after = refl
 no_brace (Declare binding.Var w ty r) after = refl
@@ -458,8 +459,8 @@ no_brace (If at l c r s) after = refl
 no_brace (IfElse at l c r s t) after = refl
 no_brace (For at w lo b s) after = refl
 no_brace (Async at cs s) after = no_brace_in_start at cs (stmt s after)
-no_brace (Finish (Block (More (Declare binding.Hidden h ty r) (More s (More (Drop g v) Done))))) after = refl
-no_brace (Finish s) after = refl
+no_brace (Finish at (Block close (More (Declare binding.Hidden h ty r) (More s (More (Drop g v) Done))))) after = refl
+no_brace (Finish at s) after = refl
 no_brace (Call w at es) after = refl
 no_brace (Resume w v) after = refl
 no_brace (Drop w v) after = refl
@@ -478,7 +479,7 @@ no_else_in_start at (Some cs) after = no_else_in_start_written at cs.written cs.
 
 no_else : (s : Statement) (after : List Mark) → keyword_at keyword.Else (stmt s after) ≡ None
 unfolding keyword_at
-no_else (Block ss) after = refl
+no_else (Block close ss) after = refl
 no_else Empty after = refl
 no_else (Declare binding.Val w ty r) after = refl
 no_else (Declare binding.Var w ty r) after = refl
@@ -489,8 +490,8 @@ no_else (If at l c r s) after = refl
 no_else (IfElse at l c r s t) after = refl
 no_else (For at w lo b s) after = refl
 no_else (Async at cs s) after = no_else_in_start at cs (stmt s after)
-no_else (Finish (Block (More (Declare binding.Hidden h ty r) (More s (More (Drop g v) Done))))) after = refl
-no_else (Finish s) after = refl
+no_else (Finish at (Block close (More (Declare binding.Hidden h ty r) (More s (More (Drop g v) Done))))) after = refl
+no_else (Finish at s) after = refl
 no_else (Call w at es) after = refl
 no_else (Resume w v) after = refl
 no_else (Drop w v) after = refl
@@ -509,7 +510,7 @@ no_list_in_start at (Some cs) after = no_list_in_start_written at cs.written cs.
 
 no_list : (s : Statement) (after : List Mark) → list_open_at (stmt s after) ≡ None
 unfolding list_open_at open_at bind
-no_list (Block ss) after = refl
+no_list (Block close ss) after = refl
 no_list Empty after = refl
 no_list (Declare binding.Val w ty r) after = refl
 no_list (Declare binding.Var w ty r) after = refl
@@ -520,8 +521,8 @@ no_list (If at l c r s) after = refl
 no_list (IfElse at l c r s t) after = refl
 no_list (For at w lo b s) after = refl
 no_list (Async at cs s) after = no_list_in_start at cs (stmt s after)
-no_list (Finish (Block (More (Declare binding.Hidden h ty r) (More s (More (Drop g v) Done))))) after = refl
-no_list (Finish s) after = refl
+no_list (Finish at (Block close (More (Declare binding.Hidden h ty r) (More s (More (Drop g v) Done))))) after = refl
+no_list (Finish at s) after = refl
 no_list (Call w at es) after = refl
 no_list (Resume w v) after = refl
 no_list (Drop w v) after = refl
@@ -542,37 +543,37 @@ unfolding unlisted
 row_stmts Done after = refl
 row_stmts (More s ss) after = ap (stmt s) (row_stmts ss after)
 
-brace_settles : (s : Statement) (after : List Mark) → Settles s (Symbol sign.RightBrace ∷ after)
+brace_settles : (s : Statement) (close : ℕ) (after : List Mark) → Settles s (CloseAt close ∷ after)
 unfolding keyword_at
-brace_settles s after d = refl
+brace_settles s close after d = refl
 
-row_settles : (s : Statement) (ss : Statements) (after : List Mark) → Settles s (row stmt (unlisted ss) (Symbol sign.RightBrace ∷ after))
+row_settles : (s : Statement) (ss : Statements) (close : ℕ) (after : List Mark) → Settles s (row stmt (unlisted ss) (CloseAt close ∷ after))
 unfolding unlisted
-row_settles s Done after d = brace_settles s after d
-row_settles s (More t ss) after d = no_else t (row stmt (unlisted ss) (Symbol sign.RightBrace ∷ after))
+row_settles s Done close after d = brace_settles s close after d
+row_settles s (More t ss) close after d = no_else t (row stmt (unlisted ss) (CloseAt close ∷ after))
 
 ahead_of : (s : Statement) (after : List Mark) → ahead_at (stmt s after) ≡ Some (stmt s after)
 unfolding ahead_at
 ahead_of s after = ap (ahead_or (stmt s after)) (no_brace s after)
 
-each_stmt : (d : ℕ) (o : List ℕ) (inner : List Mark → Read) → AgainAt d o inner → (ss : Statements) (after : List Mark) → AllFit d o ss
-    → EachAgain ahead_at inner stmt (unlisted ss) (Symbol sign.RightBrace ∷ after)
+each_stmt : (d : ℕ) (o : List ℕ) (inner : List Mark → Read) → AgainAt d o inner → (ss : Statements) (close : ℕ) (after : List Mark) → AllFit d o ss
+    → EachAgain ahead_at inner stmt (unlisted ss) (CloseAt close ∷ after)
 unfolding unlisted
-each_stmt d o inner again Done after h = tt
-each_stmt d o inner again (More s ss) after h =
-    let rest = row stmt (unlisted ss) (Symbol sign.RightBrace ∷ after) in
-    ((stmt s rest, ahead_of s rest, again s rest h.0 (row_settles s ss after)), each_stmt d o inner again ss after h.1)
+each_stmt d o inner again Done close after h = tt
+each_stmt d o inner again (More s ss) close after h =
+    let rest = row stmt (unlisted ss) (CloseAt close ∷ after) in
+    ((stmt s rest, ahead_of s rest, again s rest h.0 (row_settles s ss close after)), each_stmt d o inner again ss close after h.1)
 
-ahead_stops : (after : List Mark) → ahead_at (Symbol sign.RightBrace ∷ after) ≡ None
-unfolding ahead_at sign_at
-ahead_stops after = refl
+ahead_stops : (close : ℕ) (after : List Mark) → ahead_at (CloseAt close ∷ after) ≡ None
+unfolding ahead_at close_at
+ahead_stops close after = refl
 
-pub stmts_again : (d : ℕ) (o : List ℕ) (inner : List Mark → Read) → AgainAt d o inner → Shortens ahead_at inner → (ss : Statements) (after : List Mark) → AllFit d o ss
-    → stmts_at inner (stmts ss (Symbol sign.RightBrace ∷ after)) ≡ Some (unlisted ss, after)
-unfolding stmts_at sign_at bind
-stmts_again d o inner again short ss after h =
-    let end = Symbol sign.RightBrace ∷ after in
-    let many = more_again ahead_at inner stmt short [] (unlisted ss) end (each_stmt d o inner again ss after h) (ahead_stops after) in
+pub stmts_again : (d : ℕ) (o : List ℕ) (inner : List Mark → Read) → AgainAt d o inner → Shortens ahead_at inner → (ss : Statements) (close : ℕ) (after : List Mark) → AllFit d o ss
+    → stmts_at inner (stmts ss (CloseAt close ∷ after)) ≡ Some ((unlisted ss, close), after)
+unfolding stmts_at close_at bind
+stmts_again d o inner again short ss close after h =
+    let end = CloseAt close ∷ after in
+    let many = more_again ahead_at inner stmt short [] (unlisted ss) end (each_stmt d o inner again ss close after h) (ahead_stops close after) in
     rw (sym (row_stmts ss end), many) refl
 
 -- ---- heads and what stands behind them
@@ -630,23 +631,23 @@ unfolding stmt_head_at start_at bind
 start_head d o at None after h none = rw (no_clocks after none) refl
 start_head d o at (Some cs) after h none = started d o at cs.written cs.names after h
 
-wait_head : (d : ℕ) (o : List ℕ) (after : List Mark) → stmt_head_at d o (head Wait after) ≡ Some (Wait, after)
+wait_head : (d : ℕ) (o : List ℕ) (at : ℕ) (after : List Mark) → stmt_head_at d o (head (Wait at) after) ≡ Some (Wait at, after)
 unfolding stmt_head_at bind
-wait_head d o after = refl
+wait_head d o at after = refl
 
-hide_head : (d : ℕ) (o : List ℕ) (at : ℕ) (after : List Mark) → stmt_head_at d o (head (Hide at) after) ≡ Some (Hide at, after)
+hide_head : (d : ℕ) (o : List ℕ) (at finish : ℕ) (after : List Mark) → stmt_head_at d o (head (Hide at finish) after) ≡ Some (Hide at finish, after)
 unfolding stmt_head_at hiding_at bind
-hide_head d o at after = refl
+hide_head d o at finish after = refl
 
 brace_head : (d : ℕ) (o : List ℕ) (after : List Mark) → stmt_head_at d o (head Brace after) ≡ Some (Brace, after)
 unfolding stmt_head_at bind
 brace_head d o after = refl
 
-block_rest : (d : ℕ) (o : List ℕ) (inner : List ℕ → List Mark → Read) → Again d inner → Shortens ahead_at (inner o) → (ss : Statements) (after : List Mark) → AllFit d o ss
-    → rest_at d inner o Brace (stmts ss (Symbol sign.RightBrace ∷ after)) ≡ Some (Block ss, after)
+block_rest : (d : ℕ) (o : List ℕ) (inner : List ℕ → List Mark → Read) → Again d inner → Shortens ahead_at (inner o) → (ss : Statements) (close : ℕ) (after : List Mark) → AllFit d o ss
+    → rest_at d inner o Brace (stmts ss (CloseAt close ∷ after)) ≡ Some (Block close ss, after)
 unfolding rest_at bind
-block_rest d o inner again short ss after h =
-    rw (stmts_again d o (inner o) (again o) short ss after h) (ap (λ (z : Statements). Some (Block z, after)) (listed_unlisted ss))
+block_rest d o inner again short ss close after h =
+    rw (stmts_again d o (inner o) (again o) short ss close after h) (ap (λ (z : Statements). Some (Block close z, after)) (listed_unlisted ss))
 
 if_rest : (d : ℕ) (o : List ℕ) (inner : List ℕ → List Mark → Read) → Again d inner → (at : ℕ) (l : Expression) (c : Comparison) (r : Expression) (s : Statement)
     (after : List Mark) → Fits d o s → keyword_at keyword.Else after ≡ None → rest_at d inner o (Condition at l c r) (stmt s after) ≡ Some (If at l c r s, after)
@@ -670,21 +671,23 @@ async_rest : (d : ℕ) (o : List ℕ) (inner : List ℕ → List Mark → Read) 
 unfolding rest_at bind
 async_rest d o inner again at cs s after h settles = rw (again (inside cs o) s after h settles) refl
 
-finish_rest : (d : ℕ) (o : List ℕ) (inner : List ℕ → List Mark → Read) → Again d inner → (s : Statement) (after : List Mark) → Fits d [] s → Settles s after
-    → rest_at d inner o Wait (stmt s after) ≡ Some (Finish s, after)
+finish_rest : (d : ℕ) (o : List ℕ) (inner : List ℕ → List Mark → Read) → Again d inner → (at : ℕ) (s : Statement) (after : List Mark) → Fits d [] s
+    → Settles s after → rest_at d inner o (Wait at) (stmt s after) ≡ Some (Finish at s, after)
 unfolding rest_at bind
-finish_rest d o inner again s after h settles = rw (again [] s after h settles) refl
+finish_rest d o inner again at s after h settles = rw (again [] s after h settles) refl
 
-hide_rest : (d : ℕ) (o : List ℕ) (inner : List ℕ → List Mark → Read) → Again d inner → (at : ℕ) (s : Statement) (after : List Mark) → Fits d (hidden_text (suc d)) s
-    → Settles s after → rest_at d inner o (Hide at) (stmt s after) ≡ Some (clocked_finish (hidden_clock (suc d) at) s, after)
+hide_rest : (d : ℕ) (o : List ℕ) (inner : List ℕ → List Mark → Read) → Again d inner → (at finish : ℕ) (s : Statement) (after : List Mark)
+    → Fits d (hidden_text (suc d)) s → Settles s after
+    → rest_at d inner o (Hide at finish) (stmt s after) ≡ Some (clocked_finish finish (hidden_clock (suc d) at) s, after)
 unfolding rest_at bind
-hide_rest d o inner again at s after h settles = rw (again (hidden_text (suc d)) s after h settles) refl
+hide_rest d o inner again at finish s after h settles = rw (again (hidden_text (suc d)) s after h settles) refl
 
 pub stmt_again : (d : ℕ) → Again d (stmt_at d)
 stmt_again zero o s rest h settles = absurd h
-stmt_again (suc d) o (Block ss) rest h settles =
-    let body = stmts ss (Symbol sign.RightBrace ∷ rest) in
-    then_rest d o (head Brace body) body Brace (Block ss, rest) (brace_head d o body) (block_rest d o (stmt_at d) (stmt_again d) (stmt_shortens d o) ss rest h)
+stmt_again (suc d) o (Block close ss) rest h settles =
+    let body = stmts ss (CloseAt close ∷ rest) in
+    then_rest d o (head Brace body) body Brace (Block close ss, rest) (brace_head d o body)
+    (block_rest d o (stmt_at d) (stmt_again d) (stmt_shortens d o) ss close rest h)
 stmt_again (suc d) o Empty rest h settles = flat_stmt d o Empty rest tt h
 stmt_again (suc d) o (Declare b w ty r) rest h settles = flat_stmt d o (Declare b w ty r) rest tt h
 stmt_again (suc d) o (Assign w e) rest h settles = flat_stmt d o (Assign w e) rest tt h
@@ -705,14 +708,14 @@ stmt_again (suc d) o (Async at cs s) rest h settles =
     let ts = stmt s rest in
     then_rest d o (head (Start at cs) ts) ts (Start at cs) (Async at cs s, rest) (start_head d o at cs ts h.0 (no_list s rest))
     (async_rest d o (stmt_at d) (stmt_again d) at cs s rest h.1 settles)
-stmt_again (suc d) o (Finish (Block (More (Declare binding.Hidden c ty r) (More s (More (Drop g v) Done))))) rest h settles =
+stmt_again (suc d) o (Finish at (Block close (More (Declare binding.Hidden c ty r) (More s (More (Drop g v) Done))))) rest h settles =
     let ts = stmt s rest in
-    then_rest d o (head (Hide c.at) ts) ts (Hide c.at) (clocked_finish (hidden_clock (suc d) c.at) s, rest) (hide_head d o c.at ts)
-    (hide_rest d o (stmt_at d) (stmt_again d) c.at s rest h.1 settles)
-    ∙ ap (λ (z : Statements). Some (Finish (Block z), rest)) (sym h.0)
-stmt_again (suc d) o (Finish s) rest h settles =
+    then_rest d o (head (Hide c.at at) ts) ts (Hide c.at at) (clocked_finish at (hidden_clock (suc d) c.at) s, rest) (hide_head d o c.at at ts)
+    (hide_rest d o (stmt_at d) (stmt_again d) c.at at s rest h.1 settles)
+    ∙ ap (λ (z : Statement). Some (Finish at z, rest)) (sym h.0)
+stmt_again (suc d) o (Finish at s) rest h settles =
     let ts = stmt s rest in
-    then_rest d o (head Wait ts) ts Wait (Finish s, rest) (wait_head d o ts) (finish_rest d o (stmt_at d) (stmt_again d) s rest h settles)
+    then_rest d o (head (Wait at) ts) ts (Wait at) (Finish at s, rest) (wait_head d o at ts) (finish_rest d o (stmt_at d) (stmt_again d) at s rest h settles)
 stmt_again (suc d) o (Call w at es) rest h settles = flat_stmt d o (Call w at es) rest tt h
 stmt_again (suc d) o (Resume w v) rest h settles = flat_stmt d o (Resume w v) rest tt h
 stmt_again (suc d) o (Drop w v) rest h settles = flat_stmt d o (Drop w v) rest tt h

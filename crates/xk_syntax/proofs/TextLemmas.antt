@@ -18,7 +18,7 @@ use Rattle.xk_tree.specs.declared.tree.Written.{Written}
 use Rattle.xk_tree.specs.declared.tree.Written.TheVariants as written
 use Rattle.xk_tree.specs.declared.tree.Number as tree
 use Rattle.xk_tree.specs.Tree.{Word, Clocks, Expression, Literal, Named, Paren, Negation, Binary, Make, Value, UpTo, Least, Statement, Statements, Done, More, Block, Empty, Declare, Assign, Atomic, If, IfElse, For, Async, Finish, Call, Resume, Drop, AdvanceAll, Print, TreeValue}
-use Rattle.xk_exprs.specs.Marks.{Mark, Name, Number, Operator, Open, Symbol, Reserved, AsyncAt, ClockedAt, ClockAt, LongAt, Unfit, kind_mark, marks}
+use Rattle.xk_exprs.specs.Marks.{Mark, Name, Number, Operator, Open, CloseAt, Symbol, Reserved, AsyncAt, FinishAt, ClockedAt, ClockAt, LongAt, Unfit, kind_mark, marks}
 use Rattle.xk_exprs.specs.declared.fault.SyntaxError.{SyntaxError}
 use Rattle.xk_exprs.specs.declared.fault.SyntaxError.TheVariants as error
 use Rattle.xk_exprs.specs.Faults.{front_error}
@@ -47,9 +47,11 @@ clean-append (Name at text ∷ xs) ys h k = clean-append xs ys h k
 clean-append (Number at n ∷ xs) ys h k = clean-append xs ys h k
 clean-append (Operator at o ∷ xs) ys h k = clean-append xs ys h k
 clean-append (Open at ∷ xs) ys h k = clean-append xs ys h k
+clean-append (CloseAt at ∷ xs) ys h k = clean-append xs ys h k
 clean-append (Symbol s ∷ xs) ys h k = clean-append xs ys h k
 clean-append (Reserved w ∷ xs) ys h k = clean-append xs ys h k
 clean-append (AsyncAt at ∷ xs) ys h k = clean-append xs ys h k
+clean-append (FinishAt at ∷ xs) ys h k = clean-append xs ys h k
 clean-append (ClockedAt at ∷ xs) ys h k = clean-append xs ys h k
 clean-append (ClockAt at ∷ xs) ys h k = clean-append xs ys h k
 clean-append (LongAt at ∷ xs) ys h k = clean-append xs ys h k
@@ -117,7 +119,7 @@ start_clean at (Some cs) after h = clocks_clean at cs.written cs.names after h
 
 mutual
   stmt_clean : (s : Statement) (after : List Mark) → Clean after → Clean (stmt s after)
-  stmt_clean (Block ss) after h = stmts_clean ss (Symbol sign.RightBrace ∷ after) h
+  stmt_clean (Block close ss) after h = stmts_clean ss (CloseAt close ∷ after) h
   stmt_clean Empty after h = h
   stmt_clean (Declare b w ty r) after h = type_part_clean ty (Symbol sign.Assign ∷ source r (Symbol sign.Semicolon ∷ after)) (source_clean r (Symbol sign.Semicolon ∷ after) h)
   stmt_clean (Assign w e) after h = expr_clean e (Symbol sign.Semicolon ∷ after) h
@@ -133,8 +135,8 @@ mutual
       let body = Symbol sign.RightParen ∷ stmt s after in
       number_clean lo (Symbol sign.DotDot ∷ bound b body) (bound_clean b body (stmt_clean s after h))
   stmt_clean (Async at cs s) after h = start_clean at cs (stmt s after) (stmt_clean s after h)
-  stmt_clean (Finish (Block (More (Declare binding.Hidden b ty r) (More s (More (Drop g v) Done))))) after h = stmt_clean s after h
-  stmt_clean (Finish s) after h = stmt_clean s after h
+  stmt_clean (Finish at (Block close (More (Declare binding.Hidden b ty r) (More s (More (Drop g v) Done))))) after h = stmt_clean s after h
+  stmt_clean (Finish at s) after h = stmt_clean s after h
   stmt_clean (Call w at es) after h = commas_clean expr expr_clean es (Symbol sign.RightParen ∷ Symbol sign.Semicolon ∷ after) h
   stmt_clean (Resume w v) after h = h
   stmt_clean (Drop w v) after h = h
@@ -150,8 +152,8 @@ param_clean p after h = type_clean p.takes after h
 
 method_clean : KeepsClean method
 method_clean m after h =
-    let body = stmts m.body (Symbol sign.RightBrace ∷ after) in
-    commas_clean param param_clean m.params (Symbol sign.RightParen ∷ Symbol sign.LeftBrace ∷ body) (stmts_clean m.body (Symbol sign.RightBrace ∷ after) h)
+    let body = stmts m.body (CloseAt m.close ∷ after) in
+    commas_clean param param_clean m.params (Symbol sign.RightParen ∷ Symbol sign.LeftBrace ∷ body) (stmts_clean m.body (CloseAt m.close ∷ after) h)
 
 shared_clean : KeepsClean shared
 shared_clean s after h = number_clean s.start (Symbol sign.Semicolon ∷ after) h

@@ -21,7 +21,7 @@ use Rattle.xk_tree.specs.declared.tree.Number as tree
 use Rattle.xk_tree.specs.declared.tree.Verb.{Verb}
 use Rattle.xk_tree.specs.declared.tree.Written.TheVariants as written
 use Rattle.xk_tree.specs.Tree.{Word, Expression, Source, Make, Value, Bound, UpTo, Least, Clocks, Statement, listed, Block, Empty, Declare, Assign, Atomic, If, IfElse, For, Async, Finish, Call, Resume, Drop, AdvanceAll, Print, ParamValue, MethodValue, SharedValue, TreeValue}
-use Rattle.xk_exprs.specs.Marks.{Mark, Name, Operator, Open, Symbol, Reserved, AsyncAt, ClockedAt, ClockAt, LongAt}
+use Rattle.xk_exprs.specs.Marks.{Mark, Name, Operator, Open, CloseAt, Symbol, Reserved, AsyncAt, FinishAt, ClockedAt, ClockAt, LongAt}
 use Rattle.xk_exprs.specs.ReaderCombinators.{Turn, Fails, Stops, Goes, loop, head_at}
 use Rattle.xk_exprs.specs.ExprReaders.{number_at, whole_at, whole_term_at}
 use Rattle.xk_syntax.specs.Spelling.{hidden_text, hidden_clock, clocked_finish, in_force, inside}
@@ -46,6 +46,7 @@ operator_sign operator.Times = sign.Star
 abbrev pub sign_of : Mark → Option Sign
 sign_of (Symbol s) = Some s
 sign_of (Open at) = Some sign.LeftParen
+sign_of (CloseAt at) = Some sign.RightBrace
 sign_of (Operator at o) = Some (operator_sign o)
 sign_of _ = None
 
@@ -53,6 +54,7 @@ sign_of _ = None
 abbrev pub keyword_of : Mark → Option Keyword
 keyword_of (Reserved k) = Some k
 keyword_of (AsyncAt at) = Some keyword.Async
+keyword_of (FinishAt at) = Some keyword.Finish
 keyword_of (ClockedAt at) = Some keyword.Clocked
 keyword_of (ClockAt at) = Some keyword.Clock
 keyword_of (LongAt at) = Some keyword.Long
@@ -84,6 +86,15 @@ open_by _ ts = None
 unfoldable pub open_at : List Mark → Option (ℕ × List Mark)
 open_at [] = None
 open_at (m ∷ ts) = open_by m ts
+
+abbrev pub close_by : Mark → List Mark → Option (ℕ × List Mark)
+close_by (CloseAt at) ts = Some (at, ts)
+close_by _ ts = None
+
+-- a `}` and its offset
+unfoldable pub close_at : List Mark → Option (ℕ × List Mark)
+close_at [] = None
+close_at (m ∷ ts) = close_by m ts
 
 abbrev pub plus_by : Mark → List Mark → Option (ℕ × List Mark)
 plus_by (Operator at operator.Plus) ts = Some (at, ts)
@@ -333,8 +344,8 @@ pub data Head : Type 0 where
   Condition : ℕ → Expression → Comparison → Expression → Head
   Range : ℕ → Word → tree.Number → Bound → Head
   Start : ℕ → Option Clocks → Head
-  Wait : Head
-  Hide : ℕ → Head
+  Wait : ℕ → Head
+  Hide : ℕ → ℕ → Head
 
 abbrev pub ReadHead : Type 0
 ReadHead = Option (Head × List Mark)
@@ -413,7 +424,7 @@ start_at at ts = do
   Some (Start at cs.0, cs.1)
 
 abbrev pub hiding_by : List ℕ → ℕ → Mark → List Mark → ReadHead
-hiding_by hidden at (Reserved keyword.Finish) ts = Some (Hide at, ts)
+hiding_by hidden at (FinishAt finish) ts = Some (Hide at finish, ts)
 hiding_by hidden at (AsyncAt start) ts = Some (Start start (Some (record { written = written.Ahead at; names = in_force at hidden ∷ [] })), ts)
 hiding_by hidden at _ ts = None
 
@@ -428,7 +439,7 @@ head_by d hidden all (Symbol sign.LeftBrace) ts = Some (Brace, ts)
 head_by d hidden all (Reserved keyword.If) ts = condition_at d ts
 head_by d hidden all (Reserved keyword.For) ts = range_at d ts
 head_by d hidden all (AsyncAt at) ts = start_at at ts
-head_by d hidden all (Reserved keyword.Finish) ts = Some (Wait, ts)
+head_by d hidden all (FinishAt at) ts = Some (Wait at, ts)
 head_by d hidden all (ClockedAt at) ts = hiding_at hidden at ts
 head_by d hidden all _ ts = whole (flat_at d all)
 
@@ -440,20 +451,20 @@ stmt_head_at d hidden ts = do
 
 -- ---- statements
 
-abbrev pub ahead_or : List Mark → Option (List Mark) → Option (List Mark)
+abbrev pub ahead_or : List Mark → Option (ℕ × List Mark) → Option (List Mark)
 ahead_or ts None = Some ts
-ahead_or ts (Some us) = None
+ahead_or ts (Some close) = None
 
 -- the tokens, unless a `}` comes
 unfoldable pub ahead_at : List Mark → Option (List Mark)
-ahead_at ts = ahead_or ts (sign_at sign.RightBrace ts)
+ahead_at ts = ahead_or ts (close_at ts)
 
--- statements up to a `}`, and that
-unfoldable pub stmts_at : (List Mark → Read) → List Mark → Option (List Statement × List Mark)
+-- statements up to a `}`, and that with its offset
+unfoldable pub stmts_at : (List Mark → Read) → List Mark → Option ((List Statement × ℕ) × List Mark)
 stmts_at inner ts = do
   ss ← more_at ahead_at inner [] ts
-  us ← sign_at sign.RightBrace ss.1
-  Some (ss.0, us)
+  close ← close_at ss.1
+  Some ((ss.0, close.0), close.1)
 
 abbrev pub else_or : (List Mark → Read) → ℕ → Expression → Comparison → Expression → Statement → List Mark → Option (List Mark) → Read
 else_or inner at l c r s ts None = Some (If at l c r s, ts)
@@ -471,7 +482,7 @@ unfoldable pub rest_at : ℕ → (List ℕ → List Mark → Read) → List ℕ 
 rest_at d inner hidden (Whole s) ts = Some (s, ts)
 rest_at d inner hidden Brace ts = do
   ss ← stmts_at (inner hidden) ts
-  Some (Block (listed ss.0), ss.1)
+  Some (Block ss.0.1 (listed ss.0.0), ss.1)
 rest_at d inner hidden (Condition at l c r) ts = do
   s ← inner hidden ts
   else_at (inner hidden) at l c r s.0 s.1
@@ -481,12 +492,12 @@ rest_at d inner hidden (Range at w lo b) ts = do
 rest_at d inner hidden (Start at cs) ts = do
   s ← inner (inside cs hidden) ts
   Some (Async at cs s.0, s.1)
-rest_at d inner hidden Wait ts = do
+rest_at d inner hidden (Wait at) ts = do
   s ← inner [] ts
-  Some (Finish s.0, s.1)
-rest_at d inner hidden (Hide at) ts = do
+  Some (Finish at s.0, s.1)
+rest_at d inner hidden (Hide at finish) ts = do
   s ← inner (hidden_text (suc d)) ts
-  Some (clocked_finish (hidden_clock (suc d) at) s.0, s.1)
+  Some (clocked_finish finish (hidden_clock (suc d) at) s.0, s.1)
 
 -- a statement, where so many levels are left, itself among them, and this is the hidden clock of the place
 unfoldable pub stmt_at : ℕ → List ℕ → List Mark → Read
@@ -512,7 +523,7 @@ method_at ts = do
   ps ← listed_at param_at at.1
   us ← sign_at sign.LeftBrace ps.1
   ss ← stmts_at (stmt_at 64 []) us
-  Some (record { name = w.0; paren = at.0; params = ps.0; body = listed ss.0 }, ss.1)
+  Some (record { name = w.0; paren = at.0; params = ps.0; body = listed ss.0.0; close = ss.0.1 }, ss.1)
 
 -- behind its `shared`
 unfoldable pub shared_at : List Mark → Option (SharedValue × List Mark)

@@ -21,7 +21,7 @@ use Rattle.xk_tree.specs.declared.tree.Verb.{Verb}
 use Rattle.xk_tree.specs.declared.tree.Written.{Written}
 use Rattle.xk_tree.specs.declared.tree.Written.TheVariants as written
 use Rattle.xk_tree.specs.Tree.{Word, Expression, Source, Make, Value, Bound, UpTo, Least, Clocks, Statement, Statements, Done, More, Block, Empty, Declare, Assign, Atomic, If, IfElse, For, Async, Finish, Call, Resume, Drop, AdvanceAll, Print, ParamValue, MethodValue, SharedValue, TreeValue}
-use Rattle.xk_exprs.specs.Marks.{Mark, Name, Number, Operator, Open, Symbol, Reserved, AsyncAt, ClockedAt, ClockAt, LongAt, Unfit, sign_mark, keyword_mark}
+use Rattle.xk_exprs.specs.Marks.{Mark, Name, Number, Operator, Open, CloseAt, Symbol, Reserved, AsyncAt, FinishAt, ClockedAt, ClockAt, LongAt, Unfit, sign_mark, keyword_mark}
 use Rattle.xk_exprs.specs.Spelling.{spell, number_marks, IsNumber, Spells, SpellsTerm}
 
 -- ---- Names that no text has
@@ -39,9 +39,10 @@ hidden_clock d at = record { at = at; text = hidden_text d }
 abbrev pub between : Word → Statement → Statements
 between h s = let v : Verb = record { at = h.at; paren = h.at } in More (Declare binding.Hidden h None (Make h.at v)) (More s (More (Drop h v) Done))
 
--- what `clocked finish s` stands for
-abbrev pub clocked_finish : Word → Statement → Statement
-clocked_finish h s = Finish (Block (between h s))
+-- What `clocked finish s` stands for, where `finish` stands at this offset. The block has no `}` in the text: its offset is that of `finish` too, so
+-- that a text spells one tree.
+abbrev pub clocked_finish : ℕ → Word → Statement → Statement
+clocked_finish at h s = Finish at (Block at (between h s))
 
 -- The clock that `clocked async` hands on, where `clocked` stands at this offset, and this is the text of the hidden clock of the place. Where a place
 -- has none, that text is empty.
@@ -134,7 +135,7 @@ start at (Some cs) after = clocked_start at cs.written cs.names after
 
 abbrev mutual
   pub stmt : Statement → List Mark → List Mark
-  stmt (Block ss) after = Symbol sign.LeftBrace ∷ stmts ss (Symbol sign.RightBrace ∷ after)
+  stmt (Block close ss) after = Symbol sign.LeftBrace ∷ stmts ss (CloseAt close ∷ after)
   stmt Empty after = Symbol sign.Semicolon ∷ after
   stmt (Declare b w ty r) after = Reserved (binding_word b) ∷ word w (type_part ty (Symbol sign.Assign ∷ source r (Symbol sign.Semicolon ∷ after)))
   stmt (Assign w e) after = word w (Symbol sign.Assign ∷ expr e (Symbol sign.Semicolon ∷ after))
@@ -144,8 +145,8 @@ abbrev mutual
       (Symbol sign.RightParen ∷ stmt s (Reserved keyword.Else ∷ stmt t after)))
   stmt (For at w lo b s) after = Reserved keyword.For ∷ Open at ∷ word w (Reserved keyword.In ∷ number lo (Symbol sign.DotDot ∷ bound b (Symbol sign.RightParen ∷ stmt s after)))
   stmt (Async at cs s) after = start at cs (stmt s after)
-  stmt (Finish (Block (More (Declare binding.Hidden h ty r) (More s (More (Drop g v) Done))))) after = ClockedAt h.at ∷ Reserved keyword.Finish ∷ stmt s after
-  stmt (Finish s) after = Reserved keyword.Finish ∷ stmt s after
+  stmt (Finish at (Block close (More (Declare binding.Hidden h ty r) (More s (More (Drop g v) Done))))) after = ClockedAt h.at ∷ FinishAt at ∷ stmt s after
+  stmt (Finish at s) after = FinishAt at ∷ stmt s after
   stmt (Call w at es) after = word w (Open at ∷ commas expr es (Symbol sign.RightParen ∷ Symbol sign.Semicolon ∷ after))
   stmt (Resume w v) after = word w (Symbol sign.Dot ∷ verb (codes "resume") v (Symbol sign.RightParen ∷ Symbol sign.Semicolon ∷ after))
   stmt (Drop w v) after = word w (Symbol sign.Dot ∷ verb (codes "drop") v (Symbol sign.RightParen ∷ Symbol sign.Semicolon ∷ after))
@@ -162,7 +163,7 @@ param p after = word p.name (Symbol sign.Colon ∷ type_name p.takes after)
 
 abbrev pub method : MethodValue → List Mark → List Mark
 method m after = Reserved keyword.Def ∷ word m.name (Open m.paren ∷ commas param m.params
-    (Symbol sign.RightParen ∷ Symbol sign.LeftBrace ∷ stmts m.body (Symbol sign.RightBrace ∷ after)))
+    (Symbol sign.RightParen ∷ Symbol sign.LeftBrace ∷ stmts m.body (CloseAt m.close ∷ after)))
 
 abbrev pub shared : SharedValue → List Mark → List Mark
 shared s after = Reserved keyword.Shared ∷ word s.name (Symbol sign.Assign ∷ number s.start (Symbol sign.Semicolon ∷ after))
@@ -186,8 +187,8 @@ dangles (If at l c r s) = true
 dangles (IfElse at l c r s t) = dangles t
 dangles (For at w lo b s) = dangles s
 dangles (Async at cs s) = dangles s
-dangles (Finish (Block (More (Declare binding.Hidden h ty r) (More s (More (Drop g v) Done))))) = dangles s
-dangles (Finish s) = dangles s
+dangles (Finish at (Block close (More (Declare binding.Hidden h ty r) (More s (More (Drop g v) Done))))) = dangles s
+dangles (Finish at s) = dangles s
 dangles _ = false
 
 abbrev pub SourceFits : ℕ → Source → Type 0
@@ -217,10 +218,10 @@ abbrev mutual
   -- A statement fits where so many statements, parentheses and negations may still be in one another, and this is the hidden clock of the place: its
   -- expressions and numbers are within their limits, a list of clocks isn't empty, what is added by an `atomic` is a term, an `else` belongs to the
   -- nearest `if`, and the name of a loop's limit is the hidden one of its level. A hidden clock is made only by what a `clocked finish` stands for, under
-  -- the hidden name of its level, and a `clocked async` hands on that of the place.
+  -- the hidden name of its level and in a block at the offset of `finish`, and a `clocked async` hands on that of the place.
   pub Fits : ℕ → List ℕ → Statement → Type 0
   Fits zero hidden s = ⊥
-  Fits (suc d) hidden (Block ss) = AllFit d hidden ss
+  Fits (suc d) hidden (Block close ss) = AllFit d hidden ss
   Fits (suc d) hidden Empty = Unit {0}
   Fits (suc d) hidden (Declare b w ty r) = DeclareFits d b r
   Fits (suc d) hidden (Assign w e) = IsExpr d e
@@ -229,9 +230,10 @@ abbrev mutual
   Fits (suc d) hidden (IfElse at l c r s t) = IsExpr d l × IsExpr d r × Fits d hidden s × Fits d hidden t × (dangles s ≡ false)
   Fits (suc d) hidden (For at w lo b s) = IsNumber lo × BoundFits d b × Fits d hidden s
   Fits (suc d) hidden (Async at cs s) = ClocksFit hidden cs × Fits d (inside cs hidden) s
-  Fits (suc d) hidden (Finish (Block (More (Declare binding.Hidden h ty r) (More s (More (Drop g v) Done))))) =
-      (More (Declare binding.Hidden h ty r) (More s (More (Drop g v) Done)) ≡ between (hidden_clock (suc d) h.at) s) × Fits d (hidden_text (suc d)) s
-  Fits (suc d) hidden (Finish s) = Fits d [] s
+  Fits (suc d) hidden (Finish at (Block close (More (Declare binding.Hidden h ty r) (More s (More (Drop g v) Done))))) =
+      (Block close (More (Declare binding.Hidden h ty r) (More s (More (Drop g v) Done))) ≡ Block at (between (hidden_clock (suc d) h.at) s))
+      × Fits d (hidden_text (suc d)) s
+  Fits (suc d) hidden (Finish at s) = Fits d [] s
   Fits (suc d) hidden (Call w at es) = AllByRecursion (IsExpr d) es
   Fits (suc d) hidden (Resume w v) = Unit {0}
   Fits (suc d) hidden (Drop w v) = Unit {0}

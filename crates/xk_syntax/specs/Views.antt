@@ -15,5 +15,5 @@ head_value head.Brace = Brace
 head_value (head.Condition at l c r) = Condition at (expression l) c (expression r)
 head_value (head.Range at n lo b) = Range at (word n) lo (bound b)
 head_value (head.Start at cs) = Start at (clocks_value cs)
-head_value head.Wait = Wait
-head_value (head.Hide at) = Hide at
+head_value (head.Wait at) = Wait at
+head_value (head.Hide at finish) = Hide at finish

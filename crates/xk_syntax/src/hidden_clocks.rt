@@ -25,13 +25,14 @@ pub(crate) fn hidden_name<'t>(at: usize, levels: u32) -> Name<'t>
     }
 }
 
-/// What a `clocked finish` of this statement stands for, with this name for its clock.
+/// What a `clocked finish` of this statement stands for, whose `finish` stands at this offset, with this name for its clock.
 pub(crate) fn clocked_finish<'t>(
     alloc: Global,
+    at: usize,
     clock: Name<'t>,
     stmt: Stmt<'t>,
 ) -> Result<Stmt<'t>, AllocError>
-    ensures { IfOk result (λ s. statement s ≡ clocked_finish (word clock.entry)
+    ensures { IfOk result (λ s. statement s ≡ clocked_finish at (word clock.entry)
         (statement stmt.entry)) }
 {
     let verb = Verb {
@@ -42,6 +43,6 @@ pub(crate) fn clocked_finish<'t>(
     stmts.push(Stmt::Declare(Binding::Hidden, clock, None, Right::Make(clock.at, verb)))?;
     stmts.push(stmt)?;
     stmts.push(Stmt::Drop(clock, verb))?;
-    let block = Box::new(alloc, Stmt::Block(stmts))?;
-    Ok(Stmt::Finish(block))
+    let block = Box::new(alloc, Stmt::Block(at, stmts))?;
+    Ok(Stmt::Finish(at, block))
 }

@@ -84,13 +84,14 @@ fn method<'s, 't>(
     let (paren, rest) = need_open(rest, end)?;
     let (params, rest) = params(alloc, rest, end)?;
     let rest = need_sign(Sign::LeftBrace, rest, end)?;
-    let (body, rest) = read_stmts(alloc, MAX_LEVELS, &[], rest, end)?;
+    let ((body, close), rest) = read_stmts(alloc, MAX_LEVELS, &[], rest, end)?;
     Ok((
         Method {
             name,
             paren,
             params,
             body,
+            close,
         },
         rest,
     ))

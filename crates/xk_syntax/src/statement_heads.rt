@@ -35,10 +35,10 @@ pub(crate) enum Head<'t> {
     Range(usize, Name<'t>, Number, Bound<'t>),
     /// `async`, with its offset, and its clocks.
     Start(usize, Option<ClockList<'t>>),
-    /// `finish`
-    Wait,
-    /// `clocked finish`, with the offset of `clocked`.
-    Hide(usize),
+    /// `finish`, with its offset.
+    Wait(usize),
+    /// `clocked finish`, with the offsets of both words.
+    Hide(usize, usize),
 }
 
 /// An `if`, behind that word, up to its statement.
@@ -163,7 +163,7 @@ fn hiding<'s, 't>(
     };
     match token.kind {
         TokenKind::Keyword(word) => match word {
-            Keyword::Finish => Ok((Head::Hide(at), rest)),
+            Keyword::Finish => Ok((Head::Hide(at, token.at), rest)),
             Keyword::Async => {
                 let clocks = hidden_list(alloc, at, hidden)?;
                 Ok((Head::Start(token.at, Some(clocks)), rest))
@@ -245,7 +245,7 @@ pub(crate) fn stmt_head<'s, 't>(
             Keyword::If => condition(alloc, levels, rest, end),
             Keyword::For => range(alloc, levels, rest, end),
             Keyword::Async => start(alloc, token.at, rest, end),
-            Keyword::Finish => Ok((Head::Wait, rest)),
+            Keyword::Finish => Ok((Head::Wait(token.at), rest)),
             Keyword::Clocked => hiding(alloc, token.at, hidden, rest, end),
             _ => whole(alloc, levels, tokens, end),
         },

@@ -10,7 +10,7 @@ ghost use Rattle.xk_syntax.specs.Views.{clocks_value, head_value};
 
 use crate::hidden_clocks::{clocked_finish, hidden_name};
 use crate::statement_heads::{Head, stmt_head};
-use crate::token_readers::{after_keyword, ahead, need_sign};
+use crate::token_readers::{after_keyword, ahead, need_close};
 use std::alloc::Global;
 use xk_exprs::token_readers::{next, unexpected};
 use xk_exprs::{SyntaxError, SyntaxFault, SyntaxRule};
@@ -72,7 +72,7 @@ fn hidden_inside<'t>(clocks: &Option<ClockList<'t>>, hidden: &'t [u8]) -> &'t [u
     }
 }
 
-/// Statements up to a `}`, and that.
+/// Statements up to a `}`, and that with its offset.
 #[cycle(stmts)]
 #[tactic(auto, unfolding(crate::specs::Readers::bind, crate::specs::Readers::stmts_at))]
 pub(crate) fn read_stmts<'s, 't>(
@@ -81,8 +81,8 @@ pub(crate) fn read_stmts<'s, 't>(
     hidden: &'t [u8],
     tokens: &'s [Token<'t>],
     end: usize,
-) -> Result<(Vec<Stmt<'t>>, &'s [Token<'t>]), SyntaxError>
-    ensures { Gives (λ x. (map statement x.0.items, marks x.1.now)) result
+) -> Result<((Vec<Stmt<'t>>, usize), &'s [Token<'t>]), SyntaxError>
+    ensures { Gives (λ x. ((map statement x.0.0.items, x.0.1), marks x.1.now)) result
         (stmts_at (stmt_at levels hidden.now) (marks tokens.now)) }
 {
     let (mut stmts, mut rest) = no_stmts(alloc, tokens);
@@ -91,8 +91,8 @@ pub(crate) fn read_stmts<'s, 't>(
         stmts.push(stmt)?;
         rest = left;
     }
-    let after = need_sign(Sign::RightBrace, rest, end)?;
-    Ok((stmts, after))
+    let (close, after) = need_close(rest, end)?;
+    Ok(((stmts, close), after))
 }
 
 /// A statement, in a box.
@@ -181,8 +181,8 @@ fn block_stmt<'s, 't>(
     ensures { Gives (λ x. (statement x.0, marks x.1.now)) result
         (rest_at levels (stmt_at levels) hidden.now Brace (marks tokens.now)) }
 {
-    let (stmts, rest) = read_stmts(alloc, levels, hidden, tokens, end)?;
-    Ok((Stmt::Block(stmts), rest))
+    let ((stmts, close), rest) = read_stmts(alloc, levels, hidden, tokens, end)?;
+    Ok((Stmt::Block(close, stmts), rest))
 }
 
 /// The rest of a `for`, behind its `)`.
@@ -228,26 +228,10 @@ fn async_stmt<'s, 't>(
     Ok((Stmt::Async(at, clocks, stmt), rest))
 }
 
-/// The rest of a `finish`, behind that word.
+/// The rest of a `finish`, behind that word, which stands at this offset.
 #[cycle(stmts)]
 #[tactic(auto, unfolding(crate::specs::Readers::bind, crate::specs::Readers::rest_at))]
 fn finish_stmt<'s, 't>(
-    alloc: Global,
-    levels: u32,
-    tokens: &'s [Token<'t>],
-    end: usize,
-) -> Result<(Stmt<'t>, &'s [Token<'t>]), SyntaxError>
-    ensures { Gives (λ x. (statement x.0, marks x.1.now)) result
-        (rest_at levels (stmt_at levels) [] Wait (marks tokens.now)) }
-{
-    let (stmt, rest) = boxed_stmt(alloc, levels, &[], tokens, end)?;
-    Ok((Stmt::Finish(stmt), rest))
-}
-
-/// The rest of a `clocked finish`, behind these words, whose `clocked` stands at this offset.
-#[cycle(stmts)]
-#[tactic(auto, unfolding(crate::specs::Readers::bind, crate::specs::Readers::rest_at))]
-fn hiding_stmt<'s, 't>(
     alloc: Global,
     levels: u32,
     at: usize,
@@ -255,11 +239,29 @@ fn hiding_stmt<'s, 't>(
     end: usize,
 ) -> Result<(Stmt<'t>, &'s [Token<'t>]), SyntaxError>
     ensures { Gives (λ x. (statement x.0, marks x.1.now)) result
-        (rest_at levels (stmt_at levels) [] (Hide at) (marks tokens.now)) }
+        (rest_at levels (stmt_at levels) [] (Wait at) (marks tokens.now)) }
+{
+    let (stmt, rest) = boxed_stmt(alloc, levels, &[], tokens, end)?;
+    Ok((Stmt::Finish(at, stmt), rest))
+}
+
+/// The rest of a `clocked finish`, behind these words, which stand at these offsets.
+#[cycle(stmts)]
+#[tactic(auto, unfolding(crate::specs::Readers::bind, crate::specs::Readers::rest_at))]
+fn hiding_stmt<'s, 't>(
+    alloc: Global,
+    levels: u32,
+    at: usize,
+    finish: usize,
+    tokens: &'s [Token<'t>],
+    end: usize,
+) -> Result<(Stmt<'t>, &'s [Token<'t>]), SyntaxError>
+    ensures { Gives (λ x. (statement x.0, marks x.1.now)) result
+        (rest_at levels (stmt_at levels) [] (Hide at finish) (marks tokens.now)) }
 {
     let clock = hidden_name(at, levels);
     let (stmt, rest) = read_stmt(alloc, levels, clock.text, tokens, end)?;
-    let stmt = clocked_finish(alloc, clock, stmt)?;
+    let stmt = clocked_finish(alloc, finish, clock, stmt)?;
     Ok((stmt, rest))
 }
 
@@ -289,8 +291,8 @@ fn rest_of<'s, 't>(
             alloc, levels, hidden, paren, name, lo, reach, tokens, end,
         ),
         Head::Start(at, clocks) => async_stmt(alloc, levels, hidden, at, clocks, tokens, end),
-        Head::Wait => finish_stmt(alloc, levels, tokens, end),
-        Head::Hide(at) => hiding_stmt(alloc, levels, at, tokens, end),
+        Head::Wait(at) => finish_stmt(alloc, levels, at, tokens, end),
+        Head::Hide(at, finish) => hiding_stmt(alloc, levels, at, finish, tokens, end),
     }
 }
 

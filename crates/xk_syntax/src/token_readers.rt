@@ -5,7 +5,7 @@ ghost use Rattle.std.specs.Str.{bytes_eq};
 ghost use Rattle.xk_tree.specs.Tree.{word};
 ghost use Rattle.xk_exprs.specs.Marks.{marks};
 ghost use Rattle.xk_exprs.specs.ReaderCombinators.{Gives};
-ghost use Rattle.xk_syntax.specs.Readers.{sign_at, keyword_at, open_at, plus_at, clock_at, word_at, this_word_at, comparison_of, comparison_at, type_at, ahead_at};
+ghost use Rattle.xk_syntax.specs.Readers.{sign_at, keyword_at, open_at, close_at, plus_at, clock_at, word_at, this_word_at, comparison_of, comparison_at, type_at, ahead_at};
 
 use xk_exprs::SyntaxError;
 use xk_exprs::token_readers::{next, unexpected};
@@ -96,6 +96,34 @@ pub(crate) fn need_open<'s, 't>(
     }
 }
 
+/// A `}`, if it comes, and its offset.
+#[tactic(auto, unfolding(crate::specs::Readers::close_at))]
+fn close_brace<'s, 't>(tokens: &'s [Token<'t>]) -> Option<(usize, &'s [Token<'t>])>
+    ensures { option_map (λ x. (x.0, marks x.1.now)) result ≡ close_at (marks tokens.now) }
+{
+    let (token, rest) = next(tokens)?;
+    match token.kind {
+        TokenKind::Sign(sign) => match sign {
+            Sign::RightBrace => Some((token.at, rest)),
+            _ => None,
+        },
+        _ => None,
+    }
+}
+
+/// A `}`, which has to come, and its offset.
+pub(crate) fn need_close<'s, 't>(
+    tokens: &'s [Token<'t>],
+    end: usize,
+) -> Result<(usize, &'s [Token<'t>]), SyntaxError>
+    ensures { Gives (λ x. (x.0, marks x.1.now)) result (close_at (marks tokens.now)) }
+{
+    match close_brace(tokens) {
+        Some(close) => Ok(close),
+        None => Err(SyntaxError::Fault(unexpected(tokens, end))),
+    }
+}
+
 /// A `+`, which has to come, and its offset.
 #[tactic(auto, unfolding(crate::specs::Readers::plus_at))]
 pub(crate) fn need_plus<'s, 't>(
@@ -136,7 +164,7 @@ pub(crate) fn clock_word<'s, 't>(tokens: &'s [Token<'t>]) -> Option<(usize, &'s 
 pub(crate) fn ahead<'s, 't>(tokens: &'s [Token<'t>]) -> Option<&'s [Token<'t>]>
     ensures { option_map (λ x. marks x.now) result ≡ ahead_at (marks tokens.now) }
 {
-    match after_sign(Sign::RightBrace, tokens) {
+    match close_brace(tokens) {
         None => Some(tokens),
         Some(_) => None,
     }

@@ -1,4 +1,4 @@
--- Trees, apart from where they lie in memory. Numbers called `at`, `paren` or `minus` are offsets in the text.
+-- Trees, apart from where they lie in memory. Numbers called `at`, `paren`, `close` or `minus` are offsets in the text.
 -- The language is this project's own, in the manner of X10.
 use Rattle.std.specs.Prelude.{ℕ, ℤ, Bool, int_le, List, [], ◌∷◌, map, Option, option_map}
 use Rattle.xk_types.specs.declared.instr.Comparison.{Comparison}
@@ -64,7 +64,7 @@ pub record Clocks : Type 0 where
 mutual
   -- a statement
   pub data Statement : Type 0 where
-    Block : Statements → Statement
+    Block : ℕ → Statements → Statement
     Empty : Statement
     Declare : Binding → Word → Option TypeName → Source → Statement
     Assign : Word → Expression → Statement
@@ -73,7 +73,7 @@ mutual
     IfElse : ℕ → Expression → Comparison → Expression → Statement → Statement → Statement
     For : ℕ → Word → Number → Bound → Statement → Statement
     Async : ℕ → Option Clocks → Statement → Statement
-    Finish : Statement → Statement
+    Finish : ℕ → Statement → Statement
     Call : Word → ℕ → List Expression → Statement
     Resume : Word → Verb → Statement
     Drop : Word → Verb → Statement
@@ -94,6 +94,7 @@ pub record MethodValue : Type 0 where
   pub paren : ℕ
   pub params : List ParamValue
   pub body : Statements
+  pub close : ℕ
 
 pub record SharedValue : Type 0 where
   pub name : Word
@@ -138,7 +139,7 @@ listed [] = Done
 listed (s ∷ ss) = More s (listed ss)
 
 abbrev pub layer_statement : Stmt-F Statement → Statement
-layer_statement (layer.Block ss) = Block (listed ss.items)
+layer_statement (layer.Block close ss) = Block close (listed ss.items)
 layer_statement layer.Empty = Empty
 layer_statement (layer.Declare b n ty r) = Declare b (word n) ty (source r)
 layer_statement (layer.Assign n e) = Assign (word n) (expression e)
@@ -147,7 +148,7 @@ layer_statement (layer.If at l c r s) = If at (expression l) c (expression r) s.
 layer_statement (layer.IfElse at l c r s t) = IfElse at (expression l) c (expression r) s.value t.value
 layer_statement (layer.For at n a b s) = For at (word n) a (bound b) s.value
 layer_statement (layer.Async at cs s) = Async at (option_map clock_list cs) s.value
-layer_statement (layer.Finish s) = Finish s.value
+layer_statement (layer.Finish at s) = Finish at s.value
 layer_statement (layer.Call n at es) = Call (word n) at (expressions es.items)
 layer_statement (layer.Resume n verb) = Resume (word n) verb
 layer_statement (layer.Drop n verb) = Drop (word n) verb
@@ -168,7 +169,7 @@ abbrev pub shared_value : shared.Shared → SharedValue
 shared_value s = record { name = word s.name; start = s.start }
 
 abbrev pub method_value : method.Method → MethodValue
-method_value m = record { name = word m.name; paren = m.paren; params = map param_value m.params.items; body = statements m.body.items }
+method_value m = record { name = word m.name; paren = m.paren; params = map param_value m.params.items; body = statements m.body.items; close = m.close }
 
 -- a program of these shared numbers and methods
 abbrev pub program_value : List shared.Shared → List method.Method → TreeValue

@@ -150,7 +150,7 @@ module _ (t : TreeValue) (scoped : IsScoped t) (units : List Part) (cx : Setting
   mutual
     pub finds_units : (k : ℕ) (s : Statement) → AreParts t (bodies s) → ((r : Run) → Has (runs s) r → HasLater t units k r)
         → EachInside (FindsUnits made cx (signatures t.methods) k) s
-    finds_units k (Block ss) among later = find_units k ss among later
+    finds_units k (Block close ss) among later = find_units k ss among later
     finds_units k (If at l op r s) among later = finds_units k s among later
     finds_units k (IfElse at l op r s u) among later = (
       finds_units k s (λ p i. among p (has_left (bodies s) (bodies u) p i)) (λ r i. later r (has_left (runs s) (runs u) r i)),
@@ -159,7 +159,7 @@ module _ (t : TreeValue) (scoped : IsScoped t) (units : List Part) (cx : Setting
     finds_units k (For at i lo b s) among later =
         λ turns. finds_units k s among (λ r j. later r (subst (λ (c : Bool). Has (cond c (runs s) []) r) (sym turns) j))
     finds_units k (Async at cs s) among later = finds_body k at cs s (among (OfBody at cs s) (inl refl)) (later (Starts at) (inl refl))
-    finds_units k (Finish s) among later = finds_units k s among later
+    finds_units k (Finish at s) among later = finds_units k s among later
     finds_units k (Call f at es) among later = finds_method k f (later (Calls f) (inl refl))
     finds_units k Empty among later = tt
     finds_units k (Declare b x ty r) among later = tt

@@ -39,7 +39,7 @@ inner = Print 0 verb x
 
 -- `async clocked(c) { async println(x); }`
 abbrev outer : Statement
-outer = Block (More (Async 20 None inner) Done)
+outer = Block 0 (More (Async 20 None inner) Done)
 
 -- `def main() { val x = 1; val c = Clock.make(); async clocked(c) { async println(x); } m(x); for (i in 2..1) { async m(x); } }`
 abbrev body : Statements
@@ -48,10 +48,10 @@ body =
     (More (Async 10 c outer) (More calls_m (More (For 0 (w (codes "i")) (number 2) (UpTo (number 1)) (Async 30 None calls_m)) Done))))
 
 abbrev main : MethodValue
-main = record { name = w (codes "main"); paren = 0; params = []; body = body }
+main = record { name = w (codes "main"); paren = 0; params = []; body = body; close = 0 }
 
 abbrev m : MethodValue
-m = record { name = w (codes "m"); paren = 0; params = record { name = w (codes "y"); takes = record { kind = param.Number; at = 0 } } ∷ []; body = Done }
+m = record { name = w (codes "m"); paren = 0; params = record { name = w (codes "y"); takes = record { kind = param.Number; at = 0 } } ∷ []; body = Done; close = 0 }
 
 -- `shared s = 0;`
 abbrev s : SharedValue

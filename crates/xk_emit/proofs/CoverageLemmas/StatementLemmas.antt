@@ -242,7 +242,7 @@ mutual
   covered : (cx : Setting) (ms : Signatures) (shared : Texts) (placed : HasPlaces cx shared) (sc : Seen) (scope : Scope) (own : Texts) (n : ℕ) (s : Statement)
       → Fits shared sc scope own → IsSound ms sc s → IsSoundInside ms sc s → IsTaken scope (outer_words ms own s) → Settled cx ms shared (calls_in s) (bodies_in s)
       → Covered cx scope n s
-  covered cx ms shared placed sc scope own n (Block ss) there sound inner taken settled = all_covered cx ms shared placed sc scope own n ss there inner taken settled
+  covered cx ms shared placed sc scope own n (Block close ss) there sound inner taken settled = all_covered cx ms shared placed sc scope own n ss there inner taken settled
   covered cx ms shared placed sc scope own n Empty there sound inner taken settled = (tt, none_there cx)
   covered cx ms shared placed sc scope own n (Declare b x ty r) there sound inner taken settled = (
     (
@@ -304,7 +304,7 @@ mutual
           | inr r ↦ k.1 b r
         ],
       )
-  covered cx ms shared placed sc scope own n (Finish s) there sound inner taken settled =
+  covered cx ms shared placed sc scope own n (Finish at s) there sound inner taken settled =
       covered cx ms shared placed sc scope own n s there inner.0 inner.1 taken settled
   covered cx ms shared placed sc scope own n (Call f at es) there sound inner taken settled =
       ((settled.methods f (inl refl), call_known ms shared sc scope own f at es there sound (own_taken ms scope own (Call f at es) taken)), none_there cx)

@@ -254,7 +254,7 @@ module _ (m : ModuleValue) (cx : Setting) (t : ℕ) where
   mutual
     pub hands_once : (scope : Scope) (n : ℕ) (s : Statement) → ScopeBelow n scope → AreApart scope → IsCovered cx scope n s → EachInside (GivesOnce m cx) s
         → EachRow (HandsOnce m) (nest_of cx t scope n s)
-    hands_once scope n (Block ss) w a c h = all_hand_once scope n ss w a c h
+    hands_once scope n (Block close ss) w a c h = all_hand_once scope n ss w a c h
     hands_once scope n (If at l op r s) w a c h = (each_both cx RunsNone (HandsOnce m) plain scope t l r, hands_once scope n s w a c.2 h)
     hands_once scope n (IfElse at l op r s u) w a c h = (
       each_both cx RunsNone (HandsOnce m) plain scope t l r,
@@ -273,7 +273,7 @@ module _ (m : ModuleValue) (cx : Setting) (t : ℕ) where
             → EachRow (HandsOnce m) (cond q (Then (Row (before_bound scope t n b)) (Loop n lo.value (limit_slot n b) (top b) y)) (Row []))
         go true d g y f = (each_bound cx RunsNone (HandsOnce m) plain scope t n b, f (d refl).2 (g refl))
         go false d g y f = tt
-    hands_once scope n (Finish s) w a c h = hands_once scope n s w a c h
+    hands_once scope n (Finish at s) w a c h = hands_once scope n s w a c h
     hands_once scope n (Async at cs s) w a c h = (spawn_once m cx scope at cs a c.1 h, tt)
     hands_once scope n (Call f at es) w a c h =
         let i = instr.Call (number_of cx.methods f) (argument_slots scope t es) in

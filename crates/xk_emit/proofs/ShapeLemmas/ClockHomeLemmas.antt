@@ -93,7 +93,7 @@ rises_head lo hi n l (Least x v k h) e is r = (tt, r)
 mutual
   -- the slots of a statement's clocks
   rises : (cx : Setting) (t : ℕ) (scope : Scope) (n p : ℕ) (s : Statement) → Rises n (n + count s) (code_of cx t scope n p s)
-  rises cx t scope n p (Block ss) = all_rise cx t scope n p ss
+  rises cx t scope n p (Block close ss) = all_rise cx t scope n p ss
   rises cx t scope n p (Declare b x ty (Make at v)) = (omega arith, omega arith)
   rises cx t scope n p (Declare b x ty (Value e)) =
       rises_none n (n + 1) (code_of cx t scope n p (Declare b x ty (Value e))) (omega arith) (rows_of cx NoClock NoMake (make_leaves cx) t scope n (Declare b x ty (Value e)) tt)
@@ -142,7 +142,7 @@ mutual
           (rises_head n end n lo.value b (q + 1 + length body) behind
           (rises_lower n m end behind (omega arith) (rises_both m (m + count s) end body (instr.Next q ∷ []) h (tt, omega arith))))
       go false body h = omega arith
-  rises cx t scope n p (Finish s) =
+  rises cx t scope n p (Finish at s) =
       let body = code_of cx t scope n (p + 1) s in
       (tt, rises_both n (n + count s) (n + count s) body (instr.EndFinish p ∷ []) (rises cx t scope n (p + 1) s) (tt, omega arith))
   rises cx t scope n p Empty = omega arith
@@ -267,7 +267,7 @@ slot_from xs m scope y h g other = go (find scope y) refl g
 mutual
   drops_from : (cx : Setting) (xs : List (List ℕ)) (m t : ℕ) (scope : Scope) (n : ℕ) (s : Statement) → m ≤ n → OthersFrom xs m scope → IsCovered cx scope n s
       → EachInside (SparesClocks xs) s → EachRow (DropsFrom m) (nest_of cx t scope n s)
-  drops_from cx xs m t scope n (Block ss) l o c h = all_drop_from cx xs m t scope n ss l o c h
+  drops_from cx xs m t scope n (Block close ss) l o c h = all_drop_from cx xs m t scope n ss l o c h
   drops_from cx xs m t scope n (If at a op b s) l o c h = (each_both cx NoDrop (DropsFrom m) (drop_leaves cx m) scope t a b, drops_from cx xs m t scope n s l o c.2 h)
   drops_from cx xs m t scope n (IfElse at a op b s u) l o c h = (
     each_both cx NoDrop (DropsFrom m) (drop_leaves cx m) scope t a b,
@@ -285,7 +285,7 @@ mutual
           → EachRow (DropsFrom m) (cond q (Then (Row (before_bound scope t n b)) (Loop n lo.value (limit_slot n b) (top b) y)) (Row []))
       go true d g y f = (each_bound cx NoDrop (DropsFrom m) (drop_leaves cx m) scope t n b, f (d refl).2 (g refl))
       go false d g y f = tt
-  drops_from cx xs m t scope n (Finish s) l o c h = drops_from cx xs m t scope n s l o c h
+  drops_from cx xs m t scope n (Finish at s) l o c h = drops_from cx xs m t scope n s l o c h
   drops_from cx xs m t scope n (Drop y v) l o c h = (slot_from xs m scope y.text o c h, tt)
   drops_from cx xs m t scope n Empty l o c h = tt
   drops_from cx xs m t scope n (Declare b x ty r) l o c h = rows_of cx NoDrop (DropsFrom m) (drop_leaves cx m) t scope n (Declare b x ty r) tt

@@ -39,7 +39,7 @@ abbrev inner : Statement
 inner = For 0 (w (codes "j")) (number (pos 1)) (Least hidden (record { at = 0; paren = 0 }) (Named (w (codes "i"))) (number (pos 2))) (Async 9 None adds)
 
 abbrev main : Statement
-main = Block (More (Finish (For 0 (w (codes "i")) (number (pos 1)) (UpTo (number (pos 3))) inner))
+main = Block 0 (More (Finish 0 (For 0 (w (codes "i")) (number (pos 1)) (UpTo (number (pos 3))) inner))
     (More (Declare binding.Val (w (codes "r")) None (Value (Named (w (codes "s"))))) (More (Print 0 (record { at = 0; paren = 0 }) (Named (w (codes "r")))) Done)))
 
 abbrev main_unit : UnitValue

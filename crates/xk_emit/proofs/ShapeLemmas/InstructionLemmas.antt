@@ -19,11 +19,11 @@ use Rattle.xk_emit.proofs.ShapeLemmas.StructureLemmas.{Nest, Row, Then, Loop, Ea
 -- no turn have no code.
 abbrev mutual
   pub EachInside : (Statement → Type 0) → Statement → Type 0
-  EachInside Q (Block ss) = EachOf Q ss
+  EachInside Q (Block close ss) = EachOf Q ss
   EachInside Q (If at l op r s) = EachInside Q s
   EachInside Q (IfElse at l op r s u) = EachInside Q s × EachInside Q u
   EachInside Q (For at i lo b s) = int_le lo.value (top b) ≡ true → EachInside Q s
-  EachInside Q (Finish s) = EachInside Q s
+  EachInside Q (Finish at s) = EachInside Q s
   EachInside Q s = Q s
 
   pub EachOf : (Statement → Type 0) → Statements → Type 0
@@ -132,7 +132,7 @@ module _ (cx : Setting) (Q : Statement → Type 0) (P : Instr → Type 0) (l : L
 
   mutual
     pub rows_of : (t : ℕ) (scope : Scope) (n : ℕ) (s : Statement) → EachInside Q s → EachRow P (nest_of cx t scope n s)
-    rows_of t scope n (Block ss) h = rows_of_all t scope n ss h
+    rows_of t scope n (Block close ss) h = rows_of_all t scope n ss h
     rows_of t scope n Empty h = tt
     rows_of t scope n (Declare b x ty r) h = each_source t scope n b x ty r h
     rows_of t scope n (Assign x e) h = each_assigned scope t x e (find cx.shared x.text) refl
@@ -152,7 +152,7 @@ module _ (cx : Setting) (Q : Statement → Type 0) (P : Instr → Type 0) (l : L
         go false g x r = tt
     rows_of t scope n (Async at cs s) h =
         (l.spawn at cs s (slots_of scope (body_params cx at cs)) h (length-map (body_params cx at cs) (λ x. unwrap_or (find scope x) 0)), tt)
-    rows_of t scope n (Finish s) h = rows_of t scope n s h
+    rows_of t scope n (Finish at s) h = rows_of t scope n s h
     rows_of t scope n (Call f at es) h =
         let args = argument_slots scope t es in
         then_one (eval_all scope t es) (instr.Call (number_of cx.methods f) args) (each_of_all scope t es) (l.call f at es args h (slots_count scope t es))
@@ -168,11 +168,11 @@ module _ (cx : Setting) (Q : Statement → Type 0) (P : Instr → Type 0) (l : L
 -- a property of all statements
 mutual
   pub each_inside : (Q : Statement → Type 0) → ((s : Statement) → Q s) → (s : Statement) → EachInside Q s
-  each_inside Q h (Block ss) = each_of Q h ss
+  each_inside Q h (Block close ss) = each_of Q h ss
   each_inside Q h (If at l op r s) = each_inside Q h s
   each_inside Q h (IfElse at l op r s u) = (each_inside Q h s, each_inside Q h u)
   each_inside Q h (For at i lo b s) = λ turns. each_inside Q h s
-  each_inside Q h (Finish s) = each_inside Q h s
+  each_inside Q h (Finish at s) = each_inside Q h s
   each_inside Q h Empty = h Empty
   each_inside Q h (Declare b x ty r) = h (Declare b x ty r)
   each_inside Q h (Assign x e) = h (Assign x e)

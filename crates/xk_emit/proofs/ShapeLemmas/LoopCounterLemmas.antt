@@ -288,11 +288,11 @@ SparesLimitName (Least x v e hi) s = EachInside (SparesName x.text) s
 abbrev mutual
   -- no loop's name is assigned to in its body, nor that of its limit
   pub KeepsNames : Statement → Type 0
-  KeepsNames (Block ss) = AllKeepNames ss
+  KeepsNames (Block close ss) = AllKeepNames ss
   KeepsNames (If at l op r s) = KeepsNames s
   KeepsNames (IfElse at l op r s u) = KeepsNames s × KeepsNames u
   KeepsNames (For at i lo b s) = int_le lo.value (top b) ≡ true → EachInside (SparesName i.text) s × SparesLimitName b s × KeepsNames s
-  KeepsNames (Finish s) = KeepsNames s
+  KeepsNames (Finish at s) = KeepsNames s
   KeepsNames _ = Unit {0}
 
   pub AllKeepNames : Statements → Type 0
@@ -387,7 +387,7 @@ module _ (k : ℕ) (scope : Scope) where
 mutual
   slot_spared : (k : ℕ) (x : List ℕ) (cx : Setting) (t : ℕ) (scope : Scope) (n : ℕ) (s : Statement) → IsOf scope k x → k < t → k < n → IsCovered cx scope n s
       → EachInside (SparesName x) s → SparesSlot k (nest_of cx t scope n s)
-  slot_spared k x cx t scope n (Block ss) of a b c h = slots_spared k x cx t scope n ss of a b c h
+  slot_spared k x cx t scope n (Block close ss) of a b c h = slots_spared k x cx t scope n ss of a b c h
   slot_spared k x cx t scope n Empty of a b c h = tt
   slot_spared k x cx t scope n (Declare d y ty r) of a b c h = source_spares k scope cx t n r a (differs k n b)
   slot_spared k x cx t scope n (Assign y e) of a b c h = assigned_spares k scope cx t x y e (find cx.shared y.text) a of h c
@@ -411,7 +411,7 @@ mutual
       go true d g y f = (bound_spares k scope t n b' a b, (differs k n b, f (d refl).2 (g refl)))
       go false d g y f = tt
   slot_spared k x cx t scope n (Async at cs s) of a b c h = (refl, tt)
-  slot_spared k x cx t scope n (Finish s) of a b c h = slot_spared k x cx t scope n s of a b c h
+  slot_spared k x cx t scope n (Finish at s) of a b c h = slot_spared k x cx t scope n s of a b c h
   slot_spared k x cx t scope n (Call f at es) of a b c h =
       then_spares k (eval_all scope t es) (instr.Call (number_of cx.methods f) (argument_slots scope t es)) (all_spare k scope t es a) refl
   slot_spared k x cx t scope n (Resume y v) of a b c h = (refl, tt)
@@ -444,7 +444,7 @@ limit_kept cx t scope n i (Least x v e hi) s w r c h =
 mutual
   pub loops_kept : (cx : Setting) (t : ℕ) (scope : Scope) (n : ℕ) (s : Statement) → ScopeBelow n scope → n + count s ≤ t → IsCovered cx scope n s → KeepsNames s
       → LoopsKept (nest_of cx t scope n s)
-  loops_kept cx t scope n (Block ss) w r c h = all_loops_kept cx t scope n ss w r c h
+  loops_kept cx t scope n (Block close ss) w r c h = all_loops_kept cx t scope n ss w r c h
   loops_kept cx t scope n (If at l op r' s) w r c h = (tt, loops_kept cx t scope n s w r c.2 h)
   loops_kept cx t scope n (IfElse at l op r' s u) w r c h =
       let wider = scope_wider n (n + count s) scope (omega arith) w in
@@ -469,7 +469,7 @@ mutual
           → LoopsKept (cond q (Then (Row (before_bound scope t n b)) (Looped n lo.value (limit_slot n b) (top b) y)) (Row []))
       go true e d k y f = let g = f (d refl).2 (k refl) in (tt, (e, g.0, g.1, g.2))
       go false e d k y f = tt
-  loops_kept cx t scope n (Finish s) w r c h = loops_kept cx t scope n s w r c h
+  loops_kept cx t scope n (Finish at s) w r c h = loops_kept cx t scope n s w r c h
   loops_kept cx t scope n _ w r c h = tt
 
   all_loops_kept : (cx : Setting) (t : ℕ) (scope : Scope) (n : ℕ) (ss : Statements) → ScopeBelow n scope → n + count_all ss ≤ t → AreCovered cx scope n ss → AllKeepNames ss

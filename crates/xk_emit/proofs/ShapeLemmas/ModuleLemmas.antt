@@ -53,8 +53,8 @@ abbrev pub SparesLent : (m : ModuleValue) (unit : ℕ) (u : UnitValue) → IsCom
 SparesLent m unit u c = is_method c.kind ≡ true → EachInside (SparesClocks c.xs) c.s
 
 -- a block itself does nothing with names
-pub block_sound : (ms : Signatures) (sc : Scope) (ss : Statements) → IsSound ms sc (Block ss)
-block_sound ms sc ss = record {
+pub block_sound : (ms : Signatures) (sc : Scope) (close : ℕ) (ss : Statements) → IsSound ms sc (Block close ss)
+block_sound ms sc close ss = record {
   used = λ u h. absurd h;
   new = λ d h. absurd h;
   fitting = λ at h. absurd h;

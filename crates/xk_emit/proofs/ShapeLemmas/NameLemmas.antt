@@ -50,7 +50,7 @@ mutual
   -- a name that isn't of a kind that is assigned to
   spares_name : (ms : Signatures) (sc : Scope) (x : List ℕ) (k : Known) (s : Statement) → find sc.names x ≡ Some k → is_assigned k.kind ≡ false
       → IsSound ms sc s → IsSoundInside ms sc s → EachInside (SparesName x) s
-  spares_name ms sc x k (Block ss) f n h g = spare_name ms sc x k ss f n g
+  spares_name ms sc x k (Block close ss) f n h g = spare_name ms sc x k ss f n g
   spares_name ms sc x k (Assign y e) f n h g = λ same.
       let r = h.used (use_as want.Assigned y) (inl refl) in
       let one : k ≡ r.known = same_Some k r.known (sym f ∙ ap (find sc.names) (sym same) ∙ r.found) in
@@ -60,7 +60,7 @@ mutual
   spares_name ms sc x k (For at i lo hi s) f n h g = λ turns.
       spares_name ms (with_all sc (declares (length sc.bodies) (For at i lo hi s))) x k s
       (found_before sc.names (entries (declares (length sc.bodies) (For at i lo hi s))) x k f) n g.0 g.1
-  spares_name ms sc x k (Finish s) f n h g = spares_name ms sc x k s f n g.0 g.1
+  spares_name ms sc x k (Finish at s) f n h g = spares_name ms sc x k s f n g.0 g.1
   spares_name ms sc x k _ f n h g = tt
 
   spare_name : (ms : Signatures) (sc : Scope) (x : List ℕ) (k : Known) (ss : Statements) → find sc.names x ≡ Some k → is_assigned k.kind ≡ false → AreSound ms sc ss
@@ -102,7 +102,7 @@ spares_limit ms sc at i lo (Least x v e hi) s h g k =
 
 mutual
   pub keeps_names : (ms : Signatures) (sc : Scope) (s : Statement) → IsSound ms sc s → IsSoundInside ms sc s → KeepsNames s
-  keeps_names ms sc (Block ss) h g = keep_names ms sc ss g
+  keeps_names ms sc (Block close ss) h g = keep_names ms sc ss g
   keeps_names ms sc (If at l op r s) h g = keeps_names ms sc s g.0 g.1
   keeps_names ms sc (IfElse at l op r s u) h g = (keeps_names ms sc s g.0.0 g.0.1, keeps_names ms sc u g.1.0 g.1.1)
   keeps_names ms sc (For at i lo b s) h g = λ turns.
@@ -113,7 +113,7 @@ mutual
       subst (λ (names : Table Known). find names i.text ≡ Some d.known) (append_assoc sc.names ((i.text, d.known) ∷ []) (entries (bound_declares (length sc.bodies) b)))
       (found_before (sc.names ++ (i.text, d.known) ∷ []) (entries (bound_declares (length sc.bodies) b)) i.text d.known first) in
       (spares_name ms there i.text d.known s found refl g.0 g.1, spares_limit ms sc at i lo b s h g.0 g.1, keeps_names ms there s g.0 g.1)
-  keeps_names ms sc (Finish s) h g = keeps_names ms sc s g.0 g.1
+  keeps_names ms sc (Finish at s) h g = keeps_names ms sc s g.0 g.1
   keeps_names ms sc _ h g = tt
 
   keep_names : (ms : Signatures) (sc : Scope) (ss : Statements) → AreSound ms sc ss → AllKeepNames ss
@@ -176,7 +176,7 @@ module _ (m : ModuleValue) (cx : Setting) (ms : Signatures) (unit : ℕ) where
     -- what a statement that is sound calls and starts
     pub runs_right : (sc : Scope) (s : Statement) → IsSound ms sc s → IsSoundInside ms sc s → EachInside (FindsUnits m cx ms unit) s
         → EachInside (RunsFitting m cx unit) s × EachInside (GivesOnce m cx) s
-    runs_right sc (Block ss) h g f = all_run_right sc ss g f
+    runs_right sc (Block close ss) h g f = all_run_right sc ss g f
     runs_right sc (If at l op r s) h g f = runs_right sc s g.0 g.1 f
     runs_right sc (IfElse at l op r s u) h g f =
         let a = runs_right sc s g.0.0 g.0.1 f.0 in
@@ -185,7 +185,7 @@ module _ (m : ModuleValue) (cx : Setting) (ms : Signatures) (unit : ℕ) where
     runs_right sc (For at i lo hi s) h g f =
         let there = with_all sc (declares (length sc.bodies) (For at i lo hi s)) in
         ((λ turns. (runs_right there s g.0 g.1 (f turns)).0), (λ turns. (runs_right there s g.0 g.1 (f turns)).1))
-    runs_right sc (Finish s) h g f = runs_right sc s g.0 g.1 f
+    runs_right sc (Finish at s) h g f = runs_right sc s g.0 g.1 f
     runs_right sc (Call w at es) h g f = (call_fits sc w at es h f, call_once sc w at es h f)
     runs_right sc (Async at cs s) h g f = (body_fits at cs s f, body_once sc at cs s h f)
     runs_right sc _ h g f = (tt, tt)

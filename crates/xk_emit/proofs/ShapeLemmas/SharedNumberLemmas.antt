@@ -56,12 +56,12 @@ cell_leaves cx k below = record {
 
 mutual
   pub adds_to_shared : (cx : Setting) (scope : Scope) (n : ℕ) (s : Statement) → IsCovered cx scope n s → EachInside (AddsToShared cx) s
-  adds_to_shared cx scope n (Block ss) c = all_add_to_shared cx scope n ss c
+  adds_to_shared cx scope n (Block close ss) c = all_add_to_shared cx scope n ss c
   adds_to_shared cx scope n (Atomic x y at e) c = c.0
   adds_to_shared cx scope n (If at l op r s) c = adds_to_shared cx scope n s c.2
   adds_to_shared cx scope n (IfElse at l op r s u) c = (adds_to_shared cx scope n s c.2, adds_to_shared cx scope (n + count s) u c.3)
   adds_to_shared cx scope n (For at i lo b s) c = λ turns. adds_to_shared cx (within_loop scope n i b) (n + loop_slots b) s (c turns).2
-  adds_to_shared cx scope n (Finish s) c = adds_to_shared cx scope n s c
+  adds_to_shared cx scope n (Finish at s) c = adds_to_shared cx scope n s c
   adds_to_shared cx scope n _ c = tt
 
   all_add_to_shared : (cx : Setting) (scope : Scope) (n : ℕ) (ss : Statements) → AreCovered cx scope n ss → EachOf (AddsToShared cx) ss

@@ -239,7 +239,7 @@ within_below m scope n i (Least x v e hi) h r =
 mutual
   pub code_below : (m : ℕ) (cx : Setting) (t : ℕ) (scope : Scope) (n p : ℕ) (s : Statement) → ScopeBelow m scope → n + count s ≤ m → IsCovered cx scope n s
       → Holds (WritesBelow m) (code_of cx t scope n p s) → Holds (NamesBelow m) (code_of cx t scope n p s)
-  code_below m cx t scope n p (Block ss) w r k h = all_code_below m cx t scope n p ss w r k h
+  code_below m cx t scope n p (Block close ss) w r k h = all_code_below m cx t scope n p ss w r k h
   code_below m cx t scope n p Empty w r k h = tt
   code_below m cx t scope n p (Declare b x ty r') w r k h = source_below m scope w cx t n r' k.0 (omega (arith, r)) h
   code_below m cx t scope n p (Assign x e) w r k h = assigned_below m scope w cx t x e (find cx.shared x.text) k h
@@ -296,7 +296,7 @@ mutual
           )
       go false c body f g = tt
   code_below m cx t scope n p (Async at cs s) w r k h = (texts_below m scope (body_params cx at cs) w k.1, tt)
-  code_below m cx t scope n p (Finish s) w r k h =
+  code_below m cx t scope n p (Finish at s) w r k h =
       let body = code_of cx t scope n (p + 1) s in
       let inner = holds_left (WritesBelow m) body (instr.EndFinish p ∷ []) h.1 in
       (tt, holds_both (NamesBelow m) body (instr.EndFinish p ∷ []) (code_below m cx t scope n (p + 1) s w r k inner) (tt, tt))

@@ -94,7 +94,7 @@ limit_slot n (Least x v e hi) = Some (n + 1)
 -- the structure of a statement's code
 abbrev mutual
   pub nest_of : Setting → ℕ → Scope → ℕ → Statement → Nest
-  nest_of cx t scope n (Block ss) = nest_of_all cx t scope n ss
+  nest_of cx t scope n (Block close ss) = nest_of_all cx t scope n ss
   nest_of cx t scope n (If at l op r s) = Then (Row (both scope t l r)) (Where op (slot_for scope t l) (second scope t l r) (nest_of cx t scope n s))
   nest_of cx t scope n (IfElse at l op r s u) =
       Then (Row (both scope t l r)) (Choice op (slot_for scope t l) (second scope t l r) (nest_of cx t scope n s) (nest_of cx t scope (n + count s) u))
@@ -102,7 +102,7 @@ abbrev mutual
       if int_le lo.value (top b)
       then Then (Row (before_bound scope t n b)) (Loop n lo.value (limit_slot n b) (top b) (nest_of cx t (within_loop scope n i b) (n + loop_slots b) s))
       else Row []
-  nest_of cx t scope n (Finish s) = Closed (nest_of cx t scope n s)
+  nest_of cx t scope n (Finish at s) = Closed (nest_of cx t scope n s)
   nest_of cx t scope n s = Row (code_of cx t scope n 0 s)
 
   pub nest_of_all : Setting → ℕ → Scope → ℕ → Statements → Nest
@@ -116,7 +116,7 @@ head_is n lo (Least x v l hi) e = refl
 -- its code is this structure's
 mutual
   pub laid : (cx : Setting) (t : ℕ) (scope : Scope) (n p : ℕ) (s : Statement) → code_of cx t scope n p s ≡ lay p (nest_of cx t scope n s)
-  laid cx t scope n p (Block ss) = laid_all cx t scope n p ss
+  laid cx t scope n p (Block close ss) = laid_all cx t scope n p ss
   laid cx t scope n p (If at l op r s) =
       let first = both scope t l r in
       let q = p + length first in
@@ -154,7 +154,7 @@ mutual
           ap (λ r. first ++ head_of n lo.value b (q + 1 + length r) ∷ (r ++ instr.Next q ∷ [])) e
           ∙ ap (λ h. first ++ h ∷ (lay (q + 1) inner ++ instr.Next q ∷ [])) (head_is n lo.value b (q + 1 + length (lay (q + 1) inner)))
       go false body inner e = refl
-  laid cx t scope n p (Finish s) = ap (λ b. instr.Finish (p + 1 + length b) ∷ (b ++ instr.EndFinish p ∷ [])) (laid cx t scope n (p + 1) s)
+  laid cx t scope n p (Finish at s) = ap (λ b. instr.Finish (p + 1 + length b) ∷ (b ++ instr.EndFinish p ∷ [])) (laid cx t scope n (p + 1) s)
   laid cx t scope n p _ = refl
 
   laid_all : (cx : Setting) (t : ℕ) (scope : Scope) (n p : ℕ) (ss : Statements) → code_of_all cx t scope n p ss ≡ lay p (nest_of_all cx t scope n ss)

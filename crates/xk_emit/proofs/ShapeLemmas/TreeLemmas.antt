@@ -23,7 +23,7 @@ module _ (t : TreeValue) (scoped : IsScoped t) (m : MethodValue) (there : Has t.
   pub compiled_method : (kind : UnitKind) → is_in_place unit (unit_of_method cx kind m) ≡ true → EachOf (FindsUnits made cx (signatures t.methods) unit) m.body
       → IsCompiled made unit (unit_of_method cx kind m)
   compiled_method kind place units =
-      compiled_soundly made unit cx kind (names_of_params m.params) (kinds_of_params m.params) (Block m.body) (signatures t.methods) (method_scope t m)
+      compiled_soundly made unit cx kind (names_of_params m.params) (kinds_of_params m.params) (Block m.close m.body) (signatures t.methods) (method_scope t m)
       shared (method_covered cx t m scoped there setting)
       (length-map m.params (λ p. p.takes.kind) ∙ sym (length-map m.params (λ p. p.name.text))) place
-      (block_sound (signatures t.methods) (method_scope t m) m.body) (scoped.bodies m there) units
+      (block_sound (signatures t.methods) (method_scope t m) m.close m.body) (scoped.bodies m there) units

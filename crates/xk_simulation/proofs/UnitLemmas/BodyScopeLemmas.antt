@@ -41,7 +41,7 @@ module _ (ms : Signatures) (shared : Texts) where
   mutual
     stands : (sc : Seen) (scope : Scope) (own : Texts) (s : Statement) → Fits shared sc scope own → IsSound ms sc s → IsSoundInside ms sc s
         → (p : Part) → Has (bodies s) p → PartStands ms shared p
-    stands sc scope own (Block ss) fits sound inner p h = stands_all sc scope own ss fits inner p h
+    stands sc scope own (Block close ss) fits sound inner p h = stands_all sc scope own ss fits inner p h
     stands sc scope own (If at l op r s) fits sound inner p h = stands sc scope own s fits inner.0 inner.1 p h
     stands sc scope own (IfElse at l op r s u) fits sound inner p h = elim (has_either (bodies s) (bodies u) p h) [
       | inl x ↦ stands sc scope own s fits inner.0.0 inner.0.1 p x
@@ -57,7 +57,7 @@ module _ (ms : Signatures) (shared : Texts) where
         (fits_body ms shared sc scope own cs s fits
         (λ c g. let r = sound.used (use_as want.Clock c) (to_map (use_as want.Clock) (clocks_listed cs) c (use_as want.Clock c) g refl) in (r.known, r.found)) inner.0 inner.1)
         inner.0 inner.1 p h
-    stands sc scope own (Finish s) fits sound inner p h = stands sc scope own s fits inner.0 inner.1 p h
+    stands sc scope own (Finish at s) fits sound inner p h = stands sc scope own s fits inner.0 inner.1 p h
     stands sc scope own _ fits sound inner p h = absurd h
 
     pub stands_all : (sc : Seen) (scope : Scope) (own : Texts) (ss : Statements) → Fits shared sc scope own → AreSound ms sc ss

@@ -53,7 +53,7 @@ module _ (t : TreeValue) (units : List Part) (cx : Setting) (h : AreSettled t un
       let n = body_place k at cs s e in ap is_some (body_unit_of t units cx h at cs s n.0 (h.are_units.within k (OfBody at cs s) e) n.1).entry
 
   module _ (scoped : IsScoped t) where
-    pub method_there : (k : ℕ) (m : MethodValue) → slice_get units k ≡ Some (OfMethod m) → IsUnitCovered cx (names_of_params m.params) (Block m.body)
+    pub method_there : (k : ℕ) (m : MethodValue) → slice_get units k ≡ Some (OfMethod m) → IsUnitCovered cx (names_of_params m.params) (Block m.close m.body)
     method_there k m e = method_covered cx t m scoped (part_of t scoped (OfMethod m) (h.are_units.within k (OfMethod m) e)) (setting_for k m e)
 
     pub body_there : (k at : ℕ) (cs : Option Clocks) (s : Statement) → slice_get units k ≡ Some (OfBody at cs s)

@@ -36,7 +36,7 @@ more_right ps qs r h = record { part = h.part; among = has_right ps qs h.part h.
 
 mutual
   started : (s : Statement) (at : ℕ) → Has (runs s) (Starts at) → Started (bodies s) (Starts at)
-  started (Block ss) at h = started_all ss at h
+  started (Block close ss) at h = started_all ss at h
   started (If p l c r s) at h = started s at h
   started (IfElse p l c r s u) at h = elim (has_either (runs s) (runs u) (Starts at) h) [
     | inl x ↦ more_left (bodies s) (bodies u) (Starts at) (started s at x)
@@ -45,7 +45,7 @@ mutual
   started (For p i lo b s) at h = started s at (of_some (int_le lo.value (top b)) (runs s) (Starts at) h)
   started (Async a cs s) at (inl e) = record { part = OfBody a cs s; among = inl refl; fits = eq-eqb at a cc }
   started (Async a cs s) at (inr h) = absurd h
-  started (Finish s) at h = started s at h
+  started (Finish from s) at h = started s at h
   started (Call g p es) at (inl e) = absurd cc
   started (Call g p es) at (inr h) = absurd h
   started _ at h = absurd h
@@ -65,7 +65,7 @@ part_started (OfBody a cs s) at h = started s at h
 
 mutual
   deeper : (s : Statement) (p q : Part) → Has (bodies s) p → Has (inner p) q → Has (bodies s) q
-  deeper (Block ss) p q h d = deeper_all ss p q h d
+  deeper (Block close ss) p q h d = deeper_all ss p q h d
   deeper (If a l c r s) p q h d = deeper s p q h d
   deeper (IfElse a l c r s u) p q h d = elim (has_either (bodies s) (bodies u) p h) [
     | inl x ↦ has_left (bodies s) (bodies u) q (deeper s p q x d)
@@ -74,7 +74,7 @@ mutual
   deeper (For a i lo hi s) p q h d = deeper s p q h d
   deeper (Async a cs s) p q (inl e) d = inr (subst (λ (o : Part). Has (inner o) q) e d)
   deeper (Async a cs s) p q (inr h) d = inr (deeper s p q h d)
-  deeper (Finish s) p q h d = deeper s p q h d
+  deeper (Finish from s) p q h d = deeper s p q h d
   deeper _ p q h d = absurd h
 
   deeper_all : (ss : Statements) (p q : Part) → Has (bodies_all ss) p → Has (inner p) q → Has (bodies_all ss) q
@@ -109,7 +109,7 @@ record SoundThere (ms : Signatures) (s : Statement) : Type 0 where
 
 mutual
   known : (ms : Signatures) (sc : Scope) (s : Statement) → IsSound ms sc s → IsSoundInside ms sc s → (g : Word) → Has (runs s) (Calls g) → Known ms g
-  known ms sc (Block ss) own inside g h = known_all ms sc ss inside g h
+  known ms sc (Block close ss) own inside g h = known_all ms sc ss inside g h
   known ms sc (If a l c r s) own inside g h = known ms sc s inside.0 inside.1 g h
   known ms sc (IfElse a l c r s u) own inside g h = elim (has_either (runs s) (runs u) (Calls g) h) [
     | inl x ↦ known ms sc s inside.0.0 inside.0.1 g x
@@ -119,7 +119,7 @@ mutual
       known ms (with_all sc (declares (length sc.bodies) (For a i lo b s))) s inside.0 inside.1 g (of_some (int_le lo.value (top b)) (runs s) (Calls g) h)
   known ms sc (Async a cs s) own inside g (inl e) = absurd cc
   known ms sc (Async a cs s) own inside g (inr h) = absurd h
-  known ms sc (Finish s) own inside g h = known ms sc s inside.0 inside.1 g h
+  known ms sc (Finish from s) own inside g h = known ms sc s inside.0 inside.1 g h
   known ms sc (Call f a es) own inside g (inl e) = let c = own.callable f es refl in let same : f ≡ g = cc in (c.params, ap (λ (w : Word). find ms w.text) (sym same) ∙ c.found)
   known ms sc (Call f a es) own inside g (inr h) = absurd h
   known ms sc _ own inside g h = absurd h
@@ -136,7 +136,7 @@ known_inside ms p = (g : Word) → Has (part_runs p) (Calls g) → Known ms g
 
 mutual
   body_known : (ms : Signatures) (sc : Scope) (s : Statement) → IsSoundInside ms sc s → (p : Part) → Has (bodies s) p → known_inside ms p
-  body_known ms sc (Block ss) inside p h = bodies_known ms sc ss inside p h
+  body_known ms sc (Block close ss) inside p h = bodies_known ms sc ss inside p h
   body_known ms sc (If a l c r s) inside p h = body_known ms sc s inside.1 p h
   body_known ms sc (IfElse a l c r s u) inside p h = elim (has_either (bodies s) (bodies u) p h) [
     | inl x ↦ body_known ms sc s inside.0.1 p x
@@ -145,7 +145,7 @@ mutual
   body_known ms sc (For a i lo hi s) inside p h = body_known ms (with_all sc (declares (length sc.bodies) (For a i lo hi s))) s inside.1 p h
   body_known ms sc (Async a cs s) inside p (inl e) = λ g r. known ms (with_body sc (clocks_listed cs)) s inside.0 inside.1 g (subst (λ (o : Part). Has (part_runs o) (Calls g)) e r)
   body_known ms sc (Async a cs s) inside p (inr h) = body_known ms (with_body sc (clocks_listed cs)) s inside.1 p h
-  body_known ms sc (Finish s) inside p h = body_known ms sc s inside.1 p h
+  body_known ms sc (Finish from s) inside p h = body_known ms sc s inside.1 p h
   body_known ms sc _ inside p h = absurd h
 
   bodies_known : (ms : Signatures) (sc : Scope) (ss : Statements) → AreSound ms sc ss → (p : Part) → Has (bodies_all ss) p → known_inside ms p

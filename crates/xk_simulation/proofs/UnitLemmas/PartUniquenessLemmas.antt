@@ -29,12 +29,12 @@ both_same xs ys us vs e f = offsets_both xs ys ∙ ap (λ l. l ++ offsets ys) e 
 
 mutual
   offsets_of : (s : Statement) → offsets (bodies s) ≡ asyncs s
-  offsets_of (Block ss) = offsets_of_all ss
+  offsets_of (Block close ss) = offsets_of_all ss
   offsets_of (If at l c r s) = offsets_of s
   offsets_of (IfElse at l c r s u) = both_same (bodies s) (bodies u) (asyncs s) (asyncs u) (offsets_of s) (offsets_of u)
   offsets_of (For at i lo hi s) = offsets_of s
   offsets_of (Async at cs s) = ap (λ r. at ∷ r) (offsets_of s)
-  offsets_of (Finish s) = offsets_of s
+  offsets_of (Finish at s) = offsets_of s
   offsets_of Empty = refl
   offsets_of (Declare b x ty r) = refl
   offsets_of (Assign x e) = refl

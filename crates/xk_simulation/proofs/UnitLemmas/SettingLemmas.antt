@@ -160,7 +160,7 @@ module _ (t : TreeValue) (units : List Part) (cx : Setting) (h : AreSettled t un
   mutual
     settled : (s : Statement) → AreParts t (bodies s) → HavePlaces units (runs s)
         → Settled cx (signatures t.methods) (shared_texts t.shared) (calls_in s) (bodies_in s)
-    settled (Block ss) among places = settled_all ss among places
+    settled (Block close ss) among places = settled_all ss among places
     settled (If at l op r s) among places = settled s among places
     settled (IfElse at l op r s u) among places =
         both_settled t cx (calls_in s) (calls_in u) (bodies_in s) (bodies_in u)
@@ -179,7 +179,7 @@ module _ (t : TreeValue) (units : List Part) (cx : Setting) (h : AreSettled t un
         one_entry t cx (record { at = at; clocks = cs; body = s }) (calls_in s) (bodies_in s)
         (record { entry = record { unit = unit_number n.0; captures = taken t s }; there = u.entry; captures = refl })
         (settled s (λ p i. among p (inr i)) (run_places n.0 (OfBody at cs s) u.stands))
-    settled (Finish s) among places = settled s among places
+    settled (Finish at s) among places = settled s among places
     settled (Call f at es) among places = let n = places (Calls f) (inl refl) in one_call f n.0 n.1
     settled Empty among places = none_settled t cx
     settled (Declare b x ty r) among places = none_settled t cx

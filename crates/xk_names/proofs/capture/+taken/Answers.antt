@@ -16,8 +16,8 @@ use Rattle.xk_names.proofs.capture.+taken.Goals as goal
 pub take_all-returns-in-Block-clause-out : goal.take_all-returns-in-Block-clause-out
 take_all-returns-in-Block-clause-out t c =
     on_ok_weaker c.take_block.result (λ h.
-    inner_taken c.args.methods.now c.args.own.now (statement c.args.s.now) (Block (statements c.in-Block.ss.items)) c.args.out.now c.take_own.new.out c.take_block.new.out
-    (ap statement c.in-Block.is ∙ ap statement (sym (stmt.rolls-Block c.in-Block.ss)) ∙ fold-roll-Stmt Statement layer_statement (layer.Block c.in-Block.ss))
+    inner_taken c.args.methods.now c.args.own.now (statement c.args.s.now) (Block c.in-Block.field-0 (statements c.in-Block.ss.items)) c.args.out.now c.take_own.new.out c.take_block.new.out
+    (ap statement c.in-Block.is ∙ ap statement (sym (stmt.rolls-Block c.in-Block.field-0 c.in-Block.ss)) ∙ fold-roll-Stmt Statement layer_statement (layer.Block c.in-Block.field-0 c.in-Block.ss))
     c.in_ok-take_own.ensures
     (h ∙ ap (λ (q : List Stmt). put_texts c.take_own.new.out (outer_among c.args.methods.now c.args.own.now
     (statements q))) c.as_slice.ensures.value))
@@ -71,8 +71,8 @@ take_all-returns-in-Async-clause-out t c =
 pub take_all-returns-in-Finish-clause-out : goal.take_all-returns-in-Finish-clause-out
 take_all-returns-in-Finish-clause-out t c =
     on_ok_weaker c.take_held-in-Finish.result (λ h.
-    inner_taken c.args.methods.now c.args.own.now (statement c.args.s.now) (Finish (statement c.in-Finish.s.value)) c.args.out.now c.take_own.new.out c.take_held-in-Finish.new.out
-    (ap statement c.in-Finish.is ∙ ap statement (sym (stmt.rolls-Finish c.in-Finish.s)) ∙ fold-roll-Stmt Statement layer_statement (layer.Finish c.in-Finish.s))
+    inner_taken c.args.methods.now c.args.own.now (statement c.args.s.now) (Finish c.in-Finish.field-0 (statement c.in-Finish.s.value)) c.args.out.now c.take_own.new.out c.take_held-in-Finish.new.out
+    (ap statement c.in-Finish.is ∙ ap statement (sym (stmt.rolls-Finish c.in-Finish.field-0 c.in-Finish.s)) ∙ fold-roll-Stmt Statement layer_statement (layer.Finish c.in-Finish.field-0 c.in-Finish.s))
     c.in_ok-take_own.ensures
     (h ∙ ap (λ (q : Stmt). put_texts c.take_own.new.out (outer_words c.args.methods.now c.args.own.now
     (statement q))) c.deref-in-Finish.ensures))

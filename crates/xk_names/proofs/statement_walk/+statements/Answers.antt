@@ -17,10 +17,10 @@ use Rattle.xk_names.proofs.statement_walk.+statements.Goals as goal
 pub check-returns-in-Block-clause-faults : goal.check-returns-in-Block-clause-faults
 check-returns-in-Block-clause-faults t c =
     on_ok_weaker c.check_block.result (λ h.
-    inside_found c.args.methods.now c.args.scope.now (statement c.args.s.now) (Block
+    inside_found c.args.methods.now c.args.scope.now (statement c.args.s.now) (Block c.in-Block.field-0
     (statements c.in-Block.ss.items)) c.args.worst.now c.check_own.new.worst c.check_block.new.worst
-    (ap statement c.in-Block.is ∙ ap statement (sym (stmt.rolls-Block c.in-Block.ss)) ∙ fold-roll-Stmt Statement layer_statement
-    (layer.Block c.in-Block.ss)) c.in_ok-check_own.ensures
+    (ap statement c.in-Block.is ∙ ap statement (sym (stmt.rolls-Block c.in-Block.field-0 c.in-Block.ss)) ∙ fold-roll-Stmt Statement layer_statement
+    (layer.Block c.in-Block.field-0 c.in-Block.ss)) c.in_ok-check_own.ensures
     (h ∙ ap (λ (q : List Stmt). least c.check_own.new.worst
     (among c.args.methods.now c.args.scope.now (statements q))) c.as_slice.ensures.value))
     c.check_block.ensures.faults
@@ -79,10 +79,10 @@ check-returns-in_ok-clocks-in-Async-clause-faults t c =
 pub check-returns-in-Finish-clause-faults : goal.check-returns-in-Finish-clause-faults
 check-returns-in-Finish-clause-faults t c =
     on_ok_weaker c.check_held-in-Finish.result (λ h.
-    inside_found c.args.methods.now c.args.scope.now (statement c.args.s.now) (Finish
+    inside_found c.args.methods.now c.args.scope.now (statement c.args.s.now) (Finish c.in-Finish.field-0
     (statement c.in-Finish.s.value)) c.args.worst.now c.check_own.new.worst c.check_held-in-Finish.new.worst
-    (ap statement c.in-Finish.is ∙ ap statement (sym (stmt.rolls-Finish c.in-Finish.s))
-    ∙ fold-roll-Stmt Statement layer_statement (layer.Finish c.in-Finish.s)) c.in_ok-check_own.ensures
+    (ap statement c.in-Finish.is ∙ ap statement (sym (stmt.rolls-Finish c.in-Finish.field-0 c.in-Finish.s))
+    ∙ fold-roll-Stmt Statement layer_statement (layer.Finish c.in-Finish.field-0 c.in-Finish.s)) c.in_ok-check_own.ensures
     (h ∙ ap (λ (q : Stmt). least c.check_own.new.worst
     (faults c.args.methods.now c.args.scope.now (statement q))) c.deref-in-Finish.ensures))
     c.check_held-in-Finish.ensures.faults

@@ -25,13 +25,13 @@ read_stmts-loop-here-preserved t c =
     more_read ahead_at (stmt_at c.args.levels c.args.hidden.now) (stmt_shortens c.args.levels c.args.hidden.now) (map statement c.loop-here.stmts.items) (marks c.loop-here.rest.now) (marks c.in-Some.here.now)
     (statement c.in_ok-stmt.stmt, marks c.in_ok-stmt.left.now) (map statement c.push.new.self.items) _ c.in-Some.ensures c.in_ok-stmt.ensures items c.loop-here.invariant
 
-pub read_stmts-returns-in_err-after : goal.read_stmts-returns-in_err-after
-read_stmts-returns-in_err-after t c =
-    let p = err_from_is_err_and c.from_residual-in_err-after.result c.from_residual-in_err-after.ensures.1 in
-    rw (p.1, p.2) (stmts_unended c.in_err-after.field-0.0 (stmt_at c.args.levels c.args.hidden.now) (map statement c.loop-here.stmts.items) (marks c.loop-here.rest.now)
-    (marks c.args.tokens.now) c.loop-here.invariant c.in_default.ensures c.in_err-after.ensures)
+pub read_stmts-returns-in_err-close : goal.read_stmts-returns-in_err-close
+read_stmts-returns-in_err-close t c =
+    let p = err_from_is_err_and c.from_residual-in_err-close.result c.from_residual-in_err-close.ensures.1 in
+    rw (p.1, p.2) (stmts_unended c.in_err-close.field-0.0 (stmt_at c.args.levels c.args.hidden.now) (map statement c.loop-here.stmts.items) (marks c.loop-here.rest.now)
+    (marks c.args.tokens.now) c.loop-here.invariant c.in_default.ensures c.in_err-close.ensures)
 
 pub read_stmts-returns : goal.read_stmts-returns
 read_stmts-returns t c =
     stmts_read (stmt_at c.args.levels c.args.hidden.now) (map statement c.loop-here.stmts.items) (marks c.loop-here.rest.now) (marks c.args.tokens.now)
-    (marks c.in_ok-after.after.now) c.loop-here.invariant c.in_default.ensures c.in_ok-after.ensures
+    (c.in_ok-close.close, marks c.in_ok-close.after.now) c.loop-here.invariant c.in_default.ensures c.in_ok-close.ensures
