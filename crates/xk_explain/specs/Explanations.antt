@@ -38,9 +38,15 @@ repair_line repair = codes "   = usual repair: " ++ (repair ++ codes "\n")
 unfoldable pub head : List ℕ → List ℕ → List ℕ → List ℕ
 head file title message = file ++ (codes ": " ++ (title ++ (codes ": " ++ (message ++ codes "\n"))))
 
--- of what has one: `FILE:3:5: F2 Syntax: ..`
-unfoldable pub head_at : List ℕ → Position → List ℕ → List ℕ → List ℕ
-head_at file p title message = file ++ (codes ":" ++ (decimal p.line ++ (codes ":" ++ (decimal p.column ++ (codes ": " ++ (title ++ (codes ": " ++ (message ++ codes "\n"))))))))
+-- of what has one: `FILE:3:5: `, the title, and `: ..`
+unfoldable pub place_head : List ℕ → Position → List ℕ
+place_head file p = file ++ (codes ":" ++ (decimal p.line ++ (codes ":" ++ (decimal p.column ++ codes ": "))))
+
+unfoldable pub message_tail : List ℕ → List ℕ
+message_tail message = codes ": " ++ (message ++ codes "\n")
+
+abbrev pub head_at : List ℕ → Position → List ℕ → List ℕ → List ℕ
+head_at file p title message = (place_head file p ++ title) ++ message_tail message
 
 -- ---- source texts
 

@@ -35,15 +35,20 @@ unit_title text h =
 abbrev pub is_name : List ℕ → Bool
 is_name name = list_any (λ b. not (nat_eq b 32)) name
 
+-- the name of a slot; temporaries have none
+abbrev pub slot_name : List (List ℕ) → ℕ → List ℕ
+slot_name names slot = unwrap_or (slice_get names slot) []
+
+unfoldable pub quoted : List ℕ → List ℕ
+quoted name = (codes "`" ++ name) ++ codes "`"
+
 -- a slot by its name, in quotes, or by its number where the text has no name for it
-unfoldable pub slot_title : List (List ℕ) → ℕ → List ℕ
-slot_title names slot =
-    let name = unwrap_or (slice_get names slot) [] in
-    if is_name name then codes "`" ++ (name ++ codes "`") else codes "slot " ++ decimal slot
+abbrev pub slot_title : List (List ℕ) → ℕ → List ℕ
+slot_title names slot = if is_name (slot_name names slot) then quoted (slot_name names slot) else codes "slot " ++ decimal slot
 
 -- a rule, and the unit in which it is broken: `V11 Use, in main`
 abbrev pub title_in : List ℕ → Rule → Head → List ℕ
-title_in text r h = rule_title r ++ (codes ", " ++ unit_title text h)
+title_in text r h = (rule_title r ++ codes ", ") ++ unit_title text h
 
 -- ---- walks
 
@@ -55,9 +60,11 @@ unfoldable pub line_text : List ℕ → ℕ → List ℕ
 line_text text at = let line = line_at text at in shown_signs (take 60 (signs (drop (prefix_len is_blank line) line)))
 
 -- what is said of one stop: `     8:9  a clock, dropped: c.drop();`
+unfoldable pub stop_head : Position → Kind → List ℕ
+stop_head p k = codes "     " ++ (place_title p ++ (codes "  " ++ (kind_message k ++ codes ": ")))
+
 unfoldable pub stop_line : List ℕ → ℕ → Kind → List ℕ
-stop_line text at k =
-    codes "     " ++ (place_title (position_of text at) ++ (codes "  " ++ (kind_message k ++ (codes ": " ++ (line_text text at ++ codes "\n")))))
+stop_line text at k = (stop_head (position_of text at) k ++ line_text text at) ++ codes "\n"
 
 -- of one behind which a loop begins again: `     9:5  a clock, dropped, and then the next turn`
 unfoldable pub turn_line : List ℕ → ℕ → Kind → List ℕ
@@ -83,11 +90,11 @@ stops text u told (v ∷ vs) = one_stop text told (origin_at text u v.at) v vs +
 
 -- the line before them
 unfoldable pub stops_head : List (List ℕ) → ℕ → List ℕ
-stops_head names slot = codes "   = a way to it, and what " ++ (slot_title names slot ++ codes " holds before each statement:\n")
+stops_head names slot = (codes "   = a way to it, and what " ++ slot_title names slot) ++ codes " holds before each statement:\n"
 
 -- what the slot may hold at the place refused
 unfoldable pub holds_line : List (List ℕ) → ℕ → Kind → List ℕ
-holds_line names slot k = codes "   = " ++ (slot_title names slot ++ (codes " may hold here: " ++ (kind_message k ++ codes "\n")))
+holds_line names slot k = (((codes "   = " ++ slot_title names slot) ++ codes " may hold here: ") ++ kind_message k) ++ codes "\n"
 
 -- ---- refusals
 
@@ -99,10 +106,13 @@ place_lines file text u r at =
 abbrev pub shape_in_source : List ℕ → List ℕ → ShapeFault → UnitOrigins → List ℕ
 shape_in_source file text f u = place_lines file text u f.rule f.at ++ repair_line (rule_repair f.rule)
 
+-- what the slot may hold there, and the walk to it
+abbrev pub walk_in_source : List ℕ → KindFault → UnitOrigins → List ℕ
+walk_in_source text f u = (holds_line u.slots f.slot f.kind ++ stops_head u.slots f.slot) ++ stops text u None f.walk.items
+
 abbrev pub kind_in_source : List ℕ → List ℕ → KindFault → UnitOrigins → List ℕ
 kind_in_source file text f u =
-    ((((place_lines file text u f.rule f.at ++ holds_line u.slots f.slot f.kind) ++ stops_head u.slots f.slot) ++ stops text u None f.walk.items)
-    ++ ways_line) ++ repair_line (rule_repair f.rule)
+    ((place_lines file text u f.rule f.at ++ walk_in_source text f u) ++ ways_line) ++ repair_line (rule_repair f.rule)
 
 -- All that is said of what the verifier has against the module of a source text, whose units have these origins. (Each unit has some; of one that
 -- hadn't, the refusal would be told by its number.)

@@ -1,14 +1,14 @@
 //! What is said of bytes that give no program.
 
-ghost use Rattle.std.specs.Prelude.{◌≡◌, ◌++◌, ◌≤◌, drop, length, IfOk, OnOk, string_bytes};
-ghost use Rattle.std.specs.List.{prefix_len};
-ghost use Rattle.xk_explain.specs.Explanations.{excerpt_lines, front_explanation, front_title, has_place, head_at, is_word_byte, marked_from, module_explanation, placed_explanation, shown_at, unplaced_explanation};
+ghost use Rattle.std.specs.Prelude.{◌≡◌, ◌≤◌, length, IfOk, string_bytes};
+ghost use Rattle.xk_explain.specs.Explanations.{front_explanation, front_title, has_place, module_explanation, placed_explanation, shown_at, unplaced_explanation};
 
-use crate::lines::{push_head, push_repair, push_text};
+use crate::lines::{push_head, push_repair};
+use crate::places::{push_excerpt, push_head_at};
 use crate::messages::{front_message, front_repair, module_message, module_repair};
 use std::alloc::{AllocError, Global};
 use xk_module::ModuleFault;
-use xk_positions::{LineStarts, Position};
+use xk_positions::LineStarts;
 use xk_tree::{FrontFault, FrontRule};
 
 /// All that is said of a fault of the source text in FILE: `FILE:3:5: F2 Syntax: ..`, the line there with carets, and the usual repair. A fault
@@ -46,7 +46,7 @@ fn explain_placed(
         &mut out,
         file,
         lines.position(at),
-        title.as_str(),
+        title.as_bytes(),
         front_message(fault.rule),
     )?;
     push_excerpt(alloc, &mut out, &lines, text, at)?;
@@ -117,67 +117,4 @@ fn shown_at(text: &[u8], fault: FrontFault) -> usize
     ensures within { result ≤ length text.now }
 {
     fault.at.min(text.len())
-}
-
-/// Adds the first line of what has a place in the text: `FILE:3:5: F2 Syntax: ..`.
-#[tactic(auto, unfolding(crate::specs::Explanations::head_at))]
-fn push_head_at(
-    alloc: Global,
-    out: &mut Vec<u8>,
-    file: &str,
-    position: Position,
-    title: &str,
-    message: &str,
-) -> Result<(), AllocError>
-    ensures { OnOk result
-        (out.new.items ≡ out.old.items ++ head_at file.now position title.now message.now) }
-{
-    let line = position.line;
-    let column = position.column;
-    push_text(
-        out,
-        format!(in alloc; "{file}:{line}:{column}: {title}: {message}\n")?.as_str(),
-    )
-}
-
-/// A byte of names and numbers.
-fn is_word_byte(b: u8) -> bool
-    ensures { result ≡ is_word_byte b }
-{
-    b.is_ascii_alphanumeric() || b == b'_'
-}
-
-/// How many bytes of names and numbers stand at the front of a text.
-fn word_len(text: &[u8]) -> usize
-    ensures { result ≡ prefix_len is_word_byte text.now }
-{
-    text.iter().take_while(|&&b| is_word_byte(b)).count()
-}
-
-/// How many signs are marked from an offset on: the name or number there, and one where there is none.
-fn marked_at(text: &[u8], at: usize) -> usize
-    requires { at ≤ length text.now }
-    ensures { result ≡ marked_from (drop at text.now) }
-{
-    word_len(&text[at..]).max(1)
-}
-
-/// Adds the line of an offset with carets.
-#[tactic(auto, unfolding(crate::specs::Explanations::excerpt_lines))]
-fn push_excerpt(
-    alloc: Global,
-    out: &mut Vec<u8>,
-    lines: &LineStarts<'_>,
-    text: &[u8],
-    at: usize,
-) -> Result<(), AllocError>
-    requires same { lines.now ≡ text.now }
-    requires within { at ≤ length text.now }
-    ensures { OnOk result (out.new.items ≡ out.old.items ++ excerpt_lines text.now at) }
-{
-    let marked = marked_at(text, at);
-    let excerpt = lines.excerpt(alloc, at, marked)?;
-    out.extend_from_slice(&excerpt)?;
-    out.push(b'\n')?;
-    Ok(())
 }

@@ -4,7 +4,11 @@
 mod fronts;
 mod lines;
 mod messages;
+mod places;
 mod refusals;
+mod source_refusals;
+mod walks;
 
 pub use fronts::{explain_front, explain_module};
 pub use refusals::explain_refusal;
+pub use source_refusals::explain_source;

@@ -25,7 +25,7 @@ pub fn explain_refusal(alloc: Global, file: &str, refusal: &Refusal) -> Result<V
 }
 
 /// The same of a place that breaks a rule on shape, V1 to V10.
-fn explain_shape(alloc: Global, file: &str, fault: &ShapeFault) -> Result<Vec<u8>, AllocError>
+pub(crate) fn explain_shape(alloc: Global, file: &str, fault: &ShapeFault) -> Result<Vec<u8>, AllocError>
     ensures { IfOk result (λ v. v.items ≡ shape_explanation file.now fault.now) }
 {
     let title = title_at(alloc, fault.rule, fault.unit, fault.at)?;
@@ -42,7 +42,7 @@ fn explain_shape(alloc: Global, file: &str, fault: &ShapeFault) -> Result<Vec<u8
 }
 
 /// The same of a slot of the wrong kind, V11 to V13.
-fn explain_kind(alloc: Global, file: &str, fault: &KindFault) -> Result<Vec<u8>, AllocError>
+pub(crate) fn explain_kind(alloc: Global, file: &str, fault: &KindFault) -> Result<Vec<u8>, AllocError>
     ensures { IfOk result (λ v. v.items ≡ kind_explanation file.now fault.now) }
 {
     let title = title_at(alloc, fault.rule, fault.unit, fault.at)?;
@@ -61,7 +61,7 @@ fn explain_kind(alloc: Global, file: &str, fault: &KindFault) -> Result<Vec<u8>,
 }
 
 /// The same of a bound that is over its limit, V14 to V17.
-fn explain_bound(alloc: Global, file: &str, fault: BoundFault) -> Result<Vec<u8>, AllocError>
+pub(crate) fn explain_bound(alloc: Global, file: &str, fault: BoundFault) -> Result<Vec<u8>, AllocError>
     ensures { IfOk result (λ v. v.items ≡ bound_explanation file.now fault) }
 {
     let title = rule_title(alloc, fault.rule)?;
@@ -115,7 +115,7 @@ fn push_walk_head(alloc: Global, out: &mut Vec<u8>, slot: u16) -> Result<(), All
 
 /// Adds the line that says what ways are.
 #[tactic(auto, unfolding(crate::specs::Explanations::ways_line))]
-fn push_ways(out: &mut Vec<u8>) -> Result<(), AllocError>
+pub(crate) fn push_ways(out: &mut Vec<u8>) -> Result<(), AllocError>
     ensures { OnOk result (out.new.items ≡ out.old.items ++ ways_line) }
 {
     push_text(

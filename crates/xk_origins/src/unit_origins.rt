@@ -1,5 +1,7 @@
 //! Where the instructions of a unit come from.
 
+ghost use Rattle.std.specs.Prelude.{◌≡◌};
+
 use std::marker::Model;
 use xk_types::UnitKind;
 
@@ -65,4 +67,13 @@ impl<'t> Model for Origins<'t> {
     ghost Value = { List UnitOriginsValue };
 
     ghost view = { λ o. o.units.items };
+}
+
+impl<'t> Origins<'t> {
+    /// Those of each unit, in the order of the units.
+    pub fn units(&self) -> &[UnitOrigins<'t>]
+        ensures { result.now ≡ self.now }
+    {
+        &self.units
+    }
 }

@@ -2,6 +2,7 @@
 use Rattle.std.proofs.Common.{◌≡◌, ℕ, List, [], inl, inr}
 use Rattle.xk_bounds.specs.declared.refusal.Refusal.TheVariants as refusal
 use Rattle.xk_cli.specs.declared.job.Form.{Form}
+use Rattle.xk_cli.specs.declared.job.Form.TheVariants as form
 use Rattle.xk_module.specs.declared.fault.ModuleFault.TheVariants as text
 use Rattle.xk_serve.specs.declared.fault.Fault.{Fault}
 use Rattle.xk_serve.specs.declared.fault.Fault.TheVariants as fault
@@ -24,7 +25,9 @@ quiet_explanation kind file bytes said (fault.Refused (refusal.Kind r)) h (inl e
 quiet_explanation kind file bytes said (fault.Refused (refusal.Kind r)) h (inr e) = cc
 quiet_explanation kind file bytes said (fault.Refused (refusal.Bound r)) h (inl e) = cc
 quiet_explanation kind file bytes said (fault.Refused (refusal.Bound r)) h (inr e) = cc
-quiet_explanation kind file bytes said (fault.Refused refusal.OutOfMemory) h e = h
+quiet_explanation form.Module file bytes said (fault.Refused refusal.OutOfMemory) h e = h
+quiet_explanation form.Source file bytes said (fault.Refused refusal.OutOfMemory) (inl h) e = h.4
+quiet_explanation form.Source file bytes said (fault.Refused refusal.OutOfMemory) (inr h) e = h.1
 quiet_explanation kind file bytes said (fault.Arguments wants has) h e = h
 quiet_explanation kind file bytes said (fault.Grammar line) h e = h
 quiet_explanation kind file bytes said fault.Truncated h e = h

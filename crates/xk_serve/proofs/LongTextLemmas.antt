@@ -7,6 +7,7 @@ use Rattle.xk_types.specs.Code.{ModuleValue}
 use Rattle.xk_tree.specs.declared.fault.FrontFault.{FrontFault}
 use Rattle.xk_cli.specs.declared.job.Form.{Form}
 use Rattle.xk_cli.specs.declared.job.Form.TheVariants as form
+use Rattle.xk_bounds.specs.declared.refusal.Refusal.{Refusal}
 use Rattle.xk_bounds.specs.declared.refusal.Refusal.TheVariants as refusal
 use Rattle.xk_serve.specs.declared.job_result.Done.{Done}
 use Rattle.xk_serve.specs.declared.fault.Fault.{Fault}
@@ -14,7 +15,7 @@ use Rattle.xk_serve.specs.declared.fault.Fault.TheVariants as fault
 use Rattle.xk_module.specs.declared.fault.ModuleFault.{ModuleFault}
 use Rattle.xk_serve.specs.Programs.{Gives, IsNoModule, IsNoSource, longest_module, longest_source}
 use Rattle.xk_serve.specs.Bytes.{kept}
-use Rattle.xk_serve.specs.Answer.{Chart, Check, Compile, Doing, Explain, FailsBy, GivesAccepted, IsExplanation, IsSaidBy, IsSaidOf, Replay, Run, Succeeds, Task}
+use Rattle.xk_serve.specs.Answer.{Chart, Check, Compile, Doing, Explain, FailsBy, GivesAccepted, IsExplanation, IsRefusalExplained, IsSaidBy, IsSaidOf, Replay, Run, Succeeds, Task}
 use Rattle.xk_serve.specs.Devices.{AgainstLog, IfKnown, IsRead, IsSaid, Reads, StandsAgainst, read_of}
 use Rattle.xk_explain.specs.Explanations.{front_explanation, has_place}
 use Rattle.xk_serve.proofs.ReplyLemmas.{of_known}
@@ -89,12 +90,25 @@ front_kept file bytes known f e (inr (inl h)) = ap (λ b. front_explanation file
 front_kept file bytes known f e (inr (inr (inl h))) = ap (λ b. front_explanation file b f) (whole longest_source bytes known e h.0)
 front_kept file bytes known f e (inr (inr (inr h))) = ap (λ b. front_explanation file b f) (whole longest_source bytes known e h.1.1.short)
 
+-- of a program that is refused the whole text is kept
+refusal_kept : (kind : Form) (file bytes known said : List ℕ) (r : Refusal) (m : ModuleValue) → bytes ≡ kept kind known → Gives kind bytes m
+    → IsRefusalExplained kind file bytes r said → IsRefusalExplained kind file known r said
+refusal_kept form.Module file bytes known said r m e given is = is
+refusal_kept form.Source file bytes known said r m e given is =
+    subst (λ b. IsRefusalExplained form.Source file b r said) (whole longest_source bytes known e given.spelled.1.short) is
+
 explanation_kept : (t : Task) (bytes known logged said : List ℕ) (f : Fault) → bytes ≡ kept t.form known → FailsBy t bytes logged f
     → IsExplanation t.form t.file bytes f said → IsExplanation t.form t.file known f said
 explanation_kept t bytes known logged said (fault.Text f) e h is = is
 explanation_kept t bytes known logged said (fault.Front f) e h is =
     is ∙ front_kept t.file bytes known f (subst (λ what. bytes ≡ kept what known) h.0 e) h.1
-explanation_kept t bytes known logged said (fault.Refused r) e h is = is
+explanation_kept t bytes known logged said (fault.Refused (refusal.Shape r)) e h is =
+    refusal_kept t.form t.file bytes known said (refusal.Shape r) h.1.0 e h.1.1 is
+explanation_kept t bytes known logged said (fault.Refused (refusal.Kind r)) e h is =
+    refusal_kept t.form t.file bytes known said (refusal.Kind r) h.1.0 e h.1.1 is
+explanation_kept t bytes known logged said (fault.Refused (refusal.Bound r)) e h is =
+    refusal_kept t.form t.file bytes known said (refusal.Bound r) h.1.0 e h.1.1 is
+explanation_kept t bytes known logged said (fault.Refused refusal.OutOfMemory) e h is = absurd h
 explanation_kept t bytes known logged said (fault.Arguments wants has) e h is = is
 explanation_kept t bytes known logged said (fault.Grammar line) e h is = is
 explanation_kept t bytes known logged said fault.Truncated e h is = is

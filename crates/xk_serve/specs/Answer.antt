@@ -27,9 +27,15 @@ use Rattle.xk_replay.specs.Chart.{chart_text}
 use Rattle.xk_replay.specs.Replay.{IsStoppedAt, IsUnfinished}
 use Rattle.xk_serve.specs.OrderedRun.{IsLoggedRun, IsOrderedRun, IsReplay, IsSomeRun, IsWholeRun}
 use Rattle.xk_serve.specs.Lines.{done_log, done_text, fault_line, status_of}
-use Rattle.xk_serve.specs.Programs.{Gives, IsNoModule, IsNoSource}
+use Rattle.xk_serve.specs.Programs.{Gives, IsNoModule, IsNoSource, IsSource}
 use Rattle.xk_module.specs.Faults.{fault_label}
+use Rattle.xk_bounds.specs.declared.refusal.Refusal.{Refusal}
+use Rattle.xk_tree.specs.Tree.{TreeValue}
+use Rattle.xk_tree.specs.declared.fault.FrontFault.{FrontFault}
+use Rattle.xk_origins.specs.UnitOrigins.{UnitOrigins}
+use Rattle.xk_origins.specs.Laws.{AreOrigins}
 use Rattle.xk_explain.specs.Explanations.{front_explanation, module_explanation, refusal_explanation}
+use Rattle.xk_explain.specs.SourceExplanations.{source_explanation}
 use Rattle.std.specs.Option.{option_map_or}
 
 -- what is to be done with a module; a run is in an order, or by workers, and has its log kept or not
@@ -164,11 +170,19 @@ FailsBy t bytes logged fault.NotEnded = FailsByLog t bytes logged fault.NotEnded
 FailsBy t bytes logged fault.OutOfMemory = ⊤
 FailsBy t bytes logged fault.Device = ⊥
 
+-- What `explain` says of a program that the verifier refuses: of a source text by its lines and names. (Bytes that give a module have a tree, so
+-- the other case is none of a refusal.)
+abbrev pub IsRefusalExplained : Form → List ℕ → List ℕ → Refusal → List ℕ → Type 0
+IsRefusalExplained form.Module file bytes r said = said ≡ refusal_explanation file r
+IsRefusalExplained form.Source file bytes r said =
+    ((tree : TreeValue) × (origins : List UnitOrigins) × IsSource bytes tree × AreOrigins tree origins × (said ≡ source_explanation file bytes origins r))
+    ⊎ (((f : FrontFault) × IsNoSource bytes f) × (said ≡ refusal_explanation file r))
+
 -- What `explain` says of a fault on standard output, beside its line: of want of memory and of devices nothing.
 abbrev pub IsExplanation : Form → List ℕ → List ℕ → Fault → List ℕ → Type 0
 IsExplanation kind file bytes (fault.Text f) said = said ≡ option_map_or (λ title. module_explanation file title f) (fault_label f) []
 IsExplanation kind file bytes (fault.Front f) said = said ≡ front_explanation file bytes f
-IsExplanation kind file bytes (fault.Refused r) said = said ≡ refusal_explanation file r
+IsExplanation kind file bytes (fault.Refused r) said = IsRefusalExplained kind file bytes r said
 IsExplanation kind file bytes _ said = said ≡ []
 
 -- the same of any task: only `explain` says more than the line

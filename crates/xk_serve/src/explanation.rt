@@ -1,14 +1,17 @@
 //! What is said of a fault on standard output, beside its line on standard error.
 
 ghost use Rattle.std.specs.Prelude.{◌≡◌, [], IfOk, IsOk};
-ghost use Rattle.xk_serve.specs.Answer.{IsExplanation, IsSaidOf, task_of};
+ghost use Rattle.xk_serve.specs.Answer.{IsExplanation, IsRefusalExplained, IsSaidOf, task_of};
 ghost use Rattle.xk_serve.specs.Devices.{IsQuiet, IsSaid};
 ghost use Rattle.xk_serve.specs.declared.fault.Fault.TheVariants as fault;
 
 use crate::fault::Fault;
+use crate::program_loader::origins_in;
 use std::alloc::{AllocError, Global};
+use xk_bounds::Refusal;
 use xk_cli::{Command, Form, Job};
-use xk_explain::{explain_front, explain_module, explain_refusal};
+use xk_explain::{explain_front, explain_module, explain_refusal, explain_source};
+use xk_tree::FrontError;
 
 /// What stands against a job, and what is said of it on standard output.
 #[derive(Drop)]
@@ -80,7 +83,7 @@ fn explanation(
             None => Ok(Vec::new(alloc)),
         },
         Fault::Front(fault) => explain_front(alloc, file, bytes, *fault),
-        Fault::Refused(refusal) => explain_refusal(alloc, file, refusal),
+        Fault::Refused(refusal) => refusal_explanation(alloc, form, file, bytes, refusal),
         Fault::Arguments { .. }
         | Fault::Grammar(_)
         | Fault::Truncated
@@ -88,5 +91,26 @@ fn explanation(
         | Fault::NotEnded
         | Fault::OutOfMemory
         | Fault::Device => Ok(Vec::new(alloc)),
+    }
+}
+
+/// What it says of a program in such a file that the verifier refuses.
+fn refusal_explanation(
+    alloc: Global,
+    form: Form,
+    file: &str,
+    bytes: &[u8],
+    refusal: &Refusal,
+) -> Result<Vec<u8>, AllocError>
+    ensures { IfOk result
+        (λ said. IsRefusalExplained form file.now bytes.now refusal.now said.items) }
+{
+    match form {
+        Form::Module => explain_refusal(alloc, file, refusal),
+        Form::Source => match origins_in(alloc, bytes) {
+            Ok(origins) => explain_source(alloc, file, bytes, origins.units(), refusal),
+            Err(FrontError::Fault(_)) => explain_refusal(alloc, file, refusal),
+            Err(FrontError::OutOfMemory) => Err(AllocError),
+        },
     }
 }

@@ -2,7 +2,9 @@
 
 ghost use Rattle.std.specs.Prelude.{◌≡◌, ◌≤◌, ℕ, List, length, IfOk, OnOk, IfErr, IsUtf8};
 ghost use Rattle.xk_serve.specs.Answer.{FailsBy, task_of};
-ghost use Rattle.xk_serve.specs.Programs.{Gives, IsUnfit, IsNoSource, longest_source};
+ghost use Rattle.xk_serve.specs.Programs.{Gives, IsUnfit, IsNoSource, IsSource, longest_source};
+ghost use Rattle.xk_tree.specs.Tree.{TreeValue};
+ghost use Rattle.xk_origins.specs.Laws.{AreOrigins};
 ghost use Rattle.xk_cli.specs.declared.job.Form.TheVariants as form;
 
 use crate::fault::Fault;
@@ -10,6 +12,7 @@ use std::alloc::Global;
 use xk_cli::{Form, Job};
 use xk_codegen::compile;
 use xk_module::{ModuleFault, read_module};
+use xk_origins::{Origins, origins};
 use xk_syntax::parse;
 use xk_tree::{FrontError, FrontFault, FrontRule};
 use xk_types::Module;
@@ -45,6 +48,19 @@ fn compiled(alloc: Global, bytes: &[u8]) -> Result<Module, FrontError>
     let text = text_of(bytes)?;
     let tree = parse(alloc, text)?;
     compile(alloc, &tree)
+}
+
+/// Where the instructions come from of the module that goes with the tree of a source text. The text is read and compiled again: nothing of its tree is
+/// kept while it is verified.
+pub(crate) fn origins_in(alloc: Global, bytes: &[u8]) -> Result<Origins<'_>, FrontError>
+    ensures origins { IfOk result (λ origins. (tree : TreeValue)
+        × IsSource bytes.now tree × AreOrigins tree origins) }
+    ensures fault { IfErr result (IsUnfit bytes.now) }
+{
+    let text = text_of(bytes)?;
+    let tree = parse(alloc, text)?;
+    let _module = compile(alloc, &tree)?;
+    Ok(origins(alloc, &tree)?)
 }
 
 /// The bytes as text: they are UTF-8, and not too many.

@@ -1,5 +1,5 @@
 use Rattle.xk_explain.proofs.ExcerptLemmas.{excerpt_added}
-use Rattle.xk_explain.proofs.fronts.push_excerpt.Goals as goal
+use Rattle.xk_explain.proofs.places.push_excerpt.Goals as goal
 
 pub returns : goal.returns
 returns c =

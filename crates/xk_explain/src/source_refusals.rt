@@ -1,0 +1,157 @@
+//! What is said of a source text that the verifier refuses.
+
+ghost use Rattle.std.specs.Prelude.{◌≡◌, ◌++◌, ◌≤◌, length, IfOk, OnOk};
+ghost use Rattle.xk_explain.specs.SourceExplanations.{kind_in_source, origin_at, place_lines, shape_in_source, source_explanation, title_in, walk_in_source};
+
+use crate::lines::{push_repair, push_text, rule_title};
+use crate::messages::{rule_message, rule_repair};
+use crate::places::{push_excerpt, push_head_at};
+use crate::refusals::{explain_bound, explain_kind, explain_shape, push_ways};
+use crate::walks::{holds_line, push_stops, stops_head, unit_title};
+use std::alloc::{AllocError, Global};
+use xk_bounds::Refusal;
+use xk_origins::{Head, UnitOrigins};
+use xk_positions::LineStarts;
+use xk_shape::ShapeFault;
+use xk_types::Rule;
+use xk_typestate::KindFault;
+
+/// All that is said of what the verifier has against the module of the source text in FILE, whose units have these origins: `FILE:8:9: V11 Use, in main:
+/// ..`, the line there with carets, the walk to a slot of the wrong kind, statement by statement, and the usual repair. Of want of memory nothing is
+/// said. Err where memory was refused.
+pub fn explain_source(
+    alloc: Global,
+    file: &str,
+    text: &[u8],
+    units: &[UnitOrigins<'_>],
+    refusal: &Refusal,
+) -> Result<Vec<u8>, AllocError>
+    ensures { IfOk result
+        (λ v. v.items ≡ source_explanation file.now text.now units.now refusal.now) }
+{
+    match refusal {
+        Refusal::Shape(fault) => match units.get(fault.unit as usize) {
+            Some(unit) => shape_in_source(alloc, file, text, unit, fault),
+            None => explain_shape(alloc, file, fault),
+        },
+        Refusal::Kind(fault) => match units.get(fault.unit as usize) {
+            Some(unit) => kind_in_source(alloc, file, text, unit, fault),
+            None => explain_kind(alloc, file, fault),
+        },
+        Refusal::Bound(fault) => explain_bound(alloc, file, *fault),
+        Refusal::OutOfMemory => Ok(Vec::new(alloc)),
+    }
+}
+
+/// The same of a place that breaks a rule on shape.
+fn shape_in_source(
+    alloc: Global,
+    file: &str,
+    text: &[u8],
+    unit: &UnitOrigins<'_>,
+    fault: &ShapeFault,
+) -> Result<Vec<u8>, AllocError>
+    ensures { IfOk result
+        (λ v. v.items ≡ shape_in_source file.now text.now fault.now unit.now) }
+{
+    let lines = LineStarts::new(alloc, text)?;
+    let mut out = Vec::new(alloc);
+    push_place_lines(alloc, &mut out, file, &lines, text, unit, fault.rule, fault.at)?;
+    push_repair(alloc, &mut out, rule_repair(fault.rule))?;
+    Ok(out)
+}
+
+/// The same of a slot of the wrong kind.
+fn kind_in_source(
+    alloc: Global,
+    file: &str,
+    text: &[u8],
+    unit: &UnitOrigins<'_>,
+    fault: &KindFault,
+) -> Result<Vec<u8>, AllocError>
+    ensures { IfOk result
+        (λ v. v.items ≡ kind_in_source file.now text.now fault.now unit.now) }
+{
+    let lines = LineStarts::new(alloc, text)?;
+    let mut out = Vec::new(alloc);
+    push_place_lines(alloc, &mut out, file, &lines, text, unit, fault.rule, fault.at)?;
+    push_walk(alloc, &mut out, &lines, text, unit, fault)?;
+    push_ways(&mut out)?;
+    push_repair(alloc, &mut out, rule_repair(fault.rule))?;
+    Ok(out)
+}
+
+/// Adds what the slot may hold at the place refused, and the walk to it.
+fn push_walk(
+    alloc: Global,
+    out: &mut Vec<u8>,
+    lines: &LineStarts<'_>,
+    text: &[u8],
+    unit: &UnitOrigins<'_>,
+    fault: &KindFault,
+) -> Result<(), AllocError>
+    requires { lines.now ≡ text.now }
+    ensures { OnOk result (out.new.items
+        ≡ out.old.items ++ walk_in_source text.now fault.now unit.now) }
+{
+    let holds = holds_line(alloc, unit, fault.slot, fault.kind)?;
+    let head = stops_head(alloc, unit, fault.slot)?;
+    let mut walk = Vec::new(alloc);
+    walk.extend_from_slice(&holds)?;
+    walk.extend_from_slice(&head)?;
+    push_stops(alloc, &mut walk, lines, text, unit, &fault.walk)?;
+    out.extend_from_slice(&walk)
+}
+
+/// The offset that an instruction of a unit comes from, no further than where the text ends.
+pub(crate) fn origin_at(text: &[u8], unit: &UnitOrigins<'_>, at: u16) -> usize
+    ensures at { result ≡ origin_at text.now unit.now at }
+    ensures within { result ≤ length text.now }
+{
+    match unit.offsets.get(at as usize) {
+        Some(offset) => (*offset).min(text.len()),
+        None => 0,
+    }
+}
+
+/// A rule, and the unit in which it is broken.
+fn title_in(
+    alloc: Global,
+    lines: &LineStarts<'_>,
+    text: &[u8],
+    rule: Rule,
+    head: &Head<'_>,
+) -> Result<Vec<u8>, AllocError>
+    requires { lines.now ≡ text.now }
+    ensures { IfOk result (λ v. v.items ≡ title_in text.now rule head.now) }
+{
+    let title = rule_title(alloc, rule)?;
+    let unit = unit_title(alloc, lines, text, head)?;
+    let mut out = Vec::new(alloc);
+    push_text(&mut out, title.as_str())?;
+    push_text(&mut out, ", ")?;
+    out.extend_from_slice(&unit)?;
+    Ok(out)
+}
+
+/// Adds the lines on a place of a unit that breaks a rule, up to that with carets.
+fn push_place_lines(
+    alloc: Global,
+    out: &mut Vec<u8>,
+    file: &str,
+    lines: &LineStarts<'_>,
+    text: &[u8],
+    unit: &UnitOrigins<'_>,
+    rule: Rule,
+    at: u16,
+) -> Result<(), AllocError>
+    requires { lines.now ≡ text.now }
+    ensures { OnOk result (out.new.items
+        ≡ out.old.items ++ place_lines file.now text.now unit.now rule at) }
+{
+    let offset = origin_at(text, unit, at);
+    let title = title_in(alloc, lines, text, rule, &unit.head)?;
+    let position = lines.position(offset);
+    push_head_at(alloc, out, file, position, &title, rule_message(rule))?;
+    push_excerpt(alloc, out, lines, text, offset)
+}

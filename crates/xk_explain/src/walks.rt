@@ -1,0 +1,286 @@
+//! Names and walks in the words of a source text.
+
+ghost use Rattle.std.specs.Prelude.{◌≡◌, ◌++◌, ◌≤◌, length, IfOk, OnOk, None, codes, decimal, string_bytes};
+ghost use Rattle.std.specs.List.{prefix_len};
+ghost use Rattle.xk_explain.specs.SourceExplanations.{goes_back, holds_line, is_blank, is_name, is_told, line_text, one_stop, place_title, quoted, slot_name, slot_title, stop_head, stop_line, stops, stops_head, turn_line, unit_title};
+
+use crate::lines::push_text;
+use crate::messages::kind_message;
+use crate::source_refusals::origin_at;
+use std::alloc::{AllocError, Global};
+use xk_origins::{Head, UnitOrigins};
+use xk_positions::{LineStarts, Position, shown_front};
+use xk_types::{Kind, Visit};
+
+/// How many signs of a line are told at most.
+const TOLD: usize = 60;
+
+/// `3:5`.
+fn place_title(alloc: Global, position: Position) -> Result<String, AllocError>
+    ensures { IfOk result (λ text. string_bytes text ≡ place_title position) }
+{
+    let line = position.line;
+    let column = position.column;
+    format!(in alloc; "{line}:{column}")
+}
+
+/// `in main`, `in f`, or ``in the `async` at 3:5``.
+#[tactic(auto, unfolding(crate::specs::SourceExplanations::unit_title))]
+pub(crate) fn unit_title(
+    alloc: Global,
+    lines: &LineStarts<'_>,
+    text: &[u8],
+    head: &Head<'_>,
+) -> Result<Vec<u8>, AllocError>
+    requires { lines.now ≡ text.now }
+    ensures { IfOk result (λ v. v.items ≡ unit_title text.now head.now) }
+{
+    let mut out = Vec::new(alloc);
+    match head.name {
+        Some(name) => {
+            push_text(&mut out, "in ")?;
+            out.extend_from_slice(name)?;
+            Ok(out)
+        }
+        None => {
+            let place = place_title(alloc, lines.position(head.at.min(text.len())))?;
+            push_text(&mut out, "in the `async` at ")?;
+            push_text(&mut out, place.as_str())?;
+            Ok(out)
+        }
+    }
+}
+
+/// Whether a name stands in the text.
+fn is_name(name: &[u8]) -> bool
+    ensures { result ≡ is_name name.now }
+{
+    name.iter().any(|b| *b != b' ')
+}
+
+/// The name of a slot; temporaries have none.
+fn slot_name<'t>(unit: &UnitOrigins<'t>, slot: u16) -> &'t [u8]
+    ensures { result.now ≡ slot_name unit.now.slots slot }
+{
+    match unit.slots.get(slot as usize) {
+        Some(name) => name,
+        None => b"",
+    }
+}
+
+/// A name in quotes.
+#[tactic(auto, unfolding(crate::specs::SourceExplanations::quoted))]
+fn quoted(alloc: Global, name: &[u8]) -> Result<Vec<u8>, AllocError>
+    ensures { IfOk result (λ v. v.items ≡ quoted name.now) }
+{
+    let mut out = Vec::new(alloc);
+    push_text(&mut out, "`")?;
+    out.extend_from_slice(name)?;
+    push_text(&mut out, "`")?;
+    Ok(out)
+}
+
+/// The number of a slot.
+fn slot_number(alloc: Global, slot: u16) -> Result<Vec<u8>, AllocError>
+    ensures { IfOk result (λ v. v.items ≡ codes "slot " ++ decimal slot) }
+{
+    let mut out = Vec::new(alloc);
+    push_text(&mut out, format!(in alloc; "slot {slot}")?.as_str())?;
+    Ok(out)
+}
+
+/// A slot by its name, or by its number where the text has no name for it.
+fn slot_title(alloc: Global, unit: &UnitOrigins<'_>, slot: u16) -> Result<Vec<u8>, AllocError>
+    ensures { IfOk result (λ v. v.items ≡ slot_title unit.now.slots slot) }
+{
+    let name = slot_name(unit, slot);
+    if is_name(name) {
+        return quoted(alloc, name);
+    }
+    slot_number(alloc, slot)
+}
+
+/// The line before a walk.
+#[tactic(auto, unfolding(crate::specs::SourceExplanations::stops_head))]
+pub(crate) fn stops_head(
+    alloc: Global,
+    unit: &UnitOrigins<'_>,
+    slot: u16,
+) -> Result<Vec<u8>, AllocError>
+    ensures { IfOk result (λ v. v.items ≡ stops_head unit.now.slots slot) }
+{
+    let title = slot_title(alloc, unit, slot)?;
+    let mut out = Vec::new(alloc);
+    push_text(&mut out, "   = a way to it, and what ")?;
+    out.extend_from_slice(&title)?;
+    push_text(&mut out, " holds before each statement:\n")?;
+    Ok(out)
+}
+
+/// What a slot may hold at the place refused.
+#[tactic(auto, unfolding(crate::specs::SourceExplanations::holds_line))]
+pub(crate) fn holds_line(
+    alloc: Global,
+    unit: &UnitOrigins<'_>,
+    slot: u16,
+    kind: Kind,
+) -> Result<Vec<u8>, AllocError>
+    ensures { IfOk result (λ v. v.items ≡ holds_line unit.now.slots slot kind) }
+{
+    let title = slot_title(alloc, unit, slot)?;
+    let mut out = Vec::new(alloc);
+    push_text(&mut out, "   = ")?;
+    out.extend_from_slice(&title)?;
+    push_text(&mut out, " may hold here: ")?;
+    push_text(&mut out, kind_message(kind))?;
+    push_text(&mut out, "\n")?;
+    Ok(out)
+}
+
+/// How many blanks stand at the front of a text.
+fn blanks(text: &[u8]) -> usize
+    ensures count { result ≡ prefix_len is_blank text.now }
+    ensures within { result ≤ length text.now }
+{
+    text.iter().take_while(|&&b| b == b' ' || b == b'\t').count()
+}
+
+/// The line of an offset as it is shown, without the blanks that it begins with.
+#[tactic(auto, unfolding(crate::specs::SourceExplanations::line_text))]
+fn line_text(alloc: Global, lines: &LineStarts<'_>, at: usize) -> Result<Vec<u8>, AllocError>
+    requires { at ≤ length lines.now }
+    ensures { IfOk result (λ v. v.items ≡ line_text lines.now at) }
+{
+    let line = lines.text_at(at);
+    shown_front(alloc, &line[blanks(line)..], TOLD)
+}
+
+/// What stands before the text of a stop.
+#[tactic(auto, unfolding(crate::specs::SourceExplanations::stop_head))]
+fn stop_head(alloc: Global, position: Position, kind: Kind) -> Result<String, AllocError>
+    ensures { IfOk result (λ text. string_bytes text ≡ stop_head position kind) }
+{
+    let place = place_title(alloc, position)?;
+    let holds = kind_message(kind);
+    format!(in alloc; "     {place}  {holds}: ")
+}
+
+/// What is said of one stop.
+#[tactic(auto, unfolding(crate::specs::SourceExplanations::stop_line))]
+fn stop_line(
+    alloc: Global,
+    lines: &LineStarts<'_>,
+    at: usize,
+    kind: Kind,
+) -> Result<Vec<u8>, AllocError>
+    requires { at ≤ length lines.now }
+    ensures { IfOk result (λ v. v.items ≡ stop_line lines.now at kind) }
+{
+    let head = stop_head(alloc, lines.position(at), kind)?;
+    let line = line_text(alloc, lines, at)?;
+    let mut out = Vec::new(alloc);
+    push_text(&mut out, head.as_str())?;
+    out.extend_from_slice(&line)?;
+    push_text(&mut out, "\n")?;
+    Ok(out)
+}
+
+/// Adds what is said of one stop.
+fn push_stop(
+    alloc: Global,
+    out: &mut Vec<u8>,
+    lines: &LineStarts<'_>,
+    at: usize,
+    kind: Kind,
+) -> Result<(), AllocError>
+    requires { at ≤ length lines.now }
+    ensures { OnOk result (out.new.items ≡ out.old.items ++ stop_line lines.now at kind) }
+{
+    let line = stop_line(alloc, lines, at, kind)?;
+    out.extend_from_slice(&line)
+}
+
+/// Adds what is said of a stop behind which a loop begins again.
+#[tactic(auto, unfolding(crate::specs::SourceExplanations::turn_line))]
+fn push_turn(
+    alloc: Global,
+    out: &mut Vec<u8>,
+    lines: &LineStarts<'_>,
+    at: usize,
+    kind: Kind,
+) -> Result<(), AllocError>
+    requires { at ≤ length lines.now }
+    ensures { OnOk result (out.new.items ≡ out.old.items ++ turn_line lines.now at kind) }
+{
+    let place = place_title(alloc, lines.position(at))?;
+    let holds = kind_message(kind);
+    push_text(
+        out,
+        format!(in alloc; "     {place}  {holds}, and then the next turn\n")?.as_str(),
+    )
+}
+
+/// Whether a walk goes back from a stop to those behind it.
+fn goes_back(visit: Visit, behind: &[Visit]) -> bool
+    ensures { result ≡ goes_back visit behind.now }
+{
+    match behind {
+        [] => false,
+        [next, ..] => next.at <= visit.at,
+    }
+}
+
+/// Whether the statement at an offset was told last.
+fn is_told(told: Option<usize>, at: usize) -> bool
+    ensures { result ≡ is_told told at }
+{
+    match told {
+        None => false,
+        Some(told) => told == at,
+    }
+}
+
+/// Adds what is said of a stop before these, if anything.
+fn push_one_stop(
+    alloc: Global,
+    out: &mut Vec<u8>,
+    lines: &LineStarts<'_>,
+    told: Option<usize>,
+    at: usize,
+    visit: Visit,
+    behind: &[Visit],
+) -> Result<(), AllocError>
+    requires { at ≤ length lines.now }
+    ensures { OnOk result (out.new.items
+        ≡ out.old.items ++ one_stop lines.now told at visit behind.now) }
+{
+    if goes_back(visit, behind) {
+        return push_turn(alloc, out, lines, at, visit.kind);
+    }
+    if is_told(told, at) {
+        return Ok(());
+    }
+    push_stop(alloc, out, lines, at, visit.kind)
+}
+
+/// Adds the stops of a walk, statement by statement.
+pub(crate) fn push_stops(
+    alloc: Global,
+    out: &mut Vec<u8>,
+    lines: &LineStarts<'_>,
+    text: &[u8],
+    unit: &UnitOrigins<'_>,
+    walk: &[Visit],
+) -> Result<(), AllocError>
+    requires { lines.now ≡ text.now }
+    ensures { OnOk result
+        (out.new.items ≡ out.old.items ++ stops text.now unit.now None walk.now) }
+{
+    let mut told = None;
+    for (i, visit) in walk.iter().enumerate() {
+        let at = origin_at(text, unit, visit.at);
+        push_one_stop(alloc, out, lines, told, at, *visit, &walk[i + 1..])?;
+        told = Some(at);
+    }
+    Ok(())
+}
