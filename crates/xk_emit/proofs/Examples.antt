@@ -183,6 +183,7 @@ main_squares : unit_of_method bare unit_kind.Main (record {
   paren = 0;
   params = record { name = w (codes "n"); takes = record { at = 0; kind = param.Number } } ∷ [];
   body = squares_main;
+  close = 0;
 }) ≡ record {
   kind = unit_kind.Main;
   params = param.Number ∷ [];

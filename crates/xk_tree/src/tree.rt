@@ -1,4 +1,4 @@
-//! Trees. They keep where in the text their names, numbers, types, parentheses and `-` stand, `finish` and each `}`, as offsets in bytes.
+//! Trees. They keep where in the text their names, numbers, types, parentheses, `-`, `finish` and `}` stand, as offsets in bytes.
 
 ghost use Rattle.std.specs.Prelude.{◌≡◌};
 ghost use Rattle.xk_tree.specs.Tree.{bound, has_turns, program_value, top};
@@ -157,8 +157,8 @@ pub enum Stmt<'t> {
     For(usize, Name<'t>, Number, Bound<'t>, Box<Stmt<'t>>),
     /// `async s`, `async clocked (c, ..) s` or `clocked async s`, with the offset of `async`.
     Async(usize, Option<ClockList<'t>>, Box<Stmt<'t>>),
-    /// `finish s`, with the offset of `finish`; and `clocked finish s`, which stands for `finish { val h = Clock.make(); s h.drop(); }` with a name h
-    /// that no text has. The block there has no `}` in the text, and the offset of `finish` too.
+    /// `finish s`, with the offset of `finish`; and `clocked finish s`, which stands for `finish { val h = Clock.make(); s h.drop(); }` with
+    /// a name h that no text has. The block there has no `}` in the text: its offset is that of `finish` too.
     Finish(usize, Box<Stmt<'t>>),
     /// `f(e, ..);`, with the offset of its `(`.
     Call(Name<'t>, usize, Vec<Expr<'t>>),
