@@ -1,15 +1,12 @@
-"""A second telling of what `explain` says on standard output, in Python, from docs/EXPLAIN.md: its rules in words, and its tables.
-
-    python3 tests/reference/telling_explain.py [--module] FILE
-"""
+"""A second telling of what `explain` says on standard output, in Python, from docs/EXPLAIN.md: its rules in words, and its tables."""
 
 from __future__ import annotations
 
 import pathlib
 import re
-import sys
-import unicodedata
 from functools import cache
+
+import telling_origins
 
 PAGE = pathlib.Path(__file__).resolve().parents[2] / "docs/EXPLAIN.md"
 ROW = re.compile(r"\| (?P<rule>[FMV]\d+) \w+ \| (?P<wrong>.*) \| (?P<repair>.*) \|")
@@ -18,8 +15,9 @@ FRONT = re.compile(r"(?P<title>(?P<rule>F\d+) \w+) at (?P<at>\d+)")
 TEXT = re.compile(r"(?P<title>(?P<rule>M\d+) \w+)")
 PLACE = re.compile(r"(?P<title>(?P<rule>V\d+) \w+) (?P<place>unit \d+ at \d+)(?: slot (?P<slot>\d+) (?P<kind>\w+) walk (?P<walk>.*))?")
 BOUND = re.compile(r"(?P<title>(?P<rule>V\d+) \w+) over (?P<limit>\d+)")
-# So many signs are shown on either side of a place, at most.
-WINDOW = 80
+# So many signs are shown on either side of a place, at most, and of a line of a walk.
+WINDOW, TOLD = 80, 60
+WAYS = "   = ways go round loops and into both branches, whatever the numbers are\n"
 WORD = re.compile(rb"[0-9A-Za-z_]*")
 WITHOUT_PLACE = ("F4", "F9")
 
@@ -100,14 +98,59 @@ def front(file: str, text: bytes, found: re.Match[str]) -> str:
 
 def walk(slot: str, kinds: list[str], places: list[str]) -> str:
     lines = [f"     at {place}  {kind}: {tables()[1][kind]}\n" for place, kind in zip(places, kinds, strict=True)]
-    return f"   = a way to it, and what slot {slot} holds before each instruction:\n{''.join(lines)}   = ways go round loops and into both branches, whatever the numbers are\n"
+    return f"   = a way to it, and what slot {slot} holds before each instruction:\n{''.join(lines)}{WAYS}"
 
 
-def explained(file: str, text: bytes, line: str, kinds: list[str]) -> str:
+def line_text(text: bytes, at: int) -> str:
+    """The line of an offset as it is shown, without the blanks that it begins with, and no more than 60 signs of it."""
+    start = text.rfind(b"\n", 0, at) + 1
+    end = text.find(b"\n", start)
+    line = text[start : end if end >= 0 else len(text)]
+    if end >= 0:
+        line = line.removesuffix(b"\r")
+    return "".join(map(shown, signs(line.lstrip(b" \t"))[:TOLD]))
+
+
+def place_title(text: bytes, at: int) -> str:
+    return "{}:{}".format(*position(text, at))
+
+
+def stops(text: bytes, offsets: list[int], places: list[int], kinds: list[str]) -> str:
+    """The stops of a walk, statement by statement; a walk goes back where a turn of a loop begins."""
+    said, told = "", None
+    for number, (place, kind) in enumerate(zip(places, kinds, strict=True)):
+        at, holds = offsets[place], tables()[1][kind]
+        if number + 1 < len(places) and places[number + 1] <= place:
+            said += f"     {place_title(text, at)}  {holds}, and then the next turn\n"
+        elif at != told:
+            said += f"     {place_title(text, at)}  {holds}: {line_text(text, at)}\n"
+        told = at
+    return said
+
+
+def in_source(file: str, text: bytes, found: re.Match[str], kinds: list[str]) -> str:
+    """What is said of a place of a source text that the verifier refuses."""
+    rule, number, place = found["rule"], *map(int, re.findall(r"\d+", found["place"]))
+    unit = telling_origins.origins(text)[number]
+    title = f"in {unit.name}" if unit.name else f"in the `async` at {place_title(text, unit.at)}"
+    at = unit.offsets[place]
+    word = WORD.match(text, at)
+    said = f"{file}:{place_title(text, at)}: {found['title']}, {title}: {tables()[0][rule][0]}\n" + excerpt(text, at, max(1, len(word[0])))
+    if found["walk"]:
+        slot = int(found["slot"])
+        name = f"`{unit.slots[slot]}`" if slot in unit.slots else f"slot {slot}"
+        said += f"   = {name} may hold here: {tables()[1][found['kind']]}\n   = a way to it, and what {name} holds before each statement:\n"
+        said += stops(text, unit.offsets, list(map(int, found["walk"].split())), kinds) + WAYS
+    return said + repair(rule)
+
+
+def explained(file: str, text: bytes, line: str, kinds: list[str], is_module: bool) -> str:
     """What is said where standard error gets this line; the kinds are those of the walk."""
     said = line.removeprefix("x10clock: ").removesuffix("\n")
     if found := FRONT.fullmatch(said):
         return front(file, text, found)
+    if (found := PLACE.fullmatch(said)) and not is_module:
+        return in_source(file, text, found, kinds)
     if found := PLACE.fullmatch(said):
         rule = found["rule"]
         head = f"{file}: {found['title']}, {found['place']}: {tables()[0][rule][0]}\n"

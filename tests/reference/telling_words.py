@@ -318,7 +318,7 @@ def compiled(data: bytes) -> Told:
 def explained(job: Job, data: bytes, judged: Refused) -> str:
     """What is said of a program that is refused."""
     kinds = [kind.name.lower() for kind in judged.by_kind.kinds] if judged.by_kind else []
-    return telling_explain.explained(job.values["FILE"], data, judged.line, kinds)
+    return telling_explain.explained(job.values["FILE"], data, judged.line, kinds, "module" in job.flags)
 
 
 def ran(job: Job, judged: Accepted, log: BinaryIO | None) -> Told:

@@ -42,11 +42,7 @@ fn line<'a>(alloc: Global) -> Result<clap::Command<'a>, AllocError>
 {
     let check = on_either(alloc, "check", "Says whether a program is accepted.");
     let checks = add(program(alloc), check)?;
-    let explain = on_either(
-        alloc,
-        "explain",
-        "Says where and why a program is refused.",
-    );
+    let explain = on_either(alloc, "explain", "Says where and why a program is refused.");
     let explains = add(checks, explain)?;
     let compile = on_file(
         alloc,

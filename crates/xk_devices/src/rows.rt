@@ -45,7 +45,8 @@ const MODULE: &str =
 const TRUNCATED: &str = "x10clock: L2 Truncated\n";
 
 /// What is said of a text that is no program.
-const EXPLAINED: &str = "-:1:1: F2 Syntax: this can't stand here\n   |\n 1 | main\n   | ^^^^\n   = usual repair: look right before it for what is missing, as a `;`, a `)` or a `}`\n";
+const EXPLAINED: &str =
+    "-:1:1: F2 Syntax: this can't stand here\n   |\n 1 | main\n   | ^^^^\n   = usual repair: look right before it for what is missing, as a `;`, a `)` or a `}`\n";
 
 /// A row of the program in step, which is accepted.
 fn done(

@@ -4,8 +4,8 @@ ghost use Rattle.std.specs.Prelude.{◌≡◌, ◌≤◌, length, IfOk, string_b
 ghost use Rattle.xk_explain.specs.Explanations.{front_explanation, front_title, has_place, module_explanation, placed_explanation, shown_at, unplaced_explanation};
 
 use crate::lines::{push_head, push_repair};
-use crate::places::{push_excerpt, push_head_at};
 use crate::messages::{front_message, front_repair, module_message, module_repair};
+use crate::places::{push_excerpt, push_head_at};
 use std::alloc::{AllocError, Global};
 use xk_module::ModuleFault;
 use xk_positions::LineStarts;

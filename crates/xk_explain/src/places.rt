@@ -37,10 +37,7 @@ fn push_place(
 {
     let line = position.line;
     let column = position.column;
-    push_text(
-        out,
-        format!(in alloc; "{file}:{line}:{column}: ")?.as_str(),
-    )
+    push_text(out, format!(in alloc; "{file}:{line}:{column}: ")?.as_str())
 }
 
 /// Adds what is wrong, up to the end of the line.

@@ -25,7 +25,11 @@ pub fn explain_refusal(alloc: Global, file: &str, refusal: &Refusal) -> Result<V
 }
 
 /// The same of a place that breaks a rule on shape, V1 to V10.
-pub(crate) fn explain_shape(alloc: Global, file: &str, fault: &ShapeFault) -> Result<Vec<u8>, AllocError>
+pub(crate) fn explain_shape(
+    alloc: Global,
+    file: &str,
+    fault: &ShapeFault,
+) -> Result<Vec<u8>, AllocError>
     ensures { IfOk result (λ v. v.items ≡ shape_explanation file.now fault.now) }
 {
     let title = title_at(alloc, fault.rule, fault.unit, fault.at)?;
@@ -42,7 +46,11 @@ pub(crate) fn explain_shape(alloc: Global, file: &str, fault: &ShapeFault) -> Re
 }
 
 /// The same of a slot of the wrong kind, V11 to V13.
-pub(crate) fn explain_kind(alloc: Global, file: &str, fault: &KindFault) -> Result<Vec<u8>, AllocError>
+pub(crate) fn explain_kind(
+    alloc: Global,
+    file: &str,
+    fault: &KindFault,
+) -> Result<Vec<u8>, AllocError>
     ensures { IfOk result (λ v. v.items ≡ kind_explanation file.now fault.now) }
 {
     let title = title_at(alloc, fault.rule, fault.unit, fault.at)?;
@@ -61,7 +69,11 @@ pub(crate) fn explain_kind(alloc: Global, file: &str, fault: &KindFault) -> Resu
 }
 
 /// The same of a bound that is over its limit, V14 to V17.
-pub(crate) fn explain_bound(alloc: Global, file: &str, fault: BoundFault) -> Result<Vec<u8>, AllocError>
+pub(crate) fn explain_bound(
+    alloc: Global,
+    file: &str,
+    fault: BoundFault,
+) -> Result<Vec<u8>, AllocError>
     ensures { IfOk result (λ v. v.items ≡ bound_explanation file.now fault) }
 {
     let title = rule_title(alloc, fault.rule)?;

@@ -56,7 +56,9 @@ fn shape_in_source(
 {
     let lines = LineStarts::new(alloc, text)?;
     let mut out = Vec::new(alloc);
-    push_place_lines(alloc, &mut out, file, &lines, text, unit, fault.rule, fault.at)?;
+    push_place_lines(
+        alloc, &mut out, file, &lines, text, unit, fault.rule, fault.at,
+    )?;
     push_repair(alloc, &mut out, rule_repair(fault.rule))?;
     Ok(out)
 }
@@ -74,7 +76,9 @@ fn kind_in_source(
 {
     let lines = LineStarts::new(alloc, text)?;
     let mut out = Vec::new(alloc);
-    push_place_lines(alloc, &mut out, file, &lines, text, unit, fault.rule, fault.at)?;
+    push_place_lines(
+        alloc, &mut out, file, &lines, text, unit, fault.rule, fault.at,
+    )?;
     push_walk(alloc, &mut out, &lines, text, unit, fault)?;
     push_ways(&mut out)?;
     push_repair(alloc, &mut out, rule_repair(fault.rule))?;

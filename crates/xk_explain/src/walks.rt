@@ -142,7 +142,9 @@ fn blanks(text: &[u8]) -> usize
     ensures count { result ≡ prefix_len is_blank text.now }
     ensures within { result ≤ length text.now }
 {
-    text.iter().take_while(|&&b| b == b' ' || b == b'\t').count()
+    text.iter()
+        .take_while(|&&b| b == b' ' || b == b'\t')
+        .count()
 }
 
 /// The line of an offset as it is shown, without the blanks that it begins with.

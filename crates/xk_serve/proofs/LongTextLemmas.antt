@@ -185,8 +185,11 @@ log_read t bytes logged old new fault.Device no h = absurd (no refl)
 -- want of memory stands where no source failed
 memory_stands : (t : Task) (known logged : Option (List ℕ)) (n : Reads) → n.program_new ≡ n.program_old → n.log_new ≡ n.log_old
     → StandsAgainst t known logged n fault.OutOfMemory []
-memory_stands t known logged n s l = ((s, l), of_known t known logged (λ k log. FailsBy t k log fault.OutOfMemory × IsSaidOf t k fault.OutOfMemory [])
-    (λ k log. (tt, memory_unsaid t.doing t.form t.file k)))
+memory_stands t known logged n s l = (
+  (s, l),
+  of_known t known logged (λ k log. FailsBy t k log fault.OutOfMemory × IsSaidOf t k fault.OutOfMemory [])
+      (λ k log. (tt, memory_unsaid t.doing t.form t.file k)),
+)
 
 -- the same of a fault that is told with what is said of it, or as want of memory
 pub kept_stands : (t : Task) (known logged : Option (List ℕ)) (bytes : List ℕ) (n : Reads) (f told : Fault) (said : List ℕ) → n.program_new ≡ n.program_old

@@ -156,7 +156,7 @@ module _ (said : List ℕ) (f : Fault) (out_old out_new : Option (List ℕ)) (ou
     -- the answer, whether the bytes are known or not
     pub told_answers : IfKnown t program known (λ bytes logged. result ≢ 4 → result ≢ 5 → Answered t bytes logged result out_old out_new err_old err_new log log)
     told_answers = elim (either t program known n f said stands) [
-      inl d ↦ of_known t program known (λ bytes logged. result ≢ 4 → result ≢ 5 → Answered t bytes logged result out_old out_new err_old err_new log log)
+      | inl d ↦ of_known t program known (λ bytes logged. result ≢ 4 → result ≢ 5 → Answered t bytes logged result out_old out_new err_old err_new log log)
           (λ bytes logged not4 not5. absurd (not5 (device_told d.0 explained)))
       | inr k ↦ known_weaker t program known _ _ (λ bytes logged h not4 not5. explained_answer t bytes logged log h explained not4 not5) k
     ]
@@ -164,7 +164,7 @@ module _ (said : List ℕ) (f : Fault) (out_old out_new : Option (List ℕ)) (ou
     -- standard output, and the log
     pub said_begins : IfKnown t program known (λ bytes logged. OutBegins t bytes logged out_old out_new log log)
     said_begins = elim (either t program known n f said stands) [
-      inl d ↦ of_known t program known (λ bytes logged. OutBegins t bytes logged out_old out_new log log)
+      | inl d ↦ of_known t program known (λ bytes logged. OutBegins t bytes logged out_old out_new log log)
           (λ bytes logged. inl (nothing_begun out_old out_new said d.1 (explained_begins explained), appends_none log))
       | inr k ↦ known_weaker t program known _ _
           (λ bytes logged h. inr (inr (f, h.0, (said, h.1, explained_begins explained, appends_none log)))) k
@@ -173,7 +173,7 @@ module _ (said : List ℕ) (f : Fault) (out_old out_new : Option (List ℕ)) (ou
     -- standard error
     pub line_begins : IfKnown t program known (λ bytes logged. ErrBegins t bytes logged err_old err_new)
     line_begins = elim (either t program known n f said stands) [
-      inl d ↦ of_known t program known (λ bytes logged. ErrBegins t bytes logged err_old err_new) (λ bytes logged. explained_line t bytes logged (inl d.0) explained)
+      | inl d ↦ of_known t program known (λ bytes logged. ErrBegins t bytes logged err_old err_new) (λ bytes logged. explained_line t bytes logged (inl d.0) explained)
       | inr k ↦ known_weaker t program known _ _ (λ bytes logged h. explained_line t bytes logged (inr h.0) explained) k
     ]
 

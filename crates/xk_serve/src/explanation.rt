@@ -45,12 +45,7 @@ pub(crate) fn refused(alloc: Global, job: &Job<'_>, bytes: &[u8], fault: Fault) 
 }
 
 /// What is said of a fault of the job on a file of these bytes. Err where memory was refused; where nothing is said, none is wanted.
-fn said_of(
-    alloc: Global,
-    job: &Job<'_>,
-    bytes: &[u8],
-    fault: &Fault,
-) -> Result<Vec<u8>, AllocError>
+fn said_of(alloc: Global, job: &Job<'_>, bytes: &[u8], fault: &Fault) -> Result<Vec<u8>, AllocError>
     ensures said { IfOk result
         (λ said. IsSaidOf (task_of job.now) bytes.now fault.now said.items) }
     ensures device { fault.now ≡ fault.Device → IsOk result }
