@@ -29,6 +29,9 @@ MODULE = ROWS / "in-step.json"
 PRINTED = (ROWS / "in-step.stdout").read_text()
 LOG = "x10log 1\n" + "".join(f"{who} 1\n" for who in (0, 0, 0, 1, 0, 0, 0, 0, 1, 1, 1, 1)) + "end 12\n"
 DEVICE, MEMORY = "x10clock: device\n", "x10clock: out of memory\n"
+TOO_LONG = """/dev/zero: F4 TooLong: the text has more than 1048576 bytes
+   = usual repair: write a shorter one: a method is written once, however often it is called
+"""
 OVER_FILE = "x10clock: --log would write over FILE\n"
 LONG = "def main() { for (i in 1..900000000) ; Console.OUT.println(1); }"
 SECONDS = 60
@@ -129,13 +132,15 @@ def over_file(tried: Tried) -> None:
 
 
 def strange_files(tried: Tried) -> None:
-    for command in ("check", "compile", "run", "check --module"):
+    for command in ("check", "explain", "compile", "run", "check --module"):
         tried.answers(f"exec $x {command} .", 5, err=DEVICE)
         tried.answers(f"exec $x {command} no-such-file", 5, err=DEVICE)
     tried.answers("exec $x check /dev/null", 1, err="x10clock: F9 NoMain at 0\n")
     tried.answers("exec $x check --module /dev/null", 1, err="x10clock: M1 NotJson\n")
     tried.answers("exec $x check /dev/zero", 1, err="x10clock: F4 TooLong at 0\n")
     tried.answers("exec $x check --module /dev/zero", 1, err="x10clock: M3 Limit\n")
+    tried.answers("exec $x explain /dev/zero", 1, TOO_LONG, err="x10clock: F4 TooLong at 0\n")
+    tried.answers("exec $x explain /dev/zero > /dev/full", 5, err=DEVICE)
     for command in ("replay", "chart"):
         tried.answers(f"exec $x {command} in-step.x10 .", 5, err=DEVICE)
         tried.answers(f"exec $x {command} in-step.x10 no-such-file", 5, err=DEVICE)

@@ -189,6 +189,7 @@ def each_row(calls: Calls) -> None:
     for row in sorted([*ROWS.glob("*.json"), *ROWS.glob("*.x10")]):
         text = row.read_bytes()
         out, err = (row.with_suffix(end).read_bytes() for end in (".stdout", ".stderr"))
+        calls.ask(f"{row.name}, explained", ["explain", *given(row)[:row.suffix == ".json"], "-"], text)
         calls.ask(f"{row.name}, checked", ["check", *given(row)[:row.suffix == ".json"], "-"], text)
         calls.need(row.name, ["run", *given(row), "-"], text, 1 if err else 0, out, err)
         for order in ("first", "last", "round"):

@@ -3,7 +3,7 @@
 
 The modules are those of tests/answers/rows and whole programs that are made up here, as they are, with a rule broken, or changed operand by
 operand and byte by byte (tests/generated/generated.py). `check` and `run`, the latter in each order and with numbers by chance where main takes
-some, have to answer what the telling answers, byte for byte; where there are several walks to what is refused, another shortest one is taken
+some, and `explain` of what is refused, have to answer what the telling answers, byte for byte; where there are several walks to what is refused, another shortest one is taken
 too, and counted. Of an accepted module with few worlds the telling goes through all schedules, and looks whether the promises hold.
 With `--source` the texts are programs in the language (tests/generated/generated_source.py) and those of tests/answers/programs/sources*.rows
 and of examples, and `compile` is compared too, with what tests/reference/telling_source.py makes of them. Some runs of the module are compared
@@ -41,6 +41,7 @@ import generated_source
 import meaning
 import tally
 import telling
+import telling_explain
 import telling_log
 import telling_source
 from telling import Accepted, Arguments, Order, Refused
@@ -243,12 +244,22 @@ class Comparer:
                 outcome.counts["refusals with another shortest walk"] += 1
             else:
                 outcome.differ("check", told, answer)
+        self.explains(text, judged, answer, outcome)
         if is_sampled(text):
             rng = random.Random(text)
             again = self.ask(text, "run", *words_of(generated.arguments(rng, rng.choice([0, 0, 1, 2]))))
             if again != answer:
                 outcome.differ("run after check", answer, again)
         return outcome
+
+    def explains(self, text: bytes, judged: Refused, checked: Answer, outcome: Outcome) -> None:
+        """`explain` has to give the line of `check`, and beside it what the telling says of that."""
+        answer = self.ask(text, "explain")
+        kinds = [kind.name.lower() for kind in judged.by_kind.kinds] if judged.by_kind else []
+        said = telling_explain.explained("-", text, judged.line, kinds, not self.source) if checked == refused(judged.line) else answer.out
+        outcome.counts["refusals explained"] += 1
+        if answer != Answer(checked.status, said, checked.err):
+            outcome.differ("explain", Answer(checked.status, said, checked.err), answer)
 
     def is_other_walk(self, judged: Refused, told: Answer, answer: Answer) -> bool:
         """Whether the answer is the telling's, but for the walk, which is another shortest one."""
