@@ -1,6 +1,6 @@
 #!/bin/sh
 # Plays transcripts of the built program again, and compares them line for line: what `examples/*.txt` tell of the programs beside them, and
-# what `tests/answers/words.txt` tells of the command line, `tests/answers/logs.txt` of logs, and `tests/answers/workers.txt` of runs by workers
+# what `tests/answers/words.txt` tells of the command line, `tests/answers/explained/explain.txt` of what is refused, `tests/answers/logs.txt` of logs, and `tests/answers/workers.txt` of runs by workers
 # that print the same whoever comes first.
 #
 # A transcript has, for each call, a line `$ x10clock WORDS`, as a shell takes it, then what goes to standard output, then what goes to
@@ -39,7 +39,7 @@ if [ "${1:-}" = --write ]; then
     write=yes
     shift
 fi
-[ $# -gt 0 ] || set -- tests/answers/words.txt tests/answers/logs.txt tests/answers/workers.txt examples/*.txt
+[ $# -gt 0 ] || set -- tests/answers/words.txt tests/answers/logs.txt tests/answers/workers.txt tests/answers/explained/explain.txt examples/*.txt
 count=0
 for file; do
     played "$file" > "$work/played"

@@ -12,7 +12,7 @@ ghost use Rattle.xk_serve.specs.Devices.{AgainstLog, Answered, ErrBegins, Explai
 
 use crate::bounded_read::read_front;
 use crate::commands::answer;
-use crate::explanation::{Refused, refused, unsaid};
+use crate::explanation::{Refused, refused_by, unsaid};
 use crate::fault::{DEVICE_LINE, EXCLUDED_LINE, Fault, MEMORY_LINE};
 use crate::job_result::Done;
 use crate::program_loader::{LONGEST_MODULE, LONGEST_SOURCE};
@@ -121,7 +121,7 @@ fn outcome<R: Threads + Wait + Sync, P: Source, L: Source>(
     match read_program(alloc, job.form, program) {
         Ok(bytes) => match done_on(rt, alloc, job, &bytes, log_in) {
             Ok(done) => Ok(done),
-            Err(fault) => Err(refused(alloc, job, &bytes, fault)),
+            Err(fault) => Err(refused_by(alloc, job, &bytes, fault)),
         },
         Err(fault) => Err(unsaid(alloc, fault)),
     }

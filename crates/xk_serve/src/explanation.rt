@@ -34,7 +34,7 @@ pub(crate) fn unsaid(alloc: Global, fault: Fault) -> Refused
 }
 
 /// A fault of the job on a file of these bytes, with what is said of it; or, where memory was refused for that, want of memory.
-pub(crate) fn refused(alloc: Global, job: &Job<'_>, bytes: &[u8], fault: Fault) -> Refused
+pub(crate) fn refused_by(alloc: Global, job: &Job<'_>, bytes: &[u8], fault: Fault) -> Refused
     ensures said { IsSaid (task_of job.now) bytes.now fault result.fault result.said.items }
     ensures quiet { IsQuiet result.fault result.said.items }
 {

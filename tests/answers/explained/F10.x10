@@ -1,0 +1,11 @@
+def down() {
+    up();
+}
+
+def up() {
+    async down();
+}
+
+def main() {
+    up();
+}

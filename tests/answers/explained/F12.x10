@@ -1,0 +1,9 @@
+def both(a: Clock, b: Clock) {
+    a.resume();
+    Clock.advanceAll();
+}
+
+def main() {
+    val c = Clock.make();
+    both(c, c);
+}

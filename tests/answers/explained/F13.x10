@@ -1,0 +1,3 @@
+def main() {
+    Console.OUT.println(9223372036854775808);
+}

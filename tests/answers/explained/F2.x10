@@ -1,0 +1,4 @@
+def main() {
+    val n = 1
+    Console.OUT.println(n);
+}

@@ -1,0 +1,5 @@
+shared sum = 0;
+
+def main() {
+    sum = sum + 1;
+}

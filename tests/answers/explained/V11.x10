@@ -1,0 +1,7 @@
+def main() {
+    val c = Clock.make();
+    for (turn in 1..3) {
+        Clock.advanceAll();
+        c.drop();
+    }
+}

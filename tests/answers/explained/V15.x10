@@ -1,0 +1,3 @@
+def main() {
+    for (i in 1..100000) async { }
+}

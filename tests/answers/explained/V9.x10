@@ -1,0 +1,7 @@
+def main() {
+    val c = Clock.make();
+    finish {
+        async clocked (c) Clock.advanceAll();
+    }
+    Clock.advanceAll();
+}

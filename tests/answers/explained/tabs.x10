@@ -1,0 +1,6 @@
+def main() {
+	val c = Clock.make();
+	finish {
+		async clocked(c) Clock.advanceAll();
+	}
+}
