@@ -9,3 +9,4 @@ pub mod RunLogLemmas
 pub mod TaskLemmas
 pub mod TextUniquenessLemmas
 pub mod ExplanationLemmas
+pub mod UnfitTextLemmas

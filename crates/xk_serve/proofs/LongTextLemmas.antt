@@ -171,16 +171,16 @@ told_stands t known logged bytes n fault.Device said s e h is = (inr h, device_u
 
 -- what stands against a log that is no device's fault leaves the count of failures
 log_read : (t : Task) (bytes : List ℕ) (logged : Option (List ℕ)) (old new : ℕ) (f : Fault) → f ≢ fault.Device → AgainstLog t bytes logged old new f → new ≡ old
-log_read t bytes logged old new (fault.Text f) no h = h.0
-log_read t bytes logged old new (fault.Front f) no h = h.0
-log_read t bytes logged old new (fault.Refused r) no h = h.0
-log_read t bytes logged old new (fault.Arguments wants has) no h = h.0
-log_read t bytes logged old new (fault.Grammar line) no h = h.0
-log_read t bytes logged old new fault.Truncated no h = h.0
-log_read t bytes logged old new (fault.NotEnabled i) no h = h.0
-log_read t bytes logged old new fault.NotEnded no h = h.0
-log_read t bytes logged old new fault.OutOfMemory no h = h.0
-log_read t bytes logged old new fault.Device no h = absurd (no refl)
+log_read t bytes logged old new (fault.Text f) other h = h.0
+log_read t bytes logged old new (fault.Front f) other h = h.0
+log_read t bytes logged old new (fault.Refused r) other h = h.0
+log_read t bytes logged old new (fault.Arguments wants has) other h = h.0
+log_read t bytes logged old new (fault.Grammar line) other h = h.0
+log_read t bytes logged old new fault.Truncated other h = h.0
+log_read t bytes logged old new (fault.NotEnabled i) other h = h.0
+log_read t bytes logged old new fault.NotEnded other h = h.0
+log_read t bytes logged old new fault.OutOfMemory other h = h.0
+log_read t bytes logged old new fault.Device other h = absurd (other refl)
 
 -- want of memory stands where no source failed
 memory_stands : (t : Task) (known logged : Option (List ℕ)) (n : Reads) → n.program_new ≡ n.program_old → n.log_new ≡ n.log_old

@@ -81,13 +81,13 @@ begun_known t program known d out_old out_new log_old log_new h b = known_weaker
 pub begins_none : (a : Option (List ℕ)) (text : List ℕ) → AppendsBeginning a a text
 begins_none a text = (0, appends_none a)
 
-take_none : (k : ℕ) → take k [] ≡ []
-take_none zero = refl
-take_none (suc k) = refl
+take_none : (k : ℕ) (xs : List ℕ) → xs ≡ [] → take k xs ≡ []
+take_none zero xs e = refl
+take_none (suc k) xs e = ap (take (suc k)) e
 
 -- a beginning of nothing is nothing
 nothing_begun : (old new : Option (List ℕ)) (text : List ℕ) → text ≡ [] → AppendsBeginning old new text → Appends old new []
-nothing_begun old new text e h = subst (Appends old new) (ap (take h.0) e ∙ take_none h.0) h.1
+nothing_begun old new text e h = subst (Appends old new) (take_none h.0 text e) h.1
 
 -- of a line that was told a beginning was written
 pub tells_begins : (line : List ℕ) (status : ℕ) (old new : Option (List ℕ)) (faults_old faults_new result : ℕ)

@@ -3,7 +3,7 @@
 ghost use Rattle.std.specs.Prelude.{◌≡◌, [], IfOk, IsOk};
 ghost use Rattle.xk_serve.specs.Answer.{IsExplanation, IsRefusalExplained, IsSaidOf, task_of};
 ghost use Rattle.xk_serve.specs.Devices.{IsQuiet, IsSaid};
-ghost use Rattle.xk_serve.specs.declared.fault.Fault.TheVariants as fault;
+ghost use Rattle.xk_serve.specs.declared.fault.Fault.TheVariants as found;
 
 use crate::fault::Fault;
 use crate::program_loader::origins_in;
@@ -48,7 +48,7 @@ pub(crate) fn refused_by(alloc: Global, job: &Job<'_>, bytes: &[u8], fault: Faul
 fn said_of(alloc: Global, job: &Job<'_>, bytes: &[u8], fault: &Fault) -> Result<Vec<u8>, AllocError>
     ensures said { IfOk result
         (λ said. IsSaidOf (task_of job.now) bytes.now fault.now said.items) }
-    ensures device { fault.now ≡ fault.Device → IsOk result }
+    ensures device { fault.now ≡ found.Device → IsOk result }
 {
     match job.command {
         Command::Explain => explanation(alloc, job.form, job.file, bytes, fault),
@@ -70,7 +70,7 @@ fn explanation(
 ) -> Result<Vec<u8>, AllocError>
     ensures said { IfOk result
         (λ said. IsExplanation form file.now bytes.now fault.now said.items) }
-    ensures device { fault.now ≡ fault.Device → IsOk result }
+    ensures device { fault.now ≡ found.Device → IsOk result }
 {
     match fault {
         Fault::Text(fault) => match fault.label() {

@@ -4,6 +4,7 @@ ghost use Rattle.std.specs.Prelude.{◌≡◌, ◌≤◌, ℕ, List, length, IfO
 ghost use Rattle.xk_serve.specs.Answer.{FailsBy, task_of};
 ghost use Rattle.xk_serve.specs.Programs.{Gives, IsUnfit, IsNoSource, IsSource, longest_source};
 ghost use Rattle.xk_tree.specs.Tree.{TreeValue};
+ghost use Rattle.xk_tree.specs.Program.{tree_value};
 ghost use Rattle.xk_origins.specs.Laws.{AreOrigins};
 ghost use Rattle.xk_cli.specs.declared.job.Form.TheVariants as form;
 
@@ -14,7 +15,7 @@ use xk_codegen::compile;
 use xk_module::{ModuleFault, read_module};
 use xk_origins::{Origins, origins};
 use xk_syntax::parse;
-use xk_tree::{FrontError, FrontFault, FrontRule};
+use xk_tree::{FrontError, FrontFault, FrontRule, Tree};
 use xk_types::Module;
 
 /// The most bytes that a source text has.
@@ -45,9 +46,17 @@ fn compiled(alloc: Global, bytes: &[u8]) -> Result<Module, FrontError>
     ensures module { IfOk result (Gives form.Source bytes.now) }
     ensures fault { IfErr result (IsUnfit bytes.now) }
 {
-    let text = text_of(bytes)?;
-    let tree = parse(alloc, text)?;
+    let tree = tree_of(alloc, bytes)?;
     compile(alloc, &tree)
+}
+
+/// The tree of a source text.
+fn tree_of(alloc: Global, bytes: &[u8]) -> Result<Tree<'_>, FrontError>
+    ensures tree { IfOk result (λ tree. IsSource bytes.now (tree_value tree)) }
+    ensures fault { IfErr result (IsUnfit bytes.now) }
+{
+    let text = text_of(bytes)?;
+    parse(alloc, text)
 }
 
 /// Where the instructions come from of the module that goes with the tree of a source text. The text is read and compiled again: nothing of its tree is
@@ -57,10 +66,25 @@ pub(crate) fn origins_in(alloc: Global, bytes: &[u8]) -> Result<Origins<'_>, Fro
         × IsSource bytes.now tree × AreOrigins tree origins) }
     ensures fault { IfErr result (IsUnfit bytes.now) }
 {
-    let text = text_of(bytes)?;
-    let tree = parse(alloc, text)?;
-    let _module = compile(alloc, &tree)?;
-    Ok(origins(alloc, &tree)?)
+    match tree_of(alloc, bytes) {
+        Ok(tree) => origins_of(alloc, bytes, &tree),
+        Err(e) => Err(e),
+    }
+}
+
+/// The origins of the tree of a source text, if it is compiled.
+fn origins_of<'t>(alloc: Global, bytes: &[u8], tree: &Tree<'t>) -> Result<Origins<'t>, FrontError>
+    requires source { IsSource bytes.now (tree_value tree.now) }
+    ensures origins { IfOk result (λ origins. (tree : TreeValue)
+        × IsSource bytes.now tree × AreOrigins tree origins) }
+    ensures fault { IfErr result (IsUnfit bytes.now) }
+{
+    // For the clauses alone, which say that the tree is that of these bytes.
+    let _bytes = bytes;
+    match compile(alloc, tree) {
+        Ok(_) => Ok(origins(alloc, tree)?),
+        Err(e) => Err(e),
+    }
 }
 
 /// The bytes as text: they are UTF-8, and not too many.

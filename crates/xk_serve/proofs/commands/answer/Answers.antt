@@ -28,11 +28,11 @@ returns-in-Check-clause-fault g c =
 
 pub returns-in-Explain-clause-done : goal.returns-in-Explain-clause-done
 returns-in-Explain-clause-done g c =
-    done_of_none (task_of c.args.job.now) c.args.bytes.now (g.L.Source.remaining c.args.log_in.now) _ Explain c.checked-2.result (ap doing_of c.in-Explain.is) c.in_ok-module.ensures.module c.checked-2.ensures.explained
+    done_of_none (task_of c.args.job.now) c.args.bytes.now (g.L.Source.remaining c.args.log_in.now) _ Explain c.checked-in-Explain.result (ap doing_of c.in-Explain.is) c.in_ok-module.ensures.module c.checked-in-Explain.ensures.explained
 
 pub returns-in-Explain-clause-fault : goal.returns-in-Explain-clause-fault
 returns-in-Explain-clause-fault g c =
-    against_refused (task_of c.args.job.now) c.args.bytes.now (g.L.Source.remaining c.args.log_in.now) _ _ Explain c.checked-2.result (ap doing_of c.in-Explain.is) tt c.in_ok-module.ensures.module c.checked-2.ensures.fault
+    against_refused (task_of c.args.job.now) c.args.bytes.now (g.L.Source.remaining c.args.log_in.now) _ _ Explain c.checked-in-Explain.result (ap doing_of c.in-Explain.is) tt c.in_ok-module.ensures.module c.checked-in-Explain.ensures.fault
 
 pub returns-in-Run-clause-done : goal.returns-in-Run-clause-done
 returns-in-Run-clause-done g c =

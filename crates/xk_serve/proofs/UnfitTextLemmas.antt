@@ -1,0 +1,35 @@
+-- Why a source text gives no tree, or no module.
+use Rattle.std.proofs.Common.{◌≡◌, ℕ, ◌<◌, ◌≤◌, List, length, Result, Ok, Err, IfErr, inl, inr, refl, ap, arith}
+use Rattle.std.specs.Prelude.{IsUtf8}
+use Rattle.xk_types.specs.declared.unit.Module.{Module}
+use Rattle.xk_tree.specs.Tree.{TreeValue}
+use Rattle.xk_tree.specs.declared.fault.FrontFault.{FrontFault}
+use Rattle.xk_tree.specs.declared.fault.FrontRule.TheVariants as rule
+use Rattle.xk_tree.specs.declared.fault.FrontError.{FrontError}
+use Rattle.xk_tree.specs.declared.fault.FrontError.TheVariants as error
+use Rattle.xk_tree.specs.declared.tree.Tree.{Tree}
+use Rattle.xk_syntax.specs.Faults.{IsRefused, IsTextRule}
+use Rattle.xk_codegen.specs.Faults.{IsFaultOf}
+use Rattle.xk_serve.specs.Programs.{IsSource, IsUnfit, longest_source}
+
+-- what the parser refuses spells no tree
+pub unparsed : (bytes : List ℕ) (r : Result Tree FrontError) → length bytes ≤ longest_source → IsUtf8 bytes → IsRefused bytes r
+    → ((f : FrontFault) → r ≡ Err (error.Fault f) → IsTextRule f.rule)
+    → ((f : FrontFault) → r ≡ Err (error.Fault f) → f.rule ≡ rule.TooLong → longest_source < length bytes) → IfErr r (IsUnfit bytes)
+unparsed bytes (Ok tree) short utf8 none of only = tt
+unparsed bytes (Err (error.Fault f)) short utf8 none of only = inr (inr (inl (
+  short,
+  utf8,
+  none,
+  of f refl,
+  λ too_long.
+      let long : longest_source < length bytes = only f refl too_long in absurd (omega arith),
+)))
+unparsed bytes (Err error.OutOfMemory) short utf8 none of only = tt
+
+-- what the compiler refuses has a fault
+pub uncompiled : (bytes : List ℕ) (tree : TreeValue) (r : Result Module FrontError) → IsSource bytes tree
+    → ((f : FrontFault) → r ≡ Err (error.Fault f) → IsFaultOf tree f) → IfErr r (IsUnfit bytes)
+uncompiled bytes tree (Ok m) is faults = tt
+uncompiled bytes tree (Err (error.Fault f)) is faults = inr (inr (inr (tree, is, faults f refl)))
+uncompiled bytes tree (Err error.OutOfMemory) is faults = tt
