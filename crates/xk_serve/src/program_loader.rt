@@ -81,10 +81,8 @@ fn origins_of<'t>(alloc: Global, bytes: &[u8], tree: &Tree<'t>) -> Result<Origin
 {
     // For the clauses alone, which say that the tree is that of these bytes.
     let _bytes = bytes;
-    match compile(alloc, tree) {
-        Ok(_) => Ok(origins(alloc, tree)?),
-        Err(e) => Err(e),
-    }
+    let _module = compile(alloc, tree)?;
+    Ok(origins(alloc, tree)?)
 }
 
 /// The bytes as text: they are UTF-8, and not too many.

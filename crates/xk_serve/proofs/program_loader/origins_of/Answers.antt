@@ -1,0 +1,11 @@
+use Rattle.std.proofs.Common.{Err}
+use Rattle.std.proofs.lemmas.Result.{err_from_is_err_and}
+use Rattle.xk_tree.specs.Program.{tree_value}
+use Rattle.xk_serve.proofs.UnfitTextLemmas.{uncompiled}
+use Rattle.xk_serve.proofs.program_loader.origins_of.Goals as goal
+
+pub returns-in_err-_module-clause-fault : goal.returns-in_err-_module-clause-fault
+returns-in_err-_module-clause-fault c =
+    let p = err_from_is_err_and c.from_residual-in_err-_module.result c.from_residual-in_err-_module.ensures.1 in
+    rw (p.1, p.2) (uncompiled c.args.bytes.now (tree_value c.args.tree.now) (Err c.in_err-_module.field-0.0) c.requires.source
+    c.in_err-_module.ensures.fault)
