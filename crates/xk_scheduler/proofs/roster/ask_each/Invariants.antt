@@ -1,7 +1,7 @@
 use Rattle.std.proofs.Common.{◌≡◌, ℕ, ◌+◌, ◌≤◌, List, drop, length}
 use Rattle.xk_collections.specs.WaitingLists.{times, times_in_all}
 use Rattle.xk_scheduler.specs.Waiters.{AreAsked}
-use Rattle.xk_scheduler.proofs.driver.ask_each.Given as goal
+use Rattle.xk_scheduler.proofs.roster.ask_each.Given as goal
 
 -- what is left of them is asked
 abbrev pub invariant-loop-act : goal.invariant-loop-act
