@@ -1,0 +1,4 @@
+pub mod LengthLemmas
+pub mod UnitLemmas
+pub mod OffsetLemmas
+pub mod NameLemmas

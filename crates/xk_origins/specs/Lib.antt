@@ -1,0 +1,4 @@
+pub mod Origin
+pub mod UnitOrigins
+pub mod Offsets
+pub mod Laws

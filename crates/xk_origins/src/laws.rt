@@ -1,0 +1,26 @@
+//! That each instruction has one origin.
+
+ghost use Rattle.std.specs.Prelude.{◌≡◌, ℕ, List, is_some, length};
+ghost use Rattle.xk_tree.specs.Tree.{Statement, TreeValue};
+ghost use Rattle.xk_types.specs.Code.{ModuleValue};
+ghost use Rattle.xk_names.specs.Scope.{find, has};
+ghost use Rattle.xk_emit.specs.CodeOf.{Scope, Setting, code_of};
+ghost use Rattle.xk_semantics.specs.Compilation.{IsCompiled};
+ghost use Rattle.xk_origins.specs.Laws.{AreOrigins, HasOneForEach};
+ghost use Rattle.xk_origins.specs.Origin.{origins};
+ghost use Rattle.xk_origins.specs.UnitOrigins.{UnitOrigins};
+
+/// The code of a statement has as many instructions as origins, whatever scope, temporary, slot and place it is made for: which names are shared
+/// numbers is all that tells how long it is. The call does nothing; its contract is the law.
+pub fn as_many_as_instructions()
+    ensures { (cx : Setting) (shared : List (List ℕ))
+        → ((x : List ℕ) → has shared x ≡ is_some (find cx.shared x))
+        → (t : ℕ) (scope : Scope) (n p : ℕ) (s : Statement)
+        → length (origins shared s) ≡ length (code_of cx t scope n p s) }
+{}
+
+/// Each instruction of a compiled module has one origin. The call does nothing; its contract is the law.
+pub fn one_for_each_instruction()
+    ensures { (t : TreeValue) (m : ModuleValue) (os : List UnitOrigins)
+        → IsCompiled t m → AreOrigins t os → HasOneForEach m os }
+{}
