@@ -2,3 +2,4 @@ pub mod LengthLemmas
 pub mod UnitLemmas
 pub mod OffsetLemmas
 pub mod NameLemmas
+mod Examples

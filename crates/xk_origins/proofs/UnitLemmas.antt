@@ -1,9 +1,11 @@
 -- The units of a compiled module have as many instructions as origins.
-use Rattle.std.proofs.Common.{◌≡◌, ◌∙◌, ℕ, suc, Bool, true, false, cond, List, [], ◌∷◌, ◌++◌, ◌||◌, map, length, Option, Some, refl, sym, ap}
+use Rattle.std.proofs.Common.{◌≡◌, ◌∙◌, ℕ, zero, suc, Bool, true, false, cond, List, [], ◌∷◌, ◌++◌, ◌||◌, map, length, Option, Some, slice_get, refl, sym, ap}
 use Rattle.std.specs.Prelude.{is_some}
+use Rattle.std.specs.Option.{option_map_or}
 use Rattle.std.proofs.lemmas.List.{length-map}
+use Rattle.xk_types.specs.declared.instr.Instr.{Instr}
 use Rattle.xk_types.specs.declared.instr.Instr.TheVariants as instr
-use Rattle.xk_types.specs.Code.{ModuleValue}
+use Rattle.xk_types.specs.Code.{ModuleValue, UnitValue}
 use Rattle.xk_tree.specs.Tree.{SharedValue, Statement, Block, TreeValue}
 use Rattle.xk_names.specs.Scope.{find, has, is_text}
 use Rattle.xk_names.specs.Captures.{shared_texts}
@@ -13,7 +15,7 @@ use Rattle.xk_semantics.specs.Parts.{Part, OfMethod, OfBody}
 use Rattle.xk_semantics.specs.Compilation.{IsCompiled, shared_among, unit_of_part}
 use Rattle.xk_simulation.proofs.CompiledOnceLaw.{one_units}
 use Rattle.xk_origins.specs.Origin.{Origin, Leaves, offset_of, origins, part_origins}
-use Rattle.xk_origins.specs.UnitOrigins.{UnitOrigins, unit_origins}
+use Rattle.xk_origins.specs.UnitOrigins.{UnitOrigins, offsets_at, unit_origins}
 use Rattle.xk_origins.specs.Laws.{AreOrigins, HasOneForEach}
 use Rattle.xk_origins.proofs.LengthLemmas.{Same, code_length, joined}
 
@@ -27,6 +29,9 @@ pub has_shared : (i : ℕ) (ss : List SharedValue) (x : List ℕ) → has (share
 has_shared i [] x = refl
 has_shared i (s ∷ ss) x = found_or (is_text x s.name.text) i (shared_among (suc i) ss x) (has (shared_texts ss) x) (has_shared (suc i) ss x)
 
+abbrev code_in : List UnitValue → ℕ → List Instr
+code_in us k = option_map_or (λ (u : UnitValue). u.code) (slice_get us k) []
+
 module _ (t : TreeValue) (cx : Setting) (known : (x : List ℕ) → has (shared_texts t.shared) x ≡ is_some (find cx.shared x)) where
   unit_length : (xs : List (List ℕ)) (s : Statement) (o : Origin) → Same (origins (shared_texts t.shared) s ++ o ∷ []) (unit_code cx xs s)
   unit_length xs s o =
@@ -38,16 +43,23 @@ module _ (t : TreeValue) (cx : Setting) (known : (x : List ℕ) → has (shared_
   part_length (OfMethod m) = unit_length (names_of_params m.params) (Block m.close m.body) (Leaves (OfMethod m))
   part_length (OfBody at cs s) = unit_length (body_params cx at cs) s (Leaves (OfBody at cs s))
 
-  parts_length : (ps : List Part) → map (λ (o : UnitOrigins). length o.offsets) (map (unit_origins t) ps) ≡ map (λ u. length u.code) (map (unit_of_part cx) ps)
-  parts_length [] = refl
-  parts_length (p ∷ ps) =
-      let here : length (map offset_of (part_origins (shared_texts t.shared) p)) ≡ length (unit_of_part cx p).code =
-      length-map (part_origins (shared_texts t.shared) p) offset_of ∙ part_length p in
-      let rest = parts_length ps in
-      cc
+  same_lengths : (ps : List Part) → length (map (unit_origins t) ps) ≡ length (map (unit_of_part cx) ps)
+  same_lengths ps = length-map ps (unit_origins t) ∙ sym (length-map ps (unit_of_part cx))
+
+  unit_at : (ps : List Part) (k : ℕ) → length (offsets_at (map (unit_origins t) ps) k) ≡ length (code_in (map (unit_of_part cx) ps) k)
+  unit_at [] k = refl
+  unit_at (p ∷ ps) zero = length-map (part_origins (shared_texts t.shared) p) offset_of ∙ part_length p
+  unit_at (p ∷ ps) (suc k) = unit_at ps k
 
 -- there is one for each instruction
 pub one_for_each : (t : TreeValue) (m : ModuleValue) (os : List UnitOrigins) → IsCompiled t m → AreOrigins t os → HasOneForEach m os
 one_for_each t m os c o =
-    ap (map (λ (u : UnitOrigins). length u.offsets)) (o.are ∙ ap (map (unit_origins t)) (one_units t o.units c.units o.are_units c.are_units))
-    ∙ parts_length t c.setting (λ x. has_shared 0 t.shared x ∙ sym (ap is_some (c.is_setting.shared x))) c.units ∙ sym (ap (map (λ u. length u.code)) c.code)
+    let are : os ≡ map (unit_origins t) c.units = o.are ∙ ap (map (unit_origins t)) (one_units t o.units c.units o.are_units c.are_units) in
+    let known : (x : List ℕ) → has (shared_texts t.shared) x ≡ is_some (find c.setting.shared x) =
+    λ x. has_shared 0 t.shared x ∙ sym (ap is_some (c.is_setting.shared x)) in
+    record {
+      units = ap length are ∙ same_lengths t c.setting known c.units ∙ sym (ap length c.code);
+      code = λ k.
+          ap (λ (l : List UnitOrigins). length (offsets_at l k)) are ∙ unit_at t c.setting known c.units k
+          ∙ sym (ap (λ (us : List UnitValue). length (code_in us k)) c.code);
+    }

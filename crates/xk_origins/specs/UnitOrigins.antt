@@ -1,5 +1,6 @@
 -- Where each instruction of a unit comes from, and what its slots are called. This project's own.
-use Rattle.std.specs.Prelude.{ℕ, List, [], ◌∷◌, ◌++◌, map, Option, Some, None}
+use Rattle.std.specs.Prelude.{ℕ, List, [], ◌∷◌, ◌++◌, map, slice_get, Option, Some, None}
+use Rattle.std.specs.Option.{option_map_or}
 use Rattle.xk_types.specs.declared.unit.UnitKind.{UnitKind}
 use Rattle.xk_types.specs.declared.unit.UnitKind.TheVariants as unit_kind
 use Rattle.xk_tree.specs.Tree.{Statement, Statements, Done, More, Block, Declare, If, IfElse, For, Finish, TreeValue}
@@ -64,3 +65,11 @@ pub record UnitOrigins : Type 0 where
 
 abbrev pub unit_origins : TreeValue → Part → UnitOrigins
 unit_origins t p = record { head = head_of p; offsets = map offset_of (part_origins (shared_texts t.shared) p); slots = slot_names t p }
+
+-- where the instructions of a unit come from; none where there is no such unit
+abbrev pub offsets_at : List UnitOrigins → ℕ → List ℕ
+offsets_at origins unit = option_map_or (λ o. o.offsets) (slice_get origins unit) []
+
+-- the names of its slots
+abbrev pub slots_at : List UnitOrigins → ℕ → List (List ℕ)
+slots_at origins unit = option_map_or (λ o. o.slots) (slice_get origins unit) []

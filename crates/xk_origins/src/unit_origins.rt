@@ -66,3 +66,47 @@ impl<'t> Model for Origins<'t> {
 
     ghost view = { λ o. o.units.items };
 }
+
+impl<'t> Origins<'t> {
+    ghost use Rattle.std.specs.Prelude.{◌≡◌, ◌<◌, Some, length, option_map, slice_get};
+    ghost use Rattle.xk_origins.specs.UnitOrigins.{offsets_at, slots_at};
+
+    /// How many units there are.
+    pub fn len(&self) -> usize
+        ensures { result ≡ length self.now }
+    {
+        self.units.len()
+    }
+
+    /// What is said of a unit.
+    pub fn unit(&self, unit: usize) -> &UnitOrigins<'t>
+        requires { unit < length self.now }
+        ensures { slice_get self.now unit ≡ Some result.now }
+    {
+        &self.units[unit]
+    }
+
+    /// The text of a unit.
+    pub fn head(&self, unit: usize) -> &Head<'t>
+        requires { unit < length self.now }
+        ensures { option_map (λ o. o.head) (slice_get self.now unit) ≡ Some result.now }
+    {
+        &self.unit(unit).head
+    }
+
+    /// Where the instruction at this place of a unit comes from: an offset in the text.
+    pub fn at(&self, unit: usize, place: usize) -> usize
+        requires { place < length (offsets_at self.now unit) }
+        ensures { slice_get (offsets_at self.now unit) place ≡ Some result }
+    {
+        self.unit(unit).offsets[place]
+    }
+
+    /// The name of a slot of a unit, or `None` where it is a temporary.
+    pub fn slot_name(&self, unit: usize, slot: usize) -> Option<&'t [u8]>
+        requires { unit < length self.now }
+        ensures { option_map (λ x. x.now) result ≡ slice_get (slots_at self.now unit) slot }
+    {
+        self.unit(unit).slots.get(slot).copied()
+    }
+}
