@@ -1,5 +1,5 @@
 -- Small programs: where their instructions come from, and what their slots are called, by evaluation.
-use Rattle.std.proofs.Common.{◌≡◌, ℕ, ℤ, pos, List, [], ◌∷◌, map, codes, Option, Some, None, refl}
+use Rattle.std.proofs.Common.{◌≡◌, ℕ, ℤ, pos, List, [], ◌∷◌, map, codes, Some, None, refl}
 use Rattle.xk_types.specs.declared.instr.Comparison.TheVariants as comparison
 use Rattle.xk_types.specs.declared.instr.Instr.TheVariants as instr
 use Rattle.xk_types.specs.declared.unit.ParamKind.TheVariants as param
@@ -8,10 +8,10 @@ use Rattle.xk_tree.specs.declared.tree.Binding.TheVariants as binding
 use Rattle.xk_tree.specs.declared.tree.Operator.TheVariants as operator
 use Rattle.xk_tree.specs.declared.tree.Number.{Number}
 use Rattle.xk_tree.specs.declared.tree.Verb.{Verb}
-use Rattle.xk_tree.specs.Tree.{Word, Clocks, Expression, Literal, Named, Paren, Negation, Binary, Make, Value, Bound, UpTo, Least, Statement, Statements, Done, More, Block, Empty, Declare, Assign, Atomic, If, IfElse, For, Async, Finish, Call, Resume, Drop, AdvanceAll, Print, MethodValue, TreeValue}
+use Rattle.xk_tree.specs.Tree.{Word, Expression, Literal, Named, Binary, Value, UpTo, Least, Statement, Done, More, Block, Declare, Assign, IfElse, For, Async, Finish, Print, MethodValue, TreeValue}
 use Rattle.xk_emit.specs.CodeOf.{Setting, code_of}
-use Rattle.xk_semantics.specs.Parts.{Part, OfMethod, OfBody}
-use Rattle.xk_origins.specs.Origin.{Origin, Does, Ends, Leaves, offset_of, origins, part_origins}
+use Rattle.xk_semantics.specs.Parts.{OfMethod, OfBody}
+use Rattle.xk_origins.specs.Origin.{Does, Ends, offset_of, origins}
 use Rattle.xk_origins.specs.UnitOrigins.{slot_names, unit_origins}
 
 -- ---- trees

@@ -2,4 +2,5 @@ pub mod LengthLemmas
 pub mod UnitLemmas
 pub mod OffsetLemmas
 pub mod NameLemmas
+pub mod TokenLemmas
 mod Examples

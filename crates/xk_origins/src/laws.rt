@@ -1,12 +1,13 @@
-//! That each instruction has one origin.
+//! That each instruction has one origin, and that a token of the text stands there.
 
 ghost use Rattle.std.specs.Prelude.{◌≡◌, ℕ, List, is_some, length};
 ghost use Rattle.xk_tree.specs.Tree.{Statement, TreeValue};
 ghost use Rattle.xk_types.specs.Code.{ModuleValue};
 ghost use Rattle.xk_names.specs.Scope.{find, has};
 ghost use Rattle.xk_emit.specs.CodeOf.{Scope, Setting, code_of};
+ghost use Rattle.xk_syntax.specs.Spelling.{SpellsTree};
 ghost use Rattle.xk_semantics.specs.Compilation.{IsCompiled};
-ghost use Rattle.xk_origins.specs.Laws.{AreOrigins, HasOneForEach};
+ghost use Rattle.xk_origins.specs.Laws.{AreAtTokens, AreOrigins, HasOneForEach};
 ghost use Rattle.xk_origins.specs.Origin.{origins};
 ghost use Rattle.xk_origins.specs.UnitOrigins.{UnitOrigins};
 
@@ -23,4 +24,10 @@ pub fn as_many_as_instructions()
 pub fn one_for_each_instruction()
     ensures { (t : TreeValue) (m : ModuleValue) (os : List UnitOrigins)
         → IsCompiled t m → AreOrigins t os → HasOneForEach m os }
+{}
+
+/// Where a text spells the tree, one of its tokens stands at each origin. The call does nothing; its contract is the law.
+pub fn a_token_stands_there()
+    ensures { (text : List ℕ) (t : TreeValue) (os : List UnitOrigins)
+        → (s : SpellsTree text t) → AreOrigins t os → AreAtTokens s.spelled.0 os }
 {}
