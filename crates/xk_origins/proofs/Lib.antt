@@ -3,4 +3,5 @@ pub mod UnitLemmas
 pub mod OffsetLemmas
 pub mod NameLemmas
 pub mod TokenLemmas
+pub mod SlotLemmas
 mod Examples

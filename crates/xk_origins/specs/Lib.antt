@@ -1,4 +1,5 @@
 pub mod Origin
 pub mod UnitOrigins
 pub mod Offsets
+pub mod VisibleNames
 pub mod Laws
