@@ -4,4 +4,5 @@ pub mod OffsetLemmas
 pub mod NameLemmas
 pub mod TokenLemmas
 pub mod SlotLemmas
+pub mod OwnInstructionLemmas
 mod Examples

@@ -1,20 +1,22 @@
 -- Slots are called as the code of a unit has them.
-use Rattle.std.proofs.Common.{◌≡◌, ◌∙◌, inl, inr, ℕ, zero, suc, ◌+◌, List, [], ◌∷◌, ◌++◌, map, length, Option, Some, slice_get, All, refl, sym, ap, subst, arith, eq-eqb}
+use Rattle.std.proofs.Common.{◌≡◌, ◌∙◌, ℕ, zero, suc, ◌+◌, List, [], ◌∷◌, ◌++◌, map, length, Option, Some, slice_get, All, refl, sym, ap, subst, arith, eq-eqb}
 use Rattle.std.specs.List.{AllByRecursion}
 use Rattle.std.specs.Option.{option_map_or}
 use Rattle.std.proofs.lemmas.List.{append_assoc, append-nil, length-append}
 use Rattle.std.proofs.lemmas.List.Elements.{All-from_recursion}
 use Rattle.std.proofs.lemmas.Option.{none-some, same_Some}
+use Rattle.xk_types.proofs.ListLemmas.{get-append_left}
 use Rattle.xk_types.specs.Code.{ModuleValue}
 use Rattle.xk_tree.specs.Tree.{Word, Bound, UpTo, Least, Statement, Statements, Done, More, Block, Empty, Declare, Assign, Atomic, If, IfElse, For, Async, Finish, Call, Resume, Drop, AdvanceAll, Print, TreeValue}
 use Rattle.xk_tree.specs.AsyncOffsets.{HasBodiesApart}
-use Rattle.xk_names.specs.Scope.{Has, texts}
+use Rattle.xk_names.specs.Scope.{texts}
 use Rattle.xk_names.specs.Uses.{clocks_listed}
 use Rattle.xk_names.specs.Captures.{loop_words}
 use Rattle.xk_emit.specs.CodeOf.{Body, Scope, Setting, count, count_all, declared, loop_slots, within_loop}
 use Rattle.xk_emit.specs.Unit.{scope_from}
 use Rattle.xk_semantics.specs.Parts.{Part, OfMethod, OfBody, Starts}
 use Rattle.xk_semantics.specs.Compilation.{IsCompiled}
+use Rattle.xk_callgraph.proofs.CallPlaceLemmas.{has_at}
 use Rattle.xk_simulation.proofs.CompiledOnceLaw.{one_units}
 use Rattle.xk_simulation.proofs.UnitLemmas.PartLookupLemmas.{found}
 use Rattle.xk_simulation.proofs.UnitLemmas.SettingLemmas.{AreSettled, body_unit_of}
@@ -29,7 +31,7 @@ loop_length i (UpTo n) = refl
 loop_length i (Least x v e n) = refl
 
 mutual
-  pub names_length : (s : Statement) → length (names s) ≡ count s
+  names_length : (s : Statement) → length (names s) ≡ count s
   names_length (Block close ss) = names_all_length ss
   names_length Empty = refl
   names_length (Declare b x ty r) = refl
@@ -56,11 +58,6 @@ mutual
 abbrev Named : List (List ℕ) → Scope → Type 0
 Named slots = AllByRecursion (λ e. slice_get slots e.1 ≡ Some e.0)
 
-get_before : {A : Type 0} (xs ys : List A) (k : ℕ) (x : A) → slice_get xs k ≡ Some x → slice_get (xs ++ ys) k ≡ Some x
-get_before [] ys k x h = absurd (none-some x h)
-get_before (y ∷ xs) ys zero x h = h
-get_before (y ∷ xs) ys (suc k) x h = get_before xs ys k x h
-
 get_next : {A : Type 0} (xs : List A) (y : A) (ys : List A) → slice_get (xs ++ y ∷ ys) (length xs) ≡ Some y
 get_next [] y ys = refl
 get_next (x ∷ xs) y ys = get_next xs y ys
@@ -68,13 +65,13 @@ get_next (x ∷ xs) y ys = get_next xs y ys
 -- further slots change nothing
 named_more : (front rest : List (List ℕ)) (scope : Scope) → Named front scope → Named (front ++ rest) scope
 named_more front rest [] h = tt
-named_more front rest (e ∷ es) h = (get_before front rest e.1 e.0 h.0, named_more front rest es h.1)
+named_more front rest (e ∷ es) h = (get-append_left front rest e.1 e.0 h.0, named_more front rest es h.1)
 
 -- the next slot is called by the name that is declared
 named_push : (front : List (List ℕ)) (x : List ℕ) (rest : List (List ℕ)) (n : ℕ) (scope : Scope) → n ≡ length front → Named front scope
     → Named (front ++ x ∷ rest) (scope ++ (x, n) ∷ [])
 named_push front x rest n [] e h = (ap (slice_get (front ++ x ∷ rest)) e ∙ get_next front x rest, tt)
-named_push front x rest n (d ∷ ds) e h = (get_before front (x ∷ rest) d.1 d.0 h.0, named_push front x rest n ds e h.1)
+named_push front x rest n (d ∷ ds) e h = (get-append_left front (x ∷ rest) d.1 d.0 h.0, named_push front x rest n ds e h.1)
 
 named_loop : (front : List (List ℕ)) (n : ℕ) (scope : Scope) (i : Word) (b : Bound) → n ≡ length front → Named front scope
     → Named (front ++ texts (loop_words i b)) (within_loop scope n i b)
@@ -170,7 +167,7 @@ params_named front (x ∷ xs) n e =
       subst (λ (l : List (List ℕ)). Named l (scope_from (n + 1) xs)) (append_assoc front (x ∷ []) xs) (params_named (front ++ x ∷ []) xs (n + 1) next),
     )
 
-pub unit_named : (xs : List (List ℕ)) (s : Statement) → AllNamed (xs ++ names s) (scopes (scope_from 0 xs) (length xs) s)
+unit_named : (xs : List (List ℕ)) (s : Statement) → AllNamed (xs ++ names s) (scopes (scope_from 0 xs) (length xs) s)
 unit_named xs s =
     all_named (xs ++ names s) s xs [] (length xs) (scope_from 0 xs) (ap (λ k. xs ++ k) (sym (append-nil (names s)))) refl (params_named [] xs 0 refl)
 
@@ -183,11 +180,6 @@ names_of_unit cx p xs e =
           (All-from_recursion (IsNamed slots) (scopes (scope_from 0 xs) (length xs) s) (unit_named xs s));
       temporaries = length-append xs (names s) ∙ ap (λ n. length xs + n) (names_length s) ∙ ap (λ (ys : List (List ℕ)). length ys + count s) (sym e);
     }
-
-has_at : {A : Type 0} (xs : List A) (k : ℕ) (x : A) → slice_get xs k ≡ Some x → Has xs x
-has_at [] k x h = absurd (none-some x h)
-has_at (y ∷ xs) zero x h = inl (sym (same_Some y x h))
-has_at (y ∷ xs) (suc k) x h = inr (has_at xs k x h)
 
 module _ (t : TreeValue) (units : List Part) (cx : Setting) (h : AreSettled t units cx) where
   -- the parameters of a unit are called as the tree has them

@@ -34,8 +34,8 @@ pub struct UnitOrigins<'t> {
     pub head: Head<'t>,
     /// An offset in the text for each instruction.
     pub offsets: Vec<usize>,
-    /// The names of its slots, but for temporaries, which are behind these. A name of spaces is none of the text: a loop's limit has one, and the clock of a
-    /// `clocked finish`.
+    /// The names of its slots, but for temporaries, which are behind these. A name of spaces is none of the text: a loop's limit has one,
+    /// and the clock of a `clocked finish`.
     pub slots: Vec<&'t [u8]>,
 }
 
@@ -70,6 +70,13 @@ impl<'t> Model for Origins<'t> {
 impl<'t> Origins<'t> {
     ghost use Rattle.std.specs.Prelude.{◌≡◌, ◌<◌, Some, length, option_map, slice_get};
     ghost use Rattle.xk_origins.specs.UnitOrigins.{offsets_at, slots_at};
+
+    /// What is said of each unit, in their order.
+    pub fn units(&self) -> &[UnitOrigins<'t>]
+        ensures { result.now ≡ self.now }
+    {
+        &self.units
+    }
 
     /// How many units there are.
     pub fn len(&self) -> usize
