@@ -21,6 +21,7 @@ use Rattle.xk_collections.specs.NumberSets.{numbers_from}
 use Rattle.xk_collections.proofs.RisingListLemmas.{member_passes}
 use Rattle.xk_scheduler.specs.LoggedRuns.{IsRunOf}
 use Rattle.xk_scheduler.proofs.RunSequenceLemmas.{run_then}
+use Rattle.xk_scheduler.proofs.WakeLemmas.{none_pass}
 use Rattle.xk_replay.specs.Chart.{advance_in, advances_in, advances_on, advances, act_text, acts_text, advance_line, chart_lines, chart_text, lives, living_in, registered_in}
 use Rattle.xk_replay.proofs.LivingLemmas.{registered_among}
 
@@ -122,10 +123,6 @@ entry_charted m args log i z c d text more lt h led same grown =
 
 -- ---- by a clock
 
-filter_none : (p : ℕ → Bool) (xs : List ℕ) → ((x : ℕ) → p x ≡ false) → filter p xs ≡ []
-filter_none p [] failed = refl
-filter_none p (x ∷ xs) failed = rw (failed x) (filter_none p xs failed)
-
 apart : (b r : Bool) → (not b && r) ≡ true → (b ≡ false) × (r ≡ true)
 apart false r h = (refl, h)
 apart true r h = cc
@@ -141,7 +138,7 @@ pub quiet_lines : (w : World) (text : List ℕ) → is_quiet w ≡ true → text
 quiet_lines w text h =
     sym (append-nil text)
     ∙ ap (λ l. text ++ flat_map advance_line (map (advance_in w) l))
-    (sym (filter_none (has_advanced w) (numbers_from 0 (length w.clocks)) (λ c. quiet_at w.steps w.clocks c h)))
+    (sym (none_pass (has_advanced w) (numbers_from 0 (length w.clocks)) (λ c. quiet_at w.steps w.clocks c h)))
 
 -- the lines of these clocks
 abbrev pub lines_of : World → List ℕ → List ℕ

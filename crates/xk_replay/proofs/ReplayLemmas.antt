@@ -17,9 +17,9 @@ use Rattle.xk_laws.proofs.ReachabilityLemmas.{run_more, run_arguments}
 use Rattle.xk_core.specs.Core.{CoreValue}
 use Rattle.xk_scheduler.specs.LoggedRuns.{IsRunOf}
 use Rattle.xk_core.specs.LocalRun.{RunsTo, IsUnseen}
-use Rattle.xk_scheduler.proofs.ChooserScheduleLemmas.{printed_more}
+use Rattle.xk_scheduler.proofs.ChooserScheduleLemmas.{printed_more, printed_unseen}
 use Rattle.xk_scheduler.proofs.TurnLemmas.{leads_with, run_of}
-use Rattle.xk_scheduler.proofs.RunSequenceLemmas.{run_then, printed_then}
+use Rattle.xk_scheduler.proofs.RunSequenceLemmas.{run_then}
 use Rattle.xk_replay.specs.Replay.{IsSoFar, GoesOn, IsHeld, IsRepeated, IsStoppedAt}
 
 -- ---- by a step
@@ -64,7 +64,7 @@ goes_unseen c d x numbers more a n k goes runs unseen same args list s =
       leads = subst (λ k2. run k2 (before ++ replicate k a) (opening k2 args) ≡ Through x.world) (sym same)
           (run_then m before (replicate k a) (opening m args) d.world so_far.leads ∙ runs);
       prints = subst (λ k2. more ≡ printed k2 (before ++ replicate k a) (opening k2 args)) (sym same)
-          (so_far.prints ∙ sym (printed_then m before (replicate k a) (opening m args) d.world so_far.leads unseen));
+          (so_far.prints ∙ sym (printed_unseen m before (replicate k a) (opening m args) d.world so_far.leads unseen));
     }
 
 -- as many as another number says

@@ -31,7 +31,7 @@ schedule_in_parts front rest e n k all =
     ∙ sym (append_assoc (schedule_of front) (replicate n a) (a ∷ (replicate k a ++ later)))
 
 -- from a world with these arguments a schedule leads as it does from the opening one
-leads_from : (m : ModuleValue) (args : List ℤ) (list : List ℕ) (w : World) → Leads m list w → w.arguments ≡ args → run m list (opening m args) ≡ Through w
+pub leads_from : (m : ModuleValue) (args : List ℤ) (list : List ℕ) (w : World) → Leads m list w → w.arguments ≡ args → run m list (opening m args) ≡ Through w
 leads_from m args list w l given = subst (λ xs. run m list (opening m xs) ≡ Through w) given l.1
 
 module _ (m : ModuleValue) (args : List ℤ) (log : List Entry) where

@@ -1,18 +1,13 @@
 -- A step of one activity leaves it as it was whether somebody under a finish of another is awaited.
-use Rattle.std.proofs.Common.{◌≡◌, ℕ, zero, suc, ◌<◌, ◌≤◌, Bool, true, false, List, [], ◌∷◌, ◌++◌, length, Option, Some, None, inl, inr, ◌⊎◌, refl, sym, ap, ◌∙◌, subst, arith, slice_get, slice_set, option_map, length-set}
+use Rattle.std.proofs.Common.{◌≡◌, ℕ, zero, suc, ◌<◌, ◌≤◌, true, false, List, [], ◌∷◌, ◌++◌, length, Option, Some, None, inl, inr, ◌⊎◌, refl, sym, ap, ◌∙◌, subst, arith, slice_get, slice_set, option_map, length-set}
 use Rattle.std.proofs.lemmas.Option.{none-some, same_Some, slice_get_within}
 use Rattle.xk_types.specs.World.{Finish, Activity, is_ended}
 use Rattle.xk_types.specs.Step.{is_under, awaits}
 use Rattle.xk_types.proofs.ListLemmas.{each_set, get_inside, get-set_same, get-set_other, get_push, get-push_other, get-append_left}
+use Rattle.xk_types.proofs.MembershipLemmas.{same_test}
 use Rattle.xk_laws.proofs.ScopeLemmas.Invariant.{finish_at}
 use Rattle.xk_laws.proofs.ScopeLemmas.FinishOwnerLemmas.{AreOwned, under_governed, under_owner, under_cases, IsAwaited, awaited}
 use Rattle.xk_scheduler.proofs.FinishOwnerLemmas.{same_or_not, awaits_given, AreOpen}
-
--- two answers that are yes for each other are one
-both_yes : (p q : Bool) → (p ≡ true → q ≡ true) → (q ≡ true → p ≡ true) → p ≡ q
-both_yes true q h g = sym (h refl)
-both_yes false true h g = g refl
-both_yes false false h g = refl
 
 -- ---- under the finish
 
@@ -106,7 +101,7 @@ module _ (acts : List Activity) (owned : AreOwned acts) (a : ℕ) (act next : Ac
 
   -- where it goes on, whoever was awaited is
   pub awaits_on : is_ended act.status ≡ false → is_ended next.status ≡ false → awaits after f ≡ awaits acts f
-  awaits_on alive going = both_yes (awaits after f) (awaits acts f)
+  awaits_on alive going = same_test (awaits after f) (awaits acts f)
       (λ h. awaits_given acts f (awaited_before alive (awaited after f h)))
       (λ h. awaits_given after f (awaited_after
       (λ under. record {
@@ -119,7 +114,7 @@ module _ (acts : List Activity) (owned : AreOwned acts) (a : ℕ) (act next : Ac
 
   -- Where it ends, the owner of what governs it is awaited in its place, if that isn't the finish itself.
   pub awaits_end : is_ended act.status ≡ false → AreOpen acts → (act.governed ≡ f → ⊥) → awaits after f ≡ awaits acts f
-  awaits_end alive each another = both_yes (awaits after f) (awaits acts f)
+  awaits_end alive each another = same_test (awaits after f) (awaits acts f)
       (λ h. awaits_given acts f (awaited_before alive (awaited after f h)))
       (λ h. awaits_given after f (awaited_after owner (awaited acts f h)))
     where
@@ -174,7 +169,7 @@ module _ (acts : List Activity) (owned : AreOwned acts) (a : ℕ) (act : Activit
 
   -- so whoever was awaited is, and nobody else
   pub awaits_push : (f.owner ≡ Some a → ⊥) → awaits (acts ++ x ∷ []) f ≡ awaits acts f
-  awaits_push another = both_yes (awaits (acts ++ x ∷ []) f) (awaits acts f) (λ h. awaits_given acts f (before (awaited (acts ++ x ∷ []) f h)))
+  awaits_push another = same_test (awaits (acts ++ x ∷ []) f) (awaits acts f) (λ h. awaits_given acts f (before (awaited (acts ++ x ∷ []) f h)))
       (λ h. awaits_given (acts ++ x ∷ []) f (after_push (awaited acts f h)))
     where
       after_push : IsAwaited acts f → IsAwaited (acts ++ x ∷ []) f

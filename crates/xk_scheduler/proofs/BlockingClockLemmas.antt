@@ -11,6 +11,7 @@ use Rattle.xk_types.specs.World.{Clock, World, standing_of}
 use Rattle.xk_types.specs.Step.{Outcome, Blocked, Wrong, Stepped, step, is_signalled, settled_clock, moved, joined, new_clock, is_given, advanced, none, all, dropped, resumed, waits}
 use Rattle.xk_laws.proofs.Invariant.{IsClockSound}
 use Rattle.xk_types.proofs.ListLemmas.{Each}
+use Rattle.xk_types.proofs.MembershipLemmas.{same_test}
 use Rattle.xk_laws.proofs.StepFormLemmas.{step_kind}
 use Rattle.xk_laws.proofs.ReachabilityLemmas.{reached_sound}
 use Rattle.xk_laws.proofs.ClockLemmas.AdvanceLemmas.{settled_cases, stand-advanced}
@@ -147,11 +148,6 @@ free_on m w v a e core h b inside differs waiting =
     let c = held_by v b waiting in
     waits_by w b c.0 ((held_on m w v a e core h b inside differs c.0).only c.1)
 
-pub both : (x y : Bool) → (x ≡ true → y ≡ true) → (y ≡ true → x ≡ true) → x ≡ y
-both true y to from = sym (to refl)
-both false true to from = from refl
-both false false to from = refl
-
 -- where no clock advances, none did
 pub none_went : (now : ℕ) (clocks : List Clock) → list_all (λ k. not (k.last == now)) clocks ≡ true → (c : ℕ) → went now clocks c ≡ false
 none_went now [] quiet c = refl
@@ -165,7 +161,7 @@ none_went now (k ∷ clocks) quiet (suc c) = none_went now clocks (and_parts (no
 -- so others are held back as before
 pub waits_same : (m : ModuleValue) (w v : World) (a : ℕ) (e : Event) → IsCore m w → step m w a ≡ Stepped v e → (b : ℕ) → b < length w.activities → (b ≡ a → ⊥)
     → is_quiet v ≡ true → waits v b ≡ waits w b
-waits_same m w v a e core h b inside differs quiet = both (waits v b) (waits w b) (free_on m w v a e core h b inside differs)
+waits_same m w v a e core h b inside differs quiet = same_test (waits v b) (waits w b) (free_on m w v a e core h b inside differs)
     (λ waiting.
     let c = held_by w b waiting in
     waits_by v b c.0 ((held_on m w v a e core h b inside differs c.0).stays c.1 (none_went v.steps v.clocks quiet c.0)))

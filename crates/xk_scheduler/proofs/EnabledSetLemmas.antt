@@ -1,10 +1,8 @@
 -- The list of those who can take a step, after a step.
-use Rattle.std.proofs.Common.{◌≡◌, ◌∙◌, ℕ, zero, suc, ◌+◌, ◌-◌, ◌<◌, ◌≤◌, Bool, true, false, cond, if◌then◌else◌, ◌&&◌, ◌==◌, List, [], ◌∷◌, ◌++◌, length, get_or, filter, Option, Some, None, Result, Ok, Err, OnErr, slice_get, ◌⊎◌, inl, inr, refl, sym, ap, subst, arith, add-one}
+use Rattle.std.proofs.Common.{◌≡◌, ◌∙◌, ℕ, zero, suc, ◌+◌, ◌-◌, ◌<◌, ◌≤◌, Bool, true, false, if◌then◌else◌, ◌&&◌, ◌==◌, List, [], ◌∷◌, length, filter, Option, Some, None, Result, Ok, Err, OnErr, slice_get, ◌⊎◌, inl, inr, refl, sym, ap, subst, arith, add-one}
 use Rattle.std.specs.List.{list_all}
 use Rattle.std.proofs.lemmas.Bool.{cases_eq, eq-eqb, ne_eqb, eqb-true, eqb-false}
-use Rattle.std.proofs.lemmas.Option.{none-some, same_Some, slice_get-get_or}
-use Rattle.std.proofs.lemmas.List.{append-nil}
-use Rattle.std.proofs.lemmas.List.Elements.{filter-append}
+use Rattle.std.proofs.lemmas.Option.{none-some, same_Some}
 use Rattle.xk_types.specs.declared.world.Event.{Event}
 use Rattle.xk_types.specs.declared.world.Event.TheVariants as event
 use Rattle.xk_types.specs.declared.world.Status.{Status}
@@ -20,7 +18,7 @@ use Rattle.xk_collections.specs.NumberSets.{IsRising, numbers_from, with_member}
 use Rattle.xk_scheduler.specs.Choosers.{enabled_in}
 use Rattle.xk_scheduler.specs.EnabledSet.{other_to_list}
 use Rattle.xk_core.proofs.CoreLemmas.{core_ends}
-use Rattle.xk_collections.proofs.RisingListLemmas.{filter_rises, member_added, member_changed, member_passes, members_few, members_none, numbers_more}
+use Rattle.xk_collections.proofs.RisingListLemmas.{filter_rises, member_added, member_changed, member_passes, members_few, members_none}
 use Rattle.xk_scheduler.proofs.IndependenceLemmas.{grows_by_start, keeps_width, steps_within, governor_same, governor_within}
 
 -- ---- who is in the list
@@ -201,22 +199,6 @@ over_is m w list n core is wide = of (n == 0) refl
     of true h = h ∙ sym (listed_over m w core (sym is ∙ listed_none list (sym wide ∙ eqb-true n 0 h)))
     of false h = h ∙ sym (listed_going m w (λ z. eqb-false n 0 h (wide ∙ ap length is ∙ z)))
 
--- who stands at a place of the list
-pub named_at : (m : ModuleValue) (w : World) (list : List ℕ) (i x : ℕ) → list ≡ enabled_in m w → i < length list → x ≡ get_or list i x → slice_get (enabled_in m w) i ≡ Some x
-named_at m w list i x is lt named = ap (λ l. slice_get l i) (sym is) ∙ slice_get-get_or list i x lt ∙ ap (λ y. Some y) (sym named)
-
--- ---- making the list
-
--- the next number passes
-pub one_more : (p : ℕ → Bool) (n : ℕ) (list : List ℕ) → list ≡ filter p (numbers_from 0 n) → p n ≡ true → list ++ n ∷ [] ≡ filter p (numbers_from 0 (n + 1))
-one_more p n list is h = ap (λ l. l ++ n ∷ []) is
-    ∙ sym (ap (filter p) (numbers_more n) ∙ filter-append p (numbers_from 0 n) (n ∷ []) ∙ ap (λ b. filter p (numbers_from 0 n) ++ cond b (n ∷ []) []) h)
-
--- it doesn't
-pub one_not : (p : ℕ → Bool) (n : ℕ) (list : List ℕ) → list ≡ filter p (numbers_from 0 n) → p n ≡ false → list ≡ filter p (numbers_from 0 (n + 1))
-one_not p n list is h = is ∙ sym (ap (filter p) (numbers_more n) ∙ filter-append p (numbers_from 0 n) (n ∷ [])
-    ∙ ap (λ b. filter p (numbers_from 0 n) ++ cond b (n ∷ []) []) h ∙ append-nil (filter p (numbers_from 0 n)))
-
 -- a step adds one activity at most, and takes none away
 pub step_widens : (m : ModuleValue) (w v : World) (a : ℕ) (e : Event) → step m w a ≡ Stepped v e → (length w.activities ≤ length v.activities)
     × (length v.activities ≤ length w.activities + 1)
@@ -252,9 +234,6 @@ other_within m w a b e core lt is = by (sort_of w a e)
     by (Start h) = omega (arith, lt, same_Some (length w.activities - 1) b (subst (λ f. other_to_list w a f ≡ Some b) h is))
     by (End h) = omega (arith, lt, governor_within m w core a b lt (subst (λ f. other_to_list w a f ≡ Some b) h is))
     by (Neither start end none) = absurd (none-some b (sym none ∙ is))
-
-pub some_there : (xs : List ℕ) (b : Bool) → b ≡ (length xs == 0) → b ≡ false → 0 < length xs
-some_there xs b is off = omega (arith, eqb-false (length xs) 0 (sym is ∙ off))
 
 pub core_clocks : (m : ModuleValue) (w : World) → IsCore m w → length w.clocks ≤ clocks_bound m
 core_clocks m w core = (reached_room m core.limits core.accepted w core.reached).clocks

@@ -13,4 +13,5 @@ pub mod RunSequenceLemmas
 pub mod BlockingClockLemmas
 pub mod WaiterUpdateLemmas
 pub mod WakeLemmas
+pub mod RosterLemmas
 pub mod UnloggedRunLemmas

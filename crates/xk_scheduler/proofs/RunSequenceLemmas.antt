@@ -1,13 +1,9 @@
--- A run goes on by another one: what the chooser names, where it is left, and what is printed.
-use Rattle.std.proofs.Common.{◌≡◌, ◌∙◌, ℕ, ℤ, Bool, not, List, [], ◌∷◌, ◌++◌, Option, filter, sym, ap, subst}
-use Rattle.std.specs.List.{filter_map}
-use Rattle.std.proofs.lemmas.List.{append-nil}
-use Rattle.std.proofs.lemmas.List.Elements.{filter-append}
-use Rattle.xk_types.specs.declared.world.Event.{Event}
+-- A run goes on by another one: what the chooser names, and where it is left.
+use Rattle.std.proofs.Common.{◌≡◌, ◌∙◌, ℕ, List, [], ◌∷◌, ◌++◌, sym, ap, subst}
 use Rattle.xk_types.specs.Code.{ModuleValue}
 use Rattle.xk_types.specs.World.{World}
 use Rattle.xk_types.specs.Step.{step}
-use Rattle.xk_types.specs.Schedule.{Through, run, run_on, events, events_on, is_local, seen, number_printed, printed}
+use Rattle.xk_types.specs.Schedule.{Through, run, run_on}
 use Rattle.xk_laws.proofs.ReachabilityLemmas.{same_through, first_step}
 use Rattle.xk_scheduler.specs.Choosers.{enabled_in, Follows, goes_on, state_after, state_on}
 
@@ -39,25 +35,3 @@ state_then after m (a ∷ xs) ys s w v h =
     ap (λ o. state_on o s (λ z. state_after after m next z (xs ++ ys))) t.2
     ∙ state_then after m xs ys next t.0 v t.3
     ∙ sym (ap (λ o. state_after after m (state_on o s (λ z. state_after after m next z xs)) v ys) t.2)
-
-events_then : (m : ModuleValue) (xs ys : List ℕ) (w v : World) → run m xs w ≡ Through v → events m (xs ++ ys) w ≡ events m xs w ++ events m ys v
-events_then m [] ys w v h = ap (events m ys) (same_through w v h)
-events_then m (a ∷ xs) ys w v h =
-    let t = first_step w v (step m w a) (run m xs) h in
-    ap (λ o. events_on a o (events m (xs ++ ys))) t.2
-    ∙ ap (λ l. (a, t.1) ∷ l) (events_then m xs ys t.0 v t.3)
-    ∙ sym (ap (λ o. events_on a o (events m xs) ++ events m ys v) t.2)
-
-abbrev number_in : ℕ × Event → Option ℤ
-number_in p = number_printed p.1
-
-abbrev is_seen : ℕ × Event → Bool
-is_seen p = not (is_local p.1)
-
--- where nothing is seen of the other, it prints nothing more
-pub printed_then : (m : ModuleValue) (xs ys : List ℕ) (w v : World) → run m xs w ≡ Through v → seen m ys v ≡ [] → printed m (xs ++ ys) w ≡ printed m xs w
-printed_then m xs ys w v h nothing =
-    ap (λ es. filter_map number_in (filter is_seen es)) (events_then m xs ys w v h)
-    ∙ ap (filter_map number_in) (filter-append is_seen (events m xs w) (events m ys v))
-    ∙ ap (λ l. filter_map number_in (seen m xs w ++ l)) nothing
-    ∙ ap (filter_map number_in) (append-nil (seen m xs w))

@@ -1,5 +1,5 @@
 -- Local steps of one activity that are handed in leave each other as able to step as it was.
-use Rattle.std.proofs.Common.{◌≡◌, ◌∙◌, ◌⊎◌, inl, inr, ℕ, ◌<◌, ◌≤◌, Bool, true, false, List, length, filter, Option, Some, None, refl, sym, ap, subst, slice_get, length-set}
+use Rattle.std.proofs.Common.{◌≡◌, ◌∙◌, ◌⊎◌, inl, inr, ℕ, ◌<◌, Bool, true, false, List, length, filter, Option, Some, None, refl, sym, ap, subst, slice_get, length-set}
 use Rattle.std.specs.Option.{option_map_or}
 use Rattle.std.proofs.lemmas.Bool.{false≢true, cases_eq}
 use Rattle.std.proofs.lemmas.Option.{slice_get_within, get_or_from_slice_get}
@@ -9,20 +9,18 @@ use Rattle.xk_types.specs.Code.{ModuleValue}
 use Rattle.xk_types.specs.World.{Activity, World, is_ended}
 use Rattle.xk_types.specs.Step.{innermost}
 use Rattle.xk_types.specs.Schedule.{is_enabled}
-use Rattle.xk_types.specs.Bound.{activities_bound}
 use Rattle.xk_types.proofs.ListLemmas.{get-set_same, get-set_other}
 use Rattle.xk_activity.specs.Local.{FramesValue}
 use Rattle.xk_activity.specs.StepAgreement.{with_frames}
 use Rattle.xk_activity.specs.Activities.{act_at, nobody}
 use Rattle.xk_core.specs.Core.{CoreValue, IsCore, with_world, is_running, runs_now, is_arrived, is_waiting}
 use Rattle.xk_core.specs.LocalRun.{after_steps}
-use Rattle.xk_collections.specs.NumberSets.{SetValue, numbers_from, with_member}
+use Rattle.xk_collections.specs.NumberSets.{numbers_from, with_member}
 use Rattle.xk_collections.proofs.RisingListLemmas.{member_changed}
-use Rattle.xk_collections.specs.WaitingLists.{WaitingValue}
 use Rattle.xk_scheduler.specs.Choosers.{enabled_in}
 use Rattle.xk_scheduler.specs.Waiters.{AreHeld}
 use Rattle.xk_scheduler.specs.EnabledSet.{with_or_without}
-use Rattle.xk_scheduler.specs.LoggedRuns.{IsListed}
+use Rattle.xk_scheduler.specs.Rosters.{IsListed, RosterValue}
 use Rattle.xk_scheduler.proofs.IndependenceLemmas.{same_enabled}
 use Rattle.xk_scheduler.proofs.FinishOwnerLemmas.{core_owned}
 use Rattle.xk_scheduler.proofs.AwaitIndependenceLemmas.{awaits_on}
@@ -102,28 +100,23 @@ module _ (m : ModuleValue) (w : World) (a : ℕ) (fs : FramesValue) (n : ℕ) (r
     covers = λ b waiting on. held.covers b (sym (waiting_handed b) ∙ waiting) on;
   }
 
-  -- the set and the lists tell of the world then, where this one is put in or out
-  module _ (s t : SetValue) (waiting : WaitingValue) (shown advanced : ℕ) where
-    sets_handed : IsListed (record { module_run = m; world = w }) s waiting shown advanced → IsCore m v
-        → t.members ≡ with_or_without (record { module_run = m; world = v }) a s.members → t.room ≡ s.room
-        → IsListed (record { module_run = m; world = v }) t waiting shown advanced
-    sets_handed old later members room = record {
-      core = later;
-      list_is = members ∙ ap (with_member a (is_enabled m v a)) old.list_is ∙ listed_handed old.core later;
-      held = held_handed waiting.lists old.held;
-      roomy = subst (λ k. activities_bound m ≤ k) (sym room) old.roomy;
-      roomy_to_wait = old.roomy_to_wait;
-      roomy_clocks = old.roomy_clocks;
-      roomy_list = old.roomy_list;
-      roomy_advanced = old.roomy_advanced;
-    }
+  -- the roster tells of the world then, where this one is put in or out
+  roster_handed : (r s : RosterValue) → IsListed (record { module_run = m; world = w }) r → IsCore m v
+      → s ≡ record r { members = with_or_without (record { module_run = m; world = v }) a r.members } → IsListed (record { module_run = m; world = v }) s
+  roster_handed r s old later is = subst (IsListed (record { module_run = m; world = v })) (sym is) (record {
+    core = later;
+    list_is = ap (with_member a (is_enabled m v a)) old.list_is ∙ listed_handed old.core later;
+    held = held_handed r.lists old.held;
+    roomy = old.roomy;
+    roomy_clocks = old.roomy_clocks;
+  })
 
 -- what the driver keeps, behind the steps of a ticket
-pub driver_handed : (c d : CoreValue) (a : ℕ) (fs : FramesValue) (n : ℕ) (s t : SetValue) (waiting : WaitingValue) (shown advanced : ℕ) → is_running c.world a ≡ true
-    → d ≡ with_world c (after_steps c.world a fs n) → IsCore d.module_run d.world → IsListed c s waiting shown advanced
-    → t.members ≡ with_or_without d a s.members → t.room ≡ s.room → IsListed d t waiting shown advanced
-driver_handed c d a fs n s t waiting shown advanced runs is later old members room =
-    subst (λ (z : CoreValue). IsListed z t waiting shown advanced) (sym is)
-    (sets_handed c.module_run c.world a fs n runs s t waiting shown advanced old
+pub driver_handed : (c d : CoreValue) (a : ℕ) (fs : FramesValue) (n : ℕ) (r s : RosterValue) → is_running c.world a ≡ true
+    → d ≡ with_world c (after_steps c.world a fs n) → IsCore d.module_run d.world → IsListed c r
+    → s ≡ record r { members = with_or_without d a r.members } → IsListed d s
+driver_handed c d a fs n r s runs is later old members =
+    subst (λ (z : CoreValue). IsListed z s) (sym is)
+    (roster_handed c.module_run c.world a fs n runs r s old
     (subst (λ (z : CoreValue). IsCore z.module_run z.world) is later)
-    (subst (λ (z : CoreValue). t.members ≡ with_or_without z a s.members) is members) room)
+    (subst (λ (z : CoreValue). s ≡ record r { members = with_or_without z a r.members }) is members))

@@ -1,12 +1,12 @@
 -- How a run without a log goes on by its turns, and comes to its end.
-use Rattle.std.proofs.Common.{◌≡◌, ℕ, ℤ, ◌+◌, ◌-◌, ◌<◌, ◌≤◌, List, [], ◌∷◌, ◌++◌, replicate, true, Option, Some, None, refl, sym, ap, subst, ◌∙◌, arith}
+use Rattle.std.proofs.Common.{◌≡◌, ℕ, ℤ, ◌+◌, ◌-◌, ◌<◌, ◌≤◌, List, [], ◌∷◌, ◌++◌, replicate, Option, Some, None, refl, sym, ap, subst, ◌∙◌, arith}
 use Rattle.std.specs.Option.{option_to_list}
 use Rattle.xk_types.specs.declared.world.Event.{Event}
 use Rattle.xk_types.specs.Bound.{steps_bound}
 use Rattle.xk_types.specs.Code.{ModuleValue}
 use Rattle.xk_types.specs.World.{World, opening, AreArguments}
 use Rattle.xk_types.specs.Step.{Outcome, Blocked, Wrong, Stepped, step}
-use Rattle.xk_types.specs.Schedule.{Through, run, all_ended, number_printed, printed}
+use Rattle.xk_types.specs.Schedule.{Through, run, number_printed, printed}
 use Rattle.xk_core.specs.Core.{CoreValue}
 use Rattle.xk_scheduler.specs.declared.driver.Turn.{Turn}
 use Rattle.xk_scheduler.specs.Choosers.{enabled_in, Names, Follows, goes_on, state_after}
@@ -15,8 +15,8 @@ use Rattle.xk_scheduler.specs.LocalRuns.{IsGone, IsStretch}
 use Rattle.xk_scheduler.specs.WholeRuns.{IsRunThat}
 use Rattle.xk_laws.proofs.StepCountLemmas.{step_counts}
 use Rattle.xk_laws.proofs.ReachabilityLemmas.{run_more, run_counts}
-use Rattle.xk_scheduler.proofs.ChooserScheduleLemmas.{follows_more, printed_more, state_more}
-use Rattle.xk_scheduler.proofs.RunSequenceLemmas.{run_then, follows_then, state_then, printed_then}
+use Rattle.xk_scheduler.proofs.ChooserScheduleLemmas.{follows_more, printed_more, printed_unseen, state_more}
+use Rattle.xk_scheduler.proofs.RunSequenceLemmas.{run_then, follows_then, state_then}
 use Rattle.xk_scheduler.proofs.TurnLemmas.{leads_with}
 
 -- From the opening world with these arguments a list that follows a chooser, which began in state b, leads here, and printed these numbers; the
@@ -78,7 +78,7 @@ front_along answer after args b c d s t n numbers f more =
           (subst (λ z. Follows answer after m z c.world steps) f.state_is more.follows);
       leads = run_then m f.list steps first c.world f.leads ∙ more.leads;
       state_is = more.left ∙ ap (λ z. state_after after m z c.world steps) f.state_is ∙ sym (state_then after m f.list steps b first c.world f.leads);
-      numbers_are = f.numbers_are ∙ sym (printed_then m f.list steps first c.world f.leads more.unseen);
+      numbers_are = f.numbers_are ∙ sym (printed_unseen m f.list steps first c.world f.leads more.unseen);
     }
 
 front_stretch : {S : Type 0} (answer : S → List ℕ → ℕ) (after : S → List ℕ → S) (m : ModuleValue) (args : List ℤ) (b : S) (c d : CoreValue) (s t : S) (n : ℕ) (numbers : List ℤ)

@@ -11,6 +11,7 @@ use Rattle.xk_types.specs.Code.{ModuleValue}
 use Rattle.xk_types.specs.World.{Activity, Clock, World}
 use Rattle.xk_types.specs.Step.{Stepped, step, step_by, step_of, passing, waits}
 use Rattle.xk_types.specs.Schedule.{is_step, is_enabled}
+use Rattle.xk_types.proofs.MembershipLemmas.{same_test}
 use Rattle.xk_collections.specs.NumberSets.{numbers_from, with_member}
 use Rattle.xk_collections.specs.WaitingLists.{times, times_in_all, waiters, taken, left}
 use Rattle.xk_collections.proofs.RemainderLemmas.{left_times, left_length, left_stands, stands_in}
@@ -21,7 +22,7 @@ use Rattle.xk_scheduler.specs.Choosers.{enabled_in}
 use Rattle.xk_scheduler.specs.Waiters.{IsHeldNow, AreHeld, AreAsked, IsAsked, IsPut, IsNotedIn}
 use Rattle.xk_core.specs.Core.{is_arrived, is_waiting}
 use Rattle.xk_scheduler.proofs.WaiterUpdateLemmas.{IsListAsked, AreListsAsked, list_asked, lists_asked}
-use Rattle.xk_scheduler.proofs.BlockingClockLemmas.{both, held_on, waits_by, free_on, none_went}
+use Rattle.xk_scheduler.proofs.BlockingClockLemmas.{held_on, waits_by, free_on, none_went}
 use Rattle.xk_scheduler.proofs.EnabledSetLemmas.{IsOneStep, step_widens}
 use Rattle.xk_scheduler.proofs.IndependenceLemmas.{untouched_by, awake_after, awake_fresh, waiting_same, waiting_within, waits_after}
 
@@ -73,7 +74,7 @@ not_advanced v c none = of (has_advanced v c) refl
     of true e = sym e ∙ out_of_row (has_advanced v) c 0 (length v.clocks) none (omega arith) (omega (arith, on_there (λ k. k.last == v.steps) v.clocks c e))
 
 -- where none did, they are none
-none_pass : (p : ℕ → Bool) (row : List ℕ) → ((c : ℕ) → p c ≡ false) → filter p row ≡ []
+pub none_pass : (p : ℕ → Bool) (row : List ℕ) → ((c : ℕ) → p c ≡ false) → filter p row ≡ []
 none_pass p [] none = refl
 none_pass p (c ∷ row) none = rw (none c) (none_pass p row none)
 
@@ -169,7 +170,7 @@ module _ (m : ModuleValue) (w v : World) (a : ℕ) (e : Event) (lists : List (Li
   -- who isn't asked is as able to step as before
   same_able : (k : ℕ) → times k acts ≡ 0 → k < length w.activities → (k ≡ a → ⊥) → (e ≡ event.Ended → governor w a ≡ Some k → ⊥) → is_enabled m v k ≡ is_enabled m w k
   same_able k none lt ne other = untouched_by m w v a e core stepped k
-      (λ waiting. both (waits v k) (waits w k) (free_on m w v a e core stepped k lt ne)
+      (λ waiting. same_test (waits v k) (waits w k) (free_on m w v a e core stepped k lt ne)
       (λ on.
       let some : 0 < times_in_all k rest = omega (arith, held.covers k waiting on, conserved k, none) in
       let c = stands_in k rest some in

@@ -4,4 +4,5 @@ pub mod EnabledSet
 pub mod LoggedRuns
 pub mod LocalRuns
 pub mod Waiters
+pub mod Rosters
 pub mod WholeRuns

@@ -1,5 +1,5 @@
 -- Runs that a chooser drives, and their logs. This project's own.
-use Rattle.std.specs.Prelude.{Vec, ◌≡◌, ◌⊎◌, ℕ, ℤ, ◌≤◌, Bool, All, List, [], ◌∷◌, ◌++◌, length, Option, Some, None, true, false}
+use Rattle.std.specs.Prelude.{Vec, ◌≡◌, ◌⊎◌, ℕ, ℤ, Bool, All, List, [], ◌∷◌, ◌++◌, Option, Some, None, true, false}
 use Rattle.std.specs.Vec.{vec_len, vec_capacity}
 use Rattle.xk_types.specs.declared.world.Entry.{Entry}
 use Rattle.xk_types.specs.declared.world.Event.{Event}
@@ -9,11 +9,7 @@ use Rattle.xk_types.specs.World.{World, opening}
 use Rattle.xk_types.specs.Step.{Stepped, step}
 use Rattle.xk_types.specs.Schedule.{Leads, all_ended, printed}
 use Rattle.xk_types.specs.Logs.{schedule_of, one_step_of}
-use Rattle.xk_core.specs.Core.{CoreValue, IsCore, IsAboutToGrow, WantsMemory}
-use Rattle.xk_types.specs.Bound.{activities_bound, clocks_bound}
-use Rattle.xk_collections.specs.NumberSets.{SetValue}
-use Rattle.xk_collections.specs.WaitingLists.{WaitingValue}
-use Rattle.xk_scheduler.specs.Waiters.{AreHeld}
+use Rattle.xk_core.specs.Core.{CoreValue, IsAboutToGrow, WantsMemory}
 use Rattle.xk_scheduler.specs.Choosers.{enabled_in, Names, Follows, state_after}
 
 -- A chooser in state s, which answers so and then is in such a state, names activity a of those that are enabled; its step leads from c to d,
@@ -63,18 +59,6 @@ IsShort answer log numbers c s = IsFull log ⊎ (IsFull numbers ⊎ NamesWhoGrow
 -- What a step of this activity, with its entry, may want memory for: its entry of the log, the number that it may print, or itself.
 abbrev pub IsShortOf : {X Y Z : Type 0} → Vec X Z → Vec Y Z → CoreValue → ℕ → Type 0
 IsShortOf log numbers c a = IsFull log ⊎ (IsFull numbers ⊎ WantsMemory c a)
-
--- The set has those who can take a step, and the lists those who wait at an `advance` and can't; they, and the lists that are shown, have room
--- for all activities and all clocks that a run of the module can have.
-pub record IsListed (c : CoreValue) (enabled : SetValue) (waiting : WaitingValue) (shown : ℕ) (advanced : ℕ) : Type 0 where
-  pub core : IsCore c.module_run c.world
-  pub list_is : enabled.members ≡ enabled_in c.module_run c.world
-  pub held : AreHeld c.world waiting.lists
-  pub roomy : activities_bound c.module_run ≤ enabled.room
-  pub roomy_to_wait : waiting.room ≡ activities_bound c.module_run
-  pub roomy_clocks : clocks_bound c.module_run ≤ length waiting.lists
-  pub roomy_list : activities_bound c.module_run ≤ shown
-  pub roomy_advanced : clocks_bound c.module_run ≤ advanced
 
 -- the log stands for a legal schedule of the module, which leads to the core, and prints these numbers
 pub record IsRunOf (m : ModuleValue) (log : List Entry) (numbers : List ℤ) (c : CoreValue) : Type 0 where

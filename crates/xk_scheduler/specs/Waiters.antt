@@ -3,12 +3,10 @@ use Rattle.std.specs.Prelude.{◌≡◌, ℕ, ◌<◌, ◌≤◌, ◌⊎◌, tru
 use Rattle.xk_types.specs.declared.world.Event.{Event}
 use Rattle.xk_types.specs.declared.world.Event.TheVariants as event
 use Rattle.xk_types.specs.World.{World}
-use Rattle.xk_types.specs.Step.{Stepped, step, waits}
+use Rattle.xk_types.specs.Step.{waits}
 use Rattle.xk_collections.specs.NumberSets.{with_member}
 use Rattle.xk_collections.specs.WaitingLists.{times, times_in_all, waiters}
-use Rattle.xk_core.specs.Core.{CoreValue, IsCore}
 use Rattle.xk_core.specs.Core.{is_held_back_by}
-use Rattle.xk_scheduler.specs.Choosers.{enabled_in}
 use Rattle.xk_core.specs.Core.{is_waiting}
 
 -- Who waits at an `advance` and is held back by a clock stands in the list of one that does, and in no other; nobody else stands in any.
@@ -43,10 +41,3 @@ IsNotedIn w a _ lists later = later ≡ lists
 -- it has just come to wait, and a clock holds it back
 abbrev pub IsHeldNow : World → ℕ → Event → Type 0
 IsHeldNow w a e = (e ≡ event.Arrived) × (waits w a ≡ true)
-
--- Where the list had those who could take a step before a step of activity a that led to this core, and the lists those who were held back, the
--- next have those who can and those who are now.
-abbrev pub KeepsLists : CoreValue → ℕ → Event → List ℕ → List (List ℕ) → List ℕ → List (List ℕ) → Type 0
-KeepsLists c a e list lists next later =
-    (before : World) → IsCore c.module_run before → step c.module_run before a ≡ Stepped c.world e
-    → list ≡ enabled_in c.module_run before → AreHeld before lists → (next ≡ enabled_in c.module_run c.world) × AreHeld c.world later

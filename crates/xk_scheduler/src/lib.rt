@@ -4,6 +4,7 @@
 mod chooser;
 mod driver;
 mod logged_run;
+mod roster;
 mod schedule;
 mod whole_run;
 

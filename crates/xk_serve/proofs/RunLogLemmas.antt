@@ -7,6 +7,7 @@ use Rattle.xk_types.specs.Schedule.{Leads}
 use Rattle.xk_log.specs.LogText.{log_text}
 use Rattle.xk_module.specs.declared.fault.ModuleFault.TheVariants as text
 use Rattle.xk_bounds.specs.declared.refusal.Refusal.TheVariants as refusal
+use Rattle.xk_scheduler.proofs.UnloggedRunLemmas.{run_weaker}
 use Rattle.xk_replay.specs.Chart.{chart_text}
 use Rattle.xk_replay.proofs.RunLogLemmas.{run_is_log}
 use Rattle.xk_cli.specs.declared.job.Form.{Form}
@@ -22,7 +23,6 @@ use Rattle.xk_serve.specs.OneAnswer.{IsChartOf, IsCharted, MayChart, charting, d
 use Rattle.xk_serve.specs.OrderedRun.{IsReplay, IsWholeRun}
 use Rattle.xk_serve.specs.Programs.{Gives}
 use Rattle.xk_serve.proofs.AnswerUniquenessLemmas.{prints, prints_once, whole_prints}
-use Rattle.xk_serve.proofs.OrderedRunLemmas.{run_weaker}
 
 -- ---- what was written
 

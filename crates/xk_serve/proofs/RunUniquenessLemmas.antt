@@ -15,10 +15,12 @@ use Rattle.xk_types.specs.Logs.{one_step_of, schedule_of}
 use Rattle.xk_types.proofs.LogEntryLemmas.{entry_of, one_step_is}
 use Rattle.xk_laws.proofs.ReachabilityLemmas.{first_step, same_through}
 use Rattle.xk_scheduler.specs.Choosers.{Follows, enabled_in, goes_on, turn_after, turn_of}
+use Rattle.xk_scheduler.specs.WholeRuns.{IsRunThat}
 use Rattle.xk_scheduler.proofs.EnabledSetLemmas.{going}
+use Rattle.xk_replay.proofs.VerdictLemmas.{leads_from}
 use Rattle.xk_cli.specs.declared.job.Order.{Order}
 use Rattle.xk_cli.specs.declared.job.Order.TheVariants as order
-use Rattle.xk_serve.specs.OrderedRun.{FollowsOrder, IsLoggedRun, IsOrderedRun, IsRunThat}
+use Rattle.xk_serve.specs.OrderedRun.{FollowsOrder, IsLoggedRun, IsOrderedRun}
 
 -- ---- whoever chooses
 
@@ -53,10 +55,6 @@ module _ {S : Type 0} (answer : S → List ℕ → ℕ) (after : S → List ℕ 
       ap (λ c. c ∷ l) same ∙ ap (λ t. b ∷ t) rest
 
 -- ---- runs
-
--- from the opening world with the arguments that main is given
-pub leads_from : (m : ModuleValue) (args : List ℤ) (list : List ℕ) (w : World) → Leads m list w → w.arguments ≡ args → run m list (opening m args) ≡ Through w
-leads_from m args list w l given = subst (λ xs. run m list (opening m xs) ≡ Through w) given l.1
 
 -- main takes as many
 pub run_taken : (Has : List ℕ → Type 0) (m : ModuleValue) (args numbers : List ℤ) (steps : ℕ) → IsRunThat Has m args numbers steps → AreArguments m args

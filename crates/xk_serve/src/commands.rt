@@ -319,10 +319,10 @@ fn ran_in_order(
             log: Some(run.log),
         });
     }
-    let (printed, steps) = run_in_order(alloc, order, verified, arguments)?;
+    let run = run_in_order(alloc, order, verified, arguments)?;
     Ok(Done::Ended {
-        printed,
-        steps,
+        printed: run.printed,
+        steps: run.steps,
         log: None,
     })
 }

@@ -3,7 +3,8 @@
 ghost use Rattle.std.specs.Prelude.{◌≡◌, IfOk};
 ghost use Rattle.xk_types.specs.World.{AreArguments, opening};
 ghost use Rattle.xk_scheduler.specs.Choosers.{Follows};
-ghost use Rattle.xk_serve.specs.OrderedRun.{IsLogThat, IsLoggedRun, IsReplay, IsRunThat};
+ghost use Rattle.xk_scheduler.specs.WholeRuns.{IsLogThat, IsRunThat};
+ghost use Rattle.xk_serve.specs.OrderedRun.{IsLoggedRun, IsReplay};
 
 use std::alloc::{AllocError, Global};
 use std::sync::Wait;

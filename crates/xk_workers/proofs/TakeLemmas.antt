@@ -1,21 +1,22 @@
 -- What is taken, and what is claimed then.
-use Rattle.std.proofs.Common.{◌≡◌, ◌<◌, ◌≤◌, ◌+◌, ℕ, zero, suc, Bool, true, false, true≢false, cond, List, [], ◌∷◌, ◌++◌, length, filter, Option, Some, None, Result, Ok, Err, OnErr, is_err, refl, sym, subst, ap, ◌∙◌, arith, slice_get, ◌⊎◌, inl, inr}
+use Rattle.std.proofs.Common.{◌≡◌, ◌<◌, ◌≤◌, ◌+◌, ℕ, zero, suc, Bool, true, false, true≢false, cond, List, [], ◌∷◌, ◌++◌, length, filter, Some, Result, Ok, Err, OnErr, is_err, refl, sym, subst, ap, ◌∙◌, arith, slice_get, ◌⊎◌, inl, inr}
 use Rattle.std.specs.List.{All}
 use Rattle.std.proofs.lemmas.Bool.{cases_eq}
 use Rattle.std.proofs.lemmas.List.{length_push}
 use Rattle.std.proofs.lemmas.List.Elements.{All-head, All-tail}
-use Rattle.std.proofs.lemmas.Option.{none-some, slice_get_within}
+use Rattle.std.proofs.lemmas.Option.{none-some}
 use Rattle.xk_types.specs.declared.world.Event.{Event}
 use Rattle.xk_types.specs.declared.world.Event.TheVariants as event
 use Rattle.xk_types.specs.Code.{ModuleValue}
-use Rattle.xk_types.specs.World.{Activity, World}
-use Rattle.xk_types.specs.Step.{Stepped, step, step_of}
-use Rattle.xk_types.specs.Schedule.{is_step, is_enabled}
+use Rattle.xk_types.specs.World.{World}
+use Rattle.xk_types.specs.Step.{Stepped, step}
+use Rattle.xk_types.specs.Schedule.{is_enabled}
 use Rattle.xk_core.specs.Core.{CoreValue, IsCore}
 use Rattle.xk_core.proofs.CoreLemmas.{core_stepped}
 use Rattle.xk_collections.specs.NumberSets.{numbers_from}
 use Rattle.xk_scheduler.specs.Choosers.{enabled_in}
 use Rattle.xk_scheduler.proofs.IndependenceLemmas.{grows_by_start, keeps_width}
+use Rattle.xk_scheduler.proofs.LocalRunLemmas.{enabled_within}
 use Rattle.xk_workers.specs.declared.lock_table.Take.TheVariants as take
 use Rattle.xk_workers.specs.Claims.{is_claimed, claims_after, AreClaims}
 use Rattle.xk_workers.specs.LockTable.{SharedValue, AreAllClaimed, Tells, ActsVisibly, IsShort, given_up, told_to_stop, in_room_of}
@@ -94,13 +95,6 @@ all_from P p a (suc n) all b from below h =
     tested true t all (inr ne) go = go (All-tail P a rest all) (omega arith)
     tested false t all (inl s) go = absurd (true≢false (sym h ∙ sym (ap p s) ∙ t))
     tested false t all (inr ne) go = go all (omega arith)
-
-enabled_within : (m : ModuleValue) (w : World) (a : ℕ) → is_enabled m w a ≡ true → a < length w.activities
-enabled_within m w a h = of (slice_get w.activities a) refl h
-  where
-    of : (o : Option Activity) → slice_get w.activities a ≡ o → is_step (step_of m w a o) ≡ true → a < length w.activities
-    of None e g = absurd (true≢false (sym g))
-    of (Some act) e g = slice_get_within w.activities a act e
 
 some_first : (P : ℕ → Type 0) (xs : List ℕ) (x : ℕ) → Some x ≡ slice_get xs 0 → All P xs → (a : ℕ) × P a
 some_first P [] x e all = absurd (none-some x (sym e))

@@ -1,10 +1,10 @@
 -- The search for one who can take a step and isn't claimed.
-use Rattle.std.proofs.Common.{◌≡◌, ◌∙◌, ℕ, zero, suc, ◌-◌, ◌<◌, ◌≤◌, Bool, true, List, [], ◌∷◌, length, get_or, All, Option, Some, None, slice_get, ◌⊎◌, inl, inr, sym, ap, arith}
+use Rattle.std.proofs.Common.{◌≡◌, ◌∙◌, ℕ, suc, ◌-◌, ◌<◌, ◌≤◌, Bool, true, List, length, get_or, All, Option, Some, None, slice_get, ◌⊎◌, inl, inr, sym, ap, arith}
 use Rattle.std.proofs.lemmas.Bool.{cases_eq}
 use Rattle.std.proofs.lemmas.Option.{same_Some, slice_get-get_or, slice_get_within}
 use Rattle.std.proofs.lemmas.List.Elements.{All-from_get_or}
 use Rattle.xk_collections.specs.NumberSets.{IsRising, place_above}
-use Rattle.xk_collections.proofs.MemberListLemmas.{place_behind}
+use Rattle.xk_collections.proofs.MemberListLemmas.{nobody, place_behind}
 use Rattle.xk_workers.specs.Claims.{is_claimed}
 
 -- the next to look at stands at a place of the list, and all before it are claimed
@@ -25,15 +25,10 @@ seeks_on claims list k next up h claimed e = record {
     here_or_before i x (inl s) below at = ap (is_claimed claims) (same_Some x k (sym at ∙ ap (slice_get list) s ∙ sym h.next_is)) ∙ claimed
     here_or_before i x (inr ne) below at = h.behind i x (omega arith) at
 
-past : (xs : List ℕ) (i : ℕ) → slice_get xs i ≡ None → length xs ≤ i
-past [] i e = omega arith
-past (x ∷ xs) zero e = cc
-past (x ∷ xs) (suc i) e = let h : length xs ≤ i = past xs i e in omega arith
-
 -- where there is nobody more to look at, all are claimed
 pub seeks_no_more : (claims : List Bool) (list : List ℕ) → IsSeeking claims list None → All (λ a. is_claimed claims a ≡ true) list
 seeks_no_more claims list h =
-    let end : length list ≤ h.place = past list h.place (sym h.next_is) in
+    let end : length list ≤ h.place = nobody list h.place (sym h.next_is) in
     All-from_get_or (λ a. is_claimed claims a ≡ true) list 0
     (λ i inside. h.behind i (get_or list i 0) (omega arith) (slice_get-get_or list i 0 inside))
 

@@ -5,9 +5,9 @@ use Rattle.xk_serve.proofs.ordered_run.run_in_order.Goals as goal
 
 pub returns-in-First : goal.returns-in-First
 returns-in-First c =
-    IfOk-weaker c.run_by.result _ _ (λ run h. rw c.in-First.is (without_state (λ enabled. 0) c.args.verified.now c.args.arguments.now _ run.0.items run.1 h)) c.run_by.ensures
+    IfOk-weaker c.run_by.result _ _ (λ run h. rw c.in-First.is (without_state (λ enabled. 0) c.args.verified.now c.args.arguments.now _ run.printed.items run.steps h)) c.run_by.ensures
 
 pub returns-in-Last : goal.returns-in-Last
 returns-in-Last c =
     IfOk-weaker c.run_by-in-Last.result _ _
-    (λ run h. rw c.in-Last.is (without_state (λ enabled. length enabled - 1) c.args.verified.now c.args.arguments.now _ run.0.items run.1 h)) c.run_by-in-Last.ensures
+    (λ run h. rw c.in-Last.is (without_state (λ enabled. length enabled - 1) c.args.verified.now c.args.arguments.now _ run.printed.items run.steps h)) c.run_by-in-Last.ensures

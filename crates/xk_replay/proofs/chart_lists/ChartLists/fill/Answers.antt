@@ -1,4 +1,4 @@
-use Rattle.std.proofs.Common.{◌≤◌, length, ap, arith}
+use Rattle.std.proofs.Common.{length, ap, arith}
 use Rattle.xk_replay.proofs.LivingLemmas.{living_few}
 use Rattle.xk_replay.proofs.chart_lists.ChartLists.fill.Goals as goal
 

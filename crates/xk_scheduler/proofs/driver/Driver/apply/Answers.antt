@@ -1,5 +1,4 @@
 use Rattle.std.proofs.Common.{◌≡◌, subst, arith}
-use Rattle.std.specs.Vec.{vec_capacity}
 use Rattle.xk_scheduler.specs.EnabledSet.{with_or_without}
 use Rattle.xk_scheduler.proofs.EnabledSetLemmas.{core_few}
 use Rattle.xk_scheduler.proofs.TicketLemmas.{runs_within, driver_handed}
@@ -22,7 +21,6 @@ invariant_of-self c =
     let d = c.self.inside in
     let t = c.args.ticket in
     let v = c.apply.new.self in
-    let next = c.list_one.new.enabled in
-    let members = subst (λ a. next.members ≡ with_or_without v a d.enabled.members) c.act-act.ensures c.list_one.ensures.members in
-    driver_handed d.core v t.act t.new t.steps d.enabled next d.waiting (vec_capacity d.shown) (vec_capacity d.advanced) c.apply.ensures.runs
-    c.apply.ensures.changed c.activities-there.ensures.core c.self.invariant members c.list_one.ensures.room
+    let next = c.list_one.new.self in
+    driver_handed d.core v t.act t.new t.steps d.roster next c.apply.ensures.runs c.apply.ensures.changed c.activities-there.ensures.core c.self.invariant
+    (subst (λ a. next ≡ record d.roster { members = with_or_without v a d.roster.members }) c.act-act.ensures c.list_one.ensures)

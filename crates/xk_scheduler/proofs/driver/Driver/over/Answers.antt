@@ -1,4 +1,4 @@
-use Rattle.std.proofs.Common.{◌≡◌, ◌∙◌, length, refl, subst}
+use Rattle.std.proofs.Common.{◌≡◌, ◌∙◌, length, ap, subst}
 use Rattle.xk_types.specs.Schedule.{all_ended}
 use Rattle.xk_core.specs.Core.{CoreValue}
 use Rattle.xk_scheduler.proofs.EnabledSetLemmas.{over_is}
@@ -8,4 +8,5 @@ pub returns : goal.returns
 returns c =
     let d = c.self.inside in
     subst (λ (v : CoreValue). c.is_empty.result ≡ all_ended v.world) c.self.view_is
-    (c.is_empty.ensures ∙ over_is d.core.module_run d.core.world d.enabled.members (length d.enabled.members) c.self.invariant.core c.self.invariant.list_is refl)
+    (c.is_empty.ensures
+    ∙ over_is d.core.module_run d.core.world d.roster.members (length c.enabled.result.now.members) c.self.invariant.core c.self.invariant.list_is (ap length c.enabled.ensures))
