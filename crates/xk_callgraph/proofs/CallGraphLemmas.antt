@@ -5,10 +5,11 @@ use Rattle.std.specs.Prelude.{unwrap_or, codes}
 use Rattle.std.specs.declared.alloc.Global.{Global}
 use Rattle.std.specs.Cmp.Lexicographic.{bytes_decides}
 use Rattle.std.specs.Option.{option_or}
+use Rattle.std.proofs.lemmas.Option.{slice_get_within}
 use Rattle.xk_callgraph.specs.CallGraph.{IsCall, Path, IsRecursive, AreWithin}
 use Rattle.xk_tree.specs.declared.fault.FrontRule.TheVariants as rule
 use Rattle.xk_tree.specs.declared.fault.FrontFault.{FrontFault}
-use Rattle.xk_tree.specs.Tree.{Word, MethodValue, TreeValue, word, words}
+use Rattle.xk_tree.specs.Tree.{Word, MethodValue, TreeValue, words}
 use Rattle.xk_tree.specs.declared.tree.Name.{Name}
 use Rattle.xk_names.specs.Scope.{Table, find, is_text, Has}
 use Rattle.xk_names.specs.Faults.{fault}
@@ -222,11 +223,6 @@ names_at [] i v h e = absurd (omega arith)
 names_at (w ∷ vs) zero v h e = ap (λ (u : Vec Name Global). Some (words u.items)) (sym e)
 names_at (w ∷ vs) (suc i) v h e = names_at vs i v (omega arith) e
 
-pub within_list : {A : Type 0} (xs : List A) (k : ℕ) (x : A) → slice_get xs k ≡ Some x → k < length xs
-within_list [] k x e = absurd cc
-within_list (y ∷ xs) zero x e = omega arith
-within_list (y ∷ xs) (suc k) x e = let h = within_list xs k x e in omega arith
-
 -- the names of the calls of the method that makes this one
 list_of : (t : TreeValue) (i k j : ℕ) (m : Meant t i k j) → slice_get (all_callees t.methods) i ≡ Some (callees_all m.method.body)
 list_of t i k j m = at_mapped (λ (n : MethodValue). callees_all n.body) t.methods i m.method m.is
@@ -273,7 +269,7 @@ found t lists i k is r =
 pub is_within : (t : TreeValue) (lists : List (List Word)) (i k : ℕ) (q : Found t lists i k) (gs : List Word) → slice_get lists i ≡ Some gs → k < length gs
 is_within t lists i k q gs e =
     let same : q.names ≡ gs = some_same q.names gs (sym q.list ∙ e) in
-    subst (λ (l : List Word). k < length l) same (within_list q.names k q.name q.at)
+    subst (λ (l : List Word). k < length l) same (slice_get_within q.names k q.name q.at)
   where
     some_same : (a b : List Word) → Some a ≡ Some b → a ≡ b
     some_same a b e = cc

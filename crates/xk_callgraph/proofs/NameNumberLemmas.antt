@@ -2,8 +2,8 @@
 use Rattle.std.proofs.Common.{◌≡◌, ℕ, zero, suc, Bool, true, false, cond, List, [], ◌∷◌, ◌++◌, map, Vec, Option, Some, None, refl, sym, ap, ◌∙◌, ◌<◌, length, get_or, drop, append_assoc, arith}
 use Rattle.std.specs.Prelude.{is_some}
 use Rattle.std.specs.declared.alloc.Global.{Global}
-use Rattle.std.specs.Cmp.Lexicographic.{bytes_decides}
 use Rattle.std.specs.Option.{option_or}
+use Rattle.xk_names.proofs.TableAgreementLemmas.{same_text}
 use Rattle.xk_callgraph.specs.CallGraph.{adjacency}
 use Rattle.xk_tree.specs.Tree.{Word, method_value, word, words}
 use Rattle.xk_tree.specs.declared.tree.Method.{Method}
@@ -23,11 +23,6 @@ lists_push (w ∷ vs) v = ap (λ r. words w.items ∷ r) (lists_push vs v)
 pub adjacency_push : (vs : List (Vec ℕ Global)) (v : Vec ℕ Global) → adjacency (vs ++ v ∷ []) ≡ adjacency vs ++ v.items ∷ []
 adjacency_push [] v = refl
 adjacency_push (w ∷ vs) v = ap (λ r. w.items ∷ r) (adjacency_push vs v)
-
--- ---- texts that are the same
-
-pub same_text : (x y : List ℕ) → is_text x y ≡ true → x ≡ y
-same_text x y h = (bytes_decides x y).0 h
 
 -- ---- numbers of names
 

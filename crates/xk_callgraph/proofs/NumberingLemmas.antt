@@ -1,8 +1,8 @@
 -- Numbers that fall along calls, and paths of calls.
-use Rattle.std.proofs.Common.{◌≡◌, ◌≢◌, ℕ, zero, suc, ◌+◌, ◌<◌, ◌≤◌, inl, inr, Bool, true, false, cond, nat_eq, Vec, List, [], ◌∷◌, ◌++◌, length, ◌-◌, replicate, set, get_or, slice_get, slice_index, Some, refl, sym, ap, ◌∙◌, subst, arith, get_or-set_other, get_or-set_same, ne_eqb, eq-eqb}
+use Rattle.std.proofs.Common.{◌≡◌, ◌≢◌, ℕ, zero, suc, ◌+◌, ◌<◌, ◌≤◌, inl, inr, Bool, true, false, cond, nat_eq, Vec, List, [], ◌∷◌, ◌++◌, length, set, get_or, slice_get, slice_index, Some, refl, sym, ap, ◌∙◌, subst, arith, get_or-set_other, get_or-set_same, ne_eqb, eq-eqb}
 use Rattle.std.proofs.lemmas.Bool.Decides.{eqb_tells}
 use Rattle.std.specs.declared.alloc.Global.{Global}
-use Rattle.xk_callgraph.specs.CallGraph.{adjacency, called_by, IsCall, Path, Reaches, AreReached, IsRecursive, IsNumbered, AtMost, Falls, zeros}
+use Rattle.xk_callgraph.specs.CallGraph.{adjacency, called_by, IsCall, Path, Reaches, IsRecursive, IsNumbered, AtMost, Falls, zeros}
 
 -- a row, as code reads it
 pub row_at : (vs : List (Vec ℕ Global)) (i : ℕ) (v : Vec ℕ Global) → i < length vs → v ≡ get_or vs i v → v.items ≡ called_by (adjacency vs) i

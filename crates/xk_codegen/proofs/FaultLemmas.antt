@@ -1,10 +1,11 @@
 -- Which fault a tree has.
-use Rattle.std.proofs.Common.{◌≡◌, ℕ, zero, suc, ◌+◌, ◌<◌, ◌≤◌, min, Bool, true, false, List, [], ◌∷◌, map, length, get_or, Option, Some, None, Err, Result, slice_get, option_map, refl, sym, ap, ◌∙◌, subst, arith}
+use Rattle.std.proofs.Common.{◌≡◌, ℕ, ◌+◌, ◌<◌, ◌≤◌, min, Bool, true, false, List, map, length, get_or, Option, Some, None, Err, Result, slice_get, option_map, refl, sym, ap, ◌∙◌, subst, arith}
 use Rattle.std.specs.Option.{option_map_or}
 use Rattle.std.proofs.Math.Dec.{ltb}
 use Rattle.std.proofs.lemmas.Bool.{ltb-true, ltb-false}
 use Rattle.std.proofs.lemmas.List.{length-map}
 use Rattle.std.proofs.lemmas.Option.{slice_get-map, slice_get_past, slice_get_read, slice_get_within}
+use Rattle.xk_types.proofs.ListLemmas.{get_inside}
 use Rattle.xk_tree.specs.declared.fault.FrontRule.TheVariants as rule
 use Rattle.xk_tree.specs.declared.fault.FrontFault.{FrontFault}
 use Rattle.xk_tree.specs.declared.fault.FrontError.{FrontError}
@@ -56,18 +57,13 @@ many_units cx ps at e names = go (slice_get (map part ps) 1024) refl e
     go None is h = absurd cc
     go (Some p) is h = let same : offset p ≡ at = cc in (p, Beyond is, sym same)
 
-there_is : {A : Type 0} (xs : List A) (k : ℕ) → k < length xs → (x : A) × (slice_get xs k ≡ Some x)
-there_is [] k h = absurd (omega arith)
-there_is (x ∷ xs) zero h = (x, refl)
-there_is (x ∷ xs) (suc k) h = there_is xs k (omega arith)
-
 pub few_units : (ps : List declared.Part) → option_map offset (slice_get (map part ps) 1024) ≡ None → length ps ≤ 1024
 few_units ps e = go (ltb 1024 (length (map part ps))) refl
   where
     go : (b : Bool) → ltb 1024 (length (map part ps)) ≡ b → length ps ≤ 1024
     go false h = let few = ltb-false 1024 (length (map part ps)) h in let same = length-map ps part in omega arith
     go true h =
-        let p = there_is (map part ps) 1024 (ltb-true 1024 (length (map part ps)) h) in
+        let p = get_inside (map part ps) 1024 (ltb-true 1024 (length (map part ps)) h) in
         let never : Some (offset p.0) ≡ None = ap (option_map offset) (sym p.1) ∙ e in
         absurd cc
 

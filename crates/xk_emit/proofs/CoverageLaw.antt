@@ -1,15 +1,17 @@
 -- In a tree without faults of names, code has all names that it needs: that of a method, and that of each body of `async` which it leads to.
 use Rattle.std.proofs.Common.{◌≡◌, ◌⊎◌, inl, inr, ℕ, Bool, true, false, cond, ◌||◌, List, [], ◌∷◌, ◌++◌, map, length, Some, refl, sym, ap, ◌∙◌, subst, arith}
 use Rattle.std.specs.Prelude.{is_some}
-use Rattle.xk_types.specs.declared.unit.ParamKind.{ParamKind}
-use Rattle.xk_types.specs.declared.unit.ParamKind.TheVariants as param
+use Rattle.std.proofs.lemmas.Bool.{or_cases}
+use Rattle.std.proofs.Math.Bool.{or-true}
+use Rattle.xk_names.proofs.FreeUseLemmas.{param_plain}
+use Rattle.xk_names.proofs.TableLemmas.{none_there}
 use Rattle.xk_tree.specs.declared.fault.FrontRule.TheVariants as rule
 use Rattle.xk_tree.specs.declared.fault.FrontFault.{FrontFault}
 use Rattle.xk_tree.specs.Tree.{Block, ParamValue, MethodValue, SharedValue, TreeValue}
 use Rattle.xk_names.specs.declared.binding.Known.{Known}
 use Rattle.xk_names.specs.Scope.{Table, find, has, is_text, texts, Has, Declaration, entries, is_shared}
 use Rattle.xk_names.specs.Uses.{signatures}
-use Rattle.xk_names.specs.Faults.{fault, shared_declaration, param_declaration, param_kind, RepeatsName}
+use Rattle.xk_names.specs.Faults.{fault, shared_declaration, param_declaration, RepeatsName}
 use Rattle.xk_names.specs.WellScoped.{IsScoped, method_scope}
 use Rattle.xk_names.specs.Captures.{outer_among, shared_texts}
 use Rattle.xk_names.proofs.TreeFaultLemmas.{names_found}
@@ -18,7 +20,7 @@ use Rattle.xk_emit.specs.CodeOf.{Setting, body_params}
 use Rattle.xk_emit.specs.Unit.{scope_from, names_of_params}
 use Rattle.xk_emit.specs.NameCoverage.{IsFound, IsUnitCovered}
 use Rattle.xk_emit.specs.CodeReferences.{AsyncBody, bodies_in_all, IsSettingFor}
-use Rattle.xk_emit.proofs.CoverageLemmas.TableLemmas.{Differ, differ_new, none_new, one_of, or_right, param_found}
+use Rattle.xk_emit.proofs.CoverageLemmas.TableLemmas.{Differ, differ_new, param_found}
 use Rattle.xk_emit.proofs.CoverageLemmas.ScopeSlotLemmas.{Texts, Fits, is_known_shared}
 use Rattle.xk_emit.proofs.CoverageLemmas.StatementLemmas.{IsTaken, AreBodiesCovered, all_covered}
 
@@ -30,17 +32,13 @@ before ss ps = map shared_declaration ss ++ map param_declaration ps
 abbrev names_before : List SharedValue → List ParamValue → Texts
 names_before ss ps = texts (map (λ d. d.name) (before ss ps))
 
-plain_param : (k : ParamKind) → is_shared (param_kind k) ≡ false
-plain_param param.Number = refl
-plain_param param.Clock = refl
-
 kinds_params : (ps : List ParamValue) (x : List ℕ) → is_known_shared (find (entries (map param_declaration ps)) x) ≡ false
 kinds_params [] x = refl
 kinds_params (p ∷ ps) x = go (is_text x p.name.text) (kinds_params ps x)
   where
     go : (b : Bool) → is_known_shared (find (entries (map param_declaration ps)) x) ≡ false
         → is_known_shared (cond b (Some (param_declaration p).known) (find (entries (map param_declaration ps)) x)) ≡ false
-    go true h = plain_param p.takes.kind
+    go true h = param_plain p.takes.kind
     go false h = h
 
 kinds_before : (ss : List SharedValue) (ps : List ParamValue) (x : List ℕ) → is_known_shared (find (entries (before ss ps)) x) ≡ has (shared_texts ss) x
@@ -89,7 +87,7 @@ pub fits_method : (t : TreeValue) (m : MethodValue)
     → Fits (shared_texts t.shared) (method_scope t m) (scope_from 0 (names_of_params m.params)) (names_before t.shared m.params)
 fits_method t m = record {
   kinds = kinds_before t.shared m.params;
-  fresh = λ x e. none_new (find slots x) (param_found 0 (names_of_params m.params) x ∙ unseen x (has (names_of_params m.params) x) refl
+  fresh = λ x e. none_there (find slots x) (param_found 0 (names_of_params m.params) x ∙ unseen x (has (names_of_params m.params) x) refl
       (sym (names_found (before t.shared m.params) x) ∙ ap is_some e));
   kept = λ x h. named_before t.shared m.params x ∙ ap (λ b. b || has (names_of_params m.params) x) h;
   slots = λ x h. with_slot x h;
@@ -106,12 +104,12 @@ fits_method t m = record {
     unseen : (x : List ℕ) (b : Bool) → has (names_of_params m.params) x ≡ b → has (names_before t.shared m.params) x ≡ false → b ≡ false
     unseen x false e h = refl
     unseen x true e h =
-        let never : true ≡ false = sym (or_right (has (shared_texts t.shared) x)) ∙ ap (λ c. has (shared_texts t.shared) x || c) (sym e)
+        let never : true ≡ false = sym (or-true (has (shared_texts t.shared) x)) ∙ ap (λ c. has (shared_texts t.shared) x || c) (sym e)
         ∙ sym (named_before t.shared m.params x) ∙ h in
         absurd cc
 
     with_slot : (x : List ℕ) → has (names_before t.shared m.params) x ≡ true → (has (shared_texts t.shared) x ≡ true) ⊎ IsFound slots x
-    with_slot x h = elim (one_of (has (shared_texts t.shared) x) (has (names_of_params m.params) x) (sym (named_before t.shared m.params x) ∙ h)) [
+    with_slot x h = elim (or_cases (has (shared_texts t.shared) x) (has (names_of_params m.params) x) (sym (named_before t.shared m.params x) ∙ h)) [
       | inl s ↦ inl s
       | inr p ↦ inr (param_found 0 (names_of_params m.params) x ∙ p)
     ]

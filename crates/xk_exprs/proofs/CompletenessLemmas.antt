@@ -2,6 +2,7 @@
 use Rattle.std.proofs.Common.{◌≡◌, ℕ, zero, suc, ◌+◌, ◌-◌, ◌<◌, ◌≤◌, ◌==◌, true, false, List, [], ◌∷◌, ◌++◌, Option, Some, None, refl, sym, ap, ◌∙◌, append_assoc, arith, inl, inr}
 use Rattle.std.proofs.lemmas.Bool.{eq-eqb, ne_eqb, cases_lt}
 use Rattle.std.specs.Prelude.{unsigned_abs, IsSome}
+use Rattle.std.proofs.lemmas.Option.{same_Some}
 use Rattle.xk_lexer.specs.declared.token.Sign.TheVariants as sign
 use Rattle.xk_tree.specs.declared.tree.Operator.{Operator as Op}
 use Rattle.xk_tree.specs.declared.tree.Operator.TheVariants as operator
@@ -14,7 +15,7 @@ use Rattle.xk_exprs.specs.ExprReaders.{Read, operator_at, another, chain_at, ter
 use Rattle.xk_exprs.specs.Laws.{ExpressionAgain, ExpressionOnce, TermAgain}
 use Rattle.xk_exprs.proofs.LoopLemmas.{loop_goes, loop_stops}
 use Rattle.xk_exprs.proofs.NumberLemmas.{literal_again}
-use Rattle.xk_exprs.proofs.SoundnessLemmas.{some_is, Sound, another_shrinks, terms_sound, factor_sound}
+use Rattle.xk_exprs.proofs.SoundnessLemmas.{Sound, another_shrinks, terms_sound, factor_sound}
 
 -- each operator binds
 binds_some : (o : Op) → 0 < binds o
@@ -184,7 +185,7 @@ pub expression_once : ExpressionOnce
 expression_once left ts e f s t =
     let a = expression_again left ts e [] s tt in
     let b = expression_again left ts f [] t tt in
-    ap (λ (x : Expression × List Mark). x.0) (some_is (e, []) (f, []) (sym a ∙ b))
+    ap (λ (x : Expression × List Mark). x.0) (same_Some (e, []) (f, []) (sym a ∙ b))
 
 pub term_again : TermAgain
 unfolding whole_term_at

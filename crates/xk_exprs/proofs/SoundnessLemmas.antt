@@ -2,6 +2,7 @@
 use Rattle.std.proofs.Common.{◌≡◌, ℕ, zero, suc, ◌+◌, ◌-◌, ◌<◌, ◌≤◌, ◌==◌, Bool, true, false, cond, List, [], ◌∷◌, ◌++◌, length, Option, Some, None, refl, sym, ap, subst, ◌∙◌, append_assoc, length-append, arith, rules}
 use Rattle.std.proofs.lemmas.Bool.{eqb-true, eqb-false}
 use Rattle.std.specs.Prelude.{unsigned_abs, IsSome}
+use Rattle.std.proofs.lemmas.Option.{same_Some}
 use Rattle.xk_lexer.specs.declared.token.Sign.TheVariants as sign
 use Rattle.xk_tree.specs.declared.tree.Operator.{Operator as Op}
 use Rattle.xk_tree.specs.declared.tree.Operator.TheVariants as operator
@@ -133,9 +134,6 @@ is_negatable (Paren at e) rest h = tt
 is_negatable (Negation at e) rest h = tt
 is_negatable (Binary o l at r) rest h = tt
 
-pub some_is : {A : Type 0} (x y : A) → Some x ≡ Some y → x ≡ y
-some_is x y e = cc
-
 took_leaf : (d ops : ℕ) (ts rest : List Mark) (e : Expression) (x : (Expression × ℕ) × List Mark) → ts ≡ spell e ++ rest → IsGrouped e → level e ≡ 0
     → depth e ≡ 0 → operators e ≡ 0 → ((e, ops), rest) ≡ x → Took 0 d ops ts x
 took_leaf d ops ts rest e x p g l h o q =
@@ -149,7 +147,7 @@ number_took d ops m at n ts rest x p e =
     let b = bind_some (literal m at n) (λ r. Some (r, rest)) a.0 a.1 in
     let f = literal_found m at n b.0 b.1 in
     let q : (b.0, rest) ≡ a.0 = cc in
-    let same : ((Literal b.0, ops), rest) ≡ x = ap (λ (z : number.Number × List Mark). ((Literal z.0, ops), z.1)) q ∙ some_is _ _ a.2 in
+    let same : ((Literal b.0, ops), rest) ≡ x = ap (λ (z : number.Number × List Mark). ((Literal z.0, ops), z.1)) q ∙ same_Some _ _ a.2 in
     took_leaf d ops ts rest (Literal b.0) x (p ∙ ap (λ (z : List Mark). z ++ rest) (sym f.marks)) f.is_number refl refl refl same
 
 minus_took : (d at ops : ℕ) (ts : List Mark) (n : (ℕ × ℕ) × List Mark) (x : (Expression × ℕ) × List Mark) → digits_at ts ≡ Some n
@@ -182,7 +180,7 @@ negation_took d at ops ts x ih h e =
       depth_le = omega arith;
       counted = omega arith;
     } in
-    subst (λ (z : (Expression × ℕ) × List Mark). Took 0 (suc d) ops (Operator at operator.Minus ∷ ts) z) (some_is made x a.2) took
+    subst (λ (z : (Expression × ℕ) × List Mark). Took 0 (suc d) ops (Operator at operator.Minus ∷ ts) z) (same_Some made x a.2) took
 
 pub factor_sound : (d : ℕ) → Sound 0 d (factor_at d)
 unfolding factor_at
@@ -190,7 +188,7 @@ factor_sound d ops [] x e = absurd cc
 factor_sound d ops (Number at n ∷ ts) x e = number_took d ops None at n (Number at n ∷ ts) ts x refl e
 factor_sound d ops (Name at text ∷ ts) x e =
     let w : Word = record { at = at; text = text } in
-    took_leaf d ops (Name at text ∷ ts) ts (Named w) x refl tt refl refl refl (some_is _ _ e)
+    took_leaf d ops (Name at text ∷ ts) ts (Named w) x refl tt refl refl refl (same_Some _ _ e)
 factor_sound zero ops (Open at ∷ ts) x e = absurd cc
 factor_sound (suc d) ops (Open at ∷ ts) x e =
     let a = bind_some (sums (factor_at d) ops ts) (λ inner. close_at inner.1 >>= λ rest. Some ((Paren at inner.0.0, inner.0.1), rest)) x e in
@@ -203,7 +201,7 @@ factor_sound (suc d) ops (Open at ∷ ts) x e =
     let h3 = t.depth_le in
     let h5 = t.counted in
     let took : Took 0 (suc d) ops (Open at ∷ ts) made = record { parts = whole; grouped = t.grouped; level_le = omega arith; depth_le = omega arith; counted = omega arith } in
-    subst (λ (z : (Expression × ℕ) × List Mark). Took 0 (suc d) ops (Open at ∷ ts) z) (some_is made x b.2) took
+    subst (λ (z : (Expression × ℕ) × List Mark). Took 0 (suc d) ops (Open at ∷ ts) z) (same_Some made x b.2) took
 factor_sound d ops (Operator at operator.Plus ∷ ts) x e = absurd cc
 factor_sound d ops (Operator at operator.Times ∷ ts) x e = absurd cc
 factor_sound zero ops (Operator at operator.Minus ∷ ts) x e = by (digits_at ts) refl e

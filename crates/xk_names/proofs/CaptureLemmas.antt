@@ -22,7 +22,7 @@ put_both a b same ws x = put_texts_same a b ws same x ∙ sym (put_texts_same b 
 behind_both : (a b : List (List ℕ)) → HasSame a b → (s : Statement) → HasSame (own_behind a s) (own_behind b s)
 behind_both a b same s = put_both a b same (map (λ d. d.name) (behind 0 s))
 
-append_both : (ws xs ys zs : List Word) → ws ≡ xs → ys ≡ zs → ws ++ ys ≡ xs ++ zs
+pub append_both : (ws xs ys zs : List Word) → ws ≡ xs → ys ≡ zs → ws ++ ys ≡ xs ++ zs
 append_both ws xs ys zs e f = ap (λ k. k ++ ys) e ∙ ap (λ k. xs ++ k) f
 
 mutual

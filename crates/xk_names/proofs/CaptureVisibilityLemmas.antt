@@ -2,6 +2,8 @@
 -- and isn't declared between.
 use Rattle.std.proofs.Common.{◌≡◌, ◌⊎◌, inl, inr, ℕ, Bool, true, false, cond, ◌||◌, List, [], ◌∷◌, ◌++◌, length, Option, Some, None, refl, sym, ap, ◌∙◌, subst, append_assoc, append-nil}
 use Rattle.std.specs.List.{flat_map}
+use Rattle.std.proofs.Math.Bool.{or-true}
+use Rattle.std.proofs.lemmas.Bool.{or_parts, or_cases}
 use Rattle.xk_types.specs.declared.unit.ParamKind.TheVariants as param
 use Rattle.xk_tree.specs.declared.tree.Number.{Number}
 use Rattle.xk_tree.specs.Tree.{Word, Expression, Literal, Named, Paren, Negation, Binary, Source, Make, Value, Bound, UpTo, Least, Statement, Statements, Done, More, Block, Empty, Declare, Assign, Atomic, If, IfElse, For, Async, Finish, Call, Resume, Drop, AdvanceAll, Print}
@@ -139,16 +141,6 @@ used_numbers ms sc (AdvanceAll at v) sound w h = absurd h
 
 -- ---- those among them that aren't declared within
 
-neither : (a b : Bool) → (a || b) ≡ false → (a ≡ false) × (b ≡ false)
-neither false false h = (refl, refl)
-neither true b h = absurd cc
-neither false true h = absurd cc
-
-one_of : (a b : Bool) → (a || b) ≡ true → (a ≡ true) ⊎ (b ≡ true)
-one_of true b h = inl refl
-one_of false true h = inr refl
-one_of false false h = absurd cc
-
 from_besides : (own : List (List ℕ)) (ws : List Word) (w : Word) → Has (words_besides own ws) w → Has ws w × (has own w.text ≡ false)
 from_besides own [] w h = absurd h
 from_besides own (v ∷ ws) w h = go (has own v.text) refl (from_besides own ws w) h
@@ -182,7 +174,7 @@ or_none (Some j) a = refl
 since_put : (names : Table Known) (before : List (List ℕ)) (there : Table Known) (own : List (List ℕ)) (d : Declaration) → IsSince names before there own
     → IsSince names before (there ++ entry d ∷ []) (put_text own d.name.text)
 since_put names before there own d since x h =
-    let apart = neither (has own x) (is_text x d.name.text) (sym (has_put own d.name.text x) ∙ h) in
+    let apart = or_parts (has own x) (is_text x d.name.text) (sym (has_put own d.name.text x) ∙ h) in
     let was = since x apart.0 in
     (was.0, find_behind there d.name.text d.known x ∙ ap (λ b. or_entry (find there x) b d.known) apart.1 ∙ or_none (find there x) d.known ∙ was.1)
 
@@ -275,17 +267,13 @@ abbrev HasNoMore : List (List ℕ) → List (List ℕ) → List (List ℕ) → T
 HasNoMore these a b = (x : List ℕ) → has b x ≡ true → (has a x ≡ true) ⊎ (has these x ≡ true)
 
 more_put : (these a b : List (List ℕ)) (y : List ℕ) → HasNoMore these a b → HasNoMore these (put_text a y) (put_text b y)
-more_put these a b y fewer x h = elim (one_of (has b x) (is_text x y) (sym (has_put b y x) ∙ h)) [
+more_put these a b y fewer x h = elim (or_cases (has b x) (is_text x y) (sym (has_put b y x) ∙ h)) [
   | inl e ↦ elim (fewer x e) [
     | inl f ↦ inl (has_put a y x ∙ ap (λ c. c || is_text x y) f)
     | inr f ↦ inr f
   ]
-  | inr e ↦ inl (has_put a y x ∙ ap (λ c. has a x || c) e ∙ or_true (has a x))
+  | inr e ↦ inl (has_put a y x ∙ ap (λ c. has a x || c) e ∙ or-true (has a x))
 ]
-  where
-    or_true : (c : Bool) → (c || true) ≡ true
-    or_true true = refl
-    or_true false = refl
 
 more_puts : (these a b : List (List ℕ)) (ws : List Word) → HasNoMore these a b → HasNoMore these (put_texts a ws) (put_texts b ws)
 more_puts these a b [] fewer = fewer

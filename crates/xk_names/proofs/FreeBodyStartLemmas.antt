@@ -1,24 +1,20 @@
 -- Where a body of `async` begins, what is found by a name of a shared number is shared, and all else is from as many bodies at most.
 use Rattle.std.proofs.Common.{◌≡◌, ℕ, suc, nat_lt, ◌≤◌, Bool, true, false, cond, ◌||◌, List, [], ◌∷◌, ◌++◌, map, length, Option, Some, None, refl, sym, ◌∙◌, subst, append-nil, arith}
 use Rattle.std.proofs.lemmas.Bool.{le-ltb}
-use Rattle.xk_types.specs.declared.unit.ParamKind.{ParamKind}
-use Rattle.xk_types.specs.declared.unit.ParamKind.TheVariants as param
-use Rattle.xk_tree.specs.Tree.{Word, Source, Make, Value, Bound, UpTo, Least, Statement, Statements, More, Block, Declare, If, IfElse, For, Async, Finish, SharedValue, ParamValue, MethodValue, TreeValue}
+use Rattle.xk_tree.specs.Tree.{Word, Bound, UpTo, Least, Statement, Statements, More, Block, Declare, If, IfElse, For, Async, Finish, SharedValue, ParamValue, MethodValue, TreeValue}
 use Rattle.xk_tree.specs.declared.tree.Number.{Number}
-use Rattle.xk_tree.specs.declared.tree.Binding.{Binding}
-use Rattle.xk_tree.specs.declared.tree.Binding.TheVariants as binding
 use Rattle.xk_names.specs.declared.binding.Known.{Known}
 use Rattle.xk_names.specs.declared.binding.NameKind.{NameKind}
 use Rattle.xk_names.specs.declared.binding.NameKind.TheVariants as kind
 use Rattle.xk_names.specs.Scope.{Table, find, has, is_text, Declaration, known, entry, entries, Scope, is_shared}
-use Rattle.xk_names.specs.Uses.{kind_of, declares, clocks_listed}
+use Rattle.xk_names.specs.Uses.{declares, clocks_listed}
 use Rattle.xk_names.specs.Places.{Way, Here, First, Later, Inside, Else, behind}
-use Rattle.xk_names.specs.Faults.{shared_declaration, param_kind, param_declaration}
+use Rattle.xk_names.specs.Faults.{shared_declaration, param_declaration}
 use Rattle.xk_names.specs.WellScoped.{with_all, with_body, method_scope}
 use Rattle.xk_names.specs.Captures.{shared_texts}
 use Rattle.xk_names.proofs.TableAgreementLemmas.{or_entry, find_behind, append_step}
 use Rattle.xk_names.proofs.MethodFaultLemmas.{scope_at, scope_among, append_entries}
-use Rattle.xk_names.proofs.FreeUseLemmas.{is_inner_kind, Tells, IsTold}
+use Rattle.xk_names.proofs.FreeUseLemmas.{is_inner_kind, Tells, IsTold, kind_plain, param_plain}
 
 -- what a name is found as: a shared number just if it is on the list, and from at most so many bodies
 abbrev Covers : ℕ → Bool → Option Known → Type 0
@@ -63,12 +59,6 @@ covered_body shared sc cs covered x = go (find sc.names x) (covered x)
     go None h = h
     go (Some k) h = (h.0, let le : k.depth ≤ length sc.bodies = h.1 in omega (arith, le))
 
-kind_plain : (b : Binding) (r : Source) → is_shared (kind_of b r) ≡ false
-kind_plain b (Make at v) = refl
-kind_plain binding.Val (Value e) = refl
-kind_plain binding.Var (Value e) = refl
-kind_plain binding.Hidden (Value e) = refl
-
 behind_plain : (n : ℕ) (s : Statement) → ArePlain n (behind n s)
 behind_plain n (Declare b x ty r) = ((kind_plain b r, omega arith), tt)
 behind_plain n _ = tt
@@ -108,10 +98,6 @@ covered_shared (s ∷ xs) x = go (is_text x s.name.text) (covered_shared xs x)
         → Covers 0 (b || has (shared_texts xs) x) (cond b (Some (known kind.Shared 0)) (find (entries (map shared_declaration xs)) x))
     go true h = (refl, omega arith)
     go false h = h
-
-param_plain : (k : ParamKind) → is_shared (param_kind k) ≡ false
-param_plain param.Number = refl
-param_plain param.Clock = refl
 
 params_plain : (ps : List ParamValue) → ArePlain 0 (map param_declaration ps)
 params_plain [] = tt

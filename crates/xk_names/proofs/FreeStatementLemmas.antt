@@ -3,10 +3,10 @@ use Rattle.std.proofs.Common.{◌≡◌, inl, inr, ℕ, nat_lt, ◌<◌, Bool, t
 use Rattle.std.proofs.lemmas.Bool.{lt-ltb}
 use Rattle.std.specs.Cmp.Lexicographic.{bytes_decides}
 use Rattle.std.proofs.lemmas.Option.{none-some}
+use Rattle.std.proofs.Math.Bool.{or-true, or-false}
+use Rattle.xk_names.proofs.CaptureLemmas.{append_both}
 use Rattle.xk_tree.specs.declared.tree.Number.{Number}
-use Rattle.xk_tree.specs.Tree.{Word, Source, Make, Value, Bound, UpTo, Least, Statement, Statements, Done, More, Block, Declare, If, IfElse, For, Async, Finish}
-use Rattle.xk_tree.specs.declared.tree.Binding.{Binding}
-use Rattle.xk_tree.specs.declared.tree.Binding.TheVariants as binding
+use Rattle.xk_tree.specs.Tree.{Word, Bound, UpTo, Least, Statement, Statements, Done, More, Block, Declare, If, IfElse, For, Async, Finish}
 use Rattle.xk_names.specs.declared.binding.Known.{Known}
 use Rattle.xk_names.specs.declared.binding.NameKind.{NameKind}
 use Rattle.xk_names.specs.declared.binding.NameKind.TheVariants as kind
@@ -16,8 +16,8 @@ use Rattle.xk_names.specs.Places.{behind}
 use Rattle.xk_names.specs.WellScoped.{IsSound, IsSoundInside, AreSound, with_all, with_body}
 use Rattle.xk_names.specs.FaultList.{put_text, put_texts}
 use Rattle.xk_names.specs.Captures.{loop_words, words_used, words_besides, own_behind, outer_inside, outer_among, outer_words}
-use Rattle.xk_names.proofs.TableAgreementLemmas.{or_entry, find_behind, or_false, has_put}
-use Rattle.xk_names.proofs.FreeUseLemmas.{is_inner_kind, Tells, IsTold, free_of, used_alike}
+use Rattle.xk_names.proofs.TableAgreementLemmas.{or_entry, find_behind, has_put}
+use Rattle.xk_names.proofs.FreeUseLemmas.{is_inner_kind, Tells, IsTold, free_of, used_alike, kind_plain}
 
 -- the same by places: what a statement itself uses, and then what those use that it holds
 abbrev mutual
@@ -53,10 +53,6 @@ deeper_inner n k kind.Var h deep = lt-ltb n k.depth deep
 deeper_inner n k kind.Clock h deep = lt-ltb n k.depth deep
 deeper_inner n k kind.Shared h deep = absurd cc
 
-or_true : (b : Bool) → (b || true) ≡ true
-or_true true = refl
-or_true false = refl
-
 tells_put : (n : ℕ) (names : Table Known) (own : List (List ℕ)) (y : List ℕ) (k : Known) → ((x : List ℕ) → Tells n (has own x) (find names x))
     → find names y ≡ None → IsDeeper n k → (x : List ℕ) → Tells n (has (put_text own y) x) (find (names ++ (y, k) ∷ []) x)
 tells_put n names own y k tells new deep x =
@@ -65,9 +61,9 @@ tells_put n names own y k tells new deep x =
     (go (find names x) refl (is_text x y) refl (tells x)))
   where
     go : (o : Option Known) → find names x ≡ o → (b : Bool) → is_text x y ≡ b → Tells n (has own x) o → Tells n (has own x || b) (or_entry o b k)
-    go None e true i t = or_true (has own x) ∙ sym (deeper_inner n k k.kind deep.0 deep.1)
+    go None e true i t = or-true (has own x) ∙ sym (deeper_inner n k k.kind deep.0 deep.1)
     go None e false i t = tt
-    go (Some j) e false i t = or_false (has own x) ∙ t
+    go (Some j) e false i t = or-false (has own x) ∙ t
     go (Some j) e true i t = absurd (none-some j (sym new ∙ ap (find names) (sym ((bytes_decides x y).0 i)) ∙ e))
 
 told_put : (n : ℕ) (sc : Scope) (own : List (List ℕ)) (d : Declaration) → IsTold n sc own → find sc.names d.name.text ≡ None → IsDeeper n d.known
@@ -80,12 +76,6 @@ told_more n sc own d e told = record {
   deeper = told.deeper;
 }
 
-kind_not : (b : Binding) (r : Source) → is_shared (kind_of b r) ≡ false
-kind_not b (Make at v) = refl
-kind_not binding.Val (Value e) = refl
-kind_not binding.Var (Value e) = refl
-kind_not binding.Hidden (Value e) = refl
-
 told_same : (n : ℕ) (sc : Scope) (own : List (List ℕ)) → IsTold n sc own → IsTold n (with_all sc []) own
 told_same n sc own told = record {
   tells = subst (λ (k : Table Known). (x : List ℕ) → Tells n (has own x) (find k x)) (sym (append-nil sc.names)) told.tells;
@@ -96,7 +86,7 @@ told_behind : (ms : Signatures) (n : ℕ) (sc : Scope) (own : List (List ℕ)) (
     → IsTold n (with_all sc (behind (length sc.bodies) s)) (own_behind own s)
 told_behind ms n sc own (Declare b x ty r) told sound =
     let d = declared x (kind_of b r) (length sc.bodies) in
-    told_put n sc own d told (sound.new d (inl refl)) (kind_not b r, told.deeper)
+    told_put n sc own d told (sound.new d (inl refl)) (kind_plain b r, told.deeper)
 told_behind ms n sc own _ told sound = told_same n sc own told
 
 told_loop : (ms : Signatures) (n : ℕ) (sc : Scope) (own : List (List ℕ)) (at : ℕ) (i : Word) (lo : Number) (b : Bound) (s : Statement) → IsTold n sc own
@@ -120,13 +110,10 @@ told_body n sc own cs told = record { tells = told.tells; deeper = let d = told.
 
 -- ---- both tell the same
 
-joined : (ws xs ys zs : List Word) → ws ≡ xs → ys ≡ zs → ws ++ ys ≡ xs ++ zs
-joined ws xs ys zs e f = ap (λ k. k ++ ys) e ∙ ap (λ k. xs ++ k) f
-
 one_same : (ms : Signatures) (n : ℕ) (sc : Scope) (own : List (List ℕ)) (s : Statement) → IsTold n sc own → IsSound ms sc s
     → outer_inside ms own s ≡ free_inside ms n sc s → outer_words ms own s ≡ free_words ms n sc s
 one_same ms n sc own s told sound inner =
-    joined (words_besides own (words_used ms s)) (free_of n sc.names (uses ms sc.names s)) (outer_inside ms own s) (free_inside ms n sc s)
+    append_both (words_besides own (words_used ms s)) (free_of n sc.names (uses ms sc.names s)) (outer_inside ms own s) (free_inside ms n sc s)
     (used_alike n sc own told ms s sound) inner
 
 mutual
@@ -135,7 +122,7 @@ mutual
   inside_same ms n sc own (Block close ss) told sound inner = among_same ms n sc own ss told inner
   inside_same ms n sc own (If at l c r s) told sound inner = one_same ms n sc own s told inner.0 (inside_same ms n sc own s told inner.0 inner.1)
   inside_same ms n sc own (IfElse at l c r s t) told sound inner =
-      joined (outer_words ms own s) (free_words ms n sc s) (outer_words ms own t) (free_words ms n sc t)
+      append_both (outer_words ms own s) (free_words ms n sc s) (outer_words ms own t) (free_words ms n sc t)
       (one_same ms n sc own s told inner.0.0 (inside_same ms n sc own s told inner.0.0 inner.0.1))
       (one_same ms n sc own t told inner.1.0 (inside_same ms n sc own t told inner.1.0 inner.1.1))
   inside_same ms n sc own (For at i lo b s) told sound inner =
@@ -155,7 +142,7 @@ mutual
   among_same ms n sc own Done told sound = refl
   among_same ms n sc own (More s ss) told sound =
       let there = with_all sc (behind (length sc.bodies) s) in
-      joined (outer_words ms own s) (free_words ms n sc s) (outer_among ms (own_behind own s) ss) (free_among ms n there ss)
+      append_both (outer_words ms own s) (free_words ms n sc s) (outer_among ms (own_behind own s) ss) (free_among ms n there ss)
       (one_same ms n sc own s told sound.0.0 (inside_same ms n sc own s told sound.0.0 sound.0.1))
       (among_same ms n there (own_behind own s) ss (told_behind ms n sc own s told sound.0.0) sound.1)
 

@@ -2,7 +2,10 @@
 use Rattle.std.proofs.Common.{◌≡◌, inl, inr, ℕ, nat_lt, not, ◌<◌, Bool, true, false, cond, List, [], ◌∷◌, ◌++◌, map, length, Option, Some, None, refl, sym, ap, ◌∙◌, subst, append_assoc, eqb-true}
 use Rattle.std.proofs.lemmas.Bool.{lt-ltb}
 use Rattle.std.specs.List.{flat_map}
+use Rattle.xk_types.specs.declared.unit.ParamKind.{ParamKind}
 use Rattle.xk_types.specs.declared.unit.ParamKind.TheVariants as param
+use Rattle.xk_tree.specs.declared.tree.Binding.{Binding}
+use Rattle.xk_tree.specs.declared.tree.Binding.TheVariants as binding
 use Rattle.xk_tree.specs.Tree.{Word, Expression, Literal, Named, Paren, Negation, Binary, Source, Make, Value, Bound, UpTo, Least, Statement, Block, Empty, Declare, Assign, Atomic, If, IfElse, For, Async, Finish, Call, Resume, Drop, AdvanceAll, Print}
 use Rattle.xk_names.specs.declared.binding.Known.{Known}
 use Rattle.xk_names.specs.declared.binding.NameKind.{NameKind}
@@ -10,7 +13,8 @@ use Rattle.xk_names.specs.declared.binding.NameKind.TheVariants as kind
 use Rattle.xk_names.specs.declared.binding.Want.{Want}
 use Rattle.xk_names.specs.declared.binding.Want.TheVariants as want
 use Rattle.xk_names.specs.Scope.{Table, find, has, Has, Scope, sees_as, is_clock, is_shared}
-use Rattle.xk_names.specs.Uses.{Use, use_as, Signatures, numbers, values, start_of, argument_uses, argument_misfits, Given, given_to, source_uses, bound_uses, assigned_uses, is_var, uses, clocks_listed}
+use Rattle.xk_names.specs.Uses.{Use, use_as, Signatures, numbers, values, start_of, argument_uses, argument_misfits, Given, given_to, source_uses, bound_uses, assigned_uses, is_var, uses, clocks_listed, kind_of}
+use Rattle.xk_names.specs.Faults.{param_kind}
 use Rattle.xk_names.specs.WellScoped.{IsRight, IsSound}
 use Rattle.xk_names.specs.Captures.{number_words, source_words, bound_words, words_used, words_besides}
 use Rattle.xk_names.proofs.MembershipLemmas.{has_left, has_right}
@@ -216,3 +220,15 @@ module _ (n : ℕ) (sc : Scope) (own : List (List ℕ)) (told : IsTold n sc own)
   used_alike ms (Resume c v) sound = clock_none n sc own c (sound.used (use_as want.Clock c) (inl refl))
   used_alike ms (Drop c v) sound = clock_none n sc own c (sound.used (use_as want.Clock c) (inl refl))
   used_alike ms (AdvanceAll at v) sound = refl
+
+-- ---- names that are no shared numbers
+
+pub kind_plain : (b : Binding) (r : Source) → is_shared (kind_of b r) ≡ false
+kind_plain b (Make at v) = refl
+kind_plain binding.Val (Value e) = refl
+kind_plain binding.Var (Value e) = refl
+kind_plain binding.Hidden (Value e) = refl
+
+pub param_plain : (k : ParamKind) → is_shared (param_kind k) ≡ false
+param_plain param.Number = refl
+param_plain param.Clock = refl

@@ -3,6 +3,7 @@ use Rattle.std.proofs.Common.{◌≡◌, ℕ, suc, Bool, true, false, cond, ◌|
 use Rattle.std.specs.Prelude.{is_some}
 use Rattle.std.specs.Cmp.Lexicographic.{bytes_decides}
 use Rattle.std.proofs.lemmas.Option.{none-some}
+use Rattle.std.proofs.Math.Bool.{or-false}
 use Rattle.xk_tree.specs.Tree.{Word, MethodValue}
 use Rattle.xk_names.specs.declared.binding.Known.{Known}
 use Rattle.xk_names.specs.Scope.{Table, find, has, is_text, Declaration, entry, entries, texts, Scope, is_given}
@@ -63,15 +64,14 @@ put_methods_same a b (m ∷ ms) same x =
 
 -- ---- texts
 
+pub same_text : (x y : List ℕ) → is_text x y ≡ true → x ≡ y
+same_text x y e = (bytes_decides x y).0 e
+
 abbrev pub HasSame : List (List ℕ) → List (List ℕ) → Type 0
 HasSame a b = (x : List ℕ) → has a x ≡ has b x
 
-pub or_false : (b : Bool) → (b || false) ≡ b
-or_false true = refl
-or_false false = refl
-
 pub has_behind : (ts : List (List ℕ)) (y x : List ℕ) → has (ts ++ y ∷ []) x ≡ (has ts x || is_text x y)
-has_behind [] y x = or_false (is_text x y)
+has_behind [] y x = or-false (is_text x y)
 has_behind (t ∷ ts) y x = go (is_text x t) (has_behind ts y x)
   where
     go : (b : Bool) → has (ts ++ y ∷ []) x ≡ (has ts x || is_text x y) → (b || has (ts ++ y ∷ []) x) ≡ ((b || has ts x) || is_text x y)

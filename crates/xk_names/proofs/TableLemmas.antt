@@ -11,6 +11,7 @@ use Rattle.std.proofs.lemmas.List.{length-map, length_push, take-append-le}
 use Rattle.std.proofs.lemmas.Option.{none-some, same_Some, slice_get_within, slice_get-map, slice_get_read}
 use Rattle.std.proofs.lemmas.Map.Text.{btree_map_updates_str}
 use Rattle.std.proofs.lemmas.Map.Entries.{place_from_lookup}
+use Rattle.xk_types.proofs.ListLemmas.{get_push}
 use Rattle.xk_names.specs.Scope.{Table, find, has, is_text}
 use Rattle.xk_names.specs.FaultList.{put, put_text}
 use Rattle.xk_names.specs.TablePlaces.{place, ArePlaces}
@@ -30,10 +31,6 @@ get_before : {A : Type 0} (xs : List A) (y : A) (i : ℕ) (e : A) → slice_get 
 get_before [] y i e h = absurd (none-some e h)
 get_before (x ∷ xs) y zero e h = h
 get_before (x ∷ xs) y (suc i) e h = get_before xs y i e h
-
-get_last : {A : Type 0} (xs : List A) (y : A) → slice_get (xs ++ y ∷ []) (length xs) ≡ Some y
-get_last [] y = refl
-get_last (x ∷ xs) y = get_last xs y
 
 get_either : {A : Type 0} (xs : List A) (y : A) (i : ℕ) (e : A) → slice_get (xs ++ y ∷ []) i ≡ Some e → (slice_get xs i ≡ Some e) ⊎ ((i ≡ length xs) × (e ≡ y))
 get_either [] y zero e h = inr (refl, sym (same_Some y e h))
@@ -75,7 +72,7 @@ placed_less {A} t x a old new is has = record { each = λ i e h. has e.0 ∙ eac
     each : (i : ℕ) (e : List ℕ × A) → slice_get t i ≡ Some e → (b : Bool) → is_text x e.0 ≡ b → cond b None (place old e.0) ≡ Some i
     each i e h false f = is.each i e (get_before t (x, a) i e h)
     each i e h true f =
-        let last : place old x ≡ Some (length t) = is.each (length t) (x, a) (get_last t (x, a)) in
+        let last : place old x ≡ Some (length t) = is.each (length t) (x, a) (get_push t (x, a)) in
         let same : length t ≡ i = same_Some (length t) i (sym last ∙ ap (place old) ((bytes_decides x e.0).0 f) ∙ is.each i e (get_before t (x, a) i e h)) in
         let within : i < length t = slice_get_within t i e h in
         let no : ⊥ = omega arith in absurd no
@@ -132,9 +129,9 @@ found_item {A} es places x i e is h r =
     let same : f.0 ≡ show e = same_Some f.0 (show e) (sym f.1 ∙ slice_get-map show es i ∙ ap (option_map show) read) in
     sym (f.2 ∙ ap (λ (d : List ℕ × A). Some d.1) same)
 
-is_none : {A : Type 0} (o : Option A) → is_some o ≡ false → o ≡ None
-is_none None h = refl
-is_none (Some v) h = cc
+pub none_there : {A : Type 0} (o : Option A) → is_some o ≡ false → o ≡ None
+none_there None h = refl
+none_there (Some v) h = cc
 
 is_there : {A : Type 0} (o : Option A) → o ≡ None → is_some o ≡ true → ⊥
 is_there None e h = cc
@@ -144,14 +141,14 @@ pub put_placed : {A : Type 0} (es more : List (Bor (List ℕ) × A)) (x : Bor (L
     → ArePlaces (shown es) old → is_some (place old x.now) ≡ false → n ≡ length es → Changes old new x.now (Some n) → more ≡ es ++ (x, a) ∷ [] → ArePlaces (shown more) new
 put_placed {A} es more x a n old new is none e changes grown =
     subst (λ (t : Table A). ArePlaces t new) (sym (ap shown grown ∙ append_shown es (x, a)))
-    (placed_more (shown es) x.now a old new is (is_none (place old x.now) none)
+    (placed_more (shown es) x.now a old new is (none_there (place old x.now) none)
     (λ q. btree_map_updates_str x.now old new (Some n) changes q
     ∙ ap (λ m. update is_text (place old) x.now (Some m) q) (e ∙ sym (length-map es (λ d. (d.0.now, d.1))))))
 
 pub put_shown : {A : Type 0} (es more : List (Bor (List ℕ) × A)) (x : Bor (List ℕ)) (a : A) (places : BTreeMap (Bor (List ℕ)) ℕ)
     → ArePlaces (shown es) places → is_some (place places x.now) ≡ false → more ≡ es ++ (x, a) ∷ [] → shown more ≡ put (shown es) x.now a
 put_shown {A} es more x a places is none grown =
-    let absent = not_found (shown es) places x.now is (is_none (place places x.now) none) in
+    let absent = not_found (shown es) places x.now is (none_there (place places x.now) none) in
     ap shown grown ∙ append_shown es (x, a) ∙ sym (ap (λ o. cond (is_some o) (shown es) (shown es ++ (x.now, a) ∷ [])) absent)
 
 pub pop_placed : {A : Type 0} (es less : List (Bor (List ℕ) × A)) (e : Bor (List ℕ) × A) (old new : BTreeMap (Bor (List ℕ)) ℕ)

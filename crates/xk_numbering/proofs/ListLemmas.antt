@@ -1,11 +1,9 @@
 -- Lists of parts to which one more is added, and what is left of lists.
-use Rattle.std.proofs.Common.{◌≡◌, ℕ, suc, ◌+◌, ◌<◌, List, [], ◌∷◌, ◌++◌, map, drop, length, get_or, slice_get, option_map, Vec, refl, sym, ap, ◌∙◌, drop-cons, add-one, append_assoc}
+use Rattle.std.proofs.Common.{◌≡◌, ℕ, suc, ◌+◌, ◌<◌, List, [], ◌∷◌, ◌++◌, map, drop, length, get_or, slice_get, option_map, refl, sym, ap, ◌∙◌, drop-cons, add-one, append_assoc}
 use Rattle.std.proofs.lemmas.Option.{slice_get-map, slice_get_read}
-use Rattle.std.specs.declared.alloc.Global.{Global}
 use Rattle.std.specs.Prelude.{Option, Some}
 use Rattle.xk_tree.specs.declared.tree.Method.{Method}
 use Rattle.xk_tree.specs.Tree.{method_value}
-use Rattle.xk_callgraph.specs.CallGraph.{adjacency}
 use Rattle.xk_semantics.specs.Parts.{Part as Value}
 use Rattle.xk_numbering.specs.declared.parts.Part.{Part}
 use Rattle.xk_numbering.specs.Views.{part}
@@ -13,10 +11,6 @@ use Rattle.xk_numbering.specs.Views.{part}
 pub part_push : (ps : List Part) (p : Part) → map part (ps ++ p ∷ []) ≡ map part ps ++ part p ∷ []
 part_push [] p = refl
 part_push (q ∷ ps) p = ap (λ r. part q ∷ r) (part_push ps p)
-
-pub adjacency_push : (vs : List (Vec ℕ Global)) (v : Vec ℕ Global) → adjacency (vs ++ v ∷ []) ≡ adjacency vs ++ v.items ∷ []
-adjacency_push [] v = refl
-adjacency_push (w ∷ vs) v = ap (λ r. w.items ∷ r) (adjacency_push vs v)
 
 -- the parts that are left begin with this one
 pub parts_left : (ps : List Part) (i : ℕ) (p : Part) (q : Value) → i < length ps → p ≡ get_or ps i p → part p ≡ q

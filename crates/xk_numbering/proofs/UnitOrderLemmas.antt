@@ -1,12 +1,12 @@
 -- Parts that are put in the order of what they run have units in this order.
 use Rattle.std.proofs.Common.{◌≡◌, ◌⊎◌, inl, inr, ℕ, suc, ◌<◌, List, [], ◌∷◌, map, length, Option, Some, None, slice_get, refl, sym, ap, ◌∙◌, subst, arith}
 use Rattle.std.specs.Prelude.{unwrap_or, codes}
-use Rattle.std.proofs.lemmas.Option.{slice_get_within}
+use Rattle.std.proofs.lemmas.Option.{slice_get_within, same_Some}
+use Rattle.xk_names.proofs.TableAgreementLemmas.{same_text}
 use Rattle.xk_callgraph.specs.CallGraph.{IsCall, Path, Reaches, AreWithin}
 use Rattle.xk_tree.specs.Tree.{TreeValue, MethodValue}
 use Rattle.xk_names.specs.Scope.{Has}
 use Rattle.xk_names.specs.WellScoped.{IsScoped}
-use Rattle.xk_callgraph.proofs.NameNumberLemmas.{same_text}
 use Rattle.xk_callgraph.proofs.CallPlaceLemmas.{has_at, place_of as place_among}
 use Rattle.xk_callgraph.proofs.CallGraphLemmas.{mapped_at, at_mapped, row_of, of_row}
 use Rattle.xk_semantics.specs.Parts.{Part, OfMethod, OfBody, Run, opening, parts, part_runs, place_of}
@@ -116,9 +116,6 @@ record IsPicked (t : TreeValue) (order : List ℕ) (us : List Part) : Type 0 whe
 same_part : (o : Option Part) (p q : Part) → o ≡ Some p → o ≡ Some q → p ≡ q
 same_part o p q e f = cc
 
-some_number : (i j : ℕ) → Some i ≡ Some j → i ≡ j
-some_number i j e = cc
-
 -- the unit of what is run
 same_unit : (t : TreeValue) (order : List ℕ) (us : List Part) → IsPicked t order us → (r : Run) (j b n : ℕ) → place_of (parts t) r ≡ Some j
     → slice_get order b ≡ Some j
@@ -128,7 +125,7 @@ same_unit t order us h r j b n place at fits =
     let f = is_first t h.scoped h.is_order.start q.number h.is_order.begins (h.is_order.reached n q.number q.at) in
     let g = fits_there (parts t) f.run q.number f.place in
     let same : g.part ≡ fits.part = same_part (slice_get (parts t) q.number) g.part fits.part g.stands q.is in
-    let i : q.number ≡ j = some_number q.number j
+    let i : q.number ≡ j = same_Some q.number j
     (sym f.place ∙ same_place (parts t) fits.part f.run r (subst (λ (p : Part). Fits p f.run) same g.fits) fits.fits ∙ place) in
     h.is_order.once n b q.number q.at (at ∙ ap Some (sym i))
 
@@ -163,7 +160,7 @@ stands_once t order us h a b p e d =
     let v = fits_there ps g.run r.number g.place in
     let fits = subst (λ (o : Part). Fits o f.run) (same_part (slice_get ps q.number) u.part p u.stands q.is) u.fits in
     let also = subst (λ (o : Part). Fits o g.run) (same_part (slice_get ps r.number) v.part p v.stands r.is) v.fits in
-    let i : q.number ≡ r.number = some_number q.number r.number (sym f.place ∙ same_place ps p f.run g.run fits also ∙ g.place) in
+    let i : q.number ≡ r.number = same_Some q.number r.number (sym f.place ∙ same_place ps p f.run g.run fits also ∙ g.place) in
     h.is_order.once a b q.number q.at (r.at ∙ ap Some (sym i))
 
 -- the first is `main`

@@ -1,5 +1,5 @@
 //! The numbering of units: which parts of a program have units, and in which order.
-#![tactic(auto, using(crate::proofs::ListLemmas::part_push, crate::proofs::ListLemmas::adjacency_push))]
+#![tactic(auto, using(crate::proofs::ListLemmas::part_push, xk_callgraph::proofs::NameNumberLemmas::adjacency_push))]
 
 mod part_graph;
 mod parts;

@@ -18,7 +18,7 @@ pub joined : {A B : Type 0} (xs us : List A) (ys vs : List B) → Same xs ys →
 joined xs us ys vs e f = omega (arith, length-append xs us, length-append ys vs, e, f)
 
 -- the same, where the second list's first part is written with its last element before the rest
-pub headed : {A B : Type 0} (xs us : List A) (ys : List B) (y : B) (vs : List B) → Same xs (ys ++ y ∷ []) → Same us vs → Same (xs ++ us) (ys ++ y ∷ vs)
+headed : {A B : Type 0} (xs us : List A) (ys : List B) (y : B) (vs : List B) → Same xs (ys ++ y ∷ []) → Same us vs → Same (xs ++ us) (ys ++ y ∷ vs)
 headed xs us ys y vs e f = omega (arith, length-append xs us, length-append ys (y ∷ vs), length-append ys (y ∷ []), e, f)
 
 -- both, or none

@@ -159,7 +159,7 @@ module _ (a b : List (List ℕ)) (same : (x : List ℕ) → has a x ≡ has b x)
     same_all Done = refl
     same_all (More s ss) = ap (λ k. k ++ offsets_all a ss) (same_offsets s) ∙ ap (λ k. offsets b s ++ k) (same_all ss)
 
-  pub same_part_offsets : (p : Part) → part_offsets a p ≡ part_offsets b p
+  same_part_offsets : (p : Part) → part_offsets a p ≡ part_offsets b p
   same_part_offsets (OfMethod m) = ap (λ k. k ++ m.close ∷ []) (same_all m.body)
   same_part_offsets (OfBody at cs s) = ap (λ k. k ++ closed at s ∷ []) (same_offsets s)
 

@@ -1,33 +1,24 @@
 -- The units of a compiled module have as many instructions as origins.
-use Rattle.std.proofs.Common.{◌≡◌, ◌∙◌, ℕ, zero, suc, Bool, true, false, cond, List, [], ◌∷◌, ◌++◌, ◌||◌, map, length, Option, Some, slice_get, refl, sym, ap}
+use Rattle.std.proofs.Common.{◌≡◌, ◌∙◌, ℕ, zero, suc, List, [], ◌∷◌, ◌++◌, map, length, slice_get, refl, sym, ap}
 use Rattle.std.specs.Prelude.{is_some}
 use Rattle.std.specs.Option.{option_map_or}
 use Rattle.std.proofs.lemmas.List.{length-map}
 use Rattle.xk_types.specs.declared.instr.Instr.{Instr}
 use Rattle.xk_types.specs.declared.instr.Instr.TheVariants as instr
 use Rattle.xk_types.specs.Code.{ModuleValue, UnitValue}
-use Rattle.xk_tree.specs.Tree.{SharedValue, Statement, Block, TreeValue}
-use Rattle.xk_names.specs.Scope.{find, has, is_text}
+use Rattle.xk_tree.specs.Tree.{Statement, Block, TreeValue}
+use Rattle.xk_names.specs.Scope.{find, has}
 use Rattle.xk_names.specs.Captures.{shared_texts}
 use Rattle.xk_emit.specs.CodeOf.{Setting, body_params, code_of}
 use Rattle.xk_emit.specs.Unit.{first_temporary, names_of_params, scope_from, unit_code}
 use Rattle.xk_semantics.specs.Parts.{Part, OfMethod, OfBody}
-use Rattle.xk_semantics.specs.Compilation.{IsCompiled, shared_among, unit_of_part}
+use Rattle.xk_semantics.specs.Compilation.{IsCompiled, unit_of_part}
 use Rattle.xk_simulation.proofs.CompiledOnceLaw.{one_units}
+use Rattle.xk_simulation.proofs.UnitLemmas.SettingLemmas.{shared_placed}
 use Rattle.xk_origins.specs.Origin.{Origin, Leaves, offset_of, origins, part_origins}
 use Rattle.xk_origins.specs.UnitOrigins.{UnitOrigins, offsets_at, unit_origins}
 use Rattle.xk_origins.specs.Laws.{AreOrigins, HasOneForEach}
 use Rattle.xk_origins.proofs.LengthLemmas.{Same, code_length, joined}
-
--- ---- which names are shared numbers
-
-found_or : (b : Bool) (i : ℕ) (o : Option ℕ) (c : Bool) → c ≡ is_some o → b || c ≡ is_some (cond b (Some i) o)
-found_or true i o c e = refl
-found_or false i o c e = e
-
-pub has_shared : (i : ℕ) (ss : List SharedValue) (x : List ℕ) → has (shared_texts ss) x ≡ is_some (shared_among i ss x)
-has_shared i [] x = refl
-has_shared i (s ∷ ss) x = found_or (is_text x s.name.text) i (shared_among (suc i) ss x) (has (shared_texts ss) x) (has_shared (suc i) ss x)
 
 abbrev code_in : List UnitValue → ℕ → List Instr
 code_in us k = option_map_or (λ (u : UnitValue). u.code) (slice_get us k) []
@@ -55,8 +46,7 @@ module _ (t : TreeValue) (cx : Setting) (known : (x : List ℕ) → has (shared_
 pub one_for_each : (t : TreeValue) (m : ModuleValue) (os : List UnitOrigins) → IsCompiled t m → AreOrigins t os → HasOneForEach m os
 one_for_each t m os c o =
     let are : os ≡ map (unit_origins t) c.units = o.are ∙ ap (map (unit_origins t)) (one_units t o.units c.units o.are_units c.are_units) in
-    let known : (x : List ℕ) → has (shared_texts t.shared) x ≡ is_some (find c.setting.shared x) =
-    λ x. has_shared 0 t.shared x ∙ sym (ap is_some (c.is_setting.shared x)) in
+    let known : (x : List ℕ) → has (shared_texts t.shared) x ≡ is_some (find c.setting.shared x) = λ x. sym (shared_placed t c.units c.setting c.is_setting x) in
     record {
       units = ap length are ∙ same_lengths t c.setting known c.units ∙ sym (ap length c.code);
       code = λ k.

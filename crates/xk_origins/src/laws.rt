@@ -1,18 +1,23 @@
-//! That each instruction has one origin, and that a token of the text stands there.
+//! That each instruction has one origin, that a token of the text stands there, and that slots are called as code has them.
 
-ghost use Rattle.std.specs.Prelude.{◌≡◌, ℕ, List, is_some, length};
+ghost use Rattle.std.specs.Prelude.{◌≡◌, ℕ, List, Some, is_some, length, slice_get};
 ghost use Rattle.xk_tree.specs.Tree.{Statement, TreeValue};
+ghost use Rattle.xk_tree.specs.AsyncOffsets.{HasBodiesApart};
 ghost use Rattle.xk_types.specs.Code.{ModuleValue};
 ghost use Rattle.xk_names.specs.Scope.{find, has};
+ghost use Rattle.xk_names.specs.Captures.{shared_texts};
 ghost use Rattle.xk_emit.specs.CodeOf.{Scope, Setting, code_of};
 ghost use Rattle.xk_syntax.specs.Spelling.{SpellsTree};
+ghost use Rattle.xk_semantics.specs.Parts.{Part};
 ghost use Rattle.xk_semantics.specs.Compilation.{IsCompiled};
-ghost use Rattle.xk_origins.specs.Laws.{AreAtTokens, AreOrigins, HasOneForEach};
-ghost use Rattle.xk_origins.specs.Origin.{origins};
-ghost use Rattle.xk_origins.specs.UnitOrigins.{UnitOrigins};
+ghost use Rattle.xk_origins.specs.Laws.{AreAtTokens, AreOrigins, HasOneForEach, code_at};
+ghost use Rattle.xk_origins.specs.Origin.{origins, part_origins};
+ghost use Rattle.xk_origins.specs.OwnInstructions.{AreOf};
+ghost use Rattle.xk_origins.specs.UnitOrigins.{UnitOrigins, slots_at};
+ghost use Rattle.xk_origins.specs.VisibleNames.{AreSlotNames};
 
-/// The code of a statement has as many instructions as origins, whatever scope, temporary, slot and place it is made for: which names are shared
-/// numbers is all that tells how long it is. The call does nothing; its contract is the law.
+/// The code of a statement has as many instructions as origins, whatever scope, temporary, slot and place it is made for: which names are
+/// shared numbers is all that tells how long it is. The call does nothing; its contract is the law.
 pub fn as_many_as_instructions()
     ensures { (cx : Setting) (shared : List (List ℕ))
         → ((x : List ℕ) → has shared x ≡ is_some (find cx.shared x))
@@ -24,6 +29,23 @@ pub fn as_many_as_instructions()
 pub fn one_for_each_instruction()
     ensures { (t : TreeValue) (m : ModuleValue) (os : List UnitOrigins)
         → IsCompiled t m → AreOrigins t os → HasOneForEach m os }
+{}
+
+/// Each instruction of a compiled module is one that its origin's statement has of its own: it reckons a number for it, does it, ends it or
+/// a turn of it, or jumps over its `else`. The call does nothing; its contract is the law.
+pub fn each_is_of_its_origin()
+    ensures { (t : TreeValue) (m : ModuleValue) → (c : IsCompiled t m)
+        → (k : ℕ) (p : Part) → slice_get c.units k ≡ Some p
+        → AreOf (part_origins (shared_texts t.shared) p) (code_at m k) }
+{}
+
+/// Slots are called as the code of a compiled module has them: wherever a name is visible, it has the slot that is called by it; and behind
+/// these are temporaries. The call does nothing; its contract is the law.
+pub fn slots_have_their_names()
+    ensures { (t : TreeValue) (m : ModuleValue) (os : List UnitOrigins) → HasBodiesApart t
+        → (c : IsCompiled t m) → AreOrigins t os
+        → (k : ℕ) (p : Part) → slice_get c.units k ≡ Some p
+        → AreSlotNames c.setting p (slots_at os k) }
 {}
 
 /// Where a text spells the tree, one of its tokens stands at each origin. The call does nothing; its contract is the law.

@@ -34,8 +34,8 @@ pub struct UnitOrigins<'t> {
     pub head: Head<'t>,
     /// An offset in the text for each instruction.
     pub offsets: Vec<usize>,
-    /// The names of its slots, but for temporaries, which are behind these. A name of spaces is none of the text: a loop's limit has one, and the clock of a
-    /// `clocked finish`.
+    /// The names of its slots, but for temporaries, which are behind these. A name of spaces is none of the text: a loop's limit has one,
+    /// and the clock of a `clocked finish`.
     pub slots: Vec<&'t [u8]>,
 }
 

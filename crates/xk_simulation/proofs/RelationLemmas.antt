@@ -3,6 +3,7 @@ use Rattle.std.proofs.Common.{◌≡◌, ℕ, zero, suc, ◌+◌, ◌<◌, ◌�
 use Rattle.std.specs.Prelude.{slice_get, slice_set, ⊤}
 use Rattle.std.proofs.lemmas.Bool.{false≢true}
 use Rattle.std.proofs.lemmas.Option.{none-some, same_Some}
+use Rattle.xk_names.proofs.TableLemmas.{none_there}
 use Rattle.xk_types.specs.declared.instr.Instr.{Instr}
 use Rattle.xk_types.specs.declared.instr.Instr.TheVariants as instr
 use Rattle.xk_types.specs.declared.world.Value.{Value as Held}
@@ -13,8 +14,8 @@ use Rattle.xk_names.specs.Scope.{find, is_text}
 use Rattle.xk_emit.specs.CodeOf.{Setting, Scope, number_of, body_unit, body_params, loop_slots, within_loop, before_into, last_into, before_bound, head_of, before, before_assigned, count, count_all, declared, declared_by_all, code_of, code_of_all}
 use Rattle.xk_emit.specs.Unit.{unit_of_body}
 use Rattle.xk_emit.specs.NameCoverage.{IsNew, IsCovered, AreCovered, IsUnitCovered}
-use Rattle.xk_emit.proofs.CoverageLemmas.TableLemmas.{same_text, is_same, none_new, found_behind}
-use Rattle.xk_names.proofs.TableAgreementLemmas.{find_behind, or_entry}
+use Rattle.xk_emit.proofs.CoverageLemmas.TableLemmas.{is_same, found_behind}
+use Rattle.xk_names.proofs.TableAgreementLemmas.{find_behind, or_entry, same_text}
 use Rattle.xk_semantics.specs.Parts.{Part, OfMethod}
 use Rattle.xk_semantics.specs.Source.{Todo, Do, Turn, Close, Names, unfolded, unfolded_all, method_of}
 use Rattle.xk_simulation.proofs.ExpressionLemmas.{IsBelow, IsMatched, below_more, AreStraight, eval_straight, straight_join, both_straight, args_straight, into_straight, last_straight}
@@ -358,7 +359,7 @@ matched_push scope names slots x n old v p new m there =
     New y s = (find scope y ≡ Some s) ⊎ ((find scope y ≡ None) × (is_text y x ≡ true) × (n ≡ s))
 
     own : (y : List ℕ) (s : ℕ) → is_text y x ≡ true → New y s → s ≡ n
-    own y s e (inl h) = absurd (none-some s (sym (none_new (find scope x) new) ∙ (ap (find scope) (sym (same_text y x e)) ∙ h)))
+    own y s e (inl h) = absurd (none-some s (sym (none_there (find scope x) new) ∙ (ap (find scope) (sym (same_text y x e)) ∙ h)))
     own y s e (inr h) = sym h.2
 
     other : (y : List ℕ) (s : ℕ) → is_text y x ≡ false → New y s → (find scope y ≡ Some s) × (s ≡ n → ⊥)

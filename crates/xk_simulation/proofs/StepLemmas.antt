@@ -6,6 +6,7 @@ use Rattle.std.specs.Option.{option_and_then, option_map_or}
 use Rattle.std.specs.List.{AllByRecursion}
 use Rattle.std.proofs.lemmas.Option.{none-some, same_Some}
 use Rattle.std.proofs.lemmas.List.Elements.{recursion_from_All}
+use Rattle.xk_names.proofs.TableLemmas.{none_there}
 use Rattle.xk_types.specs.declared.instr.Instr.{Instr}
 use Rattle.xk_types.specs.declared.instr.Instr.TheVariants as instr
 use Rattle.xk_types.specs.declared.world.Value.{Value as Held}
@@ -33,7 +34,7 @@ use Rattle.xk_names.specs.Uses.{clocks_listed}
 use Rattle.xk_emit.specs.CodeOf.{Scope, number_of, slots_of as slots_among, body_unit, captures_at, body_params, instr_of, slot_for, behind, eval, both, second, before_into, last_into, eval_all, argument_slots, shared_alone, before_assigned, last_assigned, loop_slots, within_loop, before_bound, head_of, count, declared, before, code_of}
 use Rattle.xk_emit.specs.Unit.{scope_from, first_temporary, unit_code, unit_of_method, unit_of_body, names_of_params, kinds_of_params, body_kinds}
 use Rattle.xk_emit.specs.NameCoverage.{IsFound, IsNew, IsKnown, IsKnownUnless, IsAssignable, IsBoundKnown, IsLoopNew}
-use Rattle.xk_emit.proofs.CoverageLemmas.TableLemmas.{is_same, none_new}
+use Rattle.xk_emit.proofs.CoverageLemmas.TableLemmas.{is_same}
 use Rattle.xk_emit.proofs.ScopeLemmas.{alone_before}
 use Rattle.xk_names.proofs.TableAgreementLemmas.{find_behind, or_entry}
 use Rattle.xk_semantics.specs.Source.{Todo, Do, Turn, Close, Names, named, Doing, SourceActivity, SourceWorld, SourceOutcome, alone, value_of, result_of, taken, unfolded, unfolded_all, left_with, knowing, declaring, storing, assigning, adding, limited, looped, given_one, given, invoked, invoking, handed, begun, starting, closed, over, continued, source_by, source_of, source_step}
@@ -539,7 +540,7 @@ module _ (cx : Whole) (built : AreBuilt cx) (w : World) (v : SourceWorld) (a : �
   -- a name that was added is there
   pushed_there : (scope : Scope) (x : List ℕ) (n : ℕ) → IsNew scope x → find (scope ++ (x, n) ∷ []) x ≡ Some n
   pushed_there scope x n new =
-      find_behind scope x n x ∙ (ap (λ o. or_entry o (is_text x x) n) (none_new (find scope x) new) ∙ ap (λ b. or_entry None b n) (is_same x))
+      find_behind scope x n x ∙ (ap (λ o. or_entry o (is_text x x) n) (none_there (find scope x) new) ∙ ap (λ b. or_entry None b n) (is_same x))
 
   decide_make : (b : Binding) (x : Word) (ty : Option TypeName) (at : ℕ) (vb : Verb) (rest : List Todo) → call.frame.todo ≡ Do (Declare b x ty (Make at vb)) ∷ rest → Ready (Declare b x ty (Make at vb)) rest
       → Good (run_at cx.m w a act (instruction_at cx.m act.frame))

@@ -3,6 +3,7 @@ use Rattle.std.proofs.Common.{◌≡◌, ℕ, suc, ◌+◌, ◌<◌, ◌≤◌, 
 use Rattle.std.specs.Prelude.{slice_get, is_some, ⊤}
 use Rattle.std.proofs.lemmas.Bool.{false≢true}
 use Rattle.std.proofs.lemmas.Option.{none-some, same_Some}
+use Rattle.xk_names.proofs.TableAgreementLemmas.{same_text}
 use Rattle.xk_types.specs.declared.instr.Instr.TheVariants as instr
 use Rattle.xk_types.specs.declared.world.Value.{Value as Held}
 use Rattle.xk_types.specs.declared.unit.UnitKind.{UnitKind}
@@ -12,7 +13,7 @@ use Rattle.xk_names.specs.Scope.{find, is_text}
 use Rattle.xk_emit.specs.CodeOf.{Scope, declared, code_of}
 use Rattle.xk_emit.specs.Unit.{scope_from, first_temporary, unit_code, unit_of_method, names_of_params}
 use Rattle.xk_emit.specs.NameCoverage.{IsFound, AreNew, IsUnitCovered}
-use Rattle.xk_emit.proofs.CoverageLemmas.TableLemmas.{same_text, is_same, still_found, now_found}
+use Rattle.xk_emit.proofs.CoverageLemmas.TableLemmas.{is_same, still_found, now_found}
 use Rattle.xk_semantics.specs.Parts.{OfMethod}
 use Rattle.xk_semantics.specs.Source.{Names, named, unfolded, shared_from}
 use Rattle.xk_simulation.proofs.ExpressionLemmas.{IsMatched}

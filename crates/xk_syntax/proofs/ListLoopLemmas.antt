@@ -1,5 +1,5 @@
 -- What loops over lists have read so far.
-use Rattle.std.proofs.Common.{◌≡◌, ℕ, suc, ◌<◌, ◌≤◌, List, [], ◌∷◌, ◌++◌, length, Option, Some, None, Bool, cond, true, false, refl, sym, ap, ◌∙◌, arith, length-append}
+use Rattle.std.proofs.Common.{◌≡◌, ℕ, suc, ◌<◌, ◌≤◌, List, [], ◌∷◌, ◌++◌, length, Option, Some, None, refl, sym, ap, ◌∙◌, arith, length-append}
 use Rattle.xk_lexer.specs.declared.token.Token.{Token}
 use Rattle.xk_lexer.specs.declared.token.Sign.{Sign}
 use Rattle.xk_lexer.specs.declared.token.Sign.TheVariants as sign
@@ -9,19 +9,13 @@ use Rattle.xk_exprs.specs.declared.fault.SyntaxError.{SyntaxError}
 use Rattle.xk_exprs.specs.declared.fault.SyntaxError.TheVariants as error
 use Rattle.xk_tree.specs.Tree.{Word}
 use Rattle.std.proofs.lemmas.List.{length-map}
+use Rattle.std.proofs.lemmas.Option.{same_Some, cond_some}
 use Rattle.xk_exprs.specs.Marks.{Mark, mark, marks, Name}
 use Rattle.xk_exprs.specs.ReaderCombinators.{Goes, Refuses, loop}
 use Rattle.xk_exprs.specs.ExprReaders.{whole_at}
 use Rattle.xk_exprs.proofs.LoopLemmas.{loop_goes, loop_stops, loop_fails, Shrinks}
 use Rattle.xk_syntax.specs.Readers.{bind, sign_of, sign_by, sign_at, word_at, pushed, one_more, next_item, more_at, commas_at}
 use Rattle.xk_exprs.proofs.SoundnessLemmas.{expression_found}
-
-pub some_is : {A : Type 0} (x y : A) → Some x ≡ Some y → x ≡ y
-some_is x y e = cc
-
-pub guard_some : {A : Type 0} (b : Bool) (x y : A) → cond b (Some x) None ≡ Some y → (b ≡ true) × (x ≡ y)
-guard_some true x y e = (refl, cc)
-guard_some false x y e = absurd cc
 
 -- a sign is one token
 sign_takes : (s : Sign) (ts us : List Mark) → sign_at s ts ≡ Some us → length us < length ts
@@ -31,7 +25,7 @@ sign_takes s (m ∷ ts) us e = by (sign_of m) e
   where
     by : (o : Option Sign) → sign_by s o ts ≡ Some us → length us < suc (length ts)
     by None e = absurd cc
-    by (Some t) e = omega (arith, ap length (guard_some (sameb signs.the_type t s) ts us e).1)
+    by (Some t) e = omega (arith, ap length (cond_some (sameb signs.the_type t s) ts us e).1)
 
 -- the value of a step that did not fail
 pub bind_some : {A B : Type 0} (o : Option A) (f : A → Option B) (y : B) → bind o f ≡ Some y → (x : A) × (o ≡ Some x) × (f x ≡ Some y)
@@ -104,7 +98,7 @@ first_read item ts x ys h e = rw (h, e) refl
 pub word_takes : Takes word_at
 unfolding word_at
 word_takes [] x e = absurd cc
-word_takes (Name at text ∷ ts) x e = let q = some_is _ x e in omega (arith, ap (λ (z : Word × List Mark). length z.1) q)
+word_takes (Name at text ∷ ts) x e = let q = same_Some _ x e in omega (arith, ap (λ (z : Word × List Mark). length z.1) q)
 word_takes (_ ∷ ts) x e = absurd cc
 
 pub expr_takes : (d : ℕ) → Takes (whole_at d)

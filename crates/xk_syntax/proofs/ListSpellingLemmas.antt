@@ -2,6 +2,7 @@
 use Rattle.std.proofs.Common.{◌≡◌, ◌≢◌, List, [], ◌∷◌, ◌++◌, Option, Some, None, refl, sym, ap, subst, ◌∙◌, append_assoc}
 use Rattle.std.proofs.lemmas.List.{append-nil}
 use Rattle.std.specs.List.{AllByRecursion}
+use Rattle.std.proofs.lemmas.Option.{same_Some}
 use Rattle.xk_lexer.specs.declared.token.Sign.{Sign}
 use Rattle.xk_lexer.specs.declared.token.Sign.TheVariants as sign
 use Rattle.xk_exprs.specs.Marks.{Mark, Symbol}
@@ -9,7 +10,7 @@ use Rattle.xk_exprs.specs.ReaderCombinators.{Goes}
 use Rattle.xk_exprs.proofs.LoopLemmas.{loop_goes, loop_stops, loop_keeps}
 use Rattle.xk_syntax.specs.Spelling.{row, behind_comma, commas}
 use Rattle.xk_syntax.specs.Readers.{bind, sign_at, pushed, one_more, next_item, more_at, commas_at, listed_or, listed_at}
-use Rattle.xk_syntax.proofs.ListLoopLemmas.{Reader, Shortens, Takes, bind_some, some_is, turn_shrinks, comma_shortens}
+use Rattle.xk_syntax.proofs.ListLoopLemmas.{Reader, Shortens, Takes, bind_some, turn_shrinks, comma_shortens}
 use Rattle.xk_syntax.proofs.SoundnessLemmas.{sign_is}
 
 row-snoc : {T : Type 0} (f : T → List Mark → List Mark) (xs : List T) (x : T) (after : List Mark) → row f (xs ++ x ∷ []) after ≡ row f xs (f x after)
@@ -126,13 +127,13 @@ listed_found {T = T} item f P each ts r e = by (sign_at sign.RightParen ts) refl
   where
     by : (o : Option (List Mark)) → sign_at sign.RightParen ts ≡ o → listed_or item ts o ≡ Some r → (ts ≡ commas f r.0 (Symbol sign.RightParen ∷ r.1)) × AllByRecursion P r.0
     by (Some us) h e = subst (λ (z : List T × List Mark). (ts ≡ commas f z.0 (Symbol sign.RightParen ∷ z.1))
-        × AllByRecursion P z.0) (some_is _ r e) (sign_is sign.RightParen refl ts us h, tt)
+        × AllByRecursion P z.0) (same_Some _ r e) (sign_is sign.RightParen refl ts us h, tt)
     by None h e =
         let a = bind_some _ _ _ e in
         let b = bind_some _ _ _ a.2 in
         let m = commas_found item f P each ts a.0 a.1 in
         let q = sign_is sign.RightParen refl a.0.1 b.0 b.1 in
-        subst (λ (z : List T × List Mark). (ts ≡ commas f z.0 (Symbol sign.RightParen ∷ z.1)) × AllByRecursion P z.0) (some_is _ r b.2) (m.spelled ∙ ap (commas f a.0.0) q, m.each)
+        subst (λ (z : List T × List Mark). (ts ≡ commas f z.0 (Symbol sign.RightParen ∷ z.1)) × AllByRecursion P z.0) (same_Some _ r b.2) (m.spelled ∙ ap (commas f a.0.0) q, m.each)
 
 -- an item that has this property is read again where a sign follows
 abbrev pub ItemAgain : {T : Type 0} → Reader T → (T → List Mark → List Mark) → (T → Type 0) → Type 0

@@ -1,5 +1,6 @@
 -- How far a loop goes is read exactly where it is spelled.
 use Rattle.std.proofs.Common.{◌≡◌, ℕ, List, [], ◌∷◌, ◌++◌, Option, Some, None, codes, refl, sym, ap, subst, ◌∙◌}
+use Rattle.std.proofs.lemmas.Option.{same_Some}
 use Rattle.xk_lexer.specs.declared.token.Sign.TheVariants as sign
 use Rattle.xk_tree.specs.declared.tree.Number as tree
 use Rattle.xk_tree.specs.declared.tree.Verb.{Verb}
@@ -9,7 +10,7 @@ use Rattle.xk_exprs.specs.Spelling.{minus_marks}
 use Rattle.xk_exprs.proofs.NumberLemmas.{number_found, number_again}
 use Rattle.xk_syntax.specs.Spelling.{number, expr, verb, bound, BoundFits}
 use Rattle.xk_syntax.specs.Readers.{bind, sign_at, open_at, word_at, this_word_at, verb_at, least_at, bound_or, bound_at}
-use Rattle.xk_syntax.proofs.ListLoopLemmas.{bind_some, some_is}
+use Rattle.xk_syntax.proofs.ListLoopLemmas.{bind_some}
 use Rattle.xk_syntax.proofs.SoundnessLemmas.{sign_is, this_word_is, verb_found, expr_is}
 use Rattle.xk_syntax.proofs.LeafStatementLemmas.{expr_again}
 
@@ -38,7 +39,7 @@ least_found d at ts x e =
     let behind : v.0.1 ≡ expr t.0.0 (Symbol sign.Comma ∷ number n.0.0 (Symbol sign.RightParen ∷ ws.0)) = f.0 ∙ ap (expr t.0.0) (r
     ∙ ap (λ (z : List Mark). Symbol sign.Comma ∷ z) last) in
     let all = ap (λ (z : List Mark). Name at (codes "Math") ∷ z) (p ∙ ap (λ (z : List Mark). Symbol sign.Dot ∷ z) (q ∙ ap (verb (codes "min") v.0.0) behind)) in
-    subst (IsBound d (Name at (codes "Math") ∷ ts)) (some_is _ x ws.2) (all, (refl, f.1, g.1))
+    subst (IsBound d (Name at (codes "Math") ∷ ts)) (same_Some _ x ws.2) (all, (refl, f.1, g.1))
 
 pub bound_found : (d : ℕ) (ts : List Mark) (x : Bound × List Mark) → bound_at d ts ≡ Some x → (ts ≡ bound x.0 x.1) × BoundFits d x.0
 unfolding bound_at
@@ -49,7 +50,7 @@ bound_found d ts x e = by (this_word_at (codes "Math") ts) refl e
     by None h e =
         let n = bind_some _ _ _ e in
         let f = number_found ts n.0.0 n.0.1 n.1 in
-        subst (IsBound d ts) (some_is _ x n.2) f
+        subst (IsBound d ts) (same_Some _ x n.2) f
 
 -- ---- what is spelled is read again
 

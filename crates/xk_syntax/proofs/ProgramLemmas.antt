@@ -1,6 +1,7 @@
 -- Methods, shared numbers and programs are read exactly where they are spelled.
 use Rattle.std.proofs.Common.{◌≡◌, ◌<◌, List, [], ◌∷◌, length, Some, None, refl, sym, ap, subst, ◌∙◌, arith, length-append}
 use Rattle.std.specs.List.{AllByRecursion}
+use Rattle.std.proofs.lemmas.Option.{same_Some}
 use Rattle.xk_lexer.specs.declared.token.Sign.TheVariants as sign
 use Rattle.xk_lexer.specs.declared.token.Keyword.TheVariants as keyword
 use Rattle.xk_tree.specs.Tree.{Statements, listed, ParamValue, MethodValue, SharedValue, TreeValue}
@@ -10,7 +11,7 @@ use Rattle.xk_exprs.proofs.NumberLemmas.{number_found, number_again}
 use Rattle.xk_syntax.specs.Spelling.{word, number, row, commas, stmts, param, method, shared, program, SharedFits, MethodFits, TreeFits}
 use Rattle.xk_syntax.specs.Readers.{bind, sign_at, keyword_at, open_at, word_at, stmt_at, param_at, method_at, shared_at, no_more, program_at}
 use Rattle.xk_syntax.specs.Laws.{ProgramFound, ProgramAgain}
-use Rattle.xk_syntax.proofs.ListLoopLemmas.{Shortens, bind_some, some_is}
+use Rattle.xk_syntax.proofs.ListLoopLemmas.{Shortens, bind_some}
 use Rattle.xk_syntax.proofs.SpellingLengthLemmas.{Longer, commas_longer, stmts_longer}
 use Rattle.xk_syntax.proofs.SoundnessLemmas.{sign_is, keyword_is, open_is, word_is, param_found, param_takes}
 use Rattle.xk_syntax.proofs.ListSpellingLemmas.{EachFound, more_found, EachAgain, more_again, listed_found, listed_again}
@@ -33,7 +34,7 @@ shared_found ts us x h e =
     let s = sign_is sign.Semicolon refl n.0.1 zs.0 zs.1 in
     let first : ts ≡ Reserved keyword.Shared ∷ word w.0.0 (Symbol sign.Assign ∷ vs.0) = cc in
     let rest : vs.0 ≡ number n.0.0 (Symbol sign.Semicolon ∷ zs.0) = f.0 ∙ ap (number n.0.0) s in
-    subst (λ (z : SharedValue × List Mark). (ts ≡ shared z.0 z.1) × SharedFits z.0) (some_is _ x zs.2)
+    subst (λ (z : SharedValue × List Mark). (ts ≡ shared z.0 z.1) × SharedFits z.0) (same_Some _ x zs.2)
     (first ∙ ap (λ (z : List Mark). Reserved keyword.Shared ∷ word w.0.0 (Symbol sign.Assign ∷ z)) rest, f.1)
 
 shared_longer : (s : SharedValue) (after : List Mark) → length after < length (shared s after)
@@ -80,7 +81,7 @@ method_found ts us x h e =
     let body : ps.0.1 ≡ Symbol sign.LeftBrace ∷ stmts (listed ss.0.0.0) (CloseAt ss.0.0.1 ∷ ss.0.1) = s ∙ ap (λ (z : List Mark). Symbol sign.LeftBrace ∷ z) g.0 in
     let rest : at.0.1 ≡ commas param ps.0.0 (Symbol sign.RightParen ∷ Symbol sign.LeftBrace ∷ stmts (listed ss.0.0.0) (CloseAt ss.0.0.1 ∷ ss.0.1)) = f.0
     ∙ ap (λ (z : List Mark). commas param ps.0.0 (Symbol sign.RightParen ∷ z)) body in
-    subst (λ (z : MethodValue × List Mark). (ts ≡ method z.0 z.1) × MethodFits z.0) (some_is _ x ss.2)
+    subst (λ (z : MethodValue × List Mark). (ts ≡ method z.0 z.1) × MethodFits z.0) (same_Some _ x ss.2)
     (first ∙ ap (λ (z : List Mark). Reserved keyword.Def ∷ word w.0.0 (Open at.0.0 ∷ z)) rest, g.1)
 
 param_longer : Longer param
@@ -124,7 +125,7 @@ each_method (m ∷ ms) after h =
 -- ---- programs
 
 all_read : (t u : TreeValue) (ts : List Mark) → no_more t ts ≡ Some u → (ts ≡ []) × (t ≡ u)
-all_read t u [] e = (refl, some_is t u e)
+all_read t u [] e = (refl, same_Some t u e)
 all_read t u (m ∷ ts) e = absurd cc
 
 pub program_found : ProgramFound

@@ -2,6 +2,7 @@
 use Rattle.std.proofs.Common.{◌≡◌, ℕ, suc, List, [], ◌∷◌, ◌++◌, length, Option, Some, None, codes, true, false, refl, sym, ap, subst, ◌∙◌, arith}
 use Rattle.std.specs.Str.{bytes_eq}
 use Rattle.std.proofs.lemmas.Slice.Eq.{bytes_eq-Decides}
+use Rattle.std.proofs.lemmas.Option.{same_Some, cond_some}
 use Rattle.xk_types.specs.declared.instr.Comparison.{Comparison}
 use Rattle.xk_lexer.specs.declared.token.Sign.{Sign}
 use Rattle.xk_lexer.specs.declared.token.Sign.TheVariants as sign
@@ -22,7 +23,7 @@ use Rattle.xk_exprs.proofs.SoundnessLemmas.{expression_found, term_found}
 use Rattle.xk_syntax.specs.Spelling.{word, expr, comparison_sign, binding_word, type_name, type_part, verb, source, stmt, param, IsExpr, IsTerm, SourceFits, DeclareFits, Fits, dangles}
 use Rattle.xk_syntax.specs.Readers.{bind, sign_at, keyword_at, open_at, close_at, plus_at, clock_at, word_at, this_word_at, comparison_at, type_at, verb_at, bare_verb_at, act_at, type_part_or, type_part_at, source_or, source_at, ended, declare_at, atomic_at, advance_at, print_head_at, print_at, dotted_or, dotted_at, assign_at, param_at}
 use Rattle.xk_syntax.proofs.SpellingLengthLemmas.{type_longer}
-use Rattle.xk_syntax.proofs.ListLoopLemmas.{bind_some, some_is, guard_some, Takes}
+use Rattle.xk_syntax.proofs.ListLoopLemmas.{bind_some, Takes}
 
 -- ---- tokens
 
@@ -37,27 +38,27 @@ pub sign_is : (s : Sign) → IsPlain s → (ts us : List Mark) → sign_at s ts 
 unfolding sign_at
 sign_is s plain [] us e = absurd cc
 sign_is s plain (Symbol t ∷ ts) us e =
-    let g = guard_some (sameb signs.the_type t s) ts us e in
+    let g = cond_some (sameb signs.the_type t s) ts us e in
     let q = same_true signs.the_type tt t s g.0 in
     rw (q, g.1) refl
 sign_is s plain (Open at ∷ ts) us e =
-    let g = guard_some (sameb signs.the_type sign.LeftParen s) ts us e in
+    let g = cond_some (sameb signs.the_type sign.LeftParen s) ts us e in
     let q = other_sign s sign.LeftParen (Open 0) refl plain g.0 in
     absurd cc
 sign_is s plain (CloseAt at ∷ ts) us e =
-    let g = guard_some (sameb signs.the_type sign.RightBrace s) ts us e in
+    let g = cond_some (sameb signs.the_type sign.RightBrace s) ts us e in
     let q = other_sign s sign.RightBrace (CloseAt 0) refl plain g.0 in
     absurd cc
 sign_is s plain (Operator at operator.Plus ∷ ts) us e =
-    let g = guard_some (sameb signs.the_type sign.Plus s) ts us e in
+    let g = cond_some (sameb signs.the_type sign.Plus s) ts us e in
     let q = other_sign s sign.Plus (Operator 0 operator.Plus) refl plain g.0 in
     absurd cc
 sign_is s plain (Operator at operator.Minus ∷ ts) us e =
-    let g = guard_some (sameb signs.the_type sign.Minus s) ts us e in
+    let g = cond_some (sameb signs.the_type sign.Minus s) ts us e in
     let q = other_sign s sign.Minus (Operator 0 operator.Minus) refl plain g.0 in
     absurd cc
 sign_is s plain (Operator at operator.Times ∷ ts) us e =
-    let g = guard_some (sameb signs.the_type sign.Star s) ts us e in
+    let g = cond_some (sameb signs.the_type sign.Star s) ts us e in
     let q = other_sign s sign.Star (Operator 0 operator.Times) refl plain g.0 in
     absurd cc
 sign_is s plain (_ ∷ ts) us e = absurd cc
@@ -73,27 +74,27 @@ pub keyword_is : (k : Keyword) → IsPlainWord k → (ts us : List Mark) → key
 unfolding keyword_at
 keyword_is k plain [] us e = absurd cc
 keyword_is k plain (Reserved l ∷ ts) us e =
-    let g = guard_some (sameb keywords.the_type l k) ts us e in
+    let g = cond_some (sameb keywords.the_type l k) ts us e in
     let q = same_true keywords.the_type tt l k g.0 in
     rw (q, g.1) refl
 keyword_is k plain (AsyncAt at ∷ ts) us e =
-    let g = guard_some (sameb keywords.the_type keyword.Async k) ts us e in
+    let g = cond_some (sameb keywords.the_type keyword.Async k) ts us e in
     let q = other_word k keyword.Async (AsyncAt 0) refl plain g.0 in
     absurd cc
 keyword_is k plain (FinishAt at ∷ ts) us e =
-    let g = guard_some (sameb keywords.the_type keyword.Finish k) ts us e in
+    let g = cond_some (sameb keywords.the_type keyword.Finish k) ts us e in
     let q = other_word k keyword.Finish (FinishAt 0) refl plain g.0 in
     absurd cc
 keyword_is k plain (ClockedAt at ∷ ts) us e =
-    let g = guard_some (sameb keywords.the_type keyword.Clocked k) ts us e in
+    let g = cond_some (sameb keywords.the_type keyword.Clocked k) ts us e in
     let q = other_word k keyword.Clocked (ClockedAt 0) refl plain g.0 in
     absurd cc
 keyword_is k plain (ClockAt at ∷ ts) us e =
-    let g = guard_some (sameb keywords.the_type keyword.Clock k) ts us e in
+    let g = cond_some (sameb keywords.the_type keyword.Clock k) ts us e in
     let q = other_word k keyword.Clock (ClockAt 0) refl plain g.0 in
     absurd cc
 keyword_is k plain (LongAt at ∷ ts) us e =
-    let g = guard_some (sameb keywords.the_type keyword.Long k) ts us e in
+    let g = cond_some (sameb keywords.the_type keyword.Long k) ts us e in
     let q = other_word k keyword.Long (LongAt 0) refl plain g.0 in
     absurd cc
 keyword_is k plain (_ ∷ ts) us e = absurd cc
@@ -101,19 +102,19 @@ keyword_is k plain (_ ∷ ts) us e = absurd cc
 pub open_is : (ts : List Mark) (x : ℕ × List Mark) → open_at ts ≡ Some x → ts ≡ Open x.0 ∷ x.1
 unfolding open_at
 open_is [] x e = absurd cc
-open_is (Open at ∷ ts) x e = rw (sym (some_is _ x e)) refl
+open_is (Open at ∷ ts) x e = rw (sym (same_Some _ x e)) refl
 open_is (_ ∷ ts) x e = absurd cc
 
 pub close_is : (ts : List Mark) (x : ℕ × List Mark) → close_at ts ≡ Some x → ts ≡ CloseAt x.0 ∷ x.1
 unfolding close_at
 close_is [] x e = absurd cc
-close_is (CloseAt at ∷ ts) x e = rw (sym (some_is _ x e)) refl
+close_is (CloseAt at ∷ ts) x e = rw (sym (same_Some _ x e)) refl
 close_is (_ ∷ ts) x e = absurd cc
 
 plus_is : (ts : List Mark) (x : ℕ × List Mark) → plus_at ts ≡ Some x → ts ≡ Operator x.0 operator.Plus ∷ x.1
 unfolding plus_at
 plus_is [] x e = absurd cc
-plus_is (Operator at operator.Plus ∷ ts) x e = rw (sym (some_is _ x e)) refl
+plus_is (Operator at operator.Plus ∷ ts) x e = rw (sym (same_Some _ x e)) refl
 plus_is (Operator at operator.Minus ∷ ts) x e = absurd cc
 plus_is (Operator at operator.Times ∷ ts) x e = absurd cc
 plus_is (_ ∷ ts) x e = absurd cc
@@ -121,20 +122,20 @@ plus_is (_ ∷ ts) x e = absurd cc
 clock_is : (ts : List Mark) (x : ℕ × List Mark) → clock_at ts ≡ Some x → ts ≡ ClockAt x.0 ∷ x.1
 unfolding clock_at
 clock_is [] x e = absurd cc
-clock_is (ClockAt at ∷ ts) x e = rw (sym (some_is _ x e)) refl
+clock_is (ClockAt at ∷ ts) x e = rw (sym (same_Some _ x e)) refl
 clock_is (_ ∷ ts) x e = absurd cc
 
 pub word_is : (ts : List Mark) (x : Word × List Mark) → word_at ts ≡ Some x → ts ≡ Name x.0.at x.0.text ∷ x.1
 unfolding word_at
 word_is [] x e = absurd cc
-word_is (Name at text ∷ ts) x e = rw (sym (some_is _ x e)) refl
+word_is (Name at text ∷ ts) x e = rw (sym (same_Some _ x e)) refl
 word_is (_ ∷ ts) x e = absurd cc
 
 pub this_word_is : (text : List ℕ) (ts : List Mark) (x : ℕ × List Mark) → this_word_at text ts ≡ Some x → ts ≡ Name x.0 text ∷ x.1
 unfolding this_word_at
 this_word_is text ts x e =
     let a = bind_some _ _ _ e in
-    let g = guard_some (bytes_eq a.0.0.text text) (a.0.0.at, a.0.1) x a.2 in
+    let g = cond_some (bytes_eq a.0.0.text text) (a.0.0.at, a.0.1) x a.2 in
     let t : a.0.0.text ≡ text = (bytes_eq-Decides a.0.0.text text).0 g.0 in
     let p = word_is ts a.0 a.1 in
     rw (sym g.1) cc
@@ -142,20 +143,20 @@ this_word_is text ts x e =
 pub comparison_is : (ts : List Mark) (x : Comparison × List Mark) → comparison_at ts ≡ Some x → ts ≡ Symbol (comparison_sign x.0) ∷ x.1
 unfolding comparison_at bind
 comparison_is [] x e = absurd cc
-comparison_is (Symbol sign.Equal ∷ ts) x e = rw (sym (some_is _ x e)) refl
-comparison_is (Symbol sign.NotEqual ∷ ts) x e = rw (sym (some_is _ x e)) refl
-comparison_is (Symbol sign.Less ∷ ts) x e = rw (sym (some_is _ x e)) refl
-comparison_is (Symbol sign.LessEqual ∷ ts) x e = rw (sym (some_is _ x e)) refl
-comparison_is (Symbol sign.Greater ∷ ts) x e = rw (sym (some_is _ x e)) refl
-comparison_is (Symbol sign.GreaterEqual ∷ ts) x e = rw (sym (some_is _ x e)) refl
+comparison_is (Symbol sign.Equal ∷ ts) x e = rw (sym (same_Some _ x e)) refl
+comparison_is (Symbol sign.NotEqual ∷ ts) x e = rw (sym (same_Some _ x e)) refl
+comparison_is (Symbol sign.Less ∷ ts) x e = rw (sym (same_Some _ x e)) refl
+comparison_is (Symbol sign.LessEqual ∷ ts) x e = rw (sym (same_Some _ x e)) refl
+comparison_is (Symbol sign.Greater ∷ ts) x e = rw (sym (same_Some _ x e)) refl
+comparison_is (Symbol sign.GreaterEqual ∷ ts) x e = rw (sym (same_Some _ x e)) refl
 comparison_is (Symbol _ ∷ ts) x e = absurd cc
 comparison_is (_ ∷ ts) x e = absurd cc
 
 type_is : (ts : List Mark) (x : TypeName × List Mark) → type_at ts ≡ Some x → ts ≡ type_name x.0 x.1
 unfolding type_at
 type_is [] x e = absurd cc
-type_is (ClockAt at ∷ ts) x e = rw (sym (some_is _ x e)) refl
-type_is (LongAt at ∷ ts) x e = rw (sym (some_is _ x e)) refl
+type_is (ClockAt at ∷ ts) x e = rw (sym (same_Some _ x e)) refl
+type_is (LongAt at ∷ ts) x e = rw (sym (same_Some _ x e)) refl
 type_is (_ ∷ ts) x e = absurd cc
 
 -- ---- words that say what is done
@@ -167,7 +168,7 @@ verb_found text ts x e =
     let b = bind_some _ _ _ a.2 in
     let p = this_word_is text ts a.0 a.1 in
     let q = open_is a.0.1 b.0 b.1 in
-    rw (sym (some_is _ x b.2)) cc
+    rw (sym (same_Some _ x b.2)) cc
 
 bare_verb_found : (text : List ℕ) (ts : List Mark) (x : Verb × List Mark) → bare_verb_at text ts ≡ Some x → ts ≡ verb text x.0 (Symbol sign.RightParen ∷ x.1)
 unfolding bare_verb_at
@@ -176,7 +177,7 @@ bare_verb_found text ts x e =
     let b = bind_some _ _ _ a.2 in
     let p = verb_found text ts a.0 a.1 in
     let q = sign_is sign.RightParen refl a.0.1 b.0 b.1 in
-    rw (sym (some_is _ x b.2)) cc
+    rw (sym (same_Some _ x b.2)) cc
 
 act_found : (text : List ℕ) (ts : List Mark) (x : Verb × List Mark) → act_at text ts ≡ Some x → ts ≡ Symbol sign.Dot ∷ verb text x.0 (Symbol sign.RightParen ∷ x.1)
 unfolding act_at
@@ -197,7 +198,7 @@ param_found ts x e =
     let p = word_is ts a.0 a.1 in
     let q = sign_is sign.Colon refl a.0.1 b.0 b.1 in
     let r = type_is b.0 ty.0 ty.1 in
-    rw (sym (some_is _ x ty.2)) cc
+    rw (sym (same_Some _ x ty.2)) cc
 
 pub param_takes : Takes param_at
 param_takes ts x e = omega (arith, ap length (param_found ts x e), type_longer x.0.takes x.1)
@@ -222,12 +223,12 @@ unfolding type_part_at
 type_part_found ts x e = by (sign_at sign.Colon ts) refl e
   where
     by : (o : Option (List Mark)) → sign_at sign.Colon ts ≡ o → type_part_or ts o ≡ Some x → ts ≡ type_part x.0 x.1
-    by None h e = rw (sym (some_is _ x e)) refl
+    by None h e = rw (sym (same_Some _ x e)) refl
     by (Some us) h e =
         let a = bind_some _ _ _ e in
         let p = sign_is sign.Colon refl ts us h in
         let q = type_is us a.0 a.1 in
-        rw (sym (some_is _ x a.2)) cc
+        rw (sym (same_Some _ x a.2)) cc
 
 source_found : (d : ℕ) (ts : List Mark) (x : Source × List Mark) → source_at d ts ≡ Some x → (ts ≡ source x.0 x.1) × SourceFits d x.0
 unfolding source_at
@@ -236,12 +237,12 @@ source_found d ts x e = by (clock_at ts) refl e
     by : (o : Option (ℕ × List Mark)) → clock_at ts ≡ o → source_or d ts o ≡ Some x → (ts ≡ source x.0 x.1) × SourceFits d x.0
     by None h e =
         let a = bind_some _ _ _ e in
-        subst (λ (z : Source × List Mark). (ts ≡ source z.0 z.1) × SourceFits d z.0) (some_is _ x a.2) (expr_is d ts a.0 a.1)
+        subst (λ (z : Source × List Mark). (ts ≡ source z.0 z.1) × SourceFits d z.0) (same_Some _ x a.2) (expr_is d ts a.0 a.1)
     by (Some at) h e =
         let a = bind_some _ _ _ e in
         let p = clock_is ts at h in
         let q = act_found (codes "make") at.1 a.0 a.1 in
-        subst (λ (z : Source × List Mark). (ts ≡ source z.0 z.1) × SourceFits d z.0) (some_is _ x a.2) (cc, tt)
+        subst (λ (z : Source × List Mark). (ts ≡ source z.0 z.1) × SourceFits d z.0) (same_Some _ x a.2) (cc, tt)
 
 -- a statement that holds none, behind the tokens in front of it
 pub record IsFlat (d : ℕ) (all : List Mark) (x : Statement × List Mark) : Type 0 where
@@ -254,7 +255,7 @@ pub flat_ended : (d : ℕ) (all ts : List Mark) (s : Statement) (x : Statement �
     → IsFlat d all (s, us)) → IsFlat d all x
 flat_ended d all ts s x e f =
     let a = bind_some _ _ _ e in
-    subst (IsFlat d all) (some_is _ x a.2) (f a.0 (sign_is sign.Semicolon refl ts a.0 a.1))
+    subst (IsFlat d all) (same_Some _ x a.2) (f a.0 (sign_is sign.Semicolon refl ts a.0 a.1))
 
 pub declare_found : (d : ℕ) (b : Binding) → ((r : Source) → SourceFits d r → DeclareFits d b r) → (ts : List Mark) (x : Statement × List Mark) → declare_at d b ts ≡ Some x
     → IsFlat d (Reserved (binding_word b) ∷ ts) x
@@ -304,7 +305,7 @@ print_head_found ts x e =
     let q = this_word_is (codes "OUT") us.0 w.0 w.1 in
     let r = sign_is sign.Dot refl w.0.1 vs.0 vs.1 in
     let s = verb_found (codes "println") vs.0 v.0 v.1 in
-    rw (sym (some_is _ x v.2)) cc
+    rw (sym (same_Some _ x v.2)) cc
 
 pub print_found : (d : ℕ) (ts : List Mark) (x : Statement × List Mark) → print_at d ts ≡ Some x → IsFlat d (Reserved keyword.Console ∷ ts) x
 unfolding print_at

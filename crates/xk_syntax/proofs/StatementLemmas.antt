@@ -1,6 +1,7 @@
 -- Statements are read exactly where they are spelled.
 use Rattle.std.proofs.Common.{◌≡◌, ◌≢◌, ◌⊎◌, inl, inr, ℕ, zero, suc, List, [], ◌∷◌, length, Option, Some, None, Bool, true, false, refl, sym, ap, subst, ◌∙◌, arith}
 use Rattle.std.specs.List.{AllByRecursion}
+use Rattle.std.proofs.lemmas.Option.{same_Some}
 use Rattle.xk_types.specs.declared.instr.Comparison.{Comparison}
 use Rattle.xk_types.specs.declared.instr.Comparison.TheVariants as comparison
 use Rattle.xk_lexer.specs.declared.token.Sign.TheVariants as sign
@@ -22,7 +23,7 @@ use Rattle.xk_exprs.proofs.NumberLemmas.{number_found, number_again}
 use Rattle.xk_syntax.specs.Spelling.{word, number, expr, comparison_sign, bound, row, commas, hidden_text, hidden_clock, clocked_finish, inside, clocked_start, start, stmt, stmts, dangles, IsExpr, BoundFits, WrittenFits, ClocksFit, Fits, AllFit}
 use Rattle.xk_syntax.specs.Laws.{Settles, StatementFound, StatementAgain}
 use Rattle.xk_syntax.specs.Readers.{bind, sign_at, keyword_at, open_at, close_at, word_at, comparison_at, more_at, Read, call_at, undotted, named_or, named_at, flat_by, flat_at, Head, Whole, Brace, Condition, Range, Start, Wait, Hide, whole, condition_at, range_at, list_open_at, clocks_or, clocks_at, start_at, hiding_by, hiding_at, head_by, stmt_head_at, ahead_or, ahead_at, stmts_at, else_or, else_at, rest_at, stmt_at}
-use Rattle.xk_syntax.proofs.ListLoopLemmas.{Shortens, bind_some, some_is, word_takes, more_refused, no_more}
+use Rattle.xk_syntax.proofs.ListLoopLemmas.{Shortens, bind_some, word_takes, more_refused, no_more}
 use Rattle.xk_syntax.proofs.SoundnessLemmas.{sign_is, keyword_is, open_is, close_is, word_is, comparison_is, expr_is, IsFlat, flat_ended, declare_found, atomic_found, advance_found, print_found, dotted_found, assign_found}
 use Rattle.xk_syntax.proofs.SpellingLengthLemmas.{stmt_longer}
 use Rattle.xk_syntax.proofs.LoopBoundLemmas.{bound_found, bound_again}
@@ -76,7 +77,7 @@ named_found d w ts x e = by (open_at ts) refl e
     by (Some at) h e = subst (λ (z : List Mark). IsFlat d (word w z) x) (sym (open_is ts at h)) (call_found d w at x e)
 
 flat_by_found : (d : ℕ) (m : Mark) (ts : List Mark) (x : Statement × List Mark) → flat_by d m ts ≡ Some x → IsFlat d (m ∷ ts) x
-flat_by_found d (Symbol sign.Semicolon) ts x e = subst (IsFlat d (Symbol sign.Semicolon ∷ ts)) (some_is _ x e) (record { spelled = refl; fits = λ o. tt; closed = refl })
+flat_by_found d (Symbol sign.Semicolon) ts x e = subst (IsFlat d (Symbol sign.Semicolon ∷ ts)) (same_Some _ x e) (record { spelled = refl; fits = λ o. tt; closed = refl })
 flat_by_found d (Name at text) ts x e = named_found d (record { at = at; text = text }) ts x e
 flat_by_found d (Reserved keyword.Val) ts x e = declare_found d binding.Val (λ r h. h) ts x e
 flat_by_found d (Reserved keyword.Var) ts x e = declare_found d binding.Var (λ r h. h) ts x e
@@ -103,7 +104,7 @@ condition_found d o ts x e =
     let q = comparison_is l.0.1 c.0 c.1 in
     let fr = expr_is d c.0.1 r.0 r.1 in
     let s = sign_is sign.RightParen refl r.0.1 us.0 us.1 in
-    subst (IsHead d o (Reserved keyword.If ∷ ts)) (some_is _ x us.2) (record { spelled = cc; fits = (fl.1, fr.1) })
+    subst (IsHead d o (Reserved keyword.If ∷ ts)) (same_Some _ x us.2) (record { spelled = cc; fits = (fl.1, fr.1) })
 
 range_found : (d : ℕ) (o : List ℕ) (ts : List Mark) (x : Head × List Mark) → range_at d ts ≡ Some x → IsHead d o (Reserved keyword.For ∷ ts) x
 unfolding range_at
@@ -127,7 +128,7 @@ range_found d o ts x e =
     let both : us.0 ≡ number lo.0.0 (Symbol sign.DotDot ∷ bound b.0.0 (Symbol sign.RightParen ∷ zs.0)) = a.0 ∙ ap (number lo.0.0) (s
     ∙ ap (λ (z : List Mark). Symbol sign.DotDot ∷ z) upper) in
     let all = first ∙ ap (λ (z : List Mark). Open at.0.0 ∷ word w.0.0 (Reserved keyword.In ∷ z)) both in
-    subst (IsHead d o (Reserved keyword.For ∷ ts)) (some_is _ x zs.2) (record { spelled = ap (λ (z : List Mark). Reserved keyword.For ∷ z) all; fits = (a.1, f.1) })
+    subst (IsHead d o (Reserved keyword.For ∷ ts)) (same_Some _ x zs.2) (record { spelled = ap (λ (z : List Mark). Reserved keyword.For ∷ z) all; fits = (a.1, f.1) })
 
 list_open_is : (ts : List Mark) (x : (ℕ × ℕ) × List Mark) → list_open_at ts ≡ Some x → ts ≡ ClockedAt x.0.0 ∷ Open x.0.1 ∷ x.1
 unfolding list_open_at
@@ -135,7 +136,7 @@ list_open_is [] x e = absurd cc
 list_open_is (ClockedAt at ∷ ts) x e =
     let p = bind_some _ _ _ e in
     let o = open_is ts p.0 p.1 in
-    subst (λ (z : (ℕ × ℕ) × List Mark). ClockedAt at ∷ ts ≡ ClockedAt z.0.0 ∷ Open z.0.1 ∷ z.1) (some_is _ x p.2) (ap (λ (z : List Mark). ClockedAt at ∷ z) o)
+    subst (λ (z : (ℕ × ℕ) × List Mark). ClockedAt at ∷ ts ≡ ClockedAt z.0.0 ∷ Open z.0.1 ∷ z.1) (same_Some _ x p.2) (ap (λ (z : List Mark). ClockedAt at ∷ z) o)
 list_open_is (_ ∷ ts) x e = absurd cc
 
 abbrev IsStart : ℕ → List ℕ → List Mark → Option Clocks × List Mark → Type 0
@@ -146,7 +147,7 @@ unfolding clocks_at
 clocks_found at o ts x e = by (list_open_at ts) refl e
   where
     by : (p : Option ((ℕ × ℕ) × List Mark)) → list_open_at ts ≡ p → clocks_or ts p ≡ Some x → IsStart at o ts x
-    by None h e = subst (IsStart at o ts) (some_is _ x e) (refl, tt)
+    by None h e = subst (IsStart at o ts) (same_Some _ x e) (refl, tt)
     by (Some p) h e =
         let ws = bind_some _ _ _ e in
         let vs = bind_some _ _ _ ws.2 in
@@ -154,21 +155,21 @@ clocks_found at o ts x e = by (list_open_at ts) refl e
         let m = commas_found word_at word (λ w. Unit {0}) (λ ts x e. (word_is ts x e, tt)) p.1 ws.0 ws.1 in
         let r = m.spelled in
         let s = sign_is sign.RightParen refl ws.0.1 vs.0 vs.1 in
-        subst (IsStart at o ts) (some_is _ x vs.2) (cc, m.some)
+        subst (IsStart at o ts) (same_Some _ x vs.2) (cc, m.some)
 
 start_found : (d : ℕ) (o : List ℕ) (at : ℕ) (ts : List Mark) (x : Head × List Mark) → start_at at ts ≡ Some x → IsHead d o (AsyncAt at ∷ ts) x
 unfolding start_at
 start_found d o at ts x e =
     let cs = bind_some _ _ _ e in
     let f = clocks_found at o ts cs.0 cs.1 in
-    subst (IsHead d o (AsyncAt at ∷ ts)) (some_is _ x cs.2) (record { spelled = f.0; fits = f.1 })
+    subst (IsHead d o (AsyncAt at ∷ ts)) (same_Some _ x cs.2) (record { spelled = f.0; fits = f.1 })
 
 hiding_by_found : (d : ℕ) (o : List ℕ) (at : ℕ) (m : Mark) (ts : List Mark) (x : Head × List Mark) → hiding_by o at m ts ≡ Some x
     → IsHead d o (ClockedAt at ∷ m ∷ ts) x
 hiding_by_found d o at (FinishAt finish) ts x e =
-    subst (IsHead d o (ClockedAt at ∷ FinishAt finish ∷ ts)) (some_is _ x e) (record { spelled = refl; fits = tt })
+    subst (IsHead d o (ClockedAt at ∷ FinishAt finish ∷ ts)) (same_Some _ x e) (record { spelled = refl; fits = tt })
 hiding_by_found d o at (AsyncAt a) ts x e =
-    subst (IsHead d o (ClockedAt at ∷ AsyncAt a ∷ ts)) (some_is _ x e) (record { spelled = refl; fits = refl })
+    subst (IsHead d o (ClockedAt at ∷ AsyncAt a ∷ ts)) (same_Some _ x e) (record { spelled = refl; fits = refl })
 hiding_by_found d o at _ ts x e = absurd cc
 
 hiding_found : (d : ℕ) (o : List ℕ) (at : ℕ) (ts : List Mark) (x : Head × List Mark) → hiding_at o at ts ≡ Some x → IsHead d o (ClockedAt at ∷ ts) x
@@ -180,14 +181,14 @@ whole_found : (d : ℕ) (o : List ℕ) (ts : List Mark) (x : Head × List Mark) 
 whole_found d o ts x e =
     let s = bind_some _ _ _ e in
     let f = flat_found d ts s.0 s.1 in
-    subst (IsHead d o ts) (some_is _ x s.2) (record { spelled = f.spelled; fits = (f.fits o, f.closed) })
+    subst (IsHead d o ts) (same_Some _ x s.2) (record { spelled = f.spelled; fits = (f.fits o, f.closed) })
 
 head_by_found : (d : ℕ) (o : List ℕ) (m : Mark) (ts : List Mark) (x : Head × List Mark) → head_by d o (m ∷ ts) m ts ≡ Some x → IsHead d o (m ∷ ts) x
-head_by_found d o (Symbol sign.LeftBrace) ts x e = subst (IsHead d o (Symbol sign.LeftBrace ∷ ts)) (some_is _ x e) (record { spelled = refl; fits = tt })
+head_by_found d o (Symbol sign.LeftBrace) ts x e = subst (IsHead d o (Symbol sign.LeftBrace ∷ ts)) (same_Some _ x e) (record { spelled = refl; fits = tt })
 head_by_found d o (Reserved keyword.If) ts x e = condition_found d o ts x e
 head_by_found d o (Reserved keyword.For) ts x e = range_found d o ts x e
 head_by_found d o (AsyncAt at) ts x e = start_found d o at ts x e
-head_by_found d o (FinishAt at) ts x e = subst (IsHead d o (FinishAt at ∷ ts)) (some_is _ x e) (record { spelled = refl; fits = tt })
+head_by_found d o (FinishAt at) ts x e = subst (IsHead d o (FinishAt at ∷ ts)) (same_Some _ x e) (record { spelled = refl; fits = tt })
 head_by_found d o (ClockedAt at) ts x e = hiding_found d o at ts x e
 head_by_found d o m ts x e = whole_found d o (m ∷ ts) x e
 
@@ -258,7 +259,7 @@ unfolding ahead_at
 ahead_is ts us e = by (close_at ts) e
   where
     by : (o : Option (ℕ × List Mark)) → ahead_or ts o ≡ Some us → ts ≡ us
-    by None e = some_is ts us e
+    by None e = same_Some ts us e
     by (Some close) e = absurd cc
 
 pub stmts_found : (d : ℕ) (o : List ℕ) (inner : List Mark → Read) → FoundAt d o inner → (ts : List Mark) (x : (List Statement × ℕ) × List Mark) → stmts_at inner ts ≡ Some x
@@ -274,7 +275,7 @@ stmts_found d o inner f ts x e =
     let p : ts ≡ stmts (listed ss.0.0) (CloseAt us.0.0 ∷ us.0.1) =
     m.spelled ∙ ap (λ (l : List Statement). row stmt l ss.0.1) (sym all) ∙ stmts_row ss.0.0 ss.0.1 ∙ ap (stmts (listed ss.0.0)) q in
     subst (λ (z : (List Statement × ℕ) × List Mark). (ts ≡ stmts (listed z.0.0) (CloseAt z.0.1 ∷ z.1))
-    × AllFit d o (listed z.0.0)) (some_is _ x us.2) (p, all_fit d o ss.0.0 (subst (AllByRecursion (Fits d o)) (sym all) m.each))
+    × AllFit d o (listed z.0.0)) (same_Some _ x us.2) (p, all_fit d o ss.0.0 (subst (AllByRecursion (Fits d o)) (sym all) m.each))
 
 apart : (b : Bool) → b ≡ false → b ≡ true → ⊥
 apart b f t = cc
@@ -292,24 +293,24 @@ unfolding else_at
 else_found d o inner f at l c r s ts x fl fr fs settles e = by (keyword_at keyword.Else ts) refl e
   where
     by : (p : Option (List Mark)) → keyword_at keyword.Else ts ≡ p → else_or inner at l c r s ts p ≡ Some x → IsStmt (suc d) o (head (Condition at l c r) (stmt s ts)) x
-    by None h e = subst (IsStmt (suc d) o (head (Condition at l c r) (stmt s ts))) (some_is _ x e) (record { spelled = refl; fits = (fl, fr, fs); settles = λ _. h })
+    by None h e = subst (IsStmt (suc d) o (head (Condition at l c r) (stmt s ts))) (same_Some _ x e) (record { spelled = refl; fits = (fl, fr, fs); settles = λ _. h })
     by (Some us) h e =
         let t = bind_some _ _ _ e in
         let i = f us t.0 t.1 in
         let p = keyword_is keyword.Else refl ts us h in
         let q : ts ≡ Reserved keyword.Else ∷ stmt t.0.0 t.0.1 = p ∙ ap (λ (z : List Mark). Reserved keyword.Else ∷ z) i.spelled in
-        subst (IsStmt (suc d) o (head (Condition at l c r) (stmt s ts))) (some_is _ x t.2) (record
+        subst (IsStmt (suc d) o (head (Condition at l c r) (stmt s ts))) (same_Some _ x t.2) (record
         { spelled = ap (λ (z : List Mark). head (Condition at l c r) (stmt s z)) q; fits = (fl, fr, fs, i.fits, not_dangling s ts us settles h); settles = i.settles })
 
 rest_found : (d : ℕ) (o : List ℕ) (inner : List ℕ → List Mark → Read) → Found d inner → (h : Head) (ts : List Mark) (x : Statement × List Mark) → HeadFits d o h
     → rest_at d inner o h ts ≡ Some x → IsStmt (suc d) o (head h ts) x
 unfolding rest_at
-rest_found d o inner f (Whole s) ts x k e = subst (IsStmt (suc d) o (stmt s ts)) (some_is _ x e)
+rest_found d o inner f (Whole s) ts x k e = subst (IsStmt (suc d) o (stmt s ts)) (same_Some _ x e)
     (record { spelled = refl; fits = k.0; settles = λ t. absurd (apart (dangles s) k.1 t) })
 rest_found d o inner f Brace ts x k e =
     let ss = bind_some _ _ _ e in
     let i = stmts_found d o (inner o) (f o) ts ss.0 ss.1 in
-    subst (IsStmt (suc d) o (Symbol sign.LeftBrace ∷ ts)) (some_is _ x ss.2) (record {
+    subst (IsStmt (suc d) o (Symbol sign.LeftBrace ∷ ts)) (same_Some _ x ss.2) (record {
       spelled = ap
           (λ (z : List Mark). Symbol sign.LeftBrace ∷ z) i.0;
       fits = i.1;
@@ -323,7 +324,7 @@ rest_found d o inner f (Condition at l c r) ts x k e =
 rest_found d o inner f (Range at w lo b) ts x k e =
     let s = bind_some _ _ _ e in
     let i = f o ts s.0 s.1 in
-    subst (IsStmt (suc d) o (head (Range at w lo b) ts)) (some_is _ x s.2) (record {
+    subst (IsStmt (suc d) o (head (Range at w lo b) ts)) (same_Some _ x s.2) (record {
       spelled = ap (head (Range at w lo b)) i.spelled;
       fits =
           (k.0, k.1, i.fits);
@@ -332,12 +333,12 @@ rest_found d o inner f (Range at w lo b) ts x k e =
 rest_found d o inner f (Start at cs) ts x k e =
     let s = bind_some _ _ _ e in
     let i = f (inside cs o) ts s.0 s.1 in
-    subst (IsStmt (suc d) o (head (Start at cs) ts)) (some_is _ x s.2) (record { spelled = ap (head (Start at cs)) i.spelled; fits = (k, i.fits); settles = i.settles })
+    subst (IsStmt (suc d) o (head (Start at cs) ts)) (same_Some _ x s.2) (record { spelled = ap (head (Start at cs)) i.spelled; fits = (k, i.fits); settles = i.settles })
 rest_found d o inner f (Wait at) ts x k e =
     let s = bind_some _ _ _ e in
     let i = f [] ts s.0 s.1 in
     let p = plain d [] s.0.0 i.fits in
-    subst (IsStmt (suc d) o (head (Wait at) ts)) (some_is _ x s.2) (record {
+    subst (IsStmt (suc d) o (head (Wait at) ts)) (same_Some _ x s.2) (record {
       spelled = ap (head (Wait at)) i.spelled ∙ sym (p.spelled at s.0.1);
       fits = p.fits d o at i.fits;
       settles = λ t. i.settles (sym (p.ends at) ∙ t);
@@ -345,7 +346,7 @@ rest_found d o inner f (Wait at) ts x k e =
 rest_found d o inner f (Hide at finish) ts x k e =
     let s = bind_some _ _ _ e in
     let i = f (hidden_text (suc d)) ts s.0 s.1 in
-    subst (IsStmt (suc d) o (head (Hide at finish) ts)) (some_is _ x s.2) (record { spelled = ap (head (Hide at finish)) i.spelled; fits = (refl, i.fits); settles = i.settles })
+    subst (IsStmt (suc d) o (head (Hide at finish) ts)) (same_Some _ x s.2) (record { spelled = ap (head (Hide at finish)) i.spelled; fits = (refl, i.fits); settles = i.settles })
 
 pub stmt_found : (d : ℕ) → Found d (stmt_at d)
 unfolding stmt_at

@@ -5,6 +5,7 @@ use Rattle.std.specs.List.{list_any}
 use Rattle.std.specs.Option.{option_map_or}
 use Rattle.std.proofs.lemmas.Bool.Decides.{nat_tests}
 use Rattle.std.proofs.lemmas.Option.{slice_get_within}
+use Rattle.xk_names.proofs.TableAgreementLemmas.{same_text}
 use Rattle.xk_types.specs.declared.unit.UnitKind.TheVariants as unit_kind
 use Rattle.xk_types.specs.Code.{UnitValue, ModuleValue, is_method, is_body}
 use Rattle.xk_types.specs.Blocks.{takes_clock}
@@ -14,7 +15,6 @@ use Rattle.xk_names.specs.Scope.{Has, find, is_text}
 use Rattle.xk_names.specs.Uses.{signatures}
 use Rattle.xk_names.specs.Faults.{MayBegin, wants_clock}
 use Rattle.xk_names.specs.WellScoped.{IsScoped}
-use Rattle.xk_callgraph.proofs.NameNumberLemmas.{same_text}
 use Rattle.xk_names.proofs.MembershipLemmas.{has_left, has_right}
 use Rattle.xk_callgraph.proofs.CallGraphLemmas.{at_mapped}
 use Rattle.xk_emit.specs.CodeOf.{Setting, Body, number_of, body_unit}

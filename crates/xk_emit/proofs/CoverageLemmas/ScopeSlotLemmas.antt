@@ -1,9 +1,10 @@
 -- What a place sees in the text, beside the slots that its unit has there.
 use Rattle.std.proofs.Common.{◌≡◌, ◌⊎◌, inl, inr, ℕ, suc, ◌+◌, nat_eq, ◌≤◌, Bool, true, false, ◌||◌, List, [], ◌∷◌, ◌++◌, append_assoc, length, Option, Some, None, refl, sym, ap, ◌∙◌, subst, arith, eqb-true, append-nil}
+use Rattle.std.proofs.lemmas.Bool.{or_cases}
+use Rattle.xk_names.proofs.FreeUseLemmas.{kind_plain}
+use Rattle.xk_names.proofs.TableLemmas.{none_there}
 use Rattle.xk_tree.specs.declared.tree.Number.{Number}
-use Rattle.xk_tree.specs.Tree.{Word, Bound, UpTo, Least, Statement, Declare, For, Clocks, Source, Make, Value}
-use Rattle.xk_tree.specs.declared.tree.Binding.{Binding}
-use Rattle.xk_tree.specs.declared.tree.Binding.TheVariants as binding
+use Rattle.xk_tree.specs.Tree.{Word, Bound, UpTo, Least, Statement, Declare, For, Clocks}
 use Rattle.xk_names.specs.declared.binding.Known.{Known}
 use Rattle.xk_names.specs.declared.binding.NameKind.{NameKind}
 use Rattle.xk_names.specs.declared.binding.NameKind.TheVariants as kind
@@ -19,7 +20,7 @@ use Rattle.xk_names.proofs.CaptureVisibilityLemmas.{outer_found}
 use Rattle.xk_emit.specs.CodeOf.{Scope, within_loop, declared}
 use Rattle.xk_emit.specs.Unit.{scope_from}
 use Rattle.xk_emit.specs.NameCoverage.{IsFound}
-use Rattle.xk_emit.proofs.CoverageLemmas.TableLemmas.{one_of, none_new, found_behind, absent_behind, still_absent, still_found, now_found, param_found, among_texts, text_among, in_either, in_left}
+use Rattle.xk_emit.proofs.CoverageLemmas.TableLemmas.{found_behind, absent_behind, still_absent, still_found, now_found, param_found, among_texts, text_among, in_either, in_left}
 
 abbrev pub Seen : Type 0
 Seen = names.Scope
@@ -65,7 +66,7 @@ fits_name shared sc scope own y k n plain fits = record {
   kinds = kinds_behind shared sc.names y (known k (length sc.bodies)) plain fits.kinds;
   fresh = λ x e. let r = absent_behind sc.names y (known k (length sc.bodies)) x e in still_absent scope y n x (fits.fresh x r.0) r.1;
   kept = λ x h. has_put own y x ∙ ap (λ b. b || is_text x y) (fits.kept x h);
-  slots = λ x h. elim (one_of (has own x) (is_text x y) (sym (has_put own y x) ∙ h)) [
+  slots = λ x h. elim (or_cases (has own x) (is_text x y) (sym (has_put own y x) ∙ h)) [
     | inl e ↦ elim (fits.slots x e) [ inl s ↦ inl s | inr f ↦ inr (still_found scope y n x f) ]
     | inr e ↦ inr (now_found scope y n x e)
   ];
@@ -79,12 +80,6 @@ fits_name shared sc scope own y k n plain fits = record {
   ];
 }
 
-plain_kind : (b : Binding) (r : Source) → is_shared (kind_of b r) ≡ false
-plain_kind b (Make at v) = refl
-plain_kind binding.Val (Value e) = refl
-plain_kind binding.Var (Value e) = refl
-plain_kind binding.Hidden (Value e) = refl
-
 fits_same : (shared : Texts) (sc : Seen) (scope : Scope) (own : Texts) → Fits shared sc scope own → Fits shared (with_all sc []) scope own
 fits_same shared sc scope own fits =
     subst (λ (t : Table Known). let there : Seen = record { names = t; bodies = sc.bodies } in Fits shared there scope own) (sym (append-nil sc.names)) fits
@@ -92,7 +87,7 @@ fits_same shared sc scope own fits =
 -- behind a statement
 pub fits_behind : (shared : Texts) (sc : Seen) (scope : Scope) (own : Texts) (n : ℕ) (s : Statement) → Fits shared sc scope own
     → Fits shared (with_all sc (places.behind (length sc.bodies) s)) (declared scope n s) (own_behind own s)
-fits_behind shared sc scope own n (Declare b x ty r) fits = fits_name shared sc scope own x.text (kind_of b r) n (plain_kind b r) fits
+fits_behind shared sc scope own n (Declare b x ty r) fits = fits_name shared sc scope own x.text (kind_of b r) n (kind_plain b r) fits
 fits_behind shared sc scope own n _ fits = fits_same shared sc scope own fits
 
 -- in the body of a loop
@@ -121,7 +116,7 @@ is_captured ms shared s w h = put_texts_same [] [] (outer_words ms shared s) (λ
 -- The doubtful step. A clock that the body may use is one that it is given: those that are seen as its own are declared within.
 given_clock : (sc : Seen) (cs : List Word) (x : List ℕ) (k : Known) → k.depth ≤ length sc.bodies → (is_own (with_body sc cs) k || is_given (with_body sc cs) x) ≡ true
     → has (texts cs) x ≡ true
-given_clock sc cs x k low may = elim (one_of (nat_eq k.depth (suc (length sc.bodies))) (has (texts cs) x) may) [
+given_clock sc cs x k low may = elim (or_cases (nat_eq k.depth (suc (length sc.bodies))) (has (texts cs) x) may) [
   | inl e ↦ let same : k.depth ≡ suc (length sc.bodies) = eqb-true k.depth (suc (length sc.bodies)) e in absurd (omega arith)
   | inr e ↦ e
 ]
@@ -134,7 +129,7 @@ pub fits_body : (ms : Signatures) (shared : Texts) (sc : Seen) (scope : Scope) (
     → Fits shared (with_body sc (clocks_listed cs)) (scope_from 0 (body_names ms shared cs s)) shared
 fits_body ms shared sc scope own cs s fits visible sound inner = record {
   kinds = fits.kinds;
-  fresh = λ x e. none_new (find (scope_from 0 (body_names ms shared cs s)) x) (param_found 0 (body_names ms shared cs s) x ∙ unseen x e (has (body_names ms shared cs s) x) refl);
+  fresh = λ x e. none_there (find (scope_from 0 (body_names ms shared cs s)) x) (param_found 0 (body_names ms shared cs s) x ∙ unseen x e (has (body_names ms shared cs s) x) refl);
   kept = λ x h. h;
   slots = λ x h. inl h;
   clocks = λ x k e is may.

@@ -2,34 +2,20 @@
 use Rattle.std.proofs.Common.{◌≡◌, ◌⊎◌, inl, inr, ℕ, ◌+◌, Bool, true, false, cond, ◌||◌, List, [], ◌∷◌, ◌++◌, Option, Some, None, refl, sym, ap, ◌∙◌, subst, append-nil}
 use Rattle.std.specs.Prelude.{is_some}
 use Rattle.std.specs.Cmp.Lexicographic.{bytes_decides}
+use Rattle.std.proofs.lemmas.Bool.{or_cases, or_parts}
+use Rattle.std.proofs.Math.Bool.{or-true}
 use Rattle.xk_tree.specs.Tree.{Word}
 use Rattle.xk_names.specs.Scope.{Table, find, has, is_text, texts, Has}
 use Rattle.xk_names.specs.FaultList.{put_text, put_texts}
-use Rattle.xk_names.proofs.TableAgreementLemmas.{find_behind, or_entry, has_behind, append_step}
+use Rattle.xk_names.proofs.TableAgreementLemmas.{find_behind, or_entry, has_behind, append_step, same_text}
 use Rattle.xk_emit.specs.CodeOf.{Scope}
 use Rattle.xk_emit.specs.Unit.{scope_from}
 use Rattle.xk_emit.specs.NameCoverage.{IsFound, AreNew}
 
 -- ---- tests
 
-pub same_text : (x y : List ℕ) → is_text x y ≡ true → x ≡ y
-same_text x y e = (bytes_decides x y).0 e
-
 pub is_same : (x : List ℕ) → is_text x x ≡ true
 is_same x = (bytes_decides x x).1 refl
-
-pub none_new : {A : Type 0} (o : Option A) → is_some o ≡ false → o ≡ None
-none_new None h = refl
-none_new (Some a) h = absurd cc
-
-pub one_of : (a b : Bool) → (a || b) ≡ true → (a ≡ true) ⊎ (b ≡ true)
-one_of true b h = inl refl
-one_of false true h = inr refl
-one_of false false h = absurd cc
-
-pub or_right : (a : Bool) → (a || true) ≡ true
-or_right true = refl
-or_right false = refl
 
 -- ---- one entry more
 
@@ -83,17 +69,12 @@ abbrev pub Differ : List (List ℕ) → List (List ℕ) → Type 0
 Differ seen [] = Unit {0}
 Differ seen (x ∷ xs) = (has seen x ≡ false) × Differ (seen ++ x ∷ []) xs
 
-or_false : (a b : Bool) → (a || b) ≡ false → (a ≡ false) × (b ≡ false)
-or_false false false h = (refl, refl)
-or_false true b h = absurd cc
-or_false false true h = absurd cc
-
 pub differ_new : (scope : Scope) (n : ℕ) (seen xs : List (List ℕ)) → ((x : List ℕ) → has seen x ≡ false → find scope x ≡ None) → Differ seen xs → AreNew scope n xs
 differ_new scope n seen [] fresh h = tt
 differ_new scope n seen (x ∷ xs) fresh h = (
   ap is_some (fresh x h.0),
   differ_new (scope ++ (x, n) ∷ []) (n + 1) (seen ++ x ∷ []) xs
-      (λ y e. let both = or_false (has seen y) (is_text y x) (sym (has_behind seen x y) ∙ e) in still_absent scope x n y (fresh y both.0) both.1)
+      (λ y e. let both = or_parts (has seen y) (is_text y x) (sym (has_behind seen x y) ∙ e) in still_absent scope x n y (fresh y both.0) both.1)
       h.1,
 )
 
@@ -108,7 +89,7 @@ differ_put seen ts x other h = go (has ts x) refl
     at_end : (before rest : List (List ℕ)) → Differ before rest → has before x ≡ false → has rest x ≡ false → Differ before (rest ++ x ∷ [])
     at_end before [] d e f = (e, tt)
     at_end before (r ∷ rest) d e f =
-        let both = or_false (is_text x r) (has rest x) f in
+        let both = or_parts (is_text x r) (has rest x) f in
         (d.0, at_end (before ++ r ∷ []) rest d.1 (has_behind before r x ∙ ap (λ b. b || is_text x r) e ∙ both.0) both.1)
 
     go : (b : Bool) → has ts x ≡ b → Differ seen (cond b ts (ts ++ x ∷ []))
@@ -125,7 +106,7 @@ differ_texts seen ts (w ∷ ws) other h =
 -- a text is among those of some words as that of one of them
 pub among_texts : (ws : List Word) (x : List ℕ) → has (texts ws) x ≡ true → (w : Word) × (Has ws w × (w.text ≡ x))
 among_texts [] x h = absurd cc
-among_texts (w ∷ ws) x h = elim (one_of (is_text x w.text) (has (texts ws) x) h) [
+among_texts (w ∷ ws) x h = elim (or_cases (is_text x w.text) (has (texts ws) x) h) [
   | inl e ↦ (w, (inl refl, sym (same_text x w.text e)))
   | inr e ↦ let r = among_texts ws x e in (r.0, (inr r.1.0, r.1.1))
 ]
@@ -133,7 +114,7 @@ among_texts (w ∷ ws) x h = elim (one_of (is_text x w.text) (has (texts ws) x) 
 pub text_among : (ws : List Word) (w : Word) → Has ws w → has (texts ws) w.text ≡ true
 text_among [] w h = absurd h
 text_among (v ∷ ws) w (inl e) = ap (λ (k : Word). is_text w.text k.text || has (texts ws) w.text) (sym e) ∙ ap (λ b. b || has (texts ws) w.text) (is_same w.text)
-text_among (v ∷ ws) w (inr h) = ap (λ b. is_text w.text v.text || b) (text_among ws w h) ∙ or_right (is_text w.text v.text)
+text_among (v ∷ ws) w (inr h) = ap (λ b. is_text w.text v.text || b) (text_among ws w h) ∙ or-true (is_text w.text v.text)
 
 has_append : (xs ys : List (List ℕ)) (x : List ℕ) → has (xs ++ ys) x ≡ (has xs x || has ys x)
 has_append [] ys x = refl
@@ -144,10 +125,10 @@ has_append (y ∷ xs) ys x = go (is_text x y) (has_append xs ys x)
     go false h = h
 
 pub in_either : (xs ys : List (List ℕ)) (x : List ℕ) → has (xs ++ ys) x ≡ true → (has xs x ≡ true) ⊎ (has ys x ≡ true)
-in_either xs ys x h = one_of (has xs x) (has ys x) (sym (has_append xs ys x) ∙ h)
+in_either xs ys x h = or_cases (has xs x) (has ys x) (sym (has_append xs ys x) ∙ h)
 
 pub in_left : (xs ys : List (List ℕ)) (x : List ℕ) → has xs x ≡ true → has (xs ++ ys) x ≡ true
 in_left xs ys x h = has_append xs ys x ∙ ap (λ b. b || has ys x) h
 
 pub in_right : (xs ys : List (List ℕ)) (x : List ℕ) → has ys x ≡ true → has (xs ++ ys) x ≡ true
-in_right xs ys x h = has_append xs ys x ∙ ap (λ b. has xs x || b) h ∙ or_right (has xs x)
+in_right xs ys x h = has_append xs ys x ∙ ap (λ b. has xs x || b) h ∙ or-true (has xs x)

@@ -1,8 +1,8 @@
 -- Where a part stands among others.
 use Rattle.std.proofs.Common.{◌≡◌, inl, inr, ℕ, suc, ◌+◌, Bool, true, false, cond, List, [], ◌∷◌, Option, Some, slice_get, nat_eq, refl, sym, ap, ◌∙◌, subst, arith, eqb-true}
+use Rattle.xk_names.proofs.TableAgreementLemmas.{same_text}
 use Rattle.xk_tree.specs.Tree.{Word}
 use Rattle.xk_names.specs.Scope.{Has, is_text}
-use Rattle.xk_callgraph.proofs.NameNumberLemmas.{same_text}
 use Rattle.xk_semantics.specs.Parts.{Part, OfMethod, OfBody, Run, Calls, Starts, method_among, body_among, place_of}
 
 -- the part is what is run, by its name or its offset

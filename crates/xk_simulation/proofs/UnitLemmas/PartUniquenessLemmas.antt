@@ -1,6 +1,7 @@
 -- Bodies at one offset are one, where the offsets of the words `async` rise; methods of one name are one, where no name is a method's twice.
 use Rattle.std.proofs.Common.{◌≡◌, inl, inr, ℕ, ◌<◌, Bool, true, false, cond, ◌||◌, List, [], ◌∷◌, ◌++◌, map, Option, Some, refl, sym, ap, ◌∙◌, subst, arith}
 use Rattle.std.specs.List.{flat_map}
+use Rattle.xk_names.proofs.TableAgreementLemmas.{same_text}
 use Rattle.xk_tree.specs.declared.fault.FrontFault.{FrontFault}
 use Rattle.xk_tree.specs.declared.fault.FrontRule.TheVariants as rule
 use Rattle.xk_tree.specs.Tree.{Clocks, Statement, Statements, Done, More, Block, Empty, Declare, Assign, Atomic, If, IfElse, For, Async, Finish, Call, Resume, Drop, AdvanceAll, Print, ParamValue, MethodValue, TreeValue}
@@ -8,7 +9,6 @@ use Rattle.xk_tree.specs.AsyncOffsets.{asyncs, asyncs_in, asyncs_of_methods, Has
 use Rattle.xk_names.specs.Scope.{Has, has, find, is_text, texts}
 use Rattle.xk_names.specs.Uses.{signatures}
 use Rattle.xk_names.specs.Faults.{fault, RepeatsMethod}
-use Rattle.xk_callgraph.proofs.NameNumberLemmas.{same_text}
 use Rattle.xk_semantics.specs.Parts.{Part, OfMethod, OfBody, bodies, bodies_all, method_parts, parts}
 use Rattle.xk_simulation.proofs.UnitLemmas.RisingListLemmas.{Rising, is_rising}
 

@@ -1,12 +1,13 @@
 use Rattle.std.proofs.Common.{◌∙◌, ap, sym, subst, map, List, ℕ, arith}
 use Rattle.std.proofs.lemmas.List.{length-map}
+use Rattle.std.proofs.lemmas.Option.{slice_get_within}
 use Rattle.xk_callgraph.specs.CallGraph.{adjacency, AreWithin, IsRecursive}
 use Rattle.xk_tree.specs.declared.fault.FrontRule.TheVariants as rule
 use Rattle.xk_tree.specs.Tree.{words}
 use Rattle.xk_tree.specs.Program.{tree_value}
 use Rattle.xk_names.specs.Faults.{fault}
 use Rattle.xk_callgraph.specs.Recursion.{ComesBack}
-use Rattle.xk_callgraph.proofs.CallGraphLemmas.{within, is_recursive, Found, found, is_within, within_list}
+use Rattle.xk_callgraph.proofs.CallGraphLemmas.{within, is_recursive, Found, found, is_within}
 use Rattle.xk_callgraph.proofs.recursion.call_back.Goals as goal
 
 pub numbers_by_calls-requires : goal.numbers_by_calls-requires
@@ -27,7 +28,7 @@ call_at-requires c =
     let q : Found (tree_value c.args.tree.now) lists i k = found (tree_value c.args.tree.now) lists i k c.requires
     (subst (λ (rs : List (List ℕ)). IsRecursive rs i k) (ap adjacency c.deref.ensures.value ∙ c.in_ok-numbers.ensures) (rw c.in-Err.is at c.in_ok-numbered.ensures.found)) in
     let len = length-map c.args.called.now (λ names. words names.items) in
-    let h = within_list lists i q.names q.list in
+    let h = slice_get_within lists i q.names q.list in
     record { caller = omega arith; index = λ gs e. is_within (tree_value c.args.tree.now) lists i k q gs e }
 
 pub returns-clause-found : goal.returns-clause-found

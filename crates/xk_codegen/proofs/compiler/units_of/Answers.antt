@@ -1,5 +1,5 @@
 use Rattle.std.proofs.Common.{◌≡◌, ◌≤◌, ◌+◌, ◌∙◌, None, Some, Ok, length, ap, sym, subst, refl, arith, ℕ}
-use Rattle.std.proofs.lemmas.Option.{slice_get_read}
+use Rattle.std.proofs.lemmas.Option.{slice_get_read, same_Some}
 use Rattle.xk_tree.specs.declared.fault.FrontRule.TheVariants as rule
 use Rattle.xk_names.specs.Faults.{fault}
 use Rattle.xk_numbering.specs.Views.{offset}
@@ -10,9 +10,6 @@ use Rattle.xk_codegen.proofs.compiler.units_of.Goals.{in-Some+in_ok-push-in-Some
 
 some_is_none : (n : ℕ) → Some n ≡ None → ⊥
 some_is_none n e = cc
-
-some_is : (n k : ℕ) → Some n ≡ Some k → n ≡ k
-some_is n k e = cc
 
 pub loop-p-init : goal.loop-p-init
 loop-p-init c = (
@@ -41,7 +38,7 @@ loop-p-preserved c =
         λ none. absurd (some_is_none w.lesser.result (sym w.worst-is ∙ none)),
         λ at e.
             let here = large_unit cx ps i c.p-item.result w.offset.result there (c.in_ok-unit.ensures.none (ap Ok w.in-None.is)) w.offset.ensures in
-            subst (IsBeyond cx ps) (sym w.lesser.ensures ∙ some_is w.lesser.result at (sym w.worst-is ∙ e))
+            subst (IsBeyond cx ps) (sym w.lesser.ensures ∙ same_Some w.lesser.result at (sym w.worst-is ∙ e))
             (either (IsBeyond cx ps) c.loop-p.worst w.offset.result c.loop-p.invariant.1 here),
         subst (λ o. IsLeast cx ps (i + 1) o) (sym (w.worst-is ∙ ap Some w.lesser.ensures))
             (least_taken cx ps i c.loop-p.worst c.p-item.result w.offset.result c.loop-p.invariant.2 there w.offset.ensures),
