@@ -6,6 +6,6 @@ use Rattle.xk_serve.proofs.program_loader.origins_of.Goals as goal
 
 pub returns-in_err-_module-clause-fault : goal.returns-in_err-_module-clause-fault
 returns-in_err-_module-clause-fault c =
-    let p = err_from_is_err_and c.from_residual-in_err-_module.result c.from_residual-in_err-_module.ensures.1 in
+    let p = err_from_is_err_and c.from_residual.result c.from_residual.ensures.1 in
     rw (p.1, p.2) (uncompiled c.args.bytes.now (tree_value c.args.tree.now) (Err c.in_err-_module.field-0.0) c.requires.source
     c.in_err-_module.ensures.fault)
