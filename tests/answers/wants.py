@@ -111,6 +111,17 @@ def texts() -> Iterator[tuple[str, str]]:
     yield "clocks at all places", "".join(f"def m{i}(){{{resumes}}}" for i in range(40)) + "def main(){}"
 
 
+def refused_texts() -> Iterator[tuple[str, str]]:
+    """Texts that are as long as they may be, with a walk to tell of a fault of their last method, or a fault of theirs at their end."""
+    wrong = "def main(){val c=Clock.make();c.drop();c.resume();}"
+    for piece in (";", "x=1;", "f();", "{}", "if(1<2);", "Clock.advanceAll();", "finish;"):
+        methods = "def f(){}" + "".join(f"def m{i}(){{var x=0;{piece * (980 // len(piece))}}}" for i in range(1_000))
+        yield f"methods of {piece}", methods + " " * (LONGEST_TEXT - len(methods) - len(wrong)) + wrong
+    yield "a long walk", "def main(){val c=Clock.make();" + "Clock.advanceAll();" * 4_000 + "c.drop();c.resume();}"
+    yield "a fault at the end", filled("{}", behind="x=1;}")
+    yield "one line of a fault", filled(" ", behind="x=1;}")
+
+
 def modules() -> Iterator[tuple[str, object]]:
     """Module texts that are large: values that are none, and units in which all slots may be of all kinds."""
     yield "objects of nothing", "[" + ",".join(['{"":0}'] * 100_000) + "]"
@@ -161,8 +172,12 @@ class Calls:
     def of_texts(self) -> Iterator[Call]:
         for name, text in texts():
             verify = 8 * 1_100 * 64 * 41 if "places" in name else 0
-            for command in ("check", "compile"):
+            for command in ("check", "compile", "explain"):
                 yield Call(f"{command}, {name}", [command, self.file(text)], to_read(text.encode()) + verify)
+
+    def of_refused_texts(self) -> Iterator[Call]:
+        for name, text in refused_texts():
+            yield Call(f"explain, {name}", ["explain", self.file(text)], to_read(text.encode()))
 
     def of_modules(self) -> Iterator[Call]:
         for name, value in modules():
@@ -216,7 +231,7 @@ def main() -> int:
     program, wrong, count = given.program.resolve(), [], 0
     with tempfile.TemporaryDirectory() as folder:
         calls = Calls(pathlib.Path(folder))
-        for kind in (calls.of_texts, calls.of_modules, calls.of_runs, calls.of_logs):
+        for kind in (calls.of_texts, calls.of_refused_texts, calls.of_modules, calls.of_runs, calls.of_logs):
             for call in kind():
                 count += 1
                 whole = ask(program, call, None)
