@@ -44,9 +44,10 @@ class PlacedParser(Parser):
         return made
 
     def close(self, made: Stmt) -> None:
-        """Where a block ends: at its brace. No other statement has an end of its own."""
-        if isinstance(made, Block):
-            self.ends[id(made)] = self.tokens[self.next - 1].at
+        """Where a block ends: at its brace. No other statement has an end of its own, nor has the one of nothing but `;`."""
+        last = self.tokens[self.next - 1]
+        if isinstance(made, Block) and last.text == "}":
+            self.ends[id(made)] = last.at
 
     def place(self, first: int) -> int:
         """The token that tells a statement's place, which begins at this one."""
