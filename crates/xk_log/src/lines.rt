@@ -16,7 +16,7 @@ pub(crate) fn until(byte: u8, text: &[u8]) -> usize
     text.iter().take_while(|&&b| b != byte).count()
 }
 
-// What digits are worth, if it is a number of 32 bits.
+/// What digits are worth, if it is a number of 32 bits.
 fn value(digits: &[u8]) -> Option<u32>
     ensures { result ≡ value_from 0 digits.now }
 {
@@ -34,7 +34,7 @@ fn value(digits: &[u8]) -> Option<u32>
     Some(value)
 }
 
-// The number of 32 bits whose text this is.
+/// The number of 32 bits whose text this is.
 fn number(digits: &[u8]) -> Option<u32>
     ensures found { IfSome result (λ n. digits.now ≡ decimal n) }
     ensures none { IfNone result ((n : ℕ) → n < 2 ^ 32 → ¬ (digits.now ≡ decimal n)) }
@@ -48,7 +48,7 @@ fn number(digits: &[u8]) -> Option<u32>
     value(digits)
 }
 
-// What stands before the first blank, and behind it.
+/// What stands before the first blank, and behind it.
 fn words(line: &[u8]) -> Option<(&[u8], &[u8])>
     ensures found { IfSome result (λ w. line.now ≡ w.0.now ++ blank ∷ w.1.now) }
     ensures first { IfSome result (λ w. Lacks blank w.0.now) }

@@ -75,7 +75,7 @@ impl Progress {
         }
     }
 
-    // Takes the first line.
+    /// Takes the first line.
     fn take_head(&mut self, line: &[u8]) -> Result<(), LogFault>
         requires ready { IsReady self.old }
         requires stage { self.old.stage ≡ Stage.Start }
@@ -91,7 +91,7 @@ impl Progress {
         Ok(())
     }
 
-    // Takes the line of an entry, or the last line.
+    /// Takes the line of an entry, or the last line.
     fn take_body(&mut self, line: &[u8]) -> Result<(), LogFault>
         requires ready { IsReady self.old }
         requires stage { self.old.stage ≡ Stage.Within }

@@ -24,7 +24,7 @@ pub fn read_log<R: Source>(alloc: Global, source: &mut R) -> Result<Log, LogFaul
     read_lines(alloc, source)
 }
 
-// Reads lines to the end of the source, or to the first that is wrong.
+/// Reads lines to the end of the source, or to the first that is wrong.
 fn read_lines<R: Source>(alloc: Global, source: &mut R) -> Result<Log, LogFault>
     ensures told { IfSome (R.remaining source.old) (λ text. Tells text result) }
     ensures device { CountsDevice (R.fault_count source.old) (R.fault_count source.new) result }
@@ -44,7 +44,7 @@ fn read_lines<R: Source>(alloc: Global, source: &mut R) -> Result<Log, LogFault>
     }
 }
 
-// Takes the lines that end in the first bytes of a piece. What is left of these then stands at its front.
+/// Takes the lines that end in the first bytes of a piece. What is left of these then stands at its front.
 fn take_piece(progress: &mut Progress, piece: &mut [u8], filled: usize) -> Result<usize, LogFault>
     requires ready { IsReady progress.old }
     requires within { filled ≤ length piece.old }

@@ -32,7 +32,7 @@ pub fn write_entries<W: Sink>(entries: &[Entry], sink: &mut W) -> Result<(), Dev
     write_end(sink, entries.len() as u64)
 }
 
-// Writes the lines of some entries.
+/// Writes the lines of some entries.
 fn write_some<W: Sink>(sink: &mut W, entries: &[Entry]) -> Result<(), Device>
     requires { length entries.now ≤ 90 }
     ensures all { OnOk result
@@ -49,7 +49,7 @@ fn write_some<W: Sink>(sink: &mut W, entries: &[Entry]) -> Result<(), Device>
     write_all(sink, page.text())
 }
 
-// Writes the last line of a log of so many entries.
+/// Writes the last line of a log of so many entries.
 fn write_end<W: Sink>(sink: &mut W, entries: u64) -> Result<(), Device>
     ensures all { OnOk result
         (Appends (W.contents sink.old) (W.contents sink.new) (ended (end_line entries))) }

@@ -32,7 +32,7 @@ pub fn write_numbers<W: Sink>(numbers: &[i64], sink: &mut W) -> Result<(), Devic
     Ok(())
 }
 
-// Writes the lines of some numbers.
+/// Writes the lines of some numbers.
 fn write_some<W: Sink>(sink: &mut W, numbers: &[i64]) -> Result<(), Device>
     requires { length numbers.now ≤ 390 }
     ensures all { OnOk result
